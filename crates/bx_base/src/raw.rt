@@ -1,0 +1,47 @@
+//! Bytes that own their memory.
+
+ghost use Rattle.std.specs.Prelude.{◌≡◌, IfOk, length};
+
+use std::alloc::Global;
+use std::marker::Model;
+
+use crate::memory::OutOfMemory;
+
+/// A list of bytes. Contracts see it as that list.
+#[derive(Debug, Drop)]
+pub struct Raw {
+    bytes: Vec<u8>,
+}
+
+impl Model for Raw {
+    ghost use Rattle.std.specs.Prelude.{ℕ, List};
+
+    ghost Value = { List ℕ };
+
+    ghost view = { λ raw. raw.bytes.items };
+}
+
+impl Raw {
+    /// A copy of the bytes.
+    pub fn of(alloc: Global, bytes: &[u8]) -> Result<Raw, OutOfMemory>
+        ensures { IfOk result (λ raw. raw ≡ bytes.now) }
+    {
+        let bytes = Vec::from_slice(alloc, bytes)?;
+        Ok(Raw { bytes })
+    }
+
+    /// The bytes.
+    pub fn bytes(&self) -> &[u8]
+        ensures { result.now ≡ self.now }
+    {
+        self.bytes.as_slice()
+    }
+}
+
+impl From<Vec<u8>> for Raw {
+    ghost from_gives = { λ bytes raw. raw ≡ bytes.items };
+
+    fn from(bytes: Vec<u8>) -> Raw {
+        Raw { bytes }
+    }
+}

@@ -1,0 +1,3 @@
+pub mod ScheduleLine
+pub mod TraceText
+pub mod Schedule

@@ -1,13 +1,11 @@
-// A library with one function.
+//! The lines of a schedule and of a trace, each a value with one spelling.
 #![tactic(auto)]
 
-ghost use Rattle.std.specs.Prelude.{◌≡◌};
-ghost use Rattle.bx_script.specs.Echo.{echo_of};
+mod line;
+mod trace_line;
 
-// The `ensures` clause is the contract: what `echo` returns is `echo_of` of its argument, a definition
-// in `specs/Echo.antt`, which a caller's clause can cite too.
-pub fn echo(x: usize) -> usize
-    ensures { result ≡ echo_of x }
-{
-    x
-}
+pub use line::{Line, MAX_DATAGRAM, MAX_LINE, MAX_LINES, MAX_READING, MAX_RUN};
+pub use trace_line::TraceLine;
+
+#[cfg(test)]
+mod tests;

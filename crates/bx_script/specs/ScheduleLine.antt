@@ -1,0 +1,46 @@
+-- What the lines of a schedule are, and the one spelling of each.
+use Rattle.std.specs.Prelude.{◌≡◌, ℕ, ◌<◌, ◌≤◌, ◌^◌, List, [], ◌∷◌, length, codes}
+use Rattle.std.specs.Fmt.{decimal}
+use Rattle.hex.specs.Hex.{encode_lower}
+use Rattle.bx_base.specs.Bytes.{IsBytes}
+use Rattle.bx_base.specs.Text.{spaced}
+use Rattle.bx_script.specs.declared.line.Line.{Line}
+use Rattle.bx_script.specs.declared.line.Line.TheVariants.{Heading, Call, Run}
+
+-- the fields of a line, its first word among them
+abbrev pub fields : Line → List (List ℕ)
+fields (Heading volume nodes devices areas) = codes "boxwood" ∷ codes "1" ∷ decimal volume ∷ decimal nodes ∷ decimal devices ∷ decimal areas ∷ []
+fields (Call reading node client datagram) = codes "call" ∷ decimal reading ∷ decimal node ∷ decimal client ∷ encode_lower datagram ∷ []
+fields (Run reading limit) = codes "run" ∷ decimal reading ∷ decimal limit ∷ []
+
+-- the bytes of a line, without its line feed
+abbrev pub spelling : Line → List ℕ
+spelling line = spaced (fields line)
+
+-- milliseconds up to the greatest reading
+abbrev pub IsReading : ℕ → Type 0
+IsReading reading = reading ≤ 4294967295999
+
+pub record IsHeading (volume nodes devices areas : ℕ) : Type 0 where
+  pub volume_fits : volume < 2 ^ 64
+  pub one_node : nodes ≡ 1
+  pub one_device : devices ≡ 1
+  pub one_area : areas ≡ 1
+
+pub record IsCall (reading node client : ℕ) (datagram : List ℕ) : Type 0 where
+  pub reading_fits : IsReading reading
+  pub first_node : node ≡ 0
+  pub client_fits : client < 2 ^ 32
+  pub short : length datagram ≤ 9216
+  pub bytes : IsBytes datagram
+
+pub record IsRun (reading limit : ℕ) : Type 0 where
+  pub reading_fits : IsReading reading
+  pub some : 1 ≤ limit
+  pub most : limit ≤ 1000000
+
+-- the values that the grammar has
+abbrev pub InRange : Line → Type 0
+InRange (Heading volume nodes devices areas) = IsHeading volume nodes devices areas
+InRange (Call reading node client datagram) = IsCall reading node client datagram
+InRange (Run reading limit) = IsRun reading limit

@@ -1,0 +1,79 @@
+//! The lines of a schedule.
+
+ghost use Rattle.std.specs.Prelude.{◌≡◌, ◌≤◌, length, IfOk, IfSome};
+ghost use Rattle.bx_base.specs.Text.{LacksFeed};
+ghost use Rattle.bx_script.specs.ScheduleLine.{InRange, spelling};
+ghost use Rattle.bx_script.specs.declared.line.Line.{Line};
+
+use std::alloc::Global;
+
+use bx_base::{OutOfMemory, Raw};
+
+/// The most bytes of a line of a schedule, its line feed not counted. No line in the grammar is longer.
+pub const MAX_LINE: usize = 18600;
+
+/// The most bytes of a datagram.
+pub const MAX_DATAGRAM: usize = 9216;
+
+/// The greatest reading of a clock, in milliseconds.
+pub const MAX_READING: u64 = 4294967295999;
+
+/// The most events of one `run` line.
+pub const MAX_RUN: u32 = 1000000;
+
+/// The most lines of a schedule.
+pub const MAX_LINES: u64 = 4294967295;
+
+/// A line of a schedule.
+#[derive(Debug, Drop)]
+pub enum Line {
+    /// `boxwood 1 VOLUME NODES DEVICES AREAS`: the first line, and no other.
+    Heading {
+        /// The number of the volume.
+        volume: u64,
+        /// How many nodes there are: 1.
+        nodes: u32,
+        /// How many devices the volume has: 1.
+        devices: u32,
+        /// How many areas the volume has: 1.
+        areas: u32,
+    },
+    /// `call READING NODE CLIENT HEX`: a datagram arrives at a node.
+    Call {
+        /// The node's clock, in milliseconds.
+        reading: u64,
+        /// The node: 0.
+        node: u32,
+        /// The client's number.
+        client: u32,
+        /// At most 9216 bytes.
+        datagram: Raw,
+    },
+    /// `run READING LIMIT`: events happen until nothing is left to do.
+    Run {
+        /// The clock, in milliseconds.
+        reading: u64,
+        /// At most so many events, 1 to 1000000.
+        limit: u32,
+    },
+}
+
+impl Line {
+    /// The line that a text spells; `None` exactly where it is outside the grammar.
+    pub fn read(alloc: Global, text: &[u8]) -> Result<Option<Line>, OutOfMemory>
+        // What is read is in range and spelled so.
+        ensures found { IfOk result (λ found. IfSome found (λ line. InRange line × (text.now ≡ spelling line))) }
+        // What is in range and spelled so is read.
+        ensures only { IfOk result (λ found. (line : Line) → InRange line → text.now ≡ spelling line → found ≡ Some line) }
+    {
+        todo
+    }
+}
+
+/// Two lines in range have different spellings, no line is longer than `MAX_LINE`, and none has a line feed.
+pub fn one_spelling()
+    ensures same { (a b : Line) → InRange a → InRange b → spelling a ≡ spelling b → a ≡ b }
+    ensures short { (a : Line) → InRange a → length (spelling a) ≤ MAX_LINE }
+    ensures lacks_feed { (a : Line) → InRange a → LacksFeed (spelling a) }
+{
+}

@@ -1,13 +1,23 @@
-// A library with one function.
+//! The file tree: what a call does to it, in definitions, and a plain form of them that runs.
 #![tactic(auto)]
 
-ghost use Rattle.std.specs.Prelude.{◌≡◌};
-ghost use Rattle.bx_model.specs.Echo.{echo_of};
+mod attributes;
+mod call;
+mod entry;
+mod file;
+mod files;
+mod listing;
+mod procedures;
+mod reply;
+mod tree;
 
-// The `ensures` clause is the contract: what `echo` returns is `echo_of` of its argument, a definition
-// in `specs/Echo.antt`, which a caller's clause can cite too.
-pub fn echo(x: usize) -> usize
-    ensures { result ≡ echo_of x }
-{
-    x
-}
+pub use attributes::{attributes, file_handle, named_handle};
+pub use call::{Args, Call};
+pub use entry::Entry;
+pub use file::{Body, File, Name, NameList};
+pub use files::Files;
+pub use reply::{Reply, STALE};
+pub use tree::Tree;
+
+#[cfg(test)]
+mod tests;

@@ -1,0 +1,39 @@
+-- One step of the tree.
+use Rattle.std.specs.Prelude.{◌≡◌, ℕ, ◌==◌, ◌&&◌, if◌then◌else◌, List, [], ◌∷◌, length, Option, Some, None, ◌⊎◌, option_and_then}
+use Rattle.bx_model.specs.declared.call.Call.{Call}
+use Rattle.bx_model.specs.declared.call.Args.{Args}
+use Rattle.bx_model.specs.declared.call.Args.TheVariants.{Nothing, Handle}
+use Rattle.bx_model.specs.declared.reply.Reply.{Reply}
+use Rattle.bx_model.specs.declared.reply.Reply.TheVariants.{Status, Empty, Attributes}
+use Rattle.bx_model.specs.declared.file.File.{File}
+use Rattle.bx_model.specs.declared.tree.Tree.{Tree}
+use Rattle.bx_model.specs.Files.{file_at}
+use Rattle.bx_model.specs.Attributes.{attributes_of, named}
+
+-- the file that a file handle names
+abbrev pub named_file : Tree → List ℕ → Option File
+named_file tree bytes = option_and_then (file_at tree.files) (named tree.volume bytes)
+
+-- GETATTR: the attributes, or STALE
+abbrev pub getattr : Tree → Option File → Reply
+getattr tree None = Status 70
+getattr tree (Some file) = Attributes (attributes_of tree.volume file)
+
+-- what a call that changes nothing is answered
+abbrev pub answer : Tree → Args → Reply
+answer tree Nothing = Empty
+answer tree (Handle bytes) = getattr tree (named_file tree bytes)
+
+-- The calls that the tree serves: NULL, and GETATTR.
+abbrev pub HasArgs : ℕ → Args → Type 0
+HasArgs procedure Nothing = procedure ≡ 0
+HasArgs procedure (Handle bytes) = (procedure ≡ 1) × (length bytes ≡ 32)
+
+pub record IsServed (call : Call) : Type 0 where
+  pub program : call.program ≡ 100003
+  pub args : HasArgs call.procedure call.args
+
+-- The reply and the next tree. There is none exactly where `made` breaks its rule: it is the handle of the file
+-- that the call makes, and 0 where it makes none. The calls served make none, and change nothing.
+abbrev pub act : Tree → Call → ℕ → ℕ → ℕ → Option (Reply × Tree)
+act tree call moment spare made = if made == 0 then Some (answer tree call.args, tree) else None

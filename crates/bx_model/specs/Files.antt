@@ -1,0 +1,30 @@
+-- The files of a tree as a list in the order of their handles.
+use Rattle.std.specs.Prelude.{◌≡◌, ℕ, ◌+◌, ◌<◌, ◌^◌, ◌==◌, nat_lt, if◌then◌else◌, List, [], ◌∷◌, length, Option, Some, None}
+use Rattle.bx_base.specs.Bytes.{IsBytes}
+use Rattle.bx_model.specs.declared.file.File.{File}
+use Rattle.bx_model.specs.declared.file.Body.{Body}
+use Rattle.bx_model.specs.declared.file.Body.TheVariants.{Bytes, Path, Names}
+
+-- a file's size: the bytes of a regular file or of a link's path; a directory counts as one block
+abbrev pub size_of : Body → ℕ
+size_of (Bytes bytes) = length bytes
+size_of (Path path) = length path
+size_of (Names parent next names) = 4096
+
+-- what holds of every file
+pub record IsFile (file : File) : Type 0 where
+  pub mode : file.mode < 2 ^ 12
+  pub size : size_of file.body < 2 ^ 31
+
+-- the file with a handle
+abbrev pub file_at : List File → ℕ → Option File
+file_at [] handle = None
+file_at (file ∷ files) handle = if file.handle == handle then Some file else file_at files handle
+
+-- the files with one more, or with a file in the place of the one that has its handle
+abbrev pub with_file : List File → File → List File
+with_file [] new = new ∷ []
+with_file (file ∷ files) new =
+    if file.handle == new.handle then new ∷ files
+    else if nat_lt new.handle file.handle then new ∷ file ∷ files
+    else file ∷ with_file files new

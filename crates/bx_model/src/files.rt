@@ -1,0 +1,45 @@
+//! The files of a tree, by handle.
+
+ghost use Rattle.std.specs.Prelude.{◌≡◌, [], IfSome, OnOk, OnErr, length};
+ghost use Rattle.std.specs.Option.{option_copied};
+ghost use Rattle.bx_model.specs.Files.{IsFile, file_at, with_file};
+
+use std::alloc::Global;
+use std::collections::BTreeMap;
+use std::marker::Model;
+
+use bx_base::OutOfMemory;
+
+use crate::file::File;
+
+/// Files with different handles. Contracts see them as a list in the order of their handles.
+#[derive(Debug, Drop)]
+pub struct Files {
+    by_handle: BTreeMap<u64, File>,
+}
+
+impl Files {
+    /// No files. It takes no memory.
+    pub fn new(alloc: Global) -> Files
+        ensures { result ≡ [] }
+    {
+        todo
+    }
+
+    /// The file with a handle; `None` exactly where there is none.
+    pub fn get(&self, handle: u64) -> Option<&File>
+        ensures found { option_copied result ≡ file_at self.now handle }
+        ensures is_file { IfSome (option_copied result) IsFile }
+    {
+        todo
+    }
+
+    /// Adds a file, in the place of the one with its handle where there is one.
+    pub fn insert(&mut self, file: File) -> Result<(), OutOfMemory>
+        requires { IsFile file }
+        ensures ok { OnOk result (self.new ≡ with_file self.old file) }
+        ensures err { OnErr result (self.new ≡ self.old) }
+    {
+        todo
+    }
+}

@@ -1,0 +1,18 @@
+//! The listing of a tree.
+
+ghost use Rattle.std.specs.Prelude.{◌≡◌, IfOk};
+ghost use Rattle.bx_model.specs.Listing.{IsBare, listing};
+
+use bx_base::{OutOfMemory, Raw};
+
+use crate::tree::Tree;
+
+impl Tree {
+    /// The listing: a line for each file, in the order of their handles, and the lines of what it contains.
+    pub fn listing(&self) -> Result<Raw, OutOfMemory>
+        requires { IsBare self.now }
+        ensures { IfOk result (λ text. text ≡ listing self.now) }
+    {
+        todo
+    }
+}

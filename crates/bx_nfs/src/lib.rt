@@ -1,13 +1,13 @@
-// A library with one function.
+//! NFS version 2 (RFC 1094) on the wire: calls and replies as bytes.
 #![tactic(auto)]
 
-ghost use Rattle.std.specs.Prelude.{◌≡◌};
-ghost use Rattle.bx_nfs.specs.Echo.{echo_of};
+mod calls;
+mod laws;
+mod replies;
 
-// The `ensures` clause is the contract: what `echo` returns is `echo_of` of its argument, a definition
-// in `specs/Echo.antt`, which a caller's clause can cite too.
-pub fn echo(x: usize) -> usize
-    ensures { result ≡ echo_of x }
-{
-    x
-}
+pub use calls::reads_as;
+pub use laws::{one_reading, served_calls};
+pub use replies::text;
+
+#[cfg(test)]
+mod tests;

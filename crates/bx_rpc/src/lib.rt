@@ -1,13 +1,9 @@
-// A library with one function.
+//! RPC messages (RFC 5531).
 #![tactic(auto)]
 
-ghost use Rattle.std.specs.Prelude.{◌≡◌};
-ghost use Rattle.bx_rpc.specs.Echo.{echo_of};
+mod opened;
 
-// The `ensures` clause is the contract: what `echo` returns is `echo_of` of its argument, a definition
-// in `specs/Echo.antt`, which a caller's clause can cite too.
-pub fn echo(x: usize) -> usize
-    ensures { result ≡ echo_of x }
-{
-    x
-}
+pub use opened::{NFS_PROGRAM, NFS_VERSION, NOBODY, Opened, opens};
+
+#[cfg(test)]
+mod tests;

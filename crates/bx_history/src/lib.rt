@@ -1,13 +1,7 @@
-// A library with one function.
+//! Histories of calls, traces that fit them, and traces placed along their schedules: definitions, over any
+//! relation of steps, and their laws. Nothing runs here.
 #![tactic(auto)]
 
-ghost use Rattle.std.specs.Prelude.{◌≡◌};
-ghost use Rattle.bx_history.specs.Echo.{echo_of};
+mod laws;
 
-// The `ensures` clause is the contract: what `echo` returns is `echo_of` of its argument, a definition
-// in `specs/Echo.antt`, which a caller's clause can cite too.
-pub fn echo(x: usize) -> usize
-    ensures { result ≡ echo_of x }
-{
-    x
-}
+pub use laws::{points_are_entries, points_spell_history};

@@ -1,0 +1,122 @@
+-- An account goes on by a line of the schedule: one without events, or a call that is taken and answered at its own line.
+use Rattle.std.proofs.Common.{◌≡◌, ℕ, suc, ◌+◌, Bool, true, false, cond, List, [], ◌∷◌, ◌++◌, length, Option, Some, None, refl, sym, ap, ◌∙◌, arith, inl, inr, eqb}
+use Rattle.std.specs.Prelude.{◌||◌, ◌&&◌, not, nat_lt, filter, is_none, ◌==◌, if◌then◌else◌}
+use Rattle.std.specs.List.{list_any, find, AllByRecursion}
+use Rattle.std.specs.Str.{bytes_eq}
+use Rattle.std.proofs.lemmas.Bool.{eq-eqb, and_parts, and_from, and_right, or_parts, or_left, not-true, not_from_false, not_from_true}
+use Rattle.bx_base.specs.declared.names.Point.{Point}
+use Rattle.bx_script.specs.declared.line.Line.{Line}
+use Rattle.bx_script.specs.declared.line.Line.TheVariants.{Heading, Call, Run}
+use Rattle.bx_script.specs.declared.trace_line.TraceLine.{TraceLine}
+use Rattle.bx_script.specs.declared.trace_line.TraceLine.TheVariants.{Took, Acted, Reply, Again}
+use Rattle.bx_history.specs.Trace.{Entry, Taking, takings, taken_count, has_point, has_reply, FitsNewest, IsPointOf, IsReplyOf}
+use Rattle.bx_history.specs.Legal.{LeadsNewest}
+use Rattle.bx_history.specs.Placed.{Rules, Part, IsPart, PlacedNewest, HasMoment, IsAnsweredIn, trace_of, waiting, waits_already, kept_answer, is_taken, taken_if, taken_at, again_if, again_at, is_immediate_at}
+use Rattle.bx_history.specs.Account.{AccountsNewest}
+use Rattle.bx_history.proofs.Numbering.{next_has_no_point, next_has_no_reply}
+
+same : (n : ℕ) → eqb n n ≡ true
+same n = eq-eqb n n refl
+
+-- one step of the lemma below
+filter_none_step : {X : Type 0} (px qx : Bool) (x : X) (ps qs : List X) → (qx ≡ true → px ≡ true) → (ps ≡ [] → qs ≡ []) → cond px (x ∷ ps) ps ≡ [] → cond qx (x ∷ qs) qs ≡ []
+filter_none_step true qx x ps qs weaker rest e = absurd cc
+filter_none_step false true x ps qs weaker rest e = absurd (let no = weaker refl in cc)
+filter_none_step false false x ps qs weaker rest e = rest e
+
+-- a test that holds more rarely finds nothing either
+filter_none : {X : Type 0} (p q : X → Bool) (xs : List X) → ((x : X) → q x ≡ true → p x ≡ true) → filter p xs ≡ [] → filter q xs ≡ []
+filter_none p q [] weaker e = refl
+filter_none p q (x ∷ xs) weaker e = filter_none_step (p x) (q x) x (filter p xs) (filter q xs) (weaker x) (filter_none p q xs weaker) e
+
+-- ---- a line without events
+
+pub silent_line : {Tree : Type 0} (Step : Tree → Entry → Tree → Type 0) (rules : Rules) (first : Tree) (parts : List Part) (history : List Entry) (last : Tree) (line : Line)
+    → taken_at rules (trace_of parts) line ≡ [] → again_at rules (trace_of parts) line ≡ []
+    → AccountsNewest Step rules first parts history last
+    → AccountsNewest Step rules first (record { line = line; lines = [] } ∷ parts) history last
+silent_line Step rules first parts history last line takes repeats so_far = record {
+  fits = so_far.fits;
+  leads = so_far.leads;
+  placed = (record { takes = sym takes; repeats = sym repeats; immediate = λ _. tt; moments = tt }, so_far.placed);
+  answered = so_far.answered;
+}
+
+-- ---- a call that is answered at its own line
+
+-- the lines of the trace, the newest first
+abbrev pub answered_lines : ℕ → ℕ → ℕ → List ℕ → ℕ → ℕ → ℕ → List ℕ → List TraceLine
+answered_lines call node client bytes moment spare made reply =
+    Reply call reply ∷ Acted (record { call = call; moment = moment; spare = spare; made = made }) ∷ Took call node client bytes ∷ []
+
+-- the entry of the history
+abbrev pub answered_entry : ℕ → ℕ → List ℕ → ℕ → ℕ → ℕ → List ℕ → Entry
+answered_entry call client bytes moment spare made reply = record { call = call; client = client; bytes = bytes; moment = moment; spare = spare; made = made; reply = reply }
+
+-- with nothing that waits and nothing kept, each call is taken
+all_taken : (rules : Rules) (trace : List TraceLine) (node client : ℕ) (bytes : List ℕ) → rules.kept ≡ 0 → rules.is_call bytes ≡ true → waiting trace node ≡ []
+    → is_taken rules trace node client bytes ≡ true
+all_taken rules trace node client bytes none call idle =
+    and_from _ _ (and_from _ _ (and_from _ _ call (ap (λ (ws : List Taking). nat_lt (length ws) 64) idle))
+        (ap (λ (ws : List Taking). not (list_any (λ taking. (taking.client == client) && bytes_eq taking.bytes bytes) ws)) idle))
+        (ap (λ (k : ℕ). is_none (kept_answer k trace node client bytes)) none)
+
+none_again : (b : Bool) (node client : ℕ) → again_if b node client None ≡ []
+none_again true node client = refl
+none_again false node client = refl
+
+-- the call of a taking that still waits had waited before
+had_waited : (trace : List TraceLine) (call node : ℕ) (taking : Taking)
+    → ((taking.node == node) && not ((call == taking.call) || has_reply trace taking.call)) ≡ true
+    → ((taking.node == node) && not (has_reply trace taking.call)) ≡ true
+had_waited trace call node taking e =
+    let parts = and_parts (taking.node == node) (not ((call == taking.call) || has_reply trace taking.call)) e in
+    let none = or_parts (call == taking.call) (has_reply trace taking.call) (not-true _ parts.1) in
+    and_from _ _ parts.0 (not_from_false _ none.1)
+
+module _ {Tree : Type 0} (Step : Tree → Entry → Tree → Type 0) (rules : Rules) (first : Tree) (parts : List Part) (history : List Entry) (last next : Tree)
+    (reading node client : ℕ) (bytes : List ℕ) (call spare made : ℕ) (reply : List ℕ)
+    (nothing_kept : rules.kept ≡ 0) (is_call : rules.is_call bytes ≡ true) (number : call ≡ taken_count (trace_of parts) + 1)
+    (so_far : AccountsNewest Step rules first parts history last)
+    (step : Step last (answered_entry call client bytes reading spare made reply) next) where
+
+  lines : List TraceLine
+  lines = answered_lines call node client bytes reading spare made reply
+
+  next_number : call ≡ suc (taken_count (trace_of parts))
+  next_number = omega (arith, number)
+
+  no_point : has_point (trace_of parts) call ≡ false
+  no_point = rw next_number (next_has_no_point (trace_of parts) history so_far.fits)
+
+  no_reply : has_reply (trace_of parts) call ≡ false
+  no_reply = rw next_number (next_has_no_reply (trace_of parts) history so_far.fits)
+
+  fitting : FitsNewest (answered_lines call node client bytes reading spare made reply ++ trace_of parts) (answered_entry call client bytes reading spare made reply ∷ history)
+  fitting = (
+    record { entry = answered_entry call client bytes reading spare made reply; entered = rw (same call) refl; same = refl; first = no_reply },
+    (record {
+      taking = record { call = call; node = node; client = client; bytes = bytes };
+      taken = rw (same call) refl;
+      client = refl; bytes = refl; first = no_point; call = refl; moment = refl; spare = refl; made = refl;
+    }, (number, so_far.fits)),
+  )
+
+  idle : (at : ℕ) → waiting (answered_lines call node client bytes reading spare made reply ++ trace_of parts) at ≡ []
+  idle at =
+      let gone : ((node == at) && not ((call == call) || has_reply (trace_of parts) call)) ≡ false =
+        and_right _ _ (not_from_true _ (or_left _ _ (same call))) in
+      rw gone (filter_none _ _ (takings (trace_of parts)) (had_waited (trace_of parts) call at) (so_far.answered at))
+
+  placed : IsPart rules parts (record { line = Call reading node client bytes; lines = answered_lines call node client bytes reading spare made reply })
+  placed = record {
+    takes = sym (ap (λ (b : Bool). taken_if b node client bytes) (all_taken rules (trace_of parts) node client bytes nothing_kept is_call (so_far.answered node)));
+    repeats = sym (ap (λ (k : ℕ). again_if (rules.is_call bytes && not (waits_already (trace_of parts) node client bytes)) node client (kept_answer k (trace_of parts) node client bytes)) nothing_kept
+        ∙ none_again _ node client);
+    immediate = λ _. ((rw (same call) refl, rw (same call) refl), tt);
+    moments = (tt, (inl refl, (tt, tt)));
+  }
+
+  pub answered_call : AccountsNewest Step rules first (record { line = Call reading node client bytes; lines = answered_lines call node client bytes reading spare made reply } ∷ parts)
+      (answered_entry call client bytes reading spare made reply ∷ history) next
+  answered_call = record { fits = fitting; leads = (last, so_far.leads, step); placed = (placed, so_far.placed); answered = idle }

@@ -1,0 +1,4 @@
+pub mod Numbering
+pub mod Answered
+pub mod Whole
+pub mod Spelled

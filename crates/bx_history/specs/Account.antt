@@ -1,0 +1,21 @@
+-- The trace along a schedule is that of one history.
+use Rattle.std.specs.Prelude.{◌≡◌, ℕ, List, [], ◌++◌}
+use Rattle.bx_script.specs.declared.line.Line.{Line}
+use Rattle.bx_script.specs.declared.trace_line.TraceLine.{TraceLine}
+use Rattle.bx_history.specs.Trace.{Entry, FitsNewest, Fits}
+use Rattle.bx_history.specs.Legal.{LeadsNewest, Leads}
+use Rattle.bx_history.specs.Placed.{Rules, Part, PlacedNewest, IsPlaced, trace_of, waiting}
+
+-- Parts so far, the newest first, fit one history, which leads from the one tree to the other; no call waits.
+pub record AccountsNewest {Tree : Type 0} (Step : Tree → Entry → Tree → Type 0) (rules : Rules) (first : Tree) (parts : List Part) (history : List Entry) (last : Tree) : Type 0 where
+  pub fits : FitsNewest (trace_of parts) history
+  pub leads : LeadsNewest Step first history last
+  pub placed : PlacedNewest rules parts
+  pub answered : (node : ℕ) → waiting (trace_of parts) node ≡ []
+
+-- The same for whole lists, with the oldest first.
+pub record Accounts {Tree : Type 0} (Step : Tree → Entry → Tree → Type 0) (rules : Rules) (schedule : List Line) (trace closing : List TraceLine) (first last : Tree) : Type 0 where
+  pub history : List Entry
+  pub fits : Fits (trace ++ closing) history
+  pub legal : Leads Step first history last
+  pub placed : IsPlaced rules schedule trace closing

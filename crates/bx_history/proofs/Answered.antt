@@ -12,7 +12,7 @@ use Rattle.bx_script.specs.declared.trace_line.TraceLine.TheVariants.{Took, Acte
 use Rattle.bx_history.specs.Trace.{Entry, Taking, takings, taken_count, has_point, has_reply, FitsNewest, IsPointOf, IsReplyOf}
 use Rattle.bx_history.specs.Legal.{LeadsNewest}
 use Rattle.bx_history.specs.Placed.{Rules, Part, IsPart, PlacedNewest, HasMoment, IsAnsweredIn, trace_of, waiting, waits_already, kept_answer, is_taken, taken_if, taken_at, again_if, again_at, is_immediate_at}
-use Rattle.bx_history.specs.Account.{AccountsNewest}
+use Rattle.bx_history.specs.Account.{AccountsNewest, answered_entry, answered_lines}
 use Rattle.bx_history.proofs.Numbering.{next_has_no_point, next_has_no_reply}
 
 same : (n : ℕ) → eqb n n ≡ true
@@ -43,15 +43,6 @@ silent_line Step rules first parts history last line takes repeats so_far = reco
 }
 
 -- ---- a call that is answered at its own line
-
--- the lines of the trace, the newest first
-abbrev pub answered_lines : ℕ → ℕ → ℕ → List ℕ → ℕ → ℕ → ℕ → List ℕ → List TraceLine
-answered_lines call node client bytes moment spare made reply =
-    Reply call reply ∷ Acted (record { call = call; moment = moment; spare = spare; made = made }) ∷ Took call node client bytes ∷ []
-
--- the entry of the history
-abbrev pub answered_entry : ℕ → ℕ → List ℕ → ℕ → ℕ → ℕ → List ℕ → Entry
-answered_entry call client bytes moment spare made reply = record { call = call; client = client; bytes = bytes; moment = moment; spare = spare; made = made; reply = reply }
 
 -- with nothing that waits and nothing kept, each call is taken
 all_taken : (rules : Rules) (trace : List TraceLine) (node client : ℕ) (bytes : List ℕ) → rules.kept ≡ 0 → rules.is_call bytes ≡ true → waiting trace node ≡ []

@@ -2,16 +2,11 @@
 use Rattle.std.proofs.Common.{◌≡◌, ℕ, List, [], ◌∷◌, ◌++◌, refl, sym, ap, ◌∙◌, subst}
 use Rattle.std.specs.Prelude.{map, reverse}
 use Rattle.std.proofs.lemmas.List.{append-nil, reverse-reverse}
-use Rattle.bx_script.specs.declared.line.Line.{Line}
 use Rattle.bx_script.specs.declared.trace_line.TraceLine.{TraceLine}
 use Rattle.bx_history.specs.Trace.{Entry, FitsNewest, Fits}
 use Rattle.bx_history.specs.Legal.{LeadsNewest}
-use Rattle.bx_history.specs.Placed.{Rules, Part, trace_of}
+use Rattle.bx_history.specs.Placed.{Rules, Part, schedule_of, trace_of}
 use Rattle.bx_history.specs.Account.{AccountsNewest, Accounts}
-
--- the lines of the schedule so far, the oldest first
-abbrev pub schedule_of : List Part → List Line
-schedule_of parts = reverse (map (λ (part : Part). part.line) parts)
 
 pub accounts : {Tree : Type 0} (Step : Tree → Entry → Tree → Type 0) (rules : Rules) (first : Tree) (parts : List Part) (history : List Entry) (last : Tree)
     → AccountsNewest Step rules first parts history last

@@ -26,6 +26,10 @@ abbrev pub trace_of : List Part → List TraceLine
 trace_of [] = []
 trace_of (part ∷ older) = part.lines ++ trace_of older
 
+-- the lines of the schedule, the oldest first
+abbrev pub schedule_of : List Part → List Line
+schedule_of parts = reverse (map (λ part. part.line) parts)
+
 -- a datagram at a node, from a client, or a reply to one
 pub record Parcel : Type 0 where
   pub node : ℕ

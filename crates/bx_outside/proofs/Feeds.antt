@@ -1,12 +1,11 @@
 -- A list of bytes, cut at its first line feed.
-use Rattle.std.proofs.Common.{◌≡◌, ◌≢◌, ℕ, ◌+◌, ◌-◌, ◌<◌, ◌≤◌, Bool, true, false, cond, eqb, ltb, List, ◌∷◌, ◌++◌, length, take, drop, get_or, slice_index, Option, Some, None, sym, ap, refl, ◌∙◌, arith, rules, [], inl, inr}
+use Rattle.std.proofs.Common.{◌≡◌, ◌≢◌, ℕ, ◌+◌, ◌-◌, ◌<◌, ◌≤◌, Bool, true, false, cond, eqb, ltb, List, ◌∷◌, ◌++◌, length, take, drop, get_or, Some, None, sym, refl, ◌∙◌, arith, [], inl, inr}
 use Rattle.std.specs.List.{position, position_or_len}
-use Rattle.std.proofs.lemmas.Bool.{cases_lt, eqb-true, false≢true}
-use Rattle.std.proofs.lemmas.Bool.Decides.{nat_tests, eqb_tells}
-use Rattle.std.proofs.lemmas.List.{append_assoc, get_or_append_left, get_or-append_right, take-append-drop, drop_more, drop-drop, get_or-take, get_or_past, length-take, length-take-le}
+use Rattle.std.proofs.lemmas.Bool.{cases_lt, eqb-true}
+use Rattle.std.proofs.lemmas.Bool.Decides.{nat_tests}
+use Rattle.std.proofs.lemmas.List.{append_assoc, get_or_append_left, get_or-append_right, drop_more, get_or-take, get_or_past, length-take-le}
 use Rattle.std.proofs.lemmas.List.Quantifiers.{position-Some}
 use Rattle.std.proofs.lemmas.List.Sums.{fails_before_first}
-use Rattle.std.proofs.lemmas.Slice.{between_is}
 use Rattle.bx_base.specs.Text.{LacksFeed, BeginsWith}
 use Rattle.bx_outside.specs.LineReader.{LinesAhead, MeetsFeed, MeetsNoFeed, IsTooLong}
 

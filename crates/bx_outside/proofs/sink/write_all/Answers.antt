@@ -1,4 +1,4 @@
-use Rattle.std.proofs.Common.{◌≡◌, ◌≤◌, ◌<◌, ℕ, List, ◌++◌, length, take, drop, ◌+◌, ◌-◌, ap, ◌∙◌, sym, arith}
+use Rattle.std.proofs.Common.{◌≡◌, ◌≤◌, ℕ, List, ◌++◌, length, take, drop, ◌+◌, ◌-◌, ap, ◌∙◌, arith}
 use Rattle.std.proofs.lemmas.List.{take_rest, drop-drop, length-drop, append_assoc}
 use Rattle.std.proofs.Math.Seq.{take-add}
 use Rattle.bx_outside.proofs.sink.write_all.Goals as goal

@@ -1,6 +1,5 @@
-use Rattle.std.proofs.Common.{◌≡◌, ◌≤◌, ◌<◌, ℕ, List, ◌++◌, length, sym, ◌∙◌, ap, subst, arith, rules}
+use Rattle.std.proofs.Common.{◌++◌, length, ◌∙◌, ap, arith}
 use Rattle.bx_base.specs.Text.{LacksFeed}
-use Rattle.bx_outside.specs.LineReader.{TakesLine}
 use Rattle.bx_outside.proofs.Feeds.{parts_more, LacksFeed-more, BeginsWith-met, IsTooLong-met, parts_refilled}
 use Rattle.bx_outside.proofs.line_reader.LineReader.next.Goals as goal
 use Rattle.bx_outside.proofs.line_reader.LineReader.next.Goals.{then-len-self, else-len-self}

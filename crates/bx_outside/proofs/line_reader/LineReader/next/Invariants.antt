@@ -1,4 +1,4 @@
-use Rattle.std.proofs.Common.{◌≡◌, ◌≤◌, ℕ, List, ◌++◌, length, ◌-◌, ◌+◌}
+use Rattle.std.proofs.Common.{◌≡◌, ◌≤◌, ◌++◌, length, ◌-◌, ◌+◌}
 use Rattle.bx_base.specs.Text.{LacksFeed}
 use Rattle.bx_outside.proofs.line_reader.LineReader.next.Given as goal
 

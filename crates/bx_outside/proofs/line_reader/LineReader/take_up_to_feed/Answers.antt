@@ -1,10 +1,10 @@
-use Rattle.std.proofs.Common.{◌≡◌, ℕ, ◌+◌, ◌-◌, List, [], ◌∷◌, ◌++◌, length, take, drop, eqb, arith, Some, None, refl, sym, ◌∙◌, ap, rules, tests}
+use Rattle.std.proofs.Common.{◌≡◌, ℕ, ◌+◌, ◌-◌, List, ◌++◌, take, drop, eqb, arith, Some, None, sym, ◌∙◌, rules, tests}
 use Rattle.std.specs.List.{position}
 use Rattle.std.proofs.lemmas.List.{take-append-drop, drop-drop, drop_all, length-take}
 use Rattle.std.proofs.lemmas.Slice.{between_is}
 use Rattle.std.proofs.lemmas.Iterator.{YieldsList-from_slice}
 use Rattle.std.proofs.lemmas.Iterator.Search.{position_from_yields_List}
-use Rattle.bx_outside.specs.LineReader.{LinesAhead, MeetsFeed, MeetsNoFeed}
+use Rattle.bx_outside.specs.LineReader.{MeetsFeed, MeetsNoFeed}
 use Rattle.bx_outside.proofs.Feeds.{drop-at_feed, LacksFeed-before, LacksFeed-from_none}
 use Rattle.bx_outside.proofs.line_reader.LineReader.take_up_to_feed.Goals as goal
 

@@ -3,11 +3,10 @@
 ghost use Rattle.std.specs.Prelude.{◌≡◌, ◌++◌, ◌∷◌, [], length, OnOk, OnErr, slice_get};
 ghost use Rattle.std.specs.Option.{option_copied};
 
-use std::alloc::Global;
-use std::marker::Model;
-
 use crate::memory::OutOfMemory;
 use crate::names::Point;
+use std::alloc::Global;
+use std::marker::Model;
 
 /// A list, which contracts see as the list of its items.
 #[derive(Debug, Drop)]

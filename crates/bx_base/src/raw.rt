@@ -2,10 +2,9 @@
 
 ghost use Rattle.std.specs.Prelude.{◌≡◌, IfOk, length};
 
+use crate::memory::OutOfMemory;
 use std::alloc::Global;
 use std::marker::Model;
-
-use crate::memory::OutOfMemory;
 
 /// A list of bytes. Contracts see it as that list.
 #[derive(Debug, Drop)]

@@ -1,6 +1,5 @@
-use std::test::Fail;
-
 use crate::{Raw, Words};
+use std::test::Fail;
 
 #[test]
 fn bytes_are_kept(rt: HostRuntime) -> Result<(), Fail> {

@@ -1,5 +1,5 @@
 -- What the forms in memory show of themselves.
-use Rattle.std.specs.Prelude.{ℕ, ◌+◌, ◌==◌, Bool, if◌then◌else◌, List, ◌++◌, length, min, take, drop, Result, Ok, Err}
+use Rattle.std.specs.Prelude.{ℕ, ◌==◌, Bool, if◌then◌else◌, List, ◌++◌, length, min, drop}
 use Rattle.std.specs.List.{list_any}
 use Rattle.bx_base.specs.Faults.{count_up}
 

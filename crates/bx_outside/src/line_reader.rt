@@ -1,17 +1,16 @@
 //! Lines of a source, of a bounded length, read in pieces.
 
-ghost use Rattle.std.specs.Prelude.{◌≡◌, ◌≤◌, ◌<◌, ◌^◌, List, [], ◌++◌, length, IfOk};
+ghost use Rattle.std.specs.Prelude.{◌≡◌, ◌≤◌, ◌<◌, ◌^◌, List, [], ◌++◌, length, IfOk, OnErr, IsTrue, IsFalse};
 ghost use Rattle.bx_base.specs.Faults.{Rose};
-ghost use Rattle.bx_outside.specs.LineReader.{LinesAhead, TakesLine, IsTooLong, IsPartial};
+ghost use Rattle.bx_outside.specs.LineReader.{LinesAhead, TakesLine, IsTooLong, IsPartial, MeetsFeed, MeetsNoFeed};
+ghost use Rattle.bx_outside.specs.declared.line_reader.LineError.TheVariants.{Fault, OutOfMemory};
 ghost use Rattle.bx_outside.specs.Outcome.{IfLine, IfEnd, IfTooLong, IfFault};
 
-use std::alloc::Global;
-use std::marker::Model;
-
-use bx_base::OutOfMemory;
-use thiserror::Error;
-
 use crate::source::{ReadFault, Source};
+use bx_base::OutOfMemory;
+use std::alloc::{AllocError, Global};
+use std::marker::Model;
+use thiserror::Error;
 
 /// What stands next in a source of lines.
 #[derive(Clone, Copy, PartialEq, Eq, Debug)]
@@ -35,6 +34,22 @@ pub enum LineError {
     OutOfMemory,
 }
 
+impl From<ReadFault> for LineError {
+    ghost from_gives = { λ _ e. e ≡ Fault };
+
+    fn from(_fault: ReadFault) -> LineError {
+        LineError::Fault
+    }
+}
+
+impl From<AllocError> for LineError {
+    ghost from_gives = { λ _ e. e ≡ OutOfMemory };
+
+    fn from(_error: AllocError) -> LineError {
+        LineError::OutOfMemory
+    }
+}
+
 /// How many bytes one read asks for.
 const PIECE: usize = 4096;
 
@@ -49,7 +64,7 @@ pub struct LineReader {
 }
 
 impl Model for LineReader {
-    ghost use Rattle.std.specs.Prelude.{◌≡◌, ◌≤◌, ◌<◌, ◌^◌, ◌-◌, ◌×◌, take, drop, length};
+    ghost use Rattle.std.specs.Prelude.{◌≡◌, ◌≤◌, ◌<◌, ◌^◌, ◌-◌, take, drop, length};
     ghost use Rattle.bx_outside.specs.LineReader.{LinesAhead};
 
     ghost Value = { LinesAhead };
@@ -97,13 +112,65 @@ impl LineReader {
     {
         self.line.clear();
         while self.line.len() <= self.most {
-            if self.start == self.end && !self.refill(source)? {
-                return Ok(if self.line.is_empty() { Next::End } else { Next::Line });
+            if !self.refill(source)? {
+                return Ok(if self.line.is_empty() {
+                    Next::End
+                } else {
+                    Next::Line
+                });
             }
             if self.take_up_to_feed()? {
-                return Ok(if self.line.len() <= self.most { Next::Line } else { Next::TooLong });
+                return Ok(if self.line.len() <= self.most {
+                    Next::Line
+                } else {
+                    Next::TooLong
+                });
             }
         }
         Ok(Next::TooLong)
+    }
+
+    // Reads a piece where no byte is ahead, and answers whether one is then.
+    fn refill<S: Source>(&mut self, source: &mut S) -> Result<bool, ReadFault>
+        ensures keeps { S.tells source.old → self.old.ahead ++ S.left source.old ≡ self.new.ahead ++ S.left source.new }
+        ensures some { IfOk result (λ some. IsTrue some → 0 < length self.new.ahead) }
+        ensures none { IfOk result (λ some. IsFalse some → self.new.ahead ≡ []) }
+        ensures end { S.tells source.old → IfOk result (λ some. IsFalse some → S.left source.new ≡ []) }
+        ensures fault { OnErr result (Rose (S.faults source.old) (S.faults source.new)) }
+        ensures fault_ahead { OnErr result (self.new.ahead ≡ []) }
+        ensures line { self.new.line ≡ self.old.line }
+        ensures most { self.new.most ≡ self.old.most }
+        ensures later { S.faults source.old ≤ S.faults source.new }
+        ensures keeps_telling { S.tells source.old → S.tells source.new }
+    {
+        if self.start < self.end {
+            return Ok(true);
+        }
+        self.start = 0;
+        self.end = 0;
+        self.end = source.read(self.piece.as_mut_slice())?;
+        Ok(self.end > 0)
+    }
+
+    // Moves the bytes ahead, up to the first line feed, to the line, and answers whether a line feed was met.
+    // The line feed itself is left out.
+    fn take_up_to_feed(&mut self) -> Result<bool, AllocError>
+        ensures met { IfOk result (λ met. IsTrue met → MeetsFeed self.old self.new) }
+        ensures unmet { IfOk result (λ met. IsFalse met → MeetsNoFeed self.old self.new) }
+        ensures most { self.new.most ≡ self.old.most }
+    {
+        let window = &self.piece[self.start..self.end];
+        match window.iter().position(|byte| *byte == b'\n') {
+            Some(at) => {
+                self.line.extend_from_slice(&window[..at])?;
+                self.start += at + 1;
+                Ok(true)
+            }
+            None => {
+                self.line.extend_from_slice(window)?;
+                self.start = self.end;
+                Ok(false)
+            }
+        }
     }
 }

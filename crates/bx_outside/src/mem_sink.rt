@@ -4,12 +4,10 @@ ghost use Rattle.std.specs.Prelude.{◌≡◌, ◌≤◌, ◌<◌, List, [], ◌
 ghost use Rattle.bx_base.specs.Faults.{Rose, count_up};
 ghost use Rattle.bx_outside.specs.Memory.{Writing, fails, after_write, after_fault};
 
+use crate::sink::{Sink, WriteFault};
+use bx_base::OutOfMemory;
 use std::alloc::Global;
 use std::marker::Model;
-
-use bx_base::OutOfMemory;
-
-use crate::sink::{Sink, WriteFault};
 
 /// A sink that keeps what is written, of which given calls of `write` fail.
 #[derive(Debug, Drop)]

@@ -4,12 +4,10 @@ ghost use Rattle.std.specs.Prelude.{◌≡◌, ◌≤◌, ◌<◌, List, [], ◌
 ghost use Rattle.bx_base.specs.Faults.{Rose, count_up};
 ghost use Rattle.bx_outside.specs.Memory.{Reading, fails, read_count, after_read};
 
+use crate::source::{ReadFault, Source};
+use bx_base::OutOfMemory;
 use std::alloc::Global;
 use std::marker::Model;
-
-use bx_base::OutOfMemory;
-
-use crate::source::{ReadFault, Source};
 
 /// A source of given bytes, of which given calls of `read` fail.
 #[derive(Debug, Drop)]

@@ -1,13 +1,16 @@
 //! The lines of a schedule.
 
 ghost use Rattle.std.specs.Prelude.{◌≡◌, ◌≤◌, length, IfOk, IfSome};
+ghost use Rattle.bx_script.specs.Reading.{Gives, cut, call_fields_of, word_of, datagram_of, heading_of, call_of, run_of, is_numeral, line_of, number_of};
 ghost use Rattle.bx_base.specs.Text.{LacksFeed};
 ghost use Rattle.bx_script.specs.ScheduleLine.{InRange, spelling};
 ghost use Rattle.bx_script.specs.declared.line.Line.{Line};
 
 use std::alloc::Global;
+use std::str;
 
 use bx_base::{OutOfMemory, Raw};
+use hex::FromHexError;
 
 /// The most bytes of a line of a schedule, its line feed not counted. No line in the grammar is longer.
 pub const MAX_LINE: usize = 18600;
@@ -66,8 +69,162 @@ impl Line {
         // What is in range and spelled so is read.
         ensures only { IfOk result (λ found. (line : Line) → InRange line → text.now ≡ spelling line → found ≡ Some line) }
     {
-        todo
+        read_line(alloc, text)
     }
+}
+
+// The line that a text spells.
+#[tactic(auto, unfolding(crate::specs::Reading::line_of))]
+fn read_line(alloc: Global, text: &[u8]) -> Result<Option<Line>, OutOfMemory>
+    ensures { IfOk result (λ found. found ≡ line_of text.now) }
+{
+    let Some((word, rest)) = cut(text) else {
+        return Ok(None);
+    };
+    match word {
+        b"boxwood" => Ok(heading(rest)),
+        b"call" => call(alloc, rest),
+        b"run" => Ok(run(rest)),
+        _ => Ok(None),
+    }
+}
+
+// `1 VOLUME NODES DEVICES AREAS`
+#[tactic(auto, unfolding(crate::specs::Reading::heading_of, crate::specs::Reading::word_of))]
+fn heading(text: &[u8]) -> Option<Line>
+    ensures { result ≡ heading_of text.now }
+{
+    let (version, rest) = cut(text)?;
+    let (volume, rest) = cut(rest)?;
+    let (nodes, rest) = cut(rest)?;
+    let (devices, areas) = cut(rest)?;
+    let version = word(version)?;
+    let volume = number(volume, u64::MAX)?;
+    let nodes = word(nodes)?;
+    let devices = word(devices)?;
+    let areas = word(areas)?;
+    if version == 1 && nodes == 1 && devices == 1 && areas == 1 {
+        Some(Line::Heading {
+            volume,
+            nodes,
+            devices,
+            areas,
+        })
+    } else {
+        None
+    }
+}
+
+// `READING NODE CLIENT HEX`
+#[tactic(auto, unfolding(crate::specs::Reading::call_of, crate::specs::Reading::reading_of))]
+fn call(alloc: Global, text: &[u8]) -> Result<Option<Line>, OutOfMemory>
+    ensures { IfOk result (λ found. found ≡ call_of text.now) }
+{
+    let Some((reading, node, client, hex)) = call_fields(text) else {
+        return Ok(None);
+    };
+    let Some(datagram) = datagram(alloc, hex)? else {
+        return Ok(None);
+    };
+    Ok(Some(Line::Call {
+        reading,
+        node,
+        client,
+        datagram,
+    }))
+}
+
+// `READING NODE CLIENT HEX`, with the hex as it stands.
+#[tactic(auto, unfolding(crate::specs::Reading::call_fields_of, crate::specs::Reading::reading_of))]
+fn call_fields(text: &[u8]) -> Option<(u64, u32, u32, &[u8])>
+    ensures { Gives (λ x. (x.0, x.1, x.2, x.3.now)) result (call_fields_of text.now) }
+{
+    let (reading, rest) = cut(text)?;
+    let (node, rest) = cut(rest)?;
+    let (client, hex) = cut(rest)?;
+    let reading = number(reading, MAX_READING)?;
+    let node = word(node)?;
+    let client = word(client)?;
+    if node == 0 {
+        Some((reading, node, client, hex))
+    } else {
+        None
+    }
+}
+
+// `READING LIMIT`
+#[tactic(auto, unfolding(crate::specs::Reading::run_of, crate::specs::Reading::reading_of))]
+fn run(text: &[u8]) -> Option<Line>
+    ensures { result ≡ run_of text.now }
+{
+    let (reading, limit) = cut(text)?;
+    let reading = number(reading, MAX_READING)?;
+    let limit = number(limit, MAX_RUN as u64)?;
+    if limit == 0 {
+        return None;
+    }
+    Some(Line::Run {
+        reading,
+        limit: limit as u32,
+    })
+}
+
+// The bytes that hex digits in lower case spell, at most `MAX_DATAGRAM`.
+#[tactic(auto, unfolding(crate::specs::Reading::datagram_of, crate::specs::Reading::ok_of))]
+fn datagram(alloc: Global, hex: &[u8]) -> Result<Option<Raw>, OutOfMemory>
+    ensures { IfOk result (λ found. found ≡ datagram_of hex.now) }
+{
+    if hex.len() > 2 * MAX_DATAGRAM || !hex.iter().all(|c| !c.is_ascii_uppercase()) {
+        return Ok(None);
+    }
+    match hex::decode(alloc, hex) {
+        Ok(bytes) => Ok(Some(Raw::from(bytes))),
+        Err(FromHexError::OutOfMemory) => Err(OutOfMemory),
+        Err(_) => Ok(None),
+    }
+}
+
+// The number of 32 bits that a field spells.
+#[tactic(auto, unfolding(crate::specs::Reading::word_of))]
+fn word(field: &[u8]) -> Option<u32>
+    ensures { result ≡ word_of field.now }
+{
+    Some(number(field, u32::MAX as u64)? as u32)
+}
+
+// The number that a field spells, up to the most.
+#[tactic(auto, unfolding(crate::specs::Reading::number_of))]
+fn number(field: &[u8], most: u64) -> Option<u64>
+    ensures value { result ≡ number_of most field.now }
+    ensures within { IfSome result (λ n. n ≤ most) }
+{
+    if !is_numeral(field) {
+        return None;
+    }
+    let text = str::from_utf8(field).ok()?;
+    let number = text.parse::<u64>().ok()?;
+    if number <= most { Some(number) } else { None }
+}
+
+// Whether a field is a number without leading zeros.
+#[tactic(auto, unfolding(crate::specs::Reading::is_numeral))]
+fn is_numeral(field: &[u8]) -> bool
+    ensures { result ≡ is_numeral field.now }
+{
+    match field {
+        [] => false,
+        [b'0', rest @ ..] => rest.is_empty(),
+        _ => field.iter().all(u8::is_ascii_digit),
+    }
+}
+
+// The bytes before the first space, and those after it.
+#[tactic(auto, unfolding(crate::specs::Reading::cut))]
+fn cut(text: &[u8]) -> Option<(&[u8], &[u8])>
+    ensures { Gives (λ x. (x.0.now, x.1.now)) result (cut text.now) }
+{
+    let at = text.iter().position(|c| *c == b' ')?;
+    Some((&text[..at], &text[at + 1..]))
 }
 
 /// Two lines in range have different spellings, no line is longer than `MAX_LINE`, and none has a line feed.

@@ -48,7 +48,43 @@ impl TraceLine {
     pub fn text(&self, alloc: Global) -> Result<Raw, OutOfMemory>
         ensures { IfOk result (λ text. text ≡ ended (trace_spelling self.now)) }
     {
-        todo
+        match self {
+            TraceLine::Took {
+                call,
+                node,
+                client,
+                datagram,
+            } => {
+                let hex = hex::encode(alloc, datagram.bytes())?;
+                let text = format!(in alloc; "took {call} {node} {client} {hex}\n")?;
+                Ok(Raw::from(text.into_bytes()))
+            }
+            TraceLine::Acted(point) => {
+                let Point {
+                    call,
+                    moment,
+                    spare,
+                    made,
+                } = *point;
+                let made = hex::encode(alloc, made.to_be_bytes())?;
+                let text = format!(in alloc; "point {call} {moment} {spare} {made}\n")?;
+                Ok(Raw::from(text.into_bytes()))
+            }
+            TraceLine::Reply { call, reply } => {
+                let hex = hex::encode(alloc, reply.bytes())?;
+                let text = format!(in alloc; "reply {call} {hex}\n")?;
+                Ok(Raw::from(text.into_bytes()))
+            }
+            TraceLine::Again {
+                node,
+                client,
+                reply,
+            } => {
+                let hex = hex::encode(alloc, reply.bytes())?;
+                let text = format!(in alloc; "again {node} {client} {hex}\n")?;
+                Ok(Raw::from(text.into_bytes()))
+            }
+        }
     }
 }
 

@@ -1,8 +1,8 @@
 -- Reading a line from left to right.
-use Rattle.std.specs.Prelude.{◌≡◌, ℕ, ◌+◌, ◌-◌, ◌^◌, Bool, false, ◌||◌, ◌&&◌, not, ◌==◌, nat_lt, nat_le, if◌then◌else◌, List, [], ◌∷◌, length, take, drop, codes, position, Option, Some, None, option_and_then, Result, Ok, Err}
+use Rattle.std.specs.Prelude.{◌≡◌, ℕ, ◌+◌, ◌-◌, ◌^◌, Bool, false, ◌||◌, ◌&&◌, not, ◌==◌, nat_lt, nat_le, if◌then◌else◌, List, [], ◌∷◌, length, take, drop, codes, position, slice_index, Option, Some, None, option_and_then, Result, Ok, Err}
 use Rattle.std.specs.List.{list_all}
-use Rattle.std.specs.Char.{is_ascii_uppercase}
-use Rattle.std.specs.Str.{all_ascii_digits, bytes_eq}
+use Rattle.std.specs.Char.{is_ascii_digit, is_ascii_uppercase}
+use Rattle.std.specs.Str.{bytes_eq}
 use Rattle.std.specs.Str.Parse.{digits_value}
 use Rattle.hex.specs.Hex.{decode_of}
 use Rattle.hex.specs.declared.error.FromHexError.{FromHexError}
@@ -24,10 +24,10 @@ cut text = do
   n ← position (λ c. c == 32) text
   Some (take n text, drop (n + 1) text)
 
--- a number, without leading zeros
+-- a number without leading zeros
 unfoldable pub is_numeral : List ℕ → Bool
-is_numeral [] = false
-is_numeral (c ∷ cs) = if c == 48 then length cs == 0 else all_ascii_digits (c ∷ cs)
+is_numeral field =
+    nat_lt 0 (length field) && not (nat_lt 1 (length field) && slice_index field 0 == 48) && list_all is_ascii_digit field
 
 -- a number up to the most
 unfoldable pub number_of : ℕ → List ℕ → Option ℕ
@@ -43,38 +43,30 @@ unfoldable pub datagram_of : List ℕ → Option (List ℕ)
 datagram_of hex =
     if nat_le (length hex) 18432 && list_all (λ c. not (is_ascii_uppercase c)) hex then ok_of (decode_of hex) else None
 
--- a number of 32 bits
-unfoldable pub word_of : List ℕ → Option ℕ
-word_of field = number_of (2 ^ 32 - 1) field
-
--- a reading of a clock
-unfoldable pub reading_of : List ℕ → Option ℕ
-reading_of field = number_of 4294967295999 field
+-- a number up to the most and a space, and the bytes after them
+unfoldable pub number_at : ℕ → List ℕ → Option (ℕ × List ℕ)
+number_at most text = do
+  x ← cut text
+  n ← number_of most x.0
+  Some (n, x.1)
 
 -- `1 VOLUME NODES DEVICES AREAS`
 unfoldable pub heading_of : List ℕ → Option Line
 heading_of text = do
-  a ← cut text
-  b ← cut a.1
-  c ← cut b.1
-  d ← cut c.1
-  version ← word_of a.0
-  volume ← number_of (2 ^ 64 - 1) b.0
-  nodes ← word_of c.0
-  devices ← word_of d.0
-  areas ← word_of d.1
-  if version == 1 && nodes == 1 && devices == 1 && areas == 1 then Some (Heading volume nodes devices areas) else None
+  version ← number_at (2 ^ 32 - 1) text
+  volume ← number_at (2 ^ 64 - 1) version.1
+  nodes ← number_at (2 ^ 32 - 1) volume.1
+  devices ← number_at (2 ^ 32 - 1) nodes.1
+  areas ← number_of (2 ^ 32 - 1) devices.1
+  if version.0 == 1 && nodes.0 == 1 && devices.0 == 1 && areas == 1 then Some (Heading volume.0 nodes.0 devices.0 areas) else None
 
 -- `READING NODE CLIENT HEX`, with the hex as it stands
 unfoldable pub call_fields_of : List ℕ → Option (ℕ × ℕ × ℕ × List ℕ)
 call_fields_of text = do
-  a ← cut text
-  b ← cut a.1
-  c ← cut b.1
-  reading ← reading_of a.0
-  node ← word_of b.0
-  client ← word_of c.0
-  if node == 0 then Some (reading, node, client, c.1) else None
+  reading ← number_at 4294967295999 text
+  node ← number_at (2 ^ 32 - 1) reading.1
+  client ← number_at (2 ^ 32 - 1) node.1
+  if node.0 == 0 then Some (reading.0, node.0, client.0, client.1) else None
 
 unfoldable pub call_of : List ℕ → Option Line
 call_of text = do
@@ -85,16 +77,15 @@ call_of text = do
 -- `READING LIMIT`
 unfoldable pub run_of : List ℕ → Option Line
 run_of text = do
-  a ← cut text
-  reading ← reading_of a.0
-  limit ← number_of 1000000 a.1
-  if nat_le 1 limit then Some (Run reading limit) else None
+  reading ← number_at 4294967295999 text
+  limit ← number_of 1000000 reading.1
+  if nat_le 1 limit then Some (Run reading.0 limit) else None
 
 -- a line
 unfoldable pub line_of : List ℕ → Option Line
 line_of text = do
   word ← cut text
   if bytes_eq word.0 (codes "boxwood") then heading_of word.1
-  else if bytes_eq word.0 (codes "call") then call_of word.1
-  else if bytes_eq word.0 (codes "run") then run_of word.1
-  else None
+    else if bytes_eq word.0 (codes "call") then call_of word.1
+    else if bytes_eq word.0 (codes "run") then run_of word.1
+    else None

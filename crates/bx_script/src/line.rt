@@ -1,7 +1,10 @@
 //! The lines of a schedule.
 
-ghost use Rattle.std.specs.Prelude.{◌≡◌, ◌≤◌, length, IfOk, IfSome};
-ghost use Rattle.bx_script.specs.Reading.{Gives, cut, call_fields_of, word_of, datagram_of, heading_of, call_of, run_of, is_numeral, line_of, number_of};
+ghost use Rattle.std.specs.Prelude.{◌≡◌, ◌<◌, ◌≤◌, ◌==◌, ◌-◌, ◌^◌, if◌then◌else◌, nat_lt, not, IsTrue, length, position, IfOk, IfSome};
+ghost use Rattle.std.specs.List.{list_all};
+ghost use Rattle.std.specs.Char.{is_ascii_digit, is_ascii_uppercase};
+ghost use Rattle.std.specs.Str.Parse.{digits_value};
+ghost use Rattle.bx_script.specs.Reading.{Gives, cut, call_fields_of, number_at, datagram_of, heading_of, call_of, run_of, is_numeral, line_of, number_of};
 ghost use Rattle.bx_base.specs.Text.{LacksFeed};
 ghost use Rattle.bx_script.specs.ScheduleLine.{InRange, spelling};
 ghost use Rattle.bx_script.specs.declared.line.Line.{Line};
@@ -90,19 +93,15 @@ fn read_line(alloc: Global, text: &[u8]) -> Result<Option<Line>, OutOfMemory>
 }
 
 // `1 VOLUME NODES DEVICES AREAS`
-#[tactic(auto, unfolding(crate::specs::Reading::heading_of, crate::specs::Reading::word_of))]
+#[tactic(auto, unfolding(crate::specs::Reading::heading_of))]
 fn heading(text: &[u8]) -> Option<Line>
     ensures { result ≡ heading_of text.now }
 {
-    let (version, rest) = cut(text)?;
-    let (volume, rest) = cut(rest)?;
-    let (nodes, rest) = cut(rest)?;
-    let (devices, areas) = cut(rest)?;
-    let version = word(version)?;
-    let volume = number(volume, u64::MAX)?;
-    let nodes = word(nodes)?;
-    let devices = word(devices)?;
-    let areas = word(areas)?;
+    let (version, rest) = word_at(text)?;
+    let (volume, rest) = number_at(rest, u64::MAX)?;
+    let (nodes, rest) = word_at(rest)?;
+    let (devices, rest) = word_at(rest)?;
+    let areas = word(rest)?;
     if version == 1 && nodes == 1 && devices == 1 && areas == 1 {
         Some(Line::Heading {
             volume,
@@ -116,7 +115,7 @@ fn heading(text: &[u8]) -> Option<Line>
 }
 
 // `READING NODE CLIENT HEX`
-#[tactic(auto, unfolding(crate::specs::Reading::call_of, crate::specs::Reading::reading_of))]
+#[tactic(auto, unfolding(crate::specs::Reading::call_of))]
 fn call(alloc: Global, text: &[u8]) -> Result<Option<Line>, OutOfMemory>
     ensures { IfOk result (λ found. found ≡ call_of text.now) }
 {
@@ -135,16 +134,13 @@ fn call(alloc: Global, text: &[u8]) -> Result<Option<Line>, OutOfMemory>
 }
 
 // `READING NODE CLIENT HEX`, with the hex as it stands.
-#[tactic(auto, unfolding(crate::specs::Reading::call_fields_of, crate::specs::Reading::reading_of))]
+#[tactic(auto, unfolding(crate::specs::Reading::call_fields_of))]
 fn call_fields(text: &[u8]) -> Option<(u64, u32, u32, &[u8])>
     ensures { Gives (λ x. (x.0, x.1, x.2, x.3.now)) result (call_fields_of text.now) }
 {
-    let (reading, rest) = cut(text)?;
-    let (node, rest) = cut(rest)?;
-    let (client, hex) = cut(rest)?;
-    let reading = number(reading, MAX_READING)?;
-    let node = word(node)?;
-    let client = word(client)?;
+    let (reading, rest) = number_at(text, MAX_READING)?;
+    let (node, rest) = word_at(rest)?;
+    let (client, hex) = word_at(rest)?;
     if node == 0 {
         Some((reading, node, client, hex))
     } else {
@@ -153,13 +149,12 @@ fn call_fields(text: &[u8]) -> Option<(u64, u32, u32, &[u8])>
 }
 
 // `READING LIMIT`
-#[tactic(auto, unfolding(crate::specs::Reading::run_of, crate::specs::Reading::reading_of))]
+#[tactic(auto, unfolding(crate::specs::Reading::run_of))]
 fn run(text: &[u8]) -> Option<Line>
     ensures { result ≡ run_of text.now }
 {
-    let (reading, limit) = cut(text)?;
-    let reading = number(reading, MAX_READING)?;
-    let limit = number(limit, MAX_RUN as u64)?;
+    let (reading, rest) = number_at(text, MAX_READING)?;
+    let limit = number(rest, MAX_RUN as u64)?;
     if limit == 0 {
         return None;
     }
@@ -174,7 +169,7 @@ fn run(text: &[u8]) -> Option<Line>
 fn datagram(alloc: Global, hex: &[u8]) -> Result<Option<Raw>, OutOfMemory>
     ensures { IfOk result (λ found. found ≡ datagram_of hex.now) }
 {
-    if hex.len() > 2 * MAX_DATAGRAM || !hex.iter().all(|c| !c.is_ascii_uppercase()) {
+    if hex.len() > 2 * MAX_DATAGRAM || !lacks_upper_case(hex) {
         return Ok(None);
     }
     match hex::decode(alloc, hex) {
@@ -184,10 +179,34 @@ fn datagram(alloc: Global, hex: &[u8]) -> Result<Option<Raw>, OutOfMemory>
     }
 }
 
+// Whether no byte is a letter in upper case.
+fn lacks_upper_case(text: &[u8]) -> bool
+    ensures { result ≡ list_all (λ c. not (is_ascii_uppercase c)) text.now }
+{
+    text.iter().all(|c| !c.is_ascii_uppercase())
+}
+
+// A number of 32 bits and a space, and the bytes after them.
+fn word_at(text: &[u8]) -> Option<(u32, &[u8])>
+    ensures { Gives (λ x. (x.0, x.1.now)) result (number_at (2 ^ 32 - 1) text.now) }
+{
+    let (number, rest) = number_at(text, u32::MAX as u64)?;
+    Some((number as u32, rest))
+}
+
+// A number up to the most and a space, and the bytes after them.
+#[tactic(auto, unfolding(crate::specs::Reading::number_at))]
+fn number_at(text: &[u8], most: u64) -> Option<(u64, &[u8])>
+    ensures value { Gives (λ x. (x.0, x.1.now)) result (number_at most text.now) }
+    ensures within { IfSome result (λ x. x.0 ≤ most) }
+{
+    let (field, rest) = cut(text)?;
+    Some((number(field, most)?, rest))
+}
+
 // The number of 32 bits that a field spells.
-#[tactic(auto, unfolding(crate::specs::Reading::word_of))]
 fn word(field: &[u8]) -> Option<u32>
-    ensures { result ≡ word_of field.now }
+    ensures { result ≡ number_of (2 ^ 32 - 1) field.now }
 {
     Some(number(field, u32::MAX as u64)? as u32)
 }
@@ -201,9 +220,19 @@ fn number(field: &[u8], most: u64) -> Option<u64>
     if !is_numeral(field) {
         return None;
     }
-    let text = str::from_utf8(field).ok()?;
-    let number = text.parse::<u64>().ok()?;
+    let number = digits(field)?;
     if number <= most { Some(number) } else { None }
+}
+
+// The number that digits spell, where it has 64 bits.
+fn digits(field: &[u8]) -> Option<u64>
+    requires { IsTrue (is_numeral field.now) }
+    ensures { result ≡ (if nat_lt (digits_value 10 field.now) (2 ^ 64) then Some (digits_value 10 field.now) else None) }
+{
+    let Ok(text) = str::from_utf8(field) else {
+        return None;
+    };
+    text.parse().ok()
 }
 
 // Whether a field is a number without leading zeros.
@@ -211,11 +240,15 @@ fn number(field: &[u8], most: u64) -> Option<u64>
 fn is_numeral(field: &[u8]) -> bool
     ensures { result ≡ is_numeral field.now }
 {
-    match field {
-        [] => false,
-        [b'0', rest @ ..] => rest.is_empty(),
-        _ => field.iter().all(u8::is_ascii_digit),
-    }
+    let leading_zero = field.len() > 1 && field[0] == b'0';
+    !field.is_empty() && !leading_zero && are_digits(field)
+}
+
+// Whether each byte is a decimal digit.
+fn are_digits(field: &[u8]) -> bool
+    ensures { result ≡ list_all is_ascii_digit field.now }
+{
+    field.iter().all(u8::is_ascii_digit)
 }
 
 // The bytes before the first space, and those after it.
@@ -223,8 +256,16 @@ fn is_numeral(field: &[u8]) -> bool
 fn cut(text: &[u8]) -> Option<(&[u8], &[u8])>
     ensures { Gives (λ x. (x.0.now, x.1.now)) result (cut text.now) }
 {
-    let at = text.iter().position(|c| *c == b' ')?;
+    let at = space_at(text)?;
     Some((&text[..at], &text[at + 1..]))
+}
+
+// Where the first space is.
+fn space_at(text: &[u8]) -> Option<usize>
+    ensures value { result ≡ position (λ c. c == 32) text.now }
+    ensures within { IfSome result (λ at. at < length text.now) }
+{
+    text.iter().position(|c| *c == b' ')
 }
 
 /// Two lines in range have different spellings, no line is longer than `MAX_LINE`, and none has a line feed.

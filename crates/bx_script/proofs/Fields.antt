@@ -1,8 +1,9 @@
 -- A field that is read is what stood before the first space, and fields without spaces are read again.
 use Rattle.std.proofs.Common.{◌≡◌, ℕ, zero, suc, ◌+◌, ◌<◌, ◌≤◌, ◌≢◌, Bool, true, false, cond, ltb, eqb, not, List, [], ◌∷◌, ◌++◌, length, get_or, take, drop, Option, Some, None, refl, sym, ap, subst, ◌∙◌, add-one, arith, rules, drop-cons}
 use Rattle.std.specs.Prelude.{position, ◌==◌}
-use Rattle.std.specs.List.{AllByRecursion, position_or_len}
-use Rattle.std.proofs.lemmas.Bool.{eqb-true, lt-ltb, ne_eqb}
+use Rattle.std.specs.List.{AllByRecursion, list_all, position_or_len}
+use Rattle.std.proofs.lemmas.Bool.{and_parts, eqb-true, lt-ltb, ne_eqb}
+use Rattle.std.proofs.lemmas.Bool.Decides.{nat_tests}
 use Rattle.std.proofs.lemmas.List.{take-append-drop, take_at, drop_at, length-append}
 use Rattle.std.proofs.Math.Seq.{drop-append-add}
 use Rattle.std.proofs.lemmas.List.Quantifiers.{position-Some}
@@ -26,6 +27,12 @@ Lacks c bytes = AllByRecursion (λ b. b ≢ c) bytes
 pub Lacks-append : (c : ℕ) (xs ys : List ℕ) → Lacks c xs → Lacks c ys → Lacks c (xs ++ ys)
 Lacks-append c [] ys p q = q
 Lacks-append c (x ∷ xs) ys p q = (p.0, Lacks-append c xs ys p.1 q)
+
+pub lacks_from_test : (c : ℕ) (bytes : List ℕ) → list_all (λ b. not (eqb b c)) bytes ≡ true → Lacks c bytes
+lacks_from_test c [] h = tt
+lacks_from_test c (b ∷ bs) h =
+    let parts = and_parts (not (eqb b c)) (list_all (λ x. not (eqb x c)) bs) h in
+    (λ same. grind (arith, nat_tests), lacks_from_test c bs parts.1)
 
 -- a field, a space, and the rest
 abbrev pub then_space : List ℕ → List ℕ → List ℕ

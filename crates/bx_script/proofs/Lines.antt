@@ -14,7 +14,7 @@ use Rattle.bx_script.specs.declared.line.Line.{Line}
 use Rattle.bx_script.specs.declared.line.Line.TheVariants.{Heading, Call, Run}
 use Rattle.bx_script.specs.ScheduleLine.{InRange, IsHeading, IsCall, IsRun, spelling}
 use Rattle.bx_script.specs.Reading.{◌>>=◌, cut, number_of, number_at, datagram_of, heading_of, call_fields_of, call_of, run_of, line_of}
-use Rattle.bx_script.proofs.Fields.{bind_some, some, some_is, Lacks, then_space, cut_takes, cut_again}
+use Rattle.bx_script.proofs.Fields.{bind_some, some, some_is, Lacks, lacks_from_test, then_space, cut_takes, cut_again}
 use Rattle.std.proofs.lemmas.Fmt.{decimal_digit}
 use Rattle.bx_script.proofs.Numbers.{IsNumber, number_takes, number_again, Lacks-decimal}
 use Rattle.bx_script.proofs.HexText.{IsDatagram, datagram_takes, datagram_again}
@@ -210,5 +210,37 @@ word_again : (word rest : List ℕ) → Lacks 32 word → line_of (then_space wo
 unfolding line_of
 word_again word rest h = rw (cut_again word rest h) refl
 
+abbrev heading_text : List ℕ → ℕ → ℕ → ℕ → ℕ → List ℕ
+heading_text version volume nodes devices areas = then_space version (then_space (decimal volume) (then_space (decimal nodes) (then_space (decimal devices) (decimal areas))))
+
+heading_line : (volume nodes devices areas : ℕ) → IsHeading volume nodes devices areas → heading_of (heading_text (codes "1") volume nodes devices areas) ≡ Some (Heading volume nodes devices areas)
+heading_line volume nodes devices areas fits =
+    let same : heading_of (heading_text (codes "1") volume 1 1 1) ≡ Some (Heading volume 1 1 1) =
+        ap (λ (w : List ℕ). heading_of (heading_text w volume 1 1 1)) (sym (decimal_digit 1 (omega arith))) ∙ heading_again volume fits.volume_fits in
+    rw (fits.one_node, fits.one_device, fits.one_area) same
+
+call_line : (reading node client : ℕ) (bytes : List ℕ) → IsCall reading node client bytes
+    → call_of (then_space (decimal reading) (then_space (decimal node) (then_space (decimal client) (encode_lower bytes)))) ≡ Some (Call reading node client bytes)
+call_line reading node client bytes fits =
+    let fits' : IsCall reading 0 client bytes = record { reading_fits = fits.reading_fits; first_node = refl; client_fits = fits.client_fits; short = fits.short; bytes = fits.bytes } in
+    rw fits.first_node (call_again reading client bytes fits')
+
 pub line_again : (line : Line) → InRange line → line_of (spelling line) ≡ Some line
-line_again line fits = ?
+line_again (Heading volume nodes devices areas) fits =
+    word_again (codes "boxwood") (heading_text (codes "1") volume nodes devices areas) (lacks_from_test 32 (codes "boxwood") refl) ∙ heading_line volume nodes devices areas fits
+line_again (Call reading node client bytes) fits =
+    word_again (codes "call") (then_space (decimal reading) (then_space (decimal node) (then_space (decimal client) (encode_lower bytes)))) (lacks_from_test 32 (codes "call") refl) ∙ call_line reading node client bytes fits
+line_again (Run reading limit) fits =
+    word_again (codes "run") (then_space (decimal reading) (decimal limit)) (lacks_from_test 32 (codes "run") refl) ∙ run_again reading limit fits
+
+-- ---- what `read` answers
+
+pub is_found : (r : Result (Option Line) OutOfMemory) (text : List ℕ) → IfOk r (λ found. found ≡ line_of text) → IfOk r (λ found. IfSome found (λ line. InRange line × (text ≡ spelling line)))
+is_found (Ok (Some line)) text h = line_takes text line (sym h)
+is_found (Ok None) text h = tt
+is_found (Err e) text h = tt
+
+pub is_only : (r : Result (Option Line) OutOfMemory) (text : List ℕ) → IfOk r (λ found. found ≡ line_of text)
+    → IfOk r (λ found. (line : Line) → InRange line → text ≡ spelling line → found ≡ Some line)
+is_only (Ok found) text h = λ line fits spelled. h ∙ ap line_of spelled ∙ line_again line fits
+is_only (Err e) text h = tt

@@ -2,3 +2,5 @@ pub mod Fields
 pub mod Numbers
 pub mod HexText
 pub mod Lines
+pub mod Spaced
+pub mod Spelled

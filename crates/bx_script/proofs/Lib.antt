@@ -4,3 +4,4 @@ pub mod HexText
 pub mod Lines
 pub mod Spaced
 pub mod Spelled
+pub mod TraceLines

@@ -1,6 +1,7 @@
 -- Hex text that is read is spelled so, and bytes that are spelled so are read.
 use Rattle.std.proofs.Common.{◌≡◌, ℕ, zero, suc, ◌+◌, ◌-◌, ◌*◌, ◌/◌, ◌%◌, ◌<◌, ◌≤◌, ◌≢◌, ◌⊎◌, inl, inr, Bool, true, false, cond, ltb, leb, eqb, ◌&&◌, not, List, [], ◌∷◌, length, get_or, Option, Some, None, Result, Ok, Err, refl, sym, ap, subst, ◌∙◌, arith, rules}
 use Rattle.std.specs.List.{AllByRecursion, list_all}
+use Rattle.std.specs.Result.{result_ok}
 use Rattle.std.specs.Char.{is_ascii_uppercase}
 use Rattle.std.proofs.lemmas.Bool.{and_parts, cases_lt, eqb-true, ltb-true, leb-true, le-leb, lt-ltb, le-ltb}
 use Rattle.std.proofs.lemmas.Bool.Decides.{nat_tests}
@@ -9,7 +10,7 @@ use Rattle.hex.specs.Hex.{decode_of, decode_pairs, digit_or_error, hex_digit_val
 use Rattle.hex.specs.declared.error.FromHexError.{FromHexError}
 use Rattle.hex.proofs.HexLemmas.{length-encode_with, decode_of-encode_lower, decode_of-even, decode_of-ok}
 use Rattle.bx_base.specs.Bytes.{IsBytes}
-use Rattle.bx_script.specs.Reading.{datagram_of, ok_of}
+use Rattle.bx_script.specs.Reading.{datagram_of}
 use Rattle.bx_script.proofs.Fields.{Lacks}
 
 -- ---- the digits
@@ -108,9 +109,9 @@ pairs_take i (a ∷ b ∷ rest) bytes e low =
     let less = digit_of_value b p2.0 (digit_read b (i + 1) (hex_digit_value b) p2.0 p2.1) low2.0 in
     let byte : p1.0 * 16 + p2.0 ≡ read.0 = ok_is _ _ p2.2 in
     let front : a ≡ get_or lower_digits (read.0 / 16) 0 =
-        let q : read.0 / 16 ≡ p1.0 = omega arith in rw q (high.1 ∙ sym (glyph_at p1.0 high.0)) in
+    let q : read.0 / 16 ≡ p1.0 = omega arith in rw q (high.1 ∙ sym (glyph_at p1.0 high.0)) in
     let back : b ≡ get_or lower_digits (read.0 % 16) 0 =
-        let q : read.0 % 16 ≡ p2.0 = omega arith in rw q (less.1 ∙ sym (glyph_at p2.0 less.0)) in
+    let q : read.0 % 16 ≡ p2.0 = omega arith in rw q (less.1 ∙ sym (glyph_at p2.0 less.0)) in
     let others : rest ≡ encode_lower tail.0 = pairs_take (i + 2) rest tail.0 tail.1 low2.1 in
     let whole : a ∷ b ∷ rest ≡ encode_lower (read.0 ∷ tail.0) = cc in
     subst (λ (bs : List ℕ). a ∷ b ∷ rest ≡ encode_lower bs) (ok_is _ _ tail.2) whole
@@ -120,8 +121,7 @@ pub record IsDatagram (text bytes : List ℕ) : Type 0 where
   pub short : length bytes ≤ 9216
   pub fits : IsBytes bytes
 
-ok_of_some : (r : Result (List ℕ) FromHexError) (bytes : List ℕ) → ok_of r ≡ Some bytes → r ≡ Ok bytes
-unfolding ok_of
+ok_of_some : (r : Result (List ℕ) FromHexError) (bytes : List ℕ) → result_ok r ≡ Some bytes → r ≡ Ok bytes
 ok_of_some (Ok x) bytes e = cc
 ok_of_some (Err e) bytes h = absurd cc
 
@@ -132,7 +132,7 @@ cond_none false o y e = absurd cc
 pub datagram_takes : (text bytes : List ℕ) → datagram_of text ≡ Some bytes → IsDatagram text bytes
 unfolding datagram_of
 datagram_takes text bytes e =
-    let a = cond_none (leb (length text) 18432 && list_all lower text) (ok_of (decode_of text)) bytes e in
+    let a = cond_none (leb (length text) 18432 && list_all lower text) (result_ok (decode_of text)) bytes e in
     let b = and_parts (leb (length text) 18432) (list_all lower text) a.0 in
     let read = ok_of_some (decode_of text) bytes a.1 in
     let parts = decode_of-ok text bytes read in
@@ -144,7 +144,7 @@ datagram_takes text bytes e =
     }
 
 pub datagram_again : (bytes : List ℕ) → length bytes ≤ 9216 → IsBytes bytes → datagram_of (encode_lower bytes) ≡ Some bytes
-unfolding datagram_of ok_of
+unfolding datagram_of
 datagram_again bytes short fits =
     let len = length-encode_with lower_digits bytes in
     let at_most : leb (length (encode_lower bytes)) 18432 ≡ true = le-leb _ _ (omega arith) in

@@ -109,10 +109,13 @@ heading_again : (volume : ℕ) → volume < 2 ^ 64
     → heading_of (then_space (decimal 1) (then_space (decimal volume) (then_space (decimal 1) (then_space (decimal 1) (decimal 1))))) ≡ Some (Heading volume 1 1 1)
 unfolding heading_of
 heading_again volume fits =
-    rw (number_at_again (2 ^ 32 - 1) 1 (then_space (decimal volume) (then_space (decimal 1) (then_space (decimal 1) (decimal 1)))) (omega arith) (omega arith),
-    number_at_again (2 ^ 64 - 1) volume (then_space (decimal 1) (then_space (decimal 1) (decimal 1))) (omega arith) (omega arith),
-    number_at_again (2 ^ 32 - 1) 1 (then_space (decimal 1) (decimal 1)) (omega arith) (omega arith),
-    number_at_again (2 ^ 32 - 1) 1 (decimal 1) (omega arith) (omega arith), number_again (2 ^ 32 - 1) 1 (omega arith) (omega arith)) refl
+    rw (
+      number_at_again (2 ^ 32 - 1) 1 (then_space (decimal volume) (then_space (decimal 1) (then_space (decimal 1) (decimal 1)))) (omega arith) (omega arith),
+      number_at_again (2 ^ 64 - 1) volume (then_space (decimal 1) (then_space (decimal 1) (decimal 1))) (omega arith) (omega arith),
+      number_at_again (2 ^ 32 - 1) 1 (then_space (decimal 1) (decimal 1)) (omega arith) (omega arith),
+      number_at_again (2 ^ 32 - 1) 1 (decimal 1) (omega arith) (omega arith),
+      number_again (2 ^ 32 - 1) 1 (omega arith) (omega arith),
+    ) refl
 
 -- ---- `call`
 
@@ -148,14 +151,16 @@ fields_again : (reading client : ℕ) (hex : List ℕ) → reading ≤ 429496729
     → call_fields_of (then_space (decimal reading) (then_space (decimal 0) (then_space (decimal client) hex))) ≡ Some (reading, 0, client, hex)
 unfolding call_fields_of
 fields_again reading client hex p q =
-    rw (number_at_again 4294967295999 reading (then_space (decimal 0) (then_space (decimal client) hex)) (omega arith) p,
-    number_at_again (2 ^ 32 - 1) 0 (then_space (decimal client) hex) (omega arith) (omega arith),
-    number_at_again (2 ^ 32 - 1) client hex (omega arith) (omega arith)) refl
+    rw (
+      number_at_again 4294967295999 reading (then_space (decimal 0) (then_space (decimal client) hex)) (omega arith) p,
+      number_at_again (2 ^ 32 - 1) 0 (then_space (decimal client) hex) (omega arith) (omega arith),
+      number_at_again (2 ^ 32 - 1) client hex (omega arith) (omega arith),
+    ) refl
 
 call_parts : (text : List ℕ) (reading node client : ℕ) (hex bytes : List ℕ) → IsFields text reading node client hex → IsDatagram hex bytes → Reads (codes "call") text (Call reading node client bytes)
 call_parts text reading node client hex bytes p q =
     let spelled : text ≡ then_space (decimal reading) (then_space (decimal node) (then_space (decimal client) (encode_lower bytes))) =
-        p.spelled ∙ ap (λ (h : List ℕ). then_space (decimal reading) (then_space (decimal node) (then_space (decimal client) h))) q.spelled in
+    p.spelled ∙ ap (λ (h : List ℕ). then_space (decimal reading) (then_space (decimal node) (then_space (decimal client) h))) q.spelled in
     (record { reading_fits = p.reading_fits; first_node = p.first_node; client_fits = omega (arith, p.client_fits); short = q.short; bytes = q.fits }, ap (λ (t : List ℕ). then_space (codes "call") t) spelled)
 
 call_takes : (text : List ℕ) (line : Line) → call_of text ≡ Some line → Reads (codes "call") text line
@@ -216,7 +221,7 @@ heading_text version volume nodes devices areas = then_space version (then_space
 heading_line : (volume nodes devices areas : ℕ) → IsHeading volume nodes devices areas → heading_of (heading_text (codes "1") volume nodes devices areas) ≡ Some (Heading volume nodes devices areas)
 heading_line volume nodes devices areas fits =
     let same : heading_of (heading_text (codes "1") volume 1 1 1) ≡ Some (Heading volume 1 1 1) =
-        ap (λ (w : List ℕ). heading_of (heading_text w volume 1 1 1)) (sym (decimal_digit 1 (omega arith))) ∙ heading_again volume fits.volume_fits in
+    ap (λ (w : List ℕ). heading_of (heading_text w volume 1 1 1)) (sym (decimal_digit 1 (omega arith))) ∙ heading_again volume fits.volume_fits in
     rw (fits.one_node, fits.one_device, fits.one_area) same
 
 call_line : (reading node client : ℕ) (bytes : List ℕ) → IsCall reading node client bytes

@@ -34,9 +34,13 @@ short_heading version volume nodes devices areas fits =
     let n = length-decimal-le 1 nodes (omega arith) (omega (arith, fits.one_node)) (omega (arith, fits.one_node)) in
     let d = length-decimal-le 1 devices (omega arith) (omega (arith, fits.one_device)) (omega (arith, fits.one_device)) in
     let a = length-decimal-le 1 areas (omega arith) (omega (arith, fits.one_area)) (omega (arith, fits.one_area)) in
-    omega (arith, length-then_space version (then_space (decimal volume) (then_space (decimal nodes) (then_space (decimal devices) (decimal areas)))),
-    length-then_space (decimal volume) (then_space (decimal nodes) (then_space (decimal devices) (decimal areas))),
-    length-then_space (decimal nodes) (then_space (decimal devices) (decimal areas)), length-then_space (decimal devices) (decimal areas))
+    omega (
+      arith,
+      length-then_space version (then_space (decimal volume) (then_space (decimal nodes) (then_space (decimal devices) (decimal areas)))),
+      length-then_space (decimal volume) (then_space (decimal nodes) (then_space (decimal devices) (decimal areas))),
+      length-then_space (decimal nodes) (then_space (decimal devices) (decimal areas)),
+      length-then_space (decimal devices) (decimal areas),
+    )
 
 short_call : (reading node client : ℕ) (bytes : List ℕ) → IsCall reading node client bytes
     → length (then_space (decimal reading) (then_space (decimal node) (then_space (decimal client) (encode_lower bytes)))) ≤ 18500
@@ -44,8 +48,14 @@ short_call reading node client bytes fits =
     let r = length-decimal-le 13 reading (omega arith) (omega (arith, fits.reading_fits)) (omega (arith, fits.reading_fits)) in
     let n = length-decimal-le 1 node (omega arith) (omega (arith, fits.first_node)) (omega (arith, fits.first_node)) in
     let c = length-decimal-le 10 client (omega arith) (omega (arith, fits.client_fits)) (omega (arith, fits.client_fits)) in
-    omega (arith, fits.short, length-encode_with lower_digits bytes, length-then_space (decimal reading) (then_space (decimal node) (then_space (decimal client) (encode_lower bytes))),
-    length-then_space (decimal node) (then_space (decimal client) (encode_lower bytes)), length-then_space (decimal client) (encode_lower bytes))
+    omega (
+      arith,
+      fits.short,
+      length-encode_with lower_digits bytes,
+      length-then_space (decimal reading) (then_space (decimal node) (then_space (decimal client) (encode_lower bytes))),
+      length-then_space (decimal node) (then_space (decimal client) (encode_lower bytes)),
+      length-then_space (decimal client) (encode_lower bytes),
+    )
 
 short_run : (reading limit : ℕ) → IsRun reading limit → length (then_space (decimal reading) (decimal limit)) ≤ 100
 short_run reading limit fits =
@@ -65,12 +75,26 @@ short_spelling (Run reading limit) fits =
 -- ---- no line feed
 
 fields_lack_feed : (line : Line) → InRange line → AllByRecursion (Lacks 10) (fields line)
-fields_lack_feed (Heading volume nodes devices areas) fits =
-    (lacks_from_test 10 (codes "boxwood") refl, (lacks_from_test 10 (codes "1") refl, (Lacks-decimal 10 volume (omega arith) fits.volume_fits,
-    (Lacks-decimal 10 nodes (omega arith) (omega (arith, fits.one_node)), (Lacks-decimal 10 devices (omega arith) (omega (arith, fits.one_device)), (Lacks-decimal 10 areas (omega arith) (omega (arith, fits.one_area)), tt))))))
-fields_lack_feed (Call reading node client bytes) fits =
-    (lacks_from_test 10 (codes "call") refl, (Lacks-decimal 10 reading (omega arith) (omega (arith, fits.reading_fits)), (Lacks-decimal 10 node (omega arith) (omega (arith, fits.first_node)),
-    (Lacks-decimal 10 client (omega arith) (omega (arith, fits.client_fits)), (Lacks-hex 10 bytes (omega arith) fits.bytes, tt)))))
+fields_lack_feed (Heading volume nodes devices areas) fits = (
+  lacks_from_test 10 (codes "boxwood") refl,
+  (
+    lacks_from_test 10 (codes "1") refl,
+    (
+      Lacks-decimal 10 volume (omega arith) fits.volume_fits,
+      (Lacks-decimal 10 nodes (omega arith) (omega (arith, fits.one_node)), (Lacks-decimal 10 devices (omega arith) (omega (arith, fits.one_device)), (Lacks-decimal 10 areas (omega arith) (omega (arith, fits.one_area)), tt))),
+    ),
+  ),
+)
+fields_lack_feed (Call reading node client bytes) fits = (
+  lacks_from_test 10 (codes "call") refl,
+  (
+    Lacks-decimal 10 reading (omega arith) (omega (arith, fits.reading_fits)),
+    (
+      Lacks-decimal 10 node (omega arith) (omega (arith, fits.first_node)),
+      (Lacks-decimal 10 client (omega arith) (omega (arith, fits.client_fits)), (Lacks-hex 10 bytes (omega arith) fits.bytes, tt)),
+    ),
+  ),
+)
 fields_lack_feed (Run reading limit) fits =
     (lacks_from_test 10 (codes "run") refl, (Lacks-decimal 10 reading (omega arith) (omega (arith, fits.reading_fits)), (Lacks-decimal 10 limit (omega arith) (omega (arith, fits.most)), tt)))
 

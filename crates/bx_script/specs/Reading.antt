@@ -1,6 +1,7 @@
 -- Reading a line from left to right.
 use Rattle.std.specs.Prelude.{◌≡◌, ℕ, ◌+◌, ◌-◌, ◌^◌, Bool, false, ◌||◌, ◌&&◌, not, ◌==◌, nat_lt, nat_le, if◌then◌else◌, List, [], ◌∷◌, length, take, drop, codes, position, slice_index, Option, Some, None, option_and_then, Result, Ok, Err}
 use Rattle.std.specs.List.{list_all}
+use Rattle.std.specs.Result.{result_ok}
 use Rattle.std.specs.Char.{is_ascii_digit, is_ascii_uppercase}
 use Rattle.std.specs.Str.{bytes_eq}
 use Rattle.std.specs.Str.Parse.{digits_value}
@@ -35,13 +36,9 @@ number_of most field =
     if is_numeral field && nat_le (digits_value 10 field) most then Some (digits_value 10 field) else None
 
 -- the bytes that hex digits in lower case spell
-unfoldable pub ok_of : Result (List ℕ) FromHexError → Option (List ℕ)
-ok_of (Ok bytes) = Some bytes
-ok_of (Err e) = None
-
 unfoldable pub datagram_of : List ℕ → Option (List ℕ)
 datagram_of hex =
-    if nat_le (length hex) 18432 && list_all (λ c. not (is_ascii_uppercase c)) hex then ok_of (decode_of hex) else None
+    if nat_le (length hex) 18432 && list_all (λ c. not (is_ascii_uppercase c)) hex then result_ok (decode_of hex) else None
 
 -- a number up to the most and a space, and the bytes after them
 unfoldable pub number_at : ℕ → List ℕ → Option (ℕ × List ℕ)
@@ -86,6 +83,6 @@ unfoldable pub line_of : List ℕ → Option Line
 line_of text = do
   word ← cut text
   if bytes_eq word.0 (codes "boxwood") then heading_of word.1
-    else if bytes_eq word.0 (codes "call") then call_of word.1
-    else if bytes_eq word.0 (codes "run") then run_of word.1
-    else None
+      else if bytes_eq word.0 (codes "call") then call_of word.1
+      else if bytes_eq word.0 (codes "run") then run_of word.1
+      else None

@@ -9,11 +9,10 @@ ghost use Rattle.bx_base.specs.Text.{LacksFeed};
 ghost use Rattle.bx_script.specs.ScheduleLine.{InRange, spelling};
 ghost use Rattle.bx_script.specs.declared.line.Line.{Line};
 
-use std::alloc::Global;
-use std::str;
-
 use bx_base::{OutOfMemory, Raw};
 use hex::FromHexError;
+use std::alloc::Global;
+use std::str;
 
 /// The most bytes of a line of a schedule, its line feed not counted. No line in the grammar is longer.
 pub const MAX_LINE: usize = 18600;
@@ -154,7 +153,7 @@ fn run(text: &[u8]) -> Option<Line>
     ensures { result ≡ run_of text.now }
 {
     let (reading, rest) = number_at(text, MAX_READING)?;
-    let limit = number(rest, MAX_RUN as u64)?;
+    let limit = number(rest, u64::from(MAX_RUN))?;
     if limit == 0 {
         return None;
     }
@@ -165,7 +164,7 @@ fn run(text: &[u8]) -> Option<Line>
 }
 
 // The bytes that hex digits in lower case spell, at most `MAX_DATAGRAM`.
-#[tactic(auto, unfolding(crate::specs::Reading::datagram_of, crate::specs::Reading::ok_of))]
+#[tactic(auto, unfolding(crate::specs::Reading::datagram_of))]
 fn datagram(alloc: Global, hex: &[u8]) -> Result<Option<Raw>, OutOfMemory>
     ensures { IfOk result (λ found. found ≡ datagram_of hex.now) }
 {
@@ -190,7 +189,7 @@ fn lacks_upper_case(text: &[u8]) -> bool
 fn word_at(text: &[u8]) -> Option<(u32, &[u8])>
     ensures { Gives (λ x. (x.0, x.1.now)) result (number_at (2 ^ 32 - 1) text.now) }
 {
-    let (number, rest) = number_at(text, u32::MAX as u64)?;
+    let (number, rest) = number_at(text, u64::from(u32::MAX))?;
     Some((number as u32, rest))
 }
 
@@ -208,7 +207,7 @@ fn number_at(text: &[u8], most: u64) -> Option<(u64, &[u8])>
 fn word(field: &[u8]) -> Option<u32>
     ensures { result ≡ number_of (2 ^ 32 - 1) field.now }
 {
-    Some(number(field, u32::MAX as u64)? as u32)
+    Some(number(field, u64::from(u32::MAX))? as u32)
 }
 
 // The number that a field spells, up to the most.
@@ -273,5 +272,4 @@ pub fn one_spelling()
     ensures same { (a b : Line) → InRange a → InRange b → spelling a ≡ spelling b → a ≡ b }
     ensures short { (a : Line) → InRange a → length (spelling a) ≤ MAX_LINE }
     ensures lacks_feed { (a : Line) → InRange a → LacksFeed (spelling a) }
-{
-}
+{}

@@ -5,9 +5,8 @@ ghost use Rattle.std.specs.List.{AllByRecursion};
 ghost use Rattle.bx_base.specs.Text.{ended};
 ghost use Rattle.bx_script.specs.TraceText.{InTraceRange, trace_spelling, trace_text};
 
-use std::alloc::Global;
-
 use bx_base::{CallNo, OutOfMemory, Point, Raw};
+use std::alloc::Global;
 
 /// A line of a trace: something that was seen to happen.
 #[derive(Debug, Drop)]
@@ -48,7 +47,7 @@ impl TraceLine {
     pub fn text(&self, alloc: Global) -> Result<Raw, OutOfMemory>
         ensures { IfOk result (λ text. text ≡ ended (trace_spelling self.now)) }
     {
-        match self {
+        let text = match self {
             TraceLine::Took {
                 call,
                 node,
@@ -56,8 +55,7 @@ impl TraceLine {
                 datagram,
             } => {
                 let hex = hex::encode(alloc, datagram.bytes())?;
-                let text = format!(in alloc; "took {call} {node} {client} {hex}\n")?;
-                Ok(Raw::from(text.into_bytes()))
+                format!(in alloc; "took {call} {node} {client} {hex}\n")?
             }
             TraceLine::Acted(point) => {
                 let Point {
@@ -67,13 +65,11 @@ impl TraceLine {
                     made,
                 } = *point;
                 let made = hex::encode(alloc, made.to_be_bytes())?;
-                let text = format!(in alloc; "point {call} {moment} {spare} {made}\n")?;
-                Ok(Raw::from(text.into_bytes()))
+                format!(in alloc; "point {call} {moment} {spare} {made}\n")?
             }
             TraceLine::Reply { call, reply } => {
                 let hex = hex::encode(alloc, reply.bytes())?;
-                let text = format!(in alloc; "reply {call} {hex}\n")?;
-                Ok(Raw::from(text.into_bytes()))
+                format!(in alloc; "reply {call} {hex}\n")?
             }
             TraceLine::Again {
                 node,
@@ -81,15 +77,14 @@ impl TraceLine {
                 reply,
             } => {
                 let hex = hex::encode(alloc, reply.bytes())?;
-                let text = format!(in alloc; "again {node} {client} {hex}\n")?;
-                Ok(Raw::from(text.into_bytes()))
+                format!(in alloc; "again {node} {client} {hex}\n")?
             }
-        }
+        };
+        Ok(Raw::from(text.into_bytes()))
     }
 }
 
 /// Two lists of lines in range have different texts.
 pub fn one_trace()
     ensures { (a b : List TraceLine) → AllByRecursion InTraceRange a → AllByRecursion InTraceRange b → trace_text a ≡ trace_text b → a ≡ b }
-{
-}
+{}

@@ -1,3 +1,4 @@
 pub mod ScheduleLine
 pub mod TraceText
 pub mod Schedule
+pub mod Reading

@@ -5,9 +5,8 @@ ghost use Rattle.std.specs.List.{AllByRecursion};
 ghost use Rattle.bx_base.specs.Text.{ended};
 ghost use Rattle.bx_script.specs.TraceText.{InTraceRange, trace_spelling, trace_text};
 
-use std::alloc::Global;
-
 use bx_base::{CallNo, OutOfMemory, Point, Raw};
+use std::alloc::Global;
 
 /// A line of a trace: something that was seen to happen.
 #[derive(Debug, Drop)]
@@ -48,12 +47,44 @@ impl TraceLine {
     pub fn text(&self, alloc: Global) -> Result<Raw, OutOfMemory>
         ensures { IfOk result (λ text. text ≡ ended (trace_spelling self.now)) }
     {
-        todo
+        let text = match self {
+            TraceLine::Took {
+                call,
+                node,
+                client,
+                datagram,
+            } => {
+                let hex = hex::encode(alloc, datagram.bytes())?;
+                format!(in alloc; "took {call} {node} {client} {hex}\n")?
+            }
+            TraceLine::Acted(point) => {
+                let Point {
+                    call,
+                    moment,
+                    spare,
+                    made,
+                } = *point;
+                let made = hex::encode(alloc, made.to_be_bytes())?;
+                format!(in alloc; "point {call} {moment} {spare} {made}\n")?
+            }
+            TraceLine::Reply { call, reply } => {
+                let hex = hex::encode(alloc, reply.bytes())?;
+                format!(in alloc; "reply {call} {hex}\n")?
+            }
+            TraceLine::Again {
+                node,
+                client,
+                reply,
+            } => {
+                let hex = hex::encode(alloc, reply.bytes())?;
+                format!(in alloc; "again {node} {client} {hex}\n")?
+            }
+        };
+        Ok(Raw::from(text.into_bytes()))
     }
 }
 
 /// Two lists of lines in range have different texts.
 pub fn one_trace()
     ensures { (a b : List TraceLine) → AllByRecursion InTraceRange a → AllByRecursion InTraceRange b → trace_text a ≡ trace_text b → a ≡ b }
-{
-}
+{}

@@ -28,3 +28,8 @@ with_file (file ∷ files) new =
     if file.handle == new.handle then new ∷ files
     else if nat_lt new.handle file.handle then new ∷ file ∷ files
     else file ∷ with_file files new
+
+-- What a map from handles to files keeps: each file stands at its own handle.
+abbrev pub AreKept : List (ℕ × File) → Type 0
+AreKept [] = Unit {0}
+AreKept (entry ∷ entries) = (entry.0 ≡ entry.1.handle) × IsFile entry.1 × AreKept entries

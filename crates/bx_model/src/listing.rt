@@ -3,9 +3,8 @@
 ghost use Rattle.std.specs.Prelude.{◌≡◌, IfOk};
 ghost use Rattle.bx_model.specs.Listing.{IsBare, listing};
 
-use bx_base::{OutOfMemory, Raw};
-
 use crate::tree::Tree;
+use bx_base::{OutOfMemory, Raw};
 
 impl Tree {
     /// The listing: a line for each file, in the order of their handles, and the lines of what it contains.

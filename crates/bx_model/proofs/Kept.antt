@@ -1,6 +1,6 @@
 -- A map from handles to files, seen as the list of the files.
-use Rattle.std.proofs.Common.{◌≡◌, ℕ, ◌<◌, Bool, true, false, cond, eqb, ltb, List, [], ◌∷◌, Option, Some, None, refl, sym, ap, ◌∙◌, arith}
-use Rattle.std.specs.Prelude.{IfSome}
+use Rattle.std.proofs.Common.{◌≡◌, ℕ, subst, Bool, true, false, cond, eqb, ltb, List, [], ◌∷◌, Option, Some, refl, ap, ◌∙◌, arith}
+use Rattle.std.specs.Prelude.{IfSome, slice_get}
 use Rattle.std.specs.Ordering.{is_eq, nat_cmp, match_ordering}
 use Rattle.std.specs.Map.{lookup, values_of}
 use Rattle.std.specs.BTreeMap.{is_at, insert_entry}
@@ -66,3 +66,10 @@ AreKept-insert file (e ∷ es) is kept =
     (λ same. (eqb-true e.0 file.handle same, is, kept.2))
     (kept.0, kept.1, AreKept-insert file es is kept.2)
     )
+
+-- the first file is a file
+pub IsFile-first : (es : List (ℕ × File)) (entry : ℕ × File) → AreKept es → slice_get es 0 ≡ Some entry → IsFile entry.1
+IsFile-first [] entry kept first = absurd cc
+IsFile-first (e ∷ es) entry kept first =
+    let same : e ≡ entry = cc in
+    subst (λ (x : ℕ × File). IsFile x.1) same kept.1

@@ -1,6 +1,6 @@
 //! The files of a tree, by handle.
 
-ghost use Rattle.std.specs.Prelude.{◌≡◌, [], IfSome, OnOk, OnErr, length};
+ghost use Rattle.std.specs.Prelude.{◌≡◌, [], IfSome, OnOk, OnErr, slice_get};
 ghost use Rattle.std.specs.Option.{option_copied};
 ghost use Rattle.bx_model.specs.Files.{IsFile, file_at, with_file};
 
@@ -44,6 +44,15 @@ impl Files {
     /// What the files allocate from.
     pub(crate) fn allocator(&self) -> Global {
         self.alloc
+    }
+
+    /// The file with the least handle.
+    pub(crate) fn first(&self) -> Option<&File>
+        ensures found { option_copied result ≡ slice_get self.now 0 }
+        ensures is_file { IfSome (option_copied result) IsFile }
+    {
+        let (_, file) = self.by_handle.first_key_value()?;
+        Some(file)
     }
 
     /// The file with a handle; `None` exactly where there is none.

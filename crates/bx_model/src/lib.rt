@@ -6,7 +6,7 @@ mod entry;
 mod file;
 mod file_handles;
 mod files;
-// mod listing;
+mod listing;
 mod metadata;
 mod procedures;
 mod reply;

@@ -1,7 +1,6 @@
-use Rattle.std.proofs.Common.{sym, ◌∙◌, ap}
+use Rattle.std.proofs.Common.{◌∙◌, ap}
 use Rattle.bx_model.proofs.Kept.{file_at-lookup, IsFile-lookup}
-use Rattle.bx_model.specs.Files.{IsFile, file_at}
-use Rattle.std.specs.Prelude.{IfSome}
+use Rattle.bx_model.specs.Files.{file_at}
 use Rattle.bx_model.proofs.files.Files.get.Goals as goal
 
 pub returns-clause-found : goal.returns-clause-found

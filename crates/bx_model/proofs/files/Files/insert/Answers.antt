@@ -1,7 +1,6 @@
-use Rattle.std.proofs.Common.{sym, ◌∙◌, ap}
+use Rattle.std.proofs.Common.{◌∙◌, ap}
 use Rattle.bx_model.proofs.Kept.{with_file-insert, AreKept-insert}
-use Rattle.bx_model.specs.Files.{AreKept, with_file}
-use Rattle.std.specs.Map.{values_of}
+use Rattle.bx_model.specs.Files.{with_file}
 use Rattle.bx_model.proofs.files.Files.insert.Goals as goal
 
 pub invariant_of-self-2 : goal.invariant_of-self-2

@@ -1,6 +1,5 @@
 -- The files of a tree as a list in the order of their handles.
-use Rattle.std.specs.Prelude.{◌≡◌, ℕ, ◌+◌, ◌<◌, ◌^◌, ◌==◌, nat_lt, if◌then◌else◌, List, [], ◌∷◌, length, Option, Some, None}
-use Rattle.bx_base.specs.Bytes.{IsBytes}
+use Rattle.std.specs.Prelude.{◌≡◌, ℕ, ◌<◌, ◌^◌, ◌==◌, nat_lt, if◌then◌else◌, List, [], ◌∷◌, length, Option, Some, None}
 use Rattle.bx_model.specs.declared.file.File.{File}
 use Rattle.bx_model.specs.declared.file.Body.{Body}
 use Rattle.bx_model.specs.declared.file.Body.TheVariants.{Bytes, Path, Names}
@@ -28,3 +27,8 @@ with_file (file ∷ files) new =
     if file.handle == new.handle then new ∷ files
     else if nat_lt new.handle file.handle then new ∷ file ∷ files
     else file ∷ with_file files new
+
+-- What a map from handles to files keeps: each file stands at its own handle.
+abbrev pub AreKept : List (ℕ × File) → Type 0
+AreKept [] = Unit {0}
+AreKept (entry ∷ entries) = (entry.0 ≡ entry.1.handle) × IsFile entry.1 × AreKept entries

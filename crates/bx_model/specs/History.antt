@@ -1,5 +1,5 @@
 -- A step of a legal history.
-use Rattle.std.specs.Prelude.{◌≡◌, ℕ, ◌≤◌, ◌==◌, Bool, true, false, Some}
+use Rattle.std.specs.Prelude.{◌≡◌, ◌≤◌, ◌==◌, Bool, false, Some}
 use Rattle.bx_model.specs.declared.entry.Entry.{Entry}
 use Rattle.bx_model.specs.declared.reply.Reply.{Reply}
 use Rattle.bx_model.specs.declared.reply.Reply.TheVariants.{Status, Empty, Attributes}

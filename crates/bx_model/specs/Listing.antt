@@ -1,7 +1,7 @@
 -- The listing of a tree.
-use Rattle.std.specs.Prelude.{◌≡◌, ℕ, zero, suc, ◌+◌, ◌-◌, ◌/◌, ◌<◌, nat_lt, false, if◌then◌else◌, List, [], ◌∷◌, ◌++◌, length, take, drop, map, replicate, codes}
+use Rattle.std.specs.Prelude.{◌≡◌, ℕ, zero, suc, ◌+◌, ◌-◌, ◌/◌, nat_lt, false, if◌then◌else◌, List, [], ◌∷◌, ◌++◌, length, take, drop, map, replicate, codes}
 use Rattle.std.specs.Fmt.{decimal, digits}
-use Rattle.std.specs.List.{flat_map, list_any}
+use Rattle.std.specs.List.{list_any}
 use Rattle.hex.specs.Hex.{encode_lower}
 use Rattle.bx_base.specs.Text.{spaced, sixteen_digits, text_of}
 use Rattle.bx_model.specs.declared.file.File.{File}
@@ -34,10 +34,13 @@ data_lines (suc pieces) offset bytes =
     (if list_any (nat_lt 0) (take 4096 bytes) then spaced (codes "data" ∷ decimal offset ∷ encode_lower (take 4096 bytes) ∷ []) ∷ [] else [])
     ++ data_lines pieces (offset + 4096) (drop 4096 bytes)
 
+abbrev pub dir_line : ℕ → ℕ → List ℕ
+dir_line parent next = spaced (codes "dir" ∷ sixteen_digits parent ∷ decimal next ∷ [])
+
 abbrev pub body_lines : Body → List (List ℕ)
 body_lines (Bytes bytes) = data_lines ((length bytes + 4095) / 4096) 0 bytes
 body_lines (Path path) = spaced (codes "path" ∷ encode_lower path ∷ []) ∷ []
-body_lines (Names parent next names) = spaced (codes "dir" ∷ sixteen_digits parent ∷ decimal next ∷ []) ∷ map name_line names
+body_lines (Names parent next names) = dir_line parent next ∷ map name_line names
 
 -- each file's line and those of what it contains, in the order of the handles
 abbrev pub listing_lines : List File → List (List ℕ)

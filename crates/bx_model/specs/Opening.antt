@@ -1,5 +1,5 @@
 -- The tree of a volume that was just made.
-use Rattle.std.specs.Prelude.{ℕ, List, [], ◌∷◌}
+use Rattle.std.specs.Prelude.{ℕ, [], ◌∷◌}
 use Rattle.bx_model.specs.declared.file.File.{File}
 use Rattle.bx_model.specs.declared.file.Body.TheVariants.{Names}
 use Rattle.bx_model.specs.declared.tree.Tree.{Tree}

@@ -1,9 +1,8 @@
 //! Histories.
 
-use bx_base::CallNo;
-
 use crate::call::Call;
 use crate::reply::Reply;
+use bx_base::CallNo;
 
 /// A step of a history: a call, and what came of it.
 #[derive(Debug, Drop)]

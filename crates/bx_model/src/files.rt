@@ -1,21 +1,33 @@
 //! The files of a tree, by handle.
 
-ghost use Rattle.std.specs.Prelude.{◌≡◌, [], IfSome, OnOk, OnErr, length};
+ghost use Rattle.std.specs.Prelude.{◌≡◌, [], IfSome, OnOk, OnErr, slice_get};
 ghost use Rattle.std.specs.Option.{option_copied};
 ghost use Rattle.bx_model.specs.Files.{IsFile, file_at, with_file};
 
+use crate::file::File;
+use bx_base::OutOfMemory;
 use std::alloc::Global;
 use std::collections::BTreeMap;
 use std::marker::Model;
 
-use bx_base::OutOfMemory;
-
-use crate::file::File;
-
 /// Files with different handles. Contracts see them as a list in the order of their handles.
 #[derive(Debug, Drop)]
 pub struct Files {
+    alloc: Global,
     by_handle: BTreeMap<u64, File>,
+}
+
+impl Model for Files {
+    ghost use Rattle.std.specs.Prelude.{List};
+    ghost use Rattle.std.specs.Map.{values_of};
+    ghost use Rattle.bx_model.specs.declared.file.File.{File};
+    ghost use Rattle.bx_model.specs.Files.{AreKept};
+
+    ghost Value = { List File };
+
+    ghost view = { λ files. values_of files.by_handle.entries };
+
+    ghost invariant = { λ files. AreKept files.by_handle.entries };
 }
 
 impl Files {
@@ -23,7 +35,24 @@ impl Files {
     pub fn new(alloc: Global) -> Files
         ensures { result ≡ [] }
     {
-        todo
+        Files {
+            alloc,
+            by_handle: BTreeMap::new(alloc),
+        }
+    }
+
+    /// What the files allocate from.
+    pub(crate) fn allocator(&self) -> Global {
+        self.alloc
+    }
+
+    /// The file with the least handle.
+    pub(crate) fn first(&self) -> Option<&File>
+        ensures found { option_copied result ≡ slice_get self.now 0 }
+        ensures is_file { IfSome (option_copied result) IsFile }
+    {
+        let (_, file) = self.by_handle.first_key_value()?;
+        Some(file)
     }
 
     /// The file with a handle; `None` exactly where there is none.
@@ -31,7 +60,7 @@ impl Files {
         ensures found { option_copied result ≡ file_at self.now handle }
         ensures is_file { IfSome (option_copied result) IsFile }
     {
-        todo
+        self.by_handle.get(&handle)
     }
 
     /// Adds a file, in the place of the one with its handle where there is one.
@@ -40,6 +69,7 @@ impl Files {
         ensures ok { OnOk result (self.new ≡ with_file self.old file) }
         ensures err { OnErr result (self.new ≡ self.old) }
     {
-        todo
+        self.by_handle.insert(file.handle, file)?;
+        Ok(())
     }
 }

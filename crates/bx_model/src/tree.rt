@@ -1,14 +1,12 @@
 //! The tree.
 
-ghost use Rattle.std.specs.Prelude.{◌≡◌, ◌<◌, ◌^◌, IfOk};
-ghost use Rattle.bx_model.specs.Opening.{opening};
-
-use std::alloc::Global;
-
-use bx_base::{Numbers, OutOfMemory};
+ghost use Rattle.std.specs.Prelude.{◌≡◌, IfOk};
+ghost use Rattle.bx_model.specs.Opening.{opening, opening_root as the_root};
 
 use crate::file::{Body, File, NameList};
 use crate::files::Files;
+use bx_base::{Numbers, OutOfMemory};
+use std::alloc::Global;
 
 /// A file tree.
 #[derive(Debug, Drop)]
@@ -30,6 +28,37 @@ impl Tree {
     pub fn opening(alloc: Global, volume: u64) -> Result<Tree, OutOfMemory>
         ensures { IfOk result (λ tree. tree ≡ opening volume) }
     {
-        todo
+        let mut files = Files::new(alloc);
+        files.insert(opening_root(alloc))?;
+        let mut given = Numbers::new(alloc);
+        given.push(ROOT)?;
+        Ok(Tree {
+            volume,
+            areas: 1,
+            files,
+            root: ROOT,
+            given,
+        })
+    }
+}
+
+/// The handle of the root that a volume is made with: area 0, slot 0, generation 1.
+const ROOT: u64 = 1;
+
+/// The root of a volume that was just made.
+fn opening_root(alloc: Global) -> File
+    ensures { result ≡ the_root }
+{
+    File {
+        handle: ROOT,
+        kind: 2,
+        mode: 0o777,
+        nlink: 2,
+        uid: 0,
+        gid: 0,
+        atime: (0, 0),
+        mtime: (0, 0),
+        ctime: (0, 0),
+        body: Body::Names(ROOT, 3, NameList::new(alloc)),
     }
 }

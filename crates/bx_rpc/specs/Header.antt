@@ -5,8 +5,11 @@ use Rattle.bx_rpc.specs.declared.opened.Opened.{Opened}
 
 -- A call of NFS version 2 (RFC 5531, section 9): its number, CALL, the version of RPC, the program, its version, the
 -- procedure, and a credential and a verifier that are both AUTH_NONE and empty.
+abbrev pub call_words : ℕ → ℕ → List ℕ
+call_words xid procedure = xid ∷ 0 ∷ 2 ∷ 100003 ∷ 2 ∷ procedure ∷ 0 ∷ 0 ∷ 0 ∷ 0 ∷ []
+
 abbrev pub call_header : ℕ → ℕ → List ℕ
-call_header xid procedure = words (xid ∷ 0 ∷ 2 ∷ 100003 ∷ 2 ∷ procedure ∷ 0 ∷ 0 ∷ 0 ∷ 0 ∷ [])
+call_header xid procedure = words (call_words xid procedure)
 
 -- An accepted call's reply (RFC 5531, section 9): the call's number, REPLY, MSG_ACCEPTED, an empty AUTH_NONE verifier,
 -- and SUCCESS.

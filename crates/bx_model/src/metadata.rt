@@ -1,0 +1,97 @@
+//! A file's attributes.
+
+ghost use Rattle.std.specs.Prelude.{◌≡◌, ◌<◌, ◌%◌, ◌^◌, IfOk};
+ghost use Rattle.bx_model.specs.Attributes.{attributes_of, mode_word as mode_word_of, fileid as fileid_of};
+ghost use Rattle.bx_model.specs.Files.{IsFile, size_of as body_size};
+
+use crate::file::{Body, File};
+use bx_base::{OutOfMemory, Words};
+use std::alloc::Global;
+
+/// The type's number of a directory (RFC 1094, section 2.3.2).
+const DIRECTORY: u32 = 2;
+
+/// The type's number of a symbolic link.
+const LINK: u32 = 5;
+
+/// How many bytes a block has.
+const BLOCK_LEN: u32 = 4096;
+
+/// The 17 words of a file's attributes (RFC 1094, section 2.3.5).
+pub fn attributes(alloc: Global, volume: u64, file: &File) -> Result<Words, OutOfMemory>
+    requires { IsFile file.now }
+    ensures { IfOk result (λ words. words ≡ attributes_of volume file.now) }
+{
+    let size = size_of(&file.body);
+    let words = [
+        file.kind,
+        mode_word(file),
+        file.nlink,
+        file.uid,
+        file.gid,
+        size,
+        BLOCK_LEN,
+        0,
+        (size + 511) / 512,
+        low_word(volume),
+        fileid(file.handle),
+        file.atime.0,
+        file.atime.1,
+        file.mtime.0,
+        file.mtime.1,
+        file.ctime.0,
+        file.ctime.1,
+    ];
+    words_of(alloc, &words)
+}
+
+/// A file's mode with the bits of its type.
+pub(crate) fn mode_word(file: &File) -> u32
+    ensures { result ≡ mode_word_of file.now }
+{
+    let type_bits = match file.kind {
+        DIRECTORY => 0o040000,
+        LINK => 0o120000,
+        _ => 0o100000,
+    };
+    type_bits | file.mode
+}
+
+/// A file's size: the bytes of a regular file or of a link's path; a directory counts as one block.
+pub(crate) fn size_of(body: &Body) -> u32
+    requires { body_size body.now < 2 ^ 31 }
+    ensures { result ≡ body_size body.now }
+{
+    match body {
+        Body::Bytes(bytes) => bytes.bytes().len() as u32,
+        Body::Path(path) => path.bytes().len() as u32,
+        Body::Names(_, _, _) => BLOCK_LEN,
+    }
+}
+
+/// The low 32 bits of a number.
+fn low_word(number: u64) -> u32
+    ensures { result ≡ number % 2 ^ 32 }
+{
+    (number % (1 << 32)) as u32
+}
+
+/// A file's number.
+fn fileid(handle: u64) -> u32
+    ensures { result ≡ fileid_of handle }
+{
+    let area = (handle >> 48) as u32;
+    let slot = ((handle >> 32) % (1 << 16)) as u32;
+    1024 * area + slot + 2
+}
+
+/// The words as a list.
+fn words_of(alloc: Global, words: &[u32]) -> Result<Words, OutOfMemory>
+    ensures { IfOk result (λ list. list ≡ words.now) }
+{
+    let mut list = Words::new(alloc);
+    for word in words {
+        list.push(*word)?;
+    }
+    Ok(list)
+}

@@ -7,6 +7,7 @@ ghost use Rattle.std.specs.Str.Parse.{digits_value};
 ghost use Rattle.bx_script.specs.Reading.{Gives, cut, call_fields_of, number_at, datagram_of, heading_of, call_of, run_of, is_numeral, line_of, number_of};
 ghost use Rattle.bx_base.specs.Text.{LacksFeed};
 ghost use Rattle.bx_script.specs.ScheduleLine.{InRange, spelling};
+ghost use Rattle.bx_script.specs.Schedule.{is_heading};
 ghost use Rattle.bx_script.specs.declared.line.Line.{Line};
 
 use bx_base::{OutOfMemory, Raw};
@@ -72,6 +73,13 @@ impl Line {
         ensures only { IfOk result (λ found. (line : Line) → InRange line → text.now ≡ spelling line → found ≡ Some line) }
     {
         read_line(alloc, text)
+    }
+
+    /// Whether this is a heading.
+    pub fn is_heading(&self) -> bool
+        ensures { result ≡ is_heading self.now }
+    {
+        matches!(self, Line::Heading { .. })
     }
 }
 

@@ -1,5 +1,5 @@
 -- A list of bytes, cut at its first line feed.
-use Rattle.std.proofs.Common.{◌≡◌, ◌≢◌, ℕ, ◌+◌, ◌-◌, ◌<◌, ◌≤◌, Bool, true, false, cond, eqb, ltb, List, ◌∷◌, ◌++◌, length, take, drop, get_or, Some, None, sym, refl, ◌∙◌, arith, [], inl, inr}
+use Rattle.std.proofs.Common.{◌≡◌, ℕ, ◌+◌, ◌-◌, ◌<◌, ◌≤◌, Bool, true, false, cond, eqb, ltb, List, ◌∷◌, ◌++◌, length, take, drop, get_or, Some, None, sym, refl, ◌∙◌, arith, [], inl, inr}
 use Rattle.std.specs.List.{position, position_or_len}
 use Rattle.std.proofs.lemmas.Bool.{cases_lt, eqb-true}
 use Rattle.std.proofs.lemmas.Bool.Decides.{nat_tests}
@@ -8,10 +8,6 @@ use Rattle.std.proofs.lemmas.List.Quantifiers.{position-Some}
 use Rattle.std.proofs.lemmas.List.Sums.{fails_before_first}
 use Rattle.bx_base.specs.Text.{LacksFeed, BeginsWith}
 use Rattle.bx_outside.specs.LineReader.{LinesAhead, MeetsFeed, MeetsNoFeed, IsTooLong}
-
--- A byte that isn't equal by test is another one.
-differs_from_test : (a b : ℕ) → eqb a b ≡ false → a ≢ b
-differs_from_test a b e = λ h. grind (arith, nat_tests)
 
 -- What lacks a line feed by test up to its end lacks it everywhere, since 0 stands past the end.
 LacksFeed-from_tests : (bytes : List ℕ) → ((k : ℕ) → k < length bytes → eqb (get_or bytes k 0) 10 ≡ false) → LacksFeed bytes

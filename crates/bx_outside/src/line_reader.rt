@@ -1,6 +1,6 @@
 //! Lines of a source, of a bounded length, read in pieces.
 
-ghost use Rattle.std.specs.Prelude.{◌≡◌, ◌≤◌, ◌<◌, ◌^◌, List, [], ◌++◌, length, IfOk, OnErr, IsTrue, IsFalse};
+ghost use Rattle.std.specs.Prelude.{◌≡◌, ◌≤◌, ◌<◌, ◌^◌, List, [], ◌++◌, length, IfOk, OnOk, OnErr, IsTrue, IsFalse};
 ghost use Rattle.bx_base.specs.Faults.{Rose};
 ghost use Rattle.bx_outside.specs.LineReader.{LinesAhead, TakesLine, IsTooLong, IsPartial, MeetsFeed, MeetsNoFeed};
 ghost use Rattle.bx_outside.specs.declared.line_reader.LineError.TheVariants.{Fault, OutOfMemory};
@@ -104,6 +104,7 @@ impl LineReader {
         ensures line { S.tells source.old → IfLine result (TakesLine (self.old.ahead ++ S.left source.old) self.new (S.left source.new)) }
         ensures end { S.tells source.old → IfEnd result ((self.old.ahead ++ S.left source.old ≡ []) × (S.left source.new ≡ [])) }
         ensures too_long { S.tells source.old → IfTooLong result (IsTooLong (self.old.ahead ++ S.left source.old) self.old.most) }
+        ensures no_fault { OnOk result (S.faults source.new ≡ S.faults source.old) }
         ensures fault { IfFault result (Rose (S.faults source.old) (S.faults source.new)) }
         ensures fault_keeps { S.tells source.old → IfFault result (IsPartial (self.old.ahead ++ S.left source.old) self.new (S.left source.new)) }
         ensures most { self.new.most ≡ self.old.most }
@@ -136,6 +137,7 @@ impl LineReader {
         ensures some { IfOk result (λ some. IsTrue some → 0 < length self.new.ahead) }
         ensures none { IfOk result (λ some. IsFalse some → self.new.ahead ≡ []) }
         ensures end { S.tells source.old → IfOk result (λ some. IsFalse some → S.left source.new ≡ []) }
+        ensures no_fault { OnOk result (S.faults source.new ≡ S.faults source.old) }
         ensures fault { OnErr result (Rose (S.faults source.old) (S.faults source.new)) }
         ensures fault_ahead { OnErr result (self.new.ahead ≡ []) }
         ensures line { self.new.line ≡ self.old.line }

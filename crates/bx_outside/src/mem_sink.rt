@@ -64,6 +64,7 @@ impl Sink for MemSink {
         ensures fits { IfOk result (λ count. count ≤ length piece.now) }
         ensures some { 0 < length piece.now → IfOk result (λ count. 0 < count) }
         ensures taken { Unit {0} → IfOk result (λ count. self.new.written ≡ self.old.written ++ take count piece.now) }
+        ensures no_fault { OnOk result (self.new.faults ≡ self.old.faults) }
         ensures fault { OnErr result (Rose self.old.faults self.new.faults) }
         ensures fault_keeps { Unit {0} → OnErr result (self.new.written ≡ self.old.written) }
         ensures later { self.old.faults ≤ self.new.faults }

@@ -1,6 +1,6 @@
 //! A source in memory.
 
-ghost use Rattle.std.specs.Prelude.{◌≡◌, ◌≤◌, ◌<◌, List, [], ◌++◌, length, take, IfOk, IfErr, OnErr, Ok, Err, if◌then◌else◌};
+ghost use Rattle.std.specs.Prelude.{◌≡◌, ◌≤◌, ◌<◌, List, [], ◌++◌, length, take, IfOk, IfErr, OnOk, OnErr, Ok, Err, if◌then◌else◌};
 ghost use Rattle.bx_base.specs.Faults.{Rose, count_up};
 ghost use Rattle.bx_outside.specs.Memory.{Reading, fails, read_count, after_read};
 
@@ -60,6 +60,7 @@ impl Source for MemSource {
         ensures fits { IfOk result (λ count. count ≤ length into.old) }
         ensures given { Unit {0} → IfOk result (λ count. self.old.left ≡ take count into.new ++ self.new.left) }
         ensures end { Unit {0} → 0 < length into.old → IfOk result (λ count. count ≡ 0 → self.old.left ≡ []) }
+        ensures no_fault { OnOk result (self.new.faults ≡ self.old.faults) }
         ensures fault { OnErr result (Rose self.old.faults self.new.faults) }
         ensures fault_keeps { Unit {0} → OnErr result (self.new.left ≡ self.old.left) }
         ensures later { self.old.faults ≤ self.new.faults }

@@ -27,6 +27,7 @@ pub trait Sink {
         ensures fits { IfOk result (λ count. count ≤ length piece.now) }
         ensures some { 0 < length piece.now → IfOk result (λ count. 0 < count) }
         ensures taken { tells self.old → IfOk result (λ count. written self.new ≡ written self.old ++ take count piece.now) }
+        ensures no_fault { OnOk result (faults self.new ≡ faults self.old) }
         ensures fault { OnErr result (Rose (faults self.old) (faults self.new)) }
         ensures fault_keeps { tells self.old → OnErr result (written self.new ≡ written self.old) }
         ensures later { faults self.old ≤ faults self.new }
@@ -37,6 +38,7 @@ pub trait Sink {
 pub fn write_all<K: Sink>(sink: &mut K, piece: &[u8]) -> Result<(), WriteFault>
     ensures ok { K.tells sink.old → OnOk result (K.written sink.new ≡ K.written sink.old ++ piece.now) }
     ensures part { K.tells sink.old → OnErr result ((n : ℕ) × (n < length piece.now) × (K.written sink.new ≡ K.written sink.old ++ take n piece.now)) }
+    ensures no_fault { OnOk result (K.faults sink.new ≡ K.faults sink.old) }
     ensures fault { OnErr result (Rose (K.faults sink.old) (K.faults sink.new)) }
     ensures later { K.faults sink.old ≤ K.faults sink.new }
     ensures keeps_telling { K.tells sink.old → K.tells sink.new }

@@ -1,6 +1,6 @@
 //! Where bytes come from.
 
-ghost use Rattle.std.specs.Prelude.{◌≡◌, ◌≤◌, ◌<◌, ℕ, List, [], ◌++◌, length, take, IfOk, OnErr};
+ghost use Rattle.std.specs.Prelude.{◌≡◌, ◌≤◌, ◌<◌, ℕ, List, [], ◌++◌, length, take, IfOk, OnOk, OnErr};
 ghost use Rattle.bx_base.specs.Faults.{Rose};
 
 use thiserror::Error;
@@ -27,6 +27,7 @@ pub trait Source {
         ensures fits { IfOk result (λ count. count ≤ length into.old) }
         ensures given { tells self.old → IfOk result (λ count. left self.old ≡ take count into.new ++ left self.new) }
         ensures end { tells self.old → 0 < length into.old → IfOk result (λ count. count ≡ 0 → left self.old ≡ []) }
+        ensures no_fault { OnOk result (faults self.new ≡ faults self.old) }
         ensures fault { OnErr result (Rose (faults self.old) (faults self.new)) }
         ensures fault_keeps { tells self.old → OnErr result (left self.new ≡ left self.old) }
         ensures later { faults self.old ≤ faults self.new }

@@ -18,6 +18,6 @@ loop-rest-preserved g c =
     let within : n ≤ length piece = k.1 in
     record {
       done = (n + count, omega arith, take_rest c.loop-rest.rest.now count ∙ (ap (drop count) k.2 ∙ drop-drop count n piece), λ t. written_more _ _ _ piece _ n count (c.in_ok-count.ensures.taken (c.loop-rest.invariant.tells t)) (k.3 t) k.2);
-      later = omega (arith, c.loop-rest.invariant.later, c.write.ensures.later);
+      same = c.in_ok-count.ensures.no_fault ∙ c.loop-rest.invariant.same;
       tells = λ t. c.write.ensures.keeps_telling (c.loop-rest.invariant.tells t);
     }

@@ -42,6 +42,6 @@ loop-self-preserved g c =
       text = λ t. parts_more text left c.refill.new.self c.take_up_to_feed.new.self (parts_refilled text (g.S.Source.left c.loop-self.source) left c.loop-self.self c.refill.new.self (c.loop-self.invariant.text t) (c.refill.ensures.keeps (c.loop-self.invariant.tells t)) c.refill.ensures.line) m;
       lacks = LacksFeed-more c.refill.new.self c.take_up_to_feed.new.self l m;
       most = c.take_up_to_feed.ensures.most ∙ (c.refill.ensures.most ∙ c.loop-self.invariant.most);
-      later = omega (arith, c.loop-self.invariant.later, c.refill.ensures.later);
+      same = c.in_ok-refill.ensures.no_fault ∙ c.loop-self.invariant.same;
       tells = λ t. c.refill.ensures.keeps_telling (c.loop-self.invariant.tells t);
     }

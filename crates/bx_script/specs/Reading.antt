@@ -34,7 +34,7 @@ unfoldable pub number_of : ℕ → List ℕ → Option ℕ
 number_of most field =
     if is_numeral field && nat_le (digits_value 10 field) most then Some (digits_value 10 field) else None
 
--- the bytes that hex digits in lower case spell
+-- the bytes that hex digits in lower case spell, at most 9216
 unfoldable pub datagram_of : List ℕ → Option (List ℕ)
 datagram_of hex =
     if nat_le (length hex) 18432 && list_all (λ c. not (is_ascii_uppercase c)) hex then result_ok (decode_of hex) else None

@@ -1,5 +1,5 @@
 -- What is read is in range and spelled so, and what is in range and spelled so is read.
-use Rattle.std.proofs.Common.{◌≡◌, ℕ, ◌+◌, ◌-◌, ◌^◌, ◌<◌, ◌≤◌, ◌⊎◌, inl, inr, Bool, true, false, cond, leb, eqb, ◌&&◌, List, [], ◌∷◌, ◌++◌, length, Option, Some, None, Result, Ok, Err, refl, sym, ap, subst, ◌∙◌, arith, rules}
+use Rattle.std.proofs.Common.{◌≡◌, ℕ, ◌-◌, ◌^◌, ◌<◌, ◌≤◌, ◌⊎◌, inl, inr, Bool, true, false, cond, leb, eqb, ◌&&◌, List, Option, Some, None, Result, Ok, Err, refl, sym, ap, subst, ◌∙◌, arith}
 use Rattle.std.specs.Prelude.{IfOk, IfSome, codes}
 use Rattle.std.specs.Fmt.{decimal}
 use Rattle.std.specs.Str.{bytes_eq}
@@ -7,14 +7,12 @@ use Rattle.std.proofs.lemmas.Bool.{and_parts, eqb-true, leb-true, le-leb}
 use Rattle.std.proofs.lemmas.Option.{cond_some, option_and_then_some}
 use Rattle.std.proofs.lemmas.Slice.Eq.{bytes_eq-Decides}
 use Rattle.hex.specs.Hex.{encode_lower}
-use Rattle.bx_base.specs.Bytes.{IsBytes}
-use Rattle.bx_base.specs.Text.{spaced}
 use Rattle.bx_base.specs.declared.memory.OutOfMemory.{OutOfMemory}
 use Rattle.bx_script.specs.declared.line.Line.{Line}
 use Rattle.bx_script.specs.declared.line.Line.TheVariants.{Heading, Call, Run}
 use Rattle.bx_script.specs.ScheduleLine.{InRange, IsHeading, IsCall, IsRun, spelling}
 use Rattle.bx_script.specs.Reading.{◌>>=◌, cut, number_of, number_at, datagram_of, heading_of, call_fields_of, call_of, run_of, line_of}
-use Rattle.bx_script.proofs.Fields.{bind_some, some, some_is, Lacks, lacks_from_test, then_space, cut_takes, cut_again}
+use Rattle.bx_script.proofs.Fields.{bind_some, some_is, Lacks, lacks_from_test, then_space, cut_takes, cut_again}
 use Rattle.std.proofs.lemmas.Fmt.{decimal_digit}
 use Rattle.bx_script.proofs.Numbers.{IsNumber, number_takes, number_again, Lacks-decimal}
 use Rattle.bx_script.proofs.HexText.{IsDatagram, datagram_takes, datagram_again}

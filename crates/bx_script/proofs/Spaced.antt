@@ -1,11 +1,10 @@
 -- Fields without spaces are determined by their line, and lines without line feeds by their text.
-use Rattle.std.proofs.Common.{◌≡◌, ℕ, zero, suc, ◌+◌, ◌<◌, ◌≤◌, ◌≢◌, List, [], ◌∷◌, ◌++◌, length, get_or, refl, sym, ap, ◌∙◌, append_assoc, arith}
+use Rattle.std.proofs.Common.{◌≡◌, ℕ, zero, suc, ◌<◌, ◌≢◌, List, [], ◌∷◌, ◌++◌, length, get_or, refl, sym, ap, ◌∙◌, append_assoc, arith}
 use Rattle.std.specs.Prelude.{map}
-use Rattle.std.specs.List.{AllByRecursion, flat_map}
-use Rattle.std.proofs.lemmas.List.{length-append}
+use Rattle.std.specs.List.{AllByRecursion}
 use Rattle.std.proofs.lemmas.List.Concat.{flat_map-cons}
 use Rattle.bx_base.specs.Text.{spaced, ended, text_of, LacksFeed}
-use Rattle.bx_script.proofs.Fields.{Lacks, Lacks-append, then_space}
+use Rattle.bx_script.proofs.Fields.{Lacks, Lacks-append}
 
 -- ---- what a byte lacks
 

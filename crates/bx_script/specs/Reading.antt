@@ -1,12 +1,11 @@
 -- Reading a line from left to right.
-use Rattle.std.specs.Prelude.{◌≡◌, ℕ, ◌+◌, ◌-◌, ◌^◌, Bool, false, ◌||◌, ◌&&◌, not, ◌==◌, nat_lt, nat_le, if◌then◌else◌, List, [], ◌∷◌, length, take, drop, codes, position, slice_index, Option, Some, None, option_and_then, Result, Ok, Err}
+use Rattle.std.specs.Prelude.{◌≡◌, ℕ, ◌+◌, ◌-◌, ◌^◌, Bool, ◌&&◌, not, ◌==◌, nat_lt, nat_le, if◌then◌else◌, List, length, take, drop, codes, position, slice_index, Option, Some, None, option_and_then}
 use Rattle.std.specs.List.{list_all}
 use Rattle.std.specs.Result.{result_ok}
 use Rattle.std.specs.Char.{is_ascii_digit, is_ascii_uppercase}
 use Rattle.std.specs.Str.{bytes_eq}
 use Rattle.std.specs.Str.Parse.{digits_value}
 use Rattle.hex.specs.Hex.{decode_of}
-use Rattle.hex.specs.declared.error.FromHexError.{FromHexError}
 use Rattle.bx_script.specs.declared.line.Line.{Line}
 use Rattle.bx_script.specs.declared.line.Line.TheVariants.{Heading, Call, Run}
 
@@ -35,7 +34,7 @@ unfoldable pub number_of : ℕ → List ℕ → Option ℕ
 number_of most field =
     if is_numeral field && nat_le (digits_value 10 field) most then Some (digits_value 10 field) else None
 
--- the bytes that hex digits in lower case spell
+-- the bytes that hex digits in lower case spell, at most 9216
 unfoldable pub datagram_of : List ℕ → Option (List ℕ)
 datagram_of hex =
     if nat_le (length hex) 18432 && list_all (λ c. not (is_ascii_uppercase c)) hex then result_ok (decode_of hex) else None

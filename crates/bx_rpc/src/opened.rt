@@ -114,6 +114,6 @@ fn without_credential(alloc: Global, xid: u32, procedure: u32) -> Opened
         gid: NOBODY,
         gids: Words::new(alloc),
         refusal: 0,
-        rest: 40,
+        rest: HEADER_LEN as u32,
     }
 }

@@ -27,6 +27,12 @@ pub enum Body {
     Names(u64, u32, NameList),
 }
 
+/// The type's number of a directory (RFC 1094, section 2.3.2).
+pub(crate) const DIRECTORY: u32 = 2;
+
+/// The type's number of a symbolic link.
+pub(crate) const LINK: u32 = 5;
+
 /// A file of the tree.
 #[derive(Debug, Drop)]
 pub struct File {

@@ -4,15 +4,9 @@ ghost use Rattle.std.specs.Prelude.{◌≡◌, ◌<◌, ◌%◌, ◌^◌, IfOk};
 ghost use Rattle.bx_model.specs.Attributes.{attributes_of, mode_word as mode_word_of, fileid as fileid_of};
 ghost use Rattle.bx_model.specs.Files.{IsFile, size_of as body_size};
 
-use crate::file::{Body, File};
+use crate::file::{Body, DIRECTORY, File, LINK};
 use bx_base::{OutOfMemory, Words};
 use std::alloc::Global;
-
-/// The type's number of a directory (RFC 1094, section 2.3.2).
-const DIRECTORY: u32 = 2;
-
-/// The type's number of a symbolic link.
-const LINK: u32 = 5;
 
 /// How many bytes a block has.
 const BLOCK_LEN: u32 = 4096;

@@ -1,10 +1,12 @@
 ghost use Rattle.std.specs.Prelude.{◌<◌, ◌^◌};
+ghost use Rattle.bx_model.specs.Act.{HasArgs, IsServed};
 ghost use Rattle.bx_model.specs.Files.{IsFile, size_of};
 
 use crate::{
     Args, Body, Call, File, Files, Reply, STALE, Tree, attributes, file_handle, named_handle,
 };
 use bx_base::{Raw, Words};
+use std::alloc::Global;
 use std::test::Fail;
 
 /// The file handle of chunk 1 of volume 7.
@@ -21,13 +23,16 @@ const ROOT_ATTRIBUTES: [u32; 17] = [
 const LISTING: &[u8] =
     b"file 0000000000000001 2 40777 2 0 0 4096 0.000000 0.000000 0.000000\ndir 0000000000000001 3\n";
 
-fn call_of(rt: &HostRuntime, procedure: u32, args: Args) -> Call {
+fn call_of(alloc: Global, procedure: u32, args: Args) -> Call
+    requires { HasArgs procedure args }
+    ensures { IsServed result }
+{
     Call {
         program: 100003,
         procedure,
         uid: 65534,
         gid: 65534,
-        gids: Words::new(rt.alloc()),
+        gids: Words::new(alloc),
         args,
     }
 }
@@ -35,7 +40,11 @@ fn call_of(rt: &HostRuntime, procedure: u32, args: Args) -> Call {
 #[test]
 fn the_root_answers(rt: HostRuntime) -> Result<(), Fail> {
     let mut tree = Tree::opening(rt.alloc(), 7)?;
-    let call = call_of(&rt, 1, Args::Handle(Raw::of(rt.alloc(), &ROOT_HANDLE)?));
+    let call = call_of(
+        rt.alloc(),
+        1,
+        Args::Handle(Raw::of(rt.alloc(), &ROOT_HANDLE)?),
+    );
     let Some(Reply::Attributes(words)) = tree.act(&call, 0, 8, 0)? else {
         return Err("attributes".into());
     };
@@ -50,12 +59,12 @@ fn the_root_answers(rt: HostRuntime) -> Result<(), Fail> {
 #[test]
 fn other_calls(rt: HostRuntime) -> Result<(), Fail> {
     let mut tree = Tree::opening(rt.alloc(), 7)?;
-    let null = call_of(&rt, 0, Args::Nothing);
+    let null = call_of(rt.alloc(), 0, Args::Nothing);
     assert!(rt; matches!(tree.act(&null, 0, 8, 0)?, Some(Reply::Empty)));
     for place in [0, 15, 23, 31] {
         let mut handle = ROOT_HANDLE;
         handle[place] = 2;
-        let call = call_of(&rt, 1, Args::Handle(Raw::of(rt.alloc(), &handle)?));
+        let call = call_of(rt.alloc(), 1, Args::Handle(Raw::of(rt.alloc(), &handle)?));
         assert!(rt; matches!(tree.act(&call, 0, 8, 0)?, Some(Reply::Status(STALE))));
     }
     Ok(())

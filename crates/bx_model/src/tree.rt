@@ -3,10 +3,13 @@
 ghost use Rattle.std.specs.Prelude.{◌≡◌, IfOk};
 ghost use Rattle.bx_model.specs.Opening.{opening, opening_root as the_root};
 
-use crate::file::{Body, File, NameList};
+use crate::file::{Body, DIRECTORY, File, NameList};
 use crate::files::Files;
 use bx_base::{Numbers, OutOfMemory};
 use std::alloc::Global;
+
+/// The handle of the root that a volume is made with: area 0, slot 0, generation 1.
+const ROOT: u64 = 1;
 
 /// A file tree.
 #[derive(Debug, Drop)]
@@ -42,16 +45,13 @@ impl Tree {
     }
 }
 
-/// The handle of the root that a volume is made with: area 0, slot 0, generation 1.
-const ROOT: u64 = 1;
-
 /// The root of a volume that was just made.
 fn opening_root(alloc: Global) -> File
     ensures { result ≡ the_root }
 {
     File {
         handle: ROOT,
-        kind: 2,
+        kind: DIRECTORY,
         mode: 0o777,
         nlink: 2,
         uid: 0,

@@ -13,6 +13,13 @@ abbrev pub IsArguments : ℕ → Args → List ℕ → Type 0
 IsArguments procedure Nothing bytes = (procedure ≡ 0) × (bytes ≡ [])
 IsArguments procedure (Handle handle) bytes = (procedure ≡ 1) × (length handle ≡ 32) × (bytes ≡ handle)
 
+-- the bytes begin with the arguments of a procedure
+pub record BeginsWithArguments (procedure : ℕ) (bytes : List ℕ) (args : Args) : Type 0 where
+  pub arguments : List ℕ
+  pub rest : List ℕ
+  pub parts : bytes ≡ arguments ++ rest
+  pub is_arguments : IsArguments procedure args arguments
+
 -- The bytes are a call with this number: a header without a credential, the arguments, and any bytes behind them.
 pub record ReadsAs (bytes : List ℕ) (xid : ℕ) (call : Call) : Type 0 where
   pub arguments : List ℕ

@@ -7,12 +7,10 @@ ghost use Rattle.bx_nfs.specs.Wire.{IsServed, ReadsAs};
 /// A datagram is one call at most.
 pub fn one_reading()
     ensures { (bytes : List ℕ) (x y : ℕ) (a b : Call) → ReadsAs bytes x a → ReadsAs bytes y b → (x ≡ y) × (a ≡ b) }
-{
-}
+{}
 
 /// The datagrams that are served are those that are a call.
 pub fn served_calls()
     ensures reads { (bytes : List ℕ) → IsServed bytes → (xid : ℕ) × (call : Call) × ReadsAs bytes xid call }
     ensures served { (bytes : List ℕ) (xid : ℕ) (call : Call) → ReadsAs bytes xid call → IsServed bytes }
-{
-}
+{}

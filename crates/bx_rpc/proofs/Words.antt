@@ -1,5 +1,5 @@
 -- Words of four bytes, the highest first: what they read as, and that they are told apart.
-use Rattle.std.proofs.Common.{◌≡◌, ℕ, zero, suc, ◌+◌, ◌*◌, ◌^◌, ◌<◌, ◌≤◌, List, [], ◌∷◌, ◌++◌, length, get_or, take, drop, refl, sym, ap, ◌∙◌, append_assoc, arith, inl, inr}
+use Rattle.std.proofs.Common.{◌≡◌, ℕ, suc, ◌+◌, ◌*◌, ◌^◌, ◌<◌, ◌≤◌, List, [], ◌∷◌, ◌++◌, length, get_or, take, drop, refl, sym, ap, ◌∙◌, arith, inl, inr}
 use Rattle.std.specs.Int.{w32, to_be_bytes, from_be_bytes}
 use Rattle.std.proofs.lemmas.List.{take-append-drop, length-append, length-take, length-drop, get_or-drop, get_or-take, get_or_past, drop-drop, drop_all, append-nil}
 use Rattle.std.proofs.lemmas.Bool.{cases_lt}
@@ -51,8 +51,8 @@ words_read (x ∷ xs) bytes fits long reads =
     first_word bytes fits (omega arith) ∙ ap (λ (n : ℕ). to_be_bytes w32 n ++ drop 4 bytes) (sym (reads 0 (omega arith))) in
     let others : drop 4 bytes ≡ words xs ++ drop (4 * length xs) (drop 4 bytes) =
     words_read xs (drop 4 bytes) (IsBytes-drop 4 bytes fits) (omega (arith, length-drop 4 bytes)) (λ k lt.
-        let same : drop (4 * k) (drop 4 bytes) ≡ drop (4 * suc k) bytes = drop-drop (4 * k) 4 bytes ∙ ap (λ (n : ℕ). drop n bytes) (omega arith) in
-        rw same (reads (suc k) (omega arith))) in
+    let same : drop (4 * k) (drop 4 bytes) ≡ drop (4 * suc k) bytes = drop-drop (4 * k) 4 bytes ∙ ap (λ (n : ℕ). drop n bytes) (omega arith) in
+    rw same (reads (suc k) (omega arith))) in
     let rest : drop (4 * length xs) (drop 4 bytes) ≡ drop (4 * suc (length xs)) bytes = drop-drop (4 * length xs) 4 bytes ∙ ap (λ (n : ℕ). drop n bytes) (omega arith) in
     first ∙ ap (λ (tail : List ℕ). to_be_bytes w32 x ++ tail) (others ∙ ap (λ (tail : List ℕ). words xs ++ tail) rest)
 

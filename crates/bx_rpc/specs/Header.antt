@@ -1,5 +1,5 @@
 -- The part of a call before its arguments, and the part of a reply before its result.
-use Rattle.std.specs.Prelude.{◌≡◌, ℕ, ◌<◌, ◌≤◌, ◌^◌, List, [], ◌∷◌, ◌++◌, length, drop}
+use Rattle.std.specs.Prelude.{◌≡◌, ℕ, ◌<◌, ◌≤◌, ◌^◌, List, [], ◌∷◌, ◌++◌, drop}
 use Rattle.bx_base.specs.Bytes.{words}
 use Rattle.bx_rpc.specs.declared.opened.Opened.{Opened}
 

@@ -5,10 +5,9 @@ ghost use Rattle.bx_base.specs.Bytes.{words};
 ghost use Rattle.bx_rpc.specs.Header.{Opens, call_header, call_words};
 ghost use Rattle.bx_rpc.specs.declared.opened.Opened.{Opened};
 
-use std::alloc::Global;
-
 use bx_base::{OutOfMemory, Words};
 use byteorder::{BigEndian, ByteOrder};
+use std::alloc::Global;
 
 /// The program number of NFS (RFC 1094).
 pub const NFS_PROGRAM: u32 = 100003;
@@ -75,11 +74,18 @@ fn call_of(header: &[u32; 10]) -> Option<(u32, u32)>
     ensures none { IfNone result ((xid procedure : ℕ) → procedure ≤ 17 → header.now ≡ call_words xid procedure → ⊥) }
 {
     match *header {
-        [xid, CALL, RPC_VERSION, NFS_PROGRAM, NFS_VERSION, procedure, 0, 0, 0, 0]
-            if procedure <= LAST_PROCEDURE =>
-        {
-            Some((xid, procedure))
-        }
+        [
+            xid,
+            CALL,
+            RPC_VERSION,
+            NFS_PROGRAM,
+            NFS_VERSION,
+            procedure,
+            0,
+            0,
+            0,
+            0,
+        ] if procedure <= LAST_PROCEDURE => { Some((xid, procedure)) }
         _ => None,
     }
 }
@@ -108,6 +114,6 @@ fn without_credential(alloc: Global, xid: u32, procedure: u32) -> Opened
         gid: NOBODY,
         gids: Words::new(alloc),
         refusal: 0,
-        rest: 40,
+        rest: HEADER_LEN as u32,
     }
 }

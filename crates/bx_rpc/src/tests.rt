@@ -1,6 +1,5 @@
-use std::test::Fail;
-
 use crate::{NFS_PROGRAM, NOBODY, opens};
+use std::test::Fail;
 
 /// The header of the call 1 of the procedure 0, as RFC 5531 lays it out.
 const NULL_CALL: [u8; 40] = [
@@ -23,7 +22,14 @@ fn a_header_opens(rt: HostRuntime) -> Result<(), Fail> {
 #[test]
 fn other_headers_do_not(rt: HostRuntime) -> Result<(), Fail> {
     // A place of the header, and a byte that makes it none that is served.
-    let others = [(11_usize, 3_u8), (15, 0xa4), (19, 3), (23, 18), (27, 1), (39, 4)];
+    let others = [
+        (11_usize, 3_u8),
+        (15, 0xa4),
+        (19, 3),
+        (23, 18),
+        (27, 1),
+        (39, 4),
+    ];
     for (place, byte) in others {
         let mut datagram = NULL_CALL;
         datagram[place] = byte;

@@ -1,4 +1,4 @@
-use Rattle.std.proofs.Common.{arith, drop}
+use Rattle.std.proofs.Common.{drop}
 use Rattle.bx_rpc.proofs.Headers.{header_words-same}
 use Rattle.bx_rpc.proofs.opened.opens.Goals as goal
 

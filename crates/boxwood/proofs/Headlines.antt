@@ -1,0 +1,68 @@
+-- A replay that stands has the headline's property.
+use Rattle.std.proofs.Common.{◌≡◌, ℕ, List, [], ◌∷◌, ◌++◌, refl, sym, ap, ◌∙◌}
+use Rattle.std.specs.Prelude.{map, reverse}
+use Rattle.std.proofs.lemmas.List.{reverse-append, reverse-reverse}
+use Rattle.bx_script.specs.declared.line.Line.{Line}
+use Rattle.bx_script.specs.declared.trace_line.TraceLine.{TraceLine}
+use Rattle.bx_script.specs.Schedule.{volume_of}
+use Rattle.bx_history.specs.Trace as traces
+use Rattle.bx_history.specs.Legal.{LeadsNewest}
+use Rattle.bx_history.specs.Placed.{Part, schedule_of, trace_of}
+use Rattle.bx_model.specs.declared.entry.Entry.{Entry}
+use Rattle.bx_model.specs.declared.tree.Tree.{Tree}
+use Rattle.bx_model.specs.History.{IsStep}
+use Rattle.bx_model.specs.Opening.{opening}
+use Rattle.boxwood.specs.declared.replay.Replay.{Replay}
+use Rattle.boxwood.specs.Headline.{rules, IsTyped, AreTyped, Step, Headline}
+use Rattle.boxwood.specs.Replay.{Stands}
+
+AreTyped-append : (a c : List traces.Entry) (b d : List Entry) → AreTyped a b → AreTyped c d → AreTyped (a ++ c) (b ++ d)
+AreTyped-append [] c [] d h k = k
+AreTyped-append [] c (y ∷ b) d h k = absurd h
+AreTyped-append (x ∷ a) c [] d h k = absurd h
+AreTyped-append (x ∷ a) c (y ∷ b) d h k = (h.0, AreTyped-append a c b d h.1 k)
+
+AreTyped-reverse : (a : List traces.Entry) (b : List Entry) → AreTyped a b → AreTyped (reverse a) (reverse b)
+AreTyped-reverse [] [] h = tt
+AreTyped-reverse [] (y ∷ b) h = absurd h
+AreTyped-reverse (x ∷ a) [] h = absurd h
+AreTyped-reverse (x ∷ a) (y ∷ b) h =
+    rw (reverse-append (x ∷ []) a, reverse-append (y ∷ []) b) (AreTyped-append (reverse a) (x ∷ []) (reverse b) (y ∷ []) (AreTyped-reverse a b h.1) (h.0, tt))
+
+-- a history in bytes, with the calls and the replies that the bytes are
+record Typed (first last : Tree) (bytes : List traces.Entry) : Type 0 where
+  history : List Entry
+  typed : AreTyped bytes history
+  leads : LeadsNewest IsStep first history last
+
+typed : (first last : Tree) (bytes : List traces.Entry) → LeadsNewest Step first bytes last → Typed first last bytes
+typed first last [] leads = record { history = []; typed = tt; leads = leads }
+typed first last (entry ∷ earlier) leads =
+    let so_far = typed first leads.0 earlier leads.1 in
+    record { history = leads.2.entry ∷ so_far.history; typed = (leads.2.typed, so_far.typed); leads = (leads.0, so_far.leads, leads.2.step) }
+
+pub headline : (replay : Replay) (parts : List Part) (start written : List ℕ) → Stands replay parts start written
+    → Headline (schedule_of parts) (reverse (trace_of parts)) replay.tree
+headline replay parts start written stands =
+    let all = typed (opening (volume_of (schedule_of parts))) replay.tree stands.history stands.accounts.leads in
+    record {
+      history = reverse all.history;
+      bytes = reverse stands.history;
+      typed = AreTyped-reverse stands.history all.history all.typed;
+      fits = rw (reverse-reverse (trace_of parts), reverse-reverse stands.history) stands.accounts.fits;
+      legal = rw (reverse-reverse all.history) all.leads;
+      placed = record {
+        parts = parts;
+        along = sym (reverse-reverse (map (λ (part : Part). part.line) parts));
+        whole = sym (reverse-reverse (trace_of parts));
+        placed = stands.accounts.placed;
+        closed = tt;
+      };
+    }
+
+-- before the first line
+pub no_headline : Headline [] [] (opening 0)
+no_headline = record {
+  history = []; bytes = []; typed = tt; fits = refl; legal = refl;
+  placed = record { parts = []; along = refl; whole = refl; placed = tt; closed = tt };
+}

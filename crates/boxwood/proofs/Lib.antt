@@ -1,0 +1,9 @@
+pub mod TraceTexts
+pub mod NextLines
+pub mod Answering
+pub mod Standing
+pub mod Headlines
+pub mod Finishing
+pub mod Running
+pub mod Goings
+pub mod Leavings

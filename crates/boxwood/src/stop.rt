@@ -1,0 +1,64 @@
+//! Why a command stops short.
+
+use bx_base::OutOfMemory;
+use bx_outside::{LineError, WriteFault};
+
+/// Why a line of a schedule is refused.
+#[derive(Clone, Copy, PartialEq, Eq, Debug)]
+pub enum Reason {
+    /// It is outside the grammar, or not in its place.
+    Grammar,
+    /// It is a call that isn't served yet.
+    NotBuilt,
+}
+
+/// Why a command stops short of its end.
+#[derive(Clone, Copy, PartialEq, Eq, Debug)]
+pub enum Stop {
+    /// The words are no command line.
+    Usage,
+    /// A line of the schedule is refused. Lines count from 1.
+    Refused(u64, Reason),
+    /// The input failed.
+    ReadFault,
+    /// The output failed.
+    WriteFault,
+    /// Memory ran out.
+    OutOfMemory,
+}
+
+impl From<OutOfMemory> for Stop {
+    ghost use Rattle.std.specs.Prelude.{◌≡◌};
+    ghost use Rattle.boxwood.specs.declared.stop.Stop.TheVariants as stops;
+
+    ghost from_gives = { λ _ stop. stop ≡ stops.OutOfMemory };
+
+    fn from(_error: OutOfMemory) -> Stop {
+        Stop::OutOfMemory
+    }
+}
+
+impl From<WriteFault> for Stop {
+    ghost use Rattle.std.specs.Prelude.{◌≡◌};
+    ghost use Rattle.boxwood.specs.declared.stop.Stop.TheVariants as stops;
+
+    ghost from_gives = { λ _ stop. stop ≡ stops.WriteFault };
+
+    fn from(_fault: WriteFault) -> Stop {
+        Stop::WriteFault
+    }
+}
+
+impl From<LineError> for Stop {
+    ghost use Rattle.boxwood.specs.FromLine.{stop_of};
+    ghost use Rattle.std.specs.Prelude.{◌≡◌};
+
+    ghost from_gives = { λ error stop. stop ≡ stop_of error };
+
+    fn from(error: LineError) -> Stop {
+        match error {
+            LineError::Fault => Stop::ReadFault,
+            LineError::OutOfMemory => Stop::OutOfMemory,
+        }
+    }
+}

@@ -7,3 +7,6 @@ pub mod Finishing
 pub mod Running
 pub mod Goings
 pub mod Leavings
+pub mod Reports
+pub mod Words
+pub mod Completes

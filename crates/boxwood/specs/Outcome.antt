@@ -1,6 +1,6 @@
 -- What a replay leaves on its output, by the way in which it ends.
-use Rattle.std.specs.Prelude.{◌≡◌, ◌≢◌, ℕ, ◌+◌, ◌<◌, ◌≤◌, ◌==◌, Bool, true, false, List, [], ◌∷◌, ◌++◌, length, map, codes, ◌⊎◌}
-use Rattle.std.specs.List.{AllByRecursion}
+use Rattle.std.specs.Prelude.{◌≡◌, ◌≢◌, ℕ, ◌+◌, ◌<◌, ◌≤◌, ◌==◌, Bool, true, false, if◌then◌else◌, List, [], ◌∷◌, ◌++◌, length, map, take, codes, ◌⊎◌}
+use Rattle.std.specs.List.{AllByRecursion, list_any}
 use Rattle.std.specs.Fmt.{decimal}
 use Rattle.bx_base.specs.Faults.{Rose}
 use Rattle.bx_base.specs.Text.{LacksFeed, ended, text_of, lines_of}
@@ -110,3 +110,27 @@ message (stops.Refused line reason) = ended (codes "schedule line " ++ decimal l
 message stops.ReadFault = ended (codes "read fault")
 message stops.WriteFault = ended (codes "write fault")
 message stops.OutOfMemory = ended (codes "out of memory")
+
+-- The line is behind what was there before; or the sink failed, and it has a part of the line.
+abbrev pub IsTold : List ℕ → List ℕ → ℕ → ℕ → List ℕ → Type 0
+IsTold old new before now line = (new ≡ old ++ line) ⊎ (Rose before now × ((n : ℕ) × (new ≡ old ++ take n line)))
+
+-- the exit status
+abbrev pub status_of : Stop → ℕ
+status_of stops.Usage = 1
+status_of (stops.Refused line reason) = 2
+status_of stops.ReadFault = 3
+status_of stops.WriteFault = 4
+status_of stops.OutOfMemory = 9
+
+-- the exit statuses that there are
+abbrev pub IsStatus : ℕ → Type 0
+IsStatus status = list_any (λ s. s == status) (0 ∷ 1 ∷ 2 ∷ 3 ∷ 4 ∷ 9 ∷ []) ≡ true
+
+-- the line that tells a status that has only one
+abbrev pub line_of : ℕ → List ℕ
+line_of status =
+    if status == 1 then message stops.Usage
+    else if status == 3 then message stops.ReadFault
+    else if status == 4 then message stops.WriteFault
+    else message stops.OutOfMemory

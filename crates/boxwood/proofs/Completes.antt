@@ -1,0 +1,94 @@
+-- A schedule whose every line is in the grammar and served has no line that is refused.
+use Rattle.std.proofs.Common.{◌≡◌, ℕ, suc, ◌+◌, ◌<◌, ◌≤◌, ◌==◌, Bool, true, false, List, [], ◌∷◌, ◌++◌, length, Err, refl, sym, ap, ◌∙◌, arith, inl, inr}
+use Rattle.std.specs.Prelude.{map, ◌⊎◌}
+use Rattle.std.specs.List.{AllByRecursion}
+use Rattle.std.proofs.lemmas.Bool.{ne_eqb}
+use Rattle.std.proofs.lemmas.List.{append-nil, length-append, length-map}
+use Rattle.bx_base.specs.Faults.{Rose}
+use Rattle.bx_base.specs.Text.{lines_of}
+use Rattle.bx_script.specs.declared.line.Line.{Line}
+use Rattle.bx_script.specs.declared.line.Line.TheVariants.{Call}
+use Rattle.bx_script.specs.ScheduleLine.{spelling}
+use Rattle.bx_script.specs.Schedule.{BeginsSchedule, HasPlace, IsSchedule}
+use Rattle.bx_script.proofs.Spelled.{spelling_injective}
+use Rattle.boxwood.specs.declared.stop.Reason.{Reason}
+use Rattle.boxwood.specs.declared.stop.Reason.TheVariants.{Grammar, NotBuilt}
+use Rattle.boxwood.specs.Headline.{IsServedLine}
+use Rattle.boxwood.specs.declared.stop.Stop.{Stop}
+use Rattle.boxwood.specs.declared.stop.Stop.TheVariants as stops
+use Rattle.boxwood.specs.Outcome.{IsRefused, IsRefusedAt, status_of}
+use Rattle.boxwood.specs.Replay.{HasCause, Leaves}
+
+-- the line of a schedule behind so many others
+record Found (first : Bool) (line : List ℕ) (front : List (List ℕ)) (count : ℕ) : Type 0 where
+  value : Line
+  place : HasPlace first value
+  served : IsServedLine value
+  spelled : line ≡ spelling value
+  within : length front < count
+
+head_is : (a b : List ℕ) (xs ys : List (List ℕ)) → a ∷ xs ≡ b ∷ ys → b ≡ a
+head_is a b xs ys e = cc
+
+tail_is : (a b : List ℕ) (xs ys : List (List ℕ)) → a ∷ xs ≡ b ∷ ys → xs ≡ ys
+tail_is a b xs ys e = cc
+
+later : (schedule : List Line) (front : List (List ℕ)) (line : List ℕ) (others : List (List ℕ)) → map spelling schedule ≡ front ++ line ∷ others
+    → AllByRecursion (HasPlace false) schedule → AllByRecursion IsServedLine schedule → Found false line front (length schedule)
+later [] [] line others e places served = absurd cc
+later [] (f ∷ front) line others e places served = absurd cc
+later (x ∷ schedule) [] line others e places served = record {
+  value = x; place = places.0; served = served.0; spelled = head_is (spelling x) line (map spelling schedule) others e; within = omega arith;
+}
+later (x ∷ schedule) (f ∷ front) line others e places served =
+    let found = later schedule front line others (tail_is (spelling x) f (map spelling schedule) (front ++ line ∷ others) e) places.1 served.1 in
+    record { value = found.value; place = found.place; served = found.served; spelled = found.spelled; within = let w = found.within in omega arith }
+
+found : (schedule : List Line) (front : List (List ℕ)) (line : List ℕ) (others : List (List ℕ)) → map spelling schedule ≡ front ++ line ∷ others
+    → BeginsSchedule schedule → AllByRecursion IsServedLine schedule → Found (length front == 0) line front (length schedule)
+found [] [] line others e begins served = absurd cc
+found [] (f ∷ front) line others e begins served = absurd cc
+found (x ∷ schedule) [] line others e begins served = record {
+  value = x; place = begins.0; served = served.0; spelled = head_is (spelling x) line (map spelling schedule) others e; within = omega arith;
+}
+found (x ∷ schedule) (f ∷ front) line others e begins served =
+    let rest = later schedule front line others (tail_is (spelling x) f (map spelling schedule) (front ++ line ∷ others) e) begins.1 served.1 in
+    record { value = rest.value; place = rw (ne_eqb (length (f ∷ front)) 0 (λ z. omega arith)) rest.place; served = rest.served; spelled = rest.spelled; within = let w = rest.within in omega arith }
+
+none_refused : (schedule done : List Line) (others : List (List ℕ)) (reason : Reason) → map spelling schedule ≡ map spelling done ++ others
+    → BeginsSchedule schedule → 0 < length schedule → length schedule ≤ 4294967295 → AllByRecursion IsServedLine schedule
+    → IsRefusedAt done others reason → ⊥
+none_refused schedule done [] Grammar e begins headed few served refused =
+    let same : length schedule ≡ 0 = sym (length-map schedule spelling) ∙ ap length (e ∙ append-nil (map spelling done)) ∙ length-map done spelling ∙ ap length refused in
+    omega arith
+none_refused schedule done [] NotBuilt e begins headed few served refused = refused
+none_refused schedule done (line ∷ others) Grammar e begins headed few served refused =
+    let at = found schedule (map spelling done) line others e begins served in
+    let long : length (map spelling done) ≡ length done = length-map done spelling in
+    elim refused [
+      | inl many ↦ (let w = at.within in omega (arith, long))
+      | inr none ↦ none at.value (rw long at at.place) at.spelled
+    ]
+none_refused schedule done (line ∷ others) NotBuilt e begins headed few served refused =
+    let at = found schedule (map spelling done) line others e begins served in
+    let long : length (map spelling done) ≡ length done = length-map done spelling in
+    let call = Call refused.1.reading refused.1.node refused.1.client refused.1.datagram in
+    let same : at.value ≡ call = spelling_injective at.value call at.place.0 refused.1.in_place.0 (sym at.spelled ∙ refused.1.spelled) in
+    refused.1.unserved (rw same at at.served)
+
+pub not_refused : (text : List ℕ) (schedule : List Line) (number : ℕ) (reason : Reason) (output : List ℕ)
+    → IsSchedule (lines_of text) schedule → AllByRecursion IsServedLine schedule → IsRefused text number reason output → ⊥
+not_refused text schedule number reason output is served refused =
+    none_refused schedule refused.done refused.others reason (sym is.spelled ∙ refused.read) is.begins is.headed is.few served refused.refused
+
+pub completes : (stop : Stop) (status : ℕ) (text left old new : List ℕ) (schedule : List Line) (source_before source_now sink_before sink_now : ℕ)
+    → (status ≡ status_of stop) ⊎ ((status_of stop ≡ 2) × (status ≡ 9)) → HasCause stop source_before source_now sink_before sink_now
+    → (Rose source_before source_now → ⊥) → (Rose sink_before sink_now → ⊥) → Leaves (Err stop) text left old new
+    → IsSchedule (lines_of text) schedule → AllByRecursion IsServedLine schedule → (status ≡ 0) ⊎ (status ≡ 9)
+completes stops.Usage status text left old new schedule a b c d told cause no_read no_write leaves is served = absurd cause
+completes (stops.Refused number reason) status text left old new schedule a b c d told cause no_read no_write leaves is served =
+    absurd (not_refused text schedule number reason leaves.output is served leaves.holds)
+completes stops.ReadFault status text left old new schedule a b c d told cause no_read no_write leaves is served = absurd (no_read cause)
+completes stops.WriteFault status text left old new schedule a b c d told cause no_read no_write leaves is served = absurd (no_write cause)
+completes stops.OutOfMemory status text left old new schedule a b c d (inl e) cause no_read no_write leaves is served = inr e
+completes stops.OutOfMemory status text left old new schedule a b c d (inr h) cause no_read no_write leaves is served = inr h.1

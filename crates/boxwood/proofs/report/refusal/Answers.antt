@@ -1,0 +1,12 @@
+use Rattle.std.proofs.Common.{◌≡◌, ℕ, List, ◌∙◌}
+use Rattle.std.specs.Prelude.{IfOk, codes, string_bytes}
+use Rattle.std.proofs.lemmas.Result.{IfOk-weaker}
+use Rattle.boxwood.specs.Outcome.{message}
+use Rattle.boxwood.proofs.Reports.{refusal_text}
+use Rattle.boxwood.proofs.report.refusal.Goals as goal
+
+pub returns-in-Grammar : goal.returns-in-Grammar
+returns-in-Grammar c = rw c.in-Grammar.is (IfOk-weaker c.format.result _ _ (λ s h. h ∙ refusal_text c.args.line (codes "grammar")) c.format.ensures.ok)
+
+pub returns-in-NotBuilt : goal.returns-in-NotBuilt
+returns-in-NotBuilt c = rw c.in-NotBuilt.is (IfOk-weaker c.format-in-NotBuilt.result _ _ (λ s h. h ∙ refusal_text c.args.line (codes "not built")) c.format-in-NotBuilt.ensures.ok)

@@ -1,0 +1,94 @@
+//! The command.
+
+ghost use Rattle.std.specs.Prelude.{◌≡◌, ◌≢◌, ◌⊎◌, ◌↔◌, ℕ, List, codes, [], ◌∷◌, map, string_bytes, IsTrue};
+ghost use Rattle.std.specs.List.{AllByRecursion};
+ghost use Rattle.bx_base.specs.Faults.{Rose};
+ghost use Rattle.bx_base.specs.Text.{lines_of};
+ghost use Rattle.bx_script.specs.declared.line.Line.{Line};
+ghost use Rattle.bx_script.specs.Schedule.{IsSchedule};
+ghost use Rattle.boxwood.specs.declared.stop.Reason.{Reason};
+ghost use Rattle.boxwood.specs.declared.stop.Stop.TheVariants as stops;
+ghost use Rattle.boxwood.specs.Headline.{IsServedLine};
+ghost use Rattle.boxwood.specs.Outcome.{IsBroken, IsCutOff, IsRefused, IsReplayed, IsStatus, IsTold, line_of, message};
+ghost use Rattle.boxwood.specs.Replay.{Wrote};
+
+use std::alloc::Global;
+
+use bx_outside::{Sink, Source};
+
+use crate::report::report;
+use crate::run::replay;
+use crate::stop::Stop;
+
+/// Runs the command that the words spell, and answers its exit status. The one command line is `replay`, which reads a
+/// schedule from `input` and writes its trace to `out`.
+///
+/// - 0: done.
+/// - 1: the words are no command line.
+/// - 2: the first line of the schedule that is outside the grammar, or a call that isn't served, was met.
+/// - 3: `input` failed.
+/// - 4: `out` failed.
+/// - 9: memory ran out.
+///
+/// Each status but 0 has a line on `err`. A fault of `err` changes no status.
+pub fn boxwood<S: Source, K: Sink>(
+    alloc: Global,
+    words: &[String],
+    input: &mut S,
+    out: &mut K,
+    err: &mut K,
+) -> u8
+    ensures status { IsStatus result }
+
+    // The words are no command line.
+    ensures usage { (result ≡ 1) ↔ (map string_bytes words.now ≢ codes "replay" ∷ []) }
+    ensures untouched { result ≡ 1 → (input.new ≡ input.old) × (out.new ≡ out.old) }
+
+    // The headline.
+    ensures replayed { result ≡ 0 → S.tells input.old → K.tells out.old →
+        Wrote (K.written out.old) (K.written out.new) (IsReplayed (S.left input.old)) × (S.left input.new ≡ []) }
+    ensures silent { result ≡ 0 → err.new ≡ err.old }
+
+    // The first line that is refused, and the trace of the lines before.
+    ensures refused { result ≡ 2 → (number : ℕ) × (reason : Reason)
+        × (S.tells input.old → K.tells out.old → Wrote (K.written out.old) (K.written out.new) (IsRefused (S.left input.old) number reason))
+        × (K.tells err.old → IsTold (K.written err.old) (K.written err.new) (K.faults err.old) (K.faults err.new) (message (stops.Refused number reason))) }
+
+    // A fault of the source, and the trace of the lines before.
+    ensures read_fault { result ≡ 3 → Rose (S.faults input.old) (S.faults input.new) }
+    ensures cut_off { result ≡ 3 → S.tells input.old → K.tells out.old →
+        Wrote (K.written out.old) (K.written out.new) (IsCutOff (S.left input.old) (S.left input.new)) }
+
+    // A fault of the output, or no memory: a part of a trace.
+    ensures write_fault { result ≡ 4 → Rose (K.faults out.old) (K.faults out.new) }
+    ensures broken { (result ≡ 4) ⊎ (result ≡ 9) → S.tells input.old → K.tells out.old →
+        Wrote (K.written out.old) (K.written out.new) (IsBroken (S.left input.old)) }
+
+    // The line that tells the status.
+    ensures told { result ≢ 0 → result ≢ 2 → K.tells err.old →
+        IsTold (K.written err.old) (K.written err.new) (K.faults err.old) (K.faults err.new) (line_of result) }
+
+    // A schedule whose every line is in the grammar and served is done, unless memory runs out.
+    ensures complete { S.tells input.old → K.tells out.old → map string_bytes words.now ≡ codes "replay" ∷ []
+        → (schedule : List Line) → IsSchedule (lines_of (S.left input.old)) schedule → AllByRecursion IsServedLine schedule
+        → (Rose (S.faults input.old) (S.faults input.new) → ⊥) → (Rose (K.faults out.old) (K.faults out.new) → ⊥)
+        → (result ≡ 0) ⊎ (result ≡ 9) }
+{
+    if !is_replay(words) {
+        return report(alloc, Stop::Usage, err);
+    }
+    match replay(alloc, input, out) {
+        Ok(()) => 0,
+        Err(stop) => report(alloc, stop, err),
+    }
+}
+
+// Whether the words are the one command line.
+fn is_replay(words: &[String]) -> bool
+    ensures { IsTrue result ↔ (map string_bytes words.now ≡ codes "replay" ∷ []) }
+{
+    match words {
+        [word] => word.as_str() == "replay",
+        _ => false,
+    }
+}

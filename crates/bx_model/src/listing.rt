@@ -15,7 +15,8 @@ use bx_base::{OutOfMemory, Raw};
 use std::alloc::Global;
 
 impl Tree {
-    /// The listing: a line for each file, in the order of their handles, and the lines of what it contains.
+    /// The listing: a line for each file, in the order of their handles, and the lines of what it contains. The
+    /// tree has the root alone, and the root has no entries.
     pub fn listing(&self) -> Result<Raw, OutOfMemory>
         requires { IsBare self.now }
         ensures { IfOk result (λ text. text ≡ listing self.now) }

@@ -47,8 +47,8 @@ impl<'a> Reader<'a> {
         Some(word)
     }
 
-    /// The next `n` bytes, with any padding behind them passed over (RFC 4506, section 4.9). `None` exactly where fewer
-    /// bytes than these are left, and nothing is read then.
+    /// The next `n` bytes; their padding, whatever bytes that is, is passed over (RFC 4506, section 4.9). `None` exactly
+    /// where fewer bytes are left than these and their padding, and nothing is read then.
     pub fn fixed(&mut self, n: usize) -> Option<&'a [u8]>
         ensures some { IfSome result (λ content. Reads (SpellsFixed n content.now) self.old self.new) }
         ensures none { IfNone result ((content rest : List ℕ) → Reads (SpellsFixed n content) self.old rest → ⊥) }
@@ -59,8 +59,8 @@ impl<'a> Reader<'a> {
         Some(content)
     }
 
-    /// The next opaque data, with any padding behind it passed over (RFC 4506, section 4.10). `None` exactly where it
-    /// has more than `max` bytes or isn't whole, and nothing is read then.
+    /// The next opaque data; its padding, whatever bytes that is, is passed over (RFC 4506, section 4.10). `None` exactly
+    /// where it has more than `max` bytes, or it and its padding aren't all there, and nothing is read then.
     pub fn opaque(&mut self, max: u32) -> Option<&'a [u8]>
         ensures some { IfSome result (λ content. Reads (SpellsOpaque content.now) self.old self.new) }
         ensures short { IfSome result (λ content. length content.now ≤ max) }

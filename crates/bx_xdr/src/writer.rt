@@ -50,7 +50,7 @@ impl Writer {
         Raw::from(self.bytes)
     }
 
-    /// Puts a word (RFC 4506, section 4.2).
+    /// Puts a word (RFC 4506, section 4.2). On an error nothing is put.
     pub fn put_word(&mut self, word: u32) -> Result<(), OutOfMemory>
         ensures ok { OnOk result (self.new ≡ self.old ++ word_text word) }
         ensures err { OnErr result (self.new ≡ self.old) }
@@ -61,7 +61,8 @@ impl Writer {
         Ok(())
     }
 
-    /// Puts opaque data of a length that its reader knows (RFC 4506, section 4.9).
+    /// Puts opaque data of a length that its reader knows, and behind it zeros up to a multiple of 4 bytes (RFC 4506,
+    /// section 4.9). On an error nothing is put.
     pub fn put_fixed(&mut self, content: &[u8]) -> Result<(), OutOfMemory>
         ensures ok { OnOk result (self.new ≡ self.old ++ fixed_text content.now) }
         ensures err { OnErr result (self.new ≡ self.old) }
@@ -73,7 +74,8 @@ impl Writer {
         Ok(())
     }
 
-    /// Puts opaque data behind its length in bytes (RFC 4506, section 4.10).
+    /// Puts the length of opaque data in bytes, which is below 2^32, and then the data as `put_fixed` does (RFC 4506,
+    /// section 4.10). On an error nothing is put.
     pub fn put_opaque(&mut self, content: &[u8]) -> Result<(), OutOfMemory>
         requires { length content.now < 2 ^ 32 }
         ensures ok { OnOk result (self.new ≡ self.old ++ opaque_text content.now) }

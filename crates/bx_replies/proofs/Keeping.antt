@@ -1,10 +1,10 @@
 -- What a cache's entries say of the answers that are kept.
-use Rattle.std.proofs.Common.{◌≡◌, ℕ, zero, suc, ◌-◌, ◌≤◌, ◌&&◌, not, Bool, true, false, cond, List, [], ◌∷◌, ◌++◌, length, take, drop, filter, Option, Some, None, refl, sym, ap, ◌∙◌, arith, length-append, add-one, append-nil, eqb-true}
+use Rattle.std.proofs.Common.{◌≡◌, ℕ, zero, suc, ◌-◌, ◌≤◌, not, Bool, true, false, cond, List, [], ◌∷◌, ◌++◌, length, take, drop, Option, Some, None, refl, ◌∙◌, arith, length-append, append-nil, eqb-true, eq-eqb, bytes_eq}
 use Rattle.std.specs.List.{AllByRecursion, IsDistinct}
 use Rattle.std.specs.Map.{keys_of, lookup_entry, remove_entry}
 use Rattle.std.specs.Option.{option_map_or}
 use Rattle.std.specs.Cmp.Lexicographic.{bytes_decides}
-use Rattle.std.proofs.lemmas.Bool.{and_parts}
+use Rattle.std.proofs.lemmas.Bool.{and_parts, and_from}
 use Rattle.std.proofs.lemmas.List.{drop_all, take_all, drop-append-le}
 use Rattle.std.proofs.lemmas.List.Elements.{filter-append}
 use Rattle.lru.specs.LruCache.{LruCache, put_entries}
@@ -114,6 +114,33 @@ module _ (c : LruCache Call (List ℕ)) (k : Call) (v : List ℕ) where
 
   pub put_keeps : c.cap ≡ 256 → IsDistinct same_call (keys_of c.entries) → length c.entries ≤ 256 → kept (put_entries same_call c k v) ≡ with_answer (kept c.entries) (answer_of (k, v))
   put_keeps full d n = put_by full d n (lookup_entry (same_call k) c.entries) refl
+
+-- ---- what was kept last is found
+
+bytes_eq-same : (bytes : List ℕ) → bytes_eq bytes bytes ≡ true
+bytes_eq-same bytes = (bytes_decides bytes bytes).1 refl
+
+module _ (client : ℕ) (call : List ℕ) where
+  -- an answer to another call in front makes no difference
+  past : (b : Answer) (others : List Answer) (a : Answer) → is_to client call b ≡ false → (n : ℕ)
+      → ((m : ℕ) → reply_of (drop m others ++ a ∷ []) client call ≡ Some a.reply) → reply_of (drop n (b ∷ others) ++ a ∷ []) client call ≡ Some a.reply
+  past b others a u zero h = rw u (h 0)
+  past b others a u (suc n) h = h n
+
+  reply_of-missed : (n : ℕ) (answers : List Answer) (a : Answer) → is_to client call a ≡ true → reply_of (drop n (to_others answers client call) ++ a ∷ []) client call ≡ Some a.reply
+  reply_of-missed n [] a t = rw (drop_all {X = Answer} n [] (omega arith), t) refl
+  reply_of-missed n (b ∷ answers) a t = (elim (is_to client call b) as (λ y. is_to client call b ≡ y → reply_of (drop n (to_others (b ∷ answers) client call) ++ a ∷ []) client call ≡ Some a.reply) [
+    | true ↦ λ u. rw u (reply_of-missed n answers a t)
+    | false ↦ λ u. rw u (past b (to_others answers client call) a u n (λ m. reply_of-missed m answers a t))
+  ]) refl
+
+pub reply_of-with_answer : (answers : List Answer) (a : Answer) → reply_of (with_answer answers a) a.client a.call ≡ Some a.reply
+reply_of-with_answer answers a =
+    let others = to_others answers a.client a.call in
+    let size = length-append others (a ∷ []) in
+    let within : length (others ++ a ∷ []) - 256 ≤ length others = omega arith in
+    rw (drop-append-le (length (others ++ a ∷ []) - 256) others (a ∷ []) within)
+    (reply_of-missed a.client a.call (length (others ++ a ∷ []) - 256) answers a (and_from _ _ (eq-eqb a.client a.client refl) (bytes_eq-same a.call)))
 
 -- ---- no two are to the same call
 

@@ -1,5 +1,5 @@
 -- Answers that are kept, the oldest first.
-use Rattle.std.specs.Prelude.{◌≡◌, ℕ, ◌-◌, Bool, false, ◌&&◌, not, ◌==◌, if◌then◌else◌, bytes_eq, List, [], ◌∷◌, ◌++◌, length, drop, filter, Option, Some, None}
+use Rattle.std.specs.Prelude.{ℕ, ◌-◌, Bool, ◌&&◌, not, ◌==◌, if◌then◌else◌, bytes_eq, List, [], ◌∷◌, ◌++◌, length, drop, filter, Option, Some, None}
 use Rattle.std.specs.List.{IsDistinct}
 
 -- whose call it was, the bytes of the call, and those of its reply

@@ -1,6 +1,6 @@
 //! The replies that are kept.
 
-ghost use Rattle.std.specs.Prelude.{◌≡◌, ◌≤◌, [], length, IfOk, OnOk, OnErr};
+ghost use Rattle.std.specs.Prelude.{◌≡◌, ◌≤◌, [], length, IfOk, OnOk, OnErr, Some};
 ghost use Rattle.std.specs.Option.{option_copied};
 ghost use Rattle.bx_replies.specs.Answers.{Answer, IsApart, reply_of, with_answer};
 
@@ -69,11 +69,17 @@ impl Replies {
     /// more than 256, the oldest goes. Where memory runs out, nothing changes.
     pub fn keep(&mut self, client: u32, call: Raw, reply: Raw) -> Result<(), OutOfMemory>
         ensures ok { OnOk result (self.new ≡ with_answer self.old record { client = client; call = call; reply = reply }) }
+        ensures found { OnOk result (reply_of self.new client call ≡ Some reply) }
         ensures err { OnErr result (self.new ≡ self.old) }
     {
+        // Only the proof reads this: a cache has no more entries than it may have, and no two with one key.
         let count = self.cache.len();
         prove!(count <= MOST);
-        self.cache.put(Call { client, bytes: call }, reply)?;
+        let call = Call {
+            client,
+            bytes: call,
+        };
+        self.cache.put(call, reply)?;
         Ok(())
     }
 }

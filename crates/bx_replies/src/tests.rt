@@ -40,7 +40,10 @@ fn a_call_that_is_kept_again_has_its_new_reply(rt: HostRuntime) -> Result<(), Fa
     let mut replies = Replies::new(rt.alloc())?;
     keep(&mut replies, rt.alloc(), 1, b"read", b"old")?;
     keep(&mut replies, rt.alloc(), 1, b"read", b"new")?;
-    assert_eq!(rt; replies.find(1, b"read").map(|raw| raw.bytes()), Some(b"new".as_slice()));
+    assert_eq!(rt;
+        replies.find(1, b"read").map(|raw| raw.bytes()),
+        Some(b"new".as_slice())
+    );
     assert_eq!(rt; replies.len(), 1);
     Ok(())
 }

@@ -21,7 +21,7 @@ returns-then-eq c =
 pub loop-call-preserved : goal.loop-call-preserved
 loop-call-preserved c =
     let on : is_to c.args.client c.args.bytes.now (answer_of (c.in-Some.call.now, c.in-Some.reply.now)) ≡ false → reply_of (kept c.next.new.self.iter) c.args.client c.args.bytes.now ≡ reply_of c.args.self.now c.args.client c.args.bytes.now =
-      λ miss. sym (reply_of-newer c.args.client c.args.bytes.now _ _ _ c.in-Some.ensures.steps miss) ∙ c.loop-call.invariant in
+    λ miss. sym (reply_of-newer c.args.client c.args.bytes.now _ _ _ c.in-Some.ensures.steps miss) ∙ c.loop-call.invariant in
     elim c.else-client-call.branch [
       | else-client-call-via-then-client-call+else-eq w ↦
           let other = sym w.eq.ensures ∙ w.if-eq.false in

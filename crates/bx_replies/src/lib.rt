@@ -1,0 +1,10 @@
+//! Replies that were sent, kept so that a call that comes again gets the same reply.
+#![tactic(auto)]
+
+mod call;
+mod replies;
+
+pub use replies::Replies;
+
+#[cfg(test)]
+mod tests;

@@ -38,7 +38,11 @@ later : (schedule : List Line) (front : List (List ℕ)) (line : List ℕ) (othe
 later [] [] line others e places served = absurd cc
 later [] (f ∷ front) line others e places served = absurd cc
 later (x ∷ schedule) [] line others e places served = record {
-  value = x; place = places.0; served = served.0; spelled = head_is (spelling x) line (map spelling schedule) others e; within = omega arith;
+  value = x;
+  place = places.0;
+  served = served.0;
+  spelled = head_is (spelling x) line (map spelling schedule) others e;
+  within = omega arith;
 }
 later (x ∷ schedule) (f ∷ front) line others e places served =
     let found = later schedule front line others (tail_is (spelling x) f (map spelling schedule) (front ++ line ∷ others) e) places.1 served.1 in
@@ -49,7 +53,11 @@ found : (schedule : List Line) (front : List (List ℕ)) (line : List ℕ) (othe
 found [] [] line others e begins served = absurd cc
 found [] (f ∷ front) line others e begins served = absurd cc
 found (x ∷ schedule) [] line others e begins served = record {
-  value = x; place = begins.0; served = served.0; spelled = head_is (spelling x) line (map spelling schedule) others e; within = omega arith;
+  value = x;
+  place = begins.0;
+  served = served.0;
+  spelled = head_is (spelling x) line (map spelling schedule) others e;
+  within = omega arith;
 }
 found (x ∷ schedule) (f ∷ front) line others e begins served =
     let rest = later schedule front line others (tail_is (spelling x) f (map spelling schedule) (front ++ line ∷ others) e) begins.1 served.1 in

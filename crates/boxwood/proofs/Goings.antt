@@ -59,9 +59,11 @@ read_on text rest next done line begins (inl e) b =
       | inl h ↦ inl (e ∙ ap (λ (w : List ℕ). text_of (map spelling done) ++ w) h
           ∙ sym (append_assoc (text_of (map spelling done)) (ended (spelling line)) next)
           ∙ ap (λ (w : List ℕ). w ++ next) (sym (text_push (map spelling done) (spelling line)) ∙ ap text_of (sym (map_push done line))))
-      | inr h ↦ inr (h.2,
-          lines_read text rest done begins (inl e) ∙ ap (λ (ls : List (List ℕ)). map spelling done ++ ls) (lines_of-begins rest (spelling line) next b ∙ ap (λ (r : List ℕ). spelling line ∷ lines_of r) h.2)
-          ∙ sym (map_push done line))
+      | inr h ↦ inr (
+        h.2,
+        lines_read text rest done begins (inl e) ∙ ap (λ (ls : List (List ℕ)). map spelling done ++ ls) (lines_of-begins rest (spelling line) next b ∙ ap (λ (r : List ℕ). spelling line ∷ lines_of r) h.2)
+            ∙ sym (map_push done line),
+      )
     ]
 read_on text rest next done line begins (inr h) b = absurd (none_begins (spelling line) next (rw h.0 at b))
 
@@ -80,7 +82,6 @@ going_on text rest next number old new line start before after going begins stan
 -- ---- stopping
 
 module _ (text rest : List ℕ) (number : ℕ) (replay : Replay) (start written : List ℕ) (going : Going text rest number replay start written) where
-
   done_long : length (schedule_of going.parts) ≡ number
   done_long = length_schedule going.parts ∙ sym going.count
 
@@ -89,7 +90,11 @@ module _ (text rest : List ℕ) (number : ℕ) (replay : Replay) (start written 
     output = trace_text (reverse (trace_of going.parts));
     added = going.stands.output;
     holds = record {
-      done = schedule_of going.parts; others = lines_of rest; trace = reverse (trace_of going.parts); last = replay.tree; more = [];
+      done = schedule_of going.parts;
+      others = lines_of rest;
+      trace = reverse (trace_of going.parts);
+      last = replay.tree;
+      more = [];
       read = lines_read text rest (schedule_of going.parts) going.stands.are_done.begins going.read;
       are_done = going.stands.are_done;
       headline = headline replay going.parts start written going.stands;
@@ -102,7 +107,10 @@ module _ (text rest : List ℕ) (number : ℕ) (replay : Replay) (start written 
     output = trace_text (reverse (trace_of going.parts));
     added = going.stands.output;
     holds = record {
-      done = schedule_of going.parts; piece = piece; trace = reverse (trace_of going.parts); last = replay.tree;
+      done = schedule_of going.parts;
+      piece = piece;
+      trace = reverse (trace_of going.parts);
+      last = replay.tree;
       read = rw e at going.read;
       lacks = lacks;
       are_done = going.stands.are_done;
@@ -117,7 +125,10 @@ module _ (text rest : List ℕ) (number : ℕ) (replay : Replay) (start written 
     output = trace_text (reverse (trace_of going.parts));
     added = going.stands.output;
     holds = record {
-      done = schedule_of going.parts; others = others; trace = reverse (trace_of going.parts); last = replay.tree;
+      done = schedule_of going.parts;
+      others = others;
+      trace = reverse (trace_of going.parts);
+      last = replay.tree;
       read = lines_read text rest (schedule_of going.parts) going.stands.are_done.begins going.read ∙ ap (λ (ls : List (List ℕ)). map spelling (schedule_of going.parts) ++ ls) e;
       are_done = going.stands.are_done;
       number-is = ap (λ (n : ℕ). n + 1) (sym done_long);
@@ -142,13 +153,18 @@ module _ (text rest : List ℕ) (number : ℕ) (replay : Replay) (start written 
       → Wrote start written (IsRefused text (number + 1) NotBuilt)
   stops_unserved (Heading volume nodes devices areas) next few begins place unserved = absurd unserved
   stops_unserved (Call reading node client datagram) next few begins place unserved =
-      stops_refused NotBuilt (spelling (Call reading node client datagram) ∷ lines_of next) (lines_of-begins rest (spelling (Call reading node client datagram)) next begins)
-      (omega (arith, done_long), record {
-        reading = reading; node = node; client = client; datagram = datagram;
-        in_place = rw not_first at place;
-        spelled = refl;
-        unserved = unserved;
-      })
+      stops_refused NotBuilt (spelling (Call reading node client datagram) ∷ lines_of next) (lines_of-begins rest (spelling (Call reading node client datagram)) next begins) (
+        omega (arith, done_long),
+        record {
+          reading = reading;
+          node = node;
+          client = client;
+          datagram = datagram;
+          in_place = rw not_first at place;
+          spelled = refl;
+          unserved = unserved;
+        },
+      )
   stops_unserved (Run reading limit) next few begins place unserved = absurd unserved
 
 -- ---- parts of what was to be written
@@ -162,7 +178,11 @@ broken_part text rest number replay start whole written wrote more going added p
   output = wrote;
   added = added;
   holds = record {
-    done = schedule_of going.parts; others = lines_of rest; trace = reverse (trace_of going.parts); last = replay.tree; more = more;
+    done = schedule_of going.parts;
+    others = lines_of rest;
+    trace = reverse (trace_of going.parts);
+    last = replay.tree;
+    more = more;
     read = lines_read text rest (schedule_of going.parts) going.stands.are_done.begins going.read;
     are_done = going.stands.are_done;
     headline = headline replay going.parts start whole going.stands;
@@ -178,9 +198,9 @@ stops_torn text rest next number old line start before after going begins torn =
     let on = going_on text rest next number old torn.replay line start before (after ++ torn.more) going begins torn.after in
     let wrote : List ℕ = trace_text (reverse (trace_of going.parts)) ++ torn.wrote in
     let added : after ≡ start ++ wrote =
-      torn.added ∙ ap (λ (w : List ℕ). w ++ torn.wrote) going.stands.output ∙ append_assoc start (trace_text (reverse (trace_of going.parts))) torn.wrote in
+    torn.added ∙ ap (λ (w : List ℕ). w ++ torn.wrote) going.stands.output ∙ append_assoc start (trace_text (reverse (trace_of going.parts))) torn.wrote in
     let whole : wrote ++ torn.more ≡ trace_text (reverse (trace_of on.parts)) =
-      append_cancel_left start _ _ (sym (append_assoc start wrote torn.more) ∙ ap (λ (w : List ℕ). w ++ torn.more) (sym added) ∙ on.stands.output) in
+    append_cancel_left start _ _ (sym (append_assoc start wrote torn.more) ∙ ap (λ (w : List ℕ). w ++ torn.more) (sym added) ∙ on.stands.output) in
     broken_part text next (number + 1) torn.replay start (after ++ torn.more) after wrote torn.more on added (inl whole)
 
 -- the end was reached, and a part of what comes after the trace was written
@@ -191,7 +211,7 @@ stops_unfinished text number replay start before after more going wrote added e 
     let trace : List ℕ = trace_text (reverse (trace_of going.parts)) in
     let out : after ≡ start ++ (trace ++ wrote) = added ∙ ap (λ (w : List ℕ). w ++ wrote) going.stands.output ∙ append_assoc start trace wrote in
     let whole : (trace ++ wrote) ++ more ≡ trace ++ closing_text replay.tree =
-      append_assoc trace wrote more ∙ ap (λ (w : List ℕ). trace ++ w) e in
+    append_assoc trace wrote more ∙ ap (λ (w : List ℕ). trace ++ w) e in
     broken_part text [] number replay start before after (trace ++ wrote) more going out (inr (refl, whole))
 
 -- the end was reached, and all was written
@@ -203,7 +223,9 @@ finishes text number replay start before after going e =
       output = trace ++ closing_text replay.tree;
       added = e ∙ ap (λ (w : List ℕ). w ++ closing_text replay.tree) going.stands.output ∙ append_assoc start trace (closing_text replay.tree);
       holds = record {
-        schedule = schedule_of going.parts; trace = reverse (trace_of going.parts); last = replay.tree;
+        schedule = schedule_of going.parts;
+        trace = reverse (trace_of going.parts);
+        last = replay.tree;
         read = record {
           spelled = lines_read text [] (schedule_of going.parts) going.stands.are_done.begins going.read ∙ append-nil (map spelling (schedule_of going.parts));
           begins = going.stands.are_done.begins;
@@ -223,28 +245,53 @@ none_done = record { begins = tt; served = tt; few = omega arith }
 
 pub begins_broken : (text start : List ℕ) → Wrote start start (IsBroken text)
 begins_broken text start = record {
-  output = []; added = sym (append-nil start);
+  output = [];
+  added = sym (append-nil start);
   holds = record {
-    done = []; others = lines_of text; trace = []; last = opening 0; more = [];
-    read = refl; are_done = none_done; headline = no_headline; part = inl refl;
+    done = [];
+    others = lines_of text;
+    trace = [];
+    last = opening 0;
+    more = [];
+    read = refl;
+    are_done = none_done;
+    headline = no_headline;
+    part = inl refl;
   };
 }
 
 pub begins_cut : (text piece left start : List ℕ) → text ≡ piece ++ left → LacksFeed piece → Wrote start start (IsCutOff text left)
 begins_cut text piece left start e lacks = record {
-  output = []; added = sym (append-nil start);
+  output = [];
+  added = sym (append-nil start);
   holds = record {
-    done = []; piece = piece; trace = []; last = opening 0;
-    read = inl e; lacks = lacks; are_done = none_done; headline = no_headline; output-is = refl;
+    done = [];
+    piece = piece;
+    trace = [];
+    last = opening 0;
+    read = inl e;
+    lacks = lacks;
+    are_done = none_done;
+    headline = no_headline;
+    output-is = refl;
   };
 }
 
 begins_refused : (text start : List ℕ) (others : List (List ℕ)) → lines_of text ≡ others → IsRefusedAt [] others Grammar → Wrote start start (IsRefused text 1 Grammar)
 begins_refused text start others e refused = record {
-  output = []; added = sym (append-nil start);
+  output = [];
+  added = sym (append-nil start);
   holds = record {
-    done = []; others = others; trace = []; last = opening 0;
-    read = e; are_done = none_done; number-is = refl; refused = refused; headline = no_headline; output-is = refl;
+    done = [];
+    others = others;
+    trace = [];
+    last = opening 0;
+    read = e;
+    are_done = none_done;
+    number-is = refl;
+    refused = refused;
+    headline = no_headline;
+    output-is = refl;
   };
 }
 
@@ -267,7 +314,7 @@ begins_going text rest start replay begun =
       stands = record {
         history = [];
         accounts = rw begun.tree (silent_line Step rules (opening begun.volume) [] [] (opening begun.volume) heading refl refl
-          (record { fits = refl; leads = refl; placed = tt; answered = λ node. refl }));
+            (record { fits = refl; leads = refl; placed = tt; answered = λ node. refl }));
         counted = begun.calls;
         headed = omega arith;
         are_done = record { begins = (begun.in_place, tt); served = (tt, tt); few = omega arith };

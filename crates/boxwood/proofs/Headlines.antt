@@ -63,6 +63,10 @@ headline replay parts start written stands =
 -- before the first line
 pub no_headline : Headline [] [] (opening 0)
 no_headline = record {
-  history = []; bytes = []; typed = tt; fits = refl; legal = refl;
+  history = [];
+  bytes = [];
+  typed = tt;
+  fits = refl;
+  legal = refl;
   placed = record { parts = []; along = refl; whole = refl; placed = tt; closed = tt };
 }

@@ -17,13 +17,16 @@ IsRefusedHere text number =
 
 pub refused_too_long : (text : List ℕ) (most number : ℕ) → most ≡ 18600 → IsTooLong text most → IsRefusedHere text number
 refused_too_long text most number e long =
-    let found = lines_of-too_long long.front long.rest long.lacks (let l = long.longer in omega arith) in
-    (found.0, found.1, ap lines_of long.parts ∙ found.2,
+    let found = lines_of-too_long long.front long.rest long.lacks (let l = long.longer in omega arith) in (
+      found.0,
+      found.1,
+      ap lines_of long.parts ∙ found.2,
       inr (λ value place same.
-        let short = short_spelling value place.0 in
-        let len : length found.0 ≡ length (spelling value) = ap length same in
-        let longer = long.longer in
-        omega (arith, found.3)))
+          let short = short_spelling value place.0 in
+          let len : length found.0 ≡ length (spelling value) = ap length same in
+          let longer = long.longer in
+          omega (arith, found.3)),
+    )
 
 pub refused_count : (text line rest : List ℕ) (number : ℕ) → 4294967295 < number → BeginsWith text line rest → IsRefusedHere text number
 refused_count text line rest number many begins = (line, lines_of rest, lines_of-begins text line rest begins, inl many)

@@ -8,7 +8,7 @@ use Rattle.boxwood.specs.Outcome.{IsTold}
 pub refusal_text : (line : ℕ) (word : List ℕ) → codes "schedule line " ++ (decimal line ++ (codes ": " ++ (word ++ 10 ∷ []))) ≡ ended (codes "schedule line " ++ decimal line ++ codes ": " ++ word)
 refusal_text line word =
     sym (append_assoc ((codes "schedule line " ++ decimal line) ++ codes ": ") word (10 ∷ []) ∙ append_assoc (codes "schedule line " ++ decimal line) (codes ": ") (word ++ 10 ∷ [])
-      ∙ append_assoc (codes "schedule line ") (decimal line) (codes ": " ++ (word ++ 10 ∷ [])))
+    ∙ append_assoc (codes "schedule line ") (decimal line) (codes ": " ++ (word ++ 10 ∷ [])))
 
 pub told_as : (old new : List ℕ) (before now : ℕ) (shown line : List ℕ) → shown ≡ line → IsTold old new before now shown → IsTold old new before now line
 told_as old new before now shown line e told = rw e at told

@@ -63,7 +63,7 @@ extended replay next line lines parts start written text history room place serv
     let more : schedule_of (record { line = line; lines = lines } ∷ parts) ≡ schedule_of parts ++ line ∷ [] = schedule_of-cons line lines parts in
     let long : length (schedule_of parts) ≡ length parts = length_schedule parts in
     let first : opening (volume_of (schedule_of (record { line = line; lines = lines } ∷ parts))) ≡ opening (volume_of (schedule_of parts)) =
-      ap (λ (s : List Line). opening (volume_of s)) more ∙ ap opening (volume_of-append (schedule_of parts) (line ∷ []) stands.headed) in
+    ap (λ (s : List Line). opening (volume_of s)) more ∙ ap opening (volume_of-append (schedule_of parts) (line ∷ []) stands.headed) in
     record {
       history = history;
       accounts = rw first accounts;
@@ -94,13 +94,13 @@ stands_answered old new reading node client datagram point reply parts start wri
     let number : old.calls + 1 ≡ traces.taken_count (trace_of parts) + 1 = ap (λ (n : ℕ). n + 1) stands.counted in
     let lines = answered_lines (old.calls + 1) node client datagram reading 8 0 reply in
     let accounts = answered_call Step rules (opening (volume_of (schedule_of parts))) parts stands.history old.tree new.tree reading node client datagram (old.calls + 1) 8 0 reply
-      refl refl number stands.accounts (answers.step client) in
+    refl refl number stands.accounts (answers.step client) in
     let counted : new.calls ≡ traces.taken_count (lines ++ trace_of parts) = omega (arith, answers.counted, stands.counted) in
     let text-at : text ≡ trace_text (reverse lines) = text-is ∙ ap (λ (p : Point). trace_text (Took p.call node client datagram ∷ Acted p ∷ Reply p.call reply ∷ [])) answers.point-is in
     record {
       lines = lines;
       stands = extended old new (Call reading node client datagram) lines parts start written text
-        (answered_entry (old.calls + 1) client datagram reading 8 0 reply ∷ stands.history) room place answers.served stands accounts counted text-at;
+          (answered_entry (old.calls + 1) client datagram reading 8 0 reply ∷ stands.history) room place answers.served stands accounts counted text-at;
     }
 
 -- ---- a trace of which only a part was written
@@ -109,5 +109,5 @@ pub breaks : (replay : Replay) (line : Line) (parts : List Part) (start old new 
     → StandsAfter replay line parts start (old ++ text) → new ≡ old ++ take n text → BreaksAfter line parts start old new
 breaks replay line parts start old new text n after part =
     let whole : new ++ drop n text ≡ old ++ text =
-      ap (λ (w : List ℕ). w ++ drop n text) part ∙ append_assoc old (take n text) (drop n text) ∙ ap (λ (w : List ℕ). old ++ w) (take-append-drop n text) in
+    ap (λ (w : List ℕ). w ++ drop n text) part ∙ append_assoc old (take n text) (drop n text) ∙ ap (λ (w : List ℕ). old ++ w) (take-append-drop n text) in
     record { replay = replay; wrote = take n text; more = drop n text; added = part; after = rw whole after }

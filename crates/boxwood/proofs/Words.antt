@@ -10,7 +10,8 @@ pub is_one_word : {A : Type 0} (f : A → List ℕ) (words : List A) (word : A) 
 is_one_word f [] word shown line r some one is shown-is r-is = absurd (omega arith)
 is_one_word f (x ∷ []) word shown line r some one is shown-is r-is =
     let decides = bytes_eq-Decides shown line in
-    let same : f x ≡ shown = ap f (sym is) ∙ sym shown-is in
-    (λ h. ap (λ (w : List ℕ). w ∷ []) (same ∙ decides.0 (sym r-is ∙ h)),
-     λ h. r-is ∙ decides.1 (sym same ∙ (let g : f x ∷ [] ≡ line ∷ [] = h in cc)))
+    let same : f x ≡ shown = ap f (sym is) ∙ sym shown-is in (
+      λ h. ap (λ (w : List ℕ). w ∷ []) (same ∙ decides.0 (sym r-is ∙ h)),
+      λ h. r-is ∙ decides.1 (sym same ∙ (let g : f x ∷ [] ≡ line ∷ [] = h in cc)),
+    )
 is_one_word f (x ∷ y ∷ words) word shown line r some one is shown-is r-is = absurd (omega arith)

@@ -12,7 +12,6 @@ use Rattle.bx_script.specs.Schedule.{HasPlace, volume_of}
 use Rattle.bx_history.specs.Trace as traces
 use Rattle.bx_history.specs.Placed.{Part, schedule_of, trace_of}
 use Rattle.bx_history.specs.Account.{AccountsNewest, answered_entry}
-
 use Rattle.bx_model.specs.Opening.{opening}
 use Rattle.bx_nfs.specs.Wire.{IsServed}
 use Rattle.boxwood.specs.declared.replay.Replay.{Replay}

@@ -5,15 +5,13 @@ ghost use Rattle.bx_model.specs.Listing.{IsBare};
 ghost use Rattle.boxwood.specs.Outcome.{closing_text};
 ghost use Rattle.boxwood.specs.Replay.{Begins, Finishes, HasFinishCause, HasLineCause};
 
-use std::alloc::Global;
-
-use bx_model::Tree;
-use bx_outside::{LineReader, Sink, Source, write_all};
-use bx_script::Line;
-
 use crate::replay::Replay;
 use crate::schedule::next_line;
 use crate::stop::{Reason, Stop};
+use bx_model::Tree;
+use bx_outside::{LineReader, Sink, Source, write_all};
+use bx_script::Line;
+use std::alloc::Global;
 
 impl Replay {
     /// Reads the heading, and begins with the opening tree of its volume.

@@ -4,11 +4,9 @@ ghost use Rattle.std.specs.Prelude.{◌≡◌, ◌≤◌, ◌==◌, ◌⊎◌, I
 ghost use Rattle.boxwood.specs.Outcome.{IsTold, message, status_of};
 ghost use Rattle.boxwood.specs.declared.stop.Stop.TheVariants as stops;
 
-use std::alloc::{AllocError, Global};
-
-use bx_outside::{Sink, write_all};
-
 use crate::stop::{Reason, Stop};
+use bx_outside::{Sink, write_all};
+use std::alloc::{AllocError, Global};
 
 /// Writes the line that tells why a command stopped, and answers its exit status. Where there is no memory for the line,
 /// that is told in its place. A fault of `err` changes nothing.
@@ -19,7 +17,10 @@ pub fn report<K: Sink>(alloc: Global, stop: Stop, err: &mut K) -> u8
 {
     match stop {
         Stop::Usage => {
-            tell(err, b"usage: boxwood replay, format V D A, serve T, check, make S N C\n");
+            tell(
+                err,
+                b"usage: boxwood replay, format V D A, serve T, check, make S N C\n",
+            );
             1
         }
         Stop::Refused(line, reason) => match refusal(alloc, line, reason) {

@@ -3,22 +3,16 @@
 ghost use Rattle.std.specs.Prelude.{◌≡◌, ◌≤◌, IfErr};
 ghost use Rattle.boxwood.specs.Replay.{HasCause, Leaves};
 
-use std::alloc::Global;
-
-use bx_outside::{LineReader, Sink, Source};
-use bx_script::MAX_LINE;
-
 use crate::replay::Replay;
 use crate::schedule::next_line;
 use crate::stop::Stop;
+use bx_outside::{LineReader, Sink, Source};
+use bx_script::MAX_LINE;
+use std::alloc::Global;
 
 /// Replays the schedule of `input` and writes its trace to `out` as it goes; then the word `end` and the listing
 /// of the tree. It keeps one line of the schedule at a time.
-pub fn replay<S: Source, K: Sink>(
-    alloc: Global,
-    input: &mut S,
-    out: &mut K,
-) -> Result<(), Stop>
+pub fn replay<S: Source, K: Sink>(alloc: Global, input: &mut S, out: &mut K) -> Result<(), Stop>
     ensures leaves { S.tells input.old → K.tells out.old → Leaves result (S.left input.old) (S.left input.new) (K.written out.old) (K.written out.new) }
     ensures cause { IfErr result (λ stop. HasCause stop (S.faults input.old) (S.faults input.new) (K.faults out.old) (K.faults out.new)) }
     ensures source_later { S.faults input.old ≤ S.faults input.new }

@@ -6,13 +6,11 @@ ghost use Rattle.bx_script.specs.ScheduleLine.{spelling};
 ghost use Rattle.bx_script.specs.Schedule.{HasPlace};
 ghost use Rattle.boxwood.specs.Replay.{GivesLine, HasLineCause};
 
-use std::alloc::Global;
-
+use crate::stop::{Reason, Stop};
 use bx_base::OutOfMemory;
 use bx_outside::{LineReader, Next, Source};
 use bx_script::{Line, MAX_LINES};
-
-use crate::stop::{Reason, Stop};
+use std::alloc::Global;
 
 /// The line with this number, counted from 1; `None` at the end of the input. It is refused where it is
 /// outside the grammar or not in its place, and where a schedule can't have so many lines.

@@ -7,15 +7,13 @@ ghost use Rattle.bx_model.specs.Listing.{IsBare};
 ghost use Rattle.bx_nfs.specs.Wire.{IsServed};
 ghost use Rattle.boxwood.specs.Replay.{Answers, DoesLine, HasStepCause, Stands};
 
-use std::alloc::Global;
-
-use bx_base::{OutOfMemory, Point, Raw};
-use bx_outside::{Sink, write_all};
-use bx_script::{Line, TraceLine};
-
 use crate::replay::Replay;
 use crate::stop::{Reason, Stop};
 use crate::trace_text::text_of;
+use bx_base::{OutOfMemory, Point, Raw};
+use bx_outside::{Sink, write_all};
+use bx_script::{Line, TraceLine};
+use std::alloc::Global;
 
 /// The count of free blocks that a point tells where it doesn't matter: enough.
 const ENOUGH: u64 = 8;

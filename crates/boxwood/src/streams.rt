@@ -2,9 +2,8 @@
 
 ghost use Rattle.std.specs.Prelude.{[]};
 
-use std::io::{Read, Stderr, Stdin, Stdout, Write};
-
 use bx_outside::{ReadFault, Sink, Source, WriteFault};
+use std::io::{Read, Stderr, Stdin, Stdout, Write};
 
 /// Standard input as a source.
 #[derive(Drop)]

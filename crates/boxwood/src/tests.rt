@@ -1,30 +1,36 @@
 //! What the command does, on the worked examples of the schedule's language.
 
+use crate::top::boxwood;
+use bx_outside::{MemSink, MemSource};
 use std::alloc::{AllocError, Global};
 use std::process::Abort;
 use std::test::Fail;
-
-use bx_outside::{MemSink, MemSource};
-
-use crate::top::boxwood;
 
 /// The heading of a schedule for volume 7.
 const HEADING: &str = "boxwood 1 7 1 1 1\n";
 
 /// What comes after the trace: the listing of the opening tree.
-const CLOSING: &str = "end\nfile 0000000000000001 2 40777 2 0 0 4096 0.000000 0.000000 0.000000\ndir 0000000000000001 3\n";
+const CLOSING: &str =
+    "end\nfile 0000000000000001 2 40777 2 0 0 4096 0.000000 0.000000 0.000000\ndir 0000000000000001 3\n";
 
 /// NULL, and its reply.
-const NULL: &str = "000000010000000000000002000186a3000000020000000000000000000000000000000000000000";
+const NULL: &str =
+    "000000010000000000000002000186a3000000020000000000000000000000000000000000000000";
+
 const NULL_REPLY: &str = "000000010000000100000000000000000000000000000000";
 
 /// The header of GETATTR, the file handle of the root of volume 7, and the reply.
-const GETATTR: &str = "000000010000000000000002000186a3000000020000000100000000000000000000000000000000";
+const GETATTR: &str =
+    "000000010000000000000002000186a3000000020000000100000000000000000000000000000000";
+
 const ROOT: &str = "424f58574f4f4431000000000000000700000000000000010000000000000000";
-const ROOT_REPLY: &str = "0000000100000001000000000000000000000000000000000000000000000002000041ff000000020000000000000000000010000000100000000000000000080000000700000002000000000000000000000000000000000000000000000000";
+
+const ROOT_REPLY: &str =
+    "0000000100000001000000000000000000000000000000000000000000000002000041ff000000020000000000000000000010000000100000000000000000080000000700000002000000000000000000000000000000000000000000000000";
 
 /// A file handle that names nothing, and the reply.
 const NOTHING: &str = "424f58574f4f4431000000000000000700000000000000020000000000000000";
+
 const STALE_REPLY: &str = "00000001000000010000000000000000000000000000000000000046";
 
 /// What came of a command.
@@ -79,14 +85,26 @@ fn a_call_is_answered(rt: HostRuntime) -> Result<(), Fail> {
     ] {
         let schedule = format!(in alloc; "{HEADING}call 0 0 5 {call}\nrun 0 10000\n")?;
         let out = format!(in alloc; "{}{CLOSING}", trace(alloc, call, reply)?)?;
-        expect(&rt, run(alloc, "replay", schedule.as_str(), &[], &[])?, 0, out.as_str(), "");
+        expect(
+            &rt,
+            run(alloc, "replay", schedule.as_str(), &[], &[])?,
+            0,
+            out.as_str(),
+            "",
+        );
     }
     Ok(())
 }
 
 #[test]
 fn the_last_line_may_lack_its_line_feed(rt: HostRuntime) -> Result<(), Fail> {
-    expect(&rt, run(rt.alloc(), "replay", HEADING, &[], &[])?, 0, CLOSING, "");
+    expect(
+        &rt,
+        run(rt.alloc(), "replay", HEADING, &[], &[])?,
+        0,
+        CLOSING,
+        "",
+    );
     let outcome = run(rt.alloc(), "replay", "boxwood 1 7 1 1 1", &[], &[])?;
     expect(&rt, outcome, 0, CLOSING, "");
     Ok(())
@@ -99,14 +117,26 @@ fn a_line_is_refused(rt: HostRuntime) -> Result<(), Fail> {
         ("run 0 1\n", "schedule line 1: grammar\n"),
         ("boxwood 1 7 1 1 1\r\n", "schedule line 1: grammar\n"),
         ("boxwood 1 7 1 1 1\n\n", "schedule line 2: grammar\n"),
-        ("boxwood 1 7 1 1 1\nrun 0 1\nboxwood 1 7 1 1 1\n", "schedule line 3: grammar\n"),
-        ("boxwood 1 7 1 1 1\ncall 0 0 5 \n", "schedule line 2: not built\n"),
+        (
+            "boxwood 1 7 1 1 1\nrun 0 1\nboxwood 1 7 1 1 1\n",
+            "schedule line 3: grammar\n",
+        ),
+        (
+            "boxwood 1 7 1 1 1\ncall 0 0 5 \n",
+            "schedule line 2: not built\n",
+        ),
         (
             "boxwood 1 7 1 1 1\ncall 0 0 5 000000010000000000000002000186a3000000020000001100000000000000000000000000000000\n",
             "schedule line 2: not built\n",
         ),
     ] {
-        expect(&rt, run(rt.alloc(), "replay", schedule, &[], &[])?, 2, "", err);
+        expect(
+            &rt,
+            run(rt.alloc(), "replay", schedule, &[], &[])?,
+            2,
+            "",
+            err,
+        );
     }
     Ok(())
 }
@@ -127,10 +157,34 @@ fn a_fault_stops_a_replay(rt: HostRuntime) -> Result<(), Fail> {
     let schedule = format!(in alloc; "{HEADING}call 0 0 5 {NULL}\nrun 0 10000\n")?;
     let text = schedule.as_str();
     let out = trace(alloc, NULL, NULL_REPLY)?;
-    expect(&rt, run(alloc, "replay", text, &[1], &[])?, 3, "", "read fault\n");
-    expect(&rt, run(alloc, "replay", text, &[2], &[])?, 3, out.as_str(), "read fault\n");
-    expect(&rt, run(alloc, "replay", text, &[], &[1])?, 4, "", "write fault\n");
-    expect(&rt, run(alloc, "replay", text, &[], &[2])?, 4, out.as_str(), "write fault\n");
+    expect(
+        &rt,
+        run(alloc, "replay", text, &[1], &[])?,
+        3,
+        "",
+        "read fault\n",
+    );
+    expect(
+        &rt,
+        run(alloc, "replay", text, &[2], &[])?,
+        3,
+        out.as_str(),
+        "read fault\n",
+    );
+    expect(
+        &rt,
+        run(alloc, "replay", text, &[], &[1])?,
+        4,
+        "",
+        "write fault\n",
+    );
+    expect(
+        &rt,
+        run(alloc, "replay", text, &[], &[2])?,
+        4,
+        out.as_str(),
+        "write fault\n",
+    );
     Ok(())
 }
 

@@ -12,13 +12,11 @@ ghost use Rattle.boxwood.specs.Headline.{IsServedLine};
 ghost use Rattle.boxwood.specs.Outcome.{IsBroken, IsCutOff, IsRefused, IsReplayed, IsStatus, IsTold, line_of, message};
 ghost use Rattle.boxwood.specs.Replay.{Wrote};
 
-use std::alloc::Global;
-
-use bx_outside::{Sink, Source};
-
 use crate::report::report;
 use crate::run::replay;
 use crate::stop::Stop;
+use bx_outside::{Sink, Source};
+use std::alloc::Global;
 
 /// Runs the command that the words spell, and answers its exit status. The one command line is `replay`, which reads a
 /// schedule from `input` and writes its trace to `out`.

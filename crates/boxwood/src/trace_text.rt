@@ -3,10 +3,9 @@
 ghost use Rattle.std.specs.Prelude.{◌≡◌, IfOk};
 ghost use Rattle.bx_script.specs.TraceText.{trace_text};
 
-use std::alloc::Global;
-
 use bx_base::OutOfMemory;
 use bx_script::TraceLine;
+use std::alloc::Global;
 
 /// The lines' bytes, each with its line feed.
 pub fn text_of(alloc: Global, lines: &[TraceLine]) -> Result<Vec<u8>, OutOfMemory>

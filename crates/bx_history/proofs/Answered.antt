@@ -1,17 +1,14 @@
 -- An account goes on by a line of the schedule: one without events, or a call that is taken and answered at its own line.
-use Rattle.std.proofs.Common.{◌≡◌, ℕ, suc, ◌+◌, Bool, true, false, cond, List, [], ◌∷◌, ◌++◌, length, Option, Some, None, refl, sym, ap, ◌∙◌, arith, inl, inr, eqb}
-use Rattle.std.specs.Prelude.{◌||◌, ◌&&◌, not, nat_lt, filter, is_none, ◌==◌, if◌then◌else◌}
-use Rattle.std.specs.List.{list_any, find, AllByRecursion}
+use Rattle.std.proofs.Common.{◌≡◌, ℕ, suc, ◌+◌, Bool, true, false, cond, List, [], ◌∷◌, ◌++◌, length, None, refl, sym, ap, ◌∙◌, arith, inl, eqb}
+use Rattle.std.specs.Prelude.{◌||◌, ◌&&◌, not, nat_lt, filter, is_none, ◌==◌}
+use Rattle.std.specs.List.{list_any}
 use Rattle.std.specs.Str.{bytes_eq}
 use Rattle.std.proofs.lemmas.Bool.{eq-eqb, and_parts, and_from, and_right, or_parts, or_left, not-true, not_from_false, not_from_true}
-use Rattle.bx_base.specs.declared.names.Point.{Point}
 use Rattle.bx_script.specs.declared.line.Line.{Line}
-use Rattle.bx_script.specs.declared.line.Line.TheVariants.{Heading, Call, Run}
+use Rattle.bx_script.specs.declared.line.Line.TheVariants.{Call}
 use Rattle.bx_script.specs.declared.trace_line.TraceLine.{TraceLine}
-use Rattle.bx_script.specs.declared.trace_line.TraceLine.TheVariants.{Took, Acted, Reply, Again}
-use Rattle.bx_history.specs.Trace.{Entry, Taking, takings, taken_count, has_point, has_reply, FitsNewest, IsPointOf, IsReplyOf}
-use Rattle.bx_history.specs.Legal.{LeadsNewest}
-use Rattle.bx_history.specs.Placed.{Rules, Part, IsPart, PlacedNewest, HasMoment, IsAnsweredIn, trace_of, waiting, waits_already, kept_answer, is_taken, taken_if, taken_at, again_if, again_at, is_immediate_at}
+use Rattle.bx_history.specs.Trace.{Entry, Taking, takings, taken_count, has_point, has_reply, FitsNewest}
+use Rattle.bx_history.specs.Placed.{Rules, Part, IsPart, trace_of, waiting, waits_already, kept_answer, is_taken, taken_if, taken_at, again_if, again_at}
 use Rattle.bx_history.specs.Account.{AccountsNewest, answered_entry, answered_lines}
 use Rattle.bx_history.proofs.Numbering.{next_has_no_point, next_has_no_reply}
 
@@ -49,8 +46,8 @@ all_taken : (rules : Rules) (trace : List TraceLine) (node client : ℕ) (bytes 
     → is_taken rules trace node client bytes ≡ true
 all_taken rules trace node client bytes none call idle =
     and_from _ _ (and_from _ _ (and_from _ _ call (ap (λ (ws : List Taking). nat_lt (length ws) 64) idle))
-        (ap (λ (ws : List Taking). not (list_any (λ taking. (taking.client == client) && bytes_eq taking.bytes bytes) ws)) idle))
-        (ap (λ (k : ℕ). is_none (kept_answer k trace node client bytes)) none)
+    (ap (λ (ws : List Taking). not (list_any (λ taking. (taking.client == client) && bytes_eq taking.bytes bytes) ws)) idle))
+    (ap (λ (k : ℕ). is_none (kept_answer k trace node client bytes)) none)
 
 none_again : (b : Bool) (node client : ℕ) → again_if b node client None ≡ []
 none_again true node client = refl
@@ -70,7 +67,6 @@ module _ {Tree : Type 0} (Step : Tree → Entry → Tree → Type 0) (rules : Ru
     (nothing_kept : rules.kept ≡ 0) (is_call : rules.is_call bytes ≡ true) (number : call ≡ taken_count (trace_of parts) + 1)
     (so_far : AccountsNewest Step rules first parts history last)
     (step : Step last (answered_entry call client bytes reading spare made reply) next) where
-
   lines : List TraceLine
   lines = answered_lines call node client bytes reading spare made reply
 
@@ -86,17 +82,26 @@ module _ {Tree : Type 0} (Step : Tree → Entry → Tree → Type 0) (rules : Ru
   fitting : FitsNewest (answered_lines call node client bytes reading spare made reply ++ trace_of parts) (answered_entry call client bytes reading spare made reply ∷ history)
   fitting = (
     record { entry = answered_entry call client bytes reading spare made reply; entered = rw (same call) refl; same = refl; first = no_reply },
-    (record {
-      taking = record { call = call; node = node; client = client; bytes = bytes };
-      taken = rw (same call) refl;
-      client = refl; bytes = refl; first = no_point; call = refl; moment = refl; spare = refl; made = refl;
-    }, (number, so_far.fits)),
+    (
+      record {
+        taking = record { call = call; node = node; client = client; bytes = bytes };
+        taken = rw (same call) refl;
+        client = refl;
+        bytes = refl;
+        first = no_point;
+        call = refl;
+        moment = refl;
+        spare = refl;
+        made = refl;
+      },
+      (number, so_far.fits),
+    ),
   )
 
   idle : (at : ℕ) → waiting (answered_lines call node client bytes reading spare made reply ++ trace_of parts) at ≡ []
   idle at =
       let gone : ((node == at) && not ((call == call) || has_reply (trace_of parts) call)) ≡ false =
-        and_right _ _ (not_from_true _ (or_left _ _ (same call))) in
+      and_right _ _ (not_from_true _ (or_left _ _ (same call))) in
       rw gone (filter_none _ _ (takings (trace_of parts)) (had_waited (trace_of parts) call at) (so_far.answered at))
 
   placed : IsPart rules parts (record { line = Call reading node client bytes; lines = answered_lines call node client bytes reading spare made reply })

@@ -1,11 +1,10 @@
 -- In a trace that fits a history, no call has a number above the count of the calls taken.
-use Rattle.std.proofs.Common.{◌≡◌, ◌≤◌, ℕ, suc, ◌+◌, Bool, true, false, cond, List, [], ◌∷◌, Option, Some, None, refl, sym, ap, ◌∙◌, arith, inl, inr, eqb}
-use Rattle.std.specs.Prelude.{◌||◌, ◌⊎◌}
-use Rattle.std.proofs.lemmas.Bool.{cases_Bool, eqb-true, or_cases, false_from_ne_true}
-use Rattle.bx_base.specs.declared.names.Point.{Point}
+use Rattle.std.proofs.Common.{◌≡◌, ◌≤◌, ℕ, suc, Bool, true, false, cond, List, [], ◌∷◌, Option, Some, None, refl, ap, arith, inl, inr, eqb}
+use Rattle.std.specs.Prelude.{◌⊎◌}
+use Rattle.std.proofs.lemmas.Bool.{eqb-true, or_cases, false_from_ne_true}
 use Rattle.bx_script.specs.declared.trace_line.TraceLine.{TraceLine}
 use Rattle.bx_script.specs.declared.trace_line.TraceLine.TheVariants.{Took, Acted, Reply, Again}
-use Rattle.bx_history.specs.Trace.{Entry, Taking, takings, taken_count, taking_in, taking_of, has_point, has_reply, entry_of, IsPointOf, IsReplyOf, FitsNewest}
+use Rattle.bx_history.specs.Trace.{Entry, Taking, taken_count, taking_of, has_point, has_reply, entry_of, FitsNewest}
 
 -- a choice whose outcome isn't None, by cases on the test
 chosen : {A : Type 0} (b : Bool) (x : A) (other : Option A) (y : A) → cond b (Some x) other ≡ Some y → (b ≡ true) × (x ≡ y) ⊎ (other ≡ Some y)

@@ -1,10 +1,9 @@
 -- What is accounted for with the newest first is accounted for with the oldest first.
-use Rattle.std.proofs.Common.{◌≡◌, ℕ, List, [], ◌∷◌, ◌++◌, refl, sym, ap, ◌∙◌, subst}
+use Rattle.std.proofs.Common.{◌≡◌, List, [], ◌++◌, sym, ap, ◌∙◌}
 use Rattle.std.specs.Prelude.{map, reverse}
 use Rattle.std.proofs.lemmas.List.{append-nil, reverse-reverse}
 use Rattle.bx_script.specs.declared.trace_line.TraceLine.{TraceLine}
-use Rattle.bx_history.specs.Trace.{Entry, FitsNewest, Fits}
-use Rattle.bx_history.specs.Legal.{LeadsNewest}
+use Rattle.bx_history.specs.Trace.{Entry}
 use Rattle.bx_history.specs.Placed.{Rules, Part, schedule_of, trace_of}
 use Rattle.bx_history.specs.Account.{AccountsNewest, Accounts}
 
@@ -13,7 +12,7 @@ pub accounts : {Tree : Type 0} (Step : Tree → Entry → Tree → Type 0) (rule
     → Accounts Step rules (schedule_of parts) (reverse (trace_of parts)) [] first last
 accounts Step rules first parts history last so_far =
     let newest : reverse (reverse (trace_of parts) ++ []) ≡ trace_of parts =
-      ap (λ (t : List TraceLine). reverse t) (append-nil (reverse (trace_of parts))) ∙ reverse-reverse (trace_of parts) in
+    ap (λ (t : List TraceLine). reverse t) (append-nil (reverse (trace_of parts))) ∙ reverse-reverse (trace_of parts) in
     let entries : reverse (reverse history) ≡ history = reverse-reverse history in
     record {
       history = reverse history;

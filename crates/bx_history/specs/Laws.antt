@@ -1,9 +1,9 @@
 -- What the definitions come to.
-use Rattle.std.specs.Prelude.{◌≡◌, ℕ, List, [], ◌∷◌, map}
+use Rattle.std.specs.Prelude.{ℕ, List, [], ◌∷◌}
 use Rattle.bx_base.specs.declared.names.Point.{Point}
 use Rattle.bx_script.specs.declared.trace_line.TraceLine.{TraceLine}
 use Rattle.bx_script.specs.declared.trace_line.TraceLine.TheVariants.{Took, Acted, Reply, Again}
-use Rattle.bx_history.specs.Trace.{Entry, FitsNewest}
+use Rattle.bx_history.specs.Trace.{Entry}
 
 -- the points of a trace
 abbrev pub points : List TraceLine → List Point

@@ -14,7 +14,7 @@ pub returns-in_err-replay-clause-leaves : goal.returns-in_err-replay-clause-leav
 returns-in_err-replay-clause-leaves g c = λ source_tells sink_tells.
     let p = err_from_is_err_and c.from_residual-in_err-replay.result c.from_residual-in_err-replay.ensures.1 in
     rw (p.1, p.2) (begin_stops c.in_err-replay.field-0.0 _ _ _ (g.K.Sink.written c.args.out.now) _ _ c.in_err-replay.ensures.cause
-      (rw c.in_ok-reader.ensures at (c.in_err-replay.ensures.begins source_tells)))
+    (rw c.in_ok-reader.ensures at (c.in_err-replay.ensures.begins source_tells)))
 
 pub lines-init : goal.lines-init
 lines-init g c = record {
@@ -35,7 +35,7 @@ pub returns-in_err-line-clause-leaves : goal.returns-in_err-line-clause-leaves
 returns-in_err-line-clause-leaves g c = λ source_tells sink_tells.
     let p = err_from_is_err_and c.from_residual-in_err-line.result c.from_residual-in_err-line.ensures.1 in
     rw (p.1, p.2) (line_stops c.in_err-line.field-0.0 _ _ _ _ _ _ c.lines.number c.lines.replay _ _ (c.lines.invariant.going source_tells sink_tells)
-      c.in_err-line.ensures.cause (c.in_err-line.ensures.gives (c.lines.invariant.source_tells source_tells)))
+    c.in_err-line.ensures.cause (c.in_err-line.ensures.gives (c.lines.invariant.source_tells source_tells)))
 
 pub lines-preserved : goal.lines-preserved
 lines-preserved g c =
@@ -52,9 +52,9 @@ lines-preserved g c =
       source_tells = λ tells. c.in_ok-line.ensures.keeps_telling (c.lines.invariant.source_tells tells);
       sink_tells = λ tells. c.in_ok-step.ensures.keeps_telling (c.lines.invariant.sink_tells tells);
       going = λ source_tells sink_tells.
-        let going = c.lines.invariant.going source_tells sink_tells in
-        let begins = rw c.in-Some.is at (c.in_ok-line.ensures.gives (c.lines.invariant.source_tells source_tells)) in
-        going_on _ _ _ c.lines.number c.lines.replay c.step.new.self c.in-Some.line _ _ _ going begins
+          let going = c.lines.invariant.going source_tells sink_tells in
+          let begins = rw c.in-Some.is at (c.in_ok-line.ensures.gives (c.lines.invariant.source_tells source_tells)) in
+          going_on _ _ _ c.lines.number c.lines.replay c.step.new.self c.in-Some.line _ _ _ going begins
           (c.in_ok-step.ensures.does (c.lines.invariant.sink_tells sink_tells) going.parts _ (omega (arith, going.count, few)) going.stands);
     }
 
@@ -66,8 +66,8 @@ returns-in_err-step-clause-leaves g c = λ source_tells sink_tells.
     let begins = rw c.in-Some.is at (c.in_ok-line.ensures.gives (c.lines.invariant.source_tells source_tells)) in
     let place = rw c.in-Some.is at c.in_ok-line.ensures.in_place in
     rw (p.1, p.2) (step_stops c.in_err-step.field-0.0 _ _ _ _ _ _ _ c.lines.number c.lines.replay c.step.new.self c.in-Some.line _ _ going (omega (arith, few)) begins place
-      c.in_err-step.ensures.cause
-      (c.in_err-step.ensures.does (c.lines.invariant.sink_tells sink_tells) going.parts _ (omega (arith, going.count, few)) going.stands))
+    c.in_err-step.ensures.cause
+    (c.in_err-step.ensures.does (c.lines.invariant.sink_tells sink_tells) going.parts _ (omega (arith, going.count, few)) going.stands))
 
 pub returns-in_err-finish-clause-leaves : goal.returns-in_err-finish-clause-leaves
 returns-in_err-finish-clause-leaves g c = λ source_tells sink_tells.
@@ -75,7 +75,7 @@ returns-in_err-finish-clause-leaves g c = λ source_tells sink_tells.
     let ends = rw c.in_default.is at (c.in_ok-line.ensures.gives (c.lines.invariant.source_tells source_tells)) in
     let going = rw ends.0 at (c.lines.invariant.going source_tells sink_tells) in
     rw (p.1, p.2) (finish_stops c.in_err-finish.field-0.0 _ _ _ _ _ c.lines.number c.lines.replay _ _ going c.in_err-finish.ensures.cause
-      (c.in_err-finish.ensures.finishes (c.lines.invariant.sink_tells sink_tells)))
+    (c.in_err-finish.ensures.finishes (c.lines.invariant.sink_tells sink_tells)))
 
 pub returns-clause-leaves : goal.returns-clause-leaves
 returns-clause-leaves g c = λ source_tells sink_tells.

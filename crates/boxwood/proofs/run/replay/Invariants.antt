@@ -11,7 +11,7 @@ invariant-lines g l = record {
   source_tells : g.S.Source.tells l.fn.input → g.S.Source.tells l.input;
   sink_tells : g.K.Sink.tells l.fn.out → g.K.Sink.tells l.out;
   going : g.S.Source.tells l.fn.input → g.K.Sink.tells l.fn.out
-    → Going (g.S.Source.left l.fn.input) (l.reader.ahead ++ g.S.Source.left l.input) l.number l.replay (g.K.Sink.written l.fn.out) (g.K.Sink.written l.out);
+      → Going (g.S.Source.left l.fn.input) (l.reader.ahead ++ g.S.Source.left l.input) l.number l.replay (g.K.Sink.written l.fn.out) (g.K.Sink.written l.out);
 }
 
 abbrev pub decreases-lines : goal.decreases-lines

@@ -11,8 +11,8 @@ returns-in_err-write_all-in-Call-clause-does g c = λ tells parts start room sta
     let p = err_from_is_err_and c.from_residual-in_err-write_all-in-Call.result c.from_residual-in_err-write_all-in-Call.ensures.1 in
     let answers = rw c.bytes.ensures at (rw c.in-Some.is at c.in_ok-point-in-Call.ensures.answers) in
     let after = stands_answered c.args.self.now c.answer.new.self c.in-Call.reading c.in-Call.node c.in-Call.client c.in-Call.datagram c.in-Some.point c.in-Some.reply parts start
-      (g.K.Sink.written c.args.out.now) c.as_slice.result.now room (rw c.in-Call.is at c.requires.in_place) stands answers
-      (c.as_slice.ensures.value ∙ c.in_ok-text_of-in-Call.ensures) in
+    (g.K.Sink.written c.args.out.now) c.as_slice.result.now room (rw c.in-Call.is at c.requires.in_place) stands answers
+    (c.as_slice.ensures.value ∙ c.in_ok-text_of-in-Call.ensures) in
     let part = c.in_err-write_all-in-Call.ensures.part tells in
     rw (p.1, p.2, c.in-Call.is) (breaks _ _ parts start _ _ _ part.0 after part.2)
 
@@ -20,8 +20,8 @@ pub returns-in_ok-write_all-in-Call-clause-does : goal.returns-in_ok-write_all-i
 returns-in_ok-write_all-in-Call-clause-does g c = λ tells parts start room stands.
     let answers = rw c.bytes.ensures at (rw c.in-Some.is at c.in_ok-point-in-Call.ensures.answers) in
     let after = stands_answered c.args.self.now c.answer.new.self c.in-Call.reading c.in-Call.node c.in-Call.client c.in-Call.datagram c.in-Some.point c.in-Some.reply parts start
-      (g.K.Sink.written c.args.out.now) c.as_slice.result.now room (rw c.in-Call.is at c.requires.in_place) stands answers
-      (c.as_slice.ensures.value ∙ c.in_ok-text_of-in-Call.ensures) in
+    (g.K.Sink.written c.args.out.now) c.as_slice.result.now room (rw c.in-Call.is at c.requires.in_place) stands answers
+    (c.as_slice.ensures.value ∙ c.in_ok-text_of-in-Call.ensures) in
     rw (c.in-Call.is, c.in_ok-write_all-in-Call.ensures.ok tells) after
 
 pub returns-in-Heading-clause-does : goal.returns-in-Heading-clause-does

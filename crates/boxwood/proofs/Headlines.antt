@@ -15,6 +15,7 @@ use Rattle.bx_model.specs.Opening.{opening}
 use Rattle.boxwood.specs.declared.replay.Replay.{Replay}
 use Rattle.boxwood.specs.Headline.{rules, IsTyped, AreTyped, Step, Headline}
 use Rattle.boxwood.specs.Replay.{Stands}
+use Rattle.boxwood.proofs.OneHistory.{one_history}
 
 AreTyped-append : (a c : List traces.Entry) (b d : List Entry) → AreTyped a b → AreTyped c d → AreTyped (a ++ c) (b ++ d)
 AreTyped-append [] c [] d h k = k
@@ -58,6 +59,9 @@ headline replay parts start written stands =
         placed = stands.accounts.placed;
         closed = tt;
       };
+      only = λ others tree fits leads.
+        one_history (opening (volume_of (schedule_of parts))) replay.tree tree (reverse (trace_of parts)) stands.history others
+        (rw (reverse-reverse (trace_of parts)) stands.accounts.fits) stands.accounts.leads fits leads;
     }
 
 -- before the first line
@@ -69,4 +73,5 @@ no_headline = record {
   fits = refl;
   legal = refl;
   placed = record { parts = []; along = refl; whole = refl; placed = tt; closed = tt };
+  only = λ others tree fits leads. one_history (opening 0) (opening 0) tree [] [] others refl refl fits leads;
 }

@@ -10,3 +10,4 @@ pub mod Leavings
 pub mod Reports
 pub mod Words
 pub mod Completes
+pub mod OneHistory

@@ -40,7 +40,7 @@ pub record Step (tree : Tree) (bytes : traces.Entry) (next : Tree) : Type 0 wher
   pub step : IsStep tree entry next
 
 -- The points of the trace spell one history, which the trace fits. The history is legal from the opening tree of the heading's
--- volume, and leads to the last tree. The trace is placed along the schedule.
+-- volume, and leads to the last tree. The trace is placed along the schedule. No other history would do, nor another tree.
 pub record Headline (schedule : List Line) (trace : List TraceLine) (last : Tree) : Type 0 where
   pub history : List Entry
   pub bytes : List traces.Entry
@@ -48,6 +48,7 @@ pub record Headline (schedule : List Line) (trace : List TraceLine) (last : Tree
   pub fits : traces.Fits trace bytes
   pub legal : Leads IsStep (opening (volume_of schedule)) history last
   pub placed : IsPlaced rules schedule trace []
+  pub only : (others : List traces.Entry) (tree : Tree) → traces.Fits trace others → Leads Step (opening (volume_of schedule)) others tree → (others ≡ bytes) × (tree ≡ last)
 
 -- a line whose call, if it is one, is served
 abbrev pub IsServedLine : Line → Type 0

@@ -60,8 +60,8 @@ headline replay parts start written stands =
         closed = tt;
       };
       only = λ others tree fits leads.
-        one_history (opening (volume_of (schedule_of parts))) replay.tree tree (reverse (trace_of parts)) stands.history others
-        (rw (reverse-reverse (trace_of parts)) stands.accounts.fits) stands.accounts.leads fits leads;
+          one_history (opening (volume_of (schedule_of parts))) replay.tree tree (reverse (trace_of parts)) stands.history others
+          (rw (reverse-reverse (trace_of parts)) stands.accounts.fits) stands.accounts.leads fits leads;
     }
 
 -- before the first line

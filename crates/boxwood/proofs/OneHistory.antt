@@ -24,7 +24,7 @@ same_result : (tree : Tree) (call other : Call) (m n s u d e : ℕ) (reply again
     → act tree call m s d ≡ Some (reply, x) → act tree other n u e ≡ Some (again, y) → (reply ≡ again) × (x ≡ y)
 same_result tree call other m n s u d e reply again x y c-is m-is s-is d-is p q =
     let same : act tree call m s d ≡ act tree other n u e =
-      ap (λ (c : Call). act tree c m s d) c-is ∙ ap (λ (k : ℕ). act tree other k s d) m-is ∙ ap (λ (k : ℕ). act tree other n k d) s-is ∙ ap (λ (k : ℕ). act tree other n u k) d-is in
+    ap (λ (c : Call). act tree c m s d) c-is ∙ ap (λ (k : ℕ). act tree other k s d) m-is ∙ ap (λ (k : ℕ). act tree other n k d) s-is ∙ ap (λ (k : ℕ). act tree other n u k) d-is in
     let pair : ◌≡◌ {A = Reply × Tree} (reply, x) (again, y) = some_is (reply, x) (again, y) (act tree other n u e) (sym same ∙ p) q in
     (ap (λ (r : Reply × Tree). r.0) pair, ap (λ (r : Reply × Tree). r.1) pair)
 
@@ -42,7 +42,7 @@ step_once tree a b x y same s t =
     let bytes : a.bytes ≡ b.bytes = ap (λ (q : Asked). q.bytes) same in
     let one = reads_once b.bytes s.typed.xid t.typed.xid s.entry.what t.entry.what (rw bytes at s.typed.reads) t.typed.reads in
     let result = same_result tree s.entry.what t.entry.what s.entry.moment t.entry.moment s.entry.spare t.entry.spare s.entry.made t.entry.made s.entry.reply t.entry.reply x y one.1
-      (sym s.typed.moment ∙ moment ∙ t.typed.moment) (sym s.typed.spare ∙ spare ∙ t.typed.spare) (sym s.typed.made ∙ made ∙ t.typed.made) s.step.acts t.step.acts in
+    (sym s.typed.moment ∙ moment ∙ t.typed.moment) (sym s.typed.spare ∙ spare ∙ t.typed.spare) (sym s.typed.made ∙ made ∙ t.typed.made) s.step.acts t.step.acts in
     let reply : a.reply ≡ b.reply = s.typed.replies ∙ ap (λ (n : ℕ). reply_text n s.entry.reply) one.0 ∙ ap (λ (r : Reply). reply_text t.typed.xid r) result.0 ∙ sym t.typed.replies in
     (made_entry a.call b.call a.client b.client a.moment b.moment a.spare b.spare a.made b.made a.bytes b.bytes a.reply b.reply call client bytes moment spare made reply, result.1)
 

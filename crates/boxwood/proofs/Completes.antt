@@ -16,8 +16,8 @@ use Rattle.boxwood.specs.declared.stop.Reason.TheVariants.{Grammar, NotBuilt}
 use Rattle.boxwood.specs.Headline.{IsServedLine}
 use Rattle.boxwood.specs.declared.stop.Stop.{Stop}
 use Rattle.boxwood.specs.declared.stop.Stop.TheVariants as stops
-use Rattle.boxwood.specs.Outcome.{IsRefused, IsRefusedAt, status_of}
-use Rattle.boxwood.specs.Replay.{HasCause, Leaves}
+use Rattle.boxwood.specs.Outcome.{IsFirstRefused, IsRefusedAt, IsReplayed, status_of}
+use Rattle.boxwood.specs.Replay.{HasCause, Leaves, Wrote}
 
 -- the line of a schedule behind so many others
 record Found (first : Bool) (line : List ℕ) (front : List (List ℕ)) (count : ℕ) : Type 0 where
@@ -84,9 +84,9 @@ none_refused schedule done (line ∷ others) NotBuilt e begins headed few served
     let same : at.value ≡ call = spelling_injective at.value call at.place.0 refused.1.in_place.0 (sym at.spelled ∙ refused.1.spelled) in
     refused.1.unserved (rw same at at.served)
 
-pub not_refused : (text : List ℕ) (schedule : List Line) (number : ℕ) (reason : Reason) (output : List ℕ)
-    → IsSchedule (lines_of text) schedule → AllByRecursion IsServedLine schedule → IsRefused text number reason output → ⊥
-not_refused text schedule number reason output is served refused =
+not_refused : (text : List ℕ) (schedule : List Line) (number : ℕ) (reason : Reason)
+    → IsSchedule (lines_of text) schedule → AllByRecursion IsServedLine schedule → IsFirstRefused text number reason → ⊥
+not_refused text schedule number reason is served refused =
     none_refused schedule refused.done refused.others reason (sym is.spelled ∙ refused.read) is.begins is.headed is.few served refused.refused
 
 pub completes : (stop : Stop) (status : ℕ) (text left old new : List ℕ) (schedule : List Line) (source_before source_now sink_before sink_now : ℕ)
@@ -95,8 +95,24 @@ pub completes : (stop : Stop) (status : ℕ) (text left old new : List ℕ) (sch
     → IsSchedule (lines_of text) schedule → AllByRecursion IsServedLine schedule → (status ≡ 0) ⊎ (status ≡ 9)
 completes stops.Usage status text left old new schedule a b c d told cause no_read no_write leaves is served = absurd cause
 completes (stops.Refused number reason) status text left old new schedule a b c d told cause no_read no_write leaves is served =
-    absurd (not_refused text schedule number reason leaves.output is served leaves.holds)
+    absurd (not_refused text schedule number reason is served leaves.holds.first)
 completes stops.ReadFault status text left old new schedule a b c d told cause no_read no_write leaves is served = absurd (no_read cause)
 completes stops.WriteFault status text left old new schedule a b c d told cause no_read no_write leaves is served = absurd (no_write cause)
 completes stops.OutOfMemory status text left old new schedule a b c d (inl e) cause no_read no_write leaves is served = inr e
 completes stops.OutOfMemory status text left old new schedule a b c d (inr h) cause no_read no_write leaves is served = inr h.1
+
+-- A schedule with a line that is refused isn't replayed to its end.
+pub not_replayed : (text old new : List ℕ) (number : ℕ) (reason : Reason) → Wrote old new (IsReplayed text) → IsFirstRefused text number reason → ⊥
+not_replayed text old new number reason replayed refused =
+    not_refused text replayed.holds.schedule number reason replayed.holds.read replayed.holds.served refused
+
+pub refuses : (stop : Stop) (status source_before source_now sink_before sink_now : ℕ)
+    → (status ≡ status_of stop) ⊎ ((status_of stop ≡ 2) × (status ≡ 9)) → HasCause stop source_before source_now sink_before sink_now
+    → (Rose source_before source_now → ⊥) → (Rose sink_before sink_now → ⊥) → (status ≡ 2) ⊎ (status ≡ 9)
+refuses stops.Usage status a b c d told cause no_read no_write = absurd cause
+refuses (stops.Refused number reason) status a b c d (inl e) cause no_read no_write = inl e
+refuses (stops.Refused number reason) status a b c d (inr h) cause no_read no_write = inr h.1
+refuses stops.ReadFault status a b c d told cause no_read no_write = absurd (no_read cause)
+refuses stops.WriteFault status a b c d told cause no_read no_write = absurd (no_write cause)
+refuses stops.OutOfMemory status a b c d (inl e) cause no_read no_write = inr e
+refuses stops.OutOfMemory status a b c d (inr h) cause no_read no_write = inr h.1

@@ -125,14 +125,16 @@ module _ (text rest : List ℕ) (number : ℕ) (replay : Replay) (start written 
     output = trace_text (reverse (trace_of going.parts));
     added = going.stands.output;
     holds = record {
-      done = schedule_of going.parts;
-      others = others;
+      first = record {
+        done = schedule_of going.parts;
+        others = others;
+        read = lines_read text rest (schedule_of going.parts) going.stands.are_done.begins going.read ∙ ap (λ (ls : List (List ℕ)). map spelling (schedule_of going.parts) ++ ls) e;
+        are_done = going.stands.are_done;
+        number-is = ap (λ (n : ℕ). n + 1) (sym done_long);
+        refused = refused;
+      };
       trace = reverse (trace_of going.parts);
       last = replay.tree;
-      read = lines_read text rest (schedule_of going.parts) going.stands.are_done.begins going.read ∙ ap (λ (ls : List (List ℕ)). map spelling (schedule_of going.parts) ++ ls) e;
-      are_done = going.stands.are_done;
-      number-is = ap (λ (n : ℕ). n + 1) (sym done_long);
-      refused = refused;
       headline = headline replay going.parts start written going.stands;
       output-is = refl;
     };
@@ -282,14 +284,9 @@ begins_refused text start others e refused = record {
   output = [];
   added = sym (append-nil start);
   holds = record {
-    done = [];
-    others = others;
+    first = record { done = []; others = others; read = e; are_done = none_done; number-is = refl; refused = refused };
     trace = [];
     last = opening 0;
-    read = e;
-    are_done = none_done;
-    number-is = refl;
-    refused = refused;
     headline = no_headline;
     output-is = refl;
   };

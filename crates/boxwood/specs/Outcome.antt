@@ -56,17 +56,21 @@ IsRefusedAt done [] NotBuilt = ⊥
 IsRefusedAt done (line ∷ lines) Grammar = (4294967295 ≤ length done) ⊎ ((value : Line) → HasPlace (length done == 0) value → line ≢ spelling value)
 IsRefusedAt done (line ∷ lines) NotBuilt = (length done < 4294967295) × IsUnserved (length done == 0) line
 
--- The line with this number is the first that is refused, and the output is the trace of the lines before.
-pub record IsRefused (text : List ℕ) (number : ℕ) (reason : Reason) (output : List ℕ) : Type 0 where
+-- The line with this number is the first that is refused, for this reason.
+pub record IsFirstRefused (text : List ℕ) (number : ℕ) (reason : Reason) : Type 0 where
   pub done : List Line
   pub others : List (List ℕ)
-  pub trace : List TraceLine
-  pub last : Tree
   pub read : lines_of text ≡ map spelling done ++ others
   pub are_done : AreDone done
   pub number-is : number ≡ length done + 1
   pub refused : IsRefusedAt done others reason
-  pub headline : Headline done trace last
+
+-- That line is the first that is refused, and the output is the trace of the lines before.
+pub record IsRefused (text : List ℕ) (number : ℕ) (reason : Reason) (output : List ℕ) : Type 0 where
+  pub first : IsFirstRefused text number reason
+  pub trace : List TraceLine
+  pub last : Tree
+  pub headline : Headline first.done trace last
   pub output-is : output ≡ trace_text trace
 
 -- The text is these lines, and then the rest; or it is these lines, of which the last lacks its line feed, and no rest.

@@ -2,28 +2,36 @@
 
 use bx_base::OutOfMemory;
 use bx_outside::{LineError, WriteFault};
+use thiserror::Error;
 
 /// Why a line of a schedule is refused.
-#[derive(Clone, Copy, PartialEq, Eq, Debug)]
+#[derive(Clone, Copy, PartialEq, Eq, Debug, Error)]
 pub enum Reason {
     /// It is outside the grammar, or not in its place.
+    #[error("grammar")]
     Grammar,
     /// It is a call that isn't served yet.
+    #[error("not built")]
     NotBuilt,
 }
 
 /// Why a command stops short of its end.
-#[derive(Clone, Copy, PartialEq, Eq, Debug)]
+#[derive(Clone, Copy, PartialEq, Eq, Debug, Error)]
 pub enum Stop {
     /// The words are no command line.
+    #[error("usage")]
     Usage,
     /// A line of the schedule is refused. Lines count from 1.
+    #[error("schedule line {0}: {1}")]
     Refused(u64, Reason),
     /// The input failed.
+    #[error("read fault")]
     ReadFault,
     /// The output failed.
+    #[error("write fault")]
     WriteFault,
     /// Memory ran out.
+    #[error("out of memory")]
     OutOfMemory,
 }
 

@@ -1,6 +1,6 @@
 //! Standard input, output and error. They tell nothing of the bytes that pass, and count their errors.
 
-ghost use Rattle.std.specs.Prelude.{[]};
+ghost use Rattle.std.specs.Prelude.{◌≡◌, []};
 
 use bx_outside::{ReadFault, Sink, Source, WriteFault};
 use std::io::{Read, Stderr, Stdin, Stdout, Write};
@@ -14,7 +14,9 @@ pub struct StandardInput {
 
 impl StandardInput {
     /// The source, with no fault so far.
-    pub fn new(stream: Stdin) -> StandardInput {
+    pub fn new(stream: Stdin) -> StandardInput
+        ensures { result.faults ≡ 0 }
+    {
         StandardInput { stream, faults: 0 }
     }
 }
@@ -53,7 +55,9 @@ pub struct StandardOutput {
 
 impl StandardOutput {
     /// Standard output, with no fault so far.
-    pub fn output(stream: Stdout) -> StandardOutput {
+    pub fn output(stream: Stdout) -> StandardOutput
+        ensures { result.faults ≡ 0 }
+    {
         StandardOutput {
             stream: Stream::Output(stream),
             faults: 0,
@@ -61,7 +65,9 @@ impl StandardOutput {
     }
 
     /// Standard error, with no fault so far.
-    pub fn error(stream: Stderr) -> StandardOutput {
+    pub fn error(stream: Stderr) -> StandardOutput
+        ensures { result.faults ≡ 0 }
+    {
         StandardOutput {
             stream: Stream::Error(stream),
             faults: 0,

@@ -9,7 +9,7 @@ ghost use Rattle.bx_script.specs.Schedule.{IsSchedule};
 ghost use Rattle.boxwood.specs.declared.stop.Reason.{Reason};
 ghost use Rattle.boxwood.specs.declared.stop.Stop.TheVariants as stops;
 ghost use Rattle.boxwood.specs.Headline.{IsServedLine};
-ghost use Rattle.boxwood.specs.Outcome.{IsBroken, IsCutOff, IsRefused, IsReplayed, IsStatus, IsTold, line_of, message};
+ghost use Rattle.boxwood.specs.Outcome.{IsBroken, IsCutOff, IsFirstRefused, IsRefused, IsReplayed, IsStatus, IsTold, line_of, message};
 ghost use Rattle.boxwood.specs.Replay.{Wrote};
 
 use crate::report::report;
@@ -51,6 +51,11 @@ pub fn boxwood<S: Source, K: Sink>(
     ensures refused { result ≡ 2 → (number : ℕ) × (reason : Reason)
         × (S.tells input.old → K.tells out.old → Wrote (K.written out.old) (K.written out.new) (IsRefused (S.left input.old) number reason))
         × (K.tells err.old → IsTold (K.written err.old) (K.written err.new) (K.faults err.old) (K.faults err.new) (message (stops.Refused number reason))) }
+
+    ensures refuses { S.tells input.old → K.tells out.old → map string_bytes words.now ≡ codes "replay" ∷ []
+        → (number : ℕ) (reason : Reason) → IsFirstRefused (S.left input.old) number reason
+        → (Rose (S.faults input.old) (S.faults input.new) → ⊥) → (Rose (K.faults out.old) (K.faults out.new) → ⊥)
+        → (result ≡ 2) ⊎ (result ≡ 9) }
 
     // A fault of the source, and the trace of the lines before.
     ensures read_fault { result ≡ 3 → Rose (S.faults input.old) (S.faults input.new) }

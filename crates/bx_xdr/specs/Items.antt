@@ -6,19 +6,19 @@ use Rattle.std.specs.Int.{w32, to_be_bytes}
 abbrev pub padding_len : ℕ → ℕ
 padding_len n = (4 - n % 4) % 4
 
--- The bytes are a number of 32 bits, the highest byte first (section 4.2).
+-- The bytes are a number of 32 bits, the highest byte first (RFC 4506, section 4.2).
 pub record SpellsWord (word : ℕ) (bytes : List ℕ) : Type 0 where
   pub fits : word < 2 ^ 32
   pub parts : bytes ≡ to_be_bytes w32 word
 
--- The bytes are n bytes of content and their padding, whatever bytes that is (section 4.9).
+-- The bytes are n bytes of content and their padding, whatever bytes that is (RFC 4506, section 4.9).
 pub record SpellsFixed (n : ℕ) (content bytes : List ℕ) : Type 0 where
   pub padding : List ℕ
   pub len : length content ≡ n
   pub padded : length padding ≡ padding_len n
   pub parts : bytes ≡ content ++ padding
 
--- The bytes are how many bytes of content there are, the content and its padding (section 4.10).
+-- The bytes are how many bytes of content there are, the content and its padding (RFC 4506, section 4.10).
 pub record SpellsOpaque (content bytes : List ℕ) : Type 0 where
   pub padding : List ℕ
   pub fits : length content < 2 ^ 32

@@ -1,0 +1,15 @@
+//! A page of a B-link tree (Lehman and Yao 1981, Sagiv 1986): a level, a link to the page on its right, a high key and
+//! entries in the order of their keys, in 4096 bytes.
+#![tactic(auto)]
+
+mod entry;
+mod error;
+mod page;
+mod places;
+
+pub use entry::Entry;
+pub use error::PageError;
+pub use page::Page;
+
+#[cfg(test)]
+mod tests;

@@ -1,0 +1,141 @@
+//! A page.
+
+ghost use Rattle.std.specs.Prelude.{◌≡◌, ◌+◌, ◌-◌, ◌<◌, ◌≤◌, ◌↔◌, [], length, IsTrue, IsSome, IfSome, IfOk, OnOk, OnErr, None, Err, slice_get};
+ghost use Rattle.std.specs.Option.{option_copied};
+ghost use Rattle.bx_page.specs.Keys.{IsBelow};
+ghost use Rattle.bx_page.specs.Contents.{size, value_of, up_to, from, first, last, with_value, without_key, first_half, other_half};
+ghost use Rattle.bx_page.specs.declared.error.PageError.TheVariants.{NoRoom};
+
+use crate::entry::{Entry, LENGTHS, sizes};
+use crate::error::PageError;
+use crate::places::place_of;
+use bx_base::{OutOfMemory, Raw};
+use std::alloc::Global;
+use std::marker::Model;
+
+/// How many bytes a page takes.
+pub(crate) const SIZE: usize = 4096;
+
+/// What a page takes beside its high key and its entries: its numbers.
+pub(crate) const NUMBERS: usize = 16;
+
+/// A page. Contracts see it as its level, its right link, its high key and the list of its entries.
+#[derive(Debug, Drop)]
+pub struct Page {
+    pub(crate) alloc: Global,
+    pub(crate) level: u16,
+    pub(crate) right: u64,
+    pub(crate) high: Option<Raw>,
+    pub(crate) entries: Vec<Entry>,
+}
+
+impl Model for Page {
+    ghost use Rattle.bx_page.specs.Contents.{Contents};
+
+    ghost Value = { Contents };
+
+    ghost use Rattle.bx_page.specs.View.{contents_of, HoldsPage};
+
+    ghost view = { contents_of };
+
+    ghost invariant = { HoldsPage };
+}
+
+impl Page {
+    /// The page of a level with no entries, no high key and no page on its right. It takes no memory.
+    pub fn new(alloc: Global, level: u16) -> Page
+        ensures { result ≡ record { level = level; right = 0; high = None; entries = [] } }
+    {
+        Page {
+            alloc,
+            level,
+            right: 0,
+            high: None,
+            entries: Vec::new(alloc),
+        }
+    }
+
+    /// The level.
+    pub fn level(&self) -> u16
+        ensures { result ≡ self.now.level }
+    {
+        self.level
+    }
+
+    /// The link to the page on the right; 0 where there is none.
+    pub fn right(&self) -> u64
+        ensures { result ≡ self.now.right }
+    {
+        self.right
+    }
+
+    /// The high key, which every key is below; `None` where there is none.
+    pub fn high(&self) -> Option<&[u8]>
+        ensures { option_copied result ≡ self.now.high }
+    {
+        match &self.high {
+            None => None,
+            Some(high) => Some(high.bytes()),
+        }
+    }
+
+    /// How many entries there are.
+    pub fn len(&self) -> usize
+        ensures { result ≡ length self.now.entries }
+    {
+        self.entries.len()
+    }
+
+    /// The entry at a place in the order of keys, counted from 0; `None` exactly where there are no more entries.
+    pub fn entry(&self, at: usize) -> Option<&Entry>
+        ensures { option_copied result ≡ slice_get self.now.entries at }
+    {
+        self.entries.get(at)
+    }
+
+    /// How many more bytes fit into the page.
+    pub fn room(&self) -> usize
+        ensures { result + size self.now ≡ 4096 }
+    {
+        let high = match &self.high {
+            None => 0,
+            Some(high) => high.bytes().len(),
+        };
+        SIZE - (NUMBERS + high + sizes(&self.entries))
+    }
+
+    /// The value of a key; `None` exactly where the key isn't there.
+    pub fn get(&self, key: &[u8]) -> Option<&[u8]>
+        ensures { option_copied result ≡ value_of self.now.entries key.now }
+    {
+        match place_of(&self.entries, key) {
+            Err(_) => None,
+            Ok(place) => {
+                let entry = &self.entries[place];
+                Some(entry.value.bytes())
+            }
+        }
+    }
+
+    /// The entry with the greatest key that isn't above a key; `None` exactly where all keys are above it.
+    pub fn last_up_to(&self, key: &[u8]) -> Option<&Entry>
+        ensures { option_copied result ≡ last (up_to self.now.entries key.now) }
+    {
+        match place_of(&self.entries, key) {
+            Ok(place) => Some(&self.entries[place]),
+            Err(0) => None,
+            Err(place) => Some(&self.entries[place - 1]),
+        }
+    }
+
+    /// The entry with the least key that isn't below a key; `None` exactly where all keys are below it.
+    pub fn first_from(&self, key: &[u8]) -> Option<&Entry>
+        ensures { option_copied result ≡ first (from self.now.entries key.now) }
+    {
+        let place = match place_of(&self.entries, key) {
+            Ok(place) => place,
+            Err(place) => place,
+        };
+        self.entries.get(place)
+    }
+}

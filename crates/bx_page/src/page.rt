@@ -1,6 +1,6 @@
 //! A page.
 
-ghost use Rattle.std.specs.Prelude.{◌≡◌, ◌+◌, ◌-◌, ◌<◌, ◌≤◌, ◌↔◌, [], length, IsTrue, IsSome, IfSome, IfOk, OnOk, OnErr, None, Err, slice_get};
+ghost use Rattle.std.specs.Prelude.{◌≡◌, ◌+◌, ◌-◌, ◌<◌, ◌≤◌, ◌↔◌, [], length, IsTrue, IsSome, IsErrOf, IfSome, IfOk, OnOk, OnErr, None, slice_get};
 ghost use Rattle.std.specs.Option.{option_copied};
 ghost use Rattle.bx_page.specs.Keys.{IsBelow};
 ghost use Rattle.bx_page.specs.Contents.{size, value_of, up_to, from, first, last, with_value, without_key, first_half, other_half};
@@ -9,7 +9,7 @@ ghost use Rattle.bx_page.specs.declared.error.PageError.TheVariants.{NoRoom};
 use crate::entry::{Entry, LENGTHS, sizes};
 use crate::error::PageError;
 use crate::places::place_of;
-use bx_base::{OutOfMemory, Raw};
+use bx_base::Raw;
 use std::alloc::Global;
 use std::marker::Model;
 
@@ -97,11 +97,19 @@ impl Page {
     pub fn room(&self) -> usize
         ensures { result + size self.now ≡ 4096 }
     {
+        SIZE - self.used()
+    }
+
+    /// How many bytes the page takes.
+    fn used(&self) -> usize
+        ensures used { result ≡ size self.now }
+        ensures most { result ≤ 4096 }
+    {
         let high = match &self.high {
             None => 0,
             Some(high) => high.bytes().len(),
         };
-        SIZE - (NUMBERS + high + sizes(&self.entries))
+        NUMBERS + high + sizes(&self.entries)
     }
 
     /// The value of a key; `None` exactly where the key isn't there.
@@ -137,5 +145,50 @@ impl Page {
             Err(place) => place,
         };
         self.entries.get(place)
+    }
+    /// Puts a value for a key, in place of the value that the key had. The key is below the high key, where there is one,
+    /// and has at most 256 bytes, with its value at most 268. `NoRoom` exactly where the page would take more than 4096
+    /// bytes. On an error nothing changes.
+    pub fn put(&mut self, key: &[u8], value: &[u8]) -> Result<(), PageError>
+        requires key { length key.now ≤ 256 }
+        requires both { length key.now + length value.now ≤ 268 }
+        requires below { IfSome self.old.high (λ high. IsBelow key.now high) }
+        ensures ok { OnOk result (self.new ≡ with_value self.old key.now value.now) }
+        ensures err { OnErr result (self.new ≡ self.old) }
+        ensures no_room { IsErrOf result NoRoom ↔ (4096 < size (with_value self.old key.now value.now)) }
+    {
+        let used = self.used();
+        match place_of(&self.entries, key) {
+            Ok(place) => {
+                let entry = &self.entries[place];
+                if SIZE < used - entry.value.bytes().len() + value.len() {
+                    return Err(PageError::NoRoom);
+                }
+                let value = Raw::of(self.alloc, value)?;
+                self.entries[place].value = value;
+            }
+            Err(place) => {
+                if SIZE < used + LENGTHS + key.len() + value.len() {
+                    return Err(PageError::NoRoom);
+                }
+                let entry = Entry::of(self.alloc, key, value)?;
+                self.entries.insert(place, entry)?;
+            }
+        }
+        Ok(())
+    }
+
+    /// Takes the entry of a key out. `false` exactly where the key isn't there, and nothing changes then.
+    pub fn take(&mut self, key: &[u8]) -> bool
+        ensures taken { self.new ≡ without_key self.old key.now }
+        ensures found { IsTrue result ↔ IsSome (value_of self.old.entries key.now) }
+    {
+        match place_of(&self.entries, key) {
+            Err(_) => false,
+            Ok(place) => {
+                let _entry = self.entries.remove(place);
+                true
+            }
+        }
     }
 }

@@ -200,3 +200,10 @@ pub value_there : (es : List Entry) (key : List ℕ) (n : ℕ) → StandsAt es k
 value_there es key n at =
     let d : Entry = record { key = []; value = [] } in
     rw (at.value, slice_get-get_or es n d at.within) refl
+
+-- the high key of a page that was halved
+pub middle_key : (p : Contents) (n : ℕ) (x : Entry) → n ≡ half p → n < length p.entries → x ≡ get_or p.entries n x → option_map (λ (e : Entry). e.key) (slice_get p.entries (half p)) ≡ Some x.key
+middle_key p n x is lt at =
+    ap (λ k. option_map (λ (e : Entry). e.key) (slice_get p.entries k)) (sym is)
+    ∙ ap (option_map (λ (e : Entry). e.key)) (slice_get-get_or p.entries n x lt)
+    ∙ ap (λ (e : Entry). Some e.key) (sym at)

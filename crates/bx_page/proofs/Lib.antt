@@ -2,3 +2,4 @@ pub mod Order
 pub mod Cuts
 pub mod Placed
 pub mod Edits
+pub mod Written

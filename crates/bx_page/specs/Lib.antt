@@ -2,3 +2,4 @@ pub mod Keys
 pub mod Contents
 pub mod Places
 pub mod View
+pub mod Spelling

@@ -6,6 +6,8 @@ mod entry;
 mod error;
 mod page;
 mod places;
+mod split;
+mod writing;
 
 pub use entry::Entry;
 pub use error::PageError;

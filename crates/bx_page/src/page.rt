@@ -9,9 +9,11 @@ ghost use Rattle.bx_page.specs.declared.error.PageError.TheVariants.{NoRoom};
 use crate::entry::{Entry, LENGTHS, sizes};
 use crate::error::PageError;
 use crate::places::place_of;
-use bx_base::Raw;
+use crate::split::split_off;
+use bx_base::{OutOfMemory, Raw};
 use std::alloc::Global;
 use std::marker::Model;
+use std::mem;
 
 /// How many bytes a page takes.
 pub(crate) const SIZE: usize = 4096;
@@ -190,5 +192,26 @@ impl Page {
                 true
             }
         }
+    }
+    /// Gives the entries from the middle on to a new page, which is on the right of this one and has the high key and the
+    /// right link that this one had. `right` is the link to it; this page's high key is now the first key there. There are
+    /// at least two entries. Where memory runs out, nothing changes.
+    pub fn halve(&mut self, right: u64) -> Result<Page, OutOfMemory>
+        requires { 2 ≤ length self.old.entries }
+        ensures kept { OnOk result (self.new ≡ first_half self.old right) }
+        ensures given { IfOk result (λ page. page ≡ other_half self.old) }
+        ensures err { OnErr result (self.new ≡ self.old) }
+    {
+        let half = self.entries.len() / 2;
+        let middle = &self.entries[half];
+        let high = Raw::of(self.alloc, middle.key.bytes())?;
+        let entries = split_off(self.alloc, &mut self.entries, half)?;
+        Ok(Page {
+            alloc: self.alloc,
+            level: self.level,
+            right: mem::replace(&mut self.right, right),
+            high: mem::replace(&mut self.high, Some(high)),
+            entries,
+        })
     }
 }

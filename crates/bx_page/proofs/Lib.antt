@@ -3,3 +3,5 @@ pub mod Cuts
 pub mod Placed
 pub mod Edits
 pub mod Written
+pub mod ReadLoop
+pub mod Fields

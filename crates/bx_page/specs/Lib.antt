@@ -3,3 +3,5 @@ pub mod Contents
 pub mod Places
 pub mod View
 pub mod Spelling
+pub mod Parts
+pub mod Reading

@@ -6,6 +6,7 @@ mod entry;
 mod error;
 mod page;
 mod places;
+mod reading;
 mod split;
 mod writing;
 

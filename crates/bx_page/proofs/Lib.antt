@@ -5,3 +5,6 @@ pub mod Edits
 pub mod Written
 pub mod ReadLoop
 pub mod Fields
+pub mod Rising
+pub mod Whole
+pub mod Room

@@ -45,6 +45,11 @@ pub record IsPage (page : Contents) : Type 0 where
   pub below : IfSome page.high (λ high. All (λ entry. IsBelow entry.key high) page.entries)
   pub room : size page ≤ 4096
 
+-- the keys rise, and are below the high key
+pub record IsInOrder (page : Contents) : Type 0 where
+  pub rises : Rises page.entries
+  pub below : IfSome page.high (λ high. All (λ entry. IsBelow entry.key high) page.entries)
+
 -- the entries with keys below a key, and those with keys above it
 abbrev pub below : List Entry → List ℕ → List Entry
 below entries key = filter (λ entry. is_below entry.key key) entries

@@ -3,7 +3,7 @@ use Rattle.std.specs.Prelude.{◌≡◌, ℕ, ◌+◌, ◌-◌, List, [], ◌∷
 use Rattle.std.specs.List.{flat_map}
 use Rattle.std.specs.Int.{w16, w64, to_be_bytes}
 use Rattle.bx_page.specs.declared.entry.Entry.{Entry}
-use Rattle.bx_page.specs.Contents.{Contents, high_bytes, size}
+use Rattle.bx_page.specs.Contents.{Contents, high_bytes, size, IsPage}
 
 -- how many bytes the high key has, and 65535 where there is none
 abbrev pub high_len : Option (List ℕ) → ℕ
@@ -22,6 +22,11 @@ entry_bytes entry = to_be_bytes w16 (length entry.key) ++ (to_be_bytes w16 (leng
 -- the numbers, the high key, the entries, and zeros
 abbrev pub page_bytes : Contents → List ℕ
 page_bytes page = numbers page ++ (high_bytes page.high ++ (flat_map entry_bytes page.entries ++ replicate (4096 - size page) 0))
+
+-- the bytes are these contents, which are a page's
+pub record Spells (page : Contents) (bytes : List ℕ) : Type 0 where
+  pub is : IsPage page
+  pub parts : bytes ≡ page_bytes page
 
 -- The bytes from `at` on are written over, up to `end`: what is before them stays.
 pub record Writes (old new : List ℕ) (at end : ℕ) (bytes : List ℕ) : Type 0 where

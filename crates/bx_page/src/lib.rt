@@ -2,8 +2,10 @@
 //! entries in the order of their keys, in 4096 bytes.
 #![tactic(auto)]
 
+mod checks;
 mod entry;
 mod error;
+mod laws;
 mod page;
 mod places;
 mod reading;
@@ -12,6 +14,7 @@ mod writing;
 
 pub use entry::Entry;
 pub use error::PageError;
+pub use laws::{one_reading, room_for_two, written_reads};
 pub use page::Page;
 
 #[cfg(test)]

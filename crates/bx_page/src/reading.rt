@@ -1,14 +1,18 @@
-//! Reading the parts of a page.
+//! Reading a page from bytes.
 
-ghost use Rattle.std.specs.Prelude.{◌≡◌};
+ghost use Rattle.std.specs.Prelude.{◌≡◌, IfOk, IfSome, IfNone};
 ghost use Rattle.std.specs.Int.{w16, w64};
 ghost use Rattle.bx_page.specs.Reading.{Gives, number_at, bytes_at, lengths_at, entry_at, entries_at, high_of, high_at, contents_at};
 ghost use Rattle.bx_page.specs.Parts.{seen};
+ghost use Rattle.bx_page.specs.Contents.{Contents};
+ghost use Rattle.bx_page.specs.Spelling.{Spells};
 
+use crate::checks::{are_zeros, is_in_order};
 use crate::entry::Entry;
 use crate::error::ReadError;
+use crate::page::{Page, SIZE};
 use crate::writing::NO_HIGH;
-use bx_base::Raw;
+use bx_base::{OutOfMemory, Raw};
 use byteorder::{BigEndian, ByteOrder};
 use std::alloc::Global;
 
@@ -25,6 +29,36 @@ pub(crate) struct Parts {
     pub(crate) right: u64,
     pub(crate) high: Option<Raw>,
     pub(crate) entries: Vec<Entry>,
+}
+
+impl Page {
+    /// The page that these bytes are. `None` exactly where they are no page.
+    pub fn read(alloc: Global, payload: &[u8]) -> Result<Option<Page>, OutOfMemory>
+        ensures some { IfOk result (λ found. IfSome found (λ page. Spells page payload.now)) }
+        ensures none { IfOk result (λ found. IfNone found ((page : Contents) → Spells page payload.now → ⊥)) }
+    {
+        if payload.len() != SIZE {
+            return Ok(None);
+        }
+        let (parts, rest) = match parts_of(alloc, payload) {
+            Ok(found) => found,
+            Err(ReadError::NotAPage) => return Ok(None),
+            Err(ReadError::Memory) => return Err(OutOfMemory),
+        };
+        if !are_zeros(rest) {
+            return Ok(None);
+        }
+        if !is_in_order(&parts) {
+            return Ok(None);
+        }
+        Ok(Some(Page {
+            alloc,
+            level: parts.level,
+            right: parts.right,
+            high: parts.high,
+            entries: parts.entries,
+        }))
+    }
 }
 
 /// The number of two bytes at the front, and the bytes behind it.

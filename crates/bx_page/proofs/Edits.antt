@@ -1,16 +1,16 @@
 -- A page with an entry put, taken or moved is a page.
-use Rattle.std.proofs.Common.{◌≡◌, ℕ, zero, suc, ◌+◌, ◌-◌, ◌*◌, ◌/◌, ◌^◌, ◌<◌, ◌≤◌, Bool, true, false, List, [], ◌∷◌, ◌++◌, length, take, drop, get_or, set, Option, Some, None, refl, sym, ap, subst, ◌∙◌, add-one, arith}
-use Rattle.std.specs.Prelude.{All, AllPairs, IfSome, IsSome, filter, sum_by, slice_get}
+use Rattle.std.proofs.Common.{◌≡◌, ℕ, suc, ◌+◌, ◌^◌, ◌<◌, ◌≤◌, List, [], ◌∷◌, ◌++◌, length, take, drop, get_or, set, Option, Some, None, refl, sym, ap, ◌∙◌, add-one, arith}
+use Rattle.std.specs.Prelude.{All, AllPairs, IfSome, IsSome, sum_by, slice_get}
 use Rattle.std.specs.List.{insert, remove}
 use Rattle.std.specs.Option.{option_map}
 use Rattle.std.proofs.lemmas.List.{set_split, get_or-take, get_or-drop, length-take, length-drop, take-append-drop, drop_more, get_or_default}
-use Rattle.std.proofs.lemmas.List.Elements.{All-append, All-cons, All-nil, All-head, All-tail, All-filter, All-take, All-drop, All-weaker, All-get_or, filter_passes}
+use Rattle.std.proofs.lemmas.List.Elements.{All-append, All-cons, All-head, All-tail, All-filter, All-take, All-drop, All-weaker, filter_passes}
 use Rattle.std.proofs.lemmas.List.Kept.{AllPairs-cons, AllPairs-filter}
-use Rattle.std.proofs.lemmas.List.Sums.{sum_by-cons, sum_by-append, sum_by-take-drop, sum_by-set, sum_by-insert, sum_by-remove, sum_by-take-le, get_or-le-sum_by}
+use Rattle.std.proofs.lemmas.List.Sums.{sum_by-cons, sum_by-take-drop, sum_by-set, sum_by-insert, sum_by-remove}
 use Rattle.std.proofs.lemmas.Option.{slice_get-get_or}
 use Rattle.bx_page.specs.declared.entry.Entry.{Entry}
 use Rattle.bx_page.specs.Keys.{is_below, IsBelow}
-use Rattle.bx_page.specs.Contents.{Contents, entry_size, high_bytes, size, IsEntry, Rises, IsPage, below, above, with_value, without_key, value_of, half, first_half, other_half}
+use Rattle.bx_page.specs.Contents.{Contents, entry_size, size, IsEntry, Rises, IsPage, below, above, with_value, without_key, value_of, half, first_half, other_half}
 use Rattle.bx_page.specs.Places.{StandsAt, WouldStandAt}
 use Rattle.bx_page.proofs.Order.{below_trans}
 use Rattle.bx_page.proofs.Cuts.{All-take_below}
@@ -52,8 +52,8 @@ rises_with es e rises =
     (AllPairs-filter (λ a b. IsBelow a.key b.key) (λ x. is_below x.key e.key) es rises)
     (AllPairs-cons (λ a b. IsBelow a.key b.key) e (above es e.key) (above_key es e.key) (AllPairs-filter (λ a b. IsBelow a.key b.key) (λ x. is_below e.key x.key) es rises))
     (All-weaker (λ x. IsBelow x.key e.key) (λ x. All (λ y. IsBelow x.key y.key) (e ∷ above es e.key))
-      (λ x lt. All-cons (λ y. IsBelow x.key y.key) e (above es e.key) lt (All-weaker (λ y. IsBelow e.key y.key) (λ y. IsBelow x.key y.key) (λ y h. below_trans x.key e.key y.key lt h) (above es e.key) (above_key es e.key)))
-      (below es e.key) (below_key es e.key))
+    (λ x lt. All-cons (λ y. IsBelow x.key y.key) e (above es e.key) lt (All-weaker (λ y. IsBelow e.key y.key) (λ y. IsBelow x.key y.key) (λ y h. below_trans x.key e.key y.key lt h) (above es e.key) (above_key es e.key)))
+    (below es e.key) (below_key es e.key))
 
 rises_without : (es : List Entry) (key : List ℕ) → Rises es → Rises (below es key ++ above es key)
 rises_without es key rises =
@@ -61,8 +61,8 @@ rises_without es key rises =
     (AllPairs-filter (λ a b. IsBelow a.key b.key) (λ x. is_below x.key key) es rises)
     (AllPairs-filter (λ a b. IsBelow a.key b.key) (λ x. is_below key x.key) es rises)
     (All-weaker (λ x. IsBelow x.key key) (λ x. All (λ y. IsBelow x.key y.key) (above es key))
-      (λ x lt. All-weaker (λ y. IsBelow key y.key) (λ y. IsBelow x.key y.key) (λ y h. below_trans x.key key y.key lt h) (above es key) (above_key es key))
-      (below es key) (below_key es key))
+    (λ x lt. All-weaker (λ y. IsBelow key y.key) (λ y. IsBelow x.key y.key) (λ y h. below_trans x.key key y.key lt h) (above es key) (above_key es key))
+    (below es key) (below_key es key))
 
 -- ---- what holds of each entry
 

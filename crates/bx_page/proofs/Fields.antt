@@ -1,7 +1,7 @@
 -- A part that is read is the part that was written, and what was written is read again.
 use Rattle.std.proofs.Common.{◌≡◌, ℕ, zero, suc, ◌+◌, ◌^◌, ◌<◌, ◌≤◌, Bool, true, false, ◌||◌, cond, ltb, eqb, List, [], ◌∷◌, ◌++◌, length, get_or, take, drop, Option, Some, None, refl, sym, ap, subst, ◌∙◌, append_assoc, arith, inl, inr, ◌⊎◌}
 use Rattle.std.specs.Prelude.{IfSome, All}
-use Rattle.std.specs.List.{flat_map, AllByRecursion}
+use Rattle.std.specs.List.{flat_map}
 use Rattle.std.specs.Int.{Width, w16, w64, byte_len, from_be_bytes, to_be_bytes}
 use Rattle.std.proofs.lemmas.Bool.{cases_lt, ltb-false, le-ltb, eqb-true, ne_eqb}
 use Rattle.std.proofs.lemmas.List.{take_at, drop_at, take-append-drop, length-append, length-take, get_or-drop, get_or-take, get_or_past}
@@ -120,7 +120,7 @@ lengths_take bytes x fits e =
     let t0 = number_takes w16 (2 ^ 16) wide16 bytes a.0.0 a.0.1 fits a.1 in
     let t1 = number_takes w16 (2 ^ 16) wide16 a.0.1 b.0.0 b.0.1 t0.0.rest_fits b.1 in
     subst (λ (y : (ℕ × ℕ) × List ℕ). Takes bytes (to_be_bytes w16 y.0.0 ++ to_be_bytes w16 y.0.1) y.1 × (y.0.0 ≤ 256) × (y.0.0 + y.0.1 ≤ 268)) g.1
-      (Takes-then bytes (to_be_bytes w16 a.0.0) a.0.1 (to_be_bytes w16 b.0.0) b.0.1 t0.0 t1.0, ltb-false _ _ both.0, ltb-false _ _ both.1)
+    (Takes-then bytes (to_be_bytes w16 a.0.0) a.0.1 (to_be_bytes w16 b.0.0) b.0.1 t0.0 t1.0, ltb-false _ _ both.0, ltb-false _ _ both.1)
 
 lengths_again : (k v : ℕ) (rest : List ℕ) → k ≤ 256 → k + v ≤ 268 → lengths_at (to_be_bytes w16 k ++ (to_be_bytes w16 v ++ rest)) ≡ Some ((k, v), rest)
 unfolding lengths_at
@@ -148,7 +148,7 @@ entry_again : (e : Entry) (rest : List ℕ) → IsEntry e → entry_at (entry_by
 unfolding entry_at
 entry_again e rest fits =
     let regrouped : entry_bytes e ++ rest ≡ to_be_bytes w16 (length e.key) ++ (to_be_bytes w16 (length e.value) ++ (e.key ++ (e.value ++ rest))) =
-      ap (λ (t : List ℕ). to_be_bytes w16 (length e.key) ++ (to_be_bytes w16 (length e.value) ++ t)) (append_assoc e.key e.value rest) in
+    ap (λ (t : List ℕ). to_be_bytes w16 (length e.key) ++ (to_be_bytes w16 (length e.value) ++ t)) (append_assoc e.key e.value rest) in
     ap entry_at regrouped ∙ rw (lengths_again (length e.key) (length e.value) (e.key ++ (e.value ++ rest)) fits.key fits.both, bytes_again e.key (e.value ++ rest), bytes_again e.value rest) refl
 
 entries_take : (n : ℕ) (bytes : List ℕ) (x : List Entry × List ℕ) → IsBytes bytes → entries_at n bytes ≡ Some x → Takes bytes (flat_map entry_bytes x.0) x.1 × (length x.0 ≡ n) × All IsEntry x.0
@@ -278,7 +278,7 @@ contents_take bytes x fits e =
     let t4 = entries_take b.0.0 d.0.1 f.0 t3.0.rest_fits f.1 in
     let made : Contents × List ℕ = (record { level = a.0.0; right = c.0.0; high = d.0.0; entries = f.0.0 }, f.0.1) in
     subst (Found bytes) (some_is made x f.2)
-      (joined made.0 bytes a.0.1 b.0.1 c.0.1 d.0.1 f.0.1 b.0.0 t0.0 t1.0 t2.0 t3.0 t4.0 t4.1, record { level = t0.1; right = t2.1; count = omega (arith, t4.1, t1.1); high = t3.1; entries = t4.2 })
+    (joined made.0 bytes a.0.1 b.0.1 c.0.1 d.0.1 f.0.1 b.0.0 t0.0 t1.0 t2.0 t3.0 t4.0 t4.1, record { level = t0.1; right = t2.1; count = omega (arith, t4.1, t1.1); high = t3.1; entries = t4.2 })
 
 -- the parts are read again, whatever is behind them
 pub contents_again : (p : Contents) (rest : List ℕ) → AreParts p → contents_at (front p ++ rest) ≡ Some (p, rest)
@@ -287,10 +287,12 @@ contents_again p rest fits =
     let entries = flat_map entry_bytes p.entries ++ rest in
     let high = to_be_bytes w16 (high_len p.high) ++ (0 ∷ 0 ∷ (high_bytes p.high ++ entries)) in
     let regrouped : front p ++ rest ≡ to_be_bytes w16 p.level ++ (to_be_bytes w16 (length p.entries) ++ (to_be_bytes w64 p.right ++ high)) =
-      ap (λ (t : List ℕ). numbers p ++ t) (append_assoc (high_bytes p.high) (flat_map entry_bytes p.entries) rest) in
+    ap (λ (t : List ℕ). numbers p ++ t) (append_assoc (high_bytes p.high) (flat_map entry_bytes p.entries) rest) in
     ap contents_at regrouped
-    ∙ rw (number_again w16 (2 ^ 16) wide16 p.level (to_be_bytes w16 (length p.entries) ++ (to_be_bytes w64 p.right ++ high)) fits.level,
+    ∙ rw (
+      number_again w16 (2 ^ 16) wide16 p.level (to_be_bytes w16 (length p.entries) ++ (to_be_bytes w64 p.right ++ high)) fits.level,
       number_again w16 (2 ^ 16) wide16 (length p.entries) (to_be_bytes w64 p.right ++ high) fits.count,
       number_again w64 (2 ^ 64) wide64 p.right high fits.right,
       high_again p.high entries fits.high,
-      entries_again p.entries rest fits.entries) refl
+      entries_again p.entries rest fits.entries,
+    ) refl

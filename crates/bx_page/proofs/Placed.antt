@@ -1,8 +1,8 @@
 -- What a binary search tells of the entries' keys.
-use Rattle.std.proofs.Common.{◌≡◌, ℕ, suc, ◌+◌, ◌-◌, ◌<◌, ◌≤◌, Bool, true, false, List, [], ◌∷◌, ◌++◌, length, take, drop, get_or, Some, None, Result, Ok, Err, Less, Equal, Greater, refl, sym, ap, subst, ◌∙◌, arith, inl, inr}
-use Rattle.std.specs.Prelude.{All, filter, not, IfOk, IfErr, slice_get, bytes_eq}
-use Rattle.std.specs.List.{HoldsAt, AllWithin}
-use Rattle.std.specs.List.Sorted.{IsBinarySearchResult, IsPartitionPoint, IsNonDecreasingBy, IsSearchInRange}
+use Rattle.std.proofs.Common.{◌≡◌, ℕ, ◌+◌, ◌<◌, ◌≤◌, Bool, true, false, List, [], length, get_or, Result, Ok, Err, refl, sym, ap, subst, ◌∙◌, arith, inl, inr}
+use Rattle.std.specs.Prelude.{All, not, IfOk, IfErr, bytes_eq}
+use Rattle.std.specs.List.{HoldsAt}
+use Rattle.std.specs.List.Sorted.{IsBinarySearchResult, IsNonDecreasingBy, IsSearchInRange}
 use Rattle.std.specs.Option.{option_map}
 use Rattle.std.specs.Ordering.{nat_cmp, is_lt, ordering_index}
 use Rattle.std.specs.Cmp.Lexicographic.{slice_cmp}
@@ -12,9 +12,9 @@ use Rattle.std.proofs.lemmas.List.Sorted.{searchable_from_sorted}
 use Rattle.std.proofs.lemmas.Option.{slice_get-get_or}
 use Rattle.bx_page.specs.declared.entry.Entry.{Entry}
 use Rattle.bx_page.specs.Keys.{is_below, IsBelow}
-use Rattle.bx_page.specs.Contents.{Rises, below, above, up_to, from, value_of}
+use Rattle.bx_page.specs.Contents.{Rises, below, above, from}
 use Rattle.bx_page.specs.Places.{StandsAt, WouldStandAt}
-use Rattle.bx_page.proofs.Order.{below_cmp, not_below_itself, not_below_back, same_from_cmp, not_same_below, not_same_above, same_itself, greater_cmp}
+use Rattle.bx_page.proofs.Order.{not_below_itself, not_below_back, same_from_cmp, not_same_below, not_same_above, same_itself, greater_cmp}
 use Rattle.bx_page.proofs.Cuts.{All-take_below, All-drop_from, filter_front, filter_behind, find_none, find_first}
 
 -- entries that rise can be searched

@@ -1,5 +1,5 @@
 -- What a page of a B-link tree holds, and how much of its 4096 bytes that takes.
-use Rattle.std.specs.Prelude.{◌≡◌, ℕ, ◌+◌, ◌/◌, ◌^◌, ◌<◌, ◌≤◌, bytes_eq, not, List, [], ◌∷◌, ◌++◌, length, take, drop, reverse, filter, sum_by, All, AllPairs, Option, Some, None, IfSome, slice_get}
+use Rattle.std.specs.Prelude.{ℕ, ◌+◌, ◌/◌, ◌^◌, ◌<◌, ◌≤◌, bytes_eq, not, List, [], ◌∷◌, ◌++◌, length, take, drop, reverse, filter, sum_by, All, AllPairs, Option, Some, None, IfSome, slice_get}
 use Rattle.std.specs.List.{find}
 use Rattle.std.specs.Option.{option_map}
 use Rattle.bx_page.specs.declared.entry.Entry.{Entry}

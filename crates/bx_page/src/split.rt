@@ -7,7 +7,11 @@ use bx_base::OutOfMemory;
 use std::alloc::Global;
 
 /// Moves the entries from a place on out of a list. Where memory runs out, the list is as it was.
-pub(crate) fn split_off(alloc: Global, entries: &mut Vec<Entry>, kept: usize) -> Result<Vec<Entry>, OutOfMemory>
+pub(crate) fn split_off(
+    alloc: Global,
+    entries: &mut Vec<Entry>,
+    kept: usize,
+) -> Result<Vec<Entry>, OutOfMemory>
     requires { kept ≤ vec_len entries.old }
     ensures kept { OnOk result (entries.new.items ≡ take kept entries.old.items) }
     ensures moved { IfOk result (λ moved. moved.items ≡ drop kept entries.old.items) }

@@ -1,5 +1,4 @@
 use Rattle.std.proofs.Common.{subst, arith, rules, refl}
-use Rattle.std.specs.Prelude.{IsTrue}
 use Rattle.std.proofs.lemmas.List.{take_all}
 use Rattle.bx_page.specs.Keys.{IsBelow}
 use Rattle.bx_page.specs.Contents.{Rises}

@@ -1,5 +1,4 @@
 use Rattle.std.proofs.Common.{refl}
-use Rattle.bx_page.specs.Contents.{Contents}
 use Rattle.bx_page.specs.Spelling.{page_bytes}
 use Rattle.bx_page.proofs.Whole.{one_page}
 use Rattle.bx_page.proofs.laws.one_reading.Goals as goal

@@ -1,4 +1,3 @@
-use Rattle.std.proofs.Common.{◌≡◌, ◌++◌, ◌∷◌, []}
 use Rattle.std.proofs.lemmas.Result.{err_from_is_err_and}
 use Rattle.bx_page.specs.Reading.{entries_at}
 use Rattle.bx_page.proofs.ReadLoop.{goes_on, ends, is_done}

@@ -1,6 +1,4 @@
-use Rattle.std.proofs.Common.{◌≡◌, ℕ, ◌/◌, ◌<◌, List, Option, Some, length, take, drop, get_or, refl, sym, ap, subst, ◌∙◌, arith}
-use Rattle.bx_page.specs.declared.entry.Entry.{Entry}
-use Rattle.bx_page.specs.Contents.{Contents, IsPage, half, first_half, other_half}
+use Rattle.std.proofs.Common.{ℕ, ◌/◌, List, Some, take, drop, refl, sym, ap, ◌∙◌, arith}
 use Rattle.bx_page.specs.View.{contents_of}
 use Rattle.bx_page.proofs.Edits.{first_half_page, other_half_page, middle_key}
 use Rattle.bx_page.proofs.page.Page.halve.Goals as goal

@@ -1,7 +1,7 @@
-use Rattle.std.proofs.Common.{◌≡◌, ℕ, ◌+◌, ◌≤◌, List, length, get_or, refl, sym, ap, subst, ◌∙◌, arith}
+use Rattle.std.proofs.Common.{List, length, refl, sym, ap, subst, ◌∙◌, arith}
 use Rattle.std.proofs.lemmas.Result.{err_from_is_err_and}
 use Rattle.bx_page.specs.declared.entry.Entry.{Entry}
-use Rattle.bx_page.specs.Contents.{Contents, IsPage, size, with_value}
+use Rattle.bx_page.specs.Contents.{size}
 use Rattle.bx_page.specs.Places.{StandsAt, WouldStandAt}
 use Rattle.bx_page.specs.View.{contents_of}
 use Rattle.bx_page.proofs.Edits.{size_there, size_missing, put_page, there_is, missing_is}

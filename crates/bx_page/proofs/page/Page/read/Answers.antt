@@ -1,6 +1,4 @@
-use Rattle.std.proofs.Common.{◌≡◌, true, length, ap, sym, subst, ◌∙◌, arith}
-use Rattle.bx_page.specs.Contents.{Contents, IsPage}
-use Rattle.bx_page.specs.Spelling.{Spells}
+use Rattle.std.proofs.Common.{length, ap, subst, ◌∙◌, arith}
 use Rattle.bx_page.specs.Parts.{seen}
 use Rattle.bx_page.specs.Reading.{Fails, contents_at}
 use Rattle.bx_page.proofs.Whole.{length-page_bytes, page_read, page_same, page_in_order, not_none}

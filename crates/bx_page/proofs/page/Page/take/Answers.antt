@@ -1,6 +1,5 @@
-use Rattle.std.proofs.Common.{◌≡◌, List, refl, sym, ap, subst, ◌∙◌}
-use Rattle.bx_page.specs.declared.entry.Entry.{Entry}
-use Rattle.bx_page.specs.Contents.{Contents, IsPage}
+use Rattle.std.proofs.Common.{refl, ap, subst, ◌∙◌}
+use Rattle.bx_page.specs.Contents.{Contents}
 use Rattle.bx_page.specs.Places.{StandsAt}
 use Rattle.bx_page.specs.View.{contents_of}
 use Rattle.bx_page.proofs.Edits.{removed_is, without_page, value_there}

@@ -1,0 +1,298 @@
+-- A part that is read is the part that was written, and what was written is read again.
+use Rattle.std.proofs.Common.{◌≡◌, ℕ, zero, suc, ◌+◌, ◌^◌, ◌<◌, ◌≤◌, Bool, true, false, ◌||◌, cond, ltb, eqb, List, [], ◌∷◌, ◌++◌, length, get_or, take, drop, Option, Some, None, refl, sym, ap, subst, ◌∙◌, append_assoc, arith, inl, inr, ◌⊎◌}
+use Rattle.std.specs.Prelude.{IfSome, All}
+use Rattle.std.specs.List.{flat_map}
+use Rattle.std.specs.Int.{Width, w16, w64, byte_len, from_be_bytes, to_be_bytes}
+use Rattle.std.proofs.lemmas.Bool.{cases_lt, ltb-false, le-ltb, eqb-true, ne_eqb}
+use Rattle.std.proofs.lemmas.List.{take_at, drop_at, take-append-drop, length-append, length-take, get_or-drop, get_or-take, get_or_past}
+use Rattle.std.proofs.lemmas.List.Elements.{All-head, All-tail, All-cons, All-nil}
+use Rattle.std.proofs.lemmas.List.Concat.{flat_map-cons}
+use Rattle.std.proofs.lemmas.Nat.{be_bytes_2, be_bytes_8, from_be_bytes-to_be_bytes_2, from_be_bytes-to_be_bytes_8}
+use Rattle.bx_page.specs.declared.entry.Entry.{Entry}
+use Rattle.bx_page.specs.Contents.{Contents, IsEntry, high_bytes}
+use Rattle.bx_page.specs.Spelling.{high_len, entry_bytes, numbers}
+use Rattle.bx_page.specs.Reading.{◌>>=◌, number_at, bytes_at, lengths_at, entry_at, entries_at, high_of, high_at, contents_at}
+use Rattle.bx_page.proofs.Written.{front}
+
+abbrev pub IsBytes : List ℕ → Type 0
+IsBytes bytes = (i : ℕ) → get_or bytes i 0 < 256
+
+IsBytes-drop : (n : ℕ) (bytes : List ℕ) → IsBytes bytes → IsBytes (drop n bytes)
+IsBytes-drop n bytes h i = rw get_or-drop (h (n + i))
+
+IsBytes-take : (n : ℕ) (bytes : List ℕ) → IsBytes bytes → IsBytes (take n bytes)
+IsBytes-take n bytes h i =
+    elim (cases_lt i n) [
+      | inl lt ↦ rw (get_or-take n bytes i 0 lt) (h i)
+      | inr le ↦ rw (get_or_past (take n bytes) i 0 (omega (arith, length-take n bytes))) (omega arith)
+    ]
+
+-- the value of a step that did not fail
+bind_some : {A B : Type 0} (r : Option A) (f : A → Option B) (y : B) → (r >>= f) ≡ Some y → (x : A) × (r ≡ Some x) × (f x ≡ Some y)
+bind_some (Some x) f y e = (x, refl, e)
+bind_some None f y e = absurd cc
+
+-- a test that did not fail
+guard_some : {A : Type 0} (b : Bool) (x y : A) → cond b None (Some x) ≡ Some y → (b ≡ false) × (x ≡ y)
+guard_some true x y e = absurd cc
+guard_some false x y e = (refl, cc)
+
+abbrev done : {A : Type 0} → A → Option A
+done x = Some x
+
+some_is : {A : Type 0} (x y : A) → done x ≡ done y → x ≡ y
+some_is x y e = cc
+
+-- what a reader took from the front
+pub record Takes (bytes text rest : List ℕ) : Type 0 where
+  pub parts : bytes ≡ text ++ rest
+  pub rest_fits : IsBytes rest
+
+Takes-then : (a x b y c : List ℕ) → Takes a x b → Takes b y c → Takes a (x ++ y) c
+Takes-then a x b y c p q = record { parts = p.parts ∙ ap (λ (t : List ℕ). x ++ t) q.parts ∙ sym (append_assoc x y c); rest_fits = q.rest_fits }
+
+-- ---- numbers
+
+record IsWide (w : Width) (limit : ℕ) : Type 0 where
+  len : (n : ℕ) → length (to_be_bytes w n) ≡ byte_len w
+  back : (bytes : List ℕ) → length bytes ≡ byte_len w → IsBytes bytes → to_be_bytes w (from_be_bytes w bytes) ≡ bytes
+  again : (n : ℕ) → n < limit → from_be_bytes w (to_be_bytes w n) ≡ n
+  below : (bytes : List ℕ) → IsBytes bytes → from_be_bytes w bytes < limit
+
+wide16 : IsWide w16 (2 ^ 16)
+wide16 = record {
+  len = λ n. refl;
+  back = λ bytes len fits. be_bytes_2 bytes _ len fits refl;
+  again = λ n lt. from_be_bytes-to_be_bytes_2 n lt;
+  below = λ bytes fits. omega (arith, fits 0, fits 1);
+}
+
+wide64 : IsWide w64 (2 ^ 64)
+wide64 = record {
+  len = λ n. refl;
+  back = λ bytes len fits. be_bytes_8 bytes _ len fits refl;
+  again = λ n lt. from_be_bytes-to_be_bytes_8 n lt;
+  below = λ bytes fits. omega (arith, fits 0, fits 1, fits 2, fits 3, fits 4, fits 5, fits 6, fits 7);
+}
+
+number_takes : (w : Width) (limit : ℕ) (wide : IsWide w limit) (bytes : List ℕ) (n : ℕ) (rest : List ℕ) → IsBytes bytes → number_at w bytes ≡ Some (n, rest) → Takes bytes (to_be_bytes w n) rest × (n < limit)
+number_takes w limit wide bytes n rest fits e =
+    let g = guard_some (ltb (length bytes) (byte_len w)) (from_be_bytes w (take (byte_len w) bytes), drop (byte_len w) bytes) (n, rest) e in
+    let long : byte_len w ≤ length bytes = ltb-false _ _ g.0 in
+    let n-is : from_be_bytes w (take (byte_len w) bytes) ≡ n = ap (λ (p : ℕ × List ℕ). p.0) g.1 in
+    let rest-is : drop (byte_len w) bytes ≡ rest = ap (λ (p : ℕ × List ℕ). p.1) g.1 in
+    let front : to_be_bytes w n ≡ take (byte_len w) bytes = rw (← n-is) (wide.back (take (byte_len w) bytes) (omega (arith, length-take (byte_len w) bytes)) (IsBytes-take (byte_len w) bytes fits)) in
+    (record { parts = rw (front, ← rest-is) (sym (take-append-drop (byte_len w) bytes)); rest_fits = rw (← rest-is) (IsBytes-drop (byte_len w) bytes fits) }, rw (← n-is) (wide.below (take (byte_len w) bytes) (IsBytes-take (byte_len w) bytes fits)))
+
+number_again : (w : Width) (limit : ℕ) (wide : IsWide w limit) (n : ℕ) (rest : List ℕ) → n < limit → number_at w (to_be_bytes w n ++ rest) ≡ Some (n, rest)
+number_again w limit wide n rest lt =
+    let len = wide.len n in
+    let long : ltb (length (to_be_bytes w n ++ rest)) (byte_len w) ≡ false = le-ltb _ _ (omega (arith, length-append (to_be_bytes w n) rest)) in
+    rw (long, take_at (to_be_bytes w n) rest (byte_len w) len, drop_at (to_be_bytes w n) rest (byte_len w) len, wide.again n lt) refl
+
+-- ---- bytes
+
+bytes_take : (n : ℕ) (bytes text rest : List ℕ) → IsBytes bytes → bytes_at n bytes ≡ Some (text, rest) → Takes bytes text rest × (length text ≡ n)
+bytes_take n bytes text rest fits e =
+    let g = guard_some (ltb (length bytes) n) (take n bytes, drop n bytes) (text, rest) e in
+    let long : n ≤ length bytes = ltb-false _ _ g.0 in
+    let found : Takes bytes (take n bytes) (drop n bytes) = record { parts = sym (take-append-drop n bytes); rest_fits = IsBytes-drop n bytes fits } in
+    subst (λ (p : List ℕ × List ℕ). Takes bytes p.0 p.1 × (length p.0 ≡ n)) g.1 (found, omega (arith, length-take n bytes))
+
+bytes_again : (text rest : List ℕ) → bytes_at (length text) (text ++ rest) ≡ Some (text, rest)
+bytes_again text rest =
+    let long : ltb (length (text ++ rest)) (length text) ≡ false = le-ltb _ _ (omega (arith, length-append text rest)) in
+    rw (long, take_at text rest (length text) refl, drop_at text rest (length text) refl) refl
+
+-- ---- entries
+
+or_false : (a b : Bool) → (a || b) ≡ false → (a ≡ false) × (b ≡ false)
+or_false true b e = absurd cc
+or_false false b e = (refl, e)
+
+lengths_take : (bytes : List ℕ) (x : (ℕ × ℕ) × List ℕ) → IsBytes bytes → lengths_at bytes ≡ Some x → Takes bytes (to_be_bytes w16 x.0.0 ++ to_be_bytes w16 x.0.1) x.1 × (x.0.0 ≤ 256) × (x.0.0 + x.0.1 ≤ 268)
+unfolding lengths_at
+lengths_take bytes x fits e =
+    let a = bind_some (number_at w16 bytes) (λ key. number_at w16 key.1 >>= λ value. cond (ltb 256 key.0 || ltb 268 (key.0 + value.0)) None (Some ((key.0, value.0), value.1))) x e in
+    let b = bind_some (number_at w16 a.0.1) (λ value. cond (ltb 256 a.0.0 || ltb 268 (a.0.0 + value.0)) None (Some ((a.0.0, value.0), value.1))) x a.2 in
+    let g = guard_some (ltb 256 a.0.0 || ltb 268 (a.0.0 + b.0.0)) ((a.0.0, b.0.0), b.0.1) x b.2 in
+    let both = or_false (ltb 256 a.0.0) (ltb 268 (a.0.0 + b.0.0)) g.0 in
+    let t0 = number_takes w16 (2 ^ 16) wide16 bytes a.0.0 a.0.1 fits a.1 in
+    let t1 = number_takes w16 (2 ^ 16) wide16 a.0.1 b.0.0 b.0.1 t0.0.rest_fits b.1 in
+    subst (λ (y : (ℕ × ℕ) × List ℕ). Takes bytes (to_be_bytes w16 y.0.0 ++ to_be_bytes w16 y.0.1) y.1 × (y.0.0 ≤ 256) × (y.0.0 + y.0.1 ≤ 268)) g.1
+    (Takes-then bytes (to_be_bytes w16 a.0.0) a.0.1 (to_be_bytes w16 b.0.0) b.0.1 t0.0 t1.0, ltb-false _ _ both.0, ltb-false _ _ both.1)
+
+lengths_again : (k v : ℕ) (rest : List ℕ) → k ≤ 256 → k + v ≤ 268 → lengths_at (to_be_bytes w16 k ++ (to_be_bytes w16 v ++ rest)) ≡ Some ((k, v), rest)
+unfolding lengths_at
+lengths_again k v rest key both =
+    let first : ltb 256 k ≡ false = le-ltb _ _ key in
+    let second : ltb 268 (k + v) ≡ false = le-ltb _ _ both in
+    rw (number_again w16 (2 ^ 16) wide16 k (to_be_bytes w16 v ++ rest) (omega arith), number_again w16 (2 ^ 16) wide16 v rest (omega arith), first, second) refl
+
+entry_takes : (bytes : List ℕ) (x : Entry × List ℕ) → IsBytes bytes → entry_at bytes ≡ Some x → Takes bytes (entry_bytes x.0) x.1 × IsEntry x.0
+unfolding entry_at
+entry_takes bytes x fits e =
+    let a = bind_some (lengths_at bytes) (λ lengths. bytes_at lengths.0.0 lengths.1 >>= λ key. bytes_at lengths.0.1 key.1 >>= λ value. Some (record { key = key.0; value = value.0 }, value.1)) x e in
+    let b = bind_some (bytes_at a.0.0.0 a.0.1) (λ key. bytes_at a.0.0.1 key.1 >>= λ value. Some (record { key = key.0; value = value.0 }, value.1)) x a.2 in
+    let c = bind_some (bytes_at a.0.0.1 b.0.1) (λ value. Some (record { key = b.0.0; value = value.0 }, value.1)) x b.2 in
+    let t0 = lengths_take bytes a.0 fits a.1 in
+    let t1 = bytes_take a.0.0.0 a.0.1 b.0.0 b.0.1 t0.0.rest_fits b.1 in
+    let t2 = bytes_take a.0.0.1 b.0.1 c.0.0 c.0.1 t1.0.rest_fits c.1 in
+    let e12 = Takes-then a.0.1 b.0.0 b.0.1 c.0.0 c.0.1 t1.0 t2.0 in
+    let e02 : Takes bytes (to_be_bytes w16 a.0.0.0 ++ (to_be_bytes w16 a.0.0.1 ++ (b.0.0 ++ c.0.0))) c.0.1 = Takes-then bytes (to_be_bytes w16 a.0.0.0 ++ to_be_bytes w16 a.0.0.1) a.0.1 (b.0.0 ++ c.0.0) c.0.1 t0.0 e12 in
+    let made : Entry × List ℕ = (record { key = b.0.0; value = c.0.0 }, c.0.1) in
+    let text : Takes bytes (entry_bytes made.0) c.0.1 = subst (λ (n : ℕ). Takes bytes (to_be_bytes w16 n ++ (to_be_bytes w16 (length c.0.0) ++ (b.0.0 ++ c.0.0))) c.0.1) (sym t1.1) (subst (λ (n : ℕ). Takes bytes (to_be_bytes w16 a.0.0.0 ++ (to_be_bytes w16 n ++ (b.0.0 ++ c.0.0))) c.0.1) (sym t2.1) e02) in
+    subst (λ (y : Entry × List ℕ). Takes bytes (entry_bytes y.0) y.1 × IsEntry y.0) (some_is made x c.2) (text, record { key = omega (arith, t1.1, t0.1); both = omega (arith, t1.1, t2.1, t0.2) })
+
+entry_again : (e : Entry) (rest : List ℕ) → IsEntry e → entry_at (entry_bytes e ++ rest) ≡ Some (e, rest)
+unfolding entry_at
+entry_again e rest fits =
+    let regrouped : entry_bytes e ++ rest ≡ to_be_bytes w16 (length e.key) ++ (to_be_bytes w16 (length e.value) ++ (e.key ++ (e.value ++ rest))) =
+    ap (λ (t : List ℕ). to_be_bytes w16 (length e.key) ++ (to_be_bytes w16 (length e.value) ++ t)) (append_assoc e.key e.value rest) in
+    ap entry_at regrouped ∙ rw (lengths_again (length e.key) (length e.value) (e.key ++ (e.value ++ rest)) fits.key fits.both, bytes_again e.key (e.value ++ rest), bytes_again e.value rest) refl
+
+entries_take : (n : ℕ) (bytes : List ℕ) (x : List Entry × List ℕ) → IsBytes bytes → entries_at n bytes ≡ Some x → Takes bytes (flat_map entry_bytes x.0) x.1 × (length x.0 ≡ n) × All IsEntry x.0
+unfolding entries_at
+entries_take zero bytes x fits e =
+    subst (λ (y : List Entry × List ℕ). Takes bytes (flat_map entry_bytes y.0) y.1 × (length y.0 ≡ 0) × All IsEntry y.0) (some_is ([], bytes) x e) (record { parts = refl; rest_fits = fits }, refl, All-nil IsEntry)
+entries_take (suc n) bytes x fits e =
+    let a = bind_some (entry_at bytes) (λ first. entries_at n first.1 >>= λ others. Some (first.0 ∷ others.0, others.1)) x e in
+    let b = bind_some (entries_at n a.0.1) (λ others. Some (a.0.0 ∷ others.0, others.1)) x a.2 in
+    let first = entry_takes bytes a.0 fits a.1 in
+    let second = entries_take n a.0.1 b.0 first.0.rest_fits b.1 in
+    let both = Takes-then bytes (entry_bytes a.0.0) a.0.1 (flat_map entry_bytes b.0.0) b.0.1 first.0 second.0 in
+    let made : List Entry × List ℕ = (a.0.0 ∷ b.0.0, b.0.1) in
+    let whole : Takes bytes (flat_map entry_bytes made.0) b.0.1 = subst (λ (t : List ℕ). Takes bytes t b.0.1) (sym (flat_map-cons entry_bytes a.0.0 b.0.0)) both in
+    subst (λ (y : List Entry × List ℕ). Takes bytes (flat_map entry_bytes y.0) y.1 × (length y.0 ≡ suc n) × All IsEntry y.0) (some_is made x b.2) (whole, ap suc second.1, All-cons IsEntry a.0.0 b.0.0 first.1 second.2)
+
+entries_again : (es : List Entry) (rest : List ℕ) → All IsEntry es → entries_at (length es) (flat_map entry_bytes es ++ rest) ≡ Some (es, rest)
+unfolding entries_at
+entries_again [] rest fits = refl
+entries_again (e ∷ es) rest fits =
+    let regrouped : flat_map entry_bytes (e ∷ es) ++ rest ≡ entry_bytes e ++ (flat_map entry_bytes es ++ rest) = ap (λ (x : List ℕ). x ++ rest) (flat_map-cons entry_bytes e es) ∙ append_assoc (entry_bytes e) (flat_map entry_bytes es) rest in
+    ap (entries_at (suc (length es))) regrouped ∙ rw (entry_again e (flat_map entry_bytes es ++ rest) (All-head IsEntry e es fits), entries_again es rest (All-tail IsEntry e es fits)) refl
+
+-- ---- the high key
+
+abbrev pub ShortHigh : Option (List ℕ) → Type 0
+ShortHigh o = IfSome o (λ high. length high ≤ 256)
+
+-- which of two ways a test went
+chosen : {A : Type 0} (b : Bool) (x y z : A) → cond b x y ≡ z → ((b ≡ true) × (x ≡ z)) ⊎ ((b ≡ false) × (y ≡ z))
+chosen true x y z e = inl (refl, e)
+chosen false x y z e = inr (refl, e)
+
+no_some : {A : Type 0} (x : A) → ◌≡◌ {A = Option A} None (Some x) → ⊥
+no_some x e = absurd cc
+
+high_read : (n : ℕ) (bytes : List ℕ) (x : Option (List ℕ) × List ℕ) → IsBytes bytes → n ≤ 256 → (bytes_at n bytes >>= λ high. Some (Some high.0, high.1)) ≡ Some x → Takes bytes (high_bytes x.0) x.1 × (high_len x.0 ≡ n) × ShortHigh x.0
+high_read n bytes x fits short e =
+    let a = bind_some (bytes_at n bytes) (λ high. Some (Some high.0, high.1)) x e in
+    let t = bytes_take n bytes a.0.0 a.0.1 fits a.1 in
+    subst (λ (y : Option (List ℕ) × List ℕ). Takes bytes (high_bytes y.0) y.1 × (high_len y.0 ≡ n) × ShortHigh y.0) (some_is (Some a.0.0, a.0.1) x a.2) (t.0, t.1, omega (arith, t.1))
+
+high_of_there : (n : ℕ) (bytes : List ℕ) (x : Option (List ℕ) × List ℕ) → IsBytes bytes → cond (ltb 256 n) None (bytes_at n bytes >>= λ high. Some (Some high.0, high.1)) ≡ Some x → Takes bytes (high_bytes x.0) x.1 × (high_len x.0 ≡ n) × ShortHigh x.0
+high_of_there n bytes x fits e =
+    elim (chosen (ltb 256 n) None (bytes_at n bytes >>= λ high. Some (Some high.0, high.1)) (Some x) e) [
+      | inl h ↦ absurd (no_some x h.1)
+      | inr h ↦ high_read n bytes x fits (ltb-false _ _ h.0) h.1
+    ]
+
+high_of_takes : (n : ℕ) (bytes : List ℕ) (x : Option (List ℕ) × List ℕ) → IsBytes bytes → high_of n bytes ≡ Some x → Takes bytes (high_bytes x.0) x.1 × (high_len x.0 ≡ n) × ShortHigh x.0
+unfolding high_of
+high_of_takes n bytes x fits e =
+    elim (chosen (eqb n 65535) (Some (None, bytes)) (cond (ltb 256 n) None (bytes_at n bytes >>= λ high. Some (Some high.0, high.1))) (Some x) e) [
+      | inl h ↦ subst (λ (y : Option (List ℕ) × List ℕ). Takes bytes (high_bytes y.0) y.1 × (high_len y.0 ≡ n) × ShortHigh y.0) (some_is (None, bytes) x h.1) (record { parts = refl; rest_fits = fits }, sym (eqb-true n 65535 h.0), tt)
+      | inr h ↦ high_of_there n bytes x fits h.1
+    ]
+
+high_of_again : (o : Option (List ℕ)) (rest : List ℕ) → ShortHigh o → high_of (high_len o) (high_bytes o ++ rest) ≡ Some (o, rest)
+unfolding high_of
+high_of_again None rest short = refl
+high_of_again (Some high) rest short =
+    let other : eqb (length high) 65535 ≡ false = ne_eqb (length high) 65535 (omega arith) in
+    let fits : ltb 256 (length high) ≡ false = le-ltb _ _ short in
+    rw (other, fits, bytes_again high rest) refl
+
+high_joined : (bytes b1 b2 : List ℕ) (n z : ℕ) (x : Option (List ℕ) × List ℕ) → Takes bytes (to_be_bytes w16 n) b1 → Takes b1 (to_be_bytes w16 z) b2 → z ≡ 0 → Takes b2 (high_bytes x.0) x.1 × (high_len x.0 ≡ n) × ShortHigh x.0
+    → Takes bytes (to_be_bytes w16 (high_len x.0) ++ (0 ∷ 0 ∷ high_bytes x.0)) x.1 × ShortHigh x.0
+high_joined bytes b1 b2 n z x t0 t1 none t2 =
+    let first : Takes bytes (to_be_bytes w16 (high_len x.0)) b1 = subst (λ (k : ℕ). Takes bytes (to_be_bytes w16 k) b1) (sym t2.1) t0 in
+    let second : Takes b1 (0 ∷ 0 ∷ []) b2 = subst (λ (k : ℕ). Takes b1 (to_be_bytes w16 k) b2) none t1 in
+    (Takes-then bytes (to_be_bytes w16 (high_len x.0)) b1 (0 ∷ 0 ∷ high_bytes x.0) x.1 first (Takes-then b1 (0 ∷ 0 ∷ []) b2 (high_bytes x.0) x.1 second t2.0), t2.2)
+
+high_len_fits : (o : Option (List ℕ)) → ShortHigh o → high_len o < 2 ^ 16
+high_len_fits None short = omega arith
+high_len_fits (Some high) short = omega (arith, short)
+
+high_takes : (bytes : List ℕ) (x : Option (List ℕ) × List ℕ) → IsBytes bytes → high_at bytes ≡ Some x → Takes bytes (to_be_bytes w16 (high_len x.0) ++ (0 ∷ 0 ∷ high_bytes x.0)) x.1 × ShortHigh x.0
+unfolding high_at
+high_takes bytes x fits e =
+    let a = bind_some (number_at w16 bytes) (λ n. number_at w16 n.1 >>= λ zeros. cond (eqb zeros.0 0) (high_of n.0 zeros.1) None) x e in
+    let b = bind_some (number_at w16 a.0.1) (λ zeros. cond (eqb zeros.0 0) (high_of a.0.0 zeros.1) None) x a.2 in
+    let t0 = number_takes w16 (2 ^ 16) wide16 bytes a.0.0 a.0.1 fits a.1 in
+    let t1 = number_takes w16 (2 ^ 16) wide16 a.0.1 b.0.0 b.0.1 t0.0.rest_fits b.1 in
+    elim (chosen (eqb b.0.0 0) (high_of a.0.0 b.0.1) None (Some x) b.2) [
+      | inl h ↦ high_joined bytes a.0.1 b.0.1 a.0.0 b.0.0 x t0.0 t1.0 (eqb-true _ _ h.0) (high_of_takes a.0.0 b.0.1 x t1.0.rest_fits h.1)
+      | inr h ↦ absurd (no_some x h.1)
+    ]
+
+high_again : (o : Option (List ℕ)) (rest : List ℕ) → ShortHigh o → high_at (to_be_bytes w16 (high_len o) ++ (0 ∷ 0 ∷ (high_bytes o ++ rest))) ≡ Some (o, rest)
+unfolding high_at
+high_again o rest short =
+    rw (number_again w16 (2 ^ 16) wide16 (high_len o) (0 ∷ 0 ∷ (high_bytes o ++ rest)) (high_len_fits o short), number_again w16 (2 ^ 16) wide16 0 (high_bytes o ++ rest) (omega arith)) (high_of_again o rest short)
+
+-- ---- all of the parts
+
+-- the limits of each part
+pub record AreParts (p : Contents) : Type 0 where
+  pub level : p.level < 2 ^ 16
+  pub right : p.right < 2 ^ 64
+  pub count : length p.entries < 2 ^ 16
+  pub high : ShortHigh p.high
+  pub entries : All IsEntry p.entries
+
+-- the parts one behind the other
+joined : (p : Contents) (b0 b1 b2 b3 b4 rest : List ℕ) (count : ℕ) → Takes b0 (to_be_bytes w16 p.level) b1 → Takes b1 (to_be_bytes w16 count) b2 → Takes b2 (to_be_bytes w64 p.right) b3
+    → Takes b3 (to_be_bytes w16 (high_len p.high) ++ (0 ∷ 0 ∷ high_bytes p.high)) b4 → Takes b4 (flat_map entry_bytes p.entries) rest → length p.entries ≡ count → b0 ≡ front p ++ rest
+joined p b0 b1 b2 b3 b4 rest count t0 t1 t2 t3 t4 is =
+    let two : Takes b1 (to_be_bytes w16 (length p.entries)) b2 = subst (λ (n : ℕ). Takes b1 (to_be_bytes w16 n) b2) (sym is) t1 in
+    let all : Takes b0 (front p) rest = Takes-then b0 (to_be_bytes w16 p.level) b1 _ rest t0 (Takes-then b1 (to_be_bytes w16 (length p.entries)) b2 _ rest two (Takes-then b2 (to_be_bytes w64 p.right) b3 _ rest t2 (Takes-then b3 (to_be_bytes w16 (high_len p.high) ++ (0 ∷ 0 ∷ high_bytes p.high)) b4 (flat_map entry_bytes p.entries) rest t3 t4))) in
+    all.parts
+
+abbrev Found : List ℕ → Contents × List ℕ → Type 0
+Found bytes x = (bytes ≡ front x.0 ++ x.1) × AreParts x.0
+
+pub contents_take : (bytes : List ℕ) (x : Contents × List ℕ) → IsBytes bytes → contents_at bytes ≡ Some x → (bytes ≡ front x.0 ++ x.1) × AreParts x.0
+unfolding contents_at
+contents_take bytes x fits e =
+    let a = bind_some (number_at w16 bytes) (λ level. number_at w16 level.1 >>= λ count. number_at w64 count.1 >>= λ right. high_at right.1 >>= λ high. entries_at count.0 high.1 >>= λ entries. Some (record { level = level.0; right = right.0; high = high.0; entries = entries.0 }, entries.1)) x e in
+    let b = bind_some (number_at w16 a.0.1) (λ count. number_at w64 count.1 >>= λ right. high_at right.1 >>= λ high. entries_at count.0 high.1 >>= λ entries. Some (record { level = a.0.0; right = right.0; high = high.0; entries = entries.0 }, entries.1)) x a.2 in
+    let c = bind_some (number_at w64 b.0.1) (λ right. high_at right.1 >>= λ high. entries_at b.0.0 high.1 >>= λ entries. Some (record { level = a.0.0; right = right.0; high = high.0; entries = entries.0 }, entries.1)) x b.2 in
+    let d = bind_some (high_at c.0.1) (λ high. entries_at b.0.0 high.1 >>= λ entries. Some (record { level = a.0.0; right = c.0.0; high = high.0; entries = entries.0 }, entries.1)) x c.2 in
+    let f = bind_some (entries_at b.0.0 d.0.1) (λ entries. Some (record { level = a.0.0; right = c.0.0; high = d.0.0; entries = entries.0 }, entries.1)) x d.2 in
+    let t0 = number_takes w16 (2 ^ 16) wide16 bytes a.0.0 a.0.1 fits a.1 in
+    let t1 = number_takes w16 (2 ^ 16) wide16 a.0.1 b.0.0 b.0.1 t0.0.rest_fits b.1 in
+    let t2 = number_takes w64 (2 ^ 64) wide64 b.0.1 c.0.0 c.0.1 t1.0.rest_fits c.1 in
+    let t3 = high_takes c.0.1 d.0 t2.0.rest_fits d.1 in
+    let t4 = entries_take b.0.0 d.0.1 f.0 t3.0.rest_fits f.1 in
+    let made : Contents × List ℕ = (record { level = a.0.0; right = c.0.0; high = d.0.0; entries = f.0.0 }, f.0.1) in
+    subst (Found bytes) (some_is made x f.2)
+    (joined made.0 bytes a.0.1 b.0.1 c.0.1 d.0.1 f.0.1 b.0.0 t0.0 t1.0 t2.0 t3.0 t4.0 t4.1, record { level = t0.1; right = t2.1; count = omega (arith, t4.1, t1.1); high = t3.1; entries = t4.2 })
+
+-- the parts are read again, whatever is behind them
+pub contents_again : (p : Contents) (rest : List ℕ) → AreParts p → contents_at (front p ++ rest) ≡ Some (p, rest)
+unfolding contents_at
+contents_again p rest fits =
+    let entries = flat_map entry_bytes p.entries ++ rest in
+    let high = to_be_bytes w16 (high_len p.high) ++ (0 ∷ 0 ∷ (high_bytes p.high ++ entries)) in
+    let regrouped : front p ++ rest ≡ to_be_bytes w16 p.level ++ (to_be_bytes w16 (length p.entries) ++ (to_be_bytes w64 p.right ++ high)) =
+    ap (λ (t : List ℕ). numbers p ++ t) (append_assoc (high_bytes p.high) (flat_map entry_bytes p.entries) rest) in
+    ap contents_at regrouped
+    ∙ rw (
+      number_again w16 (2 ^ 16) wide16 p.level (to_be_bytes w16 (length p.entries) ++ (to_be_bytes w64 p.right ++ high)) fits.level,
+      number_again w16 (2 ^ 16) wide16 (length p.entries) (to_be_bytes w64 p.right ++ high) fits.count,
+      number_again w64 (2 ^ 64) wide64 p.right high fits.right,
+      high_again p.high entries fits.high,
+      entries_again p.entries rest fits.entries,
+    ) refl

@@ -1,0 +1,10 @@
+pub mod Order
+pub mod Cuts
+pub mod Placed
+pub mod Edits
+pub mod Written
+pub mod ReadLoop
+pub mod Fields
+pub mod Rising
+pub mod Whole
+pub mod Room

@@ -1,0 +1,7 @@
+pub mod Keys
+pub mod Contents
+pub mod Places
+pub mod View
+pub mod Spelling
+pub mod Parts
+pub mod Reading

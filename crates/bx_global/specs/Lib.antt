@@ -1,0 +1,6 @@
+pub mod Allowed
+pub mod Modes
+pub mod Opening
+pub mod Rows
+pub mod Table
+pub mod Words

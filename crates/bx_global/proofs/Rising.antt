@@ -49,8 +49,8 @@ row_in-without m (r ∷ rows) n =
         | inr k ↦ rw (h.0, k.0) (row_in-without m rows n)
       ]
       | inr h ↦ elim (eqb_tells r.number n) [
-        | inl k ↦ inr (rw (h.0, k.0) (rw k.0 refl))
-        | inr k ↦ rw h.0 (rw k.0 (row_in-without m rows n))
+        | inl k ↦ inr (rw (h.0, k.0) refl)
+        | inr k ↦ rw (h.0, k.0) (row_in-without m rows n)
       ]
     ]
   where

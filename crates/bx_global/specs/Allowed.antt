@@ -1,6 +1,8 @@
 -- The conditions on a state.
 use Rattle.std.specs.Prelude.{◌≡◌, ◌≢◌, ℕ, ◌^◌, ◌<◌, ◌≤◌, List, [], ◌∷◌, length}
 use Rattle.std.specs.List.{AllByRecursion}
+use Rattle.bx_global.specs.declared.change.Change.{Change}
+use Rattle.bx_global.specs.declared.change.Change.TheVariants.{Renew, Take, Open, Expire, Claim, Close, Shift}
 use Rattle.bx_global.specs.declared.device.DeviceRow.{DeviceRow}
 use Rattle.bx_global.specs.declared.session.SessionRow.{SessionRow}
 use Rattle.bx_global.specs.declared.state.GlobalState.{GlobalState}
@@ -51,3 +53,13 @@ pub record IsAllowed (s : GlobalState) : Type 0 where
   pub least_devices : 1 ≤ length s.devices
   pub most_devices : length s.devices ≤ 4
   pub each_device : AllByRecursion IsDevice s.devices
+
+-- the numbers of a change have 64 bits, where they become a state's
+abbrev pub IsChange : Change → Type 0
+IsChange (Renew by boot reading) = Fits boot × Fits reading
+IsChange (Take by boot reading) = Fits boot × Fits reading
+IsChange (Open node boot reading) = Fits boot × Fits reading
+IsChange (Expire session term reading) = Fits session × Fits term × Fits reading
+IsChange (Claim gone by) = Fits gone × Fits by
+IsChange (Close gone by) = Fits gone × Fits by
+IsChange (Shift device epoch mode second boot) = Fits epoch × Fits boot

@@ -1,11 +1,10 @@
 -- A legal change keeps the conditions on a state.
-use Rattle.std.proofs.Common.{◌≡◌, ◌≢◌, ℕ, zero, suc, ◌+◌, ◌-◌, ◌^◌, ◌<◌, ◌≤◌, Bool, true, false, not, eqb, cond, List, [], ◌∷◌, ◌++◌, length, map, filter, Option, Some, None, refl, sym, ap, ◌∙◌, inl, inr, arith, eqb-true, eq-eqb, ne_eqb, max, min}
-use Rattle.std.specs.Prelude.{◌⊎◌, slice_get, IsSomeAnd, find, unwrap_or}
-use Rattle.std.specs.List.{AllByRecursion, list_any}
+use Rattle.std.proofs.Common.{◌≡◌, ◌≢◌, ℕ, zero, suc, ◌+◌, ◌<◌, ◌≤◌, Bool, true, false, not, eqb, List, [], ◌∷◌, ◌++◌, length, map, filter, refl, sym, ap, ◌∙◌, inl, inr, arith, ne_eqb}
+use Rattle.std.specs.Prelude.{find, unwrap_or}
+use Rattle.std.specs.List.{AllByRecursion}
 use Rattle.std.proofs.lemmas.Bool.Decides.{eqb_tells}
 use Rattle.bx_global.specs.declared.session.SessionRow.{SessionRow}
-use Rattle.bx_global.specs.Allowed.{AreRising, HaveOwnSlots, IsSession}
-use Rattle.bx_global.specs.Table.{without}
+use Rattle.bx_global.specs.Allowed.{AreRising, HaveOwnSlots}
 use Rattle.bx_global.specs.Words.{is_taken, least_free, slots}
 
 -- ---- what holds of each item
@@ -95,7 +94,6 @@ find_free rows (slot ∷ some) lt =
 
 pub free_slot_is_free : (rows : List SessionRow) → least_free rows < 8 → is_taken rows (least_free rows) ≡ false
 free_slot_is_free rows lt = find_free rows slots lt
-
 
 -- ---- as many rows as slots
 

@@ -1,5 +1,5 @@
 -- One step of a loop over a list.
-use Rattle.std.proofs.Common.{◌≡◌, ℕ, zero, suc, ◌+◌, ◌<◌, ◌≤◌, Bool, true, false, cond, List, [], ◌∷◌, ◌++◌, length, take, drop, map, Option, Some, None, refl, sym, ap, ◌∙◌, arith, add-one, append-nil}
+use Rattle.std.proofs.Common.{◌≡◌, ℕ, zero, suc, ◌+◌, ◌<◌, ◌≤◌, Bool, true, false, cond, List, [], ◌∷◌, ◌++◌, length, take, drop, map, Some, None, refl, ap, ◌∙◌, arith, add-one, append-nil}
 use Rattle.std.specs.List.{list_any}
 use Rattle.std.proofs.lemmas.List.{take_all}
 use Rattle.bx_global.specs.declared.device.DeviceRow.{DeviceRow}

@@ -1,5 +1,5 @@
 -- What each change keeps of a session's row and of a device's epoch.
-use Rattle.std.proofs.Common.{◌≡◌, ℕ, suc, ◌+◌, ◌<◌, ◌≤◌, Bool, true, false, not, eqb, List, [], ◌∷◌, ◌++◌, map, filter, Option, Some, None, refl, sym, ap, ◌∙◌, inl, inr, arith, eqb-true, eq-eqb, ne_eqb}
+use Rattle.std.proofs.Common.{◌≡◌, ℕ, ◌+◌, ◌<◌, ◌≤◌, Bool, true, false, eqb, List, [], ◌∷◌, ◌++◌, map, Some, None, refl, sym, ap, ◌∙◌, inl, inr, arith, ne_eqb}
 use Rattle.std.specs.Prelude.{◌⊎◌, slice_get, IfSome, IsSomeAnd}
 use Rattle.std.specs.Option.{option_map}
 use Rattle.std.proofs.lemmas.Bool.Decides.{eqb_tells}
@@ -9,7 +9,7 @@ use Rattle.bx_global.specs.declared.device.DeviceRow.{DeviceRow}
 use Rattle.bx_global.specs.declared.session.SessionRow.{SessionRow}
 use Rattle.bx_global.specs.declared.state.GlobalState.{GlobalState}
 use Rattle.bx_global.specs.Rows.{dead, expired, claimed}
-use Rattle.bx_global.specs.Table.{at_place, effect, opened, shifted, without}
+use Rattle.bx_global.specs.Table.{effect, opened, shifted, without}
 use Rattle.bx_global.specs.Words.{row_in}
 use Rattle.bx_global.proofs.Loops.{at_place_at, at_place_other}
 
@@ -84,14 +84,14 @@ later_claimed session by row =
       | false ↦ λ t. rw t (same_row row)
     ]) refl
 
-keeps_expired : (session : ℕ) (row : SessionRow) → (expired session row).number ≡ row.number
+pub keeps_expired : (session : ℕ) (row : SessionRow) → (expired session row).number ≡ row.number
 keeps_expired session row =
     (elim (eqb row.number session) as (λ (b : Bool). eqb row.number session ≡ b → (expired session row).number ≡ row.number) [
       | true ↦ λ t. rw t refl
       | false ↦ λ t. rw t refl
     ]) refl
 
-keeps_claimed : (session by : ℕ) (row : SessionRow) → (claimed session by row).number ≡ row.number
+pub keeps_claimed : (session by : ℕ) (row : SessionRow) → (claimed session by row).number ≡ row.number
 keeps_claimed session by row =
     (elim (eqb row.number session) as (λ (b : Bool). eqb row.number session ≡ b → (claimed session by row).number ≡ row.number) [
       | true ↦ λ t. rw t refl

@@ -1,7 +1,8 @@
 //! What holds of each change.
 
 ghost use Rattle.std.specs.Prelude.{◌≡◌, ℕ, ◌+◌, ◌<◌, ◌≤◌, Some, None, IfSome, IsSomeAnd, slice_get};
-ghost use Rattle.bx_global.specs.Table.{effect};
+ghost use Rattle.bx_global.specs.Allowed.{IsAllowed, IsChange};
+ghost use Rattle.bx_global.specs.Table.{IsLegal, effect};
 ghost use Rattle.bx_global.specs.Words.{row_in};
 ghost use Rattle.bx_global.specs.declared.change.Change.{Change};
 ghost use Rattle.bx_global.specs.declared.device.DeviceRow.{DeviceRow};
@@ -20,4 +21,9 @@ pub fn numbers_rise()
 pub fn sessions_end()
     ensures dead { (s : GlobalState) (change : Change) (number : ℕ) (row : SessionRow) → row_in s.sessions number ≡ Some row → IfSome (row_in (effect s change).sessions number) (λ new. (row.dead ≡ 1 → new.dead ≡ 1) × (new.until ≤ row.until)) }
     ensures gone { (s : GlobalState) (change : Change) (number : ℕ) → number < s.next_session → row_in s.sessions number ≡ None → row_in (effect s change).sessions number ≡ None }
+{}
+
+/// A legal change of a state that meets the conditions makes one that meets them.
+pub fn stays_allowed()
+    ensures { (s : GlobalState) (change : Change) → IsAllowed s → IsChange change → IsLegal s change → IsAllowed (effect s change) }
 {}

@@ -1,11 +1,11 @@
-use Rattle.std.proofs.Common.{◌≡◌, ℕ, ◌+◌, ◌-◌, ◌^◌, ◌<◌, ◌≤◌, Bool, List, Option, Some, refl, sym, ap, ◌∙◌, arith, rules}
-use Rattle.std.specs.Prelude.{slice_get, IsSomeAnd}
+use Rattle.std.proofs.Common.{◌≡◌, ℕ, ◌+◌, ◌≤◌, Bool, List, Some, refl, sym, arith, rules}
+use Rattle.std.specs.Prelude.{slice_get}
 use Rattle.bx_global.specs.declared.change.Change.TheVariants.{Shift}
 use Rattle.bx_global.specs.declared.device.DeviceRow.{DeviceRow}
 use Rattle.bx_global.specs.declared.session.SessionRow.{SessionRow}
 use Rattle.bx_global.specs.declared.state.GlobalState.{GlobalState}
 use Rattle.bx_global.specs.Modes.{IsReachable}
-use Rattle.bx_global.specs.Table.{IsLegal, MeetsRow, at_place, effect, greatest, shifted}
+use Rattle.bx_global.specs.Table.{IsLegal, at_place, effect, greatest, shifted}
 use Rattle.bx_global.proofs.Loops.{at_place_const}
 use Rattle.bx_global.proofs.changes.shift.Goals as goal
 

@@ -1,4 +1,4 @@
-use Rattle.std.proofs.Common.{◌≡◌, not, false, refl, sym, ap, ◌∙◌, unwrap_or, arith}
+use Rattle.std.proofs.Common.{◌≡◌, not, false, refl, ap, ◌∙◌, unwrap_or, arith}
 use Rattle.bx_global.specs.Words.{is_taken, slots}
 use Rattle.bx_global.proofs.Loops.{find_past, slot_here}
 use Rattle.bx_global.proofs.rows.free_slot.Goals as goal

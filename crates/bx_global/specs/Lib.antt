@@ -1,4 +1,5 @@
 pub mod Allowed
+pub mod Ballots
 pub mod Modes
 pub mod Opening
 pub mod Rows

@@ -1,0 +1,4 @@
+pub mod Kept
+pub mod Loops
+pub mod Rising
+pub mod StaysAllowed

@@ -1,0 +1,40 @@
+-- The states to begin with.
+use Rattle.std.specs.Prelude.{ℕ, zero, suc, ◌+◌, List, [], ◌∷◌, ◌++◌, replicate}
+use Rattle.bx_global.specs.declared.device.DeviceRow.{DeviceRow}
+use Rattle.bx_global.specs.declared.session.SessionRow.{SessionRow}
+use Rattle.bx_global.specs.declared.state.GlobalState.{GlobalState}
+use Rattle.bx_global.specs.Modes.{both}
+
+-- the session that a node begins with: its slot has the node's number
+abbrev pub node_row : ℕ → SessionRow
+node_row node = record { number = node + 1; node = node; boot = 0; slot = node; until = 4000; dead = 0; by = 0 }
+
+-- the sessions of the first nodes
+abbrev pub node_rows : ℕ → List SessionRow
+node_rows zero = []
+node_rows (suc n) = node_rows n ++ node_row n ∷ []
+
+-- a device of which no mode was ever set
+abbrev pub first_device : DeviceRow
+first_device = record { mode = both; epoch = 1; boot_a = 0; boot_b = 0 }
+
+-- the state where no session was opened
+abbrev pub formatted_state : ℕ → GlobalState
+formatted_state devices = record {
+  index = 1;
+  master = 0;
+  master_boot = 0;
+  term = 1;
+  term_end = 0;
+  next_session = 1;
+  sessions = [];
+  devices = replicate devices first_device;
+}
+
+-- the same in its first term, with a session for each node
+abbrev pub opening_state : ℕ → ℕ → GlobalState
+opening_state nodes devices = record (formatted_state devices) {
+  term_end = 8000;
+  next_session = nodes + 1;
+  sessions = node_rows nodes;
+}

@@ -1,0 +1,4 @@
+pub mod Disks
+pub mod Moments
+pub mod Counts
+pub mod Crash

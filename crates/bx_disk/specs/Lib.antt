@@ -2,3 +2,6 @@ pub mod Disks
 pub mod Moments
 pub mod Counts
 pub mod Crash
+pub mod Cells
+pub mod Past
+pub mod Memory

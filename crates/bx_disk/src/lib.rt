@@ -1,12 +1,19 @@
 //! Racks of disks, which may crash at any moment.
 #![tactic(auto)]
 
+mod cell;
+mod cells;
 mod crash_rack;
+mod entry;
 mod fault;
+mod mem_disk;
 mod noise;
 mod rack;
+mod sector;
+mod steps;
 
 pub use crash_rack::CrashRack;
+pub use entry::{Entry, Sizes};
 pub use fault::{DiskFault, RackError};
 pub use noise::Noise;
 pub use rack::Rack;

@@ -1,0 +1,4 @@
+pub mod Among
+pub mod Sectors
+pub mod Keeping
+pub mod Owed

@@ -1,11 +1,12 @@
 -- Disks in memory are those that the record tells: one step more.
 use Rattle.std.proofs.Common.{◌≡◌, ◌∙◌, ℕ, zero, suc, ◌+◌, ◌-◌, ◌*◌, ◌/◌, ◌%◌, ◌<◌, ◌≤◌, Bool, true, false, List, [], ◌∷◌, length, set, get_or, arith, sym, ap, refl, subst, ⊎_elim, ◌⊎◌, inl, inr}
 use Rattle.std.specs.Prelude.{◌==◌, nat_lt, ◌&&◌, ◌||◌, not, if◌then◌else◌, slice_get, slice_index, Some, None, Option, MatchBool}
+use Rattle.std.proofs.Math.Path.{fun_ext}
 use Rattle.std.proofs.lemmas.Bool.{lt-ltb}
 use Rattle.std.proofs.Math.ListN.{length-set}
 use Rattle.std.proofs.lemmas.Bool.Decides.{nat_tests}
 use Rattle.std.proofs.lemmas.Grind.{common_steps}
-use Rattle.bx_disk.specs.Disks.{Disks, synced, written, blanked, blank_image, zeros, sector_of, is_among, is_within}
+use Rattle.bx_disk.specs.Disks.{Image, Disks, synced, written, blanked, blank_image, zeros, sector_of, is_among, is_within}
 use Rattle.bx_disk.specs.Crash.{left_with}
 use Rattle.bx_disk.specs.Cells.{cell_at, blank_cell, written_cell, dropped_cell}
 use Rattle.bx_disk.specs.Memory.{IsKeptAs, AreKept}
@@ -19,7 +20,7 @@ tells_alike : (dirty : Bool) (f g : ℕ → Bool) → ((s : ℕ) → g s ≡ f s
 tells_alike true f g same some = (some.0, same some.0 ∙ some.1)
 tells_alike false f g same none = λ s. same s ∙ none s
 
-never : false ≡ true → ⊥
+pub never : false ≡ true → ⊥
 never e = cc
 
 get_set_here : (xs : List MemDisk) (i : ℕ) (v x : MemDisk) → slice_get (set xs i v) i ≡ Some x → v ≡ x
@@ -236,3 +237,46 @@ cleared_here disks d disk n size reads held sure before synced dirty = record {
   where
     none : (s : ℕ) → nat_lt disk.synced (cell_at disk.cells s).since ≡ false
     none s = let le = before s in grind (arith, nat_tests, le, synced)
+
+pub some_unsure : (disks : Disks) (d : ℕ) (disk : MemDisk) (n : ℕ) → IsKeptAs disks d disk n → disk.dirty ≡ true → (s : ℕ) × (disks.unsure d s ≡ true)
+some_unsure disks d disk n kept is = subst (λ (b : Bool). Tells b (disks.unsure d)) is kept.dirty
+
+pub none_unsure : (disks : Disks) (d : ℕ) (disk : MemDisk) (n : ℕ) → IsKeptAs disks d disk n → disk.dirty ≡ false → (s : ℕ) → disks.unsure d s ≡ false
+none_unsure disks d disk n kept is = subst (λ (b : Bool). Tells b (disks.unsure d)) is kept.dirty
+
+-- A sync of a disk without unsure sectors changes nothing.
+pub synced_same : (disks : Disks) (d : ℕ) (disk : MemDisk) (n : ℕ) → IsKeptAs disks d disk n → ((s : ℕ) → disks.unsure d s ≡ false) → synced disks d ≡ disks
+synced_same disks d disk n kept none =
+    let held : (synced disks d).held ≡ disks.held = fun_ext (λ e. fun_ext (λ s. held_at (e == d) e s refl)) in
+    let unsure : (synced disks d).unsure ≡ disks.unsure = fun_ext (λ e. fun_ext (λ s. unsure_at (e == d) e s refl)) in
+    ap (λ (h : Image). with_parts h (synced disks d).unsure) held ∙ ap (λ (u : ℕ → ℕ → Bool). with_parts disks.held u) unsure
+  where
+    with_parts : Image → (ℕ → ℕ → Bool) → Disks
+    with_parts held unsure = record { sizes = disks.sizes; reads = disks.reads; held = held; unsure = unsure }
+
+    held_at : (b : Bool) (e s : ℕ) → (e == d) ≡ b → (synced disks d).held e s ≡ disks.held e s
+    held_at true e s is = let same : e ≡ d = grind (arith, nat_tests, is) in rw (is, same) (sym (kept.settled s (none s)))
+    held_at false e s is = rw is refl
+
+    unsure_at : (b : Bool) (e s : ℕ) → (e == d) ≡ b → (synced disks d).unsure e s ≡ disks.unsure e s
+    unsure_at true e s is = let same : e ≡ d = grind (arith, nat_tests, is) in rw (is, same) (sym (none s))
+    unsure_at false e s is = rw is refl
+
+pub set_same : (memory : List MemDisk) (d : ℕ) (disk : MemDisk) → slice_get memory d ≡ Some disk → set memory d disk ≡ memory
+set_same [] d disk is = refl
+set_same (x ∷ memory) zero disk is = let same : x ≡ disk = cc in ap (λ (y : MemDisk). y ∷ memory) (sym same)
+set_same (x ∷ memory) (suc d) disk is = ap (λ (rest : List MemDisk). x ∷ rest) (set_same memory d disk is)
+
+pub kept_synced_same : (before : Disks) (memory : List MemDisk) (d : ℕ) (disk : MemDisk) (n : ℕ) → slice_get memory d ≡ Some disk → disk.dirty ≡ false
+    → AreKept before memory n → AreKept (synced before d) (set memory d disk) n
+kept_synced_same before memory d disk n got clean kept =
+    let here = kept.each d disk got in
+    rw (set_same memory d disk got)
+    (subst (λ (after : Disks). AreKept after memory n) (sym (synced_same before d disk n here (none_unsure before d disk n here clean))) kept)
+
+pub kept_synced : (before : Disks) (memory : List MemDisk) (d : ℕ) (old new : MemDisk) (n m : ℕ) → slice_get memory d ≡ Some old
+    → new ≡ record { size = old.size; cells = old.cells; synced = m; dirty = false } → m ≡ n + 1
+    → AreKept before memory n → AreKept (synced before d) (set memory d new) m
+kept_synced before memory d old new n m got is long kept =
+    rw (is, long) (kept_set before (synced before d) memory d (record { size = old.size; cells = old.cells; synced = n + 1; dirty = false }) n (n + 1) (omega arith) kept refl
+    (λ e apart. synced_elsewhere before d e apart) (synced_here before d old n (kept.each d old got)))

@@ -11,9 +11,11 @@ mod noise;
 mod rack;
 mod sector;
 mod steps;
+mod stop_rack;
 
 pub use crash_rack::CrashRack;
 pub use entry::{Entry, Sizes};
 pub use fault::{DiskFault, RackError};
 pub use noise::Noise;
 pub use rack::Rack;
+pub use stop_rack::StopRack;

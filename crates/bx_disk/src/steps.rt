@@ -1,6 +1,6 @@
 //! What calls do to disks in memory, and to the record.
 
-ghost use Rattle.std.specs.Prelude.{◌≡◌, ◌+◌, ◌/◌, ◌%◌, ◌^◌, ◌<◌, ◌≤◌, [], ◌∷◌, ◌++◌, length, slice_index, vec_capacity, OnOk, OnErr};
+ghost use Rattle.std.specs.Prelude.{◌≡◌, ◌+◌, ◌/◌, ◌%◌, ◌^◌, ◌<◌, ◌≤◌, [], ◌∷◌, ◌++◌, length, slice_index, vec_capacity, OnOk, OnErr, IsErr};
 ghost use Rattle.bx_disk.specs.declared.entry.Entry.TheVariants.{Wrote};
 ghost use Rattle.bx_disk.specs.Disks.{Disks, written, synced};
 ghost use Rattle.bx_disk.specs.Memory.{AreKept, NotesSync, owed};
@@ -25,7 +25,7 @@ pub fn write_sectors(
     ensures ok { OnOk result (entries.new.items ≡ entries.old.items ++ Wrote disk sector bytes.now ∷ []) }
     ensures err { OnErr result (entries.new.items ≡ entries.old.items) }
     ensures kept { (before : Disks) → AreKept before disks.old.items (length entries.old.items) → sector + length bytes.now / 512 ≤ slice_index before.sizes disk → OnOk result (AreKept (written before disk sector bytes.now) disks.new.items (length entries.old.items + 1)) }
-    ensures kept_err { (before : Disks) → AreKept before disks.old.items (length entries.old.items) → OnErr result (AreKept before disks.new.items (length entries.old.items)) }
+    ensures kept_err { (before : Disks) → AreKept before disks.old.items (length entries.old.items) → IsErr result → AreKept before disks.new.items (length entries.old.items) }
     ensures room { owed disks.old.items + length entries.old.items ≤ vec_capacity entries.old → owed disks.new.items + length entries.new.items ≤ vec_capacity entries.new }
     ensures many { length disks.new.items ≡ length disks.old.items }
 {

@@ -4,4 +4,5 @@ pub mod Counts
 pub mod Crash
 pub mod Cells
 pub mod Past
+pub mod Laws
 pub mod Memory

@@ -2,10 +2,9 @@
 use Rattle.std.specs.Prelude.{◌≡◌, ℕ, ◌+◌, ◌*◌, ◌/◌, ◌%◌, ◌≤◌, ◌==◌, Bool, true, false, ◌&&◌, nat_lt, nat_le, if◌then◌else◌, List, [], ◌∷◌, ◌++◌, length, take, slice_index, slice_set, replicate}
 use Rattle.std.specs.List.{list_all, list_any}
 use Rattle.bx_base.specs.Faults.{count_up}
-use Rattle.bx_disk.specs.Disks.{Image, Disks, IsImage, written, synced, shaped, blanked}
-use Rattle.bx_disk.specs.Crash.{crashed}
+use Rattle.bx_disk.specs.Disks.{Image, Disks, IsImage, written, synced, shaped}
 use Rattle.bx_disk.specs.declared.entry.Entry.{Entry}
-use Rattle.bx_disk.specs.declared.entry.Entry.TheVariants.{Wrote, Synced, Crashed, Blanked, Shaped}
+use Rattle.bx_disk.specs.declared.entry.Entry.TheVariants.{Wrote, Synced, Shaped}
 
 -- The sizes of the first disks, what was done since, the calls so far, the numbers of the calls that fail, and the
 -- faults so far, in all and of each disk.
@@ -28,8 +27,6 @@ abbrev pub after_entry : Disks → Entry → Disks
 after_entry disks (Wrote disk sector bytes) =
     if fits disks.sizes disk sector bytes then written disks disk sector bytes else disks
 after_entry disks (Synced disk) = synced disks disk
-after_entry disks (Crashed disk how) = crashed disks disk how
-after_entry disks (Blanked disk) = blanked disks disk
 after_entry disks (Shaped sizes) = shaped sizes
 
 -- the disks after these entries, the oldest first
@@ -100,16 +97,5 @@ failed past = record {
   calls = count_up past.calls;
   failing = past.failing;
   faults = count_up past.faults;
-  by_disk = past.by_disk;
-}
-
--- a crash or a blanking, which counts as no call
-abbrev pub happened : Past → Entry → Past
-happened past entry = record {
-  first = past.first;
-  entries = past.entries ++ entry ∷ [];
-  calls = past.calls;
-  failing = past.failing;
-  faults = past.faults;
   by_disk = past.by_disk;
 }

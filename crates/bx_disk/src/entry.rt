@@ -1,6 +1,5 @@
 //! The record of what was done to disks.
 
-use crate::noise::Noise;
 use bx_base::Raw;
 use std::marker::Model;
 
@@ -35,10 +34,6 @@ pub enum Entry {
     Wrote(u32, u64, Raw),
     /// A disk was synced.
     Synced(u32),
-    /// A disk crashed.
-    Crashed(u32, Noise),
-    /// A disk was made blank.
-    Blanked(u32),
     /// The disks were made anew.
     Shaped(Sizes),
 }

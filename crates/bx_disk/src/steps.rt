@@ -1,11 +1,12 @@
 //! What calls do to disks in memory, and to the record.
 
-ghost use Rattle.std.specs.Prelude.{◌≡◌, ◌+◌, ◌/◌, ◌%◌, ◌^◌, ◌<◌, ◌≤◌, [], ◌∷◌, ◌++◌, length, slice_index, vec_capacity, OnOk, OnErr, IsErr};
-ghost use Rattle.bx_disk.specs.declared.entry.Entry.TheVariants.{Wrote};
-ghost use Rattle.bx_disk.specs.Disks.{Disks, written, synced};
+ghost use Rattle.std.specs.Prelude.{◌≡◌, ◌+◌, ◌/◌, ◌%◌, ◌^◌, ◌<◌, ◌≤◌, [], ◌∷◌, ◌++◌, length, slice_index, vec_capacity, ℕ, slice_set, IfOk, OnOk, OnErr, IsErr};
+ghost use Rattle.bx_disk.specs.declared.entry.Entry.TheVariants.{Wrote, Shaped};
+ghost use Rattle.bx_base.specs.Faults.{count_up};
+ghost use Rattle.bx_disk.specs.Disks.{Disks, written, synced, shaped};
 ghost use Rattle.bx_disk.specs.Memory.{AreKept, NotesSync, owed};
 
-use crate::entry::Entry;
+use crate::entry::{Entry, Sizes};
 use crate::mem_disk::MemDisk;
 use bx_base::{OutOfMemory, Raw};
 use std::alloc::Global;
@@ -53,4 +54,53 @@ pub fn sync_sectors(disks: &mut Vec<MemDisk>, entries: &mut Vec<Entry>, disk: u3
         entries.push_reserved(Entry::Synced(disk));
         place.mark_synced(entries.len());
     }
+}
+
+/// Disks of these sizes, all of zeros, once the record is so long.
+pub fn make_disks(alloc: Global, sizes: &[u64], synced: usize) -> Result<Vec<MemDisk>, OutOfMemory>
+    ensures kept { IfOk result (λ disks. AreKept (shaped sizes.now) disks.items synced) }
+    ensures owed { IfOk result (λ disks. owed disks.items ≡ 0) }
+{
+    let mut disks = Vec::new(alloc);
+    for size in sizes {
+        disks.push(MemDisk::blank(alloc, *size, synced))?;
+    }
+    Ok(disks)
+}
+
+/// Counts a fault of a disk.
+pub fn count_fault(by_disk: &mut Vec<u64>, disk: u32)
+    requires { disk < length by_disk.old.items }
+    ensures { by_disk.new.items ≡ slice_set by_disk.old.items disk (count_up (slice_index by_disk.old.items disk)) }
+{
+    let at = disk as usize;
+    by_disk[at] = by_disk[at].saturating_add(1);
+}
+
+/// Makes the disks anew, and notes it. For want of memory all stays as it was, but that there may be more counts.
+pub fn shape_disks(
+    alloc: Global,
+    disks: &mut Vec<MemDisk>,
+    entries: &mut Vec<Entry>,
+    by_disk: &mut Vec<u64>,
+    sizes: &[u64],
+) -> Result<(), OutOfMemory>
+    ensures ok { OnOk result (entries.new.items ≡ entries.old.items ++ Shaped sizes.now ∷ []) }
+    ensures kept { OnOk result (AreKept (shaped sizes.now) disks.new.items (length entries.old.items + 1)) }
+    ensures owed { OnOk result (owed disks.new.items ≡ 0) }
+    ensures err { IsErr result → (entries.new.items ≡ entries.old.items) × (disks.new.items ≡ disks.old.items) }
+    ensures room { vec_capacity entries.old ≤ vec_capacity entries.new }
+    ensures counts { (d : ℕ) → slice_index by_disk.new.items d ≡ slice_index by_disk.old.items d }
+    ensures long { OnOk result (length sizes.now ≤ length by_disk.new.items) }
+    ensures longer { length by_disk.old.items ≤ length by_disk.new.items }
+{
+    let entry = Entry::Shaped(Sizes::from(Vec::from_slice(alloc, sizes)?));
+    entries.reserve(1)?;
+    let made = make_disks(alloc, sizes, entries.len() + 1)?;
+    while by_disk.len() < sizes.len() {
+        by_disk.push(0)?;
+    }
+    entries.push_reserved(entry);
+    *disks = made;
+    Ok(())
 }

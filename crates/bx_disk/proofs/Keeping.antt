@@ -1,5 +1,5 @@
 -- Disks in memory are those that the record tells: one step more.
-use Rattle.std.proofs.Common.{◌≡◌, ◌∙◌, ℕ, zero, suc, ◌+◌, ◌-◌, ◌*◌, ◌/◌, ◌%◌, ◌<◌, ◌≤◌, Bool, true, false, List, [], ◌∷◌, length, set, get_or, arith, sym, ap, refl, subst, ⊎_elim, ◌⊎◌, inl, inr}
+use Rattle.std.proofs.Common.{◌≡◌, ◌∙◌, ℕ, zero, suc, ◌+◌, ◌-◌, ◌*◌, ◌/◌, ◌%◌, ◌^◌, ◌<◌, ◌≤◌, Bool, true, false, List, [], ◌∷◌, length, set, get_or, arith, sym, ap, refl, subst, ⊎_elim, ◌⊎◌, inl, inr}
 use Rattle.std.specs.Prelude.{◌==◌, nat_lt, ◌&&◌, ◌||◌, not, if◌then◌else◌, slice_get, slice_index, Some, None, Option, MatchBool}
 use Rattle.std.proofs.Math.Path.{fun_ext}
 use Rattle.std.proofs.lemmas.Bool.{lt-ltb}
@@ -48,6 +48,7 @@ pub record Elsewhere (old new : Disks) (e : ℕ) : Type 0 where
 pub kept_elsewhere : (old new : Disks) (e : ℕ) (disk : MemDisk) (n m : ℕ) → n ≤ m → Elsewhere old new e → IsKeptAs old e disk n → IsKeptAs new e disk m
 kept_elsewhere old new e disk n m le same kept = record {
   size = ap (λ (l : List ℕ). slice_index l e) same.sizes ∙ kept.size;
+  small = kept.small;
   reads = λ s within. same.reads s ∙ kept.reads s within;
   held = λ s within unsure. same.held s ∙ kept.held s within (sym (same.unsure s) ∙ unsure);
   unsure = λ s. same.unsure s ∙ kept.unsure s;
@@ -97,6 +98,7 @@ pub synced_here : (disks : Disks) (d : ℕ) (disk : MemDisk) (n : ℕ) → IsKep
     → IsKeptAs (synced disks d) d (record { size = disk.size; cells = disk.cells; synced = n + 1; dirty = false }) (n + 1)
 synced_here disks d disk n kept = record {
   size = kept.size;
+  small = kept.small;
   reads = kept.reads;
   held = λ s within unsure. absurd_of s unsure;
   unsure = λ s. none s ∙ sym (not_later (cell_at disk.cells s).since n (kept.before s));
@@ -120,6 +122,7 @@ pub written_here : (disks : Disks) (d : ℕ) (old new : MemDisk) (n from : ℕ) 
     → IsKeptAs (written disks d from bytes) d new (n + 1)
 written_here disks d old new n from bytes kept range whole size synced dirty cells = record {
   size = kept.size ∙ sym size;
+  small = rw size kept.small;
   reads = λ s within. reads_at (is_among from (length bytes / 512) s) s refl (subst (λ (m : ℕ). s < m) size within);
   held = λ s within unsure. held_at (is_among from (length bytes / 512) s) (disks.unsure d s) s refl refl (subst (λ (m : ℕ). s < m) size within) unsure;
   unsure = λ s. unsure_at (is_among from (length bytes / 512) s) s refl;
@@ -208,6 +211,7 @@ pub roomy_here : (disks : Disks) (d : ℕ) (old new : MemDisk) (n : ℕ) → IsK
     → ((s : ℕ) → cell_at new.cells s ≡ cell_at old.cells s) → IsKeptAs disks d new n
 roomy_here disks d old new n kept size synced dirty cells = record {
   size = kept.size ∙ sym size;
+  small = rw size kept.small;
   reads = λ s within. rw (cells s) (kept.reads s (subst (λ (m : ℕ). s < m) size within));
   held = λ s within unsure. rw (cells s) (kept.held s (subst (λ (m : ℕ). s < m) size within) unsure);
   unsure = λ s. rw (cells s, synced) (kept.unsure s);
@@ -218,14 +222,15 @@ roomy_here disks d old new n kept size synced dirty cells = record {
 }
 
 -- No sector of the disk is unsure, and each reads as its cell does.
-pub cleared_here : (disks : Disks) (d : ℕ) (disk : MemDisk) (n : ℕ) → slice_index disks.sizes d ≡ disk.size
+pub cleared_here : (disks : Disks) (d : ℕ) (disk : MemDisk) (n : ℕ) → slice_index disks.sizes d ≡ disk.size → disk.size < 2 ^ 64
     → ((s : ℕ) → s < disk.size → disks.reads d s ≡ (cell_at disk.cells s).now)
     → ((s : ℕ) → disks.held d s ≡ disks.reads d s)
     → ((s : ℕ) → disks.unsure d s ≡ false)
     → ((s : ℕ) → (cell_at disk.cells s).since ≤ n)
     → disk.synced ≡ n → disk.dirty ≡ false → IsKeptAs disks d disk n
-cleared_here disks d disk n size reads held sure before synced dirty = record {
+cleared_here disks d disk n size small reads held sure before synced dirty = record {
   size = size;
+  small = small;
   reads = reads;
   held = λ s within unsure. absurd (never (sym (sure s) ∙ unsure));
   unsure = λ s. sure s ∙ sym (none s);

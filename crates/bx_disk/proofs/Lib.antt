@@ -2,3 +2,5 @@ pub mod Among
 pub mod Sectors
 pub mod Keeping
 pub mod Owed
+pub mod Racks
+pub mod Blank

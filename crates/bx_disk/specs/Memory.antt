@@ -1,7 +1,7 @@
 -- How a rack in memory keeps its disks.
 use Rattle.std.specs.Prelude.{◌≡◌, ℕ, ◌+◌, ◌^◌, ◌<◌, ◌≤◌, Bool, true, false, MatchBool, nat_lt, if◌then◌else◌, List, [], ◌∷◌, ◌++◌, ◌⊎◌, length, slice_get, slice_index, Some, Vec, vec_capacity}
 use Rattle.bx_disk.specs.Disks.{Disks, shaped}
-use Rattle.bx_disk.specs.Cells.{cell_at}
+use Rattle.bx_disk.specs.Cells.{cell_at, blank_cell}
 use Rattle.bx_disk.specs.Past.{after_entries}
 use Rattle.bx_disk.specs.declared.entry.Entry.{Entry}
 use Rattle.bx_disk.specs.declared.entry.Entry.TheVariants.{Synced}
@@ -11,6 +11,7 @@ use Rattle.std.specs.declared.alloc.Global.{Global}
 -- this is how disk d is kept once the record has n entries
 pub record IsKeptAs (disks : Disks) (d : ℕ) (disk : MemDisk) (n : ℕ) : Type 0 where
   pub size : slice_index disks.sizes d ≡ disk.size
+  pub small : disk.size < 2 ^ 64
   pub reads : (s : ℕ) → s < disk.size → disks.reads d s ≡ (cell_at disk.cells s).now
   pub held : (s : ℕ) → s < disk.size → disks.unsure d s ≡ true → disks.held d s ≡ (cell_at disk.cells s).held
   pub unsure : (s : ℕ) → disks.unsure d s ≡ nat_lt disk.synced (cell_at disk.cells s).since
@@ -18,6 +19,14 @@ pub record IsKeptAs (disks : Disks) (d : ℕ) (disk : MemDisk) (n : ℕ) : Type 
   pub over : disk.synced ≤ n
   pub settled : (s : ℕ) → disks.unsure d s ≡ false → disks.held d s ≡ disks.reads d s
   pub dirty : MatchBool disk.dirty ((s : ℕ) × (disks.unsure d s ≡ true)) ((s : ℕ) → disks.unsure d s ≡ false)
+
+-- a disk of this size, all of zeros, once the record has n entries
+pub record IsBlank (disk : MemDisk) (sectors n : ℕ) : Type 0 where
+  pub size : disk.size ≡ sectors
+  pub small : disk.size < 2 ^ 64
+  pub cells : (s : ℕ) → cell_at disk.cells s ≡ blank_cell
+  pub synced : disk.synced ≡ n
+  pub clean : disk.dirty ≡ false
 
 -- each disk is kept
 pub record AreKept (disks : Disks) (memory : List MemDisk) (n : ℕ) : Type 0 where

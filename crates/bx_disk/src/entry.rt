@@ -1,6 +1,7 @@
 //! The record of what was done to disks.
 
-use bx_base::Raw;
+use bx_base::{OutOfMemory, Raw};
+use std::alloc::Global;
 use std::marker::Model;
 
 /// Sizes of disks.
@@ -17,13 +18,15 @@ impl Model for Sizes {
     ghost view = { λ sizes. sizes.sizes.items };
 }
 
-impl From<Vec<u64>> for Sizes {
-    ghost use Rattle.std.specs.Prelude.{◌≡◌};
+impl Sizes {
+    ghost use Rattle.std.specs.Prelude.{◌≡◌, IfOk};
 
-    ghost from_gives = { λ from sizes. sizes ≡ from.items };
-
-    fn from(sizes: Vec<u64>) -> Sizes {
-        Sizes { sizes }
+    /// A copy of the sizes.
+    pub fn of(alloc: Global, sizes: &[u64]) -> Result<Sizes, OutOfMemory>
+        ensures { IfOk result (λ copy. copy ≡ sizes.now) }
+    {
+        let sizes = Vec::from_slice(alloc, sizes)?;
+        Ok(Sizes { sizes })
     }
 }
 

@@ -22,12 +22,11 @@ pub struct MemDisk {
 }
 
 impl MemDisk {
+    ghost use Rattle.bx_disk.specs.Memory.{IsBlank};
+
     /// A disk of zeros, when the record is so long.
     pub fn blank(alloc: Global, size: u64, synced: usize) -> MemDisk
-        ensures size { result.size ≡ size }
-        ensures cells { (s : ℕ) → cell_at result.cells s ≡ blank_cell }
-        ensures synced { result.synced ≡ synced }
-        ensures dirty { result.dirty ≡ false }
+        ensures { IsBlank result size synced }
     {
         MemDisk {
             size,

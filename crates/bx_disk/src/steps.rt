@@ -71,10 +71,24 @@ pub fn make_disks(alloc: Global, sizes: &[u64], synced: usize) -> Result<Vec<Mem
 /// Counts a fault of a disk.
 pub fn count_fault(by_disk: &mut Vec<u64>, disk: u32)
     requires { disk < length by_disk.old.items }
-    ensures { by_disk.new.items ≡ slice_set by_disk.old.items disk (count_up (slice_index by_disk.old.items disk)) }
+    ensures value { by_disk.new.items ≡ slice_set by_disk.old.items disk (count_up (slice_index by_disk.old.items disk)) }
+    ensures later { (d : ℕ) → slice_index by_disk.old.items d ≤ slice_index by_disk.new.items d }
+    ensures long { length by_disk.new.items ≡ length by_disk.old.items }
 {
     let at = disk as usize;
     by_disk[at] = by_disk[at].saturating_add(1);
+}
+
+// Makes counts of 0 for disks that have none.
+fn make_counts(by_disk: &mut Vec<u64>, disks: usize) -> Result<(), OutOfMemory>
+    ensures counts { (d : ℕ) → slice_index by_disk.new.items d ≡ slice_index by_disk.old.items d }
+    ensures long { OnOk result (disks ≤ length by_disk.new.items) }
+    ensures longer { length by_disk.old.items ≤ length by_disk.new.items }
+{
+    while by_disk.len() < disks {
+        by_disk.push(0)?;
+    }
+    Ok(())
 }
 
 /// Makes the disks anew, and notes it. For want of memory all stays as it was, but that there may be more counts.
@@ -90,16 +104,15 @@ pub fn shape_disks(
     ensures owed { OnOk result (owed disks.new.items ≡ 0) }
     ensures err { IsErr result → (entries.new.items ≡ entries.old.items) × (disks.new.items ≡ disks.old.items) }
     ensures room { vec_capacity entries.old ≤ vec_capacity entries.new }
+    ensures fits { OnOk result (length entries.new.items ≤ vec_capacity entries.new) }
     ensures counts { (d : ℕ) → slice_index by_disk.new.items d ≡ slice_index by_disk.old.items d }
     ensures long { OnOk result (length sizes.now ≤ length by_disk.new.items) }
     ensures longer { length by_disk.old.items ≤ length by_disk.new.items }
 {
-    let entry = Entry::Shaped(Sizes::from(Vec::from_slice(alloc, sizes)?));
+    let entry = Entry::Shaped(Sizes::of(alloc, sizes)?);
     entries.reserve(1)?;
     let made = make_disks(alloc, sizes, entries.len() + 1)?;
-    while by_disk.len() < sizes.len() {
-        by_disk.push(0)?;
-    }
+    make_counts(by_disk, sizes.len())?;
     entries.push_reserved(entry);
     *disks = made;
     Ok(())

@@ -1,6 +1,6 @@
 use Rattle.std.proofs.Common.{◌≡◌, ◌≤◌, ◌-◌, ℕ, length}
 use Rattle.std.specs.Prelude.{slice_index}
-use Rattle.bx_disk.proofs.steps.shape_disks.Given as goal
+use Rattle.bx_disk.proofs.steps.make_counts.Given as goal
 
 abbrev pub invariant-loop-by_disk : goal.invariant-loop-by_disk
 invariant-loop-by_disk l = record {
@@ -9,4 +9,4 @@ invariant-loop-by_disk l = record {
 }
 
 abbrev pub decreases-loop-by_disk : goal.decreases-loop-by_disk
-decreases-loop-by_disk l = length l.sizes - length l.by_disk.items
+decreases-loop-by_disk l = l.disks - length l.by_disk.items

@@ -1,8 +1,8 @@
 //! A rack in memory.
 
-ghost use Rattle.std.specs.Prelude.{◌≡◌, ℕ, ◌+◌, ◌/◌, ◌%◌, ◌^◌, ◌<◌, ◌≤◌, Bool, true, false, List, [], ◌∷◌, ◌++◌, length, slice_index, slice_set, replicate, IfOk, OnOk, OnErr, IsErr, IsErrOf};
+ghost use Rattle.std.specs.Prelude.{◌≡◌, ℕ, ◌+◌, ◌/◌, ◌%◌, ◌^◌, ◌<◌, ◌≤◌, Bool, true, false, List, [], ◌∷◌, ◌++◌, length, slice_index, slice_set, replicate, IfOk, OnOk, OnErr, IsErr, IsErrOf, is_err, if◌then◌else◌};
 ghost use Rattle.bx_base.specs.Faults.{Rose, count_up};
-ghost use Rattle.bx_disk.specs.declared.fault.RackError.TheVariants.{Fault, OutOfMemory};
+ghost use Rattle.bx_disk.specs.declared.fault.RackError.TheVariants.{Fault};
 ghost use Rattle.bx_disk.specs.declared.entry.Entry.TheVariants.{Wrote, Synced, Shaped};
 ghost use Rattle.bx_disk.specs.Disks.{Image, Disks, IsSector, IsImage, AreSectors, MayBeWritten, written, synced, shaped};
 ghost use Rattle.bx_disk.specs.Moments.{Elapses};
@@ -64,6 +64,8 @@ impl MemRack {
 }
 
 impl Rack for MemRack {
+    ghost use Rattle.bx_disk.specs.Memory.{NotesSync};
+
     ghost tells = { λ _. Unit {0} };
 
     ghost state = { disks_of };
@@ -94,7 +96,22 @@ impl Rack for MemRack {
         self.disks[disk as usize].size
     }
 
-    fn read(&mut self, disk: u32, sector: u64, into: &mut [u8]) -> Result<(), DiskFault> {
+    fn read(&mut self, disk: u32, sector: u64, into: &mut [u8]) -> Result<(), DiskFault>
+        requires disk { disk < length (disks_of self.old).sizes }
+        requires whole { length into.old % 512 ≡ 0 }
+        requires range { sector + length into.old / 512 ≤ slice_index (disks_of self.old).sizes disk }
+        // It fails exactly where its number stands among those that fail, and counts the fault on this disk.
+        ensures which { is_err result ≡ fails self.old }
+        ensures after { self.new ≡ (if fails self.old then failed_on self.old disk else counted self.old) }
+
+        ensures bytes { Unit {0} → OnOk result (AreSectors ((disks_of self.old).reads disk) sector (length into.old / 512) into.new) }
+        ensures stays { Unit {0} → disks_of self.new ≡ disks_of self.old }
+        ensures time { Unit {0} → Elapses (moment_of self.old) (moment_of self.new) (LeftSince self.old) (LeftSince self.new) (disks_of self.new) }
+        ensures fault { OnErr result (BothRose self.old.faults self.new.faults (λ d. slice_index self.old.by_disk d) (λ d. slice_index self.new.by_disk d) disk) }
+        ensures later { NoneFalls self.old.faults self.new.faults (λ d. slice_index self.old.by_disk d) (λ d. slice_index self.new.by_disk d) }
+        ensures sizes { (disks_of self.new).sizes ≡ (disks_of self.old).sizes }
+        ensures keeps_telling { Unit {0} → Unit {0} }
+    {
         self.calls = self.calls.saturating_add(1);
         if self.failing.contains(&self.calls) {
             self.faults = self.faults.saturating_add(1);
@@ -105,7 +122,26 @@ impl Rack for MemRack {
         Ok(())
     }
 
-    fn write(&mut self, disk: u32, sector: u64, bytes: &[u8]) -> Result<(), RackError> {
+    fn write(&mut self, disk: u32, sector: u64, bytes: &[u8]) -> Result<(), RackError>
+        requires disk { disk < length (disks_of self.old).sizes }
+        requires whole { length bytes.now % 512 ≡ 0 }
+        requires range { sector + length bytes.now / 512 ≤ slice_index (disks_of self.old).sizes disk }
+        // It fails exactly where its number stands among those that fail, if memory doesn't run out.
+        ensures fault_if { IsErrOf result Fault → fails self.old ≡ true }
+        ensures ok_if { OnOk result (fails self.old ≡ false) }
+        ensures memory_if { IsErrOf result RackError.OutOfMemory → fails self.old ≡ false }
+        ensures only_then { IsErrOf result Fault → self.new ≡ failed_on self.old disk }
+        ensures noted { OnOk result (self.new ≡ noted self.old (Wrote disk sector bytes.now)) }
+
+        ensures written { Unit {0} → OnOk result (disks_of self.new ≡ written (disks_of self.old) disk sector bytes.now) }
+        ensures torn { Unit {0} → OnErr result (MayBeWritten (disks_of self.old) (disks_of self.new) disk sector (length bytes.now / 512)) }
+        ensures memory { Unit {0} → IsErrOf result RackError.OutOfMemory → disks_of self.new ≡ disks_of self.old }
+        ensures time { Unit {0} → Elapses (moment_of self.old) (moment_of self.new) (LeftSince self.old) (LeftSince self.new) (disks_of self.new) }
+        ensures fault { IsErrOf result Fault → BothRose self.old.faults self.new.faults (λ d. slice_index self.old.by_disk d) (λ d. slice_index self.new.by_disk d) disk }
+        ensures later { NoneFalls self.old.faults self.new.faults (λ d. slice_index self.old.by_disk d) (λ d. slice_index self.new.by_disk d) }
+        ensures sizes { (disks_of self.new).sizes ≡ (disks_of self.old).sizes }
+        ensures keeps_telling { Unit {0} → Unit {0} }
+    {
         self.calls = self.calls.saturating_add(1);
         if self.failing.contains(&self.calls) {
             self.faults = self.faults.saturating_add(1);
@@ -123,7 +159,24 @@ impl Rack for MemRack {
         Ok(())
     }
 
-    fn sync(&mut self, disk: u32) -> Result<(), DiskFault> {
+    fn sync(&mut self, disk: u32) -> Result<(), DiskFault>
+        requires disk { disk < length (disks_of self.old).sizes }
+        // It fails exactly where its number stands among those that fail, and counts the fault on this disk.
+        ensures which { is_err result ≡ fails self.old }
+        ensures after { OnErr result (self.new ≡ failed_on self.old disk) }
+
+        // A sync is noted where a sector of the disk was unsure.
+        ensures noted { OnOk result (NotesSync (disks_of self.old) disk self.old.entries self.new.entries) }
+        ensures calls { self.new.calls ≡ count_up self.old.calls }
+
+        ensures synced { Unit {0} → OnOk result (disks_of self.new ≡ synced (disks_of self.old) disk) }
+        ensures stays { Unit {0} → OnErr result (disks_of self.new ≡ disks_of self.old) }
+        ensures time { Unit {0} → Elapses (moment_of self.old) (moment_of self.new) (LeftSince self.old) (LeftSince self.new) (disks_of self.new) }
+        ensures fault { OnErr result (BothRose self.old.faults self.new.faults (λ d. slice_index self.old.by_disk d) (λ d. slice_index self.new.by_disk d) disk) }
+        ensures later { NoneFalls self.old.faults self.new.faults (λ d. slice_index self.old.by_disk d) (λ d. slice_index self.new.by_disk d) }
+        ensures sizes { (disks_of self.new).sizes ≡ (disks_of self.old).sizes }
+        ensures keeps_telling { Unit {0} → Unit {0} }
+    {
         self.calls = self.calls.saturating_add(1);
         if self.failing.contains(&self.calls) {
             self.faults = self.faults.saturating_add(1);
@@ -134,7 +187,22 @@ impl Rack for MemRack {
         Ok(())
     }
 
-    fn shape(&mut self, sizes: &[u64]) -> Result<(), RackError> {
+    fn shape(&mut self, sizes: &[u64]) -> Result<(), RackError>
+        requires { length sizes.now < 2 ^ 32 }
+        // It fails exactly where its number stands among those that fail, if memory doesn't run out.
+        ensures fault_if { IsErrOf result Fault → fails self.old ≡ true }
+        ensures ok_if { OnOk result (fails self.old ≡ false) }
+        ensures memory_if { IsErrOf result RackError.OutOfMemory → fails self.old ≡ false }
+        ensures only_then { IsErrOf result Fault → self.new ≡ failed self.old }
+        ensures calls { self.new.calls ≡ count_up self.old.calls }
+
+        ensures shaped { Unit {0} → OnOk result (disks_of self.new ≡ shaped sizes.now) }
+        ensures sizes { OnOk result ((disks_of self.new).sizes ≡ sizes.now) }
+        ensures time { Unit {0} → Elapses (moment_of self.old) (moment_of self.new) (LeftSince self.old) (LeftSince self.new) (disks_of self.new) }
+        ensures fault { IsErrOf result Fault → Rose self.old.faults self.new.faults }
+        ensures later { NoneFalls self.old.faults self.new.faults (λ d. slice_index self.old.by_disk d) (λ d. slice_index self.new.by_disk d) }
+        ensures keeps_telling { Unit {0} → Unit {0} }
+    {
         self.calls = self.calls.saturating_add(1);
         if self.failing.contains(&self.calls) {
             self.faults = self.faults.saturating_add(1);

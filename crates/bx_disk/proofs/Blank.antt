@@ -1,9 +1,8 @@
 -- Disks that are made anew.
-use Rattle.std.proofs.Common.{◌≡◌, ◌∙◌, ℕ, zero, suc, ◌+◌, ◌<◌, ◌≤◌, Bool, true, false, List, [], ◌∷◌, ◌++◌, length, arith, sym, ap, refl, subst, ⊎_elim, ◌⊎◌, inl, inr}
-use Rattle.std.specs.Prelude.{slice_get, slice_index, Some, nat_lt, if◌then◌else◌}
+use Rattle.std.proofs.Common.{◌≡◌, ℕ, zero, suc, ◌<◌, false, List, [], ◌∷◌, ◌++◌, length, arith, sym, ap, refl, subst, ⊎_elim, ◌⊎◌, inl, inr}
+use Rattle.std.specs.Prelude.{slice_get, slice_index, Some}
 use Rattle.std.proofs.lemmas.Bool.{lt-ltb}
-use Rattle.bx_disk.specs.Disks.{Disks, shaped, zeros}
-use Rattle.bx_disk.specs.Cells.{cell_at, blank_cell}
+use Rattle.bx_disk.specs.Disks.{shaped}
 use Rattle.bx_disk.specs.Memory.{IsBlank, IsKeptAs, AreKept, owed}
 use Rattle.bx_disk.specs.declared.cell.Cell.{Cell}
 use Rattle.bx_disk.specs.declared.mem_disk.MemDisk.{MemDisk}

@@ -1,14 +1,14 @@
 -- Disks in memory are those that the record tells: one step more.
-use Rattle.std.proofs.Common.{◌≡◌, ◌∙◌, ℕ, zero, suc, ◌+◌, ◌-◌, ◌*◌, ◌/◌, ◌%◌, ◌^◌, ◌<◌, ◌≤◌, Bool, true, false, List, [], ◌∷◌, length, set, get_or, arith, sym, ap, refl, subst, ⊎_elim, ◌⊎◌, inl, inr}
-use Rattle.std.specs.Prelude.{◌==◌, nat_lt, ◌&&◌, ◌||◌, not, if◌then◌else◌, slice_get, slice_index, Some, None, Option, MatchBool}
+use Rattle.std.proofs.Common.{◌≡◌, ◌∙◌, ℕ, zero, suc, ◌+◌, ◌-◌, ◌/◌, ◌%◌, ◌^◌, ◌<◌, ◌≤◌, Bool, true, false, List, [], ◌∷◌, length, set, arith, sym, ap, refl, subst}
+use Rattle.std.specs.Prelude.{◌==◌, nat_lt, ◌||◌, if◌then◌else◌, slice_get, slice_index, Some, MatchBool}
 use Rattle.std.proofs.Math.Path.{fun_ext}
 use Rattle.std.proofs.lemmas.Bool.{lt-ltb}
 use Rattle.std.proofs.Math.ListN.{length-set}
 use Rattle.std.proofs.lemmas.Bool.Decides.{nat_tests}
 use Rattle.std.proofs.lemmas.Grind.{common_steps}
-use Rattle.bx_disk.specs.Disks.{Image, Disks, synced, written, blanked, blank_image, zeros, sector_of, is_among, is_within}
+use Rattle.bx_disk.specs.Disks.{Image, Disks, synced, written, blanked, sector_of, is_among}
 use Rattle.bx_disk.specs.Crash.{left_with}
-use Rattle.bx_disk.specs.Cells.{cell_at, blank_cell, written_cell, dropped_cell}
+use Rattle.bx_disk.specs.Cells.{cell_at, written_cell}
 use Rattle.bx_disk.specs.Memory.{IsKeptAs, AreKept}
 use Rattle.bx_disk.specs.declared.cell.Cell.{Cell}
 use Rattle.bx_disk.specs.declared.mem_disk.MemDisk.{MemDisk}

@@ -1,13 +1,11 @@
 -- A rack in memory, by its record.
-use Rattle.std.proofs.Common.{◌≡◌, ◌∙◌, ℕ, zero, suc, ◌+◌, ◌-◌, ◌*◌, ◌/◌, ◌%◌, ◌^◌, ⊎_elim, ◌⊎◌, inl, inr, ◌<◌, ◌≤◌, Bool, true, false, List, [], ◌∷◌, ◌++◌, length, get_or, arith, sym, ap, refl, subst, length-append, Fits, w8}
-use Rattle.std.specs.Prelude.{slice_get, slice_index, Some, None, Vec, vec_capacity, nat_lt, nat_le, ◌&&◌, ◌==◌}
+use Rattle.std.proofs.Common.{◌≡◌, ◌∙◌, ℕ, ◌+◌, ◌/◌, ◌%◌, ◌^◌, ⊎_elim, ◌<◌, ◌≤◌, true, false, List, [], ◌∷◌, ◌++◌, length, get_or, arith, sym, ap, refl, length-append, Fits, w8}
+use Rattle.std.specs.Prelude.{slice_get, slice_index, Some, None, Vec, vec_capacity, nat_le, ◌==◌}
 use Rattle.std.specs.declared.alloc.Global.{Global}
-use Rattle.std.specs.List.{list_all}
 use Rattle.std.proofs.lemmas.Option.{slice_get_cases}
 use Rattle.std.proofs.lemmas.Bool.Decides.{nat_tests}
 use Rattle.bx_disk.specs.Disks.{Disks, shaped, written, synced}
-use Rattle.bx_disk.specs.Cells.{cell_at}
-use Rattle.bx_disk.specs.Past.{Past, LeftSince, after_entries, after_entry, fits, disks_of, moment_of}
+use Rattle.bx_disk.specs.Past.{Past, LeftSince, after_entries, fits, disks_of, moment_of}
 use Rattle.bx_disk.specs.Laws.{one_more_entry, all_bytes, time_stays, time_goes_on}
 use Rattle.bx_disk.specs.Moments.{Elapses}
 use Rattle.bx_disk.proofs.Keeping.{synced_same}

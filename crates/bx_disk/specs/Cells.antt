@@ -1,8 +1,8 @@
 -- Sectors that were written, by their numbers. A sector that isn't there was never written.
-use Rattle.std.specs.Prelude.{ℕ, ◌-◌, Bool, nat_lt, if◌then◌else◌, List, unwrap_or}
+use Rattle.std.specs.Prelude.{ℕ, nat_lt, if◌then◌else◌, List, unwrap_or}
 use Rattle.std.specs.Ordering.{nat_cmp}
 use Rattle.std.specs.BTreeMap.{BTreeMap, get}
-use Rattle.bx_disk.specs.Disks.{zeros, is_among, sector_of}
+use Rattle.bx_disk.specs.Disks.{zeros}
 use Rattle.bx_disk.specs.declared.cell.Cell.{Cell}
 
 abbrev pub blank_cell : Cell

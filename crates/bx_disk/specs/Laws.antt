@@ -1,14 +1,13 @@
 -- What holds of all disks that a record tells.
-use Rattle.std.specs.Prelude.{◌≡◌, ℕ, zero, suc, ◌+◌, ◌-◌, ◌*◌, ◌/◌, ◌%◌, ◌<◌, ◌≤◌, ◌==◌, Bool, true, false, not, ◌&&◌, ◌||◌, nat_lt, nat_le, if◌then◌else◌, List, [], ◌∷◌, ◌++◌, length, take, drop, replicate, slice_index, ◌⊎◌, refl}
-use Rattle.std.proofs.Common.{arith, sym, ap, subst, ◌∙◌, ⊎_elim, inl, inr, length-append}
+use Rattle.std.specs.Prelude.{◌≡◌, ℕ, zero, suc, ◌+◌, ◌-◌, ◌*◌, ◌/◌, ◌%◌, ◌<◌, ◌≤◌, ◌==◌, Bool, true, false, not, ◌&&◌, nat_lt, nat_le, if◌then◌else◌, List, [], ◌∷◌, ◌++◌, length, take, drop, replicate, slice_index, ◌⊎◌, refl}
+use Rattle.std.proofs.Common.{arith, sym, ap, subst, ◌∙◌, inl, inr, length-append}
 use Rattle.std.specs.List.{list_all}
 use Rattle.std.proofs.lemmas.List.{length-take, length-drop, length-replicate}
 use Rattle.std.proofs.lemmas.Bool.{ltb-true, lt-ltb}
 use Rattle.std.proofs.lemmas.Bool.Decides.{nat_tests}
-use Rattle.std.proofs.lemmas.Grind.{common_steps}
-use Rattle.bx_disk.specs.Disks.{Image, Disks, IsSector, IsImage, zeros, sector_of, is_within, is_among, written, synced, shaped, blanked, blank_image}
+use Rattle.bx_disk.specs.Disks.{Image, Disks, IsSector, IsImage, zeros, sector_of, is_within, is_among, written, synced, shaped, blank_image}
 use Rattle.bx_disk.specs.Moments.{Elapses}
-use Rattle.bx_disk.specs.Past.{Past, LeftSince, fits, after_entry, after_entries, disks_of, disks_at, moment_of}
+use Rattle.bx_disk.specs.Past.{Past, LeftSince, fits, after_entry, after_entries, disks_of, moment_of}
 use Rattle.bx_disk.specs.declared.entry.Entry.{Entry}
 use Rattle.bx_disk.specs.declared.entry.Entry.TheVariants.{Wrote, Synced, Shaped}
 

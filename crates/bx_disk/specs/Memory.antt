@@ -1,5 +1,5 @@
 -- How a rack in memory keeps its disks.
-use Rattle.std.specs.Prelude.{◌≡◌, ℕ, ◌+◌, ◌^◌, ◌<◌, ◌≤◌, Bool, true, false, MatchBool, nat_lt, if◌then◌else◌, List, [], ◌∷◌, ◌++◌, ◌⊎◌, length, slice_get, slice_index, Some, Vec, vec_capacity}
+use Rattle.std.specs.Prelude.{◌≡◌, ℕ, ◌+◌, ◌^◌, ◌<◌, ◌≤◌, true, false, MatchBool, nat_lt, if◌then◌else◌, List, [], ◌∷◌, ◌++◌, ◌⊎◌, length, slice_get, slice_index, Some, Vec, vec_capacity}
 use Rattle.bx_disk.specs.Disks.{Disks, shaped}
 use Rattle.bx_disk.specs.Cells.{cell_at, blank_cell}
 use Rattle.bx_disk.specs.Past.{after_entries}

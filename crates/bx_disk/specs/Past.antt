@@ -1,5 +1,5 @@
 -- What a rack in memory shows of itself: its record of writes, syncs and crashes, from which it tells the moments.
-use Rattle.std.specs.Prelude.{◌≡◌, ℕ, ◌+◌, ◌*◌, ◌/◌, ◌%◌, ◌≤◌, ◌==◌, Bool, true, false, ◌&&◌, nat_lt, nat_le, if◌then◌else◌, List, [], ◌∷◌, ◌++◌, length, take, slice_index, slice_set, replicate}
+use Rattle.std.specs.Prelude.{ℕ, ◌+◌, ◌/◌, ◌%◌, ◌≤◌, ◌==◌, Bool, ◌&&◌, nat_lt, nat_le, if◌then◌else◌, List, [], ◌∷◌, ◌++◌, length, take, slice_index, slice_set}
 use Rattle.std.specs.List.{list_all, list_any}
 use Rattle.bx_base.specs.Faults.{count_up}
 use Rattle.bx_disk.specs.Disks.{Image, Disks, IsImage, written, synced, shaped}

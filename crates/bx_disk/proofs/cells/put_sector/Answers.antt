@@ -1,4 +1,4 @@
-use Rattle.std.proofs.Common.{◌≡◌, ◌∙◌, ℕ, ◌-◌, ◌+◌, ◌*◌, arith, length, rules}
+use Rattle.std.proofs.Common.{◌∙◌, ◌-◌, ◌+◌, ◌*◌, arith, rules}
 use Rattle.bx_disk.proofs.Sectors.{put_here, put_elsewhere}
 use Rattle.bx_disk.proofs.cells.put_sector.Goals as goal
 

@@ -1,6 +1,4 @@
-use Rattle.std.proofs.Common.{arith}
 use Rattle.std.specs.Prelude.{ℕ}
-use Rattle.std.proofs.lemmas.Grind.{common_steps}
 use Rattle.bx_disk.specs.Disks.{sector_of}
 use Rattle.bx_disk.specs.Cells.{cell_at, written_cell}
 use Rattle.bx_disk.specs.declared.cell.Cell.{Cell}

@@ -1,6 +1,5 @@
-use Rattle.std.proofs.Common.{◌≡◌, ◌∙◌, ℕ, ◌+◌, refl, sym, ap, rules, arith, length, length-append, List, ◌∷◌, [], subst}
+use Rattle.std.proofs.Common.{◌∙◌, ℕ, ◌+◌, sym, ap, arith, length, length-append, List, ◌∷◌, [], subst}
 use Rattle.std.specs.Prelude.{slice_index}
-use Rattle.std.proofs.lemmas.Grind.{common_steps}
 use Rattle.bx_disk.specs.Memory.{IsBlank}
 use Rattle.bx_disk.specs.declared.mem_disk.MemDisk.{MemDisk}
 use Rattle.bx_disk.proofs.Blank.{blank_push, owed_push, kept_blank}

@@ -1,10 +1,8 @@
-use Rattle.std.proofs.Common.{◌≡◌, ◌∙◌, ℕ, ◌+◌, ◌<◌, ◌≤◌, rules, arith, refl, sym, ap, subst, length, List, [], ◌∷◌, length-append, set, Bool, true, false, inl, inr}
+use Rattle.std.proofs.Common.{◌≡◌, ◌∙◌, rules, arith, refl, sym, ap, length, List, [], ◌∷◌, length-append, inl, inr}
 use Rattle.std.proofs.lemmas.Option.{slice_get_read}
-use Rattle.std.specs.Prelude.{slice_get, Some, MatchBool}
+use Rattle.std.specs.Prelude.{slice_get, Some}
 use Rattle.bx_disk.specs.declared.entry.Entry.{Entry}
 use Rattle.bx_disk.specs.declared.entry.Entry.TheVariants.{Synced}
-use Rattle.bx_disk.specs.Disks.{Disks, synced}
-use Rattle.bx_disk.specs.Memory.{owed, AreKept, NotesSync}
 use Rattle.bx_disk.specs.declared.mem_disk.MemDisk.{MemDisk}
 use Rattle.bx_disk.proofs.Keeping.{kept_synced, kept_synced_same, some_unsure, none_unsure, never}
 use Rattle.bx_disk.proofs.Owed.{owed-some, sync_room}

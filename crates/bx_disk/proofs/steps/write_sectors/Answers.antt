@@ -1,13 +1,10 @@
-use Rattle.std.proofs.Common.{◌≡◌, ◌∙◌, ℕ, ◌+◌, ◌<◌, ◌≤◌, rules, arith, refl, sym, ap, length, List, length-append}
+use Rattle.std.proofs.Common.{◌≡◌, ℕ, ◌+◌, ◌≤◌, arith, refl, ap, length, List, length-append}
 use Rattle.std.proofs.lemmas.Option.{slice_get_read}
 use Rattle.std.specs.Prelude.{slice_get, Some}
-use Rattle.std.proofs.Common.{set, ◌∷◌, [], ◌/◌}
-use Rattle.std.proofs.Math.ListN.{length-set}
+use Rattle.std.proofs.Common.{◌∷◌, [], ◌/◌}
 use Rattle.bx_disk.specs.declared.entry.Entry.{Entry}
 use Rattle.bx_disk.specs.declared.entry.Entry.TheVariants.{Wrote}
 use Rattle.bx_disk.specs.Disks.{written}
-use Rattle.bx_disk.specs.Memory.{owed}
-use Rattle.bx_disk.specs.declared.mem_disk.MemDisk.{MemDisk}
 use Rattle.bx_disk.proofs.Keeping.{kept_set, unchanged, roomy_here, written_elsewhere, written_here}
 use Rattle.bx_disk.proofs.Owed.{write_room, same_room}
 use Rattle.bx_disk.proofs.steps.write_sectors.Goals as goal

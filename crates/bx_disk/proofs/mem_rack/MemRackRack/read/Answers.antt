@@ -1,7 +1,5 @@
-use Rattle.std.proofs.Common.{◌≡◌, ◌∙◌, ℕ, ◌+◌, ◌<◌, ◌≤◌, ◌/◌, refl, sym, rules, arith, length}
-use Rattle.std.specs.Prelude.{slice_index}
+use Rattle.std.proofs.Common.{◌∙◌, ◌+◌, refl, sym, arith, length}
 use Rattle.std.proofs.lemmas.Option.{slice_get_read}
-use Rattle.bx_disk.specs.Past.{disks_of}
 use Rattle.bx_disk.proofs.mem_rack.MemRackRack.read.Goals as goal
 
 pub returns-then-contains-clause-later : goal.returns-then-contains-clause-later

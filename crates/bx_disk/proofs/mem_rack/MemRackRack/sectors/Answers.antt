@@ -1,4 +1,4 @@
-use Rattle.std.proofs.Common.{◌≡◌, refl, sym, arith, length}
+use Rattle.std.proofs.Common.{refl, sym, arith, length}
 use Rattle.std.proofs.lemmas.Option.{slice_get_read}
 use Rattle.bx_disk.proofs.mem_rack.MemRackRack.sectors.Goals as goal
 

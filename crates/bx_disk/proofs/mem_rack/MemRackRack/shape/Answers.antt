@@ -1,4 +1,4 @@
-use Rattle.std.proofs.Common.{◌≡◌, refl, ap}
+use Rattle.std.proofs.Common.{refl, ap}
 use Rattle.bx_disk.specs.Disks.{Disks}
 use Rattle.bx_disk.specs.Laws.{time_goes_on, time_stays}
 use Rattle.bx_disk.proofs.Racks.{after_shape, memory_after_shape}

@@ -1,4 +1,4 @@
-use Rattle.std.proofs.Common.{◌≡◌, ◌∙◌, ℕ, ◌+◌, ◌<◌, ◌≤◌, refl, sym, ap, rules, arith}
+use Rattle.std.proofs.Common.{refl, ap, arith}
 use Rattle.bx_disk.specs.Disks.{Disks}
 use Rattle.bx_disk.proofs.Racks.{after_noted, memory_after_sync, time_after_sync}
 use Rattle.bx_disk.proofs.mem_rack.MemRackRack.sync.Goals as goal

@@ -1,7 +1,6 @@
-use Rattle.std.proofs.Common.{◌≡◌, ◌∙◌, ℕ, ◌+◌, ◌<◌, ◌≤◌, ◌/◌, refl, sym, ap, rules, arith, length, true}
-use Rattle.std.specs.Prelude.{slice_index}
+use Rattle.std.proofs.Common.{refl, ap, arith}
 use Rattle.bx_disk.specs.Disks.{Disks, shaped}
-use Rattle.bx_disk.specs.Past.{disks_of, fits, after_entries}
+use Rattle.bx_disk.specs.Past.{after_entries}
 use Rattle.bx_disk.specs.Laws.{time_goes_on}
 use Rattle.bx_disk.proofs.Racks.{Fits-below-256, small_size, fits_so, after_write, memory_after_write}
 use Rattle.bx_disk.proofs.mem_rack.MemRackRack.write.Goals as goal

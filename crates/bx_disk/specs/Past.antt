@@ -78,6 +78,28 @@ noted past entry = record {
   by_disk = past.by_disk;
 }
 
+-- the same with another record
+abbrev pub with_entries : Past → List Entry → Past
+with_entries past entries = record {
+  first = past.first;
+  entries = entries;
+  calls = past.calls;
+  failing = past.failing;
+  faults = past.faults;
+  by_disk = past.by_disk;
+}
+
+-- the same with other counts by disk
+abbrev pub with_counts : Past → List ℕ → Past
+with_counts past by_disk = record {
+  first = past.first;
+  entries = past.entries;
+  calls = past.calls;
+  failing = past.failing;
+  faults = past.faults;
+  by_disk = by_disk;
+}
+
 -- one call more, which failed on a disk
 abbrev pub failed_on : Past → ℕ → Past
 failed_on past disk = record {

@@ -7,7 +7,7 @@ ghost use Rattle.bx_disk.specs.declared.entry.Entry.TheVariants.{Wrote, Synced, 
 ghost use Rattle.bx_disk.specs.Disks.{Image, Disks, IsSector, IsImage, AreSectors, MayBeWritten, written, synced, shaped};
 ghost use Rattle.bx_disk.specs.Moments.{Elapses};
 ghost use Rattle.bx_disk.specs.Counts.{NoneFalls, BothRose};
-ghost use Rattle.bx_disk.specs.Past.{Past, LeftSince, disks_of, moment_of, fails, counted, noted, failed_on, failed};
+ghost use Rattle.bx_disk.specs.Past.{Past, LeftSince, disks_of, moment_of, fails, counted, noted, with_entries, with_counts, failed_on, failed};
 ghost use Rattle.bx_disk.specs.Laws.{lawful_past, now_counts, now_only};
 
 use crate::entry::{Entry, Sizes};
@@ -132,6 +132,7 @@ impl Rack for MemRack {
         ensures memory_if { IsErrOf result RackError.OutOfMemory → fails self.old ≡ false }
         ensures only_then { IsErrOf result Fault → self.new ≡ failed_on self.old disk }
         ensures noted { OnOk result (self.new ≡ noted self.old (Wrote disk sector bytes.now)) }
+        ensures memory_left { IsErrOf result RackError.OutOfMemory → self.new ≡ counted self.old }
 
         ensures written { Unit {0} → OnOk result (disks_of self.new ≡ written (disks_of self.old) disk sector bytes.now) }
         ensures torn { Unit {0} → OnErr result (MayBeWritten (disks_of self.old) (disks_of self.new) disk sector (length bytes.now / 512)) }
@@ -167,7 +168,7 @@ impl Rack for MemRack {
 
         // A sync is noted where a sector of the disk was unsure.
         ensures noted { OnOk result (NotesSync (disks_of self.old) disk self.old.entries self.new.entries) }
-        ensures calls { self.new.calls ≡ count_up self.old.calls }
+        ensures rest { OnOk result (self.new ≡ with_entries (counted self.old) self.new.entries) }
 
         ensures synced { Unit {0} → OnOk result (disks_of self.new ≡ synced (disks_of self.old) disk) }
         ensures stays { Unit {0} → OnErr result (disks_of self.new ≡ disks_of self.old) }
@@ -194,7 +195,10 @@ impl Rack for MemRack {
         ensures ok_if { OnOk result (fails self.old ≡ false) }
         ensures memory_if { IsErrOf result RackError.OutOfMemory → fails self.old ≡ false }
         ensures only_then { IsErrOf result Fault → self.new ≡ failed self.old }
-        ensures calls { self.new.calls ≡ count_up self.old.calls }
+        // New disks have had no fault, and the counts of the old ones stay.
+        ensures noted { OnOk result (self.new ≡ with_counts (noted self.old (Shaped sizes.now)) self.new.by_disk) }
+        ensures memory_left { IsErrOf result RackError.OutOfMemory → self.new ≡ with_counts (counted self.old) self.new.by_disk }
+        ensures counts { (d : ℕ) → slice_index self.new.by_disk d ≡ slice_index self.old.by_disk d }
 
         ensures shaped { Unit {0} → OnOk result (disks_of self.new ≡ shaped sizes.now) }
         ensures sizes { OnOk result ((disks_of self.new).sizes ≡ sizes.now) }

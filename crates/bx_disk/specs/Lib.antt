@@ -6,3 +6,4 @@ pub mod Cells
 pub mod Past
 pub mod Laws
 pub mod Memory
+pub mod Stops

@@ -112,8 +112,7 @@ impl Rack for MemRack {
         ensures sizes { (disks_of self.new).sizes ≡ (disks_of self.old).sizes }
         ensures keeps_telling { Unit {0} → Unit {0} }
     {
-        self.calls = self.calls.saturating_add(1);
-        if self.failing.contains(&self.calls) {
+        if steps::count_call(&mut self.calls, &self.failing) {
             self.faults = self.faults.saturating_add(1);
             steps::count_fault(&mut self.by_disk, disk);
             return Err(DiskFault);
@@ -143,8 +142,7 @@ impl Rack for MemRack {
         ensures sizes { (disks_of self.new).sizes ≡ (disks_of self.old).sizes }
         ensures keeps_telling { Unit {0} → Unit {0} }
     {
-        self.calls = self.calls.saturating_add(1);
-        if self.failing.contains(&self.calls) {
+        if steps::count_call(&mut self.calls, &self.failing) {
             self.faults = self.faults.saturating_add(1);
             steps::count_fault(&mut self.by_disk, disk);
             return Err(RackError::Fault);
@@ -178,8 +176,7 @@ impl Rack for MemRack {
         ensures sizes { (disks_of self.new).sizes ≡ (disks_of self.old).sizes }
         ensures keeps_telling { Unit {0} → Unit {0} }
     {
-        self.calls = self.calls.saturating_add(1);
-        if self.failing.contains(&self.calls) {
+        if steps::count_call(&mut self.calls, &self.failing) {
             self.faults = self.faults.saturating_add(1);
             steps::count_fault(&mut self.by_disk, disk);
             return Err(DiskFault);
@@ -207,8 +204,7 @@ impl Rack for MemRack {
         ensures later { NoneFalls self.old.faults self.new.faults (λ d. slice_index self.old.by_disk d) (λ d. slice_index self.new.by_disk d) }
         ensures keeps_telling { Unit {0} → Unit {0} }
     {
-        self.calls = self.calls.saturating_add(1);
-        if self.failing.contains(&self.calls) {
+        if steps::count_call(&mut self.calls, &self.failing) {
             self.faults = self.faults.saturating_add(1);
             return Err(RackError::Fault);
         }

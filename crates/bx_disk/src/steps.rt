@@ -1,6 +1,7 @@
 //! What calls do to disks in memory, and to the record.
 
-ghost use Rattle.std.specs.Prelude.{◌≡◌, ◌+◌, ◌/◌, ◌%◌, ◌^◌, ◌<◌, ◌≤◌, [], ◌∷◌, ◌++◌, length, slice_index, vec_capacity, ℕ, slice_set, IfOk, OnOk, OnErr, IsErr};
+ghost use Rattle.std.specs.Prelude.{◌≡◌, ◌+◌, ◌/◌, ◌%◌, ◌^◌, ◌<◌, ◌≤◌, ◌==◌, [], ◌∷◌, ◌++◌, length, slice_index, vec_capacity, ℕ, slice_set, IfOk, OnOk, OnErr, IsErr};
+ghost use Rattle.std.specs.List.{list_any};
 ghost use Rattle.bx_disk.specs.declared.entry.Entry.TheVariants.{Wrote, Shaped};
 ghost use Rattle.bx_base.specs.Faults.{count_up};
 ghost use Rattle.bx_disk.specs.Disks.{Disks, written, synced, shaped};
@@ -66,6 +67,15 @@ pub fn make_disks(alloc: Global, sizes: &[u64], synced: usize) -> Result<Vec<Mem
         disks.push(MemDisk::blank(alloc, *size, synced))?;
     }
     Ok(disks)
+}
+
+/// Counts a call, and says whether its number stands among those that fail.
+pub fn count_call(calls: &mut u64, failing: &[u64]) -> bool
+    ensures counted { calls.new ≡ count_up calls.old }
+    ensures fails { result ≡ list_any (λ n. n == calls.new) failing.now }
+{
+    *calls = calls.saturating_add(1);
+    failing.contains(calls)
 }
 
 /// Counts a fault of a disk.

@@ -2,8 +2,8 @@ use Rattle.std.proofs.Common.{◌∙◌, ◌+◌, refl, sym, arith, length}
 use Rattle.std.proofs.lemmas.Option.{slice_get_read}
 use Rattle.bx_disk.proofs.mem_rack.MemRackRack.read.Goals as goal
 
-pub returns-then-contains-clause-later : goal.returns-then-contains-clause-later
-returns-then-contains-clause-later c = record {
+pub returns-then-count_call-clause-later : goal.returns-then-count_call-clause-later
+returns-then-count_call-clause-later c = record {
   all = rw (← c.self.view_is) (omega arith);
   each = rw (← c.self.view_is) c.count_fault.ensures.later;
 }

@@ -3,8 +3,8 @@ use Rattle.bx_disk.specs.Disks.{Disks}
 use Rattle.bx_disk.proofs.Racks.{after_noted, memory_after_sync, time_after_sync}
 use Rattle.bx_disk.proofs.mem_rack.MemRackRack.sync.Goals as goal
 
-pub returns-then-contains-clause-later : goal.returns-then-contains-clause-later
-returns-then-contains-clause-later c = record {
+pub returns-then-count_call-clause-later : goal.returns-then-count_call-clause-later
+returns-then-count_call-clause-later c = record {
   all = rw (← c.self.view_is) (omega arith);
   each = rw (← c.self.view_is) c.count_fault.ensures.later;
 }

@@ -5,8 +5,8 @@ use Rattle.bx_disk.specs.Laws.{time_goes_on}
 use Rattle.bx_disk.proofs.Racks.{Fits-below-256, small_size, fits_so, after_write, memory_after_write}
 use Rattle.bx_disk.proofs.mem_rack.MemRackRack.write.Goals as goal
 
-pub returns-then-contains-clause-later : goal.returns-then-contains-clause-later
-returns-then-contains-clause-later c = record {
+pub returns-then-count_call-clause-later : goal.returns-then-count_call-clause-later
+returns-then-count_call-clause-later c = record {
   all = rw (← c.self.view_is) (omega arith);
   each = rw (← c.self.view_is) c.count_fault.ensures.later;
 }

@@ -1,0 +1,6 @@
+pub mod Among
+pub mod Sectors
+pub mod Keeping
+pub mod Owed
+pub mod Racks
+pub mod Blank

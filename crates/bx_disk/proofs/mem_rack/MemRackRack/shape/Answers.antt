@@ -1,0 +1,23 @@
+use Rattle.std.proofs.Common.{refl, ap}
+use Rattle.bx_disk.specs.Disks.{Disks}
+use Rattle.bx_disk.specs.Laws.{time_goes_on, time_stays}
+use Rattle.bx_disk.proofs.Racks.{after_shape, memory_after_shape}
+use Rattle.bx_disk.proofs.mem_rack.MemRackRack.shape.Goals as goal
+
+pub returns-in_err-shape_disks-clause-time : goal.returns-in_err-shape_disks-clause-time
+returns-in_err-shape_disks-clause-time c = λ tells. rw (← c.self.view_is) (time_stays _ _ refl (c.in_err-shape_disks.ensures.err refl).0)
+
+pub invariant_of-self-2 : goal.invariant_of-self-2
+invariant_of-self-2 c =
+    memory_after_shape c.self.inside.first.items c.self.inside.entries c.shape_disks.new.entries c.shape_disks.new.disks.items c.shape_disks.new.by_disk.items c.args.sizes.now
+    c.in_ok-shape_disks.ensures.ok c.in_ok-shape_disks.ensures.kept c.in_ok-shape_disks.ensures.owed c.in_ok-shape_disks.ensures.fits c.in_ok-shape_disks.ensures.long c.requires
+
+pub returns-clause-shaped : goal.returns-clause-shaped
+returns-clause-shaped c = λ tells. after_shape c.self.inside.first.items c.self.inside.entries.items c.shape_disks.new.entries.items c.args.sizes.now c.in_ok-shape_disks.ensures.ok
+
+pub returns-clause-sizes : goal.returns-clause-sizes
+returns-clause-sizes c =
+    ap (λ (d : Disks). d.sizes) (after_shape c.self.inside.first.items c.self.inside.entries.items c.shape_disks.new.entries.items c.args.sizes.now c.in_ok-shape_disks.ensures.ok)
+
+pub returns-clause-time : goal.returns-clause-time
+returns-clause-time c = λ tells. rw (← c.self.view_is) (time_goes_on _ _ _ refl c.in_ok-shape_disks.ensures.ok)

@@ -1,0 +1,218 @@
+-- What holds of all disks that a record tells.
+use Rattle.std.specs.Prelude.{◌≡◌, ℕ, zero, suc, ◌+◌, ◌-◌, ◌*◌, ◌/◌, ◌%◌, ◌<◌, ◌≤◌, ◌==◌, Bool, true, false, not, ◌&&◌, nat_lt, nat_le, if◌then◌else◌, List, [], ◌∷◌, ◌++◌, length, take, drop, replicate, slice_index, ◌⊎◌, refl}
+use Rattle.std.proofs.Common.{arith, sym, ap, subst, ◌∙◌, inl, inr, length-append}
+use Rattle.std.specs.List.{list_all}
+use Rattle.std.proofs.lemmas.List.{length-take, length-drop, length-replicate}
+use Rattle.std.proofs.lemmas.Bool.{ltb-true, lt-ltb}
+use Rattle.std.proofs.lemmas.Bool.Decides.{nat_tests}
+use Rattle.bx_disk.specs.Disks.{Image, Disks, IsSector, IsImage, zeros, sector_of, is_within, is_among, written, synced, shaped, blank_image}
+use Rattle.bx_disk.specs.Moments.{Elapses}
+use Rattle.bx_disk.specs.Past.{Past, LeftSince, fits, after_entry, after_entries, disks_of, moment_of}
+use Rattle.bx_disk.specs.declared.entry.Entry.{Entry}
+use Rattle.bx_disk.specs.declared.entry.Entry.TheVariants.{Wrote, Synced, Shaped}
+
+pub record IsLawful (disks : Disks) : Type 0 where
+  pub whole : (d s : ℕ) → s < slice_index disks.sizes d → IsSector (disks.reads d s)
+  pub beyond : (d s : ℕ) → slice_index disks.sizes d ≤ s → disks.reads d s ≡ []
+  pub there : (d s : ℕ) → disks.unsure d s ≡ true → s < slice_index disks.sizes d
+
+abbrev is_byte : ℕ → Bool
+is_byte b = nat_lt b 256
+
+never : false ≡ true → ⊥
+never e = cc
+
+both : (a b : Bool) → (a && b) ≡ true → (a ≡ true) × (b ≡ true)
+both true b is = (refl, is)
+both false b is = absurd (never is)
+
+all_take : (n : ℕ) (l : List ℕ) → list_all is_byte l ≡ true → list_all is_byte (take n l) ≡ true
+all_take zero l all = refl
+all_take (suc n) [] all = refl
+all_take (suc n) (x ∷ l) all =
+    let parts = both (is_byte x) (list_all is_byte l) all in
+    rw (parts.0) (all_take n l parts.1)
+
+all_drop : (n : ℕ) (l : List ℕ) → list_all is_byte l ≡ true → list_all is_byte (drop n l) ≡ true
+all_drop zero l all = all
+all_drop (suc n) [] all = refl
+all_drop (suc n) (x ∷ l) all = all_drop n l (both (is_byte x) (list_all is_byte l) all).1
+
+at_index : (l : List ℕ) → list_all is_byte l ≡ true → (i : ℕ) → slice_index l i < 256
+at_index [] all i = omega arith
+at_index (x ∷ l) all zero = ltb-true x 256 (both (is_byte x) (list_all is_byte l) all).0
+at_index (x ∷ l) all (suc i) = at_index l (both (is_byte x) (list_all is_byte l) all).1 i
+
+pub all_bytes : (l : List ℕ) → ((i : ℕ) → slice_index l i < 256) → list_all is_byte l ≡ true
+all_bytes [] each = refl
+all_bytes (x ∷ l) each = rw (lt-ltb x 256 (each 0)) (all_bytes l (λ i. each (suc i)))
+
+zeros_bytes : (n i : ℕ) → slice_index (replicate n 0) i < 256
+zeros_bytes zero i = omega arith
+zeros_bytes (suc n) zero = omega arith
+zeros_bytes (suc n) (suc i) = zeros_bytes n i
+
+pub zeros_whole : IsSector zeros
+unfolding zeros
+zeros_whole = record { long = length-replicate {A = ℕ} 512 0; bytes = zeros_bytes 512 }
+
+pub sector_whole : (bytes : List ℕ) (i : ℕ) → list_all is_byte bytes ≡ true → 512 * i + 512 ≤ length bytes → IsSector (sector_of bytes i)
+unfolding sector_of
+sector_whole bytes i all range = record {
+  long = length-take 512 (drop (512 * i) bytes) ∙ (let rest = length-drop (512 * i) bytes in omega arith);
+  bytes = at_index (take 512 (drop (512 * i) bytes)) (all_take 512 (drop (512 * i) bytes) (all_drop (512 * i) bytes all));
+}
+
+lawful_shaped : (sizes : List ℕ) → IsLawful (shaped sizes)
+lawful_shaped sizes = record {
+  whole = λ d s within. rw (lt-ltb s (slice_index sizes d) within) zeros_whole;
+  beyond = λ d s past. past_end (nat_lt s (slice_index sizes d)) d s refl past;
+  there = λ d s unsure. absurd (never unsure);
+}
+  where
+    past_end : (b : Bool) (d s : ℕ) → nat_lt s (slice_index sizes d) ≡ b → slice_index sizes d ≤ s → blank_image sizes d s ≡ []
+    past_end true d s is past = let less = ltb-true s (slice_index sizes d) is in absurd (omega arith)
+    past_end false d s is past = rw is refl
+
+lawful_synced : (disks : Disks) (disk : ℕ) → IsLawful disks → IsLawful (synced disks disk)
+lawful_synced disks disk lawful = record {
+  whole = lawful.whole;
+  beyond = lawful.beyond;
+  there = λ d s unsure. lawful.there d s (both (not (d == disk)) (disks.unsure d s) unsure).1;
+}
+
+lawful_written : (disks : Disks) (disk from : ℕ) (bytes : List ℕ) → IsLawful disks → fits disks.sizes disk from bytes ≡ true → IsLawful (written disks disk from bytes)
+lawful_written disks disk from bytes lawful is = record {
+  whole = λ d s within. whole_at (is_within disk from (length bytes / 512) d s) d s refl within;
+  beyond = λ d s past. beyond_at (is_within disk from (length bytes / 512) d s) d s refl past;
+  there = λ d s unsure. there_at (is_within disk from (length bytes / 512) d s) d s refl unsure;
+}
+  where
+    parts : (((length bytes % 512 == 0) && nat_le (from + length bytes / 512) (slice_index disks.sizes disk)) ≡ true) × (list_all is_byte bytes ≡ true)
+    parts = both ((length bytes % 512 == 0) && nat_le (from + length bytes / 512) (slice_index disks.sizes disk)) (list_all is_byte bytes) is
+
+    range : from + length bytes / 512 ≤ slice_index disks.sizes disk
+    range = grind (arith, nat_tests, (both (length bytes % 512 == 0) (nat_le (from + length bytes / 512) (slice_index disks.sizes disk)) parts.0).1)
+
+    among : (d s : ℕ) → is_within disk from (length bytes / 512) d s ≡ true → (d ≡ disk) × (from ≤ s) × (s < from + length bytes / 512)
+    among d s within =
+        let first = both (d == disk) (is_among from (length bytes / 512) s) within in
+        let rest = both (nat_le from s) (nat_lt s (from + length bytes / 512)) first.1 in
+        (grind (arith, nat_tests, first.0), grind (arith, nat_tests, rest.0), ltb-true s (from + length bytes / 512) rest.1)
+
+    inside : (d s : ℕ) → is_within disk from (length bytes / 512) d s ≡ true → s < slice_index disks.sizes d
+    inside d s within = let where_it_is = among d s within in rw (where_it_is.0) (let less = where_it_is.2 in let most = range in omega arith)
+
+    whole_at : (b : Bool) (d s : ℕ) → is_within disk from (length bytes / 512) d s ≡ b → s < slice_index disks.sizes d → IsSector ((written disks disk from bytes).reads d s)
+    whole_at true d s within there =
+        let where_it_is = among d s within in
+        let low = where_it_is.1 in
+        let less = where_it_is.2 in
+        rw within (sector_whole bytes (s - from) parts.1 (omega arith))
+    whole_at false d s within there = rw within (lawful.whole d s there)
+
+    beyond_at : (b : Bool) (d s : ℕ) → is_within disk from (length bytes / 512) d s ≡ b → slice_index disks.sizes d ≤ s → (written disks disk from bytes).reads d s ≡ []
+    beyond_at true d s within past = let less = inside d s within in absurd (omega arith)
+    beyond_at false d s within past = rw within (lawful.beyond d s past)
+
+    there_at : (b : Bool) (d s : ℕ) → is_within disk from (length bytes / 512) d s ≡ b → (written disks disk from bytes).unsure d s ≡ true → s < slice_index disks.sizes d
+    there_at true d s within unsure = inside d s within
+    there_at false d s within unsure = lawful.there d s (rw within at unsure)
+
+lawful_entry : (disks : Disks) (entry : Entry) → IsLawful disks → IsLawful (after_entry disks entry)
+lawful_entry disks (Wrote disk from bytes) lawful = at (fits disks.sizes disk from bytes) refl
+  where
+    at : (b : Bool) → fits disks.sizes disk from bytes ≡ b → IsLawful (if fits disks.sizes disk from bytes then written disks disk from bytes else disks)
+    at true is = rw is (lawful_written disks disk from bytes lawful is)
+    at false is = rw is lawful
+lawful_entry disks (Synced disk) lawful = lawful_synced disks disk lawful
+lawful_entry disks (Shaped sizes) lawful = lawful_shaped sizes
+
+lawful_entries : (disks : Disks) (entries : List Entry) → IsLawful disks → IsLawful (after_entries disks entries)
+lawful_entries disks [] lawful = lawful
+lawful_entries disks (entry ∷ entries) lawful = lawful_entries (after_entry disks entry) entries (lawful_entry disks entry lawful)
+
+pub lawful_past : (past : Past) → IsLawful (disks_of past)
+lawful_past past = lawful_entries (shaped past.first) past.entries (lawful_shaped past.first)
+
+pub one_more_entry : (disks : Disks) (entries : List Entry) (entry : Entry) → after_entries disks (entries ++ entry ∷ []) ≡ after_entry (after_entries disks entries) entry
+one_more_entry disks [] entry = refl
+one_more_entry disks (first ∷ entries) entry = one_more_entry (after_entry disks first) entries entry
+
+take_all : (entries : List Entry) → take (length entries) entries ≡ entries
+take_all [] = refl
+take_all (entry ∷ entries) = ap (λ (rest : List Entry). entry ∷ rest) (take_all entries)
+
+take_more : (n : ℕ) (entries : List Entry) (entry : Entry) → n ≤ length entries → take n (entries ++ entry ∷ []) ≡ take n entries
+take_more zero entries entry le = refl
+take_more (suc n) [] entry le = absurd (omega arith)
+take_more (suc n) (first ∷ entries) entry le = ap (λ (rest : List Entry). first ∷ rest) (take_more n entries entry (omega arith))
+
+pub now_counts : (past : Past) (t : ℕ) (image : Image) → t ≤ moment_of past → IsImage (disks_of past) image → LeftSince past t image
+now_counts past t image late is = record {
+  at = length past.entries;
+  late = late;
+  over = omega arith;
+  leaves = subst (λ (l : List Entry). IsImage (after_entries (shaped past.first) l) image) (sym (take_all past.entries)) is;
+}
+
+pub now_only : (past : Past) (image : Image) → LeftSince past (moment_of past) image → IsImage (disks_of past) image
+now_only past image left =
+    let same : left.at ≡ length past.entries = omega (arith, left.late, left.over) in
+    subst (λ (l : List Entry). IsImage (after_entries (shaped past.first) l) image) (ap (λ (n : ℕ). take n past.entries) same ∙ take_all past.entries) left.leaves
+
+-- no entry more
+pub time_stays : (old new : Past) → new.first ≡ old.first → new.entries ≡ old.entries
+    → Elapses (moment_of old) (moment_of new) (LeftSince old) (LeftSince new) (disks_of new)
+time_stays old new first entries = record {
+  later = let long = ap (λ (l : List Entry). length l) entries in omega arith;
+  nothing_else = λ t image le left. inl (as_was old new first entries t image left);
+  keeps = λ t image le left. as_was new old (sym first) (sym entries) t image left;
+}
+  where
+    as_was : (a b : Past) → b.first ≡ a.first → b.entries ≡ a.entries → (t : ℕ) (image : Image) → LeftSince b t image → LeftSince a t image
+    as_was a b same_first same t image left = record {
+      at = left.at;
+      late = left.late;
+      over = let long = ap (λ (l : List Entry). length l) same in let over = left.over in omega arith;
+      leaves = subst (λ (f : List ℕ). IsImage (after_entries (shaped f) (take left.at a.entries)) image) same_first
+          (subst (λ (l : List Entry). IsImage (after_entries (shaped b.first) (take left.at l)) image) same left.leaves);
+    }
+
+-- one entry more
+pub time_goes_on : (old new : Past) (entry : Entry) → new.first ≡ old.first → new.entries ≡ old.entries ++ entry ∷ []
+    → Elapses (moment_of old) (moment_of new) (LeftSince old) (LeftSince new) (disks_of new)
+time_goes_on old new entry first entries = record {
+  later = let more = long in omega arith;
+  nothing_else = λ t image le left. which t image left (nat_le left.at (length old.entries)) refl;
+  keeps = λ t image le left. record {
+    at = left.at;
+    late = left.late;
+    over = let over = left.over in let more = long in omega arith;
+    leaves = subst (λ (f : List ℕ). IsImage (after_entries (shaped f) (take left.at new.entries)) image) (sym first)
+        (subst (λ (l : List Entry). IsImage (after_entries (shaped old.first) l) image) (sym (part left.at left.over)) left.leaves);
+  };
+}
+  where
+    long : length new.entries ≡ length old.entries + 1
+    long = ap (λ (l : List Entry). length l) entries ∙ length-append old.entries (entry ∷ [])
+
+    part : (n : ℕ) → n ≤ length old.entries → take n new.entries ≡ take n old.entries
+    part n le = ap (λ (l : List Entry). take n l) entries ∙ take_more n old.entries entry le
+
+    which : (t : ℕ) (image : Image) (left : LeftSince new t image) (b : Bool) → nat_le left.at (length old.entries) ≡ b → LeftSince old t image ⊎ IsImage (disks_of new) image
+    which t image left true is =
+        let le : left.at ≤ length old.entries = grind (arith, nat_tests, is) in
+        inl (record {
+          at = left.at;
+          late = left.late;
+          over = le;
+          leaves = subst (λ (f : List ℕ). IsImage (after_entries (shaped f) (take left.at old.entries)) image) first
+              (subst (λ (l : List Entry). IsImage (after_entries (shaped new.first) l) image) (part left.at le) left.leaves);
+        })
+    which t image left false is =
+        let more = long in
+        let over = left.over in
+        let past : length old.entries < left.at = grind (arith, nat_tests, is) in
+        let same : left.at ≡ length new.entries = omega arith in
+        inr (subst (λ (l : List Entry). IsImage (after_entries (shaped new.first) l) image) (ap (λ (n : ℕ). take n new.entries) same ∙ take_all new.entries) left.leaves)

@@ -1,0 +1,52 @@
+//! The bytes of one sector.
+
+ghost use Rattle.std.specs.Prelude.{◌≡◌, IfOk, length};
+ghost use Rattle.bx_disk.specs.Disks.{zeros};
+
+use bx_base::OutOfMemory;
+use std::alloc::Global;
+use std::marker::Model;
+
+/// 512 bytes.
+#[derive(Debug, Drop)]
+pub struct Sector {
+    bytes: Vec<u8>,
+}
+
+impl Model for Sector {
+    ghost use Rattle.std.specs.Prelude.{◌≡◌, ℕ, List, length};
+
+    ghost Value = { List ℕ };
+
+    ghost view = { λ sector. sector.bytes.items };
+
+    ghost invariant = { λ sector. length sector.bytes.items ≡ 512 };
+}
+
+impl Sector {
+    /// A sector of zeros.
+    #[tactic(auto, unfolding(crate::specs::Disks::zeros))]
+    pub fn zero(alloc: Global) -> Result<Sector, OutOfMemory>
+        ensures { IfOk result (λ sector. sector ≡ zeros) }
+    {
+        Ok(Sector {
+            bytes: Vec::from_elem(alloc, 0u8, 512)?,
+        })
+    }
+
+    /// The bytes.
+    pub fn bytes(&self) -> &[u8]
+        ensures value { result.now ≡ self.now }
+        ensures long { length result.now ≡ 512 }
+    {
+        self.bytes.as_slice()
+    }
+
+    /// Puts other bytes in their place.
+    pub fn set(&mut self, bytes: &[u8])
+        requires { length bytes.now ≡ 512 }
+        ensures { self.new ≡ bytes.now }
+    {
+        self.bytes.as_mut_slice().copy_from_slice(bytes);
+    }
+}

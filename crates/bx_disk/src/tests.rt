@@ -1,0 +1,29 @@
+//! What no clause says, and each function once.
+
+use crate::{MemRack, Rack, StopRack};
+use std::test::Fail;
+
+#[test]
+fn a_sector_reads_as_it_was_written(rt: HostRuntime) -> Result<(), Fail> {
+    let mut rack = MemRack::new(rt.alloc(), &[9, 9], &[2])?;
+    let bytes = [7; 512];
+    let mut into = [0; 512];
+    assert!(rt; rack.write(1, 8, &bytes).is_ok());
+    assert!(rt; rack.sync(1).is_err());
+    assert!(rt; rack.sync(1).is_ok());
+    assert!(rt; rack.read(1, 8, &mut into).is_ok());
+    assert_eq!(rt; into[511], 7);
+    assert!(rt; rack.read(0, 8, &mut into).is_ok());
+    assert_eq!(rt; into[511], 0);
+    Ok(())
+}
+
+#[test]
+fn a_rack_stops(rt: HostRuntime) -> Result<(), Fail> {
+    let mut rack = StopRack::new(MemRack::new(rt.alloc(), &[9], &[])?, 1);
+    assert!(rt; rack.sync(0).is_ok());
+    assert!(rt; rack.sync(0).is_err());
+    assert!(rt; rack.write(0, 0, &[7; 512]).is_err());
+    assert_eq!(rt; rack.into_inner().sectors(0), 9);
+    Ok(())
+}

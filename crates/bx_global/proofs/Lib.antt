@@ -1,3 +1,4 @@
+pub mod Begins
 pub mod Kept
 pub mod Loops
 pub mod Rising

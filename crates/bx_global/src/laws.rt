@@ -2,6 +2,7 @@
 
 ghost use Rattle.std.specs.Prelude.{◌≡◌, ℕ, ◌+◌, ◌<◌, ◌≤◌, Some, None, IfSome, IsSomeAnd, slice_get};
 ghost use Rattle.bx_global.specs.Allowed.{IsAllowed, IsChange};
+ghost use Rattle.bx_global.specs.Opening.{formatted_state, opening_state};
 ghost use Rattle.bx_global.specs.Table.{IsLegal, effect};
 ghost use Rattle.bx_global.specs.Words.{row_in};
 ghost use Rattle.bx_global.specs.declared.change.Change.{Change};
@@ -26,4 +27,10 @@ pub fn sessions_end()
 /// A legal change of a state that meets the conditions makes one that meets them.
 pub fn stays_allowed()
     ensures { (s : GlobalState) (change : Change) → IsAllowed s → IsChange change → IsLegal s change → IsAllowed (effect s change) }
+{}
+
+/// The states to begin with meet the conditions, for at most 4 nodes and 1 to 4 devices.
+pub fn begins_allowed()
+    ensures opening { (nodes devices : ℕ) → nodes ≤ 4 → 1 ≤ devices → devices ≤ 4 → IsAllowed (opening_state nodes devices) }
+    ensures formatted { (devices : ℕ) → 1 ≤ devices → devices ≤ 4 → IsAllowed (formatted_state devices) }
 {}

@@ -9,7 +9,8 @@ use Rattle.bx_global.specs.declared.device.DeviceRow.{DeviceRow}
 use Rattle.bx_global.specs.declared.session.SessionRow.{SessionRow}
 use Rattle.bx_global.specs.declared.state.GlobalState.{GlobalState}
 use Rattle.bx_global.specs.Rows.{dead, expired, claimed}
-use Rattle.bx_global.specs.Table.{effect, opened, shifted, without}
+use Rattle.bx_global.specs.Table.{effect, opened, shifted, without, Follows, IsLegal}
+use Rattle.bx_global.specs.Modes.{IsReachable}
 use Rattle.bx_global.specs.Words.{row_in}
 use Rattle.bx_global.proofs.Loops.{at_place_at, at_place_other}
 
@@ -140,6 +141,25 @@ epoch_rises s (Shift device epoch mode second boot) n row e =
     elim (eqb_tells n device) [
       | inl h ↦ rw (at_place_at device (shifted mode second boot) s.devices n row h.1 e) (epoch_shifted mode second boot row)
       | inr h ↦ rw (at_place_other device (shifted mode second boot) s.devices n row h.1 e) (omega arith)
+    ]
+
+-- ---- modes go by steps
+
+shift_follows : (mode : ℕ) (second : Bool) (boot : ℕ) (row : DeviceRow) → IsReachable row.mode mode → Follows row (shifted mode second boot row)
+shift_follows mode true boot row r = inr (r, refl)
+shift_follows mode false boot row r = inr (r, refl)
+
+pub follows : (s : GlobalState) (change : Change) (n : ℕ) (row : DeviceRow) → IsLegal s change → slice_get s.devices n ≡ Some row → IsSomeAnd (slice_get (effect s change).devices n) (Follows row)
+follows s (Renew by boot reading) n row legal e = rw e (inl refl)
+follows s (Take by boot reading) n row legal e = rw e (inl refl)
+follows s (Open node boot reading) n row legal e = rw e (inl refl)
+follows s (Expire session term reading) n row legal e = rw e (inl refl)
+follows s (Claim gone by) n row legal e = rw e (inl refl)
+follows s (Close gone by) n row legal e = rw e (inl refl)
+follows s (Shift device epoch mode second boot) n row legal e =
+    elim (eqb_tells n device) [
+      | inl h ↦ let here = rw h.1 at e in let meets = rw here at legal.row in rw (at_place_at device (shifted mode second boot) s.devices n row h.1 e) (shift_follows mode second boot row meets.1)
+      | inr h ↦ rw (at_place_other device (shifted mode second boot) s.devices n row h.1 e) (inl refl)
     ]
 
 -- ---- nor does another number

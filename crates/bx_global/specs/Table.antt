@@ -1,5 +1,5 @@
 -- Which changes of a state are legal, and what they make of it.
-use Rattle.std.specs.Prelude.{◌≡◌, ℕ, zero, suc, ◌+◌, ◌-◌, ◌^◌, ◌<◌, ◌≤◌, Bool, not, ◌==◌, if◌then◌else◌, List, [], ◌∷◌, ◌++◌, map, filter, slice_get, min, max, Option, None, IsSomeAnd, MatchOption}
+use Rattle.std.specs.Prelude.{◌≡◌, ℕ, zero, suc, ◌+◌, ◌-◌, ◌^◌, ◌<◌, ◌≤◌, Bool, not, ◌==◌, if◌then◌else◌, List, [], ◌∷◌, ◌++◌, ◌⊎◌, map, filter, slice_get, min, max, Option, None, IsSomeAnd, MatchOption}
 use Rattle.bx_global.specs.declared.change.Change.{Change}
 use Rattle.bx_global.specs.declared.change.Change.TheVariants.{Renew, Take, Open, Expire, Claim, Close, Shift}
 use Rattle.bx_global.specs.declared.device.DeviceRow.{DeviceRow}
@@ -89,3 +89,7 @@ effect s (Shift device epoch mode second boot) = record s {
 -- what is answered to a change: the state after it exactly where it is legal
 abbrev pub IsAnswer : GlobalState → Change → Option GlobalState → Type 0
 IsAnswer s change made = MatchOption made (IsLegal s change → ⊥) (λ new. IsLegal s change × (new ≡ effect s change))
+
+-- a device's row stays, or its mode is one that a step leads to, in the next epoch
+abbrev pub Follows : DeviceRow → DeviceRow → Type 0
+Follows old new = (new ≡ old) ⊎ (IsReachable old.mode new.mode × (new.epoch ≡ old.epoch + 1))

@@ -3,7 +3,7 @@
 ghost use Rattle.std.specs.Prelude.{◌≡◌, ℕ, ◌+◌, ◌<◌, ◌≤◌, Some, None, IfSome, IsSomeAnd, slice_get};
 ghost use Rattle.bx_global.specs.Allowed.{IsAllowed, IsChange};
 ghost use Rattle.bx_global.specs.Opening.{formatted_state, opening_state};
-ghost use Rattle.bx_global.specs.Table.{IsLegal, effect};
+ghost use Rattle.bx_global.specs.Table.{Follows, IsLegal, effect};
 ghost use Rattle.bx_global.specs.Words.{row_in};
 ghost use Rattle.bx_global.specs.declared.change.Change.{Change};
 ghost use Rattle.bx_global.specs.declared.device.DeviceRow.{DeviceRow};
@@ -33,4 +33,9 @@ pub fn stays_allowed()
 pub fn begins_allowed()
     ensures opening { (nodes devices : ℕ) → nodes ≤ 4 → 1 ≤ devices → devices ≤ 4 → IsAllowed (opening_state nodes devices) }
     ensures formatted { (devices : ℕ) → 1 ≤ devices → devices ≤ 4 → IsAllowed (formatted_state devices) }
+{}
+
+/// A legal change leaves a device's row as it is, or leads to a mode that one step leads to, in the next epoch.
+pub fn modes_follow()
+    ensures { (s : GlobalState) (change : Change) (n : ℕ) (row : DeviceRow) → IsLegal s change → slice_get s.devices n ≡ Some row → IsSomeAnd (slice_get (effect s change).devices n) (Follows row) }
 {}

@@ -17,7 +17,7 @@ pub use ballot::Ballot;
 pub use begin::{formatted, opening};
 pub use change::Change;
 pub use device::DeviceRow;
-pub use laws::{begins_allowed, numbers_rise, sessions_end, stays_allowed};
+pub use laws::{begins_allowed, modes_follow, numbers_rise, sessions_end, stays_allowed};
 pub use session::SessionRow;
 pub use state::GlobalState;
 

@@ -27,3 +27,18 @@ fn a_rack_stops(rt: HostRuntime) -> Result<(), Fail> {
     assert_eq!(rt; rack.into_inner().sectors(0), 9);
     Ok(())
 }
+
+#[test]
+fn disks_are_made_anew(rt: HostRuntime) -> Result<(), Fail> {
+    let mut rack = MemRack::new(rt.alloc(), &[9], &[])?;
+    assert!(rt; rack.write(0, 3, &[7; 512]).is_ok());
+    assert!(rt; rack.shape(&[75_000_000, 4]).is_ok());
+    assert_eq!(rt;
+        (rack.disks(), rack.sectors(0), rack.sectors(1)),
+        (2, 75_000_000, 4)
+    );
+    let mut into = [1; 512];
+    assert!(rt; rack.read(0, 3, &mut into).is_ok());
+    assert_eq!(rt; into[0], 0);
+    Ok(())
+}

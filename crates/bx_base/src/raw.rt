@@ -1,6 +1,6 @@
 //! Bytes that own their memory.
 
-ghost use Rattle.std.specs.Prelude.{◌≡◌, IfOk, length};
+ghost use Rattle.std.specs.Prelude.{◌≡◌, ◌<◌, IfOk, length, slice_set};
 
 use crate::memory::OutOfMemory;
 use std::alloc::Global;
@@ -34,6 +34,14 @@ impl Raw {
         ensures { result.now ≡ self.now }
     {
         self.bytes.as_slice()
+    }
+
+    /// Puts a byte in the place of the one at a place, counted from 0.
+    pub fn set(&mut self, at: usize, byte: u8)
+        requires { at < length self.old }
+        ensures { self.new ≡ slice_set self.old at byte }
+    {
+        self.bytes[at] = byte;
     }
 }
 

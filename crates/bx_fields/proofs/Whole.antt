@@ -1,0 +1,67 @@
+-- A field that is all of the bytes, or has only zeros behind it.
+use Rattle.std.proofs.Common.{◌≡◌, ℕ, ◌-◌, ◌≤◌, List, [], ◌++◌, length, Option, Some, None, refl, sym, ap, ◌∙◌, arith}
+use Rattle.std.specs.Prelude.{replicate}
+use Rattle.std.proofs.lemmas.List.{length-append, length-replicate, append-nil}
+use Rattle.std.proofs.lemmas.Option.{some_pair_parts}
+use Rattle.bx_base.specs.Bytes.{IsBytes}
+use Rattle.bx_fields.specs.Reading.{Reader}
+use Rattle.bx_fields.specs.Writing.{padded}
+use Rattle.bx_fields.proofs.Fields.{IsField}
+
+-- ---- nothing behind it
+
+pub all_read : {A : Type 0} {a : Reader A} {text : A → List ℕ} {Fits : A → Type 0} → IsField a text Fits → (bytes rest : List ℕ) (x : A)
+    → IsBytes bytes → a bytes ≡ Some (x, rest) → rest ≡ [] → (bytes ≡ text x) × Fits x
+all_read {A} {a} {text} {Fits} p bytes rest x fits e none =
+    let t = p.takes bytes (x, rest) fits e in
+    (t.0.parts ∙ ap (λ (r : List ℕ). text x ++ r) none ∙ append-nil (text x), t.1)
+
+pub all_again : {A : Type 0} {a : Reader A} {text : A → List ℕ} {Fits : A → Type 0} → IsField a text Fits → (bytes : List ℕ) (x : A)
+    → bytes ≡ text x → Fits x → a bytes ≡ Some (x, [])
+all_again {A} {a} {text} {Fits} p bytes x is fits = ap a (is ∙ sym (append-nil (text x))) ∙ p.again x [] fits
+
+-- what was read is the value, where there is one
+pub all_same : {A : Type 0} {a : Reader A} {text : A → List ℕ} {Fits : A → Type 0} → IsField a text Fits → (bytes rest : List ℕ) (x y : A)
+    → a bytes ≡ Some (x, rest) → bytes ≡ text y → Fits y → (x ≡ y) × (rest ≡ [])
+all_same {A} {a} {text} {Fits} p bytes rest x y e is fits =
+    some_pair_parts x y rest [] (sym e ∙ all_again p bytes y is fits)
+
+pub all_none : {A : Type 0} {a : Reader A} {text : A → List ℕ} {Fits : A → Type 0} → IsField a text Fits → (bytes : List ℕ) (y : A)
+    → a bytes ≡ None → bytes ≡ text y → Fits y → ⊥
+all_none {A} {a} {text} {Fits} p bytes y e is fits =
+    let both : ◌≡◌ {A = Option (A × List ℕ)} None (Some (y, [])) = sym e ∙ all_again p bytes y is fits in
+    absurd cc
+
+-- two values have different texts
+pub one_value : {A : Type 0} {a : Reader A} {text : A → List ℕ} {Fits : A → Type 0} → IsField a text Fits → (x y : A) → Fits x → Fits y → text x ≡ text y → x ≡ y
+one_value {A} {a} {text} {Fits} p x y one other same = (all_same p (text x) [] x y (all_again p (text x) x refl one) same other).0
+
+-- ---- zeros behind it
+
+pub length-padded : (size : ℕ) (bytes : List ℕ) → length bytes ≤ size → length (padded size bytes) ≡ size
+length-padded size bytes le = length-append bytes (replicate (size - length bytes) 0) ∙ omega (arith, length-replicate {A = ℕ} (size - length bytes) 0)
+
+pub padded_read : {A : Type 0} {a : Reader A} {text : A → List ℕ} {Fits : A → Type 0} → IsField a text Fits → (bytes rest : List ℕ) (x : A)
+    → IsBytes bytes → a bytes ≡ Some (x, rest) → rest ≡ replicate (length rest) 0 → (bytes ≡ padded (length bytes) (text x)) × Fits x
+padded_read {A} {a} {text} {Fits} p bytes rest x fits e zeros =
+    let t = p.takes bytes (x, rest) fits e in
+    let behind : length rest ≡ length bytes - length (text x) = omega (arith, ap length t.0.parts, length-append (text x) rest) in
+    (t.0.parts ∙ ap (λ (r : List ℕ). text x ++ r) (zeros ∙ ap (λ (n : ℕ). replicate n 0) behind), t.1)
+
+pub padded_again : {A : Type 0} {a : Reader A} {text : A → List ℕ} {Fits : A → Type 0} → IsField a text Fits → (size : ℕ) (bytes : List ℕ) (x : A)
+    → bytes ≡ padded size (text x) → Fits x → a bytes ≡ Some (x, replicate (size - length (text x)) 0)
+padded_again {A} {a} {text} {Fits} p size bytes x is fits = ap a is ∙ p.again x (replicate (size - length (text x)) 0) fits
+
+-- what was read is the value, where there is one
+pub padded_same : {A : Type 0} {a : Reader A} {text : A → List ℕ} {Fits : A → Type 0} → IsField a text Fits → (size : ℕ) (bytes rest : List ℕ) (x y : A)
+    → a bytes ≡ Some (x, rest) → bytes ≡ padded size (text y) → Fits y → (x ≡ y) × (rest ≡ replicate (length rest) 0)
+padded_same {A} {a} {text} {Fits} p size bytes rest x y e is fits =
+    let same = some_pair_parts x y rest (replicate (size - length (text y)) 0) (sym e ∙ padded_again p size bytes y is fits) in
+    let len : length rest ≡ size - length (text y) = ap length same.1 ∙ length-replicate {A = ℕ} (size - length (text y)) 0 in
+    (same.0, same.1 ∙ ap (λ (n : ℕ). replicate n 0) (sym len))
+
+pub padded_none : {A : Type 0} {a : Reader A} {text : A → List ℕ} {Fits : A → Type 0} → IsField a text Fits → (size : ℕ) (bytes : List ℕ) (y : A)
+    → a bytes ≡ None → bytes ≡ padded size (text y) → Fits y → ⊥
+padded_none {A} {a} {text} {Fits} p size bytes y e is fits =
+    let both : ◌≡◌ {A = Option (A × List ℕ)} None (Some (y, replicate (size - length (text y)) 0)) = sym e ∙ padded_again p size bytes y is fits in
+    absurd cc

@@ -1,0 +1,14 @@
+//! Fields of bytes, one after the other: numbers with their highest byte first, and bytes of a known length. What is
+//! read from the front leaves the bytes behind it, and what is written at a place tells the place behind it.
+#![tactic(auto)]
+
+mod error;
+mod reading;
+mod writing;
+
+pub use error::ReadError;
+pub use reading::{are_zeros, front_at, u16_at, u32_at, u64_at};
+pub use writing::{clear_from, push, push_u32, push_u64, put, put_u16, put_u32, put_u64};
+
+#[cfg(test)]
+mod tests;

@@ -1,108 +1,19 @@
 -- A part that is read is the part that was written, and what was written is read again.
-use Rattle.std.proofs.Common.{◌≡◌, ℕ, zero, suc, ◌+◌, ◌^◌, ◌<◌, ◌≤◌, Bool, true, false, ◌||◌, cond, ltb, eqb, List, [], ◌∷◌, ◌++◌, length, get_or, take, drop, Option, Some, None, refl, sym, ap, subst, ◌∙◌, append_assoc, arith, inl, inr, ◌⊎◌}
+use Rattle.std.proofs.Common.{◌≡◌, ℕ, zero, suc, ◌+◌, ◌^◌, ◌<◌, ◌≤◌, Bool, true, false, ◌||◌, cond, ltb, eqb, List, [], ◌∷◌, ◌++◌, length, Option, Some, None, refl, sym, ap, subst, ◌∙◌, append_assoc, arith, inl, inr, ◌⊎◌}
 use Rattle.std.specs.Prelude.{IfSome, All}
 use Rattle.std.specs.List.{flat_map}
-use Rattle.std.specs.Int.{Width, w16, w64, byte_len, from_be_bytes, to_be_bytes}
-use Rattle.std.proofs.lemmas.Bool.{cases_lt, ltb-false, le-ltb, eqb-true, ne_eqb}
-use Rattle.std.proofs.lemmas.List.{take_at, drop_at, take-append-drop, length-append, length-take, get_or-drop, get_or-take, get_or_past}
+use Rattle.std.specs.Int.{w16, w64, to_be_bytes}
+use Rattle.std.proofs.lemmas.Bool.{ltb-false, le-ltb, eqb-true, ne_eqb}
 use Rattle.std.proofs.lemmas.List.Elements.{All-head, All-tail, All-cons, All-nil}
 use Rattle.std.proofs.lemmas.List.Concat.{flat_map-cons}
-use Rattle.std.proofs.lemmas.Nat.{be_bytes_2, be_bytes_8, from_be_bytes-to_be_bytes_2, from_be_bytes-to_be_bytes_8}
 use Rattle.bx_page.specs.declared.entry.Entry.{Entry}
 use Rattle.bx_page.specs.Contents.{Contents, IsEntry, high_bytes}
 use Rattle.bx_page.specs.Spelling.{high_len, entry_bytes, numbers}
-use Rattle.bx_page.specs.Reading.{◌>>=◌, number_at, bytes_at, lengths_at, entry_at, entries_at, high_of, high_at, contents_at}
+use Rattle.bx_page.specs.Reading.{lengths_at, entry_at, entries_at, high_of, high_at, contents_at}
 use Rattle.bx_page.proofs.Written.{front}
-
-abbrev pub IsBytes : List ℕ → Type 0
-IsBytes bytes = (i : ℕ) → get_or bytes i 0 < 256
-
-IsBytes-drop : (n : ℕ) (bytes : List ℕ) → IsBytes bytes → IsBytes (drop n bytes)
-IsBytes-drop n bytes h i = rw get_or-drop (h (n + i))
-
-IsBytes-take : (n : ℕ) (bytes : List ℕ) → IsBytes bytes → IsBytes (take n bytes)
-IsBytes-take n bytes h i =
-    elim (cases_lt i n) [
-      | inl lt ↦ rw (get_or-take n bytes i 0 lt) (h i)
-      | inr le ↦ rw (get_or_past (take n bytes) i 0 (omega (arith, length-take n bytes))) (omega arith)
-    ]
-
--- the value of a step that did not fail
-bind_some : {A B : Type 0} (r : Option A) (f : A → Option B) (y : B) → (r >>= f) ≡ Some y → (x : A) × (r ≡ Some x) × (f x ≡ Some y)
-bind_some (Some x) f y e = (x, refl, e)
-bind_some None f y e = absurd cc
-
--- a test that did not fail
-guard_some : {A : Type 0} (b : Bool) (x y : A) → cond b None (Some x) ≡ Some y → (b ≡ false) × (x ≡ y)
-guard_some true x y e = absurd cc
-guard_some false x y e = (refl, cc)
-
-abbrev done : {A : Type 0} → A → Option A
-done x = Some x
-
-some_is : {A : Type 0} (x y : A) → done x ≡ done y → x ≡ y
-some_is x y e = cc
-
--- what a reader took from the front
-pub record Takes (bytes text rest : List ℕ) : Type 0 where
-  pub parts : bytes ≡ text ++ rest
-  pub rest_fits : IsBytes rest
-
-Takes-then : (a x b y c : List ℕ) → Takes a x b → Takes b y c → Takes a (x ++ y) c
-Takes-then a x b y c p q = record { parts = p.parts ∙ ap (λ (t : List ℕ). x ++ t) q.parts ∙ sym (append_assoc x y c); rest_fits = q.rest_fits }
-
--- ---- numbers
-
-record IsWide (w : Width) (limit : ℕ) : Type 0 where
-  len : (n : ℕ) → length (to_be_bytes w n) ≡ byte_len w
-  back : (bytes : List ℕ) → length bytes ≡ byte_len w → IsBytes bytes → to_be_bytes w (from_be_bytes w bytes) ≡ bytes
-  again : (n : ℕ) → n < limit → from_be_bytes w (to_be_bytes w n) ≡ n
-  below : (bytes : List ℕ) → IsBytes bytes → from_be_bytes w bytes < limit
-
-wide16 : IsWide w16 (2 ^ 16)
-wide16 = record {
-  len = λ n. refl;
-  back = λ bytes len fits. be_bytes_2 bytes _ len fits refl;
-  again = λ n lt. from_be_bytes-to_be_bytes_2 n lt;
-  below = λ bytes fits. omega (arith, fits 0, fits 1);
-}
-
-wide64 : IsWide w64 (2 ^ 64)
-wide64 = record {
-  len = λ n. refl;
-  back = λ bytes len fits. be_bytes_8 bytes _ len fits refl;
-  again = λ n lt. from_be_bytes-to_be_bytes_8 n lt;
-  below = λ bytes fits. omega (arith, fits 0, fits 1, fits 2, fits 3, fits 4, fits 5, fits 6, fits 7);
-}
-
-number_takes : (w : Width) (limit : ℕ) (wide : IsWide w limit) (bytes : List ℕ) (n : ℕ) (rest : List ℕ) → IsBytes bytes → number_at w bytes ≡ Some (n, rest) → Takes bytes (to_be_bytes w n) rest × (n < limit)
-number_takes w limit wide bytes n rest fits e =
-    let g = guard_some (ltb (length bytes) (byte_len w)) (from_be_bytes w (take (byte_len w) bytes), drop (byte_len w) bytes) (n, rest) e in
-    let long : byte_len w ≤ length bytes = ltb-false _ _ g.0 in
-    let n-is : from_be_bytes w (take (byte_len w) bytes) ≡ n = ap (λ (p : ℕ × List ℕ). p.0) g.1 in
-    let rest-is : drop (byte_len w) bytes ≡ rest = ap (λ (p : ℕ × List ℕ). p.1) g.1 in
-    let front : to_be_bytes w n ≡ take (byte_len w) bytes = rw (← n-is) (wide.back (take (byte_len w) bytes) (omega (arith, length-take (byte_len w) bytes)) (IsBytes-take (byte_len w) bytes fits)) in
-    (record { parts = rw (front, ← rest-is) (sym (take-append-drop (byte_len w) bytes)); rest_fits = rw (← rest-is) (IsBytes-drop (byte_len w) bytes fits) }, rw (← n-is) (wide.below (take (byte_len w) bytes) (IsBytes-take (byte_len w) bytes fits)))
-
-number_again : (w : Width) (limit : ℕ) (wide : IsWide w limit) (n : ℕ) (rest : List ℕ) → n < limit → number_at w (to_be_bytes w n ++ rest) ≡ Some (n, rest)
-number_again w limit wide n rest lt =
-    let len = wide.len n in
-    let long : ltb (length (to_be_bytes w n ++ rest)) (byte_len w) ≡ false = le-ltb _ _ (omega (arith, length-append (to_be_bytes w n) rest)) in
-    rw (long, take_at (to_be_bytes w n) rest (byte_len w) len, drop_at (to_be_bytes w n) rest (byte_len w) len, wide.again n lt) refl
-
--- ---- bytes
-
-bytes_take : (n : ℕ) (bytes text rest : List ℕ) → IsBytes bytes → bytes_at n bytes ≡ Some (text, rest) → Takes bytes text rest × (length text ≡ n)
-bytes_take n bytes text rest fits e =
-    let g = guard_some (ltb (length bytes) n) (take n bytes, drop n bytes) (text, rest) e in
-    let long : n ≤ length bytes = ltb-false _ _ g.0 in
-    let found : Takes bytes (take n bytes) (drop n bytes) = record { parts = sym (take-append-drop n bytes); rest_fits = IsBytes-drop n bytes fits } in
-    subst (λ (p : List ℕ × List ℕ). Takes bytes p.0 p.1 × (length p.0 ≡ n)) g.1 (found, omega (arith, length-take n bytes))
-
-bytes_again : (text rest : List ℕ) → bytes_at (length text) (text ++ rest) ≡ Some (text, rest)
-bytes_again text rest =
-    let long : ltb (length (text ++ rest)) (length text) ≡ false = le-ltb _ _ (omega (arith, length-append text rest)) in
-    rw (long, take_at text rest (length text) refl, drop_at text rest (length text) refl) refl
+use Rattle.bx_base.specs.Bytes.{IsBytes}
+use Rattle.bx_fields.specs.Reading.{◌>>=◌, number_at, bytes_at}
+use Rattle.bx_fields.proofs.Fields.{Takes, Takes-then, bind_some, guard_some, some_is, field16, field64, bytes_field}
 
 -- ---- entries
 
@@ -117,8 +28,8 @@ lengths_take bytes x fits e =
     let b = bind_some (number_at w16 a.0.1) (λ value. cond (ltb 256 a.0.0 || ltb 268 (a.0.0 + value.0)) None (Some ((a.0.0, value.0), value.1))) x a.2 in
     let g = guard_some (ltb 256 a.0.0 || ltb 268 (a.0.0 + b.0.0)) ((a.0.0, b.0.0), b.0.1) x b.2 in
     let both = or_false (ltb 256 a.0.0) (ltb 268 (a.0.0 + b.0.0)) g.0 in
-    let t0 = number_takes w16 (2 ^ 16) wide16 bytes a.0.0 a.0.1 fits a.1 in
-    let t1 = number_takes w16 (2 ^ 16) wide16 a.0.1 b.0.0 b.0.1 t0.0.rest_fits b.1 in
+    let t0 = field16.takes bytes a.0 fits a.1 in
+    let t1 = field16.takes a.0.1 b.0 t0.0.rest_fits b.1 in
     subst (λ (y : (ℕ × ℕ) × List ℕ). Takes bytes (to_be_bytes w16 y.0.0 ++ to_be_bytes w16 y.0.1) y.1 × (y.0.0 ≤ 256) × (y.0.0 + y.0.1 ≤ 268)) g.1
     (Takes-then bytes (to_be_bytes w16 a.0.0) a.0.1 (to_be_bytes w16 b.0.0) b.0.1 t0.0 t1.0, ltb-false _ _ both.0, ltb-false _ _ both.1)
 
@@ -127,7 +38,7 @@ unfolding lengths_at
 lengths_again k v rest key both =
     let first : ltb 256 k ≡ false = le-ltb _ _ key in
     let second : ltb 268 (k + v) ≡ false = le-ltb _ _ both in
-    rw (number_again w16 (2 ^ 16) wide16 k (to_be_bytes w16 v ++ rest) (omega arith), number_again w16 (2 ^ 16) wide16 v rest (omega arith), first, second) refl
+    rw (field16.again k (to_be_bytes w16 v ++ rest) (omega arith), field16.again v rest (omega arith), first, second) refl
 
 entry_takes : (bytes : List ℕ) (x : Entry × List ℕ) → IsBytes bytes → entry_at bytes ≡ Some x → Takes bytes (entry_bytes x.0) x.1 × IsEntry x.0
 unfolding entry_at
@@ -136,8 +47,8 @@ entry_takes bytes x fits e =
     let b = bind_some (bytes_at a.0.0.0 a.0.1) (λ key. bytes_at a.0.0.1 key.1 >>= λ value. Some (record { key = key.0; value = value.0 }, value.1)) x a.2 in
     let c = bind_some (bytes_at a.0.0.1 b.0.1) (λ value. Some (record { key = b.0.0; value = value.0 }, value.1)) x b.2 in
     let t0 = lengths_take bytes a.0 fits a.1 in
-    let t1 = bytes_take a.0.0.0 a.0.1 b.0.0 b.0.1 t0.0.rest_fits b.1 in
-    let t2 = bytes_take a.0.0.1 b.0.1 c.0.0 c.0.1 t1.0.rest_fits c.1 in
+    let t1 = (bytes_field a.0.0.0).takes a.0.1 b.0 t0.0.rest_fits b.1 in
+    let t2 = (bytes_field a.0.0.1).takes b.0.1 c.0 t1.0.rest_fits c.1 in
     let e12 = Takes-then a.0.1 b.0.0 b.0.1 c.0.0 c.0.1 t1.0 t2.0 in
     let e02 : Takes bytes (to_be_bytes w16 a.0.0.0 ++ (to_be_bytes w16 a.0.0.1 ++ (b.0.0 ++ c.0.0))) c.0.1 = Takes-then bytes (to_be_bytes w16 a.0.0.0 ++ to_be_bytes w16 a.0.0.1) a.0.1 (b.0.0 ++ c.0.0) c.0.1 t0.0 e12 in
     let made : Entry × List ℕ = (record { key = b.0.0; value = c.0.0 }, c.0.1) in
@@ -149,7 +60,7 @@ unfolding entry_at
 entry_again e rest fits =
     let regrouped : entry_bytes e ++ rest ≡ to_be_bytes w16 (length e.key) ++ (to_be_bytes w16 (length e.value) ++ (e.key ++ (e.value ++ rest))) =
     ap (λ (t : List ℕ). to_be_bytes w16 (length e.key) ++ (to_be_bytes w16 (length e.value) ++ t)) (append_assoc e.key e.value rest) in
-    ap entry_at regrouped ∙ rw (lengths_again (length e.key) (length e.value) (e.key ++ (e.value ++ rest)) fits.key fits.both, bytes_again e.key (e.value ++ rest), bytes_again e.value rest) refl
+    ap entry_at regrouped ∙ rw (lengths_again (length e.key) (length e.value) (e.key ++ (e.value ++ rest)) fits.key fits.both, (bytes_field (length e.key)).again e.key (e.value ++ rest) refl, (bytes_field (length e.value)).again e.value rest refl) refl
 
 entries_take : (n : ℕ) (bytes : List ℕ) (x : List Entry × List ℕ) → IsBytes bytes → entries_at n bytes ≡ Some x → Takes bytes (flat_map entry_bytes x.0) x.1 × (length x.0 ≡ n) × All IsEntry x.0
 unfolding entries_at
@@ -188,7 +99,7 @@ no_some x e = absurd cc
 high_read : (n : ℕ) (bytes : List ℕ) (x : Option (List ℕ) × List ℕ) → IsBytes bytes → n ≤ 256 → (bytes_at n bytes >>= λ high. Some (Some high.0, high.1)) ≡ Some x → Takes bytes (high_bytes x.0) x.1 × (high_len x.0 ≡ n) × ShortHigh x.0
 high_read n bytes x fits short e =
     let a = bind_some (bytes_at n bytes) (λ high. Some (Some high.0, high.1)) x e in
-    let t = bytes_take n bytes a.0.0 a.0.1 fits a.1 in
+    let t = (bytes_field n).takes bytes a.0 fits a.1 in
     subst (λ (y : Option (List ℕ) × List ℕ). Takes bytes (high_bytes y.0) y.1 × (high_len y.0 ≡ n) × ShortHigh y.0) (some_is (Some a.0.0, a.0.1) x a.2) (t.0, t.1, omega (arith, t.1))
 
 high_of_there : (n : ℕ) (bytes : List ℕ) (x : Option (List ℕ) × List ℕ) → IsBytes bytes → cond (ltb 256 n) None (bytes_at n bytes >>= λ high. Some (Some high.0, high.1)) ≡ Some x → Takes bytes (high_bytes x.0) x.1 × (high_len x.0 ≡ n) × ShortHigh x.0
@@ -212,7 +123,7 @@ high_of_again None rest short = refl
 high_of_again (Some high) rest short =
     let other : eqb (length high) 65535 ≡ false = ne_eqb (length high) 65535 (omega arith) in
     let fits : ltb 256 (length high) ≡ false = le-ltb _ _ short in
-    rw (other, fits, bytes_again high rest) refl
+    rw (other, fits, (bytes_field (length high)).again high rest refl) refl
 
 high_joined : (bytes b1 b2 : List ℕ) (n z : ℕ) (x : Option (List ℕ) × List ℕ) → Takes bytes (to_be_bytes w16 n) b1 → Takes b1 (to_be_bytes w16 z) b2 → z ≡ 0 → Takes b2 (high_bytes x.0) x.1 × (high_len x.0 ≡ n) × ShortHigh x.0
     → Takes bytes (to_be_bytes w16 (high_len x.0) ++ (0 ∷ 0 ∷ high_bytes x.0)) x.1 × ShortHigh x.0
@@ -230,8 +141,8 @@ unfolding high_at
 high_takes bytes x fits e =
     let a = bind_some (number_at w16 bytes) (λ n. number_at w16 n.1 >>= λ zeros. cond (eqb zeros.0 0) (high_of n.0 zeros.1) None) x e in
     let b = bind_some (number_at w16 a.0.1) (λ zeros. cond (eqb zeros.0 0) (high_of a.0.0 zeros.1) None) x a.2 in
-    let t0 = number_takes w16 (2 ^ 16) wide16 bytes a.0.0 a.0.1 fits a.1 in
-    let t1 = number_takes w16 (2 ^ 16) wide16 a.0.1 b.0.0 b.0.1 t0.0.rest_fits b.1 in
+    let t0 = field16.takes bytes a.0 fits a.1 in
+    let t1 = field16.takes a.0.1 b.0 t0.0.rest_fits b.1 in
     elim (chosen (eqb b.0.0 0) (high_of a.0.0 b.0.1) None (Some x) b.2) [
       | inl h ↦ high_joined bytes a.0.1 b.0.1 a.0.0 b.0.0 x t0.0 t1.0 (eqb-true _ _ h.0) (high_of_takes a.0.0 b.0.1 x t1.0.rest_fits h.1)
       | inr h ↦ absurd (no_some x h.1)
@@ -240,7 +151,7 @@ high_takes bytes x fits e =
 high_again : (o : Option (List ℕ)) (rest : List ℕ) → ShortHigh o → high_at (to_be_bytes w16 (high_len o) ++ (0 ∷ 0 ∷ (high_bytes o ++ rest))) ≡ Some (o, rest)
 unfolding high_at
 high_again o rest short =
-    rw (number_again w16 (2 ^ 16) wide16 (high_len o) (0 ∷ 0 ∷ (high_bytes o ++ rest)) (high_len_fits o short), number_again w16 (2 ^ 16) wide16 0 (high_bytes o ++ rest) (omega arith)) (high_of_again o rest short)
+    rw (field16.again (high_len o) (0 ∷ 0 ∷ (high_bytes o ++ rest)) (high_len_fits o short), field16.again 0 (high_bytes o ++ rest) (omega arith)) (high_of_again o rest short)
 
 -- ---- all of the parts
 
@@ -271,9 +182,9 @@ contents_take bytes x fits e =
     let c = bind_some (number_at w64 b.0.1) (λ right. high_at right.1 >>= λ high. entries_at b.0.0 high.1 >>= λ entries. Some (record { level = a.0.0; right = right.0; high = high.0; entries = entries.0 }, entries.1)) x b.2 in
     let d = bind_some (high_at c.0.1) (λ high. entries_at b.0.0 high.1 >>= λ entries. Some (record { level = a.0.0; right = c.0.0; high = high.0; entries = entries.0 }, entries.1)) x c.2 in
     let f = bind_some (entries_at b.0.0 d.0.1) (λ entries. Some (record { level = a.0.0; right = c.0.0; high = d.0.0; entries = entries.0 }, entries.1)) x d.2 in
-    let t0 = number_takes w16 (2 ^ 16) wide16 bytes a.0.0 a.0.1 fits a.1 in
-    let t1 = number_takes w16 (2 ^ 16) wide16 a.0.1 b.0.0 b.0.1 t0.0.rest_fits b.1 in
-    let t2 = number_takes w64 (2 ^ 64) wide64 b.0.1 c.0.0 c.0.1 t1.0.rest_fits c.1 in
+    let t0 = field16.takes bytes a.0 fits a.1 in
+    let t1 = field16.takes a.0.1 b.0 t0.0.rest_fits b.1 in
+    let t2 = field64.takes b.0.1 c.0 t1.0.rest_fits c.1 in
     let t3 = high_takes c.0.1 d.0 t2.0.rest_fits d.1 in
     let t4 = entries_take b.0.0 d.0.1 f.0 t3.0.rest_fits f.1 in
     let made : Contents × List ℕ = (record { level = a.0.0; right = c.0.0; high = d.0.0; entries = f.0.0 }, f.0.1) in
@@ -290,9 +201,9 @@ contents_again p rest fits =
     ap (λ (t : List ℕ). numbers p ++ t) (append_assoc (high_bytes p.high) (flat_map entry_bytes p.entries) rest) in
     ap contents_at regrouped
     ∙ rw (
-      number_again w16 (2 ^ 16) wide16 p.level (to_be_bytes w16 (length p.entries) ++ (to_be_bytes w64 p.right ++ high)) fits.level,
-      number_again w16 (2 ^ 16) wide16 (length p.entries) (to_be_bytes w64 p.right ++ high) fits.count,
-      number_again w64 (2 ^ 64) wide64 p.right high fits.right,
+      field16.again p.level (to_be_bytes w16 (length p.entries) ++ (to_be_bytes w64 p.right ++ high)) fits.level,
+      field16.again (length p.entries) (to_be_bytes w64 p.right ++ high) fits.count,
+      field64.again p.right high fits.right,
       high_again p.high entries fits.high,
       entries_again p.entries rest fits.entries,
     ) refl

@@ -2,9 +2,10 @@
 use Rattle.std.proofs.Common.{◌≡◌, ℕ, suc, ◌-◌, ◌+◌, ◌≤◌, ◌<◌, List, [], ◌∷◌, ◌++◌, Option, Some, None, refl, sym, ap, ◌∙◌, append_assoc, arith}
 use Rattle.std.proofs.lemmas.List.{append-nil}
 use Rattle.bx_page.specs.declared.entry.Entry.{Entry}
-use Rattle.bx_page.specs.declared.error.ReadError.{ReadError}
-use Rattle.bx_page.specs.declared.error.ReadError.TheVariants as errors
-use Rattle.bx_page.specs.Reading.{◌>>=◌, Fails, entry_at, entries_at}
+use Rattle.bx_fields.specs.declared.error.ReadError.{ReadError}
+use Rattle.bx_fields.specs.declared.error.ReadError.TheVariants as errors
+use Rattle.bx_fields.specs.Reading.{◌>>=◌, Fails}
+use Rattle.bx_page.specs.Reading.{entry_at, entries_at}
 
 -- what was read before, and what is still read
 abbrev pub with_front : List Entry → Option (List Entry × List ℕ) → Option (List Entry × List ℕ)
@@ -25,8 +26,8 @@ goes_on front count i bytes e after total lt h so_far =
 pub ends : (f : ReadError) (front : List Entry) (count i : ℕ) (bytes : List ℕ) (total : Option (List Entry × List ℕ)) → i < count → Fails f (entry_at bytes)
     → with_front front (entries_at (count - i) bytes) ≡ total → Fails f total
 unfolding entries_at
-ends errors.Memory front count i bytes total lt h so_far = tt
-ends errors.NotAPage front count i bytes total lt h so_far =
+ends errors.OutOfMemory front count i bytes total lt h so_far = tt
+ends errors.Malformed front count i bytes total lt h so_far =
     let k : count - i ≡ suc (count - (i + 1)) = omega arith in
     let one : with_front front (entries_at (count - i) bytes) ≡ None = rw (k, h) refl in
     sym so_far ∙ one

@@ -7,7 +7,8 @@ use Rattle.bx_page.specs.Contents.{Contents, size, IsPage, IsInOrder}
 use Rattle.bx_page.specs.Spelling.{page_bytes, Spells}
 use Rattle.bx_page.specs.Reading.{contents_at}
 use Rattle.bx_page.proofs.Written.{front, length-front, page_bytes_is, count-le}
-use Rattle.bx_page.proofs.Fields.{IsBytes, AreParts, contents_take, contents_again}
+use Rattle.bx_base.specs.Bytes.{IsBytes}
+use Rattle.bx_page.proofs.Fields.{AreParts, contents_take, contents_again}
 
 pub length-page_bytes : (p : Contents) → size p ≤ 4096 → length (page_bytes p) ≡ 4096
 length-page_bytes p room = ap length (page_bytes_is p) ∙ length-append (front p) (replicate (4096 - size p) 0) ∙ omega (arith, length-front p, length-replicate {A = ℕ} (4096 - size p) 0)

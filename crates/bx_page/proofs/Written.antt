@@ -8,7 +8,9 @@ use Rattle.std.proofs.lemmas.List.Concat.{flat_map-cons}
 use Rattle.std.proofs.lemmas.List.Sums.{sum_by-cons}
 use Rattle.bx_page.specs.declared.entry.Entry.{Entry}
 use Rattle.bx_page.specs.Contents.{Contents, entry_size, high_bytes, size}
-use Rattle.bx_page.specs.Spelling.{Writes, numbers, high_len, entry_bytes, page_bytes}
+use Rattle.bx_fields.specs.Writing.{Writes}
+use Rattle.bx_fields.proofs.Written.{writes_then}
+use Rattle.bx_page.specs.Spelling.{numbers, high_len, entry_bytes, page_bytes}
 
 pub length-entry_bytes : (e : Entry) → length (entry_bytes e) ≡ entry_size e
 length-entry_bytes e = omega (arith, length-append e.key e.value)
@@ -22,13 +24,6 @@ length-entries (e ∷ es) =
 pub count-le : (es : List Entry) → 4 * length es ≤ sum_by entry_size es
 count-le [] = omega arith
 count-le (e ∷ es) = omega (arith, count-le es, sum_by-cons entry_size e es)
-
-pub Writes-then : (a b c : List ℕ) (at m n : ℕ) (x y : List ℕ) → Writes a b at m x → Writes b c m n y → Writes a c at n (x ++ y)
-Writes-then a b c at m n x y p q = record {
-  len = q.len ∙ p.len;
-  place = omega (arith, p.place, q.place, length-append x y);
-  front = q.front ∙ ap (λ (t : List ℕ). t ++ y) p.front ∙ append_assoc (take at a) x y;
-}
 
 -- the bytes before the zeros
 abbrev pub front : Contents → List ℕ
@@ -59,4 +54,4 @@ pub all_written : (p : Contents) (old b1 b2 b3 b4 b5 : List ℕ) (a1 a2 a3 a4 a5
 all_written p old b1 b2 b3 b4 b5 a1 a2 a3 a4 a5 count es c e w1 w2 w3 w4 w5 =
     let two = subst (λ (n : ℕ). Writes b1 b2 a1 a2 (to_be_bytes w16 n)) c w2 in
     let five = subst (λ (xs : List Entry). Writes b4 b5 a4 a5 (flat_map entry_bytes xs)) e w5 in
-    Writes-then old b1 b5 0 a1 a5 (to_be_bytes w16 p.level) _ w1 (Writes-then b1 b2 b5 a1 a2 a5 (to_be_bytes w16 (length p.entries)) _ two (Writes-then b2 b3 b5 a2 a3 a5 (to_be_bytes w64 p.right) _ w3 (Writes-then b3 b4 b5 a3 a4 a5 (to_be_bytes w16 (high_len p.high) ++ (0 ∷ 0 ∷ high_bytes p.high)) (flat_map entry_bytes p.entries) w4 five)))
+    writes_then old b1 b5 0 a1 a5 (to_be_bytes w16 p.level) _ w1 (writes_then b1 b2 b5 a1 a2 a5 (to_be_bytes w16 (length p.entries)) _ two (writes_then b2 b3 b5 a2 a3 a5 (to_be_bytes w64 p.right) _ w3 (writes_then b3 b4 b5 a3 a4 a5 (to_be_bytes w16 (high_len p.high) ++ (0 ∷ 0 ∷ high_bytes p.high)) (flat_map entry_bytes p.entries) w4 five)))

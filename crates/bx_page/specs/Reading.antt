@@ -1,31 +1,9 @@
 -- Reading the parts of a page from left to right.
-use Rattle.std.specs.Prelude.{◌≡◌, ℕ, zero, suc, ◌+◌, List, [], ◌∷◌, length, take, drop, Option, Some, None, Result, Ok, Err, nat_lt, ◌==◌, ◌||◌, if◌then◌else◌}
-use Rattle.std.specs.Int.{Width, w16, w64, byte_len, from_be_bytes}
+use Rattle.std.specs.Prelude.{ℕ, zero, suc, ◌+◌, List, [], ◌∷◌, Option, Some, None, nat_lt, ◌==◌, ◌||◌, if◌then◌else◌}
+use Rattle.std.specs.Int.{w16, w64}
 use Rattle.bx_page.specs.declared.entry.Entry.{Entry}
-use Rattle.bx_page.specs.declared.error.ReadError.{ReadError}
-use Rattle.bx_page.specs.declared.error.ReadError.TheVariants as errors
+use Rattle.bx_fields.specs.Reading.{◌>>=◌, number_at, bytes_at}
 use Rattle.bx_page.specs.Contents.{Contents}
-
-infixl 10 ◌>>=◌
-abbrev pub ◌>>=◌ : {A B : Type 0} → Option A → (A → Option B) → Option B
-(Some x) >>= f = f x
-None >>= f = None
-
--- What a function returned, seen by view, is what reading gives, unless memory ran out.
-abbrev pub Fails : {Y : Type 0} → ReadError → Option Y → Type 0
-Fails errors.Memory read = Unit {0}
-Fails errors.NotAPage read = read ≡ None
-
-abbrev pub Gives : {X Y : Type 0} → (X → Y) → Result X ReadError → Option Y → Type 0
-Gives view (Ok x) read = read ≡ Some (view x)
-Gives view (Err e) read = Fails e read
-
--- A part is a value and the bytes behind it: a number, or as many bytes as are wanted.
-abbrev pub number_at : Width → List ℕ → Option (ℕ × List ℕ)
-number_at w bytes = if nat_lt (length bytes) (byte_len w) then None else Some (from_be_bytes w (take (byte_len w) bytes), drop (byte_len w) bytes)
-
-abbrev pub bytes_at : ℕ → List ℕ → Option (List ℕ × List ℕ)
-bytes_at n bytes = if nat_lt (length bytes) n then None else Some (take n bytes, drop n bytes)
 
 -- the lengths of a key and its value, within their limits
 unfoldable pub lengths_at : List ℕ → Option ((ℕ × ℕ) × List ℕ)

@@ -1,5 +1,5 @@
 -- The 4096 bytes of a page. Of each number the highest byte comes first.
-use Rattle.std.specs.Prelude.{◌≡◌, ℕ, ◌+◌, ◌-◌, List, [], ◌∷◌, ◌++◌, length, take, replicate, Option, Some, None}
+use Rattle.std.specs.Prelude.{◌≡◌, ℕ, ◌-◌, List, [], ◌∷◌, ◌++◌, length, replicate, Option, Some, None}
 use Rattle.std.specs.List.{flat_map}
 use Rattle.std.specs.Int.{w16, w64, to_be_bytes}
 use Rattle.bx_page.specs.declared.entry.Entry.{Entry}
@@ -27,9 +27,3 @@ page_bytes page = numbers page ++ (high_bytes page.high ++ (flat_map entry_bytes
 pub record Spells (page : Contents) (bytes : List ℕ) : Type 0 where
   pub is : IsPage page
   pub parts : bytes ≡ page_bytes page
-
--- The bytes from `at` on are written over, up to `end`: what is before them stays.
-pub record Writes (old new : List ℕ) (at end : ℕ) (bytes : List ℕ) : Type 0 where
-  pub len : length new ≡ length old
-  pub place : end ≡ at + length bytes
-  pub front : take end new ≡ take at old ++ bytes

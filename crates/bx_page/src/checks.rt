@@ -1,6 +1,6 @@
 //! What the parts of a page have to be.
 
-ghost use Rattle.std.specs.Prelude.{◌≡◌, ◌↔◌, IsTrue, All, length, replicate};
+ghost use Rattle.std.specs.Prelude.{◌↔◌, IsTrue, All};
 ghost use Rattle.bx_page.specs.Keys.{IsBelow};
 ghost use Rattle.bx_page.specs.Contents.{Rises, IsInOrder};
 ghost use Rattle.bx_page.specs.Parts.{seen};
@@ -43,11 +43,4 @@ fn stay_below(entries: &[Entry], high: &[u8]) -> bool
         None => true,
         Some(entry) => entry.key.bytes().cmp(high).is_lt(),
     }
-}
-
-/// Whether all bytes are zero.
-pub(crate) fn are_zeros(bytes: &[u8]) -> bool
-    ensures { IsTrue result ↔ (bytes.now ≡ replicate (length bytes.now) 0) }
-{
-    bytes.iter().all(|byte| *byte == 0)
 }

@@ -2,7 +2,6 @@
 
 ghost use Rattle.std.specs.Prelude.{◌≡◌};
 ghost use Rattle.bx_page.specs.declared.error.PageError.TheVariants.{OutOfMemory as MemoryRanOut};
-ghost use Rattle.bx_page.specs.declared.error.ReadError.TheVariants.{Memory};
 
 use std::alloc::AllocFailed;
 use thiserror::Error;
@@ -31,28 +30,5 @@ impl<T: Drop> From<AllocFailed<T>> for PageError {
 
     fn from(_error: AllocFailed<T>) -> PageError {
         PageError::OutOfMemory
-    }
-}
-
-/// Why bytes weren't read.
-#[derive(Clone, Copy, Debug)]
-pub(crate) enum ReadError {
-    Memory,
-    NotAPage,
-}
-
-impl From<bx_base::OutOfMemory> for ReadError {
-    ghost from_gives = { λ _ error. error ≡ Memory };
-
-    fn from(_error: bx_base::OutOfMemory) -> ReadError {
-        ReadError::Memory
-    }
-}
-
-impl<T: Drop> From<AllocFailed<T>> for ReadError {
-    ghost from_gives = { λ _ error. error ≡ Memory };
-
-    fn from(_error: AllocFailed<T>) -> ReadError {
-        ReadError::Memory
     }
 }

@@ -1,19 +1,18 @@
 //! Reading a page from bytes.
 
 ghost use Rattle.std.specs.Prelude.{◌≡◌, IfOk, IfSome, IfNone};
-ghost use Rattle.std.specs.Int.{w16, w64};
-ghost use Rattle.bx_page.specs.Reading.{Gives, number_at, bytes_at, lengths_at, entry_at, entries_at, high_of, high_at, contents_at};
+ghost use Rattle.bx_fields.specs.Reading.{Gives};
+ghost use Rattle.bx_page.specs.Reading.{lengths_at, entry_at, entries_at, high_of, high_at, contents_at};
 ghost use Rattle.bx_page.specs.Parts.{seen};
 ghost use Rattle.bx_page.specs.Contents.{Contents};
 ghost use Rattle.bx_page.specs.Spelling.{Spells};
 
-use crate::checks::{are_zeros, is_in_order};
+use crate::checks::is_in_order;
 use crate::entry::Entry;
-use crate::error::ReadError;
 use crate::page::{Page, SIZE};
 use crate::writing::NO_HIGH;
 use bx_base::{OutOfMemory, Raw};
-use byteorder::{BigEndian, ByteOrder};
+use bx_fields::{ReadError, are_zeros, front_at, u16_at, u64_at};
 use std::alloc::Global;
 
 /// The most bytes of a key.
@@ -42,8 +41,8 @@ impl Page {
         }
         let (parts, rest) = match parts_of(alloc, payload) {
             Ok(found) => found,
-            Err(ReadError::NotAPage) => return Ok(None),
-            Err(ReadError::Memory) => return Err(OutOfMemory),
+            Err(ReadError::Malformed) => return Ok(None),
+            Err(ReadError::OutOfMemory) => return Err(OutOfMemory),
         };
         if !are_zeros(rest) {
             return Ok(None);
@@ -61,38 +60,6 @@ impl Page {
     }
 }
 
-/// The number of two bytes at the front, and the bytes behind it.
-fn u16_at(bytes: &[u8]) -> Result<(u16, &[u8]), ReadError>
-    ensures { Gives (λ x. (x.0, x.1.now)) result (number_at w16 bytes.now) }
-{
-    if bytes.len() < 2 {
-        return Err(ReadError::NotAPage);
-    }
-    let (front, rest) = bytes.split_at(2);
-    Ok((BigEndian::read_u16(front), rest))
-}
-
-/// The number of eight bytes at the front, and the bytes behind it.
-fn u64_at(bytes: &[u8]) -> Result<(u64, &[u8]), ReadError>
-    ensures { Gives (λ x. (x.0, x.1.now)) result (number_at w64 bytes.now) }
-{
-    if bytes.len() < 8 {
-        return Err(ReadError::NotAPage);
-    }
-    let (front, rest) = bytes.split_at(8);
-    Ok((BigEndian::read_u64(front), rest))
-}
-
-/// As many bytes of the front as are wanted, and the bytes behind them.
-fn front_at(bytes: &[u8], n: usize) -> Result<(&[u8], &[u8]), ReadError>
-    ensures { Gives (λ x. (x.0.now, x.1.now)) result (bytes_at n bytes.now) }
-{
-    if bytes.len() < n {
-        return Err(ReadError::NotAPage);
-    }
-    Ok(bytes.split_at(n))
-}
-
 /// The lengths of a key and of its value at the front, and the bytes behind them.
 #[tactic(auto, unfolding(crate::specs::Reading::lengths_at))]
 fn lengths_of(bytes: &[u8]) -> Result<((usize, usize), &[u8]), ReadError>
@@ -102,7 +69,7 @@ fn lengths_of(bytes: &[u8]) -> Result<((usize, usize), &[u8]), ReadError>
     let (value, rest) = u16_at(rest)?;
     let (key, value) = (key as usize, value as usize);
     if MOST_KEY < key || MOST_BOTH < key + value {
-        return Err(ReadError::NotAPage);
+        return Err(ReadError::Malformed);
     }
     Ok(((key, value), rest))
 }
@@ -141,7 +108,7 @@ fn high_key(alloc: Global, len: u16, bytes: &[u8]) -> Result<(Option<Raw>, &[u8]
         return Ok((None, bytes));
     }
     if MOST_KEY < len as usize {
-        return Err(ReadError::NotAPage);
+        return Err(ReadError::Malformed);
     }
     let (high, rest) = front_at(bytes, len as usize)?;
     Ok((Some(Raw::of(alloc, high)?), rest))
@@ -155,7 +122,7 @@ fn high_part(alloc: Global, bytes: &[u8]) -> Result<(Option<Raw>, &[u8]), ReadEr
     let (len, rest) = u16_at(bytes)?;
     let (zeros, rest) = u16_at(rest)?;
     if zeros != 0 {
-        return Err(ReadError::NotAPage);
+        return Err(ReadError::Malformed);
     }
     high_key(alloc, len, rest)
 }

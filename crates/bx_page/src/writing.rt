@@ -2,14 +2,15 @@
 
 ghost use Rattle.std.specs.Prelude.{◌≡◌, ◌+◌, ◌≤◌, ◌^◌, ◌<◌, [], ◌∷◌, ◌++◌, length, All, sum_by};
 ghost use Rattle.std.specs.List.{flat_map};
-ghost use Rattle.std.specs.Int.{w16, w64, to_be_bytes};
+ghost use Rattle.std.specs.Int.{w16, to_be_bytes};
 ghost use Rattle.bx_page.specs.Contents.{IsEntry, entry_size, high_bytes};
-ghost use Rattle.bx_page.specs.Spelling.{Writes, high_len, entry_bytes, page_bytes};
+ghost use Rattle.bx_fields.specs.Writing.{Writes};
+ghost use Rattle.bx_page.specs.Spelling.{high_len, entry_bytes, page_bytes};
 
 use crate::entry::{Entry, LENGTHS};
 use crate::page::Page;
 use bx_base::Raw;
-use byteorder::{BigEndian, ByteOrder};
+use bx_fields::{put, put_u16, put_u64};
 
 /// The length of a high key where there is none.
 pub(crate) const NO_HIGH: u16 = 65535;
@@ -27,36 +28,6 @@ impl Page {
         let at = put_entries(payload, at, &self.entries);
         payload[at..].fill(0);
     }
-}
-
-/// Writes bytes at a place, and gives the place behind them.
-fn put(payload: &mut [u8], at: usize, bytes: &[u8]) -> usize
-    requires { at + length bytes.now ≤ length payload.old }
-    ensures { Writes payload.old payload.new at result bytes.now }
-{
-    let end = at + bytes.len();
-    payload[at..end].copy_from_slice(bytes);
-    end
-}
-
-/// Writes a number of two bytes.
-fn put_u16(payload: &mut [u8], at: usize, number: u16) -> usize
-    requires { at + 2 ≤ length payload.old }
-    ensures { Writes payload.old payload.new at result (to_be_bytes w16 number) }
-{
-    let mut bytes = [0; 2];
-    BigEndian::write_u16(&mut bytes, number);
-    put(payload, at, &bytes)
-}
-
-/// Writes a number of eight bytes.
-fn put_u64(payload: &mut [u8], at: usize, number: u64) -> usize
-    requires { at + 8 ≤ length payload.old }
-    ensures { Writes payload.old payload.new at result (to_be_bytes w64 number) }
-{
-    let mut bytes = [0; 8];
-    BigEndian::write_u64(&mut bytes, number);
-    put(payload, at, &bytes)
 }
 
 /// Writes the length of a high key, two zeros and the high key.

@@ -1,14 +1,15 @@
 use Rattle.std.proofs.Common.{length, ap, subst, ◌∙◌, arith}
 use Rattle.bx_page.specs.Parts.{seen}
-use Rattle.bx_page.specs.Reading.{Fails, contents_at}
+use Rattle.bx_fields.specs.Reading.{Fails}
+use Rattle.bx_page.specs.Reading.{contents_at}
 use Rattle.bx_page.proofs.Whole.{length-page_bytes, page_read, page_same, page_in_order, not_none}
 use Rattle.bx_page.proofs.page.Page.read.Goals as goal
 
 pub returns-then-payload-ne-SIZE-clause-none : goal.returns-then-payload-ne-SIZE-clause-none
 returns-then-payload-ne-SIZE-clause-none c = λ page s. c.if-payload-ne-SIZE.true (ap length s.parts ∙ length-page_bytes page s.is.room)
 
-pub returns-in-Err-NotAPage-clause-none : goal.returns-in-Err-NotAPage-clause-none
-returns-in-Err-NotAPage-clause-none c = λ page s. not_none c.args.payload.now page (subst (λ f. Fails f (contents_at c.args.payload.now)) c.in-Err-NotAPage.field-0-is c.in-Err-NotAPage.ensures) s
+pub returns-in-Err-Malformed-clause-none : goal.returns-in-Err-Malformed-clause-none
+returns-in-Err-Malformed-clause-none c = λ page s. not_none c.args.payload.now page (subst (λ f. Fails f (contents_at c.args.payload.now)) c.in-Err-Malformed.field-0-is c.in-Err-Malformed.ensures) s
 
 pub returns-then-not-are_zeros-clause-none : goal.returns-then-not-are_zeros-clause-none
 returns-then-not-are_zeros-clause-none c = λ page s.

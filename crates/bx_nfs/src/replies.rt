@@ -1,13 +1,12 @@
 //! Replies.
 
 ghost use Rattle.std.specs.Prelude.{◌≡◌, ◌++◌, IfOk, OnOk};
-ghost use Rattle.std.specs.Int.{w32, to_be_bytes};
 ghost use Rattle.bx_base.specs.Bytes.{words};
 ghost use Rattle.bx_nfs.specs.Wire.{reply_text};
 
-use bx_base::{OutOfMemory, Raw, Words};
+use bx_base::{OutOfMemory, Raw};
+use bx_fields::push_u32;
 use bx_model::Reply;
-use byteorder::{BigEndian, ByteOrder};
 use std::alloc::Global;
 
 /// The word that makes a message a reply.
@@ -33,7 +32,7 @@ pub fn text(alloc: Global, xid: u32, reply: &Reply) -> Result<Raw, OutOfMemory>
         Reply::Empty => {}
         Reply::Attributes(words) => {
             put_words(&mut text, &[NFS_OK])?;
-            put_list(&mut text, words)?;
+            put_words(&mut text, words.items())?;
         }
     }
     Ok(Raw::from(text))
@@ -44,29 +43,7 @@ fn put_words(text: &mut Vec<u8>, list: &[u32]) -> Result<(), OutOfMemory>
     ensures { OnOk result (text.new.items ≡ text.old.items ++ words list.now) }
 {
     for word in list {
-        put_word(text, *word)?;
+        push_u32(text, *word)?;
     }
-    Ok(())
-}
-
-/// Puts a list of words at the end of a text.
-fn put_list(text: &mut Vec<u8>, list: &Words) -> Result<(), OutOfMemory>
-    ensures { OnOk result (text.new.items ≡ text.old.items ++ words list.now) }
-{
-    for at in 0..list.len() {
-        if let Some(word) = list.get(at) {
-            put_word(text, *word)?;
-        }
-    }
-    Ok(())
-}
-
-/// Puts a word at the end of a text, the highest byte first.
-fn put_word(text: &mut Vec<u8>, word: u32) -> Result<(), OutOfMemory>
-    ensures { OnOk result (text.new.items ≡ text.old.items ++ to_be_bytes w32 word) }
-{
-    let mut bytes = [0; 4];
-    BigEndian::write_u32(&mut bytes, word);
-    text.extend_from_slice(&bytes)?;
     Ok(())
 }

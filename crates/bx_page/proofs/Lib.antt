@@ -8,3 +8,4 @@ pub mod Fields
 pub mod Rising
 pub mod Whole
 pub mod Room
+pub mod Maps

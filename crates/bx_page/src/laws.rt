@@ -1,7 +1,8 @@
 //! Laws of pages.
 
-ghost use Rattle.std.specs.Prelude.{◌≡◌, ℕ, ◌+◌, ◌≤◌, List, length};
-ghost use Rattle.bx_page.specs.Contents.{Contents, IsPage, size, with_value};
+ghost use Rattle.std.specs.Prelude.{◌≡◌, ℕ, ◌+◌, ◌<◌, ◌≤◌, false, bytes_eq, if◌then◌else◌, List, length, Some, None};
+ghost use Rattle.bx_page.specs.Contents.{Contents, IsPage, size, value_of, with_value, without_key, first_half, other_half};
+ghost use Rattle.bx_page.specs.Keys.{is_below, IsBelow};
 ghost use Rattle.bx_page.specs.Spelling.{Spells, page_bytes};
 
 /// What is written is a page's bytes, so that it is read again.
@@ -22,4 +23,20 @@ pub fn room_for_two()
     ensures two { (page : Contents) (key value other another : List ℕ) → size page + 544 ≤ 4096
         → length key + length value ≤ 268 → length other + length another ≤ 268
         → size (with_value (with_value page key value) other another) ≤ 4096 }
+{}
+
+/// A page is a map: a value that is put is its key's, one that is taken is gone, and those of other keys stay.
+pub fn is_a_map()
+    ensures put { (page : Contents) (key value other : List ℕ) → value_of (with_value page key value).entries other
+        ≡ (if bytes_eq other key then Some value else value_of page.entries other) }
+    ensures taken { (page : Contents) (key other : List ℕ) → value_of (without_key page key).entries other
+        ≡ (if bytes_eq other key then None else value_of page.entries other) }
+{}
+
+/// The halves of a page have its values: those of keys below the first half's high key, and those of the others.
+pub fn halves_are_the_page()
+    ensures first { (page : Contents) (right : ℕ) (key middle : List ℕ) → IsPage page → (first_half page right).high ≡ Some middle
+        → IsBelow key middle → value_of (first_half page right).entries key ≡ value_of page.entries key }
+    ensures other { (page : Contents) (right : ℕ) (key middle : List ℕ) → IsPage page → (first_half page right).high ≡ Some middle
+        → is_below key middle ≡ false → value_of (other_half page).entries key ≡ value_of page.entries key }
 {}

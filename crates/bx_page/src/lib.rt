@@ -14,7 +14,7 @@ mod writing;
 
 pub use entry::Entry;
 pub use error::PageError;
-pub use laws::{one_reading, room_for_two, written_reads};
+pub use laws::{halves_are_the_page, is_a_map, one_reading, room_for_two, written_reads};
 pub use page::Page;
 
 #[cfg(test)]

@@ -1,6 +1,6 @@
 //! What no clause says, and each function once.
 
-use crate::{MemRack, Rack, StopRack};
+use crate::{CrashRack, MemRack, Noise, Rack, StopRack};
 use std::test::Fail;
 
 #[test]
@@ -40,5 +40,29 @@ fn disks_are_made_anew(rt: HostRuntime) -> Result<(), Fail> {
     let mut into = [1; 512];
     assert!(rt; rack.read(0, 3, &mut into).is_ok());
     assert_eq!(rt; into[0], 0);
+    Ok(())
+}
+
+// The first and the last byte of a sector.
+fn ends(rack: &mut MemRack, disk: u32, sector: u64) -> Option<(u8, u8)> {
+    if disk >= rack.disks() || sector >= rack.sectors(disk) {
+        return None;
+    }
+    let mut into = [0; 512];
+    rack.read(disk, sector, &mut into).ok()?;
+    Some((into[0], into[511]))
+}
+
+#[test]
+fn noise_is_drawn_for_unsure_sectors(rt: HostRuntime) -> Result<(), Fail> {
+    let mut rack = MemRack::new(rt.alloc(), &[10], &[])?;
+    assert!(rt; rack.write(0, 5, &[1; 512]).is_ok());
+    assert!(rt; rack.sync(0).is_ok());
+    assert!(rt; rack.write(0, 8, &[2; 512]).is_ok());
+    assert!(rt; rack.write(0, 3, &[3; 512]).is_ok());
+    assert!(rt; rack.crash(0, Noise::Seed(7)).is_ok());
+    assert_eq!(rt; ends(&mut rack, 0, 3), Some((233, 145)));
+    assert_eq!(rt; ends(&mut rack, 0, 5), Some((1, 1)));
+    assert_eq!(rt; ends(&mut rack, 0, 8), Some((248, 169)));
     Ok(())
 }

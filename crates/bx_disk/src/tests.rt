@@ -1,5 +1,7 @@
 //! What no clause says, and each function once.
 
+mod crashes;
+
 use crate::{CrashRack, MemRack, Noise, Rack, StopRack};
 use std::test::Fail;
 
@@ -43,26 +45,19 @@ fn disks_are_made_anew(rt: HostRuntime) -> Result<(), Fail> {
     Ok(())
 }
 
-// The first and the last byte of a sector.
-fn ends(rack: &mut MemRack, disk: u32, sector: u64) -> Option<(u8, u8)> {
-    if disk >= rack.disks() || sector >= rack.sectors(disk) {
-        return None;
-    }
-    let mut into = [0; 512];
-    rack.read(disk, sector, &mut into).ok()?;
-    Some((into[0], into[511]))
-}
-
 #[test]
-fn noise_is_drawn_for_unsure_sectors(rt: HostRuntime) -> Result<(), Fail> {
-    let mut rack = MemRack::new(rt.alloc(), &[10], &[])?;
-    assert!(rt; rack.write(0, 5, &[1; 512]).is_ok());
+fn a_blank_disk_has_zeros_that_a_crash_leaves(rt: HostRuntime) -> Result<(), Fail> {
+    let mut rack = MemRack::new(rt.alloc(), &[9, 9], &[])?;
+    let mut into = [1; 1024];
+    assert!(rt; rack.write(0, 3, &[7; 512]).is_ok());
+    assert!(rt; rack.write(1, 4, &[8; 512]).is_ok());
     assert!(rt; rack.sync(0).is_ok());
-    assert!(rt; rack.write(0, 8, &[2; 512]).is_ok());
-    assert!(rt; rack.write(0, 3, &[3; 512]).is_ok());
+    assert!(rt; rack.write(0, 4, &[7; 512]).is_ok());
+    assert!(rt; rack.blank(0).is_ok());
     assert!(rt; rack.crash(0, Noise::Seed(7)).is_ok());
-    assert_eq!(rt; ends(&mut rack, 0, 3), Some((233, 145)));
-    assert_eq!(rt; ends(&mut rack, 0, 5), Some((1, 1)));
-    assert_eq!(rt; ends(&mut rack, 0, 8), Some((248, 169)));
+    assert!(rt; rack.read(0, 3, &mut into).is_ok());
+    assert_eq!(rt; into, [0; 1024]);
+    assert!(rt; rack.read(1, 3, &mut into).is_ok());
+    assert_eq!(rt; (into[511], into[512], into[1023]), (0, 8, 8));
     Ok(())
 }

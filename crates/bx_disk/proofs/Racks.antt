@@ -4,15 +4,16 @@ use Rattle.std.specs.Prelude.{slice_get, slice_index, Some, None, Vec, vec_capac
 use Rattle.std.specs.declared.alloc.Global.{Global}
 use Rattle.std.proofs.lemmas.Option.{slice_get_cases}
 use Rattle.std.proofs.lemmas.Bool.Decides.{nat_tests}
-use Rattle.bx_disk.specs.Disks.{Disks, shaped, written, synced}
+use Rattle.bx_disk.specs.Disks.{Disks, IsImage, shaped, written, synced}
 use Rattle.bx_disk.specs.Past.{Past, LeftSince, after_entry, after_entries, fits, disks_of, moment_of}
 use Rattle.bx_disk.specs.Bytes.{all_bytes}
-use Rattle.bx_disk.specs.Laws.{one_more_entry, time_stays, time_goes_on}
+use Rattle.bx_disk.specs.Laws.{one_more_entry, lawful_past, crashed_image, time_stays, time_goes_on}
 use Rattle.bx_disk.specs.Moments.{Elapses}
 use Rattle.bx_disk.proofs.Keeping.{synced_same}
 use Rattle.bx_disk.specs.Memory.{IsKeptAs, AreKept, IsMemory, owed, NotesSync}
 use Rattle.bx_disk.specs.declared.entry.Entry.{Entry}
-use Rattle.bx_disk.specs.declared.entry.Entry.TheVariants.{Wrote, Synced, Shaped}
+use Rattle.bx_disk.specs.declared.entry.Entry.TheVariants.{Wrote, Synced, Shaped, Crashed}
+use Rattle.bx_disk.specs.declared.noise.Noise.{Noise}
 use Rattle.bx_disk.specs.declared.mem_disk.MemDisk.{MemDisk}
 
 pub Fits-below-256 : (n : ℕ) → Fits w8 n → n < 256
@@ -134,3 +135,10 @@ memory_after_more first old new memory later by_disk entry was is kept room many
   where
     long : length new.items ≡ length old.items + 1
     long = ap (λ (l : List Entry). length l) is ∙ length-append old.items (entry ∷ [])
+
+-- After a crash the disks read as one of the images that it may leave.
+pub image_after_crash : (first : List ℕ) (old new : List Entry) (disk : ℕ) (how : Noise) → new ≡ old ++ Crashed disk how ∷ []
+    → IsImage (after_entries (shaped first) old) (after_entries (shaped first) new).reads
+image_after_crash first old new disk how is =
+    rw (after_more first old new (Crashed disk how) is)
+    (crashed_image (after_entries (shaped first) old) disk how (lawful_past (record { first = first; entries = old; calls = 0; failing = []; faults = 0; by_disk = [] })))

@@ -72,6 +72,20 @@ lawful_crashed disks disk Keep lawful = lawful_synced disks disk lawful
 lawful_crashed disks disk Drop lawful = lawful_left disks disk (disks.held disk) lawful (lawful.held disk)
 lawful_crashed disks disk (Seed seed) lawful = lawful_left disks disk (noise_at (disks.unsure disk) (seeded seed)) lawful (λ s within. noise_whole (disks.unsure disk) (seeded seed) s)
 
+left_image : (disks : Disks) (disk : ℕ) (content : ℕ → List ℕ) → IsLawful disks → ((s : ℕ) → s < slice_index disks.sizes disk → IsSector (content s))
+    → IsImage disks (left_with disks disk content).reads
+left_image disks disk content lawful each = record {
+  sure = λ d s sure. chosen (λ (l : List ℕ). l ≡ disks.reads d s) ((d == disk) && disks.unsure d s) (content s) (disks.reads d s)
+      (λ is. absurd (never (sym sure ∙ (both (d == disk) (disks.unsure d s) is).1))) (λ is. refl);
+  torn = λ d s unsure. (lawful_left disks disk content lawful each).whole d s (lawful.there d s unsure);
+}
+
+-- A crash leaves what it may leave.
+pub crashed_image : (disks : Disks) (disk : ℕ) (how : Noise) → IsLawful disks → IsImage disks (crashed disks disk how).reads
+crashed_image disks disk Keep lawful = record { sure = λ d s sure. refl; torn = λ d s unsure. lawful.whole d s (lawful.there d s unsure) }
+crashed_image disks disk Drop lawful = left_image disks disk (disks.held disk) lawful (lawful.held disk)
+crashed_image disks disk (Seed seed) lawful = left_image disks disk (noise_at (disks.unsure disk) (seeded seed)) lawful (λ s within. noise_whole (disks.unsure disk) (seeded seed) s)
+
 lawful_blanked : (disks : Disks) (disk : ℕ) → IsLawful disks → IsLawful (blanked disks disk)
 lawful_blanked disks disk lawful = record {
   whole = λ d s within. chosen IsSector (d == disk) (blank_image disks.sizes d s) (disks.reads d s) (λ is. whole_blank disks.sizes d s within) (λ is. lawful.whole d s within);

@@ -230,6 +230,7 @@ impl CrashRack for MemRack {
         ensures nothing { OnErr result (self.new ≡ self.old) }
 
         ensures crashed { Unit {0} → OnOk result (disks_of self.new ≡ crashed (disks_of self.old) disk how) }
+        ensures image { Unit {0} → OnOk result (IsImage (disks_of self.old) (disks_of self.new).reads) }
         ensures memory { Unit {0} → OnErr result (disks_of self.new ≡ disks_of self.old) }
         ensures time { Unit {0} → Elapses (moment_of self.old) (moment_of self.new) (LeftSince self.old) (LeftSince self.new) (disks_of self.new) }
         ensures later { NoneFalls self.old.faults self.new.faults (λ d. slice_index self.old.by_disk d) (λ d. slice_index self.new.by_disk d) }

@@ -35,7 +35,7 @@ get_set_other (y ∷ xs) zero (suc j) v apart = refl
 get_set_other (y ∷ xs) (suc i) zero v apart = refl
 get_set_other (y ∷ xs) (suc i) (suc j) v apart = get_set_other xs i j v (λ e. apart (ap suc e))
 
-same_number : (d : ℕ) → (d == d) ≡ true
+pub same_number : (d : ℕ) → (d == d) ≡ true
 same_number d = grind (arith, nat_tests)
 
 -- what a step leaves at another disk

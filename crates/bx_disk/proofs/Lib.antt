@@ -4,3 +4,5 @@ pub mod Keeping
 pub mod Owed
 pub mod Racks
 pub mod Blank
+pub mod Passes
+pub mod Crashing

@@ -4,14 +4,16 @@ use Rattle.std.specs.Prelude.{slice_get, slice_index, Some, None, Vec, vec_capac
 use Rattle.std.specs.declared.alloc.Global.{Global}
 use Rattle.std.proofs.lemmas.Option.{slice_get_cases}
 use Rattle.std.proofs.lemmas.Bool.Decides.{nat_tests}
-use Rattle.bx_disk.specs.Disks.{Disks, shaped, written, synced}
-use Rattle.bx_disk.specs.Past.{Past, LeftSince, after_entries, fits, disks_of, moment_of}
-use Rattle.bx_disk.specs.Laws.{one_more_entry, all_bytes, time_stays, time_goes_on}
+use Rattle.bx_disk.specs.Disks.{Disks, IsImage, shaped, written, synced}
+use Rattle.bx_disk.specs.Past.{Past, LeftSince, after_entry, after_entries, fits, disks_of, moment_of}
+use Rattle.bx_disk.specs.Bytes.{all_bytes}
+use Rattle.bx_disk.specs.Laws.{one_more_entry, lawful_past, crashed_image, time_stays, time_goes_on}
 use Rattle.bx_disk.specs.Moments.{Elapses}
 use Rattle.bx_disk.proofs.Keeping.{synced_same}
 use Rattle.bx_disk.specs.Memory.{IsKeptAs, AreKept, IsMemory, owed, NotesSync}
 use Rattle.bx_disk.specs.declared.entry.Entry.{Entry}
-use Rattle.bx_disk.specs.declared.entry.Entry.TheVariants.{Wrote, Synced, Shaped}
+use Rattle.bx_disk.specs.declared.entry.Entry.TheVariants.{Wrote, Synced, Shaped, Crashed}
+use Rattle.bx_disk.specs.declared.noise.Noise.{Noise}
 use Rattle.bx_disk.specs.declared.mem_disk.MemDisk.{MemDisk}
 
 pub Fits-below-256 : (n : ℕ) → Fits w8 n → n < 256
@@ -113,3 +115,30 @@ memory_after_shape first old new later by_disk sizes is kept none fit counted fe
   where
     long : length new.items ≡ length old.items + 1
     long = ap (λ (l : List Entry). length l) is ∙ length-append old.items (Shaped sizes ∷ [])
+
+-- one entry more, whatever it is
+pub after_more : (first : List ℕ) (old new : List Entry) (entry : Entry) → new ≡ old ++ entry ∷ []
+    → after_entries (shaped first) new ≡ after_entry (after_entries (shaped first) old) entry
+after_more first old new entry is = rw is (one_more_entry (shaped first) old entry)
+
+pub memory_after_more : (first : List ℕ) (old new : Vec Entry Global) (memory later : List MemDisk) (by_disk : List ℕ) (entry : Entry)
+    → IsMemory first old memory by_disk → new.items ≡ old.items ++ entry ∷ []
+    → AreKept (after_entry (after_entries (shaped first) old.items) entry) later (length old.items + 1)
+    → owed later + length new.items ≤ vec_capacity new → length later ≡ length memory
+    → IsMemory first new later by_disk
+memory_after_more first old new memory later by_disk entry was is kept room many = record {
+  kept = rw (after_more first old.items new.items entry is, long) kept;
+  room = room;
+  counted = rw many was.counted;
+  few = rw many was.few;
+}
+  where
+    long : length new.items ≡ length old.items + 1
+    long = ap (λ (l : List Entry). length l) is ∙ length-append old.items (entry ∷ [])
+
+-- After a crash the disks read as one of the images that it may leave.
+pub image_after_crash : (first : List ℕ) (old new : List Entry) (disk : ℕ) (how : Noise) → new ≡ old ++ Crashed disk how ∷ []
+    → IsImage (after_entries (shaped first) old) (after_entries (shaped first) new).reads
+image_after_crash first old new disk how is =
+    rw (after_more first old new (Crashed disk how) is)
+    (crashed_image (after_entries (shaped first) old) disk how (lawful_past (record { first = first; entries = old; calls = 0; failing = []; faults = 0; by_disk = [] })))

@@ -36,10 +36,10 @@ left_with disks disk content = record {
 }
 
 -- the noise in a sector: what is drawn behind the noise of the unsure sectors before it
-abbrev pub noise_at : Disks → ℕ → Lcg → ℕ → List ℕ
-noise_at disks disk generator s = (drawn (after_sectors generator (count_below (disks.unsure disk) s))).0
+abbrev pub noise_at : (ℕ → Bool) → Lcg → ℕ → List ℕ
+noise_at unsure generator s = (drawn (after_sectors generator (count_below unsure s))).0
 
 abbrev pub crashed : Disks → ℕ → Noise → Disks
 crashed disks disk Keep = synced disks disk
 crashed disks disk Drop = left_with disks disk (disks.held disk)
-crashed disks disk (Seed seed) = left_with disks disk (noise_at disks disk (seeded seed))
+crashed disks disk (Seed seed) = left_with disks disk (noise_at (disks.unsure disk) (seeded seed))

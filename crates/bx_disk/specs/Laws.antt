@@ -1,89 +1,103 @@
 -- What holds of all disks that a record tells.
-use Rattle.std.specs.Prelude.{◌≡◌, ℕ, zero, suc, ◌+◌, ◌-◌, ◌*◌, ◌/◌, ◌%◌, ◌<◌, ◌≤◌, ◌==◌, Bool, true, false, not, ◌&&◌, nat_lt, nat_le, if◌then◌else◌, List, [], ◌∷◌, ◌++◌, length, take, drop, replicate, slice_index, ◌⊎◌, refl}
+use Rattle.std.specs.Prelude.{◌≡◌, ℕ, zero, suc, ◌+◌, ◌-◌, ◌/◌, ◌%◌, ◌<◌, ◌≤◌, ◌==◌, Bool, true, false, not, ◌&&◌, nat_lt, nat_le, if◌then◌else◌, List, [], ◌∷◌, ◌++◌, length, take, slice_index, ◌⊎◌, refl}
 use Rattle.std.proofs.Common.{arith, sym, ap, subst, ◌∙◌, inl, inr, length-append}
 use Rattle.std.specs.List.{list_all}
-use Rattle.std.proofs.lemmas.List.{length-take, length-drop, length-replicate}
 use Rattle.std.proofs.lemmas.Bool.{ltb-true, lt-ltb}
 use Rattle.std.proofs.lemmas.Bool.Decides.{nat_tests}
-use Rattle.bx_disk.specs.Disks.{Image, Disks, IsSector, IsImage, zeros, sector_of, is_within, is_among, written, synced, shaped, blank_image}
+use Rattle.bx_disk.specs.Bytes.{is_byte, never, both, zeros_whole, sector_whole}
+use Rattle.bx_disk.specs.Drawn.{noise_whole}
+use Rattle.bx_disk.specs.Disks.{Image, Disks, IsSector, IsImage, is_within, is_among, written, synced, shaped, blanked, blank_image}
+use Rattle.bx_disk.specs.Crash.{left_with, crashed, noise_at, seeded}
 use Rattle.bx_disk.specs.Moments.{Elapses}
 use Rattle.bx_disk.specs.Past.{Past, LeftSince, fits, after_entry, after_entries, disks_of, moment_of}
+use Rattle.bx_disk.specs.declared.noise.Noise.{Noise}
+use Rattle.bx_disk.specs.declared.noise.Noise.TheVariants.{Keep, Drop, Seed}
 use Rattle.bx_disk.specs.declared.entry.Entry.{Entry}
-use Rattle.bx_disk.specs.declared.entry.Entry.TheVariants.{Wrote, Synced, Shaped}
+use Rattle.bx_disk.specs.declared.entry.Entry.TheVariants.{Wrote, Synced, Shaped, Crashed, Blanked}
 
 pub record IsLawful (disks : Disks) : Type 0 where
   pub whole : (d s : ℕ) → s < slice_index disks.sizes d → IsSector (disks.reads d s)
+  pub held : (d s : ℕ) → s < slice_index disks.sizes d → IsSector (disks.held d s)
   pub beyond : (d s : ℕ) → slice_index disks.sizes d ≤ s → disks.reads d s ≡ []
   pub there : (d s : ℕ) → disks.unsure d s ≡ true → s < slice_index disks.sizes d
 
-abbrev is_byte : ℕ → Bool
-is_byte b = nat_lt b 256
+whole_blank : (sizes : List ℕ) (d s : ℕ) → s < slice_index sizes d → IsSector (blank_image sizes d s)
+whole_blank sizes d s within = rw (lt-ltb s (slice_index sizes d) within) zeros_whole
 
-never : false ≡ true → ⊥
-never e = cc
-
-both : (a b : Bool) → (a && b) ≡ true → (a ≡ true) × (b ≡ true)
-both true b is = (refl, is)
-both false b is = absurd (never is)
-
-all_take : (n : ℕ) (l : List ℕ) → list_all is_byte l ≡ true → list_all is_byte (take n l) ≡ true
-all_take zero l all = refl
-all_take (suc n) [] all = refl
-all_take (suc n) (x ∷ l) all =
-    let parts = both (is_byte x) (list_all is_byte l) all in
-    rw (parts.0) (all_take n l parts.1)
-
-all_drop : (n : ℕ) (l : List ℕ) → list_all is_byte l ≡ true → list_all is_byte (drop n l) ≡ true
-all_drop zero l all = all
-all_drop (suc n) [] all = refl
-all_drop (suc n) (x ∷ l) all = all_drop n l (both (is_byte x) (list_all is_byte l) all).1
-
-at_index : (l : List ℕ) → list_all is_byte l ≡ true → (i : ℕ) → slice_index l i < 256
-at_index [] all i = omega arith
-at_index (x ∷ l) all zero = ltb-true x 256 (both (is_byte x) (list_all is_byte l) all).0
-at_index (x ∷ l) all (suc i) = at_index l (both (is_byte x) (list_all is_byte l) all).1 i
-
-pub all_bytes : (l : List ℕ) → ((i : ℕ) → slice_index l i < 256) → list_all is_byte l ≡ true
-all_bytes [] each = refl
-all_bytes (x ∷ l) each = rw (lt-ltb x 256 (each 0)) (all_bytes l (λ i. each (suc i)))
-
-zeros_bytes : (n i : ℕ) → slice_index (replicate n 0) i < 256
-zeros_bytes zero i = omega arith
-zeros_bytes (suc n) zero = omega arith
-zeros_bytes (suc n) (suc i) = zeros_bytes n i
-
-pub zeros_whole : IsSector zeros
-unfolding zeros
-zeros_whole = record { long = length-replicate {A = ℕ} 512 0; bytes = zeros_bytes 512 }
-
-pub sector_whole : (bytes : List ℕ) (i : ℕ) → list_all is_byte bytes ≡ true → 512 * i + 512 ≤ length bytes → IsSector (sector_of bytes i)
-unfolding sector_of
-sector_whole bytes i all range = record {
-  long = length-take 512 (drop (512 * i) bytes) ∙ (let rest = length-drop (512 * i) bytes in omega arith);
-  bytes = at_index (take 512 (drop (512 * i) bytes)) (all_take 512 (drop (512 * i) bytes) (all_drop (512 * i) bytes all));
-}
+beyond_blank : (sizes : List ℕ) (d s : ℕ) → slice_index sizes d ≤ s → blank_image sizes d s ≡ []
+beyond_blank sizes d s past = at (nat_lt s (slice_index sizes d)) refl
+  where
+    at : (b : Bool) → nat_lt s (slice_index sizes d) ≡ b → blank_image sizes d s ≡ []
+    at true is = let less = ltb-true s (slice_index sizes d) is in absurd (omega arith)
+    at false is = rw is refl
 
 lawful_shaped : (sizes : List ℕ) → IsLawful (shaped sizes)
 lawful_shaped sizes = record {
-  whole = λ d s within. rw (lt-ltb s (slice_index sizes d) within) zeros_whole;
-  beyond = λ d s past. past_end (nat_lt s (slice_index sizes d)) d s refl past;
+  whole = whole_blank sizes;
+  held = whole_blank sizes;
+  beyond = beyond_blank sizes;
   there = λ d s unsure. absurd (never unsure);
 }
-  where
-    past_end : (b : Bool) (d s : ℕ) → nat_lt s (slice_index sizes d) ≡ b → slice_index sizes d ≤ s → blank_image sizes d s ≡ []
-    past_end true d s is past = let less = ltb-true s (slice_index sizes d) is in absurd (omega arith)
-    past_end false d s is past = rw is refl
+
+-- what is chosen by a test, where it holds of both
+chosen : (P : List ℕ → Type 0) (b : Bool) (x y : List ℕ) → (b ≡ true → P x) → (b ≡ false → P y) → P (if b then x else y)
+chosen P true x y yes_case no_case = yes_case refl
+chosen P false x y yes_case no_case = no_case refl
 
 lawful_synced : (disks : Disks) (disk : ℕ) → IsLawful disks → IsLawful (synced disks disk)
 lawful_synced disks disk lawful = record {
   whole = lawful.whole;
+  held = λ d s within. chosen IsSector (d == disk) (disks.reads d s) (disks.held d s) (λ is. lawful.whole d s within) (λ is. lawful.held d s within);
   beyond = lawful.beyond;
+  there = λ d s unsure. lawful.there d s (both (not (d == disk)) (disks.unsure d s) unsure).1;
+}
+
+lawful_left : (disks : Disks) (disk : ℕ) (content : ℕ → List ℕ) → IsLawful disks → ((s : ℕ) → s < slice_index disks.sizes disk → IsSector (content s))
+    → IsLawful (left_with disks disk content)
+lawful_left disks disk content lawful each = record {
+  whole = λ d s within. chosen IsSector ((d == disk) && disks.unsure d s) (content s) (disks.reads d s) (λ is. here d s (both (d == disk) (disks.unsure d s) is).0 within) (λ is. lawful.whole d s within);
+  held = λ d s within. chosen IsSector (d == disk) (if disks.unsure d s then content s else disks.reads d s) (disks.held d s)
+      (λ is. chosen IsSector (disks.unsure d s) (content s) (disks.reads d s) (λ unsure. here d s is within) (λ sure. lawful.whole d s within))
+      (λ is. lawful.held d s within);
+  beyond = λ d s past. chosen (λ (l : List ℕ). l ≡ []) ((d == disk) && disks.unsure d s) (content s) (disks.reads d s)
+      (λ is. let less = lawful.there d s (both (d == disk) (disks.unsure d s) is).1 in absurd (omega arith)) (λ is. lawful.beyond d s past);
+  there = λ d s unsure. lawful.there d s (both (not (d == disk)) (disks.unsure d s) unsure).1;
+}
+  where
+    here : (d s : ℕ) → (d == disk) ≡ true → s < slice_index disks.sizes d → IsSector (content s)
+    here d s is within = let same : d ≡ disk = grind (arith, nat_tests, is) in each s (subst (λ (e : ℕ). s < slice_index disks.sizes e) same within)
+
+lawful_crashed : (disks : Disks) (disk : ℕ) (how : Noise) → IsLawful disks → IsLawful (crashed disks disk how)
+lawful_crashed disks disk Keep lawful = lawful_synced disks disk lawful
+lawful_crashed disks disk Drop lawful = lawful_left disks disk (disks.held disk) lawful (lawful.held disk)
+lawful_crashed disks disk (Seed seed) lawful = lawful_left disks disk (noise_at (disks.unsure disk) (seeded seed)) lawful (λ s within. noise_whole (disks.unsure disk) (seeded seed) s)
+
+left_image : (disks : Disks) (disk : ℕ) (content : ℕ → List ℕ) → IsLawful disks → ((s : ℕ) → s < slice_index disks.sizes disk → IsSector (content s))
+    → IsImage disks (left_with disks disk content).reads
+left_image disks disk content lawful each = record {
+  sure = λ d s sure. chosen (λ (l : List ℕ). l ≡ disks.reads d s) ((d == disk) && disks.unsure d s) (content s) (disks.reads d s)
+      (λ is. absurd (never (sym sure ∙ (both (d == disk) (disks.unsure d s) is).1))) (λ is. refl);
+  torn = λ d s unsure. (lawful_left disks disk content lawful each).whole d s (lawful.there d s unsure);
+}
+
+-- A crash leaves what it may leave.
+pub crashed_image : (disks : Disks) (disk : ℕ) (how : Noise) → IsLawful disks → IsImage disks (crashed disks disk how).reads
+crashed_image disks disk Keep lawful = record { sure = λ d s sure. refl; torn = λ d s unsure. lawful.whole d s (lawful.there d s unsure) }
+crashed_image disks disk Drop lawful = left_image disks disk (disks.held disk) lawful (lawful.held disk)
+crashed_image disks disk (Seed seed) lawful = left_image disks disk (noise_at (disks.unsure disk) (seeded seed)) lawful (λ s within. noise_whole (disks.unsure disk) (seeded seed) s)
+
+lawful_blanked : (disks : Disks) (disk : ℕ) → IsLawful disks → IsLawful (blanked disks disk)
+lawful_blanked disks disk lawful = record {
+  whole = λ d s within. chosen IsSector (d == disk) (blank_image disks.sizes d s) (disks.reads d s) (λ is. whole_blank disks.sizes d s within) (λ is. lawful.whole d s within);
+  held = λ d s within. chosen IsSector (d == disk) (blank_image disks.sizes d s) (disks.held d s) (λ is. whole_blank disks.sizes d s within) (λ is. lawful.held d s within);
+  beyond = λ d s past. chosen (λ (l : List ℕ). l ≡ []) (d == disk) (blank_image disks.sizes d s) (disks.reads d s) (λ is. beyond_blank disks.sizes d s past) (λ is. lawful.beyond d s past);
   there = λ d s unsure. lawful.there d s (both (not (d == disk)) (disks.unsure d s) unsure).1;
 }
 
 lawful_written : (disks : Disks) (disk from : ℕ) (bytes : List ℕ) → IsLawful disks → fits disks.sizes disk from bytes ≡ true → IsLawful (written disks disk from bytes)
 lawful_written disks disk from bytes lawful is = record {
   whole = λ d s within. whole_at (is_within disk from (length bytes / 512) d s) d s refl within;
+  held = lawful.held;
   beyond = λ d s past. beyond_at (is_within disk from (length bytes / 512) d s) d s refl past;
   there = λ d s unsure. there_at (is_within disk from (length bytes / 512) d s) d s refl unsure;
 }
@@ -127,6 +141,8 @@ lawful_entry disks (Wrote disk from bytes) lawful = at (fits disks.sizes disk fr
     at false is = rw is lawful
 lawful_entry disks (Synced disk) lawful = lawful_synced disks disk lawful
 lawful_entry disks (Shaped sizes) lawful = lawful_shaped sizes
+lawful_entry disks (Crashed disk how) lawful = lawful_crashed disks disk how lawful
+lawful_entry disks (Blanked disk) lawful = lawful_blanked disks disk lawful
 
 lawful_entries : (disks : Disks) (entries : List Entry) → IsLawful disks → IsLawful (after_entries disks entries)
 lawful_entries disks [] lawful = lawful

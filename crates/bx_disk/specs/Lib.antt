@@ -4,6 +4,8 @@ pub mod Counts
 pub mod Crash
 pub mod Cells
 pub mod Past
+pub mod Bytes
+pub mod Drawn
 pub mod Laws
 pub mod Memory
 pub mod Stops

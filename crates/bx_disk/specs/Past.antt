@@ -2,9 +2,10 @@
 use Rattle.std.specs.Prelude.{ℕ, ◌+◌, ◌/◌, ◌%◌, ◌≤◌, ◌==◌, Bool, ◌&&◌, nat_lt, nat_le, if◌then◌else◌, List, [], ◌∷◌, ◌++◌, length, take, slice_index, slice_set}
 use Rattle.std.specs.List.{list_all, list_any}
 use Rattle.bx_base.specs.Faults.{count_up}
-use Rattle.bx_disk.specs.Disks.{Image, Disks, IsImage, written, synced, shaped}
+use Rattle.bx_disk.specs.Disks.{Image, Disks, IsImage, written, synced, shaped, blanked}
+use Rattle.bx_disk.specs.Crash.{crashed}
 use Rattle.bx_disk.specs.declared.entry.Entry.{Entry}
-use Rattle.bx_disk.specs.declared.entry.Entry.TheVariants.{Wrote, Synced, Shaped}
+use Rattle.bx_disk.specs.declared.entry.Entry.TheVariants.{Wrote, Synced, Shaped, Crashed, Blanked}
 
 -- The sizes of the first disks, what was done since, the calls so far, the numbers of the calls that fail, and the
 -- faults so far, in all and of each disk.
@@ -28,6 +29,8 @@ after_entry disks (Wrote disk sector bytes) =
     if fits disks.sizes disk sector bytes then written disks disk sector bytes else disks
 after_entry disks (Synced disk) = synced disks disk
 after_entry disks (Shaped sizes) = shaped sizes
+after_entry disks (Crashed disk how) = crashed disks disk how
+after_entry disks (Blanked disk) = blanked disks disk
 
 -- the disks after these entries, the oldest first
 abbrev pub after_entries : Disks → List Entry → Disks

@@ -1,10 +1,12 @@
 //! A sector that was written.
 
-ghost use Rattle.std.specs.Prelude.{◌≡◌, length, IfOk};
-ghost use Rattle.bx_disk.specs.Cells.{blank_cell, written_cell, dropped_cell};
+ghost use Rattle.std.specs.Prelude.{◌≡◌, if◌then◌else◌, length, IfOk};
+ghost use Rattle.bx_disk.specs.Crash.{drawn};
+ghost use Rattle.bx_disk.specs.Cells.{blank_cell, is_unsure, left_cell, written_cell};
 
 use crate::sector::Sector;
 use bx_base::OutOfMemory;
+use rand_pcg::Pcg32;
 use std::alloc::Global;
 
 /// A sector that was written: what it reads as, what it held at its last sync, and how long the record was once it
@@ -42,10 +44,20 @@ impl Cell {
 
     /// Puts back what the sector held at its last sync, where it is unsure.
     pub fn drop_unsure(&mut self, synced: usize)
-        ensures { self.new ≡ dropped_cell synced self.old }
+        ensures { self.new ≡ left_cell synced self.old self.old.held }
     {
         if self.since > synced {
             self.now.set(self.held.bytes());
+        }
+    }
+
+    /// Leaves the next words of a generator in the sector, where it is unsure.
+    pub fn fill_unsure(&mut self, synced: usize, generator: &mut Pcg32)
+        ensures cell { self.new ≡ left_cell synced self.old (drawn generator.old).0 }
+        ensures generator { generator.new ≡ (if is_unsure synced self.old then (drawn generator.old).1 else generator.old) }
+    {
+        if self.since > synced {
+            self.now.fill(generator);
         }
     }
 }

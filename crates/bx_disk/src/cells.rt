@@ -4,10 +4,13 @@ ghost use Rattle.std.specs.Prelude.{◌≡◌, false, ◌+◌, ◌*◌, ◌-◌,
 ghost use Rattle.std.specs.Ordering.{nat_cmp};
 ghost use Rattle.std.specs.BTreeMap.{get};
 ghost use Rattle.bx_disk.specs.Disks.{is_among, sector_of, AreSectors};
-ghost use Rattle.bx_disk.specs.Cells.{cell_at, written_cell, dropped_cell};
+ghost use Rattle.bx_disk.specs.Crash.{noise_at, seeded};
+ghost use Rattle.bx_disk.specs.Cells.{cell_at, is_unsure, left_cell, written_cell};
 
 use crate::cell::Cell;
 use bx_base::OutOfMemory;
+use rand_core::SeedableRng;
+use rand_pcg::Pcg32;
 use std::alloc::Global;
 use std::collections::BTreeMap;
 
@@ -102,4 +105,27 @@ pub fn read_cells(cells: &Cells, from: u64, into: &mut [u8])
     for i in 0..into.len() / 512 {
         read_at(cells, from + i as u64, into, i);
     }
+}
+
+/// Puts back what each unsure sector held at the last sync.
+pub fn drop_unsure(cells: &mut Cells, synced: usize)
+    ensures { (s : ℕ) → cell_at cells.new s ≡ left_cell synced (cell_at cells.old s) (cell_at cells.old s).held }
+{
+    // Every cell stays: `retain` goes over them in order and lets each be written.
+    cells.retain(|_, cell| {
+        cell.drop_unsure(synced);
+        true
+    });
+}
+
+/// Leaves the noise of a seed in the unsure sectors, in their order.
+pub fn fill_unsure(cells: &mut Cells, synced: usize, seed: u64)
+    ensures { (s : ℕ) → cell_at cells.new s ≡ left_cell synced (cell_at cells.old s) (noise_at (λ t. is_unsure synced (cell_at cells.old t)) (seeded seed) s) }
+{
+    let mut generator = Pcg32::seed_from_u64(seed);
+    // Every cell stays, as above.
+    cells.retain(move |_, cell| {
+        cell.fill_unsure(synced, &mut generator);
+        true
+    });
 }

@@ -1,5 +1,6 @@
 //! The record of what was done to disks.
 
+use crate::noise::Noise;
 use bx_base::{OutOfMemory, Raw};
 use std::alloc::Global;
 use std::marker::Model;
@@ -39,4 +40,8 @@ pub enum Entry {
     Synced(u32),
     /// The disks were made anew.
     Shaped(Sizes),
+    /// A disk crashed.
+    Crashed(u32, Noise),
+    /// All sectors of a disk were made zero and sure.
+    Blanked(u32),
 }

@@ -4,9 +4,10 @@ ghost use Rattle.std.specs.Prelude.{◌≡◌, false, true, ◌||◌, ◌+◌, �
 ghost use Rattle.std.specs.Ordering.{nat_cmp};
 ghost use Rattle.std.specs.BTreeMap.{get};
 ghost use Rattle.bx_disk.specs.Disks.{is_among, sector_of, zeros, AreSectors};
-ghost use Rattle.bx_disk.specs.Cells.{cell_at, blank_cell, written_cell, dropped_cell};
+ghost use Rattle.bx_disk.specs.Cells.{cell_at, blank_cell, crashed_cell, written_cell};
 
 use crate::cells::{self, Cells};
+use crate::noise::Noise;
 use bx_base::OutOfMemory;
 use std::alloc::Global;
 use std::collections::BTreeMap;
@@ -69,6 +70,21 @@ impl MemDisk {
     {
         self.synced = synced;
         self.dirty = false;
+    }
+
+    /// Crashes, once the record is so long: no sector is unsure then.
+    pub fn crash(&mut self, how: Noise, synced: usize)
+        ensures size { self.new.size ≡ self.old.size }
+        ensures cells { (s : ℕ) → cell_at self.new.cells s ≡ crashed_cell how self.old.synced (cell_at self.old.cells) s }
+        ensures synced { self.new.synced ≡ synced }
+        ensures dirty { self.new.dirty ≡ false }
+    {
+        match how {
+            Noise::Keep => {}
+            Noise::Drop => cells::drop_unsure(&mut self.cells, self.synced),
+            Noise::Seed(seed) => cells::fill_unsure(&mut self.cells, self.synced, seed),
+        }
+        self.mark_synced(synced);
     }
 
     /// Makes all sectors zero, once the record is so long.

@@ -3,16 +3,19 @@
 ghost use Rattle.std.specs.Prelude.{◌≡◌, ℕ, ◌+◌, ◌/◌, ◌%◌, ◌^◌, ◌<◌, ◌≤◌, Bool, true, false, List, [], ◌∷◌, ◌++◌, length, slice_index, slice_set, replicate, IfOk, OnOk, OnErr, IsErr, IsErrOf, is_err, if◌then◌else◌};
 ghost use Rattle.bx_base.specs.Faults.{Rose, count_up};
 ghost use Rattle.bx_disk.specs.declared.fault.RackError.TheVariants.{Fault};
-ghost use Rattle.bx_disk.specs.declared.entry.Entry.TheVariants.{Wrote, Synced, Shaped};
-ghost use Rattle.bx_disk.specs.Disks.{Image, Disks, IsSector, IsImage, AreSectors, MayBeWritten, written, synced, shaped};
+ghost use Rattle.bx_disk.specs.declared.entry.Entry.TheVariants.{Wrote, Synced, Shaped, Crashed, Blanked};
+ghost use Rattle.bx_disk.specs.Disks.{Image, Disks, IsSector, IsImage, AreSectors, MayBeWritten, written, synced, shaped, blanked};
+ghost use Rattle.bx_disk.specs.Crash.{crashed};
 ghost use Rattle.bx_disk.specs.Moments.{Elapses};
 ghost use Rattle.bx_disk.specs.Counts.{NoneFalls, BothRose};
 ghost use Rattle.bx_disk.specs.Past.{Past, LeftSince, disks_of, moment_of, fails, counted, noted, with_entries, with_counts, failed_on, failed};
 ghost use Rattle.bx_disk.specs.Laws.{lawful_past, now_counts, now_only};
 
+use crate::crash_rack::CrashRack;
 use crate::entry::{Entry, Sizes};
 use crate::fault::{DiskFault, RackError};
 use crate::mem_disk::MemDisk;
+use crate::noise::Noise;
 use crate::rack::Rack;
 use crate::{cells, steps};
 use bx_base::OutOfMemory;
@@ -215,6 +218,43 @@ impl Rack for MemRack {
             &mut self.by_disk,
             sizes,
         )?;
+        Ok(())
+    }
+}
+
+impl CrashRack for MemRack {
+    fn crash(&mut self, disk: u32, how: Noise) -> Result<(), OutOfMemory>
+        requires { disk < length (disks_of self.old).sizes }
+        // A crash is noted, and is neither a call nor a fault. For want of memory nothing changes.
+        ensures noted { OnOk result (self.new ≡ with_entries self.old (self.old.entries ++ Crashed disk how ∷ [])) }
+        ensures nothing { OnErr result (self.new ≡ self.old) }
+
+        ensures crashed { Unit {0} → OnOk result (disks_of self.new ≡ crashed (disks_of self.old) disk how) }
+        ensures image { Unit {0} → OnOk result (IsImage (disks_of self.old) (disks_of self.new).reads) }
+        ensures memory { Unit {0} → OnErr result (disks_of self.new ≡ disks_of self.old) }
+        ensures time { Unit {0} → Elapses (moment_of self.old) (moment_of self.new) (LeftSince self.old) (LeftSince self.new) (disks_of self.new) }
+        ensures later { NoneFalls self.old.faults self.new.faults (λ d. slice_index self.old.by_disk d) (λ d. slice_index self.new.by_disk d) }
+        ensures sizes { (disks_of self.new).sizes ≡ (disks_of self.old).sizes }
+        ensures keeps_telling { Unit {0} → Unit {0} }
+    {
+        steps::crash_disk(&mut self.disks, &mut self.entries, disk, how)?;
+        Ok(())
+    }
+
+    fn blank(&mut self, disk: u32) -> Result<(), OutOfMemory>
+        requires { disk < length (disks_of self.old).sizes }
+        // It is noted, and is neither a call nor a fault. For want of memory nothing changes.
+        ensures noted { OnOk result (self.new ≡ with_entries self.old (self.old.entries ++ Blanked disk ∷ [])) }
+        ensures nothing { OnErr result (self.new ≡ self.old) }
+
+        ensures blanked { Unit {0} → OnOk result (disks_of self.new ≡ blanked (disks_of self.old) disk) }
+        ensures memory { Unit {0} → OnErr result (disks_of self.new ≡ disks_of self.old) }
+        ensures time { Unit {0} → Elapses (moment_of self.old) (moment_of self.new) (LeftSince self.old) (LeftSince self.new) (disks_of self.new) }
+        ensures later { NoneFalls self.old.faults self.new.faults (λ d. slice_index self.old.by_disk d) (λ d. slice_index self.new.by_disk d) }
+        ensures sizes { (disks_of self.new).sizes ≡ (disks_of self.old).sizes }
+        ensures keeps_telling { Unit {0} → Unit {0} }
+    {
+        steps::blank_disk(&mut self.disks, &mut self.entries, disk)?;
         Ok(())
     }
 }

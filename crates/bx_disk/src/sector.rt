@@ -2,8 +2,11 @@
 
 ghost use Rattle.std.specs.Prelude.{◌≡◌, IfOk, length};
 ghost use Rattle.bx_disk.specs.Disks.{zeros};
+ghost use Rattle.bx_disk.specs.Crash.{drawn};
 
 use bx_base::OutOfMemory;
+use rand_core::utils;
+use rand_pcg::Pcg32;
 use std::alloc::Global;
 use std::marker::Model;
 
@@ -48,5 +51,14 @@ impl Sector {
         ensures { self.new ≡ bytes.now }
     {
         self.bytes.as_mut_slice().copy_from_slice(bytes);
+    }
+
+    /// Puts the next 128 words of a generator in their place, each with its low byte first.
+    #[tactic(auto, unfolding(crate::specs::Crash::drawn))]
+    pub fn fill(&mut self, generator: &mut Pcg32)
+        ensures bytes { self.new ≡ (drawn generator.old).0 }
+        ensures generator { generator.new ≡ (drawn generator.old).1 }
+    {
+        utils::fill_bytes_via_u32(generator, self.bytes.as_mut_slice());
     }
 }

@@ -2,13 +2,15 @@
 
 ghost use Rattle.std.specs.Prelude.{◌≡◌, ◌+◌, ◌/◌, ◌%◌, ◌^◌, ◌<◌, ◌≤◌, ◌==◌, [], ◌∷◌, ◌++◌, length, slice_index, vec_capacity, ℕ, slice_set, IfOk, OnOk, OnErr, IsErr};
 ghost use Rattle.std.specs.List.{list_any};
-ghost use Rattle.bx_disk.specs.declared.entry.Entry.TheVariants.{Wrote, Shaped};
+ghost use Rattle.bx_disk.specs.declared.entry.Entry.TheVariants.{Wrote, Shaped, Crashed, Blanked};
 ghost use Rattle.bx_base.specs.Faults.{count_up};
-ghost use Rattle.bx_disk.specs.Disks.{Disks, written, synced, shaped};
+ghost use Rattle.bx_disk.specs.Disks.{Disks, written, synced, shaped, blanked};
+ghost use Rattle.bx_disk.specs.Crash.{crashed};
 ghost use Rattle.bx_disk.specs.Memory.{AreKept, NotesSync, owed};
 
 use crate::entry::{Entry, Sizes};
 use crate::mem_disk::MemDisk;
+use crate::noise::Noise;
 use bx_base::{OutOfMemory, Raw};
 use std::alloc::Global;
 
@@ -125,5 +127,46 @@ pub fn shape_disks(
     make_counts(by_disk, sizes.len())?;
     entries.push_reserved(entry);
     *disks = made;
+    Ok(())
+}
+
+/// Crashes a disk, and notes it. For want of memory all stays as it was.
+pub fn crash_disk(
+    disks: &mut Vec<MemDisk>,
+    entries: &mut Vec<Entry>,
+    disk: u32,
+    how: Noise,
+) -> Result<(), OutOfMemory>
+    requires { disk < length disks.old.items }
+    ensures ok { OnOk result (entries.new.items ≡ entries.old.items ++ Crashed disk how ∷ []) }
+    ensures kept { (before : Disks) → AreKept before disks.old.items (length entries.old.items) → OnOk result (AreKept (crashed before disk how) disks.new.items (length entries.old.items + 1)) }
+    ensures err { IsErr result → (entries.new.items ≡ entries.old.items) × (disks.new.items ≡ disks.old.items) }
+    ensures room { owed disks.old.items + length entries.old.items ≤ vec_capacity entries.old → owed disks.new.items + length entries.new.items ≤ vec_capacity entries.new }
+    ensures many { length disks.new.items ≡ length disks.old.items }
+{
+    entries.reserve(disks.len() + 1)?;
+    entries.push_reserved(Entry::Crashed(disk, how));
+    let place = &mut disks[disk as usize];
+    place.crash(how, entries.len());
+    Ok(())
+}
+
+/// Makes all sectors of a disk zero and sure, and notes it. For want of memory all stays as it was.
+pub fn blank_disk(
+    disks: &mut Vec<MemDisk>,
+    entries: &mut Vec<Entry>,
+    disk: u32,
+) -> Result<(), OutOfMemory>
+    requires { disk < length disks.old.items }
+    ensures ok { OnOk result (entries.new.items ≡ entries.old.items ++ Blanked disk ∷ []) }
+    ensures kept { (before : Disks) → AreKept before disks.old.items (length entries.old.items) → OnOk result (AreKept (blanked before disk) disks.new.items (length entries.old.items + 1)) }
+    ensures err { IsErr result → (entries.new.items ≡ entries.old.items) × (disks.new.items ≡ disks.old.items) }
+    ensures room { owed disks.old.items + length entries.old.items ≤ vec_capacity entries.old → owed disks.new.items + length entries.new.items ≤ vec_capacity entries.new }
+    ensures many { length disks.new.items ≡ length disks.old.items }
+{
+    entries.reserve(disks.len() + 1)?;
+    entries.push_reserved(Entry::Blanked(disk));
+    let place = &mut disks[disk as usize];
+    place.clear(entries.len());
     Ok(())
 }

@@ -1,6 +1,8 @@
 //! What no clause says, and each function once.
 
-use crate::{MemRack, Rack, StopRack};
+mod crashes;
+
+use crate::{CrashRack, MemRack, Noise, Rack, StopRack};
 use std::test::Fail;
 
 #[test]
@@ -40,5 +42,22 @@ fn disks_are_made_anew(rt: HostRuntime) -> Result<(), Fail> {
     let mut into = [1; 512];
     assert!(rt; rack.read(0, 3, &mut into).is_ok());
     assert_eq!(rt; into[0], 0);
+    Ok(())
+}
+
+#[test]
+fn a_blank_disk_has_zeros_that_a_crash_leaves(rt: HostRuntime) -> Result<(), Fail> {
+    let mut rack = MemRack::new(rt.alloc(), &[9, 9], &[])?;
+    let mut into = [1; 1024];
+    assert!(rt; rack.write(0, 3, &[7; 512]).is_ok());
+    assert!(rt; rack.write(1, 4, &[8; 512]).is_ok());
+    assert!(rt; rack.sync(0).is_ok());
+    assert!(rt; rack.write(0, 4, &[7; 512]).is_ok());
+    assert!(rt; rack.blank(0).is_ok());
+    assert!(rt; rack.crash(0, Noise::Seed(7)).is_ok());
+    assert!(rt; rack.read(0, 3, &mut into).is_ok());
+    assert_eq!(rt; into, [0; 1024]);
+    assert!(rt; rack.read(1, 3, &mut into).is_ok());
+    assert_eq!(rt; (into[511], into[512], into[1023]), (0, 8, 8));
     Ok(())
 }

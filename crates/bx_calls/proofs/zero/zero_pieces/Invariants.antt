@@ -1,0 +1,19 @@
+use Rattle.std.proofs.Common.{◌≡◌, ◌≤◌, ◌-◌}
+use Rattle.bx_disk.specs.Counts.{NoneFalls}
+use Rattle.bx_calls.specs.Regions.{IsZero}
+use Rattle.bx_calls.specs.Calls.{KeepsSure, HasSure, LeavesOnly}
+use Rattle.bx_calls.proofs.zero.zero_pieces.Given as goal
+
+abbrev pub invariant-loop-done : goal.invariant-loop-done
+invariant-loop-done g l = record {
+  over : l.done ≤ l.count;
+  zero : g.R.Rack.tells l.fn.rack → IsZero (g.R.Rack.state l.rack).reads l.disk l.sector l.done;
+  keeps : g.R.Rack.tells l.fn.rack → KeepsSure (g.R.Rack.state l.fn.rack) (g.R.Rack.state l.rack) l.disk l.sector l.count;
+  any_moment : g.R.Rack.tells l.fn.rack → LeavesOnly (g.R.Rack.moment l.fn.rack) (g.R.Rack.moment l.rack) (g.R.Rack.left_since l.fn.rack) (g.R.Rack.left_since l.rack) (HasSure (g.R.Rack.state l.fn.rack) l.disk l.sector l.count);
+  later : NoneFalls (g.R.Rack.faults l.fn.rack) (g.R.Rack.faults l.rack) (g.R.Rack.faults_of l.fn.rack) (g.R.Rack.faults_of l.rack);
+  sizes : (g.R.Rack.state l.rack).sizes ≡ (g.R.Rack.state l.fn.rack).sizes;
+  tells : g.R.Rack.tells l.fn.rack → g.R.Rack.tells l.rack;
+}
+
+abbrev pub decreases-loop-done : goal.decreases-loop-done
+decreases-loop-done g l = l.count - l.done

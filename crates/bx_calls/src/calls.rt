@@ -1,0 +1,99 @@
+//! Reads, writes and syncs.
+
+ghost use Rattle.std.specs.Prelude.{◌≡◌, ℕ, ◌+◌, ◌/◌, ◌%◌, ◌<◌, ◌≤◌, length, slice_index, OnOk, OnErr, IsErrOf};
+ghost use Rattle.bx_disk.specs.declared.fault.RackError.TheVariants.{Fault, OutOfMemory};
+ghost use Rattle.bx_disk.specs.Disks.{IsImage, MayBeWritten};
+ghost use Rattle.bx_disk.specs.Counts.{NoneFalls, BothRose};
+ghost use Rattle.bx_calls.specs.Regions.{ReadsAs, IsSynced};
+ghost use Rattle.bx_calls.specs.Calls.{KeepsSure, KeepsAll, HasSure, LeavesOnly};
+
+use bx_disk::{DiskFault, Rack, RackError};
+
+/// Writes sectors, which may be unsure from then on. After a fault each of them may hold anything. For want of
+/// memory nothing is written.
+pub fn write_some<R: Rack>(
+    rack: &mut R,
+    disk: u32,
+    sector: u64,
+    bytes: &[u8],
+) -> Result<(), RackError>
+    requires disk { disk < length (R.state rack.old).sizes }
+    requires whole { length bytes.now % 512 ≡ 0 }
+    requires range { sector + length bytes.now / 512 ≤ slice_index (R.state rack.old).sizes disk }
+    ensures written { R.tells rack.old → OnOk result (ReadsAs (R.state rack.new).reads disk sector bytes.now) }
+    ensures keeps { R.tells rack.old → KeepsSure (R.state rack.old) (R.state rack.new) disk sector (length bytes.now / 512) }
+    ensures any_moment { R.tells rack.old → LeavesOnly (R.moment rack.old) (R.moment rack.new) (R.left_since rack.old) (R.left_since rack.new) (HasSure (R.state rack.old) disk sector (length bytes.now / 512)) }
+    ensures torn { R.tells rack.old → OnErr result (MayBeWritten (R.state rack.old) (R.state rack.new) disk sector (length bytes.now / 512)) }
+    ensures memory { R.tells rack.old → IsErrOf result OutOfMemory → R.state rack.new ≡ R.state rack.old }
+    ensures cause { IsErrOf result Fault → BothRose (R.faults rack.old) (R.faults rack.new) (R.faults_of rack.old) (R.faults_of rack.new) disk }
+    ensures later { NoneFalls (R.faults rack.old) (R.faults rack.new) (R.faults_of rack.old) (R.faults_of rack.new) }
+    ensures sizes { (R.state rack.new).sizes ≡ (R.state rack.old).sizes }
+    ensures keeps_telling { R.tells rack.old → R.tells rack.new }
+{
+    rack.write(disk, sector, bytes)?;
+    Ok(())
+}
+
+/// Makes the sectors of a disk sure. A fault leaves all as it was.
+pub fn sync_disk<R: Rack>(rack: &mut R, disk: u32) -> Result<(), DiskFault>
+    requires { disk < length (R.state rack.old).sizes }
+    ensures sure { R.tells rack.old → OnOk result (IsSynced (R.state rack.new) disk) }
+    ensures stays { R.tells rack.old → OnErr result (R.state rack.new ≡ R.state rack.old) }
+    ensures keeps { R.tells rack.old → KeepsAll (R.state rack.old) (R.state rack.new) }
+    ensures any_moment { R.tells rack.old → LeavesOnly (R.moment rack.old) (R.moment rack.new) (R.left_since rack.old) (R.left_since rack.new) (IsImage (R.state rack.old)) }
+    ensures cause { OnErr result (BothRose (R.faults rack.old) (R.faults rack.new) (R.faults_of rack.old) (R.faults_of rack.new) disk) }
+    ensures later { NoneFalls (R.faults rack.old) (R.faults rack.new) (R.faults_of rack.old) (R.faults_of rack.new) }
+    ensures sizes { (R.state rack.new).sizes ≡ (R.state rack.old).sizes }
+    ensures keeps_telling { R.tells rack.old → R.tells rack.new }
+{
+    rack.sync(disk)?;
+    Ok(())
+}
+
+/// Writes sectors and makes all of the disk sure. After a fault each of them may hold anything. For want of memory
+/// nothing is written.
+pub fn write_through<R: Rack>(
+    rack: &mut R,
+    disk: u32,
+    sector: u64,
+    bytes: &[u8],
+) -> Result<(), RackError>
+    requires disk { disk < length (R.state rack.old).sizes }
+    requires whole { length bytes.now % 512 ≡ 0 }
+    requires range { sector + length bytes.now / 512 ≤ slice_index (R.state rack.old).sizes disk }
+    ensures written { R.tells rack.old → OnOk result (ReadsAs (R.state rack.new).reads disk sector bytes.now) }
+    ensures sure { R.tells rack.old → OnOk result (IsSynced (R.state rack.new) disk) }
+    ensures keeps { R.tells rack.old → KeepsSure (R.state rack.old) (R.state rack.new) disk sector (length bytes.now / 512) }
+    ensures any_moment { R.tells rack.old → LeavesOnly (R.moment rack.old) (R.moment rack.new) (R.left_since rack.old) (R.left_since rack.new) (HasSure (R.state rack.old) disk sector (length bytes.now / 512)) }
+    ensures memory { R.tells rack.old → IsErrOf result OutOfMemory → R.state rack.new ≡ R.state rack.old }
+    ensures cause { IsErrOf result Fault → BothRose (R.faults rack.old) (R.faults rack.new) (R.faults_of rack.old) (R.faults_of rack.new) disk }
+    ensures later { NoneFalls (R.faults rack.old) (R.faults rack.new) (R.faults_of rack.old) (R.faults_of rack.new) }
+    ensures sizes { (R.state rack.new).sizes ≡ (R.state rack.old).sizes }
+    ensures keeps_telling { R.tells rack.old → R.tells rack.new }
+{
+    write_some(rack, disk, sector, bytes)?;
+    sync_disk(rack, disk)?;
+    Ok(())
+}
+
+/// Reads sectors, and changes none. A fault leaves any bytes in the slice.
+pub fn read_sectors<R: Rack>(
+    rack: &mut R,
+    disk: u32,
+    sector: u64,
+    into: &mut [u8],
+) -> Result<(), DiskFault>
+    requires disk { disk < length (R.state rack.old).sizes }
+    requires whole { length into.old % 512 ≡ 0 }
+    requires range { sector + length into.old / 512 ≤ slice_index (R.state rack.old).sizes disk }
+    ensures bytes { R.tells rack.old → OnOk result (ReadsAs (R.state rack.old).reads disk sector into.new) }
+    ensures stays { R.tells rack.old → R.state rack.new ≡ R.state rack.old }
+    ensures any_moment { R.tells rack.old → LeavesOnly (R.moment rack.old) (R.moment rack.new) (R.left_since rack.old) (R.left_since rack.new) (IsImage (R.state rack.old)) }
+    ensures cause { OnErr result (BothRose (R.faults rack.old) (R.faults rack.new) (R.faults_of rack.old) (R.faults_of rack.new) disk) }
+    ensures later { NoneFalls (R.faults rack.old) (R.faults rack.new) (R.faults_of rack.old) (R.faults_of rack.new) }
+    ensures sizes { (R.state rack.new).sizes ≡ (R.state rack.old).sizes }
+    ensures keeps_telling { R.tells rack.old → R.tells rack.new }
+{
+    rack.read(disk, sector, into)?;
+    Ok(())
+}

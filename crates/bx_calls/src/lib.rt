@@ -1,0 +1,11 @@
+//! The calls of a rack, with what each keeps of what it doesn't write. Layers above use these in place of the rack's own.
+#![tactic(auto)]
+
+mod calls;
+mod zero;
+
+pub use calls::{read_sectors, sync_disk, write_some, write_through};
+pub use zero::zero_sectors;
+
+#[cfg(test)]
+mod tests;

@@ -1,5 +1,10 @@
+pub mod Ballots
 pub mod Begins
+pub mod HeldText
 pub mod Kept
 pub mod Loops
+pub mod Pushed
+pub mod ReadLoop
 pub mod Rising
+pub mod StateText
 pub mod StaysAllowed

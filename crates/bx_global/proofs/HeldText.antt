@@ -107,3 +107,23 @@ none_accepted errors.Malformed devices bytes rest m e none = λ h s. none h.acce
 pub none_decided : (f : ReadError) (devices : ℕ) (bytes rest after : List ℕ) (m : Marks) (a : GlobalState) → Reading.marks_at bytes ≡ Some (m, rest) → Reading.Begins a rest after → Reading.NoneBegins f after → Reading.NotHeld f bytes devices
 none_decided errors.OutOfMemory devices bytes rest after m a e b none = tt
 none_decided errors.Malformed devices bytes rest after m a e b none = λ h s. none h.decided [] (decided_begins devices bytes rest after m a h s e b)
+
+-- ---- one reading
+
+abbrev held_with : Marks → GlobalState → GlobalState → Held
+held_with m a d = record { index = m.index; promise = m.promise; ballot = m.ballot; flag = m.flag; accepted = a; decided = d }
+
+same_held : (m n : Marks) (a b c d : GlobalState) → m ≡ n → a ≡ b → c ≡ d → held_with m a c ≡ held_with n b d
+same_held m n a b c d p q r = rw (p, q, r) refl
+
+pub one_held : (devices others : ℕ) (bytes : List ℕ) (a b : Held) → SpellsHeld a bytes devices → SpellsHeld b bytes others → a ≡ b
+one_held devices others bytes a b p q =
+    let rest = state_text a.accepted ++ state_text a.decided in
+    let after = state_text a.decided in
+    let e = marks_read devices bytes a p in
+    let marks = some_pair_parts (marks_of a) (marks_of b) rest (state_text b.accepted ++ state_text b.decided) (sym e ∙ marks_read others bytes b q) in
+    let front = accepted_begins devices bytes rest (marks_of a) a p e in
+    let back = decided_begins devices bytes rest after (marks_of a) a.accepted a p e front in
+    let first = accepted_same others bytes rest after (marks_of a) a.accepted b q e front in
+    let second = decided_same others bytes rest after [] (marks_of a) a.accepted a.decided b q e front back in
+    same_held (marks_of a) (marks_of b) a.accepted b.accepted a.decided b.decided marks.0 first.0 second.0

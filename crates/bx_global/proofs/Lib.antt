@@ -2,6 +2,7 @@ pub mod Ballots
 pub mod Begins
 pub mod HeldText
 pub mod Kept
+pub mod Lengths
 pub mod Loops
 pub mod Pushed
 pub mod ReadLoop

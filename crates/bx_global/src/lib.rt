@@ -3,6 +3,7 @@
 
 mod ballot;
 mod begin;
+mod byte_laws;
 mod change;
 mod changes;
 mod checks;
@@ -19,6 +20,7 @@ mod writing;
 
 pub use ballot::{Ballot, ballots_are_in_order};
 pub use begin::{formatted, opening};
+pub use byte_laws::{most_bytes, one_reading, written_reads};
 pub use change::Change;
 pub use device::DeviceRow;
 pub use held::Held;
@@ -26,5 +28,7 @@ pub use laws::{begins_allowed, modes_follow, numbers_rise, sessions_end, stays_a
 pub use session::SessionRow;
 pub use state::GlobalState;
 
+#[cfg(test)]
+mod byte_tests;
 #[cfg(test)]
 mod tests;

@@ -1,5 +1,11 @@
+pub mod Ballots
 pub mod Begins
+pub mod HeldText
 pub mod Kept
+pub mod Lengths
 pub mod Loops
+pub mod Pushed
+pub mod ReadLoop
 pub mod Rising
+pub mod StateText
 pub mod StaysAllowed

@@ -1,7 +1,9 @@
 pub mod Allowed
 pub mod Ballots
+pub mod Bytes
 pub mod Modes
 pub mod Opening
+pub mod Reading
 pub mod Rows
 pub mod Table
 pub mod Words

@@ -6,7 +6,7 @@ use std::alloc::Global;
 use std::test::Fail;
 
 /// The fields of a state in their order.
-fn numbers(alloc: Global, state: &GlobalState) -> Result<Vec<u64>, OutOfMemory> {
+pub(crate) fn numbers(alloc: Global, state: &GlobalState) -> Result<Vec<u64>, OutOfMemory> {
     let head = [
         state.index,
         u64::from(state.master),

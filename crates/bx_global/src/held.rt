@@ -1,0 +1,119 @@
+//! What an acceptor's cell holds, and its bytes.
+
+ghost use Rattle.std.specs.Prelude.{◌≡◌, ◌++◌, ◌^◌, ◌<◌, IfOk, IfSome, IfNone, MatchResult, ◌↔◌, IsTrue, length};
+ghost use Rattle.bx_fields.specs.Reading.{Gives};
+ghost use Rattle.bx_global.specs.Bytes.{HasCounts, SpellsHeld, held_text};
+ghost use Rattle.bx_global.specs.Reading.{NotHeld, marks_at};
+ghost use Rattle.bx_global.specs.declared.held.Held.{Held};
+
+use crate::ballot::Ballot;
+use crate::reading::{ballot_of, state_of};
+use crate::state::GlobalState;
+use crate::writing::{push_ballot, push_state};
+use bx_base::{OutOfMemory, Raw};
+use bx_fields::{ReadError, push_u32, push_u64, u32_at, u64_at};
+use std::alloc::Global;
+
+/// What an acceptor's cell holds.
+#[derive(Debug, Drop)]
+pub struct Held {
+    /// The index of the state that is voted on.
+    pub index: u64,
+    /// The greatest ballot that it has seen.
+    pub promise: Ballot,
+    /// The ballot in which it accepted a state.
+    pub ballot: Ballot,
+    /// 1 where it accepted a state of this index, else 0.
+    pub flag: u32,
+    /// The state that it accepted.
+    pub accepted: GlobalState,
+    /// The last state of which it knows that it was decided.
+    pub decided: GlobalState,
+}
+
+/// What stands before the states.
+#[derive(Clone, Copy)]
+pub(crate) struct Marks {
+    pub(crate) index: u64,
+    pub(crate) promise: Ballot,
+    pub(crate) ballot: Ballot,
+    pub(crate) flag: u32,
+}
+
+impl Held {
+    /// What these bytes are, on a volume of so many devices. `None` exactly where they aren't what a cell holds there.
+    pub fn read(alloc: Global, bytes: &[u8], devices: u32) -> Result<Option<Held>, OutOfMemory>
+        ensures some { IfOk result (λ found. IfSome found (λ held. SpellsHeld held bytes.now devices)) }
+        ensures none { IfOk result (λ found. IfNone found ((held : Held) → SpellsHeld held bytes.now devices → ⊥)) }
+    {
+        match held_of(alloc, bytes, devices) {
+            Ok(held) => Ok(Some(held)),
+            Err(ReadError::Malformed) => Ok(None),
+            Err(ReadError::OutOfMemory) => Err(OutOfMemory),
+        }
+    }
+
+    /// The bytes.
+    pub fn write(&self, alloc: Global) -> Result<Raw, OutOfMemory>
+        requires accepted { HasCounts self.now.accepted }
+        requires decided { HasCounts self.now.decided }
+        ensures { IfOk result (λ raw. raw ≡ held_text self.now) }
+    {
+        let mut out = Vec::new(alloc);
+        push_u64(&mut out, self.index)?;
+        push_ballot(&mut out, &self.promise)?;
+        push_ballot(&mut out, &self.ballot)?;
+        push_u32(&mut out, self.flag)?;
+        push_state(&mut out, &self.accepted)?;
+        push_state(&mut out, &self.decided)?;
+        Ok(Raw::from(out))
+    }
+}
+
+/// What the bytes are; `Malformed` exactly where they aren't what a cell holds on a volume of so many devices.
+fn held_of(alloc: Global, bytes: &[u8], devices: u32) -> Result<Held, ReadError>
+    ensures { MatchResult result (λ held. SpellsHeld held bytes.now devices) (λ e. NotHeld e bytes.now devices) }
+{
+    let (marks, rest) = marks_of(bytes)?;
+    let (accepted, rest) = state_of(alloc, rest)?;
+    let (decided, rest) = state_of(alloc, rest)?;
+    if !rest.is_empty() || !has_devices(&accepted, devices) || !has_devices(&decided, devices) {
+        return Err(ReadError::Malformed);
+    }
+    Ok(Held {
+        index: marks.index,
+        promise: marks.promise,
+        ballot: marks.ballot,
+        flag: marks.flag,
+        accepted,
+        decided,
+    })
+}
+
+/// What stands before the states, and the bytes behind it.
+#[tactic(auto, unfolding(crate::specs::Reading::marks_at))]
+fn marks_of(bytes: &[u8]) -> Result<(Marks, &[u8]), ReadError>
+    ensures { Gives (λ x. (x.0, x.1.now)) result (marks_at bytes.now) }
+{
+    let (index, rest) = u64_at(bytes)?;
+    let (promise, rest) = ballot_of(rest)?;
+    let (ballot, rest) = ballot_of(rest)?;
+    let (flag, rest) = u32_at(rest)?;
+    if flag >= 2 {
+        return Err(ReadError::Malformed);
+    }
+    let marks = Marks {
+        index,
+        promise,
+        ballot,
+        flag,
+    };
+    Ok((marks, rest))
+}
+
+/// Whether a state has so many devices.
+fn has_devices(state: &GlobalState, devices: u32) -> bool
+    ensures { IsTrue result ↔ (length state.now.devices ≡ devices) }
+{
+    state.devices.len() == devices as usize
+}

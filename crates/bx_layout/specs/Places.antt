@@ -1,6 +1,6 @@
 -- Where things stand. A volume has so many devices and areas. Sector 0 of a device is a label, the log slots follow, and then
 -- the areas. The areas take turns on the devices, and so do the log slots.
-use Rattle.std.specs.Prelude.{◌≡◌, ℕ, ◌+◌, ◌-◌, ◌*◌, ◌/◌, ◌%◌, ◌<◌, ◌≤◌, ◌⊎◌, ◌==◌, if◌then◌else◌}
+use Rattle.std.specs.Prelude.{◌≡◌, ℕ, ◌+◌, ◌-◌, ◌*◌, ◌/◌, ◌%◌, ◌<◌, ◌≤◌, ◌⊎◌, ◌==◌, nat_lt, if◌then◌else◌}
 
 -- the area of a block, and its slot there; 960 for the area's own block
 abbrev pub area_of : ℕ → ℕ
@@ -61,6 +61,22 @@ replica_sectors = 21
 abbrev pub disk_count : ℕ → ℕ
 disk_count devices = 3 + 2 * devices
 
+-- how many sectors a disk of a volume has, by its number: the replicas come first
+abbrev pub disk_sectors : ℕ → ℕ → ℕ → ℕ
+disk_sectors devices areas disk = if nat_lt disk 3 then replica_sectors else member_sectors devices areas
+
 -- so many sectors from one on, and so many from another on, have none in common
 abbrev pub AreApart : ℕ → ℕ → ℕ → ℕ → Type 0
 AreApart one count other more = (one + count ≤ other) ⊎ (other + more ≤ one)
+
+-- so many sectors from one on are among so many from another on
+pub record LieIn (one count other more : ℕ) : Type 0 where
+  pub begins : other ≤ one
+  pub ends : one + count ≤ other + more
+
+-- Where a block stands: on the device of its area, in the area's sectors, which are on the disk of a member.
+pub record StandsInArea (block devices areas : ℕ) : Type 0 where
+  pub device : (block_place block devices).0 ≡ area_device (area_of block) devices
+  pub is_there : area_device (area_of block) devices < devices
+  pub area : LieIn (block_place block devices).1 9 (area_start (area_of block) devices) 8649
+  pub disk : LieIn (area_start (area_of block) devices) 8649 0 (member_sectors devices areas)

@@ -7,6 +7,8 @@ mod block;
 mod chunk_handle;
 mod inode;
 mod label;
+mod laws;
+mod places;
 mod record_head;
 
 pub use area::AreaBlock;
@@ -14,4 +16,12 @@ pub use block::Block;
 pub use chunk_handle::ChunkHandle;
 pub use inode::Inode;
 pub use label::Label;
+pub use laws::{
+    areas_are_apart, blocks_are_apart, blocks_are_slots, blocks_stand_in_areas, disks_have_room,
+    label_logs_and_areas_are_apart, records_are_apart, records_stand_in_logs,
+};
+pub use places::{
+    BLOCK_SECTORS, REPLICA_SECTORS, SECTOR, SLOTS, body_place, disk_sectors, gate_place,
+    member_sectors, place,
+};
 pub use record_head::RecordHead;

@@ -3,6 +3,12 @@ use Rattle.std.specs.Prelude.{◌≡◌, ℕ, ◌+◌, ◌*◌, ◌^◌, ◌<◌
 use Rattle.std.specs.Int.{w64, to_be_bytes}
 use Rattle.bx_layout.specs.declared.chunk_handle.ChunkHandle.{ChunkHandle}
 
+-- what every handle has, of bits
+pub record IsHandle (handle : ChunkHandle) : Type 0 where
+  pub area : handle.area < 2 ^ 16
+  pub slot : handle.slot < 2 ^ 16
+  pub generation : handle.generation < 2 ^ 32
+
 -- the number of a handle: 16 bits of area, 16 of slot, 32 of generation, from the highest
 abbrev pub number_of : ChunkHandle → ℕ
 number_of handle = handle.area * 2 ^ 48 + handle.slot * 2 ^ 32 + handle.generation

@@ -1,8 +1,10 @@
 -- Labels of disks, and gates: sectors that are open or closed.
-use Rattle.std.specs.Prelude.{◌≡◌, ℕ, ◌^◌, ◌<◌, ◌≤◌, Bool, List, [], ◌∷◌, ◌++◌, take, replicate, if◌then◌else◌}
+use Rattle.std.specs.Prelude.{◌≡◌, ℕ, ◌^◌, ◌<◌, ◌≤◌, List, [], ◌∷◌, ◌++◌, take, replicate}
 use Rattle.std.specs.Int.{w32, w64, to_be_bytes}
 use Rattle.bx_fields.specs.Writing.{padded}
 use Rattle.bx_layout.specs.declared.label.Label.{Label}
+use Rattle.bx_layout.specs.declared.gate.Gate.{Gate}
+use Rattle.bx_layout.specs.declared.gate.Gate.TheVariants.{Open, Closed}
 
 -- BXDISK01
 abbrev pub disk_word : List ℕ
@@ -36,5 +38,6 @@ abbrev pub IsOpenGate : List ℕ → Type 0
 IsOpenGate sector = take 8 sector ≡ gate_word
 
 -- what is written to open a gate, and to close it
-abbrev pub gate_text : Bool → List ℕ
-gate_text open_gate = if open_gate then padded 512 gate_word else replicate 512 0
+abbrev pub gate_text : Gate → List ℕ
+gate_text Open = padded 512 gate_word
+gate_text Closed = replicate 512 0

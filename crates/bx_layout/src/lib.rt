@@ -5,15 +5,20 @@
 mod area;
 mod block;
 mod chunk_handle;
+mod file_handles;
+mod gate;
 mod inode;
 mod label;
 mod laws;
 mod places;
+mod readings;
 mod record_head;
 
 pub use area::AreaBlock;
 pub use block::Block;
 pub use chunk_handle::ChunkHandle;
+pub use file_handles::{file_handle, named};
+pub use gate::Gate;
 pub use inode::Inode;
 pub use label::Label;
 pub use laws::{
@@ -23,5 +28,9 @@ pub use laws::{
 pub use places::{
     BLOCK_SECTORS, REPLICA_SECTORS, SECTOR, SLOTS, body_place, disk_sectors, gate_place,
     member_sectors, place,
+};
+pub use readings::{
+    block_one_reading, block_written_reads, file_handle_one_reading, file_handle_written_reads,
+    gate_written_reads, handle_one_number, label_one_reading, label_written_reads,
 };
 pub use record_head::RecordHead;

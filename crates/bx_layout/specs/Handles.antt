@@ -3,7 +3,7 @@ use Rattle.std.specs.Prelude.{◌≡◌, ℕ, ◌+◌, ◌*◌, ◌^◌, ◌<◌
 use Rattle.std.specs.Int.{w64, to_be_bytes}
 use Rattle.bx_layout.specs.declared.chunk_handle.ChunkHandle.{ChunkHandle}
 
--- what every handle has, of bits
+-- every handle has 16 bits of area, 16 of slot and 32 of generation
 pub record IsHandle (handle : ChunkHandle) : Type 0 where
   pub area : handle.area < 2 ^ 16
   pub slot : handle.slot < 2 ^ 16

@@ -2,6 +2,8 @@
 
 ghost use Rattle.std.specs.Prelude.{◌≡◌};
 
+use crate::places::AREA_NUMBERS;
+
 /// The name of a chunk, which is never given again: the slot that it is in, and how often that slot was given.
 #[derive(Clone, Copy, PartialEq, Eq, Debug)]
 pub struct ChunkHandle {
@@ -18,6 +20,9 @@ const AREA: u64 = 1 << 48;
 
 /// What one slot more adds to a handle's number.
 const SLOT: u64 = 1 << 32;
+
+/// The number of the file whose inode is in block 0.
+const FIRST_FILE: u32 = 2;
 
 impl ChunkHandle {
     ghost use Rattle.bx_layout.specs.Handles.{IsHandle, number_of, block_of, fileid};
@@ -45,13 +50,13 @@ impl ChunkHandle {
     pub fn block(&self) -> u64
         ensures { result ≡ block_of self.now }
     {
-        1024 * u64::from(self.area) + u64::from(self.slot)
+        AREA_NUMBERS * u64::from(self.area) + u64::from(self.slot)
     }
 
     /// The number of the file whose inode the chunk is.
     pub fn fileid(&self) -> u32
         ensures { result ≡ fileid self.now }
     {
-        1024 * u32::from(self.area) + u32::from(self.slot) + 2
+        AREA_NUMBERS as u32 * u32::from(self.area) + u32::from(self.slot) + FIRST_FILE
     }
 }

@@ -34,3 +34,6 @@ pub use readings::{
     gate_written_reads, handle_one_number, label_one_reading, label_written_reads,
 };
 pub use record_head::RecordHead;
+
+#[cfg(test)]
+mod tests;

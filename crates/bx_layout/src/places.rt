@@ -17,7 +17,7 @@ pub const BLOCK_SECTORS: u64 = 9;
 pub const REPLICA_SECTORS: u64 = 21;
 
 /// How far the numbers of the first blocks of two neighbouring areas are apart.
-const AREA_NUMBERS: u64 = 1024;
+pub(crate) const AREA_NUMBERS: u64 = 1024;
 
 /// The sector of a device where its first area begins.
 const AREAS_AT: u64 = 9345;
@@ -45,7 +45,11 @@ pub fn place(block: u64, devices: u32, areas: u16) -> (u32, u64)
 {
     let (area, slot) = (block / AREA_NUMBERS, block % AREA_NUMBERS);
     let start = AREAS_AT + AREA_SECTORS * (area / u64::from(devices));
-    let into = if slot == SLOTS { 0 } else { BLOCK_SECTORS * (slot + 1) };
+    let into = if slot == SLOTS {
+        0
+    } else {
+        BLOCK_SECTORS * (slot + 1)
+    };
     ((area % u64::from(devices)) as u32, start + into)
 }
 

@@ -1,4 +1,4 @@
-use Rattle.std.proofs.Common.{◌≡◌, length, take, drop, arith}
+use Rattle.std.proofs.Common.{◌≡◌, arith}
 use Rattle.bx_layout.proofs.BlockHeaders.{kind_is, handle_is, header_again}
 use Rattle.bx_layout.proofs.block.Block.read.Goals as goal
 

@@ -1,0 +1,4 @@
+//! Bytes and places from outside, and the limits of what is read.
+
+mod formats;
+mod sectors;

@@ -26,7 +26,7 @@ pub use laws::{
     label_logs_and_areas_are_apart, records_are_apart, records_stand_in_logs,
 };
 pub use places::{
-    BLOCK_SECTORS, REPLICA_SECTORS, SECTOR, SLOTS, body_place, disk_sectors, gate_place,
+    BLOCK_SECTORS, REPLICA_SECTORS, SECTOR, SLOTS, body_place, disk_sectors, gate_place, is_block,
     member_sectors, place,
 };
 pub use readings::{

@@ -1,7 +1,7 @@
 //! Places: on which device a block, a gate or a record's body stands, and at which sector. Both members of a device have the
 //! same at the same sectors.
 
-ghost use Rattle.std.specs.Prelude.{◌≡◌, ◌<◌};
+ghost use Rattle.std.specs.Prelude.{◌≡◌, ◌↔◌, ◌<◌, IsTrue};
 ghost use Rattle.bx_layout.specs.Places.{IsVolume, IsBlock, block_place, log_start, gate_place, body_place, member_sectors, disk_sectors, disk_count};
 
 /// How many bytes a sector has.
@@ -36,6 +36,13 @@ const BODY_SECTORS: u64 = 145;
 
 /// How many disks are replicas'.
 const REPLICAS: u32 = 3;
+
+/// Whether a volume of so many areas has a block of this number.
+pub fn is_block(block: u64, areas: u16) -> bool
+    ensures { IsTrue result ↔ IsBlock areas block }
+{
+    block / AREA_NUMBERS < u64::from(areas) && block % AREA_NUMBERS <= SLOTS
+}
 
 /// The device of a block of a volume, and the first of its nine sectors there.
 pub fn place(block: u64, devices: u32, areas: u16) -> (u32, u64)

@@ -1,6 +1,6 @@
 //! Places by numbers from outside.
 
-use crate::{body_place, disk_sectors, gate_place, member_sectors, place};
+use crate::{body_place, disk_sectors, gate_place, is_block, member_sectors, place};
 
 #[test]
 fn blocks_have_their_places(rt: HostRuntime) {
@@ -16,12 +16,28 @@ fn blocks_have_their_places(rt: HostRuntime) {
         (959, 4, 1, 0, 17985),
     ] {
         assert!(rt; 1 <= devices && devices <= 4 && 1 <= areas && areas <= 64);
-        assert!(rt; block / 1024 < u64::from(areas) && block % 1024 <= 960);
+        assert!(rt; is_block(block, areas));
         assert_eq!(rt;
             place(block, devices, areas),
             (device, sector),
             "block {block}"
         );
+    }
+}
+
+#[test]
+fn other_numbers_are_no_blocks(rt: HostRuntime) {
+    for (block, areas, want) in [
+        (0, 0, false),
+        (960, 1, true),
+        (961, 1, false),
+        (1024, 1, false),
+        (1024, 2, true),
+        (65472, 64, true),
+        (65536, 64, false),
+        (u64::MAX, 64, false),
+    ] {
+        assert_eq!(rt; is_block(block, areas), want, "block {block}");
     }
 }
 

@@ -1,18 +1,23 @@
 -- Areas: the words of the slots, and the bits of dead inodes.
-use Rattle.std.specs.Prelude.{◌≡◌, ℕ, ◌+◌, ◌*◌, ◌/◌, ◌%◌, ◌^◌, ◌<◌, ◌≤◌, Bool, true, false, not, ◌&&◌, ◌==◌, nat_lt, nat_le, if◌then◌else◌, List, ◌++◌, length, slice_index, slice_set}
+use Rattle.std.specs.Prelude.{◌≡◌, ℕ, ◌+◌, ◌/◌, ◌%◌, ◌^◌, ◌<◌, Bool, true, false, not, ◌&&◌, ◌==◌, nat_lt, nat_le, if◌then◌else◌, List, ◌++◌, length, slice_index, slice_set}
 use Rattle.bx_base.specs.Bytes.{words}
 use Rattle.bx_fields.specs.Writing.{padded}
 use Rattle.bx_layout.specs.declared.area.AreaBlock.{AreaBlock}
 
--- what every area has: a word for each slot, and a bit for each
+-- what every area has: a word of 32 bits for each slot, and a bit for each
 pub record IsArea (area : AreaBlock) : Type 0 where
   pub words : length area.words ≡ 960
+  pub fits : (slot : ℕ) → slice_index area.words slot < 2 ^ 32
   pub dead : length area.dead ≡ 120
+
+-- the words, and the bits
+abbrev pub area_text : AreaBlock → List ℕ
+area_text area = words area.words ++ area.dead
 
 -- the payload is this area
 pub record SpellsArea (area : AreaBlock) (payload : List ℕ) : Type 0 where
   pub is : IsArea area
-  pub parts : payload ≡ padded 4096 (words area.words ++ area.dead)
+  pub parts : payload ≡ padded 4096 (area_text area)
 
 -- of a slot's word: whether the slot is in use, and the generation
 abbrev pub in_use : ℕ → Bool

@@ -5,3 +5,8 @@ pub mod Blocks
 pub mod Areas
 pub mod Inodes
 pub mod Records
+pub mod AreaReading
+pub mod InodeReading
+pub mod RecordReading
+pub mod Runs
+pub mod Drafts

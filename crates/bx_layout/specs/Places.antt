@@ -1,6 +1,6 @@
 -- Where things stand. A volume has so many devices and areas. Sector 0 of a device is a label, the log slots follow, and then
 -- the areas. The areas take turns on the devices, and so do the log slots.
-use Rattle.std.specs.Prelude.{◌≡◌, ℕ, ◌+◌, ◌-◌, ◌*◌, ◌/◌, ◌%◌, ◌<◌, ◌≤◌, ◌⊎◌, ◌==◌, nat_lt, if◌then◌else◌}
+use Rattle.std.specs.Prelude.{◌≡◌, ℕ, ◌+◌, ◌-◌, ◌*◌, ◌/◌, ◌%◌, ◌<◌, ◌≤◌, ◌⊎◌, ◌==◌, nat_lt, if◌then◌else◌, Bool, ◌&&◌, nat_le}
 
 -- the area of a block, and its slot there; 960 for the area's own block
 abbrev pub area_of : ℕ → ℕ
@@ -13,6 +13,10 @@ slot_of block = block % 1024
 pub record IsBlock (areas block : ℕ) : Type 0 where
   pub area : area_of block < areas
   pub slot : slot_of block ≤ 960
+
+-- whether it is one
+abbrev pub is_block : ℕ → ℕ → Bool
+is_block areas block = nat_lt (area_of block) areas && nat_le (slot_of block) 960
 
 -- a volume's devices and areas
 pub record IsVolume (devices areas : ℕ) : Type 0 where

@@ -4,7 +4,7 @@ ghost use Rattle.std.specs.Prelude.{◌≡◌, ◌↔◌, ◌++◌, length, IsTr
 ghost use Rattle.std.specs.Int.{w32, w64, to_be_bytes};
 ghost use Rattle.bx_fields.specs.Writing.{padded};
 
-use crate::places::SECTOR;
+use crate::sizes::{PAYLOAD, SECTOR};
 use bx_base::{OutOfMemory, Raw};
 use bx_fields::{clear_from, put_u32, put_u64};
 use byteorder::{BigEndian, ByteOrder};
@@ -21,9 +21,6 @@ pub struct Block {
     pub payload: Raw,
 }
 
-/// How many bytes a block has.
-const SIZE: usize = 4608;
-
 /// How many kinds of blocks there are.
 const KINDS: u32 = 5;
 
@@ -35,7 +32,7 @@ impl Block {
         ensures some { IfOk result (λ found. IfSome found (λ block. SpellsBlock block bytes.now)) }
         ensures none { IfOk result (λ found. IfNone found ((block : Block) → SpellsBlock block bytes.now → ⊥)) }
     {
-        if bytes.len() != SIZE {
+        if bytes.len() != SECTOR + PAYLOAD {
             return Ok(None);
         }
         let (header, payload) = bytes.split_at(SECTOR);

@@ -3,7 +3,7 @@
 ghost use Rattle.std.specs.Prelude.{◌≡◌, ◌↔◌, length, IsTrue, IfSome, IfNone};
 ghost use Rattle.bx_fields.specs.Writing.{padded};
 
-use crate::places::SECTOR;
+use crate::sizes::SECTOR;
 use bx_fields::{clear_from, put, put_u32, put_u64};
 use byteorder::{BigEndian, ByteOrder};
 

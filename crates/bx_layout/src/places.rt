@@ -2,19 +2,9 @@
 //! same at the same sectors.
 
 ghost use Rattle.std.specs.Prelude.{◌≡◌, ◌↔◌, ◌<◌, IsTrue};
-ghost use Rattle.bx_layout.specs.Places.{IsVolume, IsBlock, block_place, log_start, gate_place, body_place, member_sectors, disk_sectors, disk_count};
+ghost use Rattle.bx_layout.specs.Places.{IsVolume, IsBlock, is_block, block_place, log_start, gate_place, body_place, member_sectors, disk_sectors, disk_count};
 
-/// How many bytes a sector has.
-pub const SECTOR: usize = 512;
-
-/// How many slots an area has. It is also the number of the area's own block among the area's blocks.
-pub const SLOTS: u64 = 960;
-
-/// How many sectors a block has.
-pub const BLOCK_SECTORS: u64 = 9;
-
-/// How many sectors a replica's disk has.
-pub const REPLICA_SECTORS: u64 = 21;
+use crate::sizes::{BLOCK_SECTORS, REPLICA_SECTORS, SLOTS};
 
 /// How far the numbers of the first blocks of two neighbouring areas are apart.
 pub(crate) const AREA_NUMBERS: u64 = 1024;
@@ -39,9 +29,10 @@ const REPLICAS: u32 = 3;
 
 /// Whether a volume of so many areas has a block of this number.
 pub fn is_block(block: u64, areas: u16) -> bool
-    ensures { IsTrue result ↔ IsBlock areas block }
+    ensures value { result ≡ is_block areas block }
+    ensures block { IsTrue result ↔ IsBlock areas block }
 {
-    block / AREA_NUMBERS < u64::from(areas) && block % AREA_NUMBERS <= SLOTS
+    block / AREA_NUMBERS < u64::from(areas) && block % AREA_NUMBERS <= u64::from(SLOTS)
 }
 
 /// The device of a block of a volume, and the first of its nine sectors there.
@@ -52,7 +43,7 @@ pub fn place(block: u64, devices: u32, areas: u16) -> (u32, u64)
 {
     let (area, slot) = (block / AREA_NUMBERS, block % AREA_NUMBERS);
     let start = AREAS_AT + AREA_SECTORS * (area / u64::from(devices));
-    let into = if slot == SLOTS {
+    let into = if slot == u64::from(SLOTS) {
         0
     } else {
         BLOCK_SECTORS * (slot + 1)

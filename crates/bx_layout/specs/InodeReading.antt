@@ -1,0 +1,97 @@
+-- Reading an inode in three parts.
+use Rattle.std.specs.Prelude.{ℕ, Bool, ◌&&◌, ◌||◌, ◌==◌, nat_lt, List}
+use Rattle.std.specs.Int.{w32, w64}
+use Rattle.bx_fields.specs.Reading.{Reader, number_at, bytes_at, then_at, as_at, tested_at, sized_at}
+use Rattle.bx_layout.specs.declared.inode.Inode.{Inode}
+use Rattle.bx_layout.specs.declared.inode_parts.OwnerPart.{OwnerPart}
+use Rattle.bx_layout.specs.declared.inode_parts.SizePart.{SizePart}
+use Rattle.bx_layout.specs.declared.inode_parts.TreePart.{TreePart}
+
+-- ---- the owner: the last number is zero
+
+abbrev pub OwnerFields : Type 0
+OwnerFields = ℕ × (ℕ × (ℕ × (ℕ × (ℕ × ℕ))))
+
+abbrev pub owner_with : OwnerFields → OwnerPart
+owner_with x = record { kind = x.0; mode = x.1.0; nlink = x.1.1.0; uid = x.1.1.1.0; gid = x.1.1.1.1.0 }
+
+abbrev pub owner_fields : OwnerPart → OwnerFields
+owner_fields part = (part.kind, (part.mode, (part.nlink, (part.uid, (part.gid, 0)))))
+
+-- the number of a type of files
+abbrev pub is_kind : ℕ → Bool
+is_kind kind = (kind == 0) || ((kind == 1) || ((kind == 2) || (kind == 5)))
+
+abbrev pub is_owner : OwnerFields → Bool
+is_owner x = is_kind x.0 && (nat_lt x.1.0 4096 && (x.1.1.1.1.1 == 0))
+
+unfoldable pub owner_at : Reader OwnerPart
+owner_at bytes =
+    as_at owner_with (tested_at is_owner (then_at (number_at w32) (then_at (number_at w32) (then_at (number_at w32) (then_at (number_at w32) (then_at (number_at w32) (number_at w32))))))) bytes
+
+-- ---- the size, the tail and the times
+
+unfoldable pub time_at : Reader (ℕ × ℕ)
+time_at bytes = then_at (number_at w32) (number_at w32) bytes
+
+abbrev pub SizeFields : Type 0
+SizeFields = ℕ × (ℕ × ((ℕ × ℕ) × ((ℕ × ℕ) × (ℕ × ℕ))))
+
+abbrev pub size_with : SizeFields → SizePart
+size_with x = record { size = x.0; tail = x.1.0; atime = x.1.1.0; mtime = x.1.1.1.0; ctime = x.1.1.1.1 }
+
+abbrev pub size_fields : SizePart → SizeFields
+size_fields part = (part.size, (part.tail, (part.atime, (part.mtime, part.ctime))))
+
+unfoldable pub sizes_at : Reader SizePart
+sizes_at bytes = as_at size_with (then_at (number_at w64) (then_at (number_at w64) (then_at time_at (then_at time_at time_at)))) bytes
+
+-- ---- the tree, and a link's path
+
+abbrev pub TreeFields : Type 0
+TreeFields = ℕ × (ℕ × (ℕ × List ℕ))
+
+abbrev pub tree_with : TreeFields → TreePart
+tree_with x = record { tree = x.0; parent = x.1.0; next = x.1.1.0; path = x.1.1.1 }
+
+abbrev pub tree_fields : TreePart → TreeFields
+tree_fields part = (part.tree, (part.parent, (part.next, part.path)))
+
+unfoldable pub tree_at : Reader TreePart
+tree_at bytes = as_at tree_with (then_at (number_at w64) (then_at (number_at w64) (then_at (number_at w32) (sized_at (number_at w32) bytes_at)))) bytes
+
+-- ---- all of it
+
+abbrev pub Parts : Type 0
+Parts = OwnerPart × (SizePart × TreePart)
+
+abbrev pub inode_with : Parts → Inode
+inode_with x =
+    record {
+      kind = x.0.kind;
+      mode = x.0.mode;
+      nlink = x.0.nlink;
+      uid = x.0.uid;
+      gid = x.0.gid;
+      size = x.1.0.size;
+      tail = x.1.0.tail;
+      atime = x.1.0.atime;
+      mtime = x.1.0.mtime;
+      ctime = x.1.0.ctime;
+      tree = x.1.1.tree;
+      parent = x.1.1.parent;
+      next = x.1.1.next;
+      path = x.1.1.path;
+    }
+
+abbrev pub inode_parts : Inode → Parts
+inode_parts inode = (
+  record { kind = inode.kind; mode = inode.mode; nlink = inode.nlink; uid = inode.uid; gid = inode.gid },
+  (
+    record { size = inode.size; tail = inode.tail; atime = inode.atime; mtime = inode.mtime; ctime = inode.ctime },
+    record { tree = inode.tree; parent = inode.parent; next = inode.next; path = inode.path },
+  ),
+)
+
+unfoldable pub inode_at : Reader Inode
+inode_at bytes = as_at inode_with (then_at owner_at (then_at sizes_at tree_at)) bytes

@@ -1,0 +1,34 @@
+//! Laws of the payloads of areas and inodes, of the headers of records, and of slots.
+
+ghost use Rattle.std.specs.Prelude.{◌≡◌, ℕ, ◌+◌, false, List, IsTrue};
+ghost use Rattle.bx_fields.specs.Writing.{padded};
+ghost use Rattle.bx_layout.specs.declared.area.AreaBlock.{AreaBlock};
+ghost use Rattle.bx_layout.specs.declared.inode.Inode.{Inode};
+ghost use Rattle.bx_layout.specs.declared.record_head.RecordHead.{RecordHead};
+ghost use Rattle.bx_layout.specs.Areas.{IsArea, SpellsArea, area_text, generation_in, is_free, in_use, taken_word, freed_word};
+ghost use Rattle.bx_layout.specs.Inodes.{IsInode, SpellsInode, inode_text};
+ghost use Rattle.bx_layout.specs.Records.{IsHead, SpellsHead, head_text};
+
+/// What is written for an area, an inode or the header of a record is its bytes, so that it is read again.
+pub fn written_payload_reads()
+    ensures area { (area : AreaBlock) → IsArea area → SpellsArea area (padded 4096 (area_text area)) }
+    ensures inode { (inode : Inode) → IsInode inode → SpellsInode inode (padded 4096 (inode_text inode)) }
+    ensures head { (head : RecordHead) → IsHead head → SpellsHead head (padded 512 (head_text head)) }
+{}
+
+/// Bytes are one area's, one inode's and one header's at most: so what is read of what was written is the same, and two
+/// have different bytes.
+pub fn one_payload_reading()
+    ensures area { (a b : AreaBlock) (payload : List ℕ) → SpellsArea a payload → SpellsArea b payload → a ≡ b }
+    ensures inode { (a b : Inode) (payload : List ℕ) → SpellsInode a payload → SpellsInode b payload → a ≡ b }
+    ensures head { (a b : RecordHead) (sector : List ℕ) → SpellsHead a sector → SpellsHead b sector → a ≡ b }
+{}
+
+/// A slot that was taken is in use and isn't free, in the generation above the one before, and freeing it leaves it in
+/// that generation.
+pub fn taken_slots()
+    ensures used { (word : ℕ) → IsTrue (is_free word) → IsTrue (in_use (taken_word word)) }
+    ensures not_free { (word : ℕ) → IsTrue (is_free word) → is_free (taken_word word) ≡ false }
+    ensures above { (word : ℕ) → IsTrue (is_free word) → generation_in (taken_word word) ≡ generation_in word + 1 }
+    ensures freed { (word : ℕ) → IsTrue (is_free word) → generation_in (freed_word (taken_word word)) ≡ generation_in word + 1 }
+{}

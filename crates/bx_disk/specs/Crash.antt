@@ -39,6 +39,7 @@ left_with disks disk content = record {
 abbrev pub noise_at : (ℕ → Bool) → Lcg → ℕ → List ℕ
 noise_at unsure generator s = (drawn (after_sectors generator (count_below unsure s))).0
 
+-- the disks once one of them crashed
 abbrev pub crashed : Disks → ℕ → Noise → Disks
 crashed disks disk Keep = synced disks disk
 crashed disks disk Drop = left_with disks disk (disks.held disk)

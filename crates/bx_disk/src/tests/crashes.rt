@@ -132,7 +132,7 @@ fn unsure_before(all: &[Plain], place: &Plain) -> usize {
 #[test]
 fn a_crash_leaves_what_a_plain_reading_says(rt: HostRuntime) -> Result<(), Fail> {
     for how in [Noise::Keep, Noise::Drop, Noise::Seed(7)] {
-        for stop in 0..RUN.len() + 1 {
+        for stop in 0..=RUN.len() {
             let mut rack = StopRack::new(MemRack::new(rt.alloc(), &[4, 4], &[])?, stop as u64);
             let mut plain = blank_sectors();
             for (number, call) in RUN.iter().enumerate() {

@@ -18,10 +18,11 @@ session_text row =
 unfoldable pub device_text : DeviceRow → List ℕ
 device_text row = to_be_bytes w32 row.mode ++ (to_be_bytes w64 row.epoch ++ (to_be_bytes w64 row.boot_a ++ to_be_bytes w64 row.boot_b))
 
--- how many rows there are, and the rows
+-- how many sessions there are, and their rows
 unfoldable pub sessions_text : List SessionRow → List ℕ
 sessions_text rows = to_be_bytes w32 (length rows) ++ flat_map session_text rows
 
+-- how many devices there are, and their rows
 unfoldable pub devices_text : List DeviceRow → List ℕ
 devices_text rows = to_be_bytes w32 (length rows) ++ flat_map device_text rows
 

@@ -28,7 +28,7 @@ const SKEW: u64 = 500;
 const SERVERS: u32 = 2;
 
 /// How many nodes there may be.
-const NODES: u32 = 4;
+pub(crate) const NODES: u32 = 4;
 
 /// The master prolongs its term.
 pub(crate) fn renew(

@@ -5,6 +5,7 @@ ghost use Rattle.std.specs.List.{AllByRecursion};
 ghost use Rattle.bx_global.specs.Allowed.{AreRising, HaveOwnSlots};
 ghost use Rattle.bx_global.specs.Reading.{IsPlaced, IsSound};
 
+use crate::changes::NODES;
 use crate::device::DeviceRow;
 use crate::rows::SLOTS;
 use crate::session::SessionRow;
@@ -33,7 +34,7 @@ fn are_placed(rows: &[SessionRow], term_end: u64) -> bool
 fn is_placed(row: &SessionRow, term_end: u64) -> bool
     ensures { IsTrue result ↔ IsPlaced term_end row.now }
 {
-    row.node < 4 && row.slot < SLOTS && row.until <= term_end && row.dead < 2
+    row.node < NODES && row.slot < SLOTS && row.until <= term_end && row.dead < 2
 }
 
 /// Whether the numbers rise, and stay below the next one.

@@ -1,6 +1,6 @@
 //! Chains of calls, which show that they close, what no clause says, and each function once.
 
-ghost use Rattle.std.specs.Prelude.{◌≡◌, ℕ, ◌+◌, ◌<◌, ◌≤◌, length, slice_index, OnOk, IsErrOf};
+ghost use Rattle.std.specs.Prelude.{◌≡◌, ℕ, ◌+◌, ◌<◌, ◌≤◌, List, length, slice_index, OnOk, IsErrOf};
 ghost use Rattle.bx_disk.specs.declared.fault.RackError.TheVariants.{Fault};
 ghost use Rattle.bx_disk.specs.Counts.{NoneFalls, BothRose};
 ghost use Rattle.bx_calls.specs.Regions.{ReadsAs, IsSure};
@@ -77,6 +77,21 @@ fn two_disks<R: Rack>(rack: &mut R, disk: u32, other: u32, bytes: &[u8]) -> Resu
     Ok(())
 }
 
+/// Writes the second sector of a disk. Whatever the first one surely holds, each image has it, at any moment.
+fn put_beside<R: Rack>(rack: &mut R, disk: u32, bytes: &[u8]) -> Result<(), RackError>
+    requires disk { disk < length (R.state rack.old).sizes }
+    requires whole { length bytes.now ≡ 512 }
+    requires range { 2 ≤ slice_index (R.state rack.old).sizes disk }
+    ensures beside { (kept : List ℕ) → length kept ≡ 512 → R.tells rack.old → IsSure (R.state rack.old) disk 0 1 → ReadsAs (R.state rack.old).reads disk 0 kept
+        → LeavesOnly (R.moment rack.old) (R.moment rack.new) (R.left_since rack.old) (R.left_since rack.new) (λ image. ReadsAs image disk 0 kept) }
+    ensures sizes { (R.state rack.new).sizes ≡ (R.state rack.old).sizes }
+{
+    write_some(rack, disk, 1, bytes)?;
+    sync_disk(rack, disk)?;
+    write_through(rack, disk, 1, bytes)?;
+    Ok(())
+}
+
 /// The first and last byte of a sector of the first disk, if it is there and can be read.
 fn ends<R: Rack>(rack: &mut R, sector: u64) -> Option<(u8, u8)> {
     let mut into = [1; 512];
@@ -97,6 +112,7 @@ fn each_call_does_its_work(rt: HostRuntime) -> Result<(), Fail> {
     assert!(rt; write_through(&mut rack, 1, 2, &[9; 512]).is_ok());
     assert!(rt; two_parts(&mut rack, 0, 0, &[1; 512], &[2; 1024]).is_ok());
     assert!(rt; two_disks(&mut rack, 1, 0, &[3; 512]).is_ok());
+    assert!(rt; put_beside(&mut rack, 1, &[4; 512]).is_ok());
     let mut into = [1; 512];
     assert!(rt; read_sectors(&mut rack, 1, 2, &mut into).is_ok());
     assert_eq!(rt; (into[0], into[511]), (9, 9));

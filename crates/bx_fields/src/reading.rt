@@ -1,15 +1,17 @@
 //! Fields at the front of bytes.
 
-ghost use Rattle.std.specs.Prelude.{◌≡◌, ◌↔◌, IsTrue, length, replicate};
+ghost use Rattle.std.specs.Prelude.{◌≡◌, ◌↔◌, IsTrue, IfErr, length, replicate};
 ghost use Rattle.std.specs.Int.{w16, w32, w64};
 ghost use Rattle.bx_fields.specs.Reading.{Gives, number_at, bytes_at};
+ghost use Rattle.bx_fields.specs.declared.error.ReadError.TheVariants.{Malformed};
 
 use crate::error::ReadError;
 use byteorder::{BigEndian, ByteOrder};
 
 /// The number of two bytes at the front, and the bytes behind it; `Malformed` exactly where there are fewer bytes.
 pub fn u16_at(bytes: &[u8]) -> Result<(u16, &[u8]), ReadError>
-    ensures { Gives (λ x. (x.0, x.1.now)) result (number_at w16 bytes.now) }
+    ensures value { Gives (λ x. (x.0, x.1.now)) result (number_at w16 bytes.now) }
+    ensures cause { IfErr result (λ error. error ≡ Malformed) }
 {
     let (front, rest) = front_at(bytes, 2)?;
     Ok((BigEndian::read_u16(front), rest))
@@ -17,7 +19,8 @@ pub fn u16_at(bytes: &[u8]) -> Result<(u16, &[u8]), ReadError>
 
 /// The number of four bytes at the front, and the bytes behind it; `Malformed` exactly where there are fewer bytes.
 pub fn u32_at(bytes: &[u8]) -> Result<(u32, &[u8]), ReadError>
-    ensures { Gives (λ x. (x.0, x.1.now)) result (number_at w32 bytes.now) }
+    ensures value { Gives (λ x. (x.0, x.1.now)) result (number_at w32 bytes.now) }
+    ensures cause { IfErr result (λ error. error ≡ Malformed) }
 {
     let (front, rest) = front_at(bytes, 4)?;
     Ok((BigEndian::read_u32(front), rest))
@@ -25,7 +28,8 @@ pub fn u32_at(bytes: &[u8]) -> Result<(u32, &[u8]), ReadError>
 
 /// The number of eight bytes at the front, and the bytes behind it; `Malformed` exactly where there are fewer bytes.
 pub fn u64_at(bytes: &[u8]) -> Result<(u64, &[u8]), ReadError>
-    ensures { Gives (λ x. (x.0, x.1.now)) result (number_at w64 bytes.now) }
+    ensures value { Gives (λ x. (x.0, x.1.now)) result (number_at w64 bytes.now) }
+    ensures cause { IfErr result (λ error. error ≡ Malformed) }
 {
     let (front, rest) = front_at(bytes, 8)?;
     Ok((BigEndian::read_u64(front), rest))
@@ -33,7 +37,8 @@ pub fn u64_at(bytes: &[u8]) -> Result<(u64, &[u8]), ReadError>
 
 /// As many bytes of the front as are wanted, and the bytes behind them; `Malformed` exactly where there are fewer.
 pub fn front_at(bytes: &[u8], len: usize) -> Result<(&[u8], &[u8]), ReadError>
-    ensures { Gives (λ x. (x.0.now, x.1.now)) result (bytes_at len bytes.now) }
+    ensures value { Gives (λ x. (x.0.now, x.1.now)) result (bytes_at len bytes.now) }
+    ensures cause { IfErr result (λ error. error ≡ Malformed) }
 {
     if bytes.len() < len {
         return Err(ReadError::Malformed);

@@ -17,7 +17,7 @@ use std::alloc::Global;
 const SIZE: usize = 4096;
 
 /// How many slots an area has.
-const SLOTS: u32 = 960;
+pub(crate) const SLOTS: u16 = 960;
 
 /// How many bytes have the slots' bits.
 const BITS: usize = 120;
@@ -82,7 +82,7 @@ impl AreaBlock {
 fn area_of(alloc: Global, bytes: &[u8]) -> Result<(AreaBlock, &[u8]), ReadError>
     ensures { Gives (λ x. (x.0, x.1.now)) result (area_at bytes.now) }
 {
-    let (words, rest) = words_of(alloc, SLOTS, bytes)?;
+    let (words, rest) = words_of(alloc, u32::from(SLOTS), bytes)?;
     let (dead, rest) = front_at(rest, BITS)?;
     let dead = Raw::of(alloc, dead)?;
     Ok((AreaBlock { words, dead }, rest))

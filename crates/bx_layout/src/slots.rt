@@ -3,10 +3,7 @@
 ghost use Rattle.std.specs.Prelude.{◌≡◌, ℕ, ◌+◌, ◌^◌, ◌<◌, ◌==◌, if◌then◌else◌, false, IsTrue, IfSome, IfNone, count_by, slice_index};
 ghost use Rattle.bx_layout.specs.Areas.{IsArea, IsLowestFree, MarksDead, bit, in_use, generation_in, is_free, is_dead, taken_word, freed_word, with_word};
 
-use crate::area::AreaBlock;
-
-/// How many slots an area has.
-const SLOTS: u16 = 960;
+use crate::area::{AreaBlock, SLOTS};
 
 /// The highest bit of a word, which is set where the slot is in use.
 const IN_USE: u32 = 2_147_483_648;
@@ -45,7 +42,7 @@ impl AreaBlock {
     /// The lowest slot that is free; `None` exactly where none is.
     pub fn lowest_free(&self) -> Option<u16>
         requires { IsArea self.now }
-        ensures some { IfSome result (λ slot. IsLowestFree self.now slot) }
+        ensures some { IfSome result (IsLowestFree self.now) }
         ensures none { IfNone result ((slot : ℕ) → slot < 960 → is_free (slice_index self.now.words slot) ≡ false) }
     {
         for slot in 0..SLOTS {

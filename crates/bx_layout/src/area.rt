@@ -1,7 +1,6 @@
 //! The slots of an area.
 
-ghost use Rattle.std.specs.Prelude.{◌≡◌, ◌+◌, ◌≤◌, ◌++◌, length, IfOk, IfSome, IfNone, replicate, slice_index};
-ghost use Rattle.std.specs.Int.{w32};
+ghost use Rattle.std.specs.Prelude.{◌≡◌, length, IfOk, IfSome, IfNone, replicate};
 ghost use Rattle.bx_fields.specs.Reading.{Gives};
 ghost use Rattle.bx_fields.specs.Writing.{padded};
 ghost use Rattle.bx_layout.specs.Areas.{IsArea, SpellsArea, area_text};

@@ -1,6 +1,6 @@
 //! What is asked of the slots of an area, and what changes them.
 
-ghost use Rattle.std.specs.Prelude.{◌≡◌, ℕ, ◌+◌, ◌^◌, ◌<◌, ◌==◌, if◌then◌else◌, false, IsTrue, IfSome, IfNone, count_by, slice_index};
+ghost use Rattle.std.specs.Prelude.{◌≡◌, ℕ, ◌+◌, ◌<◌, ◌==◌, if◌then◌else◌, false, IsTrue, IfSome, IfNone, count_by, slice_index};
 ghost use Rattle.bx_layout.specs.Areas.{IsArea, IsLowestFree, MarksDead, bit, in_use, generation_in, is_free, is_dead, taken_word, freed_word, with_word};
 
 use crate::area::{AreaBlock, SLOTS};

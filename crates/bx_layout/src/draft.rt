@@ -1,6 +1,6 @@
 //! What a call changes.
 
-ghost use Rattle.std.specs.Prelude.{◌≡◌, ◌↔◌, ◌≤◌, [], length, None, IsErrOf, OnOk, OnErr};
+ghost use Rattle.std.specs.Prelude.{◌≡◌, ◌↔◌, [], length, None, IsErrOf, OnOk, OnErr};
 ghost use Rattle.std.specs.Option.{option_copied};
 ghost use Rattle.bx_layout.specs.Drafts.{block_in, with_block, place_in};
 ghost use Rattle.bx_layout.specs.declared.draft.DraftError.TheVariants.{OutOfMemory as MemoryRanOut, Crowded};

@@ -1,6 +1,6 @@
 //! Lists of numbers at the front of bytes, and at a place of bytes.
 
-ghost use Rattle.std.specs.Prelude.{◌≡◌, ◌+◌, ◌*◌, ◌≤◌, length};
+ghost use Rattle.std.specs.Prelude.{◌+◌, ◌*◌, ◌≤◌, length};
 ghost use Rattle.std.specs.List.{flat_map};
 ghost use Rattle.std.specs.Int.{w32, w64, to_be_bytes};
 ghost use Rattle.bx_base.specs.Bytes.{words};

@@ -43,7 +43,7 @@ impl AreaBlock {
     /// The lowest slot that is free; `None` exactly where none is.
     pub fn lowest_free(&self) -> Option<u16>
         requires { IsArea self.now }
-        ensures some { IfSome result (λ slot. IsLowestFree self.now slot) }
+        ensures some { IfSome result (IsLowestFree self.now) }
         ensures none { IfNone result ((slot : ℕ) → slot < 960 → is_free (slice_index self.now.words slot) ≡ false) }
     {
         for slot in 0..SLOTS {

@@ -5,7 +5,6 @@ pub mod Kept
 pub mod Lengths
 pub mod Loops
 pub mod Pushed
-pub mod ReadLoop
 pub mod Rising
 pub mod StateText
 pub mod StaysAllowed

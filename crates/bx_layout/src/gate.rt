@@ -4,10 +4,12 @@ ghost use Rattle.std.specs.Prelude.{◌≡◌, ◌↔◌, length};
 
 use bx_fields::{clear_from, put};
 
-/// Whether what stands behind a gate counts. A record counts where its gate is open, and a half of a cell where its gate is.
+/// Whether what stands behind a gate counts: a record, or a half of a cell.
 #[derive(Clone, Copy, PartialEq, Eq, Debug)]
 pub enum Gate {
+    /// What stands behind it counts.
     Open,
+    /// It doesn't.
     Closed,
 }
 

@@ -1,14 +1,14 @@
 use Rattle.std.proofs.lemmas.Result.{err_from_is_err_and}
 use Rattle.bx_fields.specs.Reading.{list_at}
 use Rattle.bx_global.specs.Reading.{session_at}
-use Rattle.bx_global.proofs.ReadLoop.{goes_on, ends, is_done}
+use Rattle.bx_fields.proofs.Lists.{goes_on, ends, is_done}
 use Rattle.bx_global.proofs.reading.session_rows.Goals as goal
 
 pub returns-in_err-row : goal.returns-in_err-row
 returns-in_err-row c =
     let total = list_at c.args.count session_at c.args.bytes.now in
     let p = err_from_is_err_and c.from_residual.result c.from_residual.ensures.1 in
-    rw (p.1, p.2) (ends session_at c.in_err-row.field-0.0 c.loop.rows c.args.count c.loop.counter c.loop.rest.now total c.loop-test.true c.in_err-row.ensures c.loop.invariant)
+    rw (p.1, p.2) (ends session_at c.loop.rows c.args.count c.loop.counter c.loop.rest.now c.in_err-row.field-0.0 total c.loop-test.true c.in_err-row.ensures c.loop.invariant)
 
 pub loop-preserved : goal.loop-preserved
 loop-preserved c =

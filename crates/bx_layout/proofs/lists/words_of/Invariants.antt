@@ -1,7 +1,7 @@
 use Rattle.std.proofs.Common.{◌≡◌, ◌-◌}
 use Rattle.std.specs.Int.{w32}
 use Rattle.bx_fields.specs.Reading.{number_at, list_at}
-use Rattle.bx_layout.proofs.Loops.{with_front}
+use Rattle.bx_fields.proofs.Lists.{with_front}
 use Rattle.bx_layout.proofs.lists.words_of.Given as goal
 
 abbrev pub invariant-loop : goal.invariant-loop

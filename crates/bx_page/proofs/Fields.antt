@@ -1,19 +1,18 @@
 -- A part that is read is the part that was written, and what was written is read again.
-use Rattle.std.proofs.Common.{◌≡◌, ℕ, zero, suc, ◌+◌, ◌^◌, ◌<◌, ◌≤◌, Bool, true, false, ◌||◌, cond, ltb, eqb, List, [], ◌∷◌, ◌++◌, length, Option, Some, None, refl, sym, ap, subst, ◌∙◌, append_assoc, arith, inl, inr, ◌⊎◌}
+use Rattle.std.proofs.Common.{◌≡◌, ℕ, ◌+◌, ◌^◌, ◌<◌, ◌≤◌, Bool, true, false, ◌||◌, cond, ltb, eqb, List, [], ◌∷◌, ◌++◌, length, Option, Some, None, refl, sym, ap, subst, ◌∙◌, append_assoc, arith, inl, inr, ◌⊎◌}
 use Rattle.std.specs.Prelude.{IfSome, All}
 use Rattle.std.specs.List.{flat_map}
 use Rattle.std.specs.Int.{w16, w64, to_be_bytes}
 use Rattle.std.proofs.lemmas.Bool.{ltb-false, le-ltb, eqb-true, ne_eqb}
-use Rattle.std.proofs.lemmas.List.Elements.{All-head, All-tail, All-cons, All-nil}
-use Rattle.std.proofs.lemmas.List.Concat.{flat_map-cons}
+use Rattle.std.proofs.lemmas.List.Elements.{All-from_recursion, recursion_from_All}
 use Rattle.bx_page.specs.declared.entry.Entry.{Entry}
 use Rattle.bx_page.specs.Contents.{Contents, IsEntry, high_bytes}
 use Rattle.bx_page.specs.Spelling.{high_len, entry_bytes, numbers}
-use Rattle.bx_page.specs.Reading.{lengths_at, entry_at, entries_at, high_of, high_at, contents_at}
+use Rattle.bx_page.specs.Reading.{lengths_at, entry_at, high_of, high_at, contents_at}
 use Rattle.bx_page.proofs.Written.{front}
 use Rattle.bx_base.specs.Bytes.{IsBytes}
-use Rattle.bx_fields.specs.Reading.{◌>>=◌, number_at, bytes_at}
-use Rattle.bx_fields.proofs.Fields.{Takes, Takes-then, bind_some, guard_some, some_is, field16, field64, bytes_field}
+use Rattle.bx_fields.specs.Reading.{◌>>=◌, number_at, bytes_at, list_at}
+use Rattle.bx_fields.proofs.Fields.{IsField, Takes, Takes-then, bind_some, guard_some, some_is, field16, field64, bytes_field, list_field}
 
 -- ---- entries
 
@@ -62,26 +61,11 @@ entry_again e rest fits =
     ap (λ (t : List ℕ). to_be_bytes w16 (length e.key) ++ (to_be_bytes w16 (length e.value) ++ t)) (append_assoc e.key e.value rest) in
     ap entry_at regrouped ∙ rw (lengths_again (length e.key) (length e.value) (e.key ++ (e.value ++ rest)) fits.key fits.both, (bytes_field (length e.key)).again e.key (e.value ++ rest) refl, (bytes_field (length e.value)).again e.value rest refl) refl
 
-entries_take : (n : ℕ) (bytes : List ℕ) (x : List Entry × List ℕ) → IsBytes bytes → entries_at n bytes ≡ Some x → Takes bytes (flat_map entry_bytes x.0) x.1 × (length x.0 ≡ n) × All IsEntry x.0
-unfolding entries_at
-entries_take zero bytes x fits e =
-    subst (λ (y : List Entry × List ℕ). Takes bytes (flat_map entry_bytes y.0) y.1 × (length y.0 ≡ 0) × All IsEntry y.0) (some_is ([], bytes) x e) (record { parts = refl; rest_fits = fits }, refl, All-nil IsEntry)
-entries_take (suc n) bytes x fits e =
-    let a = bind_some (entry_at bytes) (λ first. entries_at n first.1 >>= λ others. Some (first.0 ∷ others.0, others.1)) x e in
-    let b = bind_some (entries_at n a.0.1) (λ others. Some (a.0.0 ∷ others.0, others.1)) x a.2 in
-    let first = entry_takes bytes a.0 fits a.1 in
-    let second = entries_take n a.0.1 b.0 first.0.rest_fits b.1 in
-    let both = Takes-then bytes (entry_bytes a.0.0) a.0.1 (flat_map entry_bytes b.0.0) b.0.1 first.0 second.0 in
-    let made : List Entry × List ℕ = (a.0.0 ∷ b.0.0, b.0.1) in
-    let whole : Takes bytes (flat_map entry_bytes made.0) b.0.1 = subst (λ (t : List ℕ). Takes bytes t b.0.1) (sym (flat_map-cons entry_bytes a.0.0 b.0.0)) both in
-    subst (λ (y : List Entry × List ℕ). Takes bytes (flat_map entry_bytes y.0) y.1 × (length y.0 ≡ suc n) × All IsEntry y.0) (some_is made x b.2) (whole, ap suc second.1, All-cons IsEntry a.0.0 b.0.0 first.1 second.2)
-
-entries_again : (es : List Entry) (rest : List ℕ) → All IsEntry es → entries_at (length es) (flat_map entry_bytes es ++ rest) ≡ Some (es, rest)
-unfolding entries_at
-entries_again [] rest fits = refl
-entries_again (e ∷ es) rest fits =
-    let regrouped : flat_map entry_bytes (e ∷ es) ++ rest ≡ entry_bytes e ++ (flat_map entry_bytes es ++ rest) = ap (λ (x : List ℕ). x ++ rest) (flat_map-cons entry_bytes e es) ∙ append_assoc (entry_bytes e) (flat_map entry_bytes es) rest in
-    ap (entries_at (suc (length es))) regrouped ∙ rw (entry_again e (flat_map entry_bytes es ++ rest) (All-head IsEntry e es fits), entries_again es rest (All-tail IsEntry e es fits)) refl
+entry_field : IsField entry_at entry_bytes IsEntry
+entry_field = record {
+  takes = λ bytes x fits e. entry_takes bytes x fits e;
+  again = λ e rest fits. entry_again e rest fits;
+}
 
 -- ---- the high key
 
@@ -177,19 +161,19 @@ Found bytes x = (bytes ≡ front x.0 ++ x.1) × AreParts x.0
 pub contents_take : (bytes : List ℕ) (x : Contents × List ℕ) → IsBytes bytes → contents_at bytes ≡ Some x → (bytes ≡ front x.0 ++ x.1) × AreParts x.0
 unfolding contents_at
 contents_take bytes x fits e =
-    let a = bind_some (number_at w16 bytes) (λ level. number_at w16 level.1 >>= λ count. number_at w64 count.1 >>= λ right. high_at right.1 >>= λ high. entries_at count.0 high.1 >>= λ entries. Some (record { level = level.0; right = right.0; high = high.0; entries = entries.0 }, entries.1)) x e in
-    let b = bind_some (number_at w16 a.0.1) (λ count. number_at w64 count.1 >>= λ right. high_at right.1 >>= λ high. entries_at count.0 high.1 >>= λ entries. Some (record { level = a.0.0; right = right.0; high = high.0; entries = entries.0 }, entries.1)) x a.2 in
-    let c = bind_some (number_at w64 b.0.1) (λ right. high_at right.1 >>= λ high. entries_at b.0.0 high.1 >>= λ entries. Some (record { level = a.0.0; right = right.0; high = high.0; entries = entries.0 }, entries.1)) x b.2 in
-    let d = bind_some (high_at c.0.1) (λ high. entries_at b.0.0 high.1 >>= λ entries. Some (record { level = a.0.0; right = c.0.0; high = high.0; entries = entries.0 }, entries.1)) x c.2 in
-    let f = bind_some (entries_at b.0.0 d.0.1) (λ entries. Some (record { level = a.0.0; right = c.0.0; high = d.0.0; entries = entries.0 }, entries.1)) x d.2 in
+    let a = bind_some (number_at w16 bytes) (λ level. number_at w16 level.1 >>= λ count. number_at w64 count.1 >>= λ right. high_at right.1 >>= λ high. list_at count.0 entry_at high.1 >>= λ entries. Some (record { level = level.0; right = right.0; high = high.0; entries = entries.0 }, entries.1)) x e in
+    let b = bind_some (number_at w16 a.0.1) (λ count. number_at w64 count.1 >>= λ right. high_at right.1 >>= λ high. list_at count.0 entry_at high.1 >>= λ entries. Some (record { level = a.0.0; right = right.0; high = high.0; entries = entries.0 }, entries.1)) x a.2 in
+    let c = bind_some (number_at w64 b.0.1) (λ right. high_at right.1 >>= λ high. list_at b.0.0 entry_at high.1 >>= λ entries. Some (record { level = a.0.0; right = right.0; high = high.0; entries = entries.0 }, entries.1)) x b.2 in
+    let d = bind_some (high_at c.0.1) (λ high. list_at b.0.0 entry_at high.1 >>= λ entries. Some (record { level = a.0.0; right = c.0.0; high = high.0; entries = entries.0 }, entries.1)) x c.2 in
+    let f = bind_some (list_at b.0.0 entry_at d.0.1) (λ entries. Some (record { level = a.0.0; right = c.0.0; high = d.0.0; entries = entries.0 }, entries.1)) x d.2 in
     let t0 = field16.takes bytes a.0 fits a.1 in
     let t1 = field16.takes a.0.1 b.0 t0.0.rest_fits b.1 in
     let t2 = field64.takes b.0.1 c.0 t1.0.rest_fits c.1 in
     let t3 = high_takes c.0.1 d.0 t2.0.rest_fits d.1 in
-    let t4 = entries_take b.0.0 d.0.1 f.0 t3.0.rest_fits f.1 in
+    let t4 = (list_field b.0.0 entry_field).takes d.0.1 f.0 t3.0.rest_fits f.1 in
     let made : Contents × List ℕ = (record { level = a.0.0; right = c.0.0; high = d.0.0; entries = f.0.0 }, f.0.1) in
     subst (Found bytes) (some_is made x f.2)
-    (joined made.0 bytes a.0.1 b.0.1 c.0.1 d.0.1 f.0.1 b.0.0 t0.0 t1.0 t2.0 t3.0 t4.0 t4.1, record { level = t0.1; right = t2.1; count = omega (arith, t4.1, t1.1); high = t3.1; entries = t4.2 })
+    (joined made.0 bytes a.0.1 b.0.1 c.0.1 d.0.1 f.0.1 b.0.0 t0.0 t1.0 t2.0 t3.0 t4.0 t4.1.0, record { level = t0.1; right = t2.1; count = omega (arith, t4.1.0, t1.1); high = t3.1; entries = All-from_recursion IsEntry f.0.0 t4.1.1 })
 
 -- the parts are read again, whatever is behind them
 pub contents_again : (p : Contents) (rest : List ℕ) → AreParts p → contents_at (front p ++ rest) ≡ Some (p, rest)
@@ -205,5 +189,5 @@ contents_again p rest fits =
       field16.again (length p.entries) (to_be_bytes w64 p.right ++ high) fits.count,
       field64.again p.right high fits.right,
       high_again p.high entries fits.high,
-      entries_again p.entries rest fits.entries,
+      (list_field (length p.entries) entry_field).again p.entries rest (refl, recursion_from_All IsEntry p.entries fits.entries),
     ) refl

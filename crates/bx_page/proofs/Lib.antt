@@ -3,7 +3,6 @@ pub mod Cuts
 pub mod Placed
 pub mod Edits
 pub mod Written
-pub mod ReadLoop
 pub mod Fields
 pub mod Rising
 pub mod Whole

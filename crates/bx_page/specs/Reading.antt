@@ -1,8 +1,8 @@
 -- Reading the parts of a page from left to right.
-use Rattle.std.specs.Prelude.{ℕ, zero, suc, ◌+◌, List, [], ◌∷◌, Option, Some, None, nat_lt, ◌==◌, ◌||◌, if◌then◌else◌}
+use Rattle.std.specs.Prelude.{ℕ, ◌+◌, List, Option, Some, None, nat_lt, ◌==◌, ◌||◌, if◌then◌else◌}
 use Rattle.std.specs.Int.{w16, w64}
 use Rattle.bx_page.specs.declared.entry.Entry.{Entry}
-use Rattle.bx_fields.specs.Reading.{◌>>=◌, number_at, bytes_at}
+use Rattle.bx_fields.specs.Reading.{◌>>=◌, number_at, bytes_at, list_at}
 use Rattle.bx_page.specs.Contents.{Contents}
 
 -- the lengths of a key and its value, within their limits
@@ -18,13 +18,6 @@ entry_at bytes = do
   key ← bytes_at lengths.0.0 lengths.1
   value ← bytes_at lengths.0.1 key.1
   Some (record { key = key.0; value = value.0 }, value.1)
-
-unfoldable pub entries_at : ℕ → List ℕ → Option (List Entry × List ℕ)
-entries_at zero bytes = Some ([], bytes)
-entries_at (suc n) bytes = do
-  first ← entry_at bytes
-  others ← entries_at n first.1
-  Some (first.0 ∷ others.0, others.1)
 
 -- a high key of a length, within its limit
 unfoldable pub high_of : ℕ → List ℕ → Option (Option (List ℕ) × List ℕ)
@@ -44,5 +37,5 @@ contents_at bytes = do
   count ← number_at w16 level.1
   right ← number_at w64 count.1
   high ← high_at right.1
-  entries ← entries_at count.0 high.1
+  entries ← list_at count.0 entry_at high.1
   Some (record { level = level.0; right = right.0; high = high.0; entries = entries.0 }, entries.1)

@@ -1,8 +1,8 @@
 //! Reading a page from bytes.
 
 ghost use Rattle.std.specs.Prelude.{◌≡◌, IfOk, IfSome, IfNone};
-ghost use Rattle.bx_fields.specs.Reading.{Gives};
-ghost use Rattle.bx_page.specs.Reading.{lengths_at, entry_at, entries_at, high_of, high_at, contents_at};
+ghost use Rattle.bx_fields.specs.Reading.{Gives, list_at};
+ghost use Rattle.bx_page.specs.Reading.{lengths_at, entry_at, high_of, high_at, contents_at};
 ghost use Rattle.bx_page.specs.Parts.{seen};
 ghost use Rattle.bx_page.specs.Contents.{Contents};
 ghost use Rattle.bx_page.specs.Spelling.{Spells};
@@ -87,7 +87,7 @@ fn entry_of(alloc: Global, bytes: &[u8]) -> Result<(Entry, &[u8]), ReadError>
 
 /// As many entries as are wanted, and the bytes behind them.
 fn entries_of(alloc: Global, count: u16, bytes: &[u8]) -> Result<(Vec<Entry>, &[u8]), ReadError>
-    ensures { Gives (λ x. (x.0.items, x.1.now)) result (entries_at count bytes.now) }
+    ensures { Gives (λ x. (x.0.items, x.1.now)) result (list_at count entry_at bytes.now) }
 {
     let mut entries = Vec::new(alloc);
     let mut rest = bytes;

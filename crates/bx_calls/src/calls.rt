@@ -3,7 +3,7 @@
 ghost use Rattle.std.specs.Prelude.{◌≡◌, ℕ, ◌+◌, ◌/◌, ◌%◌, ◌<◌, ◌≤◌, length, slice_index, OnOk, OnErr, IsErrOf};
 ghost use Rattle.bx_disk.specs.declared.fault.RackError.TheVariants.{Fault, OutOfMemory};
 ghost use Rattle.bx_disk.specs.Disks.{IsImage, MayBeWritten};
-ghost use Rattle.bx_disk.specs.Counts.{NoneFalls, BothRose};
+ghost use Rattle.bx_disk.specs.Counts.{NoneFalls, NoneRose, BothRose};
 ghost use Rattle.bx_calls.specs.Regions.{ReadsAs, IsSynced};
 ghost use Rattle.bx_calls.specs.Calls.{KeepsSure, KeepsAll, HasSure, LeavesOnly};
 
@@ -27,6 +27,7 @@ pub fn write_some<R: Rack>(
     ensures memory { R.tells rack.old → IsErrOf result OutOfMemory → R.state rack.new ≡ R.state rack.old }
     ensures cause { IsErrOf result Fault → BothRose (R.faults rack.old) (R.faults rack.new) (R.faults_of rack.old) (R.faults_of rack.new) disk }
     ensures later { NoneFalls (R.faults rack.old) (R.faults rack.new) (R.faults_of rack.old) (R.faults_of rack.new) }
+    ensures no_fault { OnOk result (NoneRose (R.faults rack.old) (R.faults rack.new) (R.faults_of rack.old) (R.faults_of rack.new)) }
     ensures sizes { (R.state rack.new).sizes ≡ (R.state rack.old).sizes }
     ensures keeps_telling { R.tells rack.old → R.tells rack.new }
 {
@@ -43,6 +44,7 @@ pub fn sync_disk<R: Rack>(rack: &mut R, disk: u32) -> Result<(), DiskFault>
     ensures any_moment { R.tells rack.old → LeavesOnly (R.moment rack.old) (R.moment rack.new) (R.left_since rack.old) (R.left_since rack.new) (IsImage (R.state rack.old)) }
     ensures cause { OnErr result (BothRose (R.faults rack.old) (R.faults rack.new) (R.faults_of rack.old) (R.faults_of rack.new) disk) }
     ensures later { NoneFalls (R.faults rack.old) (R.faults rack.new) (R.faults_of rack.old) (R.faults_of rack.new) }
+    ensures no_fault { OnOk result (NoneRose (R.faults rack.old) (R.faults rack.new) (R.faults_of rack.old) (R.faults_of rack.new)) }
     ensures sizes { (R.state rack.new).sizes ≡ (R.state rack.old).sizes }
     ensures keeps_telling { R.tells rack.old → R.tells rack.new }
 {
@@ -68,6 +70,7 @@ pub fn write_through<R: Rack>(
     ensures memory { R.tells rack.old → IsErrOf result OutOfMemory → R.state rack.new ≡ R.state rack.old }
     ensures cause { IsErrOf result Fault → BothRose (R.faults rack.old) (R.faults rack.new) (R.faults_of rack.old) (R.faults_of rack.new) disk }
     ensures later { NoneFalls (R.faults rack.old) (R.faults rack.new) (R.faults_of rack.old) (R.faults_of rack.new) }
+    ensures no_fault { OnOk result (NoneRose (R.faults rack.old) (R.faults rack.new) (R.faults_of rack.old) (R.faults_of rack.new)) }
     ensures sizes { (R.state rack.new).sizes ≡ (R.state rack.old).sizes }
     ensures keeps_telling { R.tells rack.old → R.tells rack.new }
 {
@@ -91,6 +94,7 @@ pub fn read_sectors<R: Rack>(
     ensures any_moment { R.tells rack.old → LeavesOnly (R.moment rack.old) (R.moment rack.new) (R.left_since rack.old) (R.left_since rack.new) (IsImage (R.state rack.old)) }
     ensures cause { OnErr result (BothRose (R.faults rack.old) (R.faults rack.new) (R.faults_of rack.old) (R.faults_of rack.new) disk) }
     ensures later { NoneFalls (R.faults rack.old) (R.faults rack.new) (R.faults_of rack.old) (R.faults_of rack.new) }
+    ensures no_fault { OnOk result (NoneRose (R.faults rack.old) (R.faults rack.new) (R.faults_of rack.old) (R.faults_of rack.new)) }
     ensures sizes { (R.state rack.new).sizes ≡ (R.state rack.old).sizes }
     ensures keeps_telling { R.tells rack.old → R.tells rack.new }
 {

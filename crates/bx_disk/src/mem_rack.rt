@@ -7,7 +7,7 @@ ghost use Rattle.bx_disk.specs.declared.entry.Entry.TheVariants.{Wrote, Synced, 
 ghost use Rattle.bx_disk.specs.Disks.{Image, Disks, IsSector, IsImage, AreSectors, MayBeWritten, written, synced, shaped, blanked};
 ghost use Rattle.bx_disk.specs.Crash.{crashed};
 ghost use Rattle.bx_disk.specs.Moments.{Elapses};
-ghost use Rattle.bx_disk.specs.Counts.{NoneFalls, BothRose};
+ghost use Rattle.bx_disk.specs.Counts.{NoneFalls, NoneRose, BothRose};
 ghost use Rattle.bx_disk.specs.Past.{Past, LeftSince, disks_of, moment_of, fails, counted, noted, with_entries, with_counts, failed_on, failed};
 ghost use Rattle.bx_disk.specs.Laws.{lawful_past, now_counts, now_only};
 
@@ -112,6 +112,7 @@ impl Rack for MemRack {
         ensures time { Unit {0} → Elapses (moment_of self.old) (moment_of self.new) (LeftSince self.old) (LeftSince self.new) (disks_of self.new) }
         ensures fault { OnErr result (BothRose self.old.faults self.new.faults (λ d. slice_index self.old.by_disk d) (λ d. slice_index self.new.by_disk d) disk) }
         ensures later { NoneFalls self.old.faults self.new.faults (λ d. slice_index self.old.by_disk d) (λ d. slice_index self.new.by_disk d) }
+        ensures no_fault { OnOk result (NoneRose self.old.faults self.new.faults (λ d. slice_index self.old.by_disk d) (λ d. slice_index self.new.by_disk d)) }
         ensures sizes { (disks_of self.new).sizes ≡ (disks_of self.old).sizes }
         ensures keeps_telling { Unit {0} → Unit {0} }
     {
@@ -142,6 +143,7 @@ impl Rack for MemRack {
         ensures time { Unit {0} → Elapses (moment_of self.old) (moment_of self.new) (LeftSince self.old) (LeftSince self.new) (disks_of self.new) }
         ensures fault { IsErrOf result Fault → BothRose self.old.faults self.new.faults (λ d. slice_index self.old.by_disk d) (λ d. slice_index self.new.by_disk d) disk }
         ensures later { NoneFalls self.old.faults self.new.faults (λ d. slice_index self.old.by_disk d) (λ d. slice_index self.new.by_disk d) }
+        ensures no_fault { OnOk result (NoneRose self.old.faults self.new.faults (λ d. slice_index self.old.by_disk d) (λ d. slice_index self.new.by_disk d)) }
         ensures sizes { (disks_of self.new).sizes ≡ (disks_of self.old).sizes }
         ensures keeps_telling { Unit {0} → Unit {0} }
     {
@@ -176,6 +178,7 @@ impl Rack for MemRack {
         ensures time { Unit {0} → Elapses (moment_of self.old) (moment_of self.new) (LeftSince self.old) (LeftSince self.new) (disks_of self.new) }
         ensures fault { OnErr result (BothRose self.old.faults self.new.faults (λ d. slice_index self.old.by_disk d) (λ d. slice_index self.new.by_disk d) disk) }
         ensures later { NoneFalls self.old.faults self.new.faults (λ d. slice_index self.old.by_disk d) (λ d. slice_index self.new.by_disk d) }
+        ensures no_fault { OnOk result (NoneRose self.old.faults self.new.faults (λ d. slice_index self.old.by_disk d) (λ d. slice_index self.new.by_disk d)) }
         ensures sizes { (disks_of self.new).sizes ≡ (disks_of self.old).sizes }
         ensures keeps_telling { Unit {0} → Unit {0} }
     {
@@ -205,6 +208,7 @@ impl Rack for MemRack {
         ensures time { Unit {0} → Elapses (moment_of self.old) (moment_of self.new) (LeftSince self.old) (LeftSince self.new) (disks_of self.new) }
         ensures fault { IsErrOf result Fault → Rose self.old.faults self.new.faults }
         ensures later { NoneFalls self.old.faults self.new.faults (λ d. slice_index self.old.by_disk d) (λ d. slice_index self.new.by_disk d) }
+        ensures no_fault { OnOk result (NoneRose self.old.faults self.new.faults (λ d. slice_index self.old.by_disk d) (λ d. slice_index self.new.by_disk d)) }
         ensures keeps_telling { Unit {0} → Unit {0} }
     {
         if steps::count_call(&mut self.calls, &self.failing) {

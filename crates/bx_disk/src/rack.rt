@@ -5,7 +5,7 @@ ghost use Rattle.bx_base.specs.Faults.{Rose};
 ghost use Rattle.bx_disk.specs.declared.fault.RackError.TheVariants.{Fault, OutOfMemory};
 ghost use Rattle.bx_disk.specs.Disks.{Image, Disks, IsSector, IsImage, AreSectors, MayBeWritten, written, synced, shaped};
 ghost use Rattle.bx_disk.specs.Moments.{Elapses};
-ghost use Rattle.bx_disk.specs.Counts.{NoneFalls, BothRose};
+ghost use Rattle.bx_disk.specs.Counts.{NoneFalls, NoneRose, BothRose};
 
 use crate::fault::{DiskFault, RackError};
 
@@ -49,6 +49,7 @@ pub trait Rack {
         ensures time { tells self.old → Elapses (moment self.old) (moment self.new) (left_since self.old) (left_since self.new) (state self.new) }
         ensures fault { OnErr result (BothRose (faults self.old) (faults self.new) (faults_of self.old) (faults_of self.new) disk) }
         ensures later { NoneFalls (faults self.old) (faults self.new) (faults_of self.old) (faults_of self.new) }
+        ensures no_fault { OnOk result (NoneRose (faults self.old) (faults self.new) (faults_of self.old) (faults_of self.new)) }
         ensures sizes { (state self.new).sizes ≡ (state self.old).sizes }
         ensures keeps_telling { tells self.old → tells self.new };
 
@@ -64,6 +65,7 @@ pub trait Rack {
         ensures time { tells self.old → Elapses (moment self.old) (moment self.new) (left_since self.old) (left_since self.new) (state self.new) }
         ensures fault { IsErrOf result Fault → BothRose (faults self.old) (faults self.new) (faults_of self.old) (faults_of self.new) disk }
         ensures later { NoneFalls (faults self.old) (faults self.new) (faults_of self.old) (faults_of self.new) }
+        ensures no_fault { OnOk result (NoneRose (faults self.old) (faults self.new) (faults_of self.old) (faults_of self.new)) }
         ensures sizes { (state self.new).sizes ≡ (state self.old).sizes }
         ensures keeps_telling { tells self.old → tells self.new };
 
@@ -75,6 +77,7 @@ pub trait Rack {
         ensures time { tells self.old → Elapses (moment self.old) (moment self.new) (left_since self.old) (left_since self.new) (state self.new) }
         ensures fault { OnErr result (BothRose (faults self.old) (faults self.new) (faults_of self.old) (faults_of self.new) disk) }
         ensures later { NoneFalls (faults self.old) (faults self.new) (faults_of self.old) (faults_of self.new) }
+        ensures no_fault { OnOk result (NoneRose (faults self.old) (faults self.new) (faults_of self.old) (faults_of self.new)) }
         ensures sizes { (state self.new).sizes ≡ (state self.old).sizes }
         ensures keeps_telling { tells self.old → tells self.new };
 
@@ -87,6 +90,7 @@ pub trait Rack {
         ensures time { tells self.old → Elapses (moment self.old) (moment self.new) (left_since self.old) (left_since self.new) (state self.new) }
         ensures fault { IsErrOf result Fault → Rose (faults self.old) (faults self.new) }
         ensures later { NoneFalls (faults self.old) (faults self.new) (faults_of self.old) (faults_of self.new) }
+        ensures no_fault { OnOk result (NoneRose (faults self.old) (faults self.new) (faults_of self.old) (faults_of self.new)) }
         ensures keeps_telling { tells self.old → tells self.new };
 
     /// A sector has 512 bytes.

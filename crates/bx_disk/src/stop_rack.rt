@@ -5,7 +5,7 @@ ghost use Rattle.bx_base.specs.Faults.{Rose, count_up};
 ghost use Rattle.bx_disk.specs.declared.fault.RackError.TheVariants.{Fault, OutOfMemory};
 ghost use Rattle.bx_disk.specs.Disks.{AreSectors, MayBeWritten, written, synced, shaped};
 ghost use Rattle.bx_disk.specs.Moments.{Elapses};
-ghost use Rattle.bx_disk.specs.Counts.{NoneFalls, BothRose};
+ghost use Rattle.bx_disk.specs.Counts.{NoneFalls, NoneRose, BothRose};
 ghost use Rattle.bx_disk.specs.Stops.{with_failed};
 
 use crate::fault::{DiskFault, RackError};
@@ -86,6 +86,7 @@ impl<R: Rack> Rack for StopRack<R> {
         ensures time { R.tells self.old.inner → Elapses (R.moment self.old.inner) (R.moment self.new.inner) (R.left_since self.old.inner) (R.left_since self.new.inner) (R.state self.new.inner) }
         ensures fault { OnErr result (BothRose (with_failed (R.faults self.old.inner) (self.old.failed + self.old.shapes)) (with_failed (R.faults self.new.inner) (self.new.failed + self.new.shapes)) (λ d. with_failed (R.faults_of self.old.inner d) self.old.failed) (λ d. with_failed (R.faults_of self.new.inner d) self.new.failed) disk) }
         ensures later { NoneFalls (with_failed (R.faults self.old.inner) (self.old.failed + self.old.shapes)) (with_failed (R.faults self.new.inner) (self.new.failed + self.new.shapes)) (λ d. with_failed (R.faults_of self.old.inner d) self.old.failed) (λ d. with_failed (R.faults_of self.new.inner d) self.new.failed) }
+        ensures no_fault { OnOk result (NoneRose (with_failed (R.faults self.old.inner) (self.old.failed + self.old.shapes)) (with_failed (R.faults self.new.inner) (self.new.failed + self.new.shapes)) (λ d. with_failed (R.faults_of self.old.inner d) self.old.failed) (λ d. with_failed (R.faults_of self.new.inner d) self.new.failed)) }
         ensures sizes { (R.state self.new.inner).sizes ≡ (R.state self.old.inner).sizes }
         ensures keeps_telling { R.tells self.old.inner → R.tells self.new.inner }
     {
@@ -111,6 +112,7 @@ impl<R: Rack> Rack for StopRack<R> {
         ensures time { R.tells self.old.inner → Elapses (R.moment self.old.inner) (R.moment self.new.inner) (R.left_since self.old.inner) (R.left_since self.new.inner) (R.state self.new.inner) }
         ensures fault { IsErrOf result Fault → BothRose (with_failed (R.faults self.old.inner) (self.old.failed + self.old.shapes)) (with_failed (R.faults self.new.inner) (self.new.failed + self.new.shapes)) (λ d. with_failed (R.faults_of self.old.inner d) self.old.failed) (λ d. with_failed (R.faults_of self.new.inner d) self.new.failed) disk }
         ensures later { NoneFalls (with_failed (R.faults self.old.inner) (self.old.failed + self.old.shapes)) (with_failed (R.faults self.new.inner) (self.new.failed + self.new.shapes)) (λ d. with_failed (R.faults_of self.old.inner d) self.old.failed) (λ d. with_failed (R.faults_of self.new.inner d) self.new.failed) }
+        ensures no_fault { OnOk result (NoneRose (with_failed (R.faults self.old.inner) (self.old.failed + self.old.shapes)) (with_failed (R.faults self.new.inner) (self.new.failed + self.new.shapes)) (λ d. with_failed (R.faults_of self.old.inner d) self.old.failed) (λ d. with_failed (R.faults_of self.new.inner d) self.new.failed)) }
         ensures sizes { (R.state self.new.inner).sizes ≡ (R.state self.old.inner).sizes }
         ensures keeps_telling { R.tells self.old.inner → R.tells self.new.inner }
     {
@@ -133,6 +135,7 @@ impl<R: Rack> Rack for StopRack<R> {
         ensures time { R.tells self.old.inner → Elapses (R.moment self.old.inner) (R.moment self.new.inner) (R.left_since self.old.inner) (R.left_since self.new.inner) (R.state self.new.inner) }
         ensures fault { OnErr result (BothRose (with_failed (R.faults self.old.inner) (self.old.failed + self.old.shapes)) (with_failed (R.faults self.new.inner) (self.new.failed + self.new.shapes)) (λ d. with_failed (R.faults_of self.old.inner d) self.old.failed) (λ d. with_failed (R.faults_of self.new.inner d) self.new.failed) disk) }
         ensures later { NoneFalls (with_failed (R.faults self.old.inner) (self.old.failed + self.old.shapes)) (with_failed (R.faults self.new.inner) (self.new.failed + self.new.shapes)) (λ d. with_failed (R.faults_of self.old.inner d) self.old.failed) (λ d. with_failed (R.faults_of self.new.inner d) self.new.failed) }
+        ensures no_fault { OnOk result (NoneRose (with_failed (R.faults self.old.inner) (self.old.failed + self.old.shapes)) (with_failed (R.faults self.new.inner) (self.new.failed + self.new.shapes)) (λ d. with_failed (R.faults_of self.old.inner d) self.old.failed) (λ d. with_failed (R.faults_of self.new.inner d) self.new.failed)) }
         ensures sizes { (R.state self.new.inner).sizes ≡ (R.state self.old.inner).sizes }
         ensures keeps_telling { R.tells self.old.inner → R.tells self.new.inner }
     {
@@ -155,6 +158,7 @@ impl<R: Rack> Rack for StopRack<R> {
         ensures time { R.tells self.old.inner → Elapses (R.moment self.old.inner) (R.moment self.new.inner) (R.left_since self.old.inner) (R.left_since self.new.inner) (R.state self.new.inner) }
         ensures fault { IsErrOf result Fault → Rose (with_failed (R.faults self.old.inner) (self.old.failed + self.old.shapes)) (with_failed (R.faults self.new.inner) (self.new.failed + self.new.shapes)) }
         ensures later { NoneFalls (with_failed (R.faults self.old.inner) (self.old.failed + self.old.shapes)) (with_failed (R.faults self.new.inner) (self.new.failed + self.new.shapes)) (λ d. with_failed (R.faults_of self.old.inner d) self.old.failed) (λ d. with_failed (R.faults_of self.new.inner d) self.new.failed) }
+        ensures no_fault { OnOk result (NoneRose (with_failed (R.faults self.old.inner) (self.old.failed + self.old.shapes)) (with_failed (R.faults self.new.inner) (self.new.failed + self.new.shapes)) (λ d. with_failed (R.faults_of self.old.inner d) self.old.failed) (λ d. with_failed (R.faults_of self.new.inner d) self.new.failed)) }
         ensures keeps_telling { R.tells self.old.inner → R.tells self.new.inner }
     {
         if self.left == 0 {

@@ -1,4 +1,4 @@
-use Rattle.std.proofs.Common.{◌≡◌, ◌+◌, ◌*◌, ◌/◌, length, take, refl, arith}
+use Rattle.std.proofs.Common.{◌≡◌, ◌+◌, ◌*◌, ◌/◌, length, take, refl, arith, ◌∙◌}
 use Rattle.bx_calls.specs.Regions.{IsInside}
 use Rattle.bx_calls.specs.Laws.{zero_more, keeps_part, leaves_part, inside_by, blank_front, front_count}
 use Rattle.bx_calls.proofs.zero.zero_pieces.Goals as goal
@@ -29,6 +29,10 @@ loop-done-preserved g c =
           let told = c.loop-done.invariant.tells tells in
           leaves_part _ _ _ _ _ _ _ _ _ _ _ _ _ _ (c.loop-done.invariant.any_moment tells) (c.loop-done.invariant.keeps tells) (rw count at (c.write_zeros.ensures.any_moment told)) inside;
       later = grind arith;
+      no_fault =
+          let before = c.loop-done.invariant.no_fault in
+          let piece_too = c.in_ok-write_zeros.ensures.no_fault in
+          record { all = piece_too.all ∙ before.all; each = λ d. piece_too.each d ∙ before.each d };
       sizes = grind arith;
       tells = λ tells. c.write_zeros.ensures.keeps_telling (c.loop-done.invariant.tells tells);
     }

@@ -4,7 +4,7 @@ ghost use Rattle.std.specs.Prelude.{◌≡◌, ◌<◌, length, OnOk, OnErr};
 ghost use Rattle.bx_disk.specs.Disks.{IsImage, blanked};
 ghost use Rattle.bx_disk.specs.Crash.{crashed};
 ghost use Rattle.bx_disk.specs.Moments.{Elapses};
-ghost use Rattle.bx_disk.specs.Counts.{NoneFalls};
+ghost use Rattle.bx_disk.specs.Counts.{NoneRose};
 
 use crate::noise::Noise;
 use crate::rack::Rack;
@@ -20,7 +20,7 @@ pub trait CrashRack: Rack {
         ensures image { Self.tells self.old → OnOk result (IsImage (Self.state self.old) (Self.state self.new).reads) }
         ensures memory { Self.tells self.old → OnErr result (Self.state self.new ≡ Self.state self.old) }
         ensures time { Self.tells self.old → Elapses (Self.moment self.old) (Self.moment self.new) (Self.left_since self.old) (Self.left_since self.new) (Self.state self.new) }
-        ensures later { NoneFalls (Self.faults self.old) (Self.faults self.new) (Self.faults_of self.old) (Self.faults_of self.new) }
+        ensures no_fault { NoneRose (Self.faults self.old) (Self.faults self.new) (Self.faults_of self.old) (Self.faults_of self.new) }
         ensures sizes { (Self.state self.new).sizes ≡ (Self.state self.old).sizes }
         ensures keeps_telling { Self.tells self.old → Self.tells self.new };
 
@@ -30,7 +30,7 @@ pub trait CrashRack: Rack {
         ensures blanked { Self.tells self.old → OnOk result (Self.state self.new ≡ blanked (Self.state self.old) disk) }
         ensures memory { Self.tells self.old → OnErr result (Self.state self.new ≡ Self.state self.old) }
         ensures time { Self.tells self.old → Elapses (Self.moment self.old) (Self.moment self.new) (Self.left_since self.old) (Self.left_since self.new) (Self.state self.new) }
-        ensures later { NoneFalls (Self.faults self.old) (Self.faults self.new) (Self.faults_of self.old) (Self.faults_of self.new) }
+        ensures no_fault { NoneRose (Self.faults self.old) (Self.faults self.new) (Self.faults_of self.old) (Self.faults_of self.new) }
         ensures sizes { (Self.state self.new).sizes ≡ (Self.state self.old).sizes }
         ensures keeps_telling { Self.tells self.old → Self.tells self.new };
 }

@@ -237,7 +237,7 @@ impl CrashRack for MemRack {
         ensures image { Unit {0} → OnOk result (IsImage (disks_of self.old) (disks_of self.new).reads) }
         ensures memory { Unit {0} → OnErr result (disks_of self.new ≡ disks_of self.old) }
         ensures time { Unit {0} → Elapses (moment_of self.old) (moment_of self.new) (LeftSince self.old) (LeftSince self.new) (disks_of self.new) }
-        ensures later { NoneFalls self.old.faults self.new.faults (λ d. slice_index self.old.by_disk d) (λ d. slice_index self.new.by_disk d) }
+        ensures no_fault { NoneRose self.old.faults self.new.faults (λ d. slice_index self.old.by_disk d) (λ d. slice_index self.new.by_disk d) }
         ensures sizes { (disks_of self.new).sizes ≡ (disks_of self.old).sizes }
         ensures keeps_telling { Unit {0} → Unit {0} }
     {
@@ -254,7 +254,7 @@ impl CrashRack for MemRack {
         ensures blanked { Unit {0} → OnOk result (disks_of self.new ≡ blanked (disks_of self.old) disk) }
         ensures memory { Unit {0} → OnErr result (disks_of self.new ≡ disks_of self.old) }
         ensures time { Unit {0} → Elapses (moment_of self.old) (moment_of self.new) (LeftSince self.old) (LeftSince self.new) (disks_of self.new) }
-        ensures later { NoneFalls self.old.faults self.new.faults (λ d. slice_index self.old.by_disk d) (λ d. slice_index self.new.by_disk d) }
+        ensures no_fault { NoneRose self.old.faults self.new.faults (λ d. slice_index self.old.by_disk d) (λ d. slice_index self.new.by_disk d) }
         ensures sizes { (disks_of self.new).sizes ≡ (disks_of self.old).sizes }
         ensures keeps_telling { Unit {0} → Unit {0} }
     {

@@ -11,9 +11,8 @@ mod gate;
 mod inode;
 mod inode_parts;
 mod label;
-mod laws;
 mod lists;
-mod payload_laws;
+mod place_laws;
 mod places;
 mod readings;
 mod record_head;
@@ -30,16 +29,12 @@ pub use file_handles::{file_handle, named};
 pub use gate::Gate;
 pub use inode::Inode;
 pub use label::Label;
-pub use laws::{
+pub use place_laws::{
     areas_are_apart, blocks_are_apart, blocks_are_slots, blocks_stand_in_areas, disks_have_room,
     label_logs_and_areas_are_apart, records_are_apart, records_stand_in_logs,
 };
-pub use payload_laws::{one_payload_reading, taken_slots, written_payload_reads};
 pub use places::{body_place, disk_sectors, gate_place, is_block, member_sectors, place};
-pub use readings::{
-    block_one_reading, block_written_reads, file_handle_one_reading, file_handle_written_reads,
-    gate_written_reads, handle_one_number, label_one_reading, label_written_reads,
-};
+pub use readings::{handle_one_number, one_reading, taken_slots, written_reads};
 pub use record_head::RecordHead;
 pub use runs::{Run, Runs};
 pub use sizes::{BLOCK_SECTORS, MOST_AREAS, MOST_BLOCKS, PAYLOAD, REPLICA_SECTORS, SECTOR, SLOTS};

@@ -3,7 +3,7 @@ use Rattle.bx_layout.proofs.AreaFields.{area_field}
 use Rattle.bx_layout.proofs.InodeFields.{inode_field, parts_of}
 use Rattle.bx_layout.proofs.HeadFields.{head_field}
 use Rattle.bx_layout.proofs.Payloads.{area_same, inode_same, head_same}
-use Rattle.bx_layout.proofs.payload_laws.one_payload_reading.Goals as goal
+use Rattle.bx_layout.proofs.readings.one_reading.Goals as goal
 
 pub returns-clause-area : goal.returns-clause-area
 returns-clause-area c = λ a b payload s t. (area_same payload _ a b (padded_again area_field 4096 payload a s.parts s.is) t).0

@@ -159,3 +159,23 @@ fn a_crash_leaves_what_a_plain_reading_says(rt: HostRuntime) -> Result<(), Fail>
     }
     Ok(())
 }
+
+/// The last bytes of the first sector of the noise of seed 7, and the first ones of the second.
+const LAST: [u8; 12] = [238, 64, 150, 56, 229, 62, 104, 15, 19, 243, 180, 145];
+
+const FIRST: [u8; 12] = [248, 47, 111, 175, 202, 143, 102, 45, 178, 50, 193, 177];
+
+#[test]
+fn noise_goes_on_in_the_next_unsure_sector(rt: HostRuntime) -> Result<(), Fail> {
+    let mut rack = MemRack::new(rt.alloc(), &[4], &[])?;
+    assert!(rt; rack.write(0, 3, &[1; 512]).is_ok());
+    assert!(rt; rack.write(0, 1, &[1; 512]).is_ok());
+    assert!(rt; rack.crash(0, Noise::Seed(7)).is_ok());
+    let mut first = [0; 512];
+    assert!(rt; rack.read(0, 1, &mut first).is_ok());
+    assert!(rt; first.ends_with(&LAST));
+    let mut next = [0; 512];
+    assert!(rt; rack.read(0, 3, &mut next).is_ok());
+    assert!(rt; next.starts_with(&FIRST));
+    Ok(())
+}

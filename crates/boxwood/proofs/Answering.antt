@@ -1,13 +1,11 @@
 -- What a call that acts adds to a replay.
 use Rattle.std.proofs.Common.{◌≡◌, ℕ, ◌+◌, ◌≤◌, List, Some, refl, lit≤}
-use Rattle.bx_history.specs.Account.{answered_entry}
 use Rattle.bx_model.specs.declared.call.Call.{Call}
 use Rattle.bx_model.specs.declared.reply.Reply.{Reply}
 use Rattle.bx_model.specs.declared.tree.Tree.{Tree}
 use Rattle.bx_model.specs.Act.{act}
 use Rattle.bx_nfs.specs.Wire.{ReadsAs, IsServed, reply_text}
 use Rattle.boxwood.specs.declared.replay.Replay.{Replay}
-use Rattle.boxwood.specs.Headline.{Step}
 use Rattle.boxwood.specs.Replay.{Answers}
 
 pub answering : (old : Replay) (next : Tree) (reading : ℕ) (datagram : List ℕ) (xid : ℕ) (call : Call) (reply : Reply) (text : List ℕ)

@@ -1,5 +1,5 @@
 -- What a replay leaves, by what stopped it.
-use Rattle.std.proofs.Common.{◌≡◌, ℕ, ◌+◌, ◌<◌, ◌==◌, List, [], ◌∷◌, ◌++◌, Err, refl, sym, inl, inr}
+use Rattle.std.proofs.Common.{ℕ, ◌+◌, ◌<◌, ◌==◌, List, [], Err, inl, inr}
 use Rattle.bx_base.specs.Text.{BeginsWith}
 use Rattle.bx_script.specs.declared.line.Line.{Line}
 use Rattle.bx_script.specs.ScheduleLine.{spelling}
@@ -32,7 +32,7 @@ line_stops stops.OutOfMemory text rest next left start written number replay bef
 
 pub step_stops : (stop : Stop) (text rest next left start old new : List ℕ) (number : ℕ) (replay after : Replay) (line : Line) (before now : ℕ)
     → (going : Going text rest number replay start old) → number < 4294967295 → BeginsWith rest (spelling line) next → HasPlace ((number + 1) == 1) line
-    → HasStepCause stop (number + 1) before now → DoesLine (Err stop) line going.parts start old new after
+    → HasStepCause stop (number + 1) before now → DoesLine (Err stop) line going.done start old new after
     → Leaves (Err stop) text left start new
 step_stops stops.Usage text rest next left start old new number replay after line before now going few begins place cause does = absurd cause
 step_stops (stops.Refused n reason) text rest next left start old new number replay after line before now going few begins place cause does =
@@ -44,7 +44,7 @@ step_stops stops.OutOfMemory text rest next left start old new number replay aft
     rw does (stops_broken text rest number replay start old going)
 
 pub finish_stops : (stop : Stop) (text left start old new : List ℕ) (number : ℕ) (replay : Replay) (before now : ℕ)
-    → Going text [] number replay start old → HasFinishCause stop before now → Finishes (Err stop) (closing_text replay.tree) old new
+    → Going text [] number replay start old → HasFinishCause stop before now → Finishes (Err stop) (closing_text [] replay.tree) old new
     → Leaves (Err stop) text left start new
 finish_stops stops.Usage text left start old new number replay before now going cause part = absurd cause
 finish_stops (stops.Refused n reason) text left start old new number replay before now going cause part = absurd cause

@@ -1,5 +1,5 @@
 -- What a replay leaves on its output, by the way in which it ends.
-use Rattle.std.specs.Prelude.{◌≡◌, ◌≢◌, ℕ, ◌+◌, ◌<◌, ◌≤◌, ◌==◌, Bool, true, false, if◌then◌else◌, List, [], ◌∷◌, ◌++◌, length, map, take, codes, ◌⊎◌}
+use Rattle.std.specs.Prelude.{◌≡◌, ◌≢◌, ℕ, ◌+◌, ◌<◌, ◌≤◌, ◌==◌, Bool, true, if◌then◌else◌, List, [], ◌∷◌, ◌++◌, length, map, take, codes, ◌⊎◌}
 use Rattle.std.specs.List.{AllByRecursion, list_any}
 use Rattle.std.specs.Fmt.{decimal}
 use Rattle.bx_base.specs.Faults.{Rose}
@@ -25,19 +25,20 @@ pub record AreDone (done : List Line) : Type 0 where
   pub served : AllByRecursion IsServedLine done
   pub few : length done ≤ 4294967295
 
--- what comes after the trace: the word `end`, and the listing of the tree
-abbrev pub closing_text : Tree → List ℕ
-closing_text tree = ended (codes "end") ++ listing tree
+-- what comes after the trace: the word `end`, the closing lines, and the listing of the tree
+abbrev pub closing_text : List TraceLine → Tree → List ℕ
+closing_text closing tree = ended (codes "end") ++ (trace_text closing ++ listing tree)
 
 -- The text is a schedule whose calls are all served, and the output is its trace, `end`, and the listing of the tree after it.
 pub record IsReplayed (text output : List ℕ) : Type 0 where
   pub schedule : List Line
   pub trace : List TraceLine
+  pub closing : List TraceLine
   pub last : Tree
   pub read : IsSchedule (lines_of text) schedule
   pub served : AllByRecursion IsServedLine schedule
-  pub headline : Headline schedule trace last
-  pub output-is : output ≡ trace_text trace ++ closing_text last
+  pub headline : Headline schedule trace closing last
+  pub output-is : output ≡ trace_text trace ++ closing_text closing last
 
 -- a call that isn't served
 pub record IsUnserved (first : Bool) (line : List ℕ) : Type 0 where
@@ -70,7 +71,7 @@ pub record IsRefused (text : List ℕ) (number : ℕ) (reason : Reason) (output 
   pub first : IsFirstRefused text number reason
   pub trace : List TraceLine
   pub last : Tree
-  pub headline : Headline first.done trace last
+  pub headline : Headline first.done trace [] last
   pub output-is : output ≡ trace_text trace
 
 -- The text is these lines, and then the rest; or it is these lines, of which the last lacks its line feed, and no rest.
@@ -87,7 +88,7 @@ pub record IsCutOff (text left output : List ℕ) : Type 0 where
   pub read : IsReadTo text done (piece ++ left)
   pub lacks : LacksFeed piece
   pub are_done : AreDone done
-  pub headline : Headline done trace last
+  pub headline : Headline done trace [] last
   pub output-is : output ≡ trace_text trace
 
 -- The output is a part, from its front, of the trace of some first lines of the text; or of all of them, with what comes after.
@@ -95,12 +96,13 @@ pub record IsBroken (text output : List ℕ) : Type 0 where
   pub done : List Line
   pub others : List (List ℕ)
   pub trace : List TraceLine
+  pub closing : List TraceLine
   pub last : Tree
   pub more : List ℕ
   pub read : lines_of text ≡ map spelling done ++ others
   pub are_done : AreDone done
-  pub headline : Headline done trace last
-  pub part : (output ++ more ≡ trace_text trace) ⊎ ((others ≡ []) × (output ++ more ≡ trace_text trace ++ closing_text last))
+  pub headline : Headline done trace closing last
+  pub part : (output ++ more ≡ trace_text trace) ⊎ ((others ≡ []) × (output ++ more ≡ trace_text trace ++ closing_text closing last))
 
 -- the name of a reason
 abbrev pub reason_text : Reason → List ℕ

@@ -2,7 +2,7 @@
 
 ghost use Rattle.std.specs.Prelude.{◌≡◌, ◌≤◌, ◌<◌, ◌+◌, ◌^◌, List, ℕ, length, IfOk, IfErr, MatchOption, true, false};
 ghost use Rattle.bx_script.specs.Schedule.{HasPlace};
-ghost use Rattle.bx_history.specs.Placed.{Part};
+ghost use Rattle.bx_history.specs.Along.{Done};
 ghost use Rattle.bx_model.specs.Listing.{IsBare};
 ghost use Rattle.bx_nfs.specs.Wire.{IsServed};
 ghost use Rattle.boxwood.specs.Replay.{Answers, DoesLine, HasStepCause, Stands};
@@ -31,8 +31,8 @@ impl Replay {
         requires bare { IsBare self.old.tree }
         requires few { self.old.calls < 2 ^ 32 }
 
-        ensures does { K.tells out.old → (parts : List Part) (start : List ℕ) → length parts < 4294967295 → Stands self.old parts start (K.written out.old)
-            → DoesLine result line parts start (K.written out.old) (K.written out.new) self.new }
+        ensures does { K.tells out.old → (done : List Done) (start : List ℕ) → length done < 4294967295 → Stands self.old done start (K.written out.old)
+            → DoesLine result line done start (K.written out.old) (K.written out.new) self.new }
         ensures cause { IfErr result (λ stop. HasStepCause stop number (K.faults out.old) (K.faults out.new)) }
         ensures bare { IsBare self.new.tree }
         ensures calls { self.new.calls ≤ self.old.calls + 1 }

@@ -1,5 +1,4 @@
-use Rattle.std.proofs.Common.{◌≡◌, ℕ, List, ◌∙◌}
-use Rattle.boxwood.specs.Outcome.{IsTold, message}
+use Rattle.std.proofs.Common.{◌∙◌}
 use Rattle.boxwood.proofs.Reports.{told_as}
 use Rattle.boxwood.proofs.report.report.Goals as goal
 

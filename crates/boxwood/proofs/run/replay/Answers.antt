@@ -1,6 +1,5 @@
-use Rattle.std.proofs.Common.{◌≡◌, ℕ, ◌+◌, ◌<◌, ◌≤◌, List, [], ◌++◌, refl, sym, ap, ◌∙◌, arith}
+use Rattle.std.proofs.Common.{ap, ◌∙◌, arith}
 use Rattle.std.proofs.lemmas.Result.{err_from_is_err_and}
-use Rattle.boxwood.specs.Replay.{Going, Leaves}
 use Rattle.boxwood.proofs.Goings.{begins_broken, begins_going, finishes, going_on}
 use Rattle.boxwood.proofs.Leavings.{begin_stops, finish_stops, line_stops, step_stops}
 use Rattle.boxwood.proofs.run.replay.Goals as goal
@@ -55,7 +54,7 @@ lines-preserved g c =
           let going = c.lines.invariant.going source_tells sink_tells in
           let begins = rw c.in-Some.is at (c.in_ok-line.ensures.gives (c.lines.invariant.source_tells source_tells)) in
           going_on _ _ _ c.lines.number c.lines.replay c.step.new.self c.in-Some.line _ _ _ going begins
-          (c.in_ok-step.ensures.does (c.lines.invariant.sink_tells sink_tells) going.parts _ (omega (arith, going.count, few)) going.stands);
+          (c.in_ok-step.ensures.does (c.lines.invariant.sink_tells sink_tells) going.done _ (omega (arith, going.count, few)) going.stands);
     }
 
 pub returns-in_err-step-clause-leaves : goal.returns-in_err-step-clause-leaves
@@ -67,7 +66,7 @@ returns-in_err-step-clause-leaves g c = λ source_tells sink_tells.
     let place = rw c.in-Some.is at c.in_ok-line.ensures.in_place in
     rw (p.1, p.2) (step_stops c.in_err-step.field-0.0 _ _ _ _ _ _ _ c.lines.number c.lines.replay c.step.new.self c.in-Some.line _ _ going (omega (arith, few)) begins place
     c.in_err-step.ensures.cause
-    (c.in_err-step.ensures.does (c.lines.invariant.sink_tells sink_tells) going.parts _ (omega (arith, going.count, few)) going.stands))
+    (c.in_err-step.ensures.does (c.lines.invariant.sink_tells sink_tells) going.done _ (omega (arith, going.count, few)) going.stands))
 
 pub returns-in_err-finish-clause-leaves : goal.returns-in_err-finish-clause-leaves
 returns-in_err-finish-clause-leaves g c = λ source_tells sink_tells.

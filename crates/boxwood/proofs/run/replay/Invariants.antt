@@ -1,4 +1,4 @@
-use Rattle.std.proofs.Common.{◌≡◌, ℕ, ◌+◌, ◌-◌, ◌<◌, ◌≤◌, ◌++◌}
+use Rattle.std.proofs.Common.{◌-◌, ◌≤◌, ◌++◌}
 use Rattle.boxwood.specs.Replay.{Going}
 use Rattle.boxwood.proofs.Running.{IsRunning}
 use Rattle.boxwood.proofs.run.replay.Given as goal

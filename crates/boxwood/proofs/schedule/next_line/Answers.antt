@@ -1,8 +1,4 @@
-use Rattle.std.proofs.Common.{◌≡◌, ℕ, ◌==◌, ◌++◌, ◌∙◌, List}
-use Rattle.std.specs.Prelude.{◌≢◌}
-use Rattle.bx_script.specs.declared.line.Line.{Line}
-use Rattle.bx_script.specs.ScheduleLine.{spelling}
-use Rattle.bx_script.specs.Schedule.{HasPlace}
+use Rattle.std.proofs.Common.{◌∙◌}
 use Rattle.boxwood.proofs.NextLines.{refused_too_long, refused_count, refused_line}
 use Rattle.boxwood.proofs.schedule.next_line.Goals as goal
 

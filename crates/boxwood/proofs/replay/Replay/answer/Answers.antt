@@ -1,6 +1,4 @@
-use Rattle.std.proofs.Common.{◌≡◌, ℕ, ◌+◌, ◌≤◌, List, refl}
-use Rattle.bx_nfs.specs.Wire.{IsServed}
-use Rattle.boxwood.specs.Replay.{Answers}
+use Rattle.std.proofs.Common.{refl}
 use Rattle.boxwood.proofs.Answering.{answering}
 use Rattle.boxwood.proofs.replay.Replay.answer.Goals as goal
 

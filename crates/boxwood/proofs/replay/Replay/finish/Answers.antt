@@ -1,18 +1,17 @@
-use Rattle.std.proofs.Common.{◌≡◌, ℕ, [], ◌++◌, List, refl, sym, ap, ◌∙◌}
+use Rattle.std.proofs.Common.{[], refl, sym, ◌∙◌}
 use Rattle.std.specs.Prelude.{codes}
 use Rattle.std.proofs.lemmas.List.{append-nil}
 use Rattle.std.proofs.lemmas.Result.{err_from_is_err_and}
 use Rattle.bx_base.specs.Text.{ended}
 use Rattle.bx_model.specs.Listing.{listing}
 use Rattle.boxwood.specs.Outcome.{closing_text}
-use Rattle.boxwood.specs.Replay.{Finishes}
 use Rattle.boxwood.proofs.Finishing.{both, part_of_first, part_of_second}
 use Rattle.boxwood.proofs.replay.Replay.finish.Goals as goal
 
 pub returns-in_err-listing-clause-finishes : goal.returns-in_err-listing-clause-finishes
 returns-in_err-listing-clause-finishes g c = λ tells.
     let p = err_from_is_err_and c.from_residual.result c.from_residual.ensures.1 in
-    rw p.1 ([], closing_text c.args.self.now.tree, sym (append-nil (g.K.Sink.written c.args.out.now)), refl)
+    rw p.1 ([], closing_text [] c.args.self.now.tree, sym (append-nil (g.K.Sink.written c.args.out.now)), refl)
 
 pub returns-in_err-write_all-clause-finishes : goal.returns-in_err-write_all-clause-finishes
 returns-in_err-write_all-clause-finishes g c = λ tells.

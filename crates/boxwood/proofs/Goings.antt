@@ -22,6 +22,7 @@ use Rattle.boxwood.specs.declared.stop.Reason.TheVariants.{Grammar, NotBuilt}
 use Rattle.boxwood.specs.Headline.{rules, Step}
 use Rattle.boxwood.specs.Outcome.{AreDone, IsBroken, IsCutOff, IsReadTo, IsRefused, IsRefusedAt, IsReplayed, closing_text}
 use Rattle.boxwood.specs.Replay.{Going, StandsAfter, BreaksAfter, IsBegun, IsUnservedLine, Wrote}
+use Rattle.boxwood.proofs.Allowed.{done_begins, done_few, done_served}
 use Rattle.boxwood.proofs.Headlines.{headline, no_headline}
 use Rattle.boxwood.proofs.NextLines.{IsRefusedHere}
 use Rattle.boxwood.proofs.Standing.{length_schedule, schedule_of-cons}
@@ -75,7 +76,7 @@ pub going_on : (text rest next : List ℕ) (number : ℕ) (old new : Replay) (li
 going_on text rest next number old new line start before after going begins stands = record {
   done = record { line = line; lines = stands.lines } ∷ going.done;
   stands = stands.stands;
-  read = rw (schedule_of-cons line stands.lines going.done) (read_on text rest next (schedule_of going.done) line going.stands.are_done.begins going.read begins);
+  read = rw (schedule_of-cons line stands.lines going.done) (read_on text rest next (schedule_of going.done) line (done_begins _ going.stands.are_done) going.read begins);
   count = omega (arith, going.count);
 }
 
@@ -96,7 +97,7 @@ module _ (text rest : List ℕ) (number : ℕ) (replay : Replay) (start written 
       closing = [];
       last = replay.tree;
       more = [];
-      read = lines_read text rest (schedule_of going.done) going.stands.are_done.begins going.read;
+      read = lines_read text rest (schedule_of going.done) (done_begins _ going.stands.are_done) going.read;
       are_done = going.stands.are_done;
       headline = headline replay going.done start written going.stands;
       part = inl (append-nil (trace_text (reverse (trace_of (parts_of going.done)))));
@@ -129,7 +130,7 @@ module _ (text rest : List ℕ) (number : ℕ) (replay : Replay) (start written 
       first = record {
         done = schedule_of going.done;
         others = others;
-        read = lines_read text rest (schedule_of going.done) going.stands.are_done.begins going.read ∙ ap (λ (ls : List (List ℕ)). map spelling (schedule_of going.done) ++ ls) e;
+        read = lines_read text rest (schedule_of going.done) (done_begins _ going.stands.are_done) going.read ∙ ap (λ (ls : List (List ℕ)). map spelling (schedule_of going.done) ++ ls) e;
         are_done = going.stands.are_done;
         number-is = ap (λ (n : ℕ). n + 1) (sym done_long);
         refused = refused;
@@ -187,7 +188,7 @@ broken_part text rest number replay start whole written wrote more going added p
     closing = [];
     last = replay.tree;
     more = more;
-    read = lines_read text rest (schedule_of going.done) going.stands.are_done.begins going.read;
+    read = lines_read text rest (schedule_of going.done) (done_begins _ going.stands.are_done) going.read;
     are_done = going.stands.are_done;
     headline = headline replay going.done start whole going.stands;
     part = part;
@@ -232,12 +233,12 @@ finishes text number replay start before after going e =
         closing = [];
         last = replay.tree;
         read = record {
-          spelled = lines_read text [] (schedule_of going.done) going.stands.are_done.begins going.read ∙ append-nil (map spelling (schedule_of going.done));
-          begins = going.stands.are_done.begins;
+          spelled = lines_read text [] (schedule_of going.done) (done_begins _ going.stands.are_done) going.read ∙ append-nil (map spelling (schedule_of going.done));
+          begins = done_begins _ going.stands.are_done;
           headed = going.stands.headed;
-          few = going.stands.are_done.few;
+          few = done_few _ going.stands.are_done;
         };
-        served = going.stands.are_done.served;
+        served = done_served _ going.stands.are_done;
         headline = headline replay going.done start before going.stands;
         output-is = refl;
       };
@@ -246,7 +247,7 @@ finishes text number replay start before after going e =
 -- ---- the first line
 
 abbrev none_done : AreDone []
-none_done = record { begins = tt; served = tt; few = omega arith }
+none_done = tt
 
 pub begins_broken : (text start : List ℕ) → Wrote start start (IsBroken text)
 begins_broken text start = record {
@@ -319,7 +320,7 @@ begins_going text rest start replay begun =
             (record { fits = refl; leads = refl; placed = tt; answered = λ node. refl }));
         counted = begun.calls;
         headed = omega arith;
-        are_done = record { begins = (begun.in_place, tt); served = (tt, tt); few = omega arith };
+        are_done = (record { few = omega arith; in_place = begun.in_place; served = tt }, tt);
         output = sym (append-nil start);
       };
       read = read_on text text rest [] heading tt (inl refl) begun.begins;

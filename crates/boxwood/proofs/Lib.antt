@@ -1,3 +1,4 @@
+pub mod Allowed
 pub mod TraceTexts
 pub mod NextLines
 pub mod Answering

@@ -1,7 +1,6 @@
 -- A replay that stands goes on by one line.
 use Rattle.std.proofs.Common.{◌≡◌, ℕ, ◌+◌, ◌<◌, true, false, List, [], ◌∷◌, ◌++◌, length, take, drop, Some, None, lit≤, refl, ap, ◌∙◌, arith, append_assoc}
 use Rattle.std.specs.Prelude.{map, reverse}
-use Rattle.std.specs.List.{AllByRecursion}
 use Rattle.std.proofs.lemmas.List.{append-nil, length-append, length-map, length-reverse, reverse-append, take-append-drop}
 use Rattle.bx_base.specs.declared.names.Point.{Point}
 use Rattle.bx_script.specs.declared.line.Line.{Line}
@@ -9,7 +8,7 @@ use Rattle.bx_script.specs.declared.line.Line.TheVariants.{Heading, Call, Run}
 use Rattle.bx_script.specs.declared.trace_line.TraceLine.{TraceLine}
 use Rattle.bx_script.specs.declared.trace_line.TraceLine.TheVariants.{Took, Acted, Reply}
 use Rattle.bx_script.specs.TraceText.{trace_text}
-use Rattle.bx_script.specs.Schedule.{HasPlace, BeginsSchedule}
+use Rattle.bx_script.specs.Schedule.{HasPlace}
 use Rattle.bx_history.specs.Trace as traces
 use Rattle.bx_history.specs.Parts.{trace_of}
 use Rattle.bx_history.specs.Along.{Done, parts_of, schedule_of}
@@ -18,35 +17,20 @@ use Rattle.bx_history.proofs.Answered.{answered_call, silent_part}
 use Rattle.bx_model.specs.declared.tree.Tree.{Tree}
 use Rattle.boxwood.specs.declared.replay.Replay.{Replay}
 use Rattle.boxwood.specs.Headline.{rules, opening_of, Step, IsServedLine}
-use Rattle.boxwood.specs.Outcome.{AreDone}
 use Rattle.boxwood.specs.Replay.{Stands, StandsAfter, BreaksAfter, Answers}
+use Rattle.boxwood.proofs.Allowed.{done_push}
 use Rattle.boxwood.proofs.TraceTexts.{trace_text-append}
-
-pub all_push : {A : Type 0} (P : A → Type 0) (xs : List A) (x : A) → AllByRecursion P xs → P x → AllByRecursion P (xs ++ x ∷ [])
-all_push P [] x h p = (p, tt)
-all_push P (y ∷ ys) x h p = (h.0, all_push P ys x h.1 p)
 
 -- ---- the schedule with one line more
 
 pub schedule_of-cons : (line : Line) (lines : List TraceLine) (done : List Done) → schedule_of (record { line = line; lines = lines } ∷ done) ≡ schedule_of done ++ line ∷ []
 schedule_of-cons line lines done = reverse-append (line ∷ []) (map (λ (d : Done). d.line) done)
 
-begins_push : (lines : List Line) (line : Line) → 0 < length lines → BeginsSchedule lines → HasPlace false line → BeginsSchedule (lines ++ line ∷ [])
-begins_push [] line some begins place = absurd (omega arith)
-begins_push (first ∷ lines) line some begins place = (begins.0, all_push (HasPlace false) lines line begins.1 place)
-
 opening_of-append : (lines more : List Line) → 0 < length lines → opening_of (lines ++ more) ≡ opening_of lines
 opening_of-append [] more some = absurd (omega arith)
 opening_of-append (Heading volume nodes devices areas ∷ lines) more some = refl
 opening_of-append (Call reading node client datagram ∷ lines) more some = refl
 opening_of-append (Run reading limit ∷ lines) more some = refl
-
-pub done_push : (lines : List Line) (line : Line) → 0 < length lines → length lines < 4294967295 → AreDone lines → HasPlace false line → IsServedLine line → AreDone (lines ++ line ∷ [])
-done_push lines line some room done place served = record {
-  begins = begins_push lines line some done.begins place;
-  served = all_push IsServedLine lines line done.served served;
-  few = omega (arith, length-append lines (line ∷ []));
-}
 
 -- what goes on whatever the line is
 pub length_schedule : (done : List Done) → length (schedule_of done) ≡ length done

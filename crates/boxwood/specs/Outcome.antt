@@ -1,5 +1,5 @@
 -- What a replay leaves on its output, by the way in which it ends.
-use Rattle.std.specs.Prelude.{◌≡◌, ◌≢◌, ℕ, ◌+◌, ◌<◌, ◌≤◌, ◌==◌, Bool, true, if◌then◌else◌, List, [], ◌∷◌, ◌++◌, length, map, take, codes, ◌⊎◌}
+use Rattle.std.specs.Prelude.{◌≡◌, ◌≢◌, ℕ, ◌+◌, ◌<◌, ◌≤◌, ◌==◌, Bool, true, if◌then◌else◌, List, [], ◌∷◌, ◌++◌, length, map, reverse, take, codes, ◌⊎◌}
 use Rattle.std.specs.List.{AllByRecursion, list_any}
 use Rattle.std.specs.Fmt.{decimal}
 use Rattle.bx_base.specs.Faults.{Rose}
@@ -9,7 +9,8 @@ use Rattle.bx_script.specs.declared.line.Line.TheVariants.{Call}
 use Rattle.bx_script.specs.declared.trace_line.TraceLine.{TraceLine}
 use Rattle.bx_script.specs.ScheduleLine.{spelling}
 use Rattle.bx_script.specs.TraceText.{trace_text}
-use Rattle.bx_script.specs.Schedule.{HasPlace, BeginsSchedule, IsSchedule}
+use Rattle.bx_script.specs.Schedule.{HasPlace, IsSchedule}
+use Rattle.bx_history.specs.Along.{AllowedNewest}
 use Rattle.bx_model.specs.declared.tree.Tree.{Tree}
 use Rattle.bx_model.specs.Listing.{listing}
 use Rattle.bx_nfs.specs.Wire.{IsServed}
@@ -19,11 +20,16 @@ use Rattle.boxwood.specs.declared.stop.Stop.{Stop}
 use Rattle.boxwood.specs.declared.stop.Stop.TheVariants as stops
 use Rattle.boxwood.specs.Headline.{Headline, IsServedLine}
 
--- the lines that a replay has done: the first lines of a schedule, each of them served
-pub record AreDone (done : List Line) : Type 0 where
-  pub begins : BeginsSchedule done
-  pub served : AllByRecursion IsServedLine done
-  pub few : length done ≤ 4294967295
+-- A line may be done behind these, the newest of which comes first: there is room for it, it has its place, and its call, if it is
+-- one, is served.
+pub record Allows (before : List Line) (line : Line) : Type 0 where
+  pub few : length before < 4294967295
+  pub in_place : HasPlace (length before == 0) line
+  pub served : IsServedLine line
+
+-- the lines that a replay has done, the oldest first: each was allowed behind those before it
+abbrev pub AreDone : List Line → Type 0
+AreDone done = AllowedNewest Allows (reverse done)
 
 -- what comes after the trace: the word `end`, the closing lines, and the listing of the tree
 abbrev pub closing_text : List TraceLine → Tree → List ℕ
@@ -50,12 +56,17 @@ pub record IsUnserved (first : Bool) (line : List ℕ) : Type 0 where
   pub spelled : line ≡ spelling (Call reading node client datagram)
   pub unserved : IsServed datagram → ⊥
 
--- Behind the lines that were done, the next one is refused for the reason. An empty schedule lacks its first line.
+-- A line of text is refused behind these lines, for a reason. The text decides that it is outside the grammar: no line that has its
+-- place there is spelled so, or there is no room for one. A line in the grammar is refused for what it asks.
+abbrev pub Refuses : List Line → List ℕ → Reason → Type 0
+Refuses before text Grammar = (4294967295 ≤ length before) ⊎ ((value : Line) → HasPlace (length before == 0) value → text ≢ spelling value)
+Refuses before text NotBuilt = (length before < 4294967295) × IsUnserved (length before == 0) text
+
+-- Behind the lines that were done, the next one is refused. An empty schedule lacks its first line.
 abbrev pub IsRefusedAt : List Line → List (List ℕ) → Reason → Type 0
 IsRefusedAt done [] Grammar = done ≡ []
 IsRefusedAt done [] NotBuilt = ⊥
-IsRefusedAt done (line ∷ lines) Grammar = (4294967295 ≤ length done) ⊎ ((value : Line) → HasPlace (length done == 0) value → line ≢ spelling value)
-IsRefusedAt done (line ∷ lines) NotBuilt = (length done < 4294967295) × IsUnserved (length done == 0) line
+IsRefusedAt done (line ∷ lines) reason = Refuses done line reason
 
 -- The line with this number is the first that is refused, for this reason.
 pub record IsFirstRefused (text : List ℕ) (number : ℕ) (reason : Reason) : Type 0 where

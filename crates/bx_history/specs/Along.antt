@@ -42,10 +42,7 @@ pub record IsPlaced (rules : Rules) (schedule : List Line) (trace closing : List
   pub placed : PlacedNewest rules (parts_of done)
   pub closed : AllByRecursion (IsClosing (parts_of done)) closing
 
--- Lines are allowed, the newest first: nothing refuses one after those before it.
-abbrev pub IsAllowed : {Reason : Type 0} → (List Line → Line → Reason → Type 0) → List Line → Line → Type 0
-IsAllowed {Reason = Reason} Refuses before line = (reason : Reason) → Refuses before line reason → ⊥
-
-abbrev pub AllowedNewest : {Reason : Type 0} → (List Line → Line → Reason → Type 0) → List Line → Type 0
-AllowedNewest Refuses [] = Unit {0}
-AllowedNewest Refuses (line ∷ before) = IsAllowed Refuses before line × AllowedNewest Refuses before
+-- Lines that were done, the newest first: each was allowed behind those before it.
+abbrev pub AllowedNewest : (List Line → Line → Type 0) → List Line → Type 0
+AllowedNewest Allows [] = Unit {0}
+AllowedNewest Allows (line ∷ before) = Allows before line × AllowedNewest Allows before

@@ -1,7 +1,6 @@
-use Rattle.std.proofs.Common.{◌≡◌, ℕ, List, ◌∙◌}
-use Rattle.std.specs.Prelude.{IfOk, codes, string_bytes}
+use Rattle.std.proofs.Common.{◌∙◌}
+use Rattle.std.specs.Prelude.{codes}
 use Rattle.std.proofs.lemmas.Result.{IfOk-weaker}
-use Rattle.boxwood.specs.Outcome.{message}
 use Rattle.boxwood.proofs.Reports.{refusal_text}
 use Rattle.boxwood.proofs.report.refusal.Goals as goal
 

@@ -1,5 +1,4 @@
-use Rattle.std.proofs.Common.{◌≡◌, ℕ, List, [], ◌∷◌}
-use Rattle.std.specs.Prelude.{map, string_bytes, IsTrue, ◌↔◌}
+use Rattle.std.specs.Prelude.{string_bytes}
 use Rattle.boxwood.proofs.Words.{is_one_word}
 use Rattle.boxwood.proofs.top.is_replay.Goals as goal
 

@@ -1,14 +1,3 @@
-pub mod Allowed
-pub mod TraceTexts
-pub mod NextLines
-pub mod Answering
-pub mod Standing
-pub mod Headlines
-pub mod Finishing
-pub mod Running
-pub mod Goings
-pub mod Leavings
 pub mod Reports
 pub mod Words
 pub mod Completes
-pub mod OneHistory

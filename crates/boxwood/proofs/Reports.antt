@@ -3,7 +3,7 @@ use Rattle.std.proofs.Common.{◌≡◌, ℕ, List, [], ◌∷◌, ◌++◌, sym
 use Rattle.std.specs.Prelude.{codes}
 use Rattle.std.specs.Fmt.{decimal}
 use Rattle.bx_base.specs.Text.{ended}
-use Rattle.boxwood.specs.Outcome.{IsTold}
+use Rattle.boxwood.specs.Report.{IsTold}
 
 pub refusal_text : (line : ℕ) (word : List ℕ) → codes "schedule line " ++ (decimal line ++ (codes ": " ++ (word ++ 10 ∷ []))) ≡ ended (codes "schedule line " ++ decimal line ++ codes ": " ++ word)
 refusal_text line word =

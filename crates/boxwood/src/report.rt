@@ -1,14 +1,27 @@
 //! The line that tells why a command stopped short, and its exit status.
 
 ghost use Rattle.std.specs.Prelude.{◌≡◌, ◌≤◌, ◌==◌, ◌⊎◌, IfOk, if◌then◌else◌, string_bytes};
-ghost use Rattle.boxwood.specs.Outcome.{IsTold, message, status_of};
-ghost use Rattle.boxwood.specs.declared.stop.Stop.TheVariants as stops;
+ghost use Rattle.bx_replay.specs.declared.stop.Stop.TheVariants as stops;
+ghost use Rattle.boxwood.specs.Report.{IsTold, message, status_of, usage_line};
 
-use crate::stop::{Reason, Stop};
 use bx_outside::{Sink, write_all};
+use bx_replay::{Reason, Stop};
 use std::alloc::{AllocError, Global};
 
-/// Writes the line that tells why a command stopped, and answers its exit status. Where there is no memory for the line,
+/// Writes the line that tells which command lines there are, and answers the exit status of words that are none. A fault of
+/// `err` changes nothing.
+pub fn usage<K: Sink>(err: &mut K) -> u8
+    ensures status { result ≡ 1 }
+    ensures told { K.tells err.old → IsTold (K.written err.old) (K.written err.new) (K.faults err.old) (K.faults err.new) usage_line }
+{
+    tell(
+        err,
+        b"usage: boxwood replay, format V D A, serve T, check, make S N C\n",
+    );
+    1
+}
+
+/// Writes the line that tells why a replay stopped, and answers its exit status. Where there is no memory for the line,
 /// that is told in its place. A fault of `err` changes nothing.
 pub fn report<K: Sink>(alloc: Global, stop: Stop, err: &mut K) -> u8
     ensures status { (result ≡ status_of stop) ⊎ ((status_of stop ≡ 2) × (result ≡ 9)) }
@@ -16,13 +29,6 @@ pub fn report<K: Sink>(alloc: Global, stop: Stop, err: &mut K) -> u8
         (if result == 9 then message stops.OutOfMemory else message stop) }
 {
     match stop {
-        Stop::Usage => {
-            tell(
-                err,
-                b"usage: boxwood replay, format V D A, serve T, check, make S N C\n",
-            );
-            1
-        }
         Stop::Refused(line, reason) => match refusal(alloc, line, reason) {
             Ok(text) => {
                 tell(err, text.as_bytes());

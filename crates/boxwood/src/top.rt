@@ -6,16 +6,16 @@ ghost use Rattle.bx_base.specs.Faults.{Rose};
 ghost use Rattle.bx_base.specs.Text.{lines_of};
 ghost use Rattle.bx_script.specs.declared.line.Line.{Line};
 ghost use Rattle.bx_script.specs.Schedule.{IsSchedule};
-ghost use Rattle.boxwood.specs.declared.stop.Reason.{Reason};
-ghost use Rattle.boxwood.specs.declared.stop.Stop.TheVariants as stops;
-ghost use Rattle.boxwood.specs.Headline.{IsServedLine};
-ghost use Rattle.boxwood.specs.Outcome.{IsBroken, IsCutOff, IsFirstRefused, IsRefused, IsReplayed, IsStatus, IsTold, line_of, message};
-ghost use Rattle.boxwood.specs.Replay.{Wrote};
+ghost use Rattle.bx_replay.specs.declared.stop.Reason.{Reason};
+ghost use Rattle.bx_replay.specs.declared.stop.Stop.TheVariants as stops;
+ghost use Rattle.bx_replay.specs.Headline.{IsServedLine};
+ghost use Rattle.bx_replay.specs.Outcome.{IsBroken, IsCut, IsCutOff, IsFirstRefused, IsRefused, IsReplayed, IsServedSchedule};
+ghost use Rattle.bx_replay.specs.Replay.{Wrote};
+ghost use Rattle.boxwood.specs.Report.{IsStatus, IsTold, line_of, message};
 
-use crate::report::report;
-use crate::run::replay;
-use crate::stop::Stop;
+use crate::report::{report, usage};
 use bx_outside::{Sink, Source};
+use bx_replay::replay;
 use std::alloc::Global;
 
 /// Runs the command that the words spell, and answers its exit status. The one command line is `replay`, which reads a
@@ -43,24 +43,25 @@ pub fn boxwood<S: Source, K: Sink>(
     ensures untouched { result ≡ 1 → (input.new ≡ input.old) × (out.new ≡ out.old) }
 
     // The headline.
-    ensures replayed { result ≡ 0 → S.tells input.old → K.tells out.old →
-        Wrote (K.written out.old) (K.written out.new) (IsReplayed (S.left input.old)) × (S.left input.new ≡ []) }
+    ensures replayed { result ≡ 0 → S.tells input.old → IsServedSchedule (S.left input.old) × (S.left input.new ≡ [])
+        × (K.tells out.old → Wrote (K.written out.old) (K.written out.new) (IsReplayed (S.left input.old))) }
     ensures silent { result ≡ 0 → err.new ≡ err.old }
 
     // The first line that is refused, and the trace of the lines before.
     ensures refused { result ≡ 2 → (number : ℕ) × (reason : Reason)
-        × (S.tells input.old → K.tells out.old → Wrote (K.written out.old) (K.written out.new) (IsRefused (S.left input.old) number reason))
+        × (S.tells input.old → IsFirstRefused (S.left input.old) number reason
+        × (K.tells out.old → Wrote (K.written out.old) (K.written out.new) (IsRefused (S.left input.old) number reason)))
         × (K.tells err.old → IsTold (K.written err.old) (K.written err.new) (K.faults err.old) (K.faults err.new) (message (stops.Refused number reason))) }
 
-    ensures refuses { S.tells input.old → K.tells out.old → map string_bytes words.now ≡ codes "replay" ∷ []
+    ensures refuses { S.tells input.old → map string_bytes words.now ≡ codes "replay" ∷ []
         → (number : ℕ) (reason : Reason) → IsFirstRefused (S.left input.old) number reason
         → (Rose (S.faults input.old) (S.faults input.new) → ⊥) → (Rose (K.faults out.old) (K.faults out.new) → ⊥)
         → (result ≡ 2) ⊎ (result ≡ 9) }
 
     // A fault of the source, and the trace of the lines before.
     ensures read_fault { result ≡ 3 → Rose (S.faults input.old) (S.faults input.new) }
-    ensures cut_off { result ≡ 3 → S.tells input.old → K.tells out.old →
-        Wrote (K.written out.old) (K.written out.new) (IsCutOff (S.left input.old) (S.left input.new)) }
+    ensures cut_off { result ≡ 3 → S.tells input.old → IsCut (S.left input.old) (S.left input.new)
+        × (K.tells out.old → Wrote (K.written out.old) (K.written out.new) (IsCutOff (S.left input.old) (S.left input.new))) }
 
     // A fault of the output, or no memory: a part of a trace.
     ensures write_fault { result ≡ 4 → Rose (K.faults out.old) (K.faults out.new) }
@@ -71,14 +72,18 @@ pub fn boxwood<S: Source, K: Sink>(
     ensures told { result ≢ 0 → result ≢ 2 → K.tells err.old →
         IsTold (K.written err.old) (K.written err.new) (K.faults err.old) (K.faults err.new) (line_of result) }
 
+    // The first cause met decides: a fault gives its status and no other, so nothing is tried again after one.
+    ensures source_first { result ≢ 3 → S.faults input.new ≡ S.faults input.old }
+    ensures sink_first { result ≢ 4 → K.faults out.new ≡ K.faults out.old }
+
     // A schedule whose every line is in the grammar and served is done, unless memory runs out.
-    ensures complete { S.tells input.old → K.tells out.old → map string_bytes words.now ≡ codes "replay" ∷ []
+    ensures complete { S.tells input.old → map string_bytes words.now ≡ codes "replay" ∷ []
         → (schedule : List Line) → IsSchedule (lines_of (S.left input.old)) schedule → AllByRecursion IsServedLine schedule
         → (Rose (S.faults input.old) (S.faults input.new) → ⊥) → (Rose (K.faults out.old) (K.faults out.new) → ⊥)
         → (result ≡ 0) ⊎ (result ≡ 9) }
 {
     if !is_replay(words) {
-        return report(alloc, Stop::Usage, err);
+        return usage(err);
     }
     match replay(alloc, input, out) {
         Ok(()) => 0,

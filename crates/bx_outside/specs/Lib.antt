@@ -1,3 +1,4 @@
 pub mod Memory
 pub mod LineReader
 pub mod Outcome
+pub mod Streams

@@ -25,6 +25,7 @@ pub record IsTooLong (text : List ℕ) (most : ℕ) : Type 0 where
 pub record IsPartial (text : List ℕ) (after : LinesAhead) (left : List ℕ) : Type 0 where
   pub parts : text ≡ after.line ++ left
   pub lacks : LacksFeed after.line
+  pub short : length after.line ≤ after.most
 
 -- The bytes up to the first line feed went to the line, and the line feed went away.
 pub record MeetsFeed (before after : LinesAhead) : Type 0 where

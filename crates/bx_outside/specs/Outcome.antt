@@ -27,3 +27,8 @@ abbrev pub IfFault : Result Next LineError → Type 0 → Type 0
 IfFault (Ok next) P = Unit {0}
 IfFault (Err Fault) P = P
 IfFault (Err OutOfMemory) P = Unit {0}
+
+abbrev pub IfMemory : Result Next LineError → Type 0 → Type 0
+IfMemory (Ok next) P = Unit {0}
+IfMemory (Err Fault) P = Unit {0}
+IfMemory (Err OutOfMemory) P = P

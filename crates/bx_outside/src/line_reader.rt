@@ -4,7 +4,7 @@ ghost use Rattle.std.specs.Prelude.{◌≡◌, ◌≤◌, ◌<◌, ◌^◌, List
 ghost use Rattle.bx_base.specs.Faults.{Rose};
 ghost use Rattle.bx_outside.specs.LineReader.{LinesAhead, TakesLine, IsTooLong, IsPartial, MeetsFeed, MeetsNoFeed};
 ghost use Rattle.bx_outside.specs.declared.line_reader.LineError.TheVariants.{Fault, OutOfMemory};
-ghost use Rattle.bx_outside.specs.Outcome.{IfLine, IfEnd, IfTooLong, IfFault};
+ghost use Rattle.bx_outside.specs.Outcome.{IfLine, IfEnd, IfTooLong, IfFault, IfMemory};
 
 use crate::source::{ReadFault, Source};
 use bx_base::OutOfMemory;
@@ -13,7 +13,7 @@ use std::marker::Model;
 use thiserror::Error;
 
 /// What stands next in a source of lines.
-#[derive(Clone, Copy, PartialEq, Eq, Debug)]
+#[derive(Clone, Copy, PartialEq, Eq)]
 pub enum Next {
     /// A line, which `LineReader::line` gives.
     Line,
@@ -54,7 +54,7 @@ impl From<AllocError> for LineError {
 const PIECE: usize = 4096;
 
 /// Reads lines. It keeps one piece of the source and one line, however long the source is.
-#[derive(Debug, Drop)]
+#[derive(Drop)]
 pub struct LineReader {
     piece: Vec<u8>,
     start: usize,
@@ -105,6 +105,7 @@ impl LineReader {
         ensures end { S.tells source.old → IfEnd result ((self.old.ahead ++ S.left source.old ≡ []) × (S.left source.new ≡ [])) }
         ensures too_long { S.tells source.old → IfTooLong result (IsTooLong (self.old.ahead ++ S.left source.old) self.old.most) }
         ensures no_fault { OnOk result (S.faults source.new ≡ S.faults source.old) }
+        ensures memory { IfMemory result (S.faults source.new ≡ S.faults source.old) }
         ensures fault { IfFault result (Rose (S.faults source.old) (S.faults source.new)) }
         ensures fault_keeps { S.tells source.old → IfFault result (IsPartial (self.old.ahead ++ S.left source.old) self.new (S.left source.new)) }
         ensures most { self.new.most ≡ self.old.most }

@@ -1,6 +1,7 @@
 pub mod Fields
 pub mod Numbers
 pub mod HexText
+pub mod Puts
 pub mod Lines
 pub mod Spaced
 pub mod Spelled

@@ -1,5 +1,5 @@
 -- What the lines of a trace are, and the one spelling of each.
-use Rattle.std.specs.Prelude.{ℕ, ◌<◌, ◌^◌, List, [], ◌∷◌, map, codes}
+use Rattle.std.specs.Prelude.{ℕ, ◌<◌, ◌^◌, List, [], ◌∷◌, ◌++◌, map, codes}
 use Rattle.std.specs.Fmt.{decimal}
 use Rattle.hex.specs.Hex.{encode_lower}
 use Rattle.bx_base.specs.Bytes.{IsBytes}
@@ -13,6 +13,10 @@ trace_fields (Took call node client datagram) = codes "took" ∷ decimal call �
 trace_fields (Acted point) = codes "point" ∷ decimal point.call ∷ decimal point.moment ∷ decimal point.spare ∷ sixteen_digits point.made ∷ []
 trace_fields (Reply call reply) = codes "reply" ∷ decimal call ∷ encode_lower reply ∷ []
 trace_fields (Again node client reply) = codes "again" ∷ decimal node ∷ decimal client ∷ encode_lower reply ∷ []
+
+-- the fields of a line of a word, numbers, and bytes in hex
+abbrev pub fields_of : List ℕ → List ℕ → List ℕ → List (List ℕ)
+fields_of word numbers bytes = word ∷ (map decimal numbers ++ encode_lower bytes ∷ [])
 
 -- the bytes of a line, without its line feed
 abbrev pub trace_spelling : TraceLine → List ℕ

@@ -2,10 +2,9 @@
 #![tactic(auto)]
 
 mod line;
+mod reading;
+mod text;
 mod trace_line;
 
-pub use line::{Line, MAX_DATAGRAM, MAX_LINE, MAX_LINES, MAX_READING, MAX_RUN};
-pub use trace_line::TraceLine;
-
-#[cfg(test)]
-mod tests;
+pub use line::{Line, MAX_DATAGRAM, MAX_LINE, MAX_LINES, MAX_READING, MAX_RUN, one_spelling};
+pub use trace_line::{TraceLine, one_trace};

@@ -1,15 +1,16 @@
 //! The lines of a trace.
 
-ghost use Rattle.std.specs.Prelude.{◌≡◌, List, IfOk};
+ghost use Rattle.std.specs.Prelude.{◌≡◌, ◌++◌, List, OnOk, OnErr};
 ghost use Rattle.std.specs.List.{AllByRecursion};
 ghost use Rattle.bx_base.specs.Text.{ended};
+ghost use Rattle.bx_script.specs.declared.trace_line.TraceLine.TheVariants.{Acted};
 ghost use Rattle.bx_script.specs.TraceText.{InTraceRange, trace_spelling, trace_text};
 
+use crate::text::put_line;
 use bx_base::{CallNo, OutOfMemory, Point, Raw};
-use std::alloc::Global;
 
 /// A line of a trace: something that was seen to happen.
-#[derive(Debug, Drop)]
+#[derive(Drop)]
 pub enum TraceLine {
     /// `took CALL NODE CLIENT HEX`: a node took a call. Calls are numbered from 1 as they are taken.
     Took {
@@ -43,45 +44,46 @@ pub enum TraceLine {
 }
 
 impl TraceLine {
-    /// The line's bytes, with its line feed.
-    pub fn text(&self, alloc: Global) -> Result<Raw, OutOfMemory>
-        ensures { IfOk result (λ text. text ≡ ended (trace_spelling self.now)) }
+    /// Puts the line's bytes, with its line feed, behind a text. Without memory the text is as it was.
+    pub fn append(&self, text: &mut Vec<u8>) -> Result<(), OutOfMemory>
+        ensures ok { OnOk result (text.new.items ≡ text.old.items ++ ended (trace_spelling self.now)) }
+        ensures err { OnErr result (text.new.items ≡ text.old.items) }
+
+        // What the fields hold is in range.
+        ensures in_range { InTraceRange self.now }
     {
-        let text = match self {
+        match self {
             TraceLine::Took {
                 call,
                 node,
                 client,
                 datagram,
             } => {
-                let hex = hex::encode(alloc, datagram.bytes())?;
-                format!(in alloc; "took {call} {node} {client} {hex}\n")?
+                let numbers = [*call, u64::from(*node), u64::from(*client)];
+                put_line(text, b"took", &numbers, datagram.bytes())
             }
-            TraceLine::Acted(point) => {
-                let Point {
-                    call,
-                    moment,
-                    spare,
-                    made,
-                } = *point;
-                let made = hex::encode(alloc, made.to_be_bytes())?;
-                format!(in alloc; "point {call} {moment} {spare} {made}\n")?
-            }
-            TraceLine::Reply { call, reply } => {
-                let hex = hex::encode(alloc, reply.bytes())?;
-                format!(in alloc; "reply {call} {hex}\n")?
-            }
+            TraceLine::Acted(point) => append_point(text, *point),
+            TraceLine::Reply { call, reply } => put_line(text, b"reply", &[*call], reply.bytes()),
             TraceLine::Again {
                 node,
                 client,
                 reply,
             } => {
-                let hex = hex::encode(alloc, reply.bytes())?;
-                format!(in alloc; "again {node} {client} {hex}\n")?
+                let numbers = [u64::from(*node), u64::from(*client)];
+                put_line(text, b"again", &numbers, reply.bytes())
             }
-        };
-        Ok(Raw::from(text.into_bytes()))
+        }
     }
+}
+
+// Puts the line of a point behind a text.
+fn append_point(text: &mut Vec<u8>, point: Point) -> Result<(), OutOfMemory>
+    ensures ok { OnOk result (text.new.items ≡ text.old.items ++ ended (trace_spelling (Acted point))) }
+    ensures err { OnErr result (text.new.items ≡ text.old.items) }
+    ensures in_range { InTraceRange (Acted point) }
+{
+    let numbers = [point.call, point.moment, point.spare];
+    put_line(text, b"point", &numbers, &point.made.to_be_bytes())
 }
 
 /// Two lists of lines in range have different texts.

@@ -2,12 +2,9 @@ use Rattle.std.proofs.Common.{◌∙◌}
 use Rattle.boxwood.proofs.Reports.{told_as}
 use Rattle.boxwood.proofs.report.report.Goals as goal
 
-pub returns-in-Usage-clause-told : goal.returns-in-Usage-clause-told
-returns-in-Usage-clause-told g c = λ tells. rw c.in-Usage.is (c.tell.ensures tells)
-
 pub returns-in-Ok-clause-told : goal.returns-in-Ok-clause-told
 returns-in-Ok-clause-told g c = λ tells.
-    rw c.in-Refused.is (told_as _ _ _ _ c.as_bytes.result.now _ (c.as_bytes.ensures.value ∙ c.in-Ok.ensures) (c.tell-in-Ok.ensures tells))
+    rw c.in-Refused.is (told_as _ _ _ _ c.as_bytes.result.now _ (c.as_bytes.ensures.value ∙ c.in-Ok.ensures) (c.tell.ensures tells))
 
 pub returns-in-ReadFault-clause-told : goal.returns-in-ReadFault-clause-told
 returns-in-ReadFault-clause-told g c = λ tells. rw c.in-ReadFault.is (c.tell-in-ReadFault.ensures tells)

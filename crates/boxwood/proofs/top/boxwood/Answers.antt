@@ -1,15 +1,28 @@
-use Rattle.boxwood.proofs.Completes.{completes, not_replayed, refuses}
+use Rattle.boxwood.proofs.Completes.{breaks, completes, not_replayed, refuses, refuses_at}
 use Rattle.boxwood.proofs.top.boxwood.Goals as goal
 
 pub returns-in-Err-clause-complete : goal.returns-in-Err-clause-complete
-returns-in-Err-clause-complete g c = λ source_tells sink_tells words schedule is served no_read no_write.
-    completes c.in-Err.stop c.report-in-Err.result _ _ _ _ schedule _ _ _ _ c.report-in-Err.ensures.status c.in-Err.ensures.cause no_read no_write
-    (c.in-Err.ensures.leaves source_tells sink_tells) is served
+returns-in-Err-clause-complete g c = λ source_tells words schedule is served no_read no_write.
+    completes (g.K.Sink.tells c.args.out.now) c.in-Err.stop c.report.result _ _ _ _ schedule _ _ _ _ c.report.ensures.status c.in-Err.ensures.cause no_read no_write
+    (c.in-Err.ensures.leaves source_tells) is served
 
 pub returns-in-Ok-clause-refuses : goal.returns-in-Ok-clause-refuses
-returns-in-Ok-clause-refuses g c = λ source_tells sink_tells words number reason first no_read no_write.
-    absurd (not_replayed _ _ _ number reason (c.in-Ok.ensures.leaves source_tells sink_tells).0 first)
+returns-in-Ok-clause-refuses g c = λ source_tells words number reason first no_read no_write.
+    absurd (not_replayed _ number reason (c.in-Ok.ensures.leaves source_tells).0 first)
 
 pub returns-in-Err-clause-refuses : goal.returns-in-Err-clause-refuses
-returns-in-Err-clause-refuses g c = λ source_tells sink_tells words number reason first no_read no_write.
-    refuses c.in-Err.stop c.report-in-Err.result _ _ _ _ c.report-in-Err.ensures.status c.in-Err.ensures.cause no_read no_write
+returns-in-Err-clause-refuses g c = λ source_tells words number reason first no_read no_write.
+    refuses c.in-Err.stop c.report.result _ _ _ _ c.report.ensures.status c.in-Err.ensures.cause no_read no_write
+
+pub returns-in-Err-clause-refused : goal.returns-in-Err-clause-refused
+returns-in-Err-clause-refused g c = λ two.
+    refuses_at (g.S.Source.tells c.args.input.now) (g.K.Sink.tells c.args.out.now) (g.K.Sink.tells c.args.err.now) c.in-Err.stop c.report.result
+    (g.S.Source.left c.args.input.now) (g.S.Source.left c.replay.new.input) (g.K.Sink.written c.args.out.now) (g.K.Sink.written c.replay.new.out)
+    (g.K.Sink.written c.args.err.now) (g.K.Sink.written c.report.new.err) (g.K.Sink.faults c.args.err.now) (g.K.Sink.faults c.report.new.err)
+    c.report.ensures.status c.in-Err.ensures.leaves c.report.ensures.told two
+
+pub returns-in-Err-clause-broken : goal.returns-in-Err-clause-broken
+returns-in-Err-clause-broken g c = λ broken source_tells sink_tells.
+    breaks (g.K.Sink.tells c.args.out.now) c.in-Err.stop c.report.result
+    (g.S.Source.left c.args.input.now) (g.S.Source.left c.replay.new.input) (g.K.Sink.written c.args.out.now) (g.K.Sink.written c.replay.new.out)
+    c.report.ensures.status (c.in-Err.ensures.leaves source_tells) broken sink_tells

@@ -1,0 +1,13 @@
+pub mod NextLines
+pub mod Allowed
+pub mod ReadLines
+pub mod TraceTexts
+pub mod Answering
+pub mod OneHistory
+pub mod Headlines
+pub mod Standing
+pub mod Printing
+pub mod Finishing
+pub mod Running
+pub mod Goings
+pub mod Leavings

@@ -1,0 +1,98 @@
+use Rattle.std.proofs.Common.{refl, ap, ◌∙◌, arith}
+use Rattle.std.proofs.lemmas.Result.{err_from_is_err_and}
+use Rattle.bx_replay.proofs.Goings.{begins_broken, begins_going, finishes, going_on}
+use Rattle.bx_replay.proofs.Leavings.{begin_stops, finish_stops, line_stops, step_stops}
+use Rattle.bx_replay.proofs.ReadLines.{all_read, heading_read, reads_on}
+use Rattle.bx_replay.proofs.run.replay.Goals as goal
+
+pub returns-in_err-reader-clause-leaves : goal.returns-in_err-reader-clause-leaves
+returns-in_err-reader-clause-leaves g c = λ source_tells.
+    let p = err_from_is_err_and c.from_residual.result c.from_residual.ensures.1 in
+    rw (p.1, p.2) (λ sink_tells. begins_broken (g.S.Source.left c.args.input.now) (g.K.Sink.written c.args.out.now))
+
+pub returns-in_err-replay-clause-leaves : goal.returns-in_err-replay-clause-leaves
+returns-in_err-replay-clause-leaves g c = λ source_tells.
+    let p = err_from_is_err_and c.from_residual-in_err-replay.result c.from_residual-in_err-replay.ensures.1 in
+    rw (p.1, p.2) (begin_stops (g.K.Sink.tells c.args.out.now) c.in_err-replay.field-0.0 _ _ _ (g.K.Sink.written c.args.out.now) _ _ c.in_err-replay.ensures.cause
+    (rw c.in_ok-reader.ensures at (c.in_err-replay.ensures.begins source_tells)))
+
+pub lines-init : goal.lines-init
+lines-init g c = record {
+  running = record {
+    bare = c.in_ok-replay.ensures.bare;
+    calls = omega (arith, c.in_ok-replay.ensures.calls);
+    few = omega arith;
+    most = c.in_ok-replay.ensures.most ∙ ap (λ (r : _). r.most) c.in_ok-reader.ensures;
+  };
+  source_same = c.in_ok-replay.ensures.first;
+  sink_same = refl;
+  source_tells = c.in_ok-replay.ensures.keeps_telling;
+  sink_tells = λ tells. tells;
+  read = λ source_tells.
+      let begun = rw c.in_ok-reader.ensures at (c.in_ok-replay.ensures.begins source_tells) in
+      heading_read _ _ begun.volume begun.nodes begun.devices begun.areas begun.in_place begun.begins;
+  going = λ source_tells sink_tells. begins_going _ _ _ _ (rw c.in_ok-reader.ensures at (c.in_ok-replay.ensures.begins source_tells));
+}
+
+pub returns-in_err-line-clause-leaves : goal.returns-in_err-line-clause-leaves
+returns-in_err-line-clause-leaves g c = λ source_tells.
+    let p = err_from_is_err_and c.from_residual-in_err-line.result c.from_residual-in_err-line.ensures.1 in
+    rw (p.1, p.2) (line_stops (g.K.Sink.tells c.args.out.now) c.in_err-line.field-0.0 _ _ _ _ _ _ c.lines.number c.lines.replay _ _
+    (c.lines.invariant.read source_tells) (c.lines.invariant.going source_tells)
+    c.in_err-line.ensures.cause (c.in_err-line.ensures.gives (c.lines.invariant.source_tells source_tells)))
+
+pub lines-preserved : goal.lines-preserved
+lines-preserved g c =
+    let few = rw c.in-Some.is at c.in_ok-line.ensures.few in
+    record {
+      running = record {
+        bare = c.in_ok-step.ensures.bare;
+        calls = omega (arith, c.in_ok-step.ensures.calls, c.lines.invariant.running.calls);
+        few = few;
+        most = c.in_ok-line.ensures.most ∙ c.lines.invariant.running.most;
+      };
+      source_same = c.in_ok-line.ensures.first ∙ c.lines.invariant.source_same;
+      sink_same = c.in_ok-step.ensures.first ∙ c.lines.invariant.sink_same;
+      source_tells = λ tells. c.in_ok-line.ensures.keeps_telling (c.lines.invariant.source_tells tells);
+      sink_tells = λ tells. c.in_ok-step.ensures.keeps_telling (c.lines.invariant.sink_tells tells);
+      read = λ source_tells.
+          let begins = rw c.in-Some.is at (c.in_ok-line.ensures.gives (c.lines.invariant.source_tells source_tells)) in
+          let place = rw c.in-Some.is at c.in_ok-line.ensures.in_place in
+          reads_on _ _ _ c.lines.number c.in-Some.line (c.lines.invariant.read source_tells) (omega (arith, few)) begins place c.in_ok-step.ensures.serves;
+      going = λ source_tells sink_tells.
+          let going = c.lines.invariant.going source_tells sink_tells in
+          let begins = rw c.in-Some.is at (c.in_ok-line.ensures.gives (c.lines.invariant.source_tells source_tells)) in
+          going_on _ _ _ c.lines.number c.lines.replay c.step.new.self c.in-Some.line _ _ _ going begins
+          (c.in_ok-step.ensures.does (c.lines.invariant.sink_tells sink_tells) going.done _ (omega (arith, going.count, few)) going.stands);
+    }
+
+pub returns-in_err-step-clause-leaves : goal.returns-in_err-step-clause-leaves
+returns-in_err-step-clause-leaves g c = λ source_tells.
+    let p = err_from_is_err_and c.from_residual-in_err-step.result c.from_residual-in_err-step.ensures.1 in
+    let few = rw c.in-Some.is at c.in_ok-line.ensures.few in
+    let begins = rw c.in-Some.is at (c.in_ok-line.ensures.gives (c.lines.invariant.source_tells source_tells)) in
+    let place = rw c.in-Some.is at c.in_ok-line.ensures.in_place in
+    rw (p.1, p.2) (step_stops (g.K.Sink.tells c.args.out.now) c.in_err-step.field-0.0 _ _ _ _ _ _ _ c.lines.number c.lines.replay c.step.new.self c.in-Some.line _ _
+    (c.lines.invariant.read source_tells) (c.lines.invariant.going source_tells) (omega (arith, few)) begins place
+    c.in_err-step.ensures.cause c.in_err-step.ensures.serves
+    (λ sink_tells.
+    let going = c.lines.invariant.going source_tells sink_tells in
+    c.in_err-step.ensures.does (c.lines.invariant.sink_tells sink_tells) going.done _ (omega (arith, going.count, few)) going.stands))
+
+pub returns-in_err-finish-clause-leaves : goal.returns-in_err-finish-clause-leaves
+returns-in_err-finish-clause-leaves g c = λ source_tells.
+    let p = err_from_is_err_and c.from_residual-in_err-finish.result c.from_residual-in_err-finish.ensures.1 in
+    let ends = rw c.in_default.is at (c.in_ok-line.ensures.gives (c.lines.invariant.source_tells source_tells)) in
+    rw (p.1, p.2) (finish_stops (g.K.Sink.tells c.args.out.now) c.in_err-finish.field-0.0 _ _ _ _ _ c.lines.number c.lines.replay _ _
+    (λ sink_tells. rw ends.0 at (c.lines.invariant.going source_tells sink_tells)) c.in_err-finish.ensures.cause
+    (λ sink_tells. c.in_err-finish.ensures.finishes (c.lines.invariant.sink_tells sink_tells)))
+
+pub returns-clause-leaves : goal.returns-clause-leaves
+returns-clause-leaves g c = λ source_tells.
+    let ends = rw c.in_default.is at (c.in_ok-line.ensures.gives (c.lines.invariant.source_tells source_tells)) in (
+      all_read _ c.lines.number (rw ends.0 at (c.lines.invariant.read source_tells)),
+      ends.1,
+      λ sink_tells.
+          let going = rw ends.0 at (c.lines.invariant.going source_tells sink_tells) in
+          finishes _ c.lines.number c.lines.replay _ _ _ going (c.in_ok-finish.ensures.finishes (c.lines.invariant.sink_tells sink_tells)),
+    )

@@ -1,0 +1,4 @@
+pub mod FromLine
+pub mod Headline
+pub mod Outcome
+pub mod Replay

@@ -1,0 +1,58 @@
+//! How a replay begins, and how it ends.
+
+ghost use Rattle.std.specs.Prelude.{◌≡◌, ◌≤◌, [], ◌++◌, IfOk, IfErr, MatchResult};
+ghost use Rattle.bx_model.specs.Listing.{IsBare};
+ghost use Rattle.bx_replay.specs.Outcome.{closing_text};
+ghost use Rattle.bx_replay.specs.Replay.{Begins, Finishes, HasLineCause, HasPrintCause, UnlessRead, UnlessWrite};
+
+use crate::schedule::next_line;
+use crate::state::Replay;
+use crate::stop::{Reason, Stop};
+use bx_model::Tree;
+use bx_outside::{LineReader, Sink, Source, write_all};
+use bx_script::Line;
+use std::alloc::Global;
+
+impl Replay {
+    /// Reads the heading, and begins with the opening tree of its volume.
+    pub fn begin<S: Source>(
+        alloc: Global,
+        reader: &mut LineReader,
+        input: &mut S,
+    ) -> Result<Replay, Stop>
+        requires { reader.old.most ≡ 18600 }
+        ensures begins { S.tells input.old → Begins result (reader.old.ahead ++ S.left input.old)
+            (reader.new.ahead ++ S.left input.new) (S.left input.new) }
+        ensures bare { IfOk result (λ replay. IsBare replay.tree) }
+        ensures calls { IfOk result (λ replay. replay.calls ≡ 0) }
+        ensures cause { IfErr result (λ stop. HasLineCause stop 1 (S.faults input.old) (S.faults input.new)) }
+        ensures first { UnlessRead result (S.faults input.new ≡ S.faults input.old) }
+        ensures most { reader.new.most ≡ reader.old.most }
+        ensures later { S.faults input.old ≤ S.faults input.new }
+        ensures keeps_telling { S.tells input.old → S.tells input.new }
+    {
+        match next_line(alloc, reader, input, 1)? {
+            Some(Line::Heading { volume, .. }) => Ok(Replay {
+                tree: Tree::opening(alloc, volume)?,
+                calls: 0,
+                text: Vec::new(alloc),
+            }),
+            _ => Err(Stop::Refused(1, Reason::Grammar)),
+        }
+    }
+
+    /// Writes what comes after the trace: the word `end`, and the listing of the tree.
+    pub fn finish<K: Sink>(&self, out: &mut K) -> Result<(), Stop>
+        requires { IsBare self.now.tree }
+        ensures finishes { K.tells out.old → Finishes result (closing_text [] self.now.tree) (K.written out.old) (K.written out.new) }
+        ensures cause { IfErr result (λ stop. HasPrintCause stop (K.faults out.old) (K.faults out.new)) }
+        ensures first { UnlessWrite result (K.faults out.new ≡ K.faults out.old) }
+        ensures later { K.faults out.old ≤ K.faults out.new }
+        ensures keeps_telling { K.tells out.old → K.tells out.new }
+    {
+        let listing = self.tree.listing()?;
+        write_all(out, b"end\n")?;
+        write_all(out, listing.bytes())?;
+        Ok(())
+    }
+}

@@ -1,0 +1,15 @@
+//! A schedule replayed on a file tree in memory, and what its trace says: the headline.
+#![tactic(auto)]
+
+mod ends;
+mod laws;
+mod print;
+mod run;
+mod schedule;
+mod state;
+mod steps;
+mod stop;
+
+pub use laws::one_output;
+pub use run::replay;
+pub use stop::{Reason, Stop};

@@ -1,0 +1,34 @@
+//! The whole of a replay.
+
+ghost use Rattle.std.specs.Prelude.{◌≡◌, ◌≤◌, IfErr};
+ghost use Rattle.bx_replay.specs.Replay.{HasCause, Leaves, UnlessRead, UnlessWrite};
+
+use crate::schedule::next_line;
+use crate::state::Replay;
+use crate::stop::Stop;
+use bx_outside::{LineReader, Sink, Source};
+use bx_script::MAX_LINE;
+use std::alloc::Global;
+
+/// Replays the schedule of `input` and writes its trace to `out` as it goes; then the word `end` and the listing
+/// of the tree. It keeps one line of the schedule at a time.
+pub fn replay<S: Source, K: Sink>(alloc: Global, input: &mut S, out: &mut K) -> Result<(), Stop>
+    ensures leaves { S.tells input.old → Leaves (K.tells out.old) result (S.left input.old) (S.left input.new) (K.written out.old) (K.written out.new) }
+    ensures cause { IfErr result (λ stop. HasCause stop (S.faults input.old) (S.faults input.new) (K.faults out.old) (K.faults out.new)) }
+    ensures source_first { UnlessRead result (S.faults input.new ≡ S.faults input.old) }
+    ensures sink_first { UnlessWrite result (K.faults out.new ≡ K.faults out.old) }
+    ensures source_later { S.faults input.old ≤ S.faults input.new }
+    ensures sink_later { K.faults out.old ≤ K.faults out.new }
+    ensures source_tells { S.tells input.old → S.tells input.new }
+    ensures sink_tells { K.tells out.old → K.tells out.new }
+{
+    let mut reader = LineReader::new(alloc, MAX_LINE)?;
+    let mut replay = Replay::begin(alloc, &mut reader, input)?;
+    let mut number = 1;
+    'lines: while let Some(line) = next_line(alloc, &mut reader, input, number + 1)? {
+        number += 1;
+        replay.step(alloc, number, line, out)?;
+    }
+    replay.finish(out)?;
+    Ok(())
+}

@@ -1,0 +1,103 @@
+//! What the lines of a schedule do.
+
+ghost use Rattle.std.specs.Prelude.{◌≡◌, ◌≤◌, ◌<◌, ◌+◌, ◌^◌, List, ℕ, length, IfOk, IfErr, MatchOption, true, false};
+ghost use Rattle.bx_script.specs.Schedule.{HasPlace};
+ghost use Rattle.bx_history.specs.Along.{Done};
+ghost use Rattle.bx_model.specs.Listing.{IsBare};
+ghost use Rattle.bx_nfs.specs.Wire.{IsServed};
+ghost use Rattle.bx_replay.specs.Replay.{Answers, DoesLine, HasStepCause, Serves, Stands, UnlessWrite};
+
+use crate::print::print_lines;
+use crate::state::Replay;
+use crate::stop::{Reason, Stop};
+use bx_base::{OutOfMemory, Point, Raw};
+use bx_outside::Sink;
+use bx_script::{Line, TraceLine};
+use std::alloc::Global;
+
+/// The count of free blocks that a point tells where it doesn't matter: enough.
+const ENOUGH: u64 = 8;
+
+impl Replay {
+    /// Does a line behind the heading: a call is taken, acts and is answered; a run has nothing left to do.
+    pub fn step<K: Sink>(
+        &mut self,
+        alloc: Global,
+        number: u64,
+        line: Line,
+        out: &mut K,
+    ) -> Result<(), Stop>
+        requires in_place { HasPlace false line }
+        requires bare { IsBare self.old.tree }
+        requires few { self.old.calls < 2 ^ 32 }
+
+        ensures does { K.tells out.old → (done : List Done) (start : List ℕ) → length done < 4294967295 → Stands self.old done start (K.written out.old)
+            → DoesLine result line done start (K.written out.old) (K.written out.new) self.new }
+        ensures serves { Serves result line }
+        ensures cause { IfErr result (λ stop. HasStepCause stop number (K.faults out.old) (K.faults out.new)) }
+        ensures first { UnlessWrite result (K.faults out.new ≡ K.faults out.old) }
+        ensures bare { IsBare self.new.tree }
+        ensures calls { self.new.calls ≤ self.old.calls + 1 }
+        ensures later { K.faults out.old ≤ K.faults out.new }
+        ensures keeps_telling { K.tells out.old → K.tells out.new }
+    {
+        match line {
+            Line::Call {
+                reading,
+                node,
+                client,
+                datagram,
+            } => {
+                let Some((point, reply)) = self.answer(alloc, reading, datagram.bytes())? else {
+                    return Err(Stop::Refused(number, Reason::NotBuilt));
+                };
+                let call = point.call;
+                let lines = [
+                    TraceLine::Took {
+                        call,
+                        node,
+                        client,
+                        datagram,
+                    },
+                    TraceLine::Acted(point),
+                    TraceLine::Reply { call, reply },
+                ];
+                print_lines(&mut self.text, &lines, out)
+            }
+            Line::Heading { .. } | Line::Run { .. } => Ok(()),
+        }
+    }
+
+    /// The point and the reply's bytes of a call that arrives at a reading; `None` exactly where it isn't served.
+    fn answer(
+        &mut self,
+        alloc: Global,
+        reading: u64,
+        datagram: &[u8],
+    ) -> Result<Option<(Point, Raw)>, OutOfMemory>
+        requires reading_fits { reading ≤ 4294967295999 }
+        requires bare { IsBare self.old.tree }
+        requires few { self.old.calls < 2 ^ 32 }
+        ensures answers { IfOk result (λ found. MatchOption found
+            ((IsServed datagram.now → ⊥) × (self.new ≡ self.old))
+            (λ answer. Answers self.old self.new reading datagram.now answer.0 answer.1)) }
+        ensures bare { IsBare self.new.tree }
+        ensures calls { self.new.calls ≤ self.old.calls + 1 }
+    {
+        let Some((xid, call)) = bx_nfs::reads_as(alloc, datagram)? else {
+            return Ok(None);
+        };
+        let Some(reply) = self.tree.act(&call, reading, ENOUGH, 0)? else {
+            unreachable!();
+        };
+        let reply = bx_nfs::text(alloc, xid, &reply)?;
+        self.calls += 1;
+        let point = Point {
+            call: self.calls,
+            moment: reading,
+            spare: ENOUGH,
+            made: 0,
+        };
+        Ok(Some((point, reply)))
+    }
+}

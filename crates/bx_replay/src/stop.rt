@@ -1,0 +1,69 @@
+//! Why a replay stops short.
+
+use bx_base::OutOfMemory;
+use bx_outside::{LineError, WriteFault};
+use thiserror::Error;
+
+/// Why a line of a schedule is refused.
+#[derive(Clone, Copy, PartialEq, Eq, Debug, Error)]
+pub enum Reason {
+    /// It is outside the grammar, or not in its place.
+    #[error("grammar")]
+    Grammar,
+    /// It is a call that isn't served yet.
+    #[error("not built")]
+    NotBuilt,
+}
+
+/// Why a replay stops short of its end.
+#[derive(Clone, Copy, PartialEq, Eq, Debug, Error)]
+pub enum Stop {
+    /// A line of the schedule is refused. Lines count from 1.
+    #[error("schedule line {0}: {1}")]
+    Refused(u64, Reason),
+    /// The input failed.
+    #[error("read fault")]
+    ReadFault,
+    /// The output failed.
+    #[error("write fault")]
+    WriteFault,
+    /// Memory ran out.
+    #[error("out of memory")]
+    OutOfMemory,
+}
+
+impl From<OutOfMemory> for Stop {
+    ghost use Rattle.std.specs.Prelude.{◌≡◌};
+    ghost use Rattle.bx_replay.specs.declared.stop.Stop.TheVariants as stops;
+
+    ghost from_gives = { λ _ stop. stop ≡ stops.OutOfMemory };
+
+    fn from(_error: OutOfMemory) -> Stop {
+        Stop::OutOfMemory
+    }
+}
+
+impl From<WriteFault> for Stop {
+    ghost use Rattle.std.specs.Prelude.{◌≡◌};
+    ghost use Rattle.bx_replay.specs.declared.stop.Stop.TheVariants as stops;
+
+    ghost from_gives = { λ _ stop. stop ≡ stops.WriteFault };
+
+    fn from(_fault: WriteFault) -> Stop {
+        Stop::WriteFault
+    }
+}
+
+impl From<LineError> for Stop {
+    ghost use Rattle.bx_replay.specs.FromLine.{stop_of};
+    ghost use Rattle.std.specs.Prelude.{◌≡◌};
+
+    ghost from_gives = { λ error stop. stop ≡ stop_of error };
+
+    fn from(error: LineError) -> Stop {
+        match error {
+            LineError::Fault => Stop::ReadFault,
+            LineError::OutOfMemory => Stop::OutOfMemory,
+        }
+    }
+}

@@ -21,6 +21,11 @@ pub const MAX_LINE: usize = 18600;
 /// The most bytes of a datagram.
 pub const MAX_DATAGRAM: usize = 9216;
 
+/// The most nodes, devices and areas of a heading.
+const MAX_NODES: u32 = 4;
+const MAX_DEVICES: u32 = 4;
+const MAX_AREAS: u32 = 64;
+
 /// The greatest reading of a clock, in milliseconds.
 pub const MAX_READING: u64 = 4294967295999;
 
@@ -104,12 +109,12 @@ fn read_line(alloc: Global, text: &[u8]) -> Result<Option<Line>, OutOfMemory>
 fn heading(text: &[u8]) -> Option<Line>
     ensures { result ≡ heading_of text.now }
 {
-    let (version, rest) = word_at(text)?;
+    let (version, rest) = word_at(text, u32::MAX)?;
     let (volume, rest) = number_at(rest, u64::MAX)?;
-    let (nodes, rest) = word_at(rest)?;
-    let (devices, rest) = word_at(rest)?;
-    let areas = word(rest)?;
-    if version == 1 && nodes == 1 && devices == 1 && areas == 1 {
+    let (nodes, rest) = word_at(rest, MAX_NODES)?;
+    let (devices, rest) = word_at(rest, MAX_DEVICES)?;
+    let areas = word(rest, MAX_AREAS)?;
+    if version == 1 && nodes >= 1 && devices >= 1 && areas >= 1 {
         Some(Line::Heading {
             volume,
             nodes,
@@ -146,13 +151,9 @@ fn call_fields(text: &[u8]) -> Option<(u64, u32, u32, &[u8])>
     ensures { Gives (λ x. (x.0, x.1, x.2, x.3.now)) result (call_fields_of text.now) }
 {
     let (reading, rest) = number_at(text, MAX_READING)?;
-    let (node, rest) = word_at(rest)?;
-    let (client, hex) = word_at(rest)?;
-    if node == 0 {
-        Some((reading, node, client, hex))
-    } else {
-        None
-    }
+    let (node, rest) = word_at(rest, u32::MAX)?;
+    let (client, hex) = word_at(rest, u32::MAX)?;
+    Some((reading, node, client, hex))
 }
 
 // `READING LIMIT`
@@ -193,11 +194,11 @@ fn lacks_upper_case(text: &[u8]) -> bool
     text.iter().all(|c| !c.is_ascii_uppercase())
 }
 
-// A number of 32 bits and a space, and the bytes after them.
-fn word_at(text: &[u8]) -> Option<(u32, &[u8])>
-    ensures { Gives (λ x. (x.0, x.1.now)) result (number_at (2 ^ 32 - 1) text.now) }
+// A number of 32 bits up to the most and a space, and the bytes after them.
+fn word_at(text: &[u8], most: u32) -> Option<(u32, &[u8])>
+    ensures { Gives (λ x. (x.0, x.1.now)) result (number_at most text.now) }
 {
-    let (number, rest) = number_at(text, u64::from(u32::MAX))?;
+    let (number, rest) = number_at(text, u64::from(most))?;
     Some((number as u32, rest))
 }
 
@@ -211,11 +212,11 @@ fn number_at(text: &[u8], most: u64) -> Option<(u64, &[u8])>
     Some((number(field, most)?, rest))
 }
 
-// The number of 32 bits that a field spells.
-fn word(field: &[u8]) -> Option<u32>
-    ensures { result ≡ number_of (2 ^ 32 - 1) field.now }
+// The number of 32 bits, up to the most, that a field spells.
+fn word(field: &[u8], most: u32) -> Option<u32>
+    ensures { result ≡ number_of most field.now }
 {
-    Some(number(field, u64::from(u32::MAX))? as u32)
+    Some(number(field, u64::from(most))? as u32)
 }
 
 // The number that a field spells, up to the most.

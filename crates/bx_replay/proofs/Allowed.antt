@@ -7,7 +7,7 @@ use Rattle.std.proofs.lemmas.List.{length-reverse, reverse-append, reverse-rever
 use Rattle.bx_script.specs.declared.line.Line.{Line}
 use Rattle.bx_script.specs.Schedule.{HasPlace, BeginsSchedule}
 use Rattle.bx_history.specs.Along.{AllowedNewest}
-use Rattle.bx_replay.specs.Headline.{IsServedLine}
+use Rattle.bx_replay.specs.Headline.{IsInPlace, IsServedLine}
 use Rattle.bx_replay.specs.Outcome.{Allows, AreDone}
 
 pub all_push : {A : Type 0} (P : A → Type 0) (xs : List A) (x : A) → AllByRecursion P xs → P x → AllByRecursion P (xs ++ x ∷ [])
@@ -23,7 +23,7 @@ begins_push (first ∷ lines) line begins place =
 begins_newest : (newest : List Line) → AllowedNewest Allows newest → BeginsSchedule (reverse newest)
 begins_newest [] done = tt
 begins_newest (line ∷ before) done =
-    let place : HasPlace (length (reverse before) == 0) line = rw (length-reverse before) done.0.in_place in
+    let place : HasPlace (length (reverse before) == 0) line = rw (length-reverse before) done.0.in_place.0 in
     rw (reverse-append (line ∷ []) before) (begins_push (reverse before) line (begins_newest before done.1) place)
 
 served_newest : (newest : List Line) → AllowedNewest Allows newest → AllByRecursion IsServedLine (reverse newest)
@@ -44,7 +44,7 @@ pub done_few : (lines : List Line) → AreDone lines → length lines ≤ 429496
 done_few lines done = let few = few_newest (reverse lines) done in omega (arith, length-reverse lines)
 
 -- with one line more
-pub done_push : (lines : List Line) (line : Line) → 0 < length lines → length lines < 4294967295 → AreDone lines → HasPlace false line → IsServedLine line
+pub done_push : (lines : List Line) (line : Line) → 0 < length lines → length lines < 4294967295 → AreDone lines → IsInPlace false line → IsServedLine line
     → AreDone (lines ++ line ∷ [])
 done_push lines line some room done place served =
     let later : (length (reverse lines) == 0) ≡ false = ne_eqb (length (reverse lines)) 0 (λ e. omega (arith, length-reverse lines)) in

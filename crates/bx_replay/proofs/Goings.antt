@@ -7,14 +7,13 @@ use Rattle.bx_script.specs.declared.line.Line.{Line}
 use Rattle.bx_script.specs.declared.line.Line.TheVariants.{Heading}
 use Rattle.bx_script.specs.ScheduleLine.{spelling}
 use Rattle.bx_script.specs.TraceText.{trace_text}
-use Rattle.bx_script.specs.Schedule.{HasPlace}
 use Rattle.bx_history.specs.Parts.{trace_of}
 use Rattle.bx_history.specs.Along.{Done, parts_of, schedule_of}
 use Rattle.bx_history.proofs.Answered.{silent_part}
 use Rattle.bx_model.specs.Opening.{opening}
 use Rattle.bx_replay.specs.declared.state.Replay.{Replay}
 use Rattle.bx_replay.specs.declared.stop.Reason.TheVariants.{Grammar, NotBuilt}
-use Rattle.bx_replay.specs.Headline.{rules, Step}
+use Rattle.bx_replay.specs.Headline.{IsInPlace, rules, Step}
 use Rattle.bx_replay.specs.Outcome.{IsBroken, IsCutOff, IsRefused, IsReplayed, closing_text}
 use Rattle.bx_replay.specs.Replay.{Going, IsRead, StandsAfter, BreaksAfter, IsBegun, IsUnservedLine, Wrote}
 use Rattle.bx_replay.proofs.Allowed.{done_begins}
@@ -91,7 +90,7 @@ module _ (text rest : List ℕ) (number : ℕ) (replay : Replay) (start written 
     };
   }
 
-  pub stops_unserved : (line : Line) (next : List ℕ) → number < 4294967295 → BeginsWith rest (spelling line) next → HasPlace ((number + 1) == 1) line → IsUnservedLine line
+  pub stops_unserved : (line : Line) (next : List ℕ) → number < 4294967295 → BeginsWith rest (spelling line) next → IsInPlace ((number + 1) == 1) line → IsUnservedLine line
       → Wrote start written (IsRefused text (number + 1) NotBuilt)
   stops_unserved line next few begins place unserved = record {
     output = trace_text (reverse (trace_of (parts_of going.done)));
@@ -235,7 +234,7 @@ pub begins_going : (text rest start : List ℕ) (replay : Replay) → IsBegun re
 begins_going text rest start replay begun =
     let heading = Heading begun.volume begun.nodes begun.devices begun.areas in
     let opened : record (opening begun.volume) { areas = begun.areas } ≡ opening begun.volume =
-    ap (λ (n : ℕ). record (opening begun.volume) { areas = n }) begun.in_place.0.one_area in
+    ap (λ (n : ℕ). record (opening begun.volume) { areas = n }) begun.in_place.1.2 in
     record {
       done = record { line = heading; lines = [] } ∷ [];
       stands = record {
@@ -244,7 +243,7 @@ begins_going text rest start replay begun =
             (record { fits = refl; leads = refl; placed = tt; answered = λ node. refl }));
         counted = begun.calls;
         headed = omega arith;
-        are_done = (record { few = omega arith; in_place = begun.in_place; served = tt }, tt);
+        are_done = (record { few = omega arith; in_place = begun.in_place; served = begun.in_place.1 }, tt);
         in_range = tt;
         output = sym (append-nil start);
       };

@@ -13,7 +13,7 @@ use Rattle.bx_script.specs.Schedule.{HasPlace, BeginsSchedule}
 use Rattle.bx_script.proofs.Spelled.{spelling_lacks_feed}
 use Rattle.bx_replay.specs.declared.stop.Reason.{Reason}
 use Rattle.bx_replay.specs.declared.stop.Reason.TheVariants.{Grammar, NotBuilt}
-use Rattle.bx_replay.specs.Headline.{IsServedLine}
+use Rattle.bx_replay.specs.Headline.{IsInPlace, IsServedLine}
 use Rattle.bx_replay.specs.Outcome.{AreDone, IsCut, IsFirstRefused, IsReadTo, IsRefusedAt, IsServedSchedule}
 use Rattle.bx_replay.specs.Replay.{IsRead, IsUnservedLine}
 use Rattle.bx_replay.proofs.Allowed.{done_begins, done_few, done_push, done_served}
@@ -69,7 +69,7 @@ not_first done number some count = ne_eqb (number + 1) 1 (λ e. omega (arith, so
 behind : (number : ℕ) → 0 < number → ((number + 1) == 1) ≡ false
 behind number some = ne_eqb (number + 1) 1 (λ e. omega (arith, some))
 
-pub reads_on : (text rest next : List ℕ) (number : ℕ) (line : Line) → IsRead text rest number → number < 4294967295 → BeginsWith rest (spelling line) next → HasPlace ((number + 1) == 1) line
+pub reads_on : (text rest next : List ℕ) (number : ℕ) (line : Line) → IsRead text rest number → number < 4294967295 → BeginsWith rest (spelling line) next → IsInPlace ((number + 1) == 1) line
     → IsServedLine line → IsRead text next (number + 1)
 reads_on text rest next number line so_far few begins place served =
     let some : 0 < number = let h = so_far.headed in omega (arith, h, so_far.count) in
@@ -117,7 +117,7 @@ refused_at text rest number so_far reason others e refused = record {
 }
 
 pub outside : (done : List Line) (number : ℕ) (first : List ℕ) (others : List (List ℕ)) → 0 < length done → number ≡ length done
-    → (4294967295 < number + 1) ⊎ ((value : Line) → HasPlace ((number + 1) == 1) value → first ≢ spelling value) → IsRefusedAt done (first ∷ others) Grammar
+    → (4294967295 < number + 1) ⊎ ((value : Line) → IsInPlace ((number + 1) == 1) value → first ≢ spelling value) → IsRefusedAt done (first ∷ others) Grammar
 outside done number first others some count (inl many) = inl (omega (arith, count))
 outside done number first others some count (inr none) = inr (λ value place. none value (rw (not_first done number some count) place))
 
@@ -126,7 +126,7 @@ refused_outside text rest number so_far here =
     refused_at text rest number so_far Grammar (here.0 ∷ here.1) here.2 (outside so_far.done number here.0 here.1 so_far.headed so_far.count here.3)
 
 pub unserved_at : (done : List Line) (number : ℕ) (line : Line) (others : List (List ℕ)) → 0 < length done → number ≡ length done → number < 4294967295
-    → HasPlace ((number + 1) == 1) line → IsUnservedLine line → IsRefusedAt done (spelling line ∷ others) NotBuilt
+    → IsInPlace ((number + 1) == 1) line → IsUnservedLine line → IsRefusedAt done (spelling line ∷ others) NotBuilt
 unserved_at done number (Heading volume nodes devices areas) others some count few place unserved = absurd unserved
 unserved_at done number (Call reading node client datagram) others some count few place unserved = (
   omega (arith, few, count),
@@ -143,7 +143,7 @@ unserved_at done number (Call reading node client datagram) others some count fe
 unserved_at done number (Run reading limit) others some count few place unserved = absurd unserved
 
 abbrev pub refused_unserved : (text rest next : List ℕ) (number : ℕ) (line : Line) → IsRead text rest number → number < 4294967295 → BeginsWith rest (spelling line) next
-    → HasPlace ((number + 1) == 1) line → IsUnservedLine line → IsFirstRefused text (number + 1) NotBuilt
+    → IsInPlace ((number + 1) == 1) line → IsUnservedLine line → IsFirstRefused text (number + 1) NotBuilt
 refused_unserved text rest next number line so_far few begins place unserved =
     refused_at text rest number so_far NotBuilt (spelling line ∷ lines_of next) (lines_of-begins rest (spelling line) next begins)
     (unserved_at so_far.done number line (lines_of next) so_far.headed so_far.count few place unserved)
@@ -159,7 +159,7 @@ begins_refused text others e refused = record { done = []; others = others; read
 abbrev pub refused_empty : (text : List ℕ) → text ≡ [] → IsFirstRefused text 1 Grammar
 refused_empty text e = begins_refused text [] (ap lines_of e) refl
 
-pub first_outside : (first : List ℕ) (others : List (List ℕ)) → (4294967295 < 1) ⊎ ((value : Line) → HasPlace (1 == 1) value → first ≢ spelling value) → IsRefusedAt [] (first ∷ others) Grammar
+pub first_outside : (first : List ℕ) (others : List (List ℕ)) → (4294967295 < 1) ⊎ ((value : Line) → IsInPlace (1 == 1) value → first ≢ spelling value) → IsRefusedAt [] (first ∷ others) Grammar
 first_outside first others (inl many) = absurd (omega arith)
 first_outside first others (inr none) = inr none
 
@@ -169,11 +169,11 @@ refused_first text here = begins_refused text (here.0 ∷ here.1) here.2 (first_
 abbrev pub cut_first : (text piece left : List ℕ) → text ≡ piece ++ left → LacksFeed piece → length piece ≤ 18600 → IsCut text left
 cut_first text piece left e lacks short = record { done = []; piece = piece; read = inl e; lacks = lacks; short = short; are_done = none_done }
 
-pub heading_read : (text rest : List ℕ) (volume nodes devices areas : ℕ) → HasPlace true (Heading volume nodes devices areas) → BeginsWith text (spelling (Heading volume nodes devices areas)) rest → IsRead text rest 1
+pub heading_read : (text rest : List ℕ) (volume nodes devices areas : ℕ) → IsInPlace true (Heading volume nodes devices areas) → BeginsWith text (spelling (Heading volume nodes devices areas)) rest → IsRead text rest 1
 heading_read text rest volume nodes devices areas place begins = record {
   done = Heading volume nodes devices areas ∷ [];
   read = read_on text text rest [] (Heading volume nodes devices areas) tt (inl refl) begins;
-  are_done = (record { few = omega arith; in_place = place; served = tt }, tt);
+  are_done = (record { few = omega arith; in_place = place; served = place.1 }, tt);
   headed = omega arith;
   count = refl;
 }

@@ -9,7 +9,6 @@ use Rattle.bx_script.specs.declared.line.Line.TheVariants.{Heading, Call, Run}
 use Rattle.bx_script.specs.declared.trace_line.TraceLine.{TraceLine}
 use Rattle.bx_script.specs.declared.trace_line.TraceLine.TheVariants.{Took, Acted, Reply}
 use Rattle.bx_script.specs.TraceText.{InTraceRange, trace_text}
-use Rattle.bx_script.specs.Schedule.{HasPlace}
 use Rattle.bx_history.specs.Trace as traces
 use Rattle.bx_history.specs.Parts.{trace_of}
 use Rattle.bx_history.specs.Along.{Done, parts_of, schedule_of}
@@ -17,7 +16,7 @@ use Rattle.bx_history.specs.Account.{AccountsNewest, answered_entry, answered_li
 use Rattle.bx_history.proofs.Answered.{answered_call, silent_part}
 use Rattle.bx_model.specs.declared.tree.Tree.{Tree}
 use Rattle.bx_replay.specs.declared.state.Replay.{Replay}
-use Rattle.bx_replay.specs.Headline.{rules, opening_of, Step, IsServedLine}
+use Rattle.bx_replay.specs.Headline.{IsInPlace, rules, opening_of, Step, IsServedLine}
 use Rattle.bx_replay.specs.Replay.{Stands, StandsAfter, BreaksAfter, Answers}
 use Rattle.bx_replay.proofs.Allowed.{done_push}
 use Rattle.bx_replay.proofs.TraceTexts.{trace_text-append}
@@ -42,7 +41,7 @@ pub length_schedule : (done : List Done) → length (schedule_of done) ≡ lengt
 length_schedule done = length-reverse (map (λ (d : Done). d.line) done) ∙ length-map done (λ (d : Done). d.line)
 
 extended : (replay next : Replay) (line : Line) (lines : List TraceLine) (done : List Done) (start written text : List ℕ) (history : List traces.Entry)
-    → length done < 4294967295 → HasPlace false line → IsServedLine line → (stands : Stands replay done start written)
+    → length done < 4294967295 → IsInPlace false line → IsServedLine line → (stands : Stands replay done start written)
     → AccountsNewest Step rules (opening_of (schedule_of done)) (parts_of (record { line = line; lines = lines } ∷ done)) history next.tree
     → next.calls ≡ traces.taken_count (lines ++ trace_of (parts_of done))
     → AllByRecursion InTraceRange lines
@@ -78,7 +77,7 @@ silent_line first last done history (Call reading node client datagram) silent s
 silent_line first last done history (Run reading limit) silent so_far = silent_part Step rules first (parts_of done) history last (Some reading) true so_far
 
 pub stands_silent : (replay : Replay) (line : Line) (done : List Done) (start written : List ℕ)
-    → IsSilent line → length done < 4294967295 → HasPlace false line → IsServedLine line → Stands replay done start written → StandsAfter replay line done start written
+    → IsSilent line → length done < 4294967295 → IsInPlace false line → IsServedLine line → Stands replay done start written → StandsAfter replay line done start written
 stands_silent replay line done start written silent room place served stands =
     let accounts = silent_line (opening_of (schedule_of done)) replay.tree done stands.history line silent stands.accounts in
     let after = extended replay replay line [] done start written [] stands.history room place served stands accounts stands.counted tt refl in
@@ -105,7 +104,7 @@ still_answers old new now reading datagram point reply tree calls answers = reco
 }
 
 pub stands_answered : (old new : Replay) (reading node client : ℕ) (datagram : List ℕ) (point : Point) (reply : List ℕ) (done : List Done) (start written text : List ℕ)
-    → length done < 4294967295 → HasPlace false (Call reading node client datagram) → Stands old done start written → Answers old new reading datagram point reply
+    → length done < 4294967295 → IsInPlace false (Call reading node client datagram) → Stands old done start written → Answers old new reading datagram point reply
     → text ≡ trace_text (Took point.call node client datagram ∷ Acted point ∷ Reply point.call reply ∷ [])
     → AllByRecursion InTraceRange (Took point.call node client datagram ∷ Acted point ∷ Reply point.call reply ∷ [])
     → StandsAfter new (Call reading node client datagram) done start (written ++ text)
@@ -120,7 +119,7 @@ stands_answered old new reading node client datagram point reply done start writ
     record {
       lines = lines;
       stands = extended old new (Call reading node client datagram) lines done start written text
-          (answered_entry (old.calls + 1) client datagram reading 8 0 reply ∷ stands.history) room place answers.served stands accounts counted fits text-at;
+          (answered_entry (old.calls + 1) client datagram reading 8 0 reply ∷ stands.history) room place (place.1, answers.served) stands accounts counted fits text-at;
     }
 
 -- ---- a trace of which only a part was written

@@ -1,9 +1,10 @@
 -- The headline: what a trace along a schedule says of the file tree.
-use Rattle.std.specs.Prelude.{◌≡◌, ℕ, true, List, [], ◌∷◌, ◌++◌}
+use Rattle.std.specs.Prelude.{◌≡◌, ℕ, Bool, true, List, [], ◌∷◌, ◌++◌}
 use Rattle.std.specs.List.{AllByRecursion}
 use Rattle.bx_script.specs.declared.line.Line.{Line}
 use Rattle.bx_script.specs.declared.line.Line.TheVariants.{Heading, Call, Run}
 use Rattle.bx_script.specs.declared.trace_line.TraceLine.{TraceLine}
+use Rattle.bx_script.specs.Schedule.{HasPlace}
 use Rattle.bx_script.specs.TraceText.{InTraceRange}
 use Rattle.bx_history.specs.Trace as traces
 use Rattle.bx_history.specs.Legal.{Leads}
@@ -63,8 +64,18 @@ pub record Headline (schedule : List Line) (trace closing : List TraceLine) (las
   pub only : (others : List traces.Entry) (tree : Tree) → traces.Fits rules.kept (trace ++ closing) others → Leads Step (opening_of schedule) others tree
       → (others ≡ bytes) × (tree ≡ last)
 
--- a line whose call, if it is one, is served
+-- a line that this stage has: there is one node, one device and one area
+abbrev pub IsBuilt : Line → Type 0
+IsBuilt (Heading volume nodes devices areas) = (nodes ≡ 1) × (devices ≡ 1) × (areas ≡ 1)
+IsBuilt (Call reading node client datagram) = node ≡ 0
+IsBuilt (Run reading limit) = Unit {0}
+
+-- such a line, in its place
+abbrev pub IsInPlace : Bool → Line → Type 0
+IsInPlace first line = HasPlace first line × IsBuilt line
+
+-- such a line whose call, if it is one, is served
 abbrev pub IsServedLine : Line → Type 0
-IsServedLine (Heading volume nodes devices areas) = Unit {0}
-IsServedLine (Call reading node client datagram) = IsServed datagram
+IsServedLine (Heading volume nodes devices areas) = IsBuilt (Heading volume nodes devices areas)
+IsServedLine (Call reading node client datagram) = IsBuilt (Call reading node client datagram) × IsServed datagram
 IsServedLine (Run reading limit) = Unit {0}

@@ -7,20 +7,20 @@ use Rattle.bx_script.specs.declared.line.Line.TheVariants.{Call}
 use Rattle.bx_script.specs.declared.trace_line.TraceLine.{TraceLine}
 use Rattle.bx_script.specs.ScheduleLine.{spelling}
 use Rattle.bx_script.specs.TraceText.{trace_text}
-use Rattle.bx_script.specs.Schedule.{HasPlace, IsSchedule}
+use Rattle.bx_script.specs.Schedule.{IsSchedule}
 use Rattle.bx_history.specs.Along.{AllowedNewest}
 use Rattle.bx_model.specs.declared.tree.Tree.{Tree}
 use Rattle.bx_model.specs.Listing.{listing}
 use Rattle.bx_nfs.specs.Wire.{IsServed}
 use Rattle.bx_replay.specs.declared.stop.Reason.{Reason}
 use Rattle.bx_replay.specs.declared.stop.Reason.TheVariants.{Grammar, NotBuilt}
-use Rattle.bx_replay.specs.Headline.{Headline, IsServedLine}
+use Rattle.bx_replay.specs.Headline.{Headline, IsInPlace, IsServedLine}
 
--- A line may be done behind these, the newest of which comes first: there is room for it, it has its place, and its call, if it is
--- one, is served.
+-- A line may be done behind these, the newest of which comes first: there is room for it, it has its place and is one of this stage,
+-- and its call, if it is one, is served.
 pub record Allows (before : List Line) (line : Line) : Type 0 where
   pub few : length before < 4294967295
-  pub in_place : HasPlace (length before == 0) line
+  pub in_place : IsInPlace (length before == 0) line
   pub served : IsServedLine line
 
 -- the lines that a replay has done, the oldest first: each was allowed behind those before it
@@ -52,14 +52,14 @@ pub record IsUnserved (first : Bool) (line : List ℕ) : Type 0 where
   pub node : ℕ
   pub client : ℕ
   pub datagram : List ℕ
-  pub in_place : HasPlace first (Call reading node client datagram)
+  pub in_place : IsInPlace first (Call reading node client datagram)
   pub spelled : line ≡ spelling (Call reading node client datagram)
   pub unserved : IsServed datagram → ⊥
 
--- A line of text is refused behind these lines, for a reason. The text decides that it is outside the grammar: no line that has its
--- place there is spelled so, or there is no room for one. A line in the grammar is refused for what it asks.
+-- A line of text is refused behind these lines, for a reason. The text decides that it is outside the grammar: no line of this stage
+-- that has its place there is spelled so, or there is no room for one. A line in the grammar is refused for what it asks.
 abbrev pub Refuses : List Line → List ℕ → Reason → Type 0
-Refuses before text Grammar = (4294967295 ≤ length before) ⊎ ((value : Line) → HasPlace (length before == 0) value → text ≢ spelling value)
+Refuses before text Grammar = (4294967295 ≤ length before) ⊎ ((value : Line) → IsInPlace (length before == 0) value → text ≢ spelling value)
 Refuses before text NotBuilt = (length before < 4294967295) × IsUnserved (length before == 0) text
 
 -- Behind the lines that were done, the next one is refused. An empty schedule lacks its first line.

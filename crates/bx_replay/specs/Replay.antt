@@ -9,7 +9,6 @@ use Rattle.bx_script.specs.declared.line.Line.TheVariants.{Heading, Call, Run}
 use Rattle.bx_script.specs.declared.trace_line.TraceLine.{TraceLine}
 use Rattle.bx_script.specs.ScheduleLine.{spelling}
 use Rattle.bx_script.specs.TraceText.{InTraceRange, trace_text}
-use Rattle.bx_script.specs.Schedule.{HasPlace}
 use Rattle.bx_history.specs.Trace as traces
 use Rattle.bx_history.specs.Parts.{trace_of}
 use Rattle.bx_history.specs.Along.{Done, parts_of, schedule_of}
@@ -20,7 +19,7 @@ use Rattle.bx_replay.specs.declared.state.Replay.{Replay}
 use Rattle.bx_replay.specs.declared.stop.Reason.TheVariants.{Grammar, NotBuilt}
 use Rattle.bx_replay.specs.declared.stop.Stop.{Stop}
 use Rattle.bx_replay.specs.declared.stop.Stop.TheVariants as stops
-use Rattle.bx_replay.specs.Headline.{rules, opening_of, IsServedLine, Step}
+use Rattle.bx_replay.specs.Headline.{rules, opening_of, IsInPlace, IsServedLine, Step}
 use Rattle.bx_replay.specs.Outcome.{AreDone, IsBroken, IsCut, IsCutOff, IsFirstRefused, IsReadTo, IsRefused, IsReplayed, IsServedSchedule}
 
 -- After these lines, the newest first, the replay's tree and its count of calls are those that the trace leaves, and what was written
@@ -71,7 +70,7 @@ GivesLine (Ok (Some line)) number text rest left = BeginsWith text (spelling lin
 GivesLine (Ok None) number text rest left = (text ≡ []) × (left ≡ [])
 GivesLine (Err (stops.Refused line reason)) number text rest left =
     (first : List ℕ) × (others : List (List ℕ)) × (lines_of text ≡ first ∷ others)
-    × ((4294967295 < number) ⊎ ((value : Line) → HasPlace (number == 1) value → first ≢ spelling value))
+    × ((4294967295 < number) ⊎ ((value : Line) → IsInPlace (number == 1) value → first ≢ spelling value))
 GivesLine (Err stops.ReadFault) number text rest left = (piece : List ℕ) × (text ≡ piece ++ left) × LacksFeed piece × (length piece ≤ 18600)
 GivesLine (Err stops.WriteFault) number text rest left = ⊥
 GivesLine (Err stops.OutOfMemory) number text rest left = Unit {0}
@@ -152,7 +151,7 @@ pub record IsBegun (replay : Replay) (text rest : List ℕ) : Type 0 where
   pub nodes : ℕ
   pub devices : ℕ
   pub areas : ℕ
-  pub in_place : HasPlace true (Heading volume nodes devices areas)
+  pub in_place : IsInPlace true (Heading volume nodes devices areas)
   pub begins : BeginsWith text (spelling (Heading volume nodes devices areas)) rest
   pub tree : replay.tree ≡ opening volume
   pub calls : replay.calls ≡ 0

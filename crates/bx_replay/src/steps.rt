@@ -1,10 +1,10 @@
 //! What the lines of a schedule do.
 
 ghost use Rattle.std.specs.Prelude.{◌≡◌, ◌≤◌, ◌<◌, ◌+◌, ◌^◌, List, ℕ, length, IfOk, IfErr, MatchOption, true, false};
-ghost use Rattle.bx_script.specs.Schedule.{HasPlace};
 ghost use Rattle.bx_history.specs.Along.{Done};
 ghost use Rattle.bx_model.specs.Listing.{IsBare};
 ghost use Rattle.bx_nfs.specs.Wire.{IsServed};
+ghost use Rattle.bx_replay.specs.Headline.{IsInPlace};
 ghost use Rattle.bx_replay.specs.Replay.{Answers, DoesLine, HasStepCause, Serves, Stands, UnlessWrite};
 
 use crate::print::print_lines;
@@ -27,7 +27,7 @@ impl Replay {
         line: Line,
         out: &mut K,
     ) -> Result<(), Stop>
-        requires in_place { HasPlace false line }
+        requires in_place { IsInPlace false line }
         requires bare { IsBare self.old.tree }
         requires few { self.old.calls < 2 ^ 32 }
 

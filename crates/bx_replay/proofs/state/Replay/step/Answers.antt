@@ -25,6 +25,6 @@ returns-in-Some-clause-does g c = λ tells done start room stands.
 pub returns-in-Heading-clause-does : goal.returns-in-Heading-clause-does
 returns-in-Heading-clause-does g c = λ tells done start room stands.
     elim c.in-Heading.is [
-      | inl h ↦ rw h.4 (stands_silent c.args.self.now _ done start _ tt room (rw h.4 at c.requires.in_place) tt stands)
+      | inl h ↦ rw h.4 (stands_silent c.args.self.now _ done start _ tt room (rw h.4 at c.requires.in_place) (rw h.4 at c.requires.in_place).1 stands)
       | inr h ↦ rw h.2 (stands_silent c.args.self.now _ done start _ tt room (rw h.2 at c.requires.in_place) tt stands)
     ]

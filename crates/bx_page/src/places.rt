@@ -1,6 +1,6 @@
 //! Where keys stand.
 
-ghost use Rattle.std.specs.Prelude.{◌≡◌, IfOk, IfErr, OnOk, OnErr};
+ghost use Rattle.std.specs.Prelude.{◌≡◌, OnOk, OnErr};
 ghost use Rattle.bx_page.specs.Contents.{Rises, with_entry};
 ghost use Rattle.bx_page.specs.Places.{IsPlace};
 

@@ -163,28 +163,30 @@ fn first_page(alloc: Global, edits: &[(usize, u8)]) -> Result<Option<usize>, Out
     Ok(None)
 }
 
+/// Edits of the leaf that leave no page: the high key is the last key, the keys fall, a key comes twice, there are too many
+/// or too few entries, bytes behind them aren't zero, as those behind the high key's length have to be, a length is too
+/// great, or the leaf is no leaf.
+const EDITS: [(usize, u8); 15] = [
+    (16, b'b'),
+    (21, b'd'),
+    (27, b'`'),
+    (27, b'a'),
+    (3, 3),
+    (2, 1),
+    (3, 1),
+    (30, 1),
+    (4095, 1),
+    (14, 1),
+    (15, 1),
+    (12, 1),
+    (19, 2),
+    (1, 1),
+    (0, 1),
+];
+
 #[test]
 fn other_bytes_are_no_page(rt: HostRuntime) -> Result<(), Fail> {
-    // The high key is the last key, the keys fall, a key comes twice, there are too many or too few entries, bytes behind
-    // them aren't zero, as those behind the high key's length have to be, a length is too great, or the leaf is no leaf.
-    let edits = [
-        (16, b'b'),
-        (21, b'd'),
-        (27, b'`'),
-        (27, b'a'),
-        (3, 3),
-        (2, 1),
-        (3, 1),
-        (30, 1),
-        (4095, 1),
-        (14, 1),
-        (15, 1),
-        (12, 1),
-        (19, 2),
-        (1, 1),
-        (0, 1),
-    ];
-    assert_eq!(rt; first_page(rt.alloc(), &edits)?, None);
+    assert_eq!(rt; first_page(rt.alloc(), &EDITS)?, None);
     assert!(rt; Page::read(rt.alloc(), &LEAF)?.is_none());
     Ok(())
 }
@@ -209,21 +211,22 @@ fn first_wrong(
     Ok(None)
 }
 
+/// A key of 256 bytes and one of 257, 268 and 269 bytes of a key with its value, and 7, 8 and 9 bytes of a value above the
+/// leaves.
+const LIMITS: [(u8, [u8; 2], u8, bool); 8] = [
+    (0, [1, 0], 12, true),
+    (0, [1, 1], 0, false),
+    (0, [1, 0], 13, false),
+    (0, [0, 255], 13, true),
+    (0, [0, 255], 14, false),
+    (1, [0, 1], 7, false),
+    (1, [0, 1], 8, true),
+    (1, [0, 1], 9, false),
+];
+
 #[test]
 fn keys_and_values_have_limits(rt: HostRuntime) -> Result<(), Fail> {
-    // A key of 256 bytes and one of 257, 268 and 269 bytes of a key with its value, and 7, 8 and 9 bytes of a value above
-    // the leaves.
-    let rows = [
-        (0, [1, 0], 12, true),
-        (0, [1, 1], 0, false),
-        (0, [1, 0], 13, false),
-        (0, [0, 255], 13, true),
-        (0, [0, 255], 14, false),
-        (1, [0, 1], 7, false),
-        (1, [0, 1], 8, true),
-        (1, [0, 1], 9, false),
-    ];
-    assert_eq!(rt; first_wrong(rt.alloc(), &rows)?, None);
+    assert_eq!(rt; first_wrong(rt.alloc(), &LIMITS)?, None);
     Ok(())
 }
 

@@ -3,12 +3,11 @@
 #![tactic(auto)]
 
 mod error;
+mod laws;
 mod reading;
 mod writing;
 
 pub use error::ReadError;
+pub use laws::writes_are_whole;
 pub use reading::{are_zeros, front_at, u16_at, u32_at, u64_at};
 pub use writing::{clear_from, push, push_u32, push_u64, put, put_u16, put_u32, put_u64};
-
-#[cfg(test)]
-mod tests;

@@ -1,5 +1,5 @@
 -- A page with an entry put, taken or moved is a page.
-use Rattle.std.proofs.Common.{◌≡◌, ℕ, suc, ◌+◌, ◌^◌, ◌<◌, ◌≤◌, List, [], ◌∷◌, ◌++◌, length, take, drop, get_or, set, Option, Some, None, refl, sym, ap, ◌∙◌, add-one, arith}
+use Rattle.std.proofs.Common.{◌≡◌, ℕ, zero, suc, ◌+◌, ◌^◌, ◌<◌, ◌≤◌, List, [], ◌∷◌, ◌++◌, length, take, drop, get_or, set, Option, Some, None, refl, sym, ap, subst, ◌∙◌, add-one, arith}
 use Rattle.std.specs.Prelude.{All, AllPairs, IfSome, IsSome, sum_by, slice_get}
 use Rattle.std.specs.List.{insert, remove}
 use Rattle.std.specs.Option.{option_map}
@@ -10,7 +10,7 @@ use Rattle.std.proofs.lemmas.List.Sums.{sum_by-cons, sum_by-take-drop, sum_by-se
 use Rattle.std.proofs.lemmas.Option.{slice_get-get_or}
 use Rattle.bx_page.specs.declared.entry.Entry.{Entry}
 use Rattle.bx_page.specs.Keys.{is_below, IsBelow}
-use Rattle.bx_page.specs.Contents.{Contents, entry_size, size, IsEntry, Rises, IsPage, below, above, with_value, without_key, value_of, half, first_half, other_half}
+use Rattle.bx_page.specs.Contents.{Contents, entry_size, size, IsEntry, Rises, IsPage, below, above, with_entry, with_value, without_key, value_of, half, first_half, other_half}
 use Rattle.bx_page.specs.Places.{StandsAt, WouldStandAt}
 use Rattle.bx_page.proofs.Order.{below_trans}
 use Rattle.bx_page.proofs.Cuts.{All-take_below}
@@ -82,8 +82,8 @@ high_without (Some h) es key a = all_without (λ x. IsBelow x.key h) es key a
 
 -- ---- put
 
-pub with_page : (p : Contents) (key value : List ℕ) → IsPage p → length key ≤ 256 → length key + length value ≤ 268 → IfSome p.high (λ h. IsBelow key h) → size (with_value p key value) ≤ 4096 → IsPage (with_value p key value)
-with_page p key value is k v lt room =
+pub with_page : (p : Contents) (key value : List ℕ) → IsPage p → length key ≤ 256 → length key + length value ≤ 268 → (0 < p.level → length value ≡ 8) → IfSome p.high (λ h. IsBelow key h) → size (with_value p key value) ≤ 4096 → IsPage (with_value p key value)
+with_page p key value is k v child lt room =
     let e : Entry = record { key = key; value = value } in
     record {
       level = is.level;
@@ -92,6 +92,7 @@ with_page p key value is k v lt room =
       entries = all_with IsEntry p.entries e is.entries record { key = k; both = v };
       rises = rises_with p.entries e is.rises;
       below = high_with p.high p.entries e is.below lt;
+      children = λ above. all_with (λ x. length x.value ≡ 8) p.entries e (is.children above) (child above);
       room = room;
     }
 
@@ -124,15 +125,15 @@ size_missing p key value n at =
 entry_is : (e : Entry) (key value : List ℕ) → e.key ≡ key → e.value ≡ value → e ≡ record { key = key; value = value }
 entry_is e key value k v = rw (← k, ← v) refl
 
-pub put_page : (p : Contents) (key value : List ℕ) (items : List Entry) → IsPage p → length key ≤ 256 → length key + length value ≤ 268 → IfSome p.high (λ h. IsBelow key h) → size (with_value p key value) ≤ 4096 → items ≡ (with_value p key value).entries → IsPage (record p { entries = items })
-put_page p key value items is k v lt room same = rw same (with_page p key value is k v lt room)
+-- the page p is the value q of a struct, to which the conditions speak
+pub put_page : (p q : Contents) (key value : List ℕ) (items : List Entry) → p ≡ q → IsPage p → length key ≤ 256 → length key + length value ≤ 268 → (0 < q.level → length value ≡ 8) → IfSome q.high (λ h. IsBelow key h) → size (with_value q key value) ≤ 4096
+    → items ≡ with_entry p.entries key value → IsPage (record p { entries = items })
+put_page p q key value items view is k v child lt room same =
+    rw same (subst (λ (page : Contents). IsPage (with_value page key value)) (sym view) (with_page q key value (subst IsPage view is) k v child lt room))
 
 -- the entries once the value is there
-pub there_is : (p : Contents) (key value : List ℕ) (n : ℕ) (e : Entry) (items : List Entry) → StandsAt p.entries key n → e.key ≡ key → e.value ≡ value → items ≡ set p.entries n e → items ≡ (with_value p key value).entries
-there_is p key value n e items at k v is = is ∙ ap (set p.entries n) (entry_is e key value k v) ∙ replaced_is p.entries record { key = key; value = value } n at
-
-pub missing_is : (p : Contents) (key value : List ℕ) (n : ℕ) (e : Entry) (items : List Entry) → WouldStandAt p.entries key n → e.key ≡ key → e.value ≡ value → items ≡ insert p.entries n e → items ≡ (with_value p key value).entries
-missing_is p key value n e items at k v is = is ∙ ap (insert p.entries n) (entry_is e key value k v) ∙ inserted_is p.entries record { key = key; value = value } n at
+pub there_is : (es : List Entry) (key value : List ℕ) (n : ℕ) (e : Entry) → StandsAt es key n → e.key ≡ key → e.value ≡ value → set es n e ≡ with_entry es key value
+there_is es key value n e at k v = ap (set es n) (entry_is e key value k v) ∙ replaced_is es record { key = key; value = value } n at
 
 -- ---- take
 
@@ -155,6 +156,7 @@ without_page p key n is at = record {
   entries = all_without IsEntry p.entries key is.entries;
   rises = rises_without p.entries key is.rises;
   below = high_without p.high p.entries key is.below;
+  children = λ above. all_without (λ x. length x.value ≡ 8) p.entries key (is.children above);
   room = omega (arith, is.room, removed_size p.entries key n at);
 }
 
@@ -176,6 +178,7 @@ first_half_page p right is fits two =
       entries = All-take IsEntry n p.entries is.entries;
       rises = pairs_take (λ a b. IsBelow a.key b.key) n p.entries is.rises;
       below = rw high (All-take_below (λ x. IsBelow x.key e.key) p.entries n (omega arith) (λ k x below. rw (get_or_default p.entries n d x lt) (is.rises k n x below lt)));
+      children = λ above. All-take (λ x. length x.value ≡ 8) n p.entries (is.children above);
       room = rw high (omega (arith, is.room, sum, rest));
     }
 
@@ -191,6 +194,7 @@ other_half_page p is = record {
   entries = All-drop IsEntry (half p) p.entries is.entries;
   rises = pairs_drop (λ a b. IsBelow a.key b.key) (half p) p.entries is.rises;
   below = high_drop p.high p.entries (half p) is.below;
+  children = λ above. All-drop (λ x. length x.value ≡ 8) (half p) p.entries (is.children above);
   room = omega (arith, is.room, sum_by-take-drop entry_size p.entries (half p));
 }
 
@@ -207,3 +211,8 @@ middle_key p n x is lt at =
     ap (λ k. option_map (λ (e : Entry). e.key) (slice_get p.entries k)) (sym is)
     ∙ ap (option_map (λ (e : Entry). e.key)) (slice_get-get_or p.entries n x lt)
     ∙ ap (λ (e : Entry). Some e.key) (sym at)
+
+pub slice_get-drop : (es : List Entry) (n : ℕ) → slice_get (drop n es) 0 ≡ slice_get es n
+slice_get-drop es zero = refl
+slice_get-drop [] (suc n) = refl
+slice_get-drop (e ∷ es) (suc n) = slice_get-drop es n

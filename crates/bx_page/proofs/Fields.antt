@@ -8,7 +8,7 @@ use Rattle.std.proofs.lemmas.List.Elements.{All-from_recursion, recursion_from_A
 use Rattle.bx_page.specs.declared.entry.Entry.{Entry}
 use Rattle.bx_page.specs.Contents.{Contents, IsEntry, high_bytes}
 use Rattle.bx_page.specs.Spelling.{high_len, entry_bytes, numbers}
-use Rattle.bx_page.specs.Reading.{lengths_at, entry_at, high_of, high_at, contents_at}
+use Rattle.bx_page.specs.Reading.{lengths_at, entry_at, high_of, high_at, numbers_at, contents_at}
 use Rattle.bx_page.proofs.Written.{front}
 use Rattle.bx_base.specs.Bytes.{IsBytes}
 use Rattle.bx_fields.specs.Reading.{◌>>=◌, number_at, bytes_at, list_at}
@@ -147,12 +147,34 @@ pub record AreParts (p : Contents) : Type 0 where
   pub high : ShortHigh p.high
   pub entries : All IsEntry p.entries
 
+-- the numbers in front of the high key's length
+abbrev numbers_text : ℕ × ℕ × ℕ → List ℕ
+numbers_text n = to_be_bytes w16 n.0 ++ (to_be_bytes w16 n.1 ++ to_be_bytes w64 n.2)
+
+numbers_take : (bytes : List ℕ) (x : (ℕ × ℕ × ℕ) × List ℕ) → IsBytes bytes → numbers_at bytes ≡ Some x → Takes bytes (numbers_text x.0) x.1 × (x.0.0 < 2 ^ 16) × (x.0.1 < 2 ^ 16) × (x.0.2 < 2 ^ 64)
+unfolding numbers_at
+numbers_take bytes x fits e =
+    let a = bind_some (number_at w16 bytes) (λ level. number_at w16 level.1 >>= λ count. number_at w64 count.1 >>= λ right. Some ((level.0, count.0, right.0), right.1)) x e in
+    let b = bind_some (number_at w16 a.0.1) (λ count. number_at w64 count.1 >>= λ right. Some ((a.0.0, count.0, right.0), right.1)) x a.2 in
+    let c = bind_some (number_at w64 b.0.1) (λ right. Some ((a.0.0, b.0.0, right.0), right.1)) x b.2 in
+    let t0 = field16.takes bytes a.0 fits a.1 in
+    let t1 = field16.takes a.0.1 b.0 t0.0.rest_fits b.1 in
+    let t2 = field64.takes b.0.1 c.0 t1.0.rest_fits c.1 in
+    let made : (ℕ × ℕ × ℕ) × List ℕ = ((a.0.0, b.0.0, c.0.0), c.0.1) in
+    subst (λ (y : (ℕ × ℕ × ℕ) × List ℕ). Takes bytes (numbers_text y.0) y.1 × (y.0.0 < 2 ^ 16) × (y.0.1 < 2 ^ 16) × (y.0.2 < 2 ^ 64)) (some_is made x c.2)
+    (Takes-then bytes (to_be_bytes w16 a.0.0) a.0.1 (to_be_bytes w16 b.0.0 ++ to_be_bytes w64 c.0.0) c.0.1 t0.0 (Takes-then a.0.1 (to_be_bytes w16 b.0.0) b.0.1 (to_be_bytes w64 c.0.0) c.0.1 t1.0 t2.0), t0.1, t1.1, t2.1)
+
+numbers_again : (level count right : ℕ) (rest : List ℕ) → level < 2 ^ 16 → count < 2 ^ 16 → right < 2 ^ 64 → numbers_at (to_be_bytes w16 level ++ (to_be_bytes w16 count ++ (to_be_bytes w64 right ++ rest))) ≡ Some ((level, count, right), rest)
+unfolding numbers_at
+numbers_again level count right rest first second third =
+    rw (field16.again level (to_be_bytes w16 count ++ (to_be_bytes w64 right ++ rest)) first, field16.again count (to_be_bytes w64 right ++ rest) second, field64.again right rest third) refl
+
 -- the parts one behind the other
-joined : (p : Contents) (b0 b1 b2 b3 b4 rest : List ℕ) (count : ℕ) → Takes b0 (to_be_bytes w16 p.level) b1 → Takes b1 (to_be_bytes w16 count) b2 → Takes b2 (to_be_bytes w64 p.right) b3
-    → Takes b3 (to_be_bytes w16 (high_len p.high) ++ (0 ∷ 0 ∷ high_bytes p.high)) b4 → Takes b4 (flat_map entry_bytes p.entries) rest → length p.entries ≡ count → b0 ≡ front p ++ rest
-joined p b0 b1 b2 b3 b4 rest count t0 t1 t2 t3 t4 is =
-    let two : Takes b1 (to_be_bytes w16 (length p.entries)) b2 = subst (λ (n : ℕ). Takes b1 (to_be_bytes w16 n) b2) (sym is) t1 in
-    let all : Takes b0 (front p) rest = Takes-then b0 (to_be_bytes w16 p.level) b1 _ rest t0 (Takes-then b1 (to_be_bytes w16 (length p.entries)) b2 _ rest two (Takes-then b2 (to_be_bytes w64 p.right) b3 _ rest t2 (Takes-then b3 (to_be_bytes w16 (high_len p.high) ++ (0 ∷ 0 ∷ high_bytes p.high)) b4 (flat_map entry_bytes p.entries) rest t3 t4))) in
+joined : (p : Contents) (b0 b1 b2 rest : List ℕ) (count : ℕ) → Takes b0 (numbers_text (p.level, count, p.right)) b1
+    → Takes b1 (to_be_bytes w16 (high_len p.high) ++ (0 ∷ 0 ∷ high_bytes p.high)) b2 → Takes b2 (flat_map entry_bytes p.entries) rest → length p.entries ≡ count → b0 ≡ front p ++ rest
+joined p b0 b1 b2 rest count t0 t1 t2 is =
+    let one : Takes b0 (numbers_text (p.level, length p.entries, p.right)) b1 = subst (λ (n : ℕ). Takes b0 (numbers_text (p.level, n, p.right)) b1) (sym is) t0 in
+    let all : Takes b0 (front p) rest = Takes-then b0 (numbers_text (p.level, length p.entries, p.right)) b1 _ rest one (Takes-then b1 (to_be_bytes w16 (high_len p.high) ++ (0 ∷ 0 ∷ high_bytes p.high)) b2 (flat_map entry_bytes p.entries) rest t1 t2) in
     all.parts
 
 abbrev Found : List ℕ → Contents × List ℕ → Type 0
@@ -161,19 +183,15 @@ Found bytes x = (bytes ≡ front x.0 ++ x.1) × AreParts x.0
 pub contents_take : (bytes : List ℕ) (x : Contents × List ℕ) → IsBytes bytes → contents_at bytes ≡ Some x → (bytes ≡ front x.0 ++ x.1) × AreParts x.0
 unfolding contents_at
 contents_take bytes x fits e =
-    let a = bind_some (number_at w16 bytes) (λ level. number_at w16 level.1 >>= λ count. number_at w64 count.1 >>= λ right. high_at right.1 >>= λ high. list_at count.0 entry_at high.1 >>= λ entries. Some (record { level = level.0; right = right.0; high = high.0; entries = entries.0 }, entries.1)) x e in
-    let b = bind_some (number_at w16 a.0.1) (λ count. number_at w64 count.1 >>= λ right. high_at right.1 >>= λ high. list_at count.0 entry_at high.1 >>= λ entries. Some (record { level = a.0.0; right = right.0; high = high.0; entries = entries.0 }, entries.1)) x a.2 in
-    let c = bind_some (number_at w64 b.0.1) (λ right. high_at right.1 >>= λ high. list_at b.0.0 entry_at high.1 >>= λ entries. Some (record { level = a.0.0; right = right.0; high = high.0; entries = entries.0 }, entries.1)) x b.2 in
-    let d = bind_some (high_at c.0.1) (λ high. list_at b.0.0 entry_at high.1 >>= λ entries. Some (record { level = a.0.0; right = c.0.0; high = high.0; entries = entries.0 }, entries.1)) x c.2 in
-    let f = bind_some (list_at b.0.0 entry_at d.0.1) (λ entries. Some (record { level = a.0.0; right = c.0.0; high = d.0.0; entries = entries.0 }, entries.1)) x d.2 in
-    let t0 = field16.takes bytes a.0 fits a.1 in
-    let t1 = field16.takes a.0.1 b.0 t0.0.rest_fits b.1 in
-    let t2 = field64.takes b.0.1 c.0 t1.0.rest_fits c.1 in
-    let t3 = high_takes c.0.1 d.0 t2.0.rest_fits d.1 in
-    let t4 = (list_field b.0.0 entry_field).takes d.0.1 f.0 t3.0.rest_fits f.1 in
-    let made : Contents × List ℕ = (record { level = a.0.0; right = c.0.0; high = d.0.0; entries = f.0.0 }, f.0.1) in
-    subst (Found bytes) (some_is made x f.2)
-    (joined made.0 bytes a.0.1 b.0.1 c.0.1 d.0.1 f.0.1 b.0.0 t0.0 t1.0 t2.0 t3.0 t4.0 t4.1.0, record { level = t0.1; right = t2.1; count = omega (arith, t4.1.0, t1.1); high = t3.1; entries = All-from_recursion IsEntry f.0.0 t4.1.1 })
+    let a = bind_some (numbers_at bytes) (λ numbers. high_at numbers.1 >>= λ high. list_at numbers.0.1 entry_at high.1 >>= λ entries. Some (record { level = numbers.0.0; right = numbers.0.2; high = high.0; entries = entries.0 }, entries.1)) x e in
+    let b = bind_some (high_at a.0.1) (λ high. list_at a.0.0.1 entry_at high.1 >>= λ entries. Some (record { level = a.0.0.0; right = a.0.0.2; high = high.0; entries = entries.0 }, entries.1)) x a.2 in
+    let c = bind_some (list_at a.0.0.1 entry_at b.0.1) (λ entries. Some (record { level = a.0.0.0; right = a.0.0.2; high = b.0.0; entries = entries.0 }, entries.1)) x b.2 in
+    let t0 = numbers_take bytes a.0 fits a.1 in
+    let t1 = high_takes a.0.1 b.0 t0.0.rest_fits b.1 in
+    let t2 = (list_field a.0.0.1 entry_field).takes b.0.1 c.0 t1.0.rest_fits c.1 in
+    let made : Contents × List ℕ = (record { level = a.0.0.0; right = a.0.0.2; high = b.0.0; entries = c.0.0 }, c.0.1) in
+    subst (Found bytes) (some_is made x c.2)
+    (joined made.0 bytes a.0.1 b.0.1 c.0.1 a.0.0.1 t0.0 t1.0 t2.0 t2.1.0, record { level = t0.1; right = t0.3; count = omega (arith, t2.1.0, t0.2); high = t1.1; entries = All-from_recursion IsEntry c.0.0 t2.1.1 })
 
 -- the parts are read again, whatever is behind them
 pub contents_again : (p : Contents) (rest : List ℕ) → AreParts p → contents_at (front p ++ rest) ≡ Some (p, rest)
@@ -185,9 +203,7 @@ contents_again p rest fits =
     ap (λ (t : List ℕ). numbers p ++ t) (append_assoc (high_bytes p.high) (flat_map entry_bytes p.entries) rest) in
     ap contents_at regrouped
     ∙ rw (
-      field16.again p.level (to_be_bytes w16 (length p.entries) ++ (to_be_bytes w64 p.right ++ high)) fits.level,
-      field16.again (length p.entries) (to_be_bytes w64 p.right ++ high) fits.count,
-      field64.again p.right high fits.right,
+      numbers_again p.level (length p.entries) p.right high fits.level fits.count fits.right,
       high_again p.high entries fits.high,
       (list_field (length p.entries) entry_field).again p.entries rest (refl, recursion_from_All IsEntry p.entries fits.entries),
     ) refl

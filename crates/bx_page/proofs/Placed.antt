@@ -1,6 +1,6 @@
 -- What a binary search tells of the entries' keys.
 use Rattle.std.proofs.Common.{◌≡◌, ℕ, ◌+◌, ◌<◌, ◌≤◌, Bool, true, false, List, [], length, get_or, Result, Ok, Err, refl, sym, ap, subst, ◌∙◌, arith, inl, inr}
-use Rattle.std.specs.Prelude.{All, not, IfOk, IfErr, bytes_eq}
+use Rattle.std.specs.Prelude.{All, not, bytes_eq}
 use Rattle.std.specs.List.{HoldsAt}
 use Rattle.std.specs.List.Sorted.{IsBinarySearchResult, IsNonDecreasingBy, IsSearchInRange}
 use Rattle.std.specs.Option.{option_map}
@@ -13,7 +13,7 @@ use Rattle.std.proofs.lemmas.Option.{slice_get-get_or}
 use Rattle.bx_page.specs.declared.entry.Entry.{Entry}
 use Rattle.bx_page.specs.Keys.{is_below, IsBelow}
 use Rattle.bx_page.specs.Contents.{Rises, below, above, from}
-use Rattle.bx_page.specs.Places.{StandsAt, WouldStandAt}
+use Rattle.bx_page.specs.Places.{StandsAt, WouldStandAt, IsPlace}
 use Rattle.bx_page.proofs.Order.{not_below_itself, not_below_back, same_from_cmp, not_same_below, not_same_above, same_itself, greater_cmp}
 use Rattle.bx_page.proofs.Cuts.{All-take_below, All-drop_from, filter_front, filter_behind, find_none, find_first}
 
@@ -72,18 +72,15 @@ stands_apart es key n lt here a =
       value = ap (option_map (λ (e : Entry). e.value)) (find_first (λ e. bytes_eq e.key key) es n d lt (All-take_below (λ e. bytes_eq e.key key ≡ false) es n (omega arith) (λ k x below. not_same_below _ key (a.before k x below))) (rw (here d) (same_itself key)) ∙ sym (slice_get-get_or es n d lt));
     }
 
-pub stands : (es : List Entry) (key : List ℕ) (r : Result ℕ ℕ) → Rises es → IsSearchInRange r (length es) → IsBinarySearchResult (λ e. slice_cmp nat_cmp e.key key) es r → IfOk r (λ n. StandsAt es key n)
-stands es key (Ok n) rises within found =
+-- what a search finds is the key's place
+pub placed : (es : List Entry) (key : List ℕ) (r : Result ℕ ℕ) → Rises es → IsSearchInRange r (length es) → IsBinarySearchResult (λ e. slice_cmp nat_cmp e.key key) es r → IsPlace es key r
+placed es key (Ok n) rises within found =
     let here : (d : Entry) → (get_or es n d).key ≡ key = λ (d : Entry). same_from_cmp _ key (found d) in
     stands_apart es key n within here record {
       before = λ k d lt. rw (← (here d)) (rises k n d lt within);
       behind = λ k d le lt. rw (← (here d)) (rises n k d (omega arith) lt);
     }
-stands es key (Err n) rises within found = tt
-
-pub would_stand : (es : List Entry) (key : List ℕ) (r : Result ℕ ℕ) → Rises es → IsSearchInRange r (length es) → IsBinarySearchResult (λ e. slice_cmp nat_cmp e.key key) es r → IfErr r (λ n. WouldStandAt es key n)
-would_stand es key (Ok n) rises within found = tt
-would_stand es key (Err n) rises within found =
+placed es key (Err n) rises within found =
     let parted = found (searchable es key rises) in
     would_stand_apart es key n within record {
       before = λ k d lt. ap is_lt (parted.0 k d (omega arith) lt);

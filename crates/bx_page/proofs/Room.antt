@@ -1,10 +1,11 @@
--- How much an entry adds at most.
-use Rattle.std.proofs.Common.{◌≡◌, ℕ, ◌+◌, ◌≤◌, Bool, true, false, cond, List, [], ◌∷◌, length, refl, arith}
-use Rattle.std.specs.Prelude.{sum_by}
-use Rattle.std.proofs.lemmas.List.Sums.{sum_by-cons, sum_by-append}
+-- How much an entry adds at most, and how much all of them take.
+use Rattle.std.proofs.Common.{◌≡◌, ℕ, ◌+◌, ◌*◌, ◌≤◌, Bool, true, false, cond, List, [], ◌∷◌, length, Option, Some, None, refl, arith}
+use Rattle.std.specs.Prelude.{All, IfSome, sum_by}
+use Rattle.std.proofs.lemmas.List.Sums.{sum_by-cons, sum_by-append, sum_by-le}
+use Rattle.std.proofs.lemmas.List.Elements.{All-weaker}
 use Rattle.bx_page.specs.declared.entry.Entry.{Entry}
 use Rattle.bx_page.specs.Keys.{is_below}
-use Rattle.bx_page.specs.Contents.{Contents, entry_size, size, below, above, with_value}
+use Rattle.bx_page.specs.Contents.{Contents, IsEntry, IsPage, entry_size, high_bytes, size, below, above, with_value}
 use Rattle.bx_page.proofs.Order.{not_below_back}
 
 both_absurd : ◌≡◌ {A = Bool} true false → ⊥
@@ -28,3 +29,13 @@ pub size_with-le : (p : Contents) (key value : List ℕ) → size (with_value p 
 size_with-le p key value =
     let e : Entry = record { key = key; value = value } in
     omega (arith, others-le p.entries key, sum_by-append entry_size (below p.entries key) (e ∷ above p.entries key), sum_by-cons entry_size e (above p.entries key))
+
+length-high_bytes : (o : Option (List ℕ)) → IfSome o (λ h. length h ≤ 256) → length (high_bytes o) ≤ 256
+length-high_bytes None short = omega arith
+length-high_bytes (Some h) short = short
+
+-- a page takes at most 272 bytes for each entry, and the high key and the numbers
+pub size-le : (p : Contents) → IsPage p → size p ≤ 272 + length p.entries * 272
+size-le p is =
+    let each : All (λ e. entry_size e ≤ 272) p.entries = All-weaker IsEntry (λ e. entry_size e ≤ 272) (λ e fits. omega (arith, fits.both)) p.entries is.entries in
+    omega (arith, sum_by-le entry_size 272 p.entries each, length-high_bytes p.high is.high)

@@ -3,8 +3,9 @@ use Rattle.std.proofs.Common.{◌≡◌, ℕ, ◌+◌, ◌-◌, ◌≤◌, List,
 use Rattle.std.specs.Prelude.{replicate}
 use Rattle.std.proofs.lemmas.List.{length-append, length-replicate}
 use Rattle.std.proofs.lemmas.Option.{some_pair_parts}
-use Rattle.bx_page.specs.Contents.{Contents, size, IsPage, IsInOrder}
+use Rattle.bx_page.specs.Contents.{Contents, size, IsPage}
 use Rattle.bx_page.specs.Spelling.{page_bytes, Spells}
+use Rattle.bx_page.specs.Parts.{AreFit}
 use Rattle.bx_page.specs.Reading.{contents_at}
 use Rattle.bx_page.proofs.Written.{front, length-front, page_bytes_is, count-le}
 use Rattle.bx_base.specs.Bytes.{IsBytes}
@@ -26,9 +27,9 @@ are_parts p is = record {
 pub page_again : (p : Contents) (bytes : List ℕ) → Spells p bytes → contents_at bytes ≡ Some (p, replicate (4096 - size p) 0)
 page_again p bytes s = ap contents_at (s.parts ∙ page_bytes_is p) ∙ contents_again p (replicate (4096 - size p) 0) (are_parts p s.is)
 
--- parts that are in order, before zeros, are a page
-pub page_read : (bytes rest : List ℕ) (p : Contents) → IsBytes bytes → contents_at bytes ≡ Some (p, rest) → length bytes ≡ 4096 → rest ≡ replicate (length rest) 0 → IsInOrder p → Spells p bytes
-page_read bytes rest p fits e len zeros order =
+-- parts that are fit, before zeros, are a page
+pub page_read : (bytes rest : List ℕ) (p : Contents) → IsBytes bytes → contents_at bytes ≡ Some (p, rest) → length bytes ≡ 4096 → rest ≡ replicate (length rest) 0 → AreFit p → Spells p bytes
+page_read bytes rest p fits e len zeros apt =
     let found = contents_take bytes (p, rest) fits e in
     let parts = found.1 in
     let sum : size p + length rest ≡ 4096 = omega (arith, ap length found.0, length-append (front p) rest, length-front p, len) in
@@ -39,8 +40,9 @@ page_read bytes rest p fits e len zeros order =
         right = parts.right;
         high = parts.high;
         entries = parts.entries;
-        rises = order.rises;
-        below = order.below;
+        rises = apt.order.rises;
+        below = apt.order.below;
+        children = apt.children;
         room = omega (arith, sum);
       };
       parts = found.0 ∙ ap (λ (t : List ℕ). front p ++ t) (zeros ∙ ap (λ (n : ℕ). replicate n 0) behind) ∙ sym (page_bytes_is p);
@@ -54,8 +56,8 @@ page_same bytes rest p q e s =
     let len : length rest ≡ 4096 - size q = ap length same.1 ∙ length-replicate {A = ℕ} (4096 - size q) 0 in
     (same.0, same.1 ∙ ap (λ (n : ℕ). replicate n 0) (sym len))
 
-pub page_in_order : (p q : Contents) → p ≡ q → IsPage q → IsInOrder p
-page_in_order p q e is = rw e (record { rises = is.rises; below = is.below })
+pub page_fit : (p q : Contents) → p ≡ q → IsPage q → AreFit p
+page_fit p q e is = rw e (record { order = record { rises = is.rises; below = is.below }; children = is.children })
 
 pub not_none : (bytes : List ℕ) (q : Contents) → contents_at bytes ≡ None → Spells q bytes → ⊥
 not_none bytes q e s =

@@ -1,15 +1,15 @@
 -- What is written one behind the other, and how long it is.
-use Rattle.std.proofs.Common.{◌≡◌, ℕ, ◌-◌, ◌*◌, ◌≤◌, List, [], ◌∷◌, ◌++◌, length, take, drop, refl, sym, ap, subst, ◌∙◌, append_assoc, arith}
+use Rattle.std.proofs.Common.{◌≡◌, ℕ, ◌-◌, ◌*◌, ◌≤◌, List, [], ◌∷◌, ◌++◌, length, take, refl, sym, ap, subst, ◌∙◌, append_assoc, arith}
 use Rattle.std.specs.Prelude.{sum_by, replicate}
 use Rattle.std.specs.List.{flat_map}
 use Rattle.std.specs.Int.{w16, w64, to_be_bytes}
-use Rattle.std.proofs.lemmas.List.{length-append, length-take, length-drop, drop_all, append-nil}
+use Rattle.std.proofs.lemmas.List.{length-append}
 use Rattle.std.proofs.lemmas.List.Concat.{flat_map-cons}
 use Rattle.std.proofs.lemmas.List.Sums.{sum_by-cons}
 use Rattle.bx_page.specs.declared.entry.Entry.{Entry}
 use Rattle.bx_page.specs.Contents.{Contents, entry_size, high_bytes, size}
 use Rattle.bx_fields.specs.Writing.{Writes}
-use Rattle.bx_fields.proofs.Written.{writes_then}
+use Rattle.bx_fields.proofs.Written.{writes_then, padded_written}
 use Rattle.bx_page.specs.Spelling.{numbers, high_len, entry_bytes, page_bytes}
 
 pub length-entry_bytes : (e : Entry) → length (entry_bytes e) ≡ entry_size e
@@ -35,17 +35,11 @@ length-front p = omega (arith, length-append (high_bytes p.high) (flat_map entry
 pub page_bytes_is : (p : Contents) → page_bytes p ≡ front p ++ replicate (4096 - size p) 0
 page_bytes_is p = sym (ap (λ (t : List ℕ). numbers p ++ t) (append_assoc (high_bytes p.high) (flat_map entry_bytes p.entries) (replicate (4096 - size p) 0)))
 
--- what is behind the zeros is nothing
-pub ended : (p : Contents) (old now filled : List ℕ) (end : ℕ) → Writes old now 0 end (front p) → length old ≡ 4096 → size p ≤ 4096 → filled ≡ replicate (length (take (length now - end) (drop end now))) 0
-    → take end now ++ (filled ++ drop (length now - end) (drop end now)) ≡ page_bytes p
-ended p old now filled end w len room is =
-    let end-is : end ≡ size p = omega (arith, w.place, length-front p) in
-    let zeros : length (take (length now - end) (drop end now)) ≡ 4096 - size p = omega (arith, length-take (length now - end) (drop end now), length-drop end now, w.len) in
-    let rest : drop (length now - end) (drop end now) ≡ [] = drop_all (length now - end) (drop end now) (omega (arith, length-drop end now)) in
-    ap (λ (t : List ℕ). take end now ++ (filled ++ t)) rest
-    ∙ ap (λ (t : List ℕ). take end now ++ t) (append-nil filled ∙ is ∙ ap (λ (n : ℕ). replicate n 0) zeros)
-    ∙ ap (λ (t : List ℕ). t ++ replicate (4096 - size p) 0) w.front
-    ∙ sym (page_bytes_is p)
+-- the front and zeros behind it
+pub ended : (p : Contents) (old now last : List ℕ) (end : ℕ) → Writes old now 0 end (front p) → length old ≡ 4096 → last ≡ take end now ++ replicate (length now - end) 0 → last ≡ page_bytes p
+ended p old now last end w len is =
+    let zeros : length old - length (front p) ≡ 4096 - size p = omega (arith, len, length-front p) in
+    padded_written old now last (front p) end w is ∙ ap (λ (n : ℕ). front p ++ replicate n 0) zeros ∙ sym (page_bytes_is p)
 
 -- the parts that are written one behind the other are the front
 pub all_written : (p : Contents) (old b1 b2 b3 b4 b5 : List ℕ) (a1 a2 a3 a4 a5 count : ℕ) (es : List Entry) → count ≡ length p.entries → es ≡ p.entries

@@ -1,5 +1,5 @@
 -- What a page of a B-link tree holds, and how much of its 4096 bytes that takes.
-use Rattle.std.specs.Prelude.{ℕ, ◌+◌, ◌/◌, ◌^◌, ◌<◌, ◌≤◌, bytes_eq, not, List, [], ◌∷◌, ◌++◌, length, take, drop, reverse, filter, sum_by, All, AllPairs, Option, Some, None, IfSome, slice_get}
+use Rattle.std.specs.Prelude.{◌≡◌, ℕ, ◌+◌, ◌/◌, ◌^◌, ◌<◌, ◌≤◌, bytes_eq, not, List, [], ◌∷◌, ◌++◌, length, take, drop, reverse, filter, sum_by, All, AllPairs, Option, Some, None, IfSome, slice_get}
 use Rattle.std.specs.List.{find}
 use Rattle.std.specs.Option.{option_map}
 use Rattle.bx_page.specs.declared.entry.Entry.{Entry}
@@ -35,6 +35,10 @@ pub record IsEntry (entry : Entry) : Type 0 where
 abbrev pub Rises : List Entry → Type 0
 Rises entries = AllPairs (λ a b. IsBelow a.key b.key) entries
 
+-- Above the leaves each value is the handle of a child, which has eight bytes.
+abbrev pub HasChildren : Contents → Type 0
+HasChildren page = 0 < page.level → All (λ entry. length entry.value ≡ 8) page.entries
+
 -- what every page's contents are
 pub record IsPage (page : Contents) : Type 0 where
   pub level : page.level < 2 ^ 16
@@ -43,6 +47,7 @@ pub record IsPage (page : Contents) : Type 0 where
   pub entries : All IsEntry page.entries
   pub rises : Rises page.entries
   pub below : IfSome page.high (λ high. All (λ entry. IsBelow entry.key high) page.entries)
+  pub children : HasChildren page
   pub room : size page ≤ 4096
 
 -- the keys rise, and are below the high key
@@ -74,9 +79,12 @@ first entries = slice_get entries 0
 abbrev pub last : List Entry → Option Entry
 last entries = slice_get (reverse entries) 0
 
--- the page with a value for a key, in place of the value that the key had
+-- entries and pages with a value for a key, in place of the value that the key had
+abbrev pub with_entry : List Entry → List ℕ → List ℕ → List Entry
+with_entry entries key value = below entries key ++ record { key = key; value = value } ∷ above entries key
+
 abbrev pub with_value : Contents → List ℕ → List ℕ → Contents
-with_value page key value = record page { entries = below page.entries key ++ record { key = key; value = value } ∷ above page.entries key }
+with_value page key value = record page { entries = with_entry page.entries key value }
 
 -- the page with all entries but that of a key
 abbrev pub without_key : Contents → List ℕ → Contents

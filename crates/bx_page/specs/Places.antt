@@ -1,5 +1,5 @@
 -- Where a key stands among entries, or would stand.
-use Rattle.std.specs.Prelude.{◌≡◌, ℕ, ◌+◌, ◌<◌, ◌≤◌, List, length, take, drop, None, slice_get}
+use Rattle.std.specs.Prelude.{◌≡◌, ℕ, ◌+◌, ◌<◌, ◌≤◌, List, length, take, drop, None, slice_get, Result, Ok, Err}
 use Rattle.std.specs.List.{HoldsAt}
 use Rattle.std.specs.Option.{option_map}
 use Rattle.bx_page.specs.declared.entry.Entry.{Entry}
@@ -23,3 +23,8 @@ pub record WouldStandAt (entries : List Entry) (key : List ℕ) (place : ℕ) : 
   pub up_to : up_to entries key ≡ take place entries
   pub from : from entries key ≡ drop place entries
   pub value : value_of entries key ≡ None
+
+-- what a search for a key among entries gives
+abbrev pub IsPlace : List Entry → List ℕ → Result ℕ ℕ → Type 0
+IsPlace entries key (Ok place) = StandsAt entries key place
+IsPlace entries key (Err place) = WouldStandAt entries key place

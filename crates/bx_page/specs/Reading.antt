@@ -30,12 +30,18 @@ high_at bytes = do
   zeros ← number_at w16 n.1
   if zeros.0 == 0 then high_of n.0 zeros.1 else None
 
--- all but the zeros
-unfoldable pub contents_at : List ℕ → Option (Contents × List ℕ)
-contents_at bytes = do
+-- the level, how many entries there are, and the right link
+unfoldable pub numbers_at : List ℕ → Option ((ℕ × ℕ × ℕ) × List ℕ)
+numbers_at bytes = do
   level ← number_at w16 bytes
   count ← number_at w16 level.1
   right ← number_at w64 count.1
-  high ← high_at right.1
-  entries ← list_at count.0 entry_at high.1
-  Some (record { level = level.0; right = right.0; high = high.0; entries = entries.0 }, entries.1)
+  Some ((level.0, count.0, right.0), right.1)
+
+-- all but the zeros
+unfoldable pub contents_at : List ℕ → Option (Contents × List ℕ)
+contents_at bytes = do
+  numbers ← numbers_at bytes
+  high ← high_at numbers.1
+  entries ← list_at numbers.0.1 entry_at high.1
+  Some (record { level = numbers.0.0; right = numbers.0.2; high = high.0; entries = entries.0 }, entries.1)

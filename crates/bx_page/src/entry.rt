@@ -7,7 +7,7 @@ use bx_base::{OutOfMemory, Raw};
 use std::alloc::Global;
 
 /// A key and its value.
-#[derive(Debug, Drop)]
+#[derive(Drop)]
 pub struct Entry {
     pub key: Raw,
     pub value: Raw,

@@ -9,13 +9,12 @@ mod laws;
 mod page;
 mod places;
 mod reading;
-mod split;
 mod writing;
 
 pub use entry::Entry;
 pub use error::PageError;
-pub use laws::{halves_are_the_page, is_a_map, one_reading, room_for_two, written_reads};
+pub use laws::{
+    full_pages_have_entries, halves_are_linked, halves_are_the_page, is_a_map, one_reading,
+    room_for_two, written_reads,
+};
 pub use page::Page;
-
-#[cfg(test)]
-mod tests;

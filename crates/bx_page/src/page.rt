@@ -4,12 +4,12 @@ ghost use Rattle.std.specs.Prelude.{◌≡◌, ◌+◌, ◌-◌, ◌<◌, ◌≤
 ghost use Rattle.std.specs.Option.{option_copied};
 ghost use Rattle.bx_page.specs.Keys.{IsBelow};
 ghost use Rattle.bx_page.specs.Contents.{size, value_of, up_to, from, first, last, with_value, without_key, first_half, other_half};
+ghost use Rattle.bx_page.specs.Places.{IsPlace};
 ghost use Rattle.bx_page.specs.declared.error.PageError.TheVariants.{NoRoom};
 
 use crate::entry::{Entry, LENGTHS, sizes};
 use crate::error::PageError;
-use crate::places::place_of;
-use crate::split::split_off;
+use crate::places::{place_of, put_at};
 use bx_base::{OutOfMemory, Raw};
 use std::alloc::Global;
 use std::marker::Model;
@@ -22,7 +22,7 @@ pub(crate) const SIZE: usize = 4096;
 pub(crate) const NUMBERS: usize = 16;
 
 /// A page. Contracts see it as its level, its right link, its high key and the list of its entries.
-#[derive(Debug, Drop)]
+#[derive(Drop)]
 pub struct Page {
     pub(crate) alloc: Global,
     pub(crate) level: u16,
@@ -148,36 +148,37 @@ impl Page {
         };
         self.entries.get(place)
     }
+
     /// Puts a value for a key, in place of the value that the key had. The key is below the high key, where there is one,
-    /// and has at most 256 bytes, with its value at most 268. `NoRoom` exactly where the page would take more than 4096
-    /// bytes. On an error nothing changes.
+    /// and has at most 256 bytes, with its value at most 268. Above the leaves the value is the handle of a child, of
+    /// eight bytes. `NoRoom` exactly where the page would take more than 4096 bytes. On an error nothing changes.
     pub fn put(&mut self, key: &[u8], value: &[u8]) -> Result<(), PageError>
         requires key { length key.now ≤ 256 }
         requires both { length key.now + length value.now ≤ 268 }
+        requires child { 0 < self.old.level → length value.now ≡ 8 }
         requires below { IfSome self.old.high (λ high. IsBelow key.now high) }
         ensures ok { OnOk result (self.new ≡ with_value self.old key.now value.now) }
         ensures err { OnErr result (self.new ≡ self.old) }
         ensures no_room { IsErrOf result NoRoom ↔ (4096 < size (with_value self.old key.now value.now)) }
     {
-        let used = self.used();
-        match place_of(&self.entries, key) {
-            Ok(place) => {
-                let entry = &self.entries[place];
-                if SIZE < used - entry.value.bytes().len() + value.len() {
-                    return Err(PageError::NoRoom);
-                }
-                let value = Raw::of(self.alloc, value)?;
-                self.entries[place].value = value;
-            }
-            Err(place) => {
-                if SIZE < used + LENGTHS + key.len() + value.len() {
-                    return Err(PageError::NoRoom);
-                }
-                let entry = Entry::of(self.alloc, key, value)?;
-                self.entries.insert(place, entry)?;
-            }
+        let place = place_of(&self.entries, key);
+        if SIZE < self.size_with(&place, key, value) {
+            return Err(PageError::NoRoom);
         }
+        put_at(self.alloc, &mut self.entries, &place, key, value)?;
         Ok(())
+    }
+
+    /// How many bytes the page would take with a value for a key, whose place is this.
+    fn size_with(&self, place: &Result<usize, usize>, key: &[u8], value: &[u8]) -> usize
+        requires both { length key.now + length value.now ≤ 268 }
+        requires place { IsPlace self.now.entries key.now place.now }
+        ensures { result ≡ size (with_value self.now key.now value.now) }
+    {
+        match place {
+            Ok(place) => self.used() - self.entries[*place].value.bytes().len() + value.len(),
+            Err(_) => self.used() + LENGTHS + key.len() + value.len(),
+        }
     }
 
     /// Takes the entry of a key out. `false` exactly where the key isn't there, and nothing changes then.
@@ -193,6 +194,7 @@ impl Page {
             }
         }
     }
+
     /// Gives the entries from the middle on to a new page, which is on the right of this one and has the high key and the
     /// right link that this one had. `right` is the link to it; this page's high key is now the first key there. There are
     /// at least two entries. Where memory runs out, nothing changes.
@@ -205,7 +207,7 @@ impl Page {
         let half = self.entries.len() / 2;
         let middle = &self.entries[half];
         let high = Raw::of(self.alloc, middle.key.bytes())?;
-        let entries = split_off(self.alloc, &mut self.entries, half)?;
+        let entries = self.entries.split_off(half)?;
         Ok(Page {
             alloc: self.alloc,
             level: self.level,

@@ -2,12 +2,12 @@
 
 ghost use Rattle.std.specs.Prelude.{◌≡◌, IfOk, IfSome, IfNone};
 ghost use Rattle.bx_fields.specs.Reading.{Gives, list_at};
-ghost use Rattle.bx_page.specs.Reading.{lengths_at, entry_at, high_of, high_at, contents_at};
+ghost use Rattle.bx_page.specs.Reading.{lengths_at, entry_at, high_of, high_at, numbers_at, contents_at};
 ghost use Rattle.bx_page.specs.Parts.{seen};
 ghost use Rattle.bx_page.specs.Contents.{Contents};
 ghost use Rattle.bx_page.specs.Spelling.{Spells};
 
-use crate::checks::is_in_order;
+use crate::checks::are_fit;
 use crate::entry::Entry;
 use crate::page::{Page, SIZE};
 use crate::writing::NO_HIGH;
@@ -47,7 +47,7 @@ impl Page {
         if !are_zeros(rest) {
             return Ok(None);
         }
-        if !is_in_order(&parts) {
+        if !are_fit(&parts) {
             return Ok(None);
         }
         Ok(Some(Page {
@@ -127,23 +127,30 @@ fn high_part(alloc: Global, bytes: &[u8]) -> Result<(Option<Raw>, &[u8]), ReadEr
     high_key(alloc, len, rest)
 }
 
+/// The level, the number of entries and the right link at the front, and the bytes behind them.
+#[tactic(auto, unfolding(crate::specs::Reading::numbers_at))]
+fn numbers_of(bytes: &[u8]) -> Result<((u16, u16, u64), &[u8]), ReadError>
+    ensures { Gives (λ x. (x.0, x.1.now)) result (numbers_at bytes.now) }
+{
+    let (level, rest) = u16_at(bytes)?;
+    let (count, rest) = u16_at(rest)?;
+    let (right, rest) = u64_at(rest)?;
+    Ok(((level, count, right), rest))
+}
+
 /// The parts of a page at the front, and the bytes behind them.
 #[tactic(auto, unfolding(crate::specs::Reading::contents_at))]
 pub(crate) fn parts_of(alloc: Global, bytes: &[u8]) -> Result<(Parts, &[u8]), ReadError>
     ensures { Gives (λ x. (seen x.0, x.1.now)) result (contents_at bytes.now) }
 {
-    let (level, rest) = u16_at(bytes)?;
-    let (count, rest) = u16_at(rest)?;
-    let (right, rest) = u64_at(rest)?;
+    let ((level, count, right), rest) = numbers_of(bytes)?;
     let (high, rest) = high_part(alloc, rest)?;
     let (entries, rest) = entries_of(alloc, count, rest)?;
-    Ok((
-        Parts {
-            level,
-            right,
-            high,
-            entries,
-        },
-        rest,
-    ))
+    let parts = Parts {
+        level,
+        right,
+        high,
+        entries,
+    };
+    Ok((parts, rest))
 }

@@ -10,7 +10,7 @@ ghost use Rattle.bx_page.specs.Spelling.{high_len, entry_bytes, page_bytes};
 use crate::entry::{Entry, LENGTHS};
 use crate::page::Page;
 use bx_base::Raw;
-use bx_fields::{put, put_u16, put_u64};
+use bx_fields::{clear_from, put, put_u16, put_u64};
 
 /// The length of a high key where there is none.
 pub(crate) const NO_HIGH: u16 = 65535;
@@ -26,7 +26,7 @@ impl Page {
         let at = put_u64(payload, at, self.right);
         let at = put_high(payload, at, &self.high);
         let at = put_entries(payload, at, &self.entries);
-        payload[at..].fill(0);
+        clear_from(payload, at);
     }
 }
 

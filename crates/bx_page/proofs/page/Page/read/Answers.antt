@@ -2,7 +2,7 @@ use Rattle.std.proofs.Common.{length, ap, subst, ◌∙◌, arith}
 use Rattle.bx_page.specs.Parts.{seen}
 use Rattle.bx_fields.specs.Reading.{Fails}
 use Rattle.bx_page.specs.Reading.{contents_at}
-use Rattle.bx_page.proofs.Whole.{length-page_bytes, page_read, page_same, page_in_order, not_none}
+use Rattle.bx_page.proofs.Whole.{length-page_bytes, page_read, page_same, page_fit, not_none}
 use Rattle.bx_page.proofs.page.Page.read.Goals as goal
 
 pub returns-then-payload-ne-SIZE-clause-none : goal.returns-then-payload-ne-SIZE-clause-none
@@ -18,21 +18,21 @@ returns-then-not-are_zeros-clause-none c = λ page s.
     let other = c.if-not-are_zeros.true in
     absurd cc
 
-pub returns-then-not-is_in_order-clause-none : goal.returns-then-not-is_in_order-clause-none
-returns-then-not-is_in_order-clause-none c = λ page s.
+pub returns-then-not-are_fit-clause-none : goal.returns-then-not-are_fit-clause-none
+returns-then-not-are_fit-clause-none c = λ page s.
     let same = page_same c.args.payload.now c.in-Ok.found.1.now (seen c.in-Ok.found.0) page c.in-Ok.ensures s in
-    let order = c.is_in_order.ensures.1 (page_in_order (seen c.in-Ok.found.0) page same.0 s.is) in
-    let other = c.if-not-is_in_order.true in
+    let apt = c.are_fit.ensures.1 (page_fit (seen c.in-Ok.found.0) page same.0 s.is) in
+    let other = c.if-not-are_fit.true in
     absurd cc
 
 pub invariant_of-result : goal.invariant_of-result
 invariant_of-result c =
     let zeros = c.are_zeros.ensures.0 c.if-not-are_zeros.false in
-    let order = c.is_in_order.ensures.0 c.if-not-is_in_order.false in
-    (page_read c.args.payload.now c.in-Ok.found.1.now (seen c.in-Ok.found.0) (λ i. omega (arith, c.type_inv.payload i)) c.in-Ok.ensures c.if-payload-ne-SIZE.false zeros order).is
+    let apt = c.are_fit.ensures.0 c.if-not-are_fit.false in
+    (page_read c.args.payload.now c.in-Ok.found.1.now (seen c.in-Ok.found.0) (λ i. omega (arith, c.type_inv.payload i)) c.in-Ok.ensures c.if-payload-ne-SIZE.false zeros apt).is
 
 pub returns-clause-some : goal.returns-clause-some
 returns-clause-some c =
     let zeros = c.are_zeros.ensures.0 c.if-not-are_zeros.false in
-    let order = c.is_in_order.ensures.0 c.if-not-is_in_order.false in
-    page_read c.args.payload.now c.in-Ok.found.1.now (seen c.in-Ok.found.0) (λ i. omega (arith, c.type_inv.payload i)) c.in-Ok.ensures c.if-payload-ne-SIZE.false zeros order
+    let apt = c.are_fit.ensures.0 c.if-not-are_fit.false in
+    page_read c.args.payload.now c.in-Ok.found.1.now (seen c.in-Ok.found.0) (λ i. omega (arith, c.type_inv.payload i)) c.in-Ok.ensures c.if-payload-ne-SIZE.false zeros apt

@@ -18,6 +18,10 @@ number_of handle = handle.area * 2 ^ 48 + handle.slot * 2 ^ 32 + handle.generati
 abbrev pub parts_of : ℕ → ChunkHandle
 parts_of number = record { area = number / 2 ^ 48; slot = number / 2 ^ 32 % 2 ^ 16; generation = number % 2 ^ 32 }
 
+-- the handle of the own block of an area
+abbrev pub own_handle : ℕ → ChunkHandle
+own_handle area = record { area = area; slot = 960; generation = 0 }
+
 -- the number of the block that it is in
 abbrev pub block_of : ChunkHandle → ℕ
 block_of handle = 1024 * handle.area + handle.slot

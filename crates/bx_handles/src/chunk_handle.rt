@@ -13,6 +13,9 @@ pub struct ChunkHandle {
     pub generation: u32,
 }
 
+/// The slot of an area's own block, behind all others.
+pub const OWN_SLOT: u16 = 960;
+
 /// How far the numbers of the first blocks of two neighbouring areas are apart.
 pub const AREA_NUMBERS: u64 = 1024;
 
@@ -26,7 +29,7 @@ const SLOT: u64 = 1 << 32;
 const FIRST_FILE: u32 = 2;
 
 impl ChunkHandle {
-    ghost use Rattle.bx_handles.specs.Handles.{number_of, parts_of, block_of, fileid};
+    ghost use Rattle.bx_handles.specs.Handles.{number_of, parts_of, own_handle, block_of, fileid};
 
     /// The handle with this number.
     pub fn of(number: u64) -> ChunkHandle
@@ -36,6 +39,17 @@ impl ChunkHandle {
             area: (number / AREA) as u16,
             slot: (number / SLOT % (1 << 16)) as u16,
             generation: (number % SLOT) as u32,
+        }
+    }
+
+    /// The handle of the own block of an area.
+    pub fn own(area: u16) -> ChunkHandle
+        ensures { result ≡ own_handle area }
+    {
+        ChunkHandle {
+            area,
+            slot: OWN_SLOT,
+            generation: 0,
         }
     }
 

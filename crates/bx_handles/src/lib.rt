@@ -5,6 +5,6 @@ mod chunk_handle;
 mod file_handles;
 mod handle_laws;
 
-pub use chunk_handle::{AREA_NUMBERS, ChunkHandle};
+pub use chunk_handle::{AREA_NUMBERS, ChunkHandle, OWN_SLOT};
 pub use file_handles::{file_handle, named_handle};
 pub use handle_laws::{file_handles_name_one, handle_one_number};

@@ -9,7 +9,7 @@ use Rattle.bx_layout.specs.declared.inode_parts.OwnerPart.{OwnerPart}
 use Rattle.bx_layout.specs.declared.inode_parts.SizePart.{SizePart}
 use Rattle.bx_layout.specs.declared.inode_parts.TreePart.{TreePart}
 use Rattle.bx_layout.specs.Inodes.{IsKind, IsTime, IsInode, time_text, owner_text, size_text, tree_text, inode_text}
-use Rattle.bx_layout.specs.InodeReading.{OwnerFields, owner_with, owner_fields, is_kind, is_owner, owner_at, time_at, size_with, size_fields, sizes_at, tree_with, tree_fields, tree_at, inode_with, inode_parts, inode_at}
+use Rattle.bx_layout.specs.InodeReading.{Pairs, pair_at, pairs_at, owner_with, owner_fields, is_kind, is_owner, owner_at, size_with, size_fields, sizes_at, tree_with, tree_fields, path_at, tree_at, inode_with, inode_parts, inode_at}
 use Rattle.bx_layout.proofs.Rows.{IsRow, row_field}
 
 -- ---- what the parts have
@@ -34,6 +34,19 @@ record IsTree (part : TreePart) : Type 0 where
   next : part.next < 2 ^ 32
   path : length part.path < 2 ^ 32
 
+-- ---- pairs
+
+pair_field : IsField pair_at time_text IsTime
+unfolding pair_at
+pair_field = then_field field32 field32
+
+abbrev FitPairs : Pairs → Type 0
+FitPairs x = IsTime x.0 × (IsTime x.1.0 × IsTime x.1.1)
+
+pairs_field : IsField pairs_at (λ x. time_text x.0 ++ (time_text x.1.0 ++ time_text x.1.1)) FitPairs
+unfolding pairs_at
+pairs_field = then_field pair_field (then_field pair_field pair_field)
+
 -- ---- the owner
 
 kind_from : (kind : ℕ) → is_kind kind ≡ true → IsKind kind
@@ -45,18 +58,15 @@ kind_test kind (inr (inl e)) = rw e refl
 kind_test kind (inr (inr (inl e))) = rw e refl
 kind_test kind (inr (inr (inr e))) = rw e refl
 
-abbrev Fit : OwnerFields → Type 0
-Fit x = (x.0 < 2 ^ 32) × ((x.1.0 < 2 ^ 32) × ((x.1.1.0 < 2 ^ 32) × ((x.1.1.1.0 < 2 ^ 32) × ((x.1.1.1.1.0 < 2 ^ 32) × (x.1.1.1.1.1 < 2 ^ 32)))))
-
-owner_row : IsRow owner_with owner_fields is_owner Fit IsOwner
+owner_row : IsRow owner_with owner_fields is_owner FitPairs IsOwner
 owner_row = record {
   back = λ x fits t.
-      let zeros : x.1.1.1.1.1 ≡ 0 = eqb-true _ _ (and_parts _ _ (and_parts _ _ t).1).1 in
+      let zeros : x.1.1.1 ≡ 0 = eqb-true _ _ (and_parts _ _ (and_parts _ _ t).1).1 in
       rw (← zeros) refl;
   fits = λ x fits t.
       let rest = and_parts _ _ (and_parts _ _ t).1 in
-      record { kind = kind_from x.0 (and_parts _ _ t).0; mode = ltb-true _ _ rest.0; nlink = fits.1.1.0; uid = fits.1.1.1.0; gid = fits.1.1.1.1.0 };
-  there = λ y is. (kind_below y.kind is.kind, (omega (arith, is.mode), (is.nlink, (is.uid, (is.gid, omega arith)))));
+      record { kind = kind_from x.0.0 (and_parts _ _ t).0; mode = ltb-true _ _ rest.0; nlink = fits.1.0.0; uid = fits.1.0.1; gid = fits.1.1.0 };
+  there = λ y is. ((kind_below y.kind is.kind, omega (arith, is.mode)), ((is.nlink, is.uid), (is.gid, omega arith)));
   passes = λ y is. and_from _ _ (kind_test y.kind is.kind) (and_from _ _ (lt-ltb _ _ is.mode) refl);
   forth = λ y. refl;
 }
@@ -66,13 +76,9 @@ owner_row = record {
 
 owner_field : IsField owner_at (λ part. to_be_bytes w32 part.kind ++ (to_be_bytes w32 part.mode ++ (to_be_bytes w32 part.nlink ++ (to_be_bytes w32 part.uid ++ (to_be_bytes w32 part.gid ++ to_be_bytes w32 0))))) IsOwner
 unfolding owner_at
-owner_field = row_field owner_row (then_field field32 (then_field field32 (then_field field32 (then_field field32 (then_field field32 field32)))))
+owner_field = row_field owner_row pairs_field
 
 -- ---- the size and the times
-
-time_field : IsField time_at time_text IsTime
-unfolding time_at
-time_field = then_field field32 field32
 
 sizes_field : IsField sizes_at (λ part. to_be_bytes w64 part.size ++ (to_be_bytes w64 part.tail ++ (time_text part.atime ++ (time_text part.mtime ++ time_text part.ctime)))) IsSize
 unfolding sizes_at
@@ -80,9 +86,13 @@ sizes_field =
     fits_field IsSize
     (λ x fits. record { size = fits.0; tail = fits.1.0; atime = fits.1.1.0; mtime = fits.1.1.1.0; ctime = fits.1.1.1.1 })
     (λ x is. (is.size, (is.tail, (is.atime, (is.mtime, is.ctime)))))
-    (as_field size_with size_fields (λ x. refl) (λ y. refl) (then_field field64 (then_field field64 (then_field time_field (then_field time_field time_field)))))
+    (as_field size_with size_fields (λ x. refl) (λ y. refl) (then_field field64 (then_field field64 pairs_field)))
 
 -- ---- the tree and the path
+
+path_field : IsField path_at (λ path. to_be_bytes w32 (length path) ++ path) (λ path. length path < 2 ^ 32)
+unfolding path_at
+path_field = sized_bytes_field field32
 
 tree_field : IsField tree_at (λ part. to_be_bytes w64 part.tree ++ (to_be_bytes w64 part.parent ++ (to_be_bytes w32 part.next ++ (to_be_bytes w32 (length part.path) ++ part.path)))) IsTree
 unfolding tree_at
@@ -90,7 +100,7 @@ tree_field =
     fits_field IsTree
     (λ x fits. record { tree = fits.0; parent = fits.1.0; next = fits.1.1.0; path = fits.1.1.1 })
     (λ x is. (is.tree, (is.parent, (is.next, is.path))))
-    (as_field tree_with tree_fields (λ x. refl) (λ y. refl) (then_field field64 (then_field field64 (then_field field32 (sized_bytes_field field32)))))
+    (as_field tree_with tree_fields (λ x. refl) (λ y. refl) (then_field field64 (then_field field64 (then_field field32 path_field))))
 
 -- ---- all of it
 

@@ -1,7 +1,6 @@
--- How long lists of numbers are as bytes.
+-- How long words are as bytes.
 use Rattle.std.proofs.Common.{◌≡◌, ℕ, ◌*◌, List, [], ◌∷◌, length, refl, ap, ◌∙◌, arith}
-use Rattle.std.specs.List.{flat_map}
-use Rattle.std.specs.Int.{w32, w64, to_be_bytes}
+use Rattle.std.specs.Int.{w32, to_be_bytes}
 use Rattle.std.proofs.lemmas.List.{length-append}
 use Rattle.std.proofs.lemmas.List.Concat.{flat_map-cons}
 use Rattle.bx_base.specs.Bytes.{words}
@@ -9,8 +8,3 @@ use Rattle.bx_base.specs.Bytes.{words}
 pub length-words : (xs : List ℕ) → length (words xs) ≡ 4 * length xs
 length-words [] = refl
 length-words (x ∷ xs) = ap length (flat_map-cons (to_be_bytes w32) x xs) ∙ length-append (to_be_bytes w32 x) (words xs) ∙ omega (arith, length-words xs)
-
-pub length-numbers : (xs : List ℕ) → length (flat_map (to_be_bytes w64) xs) ≡ 8 * length xs
-length-numbers [] = refl
-length-numbers (x ∷ xs) =
-    ap length (flat_map-cons (to_be_bytes w64) x xs) ∙ length-append (to_be_bytes w64 x) (flat_map (to_be_bytes w64) xs) ∙ omega (arith, length-numbers xs)

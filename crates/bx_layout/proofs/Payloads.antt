@@ -1,4 +1,4 @@
--- What is read of all the bytes of a payload or of a sector.
+-- What is read of all the bytes of a payload.
 use Rattle.std.proofs.Common.{◌≡◌, ℕ, ◌-◌, ◌≤◌, List, length, Some, None, ap, ◌∙◌, arith}
 use Rattle.std.specs.Prelude.{replicate}
 use Rattle.std.proofs.lemmas.List.{length-append}
@@ -7,16 +7,12 @@ use Rattle.bx_fields.specs.Writing.{padded}
 use Rattle.bx_fields.proofs.Whole.{padded_read, padded_same, padded_none, length-padded}
 use Rattle.bx_layout.specs.declared.area.AreaBlock.{AreaBlock}
 use Rattle.bx_layout.specs.declared.inode.Inode.{Inode}
-use Rattle.bx_layout.specs.declared.record_head.RecordHead.{RecordHead}
 use Rattle.bx_layout.specs.Areas.{SpellsArea, area_text}
 use Rattle.bx_layout.specs.AreaReading.{area_at}
 use Rattle.bx_layout.specs.Inodes.{SpellsInode, inode_text}
 use Rattle.bx_layout.specs.InodeReading.{inode_at}
-use Rattle.bx_layout.specs.Records.{SpellsHead, head_text}
-use Rattle.bx_layout.specs.RecordReading.{head_at}
 use Rattle.bx_layout.proofs.AreaFields.{area_field, length-area_text}
 use Rattle.bx_layout.proofs.InodeFields.{inode_field, parts_of, inode_from, length-inode_text}
-use Rattle.bx_layout.proofs.HeadFields.{head_field, length-head_text}
 
 -- what has zeros behind it isn't longer than all of it
 within : (size : ℕ) (bytes text : List ℕ) → length bytes ≡ size → bytes ≡ padded size text → length text ≤ size
@@ -51,19 +47,3 @@ inode_same payload rest one other e s = padded_same inode_field 4096 payload res
 
 pub inode_none : (payload : List ℕ) (inode : Inode) → inode_at payload ≡ None → SpellsInode inode payload → ⊥
 inode_none payload inode e s = padded_none inode_field 4096 payload inode e s.parts (parts_of inode s.is)
-
--- ---- headers of records
-
-pub head_read : (sector rest : List ℕ) (head : RecordHead) → IsBytes sector → length sector ≡ 512 → head_at sector ≡ Some (head, rest) → rest ≡ replicate (length rest) 0 → SpellsHead head sector
-head_read sector rest head fits len e zeros =
-    let r = padded_read head_field sector rest head fits e zeros in
-    record { is = r.1; parts = r.0 ∙ ap (λ (n : ℕ). padded n (head_text head)) len }
-
-pub head_same : (sector rest : List ℕ) (one other : RecordHead) → head_at sector ≡ Some (one, rest) → SpellsHead other sector → (one ≡ other) × (rest ≡ replicate (length rest) 0)
-head_same sector rest one other e s = padded_same head_field 512 sector rest one other e s.parts s.is
-
-pub head_none : (sector : List ℕ) (head : RecordHead) → head_at sector ≡ None → SpellsHead head sector → ⊥
-head_none sector head e s = padded_none head_field 512 sector head e s.parts s.is
-
-pub head_len : (sector : List ℕ) (head : RecordHead) → SpellsHead head sector → length sector ≡ 512
-head_len sector head s = ap length s.parts ∙ length-padded 512 (head_text head) (omega (arith, length-head_text head, s.is.count))

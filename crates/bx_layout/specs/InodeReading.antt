@@ -7,35 +7,39 @@ use Rattle.bx_layout.specs.declared.inode_parts.OwnerPart.{OwnerPart}
 use Rattle.bx_layout.specs.declared.inode_parts.SizePart.{SizePart}
 use Rattle.bx_layout.specs.declared.inode_parts.TreePart.{TreePart}
 
+-- ---- pairs of numbers
+
+abbrev pub Pairs : Type 0
+Pairs = (ℕ × ℕ) × ((ℕ × ℕ) × (ℕ × ℕ))
+
+unfoldable pub pair_at : Reader (ℕ × ℕ)
+pair_at bytes = then_at (number_at w32) (number_at w32) bytes
+
+unfoldable pub pairs_at : Reader Pairs
+pairs_at bytes = then_at pair_at (then_at pair_at pair_at) bytes
+
 -- ---- the owner: the last number is zero
 
-abbrev pub OwnerFields : Type 0
-OwnerFields = ℕ × (ℕ × (ℕ × (ℕ × (ℕ × ℕ))))
+abbrev pub owner_with : Pairs → OwnerPart
+owner_with x = record { kind = x.0.0; mode = x.0.1; nlink = x.1.0.0; uid = x.1.0.1; gid = x.1.1.0 }
 
-abbrev pub owner_with : OwnerFields → OwnerPart
-owner_with x = record { kind = x.0; mode = x.1.0; nlink = x.1.1.0; uid = x.1.1.1.0; gid = x.1.1.1.1.0 }
-
-abbrev pub owner_fields : OwnerPart → OwnerFields
-owner_fields part = (part.kind, (part.mode, (part.nlink, (part.uid, (part.gid, 0)))))
+abbrev pub owner_fields : OwnerPart → Pairs
+owner_fields part = ((part.kind, part.mode), ((part.nlink, part.uid), (part.gid, 0)))
 
 -- the number of a type of files
 abbrev pub is_kind : ℕ → Bool
 is_kind kind = (kind == 0) || ((kind == 1) || ((kind == 2) || (kind == 5)))
 
-abbrev pub is_owner : OwnerFields → Bool
-is_owner x = is_kind x.0 && (nat_lt x.1.0 4096 && (x.1.1.1.1.1 == 0))
+abbrev pub is_owner : Pairs → Bool
+is_owner x = is_kind x.0.0 && (nat_lt x.0.1 4096 && (x.1.1.1 == 0))
 
 unfoldable pub owner_at : Reader OwnerPart
-owner_at bytes =
-    as_at owner_with (tested_at is_owner (then_at (number_at w32) (then_at (number_at w32) (then_at (number_at w32) (then_at (number_at w32) (then_at (number_at w32) (number_at w32))))))) bytes
+owner_at bytes = as_at owner_with (tested_at is_owner pairs_at) bytes
 
 -- ---- the size, the tail and the times
 
-unfoldable pub time_at : Reader (ℕ × ℕ)
-time_at bytes = then_at (number_at w32) (number_at w32) bytes
-
 abbrev pub SizeFields : Type 0
-SizeFields = ℕ × (ℕ × ((ℕ × ℕ) × ((ℕ × ℕ) × (ℕ × ℕ))))
+SizeFields = ℕ × (ℕ × Pairs)
 
 abbrev pub size_with : SizeFields → SizePart
 size_with x = record { size = x.0; tail = x.1.0; atime = x.1.1.0; mtime = x.1.1.1.0; ctime = x.1.1.1.1 }
@@ -44,7 +48,7 @@ abbrev pub size_fields : SizePart → SizeFields
 size_fields part = (part.size, (part.tail, (part.atime, (part.mtime, part.ctime))))
 
 unfoldable pub sizes_at : Reader SizePart
-sizes_at bytes = as_at size_with (then_at (number_at w64) (then_at (number_at w64) (then_at time_at (then_at time_at time_at)))) bytes
+sizes_at bytes = as_at size_with (then_at (number_at w64) (then_at (number_at w64) pairs_at)) bytes
 
 -- ---- the tree, and a link's path
 
@@ -57,8 +61,12 @@ tree_with x = record { tree = x.0; parent = x.1.0; next = x.1.1.0; path = x.1.1.
 abbrev pub tree_fields : TreePart → TreeFields
 tree_fields part = (part.tree, (part.parent, (part.next, part.path)))
 
+-- the path behind its length
+unfoldable pub path_at : Reader (List ℕ)
+path_at bytes = sized_at (number_at w32) bytes_at bytes
+
 unfoldable pub tree_at : Reader TreePart
-tree_at bytes = as_at tree_with (then_at (number_at w64) (then_at (number_at w64) (then_at (number_at w32) (sized_at (number_at w32) bytes_at)))) bytes
+tree_at bytes = as_at tree_with (then_at (number_at w64) (then_at (number_at w64) (then_at (number_at w32) path_at))) bytes
 
 -- ---- all of it
 

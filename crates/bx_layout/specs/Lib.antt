@@ -1,12 +1,6 @@
-pub mod Handles
-pub mod Places
 pub mod Labels
 pub mod Blocks
 pub mod Areas
 pub mod Inodes
-pub mod Records
 pub mod AreaReading
 pub mod InodeReading
-pub mod RecordReading
-pub mod Runs
-pub mod Drafts

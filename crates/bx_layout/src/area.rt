@@ -8,17 +8,17 @@ ghost use Rattle.bx_layout.specs.Areas.{IsArea, SpellsArea, area_text};
 ghost use Rattle.bx_layout.specs.AreaReading.{area_at};
 ghost use Rattle.bx_layout.specs.declared.area.AreaBlock.{AreaBlock};
 
-use crate::lists::{put_words, words_of};
-use crate::sizes::{PAYLOAD, SLOTS};
+use crate::words::{put_words, words_of};
 use bx_base::{OutOfMemory, Raw, Words};
 use bx_fields::{ReadError, are_zeros, clear_from, front_at, put};
+use bx_places::{PAYLOAD, SLOTS};
 use std::alloc::Global;
 
 /// How many bytes have the slots' bits.
 const BITS: usize = 120;
 
 /// The payload of an area's own block: what is known of each of its 960 slots.
-#[derive(Debug, Drop)]
+#[derive(Drop)]
 pub struct AreaBlock {
     /// For each slot a word: the highest bit is set where the slot is in use, and the others are its generation.
     pub words: Words,

@@ -5,7 +5,7 @@ ghost use Rattle.std.specs.Prelude.{◌≡◌, ◌↔◌, length};
 use bx_fields::{clear_from, put};
 
 /// Whether what stands behind a gate counts: a record, or a half of a cell.
-#[derive(Clone, Copy, PartialEq, Eq, Debug)]
+#[derive(Clone, Copy, PartialEq, Eq)]
 pub enum Gate {
     /// What stands behind it counts.
     Open,

@@ -8,13 +8,13 @@ ghost use Rattle.bx_layout.specs.InodeReading.{inode_at};
 ghost use Rattle.bx_layout.specs.declared.inode.Inode.{Inode};
 
 use crate::inode_parts::{owner_of, sizes_of, tree_of};
-use crate::sizes::PAYLOAD;
 use bx_base::{OutOfMemory, Raw};
 use bx_fields::{ReadError, are_zeros, clear_from, put, put_u32, put_u64};
+use bx_places::PAYLOAD;
 use std::alloc::Global;
 
 /// What is kept of a file beside what it contains. Times are seconds and microseconds.
-#[derive(Debug, Drop)]
+#[derive(Drop)]
 pub struct Inode {
     /// 1 a regular file, 2 a directory, 5 a link; 0 where the file is dead.
     pub kind: u32,

@@ -2,11 +2,16 @@
 
 ghost use Rattle.std.specs.Prelude.{◌≡◌};
 ghost use Rattle.bx_fields.specs.Reading.{Gives};
-ghost use Rattle.bx_layout.specs.InodeReading.{is_kind, owner_at, sizes_at, time_at, tree_at};
+ghost use Rattle.bx_layout.specs.InodeReading.{is_kind, owner_at, pair_at, pairs_at, path_at, sizes_at, tree_at};
 
 use bx_base::Raw;
 use bx_fields::{ReadError, front_at, u32_at, u64_at};
 use std::alloc::Global;
+
+/// Two numbers of 32 bits, and three such pairs.
+type Pair = (u32, u32);
+
+type Pairs = (Pair, (Pair, Pair));
 
 /// The mode's bits are below this.
 const MODES: u32 = 4096;
@@ -26,9 +31,9 @@ pub(crate) struct OwnerPart {
 pub(crate) struct SizePart {
     pub(crate) size: u64,
     pub(crate) tail: u64,
-    pub(crate) atime: (u32, u32),
-    pub(crate) mtime: (u32, u32),
-    pub(crate) ctime: (u32, u32),
+    pub(crate) atime: Pair,
+    pub(crate) mtime: Pair,
+    pub(crate) ctime: Pair,
 }
 
 /// Where its pages are, and a link's path.
@@ -47,17 +52,33 @@ fn is_kind(kind: u32) -> bool
     matches!(kind, 0 | 1 | 2 | 5)
 }
 
+/// Two numbers of 32 bits at the front, and the bytes behind them.
+#[tactic(auto, unfolding(crate::specs::InodeReading::pair_at))]
+fn pair_of(bytes: &[u8]) -> Result<(Pair, &[u8]), ReadError>
+    ensures { Gives (λ x. (x.0, x.1.now)) result (pair_at bytes.now) }
+{
+    let (first, rest) = u32_at(bytes)?;
+    let (second, rest) = u32_at(rest)?;
+    Ok(((first, second), rest))
+}
+
+/// Three such pairs at the front, and the bytes behind them.
+#[tactic(auto, unfolding(crate::specs::InodeReading::pairs_at))]
+fn pairs_of(bytes: &[u8]) -> Result<(Pairs, &[u8]), ReadError>
+    ensures { Gives (λ x. (x.0, x.1.now)) result (pairs_at bytes.now) }
+{
+    let (first, rest) = pair_of(bytes)?;
+    let (second, rest) = pair_of(rest)?;
+    let (third, rest) = pair_of(rest)?;
+    Ok(((first, (second, third)), rest))
+}
+
 /// The type, the mode, the links, the owner, the group and four zeros at the front, and the bytes behind them.
 #[tactic(auto, unfolding(crate::specs::InodeReading::owner_at))]
 pub(crate) fn owner_of(bytes: &[u8]) -> Result<(OwnerPart, &[u8]), ReadError>
     ensures { Gives (λ x. (x.0, x.1.now)) result (owner_at bytes.now) }
 {
-    let (kind, rest) = u32_at(bytes)?;
-    let (mode, rest) = u32_at(rest)?;
-    let (nlink, rest) = u32_at(rest)?;
-    let (uid, rest) = u32_at(rest)?;
-    let (gid, rest) = u32_at(rest)?;
-    let (zeros, rest) = u32_at(rest)?;
+    let (((kind, mode), ((nlink, uid), (gid, zeros))), rest) = pairs_of(bytes)?;
     if !is_kind(kind) || mode >= MODES || zeros != 0 {
         return Err(ReadError::Malformed);
     }
@@ -71,16 +92,6 @@ pub(crate) fn owner_of(bytes: &[u8]) -> Result<(OwnerPart, &[u8]), ReadError>
     Ok((part, rest))
 }
 
-/// The seconds and the microseconds at the front, and the bytes behind them.
-#[tactic(auto, unfolding(crate::specs::InodeReading::time_at))]
-fn time_of(bytes: &[u8]) -> Result<((u32, u32), &[u8]), ReadError>
-    ensures { Gives (λ x. (x.0, x.1.now)) result (time_at bytes.now) }
-{
-    let (seconds, rest) = u32_at(bytes)?;
-    let (microseconds, rest) = u32_at(rest)?;
-    Ok(((seconds, microseconds), rest))
-}
-
 /// The size, the tail and the times at the front, and the bytes behind them.
 #[tactic(auto, unfolding(crate::specs::InodeReading::sizes_at))]
 pub(crate) fn sizes_of(bytes: &[u8]) -> Result<(SizePart, &[u8]), ReadError>
@@ -88,9 +99,7 @@ pub(crate) fn sizes_of(bytes: &[u8]) -> Result<(SizePart, &[u8]), ReadError>
 {
     let (size, rest) = u64_at(bytes)?;
     let (tail, rest) = u64_at(rest)?;
-    let (atime, rest) = time_of(rest)?;
-    let (mtime, rest) = time_of(rest)?;
-    let (ctime, rest) = time_of(rest)?;
+    let ((atime, (mtime, ctime)), rest) = pairs_of(rest)?;
     let part = SizePart {
         size,
         tail,
@@ -109,9 +118,7 @@ pub(crate) fn tree_of(alloc: Global, bytes: &[u8]) -> Result<(TreePart, &[u8]), 
     let (tree, rest) = u64_at(bytes)?;
     let (parent, rest) = u64_at(rest)?;
     let (next, rest) = u32_at(rest)?;
-    let (len, rest) = u32_at(rest)?;
-    let (path, rest) = front_at(rest, len as usize)?;
-    let path = Raw::of(alloc, path)?;
+    let (path, rest) = path_of(alloc, rest)?;
     let part = TreePart {
         tree,
         parent,
@@ -119,4 +126,15 @@ pub(crate) fn tree_of(alloc: Global, bytes: &[u8]) -> Result<(TreePart, &[u8]), 
         path,
     };
     Ok((part, rest))
+}
+
+/// The length of a path and the path at the front, and the bytes behind them.
+#[tactic(auto, unfolding(crate::specs::InodeReading::path_at))]
+fn path_of(alloc: Global, bytes: &[u8]) -> Result<(Raw, &[u8]), ReadError>
+    ensures { Gives (λ x. (x.0, x.1.now)) result (path_at bytes.now) }
+{
+    let (len, rest) = u32_at(bytes)?;
+    let (path, rest) = front_at(rest, len as usize)?;
+    let path = Raw::of(alloc, path)?;
+    Ok((path, rest))
 }

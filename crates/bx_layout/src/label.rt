@@ -3,12 +3,12 @@
 ghost use Rattle.std.specs.Prelude.{◌≡◌, ◌↔◌, length, IsTrue, IfSome, IfNone};
 ghost use Rattle.bx_fields.specs.Writing.{padded};
 
-use crate::sizes::SECTOR;
 use bx_fields::{clear_from, put, put_u32, put_u64};
+use bx_places::SECTOR;
 use byteorder::{BigEndian, ByteOrder};
 
 /// The label of a disk, its first sector: what volume it belongs to.
-#[derive(Clone, Copy, PartialEq, Eq, Debug)]
+#[derive(Clone, Copy, PartialEq, Eq)]
 pub struct Label {
     /// The volume's number.
     pub volume: u64,

@@ -4,7 +4,7 @@ ghost use Rattle.std.specs.Prelude.{◌≡◌, ℕ, ◌+◌, ◌^◌, ◌<◌, �
 ghost use Rattle.bx_layout.specs.Areas.{IsArea, IsLowestFree, MarksDead, bit, in_use, generation_in, is_free, is_dead, taken_word, freed_word, with_word};
 
 use crate::area::AreaBlock;
-use crate::sizes::SLOTS;
+use bx_places::SLOTS;
 
 /// The highest bit of a word, which is set where the slot is in use.
 const IN_USE: u32 = 2_147_483_648;

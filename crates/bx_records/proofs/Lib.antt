@@ -1,0 +1,4 @@
+pub mod Lengths
+pub mod HeadFields
+pub mod Sectors
+pub mod Changes

@@ -12,6 +12,3 @@ pub use list::{List, Numbers, Points, Words};
 pub use memory::OutOfMemory;
 pub use names::{Actor, CallNo, Mode, Point};
 pub use raw::Raw;
-
-#[cfg(test)]
-mod tests;

@@ -1,3 +1,4 @@
+pub mod Actors
 pub mod Bytes
 pub mod Faults
 pub mod Text

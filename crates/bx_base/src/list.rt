@@ -1,6 +1,6 @@
 //! Lists that grow at their end.
 
-ghost use Rattle.std.specs.Prelude.{◌≡◌, ◌<◌, ◌++◌, ◌∷◌, [], length, OnOk, OnErr, slice_get, slice_set};
+ghost use Rattle.std.specs.Prelude.{◌≡◌, ◌<◌, ◌++◌, ◌∷◌, [], length, IfOk, OnOk, OnErr, slice_get, slice_set};
 ghost use Rattle.std.specs.Option.{option_copied};
 
 use crate::memory::OutOfMemory;
@@ -39,6 +39,16 @@ impl<T> List<T> {
         List {
             items: Vec::new(alloc),
         }
+    }
+
+    /// A list of these items.
+    pub fn of(alloc: Global, items: &[T]) -> Result<List<T>, OutOfMemory>
+    where
+        T: Copy,
+        ensures { IfOk result (λ list. list ≡ items.now) }
+    {
+        let items = Vec::from_slice(alloc, items)?;
+        Ok(List { items })
     }
 
     /// How many items there are.
@@ -81,5 +91,13 @@ impl<T> List<T> {
     {
         self.items.push(item)?;
         Ok(())
+    }
+}
+
+impl<T> From<Vec<T>> for List<T> {
+    ghost from_gives = { λ items list. list ≡ items.items };
+
+    fn from(items: Vec<T>) -> List<T> {
+        List { items }
     }
 }

@@ -2,10 +2,11 @@
 use Rattle.std.proofs.Common.{◌≡◌, ℕ, zero, suc, ◌+◌, ◌<◌, ◌≤◌, false, List, [], ◌∷◌, length, refl, arith, ne_eqb, length-append}
 use Rattle.std.specs.Prelude.{replicate}
 use Rattle.std.specs.List.{AllByRecursion}
-use Rattle.bx_global.specs.declared.session.SessionRow.{SessionRow}
-use Rattle.bx_global.specs.Allowed.{AreRising, HaveOwnSlots, IsSession, IsDevice, IsAllowed}
+use Rattle.bx_rows.specs.declared.session.SessionRow.{SessionRow}
+use Rattle.bx_global.specs.Allowed.{IsAllowed}
+use Rattle.bx_rows.specs.Conditions.{AreRising, HaveOwnSlots, IsSession, IsDevice}
 use Rattle.bx_global.specs.Opening.{first_device, formatted_state, node_row, node_rows, opening_state}
-use Rattle.bx_global.specs.Words.{is_taken}
+use Rattle.bx_rows.specs.Words.{is_taken}
 use Rattle.bx_global.proofs.Kept.{all-push, all_is, rising-push, slots-push}
 
 -- a slot above all that are taken is free

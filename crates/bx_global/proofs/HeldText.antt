@@ -1,5 +1,5 @@
 -- What an acceptor's cell holds is read again from its bytes, and no other bytes are read as such.
-use Rattle.std.proofs.Common.{◌≡◌, ℕ, ◌^◌, ◌<◌, List, [], ◌++◌, length, Option, Some, None, refl, sym, ap, ◌∙◌, append_assoc, arith}
+use Rattle.std.proofs.Common.{◌≡◌, ℕ, ◌^◌, ◌<◌, List, [], ◌++◌, length, Option, Some, None, refl, sym, ap, ◌∙◌, arith}
 use Rattle.std.specs.Int.{w32, w64, to_be_bytes}
 use Rattle.std.proofs.lemmas.Bool.{lt-ltb, ltb-true}
 use Rattle.std.proofs.lemmas.List.{append-nil}
@@ -8,30 +8,27 @@ use Rattle.bx_base.specs.Bytes.{IsBytes}
 use Rattle.bx_fields.specs.declared.error.ReadError.{ReadError}
 use Rattle.bx_fields.specs.declared.error.ReadError.TheVariants as errors
 use Rattle.bx_fields.specs.Reading.{Fails}
-use Rattle.bx_fields.proofs.Fields.{IsField, field32, field64, then_field, as_field, tested_field, fits_field}
+use Rattle.bx_fields.proofs.Fields.{IsField, field32, field64, then_field, as_field, tested_field}
+use Rattle.bx_rows.specs.Conditions.{IsBallot}
+use Rattle.bx_rows.specs.Spelling.{ballot_text}
+use Rattle.bx_rows.proofs.Fields.{ballot_field}
 use Rattle.bx_global.specs.declared.held.Held.{Held}
 use Rattle.bx_global.specs.declared.held.Marks.{Marks}
 use Rattle.bx_global.specs.declared.state.GlobalState.{GlobalState}
-use Rattle.bx_global.specs.Bytes.{ballot_text, state_text, held_text, IsBallot, IsHeld, SpellsHeld}
+use Rattle.bx_global.specs.Bytes.{state_text, marks_text, held_text, IsHeld, SpellsHeld}
 use Rattle.bx_global.specs.Reading
 use Rattle.bx_global.proofs.StateText.{one_front}
 
--- ---- ballots and what stands before the states
+-- ---- what stands before the states
 
-ballot_field : IsField Reading.ballot_at ballot_text IsBallot
-unfolding Reading.ballot_at ballot_text
-ballot_field =
-    fits_field IsBallot (λ b f. record { round = f.0; actor = f.1.0; boot = f.1.1 }) (λ b i. (i.round, (i.actor, i.boot)))
-    (as_field Reading.ballot_with Reading.ballot_fields (λ x. refl) (λ y. refl) (then_field field64 (then_field field32 field64)))
-
-marks_text : Marks → List ℕ
-marks_text m = to_be_bytes w64 m.index ++ (ballot_text m.promise ++ (ballot_text m.ballot ++ to_be_bytes w32 m.flag))
+text_of : Marks → List ℕ
+text_of m = to_be_bytes w64 m.index ++ (ballot_text m.promise ++ (ballot_text m.ballot ++ to_be_bytes w32 m.flag))
 
 abbrev MarksFit : Marks → Type 0
 MarksFit m = (m.index < 2 ^ 64) × (IsBallot m.promise × (IsBallot m.ballot × ((m.flag < 2 ^ 32) × (m.flag < 2))))
 
-marks_field : IsField Reading.marks_at marks_text MarksFit
-unfolding Reading.marks_at marks_text
+marks_field : IsField Reading.marks_at text_of MarksFit
+unfolding Reading.marks_at text_of
 marks_field =
     as_field Reading.marks_with Reading.mark_fields (λ x. refl) (λ y. refl)
     (then_field field64 (then_field ballot_field (then_field ballot_field (tested_field Reading.is_flag (λ n. n < 2) (λ n t. ltb-true n 2 t) (λ n lt. lt-ltb n 2 lt) field32))))
@@ -40,9 +37,9 @@ abbrev marks_of : Held → Marks
 marks_of h = record { index = h.index; promise = h.promise; ballot = h.ballot; flag = h.flag }
 
 -- the text is in three parts
-held_parts : (h : Held) → held_text h ≡ marks_text (marks_of h) ++ (state_text h.accepted ++ state_text h.decided)
-unfolding held_text marks_text
-held_parts h = simp append_assoc
+held_parts : (h : Held) → held_text h ≡ text_of (marks_of h) ++ (state_text h.accepted ++ state_text h.decided)
+unfolding held_text marks_text text_of
+held_parts h = refl
 
 marks_fit : (devices : ℕ) (h : Held) → IsHeld devices h → MarksFit (marks_of h)
 marks_fit devices h is = (is.index, (is.promise, (is.ballot, (omega (arith, is.flag), is.flag))))
@@ -56,7 +53,7 @@ pub held_read : (devices : ℕ) (bytes rest after last : List ℕ) (m : Marks) (
 held_read devices bytes rest after last m a d fits e b c none many as_many =
     let t = marks_field.takes bytes (m, rest) fits e in
     let h : Held = record { index = m.index; promise = m.promise; ballot = m.ballot; flag = m.flag; accepted = a; decided = d } in
-    let text : bytes ≡ marks_text m ++ (state_text a ++ state_text d) = t.0.parts ∙ ap (λ (r : List ℕ). marks_text m ++ r) (b.parts ∙ ap (λ (r : List ℕ). state_text a ++ r) (c.parts ∙ ap (λ (r : List ℕ). state_text d ++ r) none ∙ append-nil (state_text d))) in
+    let text : bytes ≡ text_of m ++ (state_text a ++ state_text d) = t.0.parts ∙ ap (λ (r : List ℕ). text_of m ++ r) (b.parts ∙ ap (λ (r : List ℕ). state_text a ++ r) (c.parts ∙ ap (λ (r : List ℕ). state_text d ++ r) none ∙ append-nil (state_text d))) in
     record {
       is = record {
         index = t.1.0;

@@ -3,9 +3,9 @@ use Rattle.std.proofs.Common.{◌≡◌, ◌≢◌, ℕ, zero, suc, ◌+◌, ◌
 use Rattle.std.specs.Prelude.{find, unwrap_or}
 use Rattle.std.specs.List.{AllByRecursion}
 use Rattle.std.proofs.lemmas.Bool.Decides.{eqb_tells}
-use Rattle.bx_global.specs.declared.session.SessionRow.{SessionRow}
-use Rattle.bx_global.specs.Allowed.{AreRising, HaveOwnSlots}
-use Rattle.bx_global.specs.Words.{is_taken, least_free, slots}
+use Rattle.bx_rows.specs.declared.session.SessionRow.{SessionRow}
+use Rattle.bx_rows.specs.Conditions.{AreRising, HaveOwnSlots}
+use Rattle.bx_rows.specs.Words.{is_taken, least_free, slots}
 
 -- ---- what holds of each item
 

@@ -2,19 +2,20 @@
 use Rattle.std.proofs.Common.{◌≡◌, ℕ, ◌+◌, ◌*◌, ◌≤◌, List, [], ◌∷◌, length, refl, ap, ◌∙◌, arith, length-append}
 use Rattle.std.specs.List.{flat_map}
 use Rattle.std.proofs.lemmas.List.Concat.{flat_map-cons}
-use Rattle.bx_global.specs.declared.device.DeviceRow.{DeviceRow}
+use Rattle.bx_rows.specs.declared.device.DeviceRow.{DeviceRow}
 use Rattle.bx_global.specs.declared.held.Held.{Held}
-use Rattle.bx_global.specs.declared.session.SessionRow.{SessionRow}
+use Rattle.bx_rows.specs.declared.session.SessionRow.{SessionRow}
 use Rattle.bx_global.specs.declared.state.GlobalState.{GlobalState}
 use Rattle.bx_global.specs.Allowed.{IsAllowed}
-use Rattle.bx_global.specs.Bytes.{session_text, device_text, sessions_text, devices_text, state_text, ballot_text, held_text, IsHeld}
+use Rattle.bx_global.specs.Bytes.{heads_text, state_text, marks_text, held_text, IsHeld}
+use Rattle.bx_rows.specs.Spelling.{pair_text, session_text, device_text, sessions_text, devices_text, ballot_text}
 
 length-session : (row : SessionRow) → length (session_text row) ≡ 44
-unfolding session_text
+unfolding session_text pair_text
 length-session row = refl
 
 length-device : (row : DeviceRow) → length (device_text row) ≡ 28
-unfolding device_text
+unfolding device_text pair_text
 length-device row = refl
 
 length-session_rows : (rows : List SessionRow) → length (flat_map session_text rows) ≡ 44 * length rows
@@ -36,13 +37,13 @@ unfolding devices_text
 length-devices rows = omega (arith, length-device_rows rows)
 
 pub length-state : (s : GlobalState) → length (state_text s) ≡ 52 + 44 * length s.sessions + 28 * length s.devices
-unfolding state_text
+unfolding state_text heads_text pair_text
 length-state s = omega (arith, length-append (sessions_text s.sessions) (devices_text s.devices), length-sessions s.sessions, length-devices s.devices)
 
 pub length-allowed : (s : GlobalState) → IsAllowed s → length (state_text s) ≤ 516
 length-allowed s is = omega (arith, length-state s, is.session_count, is.most_devices)
 
 pub length-held : (held : Held) (devices : ℕ) → IsHeld devices held → length (held_text held) ≤ 1084
-unfolding held_text ballot_text
+unfolding held_text marks_text ballot_text pair_text
 length-held held devices is =
     omega (arith, length-append (state_text held.accepted) (state_text held.decided), length-allowed held.accepted is.accepted, length-allowed held.decided is.decided)

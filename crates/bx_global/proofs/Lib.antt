@@ -1,10 +1,8 @@
-pub mod Ballots
 pub mod Begins
 pub mod HeldText
 pub mod Kept
 pub mod Lengths
-pub mod Loops
-pub mod Pushed
+pub mod Places
 pub mod Rising
 pub mod StateText
 pub mod StaysAllowed

@@ -5,15 +5,16 @@ use Rattle.std.specs.List.{AllByRecursion}
 use Rattle.std.proofs.lemmas.List.{length-map}
 use Rattle.bx_global.specs.declared.change.Change.{Change}
 use Rattle.bx_global.specs.declared.change.Change.TheVariants.{Renew, Take, Open, Expire, Claim, Close, Shift}
-use Rattle.bx_global.specs.declared.device.DeviceRow.{DeviceRow}
-use Rattle.bx_global.specs.declared.session.SessionRow.{SessionRow}
+use Rattle.bx_rows.specs.declared.device.DeviceRow.{DeviceRow}
+use Rattle.bx_rows.specs.declared.session.SessionRow.{SessionRow}
 use Rattle.bx_global.specs.declared.state.GlobalState.{GlobalState}
-use Rattle.bx_global.specs.Allowed.{AreRising, HaveOwnSlots, IsSession, IsDevice, IsAllowed, IsChange, Fits}
-use Rattle.bx_global.specs.Modes.{IsReachable}
-use Rattle.bx_global.specs.Rows.{dead, expired, claimed}
-use Rattle.bx_global.specs.Table.{IsLegal, at_place, effect, opened, shifted, without}
-use Rattle.bx_global.specs.Words.{least_free}
-use Rattle.bx_global.proofs.Loops.{length-at_place}
+use Rattle.bx_global.specs.Allowed.{IsAllowed, IsChange}
+use Rattle.bx_rows.specs.Conditions.{AreRising, HaveOwnSlots, IsSession, IsDevice, Fits}
+use Rattle.bx_rows.specs.Modes.{IsReachable}
+use Rattle.bx_rows.specs.Rows.{dead, expired, claimed, at_place, shifted, without}
+use Rattle.bx_global.specs.Table.{IsLegal, effect, opened}
+use Rattle.bx_rows.specs.Words.{least_free}
+use Rattle.bx_global.proofs.Places.{length-at_place}
 use Rattle.bx_global.proofs.Rising.{keeps_expired, keeps_claimed}
 use Rattle.bx_global.proofs.Kept.{all-map, all-filter, all-push, all_is, length-filter, rising-map, rising-filter, rising-push, slots-map, slots-filter, slots-push, free_slot_is_free, few_rows}
 

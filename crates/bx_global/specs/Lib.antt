@@ -1,9 +1,9 @@
 pub mod Allowed
-pub mod Ballots
 pub mod Bytes
-pub mod Modes
 pub mod Opening
 pub mod Reading
-pub mod Rows
 pub mod Table
-pub mod Words
+pub use Rattle.bx_rows.specs.Ballots
+pub use Rattle.bx_rows.specs.Modes
+pub use Rattle.bx_rows.specs.Rows
+pub use Rattle.bx_rows.specs.Words

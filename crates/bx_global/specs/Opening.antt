@@ -1,9 +1,9 @@
 -- The states to begin with.
 use Rattle.std.specs.Prelude.{ℕ, zero, suc, ◌+◌, List, [], ◌∷◌, ◌++◌, replicate}
-use Rattle.bx_global.specs.declared.device.DeviceRow.{DeviceRow}
-use Rattle.bx_global.specs.declared.session.SessionRow.{SessionRow}
 use Rattle.bx_global.specs.declared.state.GlobalState.{GlobalState}
-use Rattle.bx_global.specs.Modes.{both}
+use Rattle.bx_rows.specs.declared.device.DeviceRow.{DeviceRow}
+use Rattle.bx_rows.specs.declared.session.SessionRow.{SessionRow}
+use Rattle.bx_rows.specs.Modes.{both}
 
 -- the session that a node begins with: its slot has the node's number
 abbrev pub node_row : ℕ → SessionRow

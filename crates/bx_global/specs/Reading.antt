@@ -1,97 +1,73 @@
--- Reading a state, a ballot and what an acceptor's cell holds from the front of bytes.
-use Rattle.std.specs.Prelude.{◌≡◌, ℕ, ◌<◌, ◌≤◌, Bool, nat_lt, ◌&&◌, List, ◌++◌}
+-- Reading a state and what an acceptor's cell holds from the front of bytes.
+use Rattle.std.specs.Prelude.{◌≡◌, ℕ, ◌<◌, Bool, nat_lt, List, ◌++◌}
 use Rattle.std.specs.Int.{w32, w64}
 use Rattle.std.specs.List.{AllByRecursion}
-use Rattle.bx_fields.specs.Reading.{Reader, number_at, then_at, as_at, tested_at, sized_at, list_at}
+use Rattle.bx_fields.specs.Reading.{Reader, number_at, then_at, as_at, tested_at}
 use Rattle.bx_fields.specs.declared.error.ReadError.{ReadError}
 use Rattle.bx_fields.specs.declared.error.ReadError.TheVariants as errors
-use Rattle.bx_global.specs.declared.ballot.Ballot.{Ballot}
-use Rattle.bx_global.specs.declared.device.DeviceRow.{DeviceRow}
-use Rattle.bx_global.specs.declared.session.SessionRow.{SessionRow}
-use Rattle.bx_global.specs.declared.state.GlobalState.{GlobalState}
+use Rattle.bx_rows.specs.declared.ballot.Ballot.{Ballot}
+use Rattle.bx_rows.specs.declared.device.DeviceRow.{DeviceRow}
+use Rattle.bx_rows.specs.declared.session.SessionRow.{SessionRow}
+use Rattle.bx_rows.specs.Conditions.{AreRising, HaveOwnSlots, IsPlaced}
+use Rattle.bx_rows.specs.Reading.{ballot_at, devices_at, pair_at, sessions_at}
 use Rattle.bx_global.specs.declared.held.Held.{Held}
 use Rattle.bx_global.specs.declared.held.Marks.{Marks}
-use Rattle.bx_global.specs.Allowed.{AreRising, HaveOwnSlots, IsAllowed}
+use Rattle.bx_global.specs.declared.reading.Heads.{Heads}
+use Rattle.bx_global.specs.declared.state.GlobalState.{GlobalState}
+use Rattle.bx_global.specs.Allowed.{IsAllowed}
 use Rattle.bx_global.specs.Bytes.{SpellsHeld, state_text}
 
--- a session's row: number, node, boot, slot, end, dead or not, and who recovers it
-abbrev pub SessionFields : Type 0
-SessionFields = ℕ × (ℕ × (ℕ × (ℕ × (ℕ × (ℕ × ℕ)))))
+-- the six numbers of a state
+abbrev pub HeadFields : Type 0
+HeadFields = ℕ × ((ℕ × ℕ) × (ℕ × (ℕ × ℕ)))
 
-abbrev pub session_with : SessionFields → SessionRow
-session_with x = record {
-  number = x.0;
-  node = x.1.0;
-  boot = x.1.1.0;
-  slot = x.1.1.1.0;
-  until = x.1.1.1.1.0;
-  dead = x.1.1.1.1.1.0;
-  by = x.1.1.1.1.1.1;
+abbrev pub heads_with : HeadFields → Heads
+heads_with x = record {
+  index = x.0;
+  master = x.1.0.0;
+  master_boot = x.1.0.1;
+  term = x.1.1.0;
+  term_end = x.1.1.1.0;
+  next_session = x.1.1.1.1;
 }
 
-abbrev pub session_fields : SessionRow → SessionFields
-session_fields row = (row.number, (row.node, (row.boot, (row.slot, (row.until, (row.dead, row.by))))))
+abbrev pub head_fields : Heads → HeadFields
+head_fields h = (h.index, ((h.master, h.master_boot), (h.term, (h.term_end, h.next_session))))
 
-unfoldable pub session_at : Reader SessionRow
-session_at bytes =
-    as_at session_with (then_at (number_at w64) (then_at (number_at w32) (then_at (number_at w64) (then_at (number_at w32) (then_at (number_at w64) (then_at (number_at w32) (number_at w64))))))) bytes
+unfoldable pub heads_at : Reader Heads
+heads_at bytes = as_at heads_with (then_at (number_at w64) (then_at pair_at (then_at (number_at w64) (then_at (number_at w64) (number_at w64))))) bytes
 
--- a device's row: mode, epoch, and the boots of its members
-abbrev pub DeviceFields : Type 0
-DeviceFields = ℕ × (ℕ × (ℕ × ℕ))
-
-abbrev pub device_with : DeviceFields → DeviceRow
-device_with x = record { mode = x.0; epoch = x.1.0; boot_a = x.1.1.0; boot_b = x.1.1.1 }
-
-abbrev pub device_fields : DeviceRow → DeviceFields
-device_fields row = (row.mode, (row.epoch, (row.boot_a, row.boot_b)))
-
-unfoldable pub device_at : Reader DeviceRow
-device_at bytes = as_at device_with (then_at (number_at w32) (then_at (number_at w64) (then_at (number_at w64) (number_at w64)))) bytes
-
--- how many sessions there are, at most 8, and as many rows
-abbrev pub few_sessions : ℕ → Bool
-few_sessions n = nat_lt n 9
-
-unfoldable pub sessions_at : Reader (List SessionRow)
-sessions_at bytes = sized_at (tested_at few_sessions (number_at w32)) (λ n. list_at n session_at) bytes
-
--- how many devices there are, 1 to 4, and as many rows
-abbrev pub few_devices : ℕ → Bool
-few_devices n = nat_lt 0 n && nat_lt n 5
-
-unfoldable pub devices_at : Reader (List DeviceRow)
-devices_at bytes = sized_at (tested_at few_devices (number_at w32)) (λ n. list_at n device_at) bytes
-
--- a state, of which only the counts are tested: six numbers, the sessions and the devices
+-- a state, of which only the counts are tested: its numbers, the sessions and the devices
 abbrev pub StateFields : Type 0
-StateFields = ℕ × (ℕ × (ℕ × (ℕ × (ℕ × (ℕ × (List SessionRow × List DeviceRow))))))
+StateFields = Heads × (List SessionRow × List DeviceRow)
 
 abbrev pub state_with : StateFields → GlobalState
 state_with x = record {
-  index = x.0;
-  master = x.1.0;
-  master_boot = x.1.1.0;
-  term = x.1.1.1.0;
-  term_end = x.1.1.1.1.0;
-  next_session = x.1.1.1.1.1.0;
-  sessions = x.1.1.1.1.1.1.0;
-  devices = x.1.1.1.1.1.1.1;
+  index = x.0.index;
+  master = x.0.master;
+  master_boot = x.0.master_boot;
+  term = x.0.term;
+  term_end = x.0.term_end;
+  next_session = x.0.next_session;
+  sessions = x.1.0;
+  devices = x.1.1;
+}
+
+abbrev pub heads_of : GlobalState → Heads
+heads_of s = record {
+  index = s.index;
+  master = s.master;
+  master_boot = s.master_boot;
+  term = s.term;
+  term_end = s.term_end;
+  next_session = s.next_session;
 }
 
 abbrev pub state_fields : GlobalState → StateFields
-state_fields s = (s.index, (s.master, (s.master_boot, (s.term, (s.term_end, (s.next_session, (s.sessions, s.devices)))))))
+state_fields s = (heads_of s, (s.sessions, s.devices))
 
 unfoldable pub parts_at : Reader GlobalState
-parts_at bytes =
-    as_at state_with (then_at (number_at w64) (then_at (number_at w32) (then_at (number_at w64) (then_at (number_at w64) (then_at (number_at w64) (then_at (number_at w64) (then_at sessions_at devices_at))))))) bytes
-
--- what is tested of a session's row whose numbers fit their fields
-pub record IsPlaced (term_end : ℕ) (row : SessionRow) : Type 0 where
-  pub node : row.node < 4
-  pub slot : row.slot < 8
-  pub until : row.until ≤ term_end
-  pub dead : row.dead < 2
+parts_at bytes = as_at state_with (then_at heads_at (then_at sessions_at devices_at)) bytes
 
 -- what is tested of a state whose numbers fit their fields
 pub record IsSound (s : GlobalState) : Type 0 where
@@ -110,16 +86,6 @@ pub record Begins (state : GlobalState) (bytes rest : List ℕ) : Type 0 where
 abbrev pub NoneBegins : ReadError → List ℕ → Type 0
 NoneBegins errors.OutOfMemory bytes = Unit {0}
 NoneBegins errors.Malformed bytes = (state : GlobalState) (rest : List ℕ) → Begins state bytes rest → ⊥
-
--- a ballot: round, actor and boot
-abbrev pub ballot_with : ℕ × (ℕ × ℕ) → Ballot
-ballot_with x = record { round = x.0; actor = x.1.0; boot = x.1.1 }
-
-abbrev pub ballot_fields : Ballot → ℕ × (ℕ × ℕ)
-ballot_fields ballot = (ballot.round, (ballot.actor, ballot.boot))
-
-unfoldable pub ballot_at : Reader Ballot
-ballot_at bytes = as_at ballot_with (then_at (number_at w64) (then_at (number_at w32) (number_at w64))) bytes
 
 -- what stands before the states in an acceptor's cell
 abbrev pub MarkFields : Type 0

@@ -1,13 +1,13 @@
 -- Which changes of a state are legal, and what they make of it.
-use Rattle.std.specs.Prelude.{◌≡◌, ℕ, zero, suc, ◌+◌, ◌-◌, ◌^◌, ◌<◌, ◌≤◌, Bool, not, ◌==◌, if◌then◌else◌, List, [], ◌∷◌, ◌++◌, ◌⊎◌, map, filter, slice_get, min, max, Option, None, IsSomeAnd, MatchOption}
+use Rattle.std.specs.Prelude.{◌≡◌, ℕ, ◌+◌, ◌-◌, ◌^◌, ◌<◌, ◌≤◌, [], ◌∷◌, ◌++◌, ◌⊎◌, map, slice_get, min, max, Option, None, IsSomeAnd, MatchOption}
 use Rattle.bx_global.specs.declared.change.Change.{Change}
 use Rattle.bx_global.specs.declared.change.Change.TheVariants.{Renew, Take, Open, Expire, Claim, Close, Shift}
-use Rattle.bx_global.specs.declared.device.DeviceRow.{DeviceRow}
-use Rattle.bx_global.specs.declared.session.SessionRow.{SessionRow}
 use Rattle.bx_global.specs.declared.state.GlobalState.{GlobalState}
-use Rattle.bx_global.specs.Modes.{IsReachable}
-use Rattle.bx_global.specs.Rows.{dead, expired, claimed}
-use Rattle.bx_global.specs.Words.{row_in, live_in, IsLive, least_free}
+use Rattle.bx_rows.specs.declared.device.DeviceRow.{DeviceRow}
+use Rattle.bx_rows.specs.declared.session.SessionRow.{SessionRow}
+use Rattle.bx_rows.specs.Modes.{IsReachable}
+use Rattle.bx_rows.specs.Rows.{dead, expired, claimed, without, shifted, at_place}
+use Rattle.bx_rows.specs.Words.{row_in, live_in, IsLive, least_free}
 
 -- the greatest number
 abbrev pub greatest : ℕ
@@ -35,10 +35,6 @@ pub record IsLegal (s : GlobalState) (change : Change) : Type 0 where
   pub index : s.index + 1 ≤ greatest
   pub row : MeetsRow s change
 
--- the rows but that of a session
-abbrev pub without : ℕ → List SessionRow → List SessionRow
-without session rows = filter (λ row. not (row.number == session)) rows
-
 -- the row of a session that is opened
 abbrev pub opened : GlobalState → ℕ → ℕ → ℕ → SessionRow
 opened s node boot reading = record {
@@ -50,17 +46,6 @@ opened s node boot reading = record {
   dead = 0;
   by = 0;
 }
-
--- a device in another mode
-abbrev pub shifted : ℕ → Bool → ℕ → DeviceRow → DeviceRow
-shifted mode second boot row =
-    if second then record row { mode = mode; epoch = row.epoch + 1; boot_b = boot } else record row { mode = mode; epoch = row.epoch + 1; boot_a = boot }
-
--- the rows, of which the one at a place is changed
-abbrev pub at_place : ℕ → (DeviceRow → DeviceRow) → List DeviceRow → List DeviceRow
-at_place n change [] = []
-at_place zero change (row ∷ rows) = change row ∷ rows
-at_place (suc n) change (row ∷ rows) = row ∷ at_place n change rows
 
 -- the state after a change
 abbrev pub effect : GlobalState → Change → GlobalState
@@ -93,3 +78,33 @@ IsAnswer s change made = MatchOption made (IsLegal s change → ⊥) (λ new. Is
 -- a device's row stays, or its mode is one that a step leads to, in the next epoch
 abbrev pub Follows : DeviceRow → DeviceRow → Type 0
 Follows old new = (new ≡ old) ⊎ (IsReachable old.mode new.mode × (new.epoch ≡ old.epoch + 1))
+
+-- a change concerns a session: its row is changed, comes or goes
+abbrev pub Concerns : GlobalState → Change → ℕ → Type 0
+Concerns s (Renew by boot reading) number = ⊥
+Concerns s (Take by boot reading) number = Unit {0}
+Concerns s (Open node boot reading) number = number ≡ s.next_session
+Concerns s (Expire session term reading) number = number ≡ session
+Concerns s (Claim gone by) number = number ≡ gone
+Concerns s (Close gone by) number = number ≡ gone
+Concerns s (Shift device epoch mode second boot) number = ⊥
+
+-- a change closes a session
+abbrev pub Closes : Change → ℕ → Type 0
+Closes (Renew by boot reading) number = ⊥
+Closes (Take by boot reading) number = ⊥
+Closes (Open node boot reading) number = ⊥
+Closes (Expire session term reading) number = ⊥
+Closes (Claim gone by) number = ⊥
+Closes (Close gone by) number = number ≡ gone
+Closes (Shift device epoch mode second boot) number = ⊥
+
+-- a change shifts the device at a place
+abbrev pub Shifts : Change → ℕ → Type 0
+Shifts (Renew by boot reading) n = ⊥
+Shifts (Take by boot reading) n = ⊥
+Shifts (Open node boot reading) n = ⊥
+Shifts (Expire session term reading) n = ⊥
+Shifts (Claim gone by) n = ⊥
+Shifts (Close gone by) n = ⊥
+Shifts (Shift device epoch mode second boot) n = n ≡ device

@@ -3,10 +3,9 @@
 ghost use Rattle.std.specs.Prelude.{◌≡◌, IfOk, replicate};
 ghost use Rattle.bx_global.specs.Opening.{first_device, formatted_state, node_rows, opening_state};
 
-use crate::device::DeviceRow;
-use crate::session::SessionRow;
 use crate::state::GlobalState;
 use bx_base::{List, OutOfMemory};
+use bx_rows::{DeviceRow, SessionRow};
 use std::alloc::Global;
 
 /// When the first sessions end, in milliseconds.

@@ -1,7 +1,7 @@
 //! Changes of the state.
 
 /// A change of the state. Readings are of a clock, in milliseconds.
-#[derive(Clone, Copy, PartialEq, Eq, Debug)]
+#[derive(Clone, Copy, PartialEq, Eq)]
 pub enum Change {
     /// The master prolongs its term.
     Renew {
@@ -27,7 +27,7 @@ pub enum Change {
         node: u32,
         /// Its boot.
         boot: u64,
-        /// The master's clock.
+        /// The node's clock.
         reading: u64,
     },
     /// A session dies once it has ended.

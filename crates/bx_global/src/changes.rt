@@ -4,15 +4,12 @@ ghost use Rattle.std.specs.Prelude.{◌≡◌, ◌+◌, ◌-◌, ◌^◌, ◌<�
 ghost use Rattle.bx_global.specs.Table.{IsAnswer};
 ghost use Rattle.bx_global.specs.declared.change.Change.TheVariants.{Renew, Take, Open, Expire, Claim, Close, Shift};
 
-use crate::device::shifted_row;
-use crate::modes::can_follow;
-use crate::rows::{
-    SLOTS, claimed_sessions, dead_sessions, expired_sessions, find_live, find_row, free_slot,
-    is_live, opened_sessions, other_sessions, same_devices, same_sessions, shifted_devices,
-};
-use crate::session::SessionRow;
 use crate::state::GlobalState;
 use bx_base::{List, OutOfMemory};
+use bx_rows::{
+    NODES, SLOTS, SessionRow, can_follow, claimed_sessions, dead_sessions, expired_sessions,
+    find_live, find_row, free_slot, is_live, opened_sessions, other_sessions, shifted_row,
+};
 use std::alloc::Global;
 
 /// How long a session lasts from the reading that opened it, in milliseconds.
@@ -26,9 +23,6 @@ const SKEW: u64 = 500;
 
 /// How many lock servers there are.
 const SERVERS: u32 = 2;
-
-/// How many nodes there may be.
-pub(crate) const NODES: u32 = 4;
 
 /// The master prolongs its term.
 pub(crate) fn renew(
@@ -46,16 +40,9 @@ pub(crate) fn renew(
     if state.index == u64::MAX || reading > u64::MAX - TERM {
         return Ok(None);
     }
-    Ok(Some(GlobalState {
-        index: state.index + 1,
-        master: state.master,
-        master_boot: state.master_boot,
-        term: state.term,
-        term_end: state.term_end.max(reading + TERM),
-        next_session: state.next_session,
-        sessions: same_sessions(alloc, &state.sessions)?,
-        devices: same_devices(alloc, &state.devices)?,
-    }))
+    let mut new = next(alloc, state)?;
+    new.term_end = state.term_end.max(reading + TERM);
+    Ok(Some(new))
 }
 
 /// A lock server becomes master.
@@ -74,16 +61,13 @@ pub(crate) fn take(
     if state.index == u64::MAX || state.term == u64::MAX || reading > u64::MAX - TERM {
         return Ok(None);
     }
-    Ok(Some(GlobalState {
-        index: state.index + 1,
-        master: by,
-        master_boot: boot,
-        term: state.term + 1,
-        term_end: reading + TERM,
-        next_session: state.next_session,
-        sessions: dead_sessions(alloc, &state.sessions)?,
-        devices: same_devices(alloc, &state.devices)?,
-    }))
+    let sessions = dead_sessions(alloc, state.sessions.items())?;
+    let mut new = with_sessions(alloc, state, sessions)?;
+    new.master = by;
+    new.master_boot = boot;
+    new.term = state.term + 1;
+    new.term_end = reading + TERM;
+    Ok(Some(new))
 }
 
 /// A node opens a session.
@@ -96,8 +80,8 @@ pub(crate) fn open(
 ) -> Result<Option<GlobalState>, OutOfMemory>
     ensures { IfOk result (IsAnswer state.now (Open node boot reading)) }
 {
-    let live = find_live(&state.sessions, node, boot);
-    let slot = free_slot(&state.sessions);
+    let live = find_live(state.sessions.items(), node, boot);
+    let slot = free_slot(state.sessions.items());
     if node >= NODES || reading > state.term_end || live.is_some() || slot >= SLOTS {
         return Ok(None);
     }
@@ -113,16 +97,10 @@ pub(crate) fn open(
         dead: 0,
         by: 0,
     };
-    Ok(Some(GlobalState {
-        index: state.index + 1,
-        master: state.master,
-        master_boot: state.master_boot,
-        term: state.term,
-        term_end: state.term_end,
-        next_session: state.next_session + 1,
-        sessions: opened_sessions(alloc, &state.sessions, row)?,
-        devices: same_devices(alloc, &state.devices)?,
-    }))
+    let sessions = opened_sessions(alloc, state.sessions.items(), row)?;
+    let mut new = with_sessions(alloc, state, sessions)?;
+    new.next_session = state.next_session + 1;
+    Ok(Some(new))
 }
 
 /// A session dies.
@@ -135,7 +113,7 @@ pub(crate) fn expire(
 ) -> Result<Option<GlobalState>, OutOfMemory>
     ensures { IfOk result (IsAnswer state.now (Expire session term reading)) }
 {
-    let Some(row) = find_row(&state.sessions, session) else {
+    let Some(row) = find_row(state.sessions.items(), session) else {
         return Ok(None);
     };
     if term != state.term
@@ -145,7 +123,7 @@ pub(crate) fn expire(
     {
         return Ok(None);
     }
-    let sessions = expired_sessions(alloc, &state.sessions, session)?;
+    let sessions = expired_sessions(alloc, state.sessions.items(), session)?;
     Ok(Some(with_sessions(alloc, state, sessions)?))
 }
 
@@ -158,15 +136,15 @@ pub(crate) fn claim(
 ) -> Result<Option<GlobalState>, OutOfMemory>
     ensures { IfOk result (IsAnswer state.now (Claim dead by)) }
 {
-    let Some(row) = find_row(&state.sessions, dead) else {
+    let Some(row) = find_row(state.sessions.items(), dead) else {
         return Ok(None);
     };
-    let claimed = is_live(&state.sessions, row.by);
-    let lives = is_live(&state.sessions, by);
+    let claimed = is_live(state.sessions.items(), row.by);
+    let lives = is_live(state.sessions.items(), by);
     if row.dead != 1 || claimed || !lives || state.index == u64::MAX {
         return Ok(None);
     }
-    let sessions = claimed_sessions(alloc, &state.sessions, dead, by)?;
+    let sessions = claimed_sessions(alloc, state.sessions.items(), dead, by)?;
     Ok(Some(with_sessions(alloc, state, sessions)?))
 }
 
@@ -179,14 +157,14 @@ pub(crate) fn close(
 ) -> Result<Option<GlobalState>, OutOfMemory>
     ensures { IfOk result (IsAnswer state.now (Close dead by)) }
 {
-    let Some(row) = find_row(&state.sessions, dead) else {
+    let Some(row) = find_row(state.sessions.items(), dead) else {
         return Ok(None);
     };
-    let lives = is_live(&state.sessions, by);
+    let lives = is_live(state.sessions.items(), by);
     if row.dead != 1 || row.by != by || !lives || state.index == u64::MAX {
         return Ok(None);
     }
-    let sessions = other_sessions(alloc, &state.sessions, dead)?;
+    let sessions = other_sessions(alloc, state.sessions.items(), dead)?;
     Ok(Some(with_sessions(alloc, state, sessions)?))
 }
 
@@ -211,16 +189,9 @@ pub(crate) fn shift(
         return Ok(None);
     }
     let new_row = shifted_row(&row, mode, second, boot);
-    Ok(Some(GlobalState {
-        index: state.index + 1,
-        master: state.master,
-        master_boot: state.master_boot,
-        term: state.term,
-        term_end: state.term_end,
-        next_session: state.next_session,
-        sessions: same_sessions(alloc, &state.sessions)?,
-        devices: shifted_devices(alloc, &state.devices, device as usize, new_row)?,
-    }))
+    let mut new = next(alloc, state)?;
+    new.devices.set(device as usize, new_row);
+    Ok(Some(new))
 }
 
 /// Whether a clock's reading is past a moment for every clock.
@@ -242,7 +213,17 @@ fn lease_end(reading: u64, term_end: u64) -> u64
     }
 }
 
-/// The state after one more change that has made these sessions.
+/// The state with an index greater by one.
+fn next(alloc: Global, state: &GlobalState) -> Result<GlobalState, OutOfMemory>
+    requires { state.now.index < 2 ^ 64 - 1 }
+    ensures { IfOk result (λ new. new ≡ record state.now { index = state.now.index + 1 }) }
+{
+    let mut new = state.copy(alloc)?;
+    new.index = state.index + 1;
+    Ok(new)
+}
+
+/// The state with an index greater by one and these sessions.
 fn with_sessions(
     alloc: Global,
     state: &GlobalState,
@@ -259,6 +240,6 @@ fn with_sessions(
         term_end: state.term_end,
         next_session: state.next_session,
         sessions,
-        devices: same_devices(alloc, &state.devices)?,
+        devices: List::of(alloc, state.devices.items())?,
     })
 }

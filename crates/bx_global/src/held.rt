@@ -1,25 +1,25 @@
 //! What an acceptor's cell holds, and its bytes.
 
-ghost use Rattle.std.specs.Prelude.{◌≡◌, ◌++◌, ◌^◌, ◌<◌, IfOk, IfSome, IfNone, MatchResult, ◌↔◌, IsTrue, length};
+ghost use Rattle.std.specs.Prelude.{◌≡◌, ◌++◌, ◌↔◌, IfOk, IfSome, IfNone, IsTrue, MatchResult, OnOk, length};
 ghost use Rattle.bx_fields.specs.Reading.{Gives};
-ghost use Rattle.bx_global.specs.Bytes.{HasCounts, SpellsHeld, held_text};
+ghost use Rattle.bx_global.specs.Bytes.{HasCounts, SpellsHeld, held_text, marks_text};
 ghost use Rattle.bx_global.specs.Reading.{NotHeld, marks_at};
 ghost use Rattle.bx_global.specs.declared.held.Held.{Held};
 
-use crate::ballot::Ballot;
-use crate::reading::{ballot_of, state_of};
+use crate::reading::state_of;
 use crate::state::GlobalState;
-use crate::writing::{push_ballot, push_state};
+use crate::writing::push_state;
 use bx_base::{OutOfMemory, Raw};
 use bx_fields::{ReadError, push_u32, push_u64, u32_at, u64_at};
+use bx_rows::{Ballot, ballot_of, push_ballot};
 use std::alloc::Global;
 
 /// What an acceptor's cell holds.
-#[derive(Debug, Drop)]
+#[derive(Drop)]
 pub struct Held {
     /// The index of the state that is voted on.
     pub index: u64,
-    /// The greatest ballot that it has seen.
+    /// The ballot below which it takes part in nothing.
     pub promise: Ballot,
     /// The ballot in which it accepted a state.
     pub ballot: Ballot,
@@ -60,14 +60,21 @@ impl Held {
         ensures { IfOk result (λ raw. raw ≡ held_text self.now) }
     {
         let mut out = Vec::new(alloc);
-        push_u64(&mut out, self.index)?;
-        push_ballot(&mut out, &self.promise)?;
-        push_ballot(&mut out, &self.ballot)?;
-        push_u32(&mut out, self.flag)?;
+        push_marks(&mut out, self)?;
         push_state(&mut out, &self.accepted)?;
         push_state(&mut out, &self.decided)?;
         Ok(Raw::from(out))
     }
+}
+
+/// Puts what stands before the states at the end.
+fn push_marks(out: &mut Vec<u8>, held: &Held) -> Result<(), OutOfMemory>
+    ensures { OnOk result (out.new.items ≡ out.old.items ++ marks_text held.now) }
+{
+    push_u64(out, held.index)?;
+    push_ballot(out, &held.promise)?;
+    push_ballot(out, &held.ballot)?;
+    push_u32(out, held.flag)
 }
 
 /// What the bytes are; `Malformed` exactly where they aren't what a cell holds on a volume of so many devices.

@@ -1,25 +1,29 @@
-//! Reading a state and a ballot from bytes.
+//! Reading a state from bytes.
 
-ghost use Rattle.std.specs.Prelude.{◌≡◌, IfOk, IfSome, IfNone, MatchResult};
-ghost use Rattle.bx_fields.specs.Reading.{Gives, list_at};
+ghost use Rattle.std.specs.Prelude.{◌≡◌, ◌↔◌, IfOk, IfSome, IfNone, IsTrue, MatchResult};
+ghost use Rattle.bx_fields.specs.Reading.{Gives};
 ghost use Rattle.bx_global.specs.Bytes.{Spells};
-ghost use Rattle.bx_global.specs.Reading.{Begins, NoneBegins, ballot_at, device_at, devices_at, parts_at, session_at, sessions_at};
+ghost use Rattle.bx_global.specs.Reading.{Begins, IsSound, NoneBegins, heads_at, parts_at};
 ghost use Rattle.bx_global.specs.declared.state.GlobalState.{GlobalState};
 
-use crate::ballot::Ballot;
-use crate::checks::is_sound;
-use crate::device::DeviceRow;
-use crate::session::SessionRow;
 use crate::state::GlobalState;
-use bx_base::{List, OutOfMemory};
-use bx_fields::{ReadError, u32_at, u64_at};
+use bx_base::OutOfMemory;
+use bx_fields::{ReadError, u64_at};
+use bx_rows::{
+    are_placed, are_rising, devices_of, have_modes, have_own_slots, pair_of, sessions_of,
+};
 use std::alloc::Global;
 
-/// The most sessions of a state.
-const MOST_SESSIONS: u32 = 8;
-
-/// The most devices of a state.
-const MOST_DEVICES: u32 = 4;
+/// The six numbers of a state.
+#[derive(Clone, Copy)]
+pub(crate) struct Heads {
+    pub(crate) index: u64,
+    pub(crate) master: u32,
+    pub(crate) master_boot: u64,
+    pub(crate) term: u64,
+    pub(crate) term_end: u64,
+    pub(crate) next_session: u64,
+}
 
 impl GlobalState {
     /// The state that these bytes are. `None` exactly where they are no state.
@@ -50,141 +54,56 @@ pub(crate) fn state_of(alloc: Global, bytes: &[u8]) -> Result<(GlobalState, &[u8
     Ok((state, rest))
 }
 
+/// Whether the numbers of a state that was read, which fit their fields, are such as a state has.
+fn is_sound(state: &GlobalState) -> bool
+    ensures { IsTrue result ↔ IsSound state.now }
+{
+    let sessions = state.sessions.items();
+    state.master < 2
+        && are_placed(sessions, state.term_end)
+        && are_rising(sessions, state.next_session)
+        && have_own_slots(sessions)
+        && have_modes(state.devices.items())
+}
+
 /// The fields of a state at the front, and the bytes behind them.
 #[tactic(auto, unfolding(crate::specs::Reading::parts_at))]
 fn parts_of(alloc: Global, bytes: &[u8]) -> Result<(GlobalState, &[u8]), ReadError>
     ensures { Gives (λ x. (x.0, x.1.now)) result (parts_at bytes.now) }
 {
-    let (index, rest) = u64_at(bytes)?;
-    let (master, rest) = u32_at(rest)?;
-    let (master_boot, rest) = u64_at(rest)?;
-    let (term, rest) = u64_at(rest)?;
-    let (term_end, rest) = u64_at(rest)?;
-    let (next_session, rest) = u64_at(rest)?;
+    let (heads, rest) = heads_of(bytes)?;
     let (sessions, rest) = sessions_of(alloc, rest)?;
     let (devices, rest) = devices_of(alloc, rest)?;
     let state = GlobalState {
-        index,
-        master,
-        master_boot,
-        term,
-        term_end,
-        next_session,
+        index: heads.index,
+        master: heads.master,
+        master_boot: heads.master_boot,
+        term: heads.term,
+        term_end: heads.term_end,
+        next_session: heads.next_session,
         sessions,
         devices,
     };
     Ok((state, rest))
 }
 
-/// How many sessions there are and their rows at the front, and the bytes behind them.
-#[tactic(auto, unfolding(crate::specs::Reading::sessions_at))]
-fn sessions_of(alloc: Global, bytes: &[u8]) -> Result<(List<SessionRow>, &[u8]), ReadError>
-    ensures { Gives (λ x. (x.0, x.1.now)) result (sessions_at bytes.now) }
+/// The six numbers of a state at the front, and the bytes behind them.
+#[tactic(auto, unfolding(crate::specs::Reading::heads_at))]
+fn heads_of(bytes: &[u8]) -> Result<(Heads, &[u8]), ReadError>
+    ensures { Gives (λ x. (x.0, x.1.now)) result (heads_at bytes.now) }
 {
-    let (count, rest) = u32_at(bytes)?;
-    if count > MOST_SESSIONS {
-        return Err(ReadError::Malformed);
-    }
-    session_rows(alloc, count, rest)
-}
-
-/// As many rows of sessions as are wanted, and the bytes behind them.
-fn session_rows(
-    alloc: Global,
-    count: u32,
-    bytes: &[u8],
-) -> Result<(List<SessionRow>, &[u8]), ReadError>
-    ensures { Gives (λ x. (x.0, x.1.now)) result (list_at count session_at bytes.now) }
-{
-    let mut rows = List::new(alloc);
-    let mut rest = bytes;
-    for _ in 0..count {
-        let (row, after) = session_of(rest)?;
-        rows.push(row)?;
-        rest = after;
-    }
-    Ok((rows, rest))
-}
-
-/// The row of a session at the front, and the bytes behind it.
-#[tactic(auto, unfolding(crate::specs::Reading::session_at))]
-fn session_of(bytes: &[u8]) -> Result<(SessionRow, &[u8]), ReadError>
-    ensures { Gives (λ x. (x.0, x.1.now)) result (session_at bytes.now) }
-{
-    let (number, rest) = u64_at(bytes)?;
-    let (node, rest) = u32_at(rest)?;
-    let (boot, rest) = u64_at(rest)?;
-    let (slot, rest) = u32_at(rest)?;
-    let (until, rest) = u64_at(rest)?;
-    let (dead, rest) = u32_at(rest)?;
-    let (by, rest) = u64_at(rest)?;
-    let row = SessionRow {
-        number,
-        node,
-        boot,
-        slot,
-        until,
-        dead,
-        by,
+    let (index, rest) = u64_at(bytes)?;
+    let ((master, master_boot), rest) = pair_of(rest)?;
+    let (term, rest) = u64_at(rest)?;
+    let (term_end, rest) = u64_at(rest)?;
+    let (next_session, rest) = u64_at(rest)?;
+    let heads = Heads {
+        index,
+        master,
+        master_boot,
+        term,
+        term_end,
+        next_session,
     };
-    Ok((row, rest))
-}
-
-/// How many devices there are and their rows at the front, and the bytes behind them.
-#[tactic(auto, unfolding(crate::specs::Reading::devices_at))]
-fn devices_of(alloc: Global, bytes: &[u8]) -> Result<(List<DeviceRow>, &[u8]), ReadError>
-    ensures { Gives (λ x. (x.0, x.1.now)) result (devices_at bytes.now) }
-{
-    let (count, rest) = u32_at(bytes)?;
-    if count == 0 || count > MOST_DEVICES {
-        return Err(ReadError::Malformed);
-    }
-    device_rows(alloc, count, rest)
-}
-
-/// As many rows of devices as are wanted, and the bytes behind them.
-fn device_rows(
-    alloc: Global,
-    count: u32,
-    bytes: &[u8],
-) -> Result<(List<DeviceRow>, &[u8]), ReadError>
-    ensures { Gives (λ x. (x.0, x.1.now)) result (list_at count device_at bytes.now) }
-{
-    let mut rows = List::new(alloc);
-    let mut rest = bytes;
-    for _ in 0..count {
-        let (row, after) = device_of(rest)?;
-        rows.push(row)?;
-        rest = after;
-    }
-    Ok((rows, rest))
-}
-
-/// The row of a device at the front, and the bytes behind it.
-#[tactic(auto, unfolding(crate::specs::Reading::device_at))]
-fn device_of(bytes: &[u8]) -> Result<(DeviceRow, &[u8]), ReadError>
-    ensures { Gives (λ x. (x.0, x.1.now)) result (device_at bytes.now) }
-{
-    let (mode, rest) = u32_at(bytes)?;
-    let (epoch, rest) = u64_at(rest)?;
-    let (boot_a, rest) = u64_at(rest)?;
-    let (boot_b, rest) = u64_at(rest)?;
-    let row = DeviceRow {
-        mode,
-        epoch,
-        boot_a,
-        boot_b,
-    };
-    Ok((row, rest))
-}
-
-/// The ballot at the front, and the bytes behind it.
-#[tactic(auto, unfolding(crate::specs::Reading::ballot_at))]
-pub(crate) fn ballot_of(bytes: &[u8]) -> Result<(Ballot, &[u8]), ReadError>
-    ensures { Gives (λ x. (x.0, x.1.now)) result (ballot_at bytes.now) }
-{
-    let (round, rest) = u64_at(bytes)?;
-    let (actor, rest) = u32_at(rest)?;
-    let (boot, rest) = u64_at(rest)?;
-    Ok((Ballot { round, actor, boot }, rest))
+    Ok((heads, rest))
 }

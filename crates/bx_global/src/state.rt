@@ -1,17 +1,17 @@
 //! The state.
 
-ghost use Rattle.std.specs.Prelude.{IfOk};
+ghost use Rattle.std.specs.Prelude.{◌≡◌, IfOk};
+ghost use Rattle.bx_global.specs.Allowed.{IsChange};
 ghost use Rattle.bx_global.specs.Table.{IsAnswer};
 
 use crate::change::Change;
 use crate::changes::{claim, close, expire, open, renew, shift, take};
-use crate::device::DeviceRow;
-use crate::session::SessionRow;
 use bx_base::{List, OutOfMemory};
+use bx_rows::{DeviceRow, SessionRow};
 use std::alloc::Global;
 
 /// The state that the cluster decides on.
-#[derive(Debug, Drop)]
+#[derive(Drop)]
 pub struct GlobalState {
     /// How many changes led to it, from 1 on.
     pub index: u64,
@@ -32,13 +32,31 @@ pub struct GlobalState {
 }
 
 impl GlobalState {
-    /// The state after a change; `None` exactly where the change isn't legal.
+    /// A copy.
+    pub fn copy(&self, alloc: Global) -> Result<GlobalState, OutOfMemory>
+        ensures { IfOk result (λ new. new ≡ self.now) }
+    {
+        Ok(GlobalState {
+            sessions: List::of(alloc, self.sessions.items())?,
+            devices: List::of(alloc, self.devices.items())?,
+            index: self.index,
+            master: self.master,
+            master_boot: self.master_boot,
+            term: self.term,
+            term_end: self.term_end,
+            next_session: self.next_session,
+        })
+    }
+
+    /// The state after a change; `None` exactly where the change isn't legal. Every change has numbers that a state may
+    /// have, so a state that meets the conditions is followed by one that meets them (`stays_allowed`).
     pub fn changed(
         &self,
         alloc: Global,
         change: &Change,
     ) -> Result<Option<GlobalState>, OutOfMemory>
-        ensures { IfOk result (IsAnswer self.now change.now) }
+        ensures answer { IfOk result (IsAnswer self.now change.now) }
+        ensures numbers { IsChange change.now }
     {
         match *change {
             Change::Renew { by, boot, reading } => renew(alloc, self, by, boot, reading),

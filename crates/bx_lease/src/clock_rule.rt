@@ -15,7 +15,7 @@ const ALLOWED: u64 = 500;
 pub struct BackBy(pub u64);
 
 /// The rule for readings of clocks. Contracts see it as the greatest reading so far, in milliseconds.
-#[derive(Clone, Copy, PartialEq, Eq, Debug)]
+#[derive(Clone, Copy, PartialEq, Eq)]
 pub struct ClockRule {
     greatest: u64,
 }

@@ -10,7 +10,7 @@ const PATIENCE: u64 = 2000;
 
 /// When each of eight machines, 0 to 7, was last heard, in milliseconds. Contracts see the list of the eight
 /// readings.
-#[derive(Clone, Copy, PartialEq, Eq, Debug)]
+#[derive(Clone, Copy, PartialEq, Eq)]
 pub struct Detector {
     last: [u64; 8],
 }

@@ -6,6 +6,3 @@ mod detector;
 
 pub use clock_rule::{BackBy, ClockRule};
 pub use detector::Detector;
-
-#[cfg(test)]
-mod tests;

@@ -11,7 +11,7 @@ use bx_base::Raw;
 use std::hash::{Hash, Hasher};
 
 /// Whose call it is, and its bytes. Calls are the same where both are.
-#[derive(Debug, Drop)]
+#[derive(Drop)]
 pub struct Call {
     pub client: u32,
     pub bytes: Raw,

@@ -5,6 +5,3 @@ mod call;
 mod replies;
 
 pub use replies::Replies;
-
-#[cfg(test)]
-mod tests;

@@ -15,7 +15,7 @@ use std::num::NonZeroUsize;
 const MOST: usize = 256;
 
 /// The answers that are kept, at most 256. Contracts see them as a list in the order of keeping, the oldest first.
-#[derive(Debug, Drop)]
+#[derive(Drop)]
 pub struct Replies {
     cache: LruCache<Call, Raw>,
 }

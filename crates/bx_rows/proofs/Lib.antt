@@ -1,0 +1,4 @@
+pub mod Ballots
+pub mod Fields
+pub mod Loops
+pub mod Pushed

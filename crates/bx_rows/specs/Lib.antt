@@ -1,0 +1,7 @@
+pub mod Ballots
+pub mod Conditions
+pub mod Modes
+pub mod Reading
+pub mod Rows
+pub mod Spelling
+pub mod Words

@@ -3,10 +3,10 @@ use Rattle.std.specs.Prelude.{◌≡◌, ◌≢◌, ℕ, ◌+◌, ◌/◌, ◌<�
 use Rattle.std.proofs.Common.{arith, inl, inr, ⊎_elim, sym, subst, ap, ◌∙◌, ◌*◌, ◌-◌, replicate, take}
 use Rattle.std.proofs.lemmas.List.{drop-replicate, take-replicate, length-take-le}
 use Rattle.std.proofs.lemmas.Bool.Decides.{nat_tests}
-use Rattle.bx_disk.specs.Disks.{Image, Disks, IsImage, Stays, IsTorn, MayBeWritten, is_within, written, sector_of, zeros}
+use Rattle.bx_disk.specs.Disks.{Image, Disks, IsImage, Stays, MayBeWritten, is_within, written, sector_of, zeros}
 use Rattle.bx_disk.specs.Moments.{Elapses}
 use Rattle.bx_calls.specs.Regions.{EachOutside, IsInside, AreApart, ReadsAs, IsZero, IsSure, IsSynced}
-use Rattle.bx_calls.specs.Calls.{KeepsSure, KeepsAll, HasSure, LeavesOnly}
+use Rattle.bx_calls.specs.Calls.{KeepsSure, KeepsAll, WritesOnly, HasSure, LeavesOnly}
 
 -- A sector is outside exactly where it isn't within.
 pub outside_at : (disk sector count : ℕ) (P : ℕ → ℕ → Type 0) → EachOutside disk sector count P → (d s : ℕ) → is_within disk sector count d s ≡ false → P d s
@@ -163,31 +163,32 @@ pub keeps_torn : (old new : Disks) (disk sector count : ℕ) → MayBeWritten ol
 keeps_torn old new disk sector count torn = grind (arith, nat_tests)
 
 -- what may be written in a region, and then in a part of it
+pub only_may : (old new : Disks) (disk sector count : ℕ) → WritesOnly old new disk sector count → MayBeWritten old new disk sector count
+unfolding WritesOnly
+only_may old new disk sector count only = only
+
+pub may_only : (old new : Disks) (disk sector count : ℕ) → MayBeWritten old new disk sector count → WritesOnly old new disk sector count
+unfolding WritesOnly
+may_only old new disk sector count may = may
+
 stays_then : (old mid new : Disks) (d s : ℕ) → Stays old mid d s → Stays mid new d s → Stays old new d s
 stays_then old mid new d s first next = record { reads = next.reads ∙ first.reads; held = next.held ∙ first.held; unsure = next.unsure ∙ first.unsure }
-
--- a sector that was torn or stayed, and then stays
-torn_stays : (old mid new : Disks) (d s : ℕ) → IsTorn old mid d s ⊎ Stays old mid d s → Stays mid new d s → IsTorn old new d s ⊎ Stays old new d s
-torn_stays old mid new d s first next = ⊎_elim
-    (λ torn. inl (record { unsure = next.unsure ∙ torn.unsure; held = next.held ∙ torn.held }))
-    (λ stays. inr (stays_then old mid new d s stays next)) first
-
--- and one that is torn then
-torn_again : (old mid new : Disks) (d s : ℕ) → IsTorn old mid d s ⊎ Stays old mid d s → IsTorn mid new d s → IsTorn old new d s
-torn_again old mid new d s first next = record { unsure = next.unsure; held = next.held ∙ ⊎_elim (λ torn. torn.held) (λ stays. stays.held) first }
 
 pub may_part : (old mid new : Disks) (disk sector count part_disk part_sector part_count : ℕ)
     → MayBeWritten old mid disk sector count → MayBeWritten mid new part_disk part_sector part_count → IsInside part_disk part_sector part_count disk sector count
     → MayBeWritten old new disk sector count
 may_part old mid new disk sector count part_disk part_sector part_count first next inside = record {
   sizes = next.sizes ∙ first.sizes;
-  within = λ d s within. in_part d s (is_within part_disk part_sector part_count d s) refl (first.within d s within);
+  held = λ d s. next.held d s ∙ first.held d s;
+  sure = λ d s within sure.
+      let last = stayed d s (is_within part_disk part_sector part_count d s) refl sure in
+      stays_then old mid new d s (first.sure d s within (sym last.unsure ∙ sure)) last;
   beyond = λ d s beyond. stays_then old mid new d s (first.beyond d s beyond) (next.beyond d s (out_of_part d s (is_within part_disk part_sector part_count d s) refl beyond));
 }
   where
-    in_part : (d s : ℕ) (b : Bool) → is_within part_disk part_sector part_count d s ≡ b → IsTorn old mid d s ⊎ Stays old mid d s → IsTorn old new d s ⊎ Stays old new d s
-    in_part d s true is was = ⊎_elim (λ torn. inl (torn_again old mid new d s was torn)) (torn_stays old mid new d s was) (next.within d s is)
-    in_part d s false is was = torn_stays old mid new d s was (next.beyond d s is)
+    stayed : (d s : ℕ) (b : Bool) → is_within part_disk part_sector part_count d s ≡ b → new.unsure d s ≡ false → Stays mid new d s
+    stayed d s true is sure = next.sure d s is sure
+    stayed d s false is sure = next.beyond d s is
 
     out_of_part : (d s : ℕ) (b : Bool) → is_within part_disk part_sector part_count d s ≡ b → is_within disk sector count d s ≡ false → is_within part_disk part_sector part_count d s ≡ false
     out_of_part d s true is beyond = let in_it = inside.each d s is in absurd (cc)

@@ -1,11 +1,11 @@
 //! Regions of zeros.
 
-ghost use Rattle.std.specs.Prelude.{◌≡◌, ℕ, ◌+◌, ◌*◌, ◌/◌, ◌%◌, ◌<◌, ◌≤◌, length, replicate, slice_index, OnOk, IsErrOf};
+ghost use Rattle.std.specs.Prelude.{◌≡◌, ℕ, ◌+◌, ◌*◌, ◌/◌, ◌%◌, ◌<◌, ◌≤◌, length, replicate, slice_index, OnOk, OnErr, IsErrOf};
 ghost use Rattle.bx_disk.specs.declared.fault.RackError.TheVariants.{Fault, OutOfMemory};
 ghost use Rattle.bx_disk.specs.Disks.{MayBeWritten};
 ghost use Rattle.bx_disk.specs.Counts.{NoneFalls, NoneRose, BothRose};
 ghost use Rattle.bx_calls.specs.Regions.{IsZero};
-ghost use Rattle.bx_calls.specs.Calls.{KeepsSure, HasSure, LeavesOnly};
+ghost use Rattle.bx_calls.specs.Calls.{KeepsSure, WritesOnly, HasSure, LeavesOnly};
 
 use crate::calls::write_some;
 use bx_disk::{Rack, RackError};
@@ -14,6 +14,7 @@ use bx_disk::{Rack, RackError};
 const PIECE: u64 = 64;
 
 /// Writes zeros to sectors.
+#[tactic(auto, unfolding(crate::specs::Calls::WritesOnly))]
 fn write_zeros<R: Rack>(rack: &mut R, disk: u32, sector: u64, zeros: &[u8]) -> Result<(), RackError>
     requires disk { disk < length (R.state rack.old).sizes }
     requires whole { length zeros.now % 512 ≡ 0 }
@@ -69,6 +70,7 @@ fn zero_pieces<R: Rack>(
 
 /// Zeroes sectors by writes of at most 64. Each of them is unsure from then on and still has what it held at its last
 /// sync, or is as it was, also after an error.
+#[tactic(auto, unfolding(crate::specs::Calls::WritesOnly))]
 pub fn zero_sectors<R: Rack>(
     rack: &mut R,
     disk: u32,
@@ -80,7 +82,8 @@ pub fn zero_sectors<R: Rack>(
     ensures zero { R.tells rack.old → OnOk result (IsZero (R.state rack.new).reads disk sector count) }
     ensures keeps { R.tells rack.old → KeepsSure (R.state rack.old) (R.state rack.new) disk sector count }
     ensures any_moment { R.tells rack.old → LeavesOnly (R.moment rack.old) (R.moment rack.new) (R.left_since rack.old) (R.left_since rack.new) (HasSure (R.state rack.old) disk sector count) }
-    ensures torn { R.tells rack.old → MayBeWritten (R.state rack.old) (R.state rack.new) disk sector count }
+    ensures only { R.tells rack.old → WritesOnly (R.state rack.old) (R.state rack.new) disk sector count }
+    ensures torn { R.tells rack.old → OnErr result (MayBeWritten (R.state rack.old) (R.state rack.new) disk sector count) }
     ensures cause { IsErrOf result Fault → BothRose (R.faults rack.old) (R.faults rack.new) (R.faults_of rack.old) (R.faults_of rack.new) disk }
     ensures later { NoneFalls (R.faults rack.old) (R.faults rack.new) (R.faults_of rack.old) (R.faults_of rack.new) }
     ensures memory_counts { IsErrOf result OutOfMemory → NoneRose (R.faults rack.old) (R.faults rack.new) (R.faults_of rack.old) (R.faults_of rack.new) }

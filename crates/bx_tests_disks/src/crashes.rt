@@ -1,6 +1,9 @@
 //! A run that is stopped at each of its calls, and then crashes in each way, beside a plain reading of it.
 
-use crate::{CrashRack, MemRack, Noise, Rack, StopRack};
+use crate::steps::{crashes, fills, syncs};
+use bx_base::OutOfMemory;
+use bx_disk::{MemRack, Noise, Rack, StopRack};
+use std::alloc::Global;
 use std::test::Fail;
 
 /// A call of the run.
@@ -82,34 +85,6 @@ impl Plain {
     }
 }
 
-fn make(rack: &mut StopRack<MemRack>, call: Call) -> bool {
-    match call {
-        Call::Write(disk, sector, byte) => {
-            disk < rack.disks()
-                && sector < rack.sectors(disk)
-                && rack.write(disk, sector, &[byte; 512]).is_ok()
-        }
-        Call::Sync(disk) => disk < rack.disks() && rack.sync(disk).is_ok(),
-    }
-}
-
-fn crash(rack: &mut MemRack, disk: u32, how: Noise) -> bool {
-    disk < rack.disks() && rack.crash(disk, how).is_ok()
-}
-
-/// The first byte of a sector, its last, and the sum of all.
-fn content(rack: &mut MemRack, disk: u32, sector: u64) -> Option<(u8, u8, u32)> {
-    let mut into = [0; 512];
-    if disk >= rack.disks() || sector >= rack.sectors(disk) {
-        return None;
-    }
-    rack.read(disk, sector, &mut into).ok()?;
-    let sum = into
-        .iter()
-        .fold(0u32, |sum, byte| sum.wrapping_add(u32::from(*byte)));
-    Some((into[0], into[511], sum))
-}
-
 fn blank_sectors() -> [Plain; 8] {
     [
         Plain::blank(0, 0),
@@ -123,38 +98,79 @@ fn blank_sectors() -> [Plain; 8] {
     ]
 }
 
+/// How many sectors of a disk before this one are unsure.
 fn unsure_before(all: &[Plain], place: &Plain) -> usize {
     all.iter()
         .filter(|other| other.disk == place.disk && other.sector < place.sector && other.unsure)
         .count()
 }
 
+fn make(rack: &mut StopRack<MemRack>, call: Call) -> bool {
+    match call {
+        Call::Write(disk, sector, byte) => fills(rack, disk, sector, byte),
+        Call::Sync(disk) => syncs(rack, disk),
+    }
+}
+
+/// Makes the calls of the run on a rack that stops after so many, and on the plain sectors. Says whether those and no
+/// others went well.
+fn runs(rack: &mut StopRack<MemRack>, plain: &mut [Plain], stop: usize) -> bool {
+    let mut as_said = true;
+    for (number, call) in RUN.iter().enumerate() {
+        let done = make(rack, *call);
+        as_said = as_said && done == (number < stop);
+        if done {
+            for place in plain.iter_mut() {
+                *place = place.after(*call);
+            }
+        }
+    }
+    as_said
+}
+
+/// The first byte of a sector, its last, and the sum of all.
+fn content(rack: &mut MemRack, disk: u32, sector: u64) -> Option<(u8, u8, u32)> {
+    let mut into = [0; 512];
+    if disk >= rack.disks()
+        || sector >= rack.sectors(disk)
+        || rack.read(disk, sector, &mut into).is_err()
+    {
+        return None;
+    }
+    let sum = into
+        .iter()
+        .fold(0u32, |sum, byte| sum.wrapping_add(u32::from(*byte)));
+    Some((into[0], into[511], sum))
+}
+
+/// Whether each sector is what the plain reading says of a crash.
+fn are_crashed(rack: &mut MemRack, plain: &[Plain], how: Noise) -> bool {
+    let mut as_said = true;
+    for place in plain {
+        let said = place.crashed(how, unsure_before(plain, place));
+        as_said = as_said && content(rack, place.disk, place.sector) == said;
+    }
+    as_said
+}
+
+/// Whether the run, stopped after so many calls, and then a crash leave what the plain reading says.
+fn is_as_said(alloc: Global, how: Noise, stop: usize) -> Result<bool, OutOfMemory> {
+    let mut plain = blank_sectors();
+    let mut stopping = StopRack::new(MemRack::new(alloc, &[4, 4], &[])?, stop as u64);
+    let ran = runs(&mut stopping, &mut plain, stop);
+    let mut rack = stopping.into_inner();
+    Ok(
+        ran && crashes(&mut rack, 0, how)
+            && crashes(&mut rack, 1, how)
+            && are_crashed(&mut rack, &plain, how),
+    )
+}
+
 #[test]
 fn a_crash_leaves_what_a_plain_reading_says(rt: HostRuntime) -> Result<(), Fail> {
     for how in [Noise::Keep, Noise::Drop, Noise::Seed(7)] {
         for stop in 0..=RUN.len() {
-            let mut rack = StopRack::new(MemRack::new(rt.alloc(), &[4, 4], &[])?, stop as u64);
-            let mut plain = blank_sectors();
-            for (number, call) in RUN.iter().enumerate() {
-                let done = make(&mut rack, *call);
-                assert_eq!(rt; done, number < stop);
-                if done {
-                    for place in plain.iter_mut() {
-                        *place = place.after(*call);
-                    }
-                }
-            }
-            let mut rack = rack.into_inner();
-            assert!(rt; crash(&mut rack, 0, how) && crash(&mut rack, 1, how));
-            for place in plain.iter() {
-                assert_eq!(rt;
-                    content(&mut rack, place.disk, place.sector),
-                    place.crashed(how, unsure_before(&plain, place)),
-                    "{how:?} after {stop} at {} {}",
-                    place.disk,
-                    place.sector
-                );
-            }
+            assert!(rt; is_as_said(rt.alloc(), how, stop)?, "after {stop} calls");
         }
     }
     Ok(())
@@ -165,17 +181,32 @@ const LAST: [u8; 12] = [238, 64, 150, 56, 229, 62, 104, 15, 19, 243, 180, 145];
 
 const FIRST: [u8; 12] = [248, 47, 111, 175, 202, 143, 102, 45, 178, 50, 193, 177];
 
+/// Fills two sectors of a disk of four, one of them before the other, and lets it crash.
+fn crash_two(rack: &mut MemRack) -> bool {
+    fills(rack, 0, 3, 1) && fills(rack, 0, 1, 1) && crashes(rack, 0, Noise::Seed(7))
+}
+
+/// Whether the first sector of the noise ends so.
+fn ends_so(rack: &mut MemRack) -> bool {
+    let mut into = [0; 512];
+    rack.disks() == 1
+        && rack.sectors(0) == 4
+        && rack.read(0, 1, &mut into).is_ok()
+        && into.ends_with(&LAST)
+}
+
+/// Whether the second one starts so.
+fn starts_so(rack: &mut MemRack) -> bool {
+    let mut into = [0; 512];
+    rack.disks() == 1
+        && rack.sectors(0) == 4
+        && rack.read(0, 3, &mut into).is_ok()
+        && into.starts_with(&FIRST)
+}
+
 #[test]
 fn noise_goes_on_in_the_next_unsure_sector(rt: HostRuntime) -> Result<(), Fail> {
     let mut rack = MemRack::new(rt.alloc(), &[4], &[])?;
-    assert!(rt; rack.write(0, 3, &[1; 512]).is_ok());
-    assert!(rt; rack.write(0, 1, &[1; 512]).is_ok());
-    assert!(rt; rack.crash(0, Noise::Seed(7)).is_ok());
-    let mut first = [0; 512];
-    assert!(rt; rack.read(0, 1, &mut first).is_ok());
-    assert!(rt; first.ends_with(&LAST));
-    let mut next = [0; 512];
-    assert!(rt; rack.read(0, 3, &mut next).is_ok());
-    assert!(rt; next.starts_with(&FIRST));
+    assert!(rt; crash_two(&mut rack) && ends_so(&mut rack) && starts_so(&mut rack));
     Ok(())
 }

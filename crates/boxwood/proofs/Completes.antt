@@ -7,13 +7,13 @@ use Rattle.std.proofs.lemmas.List.{append-nil, length-map}
 use Rattle.bx_base.specs.Faults.{Rose}
 use Rattle.bx_base.specs.Text.{lines_of}
 use Rattle.bx_script.specs.declared.line.Line.{Line}
-use Rattle.bx_script.specs.declared.line.Line.TheVariants.{Call}
+use Rattle.bx_script.specs.declared.line.Line.TheVariants.{Heading, Call, Run}
 use Rattle.bx_script.specs.ScheduleLine.{spelling}
 use Rattle.bx_script.specs.Schedule.{BeginsSchedule, HasPlace, IsSchedule}
 use Rattle.bx_script.proofs.Spelled.{spelling_injective}
 use Rattle.bx_replay.specs.declared.stop.Reason.{Reason}
 use Rattle.bx_replay.specs.declared.stop.Reason.TheVariants.{Grammar, NotBuilt}
-use Rattle.bx_replay.specs.Headline.{IsServedLine}
+use Rattle.bx_replay.specs.Headline.{IsBuilt, IsServedLine}
 use Rattle.bx_replay.specs.declared.stop.Stop.{Stop}
 use Rattle.bx_replay.specs.declared.stop.Stop.TheVariants as stops
 use Rattle.bx_replay.specs.Outcome.{IsBroken, IsFirstRefused, IsRefused, IsRefusedAt, IsServedSchedule}
@@ -64,6 +64,11 @@ found (x ∷ schedule) (f ∷ front) line others e begins served =
     let rest = later schedule front line others (tail_is (spelling x) f (map spelling schedule) (front ++ line ∷ others) e) begins.1 served.1 in
     record { value = rest.value; place = rw (ne_eqb (length (f ∷ front)) 0 (λ z. omega arith)) rest.place; served = rest.served; spelled = rest.spelled; within = let w = rest.within in omega arith }
 
+served_built : (line : Line) → IsServedLine line → IsBuilt line
+served_built (Heading volume nodes devices areas) served = served
+served_built (Call reading node client datagram) served = served.0
+served_built (Run reading limit) served = tt
+
 none_refused : (schedule done : List Line) (others : List (List ℕ)) (reason : Reason) → map spelling schedule ≡ map spelling done ++ others
     → BeginsSchedule schedule → 0 < length schedule → length schedule ≤ 4294967295 → AllByRecursion IsServedLine schedule
     → IsRefusedAt done others reason → ⊥
@@ -76,14 +81,14 @@ none_refused schedule done (line ∷ others) Grammar e begins headed few served 
     let long : length (map spelling done) ≡ length done = length-map done spelling in
     elim refused [
       | inl many ↦ (let w = at.within in omega (arith, long))
-      | inr none ↦ none at.value (rw long at at.place) at.spelled
+      | inr none ↦ none at.value (rw long at at.place, served_built at.value at.served) at.spelled
     ]
 none_refused schedule done (line ∷ others) NotBuilt e begins headed few served refused =
     let at = found schedule (map spelling done) line others e begins served in
     let long : length (map spelling done) ≡ length done = length-map done spelling in
     let call = Call refused.1.reading refused.1.node refused.1.client refused.1.datagram in
-    let same : at.value ≡ call = spelling_injective at.value call at.place.0 refused.1.in_place.0 (sym at.spelled ∙ refused.1.spelled) in
-    refused.1.unserved (rw same at at.served)
+    let same : at.value ≡ call = spelling_injective at.value call at.place.0 refused.1.in_place.0.0 (sym at.spelled ∙ refused.1.spelled) in
+    refused.1.unserved (rw same at at.served).1
 
 not_refused : (text : List ℕ) (schedule : List Line) (number : ℕ) (reason : Reason)
     → IsSchedule (lines_of text) schedule → AllByRecursion IsServedLine schedule → IsFirstRefused text number reason → ⊥
@@ -139,6 +144,7 @@ refused_breaks text old new number reason wrote = record {
     done = wrote.holds.first.done;
     others = wrote.holds.first.others;
     trace = wrote.holds.trace;
+    closing = [];
     last = wrote.holds.last;
     more = [];
     read = wrote.holds.first.read;

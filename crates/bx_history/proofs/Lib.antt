@@ -2,3 +2,6 @@ pub mod Numbering
 pub mod Answered
 pub mod Whole
 pub mod Spelled
+pub mod Once
+pub mod Fronts
+pub mod Cases

@@ -11,68 +11,68 @@ chosen : {A : Type 0} (b : Bool) (x : A) (other : Option A) (y : A) → cond b (
 chosen true x other y e = inl (refl, cc)
 chosen false x other y e = inr e
 
-pub taking_bound : (trace : List TraceLine) (history : List Entry) (call : ℕ) (taking : Taking) → FitsNewest trace history → taking_of trace call ≡ Some taking → call ≤ taken_count trace
-taking_bound [] history call taking fits e = absurd cc
-taking_bound (Took number node client bytes ∷ older) history call taking fits e =
+pub taking_bound : (kept : ℕ) (trace : List TraceLine) (history : List Entry) (call : ℕ) (taking : Taking) → FitsNewest kept trace history → taking_of trace call ≡ Some taking → call ≤ taken_count trace
+taking_bound kept [] history call taking fits e = absurd cc
+taking_bound kept (Took number node client bytes ∷ older) history call taking fits e =
     elim (chosen (eqb number call) (record { call = number; node = node; client = client; bytes = bytes }) (taking_of older call) taking e) [
       | inl here ↦ let same = eqb-true number call here.0 in omega (arith, fits.0)
-      | inr there ↦ let below = taking_bound older history call taking fits.1 there in omega arith
+      | inr there ↦ let below = taking_bound kept older history call taking fits.1 there in omega arith
     ]
-taking_bound (Acted point ∷ older) [] call taking fits e = absurd fits
-taking_bound (Acted point ∷ older) (entry ∷ earlier) call taking fits e = taking_bound older earlier call taking fits.1 e
-taking_bound (Reply number reply ∷ older) history call taking fits e = taking_bound older history call taking fits.1 e
-taking_bound (Again node client reply ∷ older) history call taking fits e = taking_bound older history call taking fits.1 e
+taking_bound kept (Acted point ∷ older) [] call taking fits e = absurd fits
+taking_bound kept (Acted point ∷ older) (entry ∷ earlier) call taking fits e = taking_bound kept older earlier call taking fits.1 e
+taking_bound kept (Reply number reply ∷ older) history call taking fits e = taking_bound kept older history call taking fits.1 e
+taking_bound kept (Again node client reply ∷ older) history call taking fits e = taking_bound kept older history call taking fits.1 e
 
-pub point_bound : (trace : List TraceLine) (history : List Entry) (call : ℕ) → FitsNewest trace history → has_point trace call ≡ true → call ≤ taken_count trace
-point_bound [] history call fits e = absurd cc
-point_bound (Took number node client bytes ∷ older) history call fits e = let below = point_bound older history call fits.1 e in omega arith
-point_bound (Acted point ∷ older) [] call fits e = absurd fits
-point_bound (Acted point ∷ older) (entry ∷ earlier) call fits e =
+pub point_bound : (kept : ℕ) (trace : List TraceLine) (history : List Entry) (call : ℕ) → FitsNewest kept trace history → has_point trace call ≡ true → call ≤ taken_count trace
+point_bound kept [] history call fits e = absurd cc
+point_bound kept (Took number node client bytes ∷ older) history call fits e = let below = point_bound kept older history call fits.1 e in omega arith
+point_bound kept (Acted point ∷ older) [] call fits e = absurd fits
+point_bound kept (Acted point ∷ older) (entry ∷ earlier) call fits e =
     elim (or_cases (eqb point.call call) (has_point older call) e) [
       | inl here ↦
           let same = eqb-true point.call call here in
-          let below = taking_bound older earlier point.call fits.0.taking fits.1 fits.0.taken in
+          let below = taking_bound kept older earlier point.call fits.0.taking fits.1 fits.0.taken in
           omega arith
-      | inr there ↦ point_bound older earlier call fits.1 there
+      | inr there ↦ point_bound kept older earlier call fits.1 there
     ]
-point_bound (Reply number reply ∷ older) history call fits e = point_bound older history call fits.1 e
-point_bound (Again node client reply ∷ older) history call fits e = point_bound older history call fits.1 e
+point_bound kept (Reply number reply ∷ older) history call fits e = point_bound kept older history call fits.1 e
+point_bound kept (Again node client reply ∷ older) history call fits e = point_bound kept older history call fits.1 e
 
-pub entry_bound : (trace : List TraceLine) (history : List Entry) (call : ℕ) (found : Entry) → FitsNewest trace history → entry_of history call ≡ Some found → call ≤ taken_count trace
-entry_bound [] history call found fits e = absurd (let none : entry_of history call ≡ None = ap (λ (h : List Entry). entry_of h call) fits in cc)
-entry_bound (Took number node client bytes ∷ older) history call found fits e = let below = entry_bound older history call found fits.1 e in omega arith
-entry_bound (Acted point ∷ older) [] call found fits e = absurd fits
-entry_bound (Acted point ∷ older) (entry ∷ earlier) call found fits e =
+pub entry_bound : (kept : ℕ) (trace : List TraceLine) (history : List Entry) (call : ℕ) (found : Entry) → FitsNewest kept trace history → entry_of history call ≡ Some found → call ≤ taken_count trace
+entry_bound kept [] history call found fits e = absurd (let none : entry_of history call ≡ None = ap (λ (h : List Entry). entry_of h call) fits in cc)
+entry_bound kept (Took number node client bytes ∷ older) history call found fits e = let below = entry_bound kept older history call found fits.1 e in omega arith
+entry_bound kept (Acted point ∷ older) [] call found fits e = absurd fits
+entry_bound kept (Acted point ∷ older) (entry ∷ earlier) call found fits e =
     elim (chosen (eqb entry.call call) entry (entry_of earlier call) found e) [
       | inl here ↦
           let same = eqb-true entry.call call here.0 in
-          let below = taking_bound older earlier point.call fits.0.taking fits.1 fits.0.taken in
+          let below = taking_bound kept older earlier point.call fits.0.taking fits.1 fits.0.taken in
           omega (arith, fits.0.call)
-      | inr there ↦ entry_bound older earlier call found fits.1 there
+      | inr there ↦ entry_bound kept older earlier call found fits.1 there
     ]
-entry_bound (Reply number reply ∷ older) history call found fits e = entry_bound older history call found fits.1 e
-entry_bound (Again node client reply ∷ older) history call found fits e = entry_bound older history call found fits.1 e
+entry_bound kept (Reply number reply ∷ older) history call found fits e = entry_bound kept older history call found fits.1 e
+entry_bound kept (Again node client reply ∷ older) history call found fits e = entry_bound kept older history call found fits.1 e
 
-pub reply_bound : (trace : List TraceLine) (history : List Entry) (call : ℕ) → FitsNewest trace history → has_reply trace call ≡ true → call ≤ taken_count trace
-reply_bound [] history call fits e = absurd cc
-reply_bound (Took number node client bytes ∷ older) history call fits e = let below = reply_bound older history call fits.1 e in omega arith
-reply_bound (Acted point ∷ older) [] call fits e = absurd fits
-reply_bound (Acted point ∷ older) (entry ∷ earlier) call fits e = reply_bound older earlier call fits.1 e
-reply_bound (Reply number reply ∷ older) history call fits e =
+pub reply_bound : (kept : ℕ) (trace : List TraceLine) (history : List Entry) (call : ℕ) → FitsNewest kept trace history → has_reply trace call ≡ true → call ≤ taken_count trace
+reply_bound kept [] history call fits e = absurd cc
+reply_bound kept (Took number node client bytes ∷ older) history call fits e = let below = reply_bound kept older history call fits.1 e in omega arith
+reply_bound kept (Acted point ∷ older) [] call fits e = absurd fits
+reply_bound kept (Acted point ∷ older) (entry ∷ earlier) call fits e = reply_bound kept older earlier call fits.1 e
+reply_bound kept (Reply number reply ∷ older) history call fits e =
     elim (or_cases (eqb number call) (has_reply older call) e) [
       | inl here ↦
           let same = eqb-true number call here in
-          let below = entry_bound older history number fits.0.entry fits.1 fits.0.entered in
+          let below = entry_bound kept older history number fits.0.entry fits.1 fits.0.entered in
           omega arith
-      | inr there ↦ reply_bound older history call fits.1 there
+      | inr there ↦ reply_bound kept older history call fits.1 there
     ]
-reply_bound (Again node client reply ∷ older) history call fits e = reply_bound older history call fits.1 e
+reply_bound kept (Again node client reply ∷ older) history call fits e = reply_bound kept older history call fits.1 e
 
 -- the next call has neither point nor reply
-pub next_has_no_point : (trace : List TraceLine) (history : List Entry) → FitsNewest trace history → has_point trace (suc (taken_count trace)) ≡ false
-next_has_no_point trace history fits =
-    false_from_ne_true _ (λ e. let below = point_bound trace history (suc (taken_count trace)) fits e in omega arith)
+pub next_has_no_point : (kept : ℕ) (trace : List TraceLine) (history : List Entry) → FitsNewest kept trace history → has_point trace (suc (taken_count trace)) ≡ false
+next_has_no_point kept trace history fits =
+    false_from_ne_true _ (λ e. let below = point_bound kept trace history (suc (taken_count trace)) fits e in omega arith)
 
-pub next_has_no_reply : (trace : List TraceLine) (history : List Entry) → FitsNewest trace history → has_reply trace (suc (taken_count trace)) ≡ false
-next_has_no_reply trace history fits =
-    false_from_ne_true _ (λ e. let below = reply_bound trace history (suc (taken_count trace)) fits e in omega arith)
+pub next_has_no_reply : (kept : ℕ) (trace : List TraceLine) (history : List Entry) → FitsNewest kept trace history → has_reply trace (suc (taken_count trace)) ≡ false
+next_has_no_reply kept trace history fits =
+    false_from_ne_true _ (λ e. let below = reply_bound kept trace history (suc (taken_count trace)) fits e in omega arith)

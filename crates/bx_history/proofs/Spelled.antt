@@ -10,16 +10,16 @@ use Rattle.bx_history.specs.Laws.{points, point_of, Asked, asked}
 one_point : (older : List TraceLine) (point : Point) (entry : Entry) → IsPointOf older point entry → point_of entry ≡ point
 one_point older point entry h = rw (h.call, h.moment, h.spare, h.made) refl
 
-pub points-from_fits : (trace : List TraceLine) (history : List Entry) → FitsNewest trace history → points trace ≡ map point_of history
-points-from_fits [] history fits = rw fits refl
-points-from_fits (Took call node client bytes ∷ older) history fits = points-from_fits older history fits.1
-points-from_fits (Acted point ∷ older) [] fits = absurd fits
-points-from_fits (Acted point ∷ older) (entry ∷ earlier) fits =
+pub points-from_fits : (kept : ℕ) (trace : List TraceLine) (history : List Entry) → FitsNewest kept trace history → points trace ≡ map point_of history
+points-from_fits kept [] history fits = rw fits refl
+points-from_fits kept (Took call node client bytes ∷ older) history fits = points-from_fits kept older history fits.1
+points-from_fits kept (Acted point ∷ older) [] fits = absurd fits
+points-from_fits kept (Acted point ∷ older) (entry ∷ earlier) fits =
     let first = one_point older point entry fits.0 in
-    let rest = points-from_fits older earlier fits.1 in
+    let rest = points-from_fits kept older earlier fits.1 in
     cc
-points-from_fits (Reply call reply ∷ older) history fits = points-from_fits older history fits.1
-points-from_fits (Again node client reply ∷ older) history fits = points-from_fits older history fits.1
+points-from_fits kept (Reply call reply ∷ older) history fits = points-from_fits kept older history fits.1
+points-from_fits kept (Again node client reply ∷ older) history fits = points-from_fits kept older history fits.1
 
 some_is : {A : Type 0} (x y : A) (o : Option A) → o ≡ Some x → o ≡ Some y → x ≡ y
 some_is x y o e f = let g : Some x ≡ Some y = sym e ∙ f in cc
@@ -36,14 +36,14 @@ one_asking older point a b h k =
     let point-is : point_of a ≡ point_of b = one_point older point a h ∙ sym (one_point older point b k) in
     made_asked (point_of a) (point_of b) a.client b.client a.bytes b.bytes point-is client bytes
 
-pub asked-from_fits : (trace : List TraceLine) (a b : List Entry) → FitsNewest trace a → FitsNewest trace b → map asked a ≡ map asked b
-asked-from_fits [] a b p q = rw (p, q) refl
-asked-from_fits (Took call node client bytes ∷ older) a b p q = asked-from_fits older a b p.1 q.1
-asked-from_fits (Acted point ∷ older) [] b p q = absurd p
-asked-from_fits (Acted point ∷ older) (x ∷ a) [] p q = absurd q
-asked-from_fits (Acted point ∷ older) (x ∷ a) (y ∷ b) p q =
+pub asked-from_fits : (kept : ℕ) (trace : List TraceLine) (a b : List Entry) → FitsNewest kept trace a → FitsNewest kept trace b → map asked a ≡ map asked b
+asked-from_fits kept [] a b p q = rw (p, q) refl
+asked-from_fits kept (Took call node client bytes ∷ older) a b p q = asked-from_fits kept older a b p.1 q.1
+asked-from_fits kept (Acted point ∷ older) [] b p q = absurd p
+asked-from_fits kept (Acted point ∷ older) (x ∷ a) [] p q = absurd q
+asked-from_fits kept (Acted point ∷ older) (x ∷ a) (y ∷ b) p q =
     let first = one_asking older point x y p.0 q.0 in
-    let rest = asked-from_fits older a b p.1 q.1 in
+    let rest = asked-from_fits kept older a b p.1 q.1 in
     cc
-asked-from_fits (Reply call reply ∷ older) a b p q = asked-from_fits older a b p.1 q.1
-asked-from_fits (Again node client reply ∷ older) a b p q = asked-from_fits older a b p.1 q.1
+asked-from_fits kept (Reply call reply ∷ older) a b p q = asked-from_fits kept older a b p.1 q.1
+asked-from_fits kept (Again node client reply ∷ older) a b p q = asked-from_fits kept older a b p.1 q.1

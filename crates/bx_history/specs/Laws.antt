@@ -1,9 +1,9 @@
 -- What the definitions come to.
-use Rattle.std.specs.Prelude.{ℕ, List, [], ◌∷◌}
+use Rattle.std.specs.Prelude.{◌≡◌, ℕ, List, [], ◌∷◌, ◌++◌}
 use Rattle.bx_base.specs.declared.names.Point.{Point}
 use Rattle.bx_script.specs.declared.trace_line.TraceLine.{TraceLine}
 use Rattle.bx_script.specs.declared.trace_line.TraceLine.TheVariants.{Took, Acted, Reply, Again}
-use Rattle.bx_history.specs.Trace.{Entry}
+use Rattle.bx_history.specs.Trace.{Entry, FitsNewest}
 
 -- the points of a trace
 abbrev pub points : List TraceLine → List Point
@@ -25,3 +25,10 @@ pub record Asked : Type 0 where
 
 abbrev pub asked : Entry → Asked
 asked entry = record { point = point_of entry; client = entry.client; bytes = entry.bytes }
+
+-- of a history with its newest entry first, the earlier entries are those that the older lines of its trace fit
+pub record FrontFits (kept : ℕ) (older : List TraceLine) (history : List Entry) : Type 0 where
+  pub later : List Entry
+  pub earlier : List Entry
+  pub whole : history ≡ later ++ earlier
+  pub fits : FitsNewest kept older earlier

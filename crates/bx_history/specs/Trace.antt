@@ -113,20 +113,21 @@ pub record IsReplyOf (older : List TraceLine) (history : List Entry) (call : ℕ
   pub same : entry.reply ≡ reply
   pub first : has_reply older call ≡ false
 
--- The reply is one of the last 256 of the node, to this client.
-abbrev pub IsSentBefore : List TraceLine → ℕ → ℕ → List ℕ → Type 0
-IsSentBefore older node client reply =
-    list_any (λ answer. (answer.client == client) && bytes_eq answer.reply reply) (kept_answers 256 older node) ≡ true
+-- The reply is one of the last that the node sent, of as many as it keeps, and went to this client.
+abbrev pub IsSentBefore : ℕ → List TraceLine → ℕ → ℕ → List ℕ → Type 0
+IsSentBefore kept older node client reply =
+    list_any (λ answer. (answer.client == client) && bytes_eq answer.reply reply) (kept_answers kept older node) ≡ true
 
--- Calls are numbered from 1 as they are taken, the points are the entries, and each reply is its entry's.
-abbrev pub FitsNewest : List TraceLine → List Entry → Type 0
-FitsNewest [] history = history ≡ []
-FitsNewest (Took call node client bytes ∷ older) history = (call ≡ taken_count older + 1) × FitsNewest older history
-FitsNewest (Acted point ∷ older) [] = ⊥
-FitsNewest (Acted point ∷ older) (entry ∷ earlier) = IsPointOf older point entry × FitsNewest older earlier
-FitsNewest (Reply call reply ∷ older) history = IsReplyOf older history call reply × FitsNewest older history
-FitsNewest (Again node client reply ∷ older) history = IsSentBefore older node client reply × FitsNewest older history
+-- Calls are numbered from 1 as they are taken, the points are the entries, each reply is its entry's, and what is sent again is one of
+-- as many answers as a node keeps.
+abbrev pub FitsNewest : ℕ → List TraceLine → List Entry → Type 0
+FitsNewest kept [] history = history ≡ []
+FitsNewest kept (Took call node client bytes ∷ older) history = (call ≡ taken_count older + 1) × FitsNewest kept older history
+FitsNewest kept (Acted point ∷ older) [] = ⊥
+FitsNewest kept (Acted point ∷ older) (entry ∷ earlier) = IsPointOf older point entry × FitsNewest kept older earlier
+FitsNewest kept (Reply call reply ∷ older) history = IsReplyOf older history call reply × FitsNewest kept older history
+FitsNewest kept (Again node client reply ∷ older) history = IsSentBefore kept older node client reply × FitsNewest kept older history
 
 -- the same, with the oldest line and entry first
-abbrev pub Fits : List TraceLine → List Entry → Type 0
-Fits trace history = FitsNewest (reverse trace) (reverse history)
+abbrev pub Fits : ℕ → List TraceLine → List Entry → Type 0
+Fits kept trace history = FitsNewest kept (reverse trace) (reverse history)

@@ -4,4 +4,7 @@
 
 mod laws;
 
-pub use laws::{points_are_entries, points_spell_history};
+pub use laws::{
+    Steps, front_fits, front_leads, front_placed, one_history, points_are_entries,
+    points_spell_history,
+};

@@ -1,25 +1,26 @@
 -- A replay that stands has the headline's property.
-use Rattle.std.proofs.Common.{◌≡◌, ℕ, List, [], ◌∷◌, ◌++◌, refl, sym}
+use Rattle.std.proofs.Common.{◌≡◌, ℕ, List, [], ◌∷◌, ◌++◌, refl, sym, ap, ◌∙◌}
 use Rattle.std.specs.Prelude.{map, reverse}
 use Rattle.std.specs.List.{AllByRecursion}
-use Rattle.std.proofs.lemmas.List.{reverse-append, reverse-reverse}
+use Rattle.std.proofs.lemmas.List.{append-nil, reverse-append, reverse-reverse}
 use Rattle.bx_script.specs.declared.line.Line.{Line}
 use Rattle.bx_script.specs.declared.trace_line.TraceLine.{TraceLine}
-use Rattle.bx_script.specs.Schedule.{volume_of}
 use Rattle.bx_script.specs.TraceText.{InTraceRange, trace_text}
 use Rattle.bx_script.proofs.TraceLines.{trace_text_injective}
 use Rattle.bx_history.specs.Trace as traces
 use Rattle.bx_history.specs.Legal.{LeadsNewest}
-use Rattle.bx_history.specs.Placed.{Part, schedule_of, trace_of}
+use Rattle.bx_history.specs.Parts.{trace_of}
+use Rattle.bx_history.specs.Along.{Done, parts_of, schedule_of}
+use Rattle.bx_history.proofs.Once.{one_history}
 use Rattle.bx_model.specs.declared.entry.Entry.{Entry}
 use Rattle.bx_model.specs.declared.tree.Tree.{Tree}
 use Rattle.bx_model.specs.History.{IsStep}
 use Rattle.bx_model.specs.Opening.{opening}
 use Rattle.bx_replay.specs.declared.state.Replay.{Replay}
-use Rattle.bx_replay.specs.Headline.{AreTyped, Step, Headline}
+use Rattle.bx_replay.specs.Headline.{rules, opening_of, AreTyped, Step, Headline}
 use Rattle.bx_replay.specs.Replay.{Stands}
-use Rattle.bx_replay.proofs.OneHistory.{one_history}
-use Rattle.bx_replay.proofs.ReadLines.{all_push}
+use Rattle.bx_replay.proofs.OneHistory.{step_once}
+use Rattle.bx_replay.proofs.Allowed.{all_push}
 
 AreTyped-append : (a c : List traces.Entry) (b d : List Entry) → AreTyped a b → AreTyped c d → AreTyped (a ++ c) (b ++ d)
 AreTyped-append [] c [] d h k = k
@@ -50,40 +51,50 @@ typed first last (entry ∷ earlier) leads =
     let so_far = typed first leads.0 earlier leads.1 in
     record { history = leads.2.entry ∷ so_far.history; typed = (leads.2.typed, so_far.typed); leads = (leads.0, so_far.leads, leads.2.step) }
 
-pub headline : (replay : Replay) (parts : List Part) (start written : List ℕ) → Stands replay parts start written
-    → Headline (schedule_of parts) (reverse (trace_of parts)) replay.tree
-headline replay parts start written stands =
-    let all = typed (opening (volume_of (schedule_of parts))) replay.tree stands.history stands.accounts.leads in
+-- the same for a trace and a history with the oldest first
+one_told : (first last tree : Tree) (trace : List TraceLine) (history others : List traces.Entry)
+    → traces.FitsNewest rules.kept trace history → LeadsNewest Step first history last
+    → traces.FitsNewest rules.kept trace (reverse others) → LeadsNewest Step first (reverse others) tree
+    → (others ≡ reverse history) × (tree ≡ last)
+one_told first last tree trace history others fits leads fits' leads' =
+    let one = one_history Step step_once rules.kept first tree last trace (reverse others) history fits' leads' fits leads in
+    (sym (reverse-reverse others) ∙ ap (λ (h : List traces.Entry). reverse h) one.0, one.1)
+
+pub headline : (replay : Replay) (done : List Done) (start written : List ℕ) → Stands replay done start written
+    → Headline (schedule_of done) (reverse (trace_of (parts_of done))) [] replay.tree
+headline replay done start written stands =
+    let all = typed (opening_of (schedule_of done)) replay.tree stands.history stands.accounts.leads in
+    let newest : reverse (reverse (trace_of (parts_of done)) ++ []) ≡ trace_of (parts_of done) =
+    ap (λ (t : List TraceLine). reverse t) (append-nil (reverse (trace_of (parts_of done)))) ∙ reverse-reverse (trace_of (parts_of done)) in
     record {
       history = reverse all.history;
       bytes = reverse stands.history;
       typed = AreTyped-reverse stands.history all.history all.typed;
-      fits = rw (reverse-reverse (trace_of parts), reverse-reverse stands.history) stands.accounts.fits;
+      fits = rw (newest, reverse-reverse stands.history) stands.accounts.fits;
       legal = rw (reverse-reverse all.history) all.leads;
-      in_range = all_reverse InTraceRange (trace_of parts) stands.in_range;
+      in_range = rw (append-nil (reverse (trace_of (parts_of done)))) (all_reverse InTraceRange (trace_of (parts_of done)) stands.in_range);
       placed = record {
-        parts = parts;
-        along = sym (reverse-reverse (map (λ (part : Part). part.line) parts));
-        whole = sym (reverse-reverse (trace_of parts));
+        done = done;
+        along = sym (reverse-reverse (map (λ (d : Done). d.line) done));
+        whole = sym (reverse-reverse (trace_of (parts_of done)));
         placed = stands.accounts.placed;
         closed = tt;
       };
       only = λ others tree fits leads.
-          one_history (opening (volume_of (schedule_of parts))) replay.tree tree (reverse (trace_of parts)) stands.history others
-          (rw (reverse-reverse (trace_of parts)) stands.accounts.fits) stands.accounts.leads fits leads;
+          one_told (opening_of (schedule_of done)) replay.tree tree (trace_of (parts_of done)) stands.history others stands.accounts.fits stands.accounts.leads (rw newest at fits) leads;
     }
 
 -- before the first line
-pub no_headline : Headline [] [] (opening 0)
+pub no_headline : Headline [] [] [] (opening 0)
 no_headline = record {
   history = [];
   bytes = [];
   typed = tt;
   fits = refl;
   legal = refl;
-  placed = record { parts = []; along = refl; whole = refl; placed = tt; closed = tt };
+  placed = record { done = []; along = refl; whole = refl; placed = tt; closed = tt };
   in_range = tt;
-  only = λ others tree fits leads. one_history (opening 0) (opening 0) tree [] [] others refl refl fits leads;
+  only = λ others tree fits leads. one_told (opening 0) (opening 0) tree [] [] others refl refl fits leads;
 }
 
 -- ---- one output has one trace
@@ -95,9 +106,10 @@ stepped first last (bytes ∷ before) [] typed leads = absurd typed
 stepped first last (bytes ∷ before) (entry ∷ earlier) typed leads =
     (leads.0, stepped first leads.0 before earlier typed.1 leads.1, record { entry = entry; typed = typed.0; step = leads.2 })
 
-pub one_output : (schedule : List Line) (a b : List TraceLine) (x y : Tree) → Headline schedule a x → Headline schedule b y → trace_text a ≡ trace_text b → (a ≡ b) × (x ≡ y)
-one_output schedule a b x y first second e =
-    let same : a ≡ b = trace_text_injective a b first.in_range second.in_range e in
-    let leads = stepped (opening (volume_of schedule)) y (reverse second.bytes) (reverse second.history) (AreTyped-reverse second.bytes second.history second.typed) second.legal in
+pub one_output : (schedule : List Line) (a b c d : List TraceLine) (x y : Tree) → Headline schedule a c x → Headline schedule b d y → trace_text (a ++ c) ≡ trace_text (b ++ d)
+    → (a ++ c ≡ b ++ d) × (x ≡ y)
+one_output schedule a b c d x y first second e =
+    let same : a ++ c ≡ b ++ d = trace_text_injective (a ++ c) (b ++ d) first.in_range second.in_range e in
+    let leads = stepped (opening_of schedule) y (reverse second.bytes) (reverse second.history) (AreTyped-reverse second.bytes second.history second.typed) second.legal in
     let one = first.only second.bytes y (rw same second.fits) leads in
     (same, sym one.1)

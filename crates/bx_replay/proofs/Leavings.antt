@@ -3,7 +3,7 @@ use Rattle.std.proofs.Common.{ℕ, ◌+◌, ◌<◌, ◌==◌, List, [], Err, in
 use Rattle.bx_base.specs.Text.{BeginsWith}
 use Rattle.bx_script.specs.declared.line.Line.{Line}
 use Rattle.bx_script.specs.ScheduleLine.{spelling}
-use Rattle.bx_script.specs.Schedule.{HasPlace}
+use Rattle.bx_replay.specs.Headline.{IsInPlace}
 use Rattle.bx_replay.specs.declared.state.Replay.{Replay}
 use Rattle.bx_replay.specs.declared.stop.Stop.{Stop}
 use Rattle.bx_replay.specs.declared.stop.Stop.TheVariants as stops
@@ -36,8 +36,8 @@ line_stops Tells stops.OutOfMemory text rest next left start written number repl
 
 pub step_stops : (Tells : Type 0) (stop : Stop) (text rest next left start old new : List ℕ) (number : ℕ) (replay after : Replay) (line : Line) (before now : ℕ)
     → IsRead text rest number → (going : Tells → Going text rest number replay start old) → number < 4294967295 → BeginsWith rest (spelling line) next
-    → HasPlace ((number + 1) == 1) line → HasStepCause stop (number + 1) before now → Serves (Err stop) line
-    → ((tells : Tells) → DoesLine (Err stop) line (going tells).parts start old new after)
+    → IsInPlace ((number + 1) == 1) line → HasStepCause stop (number + 1) before now → Serves (Err stop) line
+    → ((tells : Tells) → DoesLine (Err stop) line (going tells).done start old new after)
     → Leaves Tells (Err stop) text left start new
 step_stops Tells (stops.Refused n reason) text rest next left start old new number replay after line before now so_far going few begins place cause unserved does =
     rw (cause.0, cause.1) (
@@ -51,7 +51,7 @@ step_stops Tells stops.OutOfMemory text rest next left start old new number repl
     λ tells. rw (does tells) (stops_broken text rest number replay start old (going tells))
 
 pub finish_stops : (Tells : Type 0) (stop : Stop) (text left start old new : List ℕ) (number : ℕ) (replay : Replay) (before now : ℕ)
-    → (Tells → Going text [] number replay start old) → HasPrintCause stop before now → (Tells → Finishes (Err stop) (closing_text replay.tree) old new)
+    → (Tells → Going text [] number replay start old) → HasPrintCause stop before now → (Tells → Finishes (Err stop) (closing_text [] replay.tree) old new)
     → Leaves Tells (Err stop) text left start new
 finish_stops Tells (stops.Refused n reason) text left start old new number replay before now going cause part = absurd cause
 finish_stops Tells stops.ReadFault text left start old new number replay before now going cause part = absurd cause

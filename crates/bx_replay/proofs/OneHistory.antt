@@ -1,4 +1,4 @@
--- A trace fits one history alone that the steps of the tree allow, and it leads to one tree.
+-- What was asked determines the reply and the next tree.
 use Rattle.std.proofs.Common.{◌≡◌, ℕ, List, [], ◌∷◌, Option, Some, refl, sym, ap, ◌∙◌}
 use Rattle.std.specs.Prelude.{map, reverse}
 use Rattle.std.proofs.lemmas.List.{reverse-reverse}
@@ -31,7 +31,7 @@ made_entry : (c d k l m n s u e f : ℕ) (x y v w : List ℕ) → c ≡ d → k 
     → ◌≡◌ {A = traces.Entry} (record { call = c; client = k; bytes = x; moment = m; spare = s; made = e; reply = v }) (record { call = d; client = l; bytes = y; moment = n; spare = u; made = f; reply = w })
 made_entry c d k l m n s u e f x y v w p1 p2 p3 p4 p5 p6 p7 = rw (p1, p2, p3, p4, p5, p6, p7) refl
 
-step_once : (tree : Tree) (a b : traces.Entry) (x y : Tree) → asked a ≡ asked b → Step tree a x → Step tree b y → (a ≡ b) × (x ≡ y)
+pub step_once : (tree : Tree) (a b : traces.Entry) (x y : Tree) → asked a ≡ asked b → Step tree a x → Step tree b y → (a ≡ b) × (x ≡ y)
 step_once tree a b x y same s t =
     let call : a.call ≡ b.call = ap (λ (q : Asked). q.point.call) same in
     let moment : a.moment ≡ b.moment = ap (λ (q : Asked). q.point.moment) same in
@@ -44,23 +44,3 @@ step_once tree a b x y same s t =
     (sym s.typed.moment ∙ moment ∙ t.typed.moment) (sym s.typed.spare ∙ spare ∙ t.typed.spare) (sym s.typed.made ∙ made ∙ t.typed.made) s.step.acts t.step.acts in
     let reply : a.reply ≡ b.reply = s.typed.replies ∙ ap (λ (n : ℕ). reply_text n s.entry.reply) one.0 ∙ ap (λ (r : Reply). reply_text t.typed.xid r) result.0 ∙ sym t.typed.replies in
     (made_entry a.call b.call a.client b.client a.moment b.moment a.spare b.spare a.made b.made a.bytes b.bytes a.reply b.reply call client bytes moment spare made reply, result.1)
-
-heads : (a b : traces.Entry) (xs ys : List traces.Entry) → map asked (a ∷ xs) ≡ map asked (b ∷ ys) → (asked a ≡ asked b) × (map asked xs ≡ map asked ys)
-heads a b xs ys e = (cc, cc)
-
-one_newest : (first : Tree) (a b : List traces.Entry) (x y : Tree) → map asked a ≡ map asked b → LeadsNewest Step first a x → LeadsNewest Step first b y → (a ≡ b) × (x ≡ y)
-one_newest first [] [] x y e p q = (refl, p ∙ sym q)
-one_newest first [] (b ∷ ys) x y e p q = absurd cc
-one_newest first (a ∷ xs) [] x y e p q = absurd cc
-one_newest first (a ∷ xs) (b ∷ ys) x y e p q =
-    let parts = heads a b xs ys e in
-    let earlier = one_newest first xs ys p.0 q.0 parts.1 p.1 q.1 in
-    let now = step_once q.0 a b x y parts.0 (rw earlier.1 at p.2) q.2 in
-    (rw (now.0, earlier.0) refl, now.1)
-
-pub one_history : (first last tree : Tree) (trace : List TraceLine) (history others : List traces.Entry)
-    → traces.FitsNewest (reverse trace) history → LeadsNewest Step first history last → traces.Fits trace others → Leads Step first others tree
-    → (others ≡ reverse history) × (tree ≡ last)
-one_history first last tree trace history others fits leads other_fits other_leads =
-    let one = one_newest first (reverse others) history tree last (asked-from_fits (reverse trace) (reverse others) history other_fits fits) other_leads leads in
-    (sym (reverse-reverse others) ∙ ap (λ (h : List traces.Entry). reverse h) one.0, one.1)

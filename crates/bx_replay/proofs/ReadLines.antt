@@ -13,9 +13,10 @@ use Rattle.bx_script.specs.Schedule.{HasPlace, BeginsSchedule}
 use Rattle.bx_script.proofs.Spelled.{spelling_lacks_feed}
 use Rattle.bx_replay.specs.declared.stop.Reason.{Reason}
 use Rattle.bx_replay.specs.declared.stop.Reason.TheVariants.{Grammar, NotBuilt}
-use Rattle.bx_replay.specs.Headline.{IsServedLine}
+use Rattle.bx_replay.specs.Headline.{IsInPlace, IsServedLine}
 use Rattle.bx_replay.specs.Outcome.{AreDone, IsCut, IsFirstRefused, IsReadTo, IsRefusedAt, IsServedSchedule}
 use Rattle.bx_replay.specs.Replay.{IsRead, IsUnservedLine}
+use Rattle.bx_replay.proofs.Allowed.{done_begins, done_few, done_push, done_served}
 use Rattle.bx_replay.proofs.NextLines.{IsRefusedHere}
 
 -- ---- the lines of a text
@@ -61,21 +62,6 @@ read_on text rest next done line begins (inr h) b = absurd (none_begins (spellin
 
 -- ---- one line more
 
-pub all_push : {A : Type 0} (P : A → Type 0) (xs : List A) (x : A) → AllByRecursion P xs → P x → AllByRecursion P (xs ++ x ∷ [])
-all_push P [] x h p = (p, tt)
-all_push P (y ∷ ys) x h p = (h.0, all_push P ys x h.1 p)
-
-begins_push : (lines : List Line) (line : Line) → 0 < length lines → BeginsSchedule lines → HasPlace false line → BeginsSchedule (lines ++ line ∷ [])
-begins_push [] line some begins place = absurd (omega arith)
-begins_push (first ∷ lines) line some begins place = (begins.0, all_push (HasPlace false) lines line begins.1 place)
-
-pub done_push : (lines : List Line) (line : Line) → 0 < length lines → length lines < 4294967295 → AreDone lines → HasPlace false line → IsServedLine line → AreDone (lines ++ line ∷ [])
-done_push lines line some room done place served = record {
-  begins = begins_push lines line some done.begins place;
-  served = all_push IsServedLine lines line done.served served;
-  few = omega (arith, length-append lines (line ∷ []));
-}
-
 -- a line behind the first isn't the first
 not_first : (done : List Line) (number : ℕ) → 0 < length done → number ≡ length done → ((number + 1) == 1) ≡ (length done == 0)
 not_first done number some count = ne_eqb (number + 1) 1 (λ e. omega (arith, some, count)) ∙ sym (ne_eqb (length done) 0 (λ e. omega (arith, some)))
@@ -83,13 +69,13 @@ not_first done number some count = ne_eqb (number + 1) 1 (λ e. omega (arith, so
 behind : (number : ℕ) → 0 < number → ((number + 1) == 1) ≡ false
 behind number some = ne_eqb (number + 1) 1 (λ e. omega (arith, some))
 
-pub reads_on : (text rest next : List ℕ) (number : ℕ) (line : Line) → IsRead text rest number → number < 4294967295 → BeginsWith rest (spelling line) next → HasPlace ((number + 1) == 1) line
+pub reads_on : (text rest next : List ℕ) (number : ℕ) (line : Line) → IsRead text rest number → number < 4294967295 → BeginsWith rest (spelling line) next → IsInPlace ((number + 1) == 1) line
     → IsServedLine line → IsRead text next (number + 1)
 reads_on text rest next number line so_far few begins place served =
     let some : 0 < number = let h = so_far.headed in omega (arith, h, so_far.count) in
     record {
       done = so_far.done ++ line ∷ [];
-      read = read_on text rest next so_far.done line so_far.are_done.begins so_far.read begins;
+      read = read_on text rest next so_far.done line (done_begins so_far.done so_far.are_done) so_far.read begins;
       are_done = done_push so_far.done line so_far.headed (omega (arith, few, so_far.count)) so_far.are_done (rw (behind number some) at place) served;
       headed = omega (arith, length-append so_far.done (line ∷ []));
       count = omega (arith, length-append so_far.done (line ∷ []), so_far.count);
@@ -101,12 +87,12 @@ abbrev pub all_read : (text : List ℕ) (number : ℕ) → IsRead text [] number
 all_read text number so_far = record {
   schedule = so_far.done;
   read = record {
-    spelled = lines_read text [] so_far.done so_far.are_done.begins so_far.read ∙ append-nil (map spelling so_far.done);
-    begins = so_far.are_done.begins;
+    spelled = lines_read text [] so_far.done (done_begins so_far.done so_far.are_done) so_far.read ∙ append-nil (map spelling so_far.done);
+    begins = done_begins so_far.done so_far.are_done;
     headed = so_far.headed;
-    few = so_far.are_done.few;
+    few = done_few so_far.done so_far.are_done;
   };
-  served = so_far.are_done.served;
+  served = done_served so_far.done so_far.are_done;
 }
 
 abbrev pub cut_at : (text rest piece left : List ℕ) (number : ℕ) → IsRead text rest number → rest ≡ piece ++ left → LacksFeed piece → length piece ≤ 18600 → IsCut text left
@@ -124,14 +110,14 @@ abbrev pub refused_at : (text rest : List ℕ) (number : ℕ) (so_far : IsRead t
 refused_at text rest number so_far reason others e refused = record {
   done = so_far.done;
   others = others;
-  read = lines_read text rest so_far.done so_far.are_done.begins so_far.read ∙ ap (λ (ls : List (List ℕ)). map spelling so_far.done ++ ls) e;
+  read = lines_read text rest so_far.done (done_begins so_far.done so_far.are_done) so_far.read ∙ ap (λ (ls : List (List ℕ)). map spelling so_far.done ++ ls) e;
   are_done = so_far.are_done;
   number-is = ap (λ (n : ℕ). n + 1) so_far.count;
   refused = refused;
 }
 
 pub outside : (done : List Line) (number : ℕ) (first : List ℕ) (others : List (List ℕ)) → 0 < length done → number ≡ length done
-    → (4294967295 < number + 1) ⊎ ((value : Line) → HasPlace ((number + 1) == 1) value → first ≢ spelling value) → IsRefusedAt done (first ∷ others) Grammar
+    → (4294967295 < number + 1) ⊎ ((value : Line) → IsInPlace ((number + 1) == 1) value → first ≢ spelling value) → IsRefusedAt done (first ∷ others) Grammar
 outside done number first others some count (inl many) = inl (omega (arith, count))
 outside done number first others some count (inr none) = inr (λ value place. none value (rw (not_first done number some count) place))
 
@@ -140,7 +126,7 @@ refused_outside text rest number so_far here =
     refused_at text rest number so_far Grammar (here.0 ∷ here.1) here.2 (outside so_far.done number here.0 here.1 so_far.headed so_far.count here.3)
 
 pub unserved_at : (done : List Line) (number : ℕ) (line : Line) (others : List (List ℕ)) → 0 < length done → number ≡ length done → number < 4294967295
-    → HasPlace ((number + 1) == 1) line → IsUnservedLine line → IsRefusedAt done (spelling line ∷ others) NotBuilt
+    → IsInPlace ((number + 1) == 1) line → IsUnservedLine line → IsRefusedAt done (spelling line ∷ others) NotBuilt
 unserved_at done number (Heading volume nodes devices areas) others some count few place unserved = absurd unserved
 unserved_at done number (Call reading node client datagram) others some count few place unserved = (
   omega (arith, few, count),
@@ -157,7 +143,7 @@ unserved_at done number (Call reading node client datagram) others some count fe
 unserved_at done number (Run reading limit) others some count few place unserved = absurd unserved
 
 abbrev pub refused_unserved : (text rest next : List ℕ) (number : ℕ) (line : Line) → IsRead text rest number → number < 4294967295 → BeginsWith rest (spelling line) next
-    → HasPlace ((number + 1) == 1) line → IsUnservedLine line → IsFirstRefused text (number + 1) NotBuilt
+    → IsInPlace ((number + 1) == 1) line → IsUnservedLine line → IsFirstRefused text (number + 1) NotBuilt
 refused_unserved text rest next number line so_far few begins place unserved =
     refused_at text rest number so_far NotBuilt (spelling line ∷ lines_of next) (lines_of-begins rest (spelling line) next begins)
     (unserved_at so_far.done number line (lines_of next) so_far.headed so_far.count few place unserved)
@@ -165,7 +151,7 @@ refused_unserved text rest next number line so_far few begins place unserved =
 -- ---- the first line
 
 abbrev pub none_done : AreDone []
-none_done = record { begins = tt; served = tt; few = omega arith }
+none_done = tt
 
 abbrev pub begins_refused : (text : List ℕ) (others : List (List ℕ)) → lines_of text ≡ others → IsRefusedAt [] others Grammar → IsFirstRefused text 1 Grammar
 begins_refused text others e refused = record { done = []; others = others; read = e; are_done = none_done; number-is = refl; refused = refused }
@@ -173,7 +159,7 @@ begins_refused text others e refused = record { done = []; others = others; read
 abbrev pub refused_empty : (text : List ℕ) → text ≡ [] → IsFirstRefused text 1 Grammar
 refused_empty text e = begins_refused text [] (ap lines_of e) refl
 
-pub first_outside : (first : List ℕ) (others : List (List ℕ)) → (4294967295 < 1) ⊎ ((value : Line) → HasPlace (1 == 1) value → first ≢ spelling value) → IsRefusedAt [] (first ∷ others) Grammar
+pub first_outside : (first : List ℕ) (others : List (List ℕ)) → (4294967295 < 1) ⊎ ((value : Line) → IsInPlace (1 == 1) value → first ≢ spelling value) → IsRefusedAt [] (first ∷ others) Grammar
 first_outside first others (inl many) = absurd (omega arith)
 first_outside first others (inr none) = inr none
 
@@ -183,11 +169,11 @@ refused_first text here = begins_refused text (here.0 ∷ here.1) here.2 (first_
 abbrev pub cut_first : (text piece left : List ℕ) → text ≡ piece ++ left → LacksFeed piece → length piece ≤ 18600 → IsCut text left
 cut_first text piece left e lacks short = record { done = []; piece = piece; read = inl e; lacks = lacks; short = short; are_done = none_done }
 
-pub heading_read : (text rest : List ℕ) (volume nodes devices areas : ℕ) → HasPlace true (Heading volume nodes devices areas) → BeginsWith text (spelling (Heading volume nodes devices areas)) rest → IsRead text rest 1
+pub heading_read : (text rest : List ℕ) (volume nodes devices areas : ℕ) → IsInPlace true (Heading volume nodes devices areas) → BeginsWith text (spelling (Heading volume nodes devices areas)) rest → IsRead text rest 1
 heading_read text rest volume nodes devices areas place begins = record {
   done = Heading volume nodes devices areas ∷ [];
   read = read_on text text rest [] (Heading volume nodes devices areas) tt (inl refl) begins;
-  are_done = record { begins = (place, tt); served = (tt, tt); few = omega arith };
+  are_done = (record { few = omega arith; in_place = place; served = place.1 }, tt);
   headed = omega arith;
   count = refl;
 }

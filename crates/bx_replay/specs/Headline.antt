@@ -1,23 +1,32 @@
 -- The headline: what a trace along a schedule says of the file tree.
-use Rattle.std.specs.Prelude.{◌≡◌, ℕ, true, List, [], ◌∷◌}
+use Rattle.std.specs.Prelude.{◌≡◌, ℕ, Bool, true, List, [], ◌∷◌, ◌++◌}
 use Rattle.std.specs.List.{AllByRecursion}
 use Rattle.bx_script.specs.declared.line.Line.{Line}
 use Rattle.bx_script.specs.declared.line.Line.TheVariants.{Heading, Call, Run}
 use Rattle.bx_script.specs.declared.trace_line.TraceLine.{TraceLine}
-use Rattle.bx_script.specs.Schedule.{volume_of}
+use Rattle.bx_script.specs.Schedule.{HasPlace}
 use Rattle.bx_script.specs.TraceText.{InTraceRange}
 use Rattle.bx_history.specs.Trace as traces
 use Rattle.bx_history.specs.Legal.{Leads}
-use Rattle.bx_history.specs.Placed.{Rules, IsPlaced}
+use Rattle.bx_history.specs.Placed.{Rules}
+use Rattle.bx_history.specs.Along.{IsPlaced}
 use Rattle.bx_model.specs.declared.entry.Entry.{Entry}
 use Rattle.bx_model.specs.declared.tree.Tree.{Tree}
 use Rattle.bx_model.specs.Opening.{opening}
 use Rattle.bx_model.specs.History.{IsStep}
 use Rattle.bx_nfs.specs.Wire.{ReadsAs, IsServed, reply_text}
 
--- Every datagram that is served is taken, and each is answered at its own line; no answer is kept for repeats.
+-- Every datagram that is served is taken, and each is answered at its own line, with blocks enough, so that nothing waits behind a
+-- run; no answer is kept for repeats.
 abbrev pub rules : Rules
-rules = record { is_call = λ _. true; is_immediate = λ _ _. true; kept = 0 }
+rules = record { is_call = λ _. true; is_immediate = λ _ _. true; is_prompt = λ _. true; kept = 0 }
+
+-- the tree that a schedule begins with: the opening tree of the heading's volume, with its areas
+abbrev pub opening_of : List Line → Tree
+opening_of [] = opening 0
+opening_of (Heading volume nodes devices areas ∷ lines) = record (opening volume) { areas = areas }
+opening_of (Call reading node client datagram ∷ lines) = opening 0
+opening_of (Run reading limit ∷ lines) = opening 0
 
 -- The entry as bytes: the call is what its bytes read as, and the reply's bytes are its text.
 pub record IsTyped (bytes : traces.Entry) (entry : Entry) : Type 0 where
@@ -41,21 +50,32 @@ pub record Step (tree : Tree) (bytes : traces.Entry) (next : Tree) : Type 0 wher
   pub typed : IsTyped bytes entry
   pub step : IsStep tree entry next
 
--- The points of the trace spell one history, which the trace fits. The history is legal from the opening tree of the heading's
--- volume, and leads to the last tree. The trace is placed along the schedule, and its lines are in range. No other history would do,
--- nor another tree.
-pub record Headline (schedule : List Line) (trace : List TraceLine) (last : Tree) : Type 0 where
+-- The points of the trace, and of the closing lines behind it, spell one history, which they fit. The history is legal from the
+-- tree that the heading opens, and leads to the last tree. The trace is placed along the schedule, and all lines are in range. No
+-- other history would do, nor another tree.
+pub record Headline (schedule : List Line) (trace closing : List TraceLine) (last : Tree) : Type 0 where
   pub history : List Entry
   pub bytes : List traces.Entry
   pub typed : AreTyped bytes history
-  pub fits : traces.Fits trace bytes
-  pub legal : Leads IsStep (opening (volume_of schedule)) history last
-  pub placed : IsPlaced rules schedule trace []
-  pub in_range : AllByRecursion InTraceRange trace
-  pub only : (others : List traces.Entry) (tree : Tree) → traces.Fits trace others → Leads Step (opening (volume_of schedule)) others tree → (others ≡ bytes) × (tree ≡ last)
+  pub fits : traces.Fits rules.kept (trace ++ closing) bytes
+  pub legal : Leads IsStep (opening_of schedule) history last
+  pub placed : IsPlaced rules schedule trace closing
+  pub in_range : AllByRecursion InTraceRange (trace ++ closing)
+  pub only : (others : List traces.Entry) (tree : Tree) → traces.Fits rules.kept (trace ++ closing) others → Leads Step (opening_of schedule) others tree
+      → (others ≡ bytes) × (tree ≡ last)
 
--- a line whose call, if it is one, is served
+-- a line that this stage has: there is one node, one device and one area
+abbrev pub IsBuilt : Line → Type 0
+IsBuilt (Heading volume nodes devices areas) = (nodes ≡ 1) × (devices ≡ 1) × (areas ≡ 1)
+IsBuilt (Call reading node client datagram) = node ≡ 0
+IsBuilt (Run reading limit) = Unit {0}
+
+-- such a line, in its place
+abbrev pub IsInPlace : Bool → Line → Type 0
+IsInPlace first line = HasPlace first line × IsBuilt line
+
+-- such a line whose call, if it is one, is served
 abbrev pub IsServedLine : Line → Type 0
-IsServedLine (Heading volume nodes devices areas) = Unit {0}
-IsServedLine (Call reading node client datagram) = IsServed datagram
+IsServedLine (Heading volume nodes devices areas) = IsBuilt (Heading volume nodes devices areas)
+IsServedLine (Call reading node client datagram) = IsBuilt (Call reading node client datagram) × IsServed datagram
 IsServedLine (Run reading limit) = Unit {0}

@@ -1,5 +1,5 @@
 -- What a replay leaves on its output, by the way in which it ends.
-use Rattle.std.specs.Prelude.{◌≡◌, ◌≢◌, ℕ, ◌+◌, ◌<◌, ◌≤◌, ◌==◌, Bool, List, [], ◌∷◌, ◌++◌, length, map, codes, ◌⊎◌}
+use Rattle.std.specs.Prelude.{◌≡◌, ◌≢◌, ℕ, ◌+◌, ◌<◌, ◌≤◌, ◌==◌, Bool, List, [], ◌∷◌, ◌++◌, length, map, reverse, codes, ◌⊎◌}
 use Rattle.std.specs.List.{AllByRecursion}
 use Rattle.bx_base.specs.Text.{LacksFeed, ended, text_of, lines_of}
 use Rattle.bx_script.specs.declared.line.Line.{Line}
@@ -7,23 +7,29 @@ use Rattle.bx_script.specs.declared.line.Line.TheVariants.{Call}
 use Rattle.bx_script.specs.declared.trace_line.TraceLine.{TraceLine}
 use Rattle.bx_script.specs.ScheduleLine.{spelling}
 use Rattle.bx_script.specs.TraceText.{trace_text}
-use Rattle.bx_script.specs.Schedule.{HasPlace, BeginsSchedule, IsSchedule}
+use Rattle.bx_script.specs.Schedule.{IsSchedule}
+use Rattle.bx_history.specs.Along.{AllowedNewest}
 use Rattle.bx_model.specs.declared.tree.Tree.{Tree}
 use Rattle.bx_model.specs.Listing.{listing}
 use Rattle.bx_nfs.specs.Wire.{IsServed}
 use Rattle.bx_replay.specs.declared.stop.Reason.{Reason}
 use Rattle.bx_replay.specs.declared.stop.Reason.TheVariants.{Grammar, NotBuilt}
-use Rattle.bx_replay.specs.Headline.{Headline, IsServedLine}
+use Rattle.bx_replay.specs.Headline.{Headline, IsInPlace, IsServedLine}
 
--- the lines that a replay has done: the first lines of a schedule, each of them served
-pub record AreDone (done : List Line) : Type 0 where
-  pub begins : BeginsSchedule done
-  pub served : AllByRecursion IsServedLine done
-  pub few : length done ≤ 4294967295
+-- A line may be done behind these, the newest of which comes first: there is room for it, it has its place and is one of this stage,
+-- and its call, if it is one, is served.
+pub record Allows (before : List Line) (line : Line) : Type 0 where
+  pub few : length before < 4294967295
+  pub in_place : IsInPlace (length before == 0) line
+  pub served : IsServedLine line
 
--- what comes after the trace: the word `end`, and the listing of the tree
-abbrev pub closing_text : Tree → List ℕ
-closing_text tree = ended (codes "end") ++ listing tree
+-- the lines that a replay has done, the oldest first: each was allowed behind those before it
+abbrev pub AreDone : List Line → Type 0
+AreDone done = AllowedNewest Allows (reverse done)
+
+-- what comes after the trace: the word `end`, the closing lines, and the listing of the tree
+abbrev pub closing_text : List TraceLine → Tree → List ℕ
+closing_text closing tree = ended (codes "end") ++ (trace_text closing ++ listing tree)
 
 -- The text is a schedule whose calls are all served.
 pub record IsServedSchedule (text : List ℕ) : Type 0 where
@@ -35,9 +41,10 @@ pub record IsServedSchedule (text : List ℕ) : Type 0 where
 pub record IsReplayed (text output : List ℕ) : Type 0 where
   pub input : IsServedSchedule text
   pub trace : List TraceLine
+  pub closing : List TraceLine
   pub last : Tree
-  pub headline : Headline input.schedule trace last
-  pub output-is : output ≡ trace_text trace ++ closing_text last
+  pub headline : Headline input.schedule trace closing last
+  pub output-is : output ≡ trace_text trace ++ closing_text closing last
 
 -- a call that isn't served
 pub record IsUnserved (first : Bool) (line : List ℕ) : Type 0 where
@@ -45,16 +52,21 @@ pub record IsUnserved (first : Bool) (line : List ℕ) : Type 0 where
   pub node : ℕ
   pub client : ℕ
   pub datagram : List ℕ
-  pub in_place : HasPlace first (Call reading node client datagram)
+  pub in_place : IsInPlace first (Call reading node client datagram)
   pub spelled : line ≡ spelling (Call reading node client datagram)
   pub unserved : IsServed datagram → ⊥
 
--- Behind the lines that were done, the next one is refused for the reason. An empty schedule lacks its first line.
+-- A line of text is refused behind these lines, for a reason. The text decides that it is outside the grammar: no line of this stage
+-- that has its place there is spelled so, or there is no room for one. A line in the grammar is refused for what it asks.
+abbrev pub Refuses : List Line → List ℕ → Reason → Type 0
+Refuses before text Grammar = (4294967295 ≤ length before) ⊎ ((value : Line) → IsInPlace (length before == 0) value → text ≢ spelling value)
+Refuses before text NotBuilt = (length before < 4294967295) × IsUnserved (length before == 0) text
+
+-- Behind the lines that were done, the next one is refused. An empty schedule lacks its first line.
 abbrev pub IsRefusedAt : List Line → List (List ℕ) → Reason → Type 0
 IsRefusedAt done [] Grammar = done ≡ []
 IsRefusedAt done [] NotBuilt = ⊥
-IsRefusedAt done (line ∷ lines) Grammar = (4294967295 ≤ length done) ⊎ ((value : Line) → HasPlace (length done == 0) value → line ≢ spelling value)
-IsRefusedAt done (line ∷ lines) NotBuilt = (length done < 4294967295) × IsUnserved (length done == 0) line
+IsRefusedAt done (line ∷ lines) reason = Refuses done line reason
 
 -- The line with this number is the first that is refused, for this reason.
 pub record IsFirstRefused (text : List ℕ) (number : ℕ) (reason : Reason) : Type 0 where
@@ -70,7 +82,7 @@ pub record IsRefused (text : List ℕ) (number : ℕ) (reason : Reason) (output 
   pub first : IsFirstRefused text number reason
   pub trace : List TraceLine
   pub last : Tree
-  pub headline : Headline first.done trace last
+  pub headline : Headline first.done trace [] last
   pub output-is : output ≡ trace_text trace
 
 -- The text is these lines, and then the rest; or it is these lines, of which the last lacks its line feed, and no rest.
@@ -91,7 +103,7 @@ pub record IsCutOff (text left output : List ℕ) : Type 0 where
   pub cut : IsCut text left
   pub trace : List TraceLine
   pub last : Tree
-  pub headline : Headline cut.done trace last
+  pub headline : Headline cut.done trace [] last
   pub output-is : output ≡ trace_text trace
 
 -- The output is a part, from its front, of the trace of some first lines of the text; or of all of them, with what comes after.
@@ -99,9 +111,10 @@ pub record IsBroken (text output : List ℕ) : Type 0 where
   pub done : List Line
   pub others : List (List ℕ)
   pub trace : List TraceLine
+  pub closing : List TraceLine
   pub last : Tree
   pub more : List ℕ
   pub read : lines_of text ≡ map spelling done ++ others
   pub are_done : AreDone done
-  pub headline : Headline done trace last
-  pub part : (output ++ more ≡ trace_text trace) ⊎ ((others ≡ []) × (output ++ more ≡ trace_text trace ++ closing_text last))
+  pub headline : Headline done trace closing last
+  pub part : (output ++ more ≡ trace_text trace) ⊎ ((others ≡ []) × (output ++ more ≡ trace_text trace ++ closing_text closing last))

@@ -9,9 +9,9 @@ use Rattle.bx_script.specs.declared.line.Line.TheVariants.{Heading, Call, Run}
 use Rattle.bx_script.specs.declared.trace_line.TraceLine.{TraceLine}
 use Rattle.bx_script.specs.ScheduleLine.{spelling}
 use Rattle.bx_script.specs.TraceText.{InTraceRange, trace_text}
-use Rattle.bx_script.specs.Schedule.{HasPlace, volume_of}
 use Rattle.bx_history.specs.Trace as traces
-use Rattle.bx_history.specs.Placed.{Part, schedule_of, trace_of}
+use Rattle.bx_history.specs.Parts.{trace_of}
+use Rattle.bx_history.specs.Along.{Done, parts_of, schedule_of}
 use Rattle.bx_history.specs.Account.{AccountsNewest, answered_entry}
 use Rattle.bx_model.specs.Opening.{opening}
 use Rattle.bx_nfs.specs.Wire.{IsServed}
@@ -19,19 +19,19 @@ use Rattle.bx_replay.specs.declared.state.Replay.{Replay}
 use Rattle.bx_replay.specs.declared.stop.Reason.TheVariants.{Grammar, NotBuilt}
 use Rattle.bx_replay.specs.declared.stop.Stop.{Stop}
 use Rattle.bx_replay.specs.declared.stop.Stop.TheVariants as stops
-use Rattle.bx_replay.specs.Headline.{rules, IsServedLine, Step}
+use Rattle.bx_replay.specs.Headline.{rules, opening_of, IsInPlace, IsServedLine, Step}
 use Rattle.bx_replay.specs.Outcome.{AreDone, IsBroken, IsCut, IsCutOff, IsFirstRefused, IsReadTo, IsRefused, IsReplayed, IsServedSchedule}
 
 -- After these lines, the newest first, the replay's tree and its count of calls are those that the trace leaves, and what was written
 -- since the start is that trace, whose lines are in range.
-pub record Stands (replay : Replay) (parts : List Part) (start written : List ℕ) : Type 0 where
+pub record Stands (replay : Replay) (done : List Done) (start written : List ℕ) : Type 0 where
   pub history : List traces.Entry
-  pub accounts : AccountsNewest Step rules (opening (volume_of (schedule_of parts))) parts history replay.tree
-  pub counted : replay.calls ≡ traces.taken_count (trace_of parts)
-  pub headed : 0 < length (schedule_of parts)
-  pub are_done : AreDone (schedule_of parts)
-  pub in_range : AllByRecursion InTraceRange (trace_of parts)
-  pub output : written ≡ start ++ trace_text (reverse (trace_of parts))
+  pub accounts : AccountsNewest Step rules (opening_of (schedule_of done)) (parts_of done) history replay.tree
+  pub counted : replay.calls ≡ traces.taken_count (trace_of (parts_of done))
+  pub headed : 0 < length (schedule_of done)
+  pub are_done : AreDone (schedule_of done)
+  pub in_range : AllByRecursion InTraceRange (trace_of (parts_of done))
+  pub output : written ≡ start ++ trace_text (reverse (trace_of (parts_of done)))
 
 -- What a call adds: its point, the reply's bytes, and a step of the tree, whoever asked.
 pub record Answers (old new : Replay) (reading : ℕ) (datagram : List ℕ) (point : Point) (reply : List ℕ) : Type 0 where
@@ -70,7 +70,7 @@ GivesLine (Ok (Some line)) number text rest left = BeginsWith text (spelling lin
 GivesLine (Ok None) number text rest left = (text ≡ []) × (left ≡ [])
 GivesLine (Err (stops.Refused line reason)) number text rest left =
     (first : List ℕ) × (others : List (List ℕ)) × (lines_of text ≡ first ∷ others)
-    × ((4294967295 < number) ⊎ ((value : Line) → HasPlace (number == 1) value → first ≢ spelling value))
+    × ((4294967295 < number) ⊎ ((value : Line) → IsInPlace (number == 1) value → first ≢ spelling value))
 GivesLine (Err stops.ReadFault) number text rest left = (piece : List ℕ) × (text ≡ piece ++ left) × LacksFeed piece × (length piece ≤ 18600)
 GivesLine (Err stops.WriteFault) number text rest left = ⊥
 GivesLine (Err stops.OutOfMemory) number text rest left = Unit {0}
@@ -85,17 +85,17 @@ HasLineCause stops.OutOfMemory number before now = Unit {0}
 -- ---- doing a line
 
 -- the replay stands with one line more
-pub record StandsAfter (replay : Replay) (line : Line) (parts : List Part) (start written : List ℕ) : Type 0 where
+pub record StandsAfter (replay : Replay) (line : Line) (done : List Done) (start written : List ℕ) : Type 0 where
   pub lines : List TraceLine
-  pub stands : Stands replay (record { line = line; lines = lines } ∷ parts) start written
+  pub stands : Stands replay (record { line = line; lines = lines } ∷ done) start written
 
 -- the replay would stand with one line more, but only a part of the trace was written
-pub record BreaksAfter (line : Line) (parts : List Part) (start old written : List ℕ) : Type 0 where
+pub record BreaksAfter (line : Line) (done : List Done) (start old written : List ℕ) : Type 0 where
   pub replay : Replay
   pub wrote : List ℕ
   pub more : List ℕ
   pub added : written ≡ old ++ wrote
-  pub after : StandsAfter replay line parts start (written ++ more)
+  pub after : StandsAfter replay line done start (written ++ more)
 
 -- a call that isn't served
 abbrev pub IsUnservedLine : Line → Type 0
@@ -112,12 +112,12 @@ Serves (Err stops.WriteFault) line = Unit {0}
 Serves (Err stops.OutOfMemory) line = Unit {0}
 
 -- what doing a line leaves, from how the replay stood before
-abbrev pub DoesLine : Result (Unit {0}) Stop → Line → List Part → List ℕ → List ℕ → List ℕ → Replay → Type 0
-DoesLine (Ok _) line parts start old new replay = StandsAfter replay line parts start new
-DoesLine (Err (stops.Refused number reason)) line parts start old new replay = new ≡ old
-DoesLine (Err stops.ReadFault) line parts start old new replay = ⊥
-DoesLine (Err stops.WriteFault) line parts start old new replay = BreaksAfter line parts start old new
-DoesLine (Err stops.OutOfMemory) line parts start old new replay = new ≡ old
+abbrev pub DoesLine : Result (Unit {0}) Stop → Line → List Done → List ℕ → List ℕ → List ℕ → Replay → Type 0
+DoesLine (Ok _) line done start old new replay = StandsAfter replay line done start new
+DoesLine (Err (stops.Refused number reason)) line done start old new replay = new ≡ old
+DoesLine (Err stops.ReadFault) line done start old new replay = ⊥
+DoesLine (Err stops.WriteFault) line done start old new replay = BreaksAfter line done start old new
+DoesLine (Err stops.OutOfMemory) line done start old new replay = new ≡ old
 
 -- why doing a line stops short
 abbrev pub HasStepCause : Stop → ℕ → ℕ → ℕ → Type 0
@@ -151,7 +151,7 @@ pub record IsBegun (replay : Replay) (text rest : List ℕ) : Type 0 where
   pub nodes : ℕ
   pub devices : ℕ
   pub areas : ℕ
-  pub in_place : HasPlace true (Heading volume nodes devices areas)
+  pub in_place : IsInPlace true (Heading volume nodes devices areas)
   pub begins : BeginsWith text (spelling (Heading volume nodes devices areas)) rest
   pub tree : replay.tree ≡ opening volume
   pub calls : replay.calls ≡ 0
@@ -183,10 +183,10 @@ pub record IsRead (text rest : List ℕ) (number : ℕ) : Type 0 where
 
 -- The replay stands after these lines.
 pub record Going (text rest : List ℕ) (number : ℕ) (replay : Replay) (start written : List ℕ) : Type 0 where
-  pub parts : List Part
-  pub stands : Stands replay parts start written
-  pub read : IsReadTo text (schedule_of parts) rest
-  pub count : number ≡ length parts
+  pub done : List Done
+  pub stands : Stands replay done start written
+  pub read : IsReadTo text (schedule_of done) rest
+  pub count : number ≡ length done
 
 -- ---- the whole
 

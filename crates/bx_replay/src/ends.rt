@@ -1,6 +1,6 @@
 //! How a replay begins, and how it ends.
 
-ghost use Rattle.std.specs.Prelude.{◌≡◌, ◌≤◌, ◌++◌, IfOk, IfErr, MatchResult};
+ghost use Rattle.std.specs.Prelude.{◌≡◌, ◌≤◌, [], ◌++◌, IfOk, IfErr, MatchResult};
 ghost use Rattle.bx_model.specs.Listing.{IsBare};
 ghost use Rattle.bx_replay.specs.Outcome.{closing_text};
 ghost use Rattle.bx_replay.specs.Replay.{Begins, Finishes, HasLineCause, HasPrintCause, UnlessRead, UnlessWrite};
@@ -44,7 +44,7 @@ impl Replay {
     /// Writes what comes after the trace: the word `end`, and the listing of the tree.
     pub fn finish<K: Sink>(&self, out: &mut K) -> Result<(), Stop>
         requires { IsBare self.now.tree }
-        ensures finishes { K.tells out.old → Finishes result (closing_text self.now.tree) (K.written out.old) (K.written out.new) }
+        ensures finishes { K.tells out.old → Finishes result (closing_text [] self.now.tree) (K.written out.old) (K.written out.new) }
         ensures cause { IfErr result (λ stop. HasPrintCause stop (K.faults out.old) (K.faults out.new)) }
         ensures first { UnlessWrite result (K.faults out.new ≡ K.faults out.old) }
         ensures later { K.faults out.old ≤ K.faults out.new }

@@ -1,9 +1,9 @@
 //! The lines of a schedule, read one after the other.
 
-ghost use Rattle.std.specs.Prelude.{◌≡◌, ◌≢◌, ◌≤◌, ◌==◌, ◌++◌, IfOk, IfErr, IfSome, IfNone, OnSome};
+ghost use Rattle.std.specs.Prelude.{◌≡◌, ◌≢◌, ◌≤◌, ◌==◌, ◌++◌, IfOk, IfErr, IfSome, IfNone, OnSome, IsTrue, ◌↔◌};
 ghost use Rattle.bx_script.specs.declared.line.Line.{Line};
 ghost use Rattle.bx_script.specs.ScheduleLine.{spelling};
-ghost use Rattle.bx_script.specs.Schedule.{HasPlace};
+ghost use Rattle.bx_replay.specs.Headline.{IsBuilt, IsInPlace};
 ghost use Rattle.bx_replay.specs.Replay.{GivesLine, HasLineCause, UnlessRead};
 
 use crate::stop::{Reason, Stop};
@@ -23,7 +23,7 @@ pub fn next_line<S: Source>(
     requires { reader.old.most ≡ 18600 }
     ensures gives { S.tells input.old → GivesLine result number (reader.old.ahead ++ S.left input.old)
         (reader.new.ahead ++ S.left input.new) (S.left input.new) }
-    ensures in_place { IfOk result (λ found. IfSome found (HasPlace (number == 1))) }
+    ensures in_place { IfOk result (λ found. IfSome found (IsInPlace (number == 1))) }
     ensures few { IfOk result (λ found. OnSome found (number ≤ 4294967295)) }
     ensures cause { IfErr result (λ stop. HasLineCause stop number (S.faults input.old) (S.faults input.new)) }
     ensures first { UnlessRead result (S.faults input.new ≡ S.faults input.old) }
@@ -47,11 +47,27 @@ pub fn next_line<S: Source>(
 
 // The line that a text spells, if it may stand there: the heading is the first line, and no other is a heading.
 fn line_at(alloc: Global, text: &[u8], first: bool) -> Result<Option<Line>, OutOfMemory>
-    ensures found { IfOk result (λ found. IfSome found (λ line. HasPlace first line × (text.now ≡ spelling line))) }
-    ensures none { IfOk result (λ found. IfNone found ((line : Line) → HasPlace first line → text.now ≢ spelling line)) }
+    ensures found { IfOk result (λ found. IfSome found (λ line. IsInPlace first line × (text.now ≡ spelling line))) }
+    ensures none { IfOk result (λ found. IfNone found ((line : Line) → IsInPlace first line → text.now ≢ spelling line)) }
 {
     match Line::read(alloc, text)? {
-        Some(line) if line.is_heading() == first => Ok(Some(line)),
+        Some(line) if line.is_heading() == first && is_built(&line) => Ok(Some(line)),
         _ => Ok(None),
+    }
+}
+
+// Whether this stage has the line: there is one node, one device and one area.
+fn is_built(line: &Line) -> bool
+    ensures { IsTrue result ↔ IsBuilt line.now }
+{
+    match line {
+        Line::Heading {
+            nodes,
+            devices,
+            areas,
+            ..
+        } => *nodes == 1 && *devices == 1 && *areas == 1,
+        Line::Call { node, .. } => *node == 0,
+        Line::Run { .. } => true,
     }
 }

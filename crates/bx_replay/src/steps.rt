@@ -1,10 +1,10 @@
 //! What the lines of a schedule do.
 
 ghost use Rattle.std.specs.Prelude.{◌≡◌, ◌≤◌, ◌<◌, ◌+◌, ◌^◌, List, ℕ, length, IfOk, IfErr, MatchOption, true, false};
-ghost use Rattle.bx_script.specs.Schedule.{HasPlace};
-ghost use Rattle.bx_history.specs.Placed.{Part};
+ghost use Rattle.bx_history.specs.Along.{Done};
 ghost use Rattle.bx_model.specs.Listing.{IsBare};
 ghost use Rattle.bx_nfs.specs.Wire.{IsServed};
+ghost use Rattle.bx_replay.specs.Headline.{IsInPlace};
 ghost use Rattle.bx_replay.specs.Replay.{Answers, DoesLine, HasStepCause, Serves, Stands, UnlessWrite};
 
 use crate::print::print_lines;
@@ -27,12 +27,12 @@ impl Replay {
         line: Line,
         out: &mut K,
     ) -> Result<(), Stop>
-        requires in_place { HasPlace false line }
+        requires in_place { IsInPlace false line }
         requires bare { IsBare self.old.tree }
         requires few { self.old.calls < 2 ^ 32 }
 
-        ensures does { K.tells out.old → (parts : List Part) (start : List ℕ) → length parts < 4294967295 → Stands self.old parts start (K.written out.old)
-            → DoesLine result line parts start (K.written out.old) (K.written out.new) self.new }
+        ensures does { K.tells out.old → (done : List Done) (start : List ℕ) → length done < 4294967295 → Stands self.old done start (K.written out.old)
+            → DoesLine result line done start (K.written out.old) (K.written out.new) self.new }
         ensures serves { Serves result line }
         ensures cause { IfErr result (λ stop. HasStepCause stop number (K.faults out.old) (K.faults out.new)) }
         ensures first { UnlessWrite result (K.faults out.new ≡ K.faults out.old) }

@@ -75,44 +75,60 @@ run_again reading limit fits =
 -- ---- `boxwood`
 
 heading_parts : (text : List ℕ) (version : ℕ) (r1 : List ℕ) (volume : ℕ) (r2 : List ℕ) (nodes : ℕ) (r3 : List ℕ) (devices : ℕ) (r4 : List ℕ) (areas : ℕ) (line : Line)
-    → IsNumberAt (2 ^ 32 - 1) text version r1 → IsNumberAt (2 ^ 64 - 1) r1 volume r2 → IsNumberAt (2 ^ 32 - 1) r2 nodes r3 → IsNumberAt (2 ^ 32 - 1) r3 devices r4 → IsNumber (2 ^ 32 - 1) areas r4
-    → cond (eqb version 1 && eqb nodes 1 && eqb devices 1 && eqb areas 1) (Some (Heading volume nodes devices areas)) None ≡ Some line → Reads (codes "boxwood") text line
+    → IsNumberAt (2 ^ 32 - 1) text version r1 → IsNumberAt (2 ^ 64 - 1) r1 volume r2 → IsNumberAt 4 r2 nodes r3 → IsNumberAt 4 r3 devices r4 → IsNumber 64 areas r4
+    → cond (eqb version 1 && leb 1 nodes && leb 1 devices && leb 1 areas) (Some (Heading volume nodes devices areas)) None ≡ Some line → Reads (codes "boxwood") text line
 heading_parts text version r1 volume r2 nodes r3 devices r4 areas line p1 p2 p3 p4 p5 e =
-    let d = cond_some (eqb version 1 && eqb nodes 1 && eqb devices 1 && eqb areas 1) (Heading volume nodes devices areas) line e in
-    let t1 = and_parts (eqb version 1 && eqb nodes 1 && eqb devices 1) (eqb areas 1) d.0 in
-    let t2 = and_parts (eqb version 1 && eqb nodes 1) (eqb devices 1) t1.0 in
-    let t3 = and_parts (eqb version 1) (eqb nodes 1) t2.0 in
+    let d = cond_some (eqb version 1 && leb 1 nodes && leb 1 devices && leb 1 areas) (Heading volume nodes devices areas) line e in
+    let t1 = and_parts (eqb version 1 && leb 1 nodes && leb 1 devices) (leb 1 areas) d.0 in
+    let t2 = and_parts (eqb version 1 && leb 1 nodes) (leb 1 devices) t1.0 in
+    let t3 = and_parts (eqb version 1) (leb 1 nodes) t2.0 in
     let one : decimal version ≡ codes "1" = ap decimal (eqb-true _ _ t3.0) ∙ decimal_digit 1 (omega arith) in
     let s4 = joined r3 r4 (decimal devices) (decimal areas) p4.spelled p5.spelled in
     let s3 = joined r2 r3 (decimal nodes) (then_space (decimal devices) (decimal areas)) p3.spelled s4 in
     let s2 = joined r1 r2 (decimal volume) (then_space (decimal nodes) (then_space (decimal devices) (decimal areas))) p2.spelled s3 in
     let s1 = joined text r1 (decimal version) (then_space (decimal volume) (then_space (decimal nodes) (then_space (decimal devices) (decimal areas)))) p1.spelled s2 in
     let spelled = s1 ∙ ap (λ (w : List ℕ). then_space w (then_space (decimal volume) (then_space (decimal nodes) (then_space (decimal devices) (decimal areas))))) one in
-    subst (λ (l : Line). Reads (codes "boxwood") text l) d.1
-    (record { volume_fits = omega (arith, p2.within); one_node = eqb-true _ _ t3.1; one_device = eqb-true _ _ t2.1; one_area = eqb-true _ _ t1.1 }, ap (λ (t : List ℕ). then_space (codes "boxwood") t) spelled)
+    subst (λ (l : Line). Reads (codes "boxwood") text l) d.1 (
+      record {
+        volume_fits = omega (arith, p2.within);
+        some_nodes = leb-true _ _ t3.1;
+        most_nodes = p3.within;
+        some_devices = leb-true _ _ t2.1;
+        most_devices = p4.within;
+        some_areas = leb-true _ _ t1.1;
+        most_areas = p5.within;
+      },
+      ap (λ (t : List ℕ). then_space (codes "boxwood") t) spelled,
+    )
 
 heading_takes : (text : List ℕ) (line : Line) → heading_of text ≡ Some line → Reads (codes "boxwood") text line
 unfolding heading_of
 heading_takes text line e =
     option_and_then_some _ (number_at (2 ^ 32 - 1) text) line e (λ version e1 f1.
     option_and_then_some _ (number_at (2 ^ 64 - 1) version.1) line f1 (λ volume e2 f2.
-    option_and_then_some _ (number_at (2 ^ 32 - 1) volume.1) line f2 (λ nodes e3 f3.
-    option_and_then_some _ (number_at (2 ^ 32 - 1) nodes.1) line f3 (λ devices e4 f4.
-    option_and_then_some _ (number_of (2 ^ 32 - 1) devices.1) line f4 (λ areas e5 f5.
+    option_and_then_some _ (number_at 4 volume.1) line f2 (λ nodes e3 f3.
+    option_and_then_some _ (number_at 4 nodes.1) line f3 (λ devices e4 f4.
+    option_and_then_some _ (number_of 64 devices.1) line f4 (λ areas e5 f5.
     heading_parts text version.0 version.1 volume.0 volume.1 nodes.0 nodes.1 devices.0 devices.1 areas line
-    (number_at_takes (2 ^ 32 - 1) text version (omega arith) e1) (number_at_takes (2 ^ 64 - 1) version.1 volume (omega arith) e2) (number_at_takes (2 ^ 32 - 1) volume.1 nodes (omega arith) e3)
-    (number_at_takes (2 ^ 32 - 1) nodes.1 devices (omega arith) e4) (number_takes (2 ^ 32 - 1) devices.1 areas (omega arith) e5) f5)))))
+    (number_at_takes (2 ^ 32 - 1) text version (omega arith) e1) (number_at_takes (2 ^ 64 - 1) version.1 volume (omega arith) e2) (number_at_takes 4 volume.1 nodes (omega arith) e3)
+    (number_at_takes 4 nodes.1 devices (omega arith) e4) (number_takes 64 devices.1 areas (omega arith) e5) f5)))))
 
-heading_again : (volume : ℕ) → volume < 2 ^ 64
-    → heading_of (then_space (decimal 1) (then_space (decimal volume) (then_space (decimal 1) (then_space (decimal 1) (decimal 1))))) ≡ Some (Heading volume 1 1 1)
+heading_again : (volume nodes devices areas : ℕ) → IsHeading volume nodes devices areas
+    → heading_of (then_space (decimal 1) (then_space (decimal volume) (then_space (decimal nodes) (then_space (decimal devices) (decimal areas))))) ≡ Some (Heading volume nodes devices areas)
 unfolding heading_of
-heading_again volume fits =
+heading_again volume nodes devices areas fits =
+    let n : leb 1 nodes ≡ true = le-leb _ _ fits.some_nodes in
+    let d : leb 1 devices ≡ true = le-leb _ _ fits.some_devices in
+    let a : leb 1 areas ≡ true = le-leb _ _ fits.some_areas in
     rw (
-      number_at_again (2 ^ 32 - 1) 1 (then_space (decimal volume) (then_space (decimal 1) (then_space (decimal 1) (decimal 1)))) (omega arith) (omega arith),
-      number_at_again (2 ^ 64 - 1) volume (then_space (decimal 1) (then_space (decimal 1) (decimal 1))) (omega arith) (omega arith),
-      number_at_again (2 ^ 32 - 1) 1 (then_space (decimal 1) (decimal 1)) (omega arith) (omega arith),
-      number_at_again (2 ^ 32 - 1) 1 (decimal 1) (omega arith) (omega arith),
-      number_again (2 ^ 32 - 1) 1 (omega arith) (omega arith),
+      number_at_again (2 ^ 32 - 1) 1 (then_space (decimal volume) (then_space (decimal nodes) (then_space (decimal devices) (decimal areas)))) (omega arith) (omega arith),
+      number_at_again (2 ^ 64 - 1) volume (then_space (decimal nodes) (then_space (decimal devices) (decimal areas))) (omega arith) (omega (arith, fits.volume_fits)),
+      number_at_again 4 nodes (then_space (decimal devices) (decimal areas)) (omega arith) fits.most_nodes,
+      number_at_again 4 devices (decimal areas) (omega arith) fits.most_devices,
+      number_again 64 areas (omega arith) fits.most_areas,
+      n,
+      d,
+      a,
     ) refl
 
 -- ---- `call`
@@ -120,7 +136,7 @@ heading_again volume fits =
 pub record IsFields (text : List ℕ) (reading node client : ℕ) (hex : List ℕ) : Type 0 where
   pub spelled : text ≡ then_space (decimal reading) (then_space (decimal node) (then_space (decimal client) hex))
   pub reading_fits : reading ≤ 4294967295999
-  pub first_node : node ≡ 0
+  pub node_fits : node ≤ 2 ^ 32 - 1
   pub client_fits : client ≤ 2 ^ 32 - 1
 
 abbrev Fields : Type 0
@@ -128,13 +144,13 @@ Fields = ℕ × ℕ × ℕ × List ℕ
 
 fields_parts : (text : List ℕ) (reading : ℕ) (r1 : List ℕ) (node : ℕ) (r2 : List ℕ) (client : ℕ) (r3 : List ℕ) (f : Fields)
     → IsNumberAt 4294967295999 text reading r1 → IsNumberAt (2 ^ 32 - 1) r1 node r2 → IsNumberAt (2 ^ 32 - 1) r2 client r3
-    → cond (eqb node 0) (Some (reading, node, client, r3)) None ≡ Some f → IsFields text f.0 f.1 f.2 f.3
+    → Some (reading, node, client, r3) ≡ Some f → IsFields text f.0 f.1 f.2 f.3
 fields_parts text reading r1 node r2 client r3 f p1 p2 p3 e =
     let made : Fields = (reading, node, client, r3) in
-    let d = cond_some (eqb node 0) made f e in
+    let d : made ≡ f = some_is made f e in
     let s2 = joined r1 r2 (decimal node) (then_space (decimal client) r3) p2.spelled p3.spelled in
     let s1 = joined text r1 (decimal reading) (then_space (decimal node) (then_space (decimal client) r3)) p1.spelled s2 in
-    subst (λ (g : Fields). IsFields text g.0 g.1 g.2 g.3) d.1 (record { spelled = s1; reading_fits = p1.within; first_node = eqb-true _ _ d.0; client_fits = p3.within })
+    subst (λ (g : Fields). IsFields text g.0 g.1 g.2 g.3) d (record { spelled = s1; reading_fits = p1.within; node_fits = p2.within; client_fits = p3.within })
 
 fields_take : (text : List ℕ) (f : Fields) → call_fields_of text ≡ Some f → IsFields text f.0 f.1 f.2 f.3
 unfolding call_fields_of
@@ -145,13 +161,13 @@ fields_take text f e =
     fields_parts text reading.0 reading.1 node.0 node.1 client.0 client.1 f
     (number_at_takes 4294967295999 text reading (omega arith) e1) (number_at_takes (2 ^ 32 - 1) reading.1 node (omega arith) e2) (number_at_takes (2 ^ 32 - 1) node.1 client (omega arith) e3) f3)))
 
-fields_again : (reading client : ℕ) (hex : List ℕ) → reading ≤ 4294967295999 → client < 2 ^ 32
-    → call_fields_of (then_space (decimal reading) (then_space (decimal 0) (then_space (decimal client) hex))) ≡ Some (reading, 0, client, hex)
+fields_again : (reading node client : ℕ) (hex : List ℕ) → reading ≤ 4294967295999 → node < 2 ^ 32 → client < 2 ^ 32
+    → call_fields_of (then_space (decimal reading) (then_space (decimal node) (then_space (decimal client) hex))) ≡ Some (reading, node, client, hex)
 unfolding call_fields_of
-fields_again reading client hex p q =
+fields_again reading node client hex p m q =
     rw (
-      number_at_again 4294967295999 reading (then_space (decimal 0) (then_space (decimal client) hex)) (omega arith) p,
-      number_at_again (2 ^ 32 - 1) 0 (then_space (decimal client) hex) (omega arith) (omega arith),
+      number_at_again 4294967295999 reading (then_space (decimal node) (then_space (decimal client) hex)) (omega arith) p,
+      number_at_again (2 ^ 32 - 1) node (then_space (decimal client) hex) (omega arith) (omega arith),
       number_at_again (2 ^ 32 - 1) client hex (omega arith) (omega arith),
     ) refl
 
@@ -159,7 +175,7 @@ call_parts : (text : List ℕ) (reading node client : ℕ) (hex bytes : List ℕ
 call_parts text reading node client hex bytes p q =
     let spelled : text ≡ then_space (decimal reading) (then_space (decimal node) (then_space (decimal client) (encode_lower bytes))) =
     p.spelled ∙ ap (λ (h : List ℕ). then_space (decimal reading) (then_space (decimal node) (then_space (decimal client) h))) q.spelled in
-    (record { reading_fits = p.reading_fits; first_node = p.first_node; client_fits = omega (arith, p.client_fits); short = q.short; bytes = q.fits }, ap (λ (t : List ℕ). then_space (codes "call") t) spelled)
+    (record { reading_fits = p.reading_fits; node_fits = omega (arith, p.node_fits); client_fits = omega (arith, p.client_fits); short = q.short; bytes = q.fits }, ap (λ (t : List ℕ). then_space (codes "call") t) spelled)
 
 call_takes : (text : List ℕ) (line : Line) → call_of text ≡ Some line → Reads (codes "call") text line
 unfolding call_of
@@ -169,11 +185,11 @@ call_takes text line e =
     subst (λ (l : Line). Reads (codes "call") text l) (some_is (Call f.0 f.1 f.2 bytes) line f2)
     (call_parts text f.0 f.1 f.2 f.3 bytes (fields_take text f e1) (datagram_takes f.3 bytes e2))))
 
-call_again : (reading client : ℕ) (bytes : List ℕ) → IsCall reading 0 client bytes
-    → call_of (then_space (decimal reading) (then_space (decimal 0) (then_space (decimal client) (encode_lower bytes)))) ≡ Some (Call reading 0 client bytes)
+call_again : (reading node client : ℕ) (bytes : List ℕ) → IsCall reading node client bytes
+    → call_of (then_space (decimal reading) (then_space (decimal node) (then_space (decimal client) (encode_lower bytes)))) ≡ Some (Call reading node client bytes)
 unfolding call_of
-call_again reading client bytes fits =
-    rw (fields_again reading client (encode_lower bytes) fits.reading_fits fits.client_fits, datagram_again bytes fits.short fits.bytes) refl
+call_again reading node client bytes fits =
+    rw (fields_again reading node client (encode_lower bytes) fits.reading_fits fits.node_fits fits.client_fits, datagram_again bytes fits.short fits.bytes) refl
 
 -- ---- a line
 
@@ -218,21 +234,13 @@ heading_text version volume nodes devices areas = then_space version (then_space
 
 heading_line : (volume nodes devices areas : ℕ) → IsHeading volume nodes devices areas → heading_of (heading_text (codes "1") volume nodes devices areas) ≡ Some (Heading volume nodes devices areas)
 heading_line volume nodes devices areas fits =
-    let same : heading_of (heading_text (codes "1") volume 1 1 1) ≡ Some (Heading volume 1 1 1) =
-    ap (λ (w : List ℕ). heading_of (heading_text w volume 1 1 1)) (sym (decimal_digit 1 (omega arith))) ∙ heading_again volume fits.volume_fits in
-    rw (fits.one_node, fits.one_device, fits.one_area) same
-
-call_line : (reading node client : ℕ) (bytes : List ℕ) → IsCall reading node client bytes
-    → call_of (then_space (decimal reading) (then_space (decimal node) (then_space (decimal client) (encode_lower bytes)))) ≡ Some (Call reading node client bytes)
-call_line reading node client bytes fits =
-    let fits' : IsCall reading 0 client bytes = record { reading_fits = fits.reading_fits; first_node = refl; client_fits = fits.client_fits; short = fits.short; bytes = fits.bytes } in
-    rw fits.first_node (call_again reading client bytes fits')
+    ap (λ (w : List ℕ). heading_of (heading_text w volume nodes devices areas)) (sym (decimal_digit 1 (omega arith))) ∙ heading_again volume nodes devices areas fits
 
 pub line_again : (line : Line) → InRange line → line_of (spelling line) ≡ Some line
 line_again (Heading volume nodes devices areas) fits =
     word_again (codes "boxwood") (heading_text (codes "1") volume nodes devices areas) (lacks_from_test 32 (codes "boxwood") refl) ∙ heading_line volume nodes devices areas fits
 line_again (Call reading node client bytes) fits =
-    word_again (codes "call") (then_space (decimal reading) (then_space (decimal node) (then_space (decimal client) (encode_lower bytes)))) (lacks_from_test 32 (codes "call") refl) ∙ call_line reading node client bytes fits
+    word_again (codes "call") (then_space (decimal reading) (then_space (decimal node) (then_space (decimal client) (encode_lower bytes)))) (lacks_from_test 32 (codes "call") refl) ∙ call_again reading node client bytes fits
 line_again (Run reading limit) fits =
     word_again (codes "run") (then_space (decimal reading) (decimal limit)) (lacks_from_test 32 (codes "run") refl) ∙ run_again reading limit fits
 

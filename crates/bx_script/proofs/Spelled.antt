@@ -31,9 +31,9 @@ short_heading : (version : List ℕ) (volume nodes devices areas : ℕ) → IsHe
     → length (then_space version (then_space (decimal volume) (then_space (decimal nodes) (then_space (decimal devices) (decimal areas))))) ≤ length version + 60
 short_heading version volume nodes devices areas fits =
     let v = length-decimal-le 20 volume (omega arith) (omega (arith, fits.volume_fits)) fits.volume_fits in
-    let n = length-decimal-le 1 nodes (omega arith) (omega (arith, fits.one_node)) (omega (arith, fits.one_node)) in
-    let d = length-decimal-le 1 devices (omega arith) (omega (arith, fits.one_device)) (omega (arith, fits.one_device)) in
-    let a = length-decimal-le 1 areas (omega arith) (omega (arith, fits.one_area)) (omega (arith, fits.one_area)) in
+    let n = length-decimal-le 2 nodes (omega arith) (omega (arith, fits.most_nodes)) (omega (arith, fits.most_nodes)) in
+    let d = length-decimal-le 2 devices (omega arith) (omega (arith, fits.most_devices)) (omega (arith, fits.most_devices)) in
+    let a = length-decimal-le 2 areas (omega arith) (omega (arith, fits.most_areas)) (omega (arith, fits.most_areas)) in
     omega (
       arith,
       length-then_space version (then_space (decimal volume) (then_space (decimal nodes) (then_space (decimal devices) (decimal areas)))),
@@ -46,7 +46,7 @@ short_call : (reading node client : ℕ) (bytes : List ℕ) → IsCall reading n
     → length (then_space (decimal reading) (then_space (decimal node) (then_space (decimal client) (encode_lower bytes)))) ≤ 18500
 short_call reading node client bytes fits =
     let r = length-decimal-le 13 reading (omega arith) (omega (arith, fits.reading_fits)) (omega (arith, fits.reading_fits)) in
-    let n = length-decimal-le 1 node (omega arith) (omega (arith, fits.first_node)) (omega (arith, fits.first_node)) in
+    let n = length-decimal-le 10 node (omega arith) (omega (arith, fits.node_fits)) (omega (arith, fits.node_fits)) in
     let c = length-decimal-le 10 client (omega arith) (omega (arith, fits.client_fits)) (omega (arith, fits.client_fits)) in
     omega (
       arith,
@@ -81,7 +81,7 @@ fields_lack_feed (Heading volume nodes devices areas) fits = (
     lacks_from_test 10 (codes "1") refl,
     (
       Lacks-decimal 10 volume (omega arith) fits.volume_fits,
-      (Lacks-decimal 10 nodes (omega arith) (omega (arith, fits.one_node)), (Lacks-decimal 10 devices (omega arith) (omega (arith, fits.one_device)), (Lacks-decimal 10 areas (omega arith) (omega (arith, fits.one_area)), tt))),
+      (Lacks-decimal 10 nodes (omega arith) (omega (arith, fits.most_nodes)), (Lacks-decimal 10 devices (omega arith) (omega (arith, fits.most_devices)), (Lacks-decimal 10 areas (omega arith) (omega (arith, fits.most_areas)), tt))),
     ),
   ),
 )
@@ -90,7 +90,7 @@ fields_lack_feed (Call reading node client bytes) fits = (
   (
     Lacks-decimal 10 reading (omega arith) (omega (arith, fits.reading_fits)),
     (
-      Lacks-decimal 10 node (omega arith) (omega (arith, fits.first_node)),
+      Lacks-decimal 10 node (omega arith) (omega (arith, fits.node_fits)),
       (Lacks-decimal 10 client (omega arith) (omega (arith, fits.client_fits)), (Lacks-hex 10 bytes (omega arith) fits.bytes, tt)),
     ),
   ),

@@ -51,10 +51,10 @@ unfoldable pub heading_of : List ℕ → Option Line
 heading_of text = do
   version ← number_at (2 ^ 32 - 1) text
   volume ← number_at (2 ^ 64 - 1) version.1
-  nodes ← number_at (2 ^ 32 - 1) volume.1
-  devices ← number_at (2 ^ 32 - 1) nodes.1
-  areas ← number_of (2 ^ 32 - 1) devices.1
-  if version.0 == 1 && nodes.0 == 1 && devices.0 == 1 && areas == 1 then Some (Heading volume.0 nodes.0 devices.0 areas) else None
+  nodes ← number_at 4 volume.1
+  devices ← number_at 4 nodes.1
+  areas ← number_of 64 devices.1
+  if version.0 == 1 && nat_le 1 nodes.0 && nat_le 1 devices.0 && nat_le 1 areas then Some (Heading volume.0 nodes.0 devices.0 areas) else None
 
 -- `READING NODE CLIENT HEX`, with the hex as it stands
 unfoldable pub call_fields_of : List ℕ → Option (ℕ × ℕ × ℕ × List ℕ)
@@ -62,7 +62,7 @@ call_fields_of text = do
   reading ← number_at 4294967295999 text
   node ← number_at (2 ^ 32 - 1) reading.1
   client ← number_at (2 ^ 32 - 1) node.1
-  if node.0 == 0 then Some (reading.0, node.0, client.0, client.1) else None
+  Some (reading.0, node.0, client.0, client.1)
 
 unfoldable pub call_of : List ℕ → Option Line
 call_of text = do

@@ -23,13 +23,16 @@ IsReading reading = reading ≤ 4294967295999
 
 pub record IsHeading (volume nodes devices areas : ℕ) : Type 0 where
   pub volume_fits : volume < 2 ^ 64
-  pub one_node : nodes ≡ 1
-  pub one_device : devices ≡ 1
-  pub one_area : areas ≡ 1
+  pub some_nodes : 1 ≤ nodes
+  pub most_nodes : nodes ≤ 4
+  pub some_devices : 1 ≤ devices
+  pub most_devices : devices ≤ 4
+  pub some_areas : 1 ≤ areas
+  pub most_areas : areas ≤ 64
 
 pub record IsCall (reading node client : ℕ) (datagram : List ℕ) : Type 0 where
   pub reading_fits : IsReading reading
-  pub first_node : node ≡ 0
+  pub node_fits : node < 2 ^ 32
   pub client_fits : client < 2 ^ 32
   pub short : length datagram ≤ 9216
   pub bytes : IsBytes datagram

@@ -16,6 +16,15 @@ pub const MAX_LINE: usize = 18600;
 /// The most bytes of a datagram.
 pub const MAX_DATAGRAM: usize = 9216;
 
+/// The most nodes of a heading.
+pub(crate) const MAX_NODES: u32 = 4;
+
+/// The most devices of a heading.
+pub(crate) const MAX_DEVICES: u32 = 4;
+
+/// The most areas of a heading.
+pub(crate) const MAX_AREAS: u32 = 64;
+
 /// The greatest reading of a clock, in milliseconds.
 pub const MAX_READING: u64 = 4294967295999;
 
@@ -32,11 +41,11 @@ pub enum Line {
     Heading {
         /// The number of the volume.
         volume: u64,
-        /// How many nodes there are: 1.
+        /// How many nodes there are, 1 to 4.
         nodes: u32,
-        /// How many devices the volume has: 1.
+        /// How many devices the volume has, 1 to 4.
         devices: u32,
-        /// How many areas the volume has: 1.
+        /// How many areas the volume has, 1 to 64.
         areas: u32,
     },
     /// `call READING NODE CLIENT HEX`: a datagram arrives at a node.

@@ -6,7 +6,7 @@ ghost use Rattle.std.specs.Char.{is_ascii_digit, is_ascii_uppercase};
 ghost use Rattle.std.specs.Str.Parse.{digits_value};
 ghost use Rattle.bx_script.specs.Reading.{Gives, cut, call_fields_of, number_at, datagram_of, heading_of, call_of, run_of, is_numeral, line_of, number_of};
 
-use crate::line::{Line, MAX_DATAGRAM, MAX_READING, MAX_RUN};
+use crate::line::{Line, MAX_AREAS, MAX_DATAGRAM, MAX_DEVICES, MAX_NODES, MAX_READING, MAX_RUN};
 use bx_base::{OutOfMemory, Raw};
 use hex::FromHexError;
 use std::alloc::Global;
@@ -33,12 +33,12 @@ pub fn read_line(alloc: Global, text: &[u8]) -> Result<Option<Line>, OutOfMemory
 fn heading(text: &[u8]) -> Option<Line>
     ensures { result ≡ heading_of text.now }
 {
-    let (version, rest) = word_at(text)?;
+    let (version, rest) = word_at(text, u32::MAX)?;
     let (volume, rest) = number_at(rest, u64::MAX)?;
-    let (nodes, rest) = word_at(rest)?;
-    let (devices, rest) = word_at(rest)?;
-    let areas = word(rest)?;
-    if version == 1 && nodes == 1 && devices == 1 && areas == 1 {
+    let (nodes, rest) = word_at(rest, MAX_NODES)?;
+    let (devices, rest) = word_at(rest, MAX_DEVICES)?;
+    let areas = word(rest, MAX_AREAS)?;
+    if version == 1 && nodes >= 1 && devices >= 1 && areas >= 1 {
         Some(Line::Heading {
             volume,
             nodes,
@@ -75,13 +75,9 @@ fn call_fields(text: &[u8]) -> Option<(u64, u32, u32, &[u8])>
     ensures { Gives (λ x. (x.0, x.1, x.2, x.3.now)) result (call_fields_of text.now) }
 {
     let (reading, rest) = number_at(text, MAX_READING)?;
-    let (node, rest) = word_at(rest)?;
-    let (client, hex) = word_at(rest)?;
-    if node == 0 {
-        Some((reading, node, client, hex))
-    } else {
-        None
-    }
+    let (node, rest) = word_at(rest, u32::MAX)?;
+    let (client, hex) = word_at(rest, u32::MAX)?;
+    Some((reading, node, client, hex))
 }
 
 // `READING LIMIT`
@@ -122,11 +118,11 @@ fn lacks_upper_case(text: &[u8]) -> bool
     text.iter().all(|c| !c.is_ascii_uppercase())
 }
 
-// A number of 32 bits and a space, and the bytes after them.
-fn word_at(text: &[u8]) -> Option<(u32, &[u8])>
-    ensures { Gives (λ x. (x.0, x.1.now)) result (number_at (2 ^ 32 - 1) text.now) }
+// A number of 32 bits up to the most and a space, and the bytes after them.
+fn word_at(text: &[u8], most: u32) -> Option<(u32, &[u8])>
+    ensures { Gives (λ x. (x.0, x.1.now)) result (number_at most text.now) }
 {
-    let (number, rest) = number_at(text, u64::from(u32::MAX))?;
+    let (number, rest) = number_at(text, u64::from(most))?;
     Some((number as u32, rest))
 }
 
@@ -140,11 +136,11 @@ fn number_at(text: &[u8], most: u64) -> Option<(u64, &[u8])>
     Some((number(field, most)?, rest))
 }
 
-// The number of 32 bits that a field spells.
-fn word(field: &[u8]) -> Option<u32>
-    ensures { result ≡ number_of (2 ^ 32 - 1) field.now }
+// The number of 32 bits, up to the most, that a field spells.
+fn word(field: &[u8], most: u32) -> Option<u32>
+    ensures { result ≡ number_of most field.now }
 {
-    Some(number(field, u64::from(u32::MAX))? as u32)
+    Some(number(field, u64::from(most))? as u32)
 }
 
 // The number that a field spells, up to the most.

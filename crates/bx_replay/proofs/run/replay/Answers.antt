@@ -63,7 +63,7 @@ lines-preserved g c =
           let going = c.lines.invariant.going source_tells sink_tells in
           let begins = rw c.in-Some.is at (c.in_ok-line.ensures.gives (c.lines.invariant.source_tells source_tells)) in
           going_on _ _ _ c.lines.number c.lines.replay c.step.new.self c.in-Some.line _ _ _ going begins
-          (c.in_ok-step.ensures.does (c.lines.invariant.sink_tells sink_tells) going.parts _ (omega (arith, going.count, few)) going.stands);
+          (c.in_ok-step.ensures.does (c.lines.invariant.sink_tells sink_tells) going.done _ (omega (arith, going.count, few)) going.stands);
     }
 
 pub returns-in_err-step-clause-leaves : goal.returns-in_err-step-clause-leaves
@@ -77,7 +77,7 @@ returns-in_err-step-clause-leaves g c = λ source_tells.
     c.in_err-step.ensures.cause c.in_err-step.ensures.serves
     (λ sink_tells.
     let going = c.lines.invariant.going source_tells sink_tells in
-    c.in_err-step.ensures.does (c.lines.invariant.sink_tells sink_tells) going.parts _ (omega (arith, going.count, few)) going.stands))
+    c.in_err-step.ensures.does (c.lines.invariant.sink_tells sink_tells) going.done _ (omega (arith, going.count, few)) going.stands))
 
 pub returns-in_err-finish-clause-leaves : goal.returns-in_err-finish-clause-leaves
 returns-in_err-finish-clause-leaves g c = λ source_tells.

@@ -10,21 +10,21 @@ use Rattle.bx_replay.proofs.Standing.{stands_silent, stands_answered, still_answ
 use Rattle.bx_replay.proofs.state.Replay.step.Goals as goal
 
 pub returns-in-Some-clause-does : goal.returns-in-Some-clause-does
-returns-in-Some-clause-does g c = λ tells parts start room stands.
+returns-in-Some-clause-does g c = λ tells done start room stands.
     let now : Replay = record { tree = c.answer.new.self.tree; calls = c.answer.new.self.calls; text = c.print_lines.new.text } in
     let point = c.in-Some.point in
     let lines : List TraceLine = Took point.call c.in-Call.node c.in-Call.client c.in-Call.datagram ∷ Acted point ∷ Reply point.call c.in-Some.reply ∷ [] in
     let answers = rw c.bytes.ensures at (rw c.in-Some.is at c.in_ok-point-in-Call.ensures.answers) in
-    rw c.in-Call.is (does_call (AllByRecursion InTraceRange lines) c.print_lines.result now (Call c.in-Call.reading c.in-Call.node c.in-Call.client c.in-Call.datagram) parts start
+    rw c.in-Call.is (does_call (AllByRecursion InTraceRange lines) c.print_lines.result now (Call c.in-Call.reading c.in-Call.node c.in-Call.client c.in-Call.datagram) done start
     (g.K.Sink.written c.args.out.now) (g.K.Sink.written c.print_lines.new.out) (trace_text lines) (g.K.Sink.faults c.args.out.now) (g.K.Sink.faults c.print_lines.new.out)
     c.print_lines.ensures.cause (c.print_lines.ensures.prints tells) c.print_lines.ensures.in_range
-    (stands_answered c.args.self.now now c.in-Call.reading c.in-Call.node c.in-Call.client c.in-Call.datagram point c.in-Some.reply parts start
+    (stands_answered c.args.self.now now c.in-Call.reading c.in-Call.node c.in-Call.client c.in-Call.datagram point c.in-Some.reply done start
     (g.K.Sink.written c.args.out.now) (trace_text lines) room (rw c.in-Call.is at c.requires.in_place) stands
     (still_answers c.args.self.now c.answer.new.self now c.in-Call.reading c.in-Call.datagram point c.in-Some.reply refl refl answers) refl))
 
 pub returns-in-Heading-clause-does : goal.returns-in-Heading-clause-does
-returns-in-Heading-clause-does g c = λ tells parts start room stands.
+returns-in-Heading-clause-does g c = λ tells done start room stands.
     elim c.in-Heading.is [
-      | inl h ↦ rw h.4 (stands_silent c.args.self.now _ parts start _ (λ trace. (refl, refl)) room (rw h.4 at c.requires.in_place) tt stands)
-      | inr h ↦ rw h.2 (stands_silent c.args.self.now _ parts start _ (λ trace. (refl, refl)) room (rw h.2 at c.requires.in_place) tt stands)
+      | inl h ↦ rw h.4 (stands_silent c.args.self.now _ done start _ tt room (rw h.4 at c.requires.in_place) (rw h.4 at c.requires.in_place).1 stands)
+      | inr h ↦ rw h.2 (stands_silent c.args.self.now _ done start _ tt room (rw h.2 at c.requires.in_place) tt stands)
     ]

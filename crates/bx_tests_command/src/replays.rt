@@ -86,6 +86,8 @@ fn a_line_is_refused(rt: HostRuntime) -> Result<(), Fail> {
         ),
         ("boxwood 1 7 1 1 1\ncall 0 0 5 \n", 2, Reason::NotBuilt, ""),
         (STATFS, 2, Reason::NotBuilt, ""),
+        ("boxwood 1 7 2 1 1\n", 1, Reason::Grammar, ""),
+        ("boxwood 1 7 1 1 1\ncall 0 1 5 00\n", 2, Reason::Grammar, ""),
         (WALK, 3, Reason::Grammar, NULL_TRACE),
     ] {
         let stop = Err(Stop::Refused(line, reason));

@@ -40,15 +40,15 @@ fn calls_are_read(rt: HostRuntime) -> Result<(), Fail> {
 
 #[test]
 fn headings_and_runs_are_read(rt: HostRuntime) -> Result<(), Fail> {
-    let heading = Line::read(rt.alloc(), b"boxwood 1 7 1 1 1")?;
+    let heading = Line::read(rt.alloc(), b"boxwood 1 7 4 3 64")?;
     assert!(rt;
         matches!(
             heading,
             Some(Line::Heading {
                 volume: 7,
-                nodes: 1,
-                devices: 1,
-                areas: 1
+                nodes: 4,
+                devices: 3,
+                areas: 64,
             })
         )
     );
@@ -58,7 +58,7 @@ fn headings_and_runs_are_read(rt: HostRuntime) -> Result<(), Fail> {
             run,
             Some(Line::Run {
                 reading: 4294967295999,
-                limit: 1000000
+                limit: 1000000,
             })
         )
     );
@@ -67,11 +67,14 @@ fn headings_and_runs_are_read(rt: HostRuntime) -> Result<(), Fail> {
 
 #[test]
 fn other_lines_are_refused(rt: HostRuntime) -> Result<(), Fail> {
-    let texts: [&[u8]; 26] = [
+    let texts: [&[u8]; 29] = [
         b"",
         b"boxwood",
         b"boxwood 1 7 1 1",
-        b"boxwood 1 7 2 1 1",
+        b"boxwood 1 7 5 1 1",
+        b"boxwood 1 7 1 5 1",
+        b"boxwood 1 7 1 1 65",
+        b"boxwood 1 7 1 1 0",
         b"boxwood 2 7 1 1 1",
         b"boxwood 1 07 1 1 1",
         b"boxwood 1 +7 1 1 1",
@@ -81,7 +84,7 @@ fn other_lines_are_refused(rt: HostRuntime) -> Result<(), Fail> {
         b"call 0 0 5",
         b"call 0 0 4294967296 00",
         b"call 4294967296000 0 5 00",
-        b"call 0 1 5 00",
+        b"call 0 4294967296 5 00",
         b"call 0 0 5 0G",
         b"call 0 0 5 AB",
         b"call 0 0 5 abc",

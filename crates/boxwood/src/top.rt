@@ -86,8 +86,8 @@ pub fn boxwood<S: Source, K: Sink>(
         return usage(err);
     }
     match replay(alloc, input, out) {
-        Ok(()) => 0,
         Err(stop) => report(alloc, stop, err),
+        Ok(()) => 0,
     }
 }
 

@@ -8,7 +8,7 @@ use Rattle.bx_script.specs.declared.line.Line.TheVariants.{Heading}
 use Rattle.bx_script.specs.ScheduleLine.{spelling}
 use Rattle.bx_script.specs.TraceText.{trace_text}
 use Rattle.bx_history.specs.Parts.{trace_of}
-use Rattle.bx_history.specs.Along.{Done, parts_of, schedule_of}
+use Rattle.bx_history.specs.Along.{parts_of, schedule_of}
 use Rattle.bx_history.proofs.Answered.{silent_part}
 use Rattle.bx_model.specs.Opening.{opening}
 use Rattle.bx_replay.specs.declared.state.Replay.{Replay}

@@ -1,5 +1,6 @@
 -- What a replay leaves, by what stopped it.
-use Rattle.std.proofs.Common.{ℕ, ◌+◌, ◌<◌, ◌==◌, List, [], Err, inl, inr}
+use Rattle.std.proofs.Common.{◌≡◌, ℕ, ◌+◌, ◌<◌, ◌==◌, List, [], Result, Ok, Err, inl, inr}
+use Rattle.std.specs.Prelude.{IfErr}
 use Rattle.bx_base.specs.Text.{BeginsWith}
 use Rattle.bx_script.specs.declared.line.Line.{Line}
 use Rattle.bx_script.specs.ScheduleLine.{spelling}
@@ -9,8 +10,8 @@ use Rattle.bx_replay.specs.declared.stop.Stop.{Stop}
 use Rattle.bx_replay.specs.declared.stop.Stop.TheVariants as stops
 use Rattle.bx_replay.specs.Outcome.{closing_text}
 use Rattle.bx_replay.specs.Replay.{Begins, DoesLine, Finishes, GivesLine, Going, HasLineCause, HasPrintCause, HasStepCause, IsRead, Leaves, Serves}
-use Rattle.bx_replay.proofs.Goings.{begins_broken, begins_cut, begins_empty, begins_outside, stops_broken, stops_cut, stops_outside, stops_torn, stops_unfinished, stops_unserved}
-use Rattle.bx_replay.proofs.ReadLines.{cut_at, cut_first, refused_empty, refused_first, refused_outside, refused_unserved}
+use Rattle.bx_replay.proofs.Goings.{begins_broken, begins_cut, begins_empty, begins_outside, finishes, stops_broken, stops_cut, stops_outside, stops_torn, stops_unfinished, stops_unserved}
+use Rattle.bx_replay.proofs.ReadLines.{all_read, cut_at, cut_first, refused_empty, refused_first, refused_outside, refused_unserved}
 
 pub begin_stops : (Tells : Type 0) (stop : Stop) (text rest left start : List ℕ) (before now : ℕ) → HasLineCause stop 1 before now → Begins (Err stop) text rest left
     → Leaves Tells (Err stop) text left start start
@@ -50,7 +51,7 @@ step_stops Tells stops.WriteFault text rest next left start old new number repla
 step_stops Tells stops.OutOfMemory text rest next left start old new number replay after line before now so_far going few begins place cause unserved does =
     λ tells. rw (does tells) (stops_broken text rest number replay start old (going tells))
 
-pub finish_stops : (Tells : Type 0) (stop : Stop) (text left start old new : List ℕ) (number : ℕ) (replay : Replay) (before now : ℕ)
+finish_stops : (Tells : Type 0) (stop : Stop) (text left start old new : List ℕ) (number : ℕ) (replay : Replay) (before now : ℕ)
     → (Tells → Going text [] number replay start old) → HasPrintCause stop before now → (Tells → Finishes (Err stop) (closing_text [] replay.tree) old new)
     → Leaves Tells (Err stop) text left start new
 finish_stops Tells (stops.Refused n reason) text left start old new number replay before now going cause part = absurd cause
@@ -59,3 +60,11 @@ finish_stops Tells stops.WriteFault text left start old new number replay before
     λ tells. let p = part tells in stops_unfinished text number replay start old new p.1 (going tells) p.0 p.2 p.3
 finish_stops Tells stops.OutOfMemory text left start old new number replay before now going cause part =
     λ tells. let p = part tells in stops_unfinished text number replay start old new p.1 (going tells) p.0 p.2 p.3
+
+pub finish_leaves : (Tells : Type 0) (r : Result (Unit {0}) Stop) (text left start old new : List ℕ) (number : ℕ) (replay : Replay) (before now : ℕ)
+    → IsRead text [] number → left ≡ [] → (Tells → Going text [] number replay start old) → IfErr r (λ stop. HasPrintCause stop before now)
+    → (Tells → Finishes r (closing_text [] replay.tree) old new) → Leaves Tells r text left start new
+finish_leaves Tells (Ok x) text left start old new number replay before now so_far ends going cause finishes_so =
+    (all_read text number so_far, ends, λ tells. finishes text number replay start old new (going tells) (finishes_so tells))
+finish_leaves Tells (Err stop) text left start old new number replay before now so_far ends going cause finishes_so =
+    finish_stops Tells stop text left start old new number replay before now going cause finishes_so

@@ -1,12 +1,7 @@
 -- What was asked determines the reply and the next tree.
-use Rattle.std.proofs.Common.{◌≡◌, ℕ, List, [], ◌∷◌, Option, Some, refl, sym, ap, ◌∙◌}
-use Rattle.std.specs.Prelude.{map, reverse}
-use Rattle.std.proofs.lemmas.List.{reverse-reverse}
-use Rattle.bx_script.specs.declared.trace_line.TraceLine.{TraceLine}
+use Rattle.std.proofs.Common.{◌≡◌, ℕ, List, Option, Some, refl, sym, ap, ◌∙◌}
 use Rattle.bx_history.specs.Trace as traces
-use Rattle.bx_history.specs.Legal.{LeadsNewest, Leads}
 use Rattle.bx_history.specs.Laws.{Asked, asked}
-use Rattle.bx_history.proofs.Spelled.{asked-from_fits}
 use Rattle.bx_model.specs.declared.call.Call.{Call}
 use Rattle.bx_model.specs.declared.reply.Reply.{Reply}
 use Rattle.bx_model.specs.declared.tree.Tree.{Tree}

@@ -29,6 +29,5 @@ pub fn replay<S: Source, K: Sink>(alloc: Global, input: &mut S, out: &mut K) -> 
         number += 1;
         replay.step(alloc, number, line, out)?;
     }
-    replay.finish(out)?;
-    Ok(())
+    replay.finish(out)
 }

@@ -1,3 +1,4 @@
+use Rattle.std.proofs.Common.{arith}
 use Rattle.boxwood.proofs.Completes.{breaks, completes, not_replayed, refuses, refuses_at}
 use Rattle.boxwood.proofs.top.boxwood.Goals as goal
 
@@ -26,3 +27,10 @@ returns-in-Err-clause-broken g c = λ broken source_tells sink_tells.
     breaks (g.K.Sink.tells c.args.out.now) c.in-Err.stop c.report.result
     (g.S.Source.left c.args.input.now) (g.S.Source.left c.replay.new.input) (g.K.Sink.written c.args.out.now) (g.K.Sink.written c.replay.new.out)
     c.report.ensures.status (c.in-Err.ensures.leaves source_tells) broken sink_tells
+
+-- a schedule that is done has no fault
+pub returns-in-Ok-clause-read_fault : goal.returns-in-Ok-clause-read_fault
+returns-in-Ok-clause-read_fault g c = λ three. absurd (omega (arith, three))
+
+pub returns-in-Ok-clause-write_fault : goal.returns-in-Ok-clause-write_fault
+returns-in-Ok-clause-write_fault g c = λ four. absurd (omega (arith, four))

@@ -1,8 +1,8 @@
 use Rattle.std.proofs.Common.{refl, ap, ◌∙◌, arith}
 use Rattle.std.proofs.lemmas.Result.{err_from_is_err_and}
-use Rattle.bx_replay.proofs.Goings.{begins_broken, begins_going, finishes, going_on}
-use Rattle.bx_replay.proofs.Leavings.{begin_stops, finish_stops, line_stops, step_stops}
-use Rattle.bx_replay.proofs.ReadLines.{all_read, heading_read, reads_on}
+use Rattle.bx_replay.proofs.Goings.{begins_broken, begins_going, going_on}
+use Rattle.bx_replay.proofs.Leavings.{begin_stops, finish_leaves, line_stops, step_stops}
+use Rattle.bx_replay.proofs.ReadLines.{heading_read, reads_on}
 use Rattle.bx_replay.proofs.run.replay.Goals as goal
 
 pub returns-in_err-reader-clause-leaves : goal.returns-in_err-reader-clause-leaves
@@ -79,20 +79,9 @@ returns-in_err-step-clause-leaves g c = λ source_tells.
     let going = c.lines.invariant.going source_tells sink_tells in
     c.in_err-step.ensures.does (c.lines.invariant.sink_tells sink_tells) going.done _ (omega (arith, going.count, few)) going.stands))
 
-pub returns-in_err-finish-clause-leaves : goal.returns-in_err-finish-clause-leaves
-returns-in_err-finish-clause-leaves g c = λ source_tells.
-    let p = err_from_is_err_and c.from_residual-in_err-finish.result c.from_residual-in_err-finish.ensures.1 in
-    let ends = rw c.in_default.is at (c.in_ok-line.ensures.gives (c.lines.invariant.source_tells source_tells)) in
-    rw (p.1, p.2) (finish_stops (g.K.Sink.tells c.args.out.now) c.in_err-finish.field-0.0 _ _ _ _ _ c.lines.number c.lines.replay _ _
-    (λ sink_tells. rw ends.0 at (c.lines.invariant.going source_tells sink_tells)) c.in_err-finish.ensures.cause
-    (λ sink_tells. c.in_err-finish.ensures.finishes (c.lines.invariant.sink_tells sink_tells)))
-
 pub returns-clause-leaves : goal.returns-clause-leaves
 returns-clause-leaves g c = λ source_tells.
-    let ends = rw c.in_default.is at (c.in_ok-line.ensures.gives (c.lines.invariant.source_tells source_tells)) in (
-      all_read _ c.lines.number (rw ends.0 at (c.lines.invariant.read source_tells)),
-      ends.1,
-      λ sink_tells.
-          let going = rw ends.0 at (c.lines.invariant.going source_tells sink_tells) in
-          finishes _ c.lines.number c.lines.replay _ _ _ going (c.in_ok-finish.ensures.finishes (c.lines.invariant.sink_tells sink_tells)),
-    )
+    let ends = rw c.in_default.is at (c.in_ok-line.ensures.gives (c.lines.invariant.source_tells source_tells)) in
+    finish_leaves (g.K.Sink.tells c.args.out.now) c.finish.result _ _ _ _ _ c.lines.number c.lines.replay _ _
+    (rw ends.0 at (c.lines.invariant.read source_tells)) ends.1 (λ sink_tells. rw ends.0 at (c.lines.invariant.going source_tells sink_tells)) c.finish.ensures.cause
+    (λ sink_tells. c.finish.ensures.finishes (c.lines.invariant.sink_tells sink_tells))

@@ -1,0 +1,5 @@
+//! Tests of a replay, on the worked examples of the schedule's language.
+#![tactic(auto)]
+
+#[cfg(test)]
+mod replays;

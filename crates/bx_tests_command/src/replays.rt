@@ -1,0 +1,113 @@
+//! What a replay answers and writes.
+
+use bx_base::OutOfMemory;
+use bx_outside::{MemSink, MemSource};
+use bx_replay::{Reason, Stop, replay};
+use std::alloc::Global;
+use std::test::Fail;
+
+/// What comes after the trace: the listing of the opening tree of volume 7.
+const CLOSING: &str =
+    "end\nfile 0000000000000001 2 40777 2 0 0 4096 0.000000 0.000000 0.000000\ndir 0000000000000001 3\n";
+
+/// NULL, called once, and its trace.
+const NULL: &str =
+    "boxwood 1 7 1 1 1\ncall 0 0 5 000000010000000000000002000186a3000000020000000000000000000000000000000000000000\nrun 0 10000\n";
+
+const NULL_TRACE: &str =
+    "took 1 0 5 000000010000000000000002000186a3000000020000000000000000000000000000000000000000\npoint 1 0 8 0000000000000000\nreply 1 000000010000000100000000000000000000000000000000\n";
+
+/// GETATTR of the root, and its trace.
+const ROOT: &str =
+    "boxwood 1 7 1 1 1\ncall 0 0 5 000000010000000000000002000186a3000000020000000100000000000000000000000000000000424f58574f4f4431000000000000000700000000000000010000000000000000\nrun 0 10000\n";
+
+const ROOT_TRACE: &str =
+    "took 1 0 5 000000010000000000000002000186a3000000020000000100000000000000000000000000000000424f58574f4f4431000000000000000700000000000000010000000000000000\npoint 1 0 8 0000000000000000\nreply 1 0000000100000001000000000000000000000000000000000000000000000002000041ff000000020000000000000000000010000000100000000000000000080000000700000002000000000000000000000000000000000000000000000000\n";
+
+/// GETATTR of a file handle that names nothing, and its trace.
+const NOTHING: &str =
+    "boxwood 1 7 1 1 1\ncall 0 0 5 000000010000000000000002000186a3000000020000000100000000000000000000000000000000424f58574f4f4431000000000000000700000000000000020000000000000000\nrun 0 10000\n";
+
+const NOTHING_TRACE: &str =
+    "took 1 0 5 000000010000000000000002000186a3000000020000000100000000000000000000000000000000424f58574f4f4431000000000000000700000000000000020000000000000000\npoint 1 0 8 0000000000000000\nreply 1 00000001000000010000000000000000000000000000000000000046\n";
+
+/// NULL, and a line that is no line of a schedule.
+const WALK: &str =
+    "boxwood 1 7 1 1 1\ncall 0 0 5 000000010000000000000002000186a3000000020000000000000000000000000000000000000000\nwalk\n";
+
+/// Procedure 17, which isn't served yet.
+const STATFS: &str =
+    "boxwood 1 7 1 1 1\ncall 0 0 5 000000010000000000000002000186a3000000020000001100000000000000000000000000000000\n";
+
+/// Whether a replay, with these calls of the source and of the sink failing, answers this and writes one text, then the other.
+fn comes_to(
+    alloc: Global,
+    schedule: &str,
+    faults: (u64, u64),
+    want: Result<(), Stop>,
+    texts: (&str, &str),
+) -> Result<bool, OutOfMemory> {
+    let mut source = MemSource::new(alloc, schedule.as_bytes(), &[faults.0])?;
+    let mut sink = MemSink::new(alloc, &[faults.1])?;
+    let answer = replay(alloc, &mut source, &mut sink);
+    let rest = sink.bytes().strip_prefix(texts.0.as_bytes());
+    Ok(answer == want && rest == Some(texts.1.as_bytes()))
+}
+
+#[test]
+fn a_call_is_answered(rt: HostRuntime) -> Result<(), Fail> {
+    for (schedule, trace) in [
+        (NULL, NULL_TRACE),
+        (ROOT, ROOT_TRACE),
+        (NOTHING, NOTHING_TRACE),
+        ("boxwood 1 7 1 1 1\n", ""),
+        ("boxwood 1 7 1 1 1", ""),
+    ] {
+        assert!(rt;
+            comes_to(rt.alloc(), schedule, (0, 0), Ok(()), (trace, CLOSING))?,
+            "{schedule}"
+        );
+    }
+    Ok(())
+}
+
+#[test]
+fn a_line_is_refused(rt: HostRuntime) -> Result<(), Fail> {
+    for (schedule, line, reason, trace) in [
+        ("", 1, Reason::Grammar, ""),
+        ("run 0 1\n", 1, Reason::Grammar, ""),
+        ("boxwood 1 7 1 1 1\r\n", 1, Reason::Grammar, ""),
+        ("boxwood 1 7 1 1 1\n\n", 2, Reason::Grammar, ""),
+        (
+            "boxwood 1 7 1 1 1\nrun 0 1\nboxwood 1 7 1 1 1\n",
+            3,
+            Reason::Grammar,
+            "",
+        ),
+        ("boxwood 1 7 1 1 1\ncall 0 0 5 \n", 2, Reason::NotBuilt, ""),
+        (STATFS, 2, Reason::NotBuilt, ""),
+        ("boxwood 1 7 2 1 1\n", 1, Reason::Grammar, ""),
+        ("boxwood 1 7 1 1 1\ncall 0 1 5 00\n", 2, Reason::Grammar, ""),
+        (WALK, 3, Reason::Grammar, NULL_TRACE),
+    ] {
+        let stop = Err(Stop::Refused(line, reason));
+        assert!(rt;
+            comes_to(rt.alloc(), schedule, (0, 0), stop, (trace, ""))?,
+            "{schedule}"
+        );
+    }
+    Ok(())
+}
+
+#[test]
+fn a_fault_stops_a_replay(rt: HostRuntime) -> Result<(), Fail> {
+    for (faults, stop, trace) in [
+        ((1, 0), Stop::ReadFault, ""),
+        ((2, 0), Stop::ReadFault, NULL_TRACE),
+        ((0, 1), Stop::WriteFault, ""),
+        ((0, 2), Stop::WriteFault, NULL_TRACE),
+    ] {
+        assert!(rt; comes_to(rt.alloc(), NULL, faults, Err(stop), (trace, ""))?);
+    }
+    Ok(())
+}

@@ -1,1 +1,3 @@
+pub mod OneForm
+pub mod OneItem
 pub mod Reading

@@ -1,1 +1,5 @@
+pub mod Arguments
+pub mod Forms
+pub mod Items
+pub mod Results
 pub mod Wire

@@ -1,5 +1,6 @@
 -- Items one behind the other, of any kinds.
-use Rattle.std.proofs.Common.{◌≡◌, ℕ, List, ◌++◌, sym, ap, ◌∙◌, append_assoc, refl, subst}
+use Rattle.std.proofs.Common.{◌≡◌, ℕ, List, [], ◌++◌, sym, ap, ◌∙◌, append_assoc, refl, subst}
+use Rattle.std.proofs.lemmas.List.{append-nil}
 use Rattle.bx_xdr.specs.Items.{Then, Both, Made, Reads, Lacks, HasOneReading}
 
 -- the text between two items
@@ -63,3 +64,14 @@ lacks-second First Second text middle u one is none v rest p =
 
 pub lacks-made : {V W : Type 0} (made : V → W) (Spells : V → List ℕ → Type 0) (text : List ℕ) → Lacks Spells text → Lacks (Made made Spells) text
 lacks-made made Spells text none value rest p = none p.spells.0 rest (part_reads made Spells value text rest p)
+
+-- a spelling alone
+pub reads_whole : (Spells : List ℕ → Type 0) (text : List ℕ) → Spells text → Reads Spells text []
+reads_whole Spells text is = record { spelling = text; spells = is; parts = sym (append-nil text) }
+
+pub whole_reads : (Spells : List ℕ → Type 0) (text : List ℕ) → Reads Spells text [] → Spells text
+whole_reads Spells text p = let is : text ≡ p.spelling = p.parts ∙ append-nil p.spelling in subst Spells (sym is) p.spells
+
+-- bytes are one spelling of a kind at most
+pub whole_once : {V : Type 0} (Spells : V → List ℕ → Type 0) → HasOneReading Spells → (text : List ℕ) (v w : V) → Spells v text → Spells w text → v ≡ w
+whole_once Spells one text v w p q = (one text [] [] v w (reads_whole (Spells v) text p) (reads_whole (Spells w) text q)).0

@@ -121,3 +121,6 @@ list_without_words max n text middle word none x a p =
     let parts = list_halves max x text a p in
     let same = word_same (length x) n text parts.middle middle parts.first word in
     none x a (rw (same.0, same.1) at parts.second)
+
+pub word_once : HasOneReading SpellsWord
+word_once text a b v w p q = word_same v w text a b p q

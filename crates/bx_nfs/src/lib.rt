@@ -10,6 +10,6 @@ mod replies;
 mod served;
 
 pub use calls::reads_as;
-pub use laws::{one_reading, served_calls};
+pub use laws::{lengths, one_reading, served_calls, tail_passed_over};
 pub use replies::text;
 pub use served::is_served;

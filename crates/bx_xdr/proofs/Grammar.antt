@@ -75,3 +75,11 @@ whole_reads Spells text p = let is : text ≡ p.spelling = p.parts ∙ append-ni
 -- bytes are one spelling of a kind at most
 pub whole_once : {V : Type 0} (Spells : V → List ℕ → Type 0) → HasOneReading Spells → (text : List ℕ) (v w : V) → Spells v text → Spells w text → v ≡ w
 whole_once Spells one text v w p q = (one text [] [] v w (reads_whole (Spells v) text p) (reads_whole (Spells w) text q)).0
+
+-- what stands behind an item doesn't matter
+pub reads_more : (Spells : List ℕ → Type 0) (text rest tail : List ℕ) → Reads Spells text rest → Reads Spells (text ++ tail) (rest ++ tail)
+reads_more Spells text rest tail p = record {
+  spelling = p.spelling;
+  spells = p.spells;
+  parts = ap (λ (s : List ℕ). s ++ tail) p.parts ∙ append_assoc p.spelling rest tail;
+}

@@ -1,6 +1,6 @@
 -- The arguments of a form have one reading.
-use Rattle.std.proofs.Common.{◌≡◌, ℕ, List, [], ◌++◌, sym, ap, ◌∙◌}
-use Rattle.bx_xdr.specs.Items.{SpellsWords, Both, Made, Reads, HasOneReading}
+use Rattle.std.proofs.Common.{◌≡◌, ℕ, List, ◌++◌, sym, ap, ◌∙◌}
+use Rattle.bx_xdr.specs.Items.{SpellsWords, Both, HasOneReading}
 use Rattle.bx_xdr.proofs.Grammar.{one_reading-both, one_reading-made}
 use Rattle.bx_xdr.proofs.Words.{words_once}
 use Rattle.bx_model.specs.declared.call.Args.TheVariants.{Handle, Path}

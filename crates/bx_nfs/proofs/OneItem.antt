@@ -1,5 +1,4 @@
 -- Items of NFS have one reading.
-use Rattle.std.proofs.Common.{ℕ, List}
 use Rattle.bx_xdr.specs.Items.{SpellsWords, HasOneReading}
 use Rattle.bx_xdr.proofs.Grammar.{one_reading-both, one_reading-made}
 use Rattle.bx_xdr.proofs.Spelling.{fixed_same, opaque_same}

@@ -1,16 +1,14 @@
 -- A datagram is one call at most.
-use Rattle.std.proofs.Common.{◌≡◌, ℕ, ◌<◌, ◌≤◌, List, length, drop, refl, sym, ap, ◌∙◌, subst, ◌⊎◌, inl, inr, arith}
-use Rattle.bx_xdr.specs.Items.{Reads, Lacks}
+use Rattle.std.proofs.Common.{◌≡◌, ℕ, ◌<◌, ◌≤◌, List, length, drop, refl, sym, ap, ◌∙◌, subst, inl, inr, arith}
 use Rattle.bx_rpc.specs.declared.caller.Caller.{Caller}
 use Rattle.bx_rpc.specs.declared.opened.Opened.{Opened}
-use Rattle.bx_rpc.specs.Checks.{Verdict, Checks}
+use Rattle.bx_rpc.specs.Checks.{Verdict}
 use Rattle.bx_rpc.specs.Checks.Verdict.{refused, passed}
-use Rattle.bx_rpc.specs.Message.{IsCall, Says, Opens}
+use Rattle.bx_rpc.specs.Message.{Says, Opens}
 use Rattle.bx_rpc.proofs.Verdicts.{verdict_once}
 use Rattle.bx_rpc.proofs.Openings.{call_once}
-use Rattle.bx_model.specs.declared.call.Args.{Args}
 use Rattle.bx_model.specs.declared.call.Call.{Call}
-use Rattle.bx_nfs.specs.Forms.{Arguments, form_of}
+use Rattle.bx_nfs.specs.Forms.{form_of}
 use Rattle.bx_nfs.specs.Wire.{refused_call, passed_call, FromArguments, IsOf, ReadsAs, IsServedCall, IsServed}
 use Rattle.bx_nfs.proofs.OneForm.{arguments_once}
 

@@ -1,5 +1,5 @@
 -- How long replies are.
-use Rattle.std.specs.Prelude.{◌≡◌, ℕ, ◌+◌, ◌≤◌, List, length, sum_by}
+use Rattle.std.specs.Prelude.{◌≡◌, ℕ, ◌+◌, ◌≤◌, length, sum_by}
 use Rattle.bx_xdr.specs.Items.{fixed_text}
 use Rattle.bx_model.specs.declared.reply.Listed.{Listed}
 use Rattle.bx_model.specs.declared.reply.Reply.{Reply}

@@ -1,5 +1,5 @@
 -- Which bytes are which call, and which bytes are which reply.
-use Rattle.std.specs.Prelude.{◌≡◌, ℕ, ◌≤◌, List, [], ◌++◌, ◌⊎◌}
+use Rattle.std.specs.Prelude.{◌≡◌, ℕ, ◌≤◌, List, [], ◌⊎◌}
 use Rattle.bx_xdr.specs.Items.{Reads, Lacks}
 use Rattle.bx_rpc.specs.declared.caller.Caller.{Caller}
 use Rattle.bx_rpc.specs.Checks.{Verdict, Checks}

@@ -1,8 +1,8 @@
 -- The arguments of a call that passes stand at its end.
-use Rattle.std.proofs.Common.{◌≡◌, ℕ, List, [], ◌++◌, refl, sym, ap, ◌∙◌, append_assoc, ◌⊎◌, inl, inr}
+use Rattle.std.proofs.Common.{◌≡◌, ℕ, List, [], ◌++◌, sym, ap, ◌∙◌, append_assoc, inl, inr}
 use Rattle.bx_xdr.specs.Items.{Reads}
 use Rattle.bx_rpc.specs.declared.caller.Caller.{Caller}
-use Rattle.bx_rpc.specs.Checks.{Verdict, Next, Check, Checks, FromProgram, FromVersion, FromProcedure, FromCredential, FromBody, FromCaller, FromVerifier}
+use Rattle.bx_rpc.specs.Checks.{Next, Check, Checks, FromProgram, FromVersion, FromProcedure, FromCredential, FromBody, FromCaller, FromVerifier}
 use Rattle.bx_rpc.specs.Checks.Verdict.{refused, passed}
 
 pub record IsBehind (tail text : List ℕ) : Type 0 where

@@ -1,13 +1,13 @@
 -- A datagram opens in one way.
-use Rattle.std.proofs.Common.{◌≡◌, ℕ, ◌+◌, ◌<◌, ◌≤◌, List, [], ◌∷◌, ◌++◌, length, drop, refl, sym, ap, ◌∙◌, arith}
+use Rattle.std.proofs.Common.{◌≡◌, ℕ, ◌+◌, ◌<◌, ◌≤◌, List, [], ◌∷◌, length, drop, refl, sym, ap, ◌∙◌, arith}
 use Rattle.std.proofs.lemmas.List.{length-append, drop_at}
-use Rattle.bx_xdr.specs.Items.{SpellsWords, Reads}
+use Rattle.bx_xdr.specs.Items.{SpellsWords}
 use Rattle.bx_xdr.proofs.Words.{words_once}
 use Rattle.bx_rpc.specs.declared.caller.Caller.{Caller}
 use Rattle.bx_rpc.specs.declared.opened.Opened.{Opened}
 use Rattle.bx_rpc.specs.Checks.{Verdict, Checks}
 use Rattle.bx_rpc.specs.Checks.Verdict.{refused, passed}
-use Rattle.bx_rpc.specs.Message.{IsCall, Says, SaysRefused, SaysPassed, Opens}
+use Rattle.bx_rpc.specs.Message.{IsCall, Says, Opens}
 use Rattle.bx_rpc.proofs.Behind.{IsBehind, behind_more, passed_behind}
 use Rattle.bx_rpc.proofs.Verdicts.{verdict_once}
 

@@ -1,9 +1,7 @@
 -- Steps of the checks.
-use Rattle.std.proofs.Common.{◌≡◌, ℕ, ◌<◌, List, refl}
-use Rattle.bx_xdr.specs.Items.{Reads, Lacks}
 use Rattle.bx_rpc.specs.declared.stop.Stop.{Stop}
 use Rattle.bx_rpc.specs.declared.stop.Stop.TheVariants.{Refused, OutOfMemory}
-use Rattle.bx_rpc.specs.Checks.{Verdict, Next}
+use Rattle.bx_rpc.specs.Checks.{Verdict}
 use Rattle.bx_rpc.specs.Stops.{StopsAs}
 
 -- what stops as one says, stops as another does that follows

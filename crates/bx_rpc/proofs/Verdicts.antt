@@ -1,6 +1,6 @@
 -- The checks come to one verdict at most.
-use Rattle.std.proofs.Common.{◌≡◌, ℕ, ◌≤◌, List, [], refl, sym, ap, ◌∙◌, subst, ◌⊎◌, inl, inr, arith}
-use Rattle.bx_xdr.specs.Items.{SpellsWord, SpellsWords, SpellsOpaque, SpellsList, Both, Reads, Lacks, HasOneReading}
+use Rattle.std.proofs.Common.{◌≡◌, ℕ, List, sym, ◌∙◌, inl, inr, arith}
+use Rattle.bx_xdr.specs.Items.{SpellsWord, SpellsWords, SpellsOpaque, SpellsList, HasOneReading}
 use Rattle.bx_xdr.proofs.Grammar.{one_reading-both, one_reading-made, whole_once}
 use Rattle.bx_xdr.proofs.Spelling.{word_once, opaque_same, list_same}
 use Rattle.bx_xdr.proofs.Words.{words_once}

@@ -1,5 +1,5 @@
 -- Why the checks of a call stop short.
-use Rattle.std.specs.Prelude.{ℕ, ◌<◌}
+use Rattle.std.specs.Prelude.{◌<◌}
 use Rattle.bx_rpc.specs.declared.stop.Stop.{Stop}
 use Rattle.bx_rpc.specs.declared.stop.Stop.TheVariants.{Refused, OutOfMemory}
 use Rattle.bx_rpc.specs.Checks.{Verdict}

@@ -3,7 +3,7 @@ use Rattle.std.proofs.Common.{◌≡◌, ℕ, ◌+◌, ◌<◌, ◌≤◌, List,
 use Rattle.std.specs.Int.{w32, to_be_bytes, from_be_bytes}
 use Rattle.std.proofs.lemmas.List.{take_at, drop_at, take-append-drop, length-take, length-drop}
 use Rattle.std.proofs.lemmas.Nat.{from_be_bytes-to_be_bytes_4}
-use Rattle.bx_xdr.specs.Items.{padding_len, SpellsWord, SpellsWords, SpellsFixed, SpellsOpaque, SpellsList, Then, Reads, Lacks, HasOneReading}
+use Rattle.bx_xdr.specs.Items.{padding_len, SpellsWord, SpellsWords, SpellsFixed, SpellsOpaque, SpellsList, Reads, Lacks, HasOneReading}
 use Rattle.bx_xdr.proofs.Grammar.{Split, split, reads_then}
 use Rattle.bx_xdr.proofs.Words.{words_once}
 

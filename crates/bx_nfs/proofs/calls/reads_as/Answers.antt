@@ -1,4 +1,4 @@
-use Rattle.bx_nfs.proofs.Reading.{refused_reads, passed_reads}
+use Rattle.bx_nfs.proofs.Reading.{passed_reads}
 use Rattle.bx_nfs.proofs.calls.reads_as.Goals as goal
 
 pub returns-in_default-clause-none : goal.returns-in_default-clause-none

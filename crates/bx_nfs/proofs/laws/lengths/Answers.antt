@@ -1,4 +1,4 @@
-use Rattle.std.proofs.Common.{ℕ, [], ◌∷◌, arith}
+use Rattle.std.proofs.Common.{[], ◌∷◌, arith}
 use Rattle.bx_xdr.proofs.Words.{words_long}
 use Rattle.bx_nfs.proofs.Sizes.{reply-whole, reply-limited}
 use Rattle.bx_nfs.proofs.laws.lengths.Goals as goal

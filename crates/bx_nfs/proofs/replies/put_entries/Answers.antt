@@ -2,7 +2,6 @@ use Rattle.std.proofs.Common.{◌≡◌, ℕ, ◌+◌, ◌<◌, List, [], ◌∷
 use Rattle.std.specs.List.{flat_map}
 use Rattle.std.proofs.lemmas.List.{take_more, append-nil}
 use Rattle.std.proofs.lemmas.List.Concat.{flat_map-append}
-use Rattle.bx_model.specs.declared.reply.Listed.{Listed}
 use Rattle.bx_nfs.specs.Results.{listed_text}
 use Rattle.bx_nfs.proofs.replies.put_entries.Goals as goal
 

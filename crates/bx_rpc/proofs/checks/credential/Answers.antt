@@ -1,6 +1,5 @@
-use Rattle.std.proofs.Common.{◌≡◌, ℕ, refl, inl, inr, arith}
+use Rattle.std.proofs.Common.{◌≡◌, ℕ, inl, inr}
 use Rattle.std.proofs.lemmas.Result.{err_from_is_err_and}
-use Rattle.bx_xdr.specs.Items.{SpellsWord, Lacks}
 use Rattle.bx_rpc.specs.declared.caller.Caller.{Caller}
 use Rattle.bx_rpc.specs.Callers.{Names}
 use Rattle.bx_rpc.specs.Checks.{Verdict, FromBody, FromCredential}

@@ -1,4 +1,4 @@
-use Rattle.std.proofs.Common.{ℕ, List, [], ◌∷◌}
+use Rattle.std.proofs.Common.{[], ◌∷◌}
 use Rattle.bx_xdr.specs.Items.{SpellsWords, Reads}
 use Rattle.bx_rpc.proofs.opened.call_of.Goals as goal
 

@@ -1,4 +1,4 @@
-use Rattle.std.proofs.Common.{◌≡◌, List, length, take, drop, ◌++◌, arith}
+use Rattle.std.proofs.Common.{◌≡◌, length, take, drop, ◌++◌, arith}
 use Rattle.std.proofs.lemmas.List.{take_at, length-take}
 use Rattle.bx_xdr.specs.Items.{SpellsWords, Reads, Lacks}
 use Rattle.bx_xdr.proofs.Spelling.{list_joined, list_without_length, list_without_words}

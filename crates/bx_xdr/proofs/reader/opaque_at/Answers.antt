@@ -1,7 +1,7 @@
 use Rattle.std.proofs.Common.{Option, Some, None, arith}
 use Rattle.std.specs.Prelude.{IfNone}
 use Rattle.std.proofs.lemmas.Option.{IfSome_then}
-use Rattle.bx_xdr.proofs.Spelling.{joined, without_length, without_content, too_long}
+use Rattle.bx_xdr.proofs.Spelling.{joined, without_length, without_content}
 use Rattle.bx_xdr.proofs.reader.opaque_at.Goals as goal
 
 IfNone_then : {X : Type 0} (r : Option X) {P Q : Type 0} → IfNone r P → (P → Q) → IfNone r Q

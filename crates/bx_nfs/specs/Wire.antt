@@ -1,12 +1,12 @@
 -- Which bytes are which call, and which bytes are which reply.
-use Rattle.std.specs.Prelude.{◌≡◌, ℕ, ◌≤◌, List, [], ◌⊎◌}
+use Rattle.std.specs.Prelude.{◌≡◌, ℕ, List, [], ◌⊎◌}
 use Rattle.bx_xdr.specs.Items.{Reads, Lacks}
 use Rattle.bx_rpc.specs.declared.caller.Caller.{Caller}
 use Rattle.bx_rpc.specs.Checks.{Verdict, Checks}
 use Rattle.bx_rpc.specs.Checks.Verdict.{refused, passed}
 use Rattle.bx_rpc.specs.Message.{IsCall}
 use Rattle.bx_model.specs.declared.call.Args.{Args}
-use Rattle.bx_model.specs.declared.call.Args.TheVariants.{Refused}
+use Rattle.bx_model.specs.declared.call.Args.TheVariants.{Refused, Nothing, Handle}
 use Rattle.bx_model.specs.declared.call.Call.{Call}
 use Rattle.bx_nfs.specs.Forms.{Arguments, form_of}
 
@@ -37,10 +37,12 @@ pub record ReadsAs (bytes : List ℕ) (xid : ℕ) (call : Call) : Type 0 where
   pub checked : Checks verdict text
   pub says : IsOf verdict call
 
--- The calls that the command serves: those that are refused, and NULL (0) and GETATTR (1) of NFS.
+-- The calls that the command serves: those that are refused, and of NFS NULL (0) and GETATTR (1).
 abbrev pub HasServedArgs : Call → Args → Type 0
 HasServedArgs call (Refused number) = Unit {0}
-HasServedArgs call _ = (call.program ≡ 100003) × (call.procedure ≤ 1)
+HasServedArgs call Nothing = (call.program ≡ 100003) × (call.procedure ≡ 0)
+HasServedArgs call (Handle handle) = (call.program ≡ 100003) × (call.procedure ≡ 1)
+HasServedArgs call _ = ⊥
 
 abbrev pub IsServedCall : Call → Type 0
 IsServedCall call = HasServedArgs call call.args

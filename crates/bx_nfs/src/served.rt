@@ -6,6 +6,9 @@ ghost use Rattle.bx_nfs.specs.Wire.{IsServedCall};
 use bx_model::{Args, Call};
 use bx_rpc::NFS_PROGRAM;
 
+/// The procedure NULL (RFC 1094, section 2.2.1).
+const NULL: u32 = 0;
+
 /// The procedure GETATTR (RFC 1094, section 2.2.2).
 const GETATTR: u32 = 1;
 
@@ -15,6 +18,8 @@ pub fn is_served(call: &Call) -> bool
 {
     match call.args {
         Args::Refused(_) => true,
-        _ => call.program == NFS_PROGRAM && call.procedure <= GETATTR,
+        Args::Nothing => call.program == NFS_PROGRAM && call.procedure == NULL,
+        Args::Handle(_) => call.program == NFS_PROGRAM && call.procedure == GETATTR,
+        _ => false,
     }
 }

@@ -1,15 +1,21 @@
 -- Messages (RFC 5531, section 9), and what is said of a call before its arguments.
-use Rattle.std.specs.Prelude.{◌≡◌, ℕ, ◌+◌, ◌<◌, ◌≤◌, List, [], ◌∷◌, length, drop}
+use Rattle.std.specs.Prelude.{◌≡◌, ℕ, ◌+◌, ◌<◌, ◌≤◌, List, [], ◌∷◌, length, drop, ◌⊎◌}
 use Rattle.bx_xdr.specs.Items.{SpellsWords, Reads}
 use Rattle.bx_rpc.specs.declared.caller.Caller.{Caller}
 use Rattle.bx_rpc.specs.declared.opened.Opened.{Opened}
-use Rattle.bx_rpc.specs.Checks.{Verdict, Checks}
+use Rattle.bx_rpc.specs.Checks.{IsProgram, Verdict, Checks}
 use Rattle.bx_rpc.specs.Checks.Verdict.{refused, passed}
 
 -- The datagram is a call's: it has at most 9216 bytes, and begins with the call's number and the word CALL (0).
 pub record IsCall (datagram : List ℕ) (xid : ℕ) (text : List ℕ) : Type 0 where
   pub short : length datagram ≤ 9216
   pub reads : Reads (SpellsWords 2 (xid ∷ 0 ∷ [])) datagram text
+
+-- The number of a refusal is 1 to 7. The reply to one of number 3 goes by the program, and no other does.
+pub record IsRefusal (number by : ℕ) : Type 0 where
+  pub positive : 0 < number
+  pub small : number ≤ 7
+  pub program : (by ≡ 0) ⊎ ((number ≡ 3) × IsProgram by)
 
 -- what was opened of a refused call: no more than the number and the program of its refusal
 pub record SaysRefused (n by : ℕ) (opened : Opened) : Type 0 where

@@ -9,7 +9,7 @@ mod opened;
 mod replies;
 mod stop;
 
-pub use laws::one_opening;
+pub use laws::{one_opening, refusals};
 pub use numbers::{MOUNT_PROGRAM, MOUNT_VERSION, NFS_PROGRAM, NFS_VERSION, NOBODY};
 pub use opened::{Opened, opens};
 pub use replies::{accepted, refused};

@@ -9,6 +9,7 @@ use Rattle.bx_model.specs.declared.call.Args.{Args}
 use Rattle.bx_model.specs.declared.call.Args.TheVariants.{Refused, Nothing, Handle}
 use Rattle.bx_model.specs.declared.call.Call.{Call}
 use Rattle.bx_nfs.specs.Forms.{Arguments, form_of}
+pub use Rattle.bx_nfs.specs.Results.{reply_text}
 
 -- a call that is refused as a message, with the number of the refusal and the program that its reply goes by
 abbrev pub refused_call : ℕ → ℕ → Call
@@ -44,6 +45,7 @@ HasServedArgs call Nothing = (call.program ≡ 100003) × (call.procedure ≡ 0)
 HasServedArgs call (Handle handle) = (call.program ≡ 100003) × (call.procedure ≡ 1)
 HasServedArgs call _ = ⊥
 
+-- the command serves the call
 abbrev pub IsServedCall : Call → Type 0
 IsServedCall call = HasServedArgs call call.args
 

@@ -8,8 +8,7 @@ ghost use Rattle.bx_model.specs.declared.call.Call.{Call};
 ghost use Rattle.bx_model.specs.declared.reply.Reply.{Reply};
 ghost use Rattle.bx_nfs.specs.Forms.{Arguments, form_of};
 ghost use Rattle.bx_nfs.specs.Limits.{IsLimited};
-ghost use Rattle.bx_nfs.specs.Results.{reply_text};
-ghost use Rattle.bx_nfs.specs.Wire.{IsServed, IsServedCall, ReadsAs, FromArguments, passed_call};
+ghost use Rattle.bx_nfs.specs.Wire.{IsServed, IsServedCall, ReadsAs, FromArguments, passed_call, reply_text};
 
 /// A datagram is one call at most.
 pub fn one_reading()

@@ -1,16 +1,16 @@
 -- A step of a legal history.
-use Rattle.std.specs.Prelude.{◌≡◌, ◌≤◌, ◌==◌, Bool, false, Some}
+use Rattle.std.specs.Prelude.{◌≡◌, ◌≤◌, ◌==◌, Bool, true, false, Some}
 use Rattle.bx_model.specs.declared.entry.Entry.{Entry}
 use Rattle.bx_model.specs.declared.reply.Reply.{Reply}
-use Rattle.bx_model.specs.declared.reply.Reply.TheVariants.{Status, Empty, Attributes}
+use Rattle.bx_model.specs.declared.reply.Reply.TheVariants.{Status, Space}
 use Rattle.bx_model.specs.declared.tree.Tree.{Tree}
 use Rattle.bx_model.specs.Act.{act}
 
--- whether a reply tells how many blocks are free: NOSPC does
+-- whether a reply tells how many blocks are free: NOSPC does, and STATFS
 abbrev pub tells_spare : Reply → Bool
 tells_spare (Status status) = status == 28
-tells_spare Empty = false
-tells_spare (Attributes words) = false
+tells_spare (Space words) = true
+tells_spare _ = false
 
 -- The entry's reply is what the tree answers, and its step leads from the one tree to the other.
 pub record IsStep (tree : Tree) (entry : Entry) (next : Tree) : Type 0 where

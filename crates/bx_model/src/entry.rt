@@ -5,7 +5,7 @@ use crate::reply::Reply;
 use bx_base::CallNo;
 
 /// A step of a history: a call, and what came of it.
-#[derive(Debug, Drop)]
+#[derive(Drop)]
 pub struct Entry {
     /// The call's number.
     pub call: CallNo,

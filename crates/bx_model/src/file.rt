@@ -3,7 +3,7 @@
 use bx_base::{List, Raw};
 
 /// An entry of a directory.
-#[derive(Debug, Drop)]
+#[derive(Drop)]
 pub struct Name {
     /// The entry's number; a directory numbers its entries from 3 and never uses a number twice.
     pub number: u32,
@@ -17,7 +17,7 @@ pub struct Name {
 pub type NameList = List<Name>;
 
 /// What a file contains.
-#[derive(Debug, Drop)]
+#[derive(Drop)]
 pub enum Body {
     /// A regular file's bytes.
     Bytes(Raw),
@@ -34,7 +34,7 @@ pub(crate) const DIRECTORY: u32 = 2;
 pub(crate) const LINK: u32 = 5;
 
 /// A file of the tree.
-#[derive(Debug, Drop)]
+#[derive(Drop)]
 pub struct File {
     /// Area in 16 bits, slot in 16, generation in 32.
     pub handle: u64,

@@ -11,7 +11,7 @@ use std::collections::BTreeMap;
 use std::marker::Model;
 
 /// Files with different handles. Contracts see them as a list in the order of their handles.
-#[derive(Debug, Drop)]
+#[derive(Drop)]
 pub struct Files {
     alloc: Global,
     by_handle: BTreeMap<u64, File>,

@@ -36,6 +36,8 @@ impl Tree {
         let reply = match &call.args {
             Args::Nothing => Reply::Empty,
             Args::Handle(bytes) => self.getattr(bytes.bytes())?,
+            Args::Refused(number) => Reply::Refused(*number, call.program),
+            _ => unreachable!(),
         };
         Ok(Some(reply))
     }

@@ -12,7 +12,7 @@ use std::alloc::Global;
 const ROOT: u64 = 1;
 
 /// A file tree.
-#[derive(Debug, Drop)]
+#[derive(Drop)]
 pub struct Tree {
     /// The number of the volume, which the tree's file handles carry.
     pub volume: u64,

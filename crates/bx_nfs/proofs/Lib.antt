@@ -1,1 +1,4 @@
+pub mod OneForm
+pub mod OneItem
 pub mod Reading
+pub mod Sizes

@@ -1,1 +1,6 @@
+pub mod Arguments
+pub mod Forms
+pub mod Items
+pub mod Limits
+pub mod Results
 pub mod Wire

@@ -1,53 +1,57 @@
 -- Which bytes are which call, and which bytes are which reply.
-use Rattle.std.specs.Prelude.{◌≡◌, ℕ, ◌<◌, ◌≤◌, ◌^◌, List, [], ◌∷◌, ◌++◌, length, ◌⊎◌}
-use Rattle.bx_base.specs.Bytes.{words}
-use Rattle.bx_model.specs.declared.call.Call.{Call}
+use Rattle.std.specs.Prelude.{◌≡◌, ℕ, List, [], ◌⊎◌}
+use Rattle.bx_xdr.specs.Items.{Reads, Lacks}
+use Rattle.bx_rpc.specs.declared.caller.Caller.{Caller}
+use Rattle.bx_rpc.specs.Checks.{Verdict, Checks}
+use Rattle.bx_rpc.specs.Checks.Verdict.{refused, passed}
+use Rattle.bx_rpc.specs.Message.{IsCall}
 use Rattle.bx_model.specs.declared.call.Args.{Args}
-use Rattle.bx_model.specs.declared.call.Args.TheVariants.{Nothing, Handle}
-use Rattle.bx_model.specs.declared.reply.Reply.{Reply}
-use Rattle.bx_model.specs.declared.reply.Reply.TheVariants.{Status, Empty, Attributes}
-use Rattle.bx_rpc.specs.Header.{call_header, reply_header}
+use Rattle.bx_model.specs.declared.call.Args.TheVariants.{Refused, Nothing, Handle}
+use Rattle.bx_model.specs.declared.call.Call.{Call}
+use Rattle.bx_nfs.specs.Forms.{Arguments, form_of}
+pub use Rattle.bx_nfs.specs.Results.{reply_text}
 
--- The arguments of a procedure as bytes. NULL (0) has none, GETATTR (1) has a file handle.
-abbrev pub IsArguments : ℕ → Args → List ℕ → Type 0
-IsArguments procedure Nothing bytes = (procedure ≡ 0) × (bytes ≡ [])
-IsArguments procedure (Handle handle) bytes = (procedure ≡ 1) × (length handle ≡ 32) × (bytes ≡ handle)
+-- a call that is refused as a message, with the number of the refusal and the program that its reply goes by
+abbrev pub refused_call : ℕ → ℕ → Call
+refused_call number program = record { program = program; procedure = 0; uid = 0; gid = 0; gids = []; args = Refused number }
 
--- the bytes begin with the arguments of a procedure
-pub record BeginsWithArguments (procedure : ℕ) (bytes : List ℕ) (args : Args) : Type 0 where
-  pub arguments : List ℕ
-  pub rest : List ℕ
-  pub parts : bytes ≡ arguments ++ rest
-  pub is_arguments : IsArguments procedure args arguments
+-- a call that passes
+abbrev pub passed_call : ℕ → ℕ → Caller → Args → Call
+passed_call program procedure caller args = record { program = program; procedure = procedure; uid = caller.uid; gid = caller.gid; gids = caller.gids; args = args }
 
--- The bytes are a call with this number: a header without a credential, the arguments, and any bytes behind them.
+-- 7: the arguments of the procedure can be read. What stands behind them is passed over.
+abbrev pub FromArguments : ℕ → ℕ → Caller → Call → List ℕ → Type 0
+FromArguments program procedure caller call text =
+    (Lacks (Arguments (form_of program procedure)) text × (call ≡ refused_call 7 0))
+    ⊎ ((args : Args) × (rest : List ℕ) × Reads (Arguments (form_of program procedure) args) text rest × (call ≡ passed_call program procedure caller args))
+
+-- the call, by what the checks before its arguments come to
+abbrev pub IsOf : Verdict → Call → Type 0
+IsOf (refused number program) call = call ≡ refused_call number program
+IsOf (passed program procedure caller arguments) call = FromArguments program procedure caller call arguments
+
+-- The bytes are a call with this number (RFC 5531, section 9).
 pub record ReadsAs (bytes : List ℕ) (xid : ℕ) (call : Call) : Type 0 where
-  pub arguments : List ℕ
-  pub rest : List ℕ
-  pub parts : bytes ≡ call_header xid call.procedure ++ (arguments ++ rest)
-  pub xid_fits : xid < 2 ^ 32
-  pub program : call.program ≡ 100003
-  pub uid : call.uid ≡ 65534
-  pub gid : call.gid ≡ 65534
-  pub gids : call.gids ≡ []
-  pub args : IsArguments call.procedure call.args arguments
+  pub text : List ℕ
+  pub verdict : Verdict
+  pub message : IsCall bytes xid text
+  pub checked : Checks verdict text
+  pub says : IsOf verdict call
 
--- the bytes of a result (RFC 1094, section 2.2)
-abbrev pub result_text : Reply → List ℕ
-result_text (Status status) = words (status ∷ [])
-result_text Empty = []
-result_text (Attributes attributes) = words (0 ∷ attributes)
+-- The calls that the command serves: those that are refused, and of NFS NULL (0) and GETATTR (1).
+abbrev pub HasServedArgs : Call → Args → Type 0
+HasServedArgs call (Refused number) = Unit {0}
+HasServedArgs call Nothing = (call.program ≡ 100003) × (call.procedure ≡ 0)
+HasServedArgs call (Handle handle) = (call.program ≡ 100003) × (call.procedure ≡ 1)
+HasServedArgs call _ = ⊥
 
--- the bytes of the reply to the call with this number
-abbrev pub reply_text : ℕ → Reply → List ℕ
-reply_text xid reply = reply_header xid ++ result_text reply
+-- the command serves the call
+abbrev pub IsServedCall : Call → Type 0
+IsServedCall call = HasServedArgs call call.args
 
--- The datagrams that are served: the header of a call without a credential, of NULL, or of GETATTR with at least the
--- 32 bytes of a file handle behind it.
+-- the datagrams that the command serves
 pub record IsServed (bytes : List ℕ) : Type 0 where
   pub xid : ℕ
-  pub procedure : ℕ
-  pub rest : List ℕ
-  pub xid_fits : xid < 2 ^ 32
-  pub parts : bytes ≡ call_header xid procedure ++ rest
-  pub built : (procedure ≡ 0) ⊎ ((procedure ≡ 1) × (32 ≤ length rest))
+  pub call : Call
+  pub reads : ReadsAs bytes xid call
+  pub served : IsServedCall call

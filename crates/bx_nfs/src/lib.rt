@@ -1,13 +1,15 @@
-//! NFS version 2 (RFC 1094) on the wire: calls and replies as bytes.
+//! NFS version 2 and MOUNT (RFC 1094) on the wire: calls and replies as bytes.
 #![tactic(auto)]
 
+mod arguments;
 mod calls;
+mod forms;
+mod items;
 mod laws;
 mod replies;
+mod served;
 
 pub use calls::reads_as;
-pub use laws::{one_reading, served_calls};
+pub use laws::{lengths, one_reading, served_calls, tail_passed_over};
 pub use replies::text;
-
-#[cfg(test)]
-mod tests;
+pub use served::is_served;

@@ -1,2 +1,6 @@
-pub mod Headers
-pub mod Words
+pub mod Behind
+pub mod Openings
+pub mod Parts
+pub mod Refusing
+pub mod Steps
+pub mod Verdicts

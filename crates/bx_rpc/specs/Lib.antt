@@ -1,1 +1,5 @@
-pub mod Header
+pub mod Callers
+pub mod Checks
+pub mod Message
+pub mod Replies
+pub mod Stops

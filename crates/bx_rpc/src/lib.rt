@@ -1,9 +1,15 @@
-//! RPC messages (RFC 5531).
+//! RPC messages (RFC 5531): calls up to their arguments, and replies up to their results.
 #![tactic(auto)]
 
+mod caller;
+mod checks;
+mod laws;
+mod numbers;
 mod opened;
+mod replies;
+mod stop;
 
-pub use opened::{NFS_PROGRAM, NFS_VERSION, NOBODY, Opened, opens};
-
-#[cfg(test)]
-mod tests;
+pub use laws::{one_opening, refusals};
+pub use numbers::{MOUNT_PROGRAM, MOUNT_VERSION, NFS_PROGRAM, NFS_VERSION, NOBODY};
+pub use opened::{Opened, opens};
+pub use replies::{accepted, refused};

@@ -1,43 +1,30 @@
-//! The header of a call.
+//! Calls up to their arguments.
 
-ghost use Rattle.std.specs.Prelude.{◌≡◌, ◌<◌, ◌≤◌, ◌^◌, ℕ, List, [], ◌++◌, length, drop, slice_index, IfOk, IfSome, IfNone};
-ghost use Rattle.bx_base.specs.Bytes.{words};
-ghost use Rattle.bx_rpc.specs.Header.{Opens, call_header, call_words};
-ghost use Rattle.bx_rpc.specs.declared.opened.Opened.{Opened};
+ghost use Rattle.std.specs.Prelude.{◌≡◌, ℕ, List, [], IfOk, IfSome, IfNone};
+ghost use Rattle.bx_rpc.specs.Message.{IsCall, Opens};
 
+use crate::caller::Caller;
+use crate::checks::{Header, read_header};
+use crate::stop::Stop;
 use bx_base::{OutOfMemory, Words};
-use byteorder::{BigEndian, ByteOrder};
+use bx_xdr::Reader;
 use std::alloc::Global;
 
-/// The program number of NFS (RFC 1094).
-pub const NFS_PROGRAM: u32 = 100003;
+/// The greatest length of a datagram that is a call's, in bytes.
+const LONGEST_DATAGRAM: usize = 9216;
 
-/// The version of NFS that is served.
-pub const NFS_VERSION: u32 = 2;
-
-/// The user and the group of a caller without a credential.
-pub const NOBODY: u32 = 65534;
-
-/// The word that makes a message a call.
+/// The word that makes a message a call (RFC 5531, section 9).
 const CALL: u32 = 0;
 
-/// The version of RPC.
-const RPC_VERSION: u32 = 2;
-
-/// The greatest number of a procedure (RFC 1094, section 2.2).
-const LAST_PROCEDURE: u32 = 17;
-
-/// How many bytes a header without a credential has.
-const HEADER_LEN: usize = 40;
-
-/// What the header of a call says.
-#[derive(Debug, Drop)]
+/// What the header of a call says. Of a refused call there are the number, the refusal, and the program where its reply
+/// goes by it; its other numbers are 0, and it has no groups.
+#[derive(Drop)]
 pub struct Opened {
     /// The number that the client gave the call.
     pub xid: u32,
     /// The program.
     pub program: u32,
-    /// The procedure, at most 17.
+    /// The procedure: at most 17 of NFS, at most 5 of MOUNT.
     pub procedure: u32,
     /// The caller's user number.
     pub uid: u32,
@@ -45,75 +32,85 @@ pub struct Opened {
     pub gid: u32,
     /// The caller's further groups.
     pub gids: Words,
-    /// Why the call is refused, or 0.
+    /// Why the call is refused, 1 to 7, or 0.
     pub refusal: u32,
     /// Where the arguments begin, in bytes.
     pub rest: u32,
 }
 
-/// Reads the header of a call of NFS version 2 with an empty AUTH_NONE credential and verifier (RFC 5531,
-/// section 9), of a procedure of at most 17; `None` exactly where the datagram begins with no such header.
-/// A `u32` is four bytes, the highest first.
+/// Reads a datagram up to a call's arguments (RFC 5531, sections 8.2 and 9, and appendix A); `None` exactly where it is
+/// no call's: it has fewer than 8 bytes, more than 9216, or its second word isn't CALL. It takes time by the bytes of
+/// the header.
 pub fn opens(alloc: Global, datagram: &[u8]) -> Result<Option<Opened>, OutOfMemory>
     ensures found { IfOk result (λ found. IfSome found (Opens datagram.now)) }
-    ensures none { IfOk result (λ found. IfNone found ((xid procedure : ℕ) (rest : List ℕ) →
-        xid < 2 ^ 32 → procedure ≤ 17 → datagram.now ≡ call_header xid procedure ++ rest → ⊥)) }
+    ensures none { IfOk result (λ found. IfNone found ((xid : ℕ) (text : List ℕ) → IsCall datagram.now xid text → ⊥)) }
 {
-    let Some(header) = header_words(datagram) else {
+    let Some((xid, text)) = call_of(datagram) else {
         return Ok(None);
     };
-    let Some((xid, procedure)) = call_of(&header) else {
-        return Ok(None);
-    };
-    Ok(Some(without_credential(alloc, xid, procedure)))
-}
-
-/// The number and the procedure of the call whose header these words are.
-fn call_of(header: &[u32; 10]) -> Option<(u32, u32)>
-    ensures some { IfSome result (λ call. (header.now ≡ call_words call.0 call.1) × (call.1 ≤ 17)) }
-    ensures none { IfNone result ((xid procedure : ℕ) → procedure ≤ 17 → header.now ≡ call_words xid procedure → ⊥) }
-{
-    match *header {
-        [
-            xid,
-            CALL,
-            RPC_VERSION,
-            NFS_PROGRAM,
-            NFS_VERSION,
-            procedure,
-            0,
-            0,
-            0,
-            0,
-        ] if procedure <= LAST_PROCEDURE => { Some((xid, procedure)) }
-        _ => None,
+    let mut reader = Reader::new(text);
+    match read_header(alloc, &mut reader) {
+        Ok(header) => {
+            let place = datagram.len() - reader.rest().len();
+            Ok(Some(passed(xid, header, place as u32)))
+        }
+        Err(Stop::Refused(number, program)) => Ok(Some(refused(alloc, xid, number, program))),
+        Err(Stop::OutOfMemory) => Err(OutOfMemory),
     }
 }
 
-/// The ten words at the front of the bytes; `None` where there are fewer.
-fn header_words(bytes: &[u8]) -> Option<[u32; 10]>
-    ensures some { IfSome result (λ header. bytes.now ≡ words header ++ drop 40 bytes.now) }
-    ensures fit { IfSome result (λ header. (length header ≡ 10) × ((i : ℕ) → slice_index header i < 2 ^ 32)) }
-    ensures none { IfNone result (length bytes.now < 40) }
+/// The number of the call that a datagram is, and the bytes behind the word CALL.
+fn call_of(datagram: &[u8]) -> Option<(u32, &[u8])>
+    ensures some { IfSome result (λ call. IsCall datagram.now call.0 call.1.now) }
+    ensures none { IfNone result ((xid : ℕ) (text : List ℕ) → IsCall datagram.now xid text → ⊥) }
 {
-    let front = bytes.get(..HEADER_LEN)?;
-    let mut header = [0; 10];
-    BigEndian::read_u32_into(front, &mut header);
-    Some(header)
+    if datagram.len() > LONGEST_DATAGRAM {
+        return None;
+    }
+    let mut front = [0; 2];
+    let mut reader = Reader::new(datagram);
+    reader.words(&mut front)?;
+    let [xid, kind] = front;
+    if kind != CALL {
+        return None;
+    }
+    Some((xid, reader.rest()))
 }
 
-/// What the header of a call without a credential says.
-fn without_credential(alloc: Global, xid: u32, procedure: u32) -> Opened
-    ensures { result ≡ record { xid = xid; program = 100003; procedure = procedure; uid = 65534; gid = 65534; gids = []; refusal = 0; rest = 40 } }
+/// What the header of a call that passes says, with the place of its arguments.
+fn passed(xid: u32, header: Header, rest: u32) -> Opened
+    ensures { result ≡ record { xid = xid; program = header.program; procedure = header.procedure; uid = header.caller.uid; gid = header.caller.gid; gids = header.caller.gids; refusal = 0; rest = rest } }
+{
+    let Header {
+        program,
+        procedure,
+        caller,
+    } = header;
+    let Caller { uid, gid, gids } = caller;
+    Opened {
+        xid,
+        program,
+        procedure,
+        uid,
+        gid,
+        gids,
+        refusal: 0,
+        rest,
+    }
+}
+
+/// What there is of a refused call.
+fn refused(alloc: Global, xid: u32, number: u32, program: u32) -> Opened
+    ensures { result ≡ record { xid = xid; program = program; procedure = 0; uid = 0; gid = 0; gids = []; refusal = number; rest = 0 } }
 {
     Opened {
         xid,
-        program: NFS_PROGRAM,
-        procedure,
-        uid: NOBODY,
-        gid: NOBODY,
+        program,
+        procedure: 0,
+        uid: 0,
+        gid: 0,
         gids: Words::new(alloc),
-        refusal: 0,
-        rest: HEADER_LEN as u32,
+        refusal: number,
+        rest: 0,
     }
 }

@@ -9,6 +9,3 @@ mod writer;
 pub use laws::{one_reading, written_reads};
 pub use reader::Reader;
 pub use writer::Writer;
-
-#[cfg(test)]
-mod tests;

@@ -1,6 +1,7 @@
 //! Writing items.
 
 ghost use Rattle.std.specs.Prelude.{◌≡◌, ◌^◌, ◌<◌, [], ◌++◌, length, OnOk, OnErr};
+ghost use Rattle.bx_base.specs.Bytes.{words};
 ghost use Rattle.bx_xdr.specs.Items.{word_text, fixed_text, opaque_text};
 
 use crate::padding::{UNIT, padding_of};
@@ -12,8 +13,11 @@ use std::marker::Model;
 /// What padding is written as.
 const PADDING: [u8; 3] = [0; 3];
 
+/// The lengths that a word has room for.
+const LENGTHS: usize = 0xffff_ffff;
+
 /// Puts items one behind the other. Contracts see it as the list of the bytes that were put.
-#[derive(Debug, Drop)]
+#[derive(Drop)]
 pub struct Writer {
     bytes: Vec<u8>,
 }
@@ -61,6 +65,21 @@ impl Writer {
         Ok(())
     }
 
+    /// Puts words one behind the other (RFC 4506, section 4.12). On an error nothing is put.
+    pub fn put_words(&mut self, numbers: &[u32]) -> Result<(), OutOfMemory>
+        ensures ok { OnOk result (self.new ≡ self.old ++ words numbers.now) }
+        ensures err { OnErr result (self.new ≡ self.old) }
+    {
+        let start = self.bytes.len();
+        for number in numbers {
+            if self.put_word(*number).is_err() {
+                self.bytes.truncate(start);
+                return Err(OutOfMemory);
+            }
+        }
+        Ok(())
+    }
+
     /// Puts opaque data of a length that its reader knows, and behind it zeros up to a multiple of 4 bytes (RFC 4506,
     /// section 4.9). On an error nothing is put.
     pub fn put_fixed(&mut self, content: &[u8]) -> Result<(), OutOfMemory>
@@ -74,15 +93,14 @@ impl Writer {
         Ok(())
     }
 
-    /// Puts the length of opaque data in bytes, which is below 2^32, and then the data as `put_fixed` does (RFC 4506,
+    /// Puts the length of opaque data in bytes, which is to be below 2^32 (of a greater one its low 32 bits), and then the data as `put_fixed` does (RFC 4506,
     /// section 4.10). On an error nothing is put.
     pub fn put_opaque(&mut self, content: &[u8]) -> Result<(), OutOfMemory>
-        requires { length content.now < 2 ^ 32 }
         ensures ok { OnOk result (self.new ≡ self.old ++ opaque_text content.now) }
         ensures err { OnErr result (self.new ≡ self.old) }
     {
         let start = self.bytes.len();
-        self.put_word(content.len() as u32)?;
+        self.put_word((content.len() & LENGTHS) as u32)?;
         if self.put_fixed(content).is_err() {
             self.bytes.truncate(start);
             return Err(OutOfMemory);

@@ -1,6 +1,9 @@
-use Rattle.bx_nfs.proofs.Reading.{unopened}
+use Rattle.bx_nfs.proofs.Reading.{passed_reads}
 use Rattle.bx_nfs.proofs.calls.reads_as.Goals as goal
 
-pub returns-in_default-clause-served : goal.returns-in_default-clause-served
-returns-in_default-clause-served c =
-    ((λ no. absurd cc), (λ served. absurd (unopened c.in_ok-opened.field-0 c.args.datagram.now c.in_default.is c.in_ok-opened.ensures.none served)))
+pub returns-in_default-clause-none : goal.returns-in_default-clause-none
+returns-in_default-clause-none c = λ xid call reads. (rw c.in_default.is at c.in_ok-opened.ensures.none) xid reads.text reads.message
+
+pub returns-clause-found : goal.returns-clause-found
+returns-clause-found c =
+    passed_reads c.args.datagram.now c.in-Some.opened c.in_ok-call.call (rw c.in-Some.is at c.in_ok-opened.ensures.found) c.if-opened-ne0.false c.in_ok-call.ensures

@@ -14,4 +14,3 @@ pub use mem_source::MemSource;
 pub use sink::{Sink, WriteFault, write_all};
 pub use source::{ReadFault, Source};
 pub use streams::{Incoming, Outgoing};
-

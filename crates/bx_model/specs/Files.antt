@@ -1,5 +1,5 @@
 -- The files of a tree as a list in the order of their handles.
-use Rattle.std.specs.Prelude.{◌≡◌, ℕ, ◌<◌, ◌^◌, ◌==◌, nat_lt, if◌then◌else◌, List, [], ◌∷◌, length, Option, Some, None}
+use Rattle.std.specs.Prelude.{◌≡◌, ℕ, ◌<◌, ◌^◌, ◌==◌, nat_lt, Bool, if◌then◌else◌, List, [], ◌∷◌, length, Option, Some, None}
 use Rattle.bx_model.specs.declared.file.File.{File}
 use Rattle.bx_model.specs.declared.file.Body.{Body}
 use Rattle.bx_model.specs.declared.file.Body.TheVariants.{Bytes, Path, Names}
@@ -10,10 +10,33 @@ size_of (Bytes bytes) = length bytes
 size_of (Path path) = length path
 size_of (Names parent next names) = 4096
 
+-- the type's number of a body (RFC 1094, section 2.3.2)
+abbrev pub kind_of : Body → ℕ
+kind_of (Bytes bytes) = 1
+kind_of (Names parent next names) = 2
+kind_of (Path path) = 5
+
+abbrev pub is_regular : File → Bool
+is_regular file = file.kind == 1
+
+abbrev pub is_directory : File → Bool
+is_directory file = file.kind == 2
+
+abbrev pub is_link : File → Bool
+is_link file = file.kind == 5
+
+-- a directory has given out more numbers than it has links
+abbrev pub LinksBelowNext : ℕ → Body → Type 0
+LinksBelowNext nlink (Bytes bytes) = Unit {0}
+LinksBelowNext nlink (Path path) = Unit {0}
+LinksBelowNext nlink (Names parent next names) = nlink < next
+
 -- what holds of every file
 pub record IsFile (file : File) : Type 0 where
+  pub kind : file.kind ≡ kind_of file.body
   pub mode : file.mode < 2 ^ 12
   pub size : size_of file.body < 2 ^ 31
+  pub links : LinksBelowNext file.nlink file.body
 
 -- the file with a handle
 abbrev pub file_at : List File → ℕ → Option File

@@ -8,9 +8,12 @@ mod file_handles;
 mod files;
 mod listing;
 mod metadata;
+mod names;
 mod permissions;
 mod procedures;
+mod reading;
 mod reply;
+mod status;
 mod tree;
 
 pub use call::{Args, Call, Sattr};
@@ -19,8 +22,12 @@ pub use file::{Body, File, Name, NameList};
 pub use file_handles::{file_handle, named_handle};
 pub use files::Files;
 pub use metadata::attributes;
-pub use permissions::Want;
-pub use reply::{Listed, ListedList, Reply, STALE};
+pub use permissions::{Want, may};
+pub use reply::{Listed, ListedList, Reply};
+pub use status::{
+    ACCES, DQUOT, EXIST, FBIG, ISDIR, NAMETOOLONG, NFS_OK, NOENT, NOSPC, NOTDIR, NOTEMPTY, NXIO,
+    PERM, STALE,
+};
 pub use tree::Tree;
 
 #[cfg(test)]

@@ -9,7 +9,7 @@ use bx_base::{OutOfMemory, Words};
 use std::alloc::Global;
 
 /// How many bytes a block has.
-const BLOCK_LEN: u32 = 4096;
+pub(crate) const BLOCK_LEN: u32 = 4096;
 
 /// The 17 words of a file's attributes (RFC 1094, section 2.3.5).
 pub fn attributes(alloc: Global, volume: u64, file: &File) -> Result<Words, OutOfMemory>
@@ -80,7 +80,7 @@ fn fileid(handle: u64) -> u32
 }
 
 /// The words as a list.
-fn words_of(alloc: Global, words: &[u32]) -> Result<Words, OutOfMemory>
+pub(crate) fn words_of(alloc: Global, words: &[u32]) -> Result<Words, OutOfMemory>
     ensures { IfOk result (λ list. list ≡ words.now) }
 {
     let mut list = Words::new(alloc);

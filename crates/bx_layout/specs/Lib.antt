@@ -1,4 +1,3 @@
-pub mod Handles
 pub mod Places
 pub mod Labels
 pub mod Blocks

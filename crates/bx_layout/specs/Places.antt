@@ -3,20 +3,20 @@
 use Rattle.std.specs.Prelude.{◌≡◌, ℕ, ◌+◌, ◌-◌, ◌*◌, ◌/◌, ◌%◌, ◌<◌, ◌≤◌, ◌⊎◌, ◌==◌, nat_lt, if◌then◌else◌, Bool, ◌&&◌, nat_le}
 
 -- the area of a block, and its slot there; 960 for the area's own block
-abbrev pub area_of : ℕ → ℕ
-area_of block = block / 1024
+abbrev pub block_area : ℕ → ℕ
+block_area block = block / 1024
 
-abbrev pub slot_of : ℕ → ℕ
-slot_of block = block % 1024
+abbrev pub block_slot : ℕ → ℕ
+block_slot block = block % 1024
 
 -- a block of a volume with so many areas
 pub record IsBlock (areas block : ℕ) : Type 0 where
-  pub area : area_of block < areas
-  pub slot : slot_of block ≤ 960
+  pub area : block_area block < areas
+  pub slot : block_slot block ≤ 960
 
 -- whether it is one
 abbrev pub is_block : ℕ → ℕ → Bool
-is_block areas block = nat_lt (area_of block) areas && nat_le (slot_of block) 960
+is_block areas block = nat_lt (block_area block) areas && nat_le (block_slot block) 960
 
 -- a volume's devices and areas
 pub record IsVolume (devices areas : ℕ) : Type 0 where
@@ -38,7 +38,7 @@ into_area slot = if slot == 960 then 0 else 9 * (slot + 1)
 
 -- the device of a block, and the first of its nine sectors
 abbrev pub block_place : ℕ → ℕ → ℕ × ℕ
-block_place block devices = (area_device (area_of block) devices, area_start (area_of block) devices + into_area (slot_of block))
+block_place block devices = (area_device (block_area block) devices, area_start (block_area block) devices + into_area (block_slot block))
 
 -- The device of a log slot, and where it begins: eight gates of one sector, and then eight bodies of 145 sectors.
 abbrev pub log_device : ℕ → ℕ → ℕ
@@ -80,7 +80,7 @@ pub record LieIn (one count other more : ℕ) : Type 0 where
 
 -- Where a block stands: on the device of its area, in the area's sectors, which are on the disk of a member.
 pub record StandsInArea (block devices areas : ℕ) : Type 0 where
-  pub device : (block_place block devices).0 ≡ area_device (area_of block) devices
-  pub is_there : area_device (area_of block) devices < devices
-  pub area : LieIn (block_place block devices).1 9 (area_start (area_of block) devices) 8649
-  pub disk : LieIn (area_start (area_of block) devices) 8649 0 (member_sectors devices areas)
+  pub device : (block_place block devices).0 ≡ area_device (block_area block) devices
+  pub is_there : area_device (block_area block) devices < devices
+  pub area : LieIn (block_place block devices).1 9 (area_start (block_area block) devices) 8649
+  pub disk : LieIn (area_start (block_area block) devices) 8649 0 (member_sectors devices areas)

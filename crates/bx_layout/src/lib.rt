@@ -4,9 +4,7 @@
 
 mod area;
 mod block;
-mod chunk_handle;
 mod draft;
-mod file_handles;
 mod gate;
 mod inode;
 mod inode_parts;
@@ -23,9 +21,7 @@ mod wants;
 
 pub use area::AreaBlock;
 pub use block::Block;
-pub use chunk_handle::ChunkHandle;
 pub use draft::{Draft, DraftError};
-pub use file_handles::{file_handle, named};
 pub use gate::Gate;
 pub use inode::Inode;
 pub use label::Label;
@@ -34,7 +30,7 @@ pub use place_laws::{
     label_logs_and_areas_are_apart, records_are_apart, records_stand_in_logs,
 };
 pub use places::{body_place, disk_sectors, gate_place, is_block, member_sectors, place};
-pub use readings::{handle_one_number, one_reading, taken_slots, written_reads};
+pub use readings::{one_reading, taken_slots, written_reads};
 pub use record_head::RecordHead;
 pub use runs::{Run, Runs};
 pub use sizes::{BLOCK_SECTORS, MOST_AREAS, MOST_BLOCKS, PAYLOAD, REPLICA_SECTORS, SECTOR, SLOTS};

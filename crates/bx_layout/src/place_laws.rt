@@ -1,7 +1,9 @@
 //! Laws of places.
 
 ghost use Rattle.std.specs.Prelude.{◌≡◌, ◌≢◌, ℕ, ◌+◌, ◌*◌, ◌<◌, ◌≤◌};
-ghost use Rattle.bx_layout.specs.Places.{AreApart, LieIn, StandsInArea, IsVolume, IsBlock, area_of, slot_of, area_device, area_start, block_place, log_device, log_start, gate_place, body_place, member_sectors, disk_sectors};
+ghost use Rattle.bx_handles.specs.declared.chunk_handle.ChunkHandle.{ChunkHandle};
+ghost use Rattle.bx_handles.specs.Handles.{block_of};
+ghost use Rattle.bx_layout.specs.Places.{AreApart, LieIn, StandsInArea, IsVolume, IsBlock, block_area, block_slot, area_device, area_start, block_place, log_device, log_start, gate_place, body_place, member_sectors, disk_sectors};
 
 /// Each block of a volume stands in its area's sectors, on the area's device; and the area on the disks of its members.
 pub fn blocks_stand_in_areas()
@@ -23,12 +25,14 @@ pub fn areas_are_apart()
         → AreApart (area_start one devices) 8649 (area_start other devices) 8649 }
 {}
 
-/// Each slot of an area, and the area's own block, is one block of the volume, and each block is one of these.
+/// Each slot of an area, and the area's own block, is one block of the volume, and each block is one of these; so the block of a
+/// handle is one.
 pub fn blocks_are_slots()
     ensures there { (area slot areas : ℕ) → area < areas → slot ≤ 960 → IsBlock areas (1024 * area + slot) }
-    ensures area { (area slot : ℕ) → slot ≤ 960 → area_of (1024 * area + slot) ≡ area }
-    ensures slot { (area slot : ℕ) → slot ≤ 960 → slot_of (1024 * area + slot) ≡ slot }
-    ensures back { (block : ℕ) → 1024 * area_of block + slot_of block ≡ block }
+    ensures area { (area slot : ℕ) → slot ≤ 960 → block_area (1024 * area + slot) ≡ area }
+    ensures slot { (area slot : ℕ) → slot ≤ 960 → block_slot (1024 * area + slot) ≡ slot }
+    ensures back { (block : ℕ) → 1024 * block_area block + block_slot block ≡ block }
+    ensures handle { (handle : ChunkHandle) (areas : ℕ) → handle.area < areas → handle.slot ≤ 960 → IsBlock areas (block_of handle) }
 {}
 
 /// The label, the log slots and the areas of a device have no sector in common; log slots begin behind the label and end

@@ -5,9 +5,7 @@ ghost use Rattle.std.specs.Prelude.{◌≡◌, ◌↔◌, ◌<◌, IsTrue};
 ghost use Rattle.bx_layout.specs.Places.{IsVolume, IsBlock, is_block, block_place, log_start, gate_place, body_place, member_sectors, disk_sectors, disk_count};
 
 use crate::sizes::{BLOCK_SECTORS, REPLICA_SECTORS, SLOTS};
-
-/// How far the numbers of the first blocks of two neighbouring areas are apart.
-pub(crate) const AREA_NUMBERS: u64 = 1024;
+use bx_handles::AREA_NUMBERS;
 
 /// The sector of a device where its first area begins.
 const AREAS_AT: u64 = 9345;

@@ -1,10 +1,9 @@
-//! Laws of formats: what is written is read again, and the same bytes are read as one value; and of handles and slots.
+//! Laws of formats: what is written is read again, and the same bytes are read as one value; and of slots.
 
-ghost use Rattle.std.specs.Prelude.{◌≡◌, ◌↔◌, ℕ, ◌+◌, ◌^◌, ◌<◌, ◌≤◌, false, List, IsTrue};
+ghost use Rattle.std.specs.Prelude.{◌≡◌, ◌↔◌, ℕ, ◌+◌, false, List, IsTrue};
 ghost use Rattle.bx_fields.specs.Writing.{padded};
 ghost use Rattle.bx_layout.specs.declared.area.AreaBlock.{AreaBlock};
 ghost use Rattle.bx_layout.specs.declared.block.Block.{Block};
-ghost use Rattle.bx_layout.specs.declared.chunk_handle.ChunkHandle.{ChunkHandle};
 ghost use Rattle.bx_layout.specs.declared.gate.Gate.{Gate};
 ghost use Rattle.bx_layout.specs.declared.gate.Gate.TheVariants.{Open};
 ghost use Rattle.bx_layout.specs.declared.inode.Inode.{Inode};
@@ -12,17 +11,14 @@ ghost use Rattle.bx_layout.specs.declared.label.Label.{Label};
 ghost use Rattle.bx_layout.specs.declared.record_head.RecordHead.{RecordHead};
 ghost use Rattle.bx_layout.specs.Areas.{IsArea, SpellsArea, area_text, generation_in, is_free, in_use, taken_word, freed_word};
 ghost use Rattle.bx_layout.specs.Blocks.{HasParts, SpellsBlock, block_text};
-ghost use Rattle.bx_layout.specs.Handles.{IsHandle, Names, number_of, block_of, fileid, file_text};
 ghost use Rattle.bx_layout.specs.Inodes.{IsInode, SpellsInode, inode_text};
 ghost use Rattle.bx_layout.specs.Labels.{IsLabel, SpellsLabel, IsOpenGate, label_text, gate_text};
-ghost use Rattle.bx_layout.specs.Places.{IsBlock};
 ghost use Rattle.bx_layout.specs.Records.{IsHead, SpellsHead, head_text};
 
 /// What is written of a value is its bytes, so that it is read again.
 pub fn written_reads()
     ensures label { (label : Label) → IsLabel label → SpellsLabel label (padded 512 (label_text label)) }
     ensures gate { (gate : Gate) → IsOpenGate (gate_text gate) ↔ (gate ≡ Open) }
-    ensures file_handle { (volume handle : ℕ) → handle < 2 ^ 64 → Names volume handle (file_text volume handle) }
     ensures block { (block : Block) → HasParts block → SpellsBlock block (block_text block) }
     ensures area { (area : AreaBlock) → IsArea area → SpellsArea area (padded 4096 (area_text area)) }
     ensures inode { (inode : Inode) → IsInode inode → SpellsInode inode (padded 4096 (inode_text inode)) }
@@ -32,23 +28,10 @@ pub fn written_reads()
 /// Bytes are one value at most: so what is read of what was written is the same, and two values have different bytes.
 pub fn one_reading()
     ensures label { (a b : Label) (sector : List ℕ) → SpellsLabel a sector → SpellsLabel b sector → a ≡ b }
-    ensures file_handle { (volume one other : ℕ) (bytes : List ℕ) → Names volume one bytes → Names volume other bytes → one ≡ other }
-    ensures volume { (volume another one other : ℕ) (bytes : List ℕ) → volume < 2 ^ 64 → another < 2 ^ 64
-        → Names volume one bytes → Names another other bytes → volume ≡ another }
     ensures block { (a b : Block) (bytes : List ℕ) → SpellsBlock a bytes → SpellsBlock b bytes → a ≡ b }
     ensures area { (a b : AreaBlock) (payload : List ℕ) → SpellsArea a payload → SpellsArea b payload → a ≡ b }
     ensures inode { (a b : Inode) (payload : List ℕ) → SpellsInode a payload → SpellsInode b payload → a ≡ b }
     ensures head { (a b : RecordHead) (sector : List ℕ) → SpellsHead a sector → SpellsHead b sector → a ≡ b }
-{}
-
-/// The number of a handle has 64 bits and is no other handle's. Its block and its file are those of its area and slot alone.
-pub fn handle_one_number()
-    ensures fits { (handle : ChunkHandle) → IsHandle handle → number_of handle < 2 ^ 64 }
-    ensures number { (one other : ChunkHandle) → IsHandle one → IsHandle other → number_of one ≡ number_of other → one ≡ other }
-    ensures block { (handle : ChunkHandle) (areas : ℕ) → handle.area < areas → handle.slot ≤ 960 → IsBlock areas (block_of handle) }
-    ensures area { (one other : ChunkHandle) → one.slot ≤ 960 → other.slot ≤ 960 → block_of one ≡ block_of other → one.area ≡ other.area }
-    ensures slot { (one other : ChunkHandle) → one.slot ≤ 960 → other.slot ≤ 960 → block_of one ≡ block_of other → one.slot ≡ other.slot }
-    ensures file { (handle : ChunkHandle) → fileid handle ≡ block_of handle + 2 }
 {}
 
 /// A slot that was taken is in use and isn't free, in the generation above the one before, and freeing it leaves it in

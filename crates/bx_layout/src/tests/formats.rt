@@ -1,6 +1,6 @@
 //! Labels, gates, handles and blocks by bytes from outside.
 
-use crate::{Block, ChunkHandle, Gate, Label, file_handle, named};
+use crate::{Block, Gate, Label};
 use bx_base::Raw;
 use std::alloc::Global;
 use std::process::Abort;
@@ -52,10 +52,6 @@ const NO_LABELS: [(usize, u8); 11] = [
     (32, 1),
     (511, 1),
 ];
-
-/// The file handle of handle 848543803768839 of volume 0x0123456789abcdef.
-const FILE_HANDLE: &[u8; 32] =
-    b"BOXWOOD1\x01\x23\x45\x67\x89\xab\xcd\xef\x00\x03\x03\xbf\x00\x00\x00\x07\x00\x00\x00\x00\x00\x00\x00\x00";
 
 /// The header of a page in slot 959 of area 3, of generation 7, before its zeros.
 const HEADER: &[u8; 12] = b"\x00\x03\x03\xbf\x00\x00\x00\x07\x00\x00\x00\x02";
@@ -113,45 +109,6 @@ fn gates_have_their_bytes(rt: HostRuntime) {
         (b"".as_slice(), Gate::Closed),
     ] {
         assert_eq!(rt; Gate::read(bytes), want, "{bytes:?}");
-    }
-}
-
-#[test]
-fn handles_have_their_numbers(rt: HostRuntime) {
-    for (area, slot, generation, number, block, fileid) in [
-        (0, 0, 1, 1, 0, 2),
-        (3, 959, 7, 848_543_803_768_839, 4031, 4033),
-        (63, 960, 0, 17_737_046_701_375_488, 65472, 65474),
-    ] {
-        let handle = ChunkHandle {
-            area,
-            slot,
-            generation,
-        };
-        assert_eq!(rt; handle.number(), number);
-        assert_eq!(rt; ChunkHandle::of(number), handle);
-        assert_eq!(rt; handle.block(), block);
-        assert_eq!(rt; handle.fileid(), fileid);
-    }
-}
-
-#[test]
-fn file_handles_have_their_bytes(rt: HostRuntime) {
-    let (volume, handle) = (0x0123_4567_89ab_cdef, 848_543_803_768_839);
-    assert_eq!(rt;
-        file_handle(volume, handle).as_slice(),
-        FILE_HANDLE.as_slice()
-    );
-    assert_eq!(rt; named(FILE_HANDLE, volume), Some(handle));
-    assert_eq!(rt; named(FILE_HANDLE, volume + 1), None);
-    assert_eq!(rt; named(&FILE_HANDLE[..31], volume), None);
-    let mut long = [0; 33];
-    long[..32].copy_from_slice(FILE_HANDLE);
-    assert_eq!(rt; named(&long, volume), None);
-    for at in [0, 7, 8, 24, 31] {
-        let mut bytes = *FILE_HANDLE;
-        bytes[at] ^= 1;
-        assert_eq!(rt; named(&bytes, volume), None, "at {at}");
     }
 }
 

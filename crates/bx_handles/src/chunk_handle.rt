@@ -2,10 +2,8 @@
 
 ghost use Rattle.std.specs.Prelude.{◌≡◌};
 
-use crate::places::AREA_NUMBERS;
-
 /// The name of a chunk, which is never given again: the slot that it is in, and how often that slot was given.
-#[derive(Clone, Copy, PartialEq, Eq, Debug)]
+#[derive(Clone, Copy, PartialEq, Eq)]
 pub struct ChunkHandle {
     /// The area, from 0 on.
     pub area: u16,
@@ -14,6 +12,9 @@ pub struct ChunkHandle {
     /// The generation of the slot, from 1 on; 0 for the area's own block.
     pub generation: u32,
 }
+
+/// How far the numbers of the first blocks of two neighbouring areas are apart.
+pub const AREA_NUMBERS: u64 = 1024;
 
 /// What one area more adds to a handle's number.
 const AREA: u64 = 1 << 48;
@@ -25,12 +26,11 @@ const SLOT: u64 = 1 << 32;
 const FIRST_FILE: u32 = 2;
 
 impl ChunkHandle {
-    ghost use Rattle.bx_layout.specs.Handles.{IsHandle, number_of, block_of, fileid};
+    ghost use Rattle.bx_handles.specs.Handles.{number_of, parts_of, block_of, fileid};
 
     /// The handle with this number.
     pub fn of(number: u64) -> ChunkHandle
-        ensures handle { IsHandle result }
-        ensures number { number_of result ≡ number }
+        ensures { result ≡ parts_of number }
     {
         ChunkHandle {
             area: (number / AREA) as u16,
@@ -53,7 +53,7 @@ impl ChunkHandle {
         AREA_NUMBERS * u64::from(self.area) + u64::from(self.slot)
     }
 
-    /// The number of the file whose inode the chunk is.
+    /// The number of the file whose inode the chunk is (the attribute `fileid` of RFC 1094, section 2.3.5).
     pub fn fileid(&self) -> u32
         ensures { result ≡ fileid self.now }
     {

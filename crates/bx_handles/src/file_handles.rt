@@ -1,7 +1,7 @@
-//! File handles: the 32 bytes that name a file of a volume.
+//! File handles: the 32 bytes that name a file of a volume (RFC 1094, section 2.3.3).
 
-ghost use Rattle.std.specs.Prelude.{◌≡◌, ℕ, length, IfSome, IfNone};
-ghost use Rattle.bx_layout.specs.Handles.{Names, file_text};
+ghost use Rattle.std.specs.Prelude.{◌≡◌, length};
+ghost use Rattle.bx_handles.specs.Handles.{file_text, named};
 
 use byteorder::{BigEndian, ByteOrder};
 
@@ -22,9 +22,8 @@ pub fn file_handle(volume: u64, handle: u64) -> [u8; 32]
 
 /// The number of the handle whose file handle of the volume these bytes are; `None` exactly where they are none: other bytes,
 /// more or fewer of them, or the file handle of another volume.
-pub fn named(bytes: &[u8], volume: u64) -> Option<u64>
-    ensures some { IfSome result (λ handle. Names volume handle bytes.now) }
-    ensures none { IfNone result ((handle : ℕ) → Names volume handle bytes.now → ⊥) }
+pub fn named_handle(volume: u64, bytes: &[u8]) -> Option<u64>
+    ensures { result ≡ named volume bytes.now }
 {
     if bytes.len() != HANDLE_LEN {
         return None;

@@ -1,5 +1,5 @@
 -- READDIR: a directory's entries, page by page.
-use Rattle.std.specs.Prelude.{ℕ, ◌+◌, ◌-◌, ◌*◌, ◌/◌, ◌==◌, nat_lt, nat_le, not, min, if◌then◌else◌, List, [], ◌∷◌, filter, map, length, codes, Ok, Err}
+use Rattle.std.specs.Prelude.{ℕ, ◌+◌, ◌-◌, ◌*◌, ◌/◌, ◌==◌, nat_lt, nat_le, not, min, if◌then◌else◌, List, [], ◌∷◌, filter, map, length, codes, Ok}
 use Rattle.bx_model.specs.declared.call.Call.{Call}
 use Rattle.bx_model.specs.declared.file.File.{File}
 use Rattle.bx_model.specs.declared.file.Name.{Name}

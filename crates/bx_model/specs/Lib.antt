@@ -14,5 +14,6 @@ pub mod Making
 pub mod Removing
 pub mod Renaming
 pub mod Act
+pub mod FileTrees
 pub mod History
 pub mod Listing

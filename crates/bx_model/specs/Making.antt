@@ -1,5 +1,5 @@
 -- The procedures that make files and entries: CREATE, SYMLINK, MKDIR and LINK.
-use Rattle.std.specs.Prelude.{ℕ, ◌+◌, ◌%◌, ◌==◌, nat_lt, nat_le, Bool, not, ◌&&◌, if◌then◌else◌, List, [], replicate, is_some, Option, Some, None, Result, Ok, Err}
+use Rattle.std.specs.Prelude.{ℕ, ◌+◌, ◌%◌, ◌==◌, nat_lt, nat_le, Bool, not, ◌&&◌, if◌then◌else◌, List, [], replicate, is_some, Option, Some, None, Result, Ok}
 use Rattle.bx_model.specs.declared.call.Call.{Call}
 use Rattle.bx_model.specs.declared.call.Sattr.{Sattr}
 use Rattle.bx_model.specs.declared.file.Body.{Body}

@@ -5,13 +5,13 @@ use Rattle.bx_model.specs.declared.reply.Reply.{Reply}
 use Rattle.bx_model.specs.declared.reply.Reply.TheVariants as reply
 use Rattle.bx_model.specs.declared.status.TheConstants.{NOENT}
 use Rattle.bx_model.specs.declared.tree.Tree.{Tree}
-use Rattle.bx_model.specs.Attributes.{handle_bytes}
+use Rattle.bx_handles.specs.Handles.{file_text}
 
 -- MNT: the root's file handle, of the path `/`. UMNT answers nothing.
 abbrev pub mount : Tree → ℕ → List ℕ → Reply
 mount tree procedure path =
     if procedure == 3 then reply.Empty
-    else if bytes_eq path (codes "/") then reply.Mounted (handle_bytes tree.volume tree.root)
+    else if bytes_eq path (codes "/") then reply.Mounted (file_text tree.volume tree.root)
     else reply.Status NOENT
 
 -- What a procedure without arguments answers. Of NFS these are NULL, ROOT and WRITECACHE, which answer nothing; of

@@ -1,5 +1,5 @@
 -- Who may do what.
-use Rattle.std.specs.Prelude.{ℕ, ◌/◌, ◌==◌, Bool, not, ◌&&◌, ◌||◌, if◌then◌else◌, List, bit_and}
+use Rattle.std.specs.Prelude.{ℕ, ◌/◌, ◌==◌, Bool, not, ◌&&◌, ◌||◌, if◌then◌else◌, bit_and}
 use Rattle.std.specs.List.{list_any}
 use Rattle.bx_model.specs.declared.call.Call.{Call}
 use Rattle.bx_model.specs.declared.file.File.{File}

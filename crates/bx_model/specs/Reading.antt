@@ -1,5 +1,5 @@
 -- The procedures that change nothing: GETATTR, LOOKUP, READLINK, READ and STATFS.
-use Rattle.std.specs.Prelude.{ℕ, ◌*◌, ◌==◌, Bool, not, min, if◌then◌else◌, List, [], ◌∷◌, take, drop, codes, Option, Some, None, Ok, Err, option_and_then}
+use Rattle.std.specs.Prelude.{ℕ, ◌*◌, not, min, if◌then◌else◌, List, [], ◌∷◌, take, drop, codes, Option, Some, Ok, option_and_then}
 use Rattle.std.specs.Str.{bytes_eq}
 use Rattle.bx_model.specs.declared.call.Call.{Call}
 use Rattle.bx_model.specs.declared.file.Body.{Body}
@@ -10,7 +10,8 @@ use Rattle.bx_model.specs.declared.reply.Reply.{Reply}
 use Rattle.bx_model.specs.declared.reply.Reply.TheVariants as reply
 use Rattle.bx_model.specs.declared.status.TheConstants.{ACCES, ISDIR, NOENT, NOTDIR, NXIO, STALE}
 use Rattle.bx_model.specs.declared.tree.Tree.{Tree}
-use Rattle.bx_model.specs.Attributes.{attributes_of, handle_bytes, named}
+use Rattle.bx_handles.specs.Handles.{file_text, named}
+use Rattle.bx_model.specs.Attributes.{attributes_of}
 use Rattle.bx_model.specs.Files.{file_at, is_directory, is_link}
 use Rattle.bx_model.specs.Names.{names_of, parent_of, entry_named}
 use Rattle.bx_model.specs.Permissions.{may}
@@ -26,7 +27,7 @@ attributes_reply tree file = reply.Attributes (attributes_of tree.volume file)
 
 -- a file's file handle and attributes
 abbrev pub handle_reply : Tree → File → Reply
-handle_reply tree file = reply.Handle (handle_bytes tree.volume file.handle) (attributes_of tree.volume file)
+handle_reply tree file = reply.Handle (file_text tree.volume file.handle) (attributes_of tree.volume file)
 
 -- GETATTR (RFC 1094, section 2.2.2): the attributes.
 abbrev pub getattr : Tree → List ℕ → Outcome

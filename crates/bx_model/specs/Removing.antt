@@ -1,5 +1,5 @@
 -- REMOVE and RMDIR.
-use Rattle.std.specs.Prelude.{ℕ, ◌-◌, nat_le, nat_lt, Bool, not, if◌then◌else◌, List, length, Ok, Err}
+use Rattle.std.specs.Prelude.{ℕ, ◌-◌, nat_le, nat_lt, Bool, not, if◌then◌else◌, List, length, Ok}
 use Rattle.bx_model.specs.declared.call.Call.{Call}
 use Rattle.bx_model.specs.declared.file.File.{File}
 use Rattle.bx_model.specs.declared.reply.Reply.TheVariants as reply

@@ -4,7 +4,6 @@
 mod call;
 mod entry;
 mod file;
-mod file_handles;
 mod files;
 mod listing;
 mod metadata;
@@ -19,7 +18,6 @@ mod tree;
 pub use call::{Args, Call, Sattr};
 pub use entry::Entry;
 pub use file::{Body, File, Name, NameList};
-pub use file_handles::{file_handle, named_handle};
 pub use files::Files;
 pub use metadata::attributes;
 pub use permissions::{Want, may};

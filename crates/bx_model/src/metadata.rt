@@ -6,6 +6,7 @@ ghost use Rattle.bx_model.specs.Files.{IsFile, size_of as body_size};
 
 use crate::file::{Body, DIRECTORY, File, LINK};
 use bx_base::{OutOfMemory, Words};
+use bx_handles::ChunkHandle;
 use std::alloc::Global;
 
 /// How many bytes a block has.
@@ -74,9 +75,7 @@ fn low_word(number: u64) -> u32
 fn fileid(handle: u64) -> u32
     ensures { result ≡ fileid_of handle }
 {
-    let area = (handle >> 48) as u32;
-    let slot = ((handle >> 32) % (1 << 16)) as u32;
-    1024 * area + slot + 2
+    ChunkHandle::of(handle).fileid()
 }
 
 /// The words as a list.

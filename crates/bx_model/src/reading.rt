@@ -10,7 +10,6 @@ ghost use Rattle.bx_model.specs.Steps.{done};
 
 use crate::call::Call;
 use crate::file::{Body, File, NameList};
-use crate::file_handles::{file_handle, named_handle};
 use crate::metadata::{BLOCK_LEN, attributes, words_of};
 use crate::names::entry_named;
 use crate::permissions::{Want, may};
@@ -18,6 +17,7 @@ use crate::reply::Reply;
 use crate::status::{ACCES, ISDIR, NOENT, NOTDIR, NXIO, STALE};
 use crate::tree::Tree;
 use bx_base::{OutOfMemory, Raw};
+use bx_handles::{file_handle, named_handle};
 
 /// The most bytes that a READ or a READDIR gives (RFC 1094, section 2.3.9).
 pub(crate) const MOST_DATA: u32 = 8192;

@@ -2,9 +2,7 @@ ghost use Rattle.std.specs.Prelude.{◌<◌, ◌^◌, length};
 ghost use Rattle.bx_model.specs.Act.{HasArgs, IsServed};
 ghost use Rattle.bx_model.specs.Files.{IsFile};
 
-use crate::{
-    Args, Body, Call, File, Files, Reply, STALE, Tree, attributes, file_handle, named_handle,
-};
+use crate::{Args, Body, Call, File, Files, Reply, STALE, Tree, attributes};
 use bx_base::{Raw, Words};
 use std::alloc::Global;
 use std::test::Fail;
@@ -75,14 +73,6 @@ fn the_opening_tree_is_listed(rt: HostRuntime) -> Result<(), Fail> {
     let text = Tree::opening(rt.alloc(), 7)?.listing()?;
     assert_eq!(rt; text.bytes(), LISTING);
     Ok(())
-}
-
-#[test]
-fn handles_name_files(rt: HostRuntime) {
-    assert_eq!(rt; file_handle(7, 1).as_slice(), ROOT_HANDLE.as_slice());
-    assert_eq!(rt; named_handle(7, &ROOT_HANDLE), Some(1));
-    assert_eq!(rt; named_handle(8, &ROOT_HANDLE), None);
-    assert_eq!(rt; named_handle(7, &ROOT_HANDLE[..31]), None);
 }
 
 #[test]

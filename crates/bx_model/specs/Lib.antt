@@ -2,6 +2,7 @@ pub mod Files
 pub mod Attributes
 pub mod Opening
 pub mod Times
+pub mod Entries
 pub mod Names
 pub mod Permissions
 pub mod Edits

@@ -1,5 +1,5 @@
 -- The procedures that make files and entries: CREATE, SYMLINK, MKDIR and LINK.
-use Rattle.std.specs.Prelude.{ℕ, ◌+◌, ◌%◌, ◌==◌, nat_lt, nat_le, Bool, not, ◌&&◌, if◌then◌else◌, List, [], replicate, is_some, Option, Some, None, Result, Ok}
+use Rattle.std.specs.Prelude.{ℕ, ◌+◌, ◌%◌, ◌==◌, nat_lt, nat_le, Bool, false, not, ◌&&◌, if◌then◌else◌, List, [], replicate, is_some, Option, Some, None, Result, Ok}
 use Rattle.bx_model.specs.declared.call.Call.{Call}
 use Rattle.bx_model.specs.declared.call.Sattr.{Sattr}
 use Rattle.bx_model.specs.declared.file.Body.{Body}
@@ -12,7 +12,8 @@ use Rattle.bx_model.specs.declared.status.TheConstants.{ACCES, DQUOT, EXIST, FBI
 use Rattle.bx_model.specs.declared.tree.Tree.{Tree}
 use Rattle.bx_model.specs.Edits.{changed, with_new}
 use Rattle.bx_model.specs.Files.{file_at, is_directory, is_regular, kind_of}
-use Rattle.bx_model.specs.Names.{is_bad, names_of, next_of, entry_named, with_entry}
+use Rattle.bx_model.specs.Entries.{is_bad, entry_named}
+use Rattle.bx_model.specs.Names.{names_of, next_of, with_entry}
 use Rattle.bx_model.specs.Permissions.{may}
 use Rattle.bx_model.specs.Reading.{named_file, handle_reply}
 use Rattle.bx_model.specs.Steps.{Outcome, Making, must, refuse, ◌>>=◌, ◌>>◌}
@@ -40,9 +41,13 @@ entry_errors directory spare = do
   refuse (nat_le 4294967295 (next_of directory.body)) DQUOT
   refuse (is_full spare) NOSPC
 
--- a directory with a new entry, changed now
-abbrev pub entered : Time → List ℕ → ℕ → File → File
-entered now name handle directory = record directory { mtime = now; ctime = now; body = with_entry name handle directory.body }
+-- A directory with a new entry, changed now. A directory that comes into it counts among its links.
+abbrev pub entered : Time → List ℕ → ℕ → Bool → File → File
+entered now name handle counts directory = record directory {
+    nlink = if counts then directory.nlink + 1 else directory.nlink;
+    mtime = now;
+    ctime = now;
+    body = with_entry name handle directory.body }
 
 -- A new file. It is the caller's, or the user 0 says whose it is; its mode and its times are those given, where they
 -- are.
@@ -62,7 +67,7 @@ new_file call sattr now mode made content = record {
 
 -- the tree with a new file, which a new entry of a directory names
 abbrev pub with_made : Tree → File → List ℕ → Time → File → Tree
-with_made tree directory name now file = with_new (changed tree directory.handle (entered now name file.handle)) file
+with_made tree directory name now file = with_new (changed tree directory.handle (entered now name file.handle (is_directory file))) file
 
 -- CREATE (RFC 1094, section 2.2.10) of a name that isn't there: a regular file of the size given, all zeros, or empty.
 abbrev pub create_new : Tree → Call → File → List ℕ → Sattr → Time → ℕ → Making
@@ -103,10 +108,6 @@ symlink tree call at name path sattr now spare = do
   entry_errors directory spare
   Ok (Makes (λ made. (reply.Status NFS_OK, with_made tree directory name now (new_file call sattr now 0o777 made (body.Path path)))))
 
--- a directory with one more directory in it
-abbrev pub with_subdirectory : File → File
-with_subdirectory directory = record directory { nlink = directory.nlink + 1 }
-
 -- MKDIR (section 2.2.15): a directory without entries.
 abbrev pub mkdir : Tree → Call → List ℕ → List ℕ → Sattr → Time → ℕ → Making
 mkdir tree call at name sattr now spare = do
@@ -114,7 +115,7 @@ mkdir tree call at name sattr now spare = do
   refuse (has_entry directory name) EXIST
   entry_errors directory spare
   let file = λ (made : ℕ). new_file call sattr now 0o755 made (body.Names directory.handle 3 [])
-  Ok (Makes (λ made. (handle_reply tree (file made), changed (with_made tree directory name now (file made)) directory.handle with_subdirectory)))
+  Ok (Makes (λ made. (handle_reply tree (file made), with_made tree directory name now (file made))))
 
 -- a file with one more name, changed now
 abbrev pub linked : Time → File → File
@@ -129,4 +130,4 @@ link tree call from at name now spare = do
   refuse (has_entry directory name) EXIST
   refuse (nat_le 32000 file.nlink) DQUOT
   entry_errors directory spare
-  Ok (reply.Status NFS_OK, changed (changed tree file.handle (linked now)) directory.handle (entered now name file.handle))
+  Ok (reply.Status NFS_OK, changed (changed tree file.handle (linked now)) directory.handle (entered now name file.handle false))

@@ -1,6 +1,7 @@
 //! Files of the tree.
 
-use bx_base::{List, Raw};
+use crate::names::NameList;
+use bx_base::Raw;
 
 /// An entry of a directory.
 #[derive(Drop)]
@@ -12,9 +13,6 @@ pub struct Name {
     /// The handle of the file that it names.
     pub handle: u64,
 }
-
-/// Entries in the order of their numbers.
-pub type NameList = List<Name>;
 
 /// What a file contains.
 #[derive(Drop)]

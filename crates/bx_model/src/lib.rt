@@ -17,9 +17,10 @@ mod tree;
 
 pub use call::{Args, Call, Sattr};
 pub use entry::Entry;
-pub use file::{Body, File, Name, NameList};
+pub use file::{Body, File, Name};
 pub use files::Files;
 pub use metadata::attributes;
+pub use names::NameList;
 pub use permissions::{Want, may};
 pub use reply::{Listed, ListedList, Reply};
 pub use status::{

@@ -9,9 +9,9 @@ ghost use Rattle.bx_model.specs.Reading.{named_file, attributes_reply as reply_o
 ghost use Rattle.bx_model.specs.Steps.{done};
 
 use crate::call::Call;
-use crate::file::{Body, File, NameList};
+use crate::file::{Body, File};
 use crate::metadata::{BLOCK_LEN, attributes, words_of};
-use crate::names::entry_named;
+use crate::names::NameList;
 use crate::permissions::{Want, may};
 use crate::reply::Reply;
 use crate::status::{ACCES, ISDIR, NOENT, NOTDIR, NXIO, STALE};
@@ -156,7 +156,7 @@ impl Tree {
         if name == b"..".as_slice() {
             return self.files.get(parent);
         }
-        let entry = entry_named(names, name)?;
+        let entry = names.named(name)?;
         self.files.get(entry.handle)
     }
 

@@ -3,8 +3,9 @@
 ghost use Rattle.std.specs.Prelude.{◌≡◌, IfOk};
 ghost use Rattle.bx_model.specs.Opening.{opening, opening_root as the_root};
 
-use crate::file::{Body, DIRECTORY, File, NameList};
+use crate::file::{Body, DIRECTORY, File};
 use crate::files::Files;
+use crate::names::NameList;
 use bx_base::{Numbers, OutOfMemory};
 use std::alloc::Global;
 

@@ -1,9 +1,14 @@
 -- A map from handles to files, seen as the list of the files.
-use Rattle.std.proofs.Common.{◌≡◌, ℕ, subst, Bool, true, false, cond, eqb, ltb, List, [], ◌∷◌, Option, Some, refl, ap, ◌∙◌, arith}
+use Rattle.std.proofs.Common.{◌≡◌, ℕ, subst, Bool, true, false, cond, eqb, ltb, List, [], ◌∷◌, Option, Some, None, refl, sym, ap, ◌∙◌, arith}
 use Rattle.std.specs.Prelude.{IfSome, slice_get}
 use Rattle.std.specs.Ordering.{is_eq, nat_cmp, match_ordering}
-use Rattle.std.specs.Map.{lookup, values_of}
+use Rattle.std.specs.List.{AllByRecursion}
+use Rattle.std.specs.List.Sorted.{IsStrictlySortedBy}
+use Rattle.std.specs.Map.{keys_of, lookup, set_value, values_of}
 use Rattle.std.specs.BTreeMap.{is_at, insert_entry}
+use Rattle.std.specs.declared.cmp.Ordering.TheVariants.{Less}
+use Rattle.std.proofs.lemmas.Map.Keys.{sorted_head, sorted_tail}
+use Rattle.bx_model.specs.Edits.{with_changed}
 use Rattle.std.proofs.lemmas.Bool.{eqb-true}
 use Rattle.std.proofs.lemmas.Bool.Decides.{nat_tests}
 use Rattle.bx_model.specs.declared.file.File.{File}
@@ -73,3 +78,75 @@ IsFile-first [] entry kept first = absurd cc
 IsFile-first (e ∷ es) entry kept first =
     let same : e ≡ entry = cc in
     subst (λ (x : ℕ × File). IsFile x.1) same kept.1
+
+-- whether a key is the handle
+at_handle : (x y : ℕ) → is_at (nat_cmp x) y ≡ eqb y x
+at_handle x y = same_test x y
+
+unchanged_above : (handle : ℕ) (change : File → File) (es : List (ℕ × File)) → AreAtHandles es → AllByRecursion (λ y. nat_cmp handle y ≡ Less) (keys_of es)
+    → with_changed (values_of es) handle change ≡ values_of es
+unchanged_above handle change [] kept above = refl
+unchanged_above handle change (e ∷ es) kept above =
+    let apart : eqb e.1.handle handle ≡ false = rw (← kept.0) (grind (arith, nat_tests)) in
+    rw apart (ap (λ (others : List File). e.1 ∷ others) (unchanged_above handle change es kept.2 above.1))
+
+-- the files as they are seen after one was changed
+seen_here : (b : Bool) (handle : ℕ) (change : File → File) (old : File) (e : ℕ × File) (es : List (ℕ × File)) → eqb e.0 handle ≡ b → eqb e.1.handle handle ≡ b → AreAtHandles (e ∷ es)
+    → AllByRecursion (λ y. nat_cmp e.0 y ≡ Less) (keys_of es)
+    → cond b (Some e.1) (lookup (is_at (nat_cmp handle)) es) ≡ Some old
+    → (lookup (is_at (nat_cmp handle)) es ≡ Some old → values_of (set_value (is_at (nat_cmp handle)) es (change old)) ≡ with_changed (values_of es) handle change)
+    → values_of (cond b ((e.0, change old) ∷ es) (e ∷ set_value (is_at (nat_cmp handle)) es (change old))) ≡ with_changed (values_of (e ∷ es)) handle change
+seen_here true handle change old e es here own kept above found later =
+    let same : e.0 ≡ handle = eqb-true e.0 handle here in
+    let is : e.1 ≡ old = cc in
+    let others : with_changed (values_of es) handle change ≡ values_of es = unchanged_above handle change es kept.2 (subst (λ (k : ℕ). AllByRecursion (λ y. nat_cmp k y ≡ Less) (keys_of es)) same above) in
+    rw (own, others) (ap (λ (file : File). change file ∷ values_of es) (sym is))
+seen_here false handle change old e es here own kept above found later = rw own (ap (λ (others : List File). e.1 ∷ others) (later found))
+
+pub seen_changed : (handle : ℕ) (change : File → File) (old : File) (es : List (ℕ × File)) → AreAtHandles es → IsStrictlySortedBy nat_cmp (keys_of es)
+    → lookup (is_at (nat_cmp handle)) es ≡ Some old → values_of (set_value (is_at (nat_cmp handle)) es (change old)) ≡ with_changed (values_of es) handle change
+seen_changed handle change old [] kept rise found = absurd cc
+seen_changed handle change old (e ∷ es) kept rise found =
+    ap (λ (b : Bool). values_of (cond b ((e.0, change old) ∷ es) (e ∷ set_value (is_at (nat_cmp handle)) es (change old)))) (same_test handle e.0)
+    ∙ seen_here (eqb e.0 handle) handle change old e es refl (ap (λ (k : ℕ). eqb k handle) (sym kept.0)) kept (sorted_head nat_cmp e.0 (keys_of es) rise) (rw (same_test handle e.0) at found)
+    (seen_changed handle change old es kept.2 (sorted_tail nat_cmp e.0 (keys_of es) rise))
+
+-- what a look-up finds is a file of that handle
+found_by : (b : Bool) (handle : ℕ) (e : ℕ × File) (others : Option File) (file : File) → eqb e.0 handle ≡ b → (e.0 ≡ e.1.handle) → IsFile e.1 → cond b (Some e.1) others ≡ Some file
+    → (others ≡ Some file → (file.handle ≡ handle) × IsFile file) → (file.handle ≡ handle) × IsFile file
+found_by true handle e others file here own is found later =
+    let same : e.1 ≡ file = cc in
+    let at : e.0 ≡ handle = eqb-true e.0 handle here in
+    subst (λ (x : File). (x.handle ≡ handle) × IsFile x) same (cc, is)
+found_by false handle e others file here own is found later = later found
+
+pub found_at : (handle : ℕ) (es : List (ℕ × File)) (file : File) → AreAtHandles es → lookup (is_at (nat_cmp handle)) es ≡ Some file → (file.handle ≡ handle) × IsFile file
+found_at handle [] file kept found = absurd cc
+found_at handle (e ∷ es) file kept found =
+    found_by (eqb e.0 handle) handle e (lookup (is_at (nat_cmp handle)) es) file refl kept.0 kept.1 (rw (same_test handle e.0) at found) (found_at handle es file kept.2)
+
+set_by : (b : Bool) (handle : ℕ) (e : ℕ × File) (es others : List (ℕ × File)) (new : File) → eqb e.0 handle ≡ b → new.handle ≡ handle → IsFile new → AreAtHandles (e ∷ es) → AreAtHandles others
+    → AreAtHandles (cond b ((e.0, new) ∷ es) (e ∷ others))
+set_by true handle e es others new here at is kept later = (eqb-true e.0 handle here ∙ sym at, is, kept.2)
+set_by false handle e es others new here at is kept later = (kept.0, kept.1, later)
+
+-- files stand at their handles after one was put in the place of another
+pub at_set : (handle : ℕ) (new : File) (es : List (ℕ × File)) → new.handle ≡ handle → IsFile new → AreAtHandles es → AreAtHandles (set_value (is_at (nat_cmp handle)) es new)
+at_set handle new [] at is kept = tt
+at_set handle new (e ∷ es) at is kept =
+    rw (same_test handle e.0)
+    (set_by (eqb e.0 handle) handle e es (set_value (is_at (nat_cmp handle)) es new) new refl at is kept (at_set handle new es at is kept.2))
+
+missing_by : (b : Bool) (handle : ℕ) (change : File → File) (e : ℕ × File) (es : List (ℕ × File)) → eqb e.0 handle ≡ b → e.0 ≡ e.1.handle → cond b (Some e.1) (lookup (is_at (nat_cmp handle)) es) ≡ None
+    → (lookup (is_at (nat_cmp handle)) es ≡ None → with_changed (values_of es) handle change ≡ values_of es)
+    → with_changed (values_of (e ∷ es)) handle change ≡ values_of (e ∷ es)
+missing_by true handle change e es here own none later = absurd cc
+missing_by false handle change e es here own none later =
+    let apart : eqb e.1.handle handle ≡ false = rw (← own) here in
+    rw apart (ap (λ (others : List File). e.1 ∷ others) (later none))
+
+-- where no file has the handle, none is changed
+pub seen_missing : (handle : ℕ) (change : File → File) (es : List (ℕ × File)) → AreAtHandles es → lookup (is_at (nat_cmp handle)) es ≡ None → with_changed (values_of es) handle change ≡ values_of es
+seen_missing handle change [] kept none = refl
+seen_missing handle change (e ∷ es) kept none =
+    missing_by (eqb e.0 handle) handle change e es refl kept.0 (rw (same_test handle e.0) at none) (seen_missing handle change es kept.2)

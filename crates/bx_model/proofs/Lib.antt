@@ -1,3 +1,5 @@
+pub mod Edited
 pub mod Kept
 pub mod Named
+pub mod Over
 pub mod Texts

@@ -1,3 +1,4 @@
+pub mod Contents
 pub mod Files
 pub mod Attributes
 pub mod Opening
@@ -14,6 +15,7 @@ pub mod Writing
 pub mod Making
 pub mod Removing
 pub mod Renaming
+pub mod FileEdits
 pub mod Act
 pub mod FileTrees
 pub mod History

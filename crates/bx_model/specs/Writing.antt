@@ -8,6 +8,7 @@ use Rattle.bx_model.specs.declared.file.File.{File}
 use Rattle.bx_model.specs.declared.permissions.Want.TheVariants as want
 use Rattle.bx_model.specs.declared.status.TheConstants.{ACCES, FBIG, ISDIR, NOSPC, NXIO, PERM, STALE}
 use Rattle.bx_model.specs.declared.tree.Tree.{Tree}
+use Rattle.bx_model.specs.Contents.{sized, written_over}
 use Rattle.bx_model.specs.Edits.{changed}
 use Rattle.bx_model.specs.Files.{is_directory, is_link}
 use Rattle.bx_model.specs.Permissions.{may}
@@ -38,9 +39,9 @@ resize_errors call file size = do
   refuse (is_given size && not (may call file want.Write)) ACCES
   refuse (is_given size && nat_lt most_bytes size) FBIG
 
--- bytes cut at a size, or with zeros up to it
+-- a file's content of another size
 abbrev pub resized : ℕ → Body → Body
-resized size (Bytes bytes) = Bytes (take size bytes ++ replicate (size - length bytes) 0)
+resized size (Bytes bytes) = Bytes (sized size bytes)
 resized size (Path path) = Path path
 resized size (Names parent next names) = Names parent next names
 
@@ -72,9 +73,9 @@ setattr tree call at sattr now = do
   resize_errors call file sattr.size
   Ok (attributes_reply tree (with_fields now sattr file), changed tree file.handle (with_fields now sattr))
 
--- bytes with others written over them from an offset on; a gap before it is zeros
+-- a file's content with bytes written over it
 abbrev pub overwritten : ℕ → List ℕ → Body → Body
-overwritten offset written (Bytes bytes) = Bytes (take offset bytes ++ replicate (offset - length bytes) 0 ++ written ++ drop (offset + length written) bytes)
+overwritten offset written (Bytes bytes) = Bytes (written_over offset written bytes)
 overwritten offset written (Path path) = Path path
 overwritten offset written (Names parent next names) = Names parent next names
 

@@ -1,5 +1,6 @@
 //! Files of the tree.
 
+use crate::content::Content;
 use crate::names::NameList;
 use bx_base::Raw;
 
@@ -18,7 +19,7 @@ pub struct Name {
 #[derive(Drop)]
 pub enum Body {
     /// A regular file's bytes.
-    Bytes(Raw),
+    Bytes(Content),
     /// A symbolic link's path.
     Path(Raw),
     /// A directory's parent, the number that its next entry gets, and its entries.

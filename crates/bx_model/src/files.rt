@@ -1,9 +1,12 @@
 //! The files of a tree, by handle.
 
-ghost use Rattle.std.specs.Prelude.{◌≡◌, [], IfSome, OnOk, OnErr, slice_get};
+ghost use Rattle.std.specs.Prelude.{◌≡◌, [], IfSome, OnOk, OnErr, IsOk, true, slice_get};
 ghost use Rattle.std.specs.Option.{option_copied};
+ghost use Rattle.bx_model.specs.Edits.{with_changed};
+ghost use Rattle.bx_model.specs.FileEdits.{CanEdit, edited, is_sure};
 ghost use Rattle.bx_model.specs.Files.{IsFile, file_at, with_file};
 
+use crate::edits::Edit;
 use crate::file::File;
 use bx_base::OutOfMemory;
 use std::alloc::Global;
@@ -71,5 +74,23 @@ impl Files {
     {
         self.by_handle.insert(file.handle, file)?;
         Ok(())
+    }
+
+    /// Makes an edit of the file with a handle; where there is none, of nothing.
+    pub(crate) fn edit(
+        &mut self,
+        handle: u64,
+        edit: &Edit<'_>,
+        now: (u32, u32),
+    ) -> Result<(), OutOfMemory>
+        requires { IfSome (file_at self.old handle) (CanEdit edit.now) }
+        ensures ok { OnOk result (self.new ≡ with_changed self.old handle (edited now edit.now)) }
+        ensures err { OnErr result (self.new ≡ self.old) }
+        ensures sure { is_sure edit.now ≡ true → IsOk result }
+    {
+        let Some(file) = self.by_handle.get_mut(&handle) else {
+            return Ok(());
+        };
+        file.edit(edit, now)
     }
 }

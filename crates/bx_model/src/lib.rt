@@ -2,6 +2,8 @@
 #![tactic(auto)]
 
 mod call;
+mod content;
+mod edits;
 mod entry;
 mod file;
 mod files;
@@ -16,6 +18,7 @@ mod status;
 mod tree;
 
 pub use call::{Args, Call, Sattr};
+pub use content::Content;
 pub use entry::Entry;
 pub use file::{Body, File, Name};
 pub use files::Files;

@@ -1,6 +1,6 @@
 //! Entries of directories.
 
-ghost use Rattle.std.specs.Prelude.{◌≡◌, ◌==◌, ◌||◌, ◌↔◌, [], length, codes, bytes_eq, option_map, IsTrue, OnOk, OnErr};
+ghost use Rattle.std.specs.Prelude.{◌≡◌, ◌==◌, ◌||◌, ◌↔◌, [], ◌∷◌, ◌++◌, length, codes, bytes_eq, option_map, IsTrue, OnOk, OnErr};
 ghost use Rattle.std.specs.List.{list_any};
 ghost use Rattle.std.specs.Option.{option_copied};
 ghost use Rattle.bx_model.specs.Entries.{AreBelow, entry_named, is_bad as is_bad_name, with_name, without_name};
@@ -14,6 +14,7 @@ use std::marker::Model;
 /// Entries of a directory with different names, in the order of their numbers. Contracts see them as that list.
 #[derive(Drop)]
 pub struct NameList {
+    alloc: Global,
     by_number: BTreeMap<u32, Name>,
 }
 
@@ -36,6 +37,7 @@ impl NameList {
         ensures { result ≡ [] }
     {
         NameList {
+            alloc,
             by_number: BTreeMap::new(alloc),
         }
     }
@@ -55,18 +57,28 @@ impl NameList {
     }
 
     /// Puts an entry behind the others.
-    pub fn push(&mut self, number: u32, name: Raw, handle: u64) -> Result<(), OutOfMemory>
+    pub fn push(&mut self, number: u32, name: &[u8], handle: u64) -> Result<(), OutOfMemory>
         requires below { AreBelow number self.old }
-        requires apart { entry_named self.old name ≡ None }
-        ensures ok { OnOk result (self.new ≡ with_name self.old number name handle) }
+        requires apart { entry_named self.old name.now ≡ None }
+        ensures ok { OnOk result (self.new ≡ with_name self.old number name.now handle) }
         ensures err { OnErr result (self.new ≡ self.old) }
     {
-        let entry = Name {
+        let name = Raw::of(self.alloc, name)?;
+        self.put(Name {
             number,
             name,
             handle,
-        };
-        self.by_number.insert(number, entry)?;
+        })
+    }
+
+    /// Puts an entry behind the others.
+    fn put(&mut self, entry: Name) -> Result<(), OutOfMemory>
+        requires below { AreBelow entry.number self.old }
+        requires apart { entry_named self.old entry.name ≡ None }
+        ensures ok { OnOk result (self.new ≡ self.old ++ entry ∷ []) }
+        ensures err { OnErr result (self.new ≡ self.old) }
+    {
+        self.by_number.insert(entry.number, entry)?;
         Ok(())
     }
 

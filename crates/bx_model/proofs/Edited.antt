@@ -72,17 +72,19 @@ numbered_without counts nlink name (Names parent next names) numbers = (one_less
 
 pub is_entered : (now : Time) (name : List ℕ) (handle : ℕ) (counts : Bool) (file : File) → IsFile file → IsFile (entered now name handle counts file)
 is_entered now name handle counts file is = record {
-    kind = rw kind_with is.kind;
-    mode = is.mode;
-    size = rw size_with is.size;
-    numbers = numbered_with counts file.nlink name handle file.body is.numbers }
+  kind = rw kind_with is.kind;
+  mode = is.mode;
+  size = rw size_with is.size;
+  numbers = numbered_with counts file.nlink name handle file.body is.numbers;
+}
 
 pub is_taken_out : (now : Time) (name : List ℕ) (counts : Bool) (file : File) → IsFile file → IsFile (taken_out now name counts file)
 is_taken_out now name counts file is = record {
-    kind = rw kind_without is.kind;
-    mode = is.mode;
-    size = rw size_without is.size;
-    numbers = numbered_without counts file.nlink name file.body is.numbers }
+  kind = rw kind_without is.kind;
+  mode = is.mode;
+  size = rw size_without is.size;
+  numbers = numbered_without counts file.nlink name file.body is.numbers;
+}
 
 pub on_ok_from : {T E : Type 0} (r : Result T E) (P Q : Type 0) → (P → Q) → OnOk r P → OnOk r Q
 on_ok_from (Ok x) P Q next holds = next holds

@@ -150,3 +150,11 @@ pub seen_missing : (handle : ℕ) (change : File → File) (es : List (ℕ × Fi
 seen_missing handle change [] kept none = refl
 seen_missing handle change (e ∷ es) kept none =
     missing_by (eqb e.0 handle) handle change e es refl kept.0 (rw (same_test handle e.0) at none) (seen_missing handle change es kept.2)
+
+at_some : (handle : ℕ) (es : List (ℕ × File)) (found : Option File) → AreAtHandles es → lookup (is_at (nat_cmp handle)) es ≡ found → IfSome found (λ file. file.handle ≡ handle)
+at_some handle es None kept is = tt
+at_some handle es (Some file) kept is = (found_at handle es file kept is).0
+
+-- what a look-up finds has the handle
+pub at_lookup : (handle : ℕ) (es : List (ℕ × File)) → AreAtHandles es → IfSome (lookup (is_at (nat_cmp handle)) es) (λ file. file.handle ≡ handle)
+at_lookup handle es kept = at_some handle es (lookup (is_at (nat_cmp handle)) es) kept refl

@@ -1,3 +1,4 @@
+pub mod Changed
 pub mod Edited
 pub mod Kept
 pub mod Named

@@ -44,10 +44,11 @@ entry_errors directory spare = do
 -- A directory with a new entry, changed now. A directory that comes into it counts among its links.
 abbrev pub entered : Time → List ℕ → ℕ → Bool → File → File
 entered now name handle counts directory = record directory {
-    nlink = if counts then directory.nlink + 1 else directory.nlink;
-    mtime = now;
-    ctime = now;
-    body = with_entry name handle directory.body }
+  nlink = if counts then directory.nlink + 1 else directory.nlink;
+  mtime = now;
+  ctime = now;
+  body = with_entry name handle directory.body;
+}
 
 -- A new file. It is the caller's, or the user 0 says whose it is; its mode and its times are those given, where they
 -- are.

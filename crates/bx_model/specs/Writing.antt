@@ -82,14 +82,19 @@ overwritten offset written (Names parent next names) = Names parent next names
 abbrev pub with_data : Time → ℕ → List ℕ → File → File
 with_data now offset written file = record file { mtime = now; ctime = now; body = overwritten offset written file.body }
 
--- WRITE (section 2.2.9): the bytes written, and the attributes then. No bytes change nothing, and they meet no limit.
-abbrev pub write : Tree → Call → List ℕ → ℕ → List ℕ → Time → ℕ → Outcome
-write tree call at offset written now spare = do
-  file ← must (named_file tree at) STALE
+-- the errors of writing so many bytes from an offset on; no bytes meet no limit
+abbrev pub write_errors : Call → File → ℕ → ℕ → ℕ → Result (Unit {0}) ℕ
+write_errors call file offset count spare = do
   refuse (is_directory file) ISDIR
   refuse (is_link file) NXIO
   refuse (not (may call file want.Write)) ACCES
-  refuse (nat_lt 0 (length written) && nat_lt most_bytes (offset + length written)) FBIG
-  refuse (nat_lt 0 (length written) && is_full spare) NOSPC
+  refuse (nat_lt 0 count && nat_lt most_bytes (offset + count)) FBIG
+  refuse (nat_lt 0 count && is_full spare) NOSPC
+
+-- WRITE (section 2.2.9): the bytes written, and the attributes then. No bytes change nothing.
+abbrev pub write : Tree → Call → List ℕ → ℕ → List ℕ → Time → ℕ → Outcome
+write tree call at offset written now spare = do
+  file ← must (named_file tree at) STALE
+  write_errors call file offset (length written) spare
   if length written == 0 then Ok (attributes_reply tree file, tree)
       else Ok (attributes_reply tree (with_data now offset written file), changed tree file.handle (with_data now offset written))

@@ -62,6 +62,7 @@ impl Files {
     pub fn get(&self, handle: u64) -> Option<&File>
         ensures found { option_copied result ≡ file_at self.now handle }
         ensures is_file { IfSome (option_copied result) IsFile }
+        ensures at { IfSome (option_copied result) (λ file. file.handle ≡ handle) }
     {
         self.by_handle.get(&handle)
     }

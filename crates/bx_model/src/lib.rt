@@ -16,6 +16,7 @@ mod reading;
 mod reply;
 mod status;
 mod tree;
+mod writing;
 
 pub use call::{Args, Call, Sattr};
 pub use content::Content;

@@ -53,7 +53,9 @@ impl NameList {
     pub fn named(&self, name: &[u8]) -> Option<&Name>
         ensures { option_copied result ≡ entry_named self.now name.now }
     {
-        self.by_number.values().find(|entry| entry.name.bytes() == name)
+        self.by_number
+            .values()
+            .find(|entry| entry.name.bytes() == name)
     }
 
     /// Puts an entry behind the others.

@@ -25,9 +25,9 @@ edit-requires-clause-is c = (found_at c.args.handle c.self.inside.by_handle.entr
 pub edit-requires-clause-can : goal.edit-requires-clause-can
 edit-requires-clause-can c =
     let found : file_at c.args.self.now c.args.handle ≡ Some c.in-Some.file.now =
-        ap (λ (files : List File). file_at files c.args.handle) (sym c.self.view_is)
-        ∙ sym (file_at-lookup c.args.handle c.self.inside.by_handle.entries c.self.invariant.at)
-        ∙ sym c.in-Some.ensures.value in
+    ap (λ (files : List File). file_at files c.args.handle) (sym c.self.view_is)
+    ∙ sym (file_at-lookup c.args.handle c.self.inside.by_handle.entries c.self.invariant.at)
+    ∙ sym c.in-Some.ensures.value in
     rw found at c.requires
 
 pub invariant_of-self-2 : goal.invariant_of-self-2
@@ -43,10 +43,10 @@ returns-clause-ok c =
     let writes = c.get_mut.follows.holds c.edit.new.self in
     on_ok_from c.edit.result _ _
     (λ made.
-        ap values_of writes.0
-        ∙ ap (λ (file : File). values_of (set_value (is_at (nat_cmp c.args.handle)) c.self.inside.by_handle.entries file)) made
-        ∙ seen_changed c.args.handle (edited c.args.now c.args.edit.now) c.in-Some.file.now c.self.inside.by_handle.entries c.self.invariant.at c.self.invariant.rise (sym c.in-Some.ensures.value)
-        ∙ ap (λ (files : List File). with_changed files c.args.handle (edited c.args.now c.args.edit.now)) c.self.view_is)
+    ap values_of writes.0
+    ∙ ap (λ (file : File). values_of (set_value (is_at (nat_cmp c.args.handle)) c.self.inside.by_handle.entries file)) made
+    ∙ seen_changed c.args.handle (edited c.args.now c.args.edit.now) c.in-Some.file.now c.self.inside.by_handle.entries c.self.invariant.at c.self.invariant.rise (sym c.in-Some.ensures.value)
+    ∙ ap (λ (files : List File). with_changed files c.args.handle (edited c.args.now c.args.edit.now)) c.self.view_is)
     c.edit.ensures.ok
 
 pub returns-clause-err : goal.returns-clause-err
@@ -54,8 +54,8 @@ returns-clause-err c =
     let writes = c.get_mut.follows.holds c.edit.new.self in
     on_err_from c.edit.result _ _
     (λ same.
-        ap values_of writes.0
-        ∙ ap (λ (file : File). values_of (set_value (is_at (nat_cmp c.args.handle)) c.self.inside.by_handle.entries file)) same
-        ∙ ap values_of (set_value_same (is_at (nat_cmp c.args.handle)) c.self.inside.by_handle.entries c.in-Some.file.now (sym c.in-Some.ensures.value))
-        ∙ c.self.view_is)
+    ap values_of writes.0
+    ∙ ap (λ (file : File). values_of (set_value (is_at (nat_cmp c.args.handle)) c.self.inside.by_handle.entries file)) same
+    ∙ ap values_of (set_value_same (is_at (nat_cmp c.args.handle)) c.self.inside.by_handle.entries c.in-Some.file.now (sym c.in-Some.ensures.value))
+    ∙ c.self.view_is)
     c.edit.ensures.err

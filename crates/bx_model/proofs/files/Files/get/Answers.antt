@@ -1,5 +1,5 @@
 use Rattle.std.proofs.Common.{◌∙◌, ap}
-use Rattle.bx_model.proofs.Kept.{file_at-lookup, IsFile-lookup}
+use Rattle.bx_model.proofs.Kept.{at_lookup, file_at-lookup, IsFile-lookup}
 use Rattle.bx_model.specs.Files.{file_at}
 use Rattle.bx_model.proofs.files.Files.get.Goals as goal
 
@@ -10,3 +10,7 @@ returns-clause-found c =
 pub returns-clause-is_file : goal.returns-clause-is_file
 returns-clause-is_file c =
     rw c.get.ensures.value (IsFile-lookup c.args.handle c.self.inside.by_handle.entries c.self.invariant.at)
+
+pub returns-clause-at : goal.returns-clause-at
+returns-clause-at c =
+    rw c.get.ensures.value (at_lookup c.args.handle c.self.inside.by_handle.entries c.self.invariant.at)

@@ -14,9 +14,9 @@ pub returns-in-Some : goal.returns-in-Some
 returns-in-Some c =
     let found = rw (← c.self.view_is) at (sym c.number_of.ensures ∙ c.in-Some.is) in
     let seen : values_of c.remove.new.self.entries ≡ without_name (values_of c.self.inside.by_number.entries) c.args.name.now =
-        rw c.remove.ensures.entries (seen_taken c.self.inside.by_number.entries c.args.name.now c.in-Some.number c.self.invariant.apart c.self.invariant.rise found) in
+    rw c.remove.ensures.entries (seen_taken c.self.inside.by_number.entries c.args.name.now c.in-Some.number c.self.invariant.apart c.self.invariant.rise found) in
     let as_seen : values_of c.remove.new.self.entries ≡ without_name c.args.self.now c.args.name.now =
-        seen ∙ ap (λ (names : List Name). without_name names c.args.name.now) c.self.view_is in
+    seen ∙ ap (λ (names : List Name). without_name names c.args.name.now) c.self.view_is in
     elim c.match-remove.branch [ in-Some-1 w ↦ w.self-is ∙ as_seen | in-None-1 w ↦ w.self-is ∙ as_seen ]
 
 pub returns-in_default : goal.returns-in_default

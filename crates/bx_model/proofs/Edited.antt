@@ -1,6 +1,6 @@
 -- Files stay files when they are edited.
 use Rattle.std.proofs.Common.{◌≡◌, ℕ, ◌+◌, ◌-◌, ◌<◌, ◌≤◌, Bool, true, false, cond, not, List, [], ◌∷◌, ◌++◌, refl, arith}
-use Rattle.std.specs.Prelude.{bytes_eq, OnOk, OnErr, Result, Ok, Err}
+use Rattle.std.specs.Prelude.{bytes_eq, IfSome, OnOk, OnErr, Option, Some, None, Result, Ok, Err}
 use Rattle.bx_model.specs.declared.edits.Edit.{Edit}
 use Rattle.bx_model.specs.declared.edits.Edit.TheVariants.{Fields, Size, Data, Entered, TakenOut, Linked, Unlinked, MovedTo}
 use Rattle.bx_model.specs.declared.file.Body.{Body}
@@ -8,7 +8,7 @@ use Rattle.bx_model.specs.declared.file.Body.TheVariants.{Bytes, Path, Names}
 use Rattle.bx_model.specs.declared.file.File.{File}
 use Rattle.bx_model.specs.declared.file.Name.{Name}
 use Rattle.bx_model.specs.Entries.{AreBelow, with_name, without_name}
-use Rattle.bx_model.specs.FileEdits.{edited}
+use Rattle.bx_model.specs.FileEdits.{CanEdit, edited, is_free, is_sure}
 use Rattle.bx_model.specs.Files.{IsFile, IsNumbered, kind_of, size_of}
 use Rattle.bx_model.specs.Making.{entered}
 use Rattle.bx_model.specs.Names.{with_entry, without_entry, next_of}
@@ -113,3 +113,28 @@ handle_after (Err e) now edit old new made same = rw same refl
 pub on_err_from : {T E : Type 0} (r : Result T E) (P Q : Type 0) → (P → Q) → OnErr r P → OnErr r Q
 on_err_from (Ok x) P Q next holds = tt
 on_err_from (Err e) P Q next holds = next holds
+
+can_by : (edit : Edit) → is_free edit ≡ true → (file : File) → CanEdit edit file
+can_by (Fields sattr) free file = absurd cc
+can_by (Size size) free file = absurd cc
+can_by (Data offset written) free file = absurd cc
+can_by (Entered name handle counts) free file = absurd cc
+can_by (TakenOut name counts) free file = tt
+can_by Linked free file = absurd cc
+can_by Unlinked free file = tt
+can_by (MovedTo parent) free file = tt
+
+-- an edit that every file may have
+pub can_free : (edit : Edit) → is_free edit ≡ true → (found : Option File) → IfSome found (CanEdit edit)
+can_free edit free None = tt
+can_free edit free (Some file) = can_by edit free file
+
+pub sure_free : (edit : Edit) → is_free edit ≡ true → is_sure edit ≡ true
+sure_free (Fields sattr) free = absurd cc
+sure_free (Size size) free = absurd cc
+sure_free (Data offset written) free = absurd cc
+sure_free (Entered name handle counts) free = absurd cc
+sure_free (TakenOut name counts) free = refl
+sure_free Linked free = absurd cc
+sure_free Unlinked free = refl
+sure_free (MovedTo parent) free = refl

@@ -4,11 +4,11 @@ use Rattle.std.specs.Prelude.{IfSome, slice_get}
 use Rattle.std.specs.Ordering.{is_eq, nat_cmp, match_ordering}
 use Rattle.std.specs.List.{AllByRecursion}
 use Rattle.std.specs.List.Sorted.{IsStrictlySortedBy}
-use Rattle.std.specs.Map.{keys_of, lookup, set_value, values_of}
+use Rattle.std.specs.Map.{keys_of, lookup, remove_entry, set_value, values_of}
 use Rattle.std.specs.BTreeMap.{is_at, insert_entry}
 use Rattle.std.specs.declared.cmp.Ordering.TheVariants.{Less}
 use Rattle.std.proofs.lemmas.Map.Keys.{sorted_head, sorted_tail}
-use Rattle.bx_model.specs.Edits.{with_changed}
+use Rattle.bx_model.specs.Edits.{with_changed, without_file}
 use Rattle.std.proofs.lemmas.Bool.{eqb-true}
 use Rattle.std.proofs.lemmas.Bool.Decides.{nat_tests}
 use Rattle.bx_model.specs.declared.file.File.{File}
@@ -158,3 +158,36 @@ at_some handle es (Some file) kept is = (found_at handle es file kept is).0
 -- what a look-up finds has the handle
 pub at_lookup : (handle : ℕ) (es : List (ℕ × File)) → AreAtHandles es → IfSome (lookup (is_at (nat_cmp handle)) es) (λ file. file.handle ≡ handle)
 at_lookup handle es kept = at_some handle es (lookup (is_at (nat_cmp handle)) es) kept refl
+
+without_above : (handle : ℕ) (es : List (ℕ × File)) → AreAtHandles es → AllByRecursion (λ y. nat_cmp handle y ≡ Less) (keys_of es) → without_file (values_of es) handle ≡ values_of es
+without_above handle [] kept above = refl
+without_above handle (e ∷ es) kept above =
+    let apart : eqb e.1.handle handle ≡ false = rw (← kept.0) (grind (arith, nat_tests)) in
+    rw apart (ap (λ (others : List File). e.1 ∷ others) (without_above handle es kept.2 above.1))
+
+taken_here : (b : Bool) (handle : ℕ) (e : ℕ × File) (es : List (ℕ × File)) → eqb e.0 handle ≡ b → eqb e.1.handle handle ≡ b → AreAtHandles (e ∷ es)
+    → AllByRecursion (λ y. nat_cmp e.0 y ≡ Less) (keys_of es)
+    → values_of (remove_entry (is_at (nat_cmp handle)) es) ≡ without_file (values_of es) handle
+    → values_of (cond b es (e ∷ remove_entry (is_at (nat_cmp handle)) es)) ≡ without_file (values_of (e ∷ es)) handle
+taken_here true handle e es here own kept above later =
+    let same : e.0 ≡ handle = eqb-true e.0 handle here in
+    rw own (sym (without_above handle es kept.2 (subst (λ (k : ℕ). AllByRecursion (λ y. nat_cmp k y ≡ Less) (keys_of es)) same above)))
+taken_here false handle e es here own kept above later = rw own (ap (λ (others : List File). e.1 ∷ others) later)
+
+-- the files as they are seen after one was taken out
+pub seen_without : (handle : ℕ) (es : List (ℕ × File)) → AreAtHandles es → IsStrictlySortedBy nat_cmp (keys_of es)
+    → values_of (remove_entry (is_at (nat_cmp handle)) es) ≡ without_file (values_of es) handle
+seen_without handle [] kept rise = refl
+seen_without handle (e ∷ es) kept rise =
+    ap (λ (b : Bool). values_of (cond b es (e ∷ remove_entry (is_at (nat_cmp handle)) es))) (same_test handle e.0)
+    ∙ taken_here (eqb e.0 handle) handle e es refl (ap (λ (k : ℕ). eqb k handle) (sym kept.0)) kept (sorted_head nat_cmp e.0 (keys_of es) rise)
+    (seen_without handle es kept.2 (sorted_tail nat_cmp e.0 (keys_of es) rise))
+
+kept_by : (b : Bool) (e : ℕ × File) (es others : List (ℕ × File)) → AreAtHandles (e ∷ es) → AreAtHandles others → AreAtHandles (cond b es (e ∷ others))
+kept_by true e es others kept later = kept.2
+kept_by false e es others kept later = (kept.0, kept.1, later)
+
+-- they stand at their handles then
+pub at_without : (test : ℕ → Bool) (es : List (ℕ × File)) → AreAtHandles es → AreAtHandles (remove_entry test es)
+at_without test [] kept = tt
+at_without test (e ∷ es) kept = kept_by (test e.0) e es (remove_entry test es) kept (at_without test es kept.2)

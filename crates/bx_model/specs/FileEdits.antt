@@ -50,3 +50,14 @@ is_sure (TakenOut name counts) = true
 is_sure Linked = true
 is_sure Unlinked = true
 is_sure (MovedTo parent) = true
+
+-- those among them that every file may have
+abbrev pub is_free : Edit → Bool
+is_free (Fields sattr) = false
+is_free (Size size) = false
+is_free (Data offset written) = false
+is_free (Entered name handle counts) = false
+is_free (TakenOut name counts) = true
+is_free Linked = false
+is_free Unlinked = true
+is_free (MovedTo parent) = true

@@ -65,7 +65,7 @@ abbrev pub without_replaced : Time → Tree → File → List ℕ → Option Fil
 without_replaced now tree target name None = tree
 without_replaced now tree target name (Some replaced) =
     let left : Tree = changed tree target.handle (taken_out now name (is_directory replaced)) in
-    if is_directory replaced then without left replaced.handle else without_link now left replaced
+    if is_directory replaced then without left replaced.handle else without_link now left replaced.handle replaced.nlink
 
 -- a file that was moved now; a directory has its new parent
 abbrev pub moved_to : Time → ℕ → File → File

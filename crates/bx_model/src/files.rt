@@ -2,8 +2,8 @@
 
 ghost use Rattle.std.specs.Prelude.{◌≡◌, [], IfSome, OnOk, OnErr, IsOk, true, slice_get};
 ghost use Rattle.std.specs.Option.{option_copied};
-ghost use Rattle.bx_model.specs.Edits.{with_changed};
-ghost use Rattle.bx_model.specs.FileEdits.{CanEdit, edited, is_sure};
+ghost use Rattle.bx_model.specs.Edits.{with_changed, without_file};
+ghost use Rattle.bx_model.specs.FileEdits.{CanEdit, edited, is_free, is_sure};
 ghost use Rattle.bx_model.specs.Files.{IsFile, file_at, with_file};
 
 use crate::edits::Edit;
@@ -93,5 +93,22 @@ impl Files {
             return Ok(());
         };
         file.edit(edit, now)
+    }
+
+    /// Makes an edit that takes no memory, and that every file may have.
+    pub(crate) fn change(&mut self, handle: u64, edit: &Edit<'_>, now: (u32, u32))
+        requires { is_free edit.now ≡ true }
+        ensures { self.new ≡ with_changed self.old handle (edited now edit.now) }
+    {
+        if self.edit(handle, edit, now).is_err() {
+            unreachable!();
+        }
+    }
+
+    /// Takes out the file with a handle, if there is one.
+    pub(crate) fn remove(&mut self, handle: u64)
+        ensures { self.new ≡ without_file self.old handle }
+    {
+        self.by_handle.remove(&handle);
     }
 }

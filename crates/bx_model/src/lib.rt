@@ -13,6 +13,7 @@ mod names;
 mod permissions;
 mod procedures;
 mod reading;
+mod removing;
 mod reply;
 mod status;
 mod tree;

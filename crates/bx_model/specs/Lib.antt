@@ -6,6 +6,7 @@ pub mod Times
 pub mod Entries
 pub mod Names
 pub mod Permissions
+pub mod Given
 pub mod Edits
 pub mod Steps
 pub mod Reading

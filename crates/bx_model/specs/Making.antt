@@ -67,8 +67,8 @@ new_file call sattr now mode made content = record {
 }
 
 -- the tree with a new file, which a new entry of a directory names
-abbrev pub with_made : Tree → File → List ℕ → Time → File → Tree
-with_made tree directory name now file = with_new (changed tree directory.handle (entered now name file.handle (is_directory file))) file
+abbrev pub with_made : Tree → ℕ → List ℕ → Time → File → Tree
+with_made tree directory name now file = changed (with_new tree file) directory (entered now name file.handle (is_directory file))
 
 -- CREATE (RFC 1094, section 2.2.10) of a name that isn't there: a regular file of the size given, all zeros, or empty.
 abbrev pub create_new : Tree → Call → File → List ℕ → Sattr → Time → ℕ → Making
@@ -78,7 +78,7 @@ create_new tree call directory name sattr now spare = do
   entry_errors directory spare
   let content = body.Bytes (replicate (if is_given sattr.size then sattr.size else 0) 0)
   let file = new_file call sattr now 0o644
-  Ok (Makes (λ made. (handle_reply tree (file made content), with_made tree directory name now (file made content))))
+  Ok (Makes (λ made. (handle_reply tree (file made content), with_made tree directory.handle name now (file made content))))
 
 -- CREATE of a name that is there: only a size that is given is set.
 abbrev pub create_over : Tree → Call → Name → Sattr → Time → Making
@@ -101,22 +101,26 @@ create tree call at name sattr now spare = do
   refuse (not (may call directory want.Search)) ACCES
   create_at tree call directory name sattr now spare (entry_named (names_of directory.body) name)
 
--- SYMLINK (section 2.2.14): a link with a path. The status alone is answered.
-abbrev pub symlink : Tree → Call → List ℕ → List ℕ → List ℕ → Sattr → Time → ℕ → Making
-symlink tree call at name path sattr now spare = do
+-- the directory that a new entry of the name may come into
+abbrev pub new_place : Tree → Call → List ℕ → List ℕ → ℕ → Result File ℕ
+new_place tree call at name spare = do
   directory ← directory_to_change tree call at name
   refuse (has_entry directory name) EXIST
   entry_errors directory spare
-  Ok (Makes (λ made. (reply.Status NFS_OK, with_made tree directory name now (new_file call sattr now 0o777 made (body.Path path)))))
+  Ok directory
+
+-- SYMLINK (section 2.2.14): a link with a path. The status alone is answered.
+abbrev pub symlink : Tree → Call → List ℕ → List ℕ → List ℕ → Sattr → Time → ℕ → Making
+symlink tree call at name path sattr now spare = do
+  directory ← new_place tree call at name spare
+  Ok (Makes (λ made. (reply.Status NFS_OK, with_made tree directory.handle name now (new_file call sattr now 0o777 made (body.Path path)))))
 
 -- MKDIR (section 2.2.15): a directory without entries.
 abbrev pub mkdir : Tree → Call → List ℕ → List ℕ → Sattr → Time → ℕ → Making
 mkdir tree call at name sattr now spare = do
-  directory ← directory_to_change tree call at name
-  refuse (has_entry directory name) EXIST
-  entry_errors directory spare
+  directory ← new_place tree call at name spare
   let file = λ (made : ℕ). new_file call sattr now 0o755 made (body.Names directory.handle 3 [])
-  Ok (Makes (λ made. (handle_reply tree (file made), with_made tree directory name now (file made))))
+  Ok (Makes (λ made. (handle_reply tree (file made), with_made tree directory.handle name now (file made))))
 
 -- a file with one more name, changed now
 abbrev pub linked : Time → File → File
@@ -131,4 +135,4 @@ link tree call from at name now spare = do
   refuse (has_entry directory name) EXIST
   refuse (nat_le 32000 file.nlink) DQUOT
   entry_errors directory spare
-  Ok (reply.Status NFS_OK, changed (changed tree file.handle (linked now)) directory.handle (entered now name file.handle false))
+  Ok (reply.Status NFS_OK, changed (changed tree directory.handle (entered now name file.handle false)) file.handle (linked now))

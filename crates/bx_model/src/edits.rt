@@ -38,7 +38,7 @@ pub(crate) enum Edit<'a> {
 const LEFT_ALONE: u32 = 4294967295;
 
 /// How many modes there are: 12 bits.
-const MODES: u32 = 4096;
+pub(crate) const MODES: u32 = 4096;
 
 /// The most microseconds.
 const MOST_MICROSECONDS: u32 = 999999;
@@ -74,14 +74,14 @@ fn sets_field(sattr: &Sattr) -> bool
 }
 
 /// The new value where a word is given, else the old one.
-fn given_or(word: u32, new: u32, old: u32) -> u32
+pub(crate) fn given_or(word: u32, new: u32, old: u32) -> u32
     ensures { result ≡ (if is_given_word word then new else old) }
 {
     if is_given(word) { new } else { old }
 }
 
 /// The time that is stored where one is given, else the old one.
-fn time_or(time: (u32, u32), old: (u32, u32)) -> (u32, u32)
+pub(crate) fn time_or(time: (u32, u32), old: (u32, u32)) -> (u32, u32)
     ensures { result ≡ (if is_given_word time.0 then stored_time time else old) }
 {
     if is_given(time.0) { stored(time) } else { old }

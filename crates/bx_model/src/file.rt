@@ -26,7 +26,10 @@ pub enum Body {
     Names(u64, u32, NameList),
 }
 
-/// The type's number of a directory (RFC 1094, section 2.3.2).
+/// The type's number of a regular file (RFC 1094, section 2.3.2).
+pub(crate) const REGULAR: u32 = 1;
+
+/// The type's number of a directory.
 pub(crate) const DIRECTORY: u32 = 2;
 
 /// The type's number of a symbolic link.

@@ -1,13 +1,16 @@
 //! The files of a tree, by handle.
 
-ghost use Rattle.std.specs.Prelude.{◌≡◌, [], IfSome, OnOk, OnErr, IsOk, true, slice_get};
+ghost use Rattle.std.specs.Prelude.{◌≡◌, ◌==◌, [], IfSome, OnOk, OnErr, IsOk, true, slice_get};
+ghost use Rattle.std.specs.List.{list_any};
 ghost use Rattle.std.specs.Option.{option_copied};
+ghost use Rattle.bx_model.specs.Attributes.{fileid as fileid_of};
 ghost use Rattle.bx_model.specs.Edits.{with_changed, without_file};
 ghost use Rattle.bx_model.specs.FileEdits.{CanEdit, edited, is_free, is_sure};
 ghost use Rattle.bx_model.specs.Files.{IsFile, file_at, with_file};
 
 use crate::edits::Edit;
 use crate::file::File;
+use crate::metadata::fileid;
 use bx_base::OutOfMemory;
 use std::alloc::Global;
 use std::collections::BTreeMap;
@@ -110,5 +113,13 @@ impl Files {
         ensures { self.new ≡ without_file self.old handle }
     {
         self.by_handle.remove(&handle);
+    }
+
+    /// Whether a file has the fileid that one with this handle would have.
+    pub(crate) fn has_fileid(&self, handle: u64) -> bool
+        ensures { result ≡ list_any (λ file. fileid_of file.handle == fileid_of handle) self.now }
+    {
+        let wanted = fileid(handle);
+        self.by_handle.values().any(|file| fileid(file.handle) == wanted)
     }
 }

@@ -3,11 +3,14 @@
 
 mod call;
 mod content;
+mod creating;
 mod edits;
 mod entry;
 mod file;
 mod files;
+mod handles;
 mod listing;
+mod making;
 mod metadata;
 mod names;
 mod permissions;
@@ -25,6 +28,7 @@ pub use entry::Entry;
 pub use file::{Body, File, Name};
 pub use files::Files;
 pub use metadata::attributes;
+pub use handles::Handles;
 pub use names::NameList;
 pub use permissions::{Want, may};
 pub use reply::{Listed, ListedList, Reply};

@@ -79,7 +79,7 @@ fn low_word(number: u64) -> u32
 }
 
 /// A file's number.
-fn fileid(handle: u64) -> u32
+pub(crate) fn fileid(handle: u64) -> u32
     ensures { result ≡ fileid_of handle }
 {
     ChunkHandle::of(handle).fileid()

@@ -1,9 +1,9 @@
 //! The procedures that take entries out of directories: REMOVE and RMDIR.
 
-ghost use Rattle.std.specs.Prelude.{◌≡◌, MatchResult, IfOk, Ok, Err};
+ghost use Rattle.std.specs.Prelude.{◌≡◌, MatchResult, IfOk, Ok, Err, Some};
 ghost use Rattle.std.specs.Option.{option_copied};
 ghost use Rattle.bx_model.specs.Entries.{entry_named};
-ghost use Rattle.bx_model.specs.Files.{IsFile};
+ghost use Rattle.bx_model.specs.Files.{IsFile, file_at};
 ghost use Rattle.bx_model.specs.Making.{directory_to_change as directory_of_call};
 ghost use Rattle.bx_model.specs.Names.{names_of};
 ghost use Rattle.bx_model.specs.Removing.{file_to_remove as file_of_call, has_entries as has_any, remove, rmdir, without_link};
@@ -98,6 +98,7 @@ impl Tree {
             (λ directory. directory_of_call self.now call.now at.now name.now ≡ Ok directory.now)
             (λ status. directory_of_call self.now call.now at.now name.now ≡ Err status) }
         ensures is_file { IfOk result (λ directory. IsFile directory.now) }
+        ensures there { IfOk result (λ directory. file_at self.now.files directory.now.handle ≡ Some directory.now) }
     {
         let Some(directory) = self.named(at) else {
             return Err(STALE);

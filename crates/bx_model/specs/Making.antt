@@ -7,6 +7,7 @@ use Rattle.bx_model.specs.declared.file.Body.TheVariants as body
 use Rattle.bx_model.specs.declared.file.File.{File}
 use Rattle.bx_model.specs.declared.file.Name.{Name}
 use Rattle.bx_model.specs.declared.permissions.Want.TheVariants as want
+use Rattle.bx_model.specs.declared.reply.Reply.{Reply}
 use Rattle.bx_model.specs.declared.reply.Reply.TheVariants as reply
 use Rattle.bx_model.specs.declared.status.TheConstants.{ACCES, DQUOT, EXIST, FBIG, NFS_OK, NOSPC, NOTDIR, PERM, STALE}
 use Rattle.bx_model.specs.declared.tree.Tree.{Tree}
@@ -70,20 +71,30 @@ new_file call sattr now mode made content = record {
 abbrev pub with_made : Tree → ℕ → List ℕ → Time → File → Tree
 with_made tree directory name now file = changed (with_new tree file) directory (entered now name file.handle (is_directory file))
 
--- CREATE (RFC 1094, section 2.2.10) of a name that isn't there: a regular file of the size given, all zeros, or empty.
-abbrev pub create_new : Tree → Call → File → List ℕ → Sattr → Time → ℕ → Making
-create_new tree call directory name sattr now spare = do
+-- the errors of making a regular file in a directory
+abbrev pub create_errors : Call → File → Sattr → ℕ → Result (Unit {0}) ℕ
+create_errors call directory sattr spare = do
   refuse (not (may call directory want.Change)) ACCES
   refuse (is_given sattr.size && nat_lt most_bytes sattr.size) FBIG
   entry_errors directory spare
-  let content = body.Bytes (replicate (if is_given sattr.size then sattr.size else 0) 0)
-  let file = new_file call sattr now 0o644
-  Ok (Makes (λ made. (handle_reply tree (file made content), with_made tree directory.handle name now (file made content))))
+
+-- a new regular file of the size given, all zeros, or empty, and the entry that names it
+abbrev pub created : Tree → Call → ℕ → List ℕ → Sattr → Time → ℕ → Reply × Tree
+created tree call directory name sattr now made =
+    let content = body.Bytes (replicate (if is_given sattr.size then sattr.size else 0) 0) in
+    let file = new_file call sattr now 0o644 made content in
+    (handle_reply tree file, with_made tree directory name now file)
+
+-- CREATE (RFC 1094, section 2.2.10) of a name that isn't there
+abbrev pub create_new : Tree → Call → File → List ℕ → Sattr → Time → ℕ → Making
+create_new tree call directory name sattr now spare = do
+  create_errors call directory sattr spare
+  Ok (Makes (created tree call directory.handle name sattr now))
 
 -- CREATE of a name that is there: only a size that is given is set.
-abbrev pub create_over : Tree → Call → Name → Sattr → Time → Making
-create_over tree call entry sattr now = do
-  file ← must (file_at tree.files entry.handle) STALE
+abbrev pub create_over : Tree → Call → ℕ → Sattr → Time → Making
+create_over tree call handle sattr now = do
+  file ← must (file_at tree.files handle) STALE
   refuse (not (is_regular file)) EXIST
   resize_errors call file sattr.size
   if is_given sattr.size then Ok (Gives (handle_reply tree (with_size now sattr.size file)) (changed tree file.handle (with_size now sattr.size)))
@@ -91,14 +102,20 @@ create_over tree call entry sattr now = do
 
 abbrev pub create_at : Tree → Call → File → List ℕ → Sattr → Time → ℕ → Option Name → Making
 create_at tree call directory name sattr now spare None = create_new tree call directory name sattr now spare
-create_at tree call directory name sattr now spare (Some entry) = create_over tree call entry sattr now
+create_at tree call directory name sattr now spare (Some entry) = create_over tree call entry.handle sattr now
 
-abbrev pub create : Tree → Call → List ℕ → List ℕ → Sattr → Time → ℕ → Making
-create tree call at name sattr now spare = do
+-- the directory in which a call looks for the name that it may make
+abbrev pub searched_directory : Tree → Call → List ℕ → List ℕ → Result File ℕ
+searched_directory tree call at name = do
   directory ← must (named_file tree at) STALE
   refuse (not (is_directory directory)) NOTDIR
   refuse (is_bad name) ACCES
   refuse (not (may call directory want.Search)) ACCES
+  Ok directory
+
+abbrev pub create : Tree → Call → List ℕ → List ℕ → Sattr → Time → ℕ → Making
+create tree call at name sattr now spare = do
+  directory ← searched_directory tree call at name
   create_at tree call directory name sattr now spare (entry_named (names_of directory.body) name)
 
 -- the directory that a new entry of the name may come into

@@ -1,8 +1,12 @@
 -- The files of a tree as a list in the order of their handles.
-use Rattle.std.specs.Prelude.{◌≡◌, ℕ, ◌<◌, ◌^◌, ◌==◌, nat_lt, if◌then◌else◌, List, [], ◌∷◌, length, Option, Some, None}
+use Rattle.std.specs.Prelude.{◌≡◌, ℕ, ◌<◌, ◌^◌, ◌==◌, nat_lt, Bool, if◌then◌else◌, List, [], ◌∷◌, length, Option, Some, None}
+use Rattle.std.specs.List.Sorted.{IsStrictlySortedBy}
+use Rattle.std.specs.Map.{keys_of}
+use Rattle.std.specs.Ordering.{nat_cmp}
 use Rattle.bx_model.specs.declared.file.File.{File}
 use Rattle.bx_model.specs.declared.file.Body.{Body}
 use Rattle.bx_model.specs.declared.file.Body.TheVariants.{Bytes, Path, Names}
+use Rattle.bx_model.specs.Entries.{AreBelow}
 
 -- a file's size: the bytes of a regular file or of a link's path; a directory counts as one block
 abbrev pub size_of : Body → ℕ
@@ -10,10 +14,33 @@ size_of (Bytes bytes) = length bytes
 size_of (Path path) = length path
 size_of (Names parent next names) = 4096
 
+-- the type's number of a body (RFC 1094, section 2.3.2)
+abbrev pub kind_of : Body → ℕ
+kind_of (Bytes bytes) = 1
+kind_of (Names parent next names) = 2
+kind_of (Path path) = 5
+
+abbrev pub is_regular : File → Bool
+is_regular file = file.kind == 1
+
+abbrev pub is_directory : File → Bool
+is_directory file = file.kind == 2
+
+abbrev pub is_link : File → Bool
+is_link file = file.kind == 5
+
+-- the next number of a directory is above its number of links and above those of its entries
+abbrev pub IsNumbered : ℕ → Body → Type 0
+IsNumbered nlink (Bytes bytes) = Unit {0}
+IsNumbered nlink (Path path) = Unit {0}
+IsNumbered nlink (Names parent next names) = (nlink < next) × AreBelow next names
+
 -- what holds of every file
 pub record IsFile (file : File) : Type 0 where
+  pub kind : file.kind ≡ kind_of file.body
   pub mode : file.mode < 2 ^ 12
   pub size : size_of file.body < 2 ^ 31
+  pub numbers : IsNumbered file.nlink file.body
 
 -- the file with a handle
 abbrev pub file_at : List File → ℕ → Option File
@@ -29,6 +56,11 @@ with_file (file ∷ files) new =
     else file ∷ with_file files new
 
 -- What a map from handles to files keeps: each file stands at its own handle.
-abbrev pub AreKept : List (ℕ × File) → Type 0
-AreKept [] = Unit {0}
-AreKept (entry ∷ entries) = (entry.0 ≡ entry.1.handle) × IsFile entry.1 × AreKept entries
+abbrev pub AreAtHandles : List (ℕ × File) → Type 0
+AreAtHandles [] = Unit {0}
+AreAtHandles (entry ∷ entries) = (entry.0 ≡ entry.1.handle) × IsFile entry.1 × AreAtHandles entries
+
+-- The handles rise besides.
+pub record AreKept (entries : List (ℕ × File)) : Type 0 where
+  pub at : AreAtHandles entries
+  pub rise : IsStrictlySortedBy nat_cmp (keys_of entries)

@@ -2,9 +2,6 @@
 
 use bx_base::{List, Raw, Words};
 
-/// The status `NFSERR_STALE` (RFC 1094, section 2.3.1): the file handle names no file.
-pub const STALE: u32 = 70;
-
 /// An entry of a directory as READDIR lists it (RFC 1094, section 2.2.17).
 #[derive(Drop)]
 pub struct Listed {

@@ -1,10 +1,8 @@
-ghost use Rattle.std.specs.Prelude.{◌<◌, ◌^◌};
+ghost use Rattle.std.specs.Prelude.{◌<◌, ◌^◌, length};
 ghost use Rattle.bx_model.specs.Act.{HasArgs, IsServed};
-ghost use Rattle.bx_model.specs.Files.{IsFile, size_of};
+ghost use Rattle.bx_model.specs.Files.{IsFile};
 
-use crate::{
-    Args, Body, Call, File, Files, Reply, STALE, Tree, attributes, file_handle, named_handle,
-};
+use crate::{Args, Body, Call, File, Files, Reply, STALE, Tree, attributes};
 use bx_base::{Raw, Words};
 use std::alloc::Global;
 use std::test::Fail;
@@ -24,7 +22,7 @@ const LISTING: &[u8] =
     b"file 0000000000000001 2 40777 2 0 0 4096 0.000000 0.000000 0.000000\ndir 0000000000000001 3\n";
 
 fn call_of(alloc: Global, procedure: u32, args: Args) -> Call
-    requires { HasArgs procedure args }
+    requires { HasArgs args }
     ensures { IsServed result }
 {
     Call {
@@ -78,22 +76,17 @@ fn the_opening_tree_is_listed(rt: HostRuntime) -> Result<(), Fail> {
 }
 
 #[test]
-fn handles_name_files(rt: HostRuntime) {
-    assert_eq!(rt; file_handle(7, 1).as_slice(), ROOT_HANDLE.as_slice());
-    assert_eq!(rt; named_handle(7, &ROOT_HANDLE), Some(1));
-    assert_eq!(rt; named_handle(8, &ROOT_HANDLE), None);
-    assert_eq!(rt; named_handle(7, &ROOT_HANDLE[..31]), None);
-}
-
-#[test]
 fn files_are_kept_by_handle(rt: HostRuntime) -> Result<(), Fail> {
     let mut files = Files::new(rt.alloc());
-    for (handle, kind) in [(5, 1), (1, 2), (5, 5)] {
-        let path = Raw::of(rt.alloc(), b"path")?;
-        files.insert(plain_file(handle, kind, Body::Path(path)))?;
+    for (handle, path) in [
+        (5, b"pa".as_slice()),
+        (1, b"".as_slice()),
+        (5, b"path".as_slice()),
+    ] {
+        let path = Raw::of(rt.alloc(), path)?;
+        files.insert(link(handle, path))?;
     }
     let file = files.get(5).ok_or("a file")?;
-    assert_eq!(rt; file.kind, 5);
     let words = attributes(rt.alloc(), (3 << 32) + 7, file)?;
     assert_eq!(rt; words.get(1).copied(), Some(0xa1ff));
     assert_eq!(rt; words.get(5).copied(), Some(4));
@@ -103,13 +96,13 @@ fn files_are_kept_by_handle(rt: HostRuntime) -> Result<(), Fail> {
     Ok(())
 }
 
-fn plain_file(handle: u64, kind: u32, body: Body) -> File
-    requires { size_of body < 2 ^ 31 }
+fn link(handle: u64, path: Raw) -> File
+    requires { length path < 2 ^ 31 }
     ensures { IsFile result }
 {
     File {
         handle,
-        kind,
+        kind: 5,
         mode: 0o777,
         nlink: 1,
         uid: 1000,
@@ -117,6 +110,6 @@ fn plain_file(handle: u64, kind: u32, body: Body) -> File
         atime: (1, 2),
         mtime: (3, 4),
         ctime: (5, 6),
-        body,
+        body: Body::Path(path),
     }
 }

@@ -11,3 +11,4 @@ pub mod Finishing
 pub mod Running
 pub mod Goings
 pub mod Leavings
+pub mod Served

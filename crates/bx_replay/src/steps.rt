@@ -1,9 +1,9 @@
 //! What the lines of a schedule do.
 
-ghost use Rattle.std.specs.Prelude.{◌≡◌, ◌≤◌, ◌<◌, ◌+◌, ◌^◌, List, ℕ, length, IfOk, IfErr, MatchOption, true, false};
+ghost use Rattle.std.specs.Prelude.{◌≡◌, ◌≤◌, ◌<◌, ◌+◌, ◌^◌, List, ℕ, length, IfOk, IfErr, IfNone, IfSome, MatchOption, true, false};
 ghost use Rattle.bx_history.specs.Along.{Done};
 ghost use Rattle.bx_model.specs.Listing.{IsBare};
-ghost use Rattle.bx_nfs.specs.Wire.{IsServed};
+ghost use Rattle.bx_nfs.specs.Wire.{IsServed, IsServedCall, ReadsAs};
 ghost use Rattle.bx_replay.specs.Headline.{IsInPlace};
 ghost use Rattle.bx_replay.specs.Replay.{Answers, DoesLine, HasStepCause, Serves, Stands, UnlessWrite};
 
@@ -11,6 +11,7 @@ use crate::print::print_lines;
 use crate::state::Replay;
 use crate::stop::{Reason, Stop};
 use bx_base::{OutOfMemory, Point, Raw};
+use bx_model::Call;
 use bx_outside::Sink;
 use bx_script::{Line, TraceLine};
 use std::alloc::Global;
@@ -84,7 +85,7 @@ impl Replay {
         ensures bare { IsBare self.new.tree }
         ensures calls { self.new.calls ≤ self.old.calls + 1 }
     {
-        let Some((xid, call)) = bx_nfs::reads_as(alloc, datagram)? else {
+        let Some((xid, call)) = served_call(alloc, datagram)? else {
             return Ok(None);
         };
         let Some(reply) = self.tree.act(&call, reading, ENOUGH, 0)? else {
@@ -99,5 +100,20 @@ impl Replay {
             made: 0,
         };
         Ok(Some((point, reply)))
+    }
+}
+
+/// The number and the call that a datagram is, if it is one that is served; `None` exactly where it isn't.
+fn served_call(alloc: Global, datagram: &[u8]) -> Result<Option<(u32, Call)>, OutOfMemory>
+    ensures found { IfOk result (λ found. IfSome found (λ read. ReadsAs datagram.now read.0 read.1 × IsServedCall read.1)) }
+    ensures none { IfOk result (λ found. IfNone found (IsServed datagram.now → ⊥)) }
+{
+    let Some((xid, call)) = bx_nfs::reads_as(alloc, datagram)? else {
+        return Ok(None);
+    };
+    if bx_nfs::is_served(&call) {
+        Ok(Some((xid, call)))
+    } else {
+        Ok(None)
     }
 }

@@ -3,10 +3,10 @@ use Rattle.std.specs.Prelude.{◌≡◌, ◌≢◌, ℕ, ◌+◌, ◌/◌, ◌<�
 use Rattle.std.proofs.Common.{arith, inl, inr, ⊎_elim, sym, subst, ap, ◌∙◌, ◌*◌, ◌-◌, replicate, take}
 use Rattle.std.proofs.lemmas.List.{drop-replicate, take-replicate, length-take-le}
 use Rattle.std.proofs.lemmas.Bool.Decides.{nat_tests}
-use Rattle.bx_disk.specs.Disks.{Image, Disks, IsImage, MayBeWritten, is_within, written, sector_of, zeros}
+use Rattle.bx_disk.specs.Disks.{Image, Disks, IsImage, Stays, MayBeWritten, is_within, written, sector_of, zeros}
 use Rattle.bx_disk.specs.Moments.{Elapses}
 use Rattle.bx_calls.specs.Regions.{EachOutside, IsInside, AreApart, ReadsAs, IsZero, IsSure, IsSynced}
-use Rattle.bx_calls.specs.Calls.{KeepsSure, KeepsAll, HasSure, LeavesOnly}
+use Rattle.bx_calls.specs.Calls.{KeepsSure, KeepsAll, WritesOnly, HasSure, LeavesOnly}
 
 -- A sector is outside exactly where it isn't within.
 pub outside_at : (disk sector count : ℕ) (P : ℕ → ℕ → Type 0) → EachOutside disk sector count P → (d s : ℕ) → is_within disk sector count d s ≡ false → P d s
@@ -31,10 +31,10 @@ outside_each disk sector count P each = record {
 -- regions by their numbers
 pub inside_by : (disk sector count in_disk in_sector in_count : ℕ) → disk ≡ in_disk → in_sector ≤ sector → sector + count ≤ in_sector + in_count
     → IsInside disk sector count in_disk in_sector in_count
-inside_by disk sector count in_disk in_sector in_count same low high = record { each = λ d s within. grind (arith, nat_tests, within) }
+inside_by disk sector count in_disk in_sector in_count same low high = record { same = same; each = λ d s within. grind (arith, nat_tests, within) }
 
-pub inside_none : (disk sector in_disk in_sector in_count : ℕ) → IsInside disk sector 0 in_disk in_sector in_count
-inside_none disk sector in_disk in_sector in_count = record { each = λ d s within. grind (arith, nat_tests, within) }
+pub inside_none : (disk sector in_sector in_count : ℕ) → IsInside disk sector 0 disk in_sector in_count
+inside_none disk sector in_sector in_count = record { same = refl; each = λ d s within. grind (arith, nat_tests, within) }
 
 pub apart_disks : (disk sector count other_disk other_sector other_count : ℕ) → disk ≢ other_disk → AreApart disk sector count other_disk other_sector other_count
 apart_disks disk sector count other_disk other_sector other_count other = record { each = λ d s within. grind (arith, nat_tests, within, other) }
@@ -61,6 +61,8 @@ keeps_wider old new disk sector count in_disk in_sector in_count keeps inside = 
   sizes = keeps.sizes;
   reads = wider disk sector count in_disk in_sector in_count (λ d s. new.reads d s ≡ old.reads d s) keeps.reads inside;
   sure = wider disk sector count in_disk in_sector in_count (λ d s. old.unsure d s ≡ false → new.unsure d s ≡ false) keeps.sure inside;
+  still = wider disk sector count in_disk in_sector in_count (λ d s. new.unsure d s ≡ true → Stays old new d s) keeps.still inside;
+  others = λ d s other. keeps.others d s (λ here. other (here ∙ inside.same));
 }
 
 pub has_wider : (old : Disks) (disk sector count in_disk in_sector in_count : ℕ) (image : Image)
@@ -94,7 +96,7 @@ pub has_before : (old mid : Disks) (disk sector count : ℕ) (image : Image)
 has_before old mid disk sector count image keeps has = grind arith
 
 -- a call that writes nothing
-pub keeps_all : (old new : Disks) (disk sector count : ℕ) → KeepsAll old new → KeepsSure old new disk sector count
+pub keeps_all : (old new : Disks) (disk sector count : ℕ) → KeepsAll old new disk → KeepsSure old new disk sector count
 keeps_all old new disk sector count keeps = grind arith
 
 -- What a crash now may leave has all that is sure.
@@ -159,6 +161,38 @@ keeps_written old new disk sector bytes is = rw is (grind (arith, nat_tests))
 
 pub keeps_torn : (old new : Disks) (disk sector count : ℕ) → MayBeWritten old new disk sector count → KeepsSure old new disk sector count
 keeps_torn old new disk sector count torn = grind (arith, nat_tests)
+
+-- what may be written in a region, and then in a part of it
+pub only_may : (old new : Disks) (disk sector count : ℕ) → WritesOnly old new disk sector count → MayBeWritten old new disk sector count
+unfolding WritesOnly
+only_may old new disk sector count only = only
+
+pub may_only : (old new : Disks) (disk sector count : ℕ) → MayBeWritten old new disk sector count → WritesOnly old new disk sector count
+unfolding WritesOnly
+may_only old new disk sector count may = may
+
+stays_then : (old mid new : Disks) (d s : ℕ) → Stays old mid d s → Stays mid new d s → Stays old new d s
+stays_then old mid new d s first next = record { reads = next.reads ∙ first.reads; held = next.held ∙ first.held; unsure = next.unsure ∙ first.unsure }
+
+pub may_part : (old mid new : Disks) (disk sector count part_disk part_sector part_count : ℕ)
+    → MayBeWritten old mid disk sector count → MayBeWritten mid new part_disk part_sector part_count → IsInside part_disk part_sector part_count disk sector count
+    → MayBeWritten old new disk sector count
+may_part old mid new disk sector count part_disk part_sector part_count first next inside = record {
+  sizes = next.sizes ∙ first.sizes;
+  held = λ d s. next.held d s ∙ first.held d s;
+  sure = λ d s within sure.
+      let last = stayed d s (is_within part_disk part_sector part_count d s) refl sure in
+      stays_then old mid new d s (first.sure d s within (sym last.unsure ∙ sure)) last;
+  beyond = λ d s beyond. stays_then old mid new d s (first.beyond d s beyond) (next.beyond d s (out_of_part d s (is_within part_disk part_sector part_count d s) refl beyond));
+}
+  where
+    stayed : (d s : ℕ) (b : Bool) → is_within part_disk part_sector part_count d s ≡ b → new.unsure d s ≡ false → Stays mid new d s
+    stayed d s true is sure = next.sure d s is sure
+    stayed d s false is sure = next.beyond d s is
+
+    out_of_part : (d s : ℕ) (b : Bool) → is_within part_disk part_sector part_count d s ≡ b → is_within disk sector count d s ≡ false → is_within part_disk part_sector part_count d s ≡ false
+    out_of_part d s true is beyond = let in_it = inside.each d s is in absurd (cc)
+    out_of_part d s false is beyond = is
 
 -- Each sector of a disk that was synced is sure.
 pub synced_sure : (disks : Disks) (disk sector count : ℕ) → IsSynced disks disk → IsSure disks disk sector count

@@ -8,8 +8,9 @@ pub record EachOutside (disk sector count : ℕ) (P : ℕ → ℕ → Type 0) : 
   pub before : (s : ℕ) → s < sector → P disk s
   pub behind : (s : ℕ) → sector + count ≤ s → P disk s
 
--- Each sector of the first region is one of the second.
+-- The first region is on the disk of the second, and each of its sectors is one of that one's.
 pub record IsInside (disk sector count in_disk in_sector in_count : ℕ) : Type 0 where
+  pub same : disk ≡ in_disk
   pub each : (d s : ℕ) → is_within disk sector count d s ≡ true → is_within in_disk in_sector in_count d s ≡ true
 
 -- No sector is in both regions.

@@ -5,12 +5,13 @@ ghost use Rattle.bx_disk.specs.declared.fault.RackError.TheVariants.{Fault, OutO
 ghost use Rattle.bx_disk.specs.Disks.{IsImage, MayBeWritten};
 ghost use Rattle.bx_disk.specs.Counts.{NoneFalls, NoneRose, BothRose};
 ghost use Rattle.bx_calls.specs.Regions.{ReadsAs, IsSynced};
-ghost use Rattle.bx_calls.specs.Calls.{KeepsSure, KeepsAll, HasSure, LeavesOnly};
+ghost use Rattle.bx_calls.specs.Calls.{KeepsSure, KeepsAll, WritesOnly, HasSure, LeavesOnly};
 
 use bx_disk::{DiskFault, Rack, RackError};
 
-/// Writes sectors, which may be unsure from then on. After a fault each of them may hold anything. For want of
-/// memory nothing is written.
+/// Writes sectors. Each of them is unsure from then on and still has what it held at its last sync, or is as it was,
+/// also after a fault. For want of memory nothing is written.
+#[tactic(auto, unfolding(crate::specs::Calls::WritesOnly))]
 pub fn write_some<R: Rack>(
     rack: &mut R,
     disk: u32,
@@ -23,10 +24,12 @@ pub fn write_some<R: Rack>(
     ensures written { R.tells rack.old → OnOk result (ReadsAs (R.state rack.new).reads disk sector bytes.now) }
     ensures keeps { R.tells rack.old → KeepsSure (R.state rack.old) (R.state rack.new) disk sector (length bytes.now / 512) }
     ensures any_moment { R.tells rack.old → LeavesOnly (R.moment rack.old) (R.moment rack.new) (R.left_since rack.old) (R.left_since rack.new) (HasSure (R.state rack.old) disk sector (length bytes.now / 512)) }
+    ensures only { R.tells rack.old → WritesOnly (R.state rack.old) (R.state rack.new) disk sector (length bytes.now / 512) }
     ensures torn { R.tells rack.old → OnErr result (MayBeWritten (R.state rack.old) (R.state rack.new) disk sector (length bytes.now / 512)) }
     ensures memory { R.tells rack.old → IsErrOf result OutOfMemory → R.state rack.new ≡ R.state rack.old }
     ensures cause { IsErrOf result Fault → BothRose (R.faults rack.old) (R.faults rack.new) (R.faults_of rack.old) (R.faults_of rack.new) disk }
     ensures later { NoneFalls (R.faults rack.old) (R.faults rack.new) (R.faults_of rack.old) (R.faults_of rack.new) }
+    ensures memory_counts { IsErrOf result OutOfMemory → NoneRose (R.faults rack.old) (R.faults rack.new) (R.faults_of rack.old) (R.faults_of rack.new) }
     ensures no_fault { OnOk result (NoneRose (R.faults rack.old) (R.faults rack.new) (R.faults_of rack.old) (R.faults_of rack.new)) }
     ensures sizes { (R.state rack.new).sizes ≡ (R.state rack.old).sizes }
     ensures keeps_telling { R.tells rack.old → R.tells rack.new }
@@ -40,7 +43,7 @@ pub fn sync_disk<R: Rack>(rack: &mut R, disk: u32) -> Result<(), DiskFault>
     requires { disk < length (R.state rack.old).sizes }
     ensures sure { R.tells rack.old → OnOk result (IsSynced (R.state rack.new) disk) }
     ensures stays { R.tells rack.old → OnErr result (R.state rack.new ≡ R.state rack.old) }
-    ensures keeps { R.tells rack.old → KeepsAll (R.state rack.old) (R.state rack.new) }
+    ensures keeps { R.tells rack.old → KeepsAll (R.state rack.old) (R.state rack.new) disk }
     ensures any_moment { R.tells rack.old → LeavesOnly (R.moment rack.old) (R.moment rack.new) (R.left_since rack.old) (R.left_since rack.new) (IsImage (R.state rack.old)) }
     ensures cause { OnErr result (BothRose (R.faults rack.old) (R.faults rack.new) (R.faults_of rack.old) (R.faults_of rack.new) disk) }
     ensures later { NoneFalls (R.faults rack.old) (R.faults rack.new) (R.faults_of rack.old) (R.faults_of rack.new) }
@@ -52,8 +55,9 @@ pub fn sync_disk<R: Rack>(rack: &mut R, disk: u32) -> Result<(), DiskFault>
     Ok(())
 }
 
-/// Writes sectors and makes all of the disk sure. After a fault each of them may hold anything. For want of memory
-/// nothing is written.
+/// Writes sectors and makes all of the disk sure. After a fault each of them is unsure and still has what it held at
+/// its last sync, or is as it was. For want of memory nothing is written.
+#[tactic(auto, unfolding(crate::specs::Calls::WritesOnly))]
 pub fn write_through<R: Rack>(
     rack: &mut R,
     disk: u32,
@@ -67,9 +71,11 @@ pub fn write_through<R: Rack>(
     ensures sure { R.tells rack.old → OnOk result (IsSynced (R.state rack.new) disk) }
     ensures keeps { R.tells rack.old → KeepsSure (R.state rack.old) (R.state rack.new) disk sector (length bytes.now / 512) }
     ensures any_moment { R.tells rack.old → LeavesOnly (R.moment rack.old) (R.moment rack.new) (R.left_since rack.old) (R.left_since rack.new) (HasSure (R.state rack.old) disk sector (length bytes.now / 512)) }
+    ensures torn { R.tells rack.old → OnErr result (MayBeWritten (R.state rack.old) (R.state rack.new) disk sector (length bytes.now / 512)) }
     ensures memory { R.tells rack.old → IsErrOf result OutOfMemory → R.state rack.new ≡ R.state rack.old }
     ensures cause { IsErrOf result Fault → BothRose (R.faults rack.old) (R.faults rack.new) (R.faults_of rack.old) (R.faults_of rack.new) disk }
     ensures later { NoneFalls (R.faults rack.old) (R.faults rack.new) (R.faults_of rack.old) (R.faults_of rack.new) }
+    ensures memory_counts { IsErrOf result OutOfMemory → NoneRose (R.faults rack.old) (R.faults rack.new) (R.faults_of rack.old) (R.faults_of rack.new) }
     ensures no_fault { OnOk result (NoneRose (R.faults rack.old) (R.faults rack.new) (R.faults_of rack.old) (R.faults_of rack.new)) }
     ensures sizes { (R.state rack.new).sizes ≡ (R.state rack.old).sizes }
     ensures keeps_telling { R.tells rack.old → R.tells rack.new }

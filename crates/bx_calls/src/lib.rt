@@ -6,6 +6,3 @@ mod zero;
 
 pub use calls::{read_sectors, sync_disk, write_some, write_through};
 pub use zero::zero_sectors;
-
-#[cfg(test)]
-mod tests;

@@ -1,10 +1,11 @@
 //! Regions of zeros.
 
-ghost use Rattle.std.specs.Prelude.{◌≡◌, ℕ, ◌+◌, ◌*◌, ◌/◌, ◌%◌, ◌<◌, ◌≤◌, length, replicate, slice_index, OnOk, IsErrOf};
-ghost use Rattle.bx_disk.specs.declared.fault.RackError.TheVariants.{Fault};
+ghost use Rattle.std.specs.Prelude.{◌≡◌, ℕ, ◌+◌, ◌*◌, ◌/◌, ◌%◌, ◌<◌, ◌≤◌, length, replicate, slice_index, OnOk, OnErr, IsErrOf};
+ghost use Rattle.bx_disk.specs.declared.fault.RackError.TheVariants.{Fault, OutOfMemory};
+ghost use Rattle.bx_disk.specs.Disks.{MayBeWritten};
 ghost use Rattle.bx_disk.specs.Counts.{NoneFalls, NoneRose, BothRose};
 ghost use Rattle.bx_calls.specs.Regions.{IsZero};
-ghost use Rattle.bx_calls.specs.Calls.{KeepsSure, HasSure, LeavesOnly};
+ghost use Rattle.bx_calls.specs.Calls.{KeepsSure, WritesOnly, HasSure, LeavesOnly};
 
 use crate::calls::write_some;
 use bx_disk::{Rack, RackError};
@@ -13,6 +14,7 @@ use bx_disk::{Rack, RackError};
 const PIECE: u64 = 64;
 
 /// Writes zeros to sectors.
+#[tactic(auto, unfolding(crate::specs::Calls::WritesOnly))]
 fn write_zeros<R: Rack>(rack: &mut R, disk: u32, sector: u64, zeros: &[u8]) -> Result<(), RackError>
     requires disk { disk < length (R.state rack.old).sizes }
     requires whole { length zeros.now % 512 ≡ 0 }
@@ -21,8 +23,10 @@ fn write_zeros<R: Rack>(rack: &mut R, disk: u32, sector: u64, zeros: &[u8]) -> R
     ensures zero { R.tells rack.old → OnOk result (IsZero (R.state rack.new).reads disk sector (length zeros.now / 512)) }
     ensures keeps { R.tells rack.old → KeepsSure (R.state rack.old) (R.state rack.new) disk sector (length zeros.now / 512) }
     ensures any_moment { R.tells rack.old → LeavesOnly (R.moment rack.old) (R.moment rack.new) (R.left_since rack.old) (R.left_since rack.new) (HasSure (R.state rack.old) disk sector (length zeros.now / 512)) }
+    ensures torn { R.tells rack.old → MayBeWritten (R.state rack.old) (R.state rack.new) disk sector (length zeros.now / 512) }
     ensures cause { IsErrOf result Fault → BothRose (R.faults rack.old) (R.faults rack.new) (R.faults_of rack.old) (R.faults_of rack.new) disk }
     ensures later { NoneFalls (R.faults rack.old) (R.faults rack.new) (R.faults_of rack.old) (R.faults_of rack.new) }
+    ensures memory_counts { IsErrOf result OutOfMemory → NoneRose (R.faults rack.old) (R.faults rack.new) (R.faults_of rack.old) (R.faults_of rack.new) }
     ensures no_fault { OnOk result (NoneRose (R.faults rack.old) (R.faults rack.new) (R.faults_of rack.old) (R.faults_of rack.new)) }
     ensures sizes { (R.state rack.new).sizes ≡ (R.state rack.old).sizes }
     ensures keeps_telling { R.tells rack.old → R.tells rack.new }
@@ -46,8 +50,10 @@ fn zero_pieces<R: Rack>(
     ensures zero { R.tells rack.old → OnOk result (IsZero (R.state rack.new).reads disk sector count) }
     ensures keeps { R.tells rack.old → KeepsSure (R.state rack.old) (R.state rack.new) disk sector count }
     ensures any_moment { R.tells rack.old → LeavesOnly (R.moment rack.old) (R.moment rack.new) (R.left_since rack.old) (R.left_since rack.new) (HasSure (R.state rack.old) disk sector count) }
+    ensures torn { R.tells rack.old → MayBeWritten (R.state rack.old) (R.state rack.new) disk sector count }
     ensures cause { IsErrOf result Fault → BothRose (R.faults rack.old) (R.faults rack.new) (R.faults_of rack.old) (R.faults_of rack.new) disk }
     ensures later { NoneFalls (R.faults rack.old) (R.faults rack.new) (R.faults_of rack.old) (R.faults_of rack.new) }
+    ensures memory_counts { IsErrOf result OutOfMemory → NoneRose (R.faults rack.old) (R.faults rack.new) (R.faults_of rack.old) (R.faults_of rack.new) }
     ensures no_fault { OnOk result (NoneRose (R.faults rack.old) (R.faults rack.new) (R.faults_of rack.old) (R.faults_of rack.new)) }
     ensures sizes { (R.state rack.new).sizes ≡ (R.state rack.old).sizes }
     ensures keeps_telling { R.tells rack.old → R.tells rack.new }
@@ -62,8 +68,9 @@ fn zero_pieces<R: Rack>(
     Ok(())
 }
 
-/// Zeroes sectors, which may be unsure from then on, by writes of at most 64. After an error each of them may hold
-/// anything.
+/// Zeroes sectors by writes of at most 64. Each of them is unsure from then on and still has what it held at its last
+/// sync, or is as it was, also after an error.
+#[tactic(auto, unfolding(crate::specs::Calls::WritesOnly))]
 pub fn zero_sectors<R: Rack>(
     rack: &mut R,
     disk: u32,
@@ -75,8 +82,11 @@ pub fn zero_sectors<R: Rack>(
     ensures zero { R.tells rack.old → OnOk result (IsZero (R.state rack.new).reads disk sector count) }
     ensures keeps { R.tells rack.old → KeepsSure (R.state rack.old) (R.state rack.new) disk sector count }
     ensures any_moment { R.tells rack.old → LeavesOnly (R.moment rack.old) (R.moment rack.new) (R.left_since rack.old) (R.left_since rack.new) (HasSure (R.state rack.old) disk sector count) }
+    ensures only { R.tells rack.old → WritesOnly (R.state rack.old) (R.state rack.new) disk sector count }
+    ensures torn { R.tells rack.old → OnErr result (MayBeWritten (R.state rack.old) (R.state rack.new) disk sector count) }
     ensures cause { IsErrOf result Fault → BothRose (R.faults rack.old) (R.faults rack.new) (R.faults_of rack.old) (R.faults_of rack.new) disk }
     ensures later { NoneFalls (R.faults rack.old) (R.faults rack.new) (R.faults_of rack.old) (R.faults_of rack.new) }
+    ensures memory_counts { IsErrOf result OutOfMemory → NoneRose (R.faults rack.old) (R.faults rack.new) (R.faults_of rack.old) (R.faults_of rack.new) }
     ensures no_fault { OnOk result (NoneRose (R.faults rack.old) (R.faults rack.new) (R.faults_of rack.old) (R.faults_of rack.new)) }
     ensures sizes { (R.state rack.new).sizes ≡ (R.state rack.old).sizes }
     ensures keeps_telling { R.tells rack.old → R.tells rack.new }

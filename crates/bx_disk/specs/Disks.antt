@@ -1,5 +1,5 @@
 -- Disks of sectors: what they hold, what a crash may leave of them, and what the calls of a rack make of them.
-use Rattle.std.specs.Prelude.{◌≡◌, ℕ, ◌+◌, ◌-◌, ◌*◌, ◌/◌, ◌<◌, ◌⊎◌, Bool, true, false, not, ◌&&◌, ◌||◌, ◌==◌, nat_lt, nat_le, if◌then◌else◌, List, [], length, take, drop, replicate, slice_index}
+use Rattle.std.specs.Prelude.{◌≡◌, ℕ, ◌+◌, ◌-◌, ◌*◌, ◌/◌, ◌<◌, Bool, true, false, not, ◌&&◌, ◌||◌, ◌==◌, nat_lt, nat_le, if◌then◌else◌, List, [], length, take, drop, replicate, slice_index}
 
 -- content by disk and by sector
 abbrev pub Image : Type 0
@@ -81,10 +81,12 @@ pub record Stays (old new : Disks) (d s : ℕ) : Type 0 where
   pub held : new.held d s ≡ old.held d s
   pub unsure : new.unsure d s ≡ old.unsure d s
 
--- After a write that failed, each of its sectors is unsure, or as it was. All others are as they were.
+-- After a write, also one that failed: each of its sectors is unsure, or as it was. All others are as they were. What
+-- each held at its last sync it still holds.
 pub record MayBeWritten (old new : Disks) (disk from count : ℕ) : Type 0 where
   pub sizes : new.sizes ≡ old.sizes
-  pub within : (d s : ℕ) → is_within disk from count d s ≡ true → (new.unsure d s ≡ true) ⊎ Stays old new d s
+  pub held : (d s : ℕ) → new.held d s ≡ old.held d s
+  pub sure : (d s : ℕ) → is_within disk from count d s ≡ true → new.unsure d s ≡ false → Stays old new d s
   pub beyond : (d s : ℕ) → is_within disk from count d s ≡ false → Stays old new d s
 
 -- Each of so many sectors of the bytes is what the sector of the disk reads as.

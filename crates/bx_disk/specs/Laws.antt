@@ -1,12 +1,12 @@
 -- What holds of all disks that a record tells.
-use Rattle.std.specs.Prelude.{◌≡◌, ℕ, zero, suc, ◌+◌, ◌-◌, ◌/◌, ◌%◌, ◌<◌, ◌≤◌, ◌==◌, Bool, true, false, not, ◌&&◌, nat_lt, nat_le, if◌then◌else◌, List, [], ◌∷◌, ◌++◌, length, take, slice_index, ◌⊎◌, refl}
+use Rattle.std.specs.Prelude.{◌≡◌, ℕ, zero, suc, ◌+◌, ◌-◌, ◌/◌, ◌%◌, ◌<◌, ◌≤◌, ◌==◌, Bool, true, false, not, ◌&&◌, ◌||◌, nat_lt, nat_le, if◌then◌else◌, List, [], ◌∷◌, ◌++◌, length, take, slice_index, ◌⊎◌, refl}
 use Rattle.std.proofs.Common.{arith, sym, ap, subst, ◌∙◌, inl, inr, length-append}
 use Rattle.std.specs.List.{list_all}
 use Rattle.std.proofs.lemmas.Bool.{ltb-true, lt-ltb}
 use Rattle.std.proofs.lemmas.Bool.Decides.{nat_tests}
 use Rattle.bx_disk.specs.Bytes.{is_byte, never, both, zeros_whole, sector_whole}
 use Rattle.bx_disk.specs.Drawn.{noise_whole}
-use Rattle.bx_disk.specs.Disks.{Image, Disks, IsSector, IsImage, is_within, is_among, written, synced, shaped, blanked, blank_image}
+use Rattle.bx_disk.specs.Disks.{Image, Disks, IsSector, IsImage, is_within, is_among, sector_of, written, synced, shaped, blanked, blank_image}
 use Rattle.bx_disk.specs.Crash.{left_with, crashed, noise_at, seeded}
 use Rattle.bx_disk.specs.Moments.{Elapses}
 use Rattle.bx_disk.specs.Past.{Past, LeftSince, fits, after_entry, after_entries, disks_of, moment_of}
@@ -20,6 +20,7 @@ pub record IsLawful (disks : Disks) : Type 0 where
   pub held : (d s : ℕ) → s < slice_index disks.sizes d → IsSector (disks.held d s)
   pub beyond : (d s : ℕ) → slice_index disks.sizes d ≤ s → disks.reads d s ≡ []
   pub there : (d s : ℕ) → disks.unsure d s ≡ true → s < slice_index disks.sizes d
+  pub settled : (d s : ℕ) → disks.unsure d s ≡ false → disks.held d s ≡ disks.reads d s
 
 whole_blank : (sizes : List ℕ) (d s : ℕ) → s < slice_index sizes d → IsSector (blank_image sizes d s)
 whole_blank sizes d s within = rw (lt-ltb s (slice_index sizes d) within) zeros_whole
@@ -37,6 +38,7 @@ lawful_shaped sizes = record {
   held = whole_blank sizes;
   beyond = beyond_blank sizes;
   there = λ d s unsure. absurd (never unsure);
+  settled = λ d s sure. refl;
 }
 
 -- what is chosen by a test, where it holds of both
@@ -44,12 +46,34 @@ chosen : (P : List ℕ → Type 0) (b : Bool) (x y : List ℕ) → (b ≡ true �
 chosen P true x y yes_case no_case = yes_case refl
 chosen P false x y yes_case no_case = no_case refl
 
+-- What a sure sector holds is what it reads as, on a disk that was synced, that crashed or that was made blank, and on
+-- the others; and after a write.
+synced_settled : (here unsure : Bool) (reads held : List ℕ) → (not here && unsure) ≡ false → (unsure ≡ false → held ≡ reads) → (if here then reads else held) ≡ reads
+synced_settled true unsure reads held sure was = refl
+synced_settled false unsure reads held sure was = was sure
+
+left_settled : (here unsure : Bool) (content reads held : List ℕ) → (not here && unsure) ≡ false → (unsure ≡ false → held ≡ reads)
+    → (if here then (if unsure then content else reads) else held) ≡ (if here && unsure then content else reads)
+left_settled true unsure content reads held sure was = refl
+left_settled false unsure content reads held sure was = was sure
+
+blanked_settled : (here unsure : Bool) (blank reads held : List ℕ) → (not here && unsure) ≡ false → (unsure ≡ false → held ≡ reads)
+    → (if here then blank else held) ≡ (if here then blank else reads)
+blanked_settled true unsure blank reads held sure was = refl
+blanked_settled false unsure blank reads held sure was = was sure
+
+written_settled : (within unsure : Bool) (bytes reads held : List ℕ) → (within || unsure) ≡ false → (unsure ≡ false → held ≡ reads)
+    → held ≡ (if within then bytes else reads)
+written_settled true unsure bytes reads held sure was = absurd (never (sym sure))
+written_settled false unsure bytes reads held sure was = was sure
+
 lawful_synced : (disks : Disks) (disk : ℕ) → IsLawful disks → IsLawful (synced disks disk)
 lawful_synced disks disk lawful = record {
   whole = lawful.whole;
   held = λ d s within. chosen IsSector (d == disk) (disks.reads d s) (disks.held d s) (λ is. lawful.whole d s within) (λ is. lawful.held d s within);
   beyond = lawful.beyond;
   there = λ d s unsure. lawful.there d s (both (not (d == disk)) (disks.unsure d s) unsure).1;
+  settled = λ d s sure. synced_settled (d == disk) (disks.unsure d s) (disks.reads d s) (disks.held d s) sure (lawful.settled d s);
 }
 
 lawful_left : (disks : Disks) (disk : ℕ) (content : ℕ → List ℕ) → IsLawful disks → ((s : ℕ) → s < slice_index disks.sizes disk → IsSector (content s))
@@ -62,6 +86,7 @@ lawful_left disks disk content lawful each = record {
   beyond = λ d s past. chosen (λ (l : List ℕ). l ≡ []) ((d == disk) && disks.unsure d s) (content s) (disks.reads d s)
       (λ is. let less = lawful.there d s (both (d == disk) (disks.unsure d s) is).1 in absurd (omega arith)) (λ is. lawful.beyond d s past);
   there = λ d s unsure. lawful.there d s (both (not (d == disk)) (disks.unsure d s) unsure).1;
+  settled = λ d s sure. left_settled (d == disk) (disks.unsure d s) (content s) (disks.reads d s) (disks.held d s) sure (lawful.settled d s);
 }
   where
     here : (d s : ℕ) → (d == disk) ≡ true → s < slice_index disks.sizes d → IsSector (content s)
@@ -92,6 +117,7 @@ lawful_blanked disks disk lawful = record {
   held = λ d s within. chosen IsSector (d == disk) (blank_image disks.sizes d s) (disks.held d s) (λ is. whole_blank disks.sizes d s within) (λ is. lawful.held d s within);
   beyond = λ d s past. chosen (λ (l : List ℕ). l ≡ []) (d == disk) (blank_image disks.sizes d s) (disks.reads d s) (λ is. beyond_blank disks.sizes d s past) (λ is. lawful.beyond d s past);
   there = λ d s unsure. lawful.there d s (both (not (d == disk)) (disks.unsure d s) unsure).1;
+  settled = λ d s sure. blanked_settled (d == disk) (disks.unsure d s) (blank_image disks.sizes d s) (disks.reads d s) (disks.held d s) sure (lawful.settled d s);
 }
 
 lawful_written : (disks : Disks) (disk from : ℕ) (bytes : List ℕ) → IsLawful disks → fits disks.sizes disk from bytes ≡ true → IsLawful (written disks disk from bytes)
@@ -100,6 +126,8 @@ lawful_written disks disk from bytes lawful is = record {
   held = lawful.held;
   beyond = λ d s past. beyond_at (is_within disk from (length bytes / 512) d s) d s refl past;
   there = λ d s unsure. there_at (is_within disk from (length bytes / 512) d s) d s refl unsure;
+  settled = λ d s sure.
+      written_settled (is_within disk from (length bytes / 512) d s) (disks.unsure d s) (sector_of bytes (s - from)) (disks.reads d s) (disks.held d s) sure (lawful.settled d s);
 }
   where
     parts : (((length bytes % 512 == 0) && nat_le (from + length bytes / 512) (slice_index disks.sizes disk)) ≡ true) × (list_all is_byte bytes ≡ true)

@@ -11,7 +11,7 @@ use std::alloc::Global;
 
 /// A sector that was written: what it reads as, what it held at its last sync, and how long the record was once it
 /// was written. It is unsure where its disk was synced before that.
-#[derive(Debug, Drop)]
+#[derive(Drop)]
 pub struct Cell {
     pub now: Sector,
     pub held: Sector,

@@ -6,7 +6,7 @@ use std::alloc::Global;
 use std::marker::Model;
 
 /// Sizes of disks.
-#[derive(Debug, Drop)]
+#[derive(Drop)]
 pub struct Sizes {
     sizes: Vec<u64>,
 }
@@ -32,7 +32,7 @@ impl Sizes {
 }
 
 /// One thing that was done.
-#[derive(Debug, Drop)]
+#[derive(Drop)]
 pub enum Entry {
     /// These bytes were written to a disk, from a sector on.
     Wrote(u32, u64, Raw),

@@ -21,6 +21,3 @@ pub use mem_rack::MemRack;
 pub use noise::Noise;
 pub use rack::Rack;
 pub use stop_rack::StopRack;
-
-#[cfg(test)]
-mod tests;

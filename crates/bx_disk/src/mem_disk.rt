@@ -14,7 +14,7 @@ use std::collections::BTreeMap;
 
 /// A disk: how many sectors it has, those that were ever written, how long the record was at its last sync, and
 /// whether a sector is unsure.
-#[derive(Debug, Drop)]
+#[derive(Drop)]
 pub struct MemDisk {
     pub size: u64,
     pub cells: Cells,

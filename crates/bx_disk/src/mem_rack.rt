@@ -23,7 +23,7 @@ use std::alloc::Global;
 use std::marker::Model;
 
 /// A rack in memory, of which given calls fail. Contracts see its record, which tells its disks at each moment.
-#[derive(Debug, Drop)]
+#[derive(Drop)]
 pub struct MemRack {
     alloc: Global,
     first: Vec<u64>,
@@ -87,6 +87,8 @@ impl Rack for MemRack {
 
     ghost there = { λ rack d s tells unsure. (lawful_past rack).there d s unsure };
 
+    ghost settled = { λ rack d s tells sure. (lawful_past rack).settled d s sure };
+
     ghost counts_now = { λ rack t image tells late is. now_counts rack t image late is };
 
     ghost only_now = { λ rack image tells left. now_only rack image left };
@@ -143,6 +145,7 @@ impl Rack for MemRack {
         ensures time { Unit {0} → Elapses (moment_of self.old) (moment_of self.new) (LeftSince self.old) (LeftSince self.new) (disks_of self.new) }
         ensures fault { IsErrOf result Fault → BothRose self.old.faults self.new.faults (λ d. slice_index self.old.by_disk d) (λ d. slice_index self.new.by_disk d) disk }
         ensures later { NoneFalls self.old.faults self.new.faults (λ d. slice_index self.old.by_disk d) (λ d. slice_index self.new.by_disk d) }
+        ensures memory_counts { IsErrOf result RackError.OutOfMemory → NoneRose self.old.faults self.new.faults (λ d. slice_index self.old.by_disk d) (λ d. slice_index self.new.by_disk d) }
         ensures no_fault { OnOk result (NoneRose self.old.faults self.new.faults (λ d. slice_index self.old.by_disk d) (λ d. slice_index self.new.by_disk d)) }
         ensures sizes { (disks_of self.new).sizes ≡ (disks_of self.old).sizes }
         ensures keeps_telling { Unit {0} → Unit {0} }
@@ -207,7 +210,9 @@ impl Rack for MemRack {
         ensures sizes { OnOk result ((disks_of self.new).sizes ≡ sizes.now) }
         ensures time { Unit {0} → Elapses (moment_of self.old) (moment_of self.new) (LeftSince self.old) (LeftSince self.new) (disks_of self.new) }
         ensures fault { IsErrOf result Fault → Rose self.old.faults self.new.faults }
+        ensures alone { (d : ℕ) → slice_index self.new.by_disk d ≡ slice_index self.old.by_disk d }
         ensures later { NoneFalls self.old.faults self.new.faults (λ d. slice_index self.old.by_disk d) (λ d. slice_index self.new.by_disk d) }
+        ensures memory_counts { IsErrOf result RackError.OutOfMemory → NoneRose self.old.faults self.new.faults (λ d. slice_index self.old.by_disk d) (λ d. slice_index self.new.by_disk d) }
         ensures no_fault { OnOk result (NoneRose self.old.faults self.new.faults (λ d. slice_index self.old.by_disk d) (λ d. slice_index self.new.by_disk d)) }
         ensures keeps_telling { Unit {0} → Unit {0} }
     {

@@ -1,7 +1,7 @@
 //! What a crash makes of unsure sectors.
 
 /// What unsure sectors hold after a crash.
-#[derive(Clone, Copy, PartialEq, Eq, Debug)]
+#[derive(Clone, Copy, PartialEq, Eq)]
 pub enum Noise {
     /// What they read as.
     Keep,

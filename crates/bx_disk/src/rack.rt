@@ -1,6 +1,6 @@
 //! Racks of disks.
 
-ghost use Rattle.std.specs.Prelude.{◌≡◌, ℕ, ◌+◌, ◌/◌, ◌%◌, ◌^◌, ◌<◌, ◌≤◌, Bool, true, List, [], length, slice_index, OnOk, OnErr, IsErrOf};
+ghost use Rattle.std.specs.Prelude.{◌≡◌, ℕ, ◌+◌, ◌/◌, ◌%◌, ◌^◌, ◌<◌, ◌≤◌, Bool, true, false, List, [], length, slice_index, OnOk, OnErr, IsErrOf};
 ghost use Rattle.bx_base.specs.Faults.{Rose};
 ghost use Rattle.bx_disk.specs.declared.fault.RackError.TheVariants.{Fault, OutOfMemory};
 ghost use Rattle.bx_disk.specs.Disks.{Image, Disks, IsSector, IsImage, AreSectors, MayBeWritten, written, synced, shaped};
@@ -53,8 +53,8 @@ pub trait Rack {
         ensures sizes { (state self.new).sizes ≡ (state self.old).sizes }
         ensures keeps_telling { tells self.old → tells self.new };
 
-    /// Writes sectors, which are unsure from then on. After a fault each of them is unsure, or as it was. For want
-    /// of memory nothing is written.
+    /// Writes sectors, which are unsure from then on. After a fault each of them is unsure and still has what it held
+    /// at its last sync, or is as it was. For want of memory nothing is written.
     fn write(&mut self, disk: u32, sector: u64, bytes: &[u8]) -> Result<(), RackError>
         requires disk { disk < length (state self.old).sizes }
         requires whole { length bytes.now % 512 ≡ 0 }
@@ -65,6 +65,7 @@ pub trait Rack {
         ensures time { tells self.old → Elapses (moment self.old) (moment self.new) (left_since self.old) (left_since self.new) (state self.new) }
         ensures fault { IsErrOf result Fault → BothRose (faults self.old) (faults self.new) (faults_of self.old) (faults_of self.new) disk }
         ensures later { NoneFalls (faults self.old) (faults self.new) (faults_of self.old) (faults_of self.new) }
+        ensures memory_counts { IsErrOf result OutOfMemory → NoneRose (faults self.old) (faults self.new) (faults_of self.old) (faults_of self.new) }
         ensures no_fault { OnOk result (NoneRose (faults self.old) (faults self.new) (faults_of self.old) (faults_of self.new)) }
         ensures sizes { (state self.new).sizes ≡ (state self.old).sizes }
         ensures keeps_telling { tells self.old → tells self.new };
@@ -81,15 +82,17 @@ pub trait Rack {
         ensures sizes { (state self.new).sizes ≡ (state self.old).sizes }
         ensures keeps_telling { tells self.old → tells self.new };
 
-    /// Makes the disks anew, one for each size, all of their sectors zero and sure. After an error the rack isn't
-    /// used again.
+    /// Makes the disks anew, one for each size, all of their sectors zero and sure. A fault counts in all alone. After
+    /// an error the rack isn't used again.
     fn shape(&mut self, sizes: &[u64]) -> Result<(), RackError>
         requires { length sizes.now < 2 ^ 32 }
         ensures shaped { tells self.old → OnOk result (state self.new ≡ shaped sizes.now) }
         ensures sizes { OnOk result ((state self.new).sizes ≡ sizes.now) }
         ensures time { tells self.old → Elapses (moment self.old) (moment self.new) (left_since self.old) (left_since self.new) (state self.new) }
         ensures fault { IsErrOf result Fault → Rose (faults self.old) (faults self.new) }
+        ensures alone { (d : ℕ) → faults_of self.new d ≡ faults_of self.old d }
         ensures later { NoneFalls (faults self.old) (faults self.new) (faults_of self.old) (faults_of self.new) }
+        ensures memory_counts { IsErrOf result OutOfMemory → NoneRose (faults self.old) (faults self.new) (faults_of self.old) (faults_of self.new) }
         ensures no_fault { OnOk result (NoneRose (faults self.old) (faults self.new) (faults_of self.old) (faults_of self.new)) }
         ensures keeps_telling { tells self.old → tells self.new };
 
@@ -101,6 +104,9 @@ pub trait Rack {
 
     /// Only sectors that are there are unsure.
     ghost there: { (rack : Self) (d s : ℕ) → tells rack → (state rack).unsure d s ≡ true → s < slice_index (state rack).sizes d };
+
+    /// What a sure sector holds is what it reads as.
+    ghost settled: { (rack : Self) (d s : ℕ) → tells rack → (state rack).unsure d s ≡ false → (state rack).held d s ≡ (state rack).reads d s };
 
     /// This moment is one of those since an earlier one.
     ghost counts_now: { (rack : Self) (t : ℕ) (image : Image) → tells rack → t ≤ moment rack → IsImage (state rack) image → left_since rack t image };

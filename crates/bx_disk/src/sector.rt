@@ -11,7 +11,7 @@ use std::alloc::Global;
 use std::marker::Model;
 
 /// 512 bytes.
-#[derive(Debug, Drop)]
+#[derive(Drop)]
 pub struct Sector {
     bytes: Vec<u8>,
 }

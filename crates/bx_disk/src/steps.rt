@@ -33,12 +33,11 @@ pub fn write_sectors(
     ensures room { owed disks.old.items + length entries.old.items ≤ vec_capacity entries.old → owed disks.new.items + length entries.new.items ≤ vec_capacity entries.new }
     ensures many { length disks.new.items ≡ length disks.old.items }
 {
-    let entry = Entry::Wrote(disk, sector, Raw::of(alloc, bytes)?);
     entries.reserve(disks.len() + 1)?;
-    let at = disk as usize;
-    let place = &mut disks[at];
+    let copy = Raw::of(alloc, bytes)?;
+    let place = &mut disks[disk as usize];
     place.make_room(alloc, sector, (bytes.len() / 512) as u64)?;
-    entries.push_reserved(entry);
+    entries.push_reserved(Entry::Wrote(disk, sector, copy));
     place.write(sector, bytes, entries.len());
     Ok(())
 }
@@ -121,12 +120,11 @@ pub fn shape_disks(
     ensures long { OnOk result (length sizes.now ≤ length by_disk.new.items) }
     ensures longer { length by_disk.old.items ≤ length by_disk.new.items }
 {
-    let entry = Entry::Shaped(Sizes::of(alloc, sizes)?);
     entries.reserve(1)?;
-    let made = make_disks(alloc, sizes, entries.len() + 1)?;
     make_counts(by_disk, sizes.len())?;
-    entries.push_reserved(entry);
-    *disks = made;
+    let copy = Sizes::of(alloc, sizes)?;
+    *disks = make_disks(alloc, sizes, entries.len() + 1)?;
+    entries.push_reserved(Entry::Shaped(copy));
     Ok(())
 }
 

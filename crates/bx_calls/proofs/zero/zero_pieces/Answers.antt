@@ -1,6 +1,6 @@
 use Rattle.std.proofs.Common.{◌≡◌, ◌+◌, ◌*◌, ◌/◌, length, take, refl, arith, ◌∙◌}
 use Rattle.bx_calls.specs.Regions.{IsInside}
-use Rattle.bx_calls.specs.Laws.{zero_more, keeps_part, leaves_part, inside_by, blank_front, front_count}
+use Rattle.bx_calls.specs.Laws.{zero_more, keeps_part, leaves_part, may_part, inside_by, blank_front, front_count}
 use Rattle.bx_calls.proofs.zero.zero_pieces.Goals as goal
 
 pub write_zeros-requires-clause-blank : goal.write_zeros-requires-clause-blank
@@ -28,6 +28,9 @@ loop-done-preserved g c =
       any_moment = λ tells.
           let told = c.loop-done.invariant.tells tells in
           leaves_part _ _ _ _ _ _ _ _ _ _ _ _ _ _ (c.loop-done.invariant.any_moment tells) (c.loop-done.invariant.keeps tells) (rw count at (c.write_zeros.ensures.any_moment told)) inside;
+      torn = λ tells.
+          let told = c.loop-done.invariant.tells tells in
+          may_part _ _ _ _ _ _ _ _ _ (c.loop-done.invariant.torn tells) (rw count at (c.write_zeros.ensures.torn told)) inside;
       later = grind arith;
       no_fault =
           let before = c.loop-done.invariant.no_fault in

@@ -1,4 +1,5 @@
 use Rattle.std.proofs.Common.{◌≡◌, ◌≤◌, ◌-◌}
+use Rattle.bx_disk.specs.Disks.{MayBeWritten}
 use Rattle.bx_disk.specs.Counts.{NoneFalls, NoneRose}
 use Rattle.bx_calls.specs.Regions.{IsZero}
 use Rattle.bx_calls.specs.Calls.{KeepsSure, HasSure, LeavesOnly}
@@ -10,6 +11,7 @@ invariant-loop-done g l = record {
   zero : g.R.Rack.tells l.fn.rack → IsZero (g.R.Rack.state l.rack).reads l.disk l.sector l.done;
   keeps : g.R.Rack.tells l.fn.rack → KeepsSure (g.R.Rack.state l.fn.rack) (g.R.Rack.state l.rack) l.disk l.sector l.count;
   any_moment : g.R.Rack.tells l.fn.rack → LeavesOnly (g.R.Rack.moment l.fn.rack) (g.R.Rack.moment l.rack) (g.R.Rack.left_since l.fn.rack) (g.R.Rack.left_since l.rack) (HasSure (g.R.Rack.state l.fn.rack) l.disk l.sector l.count);
+  torn : g.R.Rack.tells l.fn.rack → MayBeWritten (g.R.Rack.state l.fn.rack) (g.R.Rack.state l.rack) l.disk l.sector l.count;
   later : NoneFalls (g.R.Rack.faults l.fn.rack) (g.R.Rack.faults l.rack) (g.R.Rack.faults_of l.fn.rack) (g.R.Rack.faults_of l.rack);
   no_fault : NoneRose (g.R.Rack.faults l.fn.rack) (g.R.Rack.faults l.rack) (g.R.Rack.faults_of l.fn.rack) (g.R.Rack.faults_of l.rack);
   sizes : (g.R.Rack.state l.rack).sizes ≡ (g.R.Rack.state l.fn.rack).sizes;

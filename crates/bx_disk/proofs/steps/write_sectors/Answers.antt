@@ -31,7 +31,7 @@ returns-clause-kept c = λ before kept range.
     c.make_room.ensures.size c.make_room.ensures.synced c.make_room.ensures.dirty c.make_room.ensures.same in
     let long : c.len-2.result ≡ length c.args.entries.now.items + 1 =
     let items = ap (λ (l : List Entry). length l) (c.push_reserved.ensures.items) in
-    let sum = length-append c.reserve.new.self.items (Wrote c.args.disk c.args.sector c.in_ok-of.field-0 ∷ []) in
+    let sum = length-append c.reserve.new.self.items (Wrote c.args.disk c.args.sector c.in_ok-copy.copy ∷ []) in
     let was = ap (λ (l : List Entry). length l) c.in_ok-reserve.ensures.items in
     omega arith in
     let size = here.size in
@@ -46,6 +46,6 @@ returns-clause-room c = λ room.
     write_room c.args.disks.now.items c.args.disk c.write.new.self (length c.args.entries.now.items) _ _
     (let kept = c.push_reserved.ensures.capacity in let ok = c.in_ok-reserve.ensures.ok in omega arith)
     (let items = ap (λ (l : List Entry). length l) c.push_reserved.ensures.items in
-    let sum = length-append c.reserve.new.self.items (Wrote c.args.disk c.args.sector c.in_ok-of.field-0 ∷ []) in
+    let sum = length-append c.reserve.new.self.items (Wrote c.args.disk c.args.sector c.in_ok-copy.copy ∷ []) in
     let was = ap (λ (l : List Entry). length l) c.in_ok-reserve.ensures.items in
     omega arith)

@@ -1,5 +1,6 @@
 use Rattle.std.proofs.Common.{refl, ap, arith}
 use Rattle.bx_disk.specs.Disks.{Disks}
+use Rattle.bx_disk.specs.Laws.{time_stays}
 use Rattle.bx_disk.proofs.Racks.{after_noted, memory_after_sync, time_after_sync}
 use Rattle.bx_disk.proofs.mem_rack.MemRackRack.sync.Goals as goal
 
@@ -33,3 +34,12 @@ returns-clause-sizes c =
     let there = rw (← c.self.view_is) at c.requires.disk in
     let notes = c.sync_sectors.ensures.noted _ c.self.invariant.kept in
     rw (← c.self.view_is) (ap (λ (d : Disks). d.sizes) (after_noted c.self.inside.first.items c.self.inside.entries.items c.sync_sectors.new.entries.items c.self.inside.disks.items _ c.args.disk c.self.invariant.kept there notes))
+
+pub returns-then-count_call-clause-time : goal.returns-then-count_call-clause-time
+returns-then-count_call-clause-time c = λ tells. rw (← c.self.view_is) (time_stays _ _ refl refl)
+
+pub returns-clause-later : goal.returns-clause-later
+returns-clause-later c = record { all = rw (← c.self.view_is) (omega arith); each = λ d. rw (← c.self.view_is) (omega arith) }
+
+pub returns-clause-no_fault : goal.returns-clause-no_fault
+returns-clause-no_fault c = record { all = rw (← c.self.view_is) refl; each = λ d. rw (← c.self.view_is) refl }

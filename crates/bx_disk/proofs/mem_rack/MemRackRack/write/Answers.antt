@@ -1,7 +1,7 @@
 use Rattle.std.proofs.Common.{refl, ap, arith}
 use Rattle.bx_disk.specs.Disks.{Disks, shaped}
 use Rattle.bx_disk.specs.Past.{after_entries}
-use Rattle.bx_disk.specs.Laws.{time_goes_on}
+use Rattle.bx_disk.specs.Laws.{time_goes_on, time_stays}
 use Rattle.bx_disk.proofs.Racks.{Fits-below-256, small_size, fits_so, after_write, memory_after_write}
 use Rattle.bx_disk.proofs.mem_rack.MemRackRack.write.Goals as goal
 
@@ -42,3 +42,18 @@ returns-clause-sizes c =
     let fit = fits_so (after_entries (shaped c.self.inside.first.items) c.self.inside.entries.items).sizes c.args.disk c.args.sector c.args.bytes.now c.requires.whole range (λ i. Fits-below-256 _ (c.type_inv.bytes i)) in
     rw (← c.self.view_is) (ap (λ (d : Disks). d.sizes) (after_write c.self.inside.first.items c.self.inside.entries.items c.write_sectors.new.entries.items c.args.disk c.args.sector c.args.bytes.now
     c.in_ok-write_sectors.ensures.ok fit))
+
+pub returns-then-count_call-clause-time : goal.returns-then-count_call-clause-time
+returns-then-count_call-clause-time c = λ tells. rw (← c.self.view_is) (time_stays _ _ refl refl)
+
+pub returns-in_err-write_sectors-clause-later : goal.returns-in_err-write_sectors-clause-later
+returns-in_err-write_sectors-clause-later c = record { all = rw (← c.self.view_is) (omega arith); each = λ d. rw (← c.self.view_is) (omega arith) }
+
+pub returns-in_err-write_sectors-clause-memory_counts : goal.returns-in_err-write_sectors-clause-memory_counts
+returns-in_err-write_sectors-clause-memory_counts c = λ is. record { all = rw (← c.self.view_is) refl; each = λ d. rw (← c.self.view_is) refl }
+
+pub returns-clause-later : goal.returns-clause-later
+returns-clause-later c = record { all = rw (← c.self.view_is) (omega arith); each = λ d. rw (← c.self.view_is) (omega arith) }
+
+pub returns-clause-no_fault : goal.returns-clause-no_fault
+returns-clause-no_fault c = record { all = rw (← c.self.view_is) refl; each = λ d. rw (← c.self.view_is) refl }

@@ -1,0 +1,61 @@
+//! Calls of a rack with what they must answer, for tables of cases.
+
+use bx_disk::{CrashRack, Noise, Rack};
+
+/// A call, and its outcome.
+#[derive(Clone, Copy)]
+pub enum Step {
+    /// A sector of a disk is filled with a byte.
+    Fills(u32, u64, u8),
+    /// A fault: the sector isn't filled.
+    FailsToFill(u32, u64, u8),
+    /// A disk is synced.
+    Syncs(u32),
+    /// A fault: the disk isn't synced.
+    FailsToSync(u32),
+    /// All bytes of a sector are this byte.
+    Has(u32, u64, u8),
+    /// A disk crashes.
+    Crashes(u32, Noise),
+    /// A disk is made blank.
+    Blanks(u32),
+}
+
+/// Fills a sector with a byte, if it is there, and says whether that went well.
+pub fn fills<R: Rack>(rack: &mut R, disk: u32, sector: u64, byte: u8) -> bool {
+    disk < rack.disks()
+        && sector < rack.sectors(disk)
+        && rack.write(disk, sector, &[byte; 512]).is_ok()
+}
+
+/// Syncs a disk, if it is there, and says whether that went well.
+pub fn syncs<R: Rack>(rack: &mut R, disk: u32) -> bool {
+    disk < rack.disks() && rack.sync(disk).is_ok()
+}
+
+/// Whether a sector is there and can be read, and all of its bytes are this one.
+pub fn has<R: Rack>(rack: &mut R, disk: u32, sector: u64, byte: u8) -> bool {
+    let mut into = [!byte; 512];
+    disk < rack.disks()
+        && sector < rack.sectors(disk)
+        && rack.read(disk, sector, &mut into).is_ok()
+        && into.iter().all(|got| *got == byte)
+}
+
+/// Crashes a disk, if it is there, and says whether that went well.
+pub fn crashes<R: CrashRack>(rack: &mut R, disk: u32, how: Noise) -> bool {
+    disk < rack.disks() && rack.crash(disk, how).is_ok()
+}
+
+/// Takes a step, and says whether it came out so.
+pub fn goes<R: CrashRack>(rack: &mut R, step: Step) -> bool {
+    match step {
+        Step::Fills(disk, sector, byte) => fills(rack, disk, sector, byte),
+        Step::FailsToFill(disk, sector, byte) => !fills(rack, disk, sector, byte),
+        Step::Syncs(disk) => syncs(rack, disk),
+        Step::FailsToSync(disk) => !syncs(rack, disk),
+        Step::Has(disk, sector, byte) => has(rack, disk, sector, byte),
+        Step::Crashes(disk, how) => crashes(rack, disk, how),
+        Step::Blanks(disk) => disk < rack.disks() && rack.blank(disk).is_ok(),
+    }
+}

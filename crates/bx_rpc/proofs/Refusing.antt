@@ -1,5 +1,5 @@
 -- The number of a refusal is 1 to 7, and the reply goes by a program where it is 3.
-use Rattle.std.proofs.Common.{◌≡◌, ℕ, ◌<◌, ◌≤◌, List, sym, ap, ◌∙◌, ◌⊎◌, inl, inr, arith}
+use Rattle.std.proofs.Common.{◌≡◌, ℕ, ◌<◌, ◌≤◌, List, ◌∙◌, inl, inr, arith}
 use Rattle.bx_rpc.specs.declared.caller.Caller.{Caller}
 use Rattle.bx_rpc.specs.Checks.{Verdict, IsProgram, Next, Check, Checks, FromProgram, FromVersion, FromProcedure, FromCredential, FromBody, FromCaller, FromVerifier}
 use Rattle.bx_rpc.specs.Checks.Verdict.{refused, passed}

@@ -1,0 +1,88 @@
+-- What every step leaves: the root, and the handles that were given out, of which none comes back.
+use Rattle.std.proofs.Common.{◌≡◌, ℕ, Bool, true, false, List, Some, None, Option, refl, inl, inr}
+use Rattle.std.specs.Prelude.{◌⊎◌, nat_le, if◌then◌else◌, Contains}
+use Rattle.bx_model.specs.declared.file.File.{File}
+use Rattle.bx_model.specs.declared.tree.Tree.{Tree}
+use Rattle.bx_model.specs.Edits.{changed, with_new, without}
+use Rattle.bx_model.specs.Files.{file_at, is_directory}
+use Rattle.bx_model.specs.FileTrees.{IsFileTree}
+use Rattle.bx_model.specs.Making.{entered, with_subdirectory}
+use Rattle.bx_model.specs.Removing.{taken_out, unlinked, without_directory, without_link, without_subdirectory}
+use Rattle.bx_model.specs.Renaming.{changes_parent, moved_to, renamed, with_counts, with_moved, without_replaced}
+use Rattle.bx_model.specs.Times.{Time}
+use Rattle.bx_tree_laws.specs.Every.{Every}
+use Rattle.bx_tree_laws.proofs.Everys.{every_kept, every_with, every_without}
+use Rattle.bx_tree_laws.proofs.Put.{handle_stays}
+
+-- a file was there, or its handle wasn't given out
+abbrev pub WasOrNew : Tree → ℕ → Type 0
+WasOrNew tree handle = ((file : File) × (file_at tree.files handle ≡ Some file)) ⊎ (Contains tree.given handle → ⊥)
+
+pub record Grows (tree next : Tree) : Type 0 where
+  pub volume : next.volume ≡ tree.volume
+  pub root : next.root ≡ tree.root
+  pub given : (handle : ℕ) → Contains tree.given handle → Contains next.given handle
+  pub back : Every (λ handle file. WasOrNew tree handle) next.files
+
+pub record Follows (tree next : Tree) : Type 0 where
+  pub is : IsFileTree next
+  pub grows : Grows tree next
+
+pub grows_same : (tree : Tree) → Grows tree tree
+grows_same tree = record { volume = refl; root = refl; given = λ handle there. there; back = λ handle file is. inl (file, is) }
+
+pub follows_same : (tree : Tree) → IsFileTree tree → Follows tree tree
+follows_same tree was = record { is = was; grows = grows_same tree }
+
+pub grows_changed : (tree next : Tree) (at : ℕ) (change : File → File) → ((file : File) → (change file).handle ≡ file.handle) → Grows tree next → Grows tree (changed next at change)
+grows_changed tree next at change keeps grows = record {
+  volume = grows.volume;
+  root = grows.root;
+  given = grows.given;
+  back = every_kept (λ handle file. WasOrNew tree handle) next.files at change keeps (λ handle file was. was) grows.back;
+}
+
+pub grows_without : (tree next : Tree) (at : ℕ) → Grows tree next → Grows tree (without next at)
+grows_without tree next at grows = record {
+  volume = grows.volume;
+  root = grows.root;
+  given = grows.given;
+  back = every_without (λ handle file. WasOrNew tree handle) next.files at (λ handle file away is. grows.back handle file is);
+}
+
+pub grows_new : (tree next : Tree) (new : File) → (Contains tree.given new.handle → ⊥) → Grows tree next → Grows tree (with_new next new)
+grows_new tree next new fresh grows = record {
+  volume = grows.volume;
+  root = grows.root;
+  given = λ handle there. handle_stays next.given new.handle handle (grows.given handle there);
+  back = every_with (λ handle file. WasOrNew tree handle) next.files new (inr fresh) (λ handle file away is. grows.back handle file is);
+}
+
+pub grows_away : (tree : Tree) (now : Time) (name : List ℕ) (directory file : File)
+    → Grows tree (if is_directory file then without_directory (changed tree directory.handle (taken_out now name)) directory file else without_link now (changed tree directory.handle (taken_out now name)) file)
+grows_away tree now name directory file = by (is_directory file) (nat_le file.nlink 1) refl
+  where
+    left : Grows tree (changed tree directory.handle (taken_out now name))
+    left = grows_changed tree tree directory.handle (taken_out now name) (λ f. refl) (grows_same tree)
+
+    by : (b few : Bool) → nat_le file.nlink 1 ≡ few
+        → Grows tree (if b then without_directory (changed tree directory.handle (taken_out now name)) directory file else without_link now (changed tree directory.handle (taken_out now name)) file)
+    by true few t = grows_without tree _ file.handle (grows_changed tree _ directory.handle without_subdirectory (λ f. refl) left)
+    by false true t = rw t (grows_without tree _ file.handle left)
+    by false false t = rw t (grows_changed tree _ file.handle (unlinked now) (λ f. refl) left)
+
+pub grows_renamed : (tree : Tree) (now : Time) (source : File) (name : List ℕ) (target : File) (new_name : List ℕ) (moved : File) (replaced : Option File) → Grows tree (renamed now tree source name target new_name moved replaced)
+grows_renamed tree now source name target new_name moved replaced = counts (changes_parent source target moved)
+  where
+    left : (replaced : Option File) → Grows tree (without_replaced now tree target new_name replaced)
+    left None = grows_same tree
+    left (Some file) = grows_away tree now new_name target file
+
+    move : Grows tree (with_moved now (without_replaced now tree target new_name replaced) source name target new_name moved)
+    move = grows_changed tree _ moved.handle (moved_to now target.handle) (λ f. refl)
+        (grows_changed tree _ target.handle (entered now new_name moved.handle) (λ f. refl)
+        (grows_changed tree _ source.handle (taken_out now name) (λ f. refl) (left replaced)))
+
+    counts : (b : Bool) → Grows tree (with_counts b (with_moved now (without_replaced now tree target new_name replaced) source name target new_name moved) source target)
+    counts true = grows_changed tree _ target.handle with_subdirectory (λ f. refl) (grows_changed tree _ source.handle without_subdirectory (λ f. refl) move)
+    counts false = move

@@ -1,0 +1,253 @@
+-- A new file, which a new entry of a directory names, leaves a file tree.
+use Rattle.std.proofs.Common.{◌≡◌, ℕ, suc, ◌+◌, ◌<◌, ◌≤◌, arith, true, false, List, [], Some, None, Option, refl, sym, ap, ◌∙◌, subst, inl, inr}
+use Rattle.std.specs.Prelude.{◌≢◌, ◌==◌, if◌then◌else◌, Contains, count_by, length}
+use Rattle.std.proofs.lemmas.Bool.{eq-eqb, ne_eqb}
+use Rattle.bx_model.specs.declared.file.Body.{Body}
+use Rattle.bx_model.specs.declared.file.Body.TheVariants.{Bytes, Path, Names}
+use Rattle.bx_model.specs.declared.file.File.{File}
+use Rattle.bx_model.specs.declared.file.Name.{Name}
+use Rattle.bx_model.specs.declared.tree.Tree.{Tree}
+use Rattle.bx_model.specs.Edits.{changed, with_changed, with_handle, with_new}
+use Rattle.bx_model.specs.Files.{IsFile, file_at, is_directory, with_file}
+use Rattle.bx_model.specs.FileTrees.{HasEntries, IsFileTree, is_directory_at, is_directory_in, links_to}
+use Rattle.bx_model.specs.Making.{entered, with_subdirectory}
+use Rattle.bx_model.specs.Names.{is_bad, names_of, next_of, entry_named, with_entry}
+use Rattle.bx_model.specs.Times.{Time}
+use Rattle.bx_tree_laws.specs.Every.{Every}
+use Rattle.bx_tree_laws.proofs.Counts.{none_contained}
+use Rattle.bx_tree_laws.proofs.Everys.{every_kept, every_with}
+use Rattle.bx_tree_laws.proofs.Grows.{Follows, Grows, grows_changed, grows_new, grows_same}
+use Rattle.bx_tree_laws.proofs.Inside.{inside, inside_entered, inside_kept, inside_other, names_at, names_in}
+use Rattle.bx_tree_laws.proofs.Links.{IsNames, one_if, links_entered, links_kept, links_with}
+use Rattle.bx_tree_laws.proofs.Lookups.{SameOr, same_or, changed_here, some_same, with_here, with_other}
+use Rattle.bx_tree_laws.proofs.Members.{absent_unnamed, entry_of, is_names, links_below, parent_names}
+use Rattle.bx_tree_laws.proofs.Parts.{MayEnter, part_renewed}
+use Rattle.bx_tree_laws.proofs.Plans.{HasCount, HasPart, IsNearer, IsStage, Plan, stage_with}
+use Rattle.bx_tree_laws.proofs.Put.{handle_given, handle_stays, inside_with, with_commutes}
+use Rattle.bx_tree_laws.proofs.Rises.{rise_with}
+use Rattle.bx_tree_laws.proofs.Stages.{one_elsewhere, one_here, part_links, plus, stage_entered, stage_grown, stage_refers}
+use Rattle.bx_tree_laws.proofs.Stays.{parent_same, parent_with, stays_changed, stays_then, stays_with}
+use Rattle.bx_tree_laws.proofs.Whole.{plan_of, stage_of, tree_of}
+
+-- a new file: it has one link, or it is a directory without entries
+pub record IsNew (parent : ℕ) (new : File) : Type 0 where
+  pub is_file : IsFile new
+  pub none : names_of new.body ≡ []
+  pub count : HasCount 1 0 new.nlink new.body
+  pub parent_is : (above next : ℕ) (names : List Name) → new.body ≡ Names above next names → above ≡ parent
+
+entries_none : (files : List File) (handle : ℕ) (body : Body) → names_of body ≡ [] → HasEntries files handle body
+entries_none files handle (Bytes bytes) none = tt
+entries_none files handle (Path path) none = tt
+entries_none files handle (Names parent next names) none = record {
+  each = λ entry there. absurd (none_contained entry (subst (λ (l : List Name). Contains l entry) none there));
+  rise = λ i j d less within. absurd (omega (arith, less, within, ap length none));
+  apart = λ i j d less within. absurd (omega (arith, less, within, ap length none));
+}
+
+module _ (tree : Tree) (was : IsFileTree tree) (directory : File) (at : ℕ) (now : Time) (name : List ℕ) (new : File)
+    (is_there : file_at tree.files at ≡ Some directory) (is_one : is_directory directory ≡ true)
+    (good : is_bad name ≡ false) (absent : entry_named (names_of directory.body) name ≡ None)
+    (gone : file_at tree.files new.handle ≡ None) (is_new : IsNew at new) where
+  abbrev made : ℕ
+  made = new.handle
+
+  abbrev first : List File
+  first = with_file tree.files new
+
+  abbrev files : List File
+  files = with_changed first at (entered now name made)
+
+  abbrev links : ℕ → ℕ
+  links = plus made (links_to tree.files)
+
+  abbrev depth : ℕ → ℕ
+  depth handle = if made == handle then suc (was.depth at) else was.depth handle
+
+  -- what is there isn't the new file
+  not_made : (handle : ℕ) (file : File) → file_at tree.files handle ≡ Some file → made ≢ handle
+  not_made handle file is same = let no : None ≡ Some file = sym gone ∙ ap (file_at tree.files) same ∙ is in absurd cc
+
+  depth_made : depth made ≡ suc (was.depth at)
+  depth_made = rw (eq-eqb made made refl) refl
+
+  depth_other : (handle : ℕ) → made ≢ handle → depth handle ≡ was.depth handle
+  depth_other handle apart = rw (ne_eqb made handle apart) refl
+
+  nearer : (handle : ℕ) (file : File) (body : Body) → file_at tree.files handle ≡ Some file → file.body ≡ body → IsNearer depth tree.root handle body
+  nearer handle file (Bytes bytes) is b = tt
+  nearer handle file (Path path) is b = tt
+  nearer handle file (Names parent next names) is b = λ other.
+      let it = parent_names tree was handle file parent next names is b other in
+      let less = was.nearer handle file parent next names is b other in
+      let above = depth_other parent (not_made parent it.0.directory (ap (file_at tree.files) (sym it.1) ∙ it.0.there)) in
+      let here = depth_other handle (not_made handle file is) in
+      omega (arith, less, above, here)
+
+  nearer_new : (body : Body) → new.body ≡ body → IsNearer depth tree.root made body
+  nearer_new (Bytes bytes) b = tt
+  nearer_new (Path path) b = tt
+  nearer_new (Names parent next names) b = λ other.
+      let up = is_new.parent_is parent next names b in
+      let above = depth_other at (not_made at directory is_there) in
+      omega (arith, depth_made, above, ap depth up)
+
+  abbrev plan : Plan
+  plan = record { root = tree.root; ref = tree.files; links = links; inside = inside tree.files; depth = depth; given = with_handle tree.given made }
+
+  count_new : HasCount (links made) (inside tree.files made) new.nlink new.body
+  count_new =
+      let one : 1 ≡ links made = omega (arith, absent_unnamed tree was made gone, one_here made) in
+      let zero_in : 0 ≡ inside tree.files made = sym (ap (λ (found : Option File). count_by (λ (entry : Name). is_directory_at tree.files entry.handle) (names_in found)) gone) in
+      subst (λ (n : ℕ). HasCount n (inside tree.files made) new.nlink new.body) one (subst (λ (n : ℕ). HasCount 1 n new.nlink new.body) zero_in is_new.count)
+
+  not_root : made ≢ tree.root
+  not_root = not_made tree.root was.root.0 was.root.3
+
+  part_new : HasPart plan made new
+  part_new = record {
+    kind_is = is_new.is_file.kind;
+    mode_fits = is_new.is_file.mode;
+    size_fits = is_new.is_file.size;
+    below_next = is_new.is_file.links;
+    was_given = handle_given tree.given made;
+    entries = entries_none tree.files made new.body is_new.none;
+    count = count_new;
+    nearer = nearer_new new.body refl;
+    root_is = λ root. absurd (not_root root);
+  }
+
+  put_in : IsStage plan first
+  put_in = stage_with (plan_of tree (links_to tree.files) (inside tree.files) was.depth) plan tree.files new not_root refl part_new
+      (λ handle f apart is part.
+      part_renewed (plan_of tree links (inside tree.files) was.depth) handle f.kind f.mode f.nlink (with_handle tree.given made) depth f.body
+      (handle_stays tree.given made handle) (nearer handle f f.body is refl)
+      (part_links (plan_of tree (links_to tree.files) (inside tree.files) was.depth) handle f.kind f.mode f.nlink links (inside tree.files) f.body
+      (omega (arith, one_elsewhere made handle apart)) refl part))
+      (stage_of tree was)
+
+  still : file_at first at ≡ Some directory
+  still = with_other tree.files new at (not_made at directory is_there) ∙ is_there
+
+  body : IsNames directory.body
+  body = is_names tree was at directory is_there is_one
+
+  may : (f : File) → file_at first at ≡ Some f → MayEnter first at name made f.body
+  may f is = subst (λ (g : File). MayEnter first at name made g.body) (some_same directory f (sym still ∙ is)) record {
+    good = good;
+    absent = absent;
+    file = new;
+    there = with_here tree.files new;
+    parent = is_new.parent_is;
+  }
+
+  stage : IsStage (record plan { ref = first }) files
+  stage = stage_entered (record plan { ref = first }) first
+      (stage_refers plan first put_in first (λ handle f entry is within. stays_with tree.files new entry.handle gone))
+      at now name made may
+
+  links_are : (handle : ℕ) → links handle ≡ links_to files handle
+  links_are handle =
+      let more = links_entered first at now name made directory handle (rise_with tree.files new was.rise) still body in
+      let same = links_with tree.files new handle gone is_new.none in
+      omega (arith, more, same)
+
+  inside_first : (handle : ℕ) → inside first handle ≡ inside tree.files handle
+  inside_first handle = inside_with tree.files new handle gone is_new.none (λ entry. by (file_at tree.files handle) refl entry)
+    where
+      by : (found : Option File) → file_at tree.files handle ≡ found → (entry : Name) → Contains (names_at tree.files handle) entry → made ≢ entry.handle
+      by None is entry there = absurd (none_contained entry (subst (λ (o : Option File). Contains (names_in o) entry) is there))
+      by (Some f) is entry there =
+          let e = entry_of tree was handle f is entry (subst (λ (o : Option File). Contains (names_in o) entry) is there) in
+          not_made entry.handle e.file e.there
+
+  directory_new : is_directory_at first made ≡ is_directory new
+  directory_new = ap is_directory_in (with_here tree.files new)
+
+  inside_at : inside files at ≡ inside tree.files at + one_if (is_directory new)
+  inside_at =
+      let more = inside_entered first at now name made directory still body in
+      omega (arith, more, inside_first at, ap {B = ℕ} one_if directory_new)
+
+  inside_away : (handle : ℕ) → at ≢ handle → inside files handle ≡ inside tree.files handle
+  inside_away handle apart = inside_other first at (entered now name made) (λ f. refl) (λ f. refl) handle apart ∙ inside_first handle
+
+  named : Every (λ handle f. handle ≢ tree.root → 1 ≤ links handle) files
+  named = every_kept (λ handle f. handle ≢ tree.root → 1 ≤ links handle) first at (entered now name made) (λ f. refl) (λ handle f h. h)
+      (every_with (λ handle f. handle ≢ tree.root → 1 ≤ links handle) tree.files new
+      (λ other. omega (arith, one_here made))
+      (λ handle f apart is other. let one = was.named handle f is other in omega (arith, one)))
+
+  once : Every (λ handle f. is_directory f ≡ true → links handle ≤ 1) files
+  once = every_kept (λ handle f. is_directory f ≡ true → links handle ≤ 1) first at (entered now name made) (λ f. refl) (λ handle f h. h)
+      (every_with (λ handle f. is_directory f ≡ true → links handle ≤ 1) tree.files new
+      (λ is. omega (arith, one_here made, absent_unnamed tree was made gone))
+      (λ handle f apart is yes'. omega (arith, was.once handle f is yes', one_elsewhere made handle apart)))
+
+  unnamed : links tree.root ≡ 0
+  unnamed = omega (arith, was.root_unnamed, one_elsewhere made tree.root not_root)
+
+  abbrev next : Tree
+  next = record tree { files = files; given = with_handle tree.given made }
+
+  commutes : next ≡ with_new (changed tree at (entered now name made)) new
+  commutes = ap (λ (l : List File). record tree { files = l; given = with_handle tree.given made })
+      (sym (with_commutes tree.files new at (entered now name made) (λ f. refl) (λ e. not_made at directory is_there (sym e))))
+
+  -- a file that is no directory
+  pub made_keeps : is_directory new ≡ false → IsFileTree (with_new (changed tree at (entered now name made)) new)
+  made_keeps other = subst IsFileTree commutes (tree_of next links (inside tree.files) depth
+      (stage_refers (record plan { ref = first }) files stage files
+      (λ handle f entry is within. stays_changed first at (entered now name made) entry.handle (λ g. refl) (λ same g g_is. parent_with name made g.body)))
+      links_are (λ handle. by handle (same_or at handle)) named once unnamed)
+    where
+      by : (handle : ℕ) → SameOr at handle → inside tree.files handle ≡ inside files handle
+      by handle (inl same) = omega (arith, inside_at, ap {B = ℕ} one_if other, ap (inside files) same.1, ap (inside tree.files) same.1)
+      by handle (inr away) = sym (inside_away handle away.1)
+
+  -- a directory, which counts in the one that it is in
+  abbrev grown : List File
+  grown = with_changed files at with_subdirectory
+
+  room : (f : File) → file_at files at ≡ Some f → (is_directory f ≡ true) × (f.nlink + 1 < next_of f.body)
+  room f is =
+      let here = changed_here first at (entered now name made) directory (λ g. refl) still in
+      let same : entered now name made directory ≡ f = some_same (entered now name made directory) f (sym here ∙ is) in
+      subst (λ (g : File). (is_directory g ≡ true) × (g.nlink + 1 < next_of g.body)) same (is_one, by directory.body body (links_below tree was at directory is_there is_one))
+    where
+      by : (b : Body) → IsNames b → directory.nlink < next_of b → directory.nlink + 1 < next_of (with_entry name made b)
+      by (Bytes bytes) is less = absurd (omega (arith, less))
+      by (Path path) is less = absurd (omega (arith, less))
+      by (Names parent next names) is less = omega (arith, less)
+
+  pub made_directory_keeps : is_directory new ≡ true → IsFileTree (changed (with_new (changed tree at (entered now name made)) new) at with_subdirectory)
+  made_directory_keeps is = subst (λ (t : Tree). IsFileTree (changed t at with_subdirectory)) commutes (tree_of (changed next at with_subdirectory) links (plus at (inside tree.files)) depth
+      (stage_refers (record plan { ref = first; inside = plus at (inside tree.files) }) grown (stage_grown (record plan { ref = first }) files stage at room) grown
+      (λ handle f entry is within. stays_then first files grown entry.handle
+      (stays_changed first at (entered now name made) entry.handle (λ g. refl) (λ same g g_is. parent_with name made g.body))
+      (stays_changed files at with_subdirectory entry.handle (λ g. refl) (λ same g g_is. parent_same g.body))))
+      (λ handle. links_are handle ∙ sym (links_kept files at with_subdirectory handle (λ f. refl)))
+      (λ handle. by handle (same_or at handle) ∙ sym (inside_kept files at with_subdirectory (λ f. refl) (λ f. refl) (λ f. refl) handle))
+      (every_kept (λ handle f. handle ≢ tree.root → 1 ≤ links handle) files at with_subdirectory (λ f. refl) (λ handle f h. h) named)
+      (every_kept (λ handle f. is_directory f ≡ true → links handle ≤ 1) files at with_subdirectory (λ f. refl) (λ handle f h. h) once)
+      unnamed)
+    where
+      by : (handle : ℕ) → SameOr at handle → plus at (inside tree.files) handle ≡ inside files handle
+      by handle (inl same) = omega (arith, inside_at, ap {B = ℕ} one_if is, ap (inside files) same.1, ap (inside tree.files) same.1, one_here at, ap {B = ℕ} (λ (h : ℕ). one_if (at == h)) same.1)
+      by handle (inr away) = omega (arith, inside_away handle away.1, one_elsewhere at handle away.1)
+
+module _ (tree : Tree) (was : IsFileTree tree) (directory : File) (at : ℕ) (now : Time) (name : List ℕ) (new : File) (fresh : Contains tree.given new.handle → ⊥)
+    (is_there : file_at tree.files at ≡ Some directory) (is_one : is_directory directory ≡ true)
+    (good : is_bad name ≡ false) (absent : entry_named (names_of directory.body) name ≡ None)
+    (gone : file_at tree.files new.handle ≡ None) (is_new : IsNew at new) where
+  grows : Grows tree (with_new (changed tree at (entered now name new.handle)) new)
+  grows = grows_new tree (changed tree at (entered now name new.handle)) new fresh (grows_changed tree tree at (entered now name new.handle) (λ f. refl) (grows_same tree))
+
+  pub made_follows : is_directory new ≡ false → Follows tree (with_new (changed tree at (entered now name new.handle)) new)
+  made_follows other = record { is = made_keeps tree was directory at now name new is_there is_one good absent gone is_new other; grows = grows }
+
+  pub made_directory_follows : is_directory new ≡ true → Follows tree (changed (with_new (changed tree at (entered now name new.handle)) new) at with_subdirectory)
+  made_directory_follows is = record {
+    is = made_directory_keeps tree was directory at now name new is_there is_one good absent gone is_new is;
+    grows = grows_changed tree (with_new (changed tree at (entered now name new.handle)) new) at with_subdirectory (λ f. refl) grows;
+  }

@@ -31,4 +31,6 @@ pub mod Makings
 pub mod Removings
 pub mod Renamings
 pub mod Acts
+pub mod Below
+pub mod Laws
 pub mod Opening

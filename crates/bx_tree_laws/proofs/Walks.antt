@@ -88,7 +88,7 @@ pub record IsThere (tree : Tree) (handle : ℕ) : Type 0 where
   pub there : file_at tree.files handle ≡ Some file
   pub body : file.body ≡ Names parent next names
 
-some_names : (body : Body) (entry : Name) → Contains (names_of body) entry → (parent : ℕ) × (next : ℕ) × (names : List Name) × (body ≡ Names parent next names)
+pub some_names : (body : Body) (entry : Name) → Contains (names_of body) entry → (parent : ℕ) × (next : ℕ) × (names : List Name) × (body ≡ Names parent next names)
 some_names (Bytes bytes) entry there = absurd (none_contained entry there)
 some_names (Path path) entry there = absurd (none_contained entry there)
 some_names (Names parent next names) entry there = (parent, next, names, refl)

@@ -55,7 +55,7 @@ abbrev pub act : Tree → Call → ℕ → ℕ → ℕ → Option (Reply × Tree
 act tree call moment spare made = given tree call (time_of moment) spare made call.args
 
 -- The calls that the tree serves: those that are refused as messages, those of MOUNT, and of NFS NULL, ROOT,
--- WRITECACHE, GETATTR, LOOKUP, READLINK, READ and STATFS.
+-- WRITECACHE, GETATTR, SETATTR, LOOKUP, READLINK, READ, WRITE and STATFS.
 abbrev pub HasArgs : ℕ → Args → Type 0
 HasArgs procedure (args.Refused number) = Unit {0}
 HasArgs procedure args.Nothing = Unit {0}
@@ -63,6 +63,8 @@ HasArgs procedure (args.Path path) = Unit {0}
 HasArgs procedure (args.Handle at) = Unit {0}
 HasArgs procedure (args.Name at name) = procedure ≡ 4
 HasArgs procedure (args.Read at offset count total) = Unit {0}
+HasArgs procedure (args.Set at sattr) = Unit {0}
+HasArgs procedure (args.Write at begin offset total written) = Unit {0}
 HasArgs procedure _ = ⊥
 
 pub record IsServed (call : Call) : Type 0 where

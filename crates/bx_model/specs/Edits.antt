@@ -1,10 +1,11 @@
 -- Edits of a tree: a file changed, taken out, or made.
-use Rattle.std.specs.Prelude.{ℕ, ◌==◌, nat_lt, Bool, not, ◌&&◌, if◌then◌else◌, List, [], ◌∷◌, map, filter}
+use Rattle.std.specs.Prelude.{ℕ, ◌==◌, Bool, not, ◌&&◌, if◌then◌else◌, List, map, filter}
 use Rattle.std.specs.List.{list_any}
 use Rattle.bx_model.specs.declared.file.File.{File}
 use Rattle.bx_model.specs.declared.tree.Tree.{Tree}
 use Rattle.bx_model.specs.Attributes.{fileid}
 use Rattle.bx_model.specs.Files.{with_file}
+use Rattle.bx_model.specs.Given.{with_handle, without_handle}
 
 -- the tree, with the file that has the handle changed
 abbrev pub with_changed : List File → ℕ → (File → File) → List File
@@ -20,17 +21,13 @@ without_file files handle = filter (λ file. not (file.handle == handle)) files
 abbrev pub without : Tree → ℕ → Tree
 without tree handle = record tree { files = without_file tree.files handle }
 
--- handles in their order, with one more
-abbrev pub with_handle : List ℕ → ℕ → List ℕ
-with_handle [] new = new ∷ []
-with_handle (handle ∷ handles) new =
-    if handle == new then handle ∷ handles
-    else if nat_lt new handle then new ∷ handle ∷ handles
-    else handle ∷ with_handle handles new
-
 -- the tree with a new file, whose handle was given out
 abbrev pub with_new : Tree → File → Tree
 with_new tree file = record tree { files = with_file tree.files file; given = with_handle tree.given file.handle }
+
+-- the tree as if the file had never come
+abbrev pub without_new : Tree → ℕ → Tree
+without_new tree handle = record tree { files = without_file tree.files handle; given = without_handle tree.given handle }
 
 -- A handle that a file may be made under: it isn't 0, it was never given out, and its fileid is no file's.
 abbrev pub is_unused : Tree → ℕ → Bool

@@ -6,7 +6,8 @@ use Rattle.bx_model.specs.declared.file.File.{File}
 use Rattle.bx_model.specs.declared.file.Name.{Name}
 use Rattle.bx_model.specs.declared.tree.Tree.{Tree}
 use Rattle.bx_model.specs.Files.{IsFile, file_at, is_directory}
-use Rattle.bx_model.specs.Names.{is_bad, names_of}
+use Rattle.bx_model.specs.Entries.{is_bad}
+use Rattle.bx_model.specs.Names.{names_of}
 
 -- whether a handle is that of a directory
 abbrev pub is_directory_in : Option File → Bool

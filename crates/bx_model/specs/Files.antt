@@ -1,8 +1,12 @@
 -- The files of a tree as a list in the order of their handles.
 use Rattle.std.specs.Prelude.{◌≡◌, ℕ, ◌<◌, ◌^◌, ◌==◌, nat_lt, Bool, if◌then◌else◌, List, [], ◌∷◌, length, Option, Some, None}
+use Rattle.std.specs.List.Sorted.{IsStrictlySortedBy}
+use Rattle.std.specs.Map.{keys_of}
+use Rattle.std.specs.Ordering.{nat_cmp}
 use Rattle.bx_model.specs.declared.file.File.{File}
 use Rattle.bx_model.specs.declared.file.Body.{Body}
 use Rattle.bx_model.specs.declared.file.Body.TheVariants.{Bytes, Path, Names}
+use Rattle.bx_model.specs.Entries.{AreBelow}
 
 -- a file's size: the bytes of a regular file or of a link's path; a directory counts as one block
 abbrev pub size_of : Body → ℕ
@@ -25,18 +29,18 @@ is_directory file = file.kind == 2
 abbrev pub is_link : File → Bool
 is_link file = file.kind == 5
 
--- a directory has given out more numbers than it has links
-abbrev pub LinksBelowNext : ℕ → Body → Type 0
-LinksBelowNext nlink (Bytes bytes) = Unit {0}
-LinksBelowNext nlink (Path path) = Unit {0}
-LinksBelowNext nlink (Names parent next names) = nlink < next
+-- the next number of a directory is above its number of links and above those of its entries
+abbrev pub IsNumbered : ℕ → Body → Type 0
+IsNumbered nlink (Bytes bytes) = Unit {0}
+IsNumbered nlink (Path path) = Unit {0}
+IsNumbered nlink (Names parent next names) = (nlink < next) × AreBelow next names
 
 -- what holds of every file
 pub record IsFile (file : File) : Type 0 where
   pub kind : file.kind ≡ kind_of file.body
   pub mode : file.mode < 2 ^ 12
   pub size : size_of file.body < 2 ^ 31
-  pub links : LinksBelowNext file.nlink file.body
+  pub numbers : IsNumbered file.nlink file.body
 
 -- the file with a handle
 abbrev pub file_at : List File → ℕ → Option File
@@ -52,6 +56,11 @@ with_file (file ∷ files) new =
     else file ∷ with_file files new
 
 -- What a map from handles to files keeps: each file stands at its own handle.
-abbrev pub AreKept : List (ℕ × File) → Type 0
-AreKept [] = Unit {0}
-AreKept (entry ∷ entries) = (entry.0 ≡ entry.1.handle) × IsFile entry.1 × AreKept entries
+abbrev pub AreAtHandles : List (ℕ × File) → Type 0
+AreAtHandles [] = Unit {0}
+AreAtHandles (entry ∷ entries) = (entry.0 ≡ entry.1.handle) × IsFile entry.1 × AreAtHandles entries
+
+-- The handles rise besides.
+pub record AreKept (entries : List (ℕ × File)) : Type 0 where
+  pub at : AreAtHandles entries
+  pub rise : IsStrictlySortedBy nat_cmp (keys_of entries)

@@ -1,5 +1,5 @@
 -- The procedures that make files and entries: CREATE, SYMLINK, MKDIR and LINK.
-use Rattle.std.specs.Prelude.{ℕ, ◌+◌, ◌%◌, ◌==◌, nat_lt, nat_le, Bool, not, ◌&&◌, if◌then◌else◌, List, [], replicate, is_some, Option, Some, None, Result, Ok}
+use Rattle.std.specs.Prelude.{ℕ, ◌+◌, ◌%◌, ◌==◌, nat_lt, nat_le, Bool, false, not, ◌&&◌, if◌then◌else◌, List, [], replicate, is_some, Option, Some, None, Result, Ok}
 use Rattle.bx_model.specs.declared.call.Call.{Call}
 use Rattle.bx_model.specs.declared.call.Sattr.{Sattr}
 use Rattle.bx_model.specs.declared.file.Body.{Body}
@@ -7,12 +7,14 @@ use Rattle.bx_model.specs.declared.file.Body.TheVariants as body
 use Rattle.bx_model.specs.declared.file.File.{File}
 use Rattle.bx_model.specs.declared.file.Name.{Name}
 use Rattle.bx_model.specs.declared.permissions.Want.TheVariants as want
+use Rattle.bx_model.specs.declared.reply.Reply.{Reply}
 use Rattle.bx_model.specs.declared.reply.Reply.TheVariants as reply
 use Rattle.bx_model.specs.declared.status.TheConstants.{ACCES, DQUOT, EXIST, FBIG, NFS_OK, NOSPC, NOTDIR, PERM, STALE}
 use Rattle.bx_model.specs.declared.tree.Tree.{Tree}
 use Rattle.bx_model.specs.Edits.{changed, with_new}
 use Rattle.bx_model.specs.Files.{file_at, is_directory, is_regular, kind_of}
-use Rattle.bx_model.specs.Names.{is_bad, names_of, next_of, entry_named, with_entry}
+use Rattle.bx_model.specs.Entries.{is_bad, entry_named}
+use Rattle.bx_model.specs.Names.{names_of, next_of, with_entry}
 use Rattle.bx_model.specs.Permissions.{may}
 use Rattle.bx_model.specs.Reading.{named_file, handle_reply}
 use Rattle.bx_model.specs.Steps.{Outcome, Making, must, refuse, ◌>>=◌, ◌>>◌}
@@ -40,9 +42,14 @@ entry_errors directory spare = do
   refuse (nat_le 4294967295 (next_of directory.body)) DQUOT
   refuse (is_full spare) NOSPC
 
--- a directory with a new entry, changed now
-abbrev pub entered : Time → List ℕ → ℕ → File → File
-entered now name handle directory = record directory { mtime = now; ctime = now; body = with_entry name handle directory.body }
+-- A directory with a new entry, changed now. A directory that comes into it counts among its links.
+abbrev pub entered : Time → List ℕ → ℕ → Bool → File → File
+entered now name handle counts directory = record directory {
+  nlink = if counts then directory.nlink + 1 else directory.nlink;
+  mtime = now;
+  ctime = now;
+  body = with_entry name handle directory.body;
+}
 
 -- A new file. It is the caller's, or the user 0 says whose it is; its mode and its times are those given, where they
 -- are.
@@ -61,23 +68,33 @@ new_file call sattr now mode made content = record {
 }
 
 -- the tree with a new file, which a new entry of a directory names
-abbrev pub with_made : Tree → File → List ℕ → Time → File → Tree
-with_made tree directory name now file = with_new (changed tree directory.handle (entered now name file.handle)) file
+abbrev pub with_made : Tree → ℕ → List ℕ → Time → File → Tree
+with_made tree directory name now file = changed (with_new tree file) directory (entered now name file.handle (is_directory file))
 
--- CREATE (RFC 1094, section 2.2.10) of a name that isn't there: a regular file of the size given, all zeros, or empty.
-abbrev pub create_new : Tree → Call → File → List ℕ → Sattr → Time → ℕ → Making
-create_new tree call directory name sattr now spare = do
+-- the errors of making a regular file in a directory
+abbrev pub create_errors : Call → File → Sattr → ℕ → Result (Unit {0}) ℕ
+create_errors call directory sattr spare = do
   refuse (not (may call directory want.Change)) ACCES
   refuse (is_given sattr.size && nat_lt most_bytes sattr.size) FBIG
   entry_errors directory spare
-  let content = body.Bytes (replicate (if is_given sattr.size then sattr.size else 0) 0)
-  let file = new_file call sattr now 0o644
-  Ok (Makes (λ made. (handle_reply tree (file made content), with_made tree directory name now (file made content))))
+
+-- a new regular file of the size given, all zeros, or empty, and the entry that names it
+abbrev pub created : Tree → Call → ℕ → List ℕ → Sattr → Time → ℕ → Reply × Tree
+created tree call directory name sattr now made =
+    let content = body.Bytes (replicate (if is_given sattr.size then sattr.size else 0) 0) in
+    let file = new_file call sattr now 0o644 made content in
+    (handle_reply tree file, with_made tree directory name now file)
+
+-- CREATE (RFC 1094, section 2.2.10) of a name that isn't there
+abbrev pub create_new : Tree → Call → File → List ℕ → Sattr → Time → ℕ → Making
+create_new tree call directory name sattr now spare = do
+  create_errors call directory sattr spare
+  Ok (Makes (created tree call directory.handle name sattr now))
 
 -- CREATE of a name that is there: only a size that is given is set.
-abbrev pub create_over : Tree → Call → Name → Sattr → Time → Making
-create_over tree call entry sattr now = do
-  file ← must (file_at tree.files entry.handle) STALE
+abbrev pub create_over : Tree → Call → ℕ → Sattr → Time → Making
+create_over tree call handle sattr now = do
+  file ← must (file_at tree.files handle) STALE
   refuse (not (is_regular file)) EXIST
   resize_errors call file sattr.size
   if is_given sattr.size then Ok (Gives (handle_reply tree (with_size now sattr.size file)) (changed tree file.handle (with_size now sattr.size)))
@@ -85,36 +102,42 @@ create_over tree call entry sattr now = do
 
 abbrev pub create_at : Tree → Call → File → List ℕ → Sattr → Time → ℕ → Option Name → Making
 create_at tree call directory name sattr now spare None = create_new tree call directory name sattr now spare
-create_at tree call directory name sattr now spare (Some entry) = create_over tree call entry sattr now
+create_at tree call directory name sattr now spare (Some entry) = create_over tree call entry.handle sattr now
 
-abbrev pub create : Tree → Call → List ℕ → List ℕ → Sattr → Time → ℕ → Making
-create tree call at name sattr now spare = do
+-- the directory in which a call looks for the name that it may make
+abbrev pub searched_directory : Tree → Call → List ℕ → List ℕ → Result File ℕ
+searched_directory tree call at name = do
   directory ← must (named_file tree at) STALE
   refuse (not (is_directory directory)) NOTDIR
   refuse (is_bad name) ACCES
   refuse (not (may call directory want.Search)) ACCES
+  Ok directory
+
+abbrev pub create : Tree → Call → List ℕ → List ℕ → Sattr → Time → ℕ → Making
+create tree call at name sattr now spare = do
+  directory ← searched_directory tree call at name
   create_at tree call directory name sattr now spare (entry_named (names_of directory.body) name)
+
+-- the directory that a new entry of the name may come into
+abbrev pub new_place : Tree → Call → List ℕ → List ℕ → ℕ → Result File ℕ
+new_place tree call at name spare = do
+  directory ← directory_to_change tree call at name
+  refuse (has_entry directory name) EXIST
+  entry_errors directory spare
+  Ok directory
 
 -- SYMLINK (section 2.2.14): a link with a path. The status alone is answered.
 abbrev pub symlink : Tree → Call → List ℕ → List ℕ → List ℕ → Sattr → Time → ℕ → Making
 symlink tree call at name path sattr now spare = do
-  directory ← directory_to_change tree call at name
-  refuse (has_entry directory name) EXIST
-  entry_errors directory spare
-  Ok (Makes (λ made. (reply.Status NFS_OK, with_made tree directory name now (new_file call sattr now 0o777 made (body.Path path)))))
-
--- a directory with one more directory in it
-abbrev pub with_subdirectory : File → File
-with_subdirectory directory = record directory { nlink = directory.nlink + 1 }
+  directory ← new_place tree call at name spare
+  Ok (Makes (λ made. (reply.Status NFS_OK, with_made tree directory.handle name now (new_file call sattr now 0o777 made (body.Path path)))))
 
 -- MKDIR (section 2.2.15): a directory without entries.
 abbrev pub mkdir : Tree → Call → List ℕ → List ℕ → Sattr → Time → ℕ → Making
 mkdir tree call at name sattr now spare = do
-  directory ← directory_to_change tree call at name
-  refuse (has_entry directory name) EXIST
-  entry_errors directory spare
+  directory ← new_place tree call at name spare
   let file = λ (made : ℕ). new_file call sattr now 0o755 made (body.Names directory.handle 3 [])
-  Ok (Makes (λ made. (handle_reply tree (file made), changed (with_made tree directory name now (file made)) directory.handle with_subdirectory)))
+  Ok (Makes (λ made. (handle_reply tree (file made), with_made tree directory.handle name now (file made))))
 
 -- a file with one more name, changed now
 abbrev pub linked : Time → File → File
@@ -129,4 +152,4 @@ link tree call from at name now spare = do
   refuse (has_entry directory name) EXIST
   refuse (nat_le 32000 file.nlink) DQUOT
   entry_errors directory spare
-  Ok (reply.Status NFS_OK, changed (changed tree file.handle (linked now)) directory.handle (entered now name file.handle))
+  Ok (reply.Status NFS_OK, changed (changed tree directory.handle (entered now name file.handle false)) file.handle (linked now))

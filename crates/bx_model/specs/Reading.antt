@@ -13,7 +13,8 @@ use Rattle.bx_model.specs.declared.tree.Tree.{Tree}
 use Rattle.bx_handles.specs.Handles.{file_text, named}
 use Rattle.bx_model.specs.Attributes.{attributes_of}
 use Rattle.bx_model.specs.Files.{file_at, is_directory, is_link}
-use Rattle.bx_model.specs.Names.{names_of, parent_of, entry_named}
+use Rattle.bx_model.specs.Entries.{entry_named}
+use Rattle.bx_model.specs.Names.{names_of, parent_of}
 use Rattle.bx_model.specs.Permissions.{may}
 use Rattle.bx_model.specs.Steps.{Outcome, must, refuse, ◌>>=◌, ◌>>◌}
 

@@ -1,5 +1,5 @@
 -- REMOVE and RMDIR.
-use Rattle.std.specs.Prelude.{ℕ, ◌-◌, nat_le, nat_lt, Bool, not, if◌then◌else◌, List, length, Ok}
+use Rattle.std.specs.Prelude.{ℕ, ◌-◌, nat_le, nat_lt, Bool, true, false, not, if◌then◌else◌, List, length, Ok, Result}
 use Rattle.bx_model.specs.declared.call.Call.{Call}
 use Rattle.bx_model.specs.declared.file.File.{File}
 use Rattle.bx_model.specs.declared.reply.Reply.TheVariants as reply
@@ -8,48 +8,50 @@ use Rattle.bx_model.specs.declared.tree.Tree.{Tree}
 use Rattle.bx_model.specs.Edits.{changed, without}
 use Rattle.bx_model.specs.Files.{file_at, is_directory}
 use Rattle.bx_model.specs.Making.{directory_to_change}
-use Rattle.bx_model.specs.Names.{names_of, entry_named, without_entry}
+use Rattle.bx_model.specs.Entries.{entry_named}
+use Rattle.bx_model.specs.Names.{names_of, without_entry}
 use Rattle.bx_model.specs.Steps.{Outcome, must, refuse, ◌>>=◌, ◌>>◌}
 use Rattle.bx_model.specs.Times.{Time}
 
--- a directory without the entry of a name, changed now
-abbrev pub taken_out : Time → List ℕ → File → File
-taken_out now name directory = record directory { mtime = now; ctime = now; body = without_entry name directory.body }
+-- A directory without the entry of a name, changed now. A directory that goes out of it counts no more.
+abbrev pub taken_out : Time → List ℕ → Bool → File → File
+taken_out now name counts directory = record directory {
+  nlink = if counts then directory.nlink - 1 else directory.nlink;
+  mtime = now;
+  ctime = now;
+  body = without_entry name directory.body;
+}
 
 -- a file with one name less, changed now
 abbrev pub unlinked : Time → File → File
 unlinked now file = record file { nlink = file.nlink - 1; ctime = now }
 
--- the tree after a file lost a name: with its last one it leaves the tree
-abbrev pub without_link : Time → Tree → File → Tree
-without_link now tree file = if nat_le file.nlink 1 then without tree file.handle else changed tree file.handle (unlinked now)
-
--- a directory with one directory less in it
-abbrev pub without_subdirectory : File → File
-without_subdirectory directory = record directory { nlink = directory.nlink - 1 }
-
--- the tree after a directory left it, which was in another one
-abbrev pub without_directory : Tree → File → File → Tree
-without_directory tree directory file = without (changed tree directory.handle without_subdirectory) file.handle
+-- the tree after a file of so many names lost one: with its last one it leaves the tree
+abbrev pub without_link : Time → Tree → ℕ → ℕ → Tree
+without_link now tree handle nlink = if nat_le nlink 1 then without tree handle else changed tree handle (unlinked now)
 
 abbrev pub has_entries : File → Bool
 has_entries directory = nat_lt 0 (length (names_of directory.body))
 
--- REMOVE (RFC 1094, section 2.2.11): the entry of a file that is no directory goes.
-abbrev pub remove : Tree → Call → List ℕ → List ℕ → Time → Outcome
-remove tree call at name now = do
+-- the directory whose entry is to go, and the file that the entry names
+abbrev pub file_to_remove : Tree → Call → List ℕ → List ℕ → Result (File × File) ℕ
+file_to_remove tree call at name = do
   directory ← directory_to_change tree call at name
   entry ← must (entry_named (names_of directory.body) name) NOENT
   file ← must (file_at tree.files entry.handle) STALE
+  Ok (directory, file)
+
+-- REMOVE (RFC 1094, section 2.2.11): the entry of a file that is no directory goes.
+abbrev pub remove : Tree → Call → List ℕ → List ℕ → Time → Outcome
+remove tree call at name now = do
+  (directory, file) ← file_to_remove tree call at name
   refuse (is_directory file) ISDIR
-  Ok (reply.Status NFS_OK, without_link now (changed tree directory.handle (taken_out now name)) file)
+  Ok (reply.Status NFS_OK, without_link now (changed tree directory.handle (taken_out now name false)) file.handle file.nlink)
 
 -- RMDIR (section 2.2.16): an empty directory goes.
 abbrev pub rmdir : Tree → Call → List ℕ → List ℕ → Time → Outcome
 rmdir tree call at name now = do
-  directory ← directory_to_change tree call at name
-  entry ← must (entry_named (names_of directory.body) name) NOENT
-  file ← must (file_at tree.files entry.handle) STALE
+  (directory, file) ← file_to_remove tree call at name
   refuse (not (is_directory file)) NOTDIR
   refuse (has_entries file) NOTEMPTY
-  Ok (reply.Status NFS_OK, without_directory (changed tree directory.handle (taken_out now name)) directory file)
+  Ok (reply.Status NFS_OK, without (changed tree directory.handle (taken_out now name true)) file.handle)

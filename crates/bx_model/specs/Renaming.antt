@@ -8,13 +8,14 @@ use Rattle.bx_model.specs.declared.permissions.Want.TheVariants as want
 use Rattle.bx_model.specs.declared.reply.Reply.TheVariants as reply
 use Rattle.bx_model.specs.declared.status.TheConstants.{ACCES, ISDIR, NAMETOOLONG, NFS_OK, NOENT, NOTDIR, NOTEMPTY, PERM, STALE}
 use Rattle.bx_model.specs.declared.tree.Tree.{Tree}
-use Rattle.bx_model.specs.Edits.{changed}
+use Rattle.bx_model.specs.Edits.{changed, without}
 use Rattle.bx_model.specs.Files.{file_at, is_directory}
-use Rattle.bx_model.specs.Making.{entered, entry_errors, with_subdirectory}
-use Rattle.bx_model.specs.Names.{is_bad, names_of, parent_of, entry_named, with_parent}
+use Rattle.bx_model.specs.Making.{entered, entry_errors}
+use Rattle.bx_model.specs.Entries.{is_bad, entry_named}
+use Rattle.bx_model.specs.Names.{names_of, parent_of, with_parent}
 use Rattle.bx_model.specs.Permissions.{may}
 use Rattle.bx_model.specs.Reading.{named_file}
-use Rattle.bx_model.specs.Removing.{has_entries, taken_out, without_directory, without_link, without_subdirectory}
+use Rattle.bx_model.specs.Removing.{has_entries, taken_out, without_link}
 use Rattle.bx_model.specs.Steps.{Outcome, must, refuse, ◌>>=◌, ◌>>◌}
 use Rattle.bx_model.specs.Times.{Time}
 
@@ -63,27 +64,24 @@ move_errors tree source target moved replaced spare = do
 abbrev pub without_replaced : Time → Tree → File → List ℕ → Option File → Tree
 without_replaced now tree target name None = tree
 without_replaced now tree target name (Some replaced) =
-    let left : Tree = changed tree target.handle (taken_out now name) in
-    if is_directory replaced then without_directory left target replaced else without_link now left replaced
+    let left : Tree = changed tree target.handle (taken_out now name (is_directory replaced)) in
+    if is_directory replaced then without left replaced.handle else without_link now left replaced.handle replaced.nlink
 
 -- a file that was moved now; a directory has its new parent
 abbrev pub moved_to : Time → ℕ → File → File
 moved_to now parent file = record file { ctime = now; body = with_parent parent file.body }
 
--- the tree after a file has moved: the entry it had is gone, and it has a new one
-abbrev pub with_moved : Time → Tree → File → List ℕ → File → List ℕ → File → Tree
-with_moved now tree source name target new_name moved =
-    changed (changed (changed tree source.handle (taken_out now name)) target.handle (entered now new_name moved.handle)) moved.handle (moved_to now target.handle)
-
--- a directory that moves to another one counts there
-abbrev pub with_counts : Bool → Tree → File → File → Tree
-with_counts changes tree source target =
-    if changes then changed (changed tree source.handle without_subdirectory) target.handle with_subdirectory else tree
+-- the tree after a file has moved: the entry that it had is gone, and it has a new one
+abbrev pub with_moved : Time → Tree → File → List ℕ → File → List ℕ → File → Bool → Tree
+with_moved now tree source name target new_name moved counts =
+    let left : Tree = changed tree source.handle (taken_out now name counts) in
+    let come : Tree = changed left target.handle (entered now new_name moved.handle counts) in
+    changed come moved.handle (moved_to now target.handle)
 
 abbrev pub renamed : Time → Tree → File → List ℕ → File → List ℕ → File → Option File → Tree
 renamed now tree source name target new_name moved replaced =
-    with_counts (changes_parent source target moved)
-    (with_moved now (without_replaced now tree target new_name replaced) source name target new_name moved) source target
+    let left : Tree = without_replaced now tree target new_name replaced in
+    with_moved now left source name target new_name moved (changes_parent source target moved)
 
 -- whether both names are one file
 abbrev pub is_same : File → Option File → Bool

@@ -8,6 +8,7 @@ use Rattle.bx_model.specs.declared.file.File.{File}
 use Rattle.bx_model.specs.declared.permissions.Want.TheVariants as want
 use Rattle.bx_model.specs.declared.status.TheConstants.{ACCES, FBIG, ISDIR, NOSPC, NXIO, PERM, STALE}
 use Rattle.bx_model.specs.declared.tree.Tree.{Tree}
+use Rattle.bx_model.specs.Contents.{sized, written_over}
 use Rattle.bx_model.specs.Edits.{changed}
 use Rattle.bx_model.specs.Files.{is_directory, is_link}
 use Rattle.bx_model.specs.Permissions.{may}
@@ -38,9 +39,9 @@ resize_errors call file size = do
   refuse (is_given size && not (may call file want.Write)) ACCES
   refuse (is_given size && nat_lt most_bytes size) FBIG
 
--- bytes cut at a size, or with zeros up to it
+-- a file's content of another size
 abbrev pub resized : ℕ → Body → Body
-resized size (Bytes bytes) = Bytes (take size bytes ++ replicate (size - length bytes) 0)
+resized size (Bytes bytes) = Bytes (sized size bytes)
 resized size (Path path) = Path path
 resized size (Names parent next names) = Names parent next names
 
@@ -72,23 +73,28 @@ setattr tree call at sattr now = do
   resize_errors call file sattr.size
   Ok (attributes_reply tree (with_fields now sattr file), changed tree file.handle (with_fields now sattr))
 
--- bytes with others written over them from an offset on; a gap before it is zeros
+-- a file's content with bytes written over it
 abbrev pub overwritten : ℕ → List ℕ → Body → Body
-overwritten offset written (Bytes bytes) = Bytes (take offset bytes ++ replicate (offset - length bytes) 0 ++ written ++ drop (offset + length written) bytes)
+overwritten offset written (Bytes bytes) = Bytes (written_over offset written bytes)
 overwritten offset written (Path path) = Path path
 overwritten offset written (Names parent next names) = Names parent next names
 
 abbrev pub with_data : Time → ℕ → List ℕ → File → File
 with_data now offset written file = record file { mtime = now; ctime = now; body = overwritten offset written file.body }
 
--- WRITE (section 2.2.9): the bytes written, and the attributes then. No bytes change nothing, and they meet no limit.
-abbrev pub write : Tree → Call → List ℕ → ℕ → List ℕ → Time → ℕ → Outcome
-write tree call at offset written now spare = do
-  file ← must (named_file tree at) STALE
+-- the errors of writing so many bytes from an offset on; no bytes meet no limit
+abbrev pub write_errors : Call → File → ℕ → ℕ → ℕ → Result (Unit {0}) ℕ
+write_errors call file offset count spare = do
   refuse (is_directory file) ISDIR
   refuse (is_link file) NXIO
   refuse (not (may call file want.Write)) ACCES
-  refuse (nat_lt 0 (length written) && nat_lt most_bytes (offset + length written)) FBIG
-  refuse (nat_lt 0 (length written) && is_full spare) NOSPC
+  refuse (nat_lt 0 count && nat_lt most_bytes (offset + count)) FBIG
+  refuse (nat_lt 0 count && is_full spare) NOSPC
+
+-- WRITE (section 2.2.9): the bytes written, and the attributes then. No bytes change nothing.
+abbrev pub write : Tree → Call → List ℕ → ℕ → List ℕ → Time → ℕ → Outcome
+write tree call at offset written now spare = do
+  file ← must (named_file tree at) STALE
+  write_errors call file offset (length written) spare
   if length written == 0 then Ok (attributes_reply tree file, tree)
       else Ok (attributes_reply tree (with_data now offset written file), changed tree file.handle (with_data now offset written))

@@ -1,6 +1,8 @@
 //! Files of the tree.
 
-use bx_base::{List, Raw};
+use crate::content::Content;
+use crate::names::NameList;
+use bx_base::Raw;
 
 /// An entry of a directory.
 #[derive(Drop)]
@@ -13,21 +15,21 @@ pub struct Name {
     pub handle: u64,
 }
 
-/// Entries in the order of their numbers.
-pub type NameList = List<Name>;
-
 /// What a file contains.
 #[derive(Drop)]
 pub enum Body {
     /// A regular file's bytes.
-    Bytes(Raw),
+    Bytes(Content),
     /// A symbolic link's path.
     Path(Raw),
     /// A directory's parent, the number that its next entry gets, and its entries.
     Names(u64, u32, NameList),
 }
 
-/// The type's number of a directory (RFC 1094, section 2.3.2).
+/// The type's number of a regular file (RFC 1094, section 2.3.2).
+pub(crate) const REGULAR: u32 = 1;
+
+/// The type's number of a directory.
 pub(crate) const DIRECTORY: u32 = 2;
 
 /// The type's number of a symbolic link.

@@ -1,10 +1,16 @@
 //! The files of a tree, by handle.
 
-ghost use Rattle.std.specs.Prelude.{◌≡◌, [], IfSome, OnOk, OnErr, slice_get};
+ghost use Rattle.std.specs.Prelude.{◌≡◌, ◌==◌, [], IfSome, OnOk, OnErr, IsOk, true, slice_get};
+ghost use Rattle.std.specs.List.{list_any};
 ghost use Rattle.std.specs.Option.{option_copied};
+ghost use Rattle.bx_model.specs.Attributes.{fileid as fileid_of};
+ghost use Rattle.bx_model.specs.Edits.{with_changed, without_file};
+ghost use Rattle.bx_model.specs.FileEdits.{CanEdit, edited, is_free, is_sure};
 ghost use Rattle.bx_model.specs.Files.{IsFile, file_at, with_file};
 
+use crate::edits::Edit;
 use crate::file::File;
+use crate::metadata::fileid;
 use bx_base::OutOfMemory;
 use std::alloc::Global;
 use std::collections::BTreeMap;
@@ -59,6 +65,7 @@ impl Files {
     pub fn get(&self, handle: u64) -> Option<&File>
         ensures found { option_copied result ≡ file_at self.now handle }
         ensures is_file { IfSome (option_copied result) IsFile }
+        ensures at { IfSome (option_copied result) (λ file. file.handle ≡ handle) }
     {
         self.by_handle.get(&handle)
     }
@@ -71,5 +78,48 @@ impl Files {
     {
         self.by_handle.insert(file.handle, file)?;
         Ok(())
+    }
+
+    /// Makes an edit of the file with a handle; where there is none, of nothing.
+    pub(crate) fn edit(
+        &mut self,
+        handle: u64,
+        edit: &Edit<'_>,
+        now: (u32, u32),
+    ) -> Result<(), OutOfMemory>
+        requires { IfSome (file_at self.old handle) (CanEdit edit.now) }
+        ensures ok { OnOk result (self.new ≡ with_changed self.old handle (edited now edit.now)) }
+        ensures err { OnErr result (self.new ≡ self.old) }
+        ensures sure { is_sure edit.now ≡ true → IsOk result }
+    {
+        let Some(file) = self.by_handle.get_mut(&handle) else {
+            return Ok(());
+        };
+        file.edit(edit, now)
+    }
+
+    /// Makes an edit that takes no memory, and that every file may have.
+    pub(crate) fn change(&mut self, handle: u64, edit: &Edit<'_>, now: (u32, u32))
+        requires { is_free edit.now ≡ true }
+        ensures { self.new ≡ with_changed self.old handle (edited now edit.now) }
+    {
+        if self.edit(handle, edit, now).is_err() {
+            unreachable!();
+        }
+    }
+
+    /// Takes out the file with a handle, if there is one.
+    pub(crate) fn remove(&mut self, handle: u64)
+        ensures { self.new ≡ without_file self.old handle }
+    {
+        self.by_handle.remove(&handle);
+    }
+
+    /// Whether a file has the fileid that one with this handle would have.
+    pub(crate) fn has_fileid(&self, handle: u64) -> bool
+        ensures { result ≡ list_any (λ file. fileid_of file.handle == fileid_of handle) self.now }
+    {
+        let wanted = fileid(handle);
+        self.by_handle.values().any(|file| fileid(file.handle) == wanted)
     }
 }

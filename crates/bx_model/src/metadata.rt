@@ -1,6 +1,6 @@
 //! A file's attributes.
 
-ghost use Rattle.std.specs.Prelude.{◌≡◌, ◌<◌, ◌%◌, ◌^◌, IfOk};
+ghost use Rattle.std.specs.Prelude.{◌≡◌, ◌<◌, ◌%◌, ◌^◌, length, IfOk};
 ghost use Rattle.bx_model.specs.Attributes.{attributes_of, mode_word as mode_word_of, fileid as fileid_of};
 ghost use Rattle.bx_model.specs.Files.{IsFile, size_of as body_size};
 
@@ -17,8 +17,16 @@ pub fn attributes(alloc: Global, volume: u64, file: &File) -> Result<Words, OutO
     requires { IsFile file.now }
     ensures { IfOk result (λ words. words ≡ attributes_of volume file.now) }
 {
+    words_of(alloc, &attribute_words(volume, file))
+}
+
+/// The same as an array.
+pub(crate) fn attribute_words(volume: u64, file: &File) -> [u32; 17]
+    requires { IsFile file.now }
+    ensures { result ≡ attributes_of volume file.now }
+{
     let size = size_of(&file.body);
-    let words = [
+    [
         file.kind,
         mode_word(file),
         file.nlink,
@@ -36,8 +44,7 @@ pub fn attributes(alloc: Global, volume: u64, file: &File) -> Result<Words, OutO
         file.mtime.1,
         file.ctime.0,
         file.ctime.1,
-    ];
-    words_of(alloc, &words)
+    ]
 }
 
 /// A file's mode with the bits of its type.
@@ -72,7 +79,7 @@ fn low_word(number: u64) -> u32
 }
 
 /// A file's number.
-fn fileid(handle: u64) -> u32
+pub(crate) fn fileid(handle: u64) -> u32
     ensures { result ≡ fileid_of handle }
 {
     ChunkHandle::of(handle).fileid()
@@ -87,4 +94,14 @@ pub(crate) fn words_of(alloc: Global, words: &[u32]) -> Result<Words, OutOfMemor
         list.push(*word)?;
     }
     Ok(list)
+}
+
+/// Puts words in the place of as many others.
+pub(crate) fn put_words(list: &mut Words, words: &[u32])
+    requires { length list.old ≡ length words.now }
+    ensures { list.new ≡ words.now }
+{
+    for (at, word) in words.iter().enumerate() {
+        list.set(at, *word);
+    }
 }

@@ -44,9 +44,10 @@ impl Tree {
     }
 
     /// What a call that makes no file is answered.
-    fn answer(&self, call: &Call, now: (u32, u32), spare: u32) -> Result<Reply, OutOfMemory>
+    fn answer(&mut self, call: &Call, now: (u32, u32), spare: u32) -> Result<Reply, OutOfMemory>
         requires { IsServed call.now }
-        ensures { IfOk result (λ reply. given self.now call.now now spare 0 call.now.args ≡ Some (reply, self.now)) }
+        ensures ok { IfOk result (λ reply. given self.old call.now now spare 0 call.now.args ≡ Some (reply, self.new)) }
+        ensures err { OnErr result (self.new ≡ self.old) }
     {
         match &call.args {
             Args::Refused(number) => Ok(Reply::Refused(*number, call.program)),
@@ -55,6 +56,10 @@ impl Tree {
             Args::Handle(at) => self.about_file(call.procedure, at.bytes(), spare),
             Args::Name(at, name) => self.lookup(call, at.bytes(), name.bytes()),
             Args::Read(at, offset, count, _) => self.read(call, at.bytes(), *offset, *count),
+            Args::Set(at, sattr) => self.setattr(call, at.bytes(), sattr, now),
+            Args::Write(at, _, offset, _, written) => {
+                self.write(call, at.bytes(), *offset, written.bytes(), now, spare)
+            }
             _ => unreachable!(),
         }
     }

@@ -1,17 +1,17 @@
 //! The procedures that change nothing.
 
-ghost use Rattle.std.specs.Prelude.{◌≡◌, IfOk, IfSome, min, take, drop};
+ghost use Rattle.std.specs.Prelude.{◌≡◌, IfOk, IfSome, Some, min, take, drop};
 ghost use Rattle.std.specs.Option.{option_copied};
-ghost use Rattle.bx_model.specs.Files.{IsFile};
+ghost use Rattle.bx_model.specs.Files.{IsFile, file_at};
 ghost use Rattle.bx_model.specs.Mounting.{mount, plain as plain_reply};
 ghost use Rattle.bx_model.specs.Names.{names_of, parent_of};
 ghost use Rattle.bx_model.specs.Reading.{named_file, attributes_reply as reply_of_attributes, handle_reply as reply_of_handle, getattr, lookup, meant as file_meant, readlink, read, statfs, most_data};
 ghost use Rattle.bx_model.specs.Steps.{done};
 
 use crate::call::Call;
-use crate::file::{Body, File, NameList};
+use crate::file::{Body, File};
 use crate::metadata::{BLOCK_LEN, attributes, words_of};
-use crate::names::entry_named;
+use crate::names::NameList;
 use crate::permissions::{Want, may};
 use crate::reply::Reply;
 use crate::status::{ACCES, ISDIR, NOENT, NOTDIR, NXIO, STALE};
@@ -156,7 +156,7 @@ impl Tree {
         if name == b"..".as_slice() {
             return self.files.get(parent);
         }
-        let entry = entry_named(names, name)?;
+        let entry = names.named(name)?;
         self.files.get(entry.handle)
     }
 
@@ -184,9 +184,11 @@ impl Tree {
     pub(crate) fn named(&self, bytes: &[u8]) -> Option<&File>
         ensures found { option_copied result ≡ named_file self.now bytes.now }
         ensures is_file { IfSome (option_copied result) IsFile }
+        ensures there { IfSome (option_copied result) (λ file. file_at self.now.files file.handle ≡ Some file) }
     {
         let handle = named_handle(self.volume, bytes)?;
-        self.files.get(handle)
+        let file = self.files.get(handle)?;
+        Some(file)
     }
 }
 

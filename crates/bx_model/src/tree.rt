@@ -3,9 +3,11 @@
 ghost use Rattle.std.specs.Prelude.{◌≡◌, IfOk};
 ghost use Rattle.bx_model.specs.Opening.{opening, opening_root as the_root};
 
-use crate::file::{Body, DIRECTORY, File, NameList};
+use crate::file::{Body, DIRECTORY, File};
 use crate::files::Files;
-use bx_base::{Numbers, OutOfMemory};
+use crate::names::NameList;
+use crate::handles::Handles;
+use bx_base::OutOfMemory;
 use std::alloc::Global;
 
 /// The handle of the root that a volume is made with: area 0, slot 0, generation 1.
@@ -23,7 +25,7 @@ pub struct Tree {
     /// The root's handle.
     pub root: u64,
     /// The handles that were ever given out.
-    pub given: Numbers,
+    pub given: Handles,
 }
 
 impl Tree {
@@ -33,8 +35,8 @@ impl Tree {
     {
         let mut files = Files::new(alloc);
         files.insert(opening_root(alloc))?;
-        let mut given = Numbers::new(alloc);
-        given.push(ROOT)?;
+        let mut given = Handles::new(alloc);
+        given.insert(ROOT)?;
         Ok(Tree {
             volume,
             areas: 1,

@@ -1,0 +1,137 @@
+//! The procedures that take entries out of directories: REMOVE and RMDIR.
+
+ghost use Rattle.std.specs.Prelude.{◌≡◌, MatchResult, IfOk, Ok, Err, Some};
+ghost use Rattle.std.specs.Option.{option_copied};
+ghost use Rattle.bx_model.specs.Entries.{entry_named};
+ghost use Rattle.bx_model.specs.Files.{IsFile, file_at};
+ghost use Rattle.bx_model.specs.Making.{directory_to_change as directory_of_call};
+ghost use Rattle.bx_model.specs.Names.{names_of};
+ghost use Rattle.bx_model.specs.Removing.{file_to_remove as file_of_call, has_entries as has_any, remove, rmdir, without_link};
+ghost use Rattle.bx_model.specs.Steps.{done};
+
+use crate::call::Call;
+use crate::edits::Edit;
+use crate::file::{Body, DIRECTORY, File, Name};
+use crate::names::is_bad;
+use crate::permissions::{Want, may};
+use crate::reply::Reply;
+use crate::status::{ACCES, ISDIR, NFS_OK, NOENT, NOTDIR, NOTEMPTY, STALE};
+use crate::tree::Tree;
+
+impl Tree {
+    /// REMOVE: takes out the entry of a file that is no directory.
+    pub(crate) fn remove(&mut self, call: &Call, at: &[u8], name: &[u8], now: (u32, u32)) -> Reply
+        ensures { done self.old (remove self.old call.now at.now name.now now) ≡ (result, self.new) }
+    {
+        let (directory, file) = match self.file_to_remove(call, at, name) {
+            Ok(found) => found,
+            Err(status) => return Reply::Status(status),
+        };
+        if file.kind == DIRECTORY {
+            return Reply::Status(ISDIR);
+        }
+        let (from, handle, nlink) = (directory.handle, file.handle, file.nlink);
+        self.files.change(from, &Edit::TakenOut(name, false), now);
+        self.unlink(handle, nlink, now);
+        Reply::Status(NFS_OK)
+    }
+
+    /// RMDIR: takes out the entry of an empty directory.
+    pub(crate) fn rmdir(&mut self, call: &Call, at: &[u8], name: &[u8], now: (u32, u32)) -> Reply
+        ensures { done self.old (rmdir self.old call.now at.now name.now now) ≡ (result, self.new) }
+    {
+        let (directory, file) = match self.file_to_remove(call, at, name) {
+            Ok(found) => found,
+            Err(status) => return Reply::Status(status),
+        };
+        if file.kind != DIRECTORY {
+            return Reply::Status(NOTDIR);
+        }
+        if has_entries(file) {
+            return Reply::Status(NOTEMPTY);
+        }
+        let (from, handle) = (directory.handle, file.handle);
+        self.files.change(from, &Edit::TakenOut(name, true), now);
+        self.files.remove(handle);
+        Reply::Status(NFS_OK)
+    }
+
+    /// Takes one name from a file that has so many; with its last one it leaves the tree.
+    pub(crate) fn unlink(&mut self, handle: u64, nlink: u32, now: (u32, u32))
+        ensures { self.new ≡ without_link now self.old handle nlink }
+    {
+        if nlink <= 1 {
+            self.files.remove(handle);
+        } else {
+            self.files.change(handle, &Edit::Unlinked, now);
+        }
+    }
+
+    /// The directory whose entry is to go, and the file that the entry names; else the first error.
+    fn file_to_remove(&self, call: &Call, at: &[u8], name: &[u8]) -> Result<(&File, &File), u32>
+        ensures found { MatchResult result
+            (λ found. file_of_call self.now call.now at.now name.now ≡ Ok (found.0.now, found.1.now))
+            (λ status. file_of_call self.now call.now at.now name.now ≡ Err status) }
+        ensures is_file { IfOk result (λ found. IsFile found.1.now) }
+    {
+        let directory = match self.directory_to_change(call, at, name) {
+            Ok(directory) => directory,
+            Err(status) => return Err(status),
+        };
+        let Some(entry) = entry_of(directory, name) else {
+            return Err(NOENT);
+        };
+        let Some(file) = self.files.get(entry.handle) else {
+            return Err(STALE);
+        };
+        Ok((directory, file))
+    }
+
+    /// The directory whose entries a call changes under a name; else the first error.
+    pub(crate) fn directory_to_change(
+        &self,
+        call: &Call,
+        at: &[u8],
+        name: &[u8],
+    ) -> Result<&File, u32>
+        ensures found { MatchResult result
+            (λ directory. directory_of_call self.now call.now at.now name.now ≡ Ok directory.now)
+            (λ status. directory_of_call self.now call.now at.now name.now ≡ Err status) }
+        ensures is_file { IfOk result (λ directory. IsFile directory.now) }
+        ensures there { IfOk result (λ directory. file_at self.now.files directory.now.handle ≡ Some directory.now) }
+    {
+        let Some(directory) = self.named(at) else {
+            return Err(STALE);
+        };
+        if directory.kind != DIRECTORY {
+            return Err(NOTDIR);
+        }
+        if is_bad(name) {
+            return Err(ACCES);
+        }
+        if !may(call, directory, Want::Change) {
+            return Err(ACCES);
+        }
+        Ok(directory)
+    }
+}
+
+/// The entry of a directory with a name.
+pub(crate) fn entry_of<'a>(directory: &'a File, name: &[u8]) -> Option<&'a Name>
+    ensures { option_copied result ≡ entry_named (names_of directory.now.body) name.now }
+{
+    match &directory.body {
+        Body::Names(_, _, names) => names.named(name),
+        _ => None,
+    }
+}
+
+/// Whether a directory has entries.
+pub(crate) fn has_entries(directory: &File) -> bool
+    ensures { result ≡ has_any directory.now }
+{
+    match &directory.body {
+        Body::Names(_, _, names) => !names.is_empty(),
+        _ => false,
+    }
+}

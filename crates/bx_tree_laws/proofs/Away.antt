@@ -7,11 +7,13 @@ use Rattle.bx_model.specs.declared.file.Body.TheVariants.{Bytes, Path, Names}
 use Rattle.bx_model.specs.declared.file.File.{File}
 use Rattle.bx_model.specs.declared.file.Name.{Name}
 use Rattle.bx_model.specs.declared.tree.Tree.{Tree}
-use Rattle.bx_model.specs.Edits.{changed, with_changed, without}
+use Rattle.bx_model.specs.Edits.{changed, with_changed, without, without_file}
 use Rattle.bx_model.specs.Files.{file_at, is_directory}
 use Rattle.bx_model.specs.FileTrees.{IsFileTree, is_directory_at, links_to}
-use Rattle.bx_model.specs.Names.{names_of, next_of, entry_named, without_entry}
-use Rattle.bx_model.specs.Removing.{has_entries, taken_out, without_directory, without_link, without_subdirectory}
+use Rattle.bx_model.specs.Names.{names_of, next_of, without_entry}
+use Rattle.bx_model.specs.Removing.{has_entries, without_link}
+use Rattle.bx_model.specs.Removing.{taken_out as taking_out}
+use Rattle.bx_model.specs.Renaming.{without_replaced}
 use Rattle.bx_model.specs.Times.{Time}
 use Rattle.bx_tree_laws.proofs.Counts.{none_contained}
 use Rattle.bx_tree_laws.proofs.Dropped.{dropped_keeps}
@@ -25,6 +27,14 @@ use Rattle.bx_tree_laws.proofs.Stays.{parent_same, stays_changed, stays_then}
 use Rattle.bx_tree_laws.proofs.Taken.{entry_contained, taken_away, taken_inside, taken_links, taken_named, taken_once, taken_stage, taken_stays, to_not_root}
 use Rattle.bx_tree_laws.proofs.Unlinked.{unlinked_keeps}
 use Rattle.bx_tree_laws.proofs.Whole.{plan_of}
+use Rattle.bx_model.specs.Entries.{entry_named}
+use Rattle.bx_tree_laws.proofs.Halves.{changed_twice, taken_out, without_subdirectory}
+
+-- the tree without the entry of a name, and without the file where it was its last one; a directory counts no more
+abbrev pub lost : Time → Tree → File → List ℕ → File → Bool → Tree
+lost now tree directory name file counts =
+    let left : Tree = changed tree directory.handle (taking_out now name counts) in
+    if counts then without left file.handle else without_link now left file.handle file.nlink
 
 pub next_without : (name : List ℕ) (body : Body) → next_of (without_entry name body) ≡ next_of body
 next_without name (Bytes bytes) = refl
@@ -118,11 +128,11 @@ module _ (tree : Tree) (was : IsFileTree tree) (directory file : File) (at to : 
 -- the entry of a name goes, and the file with its last one
 pub away_keeps : (tree : Tree) → IsFileTree tree → (directory file : File) (now : Time) (name : List ℕ) (entry : Name) → file_at tree.files directory.handle ≡ Some directory → is_directory directory ≡ true
     → entry_named (names_of directory.body) name ≡ Some entry → entry.handle ≡ file.handle → file_at tree.files file.handle ≡ Some file → (is_directory file ≡ true → has_entries file ≡ false)
-    → IsFileTree (if is_directory file then without_directory (changed tree directory.handle (taken_out now name)) directory file else without_link now (changed tree directory.handle (taken_out now name)) file)
+    → IsFileTree (without_replaced now tree directory name (Some file))
 away_keeps tree was directory file now name entry is_there is_one found names_it there empty = by (is_directory file) refl (nat_le file.nlink 1) refl
   where
-    by : (b : Bool) → is_directory file ≡ b → (few : Bool) → nat_le file.nlink 1 ≡ few
-        → IsFileTree (if b then without_directory (changed tree directory.handle (taken_out now name)) directory file else without_link now (changed tree directory.handle (taken_out now name)) file)
-    by true is few t = dropped_directory tree was directory file directory.handle file.handle now name entry is_there is_one found names_it there is (nothing_in file (empty is))
+    by : (b : Bool) → is_directory file ≡ b → (few : Bool) → nat_le file.nlink 1 ≡ few → IsFileTree (lost now tree directory name file b)
+    by true is few t = subst (λ (l : List File). IsFileTree (record tree { files = without_file l file.handle })) (changed_twice tree.files directory.handle (taken_out now name) without_subdirectory (λ f. refl))
+        (dropped_directory tree was directory file directory.handle file.handle now name entry is_there is_one found names_it there is (nothing_in file (empty is)))
     by false is true t = rw t (dropped_file tree was directory file directory.handle file.handle now name entry is_there is_one found names_it there is (leb-true file.nlink 1 t))
     by false is false t = rw t (unlinked_keeps tree was directory file directory.handle file.handle now name entry is_there is_one found names_it there is (leb-false file.nlink 1 t))

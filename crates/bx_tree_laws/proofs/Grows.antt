@@ -6,9 +6,9 @@ use Rattle.bx_model.specs.declared.tree.Tree.{Tree}
 use Rattle.bx_model.specs.Edits.{changed, with_new, without}
 use Rattle.bx_model.specs.Files.{file_at, is_directory}
 use Rattle.bx_model.specs.FileTrees.{IsFileTree}
-use Rattle.bx_model.specs.Making.{entered, with_subdirectory}
-use Rattle.bx_model.specs.Removing.{taken_out, unlinked, without_directory, without_link, without_subdirectory}
-use Rattle.bx_model.specs.Renaming.{changes_parent, moved_to, renamed, with_counts, with_moved, without_replaced}
+use Rattle.bx_model.specs.Making.{entered}
+use Rattle.bx_model.specs.Removing.{taken_out, unlinked, without_link}
+use Rattle.bx_model.specs.Renaming.{changes_parent, moved_to, renamed, without_replaced}
 use Rattle.bx_model.specs.Times.{Time}
 use Rattle.bx_tree_laws.specs.Every.{Every}
 use Rattle.bx_tree_laws.proofs.Everys.{every_kept, every_with, every_without}
@@ -58,31 +58,24 @@ grows_new tree next new fresh grows = record {
   back = every_with (λ handle file. WasOrNew tree handle) next.files new (inr fresh) (λ handle file away is. grows.back handle file is);
 }
 
-pub grows_away : (tree : Tree) (now : Time) (name : List ℕ) (directory file : File)
-    → Grows tree (if is_directory file then without_directory (changed tree directory.handle (taken_out now name)) directory file else without_link now (changed tree directory.handle (taken_out now name)) file)
+pub grows_away : (tree : Tree) (now : Time) (name : List ℕ) (directory file : File) → Grows tree (without_replaced now tree directory name (Some file))
 grows_away tree now name directory file = by (is_directory file) (nat_le file.nlink 1) refl
   where
-    left : Grows tree (changed tree directory.handle (taken_out now name))
-    left = grows_changed tree tree directory.handle (taken_out now name) (λ f. refl) (grows_same tree)
+    left : (counts : Bool) → Grows tree (changed tree directory.handle (taken_out now name counts))
+    left counts = grows_changed tree tree directory.handle (taken_out now name counts) (λ f. refl) (grows_same tree)
 
     by : (b few : Bool) → nat_le file.nlink 1 ≡ few
-        → Grows tree (if b then without_directory (changed tree directory.handle (taken_out now name)) directory file else without_link now (changed tree directory.handle (taken_out now name)) file)
-    by true few t = grows_without tree _ file.handle (grows_changed tree _ directory.handle without_subdirectory (λ f. refl) left)
-    by false true t = rw t (grows_without tree _ file.handle left)
-    by false false t = rw t (grows_changed tree _ file.handle (unlinked now) (λ f. refl) left)
+        → Grows tree (if b then without (changed tree directory.handle (taken_out now name b)) file.handle else without_link now (changed tree directory.handle (taken_out now name b)) file.handle file.nlink)
+    by true few t = grows_without tree _ file.handle (left true)
+    by false true t = rw t (grows_without tree _ file.handle (left false))
+    by false false t = rw t (grows_changed tree _ file.handle (unlinked now) (λ f. refl) (left false))
 
 pub grows_renamed : (tree : Tree) (now : Time) (source : File) (name : List ℕ) (target : File) (new_name : List ℕ) (moved : File) (replaced : Option File) → Grows tree (renamed now tree source name target new_name moved replaced)
-grows_renamed tree now source name target new_name moved replaced = counts (changes_parent source target moved)
+grows_renamed tree now source name target new_name moved replaced =
+    grows_changed tree _ moved.handle (moved_to now target.handle) (λ f. refl)
+    (grows_changed tree _ target.handle (entered now new_name moved.handle (changes_parent source target moved)) (λ f. refl)
+    (grows_changed tree _ source.handle (taken_out now name (changes_parent source target moved)) (λ f. refl) (left replaced)))
   where
     left : (replaced : Option File) → Grows tree (without_replaced now tree target new_name replaced)
     left None = grows_same tree
     left (Some file) = grows_away tree now new_name target file
-
-    move : Grows tree (with_moved now (without_replaced now tree target new_name replaced) source name target new_name moved)
-    move = grows_changed tree _ moved.handle (moved_to now target.handle) (λ f. refl)
-        (grows_changed tree _ target.handle (entered now new_name moved.handle) (λ f. refl)
-        (grows_changed tree _ source.handle (taken_out now name) (λ f. refl) (left replaced)))
-
-    counts : (b : Bool) → Grows tree (with_counts b (with_moved now (without_replaced now tree target new_name replaced) source name target new_name moved) source target)
-    counts true = grows_changed tree _ target.handle with_subdirectory (λ f. refl) (grows_changed tree _ source.handle without_subdirectory (λ f. refl) move)
-    counts false = move

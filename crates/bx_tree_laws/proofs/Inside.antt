@@ -8,14 +8,14 @@ use Rattle.bx_model.specs.declared.file.Name.{Name}
 use Rattle.bx_model.specs.Edits.{with_changed}
 use Rattle.bx_model.specs.Files.{file_at}
 use Rattle.bx_model.specs.FileTrees.{is_directory_at, is_directory_in}
-use Rattle.bx_model.specs.Making.{entered}
-use Rattle.bx_model.specs.Names.{names_of, entry_named, with_entry}
-use Rattle.bx_model.specs.Removing.{taken_out}
+use Rattle.bx_model.specs.Names.{names_of, with_entry}
 use Rattle.bx_model.specs.Times.{Time}
 use Rattle.bx_tree_laws.proofs.Counts.{count_same}
 use Rattle.bx_tree_laws.proofs.Entries.{Apart, count_others}
 use Rattle.bx_tree_laws.proofs.Links.{one_if, IsNames, names_without}
 use Rattle.bx_tree_laws.proofs.Lookups.{file_at-changed, changed_here, changed_other}
+use Rattle.bx_model.specs.Entries.{entry_named}
+use Rattle.bx_tree_laws.proofs.Halves.{entered, taken_out}
 
 abbrev pub names_in : Option File → List Name
 names_in None = []

@@ -1,4 +1,5 @@
 pub mod Lookups
+pub mod Halves
 pub mod Everys
 pub mod Rises
 pub mod Counts

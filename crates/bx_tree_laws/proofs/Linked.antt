@@ -7,8 +7,8 @@ use Rattle.bx_model.specs.declared.tree.Tree.{Tree}
 use Rattle.bx_model.specs.Edits.{changed, with_changed}
 use Rattle.bx_model.specs.Files.{file_at, is_directory}
 use Rattle.bx_model.specs.FileTrees.{IsFileTree, is_directory_at, links_to}
-use Rattle.bx_model.specs.Making.{entered, linked}
-use Rattle.bx_model.specs.Names.{is_bad, names_of, entry_named}
+use Rattle.bx_model.specs.Making.{linked}
+use Rattle.bx_model.specs.Names.{names_of}
 use Rattle.bx_model.specs.Times.{Time}
 use Rattle.bx_tree_laws.specs.Every.{Every}
 use Rattle.bx_tree_laws.proofs.Everys.{every_kept}
@@ -23,6 +23,9 @@ use Rattle.bx_tree_laws.proofs.Rises.{rise_changed}
 use Rattle.bx_tree_laws.proofs.Stages.{plus, stage_entered, stage_linked, stage_refers}
 use Rattle.bx_tree_laws.proofs.Stays.{parent_same, parent_with, stays_changed, stays_then}
 use Rattle.bx_tree_laws.proofs.Whole.{plan_of, stage_of, tree_of}
+use Rattle.bx_model.specs.Entries.{entry_named, is_bad}
+use Rattle.bx_model.specs.Making.{entered as entering}
+use Rattle.bx_tree_laws.proofs.Halves.{changed_apart, entered}
 
 module _ (tree : Tree) (was : IsFileTree tree) (file directory : File) (at to : ℕ) (now : Time) (name : List ℕ)
     (there : file_at tree.files to ≡ Some file) (other : is_directory file ≡ false)
@@ -105,8 +108,8 @@ module _ (tree : Tree) (was : IsFileTree tree) (file directory : File) (at to : 
   linked_keeps = tree_of (changed (changed tree to (linked now)) at (entered now name to)) links (inside tree.files) was.depth stage links_are inner_are named once
       (omega (arith, was.root_unnamed, not_counted tree.root was.root.0 was.root.3 (root_directory tree was was.root.0 was.root.3)))
 
-  pub linked_follows : Follows tree (changed (changed tree to (linked now)) at (entered now name to))
+  pub linked_follows : Follows tree (changed (changed tree at (entering now name to false)) to (linked now))
   linked_follows = record {
-    is = linked_keeps;
-    grows = grows_changed tree (changed tree to (linked now)) at (entered now name to) (λ f. refl) (grows_changed tree tree to (linked now) (λ f. refl) (grows_same tree));
+    is = subst (λ (l : List File). IsFileTree (record tree { files = l })) (changed_apart tree.files to at (linked now) (entered now name to) (λ f. refl) (λ f. refl) apart) linked_keeps;
+    grows = grows_changed tree (changed tree at (entering now name to false)) to (linked now) (λ f. refl) (grows_changed tree tree at (entering now name to false) (λ f. refl) (grows_same tree));
   }

@@ -11,13 +11,13 @@ use Rattle.bx_model.specs.declared.file.Name.{Name}
 use Rattle.bx_model.specs.Edits.{with_changed, without_file}
 use Rattle.bx_model.specs.Files.{file_at, with_file}
 use Rattle.bx_model.specs.FileTrees.{links_to}
-use Rattle.bx_model.specs.Making.{entered}
-use Rattle.bx_model.specs.Names.{names_of, entry_named, with_entry, without_entry}
-use Rattle.bx_model.specs.Removing.{taken_out}
+use Rattle.bx_model.specs.Names.{names_of, with_entry, without_entry}
 use Rattle.bx_model.specs.Times.{Time}
 use Rattle.bx_tree_laws.proofs.Counts.{some_counted, counted, sum_changed, sum_without, sum_with, sum_kept}
 use Rattle.bx_tree_laws.proofs.Entries.{Apart, others, count_others}
 use Rattle.bx_tree_laws.proofs.Rises.{Rise, at_contained, contains_at}
+use Rattle.bx_model.specs.Entries.{entry_named}
+use Rattle.bx_tree_laws.proofs.Halves.{entered, taken_out}
 
 -- 1 where a test holds
 abbrev pub one_if : Bool → ℕ

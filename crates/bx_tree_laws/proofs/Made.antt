@@ -1,5 +1,5 @@
 -- A new file, which a new entry of a directory names, leaves a file tree.
-use Rattle.std.proofs.Common.{◌≡◌, ℕ, suc, ◌+◌, ◌<◌, ◌≤◌, arith, true, false, List, [], Some, None, Option, refl, sym, ap, ◌∙◌, subst, inl, inr}
+use Rattle.std.proofs.Common.{Bool, ◌≡◌, ℕ, suc, ◌+◌, ◌<◌, ◌≤◌, arith, true, false, List, [], Some, None, Option, refl, sym, ap, ◌∙◌, subst, inl, inr}
 use Rattle.std.specs.Prelude.{◌≢◌, ◌==◌, if◌then◌else◌, Contains, count_by, length}
 use Rattle.std.proofs.lemmas.Bool.{eq-eqb, ne_eqb}
 use Rattle.bx_model.specs.declared.file.Body.{Body}
@@ -7,11 +7,10 @@ use Rattle.bx_model.specs.declared.file.Body.TheVariants.{Bytes, Path, Names}
 use Rattle.bx_model.specs.declared.file.File.{File}
 use Rattle.bx_model.specs.declared.file.Name.{Name}
 use Rattle.bx_model.specs.declared.tree.Tree.{Tree}
-use Rattle.bx_model.specs.Edits.{changed, with_changed, with_handle, with_new}
+use Rattle.bx_model.specs.Edits.{changed, with_changed, with_new}
 use Rattle.bx_model.specs.Files.{IsFile, file_at, is_directory, with_file}
 use Rattle.bx_model.specs.FileTrees.{HasEntries, IsFileTree, is_directory_at, is_directory_in, links_to}
-use Rattle.bx_model.specs.Making.{entered, with_subdirectory}
-use Rattle.bx_model.specs.Names.{is_bad, names_of, next_of, entry_named, with_entry}
+use Rattle.bx_model.specs.Names.{names_of, next_of, with_entry}
 use Rattle.bx_model.specs.Times.{Time}
 use Rattle.bx_tree_laws.specs.Every.{Every}
 use Rattle.bx_tree_laws.proofs.Counts.{none_contained}
@@ -23,11 +22,15 @@ use Rattle.bx_tree_laws.proofs.Lookups.{SameOr, same_or, changed_here, some_same
 use Rattle.bx_tree_laws.proofs.Members.{absent_unnamed, entry_of, is_names, links_below, parent_names}
 use Rattle.bx_tree_laws.proofs.Parts.{MayEnter, part_renewed}
 use Rattle.bx_tree_laws.proofs.Plans.{HasCount, HasPart, IsNearer, IsStage, Plan, stage_with}
-use Rattle.bx_tree_laws.proofs.Put.{handle_given, handle_stays, inside_with, with_commutes}
+use Rattle.bx_tree_laws.proofs.Put.{handle_given, handle_stays, inside_with}
 use Rattle.bx_tree_laws.proofs.Rises.{rise_with}
 use Rattle.bx_tree_laws.proofs.Stages.{one_elsewhere, one_here, part_links, plus, stage_entered, stage_grown, stage_refers}
 use Rattle.bx_tree_laws.proofs.Stays.{parent_same, parent_with, stays_changed, stays_then, stays_with}
-use Rattle.bx_tree_laws.proofs.Whole.{plan_of, stage_of, tree_of}
+use Rattle.bx_tree_laws.proofs.Whole.{below_next, plan_of, stage_of, tree_of}
+use Rattle.bx_model.specs.Entries.{entry_named, is_bad}
+use Rattle.bx_model.specs.Given.{with_handle}
+use Rattle.bx_model.specs.Making.{entered as entering}
+use Rattle.bx_tree_laws.proofs.Halves.{changed_twice, entered, with_subdirectory}
 
 -- a new file: it has one link, or it is a directory without entries
 pub record IsNew (parent : ℕ) (new : File) : Type 0 where
@@ -109,7 +112,7 @@ module _ (tree : Tree) (was : IsFileTree tree) (directory : File) (at : ℕ) (no
     kind_is = is_new.is_file.kind;
     mode_fits = is_new.is_file.mode;
     size_fits = is_new.is_file.size;
-    below_next = is_new.is_file.links;
+    below_next = below_next new.nlink new.body is_new.is_file.numbers;
     was_given = handle_given tree.given made;
     entries = entries_none tree.files made new.body is_new.none;
     count = count_new;
@@ -190,16 +193,12 @@ module _ (tree : Tree) (was : IsFileTree tree) (directory : File) (at : ℕ) (no
   abbrev next : Tree
   next = record tree { files = files; given = with_handle tree.given made }
 
-  commutes : next ≡ with_new (changed tree at (entered now name made)) new
-  commutes = ap (λ (l : List File). record tree { files = l; given = with_handle tree.given made })
-      (sym (with_commutes tree.files new at (entered now name made) (λ f. refl) (λ e. not_made at directory is_there (sym e))))
-
   -- a file that is no directory
-  pub made_keeps : is_directory new ≡ false → IsFileTree (with_new (changed tree at (entered now name made)) new)
-  made_keeps other = subst IsFileTree commutes (tree_of next links (inside tree.files) depth
+  pub made_keeps : is_directory new ≡ false → IsFileTree (changed (with_new tree new) at (entered now name made))
+  made_keeps other = tree_of next links (inside tree.files) depth
       (stage_refers (record plan { ref = first }) files stage files
       (λ handle f entry is within. stays_changed first at (entered now name made) entry.handle (λ g. refl) (λ same g g_is. parent_with name made g.body)))
-      links_are (λ handle. by handle (same_or at handle)) named once unnamed)
+      links_are (λ handle. by handle (same_or at handle)) named once unnamed
     where
       by : (handle : ℕ) → SameOr at handle → inside tree.files handle ≡ inside files handle
       by handle (inl same) = omega (arith, inside_at, ap {B = ℕ} one_if other, ap (inside files) same.1, ap (inside tree.files) same.1)
@@ -220,8 +219,8 @@ module _ (tree : Tree) (was : IsFileTree tree) (directory : File) (at : ℕ) (no
       by (Path path) is less = absurd (omega (arith, less))
       by (Names parent next names) is less = omega (arith, less)
 
-  pub made_directory_keeps : is_directory new ≡ true → IsFileTree (changed (with_new (changed tree at (entered now name made)) new) at with_subdirectory)
-  made_directory_keeps is = subst (λ (t : Tree). IsFileTree (changed t at with_subdirectory)) commutes (tree_of (changed next at with_subdirectory) links (plus at (inside tree.files)) depth
+  pub made_directory_keeps : is_directory new ≡ true → IsFileTree (changed (changed (with_new tree new) at (entered now name made)) at with_subdirectory)
+  made_directory_keeps is = tree_of (changed next at with_subdirectory) links (plus at (inside tree.files)) depth
       (stage_refers (record plan { ref = first; inside = plus at (inside tree.files) }) grown (stage_grown (record plan { ref = first }) files stage at room) grown
       (λ handle f entry is within. stays_then first files grown entry.handle
       (stays_changed first at (entered now name made) entry.handle (λ g. refl) (λ same g g_is. parent_with name made g.body))
@@ -230,7 +229,7 @@ module _ (tree : Tree) (was : IsFileTree tree) (directory : File) (at : ℕ) (no
       (λ handle. by handle (same_or at handle) ∙ sym (inside_kept files at with_subdirectory (λ f. refl) (λ f. refl) (λ f. refl) handle))
       (every_kept (λ handle f. handle ≢ tree.root → 1 ≤ links handle) files at with_subdirectory (λ f. refl) (λ handle f h. h) named)
       (every_kept (λ handle f. is_directory f ≡ true → links handle ≤ 1) files at with_subdirectory (λ f. refl) (λ handle f h. h) once)
-      unnamed)
+      unnamed
     where
       by : (handle : ℕ) → SameOr at handle → plus at (inside tree.files) handle ≡ inside files handle
       by handle (inl same) = omega (arith, inside_at, ap {B = ℕ} one_if is, ap (inside files) same.1, ap (inside tree.files) same.1, one_here at, ap {B = ℕ} (λ (h : ℕ). one_if (at == h)) same.1)
@@ -240,14 +239,16 @@ module _ (tree : Tree) (was : IsFileTree tree) (directory : File) (at : ℕ) (no
     (is_there : file_at tree.files at ≡ Some directory) (is_one : is_directory directory ≡ true)
     (good : is_bad name ≡ false) (absent : entry_named (names_of directory.body) name ≡ None)
     (gone : file_at tree.files new.handle ≡ None) (is_new : IsNew at new) where
-  grows : Grows tree (with_new (changed tree at (entered now name new.handle)) new)
-  grows = grows_new tree (changed tree at (entered now name new.handle)) new fresh (grows_changed tree tree at (entered now name new.handle) (λ f. refl) (grows_same tree))
+  pub made_follows : Follows tree (changed (with_new tree new) at (entering now name new.handle (is_directory new)))
+  made_follows = by (is_directory new) refl
+    where
+      grows : (counts : Bool) → Grows tree (changed (with_new tree new) at (entering now name new.handle counts))
+      grows counts = grows_changed tree (with_new tree new) at (entering now name new.handle counts) (λ f. refl) (grows_new tree tree new fresh (grows_same tree))
 
-  pub made_follows : is_directory new ≡ false → Follows tree (with_new (changed tree at (entered now name new.handle)) new)
-  made_follows other = record { is = made_keeps tree was directory at now name new is_there is_one good absent gone is_new other; grows = grows }
-
-  pub made_directory_follows : is_directory new ≡ true → Follows tree (changed (with_new (changed tree at (entered now name new.handle)) new) at with_subdirectory)
-  made_directory_follows is = record {
-    is = made_directory_keeps tree was directory at now name new is_there is_one good absent gone is_new is;
-    grows = grows_changed tree (with_new (changed tree at (entered now name new.handle)) new) at with_subdirectory (λ f. refl) grows;
-  }
+      by : (counts : Bool) → is_directory new ≡ counts → Follows tree (changed (with_new tree new) at (entering now name new.handle counts))
+      by false other = record { is = made_keeps tree was directory at now name new is_there is_one good absent gone is_new other; grows = grows false }
+      by true is = record {
+        is = subst (λ (l : List File). IsFileTree (record (with_new tree new) { files = l })) (changed_twice (with_file tree.files new) at (entered now name new.handle) with_subdirectory (λ f. refl))
+            (made_directory_keeps tree was directory at now name new is_there is_one good absent gone is_new is);
+        grows = grows true;
+      }

@@ -1,5 +1,5 @@
 -- CREATE, SYMLINK, MKDIR and LINK keep a file tree.
-use Rattle.std.proofs.Common.{◌≡◌, ℕ, ◌<◌, ◌^◌, arith, Bool, true, false, List, [], replicate, Some, None, Option, refl, sym, ◌∙◌, subst}
+use Rattle.std.proofs.Common.{ap, ◌≡◌, ℕ, ◌<◌, ◌^◌, arith, Bool, true, false, List, [], replicate, Some, None, Option, refl, sym, ◌∙◌, subst}
 use Rattle.std.specs.Prelude.{◌==◌, ◌%◌, ◌&&◌, not, if◌then◌else◌, nat_lt, nat_le, is_some, length, Contains, Result, Ok}
 use Rattle.std.specs.List.{list_any}
 use Rattle.std.proofs.lemmas.Bool.{and_parts, eq-eqb, not-false, not-true}
@@ -18,8 +18,8 @@ use Rattle.bx_model.specs.Attributes.{fileid}
 use Rattle.bx_model.specs.Edits.{changed, is_unused}
 use Rattle.bx_model.specs.Files.{file_at, is_directory, is_regular}
 use Rattle.bx_model.specs.FileTrees.{IsFileTree}
-use Rattle.bx_model.specs.Making.{create, create_at, create_new, create_over, directory_to_change, entry_errors, has_entry, link, mkdir, new_file, symlink}
-use Rattle.bx_model.specs.Names.{is_bad, names_of, entry_named}
+use Rattle.bx_model.specs.Making.{create, create_at, create_errors, create_new, create_over, directory_to_change, entry_errors, has_entry, link, mkdir, new_file, new_place, searched_directory, symlink}
+use Rattle.bx_model.specs.Names.{names_of}
 use Rattle.bx_model.specs.Permissions.{may}
 use Rattle.bx_model.specs.Reading.{handle_reply, named_file}
 use Rattle.bx_model.specs.Steps.{Step}
@@ -28,11 +28,12 @@ use Rattle.bx_model.specs.Times.{Time, is_given}
 use Rattle.bx_model.specs.Writing.{most_bytes, resize_errors, with_size}
 use Rattle.bx_tree_laws.proofs.Grows.{Follows, follows_same}
 use Rattle.bx_tree_laws.proofs.Linked.{linked_follows}
-use Rattle.bx_tree_laws.proofs.Made.{IsNew, made_follows, made_directory_follows}
+use Rattle.bx_tree_laws.proofs.Made.{IsNew, made_follows}
 use Rattle.bx_tree_laws.proofs.Members.{found_at}
 use Rattle.bx_tree_laws.proofs.Steps.{after, after_bind, after_must, after_refuse, next_is}
 use Rattle.bx_tree_laws.proofs.Touched.{touched_follows}
 use Rattle.bx_tree_laws.proofs.Writings.{resize_fits, size_touch, within}
+use Rattle.bx_model.specs.Entries.{entry_named, is_bad}
 
 -- a step that keeps a file tree, whatever unused handle its file gets
 abbrev pub StepKeeps : Tree → Step → Type 0
@@ -81,6 +82,29 @@ directory_is tree call at name directory e =
     by : (file : File) → ◌≡◌ {A = Result File ℕ} (Ok file) (Ok directory) → IsDirectory tree name file → IsDirectory tree name directory
     by file e is = let same : file ≡ directory = cc in subst (IsDirectory tree name) same is
 
+pub searched_is : (tree : Tree) (call : Call) (at name : List ℕ) (directory : File) → searched_directory tree call at name ≡ Ok directory → IsDirectory tree name directory
+searched_is tree call at name directory e =
+    after_must (named_file tree at) STALE _ directory e λ file found rest.
+    after_refuse (not (is_directory file)) NOTDIR _ directory rest λ is rest.
+    after_refuse (is_bad name) ACCES _ directory rest λ good rest.
+    after_refuse (not (may call file want.Search)) ACCES _ directory rest λ may rest.
+    by file rest record { there = found_at tree at file found; is = not-false (is_directory file) is; good = good }
+  where
+    by : (file : File) → ◌≡◌ {A = Result File ℕ} (Ok file) (Ok directory) → IsDirectory tree name file → IsDirectory tree name directory
+    by file e is = let same : file ≡ directory = cc in subst (IsDirectory tree name) same is
+
+pub place_is : (tree : Tree) (call : Call) (at name : List ℕ) (spare : ℕ) (directory : File) → new_place tree call at name spare ≡ Ok directory
+    → IsDirectory tree name directory × (entry_named (names_of directory.body) name ≡ None)
+place_is tree call at name spare directory e =
+    after_bind (directory_to_change tree call at name) _ directory e λ file changes rest.
+    after_refuse (has_entry file name) EXIST _ directory rest λ absent rest.
+    after (entry_errors file spare) _ directory rest λ room rest.
+    by file rest (directory_is tree call at name file changes) (none_is _ absent)
+  where
+    by : (file : File) → ◌≡◌ {A = Result File ℕ} (Ok file) (Ok directory) → IsDirectory tree name file → entry_named (names_of file.body) name ≡ None
+        → IsDirectory tree name directory × (entry_named (names_of directory.body) name ≡ None)
+    by file e is absent = let same : file ≡ directory = cc in (subst (IsDirectory tree name) same is, ap (λ (f : File). entry_named (names_of f.body) name) (sym same) ∙ absent)
+
 -- ---- new files
 
 mode_fits : (given : Bool) (bits mode : ℕ) → mode < 2 ^ 12 → (if given then bits % 4096 else mode) < 2 ^ 12
@@ -90,7 +114,7 @@ mode_fits false bits mode less = less
 module _ (call : Call) (sattr : Sattr) (now : Time) (at made : ℕ) where
   new_bytes : (bytes : List ℕ) → length bytes < 2 ^ 31 → IsNew at (new_file call sattr now 0o644 made (body.Bytes bytes))
   new_bytes bytes fits = record {
-    is_file = record { kind = refl; mode = mode_fits (is_given sattr.mode) sattr.mode 0o644 (omega arith); size = fits; links = tt };
+    is_file = record { kind = refl; mode = mode_fits (is_given sattr.mode) sattr.mode 0o644 (omega arith); size = fits; numbers = tt };
     none = refl;
     count = refl;
     parent_is = λ above next names e. absurd (conflict above next names e);
@@ -101,7 +125,7 @@ module _ (call : Call) (sattr : Sattr) (now : Time) (at made : ℕ) where
 
   new_path : (path : List ℕ) → length path < 2 ^ 31 → IsNew at (new_file call sattr now 0o777 made (body.Path path))
   new_path path fits = record {
-    is_file = record { kind = refl; mode = mode_fits (is_given sattr.mode) sattr.mode 0o777 (omega arith); size = fits; links = tt };
+    is_file = record { kind = refl; mode = mode_fits (is_given sattr.mode) sattr.mode 0o777 (omega arith); size = fits; numbers = tt };
     none = refl;
     count = refl;
     parent_is = λ above next names e. absurd (conflict above next names e);
@@ -112,7 +136,7 @@ module _ (call : Call) (sattr : Sattr) (now : Time) (at made : ℕ) where
 
   new_directory : IsNew at (new_file call sattr now 0o755 made (body.Names at 3 []))
   new_directory = record {
-    is_file = record { kind = refl; mode = mode_fits (is_given sattr.mode) sattr.mode 0o755 (omega arith); size = omega arith; links = omega arith };
+    is_file = record { kind = refl; mode = mode_fits (is_given sattr.mode) sattr.mode 0o755 (omega arith); size = omega arith; numbers = (omega arith, tt) };
     none = refl;
     count = refl;
     parent_is = λ above next names e. same above next names e;
@@ -127,21 +151,25 @@ module _ (tree : Tree) (was : IsFileTree tree) (call : Call) (name : List ℕ) (
   create_new_keeps : (directory : File) (spare : ℕ) (step : Step) → IsDirectory tree name directory → entry_named (names_of directory.body) name ≡ None
       → create_new tree call directory name sattr now spare ≡ Ok step → StepKeeps tree step
   create_new_keeps directory spare step is absent e =
-      after_refuse (not (may call directory want.Change)) ACCES _ step e λ may rest.
-      after_refuse (is_given sattr.size && nat_lt most_bytes sattr.size) FBIG _ step rest λ fits rest.
-      after (entry_errors directory spare) _ step rest λ room rest.
+      after (create_errors call directory sattr spare) _ step e λ allowed rest.
       step_is tree _ step rest (λ made unused.
       made_follows tree was directory directory.handle now name (new_file call sattr now 0o644 made (body.Bytes (replicate (if is_given sattr.size then sattr.size else 0) 0))) (unused_fresh tree made unused)
       is.there is.is is.good absent (unused_gone tree made was unused)
-      (new_bytes call sattr now directory.handle made (replicate (if is_given sattr.size then sattr.size else 0) 0) (short (is_given sattr.size) (within (is_given sattr.size) sattr.size fits))) refl)
+      (new_bytes call sattr now directory.handle made (replicate (if is_given sattr.size then sattr.size else 0) 0) (short (is_given sattr.size) (size_fits directory spare allowed))))
     where
       short : (given : Bool) → (given ≡ true → sattr.size < 2 ^ 31) → length {A = ℕ} (replicate (if given then sattr.size else 0) 0) < 2 ^ 31
       short true fits = simp length-replicate (fits refl)
       short false fits = omega arith
 
-  create_over_keeps : (entry : Name) (step : Step) → create_over tree call entry sattr now ≡ Ok step → StepKeeps tree step
-  create_over_keeps entry step e =
-      after_must (file_at tree.files entry.handle) STALE _ step e λ file found rest.
+      size_fits : (directory : File) (spare : ℕ) → create_errors call directory sattr spare ≡ Ok tt → is_given sattr.size ≡ true → sattr.size < 2 ^ 31
+      size_fits directory spare e given =
+          after_refuse (not (may call directory want.Change)) ACCES _ tt e λ may rest.
+          after_refuse (is_given sattr.size && nat_lt most_bytes sattr.size) FBIG _ tt rest λ fits rest.
+          within (is_given sattr.size) sattr.size fits given
+
+  create_over_keeps : (handle : ℕ) (step : Step) → create_over tree call handle sattr now ≡ Ok step → StepKeeps tree step
+  create_over_keeps handle step e =
+      after_must (file_at tree.files handle) STALE _ step e λ file found rest.
       after_refuse (not (is_regular file)) EXIST _ step rest λ regular rest.
       after (resize_errors call file sattr.size) _ step rest λ fits rest.
       by file (is_given sattr.size) (resize_fits call file sattr.size fits) rest
@@ -154,36 +182,29 @@ module _ (tree : Tree) (was : IsFileTree tree) (call : Call) (name : List ℕ) (
 
   pub create_keeps : (at : List ℕ) (spare : ℕ) (step : Step) → create tree call at name sattr now spare ≡ Ok step → StepKeeps tree step
   create_keeps at spare step e =
-      after_must (named_file tree at) STALE _ step e λ directory found rest.
-      after_refuse (not (is_directory directory)) NOTDIR _ step rest λ is rest.
-      after_refuse (is_bad name) ACCES _ step rest λ good rest.
-      after_refuse (not (may call directory want.Search)) ACCES _ step rest λ may rest.
-      by directory record { there = found_at tree at directory found; is = not-false (is_directory directory) is; good = good } (entry_named (names_of directory.body) name) refl rest
+      after_bind (searched_directory tree call at name) _ step e λ directory searched rest.
+      by directory (searched_is tree call at name directory searched) (entry_named (names_of directory.body) name) refl rest
     where
       by : (directory : File) → IsDirectory tree name directory → (found : Option Name) → entry_named (names_of directory.body) name ≡ found
           → create_at tree call directory name sattr now spare found ≡ Ok step → StepKeeps tree step
       by directory is None absent rest = create_new_keeps directory spare step is absent rest
-      by directory is (Some entry) present rest = create_over_keeps entry step rest
+      by directory is (Some entry) present rest = create_over_keeps entry.handle step rest
 
   pub symlink_keeps : (at path : List ℕ) (spare : ℕ) (step : Step) → length path < 2 ^ 31 → symlink tree call at name path sattr now spare ≡ Ok step → StepKeeps tree step
   symlink_keeps at path spare step fits e =
-      after_bind (directory_to_change tree call at name) _ step e λ directory changes rest.
-      after_refuse (has_entry directory name) EXIST _ step rest λ absent rest.
-      after (entry_errors directory spare) _ step rest λ room rest.
-      let is = directory_is tree call at name directory changes in
+      after_bind (new_place tree call at name spare) _ step e λ directory placed rest.
+      let is = place_is tree call at name spare directory placed in
       step_is tree _ step rest (λ made unused.
-      made_follows tree was directory directory.handle now name (new_file call sattr now 0o777 made (body.Path path)) (unused_fresh tree made unused) is.there is.is is.good (none_is _ absent) (unused_gone tree made was unused)
-      (new_path call sattr now directory.handle made path fits) refl)
+      made_follows tree was directory directory.handle now name (new_file call sattr now 0o777 made (body.Path path)) (unused_fresh tree made unused) is.0.there is.0.is is.0.good is.1 (unused_gone tree made was unused)
+      (new_path call sattr now directory.handle made path fits))
 
   pub mkdir_keeps : (at : List ℕ) (spare : ℕ) (step : Step) → mkdir tree call at name sattr now spare ≡ Ok step → StepKeeps tree step
   mkdir_keeps at spare step e =
-      after_bind (directory_to_change tree call at name) _ step e λ directory changes rest.
-      after_refuse (has_entry directory name) EXIST _ step rest λ absent rest.
-      after (entry_errors directory spare) _ step rest λ room rest.
-      let is = directory_is tree call at name directory changes in
+      after_bind (new_place tree call at name spare) _ step e λ directory placed rest.
+      let is = place_is tree call at name spare directory placed in
       step_is tree _ step rest (λ made unused.
-      made_directory_follows tree was directory directory.handle now name (new_file call sattr now 0o755 made (body.Names directory.handle 3 [])) (unused_fresh tree made unused) is.there is.is is.good (none_is _ absent)
-      (unused_gone tree made was unused) (new_directory call sattr now directory.handle made) refl)
+      made_follows tree was directory directory.handle now name (new_file call sattr now 0o755 made (body.Names directory.handle 3 [])) (unused_fresh tree made unused) is.0.there is.0.is is.0.good is.1
+      (unused_gone tree made was unused) (new_directory call sattr now directory.handle made))
 
 pub link_keeps : (tree : Tree) (call : Call) (from at name : List ℕ) (now : Time) (spare : ℕ) (reply : Reply) (next : Tree) → IsFileTree tree → link tree call from at name now spare ≡ Ok (reply, next) → Follows tree next
 link_keeps tree call from at name now spare reply next was e =

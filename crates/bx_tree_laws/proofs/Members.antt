@@ -9,7 +9,7 @@ use Rattle.bx_model.specs.declared.file.Body.TheVariants.{Bytes, Path, Names}
 use Rattle.bx_model.specs.declared.file.File.{File}
 use Rattle.bx_model.specs.declared.file.Name.{Name}
 use Rattle.bx_model.specs.declared.tree.Tree.{Tree}
-use Rattle.bx_model.specs.Files.{IsFile, LinksBelowNext, file_at, is_directory, kind_of}
+use Rattle.bx_model.specs.Files.{IsFile, IsNumbered, file_at, is_directory, kind_of}
 use Rattle.bx_model.specs.FileTrees.{HasEntries, HasLinks, IsEntryOf, IsFileTree, is_directory_in, is_directory_at, links_to}
 use Rattle.bx_model.specs.Names.{names_of, next_of}
 use Rattle.bx_model.specs.Reading.{named_file}
@@ -48,10 +48,10 @@ body_entry files handle (Bytes bytes) entry has there = absurd (none_contained e
 body_entry files handle (Path path) entry has there = absurd (none_contained entry there)
 body_entry files handle (Names parent next names) entry has there = has.each entry there
 
-body_below : (nlink : ℕ) (body : Body) → IsNames body → LinksBelowNext nlink body → nlink < next_of body
+body_below : (nlink : ℕ) (body : Body) → IsNames body → IsNumbered nlink body → nlink < next_of body
 body_below nlink (Bytes bytes) is below = let no : Bytes bytes ≡ Names is.parent is.next is.names = is.is in absurd cc
 body_below nlink (Path path) is below = let no : Path path ≡ Names is.parent is.next is.names = is.is in absurd cc
-body_below nlink (Names parent next names) is below = below
+body_below nlink (Names parent next names) is below = below.0
 
 module _ (tree : Tree) (was : IsFileTree tree) where
   module _ (handle : ℕ) (file : File) (there : file_at tree.files handle ≡ Some file) where
@@ -74,7 +74,7 @@ module _ (tree : Tree) (was : IsFileTree tree) where
     entry_of entry is = body_entry tree.files handle file.body entry (was.entries handle file there) is
 
     pub links_below : is_directory file ≡ true → file.nlink < next_of file.body
-    links_below directory = body_below file.nlink file.body (is_names directory) is_file.links
+    links_below directory = body_below file.nlink file.body (is_names directory) is_file.numbers
 
     -- a file that an entry names isn't the root
     pub entry_not_root : (entry : Name) → Contains (names_of file.body) entry → entry.handle ≢ tree.root

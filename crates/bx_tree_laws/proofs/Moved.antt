@@ -10,9 +10,7 @@ use Rattle.bx_model.specs.declared.tree.Tree.{Tree}
 use Rattle.bx_model.specs.Edits.{with_changed}
 use Rattle.bx_model.specs.Files.{file_at, is_directory, kind_of}
 use Rattle.bx_model.specs.FileTrees.{IsFileTree, is_directory_in, is_directory_at, links_to}
-use Rattle.bx_model.specs.Making.{entered}
-use Rattle.bx_model.specs.Names.{is_bad, names_of, entry_named, with_parent, without_entry}
-use Rattle.bx_model.specs.Removing.{taken_out}
+use Rattle.bx_model.specs.Names.{names_of, with_parent, without_entry}
 use Rattle.bx_model.specs.Renaming.{moved_to}
 use Rattle.bx_model.specs.Times.{Time}
 use Rattle.bx_tree_laws.specs.Every.{Every}
@@ -29,6 +27,8 @@ use Rattle.bx_tree_laws.proofs.Stages.{one_here, stage_entered, stage_moved, sta
 use Rattle.bx_tree_laws.proofs.Stays.{moved_parent, names_moved, parent_moved, parent_with, parent_without, stays_changed, stays_moved, stays_then}
 use Rattle.bx_tree_laws.proofs.Taken.{taken_away, taken_inside, taken_links, to_not_root}
 use Rattle.bx_tree_laws.proofs.Whole.{plan_of, stage_of}
+use Rattle.bx_model.specs.Entries.{entry_named, is_bad}
+use Rattle.bx_tree_laws.proofs.Halves.{entered, taken_out}
 
 -- a depth that still tells directories from those above them, once one is below another
 pub record StillDeeper (tree : Tree) (depth : ℕ → ℕ) (top to : ℕ) : Type 0 where

@@ -15,7 +15,7 @@ only_root handle file e = by (eqb_tells 1 handle) e
     by (inr other) e = let is : None ≡ Some file = rw other.0 at e in absurd cc
 
 root_is : IsFile opening_root
-root_is = record { kind = refl; mode = omega arith; size = omega arith; links = omega arith }
+root_is = record { kind = refl; mode = omega arith; size = omega arith; numbers = (omega arith, tt) }
 
 pub opening_is : (volume : ℕ) → IsFileTree (opening volume)
 opening_is volume = record {

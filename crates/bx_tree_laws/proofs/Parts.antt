@@ -9,12 +9,14 @@ use Rattle.bx_model.specs.declared.file.Body.{Body}
 use Rattle.bx_model.specs.declared.file.Body.TheVariants.{Bytes, Path, Names}
 use Rattle.bx_model.specs.declared.file.File.{File}
 use Rattle.bx_model.specs.declared.file.Name.{Name}
-use Rattle.bx_model.specs.Files.{LinksBelowNext, file_at}
+use Rattle.bx_model.specs.Files.{file_at}
 use Rattle.bx_model.specs.FileTrees.{AreEntriesOf, IsEntryOf}
-use Rattle.bx_model.specs.Names.{is_bad, names_of, entry_named, with_entry, without_entry, with_parent}
+use Rattle.bx_model.specs.Names.{names_of, with_entry, without_entry, with_parent}
 use Rattle.bx_model.specs.Writing.{overwritten, resized}
 use Rattle.bx_tree_laws.proofs.Entries.{others, other_contained, none_found}
 use Rattle.bx_tree_laws.proofs.Plans.{Plan, IsPart, IsNearer, HasCount}
+use Rattle.bx_model.specs.Entries.{entry_named, is_bad}
+use Rattle.bx_tree_laws.proofs.Halves.{LinksBelowNext}
 
 -- a directory in the place of another has its parent
 abbrev pub SameParent : Body → Body → Type 0

@@ -6,12 +6,13 @@ use Rattle.bx_model.specs.declared.file.Body.{Body}
 use Rattle.bx_model.specs.declared.file.Body.TheVariants.{Bytes, Path, Names}
 use Rattle.bx_model.specs.declared.file.File.{File}
 use Rattle.bx_model.specs.Edits.{with_changed, without_file}
-use Rattle.bx_model.specs.Files.{LinksBelowNext, file_at, kind_of, size_of, with_file}
+use Rattle.bx_model.specs.Files.{file_at, kind_of, size_of, with_file}
 use Rattle.bx_model.specs.FileTrees.{HasEntries}
 use Rattle.bx_tree_laws.specs.Every.{Every}
 use Rattle.bx_tree_laws.proofs.Everys.{every_changed, every_without, every_with}
 use Rattle.bx_tree_laws.proofs.Lookups.{SameOr, same_or, changed_here, changed_other, without_other, with_other}
 use Rattle.bx_tree_laws.proofs.Rises.{Rise, rise_changed, rise_without, rise_with}
+use Rattle.bx_tree_laws.proofs.Halves.{LinksBelowNext}
 
 -- The root, the files that entries name, how many links files have and how many directories are in one, how deep
 -- directories are, and the handles that were given out.

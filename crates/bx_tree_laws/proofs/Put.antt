@@ -1,38 +1,15 @@
--- A file put in: the order of edits doesn't matter, and what is counted.
+-- A file put in: the handles given out, and what is counted.
 use Rattle.std.proofs.Common.{◌≡◌, ℕ, Bool, true, false, List, [], ◌∷◌, Some, None, refl, sym, ap, ◌∙◌, subst, inl, inr}
 use Rattle.std.specs.Prelude.{◌≢◌, ◌==◌, ◌⊎◌, if◌then◌else◌, nat_lt, Contains}
-use Rattle.std.proofs.lemmas.Bool.{ne_eqb}
 use Rattle.bx_model.specs.declared.file.File.{File}
 use Rattle.bx_model.specs.declared.file.Name.{Name}
-use Rattle.bx_model.specs.Edits.{with_changed, with_handle}
 use Rattle.bx_model.specs.Files.{file_at, with_file}
 use Rattle.bx_model.specs.FileTrees.{is_directory_in}
 use Rattle.bx_model.specs.Names.{names_of}
 use Rattle.bx_tree_laws.proofs.Counts.{contains_first, contains_later, contained_cases, none_contained}
 use Rattle.bx_tree_laws.proofs.Inside.{inside, inside_same, names_at, names_in}
 use Rattle.bx_tree_laws.proofs.Lookups.{SameOr, same_or, file_at-with, with_other}
-
-pub with_commutes : (files : List File) (new : File) (at : ℕ) (change : File → File) → ((file : File) → (change file).handle ≡ file.handle) → at ≢ new.handle
-    → with_file (with_changed files at change) new ≡ with_changed (with_file files new) at change
-with_commutes [] new at change keeps apart = rw (ne_eqb new.handle at (λ e. apart (sym e))) refl
-with_commutes (x ∷ files) new at change keeps apart =
-    by (same_or x.handle at) (x.handle == new.handle) refl (nat_lt new.handle x.handle) refl (ne_eqb new.handle at (λ e. apart (sym e))) (with_commutes files new at change keeps apart)
-  where
-    test : (x.handle == new.handle) ≡ ((change x).handle == new.handle)
-    test = ap (λ (n : ℕ). n == new.handle) (sym (keeps x))
-
-    less : nat_lt new.handle x.handle ≡ nat_lt new.handle (change x).handle
-    less = ap (λ (n : ℕ). nat_lt new.handle n) (sym (keeps x))
-
-    by : SameOr x.handle at → (b : Bool) → (x.handle == new.handle) ≡ b → (c : Bool) → nat_lt new.handle x.handle ≡ c → (new.handle == at) ≡ false
-        → with_file (with_changed files at change) new ≡ with_changed (with_file files new) at change
-        → with_file (with_changed (x ∷ files) at change) new ≡ with_changed (with_file (x ∷ files) new) at change
-    by (inl same) true t c u other later = rw (same.0, sym test ∙ t, t, other) refl
-    by (inl same) false t true u other later = rw (same.0, sym test ∙ t, sym less ∙ u, t, u, other, same.0) refl
-    by (inl same) false t false u other later = rw (same.0, sym test ∙ t, sym less ∙ u, t, u, same.0) (ap (λ (l : List File). change x ∷ l) later)
-    by (inr away) true t c u other later = rw (away.0, t, other) refl
-    by (inr away) false t true u other later = rw (away.0, t, u, other, away.0) refl
-    by (inr away) false t false u other later = rw (away.0, t, u, away.0) (ap (λ (l : List File). x ∷ l) later)
+use Rattle.bx_model.specs.Given.{with_handle}
 
 -- a handle that was given out stays so, and the new one is
 pub handle_stays : (handles : List ℕ) (new handle : ℕ) → Contains handles handle → Contains (with_handle handles new) handle

@@ -9,9 +9,7 @@ use Rattle.bx_model.specs.declared.tree.Tree.{Tree}
 use Rattle.bx_model.specs.Edits.{changed, with_changed}
 use Rattle.bx_model.specs.Files.{file_at, is_directory}
 use Rattle.bx_model.specs.FileTrees.{IsFileTree, links_to}
-use Rattle.bx_model.specs.Making.{entered, with_subdirectory}
-use Rattle.bx_model.specs.Names.{is_bad, names_of, next_of, entry_named, with_entry}
-use Rattle.bx_model.specs.Removing.{taken_out, without_subdirectory}
+use Rattle.bx_model.specs.Names.{names_of, next_of, with_entry}
 use Rattle.bx_model.specs.Renaming.{moved_to}
 use Rattle.bx_model.specs.Times.{Time}
 use Rattle.bx_tree_laws.proofs.Away.{next_without}
@@ -28,6 +26,10 @@ use Rattle.bx_tree_laws.proofs.Stays.{parent_same, stays_changed, stays_then}
 use Rattle.bx_tree_laws.proofs.Taken.{to_not_root}
 use Rattle.bx_tree_laws.proofs.Walks.{Cut}
 use Rattle.bx_tree_laws.proofs.Whole.{plan_of, tree_of}
+use Rattle.bx_model.specs.Entries.{entry_named, is_bad}
+use Rattle.bx_model.specs.Making.{entered as entering}
+use Rattle.bx_model.specs.Removing.{taken_out as taking_out}
+use Rattle.bx_tree_laws.proofs.Halves.{changed_apart, changed_twice, entered, taken_out, with_subdirectory, without_subdirectory}
 
 module _ (tree : Tree) (was : IsFileTree tree) (source target moved : File) (from to top : ℕ) (now : Time) (name new_name : List ℕ) (entry : Name)
     (source_there : file_at tree.files from ≡ Some source) (source_is : is_directory source ≡ true)
@@ -210,3 +212,19 @@ module _ (tree : Tree) (was : IsFileTree tree) (source target moved : File) (fro
         (every_kept (λ handle f. is_directory f ≡ true → links_to tree.files handle ≤ 1) files from without_subdirectory (λ f. refl) (λ handle f h. h)
         (moved_once tree was source target moved from to top now name new_name entry depth source_there target_there moved_there found names_it target_names good absent deeper)))
         was.root_unnamed
+
+    -- the same, as the call does it
+    pub moved_at_once : IsFileTree (changed (changed (changed tree from (taking_out now name true)) to (entering now new_name top true)) top (moved_to now to))
+    moved_at_once = subst (λ (l : List File). IsFileTree (record tree { files = l })) same moved_keeps
+      where
+        same : counted ≡ with_changed (with_changed (with_changed tree.files from (taking_out now name true)) to (entering now new_name top true)) top (moved_to now to)
+        same =
+            ap (λ (l : List File). with_changed l to with_subdirectory)
+            (changed_apart (with_changed (with_changed tree.files from (taken_out now name)) to (entered now new_name top)) top from (moved_to now to) without_subdirectory (λ f. refl) (λ f. refl) top_not_from)
+            ∙ ap (λ (l : List File). with_changed (with_changed l top (moved_to now to)) to with_subdirectory)
+            (changed_apart (with_changed tree.files from (taken_out now name)) to from (entered now new_name top) without_subdirectory (λ f. refl) (λ f. refl) (λ e. apart (sym e)))
+            ∙ ap (λ (l : List File). with_changed (with_changed (with_changed l to (entered now new_name top)) top (moved_to now to)) to with_subdirectory)
+            (changed_twice tree.files from (taken_out now name) without_subdirectory (λ f. refl))
+            ∙ changed_apart (with_changed (with_changed tree.files from (taking_out now name true)) to (entered now new_name top)) top to (moved_to now to) with_subdirectory (λ f. refl) (λ f. refl) top_not_to
+            ∙ ap (λ (l : List File). with_changed l top (moved_to now to))
+            (changed_twice (with_changed tree.files from (taking_out now name true)) to (entered now new_name top) with_subdirectory (λ f. refl))

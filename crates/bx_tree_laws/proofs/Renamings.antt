@@ -12,11 +12,11 @@ use Rattle.bx_model.specs.declared.status.TheConstants.{ACCES, ISDIR, NAMETOOLON
 use Rattle.bx_model.specs.declared.tree.Tree.{Tree}
 use Rattle.bx_model.specs.Files.{file_at, is_directory}
 use Rattle.bx_model.specs.FileTrees.{IsFileTree}
-use Rattle.bx_model.specs.Names.{is_bad, names_of, entry_named}
+use Rattle.bx_model.specs.Names.{names_of}
 use Rattle.bx_model.specs.Permissions.{may}
 use Rattle.bx_model.specs.Reading.{named_file}
 use Rattle.bx_model.specs.Removing.{has_entries}
-use Rattle.bx_model.specs.Renaming.{changes_parent, file_of_entry, is_same, leads_by, move_errors, rename, renamed, replace_errors, with_counts, with_moved, without_replaced}
+use Rattle.bx_model.specs.Renaming.{changes_parent, file_of_entry, is_same, leads_by, move_errors, rename, renamed, replace_errors, with_moved, without_replaced}
 use Rattle.bx_model.specs.Steps.{◌>>◌}
 use Rattle.bx_model.specs.Times.{Time}
 use Rattle.bx_tree_laws.proofs.Away.{away_keeps, nothing_in}
@@ -26,10 +26,11 @@ use Rattle.bx_tree_laws.proofs.Grows.{Follows, follows_same, grows_renamed}
 use Rattle.bx_tree_laws.proofs.Lookups.{SameOr, same_or, handle_at, some_same}
 use Rattle.bx_tree_laws.proofs.Members.{entry_nearer, found_at, kinds_apart}
 use Rattle.bx_tree_laws.proofs.Removings.{stands}
-use Rattle.bx_tree_laws.proofs.Renamed.{moved_keeps, renamed_keeps}
+use Rattle.bx_tree_laws.proofs.Renamed.{moved_at_once, renamed_keeps}
 use Rattle.bx_tree_laws.proofs.Replaced.{Left, cut_left, left_is, left_root}
 use Rattle.bx_tree_laws.proofs.Steps.{after, after_bind, after_must, after_refuse, next_is, refused_not}
 use Rattle.bx_tree_laws.proofs.Walks.{Cut, cut_of}
+use Rattle.bx_model.specs.Entries.{entry_named, is_bad}
 
 -- The move itself, in a tree where the files stand that the call found, and no entry has the new name.
 pub record IsReady (tree : Tree) (source target moved : File) (name new_name : List ℕ) : Type 0 where
@@ -49,16 +50,16 @@ pub record IsReady (tree : Tree) (source target moved : File) (name new_name : L
   pub cut : changes_parent source target moved ≡ true → Cut tree moved.handle target.handle
 
 move_keeps : (tree : Tree) → IsFileTree tree → (source target moved : File) (now : Time) (name new_name : List ℕ) → is_bad new_name ≡ false → IsReady tree source target moved name new_name
-    → IsFileTree (with_counts (changes_parent source target moved) (with_moved now tree source name target new_name moved) source target)
+    → IsFileTree (with_moved now tree source name target new_name moved (changes_parent source target moved))
 move_keeps tree was source target moved now name new_name good r = by (is_directory moved) refl (same_or source.handle target.handle)
   where
     by : (b : Bool) → is_directory moved ≡ b → SameOr source.handle target.handle
-        → IsFileTree (with_counts (b && not (source.handle == target.handle)) (with_moved now tree source name target new_name moved) source target)
+        → IsFileTree (with_moved now tree source name target new_name moved (b && not (source.handle == target.handle)))
     by false is which = renamed_keeps tree was r.from r.to r.top source.handle target.handle moved.handle now name new_name r.entry r.from_there r.from_is r.to_there r.to_is r.top_there r.found r.names_it good r.absent
         (inr (r.top_is ∙ is))
     by true is (inl same) = rw same.0 (renamed_keeps tree was r.from r.to r.top source.handle target.handle moved.handle now name new_name r.entry r.from_there r.from_is r.to_there r.to_is r.top_there r.found r.names_it good r.absent
         (inl same.1))
-    by true is (inr apart) = rw apart.0 (moved_keeps tree was r.from r.to r.top source.handle target.handle moved.handle now name new_name r.entry r.from_there r.from_is r.to_there r.to_is r.top_there r.found r.names_it good r.absent
+    by true is (inr apart) = rw apart.0 (moved_at_once tree was r.from r.to r.top source.handle target.handle moved.handle now name new_name r.entry r.from_there r.from_is r.to_there r.to_is r.top_there r.found r.names_it good r.absent
         apart.1 (r.top_is ∙ is) (r.cut (ap (λ (b : Bool). b && not (source.handle == target.handle)) is ∙ ap not apart.0)))
 
 -- what a call found that meets no error

@@ -5,10 +5,11 @@ use Rattle.bx_model.specs.declared.file.Body.TheVariants.{Names}
 use Rattle.bx_model.specs.declared.file.File.{File}
 use Rattle.bx_model.specs.declared.file.Name.{Name}
 use Rattle.bx_model.specs.declared.tree.Tree.{Tree}
-use Rattle.bx_model.specs.Edits.{changed, with_changed, without_file}
+use Rattle.bx_model.specs.Edits.{without, changed, with_changed, without_file}
 use Rattle.bx_model.specs.Files.{file_at, is_directory}
 use Rattle.bx_model.specs.Names.{names_of}
-use Rattle.bx_model.specs.Removing.{taken_out, unlinked, without_directory, without_link, without_subdirectory}
+use Rattle.bx_model.specs.Removing.{taken_out, unlinked, without_link}
+use Rattle.bx_model.specs.Renaming.{without_replaced}
 use Rattle.bx_model.specs.Times.{Time}
 use Rattle.bx_tree_laws.specs.Every.{Every}
 use Rattle.bx_tree_laws.proofs.Entries.{others}
@@ -33,25 +34,25 @@ pub record Left (files now : List File) (at to : ℕ) (name : List ℕ) (directo
   pub kind : is_directory file ≡ is_directory directory
   pub parents : Every (KeepsParents files) now
 
-module _ (files : List File) (at to : ℕ) (now : Time) (name : List ℕ) (directory : File) (there : file_at files at ≡ Some directory) (apart : to ≢ at) where
+module _ (files : List File) (at to : ℕ) (now : Time) (name : List ℕ) (directory : File) (counts : Bool) (there : file_at files at ≡ Some directory) (apart : to ≢ at) where
   abbrev first : List File
-  first = with_changed files at (taken_out now name)
+  first = with_changed files at (taken_out now name counts)
 
-  first_here : file_at first at ≡ Some (taken_out now name directory)
-  first_here = changed_here files at (taken_out now name) directory (λ f. refl) there
+  first_here : file_at first at ≡ Some (taken_out now name counts directory)
+  first_here = changed_here files at (taken_out now name counts) directory (λ f. refl) there
 
   first_other : (handle : ℕ) → at ≢ handle → file_at first handle ≡ file_at files handle
-  first_other handle away = changed_other files at (taken_out now name) handle (λ f. refl) away
+  first_other handle away = changed_other files at (taken_out now name counts) handle (λ f. refl) away
 
   first_parents : Every (KeepsParents files) first
-  first_parents = every_kept (KeepsParents files) files at (taken_out now name) (λ f. refl)
+  first_parents = every_kept (KeepsParents files) files at (taken_out now name counts) (λ f. refl)
       (λ handle f keeps parent next names is. let old = parent_without name f.body parent next names is in keeps parent old.0 old.1 old.2)
       (λ handle f is parent next names body. (f, next, names, is, body))
 
-  left_few : Left files (without_file first to) at to name directory
-  left_few = record {
+  left_gone : Left files (without_file first to) at to name directory
+  left_gone = record {
     other = λ handle a b. without_other first to handle b ∙ first_other handle a;
-    file = taken_out now name directory;
+    file = taken_out now name counts directory;
     here = without_other first to at apart ∙ first_here;
     names = names_without name directory.body;
     kind = refl;
@@ -61,45 +62,29 @@ module _ (files : List File) (at to : ℕ) (now : Time) (name : List ℕ) (direc
   left_more : Left files (with_changed first to (unlinked now)) at to name directory
   left_more = record {
     other = λ handle a b. changed_other first to (unlinked now) handle (λ f. refl) b ∙ first_other handle a;
-    file = taken_out now name directory;
+    file = taken_out now name counts directory;
     here = changed_other first to (unlinked now) at (λ f. refl) apart ∙ first_here;
     names = names_without name directory.body;
     kind = refl;
     parents = every_kept (KeepsParents files) first to (unlinked now) (λ f. refl) (λ handle f keeps. keeps) first_parents;
   }
 
-  abbrev mid : List File
-  mid = with_changed first at without_subdirectory
-
-  left_directory : Left files (without_file mid to) at to name directory
-  left_directory = record {
-    other = λ handle a b. without_other mid to handle b ∙ changed_other first at without_subdirectory handle (λ f. refl) a ∙ first_other handle a;
-    file = without_subdirectory (taken_out now name directory);
-    here = without_other mid to at apart ∙ changed_here first at without_subdirectory (taken_out now name directory) (λ f. refl) first_here;
-    names = names_without name directory.body;
-    kind = refl;
-    parents = every_without (KeepsParents files) mid to
-        (λ handle f away is. every_kept (KeepsParents files) first at without_subdirectory (λ g. refl) (λ k g keeps. keeps) first_parents handle f is);
-  }
-
 pub left_is : (tree : Tree) (now : Time) (name : List ℕ) (directory file : File) → file_at tree.files directory.handle ≡ Some directory → file.handle ≢ directory.handle
-    → Left tree.files (if is_directory file then without_directory (changed tree directory.handle (taken_out now name)) directory file else without_link now (changed tree directory.handle (taken_out now name)) file).files
-    directory.handle file.handle name directory
+    → Left tree.files (without_replaced now tree directory name (Some file)).files directory.handle file.handle name directory
 left_is tree now name directory file there apart = by (is_directory file) (nat_le file.nlink 1) refl
   where
     by : (b few : Bool) → nat_le file.nlink 1 ≡ few
-        → Left tree.files (if b then without_directory (changed tree directory.handle (taken_out now name)) directory file else without_link now (changed tree directory.handle (taken_out now name)) file).files
+        → Left tree.files (if b then without (changed tree directory.handle (taken_out now name b)) file.handle else without_link now (changed tree directory.handle (taken_out now name b)) file.handle file.nlink).files
         directory.handle file.handle name directory
-    by true few t = left_directory tree.files directory.handle file.handle now name directory there apart
-    by false true t = rw t (left_few tree.files directory.handle file.handle now name directory there apart)
-    by false false t = rw t (left_more tree.files directory.handle file.handle now name directory there apart)
+    by true few t = left_gone tree.files directory.handle file.handle now name directory true there apart
+    by false true t = rw t (left_gone tree.files directory.handle file.handle now name directory false there apart)
+    by false false t = rw t (left_more tree.files directory.handle file.handle now name directory false there apart)
 
-pub left_root : (tree : Tree) (now : Time) (name : List ℕ) (directory file : File)
-    → (if is_directory file then without_directory (changed tree directory.handle (taken_out now name)) directory file else without_link now (changed tree directory.handle (taken_out now name)) file).root ≡ tree.root
+pub left_root : (tree : Tree) (now : Time) (name : List ℕ) (directory file : File) → (without_replaced now tree directory name (Some file)).root ≡ tree.root
 left_root tree now name directory file = by (is_directory file) (nat_le file.nlink 1) refl
   where
     by : (b few : Bool) → nat_le file.nlink 1 ≡ few
-        → (if b then without_directory (changed tree directory.handle (taken_out now name)) directory file else without_link now (changed tree directory.handle (taken_out now name)) file).root ≡ tree.root
+        → (if b then without (changed tree directory.handle (taken_out now name b)) file.handle else without_link now (changed tree directory.handle (taken_out now name b)) file.handle file.nlink).root ≡ tree.root
     by true few t = refl
     by false true t = rw t refl
     by false false t = rw t refl

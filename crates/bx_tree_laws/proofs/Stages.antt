@@ -8,14 +8,15 @@ use Rattle.bx_model.specs.declared.file.File.{File}
 use Rattle.bx_model.specs.declared.file.Name.{Name}
 use Rattle.bx_model.specs.Edits.{with_changed}
 use Rattle.bx_model.specs.Files.{file_at, is_directory}
-use Rattle.bx_model.specs.Making.{entered, linked, with_subdirectory}
+use Rattle.bx_model.specs.Making.{linked}
 use Rattle.bx_model.specs.Names.{names_of, next_of}
-use Rattle.bx_model.specs.Removing.{taken_out, unlinked, without_subdirectory}
+use Rattle.bx_model.specs.Removing.{unlinked}
 use Rattle.bx_model.specs.Renaming.{moved_to}
 use Rattle.bx_model.specs.Times.{Time}
 use Rattle.bx_tree_laws.proofs.Links.{one_if}
 use Rattle.bx_tree_laws.proofs.Parts.{MayEnter, Stays, part_counted, part_moved, part_referred, part_with, part_without}
 use Rattle.bx_tree_laws.proofs.Plans.{Plan, IsPart, HasCount, IsStage, stage_as, stage_changed}
+use Rattle.bx_tree_laws.proofs.Halves.{entered, taken_out, with_subdirectory, without_subdirectory}
 
 -- a count with one more at a handle, and with one less
 abbrev pub plus : ℕ → (ℕ → ℕ) → ℕ → ℕ

@@ -7,8 +7,7 @@ use Rattle.bx_model.specs.declared.tree.Tree.{Tree}
 use Rattle.bx_model.specs.Edits.{with_changed}
 use Rattle.bx_model.specs.Files.{file_at, is_directory}
 use Rattle.bx_model.specs.FileTrees.{IsFileTree, is_directory_at, links_to}
-use Rattle.bx_model.specs.Names.{names_of, entry_named}
-use Rattle.bx_model.specs.Removing.{taken_out}
+use Rattle.bx_model.specs.Names.{names_of}
 use Rattle.bx_model.specs.Times.{Time}
 use Rattle.bx_tree_laws.specs.Every.{Every}
 use Rattle.bx_tree_laws.proofs.Entries.{entry_found}
@@ -21,6 +20,8 @@ use Rattle.bx_tree_laws.proofs.Plans.{IsStage}
 use Rattle.bx_tree_laws.proofs.Stages.{stage_taken}
 use Rattle.bx_tree_laws.proofs.Stays.{parent_without, stays_changed}
 use Rattle.bx_tree_laws.proofs.Whole.{plan_of, stage_of}
+use Rattle.bx_model.specs.Entries.{entry_named}
+use Rattle.bx_tree_laws.proofs.Halves.{taken_out}
 
 module _ (tree : Tree) (was : IsFileTree tree) (directory : File) (at : ℕ) (now : Time) (name : List ℕ) (entry : Name) (to : ℕ)
     (is_there : file_at tree.files at ≡ Some directory) (found : entry_named (names_of directory.body) name ≡ Some entry) (names_it : entry.handle ≡ to) where

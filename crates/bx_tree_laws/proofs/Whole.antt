@@ -1,15 +1,18 @@
 -- A file tree is a stage of itself, and a stage that counts what is there is a file tree.
-use Rattle.std.proofs.Common.{◌≡◌, ℕ, ◌+◌, ◌<◌, ◌≤◌, true, List, Some, Option, refl, sym, ap, ◌∙◌, subst}
+use Rattle.std.proofs.Common.{◌≡◌, ℕ, ◌+◌, ◌<◌, ◌≤◌, true, List, [], ◌∷◌, Some, Option, refl, sym, ap, ◌∙◌, subst}
 use Rattle.std.specs.Prelude.{◌≢◌, Contains, count_by}
 use Rattle.bx_model.specs.declared.file.Body.{Body}
 use Rattle.bx_model.specs.declared.file.Body.TheVariants.{Bytes, Path, Names}
 use Rattle.bx_model.specs.declared.file.File.{File}
 use Rattle.bx_model.specs.declared.file.Name.{Name}
 use Rattle.bx_model.specs.declared.tree.Tree.{Tree}
-use Rattle.bx_model.specs.Files.{IsFile, file_at, is_directory}
-use Rattle.bx_model.specs.FileTrees.{IsFileTree, HasLinks, is_directory_at, links_to}
+use Rattle.bx_model.specs.Files.{IsFile, IsNumbered, file_at, is_directory}
+use Rattle.bx_model.specs.Entries.{AreBelow}
+use Rattle.bx_model.specs.FileTrees.{HasEntries, IsFileTree, HasLinks, is_directory_at, links_to}
 use Rattle.bx_model.specs.Names.{names_of}
 use Rattle.bx_tree_laws.specs.Every.{Every}
+use Rattle.bx_tree_laws.proofs.Counts.{contains_first, contains_later}
+use Rattle.bx_tree_laws.proofs.Halves.{LinksBelowNext}
 use Rattle.bx_tree_laws.proofs.Inside.{inside, names_in}
 use Rattle.bx_tree_laws.proofs.Lookups.{handle_at, some_same}
 use Rattle.bx_tree_laws.proofs.Plans.{Plan, HasCount, IsNearer, IsRootBody, IsStage}
@@ -23,6 +26,21 @@ inside_is : (files : List File) (handle : ℕ) (file : File) (parent next : ℕ)
 inside_is files handle file parent next names is body =
     ap (λ (found : Option File). count_by (λ (entry : Name). is_directory_at files entry.handle) (names_in found)) is
     ∙ ap (λ (b : Body). count_by (λ (entry : Name). is_directory_at files entry.handle) (names_of b)) body
+
+-- the next number of a directory
+pub below_next : (nlink : ℕ) (body : Body) → IsNumbered nlink body → LinksBelowNext nlink body
+below_next nlink (Bytes bytes) is = tt
+below_next nlink (Path path) is = tt
+below_next nlink (Names parent next names) is = is.0
+
+are_below : (next : ℕ) (names : List Name) → ((entry : Name) → Contains names entry → entry.number < next) → AreBelow next names
+are_below next [] all = tt
+are_below next (x ∷ names) all = (all x (contains_first x names), are_below next names (λ entry there. all entry (contains_later x entry names there)))
+
+numbers_of : (files : List File) (handle nlink : ℕ) (body : Body) → LinksBelowNext nlink body → HasEntries files handle body → IsNumbered nlink body
+numbers_of files handle nlink (Bytes bytes) below has = tt
+numbers_of files handle nlink (Path path) below has = tt
+numbers_of files handle nlink (Names parent next names) below has = (below, are_below next names (λ entry there. (has.each entry there).number))
 
 module _ (tree : Tree) where
   count_from : (handle : ℕ) (file : File) (body : Body) → file_at tree.files handle ≡ Some file → file.body ≡ body → HasLinks tree.files file body
@@ -51,7 +69,7 @@ module _ (tree : Tree) where
           kind_is = f.kind;
           mode_fits = f.mode;
           size_fits = f.size;
-          below_next = f.links;
+          below_next = below_next file.nlink file.body f.numbers;
           was_given = was.was_given handle file is;
           entries = was.entries handle file is;
           count = count_from handle file file.body is refl (was.links handle file is);
@@ -78,7 +96,7 @@ module _ (tree : Tree) where
     file_back : (file : File) → Contains tree.files file → IsFile file
     file_back file there =
         let part = stage.each file.handle file (at_contained tree.files file stage.rise there) in
-        record { kind = part.kind_is; mode = part.mode_fits; size = part.size_fits; links = part.below_next }
+        record { kind = part.kind_is; mode = part.mode_fits; size = part.size_fits; numbers = numbers_of tree.files file.handle file.nlink file.body part.below_next part.entries }
 
     root_body : (body : Body) → IsRootBody tree.root body → (next : ℕ) × (names : List Name) × (body ≡ Names tree.root next names)
     root_body (Bytes bytes) is = absurd is

@@ -9,7 +9,7 @@ use Rattle.bx_model.specs.declared.file.Body.TheVariants.{Bytes, Path, Names}
 use Rattle.bx_model.specs.declared.file.File.{File}
 use Rattle.bx_model.specs.declared.permissions.Want.TheVariants as want
 use Rattle.bx_model.specs.declared.reply.Reply.{Reply}
-use Rattle.bx_model.specs.declared.status.TheConstants.{ACCES, FBIG, ISDIR, NOSPC, NXIO, PERM, STALE}
+use Rattle.bx_model.specs.declared.status.TheConstants.{ACCES, FBIG, ISDIR, NXIO, PERM, STALE}
 use Rattle.bx_model.specs.declared.tree.Tree.{Tree}
 use Rattle.bx_model.specs.Edits.{changed}
 use Rattle.bx_model.specs.Files.{is_directory, is_link}
@@ -18,7 +18,7 @@ use Rattle.bx_model.specs.Names.{names_of}
 use Rattle.bx_model.specs.Permissions.{may}
 use Rattle.bx_model.specs.Reading.{named_file, attributes_reply}
 use Rattle.bx_model.specs.Times.{Time, is_given}
-use Rattle.bx_model.specs.Writing.{is_forbidden, is_full, most_bytes, overwritten, resize_errors, resized, setattr, with_data, with_fields, with_size, write}
+use Rattle.bx_model.specs.Writing.{is_forbidden, most_bytes, overwritten, resize_errors, resized, setattr, with_data, with_fields, with_size, write, write_errors}
 use Rattle.bx_tree_laws.proofs.Grows.{Follows, follows_same}
 use Rattle.bx_tree_laws.proofs.Parts.{SameParent, part_mode, part_overwritten, part_resized}
 use Rattle.bx_tree_laws.proofs.Plans.{IsPart, Plan}
@@ -102,16 +102,19 @@ setattr_keeps tree call at sattr now reply next was e =
     after (resize_errors call file sattr.size) _ (reply, next) rest λ fits rest.
     subst (Follows tree) (next_is _ reply _ next rest) (touched_follows tree file.handle (with_fields now sattr) (fields_touch now sattr (resize_fits call file sattr.size fits)) was)
 
+data_fits : (call : Call) (file : File) (offset count spare : ℕ) → write_errors call file offset count spare ≡ Ok tt → nat_lt 0 count && nat_lt most_bytes (offset + count) ≡ false
+data_fits call file offset count spare e =
+    after_refuse (is_directory file) ISDIR _ tt e λ directory rest.
+    after_refuse (is_link file) NXIO _ tt rest λ link rest.
+    after_refuse (not (may call file want.Write)) ACCES _ tt rest λ may rest.
+    after_refuse (nat_lt 0 count && nat_lt most_bytes (offset + count)) FBIG _ tt rest λ fits rest. fits
+
 pub write_keeps : (tree : Tree) (call : Call) (at : List ℕ) (offset : ℕ) (written : List ℕ) (now : Time) (spare : ℕ) (reply : Reply) (next : Tree) → IsFileTree tree
     → write tree call at offset written now spare ≡ Ok (reply, next) → Follows tree next
 write_keeps tree call at offset written now spare reply next was e =
     after_must (named_file tree at) STALE _ (reply, next) e λ file found rest.
-    after_refuse (is_directory file) ISDIR _ (reply, next) rest λ directory rest.
-    after_refuse (is_link file) NXIO _ (reply, next) rest λ link rest.
-    after_refuse (not (may call file want.Write)) ACCES _ (reply, next) rest λ may rest.
-    after_refuse (nat_lt 0 (length written) && nat_lt most_bytes (offset + length written)) FBIG _ (reply, next) rest λ fits rest.
-    after_refuse (nat_lt 0 (length written) && is_full spare) NOSPC _ (reply, next) rest λ space rest.
-    by file (length written == 0) refl fits rest
+    after (write_errors call file offset (length written) spare) _ (reply, next) rest λ allowed rest.
+    by file (length written == 0) refl (data_fits call file offset (length written) spare allowed) rest
   where
     short : (b : Bool) → (length written == 0) ≡ b → b ≡ false → nat_lt 0 (length written) && nat_lt most_bytes (offset + length written) ≡ false → offset + length written < 2 ^ 31
     short b t more fits = grind (arith, nat_tests)

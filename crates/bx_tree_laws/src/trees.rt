@@ -10,7 +10,8 @@ ghost use Rattle.bx_model.specs.declared.tree.Tree.{Tree};
 ghost use Rattle.bx_model.specs.Act.{act};
 ghost use Rattle.bx_model.specs.Files.{file_at, is_directory};
 ghost use Rattle.bx_model.specs.FileTrees.{IsFileTree, is_directory_at, links_to};
-ghost use Rattle.bx_model.specs.Names.{is_bad, names_of, next_of};
+ghost use Rattle.bx_model.specs.Entries.{is_bad};
+ghost use Rattle.bx_model.specs.Names.{names_of, next_of};
 ghost use Rattle.bx_tree_laws.specs.Acting.{PathFits};
 ghost use Rattle.bx_tree_laws.specs.Ways.{IsIn, LeadsDown};
 

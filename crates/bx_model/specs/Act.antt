@@ -54,18 +54,18 @@ given tree call now spare made (args.Symlink at name path sattr) = taken tree ma
 abbrev pub act : Tree → Call → ℕ → ℕ → ℕ → Option (Reply × Tree)
 act tree call moment spare made = given tree call (time_of moment) spare made call.args
 
--- The calls that the tree serves: those that are refused as messages, those of MOUNT, and of NFS NULL, ROOT,
--- WRITECACHE, GETATTR, SETATTR, LOOKUP, READLINK, READ, WRITE and STATFS.
-abbrev pub HasArgs : ℕ → Args → Type 0
-HasArgs procedure (args.Refused number) = Unit {0}
-HasArgs procedure args.Nothing = Unit {0}
-HasArgs procedure (args.Path path) = Unit {0}
-HasArgs procedure (args.Handle at) = Unit {0}
-HasArgs procedure (args.Name at name) = procedure ≡ 4
-HasArgs procedure (args.Read at offset count total) = Unit {0}
-HasArgs procedure (args.Set at sattr) = Unit {0}
-HasArgs procedure (args.Write at begin offset total written) = Unit {0}
-HasArgs procedure _ = ⊥
+-- The calls that the tree serves: all but RENAME and READDIR.
+abbrev pub IsPlain : Args → Type 0
+IsPlain (args.Make at name sattr) = ⊥
+IsPlain (args.Symlink at name path sattr) = ⊥
+IsPlain (args.Rename from name to new_name) = ⊥
+IsPlain (args.List at cookie count) = ⊥
+IsPlain _ = Unit {0}
+
+abbrev pub HasArgs : Args → Type 0
+HasArgs (args.Rename from name to new_name) = ⊥
+HasArgs (args.List at cookie count) = ⊥
+HasArgs _ = Unit {0}
 
 pub record IsServed (call : Call) : Type 0 where
-  pub args : HasArgs call.procedure call.args
+  pub args : HasArgs call.args

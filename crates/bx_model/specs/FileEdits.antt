@@ -29,6 +29,11 @@ pub record CanEnter (name : List ℕ) (file : File) : Type 0 where
   pub next : next_of file.body < 4294967295
   pub apart : entry_named (names_of file.body) name ≡ None
 
+-- a file that may have one more name
+pub record CanLink (file : File) : Type 0 where
+  pub kind : is_directory file ≡ false
+  pub nlink : file.nlink < 32000
+
 -- the files that may be edited so
 abbrev pub CanEdit : Edit → File → Type 0
 CanEdit (Fields sattr) file = (is_given sattr.now.size && nat_lt most_bytes sattr.now.size) ≡ false
@@ -36,7 +41,7 @@ CanEdit (Size size) file = size ≤ most_bytes
 CanEdit (Data offset written) file = offset + length written.now ≤ most_bytes
 CanEdit (Entered name handle counts) file = CanEnter name.now file
 CanEdit (TakenOut name counts) file = Unit {0}
-CanEdit Linked file = (is_directory file ≡ false) × (file.nlink < 32000)
+CanEdit Linked file = CanLink file
 CanEdit Unlinked file = Unit {0}
 CanEdit (MovedTo parent) file = Unit {0}
 

@@ -281,7 +281,7 @@ fn refused(status: u32, made: u64) -> Option<Reply>
 }
 
 /// Whether a directory has a number left for an entry.
-fn has_number(directory: &File) -> bool
+pub(crate) fn has_number(directory: &File) -> bool
     ensures { result ≡ nat_lt (next_of directory.now.body) 4294967295 }
 {
     match &directory.body {
@@ -291,14 +291,7 @@ fn has_number(directory: &File) -> bool
 }
 
 /// A new file.
-fn new_file(
-    call: &Call,
-    sattr: &Sattr,
-    now: (u32, u32),
-    mode: u32,
-    made: u64,
-    body: Body,
-) -> File
+fn new_file(call: &Call, sattr: &Sattr, now: (u32, u32), mode: u32, made: u64, body: Body) -> File
     requires mode { mode < 4096 }
     requires size { size_of body < 2 ^ 31 }
     requires numbers { IsNumbered 2 body }
@@ -336,5 +329,9 @@ fn kind(body: &Body) -> u32
 fn owner(root: bool, given: u32, caller: u32) -> u32
     ensures { result ≡ (if root && is_given_word given then given else caller) }
 {
-    if root && is_given(given) { given } else { caller }
+    if root && is_given(given) {
+        given
+    } else {
+        caller
+    }
 }

@@ -120,6 +120,8 @@ impl Files {
         ensures { result ≡ list_any (λ file. fileid_of file.handle == fileid_of handle) self.now }
     {
         let wanted = fileid(handle);
-        self.by_handle.values().any(|file| fileid(file.handle) == wanted)
+        self.by_handle
+            .values()
+            .any(|file| fileid(file.handle) == wanted)
     }
 }

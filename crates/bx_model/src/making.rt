@@ -38,7 +38,9 @@ impl Tree {
     {
         let (handle, counts) = (file.handle, file.kind == DIRECTORY);
         self.admit(file)?;
-        let entered = self.files.edit(directory, &Edit::Entered(name, handle, counts), now);
+        let entered = self
+            .files
+            .edit(directory, &Edit::Entered(name, handle, counts), now);
         if entered.is_err() {
             self.dismiss(handle);
         }

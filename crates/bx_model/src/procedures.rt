@@ -1,11 +1,11 @@
 //! What the procedures do.
 
 ghost use Rattle.std.specs.Prelude.{◌≡◌, ◌≤◌, IfOk, OnErr, MatchOption, None, Some};
-ghost use Rattle.bx_model.specs.Act.{IsServed, about_file, act, given};
-ghost use Rattle.bx_model.specs.Steps.{done};
+ghost use Rattle.bx_model.specs.Act.{IsPlain, IsServed, about_file, about_name, about_new, act, given};
+ghost use Rattle.bx_model.specs.Steps.{done, taken};
 ghost use Rattle.bx_model.specs.Times.{time_of as time_of_moment};
 
-use crate::call::{Args, Call};
+use crate::call::{Args, Call, Sattr};
 use crate::reading::plain;
 use crate::reply::Reply;
 use crate::tree::Tree;
@@ -13,6 +13,15 @@ use bx_base::OutOfMemory;
 
 /// The procedure READLINK.
 const READLINK: u32 = 5;
+
+/// The procedure REMOVE.
+const REMOVE: u32 = 10;
+
+/// The procedure MKDIR.
+const MKDIR: u32 = 14;
+
+/// The procedure RMDIR.
+const RMDIR: u32 = 15;
 
 /// The procedure STATFS.
 const STATFS: u32 = 17;
@@ -36,16 +45,66 @@ impl Tree {
             (λ reply. act self.old call.now moment spare made ≡ Some (reply, self.new))) }
         ensures err { OnErr result (self.new ≡ self.old) }
     {
+        let (now, spare) = (time_of(moment), spare as u32);
+        match &call.args {
+            Args::Make(at, name, sattr) => {
+                self.about_new(call, at.bytes(), name.bytes(), sattr, now, spare, made)
+            }
+            Args::Symlink(at, name, path, sattr) => {
+                let (at, name, path) = (at.bytes(), name.bytes(), path.bytes());
+                self.symlink(call, at, name, path, sattr, now, spare, made)
+            }
+            _ => self.act_plainly(call, now, spare, made),
+        }
+    }
+
+    /// CREATE and MKDIR. `None` exactly where `made` breaks its rule.
+    fn about_new(
+        &mut self,
+        call: &Call,
+        at: &[u8],
+        name: &[u8],
+        sattr: &Sattr,
+        now: (u32, u32),
+        spare: u32,
+        made: u64,
+    ) -> Result<Option<Reply>, OutOfMemory>
+        ensures acts { IfOk result (λ found. MatchOption found
+            ((taken self.old made (about_new self.old call.now at.now name.now sattr.now now spare) ≡ None) × (self.new ≡ self.old))
+            (λ reply. taken self.old made (about_new self.old call.now at.now name.now sattr.now now spare) ≡ Some (reply, self.new))) }
+        ensures err { OnErr result (self.new ≡ self.old) }
+    {
+        if call.procedure == MKDIR {
+            self.mkdir(call, at, name, sattr, now, spare, made)
+        } else {
+            self.create(call, at, name, sattr, now, spare, made)
+        }
+    }
+
+    /// What a call that makes no file is answered, where `made` is 0.
+    fn act_plainly(
+        &mut self,
+        call: &Call,
+        now: (u32, u32),
+        spare: u32,
+        made: u64,
+    ) -> Result<Option<Reply>, OutOfMemory>
+        requires { IsPlain call.now.args }
+        ensures acts { IfOk result (λ found. MatchOption found
+            ((given self.old call.now now spare made call.now.args ≡ None) × (self.new ≡ self.old))
+            (λ reply. given self.old call.now now spare made call.now.args ≡ Some (reply, self.new))) }
+        ensures err { OnErr result (self.new ≡ self.old) }
+    {
         if made != 0 {
             return Ok(None);
         }
-        let reply = self.answer(call, time_of(moment), spare as u32)?;
+        let reply = self.answer(call, now, spare)?;
         Ok(Some(reply))
     }
 
     /// What a call that makes no file is answered.
     fn answer(&mut self, call: &Call, now: (u32, u32), spare: u32) -> Result<Reply, OutOfMemory>
-        requires { IsServed call.now }
+        requires { IsPlain call.now.args }
         ensures ok { IfOk result (λ reply. given self.old call.now now spare 0 call.now.args ≡ Some (reply, self.new)) }
         ensures err { OnErr result (self.new ≡ self.old) }
     {
@@ -54,13 +113,34 @@ impl Tree {
             Args::Nothing => Ok(plain(call.program, call.procedure)),
             Args::Path(path) => self.mount(call.procedure, path.bytes()),
             Args::Handle(at) => self.about_file(call.procedure, at.bytes(), spare),
-            Args::Name(at, name) => self.lookup(call, at.bytes(), name.bytes()),
+            Args::Name(at, name) => self.about_name(call, at.bytes(), name.bytes(), now),
             Args::Read(at, offset, count, _) => self.read(call, at.bytes(), *offset, *count),
             Args::Set(at, sattr) => self.setattr(call, at.bytes(), sattr, now),
             Args::Write(at, _, offset, _, written) => {
                 self.write(call, at.bytes(), *offset, written.bytes(), now, spare)
             }
+            Args::Link(from, at, name) => {
+                self.link(call, from.bytes(), at.bytes(), name.bytes(), now, spare)
+            }
             _ => unreachable!(),
+        }
+    }
+
+    /// LOOKUP, REMOVE and RMDIR.
+    fn about_name(
+        &mut self,
+        call: &Call,
+        at: &[u8],
+        name: &[u8],
+        now: (u32, u32),
+    ) -> Result<Reply, OutOfMemory>
+        ensures ok { IfOk result (λ reply. done self.old (about_name self.old call.now at.now name.now now) ≡ (reply, self.new)) }
+        ensures err { OnErr result (self.new ≡ self.old) }
+    {
+        match call.procedure {
+            REMOVE => Ok(self.remove(call, at, name, now)),
+            RMDIR => Ok(self.rmdir(call, at, name, now)),
+            _ => self.lookup(call, at, name),
         }
     }
 

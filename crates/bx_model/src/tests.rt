@@ -22,7 +22,7 @@ const LISTING: &[u8] =
     b"file 0000000000000001 2 40777 2 0 0 4096 0.000000 0.000000 0.000000\ndir 0000000000000001 3\n";
 
 fn call_of(alloc: Global, procedure: u32, args: Args) -> Call
-    requires { HasArgs procedure args }
+    requires { HasArgs args }
     ensures { IsServed result }
 {
     Call {

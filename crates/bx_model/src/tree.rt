@@ -5,8 +5,8 @@ ghost use Rattle.bx_model.specs.Opening.{opening, opening_root as the_root};
 
 use crate::file::{Body, DIRECTORY, File};
 use crate::files::Files;
-use crate::names::NameList;
 use crate::handles::Handles;
+use crate::names::NameList;
 use bx_base::OutOfMemory;
 use std::alloc::Global;
 

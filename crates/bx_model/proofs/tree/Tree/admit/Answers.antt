@@ -9,11 +9,11 @@ use Rattle.bx_model.proofs.tree.Tree.admit.Goals as goal
 pub returns-then-is_err-clause-err : goal.returns-then-is_err-clause-err
 returns-then-is_err-clause-err c =
     let given : c.remove.new.self ≡ c.args.self.now.given =
-        c.remove.ensures
-        ∙ ap (λ (handles : List ℕ). without_handle handles c.args.file.handle) c.in_ok-insert.ensures.ok
-        ∙ without-with c.args.file.handle c.args.self.now.given (unused_given c.args.self.now c.args.file.handle c.requires.unused) in
-    on_err_from c.insert-admitted.result _ _ 
+    c.remove.ensures
+    ∙ ap (λ (handles : List ℕ). without_handle handles c.args.file.handle) c.in_ok-insert.ensures.ok
+    ∙ without-with c.args.file.handle c.args.self.now.given (unused_given c.args.self.now c.args.file.handle c.requires.unused) in
+    on_err_from c.insert-admitted.result _ _
     (λ same.
-        ap (λ (files : List File). record c.args.self.now { files = files; given = c.remove.new.self }) same
-        ∙ ap (λ (handles : List ℕ). record c.args.self.now { given = handles }) given)
+    ap (λ (files : List File). record c.args.self.now { files = files; given = c.remove.new.self }) same
+    ∙ ap (λ (handles : List ℕ). record c.args.self.now { given = handles }) given)
     c.insert-admitted.ensures.err

@@ -32,6 +32,11 @@ pub mod Makings
 pub mod Removings
 pub mod Renamings
 pub mod Acts
+pub mod Told
+pub mod Telling
+pub mod Silent
+pub mod Truths
+pub mod Rereads
 pub mod Below
 pub mod Laws
 pub mod Opening

@@ -14,7 +14,7 @@ use Rattle.bx_tree_laws.proofs.Everys.{every_without}
 use Rattle.bx_tree_laws.proofs.Inside.{inside, inside_same, names_at, names_in}
 use Rattle.bx_tree_laws.proofs.Links.{one_if, links_without, names_count}
 use Rattle.bx_tree_laws.proofs.Lookups.{SameOr, same_or, file_at-without, without_other}
-use Rattle.bx_tree_laws.proofs.Parts.{Stays}
+use Rattle.bx_tree_laws.proofs.DirectoryParts.{Stays}
 use Rattle.bx_tree_laws.proofs.Plans.{IsStage, stage_without}
 use Rattle.bx_tree_laws.proofs.Stages.{minus, one_elsewhere, one_here, part_links, stage_refers}
 use Rattle.bx_tree_laws.proofs.Stays.{stays_then, stays_without}

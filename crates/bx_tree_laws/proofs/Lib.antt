@@ -7,6 +7,7 @@ pub mod Entries
 pub mod Links
 pub mod Inside
 pub mod Plans
+pub mod DirectoryParts
 pub mod Parts
 pub mod Whole
 pub mod Stays
@@ -28,8 +29,12 @@ pub mod Replaced
 pub mod Steps
 pub mod Readings
 pub mod Writings
+pub mod Places
+pub mod NewFiles
 pub mod Makings
 pub mod Removings
+pub mod Moves
+pub mod Replacing
 pub mod Renamings
 pub mod Acts
 pub mod Told

@@ -17,7 +17,7 @@ use Rattle.bx_tree_laws.proofs.Inside.{inside, inside_entered, inside_kept, insi
 use Rattle.bx_tree_laws.proofs.Links.{IsNames, one_if, links_entered, links_kept}
 use Rattle.bx_tree_laws.proofs.Lookups.{SameOr, same_or, changed_other, some_same}
 use Rattle.bx_tree_laws.proofs.Members.{directory_at, is_names, kinds_apart, not_names, root_directory}
-use Rattle.bx_tree_laws.proofs.Parts.{MayEnter}
+use Rattle.bx_tree_laws.proofs.DirectoryParts.{MayEnter}
 use Rattle.bx_tree_laws.proofs.Plans.{IsStage}
 use Rattle.bx_tree_laws.proofs.Rises.{rise_changed}
 use Rattle.bx_tree_laws.proofs.Stages.{plus, stage_entered, stage_linked, stage_refers}

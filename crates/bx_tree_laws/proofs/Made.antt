@@ -20,7 +20,8 @@ use Rattle.bx_tree_laws.proofs.Inside.{inside, inside_entered, inside_kept, insi
 use Rattle.bx_tree_laws.proofs.Links.{IsNames, one_if, links_entered, links_kept, links_with}
 use Rattle.bx_tree_laws.proofs.Lookups.{SameOr, same_or, changed_here, some_same, with_here, with_other}
 use Rattle.bx_tree_laws.proofs.Members.{absent_unnamed, entry_of, is_names, links_below, parent_names}
-use Rattle.bx_tree_laws.proofs.Parts.{MayEnter, part_renewed}
+use Rattle.bx_tree_laws.proofs.DirectoryParts.{MayEnter}
+use Rattle.bx_tree_laws.proofs.Parts.{part_renewed}
 use Rattle.bx_tree_laws.proofs.Plans.{HasCount, HasPart, IsNearer, IsStage, Plan, stage_with}
 use Rattle.bx_tree_laws.proofs.Put.{handle_given, handle_stays, inside_with}
 use Rattle.bx_tree_laws.proofs.Rises.{rise_with}

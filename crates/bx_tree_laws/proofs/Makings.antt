@@ -1,10 +1,7 @@
 -- CREATE, SYMLINK, MKDIR and LINK keep a file tree.
-use Rattle.std.proofs.Common.{ap, ◌≡◌, ℕ, ◌<◌, ◌^◌, arith, Bool, true, false, List, [], replicate, Some, None, Option, refl, sym, ◌∙◌, subst}
-use Rattle.std.specs.Prelude.{◌==◌, ◌%◌, ◌&&◌, not, if◌then◌else◌, nat_lt, nat_le, is_some, length, Contains, Result, Ok}
-use Rattle.std.specs.List.{list_any}
-use Rattle.std.proofs.lemmas.Bool.{and_parts, eq-eqb, not-false, not-true}
+use Rattle.std.proofs.Common.{◌≡◌, ℕ, ◌<◌, ◌^◌, arith, Bool, true, false, List, [], replicate, Some, None, Option, refl, subst}
+use Rattle.std.specs.Prelude.{◌&&◌, not, if◌then◌else◌, nat_lt, nat_le, length, Result, Ok}
 use Rattle.std.proofs.lemmas.List.{length-replicate}
-use Rattle.std.proofs.lemmas.List.Recursion.{or_at}
 use Rattle.bx_model.specs.declared.call.Call.{Call}
 use Rattle.bx_model.specs.declared.call.Sattr.{Sattr}
 use Rattle.bx_model.specs.declared.file.Body.TheVariants as body
@@ -12,9 +9,8 @@ use Rattle.bx_model.specs.declared.file.File.{File}
 use Rattle.bx_model.specs.declared.file.Name.{Name}
 use Rattle.bx_model.specs.declared.permissions.Want.TheVariants as want
 use Rattle.bx_model.specs.declared.reply.Reply.{Reply}
-use Rattle.bx_model.specs.declared.status.TheConstants.{ACCES, DQUOT, EXIST, FBIG, NOTDIR, PERM, STALE}
+use Rattle.bx_model.specs.declared.status.TheConstants.{ACCES, DQUOT, EXIST, FBIG, PERM, STALE}
 use Rattle.bx_model.specs.declared.tree.Tree.{Tree}
-use Rattle.bx_model.specs.Attributes.{fileid}
 use Rattle.bx_model.specs.Edits.{changed, is_unused}
 use Rattle.bx_model.specs.Files.{file_at, is_directory, is_regular}
 use Rattle.bx_model.specs.FileTrees.{IsFileTree}
@@ -28,12 +24,14 @@ use Rattle.bx_model.specs.Times.{Time, is_given}
 use Rattle.bx_model.specs.Writing.{most_bytes, resize_errors, with_size}
 use Rattle.bx_tree_laws.proofs.Grows.{Follows, follows_same}
 use Rattle.bx_tree_laws.proofs.Linked.{linked_follows}
-use Rattle.bx_tree_laws.proofs.Made.{IsNew, made_follows}
+use Rattle.bx_tree_laws.proofs.Made.{made_follows}
 use Rattle.bx_tree_laws.proofs.Members.{found_at}
 use Rattle.bx_tree_laws.proofs.Steps.{after, after_bind, after_must, after_refuse, next_is}
 use Rattle.bx_tree_laws.proofs.Touched.{touched_follows}
 use Rattle.bx_tree_laws.proofs.Writings.{resize_fits, size_touch, within}
-use Rattle.bx_model.specs.Entries.{entry_named, is_bad}
+use Rattle.bx_model.specs.Entries.{entry_named}
+use Rattle.bx_tree_laws.proofs.Places.{IsDirectory, directory_is, none_is, place_is, searched_is, unused_fresh, unused_gone}
+use Rattle.bx_tree_laws.proofs.NewFiles.{new_bytes, new_directory, new_path}
 
 -- a step that keeps a file tree, whatever unused handle its file gets
 abbrev pub StepKeeps : Tree → Step → Type 0
@@ -42,110 +40,6 @@ StepKeeps tree (Makes file) = (made : ℕ) → is_unused tree made ≡ true → 
 
 step_is : (tree : Tree) (one other : Step) → ◌≡◌ {A = Result Step ℕ} (Ok one) (Ok other) → StepKeeps tree one → StepKeeps tree other
 step_is tree one other e keeps = let same : one ≡ other = cc in subst (StepKeeps tree) same keeps
-
--- an unused handle was never given out, and is no file's
-pub unused_fresh : (tree : Tree) (made : ℕ) → is_unused tree made ≡ true → Contains tree.given made → ⊥
-unused_fresh tree made unused given =
-    let there = or_at (list_any (λ (handle : ℕ). handle == made)) (λ (handle : ℕ). handle == made) refl (λ x xs. refl) tree.given given.0 made given.1 (eq-eqb _ made given.2) in
-    let both : true ≡ false = sym there ∙ never in absurd cc
-  where
-    never : list_any (λ handle. handle == made) tree.given ≡ false
-    never = not-true (list_any (λ handle. handle == made) tree.given)
-        (and_parts (not (made == 0)) (not (list_any (λ handle. handle == made) tree.given))
-        (and_parts (not (made == 0) && not (list_any (λ handle. handle == made) tree.given)) (not (list_any (λ file. fileid file.handle == fileid made) tree.files)) unused).0).1
-
-pub unused_gone : (tree : Tree) (made : ℕ) → IsFileTree tree → is_unused tree made ≡ true → file_at tree.files made ≡ None
-unused_gone tree made was unused = by (file_at tree.files made) refl
-  where
-    by : (found : Option File) → file_at tree.files made ≡ found → found ≡ None
-    by None is = refl
-    by (Some file) is = absurd (unused_fresh tree made unused (was.was_given made file is))
-
-none_is : {X : Type 0} (found : Option X) → is_some found ≡ false → found ≡ None
-none_is None e = refl
-none_is (Some x) e = absurd cc
-
--- the directory that a call changes
-pub record IsDirectory (tree : Tree) (name : List ℕ) (directory : File) : Type 0 where
-  pub there : file_at tree.files directory.handle ≡ Some directory
-  pub is : is_directory directory ≡ true
-  pub good : is_bad name ≡ false
-
-pub directory_is : (tree : Tree) (call : Call) (at name : List ℕ) (directory : File) → directory_to_change tree call at name ≡ Ok directory → IsDirectory tree name directory
-directory_is tree call at name directory e =
-    after_must (named_file tree at) STALE _ directory e λ file found rest.
-    after_refuse (not (is_directory file)) NOTDIR _ directory rest λ is rest.
-    after_refuse (is_bad name) ACCES _ directory rest λ good rest.
-    after_refuse (not (may call file want.Change)) ACCES _ directory rest λ may rest.
-    by file rest record { there = found_at tree at file found; is = not-false (is_directory file) is; good = good }
-  where
-    by : (file : File) → ◌≡◌ {A = Result File ℕ} (Ok file) (Ok directory) → IsDirectory tree name file → IsDirectory tree name directory
-    by file e is = let same : file ≡ directory = cc in subst (IsDirectory tree name) same is
-
-pub searched_is : (tree : Tree) (call : Call) (at name : List ℕ) (directory : File) → searched_directory tree call at name ≡ Ok directory → IsDirectory tree name directory
-searched_is tree call at name directory e =
-    after_must (named_file tree at) STALE _ directory e λ file found rest.
-    after_refuse (not (is_directory file)) NOTDIR _ directory rest λ is rest.
-    after_refuse (is_bad name) ACCES _ directory rest λ good rest.
-    after_refuse (not (may call file want.Search)) ACCES _ directory rest λ may rest.
-    by file rest record { there = found_at tree at file found; is = not-false (is_directory file) is; good = good }
-  where
-    by : (file : File) → ◌≡◌ {A = Result File ℕ} (Ok file) (Ok directory) → IsDirectory tree name file → IsDirectory tree name directory
-    by file e is = let same : file ≡ directory = cc in subst (IsDirectory tree name) same is
-
-pub place_is : (tree : Tree) (call : Call) (at name : List ℕ) (spare : ℕ) (directory : File) → new_place tree call at name spare ≡ Ok directory
-    → IsDirectory tree name directory × (entry_named (names_of directory.body) name ≡ None)
-place_is tree call at name spare directory e =
-    after_bind (directory_to_change tree call at name) _ directory e λ file changes rest.
-    after_refuse (has_entry file name) EXIST _ directory rest λ absent rest.
-    after (entry_errors file spare) _ directory rest λ room rest.
-    by file rest (directory_is tree call at name file changes) (none_is _ absent)
-  where
-    by : (file : File) → ◌≡◌ {A = Result File ℕ} (Ok file) (Ok directory) → IsDirectory tree name file → entry_named (names_of file.body) name ≡ None
-        → IsDirectory tree name directory × (entry_named (names_of directory.body) name ≡ None)
-    by file e is absent = let same : file ≡ directory = cc in (subst (IsDirectory tree name) same is, ap (λ (f : File). entry_named (names_of f.body) name) (sym same) ∙ absent)
-
--- ---- new files
-
-mode_fits : (given : Bool) (bits mode : ℕ) → mode < 2 ^ 12 → (if given then bits % 4096 else mode) < 2 ^ 12
-mode_fits true bits mode less = omega arith
-mode_fits false bits mode less = less
-
-module _ (call : Call) (sattr : Sattr) (now : Time) (at made : ℕ) where
-  new_bytes : (bytes : List ℕ) → length bytes < 2 ^ 31 → IsNew at (new_file call sattr now 0o644 made (body.Bytes bytes))
-  new_bytes bytes fits = record {
-    is_file = record { kind = refl; mode = mode_fits (is_given sattr.mode) sattr.mode 0o644 (omega arith); size = fits; numbers = tt };
-    none = refl;
-    count = refl;
-    parent_is = λ above next names e. absurd (conflict above next names e);
-  }
-    where
-      conflict : (above next : ℕ) (names : List Name) → body.Bytes bytes ≡ body.Names above next names → ⊥
-      conflict above next names e = cc
-
-  new_path : (path : List ℕ) → length path < 2 ^ 31 → IsNew at (new_file call sattr now 0o777 made (body.Path path))
-  new_path path fits = record {
-    is_file = record { kind = refl; mode = mode_fits (is_given sattr.mode) sattr.mode 0o777 (omega arith); size = fits; numbers = tt };
-    none = refl;
-    count = refl;
-    parent_is = λ above next names e. absurd (conflict above next names e);
-  }
-    where
-      conflict : (above next : ℕ) (names : List Name) → body.Path path ≡ body.Names above next names → ⊥
-      conflict above next names e = cc
-
-  new_directory : IsNew at (new_file call sattr now 0o755 made (body.Names at 3 []))
-  new_directory = record {
-    is_file = record { kind = refl; mode = mode_fits (is_given sattr.mode) sattr.mode 0o755 (omega arith); size = omega arith; numbers = (omega arith, tt) };
-    none = refl;
-    count = refl;
-    parent_is = λ above next names e. same above next names e;
-  }
-    where
-      same : (above next : ℕ) (names : List Name) → body.Names at 3 [] ≡ body.Names above next names → above ≡ at
-      same above next names e = cc
-
--- ---- the procedures
 
 module _ (tree : Tree) (was : IsFileTree tree) (call : Call) (name : List ℕ) (sattr : Sattr) (now : Time) where
   create_new_keeps : (directory : File) (spare : ℕ) (step : Step) → IsDirectory tree name directory → entry_named (names_of directory.body) name ≡ None

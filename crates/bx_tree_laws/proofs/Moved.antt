@@ -20,7 +20,8 @@ use Rattle.bx_tree_laws.proofs.Inside.{directory_changed, inside, inside_entered
 use Rattle.bx_tree_laws.proofs.Links.{IsNames, one_if, links_entered, links_kept, names_count, names_without}
 use Rattle.bx_tree_laws.proofs.Lookups.{SameOr, same_or, changed_here, changed_other, some_same}
 use Rattle.bx_tree_laws.proofs.Members.{directory_at, not_names}
-use Rattle.bx_tree_laws.proofs.Parts.{MayEnter, SameParent, Stays, part_renewed}
+use Rattle.bx_tree_laws.proofs.DirectoryParts.{MayEnter, SameParent, Stays}
+use Rattle.bx_tree_laws.proofs.Parts.{part_renewed}
 use Rattle.bx_tree_laws.proofs.Plans.{IsNearer, IsStage, Plan, stage_as}
 use Rattle.bx_tree_laws.proofs.Rises.{rise_changed}
 use Rattle.bx_tree_laws.proofs.Stages.{one_here, stage_entered, stage_moved, stage_refers, stage_taken}

@@ -17,8 +17,8 @@ only_root handle file e = by (eqb_tells 1 handle) e
 root_is : IsFile opening_root
 root_is = record { kind = refl; mode = omega arith; size = omega arith; numbers = (omega arith, tt) }
 
-pub opening_is : (volume : ℕ) → IsFileTree (opening volume)
-opening_is volume = record {
+pub opening_is : (volume areas : ℕ) → IsFileTree (record (opening volume) { areas = areas })
+opening_is volume areas = record {
   rise = λ i j d less within. absurd (omega (arith, less, within));
   is_file = λ file (k, within, is). subst IsFile (at_none k within is) root_is;
   root = (opening_root, 3, [], refl, refl);

@@ -19,7 +19,7 @@ use Rattle.bx_model.specs.Times.{Time}
 use Rattle.bx_tree_laws.proofs.Away.{away_keeps, lost}
 use Rattle.bx_tree_laws.proofs.Grows.{Follows, grows_away}
 use Rattle.bx_tree_laws.proofs.Lookups.{handle_at}
-use Rattle.bx_tree_laws.proofs.Makings.{IsDirectory, directory_is}
+use Rattle.bx_tree_laws.proofs.Places.{IsDirectory, directory_is}
 use Rattle.bx_tree_laws.proofs.Steps.{after_bind, after_must, after_refuse, next_is}
 
 pub stands : (tree : Tree) (handle : ℕ) (file : File) → file_at tree.files handle ≡ Some file → file_at tree.files file.handle ≡ Some file

@@ -14,7 +14,8 @@ use Rattle.bx_model.specs.Removing.{unlinked}
 use Rattle.bx_model.specs.Renaming.{moved_to}
 use Rattle.bx_model.specs.Times.{Time}
 use Rattle.bx_tree_laws.proofs.Links.{one_if}
-use Rattle.bx_tree_laws.proofs.Parts.{MayEnter, Stays, part_counted, part_moved, part_referred, part_with, part_without}
+use Rattle.bx_tree_laws.proofs.DirectoryParts.{MayEnter, Stays}
+use Rattle.bx_tree_laws.proofs.Parts.{part_counted, part_moved, part_referred, part_with, part_without}
 use Rattle.bx_tree_laws.proofs.Plans.{Plan, IsPart, HasCount, IsStage, stage_as, stage_changed}
 use Rattle.bx_tree_laws.proofs.Halves.{entered, taken_out, with_subdirectory, without_subdirectory}
 

@@ -12,7 +12,7 @@ use Rattle.bx_model.specs.Renaming.{moved_to}
 use Rattle.bx_model.specs.Times.{Time}
 use Rattle.bx_model.specs.Writing.{overwritten, resized}
 use Rattle.bx_tree_laws.proofs.Lookups.{SameOr, same_or, some_same, changed_here, changed_other, without_other, with_other}
-use Rattle.bx_tree_laws.proofs.Parts.{SameParent, Stays}
+use Rattle.bx_tree_laws.proofs.DirectoryParts.{SameParent, Stays}
 
 pub parent_same : (body : Body) → SameParent body body
 parent_same body parent next names is = (next, names, is)

@@ -15,7 +15,7 @@ use Rattle.bx_tree_laws.proofs.Everys.{every_kept}
 use Rattle.bx_tree_laws.proofs.Inside.{inside, inside_other, inside_taken}
 use Rattle.bx_tree_laws.proofs.Links.{one_if, links_taken, names_count}
 use Rattle.bx_tree_laws.proofs.Members.{entry_not_root, names_apart}
-use Rattle.bx_tree_laws.proofs.Parts.{Stays}
+use Rattle.bx_tree_laws.proofs.DirectoryParts.{Stays}
 use Rattle.bx_tree_laws.proofs.Plans.{IsStage}
 use Rattle.bx_tree_laws.proofs.Stages.{stage_taken}
 use Rattle.bx_tree_laws.proofs.Stays.{parent_without, stays_changed}

@@ -29,7 +29,7 @@ use Rattle.bx_model.specs.Times.{Time, is_given}
 use Rattle.bx_model.specs.Writing.{is_forbidden, resize_errors, setattr, with_data, with_fields, with_size, write, write_errors}
 use Rattle.bx_tree_laws.specs.Telling.{HandlesFit, Tells, handle_in}
 use Rattle.bx_tree_laws.proofs.Lookups.{changed_here, changed_other, handle_at, some_same, with_here}
-use Rattle.bx_tree_laws.proofs.Makings.{place_is, searched_is, unused_gone}
+use Rattle.bx_tree_laws.proofs.Places.{place_is, searched_is, unused_gone}
 use Rattle.bx_tree_laws.proofs.Members.{found_at}
 use Rattle.bx_tree_laws.proofs.Removings.{stands}
 use Rattle.bx_tree_laws.proofs.Steps.{after, after_bind, after_must, after_refuse}

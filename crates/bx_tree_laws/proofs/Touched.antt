@@ -11,7 +11,7 @@ use Rattle.bx_tree_laws.proofs.Everys.{every_changed}
 use Rattle.bx_tree_laws.proofs.Grows.{Follows, grows_changed, grows_same}
 use Rattle.bx_tree_laws.proofs.Inside.{inside, inside_kept}
 use Rattle.bx_tree_laws.proofs.Links.{links_kept}
-use Rattle.bx_tree_laws.proofs.Parts.{SameParent}
+use Rattle.bx_tree_laws.proofs.DirectoryParts.{SameParent}
 use Rattle.bx_tree_laws.proofs.Plans.{Plan, HasPart, stage_changed}
 use Rattle.bx_tree_laws.proofs.Stages.{stage_refers}
 use Rattle.bx_tree_laws.proofs.Stays.{stays_changed}

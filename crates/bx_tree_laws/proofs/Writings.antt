@@ -20,7 +20,8 @@ use Rattle.bx_model.specs.Reading.{named_file, attributes_reply}
 use Rattle.bx_model.specs.Times.{Time, is_given}
 use Rattle.bx_model.specs.Writing.{is_forbidden, most_bytes, overwritten, resize_errors, resized, setattr, with_data, with_fields, with_size, write, write_errors}
 use Rattle.bx_tree_laws.proofs.Grows.{Follows, follows_same}
-use Rattle.bx_tree_laws.proofs.Parts.{SameParent, part_mode, part_overwritten, part_resized}
+use Rattle.bx_tree_laws.proofs.DirectoryParts.{SameParent}
+use Rattle.bx_tree_laws.proofs.Parts.{part_mode, part_overwritten, part_resized}
 use Rattle.bx_tree_laws.proofs.Plans.{IsPart, Plan}
 use Rattle.bx_tree_laws.proofs.Stays.{parent_overwritten, parent_resized, parent_same}
 use Rattle.bx_tree_laws.proofs.Steps.{after, after_must, after_refuse, next_is, refused_not}

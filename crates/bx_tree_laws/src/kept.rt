@@ -10,14 +10,15 @@ ghost use Rattle.bx_model.specs.FileTrees.{IsFileTree};
 ghost use Rattle.bx_model.specs.Opening.{opening};
 ghost use Rattle.bx_tree_laws.specs.Acting.{AreSteps, PathFits};
 
-/// The tree of a volume that was just made is a file tree.
+/// The tree of a volume that was just made is a file tree, of however many areas.
 pub fn the_opening_tree_is_one()
-    ensures { (volume : ℕ) → IsFileTree (opening volume) }
+    ensures opening { (volume : ℕ) → IsFileTree (opening volume) }
+    ensures areas { (volume areas : ℕ) → IsFileTree (record (opening volume) { areas = areas }) }
 {}
 
-/// Whatever is called, a file tree is left; so each tree of a history that begins with a volume that was just made is one.
+/// Whatever is called, a file tree is left; so every history leads from a file tree, as the opening tree is, to file trees.
 pub fn every_step_keeps_a_file_tree()
     ensures step { (tree : Tree) (call : Call) (moment spare made : ℕ) (reply : Reply) (next : Tree)
         → IsFileTree tree → PathFits call.args → act tree call moment spare made ≡ Some (reply, next) → IsFileTree next }
-    ensures history { (volume : ℕ) (entries : List Entry) (last : Tree) → AreSteps (opening volume) entries last → IsFileTree last }
+    ensures history { (tree last : Tree) (entries : List Entry) → IsFileTree tree → AreSteps tree entries last → IsFileTree last }
 {}

@@ -19,7 +19,7 @@ use Rattle.bx_model.specs.Steps.{Making, Outcome, Step, done, plainly, taken}
 use Rattle.bx_model.specs.Steps.Step.{Gives, Makes}
 use Rattle.bx_model.specs.Times.{Time, time_of}
 use Rattle.bx_tree_laws.specs.Acting.{AreSteps, PathFits}
-use Rattle.bx_tree_laws.proofs.Grows.{Follows, follows_same}
+use Rattle.bx_tree_laws.proofs.Grows.{Follows, follows_same, follows_weaker}
 use Rattle.bx_tree_laws.proofs.Makings.{StepKeeps, create_keeps, link_keeps, mkdir_keeps, symlink_keeps}
 use Rattle.bx_tree_laws.proofs.Readings.{getattr_same, lookup_same, read_same, readdir_same, readlink_same, statfs_same}
 use Rattle.bx_tree_laws.proofs.Removings.{remove_keeps, rmdir_keeps}
@@ -32,35 +32,35 @@ second one other e = let same : one ≡ other = cc in ap (λ (p : Reply × Tree)
 
 module _ (tree : Tree) (was : IsFileTree tree) (made : ℕ) (reply : Reply) (next : Tree) where
   -- a procedure that makes no file
-  plainly_keeps : (outcome : Outcome) → ((answer : Reply) (after : Tree) → outcome ≡ Ok (answer, after) → Follows tree after) → plainly tree made outcome ≡ Some (reply, next) → Follows tree next
+  plainly_keeps : (outcome : Outcome) → ((answer : Reply) (after : Tree) → outcome ≡ Ok (answer, after) → Follows [] tree after) → plainly tree made outcome ≡ Some (reply, next) → Follows (made ∷ []) tree next
   plainly_keeps outcome keeps e = by outcome (made == 0) keeps e
     where
-      by : (outcome : Outcome) (b : Bool) → ((answer : Reply) (after : Tree) → outcome ≡ Ok (answer, after) → Follows tree after)
-          → ◌≡◌ {A = Option (Reply × Tree)} (if b then Some (done tree outcome) else None) (Some (reply, next)) → Follows tree next
+      by : (outcome : Outcome) (b : Bool) → ((answer : Reply) (after : Tree) → outcome ≡ Ok (answer, after) → Follows [] tree after)
+          → ◌≡◌ {A = Option (Reply × Tree)} (if b then Some (done tree outcome) else None) (Some (reply, next)) → Follows (made ∷ []) tree next
       by outcome false keeps e = absurd cc
-      by (Err status) true keeps e = subst (Follows tree) (second _ (reply, next) e) (follows_same tree was)
-      by (Ok given) true keeps e = subst (Follows tree) (second given (reply, next) e) (keeps given.0 given.1 refl)
+      by (Err status) true keeps e = subst (Follows (made ∷ []) tree) (second _ (reply, next) e) (follows_weaker made tree tree (follows_same tree was))
+      by (Ok given) true keeps e = subst (Follows (made ∷ []) tree) (second given (reply, next) e) (follows_weaker made tree given.1 (keeps given.0 given.1 refl))
 
-  same_keeps : (outcome : Outcome) → ((answer : Reply) (after : Tree) → outcome ≡ Ok (answer, after) → tree ≡ after) → plainly tree made outcome ≡ Some (reply, next) → Follows tree next
-  same_keeps outcome same e = plainly_keeps outcome (λ answer after is. subst (Follows tree) (same answer after is) (follows_same tree was)) e
+  same_keeps : (outcome : Outcome) → ((answer : Reply) (after : Tree) → outcome ≡ Ok (answer, after) → tree ≡ after) → plainly tree made outcome ≡ Some (reply, next) → Follows (made ∷ []) tree next
+  same_keeps outcome same e = plainly_keeps outcome (λ answer after is. subst (Follows [] tree) (same answer after is) (follows_same tree was)) e
 
   -- one that may make a file
-  taken_keeps : (making : Making) → ((step : Step) → making ≡ Ok step → StepKeeps tree step) → taken tree made making ≡ Some (reply, next) → Follows tree next
+  taken_keeps : (making : Making) → ((step : Step) → making ≡ Ok step → StepKeeps tree step) → taken tree made making ≡ Some (reply, next) → Follows (made ∷ []) tree next
   taken_keeps making keeps e = by making (made == 0) (is_unused tree made) refl keeps e
     where
-      by : (making : Making) (b c : Bool) → is_unused tree made ≡ c → ((step : Step) → making ≡ Ok step → StepKeeps tree step) → taken tree made making ≡ Some (reply, next) → Follows tree next
+      by : (making : Making) (b c : Bool) → is_unused tree made ≡ c → ((step : Step) → making ≡ Ok step → StepKeeps tree step) → taken tree made making ≡ Some (reply, next) → Follows (made ∷ []) tree next
       by (Err status) b c t keeps e = errs (made == 0) e
         where
-          errs : (b : Bool) → ◌≡◌ {A = Option (Reply × Tree)} (if b then Some (Status status, tree) else None) (Some (reply, next)) → Follows tree next
+          errs : (b : Bool) → ◌≡◌ {A = Option (Reply × Tree)} (if b then Some (Status status, tree) else None) (Some (reply, next)) → Follows (made ∷ []) tree next
           errs false e = absurd cc
-          errs true e = subst (Follows tree) (second (Status status, tree) (reply, next) e) (follows_same tree was)
+          errs true e = subst (Follows (made ∷ []) tree) (second (Status status, tree) (reply, next) e) (follows_weaker made tree tree (follows_same tree was))
       by (Ok (Gives answer after)) b c t keeps e = gives (made == 0) e
         where
-          gives : (b : Bool) → ◌≡◌ {A = Option (Reply × Tree)} (if b then Some (answer, after) else None) (Some (reply, next)) → Follows tree next
+          gives : (b : Bool) → ◌≡◌ {A = Option (Reply × Tree)} (if b then Some (answer, after) else None) (Some (reply, next)) → Follows (made ∷ []) tree next
           gives false e = absurd cc
-          gives true e = subst (Follows tree) (second (answer, after) (reply, next) e) (keeps (Gives answer after) refl)
-      by (Ok (Makes file)) b true t keeps e = subst (Follows tree) (second (file made) (reply, next) (rw t at e)) (keeps (Makes file) refl made t)
-      by (Ok (Makes file)) b false t keeps e = let none : None ≡ Some (reply, next) = rw t at e in absurd cc
+          gives true e = subst (Follows (made ∷ []) tree) (second (answer, after) (reply, next) e) (follows_weaker made tree after (keeps (Gives answer after) refl))
+      by (Ok (Makes file)) b true t keeps e = subst (Follows (made ∷ []) tree) (second (file made) (reply, next) (rw t at e)) (keeps (Makes file) refl made t)
+      by (Ok (Makes file)) b false t keeps e = let none : ◌≡◌ {A = Option (Reply × Tree)} None (Some (reply, next)) = rw t at e in absurd cc
 
   about_file_same : (procedure : ℕ) (at : List ℕ) (spare : ℕ) (answer : Reply) (after : Tree) → about_file tree procedure at spare ≡ Ok (answer, after) → tree ≡ after
   about_file_same procedure at spare answer after e = by (procedure == 5) (procedure == 17) e
@@ -70,13 +70,13 @@ module _ (tree : Tree) (was : IsFileTree tree) (made : ℕ) (reply : Reply) (nex
       by false true e = statfs_same tree after answer at spare e
       by false false e = getattr_same tree after answer at e
 
-  about_name_keeps : (call : Call) (at name : List ℕ) (now : Time) (answer : Reply) (after : Tree) → about_name tree call at name now ≡ Ok (answer, after) → Follows tree after
+  about_name_keeps : (call : Call) (at name : List ℕ) (now : Time) (answer : Reply) (after : Tree) → about_name tree call at name now ≡ Ok (answer, after) → Follows [] tree after
   about_name_keeps call at name now answer after e = by (call.procedure == 10) (call.procedure == 15) e
     where
-      by : (b c : Bool) → (if b then remove tree call at name now else if c then rmdir tree call at name now else lookup tree call at name) ≡ Ok (answer, after) → Follows tree after
+      by : (b c : Bool) → (if b then remove tree call at name now else if c then rmdir tree call at name now else lookup tree call at name) ≡ Ok (answer, after) → Follows [] tree after
       by true c e = remove_keeps tree was call at name now answer after e
       by false true e = rmdir_keeps tree was call at name now answer after e
-      by false false e = subst (Follows tree) (lookup_same tree after answer call at name e) (follows_same tree was)
+      by false false e = subst (Follows [] tree) (lookup_same tree after answer call at name e) (follows_same tree was)
 
   about_new_keeps : (call : Call) (at name : List ℕ) (sattr : Sattr) (now : Time) (spare : ℕ) (step : Step) → about_new tree call at name sattr now spare ≡ Ok step → StepKeeps tree step
   about_new_keeps call at name sattr now spare step e = by (call.procedure == 14) e
@@ -85,7 +85,7 @@ module _ (tree : Tree) (was : IsFileTree tree) (made : ℕ) (reply : Reply) (nex
       by true e = mkdir_keeps tree was call name sattr now at spare step e
       by false e = create_keeps tree was call name sattr now at spare step e
 
-  given_keeps : (call : Call) (now : Time) (spare : ℕ) (arguments : Args) → PathFits arguments → given tree call now spare made arguments ≡ Some (reply, next) → Follows tree next
+  given_keeps : (call : Call) (now : Time) (spare : ℕ) (arguments : Args) → PathFits arguments → given tree call now spare made arguments ≡ Some (reply, next) → Follows (made ∷ []) tree next
   given_keeps call now spare (args.Refused number) fits e = same_keeps (Ok (_, tree)) (λ answer after is. next_is _ answer tree after is) e
   given_keeps call now spare args.Nothing fits e = same_keeps (Ok (_, tree)) (λ answer after is. next_is _ answer tree after is) e
   given_keeps call now spare (args.Path path) fits e = same_keeps (Ok (_, tree)) (λ answer after is. next_is _ answer tree after is) e
@@ -100,7 +100,7 @@ module _ (tree : Tree) (was : IsFileTree tree) (made : ℕ) (reply : Reply) (nex
   given_keeps call now spare (args.Make at name sattr) fits e = taken_keeps (about_new tree call at name sattr now spare) (about_new_keeps call at name sattr now spare) e
   given_keeps call now spare (args.Symlink at name path sattr) fits e = taken_keeps (symlink tree call at name path sattr now spare) (λ step is. symlink_keeps tree was call name sattr now at path spare step fits is) e
 
-pub act_follows : (tree : Tree) (call : Call) (moment spare made : ℕ) (reply : Reply) (next : Tree) → IsFileTree tree → PathFits call.args → act tree call moment spare made ≡ Some (reply, next) → Follows tree next
+pub act_follows : (tree : Tree) (call : Call) (moment spare made : ℕ) (reply : Reply) (next : Tree) → IsFileTree tree → PathFits call.args → act tree call moment spare made ≡ Some (reply, next) → Follows (made ∷ []) tree next
 act_follows tree call moment spare made reply next was fits e = given_keeps tree was made reply next call (time_of moment) spare call.args fits e
 
 pub acts_keep : (tree : Tree) (call : Call) (moment spare made : ℕ) (reply : Reply) (next : Tree) → IsFileTree tree → PathFits call.args → act tree call moment spare made ≡ Some (reply, next) → IsFileTree next

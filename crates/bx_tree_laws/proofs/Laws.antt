@@ -1,6 +1,6 @@
 -- The laws of a file tree, each from its definition.
-use Rattle.std.proofs.Common.{◌≡◌, ℕ, ◌+◌, ◌<◌, arith, true, List, Some, None, Option, refl, sym, ap, ◌∙◌, subst, inl, inr}
-use Rattle.std.specs.Prelude.{◌≢◌, Contains, AllPairs, count_by}
+use Rattle.std.proofs.Common.{◌≡◌, ℕ, ◌+◌, ◌<◌, arith, true, List, Some, None, Option, refl, sym, ap, ◌∙◌, subst, inl, inr, [], ◌^◌}
+use Rattle.std.specs.Prelude.{◌⊎◌, ◌≢◌, Contains, AllPairs, count_by}
 use Rattle.bx_model.specs.declared.call.Call.{Call}
 use Rattle.bx_model.specs.declared.file.Body.{Body}
 use Rattle.bx_model.specs.declared.file.Body.TheVariants.{Bytes, Path, Names}
@@ -14,6 +14,8 @@ use Rattle.bx_model.specs.FileTrees.{HasEntries, HasLinks, IsFileTree, is_direct
 use Rattle.bx_model.specs.Names.{names_of}
 use Rattle.bx_tree_laws.specs.Acting.{PathFits}
 use Rattle.bx_tree_laws.specs.Ways.{IsIn}
+use Rattle.bx_tree_laws.specs.Telling.{HandlesFit}
+use Rattle.bx_tree_laws.proofs.Counts.{contained_cases, none_contained}
 use Rattle.bx_tree_laws.proofs.Acts.{act_follows}
 use Rattle.bx_tree_laws.proofs.Lookups.{some_same}
 use Rattle.bx_tree_laws.proofs.Members.{entry_of}
@@ -65,3 +67,14 @@ numbers_of files handle (Names parent next names) has = has.rise
 
 pub numbers_rise : (tree : Tree) (handle : ℕ) (file : File) → IsFileTree tree → file_at tree.files handle ≡ Some file → AllPairs (λ entry later. entry.number < later.number) (names_of file.body)
 numbers_rise tree handle file was is = numbers_of tree.files handle file.body (was.entries handle file is)
+
+pub fit_kept : (tree : Tree) (call : Call) (moment spare made : ℕ) (reply : Reply) (next : Tree) → IsFileTree tree → PathFits call.args → HandlesFit tree → made < 2 ^ 64 → act tree call moment spare made ≡ Some (reply, next) → HandlesFit next
+fit_kept tree call moment spare made reply next was fits fit made_fits acts handle there =
+    elim ((act_follows tree call moment spare made reply next was fits acts).grows.only handle there) [
+      | inl old ↦ fit handle old
+      | inr new ↦ one (contained_cases made handle [] new)
+    ]
+  where
+    one : (made ≡ handle) ⊎ Contains [] handle → handle < 2 ^ 64
+    one (inl is) = subst (λ (h : ℕ). h < 2 ^ 64) is made_fits
+    one (inr none) = absurd (none_contained handle none)

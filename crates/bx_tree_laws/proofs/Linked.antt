@@ -1,5 +1,5 @@
 -- One more name of a file that is no directory leaves a file tree.
-use Rattle.std.proofs.Common.{◌≡◌, ℕ, ◌≤◌, arith, true, false, List, Some, None, refl, sym, ap, ◌∙◌, subst, inl, inr}
+use Rattle.std.proofs.Common.{◌≡◌, ℕ, ◌≤◌, arith, true, false, List, Some, None, refl, sym, ap, ◌∙◌, subst, inl, inr, []}
 use Rattle.std.specs.Prelude.{◌≢◌, ◌==◌}
 use Rattle.std.proofs.lemmas.Bool.{ne_eqb}
 use Rattle.bx_model.specs.declared.file.File.{File}
@@ -108,7 +108,7 @@ module _ (tree : Tree) (was : IsFileTree tree) (file directory : File) (at to : 
   linked_keeps = tree_of (changed (changed tree to (linked now)) at (entered now name to)) links (inside tree.files) was.depth stage links_are inner_are named once
       (omega (arith, was.root_unnamed, not_counted tree.root was.root.0 was.root.3 (root_directory tree was was.root.0 was.root.3)))
 
-  pub linked_follows : Follows tree (changed (changed tree at (entering now name to false)) to (linked now))
+  pub linked_follows : Follows [] tree (changed (changed tree at (entering now name to false)) to (linked now))
   linked_follows = record {
     is = subst (λ (l : List File). IsFileTree (record tree { files = l })) (changed_apart tree.files to at (linked now) (entered now name to) (λ f. refl) (λ f. refl) apart) linked_keeps;
     grows = grows_changed tree (changed tree at (entering now name to false)) to (linked now) (λ f. refl) (grows_changed tree tree at (entering now name to false) (λ f. refl) (grows_same tree));

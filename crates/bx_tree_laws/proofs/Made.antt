@@ -1,5 +1,5 @@
 -- A new file, which a new entry of a directory names, leaves a file tree.
-use Rattle.std.proofs.Common.{Bool, ◌≡◌, ℕ, suc, ◌+◌, ◌<◌, ◌≤◌, arith, true, false, List, [], Some, None, Option, refl, sym, ap, ◌∙◌, subst, inl, inr}
+use Rattle.std.proofs.Common.{Bool, ◌≡◌, ℕ, suc, ◌+◌, ◌<◌, ◌≤◌, arith, true, false, List, [], Some, None, Option, refl, sym, ap, ◌∙◌, subst, inl, inr, ◌∷◌}
 use Rattle.std.specs.Prelude.{◌≢◌, ◌==◌, if◌then◌else◌, Contains, count_by, length}
 use Rattle.std.proofs.lemmas.Bool.{eq-eqb, ne_eqb}
 use Rattle.bx_model.specs.declared.file.Body.{Body}
@@ -240,13 +240,13 @@ module _ (tree : Tree) (was : IsFileTree tree) (directory : File) (at : ℕ) (no
     (is_there : file_at tree.files at ≡ Some directory) (is_one : is_directory directory ≡ true)
     (good : is_bad name ≡ false) (absent : entry_named (names_of directory.body) name ≡ None)
     (gone : file_at tree.files new.handle ≡ None) (is_new : IsNew at new) where
-  pub made_follows : Follows tree (changed (with_new tree new) at (entering now name new.handle (is_directory new)))
+  pub made_follows : Follows (new.handle ∷ []) tree (changed (with_new tree new) at (entering now name new.handle (is_directory new)))
   made_follows = by (is_directory new) refl
     where
-      grows : (counts : Bool) → Grows tree (changed (with_new tree new) at (entering now name new.handle counts))
+      grows : (counts : Bool) → Grows (new.handle ∷ []) tree (changed (with_new tree new) at (entering now name new.handle counts))
       grows counts = grows_changed tree (with_new tree new) at (entering now name new.handle counts) (λ f. refl) (grows_new tree tree new fresh (grows_same tree))
 
-      by : (counts : Bool) → is_directory new ≡ counts → Follows tree (changed (with_new tree new) at (entering now name new.handle counts))
+      by : (counts : Bool) → is_directory new ≡ counts → Follows (new.handle ∷ []) tree (changed (with_new tree new) at (entering now name new.handle counts))
       by false other = record { is = made_keeps tree was directory at now name new is_there is_one good absent gone is_new other; grows = grows false }
       by true is = record {
         is = subst (λ (l : List File). IsFileTree (record (with_new tree new) { files = l })) (changed_twice (with_file tree.files new) at (entered now name new.handle) with_subdirectory (λ f. refl))

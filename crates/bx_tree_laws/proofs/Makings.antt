@@ -1,5 +1,5 @@
 -- CREATE, SYMLINK, MKDIR and LINK keep a file tree.
-use Rattle.std.proofs.Common.{◌≡◌, ℕ, ◌<◌, ◌^◌, arith, Bool, true, false, List, [], replicate, Some, None, Option, refl, subst}
+use Rattle.std.proofs.Common.{◌≡◌, ℕ, ◌<◌, ◌^◌, arith, Bool, true, false, List, [], replicate, Some, None, Option, refl, subst, ◌∷◌}
 use Rattle.std.specs.Prelude.{◌&&◌, not, if◌then◌else◌, nat_lt, nat_le, length, Result, Ok}
 use Rattle.std.proofs.lemmas.List.{length-replicate}
 use Rattle.bx_model.specs.declared.call.Call.{Call}
@@ -35,8 +35,8 @@ use Rattle.bx_tree_laws.proofs.NewFiles.{new_bytes, new_directory, new_path}
 
 -- a step that keeps a file tree, whatever unused handle its file gets
 abbrev pub StepKeeps : Tree → Step → Type 0
-StepKeeps tree (Gives reply next) = Follows tree next
-StepKeeps tree (Makes file) = (made : ℕ) → is_unused tree made ≡ true → Follows tree (file made).1
+StepKeeps tree (Gives reply next) = Follows [] tree next
+StepKeeps tree (Makes file) = (made : ℕ) → is_unused tree made ≡ true → Follows (made ∷ []) tree (file made).1
 
 step_is : (tree : Tree) (one other : Step) → ◌≡◌ {A = Result Step ℕ} (Ok one) (Ok other) → StepKeeps tree one → StepKeeps tree other
 step_is tree one other e keeps = let same : one ≡ other = cc in subst (StepKeeps tree) same keeps
@@ -100,7 +100,7 @@ module _ (tree : Tree) (was : IsFileTree tree) (call : Call) (name : List ℕ) (
       made_follows tree was directory directory.handle now name (new_file call sattr now 0o755 made (body.Names directory.handle 3 [])) (unused_fresh tree made unused) is.0.there is.0.is is.0.good is.1
       (unused_gone tree made was unused) (new_directory call sattr now directory.handle made))
 
-pub link_keeps : (tree : Tree) (call : Call) (from at name : List ℕ) (now : Time) (spare : ℕ) (reply : Reply) (next : Tree) → IsFileTree tree → link tree call from at name now spare ≡ Ok (reply, next) → Follows tree next
+pub link_keeps : (tree : Tree) (call : Call) (from at name : List ℕ) (now : Time) (spare : ℕ) (reply : Reply) (next : Tree) → IsFileTree tree → link tree call from at name now spare ≡ Ok (reply, next) → Follows [] tree next
 link_keeps tree call from at name now spare reply next was e =
     after_must (named_file tree from) STALE _ (reply, next) e λ file found rest.
     after_bind (directory_to_change tree call at name) _ (reply, next) rest λ directory changes rest.
@@ -109,5 +109,5 @@ link_keeps tree call from at name now spare reply next was e =
     after_refuse (nat_le 32000 file.nlink) DQUOT _ (reply, next) rest λ few rest.
     after (entry_errors directory spare) _ (reply, next) rest λ room rest.
     let is = directory_is tree call at name directory changes in
-    subst (Follows tree) (next_is _ reply _ next rest)
+    subst (Follows [] tree) (next_is _ reply _ next rest)
     (linked_follows tree was file directory directory.handle file.handle now name (found_at tree from file found) other is.there is.is is.good (none_is _ absent))

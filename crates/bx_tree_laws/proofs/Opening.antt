@@ -1,6 +1,6 @@
 -- The opening tree is a file tree.
 use Rattle.std.proofs.Common.{◌≡◌, ℕ, arith, [], ◌∷◌, sym, subst, refl, Some, None, inl, inr}
-use Rattle.std.specs.Prelude.{zero, suc, ◌<◌, ◌≤◌, slice_index_or, ◌≢◌, ◌==◌, ◌⊎◌, true, false}
+use Rattle.std.specs.Prelude.{◌^◌, Contains, zero, suc, ◌<◌, ◌≤◌, slice_index_or, ◌≢◌, ◌==◌, ◌⊎◌, true, false}
 use Rattle.std.proofs.lemmas.Bool.Decides.{eqb_tells}
 use Rattle.bx_model.specs.declared.file.File.{File}
 use Rattle.bx_model.specs.Files.{file_at, IsFile}
@@ -39,3 +39,10 @@ opening_is volume areas = record {
     at_none : {file : File} (k : ℕ) → k < 1 → slice_index_or (opening_root ∷ []) k file ≡ file → opening_root ≡ file
     at_none zero within is = is
     at_none (suc k) within is = absurd (omega (arith, within))
+
+pub opening_fits : (volume handle : ℕ) → Contains (opening volume).given handle → handle < 2 ^ 64
+opening_fits volume handle (k, within, is) = by k within is
+  where
+    by : (k : ℕ) → k < 1 → slice_index_or (1 ∷ []) k handle ≡ handle → handle < 2 ^ 64
+    by zero within is = omega (arith, is)
+    by (suc k) within is = absurd (omega (arith, within))

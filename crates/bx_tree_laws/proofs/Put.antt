@@ -23,6 +23,23 @@ handle_stays (x ∷ handles) new handle there = by (x == new) (nat_lt new x) (ha
     by false false later (inl is) = subst (Contains (x ∷ with_handle handles new)) is (contains_first x (with_handle handles new))
     by false false later (inr more) = contains_later x handle (with_handle handles new) (later more)
 
+pub with_handle_cases : (handles : List ℕ) (new handle : ℕ) → Contains (with_handle handles new) handle → Contains handles handle ⊎ (new ≡ handle)
+with_handle_cases [] new handle there = elim (contained_cases new handle [] there) [ inl is ↦ inr is | inr none ↦ absurd (none_contained handle none) ]
+with_handle_cases (x ∷ handles) new handle there = by (x == new) (nat_lt new x) (with_handle_cases handles new handle) there
+  where
+    later : Contains handles handle ⊎ (new ≡ handle) → Contains (x ∷ handles) handle ⊎ (new ≡ handle)
+    later (inl more) = inl (contains_later x handle handles more)
+    later (inr is) = inr is
+
+    by : (b c : Bool) → (Contains (with_handle handles new) handle → Contains handles handle ⊎ (new ≡ handle))
+        → Contains (if b then x ∷ handles else if c then new ∷ x ∷ handles else x ∷ with_handle handles new) handle → Contains (x ∷ handles) handle ⊎ (new ≡ handle)
+    by true c rest there = inl there
+    by false true rest there = elim (contained_cases new handle (x ∷ handles) there) [ inl is ↦ inr is | inr more ↦ inl more ]
+    by false false rest there = elim (contained_cases x handle (with_handle handles new) there) [
+      | inl is ↦ inl (subst (Contains (x ∷ handles)) is (contains_first x handles))
+      | inr more ↦ later (rest more)
+    ]
+
 pub handle_given : (handles : List ℕ) (new : ℕ) → Contains (with_handle handles new) new
 handle_given [] new = contains_first new []
 handle_given (x ∷ handles) new = by (same_or x new) (nat_lt new x) refl (handle_given handles new)

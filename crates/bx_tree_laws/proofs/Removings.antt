@@ -1,5 +1,5 @@
 -- REMOVE and RMDIR keep a file tree.
-use Rattle.std.proofs.Common.{◌≡◌, ℕ, Bool, true, false, List, Some, sym, ap, ◌∙◌, subst}
+use Rattle.std.proofs.Common.{◌≡◌, ℕ, Bool, true, false, List, Some, sym, ap, ◌∙◌, subst, []}
 use Rattle.std.specs.Prelude.{not, Result, Ok}
 use Rattle.std.proofs.lemmas.Bool.{not-false}
 use Rattle.bx_model.specs.declared.call.Call.{Call}
@@ -43,7 +43,7 @@ removed_is tree call at name both e =
     by directory file e is = let same : ◌≡◌ {A = File × File} (directory, file) both = cc in subst (λ (p : File × File). IsRemoved tree name p.0 p.1) same is
 
 away_follows : (tree : Tree) → IsFileTree tree → (directory file : File) (now : Time) (name : List ℕ) → IsRemoved tree name directory file → (is_directory file ≡ true → has_entries file ≡ false)
-    → Follows tree (without_replaced now tree directory name (Some file))
+    → Follows [] tree (without_replaced now tree directory name (Some file))
 away_follows tree was directory file now name removed empty = record {
   is = away_keeps tree was directory file now name removed.entry removed.is.there removed.is.is removed.found (sym (handle_at tree.files removed.entry.handle file removed.there))
       (stands tree removed.entry.handle file removed.there) empty;
@@ -54,17 +54,17 @@ conflict : {P : Type 0} (b : Bool) → b ≡ true → b ≡ false → P
 conflict b one other = let both : true ≡ false = sym one ∙ other in absurd cc
 
 module _ (tree : Tree) (was : IsFileTree tree) (call : Call) (at name : List ℕ) (now : Time) (reply : Reply) (next : Tree) where
-  pub remove_keeps : remove tree call at name now ≡ Ok (reply, next) → Follows tree next
+  pub remove_keeps : remove tree call at name now ≡ Ok (reply, next) → Follows [] tree next
   remove_keeps e =
       after_bind (file_to_remove tree call at name) _ (reply, next) e λ both removed rest.
       after_refuse (is_directory both.1) ISDIR _ (reply, next) rest λ other rest.
-      subst (Follows tree) (ap (lost now tree both.0 name both.1) other ∙ next_is _ reply _ next rest)
+      subst (Follows [] tree) (ap (lost now tree both.0 name both.1) other ∙ next_is _ reply _ next rest)
       (away_follows tree was both.0 both.1 now name (removed_is tree call at name both removed) (λ one. conflict (is_directory both.1) one other))
 
-  pub rmdir_keeps : rmdir tree call at name now ≡ Ok (reply, next) → Follows tree next
+  pub rmdir_keeps : rmdir tree call at name now ≡ Ok (reply, next) → Follows [] tree next
   rmdir_keeps e =
       after_bind (file_to_remove tree call at name) _ (reply, next) e λ both removed rest.
       after_refuse (not (is_directory both.1)) NOTDIR _ (reply, next) rest λ one rest.
       after_refuse (has_entries both.1) NOTEMPTY _ (reply, next) rest λ empty rest.
-      subst (Follows tree) (ap (lost now tree both.0 name both.1) (not-false (is_directory both.1) one) ∙ next_is _ reply _ next rest)
+      subst (Follows [] tree) (ap (lost now tree both.0 name both.1) (not-false (is_directory both.1) one) ∙ next_is _ reply _ next rest)
       (away_follows tree was both.0 both.1 now name (removed_is tree call at name both removed) (λ is. empty))

@@ -1,5 +1,5 @@
 -- RENAME keeps a file tree.
-use Rattle.std.proofs.Common.{◌≡◌, ℕ, Bool, true, false, List, Some, None, Option, refl, sym, ap, ◌∙◌, subst, inl, inr}
+use Rattle.std.proofs.Common.{◌≡◌, ℕ, Bool, true, false, List, Some, None, Option, refl, sym, ap, ◌∙◌, subst, inl, inr, []}
 use Rattle.std.specs.Prelude.{◌⊎◌, ◌&&◌, not, if◌then◌else◌, Result, Ok}
 use Rattle.std.proofs.lemmas.Bool.{not-false}
 use Rattle.bx_model.specs.declared.call.Call.{Call}
@@ -76,7 +76,7 @@ module _ (tree : Tree) (was : IsFileTree tree) (call : Call) (from name to new_n
           subst (λ (o : Option File). IsFileTree (renamed now tree source name target new_name moved o)) (sym is)
           (over_keeps tree was source target moved now name new_name f file one named there (ap (is_same moved) (sym is) ∙ other) (empty file (ap (replace_errors moved) (sym is) ∙ may_replace)))
 
-  pub rename_keeps : rename tree call from name to new_name now spare ≡ Ok (answer, next) → Follows tree next
+  pub rename_keeps : rename tree call from name to new_name now spare ≡ Ok (answer, next) → Follows [] tree next
   rename_keeps e =
       after_must (named_file tree from) STALE _ (answer, next) e λ source source_found rest.
       after_must (named_file tree to) STALE _ (answer, next) rest λ target target_found rest.
@@ -97,8 +97,8 @@ module _ (tree : Tree) (was : IsFileTree tree) (call : Call) (from name to new_n
       by : (source target moved : File) (replaced : Option File) (b : Bool) → is_same moved replaced ≡ b
           → (is_same moved replaced ≡ false → move_errors tree source target moved replaced spare ≡ Ok tt → IsFileTree (renamed now tree source name target new_name moved replaced))
           → ◌≡◌ {A = Result (Reply × Tree) ℕ} (if b then Ok (reply.Status NFS_OK, tree) else (move_errors tree source target moved replaced spare >> Ok (reply.Status NFS_OK, renamed now tree source name target new_name moved replaced))) (Ok (answer, next))
-          → Follows tree next
-      by source target moved replaced true t keeps e = subst (Follows tree) (next_is _ answer tree next e) (follows_same tree was)
+          → Follows [] tree next
+      by source target moved replaced true t keeps e = subst (Follows [] tree) (next_is _ answer tree next e) (follows_same tree was)
       by source target moved replaced false t keeps e =
           after (move_errors tree source target moved replaced spare) _ (answer, next) e λ allowed rest.
-          subst (Follows tree) (next_is _ answer _ next rest) record { is = keeps t allowed; grows = grows_renamed tree now source name target new_name moved replaced }
+          subst (Follows [] tree) (next_is _ answer _ next rest) record { is = keeps t allowed; grows = grows_renamed tree now source name target new_name moved replaced }

@@ -1,5 +1,5 @@
 -- A file whose content or attributes are changed leaves a file tree.
-use Rattle.std.proofs.Common.{◌≡◌, ℕ, ◌≤◌, true, List, refl, sym, ap, ◌∙◌}
+use Rattle.std.proofs.Common.{◌≡◌, ℕ, ◌≤◌, true, List, refl, sym, ap, ◌∙◌, []}
 use Rattle.std.specs.Prelude.{◌≢◌, ◌==◌}
 use Rattle.bx_model.specs.declared.file.File.{File}
 use Rattle.bx_model.specs.declared.tree.Tree.{Tree}
@@ -44,5 +44,5 @@ touched_keeps tree at change touch was = tree_of (changed tree at change) (links
     plan : Plan
     plan = plan_of tree (links_to tree.files) (inside tree.files) was.depth
 
-pub touched_follows : (tree : Tree) (at : ℕ) (change : File → File) → IsTouch change → IsFileTree tree → Follows tree (changed tree at change)
+pub touched_follows : (tree : Tree) (at : ℕ) (change : File → File) → IsTouch change → IsFileTree tree → Follows [] tree (changed tree at change)
 touched_follows tree at change touch was = record { is = touched_keeps tree at change touch was; grows = grows_changed tree tree at change touch.handle (grows_same tree) }

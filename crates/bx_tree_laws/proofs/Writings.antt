@@ -1,5 +1,5 @@
 -- SETATTR and WRITE keep a file tree.
-use Rattle.std.proofs.Common.{◌≡◌, ℕ, ◌+◌, ◌<◌, ◌^◌, arith, Bool, true, false, List, refl, subst}
+use Rattle.std.proofs.Common.{◌≡◌, ℕ, ◌+◌, ◌<◌, ◌^◌, arith, Bool, true, false, List, refl, subst, []}
 use Rattle.std.specs.Prelude.{◌==◌, ◌%◌, ◌&&◌, not, if◌then◌else◌, nat_lt, length, Result, Ok}
 use Rattle.std.proofs.lemmas.Bool.Decides.{nat_tests}
 use Rattle.bx_model.specs.declared.call.Call.{Call}
@@ -96,12 +96,12 @@ resize_fits call file size e given =
     after_refuse (is_given size && not (may call file want.Write)) ACCES _ tt rest λ may rest.
     within (is_given size) size (refused_not (is_given size && nat_lt most_bytes size) FBIG tt rest) given
 
-pub setattr_keeps : (tree : Tree) (call : Call) (at : List ℕ) (sattr : Sattr) (now : Time) (reply : Reply) (next : Tree) → IsFileTree tree → setattr tree call at sattr now ≡ Ok (reply, next) → Follows tree next
+pub setattr_keeps : (tree : Tree) (call : Call) (at : List ℕ) (sattr : Sattr) (now : Time) (reply : Reply) (next : Tree) → IsFileTree tree → setattr tree call at sattr now ≡ Ok (reply, next) → Follows [] tree next
 setattr_keeps tree call at sattr now reply next was e =
     after_must (named_file tree at) STALE _ (reply, next) e λ file found rest.
     after_refuse (is_forbidden call file sattr) PERM _ (reply, next) rest λ allowed rest.
     after (resize_errors call file sattr.size) _ (reply, next) rest λ fits rest.
-    subst (Follows tree) (next_is _ reply _ next rest) (touched_follows tree file.handle (with_fields now sattr) (fields_touch now sattr (resize_fits call file sattr.size fits)) was)
+    subst (Follows [] tree) (next_is _ reply _ next rest) (touched_follows tree file.handle (with_fields now sattr) (fields_touch now sattr (resize_fits call file sattr.size fits)) was)
 
 data_fits : (call : Call) (file : File) (offset count spare : ℕ) → write_errors call file offset count spare ≡ Ok tt → nat_lt 0 count && nat_lt most_bytes (offset + count) ≡ false
 data_fits call file offset count spare e =
@@ -111,7 +111,7 @@ data_fits call file offset count spare e =
     after_refuse (nat_lt 0 count && nat_lt most_bytes (offset + count)) FBIG _ tt rest λ fits rest. fits
 
 pub write_keeps : (tree : Tree) (call : Call) (at : List ℕ) (offset : ℕ) (written : List ℕ) (now : Time) (spare : ℕ) (reply : Reply) (next : Tree) → IsFileTree tree
-    → write tree call at offset written now spare ≡ Ok (reply, next) → Follows tree next
+    → write tree call at offset written now spare ≡ Ok (reply, next) → Follows [] tree next
 write_keeps tree call at offset written now spare reply next was e =
     after_must (named_file tree at) STALE _ (reply, next) e λ file found rest.
     after (write_errors call file offset (length written) spare) _ (reply, next) rest λ allowed rest.
@@ -122,7 +122,7 @@ write_keeps tree call at offset written now spare reply next was e =
 
     by : (file : File) (b : Bool) → (length written == 0) ≡ b → nat_lt 0 (length written) && nat_lt most_bytes (offset + length written) ≡ false
         → ◌≡◌ {A = Result (Reply × Tree) ℕ} (if b then Ok (attributes_reply tree file, tree) else Ok (attributes_reply tree (with_data now offset written file), changed tree file.handle (with_data now offset written))) (Ok (reply, next))
-        → Follows tree next
-    by file true t fits rest = subst (Follows tree) (next_is _ reply tree next rest) (follows_same tree was)
+        → Follows [] tree next
+    by file true t fits rest = subst (Follows [] tree) (next_is _ reply tree next rest) (follows_same tree was)
     by file false t fits rest =
-        subst (Follows tree) (next_is _ reply _ next rest) (touched_follows tree file.handle (with_data now offset written) (data_touch now offset written (short false t refl fits)) was)
+        subst (Follows [] tree) (next_is _ reply _ next rest) (touched_follows tree file.handle (with_data now offset written) (data_touch now offset written (short false t refl fits)) was)

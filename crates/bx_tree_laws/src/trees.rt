@@ -1,6 +1,6 @@
 //! What holds of every file tree.
 
-ghost use Rattle.std.specs.Prelude.{◌≡◌, ◌≢◌, ◌==◌, ◌+◌, ◌<◌, ◌≤◌, ℕ, true, false, List, AllPairs, Contains, None, Some, count_by};
+ghost use Rattle.std.specs.Prelude.{◌≡◌, ◌≢◌, ◌==◌, ◌+◌, ◌^◌, ◌<◌, ◌≤◌, ℕ, true, false, List, AllPairs, Contains, None, Some, count_by};
 ghost use Rattle.bx_model.specs.declared.call.Call.{Call};
 ghost use Rattle.bx_model.specs.declared.file.Body.TheVariants.{Names};
 ghost use Rattle.bx_model.specs.declared.file.File.{File};
@@ -13,6 +13,8 @@ ghost use Rattle.bx_model.specs.FileTrees.{IsFileTree, is_directory_at, links_to
 ghost use Rattle.bx_model.specs.Entries.{is_bad};
 ghost use Rattle.bx_model.specs.Names.{names_of, next_of};
 ghost use Rattle.bx_tree_laws.specs.Acting.{PathFits};
+ghost use Rattle.bx_model.specs.Opening.{opening};
+ghost use Rattle.bx_tree_laws.specs.Telling.{HandlesFit};
 ghost use Rattle.bx_tree_laws.specs.Ways.{IsIn, LeadsDown};
 
 /// Handles tell files apart: no two files have one, and each file is found by its own.
@@ -20,6 +22,13 @@ pub fn handles_tell_files_apart()
     ensures apart { (tree : Tree) → IsFileTree tree → AllPairs (λ file later. file.handle ≢ later.handle) tree.files }
     ensures one { (tree : Tree) (file other : File) → IsFileTree tree → Contains tree.files file → Contains tree.files other → file.handle ≡ other.handle → file ≡ other }
     ensures found { (tree : Tree) (file : File) → IsFileTree tree → Contains tree.files file → file_at tree.files file.handle ≡ Some file }
+{}
+
+/// Handles are numbers of 64 bits: the root's is, and every step leaves them so where a new file's is one.
+pub fn handles_have_64_bits()
+    ensures opening { (volume : ℕ) → HandlesFit (opening volume) }
+    ensures step { (tree : Tree) (call : Call) (moment spare made : ℕ) (reply : Reply) (next : Tree) → IsFileTree tree → PathFits call.args → HandlesFit tree → made < 2 ^ 64
+        → act tree call moment spare made ≡ Some (reply, next) → HandlesFit next }
 {}
 
 /// A handle that was given out never comes back: it stays among those given out, where each file's is, and no step makes a file of it.

@@ -24,7 +24,9 @@ pub mod Dropped
 pub mod Away
 pub mod Walks
 pub mod Moved
+pub mod MovedCounts
 pub mod Renamed
+pub mod Relocated
 pub mod Replaced
 pub mod Steps
 pub mod Readings

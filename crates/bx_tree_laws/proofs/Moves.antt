@@ -10,7 +10,8 @@ use Rattle.bx_model.specs.Names.{names_of}
 use Rattle.bx_model.specs.Renaming.{changes_parent, with_moved}
 use Rattle.bx_model.specs.Times.{Time}
 use Rattle.bx_tree_laws.proofs.Lookups.{SameOr, same_or}
-use Rattle.bx_tree_laws.proofs.Renamed.{moved_at_once, renamed_keeps}
+use Rattle.bx_tree_laws.proofs.Relocated.{moved_at_once}
+use Rattle.bx_tree_laws.proofs.Renamed.{renamed_keeps}
 use Rattle.bx_tree_laws.proofs.Walks.{Cut}
 use Rattle.bx_model.specs.Entries.{entry_named, is_bad}
 

@@ -18,6 +18,7 @@ pub mod Touched
 pub mod Members
 pub mod Linked
 pub mod Made
+pub mod MadeKeeps
 pub mod Taken
 pub mod Unlinked
 pub mod Dropped

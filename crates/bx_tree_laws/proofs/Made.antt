@@ -1,5 +1,5 @@
--- A new file, which a new entry of a directory names, leaves a file tree.
-use Rattle.std.proofs.Common.{Bool, ◌≡◌, ℕ, suc, ◌+◌, ◌<◌, ◌≤◌, arith, true, false, List, [], Some, None, Option, refl, sym, ap, ◌∙◌, subst, inl, inr, ◌∷◌}
+-- A new file, which a new entry of a directory names: what each file then has.
+use Rattle.std.proofs.Common.{◌≡◌, ℕ, suc, ◌+◌, ◌≤◌, arith, true, false, List, [], Some, None, Option, refl, sym, ap, ◌∙◌, subst}
 use Rattle.std.specs.Prelude.{◌≢◌, ◌==◌, if◌then◌else◌, Contains, count_by, length}
 use Rattle.std.proofs.lemmas.Bool.{eq-eqb, ne_eqb}
 use Rattle.bx_model.specs.declared.file.Body.{Body}
@@ -7,31 +7,29 @@ use Rattle.bx_model.specs.declared.file.Body.TheVariants.{Bytes, Path, Names}
 use Rattle.bx_model.specs.declared.file.File.{File}
 use Rattle.bx_model.specs.declared.file.Name.{Name}
 use Rattle.bx_model.specs.declared.tree.Tree.{Tree}
-use Rattle.bx_model.specs.Edits.{changed, with_changed, with_new}
+use Rattle.bx_model.specs.Edits.{with_changed}
 use Rattle.bx_model.specs.Files.{IsFile, file_at, is_directory, with_file}
 use Rattle.bx_model.specs.FileTrees.{HasEntries, IsFileTree, is_directory_at, is_directory_in, links_to}
-use Rattle.bx_model.specs.Names.{names_of, next_of, with_entry}
+use Rattle.bx_model.specs.Names.{names_of}
 use Rattle.bx_model.specs.Times.{Time}
 use Rattle.bx_tree_laws.specs.Every.{Every}
 use Rattle.bx_tree_laws.proofs.Counts.{none_contained}
 use Rattle.bx_tree_laws.proofs.Everys.{every_kept, every_with}
-use Rattle.bx_tree_laws.proofs.Grows.{Follows, Grows, grows_changed, grows_new, grows_same}
-use Rattle.bx_tree_laws.proofs.Inside.{inside, inside_entered, inside_kept, inside_other, names_at, names_in}
-use Rattle.bx_tree_laws.proofs.Links.{IsNames, one_if, links_entered, links_kept, links_with}
-use Rattle.bx_tree_laws.proofs.Lookups.{SameOr, same_or, changed_here, some_same, with_here, with_other}
-use Rattle.bx_tree_laws.proofs.Members.{absent_unnamed, entry_of, is_names, links_below, parent_names}
+use Rattle.bx_tree_laws.proofs.Inside.{inside, inside_entered, inside_other, names_at, names_in}
+use Rattle.bx_tree_laws.proofs.Links.{IsNames, one_if, links_entered, links_with}
+use Rattle.bx_tree_laws.proofs.Lookups.{some_same, with_here, with_other}
+use Rattle.bx_tree_laws.proofs.Members.{absent_unnamed, entry_of, is_names, parent_names}
 use Rattle.bx_tree_laws.proofs.DirectoryParts.{MayEnter}
 use Rattle.bx_tree_laws.proofs.Parts.{part_renewed}
 use Rattle.bx_tree_laws.proofs.Plans.{HasCount, HasPart, IsNearer, IsStage, Plan, stage_with}
 use Rattle.bx_tree_laws.proofs.Put.{handle_given, handle_stays, inside_with}
 use Rattle.bx_tree_laws.proofs.Rises.{rise_with}
-use Rattle.bx_tree_laws.proofs.Stages.{one_elsewhere, one_here, part_links, plus, stage_entered, stage_grown, stage_refers}
-use Rattle.bx_tree_laws.proofs.Stays.{parent_same, parent_with, stays_changed, stays_then, stays_with}
-use Rattle.bx_tree_laws.proofs.Whole.{below_next, plan_of, stage_of, tree_of}
+use Rattle.bx_tree_laws.proofs.Stages.{one_elsewhere, one_here, part_links, plus, stage_entered, stage_refers}
+use Rattle.bx_tree_laws.proofs.Stays.{stays_with}
+use Rattle.bx_tree_laws.proofs.Whole.{below_next, plan_of, stage_of}
 use Rattle.bx_model.specs.Entries.{entry_named, is_bad}
 use Rattle.bx_model.specs.Given.{with_handle}
-use Rattle.bx_model.specs.Making.{entered as entering}
-use Rattle.bx_tree_laws.proofs.Halves.{changed_twice, entered, with_subdirectory}
+use Rattle.bx_tree_laws.proofs.Halves.{entered}
 
 -- a new file: it has one link, or it is a directory without entries
 pub record IsNew (parent : ℕ) (new : File) : Type 0 where
@@ -53,19 +51,19 @@ module _ (tree : Tree) (was : IsFileTree tree) (directory : File) (at : ℕ) (no
     (is_there : file_at tree.files at ≡ Some directory) (is_one : is_directory directory ≡ true)
     (good : is_bad name ≡ false) (absent : entry_named (names_of directory.body) name ≡ None)
     (gone : file_at tree.files new.handle ≡ None) (is_new : IsNew at new) where
-  abbrev made : ℕ
+  abbrev pub made : ℕ
   made = new.handle
 
-  abbrev first : List File
+  abbrev pub first : List File
   first = with_file tree.files new
 
-  abbrev files : List File
+  abbrev pub files : List File
   files = with_changed first at (entered now name made)
 
-  abbrev links : ℕ → ℕ
+  abbrev pub links : ℕ → ℕ
   links = plus made (links_to tree.files)
 
-  abbrev depth : ℕ → ℕ
+  abbrev pub depth : ℕ → ℕ
   depth handle = if made == handle then suc (was.depth at) else was.depth handle
 
   -- what is there isn't the new file
@@ -96,7 +94,7 @@ module _ (tree : Tree) (was : IsFileTree tree) (directory : File) (at : ℕ) (no
       let above = depth_other at (not_made at directory is_there) in
       omega (arith, depth_made, above, ap depth up)
 
-  abbrev plan : Plan
+  abbrev pub plan : Plan
   plan = record { root = tree.root; ref = tree.files; links = links; inside = inside tree.files; depth = depth; given = with_handle tree.given made }
 
   count_new : HasCount (links made) (inside tree.files made) new.nlink new.body
@@ -130,10 +128,10 @@ module _ (tree : Tree) (was : IsFileTree tree) (directory : File) (at : ℕ) (no
       (omega (arith, one_elsewhere made handle apart)) refl part))
       (stage_of tree was)
 
-  still : file_at first at ≡ Some directory
+  pub still : file_at first at ≡ Some directory
   still = with_other tree.files new at (not_made at directory is_there) ∙ is_there
 
-  body : IsNames directory.body
+  pub body : IsNames directory.body
   body = is_names tree was at directory is_there is_one
 
   may : (f : File) → file_at first at ≡ Some f → MayEnter first at name made f.body
@@ -145,12 +143,12 @@ module _ (tree : Tree) (was : IsFileTree tree) (directory : File) (at : ℕ) (no
     parent = is_new.parent_is;
   }
 
-  stage : IsStage (record plan { ref = first }) files
+  pub stage : IsStage (record plan { ref = first }) files
   stage = stage_entered (record plan { ref = first }) first
       (stage_refers plan first put_in first (λ handle f entry is within. stays_with tree.files new entry.handle gone))
       at now name made may
 
-  links_are : (handle : ℕ) → links handle ≡ links_to files handle
+  pub links_are : (handle : ℕ) → links handle ≡ links_to files handle
   links_are handle =
       let more = links_entered first at now name made directory handle (rise_with tree.files new was.rise) still body in
       let same = links_with tree.files new handle gone is_new.none in
@@ -168,88 +166,25 @@ module _ (tree : Tree) (was : IsFileTree tree) (directory : File) (at : ℕ) (no
   directory_new : is_directory_at first made ≡ is_directory new
   directory_new = ap is_directory_in (with_here tree.files new)
 
-  inside_at : inside files at ≡ inside tree.files at + one_if (is_directory new)
+  pub inside_at : inside files at ≡ inside tree.files at + one_if (is_directory new)
   inside_at =
       let more = inside_entered first at now name made directory still body in
       omega (arith, more, inside_first at, ap {B = ℕ} one_if directory_new)
 
-  inside_away : (handle : ℕ) → at ≢ handle → inside files handle ≡ inside tree.files handle
+  pub inside_away : (handle : ℕ) → at ≢ handle → inside files handle ≡ inside tree.files handle
   inside_away handle apart = inside_other first at (entered now name made) (λ f. refl) (λ f. refl) handle apart ∙ inside_first handle
 
-  named : Every (λ handle f. handle ≢ tree.root → 1 ≤ links handle) files
+  pub named : Every (λ handle f. handle ≢ tree.root → 1 ≤ links handle) files
   named = every_kept (λ handle f. handle ≢ tree.root → 1 ≤ links handle) first at (entered now name made) (λ f. refl) (λ handle f h. h)
       (every_with (λ handle f. handle ≢ tree.root → 1 ≤ links handle) tree.files new
       (λ other. omega (arith, one_here made))
       (λ handle f apart is other. let one = was.named handle f is other in omega (arith, one)))
 
-  once : Every (λ handle f. is_directory f ≡ true → links handle ≤ 1) files
+  pub once : Every (λ handle f. is_directory f ≡ true → links handle ≤ 1) files
   once = every_kept (λ handle f. is_directory f ≡ true → links handle ≤ 1) first at (entered now name made) (λ f. refl) (λ handle f h. h)
       (every_with (λ handle f. is_directory f ≡ true → links handle ≤ 1) tree.files new
       (λ is. omega (arith, one_here made, absent_unnamed tree was made gone))
       (λ handle f apart is yes'. omega (arith, was.once handle f is yes', one_elsewhere made handle apart)))
 
-  unnamed : links tree.root ≡ 0
+  pub unnamed : links tree.root ≡ 0
   unnamed = omega (arith, was.root_unnamed, one_elsewhere made tree.root not_root)
-
-  abbrev next : Tree
-  next = record tree { files = files; given = with_handle tree.given made }
-
-  -- a file that is no directory
-  pub made_keeps : is_directory new ≡ false → IsFileTree (changed (with_new tree new) at (entered now name made))
-  made_keeps other = tree_of next links (inside tree.files) depth
-      (stage_refers (record plan { ref = first }) files stage files
-      (λ handle f entry is within. stays_changed first at (entered now name made) entry.handle (λ g. refl) (λ same g g_is. parent_with name made g.body)))
-      links_are (λ handle. by handle (same_or at handle)) named once unnamed
-    where
-      by : (handle : ℕ) → SameOr at handle → inside tree.files handle ≡ inside files handle
-      by handle (inl same) = omega (arith, inside_at, ap {B = ℕ} one_if other, ap (inside files) same.1, ap (inside tree.files) same.1)
-      by handle (inr away) = sym (inside_away handle away.1)
-
-  -- a directory, which counts in the one that it is in
-  abbrev grown : List File
-  grown = with_changed files at with_subdirectory
-
-  room : (f : File) → file_at files at ≡ Some f → (is_directory f ≡ true) × (f.nlink + 1 < next_of f.body)
-  room f is =
-      let here = changed_here first at (entered now name made) directory (λ g. refl) still in
-      let same : entered now name made directory ≡ f = some_same (entered now name made directory) f (sym here ∙ is) in
-      subst (λ (g : File). (is_directory g ≡ true) × (g.nlink + 1 < next_of g.body)) same (is_one, by directory.body body (links_below tree was at directory is_there is_one))
-    where
-      by : (b : Body) → IsNames b → directory.nlink < next_of b → directory.nlink + 1 < next_of (with_entry name made b)
-      by (Bytes bytes) is less = absurd (omega (arith, less))
-      by (Path path) is less = absurd (omega (arith, less))
-      by (Names parent next names) is less = omega (arith, less)
-
-  pub made_directory_keeps : is_directory new ≡ true → IsFileTree (changed (changed (with_new tree new) at (entered now name made)) at with_subdirectory)
-  made_directory_keeps is = tree_of (changed next at with_subdirectory) links (plus at (inside tree.files)) depth
-      (stage_refers (record plan { ref = first; inside = plus at (inside tree.files) }) grown (stage_grown (record plan { ref = first }) files stage at room) grown
-      (λ handle f entry is within. stays_then first files grown entry.handle
-      (stays_changed first at (entered now name made) entry.handle (λ g. refl) (λ same g g_is. parent_with name made g.body))
-      (stays_changed files at with_subdirectory entry.handle (λ g. refl) (λ same g g_is. parent_same g.body))))
-      (λ handle. links_are handle ∙ sym (links_kept files at with_subdirectory handle (λ f. refl)))
-      (λ handle. by handle (same_or at handle) ∙ sym (inside_kept files at with_subdirectory (λ f. refl) (λ f. refl) (λ f. refl) handle))
-      (every_kept (λ handle f. handle ≢ tree.root → 1 ≤ links handle) files at with_subdirectory (λ f. refl) (λ handle f h. h) named)
-      (every_kept (λ handle f. is_directory f ≡ true → links handle ≤ 1) files at with_subdirectory (λ f. refl) (λ handle f h. h) once)
-      unnamed
-    where
-      by : (handle : ℕ) → SameOr at handle → plus at (inside tree.files) handle ≡ inside files handle
-      by handle (inl same) = omega (arith, inside_at, ap {B = ℕ} one_if is, ap (inside files) same.1, ap (inside tree.files) same.1, one_here at, ap {B = ℕ} (λ (h : ℕ). one_if (at == h)) same.1)
-      by handle (inr away) = omega (arith, inside_away handle away.1, one_elsewhere at handle away.1)
-
-module _ (tree : Tree) (was : IsFileTree tree) (directory : File) (at : ℕ) (now : Time) (name : List ℕ) (new : File) (fresh : Contains tree.given new.handle → ⊥)
-    (is_there : file_at tree.files at ≡ Some directory) (is_one : is_directory directory ≡ true)
-    (good : is_bad name ≡ false) (absent : entry_named (names_of directory.body) name ≡ None)
-    (gone : file_at tree.files new.handle ≡ None) (is_new : IsNew at new) where
-  pub made_follows : Follows (new.handle ∷ []) tree (changed (with_new tree new) at (entering now name new.handle (is_directory new)))
-  made_follows = by (is_directory new) refl
-    where
-      grows : (counts : Bool) → Grows (new.handle ∷ []) tree (changed (with_new tree new) at (entering now name new.handle counts))
-      grows counts = grows_changed tree (with_new tree new) at (entering now name new.handle counts) (λ f. refl) (grows_new tree tree new fresh (grows_same tree))
-
-      by : (counts : Bool) → is_directory new ≡ counts → Follows (new.handle ∷ []) tree (changed (with_new tree new) at (entering now name new.handle counts))
-      by false other = record { is = made_keeps tree was directory at now name new is_there is_one good absent gone is_new other; grows = grows false }
-      by true is = record {
-        is = subst (λ (l : List File). IsFileTree (record (with_new tree new) { files = l })) (changed_twice (with_file tree.files new) at (entered now name new.handle) with_subdirectory (λ f. refl))
-            (made_directory_keeps tree was directory at now name new is_there is_one good absent gone is_new is);
-        grows = grows true;
-      }

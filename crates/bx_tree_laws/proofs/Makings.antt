@@ -24,7 +24,7 @@ use Rattle.bx_model.specs.Times.{Time, is_given}
 use Rattle.bx_model.specs.Writing.{most_bytes, resize_errors, with_size}
 use Rattle.bx_tree_laws.proofs.Grows.{Follows, follows_same}
 use Rattle.bx_tree_laws.proofs.Linked.{linked_follows}
-use Rattle.bx_tree_laws.proofs.Made.{made_follows}
+use Rattle.bx_tree_laws.proofs.MadeKeeps.{made_follows}
 use Rattle.bx_tree_laws.proofs.Members.{found_at}
 use Rattle.bx_tree_laws.proofs.Steps.{after, after_bind, after_must, after_refuse, next_is}
 use Rattle.bx_tree_laws.proofs.Touched.{touched_follows}

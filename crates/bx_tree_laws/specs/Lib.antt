@@ -1,0 +1,4 @@
+pub mod Every
+pub mod Acting
+pub mod Ways
+pub mod Telling

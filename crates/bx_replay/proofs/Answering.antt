@@ -1,5 +1,5 @@
 -- What a call that acts adds to a replay.
-use Rattle.std.proofs.Common.{◌≡◌, ℕ, ◌+◌, ◌≤◌, List, Some, refl, lit≤}
+use Rattle.std.proofs.Common.{◌≡◌, ℕ, ◌+◌, ◌≤◌, List, Some, refl, arith, lit≤}
 use Rattle.bx_model.specs.declared.call.Call.{Call}
 use Rattle.bx_model.specs.declared.reply.Reply.{Reply}
 use Rattle.bx_model.specs.declared.tree.Tree.{Tree}
@@ -18,6 +18,6 @@ answering old next reading datagram xid call reply text fits reads served acts t
   step = λ client. record {
     entry = record { call = old.calls + 1; what = call; moment = reading; spare = 8; made = 0; reply = reply };
     typed = record { xid = xid; number = refl; reads = reads; moment = refl; spare = refl; made = refl; replies = text-is };
-    step = record { acts = acts; moment_fits = fits; spare_fits = lit≤ tt; enough = λ _. refl };
+    step = record { acts = acts; moment_fits = fits; spare_fits = lit≤ tt; made_fits = omega arith; enough = λ _. refl };
   };
 }

@@ -88,7 +88,10 @@ none_refused schedule done (line ∷ others) NotBuilt e begins headed few served
     let long : length (map spelling done) ≡ length done = length-map done spelling in
     let call = Call refused.1.reading refused.1.node refused.1.client refused.1.datagram in
     let same : at.value ≡ call = spelling_injective at.value call at.place.0 refused.1.in_place.0.0 (sym at.spelled ∙ refused.1.spelled) in
-    refused.1.unserved (rw same at at.served).1
+    elim (rw same at at.served).1 [
+      | inl none ↦ (let message = refused.1.message in cc)
+      | inr known ↦ refused.1.unserved known
+    ]
 
 not_refused : (text : List ℕ) (schedule : List Line) (number : ℕ) (reason : Reason)
     → IsSchedule (lines_of text) schedule → AllByRecursion IsServedLine schedule → IsFirstRefused text number reason → ⊥

@@ -47,6 +47,27 @@ silent_part Step rules first parts history last reading runs so_far = record {
   answered = so_far.answered;
 }
 
+-- ---- a part in which something arrives that is no call
+
+pub ignored_part : {Tree : Type 0} (Step : Tree → Entry → Tree → Type 0) (rules : Rules) (first : Tree) (parts : List Part) (history : List Entry) (last : Tree) (reading : ℕ) (arrival : Arrival)
+    → rules.is_call arrival.bytes ≡ false → AccountsNewest Step rules first parts history last
+    → AccountsNewest Step rules first (record { what = record { arrives = Some arrival; reading = Some reading; ends = none_ends; runs = false }; lines = [] } ∷ parts) history last
+ignored_part Step rules first parts history last reading arrival none so_far = record {
+  fits = so_far.fits;
+  leads = so_far.leads;
+  placed = (
+    record {
+      takes = rw none refl;
+      repeats = rw none refl;
+      immediate = tt;
+      prompt = λ _. record { answered = λ e. absurd cc; spares = tt };
+      moments = tt;
+    },
+    so_far.placed,
+  );
+  answered = so_far.answered;
+}
+
 -- ---- a call that is answered at once
 
 -- with nothing that waits and nothing kept, each call is taken

@@ -1,5 +1,5 @@
 -- Files stay files when they are edited.
-use Rattle.std.proofs.Common.{◌≡◌, ℕ, ◌+◌, ◌-◌, ◌<◌, ◌≤◌, Bool, true, false, cond, not, List, [], ◌∷◌, ◌++◌, refl, arith}
+use Rattle.std.proofs.Common.{◌≡◌, ℕ, ◌+◌, ◌-◌, ◌<◌, Bool, true, false, cond, not, List, [], ◌∷◌, refl, arith}
 use Rattle.std.specs.Prelude.{bytes_eq, IfSome, OnOk, OnErr, Option, Some, None, Result, Ok, Err}
 use Rattle.bx_model.specs.declared.edits.Edit.{Edit}
 use Rattle.bx_model.specs.declared.edits.Edit.TheVariants.{Fields, Size, Data, Entered, TakenOut, Linked, Unlinked, MovedTo}
@@ -11,7 +11,7 @@ use Rattle.bx_model.specs.Entries.{AreBelow, with_name, without_name}
 use Rattle.bx_model.specs.FileEdits.{CanEdit, edited, is_free, is_sure}
 use Rattle.bx_model.specs.Files.{IsFile, IsNumbered, kind_of, size_of}
 use Rattle.bx_model.specs.Making.{entered}
-use Rattle.bx_model.specs.Names.{with_entry, without_entry, next_of}
+use Rattle.bx_model.specs.Names.{with_entry, without_entry}
 use Rattle.bx_model.specs.Removing.{taken_out}
 use Rattle.bx_model.specs.Times.{Time}
 

@@ -1,5 +1,5 @@
 -- One step of the tree.
-use Rattle.std.specs.Prelude.{◌≡◌, ℕ, ◌==◌, if◌then◌else◌, List, Option, Ok}
+use Rattle.std.specs.Prelude.{ℕ, ◌==◌, if◌then◌else◌, List, Option, Ok}
 use Rattle.bx_model.specs.declared.call.Args.{Args}
 use Rattle.bx_model.specs.declared.call.Args.TheVariants as args
 use Rattle.bx_model.specs.declared.call.Call.{Call}

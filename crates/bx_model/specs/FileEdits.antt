@@ -1,5 +1,5 @@
 -- Edits of a file, as procedures make them.
-use Rattle.std.specs.Prelude.{◌≡◌, ℕ, ◌+◌, ◌<◌, ◌≤◌, ◌==◌, nat_lt, Bool, true, false, ◌&&◌, List, length, None}
+use Rattle.std.specs.Prelude.{◌≡◌, ℕ, ◌+◌, ◌<◌, ◌≤◌, nat_lt, Bool, true, false, ◌&&◌, List, length, None}
 use Rattle.bx_model.specs.declared.edits.Edit.{Edit}
 use Rattle.bx_model.specs.declared.edits.Edit.TheVariants.{Fields, Size, Data, Entered, TakenOut, Linked, Unlinked, MovedTo}
 use Rattle.bx_model.specs.declared.file.File.{File}

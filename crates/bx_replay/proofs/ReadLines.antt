@@ -137,7 +137,8 @@ unserved_at done number (Call reading node client datagram) others some count fe
     datagram = datagram;
     in_place = rw (not_first done number some count) at place;
     spelled = refl;
-    unserved = unserved;
+    message = unserved.0;
+    unserved = unserved.1;
   },
 )
 unserved_at done number (Run reading limit) others some count few place unserved = absurd unserved

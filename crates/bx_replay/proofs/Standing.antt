@@ -1,5 +1,5 @@
 -- A replay that stands goes on by one line.
-use Rattle.std.proofs.Common.{◌≡◌, ℕ, ◌+◌, ◌<◌, false, List, [], ◌∷◌, ◌++◌, length, take, drop, Some, None, lit≤, true, refl, ap, subst, ◌∙◌, arith, append_assoc}
+use Rattle.std.proofs.Common.{◌≡◌, ℕ, ◌+◌, ◌<◌, false, List, [], ◌∷◌, ◌++◌, length, take, drop, Some, None, lit≤, inl, inr, true, refl, ap, subst, ◌∙◌, arith, append_assoc}
 use Rattle.std.specs.Prelude.{map, reverse}
 use Rattle.std.specs.List.{AllByRecursion}
 use Rattle.std.proofs.lemmas.List.{append-nil, length-append, length-map, length-reverse, reverse-append, take-append-drop}
@@ -13,10 +13,10 @@ use Rattle.bx_history.specs.Trace as traces
 use Rattle.bx_history.specs.Parts.{trace_of}
 use Rattle.bx_history.specs.Along.{Done, parts_of, schedule_of}
 use Rattle.bx_history.specs.Account.{AccountsNewest, answered_entry, answered_lines}
-use Rattle.bx_history.proofs.Answered.{answered_call, silent_part}
+use Rattle.bx_history.proofs.Answered.{answered_call, ignored_part, silent_part}
 use Rattle.bx_model.specs.declared.tree.Tree.{Tree}
 use Rattle.bx_replay.specs.declared.state.Replay.{Replay}
-use Rattle.bx_replay.specs.Headline.{IsInPlace, rules, opening_of, Step, IsServedLine}
+use Rattle.bx_replay.specs.Headline.{IsInPlace, rules, opening_of, Step, IsServedLine, is_message}
 use Rattle.bx_replay.specs.Replay.{Stands, StandsAfter, BreaksAfter, Answers}
 use Rattle.bx_replay.proofs.Allowed.{done_push}
 use Rattle.bx_replay.proofs.TraceTexts.{trace_text-append}
@@ -83,6 +83,16 @@ stands_silent replay line done start written silent room place served stands =
     let after = extended replay replay line [] done start written [] stands.history room place served stands accounts stands.counted tt refl in
     record { lines = []; stands = rw append-nil at after }
 
+-- ---- a datagram that is no call
+
+pub stands_ignored : (replay : Replay) (reading node client : ℕ) (datagram : List ℕ) (done : List Done) (start written : List ℕ)
+    → is_message datagram ≡ false → length done < 4294967295 → IsInPlace false (Call reading node client datagram) → Stands replay done start written
+    → StandsAfter replay (Call reading node client datagram) done start written
+stands_ignored replay reading node client datagram done start written none room place stands =
+    let accounts = ignored_part Step rules (opening_of (schedule_of done)) (parts_of done) stands.history replay.tree reading (record { node = node; client = client; bytes = datagram }) none stands.accounts in
+    let after = extended replay replay (Call reading node client datagram) [] done start written [] stands.history room place (place.1, inl none) stands accounts stands.counted tt refl in
+    record { lines = []; stands = rw append-nil at after }
+
 -- ---- a call that is taken and answered
 
 turned : (call node client reading : ℕ) (datagram reply : List ℕ) (point : Point) → point ≡ record { call = call; moment = reading; spare = 8; made = 0 }
@@ -104,22 +114,22 @@ still_answers old new now reading datagram point reply tree calls answers = reco
 }
 
 pub stands_answered : (old new : Replay) (reading node client : ℕ) (datagram : List ℕ) (point : Point) (reply : List ℕ) (done : List Done) (start written text : List ℕ)
-    → length done < 4294967295 → IsInPlace false (Call reading node client datagram) → Stands old done start written → Answers old new reading datagram point reply
+    → is_message datagram ≡ true → length done < 4294967295 → IsInPlace false (Call reading node client datagram) → Stands old done start written → Answers old new reading datagram point reply
     → text ≡ trace_text (Took point.call node client datagram ∷ Acted point ∷ Reply point.call reply ∷ [])
     → AllByRecursion InTraceRange (Took point.call node client datagram ∷ Acted point ∷ Reply point.call reply ∷ [])
     → StandsAfter new (Call reading node client datagram) done start (written ++ text)
-stands_answered old new reading node client datagram point reply done start written text room place stands answers text-is in_range =
+stands_answered old new reading node client datagram point reply done start written text message room place stands answers text-is in_range =
     let number : old.calls + 1 ≡ traces.taken_count (trace_of (parts_of done)) + 1 = ap (λ (n : ℕ). n + 1) stands.counted in
     let lines = answered_lines (old.calls + 1) node client datagram reading 8 0 reply in
     let accounts = answered_call Step rules (opening_of (schedule_of done)) (parts_of done) stands.history old.tree new.tree reading node client datagram (old.calls + 1) 8 0 reply
-    refl refl number (lit≤ tt) stands.accounts (answers.step client) in
+    refl message number (lit≤ tt) stands.accounts (answers.step client) in
     let counted : new.calls ≡ traces.taken_count (lines ++ trace_of (parts_of done)) = omega (arith, answers.counted, stands.counted) in
     let text-at : text ≡ trace_text (reverse lines) = text-is ∙ ap (λ (p : Point). trace_text (Took p.call node client datagram ∷ Acted p ∷ Reply p.call reply ∷ [])) answers.point-is in
     let fits : AllByRecursion InTraceRange lines = turned (old.calls + 1) node client reading datagram reply point answers.point-is in_range in
     record {
       lines = lines;
       stands = extended old new (Call reading node client datagram) lines done start written text
-          (answered_entry (old.calls + 1) client datagram reading 8 0 reply ∷ stands.history) room place (place.1, answers.served) stands accounts counted fits text-at;
+          (answered_entry (old.calls + 1) client datagram reading 8 0 reply ∷ stands.history) room place (place.1, inr answers.served) stands accounts counted fits text-at;
     }
 
 -- ---- a trace of which only a part was written

@@ -1,5 +1,6 @@
 -- The headline: what a trace along a schedule says of the file tree.
-use Rattle.std.specs.Prelude.{◌≡◌, ℕ, Bool, true, List, [], ◌∷◌, ◌++◌}
+use Rattle.std.specs.Prelude.{◌≡◌, ◌⊎◌, ℕ, ◌&&◌, nat_le, Bool, true, false, List, [], ◌∷◌, ◌++◌, length, take, drop}
+use Rattle.std.specs.Str.{bytes_eq}
 use Rattle.std.specs.List.{AllByRecursion}
 use Rattle.bx_script.specs.declared.line.Line.{Line}
 use Rattle.bx_script.specs.declared.line.Line.TheVariants.{Heading, Call, Run}
@@ -16,10 +17,14 @@ use Rattle.bx_model.specs.Opening.{opening}
 use Rattle.bx_model.specs.History.{IsStep}
 use Rattle.bx_nfs.specs.Wire.{ReadsAs, IsServed, reply_text}
 
--- Every datagram that is served is taken, and each is answered at its own line, with blocks enough, so that nothing waits behind a
+-- whether a datagram is a call's (RFC 5531, section 9): it has 8 to 9216 bytes, of which the second word is CALL (0)
+abbrev pub is_message : List ℕ → Bool
+is_message datagram = nat_le (length datagram) 9216 && bytes_eq (take 4 (drop 4 datagram)) (0 ∷ 0 ∷ 0 ∷ 0 ∷ [])
+
+-- Every datagram that is a call is taken, and each is answered at its own line, with blocks enough, so that nothing waits behind a
 -- run; no answer is kept for repeats.
 abbrev pub rules : Rules
-rules = record { is_call = λ _. true; is_immediate = λ _ _. true; is_prompt = λ _. true; kept = 0 }
+rules = record { is_call = is_message; is_immediate = λ _ _. true; is_prompt = λ _. true; kept = 0 }
 
 -- the tree that a schedule begins with: the opening tree of the heading's volume, with its areas
 abbrev pub opening_of : List Line → Tree
@@ -74,8 +79,8 @@ IsBuilt (Run reading limit) = Unit {0}
 abbrev pub IsInPlace : Bool → Line → Type 0
 IsInPlace first line = HasPlace first line × IsBuilt line
 
--- such a line whose call, if it is one, is served
+-- such a line of which the datagram, if it has one, is no call, or one that is served
 abbrev pub IsServedLine : Line → Type 0
 IsServedLine (Heading volume nodes devices areas) = IsBuilt (Heading volume nodes devices areas)
-IsServedLine (Call reading node client datagram) = IsBuilt (Call reading node client datagram) × IsServed datagram
+IsServedLine (Call reading node client datagram) = IsBuilt (Call reading node client datagram) × ((is_message datagram ≡ false) ⊎ IsServed datagram)
 IsServedLine (Run reading limit) = Unit {0}

@@ -1,5 +1,5 @@
 -- What a replay leaves on its output, by the way in which it ends.
-use Rattle.std.specs.Prelude.{◌≡◌, ◌≢◌, ℕ, ◌+◌, ◌<◌, ◌≤◌, ◌==◌, Bool, List, [], ◌∷◌, ◌++◌, length, map, reverse, codes, ◌⊎◌}
+use Rattle.std.specs.Prelude.{◌≡◌, ◌≢◌, ℕ, ◌+◌, ◌<◌, ◌≤◌, ◌==◌, Bool, true, List, [], ◌∷◌, ◌++◌, length, map, reverse, codes, ◌⊎◌}
 use Rattle.std.specs.List.{AllByRecursion}
 use Rattle.bx_base.specs.Text.{LacksFeed, ended, text_of, lines_of}
 use Rattle.bx_script.specs.declared.line.Line.{Line}
@@ -14,10 +14,10 @@ use Rattle.bx_model.specs.Listing.{listing}
 use Rattle.bx_nfs.specs.Wire.{IsServed}
 use Rattle.bx_replay.specs.declared.stop.Reason.{Reason}
 use Rattle.bx_replay.specs.declared.stop.Reason.TheVariants.{Grammar, NotBuilt}
-use Rattle.bx_replay.specs.Headline.{Headline, IsInPlace, IsServedLine}
+use Rattle.bx_replay.specs.Headline.{Headline, IsInPlace, IsServedLine, is_message}
 
 -- A line may be done behind these, the newest of which comes first: there is room for it, it has its place and is one of this stage,
--- and its call, if it is one, is served.
+-- and its datagram, if it has one, is no call, or one that is served.
 pub record Allows (before : List Line) (line : Line) : Type 0 where
   pub few : length before < 4294967295
   pub in_place : IsInPlace (length before == 0) line
@@ -54,6 +54,7 @@ pub record IsUnserved (first : Bool) (line : List ℕ) : Type 0 where
   pub datagram : List ℕ
   pub in_place : IsInPlace first (Call reading node client datagram)
   pub spelled : line ≡ spelling (Call reading node client datagram)
+  pub message : is_message datagram ≡ true
   pub unserved : IsServed datagram → ⊥
 
 -- A line of text is refused behind these lines, for a reason. The text decides that it is outside the grammar: no line of this stage

@@ -19,7 +19,7 @@ use Rattle.bx_replay.specs.declared.state.Replay.{Replay}
 use Rattle.bx_replay.specs.declared.stop.Reason.TheVariants.{Grammar, NotBuilt}
 use Rattle.bx_replay.specs.declared.stop.Stop.{Stop}
 use Rattle.bx_replay.specs.declared.stop.Stop.TheVariants as stops
-use Rattle.bx_replay.specs.Headline.{rules, opening_of, IsInPlace, IsServedLine, Step}
+use Rattle.bx_replay.specs.Headline.{rules, opening_of, IsInPlace, IsServedLine, Step, is_message}
 use Rattle.bx_replay.specs.Outcome.{AreDone, IsBroken, IsCut, IsCutOff, IsFirstRefused, IsReadTo, IsRefused, IsReplayed, IsServedSchedule}
 
 -- After these lines, the newest first, the replay's tree and its count of calls are those that the trace leaves, and what was written
@@ -100,7 +100,7 @@ pub record BreaksAfter (line : Line) (done : List Done) (start old written : Lis
 -- a call that isn't served
 abbrev pub IsUnservedLine : Line → Type 0
 IsUnservedLine (Heading volume nodes devices areas) = ⊥
-IsUnservedLine (Call reading node client datagram) = IsServed datagram → ⊥
+IsUnservedLine (Call reading node client datagram) = (is_message datagram ≡ true) × (IsServed datagram → ⊥)
 IsUnservedLine (Run reading limit) = ⊥
 
 -- a line that is done is served, and a line that is refused isn't

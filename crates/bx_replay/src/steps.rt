@@ -4,7 +4,7 @@ ghost use Rattle.std.specs.Prelude.{◌≡◌, ◌≤◌, ◌<◌, ◌+◌, ◌^
 ghost use Rattle.bx_history.specs.Along.{Done};
 ghost use Rattle.bx_model.specs.Listing.{IsBare};
 ghost use Rattle.bx_nfs.specs.Wire.{IsServed, IsServedCall, ReadsAs};
-ghost use Rattle.bx_replay.specs.Headline.{IsInPlace};
+ghost use Rattle.bx_replay.specs.Headline.{IsInPlace, is_message as is_call};
 ghost use Rattle.bx_replay.specs.Replay.{Answers, DoesLine, HasStepCause, Serves, Stands, UnlessWrite};
 
 use crate::print::print_lines;
@@ -16,11 +16,18 @@ use bx_outside::Sink;
 use bx_script::{Line, TraceLine};
 use std::alloc::Global;
 
+/// The greatest length of a datagram that is a call's, in bytes.
+const LONGEST_DATAGRAM: usize = 9216;
+
+/// The word that makes a message a call (RFC 5531, section 9).
+const CALL: [u8; 4] = [0; 4];
+
 /// The count of free blocks that a point tells where it doesn't matter: enough.
 const ENOUGH: u64 = 8;
 
 impl Replay {
-    /// Does a line behind the heading: a call is taken, acts and is answered; a run has nothing left to do.
+    /// Does a line behind the heading: a call is taken, acts and is answered; a datagram that is none is passed over, and
+    /// a run has nothing left to do.
     pub fn step<K: Sink>(
         &mut self,
         alloc: Global,
@@ -49,6 +56,9 @@ impl Replay {
                 client,
                 datagram,
             } => {
+                if !is_message(datagram.bytes()) {
+                    return Ok(());
+                }
                 let Some((point, reply)) = self.answer(alloc, reading, datagram.bytes())? else {
                     return Err(Stop::Refused(number, Reason::NotBuilt));
                 };
@@ -100,6 +110,16 @@ impl Replay {
             made: 0,
         };
         Ok(Some((point, reply)))
+    }
+}
+
+/// Whether a datagram is a call's: it has at least two words, of which the second is CALL, and isn't too long.
+fn is_message(datagram: &[u8]) -> bool
+    ensures { result ≡ is_call datagram.now }
+{
+    match datagram.get(4..8) {
+        Some(word) => datagram.len() <= LONGEST_DATAGRAM && word == CALL.as_slice(),
+        None => false,
     }
 }
 

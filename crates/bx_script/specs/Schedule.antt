@@ -10,13 +10,6 @@ is_heading (Heading volume nodes devices areas) = true
 is_heading (Call reading node client datagram) = false
 is_heading (Run reading limit) = false
 
--- the volume that the heading names
-abbrev pub volume_of : List Line → ℕ
-volume_of [] = 0
-volume_of (Heading volume nodes devices areas ∷ lines) = volume
-volume_of (Call reading node client datagram ∷ lines) = 0
-volume_of (Run reading limit ∷ lines) = 0
-
 -- the clock's reading at a line, where it has one
 abbrev pub reading_of : Line → Option ℕ
 reading_of (Heading volume nodes devices areas) = None

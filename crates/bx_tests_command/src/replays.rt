@@ -35,9 +35,16 @@ const NOTHING_TRACE: &str =
 const WALK: &str =
     "boxwood 1 7 1 1 1\ncall 0 0 5 000000010000000000000002000186a3000000020000000000000000000000000000000000000000\nwalk\n";
 
-/// Procedure 17, which isn't served yet.
+/// Procedure 17 of the root, which isn't served yet.
 const STATFS: &str =
+    "boxwood 1 7 1 1 1\ncall 0 0 5 000000010000000000000002000186a3000000020000001100000000000000000000000000000000424f58574f4f4431000000000000000700000000000000010000000000000000\n";
+
+/// Procedure 17 without its file handle, which is refused as a message, and its trace.
+const GARBAGE: &str =
     "boxwood 1 7 1 1 1\ncall 0 0 5 000000010000000000000002000186a3000000020000001100000000000000000000000000000000\n";
+
+const GARBAGE_TRACE: &str =
+    "took 1 0 5 000000010000000000000002000186a3000000020000001100000000000000000000000000000000\npoint 1 0 8 0000000000000000\nreply 1 000000010000000100000000000000000000000000000004\n";
 
 /// Whether a replay, with these calls of the source and of the sink failing, answers this and writes one text, then the other.
 fn comes_to(
@@ -60,6 +67,11 @@ fn a_call_is_answered(rt: HostRuntime) -> Result<(), Fail> {
         (NULL, NULL_TRACE),
         (ROOT, ROOT_TRACE),
         (NOTHING, NOTHING_TRACE),
+        (GARBAGE, GARBAGE_TRACE),
+        // A datagram that is no call is passed over.
+        ("boxwood 1 7 1 1 1\ncall 0 0 5 \n", ""),
+        ("boxwood 1 7 1 1 1\ncall 0 0 5 00000001000000\n", ""),
+        ("boxwood 1 7 1 1 1\ncall 0 0 5 0000000100000001\n", ""),
         ("boxwood 1 7 1 1 1\n", ""),
         ("boxwood 1 7 1 1 1", ""),
     ] {
@@ -84,7 +96,6 @@ fn a_line_is_refused(rt: HostRuntime) -> Result<(), Fail> {
             Reason::Grammar,
             "",
         ),
-        ("boxwood 1 7 1 1 1\ncall 0 0 5 \n", 2, Reason::NotBuilt, ""),
         (STATFS, 2, Reason::NotBuilt, ""),
         ("boxwood 1 7 2 1 1\n", 1, Reason::Grammar, ""),
         ("boxwood 1 7 1 1 1\ncall 0 1 5 00\n", 2, Reason::Grammar, ""),

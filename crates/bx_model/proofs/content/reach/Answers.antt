@@ -1,4 +1,4 @@
-use Rattle.std.proofs.Common.{◌≡◌, ℕ, ◌-◌, ◌<◌, ◌≤◌, List, ◌++◌, length, take, replicate, vec_len, ◌∙◌, sym, ap, arith}
+use Rattle.std.proofs.Common.{◌≡◌, ℕ, ◌-◌, ◌<◌, ◌≤◌, ◌++◌, length, take, replicate, vec_len, ◌∙◌, sym, ap, arith}
 use Rattle.bx_model.proofs.Over.{reached, reached_longer}
 use Rattle.bx_model.proofs.content.reach.Goals as goal
 

@@ -1,4 +1,4 @@
-use Rattle.std.proofs.Common.{◌≡◌, ◌++◌, take, drop, length}
+use Rattle.std.proofs.Common.{◌≡◌, ◌++◌, take, drop}
 use Rattle.bx_model.proofs.metadata.put_words.Given as goal
 
 abbrev pub invariant-loop-at : goal.invariant-loop-at

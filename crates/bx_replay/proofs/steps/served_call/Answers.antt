@@ -1,4 +1,3 @@
-use Rattle.std.proofs.Common.{◌≡◌}
 use Rattle.bx_nfs.proofs.Reading.{unserved}
 use Rattle.bx_replay.proofs.Served.{unread}
 use Rattle.bx_replay.proofs.steps.served_call.Goals as goal

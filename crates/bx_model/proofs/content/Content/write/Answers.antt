@@ -1,4 +1,4 @@
-use Rattle.std.proofs.Common.{◌≡◌, ℕ, ◌+◌, List, ◌++◌, length, take, drop, ◌∙◌, ap, sym}
+use Rattle.std.proofs.Common.{ℕ, ◌+◌, List, ◌++◌, length, take, drop, ◌∙◌, ap, sym}
 use Rattle.bx_model.specs.Contents.{written_over}
 use Rattle.bx_model.proofs.Over.{over_reaching, whole_written}
 use Rattle.bx_model.proofs.content.Content.write.Goals as goal

@@ -1,5 +1,3 @@
-use Rattle.std.proofs.Common.{◌≡◌}
-use Rattle.bx_model.specs.Files.{IsFile}
 use Rattle.bx_model.proofs.Edited.{is_entered, is_taken_out, on_ok_from}
 use Rattle.bx_model.proofs.file.File.edit.Goals as goal
 

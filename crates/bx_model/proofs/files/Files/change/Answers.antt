@@ -1,5 +1,5 @@
 use Rattle.bx_model.specs.Files.{file_at}
-use Rattle.bx_model.proofs.Edited.{can_free, sure_free}
+use Rattle.bx_model.proofs.Edited.{can_free}
 use Rattle.bx_model.proofs.files.Files.change.Goals as goal
 
 pub edit-requires : goal.edit-requires

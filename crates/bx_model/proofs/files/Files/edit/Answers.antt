@@ -1,12 +1,11 @@
-use Rattle.std.proofs.Common.{◌≡◌, ℕ, List, Option, Some, None, ◌∙◌, refl, sym, ap}
-use Rattle.std.specs.Prelude.{IfSome}
+use Rattle.std.proofs.Common.{◌≡◌, ℕ, List, Some, None, ◌∙◌, sym, ap}
 use Rattle.std.specs.Map.{lookup, set_value, values_of}
 use Rattle.std.specs.BTreeMap.{BTreeMap, is_at}
 use Rattle.std.specs.Ordering.{nat_cmp}
 use Rattle.std.proofs.lemmas.Map.Steps.{set_value_same}
 use Rattle.bx_model.specs.declared.file.File.{File}
 use Rattle.bx_model.specs.Edits.{with_changed}
-use Rattle.bx_model.specs.FileEdits.{CanEdit, edited}
+use Rattle.bx_model.specs.FileEdits.{edited}
 use Rattle.bx_model.specs.Files.{IsFile, file_at}
 use Rattle.bx_model.proofs.Edited.{file_after, handle_after, on_ok_from, on_err_from}
 use Rattle.bx_model.proofs.Kept.{file_at-lookup, found_at, at_set, seen_changed, seen_missing}

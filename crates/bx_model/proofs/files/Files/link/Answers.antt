@@ -1,8 +1,6 @@
-use Rattle.std.proofs.Common.{◌≡◌, ℕ, Bool, true, false, eqb, List, Option, Some, None, refl, sym, ap, subst}
+use Rattle.std.proofs.Common.{◌≡◌, ℕ, Bool, true, false, eqb, List, Option, Some, None, refl}
 use Rattle.std.specs.Prelude.{IfSome, option_map}
 use Rattle.std.proofs.lemmas.Bool.{eqb-true}
-use Rattle.bx_model.specs.declared.edits.Edit.{Edit}
-use Rattle.bx_model.specs.declared.edits.Edit.TheVariants.{Entered}
 use Rattle.bx_model.specs.declared.file.File.{File}
 use Rattle.bx_model.specs.Edits.{with_changed}
 use Rattle.bx_model.specs.FileEdits.{CanEnter, CanLink}

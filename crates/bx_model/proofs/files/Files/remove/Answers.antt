@@ -1,4 +1,4 @@
-use Rattle.std.proofs.Common.{◌≡◌, List, ◌∙◌, ap}
+use Rattle.std.proofs.Common.{List, ◌∙◌, ap}
 use Rattle.std.specs.Map.{values_of}
 use Rattle.bx_model.specs.declared.file.File.{File}
 use Rattle.bx_model.specs.Edits.{without_file}

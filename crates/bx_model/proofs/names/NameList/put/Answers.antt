@@ -1,4 +1,4 @@
-use Rattle.std.proofs.Common.{◌≡◌, List, [], ◌∷◌, ◌++◌, ◌∙◌, refl, ap}
+use Rattle.std.proofs.Common.{List, [], ◌∷◌, ◌++◌, ◌∙◌, refl, ap}
 use Rattle.bx_model.specs.declared.file.Name.{Name}
 use Rattle.bx_model.proofs.Named.{apart_inserted, seen_last}
 use Rattle.bx_model.proofs.names.NameList.put.Goals as goal

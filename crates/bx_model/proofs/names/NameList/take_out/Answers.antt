@@ -1,4 +1,4 @@
-use Rattle.std.proofs.Common.{◌≡◌, ℕ, List, ◌∙◌, sym, ap, subst}
+use Rattle.std.proofs.Common.{◌≡◌, List, ◌∙◌, sym, ap}
 use Rattle.std.specs.Map.{values_of}
 use Rattle.bx_model.specs.declared.file.Name.{Name}
 use Rattle.bx_model.specs.Entries.{without_name}

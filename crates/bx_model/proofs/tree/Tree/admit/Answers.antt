@@ -1,6 +1,6 @@
-use Rattle.std.proofs.Common.{◌≡◌, ℕ, List, ◌∙◌, refl, ap}
+use Rattle.std.proofs.Common.{◌≡◌, ℕ, List, ◌∙◌, ap}
 use Rattle.bx_model.specs.declared.file.File.{File}
-use Rattle.bx_model.specs.Given.{with_handle, without_handle}
+use Rattle.bx_model.specs.Given.{without_handle}
 use Rattle.bx_model.proofs.Edited.{on_err_from}
 use Rattle.bx_model.proofs.GivenOut.{without-with}
 use Rattle.bx_model.proofs.Made.{unused_given}

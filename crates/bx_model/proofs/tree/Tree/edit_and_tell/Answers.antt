@@ -1,4 +1,4 @@
-use Rattle.std.proofs.Common.{◌≡◌, Option, Some, None, ◌∙◌, sym, ap}
+use Rattle.std.proofs.Common.{◌≡◌, Some, None, ◌∙◌, sym, ap}
 use Rattle.std.specs.Prelude.{List, option_map}
 use Rattle.bx_model.specs.declared.file.File.{File}
 use Rattle.bx_model.specs.Attributes.{attributes_of}

@@ -1,9 +1,7 @@
-use Rattle.std.proofs.Common.{◌≡◌, ℕ, List, eqb, false, ◌∙◌, refl, sym, ap}
-use Rattle.std.specs.Prelude.{IfSome}
+use Rattle.std.proofs.Common.{◌≡◌, List, eqb, false, ◌∙◌, ap}
 use Rattle.bx_model.specs.declared.file.File.{File}
 use Rattle.bx_model.specs.declared.tree.Tree.{Tree}
-use Rattle.bx_model.specs.Edits.{with_new, without_new}
-use Rattle.bx_model.specs.FileEdits.{CanEnter}
+use Rattle.bx_model.specs.Edits.{without_new}
 use Rattle.bx_model.specs.Files.{file_at}
 use Rattle.bx_model.proofs.Edited.{on_err_from}
 use Rattle.bx_model.proofs.Made.{back_new, file_at-other, made_apart, unused_none}

@@ -1,4 +1,3 @@
-use Rattle.std.proofs.Common.{◌≡◌, refl}
 use Rattle.bx_replay.proofs.Answering.{answering}
 use Rattle.bx_replay.proofs.Served.{keeps, served_from}
 use Rattle.bx_replay.proofs.state.Replay.answer.Goals as goal

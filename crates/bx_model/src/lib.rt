@@ -38,6 +38,3 @@ pub use status::{
     PERM, STALE,
 };
 pub use tree::Tree;
-
-#[cfg(test)]
-mod tests;

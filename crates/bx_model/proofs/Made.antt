@@ -4,13 +4,13 @@ use Rattle.std.specs.List.{list_any}
 use Rattle.std.specs.Prelude.{IsSome}
 use Rattle.std.proofs.lemmas.Bool.{eqb-true}
 use Rattle.std.proofs.lemmas.Bool.Decides.{nat_tests}
-use Rattle.bx_model.specs.declared.file.File.{File}
+use Rattle.bx_tree_files.specs.declared.file.File.{File}
 use Rattle.bx_model.specs.declared.tree.Tree.{Tree}
-use Rattle.bx_model.specs.Attributes.{fileid}
-use Rattle.bx_model.specs.Edits.{is_unused, with_new, without_file, without_new}
-use Rattle.bx_model.specs.Files.{file_at, with_file}
-use Rattle.bx_model.specs.Given.{with_handle, without_handle}
-use Rattle.bx_model.proofs.GivenOut.{without-with}
+use Rattle.bx_tree_files.specs.Attributes.{fileid}
+use Rattle.bx_tree_files.specs.Files.{without_file, file_at, with_file}
+use Rattle.bx_model.specs.Edits.{is_unused, with_new, without_new}
+use Rattle.bx_tree_files.specs.Given.{with_handle, without_handle}
+use Rattle.bx_tree_files.proofs.GivenOut.{without-with}
 
 same_number : (n : ℕ) → eqb n n ≡ true
 same_number n = grind (arith, nat_tests)

@@ -3,7 +3,7 @@ use Rattle.std.specs.Prelude.{ℕ, ◌==◌, if◌then◌else◌, List, Option, 
 use Rattle.bx_model.specs.declared.call.Args.{Args}
 use Rattle.bx_model.specs.declared.call.Args.TheVariants as args
 use Rattle.bx_model.specs.declared.call.Call.{Call}
-use Rattle.bx_model.specs.declared.call.Sattr.{Sattr}
+use Rattle.bx_tree_files.specs.declared.sattr.Sattr.{Sattr}
 use Rattle.bx_model.specs.declared.reply.Reply.{Reply}
 use Rattle.bx_model.specs.declared.reply.Reply.TheVariants as reply
 use Rattle.bx_model.specs.declared.tree.Tree.{Tree}
@@ -14,7 +14,7 @@ use Rattle.bx_model.specs.Reading.{getattr, lookup, readlink, read, statfs}
 use Rattle.bx_model.specs.Removing.{remove, rmdir}
 use Rattle.bx_model.specs.Renaming.{rename}
 use Rattle.bx_model.specs.Steps.{Outcome, Making, plainly, taken}
-use Rattle.bx_model.specs.Times.{Time, time_of}
+use Rattle.bx_tree_files.specs.Times.{Time, time_of}
 use Rattle.bx_model.specs.Writing.{setattr, write}
 
 -- the procedures that take a file handle alone

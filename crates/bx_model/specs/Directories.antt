@@ -1,16 +1,16 @@
 -- READDIR: a directory's entries, page by page.
 use Rattle.std.specs.Prelude.{ℕ, ◌+◌, ◌-◌, ◌*◌, ◌/◌, ◌==◌, nat_lt, nat_le, not, min, if◌then◌else◌, List, [], ◌∷◌, filter, map, length, codes, Ok}
 use Rattle.bx_model.specs.declared.call.Call.{Call}
-use Rattle.bx_model.specs.declared.file.File.{File}
-use Rattle.bx_model.specs.declared.file.Name.{Name}
+use Rattle.bx_tree_files.specs.declared.file.File.{File}
+use Rattle.bx_tree_files.specs.declared.file.Name.{Name}
 use Rattle.bx_model.specs.declared.permissions.Want.TheVariants as want
 use Rattle.bx_model.specs.declared.reply.Listed.{Listed}
 use Rattle.bx_model.specs.declared.reply.Reply.TheVariants as reply
 use Rattle.bx_model.specs.declared.status.TheConstants.{ACCES, NOTDIR, STALE}
 use Rattle.bx_model.specs.declared.tree.Tree.{Tree}
-use Rattle.bx_model.specs.Attributes.{fileid}
-use Rattle.bx_model.specs.Files.{is_directory}
-use Rattle.bx_model.specs.Names.{names_of, parent_of}
+use Rattle.bx_tree_files.specs.Attributes.{fileid}
+use Rattle.bx_tree_files.specs.Files.{is_directory}
+use Rattle.bx_tree_files.specs.Names.{names_of, parent_of}
 use Rattle.bx_model.specs.Permissions.{may}
 use Rattle.bx_model.specs.Reading.{named_file, most_data}
 use Rattle.bx_model.specs.Steps.{Outcome, must, refuse, ◌>>=◌, ◌>>◌}

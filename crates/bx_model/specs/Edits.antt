@@ -1,23 +1,17 @@
 -- Edits of a tree: a file changed, taken out, or made.
 use Rattle.std.specs.Prelude.{ℕ, ◌==◌, Bool, not, ◌&&◌, if◌then◌else◌, List, map, filter}
 use Rattle.std.specs.List.{list_any}
-use Rattle.bx_model.specs.declared.file.File.{File}
+use Rattle.bx_tree_files.specs.declared.file.File.{File}
 use Rattle.bx_model.specs.declared.tree.Tree.{Tree}
-use Rattle.bx_model.specs.Attributes.{fileid}
-use Rattle.bx_model.specs.Files.{with_file}
-use Rattle.bx_model.specs.Given.{with_handle, without_handle}
+use Rattle.bx_tree_files.specs.Attributes.{fileid}
+use Rattle.bx_tree_files.specs.Files.{with_file, with_changed, without_file}
+use Rattle.bx_tree_files.specs.Given.{with_handle, without_handle}
 
 -- the tree, with the file that has the handle changed
-abbrev pub with_changed : List File → ℕ → (File → File) → List File
-with_changed files handle change = map (λ file. if file.handle == handle then change file else file) files
-
 abbrev pub changed : Tree → ℕ → (File → File) → Tree
 changed tree handle change = record tree { files = with_changed tree.files handle change }
 
 -- the tree without the file that has the handle
-abbrev pub without_file : List File → ℕ → List File
-without_file files handle = filter (λ file. not (file.handle == handle)) files
-
 abbrev pub without : Tree → ℕ → Tree
 without tree handle = record tree { files = without_file tree.files handle }
 

@@ -1,13 +1,13 @@
 -- What every file tree is: what calls keep, and what a walk from the root relies on.
 use Rattle.std.specs.Prelude.{◌≡◌, ◌≢◌, ℕ, ◌+◌, ◌<◌, ◌≤◌, ◌==◌, Bool, true, false, List, count_by, sum_by, Contains, AllPairs, Option, Some, None}
-use Rattle.bx_model.specs.declared.file.Body.{Body}
-use Rattle.bx_model.specs.declared.file.Body.TheVariants.{Bytes, Path, Names}
-use Rattle.bx_model.specs.declared.file.File.{File}
-use Rattle.bx_model.specs.declared.file.Name.{Name}
+use Rattle.bx_tree_files.specs.declared.file.Body.{Body}
+use Rattle.bx_tree_files.specs.declared.file.Body.TheVariants.{Bytes, Path, Names}
+use Rattle.bx_tree_files.specs.declared.file.File.{File}
+use Rattle.bx_tree_files.specs.declared.file.Name.{Name}
 use Rattle.bx_model.specs.declared.tree.Tree.{Tree}
-use Rattle.bx_model.specs.Files.{IsFile, file_at, is_directory}
-use Rattle.bx_model.specs.Entries.{is_bad}
-use Rattle.bx_model.specs.Names.{names_of}
+use Rattle.bx_tree_files.specs.Files.{IsFile, file_at, is_directory}
+use Rattle.bx_tree_files.specs.Entries.{is_bad}
+use Rattle.bx_tree_files.specs.Names.{names_of}
 
 -- whether a handle is that of a directory
 abbrev pub is_directory_in : Option File → Bool

@@ -1,12 +1,5 @@
-pub mod Contents
-pub mod Files
-pub mod Attributes
 pub mod Opening
-pub mod Times
-pub mod Entries
-pub mod Names
 pub mod Permissions
-pub mod Given
 pub mod Edits
 pub mod Steps
 pub mod Reading
@@ -16,7 +9,6 @@ pub mod Writing
 pub mod Making
 pub mod Removing
 pub mod Renaming
-pub mod FileEdits
 pub mod Act
 pub mod FileTrees
 pub mod History

@@ -4,13 +4,13 @@ use Rattle.std.specs.Fmt.{decimal, digits}
 use Rattle.std.specs.List.{list_any}
 use Rattle.hex.specs.Hex.{encode_lower}
 use Rattle.bx_base.specs.Text.{spaced, sixteen_digits, text_of}
-use Rattle.bx_model.specs.declared.file.File.{File}
-use Rattle.bx_model.specs.declared.file.Name.{Name}
-use Rattle.bx_model.specs.declared.file.Body.{Body}
-use Rattle.bx_model.specs.declared.file.Body.TheVariants.{Bytes, Path, Names}
+use Rattle.bx_tree_files.specs.declared.file.File.{File}
+use Rattle.bx_tree_files.specs.declared.file.Name.{Name}
+use Rattle.bx_tree_files.specs.declared.file.Body.{Body}
+use Rattle.bx_tree_files.specs.declared.file.Body.TheVariants.{Bytes, Path, Names}
 use Rattle.bx_model.specs.declared.tree.Tree.{Tree}
-use Rattle.bx_model.specs.Files.{size_of}
-use Rattle.bx_model.specs.Attributes.{mode_word}
+use Rattle.bx_tree_files.specs.Files.{size_of}
+use Rattle.bx_tree_files.specs.Attributes.{mode_word}
 
 -- seconds, a dot and six digits of microseconds
 abbrev pub six_digits : ℕ → List ℕ

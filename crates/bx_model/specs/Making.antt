@@ -1,26 +1,27 @@
 -- The procedures that make files and entries: CREATE, SYMLINK, MKDIR and LINK.
 use Rattle.std.specs.Prelude.{ℕ, ◌+◌, ◌%◌, ◌==◌, nat_lt, nat_le, Bool, false, not, ◌&&◌, if◌then◌else◌, List, [], replicate, is_some, Option, Some, None, Result, Ok}
 use Rattle.bx_model.specs.declared.call.Call.{Call}
-use Rattle.bx_model.specs.declared.call.Sattr.{Sattr}
-use Rattle.bx_model.specs.declared.file.Body.{Body}
-use Rattle.bx_model.specs.declared.file.Body.TheVariants as body
-use Rattle.bx_model.specs.declared.file.File.{File}
-use Rattle.bx_model.specs.declared.file.Name.{Name}
+use Rattle.bx_tree_files.specs.declared.sattr.Sattr.{Sattr}
+use Rattle.bx_tree_files.specs.declared.file.Body.{Body}
+use Rattle.bx_tree_files.specs.declared.file.Body.TheVariants as body
+use Rattle.bx_tree_files.specs.declared.file.File.{File}
+use Rattle.bx_tree_files.specs.declared.file.Name.{Name}
 use Rattle.bx_model.specs.declared.permissions.Want.TheVariants as want
 use Rattle.bx_model.specs.declared.reply.Reply.{Reply}
 use Rattle.bx_model.specs.declared.reply.Reply.TheVariants as reply
 use Rattle.bx_model.specs.declared.status.TheConstants.{ACCES, DQUOT, EXIST, FBIG, NFS_OK, NOSPC, NOTDIR, PERM, STALE}
 use Rattle.bx_model.specs.declared.tree.Tree.{Tree}
 use Rattle.bx_model.specs.Edits.{changed, with_new}
-use Rattle.bx_model.specs.Files.{file_at, is_directory, is_regular, kind_of}
-use Rattle.bx_model.specs.Entries.{is_bad, entry_named}
-use Rattle.bx_model.specs.Names.{names_of, next_of, with_entry}
+use Rattle.bx_tree_files.specs.Files.{file_at, is_directory, is_regular, kind_of}
+use Rattle.bx_tree_files.specs.Entries.{is_bad, entry_named}
+use Rattle.bx_tree_files.specs.Names.{names_of, next_of, with_entry}
 use Rattle.bx_model.specs.Permissions.{may}
 use Rattle.bx_model.specs.Reading.{named_file, handle_reply}
 use Rattle.bx_model.specs.Steps.{Outcome, Making, must, refuse, ◌>>=◌, ◌>>◌}
 use Rattle.bx_model.specs.Steps.Step.{Gives, Makes}
-use Rattle.bx_model.specs.Times.{Time, is_given, stored}
-use Rattle.bx_model.specs.Writing.{is_full, most_bytes, resize_errors, with_size}
+use Rattle.bx_tree_files.specs.Times.{Time, is_given, stored}
+use Rattle.bx_tree_files.specs.Changes.{most_bytes, with_size, entered, linked}
+use Rattle.bx_model.specs.Writing.{is_full, resize_errors}
 
 -- The directory whose entries a call changes under a name: the first errors of all procedures that make an entry or
 -- take one out, CREATE but for.
@@ -41,15 +42,6 @@ abbrev pub entry_errors : File → ℕ → Result (Unit {0}) ℕ
 entry_errors directory spare = do
   refuse (nat_le 4294967295 (next_of directory.body)) DQUOT
   refuse (is_full spare) NOSPC
-
--- A directory with a new entry, changed now. A directory that comes into it counts among its links.
-abbrev pub entered : Time → List ℕ → ℕ → Bool → File → File
-entered now name handle counts directory = record directory {
-  nlink = if counts then directory.nlink + 1 else directory.nlink;
-  mtime = now;
-  ctime = now;
-  body = with_entry name handle directory.body;
-}
 
 -- A new file. It is the caller's, or the user 0 says whose it is; its mode and its times are those given, where they
 -- are.
@@ -138,10 +130,6 @@ mkdir tree call at name sattr now spare = do
   directory ← new_place tree call at name spare
   let file = λ (made : ℕ). new_file call sattr now 0o755 made (body.Names directory.handle 3 [])
   Ok (Makes (λ made. (handle_reply tree (file made), with_made tree directory.handle name now (file made))))
-
--- a file with one more name, changed now
-abbrev pub linked : Time → File → File
-linked now file = record file { nlink = file.nlink + 1; ctime = now }
 
 -- LINK (section 2.2.13): one more name for a file, which may have 32000. The status alone is answered.
 abbrev pub link : Tree → Call → List ℕ → List ℕ → List ℕ → Time → ℕ → Outcome

@@ -1,7 +1,7 @@
 -- The tree of a volume that was just made.
 use Rattle.std.specs.Prelude.{ℕ, [], ◌∷◌}
-use Rattle.bx_model.specs.declared.file.File.{File}
-use Rattle.bx_model.specs.declared.file.Body.TheVariants.{Names}
+use Rattle.bx_tree_files.specs.declared.file.File.{File}
+use Rattle.bx_tree_files.specs.declared.file.Body.TheVariants.{Names}
 use Rattle.bx_model.specs.declared.tree.Tree.{Tree}
 
 -- area 0, slot 0, generation 1

@@ -2,7 +2,7 @@
 use Rattle.std.specs.Prelude.{ℕ, ◌/◌, ◌==◌, Bool, not, ◌&&◌, ◌||◌, if◌then◌else◌, bit_and}
 use Rattle.std.specs.List.{list_any}
 use Rattle.bx_model.specs.declared.call.Call.{Call}
-use Rattle.bx_model.specs.declared.file.File.{File}
+use Rattle.bx_tree_files.specs.declared.file.File.{File}
 use Rattle.bx_model.specs.declared.permissions.Want.{Want}
 use Rattle.bx_model.specs.declared.permissions.Want.TheVariants.{Read, Write, Search, List as Listing, Change, Times, Uid, Gid}
 

@@ -2,19 +2,19 @@
 use Rattle.std.specs.Prelude.{ℕ, ◌*◌, not, min, if◌then◌else◌, List, [], ◌∷◌, take, drop, codes, Option, Some, Ok, option_and_then}
 use Rattle.std.specs.Str.{bytes_eq}
 use Rattle.bx_model.specs.declared.call.Call.{Call}
-use Rattle.bx_model.specs.declared.file.Body.{Body}
-use Rattle.bx_model.specs.declared.file.Body.TheVariants as body
-use Rattle.bx_model.specs.declared.file.File.{File}
+use Rattle.bx_tree_files.specs.declared.file.Body.{Body}
+use Rattle.bx_tree_files.specs.declared.file.Body.TheVariants as body
+use Rattle.bx_tree_files.specs.declared.file.File.{File}
 use Rattle.bx_model.specs.declared.permissions.Want.TheVariants as want
 use Rattle.bx_model.specs.declared.reply.Reply.{Reply}
 use Rattle.bx_model.specs.declared.reply.Reply.TheVariants as reply
 use Rattle.bx_model.specs.declared.status.TheConstants.{ACCES, ISDIR, NOENT, NOTDIR, NXIO, STALE}
 use Rattle.bx_model.specs.declared.tree.Tree.{Tree}
 use Rattle.bx_handles.specs.Handles.{file_text, named}
-use Rattle.bx_model.specs.Attributes.{attributes_of}
-use Rattle.bx_model.specs.Files.{file_at, is_directory, is_link}
-use Rattle.bx_model.specs.Entries.{entry_named}
-use Rattle.bx_model.specs.Names.{names_of, parent_of}
+use Rattle.bx_tree_files.specs.Attributes.{attributes_of}
+use Rattle.bx_tree_files.specs.Files.{file_at, is_directory, is_link}
+use Rattle.bx_tree_files.specs.Entries.{entry_named}
+use Rattle.bx_tree_files.specs.Names.{names_of, parent_of}
 use Rattle.bx_model.specs.Permissions.{may}
 use Rattle.bx_model.specs.Steps.{Outcome, must, refuse, ◌>>=◌, ◌>>◌}
 

@@ -1,30 +1,18 @@
 -- REMOVE and RMDIR.
 use Rattle.std.specs.Prelude.{ℕ, ◌-◌, nat_le, nat_lt, Bool, true, false, not, if◌then◌else◌, List, length, Ok, Result}
 use Rattle.bx_model.specs.declared.call.Call.{Call}
-use Rattle.bx_model.specs.declared.file.File.{File}
+use Rattle.bx_tree_files.specs.declared.file.File.{File}
 use Rattle.bx_model.specs.declared.reply.Reply.TheVariants as reply
 use Rattle.bx_model.specs.declared.status.TheConstants.{ISDIR, NFS_OK, NOENT, NOTDIR, NOTEMPTY, STALE}
 use Rattle.bx_model.specs.declared.tree.Tree.{Tree}
 use Rattle.bx_model.specs.Edits.{changed, without}
-use Rattle.bx_model.specs.Files.{file_at, is_directory}
+use Rattle.bx_tree_files.specs.Files.{file_at, is_directory}
 use Rattle.bx_model.specs.Making.{directory_to_change}
-use Rattle.bx_model.specs.Entries.{entry_named}
-use Rattle.bx_model.specs.Names.{names_of, without_entry}
+use Rattle.bx_tree_files.specs.Entries.{entry_named}
+use Rattle.bx_tree_files.specs.Names.{names_of, without_entry}
 use Rattle.bx_model.specs.Steps.{Outcome, must, refuse, ◌>>=◌, ◌>>◌}
-use Rattle.bx_model.specs.Times.{Time}
-
--- A directory without the entry of a name, changed now. A directory that goes out of it counts no more.
-abbrev pub taken_out : Time → List ℕ → Bool → File → File
-taken_out now name counts directory = record directory {
-  nlink = if counts then directory.nlink - 1 else directory.nlink;
-  mtime = now;
-  ctime = now;
-  body = without_entry name directory.body;
-}
-
--- a file with one name less, changed now
-abbrev pub unlinked : Time → File → File
-unlinked now file = record file { nlink = file.nlink - 1; ctime = now }
+use Rattle.bx_tree_files.specs.Times.{Time}
+use Rattle.bx_tree_files.specs.Changes.{taken_out, unlinked}
 
 -- the tree after a file of so many names lost one: with its last one it leaves the tree
 abbrev pub without_link : Time → Tree → ℕ → ℕ → Tree

@@ -2,22 +2,23 @@
 use Rattle.std.specs.Prelude.{ℕ, zero, suc, ◌==◌, Bool, false, not, ◌&&◌, if◌then◌else◌, List, [], ◌∷◌, option_map, unwrap_or, Option, Some, None, Result, Ok}
 use Rattle.std.specs.List.{list_any}
 use Rattle.bx_model.specs.declared.call.Call.{Call}
-use Rattle.bx_model.specs.declared.file.File.{File}
-use Rattle.bx_model.specs.declared.file.Name.{Name}
+use Rattle.bx_tree_files.specs.declared.file.File.{File}
+use Rattle.bx_tree_files.specs.declared.file.Name.{Name}
 use Rattle.bx_model.specs.declared.permissions.Want.TheVariants as want
 use Rattle.bx_model.specs.declared.reply.Reply.TheVariants as reply
 use Rattle.bx_model.specs.declared.status.TheConstants.{ACCES, ISDIR, NAMETOOLONG, NFS_OK, NOENT, NOTDIR, NOTEMPTY, PERM, STALE}
 use Rattle.bx_model.specs.declared.tree.Tree.{Tree}
 use Rattle.bx_model.specs.Edits.{changed, without}
-use Rattle.bx_model.specs.Files.{file_at, is_directory}
-use Rattle.bx_model.specs.Making.{entered, entry_errors}
-use Rattle.bx_model.specs.Entries.{is_bad, entry_named}
-use Rattle.bx_model.specs.Names.{names_of, parent_of, with_parent}
+use Rattle.bx_tree_files.specs.Files.{file_at, is_directory}
+use Rattle.bx_tree_files.specs.Changes.{entered, taken_out, moved_to}
+use Rattle.bx_model.specs.Making.{entry_errors}
+use Rattle.bx_tree_files.specs.Entries.{is_bad, entry_named}
+use Rattle.bx_tree_files.specs.Names.{names_of, parent_of, with_parent}
 use Rattle.bx_model.specs.Permissions.{may}
 use Rattle.bx_model.specs.Reading.{named_file}
-use Rattle.bx_model.specs.Removing.{has_entries, taken_out, without_link}
+use Rattle.bx_model.specs.Removing.{has_entries, without_link}
 use Rattle.bx_model.specs.Steps.{Outcome, must, refuse, ◌>>=◌, ◌>>◌}
-use Rattle.bx_model.specs.Times.{Time}
+use Rattle.bx_tree_files.specs.Times.{Time}
 
 -- the parent of the directory with a handle
 abbrev pub parent_at : List File → ℕ → ℕ
@@ -66,10 +67,6 @@ without_replaced now tree target name None = tree
 without_replaced now tree target name (Some replaced) =
     let left : Tree = changed tree target.handle (taken_out now name (is_directory replaced)) in
     if is_directory replaced then without left replaced.handle else without_link now left replaced.handle replaced.nlink
-
--- a file that was moved now; a directory has its new parent
-abbrev pub moved_to : Time → ℕ → File → File
-moved_to now parent file = record file { ctime = now; body = with_parent parent file.body }
 
 -- the tree after a file has moved: the entry that it had is gone, and it has a new one
 abbrev pub with_moved : Time → Tree → File → List ℕ → File → List ℕ → File → Bool → Tree

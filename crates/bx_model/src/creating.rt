@@ -3,19 +3,15 @@
 ghost use Rattle.std.specs.Prelude.{◌≡◌, ◌<◌, ◌^◌, ◌==◌, ◌&&◌, nat_lt, true, false, if◌then◌else◌, IfOk, IfSome, IsSome, MatchOption, MatchResult, OnErr, None, Some, Ok, Err};
 ghost use Rattle.bx_model.specs.declared.reply.Reply.TheVariants.{Status as ReplyStatus};
 ghost use Rattle.bx_model.specs.Edits.{is_unused as is_unused_handle};
-ghost use Rattle.bx_model.specs.FileEdits.{CanEnter};
-ghost use Rattle.bx_model.specs.Files.{IsFile, IsNumbered, file_at, kind_of, size_of};
+ghost use Rattle.bx_tree_files.specs.FileEdits.{CanEnter};
+ghost use Rattle.bx_tree_files.specs.Files.{IsFile, IsNumbered, file_at, kind_of, size_of};
 ghost use Rattle.bx_model.specs.Making.{create, create_errors, create_over, created, mkdir, new_file as new_file_of, new_place, searched_directory, symlink};
-ghost use Rattle.bx_model.specs.Names.{next_of};
+ghost use Rattle.bx_tree_files.specs.Names.{next_of};
 ghost use Rattle.bx_model.specs.Steps.{taken};
-ghost use Rattle.bx_model.specs.Times.{is_given as is_given_word};
-ghost use Rattle.bx_model.specs.Writing.{most_bytes};
+ghost use Rattle.bx_tree_files.specs.Times.{is_given as is_given_word};
+ghost use Rattle.bx_tree_files.specs.Changes.{most_bytes};
 
-use crate::call::{Call, Sattr};
-use crate::content::Content;
-use crate::edits::{Edit, MODES, given_or, is_given, time_or};
-use crate::file::{Body, DIRECTORY, File, LINK, REGULAR};
-use crate::names::{NameList, is_bad};
+use crate::call::Call;
 use crate::permissions::{Want, may};
 use crate::removing::entry_of;
 use crate::reply::Reply;
@@ -24,6 +20,10 @@ use crate::tree::Tree;
 use crate::writing::{MOST_BYTES, is_full, resize_error};
 use bx_base::{OutOfMemory, Raw};
 use bx_handles::file_handle;
+use bx_tree_files::{
+    Body, Content, DIRECTORY, Edit, File, LINK, MODES, NameList, REGULAR, Sattr, given_or, is_bad,
+    is_given, time_or,
+};
 
 /// The mode of a new regular file whose mode isn't given.
 const FILE_MODE: u32 = 0o644;

@@ -2,18 +2,11 @@
 #![tactic(auto)]
 
 mod call;
-mod content;
 mod creating;
-mod edits;
 mod entry;
-mod file;
-mod files;
-mod handles;
 mod linking;
 mod listing;
 mod making;
-mod metadata;
-mod names;
 mod permissions;
 mod procedures;
 mod reading;
@@ -23,14 +16,9 @@ mod status;
 mod tree;
 mod writing;
 
-pub use call::{Args, Call, Sattr};
-pub use content::Content;
+pub use bx_tree_files::{Body, Content, File, Files, Handles, Name, NameList, Sattr, attributes};
+pub use call::{Args, Call};
 pub use entry::Entry;
-pub use file::{Body, File, Name};
-pub use files::Files;
-pub use handles::Handles;
-pub use metadata::attributes;
-pub use names::NameList;
 pub use permissions::{Want, may};
 pub use reply::{Listed, ListedList, Reply};
 pub use status::{

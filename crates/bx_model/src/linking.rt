@@ -1,23 +1,21 @@
 //! The procedure that gives a file one more name: LINK.
 
 ghost use Rattle.std.specs.Prelude.{◌≡◌, IfOk, IfSome, OnErr, OnOk, false};
-ghost use Rattle.bx_model.specs.Edits.{with_changed};
-ghost use Rattle.bx_model.specs.FileEdits.{CanEnter, CanLink};
-ghost use Rattle.bx_model.specs.Files.{file_at};
-ghost use Rattle.bx_model.specs.Making.{entered, link, linked};
+ghost use Rattle.bx_tree_files.specs.Files.{with_changed, file_at};
+ghost use Rattle.bx_tree_files.specs.FileEdits.{CanEnter, CanLink};
+ghost use Rattle.bx_tree_files.specs.Changes.{entered, linked};
+ghost use Rattle.bx_model.specs.Making.{link};
 ghost use Rattle.bx_model.specs.Steps.{done};
 
 use crate::call::Call;
 use crate::creating::has_number;
-use crate::edits::Edit;
-use crate::file::DIRECTORY;
-use crate::files::Files;
 use crate::removing::entry_of;
 use crate::reply::Reply;
 use crate::status::{DQUOT, EXIST, NFS_OK, NOSPC, PERM, STALE};
 use crate::tree::Tree;
 use crate::writing::is_full;
 use bx_base::OutOfMemory;
+use bx_tree_files::{DIRECTORY, Edit, Files};
 
 /// The most names of a file.
 const MOST_LINKS: u32 = 32000;
@@ -58,27 +56,5 @@ impl Tree {
         let (parent, handle) = (directory.handle, file.handle);
         self.files.link(parent, name, handle, now)?;
         Ok(Reply::Status(NFS_OK))
-    }
-}
-
-impl Files {
-    /// Puts an entry into a directory for a file that is there, which counts it.
-    fn link(
-        &mut self,
-        directory: u64,
-        name: &[u8],
-        handle: u64,
-        now: (u32, u32),
-    ) -> Result<(), OutOfMemory>
-        requires enters { IfSome (file_at self.old directory) (CanEnter name.now) }
-        requires links { IfSome (file_at self.old handle) CanLink }
-        ensures ok { OnOk result (self.new ≡ with_changed (with_changed self.old directory (entered now name.now handle false)) handle (linked now)) }
-        ensures err { OnErr result (self.new ≡ self.old) }
-    {
-        self.edit(directory, &Edit::Entered(name, handle, false), now)?;
-        if self.edit(handle, &Edit::Linked, now).is_err() {
-            unreachable!();
-        }
-        Ok(())
     }
 }

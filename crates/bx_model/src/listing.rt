@@ -4,14 +4,13 @@ ghost use Rattle.std.specs.Prelude.{◌≡◌, ◌<◌, ◌^◌, ◌++◌, ◌�
 ghost use Rattle.std.specs.String.{string_bytes};
 ghost use Rattle.bx_base.specs.Text.{spaced, sixteen_digits, ended};
 ghost use Rattle.bx_model.specs.Listing.{IsBare, listing, file_line as line_of_file, dir_line as line_of_dir, time_text as text_of_time};
-ghost use Rattle.bx_model.specs.Files.{IsFile, size_of as body_size};
-ghost use Rattle.bx_model.specs.Attributes.{mode_word as mode_word_of};
+ghost use Rattle.bx_tree_files.specs.Files.{IsFile, size_of as body_size};
+ghost use Rattle.bx_tree_files.specs.Attributes.{mode_word as mode_word_of};
 ghost use Rattle.std.specs.Fmt.{decimal, digits};
 
-use crate::file::{Body, File};
-use crate::metadata::{mode_word, size_of};
 use crate::tree::Tree;
 use bx_base::{OutOfMemory, Raw};
+use bx_tree_files::{Body, File, mode_word, size_of};
 use std::alloc::Global;
 
 impl Tree {

@@ -2,16 +2,15 @@
 
 ghost use Rattle.std.specs.Prelude.{◌≡◌, ◌<◌, ◌≤◌, ◌^◌, ◌==◌, true, false, length, if◌then◌else◌, IfSome, IsSome, OnOk, OnErr};
 ghost use Rattle.std.specs.List.{list_any};
-ghost use Rattle.bx_model.specs.Attributes.{fileid as fileid_of};
+ghost use Rattle.bx_tree_files.specs.Attributes.{fileid as fileid_of};
 ghost use Rattle.bx_model.specs.Edits.{is_unused as is_unused_handle, with_new, without_new};
-ghost use Rattle.bx_model.specs.FileEdits.{CanEnter};
-ghost use Rattle.bx_model.specs.Files.{IsFile, file_at};
+ghost use Rattle.bx_tree_files.specs.FileEdits.{CanEnter};
+ghost use Rattle.bx_tree_files.specs.Files.{IsFile, file_at};
 ghost use Rattle.bx_model.specs.Making.{with_made};
 
-use crate::edits::Edit;
-use crate::file::{DIRECTORY, File};
 use crate::tree::Tree;
 use bx_base::OutOfMemory;
+use bx_tree_files::{DIRECTORY, Edit, File};
 
 impl Tree {
     /// Whether a file may be made under a handle: it isn't 0, it was never given out, and its fileid is no file's.

@@ -5,7 +5,7 @@ ghost use Rattle.std.specs.List.{list_any};
 ghost use Rattle.bx_model.specs.Permissions.{may as may_do, is_allowed as is_allowed_to, is_owner as owns, is_in_group as is_in, class_bits as bits_of, has_bit as has};
 
 use crate::call::Call;
-use crate::file::File;
+use bx_tree_files::File;
 
 /// What a caller wants to do with a file.
 #[derive(Drop)]

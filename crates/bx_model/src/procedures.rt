@@ -3,13 +3,14 @@
 ghost use Rattle.std.specs.Prelude.{◌≡◌, ◌≤◌, IfOk, OnErr, MatchOption, None, Some};
 ghost use Rattle.bx_model.specs.Act.{IsPlain, IsServed, about_file, about_name, about_new, act, given};
 ghost use Rattle.bx_model.specs.Steps.{done, taken};
-ghost use Rattle.bx_model.specs.Times.{time_of as time_of_moment};
+ghost use Rattle.bx_tree_files.specs.Times.{time_of as time_of_moment};
 
-use crate::call::{Args, Call, Sattr};
+use crate::call::{Args, Call};
 use crate::reading::plain;
 use crate::reply::Reply;
 use crate::tree::Tree;
 use bx_base::OutOfMemory;
+use bx_tree_files::Sattr;
 
 /// The procedure READLINK.
 const READLINK: u32 = 5;

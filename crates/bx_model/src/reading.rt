@@ -2,22 +2,20 @@
 
 ghost use Rattle.std.specs.Prelude.{◌≡◌, IfOk, IfSome, Some, min, take, drop};
 ghost use Rattle.std.specs.Option.{option_copied};
-ghost use Rattle.bx_model.specs.Files.{IsFile, file_at};
+ghost use Rattle.bx_tree_files.specs.Files.{IsFile, file_at};
 ghost use Rattle.bx_model.specs.Mounting.{mount, plain as plain_reply};
-ghost use Rattle.bx_model.specs.Names.{names_of, parent_of};
+ghost use Rattle.bx_tree_files.specs.Names.{names_of, parent_of};
 ghost use Rattle.bx_model.specs.Reading.{named_file, attributes_reply as reply_of_attributes, handle_reply as reply_of_handle, getattr, lookup, meant as file_meant, readlink, read, statfs, most_data};
 ghost use Rattle.bx_model.specs.Steps.{done};
 
 use crate::call::Call;
-use crate::file::{Body, File};
-use crate::metadata::{BLOCK_LEN, attributes, words_of};
-use crate::names::NameList;
 use crate::permissions::{Want, may};
 use crate::reply::Reply;
 use crate::status::{ACCES, ISDIR, NOENT, NOTDIR, NXIO, STALE};
 use crate::tree::Tree;
 use bx_base::{OutOfMemory, Raw};
 use bx_handles::{file_handle, named_handle};
+use bx_tree_files::{BLOCK_LEN, Body, File, NameList, attributes, words_of};
 
 /// The most bytes that a READ or a READDIR gives (RFC 1094, section 2.3.9).
 pub(crate) const MOST_DATA: u32 = 8192;

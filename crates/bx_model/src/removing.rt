@@ -2,21 +2,19 @@
 
 ghost use Rattle.std.specs.Prelude.{◌≡◌, MatchResult, IfOk, Ok, Err, Some};
 ghost use Rattle.std.specs.Option.{option_copied};
-ghost use Rattle.bx_model.specs.Entries.{entry_named};
-ghost use Rattle.bx_model.specs.Files.{IsFile, file_at};
+ghost use Rattle.bx_tree_files.specs.Entries.{entry_named};
+ghost use Rattle.bx_tree_files.specs.Files.{IsFile, file_at};
 ghost use Rattle.bx_model.specs.Making.{directory_to_change as directory_of_call};
-ghost use Rattle.bx_model.specs.Names.{names_of};
+ghost use Rattle.bx_tree_files.specs.Names.{names_of};
 ghost use Rattle.bx_model.specs.Removing.{file_to_remove as file_of_call, has_entries as has_any, remove, rmdir, without_link};
 ghost use Rattle.bx_model.specs.Steps.{done};
 
 use crate::call::Call;
-use crate::edits::Edit;
-use crate::file::{Body, DIRECTORY, File, Name};
-use crate::names::is_bad;
 use crate::permissions::{Want, may};
 use crate::reply::Reply;
 use crate::status::{ACCES, ISDIR, NFS_OK, NOENT, NOTDIR, NOTEMPTY, STALE};
 use crate::tree::Tree;
+use bx_tree_files::{Body, DIRECTORY, Edit, File, Name, is_bad};
 
 impl Tree {
     /// REMOVE: takes out the entry of a file that is no directory.

@@ -3,11 +3,8 @@
 ghost use Rattle.std.specs.Prelude.{◌≡◌, IfOk};
 ghost use Rattle.bx_model.specs.Opening.{opening, opening_root as the_root};
 
-use crate::file::{Body, DIRECTORY, File};
-use crate::files::Files;
-use crate::handles::Handles;
-use crate::names::NameList;
 use bx_base::OutOfMemory;
+use bx_tree_files::{Body, DIRECTORY, File, Files, Handles, NameList};
 use std::alloc::Global;
 
 /// The handle of the root that a volume is made with: area 0, slot 0, generation 1.

@@ -1,24 +1,25 @@
 //! The procedures that change a file: SETATTR and WRITE.
 
 ghost use Rattle.std.specs.Prelude.{◌≡◌, ◌+◌, ◌&&◌, ◌||◌, ◌<◌, ◌^◌, nat_lt, length, IfOk, IfSome, IsSome, MatchOption, OnErr, OnOk, Ok, Err, Some};
-ghost use Rattle.bx_model.specs.Attributes.{attributes_of};
-ghost use Rattle.bx_model.specs.declared.file.File.{File as FileValue};
+ghost use Rattle.bx_tree_files.specs.Attributes.{attributes_of};
+ghost use Rattle.bx_tree_files.specs.declared.file.File.{File as FileValue};
 ghost use Rattle.bx_model.specs.Edits.{changed};
-ghost use Rattle.bx_model.specs.FileEdits.{CanEdit, edited};
-ghost use Rattle.bx_model.specs.Files.{IsFile, file_at};
+ghost use Rattle.bx_tree_files.specs.FileEdits.{CanEdit, edited};
+ghost use Rattle.bx_tree_files.specs.Files.{IsFile, file_at};
 ghost use Rattle.bx_model.specs.Steps.{done};
-ghost use Rattle.bx_model.specs.Times.{is_given as is_given_word};
-ghost use Rattle.bx_model.specs.Writing.{is_forbidden as is_forbidden_to, is_full as is_full_at, most_bytes, resize_errors, setattr, write, write_errors};
+ghost use Rattle.bx_tree_files.specs.Times.{is_given as is_given_word};
+ghost use Rattle.bx_tree_files.specs.Changes.{most_bytes};
+ghost use Rattle.bx_model.specs.Writing.{is_forbidden as is_forbidden_to, is_full as is_full_at, resize_errors, setattr, write, write_errors};
 
-use crate::call::{Call, Sattr};
-use crate::edits::{Edit, is_given};
-use crate::file::{DIRECTORY, File, LINK};
-use crate::metadata::{attribute_words, attributes, put_words};
+use crate::call::Call;
 use crate::permissions::{Want, may};
 use crate::reply::Reply;
 use crate::status::{ACCES, FBIG, ISDIR, NOSPC, NXIO, PERM, STALE};
 use crate::tree::Tree;
 use bx_base::{OutOfMemory, Words};
+use bx_tree_files::{
+    DIRECTORY, Edit, File, LINK, Sattr, attribute_words, attributes, is_given, put_words,
+};
 
 /// The most bytes that a file has.
 pub(crate) const MOST_BYTES: u32 = 2147483647;

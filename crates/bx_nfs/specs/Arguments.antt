@@ -3,7 +3,7 @@ use Rattle.std.specs.Prelude.{◌≡◌, ℕ, List, [], slice_index}
 use Rattle.bx_xdr.specs.Items.{SpellsWords, Both, Made}
 use Rattle.bx_model.specs.declared.call.Args.{Args}
 use Rattle.bx_model.specs.declared.call.Args.TheVariants.{Nothing, Handle, Set, Name, Read, Write, Make, Rename, Link, Symlink, List as Listing, Path}
-use Rattle.bx_model.specs.declared.call.Sattr.{Sattr}
+use Rattle.bx_tree_files.specs.declared.sattr.Sattr.{Sattr}
 use Rattle.bx_nfs.specs.Items.{SpellsHandle, SpellsPath, SpellsData, SpellsPlace, SpellsSattr}
 
 -- NULL (RFC 1094, section 2.2.1), ROOT (2.2.4), WRITECACHE (2.2.8); of MOUNT NULL, DUMP, UMNTALL and EXPORT (appendix A,

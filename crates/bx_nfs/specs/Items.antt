@@ -1,7 +1,7 @@
 -- Items of NFS version 2 (RFC 1094, section 2.3).
 use Rattle.std.specs.Prelude.{ℕ, List, slice_index}
 use Rattle.bx_xdr.specs.Items.{SpellsWords, SpellsFixed, SpellsOpaque, Both, Made}
-use Rattle.bx_model.specs.declared.call.Sattr.{Sattr}
+use Rattle.bx_tree_files.specs.declared.sattr.Sattr.{Sattr}
 
 -- A file handle is 32 bytes (RFC 1094, section 2.3.3).
 abbrev pub SpellsHandle : List ℕ → List ℕ → Type 0

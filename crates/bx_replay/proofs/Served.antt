@@ -3,11 +3,11 @@ use Rattle.std.proofs.Common.{◌≡◌, ℕ, List, Option, Some, None, Ok, ap, 
 use Rattle.bx_model.specs.declared.call.Call.{Call}
 use Rattle.bx_model.specs.declared.call.Args.{Args}
 use Rattle.bx_model.specs.declared.call.Args.TheVariants.{Refused, Nothing, Handle}
-use Rattle.bx_model.specs.declared.file.File.{File}
+use Rattle.bx_tree_files.specs.declared.file.File.{File}
 use Rattle.bx_model.specs.declared.reply.Reply.{Reply}
 use Rattle.bx_model.specs.declared.tree.Tree.{Tree}
 use Rattle.bx_model.specs.Act as model
-use Rattle.bx_model.specs.Times.{Time, time_of}
+use Rattle.bx_tree_files.specs.Times.{Time, time_of}
 use Rattle.bx_model.specs.Steps.{◌>>=◌, done, must}
 use Rattle.bx_model.specs.Reading.{attributes_reply, named_file}
 use Rattle.bx_nfs.specs.Wire.{HasServedArgs, IsServed, IsServedCall, ReadsAs}

@@ -1,8 +1,8 @@
 use Rattle.std.proofs.Common.{◌≡◌, ℕ, List, ◌∙◌, ap}
-use Rattle.bx_model.specs.declared.file.File.{File}
-use Rattle.bx_model.specs.Given.{without_handle}
-use Rattle.bx_model.proofs.Edited.{on_err_from}
-use Rattle.bx_model.proofs.GivenOut.{without-with}
+use Rattle.bx_tree_files.specs.declared.file.File.{File}
+use Rattle.bx_tree_files.specs.Given.{without_handle}
+use Rattle.bx_tree_files.proofs.Edited.{on_err_from}
+use Rattle.bx_tree_files.proofs.GivenOut.{without-with}
 use Rattle.bx_model.proofs.Made.{unused_given}
 use Rattle.bx_model.proofs.tree.Tree.admit.Goals as goal
 

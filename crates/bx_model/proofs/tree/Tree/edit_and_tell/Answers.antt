@@ -1,11 +1,11 @@
 use Rattle.std.proofs.Common.{◌≡◌, Some, None, ◌∙◌, sym, ap}
 use Rattle.std.specs.Prelude.{List, option_map}
-use Rattle.bx_model.specs.declared.file.File.{File}
-use Rattle.bx_model.specs.Attributes.{attributes_of}
-use Rattle.bx_model.specs.FileEdits.{edited}
-use Rattle.bx_model.specs.Files.{file_at}
-use Rattle.bx_model.proofs.Changed.{file_at-changed}
-use Rattle.bx_model.proofs.Edited.{edited_handle}
+use Rattle.bx_tree_files.specs.declared.file.File.{File}
+use Rattle.bx_tree_files.specs.Attributes.{attributes_of}
+use Rattle.bx_tree_files.specs.FileEdits.{edited}
+use Rattle.bx_tree_files.specs.Files.{file_at}
+use Rattle.bx_tree_files.proofs.Changed.{file_at-changed}
+use Rattle.bx_tree_files.proofs.Edited.{edited_handle}
 use Rattle.bx_model.proofs.tree.Tree.edit_and_tell.Goals as goal
 
 pub returns-clause-tells : goal.returns-clause-tells

@@ -1,9 +1,9 @@
 use Rattle.std.proofs.Common.{◌≡◌, List, eqb, false, ◌∙◌, ap}
-use Rattle.bx_model.specs.declared.file.File.{File}
+use Rattle.bx_tree_files.specs.declared.file.File.{File}
 use Rattle.bx_model.specs.declared.tree.Tree.{Tree}
 use Rattle.bx_model.specs.Edits.{without_new}
-use Rattle.bx_model.specs.Files.{file_at}
-use Rattle.bx_model.proofs.Edited.{on_err_from}
+use Rattle.bx_tree_files.specs.Files.{file_at}
+use Rattle.bx_tree_files.proofs.Edited.{on_err_from}
 use Rattle.bx_model.proofs.Made.{back_new, file_at-other, made_apart, unused_none}
 use Rattle.bx_model.proofs.tree.Tree.make.Goals as goal
 

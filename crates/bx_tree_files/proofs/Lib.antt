@@ -1,0 +1,6 @@
+pub mod Changed
+pub mod Edited
+pub mod GivenOut
+pub mod Kept
+pub mod Named
+pub mod Over

@@ -1,0 +1,9 @@
+pub mod Contents
+pub mod Files
+pub mod Attributes
+pub mod Times
+pub mod Entries
+pub mod Names
+pub mod Given
+pub mod Changes
+pub mod FileEdits

@@ -1,0 +1,245 @@
+//! Edits of files.
+
+ghost use Rattle.std.specs.Prelude.{◌≡◌, ◌+◌, ◌<◌, ◌≤◌, ◌&&◌, length, nat_lt, false, true, OnOk, OnErr, IsOk, if◌then◌else◌};
+ghost use Rattle.bx_tree_files.specs.FileEdits.{CanEdit, CanEnter, edited, is_sure as is_sure_edit};
+ghost use Rattle.bx_tree_files.specs.Files.{IsFile};
+ghost use Rattle.bx_tree_files.specs.Changes.{entered, taken_out, moved_to, most_bytes, resized, sets_field as sets_a_field, with_data, with_fields, with_size};
+ghost use Rattle.bx_tree_files.specs.Times.{is_given as is_given_word, stored as stored_time};
+
+use crate::file::{Body, File};
+use crate::sattr::Sattr;
+use bx_base::OutOfMemory;
+
+/// An edit of a file, which changes its times besides.
+#[derive(Drop)]
+pub enum Edit<'a> {
+    /// The attributes that are given.
+    Fields(&'a Sattr),
+    /// Another size of a regular file.
+    Size(u32),
+    /// Bytes written into a regular file from an offset on.
+    Data(u32, &'a [u8]),
+    /// A new entry of a directory, for the file with the handle, and whether that is a directory from elsewhere.
+    Entered(&'a [u8], u64, bool),
+    /// An entry less, and whether it named a directory that goes.
+    TakenOut(&'a [u8], bool),
+    /// One more name.
+    Linked,
+    /// One name less.
+    Unlinked,
+    /// A directory's new parent.
+    MovedTo(u64),
+}
+
+/// A word of the attributes to set that leaves a field alone.
+const LEFT_ALONE: u32 = 4294967295;
+
+/// How many modes there are: 12 bits.
+pub const MODES: u32 = 4096;
+
+/// The most microseconds.
+const MOST_MICROSECONDS: u32 = 999999;
+
+/// Whether a word of the attributes to set is given.
+pub fn is_given(word: u32) -> bool
+    ensures { result ≡ is_given_word word }
+{
+    word != LEFT_ALONE
+}
+
+/// What is stored of a time that is given.
+pub fn stored(time: (u32, u32)) -> (u32, u32)
+    ensures { result ≡ stored_time time }
+{
+    if time.1 <= MOST_MICROSECONDS {
+        time
+    } else {
+        (time.0, 0)
+    }
+}
+
+/// Whether any field is given.
+fn sets_field(sattr: &Sattr) -> bool
+    ensures { result ≡ sets_a_field sattr.now }
+{
+    is_given(sattr.mode)
+        || is_given(sattr.uid)
+        || is_given(sattr.gid)
+        || is_given(sattr.size)
+        || is_given(sattr.atime.0)
+        || is_given(sattr.mtime.0)
+}
+
+/// The new value where a word is given, else the old one.
+pub fn given_or(word: u32, new: u32, old: u32) -> u32
+    ensures { result ≡ (if is_given_word word then new else old) }
+{
+    if is_given(word) { new } else { old }
+}
+
+/// The time that is stored where one is given, else the old one.
+pub fn time_or(time: (u32, u32), old: (u32, u32)) -> (u32, u32)
+    ensures { result ≡ (if is_given_word time.0 then stored_time time else old) }
+{
+    if is_given(time.0) { stored(time) } else { old }
+}
+
+/// Now where something was set, else the old time.
+fn now_where(set: bool, now: (u32, u32), old: (u32, u32)) -> (u32, u32)
+    ensures { result ≡ (if set then now else old) }
+{
+    if set { now } else { old }
+}
+
+impl File {
+    /// Makes an edit.
+    pub fn edit(&mut self, edit: &Edit<'_>, now: (u32, u32)) -> Result<(), OutOfMemory>
+        requires is { IsFile self.old }
+        requires can { CanEdit edit.now self.old }
+        ensures ok { OnOk result (self.new ≡ edited now edit.now self.old) }
+        ensures is { OnOk result (IsFile self.new) }
+        ensures err { OnErr result (self.new ≡ self.old) }
+        ensures sure { is_sure_edit edit.now ≡ true → IsOk result }
+    {
+        match edit {
+            Edit::Fields(sattr) => self.set_fields(sattr, now),
+            Edit::Size(size) => self.set_size(*size, now),
+            Edit::Data(offset, written) => self.write(*offset, written, now),
+            Edit::Entered(name, handle, counts) => self.enter(name, *handle, *counts, now),
+            Edit::TakenOut(name, counts) => {
+                self.take_out(name, *counts, now);
+                Ok(())
+            }
+            Edit::Linked => {
+                self.nlink += 1;
+                self.ctime = now;
+                Ok(())
+            }
+            Edit::Unlinked => {
+                self.nlink = self.nlink.saturating_sub(1);
+                self.ctime = now;
+                Ok(())
+            }
+            Edit::MovedTo(parent) => {
+                self.move_to(*parent, now);
+                Ok(())
+            }
+        }
+    }
+
+    /// Sets the attributes that are given.
+    fn set_fields(&mut self, sattr: &Sattr, now: (u32, u32)) -> Result<(), OutOfMemory>
+        requires is { IsFile self.old }
+        requires fits { (is_given_word sattr.now.size && nat_lt most_bytes sattr.now.size) ≡ false }
+        ensures ok { OnOk result (self.new ≡ with_fields now sattr.now self.old) }
+        ensures is { OnOk result (IsFile self.new) }
+        ensures err { OnErr result (self.new ≡ self.old) }
+    {
+        let sized = is_given(sattr.size);
+        if sized {
+            self.resize(sattr.size)?;
+        }
+        self.mode = given_or(sattr.mode, sattr.mode % MODES, self.mode);
+        self.uid = given_or(sattr.uid, sattr.uid, self.uid);
+        self.gid = given_or(sattr.gid, sattr.gid, self.gid);
+        self.atime = time_or(sattr.atime, self.atime);
+        self.mtime = time_or(sattr.mtime, now_where(sized, now, self.mtime));
+        self.ctime = now_where(sets_field(sattr), now, self.ctime);
+        Ok(())
+    }
+
+    /// Sets the size.
+    fn set_size(&mut self, size: u32, now: (u32, u32)) -> Result<(), OutOfMemory>
+        requires is { IsFile self.old }
+        requires fits { size ≤ most_bytes }
+        ensures ok { OnOk result (self.new ≡ with_size now size self.old) }
+        ensures is { OnOk result (IsFile self.new) }
+        ensures err { OnErr result (self.new ≡ self.old) }
+    {
+        self.resize(size)?;
+        self.mtime = now;
+        self.ctime = now;
+        Ok(())
+    }
+
+    /// Another size of the content of a regular file.
+    fn resize(&mut self, size: u32) -> Result<(), OutOfMemory>
+        requires is { IsFile self.old }
+        requires fits { size ≤ most_bytes }
+        ensures ok { OnOk result (self.new ≡ record self.old { body = resized size self.old.body }) }
+        ensures is { OnOk result (IsFile self.new) }
+        ensures err { OnErr result (self.new ≡ self.old) }
+    {
+        if let Body::Bytes(bytes) = &mut self.body {
+            bytes.resize(size)?;
+        }
+        Ok(())
+    }
+
+    /// Writes bytes into the content of a regular file.
+    fn write(&mut self, offset: u32, written: &[u8], now: (u32, u32)) -> Result<(), OutOfMemory>
+        requires is { IsFile self.old }
+        requires fits { offset + length written.now ≤ most_bytes }
+        ensures ok { OnOk result (self.new ≡ with_data now offset written.now self.old) }
+        ensures is { OnOk result (IsFile self.new) }
+        ensures err { OnErr result (self.new ≡ self.old) }
+    {
+        if let Body::Bytes(bytes) = &mut self.body {
+            bytes.write(offset, written)?;
+        }
+        self.mtime = now;
+        self.ctime = now;
+        Ok(())
+    }
+
+    /// Puts a new entry into a directory.
+    fn enter(
+        &mut self,
+        name: &[u8],
+        handle: u64,
+        counts: bool,
+        now: (u32, u32),
+    ) -> Result<(), OutOfMemory>
+        requires is { IsFile self.old }
+        requires can { CanEnter name.now self.old }
+        ensures ok { OnOk result (self.new ≡ entered now name.now handle counts self.old) }
+        ensures err { OnErr result (self.new ≡ self.old) }
+    {
+        if let Body::Names(_, next, names) = &mut self.body {
+            names.push(*next, name, handle)?;
+            *next += 1;
+        }
+        if counts {
+            self.nlink += 1;
+        }
+        self.mtime = now;
+        self.ctime = now;
+        Ok(())
+    }
+
+    /// Takes an entry out of a directory.
+    fn take_out(&mut self, name: &[u8], counts: bool, now: (u32, u32))
+        ensures { self.new ≡ taken_out now name.now counts self.old }
+    {
+        if let Body::Names(_, _, names) = &mut self.body {
+            names.take_out(name);
+        }
+        if counts {
+            self.nlink = self.nlink.saturating_sub(1);
+        }
+        self.mtime = now;
+        self.ctime = now;
+    }
+
+    /// Gives a directory that was moved its new parent.
+    fn move_to(&mut self, new: u64, now: (u32, u32))
+        requires { IsFile self.old }
+        ensures done { self.new ≡ moved_to now new self.old }
+        ensures is { IsFile self.new }
+    {
+        if let Body::Names(parent, _, _) = &mut self.body {
+            *parent = new;
+        }
+        self.ctime = now;
+    }
+}

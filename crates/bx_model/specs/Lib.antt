@@ -9,6 +9,7 @@ pub mod Writing
 pub mod Making
 pub mod Removing
 pub mod Renaming
+pub mod Moves
 pub mod Act
 pub mod FileTrees
 pub mod History

@@ -11,6 +11,7 @@ mod permissions;
 mod procedures;
 mod reading;
 mod removing;
+mod renaming;
 mod reply;
 mod status;
 mod tree;

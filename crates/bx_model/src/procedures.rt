@@ -123,6 +123,11 @@ impl Tree {
             Args::Link(from, at, name) => {
                 self.link(call, from.bytes(), at.bytes(), name.bytes(), now, spare)
             }
+            Args::Rename(from, name, to, new_name) => {
+                let (from, name) = (from.bytes(), name.bytes());
+                let (to, new_name) = (to.bytes(), new_name.bytes());
+                self.rename(call, from, name, to, new_name, now, spare)
+            }
             _ => unreachable!(),
         }
     }

@@ -2,13 +2,13 @@
 use Rattle.std.proofs.Common.{◌≡◌, ℕ, ◌+◌, ◌-◌, ◌<◌, Bool, true, false, cond, not, List, [], ◌∷◌, refl, arith}
 use Rattle.std.specs.Prelude.{bytes_eq, IfSome, OnOk, OnErr, Option, Some, None, Result, Ok, Err}
 use Rattle.bx_tree_files.specs.declared.edits.Edit.{Edit}
-use Rattle.bx_tree_files.specs.declared.edits.Edit.TheVariants.{Fields, Size, Data, Entered, TakenOut, Linked, Unlinked, MovedTo}
+use Rattle.bx_tree_files.specs.declared.edits.Edit.TheVariants.{Fields, Size, Data, Entered, Replaced, TakenOut, Linked, Unlinked, MovedTo}
 use Rattle.bx_tree_files.specs.declared.file.Body.{Body}
 use Rattle.bx_tree_files.specs.declared.file.Body.TheVariants.{Bytes, Path, Names}
 use Rattle.bx_tree_files.specs.declared.file.File.{File}
 use Rattle.bx_tree_files.specs.declared.file.Name.{Name}
 use Rattle.bx_tree_files.specs.Entries.{AreBelow, with_name, without_name}
-use Rattle.bx_tree_files.specs.FileEdits.{CanEdit, edited, is_free, is_sure}
+use Rattle.bx_tree_files.specs.FileEdits.{CanEdit, edited, is_free, is_sure, replaced}
 use Rattle.bx_tree_files.specs.Files.{IsFile, IsNumbered, kind_of, size_of}
 use Rattle.bx_tree_files.specs.Changes.{entered, taken_out}
 use Rattle.bx_tree_files.specs.Names.{with_entry, without_entry}
@@ -85,6 +85,10 @@ is_taken_out now name counts file is = record {
   numbers = numbered_without counts file.nlink name file.body is.numbers;
 }
 
+pub is_replaced : (now : Time) (name : List ℕ) (handle : ℕ) (goes comes : Bool) (file : File) → IsFile file → IsFile (replaced now name handle goes comes file)
+is_replaced now name handle goes comes file is =
+    is_entered now name handle comes (taken_out now name goes file) (is_taken_out now name goes file is)
+
 pub on_ok_from : {T E : Type 0} (r : Result T E) (P Q : Type 0) → (P → Q) → OnOk r P → OnOk r Q
 on_ok_from (Ok x) P Q next holds = next holds
 on_ok_from (Err e) P Q next holds = tt
@@ -95,6 +99,7 @@ edited_handle now (Fields sattr) file = refl
 edited_handle now (Size size) file = refl
 edited_handle now (Data offset written) file = refl
 edited_handle now (Entered name handle counts) file = refl
+edited_handle now (Replaced name handle goes comes) file = refl
 edited_handle now (TakenOut name counts) file = refl
 edited_handle now Linked file = refl
 edited_handle now Unlinked file = refl
@@ -118,6 +123,7 @@ can_by (Fields sattr) free file = absurd cc
 can_by (Size size) free file = absurd cc
 can_by (Data offset written) free file = absurd cc
 can_by (Entered name handle counts) free file = absurd cc
+can_by (Replaced name handle goes comes) free file = absurd cc
 can_by (TakenOut name counts) free file = tt
 can_by Linked free file = absurd cc
 can_by Unlinked free file = tt
@@ -133,6 +139,7 @@ sure_free (Fields sattr) free = absurd cc
 sure_free (Size size) free = absurd cc
 sure_free (Data offset written) free = absurd cc
 sure_free (Entered name handle counts) free = absurd cc
+sure_free (Replaced name handle goes comes) free = absurd cc
 sure_free (TakenOut name counts) free = refl
 sure_free Linked free = absurd cc
 sure_free Unlinked free = refl

@@ -37,7 +37,7 @@ insert_last (f ∷ es) n e below apart =
     above n f.0 less ((n, e) ∷ f ∷ es) ((f.0, e) ∷ es) (f ∷ insert_entry nat_cmp es n e)
     ∙ ap (λ (others : List (ℕ × Name)). f ∷ others) (insert_last es n e below.1 apart.2)
 
-values_last : (es : List (ℕ × Name)) (n : ℕ) (e : Name) → values_of (es ++ (n, e) ∷ []) ≡ values_of es ++ e ∷ []
+pub values_last : (es : List (ℕ × Name)) (n : ℕ) (e : Name) → values_of (es ++ (n, e) ∷ []) ≡ values_of es ++ e ∷ []
 values_last [] n e = refl
 values_last (f ∷ es) n e = ap (λ (others : List Name). f.1 ∷ others) (values_last es n e)
 
@@ -58,7 +58,7 @@ named_last (f ∷ es) e name none apart =
     let passed = skipped (bytes_eq f.name name) f (entry_named es name) none in
     rw passed.0 (named_last es e name passed.1 apart)
 
-apart_last : (es : List (ℕ × Name)) (n : ℕ) (e : Name) → n ≡ e.number → AreApart es → entry_named (values_of es) e.name ≡ None → AreApart (es ++ (n, e) ∷ [])
+pub apart_last : (es : List (ℕ × Name)) (n : ℕ) (e : Name) → n ≡ e.number → AreApart es → entry_named (values_of es) e.name ≡ None → AreApart (es ++ (n, e) ∷ [])
 apart_last [] n e is apart none = (is, refl, tt)
 apart_last (f ∷ es) n e is apart none =
     let passed = skipped (bytes_eq f.1.name e.name) f.1 (entry_named (values_of es) e.name) none in

@@ -1,7 +1,7 @@
 //! Edits of files.
 
 ghost use Rattle.std.specs.Prelude.{◌≡◌, ◌+◌, ◌<◌, ◌≤◌, ◌&&◌, length, nat_lt, false, true, OnOk, OnErr, IsOk, if◌then◌else◌};
-ghost use Rattle.bx_tree_files.specs.FileEdits.{CanEdit, CanEnter, edited, is_sure as is_sure_edit};
+ghost use Rattle.bx_tree_files.specs.FileEdits.{CanEdit, CanEnter, CanReplace, edited, is_sure as is_sure_edit, replaced};
 ghost use Rattle.bx_tree_files.specs.Files.{IsFile};
 ghost use Rattle.bx_tree_files.specs.Changes.{entered, taken_out, moved_to, most_bytes, resized, sets_field as sets_a_field, with_data, with_fields, with_size};
 ghost use Rattle.bx_tree_files.specs.Times.{is_given as is_given_word, stored as stored_time};
@@ -21,6 +21,9 @@ pub enum Edit<'a> {
     Data(u32, &'a [u8]),
     /// A new entry of a directory, for the file with the handle, and whether that is a directory from elsewhere.
     Entered(&'a [u8], u64, bool),
+    /// A new entry of a directory, for the file with the handle, in the place of the one with its name; whether that one
+    /// named a directory, and whether the file is a directory from elsewhere.
+    Replaced(&'a [u8], u64, bool, bool),
     /// An entry less, and whether it named a directory that goes.
     TakenOut(&'a [u8], bool),
     /// One more name.
@@ -106,6 +109,9 @@ impl File {
             Edit::Size(size) => self.set_size(*size, now),
             Edit::Data(offset, written) => self.write(*offset, written, now),
             Edit::Entered(name, handle, counts) => self.enter(name, *handle, *counts, now),
+            Edit::Replaced(name, handle, goes, comes) => {
+                self.replace(name, *handle, *goes, *comes, now)
+            }
             Edit::TakenOut(name, counts) => {
                 self.take_out(name, *counts, now);
                 Ok(())
@@ -210,6 +216,35 @@ impl File {
             *next += 1;
         }
         if counts {
+            self.nlink += 1;
+        }
+        self.mtime = now;
+        self.ctime = now;
+        Ok(())
+    }
+
+    /// Puts a new entry into a directory in the place of the one with its name.
+    fn replace(
+        &mut self,
+        name: &[u8],
+        handle: u64,
+        goes: bool,
+        comes: bool,
+        now: (u32, u32),
+    ) -> Result<(), OutOfMemory>
+        requires is { IsFile self.old }
+        requires can { CanReplace self.old }
+        ensures ok { OnOk result (self.new ≡ replaced now name.now handle goes comes self.old) }
+        ensures err { OnErr result (self.new ≡ self.old) }
+    {
+        if let Body::Names(_, next, names) = &mut self.body {
+            names.replace(*next, name, handle)?;
+            *next += 1;
+        }
+        if goes {
+            self.nlink = self.nlink.saturating_sub(1);
+        }
+        if comes {
             self.nlink += 1;
         }
         self.mtime = now;

@@ -84,6 +84,27 @@ impl NameList {
         Ok(())
     }
 
+    /// Puts an entry behind the others; the one with its name goes, if there is one. Without memory both stay as they
+    /// were: the new one comes in before the old one goes.
+    pub fn replace(&mut self, number: u32, name: &[u8], handle: u64) -> Result<(), OutOfMemory>
+        requires below { AreBelow number self.old }
+        ensures ok { OnOk result (self.new ≡ with_name (without_name self.old name.now) number name.now handle) }
+        ensures err { OnErr result (self.new ≡ self.old) }
+    {
+        let before = self.number_of(name);
+        let name = Raw::of(self.alloc, name)?;
+        let entry = Name {
+            number,
+            name,
+            handle,
+        };
+        self.by_number.insert(number, entry)?;
+        if let Some(before) = before {
+            self.by_number.remove(&before);
+        }
+        Ok(())
+    }
+
     /// Takes out the entry of a name, if there is one.
     pub fn take_out(&mut self, name: &[u8])
         ensures { self.new ≡ without_name self.old name.now }

@@ -1,2 +1,4 @@
 pub mod Made
 pub mod Texts
+pub mod Pieces
+pub mod Filled

@@ -54,17 +54,15 @@ given tree call now spare made (args.Symlink at name path sattr) = taken tree ma
 abbrev pub act : Tree → Call → ℕ → ℕ → ℕ → Option (Reply × Tree)
 act tree call moment spare made = given tree call (time_of moment) spare made call.args
 
--- The calls that the tree serves: all but RENAME and READDIR.
+-- The calls that the tree serves: all but RENAME.
 abbrev pub IsPlain : Args → Type 0
 IsPlain (args.Make at name sattr) = ⊥
 IsPlain (args.Symlink at name path sattr) = ⊥
 IsPlain (args.Rename from name to new_name) = ⊥
-IsPlain (args.List at cookie count) = ⊥
 IsPlain _ = Unit {0}
 
 abbrev pub HasArgs : Args → Type 0
 HasArgs (args.Rename from name to new_name) = ⊥
-HasArgs (args.List at cookie count) = ⊥
 HasArgs _ = Unit {0}
 
 pub record IsServed (call : Call) : Type 0 where

@@ -116,6 +116,7 @@ impl Tree {
             Args::Handle(at) => self.about_file(call.procedure, at.bytes(), spare),
             Args::Name(at, name) => self.about_name(call, at.bytes(), name.bytes(), now),
             Args::Read(at, offset, count, _) => self.read(call, at.bytes(), *offset, *count),
+            Args::List(at, cookie, count) => self.readdir(call, at.bytes(), *cookie, *count),
             Args::Set(at, sattr) => self.setattr(call, at.bytes(), sattr, now),
             Args::Write(at, _, offset, _, written) => {
                 self.write(call, at.bytes(), *offset, written.bytes(), now, spare)

@@ -5,3 +5,5 @@ pub mod Renamed
 pub mod Swapped
 pub mod Ways
 pub mod Texts
+pub mod Pieces
+pub mod Filled

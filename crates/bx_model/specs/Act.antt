@@ -54,16 +54,8 @@ given tree call now spare made (args.Symlink at name path sattr) = taken tree ma
 abbrev pub act : Tree → Call → ℕ → ℕ → ℕ → Option (Reply × Tree)
 act tree call moment spare made = given tree call (time_of moment) spare made call.args
 
--- The calls that the tree serves: all but READDIR.
+-- the calls that make no file
 abbrev pub IsPlain : Args → Type 0
 IsPlain (args.Make at name sattr) = ⊥
 IsPlain (args.Symlink at name path sattr) = ⊥
-IsPlain (args.List at cookie count) = ⊥
 IsPlain _ = Unit {0}
-
-abbrev pub HasArgs : Args → Type 0
-HasArgs (args.List at cookie count) = ⊥
-HasArgs _ = Unit {0}
-
-pub record IsServed (call : Call) : Type 0 where
-  pub args : HasArgs call.args

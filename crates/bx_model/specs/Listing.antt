@@ -1,5 +1,5 @@
 -- The listing of a tree.
-use Rattle.std.specs.Prelude.{◌≡◌, ℕ, zero, suc, ◌+◌, ◌-◌, ◌/◌, nat_lt, false, if◌then◌else◌, List, [], ◌∷◌, ◌++◌, length, take, drop, map, replicate, codes}
+use Rattle.std.specs.Prelude.{ℕ, zero, suc, ◌+◌, ◌-◌, ◌/◌, nat_lt, false, if◌then◌else◌, List, [], ◌∷◌, ◌++◌, length, take, drop, map, replicate, codes}
 use Rattle.std.specs.Fmt.{decimal, digits}
 use Rattle.std.specs.List.{list_any}
 use Rattle.hex.specs.Hex.{encode_lower}
@@ -49,11 +49,3 @@ listing_lines (file ∷ files) = file_line file ∷ body_lines file.body ++ list
 
 abbrev pub listing : Tree → List ℕ
 listing tree = text_of (listing_lines tree.files)
-
--- the tree has the root alone, and the root has no entries
-pub record IsBare (tree : Tree) : Type 0 where
-  pub root : File
-  pub parent : ℕ
-  pub next : ℕ
-  pub only : tree.files ≡ root ∷ []
-  pub entries : root.body ≡ Names parent next []

@@ -3,6 +3,7 @@
 
 mod call;
 mod creating;
+mod directories;
 mod entry;
 mod linking;
 mod listing;

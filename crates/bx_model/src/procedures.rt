@@ -1,7 +1,7 @@
 //! What the procedures do.
 
 ghost use Rattle.std.specs.Prelude.{◌≡◌, ◌≤◌, IfOk, OnErr, MatchOption, None, Some};
-ghost use Rattle.bx_model.specs.Act.{IsPlain, IsServed, about_file, about_name, about_new, act, given};
+ghost use Rattle.bx_model.specs.Act.{IsPlain, about_file, about_name, about_new, act, given};
 ghost use Rattle.bx_model.specs.Steps.{done, taken};
 ghost use Rattle.bx_tree_files.specs.Times.{time_of as time_of_moment};
 
@@ -38,7 +38,6 @@ impl Tree {
         spare: u64,
         made: u64,
     ) -> Result<Option<Reply>, OutOfMemory>
-        requires served { IsServed call.now }
         requires moment { moment ≤ 4294967295999 }
         requires spare { spare ≤ 4294967295 }
         ensures acts { IfOk result (λ found. MatchOption found
@@ -116,6 +115,7 @@ impl Tree {
             Args::Handle(at) => self.about_file(call.procedure, at.bytes(), spare),
             Args::Name(at, name) => self.about_name(call, at.bytes(), name.bytes(), now),
             Args::Read(at, offset, count, _) => self.read(call, at.bytes(), *offset, *count),
+            Args::List(at, cookie, count) => self.readdir(call, at.bytes(), *cookie, *count),
             Args::Set(at, sattr) => self.setattr(call, at.bytes(), sattr, now),
             Args::Write(at, _, offset, _, written) => {
                 self.write(call, at.bytes(), *offset, written.bytes(), now, spare)

@@ -1,11 +1,9 @@
 -- What a replay keeps from line to line, whatever its source and its sink tell.
 use Rattle.std.proofs.Common.{◌≡◌, ℕ, ◌<◌, ◌≤◌}
 use Rattle.bx_outside.specs.LineReader.{LinesAhead}
-use Rattle.bx_model.specs.Listing.{IsBare}
 use Rattle.bx_replay.specs.declared.state.Replay.{Replay}
 
 pub record IsRunning (replay : Replay) (number : ℕ) (reader : LinesAhead) : Type 0 where
-  pub bare : IsBare replay.tree
   pub calls : replay.calls < number
   pub few : number ≤ 4294967295
   pub most : reader.most ≡ 18600

@@ -1,7 +1,6 @@
 //! How a replay begins, and how it ends.
 
 ghost use Rattle.std.specs.Prelude.{◌≡◌, ◌≤◌, [], ◌++◌, IfOk, IfErr, MatchResult};
-ghost use Rattle.bx_model.specs.Listing.{IsBare};
 ghost use Rattle.bx_replay.specs.Outcome.{closing_text};
 ghost use Rattle.bx_replay.specs.Replay.{Begins, Finishes, HasLineCause, HasPrintCause, UnlessRead, UnlessWrite};
 
@@ -23,7 +22,6 @@ impl Replay {
         requires { reader.old.most ≡ 18600 }
         ensures begins { S.tells input.old → Begins result (reader.old.ahead ++ S.left input.old)
             (reader.new.ahead ++ S.left input.new) (S.left input.new) }
-        ensures bare { IfOk result (λ replay. IsBare replay.tree) }
         ensures calls { IfOk result (λ replay. replay.calls ≡ 0) }
         ensures cause { IfErr result (λ stop. HasLineCause stop 1 (S.faults input.old) (S.faults input.new)) }
         ensures first { UnlessRead result (S.faults input.new ≡ S.faults input.old) }
@@ -43,7 +41,6 @@ impl Replay {
 
     /// Writes what comes after the trace: the word `end`, and the listing of the tree.
     pub fn finish<K: Sink>(&self, out: &mut K) -> Result<(), Stop>
-        requires { IsBare self.now.tree }
         ensures finishes { K.tells out.old → Finishes result (closing_text [] self.now.tree) (K.written out.old) (K.written out.new) }
         ensures cause { IfErr result (λ stop. HasPrintCause stop (K.faults out.old) (K.faults out.new)) }
         ensures first { UnlessWrite result (K.faults out.new ≡ K.faults out.old) }

@@ -2,7 +2,6 @@
 
 ghost use Rattle.std.specs.Prelude.{◌≡◌, ◌≤◌, ◌<◌, ◌+◌, ◌^◌, List, ℕ, length, IfOk, IfErr, IfNone, IfSome, MatchOption, true, false};
 ghost use Rattle.bx_history.specs.Along.{Done};
-ghost use Rattle.bx_model.specs.Listing.{IsBare};
 ghost use Rattle.bx_nfs.specs.Wire.{IsServed, IsServedCall, ReadsAs};
 ghost use Rattle.bx_replay.specs.Headline.{IsInPlace, is_message as is_call};
 ghost use Rattle.bx_replay.specs.Replay.{Answers, DoesLine, HasStepCause, Serves, Stands, UnlessWrite};
@@ -36,7 +35,6 @@ impl Replay {
         out: &mut K,
     ) -> Result<(), Stop>
         requires in_place { IsInPlace false line }
-        requires bare { IsBare self.old.tree }
         requires few { self.old.calls < 2 ^ 32 }
 
         ensures does { K.tells out.old → (done : List Done) (start : List ℕ) → length done < 4294967295 → Stands self.old done start (K.written out.old)
@@ -44,7 +42,6 @@ impl Replay {
         ensures serves { Serves result line }
         ensures cause { IfErr result (λ stop. HasStepCause stop number (K.faults out.old) (K.faults out.new)) }
         ensures first { UnlessWrite result (K.faults out.new ≡ K.faults out.old) }
-        ensures bare { IsBare self.new.tree }
         ensures calls { self.new.calls ≤ self.old.calls + 1 }
         ensures later { K.faults out.old ≤ K.faults out.new }
         ensures keeps_telling { K.tells out.old → K.tells out.new }
@@ -87,12 +84,10 @@ impl Replay {
         datagram: &[u8],
     ) -> Result<Option<(Point, Raw)>, OutOfMemory>
         requires reading_fits { reading ≤ 4294967295999 }
-        requires bare { IsBare self.old.tree }
         requires few { self.old.calls < 2 ^ 32 }
         ensures answers { IfOk result (λ found. MatchOption found
             ((IsServed datagram.now → ⊥) × (self.new ≡ self.old))
             (λ answer. Answers self.old self.new reading datagram.now answer.0 answer.1)) }
-        ensures bare { IsBare self.new.tree }
         ensures calls { self.new.calls ≤ self.old.calls + 1 }
     {
         let Some((xid, call)) = served_call(alloc, datagram)? else {

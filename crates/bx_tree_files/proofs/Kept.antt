@@ -2,7 +2,8 @@
 use Rattle.std.proofs.Common.{◌≡◌, ℕ, subst, Bool, true, false, cond, eqb, ltb, List, [], ◌∷◌, Option, Some, None, refl, sym, ap, ◌∙◌, arith}
 use Rattle.std.specs.Prelude.{IfSome, slice_get}
 use Rattle.std.specs.Ordering.{is_eq, nat_cmp, match_ordering}
-use Rattle.std.specs.List.{AllByRecursion}
+use Rattle.std.specs.List.{All, AllByRecursion}
+use Rattle.std.proofs.lemmas.List.Elements.{All-cons, All-nil}
 use Rattle.std.specs.List.Sorted.{IsStrictlySortedBy}
 use Rattle.std.specs.Map.{keys_of, lookup, remove_entry, set_value, values_of}
 use Rattle.std.specs.BTreeMap.{is_at, insert_entry}
@@ -190,3 +191,8 @@ kept_by false e es others kept later = (kept.0, kept.1, later)
 pub at_without : (test : ℕ → Bool) (es : List (ℕ × File)) → AreAtHandles es → AreAtHandles (remove_entry test es)
 at_without test [] kept = tt
 at_without test (e ∷ es) kept = kept_by (test e.0) e es (remove_entry test es) kept (at_without test es kept.2)
+
+-- all of them are files
+pub All-files : (es : List (ℕ × File)) → AreAtHandles es → All IsFile (values_of es)
+All-files [] kept = All-nil IsFile
+All-files (e ∷ es) kept = All-cons IsFile e.1 (values_of es) kept.1 (All-files es kept.2)

@@ -1,18 +1,20 @@
 -- Entries of a directory, kept in a map by their numbers.
-use Rattle.std.proofs.Common.{◌≡◌, ℕ, ◌<◌, subst, Bool, true, false, cond, List, [], ◌∷◌, ◌++◌, Option, Some, None, refl, sym, ap, ◌∙◌, arith}
+use Rattle.std.proofs.Common.{◌≡◌, ℕ, ◌<◌, ltb, ◌&&◌, subst, Bool, true, false, cond, List, [], ◌∷◌, ◌++◌, Option, Some, None, refl, sym, ap, ◌∙◌, arith}
 use Rattle.std.specs.Prelude.{option_map, bytes_eq}
 use Rattle.std.specs.List.{AllByRecursion}
 use Rattle.std.specs.List.Sorted.{IsStrictlySortedBy}
 use Rattle.std.specs.Map.{keys_of, values_of, remove_entry}
 use Rattle.std.specs.BTreeMap.{is_at, insert_entry}
+use Rattle.std.specs.BTreeMap.Range.{entries_between}
+use Rattle.std.specs.declared.ops.Bound.TheVariants.{Excluded, Unbounded}
 use Rattle.std.specs.declared.cmp.Ordering.TheVariants.{Less, Greater}
-use Rattle.std.specs.Ordering.{nat_cmp, match_ordering}
+use Rattle.std.specs.Ordering.{is_lt, nat_cmp, match_ordering}
 use Rattle.std.specs.Cmp.{nat_cmp_is}
 use Rattle.std.proofs.lemmas.Slice.Eq.{bytes_eq-Decides}
 use Rattle.std.proofs.lemmas.Bool.Decides.{nat_tests}
 use Rattle.std.proofs.lemmas.Map.Keys.{sorted_head, sorted_tail}
 use Rattle.bx_tree_files.specs.declared.file.Name.{Name}
-use Rattle.bx_tree_files.specs.Entries.{AreApart, AreBelow, entry_named, without_name}
+use Rattle.bx_tree_files.specs.Entries.{AreApart, AreBelow, above, entry_named, without_name}
 
 -- a search that found nothing passed over the first
 skipped : (b : Bool) (e : Name) (rest : Option Name) → cond b (Some e) rest ≡ None → (b ≡ false) × (rest ≡ None)
@@ -26,15 +28,15 @@ without_none (e ∷ es) name none =
     let passed = skipped (bytes_eq e.name name) e (entry_named es name) none in
     rw passed.0 (ap (λ (others : List Name). e ∷ others) (without_none es name passed.1))
 
-above : (a b : ℕ) → b < a → {X : Type 0} (x y z : X) → match_ordering (nat_cmp a b) x y z ≡ z
-above a b less x y z = rw (← nat_cmp_is a b Greater less) refl
+behind_it : (a b : ℕ) → b < a → {X : Type 0} (x y z : X) → match_ordering (nat_cmp a b) x y z ≡ z
+behind_it a b less x y z = rw (← nat_cmp_is a b Greater less) refl
 
 -- an entry with a number above all others is put behind them
 pub insert_last : (es : List (ℕ × Name)) (n : ℕ) (e : Name) → AreBelow n (values_of es) → AreApart es → insert_entry nat_cmp es n e ≡ es ++ (n, e) ∷ []
 insert_last [] n e below apart = refl
 insert_last (f ∷ es) n e below apart =
     let less : f.0 < n = subst (λ (k : ℕ). k < n) (sym apart.0) below.0 in
-    above n f.0 less ((n, e) ∷ f ∷ es) ((f.0, e) ∷ es) (f ∷ insert_entry nat_cmp es n e)
+    behind_it n f.0 less ((n, e) ∷ f ∷ es) ((f.0, e) ∷ es) (f ∷ insert_entry nat_cmp es n e)
     ∙ ap (λ (others : List (ℕ × Name)). f ∷ others) (insert_last es n e below.1 apart.2)
 
 pub values_last : (es : List (ℕ × Name)) (n : ℕ) (e : Name) → values_of (es ++ (n, e) ∷ []) ≡ values_of es ++ e ∷ []
@@ -153,3 +155,17 @@ not_found es name none = by (entry_named es name) refl none
     by : (found : Option Name) → entry_named es name ≡ found → option_map (λ (e : Name). e.number) found ≡ None → found ≡ None
     by None is gone = refl
     by (Some e) is gone = absurd cc
+
+-- the entries with numbers above one, by their keys
+above_by : (passes : Bool) (e : ℕ × Name) (es : List (ℕ × Name)) (others : List Name) → values_of es ≡ others → values_of (cond passes (e ∷ es) es) ≡ cond passes (e.1 ∷ others) others
+above_by true e es others later = ap (λ (names : List Name). e.1 ∷ names) later
+above_by false e es others later = later
+
+same_side : (a b : ℕ) → (is_lt (nat_cmp a b) && true) ≡ ltb a b
+same_side a b = grind (arith, nat_tests)
+
+pub seen_above : (number : ℕ) (es : List (ℕ × Name)) → AreApart es → values_of (entries_between nat_cmp (Excluded number) Unbounded es) ≡ above number (values_of es)
+seen_above number [] apart = refl
+seen_above number (e ∷ es) apart =
+    above_by (is_lt (nat_cmp number e.0) && true) e (entries_between nat_cmp (Excluded number) Unbounded es) (above number (values_of es)) (seen_above number es apart.2)
+    ∙ ap (λ (passes : Bool). cond passes (e.1 ∷ above number (values_of es)) (above number (values_of es))) (same_side number e.0 ∙ ap (λ (k : ℕ). ltb number k) apart.0)

@@ -1,5 +1,5 @@
 -- Entries of directories, as lists.
-use Rattle.std.specs.Prelude.{◌≡◌, ℕ, ◌<◌, ◌==◌, Bool, not, ◌||◌, List, [], ◌∷◌, ◌++◌, filter, find, codes, length, Option, None}
+use Rattle.std.specs.Prelude.{◌≡◌, ℕ, ◌<◌, ◌==◌, nat_lt, Bool, not, ◌||◌, List, [], ◌∷◌, ◌++◌, filter, find, codes, length, Option, None}
 use Rattle.std.specs.List.{list_any}
 use Rattle.std.specs.List.Sorted.{IsStrictlySortedBy}
 use Rattle.std.specs.Map.{keys_of, values_of}
@@ -15,6 +15,10 @@ is_bad name = (length name == 0) || bytes_eq name (codes ".") || bytes_eq name (
 abbrev pub AreBelow : ℕ → List Name → Type 0
 AreBelow next [] = Unit {0}
 AreBelow next (entry ∷ entries) = (entry.number < next) × AreBelow next entries
+
+-- the entries with numbers above one
+abbrev pub above : ℕ → List Name → List Name
+above number names = filter (λ entry. nat_lt number entry.number) names
 
 -- the entry with a name
 abbrev pub entry_named : List Name → List ℕ → Option Name

@@ -1,7 +1,7 @@
 //! The files of a tree, by handle.
 
 ghost use Rattle.std.specs.Prelude.{◌≡◌, ◌==◌, [], IfSome, OnOk, OnErr, IsOk, true, false, slice_get};
-ghost use Rattle.std.specs.List.{list_any};
+ghost use Rattle.std.specs.List.{All, list_any};
 ghost use Rattle.std.specs.Option.{option_copied};
 ghost use Rattle.bx_tree_files.specs.Attributes.{fileid as fileid_of};
 ghost use Rattle.bx_tree_files.specs.Files.{with_changed, without_file, IsFile, file_at, with_file};
@@ -14,6 +14,7 @@ use crate::metadata::fileid;
 use bx_base::OutOfMemory;
 use std::alloc::Global;
 use std::collections::BTreeMap;
+use std::collections::btree_map::Values;
 use std::marker::Model;
 
 /// Files with different handles. Contracts see them as a list in the order of their handles.
@@ -59,6 +60,14 @@ impl Files {
     {
         let (_, file) = self.by_handle.first_key_value()?;
         Some(file)
+    }
+
+    /// The files in the order of their handles.
+    pub fn iter(&self) -> Values<'_, u64, File>
+        ensures all { result ≡ self.now }
+        ensures are_files { All IsFile self.now }
+    {
+        self.by_handle.values()
     }
 
     /// The file with a handle; `None` exactly where there is none.

@@ -3,13 +3,16 @@
 ghost use Rattle.std.specs.Prelude.{◌≡◌, ◌==◌, ◌||◌, ◌↔◌, [], ◌∷◌, ◌++◌, length, codes, bytes_eq, option_map, IsTrue, OnOk, OnErr};
 ghost use Rattle.std.specs.List.{list_any};
 ghost use Rattle.std.specs.Option.{option_copied};
-ghost use Rattle.bx_tree_files.specs.Entries.{AreBelow, entry_named, is_bad as is_bad_name, with_name, without_name};
+ghost use Rattle.std.specs.Map.{values_of};
+ghost use Rattle.bx_tree_files.specs.Entries.{AreBelow, above, entry_named, is_bad as is_bad_name, with_name, without_name};
 
 use crate::file::Name;
 use bx_base::{OutOfMemory, Raw};
 use std::alloc::Global;
 use std::collections::BTreeMap;
+use std::collections::btree_map::{Range, Values};
 use std::marker::Model;
+use std::ops::Bound;
 
 /// Entries of a directory with different names, in the order of their numbers. Contracts see them as that list.
 #[derive(Drop)]
@@ -56,6 +59,21 @@ impl NameList {
         self.by_number
             .values()
             .find(|entry| entry.name.bytes() == name)
+    }
+
+    /// The entries in the order of their numbers.
+    pub fn iter(&self) -> Values<'_, u32, Name>
+        ensures { result ≡ self.now }
+    {
+        self.by_number.values()
+    }
+
+    /// The entries with numbers above one, in their order, each behind its number.
+    pub fn behind(&self, number: u32) -> Range<'_, u32, Name>
+        ensures { values_of result ≡ above number self.now }
+    {
+        self.by_number
+            .range((Bound::Excluded(number), Bound::Unbounded))
     }
 
     /// Puts an entry behind the others.

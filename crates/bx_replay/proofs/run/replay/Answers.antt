@@ -19,7 +19,6 @@ returns-in_err-replay-clause-leaves g c = λ source_tells.
 pub lines-init : goal.lines-init
 lines-init g c = record {
   running = record {
-    bare = c.in_ok-replay.ensures.bare;
     calls = omega (arith, c.in_ok-replay.ensures.calls);
     few = omega arith;
     most = c.in_ok-replay.ensures.most ∙ ap (λ (r : _). r.most) c.in_ok-reader.ensures;
@@ -46,7 +45,6 @@ lines-preserved g c =
     let few = rw c.in-Some.is at c.in_ok-line.ensures.few in
     record {
       running = record {
-        bare = c.in_ok-step.ensures.bare;
         calls = omega (arith, c.in_ok-step.ensures.calls, c.lines.invariant.running.calls);
         few = few;
         most = c.in_ok-line.ensures.most ∙ c.lines.invariant.running.most;

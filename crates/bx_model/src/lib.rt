@@ -8,6 +8,7 @@ mod entry;
 mod linking;
 mod listing;
 mod making;
+mod move_errors;
 mod permissions;
 mod procedures;
 mod reading;

@@ -17,7 +17,7 @@ use Rattle.bx_tree_files.specs.declared.file.File.{File}
 same_test : (x y : ℕ) → is_eq (nat_cmp x y) ≡ eqb y x
 same_test x y = grind (arith, nat_tests)
 
-same_choice : {X : Type 0} (x y : ℕ) (a b c : X) → match_ordering (nat_cmp x y) a b c ≡ cond (eqb y x) b (cond (ltb x y) a c)
+pub same_choice : {X : Type 0} (x y : ℕ) (a b c : X) → match_ordering (nat_cmp x y) a b c ≡ cond (eqb y x) b (cond (ltb x y) a c)
 same_choice x y a b c = grind (arith, nat_tests)
 
 -- the file that a look-up finds
@@ -80,7 +80,7 @@ IsFile-first (e ∷ es) entry kept first =
     subst (λ (x : ℕ × File). IsFile x.1) same kept.1
 
 -- whether a key is the handle
-at_handle : (x y : ℕ) → is_at (nat_cmp x) y ≡ eqb y x
+pub at_handle : (x y : ℕ) → is_at (nat_cmp x) y ≡ eqb y x
 at_handle x y = same_test x y
 
 unchanged_above : (handle : ℕ) (change : File → File) (es : List (ℕ × File)) → AreAtHandles es → AllByRecursion (λ y. nat_cmp handle y ≡ Less) (keys_of es)

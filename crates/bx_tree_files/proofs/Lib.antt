@@ -2,6 +2,10 @@ pub mod Changed
 pub mod Edited
 pub mod GivenOut
 pub mod Kept
+pub mod KeptNumbers
 pub mod Named
 pub mod Replacing
 pub mod Over
+pub mod Indexed
+pub mod Numbered
+pub mod Paired

@@ -106,16 +106,16 @@ behind_by k n true f others own less later found =
     subst (λ (x : ℕ). nat_cmp k x ≡ Less) same less
 behind_by k n false f others own less later found = later found
 
-number_behind : (k n : ℕ) (es : List (ℕ × Name)) (name : List ℕ) → AllByRecursion (λ y. nat_cmp k y ≡ Less) (keys_of es) → AreApart es
+pub number_behind : (k n : ℕ) (es : List (ℕ × Name)) (name : List ℕ) → AllByRecursion (λ y. nat_cmp k y ≡ Less) (keys_of es) → AreApart es
     → option_map (λ (e : Name). e.number) (entry_named (values_of es) name) ≡ Some n → nat_cmp k n ≡ Less
 number_behind k n [] name all apart found = absurd cc
 number_behind k n (f ∷ es) name all apart found =
     behind_by k n (bytes_eq f.1.name name) f (entry_named (values_of es) name) apart.0 all.0 (number_behind k n es name all.1 apart.2) found
 
-not_at : (k n : ℕ) → nat_cmp k n ≡ Less → is_at (nat_cmp n) k ≡ false
+pub not_at : (k n : ℕ) → nat_cmp k n ≡ Less → is_at (nat_cmp n) k ≡ false
 not_at k n less = grind (arith, nat_tests)
 
-at_itself : (n : ℕ) → is_at (nat_cmp n) n ≡ true
+pub at_itself : (n : ℕ) → is_at (nat_cmp n) n ≡ true
 at_itself n = grind (arith, nat_tests)
 
 -- the entries as they are seen after one was taken out

@@ -1,11 +1,13 @@
 -- Entries of directories, as lists.
-use Rattle.std.specs.Prelude.{◌≡◌, ℕ, ◌<◌, ◌==◌, nat_lt, Bool, not, ◌||◌, List, [], ◌∷◌, ◌++◌, filter, find, codes, length, Option, None}
+use Rattle.std.specs.Prelude.{◌≡◌, ℕ, ◌<◌, ◌==◌, nat_lt, Bool, not, ◌||◌, List, [], ◌∷◌, ◌++◌, filter, find, codes, length, Option, None, option_map}
 use Rattle.std.specs.List.{list_any}
 use Rattle.std.specs.List.Sorted.{IsStrictlySortedBy}
 use Rattle.std.specs.Map.{keys_of, values_of}
 use Rattle.std.specs.Ordering.{nat_cmp}
 use Rattle.std.specs.Str.{bytes_eq}
 use Rattle.bx_tree_files.specs.declared.file.Name.{Name}
+use Rattle.bx_tree_files.specs.declared.name_index.NameIndex.{NameIndex}
+use Rattle.bx_tree_files.specs.NameIndex.{number_in}
 
 -- a name that no entry may have: it is empty, `.` or `..`, or has a byte `/` or 0
 abbrev pub is_bad : List ℕ → Bool
@@ -37,7 +39,8 @@ abbrev pub AreApart : List (ℕ × Name) → Type 0
 AreApart [] = Unit {0}
 AreApart (entry ∷ entries) = (entry.0 ≡ entry.1.number) × (entry_named (values_of entries) entry.1.name ≡ None) × AreApart entries
 
--- The numbers rise besides.
-pub record AreEntries (entries : List (ℕ × Name)) : Type 0 where
+-- The numbers rise besides, and an index has them by the names.
+pub record AreEntries (entries : List (ℕ × Name)) (index : NameIndex) : Type 0 where
   pub apart : AreApart entries
   pub rise : IsStrictlySortedBy nat_cmp (keys_of entries)
+  pub indexed : (name : List ℕ) → number_in index name ≡ option_map (λ entry. entry.number) (entry_named (values_of entries) name)

@@ -1,9 +1,13 @@
 -- The files of a tree as a list in the order of their handles.
-use Rattle.std.specs.Prelude.{◌≡◌, ℕ, ◌<◌, ◌^◌, ◌==◌, nat_lt, Bool, not, if◌then◌else◌, List, [], ◌∷◌, map, filter, length, Option, Some, None}
+use Rattle.std.specs.Prelude.{◌≡◌, ℕ, ◌<◌, ◌^◌, ◌==◌, nat_lt, Bool, ◌&&◌, if◌then◌else◌, List, [], ◌∷◌, length, Option, Some, None}
+use Rattle.std.specs.List.{list_any}
 use Rattle.std.specs.List.Sorted.{IsStrictlySortedBy}
 use Rattle.std.specs.Map.{keys_of}
 use Rattle.std.specs.Ordering.{nat_cmp}
+use Rattle.bx_handles.specs.Handles.{fileid, parts_of}
 use Rattle.bx_tree_files.specs.declared.file.File.{File}
+use Rattle.bx_tree_files.specs.declared.fileids.Fileids.{Fileids}
+use Rattle.bx_tree_files.specs.Fileids.{has_pair}
 use Rattle.bx_tree_files.specs.declared.file.Body.{Body}
 use Rattle.bx_tree_files.specs.declared.file.Body.TheVariants.{Bytes, Path, Names}
 use Rattle.bx_tree_files.specs.Entries.{AreBelow}
@@ -60,10 +64,11 @@ abbrev pub AreAtHandles : List (ℕ × File) → Type 0
 AreAtHandles [] = Unit {0}
 AreAtHandles (entry ∷ entries) = (entry.0 ≡ entry.1.handle) × IsFile entry.1 × AreAtHandles entries
 
--- The handles rise besides.
-pub record AreKept (entries : List (ℕ × File)) : Type 0 where
+-- The handles rise besides, and each file's number stands beside its handle among the numbers, and no other does.
+pub record AreKept (entries : List (ℕ × File)) (fileids : Fileids) : Type 0 where
   pub at : AreAtHandles entries
   pub rise : IsStrictlySortedBy nat_cmp (keys_of entries)
+  pub numbers : (number handle : ℕ) → has_pair fileids number handle ≡ ((fileid (parts_of handle) == number) && list_any (λ key. key == handle) (keys_of entries))
 
 -- the files, with the one that has the handle changed
 abbrev pub with_changed : List File → ℕ → (File → File) → List File

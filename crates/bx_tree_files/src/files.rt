@@ -10,6 +10,7 @@ ghost use Rattle.bx_tree_files.specs.FileEdits.{CanEdit, CanEnter, CanLink, edit
 
 use crate::edits::Edit;
 use crate::file::File;
+use crate::fileids::Fileids;
 use crate::metadata::fileid;
 use bx_base::OutOfMemory;
 use std::alloc::Global;
@@ -22,6 +23,7 @@ use std::marker::Model;
 pub struct Files {
     alloc: Global,
     by_handle: BTreeMap<u64, File>,
+    fileids: Fileids,
 }
 
 impl Model for Files {
@@ -34,7 +36,7 @@ impl Model for Files {
 
     ghost view = { λ files. values_of files.by_handle.entries };
 
-    ghost invariant = { λ files. AreKept files.by_handle.entries };
+    ghost invariant = { λ files. AreKept files.by_handle.entries files.fileids };
 }
 
 impl Files {
@@ -45,6 +47,7 @@ impl Files {
         Files {
             alloc,
             by_handle: BTreeMap::new(alloc),
+            fileids: Fileids::new(alloc),
         }
     }
 
@@ -85,8 +88,15 @@ impl Files {
         ensures ok { OnOk result (self.new ≡ with_file self.old file) }
         ensures err { OnErr result (self.new ≡ self.old) }
     {
-        self.by_handle.insert(file.handle, file)?;
-        Ok(())
+        let handle = file.handle;
+        self.fileids.put(fileid(handle), handle)?;
+        match self.by_handle.insert(handle, file) {
+            Ok(_) => Ok(()),
+            Err(_) => {
+                self.fileids.take(fileid(handle), handle);
+                Err(OutOfMemory)
+            }
+        }
     }
 
     /// Makes an edit of the file with a handle; where there is none, of nothing.
@@ -117,16 +127,14 @@ impl Files {
         ensures { self.new ≡ without_file self.old handle }
     {
         self.by_handle.remove(&handle);
+        self.fileids.take(fileid(handle), handle);
     }
 
     /// Whether a file has the fileid that one with this handle would have.
     pub fn has_fileid(&self, handle: u64) -> bool
         ensures { result ≡ list_any (λ file. fileid_of file.handle == fileid_of handle) self.now }
     {
-        let wanted = fileid(handle);
-        self.by_handle
-            .values()
-            .any(|file| fileid(file.handle) == wanted)
+        self.fileids.has(fileid(handle))
     }
 
     /// Puts an entry into a directory for a file that is there, which counts it.

@@ -4,9 +4,11 @@
 mod content;
 mod edits;
 mod file;
+mod fileids;
 mod files;
 mod handles;
 mod metadata;
+mod name_index;
 mod names;
 mod sattr;
 

@@ -7,6 +7,7 @@ ghost use Rattle.std.specs.Map.{values_of};
 ghost use Rattle.bx_tree_files.specs.Entries.{AreBelow, above, entry_named, is_bad as is_bad_name, with_name, without_name};
 
 use crate::file::Name;
+use crate::name_index::NameIndex;
 use bx_base::{OutOfMemory, Raw};
 use std::alloc::Global;
 use std::collections::BTreeMap;
@@ -19,6 +20,7 @@ use std::ops::Bound;
 pub struct NameList {
     alloc: Global,
     by_number: BTreeMap<u32, Name>,
+    numbers: NameIndex,
 }
 
 impl Model for NameList {
@@ -31,7 +33,7 @@ impl Model for NameList {
 
     ghost view = { λ names. values_of names.by_number.entries };
 
-    ghost invariant = { λ names. AreEntries names.by_number.entries };
+    ghost invariant = { λ names. AreEntries names.by_number.entries names.numbers };
 }
 
 impl NameList {
@@ -42,6 +44,7 @@ impl NameList {
         NameList {
             alloc,
             by_number: BTreeMap::new(alloc),
+            numbers: NameIndex::new(alloc),
         }
     }
 
@@ -56,9 +59,8 @@ impl NameList {
     pub fn named(&self, name: &[u8]) -> Option<&Name>
         ensures { option_copied result ≡ entry_named self.now name.now }
     {
-        self.by_number
-            .values()
-            .find(|entry| entry.name.bytes() == name)
+        let number = self.number_of(name)?;
+        self.by_number.get(&number)
     }
 
     /// The entries in the order of their numbers.
@@ -83,23 +85,19 @@ impl NameList {
         ensures ok { OnOk result (self.new ≡ with_name self.old number name.now handle) }
         ensures err { OnErr result (self.new ≡ self.old) }
     {
-        let name = Raw::of(self.alloc, name)?;
-        self.put(Name {
+        let entry = Name {
             number,
-            name,
+            name: Raw::of(self.alloc, name)?,
             handle,
-        })
-    }
-
-    /// Puts an entry behind the others.
-    fn put(&mut self, entry: Name) -> Result<(), OutOfMemory>
-        requires below { AreBelow entry.number self.old }
-        requires apart { entry_named self.old entry.name ≡ None }
-        ensures ok { OnOk result (self.new ≡ self.old ++ entry ∷ []) }
-        ensures err { OnErr result (self.new ≡ self.old) }
-    {
-        self.by_number.insert(entry.number, entry)?;
-        Ok(())
+        };
+        self.numbers.put(self.alloc, name, number)?;
+        match self.by_number.insert(number, entry) {
+            Ok(_) => Ok(()),
+            Err(_) => {
+                self.numbers.take(name);
+                Err(OutOfMemory)
+            }
+        }
     }
 
     /// Puts an entry behind the others; the one with its name goes, if there is one. Without memory both stay as they
@@ -109,17 +107,33 @@ impl NameList {
         ensures ok { OnOk result (self.new ≡ with_name (without_name self.old name.now) number name.now handle) }
         ensures err { OnErr result (self.new ≡ self.old) }
     {
-        let before = self.number_of(name);
-        let name = Raw::of(self.alloc, name)?;
+        match self.number_of(name) {
+            None => self.push(number, name, handle),
+            Some(before) => self.exchange(before, number, name, handle),
+        }
+    }
+
+    /// The same where the entry with the name that goes has this number.
+    fn exchange(
+        &mut self,
+        before: u32,
+        number: u32,
+        name: &[u8],
+        handle: u64,
+    ) -> Result<(), OutOfMemory>
+        requires below { AreBelow number self.old }
+        requires there { option_map (λ entry. entry.number) (entry_named self.old name.now) ≡ Some before }
+        ensures ok { OnOk result (self.new ≡ with_name (without_name self.old name.now) number name.now handle) }
+        ensures err { OnErr result (self.new ≡ self.old) }
+    {
         let entry = Name {
             number,
-            name,
+            name: Raw::of(self.alloc, name)?,
             handle,
         };
         self.by_number.insert(number, entry)?;
-        if let Some(before) = before {
-            self.by_number.remove(&before);
-        }
+        self.by_number.remove(&before);
+        self.numbers.change(name, number);
         Ok(())
     }
 
@@ -127,7 +141,7 @@ impl NameList {
     pub fn take_out(&mut self, name: &[u8])
         ensures { self.new ≡ without_name self.old name.now }
     {
-        if let Some(number) = self.number_of(name) {
+        if let Some(number) = self.numbers.take(name) {
             self.by_number.remove(&number);
         }
     }
@@ -136,8 +150,7 @@ impl NameList {
     fn number_of(&self, name: &[u8]) -> Option<u32>
         ensures { result ≡ option_map (λ entry. entry.number) (entry_named self.now name.now) }
     {
-        let entry = self.named(name)?;
-        Some(entry.number)
+        self.numbers.get(name)
     }
 }
 

@@ -1,9 +1,11 @@
-use Rattle.std.proofs.Common.{◌≡◌, ℕ, List, Some, None, ◌∙◌, sym, ap}
+use Rattle.std.proofs.Common.{◌≡◌, ℕ, ◌&&◌, eqb, List, Some, None, ◌∙◌, sym, ap}
 use Rattle.std.specs.Map.{lookup, set_value, values_of}
 use Rattle.std.specs.BTreeMap.{BTreeMap, is_at}
 use Rattle.std.specs.Ordering.{nat_cmp}
 use Rattle.std.proofs.lemmas.Map.Steps.{set_value_same}
 use Rattle.bx_tree_files.specs.declared.file.File.{File}
+use Rattle.std.specs.List.{list_any}
+use Rattle.bx_tree_files.specs.Attributes.{fileid}
 use Rattle.bx_tree_files.specs.Files.{with_changed, IsFile, file_at}
 use Rattle.bx_tree_files.specs.FileEdits.{edited}
 use Rattle.bx_tree_files.proofs.Edited.{file_after, handle_after, on_ok_from, on_err_from}
@@ -34,7 +36,7 @@ invariant_of-self-2 c =
     let was = found_at c.args.handle c.self.inside.by_handle.entries c.in-Some.file.now c.self.invariant.at (sym c.in-Some.ensures.value) in
     let is : IsFile c.edit.new.self = file_after c.edit.result c.in-Some.file.now c.edit.new.self c.edit.ensures.is c.edit.ensures.err was.1 in
     let at : c.edit.new.self.handle ≡ c.args.handle = handle_after c.edit.result c.args.now c.args.edit.now c.in-Some.file.now c.edit.new.self c.edit.ensures.ok c.edit.ensures.err ∙ was.0 in
-    record { at = rw writes.0 (at_set c.args.handle c.edit.new.self c.self.inside.by_handle.entries at is c.self.invariant.at); rise = writes.4 }
+    record { at = rw writes.0 (at_set c.args.handle c.edit.new.self c.self.inside.by_handle.entries at is c.self.invariant.at); rise = writes.4; numbers = λ number handle. c.self.invariant.numbers number handle ∙ ap (λ (keys : List ℕ). eqb (fileid handle) number && list_any (λ key. eqb key handle) keys) (sym writes.1) }
 
 pub returns-clause-ok : goal.returns-clause-ok
 returns-clause-ok c =

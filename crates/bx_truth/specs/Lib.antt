@@ -1,0 +1,16 @@
+pub mod Truth
+pub mod PageTrees
+pub mod Chunks
+pub mod Keys
+pub mod Stored
+pub mod Stands
+pub mod Opening
+pub mod Rewritten
+pub mod Slots
+pub mod Shown
+pub mod Edits
+pub mod Making
+pub mod Dying
+pub mod Pieces
+pub mod Splitting
+pub mod Sample

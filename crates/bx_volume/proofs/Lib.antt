@@ -1,0 +1,15 @@
+pub mod Apart
+pub mod Overlay
+pub mod Sizes
+pub mod Kept
+pub mod Steps
+pub mod Matters
+pub mod LoggedHomes
+pub mod Doubt
+pub mod GateOut
+pub mod OneTruth
+pub mod OneLog
+pub mod OneState
+pub mod OneShown
+pub mod OneStands
+pub mod Resting

@@ -1,7 +1,9 @@
+pub mod Behind
 pub mod Changed
 pub mod Edited
 pub mod GivenOut
 pub mod Kept
+pub mod KeptKeys
 pub mod KeptNumbers
 pub mod Named
 pub mod Replacing

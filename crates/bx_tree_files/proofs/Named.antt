@@ -1,20 +1,18 @@
 -- Entries of a directory, kept in a map by their numbers.
-use Rattle.std.proofs.Common.{◌≡◌, ℕ, ◌<◌, ltb, ◌&&◌, subst, Bool, true, false, cond, List, [], ◌∷◌, ◌++◌, Option, Some, None, refl, sym, ap, ◌∙◌, arith}
+use Rattle.std.proofs.Common.{◌≡◌, ℕ, ◌<◌, subst, Bool, true, false, cond, List, [], ◌∷◌, ◌++◌, Option, Some, None, refl, sym, ap, ◌∙◌, arith}
 use Rattle.std.specs.Prelude.{option_map, bytes_eq}
 use Rattle.std.specs.List.{AllByRecursion}
 use Rattle.std.specs.List.Sorted.{IsStrictlySortedBy}
 use Rattle.std.specs.Map.{keys_of, values_of, remove_entry}
 use Rattle.std.specs.BTreeMap.{is_at, insert_entry}
-use Rattle.std.specs.BTreeMap.Range.{entries_between}
-use Rattle.std.specs.declared.ops.Bound.TheVariants.{Excluded, Unbounded}
 use Rattle.std.specs.declared.cmp.Ordering.TheVariants.{Less, Greater}
-use Rattle.std.specs.Ordering.{is_lt, nat_cmp, match_ordering}
+use Rattle.std.specs.Ordering.{nat_cmp, match_ordering}
 use Rattle.std.specs.Cmp.{nat_cmp_is}
 use Rattle.std.proofs.lemmas.Slice.Eq.{bytes_eq-Decides}
 use Rattle.std.proofs.lemmas.Bool.Decides.{nat_tests}
 use Rattle.std.proofs.lemmas.Map.Keys.{sorted_head, sorted_tail}
 use Rattle.bx_tree_files.specs.declared.file.Name.{Name}
-use Rattle.bx_tree_files.specs.Entries.{AreApart, AreBelow, above, entry_named, without_name}
+use Rattle.bx_tree_files.specs.Entries.{AreApart, AreBelow, entry_named, without_name}
 
 -- a search that found nothing passed over the first
 skipped : (b : Bool) (e : Name) (rest : Option Name) → cond b (Some e) rest ≡ None → (b ≡ false) × (rest ≡ None)
@@ -155,17 +153,3 @@ not_found es name none = by (entry_named es name) refl none
     by : (found : Option Name) → entry_named es name ≡ found → option_map (λ (e : Name). e.number) found ≡ None → found ≡ None
     by None is gone = refl
     by (Some e) is gone = absurd cc
-
--- the entries with numbers above one, by their keys
-above_by : (passes : Bool) (e : ℕ × Name) (es : List (ℕ × Name)) (others : List Name) → values_of es ≡ others → values_of (cond passes (e ∷ es) es) ≡ cond passes (e.1 ∷ others) others
-above_by true e es others later = ap (λ (names : List Name). e.1 ∷ names) later
-above_by false e es others later = later
-
-same_side : (a b : ℕ) → (is_lt (nat_cmp a b) && true) ≡ ltb a b
-same_side a b = grind (arith, nat_tests)
-
-pub seen_above : (number : ℕ) (es : List (ℕ × Name)) → AreApart es → values_of (entries_between nat_cmp (Excluded number) Unbounded es) ≡ above number (values_of es)
-seen_above number [] apart = refl
-seen_above number (e ∷ es) apart =
-    above_by (is_lt (nat_cmp number e.0) && true) e (entries_between nat_cmp (Excluded number) Unbounded es) (above number (values_of es)) (seen_above number es apart.2)
-    ∙ ap (λ (passes : Bool). cond passes (e.1 ∷ above number (values_of es)) (above number (values_of es))) (same_side number e.0 ∙ ap (λ (k : ℕ). ltb number k) apart.0)

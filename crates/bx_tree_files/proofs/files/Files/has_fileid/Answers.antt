@@ -1,9 +1,10 @@
-use Rattle.std.proofs.Common.{◌≡◌, ◌&&◌, ℕ, Bool, true, false, eqb, List, refl, sym, ap, ◌∙◌}
+use Rattle.std.proofs.Common.{◌≡◌, ◌&&◌, Bool, true, false, eqb, List, refl, sym, ap, ◌∙◌}
 use Rattle.std.specs.List.{list_any}
 use Rattle.std.specs.Map.{values_of}
 use Rattle.bx_tree_files.specs.declared.file.File.{File}
 use Rattle.bx_tree_files.specs.Attributes.{fileid}
-use Rattle.bx_tree_files.proofs.KeptNumbers.{has_key, number_found, number_kept}
+use Rattle.bx_tree_files.proofs.KeptKeys.{has_key}
+use Rattle.bx_tree_files.proofs.KeptNumbers.{number_found, number_kept}
 use Rattle.bx_tree_files.proofs.files.Files.has_fileid.Goals as goal
 
 both : (a b : Bool) → (a && b) ≡ true → (a ≡ true) × (b ≡ true)

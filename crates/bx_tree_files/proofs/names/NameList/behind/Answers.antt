@@ -2,7 +2,7 @@ use Rattle.std.proofs.Common.{List, ◌∙◌, ap}
 use Rattle.std.specs.Map.{values_of}
 use Rattle.bx_tree_files.specs.declared.file.Name.{Name}
 use Rattle.bx_tree_files.specs.Entries.{above}
-use Rattle.bx_tree_files.proofs.Named.{seen_above}
+use Rattle.bx_tree_files.proofs.Behind.{seen_above}
 use Rattle.bx_tree_files.proofs.names.NameList.behind.Goals as goal
 
 pub returns : goal.returns

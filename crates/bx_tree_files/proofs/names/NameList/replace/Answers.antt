@@ -1,6 +1,6 @@
 use Rattle.std.proofs.Common.{◌≡◌, List, None, sym, ap, ◌∙◌}
 use Rattle.bx_tree_files.specs.declared.file.Name.{Name}
-use Rattle.bx_tree_files.specs.Entries.{entry_named, with_name, without_name}
+use Rattle.bx_tree_files.specs.Entries.{entry_named, with_name}
 use Rattle.bx_tree_files.proofs.Edited.{on_ok_from}
 use Rattle.bx_tree_files.proofs.Named.{not_found, without_none}
 use Rattle.bx_tree_files.proofs.names.NameList.replace.Goals as goal

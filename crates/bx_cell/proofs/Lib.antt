@@ -1,0 +1,12 @@
+pub mod Sectors
+pub mod Chosen
+pub mod Gates
+pub mod Reading
+pub mod Bodies
+pub mod Regions
+pub mod Puts
+pub mod Leaves
+pub mod Opening
+pub mod Formats
+pub mod Beside
+pub mod Words

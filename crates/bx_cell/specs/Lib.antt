@@ -1,0 +1,7 @@
+pub mod Errors
+pub mod Halves
+pub mod Images
+pub mod Cells
+pub mod Bytes
+pub mod Laws
+pub mod Formats

@@ -13,8 +13,12 @@ use Rattle.bx_history.specs.Trace as traces
 use Rattle.bx_history.specs.Parts.{trace_of}
 use Rattle.bx_history.specs.Along.{Done, parts_of, schedule_of}
 use Rattle.bx_history.specs.Account.{AccountsNewest, answered_entry}
+use Rattle.bx_model.specs.Act.{act}
 use Rattle.bx_model.specs.Opening.{opening}
-use Rattle.bx_nfs.specs.Wire.{IsServed}
+use Rattle.bx_model.specs.declared.call.Call as model_calls
+use Rattle.bx_model.specs.declared.reply.Reply.{Reply}
+use Rattle.bx_model.specs.declared.tree.Tree.{Tree}
+use Rattle.bx_nfs.specs.Wire.{IsServed, reply_text}
 use Rattle.bx_replay.specs.declared.state.Replay.{Replay}
 use Rattle.bx_replay.specs.declared.stop.Reason.TheVariants.{Grammar, NotBuilt}
 use Rattle.bx_replay.specs.declared.stop.Stop.{Stop}
@@ -32,6 +36,12 @@ pub record Stands (replay : Replay) (done : List Done) (start written : List ℕ
   pub are_done : AreDone (schedule_of done)
   pub in_range : AllByRecursion InTraceRange (trace_of (parts_of done))
   pub output : written ≡ start ++ trace_text (reverse (trace_of (parts_of done)))
+
+-- What a call that arrives at a reading leaves of the tree, and the bytes of its reply.
+pub record Replies (old new : Tree) (call : model_calls.Call) (reading xid : ℕ) (text : List ℕ) : Type 0 where
+  pub reply : Reply
+  pub acts : act old call reading 8 0 ≡ Some (reply, new)
+  pub text-is : text ≡ reply_text xid reply
 
 -- What a call adds: its point, the reply's bytes, and a step of the tree, whoever asked.
 pub record Answers (old new : Replay) (reading : ℕ) (datagram : List ℕ) (point : Point) (reply : List ℕ) : Type 0 where

@@ -4,13 +4,13 @@ ghost use Rattle.std.specs.Prelude.{◌≡◌, ◌≤◌, ◌<◌, ◌+◌, ◌^
 ghost use Rattle.bx_history.specs.Along.{Done};
 ghost use Rattle.bx_nfs.specs.Wire.{IsServed, IsServedCall, ReadsAs};
 ghost use Rattle.bx_replay.specs.Headline.{IsInPlace, is_message as is_call};
-ghost use Rattle.bx_replay.specs.Replay.{Answers, DoesLine, HasStepCause, Serves, Stands, UnlessWrite};
+ghost use Rattle.bx_replay.specs.Replay.{Answers, DoesLine, HasStepCause, Replies, Serves, Stands, UnlessWrite};
 
 use crate::print::print_lines;
 use crate::state::Replay;
 use crate::stop::{Reason, Stop};
 use bx_base::{OutOfMemory, Point, Raw};
-use bx_model::Call;
+use bx_model::{Call, Tree};
 use bx_outside::Sink;
 use bx_script::{Line, TraceLine};
 use std::alloc::Global;
@@ -93,10 +93,7 @@ impl Replay {
         let Some((xid, call)) = served_call(alloc, datagram)? else {
             return Ok(None);
         };
-        let Some(reply) = self.tree.act(&call, reading, ENOUGH, 0)? else {
-            unreachable!();
-        };
-        let reply = bx_nfs::text(alloc, xid, &reply)?;
+        let reply = reply_to(alloc, &mut self.tree, xid, &call, reading)?;
         self.calls += 1;
         let point = Point {
             call: self.calls,
@@ -106,6 +103,24 @@ impl Replay {
         };
         Ok(Some((point, reply)))
     }
+}
+
+/// The bytes of the reply to a call that is served and arrives at a reading. The tree is then the one that the call leaves.
+fn reply_to(
+    alloc: Global,
+    tree: &mut Tree,
+    xid: u32,
+    call: &Call,
+    reading: u64,
+) -> Result<Raw, OutOfMemory>
+    requires served { IsServedCall call.now }
+    requires reading_fits { reading ≤ 4294967295999 }
+    ensures replies { IfOk result (Replies tree.old tree.new call.now reading xid) }
+{
+    let Some(reply) = tree.act(call, reading, ENOUGH, 0)? else {
+        unreachable!();
+    };
+    bx_nfs::text(alloc, xid, &reply)
 }
 
 /// Whether a datagram is a call's: it has at least two words, of which the second is CALL, and isn't too long.

@@ -1,4 +1,4 @@
-use Rattle.std.proofs.Common.{◌∙◌}
+use Rattle.std.proofs.Common.{◌∙◌, rules}
 use Rattle.bx_replay.proofs.NextLines.{refused_too_long, refused_count, refused_line}
 use Rattle.bx_replay.proofs.schedule.next_line.Goals as goal
 
@@ -15,3 +15,6 @@ pub returns-in-None-clause-gives : goal.returns-in-None-clause-gives
 returns-in-None-clause-gives g c = λ tells.
     let takes = rw c.in-Line.is at c.in_ok-next.ensures.line tells in
     refused_line _ _ _ c.args.number (λ value place same. (rw c.in-None.is at c.in_ok-line.ensures.none) value place (c.line.ensures ∙ same)) takes.begins
+
+pub returns-in-None-clause-first : goal.returns-in-None-clause-first
+returns-in-None-clause-first g c = search rules

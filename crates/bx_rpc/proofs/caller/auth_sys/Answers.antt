@@ -1,4 +1,5 @@
-use Rattle.std.proofs.Common.{◌≡◌, take, refl, ◌∙◌}
+use Rattle.std.proofs.Common.{◌≡◌, take, refl, ◌∙◌, rules, arith}
+use Rattle.std.proofs.lemmas.Grind.{common_steps}
 use Rattle.std.proofs.lemmas.List.{take_all}
 use Rattle.bx_rpc.proofs.caller.auth_sys.Goals as goal
 
@@ -10,3 +11,9 @@ returns-clause-some c =
     let some = c.in-Some.ensures.some in
     let all : c.loop-group.gids ≡ take c.in-Some.count c.parts.new.groups = c.loop-group.invariant ∙ take_all _ _ c.loop-group-test.false in
     ((some.0, (some.1, (c.parts.new.ids, take c.in-Some.count c.parts.new.groups))), rw all refl, some.2)
+
+pub loop-group-preserved : goal.loop-group-preserved
+loop-group-preserved c = grind (arith, common_steps)
+
+pub parts-requires-clause-sixteen : goal.parts-requires-clause-sixteen
+parts-requires-clause-sixteen c = search rules

@@ -1,4 +1,4 @@
-use Rattle.std.proofs.Common.{Option, Some, None, arith}
+use Rattle.std.proofs.Common.{Option, Some, None, arith, rules}
 use Rattle.std.specs.Prelude.{IfNone}
 use Rattle.std.proofs.lemmas.Option.{IfSome_then}
 use Rattle.bx_xdr.proofs.Spelling.{joined, without_length, without_content}
@@ -19,3 +19,6 @@ returns-clause-some c =
 pub returns-clause-none : goal.returns-clause-none
 returns-clause-none c =
     IfNone_then c.fixed_at.result c.fixed_at.ensures.none (without_content c.args.max c.in_ok-len.len c.args.bytes.now c.in_ok-len.behind.now c.in_ok-len.ensures.some)
+
+pub returns-then-len-max-clause-none : goal.returns-then-len-max-clause-none
+returns-then-len-max-clause-none c = search rules

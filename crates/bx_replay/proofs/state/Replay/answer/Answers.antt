@@ -5,7 +5,5 @@ use Rattle.bx_replay.proofs.state.Replay.answer.Goals as goal
 pub returns-clause-answers : goal.returns-clause-answers
 returns-clause-answers c =
     let found = rw c.in-Some.is at c.in_ok-xid.ensures.found in
-    answering c.args.self.now c.act.new.self c.args.reading c.args.datagram.now c.in-Some.xid c.in-Some.call c.in-Some-2.reply c.in_ok-reply-2.reply c.requires.reading_fits
-    found.0 (served_from c.args.datagram.now c.in-Some.xid c.in-Some.call found.0 found.1)
-    (rw c.in-Some-2.is at c.in_ok-reply.ensures.acts)
-    c.in_ok-reply-2.ensures
+    answering c.args.self.now c.reply_to.new.tree c.args.reading c.args.datagram.now c.in-Some.xid c.in-Some.call c.in_ok-reply.reply c.requires.reading_fits
+    found.0 (served_from c.args.datagram.now c.in-Some.xid c.in-Some.call found.0 found.1) c.in_ok-reply.ensures.replies

@@ -1,4 +1,4 @@
-use Rattle.std.proofs.Common.{◌≡◌, List, [], ◌∷◌, true, false, inl, inr, refl, sym, ◌∙◌}
+use Rattle.std.proofs.Common.{◌≡◌, List, [], ◌∷◌, true, false, inl, inr, refl, sym, ◌∙◌, rules}
 use Rattle.std.specs.List.{AllByRecursion}
 use Rattle.bx_script.specs.declared.line.Line.TheVariants.{Call}
 use Rattle.bx_script.specs.declared.trace_line.TraceLine.{TraceLine}
@@ -35,3 +35,9 @@ returns-in-Heading-clause-does g c = λ tells done start room stands.
       | inl h ↦ rw h.4 (stands_silent c.args.self.now _ done start _ tt room (rw h.4 at c.requires.in_place) (rw h.4 at c.requires.in_place).1 stands)
       | inr h ↦ rw h.2 (stands_silent c.args.self.now _ done start _ tt room (rw h.2 at c.requires.in_place) tt stands)
     ]
+
+pub returns-in_default-clause-does : goal.returns-in_default-clause-does
+returns-in_default-clause-does g c = search rules
+
+pub returns-in_default-clause-serves : goal.returns-in_default-clause-serves
+returns-in_default-clause-serves g c = search rules

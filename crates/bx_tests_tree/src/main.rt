@@ -1,28 +1,30 @@
-//! Runs calls on a file tree: each line of standard input is a call, and each line of standard output its reply.
+//! Runs the lines of a table of cases on a file tree, and prints what they are answered. A line is
+//!
+//! - `# TEXT`, which is printed as it stands;
+//! - `tree VOLUME AREAS NEXT`: from here on the tree is that of a new volume, whose root gives its next entry this number;
+//! - `listing`, which prints the tree's listing;
+//! - `times COUNT CALL`: a call so many times, without its answers;
+//! - or a call (`reading.rt`), whose answer is printed (`telling.rt`).
+//!
+//! The table is `stdin`. Its answers, `stdout`, are those of an independent model of the file tree.
 #![tactic(auto)]
 
+mod opening;
 mod reading;
+mod running;
 mod telling;
 
-use bx_model::Tree;
 use std::io;
 
-/// The volume of the tree.
-const VOLUME: u64 = 7;
+/// The tree to begin with: its volume, how many areas it has, and the number of the root's next entry.
+const FIRST: &str = "7 1 3";
 
 fn main(rt: HostRuntime) -> io::Result<()> {
-    let Ok(mut tree) = Tree::opening(rt.alloc(), VOLUME) else {
-        return Ok(());
+    let alloc = rt.alloc();
+    let Ok(mut tree) = opening::opened(alloc, FIRST) else {
+        return println!(rt; "out of memory");
     };
-    for line in rt.lines(rt.alloc()) {
-        let line = line?;
-        let words = reading::words_of(rt.alloc(), line.as_str())?;
-        let step = reading::step_of(rt.alloc(), words.as_slice());
-        match tree.act(&step.call, step.moment, step.spare, step.made) {
-            Ok(Some(reply)) => telling::tell(&rt, &reply)?,
-            Ok(None) => println!(rt; "none")?,
-            Err(_) => println!(rt; "out of memory")?,
-        }
-    }
-    Ok(())
+    let outcome = running::run_all(&rt, alloc, &mut tree);
+    drop(tree);
+    outcome
 }

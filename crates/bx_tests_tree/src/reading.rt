@@ -1,138 +1,216 @@
-//! Calls as lines of text: the moment, how many blocks are free, the handle to make a file under, the program, the
-//! procedure, the caller's user, group and further group (0 for none), and the arguments. Bytes are hex digits.
+//! Calls as lines of text. The words of such a line are
+//!
+//! - `nfs` or `mount`, the moment in milliseconds, how many blocks are free, the handle of the file that the call makes
+//!   (`-` for none), the caller's user, group and further groups (with commas between them; `-` for none), the procedure, and its
+//!   arguments in their order (RFC 1094), without those that mean nothing;
+//! - or `refused`, the same six words, the number of the refusal, and the program.
+//!
+//! A number that is `-`, or isn't there, is 4294967295: an attribute that is left alone. A handle is its area, its slot and
+//! its generation, with dots between them. Bytes are `'` and a text, `*` and how many bytes `x`, `=` and a handle for
+//! the file handle that has it, or hex digits. In a call that is made several times, the number `@` is how many were made
+//! before it, and `^` is one more; a text that ends with `@` ends with the first of these in decimal digits.
 
 ghost use Rattle.std.specs.Prelude.{◌≤◌};
-ghost use Rattle.bx_model.specs.Act.{HasArgs, IsServed};
 
 use bx_base::{Raw, Words};
 use bx_model::{Args, Call, Sattr};
 use std::alloc::{AllocError, Global};
 
-/// The greatest moment, in milliseconds.
-const LAST_MOMENT: u64 = 4294967295999;
+/// What stands for a number that isn't there.
+const UNSET: u64 = 4294967295;
 
-/// A call, and when it acts.
+/// The words of a line, and what they are read by.
 #[derive(Drop)]
-pub(crate) struct Step {
-    pub call: Call,
-    pub moment: u64,
-    pub spare: u64,
-    pub made: u64,
+pub(crate) struct Line<'a> {
+    pub words: Vec<&'a str>,
+    pub alloc: Global,
+    pub volume: u64,
+    /// How many calls were made by this line before.
+    pub turn: u64,
 }
 
-/// The words of a line.
-pub(crate) fn words_of(alloc: Global, line: &str) -> Result<Vec<&str>, AllocError> {
-    let mut words = Vec::new(alloc);
-    for word in line.split(' ') {
-        words.push(word)?;
+/// The words of a text.
+pub(crate) fn line_of(alloc: Global, volume: u64, text: &str) -> Result<Line<'_>, AllocError> {
+    let words = text.split(' ').collect(alloc)?;
+    Ok(Line {
+        words,
+        alloc,
+        volume,
+        turn: 0,
+    })
+}
+
+impl Line<'_> {
+    /// A word; empty where there is none.
+    pub(crate) fn text(&self, at: usize) -> &str {
+        match self.words.get(at) {
+            Some(text) => text,
+            None => "",
+        }
     }
-    Ok(words)
-}
 
-/// The step that words spell; where they spell none, one without arguments.
-pub(crate) fn step_of(alloc: Global, words: &[&str]) -> Step
-    ensures call { IsServed result.call }
-    ensures moment { result.moment ≤ 4294967295999 }
-    ensures spare { result.spare ≤ 4294967295 }
-{
-    let args = args_of(alloc, words);
-    let call = Call {
-        program: word(words, 3),
-        procedure: word(words, 4),
-        uid: word(words, 5),
-        gid: word(words, 6),
-        gids: groups_of(alloc, word(words, 7)),
-        args,
-    };
-    Step {
-        call,
-        moment: number(words, 0).min(LAST_MOMENT),
-        spare: word(words, 1) as u64,
-        made: number(words, 2),
+    /// A number.
+    pub(crate) fn number(&self, at: usize) -> u64 {
+        self.number_of(self.text(at))
+    }
+
+    /// A number of 32 bits.
+    pub(crate) fn word(&self, at: usize) -> u32 {
+        self.number(at).min(UNSET) as u32
+    }
+
+    /// The number that a word spells.
+    fn number_of(&self, text: &str) -> u64 {
+        match text {
+            "@" => self.turn,
+            "^" => self.turn.saturating_add(1),
+            _ => text.parse::<u64>().unwrap_or(UNSET),
+        }
+    }
+
+    /// A handle; 0 where there is none.
+    pub(crate) fn handle(&self, at: usize) -> u64 {
+        self.handle_of(self.text(at))
+    }
+
+    /// The handle that a word spells.
+    fn handle_of(&self, text: &str) -> u64 {
+        let Some((area, rest)) = text.split_once('.') else {
+            return 0;
+        };
+        let Some((slot, generation)) = rest.split_once('.') else {
+            return 0;
+        };
+        let area = self.number_of(area) % 65536;
+        let slot = self.number_of(slot) % 65536;
+        let generation = self.number_of(generation) % 4294967296;
+        area << 48 | slot << 32 | generation
+    }
+
+    /// Bytes; none without memory.
+    fn bytes(&self, at: usize) -> Raw {
+        match self.bytes_of(self.text(at)) {
+            Ok(bytes) => Raw::from(bytes),
+            Err(_) => Raw::from(Vec::new(self.alloc)),
+        }
+    }
+
+    /// The bytes that a word spells.
+    fn bytes_of(&self, text: &str) -> Result<Vec<u8>, AllocError> {
+        if let Some(text) = text.strip_prefix('\'') {
+            return self.named(text);
+        }
+        if let Some(count) = text.strip_prefix('*') {
+            return vec![in self.alloc; b'x'; count.parse::<usize>().unwrap_or(0)];
+        }
+        let Some(handle) = text.strip_prefix('=') else {
+            return decoded(self.alloc, text);
+        };
+        let handle = self.handle_of(handle);
+        let digits = format!(in self.alloc;
+            "424f58574f4f4431{:016x}{handle:016x}0000000000000000",
+            self.volume
+        )?;
+        decoded(self.alloc, digits.as_str())
+    }
+
+    /// The bytes of a text, which may end with how many calls were made before.
+    fn named(&self, text: &str) -> Result<Vec<u8>, AllocError> {
+        let Some(text) = text.strip_suffix('@') else {
+            return Vec::from_slice(self.alloc, text.as_bytes());
+        };
+        let numbered = format!(in self.alloc; "{text}{}", self.turn)?;
+        Vec::from_slice(self.alloc, numbered.as_bytes())
+    }
+
+    /// The further groups of a caller; none without memory.
+    fn groups(&self, at: usize) -> Words {
+        let mut groups = Words::new(self.alloc);
+        for group in self.text(at).split(',') {
+            if let Ok(group) = group.parse::<u32>() {
+                if groups.push(group).is_err() {
+                    break;
+                }
+            }
+        }
+        groups
+    }
+
+    /// Attributes to set.
+    fn sattr(&self, at: usize) -> Sattr
+        requires { at ≤ 100 }
+    {
+        Sattr {
+            mode: self.word(at),
+            uid: self.word(at + 1),
+            gid: self.word(at + 2),
+            size: self.word(at + 3),
+            atime: (self.word(at + 4), self.word(at + 5)),
+            mtime: (self.word(at + 6), self.word(at + 7)),
+        }
+    }
+
+    /// The call that the words spell.
+    pub(crate) fn call(&self) -> Call {
+        let (program, args) = match self.text(0) {
+            "nfs" => (100003, self.nfs_args()),
+            "mount" => (100005, self.mount_args()),
+            _ => (self.word(8), Args::Refused(self.word(7))),
+        };
+        Call {
+            program,
+            procedure: self.word(7),
+            uid: self.word(4),
+            gid: self.word(5),
+            gids: self.groups(6),
+            args,
+        }
+    }
+
+    /// The arguments of a procedure of MOUNT.
+    fn mount_args(&self) -> Args {
+        match self.word(7) {
+            1 | 3 => Args::Path(self.bytes(8)),
+            _ => Args::Nothing,
+        }
+    }
+
+    /// The arguments of a procedure of NFS.
+    fn nfs_args(&self) -> Args {
+        let procedure = self.word(7);
+        if procedure == 0 || procedure == 3 || procedure == 7 {
+            return Args::Nothing;
+        }
+        let first = self.bytes(8);
+        match procedure {
+            2 => Args::Set(first, self.sattr(9)),
+            6 => Args::Read(first, self.word(9), self.word(10), 0),
+            16 => Args::List(first, self.word(9), self.word(10)),
+            4 | 8 | 9 | 10 | 11 | 12 | 13 | 14 | 15 => self.two_args(procedure, first),
+            _ => Args::Handle(first),
+        }
+    }
+
+    /// The same of arguments with two lists of bytes or more.
+    fn two_args(&self, procedure: u32, first: Raw) -> Args {
+        if procedure == 8 {
+            return Args::Write(first, 0, self.word(9), 0, self.bytes(10));
+        }
+        let second = self.bytes(9);
+        match procedure {
+            9 | 14 => Args::Make(first, second, self.sattr(10)),
+            11 => Args::Rename(first, second, self.bytes(10), self.bytes(11)),
+            12 => Args::Link(first, second, self.bytes(10)),
+            13 => Args::Symlink(first, second, self.bytes(10), self.sattr(11)),
+            _ => Args::Name(first, second),
+        }
     }
 }
 
-/// The further groups of a caller.
-fn groups_of(alloc: Global, group: u32) -> Words {
-    let mut groups = Words::new(alloc);
-    if group != 0 && groups.push(group).is_err() {
-        return Words::new(alloc);
-    }
-    groups
-}
-
-/// The arguments that words spell; none where they spell none.
-fn args_of(alloc: Global, words: &[&str]) -> Args
-    ensures { HasArgs result }
-{
-    let kind = text(words, 8);
-    if kind == "refused" {
-        return Args::Refused(word(words, 9));
-    }
-    if kind == "nothing" {
-        return Args::Nothing;
-    }
-    let first = bytes(alloc, words, 9);
-    match kind {
-        "handle" => Args::Handle(first),
-        "path" => Args::Path(first),
-        "set" => Args::Set(first, sattr(words, 10)),
-        "read" => Args::Read(first, word(words, 10), word(words, 11), 0),
-        "write" => Args::Write(first, 0, word(words, 10), 0, bytes(alloc, words, 11)),
-        _ => named_args(alloc, words, first),
-    }
-}
-
-/// The same of arguments with a name.
-fn named_args(alloc: Global, words: &[&str], first: Raw) -> Args
-    ensures { HasArgs result }
-{
-    let second = bytes(alloc, words, 10);
-    match text(words, 8) {
-        "name" => Args::Name(first, second),
-        "make" => Args::Make(first, second, sattr(words, 11)),
-        "link" => Args::Link(first, second, bytes(alloc, words, 11)),
-        "symlink" => Args::Symlink(first, second, bytes(alloc, words, 11), sattr(words, 12)),
-        _ => Args::Nothing,
-    }
-}
-
-/// Attributes to set.
-fn sattr(words: &[&str], at: usize) -> Sattr
-    requires { at ≤ 100 }
-{
-    Sattr {
-        mode: word(words, at),
-        uid: word(words, at + 1),
-        gid: word(words, at + 2),
-        size: word(words, at + 3),
-        atime: (word(words, at + 4), word(words, at + 5)),
-        mtime: (word(words, at + 6), word(words, at + 7)),
-    }
-}
-
-/// A number of 32 bits; 0 where there is none.
-fn word(words: &[&str], at: usize) -> u32 {
-    text(words, at).parse::<u32>().unwrap_or(0)
-}
-
-/// A number of 64 bits; 0 where there is none.
-fn number(words: &[&str], at: usize) -> u64 {
-    text(words, at).parse::<u64>().unwrap_or(0)
-}
-
-/// Bytes by their hex digits; none where there are no such digits.
-fn bytes(alloc: Global, words: &[&str], at: usize) -> Raw {
-    match hex::decode(alloc, text(words, at)) {
-        Ok(bytes) => Raw::from(bytes),
-        Err(_) => Raw::from(Vec::new(alloc)),
-    }
-}
-
-/// A word; empty where there is none.
-fn text<'a>(words: &[&'a str], at: usize) -> &'a str {
-    match words.get(at) {
-        Some(text) => text,
-        None => "",
+/// The bytes that hex digits spell; none where there are no such digits.
+fn decoded(alloc: Global, digits: &str) -> Result<Vec<u8>, AllocError> {
+    match hex::decode(alloc, digits) {
+        Ok(bytes) => Ok(bytes),
+        Err(_) => Ok(Vec::new(alloc)),
     }
 }

@@ -1,4 +1,4 @@
-use Rattle.std.proofs.Common.{arith}
+use Rattle.std.proofs.Common.{arith, rules}
 use Rattle.boxwood.proofs.Completes.{breaks, completes, not_replayed, refuses, refuses_at}
 use Rattle.boxwood.proofs.top.boxwood.Goals as goal
 
@@ -34,3 +34,12 @@ returns-in-Ok-clause-read_fault g c = λ three. absurd (omega (arith, three))
 
 pub returns-in-Ok-clause-write_fault : goal.returns-in-Ok-clause-write_fault
 returns-in-Ok-clause-write_fault g c = λ four. absurd (omega (arith, four))
+
+pub returns-in-Ok-clause-cut_off : goal.returns-in-Ok-clause-cut_off
+returns-in-Ok-clause-cut_off g c = search rules
+
+pub returns-in-Ok-clause-broken : goal.returns-in-Ok-clause-broken
+returns-in-Ok-clause-broken g c = search rules
+
+pub returns-in-Ok-clause-complete : goal.returns-in-Ok-clause-complete
+returns-in-Ok-clause-complete g c = search rules

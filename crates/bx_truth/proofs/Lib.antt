@@ -17,6 +17,7 @@ pub mod OpeningTree
 pub mod Put
 pub mod Names
 pub mod Adding
+pub mod Named
 pub mod Dirs
 pub mod Died
 pub mod Fresh
@@ -27,6 +28,7 @@ pub mod Pieces
 pub mod Splits
 pub mod Marking
 pub mod Cleaned
+pub mod PieceGone
 pub mod PieceCut
 pub mod PieceRewritten
 pub mod SampleSlots

@@ -1,5 +1,5 @@
 -- Each block of the opening truth is a block.
-use Rattle.std.proofs.Common.{◌≡◌, ℕ, ◌+◌, ◌*◌, ◌^◌, ◌<◌, ◌≤◌, ◌⊎◌, inl, inr, arith}
+use Rattle.std.proofs.Common.{refl, ◌≡◌, ℕ, ◌^◌, ◌<◌, ◌≤◌, ◌⊎◌, inl, inr, arith}
 use Rattle.std.specs.Prelude.{◌≢◌}
 use Rattle.std.proofs.lemmas.List.{length-replicate}
 use Rattle.bx_fields.proofs.Whole.{length-padded}
@@ -10,28 +10,24 @@ use Rattle.bx_layout.proofs.AreaFields.{length-area_text}
 use Rattle.bx_layout.proofs.InodeFields.{length-inode_text}
 use Rattle.bx_page.proofs.Whole.{length-page_bytes}
 use Rattle.bx_places.specs.Places.{IsBlock, block_area, block_slot}
-use Rattle.bx_handles.specs.Handles.{parts_of}
-use Rattle.bx_truth.specs.Chunks.{handle_of, own_block}
+use Rattle.bx_handles.specs.Handles.{number_of, own_handle, parts_of}
 use Rattle.bx_truth.specs.Opening.{area_block, root_block, page_block, free_block, empty_page, opening_inode, opening_slots, opening_truth}
 use Rattle.bx_truth.proofs.Cases.{same_or, eq_true, eq_false}
 use Rattle.bx_truth.proofs.OpeningSlots.{opening_area}
 
-own_name : (area : ℕ) → handle_of (own_block area) 0 ≡ area * 2 ^ 48 + 960 * 2 ^ 32
-own_name area = omega arith
-
-own_is : (area handle : ℕ) → area < 64 → handle ≡ area * 2 ^ 48 + 960 * 2 ^ 32 → IsOwn (parts_of handle)
+own_is : (area handle : ℕ) → area < 64 → handle ≡ number_of (own_handle area) → IsOwn (parts_of handle)
 own_is area handle few is = record { area = omega (arith, few, is); slot = omega (arith, is); generation = omega (arith, is) }
 
 own_has : (area : ℕ) → area < 64 → HasParts (area_block area)
 unfolding area_block
 own_has area few = record {
-  handle = fits (handle_of (own_block area) 0) (own_name area);
+  handle = fits (number_of (own_handle area)) refl;
   kind = omega arith;
-  own = λ four. own_is area (handle_of (own_block area) 0) few (own_name area);
+  own = λ four. own_is area (number_of (own_handle area)) few refl;
   payload = length-padded 4096 (area_text (opening_slots area)) (let long = length-area_text (opening_slots area) (opening_area area) in omega (arith, long));
 }
   where
-    fits : (handle : ℕ) → handle ≡ area * 2 ^ 48 + 960 * 2 ^ 32 → handle < 2 ^ 64
+    fits : (handle : ℕ) → handle ≡ number_of (own_handle area) → handle < 2 ^ 64
     fits handle is = omega (arith, few, is)
 
 root_has : HasParts root_block

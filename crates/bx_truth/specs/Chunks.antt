@@ -1,7 +1,8 @@
--- The chunks of a volume: which block each handle in use names. A handle is a number of 16 bits of area, 16 of slot and 32 of
+-- The chunks of a volume: which block each handle in use names. Handles are numbers here, of 16 bits of area, 16 of slot and 32 of
 -- generation.
-use Rattle.std.specs.Prelude.{◌≡◌, ℕ, ◌+◌, ◌*◌, ◌/◌, ◌%◌, ◌^◌, ◌<◌, Bool, true, false, ◌&&◌, ◌==◌, nat_lt, if◌then◌else◌, List, take, drop, Some, None, slice_index}
+use Rattle.std.specs.Prelude.{◌≡◌, ℕ, ◌+◌, ◌*◌, ◌/◌, ◌%◌, ◌<◌, Bool, true, false, ◌&&◌, ◌==◌, nat_lt, if◌then◌else◌, List, take, drop, Some, None, slice_index}
 use Rattle.std.specs.Int.{w32, from_be_bytes}
+use Rattle.bx_handles.specs.Handles.{block_of, number_of, own_handle, parts_of}
 use Rattle.bx_layout.specs.declared.area.AreaBlock.{AreaBlock}
 use Rattle.bx_layout.specs.declared.block.Block.{Block}
 use Rattle.bx_layout.specs.Areas.{SpellsArea, in_use, generation_in, is_free, bit}
@@ -11,11 +12,11 @@ use Rattle.bx_truth.specs.PageTrees.{Chunks}
 
 -- the number of the block that a handle is in
 abbrev pub block_at : ℕ → ℕ
-block_at handle = 1024 * (handle / 2 ^ 48) + handle / 2 ^ 32 % 2 ^ 16
+block_at handle = block_of (parts_of handle)
 
 -- the handle of a block in a generation
 abbrev pub handle_of : ℕ → ℕ → ℕ
-handle_of block generation = block_area block * 2 ^ 48 + block_slot block * 2 ^ 32 + generation
+handle_of block generation = number_of (record { area = block_area block; slot = block_slot block; generation = generation })
 
 -- a slot of a volume with so many areas
 pub record IsSlot (areas block : ℕ) : Type 0 where
@@ -27,7 +28,7 @@ is_slot areas block = nat_lt (block_area block) areas && nat_lt (block_slot bloc
 
 -- the own block of an area
 abbrev pub own_block : ℕ → ℕ
-own_block area = 1024 * area + 960
+own_block area = block_of (own_handle area)
 
 -- the word of a slot in its area's payload
 unfoldable pub word_in : List ℕ → ℕ → ℕ
@@ -55,7 +56,7 @@ chunks_of areas truth handle = if is_used areas truth handle then Some (truth (b
 
 -- the own block of an area
 pub record IsAreaBlock (area : ℕ) (block : Block) : Type 0 where
-  pub handle : block.handle ≡ handle_of (own_block area) 0
+  pub handle : block.handle ≡ number_of (own_handle area)
   pub kind : block.kind ≡ 4
   pub slots : AreaBlock
   pub spells : SpellsArea slots block.payload

@@ -1,4 +1,4 @@
--- What calls on one file's tree leave.
+-- What edits of one file's inode and tree leave.
 use Rattle.std.specs.Prelude.{◌≡◌, ◌≢◌, ℕ, ◌<◌, Some}
 use Rattle.bx_layout.specs.declared.block.Block.{Block}
 use Rattle.bx_truth.specs.Chunks.{IsChunked, own_block}

@@ -15,7 +15,7 @@ pub record MakesTwo (chunks now : Chunks) (handle page : ℕ) (block page_block 
   pub page_here : now page ≡ Some page_block
   pub others : (other : ℕ) → other ≢ handle → other ≢ page → now other ≡ chunks other
 
--- A handle that named nothing names an inode without a tree.
+-- A handle that named nothing names an inode, and all other chunks stay.
 pub record MakesOne (chunks now : Chunks) (handle : ℕ) (block : Block) : Type 0 where
   pub fresh : chunks handle ≡ None
   pub here : now handle ≡ Some block

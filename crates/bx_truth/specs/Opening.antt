@@ -1,6 +1,7 @@
 -- The truth of a volume that was just made.
 use Rattle.std.specs.Prelude.{ℕ, ◌+◌, ◌^◌, ◌==◌, if◌then◌else◌, List, [], ◌∷◌, replicate, None}
 use Rattle.bx_fields.specs.Writing.{padded}
+use Rattle.bx_handles.specs.Handles.{number_of, own_handle}
 use Rattle.bx_layout.specs.declared.area.AreaBlock.{AreaBlock}
 use Rattle.bx_layout.specs.declared.block.Block.{Block}
 use Rattle.bx_layout.specs.declared.inode.Inode.{Inode}
@@ -10,7 +11,6 @@ use Rattle.bx_places.specs.Places.{block_area, block_slot}
 use Rattle.bx_model.specs.Opening.{root_handle}
 use Rattle.bx_page.specs.Contents.{Contents}
 use Rattle.bx_page.specs.Spelling.{page_bytes}
-use Rattle.bx_truth.specs.Chunks.{handle_of, own_block}
 use Rattle.bx_truth.specs.Truth.{Truth}
 
 -- the page of the root's tree: area 0, slot 1, generation 1
@@ -48,7 +48,7 @@ abbrev pub opening_slots : ℕ → AreaBlock
 opening_slots area = record { words = opening_words area; dead = replicate 120 0 }
 
 unfoldable pub area_block : ℕ → Block
-area_block area = record { handle = handle_of (own_block area) 0; kind = 4; payload = padded 4096 (area_text (opening_slots area)) }
+area_block area = record { handle = number_of (own_handle area); kind = 4; payload = padded 4096 (area_text (opening_slots area)) }
 
 unfoldable pub root_block : Block
 root_block = record { handle = root_handle; kind = 1; payload = padded 4096 (inode_text opening_inode) }

@@ -3,6 +3,7 @@
 use Rattle.std.specs.Prelude.{ℕ, ◌+◌, ◌*◌, ◌^◌, ◌==◌, if◌then◌else◌, List, [], ◌∷◌, ◌++◌, replicate, slice_index_or, Some, None}
 use Rattle.std.specs.Int.{w64, to_be_bytes}
 use Rattle.bx_fields.specs.Writing.{padded}
+use Rattle.bx_handles.specs.Handles.{number_of, own_handle}
 use Rattle.bx_layout.specs.declared.area.AreaBlock.{AreaBlock}
 use Rattle.bx_layout.specs.declared.block.Block.{Block}
 use Rattle.bx_layout.specs.declared.inode.Inode.{Inode}
@@ -17,7 +18,6 @@ use Rattle.bx_page.specs.declared.entry.Entry.{Entry}
 use Rattle.bx_page.specs.Contents.{Contents}
 use Rattle.bx_page.specs.Spelling.{page_bytes}
 use Rattle.bx_places.specs.Places.{block_slot}
-use Rattle.bx_truth.specs.Chunks.{handle_of, own_block}
 use Rattle.bx_truth.specs.Keys.{name_key, name_value, entry_key, entry_value, content_key, content_value}
 use Rattle.bx_truth.specs.Opening.{opening_inode, free_block}
 use Rattle.bx_truth.specs.Truth.{Truth}
@@ -112,7 +112,7 @@ abbrev pub sample_slots : AreaBlock
 sample_slots = record { words = replicate 11 (2 ^ 31 + 1) ++ replicate 949 0; dead = 0 ∷ 4 ∷ replicate 118 0 }
 
 unfoldable pub sample_area : Block
-sample_area = record { handle = handle_of (own_block 0) 0; kind = 4; payload = padded 4096 (area_text sample_slots) }
+sample_area = record { handle = number_of (own_handle 0); kind = 4; payload = padded 4096 (area_text sample_slots) }
 
 abbrev pub sample_truth : Truth
 sample_truth block = if block_slot block == 960 then sample_area else slice_index_or blocks block free_block

@@ -38,7 +38,8 @@ pub record IsShown (chunks : Chunks) (owner : ℕ → Owner) (handle : ℕ) (sto
   pub pages : (h : ℕ) (b : Block) → chunks h ≡ Some b → owner h ≡ PageOf handle → IsPageIn stored h b
   pub pieces : (h index : ℕ) (b : Block) → chunks h ≡ Some b → owner h ≡ DataOf handle index → IsPieceIn stored index h b
 
--- The slots still have the rules of chunks, no handle that was given out is one of the future, and the dead are marked as before.
+-- The slots still have the rules of chunks, no generation falls, so that handles once given out stay given, and the same slots are
+-- marked as dead inodes'.
 pub record KeepsSlots (areas : ℕ) (truth now : Truth) : Type 0 where
   pub chunked : IsChunked areas now
   pub given : (block : ℕ) → IsSlot areas block → generation_in (word_at truth block) ≤ generation_in (word_at now block)

@@ -4,7 +4,7 @@ use Rattle.bx_layout.specs.declared.block.Block.{Block}
 use Rattle.bx_truth.specs.PageTrees.{Chunks, Node, PageTree, IsTree, IsPageOf, map_of}
 use Rattle.bx_truth.specs.Edits.{HasPagesOf}
 
--- A handle that named nothing names a page of the tree, whose map is the same; other chunks than pages stay.
+-- A handle that named nothing names a page of the tree, whose map is the same, and all chunks but the tree's pages stay.
 pub record SplitsTree (chunks now : Chunks) (root : ℕ) (tree after : PageTree) (page : ℕ) (block : Block) : Type 0 where
   pub fresh : chunks page ≡ None
   pub here : now page ≡ Some block

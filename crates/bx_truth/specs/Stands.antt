@@ -20,10 +20,12 @@ pub record HasOne (chunks : Chunks) (owner : ℕ → Owner) (stored : ℕ → St
   pub itself : owner handle ≡ Inodes
   pub has_tree : (stored handle).inode.tree ≢ 0
 
+-- an inode: a file's, or a dead one where there is no file
 pub record IsAnInode (chunks : Chunks) (owner : ℕ → Owner) (stored : ℕ → Stored) (files : List File) (handle : ℕ) (block : Block) : Type 0 where
   pub inode : HasInode (stored handle).inode block
   pub file : IsFileOr chunks owner handle (stored handle) (file_at files handle)
 
+-- a page of the tree of an inode
 pub record IsAPage (chunks : Chunks) (owner : ℕ → Owner) (stored : ℕ → Stored) (handle : ℕ) (block : Block) (inode : ℕ) : Type 0 where
   pub kind : block.kind ≡ 2
   pub of : HasOne chunks owner stored inode
@@ -31,6 +33,7 @@ pub record IsAPage (chunks : Chunks) (owner : ℕ → Owner) (stored : ℕ → S
   pub there : IsPageOf (stored inode).tree node
   pub names : node.handle ≡ handle
 
+-- the block of a piece that the tree of an inode names
 pub record IsAPiece (chunks : Chunks) (owner : ℕ → Owner) (stored : ℕ → Stored) (handle : ℕ) (block : Block) (inode index : ℕ) : Type 0 where
   pub kind : block.kind ≡ 3
   pub of : HasOne chunks owner stored inode

@@ -27,4 +27,5 @@ pub use page_trees::{a_tree_is_split, one_page_tree};
 pub use sample::a_volume_with_files;
 pub use truths::{
     a_new_volume, one_list_of_names, one_tree, other_blocks_do_not_matter, other_files_stay,
+    what_is_in_use_has_a_name,
 };

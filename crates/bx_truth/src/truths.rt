@@ -8,7 +8,7 @@ ghost use Rattle.bx_tree_files.specs.declared.file.File.{File};
 ghost use Rattle.bx_tree_files.specs.declared.file.Name.{Name};
 ghost use Rattle.bx_model.specs.declared.tree.Tree.{Tree};
 ghost use Rattle.bx_page.specs.declared.entry.Entry.{Entry};
-ghost use Rattle.bx_truth.specs.Chunks.{IsChunked};
+ghost use Rattle.bx_truth.specs.Chunks.{IsChunked, IsName, block_at, chunks_of, is_free_at};
 ghost use Rattle.bx_layout.specs.Blocks.{HasParts};
 ghost use Rattle.bx_places.specs.Places.{IsBlock};
 ghost use Rattle.bx_truth.specs.Opening.{opening_truth};
@@ -16,7 +16,7 @@ ghost use Rattle.bx_truth.specs.Stands.{IsOwned, AreFiles, StandsFor, StaysBut, 
 ghost use Rattle.bx_truth.specs.Stored.{AreNames, Owner, Inodes, Stored};
 ghost use Rattle.bx_truth.specs.PageTrees.{Chunks};
 ghost use Rattle.bx_truth.specs.Truth.{Truth, AreSame};
-ghost use Rattle.std.specs.Prelude.{◌≡◌, ◌≢◌, ℕ, ◌≤◌, Bool, true, false, List, Some, None};
+ghost use Rattle.std.specs.Prelude.{◌≡◌, ◌≢◌, ℕ, ◌≤◌, Bool, true, false, List, Some, None, ◌<◌, ◌^◌};
 
 /// A volume that was just made has blocks only, and stands for the tree that has the root alone.
 pub fn a_new_volume()
@@ -53,4 +53,11 @@ pub fn other_files_stay()
         → ((handle : ℕ) (block : Block) → now handle ≡ Some block → named (inode_of handle (owner_now handle)) ≡ true → IsOwned now owner_now stored_now files_now handle block (owner_now handle))
         → ((handle : ℕ) (file : File) → named handle ≡ true → file_at files_now handle ≡ Some file → (owner_now handle ≡ Inodes) × (now handle ≢ None))
         → AreFiles now owner_now stored_now files_now }
+{}
+
+/// What is in use is a slot's of the volume, under a handle that isn't 0 and has 64 bits, and a free slot's block is under none.
+pub fn what_is_in_use_has_a_name()
+    ensures name { (areas : ℕ) (truth : Truth) (tree : Tree) (handle : ℕ) (block : Block) → StandsFor areas truth tree → chunks_of areas truth handle ≡ Some block → IsName areas handle }
+    ensures fits { (areas : ℕ) (truth : Truth) (handle : ℕ) (block : Block) → areas ≤ 64 → chunks_of areas truth handle ≡ Some block → handle < 2 ^ 64 }
+    ensures free { (areas : ℕ) (truth : Truth) (block handle : ℕ) → is_free_at truth block ≡ true → block_at handle ≡ block → chunks_of areas truth handle ≡ None }
 {}

@@ -1,4 +1,4 @@
-use Rattle.std.proofs.Common.{◌≡◌, ℕ, ◌==◌, Bool, true, false, sym, ap, ◌∙◌, refl, if◌then◌else◌, List, [], ◌∷◌}
+use Rattle.std.proofs.Common.{◌≡◌, ℕ, Bool, sym, ap, ◌∙◌, refl, if◌then◌else◌, ◌∷◌}
 use Rattle.std.specs.Prelude.{◌≢◌, ◌^◌, ◌+◌, replicate, slice_index}
 use Rattle.bx_layout.specs.declared.area.AreaBlock.{AreaBlock}
 use Rattle.bx_layout.specs.Areas.{taken_word, with_word}

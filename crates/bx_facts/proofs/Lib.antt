@@ -1,0 +1,4 @@
+pub mod Following
+pub mod Lists
+pub mod Machines
+pub mod Sessions

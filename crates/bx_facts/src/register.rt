@@ -1,0 +1,201 @@
+//! Registers: what the cluster has decided.
+
+ghost use Rattle.std.specs.Prelude.{◌≡◌, ◌≢◌, ℕ, ◌+◌, ◌<◌, ◌≤◌, ◌⊎◌, Bool, true, false, List, OnOk, IfOk, IsErrOf, length};
+ghost use Rattle.bx_base.specs.Faults.{Rose};
+ghost use Rattle.bx_base.specs.declared.names.Actor.{Actor};
+ghost use Rattle.bx_base.specs.declared.names.Actor.TheVariants.{Replica};
+ghost use Rattle.bx_disk.specs.Disks.{Image, Disks, IsImage};
+ghost use Rattle.bx_disk.specs.Counts.{NoneFalls};
+ghost use Rattle.bx_calls.specs.Calls.{LeavesOnly};
+ghost use Rattle.bx_global.specs.Allowed.{IsAllowed};
+ghost use Rattle.bx_global.specs.Table.{IsLegal};
+ghost use Rattle.bx_global.specs.declared.change.Change.{Change};
+ghost use Rattle.bx_global.specs.declared.state.GlobalState.{GlobalState};
+ghost use Rattle.bx_layout.specs.Labels.{SpellsLabel};
+ghost use Rattle.bx_layout.specs.declared.label.Label.{Label};
+ghost use Rattle.bx_places.specs.Places.{replica_sectors};
+ghost use Rattle.bx_post.specs.declared.packets.Letter.{Letter};
+ghost use Rattle.bx_facts.specs.declared.input.FactError.TheVariants.{Disk as DiskFails};
+ghost use Rattle.bx_facts.specs.declared.input.OpenError.TheVariants.{Disk as OpenFails};
+ghost use Rattle.bx_facts.specs.declared.input.ProposeError.TheVariants.{NotLegal, Busy};
+ghost use Rattle.bx_facts.specs.Chains.{last, AreLegal, IsAboveBoots, IsNext, IsPlace};
+ghost use Rattle.bx_facts.specs.Disks.{Crashes, HasRoom, NeedsAt, NeedsNoMore, OnlyDiskOf, ReadsOnly, SameDisks, SameLabels, SameMembers, SameReplicas, wanted_by};
+ghost use Rattle.bx_facts.specs.Inputs.{AreAmong, IsRegisters, SendsOnly};
+ghost use Rattle.bx_facts.specs.Machines.{IsMachine, OnlyAt, OnlyFactsAt, SameFacts, disk_of};
+ghost use Rattle.bx_facts.specs.Pasts.{Decides, MayHear, RegisterPast, found_register, opening_register, proposing, register_crashed, register_failed, register_restarted, register_with};
+
+use crate::input::{FactError, Input, OpenError, ProposeError};
+use bx_base::Actor;
+use bx_disk::Rack;
+use bx_global::{Change, GlobalState};
+use bx_post::Outbox;
+
+/// What the machines have agreed on: a chain of states, of which each machine knows one place. What was done with a register is no part
+/// of it: a clause says what fits it after a call, of each past that fitted it before.
+pub trait Register: Drop {
+    /// The state that it was made with. The number of its devices says what a cell is read as.
+    ghost made: { Self → GlobalState };
+
+    /// How many nodes the cluster has.
+    ghost nodes: { Self → ℕ };
+
+    /// Whether nothing was done with it yet.
+    ghost is_new: { Self → Type 0 };
+
+    /// The state that a machine knows.
+    ghost knows: { Self → Actor → GlobalState };
+
+    /// Whether a machine has a proposal out.
+    ghost is_busy: { Self → Actor → Type 0 };
+
+    /// How many sectors it needs of each disk now; 0 of a disk whose machine is down.
+    ghost needs: { Self → ℕ → ℕ };
+
+    /// This past is one that led to it, and the disks hold what its calls left on them.
+    ghost keeps: { Self → Disks → RegisterPast → Type 0 };
+
+    /// An image is read as this state, for a register that was made with the first one.
+    ghost reads_as: { GlobalState → Image → GlobalState → Type 0 };
+
+    /// The state that a machine knows. It takes no memory.
+    fn known(&self, who: Actor) -> &GlobalState
+        requires there { IsMachine (nodes self.now) who }
+        ensures knows { result.now ≡ knows self.now who }
+        ensures allowed { ∥ IsAllowed result.now ∥₁ };
+
+    /// Hands a change to a machine, which tries to have it decided. `NotLegal` exactly where it isn't legal on what the machine
+    /// knows; else `Busy` exactly where the machine has a proposal out.
+    fn propose(&mut self, who: Actor, change: &Change, out: &mut Outbox) -> Result<(), ProposeError>
+        requires there { IsMachine (nodes self.old) who }
+        ensures keeps { (x : Disks) (past : RegisterPast) → keeps self.old x (register_with past out.old) → past.down who ≡ false → OnOk result (keeps self.new x (register_with (proposing past change.now) out.new)) }
+        ensures refused { (x : Disks) (past : RegisterPast) → keeps self.old x (register_with past out.old) → IsErrOf result NotLegal ⊎ IsErrOf result Busy → keeps self.new x (register_with past out.old) × (out.new ≡ out.old) × SameFacts (is_busy self.old) (is_busy self.new) }
+        ensures legal { OnOk result (IsLegal (knows self.old who) change.now × (is_busy self.old who → ⊥) × is_busy self.new who) }
+        ensures not_legal { IsErrOf result NotLegal → IsLegal (knows self.old who) change.now → ⊥ }
+        ensures busy { IsErrOf result Busy → IsLegal (knows self.old who) change.now × is_busy self.old who }
+        ensures others { OnlyFactsAt who (is_busy self.old) (is_busy self.new) }
+        ensures knows { (other : Actor) → knows self.new other ≡ knows self.old other }
+        ensures needs { NeedsNoMore (needs self.old) (needs self.new) }
+        ensures sent { OnOk result (SendsOnly IsRegisters out.old out.new) }
+        ensures made { (made self.new ≡ made self.old) × (nodes self.new ≡ nodes self.old) };
+
+    /// Does one event of a machine. At a disk fault what is in the box isn't sent. For want of memory it isn't used again.
+    fn take<R: Rack>(
+        &mut self,
+        rack: &mut R,
+        at: Actor,
+        input: &Input,
+        out: &mut Outbox,
+    ) -> Result<(), FactError>
+        requires there { IsMachine (nodes self.old) at }
+        requires room { HasRoom (needs self.old) (R.state rack.old).sizes }
+        ensures keeps { (past : RegisterPast) → R.tells rack.old → keeps self.old (R.state rack.old) (register_with past out.old) → MayHear (register_with past out.old) at input.now → OnOk result (Decides (keeps self.new (R.state rack.new)) (register_with past out.new)) }
+        ensures keeps_faulted { (past : RegisterPast) → R.tells rack.old → keeps self.old (R.state rack.old) (register_with past out.old) → MayHear (register_with past out.old) at input.now → IsErrOf result DiskFails → Decides (keeps self.new (R.state rack.new)) (register_with past out.old) }
+        ensures any_moment { (past : RegisterPast) → R.tells rack.old → keeps self.old (R.state rack.old) (register_with past out.old) → MayHear (register_with past out.old) at input.now → LeavesOnly (R.moment rack.old) (R.moment rack.new) (R.left_since rack.old) (R.left_since rack.new) (ReadsOnly (reads_as (made self.old)) (R.state rack.old) (IsNext past.proposed (last past.chain))) }
+        ensures rises { (who : Actor) → (knows self.old who).index ≤ (knows self.new who).index }
+        ensures knows { OnlyAt at (knows self.old) (knows self.new) }
+        ensures others { OnlyFactsAt at (is_busy self.old) (is_busy self.new) }
+        ensures still_busy { is_busy self.old at → (knows self.new at).index ≡ (knows self.old at).index → OnOk result (is_busy self.new at) }
+        ensures was_busy { OnOk result (is_busy self.new at → is_busy self.old at × ((knows self.new at).index ≡ (knows self.old at).index)) }
+        ensures needs { NeedsNoMore (needs self.old) (needs self.new) }
+        ensures sent { OnOk result (SendsOnly IsRegisters out.old out.new) }
+        ensures made { (made self.new ≡ made self.old) × (nodes self.new ≡ nodes self.old) }
+        ensures members { R.tells rack.old → SameMembers (R.state rack.old) (R.state rack.new) × SameLabels (R.state rack.old) (R.state rack.new) }
+        ensures disks { R.tells rack.old → OnlyDiskOf at (R.state rack.old) (R.state rack.new) }
+        ensures cause { IsErrOf result DiskFails → Rose (R.faults rack.old) (R.faults rack.new) }
+        ensures later { NoneFalls (R.faults rack.old) (R.faults rack.new) (R.faults_of rack.old) (R.faults_of rack.new) }
+        ensures sizes { (R.state rack.new).sizes ≡ (R.state rack.old).sizes }
+        ensures keeps_telling { R.tells rack.old → R.tells rack.new };
+
+    /// A machine stops. It takes no memory.
+    fn crash(&mut self, who: Actor)
+        ensures keeps { (x : Disks) (past : RegisterPast) → keeps self.old x past → keeps self.new x (register_crashed past who) }
+        ensures others { OnlyFactsAt who (is_busy self.old) (is_busy self.new) }
+        ensures knows { (other : Actor) → knows self.new other ≡ knows self.old other }
+        ensures needs { NeedsNoMore (needs self.old) (needs self.new) }
+        ensures made { (made self.new ≡ made self.old) × (nodes self.new ≡ nodes self.old) };
+
+    /// A machine that is down starts again, with a boot above those that it had or that were found. It has no proposal out then.
+    fn restart<R: Rack>(
+        &mut self,
+        rack: &mut R,
+        who: Actor,
+        boot: u64,
+        out: &mut Outbox,
+    ) -> Result<(), FactError>
+        requires there { IsMachine (nodes self.old) who }
+        requires room { HasRoom (needs self.old) (R.state rack.old).sizes }
+        requires disk { HasRoom (wanted_by (disk_of who) replica_sectors) (R.state rack.old).sizes }
+        ensures keeps { (past : RegisterPast) → R.tells rack.old → keeps self.old (R.state rack.old) (register_with past out.old) → past.down who ≡ true → past.boots who < boot → OnOk result (keeps self.new (R.state rack.new) (register_with (register_restarted past who boot) out.new)) }
+        ensures keeps_faulted { (past : RegisterPast) → R.tells rack.old → keeps self.old (R.state rack.old) (register_with past out.old) → past.down who ≡ true → past.boots who < boot → IsErrOf result DiskFails → keeps self.new (R.state rack.new) (register_with (register_failed past who boot) out.old) }
+        ensures any_moment { (past : RegisterPast) → R.tells rack.old → keeps self.old (R.state rack.old) (register_with past out.old) → past.down who ≡ true → past.boots who < boot → LeavesOnly (R.moment rack.old) (R.moment rack.new) (R.left_since rack.old) (R.left_since rack.new) (ReadsOnly (reads_as (made self.old)) (R.state rack.old) (IsNext past.proposed (last past.chain))) }
+        ensures knows { OnlyAt who (knows self.old) (knows self.new) }
+        ensures others { OnlyFactsAt who (is_busy self.old) (is_busy self.new) }
+        ensures idle { OnOk result (is_busy self.new who → ⊥) }
+        ensures needs { NeedsAt who replica_sectors (needs self.old) (needs self.new) }
+        ensures sent { OnOk result (SendsOnly IsRegisters out.old out.new) }
+        ensures made { (made self.new ≡ made self.old) × (nodes self.new ≡ nodes self.old) }
+        ensures members { R.tells rack.old → SameMembers (R.state rack.old) (R.state rack.new) × SameLabels (R.state rack.old) (R.state rack.new) }
+        ensures disks { R.tells rack.old → OnlyDiskOf who (R.state rack.old) (R.state rack.new) }
+        ensures cause { IsErrOf result DiskFails → Rose (R.faults rack.old) (R.faults rack.new) }
+        ensures later { NoneFalls (R.faults rack.old) (R.faults rack.new) (R.faults_of rack.old) (R.faults_of rack.new) }
+        ensures sizes { (R.state rack.new).sizes ≡ (R.state rack.old).sizes }
+        ensures keeps_telling { R.tells rack.old → R.tells rack.new };
+
+    /// Writes what the replicas' disks hold of the state that it was made with. Every machine knows it then.
+    fn format<R: Rack>(&mut self, rack: &mut R) -> Result<(), FactError>
+        requires room { (n : ℕ) → n < 3 → HasRoom (wanted_by (disk_of (Replica n)) replica_sectors) (R.state rack.old).sizes }
+        ensures keeps { R.tells rack.old → is_new self.old → OnOk result (keeps self.new (R.state rack.new) (opening_register (made self.old))) }
+        ensures knows { is_new self.old → (who : Actor) → OnOk result (knows self.new who ≡ made self.old) }
+        ensures idle { is_new self.old → (who : Actor) → OnOk result (is_busy self.new who → ⊥) }
+        ensures made { (made self.new ≡ made self.old) × (nodes self.new ≡ nodes self.old) }
+        ensures members { R.tells rack.old → SameMembers (R.state rack.old) (R.state rack.new) × SameLabels (R.state rack.old) (R.state rack.new) }
+        ensures cause { IsErrOf result DiskFails → Rose (R.faults rack.old) (R.faults rack.new) }
+        ensures later { NoneFalls (R.faults rack.old) (R.faults rack.new) (R.faults_of rack.old) (R.faults_of rack.new) }
+        ensures sizes { (R.state rack.new).sizes ≡ (R.state rack.old).sizes }
+        ensures keeps_telling { R.tells rack.old → R.tells rack.new };
+
+    /// Begins with the state that the disks are read as, which every machine knows then; each is to start again before it does anything. The
+    /// answer is the greatest boot on the disks.
+    fn open<R: Rack>(&mut self, rack: &mut R) -> Result<u64, OpenError>
+        ensures keeps { R.tells rack.old → is_new self.old → IfOk result (λ boot. keeps self.new (R.state rack.new) (found_register (knows self.new (Replica 0)) boot)) }
+        ensures found { R.tells rack.old → is_new self.old → OnOk result (reads_as (made self.old) (R.state rack.old).reads (knows self.new (Replica 0))) }
+        ensures boots { is_new self.old → IfOk result (λ boot. ∥ IsAboveBoots (knows self.new (Replica 0)) (boot + 1) ∥₁) }
+        ensures knows { is_new self.old → (who : Actor) → OnOk result (knows self.new who ≡ knows self.new (Replica 0)) }
+        ensures idle { is_new self.old → (who : Actor) → OnOk result (is_busy self.new who → ⊥) }
+        ensures made { (made self.new ≡ made self.old) × (nodes self.new ≡ nodes self.old) }
+        ensures disks { R.tells rack.old → SameDisks (R.state rack.old) (R.state rack.new) }
+        ensures cause { IsErrOf result OpenFails → Rose (R.faults rack.old) (R.faults rack.new) }
+        ensures later { NoneFalls (R.faults rack.old) (R.faults rack.new) (R.faults_of rack.old) (R.faults_of rack.new) }
+        ensures sizes { (R.state rack.new).sizes ≡ (R.state rack.old).sizes }
+        ensures keeps_telling { R.tells rack.old → R.tells rack.new };
+
+    /// Each known state is a place of the chain.
+    ghost places: { (g : Self) (x : Disks) (past : RegisterPast) (who : Actor) → keeps g x past → IsPlace past.chain (knows g who) };
+
+    /// Each change of the chain was legal.
+    ghost legal: { (g : Self) (x : Disks) (past : RegisterPast) → keeps g x past → AreLegal past.chain.first past.chain.changes };
+
+    /// The first state of the chain meets the conditions on states.
+    ghost begins_allowed: { (g : Self) (x : Disks) (past : RegisterPast) → keeps g x past → ∥ IsAllowed past.chain.first ∥₁ };
+
+    /// An image is read as the last state, or as one that a proposed change makes of it.
+    ghost reads_next: { (g : Self) (x : Disks) (past : RegisterPast) (image : Image) (s : GlobalState) → keeps g x past → IsImage x image → reads_as (made g) image s → IsNext past.proposed (last past.chain) s };
+
+    /// An image in which two replicas have a label is read as some state.
+    ghost reads_some: { (g : Self) (x : Disks) (past : RegisterPast) (image : Image) (n m : ℕ) (one other : Label) → keeps g x past → IsImage x image → n < 3 → m < 3 → n ≢ m → SpellsLabel one (image n 0) → SpellsLabel other (image m 0) → (s : GlobalState) × reads_as (made g) image s };
+
+    /// Other disks don't matter.
+    ghost elsewhere: { (g : Self) (x y : Disks) (past : RegisterPast) → keeps g x past → SameReplicas x y → keeps g y past };
+
+    /// The disk of a machine that is down may crash.
+    ghost survives: { (g : Self) (x y : Disks) (past : RegisterPast) (n : ℕ) → keeps g x past → past.down (Replica n) ≡ true → Crashes n x y → keeps g y past };
+
+    /// Letters may be lost, and come in any order and number; those of other layers don't matter.
+    ghost loses: { (g : Self) (x : Disks) (past : RegisterPast) (letters : List Letter) → keeps g x past → AreAmong IsRegisters letters past.letters → keeps g x (record past { letters = letters }) };
+
+    /// It never needs more than a replica's sectors of a disk.
+    ghost needs_little: { (g : Self) (disk : ℕ) → needs g disk ≤ replica_sectors };
+
+    /// It needs nothing of the disks of members.
+    ghost needs_none: { (g : Self) (disk : ℕ) → 3 ≤ disk → needs g disk ≡ 0 };
+}

@@ -1,0 +1,6 @@
+mod Asking
+mod Keeping
+mod Machines
+mod Puts
+mod Stands
+mod Wants

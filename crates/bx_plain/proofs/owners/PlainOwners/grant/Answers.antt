@@ -1,0 +1,47 @@
+use Rattle.std.proofs.Common.{◌≡◌, List, refl, sym, subst, ◌⊎◌, None}
+use Rattle.bx_facts.specs.Holds.{KeepsHolds}
+use Rattle.bx_plain.specs.declared.rows.Row.{Row}
+use Rattle.bx_plain.specs.Fits.{RowsStand}
+use Rattle.bx_plain.specs.Rows.{hold_in, floor_in}
+use Rattle.bx_plain.proofs.Stands.{grant_stands, grant_keeps, grant_floors}
+use Rattle.bx_plain.specs.Asks.{AlikeBut}
+use Rattle.bx_plain.specs.Rows.{want_in}
+use Rattle.bx_plain.proofs.Asking.{alike_self}
+use Rattle.bx_plain.proofs.Wants.{alike_its, left_alone, wants_go, was_true}
+use Rattle.bx_plain.proofs.owners.PlainOwners.grant.Goals as goal
+
+pub returns-clause-stand : goal.returns-clause-stand
+returns-clause-stand c = λ stand.
+    subst RowsStand (sym c.in_ok-put.ensures)
+    (grant_stands c.args.self.now.rows c.args.session c.args.block c.floor_of-index.result c.row_of-row.result c.row_of-row.ensures (c.if-not-is_free.ensures.0 refl) c.if-row.false c.floor_of-index.ensures stand)
+
+pub returns-clause-holds : goal.returns-clause-holds
+returns-clause-holds c =
+    subst (λ (rows : List Row). KeepsHolds (hold_in c.args.self.now.rows) (hold_in rows)) (sym c.in_ok-put.ensures)
+    (grant_keeps c.args.self.now.rows c.args.session c.args.block c.floor_of-index.result c.row_of-row.result c.row_of-row.ensures (c.if-not-is_free.ensures.0 refl) c.if-row.false c.floor_of-index.ensures)
+
+pub returns-clause-floor : goal.returns-clause-floor
+returns-clause-floor c = λ at.
+    subst (λ (rows : List Row). floor_in rows at ≡ floor_in c.args.self.now.rows at) (sym c.in_ok-put.ensures)
+    (grant_floors c.args.self.now.rows c.args.session c.args.block c.floor_of-index.result c.row_of-row.result c.row_of-row.ensures (c.if-not-is_free.ensures.0 refl) c.if-row.false c.floor_of-index.ensures at)
+
+pub returns-then-not-row-clause-alike : goal.returns-then-not-row-clause-alike
+returns-then-not-row-clause-alike c = alike_self c.args.block c.args.self.now.rows
+
+pub returns-then-not-is_free-clause-alike : goal.returns-then-not-is_free-clause-alike
+returns-then-not-is_free-clause-alike c = alike_self c.args.block c.args.self.now.rows
+
+pub returns-clause-wants : goal.returns-clause-wants
+returns-clause-wants c = λ other at.
+    subst (λ (rows : List Row). (want_in rows other at ≡ None) ⊎ (want_in rows other at ≡ want_in c.args.self.now.rows other at)) (sym c.in_ok-put.ensures)
+    (wants_go c.args.self.now.rows _ refl other at)
+
+pub returns-clause-quiet : goal.returns-clause-quiet
+returns-clause-quiet c = λ other none.
+    subst (λ (rows : List Row). (want_in rows other c.args.block ≡ None) × (hold_in rows other c.args.block ≡ hold_in c.args.self.now.rows other c.args.block)) (sym c.in_ok-put.ensures)
+    (left_alone c.args.self.now.rows c.args.session c.args.block c.row_of-row.result c.row_of-row.ensures _ refl refl (was_true c.row_of-row.result.is_wanted c.if-not-row.false) other none)
+
+pub returns-clause-alike : goal.returns-clause-alike
+returns-clause-alike c =
+    subst (λ (rows : List Row). AlikeBut c.args.block c.args.self.now.rows rows) (sym c.in_ok-put.ensures)
+    (alike_its c.args.self.now.rows c.args.session c.args.block c.row_of-row.result c.row_of-row.ensures _ refl)

@@ -1,0 +1,23 @@
+use Rattle.std.proofs.Common.{◌≡◌, ◌⊎◌, inl, inr, ⊎_elim, ◌∙◌, Option, None, refl}
+use Rattle.bx_base.specs.declared.names.Mode.{Mode}
+use Rattle.bx_plain.specs.Rows.{hold_in, want_in}
+use Rattle.bx_plain.proofs.Asking.{alike_self, alike_then}
+use Rattle.bx_plain.proofs.Stands.{keeps_none, keeps_then}
+use Rattle.bx_plain.proofs.owners.PlainOwners.grant_waiting.Goals as goal
+
+pub loop-place-init : goal.loop-place-init
+loop-place-init c = ((λ stand. stand), keeps_none (hold_in c.args.self.now.rows), (λ at. refl), (λ other at. inr refl), (λ other none. (none, refl)), alike_self c.args.block c.args.self.now.rows, refl)
+
+then_wants : (a b c : Option Mode) → (b ≡ None) ⊎ (b ≡ a) → (c ≡ None) ⊎ (c ≡ b) → (c ≡ None) ⊎ (c ≡ a)
+then_wants a b c one two = ⊎_elim (λ none. inl none) (λ same. ⊎_elim (λ none. inl (same ∙ none)) (λ as_before. inr (same ∙ as_before)) one) two
+
+pub loop-place-preserved : goal.loop-place-preserved
+loop-place-preserved c = (
+  (λ stand. c.in_ok-grant.ensures.stand (c.loop-place.invariant.0 stand)),
+  keeps_then (hold_in c.args.self.now.rows) (hold_in c.loop-place.self.rows) (hold_in c.grant.new.self.rows) c.loop-place.invariant.1 c.in_ok-grant.ensures.holds,
+  (λ at. c.in_ok-grant.ensures.floor at ∙ c.loop-place.invariant.2 at),
+  (λ other at. then_wants (want_in c.args.self.now.rows other at) (want_in c.loop-place.self.rows other at) (want_in c.grant.new.self.rows other at) (c.loop-place.invariant.3 other at) (c.in_ok-grant.ensures.wants other at)),
+  (λ other none. let before = c.loop-place.invariant.4 other none in let after = c.in_ok-grant.ensures.quiet other before.0 in (after.0, after.1 ∙ before.1)),
+  alike_then c.args.block c.args.self.now.rows c.loop-place.self.rows c.grant.new.self.rows c.loop-place.invariant.5 c.in_ok-grant.ensures.alike,
+  c.grant.ensures.nodes ∙ c.loop-place.invariant.6,
+)

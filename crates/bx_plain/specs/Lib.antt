@@ -1,0 +1,6 @@
+pub mod Asks
+pub mod Busy
+pub mod Fits
+pub mod Laws
+pub mod Rows
+pub mod Standing

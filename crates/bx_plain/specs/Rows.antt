@@ -1,0 +1,65 @@
+-- Rows of holds and wants: at most one counts for a session and a block, the first.
+use Rattle.std.specs.Prelude.{◌≡◌, ◌≢◌, ℕ, suc, ◌≤◌, ◌⊎◌, max, Bool, false, ◌==◌, ◌&&◌, if◌then◌else◌, List, [], ◌∷◌, Option, Some, None, option_map}
+use Rattle.bx_base.specs.declared.names.Mode.{Mode}
+use Rattle.bx_base.specs.declared.names.Mode.TheVariants.{Shared}
+use Rattle.bx_facts.specs.Holds.{Hold}
+use Rattle.bx_plain.specs.declared.rows.Row.{Row}
+
+abbrev pub is_row : ℕ → ℕ → Row → Bool
+is_row session block row = (row.session == session) && (row.block == block)
+
+-- what a row holds
+abbrev pub hold_of_row : Row → Option Hold
+hold_of_row row = if row.is_held then Some (row.mode, row.index) else None
+
+abbrev pub want_of_row : Row → Option Mode
+want_of_row row = if row.is_wanted then Some row.mode else None
+
+abbrev pub hold_in : List Row → ℕ → ℕ → Option Hold
+hold_in [] session block = None
+hold_in (row ∷ rows) session block = if is_row session block row then hold_of_row row else hold_in rows session block
+
+abbrev pub want_in : List Row → ℕ → ℕ → Option Mode
+want_in [] session block = None
+want_in (row ∷ rows) session block = if is_row session block row then want_of_row row else want_in rows session block
+
+abbrev pub place_in : List Row → ℕ → ℕ → Option ℕ
+place_in [] session block = None
+place_in (row ∷ rows) session block = if is_row session block row then Some 0 else option_map suc (place_in rows session block)
+
+-- the greatest index with which the block was given up
+abbrev pub floor_in : List Row → ℕ → ℕ
+floor_in [] block = 0
+floor_in (row ∷ rows) block = max (if row.block == block then row.given else 0) (floor_in rows block)
+
+-- a row lets a session hold the block so
+abbrev pub Lets : ℕ → ℕ → Mode → Row → Type 0
+Lets session block mode row = (row.is_held ≡ false) ⊎ (row.session ≡ session) ⊎ (row.block ≢ block) ⊎ ((row.mode ≡ Shared) × (mode ≡ Shared))
+
+abbrev pub AllLet : ℕ → ℕ → Mode → List Row → Type 0
+AllLet session block mode [] = Unit {0}
+AllLet session block mode (row ∷ rows) = Lets session block mode row × AllLet session block mode rows
+
+-- one row is set: what it holds, and what all others do
+pub record Sets (session block : ℕ) (held : Option Hold) (old new : List Row) : Type 0 where
+  pub here : hold_in new session block ≡ held
+  pub other_sessions : (s b : ℕ) → s ≢ session → hold_in new s b ≡ hold_in old s b
+  pub other_blocks : (b : ℕ) → b ≢ block → hold_in new session b ≡ hold_in old session b
+
+-- floors don't fall
+pub record Rises (old new : List Row) : Type 0 where
+  pub each : (block : ℕ) → floor_in old block ≤ floor_in new block
+
+-- a row that stands for nothing yet
+abbrev pub idle : ℕ → ℕ → Row
+idle session block = record { session = session; block = block; mode = Shared; index = 0; is_held = false; is_wanted = false; given = 0 }
+
+-- the row of a session and a block
+abbrev pub row_in : List Row → ℕ → ℕ → Row
+row_in [] session block = idle session block
+row_in (row ∷ rows) session block = if is_row session block row then row else row_in rows session block
+
+-- the rows with one put in the place of that of its session and block, or at the end
+abbrev pub with_row : List Row → Row → List Row
+with_row [] new = new ∷ []
+with_row (row ∷ rows) new = if is_row new.session new.block row then new ∷ rows else row ∷ with_row rows new

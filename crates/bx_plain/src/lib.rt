@@ -1,0 +1,11 @@
+//! The register, the owners and the store of a cluster on one machine, which send no packets.
+#![tactic(auto)]
+
+mod asks;
+mod busy;
+mod owners;
+mod register;
+mod rows;
+
+pub use owners::PlainOwners;
+pub use register::PlainRegister;

@@ -1,0 +1,135 @@
+//! A register on one machine.
+
+ghost use Rattle.std.specs.Prelude.{◌≡◌, ◌+◌, ◌≤◌, ℕ, [], Contains};
+ghost use Rattle.bx_global.specs.Allowed.{IsAllowed};
+ghost use Rattle.bx_facts.specs.Chains.{IsAboveBoots};
+
+use crate::busy::{is_in, take_out};
+use bx_base::{Actor, OutOfMemory};
+use bx_disk::Rack;
+use bx_facts::{FactError, Input, OpenError, Outbox, ProposeError, Register};
+use bx_global::{Change, GlobalState};
+use std::alloc::Global;
+
+/// One state, which every machine knows. No change is ever decided, so a proposal stays out until its machine starts again.
+#[derive(Drop)]
+pub struct PlainRegister {
+    alloc: Global,
+    nodes: u32,
+    state: GlobalState,
+    busy: Vec<Actor>,
+    ghost allowed: { ∥ IsAllowed state ∥₁ },
+    ghost boots: { ∥ IsAboveBoots state 1 ∥₁ },
+}
+
+impl PlainRegister {
+    /// A register of so many nodes that knows this state, in which no boot is above 0. It takes no memory.
+    pub fn new(alloc: Global, nodes: u32, state: GlobalState) -> PlainRegister
+        requires allowed { ∥ IsAllowed state ∥₁ }
+        requires boots { ∥ IsAboveBoots state 1 ∥₁ }
+        ensures made { (result.state ≡ state) × (result.nodes ≡ nodes) }
+        ensures new { result.busy.items ≡ [] }
+    {
+        PlainRegister {
+            alloc,
+            nodes,
+            state,
+            busy: Vec::new(alloc),
+        }
+    }
+}
+
+impl Register for PlainRegister {
+    ghost use Rattle.std.specs.Prelude.{⊤, [], ◌∷◌, refl};
+    ghost use Rattle.std.proofs.Common.{inl};
+    ghost use Rattle.bx_disk.specs.Disks.{Image, Disks};
+    ghost use Rattle.bx_facts.specs.Pasts.{RegisterPast};
+    ghost use Rattle.bx_plain.specs.Standing.{IsUnchanged, is_last, is_legal, is_next, is_place, needs_little};
+
+    ghost made = { λ g. g.state };
+
+    ghost nodes = { λ g. g.nodes };
+
+    ghost is_new = { λ g. g.busy.items ≡ [] };
+
+    ghost knows = { λ g who. g.state };
+
+    ghost is_busy = { λ g who. Contains g.busy.items who };
+
+    ghost needs = { λ g disk. 0 };
+
+    ghost keeps = { λ g x past. IsUnchanged g.state past };
+
+    ghost reads_as = { λ made image s. s ≡ made };
+
+    fn known(&self, _who: Actor) -> &GlobalState {
+        &self.state
+    }
+
+    fn propose(
+        &mut self,
+        who: Actor,
+        change: &Change,
+        _out: &mut Outbox,
+    ) -> Result<(), ProposeError> {
+        if self.state.changed(self.alloc, change)?.is_none() {
+            return Err(ProposeError::NotLegal);
+        }
+        if is_in(&self.busy, &who) {
+            return Err(ProposeError::Busy);
+        }
+        self.busy.push(who).map_err(OutOfMemory::from)?;
+        Ok(())
+    }
+
+    fn take<R: Rack>(
+        &mut self,
+        _rack: &mut R,
+        _at: Actor,
+        _input: &Input,
+        _out: &mut Outbox,
+    ) -> Result<(), FactError> {
+        Ok(())
+    }
+
+    fn crash(&mut self, _who: Actor) {}
+
+    fn restart<R: Rack>(
+        &mut self,
+        _rack: &mut R,
+        who: Actor,
+        _boot: u64,
+        _out: &mut Outbox,
+    ) -> Result<(), FactError> {
+        take_out(&mut self.busy, &who);
+        Ok(())
+    }
+
+    fn format<R: Rack>(&mut self, _rack: &mut R) -> Result<(), FactError> {
+        Ok(())
+    }
+
+    fn open<R: Rack>(&mut self, _rack: &mut R) -> Result<u64, OpenError> {
+        Ok(0)
+    }
+
+    ghost places = { λ g x past who keeps. is_place g.state past keeps };
+
+    ghost legal = { λ g x past keeps. is_legal g.state past keeps };
+
+    ghost begins_allowed = { λ g x past keeps. keeps.allowed };
+
+    ghost reads_next = { λ g x past image s keeps is reads. is_next g.state past s keeps reads };
+
+    ghost reads_some = { λ g x past image n m one other keeps is first second apart left right. (g.state, refl) };
+
+    ghost elsewhere = { λ g x y past keeps same. keeps };
+
+    ghost survives = { λ g x y past n keeps down crash. keeps };
+
+    ghost loses = { λ g x past letters keeps fewer. record { changes = keeps.changes; first = keeps.first; allowed = keeps.allowed } };
+
+    ghost needs_little = { λ g disk. needs_little };
+
+    ghost needs_none = { λ g disk far. refl };
+}

@@ -1,0 +1,74 @@
+-- What an attempt of a call answers.
+use Rattle.std.specs.Prelude.{◌≡◌, ◌≢◌, ℕ, ◌⊎◌, List, [], Contains, None, IsSome, true}
+use Rattle.bx_base.specs.declared.names.Mode.{Mode}
+use Rattle.bx_base.specs.declared.names.Mode.TheVariants.{Exclusive}
+use Rattle.bx_places.specs.Places.{is_block}
+use Rattle.bx_records.specs.Drafts.{Changed, block_in}
+use Rattle.bx_views.specs.declared.attempt.Attempt.{Attempt}
+use Rattle.bx_views.specs.declared.attempt.Attempt.TheVariants.{Need, Change, Inner, Answer}
+use Rattle.bx_views.specs.declared.attempt.Done.{Done}
+use Rattle.bx_views.specs.Truths.{Truth, Held, Hints, with_draft}
+
+-- a call that acted: whose it is and its bytes, when, the free blocks that it tells, the handle that it made, and the reply's bytes
+pub record Deed : Type 0 where
+  pub client : ℕ
+  pub call : List ℕ
+  pub moment : ℕ
+  pub spare : ℕ
+  pub made : ℕ
+  pub reply : List ℕ
+
+abbrev pub deed_of : ℕ → List ℕ → ℕ → Done → Deed
+deed_of client call moment done = record { client = client; call = call; moment = moment; spare = done.spare; made = done.made; reply = done.reply }
+
+-- How many blocks are free, or 8 where the reply doesn't tell it.
+abbrev pub TellsSpare : ℕ → Done → Type 0
+TellsSpare free done = (done.spare ≡ 8) ⊎ (done.spare ≡ free)
+
+-- The truth that a draft leaves stands for the next tree, and all hints that agreed before agree then.
+pub record Leads {T : Type 0} (Stands : Truth → Hints → T → Type 0) (truth : Truth) (draft : List Changed) (tree next : T) : Type 0 where
+  pub each : (hints : Hints) → Stands truth hints tree → Stands (with_draft truth draft) hints next
+
+-- A call that acted made one step of the tree, and the truth that the draft leaves stands for the next one.
+pub record Acts {T : Type 0} (Stands : Truth → Hints → T → Type 0) (Step : T → Deed → T → Type 0) (free : ℕ) (deed : Deed) (done : Done) (truth : Truth) (draft : List Changed) (tree : T) : Type 0 where
+  pub next : T
+  pub step : Step tree deed next
+  pub leads : Leads Stands truth draft tree next
+  pub spare : TellsSpare free done
+
+-- What an attempt gives over a truth that stands for a tree: a Change and an Answer are one step of that tree, an Inner leaves it.
+abbrev pub Gives : {T : Type 0} → (Truth → Hints → T → Type 0) → (T → Deed → T → Type 0) → ℕ → ℕ → List ℕ → ℕ → Truth → T → Attempt → Type 0
+Gives Stands Step free client call moment truth tree (Need wants) = Unit {0}
+Gives Stands Step free client call moment truth tree (Change draft done) = Acts Stands Step free (deed_of client call moment done) done truth draft tree
+Gives Stands Step free client call moment truth tree (Inner draft) = Leads Stands truth draft tree tree
+Gives Stands Step free client call moment truth tree (Answer done) = Acts Stands Step free (deed_of client call moment done) done truth [] tree
+
+-- What a tidy of an area gives: an Inner where it isn't clean, an Answer with no reply where it is, and never a Change.
+abbrev pub Tidies : {T : Type 0} → (Truth → Hints → T → Type 0) → Type 0 → Truth → T → Attempt → Type 0
+Tidies Stands IsClean truth tree (Need wants) = Unit {0}
+Tidies Stands IsClean truth tree (Change draft done) = ⊥
+Tidies Stands IsClean truth tree (Inner draft) = (IsClean → ⊥) × Leads Stands truth draft tree tree
+Tidies Stands IsClean truth tree (Answer done) = IsClean × (done.reply ≡ [])
+
+-- A Need names at least one block; each is one of the volume that isn't held so, and is on the path.
+pub record IsFairNeed (areas : ℕ) (held : Held) (Path : ℕ → Mode → Type 0) (wants : List (ℕ × Mode)) : Type 0 where
+  pub some : wants ≢ []
+  pub each : (at : ℕ) (mode : Mode) → Contains wants (at, mode) → (is_block areas at ≡ true) × (held at mode ≡ None) × Path at mode
+
+-- Each block of a draft is one that is held exclusively.
+pub record IsHeldDraft (held : Held) (draft : List Changed) : Type 0 where
+  pub each : (at : ℕ) → IsSome (block_in draft at) → IsSome (held at Exclusive)
+
+-- what holds of an attempt over any view
+abbrev pub IsFair : ℕ → Held → (ℕ → Mode → Type 0) → Attempt → Type 0
+IsFair areas held Path (Need wants) = IsFairNeed areas held Path wants
+IsFair areas held Path (Change draft done) = IsHeldDraft held draft
+IsFair areas held Path (Inner draft) = IsHeldDraft held draft
+IsFair areas held Path (Answer done) = Unit {0}
+
+-- an answer, with no block changed
+abbrev pub IsAnswer : Attempt → Type 0
+IsAnswer (Need wants) = ⊥
+IsAnswer (Change draft done) = ⊥
+IsAnswer (Inner draft) = ⊥
+IsAnswer (Answer done) = Unit {0}

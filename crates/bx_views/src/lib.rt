@@ -1,0 +1,10 @@
+//! Views of blocks, what an attempt of a call over a view answers, and engines, which attempt calls.
+#![tactic(auto)]
+
+mod attempt;
+mod engine;
+mod view;
+
+pub use attempt::{Attempt, Done};
+pub use engine::Engine;
+pub use view::View;

@@ -1,9 +1,9 @@
 -- What a crash at a moment of a put may leave, one step after the other.
-use Rattle.std.proofs.Common.{◌≡◌, ℕ, ◌+◌, ◌*◌, ◌<◌, ◌≤◌, ◌^◌, true, false, List, length, Some, refl, sym, ap, ◌∙◌, arith}
+use Rattle.std.proofs.Common.{◌≡◌, ℕ, ◌+◌, ◌*◌, ◌<◌, ◌≤◌, ◌^◌, true, false, List, length, Some, refl, sym, ap, ◌∙◌, arith, Bool, subst}
 use Rattle.std.specs.Prelude.{slice_index}
 use Rattle.bx_disk.specs.Disks.{Image, Disks, IsImage, IsSector, sector_of}
-use Rattle.bx_calls.specs.Regions.{ReadsAs}
-use Rattle.bx_calls.specs.Calls.{KeepsSure, HasSure, LeavesOnly}
+use Rattle.bx_calls.specs.Regions.{ReadsAs, IsSynced}
+use Rattle.bx_calls.specs.Calls.{KeepsSure, KeepsAll, HasSure, LeavesOnly}
 use Rattle.bx_calls.specs.Laws.{keeps_part, leaves_part, leaves_then, leaves_implies, image_has, inside_by}
 use Rattle.bx_cell.specs.Halves.{Found, is_open, cell_in}
 use Rattle.bx_cell.specs.Images.{EachImage, EachSure}
@@ -18,10 +18,48 @@ pub reads_are : (disks : Disks) → ((d s : ℕ) → s < slice_index disks.sizes
     → IsImage disks disks.reads
 reads_are disks whole there = record { sure = λ d s is. refl; torn = λ d s is. whole d s (there d s is) }
 
+-- What a crash of a disk that was synced may leave it might have left before.
+image_before : (old new : Disks) (disk : ℕ) (image : Image) → IsImage old old.reads → KeepsAll old new disk → IsImage new image → IsImage old image
+image_before old new disk image reads keeps is = record {
+  sure = λ d s sure. is.sure d s (keeps.sure d s sure) ∙ same d s;
+  torn = λ d s unsure. by_sector d s (new.unsure d s) refl unsure;
+}
+  where
+    same : (d s : ℕ) → new.reads d s ≡ old.reads d s
+    same d s = ap (λ (x : Image). x d s) keeps.reads
+
+    by_sector : (d s : ℕ) (b : Bool) → new.unsure d s ≡ b → old.unsure d s ≡ true → IsSector (image d s)
+    by_sector d s true e unsure = is.torn d s e
+    by_sector d s false e unsure = subst IsSector (sym (is.sure d s e ∙ same d s)) (reads.torn d s unsure)
+
+pub read_leaves : (before mid now : ℕ) (past between since : ℕ → Image → Type 0) (old new : Disks) (disk : ℕ) → IsImage old old.reads → KeepsAll old new disk
+    → LeavesOnly before mid past between (IsImage old) → LeavesOnly mid now between since (IsImage new) → LeavesOnly before now past since (IsImage old)
+read_leaves before mid now past between since old new disk reads keeps first last =
+    leaves_then before mid now past between since (IsImage old) (IsImage new) first last (λ image is. image_before old new disk image reads keeps is)
+
 -- ---- a gate that was open is closed
 
 opens_only : (old : Disks) (disk sector : ℕ) (image : Image) → is_open (old.reads disk sector) ≡ true → HasSure old disk sector 1 image → ClosesOnly old disk sector image
 opens_only old disk sector image opened has = record { outside = has; closed = λ closed. absurd (cc) }
+
+-- where nothing was written
+pub closed_still : (old : Disks) (disk sector : ℕ) (before now : ℕ) (past since : ℕ → Image → Type 0) → IsSynced old disk → LeavesOnly before now past since (IsImage old)
+    → LeavesOnly before now past since (ClosesOnly old disk sector)
+closed_still old disk sector before now past since synced leaves =
+    leaves_implies before now past since (IsImage old) (ClosesOnly old disk sector) leaves
+    (λ image is. record { outside = image_has old disk sector 1 image is; closed = λ closed. ap is_open (is.sure disk sector (synced.each sector)) ∙ closed })
+
+pub gate_first : (old : Disks) (disk sector : ℕ) (before now : ℕ) (past since : ℕ → Image → Type 0) → LeavesOnly before now past since (IsImage old)
+    → LeavesOnly before now past since (HasSure old disk sector 1)
+gate_first old disk sector before now past since leaves =
+    leaves_implies before now past since (IsImage old) (HasSure old disk sector 1) leaves (λ image is. image_has old disk sector 1 image is)
+
+pub gate_beside : (before mid now : ℕ) (past between since : ℕ → Image → Type 0) (old new : Disks) (disk sector count : ℕ)
+    → count ≡ 1 → new ≡ old → LeavesOnly before mid past between (IsImage old) → LeavesOnly mid now between since (HasSure new disk sector count)
+    → LeavesOnly before now past since (HasSure old disk sector 1)
+gate_beside before mid now past between since old new disk sector count single same first last =
+    leaves_then before mid now past between since (HasSure old disk sector 1) (HasSure new disk sector count) (gate_first old disk sector before mid past between first) last
+    (λ image has. rw (← same, ← single) has)
 
 pub gate_leaves : (before mid now : ℕ) (past between since : ℕ → Image → Type 0) (old new : Disks) (disk sector count : ℕ)
     → count ≡ 1 → is_open (old.reads disk sector) ≡ true → new ≡ old → LeavesOnly before mid past between (IsImage old) → LeavesOnly mid now between since (HasSure new disk sector count)

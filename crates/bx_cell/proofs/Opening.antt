@@ -17,20 +17,15 @@ cell_alike x y a b same =
     there : (z : ℕ → List ℕ) (at i : ℕ) → z (at + 10 + i) ≡ z (at + (10 + i))
     there z at i = ap z (omega arith)
 
-cell_read : (image : Image) (disk base : ℕ) (bytes : List ℕ) → length bytes ≡ 10240 → ReadsAs image disk base bytes → cell_in (image disk) base ≡ cell_in (sector_of bytes) 0
+pub cell_read : (image : Image) (disk base : ℕ) (bytes : List ℕ) → length bytes ≡ 10240 → ReadsAs image disk base bytes → cell_in (image disk) base ≡ cell_in (sector_of bytes) 0
 cell_read image disk base bytes long reads =
     cell_alike (image disk) (sector_of bytes) base 0 (λ i less. reads.each i (omega arith) ∙ same i)
   where
     same : (i : ℕ) → sector_of bytes i ≡ sector_of bytes (0 + i)
     same i = ap (sector_of bytes) (omega arith)
 
-pub cell_found : (old now : Disks) (disk base : ℕ) (bytes : List ℕ) → KeepsAll old now disk → length bytes ≡ 10240 → ReadsAs now.reads disk base bytes
-    → cell_in (old.reads disk) base ≡ cell_in (sector_of bytes) 0
-cell_found old now disk base bytes keeps long reads =
-    sym (ap (λ (x : Image). cell_in (x disk) base) keeps.reads) ∙ cell_read now.reads disk base bytes long reads
-
-pub cell_held : (now after : Disks) (disk base : ℕ) (bytes : List ℕ) (image : Image) → after ≡ now → IsSynced now disk → length bytes ≡ 10240 → ReadsAs now.reads disk base bytes
-    → HasAllSure after image → cell_in (image disk) base ≡ cell_in (sector_of bytes) 0
-cell_held now after disk base bytes image same synced long reads has =
-    let here : HasAllSure now image = rw (← same) has in
-    cell_alike (image disk) (now.reads disk) base base (λ i less. here.sure disk (base + i) (synced.each (base + i))) ∙ cell_read now.reads disk base bytes long reads
+pub cell_held : (old now : Disks) (disk base : ℕ) (bytes : List ℕ) (image : Image) → KeepsAll old now disk → IsSynced now disk → length bytes ≡ 10240 → ReadsAs old.reads disk base bytes
+    → HasAllSure now image → cell_in (image disk) base ≡ cell_in (sector_of bytes) 0
+cell_held old now disk base bytes image keeps synced long reads has =
+    cell_alike (image disk) (old.reads disk) base base (λ i less. has.sure disk (base + i) (synced.each (base + i)) ∙ ap (λ (x : Image). x disk (base + i)) keeps.reads)
+    ∙ cell_read old.reads disk base bytes long reads

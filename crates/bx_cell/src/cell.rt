@@ -12,9 +12,8 @@ ghost use Rattle.bx_cell.specs.Cells.{Holds, HasEither, next, with_value, shut};
 
 use crate::error::CellError;
 use crate::halves::{CELL, place_of, value_of};
-use crate::steps::replace;
+use crate::steps::{replace, sync_and_read};
 use bx_base::Raw;
-use bx_calls::{read_sectors, sync_disk};
 use bx_disk::Rack;
 use std::alloc::Global;
 use std::marker::Model;
@@ -73,8 +72,7 @@ impl Cell {
         ensures keeps_telling { R.tells rack.old → R.tells rack.new }
     {
         let mut bytes = [0; CELL];
-        sync_disk(rack, disk)?;
-        read_sectors(rack, disk, base, &mut bytes)?;
+        sync_and_read(rack, disk, base, &mut bytes)?;
         let Some(place) = place_of(&bytes) else {
             return Err(CellError::NoCell);
         };

@@ -1,10 +1,11 @@
 //! The writes of a cell.
 
-ghost use Rattle.std.specs.Prelude.{◌≡◌, ℕ, ◌+◌, ◌-◌, ◌*◌, ◌^◌, ◌<◌, ◌≤◌, true, false, length, slice_index, Some, OnOk, IsErrOf};
+ghost use Rattle.std.specs.Prelude.{◌≡◌, ℕ, ◌+◌, ◌-◌, ◌*◌, ◌/◌, ◌%◌, ◌^◌, ◌<◌, ◌≤◌, true, false, length, slice_index, Some, OnOk, OnErr, IsErrOf};
 ghost use Rattle.bx_disk.specs.declared.fault.RackError.TheVariants.{Fault, OutOfMemory};
+ghost use Rattle.bx_disk.specs.Disks.{IsImage};
 ghost use Rattle.bx_disk.specs.Counts.{NoneFalls, NoneRose, BothRose};
 ghost use Rattle.bx_calls.specs.Regions.{ReadsAs, IsSynced};
-ghost use Rattle.bx_calls.specs.Calls.{KeepsSure, HasSure, LeavesOnly};
+ghost use Rattle.bx_calls.specs.Calls.{KeepsSure, KeepsAll, HasSure, LeavesOnly};
 ghost use Rattle.bx_cell.specs.Halves.{Found, is_open, cell_in};
 ghost use Rattle.bx_cell.specs.Bytes.{body_text};
 ghost use Rattle.bx_cell.specs.Images.{EachImage, EachSure};
@@ -12,9 +13,34 @@ ghost use Rattle.bx_cell.specs.Cells.{ClosesOnly, HasBefore, HasEither, Stands, 
 
 use crate::halves::{BODY, HALF_SECTORS, reads_open, write_body};
 use bx_calls::{read_sectors, sync_disk, write_through};
-use bx_disk::{Rack, RackError};
+use bx_disk::{DiskFault, Rack, RackError};
 use bx_layout::Gate;
 use bx_places::SECTOR;
+
+/// Makes the disk sure, and reads sectors of it.
+pub fn sync_and_read<R: Rack>(
+    rack: &mut R,
+    disk: u32,
+    sector: u64,
+    into: &mut [u8],
+) -> Result<(), DiskFault>
+    requires disk { disk < length (R.state rack.old).sizes }
+    requires whole { length into.old % 512 ≡ 0 }
+    requires range { sector + length into.old / 512 ≤ slice_index (R.state rack.old).sizes disk }
+    ensures bytes { R.tells rack.old → OnOk result (ReadsAs (R.state rack.old).reads disk sector into.new) }
+    ensures sure { R.tells rack.old → OnOk result (IsSynced (R.state rack.new) disk) }
+    ensures keeps { R.tells rack.old → KeepsAll (R.state rack.old) (R.state rack.new) disk }
+    ensures any_moment { R.tells rack.old → LeavesOnly (R.moment rack.old) (R.moment rack.new) (R.left_since rack.old) (R.left_since rack.new) (IsImage (R.state rack.old)) }
+    ensures cause { OnErr result (BothRose (R.faults rack.old) (R.faults rack.new) (R.faults_of rack.old) (R.faults_of rack.new) disk) }
+    ensures later { NoneFalls (R.faults rack.old) (R.faults rack.new) (R.faults_of rack.old) (R.faults_of rack.new) }
+    ensures no_fault { OnOk result (NoneRose (R.faults rack.old) (R.faults rack.new) (R.faults_of rack.old) (R.faults_of rack.new)) }
+    ensures sizes { (R.state rack.new).sizes ≡ (R.state rack.old).sizes }
+    ensures keeps_telling { R.tells rack.old → R.tells rack.new }
+{
+    sync_disk(rack, disk)?;
+    read_sectors(rack, disk, sector, into)?;
+    Ok(())
+}
 
 /// Closes a gate. One that reads closed isn't written: a torn write could open it.
 fn close_gate<R: Rack>(rack: &mut R, disk: u32, sector: u64) -> Result<(), RackError>

@@ -86,21 +86,18 @@ term_begins found first (Claim gone by ∷ older) = term_begins found first olde
 term_begins found first (Close gone by ∷ older) = term_begins found first older
 term_begins found first (Shift device epoch mode second boot ∷ older) = term_begins found first older
 
+-- the number of a row
+abbrev pub number_in : Option SessionRow → Option ℕ
+number_in None = None
+number_in (Some row) = Some row.number
+
 -- the live session of a node and boot, by its number
 abbrev pub session_of : GlobalState → ℕ → ℕ → Option ℕ
-session_of s node boot = number (live_in s.sessions node boot)
-  where
-    number : Option SessionRow → Option ℕ
-    number None = None
-    number (Some row) = Some row.number
+session_of s node boot = number_in (live_in s.sessions node boot)
 
 -- the live session of a node, whatever its boot
 abbrev pub any_session_of : GlobalState → ℕ → Option ℕ
-any_session_of s node = number (find (λ row. row.node == node && row.dead == 0) s.sessions)
-  where
-    number : Option SessionRow → Option ℕ
-    number None = None
-    number (Some row) = Some row.number
+any_session_of s node = number_in (find (λ row. row.node == node && row.dead == 0) s.sessions)
 
 -- by its boot, or without
 abbrev pub session_by : Bool → GlobalState → ℕ → ℕ → Option ℕ

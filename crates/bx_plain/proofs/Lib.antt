@@ -1,4 +1,5 @@
 mod Asking
+mod Beginning
 mod Keeping
 mod Machines
 mod Puts

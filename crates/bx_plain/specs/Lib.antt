@@ -1,4 +1,5 @@
 pub mod Asks
+pub mod Begin
 pub mod Busy
 pub mod Fits
 pub mod Laws

@@ -2,10 +2,12 @@
 #![tactic(auto)]
 
 mod asks;
+mod begin;
 mod busy;
 mod owners;
 mod register;
 mod rows;
 
+pub use begin::endless;
 pub use owners::PlainOwners;
 pub use register::PlainRegister;

@@ -4,6 +4,8 @@
 #[cfg(test)]
 mod blocks;
 #[cfg(test)]
+mod machines;
+#[cfg(test)]
 mod packets;
 mod toy;
 

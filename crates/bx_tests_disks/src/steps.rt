@@ -22,19 +22,19 @@ pub enum Step {
 }
 
 /// Fills a sector with a byte, if it is there, and says whether that went well.
-pub fn fills<R: Rack>(rack: &mut R, disk: u32, sector: u64, byte: u8) -> bool {
+pub(crate) fn fills<R: Rack>(rack: &mut R, disk: u32, sector: u64, byte: u8) -> bool {
     disk < rack.disks()
         && sector < rack.sectors(disk)
         && rack.write(disk, sector, &[byte; 512]).is_ok()
 }
 
 /// Syncs a disk, if it is there, and says whether that went well.
-pub fn syncs<R: Rack>(rack: &mut R, disk: u32) -> bool {
+pub(crate) fn syncs<R: Rack>(rack: &mut R, disk: u32) -> bool {
     disk < rack.disks() && rack.sync(disk).is_ok()
 }
 
 /// Whether a sector is there and can be read, and all of its bytes are this one.
-pub fn has<R: Rack>(rack: &mut R, disk: u32, sector: u64, byte: u8) -> bool {
+pub(crate) fn has<R: Rack>(rack: &mut R, disk: u32, sector: u64, byte: u8) -> bool {
     let mut into = [!byte; 512];
     disk < rack.disks()
         && sector < rack.sectors(disk)
@@ -43,12 +43,12 @@ pub fn has<R: Rack>(rack: &mut R, disk: u32, sector: u64, byte: u8) -> bool {
 }
 
 /// Crashes a disk, if it is there, and says whether that went well.
-pub fn crashes<R: CrashRack>(rack: &mut R, disk: u32, how: Noise) -> bool {
+pub(crate) fn crashes<R: CrashRack>(rack: &mut R, disk: u32, how: Noise) -> bool {
     disk < rack.disks() && rack.crash(disk, how).is_ok()
 }
 
 /// Takes a step, and says whether it came out so.
-pub fn goes<R: CrashRack>(rack: &mut R, step: Step) -> bool {
+pub(crate) fn goes<R: CrashRack>(rack: &mut R, step: Step) -> bool {
     match step {
         Step::Fills(disk, sector, byte) => fills(rack, disk, sector, byte),
         Step::FailsToFill(disk, sector, byte) => !fills(rack, disk, sector, byte),

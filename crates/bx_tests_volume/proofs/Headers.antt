@@ -4,7 +4,7 @@ use Rattle.bx_layout.specs.declared.area.AreaBlock.{AreaBlock}
 use Rattle.bx_layout.specs.Areas.{SpellsArea, in_use, generation_in}
 use Rattle.bx_places.specs.Places.{block_area, block_slot}
 use Rattle.bx_truth.specs.Chunks.{handle_of, own_block, word_in, word_at}
-use Rattle.bx_truth.specs.Truth.{Truth}
+use Rattle.bx_views.specs.Truths.{Truth}
 use Rattle.bx_truth.proofs.Words.{word_is}
 use Rattle.bx_tests_volume.specs.Slots.{HasHeader}
 

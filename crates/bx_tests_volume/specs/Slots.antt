@@ -5,11 +5,11 @@ use Rattle.bx_records.specs.Drafts.{Changed}
 use Rattle.bx_places.specs.Places.{block_area, block_slot}
 use Rattle.bx_truth.specs.Chunks.{IsAreaBlock, handle_of, own_block, word_at}
 use Rattle.bx_truth.specs.Opening.{opening_truth}
-use Rattle.bx_truth.specs.Truth.{Truth, with_changed}
+use Rattle.bx_views.specs.Truths.{Truth, with_draft}
 
 -- the opening truth with these blocks
 abbrev pub changed_truth : List Changed → Truth
-changed_truth changed = with_changed opening_truth changed
+changed_truth changed = with_draft opening_truth changed
 
 -- the header of a slot's block agrees with the slot's word
 pub record HasHeader (truth : Truth) (block : ℕ) : Type 0 where

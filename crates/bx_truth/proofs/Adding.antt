@@ -13,7 +13,7 @@ use Rattle.bx_truth.specs.Keys.{name_key, name_value, entry_key, entry_value}
 use Rattle.bx_truth.specs.Stands.{StandsFor}
 use Rattle.bx_truth.specs.Stored.{AreNames, IsOfName}
 use Rattle.bx_truth.specs.PageTrees.{Chunks, PageTree, map_of, without_entry}
-use Rattle.bx_truth.specs.Truth.{Truth}
+use Rattle.bx_views.specs.Truths.{Truth}
 use Rattle.bx_truth.specs.Edits.{SameSlots, TreeAnew, HasPagesOf}
 use Rattle.bx_truth.proofs.Names.{names_added, names_taken, value_with, value_without}
 use Rattle.bx_truth.proofs.Dirs.{entries_anew}

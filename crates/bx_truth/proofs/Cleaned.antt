@@ -12,7 +12,7 @@ use Rattle.bx_truth.specs.Dying.{IsShownDead, MarksSlot, IsDeadFile, without_fil
 use Rattle.bx_truth.specs.Shown.{KeepsSlots, KeepsOthers}
 use Rattle.bx_truth.specs.Stands.{StandsFor, AreFiles, IsOwned, IsAnInode, IsAPage, IsAPiece, inode_of}
 use Rattle.bx_truth.specs.Stored.{Owner, Inodes, Stored, IsFileOr}
-use Rattle.bx_truth.specs.Truth.{Truth}
+use Rattle.bx_views.specs.Truths.{Truth}
 use Rattle.bx_truth.proofs.Cases.{same_or, eq_true, eq_false}
 use Rattle.bx_truth.proofs.Died.{died}
 use Rattle.bx_truth.proofs.Frames.{files_kept}

@@ -11,7 +11,7 @@ use Rattle.bx_tree_files.specs.Files.{file_at}
 use Rattle.bx_truth.specs.Chunks.{IsSlot, chunks_of, block_at, handle_of, own_block, word_at}
 use Rattle.bx_truth.specs.Stands.{StandsFor}
 use Rattle.bx_truth.specs.Slots.{TakesSlot}
-use Rattle.bx_truth.specs.Truth.{Truth}
+use Rattle.bx_views.specs.Truths.{Truth}
 use Rattle.bx_truth.proofs.Same.{chunk_is}
 use Rattle.bx_truth.proofs.SlotWords.{block_back}
 use Rattle.bx_truth.proofs.Words.{word_is}

@@ -8,20 +8,20 @@ use Rattle.bx_places.specs.Places.{block_area, block_slot}
 use Rattle.bx_truth.specs.Chunks.{IsSlot, IsAreaBlock, IsChunked, is_slot, chunks_of, block_at, handle_of, own_block, word_in, word_at, dead_in, dead_at}
 use Rattle.bx_truth.specs.Stands.{MarksTheDead, WasGiven}
 use Rattle.bx_truth.specs.Stored.{Owner, Stored}
-use Rattle.bx_truth.specs.Truth.{Truth, with_changed}
+use Rattle.bx_views.specs.Truths.{Truth, with_draft}
 use Rattle.bx_truth.proofs.Cases.{found}
 use Rattle.bx_truth.proofs.Same.{slot_tested, chunk_is}
 
 module _ (areas : ℕ) (truth : Truth) (draft : List Changed)
     (no_own : (area : ℕ) → area < areas → block_in draft (own_block area) ≡ None)
     (same_header : (at : ℕ) (block : Block) → block_in draft at ≡ Some block → block.handle ≡ (truth at).handle) where
-  own_same : (area : ℕ) → area < areas → with_changed truth draft (own_block area) ≡ truth (own_block area)
+  own_same : (area : ℕ) → area < areas → with_draft truth draft (own_block area) ≡ truth (own_block area)
   own_same area less = ap (λ (o : Option Block). unwrap_or o (truth (own_block area))) (no_own area less)
 
-  pub word_stays : (block : ℕ) → IsSlot areas block → word_at (with_changed truth draft) block ≡ word_at truth block
+  pub word_stays : (block : ℕ) → IsSlot areas block → word_at (with_draft truth draft) block ≡ word_at truth block
   word_stays block is = ap (λ (b : Block). word_in b.payload (block_slot block)) (own_same (block_area block) is.area)
 
-  pub dead_stays : (block : ℕ) → IsSlot areas block → dead_at (with_changed truth draft) block ≡ dead_at truth block
+  pub dead_stays : (block : ℕ) → IsSlot areas block → dead_at (with_draft truth draft) block ≡ dead_at truth block
   dead_stays block is = ap (λ (b : Block). dead_in b.payload (block_slot block)) (own_same (block_area block) is.area)
 
   by_test : (t : Bool) (b : Block) (f : Block → Block) → (if t then Some (f b) else None) ≡ option_map f (if t then Some b else None)
@@ -37,18 +37,18 @@ module _ (areas : ℕ) (truth : Truth) (draft : List Changed)
       ∙ by_test (in_use v && (handle == handle_of block (generation_in v))) b f
 
   -- the chunks: those that the draft has are laid over
-  pub chunk_laid : (handle : ℕ) → chunks_of areas (with_changed truth draft) handle ≡ option_map (unwrap_or (block_in draft (block_at handle))) (chunks_of areas truth handle)
-  chunk_laid handle = chunk_by (is_slot areas (block_at handle)) (word_at (with_changed truth draft) (block_at handle)) (word_at truth (block_at handle)) handle (block_at handle) (truth (block_at handle))
+  pub chunk_laid : (handle : ℕ) → chunks_of areas (with_draft truth draft) handle ≡ option_map (unwrap_or (block_in draft (block_at handle))) (chunks_of areas truth handle)
+  chunk_laid handle = chunk_by (is_slot areas (block_at handle)) (word_at (with_draft truth draft) (block_at handle)) (word_at truth (block_at handle)) handle (block_at handle) (truth (block_at handle))
       (unwrap_or (block_in draft (block_at handle))) (λ is. word_stays (block_at handle) (slot_tested areas (block_at handle) is))
 
-  header_same : (at : ℕ) → (with_changed truth draft at).handle ≡ (truth at).handle
+  header_same : (at : ℕ) → (with_draft truth draft at).handle ≡ (truth at).handle
   header_same at = by (found (block_in draft at))
     where
-      by : (block_in draft at ≡ None) ⊎ ((block : Block) × (block_in draft at ≡ Some block)) → (with_changed truth draft at).handle ≡ (truth at).handle
+      by : (block_in draft at ≡ None) ⊎ ((block : Block) × (block_in draft at ≡ Some block)) → (with_draft truth draft at).handle ≡ (truth at).handle
       by (inl none) = ap (λ (o : Option Block). (unwrap_or o (truth at)).handle) none
       by (inr (block, some)) = ap (λ (o : Option Block). (unwrap_or o (truth at)).handle) some ∙ same_header at block some
 
-  pub chunked_stays : IsChunked areas truth → IsChunked areas (with_changed truth draft)
+  pub chunked_stays : IsChunked areas truth → IsChunked areas (with_draft truth draft)
   chunked_stays is = record {
     own = λ area less. subst (IsAreaBlock area) (sym (own_same area less)) (is.own area less);
     used = λ block slot used. let w = word_stays block slot in
@@ -56,14 +56,14 @@ module _ (areas : ℕ) (truth : Truth) (draft : List Changed)
     unused = λ block slot unused. header_same block ∙ is.unused block slot (sym (ap in_use (word_stays block slot)) ∙ unused);
   }
 
-  none_laid : (handle : ℕ) → chunks_of areas (with_changed truth draft) handle ≡ None → chunks_of areas truth handle ≡ None
+  none_laid : (handle : ℕ) → chunks_of areas (with_draft truth draft) handle ≡ None → chunks_of areas truth handle ≡ None
   none_laid handle none = by (chunks_of areas truth handle) (sym (chunk_laid handle) ∙ none)
     where
       by : (o : Option Block) → option_map (unwrap_or (block_in draft (block_at handle))) o ≡ None → o ≡ None
       by None is = refl
       by (Some block) is = absurd cc
 
-  pub some_laid : (handle : ℕ) (block : Block) → chunks_of areas (with_changed truth draft) handle ≡ Some block → (before : Block) × (chunks_of areas truth handle ≡ Some before) × (unwrap_or (block_in draft (block_at handle)) before ≡ block)
+  pub some_laid : (handle : ℕ) (block : Block) → chunks_of areas (with_draft truth draft) handle ≡ Some block → (before : Block) × (chunks_of areas truth handle ≡ Some before) × (unwrap_or (block_in draft (block_at handle)) before ≡ block)
   some_laid handle block some = by (chunks_of areas truth handle) refl (sym (chunk_laid handle) ∙ some)
     where
       by : (o : Option Block) → chunks_of areas truth handle ≡ o → option_map (unwrap_or (block_in draft (block_at handle))) o ≡ Some block
@@ -72,7 +72,7 @@ module _ (areas : ℕ) (truth : Truth) (draft : List Changed)
       by (Some before) was is = (before, was, cc)
 
   pub marks_stay : (owner : ℕ → Owner) (stored stored_now : ℕ → Stored) → ((handle : ℕ) → (stored_now handle).inode.kind ≡ (stored handle).inode.kind)
-      → MarksTheDead areas truth owner stored → MarksTheDead areas (with_changed truth draft) owner stored_now
+      → MarksTheDead areas truth owner stored → MarksTheDead areas (with_draft truth draft) owner stored_now
   marks_stay owner stored stored_now kinds is = record {
     dead = λ handle block chunk itself kind.
         let before = some_laid handle block chunk in
@@ -82,7 +82,7 @@ module _ (areas : ℕ) (truth : Truth) (draft : List Changed)
         (m.0, m.1, (λ none. m.2 (none_laid m.0 none)), m.3, kinds m.0 ∙ m.4);
   }
 
-  pub given_stays : (handle : ℕ) → WasGiven areas truth handle → WasGiven areas (with_changed truth draft) handle
+  pub given_stays : (handle : ℕ) → WasGiven areas truth handle → WasGiven areas (with_draft truth draft) handle
   given_stays handle was = record {
     slot = was.slot;
     generation = subst (λ (n : ℕ). handle % 2 ^ 32 ≤ generation_in n) (sym (word_stays (block_at handle) was.slot)) was.generation;

@@ -10,7 +10,7 @@ use Rattle.bx_tree_files.specs.Files.{with_file}
 use Rattle.bx_truth.specs.Chunks.{chunks_of}
 use Rattle.bx_truth.specs.Stands.{StandsFor, IsOwned, inode_of}
 use Rattle.bx_truth.specs.Stored.{Owner, Inodes, PageOf, DataOf, Stored, HasInode, HasFields, HasBody}
-use Rattle.bx_truth.specs.Truth.{Truth}
+use Rattle.bx_views.specs.Truths.{Truth}
 use Rattle.bx_truth.proofs.Cases.{same_or, eq_true, eq_false}
 use Rattle.bx_truth.specs.Shown.{IsShown, KeepsSlots, KeepsOthers, IsNoDead}
 use Rattle.bx_truth.specs.Making.{MakesOne}

@@ -16,7 +16,7 @@ use Rattle.bx_truth.specs.Chunks.{chunks_of, block_at, word_at}
 use Rattle.bx_truth.specs.Stands.{StandsFor, IsOwned, WasGiven, inode_of}
 use Rattle.bx_truth.specs.Stored.{Owner, Inodes, PageOf, DataOf, Stored, HasInode, HasFields, HasBody, HasTree, AreNames}
 use Rattle.bx_truth.specs.PageTrees.{Chunks, Node, PageTree, HasPage, IsNode, IsTree, IsIn}
-use Rattle.bx_truth.specs.Truth.{Truth}
+use Rattle.bx_views.specs.Truths.{Truth}
 use Rattle.bx_truth.proofs.Cases.{same_or, eq_true, eq_false}
 use Rattle.bx_truth.proofs.Same.{chunk_is}
 use Rattle.bx_truth.specs.Shown.{IsPageIn, IsShown, KeepsSlots, KeepsOthers, IsNoDead}

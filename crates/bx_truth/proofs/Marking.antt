@@ -9,7 +9,7 @@ use Rattle.bx_truth.specs.Chunks.{IsSlot, IsAreaBlock, IsChunked, is_slot, chunk
 use Rattle.bx_truth.specs.Dying.{MarksSlot}
 use Rattle.bx_truth.specs.Shown.{KeepsSlots}
 use Rattle.bx_truth.specs.Slots.{SetsMark}
-use Rattle.bx_truth.specs.Truth.{Truth}
+use Rattle.bx_views.specs.Truths.{Truth}
 use Rattle.bx_truth.proofs.Cases.{same_or, eq_true, eq_false}
 use Rattle.bx_truth.proofs.Same.{slot_tested}
 use Rattle.bx_truth.proofs.Words.{word_is, dead_is}

@@ -10,7 +10,7 @@ use Rattle.bx_tree_files.specs.Files.{file_at}
 use Rattle.bx_model.specs.Opening.{root_handle}
 use Rattle.bx_truth.specs.Chunks.{IsName, block_at, chunks_of, is_free_at, word_at}
 use Rattle.bx_truth.specs.Stands.{StandsFor}
-use Rattle.bx_truth.specs.Truth.{Truth}
+use Rattle.bx_views.specs.Truths.{Truth}
 use Rattle.bx_truth.proofs.Put.{some_there}
 use Rattle.bx_truth.proofs.Same.{chunk_is}
 

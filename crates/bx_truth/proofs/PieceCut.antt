@@ -10,7 +10,7 @@ use Rattle.bx_truth.specs.Chunks.{chunks_of}
 use Rattle.bx_truth.specs.Stands.{StandsFor, inode_of}
 use Rattle.bx_truth.specs.Stored.{AreBytesOf, Owner, DataOf, Stored, HasBody, HasTree, HasContents, IsRegular, byte_in}
 use Rattle.bx_truth.specs.PageTrees.{Chunks, PageTree}
-use Rattle.bx_truth.specs.Truth.{Truth}
+use Rattle.bx_views.specs.Truths.{Truth}
 use Rattle.bx_truth.specs.Shown.{IsShown, KeepsSlots, KeepsOthers}
 use Rattle.bx_truth.specs.Dying.{IsDeadFile}
 use Rattle.bx_truth.specs.Pieces.{CutsPiece, pieces_without}

@@ -10,7 +10,7 @@ use Rattle.bx_places.specs.Places.{block_area, block_slot}
 use Rattle.bx_truth.specs.Chunks.{chunks_of, block_at, word_at}
 use Rattle.bx_truth.specs.Keys.{content_key, content_value}
 use Rattle.bx_truth.specs.PageTrees.{handle_in}
-use Rattle.bx_truth.specs.Truth.{Truth}
+use Rattle.bx_views.specs.Truths.{Truth}
 use Rattle.bx_truth.proofs.Frames.{handle_back}
 use Rattle.bx_truth.proofs.Same.{chunk_is}
 

@@ -15,7 +15,7 @@ use Rattle.bx_truth.specs.Keys.{content_key, content_value}
 use Rattle.bx_truth.specs.Stands.{StandsFor}
 use Rattle.bx_truth.specs.Stored.{AreBytesOf, PageOf, DataOf, HasBody, IsContent, IsRegular}
 use Rattle.bx_truth.specs.PageTrees.{Node, IsPageOf, map_of}
-use Rattle.bx_truth.specs.Truth.{Truth, with_changed}
+use Rattle.bx_views.specs.Truths.{Truth, with_draft}
 use Rattle.bx_truth.specs.Shown.{IsShown, KeepsSlots}
 use Rattle.bx_truth.specs.Pieces.{PutsPiece, pieces_with}
 use Rattle.bx_truth.proofs.Frames.{tree_kept}
@@ -70,10 +70,10 @@ module _ (areas : ℕ) (few : areas ≤ 64) (truth : Truth) (tree : Tree) (handl
           ap (λ (x : Block). x.handle) (sym (some_same block b here)) ∙ header ∙ sym header_was ∙ ap (λ (n : ℕ). (truth n).handle) same
       by (inr other) = absurd (none_some b (sym (ap (λ (t : Bool). if t then Some block else None) (eq_false (block_at names) at other)) ∙ some))
 
-  now_is : (h : ℕ) → chunks_of areas (with_changed truth ((block_at names, block) ∷ [])) h ≡ option_map (unwrap_or (block_in ((block_at names, block) ∷ []) (block_at h))) (chunks_of areas truth h)
+  now_is : (h : ℕ) → chunks_of areas (with_draft truth ((block_at names, block) ∷ [])) h ≡ option_map (unwrap_or (block_in ((block_at names, block) ∷ []) (block_at h))) (chunks_of areas truth h)
   now_is h = chunk_laid areas truth ((block_at names, block) ∷ []) no_own same_header h
 
-  here : chunks_of areas (with_changed truth ((block_at names, block) ∷ [])) names ≡ Some block
+  here : chunks_of areas (with_draft truth ((block_at names, block) ∷ [])) names ≡ Some block
   here = now_is names ∙ ap (option_map (unwrap_or (block_in ((block_at names, block) ∷ []) (block_at names)))) chunk
       ∙ ap (λ (t : Bool). Some (unwrap_or (if t then Some block else None) content.block)) (eq_true (block_at names) (block_at names) refl)
 
@@ -83,7 +83,7 @@ module _ (areas : ℕ) (few : areas ≤ 64) (truth : Truth) (tree : Tree) (handl
       let c = chunk_is areas truth h b some in
       other (c.is_handle ∙ ap (λ (n : ℕ). handle_of n (generation_in (word_at truth n))) (sym same) ∙ sym the_chunk.is_handle)
 
-  others : (h : ℕ) → h ≢ names → chunks_of areas (with_changed truth ((block_at names, block) ∷ [])) h ≡ chunks_of areas truth h
+  others : (h : ℕ) → h ≢ names → chunks_of areas (with_draft truth ((block_at names, block) ∷ [])) h ≡ chunks_of areas truth h
   others h other = now_is h ∙ by (found (chunks_of areas truth h))
     where
       by : (chunks_of areas truth h ≡ None) ⊎ ((b : Block) × (chunks_of areas truth h ≡ Some b))
@@ -102,7 +102,7 @@ module _ (areas : ℕ) (few : areas ≤ 64) (truth : Truth) (tree : Tree) (handl
       by true test = ap (value_of (map_of (is.stored handle).tree)) ((bytes_eq-Decides key (content_key index)).0 test) ∙ value_is
       by false test = refl
 
-  puts : PutsPiece (chunks_of areas truth) (chunks_of areas (with_changed truth ((block_at names, block) ∷ []))) is.owner handle (is.stored handle) (is.stored handle).tree index names block
+  puts : PutsPiece (chunks_of areas truth) (chunks_of areas (with_draft truth ((block_at names, block) ∷ []))) is.owner handle (is.stored handle) (is.stored handle).tree index names block
   puts = record {
     was = inr (content.block, chunk, own_here);
     index_fits = index_fits;
@@ -112,7 +112,7 @@ module _ (areas : ℕ) (few : areas ≤ 64) (truth : Truth) (tree : Tree) (handl
     values = values;
     none_else = λ other is_other fits. one_handle other names fits names_fits (some_same (content_value other) (content_value names) (sym is_other ∙ value_is));
     around = record {
-      is = tree_kept (chunks_of areas truth) (chunks_of areas (with_changed truth ((block_at names, block) ∷ []))) (is.stored handle).inode.tree (is.stored handle).tree regular.tree.is
+      is = tree_kept (chunks_of areas truth) (chunks_of areas (with_draft truth ((block_at names, block) ∷ []))) (is.stored handle).inode.tree (is.stored handle).tree regular.tree.is
           (λ node b page some. others node.handle (page_apart node page) ∙ some);
       back = λ node page. (node, page, refl);
       forth = λ node page. (node, page, refl);
@@ -120,7 +120,7 @@ module _ (areas : ℕ) (few : areas ≤ 64) (truth : Truth) (tree : Tree) (handl
     };
   }
 
-  slots : KeepsSlots areas truth (with_changed truth ((block_at names, block) ∷ []))
+  slots : KeepsSlots areas truth (with_draft truth ((block_at names, block) ∷ []))
   slots = record {
     chunked = chunked_stays areas truth ((block_at names, block) ∷ []) no_own same_header is.chunked;
     given = λ b slot. subst (λ (w : ℕ). generation_in (word_at truth b) ≤ generation_in w) (sym (word_stays areas truth ((block_at names, block) ∷ []) no_own same_header b slot)) (omega arith);
@@ -129,5 +129,5 @@ module _ (areas : ℕ) (few : areas ≤ 64) (truth : Truth) (tree : Tree) (handl
 
   pub piece_rewritten : AreBytesOf (pieces_with (chunks_of areas truth) (is.stored handle) index block) (is.stored handle).inode.size (is.stored handle).inode.tail bytes_now
       → (is.stored handle).inode.size ≤ 2 ^ 32
-      → StandsFor areas (with_changed truth ((block_at names, block) ∷ [])) (record tree { files = with_file tree.files (record file { body = Bytes bytes_now }) })
-  piece_rewritten are small = piece_put areas truth (with_changed truth ((block_at names, block) ∷ [])) tree handle file bytes bytes_now (is.stored handle).tree index names block is there body_is slots puts are small few
+      → StandsFor areas (with_draft truth ((block_at names, block) ∷ [])) (record tree { files = with_file tree.files (record file { body = Bytes bytes_now }) })
+  piece_rewritten are small = piece_put areas truth (with_draft truth ((block_at names, block) ∷ [])) tree handle file bytes bytes_now (is.stored handle).tree index names block is there body_is slots puts are small few

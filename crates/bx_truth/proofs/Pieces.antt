@@ -13,7 +13,7 @@ use Rattle.bx_truth.specs.Keys.{content_key, content_value}
 use Rattle.bx_truth.specs.Stands.{StandsFor, inode_of}
 use Rattle.bx_truth.specs.Stored.{AreBytesOf, Owner, Inodes, PageOf, DataOf, Stored, HasBody, HasTree, HasContents, IsContent, IsRegular, piece_of, byte_in}
 use Rattle.bx_truth.specs.PageTrees.{Chunks, Node, PageTree, IsPageOf, map_of, handle_in}
-use Rattle.bx_truth.specs.Truth.{Truth}
+use Rattle.bx_views.specs.Truths.{Truth}
 use Rattle.bx_truth.proofs.Frames.{handle_back}
 use Rattle.bx_truth.proofs.Cases.{same_or, eq_true, eq_false, found}
 use Rattle.bx_truth.specs.Shown.{IsPageIn, IsPieceIn, IsShown, KeepsSlots, KeepsOthers}

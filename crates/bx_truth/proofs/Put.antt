@@ -15,7 +15,7 @@ use Rattle.bx_truth.specs.Keys.{content_key}
 use Rattle.bx_truth.specs.Stands.{StandsFor, AreFiles, IsOwned, IsAnInode, IsAPage, IsAPiece, HasOne, WasGiven, inode_of}
 use Rattle.bx_truth.specs.Stored.{Owner, Inodes, PageOf, DataOf, Stored, HasInode, HasBody, IsFileOr}
 use Rattle.bx_truth.specs.PageTrees.{Chunks, IsPageOf, map_of}
-use Rattle.bx_truth.specs.Truth.{Truth}
+use Rattle.bx_views.specs.Truths.{Truth}
 use Rattle.bx_truth.proofs.Frames.{files_kept}
 use Rattle.bx_truth.proofs.Cases.{same_or, eq_true, eq_false}
 use Rattle.bx_truth.proofs.FilesInOrder.{file_with, rises_with}

@@ -20,7 +20,7 @@ use Rattle.bx_truth.specs.Stands.{StandsFor, AreFiles, StaysBut, IsOwned, IsAnIn
 use Rattle.bx_truth.specs.Stored.{Owner, Inodes, PageOf, DataOf, Stored, HasInode, HasFields, HasBody, HasTree, IsFileOr}
 use Rattle.bx_truth.specs.Rewritten.{KeepsBody}
 use Rattle.bx_truth.specs.PageTrees.{Chunks, IsTree, IsPageOf, map_of}
-use Rattle.bx_truth.specs.Truth.{Truth, with_changed}
+use Rattle.bx_views.specs.Truths.{Truth, with_draft}
 use Rattle.bx_truth.proofs.Frames.{Keeps, body_kept, files_kept}
 use Rattle.bx_truth.proofs.InPlace.{chunk_laid, chunked_stays, some_laid, marks_stay, given_stays}
 use Rattle.bx_truth.proofs.OneFiles.{one_inode}
@@ -70,7 +70,7 @@ module _ (areas : ℕ) (truth : Truth) (tree : Tree) (handle : ℕ) (block after
   draft = (block_at handle, after) ∷ []
 
   abbrev now : Chunks
-  now = chunks_of areas (with_changed truth ((block_at handle, after) ∷ []))
+  now = chunks_of areas (with_draft truth ((block_at handle, after) ∷ []))
 
   own : is.owner handle ≡ Inodes
   own = (is.are_files.all handle file there).0
@@ -229,7 +229,7 @@ module _ (areas : ℕ) (truth : Truth) (tree : Tree) (handle : ℕ) (block after
       by (inl same) = let e : Some file_now ≡ None = sym file_here ∙ ap (file_at (with_file tree.files file_now)) (sym same) ∙ none in absurd cc
       by (inr other) = is.has_root (sym (file_there root_handle (eq_false root_handle handle other)) ∙ none)
 
-  pub rewritten_stands : StandsFor areas (with_changed truth ((block_at handle, after) ∷ [])) (record tree { files = with_file tree.files file_now })
+  pub rewritten_stands : StandsFor areas (with_draft truth ((block_at handle, after) ∷ [])) (record tree { files = with_file tree.files file_now })
   rewritten_stands = record {
     chunked = chunked_stays areas truth ((block_at handle, after) ∷ []) no_own header is.chunked;
     owner = is.owner;

@@ -10,7 +10,8 @@ use Rattle.bx_model.specs.declared.tree.Tree.{Tree}
 use Rattle.bx_truth.specs.Chunks.{IsSlot, IsAreaBlock, IsChunked, is_slot, chunks_of, block_at, handle_of, own_block, word_in, word_at, dead_in, dead_at}
 use Rattle.bx_truth.specs.Stands.{StandsFor, AreFiles}
 use Rattle.bx_truth.specs.PageTrees.{Chunks}
-use Rattle.bx_truth.specs.Truth.{Truth, AreSame}
+use Rattle.bx_truth.specs.Truth.{AreSame}
+use Rattle.bx_views.specs.Truths.{Truth}
 
 pub slot_tested : (areas block : ℕ) → is_slot areas block ≡ true → IsSlot areas block
 slot_tested areas block is = record { area = grind (arith, nat_tests, is); slot = grind (arith, nat_tests, is) }

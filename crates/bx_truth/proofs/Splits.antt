@@ -16,7 +16,7 @@ use Rattle.bx_truth.specs.Keys.{content_key}
 use Rattle.bx_truth.specs.Stands.{StandsFor, inode_of}
 use Rattle.bx_truth.specs.Stored.{Owner, Inodes, PageOf, DataOf, Stored, HasBody, HasTree, HasContents, IsContent, AreNames, piece_of}
 use Rattle.bx_truth.specs.PageTrees.{Chunks, Node, PageTree, IsPageOf, map_of, handle_in}
-use Rattle.bx_truth.specs.Truth.{Truth}
+use Rattle.bx_views.specs.Truths.{Truth}
 use Rattle.bx_truth.proofs.Frames.{handle_back, bytes_same}
 use Rattle.bx_truth.proofs.Cases.{same_or, eq_true, eq_false, found}
 use Rattle.bx_truth.specs.Shown.{IsPageIn, IsShown, KeepsSlots, KeepsOthers}

@@ -9,7 +9,7 @@ use Rattle.bx_places.specs.Places.{block_slot}
 use Rattle.bx_truth.specs.Chunks.{IsSlot, IsChunked, is_slot, chunks_of, block_at, handle_of, word_at}
 use Rattle.bx_truth.specs.Shown.{KeepsSlots}
 use Rattle.bx_truth.specs.Slots.{TakesSlot}
-use Rattle.bx_truth.specs.Truth.{Truth}
+use Rattle.bx_views.specs.Truths.{Truth}
 use Rattle.bx_truth.proofs.Cases.{same_or, eq_false}
 use Rattle.bx_truth.proofs.SlotWords.{is_slot_true, block_back, word_was, word_here, chunk_other, chunked_set, keeps_set}
 

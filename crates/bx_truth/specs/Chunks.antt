@@ -7,7 +7,7 @@ use Rattle.bx_layout.specs.declared.area.AreaBlock.{AreaBlock}
 use Rattle.bx_layout.specs.declared.block.Block.{Block}
 use Rattle.bx_layout.specs.Areas.{SpellsArea, in_use, generation_in, is_free, bit}
 use Rattle.bx_places.specs.Places.{block_area, block_slot}
-use Rattle.bx_truth.specs.Truth.{Truth}
+use Rattle.bx_views.specs.Truths.{Truth}
 use Rattle.bx_truth.specs.PageTrees.{Chunks}
 
 -- the number of the block that a handle is in

@@ -8,7 +8,7 @@ use Rattle.bx_truth.specs.Chunks.{IsSlot, IsChunked, chunks_of, block_at, word_a
 use Rattle.bx_truth.specs.Stands.{StandsFor}
 use Rattle.bx_truth.specs.Stored.{Owner, Inodes, PageOf, DataOf, Stored, HasInode, IsDead}
 use Rattle.bx_truth.specs.PageTrees.{Chunks}
-use Rattle.bx_truth.specs.Truth.{Truth}
+use Rattle.bx_views.specs.Truths.{Truth}
 use Rattle.bx_truth.specs.Shown.{IsPageIn, IsPieceIn}
 
 -- the files without the one with a handle

@@ -11,7 +11,7 @@ use Rattle.bx_places.specs.Places.{block_area, block_slot}
 use Rattle.bx_model.specs.Opening.{root_handle}
 use Rattle.bx_page.specs.Contents.{Contents}
 use Rattle.bx_page.specs.Spelling.{page_bytes}
-use Rattle.bx_truth.specs.Truth.{Truth}
+use Rattle.bx_views.specs.Truths.{Truth}
 
 -- the page of the root's tree: area 0, slot 1, generation 1
 abbrev pub page_handle : ℕ

@@ -20,7 +20,7 @@ use Rattle.bx_page.specs.Spelling.{page_bytes}
 use Rattle.bx_places.specs.Places.{block_slot}
 use Rattle.bx_truth.specs.Keys.{name_key, name_value, entry_key, entry_value, content_key, content_value}
 use Rattle.bx_truth.specs.Opening.{opening_inode, free_block}
-use Rattle.bx_truth.specs.Truth.{Truth}
+use Rattle.bx_views.specs.Truths.{Truth}
 
 -- the handle of a slot of the first area, in generation 1
 abbrev pub nth : ℕ → ℕ

@@ -10,7 +10,7 @@ use Rattle.bx_truth.specs.Keys.{content_key, content_value}
 use Rattle.bx_truth.specs.Stands.{StandsFor, StaysBut}
 use Rattle.bx_truth.specs.Stored.{Owner, Inodes, PageOf, DataOf, Stored, HasInode, HasFields, HasBody}
 use Rattle.bx_truth.specs.PageTrees.{Chunks, Node, IsPageOf, map_of}
-use Rattle.bx_truth.specs.Truth.{Truth}
+use Rattle.bx_views.specs.Truths.{Truth}
 
 -- the chunk is a page of the inode's tree
 pub record IsPageIn (stored : Stored) (handle : ℕ) (block : Block) : Type 0 where

@@ -4,7 +4,7 @@ use Rattle.bx_layout.specs.declared.area.AreaBlock.{AreaBlock}
 use Rattle.bx_layout.specs.Areas.{SpellsArea, in_use, generation_in, is_free, taken_word, freed_word, with_word, MarksDead}
 use Rattle.bx_places.specs.Places.{block_area, block_slot}
 use Rattle.bx_truth.specs.Chunks.{IsAreaBlock, handle_of, own_block}
-use Rattle.bx_truth.specs.Truth.{Truth}
+use Rattle.bx_views.specs.Truths.{Truth}
 
 -- The slot of a block has another word in the own block of its area, and all other blocks stay but the block itself.
 pub record SetsWord (truth now : Truth) (block : ℕ) (slots : AreaBlock) (word : ℕ) : Type 0 where

@@ -11,7 +11,7 @@ use Rattle.bx_truth.specs.Chunks.{IsSlot, IsChunked, chunks_of, block_at, word_a
 use Rattle.bx_truth.specs.Keys.{content_key, content_value}
 use Rattle.bx_truth.specs.Stored.{Owner, Inodes, PageOf, DataOf, Stored, HasInode, IsFileOr}
 use Rattle.bx_truth.specs.PageTrees.{Chunks, Node, IsPageOf, map_of}
-use Rattle.bx_truth.specs.Truth.{Truth}
+use Rattle.bx_views.specs.Truths.{Truth}
 
 -- the handle of an inode that has a tree
 pub record HasOne (chunks : Chunks) (owner : ℕ → Owner) (stored : ℕ → Stored) (handle : ℕ) : Type 0 where

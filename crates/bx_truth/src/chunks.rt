@@ -10,7 +10,7 @@ ghost use Rattle.bx_truth.specs.Shown.{KeepsSlots};
 ghost use Rattle.bx_truth.specs.Chunks.{IsChunked, IsSlot, block_at, chunks_of, own_block, word_in, dead_in};
 ghost use Rattle.bx_truth.specs.Stands.{StandsFor};
 ghost use Rattle.bx_truth.specs.Slots.{TakesSlot, FreesSlot};
-ghost use Rattle.bx_truth.specs.Truth.{Truth, with_changed};
+ghost use Rattle.bx_views.specs.Truths.{Truth, with_draft};
 ghost use Rattle.std.specs.Prelude.{◌≡◌, ℕ, ◌<◌, ◌≤◌, ◌==◌, if◌then◌else◌, List, Some, None, option_map, slice_index, unwrap_or, Contains};
 
 /// What is read off the payload of an area's own block is the area: the word of each slot, and whether it holds a dead inode.
@@ -24,11 +24,11 @@ pub fn a_draft_in_place()
     ensures chunks { (areas : ℕ) (truth : Truth) (draft : List Changed)
         → ((area : ℕ) → area < areas → block_in draft (own_block area) ≡ None)
         → ((at : ℕ) (block : Block) → block_in draft at ≡ Some block → block.handle ≡ (truth at).handle)
-        → (handle : ℕ) → chunks_of areas (with_changed truth draft) handle ≡ option_map (unwrap_or (block_in draft (block_at handle))) (chunks_of areas truth handle) }
+        → (handle : ℕ) → chunks_of areas (with_draft truth draft) handle ≡ option_map (unwrap_or (block_in draft (block_at handle))) (chunks_of areas truth handle) }
     ensures chunked { (areas : ℕ) (truth : Truth) (draft : List Changed)
         → ((area : ℕ) → area < areas → block_in draft (own_block area) ≡ None)
         → ((at : ℕ) (block : Block) → block_in draft at ≡ Some block → block.handle ≡ (truth at).handle)
-        → IsChunked areas truth → IsChunked areas (with_changed truth draft) }
+        → IsChunked areas truth → IsChunked areas (with_draft truth draft) }
 {}
 
 /// A slot is taken: the chunk map gains its new handle, with the block that is there now, and no other changes.

@@ -12,7 +12,7 @@ ghost use Rattle.bx_truth.specs.Shown.{KeepsOthers, KeepsSlots};
 ghost use Rattle.bx_truth.specs.Slots.{SetsMark};
 ghost use Rattle.bx_truth.specs.Stands.{StandsFor, inode_of};
 ghost use Rattle.bx_truth.specs.Stored.{Owner, Stored};
-ghost use Rattle.bx_truth.specs.Truth.{Truth};
+ghost use Rattle.bx_views.specs.Truths.{Truth};
 
 /// A slot is marked as a dead inode's, or no more: the chunks stay, and no other mark changes. So it is where a step that leaves the
 /// slots comes before it or behind it.

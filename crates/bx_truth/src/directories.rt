@@ -13,7 +13,7 @@ ghost use Rattle.bx_truth.specs.Chunks.{chunks_of};
 ghost use Rattle.bx_truth.specs.Keys.{name_key, name_value, entry_key, entry_value};
 ghost use Rattle.bx_truth.specs.Stands.{StandsFor};
 ghost use Rattle.bx_truth.specs.Stored.{AreNames};
-ghost use Rattle.bx_truth.specs.Truth.{Truth};
+ghost use Rattle.bx_views.specs.Truths.{Truth};
 ghost use Rattle.std.specs.Prelude.{◌≡◌, ◌≢◌, ◌<◌, ◌^◌, ◌++◌, AllPairs, Contains, ℕ, List, [], ◌∷◌, Some, None};
 
 /// Where a directory's tree has other entries, and all chunks but its pages stay, the truth stands for the tree with that directory

@@ -20,7 +20,7 @@ ghost use Rattle.bx_truth.specs.Stored.{AreBytesOf, Owner, Stored, HasFields, Ha
 ghost use Rattle.bx_truth.specs.PageTrees.{PageTree, HasPage, map_of};
 ghost use Rattle.bx_truth.specs.Keys.{content_key, content_value};
 ghost use Rattle.bx_page.specs.Contents.{value_of};
-ghost use Rattle.bx_truth.specs.Truth.{Truth, with_changed};
+ghost use Rattle.bx_views.specs.Truths.{Truth, with_draft};
 ghost use Rattle.std.specs.Prelude.{true, ◌≡◌, ◌≢◌, ℕ, Some, ◌<◌, ◌≤◌, List, [], ◌∷◌, ◌^◌, Contains, ◌⊎◌};
 
 /// Each file of the tree is shown; and where one file is shown anew or for the first time, and all else stays, the truth stands for
@@ -40,7 +40,7 @@ pub fn an_inode_is_rewritten()
         → StandsFor areas truth tree → chunks_of areas truth handle ≡ Some block → file_at tree.files handle ≡ Some file
         → HasInode old block → HasInode new after → after.handle ≡ block.handle → KeepsBody old new
         → HasFields new file_now → file_now.handle ≡ handle → file_now.body ≡ file.body
-        → StandsFor areas (with_changed truth ((block_at handle, after) ∷ [])) (record tree { files = with_file tree.files file_now }) }
+        → StandsFor areas (with_draft truth ((block_at handle, after) ∷ [])) (record tree { files = with_file tree.files file_now }) }
 {}
 
 /// Where a file's inode is another one with the same tree, and all other chunks stay, the truth stands for the tree with that file
@@ -104,7 +104,7 @@ pub fn a_piece_is_rewritten()
         → block.kind ≡ 3 → block.handle ≡ names
         → AreBytesOf (pieces_with (chunks_of areas truth) (is.stored handle) index block) (is.stored handle).inode.size (is.stored handle).inode.tail bytes_now
         → (is.stored handle).inode.size ≤ 2 ^ 32
-        → StandsFor areas (with_changed truth ((block_at names, block) ∷ [])) (record tree { files = with_file tree.files (record file { body = Bytes bytes_now }) }) }
+        → StandsFor areas (with_draft truth ((block_at names, block) ∷ [])) (record tree { files = with_file tree.files (record file { body = Bytes bytes_now }) }) }
 {}
 
 /// Where a regular file has a piece less, and all chunks but this and the file's pages stay, the truth stands for the tree with the

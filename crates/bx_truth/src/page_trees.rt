@@ -10,7 +10,7 @@ ghost use Rattle.bx_truth.specs.Chunks.{chunks_of};
 ghost use Rattle.bx_truth.specs.Stands.{StandsFor};
 ghost use Rattle.bx_truth.specs.Stored.{HasTree};
 ghost use Rattle.bx_truth.specs.PageTrees.{Chunks, Node, PageTree, IsTree, IsPageOf, map_of};
-ghost use Rattle.bx_truth.specs.Truth.{Truth};
+ghost use Rattle.bx_views.specs.Truths.{Truth};
 ghost use Rattle.std.specs.Prelude.{◌≡◌, ℕ, Some};
 
 /// Chunks hold one page tree under a root, and so one map.

@@ -15,7 +15,8 @@ ghost use Rattle.bx_truth.specs.Opening.{opening_truth};
 ghost use Rattle.bx_truth.specs.Stands.{IsOwned, AreFiles, StandsFor, StaysBut, inode_of};
 ghost use Rattle.bx_truth.specs.Stored.{AreNames, Owner, Inodes, Stored};
 ghost use Rattle.bx_truth.specs.PageTrees.{Chunks};
-ghost use Rattle.bx_truth.specs.Truth.{Truth, AreSame};
+ghost use Rattle.bx_truth.specs.Truth.{AreSame};
+ghost use Rattle.bx_views.specs.Truths.{Truth};
 ghost use Rattle.std.specs.Prelude.{◌≡◌, ◌≢◌, ℕ, ◌≤◌, Bool, true, false, List, Some, None, ◌<◌, ◌^◌};
 
 /// A volume that was just made has blocks only, and stands for the tree that has the root alone.

@@ -11,7 +11,7 @@ use Rattle.bx_records.specs.Drafts.{block_in}
 use Rattle.bx_layout.specs.Labels.{IsOpenGate, gate_word}
 use Rattle.bx_places.specs.Places.{IsBlock, gate_place}
 use Rattle.bx_volume.specs.Records.{Logged, IsInBody, StandOpen, gate_of, newest_in}
-use Rattle.bx_truth.specs.Truth.{Truth, with_changed}
+use Rattle.bx_views.specs.Truths.{Truth, with_draft}
 use Rattle.bx_volume.specs.Overlay.{Logs, IsTruth, IsHome, Matters, WritesOnly, with_log}
 use Rattle.bx_volume.proofs.Matters.{truth_same}
 use Rattle.bx_truth.proofs.Cases.{same_or, eq_true, eq_false}
@@ -81,15 +81,15 @@ module _ (held now : Image) (devices areas : ℕ) (rows : List SessionRow) (logs
       → ((d s : ℕ) → Matters devices areas logs d s → (d ≢ (gate_place slot (length (logs slot)) devices).0) ⊎ (s ≢ (gate_place slot (length (logs slot)) devices).1) → now d s ≡ held d s)
       → ((d s : ℕ) → Matters devices areas (with_log logs slot (more ∷ logs slot)) d s → (d ≢ (gate_place slot (length (logs slot)) devices).0) ⊎ (s ≢ (gate_place slot (length (logs slot)) devices).1) → now d s ≡ held d s)
       → IsTruth held devices areas rows logs truth
-      → IsTruth now devices areas rows logs truth ⊎ IsTruth now devices areas rows (with_log logs slot (more ∷ logs slot)) (with_changed truth more.changed)
+      → IsTruth now devices areas rows logs truth ⊎ IsTruth now devices areas rows (with_log logs slot (more ∷ logs slot)) (with_draft truth more.changed)
   gate_in_doubt more less taken place body next alone same same_more was = by (open_or (gate_of now devices slot (length (logs slot))))
     where
       only : WritesOnly held (mid (length (logs slot))) (gate_place slot (length (logs slot)) devices).0 (gate_place slot (length (logs slot)) devices).1 1
       only = only_sector held (gate_place slot (length (logs slot)) devices).0 (gate_place slot (length (logs slot)) devices).1 (gate_of now devices slot (length (logs slot)))
 
       by : IsOpenGate (gate_of now devices slot (length (logs slot))) ⊎ (IsOpenGate (gate_of now devices slot (length (logs slot))) → ⊥)
-          → IsTruth now devices areas rows logs truth ⊎ IsTruth now devices areas rows (with_log logs slot (more ∷ logs slot)) (with_changed truth more.changed)
-      by (inl is_open) = inr (truth_same (mid (length (logs slot))) now devices areas rows (with_log logs slot (more ∷ logs slot)) (with_changed truth more.changed)
+          → IsTruth now devices areas rows logs truth ⊎ IsTruth now devices areas rows (with_log logs slot (more ∷ logs slot)) (with_draft truth more.changed)
+      by (inl is_open) = inr (truth_same (mid (length (logs slot))) now devices areas rows (with_log logs slot (more ∷ logs slot)) (with_draft truth more.changed)
           (as_now (length (logs slot)) (with_log logs slot (more ∷ logs slot)) same_more)
           (gate_opens held (mid (length (logs slot))) devices areas rows logs truth slot more less taken place only (subst IsOpenGate (sym (mid_gate (length (logs slot)))) is_open) body next alone was))
       by (inr closed) = inl (truth_same (mid (length (logs slot))) now devices areas rows logs truth

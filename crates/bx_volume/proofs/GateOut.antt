@@ -10,7 +10,7 @@ use Rattle.bx_layout.specs.Labels.{IsOpenGate}
 use Rattle.bx_places.specs.Places.{IsBlock, gate_place, body_place}
 use Rattle.bx_volume.specs.Images.{devices_of, member_disk}
 use Rattle.bx_volume.specs.Records.{Logged, IsInBody, gate_of, newest_in}
-use Rattle.bx_truth.specs.Truth.{Truth, with_changed}
+use Rattle.bx_views.specs.Truths.{Truth, with_draft}
 use Rattle.bx_volume.specs.Overlay.{Logs, IsHome, IsSureAs, IsTruth, IsUnlogged, Matters, MattersMore, Gate, Body, Home, with_log}
 use Rattle.bx_volume.proofs.Doubt.{gate_in_doubt, closing_in_doubt}
 use Rattle.bx_truth.proofs.Cases.{same_or}
@@ -65,7 +65,7 @@ pub gate_out : (held : Image) (disks : Disks) (image : Image) (second : ℕ → 
     → ((s at : ℕ) (block : Block) → s < 8 → s ≢ slot → block_in more.changed at ≡ Some block → newest_in (logs s) at ≡ None)
     → ((d s : ℕ) → MattersMore devices areas logs slot d s → (d ≢ (gate_place slot (length (logs slot)) devices).0) ⊎ (s ≢ (gate_place slot (length (logs slot)) devices).1)
     → IsSureAs disks (member_disk d (second d)) s (held d s))
-    → IsTruth (devices_of image second) devices areas rows logs truth ⊎ IsTruth (devices_of image second) devices areas rows (with_log logs slot (more ∷ logs slot)) (with_changed truth more.changed)
+    → IsTruth (devices_of image second) devices areas rows logs truth ⊎ IsTruth (devices_of image second) devices areas rows (with_log logs slot (more ∷ logs slot)) (with_draft truth more.changed)
 gate_out held disks image second devices areas rows logs truth slot more is less taken place was body next alone sure =
     gate_in_doubt held (devices_of image second) devices areas rows logs truth slot more less taken place body next alone
     (λ d s matters apart. at d s (sure d s (inl matters) apart))

@@ -9,7 +9,8 @@ use Rattle.bx_truth.specs.Chunks.{chunks_of}
 use Rattle.bx_volume.specs.Images.{IsFirstLabel, ShowsTree, devices_of}
 use Rattle.bx_volume.specs.Records.{Logged, HasLog, newest_in}
 use Rattle.bx_truth.specs.Stands.{StandsFor}
-use Rattle.bx_truth.specs.Truth.{Truth, AreSame}
+use Rattle.bx_truth.specs.Truth.{AreSame}
+use Rattle.bx_views.specs.Truths.{Truth}
 use Rattle.bx_volume.specs.Overlay.{Logs, IsTruth}
 use Rattle.bx_truth.proofs.OneFiles.{one_list}
 use Rattle.bx_volume.proofs.OneLog.{one_has_log}

@@ -14,7 +14,8 @@ use Rattle.bx_layout.specs.Blocks.{HasParts, SpellsBlock, block_text}
 use Rattle.bx_places.specs.Places.{block_place}
 use Rattle.bx_volume.specs.Images.{devices_of, member_disk}
 use Rattle.bx_volume.specs.Records.{newest_in}
-use Rattle.bx_truth.specs.Truth.{Truth, AreSame}
+use Rattle.bx_truth.specs.Truth.{AreSame}
+use Rattle.bx_views.specs.Truths.{Truth}
 use Rattle.bx_volume.specs.Overlay.{Logs, IsTruth, IsHome}
 use Rattle.bx_truth.proofs.Cases.{found}
 use Rattle.bx_volume.proofs.Sizes.{block_bytes}

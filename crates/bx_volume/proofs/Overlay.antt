@@ -8,7 +8,7 @@ use Rattle.bx_records.specs.Drafts.{block_in}
 use Rattle.bx_places.specs.Places.{IsBlock}
 use Rattle.bx_truth.proofs.Cases.{same_or, eq_true, eq_false, found}
 use Rattle.bx_volume.specs.Records.{Logged, HasLog, newest_in, or_older}
-use Rattle.bx_truth.specs.Truth.{Truth, with_changed}
+use Rattle.bx_views.specs.Truths.{Truth, with_draft}
 use Rattle.bx_volume.specs.Overlay.{Logs, IsTruth, IsHome, IsUnlogged, with_log}
 
 pub log_here : (logs : Logs) (slot : ℕ) (records : List Logged) → with_log logs slot records slot ≡ records
@@ -52,7 +52,7 @@ module _ (held now : Image) (devices areas : ℕ) (rows : List SessionRow) (logs
       → ((s : ℕ) → s < 8 → HasLog rows now devices areas s (with_log logs slot (more ∷ logs slot) s))
       → ((s at : ℕ) (block : Block) → s < 8 → s ≢ slot → block_in more.changed at ≡ Some block → newest_in (logs s) at ≡ None)
       → ((at : ℕ) → IsBlock areas at → IsUnlogged logs at → block_in more.changed at ≡ None → IsHome held devices at (truth at) → IsHome now devices at (truth at))
-      → IsTruth now devices areas rows (with_log logs slot (more ∷ logs slot)) (with_changed truth more.changed)
+      → IsTruth now devices areas rows (with_log logs slot (more ∷ logs slot)) (with_draft truth more.changed)
   truth_overlaid was less has_logs alone homes = record {
     has_logs = has_logs;
     logged = λ s at block in_slots is. logged_in s at block in_slots is (found (block_in more.changed at)) (same_or s slot);
@@ -61,7 +61,7 @@ module _ (held now : Image) (devices areas : ℕ) (rows : List SessionRow) (logs
     where
       logged_in : (s at : ℕ) (block : Block) → s < 8 → newest_in (with_log logs slot (more ∷ logs slot) s) at ≡ Some block
           → (block_in more.changed at ≡ None) ⊎ ((b : Block) × (block_in more.changed at ≡ Some b)) → (s ≡ slot) ⊎ (s ≢ slot)
-          → with_changed truth more.changed at ≡ block
+          → with_draft truth more.changed at ≡ block
       logged_in s at block in_slots is (inl none) (inl same) =
           laid_none _ (truth at) none ∙ was.logged slot at block less (older_some _ _ block none (at_slot s at block same is))
       logged_in s at block in_slots is (inl none) (inr other) = laid_none _ (truth at) none ∙ was.logged s at block in_slots (elsewhere s at (Some block) other is)
@@ -75,7 +75,7 @@ module _ (held now : Image) (devices areas : ℕ) (rows : List SessionRow) (logs
       at_slot_none at unlogged = older_none _ _ (sym (ap (λ (l : List Logged). newest_in l at) (log_here logs slot (more ∷ logs slot))) ∙ unlogged slot less)
 
       home_of : (at : ℕ) → IsBlock areas at → IsUnlogged (with_log logs slot (more ∷ logs slot)) at
-          → (block_in more.changed at ≡ None) × (newest_in (logs slot) at ≡ None) → IsHome now devices at (with_changed truth more.changed at)
+          → (block_in more.changed at ≡ None) × (newest_in (logs slot) at ≡ None) → IsHome now devices at (with_draft truth more.changed at)
       home_of at is unlogged none =
           let before : IsUnlogged logs at = λ s in_slots. ⊎_elim (λ same. ap (λ (n : ℕ). newest_in (logs n) at) same ∙ none.1) (λ other. elsewhere s at None other (unlogged s in_slots)) (same_or s slot) in
           subst (IsHome now devices at) (sym (laid_none _ (truth at) none.0)) (homes at is before none.0 (was.home at is before))

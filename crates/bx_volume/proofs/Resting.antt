@@ -15,7 +15,7 @@ use Rattle.bx_model.specs.FileTrees.{IsFileTree}
 use Rattle.bx_volume.specs.AtRest.{IsAtRest}
 use Rattle.bx_volume.specs.Images.{ShowsTree, devices_of}
 use Rattle.bx_truth.specs.Stands.{StandsFor}
-use Rattle.bx_truth.specs.Truth.{Truth}
+use Rattle.bx_views.specs.Truths.{Truth}
 use Rattle.bx_volume.specs.Records.{Logged, HasLog, LogWhere, gate_of}
 use Rattle.bx_volume.specs.Overlay.{IsHome}
 use Rattle.bx_volume.specs.Volumes.{Reading, InDoubt, IsVolumeFor}

@@ -9,7 +9,7 @@ use Rattle.bx_records.specs.Drafts.{block_in}
 use Rattle.bx_layout.specs.Labels.{IsOpenGate}
 use Rattle.bx_places.specs.Places.{IsVolume, IsBlock, block_place, log_start, log_device, gate_place, body_place}
 use Rattle.bx_volume.specs.Records.{Logged, IsInBody, IsLog, HasLog, LogWhere, gate_of, newest_in}
-use Rattle.bx_truth.specs.Truth.{Truth, with_changed}
+use Rattle.bx_views.specs.Truths.{Truth, with_draft}
 use Rattle.bx_volume.specs.Overlay.{Logs, IsTruth, IsHome, IsUnlogged, WritesOnly, with_log}
 use Rattle.bx_volume.proofs.Apart.{home_and_log, two_homes}
 use Rattle.bx_volume.proofs.Kept.{home_kept, log_kept, stand_kept, body_kept, gate_kept, log_apart, has_log}
@@ -119,7 +119,7 @@ module _ (held now : Image) (devices areas : ℕ) (rows : List SessionRow) (logs
       → (length (logs slot) + 1 < 8 → IsOpenGate (gate_of held devices slot (length (logs slot) + 1)) → ⊥)
       → ((s at : ℕ) (block : Block) → s < 8 → s ≢ slot → block_in more.changed at ≡ Some block → newest_in (logs s) at ≡ None)
       → IsTruth held devices areas rows logs truth
-      → IsTruth now devices areas rows (with_log logs slot (more ∷ logs slot)) (with_changed truth more.changed)
+      → IsTruth now devices areas rows (with_log logs slot (more ∷ logs slot)) (with_draft truth more.changed)
   gate_opens slot more less taken place only now_open body next alone was =
       truth_overlaid held now devices areas rows logs truth slot more was less
       (λ s in_slots. ⊎_elim

@@ -9,7 +9,7 @@ ghost use Rattle.bx_places.specs.Places.{IsBlock, gate_place};
 ghost use Rattle.bx_layout.specs.declared.block.Block.{Block};
 ghost use Rattle.bx_volume.specs.Images.{devices_of, member_disk};
 ghost use Rattle.bx_volume.specs.Records.{Logged, IsInBody, gate_of, newest_in};
-ghost use Rattle.bx_truth.specs.Truth.{Truth, with_changed};
+ghost use Rattle.bx_views.specs.Truths.{Truth, with_draft};
 ghost use Rattle.bx_volume.specs.Overlay.{Logs, IsSureAs, IsTruth, Matters, MattersMore, IsHome, with_log};
 ghost use Rattle.std.specs.Prelude.{◌≡◌, ◌≢◌, ◌⊎◌, ℕ, ◌+◌, ◌<◌, Bool, true, false, List, [], ◌∷◌, length, Some, None};
 
@@ -34,7 +34,7 @@ pub fn a_record_in_doubt()
         → ((d s : ℕ) → Matters devices areas logs d s → (d ≢ (gate_place slot (length (logs slot)) devices).0) ⊎ (s ≢ (gate_place slot (length (logs slot)) devices).1) → now d s ≡ held d s)
         → ((d s : ℕ) → Matters devices areas (with_log logs slot (more ∷ logs slot)) d s → (d ≢ (gate_place slot (length (logs slot)) devices).0) ⊎ (s ≢ (gate_place slot (length (logs slot)) devices).1) → now d s ≡ held d s)
         → IsTruth held devices areas rows logs truth
-        → IsTruth now devices areas rows logs truth ⊎ IsTruth now devices areas rows (with_log logs slot (more ∷ logs slot)) (with_changed truth more.changed) }
+        → IsTruth now devices areas rows logs truth ⊎ IsTruth now devices areas rows (with_log logs slot (more ∷ logs slot)) (with_draft truth more.changed) }
     ensures closing { (held now : Image) (devices areas : ℕ) (rows : List SessionRow) (logs : Logs) (truth : Truth) (slot : ℕ)
         → slot < 8 → is_taken rows slot ≡ true → 0 < length (logs slot)
         → ((at : ℕ) (block : Block) → IsBlock areas at → newest_in (logs slot) at ≡ Some block → IsHome held devices at block)
@@ -57,7 +57,7 @@ pub fn a_gate_is_out()
         → ((d s : ℕ) → MattersMore devices areas logs slot d s → (d ≢ (gate_place slot (length (logs slot)) devices).0) ⊎ (s ≢ (gate_place slot (length (logs slot)) devices).1)
         → IsSureAs disks (member_disk d (second d)) s (held d s))
         → IsTruth (devices_of image second) devices areas rows logs truth
-        ⊎ IsTruth (devices_of image second) devices areas rows (with_log logs slot (more ∷ logs slot)) (with_changed truth more.changed) }
+        ⊎ IsTruth (devices_of image second) devices areas rows (with_log logs slot (more ∷ logs slot)) (with_draft truth more.changed) }
     ensures closing { (held : Image) (disks : Disks) (image : Image) (second : ℕ → Bool) (devices areas : ℕ) (rows : List SessionRow) (logs : Logs) (truth : Truth) (slot : ℕ)
         → IsImage disks image → slot < 8 → is_taken rows slot ≡ true → 0 < length (logs slot)
         → IsTruth held devices areas rows logs truth

@@ -10,7 +10,7 @@ ghost use Rattle.bx_volume.specs.AtRest.{IsAtRest};
 ghost use Rattle.bx_model.specs.FileTrees.{IsFileTree};
 ghost use Rattle.bx_truth.specs.Opening.{opening_truth};
 ghost use Rattle.bx_truth.specs.Stands.{StandsFor};
-ghost use Rattle.bx_truth.specs.Truth.{Truth};
+ghost use Rattle.bx_views.specs.Truths.{Truth};
 ghost use Rattle.bx_volume.specs.Images.{IsFirstLabel, ShowsTree, ImageStandsFor};
 ghost use Rattle.bx_volume.specs.States.{TellsState, Cells};
 ghost use Rattle.bx_volume.specs.Records.{Logged};

@@ -9,7 +9,7 @@ ghost use Rattle.bx_layout.specs.Labels.{IsOpenGate};
 ghost use Rattle.bx_places.specs.Places.{IsVolume, IsBlock, block_place, gate_place, body_place};
 ghost use Rattle.bx_layout.specs.declared.block.Block.{Block};
 ghost use Rattle.bx_volume.specs.Records.{Logged, IsInBody, gate_of, newest_in};
-ghost use Rattle.bx_truth.specs.Truth.{Truth, with_changed};
+ghost use Rattle.bx_views.specs.Truths.{Truth, with_draft};
 ghost use Rattle.bx_volume.specs.Overlay.{Logs, IsTruth, IsOfLogged, IsHome, WritesOnly, with_log};
 ghost use Rattle.std.specs.Prelude.{◌≡◌, ◌≢◌, ◌⊎◌, ℕ, ◌+◌, ◌<◌, ◌≤◌, Bool, true, false, List, [], ◌∷◌, length, Some, None};
 
@@ -60,7 +60,7 @@ pub fn a_gate_adds_its_record()
         → IsInBody held devices areas slot (length (logs slot)) more
         → (length (logs slot) + 1 < 8 → IsOpenGate (gate_of held devices slot (length (logs slot) + 1)) → ⊥)
         → ((s at : ℕ) (block : Block) → s < 8 → s ≢ slot → block_in more.changed at ≡ Some block → newest_in (logs s) at ≡ None)
-        → IsTruth now devices areas rows (with_log logs slot (more ∷ logs slot)) (with_changed truth more.changed) }
+        → IsTruth now devices areas rows (with_log logs slot (more ∷ logs slot)) (with_draft truth more.changed) }
 {}
 
 /// Once all blocks of a log are home, closing gate 0 leaves the truth.

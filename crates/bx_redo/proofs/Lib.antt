@@ -1,0 +1,10 @@
+pub mod Pieces
+pub mod Heads
+pub mod Own
+pub mod Within
+pub mod Shown
+pub mod Settled
+pub mod Opened
+pub mod Shut
+pub mod Begun
+pub mod Asked

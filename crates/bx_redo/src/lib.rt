@@ -1,0 +1,17 @@
+//! The log of a session, as a machine over data: it asks for the writes of a record and of a closing, and is told when they
+//! are acknowledged. What the disks then hold is a relation between the log and them, with a law for each event.
+#![tactic(auto)]
+
+mod laws;
+mod log;
+mod runs;
+mod text;
+mod work;
+
+pub use laws::{
+    a_body_is_acknowledged, a_closing_is_begun, a_gate_is_acknowledged, a_log_is_closed,
+    a_record_is_begun, gate_0_is_closed, homes_are_written, what_images_have,
+    what_is_asked_for_is_written, what_is_out_moves_nothing,
+};
+pub use log::Log;
+pub use work::{Move, Work};

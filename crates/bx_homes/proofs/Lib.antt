@@ -1,0 +1,6 @@
+pub mod Sectors
+pub mod Headers
+pub mod Kept
+pub mod Labelled
+pub mod Counts
+pub mod Absent

@@ -1,0 +1,62 @@
+use Rattle.std.proofs.Common.{◌≡◌, ℕ, ◌+◌, ◌*◌, ◌<◌, ◌⊎◌, ⊎_elim, arith, sym, subst, ◌∙◌}
+use Rattle.bx_homes.specs.Slots.{AreBlocks, HasBlock, HasHeader}
+use Rattle.bx_homes.proofs.Kept.{are_still, stays_then, was_there}
+use Rattle.bx_homes.proofs.Sectors.{of_some}
+use Rattle.bx_homes.proofs.slots.fault_in.Goals as goal
+
+below_or : (n m : ℕ) → n < m + 1 → (n < m) ⊎ (n ≡ m)
+below_or n m less = grind (arith, less)
+
+pub loop-slot-init : goal.loop-slot-init
+loop-slot-init g c = record {
+  ready = c.in_ok-slots.ensures.keeps_ready;
+  none_rose = c.in_ok-slots.ensures.no_fault;
+  areas_are = c.in_ok-slots.ensures.keeps_areas;
+  stays = c.in_ok-slots.ensures.stays;
+  tells = c.in_ok-slots.ensures.keeps_telling;
+  is = of_some _ c.in_ok-slots.field-0 c.in-Some.slots c.in-Some.is c.in_ok-slots.ensures.is;
+  own = λ tells. of_some _ c.in_ok-slots.field-0 c.in-Some.slots c.in-Some.is (c.in_ok-slots.ensures.own tells);
+  spells = λ tells. of_some _ c.in_ok-slots.field-0 c.in-Some.slots c.in-Some.is (c.in_ok-slots.ensures.spells tells);
+  own_there = λ tells. of_some _ c.in_ok-slots.field-0 c.in-Some.slots c.in-Some.is (c.in_ok-slots.ensures.there tells);
+  there = λ tells slot less. absurd (omega (arith, less));
+  done = λ tells truth are slot less. absurd (omega (arith, less));
+}
+
+pub loop-slot-preserved : goal.loop-slot-preserved
+loop-slot-preserved g c = record {
+  ready = c.in_ok-has_header.ensures.keeps_ready;
+  none_rose = c.in_ok-has_header.ensures.no_fault ∙ c.loop-slot.invariant.none_rose;
+  areas_are = c.in_ok-has_header.ensures.keeps_areas ∙ c.loop-slot.invariant.areas_are;
+  stays = λ tells. stays_then (g.B.Blocks.stands c.args.blocks.now) (g.B.Blocks.stands c.loop-slot.blocks) (g.B.Blocks.stands c.has_header.new.blocks) (c.loop-slot.invariant.stays tells) (c.in_ok-has_header.ensures.stays (c.loop-slot.invariant.tells tells));
+  tells = λ tells. c.in_ok-has_header.ensures.keeps_telling (c.loop-slot.invariant.tells tells);
+  is = c.loop-slot.invariant.is;
+  own = c.loop-slot.invariant.own;
+  spells = c.loop-slot.invariant.spells;
+  own_there = c.loop-slot.invariant.own_there;
+  there = λ tells slot less. ⊎_elim
+      (λ before. c.loop-slot.invariant.there tells slot before)
+      (λ same. subst (λ (n : ℕ). HasBlock (g.B.Blocks.stands c.args.blocks.now) (1024 * c.args.area + n)) (sym same)
+      (was_there (g.B.Blocks.stands c.args.blocks.now) (g.B.Blocks.stands c.loop-slot.blocks) (1024 * c.args.area + c.loop-slot.slot) (c.loop-slot.invariant.stays tells)
+      (c.in_ok-has_header.ensures.there (c.loop-slot.invariant.tells tells) c.if-not-branch.false)))
+      (below_or slot c.loop-slot.slot less);
+  done = λ tells truth are slot less. ⊎_elim
+      (λ before. c.loop-slot.invariant.done tells truth are slot before)
+      (λ same. subst (λ (n : ℕ). HasHeader truth (1024 * c.args.area + n)) (sym same)
+      (c.in_ok-has_header.ensures.yes (c.loop-slot.invariant.tells tells) c.if-not-branch.false truth
+      (subst (λ (n : ℕ). AreBlocks n (g.B.Blocks.stands c.loop-slot.blocks) truth) (sym c.loop-slot.invariant.areas_are)
+      (are_still (g.B.Blocks.areas c.args.blocks.now) (g.B.Blocks.stands c.args.blocks.now) (g.B.Blocks.stands c.loop-slot.blocks) truth (c.loop-slot.invariant.stays tells) are))
+      (c.loop-slot.invariant.spells tells truth are)))
+      (below_or slot c.loop-slot.slot less);
+}
+
+pub returns-clause-none : goal.returns-clause-none
+returns-clause-none g c = λ tells truth are. record {
+  own = c.loop-slot.invariant.own tells truth are;
+  slots = λ slot less. c.loop-slot.invariant.done tells truth are slot (omega (arith, less, c.loop-slot-test.false));
+}
+
+pub returns-clause-there : goal.returns-clause-there
+returns-clause-there g c = λ tells. record {
+  own = c.loop-slot.invariant.own_there tells;
+  slots = λ slot less. c.loop-slot.invariant.there tells slot (omega (arith, less, c.loop-slot-test.false));
+}

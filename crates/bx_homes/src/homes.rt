@@ -1,0 +1,54 @@
+//! Blocks in their homes.
+
+ghost use Rattle.std.specs.Prelude.{◌≡◌, ◌<◌, ◌≤◌, length, slice_index, IfOk, IfSome, IfNone, OnOk, IsErrOf};
+ghost use Rattle.bx_disk.specs.Counts.{NoneFalls, NoneRose, BothRose};
+ghost use Rattle.bx_disk.specs.declared.fault.RackError.TheVariants.{Fault, OutOfMemory};
+ghost use Rattle.bx_layout.specs.declared.block.Block.{Block};
+ghost use Rattle.bx_places.specs.Places.{IsVolume, IsBlock, block_place, member_sectors};
+ghost use Rattle.bx_volume.specs.Images.{devices_of, member_disk};
+ghost use Rattle.bx_volume.specs.Overlay.{IsHome};
+
+use bx_calls::read_sectors;
+use bx_disk::{Rack, RackError};
+use bx_layout::Block;
+use bx_places::place;
+use std::alloc::Global;
+
+/// The block in a home, read off member A or B (`second`) of its device. `None` exactly where the nine sectors are no block.
+pub fn read_home<R: Rack>(
+    alloc: Global,
+    rack: &mut R,
+    devices: u32,
+    areas: u16,
+    second: bool,
+    at: u64,
+) -> Result<Option<Block>, RackError>
+    requires volume { IsVolume devices areas }
+    requires block { IsBlock areas at }
+    requires disk { member_disk (block_place at devices).0 second < length (R.state rack.old).sizes }
+    requires room { member_sectors devices areas ≤ slice_index (R.state rack.old).sizes (member_disk (block_place at devices).0 second) }
+    ensures some { R.tells rack.old → IfOk result (λ found. IfSome found (IsHome (devices_of (R.state rack.old).reads (λ device. second)) devices at)) }
+    ensures none { R.tells rack.old → IfOk result (λ found. IfNone found ((block : Block) → IsHome (devices_of (R.state rack.old).reads (λ device. second)) devices at block → ⊥)) }
+    ensures stays { R.tells rack.old → R.state rack.new ≡ R.state rack.old }
+    ensures cause { IsErrOf result Fault → BothRose (R.faults rack.old) (R.faults rack.new) (R.faults_of rack.old) (R.faults_of rack.new) (member_disk (block_place at devices).0 second) }
+    ensures later { NoneFalls (R.faults rack.old) (R.faults rack.new) (R.faults_of rack.old) (R.faults_of rack.new) }
+    ensures memory_counts { IsErrOf result OutOfMemory → NoneRose (R.faults rack.old) (R.faults rack.new) (R.faults_of rack.old) (R.faults_of rack.new) }
+    ensures no_fault { OnOk result (NoneRose (R.faults rack.old) (R.faults rack.new) (R.faults_of rack.old) (R.faults_of rack.new)) }
+    ensures sizes { (R.state rack.new).sizes ≡ (R.state rack.old).sizes }
+    ensures keeps_telling { R.tells rack.old → R.tells rack.new }
+{
+    let (device, sector) = place(at, devices, areas);
+    let disk = member_disk(device, second);
+    let mut bytes = [0; 4608];
+    read_sectors(rack, disk, sector, &mut bytes)?;
+    let found = Block::read(alloc, &bytes)?;
+    Ok(found)
+}
+
+/// The disk of a device's member A or B (`second`).
+pub(crate) fn member_disk(device: u32, second: bool) -> u32
+    requires { device < 4 }
+    ensures { result ≡ member_disk device second }
+{
+    3 + 2 * device + if second { 1 } else { 0 }
+}

@@ -1,0 +1,19 @@
+//! Reading a volume off its disks: labels, the gates of logs, blocks in their homes, and whether slots are right. Each function answers what the definitions
+//! of a volume say, both ways, over any rack.
+#![tactic(auto)]
+
+mod blocks;
+mod gates;
+mod home_blocks;
+mod homes;
+mod labels;
+mod slots;
+mod sources;
+
+pub use blocks::Blocks;
+pub use gates::open_gates;
+pub use home_blocks::Homes;
+pub use homes::read_home;
+pub use labels::{first_label, is_labelled};
+pub use slots::first_fault;
+pub use sources::{first_absent, first_unlabelled};

@@ -1,0 +1,164 @@
+//! Whether the slots of a volume are right, as its chunk map asks.
+
+ghost use Rattle.std.specs.Prelude.{◌≡◌, ◌+◌, ◌*◌, ◌^◌, ◌<◌, ◌≤◌, ℕ, true, false, slice_index, IfOk, IfSome, IfNone, IsTrue, IsFalse, OnOk, IsErrOf};
+ghost use Rattle.bx_base.specs.Faults.{Rose};
+ghost use Rattle.bx_disk.specs.declared.fault.RackError.TheVariants.{Fault, OutOfMemory as MemoryRanOut};
+ghost use Rattle.bx_layout.specs.Areas.{IsArea, SpellsArea, generation_in, in_use};
+ghost use Rattle.bx_places.specs.Places.{IsBlock};
+ghost use Rattle.bx_truth.specs.Chunks.{IsAreaBlock, IsChunked, own_block};
+ghost use Rattle.bx_views.specs.Truths.{Truth};
+ghost use Rattle.bx_homes.specs.Slots.{AreBlocks, HasBlock, HasArea, HasHeader, IsAreaChunked, IsAreaFault, IsFirstFault, StaysSo};
+
+use crate::blocks::Blocks;
+use bx_base::OutOfMemory;
+use bx_disk::RackError;
+use bx_handles::ChunkHandle;
+use bx_layout::{AreaBlock, Block};
+use bx_places::SLOTS;
+use std::alloc::Global;
+
+/// The first block, area by area, that is not as the slots ask: an area's own block, and then the blocks of its slots. `None` exactly
+/// where the slots are right. A number that has no block is wrong.
+pub fn first_fault<B: Blocks>(
+    alloc: Global,
+    blocks: &mut B,
+    areas: u16,
+) -> Result<Option<u64>, RackError>
+    requires ready { B.ready blocks.old }
+    requires areas { B.areas blocks.old ≡ areas }
+    requires most { areas ≤ 64 }
+    ensures none { B.tells blocks.old → IfOk result (λ found. IfNone found ((truth : Truth) → AreBlocks areas (B.stands blocks.old) truth → IsChunked areas truth)) }
+    ensures there { B.tells blocks.old → IfOk result (λ found. IfNone found ((at : ℕ) → IsBlock areas at → HasBlock (B.stands blocks.old) at)) }
+    ensures some { B.tells blocks.old → IfOk result (λ found. IfSome found (λ at. (truth : Truth) → AreBlocks areas (B.stands blocks.old) truth → IsFirstFault areas truth at)) }
+    ensures wrong { B.tells blocks.old → IfOk result (λ found. IfSome found (λ at. (truth : Truth) → AreBlocks areas (B.stands blocks.old) truth → IsChunked areas truth → ⊥)) }
+    ensures stays { B.tells blocks.old → StaysSo (B.stands blocks.old) (B.stands blocks.new) }
+    ensures cause { IsErrOf result Fault → Rose (B.faults blocks.old) (B.faults blocks.new) }
+    ensures later { B.faults blocks.old ≤ B.faults blocks.new }
+    ensures memory_counts { IsErrOf result MemoryRanOut → B.faults blocks.new ≡ B.faults blocks.old }
+    ensures no_fault { OnOk result (B.faults blocks.new ≡ B.faults blocks.old) }
+    ensures keeps_areas { B.areas blocks.new ≡ B.areas blocks.old }
+    ensures keeps_ready { B.ready blocks.new }
+    ensures keeps_telling { B.tells blocks.old → B.tells blocks.new }
+{
+    for area in 0..areas {
+        if let Some(at) = fault_in(alloc, blocks, area)? {
+            return Ok(Some(at));
+        }
+    }
+    Ok(None)
+}
+
+/// The first wrong block of an area.
+fn fault_in<B: Blocks>(alloc: Global, blocks: &mut B, area: u16) -> Result<Option<u64>, RackError>
+    requires ready { B.ready blocks.old }
+    requires area { area < B.areas blocks.old }
+    requires most { B.areas blocks.old ≤ 64 }
+    ensures none { B.tells blocks.old → IfOk result (λ found. IfNone found ((truth : Truth) → AreBlocks (B.areas blocks.old) (B.stands blocks.old) truth → IsAreaChunked truth area)) }
+    ensures there { B.tells blocks.old → IfOk result (λ found. IfNone found (HasArea (B.stands blocks.old) area)) }
+    ensures some { B.tells blocks.old → IfOk result (λ found. IfSome found (λ at. (truth : Truth) → AreBlocks (B.areas blocks.old) (B.stands blocks.old) truth → IsAreaFault truth area at)) }
+    ensures stays { B.tells blocks.old → StaysSo (B.stands blocks.old) (B.stands blocks.new) }
+    ensures cause { IsErrOf result Fault → Rose (B.faults blocks.old) (B.faults blocks.new) }
+    ensures later { B.faults blocks.old ≤ B.faults blocks.new }
+    ensures memory_counts { IsErrOf result MemoryRanOut → B.faults blocks.new ≡ B.faults blocks.old }
+    ensures no_fault { OnOk result (B.faults blocks.new ≡ B.faults blocks.old) }
+    ensures keeps_areas { B.areas blocks.new ≡ B.areas blocks.old }
+    ensures keeps_ready { B.ready blocks.new }
+    ensures keeps_telling { B.tells blocks.old → B.tells blocks.new }
+{
+    let first = 1024 * u64::from(area);
+    let Some(slots) = slots_of(alloc, blocks, area)? else {
+        return Ok(Some(first + u64::from(SLOTS)));
+    };
+    for slot in 0..SLOTS {
+        if !has_header(blocks, area, &slots, slot)? {
+            return Ok(Some(first + u64::from(slot)));
+        }
+    }
+    Ok(None)
+}
+
+/// The slots of an area, `None` exactly where its own block isn't one.
+fn slots_of<B: Blocks>(
+    alloc: Global,
+    blocks: &mut B,
+    area: u16,
+) -> Result<Option<AreaBlock>, RackError>
+    requires ready { B.ready blocks.old }
+    requires area { area < B.areas blocks.old }
+    requires most { B.areas blocks.old ≤ 64 }
+    ensures there { B.tells blocks.old → IfOk result (λ found. IfSome found (λ slots. HasBlock (B.stands blocks.old) (own_block area))) }
+    ensures own { B.tells blocks.old → IfOk result (λ found. IfSome found (λ slots. (truth : Truth) → AreBlocks (B.areas blocks.old) (B.stands blocks.old) truth → IsAreaBlock area (truth (own_block area)))) }
+    ensures spells { B.tells blocks.old → IfOk result (λ found. IfSome found (λ slots. (truth : Truth) → AreBlocks (B.areas blocks.old) (B.stands blocks.old) truth → SpellsArea slots (truth (own_block area)).payload)) }
+    ensures is { IfOk result (λ found. IfSome found IsArea) }
+    ensures none { B.tells blocks.old → IfOk result (λ found. IfNone found ((truth : Truth) → AreBlocks (B.areas blocks.old) (B.stands blocks.old) truth → IsAreaBlock area (truth (own_block area)) → ⊥)) }
+    ensures stays { B.tells blocks.old → StaysSo (B.stands blocks.old) (B.stands blocks.new) }
+    ensures cause { IsErrOf result Fault → Rose (B.faults blocks.old) (B.faults blocks.new) }
+    ensures later { B.faults blocks.old ≤ B.faults blocks.new }
+    ensures memory_counts { IsErrOf result MemoryRanOut → B.faults blocks.new ≡ B.faults blocks.old }
+    ensures no_fault { OnOk result (B.faults blocks.new ≡ B.faults blocks.old) }
+    ensures keeps_areas { B.areas blocks.new ≡ B.areas blocks.old }
+    ensures keeps_ready { B.ready blocks.new }
+    ensures keeps_telling { B.tells blocks.old → B.tells blocks.new }
+{
+    let Some(block) = blocks.block(1024 * u64::from(area) + u64::from(SLOTS))? else {
+        return Ok(None);
+    };
+    let slots = slots_in(alloc, area, &block)?;
+    Ok(slots)
+}
+
+/// The slots in an area's own block, `None` exactly where the block isn't one.
+fn slots_in(alloc: Global, area: u16, block: &Block) -> Result<Option<AreaBlock>, OutOfMemory>
+    requires { area < 64 }
+    ensures own { IfOk result (λ found. IfSome found (λ slots. IsAreaBlock area block.now)) }
+    ensures spells { IfOk result (λ found. IfSome found (λ slots. SpellsArea slots block.now.payload)) }
+    ensures none { IfOk result (λ found. IfNone found (IsAreaBlock area block.now → ⊥)) }
+{
+    if block.handle != ChunkHandle::own(area).number() || block.kind != 4 {
+        return Ok(None);
+    }
+    AreaBlock::read(alloc, block.payload.bytes())
+}
+
+/// The handle that the header of a slot's block is to name, 0 for none.
+fn wanted_at(area: u16, slots: &AreaBlock, slot: u16) -> u64
+    requires area { IsArea slots.now }
+    requires slot { slot < 960 }
+    ensures used { in_use (slice_index slots.now.words slot) ≡ true → result ≡ area * 2 ^ 48 + slot * 2 ^ 32 + generation_in (slice_index slots.now.words slot) }
+    ensures unused { in_use (slice_index slots.now.words slot) ≡ false → result ≡ 0 }
+{
+    if slots.is_used(slot) {
+        (u64::from(area) << 48) + (u64::from(slot) << 32) + u64::from(slots.generation(slot))
+    } else {
+        0
+    }
+}
+
+/// Whether the header of a slot's block agrees with the slot's word.
+fn has_header<B: Blocks>(
+    blocks: &mut B,
+    area: u16,
+    slots: &AreaBlock,
+    slot: u16,
+) -> Result<bool, RackError>
+    requires ready { B.ready blocks.old }
+    requires area { area < B.areas blocks.old }
+    requires slots { IsArea slots.now }
+    requires slot { slot < 960 }
+    ensures there { B.tells blocks.old → IfOk result (λ right. IsTrue right → HasBlock (B.stands blocks.old) (1024 * area + slot)) }
+    ensures yes { B.tells blocks.old → IfOk result (λ right. IsTrue right → (truth : Truth) → AreBlocks (B.areas blocks.old) (B.stands blocks.old) truth → SpellsArea slots.now (truth (own_block area)).payload → HasHeader truth (1024 * area + slot)) }
+    ensures no { B.tells blocks.old → IfOk result (λ right. IsFalse right → (truth : Truth) → AreBlocks (B.areas blocks.old) (B.stands blocks.old) truth → SpellsArea slots.now (truth (own_block area)).payload → HasHeader truth (1024 * area + slot) → ⊥) }
+    ensures stays { B.tells blocks.old → StaysSo (B.stands blocks.old) (B.stands blocks.new) }
+    ensures cause { IsErrOf result Fault → Rose (B.faults blocks.old) (B.faults blocks.new) }
+    ensures later { B.faults blocks.old ≤ B.faults blocks.new }
+    ensures memory_counts { IsErrOf result MemoryRanOut → B.faults blocks.new ≡ B.faults blocks.old }
+    ensures no_fault { OnOk result (B.faults blocks.new ≡ B.faults blocks.old) }
+    ensures keeps_areas { B.areas blocks.new ≡ B.areas blocks.old }
+    ensures keeps_ready { B.ready blocks.new }
+    ensures keeps_telling { B.tells blocks.old → B.tells blocks.new }
+{
+    let Some(block) = blocks.block(1024 * u64::from(area) + u64::from(slot))? else {
+        return Ok(false);
+    };
+    Ok(block.handle == wanted_at(area, slots, slot))
+}

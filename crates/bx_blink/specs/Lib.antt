@@ -1,0 +1,4 @@
+pub mod Walks
+pub mod Hints
+pub mod Answers
+pub mod Runs

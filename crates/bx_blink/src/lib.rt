@@ -1,0 +1,14 @@
+//! B-link trees over views: the maps from keys to values that page trees are.
+#![tactic(auto)]
+
+mod error;
+mod laws;
+mod look;
+mod runs;
+mod searches;
+mod steps;
+mod walk;
+
+pub use error::BlinkError;
+pub use laws::{a_search_has_one_end, no_hints_agree_with_a_leaf};
+pub use searches::{find, next};

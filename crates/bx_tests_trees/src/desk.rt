@@ -1,0 +1,121 @@
+//! A view of a tree of three pages.
+
+ghost use Rattle.bx_records.specs.Drafts.{block_in};
+
+use bx_base::{Mode, Raw};
+use bx_layout::Block;
+use bx_records::Draft;
+use bx_views::View;
+use std::alloc::Global;
+use std::test::Fail;
+
+/// What one slot more adds to the number of a handle.
+const SLOT: u64 = 1 << 32;
+
+/// The page of level 1 with the leaves 2 and 3 for the empty key and `m`.
+pub(crate) const ROOT: [u8; 41] = [
+    0, 1, 0, 2, 0, 0, 0, 0, 0, 0, 0, 0, 255, 255, 0, 0, 0, 0, 0, 8, 0, 0, 0, 2, 0, 0, 0, 1, 0, 1,
+    0, 8, b'm', 0, 0, 0, 3, 0, 0, 0, 1,
+];
+
+/// The same before leaf 2 was split.
+pub(crate) const OLD_ROOT: [u8; 28] = [
+    0, 1, 0, 1, 0, 0, 0, 0, 0, 0, 0, 0, 255, 255, 0, 0, 0, 0, 0, 8, 0, 0, 0, 2, 0, 0, 0, 1,
+];
+
+/// Leaf 2: its right link is to leaf 3, its high key `m`, and `1` is the value of `a`.
+pub(crate) const LEFT: [u8; 23] = [
+    0, 0, 0, 1, 0, 0, 0, 3, 0, 0, 0, 1, 0, 1, 0, 0, b'm', 0, 1, 0, 1, b'a', b'1',
+];
+
+/// Leaf 3: `9` is the value of `x`.
+pub(crate) const RIGHT: [u8; 22] = [
+    0, 0, 0, 1, 0, 0, 0, 0, 0, 0, 0, 0, 255, 255, 0, 0, 0, 1, 0, 1, b'x', b'9',
+];
+
+/// The handle of a slot of area 0 in its first generation.
+pub(crate) fn handle_of(slot: u16) -> u64 {
+    SLOT * u64::from(slot) + 1
+}
+
+/// Blocks that are held, in either mode, and hints of others.
+#[derive(Drop)]
+pub(crate) struct Desk {
+    /// What is held.
+    held: Draft,
+    /// What there are hints of.
+    hinted: Draft,
+}
+
+impl View for Desk {
+    ghost held = { λ desk at mode. block_in desk.held at };
+
+    ghost hints = { λ desk at. block_in desk.hinted at };
+
+    fn block(&self, at: u64, _mode: Mode) -> Option<&Block> {
+        self.held.find(at)
+    }
+
+    fn hint(&self, at: u64) -> Option<&Block> {
+        self.hinted.find(at)
+    }
+
+    ghost shares = { λ desk at block is. is };
+}
+
+/// A block that is a page of these bytes, with zeros behind them, under the handle of a slot.
+fn page_at(alloc: Global, slot: u16, front: &[u8]) -> Result<Block, Fail> {
+    let mut bytes = [0; 4096];
+    let end = front.len().min(4096);
+    bytes[..end].copy_from_slice(&front[..end]);
+    let payload = Raw::of(alloc, &bytes)?;
+    Ok(Block {
+        handle: handle_of(slot),
+        kind: 2,
+        payload,
+    })
+}
+
+impl Desk {
+    /// Nothing is held, and nothing hinted.
+    pub(crate) fn new(alloc: Global) -> Desk {
+        Desk {
+            held: Draft::new(alloc),
+            hinted: Draft::new(alloc),
+        }
+    }
+
+    /// Holds a page in the block with a number, under the handle of a slot.
+    pub(crate) fn hold(
+        &mut self,
+        alloc: Global,
+        at: u16,
+        named: u16,
+        page: &[u8],
+    ) -> Result<(), Fail> {
+        let block = page_at(alloc, named, page)?;
+        self.held.put(u64::from(at), block)?;
+        Ok(())
+    }
+
+    /// Gives a hint of the block with a number: a page, under the handle of a slot.
+    pub(crate) fn give_hint(
+        &mut self,
+        alloc: Global,
+        at: u16,
+        named: u16,
+        page: &[u8],
+    ) -> Result<(), Fail> {
+        let block = page_at(alloc, named, page)?;
+        self.hinted.put(u64::from(at), block)?;
+        Ok(())
+    }
+
+    /// The two leaves are held.
+    pub(crate) fn with_leaves(alloc: Global) -> Result<Desk, Fail> {
+        let mut desk = Desk::new(alloc);
+        desk.hold(alloc, 2, 2, &LEFT)?;
+        desk.hold(alloc, 3, 3, &RIGHT)?;
+        Ok(desk)
+    }
+}

@@ -1,0 +1,7 @@
+//! Tests of B-link trees over views.
+#![tactic(auto)]
+
+#[cfg(test)]
+mod desk;
+#[cfg(test)]
+mod searches;

@@ -1,0 +1,4 @@
+mod Labelling
+mod Reading
+mod Serving
+mod Standing

@@ -1,0 +1,44 @@
+//! Labels of members.
+
+ghost use Rattle.std.specs.Prelude.{◌≡◌, ℕ, ◌+◌, ◌<◌, ◌≤◌, false, length, slice_index, OnOk, IsErrOf};
+ghost use Rattle.bx_base.specs.Faults.{Rose};
+ghost use Rattle.bx_disk.specs.declared.fault.RackError.TheVariants.{Fault};
+ghost use Rattle.bx_disk.specs.Counts.{NoneFalls};
+ghost use Rattle.bx_calls.specs.Calls.{LeavesOnly};
+ghost use Rattle.bx_global.specs.declared.state.GlobalState.{GlobalState};
+ghost use Rattle.bx_layout.specs.Labels.{IsLabel, SpellsLabel};
+ghost use Rattle.bx_layout.specs.declared.label.Label.{Label};
+ghost use Rattle.bx_facts.specs.Writes.{HasLabels, Made};
+ghost use Rattle.bx_plain_store.specs.Sources.{HasSources, KeepsSources};
+
+use bx_calls::{read_sectors, sync_disk, write_some};
+use bx_disk::{Rack, RackError};
+use bx_layout::Label;
+
+/// Makes a member's disk sure, and labels it where it has no label.
+pub fn label_member<R: Rack>(rack: &mut R, disk: u32, label: &Label) -> Result<(), RackError>
+    requires member { 3 ≤ disk }
+    requires disk { disk < length (R.state rack.old).sizes }
+    requires room { 1 ≤ slice_index (R.state rack.old).sizes disk }
+    requires label { IsLabel label.now }
+    ensures synced { (sector : ℕ) → R.tells rack.old → OnOk result ((R.state rack.new).unsure disk sector ≡ false) }
+    ensures label { R.tells rack.old → ((other : Label) → SpellsLabel other ((R.state rack.old).reads disk 0) → ⊥) → OnOk result (SpellsLabel label.now ((R.state rack.new).reads disk 0)) }
+    ensures old_label { (other : Label) → R.tells rack.old → SpellsLabel other ((R.state rack.old).reads disk 0) → OnOk result (SpellsLabel other ((R.state rack.new).reads disk 0)) }
+    ensures keeps { (made : Made) (s : GlobalState) → R.tells rack.old → HasLabels made (R.state rack.old) s → KeepsSources s (R.state rack.old) (R.state rack.new) }
+    ensures any_moment { (made : Made) (s : GlobalState) → R.tells rack.old → HasLabels made (R.state rack.old) s → LeavesOnly (R.moment rack.old) (R.moment rack.new) (R.left_since rack.old) (R.left_since rack.new) (HasSources s (R.state rack.old)) }
+    ensures cause { IsErrOf result Fault → Rose (R.faults rack.old) (R.faults rack.new) }
+    ensures later { NoneFalls (R.faults rack.old) (R.faults rack.new) (R.faults_of rack.old) (R.faults_of rack.new) }
+    ensures sizes { (R.state rack.new).sizes ≡ (R.state rack.old).sizes }
+    ensures keeps_telling { R.tells rack.old → R.tells rack.new }
+{
+    let mut sector = [0; 512];
+    read_sectors(rack, disk, 0, &mut sector)?;
+    if let Some(_found) = Label::read(&sector) {
+        sync_disk(rack, disk)?;
+        return Ok(());
+    }
+    label.write(&mut sector);
+    write_some(rack, disk, 0, &sector)?;
+    sync_disk(rack, disk)?;
+    Ok(())
+}

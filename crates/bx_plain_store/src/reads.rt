@@ -1,0 +1,95 @@
+//! Reads that are out.
+
+ghost use Rattle.std.specs.Prelude.{◌≡◌, ℕ, ◌+◌, ◌-◌, ◌*◌, ◌^◌, ◌<◌, ◌≤◌, List, length, slice_index, IfOk, IfSome, IsSome, IsErrOf};
+ghost use Rattle.bx_base.specs.Faults.{Rose};
+ghost use Rattle.bx_disk.specs.Counts.{NoneFalls};
+ghost use Rattle.bx_disk.specs.Disks.{IsImage, sector_of};
+ghost use Rattle.bx_calls.specs.Calls.{LeavesOnly};
+ghost use Rattle.bx_calls.specs.Regions.{ReadsAs};
+ghost use Rattle.bx_facts.specs.declared.input.FactError.TheVariants.{Disk as DiskFails};
+ghost use Rattle.bx_facts.specs.Writes.{IsSettled};
+ghost use Rattle.bx_plain_store.specs.Sources.{IsSourceDisk};
+
+use bx_base::{OutOfMemory, Raw};
+use bx_calls::read_sectors;
+use bx_disk::Rack;
+use bx_facts::FactError;
+use bx_global::GlobalState;
+use bx_rows::DeviceRow;
+use std::alloc::Global;
+
+/// Sectors that a node reads.
+#[derive(Clone, Copy, PartialEq, Eq)]
+pub struct Ask {
+    /// The device, from 0 on.
+    pub device: u32,
+    /// The first sector.
+    pub place: u64,
+    /// How many they are.
+    pub count: u32,
+}
+
+/// The bytes of sectors, of the member of their device that reads go to. `None` where there is no such device.
+pub fn answer<R: Rack>(
+    alloc: Global,
+    rack: &mut R,
+    known: &GlobalState,
+    ask: Ask,
+) -> Result<Option<Raw>, FactError>
+    requires disk { ask.device < length known.now.devices → 4 + 2 * ask.device < length (R.state rack.old).sizes }
+    requires first { ask.device < length known.now.devices → ask.place + ask.count ≤ slice_index (R.state rack.old).sizes (3 + 2 * ask.device) }
+    requires second { ask.device < length known.now.devices → ask.place + ask.count ≤ slice_index (R.state rack.old).sizes (4 + 2 * ask.device) }
+    ensures settled { (sector : ℕ) (content : List ℕ) → R.tells rack.old → IsSettled (R.state rack.old) known.now ask.device sector content → ask.place ≤ sector → sector < ask.place + ask.count → IfOk result (λ found. IfSome found (λ bytes. sector_of bytes (sector - ask.place) ≡ content)) }
+    ensures there { ask.device < length known.now.devices → IfOk result (λ found. IsSome found) }
+    ensures stays { R.tells rack.old → R.state rack.new ≡ R.state rack.old }
+    ensures any_moment { R.tells rack.old → LeavesOnly (R.moment rack.old) (R.moment rack.new) (R.left_since rack.old) (R.left_since rack.new) (IsImage (R.state rack.old)) }
+    ensures cause { IsErrOf result DiskFails → Rose (R.faults rack.old) (R.faults rack.new) }
+    ensures later { NoneFalls (R.faults rack.old) (R.faults rack.new) (R.faults_of rack.old) (R.faults_of rack.new) }
+    ensures sizes { (R.state rack.new).sizes ≡ (R.state rack.old).sizes }
+    ensures keeps_telling { R.tells rack.old → R.tells rack.new }
+{
+    let Some(row) = known.devices.get(ask.device as usize) else {
+        return Ok(None);
+    };
+    let _disks = rack.disks();
+    let disk = source_disk(row, ask.device);
+    let bytes = read_raw(alloc, rack, disk, ask.place, ask.count)?;
+    Ok(Some(bytes))
+}
+
+/// The disk of the member that reads go to.
+fn source_disk(row: &DeviceRow, device: u32) -> u32
+    requires { 4 + 2 * device < 2 ^ 32 }
+    ensures { IsSourceDisk row.now.mode device result }
+{
+    if row.is_source(false) {
+        3 + 2 * device
+    } else {
+        4 + 2 * device
+    }
+}
+
+/// The bytes of sectors of a disk.
+fn read_raw<R: Rack>(
+    alloc: Global,
+    rack: &mut R,
+    disk: u32,
+    place: u64,
+    count: u32,
+) -> Result<Raw, FactError>
+    requires disk { disk < length (R.state rack.old).sizes }
+    requires range { place + count ≤ slice_index (R.state rack.old).sizes disk }
+    ensures bytes { R.tells rack.old → IfOk result (λ bytes. ReadsAs (R.state rack.old).reads disk place bytes) }
+    ensures long { IfOk result (λ bytes. length bytes ≡ 512 * count) }
+    ensures stays { R.tells rack.old → R.state rack.new ≡ R.state rack.old }
+    ensures any_moment { R.tells rack.old → LeavesOnly (R.moment rack.old) (R.moment rack.new) (R.left_since rack.old) (R.left_since rack.new) (IsImage (R.state rack.old)) }
+    ensures cause { IsErrOf result DiskFails → Rose (R.faults rack.old) (R.faults rack.new) }
+    ensures later { NoneFalls (R.faults rack.old) (R.faults rack.new) (R.faults_of rack.old) (R.faults_of rack.new) }
+    ensures sizes { (R.state rack.new).sizes ≡ (R.state rack.old).sizes }
+    ensures keeps_telling { R.tells rack.old → R.tells rack.new }
+{
+    let size = 512 * count as usize;
+    let mut bytes = vec![in alloc; 0; size].map_err(OutOfMemory::from)?;
+    read_sectors(rack, disk, place, bytes.as_mut_slice())?;
+    Ok(Raw::from(bytes))
+}

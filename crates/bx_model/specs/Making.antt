@@ -118,20 +118,20 @@ new_place tree call at name spare = do
   entry_errors directory spare
   Ok directory
 
--- SYMLINK (section 2.2.14): a link with a path. The status alone is answered.
+-- SYMLINK (RFC 1094, section 2.2.14): a link with a path. The status alone is answered.
 abbrev pub symlink : Tree → Call → List ℕ → List ℕ → List ℕ → Sattr → Time → ℕ → Making
 symlink tree call at name path sattr now spare = do
   directory ← new_place tree call at name spare
   Ok (Makes (λ made. (reply.Status NFS_OK, with_made tree directory.handle name now (new_file call sattr now 0o777 made (body.Path path)))))
 
--- MKDIR (section 2.2.15): a directory without entries.
+-- MKDIR (RFC 1094, section 2.2.15): a directory without entries.
 abbrev pub mkdir : Tree → Call → List ℕ → List ℕ → Sattr → Time → ℕ → Making
 mkdir tree call at name sattr now spare = do
   directory ← new_place tree call at name spare
   let file = λ (made : ℕ). new_file call sattr now 0o755 made (body.Names directory.handle 3 [])
   Ok (Makes (λ made. (handle_reply tree (file made), with_made tree directory.handle name now (file made))))
 
--- LINK (section 2.2.13): one more name for a file, which may have 32000. The status alone is answered.
+-- LINK (RFC 1094, section 2.2.13): one more name for a file, which may have 32000. The status alone is answered.
 abbrev pub link : Tree → Call → List ℕ → List ℕ → List ℕ → Time → ℕ → Outcome
 link tree call from at name now spare = do
   file ← must (named_file tree from) STALE

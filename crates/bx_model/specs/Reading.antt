@@ -43,7 +43,7 @@ meant tree directory name =
     else if bytes_eq name (codes "..") then file_at tree.files (parent_of directory.body)
     else option_and_then (λ entry. file_at tree.files entry.handle) (entry_named (names_of directory.body) name)
 
--- LOOKUP (section 2.2.5): the file handle and the attributes of the file that a name means.
+-- LOOKUP (RFC 1094, section 2.2.5): the file handle and the attributes of the file that a name means.
 abbrev pub lookup : Tree → Call → List ℕ → List ℕ → Outcome
 lookup tree call at name = do
   directory ← must (named_file tree at) STALE
@@ -58,7 +58,7 @@ path_of (body.Bytes bytes) = []
 path_of (body.Path path) = path
 path_of (body.Names parent next names) = []
 
--- READLINK (section 2.2.6): a link's path.
+-- READLINK (RFC 1094, section 2.2.6): a link's path.
 abbrev pub readlink : Tree → List ℕ → Outcome
 readlink tree at = do
   file ← must (named_file tree at) STALE
@@ -75,7 +75,7 @@ bytes_of (body.Names parent next names) = []
 abbrev pub most_data : ℕ
 most_data = 8192
 
--- READ (section 2.2.7): the bytes from an offset on, at most so many, cut at the file's end.
+-- READ (RFC 1094, section 2.2.7): the bytes from an offset on, at most so many, cut at the file's end.
 abbrev pub read : Tree → Call → List ℕ → ℕ → ℕ → Outcome
 read tree call at offset count = do
   file ← must (named_file tree at) STALE
@@ -84,7 +84,7 @@ read tree call at offset count = do
   refuse (not (may call file want.Read)) ACCES
   Ok (reply.Bytes (attributes_of tree.volume file) (take (min count most_data) (drop offset (bytes_of file.body))), tree)
 
--- STATFS (section 2.2.18): the bytes of a transfer, the bytes of a block, and the blocks in all, free, and free for
+-- STATFS (RFC 1094, section 2.2.18): the bytes of a transfer, the bytes of a block, and the blocks in all, free, and free for
 -- the caller. An area has 960.
 abbrev pub statfs : Tree → List ℕ → ℕ → Outcome
 statfs tree at spare = do

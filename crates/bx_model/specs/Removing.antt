@@ -36,7 +36,7 @@ remove tree call at name now = do
   refuse (is_directory file) ISDIR
   Ok (reply.Status NFS_OK, without_link now (changed tree directory.handle (taken_out now name false)) file.handle file.nlink)
 
--- RMDIR (section 2.2.16): an empty directory goes.
+-- RMDIR (RFC 1094, section 2.2.16): an empty directory goes.
 abbrev pub rmdir : Tree → Call → List ℕ → List ℕ → Time → Outcome
 rmdir tree call at name now = do
   (directory, file) ← file_to_remove tree call at name

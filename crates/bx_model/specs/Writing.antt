@@ -53,7 +53,7 @@ write_errors call file offset count spare = do
   refuse (nat_lt 0 count && nat_lt most_bytes (offset + count)) FBIG
   refuse (nat_lt 0 count && is_full spare) NOSPC
 
--- WRITE (section 2.2.9): the bytes written, and the attributes then. No bytes change nothing.
+-- WRITE (RFC 1094, section 2.2.9): the bytes written, and the attributes then. No bytes change nothing.
 abbrev pub write : Tree → Call → List ℕ → ℕ → List ℕ → Time → ℕ → Outcome
 write tree call at offset written now spare = do
   file ← must (named_file tree at) STALE

@@ -8,7 +8,7 @@ use bx_disk::Rack;
 use std::alloc::Global;
 
 /// Fills bytes with 3, 10, 17 and so on.
-pub fn fill(bytes: &mut [u8]) {
+pub(crate) fn fill(bytes: &mut [u8]) {
     let mut next = 3u8;
     for byte in bytes.iter_mut() {
         *byte = next;
@@ -17,7 +17,7 @@ pub fn fill(bytes: &mut [u8]) {
 }
 
 /// Whether a cell that begins at a sector fits the first disk.
-pub fn has_room<R: Rack>(rack: &R, base: u64) -> bool
+pub(crate) fn has_room<R: Rack>(rack: &R, base: u64) -> bool
     ensures disk { IsTrue result → 0 < length (R.state rack.now).sizes }
     ensures room { IsTrue result → base + 20 ≤ slice_index (R.state rack.now).sizes 0 }
 {
@@ -25,12 +25,12 @@ pub fn has_room<R: Rack>(rack: &R, base: u64) -> bool
 }
 
 /// Writes a cell anew, and says whether that went well.
-pub fn formats<R: Rack>(rack: &mut R, base: u64, value: &[u8]) -> bool {
+pub(crate) fn formats<R: Rack>(rack: &mut R, base: u64, value: &[u8]) -> bool {
     has_room(rack, base) && value.len() <= 4096 && format(rack, 0, base, value).is_ok()
 }
 
 /// Opens a cell and puts a value, and says whether that went well.
-pub fn puts_one<R: Rack>(alloc: Global, rack: &mut R, base: u64, value: &[u8]) -> bool {
+pub(crate) fn puts_one<R: Rack>(alloc: Global, rack: &mut R, base: u64, value: &[u8]) -> bool {
     if !has_room(rack, base) || value.len() > 4096 {
         return false;
     }
@@ -41,7 +41,7 @@ pub fn puts_one<R: Rack>(alloc: Global, rack: &mut R, base: u64, value: &[u8]) -
 }
 
 /// Opens a cell and puts two values. Says how many were put, if memory didn't run out before.
-pub fn puts_two<R: Rack>(
+pub(crate) fn puts_two<R: Rack>(
     alloc: Global,
     rack: &mut R,
     base: u64,
@@ -66,7 +66,7 @@ pub fn puts_two<R: Rack>(
 }
 
 /// The number and the length of a cell's value, and its first byte or 0, if there is a cell.
-pub fn looks<R: Rack>(
+pub(crate) fn looks<R: Rack>(
     alloc: Global,
     rack: &mut R,
     base: u64,

@@ -5,7 +5,7 @@
 #[cfg(test)]
 mod damages;
 #[cfg(test)]
-mod opening;
+mod formats;
 #[cfg(test)]
 mod slots;
 #[cfg(test)]

@@ -5,8 +5,8 @@ ghost use Rattle.bx_layout.specs.Areas.{IsArea, SpellsArea, generation_in, in_us
 ghost use Rattle.bx_truth.specs.Chunks.{IsAreaBlock, IsChunked, own_block};
 ghost use Rattle.bx_tests_volume.specs.Slots.{HasHeader, IsAreaChunked, changed_truth};
 
-use crate::opening::opening_block;
 use bx_base::{OutOfMemory, Raw};
+use bx_format::opening_block;
 use bx_handles::ChunkHandle;
 use bx_layout::{AreaBlock, Block};
 use bx_places::SLOTS;

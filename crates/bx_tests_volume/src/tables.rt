@@ -1,6 +1,6 @@
 //! The opening truth, block by block.
 
-use crate::opening::opening_block;
+use bx_format::opening_block;
 use std::alloc::Global;
 
 /// Blocks of a volume that was just made: the number, the header and the beginning of the payload, each before its zeros. From a

@@ -44,7 +44,7 @@ fn slots_of(alloc: Global, area: u16) -> Result<AreaBlock, OutOfMemory>
 }
 
 /// The own block of an area.
-fn own_block(alloc: Global, area: u16) -> Result<Block, OutOfMemory>
+pub(crate) fn own_block(alloc: Global, area: u16) -> Result<Block, OutOfMemory>
     ensures { IfOk result (λ made. made ≡ area_block area) }
 {
     let slots = slots_of(alloc, area)?;
@@ -58,7 +58,7 @@ fn own_block(alloc: Global, area: u16) -> Result<Block, OutOfMemory>
 }
 
 /// The root's inode.
-fn inode_block(alloc: Global) -> Result<Block, OutOfMemory>
+pub(crate) fn inode_block(alloc: Global) -> Result<Block, OutOfMemory>
     ensures { IfOk result (λ made. made ≡ root_block) }
 {
     let inode = Inode {
@@ -87,7 +87,7 @@ fn inode_block(alloc: Global) -> Result<Block, OutOfMemory>
 }
 
 /// The page of the root's tree.
-fn tree_block(alloc: Global) -> Result<Block, OutOfMemory>
+pub(crate) fn tree_block(alloc: Global) -> Result<Block, OutOfMemory>
     ensures { IfOk result (λ made. made ≡ page_block) }
 {
     let page = Page::new(alloc, 0);

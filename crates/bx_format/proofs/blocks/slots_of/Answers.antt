@@ -4,8 +4,8 @@ use Rattle.bx_layout.specs.declared.area.AreaBlock.{AreaBlock}
 use Rattle.bx_layout.specs.Areas.{taken_word, with_word}
 use Rattle.bx_truth.specs.Opening.{opening_slots}
 use Rattle.bx_truth.proofs.Cases.{eq_false}
-use Rattle.bx_tests_volume.proofs.opening.slots_of.Goals as goal
-use Rattle.bx_tests_volume.proofs.opening.slots_of.Goals.{then-area-eq0, else-area-eq0}
+use Rattle.bx_format.proofs.blocks.slots_of.Goals as goal
+use Rattle.bx_format.proofs.blocks.slots_of.Goals.{then-area-eq0, else-area-eq0}
 
 -- a slot is taken
 took : AreaBlock → ℕ → AreaBlock

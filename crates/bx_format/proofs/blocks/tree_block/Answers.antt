@@ -1,7 +1,7 @@
 use Rattle.std.proofs.Common.{ap, ◌∙◌}
 use Rattle.bx_page.specs.Spelling.{page_bytes}
 use Rattle.bx_truth.specs.Opening.{page_block}
-use Rattle.bx_tests_volume.proofs.opening.tree_block.Goals as goal
+use Rattle.bx_format.proofs.blocks.tree_block.Goals as goal
 
 pub returns : goal.returns
 unfolding page_block

@@ -2,7 +2,7 @@ use Rattle.std.proofs.Common.{◌≡◌, ℕ, List, [], ap, ◌∙◌}
 use Rattle.bx_fields.specs.Writing.{padded}
 use Rattle.bx_layout.specs.Inodes.{inode_text}
 use Rattle.bx_truth.specs.Opening.{opening_inode, root_block}
-use Rattle.bx_tests_volume.proofs.opening.inode_block.Goals as goal
+use Rattle.bx_format.proofs.blocks.inode_block.Goals as goal
 
 without_path : (path : List ℕ) → path ≡ [] → padded 4096 (inode_text (record opening_inode { path = path })) ≡ padded 4096 (inode_text opening_inode)
 without_path path none = ap (λ (p : List ℕ). padded 4096 (inode_text (record opening_inode { path = p }))) none

@@ -4,7 +4,7 @@ use Rattle.bx_layout.specs.declared.area.AreaBlock.{AreaBlock}
 use Rattle.bx_layout.specs.Areas.{area_text}
 use Rattle.bx_handles.specs.Handles.{number_of}
 use Rattle.bx_truth.specs.Opening.{area_block}
-use Rattle.bx_tests_volume.proofs.opening.own_block.Goals as goal
+use Rattle.bx_format.proofs.blocks.own_block.Goals as goal
 
 pub returns : goal.returns
 unfolding area_block

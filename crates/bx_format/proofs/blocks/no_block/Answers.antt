@@ -1,5 +1,5 @@
 use Rattle.bx_truth.specs.Opening.{free_block}
-use Rattle.bx_tests_volume.proofs.opening.no_block.Goals as goal
+use Rattle.bx_format.proofs.blocks.no_block.Goals as goal
 
 pub returns : goal.returns
 unfolding free_block

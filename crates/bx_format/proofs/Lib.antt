@@ -1,0 +1,6 @@
+pub mod Puts
+pub mod Made
+pub mod Blank
+pub mod Sure
+pub mod Labelled
+pub mod Rests

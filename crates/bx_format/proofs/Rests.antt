@@ -1,0 +1,78 @@
+-- A volume that was just made is at rest.
+use Rattle.std.proofs.Common.{◌≡◌, ℕ, ◌<◌, ◌≤◌, arith, Bool, true, false, List, length, take, sym, ap, ◌∙◌, subst, refl}
+use Rattle.std.specs.Prelude.{slice_index}
+use Rattle.std.proofs.lemmas.Bool.Decides.{nat_tests}
+use Rattle.bx_disk.specs.Disks.{Disks, zeros}
+use Rattle.bx_global.specs.declared.state.GlobalState.{GlobalState}
+use Rattle.bx_layout.specs.declared.label.Label.{Label}
+use Rattle.bx_layout.specs.Labels.{IsLabel, IsOpenGate}
+use Rattle.bx_places.specs.Places.{IsBlock, block_place, disk_count, gate_place}
+use Rattle.bx_truth.specs.Opening.{opening_truth}
+use Rattle.bx_volume.specs.AtRest.{IsAtRest}
+use Rattle.bx_volume.specs.Images.{IsLabelled, IsOwnLabel, devices_of, member_disk}
+use Rattle.bx_volume.specs.Overlay.{IsHome}
+use Rattle.bx_volume.specs.Records.{gate_of}
+use Rattle.bx_format.specs.Formats.{IsFormatted, label_of}
+
+-- zeros are no open gate
+closed : (sector : List ℕ) → sector ≡ zeros → IsOpenGate sector → ⊥
+unfolding zeros
+closed sector zero opened = let first = ap (λ (l : List ℕ). slice_index l 0) (sym (ap (take 8) zero) ∙ opened) in omega (arith, first)
+
+module _ (disks : Disks) (first : Label) (is : IsLabel first) (made : IsFormatted disks first) where
+  own : (disk : ℕ) → disk < disk_count first.devices → IsOwnLabel disks.sizes disks.reads disk (label_of first disk)
+  own disk less = record {
+    spells = record {
+      is = record {
+        volume = is.volume;
+        disk = omega (arith, less, is.most_devices);
+        least_devices = is.least_devices;
+        most_devices = is.most_devices;
+        least_areas = is.least_areas;
+        most_areas = is.most_areas;
+      };
+      parts = made.labels.each disk less;
+    };
+    names = refl;
+    there = less;
+    long_enough = let e = made.sizes.each disk less in omega (arith, e);
+  }
+
+  low : (device : ℕ) (member : Bool) → device < first.devices → member_disk device member < disk_count first.devices
+  low device true less = omega (arith, less)
+  low device false less = omega (arith, less)
+
+  labelled : (device : ℕ) (member : Bool) → device < first.devices → IsLabelled disks.sizes disks.reads first (member_disk device member)
+  labelled device member less = record { label = label_of first (member_disk device member); own = own (member_disk device member) (low device member less); volume = refl; devices = refl; areas = refl }
+
+  home : (second : ℕ → Bool) (at : ℕ) → IsBlock first.areas at → IsHome (devices_of disks.reads second) first.devices at (opening_truth at)
+  home second at is_block = let held = made.blocks.home (second (block_place at first.devices).0) at is_block in record { is = held.is; reads = record { each = λ i less. held.reads.each i less } }
+
+  shut : (second : ℕ → Bool) (slot gate : ℕ) → slot < 8 → gate < 8 → IsOpenGate (gate_of (devices_of disks.reads second) first.devices slot gate) → ⊥
+  shut second slot gate in_slots in_gates =
+      closed (gate_of (devices_of disks.reads second) first.devices slot gate)
+      (made.none.zero (member_disk (gate_place slot gate first.devices).0 (second (gate_place slot gate first.devices).0)) (gate_place slot gate first.devices).1 (omega arith) (omega (arith, in_slots, in_gates))
+      (fits (second (gate_place slot gate first.devices).0)))
+    where
+      there : (gate_place slot gate first.devices).0 < first.devices
+      there = let some = is.least_devices in grind arith
+
+      on : (disk : ℕ) → 3 ≤ disk → disk < disk_count first.devices → (gate_place slot gate first.devices).1 < slice_index disks.sizes disk
+      on disk member less = rw (made.sizes.each disk less) (grind (arith, nat_tests))
+
+      fits : (member : Bool) → (gate_place slot gate first.devices).1 < slice_index disks.sizes (member_disk (gate_place slot gate first.devices).0 member)
+      fits true = on (member_disk (gate_place slot gate first.devices).0 true) (omega arith) (low (gate_place slot gate first.devices).0 true there)
+      fits false = on (member_disk (gate_place slot gate first.devices).0 false) (omega arith) (low (gate_place slot gate first.devices).0 false there)
+
+  pub at_rest : (state : GlobalState) → first.disk ≡ 0 → length state.devices ≡ first.devices → IsAtRest disks (λ image told. told ≡ state) first opening_truth
+  at_rest state zero devices = record {
+    sure = made.sure;
+    is_first = record {
+      own = subst (λ (label : Label). IsOwnLabel disks.sizes disks.reads first.disk label) (λ i. record { volume = first.volume; disk = first.disk; devices = first.devices; areas = first.areas }) (own first.disk (omega (arith, zero)));
+      least = λ disk label less other. absurd (omega (arith, zero, less));
+    };
+    labelled = λ device member less. labelled device member less;
+    homes = home;
+    gates = shut;
+    state = λ told same. ap (λ (s : GlobalState). length s.devices) same ∙ devices;
+  }

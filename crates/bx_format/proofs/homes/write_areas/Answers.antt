@@ -1,0 +1,30 @@
+use Rattle.std.proofs.Common.{ℕ, ◌+◌, ◌*◌, ◌∙◌, ap, arith, sym, subst}
+use Rattle.bx_layout.specs.declared.block.Block.{Block}
+use Rattle.bx_layout.specs.Blocks.{HasParts}
+use Rattle.bx_format.specs.Formats.{areas_truth, with_block}
+use Rattle.bx_format.proofs.Made.{one_area, own_parts, same_blocks}
+use Rattle.bx_format.proofs.homes.write_areas.Goals as goal
+
+pub put_home-requires-clause-parts : goal.put_home-requires-clause-parts
+put_home-requires-clause-parts g c = subst HasParts (sym c.in_ok-block.ensures) (own_parts c.args.areas c.loop-area.area c.requires.volume.most_areas (omega arith))
+
+pub loop-area-preserved : goal.loop-area-preserved
+loop-area-preserved g c =
+    let before = c.loop-area.invariant.no_fault in
+    let this = c.in_ok-put_home.ensures.no_fault in
+    record {
+      blocks = λ tells holds.
+          let told = c.loop-area.invariant.tells tells in
+          same_blocks _ c.args.devices c.args.areas _ (areas_truth (c.loop-area.area + 1)) (c.in_ok-put_home.ensures.puts (areas_truth c.loop-area.area) told (c.loop-area.invariant.blocks tells holds))
+          (λ at is.
+          ap (λ (n : ℕ). with_block (areas_truth c.loop-area.area) (1024 * n + 960) c.in_ok-block.block at) c.from.ensures
+          ∙ ap (λ (block : Block). with_block (areas_truth c.loop-area.area) (1024 * c.loop-area.area + 960) block at) c.in_ok-block.ensures ∙ one_area c.loop-area.area at);
+      front = λ tells.
+          let first = c.loop-area.invariant.front tells in
+          let next = c.put_home.ensures.front (c.loop-area.invariant.tells tells) in
+          record { reads = λ d s less. next.reads d s less ∙ first.reads d s less };
+      later = grind arith;
+      no_fault = record { all = this.all ∙ before.all; each = λ d. this.each d ∙ before.each d };
+      sizes = c.put_home.ensures.sizes ∙ c.loop-area.invariant.sizes;
+      tells = λ tells. c.put_home.ensures.keeps_telling (c.loop-area.invariant.tells tells);
+    }

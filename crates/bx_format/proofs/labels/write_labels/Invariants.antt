@@ -1,0 +1,15 @@
+use Rattle.std.proofs.Common.{◌≡◌, length}
+use Rattle.bx_disk.specs.Counts.{NoneFalls, NoneRose}
+use Rattle.bx_format.specs.Formats.{HasLabels, KeepsBehind}
+use Rattle.bx_format.proofs.labels.write_labels.Given as goal
+
+abbrev pub invariant-loop-disk : goal.invariant-loop-disk
+invariant-loop-disk g l = record {
+  labels : g.R.Rack.tells l.fn.rack → HasLabels (g.R.Rack.state l.rack).reads (record { volume = l.volume; disk = 0; devices = l.devices; areas = l.areas }) l.disk;
+  behind : g.R.Rack.tells l.fn.rack → KeepsBehind (g.R.Rack.state l.fn.rack) (g.R.Rack.state l.rack);
+  sector : length l.sector ≡ 512;
+  later : NoneFalls (g.R.Rack.faults l.fn.rack) (g.R.Rack.faults l.rack) (g.R.Rack.faults_of l.fn.rack) (g.R.Rack.faults_of l.rack);
+  no_fault : NoneRose (g.R.Rack.faults l.fn.rack) (g.R.Rack.faults l.rack) (g.R.Rack.faults_of l.fn.rack) (g.R.Rack.faults_of l.rack);
+  sizes : (g.R.Rack.state l.rack).sizes ≡ (g.R.Rack.state l.fn.rack).sizes;
+  tells : g.R.Rack.tells l.fn.rack → g.R.Rack.tells l.rack;
+}

@@ -3,6 +3,7 @@ use Rattle.std.proofs.Common.{◌≡◌, ℕ, ◌+◌, ◌<◌, ◌≤◌, ◌==
 use Rattle.std.specs.Prelude.{reverse, ◌⊎◌}
 use Rattle.std.proofs.lemmas.List.{append-nil, append_cancel_left}
 use Rattle.bx_base.specs.Text.{BeginsWith, LacksFeed, lines_of}
+use Rattle.bx_model.specs.declared.tree.Tree.{Tree}
 use Rattle.bx_script.specs.declared.line.Line.{Line}
 use Rattle.bx_script.specs.declared.line.Line.TheVariants.{Heading}
 use Rattle.bx_script.specs.ScheduleLine.{spelling}
@@ -153,9 +154,9 @@ stops_unfinished text number replay start before after more going wrote added e 
     broken_part text [] number replay start before after (trace ++ wrote) more going out (inr (refl, whole))
 
 -- the end was reached, and all was written
-pub finishes : (text : List ℕ) (number : ℕ) (replay : Replay) (start before after : List ℕ)
-    → Going text [] number replay start before → after ≡ before ++ closing_text [] replay.tree → Wrote start after (IsReplayed text)
-finishes text number replay start before after going e =
+pub finishes : (text : List ℕ) (Stands : Tree → Type 0) (number : ℕ) (replay : Replay) (start before after : List ℕ)
+    → Going text [] number replay start before → after ≡ before ++ closing_text [] replay.tree → Stands replay.tree → Wrote start after (IsReplayed text Stands)
+finishes text Stands number replay start before after going e stands =
     let trace : List ℕ = trace_text (reverse (trace_of (parts_of going.done))) in
     record {
       output = trace ++ closing_text [] replay.tree;
@@ -167,6 +168,7 @@ finishes text number replay start before after going e =
         last = replay.tree;
         headline = headline replay going.done start before going.stands;
         output-is = refl;
+        stands = stands;
       };
     }
 

@@ -12,3 +12,4 @@ pub mod Running
 pub mod Goings
 pub mod Leavings
 pub mod Served
+pub mod Held

@@ -17,4 +17,5 @@ does_call InRange (Err (stops.Refused number reason)) replay line done start old
 does_call InRange (Err stops.ReadFault) replay line done start old new text before now cause prints in_range after = absurd cause
 does_call InRange (Err stops.WriteFault) replay line done start old new text before now cause prints in_range after =
     breaks replay line done start old new text prints.0 (after in_range) prints.1
+does_call InRange (Err stops.DiskFault) replay line done start old new text before now cause prints in_range after = absurd cause
 does_call InRange (Err stops.OutOfMemory) replay line done start old new text before now cause prints in_range after = prints

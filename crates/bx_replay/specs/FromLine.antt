@@ -1,4 +1,6 @@
--- What an error of a reader of lines is to a command.
+-- What an error of a reader of lines, and one of a rack, is to a command.
+use Rattle.bx_disk.specs.declared.fault.RackError.{RackError}
+use Rattle.bx_disk.specs.declared.fault.RackError.TheVariants as racks
 use Rattle.bx_outside.specs.declared.line_reader.LineError.{LineError}
 use Rattle.bx_outside.specs.declared.line_reader.LineError.TheVariants.{Fault, OutOfMemory}
 use Rattle.bx_replay.specs.declared.stop.Stop.{Stop}
@@ -7,3 +9,7 @@ use Rattle.bx_replay.specs.declared.stop.Stop.TheVariants as stops
 abbrev pub stop_of : LineError → Stop
 stop_of Fault = stops.ReadFault
 stop_of OutOfMemory = stops.OutOfMemory
+
+abbrev pub stop_of_rack : RackError → Stop
+stop_of_rack racks.Fault = stops.DiskFault
+stop_of_rack racks.OutOfMemory = stops.OutOfMemory

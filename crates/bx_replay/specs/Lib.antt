@@ -1,3 +1,4 @@
+pub mod Bench
 pub mod FromLine
 pub mod Headline
 pub mod Outcome

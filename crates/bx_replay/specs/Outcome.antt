@@ -37,14 +37,15 @@ pub record IsServedSchedule (text : List ℕ) : Type 0 where
   pub read : IsSchedule (lines_of text) schedule
   pub served : AllByRecursion IsServedLine schedule
 
--- The output is the trace of such a text, `end`, and the listing of the tree after it.
-pub record IsReplayed (text output : List ℕ) : Type 0 where
+-- The output is the trace of such a text, `end`, and the listing of the tree after it, which stands so.
+pub record IsReplayed (text : List ℕ) (Stands : Tree → Type 0) (output : List ℕ) : Type 0 where
   pub input : IsServedSchedule text
   pub trace : List TraceLine
   pub closing : List TraceLine
   pub last : Tree
   pub headline : Headline input.schedule trace closing last
   pub output-is : output ≡ trace_text trace ++ closing_text closing last
+  pub stands : Stands last
 
 -- a call that isn't served
 pub record IsUnserved (first : Bool) (line : List ℕ) : Type 0 where

@@ -50,12 +50,13 @@ pub record Answers (old new : Replay) (reading : ℕ) (datagram : List ℕ) (poi
   pub served : IsServed datagram
   pub step : (client : ℕ) → Step old.tree (answered_entry (old.calls + 1) client datagram reading 8 0 reply) new.tree
 
--- a fact that holds unless the source failed, one that holds unless the sink failed, and one that holds unless memory ran out
+-- facts that hold unless the source failed, unless the sink failed, unless memory ran out, and unless the bench failed
 abbrev pub UnlessRead : {A : Type 0} → Result A Stop → Type 0 → Type 0
 UnlessRead (Ok _) P = P
 UnlessRead (Err (stops.Refused line reason)) P = P
 UnlessRead (Err stops.ReadFault) P = Unit {0}
 UnlessRead (Err stops.WriteFault) P = P
+UnlessRead (Err stops.DiskFault) P = P
 UnlessRead (Err stops.OutOfMemory) P = P
 
 abbrev pub UnlessWrite : {A : Type 0} → Result A Stop → Type 0 → Type 0
@@ -63,6 +64,7 @@ UnlessWrite (Ok _) P = P
 UnlessWrite (Err (stops.Refused line reason)) P = P
 UnlessWrite (Err stops.ReadFault) P = P
 UnlessWrite (Err stops.WriteFault) P = Unit {0}
+UnlessWrite (Err stops.DiskFault) P = P
 UnlessWrite (Err stops.OutOfMemory) P = P
 
 abbrev pub UnlessMemory : {A : Type 0} → Result A Stop → Type 0 → Type 0
@@ -70,7 +72,16 @@ UnlessMemory (Ok _) P = P
 UnlessMemory (Err (stops.Refused line reason)) P = P
 UnlessMemory (Err stops.ReadFault) P = P
 UnlessMemory (Err stops.WriteFault) P = P
+UnlessMemory (Err stops.DiskFault) P = P
 UnlessMemory (Err stops.OutOfMemory) P = Unit {0}
+
+abbrev pub UnlessDisk : {A : Type 0} → Result A Stop → Type 0 → Type 0
+UnlessDisk (Ok _) P = P
+UnlessDisk (Err (stops.Refused line reason)) P = P
+UnlessDisk (Err stops.ReadFault) P = P
+UnlessDisk (Err stops.WriteFault) P = P
+UnlessDisk (Err stops.DiskFault) P = Unit {0}
+UnlessDisk (Err stops.OutOfMemory) P = P
 
 -- ---- reading a line
 
@@ -83,6 +94,7 @@ GivesLine (Err (stops.Refused line reason)) number text rest left =
     × ((4294967295 < number) ⊎ ((value : Line) → IsInPlace (number == 1) value → first ≢ spelling value))
 GivesLine (Err stops.ReadFault) number text rest left = (piece : List ℕ) × (text ≡ piece ++ left) × LacksFeed piece × (length piece ≤ 18600)
 GivesLine (Err stops.WriteFault) number text rest left = ⊥
+GivesLine (Err stops.DiskFault) number text rest left = ⊥
 GivesLine (Err stops.OutOfMemory) number text rest left = Unit {0}
 
 -- why a read of a line stops short
@@ -90,6 +102,7 @@ abbrev pub HasLineCause : Stop → ℕ → ℕ → ℕ → Type 0
 HasLineCause (stops.Refused line reason) number before now = (line ≡ number) × (reason ≡ Grammar)
 HasLineCause stops.ReadFault number before now = Rose before now
 HasLineCause stops.WriteFault number before now = ⊥
+HasLineCause stops.DiskFault number before now = ⊥
 HasLineCause stops.OutOfMemory number before now = Unit {0}
 
 -- ---- doing a line
@@ -119,6 +132,7 @@ Serves (Ok _) line = IsServedLine line
 Serves (Err (stops.Refused number reason)) line = IsUnservedLine line
 Serves (Err stops.ReadFault) line = Unit {0}
 Serves (Err stops.WriteFault) line = Unit {0}
+Serves (Err stops.DiskFault) line = Unit {0}
 Serves (Err stops.OutOfMemory) line = Unit {0}
 
 -- what doing a line leaves, from how the replay stood before
@@ -127,6 +141,7 @@ DoesLine (Ok _) line done start old new replay = StandsAfter replay line done st
 DoesLine (Err (stops.Refused number reason)) line done start old new replay = new ≡ old
 DoesLine (Err stops.ReadFault) line done start old new replay = ⊥
 DoesLine (Err stops.WriteFault) line done start old new replay = BreaksAfter line done start old new
+DoesLine (Err stops.DiskFault) line done start old new replay = ⊥
 DoesLine (Err stops.OutOfMemory) line done start old new replay = new ≡ old
 
 -- why doing a line stops short
@@ -134,6 +149,7 @@ abbrev pub HasStepCause : Stop → ℕ → ℕ → ℕ → Type 0
 HasStepCause (stops.Refused line reason) number before now = (line ≡ number) × (reason ≡ NotBuilt)
 HasStepCause stops.ReadFault number before now = ⊥
 HasStepCause stops.WriteFault number before now = Rose before now
+HasStepCause stops.DiskFault number before now = ⊥
 HasStepCause stops.OutOfMemory number before now = Unit {0}
 
 -- ---- printing
@@ -144,6 +160,7 @@ Prints (Ok _) text old new = new ≡ old ++ text
 Prints (Err (stops.Refused line reason)) text old new = ⊥
 Prints (Err stops.ReadFault) text old new = ⊥
 Prints (Err stops.WriteFault) text old new = (n : ℕ) × (new ≡ old ++ take n text)
+Prints (Err stops.DiskFault) text old new = ⊥
 Prints (Err stops.OutOfMemory) text old new = new ≡ old
 
 -- why printing stops short
@@ -151,6 +168,7 @@ abbrev pub HasPrintCause : Stop → ℕ → ℕ → Type 0
 HasPrintCause (stops.Refused line reason) before now = ⊥
 HasPrintCause stops.ReadFault before now = ⊥
 HasPrintCause stops.WriteFault before now = Rose before now
+HasPrintCause stops.DiskFault before now = ⊥
 HasPrintCause stops.OutOfMemory before now = Unit {0}
 
 -- ---- the heading
@@ -172,7 +190,16 @@ Begins (Ok replay) text rest left = IsBegun replay text rest
 Begins (Err (stops.Refused line reason)) text rest left = (text ≡ []) ⊎ GivesLine (Err (stops.Refused line reason)) 1 text rest left
 Begins (Err stops.ReadFault) text rest left = GivesLine (Err stops.ReadFault) 1 text rest left
 Begins (Err stops.WriteFault) text rest left = ⊥
+Begins (Err stops.DiskFault) text rest left = Unit {0}
 Begins (Err stops.OutOfMemory) text rest left = Unit {0}
+
+-- why a replay doesn't begin: the faults of the source and of the bench, before and now
+abbrev pub HasBeginCause : Stop → ℕ → ℕ → ℕ → ℕ → Type 0
+HasBeginCause (stops.Refused line reason) source_before source_now bench_before bench_now = (line ≡ 1) × (reason ≡ Grammar)
+HasBeginCause stops.ReadFault source_before source_now bench_before bench_now = Rose source_before source_now
+HasBeginCause stops.WriteFault source_before source_now bench_before bench_now = ⊥
+HasBeginCause stops.DiskFault source_before source_now bench_before bench_now = Rose bench_before bench_now
+HasBeginCause stops.OutOfMemory source_before source_now bench_before bench_now = Unit {0}
 
 -- ---- the end
 
@@ -206,17 +233,20 @@ pub record Wrote (old new : List ℕ) (P : List ℕ → Type 0) : Type 0 where
   pub added : new ≡ old ++ output
   pub holds : P output
 
--- What a replay leaves, by what it was given and what is left of that; and, where the sink tells, by what that had and has.
-abbrev pub Leaves : Type 0 → Result (Unit {0}) Stop → List ℕ → List ℕ → List ℕ → List ℕ → Type 0
-Leaves Tells (Ok _) text left old new = IsServedSchedule text × (left ≡ []) × (Tells → Wrote old new (IsReplayed text))
-Leaves Tells (Err (stops.Refused number reason)) text left old new = IsFirstRefused text number reason × (Tells → Wrote old new (IsRefused text number reason))
-Leaves Tells (Err stops.ReadFault) text left old new = IsCut text left × (Tells → Wrote old new (IsCutOff text left))
-Leaves Tells (Err stops.WriteFault) text left old new = Tells → Wrote old new (IsBroken text)
-Leaves Tells (Err stops.OutOfMemory) text left old new = Tells → Wrote old new (IsBroken text)
+-- What a replay leaves, by what it was given and what is left of that; and, where the sink tells, by what that had and has. The tree
+-- that a replay to the end leaves stands on the bench so.
+abbrev pub Leaves : Type 0 → (Tree → Type 0) → Result (Unit {0}) Stop → List ℕ → List ℕ → List ℕ → List ℕ → Type 0
+Leaves Tells Stands (Ok _) text left old new = IsServedSchedule text × (left ≡ []) × (Tells → Wrote old new (IsReplayed text Stands))
+Leaves Tells Stands (Err (stops.Refused number reason)) text left old new = IsFirstRefused text number reason × (Tells → Wrote old new (IsRefused text number reason))
+Leaves Tells Stands (Err stops.ReadFault) text left old new = IsCut text left × (Tells → Wrote old new (IsCutOff text left))
+Leaves Tells Stands (Err stops.WriteFault) text left old new = Tells → Wrote old new (IsBroken text)
+Leaves Tells Stands (Err stops.DiskFault) text left old new = Tells → Wrote old new (IsBroken text)
+Leaves Tells Stands (Err stops.OutOfMemory) text left old new = Tells → Wrote old new (IsBroken text)
 
--- why a replay stops short: the faults of the source and of the sink, before and now
-abbrev pub HasCause : Stop → ℕ → ℕ → ℕ → ℕ → Type 0
-HasCause (stops.Refused line reason) source_before source_now sink_before sink_now = Unit {0}
-HasCause stops.ReadFault source_before source_now sink_before sink_now = Rose source_before source_now
-HasCause stops.WriteFault source_before source_now sink_before sink_now = Rose sink_before sink_now
-HasCause stops.OutOfMemory source_before source_now sink_before sink_now = Unit {0}
+-- why a replay stops short: the faults of the source, of the sink and of the bench, before and now
+abbrev pub HasCause : Stop → ℕ → ℕ → ℕ → ℕ → ℕ → ℕ → Type 0
+HasCause (stops.Refused line reason) source_before source_now sink_before sink_now bench_before bench_now = Unit {0}
+HasCause stops.ReadFault source_before source_now sink_before sink_now bench_before bench_now = Rose source_before source_now
+HasCause stops.WriteFault source_before source_now sink_before sink_now bench_before bench_now = Rose sink_before sink_now
+HasCause stops.DiskFault source_before source_now sink_before sink_now bench_before bench_now = Rose bench_before bench_now
+HasCause stops.OutOfMemory source_before source_now sink_before sink_now bench_before bench_now = Unit {0}

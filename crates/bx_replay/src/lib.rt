@@ -1,6 +1,7 @@
-//! A schedule replayed on a file tree in memory, and what its trace says: the headline.
+//! A schedule replayed on a file tree in memory over a bench of disks that hold it, and what its trace says: the headline.
 #![tactic(auto)]
 
+mod bench;
 mod ends;
 mod laws;
 mod print;

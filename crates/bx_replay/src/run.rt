@@ -1,20 +1,31 @@
 //! The whole of a replay.
 
 ghost use Rattle.std.specs.Prelude.{◌≡◌, ◌≤◌, IfErr};
-ghost use Rattle.bx_replay.specs.Replay.{HasCause, Leaves, UnlessRead, UnlessWrite};
+ghost use Rattle.bx_replay.specs.Bench.{IsHeldBy};
+ghost use Rattle.bx_replay.specs.Replay.{HasCause, Leaves, UnlessDisk, UnlessRead, UnlessWrite};
 
 use crate::schedule::next_line;
 use crate::state::Replay;
 use crate::stop::Stop;
+use bx_disk::CrashRack;
 use bx_outside::{LineReader, Sink, Source};
 use bx_script::MAX_LINE;
 use std::alloc::Global;
 
 /// Replays the schedule of `input` and writes its trace to `out` as it goes; then the word `end` and the listing
-/// of the tree. It keeps one line of the schedule at a time.
-pub fn replay<S: Source, K: Sink>(alloc: Global, input: &mut S, out: &mut K) -> Result<(), Stop>
-    ensures leaves { S.tells input.old → Leaves (K.tells out.old) result (S.left input.old) (S.left input.new) (K.written out.old) (K.written out.new) }
-    ensures cause { IfErr result (λ stop. HasCause stop (S.faults input.old) (S.faults input.new) (K.faults out.old) (K.faults out.new)) }
+/// of the tree. It keeps one line of the schedule at a time. The bench becomes a volume of the heading's number, whose
+/// images stand for the tree.
+pub fn replay<S: Source, K: Sink, B: CrashRack>(
+    alloc: Global,
+    input: &mut S,
+    out: &mut K,
+    bench: &mut B,
+) -> Result<(), Stop>
+    ensures leaves { S.tells input.old → Leaves (K.tells out.old) (λ tree. B.tells bench.old → IsHeldBy (B.state bench.new) tree) result (S.left input.old) (S.left input.new) (K.written out.old) (K.written out.new) }
+    ensures cause { IfErr result (λ stop. HasCause stop (S.faults input.old) (S.faults input.new) (K.faults out.old) (K.faults out.new) (B.faults bench.old) (B.faults bench.new)) }
+    ensures bench_first { UnlessDisk result (B.faults bench.new ≡ B.faults bench.old) }
+    ensures bench_later { B.faults bench.old ≤ B.faults bench.new }
+    ensures bench_tells { B.tells bench.old → B.tells bench.new }
     ensures source_first { UnlessRead result (S.faults input.new ≡ S.faults input.old) }
     ensures sink_first { UnlessWrite result (K.faults out.new ≡ K.faults out.old) }
     ensures source_later { S.faults input.old ≤ S.faults input.new }
@@ -23,11 +34,11 @@ pub fn replay<S: Source, K: Sink>(alloc: Global, input: &mut S, out: &mut K) -> 
     ensures sink_tells { K.tells out.old → K.tells out.new }
 {
     let mut reader = LineReader::new(alloc, MAX_LINE)?;
-    let mut replay = Replay::begin(alloc, &mut reader, input)?;
+    let mut replay = Replay::begin(alloc, &mut reader, input, bench)?;
     let mut number = 1;
     'lines: while let Some(line) = next_line(alloc, &mut reader, input, number + 1)? {
         number += 1;
         replay.step(alloc, number, line, out)?;
     }
-    replay.finish(out)
+    replay.finish(bench, out)
 }

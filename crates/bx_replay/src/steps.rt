@@ -1,6 +1,6 @@
 //! What the lines of a schedule do.
 
-ghost use Rattle.std.specs.Prelude.{◌≡◌, ◌≤◌, ◌<◌, ◌+◌, ◌^◌, List, ℕ, length, IfOk, IfErr, IfNone, IfSome, MatchOption, true, false};
+ghost use Rattle.std.specs.Prelude.{◌≡◌, ◌≤◌, ◌<◌, ◌+◌, ◌^◌, List, ℕ, length, IfOk, IfErr, IfNone, IfSome, MatchOption, OnOk, true, false};
 ghost use Rattle.bx_history.specs.Along.{Done};
 ghost use Rattle.bx_nfs.specs.Wire.{IsServed, IsServedCall, ReadsAs};
 ghost use Rattle.bx_replay.specs.Headline.{IsInPlace, is_message as is_call};
@@ -43,6 +43,7 @@ impl Replay {
         ensures cause { IfErr result (λ stop. HasStepCause stop number (K.faults out.old) (K.faults out.new)) }
         ensures first { UnlessWrite result (K.faults out.new ≡ K.faults out.old) }
         ensures calls { self.new.calls ≤ self.old.calls + 1 }
+        ensures same { OnOk result (self.new.tree ≡ self.old.tree) }
         ensures later { K.faults out.old ≤ K.faults out.new }
         ensures keeps_telling { K.tells out.old → K.tells out.new }
     {
@@ -89,6 +90,7 @@ impl Replay {
             ((IsServed datagram.now → ⊥) × (self.new ≡ self.old))
             (λ answer. Answers self.old self.new reading datagram.now answer.0 answer.1)) }
         ensures calls { self.new.calls ≤ self.old.calls + 1 }
+        ensures same { OnOk result (self.new.tree ≡ self.old.tree) }
     {
         let Some((xid, call)) = served_call(alloc, datagram)? else {
             return Ok(None);
@@ -116,6 +118,7 @@ fn reply_to(
     requires served { IsServedCall call.now }
     requires reading_fits { reading ≤ 4294967295999 }
     ensures replies { IfOk result (Replies tree.old tree.new call.now reading xid) }
+    ensures same { OnOk result (tree.new ≡ tree.old) }
 {
     let Some(reply) = tree.act(call, reading, ENOUGH, 0)? else {
         unreachable!();

@@ -1,6 +1,7 @@
 //! Why a replay stops short.
 
 use bx_base::OutOfMemory;
+use bx_disk::RackError;
 use bx_outside::{LineError, WriteFault};
 use thiserror::Error;
 
@@ -27,6 +28,9 @@ pub enum Stop {
     /// The output failed.
     #[error("write fault")]
     WriteFault,
+    /// The bench failed while it was shaped and formatted.
+    #[error("disk fault")]
+    DiskFault,
     /// Memory ran out.
     #[error("out of memory")]
     OutOfMemory,
@@ -64,6 +68,20 @@ impl From<LineError> for Stop {
         match error {
             LineError::Fault => Stop::ReadFault,
             LineError::OutOfMemory => Stop::OutOfMemory,
+        }
+    }
+}
+
+impl From<RackError> for Stop {
+    ghost use Rattle.bx_replay.specs.FromLine.{stop_of_rack};
+    ghost use Rattle.std.specs.Prelude.{◌≡◌};
+
+    ghost from_gives = { λ error stop. stop ≡ stop_of_rack error };
+
+    fn from(error: RackError) -> Stop {
+        match error {
+            RackError::Fault => Stop::DiskFault,
+            RackError::OutOfMemory => Stop::OutOfMemory,
         }
     }
 }

@@ -1,5 +1,6 @@
-use Rattle.std.proofs.Common.{refl, ap, ◌∙◌, arith}
+use Rattle.std.proofs.Common.{refl, sym, subst, ap, ◌∙◌, arith}
 use Rattle.std.proofs.lemmas.Result.{err_from_is_err_and}
+use Rattle.bx_replay.specs.Bench.{IsHeldBy}
 use Rattle.bx_replay.proofs.Goings.{begins_broken, begins_going, going_on}
 use Rattle.bx_replay.proofs.Leavings.{begin_stops, finish_leaves, line_stops, step_stops}
 use Rattle.bx_replay.proofs.ReadLines.{heading_read, reads_on}
@@ -13,7 +14,7 @@ returns-in_err-reader-clause-leaves g c = λ source_tells.
 pub returns-in_err-replay-clause-leaves : goal.returns-in_err-replay-clause-leaves
 returns-in_err-replay-clause-leaves g c = λ source_tells.
     let p = err_from_is_err_and c.from_residual-in_err-replay.result c.from_residual-in_err-replay.ensures.1 in
-    rw (p.1, p.2) (begin_stops (g.K.Sink.tells c.args.out.now) c.in_err-replay.field-0.0 _ _ _ (g.K.Sink.written c.args.out.now) _ _ c.in_err-replay.ensures.cause
+    rw (p.1, p.2) (begin_stops (g.K.Sink.tells c.args.out.now) (λ tree. g.B.Rack.tells c.args.bench.now → IsHeldBy (g.B.Rack.state c.begin.new.bench) tree) c.in_err-replay.field-0.0 _ _ _ (g.K.Sink.written c.args.out.now) _ _ _ _ c.in_err-replay.ensures.cause
     (rw c.in_ok-reader.ensures at (c.in_err-replay.ensures.begins source_tells)))
 
 pub lines-init : goal.lines-init
@@ -27,6 +28,7 @@ lines-init g c = record {
   sink_same = refl;
   source_tells = c.in_ok-replay.ensures.keeps_telling;
   sink_tells = λ tells. tells;
+  holds = c.in_ok-replay.ensures.holds;
   read = λ source_tells.
       let begun = rw c.in_ok-reader.ensures at (c.in_ok-replay.ensures.begins source_tells) in
       heading_read _ _ begun.volume begun.nodes begun.devices begun.areas begun.in_place begun.begins;
@@ -36,7 +38,7 @@ lines-init g c = record {
 pub returns-in_err-line-clause-leaves : goal.returns-in_err-line-clause-leaves
 returns-in_err-line-clause-leaves g c = λ source_tells.
     let p = err_from_is_err_and c.from_residual-in_err-line.result c.from_residual-in_err-line.ensures.1 in
-    rw (p.1, p.2) (line_stops (g.K.Sink.tells c.args.out.now) c.in_err-line.field-0.0 _ _ _ _ _ _ c.lines.number c.lines.replay _ _
+    rw (p.1, p.2) (line_stops (g.K.Sink.tells c.args.out.now) (λ tree. g.B.Rack.tells c.args.bench.now → IsHeldBy (g.B.Rack.state c.begin.new.bench) tree) c.in_err-line.field-0.0 _ _ _ _ _ _ c.lines.number c.lines.replay _ _
     (c.lines.invariant.read source_tells) (c.lines.invariant.going source_tells)
     c.in_err-line.ensures.cause (c.in_err-line.ensures.gives (c.lines.invariant.source_tells source_tells)))
 
@@ -53,6 +55,7 @@ lines-preserved g c =
       sink_same = c.in_ok-step.ensures.first ∙ c.lines.invariant.sink_same;
       source_tells = λ tells. c.in_ok-line.ensures.keeps_telling (c.lines.invariant.source_tells tells);
       sink_tells = λ tells. c.in_ok-step.ensures.keeps_telling (c.lines.invariant.sink_tells tells);
+      holds = λ tells. subst (IsHeldBy (g.B.Rack.state c.begin.new.bench)) (sym c.in_ok-step.ensures.same) (c.lines.invariant.holds tells);
       read = λ source_tells.
           let begins = rw c.in-Some.is at (c.in_ok-line.ensures.gives (c.lines.invariant.source_tells source_tells)) in
           let place = rw c.in-Some.is at c.in_ok-line.ensures.in_place in
@@ -70,7 +73,7 @@ returns-in_err-step-clause-leaves g c = λ source_tells.
     let few = rw c.in-Some.is at c.in_ok-line.ensures.few in
     let begins = rw c.in-Some.is at (c.in_ok-line.ensures.gives (c.lines.invariant.source_tells source_tells)) in
     let place = rw c.in-Some.is at c.in_ok-line.ensures.in_place in
-    rw (p.1, p.2) (step_stops (g.K.Sink.tells c.args.out.now) c.in_err-step.field-0.0 _ _ _ _ _ _ _ c.lines.number c.lines.replay c.step.new.self c.in-Some.line _ _
+    rw (p.1, p.2) (step_stops (g.K.Sink.tells c.args.out.now) (λ tree. g.B.Rack.tells c.args.bench.now → IsHeldBy (g.B.Rack.state c.begin.new.bench) tree) c.in_err-step.field-0.0 _ _ _ _ _ _ _ c.lines.number c.lines.replay c.step.new.self c.in-Some.line _ _
     (c.lines.invariant.read source_tells) (c.lines.invariant.going source_tells) (omega (arith, few)) begins place
     c.in_err-step.ensures.cause c.in_err-step.ensures.serves
     (λ sink_tells.
@@ -80,6 +83,7 @@ returns-in_err-step-clause-leaves g c = λ source_tells.
 pub returns-clause-leaves : goal.returns-clause-leaves
 returns-clause-leaves g c = λ source_tells.
     let ends = rw c.in_default.is at (c.in_ok-line.ensures.gives (c.lines.invariant.source_tells source_tells)) in
-    finish_leaves (g.K.Sink.tells c.args.out.now) c.finish.result _ _ _ _ _ c.lines.number c.lines.replay _ _
+    finish_leaves (g.K.Sink.tells c.args.out.now) (λ tree. g.B.Rack.tells c.args.bench.now → IsHeldBy (g.B.Rack.state c.finish.new.bench) tree) c.finish.result _ _ _ _ _ c.lines.number c.lines.replay _ _
     (rw ends.0 at (c.lines.invariant.read source_tells)) ends.1 (λ sink_tells. rw ends.0 at (c.lines.invariant.going source_tells sink_tells)) c.finish.ensures.cause
     (λ sink_tells. c.finish.ensures.finishes (c.lines.invariant.sink_tells sink_tells))
+    (λ sink_tells bench_tells. c.finish.ensures.holds (c.begin.ensures.bench_tells bench_tells) (c.lines.invariant.holds bench_tells))

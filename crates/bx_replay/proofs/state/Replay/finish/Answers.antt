@@ -10,7 +10,7 @@ use Rattle.bx_replay.proofs.state.Replay.finish.Goals as goal
 
 pub returns-in_err-listing-clause-finishes : goal.returns-in_err-listing-clause-finishes
 returns-in_err-listing-clause-finishes g c = λ tells.
-    let p = err_from_is_err_and c.from_residual.result c.from_residual.ensures.1 in
+    let p = err_from_is_err_and c.from_residual-in_err-listing.result c.from_residual-in_err-listing.ensures.1 in
     rw p.1 ([], closing_text [] c.args.self.now.tree, sym (append-nil (g.K.Sink.written c.args.out.now)), refl)
 
 pub returns-in_err-write_all-clause-finishes : goal.returns-in_err-write_all-clause-finishes

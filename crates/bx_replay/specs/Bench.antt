@@ -1,0 +1,10 @@
+-- The disks under a replay: a volume of one device and one area.
+use Rattle.std.specs.Prelude.{◌≡◌}
+use Rattle.bx_disk.specs.Disks.{Image, Disks, IsImage}
+use Rattle.bx_global.specs.Opening.{opening_state}
+use Rattle.bx_model.specs.declared.tree.Tree.{Tree}
+use Rattle.bx_volume.specs.Images.{ImageStandsFor}
+
+-- Each image that a crash now may leave stands for the tree, in the state in which a volume of one node and one device opens.
+pub record IsHeldBy (disks : Disks) (tree : Tree) : Type 0 where
+  pub each : (image : Image) → IsImage disks image → ImageStandsFor disks.sizes (λ image told. told ≡ opening_state 1 1) image tree

@@ -11,6 +11,7 @@ use Rattle.bx_script.specs.declared.line.Line.TheVariants.{Heading, Call, Run}
 use Rattle.bx_script.specs.ScheduleLine.{spelling}
 use Rattle.bx_script.specs.Schedule.{BeginsSchedule, HasPlace, IsSchedule}
 use Rattle.bx_script.proofs.Spelled.{spelling_injective}
+use Rattle.bx_model.specs.declared.tree.Tree.{Tree}
 use Rattle.bx_replay.specs.declared.stop.Reason.{Reason}
 use Rattle.bx_replay.specs.declared.stop.Reason.TheVariants.{Grammar, NotBuilt}
 use Rattle.bx_replay.specs.Headline.{IsBuilt, IsServedLine}
@@ -98,45 +99,49 @@ not_refused : (text : List ℕ) (schedule : List Line) (number : ℕ) (reason : 
 not_refused text schedule number reason is served refused =
     none_refused schedule refused.done refused.others reason (sym is.spelled ∙ refused.read) is.begins is.headed is.few served refused.refused
 
-pub completes : (Tells : Type 0) (stop : Stop) (status : ℕ) (text left old new : List ℕ) (schedule : List Line) (source_before source_now sink_before sink_now : ℕ)
-    → (status ≡ status_of stop) ⊎ ((status_of stop ≡ 2) × (status ≡ 9)) → HasCause stop source_before source_now sink_before sink_now
-    → (Rose source_before source_now → ⊥) → (Rose sink_before sink_now → ⊥) → Leaves Tells (Err stop) text left old new
+pub completes : (Tells : Type 0) (Stands : Tree → Type 0) (stop : Stop) (status : ℕ) (text left old new : List ℕ) (schedule : List Line) (source_before source_now sink_before sink_now bench_before bench_now : ℕ)
+    → (status ≡ status_of stop) ⊎ ((status_of stop ≡ 2) × (status ≡ 9)) → HasCause stop source_before source_now sink_before sink_now bench_before bench_now
+    → (Rose source_before source_now → ⊥) → (Rose sink_before sink_now → ⊥) → (Rose bench_before bench_now → ⊥) → Leaves Tells Stands (Err stop) text left old new
     → IsSchedule (lines_of text) schedule → AllByRecursion IsServedLine schedule → (status ≡ 0) ⊎ (status ≡ 9)
-completes Tells (stops.Refused number reason) status text left old new schedule a b c d told cause no_read no_write leaves is served =
+completes Tells Stands (stops.Refused number reason) status text left old new schedule a b c d e f told cause no_read no_write no_disk leaves is served =
     absurd (not_refused text schedule number reason is served leaves.0)
-completes Tells stops.ReadFault status text left old new schedule a b c d told cause no_read no_write leaves is served = absurd (no_read cause)
-completes Tells stops.WriteFault status text left old new schedule a b c d told cause no_read no_write leaves is served = absurd (no_write cause)
-completes Tells stops.OutOfMemory status text left old new schedule a b c d (inl e) cause no_read no_write leaves is served = inr e
-completes Tells stops.OutOfMemory status text left old new schedule a b c d (inr h) cause no_read no_write leaves is served = inr h.1
+completes Tells Stands stops.ReadFault status text left old new schedule a b c d e f told cause no_read no_write no_disk leaves is served = absurd (no_read cause)
+completes Tells Stands stops.WriteFault status text left old new schedule a b c d e f told cause no_read no_write no_disk leaves is served = absurd (no_write cause)
+completes Tells Stands stops.DiskFault status text left old new schedule a b c d e f told cause no_read no_write no_disk leaves is served = absurd (no_disk cause)
+completes Tells Stands stops.OutOfMemory status text left old new schedule a b c d e f (inl nine) cause no_read no_write no_disk leaves is served = inr nine
+completes Tells Stands stops.OutOfMemory status text left old new schedule a b c d e f (inr h) cause no_read no_write no_disk leaves is served = inr h.1
 
 -- A schedule with a line that is refused isn't replayed to its end.
 pub not_replayed : (text : List ℕ) (number : ℕ) (reason : Reason) → IsServedSchedule text → IsFirstRefused text number reason → ⊥
 not_replayed text number reason input refused = not_refused text input.schedule number reason input.read input.served refused
 
-pub refuses : (stop : Stop) (status source_before source_now sink_before sink_now : ℕ)
-    → (status ≡ status_of stop) ⊎ ((status_of stop ≡ 2) × (status ≡ 9)) → HasCause stop source_before source_now sink_before sink_now
-    → (Rose source_before source_now → ⊥) → (Rose sink_before sink_now → ⊥) → (status ≡ 2) ⊎ (status ≡ 9)
-refuses (stops.Refused number reason) status a b c d (inl e) cause no_read no_write = inl e
-refuses (stops.Refused number reason) status a b c d (inr h) cause no_read no_write = inr h.1
-refuses stops.ReadFault status a b c d told cause no_read no_write = absurd (no_read cause)
-refuses stops.WriteFault status a b c d told cause no_read no_write = absurd (no_write cause)
-refuses stops.OutOfMemory status a b c d (inl e) cause no_read no_write = inr e
-refuses stops.OutOfMemory status a b c d (inr h) cause no_read no_write = inr h.1
+pub refuses : (stop : Stop) (status source_before source_now sink_before sink_now bench_before bench_now : ℕ)
+    → (status ≡ status_of stop) ⊎ ((status_of stop ≡ 2) × (status ≡ 9)) → HasCause stop source_before source_now sink_before sink_now bench_before bench_now
+    → (Rose source_before source_now → ⊥) → (Rose sink_before sink_now → ⊥) → (Rose bench_before bench_now → ⊥) → (status ≡ 2) ⊎ (status ≡ 9)
+refuses (stops.Refused number reason) status a b c d e f (inl two) cause no_read no_write no_disk = inl two
+refuses (stops.Refused number reason) status a b c d e f (inr h) cause no_read no_write no_disk = inr h.1
+refuses stops.ReadFault status a b c d e f told cause no_read no_write no_disk = absurd (no_read cause)
+refuses stops.WriteFault status a b c d e f told cause no_read no_write no_disk = absurd (no_write cause)
+refuses stops.DiskFault status a b c d e f told cause no_read no_write no_disk = absurd (no_disk cause)
+refuses stops.OutOfMemory status a b c d e f (inl nine) cause no_read no_write no_disk = inr nine
+refuses stops.OutOfMemory status a b c d e f (inr h) cause no_read no_write no_disk = inr h.1
 
 -- a status of 2 is that of a refused line
-pub refuses_at : (Source Tells Told : Type 0) (stop : Stop) (status : ℕ) (text left old new err_old err_new : List ℕ) (before now : ℕ)
-    → (status ≡ status_of stop) ⊎ ((status_of stop ≡ 2) × (status ≡ 9)) → (Source → Leaves Tells (Err stop) text left old new)
+pub refuses_at : (Source Tells Told : Type 0) (Stands : Tree → Type 0) (stop : Stop) (status : ℕ) (text left old new err_old err_new : List ℕ) (before now : ℕ)
+    → (status ≡ status_of stop) ⊎ ((status_of stop ≡ 2) × (status ≡ 9)) → (Source → Leaves Tells Stands (Err stop) text left old new)
     → (Told → IsTold err_old err_new before now (if status == 9 then message stops.OutOfMemory else message stop)) → status ≡ 2
     → (number : ℕ) × (reason : Reason) × (Source → IsFirstRefused text number reason × (Tells → Wrote old new (IsRefused text number reason)))
     × (Told → IsTold err_old err_new before now (message (stops.Refused number reason)))
-refuses_at Source Tells Told (stops.Refused number reason) status text left old new err_old err_new before now is leaves told two =
+refuses_at Source Tells Told Stands (stops.Refused number reason) status text left old new err_old err_new before now is leaves told two =
     (number, reason, leaves, λ tells. rw two at (told tells))
-refuses_at Source Tells Told stops.ReadFault status text left old new err_old err_new before now (inl e) leaves told two = absurd (omega (arith, e, two))
-refuses_at Source Tells Told stops.ReadFault status text left old new err_old err_new before now (inr h) leaves told two = absurd (omega (arith, h.1, two))
-refuses_at Source Tells Told stops.WriteFault status text left old new err_old err_new before now (inl e) leaves told two = absurd (omega (arith, e, two))
-refuses_at Source Tells Told stops.WriteFault status text left old new err_old err_new before now (inr h) leaves told two = absurd (omega (arith, h.1, two))
-refuses_at Source Tells Told stops.OutOfMemory status text left old new err_old err_new before now (inl e) leaves told two = absurd (omega (arith, e, two))
-refuses_at Source Tells Told stops.OutOfMemory status text left old new err_old err_new before now (inr h) leaves told two = absurd (omega (arith, h.1, two))
+refuses_at Source Tells Told Stands stops.ReadFault status text left old new err_old err_new before now (inl e) leaves told two = absurd (omega (arith, e, two))
+refuses_at Source Tells Told Stands stops.ReadFault status text left old new err_old err_new before now (inr h) leaves told two = absurd (omega (arith, h.1, two))
+refuses_at Source Tells Told Stands stops.WriteFault status text left old new err_old err_new before now (inl e) leaves told two = absurd (omega (arith, e, two))
+refuses_at Source Tells Told Stands stops.WriteFault status text left old new err_old err_new before now (inr h) leaves told two = absurd (omega (arith, h.1, two))
+refuses_at Source Tells Told Stands stops.DiskFault status text left old new err_old err_new before now (inl e) leaves told two = absurd (omega (arith, e, two))
+refuses_at Source Tells Told Stands stops.DiskFault status text left old new err_old err_new before now (inr h) leaves told two = absurd (omega (arith, h.1, two))
+refuses_at Source Tells Told Stands stops.OutOfMemory status text left old new err_old err_new before now (inl e) leaves told two = absurd (omega (arith, e, two))
+refuses_at Source Tells Told Stands stops.OutOfMemory status text left old new err_old err_new before now (inr h) leaves told two = absurd (omega (arith, h.1, two))
 
 -- a trace before a refused line is a part of a trace, for which there was no memory to tell more
 refused_breaks : (text old new : List ℕ) (number : ℕ) (reason : Reason) → Wrote old new (IsRefused text number reason) → Wrote old new (IsBroken text)
@@ -157,20 +162,23 @@ refused_breaks text old new number reason wrote = record {
   };
 }
 
-not_two : (status : ℕ) → status ≡ 2 → (status ≡ 4) ⊎ (status ≡ 9) → ⊥
+not_two : (status : ℕ) → status ≡ 2 → (status ≡ 4) ⊎ ((status ≡ 5) ⊎ (status ≡ 9)) → ⊥
 not_two status two (inl e) = omega (arith, two, e)
-not_two status two (inr e) = omega (arith, two, e)
+not_two status two (inr (inl e)) = omega (arith, two, e)
+not_two status two (inr (inr e)) = omega (arith, two, e)
 
-not_three : (status : ℕ) → status ≡ 3 → (status ≡ 4) ⊎ (status ≡ 9) → ⊥
+not_three : (status : ℕ) → status ≡ 3 → (status ≡ 4) ⊎ ((status ≡ 5) ⊎ (status ≡ 9)) → ⊥
 not_three status three (inl e) = omega (arith, three, e)
-not_three status three (inr e) = omega (arith, three, e)
+not_three status three (inr (inl e)) = omega (arith, three, e)
+not_three status three (inr (inr e)) = omega (arith, three, e)
 
-pub breaks : (Tells : Type 0) (stop : Stop) (status : ℕ) (text left old new : List ℕ)
-    → (status ≡ status_of stop) ⊎ ((status_of stop ≡ 2) × (status ≡ 9)) → Leaves Tells (Err stop) text left old new → (status ≡ 4) ⊎ (status ≡ 9) → Tells
+pub breaks : (Tells : Type 0) (Stands : Tree → Type 0) (stop : Stop) (status : ℕ) (text left old new : List ℕ)
+    → (status ≡ status_of stop) ⊎ ((status_of stop ≡ 2) × (status ≡ 9)) → Leaves Tells Stands (Err stop) text left old new → (status ≡ 4) ⊎ ((status ≡ 5) ⊎ (status ≡ 9)) → Tells
     → Wrote old new (IsBroken text)
-breaks Tells (stops.Refused number reason) status text left old new (inl e) leaves broken tells = absurd (not_two status e broken)
-breaks Tells (stops.Refused number reason) status text left old new (inr h) leaves broken tells = refused_breaks text old new number reason (leaves.1 tells)
-breaks Tells stops.ReadFault status text left old new (inl e) leaves broken tells = absurd (not_three status e broken)
-breaks Tells stops.ReadFault status text left old new (inr h) leaves broken tells = absurd (omega (arith, h.0))
-breaks Tells stops.WriteFault status text left old new is leaves broken tells = leaves tells
-breaks Tells stops.OutOfMemory status text left old new is leaves broken tells = leaves tells
+breaks Tells Stands (stops.Refused number reason) status text left old new (inl e) leaves broken tells = absurd (not_two status e broken)
+breaks Tells Stands (stops.Refused number reason) status text left old new (inr h) leaves broken tells = refused_breaks text old new number reason (leaves.1 tells)
+breaks Tells Stands stops.ReadFault status text left old new (inl e) leaves broken tells = absurd (not_three status e broken)
+breaks Tells Stands stops.ReadFault status text left old new (inr h) leaves broken tells = absurd (omega (arith, h.0))
+breaks Tells Stands stops.WriteFault status text left old new is leaves broken tells = leaves tells
+breaks Tells Stands stops.DiskFault status text left old new is leaves broken tells = leaves tells
+breaks Tells Stands stops.OutOfMemory status text left old new is leaves broken tells = leaves tells

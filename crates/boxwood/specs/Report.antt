@@ -23,6 +23,7 @@ abbrev pub message : Stop → List ℕ
 message (stops.Refused line reason) = ended (codes "schedule line " ++ decimal line ++ codes ": " ++ reason_text reason)
 message stops.ReadFault = ended (codes "read fault")
 message stops.WriteFault = ended (codes "write fault")
+message stops.DiskFault = ended (codes "disk fault")
 message stops.OutOfMemory = ended (codes "out of memory")
 
 -- The line is behind what was there before; or the sink failed, and it has a part of the line.
@@ -34,11 +35,12 @@ abbrev pub status_of : Stop → ℕ
 status_of (stops.Refused line reason) = 2
 status_of stops.ReadFault = 3
 status_of stops.WriteFault = 4
+status_of stops.DiskFault = 5
 status_of stops.OutOfMemory = 9
 
 -- the exit statuses that there are
 abbrev pub IsStatus : ℕ → Type 0
-IsStatus status = list_any (λ s. s == status) (0 ∷ 1 ∷ 2 ∷ 3 ∷ 4 ∷ 9 ∷ []) ≡ true
+IsStatus status = list_any (λ s. s == status) (0 ∷ 1 ∷ 2 ∷ 3 ∷ 4 ∷ 5 ∷ 9 ∷ []) ≡ true
 
 -- the line that tells a status that has only one
 abbrev pub line_of : ℕ → List ℕ
@@ -46,4 +48,5 @@ line_of status =
     if status == 1 then usage_line
     else if status == 3 then message stops.ReadFault
     else if status == 4 then message stops.WriteFault
+    else if status == 5 then message stops.DiskFault
     else message stops.OutOfMemory

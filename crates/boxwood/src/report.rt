@@ -47,6 +47,10 @@ pub fn report<K: Sink>(alloc: Global, stop: Stop, err: &mut K) -> u8
             tell(err, b"write fault\n");
             4
         }
+        Stop::DiskFault => {
+            tell(err, b"disk fault\n");
+            5
+        }
         Stop::OutOfMemory => {
             tell(err, b"out of memory\n");
             9

@@ -8,43 +8,47 @@ ghost use Rattle.bx_script.specs.declared.line.Line.{Line};
 ghost use Rattle.bx_script.specs.Schedule.{IsSchedule};
 ghost use Rattle.bx_replay.specs.declared.stop.Reason.{Reason};
 ghost use Rattle.bx_replay.specs.declared.stop.Stop.TheVariants as stops;
+ghost use Rattle.bx_replay.specs.Bench.{IsHeldBy};
 ghost use Rattle.bx_replay.specs.Headline.{IsServedLine};
 ghost use Rattle.bx_replay.specs.Outcome.{IsBroken, IsCut, IsCutOff, IsFirstRefused, IsRefused, IsReplayed, IsServedSchedule};
 ghost use Rattle.bx_replay.specs.Replay.{Wrote};
 ghost use Rattle.boxwood.specs.Report.{IsStatus, IsTold, line_of, message};
 
 use crate::report::{report, usage};
+use bx_disk::CrashRack;
 use bx_outside::{Sink, Source};
 use bx_replay::replay;
 use std::alloc::Global;
 
 /// Runs the command that the words spell, and answers its exit status. The one command line is `replay`, which reads a
-/// schedule from `input` and writes its trace to `out`.
+/// schedule from `input` and writes its trace to `out`. The disks of `bench` become a volume, whose images stand for the file tree.
 ///
 /// - 0: done.
 /// - 1: the words are no command line.
 /// - 2: the first line of the schedule that is outside the grammar, or a call that isn't served, was met.
 /// - 3: `input` failed.
 /// - 4: `out` failed.
+/// - 5: `bench` failed while it was shaped and formatted.
 /// - 9: memory ran out.
 ///
 /// Each status but 0 has a line on `err`. A fault of `err` changes no status.
-pub fn boxwood<S: Source, K: Sink>(
+pub fn boxwood<S: Source, K: Sink, B: CrashRack>(
     alloc: Global,
     words: &[String],
     input: &mut S,
     out: &mut K,
     err: &mut K,
+    bench: &mut B,
 ) -> u8
     ensures status { IsStatus result }
 
     // The words are no command line.
     ensures usage { (result ≡ 1) ↔ (map string_bytes words.now ≢ codes "replay" ∷ []) }
-    ensures untouched { result ≡ 1 → (input.new ≡ input.old) × (out.new ≡ out.old) }
+    ensures untouched { result ≡ 1 → (input.new ≡ input.old) × (out.new ≡ out.old) × (bench.new ≡ bench.old) }
 
     // The headline.
     ensures replayed { result ≡ 0 → S.tells input.old → IsServedSchedule (S.left input.old) × (S.left input.new ≡ [])
-        × (K.tells out.old → Wrote (K.written out.old) (K.written out.new) (IsReplayed (S.left input.old))) }
+        × (K.tells out.old → Wrote (K.written out.old) (K.written out.new) (IsReplayed (S.left input.old) (λ tree. B.tells bench.old → IsHeldBy (B.state bench.new) tree))) }
     ensures silent { result ≡ 0 → err.new ≡ err.old }
 
     // The first line that is refused, and the trace of the lines before.
@@ -56,16 +60,17 @@ pub fn boxwood<S: Source, K: Sink>(
     ensures refuses { S.tells input.old → map string_bytes words.now ≡ codes "replay" ∷ []
         → (number : ℕ) (reason : Reason) → IsFirstRefused (S.left input.old) number reason
         → (Rose (S.faults input.old) (S.faults input.new) → ⊥) → (Rose (K.faults out.old) (K.faults out.new) → ⊥)
-        → (result ≡ 2) ⊎ (result ≡ 9) }
+        → (Rose (B.faults bench.old) (B.faults bench.new) → ⊥) → (result ≡ 2) ⊎ (result ≡ 9) }
 
     // A fault of the source, and the trace of the lines before.
     ensures read_fault { result ≡ 3 → Rose (S.faults input.old) (S.faults input.new) }
     ensures cut_off { result ≡ 3 → S.tells input.old → IsCut (S.left input.old) (S.left input.new)
         × (K.tells out.old → Wrote (K.written out.old) (K.written out.new) (IsCutOff (S.left input.old) (S.left input.new))) }
 
-    // A fault of the output, or no memory: a part of a trace.
+    // A fault of the output or of the bench, or no memory: a part of a trace.
     ensures write_fault { result ≡ 4 → Rose (K.faults out.old) (K.faults out.new) }
-    ensures broken { (result ≡ 4) ⊎ (result ≡ 9) → S.tells input.old → K.tells out.old →
+    ensures disk_fault { result ≡ 5 → Rose (B.faults bench.old) (B.faults bench.new) }
+    ensures broken { (result ≡ 4) ⊎ ((result ≡ 5) ⊎ (result ≡ 9)) → S.tells input.old → K.tells out.old →
         Wrote (K.written out.old) (K.written out.new) (IsBroken (S.left input.old)) }
 
     // The line that tells the status.
@@ -75,17 +80,18 @@ pub fn boxwood<S: Source, K: Sink>(
     // The first cause met decides: a fault gives its status and no other, so nothing is tried again after one.
     ensures source_first { result ≢ 3 → S.faults input.new ≡ S.faults input.old }
     ensures sink_first { result ≢ 4 → K.faults out.new ≡ K.faults out.old }
+    ensures bench_first { result ≢ 5 → B.faults bench.new ≡ B.faults bench.old }
 
     // A schedule whose every line is in the grammar and served is done, unless memory runs out.
     ensures complete { S.tells input.old → map string_bytes words.now ≡ codes "replay" ∷ []
         → (schedule : List Line) → IsSchedule (lines_of (S.left input.old)) schedule → AllByRecursion IsServedLine schedule
         → (Rose (S.faults input.old) (S.faults input.new) → ⊥) → (Rose (K.faults out.old) (K.faults out.new) → ⊥)
-        → (result ≡ 0) ⊎ (result ≡ 9) }
+        → (Rose (B.faults bench.old) (B.faults bench.new) → ⊥) → (result ≡ 0) ⊎ (result ≡ 9) }
 {
     if !is_replay(words) {
         return usage(err);
     }
-    match replay(alloc, input, out) {
+    match replay(alloc, input, out, bench) {
         Err(stop) => report(alloc, stop, err),
         Ok(()) => 0,
     }

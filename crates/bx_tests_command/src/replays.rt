@@ -1,6 +1,7 @@
 //! What a replay answers and writes.
 
 use bx_base::OutOfMemory;
+use bx_disk::MemRack;
 use bx_outside::{MemSink, MemSource};
 use bx_replay::{Reason, Stop, replay};
 use std::alloc::Global;
@@ -46,17 +47,18 @@ const GARBAGE: &str =
 const GARBAGE_TRACE: &str =
     "took 1 0 5 000000010000000000000002000186a3000000020000001100000000000000000000000000000000\npoint 1 0 8 0000000000000000\nreply 1 000000010000000100000000000000000000000000000004\n";
 
-/// Whether a replay, with these calls of the source and of the sink failing, answers this and writes one text, then the other.
+/// Whether a replay, with these calls of the source, of the sink and of the bench failing, answers this and writes one text, then the other.
 fn comes_to(
     alloc: Global,
     schedule: &str,
-    faults: (u64, u64),
+    faults: (u64, u64, u64),
     want: Result<(), Stop>,
     texts: (&str, &str),
 ) -> Result<bool, OutOfMemory> {
     let mut source = MemSource::new(alloc, schedule.as_bytes(), &[faults.0])?;
     let mut sink = MemSink::new(alloc, &[faults.1])?;
-    let answer = replay(alloc, &mut source, &mut sink);
+    let mut bench = MemRack::new(alloc, &[], &[faults.2])?;
+    let answer = replay(alloc, &mut source, &mut sink, &mut bench);
     let rest = sink.bytes().strip_prefix(texts.0.as_bytes());
     Ok(answer == want && rest == Some(texts.1.as_bytes()))
 }
@@ -76,7 +78,7 @@ fn a_call_is_answered(rt: HostRuntime) -> Result<(), Fail> {
         ("boxwood 1 7 1 1 1", ""),
     ] {
         assert!(rt;
-            comes_to(rt.alloc(), schedule, (0, 0), Ok(()), (trace, CLOSING))?,
+            comes_to(rt.alloc(), schedule, (0, 0, 0), Ok(()), (trace, CLOSING))?,
             "{schedule}"
         );
     }
@@ -103,7 +105,7 @@ fn a_line_is_refused(rt: HostRuntime) -> Result<(), Fail> {
     ] {
         let stop = Err(Stop::Refused(line, reason));
         assert!(rt;
-            comes_to(rt.alloc(), schedule, (0, 0), stop, (trace, ""))?,
+            comes_to(rt.alloc(), schedule, (0, 0, 0), stop, (trace, ""))?,
             "{schedule}"
         );
     }
@@ -113,10 +115,13 @@ fn a_line_is_refused(rt: HostRuntime) -> Result<(), Fail> {
 #[test]
 fn a_fault_stops_a_replay(rt: HostRuntime) -> Result<(), Fail> {
     for (faults, stop, trace) in [
-        ((1, 0), Stop::ReadFault, ""),
-        ((2, 0), Stop::ReadFault, NULL_TRACE),
-        ((0, 1), Stop::WriteFault, ""),
-        ((0, 2), Stop::WriteFault, NULL_TRACE),
+        ((1, 0, 0), Stop::ReadFault, ""),
+        ((2, 0, 0), Stop::ReadFault, NULL_TRACE),
+        ((0, 1, 0), Stop::WriteFault, ""),
+        ((0, 2, 0), Stop::WriteFault, NULL_TRACE),
+        ((0, 0, 1), Stop::DiskFault, ""),
+        ((0, 0, 22), Stop::DiskFault, ""),
+        ((0, 2, 22), Stop::DiskFault, ""),
     ] {
         assert!(rt; comes_to(rt.alloc(), NULL, faults, Err(stop), (trace, ""))?);
     }

@@ -11,3 +11,6 @@ returns-in-ReadFault-clause-told g c = λ tells. rw c.in-ReadFault.is (c.tell-in
 
 pub returns-in-WriteFault-clause-told : goal.returns-in-WriteFault-clause-told
 returns-in-WriteFault-clause-told g c = λ tells. rw c.in-WriteFault.is (c.tell-in-WriteFault.ensures tells)
+
+pub returns-in-DiskFault-clause-told : goal.returns-in-DiskFault-clause-told
+returns-in-DiskFault-clause-told g c = λ tells. rw c.in-DiskFault.is (c.tell-in-DiskFault.ensures tells)

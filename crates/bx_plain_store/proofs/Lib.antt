@@ -1,4 +1,4 @@
-mod Labelling
-mod Reading
-mod Serving
-mod Standing
+pub mod Labelling
+pub mod Reading
+pub mod Serving
+pub mod Standing

@@ -9,7 +9,7 @@ ghost use Rattle.bx_facts.specs.Writes.{IsDone, IsOver, IsSettled, Sent};
 ghost use Rattle.bx_global.specs.declared.state.GlobalState.{GlobalState};
 ghost use Rattle.bx_records.specs.declared.runs.Run.{Run};
 ghost use Rattle.bx_members.specs.Members.{KeepsMembers, HasMembers};
-ghost use Rattle.bx_plain_store.specs.Out.{AreApart, AreWritten, IsFitting, IsFree, at, out_at, out_in, outs, sent_of};
+ghost use Rattle.bx_plain_store.specs.Out.{AreApart, AreWritten, IsFitting, IsFree, KeepsReplicas, at, out_at, out_in, outs, sent_of};
 ghost use Rattle.bx_plain_store.specs.declared.writes.Write.{Write};
 
 use crate::runs::{put_runs, sync_members};
@@ -57,6 +57,7 @@ pub fn serve<R: Rack>(
     ensures written { (writes : List Sent) (write : Write) → R.tells rack.old → IsFree writes greatest slot.old → slot.old ≡ Some write → (IsOver greatest (sent_of write) → ⊥) → OnOk result (AreWritten (R.state rack.new) write.runs (length write.runs)) }
     ensures out { (out_in slot.new ≡ None) ⊎ (out_in slot.new ≡ out_in slot.old) }
     ensures stays_out { OnErr result (out_in slot.new ≡ out_in slot.old) }
+    ensures replicas { R.tells rack.old → KeepsReplicas (R.state rack.old) (R.state rack.new) }
     ensures cause { IsErrOf result Fault → Rose (R.faults rack.old) (R.faults rack.new) }
     ensures later { NoneFalls (R.faults rack.old) (R.faults rack.new) (R.faults_of rack.old) (R.faults_of rack.new) }
     ensures sizes { (R.state rack.new).sizes ≡ (R.state rack.old).sizes }
@@ -95,6 +96,7 @@ pub fn serve_all<R: Rack>(
     ensures written { (node : ℕ) (write : Write) → R.tells rack.old → AreApart greatest slots.old.items → at slots.old.items node ≡ Some write → (IsOver greatest (sent_of write) → ⊥) → OnOk result (AreWritten (R.state rack.new) write.runs (length write.runs)) }
     ensures out { (node : ℕ) → (out_at slots.new.items node ≡ None) ⊎ (out_at slots.new.items node ≡ out_at slots.old.items node) }
     ensures long { length slots.new.items ≡ length slots.old.items }
+    ensures replicas { R.tells rack.old → KeepsReplicas (R.state rack.old) (R.state rack.new) }
     ensures cause { IsErrOf result Fault → Rose (R.faults rack.old) (R.faults rack.new) }
     ensures later { NoneFalls (R.faults rack.old) (R.faults rack.new) (R.faults_of rack.old) (R.faults_of rack.new) }
     ensures sizes { (R.state rack.new).sizes ≡ (R.state rack.old).sizes }

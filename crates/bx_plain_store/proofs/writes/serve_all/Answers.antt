@@ -5,6 +5,7 @@ use Rattle.bx_facts.specs.Writes.{IsDone, IsOver, IsSettled}
 use Rattle.bx_members.proofs.Kept.{keeps_then, leaves_next}
 use Rattle.bx_plain_store.specs.declared.writes.Write.{Write}
 use Rattle.bx_plain_store.specs.Out.{IsFitting, at, out_in, outs, sent_of}
+use Rattle.bx_plain_store.proofs.Replicas.{replicas_then}
 use Rattle.bx_plain_store.proofs.Standing.{written_kept}
 use Rattle.bx_plain_store.proofs.Serving.{alone_of, at_got, at_within, by_place, done_kept, free_of, new_fact, new_out, new_rest, set_each}
 use Rattle.bx_plain_store.proofs.writes.serve_all.Goals as goal
@@ -104,6 +105,7 @@ loop-i-preserved g c =
           by_place node c.loop-i.i low
           (λ same. c.in_ok-serve.ensures.written ws write (inv.tells tells) free (before ∙ ap (at c.args.slots.now.items) (sym same) ∙ here) not_over)
           (λ below. written_kept ws c.args.greatest (sent_of write) _ x (alone_of c.args.slots.now.items c.args.greatest node (sent_of write) apart (ap out_in here) not_over) kept (inv.written node write below tells apart here not_over));
+      replicas = λ tells. replicas_then _ _ _ (inv.replicas tells) (c.serve.ensures.replicas (inv.tells tells));
       later = grind arith;
       sizes = grind arith;
       tells = λ tells. c.serve.ensures.keeps_telling (inv.tells tells);
@@ -123,3 +125,6 @@ pub returns-clause-written : goal.returns-clause-written
 returns-clause-written g c = λ node write tells apart here.
     let less = at_within c.args.slots.now.items node write here in
     c.loop-i.invariant.written node write (omega (arith, less, c.loop-i-test.false, c.len-i-end.ensures)) tells apart here
+
+pub returns-in_err-serve-clause-replicas : goal.returns-in_err-serve-clause-replicas
+returns-in_err-serve-clause-replicas g c = λ tells. replicas_then _ _ _ (c.loop-i.invariant.replicas tells) (c.serve.ensures.replicas (c.loop-i.invariant.tells tells))

@@ -4,7 +4,7 @@ use Rattle.bx_calls.specs.Calls.{LeavesOnly}
 use Rattle.bx_facts.specs.Writes.{IsDone, IsOver, IsSettled, Sent}
 use Rattle.bx_global.specs.declared.state.GlobalState.{GlobalState}
 use Rattle.bx_members.specs.Members.{KeepsMembers, HasMembers}
-use Rattle.bx_plain_store.specs.Out.{AreApart, AreWritten, at, out_at, outs, sent_of}
+use Rattle.bx_plain_store.specs.Out.{AreApart, AreWritten, KeepsReplicas, at, out_at, outs, sent_of}
 use Rattle.bx_plain_store.specs.declared.writes.Write.{Write}
 use Rattle.bx_plain_store.proofs.writes.serve_all.Given as goal
 
@@ -20,6 +20,7 @@ invariant-loop-i g l = record {
   second : (node : ℕ) (write : Write) → node < l.i → at l.fn.slots.items node ≡ Some write → (IsOver l.greatest (sent_of write) → ⊥) → write.is_written ≡ true → at l.slots.items node ≡ None;
   written : (node : ℕ) (write : Write) → node < l.i → g.R.Rack.tells l.fn.rack → AreApart l.greatest l.fn.slots.items → at l.fn.slots.items node ≡ Some write → (IsOver l.greatest (sent_of write) → ⊥) → AreWritten (g.R.Rack.state l.rack) write.runs (length write.runs);
   out : (node : ℕ) → (out_at l.slots.items node ≡ None) ⊎ (out_at l.slots.items node ≡ out_at l.fn.slots.items node);
+  replicas : g.R.Rack.tells l.fn.rack → KeepsReplicas (g.R.Rack.state l.fn.rack) (g.R.Rack.state l.rack);
   later : NoneFalls (g.R.Rack.faults l.fn.rack) (g.R.Rack.faults l.rack) (g.R.Rack.faults_of l.fn.rack) (g.R.Rack.faults_of l.rack);
   sizes : (g.R.Rack.state l.rack).sizes ≡ (g.R.Rack.state l.fn.rack).sizes;
   tells : g.R.Rack.tells l.fn.rack → g.R.Rack.tells l.rack;

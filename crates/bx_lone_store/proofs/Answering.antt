@@ -39,3 +39,8 @@ asked_within inquiries node asks is = by_slot (at inquiries node) refl is
     by_slot : (slot : Option Inquiry) → at inquiries node ≡ slot → asked_in slot ≡ Some asks → node < length inquiries
     by_slot None same asked = absurd cc
     by_slot (Some inquiry) same asked = at_within inquiries node inquiry same
+
+-- something is read where an inquiry is there
+pub is_asked : (slot : Option Inquiry) → is_some slot ≡ is_some (asked_in slot)
+is_asked None = refl
+is_asked (Some inquiry) = refl

@@ -4,7 +4,6 @@ ghost use Rattle.std.specs.Prelude.{◌≡◌, ◌≢◌, ℕ, ◌<◌, None, So
 ghost use Rattle.bx_plain_store.specs.Out.{at};
 
 use bx_base::{List, OutOfMemory, Raw};
-use bx_plain_store::Write;
 use bx_records::{Run, Runs};
 use std::alloc::Global;
 
@@ -61,12 +60,22 @@ pub(crate) fn put_down(down: &mut Vec<bool>, member: u32, is_down: bool)
     }
 }
 
-/// Whether a node has a write out.
-pub(crate) fn is_out(slots: &[Option<Write>], place: usize) -> bool
-    ensures { result ≡ is_some (at slots.now place) }
+/// Whether something is there for a node.
+pub(crate) fn is_there<T>(all: &[Option<T>], place: usize) -> bool
+    ensures { result ≡ is_some (at all.now place) }
 {
-    if place >= slots.len() {
+    if place >= all.len() {
         return false;
     }
-    slots[place].is_some()
+    all[place].is_some()
+}
+
+/// The session of a node, where it has one.
+pub(crate) fn find_session(owns: &[Option<u64>], place: usize) -> Option<u64>
+    ensures { result ≡ at owns.now place }
+{
+    if place >= owns.len() {
+        return None;
+    }
+    owns[place]
 }

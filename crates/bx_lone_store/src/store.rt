@@ -1,13 +1,14 @@
 //! A store on one machine.
 
-ghost use Rattle.std.specs.Prelude.{◌≡◌, ℕ, ◌*◌, ◌<◌, ◌≤◌, IfOk, List, Option, Some, false, slice_get};
+ghost use Rattle.std.specs.Prelude.{◌≡◌, ℕ, ◌*◌, ◌<◌, ◌≤◌, IfOk, List, None, Option, Some, false, is_some, slice_get};
 ghost use Rattle.bx_facts.specs.Writes.{Made};
 ghost use Rattle.bx_lone_store.specs.Fits.{IsNew};
-ghost use Rattle.bx_lone_store.specs.Parts.{IsShape, made_of};
+ghost use Rattle.bx_plain_store.specs.Out.{at};
+ghost use Rattle.bx_lone_store.specs.Parts.{IsShape, asked_at, made_of};
 
 use crate::greatest::{heard, later};
 use crate::inquiries::{Inquiry, take_answer};
-use crate::parts::{copied, is_out, nothing, put_down, session_at};
+use crate::parts::{copied, find_session, is_there, nothing, put_down, session_at};
 use crate::sessions::{any_session, meet_session, put_session};
 use crate::syncs::sync_all;
 use crate::waiting::{is_all_up, is_any_due, is_any_unanswered, is_time};
@@ -54,6 +55,7 @@ impl PlainStore {
         ensures made { IfOk result (λ store. made_of store.volume store.nodes store.devices store.areas ≡ made_of volume nodes devices areas) }
         ensures new { IfOk result (λ store. IsNew store.greatest store.owns.items store.slots.items store.inquiries.items) }
         ensures up { (member : ℕ) → member < 2 * devices → IfOk result (λ store. slice_get store.down.items member ≡ Some false) }
+        ensures no_more { (member : ℕ) → 2 * devices ≤ member → IfOk result (λ store. slice_get store.down.items member ≡ None) }
     {
         let members = 2 * devices as usize;
         Ok(PlainStore {
@@ -69,21 +71,35 @@ impl PlainStore {
             down: vec![in alloc; false; members].map_err(OutOfMemory::from)?,
         })
     }
+
+    /// The session that a node has. It takes no memory.
+    pub fn session(&self, node: u32) -> Option<u64>
+        ensures { result ≡ at self.now.owns.items node }
+    {
+        find_session(&self.owns, node as usize)
+    }
+
+    /// Whether a node's read is out, or its answer wasn't taken yet. It takes no memory.
+    pub fn is_reading(&self, node: u32) -> bool
+        ensures { result ≡ is_some (asked_at self.now.inquiries.items node) }
+    {
+        is_there(&self.inquiries, node as usize)
+    }
 }
 
 impl Store for PlainStore {
-    ghost use Rattle.std.specs.Prelude.{◌+◌, true, None, refl};
+    ghost use Rattle.std.specs.Prelude.{◌+◌, true, refl};
     ghost use Rattle.std.proofs.Common.{sym, subst};
     ghost use Rattle.bx_disk.specs.Disks.{Disks, blanked};
     ghost use Rattle.bx_global.specs.declared.change.Change.{Change};
     ghost use Rattle.bx_facts.specs.Chains.{last};
     ghost use Rattle.bx_facts.specs.Writes.{IsSettled, StorePast, member_disk};
-    ghost use Rattle.bx_plain_store.specs.Out.{at, out_at};
+    ghost use Rattle.bx_plain_store.specs.Out.{out_at};
     ghost use Rattle.bx_lone_store.specs.Fits.{Keeps, WillRead};
     ghost use Rattle.bx_lone_store.specs.Growing.{keeps_grown, keeps_letters, keeps_new, keeps_sure, keeps_without};
     ghost use Rattle.bx_lone_store.specs.Laws.{goes_grown, goes_same, goes_sure, sure_elsewhere, sure_replaced, sure_survives};
     ghost use Rattle.bx_lone_store.specs.Needs.{needs_little, needs_none};
-    ghost use Rattle.bx_lone_store.specs.Parts.{answer_at, asked_at};
+    ghost use Rattle.bx_lone_store.specs.Parts.{answer_at};
     ghost use Rattle.bx_lone_store.specs.Waiting.{needs_of, owes_in};
 
     ghost is_separate = { ⊥ };
@@ -134,7 +150,7 @@ impl Store for PlainStore {
     }
 
     fn done(&self, node: u32) -> bool {
-        !is_out(&self.slots, node as usize)
+        !is_there(&self.slots, node as usize)
     }
 
     fn read(

@@ -1,4 +1,5 @@
-mod Labelling
-mod Reading
-mod Serving
-mod Standing
+pub mod Labelling
+pub mod Reading
+pub mod Replicas
+pub mod Serving
+pub mod Standing

@@ -81,6 +81,32 @@ at_got [] i v less is = absurd (omega (arith, less))
 at_got (x ∷ xs) zero v less is = is
 at_got (x ∷ xs) (suc i) v less is = at_got xs i v (omega (arith, less)) is
 
+-- what holds of the place that is set, and of all others, holds of each
+pub set_each : {X : Type 0} → (P : ℕ → Option X → Type 0) (xs : List (Option X)) (i : ℕ) (v : Option X) → i < length xs → P i v → ((node : ℕ) → node ≢ i → P node (at xs node)) → (node : ℕ) → P node (at (set xs i v) node)
+set_each P xs i v less here beside node = by_node (node == i) refl
+  where
+    by_node : (b : Bool) → (node == i) ≡ b → P node (at (set xs i v) node)
+    by_node true is =
+        let same : i ≡ node = grind (arith, nat_tests, is) in
+        subst (λ (n : ℕ). P n (at (set xs i v) n)) same (subst (P i) (sym (at_here xs i v less)) here)
+    by_node false not_is =
+        let other : node ≢ i = grind (arith, nat_tests, not_is) in
+        subst (P node) (sym (at_beside xs i node v other)) (beside node other)
+
+-- a place up to one is that one, or below it
+pub by_place : {P : Type 0} → (node i : ℕ) → node < i + 1 → (node ≡ i → P) → (node < i → P) → P
+by_place {P} node i low same below = by_test (node == i) refl
+  where
+    by_test : (b : Bool) → (node == i) ≡ b → P
+    by_test true is = same (grind (arith, nat_tests, is))
+    by_test false not_is = below (grind (arith, nat_tests, not_is, low))
+
+-- a place that has something lies within the list
+pub at_within : {X : Type 0} → (xs : List (Option X)) (node : ℕ) (x : X) → at xs node ≡ Some x → node < length xs
+at_within [] node x is = absurd cc
+at_within (y ∷ xs) zero x is = omega arith
+at_within (y ∷ xs) (suc node) x is = let less = at_within xs node x is in omega (arith, less)
+
 -- one slot after the other is served
 module _ (old now : List (Option Write)) (i : ℕ) (slot new : Option Write) (less : i < length now) (is : slot ≡ at now i) (rest : (j : ℕ) → i ≤ j → at now j ≡ at old j) where
   pub was : slot ≡ at old i

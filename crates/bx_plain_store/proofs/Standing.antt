@@ -86,6 +86,19 @@ none_past xs i none less = ⊎_elim
     (λ past. let far = past.0 in absurd (omega (arith, far, less)))
     (slice_get_cases xs i).1
 
+-- what both members read of a write that is alone, they go on reading
+pub written_kept : (writes : List Sent) (greatest : ℕ) (write : Sent) (old new : Disks) → IsAlone writes greatest write → KeepsMembers writes greatest old new
+    → AreWritten old write.runs (length write.runs) → AreWritten new write.runs (length write.runs)
+written_kept writes greatest write old new alone keeps was = record {
+  each = λ j run device sector content second less at brings.
+      keeps.reads device sector second content (alone.only device sector content (run, there_at write.runs j run at, brings)) (was.each j run device sector content second less at brings);
+}
+
+pub written_same : (runs : List Run) (count : ℕ) (old new : Disks) → SameDisks old new → AreWritten old runs count → AreWritten new runs count
+written_same runs count old new same was = record {
+  each = λ j run device sector content second less at brings. (same.each (member_disk device second) sector).reads ∙ was.each j run device sector content second less at brings;
+}
+
 -- nothing was written yet
 pub written_none : (x : Disks) (runs : List Run) → AreWritten x runs 0
 written_none x runs = record { each = λ j run device sector content second less at brings. absurd (omega (arith, less)) }

@@ -1,6 +1,7 @@
 -- Writes that are out, and how they lie on the disks of members.
 use Rattle.std.specs.Prelude.{◌≡◌, ◌≢◌, ◌⊎◌, ℕ, zero, suc, [], ◌∷◌, ◌+◌, ◌*◌, ◌/◌, ◌%◌, ◌<◌, ◌≤◌, Bool, List, Contains, length, Option, Some, None, option_map, slice_get, slice_index}
 use Rattle.bx_disk.specs.Disks.{Disks}
+use Rattle.bx_facts.specs.Disks.{IsKept}
 use Rattle.bx_facts.specs.Writes.{IsOnly, IsOver, Sent, Writes, WritesTo, member_disk}
 use Rattle.bx_records.specs.declared.runs.Run.{Run}
 use Rattle.bx_plain_store.specs.declared.writes.Write.{Write}
@@ -56,3 +57,7 @@ pub record AreApart (greatest : ℕ) (slots : List (Option Write)) : Type 0 wher
   pub nodes : (node other : ℕ) (w v : Sent) (device sector : ℕ) (content also : List ℕ) → node ≢ other → out_at slots node ≡ Some w → out_at slots other ≡ Some v
       → WritesTo w device sector content → WritesTo v device sector also → IsOver greatest w ⊎ IsOver greatest v
   pub once : (node : ℕ) (w : Sent) (device sector : ℕ) (content also : List ℕ) → out_at slots node ≡ Some w → WritesTo w device sector content → WritesTo w device sector also → also ≡ content
+
+-- The disks of replicas are kept.
+pub record KeepsReplicas (old new : Disks) : Type 0 where
+  pub each : (d sector : ℕ) → d < 3 → IsKept old new d sector

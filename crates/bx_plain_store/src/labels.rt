@@ -9,6 +9,7 @@ ghost use Rattle.bx_global.specs.declared.state.GlobalState.{GlobalState};
 ghost use Rattle.bx_layout.specs.Labels.{IsLabel, SpellsLabel};
 ghost use Rattle.bx_layout.specs.declared.label.Label.{Label};
 ghost use Rattle.bx_facts.specs.Writes.{HasLabels, Made};
+ghost use Rattle.bx_plain_store.specs.Out.{KeepsReplicas};
 ghost use Rattle.bx_plain_store.specs.Sources.{HasSources, KeepsSources};
 
 use bx_calls::{read_sectors, sync_disk, write_some};
@@ -26,6 +27,7 @@ pub fn label_member<R: Rack>(rack: &mut R, disk: u32, label: &Label) -> Result<(
     ensures old_label { (other : Label) → R.tells rack.old → SpellsLabel other ((R.state rack.old).reads disk 0) → OnOk result (SpellsLabel other ((R.state rack.new).reads disk 0)) }
     ensures keeps { (made : Made) (s : GlobalState) → R.tells rack.old → HasLabels made (R.state rack.old) s → KeepsSources s (R.state rack.old) (R.state rack.new) }
     ensures any_moment { (made : Made) (s : GlobalState) → R.tells rack.old → HasLabels made (R.state rack.old) s → LeavesOnly (R.moment rack.old) (R.moment rack.new) (R.left_since rack.old) (R.left_since rack.new) (HasSources s (R.state rack.old)) }
+    ensures replicas { R.tells rack.old → KeepsReplicas (R.state rack.old) (R.state rack.new) }
     ensures cause { IsErrOf result Fault → Rose (R.faults rack.old) (R.faults rack.new) }
     ensures later { NoneFalls (R.faults rack.old) (R.faults rack.new) (R.faults_of rack.old) (R.faults_of rack.new) }
     ensures sizes { (R.state rack.new).sizes ≡ (R.state rack.old).sizes }

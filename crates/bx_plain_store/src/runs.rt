@@ -9,7 +9,7 @@ ghost use Rattle.bx_facts.specs.Disks.{SameDisks};
 ghost use Rattle.bx_facts.specs.Writes.{Sent, member_disk};
 ghost use Rattle.bx_records.specs.declared.runs.Run.{Run};
 ghost use Rattle.bx_members.specs.Members.{KeepsMembers, HasMembers};
-ghost use Rattle.bx_plain_store.specs.Out.{AreWritten, IsAlone, IsFitting};
+ghost use Rattle.bx_plain_store.specs.Out.{AreWritten, IsAlone, IsFitting, KeepsReplicas};
 
 use bx_base::List;
 use bx_disk::{DiskFault, Rack, RackError};
@@ -26,6 +26,7 @@ pub(crate) fn put_runs<R: Rack>(
     ensures written { (writes : List Sent) (greatest : ℕ) (write : Sent) → R.tells rack.old → IsAlone writes greatest write → write.runs ≡ runs.now → OnOk result (AreWritten (R.state rack.new) runs.now (length runs.now)) }
     ensures keeps { (writes : List Sent) (greatest : ℕ) (write : Sent) → R.tells rack.old → IsAlone writes greatest write → write.runs ≡ runs.now → KeepsMembers writes greatest (R.state rack.old) (R.state rack.new) }
     ensures any_moment { (writes : List Sent) (greatest : ℕ) (write : Sent) → R.tells rack.old → IsAlone writes greatest write → write.runs ≡ runs.now → LeavesOnly (R.moment rack.old) (R.moment rack.new) (R.left_since rack.old) (R.left_since rack.new) (HasMembers writes greatest (R.state rack.old)) }
+    ensures replicas { R.tells rack.old → KeepsReplicas (R.state rack.old) (R.state rack.new) }
     ensures cause { IsErrOf result Fault → Rose (R.faults rack.old) (R.faults rack.new) }
     ensures later { NoneFalls (R.faults rack.old) (R.faults rack.new) (R.faults_of rack.old) (R.faults_of rack.new) }
     ensures sizes { (R.state rack.new).sizes ≡ (R.state rack.old).sizes }

@@ -9,7 +9,7 @@ ghost use Rattle.bx_facts.specs.Writes.{IsDone, IsOver, IsSettled, Sent};
 ghost use Rattle.bx_global.specs.declared.state.GlobalState.{GlobalState};
 ghost use Rattle.bx_records.specs.declared.runs.Run.{Run};
 ghost use Rattle.bx_members.specs.Members.{KeepsMembers, HasMembers};
-ghost use Rattle.bx_plain_store.specs.Out.{AreApart, IsFitting, IsFree, at, out_at, out_in, outs, sent_of};
+ghost use Rattle.bx_plain_store.specs.Out.{AreApart, AreWritten, IsFitting, IsFree, KeepsReplicas, at, out_at, out_in, outs, sent_of};
 ghost use Rattle.bx_plain_store.specs.declared.writes.Write.{Write};
 
 use crate::runs::{put_runs, sync_members};
@@ -52,9 +52,12 @@ pub fn serve<R: Rack>(
     ensures any_moment { (writes : List Sent) → R.tells rack.old → IsFree writes greatest slot.old → LeavesOnly (R.moment rack.old) (R.moment rack.new) (R.left_since rack.old) (R.left_since rack.new) (HasMembers writes greatest (R.state rack.old)) }
     ensures not_over { (sent : Sent) → out_in slot.old ≡ Some sent → out_in slot.new ≡ None → IsOver greatest sent → ⊥ }
     ensures done { (writes : List Sent) (sent : Sent) (s : GlobalState) → R.tells rack.old → IsFree writes greatest slot.old → out_in slot.old ≡ Some sent → out_in slot.new ≡ None → length s.devices ≡ devices → OnOk result (IsDone (λ device sector content index. IsSettled (R.state rack.new) s device sector content) 0 sent) }
+    ensures first { (write : Write) → slot.old ≡ Some write → (IsOver greatest (sent_of write) → ⊥) → write.is_written ≡ false → OnOk result (slot.new ≡ Some (record write { is_written = true })) }
     ensures second { (write : Write) → slot.old ≡ Some write → (IsOver greatest (sent_of write) → ⊥) → write.is_written ≡ true → OnOk result (slot.new ≡ None) }
+    ensures written { (writes : List Sent) (write : Write) → R.tells rack.old → IsFree writes greatest slot.old → slot.old ≡ Some write → (IsOver greatest (sent_of write) → ⊥) → OnOk result (AreWritten (R.state rack.new) write.runs (length write.runs)) }
     ensures out { (out_in slot.new ≡ None) ⊎ (out_in slot.new ≡ out_in slot.old) }
     ensures stays_out { OnErr result (out_in slot.new ≡ out_in slot.old) }
+    ensures replicas { R.tells rack.old → KeepsReplicas (R.state rack.old) (R.state rack.new) }
     ensures cause { IsErrOf result Fault → Rose (R.faults rack.old) (R.faults rack.new) }
     ensures later { NoneFalls (R.faults rack.old) (R.faults rack.new) (R.faults_of rack.old) (R.faults_of rack.new) }
     ensures sizes { (R.state rack.new).sizes ≡ (R.state rack.old).sizes }
@@ -88,8 +91,12 @@ pub fn serve_all<R: Rack>(
     ensures keeps { R.tells rack.old → AreApart greatest slots.old.items → KeepsMembers (outs slots.old.items) greatest (R.state rack.old) (R.state rack.new) }
     ensures any_moment { R.tells rack.old → AreApart greatest slots.old.items → LeavesOnly (R.moment rack.old) (R.moment rack.new) (R.left_since rack.old) (R.left_since rack.new) (HasMembers (outs slots.old.items) greatest (R.state rack.old)) }
     ensures done { (node : ℕ) (sent : Sent) (s : GlobalState) → R.tells rack.old → AreApart greatest slots.old.items → out_at slots.old.items node ≡ Some sent → out_at slots.new.items node ≡ None → length s.devices ≡ devices → IsDone (λ device sector content index. IsSettled (R.state rack.new) s device sector content) 0 sent }
+    ensures first { (node : ℕ) (write : Write) → at slots.old.items node ≡ Some write → (IsOver greatest (sent_of write) → ⊥) → write.is_written ≡ false → OnOk result (at slots.new.items node ≡ Some (record write { is_written = true })) }
+    ensures second { (node : ℕ) (write : Write) → at slots.old.items node ≡ Some write → (IsOver greatest (sent_of write) → ⊥) → write.is_written ≡ true → OnOk result (at slots.new.items node ≡ None) }
+    ensures written { (node : ℕ) (write : Write) → R.tells rack.old → AreApart greatest slots.old.items → at slots.old.items node ≡ Some write → (IsOver greatest (sent_of write) → ⊥) → OnOk result (AreWritten (R.state rack.new) write.runs (length write.runs)) }
     ensures out { (node : ℕ) → (out_at slots.new.items node ≡ None) ⊎ (out_at slots.new.items node ≡ out_at slots.old.items node) }
     ensures long { length slots.new.items ≡ length slots.old.items }
+    ensures replicas { R.tells rack.old → KeepsReplicas (R.state rack.old) (R.state rack.new) }
     ensures cause { IsErrOf result Fault → Rose (R.faults rack.old) (R.faults rack.new) }
     ensures later { NoneFalls (R.faults rack.old) (R.faults rack.new) (R.faults_of rack.old) (R.faults_of rack.new) }
     ensures sizes { (R.state rack.new).sizes ≡ (R.state rack.old).sizes }

@@ -4,6 +4,7 @@ use Rattle.bx_calls.specs.Calls.{HasSure, KeepsSure, LeavesOnly}
 use Rattle.bx_layout.specs.Labels.{SpellsLabel}
 use Rattle.bx_members.proofs.Kept.{first_sector}
 use Rattle.bx_plain_store.proofs.Labelling.{keeps_all, keeps_written, leaves_image, leaves_next, leaves_written, no_label, same_state, sources_then}
+use Rattle.bx_plain_store.proofs.Replicas.{replicas_all, replicas_state, replicas_sure, replicas_then}
 use Rattle.bx_plain_store.proofs.labels.label_member.Goals as goal
 
 pub returns-in-Some-clause-label : goal.returns-in-Some-clause-label
@@ -89,3 +90,20 @@ returns-clause-any_moment g c = λ made s tells labels.
     (leaves_written _ _ _ _ made s x c.args.disk _ c.requires.member labels without
     (subst (λ (z : Disks). LeavesOnly (g.R.Rack.moment c.read_sectors.new.rack) (g.R.Rack.moment c.write_some.new.rack) (g.R.Rack.left_since c.read_sectors.new.rack) (g.R.Rack.left_since c.write_some.new.rack) (HasSure z c.args.disk 0 (length c.write.new.into / 512))) (c.read_sectors.ensures.stays tells) (c.write_some.ensures.any_moment told))))
     kept (leaves_image _ _ _ _ s y (c.sync_disk-2.ensures.any_moment (c.write_some.ensures.keeps_telling told)))
+
+pub returns-in_err-write_some-clause-replicas : goal.returns-in_err-write_some-clause-replicas
+returns-in_err-write_some-clause-replicas g c = λ tells.
+    let told = c.read_sectors.ensures.keeps_telling tells in
+    replicas_then _ _ _ (replicas_state _ _ (c.read_sectors.ensures.stays tells)) (replicas_sure _ _ c.args.disk 0 _ c.requires.member (c.write_some.ensures.keeps told))
+
+pub returns-in_err-sync_disk-2-clause-replicas : goal.returns-in_err-sync_disk-2-clause-replicas
+returns-in_err-sync_disk-2-clause-replicas g c = λ tells.
+    let told = c.read_sectors.ensures.keeps_telling tells in
+    replicas_then _ _ _ (replicas_then _ _ _ (replicas_state _ _ (c.read_sectors.ensures.stays tells)) (replicas_sure _ _ c.args.disk 0 _ c.requires.member (c.write_some.ensures.keeps told)))
+    (replicas_all _ _ c.args.disk (c.sync_disk-2.ensures.keeps (c.write_some.ensures.keeps_telling told)))
+
+pub returns-clause-replicas : goal.returns-clause-replicas
+returns-clause-replicas g c = λ tells.
+    let told = c.read_sectors.ensures.keeps_telling tells in
+    replicas_then _ _ _ (replicas_then _ _ _ (replicas_state _ _ (c.read_sectors.ensures.stays tells)) (replicas_sure _ _ c.args.disk 0 _ c.requires.member (c.write_some.ensures.keeps told)))
+    (replicas_all _ _ c.args.disk (c.sync_disk-2.ensures.keeps (c.write_some.ensures.keeps_telling told)))

@@ -1,5 +1,6 @@
-use Rattle.std.proofs.Common.{ℕ, ◌<◌, sym, subst, arith}
+use Rattle.std.proofs.Common.{ℕ, ◌<◌, [], ◌∷◌, sym, subst, arith}
 use Rattle.bx_members.proofs.Kept.{keeps_then, leaves_next}
+use Rattle.bx_plain_store.proofs.Replicas.{lone, replicas_put, replicas_then}
 use Rattle.bx_plain_store.proofs.Standing.{is_taken, none_past, there_at, written_more}
 use Rattle.bx_plain_store.proofs.runs.put_runs.Goals as goal
 
@@ -44,6 +45,7 @@ loop-i-preserved g c =
       any_moment = λ writes greatest write tells alone same.
           let taken = is_taken writes greatest write c.args.runs.now c.loop-i.i c.in-Some.run'.now alone same at in
           leaves_next _ _ _ _ _ _ _ _ _ _ (inv.any_moment writes greatest write tells alone same) (inv.keeps writes greatest write tells alone same) (c.put_both.ensures.any_moment writes greatest (inv.tells tells) taken);
+      replicas = λ tells. replicas_then _ _ _ (inv.replicas tells) (replicas_put _ _ c.in-Some.run'.now (λ taken. c.put_both.ensures.keeps (lone c.in-Some.run'.now ∷ []) 0 (inv.tells tells) taken));
       later = grind arith;
       sizes = grind arith;
       tells = λ tells. c.put_both.ensures.keeps_telling (inv.tells tells);
@@ -59,3 +61,8 @@ returns-clause-written g c = λ writes greatest write tells alone same.
 -- a list has an item at each place below its length
 pub returns-in_default-clause-written : goal.returns-in_default-clause-written
 returns-in_default-clause-written g c = λ writes greatest write tells alone same. absurd (none_past c.args.runs.now c.loop-i.i (sym c.in_default.ensures) (subst (λ (n : ℕ). c.loop-i.i < n) c.len-i-end.ensures c.loop-i-test.true))
+
+pub returns-in_err-put_both-clause-replicas : goal.returns-in_err-put_both-clause-replicas
+returns-in_err-put_both-clause-replicas g c = λ tells.
+    let inv = c.loop-i.invariant in
+    replicas_then _ _ _ (inv.replicas tells) (replicas_put _ _ c.in-Some.run'.now (λ taken. c.put_both.ensures.keeps (lone c.in-Some.run'.now ∷ []) 0 (inv.tells tells) taken))

@@ -1,6 +1,9 @@
-use Rattle.std.proofs.Common.{refl}
+use Rattle.std.proofs.Common.{◌≡◌, length, sym, refl, subst, ◌∙◌}
+use Rattle.bx_plain_store.specs.declared.writes.Write.{Write}
+use Rattle.bx_plain_store.specs.Out.{AreWritten}
 use Rattle.bx_members.proofs.Kept.{keeps_then, leaves_next}
-use Rattle.bx_plain_store.proofs.Standing.{keeps_disks, now_done}
+use Rattle.bx_plain_store.proofs.Replicas.{replicas_same, replicas_then}
+use Rattle.bx_plain_store.proofs.Standing.{keeps_disks, now_done, written_same}
 use Rattle.bx_plain_store.proofs.writes.serve.Goals as goal
 
 pub put_runs-requires : goal.put_runs-requires
@@ -59,3 +62,23 @@ returns-clause-done g c = λ writes sent s tells free is none long.
     (c.in_ok-put_runs.ensures.written writes c.args.greatest _ tells alone refl)
     (c.sync_members.ensures.keeps told)
     (λ device sector second less. c.in_ok-sync_members.ensures.sure device sector second told less)
+
+pub returns-then-not-write-clause-written : goal.returns-then-not-write-clause-written
+returns-then-not-write-clause-written g c = λ writes write tells free is not_over.
+    let alone = free.alone c.in-Some.write c.in-Some.is (c.is_over.ensures.not_over c.if-is_over.false) in
+    let same : c.in-Some.write ≡ write = (let h = sym c.in-Some.is ∙ is in cc) in
+    subst (λ (w : Write). AreWritten (g.R.Rack.state c.put_runs.new.rack) w.runs (length w.runs)) same (c.in_ok-put_runs.ensures.written writes c.args.greatest _ tells alone refl)
+
+pub returns-clause-written : goal.returns-clause-written
+returns-clause-written g c = λ writes write tells free is not_over.
+    let alone = free.alone c.in-Some.write c.in-Some.is (c.is_over.ensures.not_over c.if-is_over.false) in
+    let told = c.put_runs.ensures.keeps_telling tells in
+    let same : c.in-Some.write ≡ write = (let h = sym c.in-Some.is ∙ is in cc) in
+    subst (λ (w : Write). AreWritten (g.R.Rack.state c.sync_members.new.rack) w.runs (length w.runs)) same
+    (written_same c.in-Some.write.runs (length c.in-Some.write.runs) _ _ (c.sync_members.ensures.keeps told) (c.in_ok-put_runs.ensures.written writes c.args.greatest _ tells alone refl))
+
+pub returns-in_err-sync_members-clause-replicas : goal.returns-in_err-sync_members-clause-replicas
+returns-in_err-sync_members-clause-replicas g c = λ tells. replicas_then _ _ _ (c.put_runs.ensures.replicas tells) (replicas_same _ _ (c.sync_members.ensures.keeps (c.put_runs.ensures.keeps_telling tells)))
+
+pub returns-clause-replicas : goal.returns-clause-replicas
+returns-clause-replicas g c = λ tells. replicas_then _ _ _ (c.put_runs.ensures.replicas tells) (replicas_same _ _ (c.sync_members.ensures.keeps (c.put_runs.ensures.keeps_telling tells)))

@@ -1,10 +1,13 @@
-use Rattle.std.proofs.Common.{◌∙◌, ℕ, ◌<◌, List, length, sym, subst, arith}
+use Rattle.std.proofs.Common.{◌≡◌, ◌∙◌, ℕ, ◌+◌, ◌<◌, List, length, Option, Some, None, true, sym, ap, subst, arith}
 use Rattle.std.proofs.lemmas.List.{length-set}
 use Rattle.bx_disk.specs.Disks.{Disks}
 use Rattle.bx_facts.specs.Writes.{IsDone, IsOver, IsSettled}
 use Rattle.bx_members.proofs.Kept.{keeps_then, leaves_next}
-use Rattle.bx_plain_store.specs.Out.{IsFitting, outs}
-use Rattle.bx_plain_store.proofs.Serving.{alone_of, at_got, done_kept, free_of, new_fact, new_out, new_rest}
+use Rattle.bx_plain_store.specs.declared.writes.Write.{Write}
+use Rattle.bx_plain_store.specs.Out.{IsFitting, at, out_in, outs, sent_of}
+use Rattle.bx_plain_store.proofs.Replicas.{replicas_then}
+use Rattle.bx_plain_store.proofs.Standing.{written_kept}
+use Rattle.bx_plain_store.proofs.Serving.{alone_of, at_got, at_within, by_place, done_kept, free_of, new_fact, new_out, new_rest, set_each}
 use Rattle.bx_plain_store.proofs.writes.serve_all.Goals as goal
 
 pub serve-requires-clause-fit : goal.serve-requires-clause-fit
@@ -84,7 +87,44 @@ loop-i-preserved g c =
           (inv.done at sent s tells apart was_out gone long))
           node sent out none;
       out = new_out c.args.slots.now.items c.loop-i.slots.items c.loop-i.i c.index_mut.result.now c.serve.new.slot less got inv.rest c.serve.ensures.out inv.out;
+      first = λ node write low here not_over fresh.
+          let P : ℕ → Option Write → Type 0 = λ n slot. n < c.loop-i.i + 1 → at c.args.slots.now.items n ≡ Some write → slot ≡ Some (record write { is_written = true }) in
+          set_each P c.loop-i.slots.items c.loop-i.i c.serve.new.slot less
+          (λ below was. c.in_ok-serve.ensures.first write (before ∙ was) not_over fresh)
+          (λ n other below was. inv.first n write (omega (arith, below, other)) was not_over fresh)
+          node low here;
+      second = λ node write low here not_over old.
+          let P : ℕ → Option Write → Type 0 = λ n slot. n < c.loop-i.i + 1 → at c.args.slots.now.items n ≡ Some write → slot ≡ None in
+          set_each P c.loop-i.slots.items c.loop-i.i c.serve.new.slot less
+          (λ below was. c.in_ok-serve.ensures.second write (before ∙ was) not_over old)
+          (λ n other below was. inv.second n write (omega (arith, below, other)) was not_over old)
+          node low here;
+      written = λ node write low tells apart here not_over.
+          let free = free_of c.args.slots.now.items c.args.greatest c.loop-i.i c.index_mut.result.now apart before in
+          let kept = c.serve.ensures.keeps ws (inv.tells tells) free in
+          by_place node c.loop-i.i low
+          (λ same. c.in_ok-serve.ensures.written ws write (inv.tells tells) free (before ∙ ap (at c.args.slots.now.items) (sym same) ∙ here) not_over)
+          (λ below. written_kept ws c.args.greatest (sent_of write) _ x (alone_of c.args.slots.now.items c.args.greatest node (sent_of write) apart (ap out_in here) not_over) kept (inv.written node write below tells apart here not_over));
+      replicas = λ tells. replicas_then _ _ _ (inv.replicas tells) (c.serve.ensures.replicas (inv.tells tells));
       later = grind arith;
       sizes = grind arith;
       tells = λ tells. c.serve.ensures.keeps_telling (inv.tells tells);
     }
+
+pub returns-clause-first : goal.returns-clause-first
+returns-clause-first g c = λ node write here.
+    let less = at_within c.args.slots.now.items node write here in
+    c.loop-i.invariant.first node write (omega (arith, less, c.loop-i-test.false, c.len-i-end.ensures)) here
+
+pub returns-clause-second : goal.returns-clause-second
+returns-clause-second g c = λ node write here.
+    let less = at_within c.args.slots.now.items node write here in
+    c.loop-i.invariant.second node write (omega (arith, less, c.loop-i-test.false, c.len-i-end.ensures)) here
+
+pub returns-clause-written : goal.returns-clause-written
+returns-clause-written g c = λ node write tells apart here.
+    let less = at_within c.args.slots.now.items node write here in
+    c.loop-i.invariant.written node write (omega (arith, less, c.loop-i-test.false, c.len-i-end.ensures)) tells apart here
+
+pub returns-in_err-serve-clause-replicas : goal.returns-in_err-serve-clause-replicas
+returns-in_err-serve-clause-replicas g c = λ tells. replicas_then _ _ _ (c.loop-i.invariant.replicas tells) (c.serve.ensures.replicas (c.loop-i.invariant.tells tells))

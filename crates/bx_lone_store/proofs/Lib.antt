@@ -1,0 +1,8 @@
+pub mod Answering
+pub mod Hearing
+pub mod Places
+pub mod Restarting
+pub mod Rooms
+pub mod Sending
+pub mod Shapes
+pub mod Taking

@@ -1,0 +1,55 @@
+-- What a list has for each node.
+use Rattle.std.proofs.Common.{◌≡◌, ℕ, zero, suc, ◌<◌, ◌≤◌, List, [], ◌∷◌, ◌++◌, true, false, eqb, Option, Some, None, length, refl, ap, arith, slice_get}
+use Rattle.std.specs.Prelude.{IsSome, slice_index_or}
+use Rattle.std.specs.Option.{option_eq}
+use Rattle.std.proofs.lemmas.Bool.Decides.{nat_tests}
+use Rattle.bx_plain_store.specs.Out.{at}
+
+-- what is read at a place
+pub at_read : {X : Type 0} → (xs : List (Option X)) (i : ℕ) (d : Option X) → i < length xs → slice_index_or xs i d ≡ at xs i
+at_read [] i d less = absurd (omega (arith, less))
+at_read (x ∷ xs) zero d less = refl
+at_read (x ∷ xs) (suc i) d less = at_read xs i d (omega (arith, less))
+
+-- nothing stands past the end
+pub at_past : {X : Type 0} → (xs : List (Option X)) (i : ℕ) → length xs ≤ i → at xs i ≡ None
+at_past [] i past = refl
+at_past (x ∷ xs) zero past = absurd (omega (arith, past))
+at_past (x ∷ xs) (suc i) past = at_past xs i (omega (arith, past))
+
+-- a place that has something lies within the list
+pub some_within : {X : Type 0} → (xs : List (Option X)) (node : ℕ) → IsSome (at xs node) → node < length xs
+some_within [] node is = absurd cc
+some_within (y ∷ xs) zero is = omega arith
+some_within (y ∷ xs) (suc node) is = let less = some_within xs node is in omega (arith, less)
+
+-- one place more that has nothing
+pub none_pushed : {X : Type 0} → (xs : List (Option X)) → ((node : ℕ) → at xs node ≡ None) → (node : ℕ) → at (xs ++ None ∷ []) node ≡ None
+none_pushed [] none zero = refl
+none_pushed [] none (suc node) = refl
+none_pushed (x ∷ xs) none zero = none 0
+none_pushed (x ∷ xs) none (suc node) = none_pushed xs (λ n. none (suc n)) node
+
+-- what the test of two sessions tells
+pub option_same : (o p : Option ℕ) → option_eq eqb o p ≡ true → o ≡ p
+option_same None None is = refl
+option_same None (Some m) is = absurd cc
+option_same (Some n) None is = absurd cc
+option_same (Some n) (Some m) is = let e : n ≡ m = grind (arith, nat_tests, is) in ap Some e
+
+pub option_apart : (o p : Option ℕ) → option_eq eqb o p ≡ false → o ≡ p → ⊥
+option_apart None None is same = absurd cc
+option_apart None (Some m) is same = absurd cc
+option_apart (Some n) None is same = absurd cc
+option_apart (Some n) (Some m) is same = let e : n ≡ m = (let h = same in cc) in let t : eqb n m ≡ true = grind (arith, nat_tests, e) in absurd (let h = is in cc)
+
+-- what is got at a place
+pub at_slice : {X : Type 0} → (xs : List (Option X)) (i : ℕ) (x : Option X) → slice_get xs i ≡ Some x → at xs i ≡ x
+at_slice [] i x is = absurd cc
+at_slice (y ∷ xs) zero x is = let h = is in cc
+at_slice (y ∷ xs) (suc i) x is = at_slice xs i x is
+
+pub at_slice_none : {X : Type 0} → (xs : List (Option X)) (i : ℕ) → slice_get xs i ≡ None → at xs i ≡ None
+at_slice_none [] i is = refl
+at_slice_none (y ∷ xs) zero is = absurd cc
+at_slice_none (y ∷ xs) (suc i) is = at_slice_none xs i is

@@ -8,3 +8,4 @@ pub mod Opened
 pub mod Shut
 pub mod Begun
 pub mod Asked
+pub mod Homes

@@ -17,6 +17,10 @@ pub decided : (b : Bool) → (b ≡ true) ⊎ (b ≡ false)
 decided true = grind arith
 decided false = grind arith
 
+-- what is there is within
+pub within_it : (device from count d s : ℕ) → d ≡ device → from ≤ s → s < from + count → is_within device from count d s ≡ true
+within_it device from count d s on begins ends = grind (arith, nat_tests)
+
 -- what is within is there
 pub record Within (device from count d s : ℕ) : Type 0 where
   pub on : d ≡ device

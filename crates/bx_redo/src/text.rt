@@ -1,12 +1,12 @@
 //! The bytes of a record.
 
-ghost use Rattle.std.specs.Prelude.{◌≡◌, ◌+◌, ◌*◌, ◌≤◌, length, IfOk};
+ghost use Rattle.std.specs.Prelude.{◌≡◌, ℕ, ◌+◌, ◌*◌, ◌≤◌, length, IfOk};
 ghost use Rattle.std.specs.List.{flat_map, AllByRecursion};
 ghost use Rattle.bx_fields.specs.Writing.{Writes};
 ghost use Rattle.bx_layout.specs.Blocks.{HasParts, block_text};
 ghost use Rattle.bx_records.specs.Records.{IsHead};
-ghost use Rattle.bx_volume.specs.Records.{logged_text};
-ghost use Rattle.bx_redo.specs.Steps.{IsLoggable, record_bytes, record_of};
+ghost use Rattle.bx_volume.specs.Records.{IsLogged, logged_text};
+ghost use Rattle.bx_redo.specs.Steps.{AreBlocksOf, IsLoggable, record_bytes, record_of};
 
 use bx_base::{Numbers, OutOfMemory, Point, Raw};
 use bx_fields::put;
@@ -20,8 +20,9 @@ const BLOCK: usize = SECTOR + PAYLOAD;
 
 /// The bytes of the record of a call at a point: its header, and the blocks that it changes.
 pub(crate) fn record_text(alloc: Global, point: Point, draft: &Draft) -> Result<Raw, OutOfMemory>
-    requires { IsLoggable draft.now }
-    ensures { IfOk result (λ text. text ≡ logged_text (record_of point draft.now)) }
+    requires { AreBlocksOf 64 draft.now }
+    ensures logged { (areas : ℕ) → AreBlocksOf areas draft.now → IsLogged areas (record_of point draft.now) }
+    ensures text { IfOk result (λ text. text ≡ logged_text (record_of point draft.now)) }
 {
     let blocks = draft.blocks();
     let head = head_of(alloc, point, blocks)?;

@@ -13,7 +13,7 @@ use Rattle.bx_redo.specs.View.{LogView}
 use Rattle.bx_redo.specs.Stands.{LogStands, IsFound, AreClosed, WritesHomes, is_gate}
 use Rattle.bx_redo.specs.declared.work.Work.TheVariants.{Idle}
 use Rattle.bx_redo.proofs.Own.{most_of}
-use Rattle.bx_redo.proofs.Within.{behind_it, within_it, within_is}
+use Rattle.bx_redo.proofs.Within.{behind_it, within_it, within_is, part}
 
 -- a log with nothing under way is one that was found, whose gates behind the run are closed
 module _ (Sure : ℕ → ℕ → List ℕ → Type 0) (devices areas : ℕ) (rows : List SessionRow) (before : Image) (logs : Logs) (truth : Truth) (more : Logged) (log : LogView) where
@@ -36,9 +36,6 @@ module _ (Sure : ℕ → ℕ → List ℕ → Type 0) (devices areas : ℕ) (row
       let w = within_is log.device (log_start log.slot) 8 d s is in
       let gate : (n : ℕ) × (s ≡ log_start log.slot + n) × (n < 8) = part (log_start log.slot) s w.begins w.ends in
       subst (λ (x : ℕ × ℕ). Sure x.0 x.1 (before x.0 x.1)) (λ i. (sym (w.on ∙ on) i, sym gate.1 i)) (found.gates gate.0 gate.2)
-    where
-      part : (from s : ℕ) → from ≤ s → s < from + 8 → (n : ℕ) × (s ≡ from + n) × (n < 8)
-      part from s le less = (s - from, omega (arith, le), omega (arith, le, less))
 
   pub idle_found : IsFound Sure devices areas rows before logs truth more log.slot → log.device ≡ log_device log.slot devices
       → length (logs log.slot) ≡ log.count → AreClosed before devices log.slot log.count

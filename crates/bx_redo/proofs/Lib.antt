@@ -9,3 +9,6 @@ pub mod Shut
 pub mod Begun
 pub mod Asked
 pub mod Homes
+pub mod Settles
+pub mod Begins
+pub mod Stored

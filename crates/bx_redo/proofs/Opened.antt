@@ -82,10 +82,10 @@ module _ (Sure Sure_then : ℕ → ℕ → List ℕ → Type 0) (devices areas :
   more_sure st ack d s (inl matters) = carried Sure Sure_then before now _ (gate_text Open) ack d s (st.sure d s matters)
   more_sure st ack d s (inr (inl (sector, within, device, place))) = carried Sure Sure_then before now _ (gate_text Open) ack d s
       (λ apart.
-          let r = st.run in
-          let on = device ∙ sym st.on_device in
-          let at : s ≡ log_start log.slot + 8 + 145 * log.count + sector = omega (arith, place, r) in
-          subst (λ (x : ℕ × ℕ). Sure x.0 x.1 (before x.0 x.1)) (λ i. (sym on i, sym at i)) (st.finds.2 sector within))
+      let r = st.run in
+      let on = device ∙ sym st.on_device in
+      let at : s ≡ log_start log.slot + 8 + 145 * log.count + sector = omega (arith, place, r) in
+      subst (λ (x : ℕ × ℕ). Sure x.0 x.1 (before x.0 x.1)) (λ i. (sym on i, sym at i)) (st.finds.2 sector within))
   more_sure st ack d s (inr (inr (few, device, place))) = carried Sure Sure_then before now _ (gate_text Open) ack d s
       (st.own d s (within_it log.device (log_start log.slot) 8 d s (device ∙ sym st.on_device) (omega (arith, place)) (omega (arith, place, few))))
 

@@ -9,7 +9,7 @@ use Rattle.bx_rows.specs.declared.device.DeviceRow.{DeviceRow}
 use Rattle.bx_volume.specs.Images.{AreSources, devices_of, member_disk as disk_of}
 use Rattle.bx_redo.specs.Stands.{HasSure}
 
-one_disk : (device : ℕ) (second : Bool) → disk_of device second ≡ member_disk device second
+pub one_disk : (device : ℕ) (second : Bool) → disk_of device second ≡ member_disk device second
 one_disk device false = omega arith
 one_disk device true = omega arith
 

@@ -139,9 +139,9 @@ module _ (Sure : ℕ → ℕ → List ℕ → Type 0) (devices areas : ℕ) (row
       (λ less. st.finds.1.closed (length (logs log.slot) + 1) (let r = st.run in omega (arith, r)) less)
       st.finds.1.alone
       (λ d s matters apart. let other = other_gate log st.on_device (length (logs log.slot)) d s st.run apart in
-          has d s other (opening_has log point st st.finds.1.room d s (inl matters) other))
+      has d s other (opening_has log point st st.finds.1.room d s (inl matters) other))
       (λ d s matters apart. let other = other_gate log st.on_device (length (logs log.slot)) d s st.run apart in
-          has d s other (opening_has log point st st.finds.1.room d s (matters_more devices areas logs log.slot more st.is_slot d s matters) other))
+      has d s other (opening_has log point st st.finds.1.room d s (matters_more devices areas logs log.slot more st.is_slot d s matters) other))
       st.is_truth
   shown log Closes has st =
       closing_in_doubt before now devices areas rows logs truth log.slot st.is_slot st.taken (omega (arith, st.run, st.finds.some)) st.finds.home

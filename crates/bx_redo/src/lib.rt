@@ -4,7 +4,9 @@
 
 mod laws;
 mod log;
+mod recovery;
 mod runs;
+mod stores;
 mod text;
 mod work;
 
@@ -14,4 +16,9 @@ pub use laws::{
     what_is_asked_for_is_written, what_is_out_moves_nothing,
 };
 pub use log::Log;
+pub use recovery::{
+    a_found_log_is_closing, a_log_begins, gates_are_read, gates_are_settled,
+    homes_of_a_found_log_are_written, what_keeps_sure_sectors_moves_nothing,
+};
+pub use stores::a_store_writes_it;
 pub use work::{Move, Work};

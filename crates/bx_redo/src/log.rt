@@ -75,7 +75,11 @@ impl Log {
             slot,
             device,
             count,
-            work: if count == 0 { Work::Shuts } else { Work::Closes },
+            work: if count == 0 {
+                Work::Shuts
+            } else {
+                Work::Closes
+            },
             out: false,
         }
     }

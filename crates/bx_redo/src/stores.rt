@@ -1,0 +1,25 @@
+//! Laws of what a store says of the write that a log asks for.
+
+ghost use Rattle.std.specs.Prelude.{◌≡◌, ◌≢◌, ℕ, ◌⊎◌, true, List, Contains};
+ghost use Rattle.bx_disk.specs.Disks.{Image, Disks};
+ghost use Rattle.bx_facts.specs.Writes.{Sent, IsDone, IsOnly, IsOver, IsSettled, WritesTo};
+ghost use Rattle.bx_global.specs.declared.state.GlobalState.{GlobalState};
+ghost use Rattle.bx_redo.specs.declared.work.Work.TheVariants.{Idle};
+ghost use Rattle.bx_redo.specs.Stands.{IsAcknowledged, IsOut, bytes_of, is_written, stored};
+ghost use Rattle.bx_redo.specs.Steps.{writes};
+ghost use Rattle.bx_redo.specs.View.{LogView};
+
+/// A write of what a log asks for writes the sectors that its laws call written, and no others. While members take nothing else that isn't over,
+/// what is settled elsewhere stays; and once it is done, it is acknowledged.
+pub fn a_store_writes_it()
+    ensures sectors { (log : LogView) (write : Sent) (d s : ℕ) (content : List ℕ) → log.work ≢ Idle → write.runs ≡ (writes log log.work).1
+        → WritesTo write d s content → is_written log d s ≡ true }
+    ensures out { (disks disks_then : Disks) (state state_then : GlobalState) (log : LogView) (sent : List Sent) (greatest : ℕ)
+        → ((write : Sent) (d s : ℕ) (content : List ℕ) → Contains sent write → WritesTo write d s content → (is_written log d s ≡ true) ⊎ IsOver greatest write)
+        → ((d s : ℕ) (content : List ℕ) → IsOnly sent greatest d s content → IsSettled disks state d s content → IsSettled disks_then state_then d s content)
+        → IsOut (IsSettled disks state) (IsSettled disks_then state_then) log }
+    ensures done { (disks disks_then : Disks) (state state_then : GlobalState) (log : LogView) (write : Sent) (before : Image) (index : ℕ) → log.work ≢ Idle → write.runs ≡ (writes log log.work).1
+        → IsOut (IsSettled disks state) (IsSettled disks_then state_then) log
+        → IsDone (λ d s content known. IsSettled disks_then state_then d s content) index write
+        → IsAcknowledged (IsSettled disks state) (IsSettled disks_then state_then) before (stored before log) log (bytes_of log.work) }
+{}

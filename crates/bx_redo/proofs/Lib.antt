@@ -12,3 +12,4 @@ pub mod Homes
 pub mod Settles
 pub mod Begins
 pub mod Stored
+pub mod Back

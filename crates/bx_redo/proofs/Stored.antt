@@ -13,7 +13,7 @@ use Rattle.bx_redo.proofs.Asked.{one_asked, as_many}
 use Rattle.bx_redo.proofs.Within.{within_it, within_is}
 
 -- in a list of one
-only_one : (x y : Run) → Contains (x ∷ []) y → x ≡ y
+pub only_one : (x y : Run) → Contains (x ∷ []) y → x ≡ y
 only_one x y there = ⊎_elim (λ same. same) (λ none. absurd (nothing y none)) (front_or_behind x [] y there)
 
 module _ (log : LogView) (write : Sent) (some : log.work ≢ Idle) (asks : write.runs ≡ (writes log log.work).1) where

@@ -1,9 +1,10 @@
 -- What a recovery makes of a log whose session stopped: it reads the gates, writes all of them back as they were read, and makes them sure.
-use Rattle.std.specs.Prelude.{◌≡◌, ℕ, ◌+◌, ◌<◌, ◌⊎◌, true, false, List, [], ◌∷◌, length}
+use Rattle.std.specs.Prelude.{◌≡◌, ℕ, ◌+◌, ◌-◌, ◌<◌, ◌⊎◌, true, false, if◌then◌else◌, List, [], ◌∷◌, length}
 use Rattle.bx_base.specs.declared.names.Point.{Point}
 use Rattle.bx_calls.specs.Regions.{ReadsAs}
 use Rattle.bx_disk.specs.Disks.{Image, sector_of}
 use Rattle.bx_places.specs.Places.{log_start}
+use Rattle.bx_records.specs.declared.runs.Run.{Run}
 use Rattle.bx_rows.specs.declared.session.SessionRow.{SessionRow}
 use Rattle.bx_views.specs.Truths.{Truth, with_draft}
 use Rattle.bx_volume.specs.Overlay.{Logs, with_log}
@@ -24,6 +25,13 @@ pub record AreSettled (Sure Sure_then : ℕ → ℕ → List ℕ → Type 0) (be
   pub out : (d s : ℕ) (content : List ℕ) → is_gate log d s ≡ false → is_written log d s ≡ false → Sure d s content → Sure_then d s content
   pub sure : (d s : ℕ) → is_gate log d s ≡ true → Sure_then d s (now d s)
   pub reads : ReadsAs now log.device (log_start log.slot) bytes
+
+-- the run that writes them back, and what devices hold once it is written
+abbrev pub gates_run : LogView → List ℕ → Run
+gates_run log bytes = record { device = log.device; place = log_start log.slot; bytes = bytes }
+
+abbrev pub with_gates : Image → LogView → List ℕ → Image
+with_gates before log bytes d s = if is_gate log d s then sector_of bytes (s - log_start log.slot) else before d s
 
 module _ (Sure : ℕ → ℕ → List ℕ → Type 0) (devices areas : ℕ) (rows : List SessionRow) (now : Image) (logs : Logs) (truth : Truth) (more : Logged) where
   -- What is found then: the truth by the whole run; where the session stopped with a gate that it opened, that or the one with the record in

@@ -1,10 +1,13 @@
 //! Laws of what a store says of the write that a log asks for.
 
-ghost use Rattle.std.specs.Prelude.{◌≡◌, ◌≢◌, ℕ, ◌⊎◌, true, List, Contains};
+ghost use Rattle.std.specs.Prelude.{◌≡◌, ◌≢◌, ℕ, ◌⊎◌, Bool, true, List, [], ◌∷◌, Contains, length};
+ghost use Rattle.bx_calls.specs.Regions.{ReadsAs};
 ghost use Rattle.bx_disk.specs.Disks.{Image, Disks};
-ghost use Rattle.bx_facts.specs.Writes.{Sent, IsDone, IsOnly, IsOver, IsSettled, WritesTo};
+ghost use Rattle.bx_facts.specs.Writes.{Sent, IsDone, IsOnly, IsOver, IsSettled, IsSourceIn, WritesTo, member_disk};
 ghost use Rattle.bx_global.specs.declared.state.GlobalState.{GlobalState};
 ghost use Rattle.bx_redo.specs.declared.work.Work.TheVariants.{Idle};
+ghost use Rattle.bx_places.specs.Places.{log_start};
+ghost use Rattle.bx_redo.specs.Found.{AreSettled, gates_run, with_gates};
 ghost use Rattle.bx_redo.specs.Stands.{IsAcknowledged, IsOut, bytes_of, is_written, stored};
 ghost use Rattle.bx_redo.specs.Steps.{writes};
 ghost use Rattle.bx_redo.specs.View.{LogView};
@@ -22,4 +25,19 @@ pub fn a_store_writes_it()
         → IsOut (IsSettled disks state) (IsSettled disks_then state_then) log
         → IsDone (λ d s content known. IsSettled disks_then state_then d s content) index write
         → IsAcknowledged (IsSettled disks state) (IsSettled disks_then state_then) before (stored before log) log (bytes_of log.work) }
+{}
+
+/// Nor does a recovery's write of the gates move anything, each as it was read off a source member: all that is settled stays, while members take
+/// nothing else that isn't over. Once it is done, they are settled.
+pub fn a_store_writes_gates_back()
+    ensures out { (disks disks_then : Disks) (state state_then : GlobalState) (log : LogView) (second : Bool) (bytes : List ℕ) (sent : List Sent) (greatest : ℕ)
+        → IsSourceIn state log.device second → length bytes ≡ 4096 → ReadsAs disks.reads (member_disk log.device second) (log_start log.slot) bytes
+        → ((write : Sent) → Contains sent write → (write.runs ≡ gates_run log bytes ∷ []) ⊎ IsOver greatest write)
+        → ((d s : ℕ) (content : List ℕ) → IsOnly sent greatest d s content → IsSettled disks state d s content → IsSettled disks_then state_then d s content)
+        → (d s : ℕ) (content : List ℕ) → IsSettled disks state d s content → IsSettled disks_then state_then d s content }
+    ensures done { (disks disks_then : Disks) (state state_then : GlobalState) (log : LogView) (bytes : List ℕ) (write : Sent) (before : Image) (index : ℕ)
+        → length bytes ≡ 4096 → write.runs ≡ gates_run log bytes ∷ []
+        → ((d s : ℕ) (content : List ℕ) → IsSettled disks state d s content → IsSettled disks_then state_then d s content)
+        → IsDone (λ d s content known. IsSettled disks_then state_then d s content) index write
+        → AreSettled (IsSettled disks state) (IsSettled disks_then state_then) before (with_gates before log bytes) log bytes }
 {}

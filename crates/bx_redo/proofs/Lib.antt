@@ -13,3 +13,4 @@ pub mod Settles
 pub mod Begins
 pub mod Stored
 pub mod Back
+pub mod Drafted

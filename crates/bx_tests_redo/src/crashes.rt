@@ -1,0 +1,103 @@
+//! Two records' lives that are stopped at each call of the rack, and then the members crash in each way.
+
+use crate::bench::SIZES;
+use crate::drafts::{Bytes, go_home};
+use crate::life::{Reached, lives};
+use crate::looks::{gates, sees};
+use crate::recovery::recovers;
+use bx_base::OutOfMemory;
+use bx_disk::{CrashRack, MemRack, Noise, Rack, StopRack};
+use bx_records::DraftError;
+use bx_redo::Log;
+use std::alloc::Global;
+use std::test::Fail;
+
+/// The kind of the packets that carry an opened gate.
+const GATE: u8 = 15;
+
+/// What two blocks are filled with before the records.
+pub(crate) const FORMATTED: [(u64, u8); 2] = [(0, 10), (7, 17)];
+
+/// What the two records put there. The second is shorter, so that something of the first stays behind it in the body.
+const RECORDS: [&[Bytes]; 2] = [&[(0, 21), (7, 27)], &[(7, 37)]];
+
+/// What the blocks 0 and 7 are before the records, after the first, and after the second.
+const TRUTHS: [(u8, u8); 3] = [(10, 17), (21, 27), (21, 37)];
+
+/// What the disks of both members make of unsure sectors.
+type Ways = (Noise, Noise);
+
+const WAYS: [Ways; 6] = [
+    (Noise::Keep, Noise::Keep),
+    (Noise::Drop, Noise::Drop),
+    (Noise::Keep, Noise::Drop),
+    (Noise::Drop, Noise::Keep),
+    (Noise::Seed(7), Noise::Seed(8)),
+    (Noise::Keep, Noise::Seed(9)),
+];
+
+/// How many calls the two lives make.
+const CALLS: u64 = 400;
+
+/// A rack of which the homes of two blocks are written, and whether they are.
+pub(crate) fn formatted(alloc: Global) -> Result<(MemRack, bool), OutOfMemory> {
+    let mut rack = MemRack::new(alloc, &SIZES, &[])?;
+    let written = go_home(alloc, &mut rack, &FORMATTED)?;
+    Ok((rack, written))
+}
+
+/// Lets both members crash, and says whether that went well.
+pub(crate) fn crash(rack: &mut MemRack, ways: Ways) -> bool {
+    rack.disks() == 5 && rack.crash(3, ways.0).is_ok() && rack.crash(4, ways.1).is_ok()
+}
+
+/// Both lives, as far as the rack goes.
+fn live_twice<R: Rack>(alloc: Global, rack: &mut R) -> Result<Reached, DraftError> {
+    let mut log = Log::new(alloc, 0, 0);
+    let mut reached = Reached::START;
+    for blocks in RECORDS {
+        if !lives(alloc, &mut log, rack, blocks, &mut reached)? {
+            return Ok(reached);
+        }
+    }
+    Ok(reached)
+}
+
+/// What both blocks are, by a member.
+fn both<R: Rack>(alloc: Global, rack: &mut R, second: bool) -> Result<(u8, u8), OutOfMemory> {
+    let first = sees(alloc, rack, second, 0)?;
+    let other = sees(alloc, rack, second, 7)?;
+    Ok((first, other))
+}
+
+/// Whether an image may have these blocks where a log came so far: those of the acknowledged records, or while a gate is written those
+/// with the record in doubt.
+fn may_be(reached: Reached, blocks: (u8, u8)) -> bool {
+    TRUTHS.get(reached.records) == Some(&blocks)
+        || reached.asked == GATE && TRUTHS.get(reached.records + 1) == Some(&blocks)
+}
+
+/// Whether a crash after so many calls leaves what it may, on both members, and a recovery then what was read off the first.
+fn leaves_a_truth(alloc: Global, ways: Ways, stop: u64) -> Result<bool, DraftError> {
+    let (rack, written) = formatted(alloc)?;
+    let mut stopping = StopRack::new(rack, stop);
+    let reached = live_twice(alloc, &mut stopping)?;
+    let mut rack = stopping.into_inner();
+    let crashed = crash(&mut rack, ways);
+    let first = both(alloc, &mut rack, false)?;
+    let other = both(alloc, &mut rack, true)?;
+    let recovered = recovers(alloc, &mut rack)?.is_some();
+    let closed = gates(&mut rack, false) == 0 && gates(&mut rack, true) == 0;
+    let then = both(alloc, &mut rack, false)? == first && both(alloc, &mut rack, true)? == first;
+    Ok(written && crashed && may_be(reached, first) && may_be(reached, other) && recovered && closed && then)
+}
+
+#[test]
+fn a_crash_leaves_the_acknowledged_records(rt: HostRuntime) -> Result<(), Fail> {
+    for ways in WAYS {
+        for stop in 0..=CALLS {
+            assert!(rt; leaves_a_truth(rt.alloc(), ways, stop)?, "after {stop} calls");
+        }
+    }
+    Ok(())
+}

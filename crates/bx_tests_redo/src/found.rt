@@ -1,0 +1,1 @@
+//! Logs that are found with gates open.

@@ -37,7 +37,7 @@ const WAYS: [Ways; 6] = [
 ];
 
 /// How many calls the two lives make.
-const CALLS: u64 = 400;
+const CALLS: u64 = 284;
 
 /// A rack of which the homes of two blocks are written, and whether they are.
 pub(crate) fn formatted(alloc: Global) -> Result<(MemRack, bool), OutOfMemory> {
@@ -51,16 +51,31 @@ pub(crate) fn crash(rack: &mut MemRack, ways: Ways) -> bool {
     rack.disks() == 5 && rack.crash(3, ways.0).is_ok() && rack.crash(4, ways.1).is_ok()
 }
 
-/// Both lives, as far as the rack goes.
-fn live_twice<R: Rack>(alloc: Global, rack: &mut R) -> Result<Reached, DraftError> {
+/// Both lives, as far as the rack goes, and whether it went on to the end.
+fn live_twice<R: Rack>(alloc: Global, rack: &mut R) -> Result<(Reached, bool), DraftError> {
     let mut log = Log::new(alloc, 0, 0);
     let mut reached = Reached::START;
     for blocks in RECORDS {
         if !lives(alloc, &mut log, rack, blocks, &mut reached)? {
-            return Ok(reached);
+            return Ok((reached, false));
         }
     }
-    Ok(reached)
+    Ok((reached, true))
+}
+
+/// Whether both lives come to their end within so many calls.
+fn come_to_an_end(alloc: Global, calls: u64) -> Result<bool, DraftError> {
+    let (rack, _) = formatted(alloc)?;
+    let mut stopping = StopRack::new(rack, calls);
+    let (reached, ended) = live_twice(alloc, &mut stopping)?;
+    Ok(ended && reached.records == 2)
+}
+
+#[test]
+fn both_lives_make_so_many_calls(rt: HostRuntime) -> Result<(), Fail> {
+    assert!(rt; come_to_an_end(rt.alloc(), CALLS)?);
+    assert!(rt; !come_to_an_end(rt.alloc(), CALLS - 1)?);
+    Ok(())
 }
 
 /// What both blocks are, by a member.
@@ -74,14 +89,14 @@ fn both<R: Rack>(alloc: Global, rack: &mut R, second: bool) -> Result<(u8, u8), 
 /// with the record in doubt.
 fn may_be(reached: Reached, blocks: (u8, u8)) -> bool {
     TRUTHS.get(reached.records) == Some(&blocks)
-        || reached.asked == GATE && TRUTHS.get(reached.records + 1) == Some(&blocks)
+        || reached.asked == GATE && TRUTHS.get(reached.records.saturating_add(1)) == Some(&blocks)
 }
 
 /// Whether a crash after so many calls leaves what it may, on both members, and a recovery then what was read off the first.
 fn leaves_a_truth(alloc: Global, ways: Ways, stop: u64) -> Result<bool, DraftError> {
     let (rack, written) = formatted(alloc)?;
     let mut stopping = StopRack::new(rack, stop);
-    let reached = live_twice(alloc, &mut stopping)?;
+    let (reached, _) = live_twice(alloc, &mut stopping)?;
     let mut rack = stopping.into_inner();
     let crashed = crash(&mut rack, ways);
     let first = both(alloc, &mut rack, false)?;
@@ -89,14 +104,65 @@ fn leaves_a_truth(alloc: Global, ways: Ways, stop: u64) -> Result<bool, DraftErr
     let recovered = recovers(alloc, &mut rack)?.is_some();
     let closed = gates(&mut rack, false) == 0 && gates(&mut rack, true) == 0;
     let then = both(alloc, &mut rack, false)? == first && both(alloc, &mut rack, true)? == first;
-    Ok(written && crashed && may_be(reached, first) && may_be(reached, other) && recovered && closed && then)
+    Ok(
+        written
+            && crashed
+            && may_be(reached, first)
+            && may_be(reached, other)
+            && recovered
+            && closed
+            && then,
+    )
 }
 
 #[test]
 fn a_crash_leaves_the_acknowledged_records(rt: HostRuntime) -> Result<(), Fail> {
     for ways in WAYS {
         for stop in 0..=CALLS {
-            assert!(rt; leaves_a_truth(rt.alloc(), ways, stop)?, "after {stop} calls");
+            assert!(rt;
+                leaves_a_truth(rt.alloc(), ways, stop)?,
+                "after {stop} calls"
+            );
+        }
+    }
+    Ok(())
+}
+
+/// How many calls a recovery makes.
+const RECOVERY_CALLS: u64 = 150;
+
+/// Whether a recovery that stops after so many calls, and then another one behind a crash, leave what the first one said: the gates are
+/// as it found them, as soon as it said how many are open.
+fn agrees(alloc: Global, stop: u64, ways: Ways, calls: u64) -> Result<bool, DraftError> {
+    let (rack, _) = formatted(alloc)?;
+    let mut stopping = StopRack::new(rack, stop);
+    let (reached, _) = live_twice(alloc, &mut stopping)?;
+    let mut rack = stopping.into_inner();
+    let crashed = crash(&mut rack, ways);
+    let mut stopping = StopRack::new(rack, calls);
+    let said = recovers(alloc, &mut stopping)?;
+    let mut rack = stopping.into_inner();
+    let again = crash(&mut rack, ways) && recovers(alloc, &mut rack)?.is_some();
+    let first = both(alloc, &mut rack, false)?;
+    let other = both(alloc, &mut rack, true)?;
+    let wanted = match said {
+        Some(0) => first == TRUTHS[0],
+        Some(_) => first == TRUTHS[1],
+        None => may_be(reached, first),
+    };
+    Ok(crashed && again && first == other && wanted)
+}
+
+#[test]
+fn a_recovery_holds_to_what_it_found(rt: HostRuntime) -> Result<(), Fail> {
+    for ways in [WAYS[2], WAYS[3], WAYS[4]] {
+        for stop in 78..84u64 {
+            for calls in 0..=RECOVERY_CALLS {
+                assert!(rt;
+                    agrees(rt.alloc(), stop, ways, calls)?,
+                    "after {stop} and {calls} calls"
+                );
+            }
         }
     }
     Ok(())

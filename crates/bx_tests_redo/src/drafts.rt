@@ -5,14 +5,13 @@ ghost use Rattle.bx_layout.specs.Blocks.{HasParts};
 ghost use Rattle.bx_places.specs.Places.{IsBlock};
 ghost use Rattle.bx_redo.specs.Steps.{AreBlocksOf};
 
+use crate::bench::stores;
 use bx_base::{OutOfMemory, Raw};
 use bx_disk::Rack;
 use bx_layout::Block;
 use bx_places::{is_block, place};
 use bx_records::{Draft, DraftError, Run, Runs};
 use std::alloc::Global;
-
-use crate::bench::stores;
 
 /// A block by its number, and the byte that it is filled with.
 pub(crate) type Bytes = (u64, u8);
@@ -42,15 +41,25 @@ fn puts(draft: &mut Draft, at: u64, block: Block) -> Result<(), DraftError>
     draft.put(at, block)
 }
 
+/// Puts a block that is filled with a byte into a draft of blocks, where there is one with its number.
+fn adds(alloc: Global, draft: &mut Draft, at: u64, byte: u8) -> Result<(), DraftError>
+    requires { AreBlocksOf 64 draft.old }
+    ensures { AreBlocksOf 64 draft.new }
+{
+    if !is_block(at, 64) {
+        return Ok(());
+    }
+    let block = block_of(alloc, byte)?;
+    puts(draft, at, block)
+}
+
 /// A draft of such blocks.
 pub(crate) fn draft_of(alloc: Global, blocks: &[Bytes]) -> Result<Draft, DraftError>
     ensures { IfOk result (AreBlocksOf 64) }
 {
     let mut draft = Draft::new(alloc);
     for (at, byte) in blocks {
-        if is_block(*at, 64) {
-            puts(&mut draft, *at, block_of(alloc, *byte)?)?;
-        }
+        adds(alloc, &mut draft, *at, *byte)?;
     }
     Ok(draft)
 }

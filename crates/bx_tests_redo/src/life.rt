@@ -100,7 +100,9 @@ pub(crate) fn lives<R: Rack>(
     reached: &mut Reached,
 ) -> Result<bool, DraftError> {
     let draft = draft_of(alloc, blocks)?;
-    Ok(acknowledges(log, rack, &draft, reached)?
-        && go_home(alloc, rack, blocks)?
-        && closes(log, rack, reached)?)
+    Ok(
+        acknowledges(log, rack, &draft, reached)?
+            && go_home(alloc, rack, blocks)?
+            && closes(log, rack, reached)?,
+    )
 }

@@ -33,12 +33,7 @@ pub(crate) fn byte_of(block: &Block) -> u8 {
 }
 
 /// The byte of the block in a home, by a member; 0 where there is none.
-fn at_home<R: Rack>(
-    alloc: Global,
-    rack: &mut R,
-    second: bool,
-    at: u64,
-) -> Result<u8, OutOfMemory> {
+fn at_home<R: Rack>(alloc: Global, rack: &mut R, second: bool, at: u64) -> Result<u8, OutOfMemory> {
     if !is_bench(rack) || !is_block(at, 1) {
         return Ok(0);
     }

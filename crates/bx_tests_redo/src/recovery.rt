@@ -55,11 +55,7 @@ fn block_goes_home<R: Rack>(
 }
 
 /// Writes the blocks of the record in a body into their homes, and says whether that went well.
-fn record_goes_home<R: Rack>(
-    alloc: Global,
-    rack: &mut R,
-    body: u32,
-) -> Result<bool, OutOfMemory> {
+fn record_goes_home<R: Rack>(alloc: Global, rack: &mut R, body: u32) -> Result<bool, OutOfMemory> {
     let Some(head) = head_in(alloc, rack, false, body)? else {
         return Ok(false);
     };

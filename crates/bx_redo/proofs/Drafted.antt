@@ -14,13 +14,13 @@ module _ (at : ℕ) (block : Block) where
   found_with [] n = refl
   found_with (x ∷ changed) n = (elim (x.0 == at) as (λ b. (x.0 == at) ≡ b → block_in (with_block (x ∷ changed) at block) n ≡ (if at == n then Some block else block_in (x ∷ changed) n)) [
     | true ↦ λ t. (elim (at == n) as (λ b. (at == n) ≡ b → block_in (with_block (x ∷ changed) at block) n ≡ (if at == n then Some block else block_in (x ∷ changed) n)) [
-        | true ↦ λ u. rw (t, u) refl
-        | false ↦ λ u. let other : (x.0 == n) ≡ false = subst (λ (m : ℕ). (m == n) ≡ false) (sym (eqb-true _ _ t)) u in rw (t, u, other) refl
-      ]) refl
+      | true ↦ λ u. rw (t, u) refl
+      | false ↦ λ u. let other : (x.0 == n) ≡ false = subst (λ (m : ℕ). (m == n) ≡ false) (sym (eqb-true _ _ t)) u in rw (t, u, other) refl
+    ]) refl
     | false ↦ λ t. (elim (x.0 == n) as (λ b. (x.0 == n) ≡ b → block_in (with_block (x ∷ changed) at block) n ≡ (if at == n then Some block else block_in (x ∷ changed) n)) [
-        | true ↦ λ u. let other : (at == n) ≡ false = eq_false at n (λ e. let same = eq_true x.0 at (eqb-true _ _ u ∙ sym e) in absurd cc) in rw (t, u, other) refl
-        | false ↦ λ u. rw (t, u) (found_with changed n)
-      ]) refl
+      | true ↦ λ u. let other : (at == n) ≡ false = eq_false at n (λ e. let same = eq_true x.0 at (eqb-true _ _ u ∙ sym e) in absurd cc) in rw (t, u, other) refl
+      | false ↦ λ u. rw (t, u) (found_with changed n)
+    ]) refl
   ]) refl
 
   pub blocks_with : (areas : ℕ) (changed : List Changed) → IsBlock areas at → HasParts block → AreBlocksOf areas changed → AreBlocksOf areas (with_block changed at block)

@@ -14,3 +14,4 @@ pub mod Begins
 pub mod Stored
 pub mod Back
 pub mod Drafted
+pub mod HomeRuns

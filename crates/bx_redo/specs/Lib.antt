@@ -2,3 +2,4 @@ pub mod View
 pub mod Steps
 pub mod Stands
 pub mod Found
+pub mod Homes

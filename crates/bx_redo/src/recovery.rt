@@ -16,7 +16,7 @@ ghost use Rattle.bx_volume.specs.Images.{devices_of};
 ghost use Rattle.bx_volume.specs.Overlay.{Logs, Matters, with_log};
 ghost use Rattle.bx_volume.specs.Records.{Logged};
 ghost use Rattle.bx_redo.specs.Found.{AreGatesRead, AreSettled, Settles};
-ghost use Rattle.bx_redo.specs.Stands.{LogStands, AreHome, IsFound, WritesHomes};
+ghost use Rattle.bx_redo.specs.Stands.{LogStands, AreHome, IsFound, WritesHomes, resting};
 ghost use Rattle.bx_redo.specs.Steps.{closed_log, found_log};
 ghost use Rattle.bx_redo.specs.View.{LogView};
 
@@ -54,6 +54,13 @@ pub fn gates_are_settled()
         → AreGatesRead before log bytes
         → AreSettled (IsSettled disks state) (IsSettled disks_then state_then) before now log bytes
         → Settles (IsSettled disks_then state_then) devices areas rows now logs truth more log.slot log.work }
+{}
+
+/// A log with nothing under way is as one that was found.
+pub fn a_resting_log_is_found()
+    ensures { (disks : Disks) (state : GlobalState) (devices areas : ℕ) (rows : List SessionRow) (before : Image) (logs : Logs) (truth : Truth) (more : Logged) (log : LogView)
+        → LogStands (IsSettled disks state) devices areas rows before logs truth more (resting log)
+        → IsFound (IsSettled disks state) devices areas rows before logs truth more log.slot }
 {}
 
 /// A write of homes whose blocks logs have, in part or whole, leaves a log found.

@@ -1,14 +1,20 @@
 //! Laws of what a store says of the write that a log asks for.
 
-ghost use Rattle.std.specs.Prelude.{◌≡◌, ◌≢◌, ℕ, ◌⊎◌, Bool, true, List, [], ◌∷◌, Contains, length};
+ghost use Rattle.std.specs.Prelude.{◌≡◌, ◌≢◌, ℕ, ◌<◌, ◌⊎◌, Bool, true, List, [], ◌∷◌, Contains, length};
 ghost use Rattle.bx_calls.specs.Regions.{ReadsAs};
 ghost use Rattle.bx_disk.specs.Disks.{Image, Disks};
 ghost use Rattle.bx_facts.specs.Writes.{Sent, IsDone, IsOnly, IsOver, IsSettled, IsSourceIn, WritesTo, member_disk};
 ghost use Rattle.bx_global.specs.declared.state.GlobalState.{GlobalState};
 ghost use Rattle.bx_redo.specs.declared.work.Work.TheVariants.{Idle};
-ghost use Rattle.bx_places.specs.Places.{log_start};
+ghost use Rattle.bx_places.specs.Places.{IsVolume, log_start};
+ghost use Rattle.bx_records.specs.declared.runs.Run.{Run};
+ghost use Rattle.bx_rows.specs.declared.session.SessionRow.{SessionRow};
+ghost use Rattle.bx_views.specs.Truths.{Truth};
+ghost use Rattle.bx_volume.specs.Overlay.{Logs, Matters, with_log};
+ghost use Rattle.bx_volume.specs.Records.{Logged};
+ghost use Rattle.bx_redo.specs.Homes.{AreItsHomes, with_runs};
 ghost use Rattle.bx_redo.specs.Found.{AreSettled, gates_run, with_gates};
-ghost use Rattle.bx_redo.specs.Stands.{IsAcknowledged, IsOut, bytes_of, is_written, stored};
+ghost use Rattle.bx_redo.specs.Stands.{AreHome, IsAcknowledged, IsFound, IsOut, WritesHomes, bytes_of, is_written, stored};
 ghost use Rattle.bx_redo.specs.Steps.{writes};
 ghost use Rattle.bx_redo.specs.View.{LogView};
 
@@ -40,4 +46,25 @@ pub fn a_store_writes_gates_back()
         → ((d s : ℕ) (content : List ℕ) → IsSettled disks state d s content → IsSettled disks_then state_then d s content)
         → IsDone (λ d s content known. IsSettled disks_then state_then d s content) index write
         → AreSettled (IsSettled disks state) (IsSettled disks_then state_then) before (with_gates before log bytes) log bytes }
+{}
+
+/// A write of the homes of a log's blocks, while members take nothing else that isn't over, is one of such homes, in part or whole and once it is done.
+/// Then each block is home, and all on which the truth depends without the log is sure: the log may be closed.
+pub fn a_store_writes_homes()
+    ensures out { (disks disks_then : Disks) (state state_then : GlobalState) (devices areas : ℕ) (before : Image) (logs : Logs) (slot : ℕ) (runs : List Run) (sent : List Sent) (greatest : ℕ)
+        → slot < 8 → AreItsHomes devices areas logs slot runs
+        → ((write : Sent) → Contains sent write → (write.runs ≡ runs) ⊎ IsOver greatest write)
+        → ((d s : ℕ) (content : List ℕ) → IsOnly sent greatest d s content → IsSettled disks state d s content → IsSettled disks_then state_then d s content)
+        → WritesHomes (IsSettled disks state) (IsSettled disks_then state_then) devices areas before before logs
+        × WritesHomes (IsSettled disks state) (IsSettled disks_then state_then) devices areas before (with_runs before runs) logs }
+    ensures home { (devices areas : ℕ) (before : Image) (logs : Logs) (slot : ℕ) (runs : List Run) → IsVolume devices areas → slot < 8 → AreItsHomes devices areas logs slot runs
+        → AreHome (with_runs before runs) devices areas logs slot }
+    ensures sure { (disks disks_then : Disks) (state state_then : GlobalState) (devices areas : ℕ) (rows : List SessionRow) (before : Image) (logs : Logs) (truth : Truth) (more : Logged) (slot : ℕ) (runs : List Run)
+        (sent : List Sent) (greatest : ℕ) (write : Sent) (index : ℕ)
+        → slot < 8 → AreItsHomes devices areas logs slot runs
+        → ((write : Sent) → Contains sent write → (write.runs ≡ runs) ⊎ IsOver greatest write)
+        → ((d s : ℕ) (content : List ℕ) → IsOnly sent greatest d s content → IsSettled disks state d s content → IsSettled disks_then state_then d s content)
+        → write.runs ≡ runs → IsFound (IsSettled disks state) devices areas rows before logs truth more slot
+        → IsDone (λ d s content known. IsSettled disks_then state_then d s content) index write
+        → (d s : ℕ) → Matters devices areas (with_log logs slot []) d s → IsSettled disks_then state_then d s (with_runs before runs d s) }
 {}

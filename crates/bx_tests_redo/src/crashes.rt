@@ -37,7 +37,7 @@ const WAYS: [Ways; 6] = [
 ];
 
 /// How many calls the two lives make.
-const CALLS: u64 = 284;
+const CALLS: u64 = 280;
 
 /// A rack of which the homes of two blocks are written, and whether they are.
 pub(crate) fn formatted(alloc: Global) -> Result<(MemRack, bool), OutOfMemory> {

@@ -15,3 +15,4 @@ pub mod Stored
 pub mod Back
 pub mod Drafted
 pub mod HomeRuns
+pub mod Moments

@@ -20,5 +20,8 @@ pub use recovery::{
     a_found_log_is_closing, a_log_begins, a_resting_log_is_found, gates_are_read,
     gates_are_settled, homes_of_a_found_log_are_written, what_keeps_sure_sectors_moves_nothing,
 };
-pub use stores::{a_store_writes_gates_back, a_store_writes_homes, a_store_writes_it};
+pub use stores::{
+    a_store_writes_gates_back, a_store_writes_homes, a_store_writes_it,
+    what_images_have_at_any_moment,
+};
 pub use work::{Move, Work};

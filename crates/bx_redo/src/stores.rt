@@ -3,18 +3,19 @@
 ghost use Rattle.std.specs.Prelude.{◌≡◌, ◌≢◌, ℕ, ◌<◌, ◌⊎◌, Bool, true, List, [], ◌∷◌, Contains, length};
 ghost use Rattle.bx_calls.specs.Regions.{ReadsAs};
 ghost use Rattle.bx_disk.specs.Disks.{Image, Disks};
-ghost use Rattle.bx_facts.specs.Writes.{Sent, IsDone, IsOnly, IsOver, IsSettled, IsSourceIn, WritesTo, member_disk};
+ghost use Rattle.bx_facts.specs.Writes.{Sent, HasSettled, IsDone, IsOnly, IsOver, IsSettled, IsSourceIn, WritesTo, member_disk};
 ghost use Rattle.bx_global.specs.declared.state.GlobalState.{GlobalState};
 ghost use Rattle.bx_redo.specs.declared.work.Work.TheVariants.{Idle};
 ghost use Rattle.bx_places.specs.Places.{IsVolume, log_start};
 ghost use Rattle.bx_records.specs.declared.runs.Run.{Run};
 ghost use Rattle.bx_rows.specs.declared.session.SessionRow.{SessionRow};
 ghost use Rattle.bx_views.specs.Truths.{Truth};
-ghost use Rattle.bx_volume.specs.Overlay.{Logs, Matters, with_log};
+ghost use Rattle.bx_volume.specs.Images.{AreSources, devices_of};
+ghost use Rattle.bx_volume.specs.Overlay.{Logs, IsOfLogged, IsTruth, Matters, with_log};
 ghost use Rattle.bx_volume.specs.Records.{Logged};
 ghost use Rattle.bx_redo.specs.Homes.{AreItsHomes, with_runs};
 ghost use Rattle.bx_redo.specs.Found.{AreSettled, gates_run, with_gates};
-ghost use Rattle.bx_redo.specs.Stands.{AreHome, IsAcknowledged, IsFound, IsOut, WritesHomes, bytes_of, is_written, stored};
+ghost use Rattle.bx_redo.specs.Stands.{LogStands, AreHome, IsAcknowledged, IsFound, IsOut, Shows, WritesHomes, bytes_of, is_written, stored};
 ghost use Rattle.bx_redo.specs.Steps.{writes};
 ghost use Rattle.bx_redo.specs.View.{LogView};
 
@@ -67,4 +68,21 @@ pub fn a_store_writes_homes()
         → write.runs ≡ runs → IsFound (IsSettled disks state) devices areas rows before logs truth more slot
         → IsDone (λ d s content known. IsSettled disks_then state_then d s content) index write
         → (d s : ℕ) → Matters devices areas (with_log logs slot []) d s → IsSettled disks_then state_then d s (with_runs before runs d s) }
+{}
+
+/// At any moment of a store's calls each image, read off any source member of each device, shows what a log's images do, while members take only writes of what
+/// the log asks for, of what is settled there anyhow, as a recovery's of the gates, or none that counts any more. And while they take only homes of blocks that
+/// logs have, it has the truth.
+pub fn what_images_have_at_any_moment()
+    ensures log { (disks : Disks) (state : GlobalState) (image : Image) (second : ℕ → Bool) (devices areas : ℕ) (before : Image) (logs : Logs) (truth : Truth) (more : Logged) (log : LogView) (sent : List Sent) (greatest : ℕ)
+        → AreSources state second → HasSettled sent greatest (IsSettled disks state) disks state image
+        → ((write : Sent) (d s : ℕ) (other : List ℕ) → Contains sent write → WritesTo write d s other
+        → (is_written log d s ≡ true) ⊎ (((content : List ℕ) → IsSettled disks state d s content → other ≡ content) ⊎ IsOver greatest write))
+        → LogStands (IsSettled disks state) devices areas state.sessions before logs truth more log
+        → Shows devices areas state.sessions logs truth more (devices_of image second) log.slot log.work }
+    ensures homes { (disks : Disks) (state : GlobalState) (image : Image) (second : ℕ → Bool) (devices areas : ℕ) (before : Image) (logs : Logs) (truth : Truth) (more : Logged) (slot : ℕ) (sent : List Sent) (greatest : ℕ)
+        → AreSources state second → HasSettled sent greatest (IsSettled disks state) disks state image
+        → ((write : Sent) (d s : ℕ) (other : List ℕ) → Contains sent write → WritesTo write d s other → IsOfLogged devices areas logs d s ⊎ IsOver greatest write)
+        → IsFound (IsSettled disks state) devices areas state.sessions before logs truth more slot
+        → IsTruth (devices_of image second) devices areas state.sessions logs truth }
 {}

@@ -16,3 +16,4 @@ pub mod Back
 pub mod Drafted
 pub mod HomeRuns
 pub mod Moments
+pub mod Homed

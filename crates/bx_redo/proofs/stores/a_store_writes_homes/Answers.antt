@@ -1,5 +1,6 @@
 use Rattle.bx_facts.specs.Writes.{IsSettled}
-use Rattle.bx_redo.proofs.HomeRuns.{all_sure, are_home, homes_done, homes_out}
+use Rattle.bx_redo.proofs.HomeRuns.{all_sure, homes_done, homes_out}
+use Rattle.bx_redo.proofs.Homed.{are_home}
 use Rattle.bx_redo.proofs.stores.a_store_writes_homes.Goals as goal
 
 pub returns-clause-out : goal.returns-clause-out

@@ -131,8 +131,18 @@ fn a_crash_leaves_the_acknowledged_records(rt: HostRuntime) -> Result<(), Fail> 
 /// How many calls a recovery makes.
 const RECOVERY_CALLS: u64 = 150;
 
-/// Whether a recovery that stops after so many calls, and then another one behind a crash, leave what the first one said: the gates are
-/// as it found them, as soon as it said how many are open.
+/// Whether blocks are what a recovery said: those without the record where it found no gate open, those with it where it found one. Where it
+/// said nothing they are what they may be.
+fn as_said(said: Option<u32>, reached: Reached, blocks: (u8, u8)) -> bool {
+    match said {
+        Some(0) => blocks == TRUTHS[0],
+        Some(_) => blocks == TRUTHS[1],
+        None => may_be(reached, blocks),
+    }
+}
+
+/// Whether, after a recovery that stops after so many calls and a crash, both members have what it said as soon as it said it, and after a
+/// second recovery too.
 fn agrees(alloc: Global, stop: u64, ways: Ways, calls: u64) -> Result<bool, DraftError> {
     let (rack, _) = formatted(alloc)?;
     let mut stopping = StopRack::new(rack, stop);
@@ -142,15 +152,13 @@ fn agrees(alloc: Global, stop: u64, ways: Ways, calls: u64) -> Result<bool, Draf
     let mut stopping = StopRack::new(rack, calls);
     let said = recovers(alloc, &mut stopping)?;
     let mut rack = stopping.into_inner();
-    let again = crash(&mut rack, ways) && recovers(alloc, &mut rack)?.is_some();
+    let again = crash(&mut rack, ways);
+    let left = as_said(said, reached, both(alloc, &mut rack, false)?)
+        && as_said(said, reached, both(alloc, &mut rack, true)?);
+    let recovered = recovers(alloc, &mut rack)?.is_some();
     let first = both(alloc, &mut rack, false)?;
     let other = both(alloc, &mut rack, true)?;
-    let wanted = match said {
-        Some(0) => first == TRUTHS[0],
-        Some(_) => first == TRUTHS[1],
-        None => may_be(reached, first),
-    };
-    Ok(crashed && again && first == other && wanted)
+    Ok(crashed && again && left && recovered && first == other && as_said(said, reached, first))
 }
 
 #[test]

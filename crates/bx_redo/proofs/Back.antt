@@ -1,8 +1,8 @@
 -- What a store says of a recovery's write of the gates.
-use Rattle.std.proofs.Common.{◌≡◌, ℕ, ◌+◌, ◌-◌, ◌/◌, ◌<◌, ◌≤◌, ◌⊎◌, ⊎_elim, inl, inr, arith, Bool, true, false, List, [], ◌∷◌, Contains, length, sym, ap, ◌∙◌, subst, refl}
+use Rattle.std.proofs.Common.{◌≡◌, ℕ, ◌+◌, ◌-◌, ◌<◌, ◌≤◌, ◌⊎◌, ⊎_elim, inl, inr, arith, Bool, true, List, [], ◌∷◌, Contains, length, sym, ap, ◌∙◌, subst, refl}
 use Rattle.std.specs.Prelude.{if◌then◌else◌}
 use Rattle.bx_calls.specs.Regions.{ReadsAs}
-use Rattle.bx_disk.specs.Disks.{Image, Disks, is_within, sector_of}
+use Rattle.bx_disk.specs.Disks.{Image, Disks, sector_of}
 use Rattle.bx_facts.specs.Writes.{Sent, IsDone, IsOnly, IsOver, IsSettled, IsSourceIn, Writes, WritesTo, member_disk}
 use Rattle.bx_facts.proofs.Lists.{front}
 use Rattle.bx_global.specs.declared.state.GlobalState.{GlobalState}

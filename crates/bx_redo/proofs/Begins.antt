@@ -1,19 +1,19 @@
 -- How a log begins: that of a slot whose log was found, and that of a rack at rest. What a crash of disks leaves.
-use Rattle.std.proofs.Common.{◌≡◌, ℕ, zero, suc, ◌+◌, ◌<◌, ◌≤◌, arith, Bool, true, false, List, [], length, sym, ap, ◌∙◌, subst, refl}
+use Rattle.std.proofs.Common.{◌≡◌, ℕ, zero, suc, ◌+◌, ◌<◌, arith, Bool, true, false, List, [], length, sym, ap, ◌∙◌, subst, refl}
 use Rattle.std.specs.Prelude.{◌==◌, if◌then◌else◌}
-use Rattle.bx_disk.specs.Disks.{Image, Disks, is_within}
+use Rattle.bx_disk.specs.Disks.{Image, Disks}
 use Rattle.bx_calls.specs.Regions.{ReadsAs}
 use Rattle.bx_facts.specs.Disks.{IsKept}
 use Rattle.bx_facts.specs.Writes.{IsSettled, IsSourceIn, member_disk}
 use Rattle.bx_global.specs.declared.state.GlobalState.{GlobalState}
 use Rattle.bx_layout.specs.declared.label.Label.{Label}
-use Rattle.bx_places.specs.Places.{IsVolume, log_start, log_device, gate_place, block_place}
+use Rattle.bx_places.specs.Places.{IsVolume, log_start, log_device, gate_place}
 use Rattle.bx_rows.specs.declared.session.SessionRow.{SessionRow}
 use Rattle.bx_rows.specs.Words.{is_taken}
 use Rattle.bx_truth.proofs.Cases.{eq_false}
 use Rattle.bx_views.specs.Truths.{Truth}
 use Rattle.bx_volume.specs.AtRest.{IsAtRest}
-use Rattle.bx_volume.specs.Images.{devices_of, member_disk as disk_of}
+use Rattle.bx_volume.specs.Images.{devices_of}
 use Rattle.bx_volume.specs.Overlay.{Logs, Matters, Gate, Body, Home, with_log}
 use Rattle.bx_volume.specs.Records.{Logged}
 use Rattle.bx_volume.proofs.Matters.{homes_truth}

@@ -1,23 +1,22 @@
 -- What a store says of a write of the homes of a log's blocks.
-use Rattle.std.proofs.Common.{◌≡◌, ℕ, ◌+◌, ◌-◌, ◌*◌, ◌/◌, ◌<◌, ◌≤◌, ◌⊎◌, ⊎_elim, inl, inr, arith, Bool, true, false, List, [], ◌∷◌, Contains, length, Some, None, sym, ap, ◌∙◌, subst, refl}
-use Rattle.std.specs.Prelude.{◌≢◌, if◌then◌else◌}
+use Rattle.std.proofs.Common.{◌≡◌, ℕ, ◌+◌, ◌-◌, ◌/◌, ◌<◌, ◌≤◌, ◌⊎◌, ⊎_elim, inl, inr, arith, Bool, true, false, List, [], ◌∷◌, Contains, length, sym, ap, ◌∙◌, subst, refl}
+use Rattle.std.specs.Prelude.{if◌then◌else◌}
 use Rattle.bx_disk.specs.Disks.{Image, is_within, sector_of}
 use Rattle.bx_facts.specs.Writes.{Sent, IsDone, IsOnly, IsOver, Writes, WritesIn}
 use Rattle.bx_facts.proofs.Lists.{front, behind, front_or_behind, nothing}
 use Rattle.bx_layout.specs.declared.block.Block.{Block}
-use Rattle.bx_layout.specs.Blocks.{HasParts, block_text}
-use Rattle.bx_places.specs.Places.{IsVolume, IsBlock, AreApart, block_place}
+use Rattle.bx_layout.specs.Blocks.{block_text}
+use Rattle.bx_places.specs.Places.{block_place}
 use Rattle.bx_records.specs.declared.runs.Run.{Run}
 use Rattle.bx_rows.specs.declared.session.SessionRow.{SessionRow}
 use Rattle.bx_truth.proofs.Cases.{same_or, found}
 use Rattle.bx_views.specs.Truths.{Truth}
-use Rattle.bx_volume.specs.Overlay.{Logs, IsHome, IsOfLogged, IsUnlogged, Matters, Gate, Body, Home, filled_of, with_log}
+use Rattle.bx_volume.specs.Overlay.{Logs, IsOfLogged, Matters, Gate, Body, Home, filled_of, with_log}
 use Rattle.bx_volume.specs.Records.{Logged, newest_in}
-use Rattle.bx_volume.proofs.Apart.{two_homes}
 use Rattle.bx_volume.proofs.Overlay.{log_here, log_there}
 use Rattle.bx_volume.proofs.Sizes.{length-block_text}
 use Rattle.bx_redo.specs.Homes.{AreItsHomes, IsItsHome, home_run, with_runs}
-use Rattle.bx_redo.specs.Stands.{AreHome, IsFound, WritesHomes}
+use Rattle.bx_redo.specs.Stands.{IsFound, WritesHomes}
 use Rattle.bx_redo.proofs.Within.{decided, within_is, within_it}
 
 -- a sector is as it was, and no run writes it; or one of the runs writes it

@@ -1,14 +1,13 @@
 -- Once the homes of a log's blocks are written, each is home.
-use Rattle.std.proofs.Common.{◌≡◌, ℕ, ◌+◌, ◌-◌, ◌/◌, ◌<◌, ◌≤◌, ⊎_elim, arith, List, Contains, length, Some, sym, ap, ◌∙◌, subst, refl}
+use Rattle.std.proofs.Common.{◌≡◌, ℕ, ◌+◌, ◌-◌, ◌<◌, ⊎_elim, arith, List, sym, ap, ◌∙◌, subst}
 use Rattle.std.specs.Prelude.{◌≢◌}
 use Rattle.bx_disk.specs.Disks.{Image, sector_of}
 use Rattle.bx_facts.specs.Writes.{Writes, WritesIn}
-use Rattle.bx_layout.specs.declared.block.Block.{Block}
 use Rattle.bx_layout.specs.Blocks.{HasParts, block_text}
 use Rattle.bx_places.specs.Places.{IsVolume, IsBlock, block_place}
 use Rattle.bx_records.specs.declared.runs.Run.{Run}
 use Rattle.bx_truth.proofs.Cases.{same_or}
-use Rattle.bx_volume.specs.Overlay.{Logs, IsHome}
+use Rattle.bx_volume.specs.Overlay.{Logs}
 use Rattle.bx_volume.specs.Records.{newest_in}
 use Rattle.bx_volume.proofs.Apart.{two_homes}
 use Rattle.bx_volume.proofs.Sizes.{length-block_text}

@@ -1,7 +1,7 @@
 -- What each image has at any moment of a store's calls.
-use Rattle.std.proofs.Common.{◌≡◌, ℕ, ◌<◌, ◌≤◌, ◌⊎◌, ⊎_elim, inl, inr, Bool, true, false, List, Contains, length, Option, Some, sym, ap, ◌∙◌, subst}
+use Rattle.std.proofs.Common.{◌≡◌, ℕ, ◌<◌, ◌⊎◌, ⊎_elim, inl, inr, Bool, true, List, Contains, length, Option, sym, ap, ◌∙◌, subst}
 use Rattle.bx_disk.specs.Disks.{Image, Disks}
-use Rattle.bx_facts.specs.Writes.{Sent, HasSettled, IsOnly, IsOver, IsSourceIn, IsSourceRow, WritesTo, member_disk}
+use Rattle.bx_facts.specs.Writes.{Sent, HasSettled, IsOnly, IsOver, IsSourceIn, IsSourceRow, WritesTo}
 use Rattle.bx_global.specs.declared.state.GlobalState.{GlobalState}
 use Rattle.bx_rows.specs.declared.device.DeviceRow.{DeviceRow}
 use Rattle.bx_rows.specs.declared.session.SessionRow.{SessionRow}

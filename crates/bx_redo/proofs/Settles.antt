@@ -1,7 +1,6 @@
 -- What a recovery finds once the gates are written back.
-use Rattle.std.proofs.Common.{◌≡◌, ℕ, ◌+◌, ◌-◌, ◌*◌, ◌/◌, ◌<◌, ◌≤◌, ◌⊎◌, ⊎_elim, inl, inr, arith, Bool, true, false, List, [], ◌∷◌, length, sym, ap, ◌∙◌, subst, refl}
-use Rattle.bx_base.specs.declared.names.Point.{Point}
-use Rattle.bx_disk.specs.Disks.{Image, is_within, sector_of}
+use Rattle.std.proofs.Common.{◌≡◌, ℕ, ◌+◌, ◌≤◌, ◌⊎◌, ⊎_elim, inl, inr, arith, true, false, List, [], ◌∷◌, sym, ◌∙◌, subst}
+use Rattle.bx_disk.specs.Disks.{Image, is_within}
 use Rattle.bx_places.specs.Places.{log_start, log_device}
 use Rattle.bx_rows.specs.declared.session.SessionRow.{SessionRow}
 use Rattle.bx_views.specs.Truths.{Truth, with_draft}

@@ -1,7 +1,7 @@
 -- What a store says of the write that a log asks for.
-use Rattle.std.proofs.Common.{◌≡◌, ℕ, ◌+◌, ◌-◌, ◌/◌, ◌<◌, ◌≤◌, ◌⊎◌, ⊎_elim, inl, inr, arith, Bool, true, false, List, [], ◌∷◌, Contains, length, sym, ap, ◌∙◌, subst, refl}
+use Rattle.std.proofs.Common.{◌≡◌, ℕ, ◌+◌, ◌-◌, ◌⊎◌, ⊎_elim, inr, arith, Bool, true, List, [], ◌∷◌, Contains, sym, ap, ◌∙◌, subst, refl}
 use Rattle.std.specs.Prelude.{◌≢◌, if◌then◌else◌}
-use Rattle.bx_disk.specs.Disks.{Image, is_within, sector_of}
+use Rattle.bx_disk.specs.Disks.{Image, sector_of}
 use Rattle.bx_facts.specs.Writes.{Sent, IsDone, IsOnly, IsOver, Writes, WritesTo}
 use Rattle.bx_facts.proofs.Lists.{front, front_or_behind, nothing}
 use Rattle.bx_records.specs.declared.runs.Run.{Run}

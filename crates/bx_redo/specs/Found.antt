@@ -1,6 +1,5 @@
 -- What a recovery makes of a log whose session stopped: it reads the gates, writes all of them back as they were read, and makes them sure.
 use Rattle.std.specs.Prelude.{◌≡◌, ℕ, ◌+◌, ◌-◌, ◌<◌, ◌⊎◌, true, false, if◌then◌else◌, List, [], ◌∷◌, length}
-use Rattle.bx_base.specs.declared.names.Point.{Point}
 use Rattle.bx_calls.specs.Regions.{ReadsAs}
 use Rattle.bx_disk.specs.Disks.{Image, sector_of}
 use Rattle.bx_places.specs.Places.{log_start}

@@ -1,5 +1,5 @@
 -- Writes of the homes of a log's blocks.
-use Rattle.std.specs.Prelude.{◌≡◌, ℕ, ◌-◌, ◌/◌, false, if◌then◌else◌, List, [], ◌∷◌, Contains, length, Some}
+use Rattle.std.specs.Prelude.{◌≡◌, ℕ, ◌-◌, ◌/◌, if◌then◌else◌, List, [], ◌∷◌, Contains, length, Some}
 use Rattle.bx_disk.specs.Disks.{Image, is_within, sector_of}
 use Rattle.bx_layout.specs.declared.block.Block.{Block}
 use Rattle.bx_layout.specs.Blocks.{HasParts, block_text}

@@ -3,7 +3,7 @@
 ghost use Rattle.std.specs.Prelude.{◌≡◌, ◌≢◌, ◌↔◌, ℕ, ◌<◌, ◌≤◌, true, false, IsTrue, IfOk, OnOk, OnErr};
 
 use crate::runs::{closed_gates, gate_sector, one_run};
-use crate::text::record_text;
+use crate::text::{record_is_logged, record_text};
 use crate::work::{Move, Work};
 use bx_base::{OutOfMemory, Point, Raw};
 use bx_layout::Gate;
@@ -108,6 +108,7 @@ impl Log {
         ensures ok { OnOk result (self.new ≡ with_work self.old (works.Body (logged_text (record_of point draft.now)) point)) }
         ensures err { OnErr result (self.new ≡ self.old) }
     {
+        record_is_logged(point, draft);
         let text = record_text(self.alloc, point, draft)?;
         self.work = Work::Body(text, point);
         self.out = false;

@@ -2,7 +2,7 @@
 
 ghost use Rattle.std.specs.Prelude.{◌≡◌, ◌↔◌, [], length, None, IsErrOf, OnOk, OnErr};
 ghost use Rattle.std.specs.Option.{option_copied};
-ghost use Rattle.bx_records.specs.Drafts.{block_in, with_block, place_in};
+ghost use Rattle.bx_records.specs.Drafts.{IsDraft, block_in, with_block, place_in};
 ghost use Rattle.bx_records.specs.declared.draft.DraftError.TheVariants.{OutOfMemory as MemoryRanOut, Crowded};
 
 use bx_base::List;
@@ -92,7 +92,8 @@ impl Draft {
 
     /// The blocks with their numbers, in the order in which they were first put.
     pub fn blocks(&self) -> &[(u64, Block)]
-        ensures { result.now ≡ self.now }
+        ensures is { result.now ≡ self.now }
+        ensures draft { IsDraft self.now }
     {
         self.blocks.items()
     }

@@ -8,3 +8,12 @@ pub mod Opened
 pub mod Shut
 pub mod Begun
 pub mod Asked
+pub mod Homes
+pub mod Settles
+pub mod Begins
+pub mod Stored
+pub mod Back
+pub mod Drafted
+pub mod HomeRuns
+pub mod Moments
+pub mod Homed

@@ -1,5 +1,5 @@
 -- What an acknowledged body and an acknowledged gate leave.
-use Rattle.std.proofs.Common.{◌≡◌, ℕ, ◌+◌, ◌*◌, ◌/◌, ⊎_elim, inl, inr, arith, true, false, List, ◌∷◌, length, take, sym, ap, ◌∙◌, subst}
+use Rattle.std.proofs.Common.{◌≡◌, ℕ, ◌+◌, ◌*◌, ◌/◌, ⊎_elim, inl, inr, arith, true, false, List, ◌∷◌, length, take, sym, ap, ◌∙◌, subst, refl}
 use Rattle.bx_base.specs.declared.names.Point.{Point}
 use Rattle.bx_calls.specs.Regions.{ReadsAs}
 use Rattle.bx_disk.specs.Disks.{Image, is_within, sector_of}
@@ -18,7 +18,7 @@ use Rattle.bx_redo.specs.View.{LogView}
 use Rattle.bx_redo.specs.Stands.{LogStands, IsAcknowledged, is_written}
 use Rattle.bx_redo.specs.declared.work.Work.TheVariants.{Idle, Body, Opens}
 use Rattle.bx_redo.proofs.Shown.{body_apart}
-use Rattle.bx_redo.proofs.Within.{elsewhere, before_it, behind_it, decided}
+use Rattle.bx_redo.proofs.Within.{elsewhere, before_it, behind_it, within_it, decided}
 
 module _ (Sure Sure_then : ℕ → ℕ → List ℕ → Type 0) (before now : Image) (log : LogView) (bytes : List ℕ) (ack : IsAcknowledged Sure Sure_then before now log bytes) where
   -- what was sure, where it isn't written, is sure as it stands now
@@ -55,7 +55,7 @@ module _ (Sure Sure_then : ℕ → ℕ → List ℕ → Type 0) (devices areas :
         (λ d s matters. ack.same d s (body_apart Sure devices areas rows before logs truth more (record log { out = true }) text point st d s matters)) st.is_truth;
     run = st.run;
     sure = λ d s matters apart. carried Sure Sure_then before now _ text ack d s (st.sure d s matters);
-    own = λ d s is apart. carried Sure Sure_then before now _ text ack d s (st.own d s record { on = is.on; from = is.from; to = is.to });
+    own = λ d s is apart. carried Sure Sure_then before now _ text ack d s (st.own d s is);
     finds = (
       record {
         is = st.finds.1.is;
@@ -70,17 +70,24 @@ module _ (Sure Sure_then : ℕ → ℕ → List ℕ → Type 0) (devices areas :
             (subst IsOpenGate (ack.same (log_device log.slot devices) (log_start log.slot + gate)
             (before_it log.device (log_start log.slot + 8 + 145 * log.count) (length text / 512) (log_device log.slot devices) (log_start log.slot + gate) (omega (arith, place)))) is_open);
       },
+      λ sector within. ack.sure log.device (log_start log.slot + 8 + 145 * log.count + sector)
+          (within_it log.device (log_start log.slot + 8 + 145 * log.count) (length text / 512) log.device (log_start log.slot + 8 + 145 * log.count + sector) refl (omega arith)
+          (let long = ap (λ (t : List ℕ). length t / 512) st.finds.0 in omega (arith, within, long))),
     );
   }
 
   more_sure : LogStands Sure devices areas rows before logs truth more (record log { work = Opens point; out = true })
       → IsAcknowledged Sure Sure_then before now (record log { work = Opens point; out = true }) (gate_text Open)
-      → (d s : ℕ) → MattersMore devices areas logs log.slot d s → Sure_then d s (now d s)
+      → (d s : ℕ) → MattersMore devices areas logs log.slot more d s → Sure_then d s (now d s)
   more_sure st ack d s (inl matters) = carried Sure Sure_then before now _ (gate_text Open) ack d s (st.sure d s matters)
   more_sure st ack d s (inr (inl (sector, within, device, place))) = carried Sure Sure_then before now _ (gate_text Open) ack d s
-      (st.own d s record { on = device ∙ sym st.on_device; from = omega (arith, place); to = let r = st.run in let room = st.finds.1.room in omega (arith, place, within, r, room) })
+      (λ apart.
+      let r = st.run in
+      let on = device ∙ sym st.on_device in
+      let at : s ≡ log_start log.slot + 8 + 145 * log.count + sector = omega (arith, place, r) in
+      subst (λ (x : ℕ × ℕ). Sure x.0 x.1 (before x.0 x.1)) (λ i. (sym on i, sym at i)) (st.finds.2 sector within))
   more_sure st ack d s (inr (inr (few, device, place))) = carried Sure Sure_then before now _ (gate_text Open) ack d s
-      (st.own d s record { on = device ∙ sym st.on_device; from = omega (arith, place); to = omega (arith, place, few) })
+      (st.own d s (within_it log.device (log_start log.slot) 8 d s (device ∙ sym st.on_device) (omega (arith, place)) (omega (arith, place, few))))
 
   pub record_stands : (next : Logged) → LogStands Sure devices areas rows before logs truth more (record log { work = Opens point; out = true })
       → IsAcknowledged Sure Sure_then before now (record log { work = Opens point; out = true }) (gate_text Open)
@@ -101,7 +108,7 @@ module _ (Sure Sure_then : ℕ → ℕ → List ℕ → Type 0) (devices areas :
         st.finds.1.alone st.is_truth;
     run = ap length (log_here logs log.slot (more ∷ logs log.slot)) ∙ (let r = st.run in omega (arith, r));
     sure = λ d s matters apart. more_sure st ack d s (matters_more devices areas logs log.slot more st.is_slot d s matters);
-    own = λ d s is apart. carried Sure Sure_then before now _ (gate_text Open) ack d s (st.own d s record { on = is.on; from = is.from; to = is.to });
+    own = λ d s is apart. carried Sure Sure_then before now _ (gate_text Open) ack d s (st.own d s is);
     finds = λ gate le place is_open. st.finds.1.closed gate (omega (arith, le)) place
         (subst IsOpenGate (ack.same (log_device log.slot devices) (log_start log.slot + gate)
         (behind_it log.device (log_start log.slot + log.count) 1 (log_device log.slot devices) (log_start log.slot + gate) (omega (arith, le)))) is_open);

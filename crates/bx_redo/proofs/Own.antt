@@ -44,7 +44,7 @@ module _ (devices areas : ℕ) (logs : Logs) (most : (slot : ℕ) → slot < 8 �
       by : (slot ≡ other) ⊎ (slot ≢ other) → IsOwnGate slot (length (logs slot)) s ⊎ IsOwnBody slot (length (logs slot)) s
       by (inl same) = inl record { gate = gate; place = place; few = subst (λ (n : ℕ). gate ≤ length (logs n)) (sym same) few; is = ap (λ (n : ℕ). log_start n + gate) (sym same) }
       by (inr apart) = absurd (two_slots slot other s apart from to (omega arith) (omega (arith, place)))
-  own d s (Body other body sector in_slots few within) from to = by (same_or slot other)
+  own d s (Body other body sector in_slots few within fills) from to = by (same_or slot other)
     where
       by : (slot ≡ other) ⊎ (slot ≢ other) → IsOwnGate slot (length (logs slot)) s ⊎ IsOwnBody slot (length (logs slot)) s
       by (inl same) = inr record { body = body; few = subst (λ (n : ℕ). body < length (logs n)) (sym same) few; sector = sector; within = within; is = ap (λ (n : ℕ). log_start n + 8 + 145 * body + sector) (sym same) }

@@ -9,11 +9,11 @@ use Rattle.bx_rows.specs.declared.device.DeviceRow.{DeviceRow}
 use Rattle.bx_volume.specs.Images.{AreSources, devices_of, member_disk as disk_of}
 use Rattle.bx_redo.specs.Stands.{HasSure}
 
-one_disk : (device : ℕ) (second : Bool) → disk_of device second ≡ member_disk device second
+pub one_disk : (device : ℕ) (second : Bool) → disk_of device second ≡ member_disk device second
 one_disk device false = omega arith
 one_disk device true = omega arith
 
-there_is : (rows : List DeviceRow) (n : ℕ) → n < length rows → (row : DeviceRow) × (slice_get rows n ≡ Some row)
+pub there_is : (rows : List DeviceRow) (n : ℕ) → n < length rows → (row : DeviceRow) × (slice_get rows n ≡ Some row)
 there_is rows n less = ⊎_elim
     (λ y. (y.0, y.2))
     (λ z. let le = z.0 in absurd (omega (arith, less, le)))

@@ -14,11 +14,11 @@ use Rattle.bx_volume.proofs.Matters.{truth_same}
 use Rattle.bx_base.specs.declared.names.Point.{Point}
 use Rattle.bx_volume.proofs.Sizes.{logged_sectors}
 use Rattle.bx_redo.specs.View.{LogView}
-use Rattle.bx_redo.specs.Stands.{LogStands, HasSure, Shows}
+use Rattle.bx_redo.specs.Stands.{LogStands, Shows, is_written}
 use Rattle.bx_redo.specs.declared.work.Work.{Work}
 use Rattle.bx_redo.specs.declared.work.Work.TheVariants.{Idle, Body, Opens, Closes, Shuts}
 use Rattle.bx_redo.proofs.Own.{most_of, own, IsOwnGate, IsOwnBody}
-use Rattle.bx_redo.proofs.Within.{elsewhere, before_it, behind_it}
+use Rattle.bx_redo.proofs.Within.{elsewhere, before_it, behind_it, within_it}
 
 -- a sector on which the truth depends isn't behind the run
 module _ (devices areas : ℕ) (logs : Logs) (most : (slot : ℕ) → slot < 8 → length (logs slot) ≤ 8) (slot : ℕ) (less : slot < 8) where
@@ -90,7 +90,7 @@ module _ (Sure : ℕ → ℕ → List ℕ → Type 0) (devices areas : ℕ) (row
       subst (λ (n : ℕ). is_within n (log_start log.slot + 1) 7 d s ≡ false) (sym st.on_device)
       (not_in_gates devices areas logs (most_of before devices areas rows logs truth st.is_truth) log.slot st.is_slot d s (st.run ∙ st.finds) matters)
 
-module _ (Sure : ℕ → ℕ → List ℕ → Type 0) (devices areas : ℕ) (rows : List SessionRow) (before now : Image) (logs : Logs) (truth : Truth) (more : Logged) (has : HasSure Sure now) where
+module _ (Sure : ℕ → ℕ → List ℕ → Type 0) (devices areas : ℕ) (rows : List SessionRow) (before now : Image) (logs : Logs) (truth : Truth) (more : Logged) where
   -- a sector that isn't one gate isn't written with it
   not_gate : (device from d s : ℕ) → (d ≢ device) ⊎ (s ≢ from) → is_within device from 1 d s ≡ false
   not_gate device from d s (inl other) = elsewhere device from 1 d s other
@@ -115,32 +115,38 @@ module _ (Sure : ℕ → ℕ → List ℕ → Type 0) (devices areas : ℕ) (row
 
   -- where a gate is opened, each other sector on which the truth depends with the record is sure
   pub opening_has : (log : LogView) (point : Point) (st : LogStands Sure devices areas rows before logs truth more (record log { work = Opens point }))
-      → log.count < 8 → (d s : ℕ) → MattersMore devices areas logs log.slot d s → is_within log.device (log_start log.slot + log.count) 1 d s ≡ false → Sure d s (before d s)
+      → log.count < 8 → (d s : ℕ) → MattersMore devices areas logs log.slot more d s → is_within log.device (log_start log.slot + log.count) 1 d s ≡ false → Sure d s (before d s)
   opening_has log point st room d s (inl matters) apart = st.sure d s matters apart
   opening_has log point st room d s (inr (inl (sector, within, device, place))) apart =
-      st.own d s record { on = device ∙ sym st.on_device; from = omega (arith, place); to = let r = st.run in omega (arith, place, within, r, room) } apart
+      let r = st.run in
+      let on = device ∙ sym st.on_device in
+      let at : s ≡ log_start log.slot + 8 + 145 * log.count + sector = omega (arith, place, r) in
+      subst (λ (x : ℕ × ℕ). Sure x.0 x.1 (before x.0 x.1)) (λ i. (sym on i, sym at i)) (st.finds.2 sector within)
   opening_has log point st room d s (inr (inr (few, device, place))) apart =
-      st.own d s record { on = device ∙ sym st.on_device; from = omega (arith, place); to = omega (arith, place, few) } apart
+      st.own d s (within_it log.device (log_start log.slot) 8 d s (device ∙ sym st.on_device) (omega (arith, place)) (omega (arith, place, few))) apart
 
-  pub shown : (log : LogView) (work : Work) → LogStands Sure devices areas rows before logs truth more (record log { work = work })
+  -- a content that has all that was sure and isn't written shows this
+  pub shown : (log : LogView) (work : Work) → ((d s : ℕ) → is_written (record log { work = work }) d s ≡ false → Sure d s (before d s) → now d s ≡ before d s)
+      → LogStands Sure devices areas rows before logs truth more (record log { work = work })
       → Shows devices areas rows logs truth more now log.slot work
-  shown log Idle st = truth_same before now devices areas rows logs truth
-      (λ d s matters. has d s (before d s) (st.sure d s matters (behind_it log.device 0 0 d s (omega arith)))) st.is_truth
-  shown log (Body text point) st = truth_same before now devices areas rows logs truth
-      (λ d s matters. has d s (before d s) (st.sure d s matters (body_apart Sure devices areas rows before logs truth more log text point st d s matters))) st.is_truth
-  shown log (Opens point) st =
+  shown log Idle has st = truth_same before now devices areas rows logs truth
+      (λ d s matters. let apart = behind_it log.device 0 0 d s (omega arith) in has d s apart (st.sure d s matters apart)) st.is_truth
+  shown log (Body text point) has st = truth_same before now devices areas rows logs truth
+      (λ d s matters. let apart = body_apart Sure devices areas rows before logs truth more log text point st d s matters in has d s apart (st.sure d s matters apart)) st.is_truth
+  shown log (Opens point) has st =
       gate_in_doubt before now devices areas rows logs truth log.slot more st.is_slot st.taken (omega (arith, st.run, st.finds.1.room))
       (subst (λ (n : ℕ). IsInBody before devices areas log.slot n more) (sym st.run) st.finds.0)
       (λ less. st.finds.1.closed (length (logs log.slot) + 1) (let r = st.run in omega (arith, r)) less)
       st.finds.1.alone
-      (λ d s matters apart. has d s (before d s) (opening_has log point st st.finds.1.room d s (inl matters) (other_gate log st.on_device (length (logs log.slot)) d s st.run apart)))
-      (λ d s matters apart. has d s (before d s) (opening_has log point st st.finds.1.room d s (matters_more devices areas logs log.slot more st.is_slot d s matters)
-      (other_gate log st.on_device (length (logs log.slot)) d s st.run apart)))
+      (λ d s matters apart. let other = other_gate log st.on_device (length (logs log.slot)) d s st.run apart in
+      has d s other (opening_has log point st st.finds.1.room d s (inl matters) other))
+      (λ d s matters apart. let other = other_gate log st.on_device (length (logs log.slot)) d s st.run apart in
+      has d s other (opening_has log point st st.finds.1.room d s (matters_more devices areas logs log.slot more st.is_slot d s matters) other))
       st.is_truth
-  shown log Closes st =
+  shown log Closes has st =
       closing_in_doubt before now devices areas rows logs truth log.slot st.is_slot st.taken (omega (arith, st.run, st.finds.some)) st.finds.home
-      (λ d s matters apart. has d s (before d s) (st.sure d s matters (other_first log st.on_device d s apart)))
-      (λ d s matters apart. has d s (before d s) (st.finds.sure d s matters (other_first log st.on_device d s apart)))
+      (λ d s matters apart. let other = other_first log st.on_device d s apart in has d s other (st.sure d s matters other))
+      (λ d s matters apart. let other = other_first log st.on_device d s apart in has d s other (st.finds.sure d s matters other))
       st.is_truth
-  shown log Shuts st = truth_same before now devices areas rows logs truth
-      (λ d s matters. has d s (before d s) (st.sure d s matters (gates_apart Sure devices areas rows before logs truth more log st d s matters))) st.is_truth
+  shown log Shuts has st = truth_same before now devices areas rows logs truth
+      (λ d s matters. let apart = gates_apart Sure devices areas rows before logs truth more log st d s matters in has d s apart (st.sure d s matters apart)) st.is_truth

@@ -55,7 +55,7 @@ module _ (Sure Sure_then : ℕ → ℕ → List ℕ → Type 0) (devices areas :
         st.finds.home st.is_truth;
     run = ap length (log_here logs log.slot []);
     sure = λ d s matters apart. carried Sure Sure_then before now _ (gate_text Closed) ack d s (st.finds.sure d s matters);
-    own = λ d s is apart. carried Sure Sure_then before now _ (gate_text Closed) ack d s (st.own d s record { on = is.on; from = is.from; to = is.to });
+    own = λ d s is apart. carried Sure Sure_then before now _ (gate_text Closed) ack d s (st.own d s is);
     finds = refl;
   }
 
@@ -78,7 +78,7 @@ module _ (Sure Sure_then : ℕ → ℕ → List ℕ → Type 0) (devices areas :
         (λ d s matters. ack.same d s (gates_apart Sure devices areas rows before logs truth more (record log { out = true }) st d s matters)) st.is_truth;
     run = st.run;
     sure = λ d s matters apart. carried Sure Sure_then before now _ shut_text ack d s (st.sure d s matters);
-    own = λ d s is apart. carried Sure Sure_then before now _ shut_text ack d s (st.own d s record { on = is.on; from = is.from; to = is.to });
+    own = λ d s is apart. carried Sure Sure_then before now _ shut_text ack d s (st.own d s is);
     finds = λ gate le place. closed gate place;
   }
     where

@@ -1,7 +1,7 @@
 -- What disks hold of a log, at every moment of its writes. `Sure` says of a sector of a device that each image that a crash may leave has
 -- this content there, on each member that it is read off.
-use Rattle.std.specs.Prelude.{◌≡◌, ◌≢◌, ℕ, ◌+◌, ◌*◌, ◌/◌, ◌<◌, ◌≤◌, ◌⊎◌, Bool, true, false, List, [], ◌∷◌, length, Some, None}
-use Rattle.bx_disk.specs.Disks.{Image, is_within}
+use Rattle.std.specs.Prelude.{◌≡◌, ◌≢◌, ℕ, ◌+◌, ◌-◌, ◌*◌, ◌/◌, ◌<◌, ◌≤◌, ◌⊎◌, Bool, true, false, if◌then◌else◌, List, [], ◌∷◌, length, Some, None}
+use Rattle.bx_disk.specs.Disks.{Image, is_within, sector_of}
 use Rattle.bx_calls.specs.Regions.{ReadsAs}
 use Rattle.bx_layout.specs.declared.block.Block.{Block}
 use Rattle.bx_layout.specs.Labels.{IsOpenGate, gate_text}
@@ -53,11 +53,9 @@ is_written log d s = is_within log.device (begins_at log log.work) (sectors_of l
 
 -- ---- what holds
 
--- a sector of the log's slot
-pub record IsOfSlot (log : LogView) (d s : ℕ) : Type 0 where
-  pub on : d ≡ log.device
-  pub from : log_start log.slot ≤ s
-  pub to : s < log_start log.slot + 1168
+-- whether a sector of a device is one of the log's gates
+abbrev pub is_gate : LogView → ℕ → ℕ → Bool
+is_gate log d s = is_within log.device (log_start log.slot) 8 d s
 
 -- the gates from one on are closed
 abbrev pub AreClosed : Image → ℕ → ℕ → ℕ → Type 0
@@ -85,16 +83,21 @@ module _ (Sure : ℕ → ℕ → List ℕ → Type 0) (devices areas : ℕ) (row
     pub home : AreHome before devices areas logs log.slot
     pub sure : (d s : ℕ) → Matters devices areas (with_log logs log.slot []) d s → is_written log d s ≡ false → Sure d s (before d s)
 
+  -- The body of the record that is under way is sure.
+  abbrev pub IsBodySure : LogView → Type 0
+  IsBodySure log = (sector : ℕ) → sector < length (logged_text more) / 512
+      → Sure log.device (log_start log.slot + 8 + 145 * log.count + sector) (before log.device (log_start log.slot + 8 + 145 * log.count + sector))
+
   -- what each work finds, where `more` is the record that is under way
   abbrev pub Finds : LogView → Work → Type 0
   Finds log Idle = AreClosed before devices log.slot log.count
   Finds log (Body text point) = (text ≡ logged_text more) × IsUnderWay before devices areas logs more log.slot log.count
-  Finds log (Opens point) = IsInBody before devices areas log.slot log.count more × IsUnderWay before devices areas logs more log.slot log.count
+  Finds log (Opens point) = IsInBody before devices areas log.slot log.count more × IsUnderWay before devices areas logs more log.slot log.count × IsBodySure log
   Finds log Closes = IsClosing log
   Finds log Shuts = log.count ≡ 0
 
   -- The devices hold the truth, of which the log has its records, but for what is being written: `before` has there what was there before.
-  -- All else on which the truth depends is sure, and so is all of the log's slot.
+  -- All else on which the truth depends is sure, and so are the log's gates.
   pub record LogStands (log : LogView) : Type 0 where
     pub volume : IsVolume devices areas
     pub is_slot : log.slot < 8
@@ -103,8 +106,17 @@ module _ (Sure : ℕ → ℕ → List ℕ → Type 0) (devices areas : ℕ) (row
     pub is_truth : IsTruth before devices areas rows logs truth
     pub run : length (logs log.slot) ≡ log.count
     pub sure : (d s : ℕ) → Matters devices areas logs d s → is_written log d s ≡ false → Sure d s (before d s)
-    pub own : (d s : ℕ) → IsOfSlot log d s → is_written log d s ≡ false → Sure d s (before d s)
+    pub own : (d s : ℕ) → is_gate log d s ≡ true → is_written log d s ≡ false → Sure d s (before d s)
     pub finds : Finds log log.work
+
+  -- The same with nothing under way, but that gates behind the run may be open: so a recovery finds the log of a slot.
+  pub record IsFound (slot : ℕ) : Type 0 where
+    pub volume : IsVolume devices areas
+    pub is_slot : slot < 8
+    pub taken : is_taken rows slot ≡ true
+    pub is_truth : IsTruth before devices areas rows logs truth
+    pub sure : (d s : ℕ) → Matters devices areas logs d s → Sure d s (before d s)
+    pub gates : (gate : ℕ) → gate < 8 → Sure (log_device slot devices) (log_start slot + gate) (before (log_device slot devices) (log_start slot + gate))
 
 -- ---- what images have
 
@@ -142,6 +154,10 @@ pub record IsAcknowledged (Sure Sure_then : ℕ → ℕ → List ℕ → Type 0)
   pub same : (d s : ℕ) → is_written log d s ≡ false → now d s ≡ before d s
   pub sure : (d s : ℕ) → is_written log d s ≡ true → Sure_then d s (now d s)
   pub reads : ReadsAs now log.device (begins_at log log.work) bytes
+
+-- what devices hold once it is
+abbrev pub stored : Image → LogView → Image
+stored before log d s = if is_written log d s then sector_of (bytes_of log.work) (s - begins_at log log.work) else before d s
 
 -- Nothing but homes of blocks that logs have is written: all else stays, and what was sure there is.
 abbrev pub WritesHomes : (ℕ → ℕ → List ℕ → Type 0) → (ℕ → ℕ → List ℕ → Type 0) → ℕ → ℕ → Image → Image → Logs → Type 0

@@ -1,12 +1,13 @@
 -- What a log asks for, and what it is then.
-use Rattle.std.specs.Prelude.{◌≡◌, ℕ, ◌+◌, ◌*◌, Bool, true, false, List, [], ◌∷◌, ◌++◌, map, replicate}
+use Rattle.std.specs.Prelude.{◌≡◌, ℕ, ◌+◌, ◌*◌, ◌==◌, Bool, true, false, if◌then◌else◌, List, [], ◌∷◌, ◌++◌, map, replicate, Some}
 use Rattle.std.specs.List.{AllByRecursion, flat_map}
 use Rattle.bx_base.specs.declared.names.Point.{Point}
+use Rattle.bx_layout.specs.declared.block.Block.{Block}
 use Rattle.bx_layout.specs.Blocks.{HasParts, block_text}
 use Rattle.bx_layout.specs.Labels.{gate_text}
 use Rattle.bx_layout.specs.declared.gate.Gate.TheVariants.{Open, Closed as Shut}
 use Rattle.bx_places.specs.Places.{IsBlock, log_start}
-use Rattle.bx_records.specs.Drafts.{Changed, IsDraft}
+use Rattle.bx_records.specs.Drafts.{Changed, IsDraft, block_in}
 use Rattle.bx_records.specs.Records.{head_text}
 use Rattle.bx_records.specs.declared.record_head.RecordHead.{RecordHead}
 use Rattle.bx_fields.specs.Writing.{padded}
@@ -19,6 +20,10 @@ use Rattle.bx_redo.specs.declared.work.Work.{Work}
 use Rattle.bx_redo.specs.declared.work.Work.TheVariants.{Idle, Body, Opens, Closes, Shuts}
 
 -- ---- records
+
+-- each is a block of a volume with so many areas
+abbrev pub AreBlocksOf : ℕ → List Changed → Type 0
+AreBlocksOf areas changed = (at : ℕ) (block : Block) → block_in changed at ≡ Some block → IsBlock areas at × HasParts block
 
 -- what a call changed may be logged: it is a draft, of blocks of some volume
 pub record IsLoggable (changed : List Changed) : Type 0 where
@@ -41,6 +46,10 @@ record_bytes head changed = padded 512 (head_text head) ++ flat_map (λ change. 
 
 abbrev pub closed_log : ℕ → ℕ → LogView
 closed_log slot device = record { slot = slot; device = device; count = 0; work = Idle; out = false }
+
+-- a log that was found with so many records open, whose closing is under way; where none is, that of the gates behind gate 0
+abbrev pub found_log : ℕ → ℕ → ℕ → LogView
+found_log slot device count = record { slot = slot; device = device; count = count; work = if count == 0 then Shuts else Closes; out = false }
 
 -- the log with a work under way, of which nothing is asked for yet
 abbrev pub with_work : LogView → Work → LogView

@@ -67,12 +67,12 @@ pub fn a_log_is_closed()
         → LogStands (IsSettled disks_then state_then) devices areas rows now logs truth next (resting log) }
 {}
 
-/// A write that is under way, in part or whole, moves nothing, as long as what is settled elsewhere stays.
+/// A write that is asked for, or is under way, in part or whole, moves nothing, as long as what is settled elsewhere stays.
 pub fn what_is_out_moves_nothing()
-    ensures { (disks disks_then : Disks) (state state_then : GlobalState) (devices areas : ℕ) (rows : List SessionRow) (before : Image) (logs : Logs) (truth : Truth) (more : Logged) (log : LogView)
+    ensures { (disks disks_then : Disks) (state state_then : GlobalState) (devices areas : ℕ) (rows : List SessionRow) (before : Image) (logs : Logs) (truth : Truth) (more : Logged) (log : LogView) (out : Bool)
         → LogStands (IsSettled disks state) devices areas rows before logs truth more log
         → IsOut (IsSettled disks state) (IsSettled disks_then state_then) log
-        → LogStands (IsSettled disks_then state_then) devices areas rows before logs truth more log }
+        → LogStands (IsSettled disks_then state_then) devices areas rows before logs truth more (record log { out = out }) }
 {}
 
 /// A write of homes whose blocks logs have, in part or whole, moves nothing either.

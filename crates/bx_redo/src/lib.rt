@@ -4,7 +4,9 @@
 
 mod laws;
 mod log;
+mod recovery;
 mod runs;
+mod stores;
 mod text;
 mod work;
 
@@ -14,4 +16,12 @@ pub use laws::{
     what_is_asked_for_is_written, what_is_out_moves_nothing,
 };
 pub use log::Log;
+pub use recovery::{
+    a_found_log_is_closing, a_log_begins, a_resting_log_is_found, gates_are_read,
+    gates_are_settled, homes_of_a_found_log_are_written, what_keeps_sure_sectors_moves_nothing,
+};
+pub use stores::{
+    a_store_writes_gates_back, a_store_writes_homes, a_store_writes_it,
+    what_images_have_at_any_moment,
+};
 pub use work::{Move, Work};

@@ -1,9 +1,9 @@
 //! The log.
 
-ghost use Rattle.std.specs.Prelude.{◌≡◌, ◌≢◌, ◌<◌, true, false, IfOk, OnOk, OnErr};
+ghost use Rattle.std.specs.Prelude.{◌≡◌, ◌≢◌, ◌↔◌, ℕ, ◌<◌, ◌≤◌, true, false, IsTrue, IfOk, OnOk, OnErr};
 
 use crate::runs::{closed_gates, gate_sector, one_run};
-use crate::text::record_text;
+use crate::text::{record_is_logged, record_text};
 use crate::work::{Move, Work};
 use bx_base::{OutOfMemory, Point, Raw};
 use bx_layout::Gate;
@@ -43,10 +43,10 @@ impl Model for Log {
 }
 
 impl Log {
-    ghost use Rattle.bx_redo.specs.Steps.{Asks, Goes, IsLoggable, Steps, closed_log, gate_at, record_of, with_work, writes};
+    ghost use Rattle.bx_redo.specs.Steps.{AreBlocksOf, Asks, Goes, Steps, closed_log, found_log, gate_at, record_of, with_work, writes};
     ghost use Rattle.bx_redo.specs.View.{HasRoom};
     ghost use Rattle.bx_redo.specs.declared.work.Work.TheVariants as works;
-    ghost use Rattle.bx_volume.specs.Records.{logged_text};
+    ghost use Rattle.bx_volume.specs.Records.{IsLogged, logged_text};
 
     /// A closed log in a slot, from 0 to 7, on the device where the slot stands. It takes no memory.
     pub fn new(alloc: Global, slot: u32, device: u32) -> Log
@@ -63,6 +63,34 @@ impl Log {
         }
     }
 
+    /// The log of a slot as a recovery found it, with so many open records, up to 8, which are all home: its closing is under way, and
+    /// ends with `Closed`. It takes no memory.
+    pub fn found(alloc: Global, slot: u32, device: u32, count: u32) -> Log
+        requires slot { slot < 8 }
+        requires most { count ≤ 8 }
+        ensures { result ≡ found_log slot device count }
+    {
+        Log {
+            alloc,
+            slot,
+            device,
+            count,
+            work: if count == 0 {
+                Work::Shuts
+            } else {
+                Work::Closes
+            },
+            out: false,
+        }
+    }
+
+    /// Whether nothing is under way: no record, and no closing.
+    pub fn is_idle(&self) -> bool
+        ensures { IsTrue result ↔ (self.now.work ≡ works.Idle) }
+    {
+        matches!(self.work, Work::Idle)
+    }
+
     /// How many of its records are open: their gates are acknowledged.
     pub fn open(&self) -> u32
         ensures { result ≡ self.now.count }
@@ -75,10 +103,12 @@ impl Log {
     pub fn append(&mut self, point: Point, draft: &Draft) -> Result<(), OutOfMemory>
         requires idle { self.old.work ≡ works.Idle }
         requires none { self.old.count ≡ 0 }
-        requires blocks { IsLoggable draft.now }
+        requires blocks { AreBlocksOf 64 draft.now }
+        ensures logged { (areas : ℕ) → AreBlocksOf areas draft.now → IsLogged areas (record_of point draft.now) }
         ensures ok { OnOk result (self.new ≡ with_work self.old (works.Body (logged_text (record_of point draft.now)) point)) }
         ensures err { OnErr result (self.new ≡ self.old) }
     {
+        record_is_logged(point, draft);
         let text = record_text(self.alloc, point, draft)?;
         self.work = Work::Body(text, point);
         self.out = false;

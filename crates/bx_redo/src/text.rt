@@ -1,12 +1,12 @@
 //! The bytes of a record.
 
-ghost use Rattle.std.specs.Prelude.{◌≡◌, ◌+◌, ◌*◌, ◌≤◌, length, IfOk};
+ghost use Rattle.std.specs.Prelude.{◌≡◌, ℕ, ◌+◌, ◌*◌, ◌≤◌, length, IfOk};
 ghost use Rattle.std.specs.List.{flat_map, AllByRecursion};
 ghost use Rattle.bx_fields.specs.Writing.{Writes};
 ghost use Rattle.bx_layout.specs.Blocks.{HasParts, block_text};
 ghost use Rattle.bx_records.specs.Records.{IsHead};
-ghost use Rattle.bx_volume.specs.Records.{logged_text};
-ghost use Rattle.bx_redo.specs.Steps.{IsLoggable, record_bytes, record_of};
+ghost use Rattle.bx_volume.specs.Records.{IsLogged, logged_text};
+ghost use Rattle.bx_redo.specs.Steps.{AreBlocksOf, IsLoggable, record_bytes, record_of};
 
 use bx_base::{Numbers, OutOfMemory, Point, Raw};
 use bx_fields::put;
@@ -20,7 +20,7 @@ const BLOCK: usize = SECTOR + PAYLOAD;
 
 /// The bytes of the record of a call at a point: its header, and the blocks that it changes.
 pub(crate) fn record_text(alloc: Global, point: Point, draft: &Draft) -> Result<Raw, OutOfMemory>
-    requires { IsLoggable draft.now }
+    requires { AreBlocksOf 64 draft.now }
     ensures { IfOk result (λ text. text ≡ logged_text (record_of point draft.now)) }
 {
     let blocks = draft.blocks();
@@ -28,6 +28,14 @@ pub(crate) fn record_text(alloc: Global, point: Point, draft: &Draft) -> Result<
     let mut text = vec![in alloc; 0u8; SECTOR + BLOCK * blocks.len()]?;
     put_record(&mut text, &head, blocks);
     Ok(Raw::from(text))
+}
+
+/// The record of a call at a point is one of each volume that has the draft's blocks.
+pub(crate) fn record_is_logged(point: Point, draft: &Draft)
+    requires { AreBlocksOf 64 draft.now }
+    ensures { (areas : ℕ) → AreBlocksOf areas draft.now → IsLogged areas (record_of point draft.now) }
+{
+    let _blocks = draft.blocks();
 }
 
 /// Writes a header and the blocks behind it.

@@ -1,7 +1,9 @@
 -- What an attempt of a call answers.
-use Rattle.std.specs.Prelude.{◌≡◌, ◌≢◌, ℕ, ◌⊎◌, List, [], Contains, None, IsSome, true}
+use Rattle.std.specs.Prelude.{◌≡◌, ◌≢◌, ℕ, ◌⊎◌, List, [], Contains, None, Some, IsSome, true}
 use Rattle.bx_base.specs.declared.names.Mode.{Mode}
 use Rattle.bx_base.specs.declared.names.Mode.TheVariants.{Exclusive}
+use Rattle.bx_layout.specs.declared.block.Block.{Block}
+use Rattle.bx_layout.specs.Blocks.{HasParts}
 use Rattle.bx_places.specs.Places.{is_block}
 use Rattle.bx_records.specs.Drafts.{Changed, block_in}
 use Rattle.bx_views.specs.declared.attempt.Attempt.{Attempt}
@@ -55,9 +57,14 @@ pub record IsFairNeed (areas : ℕ) (held : Held) (Path : ℕ → Mode → Type 
   pub some : wants ≢ []
   pub each : (at : ℕ) (mode : Mode) → Contains wants (at, mode) → (is_block areas at ≡ true) × (held at mode ≡ None) × Path at mode
 
--- Each block of a draft is one that is held exclusively.
+-- what is held are blocks
+abbrev pub AreBlocks : Held → Type 0
+AreBlocks held = (at : ℕ) (mode : Mode) (block : Block) → held at mode ≡ Some block → HasParts block
+
+-- Each block of a draft is one that is held exclusively, and is a block, where those that are held are blocks.
 pub record IsHeldDraft (held : Held) (draft : List Changed) : Type 0 where
   pub each : (at : ℕ) → IsSome (block_in draft at) → IsSome (held at Exclusive)
+  pub parts : AreBlocks held → (at : ℕ) (block : Block) → block_in draft at ≡ Some block → HasParts block
 
 -- what holds of an attempt over any view
 abbrev pub IsFair : ℕ → Held → (ℕ → Mode → Type 0) → Attempt → Type 0

@@ -11,8 +11,9 @@ use Rattle.bx_places.specs.Places.{IsBlock, gate_place, body_place}
 use Rattle.bx_volume.specs.Images.{devices_of, member_disk}
 use Rattle.bx_volume.specs.Records.{Logged, IsInBody, gate_of, newest_in}
 use Rattle.bx_views.specs.Truths.{Truth, with_draft}
-use Rattle.bx_volume.specs.Overlay.{Logs, IsHome, IsSureAs, IsTruth, IsUnlogged, Matters, MattersMore, Gate, Body, Home, with_log}
+use Rattle.bx_volume.specs.Overlay.{Logs, IsHome, IsSureAs, IsTruth, IsUnlogged, Matters, MattersMore, Gate, Body, Home, filled_of, with_log}
 use Rattle.bx_volume.proofs.Doubt.{gate_in_doubt, closing_in_doubt}
+use Rattle.bx_volume.proofs.Sizes.{filled_below, filled_there}
 use Rattle.bx_truth.proofs.Cases.{same_or}
 use Rattle.bx_volume.proofs.Overlay.{log_here, log_there, older_none}
 
@@ -29,7 +30,7 @@ module _ (devices areas : ℕ) (logs : Logs) (slot : ℕ) (more : Logged) where
       (λ other. sym (ap (λ (l : List Logged). newest_in l at) (log_there logs slot s (more ∷ logs slot) other)) ∙ unlogged s in_slots)
       (same_or s slot)
 
-  gate_case : (s gate : ℕ) → s < 8 → gate < 8 → gate ≤ length (with_log logs slot (more ∷ logs slot) s) → (s ≡ slot) ⊎ (s ≢ slot) → MattersMore devices areas logs slot (gate_place s gate devices).0 (gate_place s gate devices).1
+  gate_case : (s gate : ℕ) → s < 8 → gate < 8 → gate ≤ length (with_log logs slot (more ∷ logs slot) s) → (s ≡ slot) ⊎ (s ≢ slot) → MattersMore devices areas logs slot more (gate_place s gate devices).0 (gate_place s gate devices).1
   gate_case s gate less place le (inr other) = inl (Gate s gate less place (omega (arith, le, as_long s other)))
   gate_case s gate less place le (inl same) = ⊎_elim
       (λ few. inl (Gate s gate less place (subst (λ (n : ℕ). gate ≤ length (logs n)) (sym same) few)))
@@ -39,20 +40,26 @@ module _ (devices areas : ℕ) (logs : Logs) (slot : ℕ) (more : Logged) where
       last : (n m : ℕ) → n ≤ suc m → (n ≤ m) ⊎ (n ≡ m + 1)
       last n m le = grind (arith, le)
 
-  body_case : (s body sector : ℕ) → s < 8 → body < length (with_log logs slot (more ∷ logs slot) s) → sector < 145 → (s ≡ slot) ⊎ (s ≢ slot)
-      → MattersMore devices areas logs slot (body_place s body devices).0 ((body_place s body devices).1 + sector)
-  body_case s body sector less few within (inr other) = inl (Body s body sector less (omega (arith, few, as_long s other)) within)
-  body_case s body sector less few within (inl same) = ⊎_elim
-      (λ below. inl (Body s body sector less (subst (λ (n : ℕ). body < length (logs n)) (sym same) below) within))
-      (λ is. inr (inl (sector, within, (λ i. (body_place (same i) (is i) devices).0), (λ i. (body_place (same i) (is i) devices).1 + sector))))
+  body_case : (s body sector : ℕ) → s < 8 → body < length (with_log logs slot (more ∷ logs slot) s) → sector < 145
+      → sector < filled_of (with_log logs slot (more ∷ logs slot) s) body → (s ≡ slot) ⊎ (s ≢ slot)
+      → MattersMore devices areas logs slot more (body_place s body devices).0 ((body_place s body devices).1 + sector)
+  body_case s body sector less few within fills (inr other) = inl (Body s body sector less (omega (arith, few, as_long s other)) within
+      (subst (λ (records : List Logged). sector < filled_of records body) (log_there logs slot s (more ∷ logs slot) other) fills))
+  body_case s body sector less few within fills (inl same) = ⊎_elim
+      (λ below. inl (Body s body sector less (subst (λ (n : ℕ). body < length (logs n)) (sym same) below) within
+      (subst (λ (n : ℕ). sector < filled_of (logs n) body) (sym same) (omega (arith, here, filled_below (logs slot) more body below)))))
+      (λ is. inr (inl (sector, omega (arith, here, filled_there (logs slot) more body is), (λ i. (body_place (same i) (is i) devices).0), (λ i. (body_place (same i) (is i) devices).1 + sector))))
       (last body (length (logs slot)) (omega (arith, few, longer s same)))
     where
       last : (n m : ℕ) → n < suc m → (n < m) ⊎ (n ≡ m)
       last n m less = grind (arith, less)
 
-  pub matters_more : slot < 8 → (d s : ℕ) → Matters devices areas (with_log logs slot (more ∷ logs slot)) d s → MattersMore devices areas logs slot d s
+      here : sector < filled_of (more ∷ logs slot) body
+      here = subst (λ (records : List Logged). sector < filled_of records body) (ap (with_log logs slot (more ∷ logs slot)) same ∙ log_here logs slot (more ∷ logs slot)) fills
+
+  pub matters_more : slot < 8 → (d s : ℕ) → Matters devices areas (with_log logs slot (more ∷ logs slot)) d s → MattersMore devices areas logs slot more d s
   matters_more here d s (Gate other gate less place le) = gate_case other gate less place le (same_or other slot)
-  matters_more here d s (Body other body sector less few within) = body_case other body sector less few within (same_or other slot)
+  matters_more here d s (Body other body sector less few within fills) = body_case other body sector less few within fills (same_or other slot)
   matters_more here d s (Home at sector is unlogged within) = inl (Home at sector is (before at here unlogged) within)
 
 -- The disks while the gate is out: all else that matters is sure and is as it was in a content without the record. Whether the gate reads as
@@ -63,7 +70,7 @@ pub gate_out : (held : Image) (disks : Disks) (image : Image) (second : ℕ → 
     → IsInBody held devices areas slot (length (logs slot)) more
     → (length (logs slot) + 1 < 8 → IsOpenGate (gate_of held devices slot (length (logs slot) + 1)) → ⊥)
     → ((s at : ℕ) (block : Block) → s < 8 → s ≢ slot → block_in more.changed at ≡ Some block → newest_in (logs s) at ≡ None)
-    → ((d s : ℕ) → MattersMore devices areas logs slot d s → (d ≢ (gate_place slot (length (logs slot)) devices).0) ⊎ (s ≢ (gate_place slot (length (logs slot)) devices).1)
+    → ((d s : ℕ) → MattersMore devices areas logs slot more d s → (d ≢ (gate_place slot (length (logs slot)) devices).0) ⊎ (s ≢ (gate_place slot (length (logs slot)) devices).1)
     → IsSureAs disks (member_disk d (second d)) s (held d s))
     → IsTruth (devices_of image second) devices areas rows logs truth ⊎ IsTruth (devices_of image second) devices areas rows (with_log logs slot (more ∷ logs slot)) (with_draft truth more.changed)
 gate_out held disks image second devices areas rows logs truth slot more is less taken place was body next alone sure =

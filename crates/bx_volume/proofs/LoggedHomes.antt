@@ -26,7 +26,7 @@ module _ (devices areas : ℕ) (logs : Logs) (volume : IsVolume devices areas) w
 
   pub matters_not : ((slot : ℕ) → slot < 8 → length (logs slot) ≤ 8) → (d s : ℕ) → Matters devices areas logs d s → IsOfLogged devices areas logs d s → ⊥
   matters_not most d s (Gate slot gate less place few) l = behind_logs l.at slot less s (omega (arith, place)) l.sector l.place
-  matters_not most d s (Body slot body sector less few within) l = behind_logs l.at slot less s (let m = most slot less in omega (arith, few, within, m)) l.sector l.place
+  matters_not most d s (Body slot body sector less few within fills) l = behind_logs l.at slot less s (let m = most slot less in omega (arith, few, within, m)) l.sector l.place
   matters_not most d s (Home at sector is unlogged within) l = by (same_or at l.at)
     where
       by : (at ≡ l.at) ⊎ (at ≢ l.at) → ⊥

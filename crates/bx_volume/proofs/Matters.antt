@@ -9,9 +9,9 @@ use Rattle.bx_volume.specs.Images.{devices_of, member_disk}
 use Rattle.bx_volume.specs.Records.{Logged, StandOpen, IsLog, LogWhere, gate_of}
 use Rattle.bx_rows.specs.Words.{is_taken}
 use Rattle.bx_views.specs.Truths.{Truth}
-use Rattle.bx_volume.specs.Overlay.{Logs, IsTruth, IsHome, IsUnlogged, Matters, Gate, Body, Home}
+use Rattle.bx_volume.specs.Overlay.{Logs, IsTruth, IsHome, IsUnlogged, Matters, Gate, Body, Home, filled_of}
 use Rattle.bx_volume.proofs.Kept.{has_log}
-use Rattle.bx_volume.proofs.Sizes.{block_bytes, logged_sectors}
+use Rattle.bx_volume.proofs.Sizes.{block_bytes, filled_below, filled_there, logged_sectors}
 
 module _ (held now : Image) (devices areas : ℕ) (rows : List SessionRow) (logs : Logs) (truth : Truth)
     (same : (d s : ℕ) → Matters devices areas logs d s → now d s ≡ held d s) where
@@ -21,26 +21,29 @@ module _ (held now : Image) (devices areas : ℕ) (rows : List SessionRow) (logs
     reads = record { each = λ i less. same (block_place at devices).0 ((block_place at devices).1 + i) (Home at i is unlogged (let long = block_bytes block home.is in omega (arith, less, long))) ∙ home.reads.each i less };
   }
 
-  stand_same : (slot : ℕ) → slot < 8 → (records : List Logged) → length records ≤ length (logs slot) → length records ≤ 8 → StandOpen held devices areas slot records → StandOpen now devices areas slot records
-  stand_same slot less [] few most stand = tt
-  stand_same slot less (newest ∷ older) few most stand = (
+  stand_same : (slot : ℕ) → slot < 8 → (records : List Logged) → length records ≤ length (logs slot) → length records ≤ 8
+      → ((k : ℕ) → k < length records → filled_of (logs slot) k ≡ filled_of records k)
+      → StandOpen held devices areas slot records → StandOpen now devices areas slot records
+  stand_same slot less [] few most fills stand = tt
+  stand_same slot less (newest ∷ older) few most fills stand = (
     subst IsOpenGate (sym (same (gate_place slot (length older) devices).0 (gate_place slot (length older) devices).1 (Gate slot (length older) less (omega (arith, most)) (omega (arith, few))))) stand.0,
     record {
       is = stand.1.is;
       reads = record {
         each = λ i within.
             same (body_place slot (length older) devices).0 ((body_place slot (length older) devices).1 + i)
-            (Body slot (length older) i less (omega (arith, few)) (let small = logged_sectors areas newest stand.1.is in omega (arith, within, small)))
+            (Body slot (length older) i less (omega (arith, few)) (let small = logged_sectors areas newest stand.1.is in omega (arith, within, small))
+            (let there = fills (length older) (omega arith) in let own = filled_there older newest (length older) refl in omega (arith, within, there, own)))
             ∙ stand.1.reads.each i within;
       };
     },
-    stand_same slot less older (omega (arith, few)) (omega (arith, most)) stand.2,
+    stand_same slot less older (omega (arith, few)) (omega (arith, most)) (λ k below. fills k (omega (arith, below)) ∙ filled_below older newest k below) stand.2,
   )
 
   log_same : (slot : ℕ) → slot < 8 → IsLog held devices areas slot (logs slot) → IsLog now devices areas slot (logs slot)
   log_same slot less log = record {
     most = log.most;
-    stand = stand_same slot less (logs slot) (omega arith) log.most log.stand;
+    stand = stand_same slot less (logs slot) (omega arith) log.most (λ k below. refl) log.stand;
     end = λ few is_open. log.end few (subst IsOpenGate (same (gate_place slot (length (logs slot)) devices).0 (gate_place slot (length (logs slot)) devices).1 (Gate slot (length (logs slot)) less few (omega arith))) is_open);
   }
 

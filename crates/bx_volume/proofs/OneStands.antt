@@ -15,9 +15,9 @@ use Rattle.bx_volume.proofs.Matters.{truth_same}
 use Rattle.bx_volume.proofs.OneShown.{one_shown}
 
 -- what matters is on a device of the volume
-on_device : (devices areas : ℕ) (logs : Logs) → 1 ≤ devices → (d s : ℕ) → Matters devices areas logs d s → d < devices
+pub on_device : (devices areas : ℕ) (logs : Logs) → 1 ≤ devices → (d s : ℕ) → Matters devices areas logs d s → d < devices
 on_device devices areas logs some d s (Gate slot gate less place few) = mod-lt slot some
-on_device devices areas logs some d s (Body slot body sector less few within) = mod-lt slot some
+on_device devices areas logs some d s (Body slot body sector less few within fills) = mod-lt slot some
 on_device devices areas logs some d s (Home at sector is unlogged within) = mod-lt (at / 1024) some
 
 -- two choices of members that agree on the devices of the state show the same

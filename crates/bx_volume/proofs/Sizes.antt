@@ -11,6 +11,8 @@ use Rattle.bx_records.specs.Drafts.{Changed}
 use Rattle.bx_places.specs.Places.{IsBlock}
 use Rattle.bx_records.specs.Records.{head_text}
 use Rattle.bx_records.proofs.HeadFields.{length-head_text}
+use Rattle.bx_truth.proofs.Cases.{eq_true, eq_false}
+use Rattle.bx_volume.specs.Overlay.{filled_of}
 use Rattle.bx_volume.specs.Records.{Logged, IsLogged, logged_text}
 
 pub joined : (front back : List ℕ) (n m : ℕ) → length front ≡ n → length back ≡ m → length (front ++ back) ≡ n + m
@@ -59,3 +61,10 @@ whole_sectors areas logged is = times (length (logged_text logged)) (length logg
   where
     times : (n k : ℕ) → n ≡ 512 + 4608 * k → n ≡ 512 * (1 + 9 * k)
     times n k is = omega arith
+
+-- what the records fill of a body stays when one comes in front, and that one fills its own
+pub filled_below : (older : List Logged) (newest : Logged) (body : ℕ) → body < length older → filled_of (newest ∷ older) body ≡ filled_of older body
+filled_below older newest body less = rw (eq_false body (length older) (λ e. omega (arith, e, less))) refl
+
+pub filled_there : (older : List Logged) (newest : Logged) (body : ℕ) → body ≡ length older → filled_of (newest ∷ older) body ≡ length (logged_text newest) / 512
+filled_there older newest body same = rw (eq_true body (length older) same) refl

@@ -10,7 +10,7 @@ use Rattle.bx_places.specs.Places.{IsBlock, block_place, body_place}
 use Rattle.bx_model.specs.declared.tree.Tree.{Tree}
 use Rattle.bx_volume.specs.Images.{devices_of, AreSources, ShowsTree}
 use Rattle.bx_volume.specs.Records.{Logged, HasLog, gate_of, newest_in}
-use Rattle.bx_volume.specs.Overlay.{IsHome}
+use Rattle.bx_volume.specs.Overlay.{IsHome, filled_of}
 
 -- one way to read a rack: an image that a crash may leave, the global state that it tells, and a source member of each device
 pub record Reading (disks : Disks) (IsState : Image → GlobalState → Type 0) : Type 0 where
@@ -73,7 +73,7 @@ module _ (disks : Disks) (IsState : Image → GlobalState → Type 0) (devices a
     pub homes : (one other : Reading disks IsState) → AreOfOne one other → (at i : ℕ) → IsBlock areas at → IsUnloggedBy one at → IsUnloggedBy other at → i < 9
         → read_by one (block_place at devices).0 ((block_place at devices).1 + i) ≡ read_by other (block_place at devices).0 ((block_place at devices).1 + i)
     pub bodies : (one other : Reading disks IsState) → AreOfOne one other → (slot : ℕ) (records : List Logged) → slot < 8 → HasRun one slot records
-        → (body i : ℕ) → body < length records → i < 145
+        → (body i : ℕ) → body < length records → i < filled_of records body
         → read_by one (body_place slot body devices).0 ((body_place slot body devices).1 + i) ≡ read_by other (body_place slot body devices).0 ((body_place slot body devices).1 + i)
     pub runs : (one other : Reading disks IsState) → AreOfOne one other → (slot : ℕ) (a b : List Logged) → slot < 8 → HasRun one slot a → HasRun other slot b → AreClose one other a b
     pub closed : (reading : Reading disks IsState) → (slot gate : ℕ) → slot < 8 → gate < 8 → is_taken reading.state.sessions slot ≡ false

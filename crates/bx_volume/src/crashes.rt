@@ -54,7 +54,7 @@ pub fn a_gate_is_out()
         → IsInBody held devices areas slot (length (logs slot)) more
         → (length (logs slot) + 1 < 8 → IsOpenGate (gate_of held devices slot (length (logs slot) + 1)) → ⊥)
         → ((s at : ℕ) (block : Block) → s < 8 → s ≢ slot → block_in more.changed at ≡ Some block → newest_in (logs s) at ≡ None)
-        → ((d s : ℕ) → MattersMore devices areas logs slot d s → (d ≢ (gate_place slot (length (logs slot)) devices).0) ⊎ (s ≢ (gate_place slot (length (logs slot)) devices).1)
+        → ((d s : ℕ) → MattersMore devices areas logs slot more d s → (d ≢ (gate_place slot (length (logs slot)) devices).0) ⊎ (s ≢ (gate_place slot (length (logs slot)) devices).1)
         → IsSureAs disks (member_disk d (second d)) s (held d s))
         → IsTruth (devices_of image second) devices areas rows logs truth
         ⊎ IsTruth (devices_of image second) devices areas rows (with_log logs slot (more ∷ logs slot)) (with_draft truth more.changed) }

@@ -1,4 +1,4 @@
-use Rattle.std.proofs.Common.{◌≡◌, ◌<◌, ◌^◌, length, rules, ap, sym, subst, ◌∙◌, arith}
+use Rattle.std.proofs.Common.{◌≡◌, length, rules, ap, sym, subst, ◌∙◌, arith}
 use Rattle.std.specs.Prelude.{map}
 use Rattle.std.specs.List.{AllByRecursion}
 use Rattle.std.proofs.lemmas.List.{length-map, take_all}
@@ -12,15 +12,11 @@ returns-clause-is c =
     let number = λ (change : Changed). change.0 in
     let all = take_all c.loop-number.number-index c.args.blocks.now (omega (arith, c.loop-number-test.false)) in
     let is : c.loop-number.numbers ≡ map number c.args.blocks.now = c.loop-number.invariant ∙ ap (map number) all in
-    let call : c.args.point.call < 2 ^ 64 = search rules in
-    let moment : c.args.point.moment < 2 ^ 64 = search rules in
-    let spare : c.args.point.spare < 2 ^ 64 = search rules in
-    let made : c.args.point.made < 2 ^ 64 = search rules in
     record {
-      call = call;
-      moment = moment;
-      spare = spare;
-      made = made;
+      call = search rules;
+      moment = search rules;
+      spare = search rules;
+      made = search rules;
       count = omega (arith, ap length is, length-map c.args.blocks.now number, c.requires.draft.most);
       each = subst (AllByRecursion (IsBlock 64)) (sym is) (numbers_of 64 c.args.blocks.now c.requires.blocks);
     }

@@ -4,3 +4,4 @@ pub mod Kept
 pub mod Labelled
 pub mod Counts
 pub mod Absent
+pub mod Standing

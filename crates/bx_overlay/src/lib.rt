@@ -1,0 +1,10 @@
+//! What the logs lay over the homes of a volume, read off any rack: the records of the logs, the newest block of each number, and with
+//! the homes the truth. Each function answers what the definitions of a volume say, both ways.
+#![tactic(auto)]
+
+mod log;
+mod members;
+mod record;
+
+pub use members::Members;
+pub use record::Record;

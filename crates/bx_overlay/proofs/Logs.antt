@@ -1,12 +1,11 @@
 -- Logs that are read gate by gate and body by body.
-use Rattle.std.proofs.Common.{◌≡◌, ℕ, suc, ◌+◌, ◌<◌, ◌≤◌, ◌⊎◌, ⊎_elim, Bool, arith, List, [], ◌∷◌, ◌++◌, length, reverse, sym, ap, ◌∙◌, subst}
+use Rattle.std.proofs.Common.{◌≡◌, ℕ, suc, ◌+◌, ◌<◌, ◌⊎◌, ⊎_elim, Bool, arith, List, [], ◌∷◌, ◌++◌, length, reverse, sym, ap, ◌∙◌, subst}
 use Rattle.std.proofs.lemmas.List.{reverse-append, length-reverse}
 use Rattle.bx_disk.specs.Disks.{Image}
-use Rattle.bx_calls.specs.Regions.{ReadsAs}
 use Rattle.bx_layout.specs.Labels.{IsOpenGate}
 use Rattle.bx_places.specs.Places.{log_device, body_place}
 use Rattle.bx_volume.specs.Images.{devices_of, member_disk}
-use Rattle.bx_volume.specs.Records.{Logged, IsInBody, StandOpen, IsLog, gate_of, logged_text}
+use Rattle.bx_volume.specs.Records.{Logged, IsInBody, StandOpen, IsLog, gate_of}
 use Rattle.bx_overlay.specs.Bodies.{IsRecordAt}
 
 -- ---- the log of a device depends on what that device holds

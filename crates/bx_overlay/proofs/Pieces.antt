@@ -11,7 +11,6 @@ use Rattle.bx_calls.specs.Regions.{ReadsAs}
 use Rattle.bx_layout.specs.declared.block.Block.{Block}
 use Rattle.bx_layout.specs.Blocks.{HasParts, block_text}
 use Rattle.bx_places.specs.Places.{IsBlock}
-use Rattle.bx_records.specs.declared.record_head.RecordHead.{RecordHead}
 use Rattle.bx_records.specs.Drafts.{Changed, same_number}
 use Rattle.bx_records.specs.Records.{SpellsHead, head_text}
 use Rattle.bx_volume.specs.Records.{Logged, IsLogged, logged_text}

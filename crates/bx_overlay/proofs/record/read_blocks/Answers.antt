@@ -1,7 +1,6 @@
-use Rattle.std.proofs.Common.{◌≡◌, ℕ, ◌+◌, ◌*◌, arith, sym, ap, subst, ◌∙◌, map, take, length, get_or, [], ◌∷◌, refl}
+use Rattle.std.proofs.Common.{ℕ, ◌+◌, ◌*◌, arith, sym, ap, subst, ◌∙◌, map, length, get_or, [], ◌∷◌, refl}
 use Rattle.std.proofs.lemmas.List.{length-map, length-append}
 use Rattle.bx_disk.specs.Disks.{Disks}
-use Rattle.bx_layout.specs.declared.block.Block.{Block}
 use Rattle.bx_records.specs.Drafts.{Changed}
 use Rattle.bx_homes.specs.Standing.{StandsAt}
 use Rattle.bx_homes.proofs.Sectors.{of_none, of_some}

@@ -1,7 +1,6 @@
-use Rattle.std.proofs.Common.{◌≡◌, ℕ, ◌+◌, List, map, sym, ap, subst, ◌∙◌}
+use Rattle.std.proofs.Common.{◌+◌, sym, ap, subst, ◌∙◌}
 use Rattle.bx_disk.specs.Disks.{Disks}
 use Rattle.bx_records.specs.declared.record_head.RecordHead.{RecordHead}
-use Rattle.bx_records.specs.Drafts.{Changed}
 use Rattle.bx_homes.proofs.Sectors.{not_both, of_none, of_some}
 use Rattle.bx_overlay.specs.Bodies.{AreNumbers, IsGap, StandOn}
 use Rattle.bx_overlay.proofs.Pieces.{blocks_there, head_there, numbers_there, record_there}

@@ -1,3 +1,4 @@
 pub mod Bodies
 pub mod Members
 pub mod Logs
+pub mod Newest

@@ -3,8 +3,12 @@
 #![tactic(auto)]
 
 mod log;
+mod logs;
 mod members;
+mod newest;
 mod record;
 
+pub use logs::{points_of, read_logs};
 pub use members::Members;
+pub use newest::Newest;
 pub use record::Record;

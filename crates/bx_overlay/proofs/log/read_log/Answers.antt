@@ -8,7 +8,7 @@ use Rattle.bx_volume.specs.Records.{Logged, IsInBody, StandOpen}
 use Rattle.bx_homes.proofs.Sectors.{of_none, of_some}
 use Rattle.bx_overlay.specs.declared.members.Members.{Members}
 use Rattle.bx_overlay.specs.Members.{held_by, member_in}
-use Rattle.bx_overlay.proofs.Logs.{log_same, none_missing, one_more}
+use Rattle.bx_overlay.proofs.LogRuns.{log_same, none_missing, one_more}
 use Rattle.bx_overlay.proofs.log.read_log.Goals as goal
 
 -- the member that a slot's device is read off

@@ -77,9 +77,10 @@ module _ (image : Image) (disk : ℕ) where
       → ReadsAs image disk sector (flat_map (λ (change : Changed). block_text change.1) changed) → StandOn image disk sector changed
   read_stand sector areas [] all reads = tt
   read_stand sector areas (change ∷ behind) all reads =
-      let long = block_bytes change.1 all.0.1 in
-      (record { is = all.0.1; reads = first_part (block_text change.1) (flat_map (λ (change : Changed). block_text change.1) behind) 9 long image disk sector reads },
-      read_stand (sector + 9) areas behind all.1 (second_part (block_text change.1) (flat_map (λ (change : Changed). block_text change.1) behind) 9 long image disk sector reads))
+      let long = block_bytes change.1 all.0.1 in (
+        record { is = all.0.1; reads = first_part (block_text change.1) (flat_map (λ (change : Changed). block_text change.1) behind) 9 long image disk sector reads },
+        read_stand (sector + 9) areas behind all.1 (second_part (block_text change.1) (flat_map (λ (change : Changed). block_text change.1) behind) 9 long image disk sector reads),
+      )
 
   pub more_stand : (sector : ℕ) (changed : List Changed) (next : Changed) → StandOn image disk sector changed → StandsAt image disk (sector + 9 * length changed) next.1
       → StandOn image disk sector (changed ++ next ∷ [])

@@ -2,3 +2,4 @@ pub mod Bodies
 pub mod Members
 pub mod Logs
 pub mod Newest
+pub mod OneOver

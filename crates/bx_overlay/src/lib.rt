@@ -6,9 +6,11 @@ mod log;
 mod logs;
 mod members;
 mod newest;
+mod overlaid;
 mod record;
 
 pub use logs::{points_of, read_logs};
 pub use members::Members;
 pub use newest::Newest;
+pub use overlaid::{Overlaid, clash_in, newest_of_all};
 pub use record::Record;

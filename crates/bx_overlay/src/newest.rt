@@ -26,11 +26,7 @@ pub(crate) fn newest_of(alloc: Global, records: &[Record]) -> Result<Newest, Out
 }
 
 /// Puts the blocks of a newer record over those that are there.
-fn lay_over(
-    newest: &mut Newest,
-    alloc: Global,
-    changed: &[(u64, Block)],
-) -> Result<(), OutOfMemory>
+fn lay_over(newest: &mut Newest, alloc: Global, changed: &[(u64, Block)]) -> Result<(), OutOfMemory>
     ensures { OnOk result ((at : ℕ) → newest_at newest.new at ≡ or_older (block_in changed.now at) (newest_at newest.old at)) }
 {
     // From the last on, so that of two with one number the first would count.

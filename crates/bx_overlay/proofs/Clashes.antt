@@ -1,9 +1,9 @@
 -- Logs that agree, entry by entry.
-use Rattle.std.proofs.Common.{◌≡◌, ℕ, suc, ◌<◌, arith, cond, length, ◌⊎◌, ⊎_elim, inl, inr, Bool, true, false, List, [], ◌∷◌, Some, None, Option, sym, ap, ◌∙◌, subst, refl}
+use Rattle.std.proofs.Common.{◌≡◌, ℕ, suc, arith, cond, ◌⊎◌, ⊎_elim, inl, inr, Bool, true, false, List, [], ◌∷◌, Some, None, sym, ◌∙◌, subst, refl}
 use Rattle.std.proofs.lemmas.Bool.Decides.{nat_tests}
 use Rattle.std.specs.List.{All}
 use Rattle.std.specs.Map.{lookup}
-use Rattle.std.specs.BTreeMap.{BTreeMap, get, is_at}
+use Rattle.std.specs.BTreeMap.{is_at}
 use Rattle.std.specs.Ordering.{nat_cmp}
 use Rattle.bx_layout.specs.declared.block.Block.{Block}
 use Rattle.bx_overlay.specs.Newest.{Agree, Newest, newest_at}

@@ -1,3 +1,4 @@
 pub mod Pieces
 pub mod LogRuns
 pub mod Clashes
+pub mod Over

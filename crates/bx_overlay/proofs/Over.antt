@@ -1,9 +1,9 @@
 -- The truth that the devices hold, and the blocks over the homes.
-use Rattle.std.proofs.Common.{◌≡◌, ℕ, zero, suc, ◌+◌, ◌<◌, ◌≤◌, ◌⊎◌, ⊎_elim, inl, inr, Bool, true, false, arith, List, [], ◌∷◌, length, reverse, Option, Some, None, get_or, sym, ap, ◌∙◌, subst, refl}
+use Rattle.std.proofs.Common.{◌≡◌, ℕ, zero, suc, ◌<◌, ◌⊎◌, ⊎_elim, inl, inr, Bool, true, false, arith, List, [], ◌∷◌, length, reverse, Option, Some, None, get_or, sym, ap, ◌∙◌, subst, refl}
 use Rattle.std.specs.Prelude.{slice_get, unwrap_or, ◌==◌, if◌then◌else◌}
 use Rattle.std.proofs.lemmas.Bool.Decides.{nat_tests}
 use Rattle.std.specs.List.{AllByRecursion}
-use Rattle.std.proofs.lemmas.Option.{slice_get_within, slice_get-get_or}
+use Rattle.std.proofs.lemmas.Option.{slice_get_cases, slice_get_within, slice_get-get_or}
 use Rattle.bx_disk.specs.Disks.{Image}
 use Rattle.bx_rows.specs.declared.session.SessionRow.{SessionRow}
 use Rattle.bx_rows.specs.Words.{is_taken}
@@ -13,7 +13,7 @@ use Rattle.bx_places.specs.Places.{IsBlock}
 use Rattle.bx_records.specs.Drafts.{Changed, block_in}
 use Rattle.bx_views.specs.Truths.{Truth}
 use Rattle.bx_truth.proofs.Cases.{found}
-use Rattle.bx_volume.specs.Records.{Logged, StandOpen, IsLog, HasLog, LogWhere, newest_in, or_older}
+use Rattle.bx_volume.specs.Records.{Logged, StandOpen, HasLog, LogWhere, newest_in, or_older}
 use Rattle.bx_volume.specs.Overlay.{Logs, IsTruth, IsUnlogged, IsHome}
 use Rattle.bx_volume.proofs.OneLog.{one_has_log}
 use Rattle.bx_homes.specs.Slots.{AreBlocks}
@@ -39,38 +39,39 @@ record HasOne (logs : List Newest) (at : ℕ) (block : Block) : Type 0 where
 
 first_has : (logs : List Newest) (at : ℕ) (block : Block) → first_in logs at ≡ Some block → HasOne logs at block
 first_has [] at block is = absurd (cc)
-first_has (log ∷ others) at block is = by (newest_at log at) refl is
+first_has (log ∷ others) at block is = by (newest_at log at) refl is (first_has others at block)
   where
-    by : (own : Option Block) → newest_at log at ≡ own → or_older own (first_in others at) ≡ Some block → HasOne (log ∷ others) at block
-    by (Some x) own first = record { slot = zero; log = log; there = refl; has = own ∙ first }
-    by None own first = let more = first_has others at block first in record { slot = suc more.slot; log = more.log; there = more.there; has = more.has }
+    by : (own : Option Block) → newest_at log at ≡ own → or_older own (first_in others at) ≡ Some block → (first_in others at ≡ Some block → HasOne others at block) → HasOne (log ∷ others) at block
+    by (Some x) own first rest = record { slot = zero; log = log; there = refl; has = own ∙ first }
+    by None own first rest = let more = rest first in record { slot = suc more.slot; log = more.log; there = more.there; has = more.has }
 
 none_has : (logs : List Newest) (at slot : ℕ) (log : Newest) → first_in logs at ≡ None → slice_get logs slot ≡ Some log → newest_at log at ≡ None
 none_has [] at slot log is there = absurd (cc)
-none_has (first ∷ others) at slot log is there = by (newest_at first at) refl is slot there
+none_has (first ∷ others) at slot log is there = by (newest_at first at) refl is slot there (λ k. none_has others at k log)
   where
-    by : (own : Option Block) → newest_at first at ≡ own → or_older own (first_in others at) ≡ None → (slot : ℕ) → slice_get (first ∷ others) slot ≡ Some log → newest_at log at ≡ None
-    by (Some x) own none k at_k = absurd (cc)
-    by None own none zero at_k = ap (λ (l : Newest). newest_at l at) (sym (some_one first log at_k)) ∙ own
-    by None own none (suc k) at_k = none_has others at k log none at_k
+    by : (own : Option Block) → newest_at first at ≡ own → or_older own (first_in others at) ≡ None → (slot : ℕ) → slice_get (first ∷ others) slot ≡ Some log
+        → ((k : ℕ) → first_in others at ≡ None → slice_get others k ≡ Some log → newest_at log at ≡ None) → newest_at log at ≡ None
+    by (Some x) own none k at_k rest = absurd (cc)
+    by None own none zero at_k rest = ap (λ (l : Newest). newest_at l at) (sym (some_one first log at_k)) ∙ own
+    by None own none (suc k) at_k rest = rest k none at_k
 
 -- ---- a record's blocks are the volume's
 
 block_is : (areas : ℕ) (changed : List Changed) (at : ℕ) (block : Block) → AllByRecursion (λ change. IsBlock areas change.0 × HasParts change.1) changed → block_in changed at ≡ Some block → IsBlock areas at
 block_is areas [] at block all is = absurd (cc)
-block_is areas (change ∷ behind) at block all is = by (change.0 == at) refl is
+block_is areas (change ∷ behind) at block all is = by (change.0 == at) refl is (block_is areas behind at block all.1)
   where
-    by : (t : Bool) → (change.0 == at) ≡ t → (if t then Some change.1 else block_in behind at) ≡ Some block → IsBlock areas at
-    by true here first = subst (IsBlock areas) (grind (arith, nat_tests, here)) all.0.0
-    by false here rest = block_is areas behind at block all.1 rest
+    by : (t : Bool) → (change.0 == at) ≡ t → (if t then Some change.1 else block_in behind at) ≡ Some block → (block_in behind at ≡ Some block → IsBlock areas at) → IsBlock areas at
+    by true here first rest = subst (IsBlock areas) (grind (arith, nat_tests, here)) all.0.0
+    by false here next rest = rest next
 
 run_is : (held : Image) (devices areas slot : ℕ) (records : List Logged) (at : ℕ) (block : Block) → StandOpen held devices areas slot records → newest_in records at ≡ Some block → IsBlock areas at
 run_is held devices areas slot [] at block stand is = absurd (cc)
-run_is held devices areas slot (newest ∷ older) at block stand is = by (block_in newest.changed at) refl is
+run_is held devices areas slot (newest ∷ older) at block stand is = by (block_in newest.changed at) refl is (run_is held devices areas slot older at block stand.2)
   where
-    by : (own : Option Block) → block_in newest.changed at ≡ own → or_older own (newest_in older at) ≡ Some block → IsBlock areas at
-    by (Some x) own first = block_is areas newest.changed at x stand.1.is.blocks own
-    by None own rest = run_is held devices areas slot older at block stand.2 rest
+    by : (own : Option Block) → block_in newest.changed at ≡ own → or_older own (newest_in older at) ≡ Some block → (newest_in older at ≡ Some block → IsBlock areas at) → IsBlock areas at
+    by (Some x) own first rest = block_is areas newest.changed at x stand.1.is.blocks own
+    by None own next rest = rest next
 
 log_is : (rows : List SessionRow) (held : Image) (devices areas slot : ℕ) (records : List Logged) (at : ℕ) (block : Block) → HasLog rows held devices areas slot records
     → newest_in records at ≡ Some block → IsBlock areas at
@@ -102,10 +103,10 @@ module _ (image : Image) (members : Members) (rows : List SessionRow) (logs : Li
     there : slice_get newest slot ≡ Some log
 
   has_map : (slot : ℕ) → slot < 8 → HasMap slot
-  has_map slot less = record { log = get_or newest slot any_log; there = slice_get-get_or newest slot any_log (omega (arith, less, count)) }
-    where
-      any_log : Newest
-      any_log = record { entries = [] }
+  has_map slot less = ⊎_elim
+      (λ here. record { log = here.0; there = here.2 })
+      (λ past. absurd (omega (arith, less, count, past.0)))
+      (slice_get_cases newest slot).1
 
   slot_less : (slot : ℕ) (log : Newest) → slice_get newest slot ≡ Some log → slot < 8
   slot_less slot log there = let less = slice_get_within newest slot log there in omega (arith, less, count)

@@ -2,6 +2,7 @@
 //! the homes the truth. Each function answers what the definitions of a volume say, both ways.
 #![tactic(auto)]
 
+mod laws;
 mod log;
 mod logs;
 mod members;
@@ -9,6 +10,7 @@ mod newest;
 mod overlaid;
 mod record;
 
+pub use laws::what_stands_is_the_truth;
 pub use logs::{points_of, read_logs};
 pub use members::Members;
 pub use newest::Newest;

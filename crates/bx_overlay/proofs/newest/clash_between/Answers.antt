@@ -1,5 +1,4 @@
-use Rattle.std.proofs.Common.{◌≡◌, ℕ, List, Some, None, sym, subst, ap, ◌∙◌, arith, refl}
-use Rattle.bx_layout.specs.declared.block.Block.{Block}
+use Rattle.std.proofs.Common.{sym, subst, arith, refl}
 use Rattle.bx_homes.proofs.Sectors.{not_both}
 use Rattle.bx_overlay.proofs.Clashes.{IsLeft, at_first, next_left, none_or, one_or}
 use Rattle.bx_overlay.proofs.newest.clash_between.Goals as goal

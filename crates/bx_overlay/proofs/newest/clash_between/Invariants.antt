@@ -1,4 +1,3 @@
-use Rattle.std.proofs.Common.{◌≡◌}
 use Rattle.bx_overlay.proofs.Clashes.{IsLeft}
 use Rattle.bx_overlay.proofs.newest.clash_between.Given as goal
 

@@ -5,3 +5,4 @@ pub mod Labelled
 pub mod Counts
 pub mod Absent
 pub mod Standing
+pub mod Rooms

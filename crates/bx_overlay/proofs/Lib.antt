@@ -2,3 +2,4 @@ pub mod Pieces
 pub mod LogRuns
 pub mod Clashes
 pub mod Over
+pub mod There

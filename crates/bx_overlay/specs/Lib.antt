@@ -3,3 +3,5 @@ pub mod Members
 pub mod Logs
 pub mod Newest
 pub mod OneOver
+pub mod Refusals
+pub mod Reading

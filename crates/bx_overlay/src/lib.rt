@@ -2,6 +2,7 @@
 //! the homes the truth. Each function answers what the definitions of a volume say, both ways.
 #![tactic(auto)]
 
+mod error;
 mod laws;
 mod log;
 mod logs;
@@ -9,10 +10,13 @@ mod members;
 mod newest;
 mod overlaid;
 mod record;
+mod volume_disks;
 
+pub use error::AuditError;
 pub use laws::what_stands_is_the_truth;
 pub use logs::{points_of, read_logs};
 pub use members::Members;
 pub use newest::Newest;
 pub use overlaid::{Overlaid, clash_in, newest_of_all};
 pub use record::Record;
+pub use volume_disks::{VolumeDisks, read_disks};

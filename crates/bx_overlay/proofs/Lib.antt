@@ -3,3 +3,5 @@ pub mod LogRuns
 pub mod Clashes
 pub mod Over
 pub mod There
+pub mod Shown
+pub mod Refused

@@ -27,9 +27,15 @@ is_source mode false reads = reads.0 refl
 is_source mode true reads = inr (λ at_a. let no = reads.1 at_a in absurd (cc))
 
 -- a device has a row
-record HasRow (rows : List DeviceRow) (device : ℕ) : Type 0 where
-  row : DeviceRow
-  there : slice_get rows device ≡ Some row
+pub record HasRow (rows : List DeviceRow) (device : ℕ) : Type 0 where
+  pub row : DeviceRow
+  pub there : slice_get rows device ≡ Some row
+
+pub row_of : (rows : List DeviceRow) (members : Members) (device : ℕ) → length rows ≡ members.devices → device < members.devices → HasRow rows device
+row_of rows members device count less = ⊎_elim
+    (λ here. record { row = here.0; there = here.2 })
+    (λ past. absurd (omega (arith, less, count, past.0)))
+    (slice_get_cases rows device).1
 
 pub are_there : (sizes : List ℕ) (first : Label) (rows : List DeviceRow) (members : Members) → IsLabel first → length rows ≡ first.devices
     → ((device : ℕ) (row : DeviceRow) → slice_get rows device ≡ Some row → HasSource sizes device row)
@@ -43,18 +49,12 @@ are_there sizes first rows members label count sources rooms are = record {
     most_areas = omega (arith, are.areas, label.most_areas);
   };
   count = are.count;
-  disk = λ device less. let here = row_of device less in sources device here.row here.there (member_in members.seconds device) (are.sources device here.row here.there);
+  disk = λ device less. let here = row_of rows members device (count ∙ sym are.devices) less in sources device here.row here.there (member_in members.seconds device) (are.sources device here.row here.there);
   room = λ device less.
-      let here = row_of device less in
+      let here = row_of rows members device (count ∙ sym are.devices) less in
       let second = member_in members.seconds device in
       let enough = rooms device here.row here.there second (is_source here.row.mode second (are.sources device here.row here.there)) in
       let long = long_as first.devices first.areas device second in
       let same : member_sectors first.devices first.areas ≡ member_sectors members.devices members.areas = ap (λ (n : ℕ). member_sectors n first.areas) (sym are.devices) ∙ ap (member_sectors members.devices) (sym are.areas) in
       subst (λ (n : ℕ). n ≤ slice_index sizes (disk_of members device)) (long ∙ same) enough;
 }
-  where
-    row_of : (device : ℕ) → device < members.devices → HasRow rows device
-    row_of device less = ⊎_elim
-        (λ here. record { row = here.0; there = here.2 })
-        (λ past. absurd (omega (arith, less, count, are.devices, past.0)))
-        (slice_get_cases rows device).1

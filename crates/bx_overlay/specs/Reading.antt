@@ -7,13 +7,15 @@ use Rattle.bx_rows.specs.declared.session.SessionRow.{SessionRow}
 use Rattle.bx_rows.specs.Modes.{IsReadAtA}
 use Rattle.bx_global.specs.declared.state.GlobalState.{GlobalState}
 use Rattle.bx_layout.specs.declared.label.Label.{Label}
+use Rattle.bx_views.specs.Truths.{Truth}
 use Rattle.bx_volume.specs.Images.{IsFirstLabel}
+use Rattle.bx_volume.specs.Overlay.{Logs, IsTruth}
 use Rattle.bx_volume.specs.Records.{Logged}
 use Rattle.bx_overlay.specs.declared.error.AuditError.{AuditError}
 use Rattle.bx_overlay.specs.declared.error.AuditError.TheVariants.{NoLabel}
 use Rattle.bx_overlay.specs.declared.members.Members.{Members}
 use Rattle.bx_overlay.specs.declared.volume_disks.VolumeDisks.{VolumeDisks}
-use Rattle.bx_overlay.specs.Members.{AreThere, member_in}
+use Rattle.bx_overlay.specs.Members.{AreThere, held_by, member_in}
 use Rattle.bx_overlay.specs.Logs.{AreLogs, points_in}
 use Rattle.bx_overlay.specs.Newest.{AreAgreed, AreNewest, Newest}
 use Rattle.bx_overlay.specs.Refusals.{AreAccepted, HasNoLabel, RefusesLogs, RefusesMembers}
@@ -60,3 +62,8 @@ pub record HasWrongLogs (disks : Disks) (state : GlobalState) (error : AuditErro
 -- Why disks are refused in this state: no disk has a label, which is told of disk 0; or else their members are refused, or else their logs.
 abbrev pub IsRefused : Disks → GlobalState → AuditError → Type 0
 IsRefused disks state error = ((error ≡ NoLabel 0) × HasNoLabel disks) ⊎ (IsRefusedAs disks state error ⊎ HasWrongLogs disks state error)
+
+-- the members that were read hold this truth, by some logs
+pub record HoldsTruth (image : Image) (state : GlobalState) (read : VolumeDisks) (truth : Truth) : Type 0 where
+  pub logs : Logs
+  pub is_truth : IsTruth (held_by image read.members) read.first.devices read.first.areas state.sessions logs truth

@@ -13,7 +13,7 @@ mod record;
 mod volume_disks;
 
 pub use error::AuditError;
-pub use laws::what_stands_is_the_truth;
+pub use laws::{refused_disks_show_no_tree, what_is_read_is_shown, what_stands_is_the_truth};
 pub use logs::{points_of, read_logs};
 pub use members::Members;
 pub use newest::Newest;

@@ -4,3 +4,5 @@ pub mod Kept
 pub mod Labelled
 pub mod Counts
 pub mod Absent
+pub mod Standing
+pub mod Rooms

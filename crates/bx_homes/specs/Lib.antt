@@ -1,3 +1,3 @@
 pub mod Sources
 pub mod Slots
-pub mod Members
+pub mod Standing

@@ -1,10 +1,27 @@
 -- The disks of the members that a volume is read from.
-use Rattle.std.specs.Prelude.{◌≡◌, ℕ, ◌<◌, ◌↔◌, Bool, false, List, length, slice_get, Some}
+use Rattle.std.specs.Prelude.{◌≡◌, ℕ, ◌<◌, ◌≤◌, ◌↔◌, Bool, false, List, length, slice_index, slice_get, Some}
 use Rattle.bx_disk.specs.Disks.{Image}
 use Rattle.bx_layout.specs.declared.label.Label.{Label}
+use Rattle.bx_layout.specs.Labels.{IsLabel}
+use Rattle.bx_places.specs.Places.{disk_count, disk_sectors}
 use Rattle.bx_rows.specs.declared.device.DeviceRow.{DeviceRow}
 use Rattle.bx_rows.specs.Modes.{IsReadAtA, IsSource}
 use Rattle.bx_volume.specs.Images.{IsLabelled, member_disk}
+
+-- a label names a disk of its volume that is as long as it says
+pub record Fits (sizes : List ℕ) (disk : ℕ) (label : Label) : Type 0 where
+  pub is : IsLabel label
+  pub names : label.disk ≡ disk
+  pub there : disk < disk_count label.devices
+  pub long_enough : disk_sectors label.devices label.areas disk ≤ slice_index sizes disk
+
+-- a disk is as long as the disk of this number on the volume that the label is of
+abbrev pub HasRoom : List ℕ → Label → ℕ → Type 0
+HasRoom sizes first disk = disk_sectors first.devices first.areas disk ≤ slice_index sizes disk
+
+-- the disk of each source member of a device is
+abbrev pub HaveRoom : List ℕ → Label → ℕ → DeviceRow → Type 0
+HaveRoom sizes first device row = (member : Bool) → IsSource row.mode member → HasRoom sizes first (member_disk device member)
 
 -- each source member of a device has a label of the volume
 abbrev pub AreLabelled : List ℕ → Image → Label → ℕ → DeviceRow → Type 0

@@ -31,6 +31,9 @@ pub trait Blocks {
     /// How often its disks have failed.
     ghost faults: { Self → ℕ };
 
+    /// The name of the reference that it holds to what it reads, 0 where it holds none.
+    ghost lender: { Self → ℕ };
+
     /// The block with a number; `None` exactly where there is none. An error is a disk's, or want of memory.
     fn block(&mut self, at: u64) -> Result<Option<Block>, RackError>
         requires ready { ready self.old }
@@ -43,6 +46,7 @@ pub trait Blocks {
         ensures memory_counts { IsErrOf result OutOfMemory → faults self.new ≡ faults self.old }
         ensures no_fault { OnOk result (faults self.new ≡ faults self.old) }
         ensures areas { areas self.new ≡ areas self.old }
+        ensures lender { lender self.new ≡ lender self.old }
         ensures keeps_ready { ready self.new }
         ensures keeps_telling { tells self.old → tells self.new };
 

@@ -1,12 +1,13 @@
 //! Blocks in their homes.
 
-ghost use Rattle.std.specs.Prelude.{◌≡◌, ◌<◌, ◌≤◌, length, slice_index, IfOk, IfSome, IfNone, OnOk, IsErrOf};
+ghost use Rattle.std.specs.Prelude.{◌≡◌, ◌+◌, ◌<◌, ◌≤◌, length, slice_index, IfOk, IfSome, IfNone, OnOk, IsErrOf};
 ghost use Rattle.bx_disk.specs.Counts.{NoneFalls, NoneRose, BothRose};
 ghost use Rattle.bx_disk.specs.declared.fault.RackError.TheVariants.{Fault, OutOfMemory};
 ghost use Rattle.bx_layout.specs.declared.block.Block.{Block};
 ghost use Rattle.bx_places.specs.Places.{IsVolume, IsBlock, block_place, member_sectors};
 ghost use Rattle.bx_volume.specs.Images.{devices_of, member_disk};
 ghost use Rattle.bx_volume.specs.Overlay.{IsHome};
+ghost use Rattle.bx_homes.specs.Standing.{StandsAt};
 
 use bx_calls::read_sectors;
 use bx_disk::{Rack, RackError};
@@ -38,7 +39,28 @@ pub fn read_home<R: Rack>(
     ensures keeps_telling { R.tells rack.old → R.tells rack.new }
 {
     let (device, sector) = place(at, devices, areas);
-    let disk = member_disk(device, second);
+    read_block(alloc, rack, member_disk(device, second), sector)
+}
+
+/// The block that nine sectors of a disk are. `None` exactly where they are no block.
+pub fn read_block<R: Rack>(
+    alloc: Global,
+    rack: &mut R,
+    disk: u32,
+    sector: u64,
+) -> Result<Option<Block>, RackError>
+    requires disk { disk < length (R.state rack.old).sizes }
+    requires room { sector + 9 ≤ slice_index (R.state rack.old).sizes disk }
+    ensures some { R.tells rack.old → IfOk result (λ found. IfSome found (StandsAt (R.state rack.old).reads disk sector)) }
+    ensures none { R.tells rack.old → IfOk result (λ found. IfNone found ((block : Block) → StandsAt (R.state rack.old).reads disk sector block → ⊥)) }
+    ensures stays { R.tells rack.old → R.state rack.new ≡ R.state rack.old }
+    ensures cause { IsErrOf result Fault → BothRose (R.faults rack.old) (R.faults rack.new) (R.faults_of rack.old) (R.faults_of rack.new) disk }
+    ensures later { NoneFalls (R.faults rack.old) (R.faults rack.new) (R.faults_of rack.old) (R.faults_of rack.new) }
+    ensures memory_counts { IsErrOf result OutOfMemory → NoneRose (R.faults rack.old) (R.faults rack.new) (R.faults_of rack.old) (R.faults_of rack.new) }
+    ensures no_fault { OnOk result (NoneRose (R.faults rack.old) (R.faults rack.new) (R.faults_of rack.old) (R.faults_of rack.new)) }
+    ensures sizes { (R.state rack.new).sizes ≡ (R.state rack.old).sizes }
+    ensures keeps_telling { R.tells rack.old → R.tells rack.new }
+{
     let mut bytes = [0; 4608];
     read_sectors(rack, disk, sector, &mut bytes)?;
     let found = Block::read(alloc, &bytes)?;
@@ -46,7 +68,7 @@ pub fn read_home<R: Rack>(
 }
 
 /// The disk of a device's member A or B (`second`).
-pub(crate) fn member_disk(device: u32, second: bool) -> u32
+pub fn member_disk(device: u32, second: bool) -> u32
     requires { device < 4 }
     ensures { result ≡ member_disk device second }
 {

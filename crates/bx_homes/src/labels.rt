@@ -6,6 +6,7 @@ ghost use Rattle.bx_disk.specs.Counts.{NoneFalls, NoneRose, BothRose};
 ghost use Rattle.bx_layout.specs.declared.label.Label.{Label};
 ghost use Rattle.bx_layout.specs.Labels.{IsLabel};
 ghost use Rattle.bx_places.specs.Places.{disk_count, disk_sectors};
+ghost use Rattle.bx_homes.specs.Sources.{Fits, HasRoom};
 ghost use Rattle.bx_volume.specs.Images.{IsOwnLabel, IsFirstLabel, IsLabelled};
 
 use bx_calls::read_sectors;
@@ -16,6 +17,7 @@ use bx_places::{SECTOR, disk_sectors};
 /// The label of the least disk that has one of its own. `None` exactly where no disk has.
 pub fn first_label<R: Rack>(rack: &mut R) -> Result<Option<Label>, DiskFault>
     ensures some { R.tells rack.old → IfOk result (λ found. IfSome found (IsFirstLabel (R.state rack.old).sizes (R.state rack.old).reads)) }
+    ensures is { IfOk result (λ found. IfSome found IsLabel) }
     ensures none { R.tells rack.old → IfOk result (λ found. IfNone found ((disk : ℕ) (label : Label) → IsOwnLabel (R.state rack.old).sizes (R.state rack.old).reads disk label → ⊥)) }
     ensures stays { R.tells rack.old → R.state rack.new ≡ R.state rack.old }
     ensures cause { OnErr result (Rose (R.faults rack.old) (R.faults rack.new)) }
@@ -35,6 +37,7 @@ pub fn first_label<R: Rack>(rack: &mut R) -> Result<Option<Label>, DiskFault>
 /// Whether a disk has a label of the volume that the first label is of.
 pub fn is_labelled<R: Rack>(rack: &mut R, first: &Label, disk: u32) -> Result<bool, DiskFault>
     ensures answer { R.tells rack.old → IfOk result (λ is. IsTrue is ↔ IsLabelled (R.state rack.old).sizes (R.state rack.old).reads first.now disk) }
+    ensures room { IfOk result (λ is. IsTrue is → HasRoom (R.state rack.old).sizes first.now disk) }
     ensures stays { R.tells rack.old → R.state rack.new ≡ R.state rack.old }
     ensures cause { OnErr result (BothRose (R.faults rack.old) (R.faults rack.new) (R.faults_of rack.old) (R.faults_of rack.new) disk) }
     ensures later { NoneFalls (R.faults rack.old) (R.faults rack.new) (R.faults_of rack.old) (R.faults_of rack.new) }
@@ -51,6 +54,7 @@ pub fn is_labelled<R: Rack>(rack: &mut R, first: &Label, disk: u32) -> Result<bo
 /// The label of a disk, if it is this very disk's and the disk is as long as it says.
 fn own_label<R: Rack>(rack: &mut R, disk: u32) -> Result<Option<Label>, DiskFault>
     ensures some { R.tells rack.old → IfOk result (λ found. IfSome found (IsOwnLabel (R.state rack.old).sizes (R.state rack.old).reads disk)) }
+    ensures fits { IfOk result (λ found. IfSome found (Fits (R.state rack.old).sizes disk)) }
     ensures none { R.tells rack.old → IfOk result (λ found. IfNone found ((label : Label) → IsOwnLabel (R.state rack.old).sizes (R.state rack.old).reads disk label → ⊥)) }
     ensures stays { R.tells rack.old → R.state rack.new ≡ R.state rack.old }
     ensures cause { OnErr result (BothRose (R.faults rack.old) (R.faults rack.new) (R.faults_of rack.old) (R.faults_of rack.new) disk) }

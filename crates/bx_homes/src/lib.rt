@@ -4,7 +4,6 @@
 
 mod blocks;
 mod gates;
-mod home_blocks;
 mod homes;
 mod labels;
 mod slots;
@@ -12,8 +11,7 @@ mod sources;
 
 pub use blocks::Blocks;
 pub use gates::open_gates;
-pub use home_blocks::Homes;
-pub use homes::read_home;
+pub use homes::{member_disk, read_block, read_home};
 pub use labels::{first_label, is_labelled};
 pub use slots::first_fault;
 pub use sources::{first_absent, first_unlabelled};

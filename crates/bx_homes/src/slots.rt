@@ -37,6 +37,7 @@ pub fn first_fault<B: Blocks>(
     ensures memory_counts { IsErrOf result MemoryRanOut → B.faults blocks.new ≡ B.faults blocks.old }
     ensures no_fault { OnOk result (B.faults blocks.new ≡ B.faults blocks.old) }
     ensures keeps_areas { B.areas blocks.new ≡ B.areas blocks.old }
+    ensures keeps_lender { B.lender blocks.new ≡ B.lender blocks.old }
     ensures keeps_ready { B.ready blocks.new }
     ensures keeps_telling { B.tells blocks.old → B.tells blocks.new }
 {
@@ -62,6 +63,7 @@ fn fault_in<B: Blocks>(alloc: Global, blocks: &mut B, area: u16) -> Result<Optio
     ensures memory_counts { IsErrOf result MemoryRanOut → B.faults blocks.new ≡ B.faults blocks.old }
     ensures no_fault { OnOk result (B.faults blocks.new ≡ B.faults blocks.old) }
     ensures keeps_areas { B.areas blocks.new ≡ B.areas blocks.old }
+    ensures keeps_lender { B.lender blocks.new ≡ B.lender blocks.old }
     ensures keeps_ready { B.ready blocks.new }
     ensures keeps_telling { B.tells blocks.old → B.tells blocks.new }
 {
@@ -97,6 +99,7 @@ fn slots_of<B: Blocks>(
     ensures memory_counts { IsErrOf result MemoryRanOut → B.faults blocks.new ≡ B.faults blocks.old }
     ensures no_fault { OnOk result (B.faults blocks.new ≡ B.faults blocks.old) }
     ensures keeps_areas { B.areas blocks.new ≡ B.areas blocks.old }
+    ensures keeps_lender { B.lender blocks.new ≡ B.lender blocks.old }
     ensures keeps_ready { B.ready blocks.new }
     ensures keeps_telling { B.tells blocks.old → B.tells blocks.new }
 {
@@ -154,6 +157,7 @@ fn has_header<B: Blocks>(
     ensures memory_counts { IsErrOf result MemoryRanOut → B.faults blocks.new ≡ B.faults blocks.old }
     ensures no_fault { OnOk result (B.faults blocks.new ≡ B.faults blocks.old) }
     ensures keeps_areas { B.areas blocks.new ≡ B.areas blocks.old }
+    ensures keeps_lender { B.lender blocks.new ≡ B.lender blocks.old }
     ensures keeps_ready { B.ready blocks.new }
     ensures keeps_telling { B.tells blocks.old → B.tells blocks.new }
 {

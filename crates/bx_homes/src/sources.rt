@@ -6,7 +6,7 @@ ghost use Rattle.bx_disk.specs.Counts.{NoneFalls, NoneRose};
 ghost use Rattle.bx_rows.specs.declared.device.DeviceRow.{DeviceRow};
 ghost use Rattle.bx_rows.specs.Modes.{IsSource};
 ghost use Rattle.bx_volume.specs.Images.{IsLabelled, member_disk};
-ghost use Rattle.bx_homes.specs.Sources.{AreLabelled, IsFirstUnlabelled, HasSource, IsFirstAbsent};
+ghost use Rattle.bx_homes.specs.Sources.{AreLabelled, IsFirstUnlabelled, HasRoom, HaveRoom, HasSource, IsFirstAbsent};
 
 use crate::homes::member_disk;
 use crate::labels::is_labelled;
@@ -23,6 +23,7 @@ pub fn first_unlabelled<R: Rack>(
 ) -> Result<Option<u32>, DiskFault>
     requires { length rows.now ≤ 4 }
     ensures none { R.tells rack.old → IfOk result (λ found. IfNone found ((device : ℕ) (row : DeviceRow) → slice_get rows.now device ≡ Some row → AreLabelled (R.state rack.old).sizes (R.state rack.old).reads first.now device row)) }
+    ensures room { IfOk result (λ found. IfNone found ((device : ℕ) (row : DeviceRow) → slice_get rows.now device ≡ Some row → HaveRoom (R.state rack.old).sizes first.now device row)) }
     ensures some { R.tells rack.old → IfOk result (λ found. IfSome found (IsFirstUnlabelled (R.state rack.old).sizes (R.state rack.old).reads first.now rows.now)) }
     ensures stays { R.tells rack.old → R.state rack.new ≡ R.state rack.old }
     ensures cause { OnErr result (Rose (R.faults rack.old) (R.faults rack.new)) }
@@ -53,6 +54,7 @@ fn lacks_label<R: Rack>(
 ) -> Result<bool, DiskFault>
     requires { device < 4 }
     ensures yes { R.tells rack.old → IfOk result (λ lacks. IsTrue lacks → IsSource row.now.mode second × (IsLabelled (R.state rack.old).sizes (R.state rack.old).reads first.now (member_disk device second) → ⊥)) }
+    ensures room { IfOk result (λ lacks. IsFalse lacks → IsSource row.now.mode second → HasRoom (R.state rack.old).sizes first.now (member_disk device second)) }
     ensures no { R.tells rack.old → IfOk result (λ lacks. IsFalse lacks → IsSource row.now.mode second → IsLabelled (R.state rack.old).sizes (R.state rack.old).reads first.now (member_disk device second)) }
     ensures stays { R.tells rack.old → R.state rack.new ≡ R.state rack.old }
     ensures cause { OnErr result (Rose (R.faults rack.old) (R.faults rack.new)) }

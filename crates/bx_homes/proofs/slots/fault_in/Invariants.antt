@@ -10,6 +10,7 @@ invariant-loop-slot g l = record {
   ready : g.B.Blocks.ready l.blocks;
   none_rose : g.B.Blocks.faults l.blocks ≡ g.B.Blocks.faults l.fn.blocks;
   areas_are : g.B.Blocks.areas l.blocks ≡ g.B.Blocks.areas l.fn.blocks;
+  lender_is : g.B.Blocks.lender l.blocks ≡ g.B.Blocks.lender l.fn.blocks;
   stays : g.B.Blocks.tells l.fn.blocks → StaysSo (g.B.Blocks.stands l.fn.blocks) (g.B.Blocks.stands l.blocks);
   tells : g.B.Blocks.tells l.fn.blocks → g.B.Blocks.tells l.blocks;
   is : IsArea l.slots;

@@ -23,6 +23,7 @@ loop-area-preserved g c = record {
   ready = c.in_ok-at.ensures.keeps_ready;
   none_rose = c.in_ok-at.ensures.no_fault ∙ c.loop-area.invariant.none_rose;
   areas_are = c.in_ok-at.ensures.keeps_areas ∙ c.loop-area.invariant.areas_are;
+  lender_is = c.in_ok-at.ensures.keeps_lender ∙ c.loop-area.invariant.lender_is;
   stays = λ tells. stays_then (g.B.Blocks.stands c.args.blocks.now) (g.B.Blocks.stands c.loop-area.blocks) (g.B.Blocks.stands c.fault_in.new.blocks) (c.loop-area.invariant.stays tells) (c.in_ok-at.ensures.stays (c.loop-area.invariant.tells tells));
   tells = λ tells. c.in_ok-at.ensures.keeps_telling (c.loop-area.invariant.tells tells);
   there = λ tells other less. ⊎_elim

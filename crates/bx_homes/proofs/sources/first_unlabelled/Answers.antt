@@ -1,7 +1,9 @@
-use Rattle.std.proofs.Common.{false, true, ◌∙◌, arith}
+use Rattle.std.proofs.Common.{ℕ, List, subst, false, true, ◌∙◌, arith}
 use Rattle.std.proofs.lemmas.Option.{slice_get-get_or, slice_get_within}
 use Rattle.bx_volume.specs.Images.{member_disk}
+use Rattle.bx_homes.specs.Sources.{HasRoom}
 use Rattle.bx_homes.proofs.Labelled.{moved, moved_not, one_more, without_a, without_b}
+use Rattle.bx_homes.proofs.Rooms.{rooms_too}
 use Rattle.bx_homes.proofs.sources.first_unlabelled.Goals as goal
 
 pub returns-then-branch-clause-some : goal.returns-then-branch-clause-some
@@ -34,6 +36,10 @@ loop-device-preserved g c = record {
     all = c.in_ok-lacks_label-2.ensures.no_fault.all ∙ c.in_ok-lacks_label.ensures.no_fault.all ∙ c.loop-device.invariant.none_rose.all;
     each = λ d. c.in_ok-lacks_label-2.ensures.no_fault.each d ∙ c.in_ok-lacks_label.ensures.no_fault.each d ∙ c.loop-device.invariant.none_rose.each d;
   };
+  room = rooms_too (g.R.Rack.state c.args.rack.now).sizes c.args.first.now c.args.rows.now c.loop-device.device _ (slice_get-get_or c.args.rows.now c.loop-device.device _ (omega (arith, c.loop-device-test.true, c.requires)))
+      c.loop-device.invariant.room
+      (λ source. subst (λ (sizes : List ℕ). HasRoom sizes c.args.first.now (member_disk c.loop-device.device false)) c.loop-device.invariant.sizes (c.in_ok-lacks_label.ensures.room c.if-branch.false source))
+      (λ source. subst (λ (sizes : List ℕ). HasRoom sizes c.args.first.now (member_disk c.loop-device.device true)) (c.in_ok-lacks_label.ensures.sizes ∙ c.loop-device.invariant.sizes) (c.in_ok-lacks_label-2.ensures.room c.if-branch-2.false source));
   done = λ tells.
       let told = c.loop-device.invariant.tells tells in
       let was = c.loop-device.invariant.stays tells in
@@ -48,3 +54,8 @@ pub returns-clause-none : goal.returns-clause-none
 returns-clause-none g c = λ tells device row is.
     let within = slice_get_within c.args.rows.now device row is in
     c.loop-device.invariant.done tells device row (omega (arith, within, c.loop-device-test.false, c.requires, c.loop-device.auto.device-end)) is
+
+pub returns-clause-room : goal.returns-clause-room
+returns-clause-room g c = λ device row is.
+    let within = slice_get_within c.args.rows.now device row is in
+    c.loop-device.invariant.room device row (omega (arith, within, c.loop-device-test.false, c.requires, c.loop-device.auto.device-end)) is

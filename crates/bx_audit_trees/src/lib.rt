@@ -1,0 +1,10 @@
+//! The file tree that the blocks of a volume stand for, read off them.
+#![tactic(auto)]
+
+mod chunks;
+mod error;
+mod pages;
+
+pub use chunks::chunk_at;
+pub use error::AuditError;
+pub use pages::{TreePage, page_at};

@@ -1,2 +1,4 @@
 pub mod Ends
 pub mod OnePage
+pub mod RoomAbove
+pub mod Walk

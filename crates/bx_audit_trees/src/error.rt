@@ -6,6 +6,7 @@ ghost use Rattle.bx_audit_trees.specs.Errors.{of_rack};
 ghost use Rattle.bx_audit_trees.specs.declared.error.AuditError.TheVariants.{OutOfMemory as MemoryRanOut};
 
 use bx_disk::RackError;
+use std::alloc::AllocFailed;
 use thiserror::Error;
 
 /// Why there is no file tree, or why it wasn't read.
@@ -38,6 +39,14 @@ impl From<bx_base::OutOfMemory> for AuditError {
     ghost from_gives = { λ _ error. error ≡ MemoryRanOut };
 
     fn from(_error: bx_base::OutOfMemory) -> AuditError {
+        AuditError::OutOfMemory
+    }
+}
+
+impl<T: Drop> From<AllocFailed<T>> for AuditError {
+    ghost from_gives = { λ _ error. error ≡ MemoryRanOut };
+
+    fn from(_error: AllocFailed<T>) -> AuditError {
         AuditError::OutOfMemory
     }
 }

@@ -3,8 +3,10 @@
 
 mod chunks;
 mod error;
+mod levels;
 mod pages;
 
 pub use chunks::chunk_at;
 pub use error::AuditError;
+pub use levels::level_from;
 pub use pages::{TreePage, page_at};

@@ -1,13 +1,15 @@
 //! One page of a tree.
 
-ghost use Rattle.std.specs.Prelude.{◌≡◌, ◌≤◌, ℕ, false, List, All, Option, IfOk, IfSome, IfNone, IsErrOf, IsTrue, ◌↔◌};
+ghost use Rattle.std.specs.Prelude.{◌≡◌, ◌≤◌, ◌<◌, ℕ, false, length, List, All, Option, IfOk, IfSome, IfNone, IsErrOf, IsTrue, ◌↔◌};
+ghost use Rattle.bx_base.specs.Bytes.{IsBytes};
 ghost use Rattle.bx_page.specs.Contents.{Contents, IsPage, Rises};
-ghost use Rattle.bx_page.specs.Keys.{is_below};
+ghost use Rattle.bx_page.specs.Keys.{is_below, IsBelow};
 ghost use Rattle.bx_truth.specs.PageTrees.{Chunks, HasPage};
 ghost use Rattle.bx_truth.specs.Chunks.{block_at};
 ghost use Rattle.bx_audit_trees.specs.declared.error.AuditError.TheVariants.{Torn, Fault as DiskFailed};
 ghost use Rattle.bx_audit_trees.specs.Errors.{IfTorn, Counts};
 ghost use Rattle.bx_audit_trees.specs.Pages.{IsPageAt, IsPlaced, LeadsTo};
+ghost use Rattle.bx_audit_trees.specs.Room.{room_above};
 ghost use Rattle.bx_audit_trees.specs.Shown.{Shows};
 
 use crate::chunks::chunk_at;
@@ -92,9 +94,13 @@ pub(crate) fn way_of(
     level: u16,
     begins: &[u8],
 ) -> Result<Option<(u64, Raw)>, AuditError>
-    requires { IsPage page.now }
+    requires page { IsPage page.now }
+    requires short { length begins.now ≤ 256 }
     ensures placed { IfOk result (λ next. IsPlaced level begins.now page.now) }
     ensures leads { IfOk result (LeadsTo page.now) }
+    ensures above { IfOk result (λ next. IfSome next (λ x. IsBelow begins.now x.1)) }
+    ensures less { IfOk result (λ next. IfSome next (λ x. room_above x.1 < room_above begins.now)) }
+    ensures short { IfOk result (λ next. IfSome next (λ x. length x.1 ≤ 256)) }
     ensures torn { IfTorn result (λ at found wanted. (next : Option (ℕ × List ℕ)) → IsPlaced level begins.now page.now → LeadsTo page.now next → ⊥) }
     ensures names { IfTorn result (λ at found names. names ≡ handle) }
     ensures no_fault { IsErrOf result DiskFailed → ⊥ }
@@ -102,14 +108,23 @@ pub(crate) fn way_of(
     if page.level() != level || !begins_above(page, begins) {
         return Err(torn_at(handle));
     }
-    let (right, high) = (page.right(), page.high());
-    match high {
+    let right = page.right();
+    match page.high() {
         None if right == 0 => Ok(None),
-        Some(high) if right != 0 && begins.cmp(high).is_lt() => {
+        Some(high) if right != 0 && comes_behind(begins, high) => {
             Ok(Some((right, Raw::of(alloc, high)?)))
         }
         _ => Err(torn_at(handle)),
     }
+}
+
+/// Whether a key is above another. Both are bytes.
+fn comes_behind(key: &[u8], high: &[u8]) -> bool
+    ensures above { IsTrue result ↔ IsBelow key.now high.now }
+    ensures key { IsBytes key.now }
+    ensures high { IsBytes high.now }
+{
+    key.cmp(high).is_lt()
 }
 
 /// Whether no key of a page is below a key.

@@ -28,14 +28,21 @@ module _ (chunks : Chunks) (level handle : ℕ) (begins : List ℕ) (page : Cont
   pub next_walks : (right : ℕ) (high : List ℕ) (rest : List Node) → LeadsTo page (Some (right, high)) → Walks chunks level right high rest
       → Walks chunks level handle begins (record { handle = handle; begins = begins; page = page } ∷ rest)
   next_walks right high [] leads walks = absurd walks
-  next_walks right high (y ∷ []) leads walks =
-      (record { handle_is = refl; begins_is = refl; at = at; placed = placed },
-      (leads.0 ∙ sym walks.0.handle_is, leads.1 ∙ ap Some (sym walks.0.begins_is), λ zero. leads.2 (sym walks.0.handle_is ∙ zero)),
-      (record { handle_is = refl; begins_is = refl; at = subst (λ (n : ℕ). IsPageAt chunks n y.page) (sym walks.0.handle_is) walks.0.at; placed = subst (λ (k : List ℕ). IsPlaced level k y.page) (sym walks.0.begins_is) walks.0.placed }, walks.1))
-  next_walks right high (y ∷ z ∷ others) leads walks =
-      (record { handle_is = refl; begins_is = refl; at = at; placed = placed },
-      (leads.0 ∙ sym walks.0.handle_is, leads.1 ∙ ap Some (sym walks.0.begins_is), λ zero. leads.2 (sym walks.0.handle_is ∙ zero)),
-      (record { handle_is = refl; begins_is = refl; at = subst (λ (n : ℕ). IsPageAt chunks n y.page) (sym walks.0.handle_is) walks.0.at; placed = subst (λ (k : List ℕ). IsPlaced level k y.page) (sym walks.0.begins_is) walks.0.placed }, walks.1, walks.2))
+  next_walks right high (y ∷ []) leads walks = (
+    record { handle_is = refl; begins_is = refl; at = at; placed = placed },
+    (leads.0 ∙ sym walks.0.handle_is, leads.1 ∙ ap Some (sym walks.0.begins_is), λ zero. leads.2 (sym walks.0.handle_is ∙ zero)),
+    (record { handle_is = refl; begins_is = refl; at = subst (λ (n : ℕ). IsPageAt chunks n y.page) (sym walks.0.handle_is) walks.0.at; placed = subst (λ (k : List ℕ). IsPlaced level k y.page) (sym walks.0.begins_is) walks.0.placed }, walks.1),
+  )
+  next_walks right high (y ∷ z ∷ others) leads walks = (
+    record { handle_is = refl; begins_is = refl; at = at; placed = placed },
+    (leads.0 ∙ sym walks.0.handle_is, leads.1 ∙ ap Some (sym walks.0.begins_is), λ zero. leads.2 (sym walks.0.handle_is ∙ zero)),
+    (record { handle_is = refl; begins_is = refl; at = subst (λ (n : ℕ). IsPageAt chunks n y.page) (sym walks.0.handle_is) walks.0.at; placed = subst (λ (k : List ℕ). IsPlaced level k y.page) (sym walks.0.begins_is) walks.0.placed }, walks.1, walks.2),
+  )
+
+-- a page doesn't both lead on and end its level
+pub leads_one_way : (page : Contents) (next : Option (ℕ × List ℕ)) (x : ℕ × List ℕ) → next ≡ Some x → LeadsTo page next → LeadsTo page None → ⊥
+leads_one_way page None x is leads last = absurd cc
+leads_one_way page (Some (handle, begins)) x is leads last = let e : None ≡ Some begins = sym last.high ∙ leads.1 in absurd cc
 
 -- ---- what any level has
 
@@ -64,10 +71,10 @@ module _ (chunks : Chunks) (level handle : ℕ) (begins : List ℕ) where
 
 -- ---- levels are such walks
 
-here : (node : Node) (others : List Node) → IsIn node (node ∷ others)
+pub here : (node : Node) (others : List Node) → IsIn node (node ∷ others)
 here node others = record { before = []; behind = others; parts = refl }
 
-later : (node first : Node) (others : List Node) → IsIn node others → IsIn node (first ∷ others)
+pub later : (node first : Node) (others : List Node) → IsIn node others → IsIn node (first ∷ others)
 later node first others there = record { before = first ∷ there.before; behind = there.behind; parts = λ i. first ∷ there.parts i }
 
 pub in_cons : (P : Node → Type 0) (first : Node) (others : List Node) → P first → ((node : Node) → IsIn node others → P node) → (node : Node) → IsIn node (first ∷ others) → P node

@@ -2,3 +2,4 @@ pub mod Errors
 pub mod Shown
 pub mod Pages
 pub mod Room
+pub mod Trees

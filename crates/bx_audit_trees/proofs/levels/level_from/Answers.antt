@@ -30,7 +30,7 @@ returns-in_default-clause-ok g c = λ chunks shows.
     let last = subst (LeadsTo page) c.in_default.is c.in_ok-page.ensures.leads in
     let node : Node = record { handle = c.loop-begins.handle; begins = c.loop-begins.begins; page = page } in
     let walks = c.loop-begins.invariant.read chunks shows (node ∷ [])
-        (last_walks chunks c.args.level c.loop-begins.handle c.loop-begins.begins page (c.in_ok-page.ensures.at chunks still) placed last) in
+    (last_walks chunks c.args.level c.loop-begins.handle c.loop-begins.begins page (c.in_ok-page.ensures.at chunks still) placed last) in
     subst (IsLevelFrom chunks c.args.level c.args.first) (sym c.in_ok-push.ensures.items) (level_of_walk chunks shows.none c.args.level c.args.first (c.loop-begins.pages.items ++ node ∷ []) walks)
 
 pub loop-begins-preserved : goal.loop-begins-preserved
@@ -42,7 +42,7 @@ loop-begins-preserved g c =
     let old = c.loop-begins.pages.items in
     let next : ℕ × List ℕ = (c.in-Some.right, c.in-Some.high) in
     let above : IsBelow c.loop-begins.begins c.in-Some.high =
-        subst (λ (k : List ℕ). IsBelow k c.in-Some.high) c.bytes.ensures (of_some (λ (n : ℕ × List ℕ). IsBelow c.bytes.result.now n.1) c.in_ok-page.next next c.in-Some.is c.in_ok-page.ensures.above) in
+    subst (λ (k : List ℕ). IsBelow k c.in-Some.high) c.bytes.ensures (of_some (λ (n : ℕ × List ℕ). IsBelow c.bytes.result.now n.1) c.in_ok-page.next next c.in-Some.is c.in_ok-page.ensures.above) in
     record {
       ready = c.in_ok-page.ensures.keeps_ready;
       none_rose = c.in_ok-page.ensures.counts ∙ c.loop-begins.invariant.none_rose;

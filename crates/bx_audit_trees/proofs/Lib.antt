@@ -5,3 +5,4 @@ pub mod Walk
 pub mod NodeLists
 pub mod Descents
 pub mod Firsts
+pub mod Lookups

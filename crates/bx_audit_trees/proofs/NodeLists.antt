@@ -79,7 +79,7 @@ module _ (chunks : Chunks) (level : ℕ) where
 
 -- ---- a search
 
-searchable : (nodes : List Node) (key : List ℕ) → BeginningsRise nodes → IsNonDecreasingBy (λ n. ordering_index (slice_cmp nat_cmp n.begins key)) nodes
+pub searchable : (nodes : List Node) (key : List ℕ) → BeginningsRise nodes → IsNonDecreasingBy (λ n. ordering_index (slice_cmp nat_cmp n.begins key)) nodes
 searchable nodes key rise = searchable_from_sorted nat_list_cmp_total (λ (n : Node). n.begins) nodes key (λ k d _ less. not_below_back (get_or nodes k d).begins (get_or nodes (k + 1) d).begins (rise k (k + 1) d (omega arith) less))
 
 pub found_at : (nodes : List Node) (key : List ℕ) (n : ℕ) → IsSearchInRange (Ok n) (length nodes) → IsBinarySearchResult (λ n. slice_cmp nat_cmp n.begins key) nodes (Ok n) → (d : Node) → (get_or nodes n d).begins ≡ key

@@ -3,3 +3,4 @@ pub mod Shown
 pub mod Pages
 pub mod Room
 pub mod Trees
+pub mod Leaves

@@ -4,6 +4,7 @@
 mod children;
 mod chunks;
 mod error;
+mod leaves;
 mod levels;
 mod pages;
 mod trees;

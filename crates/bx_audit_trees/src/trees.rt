@@ -1,7 +1,10 @@
 //! Page trees.
 
-ghost use Rattle.std.specs.Prelude.{◌≡◌, ◌≤◌, ◌+◌, ℕ, List, IfOk, IfSome, IfNone, IsErrOf};
-ghost use Rattle.bx_truth.specs.PageTrees.{Chunks, Node, PageTree, IsLevel, IsTree};
+ghost use Rattle.std.specs.Prelude.{◌≡◌, ◌≤◌, ◌+◌, ℕ, List, [], slice_index_or, IfOk, IfSome, IfNone, IsErrOf};
+ghost use Rattle.bx_truth.specs.PageTrees.{Chunks, Node, PageTree, IsLevel, IsTree, map_of};
+ghost use Rattle.std.specs.Option.{option_copied};
+ghost use Rattle.bx_page.specs.Contents.{value_of};
+ghost use Rattle.bx_audit_trees.specs.Pages.{BeginningsRise};
 ghost use Rattle.bx_audit_trees.specs.declared.error.AuditError.TheVariants.{Fault as DiskFailed};
 ghost use Rattle.bx_audit_trees.specs.Errors.{IfTorn, Counts};
 ghost use Rattle.bx_audit_trees.specs.Shown.{Shows};
@@ -9,6 +12,7 @@ ghost use Rattle.bx_audit_trees.specs.Trees.{HasFirst, IsTop, LiesBelow, NamesFi
 
 use crate::children::{handle_in, lead_down};
 use crate::error::AuditError;
+use crate::leaves::leaf_for;
 use crate::levels::level_from;
 use crate::pages::{TreePage, page_at, torn_at, way_of};
 use bx_base::Raw;
@@ -32,19 +36,42 @@ impl Model for Level {
     ghost view = { λ level. level.pages.items };
 }
 
-/// A page tree that was read, from the root down. Contracts see it as its levels, that of the leaves first.
+/// A page tree that was read. Contracts see it as its levels, that of the leaves first.
 #[derive(Drop)]
 pub struct ReadTree {
-    levels: Vec<Level>,
+    /// The levels above the leaves, from that of the root down.
+    upper: Vec<Level>,
+    leaves: Level,
 }
 
 impl Model for ReadTree {
-    ghost use Rattle.std.specs.Prelude.{List, reverse};
+    ghost use Rattle.std.specs.Prelude.{List, ◌∷◌, reverse};
     ghost use Rattle.bx_truth.specs.PageTrees.{Node};
+    ghost use Rattle.bx_audit_trees.specs.Pages.{BeginningsRise};
 
     ghost Value = { List (List Node) };
 
-    ghost view = { λ tree. reverse tree.levels.items };
+    ghost view = { λ tree. tree.leaves ∷ reverse tree.upper.items };
+
+    ghost invariant = { λ tree. BeginningsRise tree.leaves };
+}
+
+impl ReadTree {
+    /// The leaves, from the left.
+    pub fn leaves(&self) -> &[TreePage]
+        ensures leaves { result.now ≡ slice_index_or self.now 0 [] }
+        ensures rise { BeginningsRise result.now }
+    {
+        &self.leaves.pages
+    }
+
+    /// The value of a key; `None` exactly where the key isn't there.
+    pub fn get(&self, key: &[u8]) -> Option<&[u8]>
+        ensures { (chunks : Chunks) (root : ℕ) → IsTree chunks root (tree_of self.now) → option_copied result ≡ value_of (map_of (tree_of self.now)) key.now }
+    {
+        let leaf = leaf_for(self.leaves(), key)?;
+        leaf.page.get(key)
+    }
 }
 
 /// The tree under a root; torn exactly where there is none.
@@ -74,8 +101,10 @@ pub fn tree_under<B: Blocks>(
         lowest = Level { pages: below };
         level -= 1;
     }
-    levels.push(lowest)?;
-    Ok(ReadTree { levels })
+    Ok(ReadTree {
+        upper: levels,
+        leaves: lowest,
+    })
 }
 
 /// The page under a root, as the one page of its level, and that level.
@@ -89,6 +118,7 @@ fn root_page<B: Blocks>(
     requires areas { B.areas blocks.old ≡ areas }
     requires most { areas ≤ 64 }
     ensures ok { (chunks : Chunks) → Shows (B.tells blocks.old) areas (B.stands blocks.old) chunks → IfOk result (λ x. IsTop chunks root x.1 x.0.items) }
+    ensures rise { IfOk result (λ x. BeginningsRise x.0.items) }
     ensures torn { (chunks : Chunks) → Shows (B.tells blocks.old) areas (B.stands blocks.old) chunks → IfTorn result (λ at found wanted. (tree : PageTree) → IsTree chunks root tree → ⊥) }
     ensures shows { (chunks : Chunks) → Shows (B.tells blocks.old) areas (B.stands blocks.old) chunks → Shows (B.tells blocks.new) areas (B.stands blocks.new) chunks }
     ensures counts { Counts result (B.faults blocks.old) (B.faults blocks.new) }
@@ -122,6 +152,7 @@ fn level_below<B: Blocks>(
     requires areas { B.areas blocks.old ≡ areas }
     requires most { areas ≤ 64 }
     ensures ok { (chunks : Chunks) → Shows (B.tells blocks.old) areas (B.stands blocks.old) chunks → IsLevel chunks (level + 1) above.now → IfOk result (λ pages. LiesBelow chunks level above.now pages.items) }
+    ensures rise { IfOk result (λ pages. BeginningsRise pages.items) }
     ensures one { (chunks : Chunks) → Shows (B.tells blocks.old) areas (B.stands blocks.old) chunks → IsLevel chunks (level + 1) above.now → IfOk result (λ pages. (nodes : List Node) → LiesBelow chunks level above.now nodes → nodes ≡ pages.items) }
     ensures torn { (chunks : Chunks) → Shows (B.tells blocks.old) areas (B.stands blocks.old) chunks → IsLevel chunks (level + 1) above.now → IfTorn result (λ at found wanted. (nodes : List Node) → LiesBelow chunks level above.now nodes → ⊥) }
     ensures shows { (chunks : Chunks) → Shows (B.tells blocks.old) areas (B.stands blocks.old) chunks → Shows (B.tells blocks.new) areas (B.stands blocks.new) chunks }

@@ -18,6 +18,7 @@ loop-level-init g c = record {
   none_rose = c.in_ok-top.ensures.counts;
   areas_are = c.in_ok-top.ensures.keeps_areas;
   shows = c.in_ok-top.ensures.shows;
+  rise = c.in_ok-top.ensures.rise;
   read = λ chunks shows. subst (λ (l : List (List Node)). Stack chunks c.args.root c.in_ok-top.height (c.in_ok-top.top.items ∷ reverse l)) (sym c.new-levels.ensures.items) (c.in_ok-top.ensures.ok chunks shows);
   any = λ chunks shows tree is. one_top chunks c.args.root c.in_ok-top.height c.in_ok-top.top.items tree (c.in_ok-top.ensures.ok chunks shows) is;
 }
@@ -50,6 +51,7 @@ loop-level-preserved g c =
       none_rose = c.in_ok-below.ensures.counts ∙ c.loop-level.invariant.none_rose;
       areas_are = c.in_ok-below.ensures.keeps_areas ∙ c.loop-level.invariant.areas_are;
       shows = λ chunks shows. c.in_ok-below.ensures.shows chunks (c.loop-level.invariant.shows chunks shows);
+      rise = c.in_ok-below.ensures.rise;
       read = λ chunks shows.
           let stack = c.loop-level.invariant.read chunks shows in
           let above : IsLevel chunks (level - 1 + 1) c.deref.result.now =
@@ -73,7 +75,5 @@ pub returns-clause-ok : goal.returns-clause-ok
 returns-clause-ok g c = λ chunks shows.
     let low = c.loop-level.lowest in
     let old = c.loop-level.levels.items in
-    let turned : low ∷ reverse old ≡ reverse c.push-2.new.self.items = sym (ap reverse c.in_ok-push-2.ensures.items ∙ reverse-append old (low ∷ [])) in
     let ground_level : c.loop-level.level ≡ 0 = omega (arith, c.loop-level-test.false) in
-    let stack = subst (λ (n : ℕ). Stack chunks c.args.root n (low ∷ reverse old)) ground_level (c.loop-level.invariant.read chunks shows) in
-    subst (λ (l : List (List Node)). IsTree chunks c.args.root (tree_of l)) turned (tree_is chunks c.args.root (low ∷ reverse old) stack)
+    tree_is chunks c.args.root (low ∷ reverse old) (subst (λ (n : ℕ). Stack chunks c.args.root n (low ∷ reverse old)) ground_level (c.loop-level.invariant.read chunks shows))

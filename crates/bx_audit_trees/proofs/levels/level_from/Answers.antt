@@ -1,0 +1,60 @@
+use Rattle.std.proofs.Common.{◌≡◌, ℕ, ◌≤◌, length, get_or, List, [], ◌∷◌, ◌++◌, Some, None, Option, Err, sym, ap, subst, ◌∙◌, arith}
+use Rattle.std.proofs.lemmas.Result.{err_from_is_err_and}
+use Rattle.std.proofs.lemmas.List.{append_assoc}
+use Rattle.std.proofs.lemmas.List.Elements.{All-push}
+use Rattle.std.proofs.lemmas.List.Quantifiers.{all_pairs_push}
+use Rattle.bx_homes.proofs.Sectors.{of_some}
+use Rattle.std.specs.Prelude.{All}
+use Rattle.bx_page.specs.Keys.{IsBelow}
+use Rattle.bx_page.specs.Contents.{Contents}
+use Rattle.bx_page.proofs.Order.{below_trans}
+use Rattle.bx_truth.specs.PageTrees.{Chunks, Node}
+use Rattle.bx_audit_trees.specs.Pages.{BeginningsRise, IsPlaced, LeadsTo, IsLevelFrom}
+use Rattle.bx_audit_trees.proofs.Ends.{if_torn}
+use Rattle.bx_audit_trees.proofs.Walk.{Walks, first_of, rest_of, last_walks, next_walks, level_of_walk, walk_of_level}
+use Rattle.bx_audit_trees.proofs.levels.level_from.Goals as goal
+
+pub returns-in_err-page-clause-torn : goal.returns-in_err-page-clause-torn
+returns-in_err-page-clause-torn g c = λ chunks shows.
+    let p = err_from_is_err_and c.from_residual-in_err-page.result c.from_residual-in_err-page.ensures.1 in
+    if_torn _ _ c.in_err-page.field-0.0 c.from_residual-in_err-page.result (p.1 ∙ ap Err p.2) (λ at found wanted never nodes is.
+    let rest = c.loop-begins.invariant.any chunks shows nodes (walk_of_level chunks shows.none c.args.level c.args.first nodes is) in
+    let x = first_of chunks c.args.level c.loop-begins.handle c.loop-begins.begins rest.0 rest.1 in
+    never x.0 x.1 x.2 (subst (λ (k : List ℕ). IsPlaced c.args.level k x.0) (sym c.bytes.ensures) x.3) x.4) (c.in_err-page.ensures.torn chunks (c.loop-begins.invariant.shows chunks shows))
+
+pub returns-in_default-clause-ok : goal.returns-in_default-clause-ok
+returns-in_default-clause-ok g c = λ chunks shows.
+    let still = c.loop-begins.invariant.shows chunks shows in
+    let page = c.in_ok-page.page in
+    let placed = subst (λ (k : List ℕ). IsPlaced c.args.level k page) c.bytes.ensures c.in_ok-page.ensures.placed in
+    let last = subst (LeadsTo page) c.in_default.is c.in_ok-page.ensures.leads in
+    let node : Node = record { handle = c.loop-begins.handle; begins = c.loop-begins.begins; page = page } in
+    let walks = c.loop-begins.invariant.read chunks shows (node ∷ [])
+    (last_walks chunks c.args.level c.loop-begins.handle c.loop-begins.begins page (c.in_ok-page.ensures.at chunks still) placed last) in
+    subst (IsLevelFrom chunks c.args.level c.args.first) (sym c.in_ok-push.ensures.items) (level_of_walk chunks shows.none c.args.level c.args.first (c.loop-begins.pages.items ++ node ∷ []) walks)
+
+pub loop-begins-preserved : goal.loop-begins-preserved
+loop-begins-preserved g c =
+    let page = c.in_ok-page.page in
+    let placed = subst (λ (k : List ℕ). IsPlaced c.args.level k page) c.bytes.ensures c.in_ok-page.ensures.placed in
+    let leads : LeadsTo page (Some (c.in-Some.right, c.in-Some.high)) = subst (LeadsTo page) c.in-Some.is c.in_ok-page.ensures.leads in
+    let node : Node = record { handle = c.loop-begins.handle; begins = c.loop-begins.begins; page = page } in
+    let old = c.loop-begins.pages.items in
+    let next : ℕ × List ℕ = (c.in-Some.right, c.in-Some.high) in
+    let above : IsBelow c.loop-begins.begins c.in-Some.high =
+    subst (λ (k : List ℕ). IsBelow k c.in-Some.high) c.bytes.ensures (of_some (λ (n : ℕ × List ℕ). IsBelow c.bytes.result.now n.1) c.in_ok-page.next next c.in-Some.is c.in_ok-page.ensures.above) in
+    record {
+      ready = c.in_ok-page.ensures.keeps_ready;
+      none_rose = c.in_ok-page.ensures.counts ∙ c.loop-begins.invariant.none_rose;
+      areas_are = c.in_ok-page.ensures.keeps_areas ∙ c.loop-begins.invariant.areas_are;
+      shows = λ chunks shows. c.in_ok-page.ensures.shows chunks (c.loop-begins.invariant.shows chunks shows);
+      short = of_some (λ (n : ℕ × List ℕ). length n.1 ≤ 256) c.in_ok-page.next next c.in-Some.is c.in_ok-page.ensures.short;
+      rise = subst BeginningsRise (sym c.in_ok-push.ensures.items) (all_pairs_push (λ (a b : Node). IsBelow a.begins b.begins) old node c.loop-begins.invariant.rise c.loop-begins.invariant.below);
+      below = subst (All (λ (n : Node). IsBelow n.begins c.in-Some.high)) (sym c.in_ok-push.ensures.items) (All-push (λ (n : Node). IsBelow n.begins c.in-Some.high) old node (λ k d less. below_trans (get_or old k d).begins c.loop-begins.begins c.in-Some.high (c.loop-begins.invariant.below k d less) above) above);
+      read = λ chunks shows rest walks.
+          subst (Walks chunks c.args.level c.args.first []) (sym (ap (λ (l : List Node). l ++ rest) c.in_ok-push.ensures.items ∙ append_assoc old (node ∷ []) rest)) (c.loop-begins.invariant.read chunks shows (node ∷ rest)
+          (next_walks chunks c.args.level c.loop-begins.handle c.loop-begins.begins page (c.in_ok-page.ensures.at chunks (c.loop-begins.invariant.shows chunks shows)) placed c.in-Some.right c.in-Some.high rest leads walks));
+      any = λ chunks shows nodes walks.
+          let rest = c.loop-begins.invariant.any chunks shows nodes walks in
+          rest_of chunks c.args.level c.loop-begins.handle c.loop-begins.begins page c.in-Some.right c.in-Some.high rest.0 (c.in_ok-page.ensures.at chunks (c.loop-begins.invariant.shows chunks shows)) leads rest.1;
+    }

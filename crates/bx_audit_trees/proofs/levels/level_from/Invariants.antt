@@ -1,0 +1,27 @@
+use Rattle.std.proofs.Common.{◌≡◌, ℕ, ◌≤◌, List, [], ◌++◌, length}
+use Rattle.std.specs.Prelude.{All}
+use Rattle.bx_page.specs.Keys.{IsBelow}
+use Rattle.bx_truth.specs.PageTrees.{Chunks, Node}
+use Rattle.bx_audit_trees.specs.Pages.{BeginningsRise}
+use Rattle.bx_audit_trees.specs.Room.{room_above}
+use Rattle.bx_audit_trees.specs.Shown.{Shows}
+use Rattle.bx_audit_trees.proofs.Walk.{Walks}
+use Rattle.bx_audit_trees.proofs.levels.level_from.Given as goal
+
+abbrev pub invariant-loop-begins : goal.invariant-loop-begins
+invariant-loop-begins g l = record {
+  ready : g.B.Blocks.ready l.blocks;
+  none_rose : g.B.Blocks.faults l.blocks ≡ g.B.Blocks.faults l.fn.blocks;
+  areas_are : g.B.Blocks.areas l.blocks ≡ g.B.Blocks.areas l.fn.blocks;
+  shows : (chunks : Chunks) → Shows (g.B.Blocks.tells l.fn.blocks) l.areas (g.B.Blocks.stands l.fn.blocks) chunks → Shows (g.B.Blocks.tells l.blocks) l.areas (g.B.Blocks.stands l.blocks) chunks;
+  short : length l.begins ≤ 256;
+  rise : BeginningsRise l.pages.items;
+  below : All (λ (node : Node). IsBelow node.begins l.begins) l.pages.items;
+  read : (chunks : Chunks) → Shows (g.B.Blocks.tells l.fn.blocks) l.areas (g.B.Blocks.stands l.fn.blocks) chunks → (rest : List Node)
+      → Walks chunks l.level l.handle l.begins rest → Walks chunks l.level l.first [] (l.pages.items ++ rest);
+  any : (chunks : Chunks) → Shows (g.B.Blocks.tells l.fn.blocks) l.areas (g.B.Blocks.stands l.fn.blocks) chunks → (nodes : List Node)
+      → Walks chunks l.level l.first [] nodes → (rest : List Node) × Walks chunks l.level l.handle l.begins rest;
+}
+
+abbrev pub decreases-loop-begins : goal.decreases-loop-begins
+decreases-loop-begins g l = room_above l.begins

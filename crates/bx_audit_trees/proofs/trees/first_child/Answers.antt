@@ -1,0 +1,10 @@
+use Rattle.std.proofs.Common.{ℕ, sym, subst}
+use Rattle.bx_truth.specs.PageTrees.{Node}
+use Rattle.bx_audit_trees.specs.Trees.{HasFirst}
+use Rattle.bx_audit_trees.proofs.Firsts.{first_named}
+use Rattle.bx_audit_trees.proofs.trees.first_child.Goals as goal
+
+pub returns-in-None-clause-torn : goal.returns-in-None-clause-torn
+returns-in-None-clause-torn c =
+    rw c.torn_at.ensures (λ handle names. c.in-None.ensures.none handle
+    (subst (λ (n : Node). HasFirst n.page.entries handle) (sym c.page.view_is) (first_named c.args.above.now c.in-Some.page.now handle c.in-Some.ensures.value names)))

@@ -1,0 +1,34 @@
+use Rattle.std.proofs.Common.{◌≡◌, ℕ, List, Err, sym, ap, subst, ◌∙◌}
+use Rattle.std.proofs.lemmas.Result.{err_from_is_err_and}
+use Rattle.bx_truth.specs.PageTrees.{Node, IsIn, IsInterior}
+use Rattle.bx_audit_trees.proofs.Ends.{if_torn}
+use Rattle.bx_audit_trees.proofs.Descents.{names_first, level_first, one_level_from}
+use Rattle.bx_audit_trees.proofs.trees.level_below.Goals as goal
+
+pub returns-in_err-first-clause-torn : goal.returns-in_err-first-clause-torn
+returns-in_err-first-clause-torn g c = λ chunks shows above.
+    let p = err_from_is_err_and c.from_residual.result c.from_residual.ensures.1 in
+    if_torn _ _ c.in_err-first.field-0.0 c.from_residual.result (p.1 ∙ ap Err p.2) (λ at found wanted never nodes lies.
+    let first = names_first chunks c.args.level c.args.above.now nodes above lies in never first.0 first.1) c.in_err-first.ensures.torn
+
+pub returns-in_err-pages-clause-torn : goal.returns-in_err-pages-clause-torn
+returns-in_err-pages-clause-torn g c = λ chunks shows above.
+    let p = err_from_is_err_and c.from_residual-in_err-pages.result c.from_residual-in_err-pages.ensures.1 in
+    if_torn _ _ c.in_err-pages.field-0.0 c.from_residual-in_err-pages.result (p.1 ∙ ap Err p.2) (λ at found wanted never nodes lies.
+    never nodes (level_first chunks c.args.level c.args.above.now nodes above lies c.in_ok-first.first c.in_ok-first.ensures.ok)) (c.in_err-pages.ensures.torn chunks shows)
+
+pub returns-in_err-lead_down-clause-torn : goal.returns-in_err-lead_down-clause-torn
+returns-in_err-lead_down-clause-torn g c = λ chunks shows above.
+    let p = err_from_is_err_and c.from_residual-in_err-lead_down.result c.from_residual-in_err-lead_down.ensures.1 in
+    if_torn _ _ c.in_err-lead_down.field-0.0 c.from_residual-in_err-lead_down.result (p.1 ∙ ap Err p.2) (λ at found wanted never nodes lies.
+    let same = one_level_from chunks c.args.level shows.none c.in_ok-first.first nodes c.in_ok-pages.pages.items
+    (level_first chunks c.args.level c.args.above.now nodes above lies c.in_ok-first.first c.in_ok-first.ensures.ok) (c.in_ok-pages.ensures.ok chunks shows) in
+    never (subst (λ (l : List Node). (node : Node) → IsIn node c.args.above.now → IsInterior l node) (same ∙ sym c.deref.ensures.value) lies.interior)) c.in_err-lead_down.ensures.torn
+
+pub returns-clause-ok : goal.returns-clause-ok
+returns-clause-ok g c = λ chunks shows above. record { is = (c.in_ok-pages.ensures.ok chunks shows).is; interior = subst (λ (l : List Node). (node : Node) → IsIn node c.args.above.now → IsInterior l node) c.deref.ensures.value c.in_ok-lead_down.ensures.ok }
+
+pub returns-clause-one : goal.returns-clause-one
+returns-clause-one g c = λ chunks shows above nodes lies.
+    one_level_from chunks c.args.level shows.none c.in_ok-first.first nodes c.in_ok-pages.pages.items
+    (level_first chunks c.args.level c.args.above.now nodes above lies c.in_ok-first.first c.in_ok-first.ensures.ok) (c.in_ok-pages.ensures.ok chunks shows)

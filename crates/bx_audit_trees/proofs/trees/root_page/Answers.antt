@@ -1,0 +1,39 @@
+use Rattle.std.proofs.Common.{◌≡◌, ℕ, List, [], ◌∷◌, ◌++◌, Some, None, Err, refl, sym, ap, subst, ◌∙◌}
+use Rattle.std.proofs.lemmas.Result.{err_from_is_err_and}
+use Rattle.bx_page.specs.Contents.{Contents}
+use Rattle.bx_truth.specs.PageTrees.{Node, IsLevel}
+use Rattle.bx_audit_trees.specs.Pages.{IsPlaced, LeadsTo}
+use Rattle.bx_audit_trees.specs.Trees.{IsTop}
+use Rattle.bx_audit_trees.proofs.Ends.{if_torn}
+use Rattle.bx_audit_trees.proofs.Descents.{root_page_at, root_placed}
+use Rattle.bx_audit_trees.proofs.Walk.{last_walks, leads_one_way, level_of_walk}
+use Rattle.bx_audit_trees.proofs.trees.root_page.Goals as goal
+
+pub returns-in_err-page-clause-torn : goal.returns-in_err-page-clause-torn
+returns-in_err-page-clause-torn g c = λ chunks shows.
+    let p = err_from_is_err_and c.from_residual.result c.from_residual.ensures.1 in
+    if_torn _ _ c.in_err-page.field-0.0 c.from_residual.result (p.1 ∙ ap Err p.2) (λ at found wanted never tree is. never is.top.page (root_page_at chunks c.args.root tree is)) (c.in_err-page.ensures.torn chunks shows)
+
+pub returns-in_err-way_of-clause-torn : goal.returns-in_err-way_of-clause-torn
+returns-in_err-way_of-clause-torn g c = λ chunks shows.
+    let p = err_from_is_err_and c.from_residual-in_err-way_of.result c.from_residual-in_err-way_of.ensures.1 in
+    if_torn _ _ c.in_err-way_of.field-0.0 c.from_residual-in_err-way_of.result (p.1 ∙ ap Err p.2) (λ at found wanted never tree is.
+    let placed = root_placed chunks c.args.root c.in_ok-page.page tree is (c.in_ok-page.ensures.ok chunks shows) in
+    never None (subst (λ (n : ℕ). IsPlaced n [] c.in_ok-page.page) (sym c.level-level.ensures) placed.0) placed.1) c.in_err-way_of.ensures.torn
+
+pub returns-in-Some-clause-torn : goal.returns-in-Some-clause-torn
+returns-in-Some-clause-torn g c = λ chunks shows.
+    rw c.torn_at.ensures (λ tree is.
+    let placed = root_placed chunks c.args.root c.in_ok-page.page tree is (c.in_ok-page.ensures.ok chunks shows) in
+    leads_one_way c.in_ok-page.page c.in_ok-way_of.field-0 c.in-Some.field-0 c.in-Some.is c.in_ok-way_of.ensures.leads placed.1)
+
+pub returns-clause-ok : goal.returns-clause-ok
+returns-clause-ok g c = λ chunks shows.
+    let page = c.in_ok-page.page in
+    let node : Node = record { handle = c.args.root; begins = c.in_ok-begins.begins; page = page } in
+    let items : c.push.new.self.items ≡ node ∷ [] = c.in_ok-push.ensures.items ∙ ap (λ (l : List Node). l ++ node ∷ []) c.new-pages.ensures.items in
+    let last = subst (LeadsTo page) c.in_default.is c.in_ok-way_of.ensures.leads in
+    let walks = last_walks chunks c.level-level.result c.args.root [] page (c.in_ok-page.ensures.ok chunks shows) c.in_ok-way_of.ensures.placed last in
+    let level = level_of_walk chunks shows.none c.level-level.result c.args.root (record { handle = c.args.root; begins = []; page = page } ∷ []) walks in
+    let same : record { handle = c.args.root; begins = []; page = page } ∷ [] ≡ c.push.new.self.items = (λ i. record { handle = c.args.root; begins = (sym c.in_ok-begins.ensures) i; page = page } ∷ []) ∙ sym items in
+    record { is = subst (IsLevel chunks c.level-level.result) same level.is; node = node; alone = items; root_is = refl }

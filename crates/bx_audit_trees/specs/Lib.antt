@@ -1,0 +1,6 @@
+pub mod Errors
+pub mod Shown
+pub mod Pages
+pub mod Room
+pub mod Trees
+pub mod Leaves

@@ -1,0 +1,85 @@
+//! The pages of a level.
+
+ghost use Rattle.std.specs.Prelude.{◌≡◌, ◌≤◌, ◌<◌, ℕ, List, Option, length, IfOk, IfSome};
+ghost use Rattle.bx_page.specs.Contents.{Contents};
+ghost use Rattle.bx_page.specs.Keys.{IsBelow};
+ghost use Rattle.bx_truth.specs.PageTrees.{Chunks, Node};
+ghost use Rattle.bx_audit_trees.specs.Errors.{IfTorn, Counts};
+ghost use Rattle.bx_audit_trees.specs.Pages.{BeginningsRise, IsLevelFrom, IsPageAt, IsPlaced, LeadsTo};
+ghost use Rattle.bx_audit_trees.specs.Room.{room_above};
+ghost use Rattle.bx_audit_trees.specs.Shown.{Shows};
+
+use crate::error::AuditError;
+use crate::pages::{TreePage, page_at, way_of};
+use bx_base::Raw;
+use bx_homes::Blocks;
+use bx_page::Page;
+use std::alloc::Global;
+
+/// The pages of a level, from the one with a handle on to the right. Torn exactly where this is no level's first page.
+pub fn level_from<B: Blocks>(
+    alloc: Global,
+    blocks: &mut B,
+    areas: u16,
+    level: u16,
+    first: u64,
+) -> Result<Vec<TreePage>, AuditError>
+    requires ready { B.ready blocks.old }
+    requires areas { B.areas blocks.old ≡ areas }
+    requires most { areas ≤ 64 }
+    ensures ok { (chunks : Chunks) → Shows (B.tells blocks.old) areas (B.stands blocks.old) chunks → IfOk result (λ pages. IsLevelFrom chunks level first pages.items) }
+    ensures torn { (chunks : Chunks) → Shows (B.tells blocks.old) areas (B.stands blocks.old) chunks → IfTorn result (λ at found wanted. (nodes : List Node) → IsLevelFrom chunks level first nodes → ⊥) }
+    ensures rise { IfOk result (λ pages. BeginningsRise pages.items) }
+    ensures shows { (chunks : Chunks) → Shows (B.tells blocks.old) areas (B.stands blocks.old) chunks → Shows (B.tells blocks.new) areas (B.stands blocks.new) chunks }
+    ensures counts { Counts result (B.faults blocks.old) (B.faults blocks.new) }
+    ensures keeps_areas { B.areas blocks.new ≡ B.areas blocks.old }
+    ensures keeps_ready { B.ready blocks.new }
+{
+    let mut pages = Vec::new(alloc);
+    let mut handle = first;
+    let mut begins = Raw::of(alloc, &[])?;
+    loop {
+        let (page, next) = page_of(alloc, blocks, areas, level, handle, begins.bytes())?;
+        pages.push(TreePage {
+            handle,
+            begins,
+            page,
+        })?;
+        let Some((right, high)) = next else {
+            return Ok(pages);
+        };
+        handle = right;
+        begins = high;
+    }
+}
+
+/// The page of a level under a handle, whose range begins at a key, and where it leads. Torn exactly where there can't be such a page.
+fn page_of<B: Blocks>(
+    alloc: Global,
+    blocks: &mut B,
+    areas: u16,
+    level: u16,
+    handle: u64,
+    begins: &[u8],
+) -> Result<(Page, Option<(u64, Raw)>), AuditError>
+    requires ready { B.ready blocks.old }
+    requires areas { B.areas blocks.old ≡ areas }
+    requires most { areas ≤ 64 }
+    requires short { length begins.now ≤ 256 }
+    ensures at { (chunks : Chunks) → Shows (B.tells blocks.old) areas (B.stands blocks.old) chunks → IfOk result (λ x. IsPageAt chunks handle x.0) }
+    ensures placed { IfOk result (λ x. IsPlaced level begins.now x.0) }
+    ensures leads { IfOk result (λ x. LeadsTo x.0 x.1) }
+    ensures above { IfOk result (λ x. IfSome x.1 (λ next. IsBelow begins.now next.1)) }
+    ensures less { IfOk result (λ x. IfSome x.1 (λ next. room_above next.1 < room_above begins.now)) }
+    ensures short { IfOk result (λ x. IfSome x.1 (λ next. length next.1 ≤ 256)) }
+    ensures torn { (chunks : Chunks) → Shows (B.tells blocks.old) areas (B.stands blocks.old) chunks → IfTorn result (λ at found wanted. (page : Contents) (next : Option (ℕ × List ℕ)) → IsPageAt chunks handle page → IsPlaced level begins.now page → LeadsTo page next → ⊥) }
+    ensures names { IfTorn result (λ at found names. names ≡ handle) }
+    ensures shows { (chunks : Chunks) → Shows (B.tells blocks.old) areas (B.stands blocks.old) chunks → Shows (B.tells blocks.new) areas (B.stands blocks.new) chunks }
+    ensures counts { Counts result (B.faults blocks.old) (B.faults blocks.new) }
+    ensures keeps_areas { B.areas blocks.new ≡ B.areas blocks.old }
+    ensures keeps_ready { B.ready blocks.new }
+{
+    let page = page_at(alloc, blocks, areas, handle)?;
+    let next = way_of(alloc, &page, handle, level, begins)?;
+    Ok((page, next))
+}

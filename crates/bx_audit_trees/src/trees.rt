@@ -1,0 +1,191 @@
+//! Page trees.
+
+ghost use Rattle.std.specs.Prelude.{◌≡◌, ◌≤◌, ◌+◌, ℕ, List, [], slice_index_or, IfOk, IfSome, IfNone, IsErrOf};
+ghost use Rattle.bx_truth.specs.PageTrees.{Chunks, Node, PageTree, IsLevel, IsTree, map_of};
+ghost use Rattle.std.specs.Option.{option_copied};
+ghost use Rattle.bx_page.specs.Contents.{value_of};
+ghost use Rattle.bx_audit_trees.specs.Pages.{BeginningsRise};
+ghost use Rattle.bx_audit_trees.specs.declared.error.AuditError.TheVariants.{Fault as DiskFailed};
+ghost use Rattle.bx_audit_trees.specs.Errors.{IfTorn, Counts};
+ghost use Rattle.bx_audit_trees.specs.Shown.{Shows};
+ghost use Rattle.bx_audit_trees.specs.Trees.{HasFirst, IsTop, LiesBelow, NamesFirst, tree_of};
+
+use crate::children::{handle_in, lead_down};
+use crate::error::AuditError;
+use crate::leaves::leaf_for;
+use crate::levels::level_from;
+use crate::pages::{TreePage, page_at, torn_at, way_of};
+use bx_base::Raw;
+use bx_homes::Blocks;
+use bx_page::Page;
+use std::alloc::Global;
+use std::marker::Model;
+
+/// The pages of a level, from the left.
+#[derive(Drop)]
+pub struct Level {
+    pages: Vec<TreePage>,
+}
+
+impl Model for Level {
+    ghost use Rattle.std.specs.Prelude.{List};
+    ghost use Rattle.bx_truth.specs.PageTrees.{Node};
+
+    ghost Value = { List Node };
+
+    ghost view = { λ level. level.pages.items };
+}
+
+/// A page tree that was read. Contracts see it as its levels, that of the leaves first.
+#[derive(Drop)]
+pub struct ReadTree {
+    /// The levels above the leaves, from that of the root down.
+    upper: Vec<Level>,
+    leaves: Level,
+}
+
+impl Model for ReadTree {
+    ghost use Rattle.std.specs.Prelude.{List, ◌∷◌, reverse};
+    ghost use Rattle.bx_truth.specs.PageTrees.{Node};
+    ghost use Rattle.bx_audit_trees.specs.Pages.{BeginningsRise};
+
+    ghost Value = { List (List Node) };
+
+    ghost view = { λ tree. tree.leaves ∷ reverse tree.upper.items };
+
+    ghost invariant = { λ tree. BeginningsRise tree.leaves };
+}
+
+impl ReadTree {
+    /// The leaves, from the left.
+    pub fn leaves(&self) -> &[TreePage]
+        ensures leaves { result.now ≡ slice_index_or self.now 0 [] }
+        ensures rise { BeginningsRise result.now }
+    {
+        &self.leaves.pages
+    }
+
+    /// The value of a key; `None` exactly where the key isn't there.
+    pub fn get(&self, key: &[u8]) -> Option<&[u8]>
+        ensures { (chunks : Chunks) (root : ℕ) → IsTree chunks root (tree_of self.now) → option_copied result ≡ value_of (map_of (tree_of self.now)) key.now }
+    {
+        let leaf = leaf_for(self.leaves(), key)?;
+        leaf.page.get(key)
+    }
+}
+
+/// The tree under a root; torn exactly where there is none.
+pub fn tree_under<B: Blocks>(
+    alloc: Global,
+    blocks: &mut B,
+    areas: u16,
+    root: u64,
+) -> Result<ReadTree, AuditError>
+    requires ready { B.ready blocks.old }
+    requires areas { B.areas blocks.old ≡ areas }
+    requires most { areas ≤ 64 }
+    ensures ok { (chunks : Chunks) → Shows (B.tells blocks.old) areas (B.stands blocks.old) chunks → IfOk result (λ tree. IsTree chunks root (tree_of tree)) }
+    ensures torn { (chunks : Chunks) → Shows (B.tells blocks.old) areas (B.stands blocks.old) chunks → IfTorn result (λ at found wanted. (tree : PageTree) → IsTree chunks root tree → ⊥) }
+    ensures shows { (chunks : Chunks) → Shows (B.tells blocks.old) areas (B.stands blocks.old) chunks → Shows (B.tells blocks.new) areas (B.stands blocks.new) chunks }
+    ensures counts { Counts result (B.faults blocks.old) (B.faults blocks.new) }
+    ensures keeps_areas { B.areas blocks.new ≡ B.areas blocks.old }
+    ensures keeps_ready { B.ready blocks.new }
+{
+    let (top, height) = root_page(alloc, blocks, areas, root)?;
+    let mut levels = Vec::new(alloc);
+    let mut lowest = Level { pages: top };
+    let mut level = height;
+    while level > 0 {
+        let below = level_below(alloc, blocks, areas, level - 1, &lowest.pages)?;
+        levels.push(lowest)?;
+        lowest = Level { pages: below };
+        level -= 1;
+    }
+    Ok(ReadTree {
+        upper: levels,
+        leaves: lowest,
+    })
+}
+
+/// The page under a root, as the one page of its level, and that level.
+fn root_page<B: Blocks>(
+    alloc: Global,
+    blocks: &mut B,
+    areas: u16,
+    root: u64,
+) -> Result<(Vec<TreePage>, u16), AuditError>
+    requires ready { B.ready blocks.old }
+    requires areas { B.areas blocks.old ≡ areas }
+    requires most { areas ≤ 64 }
+    ensures ok { (chunks : Chunks) → Shows (B.tells blocks.old) areas (B.stands blocks.old) chunks → IfOk result (λ x. IsTop chunks root x.1 x.0.items) }
+    ensures rise { IfOk result (λ x. BeginningsRise x.0.items) }
+    ensures torn { (chunks : Chunks) → Shows (B.tells blocks.old) areas (B.stands blocks.old) chunks → IfTorn result (λ at found wanted. (tree : PageTree) → IsTree chunks root tree → ⊥) }
+    ensures shows { (chunks : Chunks) → Shows (B.tells blocks.old) areas (B.stands blocks.old) chunks → Shows (B.tells blocks.new) areas (B.stands blocks.new) chunks }
+    ensures counts { Counts result (B.faults blocks.old) (B.faults blocks.new) }
+    ensures keeps_areas { B.areas blocks.new ≡ B.areas blocks.old }
+    ensures keeps_ready { B.ready blocks.new }
+{
+    let page = page_at(alloc, blocks, areas, root)?;
+    let level = page.level();
+    if let Some(_) = way_of(alloc, &page, root, level, &[])? {
+        return Err(torn_at(root));
+    }
+    let begins = Raw::of(alloc, &[])?;
+    let mut pages = Vec::new(alloc);
+    pages.push(TreePage {
+        handle: root,
+        begins,
+        page,
+    })?;
+    Ok((pages, level))
+}
+
+/// The level below the pages of another one. Torn exactly where none lies below them.
+fn level_below<B: Blocks>(
+    alloc: Global,
+    blocks: &mut B,
+    areas: u16,
+    level: u16,
+    above: &[TreePage],
+) -> Result<Vec<TreePage>, AuditError>
+    requires ready { B.ready blocks.old }
+    requires areas { B.areas blocks.old ≡ areas }
+    requires most { areas ≤ 64 }
+    ensures ok { (chunks : Chunks) → Shows (B.tells blocks.old) areas (B.stands blocks.old) chunks → IsLevel chunks (level + 1) above.now → IfOk result (λ pages. LiesBelow chunks level above.now pages.items) }
+    ensures rise { IfOk result (λ pages. BeginningsRise pages.items) }
+    ensures one { (chunks : Chunks) → Shows (B.tells blocks.old) areas (B.stands blocks.old) chunks → IsLevel chunks (level + 1) above.now → IfOk result (λ pages. (nodes : List Node) → LiesBelow chunks level above.now nodes → nodes ≡ pages.items) }
+    ensures torn { (chunks : Chunks) → Shows (B.tells blocks.old) areas (B.stands blocks.old) chunks → IsLevel chunks (level + 1) above.now → IfTorn result (λ at found wanted. (nodes : List Node) → LiesBelow chunks level above.now nodes → ⊥) }
+    ensures shows { (chunks : Chunks) → Shows (B.tells blocks.old) areas (B.stands blocks.old) chunks → Shows (B.tells blocks.new) areas (B.stands blocks.new) chunks }
+    ensures counts { Counts result (B.faults blocks.old) (B.faults blocks.new) }
+    ensures keeps_areas { B.areas blocks.new ≡ B.areas blocks.old }
+    ensures keeps_ready { B.ready blocks.new }
+{
+    let first = first_child(above)?;
+    let pages = level_from(alloc, blocks, areas, level, first)?;
+    lead_down(above, &pages)?;
+    Ok(pages)
+}
+
+/// The handle that the first entry of the first of some pages names. Torn exactly where there is no such entry.
+fn first_child(above: &[TreePage]) -> Result<u64, AuditError>
+    ensures ok { IfOk result (NamesFirst above.now) }
+    ensures torn { IfTorn result (λ at found wanted. (handle : ℕ) → NamesFirst above.now handle → ⊥) }
+    ensures no_fault { IsErrOf result DiskFailed → ⊥ }
+{
+    let Some(page) = above.first() else {
+        return Err(AuditError::Torn(0, 0, 0));
+    };
+    match first_handle(&page.page) {
+        None => Err(torn_at(page.handle)),
+        Some(handle) => Ok(handle),
+    }
+}
+
+/// The handle that the first entry of a page names; `None` exactly where there is no such entry.
+fn first_handle(page: &Page) -> Option<u64>
+    ensures some { IfSome result (λ handle. HasFirst page.now.entries handle) }
+    ensures none { IfNone result ((handle : ℕ) → HasFirst page.now.entries handle → ⊥) }
+{
+    let entry = page.entry(0)?;
+    handle_in(entry)
+}

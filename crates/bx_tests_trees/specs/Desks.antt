@@ -1,5 +1,5 @@
 -- What is held of blocks of which some are held exclusively, and others shared alone.
-use Rattle.std.specs.Prelude.{◌≡◌, ℕ, List, Option, Some, ap}
+use Rattle.std.specs.Prelude.{List}
 use Rattle.std.specs.Option.{option_or}
 use Rattle.bx_base.specs.declared.names.Mode.{Mode}
 use Rattle.bx_base.specs.declared.names.Mode.TheVariants.{Shared, Exclusive}

@@ -1,6 +1,5 @@
 //! A view of the blocks of a tree.
 
-ghost use Rattle.std.specs.Prelude.{ap};
 ghost use Rattle.std.specs.Option.{option_or};
 ghost use Rattle.bx_records.specs.Drafts.{block_in};
 ghost use Rattle.bx_tests_trees.specs.Desks.{held_on};
@@ -68,7 +67,7 @@ impl View for Desk {
         self.hinted.find(at)
     }
 
-    ghost shares = { λ desk at block is. ap (λ found. option_or found (block_in desk.lent at)) is };
+    ghost shares = { λ desk at block is i. option_or (is i) (block_in desk.lent at) };
 }
 
 /// A block that is a page of these bytes, with zeros behind them, under the handle of a slot.

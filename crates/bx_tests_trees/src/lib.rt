@@ -6,4 +6,8 @@ mod desk;
 #[cfg(test)]
 mod entries;
 #[cfg(test)]
+mod levels;
+#[cfg(test)]
+mod model;
+#[cfg(test)]
 mod searches;

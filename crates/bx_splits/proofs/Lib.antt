@@ -1,0 +1,11 @@
+pub mod Relevel
+pub mod Cut
+pub mod Middles
+pub mod CutPages
+pub mod HintedCut
+pub mod Raise
+pub mod HintedRaise
+pub mod Grown
+pub mod Kept
+pub mod CutUnder
+pub mod CutLaw

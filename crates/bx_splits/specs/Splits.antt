@@ -1,0 +1,26 @@
+-- What splits leave of a tree, for a truth.
+use Rattle.std.specs.Prelude.{◌≡◌, ◌≢◌, ℕ, ◌⊎◌, List, None}
+use Rattle.bx_records.specs.Drafts.{Changed}
+use Rattle.bx_truth.specs.Chunks.{chunks_of}
+use Rattle.bx_truth.specs.Edits.{HasPagesOf}
+use Rattle.bx_truth.specs.PageTrees.{Node, PageTree, IsPageOf, map_of}
+use Rattle.bx_truth.specs.Shown.{KeepsSlots}
+use Rattle.bx_truth.specs.Stands.{WasGiven}
+use Rattle.bx_views.specs.Truths.{Truth, Held, Hints, with_draft}
+use Rattle.bx_blink.specs.Hints.{HintsFit, Under}
+
+-- A draft gives a tree new pages, and the tree keeps its map, for a truth. What a call on the tree rests on holds again, for these hints and
+-- for all others that fitted. The new pages' handles named nothing, and were never given out. All chunks but the tree's pages stay, and so
+-- do the slots of all.
+pub record GrowsTree (areas : ℕ) (held : Held) (hints : Hints) (truth : Truth) (old new : List Changed) (root : ℕ) (tree : PageTree) (IsNew : ℕ → Type 0) : Type 0 where
+  pub after : PageTree
+  pub under : Under areas held hints truth new root after
+  pub map_is : map_of after ≡ map_of tree
+  pub fresh : (handle : ℕ) → IsNew handle → chunks_of areas (with_draft truth old) handle ≡ None
+  pub never : (handle : ℕ) → IsNew handle → WasGiven areas (with_draft truth old) handle → ⊥
+  pub new_pages : (handle : ℕ) → IsNew handle → (page : Node) × IsPageOf after page × (page.handle ≡ handle)
+  pub back : (page : Node) → IsPageOf after page → IsNew page.handle ⊎ ((was : Node) × IsPageOf tree was × (was.handle ≡ page.handle))
+  pub forth : HasPagesOf tree after
+  pub others : (handle : ℕ) → (IsNew handle → ⊥) → ((page : Node) → IsPageOf tree page → page.handle ≢ handle) → chunks_of areas (with_draft truth new) handle ≡ chunks_of areas (with_draft truth old) handle
+  pub leads : (other : Hints) → HintsFit areas other (with_draft truth old) root tree → HintsFit areas other (with_draft truth new) root after
+  pub slots : KeepsSlots areas (with_draft truth old) (with_draft truth new)

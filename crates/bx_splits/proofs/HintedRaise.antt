@@ -10,7 +10,8 @@ use Rattle.bx_truth.specs.PageTrees.{Chunks, Node, IsIn, PageTree, IsTree}
 use Rattle.bx_blink.specs.Hints.{Place, IsOld, StandsAt, HintsAgree}
 use Rattle.bx_leaves.proofs.Members.{in_cases, in_head, in_tail, in_none}
 use Rattle.bx_splits.proofs.HintedCut.{with_home, home_still, old_still}
-use Rattle.bx_splits.proofs.Raise.{Raises, root_page}
+use Rattle.bx_splits.specs.Splits.{root_page}
+use Rattle.bx_splits.proofs.Raise.{Raises}
 
 module _ (areas : ℕ) (hint : Hints) (chunks chunks' : Chunks) (root : ℕ) (tree : PageTree) (left right : ℕ) (middle : List ℕ) (root_block left_block right_block : Block) (is : IsTree chunks root tree)
     (c : Raises chunks chunks' root left right root_block left_block right_block) (h : HintsAgree areas hint chunks root tree)

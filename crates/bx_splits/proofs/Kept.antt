@@ -49,3 +49,14 @@ used_given areas truth handle block is =
       slot = c.slot;
       generation = same_le _ _ (ap (λ (h : ℕ). h % 2 ^ 32) c.is_handle ∙ low (block_at handle) (generation_in (word_at truth (block_at handle))) (small (word_at truth (block_at handle))));
     }
+
+-- its handle has 64 bits
+pub used_fits : (areas : ℕ) (truth : Truth) (handle : ℕ) (block : Block) → areas ≤ 64 → chunks_of areas truth handle ≡ Some block → handle < 2 ^ 64
+used_fits areas truth handle block few is =
+    let c = chunk_is areas truth handle block is in
+    let area = (c.slot).area in
+    let slot = (c.slot).slot in
+    bound (block_area (block_at handle)) (block_slot (block_at handle)) (generation_in (word_at truth (block_at handle))) handle c.is_handle (omega (arith, few, area)) slot (small (word_at truth (block_at handle)))
+  where
+    bound : (area slot generation h : ℕ) → h ≡ area * 2 ^ 48 + slot * 2 ^ 32 + generation → area < 64 → slot < 960 → generation < 2 ^ 32 → h < 2 ^ 64
+    bound area slot generation h e a s g = omega (arith, e, a, s, g)

@@ -9,3 +9,7 @@ pub mod Grown
 pub mod Kept
 pub mod CutUnder
 pub mod CutLaw
+pub mod RaisedPages
+pub mod RaiseChunks
+pub mod RaiseUnder
+pub mod RaiseLaw

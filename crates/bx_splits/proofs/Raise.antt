@@ -14,14 +14,8 @@ use Rattle.bx_truth.specs.PageTrees.{Chunks, Node, IsIn, HasPage, IsNode, IsLast
 use Rattle.bx_leaves.proofs.Apart.{same_page}
 use Rattle.bx_leaves.proofs.Members.{in_cases, in_head, in_tail, in_none}
 use Rattle.bx_splits.proofs.Relevel.{moved}
+use Rattle.bx_splits.specs.Splits.{root_page}
 use Rattle.bx_splits.proofs.Cut.{IsMiddle}
-
--- the entries of the root
-abbrev pub root_entries : ℕ → ℕ → List ℕ → List Entry
-root_entries left right middle = record { key = []; value = to_be_bytes w64 left } ∷ record { key = middle; value = to_be_bytes w64 right } ∷ []
-
-abbrev pub root_page : Contents → ℕ → ℕ → List ℕ → Contents
-root_page page left right middle = record { level = page.level + 1; right = 0; high = None; entries = root_entries left right middle }
 
 pub record Raises (chunks chunks' : Chunks) (root left right : ℕ) (root_block left_block right_block : Block) : Type 0 where
   pub here : chunks' root ≡ Some root_block

@@ -1,5 +1,8 @@
 -- What splits leave of a tree, for a truth.
-use Rattle.std.specs.Prelude.{◌≡◌, ◌≢◌, ℕ, ◌⊎◌, List, None}
+use Rattle.std.specs.Prelude.{◌≡◌, ◌≢◌, ℕ, ◌+◌, ◌⊎◌, List, [], ◌∷◌, None}
+use Rattle.std.specs.Int.{w64, to_be_bytes}
+use Rattle.bx_page.specs.declared.entry.Entry.{Entry}
+use Rattle.bx_page.specs.Contents.{Contents}
 use Rattle.bx_records.specs.Drafts.{Changed}
 use Rattle.bx_truth.specs.Chunks.{chunks_of}
 use Rattle.bx_truth.specs.Edits.{HasPagesOf}
@@ -8,6 +11,13 @@ use Rattle.bx_truth.specs.Shown.{KeepsSlots}
 use Rattle.bx_truth.specs.Stands.{WasGiven}
 use Rattle.bx_views.specs.Truths.{Truth, Held, Hints, with_draft}
 use Rattle.bx_blink.specs.Hints.{HintsFit, Under}
+
+-- the root above the two pages in which it was cut: one level higher, with an entry for each
+abbrev pub root_entries : ℕ → ℕ → List ℕ → List Entry
+root_entries left right middle = record { key = []; value = to_be_bytes w64 left } ∷ record { key = middle; value = to_be_bytes w64 right } ∷ []
+
+abbrev pub root_page : Contents → ℕ → ℕ → List ℕ → Contents
+root_page page left right middle = record { level = page.level + 1; right = 0; high = None; entries = root_entries left right middle }
 
 -- A draft gives a tree new pages, and the tree keeps its map, for a truth. What a call on the tree rests on holds again, for these hints and
 -- for all others that fitted. The new pages' handles named nothing, and were never given out. All chunks but the tree's pages stay, and so

@@ -3,4 +3,4 @@
 
 mod laws;
 
-pub use laws::a_page_is_cut;
+pub use laws::{a_page_is_cut, the_root_is_cut};

@@ -14,4 +14,5 @@ pub use allocating::allocate;
 pub use counting::count_free;
 pub use error::ChunkError;
 pub use freeing::free;
+pub use putting::copy_of;
 pub use reading::{read, read_over};

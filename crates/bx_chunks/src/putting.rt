@@ -75,7 +75,7 @@ fn with_both(
 }
 
 /// A copy of a draft.
-fn copy_of(alloc: Global, draft: &Draft) -> Result<Draft, OutOfMemory>
+pub fn copy_of(alloc: Global, draft: &Draft) -> Result<Draft, OutOfMemory>
     ensures { IfOk result (λ copy. IsDraft draft.now → copy ≡ draft.now) }
 {
     let mut copy = Draft::new(alloc);

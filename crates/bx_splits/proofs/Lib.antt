@@ -13,3 +13,5 @@ pub mod RaisedPages
 pub mod RaiseChunks
 pub mod RaiseUnder
 pub mod RaiseLaw
+pub mod Halves
+pub mod RaiseSteps

@@ -15,3 +15,5 @@ pub mod RaiseUnder
 pub mod RaiseLaw
 pub mod Halves
 pub mod RaiseSteps
+pub mod Height
+pub mod SplitTree

@@ -4,12 +4,13 @@ use Rattle.std.specs.Prelude.{Result, Ok, Err, ◌⊎◌}
 use Rattle.bx_base.specs.declared.names.Mode.{Mode}
 use Rattle.bx_page.specs.Contents.{Contents}
 use Rattle.bx_blink.specs.declared.error.BlinkError.{BlinkError}
-use Rattle.bx_blink.specs.declared.error.BlinkError.TheVariants.{Need, Stale, Absent, OutOfMemory}
+use Rattle.bx_blink.specs.declared.error.BlinkError.TheVariants.{Need, Stale, Full, NoRoom, Absent, Present, OutOfMemory, Crowded}
 use Rattle.bx_blink.specs.declared.steps.End.TheVariants.{Lost, Lands}
 use Rattle.bx_truth.specs.PageTrees.{Chunks, PageTree, map_of}
 use Rattle.bx_views.specs.Truths.{Held, Hints}
 use Rattle.bx_blink.specs.Walks.{Reads, reads_with, Ends, start, most, OnPath}
-use Rattle.bx_blink.proofs.OnWay.{IsPlaceOf, IsRightEnd}
+use Rattle.bx_blink.specs.Places.{IsPlaceOf}
+use Rattle.bx_blink.proofs.OnWay.{IsRightEnd}
 use Rattle.bx_blink.proofs.Paths.{needs, not_led}
 use Rattle.bx_base.specs.declared.names.Mode.TheVariants.{Shared}
 use Rattle.bx_blink.specs.Hints.{Agrees}
@@ -34,6 +35,10 @@ finds areas reads chunks root tree asked key (Err Absent) a f = value_here chunk
 finds areas reads chunks root tree asked key (Err (Need at mode)) a f = tt
 finds areas reads chunks root tree asked key (Err Stale) a f = never_lost areas reads chunks root tree 0 asked key a.few a.sees a.is a.hints 61440 refl (omega arith) f
 finds areas reads chunks root tree asked key (Err OutOfMemory) a f = tt
+finds areas reads chunks root tree asked key (Err (Full spare)) a f = f
+finds areas reads chunks root tree asked key (Err (NoRoom leaf)) a f = f
+finds areas reads chunks root tree asked key (Err Present) a f = f
+finds areas reads chunks root tree asked key (Err Crowded) a f = f
 
 -- what a search needs isn't held, and is on its path
 pub fair : (held : Held) (hints : Hints) (root : ℕ) (key : List ℕ) (result : Result (List ℕ) BlinkError)
@@ -45,3 +50,7 @@ fair held hints root key (Err (Need at mode)) f =
 fair held hints root key (Err Absent) f = tt
 fair held hints root key (Err Stale) f = tt
 fair held hints root key (Err OutOfMemory) f = tt
+fair held hints root key (Err (Full spare)) f = f
+fair held hints root key (Err (NoRoom leaf)) f = f
+fair held hints root key (Err Present) f = f
+fair held hints root key (Err Crowded) f = f

@@ -12,7 +12,8 @@ use Rattle.bx_blink.specs.Walks.{Reads, passes, child_of, mode_at, onward}
 use Rattle.bx_blink.specs.Hints.{HintsAgree}
 use Rattle.bx_blink.proofs.Chains.{leads_in}
 use Rattle.bx_blink.proofs.Last.{last_up_to}
-use Rattle.bx_blink.proofs.OnWay.{known, Behind, lower, further, IsOnWay, After, IsPlaceOf}
+use Rattle.bx_blink.specs.Places.{IsPlaceOf}
+use Rattle.bx_blink.proofs.OnWay.{known, Behind, lower, further, IsOnWay, After}
 use Rattle.bx_blink.proofs.Handles.{two, passed, kept, passes_last, handle_is, child_handle, child_home}
 use Rattle.bx_blink.proofs.Homes.{not_home}
 

@@ -9,7 +9,7 @@ use Rattle.bx_page.specs.Contents.{Contents, first, from}
 use Rattle.bx_page.proofs.Order.{not_below_itself}
 use Rattle.bx_page.proofs.Cuts.{filter_all}
 use Rattle.bx_truth.specs.PageTrees.{Chunks, Node, IsIn, Leads, PageTree, IsTree, entries_of, map_of}
-use Rattle.bx_blink.proofs.OnWay.{IsPlaceOf}
+use Rattle.bx_blink.specs.Places.{IsPlaceOf}
 use Rattle.bx_blink.proofs.Entries.{from_within}
 use Rattle.bx_blink.proofs.Chains.{leads_in}
 use Rattle.bx_blink.proofs.Places.{within}

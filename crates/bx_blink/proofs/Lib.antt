@@ -26,3 +26,4 @@ pub mod RunFound
 pub mod OneRun
 pub mod RunPaths
 pub mod LonePage
+pub mod Landings

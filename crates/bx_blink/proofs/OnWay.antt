@@ -1,8 +1,6 @@
 -- Where a walk in a tree is, and where it ends.
 use Rattle.std.proofs.Common.{◌≡◌, ℕ, ◌<◌, ◌≤◌, false, List, Option, Some, None}
-use Rattle.std.specs.Prelude.{IfSome}
 use Rattle.bx_page.specs.Keys.{is_below, IsBelow}
-use Rattle.bx_page.specs.Contents.{Contents}
 use Rattle.bx_blink.specs.declared.steps.Spot.{Spot}
 use Rattle.bx_blink.specs.declared.steps.End.{End}
 use Rattle.bx_blink.specs.declared.steps.End.TheVariants.{Needs, Lost, Lands}
@@ -10,16 +8,7 @@ use Rattle.bx_blink.specs.declared.steps.Out.{Out}
 use Rattle.bx_blink.specs.declared.steps.Out.TheVariants.{Goes, Stops}
 use Rattle.bx_truth.specs.PageTrees.{Node, IsIn, PageTree}
 use Rattle.bx_blink.specs.Hints.{Place}
-
--- A key's page on a level of a tree: the key is in the page's range.
-pub record IsPlaceOf (tree : PageTree) (level : ℕ) (key : List ℕ) (handle : ℕ) (page : Contents) : Type 0 where
-  pub node : Node
-  pub within : level ≤ tree.height
-  pub there : IsIn node (tree.level level)
-  pub handle_is : node.handle ≡ handle
-  pub page_is : node.page ≡ page
-  pub from : is_below key node.begins ≡ false
-  pub to : IfSome node.page.high (IsBelow key)
+use Rattle.bx_blink.specs.Places.{IsPlaceOf}
 
 -- a walk in a tree ends at the key's page, or needs a block
 abbrev pub IsRightEnd : PageTree → ℕ → List ℕ → End → Type 0

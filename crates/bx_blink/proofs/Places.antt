@@ -4,7 +4,7 @@ use Rattle.std.specs.List.{AllByRecursion}
 use Rattle.bx_page.specs.declared.entry.Entry.{Entry}
 use Rattle.bx_page.specs.Contents.{Contents, value_of}
 use Rattle.bx_truth.specs.PageTrees.{Chunks, Node, IsIn, IsNode, PageTree, IsTree, entries_of, map_of}
-use Rattle.bx_blink.proofs.OnWay.{IsPlaceOf}
+use Rattle.bx_blink.specs.Places.{IsPlaceOf}
 use Rattle.bx_blink.proofs.Entries.{Surrounds, value_within}
 use Rattle.bx_blink.proofs.Chains.{IsRange, surrounds, entries_at}
 

@@ -5,7 +5,7 @@ use Rattle.std.specs.List.{AllByRecursion}
 use Rattle.bx_base.specs.declared.names.Mode.TheVariants.{Shared}
 use Rattle.bx_page.specs.Contents.{first, from}
 use Rattle.bx_blink.specs.declared.error.BlinkError.{BlinkError}
-use Rattle.bx_blink.specs.declared.error.BlinkError.TheVariants.{Need, Stale, Absent, OutOfMemory}
+use Rattle.bx_blink.specs.declared.error.BlinkError.TheVariants.{Need, Stale, Full, NoRoom, Absent, Present, OutOfMemory, Crowded}
 use Rattle.bx_blink.specs.declared.steps.Spot.{Spot}
 use Rattle.bx_blink.specs.declared.runs.RunEnd.{RunEnd}
 use Rattle.bx_blink.specs.declared.runs.RunEnd.TheVariants.{Wants, Broken, First, Nothing}
@@ -78,3 +78,7 @@ next_in areas reads chunks root tree key (Err (Need at mode)) a f = tt
 next_in areas reads chunks root tree key (Err Stale) a f = runs_right areas reads chunks root tree a.few a.sees a.is a.hints 61440 refl key Broken f
 next_in areas reads chunks root tree key (Err OutOfMemory) a f = tt
 next_in areas reads chunks root tree key (Err Absent) a f = f
+next_in areas reads chunks root tree key (Err (Full spare)) a f = f
+next_in areas reads chunks root tree key (Err (NoRoom leaf)) a f = f
+next_in areas reads chunks root tree key (Err Present) a f = f
+next_in areas reads chunks root tree key (Err Crowded) a f = f

@@ -8,7 +8,7 @@ use Rattle.bx_page.specs.Contents.{Contents, first, from}
 use Rattle.bx_views.specs.Truths.{Held, Hints}
 use Rattle.bx_truth.specs.Chunks.{block_at}
 use Rattle.bx_blink.specs.declared.error.BlinkError.{BlinkError}
-use Rattle.bx_blink.specs.declared.error.BlinkError.TheVariants.{Need, Stale, Absent, OutOfMemory}
+use Rattle.bx_blink.specs.declared.error.BlinkError.TheVariants.{Need, Stale, Full, NoRoom, Absent, Present, OutOfMemory, Crowded}
 use Rattle.bx_blink.specs.declared.steps.Spot.{Spot}
 use Rattle.bx_blink.specs.declared.steps.Found.{Found}
 use Rattle.bx_blink.specs.declared.steps.End.TheVariants.{Needs, Lost, Lands}
@@ -85,3 +85,7 @@ run_fair held hints root key (Err (Need at mode)) f =
 run_fair held hints root key (Err Absent) f = tt
 run_fair held hints root key (Err Stale) f = tt
 run_fair held hints root key (Err OutOfMemory) f = tt
+run_fair held hints root key (Err (Full spare)) f = f
+run_fair held hints root key (Err (NoRoom leaf)) f = f
+run_fair held hints root key (Err Present) f = f
+run_fair held hints root key (Err Crowded) f = f

@@ -22,7 +22,8 @@ use Rattle.bx_truth.specs.PageTrees.{Chunks, PageTree, IsTree, map_of}
 use Rattle.bx_blink.specs.Walks.{Reads, Finds, passes, mode_at, decide}
 use Rattle.bx_blink.specs.Runs.{at_leaf, follow}
 use Rattle.bx_blink.specs.Hints.{Sees, Place, HintsAgree}
-use Rattle.bx_blink.proofs.OnWay.{IsOnWay, After, IsPlaceOf}
+use Rattle.bx_blink.specs.Places.{IsPlaceOf}
+use Rattle.bx_blink.proofs.OnWay.{IsOnWay, After}
 use Rattle.bx_blink.proofs.FromPages.{from_page}
 use Rattle.bx_blink.proofs.Rights.{stands, chunk_of, has_page, step}
 use Rattle.bx_blink.proofs.Leaves.{here, nowhere, beyond}
@@ -97,7 +98,7 @@ module _ (areas : ℕ) (reads : Reads) (chunks : Chunks) (root : ℕ) (tree : Pa
       by_out (Stops (Needs at mode)) e a = tt
       by_out (Stops Lost) e a = absurd a
       by_out (Stops (Lands handle page)) e a =
-          let h = lands_here reads key spot found handle page f e in
+          let h = lands_here reads 0 Shared key spot found handle page f e in
           by_leaf handle page (subst (λ (x : Found). Finds reads 0 spot x) h.found_is f) a (leaf_level handle page a) (first (from page.entries key)) refl page.high refl
         where
           leaf_level : (handle : ℕ) (page : Contents) → IsPlaceOf tree 0 key handle page → page.level ≡ 0

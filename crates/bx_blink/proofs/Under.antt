@@ -10,4 +10,4 @@ use Rattle.bx_blink.proofs.Sees.{sees}
 
 pub agrees : (areas : ℕ) (held : Held) (hints : Hints) (truth : Truth) (draft : List Changed) (root : ℕ) (tree : PageTree) → Under areas held hints truth draft root tree
     → Agrees areas (reads_with held hints draft) (chunks_of areas (with_draft truth draft)) root tree
-agrees areas held hints truth draft root tree u = record { few = u.few; sees = sees areas held hints truth draft (record { same = u.same; chunked = u.chunked }); is = u.is; hints = u.hints }
+agrees areas held hints truth draft root tree u = record { few = u.few; sees = sees areas held hints truth draft (record { same = u.same; chunked = u.chunked }); is = u.is; hints = (u.hints).agree }

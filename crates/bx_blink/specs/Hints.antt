@@ -12,6 +12,7 @@ use Rattle.bx_blink.specs.Walks.{Reads}
 use Rattle.bx_records.specs.Drafts.{Changed}
 use Rattle.bx_views.specs.Truths.{Truth, Held, Hints, IsTruth, with_draft}
 use Rattle.bx_truth.specs.Chunks.{block_at, IsSlot, IsName, IsChunked, chunks_of}
+use Rattle.bx_truth.specs.Stands.{WasGiven}
 
 -- What a call reads is what the chunks have: a held block is the chunk of each handle in use that is in it, a header names its
 -- chunk's handle, and where the header of a held block names a handle of the volume, that handle is in use.
@@ -70,6 +71,16 @@ pub record HintsAgree (areas : ℕ) (hint : Hints) (chunks : Chunks) (root : ℕ
       → (page.level ≡ place.level) × IsOld home place.begins page
   pub root_hints : (block : Block) (page : Contents) → hint (block_at root) ≡ Some block → block.handle ≡ root → HasPage page block → 0 < page.level → (page.level ≤ most) × IsOld home [] page
 
+-- The handles of all pages that are or were in the tree were given out, and those of all hints.
+pub record AreGiven (areas : ℕ) (hint : Hints) (truth : Truth) (home : ℕ → Option Place) : Type 0 where
+  pub homes : (handle : ℕ) (place : Place) → home handle ≡ Some place → WasGiven areas truth handle
+  pub hints : (handle : ℕ) (block : Block) → hint (block_at handle) ≡ Some block → block.handle ≡ handle → IsName areas handle → WasGiven areas truth handle
+
+-- the hints agree with the tree that a truth has under a root, and were given out
+pub record HintsFit (areas : ℕ) (hint : Hints) (truth : Truth) (root : ℕ) (tree : PageTree) : Type 0 where
+  pub agree : HintsAgree areas hint (chunks_of areas truth) root tree
+  pub given : AreGiven areas hint truth agree.home
+
 -- what a call reads agrees with the chunks, which hold this tree under this root, and its hints agree with the tree
 pub record Agrees (areas : ℕ) (reads : Reads) (chunks : Chunks) (root : ℕ) (tree : PageTree) : Type 0 where
   pub few : areas ≤ 64
@@ -78,10 +89,10 @@ pub record Agrees (areas : ℕ) (reads : Reads) (chunks : Chunks) (root : ℕ) (
   pub hints : HintsAgree areas reads.hint chunks root tree
 
 -- What a call on a tree rests on, for a truth: what is held is the truth's; the truth with the draft has the rules of chunks, and
--- holds the tree under the root; and the hints agree with the tree.
+-- holds the tree under the root; and the hints agree with the tree, and were given out.
 pub record Under (areas : ℕ) (held : Held) (hint : Hints) (truth : Truth) (draft : List Changed) (root : ℕ) (tree : PageTree) : Type 0 where
   pub few : areas ≤ 64
   pub same : IsTruth held truth
   pub chunked : IsChunked areas (with_draft truth draft)
   pub is : IsTree (chunks_of areas (with_draft truth draft)) root tree
-  pub hints : HintsAgree areas hint (chunks_of areas (with_draft truth draft)) root tree
+  pub hints : HintsFit areas hint (with_draft truth draft) root tree

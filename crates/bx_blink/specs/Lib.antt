@@ -2,3 +2,5 @@ pub mod Walks
 pub mod Hints
 pub mod Answers
 pub mod Runs
+pub mod Errors
+pub mod Places

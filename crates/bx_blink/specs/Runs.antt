@@ -6,7 +6,7 @@ use Rattle.bx_base.specs.declared.names.Mode.TheVariants.{Shared}
 use Rattle.bx_page.specs.declared.entry.Entry.{Entry}
 use Rattle.bx_page.specs.Contents.{Contents, first, from}
 use Rattle.bx_blink.specs.declared.error.BlinkError.{BlinkError}
-use Rattle.bx_blink.specs.declared.error.BlinkError.TheVariants.{Need, Stale, Absent, OutOfMemory}
+use Rattle.bx_blink.specs.declared.error.BlinkError.TheVariants.{Need, Stale, Full, NoRoom, Absent, Present, OutOfMemory, Crowded}
 use Rattle.bx_blink.specs.declared.steps.Spot.{Spot}
 use Rattle.bx_blink.specs.declared.steps.Found.{Found}
 use Rattle.bx_blink.specs.declared.steps.End.TheVariants.{Needs, Lost, Lands}
@@ -57,6 +57,10 @@ NextAt E (Err (Need at mode)) = E (Wants at mode)
 NextAt E (Err Stale) = E Broken
 NextAt E (Err OutOfMemory) = Unit {0}
 NextAt E (Err Absent) = ⊥
+NextAt E (Err (Full spare)) = ⊥
+NextAt E (Err (NoRoom leaf)) = ⊥
+NextAt E (Err Present) = ⊥
+NextAt E (Err Crowded) = ⊥
 
 -- What `next` answers, by the map. In a tree it is never broken.
 abbrev pub NextIn : List Entry → List ℕ → Result (Option (List ℕ × List ℕ)) BlinkError → Type 0
@@ -66,3 +70,7 @@ NextIn map key (Err (Need at mode)) = Unit {0}
 NextIn map key (Err OutOfMemory) = Unit {0}
 NextIn map key (Err Stale) = ⊥
 NextIn map key (Err Absent) = ⊥
+NextIn map key (Err (Full spare)) = ⊥
+NextIn map key (Err (NoRoom leaf)) = ⊥
+NextIn map key (Err Present) = ⊥
+NextIn map key (Err Crowded) = ⊥

@@ -5,11 +5,11 @@ ghost use Rattle.bx_base.specs.declared.names.Mode.{Mode};
 ghost use Rattle.bx_blink.specs.declared.runs.RunEnd.{RunEnd};
 ghost use Rattle.bx_blink.specs.declared.steps.Spot.{Spot};
 ghost use Rattle.bx_blink.specs.declared.steps.End.{End};
-ghost use Rattle.bx_blink.specs.Hints.{HintsAgree};
+ghost use Rattle.bx_blink.specs.Hints.{HintsAgree, HintsFit};
 ghost use Rattle.bx_blink.specs.Runs.{Runs};
 ghost use Rattle.bx_blink.specs.Walks.{Reads, Ends};
 ghost use Rattle.bx_truth.specs.PageTrees.{Chunks, PageTree};
-ghost use Rattle.bx_views.specs.Truths.{no_hints};
+ghost use Rattle.bx_views.specs.Truths.{Truth, no_hints};
 
 /// A search has one end, so each of its answers comes exactly where the search ends so.
 pub fn a_search_has_one_end()
@@ -19,5 +19,6 @@ pub fn a_search_has_one_end()
 
 /// No hints agree with any tree that is a leaf alone, so what the calls rest on can be met.
 pub fn no_hints_agree_with_a_leaf()
-    ensures { (areas root : ℕ) (chunks : Chunks) (tree : PageTree) → tree.height ≡ 0 → HintsAgree areas no_hints chunks root tree }
+    ensures agree { (areas root : ℕ) (chunks : Chunks) (tree : PageTree) → tree.height ≡ 0 → HintsAgree areas no_hints chunks root tree }
+    ensures fit { (areas root : ℕ) (truth : Truth) (tree : PageTree) → tree.height ≡ 0 → HintsFit areas no_hints truth root tree }
 {}

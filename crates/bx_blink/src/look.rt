@@ -18,19 +18,14 @@ use std::alloc::Global;
 const PAGE: u32 = 2;
 
 /// The number of the block that a handle is in.
-pub(crate) fn block_at(handle: u64) -> u64
+pub fn block_at(handle: u64) -> u64
     ensures { result ≡ block_at handle }
 {
     ChunkHandle::of(handle).block()
 }
 
 /// The block in the draft, and else the one that is held in a mode.
-pub(crate) fn seen<'a, V: View>(
-    draft: &'a Draft,
-    view: &'a V,
-    at: u64,
-    mode: Mode,
-) -> Option<&'a Block>
+pub fn seen<'a, V: View>(draft: &'a Draft, view: &'a V, at: u64, mode: Mode) -> Option<&'a Block>
     ensures { option_copied result ≡ (reads_with (V.held view.now) (V.hints view.now) draft.now).held at mode }
 {
     match draft.find(at) {
@@ -40,7 +35,7 @@ pub(crate) fn seen<'a, V: View>(
 }
 
 /// The page that a block is; `None` exactly where it is none.
-pub(crate) fn page_in(alloc: Global, block: &Block) -> Result<Option<Page>, OutOfMemory>
+pub fn page_in(alloc: Global, block: &Block) -> Result<Option<Page>, OutOfMemory>
     ensures some { IfOk result (λ found. IfSome found (λ page. HasPage page block.now)) }
     ensures none { IfOk result (λ found. IfNone found (IsNoPage block.now)) }
 {

@@ -7,7 +7,7 @@ ghost use Rattle.bx_blink.specs.Walks.{reads_with, decide, start, most};
 ghost use Rattle.bx_blink.specs.Runs.{Runs, at_leaf, follow};
 
 use crate::steps::{End, Found, Out, Spot, decide, look};
-use crate::walk::MOST;
+use crate::walks::MOST;
 use bx_base::{Mode, OutOfMemory, Raw};
 use bx_page::Page;
 use bx_records::Draft;

@@ -12,7 +12,7 @@ ghost use Rattle.bx_blink.specs.Runs.{Runs, OnRun, NextAt, NextIn};
 use crate::error::BlinkError;
 use crate::runs::{RunEnd, run};
 use crate::steps::End;
-use crate::walk::walk;
+use crate::walks::walk;
 use bx_base::{Mode, Raw};
 use bx_records::Draft;
 use bx_views::View;

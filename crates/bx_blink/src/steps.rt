@@ -40,7 +40,7 @@ pub(crate) enum Found {
 
 /// How a walk ends.
 #[derive(Drop)]
-pub(crate) enum End {
+pub enum End {
     /// It needs a block, held in a mode.
     Needs(u64, Mode),
     /// What is held is no tree.

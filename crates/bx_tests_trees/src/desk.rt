@@ -1,6 +1,8 @@
-//! A view of a tree of three pages.
+//! A view of the blocks of a tree.
 
+ghost use Rattle.std.specs.Option.{option_or};
 ghost use Rattle.bx_records.specs.Drafts.{block_in};
+ghost use Rattle.bx_tests_trees.specs.Desks.{held_on};
 
 use bx_base::{Mode, Raw};
 use bx_layout::Block;
@@ -38,29 +40,34 @@ pub(crate) fn handle_of(slot: u16) -> u64 {
     SLOT * u64::from(slot) + 1
 }
 
-/// Blocks that are held, in either mode, and hints of others.
+/// Blocks that are held, and hints of others.
 #[derive(Drop)]
 pub(crate) struct Desk {
-    /// What is held.
+    /// What is held exclusively.
     held: Draft,
+    /// What else is held shared.
+    lent: Draft,
     /// What there are hints of.
     hinted: Draft,
 }
 
 impl View for Desk {
-    ghost held = { λ desk at mode. block_in desk.held at };
+    ghost held = { λ desk. held_on desk.held desk.lent };
 
     ghost hints = { λ desk at. block_in desk.hinted at };
 
-    fn block(&self, at: u64, _mode: Mode) -> Option<&Block> {
-        self.held.find(at)
+    fn block(&self, at: u64, mode: Mode) -> Option<&Block> {
+        match (self.held.find(at), mode) {
+            (None, Mode::Shared) => self.lent.find(at),
+            (found, _) => found,
+        }
     }
 
     fn hint(&self, at: u64) -> Option<&Block> {
         self.hinted.find(at)
     }
 
-    ghost shares = { λ desk at block is. is };
+    ghost shares = { λ desk at block is i. option_or (is i) (block_in desk.lent at) };
 }
 
 /// A block that is a page of these bytes, with zeros behind them, under the handle of a slot.
@@ -81,6 +88,7 @@ impl Desk {
     pub(crate) fn new(alloc: Global) -> Desk {
         Desk {
             held: Draft::new(alloc),
+            lent: Draft::new(alloc),
             hinted: Draft::new(alloc),
         }
     }
@@ -96,6 +104,35 @@ impl Desk {
         let block = page_at(alloc, named, page)?;
         self.held.put(u64::from(at), block)?;
         Ok(())
+    }
+
+    /// Holds a page, shared alone, in the block of a slot, under its handle.
+    pub(crate) fn lend(&mut self, alloc: Global, slot: u16, page: &[u8]) -> Result<(), Fail> {
+        let block = page_at(alloc, slot, page)?;
+        self.lent.put(u64::from(slot), block)?;
+        Ok(())
+    }
+
+    /// Holds what a draft has.
+    pub(crate) fn take_in(&mut self, alloc: Global, draft: &Draft) -> Result<(), Fail> {
+        for (at, block) in draft.blocks() {
+            let payload = Raw::of(alloc, block.payload.bytes())?;
+            let copy = Block {
+                handle: block.handle,
+                kind: block.kind,
+                payload,
+            };
+            self.held.put(*at, copy)?;
+        }
+        Ok(())
+    }
+
+    /// The payload of a block that is held exclusively.
+    pub(crate) fn payload(&self, at: u64) -> Option<&[u8]> {
+        match self.held.find(at) {
+            None => None,
+            Some(block) => Some(block.payload.bytes()),
+        }
     }
 
     /// Gives a hint of the block with a number: a page, under the handle of a slot.

@@ -4,4 +4,10 @@
 #[cfg(test)]
 mod desk;
 #[cfg(test)]
+mod entries;
+#[cfg(test)]
+mod levels;
+#[cfg(test)]
+mod model;
+#[cfg(test)]
 mod searches;

@@ -1,7 +1,7 @@
 use Rattle.bx_blink.specs.declared.steps.End.{End}
 use Rattle.bx_blink.specs.Walks.{reads_with, Ends, start, most}
 use Rattle.std.specs.Prelude.{◌-◌}
-use Rattle.bx_blink.proofs.walk.walk.Given as goal
+use Rattle.bx_blink.proofs.walks.walk.Given as goal
 
 abbrev pub invariant-loop-step : goal.invariant-loop-step
 invariant-loop-step g l =

@@ -14,7 +14,7 @@ pub(crate) const MOST: u64 = 61_441;
 
 /// Looks for a key from a tree's root, down to its page of a level, which is to be held in a mode. It reads each page that it
 /// passes once.
-pub(crate) fn walk<V: View>(
+pub fn walk<V: View>(
     alloc: Global,
     draft: &Draft,
     view: &V,

@@ -2,7 +2,7 @@ use Rattle.std.proofs.Common.{arith}
 use Rattle.bx_blink.specs.declared.steps.End.TheVariants.{Lost}
 use Rattle.bx_blink.specs.Walks.{Reads, reads_with, most}
 use Rattle.bx_blink.proofs.Loops.{goes, stops, tires}
-use Rattle.bx_blink.proofs.walk.walk.Goals as goal
+use Rattle.bx_blink.proofs.walks.walk.Goals as goal
 
 pub loop-step-preserved : goal.loop-step-preserved
 loop-step-preserved g c = λ end rest.

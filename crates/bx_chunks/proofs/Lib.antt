@@ -1,0 +1,13 @@
+pub mod Options
+pub mod Drafts
+pub mod OneArea
+pub mod Sums
+pub mod Looks
+pub mod Counts
+pub mod Uses
+pub mod Slots
+pub mod Chunked
+pub mod Counted
+pub mod Allocates
+pub mod FairNeeds
+pub mod Removed

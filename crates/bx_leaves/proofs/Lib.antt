@@ -1,0 +1,11 @@
+pub mod Members
+pub mod Apart
+pub mod Exchanged
+pub mod Replaced
+pub mod Written
+pub mod Hinted
+pub mod Rewritten
+pub mod LeafMaps
+pub mod Done
+pub mod Fair
+pub mod Steps

@@ -1,0 +1,112 @@
+//! The calls that change an entry.
+
+ghost use Rattle.std.specs.Prelude.{◌≡◌, ℕ, ◌+◌, ◌≤◌, length, OnOk, OnErr};
+ghost use Rattle.bx_truth.specs.PageTrees.{PageTree};
+ghost use Rattle.bx_views.specs.Attempts.{IsHeldDraft};
+ghost use Rattle.bx_views.specs.Truths.{Truth};
+ghost use Rattle.bx_blink.specs.Hints.{Under};
+ghost use Rattle.bx_blink.specs.Walks.{reads_with};
+ghost use Rattle.bx_leaves.specs.Leaves.{OnLeafPath, InsertsAt, RemovesAt};
+ghost use Rattle.bx_leaves.specs.Changes.{InsertsIn, RemovesIn, NeedsUnheld};
+
+use crate::leaf::leaf_of;
+use crate::pages::{is_nearly_full, put_page};
+use bx_blink::BlinkError;
+use bx_page::PageError;
+use bx_records::Draft;
+use bx_views::View;
+use std::alloc::Global;
+
+/// Puts an entry into the leaf of its key, in the tree under a root, by the root's handle. It changes one page.
+///
+/// `Need` names a block that isn't held in that mode and is on the path of the walk to the leaf, which is to be held exclusively.
+/// `Stale` comes where what is held is no tree: where the view agrees with a tree it never comes. `Present` comes exactly where
+/// the tree has the key, else `NoRoom` with the leaf's handle exactly where the leaf in the view has less than 544 bytes left or
+/// the leaf in the draft has no room for the entry, else `Crowded` exactly where the draft has sixteen blocks and the leaf isn't
+/// one of them. On an error the draft is as it was.
+pub fn insert<V: View>(
+    alloc: Global,
+    draft: &mut Draft,
+    view: &V,
+    root: u64,
+    key: &[u8],
+    value: &[u8],
+) -> Result<(), BlinkError>
+    requires key { length key.now ≤ 256 }
+    requires both { length key.now + length value.now ≤ 268 }
+    ensures unchanged { OnErr result (draft.new ≡ draft.old) }
+    ensures ends { InsertsAt (V.held view.now) (V.hints view.now) draft.old draft.new root key.now value.now result }
+    ensures map { (areas : ℕ) (truth : Truth) (tree : PageTree) → Under areas (V.held view.now) (V.hints view.now) truth draft.old root tree → InsertsIn areas (V.held view.now) (V.hints view.now) truth draft.old draft.new root tree key.now value.now result }
+    ensures fair { NeedsUnheld (V.held view.now) (OnLeafPath (reads_with (V.held view.now) (V.hints view.now) draft.old) root key.now) result }
+    ensures held { IsHeldDraft (V.held view.now) draft.old → OnOk result (IsHeldDraft (V.held view.now) draft.new) }
+{
+    put_entry(alloc, draft, view, root, key, value)
+}
+
+/// The same, by how the walk ends.
+fn put_entry<V: View>(
+    alloc: Global,
+    draft: &mut Draft,
+    view: &V,
+    root: u64,
+    key: &[u8],
+    value: &[u8],
+) -> Result<(), BlinkError>
+    requires key { length key.now ≤ 256 }
+    requires both { length key.now + length value.now ≤ 268 }
+    ensures unchanged { OnErr result (draft.new ≡ draft.old) }
+    ensures ends { InsertsAt (V.held view.now) (V.hints view.now) draft.old draft.new root key.now value.now result }
+{
+    let (handle, mut page) = leaf_of(alloc, draft, view, root, key)?;
+    match page.get(key) {
+        Some(_) => return Err(BlinkError::Present),
+        None => {}
+    }
+    if is_nearly_full(alloc, view, handle)? {
+        return Err(BlinkError::NoRoom(handle));
+    }
+    match page.put(key, value) {
+        Err(PageError::NoRoom) => Err(BlinkError::NoRoom(handle)),
+        Err(PageError::OutOfMemory) => Err(BlinkError::OutOfMemory),
+        Ok(()) => put_page(alloc, draft, handle, &page),
+    }
+}
+
+/// Takes the entry of a key out of its leaf, in the tree under a root, by the root's handle. It changes one page.
+///
+/// `Need` and `Stale` come as they do of `insert`. `Absent` comes exactly where the tree hasn't got the key, else `Crowded` exactly
+/// where the draft has sixteen blocks and the leaf isn't one of them. On an error the draft is as it was.
+pub fn remove<V: View>(
+    alloc: Global,
+    draft: &mut Draft,
+    view: &V,
+    root: u64,
+    key: &[u8],
+) -> Result<(), BlinkError>
+    ensures unchanged { OnErr result (draft.new ≡ draft.old) }
+    ensures ends { RemovesAt (V.held view.now) (V.hints view.now) draft.old draft.new root key.now result }
+    ensures map { (areas : ℕ) (truth : Truth) (tree : PageTree) → Under areas (V.held view.now) (V.hints view.now) truth draft.old root tree → RemovesIn areas (V.held view.now) (V.hints view.now) truth draft.old draft.new root tree key.now result }
+    ensures fair { NeedsUnheld (V.held view.now) (OnLeafPath (reads_with (V.held view.now) (V.hints view.now) draft.old) root key.now) result }
+    ensures held { IsHeldDraft (V.held view.now) draft.old → OnOk result (IsHeldDraft (V.held view.now) draft.new) }
+{
+    take_entry(alloc, draft, view, root, key)
+}
+
+/// The same, by how the walk ends.
+fn take_entry<V: View>(
+    alloc: Global,
+    draft: &mut Draft,
+    view: &V,
+    root: u64,
+    key: &[u8],
+) -> Result<(), BlinkError>
+    ensures unchanged { OnErr result (draft.new ≡ draft.old) }
+    ensures ends { RemovesAt (V.held view.now) (V.hints view.now) draft.old draft.new root key.now result }
+{
+    let (handle, mut page) = leaf_of(alloc, draft, view, root, key)?;
+    if page.take(key) {
+        put_page(alloc, draft, handle, &page)
+    } else {
+        Err(BlinkError::Absent)
+    }
+}

@@ -1,0 +1,11 @@
+//! Splits of the pages of B-link trees.
+#![tactic(auto)]
+
+mod cutting;
+mod laws;
+mod raising;
+mod splitting;
+mod steps;
+
+pub use laws::{a_page_is_cut, the_root_is_cut};
+pub use splitting::split;

@@ -1,0 +1,92 @@
+//! The call that splits a page.
+
+ghost use Rattle.std.specs.Prelude.{◌≡◌, ◌+◌, ◌<◌, OnErr};
+ghost use Rattle.bx_truth.specs.PageTrees.{Node, PageTree, IsPageOf};
+ghost use Rattle.bx_views.specs.Truths.{Truth};
+ghost use Rattle.bx_blink.specs.Hints.{Under};
+ghost use Rattle.bx_splits.specs.Splits.{SplitsIn};
+ghost use Rattle.bx_records.specs.Drafts.{IsDraft};
+ghost use Rattle.bx_page.specs.Contents.{Contents, size};
+ghost use Rattle.bx_blink.specs.Walks.{reads_with};
+ghost use Rattle.bx_splits.specs.Cutting.{IsOwned, SplitsAt, SplitsTo};
+
+use crate::cutting::cut;
+use crate::raising::raise;
+use crate::steps::owned_page;
+use bx_blink::BlinkError;
+use bx_chunks::copy_of;
+use bx_records::Draft;
+use bx_views::View;
+use std::alloc::Global;
+use std::mem;
+
+/// Splits a page of the tree under a root, by their handles: half of its entries go to a new page on its right, near an area. The root
+/// keeps its handle, rises one level, and gets an entry for each of two new pages.
+///
+/// `Need` names a block that is to be held exclusively: the page's, or one that a new page wants. `Stale` comes where the page's handle
+/// names another block, or no page: of a page of a tree it never comes. `Full` tells how many slots are free in the view. On an error
+/// the draft is as it was.
+pub fn split<V: View>(
+    alloc: Global,
+    draft: &mut Draft,
+    view: &V,
+    root: u64,
+    page: u64,
+    near: u16,
+    areas: u16,
+) -> Result<(), BlinkError>
+    requires { (contents : Contents) → IsOwned (reads_with (V.held view.now) (V.hints view.now) draft.old) page contents → 4096 < size contents + 544 }
+    ensures unchanged { OnErr result (draft.new ≡ draft.old) }
+    ensures at { SplitsAt (V.held view.now) (V.hints view.now) draft.old draft.new root page near areas result }
+    ensures map { (truth : Truth) (tree : PageTree) (node : Node) → Under areas (V.held view.now) (V.hints view.now) truth draft.old root tree → IsPageOf tree node → node.handle ≡ page → SplitsIn areas (V.held view.now) (V.hints view.now) truth draft.old draft.new root tree page result }
+{
+    split_page(alloc, draft, view, root, page, (near, areas))
+}
+
+/// The same, by what is held.
+fn split_page<V: View>(
+    alloc: Global,
+    draft: &mut Draft,
+    view: &V,
+    root: u64,
+    handle: u64,
+    near: (u16, u16),
+) -> Result<(), BlinkError>
+    requires { (contents : Contents) → IsOwned (reads_with (V.held view.now) (V.hints view.now) draft.old) handle contents → 4096 < size contents + 544 }
+    ensures unchanged { OnErr result (draft.new ≡ draft.old) }
+    ensures at { SplitsAt (V.held view.now) (V.hints view.now) draft.old draft.new root handle near.0 near.1 result }
+{
+    let kept = mem::replace(draft, Draft::new(alloc));
+    match split_of(alloc, &kept, view, root, handle, near) {
+        Ok(next) => {
+            *draft = next;
+            Ok(())
+        }
+        Err(error) => {
+            *draft = kept;
+            Err(error)
+        }
+    }
+}
+
+/// The draft with a page split.
+fn split_of<V: View>(
+    alloc: Global,
+    draft: &Draft,
+    view: &V,
+    root: u64,
+    handle: u64,
+    near: (u16, u16),
+) -> Result<Draft, BlinkError>
+    requires { (contents : Contents) → IsOwned (reads_with (V.held view.now) (V.hints view.now) draft.now) handle contents → 4096 < size contents + 544 }
+    ensures { IsDraft draft.now → SplitsTo (V.held view.now) (V.hints view.now) draft.now root handle near.0 near.1 result }
+{
+    let page = owned_page(alloc, draft, view, handle)?;
+    let mut next = copy_of(alloc, draft)?;
+    if handle == root {
+        raise(alloc, &mut next, view, root, page, near)?;
+    } else {
+        cut(alloc, &mut next, view, handle, page, near)?;
+    }
+    Ok(next)
+}

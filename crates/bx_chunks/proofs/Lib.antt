@@ -10,4 +10,7 @@ pub mod Chunked
 pub mod Counted
 pub mod Allocates
 pub mod FairNeeds
+pub mod Given
 pub mod Removed
+pub mod Marks
+pub mod Dead

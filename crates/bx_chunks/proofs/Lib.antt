@@ -14,3 +14,4 @@ pub mod Given
 pub mod Removed
 pub mod Marks
 pub mod Dead
+pub mod HeldDrafts

@@ -4,6 +4,7 @@ ghost use Rattle.std.specs.Prelude.{◌≡◌, ◌<◌, ℕ, OnErr, IfSome, IfNo
 ghost use Rattle.bx_handles.specs.Handles.{number_of, parts_of};
 ghost use Rattle.bx_layout.specs.Areas.{IsArea, generation_in, is_dead};
 ghost use Rattle.bx_truth.specs.Chunks.{IsChunked};
+ghost use Rattle.bx_views.specs.Attempts.{IsHeldDraft};
 ghost use Rattle.bx_views.specs.Truths.{IsTruth, Truth, with_draft};
 ghost use Rattle.bx_chunks.specs.Allocating.{NeedsFairly};
 ghost use Rattle.bx_chunks.specs.Marking.{FindsDeadAt, FindsDeadIn, IsLowestDead, MarksAt, MarksIn};
@@ -35,6 +36,7 @@ pub fn mark_dead<V: View>(
     ensures map { (areas : ℕ) (truth : Truth) → (parts_of handle).area < areas → IsTruth (V.held view.now) truth → IsChunked areas (with_draft truth draft.old)
         → MarksIn areas truth draft.old draft.new handle dead result }
     ensures fair { (areas : ℕ) → (parts_of handle).area < areas → NeedsFairly areas (V.held view.now) result }
+    ensures writes { IsHeldDraft (V.held view.now) draft.old → IsHeldDraft (V.held view.now) draft.new }
     ensures err { OnErr result (draft.new ≡ draft.old) }
 {
     mark_seen(alloc, draft, view, handle, dead)

@@ -15,3 +15,8 @@ pub mod Removed
 pub mod Marks
 pub mod Dead
 pub mod HeldDrafts
+pub mod OneCount
+pub mod OneRead
+pub mod OneTake
+pub mod OneAllocation
+pub mod OneFreeing

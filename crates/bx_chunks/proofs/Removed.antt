@@ -95,7 +95,7 @@ module _ (areas : ℕ) (few : areas ≤ 64) (held : Held) (truth : Truth) (old :
   -- a chunk's handle is named, and given
   names_none : NamesNone held old handle → (b : Block) → IsChunk areas before handle b → ⊥
   names_none (no_slot many) b c = let less = chunk_slot areas before handle b c in absurd (omega (arith, many, less))
-  names_none (another less names) b c =
+  names_none (another there_is names) b c =
       names.another (ap (λ (x : Block). x.handle) (sym (seen_true held truth old block Exclusive names.block same names.there) ∙ c.is_block) ∙ chunk_header areas before handle b is c)
   names_none (not_given named without) b c = is_given areas held truth old handle within same is b c without
 

@@ -3,6 +3,7 @@ pub mod Reading
 pub mod Putting
 pub mod Allocating
 pub mod Choosing
+pub mod Memory
 pub mod Freeing
 pub mod Marking
 pub mod Counting

@@ -93,3 +93,7 @@ copy_more xs copy next k x block so_far less is same put draft =
 
 pub decides : (n m : ℕ) → m ≡ n → (leb n 16 ≡ true → m ≤ 16) × (m ≤ 16 → leb n 16 ≡ true)
 decides n m e = (λ yes. grind (arith, nat_tests, e, yes), λ less. grind (arith, nat_tests, e, less))
+
+pub crowds : (xs : List Changed) (at : ℕ) (block : Block) → (length xs ≡ 16) × (block_in xs at ≡ None) → 16 < length (with_block xs at block)
+crowds xs at block full =
+    subst (λ (n : ℕ). 16 < n) (sym (length_put xs at block ∙ ap (λ (o : Option Block). length xs + missing_of o) full.1)) (let l = full.0 in omega (arith, l))

@@ -10,4 +10,13 @@ pub mod Chunked
 pub mod Counted
 pub mod Allocates
 pub mod FairNeeds
+pub mod Given
 pub mod Removed
+pub mod Marks
+pub mod Dead
+pub mod HeldDrafts
+pub mod OneCount
+pub mod OneRead
+pub mod OneTake
+pub mod OneAllocation
+pub mod OneFreeing

@@ -14,3 +14,6 @@ unmapped f (Some block) e = absurd cc
 pub some_there : (f : Block → Block) (o : Option Block) (block : Block) → option_map f o ≡ Some block → (held : Block) × (o ≡ Some held) × (f held ≡ block)
 some_there f None block e = absurd cc
 some_there f (Some held) block e = (held, refl, cc)
+
+pub some_same : (o : Option Block) (x y : Block) → o ≡ Some x → o ≡ Some y → x ≡ y
+some_same o x y a b = let both : Some x ≡ Some y = sym a ∙ b in cc

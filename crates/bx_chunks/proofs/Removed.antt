@@ -2,24 +2,23 @@
 use Rattle.std.proofs.Common.{◌≡◌, ℕ, ◌%◌, ◌^◌, ◌<◌, ◌≤◌, arith, true, List, get_or, Some, None, Result, Ok, Err, refl, sym, ap, subst, ◌∙◌}
 use Rattle.std.specs.Prelude.{◌==◌, if◌then◌else◌}
 use Rattle.bx_base.specs.declared.names.Mode.TheVariants.{Exclusive}
-use Rattle.bx_handles.specs.Handles.{parts_of}
 use Rattle.bx_layout.specs.declared.area.AreaBlock.{AreaBlock}
 use Rattle.bx_layout.specs.declared.block.Block.{Block}
 use Rattle.bx_layout.specs.Areas.{freed_word, generation_in, in_use, with_word}
 use Rattle.bx_places.specs.Places.{block_area, block_slot}
 use Rattle.bx_records.specs.Drafts.{Changed}
-use Rattle.bx_truth.specs.Chunks.{IsAreaBlock, IsChunked, IsSlot, block_at, chunks_of, handle_of, own_block, word_at}
+use Rattle.bx_truth.specs.Chunks.{IsChunked, IsSlot, block_at, chunks_of, handle_of, own_block}
 use Rattle.bx_truth.specs.Slots.{FreesSlot}
 use Rattle.bx_truth.proofs.Freed.{chunk_freed, chunked_freed}
 use Rattle.bx_truth.proofs.Same.{IsChunk}
 use Rattle.bx_views.specs.Truths.{Held, IsTruth, Truth, with_draft}
 use Rattle.bx_chunks.specs.Areas.{HasSlots}
-use Rattle.bx_chunks.specs.Freeing.{FreesAt, FreesIn, IsGiven, IsInUse, NamesNone, no_slot, another, not_given, Removes, own_at, slot_freed}
+use Rattle.bx_chunks.specs.Freeing.{FreesAt, FreesIn, IsInUse, NamesNone, no_slot, another, not_given, Removes, own_at, slot_freed}
 use Rattle.bx_chunks.specs.Putting.{empty_of, slot_put}
 use Rattle.bx_chunks.specs.declared.error.ChunkError.{ChunkError}
 use Rattle.bx_chunks.specs.declared.error.ChunkError.TheVariants.{Need, Stale, Full, OutOfMemory, Crowded}
-use Rattle.bx_chunks.proofs.Chunked.{area_of, slot_of, block_area_is, block_slot_is, chunk_from, chunk_header, chunk_slot, handle_back, handle_generation, no_chunk, slot_there, word_seen}
-use Rattle.bx_chunks.proofs.Counted.{area_slots}
+use Rattle.bx_chunks.proofs.Chunked.{area_of, slot_of, block_area_is, block_slot_is, chunk_from, chunk_header, chunk_slot, handle_back, no_chunk, slot_there, word_seen}
+use Rattle.bx_chunks.proofs.Given.{is_given}
 use Rattle.bx_chunks.proofs.Slots.{here, seen_true, sets}
 
 module _ (areas : ℕ) (few : areas ≤ 64) (held : Held) (truth : Truth) (old : List Changed) (handle : ℕ) (within : area_of handle < areas) (same : IsTruth held truth) (is : IsChunked areas (with_draft truth old)) where
@@ -96,25 +95,9 @@ module _ (areas : ℕ) (few : areas ≤ 64) (held : Held) (truth : Truth) (old :
   -- a chunk's handle is named, and given
   names_none : NamesNone held old handle → (b : Block) → IsChunk areas before handle b → ⊥
   names_none (no_slot many) b c = let less = chunk_slot areas before handle b c in absurd (omega (arith, many, less))
-  names_none (another less names) b c =
+  names_none (another there_is names) b c =
       names.another (ap (λ (x : Block). x.handle) (sym (seen_true held truth old block Exclusive names.block same names.there) ∙ c.is_block) ∙ chunk_header areas before handle b is c)
-  names_none (not_given named without) b c =
-      without.no own.slots (subst (HasSlots (area_of handle) own.slots) (seen_true held truth old (own_at handle) Exclusive without.own same without.there) (area_slots (area_of handle) (before (own_at handle)) own)) given
-    where
-      own : IsAreaBlock (area_of handle) (before (own_block (area_of handle)))
-      own = is.own (area_of handle) within
-
-      has_here : HasSlots (block_area block) own.slots (before (own_block (block_area block)))
-      has_here = subst (λ (n : ℕ). HasSlots n own.slots (before (own_block n))) (sym (block_area_is handle named.slot)) (area_slots (area_of handle) (before (own_at handle)) own)
-
-      word_is : word_at before block ≡ get_or own.slots.words (slot_of handle) 0
-      word_is = word_seen before block own.slots c.slot.slot has_here ∙ ap (λ (n : ℕ). get_or own.slots.words n 0) (block_slot_is handle named.slot)
-
-      given : IsGiven own.slots (parts_of handle)
-      given = record {
-        used = ap in_use (sym word_is) ∙ c.used;
-        generation = ap generation_in (sym word_is) ∙ sym (ap (λ (h : ℕ). h % 2 ^ 32) c.is_handle ∙ handle_generation block (generation_in (word_at before block)) (omega arith));
-      }
+  names_none (not_given named without) b c = is_given areas held truth old handle within same is b c without
 
   pub frees_in : (new : List Changed) (r : Result (Unit {0}) ChunkError) → FreesAt held old new handle r → FreesIn areas truth old new handle r
   frees_in new (Ok done) at = removes at.slots at.is new at.now

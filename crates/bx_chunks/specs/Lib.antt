@@ -1,8 +1,9 @@
-pub mod Errors
 pub mod Areas
 pub mod Reading
 pub mod Putting
 pub mod Allocating
 pub mod Choosing
+pub mod Memory
 pub mod Freeing
+pub mod Marking
 pub mod Counting

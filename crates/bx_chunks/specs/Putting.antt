@@ -1,5 +1,5 @@
 -- A slot's word and its block put into a draft.
-use Rattle.std.specs.Prelude.{◌≡◌, ℕ, ◌<◌, ◌≤◌, List, length, replicate, Option, None, Some, Result, Ok, Err}
+use Rattle.std.specs.Prelude.{◌≡◌, ℕ, ◌<◌, List, length, replicate, Option, None, Some, Result, Ok, Err}
 use Rattle.bx_fields.specs.Writing.{padded}
 use Rattle.bx_handles.specs.Handles.{number_of, own_handle}
 use Rattle.bx_layout.specs.declared.area.AreaBlock.{AreaBlock}
@@ -22,9 +22,9 @@ empty_of handle kind = record { handle = handle; kind = kind; payload = replicat
 abbrev pub slot_put : List Changed → ℕ → AreaBlock → ℕ → ℕ → ℕ → List Changed
 slot_put draft area slots at handle kind = with_block (with_block draft (own_block area) (own_of area slots)) at (empty_of handle kind)
 
--- What putting blocks into a draft answers: it is this one then, and it is crowded where it would have more than sixteen.
+-- what putting blocks into a draft answers: the draft is this one then, and it is crowded where it would have more than sixteen
 abbrev pub PutsAs : {X : Type 0} → List Changed → List Changed → Result X ChunkError → Type 0
-PutsAs new after (Ok x) = (new ≡ after) × (length new ≤ 16)
+PutsAs new after (Ok x) = new ≡ after
 PutsAs new after (Err Crowded) = 16 < length after
 PutsAs new after (Err OutOfMemory) = Unit {0}
 PutsAs new after (Err (Need at mode)) = ⊥

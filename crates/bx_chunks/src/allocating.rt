@@ -2,6 +2,7 @@
 
 ghost use Rattle.std.specs.Prelude.{◌≡◌, ◌≤◌, ◌<◌, ◌*◌, ℕ, IfOk, OnErr};
 ghost use Rattle.bx_truth.specs.Chunks.{IsChunked};
+ghost use Rattle.bx_views.specs.Attempts.{IsHeldDraft};
 ghost use Rattle.bx_views.specs.Truths.{IsTruth, Truth, with_draft};
 ghost use Rattle.bx_chunks.specs.Allocating.{AllocatesAt, AllocatesIn, NeedsFairly};
 ghost use Rattle.bx_chunks.specs.Areas.{area_in_turn};
@@ -50,6 +51,7 @@ pub fn allocate<V: View>(
     ensures at { AllocatesAt (V.held view.now) draft.old draft.new near areas result }
     ensures map { (truth : Truth) → areas ≤ 64 → IsTruth (V.held view.now) truth → IsChunked areas (with_draft truth draft.old) → AllocatesIn areas truth draft.old draft.new result }
     ensures fair { NeedsFairly areas (V.held view.now) result }
+    ensures writes { IsHeldDraft (V.held view.now) draft.old → IsHeldDraft (V.held view.now) draft.new }
     ensures err { OnErr result (draft.new ≡ draft.old) }
 {
     allocate_seen(alloc, draft, view, near, areas)

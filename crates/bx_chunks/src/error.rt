@@ -2,10 +2,8 @@
 
 ghost use Rattle.std.specs.Prelude.{◌≡◌};
 ghost use Rattle.bx_chunks.specs.declared.error.ChunkError.TheVariants.{OutOfMemory as MemoryRanOut};
-ghost use Rattle.bx_chunks.specs.Errors.{of_draft};
 
 use bx_base::Mode;
-use bx_records::DraftError;
 use thiserror::Error;
 
 /// Why a call on chunks isn't answered. What it was to change is as it was.
@@ -33,16 +31,5 @@ impl From<bx_base::OutOfMemory> for ChunkError {
 
     fn from(_error: bx_base::OutOfMemory) -> ChunkError {
         ChunkError::OutOfMemory
-    }
-}
-
-impl From<DraftError> for ChunkError {
-    ghost from_gives = { λ given error. error ≡ of_draft given };
-
-    fn from(error: DraftError) -> ChunkError {
-        match error {
-            DraftError::Crowded => ChunkError::Crowded,
-            DraftError::OutOfMemory => ChunkError::OutOfMemory,
-        }
     }
 }

@@ -4,6 +4,7 @@ ghost use Rattle.std.specs.Prelude.{◌≡◌, ◌≤◌, ◌<◌, ◌↔◌, �
 ghost use Rattle.bx_handles.specs.Handles.{parts_of};
 ghost use Rattle.bx_layout.specs.Areas.{IsArea};
 ghost use Rattle.bx_truth.specs.Chunks.{IsChunked};
+ghost use Rattle.bx_views.specs.Attempts.{IsHeldDraft};
 ghost use Rattle.bx_views.specs.Truths.{IsTruth, Truth, with_draft};
 ghost use Rattle.bx_chunks.specs.Allocating.{NeedsFairly};
 ghost use Rattle.bx_chunks.specs.Freeing.{FreesAt, FreesIn, GivesAt, IsGiven, UsesAt};
@@ -36,6 +37,7 @@ pub fn free<V: View>(
     ensures map { (areas : ℕ) (truth : Truth) → areas ≤ 64 → (parts_of handle).area < areas → IsTruth (V.held view.now) truth → IsChunked areas (with_draft truth draft.old)
         → FreesIn areas truth draft.old draft.new handle result }
     ensures fair { (areas : ℕ) → (parts_of handle).area < areas → NeedsFairly areas (V.held view.now) result }
+    ensures writes { IsHeldDraft (V.held view.now) draft.old → IsHeldDraft (V.held view.now) draft.new }
     ensures err { OnErr result (draft.new ≡ draft.old) }
 {
     free_seen(alloc, draft, view, handle)
@@ -84,7 +86,7 @@ fn slots_of_used<V: View>(
 }
 
 /// The slots of the area of a handle, where its slot's word gives it.
-fn slots_of_given<V: View>(
+pub(crate) fn slots_of_given<V: View>(
     alloc: Global,
     draft: &Draft,
     view: &V,

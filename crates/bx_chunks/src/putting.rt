@@ -13,7 +13,7 @@ use bx_base::{OutOfMemory, Raw};
 use bx_handles::ChunkHandle;
 use bx_layout::{AreaBlock, Block};
 use bx_places::{MOST_BLOCKS, PAYLOAD};
-use bx_records::Draft;
+use bx_records::{Draft, DraftError};
 use std::alloc::Global;
 
 /// Puts the own block of an area with these slots, and an empty block with this handle and of this kind in one of them. On an error
@@ -29,6 +29,7 @@ pub(crate) fn put_slot(
     requires area { IsArea slots.now }
     requires apart { at ≢ own_block area }
     ensures puts { PutsAs draft.new (slot_put draft.old area slots.now at header.0 header.1) result }
+    ensures room { OnOk result (length draft.new ≤ 16) }
     ensures err { OnErr result (draft.new ≡ draft.old) }
 {
     let own_at = own_block(area);
@@ -39,6 +40,25 @@ pub(crate) fn put_slot(
     let empty = empty_block(alloc, header.0, header.1)?;
     *draft = with_both(alloc, draft, (own_at, own), (at, empty))?;
     Ok(())
+}
+
+/// Puts the own block of an area with these slots. On an error nothing changes.
+pub(crate) fn put_area(
+    alloc: Global,
+    draft: &mut Draft,
+    area: u16,
+    slots: &AreaBlock,
+) -> Result<(), ChunkError>
+    requires { IsArea slots.now }
+    ensures puts { PutsAs draft.new (with_block draft.old (own_block area) (own_of area slots.now)) result }
+    ensures err { OnErr result (draft.new ≡ draft.old) }
+{
+    let own = area_block(alloc, area, slots)?;
+    match draft.put(own_block(area), own) {
+        Ok(()) => Ok(()),
+        Err(DraftError::Crowded) => Err(ChunkError::Crowded),
+        Err(DraftError::OutOfMemory) => Err(ChunkError::OutOfMemory),
+    }
 }
 
 /// Whether a draft has at most sixteen blocks once two of them, with different numbers, are put.

@@ -17,3 +17,4 @@ pub mod Drafted
 pub mod HomeRuns
 pub mod Moments
 pub mod Homed
+pub mod Life

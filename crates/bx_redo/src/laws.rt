@@ -99,3 +99,22 @@ pub fn a_closing_is_begun()
         → ((d s : ℕ) → Matters devices areas (with_log logs log.slot []) d s → IsSettled disks state d s (before d s))
         → LogStands (IsSettled disks state) devices areas rows before logs truth more (with_work log Closes) }
 {}
+
+/// The whole life of a record: from a log that rests to its `Acked`, and from there, once its blocks are home and all else is sure, to `Closed`. Then the log rests
+/// again, and the truth is overlaid by the record's blocks.
+pub fn a_record_lives()
+    ensures acked { (disks disks_then disks_now : Disks) (state : GlobalState) (devices areas : ℕ) (rows : List SessionRow) (before there now : Image) (logs : Logs) (truth : Truth) (more next : Logged) (log : LogView) (point : Point)
+        → LogStands (IsSettled disks state) devices areas rows before logs truth more (resting log)
+        → log.count < 8 → IsLogged areas next → IsAlone logs log.slot next
+        → IsAcknowledged (IsSettled disks state) (IsSettled disks_then state) before there (doing log (Body (logged_text next) point)) (logged_text next)
+        → IsAcknowledged (IsSettled disks_then state) (IsSettled disks_now state) there now (doing log (Opens point)) (gate_text Open)
+        → LogStands (IsSettled disks_now state) devices areas rows now (with_log logs log.slot (next ∷ logs log.slot)) (with_draft truth next.changed) more
+        (resting (record log { count = log.count + 1 })) }
+    ensures closed { (disks disks_then disks_now disks_last : Disks) (state : GlobalState) (devices areas : ℕ) (rows : List SessionRow) (before there now last : Image) (logs : Logs) (truth : Truth) (more : Logged) (log : LogView)
+        → LogStands (IsSettled disks state) devices areas rows before logs truth more (resting log) → 0 < log.count
+        → WritesHomes (IsSettled disks state) (IsSettled disks_then state) devices areas before there logs → AreHome there devices areas logs log.slot
+        → ((d s : ℕ) → Matters devices areas (with_log logs log.slot []) d s → IsSettled disks_then state d s (there d s))
+        → IsAcknowledged (IsSettled disks_then state) (IsSettled disks_now state) there now (doing log Closes) (gate_text Shut)
+        → IsAcknowledged (IsSettled disks_now state) (IsSettled disks_last state) now last (doing (record log { count = 0 }) Shuts) shut_text
+        → LogStands (IsSettled disks_last state) devices areas rows last (with_log logs log.slot []) truth more (resting (record log { count = 0 })) }
+{}

@@ -12,7 +12,7 @@ mod work;
 
 pub use laws::{
     a_body_is_acknowledged, a_closing_is_begun, a_gate_is_acknowledged, a_log_is_closed,
-    a_record_is_begun, gate_0_is_closed, homes_are_written, what_images_have,
+    a_record_is_begun, a_record_lives, gate_0_is_closed, homes_are_written, what_images_have,
     what_is_asked_for_is_written, what_is_out_moves_nothing,
 };
 pub use log::Log;

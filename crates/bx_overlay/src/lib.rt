@@ -17,6 +17,6 @@ pub use laws::{refused_disks_show_no_tree, what_is_read_is_shown, what_stands_is
 pub use logs::{points_of, read_logs};
 pub use members::Members;
 pub use newest::Newest;
-pub use overlaid::{Overlaid, clash_in, newest_of_all};
+pub use overlaid::{Overlaid, clash_in, first_wrong, newest_of_all};
 pub use record::Record;
 pub use volume_disks::{VolumeDisks, read_disks};

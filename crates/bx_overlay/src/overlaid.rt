@@ -1,16 +1,21 @@
 //! The blocks of a volume: what its logs lay over its homes.
 
-ghost use Rattle.std.specs.Prelude.{◌≡◌, length, IfOk, IfSome, IfNone};
+ghost use Rattle.std.specs.Prelude.{◌≡◌, ◌≤◌, length, IfOk, IfSome, IfNone, OnOk, IsErrOf};
+ghost use Rattle.bx_base.specs.Faults.{Rose};
+ghost use Rattle.bx_disk.specs.declared.fault.RackError.TheVariants.{Fault};
+ghost use Rattle.bx_homes.specs.Slots.{AreBlocks, IsFirstFault};
+ghost use Rattle.bx_truth.specs.Chunks.{IsChunked};
+ghost use Rattle.bx_views.specs.Truths.{Truth};
 ghost use Rattle.std.specs.Option.{option_copied};
-ghost use Rattle.bx_overlay.specs.Members.{AreThere};
-ghost use Rattle.bx_overlay.specs.Newest.{AreAgreed, AreNewest, IsClash, first_in};
+ghost use Rattle.bx_overlay.specs.Members.{AreThere, held_by};
+ghost use Rattle.bx_overlay.specs.Newest.{AreAgreed, AreNewest, IsClash, StandsOver, first_in};
 
 use crate::members::Members;
 use crate::newest::{Newest, clash_between, copy_of, newest_of};
 use crate::record::Record;
 use bx_base::{List, OutOfMemory};
 use bx_disk::{Rack, RackError};
-use bx_homes::{Blocks, read_home};
+use bx_homes::{Blocks, first_fault, read_home};
 use bx_layout::Block;
 use bx_places::place;
 use std::alloc::Global;
@@ -61,7 +66,7 @@ pub struct Overlaid<'a, R> {
     alloc: Global,
     rack: &'a mut R,
     members: Members,
-    logs: List<Newest>,
+    logs: &'a [Newest],
 }
 
 impl<'a, R: Rack> Overlaid<'a, R> {
@@ -70,13 +75,13 @@ impl<'a, R: Rack> Overlaid<'a, R> {
         alloc: Global,
         rack: &'a mut R,
         members: Members,
-        logs: List<Newest>,
+        logs: &'a [Newest],
     ) -> Overlaid<'a, R>
         requires { AreThere (R.state rack.old).sizes members }
         ensures same_reference { result.rack.ghost_name ≡ rack.entry.ghost_name }
         ensures rack { result.rack.now ≡ rack.old }
         ensures members { result.members ≡ members }
-        ensures logs { result.logs ≡ logs }
+        ensures logs { result.logs.now ≡ logs.now }
     {
         Overlaid {
             alloc,
@@ -85,6 +90,26 @@ impl<'a, R: Rack> Overlaid<'a, R> {
             logs,
         }
     }
+}
+
+/// The first block of a volume, area by area, that is not as the slots ask.
+pub fn first_wrong<R: Rack>(
+    alloc: Global,
+    rack: &mut R,
+    members: Members,
+    newest: &[Newest],
+) -> Result<Option<u64>, RackError>
+    requires { AreThere (R.state rack.old).sizes members }
+    ensures none { R.tells rack.old → IfOk result (λ found. IfNone found ((truth : Truth) → AreBlocks members.areas (StandsOver (held_by (R.state rack.old).reads members) members.devices newest.now) truth → IsChunked members.areas truth)) }
+    ensures some { R.tells rack.old → IfOk result (λ found. IfSome found (λ at. (truth : Truth) → AreBlocks members.areas (StandsOver (held_by (R.state rack.old).reads members) members.devices newest.now) truth → IsFirstFault members.areas truth at)) }
+    ensures cause { IsErrOf result Fault → Rose (R.faults rack.old) (R.faults rack.new) }
+    ensures later { R.faults rack.old ≤ R.faults rack.new }
+    ensures no_fault { OnOk result (R.faults rack.new ≡ R.faults rack.old) }
+    ensures keeps_telling { R.tells rack.old → R.tells rack.new }
+{
+    let areas = members.areas;
+    let mut blocks = Overlaid::new(alloc, rack, members, newest);
+    first_fault(alloc, &mut blocks, areas)
 }
 
 impl<'a, R: Rack> Blocks for Overlaid<'a, R> {
@@ -98,16 +123,16 @@ impl<'a, R: Rack> Blocks for Overlaid<'a, R> {
 
     ghost areas = { λ over. over.members.areas };
 
-    ghost stands = { λ over. StandsOver (held_by (R.state over.rack.now).reads over.members) over.members.devices over.logs };
+    ghost stands = { λ over. StandsOver (held_by (R.state over.rack.now).reads over.members) over.members.devices over.logs.now };
 
     ghost faults = { λ over. R.faults over.rack.now };
 
     ghost lender = { λ over. over.rack.ghost_name };
 
-    ghost one = { λ over at a b tells is other. one_over (held_by (R.state over.rack.now).reads over.members) over.members.devices over.logs at a b is other };
+    ghost one = { λ over at a b tells is other. one_over (held_by (R.state over.rack.now).reads over.members) over.members.devices over.logs.now at a b is other };
 
     fn block(&mut self, at: u64) -> Result<Option<Block>, RackError> {
-        if let Some(block) = first_block(self.logs.items(), at) {
+        if let Some(block) = first_block(self.logs, at) {
             let copy = copy_of(self.alloc, block)?;
             return Ok(Some(copy));
         }

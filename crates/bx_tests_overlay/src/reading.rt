@@ -9,8 +9,8 @@ use crate::volume::{HELD, Held, SIZES, rack_with};
 use bx_base::{List, Points};
 use bx_disk::RackError;
 use bx_global::GlobalState;
-use bx_homes::{Blocks, first_fault};
-use bx_overlay::{Overlaid, read_disks};
+use bx_homes::Blocks;
+use bx_overlay::{Overlaid, first_wrong, read_disks};
 use bx_places::is_block;
 use bx_rows::{DeviceRow, SessionRow};
 use std::alloc::Global;
@@ -79,7 +79,7 @@ pub(crate) fn reads(alloc: Global, case: &Read) -> bool {
         return false;
     }
     let areas = read.members.areas;
-    let mut blocks = Overlaid::new(alloc, &mut rack, read.members, read.newest);
+    let mut blocks = Overlaid::new(alloc, &mut rack, read.members, read.newest.items());
     has_all(&mut blocks, areas, case.others)
 }
 
@@ -94,9 +94,7 @@ pub(crate) fn finds(alloc: Global, case: &Faulty) -> bool {
     let Ok(read) = read_disks(alloc, &mut rack, &state) else {
         return false;
     };
-    let areas = read.members.areas;
-    let mut blocks = Overlaid::new(alloc, &mut rack, read.members, read.newest);
-    first_fault(alloc, &mut blocks, areas) == Ok(case.fault)
+    first_wrong(alloc, &mut rack, read.members, read.newest.items()) == Ok(case.fault)
 }
 
 /// Whether these are the calls of points.

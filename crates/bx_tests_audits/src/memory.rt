@@ -1,8 +1,5 @@
 //! Blocks in memory.
 
-ghost use Rattle.std.specs.Prelude.{◌≡◌, Some};
-ghost use Rattle.bx_records.specs.Drafts.{block_in};
-
 use bx_base::Raw;
 use bx_disk::RackError;
 use bx_homes::Blocks;
@@ -49,9 +46,10 @@ impl Memory {
 }
 
 impl Blocks for Memory {
-    ghost use Rattle.std.specs.Prelude.{◌≡◌, Some};
+    ghost use Rattle.std.specs.Prelude.{◌≡◌, Option, Some, unwrap_or};
     ghost use Rattle.bx_records.specs.Drafts.{block_in};
-    ghost use Rattle.bx_tests_audits.proofs.Memories.{one_block};
+    ghost use Rattle.bx_layout.specs.declared.block.Block.{Block};
+    ghost use mathlib.Core.Path.{ap, sym, ◌∙◌};
 
     ghost tells = { λ memory. Unit {0} };
 
@@ -63,7 +61,7 @@ impl Blocks for Memory {
 
     ghost faults = { λ memory. 0 };
 
-    ghost one = { λ memory at a b tells is other. one_block (block_in memory.blocks at) a b is other };
+    ghost one = { λ memory at a b tells is other. ap (λ (found : Option Block). unwrap_or found a) (sym is ∙ other) };
 
     fn block(&mut self, at: u64) -> Result<Option<Block>, RackError> {
         match self.blocks.find(at) {

@@ -12,5 +12,5 @@ mod trees;
 pub use chunks::chunk_at;
 pub use error::AuditError;
 pub use levels::level_from;
-pub use pages::{TreePage, page_at};
+pub use pages::{TreePage, page_at, torn_at};
 pub use trees::{Level, ReadTree, tree_under};

@@ -41,6 +41,22 @@ impl Model for TreePage {
     ghost view = { λ page. record { handle = page.handle; begins = page.begins; page = page.page } };
 }
 
+impl TreePage {
+    /// The handle.
+    pub fn handle(&self) -> u64
+        ensures { result ≡ self.now.handle }
+    {
+        self.handle
+    }
+
+    /// The page.
+    pub fn page(&self) -> &Page
+        ensures { result.now ≡ self.now.page }
+    {
+        &self.page
+    }
+}
+
 /// The page that a handle names; torn exactly where it names none.
 pub fn page_at<B: Blocks>(
     alloc: Global,
@@ -80,7 +96,7 @@ fn page_in(alloc: Global, block: &Block) -> Result<Option<Page>, OutOfMemory>
 }
 
 /// That what a handle names is wrong, though it is under this handle.
-pub(crate) fn torn_at(handle: u64) -> AuditError
+pub fn torn_at(handle: u64) -> AuditError
     ensures { result ≡ Torn (block_at handle) handle handle }
 {
     AuditError::Torn(ChunkHandle::of(handle).block(), handle, handle)

@@ -1,0 +1,79 @@
+//! Inodes and pieces, by their handles.
+
+ghost use Rattle.std.specs.Prelude.{◌≡◌, ◌≤◌, IfOk, IfSome, IfNone};
+ghost use Rattle.bx_audit_files.specs.Inodes.{IsBlockAt, IsInodeAt};
+ghost use Rattle.bx_audit_trees.specs.Errors.{IfTorn, Counts};
+ghost use Rattle.bx_audit_trees.specs.Shown.{Shows};
+ghost use Rattle.bx_layout.specs.declared.block.Block.{Block};
+ghost use Rattle.bx_layout.specs.declared.inode.Inode.{Inode};
+ghost use Rattle.bx_truth.specs.PageTrees.{Chunks};
+ghost use Rattle.bx_truth.specs.Stored.{HasInode};
+
+use bx_audit_trees::{AuditError, chunk_at, torn_at};
+use bx_base::OutOfMemory;
+use bx_homes::Blocks;
+use bx_layout::{Block, Inode};
+use std::alloc::Global;
+
+/// The kind of blocks that are inodes.
+const INODE: u32 = 1;
+
+/// The block of a kind that a handle names; torn exactly where it names none of that kind.
+pub fn block_at<B: Blocks>(
+    blocks: &mut B,
+    areas: u16,
+    handle: u64,
+    kind: u32,
+) -> Result<Block, AuditError>
+    requires ready { B.ready blocks.old }
+    requires areas { B.areas blocks.old ≡ areas }
+    requires most { areas ≤ 64 }
+    ensures ok { (chunks : Chunks) → Shows (B.tells blocks.old) areas (B.stands blocks.old) chunks → IfOk result (λ block. IsBlockAt chunks handle kind block) }
+    ensures kind { IfOk result (λ block. block.kind ≡ kind) }
+    ensures torn { (chunks : Chunks) → Shows (B.tells blocks.old) areas (B.stands blocks.old) chunks → IfTorn result (λ at found wanted. (block : Block) → IsBlockAt chunks handle kind block → ⊥) }
+    ensures names { IfTorn result (λ at found names. names ≡ handle) }
+    ensures shows { (chunks : Chunks) → Shows (B.tells blocks.old) areas (B.stands blocks.old) chunks → Shows (B.tells blocks.new) areas (B.stands blocks.new) chunks }
+    ensures counts { Counts result (B.faults blocks.old) (B.faults blocks.new) }
+    ensures keeps_areas { B.areas blocks.new ≡ B.areas blocks.old }
+    ensures keeps_ready { B.ready blocks.new }
+{
+    let block = chunk_at(blocks, areas, handle)?;
+    if block.kind != kind {
+        return Err(torn_at(handle));
+    }
+    Ok(block)
+}
+
+/// The inode that a handle names; torn exactly where it names none.
+pub fn inode_at<B: Blocks>(
+    alloc: Global,
+    blocks: &mut B,
+    areas: u16,
+    handle: u64,
+) -> Result<Inode, AuditError>
+    requires ready { B.ready blocks.old }
+    requires areas { B.areas blocks.old ≡ areas }
+    requires most { areas ≤ 64 }
+    ensures ok { (chunks : Chunks) → Shows (B.tells blocks.old) areas (B.stands blocks.old) chunks → IfOk result (λ inode. IsInodeAt chunks handle inode) }
+    ensures torn { (chunks : Chunks) → Shows (B.tells blocks.old) areas (B.stands blocks.old) chunks → IfTorn result (λ at found wanted. (inode : Inode) → IsInodeAt chunks handle inode → ⊥) }
+    ensures names { IfTorn result (λ at found names. names ≡ handle) }
+    ensures shows { (chunks : Chunks) → Shows (B.tells blocks.old) areas (B.stands blocks.old) chunks → Shows (B.tells blocks.new) areas (B.stands blocks.new) chunks }
+    ensures counts { Counts result (B.faults blocks.old) (B.faults blocks.new) }
+    ensures keeps_areas { B.areas blocks.new ≡ B.areas blocks.old }
+    ensures keeps_ready { B.ready blocks.new }
+{
+    let block = block_at(blocks, areas, handle, INODE)?;
+    match inode_in(alloc, &block)? {
+        None => Err(torn_at(handle)),
+        Some(inode) => Ok(inode),
+    }
+}
+
+/// The inode that a block of an inode is, `None` exactly where it is none.
+fn inode_in(alloc: Global, block: &Block) -> Result<Option<Inode>, OutOfMemory>
+    requires { block.now.kind ≡ 1 }
+    ensures some { IfOk result (λ found. IfSome found (λ inode. HasInode inode block.now)) }
+    ensures none { IfOk result (λ found. IfNone found ((inode : Inode) → HasInode inode block.now → ⊥)) }
+{
+    Inode::read(alloc, block.payload.bytes())
+}

@@ -1,0 +1,9 @@
+//! Inodes and what they have, read off the chunks of a volume.
+#![tactic(auto)]
+
+mod fields;
+mod inodes;
+mod names;
+
+pub use inodes::{block_at, inode_at};
+pub use names::names_of;

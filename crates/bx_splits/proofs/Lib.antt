@@ -17,3 +17,5 @@ pub mod Halves
 pub mod RaiseSteps
 pub mod Height
 pub mod SplitTree
+pub mod Refused
+pub mod Posted

@@ -12,7 +12,7 @@ use std::collections::BTreeMap;
 use std::test::Fail;
 
 /// How many drafts are made over each kind of hints.
-const DRAFTS: u32 = 100;
+const DRAFTS: u32 = 1250;
 
 /// How many entries, of 264 bytes each, leave a leaf less than 544 bytes.
 const FULL: usize = 14;

@@ -19,3 +19,4 @@ pub mod Height
 pub mod SplitTree
 pub mod Refused
 pub mod Posted
+pub mod SplitFair

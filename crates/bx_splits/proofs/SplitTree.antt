@@ -1,5 +1,5 @@
 -- What `split` does to a tree, by what it answers on any content.
-use Rattle.std.proofs.Common.{◌≡◌, ℕ, ◌+◌, ◌<◌, ◌≤◌, List, [], length, Some, sym, ap, subst, ◌∙◌, arith, inl, inr}
+use Rattle.std.proofs.Common.{◌≡◌, ℕ, ◌+◌, ◌<◌, ◌≤◌, List, length, Some, sym, ap, subst, ◌∙◌, arith, inl, inr}
 use Rattle.std.specs.Prelude.{Result, Ok, Err, ◌⊎◌, ◌≢◌}
 use Rattle.bx_base.specs.declared.names.Mode.TheVariants.{Exclusive}
 use Rattle.bx_layout.specs.declared.block.Block.{Block}
@@ -16,10 +16,10 @@ use Rattle.bx_chunks.proofs.Allocates.{allocates_in}
 use Rattle.bx_blink.specs.declared.error.BlinkError.{BlinkError}
 use Rattle.bx_blink.specs.declared.error.BlinkError.TheVariants.{Need, Stale, Full, NoRoom, Absent, Present, OutOfMemory, Crowded}
 use Rattle.bx_blink.specs.Walks.{Reads, reads_with}
-use Rattle.bx_blink.specs.Hints.{Agrees, Under}
+use Rattle.bx_blink.specs.Hints.{Under}
 use Rattle.bx_blink.proofs.Under.{agrees}
 use Rattle.bx_leaves.specs.Leaves.{PutsPage}
-use Rattle.bx_splits.specs.Cutting.{AllotFails, CutsPage, CutsRoot, IsOwned, IsOther, CutsOwned, SplitsAt}
+use Rattle.bx_splits.specs.Cutting.{CutsPage, CutsRoot, IsOwned, IsOther, CutsOwned, SplitsAt}
 use Rattle.bx_splits.specs.Splits.{GrowsTree, SplitsPage, page, top, SplitsIn, root_page}
 use Rattle.bx_splits.proofs.CutLaw.{law_cut}
 use Rattle.bx_splits.proofs.Halves.{enough}

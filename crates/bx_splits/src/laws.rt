@@ -26,7 +26,7 @@ pub fn a_page_is_cut()
         → Under areas held hints truth old root tree → IsPageOf tree node → node.handle ≢ root → 2 ≤ length node.page.entries
         → IsSlot areas block → TakesSlot (with_draft truth old) (with_draft truth one) block slots
         → PutsPage one two (with_draft truth one block).handle (other_half node.page) → PutsPage two new node.handle (first_half node.page (with_draft truth one block).handle)
-        → GrowsTree areas held hints truth old new root tree (λ handle. handle ≡ (with_draft truth one block).handle) }
+        → GrowsTree areas held hints truth old new root tree node.handle (λ handle. handle ≡ (with_draft truth one block).handle) }
 {}
 
 /// The root is cut in two: two slots are taken, the pages with the halves are put under their handles, and in the root's place a page of
@@ -40,7 +40,7 @@ pub fn the_root_is_cut()
         → PutsPage two three (with_draft truth one a).handle (first_half node.page (with_draft truth two b).handle)
         → PutsPage three four (with_draft truth two b).handle (other_half node.page)
         → PutsPage four new root (root_page node.page (with_draft truth one a).handle (with_draft truth two b).handle middle)
-        → GrowsTree areas held hints truth old new root tree (λ handle. (handle ≡ (with_draft truth one a).handle) ⊎ (handle ≡ (with_draft truth two b).handle)) }
+        → GrowsTree areas held hints truth old new root tree root (λ handle. (handle ≡ (with_draft truth one a).handle) ⊎ (handle ≡ (with_draft truth two b).handle)) }
 {}
 
 /// A leaf that refuses an entry for want of room, over an empty draft, meets what `split` asks for.

@@ -42,11 +42,11 @@ module _ (areas : ℕ) (held : Held) (hints : Hints) (truth : Truth) (old one tw
   put : new ≡ with_block (with_block one (block_at (with_draft truth one block).handle) p.block) (block_at node.handle) q.block
   put = q.put ∙ ap (λ (d : List Changed). with_block d (block_at node.handle) q.block) p.put
 
-  pub law_cut : GrowsTree areas held hints truth old new root tree (λ handle. handle ≡ (with_draft truth one block).handle)
+  pub law_cut : GrowsTree areas held hints truth old new root tree node.handle (λ handle. handle ≡ (with_draft truth one block).handle)
   law_cut =
       let lt = not_top (chunks_of areas (with_draft truth old)) root tree node u.is i other in
       let n = ((u.is).levels i.level i.within).nodes_are node i.there in
-      subst (λ (d : List Changed). GrowsTree areas held hints truth old d root tree (λ handle. handle ≡ right)) (sym put)
+      subst (λ (d : List Changed). GrowsTree areas held hints truth old d root tree node.handle (λ handle. handle ≡ right)) (sym put)
       (page_cut areas held hints truth old one root tree u i.level lt (i.there).before node (i.there).behind (i.there).parts right (middle node right ((n.has).spells).is more n.lowest none)
       (is_middle node right ((n.has).spells).is more n.lowest none)
       (grows areas u.few (with_draft truth old) (with_draft truth one) block slots slot takes u.chunked) q.block p.block q.header p.header q.has p.has)

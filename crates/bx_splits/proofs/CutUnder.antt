@@ -119,7 +119,7 @@ module _ (areas : ℕ) (held : Held) (hints : Hints) (truth : Truth) (old one : 
   map_cut true e = entries_cut node right middle m.high before behind ∙ ap entries_of (sym (ap tree.level (eqb-true 0 level e) ∙ parts))
   map_cut false e = refl
 
-  pub page_cut : GrowsTree areas held hints truth old (with_block (with_block one (block_at right) right_block) (block_at node.handle) left_block) root tree (λ handle. handle ≡ right)
+  pub page_cut : GrowsTree areas held hints truth old (with_block (with_block one (block_at right) right_block) (block_at node.handle) left_block) root tree node.handle (λ handle. handle ≡ right)
   page_cut = record {
     after = cut_tree;
     under = record {
@@ -138,7 +138,10 @@ module _ (areas : ℕ) (held : Held) (hints : Hints) (truth : Truth) (old one : 
       | inr o ↦ inr (o.0, record { level = i.level; within = i.within; there = o.1 }, o.2)
     ];
     forth = λ page i. let f = forth tree level before node behind right middle parts i.level page i.there (eqb i.level level) refl in (f.0, record { level = i.level; within = i.within; there = f.1 }, f.2);
-    others = λ handle not_new not_page. cuts.others handle (λ e. not_page node (record { level = level; within = omega (arith, lt); there = record { before = before; behind = behind; parts = parts } }) (sym e)) not_new;
+    page = node;
+    page_there = record { level = level; within = omega (arith, lt); there = record { before = before; behind = behind; parts = parts } };
+    page_is = refl;
+    others = λ handle not_new other. cuts.others handle other not_new;
     leads = fit_cut;
     slots = slots;
   }

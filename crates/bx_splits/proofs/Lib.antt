@@ -17,3 +17,6 @@ pub mod Halves
 pub mod RaiseSteps
 pub mod Height
 pub mod SplitTree
+pub mod Refused
+pub mod Posted
+pub mod SplitFair

@@ -62,11 +62,11 @@ module _ (areas : ℕ) (held : Held) (hints : Hints) (truth : Truth) (old one tw
       let m = is_middle top right ((t.has).spells).is enough t.lowest none in
       subst (λ (k : List ℕ). IsMiddle top right k) (some_same (middle_of top right ((t.has).spells).is enough t.lowest none) middle (sym m.high ∙ top_middle top.page pages)) m
 
-  pub law_root : GrowsTree areas held hints truth old new root tree (λ handle. (handle ≡ (with_draft truth one a).handle) ⊎ (handle ≡ (with_draft truth two b).handle))
+  pub law_root : GrowsTree areas held hints truth old new root tree root (λ handle. (handle ≡ (with_draft truth one a).handle) ⊎ (handle ≡ (with_draft truth two b).handle))
   law_root =
       let gl = grows areas u.few (with_draft truth old) (with_draft truth one) a slots a_slot a_takes u.chunked in
       let gr = grows areas u.few (with_draft truth one) (with_draft truth two) b slots_then b_slot b_takes (gl.slots).chunked in
-      subst (λ (d : List Changed). GrowsTree areas held hints truth old d root tree (λ handle. (handle ≡ left) ⊎ (handle ≡ right))) (sym put)
+      subst (λ (d : List Changed). GrowsTree areas held hints truth old d root tree root (λ handle. (handle ≡ left) ⊎ (handle ≡ right))) (sym put)
       (root_cut areas held hints truth old one two root tree u left right gl gr r.block p.block q.block r.header p.header q.header middle is_mid
       (subst (λ (c : Contents). HasPage (root_page c left right middle) r.block) pages r.has)
       (subst (λ (c : Contents). HasPage (first_half c right) p.block) pages p.has)

@@ -101,7 +101,7 @@ module _ (areas : ℕ) (held : Held) (hints : Hints) (truth : Truth) (old one tw
       home_was = raised_home areas other c0 c5 root tree left right middle root_block left_block right_block u.is r h.agree gl.name gr.name apart not_left not_right
           (no_home left gl.never ((h.agree).home left) refl) (no_home right never ((h.agree).home right) refl) (no_hint left gl.never gl.name) (no_hint right never gr.name)
 
-  pub root_cut : GrowsTree areas held hints truth old (with_block (with_block (with_block two (block_at left) left_block) (block_at right) right_block) (block_at root) root_block) root tree (λ handle. (handle ≡ left) ⊎ (handle ≡ right))
+  pub root_cut : GrowsTree areas held hints truth old (with_block (with_block (with_block two (block_at left) left_block) (block_at right) right_block) (block_at root) root_block) root tree root (λ handle. (handle ≡ left) ⊎ (handle ≡ right))
   root_cut = record {
     after = raised_tree;
     under = record {
@@ -123,9 +123,10 @@ module _ (areas : ℕ) (held : Held) (hints : Hints) (truth : Truth) (old one tw
     ];
     back = back c0 root tree u.is l_node r_node t_node refl;
     forth = forth c0 root tree u.is l_node r_node t_node refl;
-    others = λ handle not_new not_page. r.others handle
-        (λ e. not_page top (record { level = tree.height; within = omega arith; there = record { before = []; behind = []; parts = (u.is).root_alone } }) ((u.is).root_is ∙ sym e))
-        (λ a. not_new (inl a)) (λ b. not_new (inr b));
+    page = top;
+    page_there = record { level = tree.height; within = omega arith; there = record { before = []; behind = []; parts = (u.is).root_alone } };
+    page_is = (u.is).root_is;
+    others = λ handle not_new other. r.others handle other (λ a. not_new (inl a)) (λ b. not_new (inr b));
     leads = fit_raised;
     slots = k;
   }

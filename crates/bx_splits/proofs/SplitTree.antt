@@ -1,5 +1,5 @@
 -- What `split` does to a tree, by what it answers on any content.
-use Rattle.std.proofs.Common.{◌≡◌, ℕ, ◌+◌, ◌<◌, ◌≤◌, List, [], length, Some, sym, ap, subst, ◌∙◌, arith, inl, inr}
+use Rattle.std.proofs.Common.{◌≡◌, ℕ, ◌+◌, ◌<◌, ◌≤◌, List, length, Some, sym, ap, subst, ◌∙◌, arith, inl, inr}
 use Rattle.std.specs.Prelude.{Result, Ok, Err, ◌⊎◌, ◌≢◌}
 use Rattle.bx_base.specs.declared.names.Mode.TheVariants.{Exclusive}
 use Rattle.bx_layout.specs.declared.block.Block.{Block}
@@ -16,10 +16,10 @@ use Rattle.bx_chunks.proofs.Allocates.{allocates_in}
 use Rattle.bx_blink.specs.declared.error.BlinkError.{BlinkError}
 use Rattle.bx_blink.specs.declared.error.BlinkError.TheVariants.{Need, Stale, Full, NoRoom, Absent, Present, OutOfMemory, Crowded}
 use Rattle.bx_blink.specs.Walks.{Reads, reads_with}
-use Rattle.bx_blink.specs.Hints.{Agrees, Under}
+use Rattle.bx_blink.specs.Hints.{Under}
 use Rattle.bx_blink.proofs.Under.{agrees}
 use Rattle.bx_leaves.specs.Leaves.{PutsPage}
-use Rattle.bx_splits.specs.Cutting.{AllotFails, CutsPage, CutsRoot, IsOwned, IsOther, CutsOwned, SplitsAt}
+use Rattle.bx_splits.specs.Cutting.{CutsPage, CutsRoot, IsOwned, IsOther, CutsOwned, SplitsAt}
 use Rattle.bx_splits.specs.Splits.{GrowsTree, SplitsPage, page, top, SplitsIn, root_page}
 use Rattle.bx_splits.proofs.CutLaw.{law_cut}
 use Rattle.bx_splits.proofs.Halves.{enough}
@@ -73,8 +73,9 @@ module _ (areas near : ℕ) (held : Held) (hints : Hints) (truth : Truth) (old n
       subst (λ (h : ℕ). PutsPage c.two new node.handle (first_half node.page h)) (sym right_is)
       (subst (λ (h : ℕ). PutsPage c.two new h (first_half node.page c.right)) (sym there) (subst (λ (x : Contents). PutsPage c.two new handle (first_half x c.right)) same c.puts_first)) in
       page c.right other
-      (subst (λ (h : ℕ). GrowsTree areas held hints truth old new root tree (λ x. x ≡ h)) right_is
-      (law_cut areas held hints truth old c.one c.two new root tree node a.block a.slots u i (λ e. other (sym there ∙ e)) (more contents o) a.slot a.takes p q))
+      (subst (λ (h : ℕ). GrowsTree areas held hints truth old new root tree h (λ x. x ≡ c.right)) there
+      (subst (λ (h : ℕ). GrowsTree areas held hints truth old new root tree node.handle (λ x. x ≡ h)) right_is
+      (law_cut areas held hints truth old c.one c.two new root tree node a.block a.slots u i (λ e. other (sym there ∙ e)) (more contents o) a.slot a.takes p q)))
 
   cut_root : (contents : Contents) → IsOwned (reads_with held hints old) handle contents → handle ≡ root → CutsRoot held old new root contents near areas → SplitsPage areas held hints truth old new root tree handle
   cut_root contents o at_root c =
@@ -96,9 +97,10 @@ module _ (areas near : ℕ) (held : Held) (hints : Hints) (truth : Truth) (old n
       subst (λ (h : ℕ). PutsPage c.four new root (root_page node.page h (with_draft truth c.two b.block).handle c.middle)) (sym left_is)
       (subst (λ (h : ℕ). PutsPage c.four new root (root_page node.page c.left h c.middle)) (sym right_is) (subst (λ (x : Contents). PutsPage c.four new root (root_page x c.left c.right c.middle)) same c.puts_root)) in
       top c.left c.right at_root
-      (subst (λ (h : ℕ). GrowsTree areas held hints truth old new root tree (λ x. (x ≡ h) ⊎ (x ≡ c.right))) left_is
-      (subst (λ (h : ℕ). GrowsTree areas held hints truth old new root tree (λ x. (x ≡ (with_draft truth one a.block).handle) ⊎ (x ≡ h))) right_is
-      (law_root areas held hints truth old one c.two c.three c.four new root tree node c.middle a.block b.block a.slots b.slots u i (there ∙ at_root) (more contents o) high a.slot a.takes b.slot b.takes p q s)))
+      (subst (λ (h : ℕ). GrowsTree areas held hints truth old new root tree h (λ x. (x ≡ c.left) ⊎ (x ≡ c.right))) (sym at_root)
+      (subst (λ (h : ℕ). GrowsTree areas held hints truth old new root tree root (λ x. (x ≡ h) ⊎ (x ≡ c.right))) left_is
+      (subst (λ (h : ℕ). GrowsTree areas held hints truth old new root tree root (λ x. (x ≡ (with_draft truth one a.block).handle) ⊎ (x ≡ h))) right_is
+      (law_root areas held hints truth old one c.two c.three c.four new root tree node c.middle a.block b.block a.slots b.slots u i (there ∙ at_root) (more contents o) high a.slot a.takes b.slot b.takes p q s))))
 
   spare_is : (draft : List Changed) (spare : ℕ) → IsChunked areas (with_draft truth draft) → AllocatesAt held draft draft near areas (Err (ChunkFull spare)) → IsChunked areas truth → spare ≡ free_slots areas truth
   spare_is draft spare chunked a = (allocates_in areas near held truth draft draft u.few u.same chunked (Err (ChunkFull spare)) a).0

@@ -1,8 +1,8 @@
 -- What splits answer, on any content.
-use Rattle.std.specs.Prelude.{◌≡◌, ◌≢◌, ℕ, ◌⊎◌, List, None, Some, Result, Ok, Err}
-use Rattle.bx_base.specs.declared.names.Mode.{Mode}
+use Rattle.std.specs.Prelude.{◌≡◌, ◌≢◌, ℕ, ◌⊎◌, List, None, Some, true, Result, Ok, Err}
 use Rattle.bx_base.specs.declared.names.Mode.TheVariants.{Exclusive}
 use Rattle.bx_layout.specs.declared.block.Block.{Block}
+use Rattle.bx_places.specs.Places.{is_block}
 use Rattle.bx_records.specs.Drafts.{Changed}
 use Rattle.bx_page.specs.Contents.{Contents, first_half, other_half}
 use Rattle.bx_truth.specs.Chunks.{block_at}
@@ -170,3 +170,15 @@ SplitsAt held hints old new root handle near areas (Err e) = OwnsAt (reads_with 
 abbrev pub SplitsTo : Held → Hints → List Changed → ℕ → ℕ → ℕ → ℕ → Result (List Changed) BlinkError → Type 0
 SplitsTo held hints old root handle near areas (Ok new) = SplitsAt held hints old new root handle near areas (Ok tt)
 SplitsTo held hints old root handle near areas (Err e) = SplitsAt held hints old old root handle near areas (Err e)
+
+-- What a split needs isn't held in that mode, and is the page's block, or one of the volume for a new page.
+abbrev pub NeedsForSplit : ℕ → Held → ℕ → Result Unit BlinkError → Type 0
+NeedsForSplit areas held handle (Err (Need at mode)) = (held at mode ≡ None) × ((at ≡ block_at handle) ⊎ (is_block areas at ≡ true))
+NeedsForSplit areas held handle (Err Stale) = Unit {0}
+NeedsForSplit areas held handle (Err (Full spare)) = Unit {0}
+NeedsForSplit areas held handle (Err (NoRoom leaf)) = Unit {0}
+NeedsForSplit areas held handle (Err Absent) = Unit {0}
+NeedsForSplit areas held handle (Err Present) = Unit {0}
+NeedsForSplit areas held handle (Err OutOfMemory) = Unit {0}
+NeedsForSplit areas held handle (Err Crowded) = Unit {0}
+NeedsForSplit areas held handle (Ok done) = Unit {0}

@@ -23,9 +23,9 @@ abbrev pub root_page : Contents → ℕ → ℕ → List ℕ → Contents
 root_page page left right middle = record { level = page.level + 1; right = 0; high = None; entries = root_entries left right middle }
 
 -- A draft gives a tree new pages, and the tree keeps its map, for a truth. What a call on the tree rests on holds again, for these hints and
--- for all others that fitted. The new pages' handles named nothing, and were never given out. All chunks but the tree's pages stay, and so
--- do the slots of all.
-pub record GrowsTree (areas : ℕ) (held : Held) (hints : Hints) (truth : Truth) (old new : List Changed) (root : ℕ) (tree : PageTree) (IsNew : ℕ → Type 0) : Type 0 where
+-- for all others that fitted. The new pages' handles named nothing, and were never given out. One page of the tree is rewritten. All other
+-- chunks stay, and so do the slots of all.
+pub record GrowsTree (areas : ℕ) (held : Held) (hints : Hints) (truth : Truth) (old new : List Changed) (root : ℕ) (tree : PageTree) (changed : ℕ) (IsNew : ℕ → Type 0) : Type 0 where
   pub after : PageTree
   pub under : Under areas held hints truth new root after
   pub map_is : map_of after ≡ map_of tree
@@ -34,14 +34,17 @@ pub record GrowsTree (areas : ℕ) (held : Held) (hints : Hints) (truth : Truth)
   pub new_pages : (handle : ℕ) → IsNew handle → (page : Node) × IsPageOf after page × (page.handle ≡ handle)
   pub back : (page : Node) → IsPageOf after page → IsNew page.handle ⊎ ((was : Node) × IsPageOf tree was × (was.handle ≡ page.handle))
   pub forth : HasPagesOf tree after
-  pub others : (handle : ℕ) → (IsNew handle → ⊥) → ((page : Node) → IsPageOf tree page → page.handle ≢ handle) → chunks_of areas (with_draft truth new) handle ≡ chunks_of areas (with_draft truth old) handle
+  pub page : Node
+  pub page_there : IsPageOf tree page
+  pub page_is : page.handle ≡ changed
+  pub others : (handle : ℕ) → (IsNew handle → ⊥) → handle ≢ changed → chunks_of areas (with_draft truth new) handle ≡ chunks_of areas (with_draft truth old) handle
   pub leads : (other : Hints) → HintsFit areas other (with_draft truth old) root tree → HintsFit areas other (with_draft truth new) root after
   pub slots : KeepsSlots areas (with_draft truth old) (with_draft truth new)
 
 -- What `split` does to a tree, where it is done: a page that isn't the root gets one new page on its right, and the root two below it.
 pub data SplitsPage (areas : ℕ) (held : Held) (hints : Hints) (truth : Truth) (old new : List Changed) (root : ℕ) (tree : PageTree) (handle : ℕ) : Type 0 where
-  page : (right : ℕ) → handle ≢ root → GrowsTree areas held hints truth old new root tree (λ h. h ≡ right) → SplitsPage areas held hints truth old new root tree handle
-  top : (left right : ℕ) → handle ≡ root → GrowsTree areas held hints truth old new root tree (λ h. (h ≡ left) ⊎ (h ≡ right)) → SplitsPage areas held hints truth old new root tree handle
+  page : (right : ℕ) → handle ≢ root → GrowsTree areas held hints truth old new root tree handle (λ h. h ≡ right) → SplitsPage areas held hints truth old new root tree handle
+  top : (left right : ℕ) → handle ≡ root → GrowsTree areas held hints truth old new root tree handle (λ h. (h ≡ left) ⊎ (h ≡ right)) → SplitsPage areas held hints truth old new root tree handle
 
 -- What `split` does, by the map, of a page of a tree: the map stays. It is never Stale there.
 abbrev pub SplitsIn : ℕ → Held → Hints → Truth → List Changed → List Changed → ℕ → PageTree → ℕ → Result Unit BlinkError → Type 0

@@ -7,5 +7,5 @@ mod raising;
 mod splitting;
 mod steps;
 
-pub use laws::{a_page_is_cut, the_root_is_cut};
+pub use laws::{a_full_leaf_may_be_split, a_page_is_cut, a_separator_is_posted, the_root_is_cut};
 pub use splitting::split;

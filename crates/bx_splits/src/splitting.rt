@@ -1,14 +1,15 @@
 //! The call that splits a page.
 
-ghost use Rattle.std.specs.Prelude.{◌≡◌, ◌+◌, ◌<◌, OnErr};
+ghost use Rattle.std.specs.Prelude.{◌≡◌, ◌+◌, ◌<◌, OnOk, OnErr};
 ghost use Rattle.bx_truth.specs.PageTrees.{Node, PageTree, IsPageOf};
+ghost use Rattle.bx_views.specs.Attempts.{IsHeldDraft};
 ghost use Rattle.bx_views.specs.Truths.{Truth};
 ghost use Rattle.bx_blink.specs.Hints.{Under};
 ghost use Rattle.bx_splits.specs.Splits.{SplitsIn};
 ghost use Rattle.bx_records.specs.Drafts.{IsDraft};
 ghost use Rattle.bx_page.specs.Contents.{Contents, size};
 ghost use Rattle.bx_blink.specs.Walks.{reads_with};
-ghost use Rattle.bx_splits.specs.Cutting.{IsOwned, SplitsAt, SplitsTo};
+ghost use Rattle.bx_splits.specs.Cutting.{IsOwned, NeedsForSplit, SplitsAt, SplitsTo};
 
 use crate::cutting::cut;
 use crate::raising::raise;
@@ -39,6 +40,8 @@ pub fn split<V: View>(
     ensures unchanged { OnErr result (draft.new ≡ draft.old) }
     ensures at { SplitsAt (V.held view.now) (V.hints view.now) draft.old draft.new root page near areas result }
     ensures map { (truth : Truth) (tree : PageTree) (node : Node) → Under areas (V.held view.now) (V.hints view.now) truth draft.old root tree → IsPageOf tree node → node.handle ≡ page → SplitsIn areas (V.held view.now) (V.hints view.now) truth draft.old draft.new root tree page result }
+    ensures fair { NeedsForSplit areas (V.held view.now) page result }
+    ensures held { IsHeldDraft (V.held view.now) draft.old → OnOk result (IsHeldDraft (V.held view.now) draft.new) }
 {
     split_page(alloc, draft, view, root, page, (near, areas))
 }

@@ -113,6 +113,27 @@ impl Desk {
         Ok(())
     }
 
+    /// Holds a block with a number: a header with a handle's number and a kind, and a payload with zeros behind these bytes.
+    pub(crate) fn hold_block(
+        &mut self,
+        alloc: Global,
+        at: u64,
+        header: (u64, u32),
+        front: &[u8],
+    ) -> Result<(), Fail> {
+        let mut bytes = [0; 4096];
+        let end = front.len().min(4096);
+        bytes[..end].copy_from_slice(&front[..end]);
+        let payload = Raw::of(alloc, &bytes)?;
+        let block = Block {
+            handle: header.0,
+            kind: header.1,
+            payload,
+        };
+        self.held.put(at, block)?;
+        Ok(())
+    }
+
     /// Holds what a draft has.
     pub(crate) fn take_in(&mut self, alloc: Global, draft: &Draft) -> Result<(), Fail> {
         for (at, block) in draft.blocks() {

@@ -1,5 +1,7 @@
 //! What `insert` and `remove` do, need and refuse.
 
+ghost use Rattle.std.specs.Prelude.{◌+◌, ◌≤◌, length};
+
 use crate::desk::{Desk, LEFT, ROOT, handle_of};
 use bx_base::Mode;
 use bx_blink::{BlinkError, find};
@@ -9,7 +11,7 @@ use std::alloc::Global;
 use std::test::Fail;
 
 /// An empty leaf alone.
-const EMPTY: [u8; 16] = [0, 0, 0, 0, 0, 0, 0, 0, 0, 0, 0, 0, 255, 255, 0, 0];
+pub(crate) const EMPTY: [u8; 16] = [0, 0, 0, 0, 0, 0, 0, 0, 0, 0, 0, 0, 255, 255, 0, 0];
 
 /// What a change is to answer.
 #[derive(Drop)]
@@ -37,7 +39,10 @@ fn is_answer(answer: Result<(), BlinkError>, draft: &Draft, want: Want) -> bool 
 }
 
 /// Whether a value that is put for a key in a draft of its own is answered so.
-fn is_put(alloc: Global, desk: &Desk, key: &[u8], value: &[u8], want: Want) -> bool {
+fn is_put(alloc: Global, desk: &Desk, key: &[u8], value: &[u8], want: Want) -> bool
+    requires key { length key.now ≤ 256 }
+    requires both { length key.now + length value.now ≤ 268 }
+{
     let mut draft = Draft::new(alloc);
     let answer = insert(alloc, &mut draft, desk, handle_of(1), key, value);
     is_answer(answer, &draft, want)
@@ -51,7 +56,7 @@ fn is_taken(alloc: Global, desk: &Desk, key: &[u8], want: Want) -> bool {
 }
 
 /// Whether a key has a value.
-fn has(alloc: Global, desk: &Desk, key: &[u8], value: &[u8]) -> bool {
+pub(crate) fn has(alloc: Global, desk: &Desk, key: &[u8], value: &[u8]) -> bool {
     match find(alloc, desk, handle_of(1), key) {
         Ok(found) => found.bytes() == value,
         Err(_) => false,
@@ -59,7 +64,7 @@ fn has(alloc: Global, desk: &Desk, key: &[u8], value: &[u8]) -> bool {
 }
 
 /// A key of 256 bytes that begins with a number.
-fn long_key(number: u8) -> [u8; 256] {
+pub(crate) fn long_key(number: u8) -> [u8; 256] {
     let mut key = [7; 256];
     key[0] = number;
     key
@@ -91,10 +96,17 @@ fn fourteen_long_keys_fill_a_page(rt: HostRuntime) -> Result<(), Fail> {
     let mut desk = Desk::new(alloc);
     desk.hold(alloc, 1, 1, &EMPTY)?;
     assert!(rt; puts_long_keys(alloc, &mut desk, 14)?);
-    let full = is_put(alloc, &desk, &long_key(14), &[14; 12], Want::NoRoom(handle_of(1)));
+    let full = is_put(
+        alloc,
+        &desk,
+        &long_key(14),
+        &[14; 12],
+        Want::NoRoom(handle_of(1)),
+    );
     let short = is_put(alloc, &desk, b"a", b"", Want::NoRoom(handle_of(1)));
     assert!(rt;
-        full && short && is_put(alloc, &desk, &long_key(3), b"", Want::Present)
+        full && short
+            && is_put(alloc, &desk, &long_key(3), b"", Want::Present)
             && has(alloc, &desk, &long_key(0), &[0; 12])
             && has(alloc, &desk, &long_key(13), &[13; 12])
     );
@@ -117,7 +129,9 @@ fn entries_are_put_and_taken_in_their_leaves(rt: HostRuntime) -> Result<(), Fail
     assert!(rt; put.is_ok() && taken.is_ok() && draft.blocks().len() == 1);
     desk.take_in(alloc, &draft)?;
     assert!(rt;
-        has(alloc, &desk, b"n", b"3") && has(alloc, &desk, b"a", b"1") && !has(alloc, &desk, b"x", b"9")
+        has(alloc, &desk, b"n", b"3")
+            && has(alloc, &desk, b"a", b"1")
+            && !has(alloc, &desk, b"x", b"9")
     );
     Ok(())
 }

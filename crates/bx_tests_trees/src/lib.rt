@@ -11,3 +11,5 @@ mod levels;
 mod model;
 #[cfg(test)]
 mod searches;
+#[cfg(test)]
+mod splits;

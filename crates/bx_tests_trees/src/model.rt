@@ -3,6 +3,7 @@
 
 use crate::desk::{Desk, handle_of};
 use crate::levels::{FIRST, SPAN, hint_first_pages, hint_old_pages, hold_leaves, show_pages};
+use bx_base::Raw;
 use bx_blink::{BlinkError, find, next};
 use bx_leaves::{insert, remove};
 use bx_records::Draft;
@@ -11,7 +12,7 @@ use std::collections::BTreeMap;
 use std::test::Fail;
 
 /// How many drafts are made over each kind of hints.
-const DRAFTS: u32 = 100;
+const DRAFTS: u32 = 1250;
 
 /// How many entries, of 264 bytes each, leave a leaf less than 544 bytes.
 const FULL: usize = 14;
@@ -75,29 +76,46 @@ impl Known {
         }
     }
 
-    /// Whether a search for a number, and one for the first from it on, find what the map has.
-    fn fits_searches(&self, alloc: Global, desk: &Desk, number: u8) -> bool {
-        let found = match find(alloc, desk, handle_of(1), &key_of(number)) {
-            Ok(value) => self.held.get(&number) == value.bytes().first(),
+    /// Whether a search for a number found what the map has.
+    fn fits_find(&self, number: u8, found: Result<Raw, BlinkError>) -> bool {
+        match found {
+            Ok(value) => self.held.get(&number).copied() == value.bytes().first().copied(),
             Err(BlinkError::Absent) => !self.held.contains_key(&number),
             Err(_) => false,
-        };
-        found
-            && match next(alloc, desk, handle_of(1), &key_of(number)) {
-                Ok(Some((key, _))) => {
-                    self.held.range(number..).next().map(|x| x.0) == key.bytes().first()
-                }
-                Ok(None) => self.held.range(number..).next().is_none(),
-                Err(_) => false,
-            }
+        }
     }
+
+    /// Whether a search for the first key from a number's on found what the map has.
+    fn fits_next(&self, number: u8, found: Result<Option<(Raw, Raw)>, BlinkError>) -> bool {
+        let first = self.first_from(number);
+        match found {
+            Ok(Some((key, _value))) => first == key.bytes().first().copied(),
+            Ok(None) => first.is_none(),
+            Err(_) => false,
+        }
+    }
+
+    /// The first number of the map from one on.
+    fn first_from(&self, number: u8) -> Option<u8> {
+        match self.held.range(number..).next() {
+            Some((first, _)) => Some(*first),
+            None => None,
+        }
+    }
+}
+
+/// Whether searches for a number and for the first from it on find what is known.
+fn finds(alloc: Global, desk: &Desk, known: &Known, number: u8) -> bool {
+    let key = key_of(number);
+    known.fits_find(number, find(alloc, desk, handle_of(1), &key))
+        && known.fits_next(number, next(alloc, desk, handle_of(1), &key))
 }
 
 /// Makes searches over what is held, and four changes in a draft, which is then held. Whether all is answered as the maps say.
 fn goes_well(alloc: Global, desk: &mut Desk, known: &mut Known, seed: u32) -> Result<bool, Fail> {
     let mut draft = Draft::new(alloc);
     let mut seed = seed;
-    let mut fine = known.fits_searches(alloc, desk, ((seed >> 8) % 252) as u8);
+    let mut fine = finds(alloc, desk, known, ((seed >> 8) % 252) as u8);
     for _ in 0..4 {
         seed = after(seed);
         let number = ((seed >> 16) % 252) as u8;
@@ -147,7 +165,10 @@ fn a_tree_is_a_map(rt: HostRuntime) -> Result<(), Fail> {
             1 => hint_old_pages(alloc, &mut desk)?,
             _ => show_pages(alloc, &mut desk, round == 3)?,
         }
-        assert!(rt; all_go_well(alloc, &mut desk, &mut known, round)?, "round {round}");
+        assert!(rt;
+            all_go_well(alloc, &mut desk, &mut known, round)?,
+            "round {round}"
+        );
     }
     Ok(())
 }

@@ -1,8 +1,8 @@
-use Rattle.std.proofs.Common.{◌≡◌, ℕ, ◌+◌, List, [], Some, None, Ok, Err, sym, ap, subst, ◌∙◌, arith}
-use Rattle.bx_page.specs.Contents.{Contents, IsPage, first_half, other_half}
+use Rattle.std.proofs.Common.{ℕ, None, Ok, Err, sym, ap, subst, ◌∙◌, arith}
+use Rattle.bx_page.specs.Contents.{Contents, IsPage, other_half}
 use Rattle.bx_leaves.specs.Leaves.{PutsOrNot}
 use Rattle.bx_splits.specs.Cutting.{PutsTwo}
-use Rattle.bx_splits.specs.Splits.{root_entries, root_page}
+use Rattle.bx_splits.specs.Splits.{root_entries}
 use Rattle.bx_splits.proofs.Halves.{middle_above}
 use Rattle.bx_splits.proofs.RaiseSteps.{two_fail, root_put}
 use Rattle.bx_splits.proofs.raising.raise.Goals as goal

@@ -1,0 +1,101 @@
+-- What a split needs isn't held, and what it puts is held exclusively.
+use Rattle.std.proofs.Common.{◌≡◌, ℕ, ◌+◌, ◌^◌, ◌%◌, ◌<◌, true, List, Option, Some, None, get_or, refl, sym, ap, subst, ◌∙◌, arith, inl, inr}
+use Rattle.std.specs.Prelude.{Result, Ok, Err, IsSome, OnOk, ◌⊎◌}
+use Rattle.std.specs.Option.{option_or}
+use Rattle.std.proofs.lemmas.Bool.{cases_eq}
+use Rattle.bx_base.specs.declared.names.Mode.{Mode}
+use Rattle.bx_base.specs.declared.names.Mode.TheVariants.{Exclusive}
+use Rattle.bx_layout.specs.declared.area.AreaBlock.{AreaBlock}
+use Rattle.bx_layout.specs.declared.block.Block.{Block}
+use Rattle.bx_places.specs.Places.{is_block}
+use Rattle.bx_records.specs.Drafts.{Changed, block_in, with_block}
+use Rattle.bx_page.specs.Contents.{Contents}
+use Rattle.bx_truth.specs.Chunks.{block_at, own_block}
+use Rattle.bx_views.specs.Attempts.{IsHeldDraft}
+use Rattle.bx_views.specs.Truths.{Held, Hints}
+use Rattle.bx_chunks.specs.declared.error.ChunkError.TheVariants.{Need as ChunkNeed}
+use Rattle.bx_chunks.specs.Allocating.{AllocatesAt, next_handle, slot_block}
+use Rattle.bx_chunks.proofs.FairNeeds.{Shares, fair}
+use Rattle.bx_blink.specs.declared.error.BlinkError.{BlinkError}
+use Rattle.bx_blink.specs.declared.error.BlinkError.TheVariants.{Need, Stale, Full, NoRoom, Absent, Present, OutOfMemory, Crowded}
+use Rattle.bx_leaves.specs.Leaves.{PutsPage}
+use Rattle.bx_leaves.proofs.Written.{put_elsewhere}
+use Rattle.bx_splits.specs.Cutting.{AllotFails, SplitsAt, NeedsForSplit}
+
+none_left : (o held : Option Block) → option_or o held ≡ None → held ≡ None
+none_left None held e = e
+none_left (Some block) held e = absurd cc
+
+allot_fair : (areas near : ℕ) (held : Held) (draft : List Changed) (handle at : ℕ) (mode : Mode) → Shares held → AllotFails held draft near areas (Need at mode)
+    → (held at mode ≡ None) × ((at ≡ block_at handle) ⊎ (is_block areas at ≡ true))
+allot_fair areas near held draft handle at mode shares a = let f = fair areas near held draft draft shares (Err (ChunkNeed at mode)) a in (f.1, inr f.0)
+
+pub split_fair : (areas near : ℕ) (held : Held) (hints : Hints) (old new : List Changed) (root handle : ℕ) → Shares held → (result : Result Unit BlinkError)
+    → SplitsAt held hints old new root handle near areas result → NeedsForSplit areas held handle result
+split_fair areas near held hints old new root handle shares (Err (Need at mode)) s = elim s [
+  | inl o ↦ subst (λ (m : Mode). (held at m ≡ None) × ((at ≡ block_at handle) ⊎ (is_block areas at ≡ true))) (sym o.1)
+      (subst (λ (a : ℕ). held a Exclusive ≡ None) (sym o.0) (none_left (block_in old (block_at handle)) (held (block_at handle) Exclusive) o.2), inl o.0)
+  | inr c ↦ elim c.cuts [
+    | inl r ↦ elim r.1 [ inl a ↦ allot_fair areas near held old handle at mode shares a | inr t ↦ allot_fair areas near held t.1 handle at mode shares t.3 ]
+    | inr r ↦ allot_fair areas near held old handle at mode shares r.1
+  ]
+]
+split_fair areas near held hints old new root handle shares (Err Stale) s = tt
+split_fair areas near held hints old new root handle shares (Err (Full spare)) s = tt
+split_fair areas near held hints old new root handle shares (Err (NoRoom leaf)) s = tt
+split_fair areas near held hints old new root handle shares (Err Absent) s = tt
+split_fair areas near held hints old new root handle shares (Err Present) s = tt
+split_fair areas near held hints old new root handle shares (Err OutOfMemory) s = tt
+split_fair areas near held hints old new root handle shares (Err Crowded) s = tt
+split_fair areas near held hints old new root handle shares (Ok done) s = tt
+
+-- a block that is put where one is held exclusively
+put_held : (held : Held) (draft : List Changed) (at : ℕ) (block : Block) → IsHeldDraft held draft → IsSome (held at Exclusive) → IsHeldDraft held (with_block draft at block)
+put_held held draft at block before there = record { each = λ other some. by_at other some (cases_eq other at) }
+  where
+    by_at : (other : ℕ) → IsSome (block_in (with_block draft at block) other) → (other ≡ at) ⊎ (other ≡ at → ⊥) → IsSome (held other Exclusive)
+    by_at other some (inl e) = subst (λ (a : ℕ). IsSome (held a Exclusive)) (sym e) there
+    by_at other some (inr ne) = before.each other (subst (λ (o : Option Block). IsSome o) (put_elsewhere draft at other block ne) some)
+
+page_held : (held : Held) (old new : List Changed) (handle : ℕ) (page : Contents) → IsHeldDraft held old → IsSome (held (block_at handle) Exclusive) → PutsPage old new handle page → IsHeldDraft held new
+page_held held old new handle page before there p = subst (λ (d : List Changed). IsHeldDraft held d) (sym p.put) (put_held held old (block_at handle) p.block before there)
+
+low : (word : ℕ) → word % 2 ^ 31 + 1 < 2 ^ 32
+low word = omega arith
+
+new_block : (area : ℕ) (slots : AreaBlock) (slot : ℕ) → slot < 960 → block_at (next_handle area slots slot) ≡ slot_block area slot
+new_block area slots slot less = let g = low (get_or slots.words slot 0) in omega (arith, less, g)
+
+-- a slot that is taken
+allot_held : (areas near : ℕ) (held : Held) (old one : List Changed) (right : ℕ) → IsHeldDraft held old → AllocatesAt held old one near areas (Ok right) → IsHeldDraft held one × IsSome (held (block_at right) Exclusive)
+allot_held areas near held old one right before a =
+    let t = a.takes in
+    let at = new_block a.area a.slots a.slot a.next.free.lowest.there in (
+      subst (λ (d : List Changed). IsHeldDraft held d) (sym t.2) (put_held held _ (slot_block a.area a.slot) _ (put_held held old (own_block a.area) _ before t.0.own_held) t.0.at_held),
+      subst (λ (b : ℕ). IsSome (held b Exclusive)) (sym (ap block_at t.1 ∙ at)) t.0.at_held,
+    )
+
+module _ (areas near : ℕ) (held : Held) (hints : Hints) (old new : List Changed) (root handle : ℕ) (before : IsHeldDraft held old) where
+  some_held : (block : Block) (o : Option Block) → block_in old (block_at handle) ≡ o → option_or o (held (block_at handle) Exclusive) ≡ Some block → IsSome (held (block_at handle) Exclusive)
+  some_held block None e there = subst (λ (x : Option Block). IsSome x) (sym there) refl
+  some_held block (Some changed) e there = before.each (block_at handle) (subst (λ (x : Option Block). IsSome x) (sym e) refl)
+
+  pub split_held : (result : Result Unit BlinkError) → SplitsAt held hints old new root handle near areas result → OnOk result (IsHeldDraft held new)
+  split_held (Err e) s = tt
+  split_held (Ok done) s =
+      let page_there : IsSome (held (block_at handle) Exclusive) = some_held (s.owned).block (block_in old (block_at handle)) refl (s.owned).there in
+      elim s.cuts [
+        | inl r ↦ (
+            let c = r.1 in
+            let one = (c.allots).0 in
+            let a = allot_held areas near held old one c.left before (c.allots).1 in
+            let b = allot_held areas near held one c.two c.right a.0 (c.allots).2 in
+            let three = page_held held c.two c.three c.left _ b.0 a.1 c.puts_first in
+            let four = page_held held c.three c.four c.right _ three b.1 c.puts_other in
+            page_held held c.four new root _ four (subst (λ (h : ℕ). IsSome (held (block_at h) Exclusive)) r.0 page_there) c.puts_root)
+        | inr r ↦ (
+            let c = r.1 in
+            let a = allot_held areas near held old c.one c.right before c.allots in
+            let two = page_held held c.one c.two c.right _ a.0 a.1 c.puts_other in
+            page_held held c.two new handle _ two page_there c.puts_first)
+      ]

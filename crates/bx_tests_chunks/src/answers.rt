@@ -58,7 +58,7 @@ fn what_names_no_chunk_is_stale(rt: HostRuntime) -> Result<(), Fail> {
     let shelf = Shelf::new(alloc)?;
     let fresh = is_stale(alloc, &shelf, 1) && is_stale(alloc, &shelf, (5 << 32) + 2);
     let mut draft = Draft::new(alloc);
-    // the own block of an area is no chunk, and no block 0 is without a handle
+    // neither the own block of an area nor handle 0 is a chunk
     let own = free(alloc, &mut draft, &shelf, 960 << 32);
     let none = free(alloc, &mut draft, &shelf, 0);
     assert!(rt;

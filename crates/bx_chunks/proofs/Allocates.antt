@@ -1,8 +1,6 @@
 -- A slot that is taken in a draft, under a truth.
-use Rattle.std.proofs.Common.{◌≡◌, ℕ, zero, suc, ◌+◌, ◌-◌, ◌*◌, ◌%◌, ◌^◌, ◌<◌, ◌≤◌, arith, true, false, List, get_or, Some, Result, Ok, Err, sym, ap, subst, ◌∙◌}
+use Rattle.std.proofs.Common.{◌≡◌, ℕ, ◌+◌, ◌*◌, ◌%◌, ◌^◌, ◌<◌, ◌≤◌, arith, true, false, List, get_or, Some, Result, Ok, Err, sym, ap, subst, ◌∙◌}
 use Rattle.std.specs.Prelude.{◌==◌, if◌then◌else◌}
-use Rattle.std.proofs.Math.Nat.{add-mod_left, mod-eq_of_lt}
-use Rattle.std.proofs.lemmas.Nat.{mod_below}
 use Rattle.std.proofs.lemmas.Bool.Decides.{nat_tests}
 use Rattle.bx_base.specs.declared.names.Mode.TheVariants.{Shared}
 use Rattle.bx_layout.specs.declared.area.AreaBlock.{AreaBlock}
@@ -21,15 +19,16 @@ use Rattle.bx_chunks.specs.Areas.{HasFree, HasSlots, IsFull, area_in_turn}
 use Rattle.bx_chunks.specs.Putting.{empty_of, slot_put}
 use Rattle.bx_chunks.specs.declared.error.ChunkError.{ChunkError}
 use Rattle.bx_chunks.specs.declared.error.ChunkError.TheVariants.{Need, Stale, Full, OutOfMemory, Crowded}
-use Rattle.bx_chunks.proofs.Chunked.{word_seen}
+use Rattle.bx_chunks.proofs.Chunked.{handle_generation, word_seen}
 use Rattle.bx_chunks.proofs.Counted.{area_slots, spare_is}
 use Rattle.bx_chunks.proofs.Slots.{here, seen_true, sets}
-
-pub turn_within : (near areas turn : ℕ) → turn < areas → area_in_turn near areas turn < areas
-turn_within near areas turn less = mod_below (near + turn) areas (omega (arith, less))
+use Rattle.bx_chunks.proofs.Turns.{has_turn, turn_within}
 
 next_generation : (word : ℕ) → is_free word ≡ true → generation_in (taken_word word) ≡ generation_in word + 1
 next_generation word free = grind (arith, nat_tests, free)
+
+not_zero : (area slot generation : ℕ) → area * 2 ^ 48 + slot * 2 ^ 32 + (generation + 1) ≡ 0 → ⊥
+not_zero area slot generation none = omega (arith, none)
 
 taken_fits : (word : ℕ) → is_free word ≡ true → taken_word word < 2 ^ 32
 taken_fits word free = grind (arith, nat_tests, free)
@@ -91,39 +90,26 @@ module _ (areas : ℕ) (few : areas ≤ 64) (held : Held) (truth : Truth) (old n
   block_is : block_at handle ≡ block
   block_is = ap block_at handle_is ∙ block_back areas block (generation_in (taken_word word)) few is_slot (omega arith)
 
+  above : generation_in word < handle % 2 ^ 32
+  above =
+      let same : handle % 2 ^ 32 ≡ generation_in (taken_word word) = ap (λ (h : ℕ). h % 2 ^ 32) handle_is ∙ handle_generation block (generation_in (taken_word word)) (omega arith) in
+      let next = next_generation word word_free in
+      subst (λ (n : ℕ). generation_in word < n) (sym (same ∙ next)) (omega arith)
+
   pub adds : Adds areas before after handle
   adds = record {
     block = block;
     slots = slots;
     slot = is_slot;
     takes = takes;
+    at = block_is;
+    name = record { slot = subst (IsSlot areas) (sym block_is) is_slot; some = λ none. not_zero area slot (generation_in (get_or slots.words slot 0)) none };
+    never = subst (λ (w : ℕ). generation_in w < handle % 2 ^ 32) (sym (word_seen before block slots is_slot.slot has)) above;
     here = here_is;
     fresh = free_names_none areas before block handle (ap is_free (word_seen before block slots is_slot.slot has) ∙ word_free) block_is;
     chunks = λ other. chunk_taken areas few before after block slots is_slot takes other ∙ (λ i. if other == (here_is i).handle then Some (here_is i) else chunks_of areas before other);
     chunked = chunked_taken areas few before after block slots is_slot takes is;
   }
-
--- each area has its turn
-record HasTurn (near areas area : ℕ) : Type 0 where
-  pub turn : ℕ
-  pub within : turn < areas
-  pub is : area_in_turn near areas turn ≡ area
-
-has_turn : (near areas area : ℕ) → area < areas → HasTurn near areas area
-has_turn zero areas area less = record { turn = area; within = less; is = ap (λ (n : ℕ). n % areas) (none area) ∙ mod-eq_of_lt less }
-  where
-    none : (n : ℕ) → 0 + n ≡ n
-    none n = omega arith
-has_turn (suc near) areas area less = let t = has_turn near areas area less in by t.turn t.within t.is
-  where
-    by : (turn : ℕ) → turn < areas → area_in_turn near areas turn ≡ area → HasTurn (suc near) areas area
-    by zero within is =
-        let last : suc near + (areas - 1) ≡ areas + near = omega (arith, within) in
-        let first : near ≡ near + 0 = omega arith in
-        record { turn = areas - 1; within = omega (arith, within); is = ap (λ (n : ℕ). n % areas) last ∙ add-mod_left areas near ∙ ap (λ (n : ℕ). n % areas) first ∙ is }
-    by (suc turn) within is =
-        let moved : suc near + turn ≡ near + suc turn = omega arith in
-        record { turn = turn; within = omega (arith, within); is = ap (λ (n : ℕ). n % areas) moved ∙ is }
 
 module _ (areas near spare : ℕ) (held : Held) (truth : Truth) (old : List Changed) (same : IsTruth held truth) (is : IsChunked areas (with_draft truth old)) (full : IsFullVolume held old near areas spare) where
   none_at : (area block : ℕ) → area ≡ block_area block → IsSlot areas block → IsFull held old area → is_free_at (with_draft truth old) block ≡ false

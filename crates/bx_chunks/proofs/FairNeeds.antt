@@ -12,7 +12,7 @@ use Rattle.bx_chunks.specs.Allocating.{AllocatesAt, LacksOneOf, first, second, N
 use Rattle.bx_chunks.specs.Areas.{area_in_turn}
 use Rattle.bx_chunks.specs.declared.error.ChunkError.{ChunkError}
 use Rattle.bx_chunks.specs.declared.error.ChunkError.TheVariants.{Need, Stale, Full, OutOfMemory, Crowded}
-use Rattle.bx_chunks.proofs.Allocates.{turn_within}
+use Rattle.bx_chunks.proofs.Turns.{turn_within}
 use Rattle.bx_chunks.proofs.Options.{none_some}
 
 -- what is held exclusively is held shared, too

@@ -8,6 +8,7 @@ pub mod Uses
 pub mod Slots
 pub mod Chunked
 pub mod Counted
+pub mod Turns
 pub mod Allocates
 pub mod FairNeeds
 pub mod Given

@@ -1,12 +1,12 @@
 -- What allocating answers.
-use Rattle.std.specs.Prelude.{◌≡◌, ℕ, ◌+◌, ◌*◌, ◌<◌, ◌≤◌, ◌==◌, if◌then◌else◌, ◌⊎◌, true, false, List, length, slice_index, None, Some, IsSome, Result, Ok, Err}
+use Rattle.std.specs.Prelude.{◌≡◌, ℕ, ◌+◌, ◌*◌, ◌%◌, ◌^◌, ◌<◌, ◌≤◌, ◌==◌, if◌then◌else◌, ◌⊎◌, true, false, List, length, slice_index, None, Some, IsSome, Result, Ok, Err}
 use Rattle.bx_base.specs.declared.names.Mode.TheVariants.{Shared, Exclusive}
 use Rattle.bx_handles.specs.Handles.{number_of}
 use Rattle.bx_layout.specs.declared.area.AreaBlock.{AreaBlock}
 use Rattle.bx_layout.specs.Areas.{generation_in, taken_word, with_word}
 use Rattle.bx_places.specs.Places.{is_block}
 use Rattle.bx_records.specs.Drafts.{Changed}
-use Rattle.bx_truth.specs.Chunks.{IsChunked, IsSlot, chunks_of, is_free_at, own_block}
+use Rattle.bx_truth.specs.Chunks.{IsChunked, IsName, IsSlot, block_at, chunks_of, is_free_at, own_block, word_at}
 use Rattle.bx_truth.specs.Slots.{TakesSlot}
 use Rattle.bx_views.specs.Truths.{Truth, Held, with_draft}
 use Rattle.bx_chunks.specs.Areas.{IsFull, HasFree, area_in_turn}
@@ -90,12 +90,16 @@ AllocatesAt held old new near areas (Err Crowded) = TakesNext held old new near 
 AllocatesAt held old new near areas (Err OutOfMemory) = Unit {0}
 AllocatesAt held old new near areas (Err Stale) = ⊥
 
--- The chunk map gets one handle more, which was never given out, and it names an empty block; all other chunks stay.
+-- The chunk map gets one handle more, whose generation is above the one that its slot had, so that it was never given out. It names an
+-- empty block, and all other chunks stay.
 pub record Adds (areas : ℕ) (before after : Truth) (handle : ℕ) : Type 0 where
   pub block : ℕ
   pub slots : AreaBlock
   pub slot : IsSlot areas block
   pub takes : TakesSlot before after block slots
+  pub at : block_at handle ≡ block
+  pub name : IsName areas handle
+  pub never : generation_in (word_at before block) < handle % 2 ^ 32
   pub here : after block ≡ empty_of handle 3
   pub fresh : chunks_of areas before handle ≡ None
   pub chunks : (other : ℕ) → chunks_of areas after other ≡ (if other == handle then Some (empty_of handle 3) else chunks_of areas before other)

@@ -23,7 +23,7 @@ pub(crate) fn take<V: View>(
     draft: &mut Draft,
     view: &V,
     area: u16,
-    slots: AreaBlock,
+    mut slots: AreaBlock,
     slot: u16,
 ) -> Result<u64, ChunkError>
     requires area { IsArea slots }
@@ -36,7 +36,6 @@ pub(crate) fn take<V: View>(
     if let Some(missing) = lacks_one_of(view, own, at) {
         return Err(ChunkError::Need(missing, Mode::Exclusive));
     }
-    let mut slots = slots;
     let generation = slots.take(slot);
     let handle = ChunkHandle {
         area,

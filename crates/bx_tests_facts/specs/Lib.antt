@@ -1,2 +1,1 @@
 pub mod Together
-pub mod Benches

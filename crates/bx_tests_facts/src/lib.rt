@@ -2,15 +2,11 @@
 #![tactic(auto)]
 
 #[cfg(test)]
-mod bench;
-#[cfg(test)]
 mod blocks;
 #[cfg(test)]
 mod machines;
 #[cfg(test)]
 mod packets;
-#[cfg(test)]
-mod stores;
 mod toy;
 
 pub use toy::hear;

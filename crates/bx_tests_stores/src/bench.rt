@@ -5,7 +5,7 @@ ghost use Rattle.bx_global.specs.Allowed.{IsAllowed};
 ghost use Rattle.bx_facts.specs.Disks.{NeedsNoMore};
 ghost use Rattle.bx_facts.specs.Machines.{IsMachine};
 ghost use Rattle.bx_facts.specs.Writes.{AreRuns};
-ghost use Rattle.bx_tests_facts.specs.Benches.{IsBench, made};
+ghost use Rattle.bx_tests_stores.specs.Benches.{IsBench, made};
 
 use bx_base::{Actor, OutOfMemory, Raw};
 use bx_disk::{MemRack, Rack};

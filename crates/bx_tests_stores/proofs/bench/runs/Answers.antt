@@ -1,7 +1,7 @@
 use Rattle.std.proofs.Common.{ap}
 use Rattle.bx_disk.specs.Past.{Past, disks_of}
-use Rattle.bx_tests_facts.proofs.Rooms.{bench_room}
-use Rattle.bx_tests_facts.proofs.bench.runs.Goals as goal
+use Rattle.bx_tests_stores.proofs.Rooms.{bench_room}
+use Rattle.bx_tests_stores.proofs.bench.runs.Goals as goal
 
 pub all_go-requires-clause-bench : goal.all_go-requires-clause-bench
 all_go-requires-clause-bench c = record {

@@ -1,5 +1,5 @@
 -- A directory's entries are the names that its tree's entries by number tell.
-use Rattle.std.proofs.Common.{◌≡◌, ℕ, zero, suc, ◌+◌, ◌*◌, ◌/◌, ◌%◌, ◌^◌, ◌<◌, ◌⊎◌, inl, inr, arith, Bool, true, false, List, [], ◌∷◌, length, take, drop, get_or, Result, Ok, Err, cond, refl, sym, ap, ◌∙◌, subst, Some}
+use Rattle.std.proofs.Common.{◌≡◌, ℕ, suc, ◌+◌, ◌*◌, ◌/◌, ◌%◌, ◌^◌, ◌<◌, ◌⊎◌, inl, inr, arith, Bool, true, false, List, [], ◌∷◌, length, take, drop, get_or, Result, Ok, Err, cond, refl, sym, ap, ◌∙◌, subst, Some}
 use Rattle.std.proofs.Common.{Less, Equal, Greater}
 use Rattle.std.specs.Prelude.{All, AllPairs, IfOk, Contains, ◌==◌, nat_lt, if◌then◌else◌}
 use Rattle.std.specs.Int.{w32, w64, to_be_bytes, from_be_bytes}
@@ -16,7 +16,7 @@ use Rattle.bx_tree_files.specs.declared.file.Name.{Name}
 use Rattle.bx_truth.specs.Keys.{name_key, name_value, entry_key, entry_value}
 use Rattle.bx_truth.specs.Stored.{AreNames, IsOfName}
 use Rattle.bx_audit_files.specs.Names.{Fits, IsByNumber, IsByName, IsPaired, ByNumber, ByName, name_of, names_in}
-use Rattle.bx_audit_files.proofs.PairedEntries.{of_all, head_in, value_at, value_in, entry_in, tells, first_is, name_from, name_there}
+use Rattle.bx_audit_files.proofs.PairedEntries.{of_all, value_at, value_in, entry_in, tells, first_is, name_from, name_there}
 
 -- ---- numbers rise with their keys
 

@@ -1,24 +1,17 @@
 -- The entries of a tree are those of names exactly where each has its other one.
-use Rattle.std.proofs.Common.{◌≡◌, ℕ, zero, suc, ◌+◌, ◌*◌, ◌^◌, ◌<◌, ◌⊎◌, inl, inr, arith, Bool, true, false, List, [], ◌∷◌, ◌++◌, length, take, drop, get_or, cond, refl, sym, ap, ◌∙◌, subst, Some, None, Option}
-use Rattle.std.specs.Prelude.{All, AllPairs, Contains, bytes_eq, ◌==◌, nat_lt, if◌then◌else◌}
-use Rattle.std.specs.Int.{w32, w64, to_be_bytes, from_be_bytes}
+use Rattle.std.proofs.Common.{◌≡◌, ℕ, zero, suc, ◌<◌, ◌⊎◌, inl, inr, arith, Bool, true, false, List, [], ◌∷◌, ◌++◌, length, take, drop, get_or, cond, refl, sym, ap, ◌∙◌, subst, Some}
+use Rattle.std.specs.Prelude.{All, Contains, bytes_eq, ◌==◌, if◌then◌else◌}
+use Rattle.std.specs.Int.{w32, w64, from_be_bytes}
 use Rattle.std.specs.List.{find}
 use Rattle.std.specs.Option.{option_map}
-use Rattle.std.specs.Ordering.{is_lt, nat_cmp, ordering_then}
-use Rattle.std.specs.Cmp.Lexicographic.{slice_cmp}
-use Rattle.std.proofs.Common.{Less, Equal, Greater}
 use Rattle.std.proofs.lemmas.Bool.Decides.{nat_tests}
-use Rattle.std.proofs.lemmas.List.Kept.{AllPairs-cons}
 use Rattle.std.proofs.lemmas.Nat.{from_be_bytes-to_be_bytes_4, from_be_bytes-to_be_bytes_8}
 use Rattle.std.proofs.lemmas.Slice.Eq.{bytes_eq-Decides}
 use Rattle.bx_page.specs.declared.entry.Entry.{Entry}
-use Rattle.bx_page.specs.Keys.{IsBelow}
 use Rattle.bx_page.specs.Contents.{Rises, value_of}
 use Rattle.bx_page.proofs.Order.{not_same_below, same_itself}
 use Rattle.bx_tree_files.specs.declared.file.Name.{Name}
-use Rattle.bx_truth.specs.Keys.{name_key, name_value, entry_key, entry_value}
-use Rattle.bx_truth.specs.Stored.{AreNames, IsOfName}
-use Rattle.bx_audit_files.specs.Names.{Fits, IsByNumber, IsByName, IsPaired, ByNumber, ByName, name_of, names_in}
+use Rattle.bx_audit_files.specs.Names.{Fits, IsByNumber, name_of, names_in}
 
 some_same : {X : Type 0} (x y : X) → Some x ≡ Some y → x ≡ y
 some_same x y e = cc

@@ -1,5 +1,5 @@
 -- The entries of a directory, as its tree has them.
-use Rattle.std.specs.Prelude.{◌≡◌, ℕ, ◌==◌, ◌^◌, ◌<◌, if◌then◌else◌, List, [], ◌∷◌, ◌++◌, take, drop, slice_index, Some}
+use Rattle.std.specs.Prelude.{◌≡◌, ◌==◌, ◌^◌, ◌<◌, if◌then◌else◌, List, [], ◌∷◌, take, drop, slice_index, Some}
 use Rattle.std.specs.Int.{w32, w64, from_be_bytes}
 use Rattle.bx_page.specs.declared.entry.Entry.{Entry}
 use Rattle.bx_page.specs.Contents.{value_of}

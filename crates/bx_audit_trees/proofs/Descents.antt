@@ -1,16 +1,16 @@
 -- From a level down to the one below it, and from the root to the leaves.
-use Rattle.std.proofs.Common.{◌≡◌, ℕ, zero, suc, ◌+◌, ◌-◌, ◌<◌, ◌≤◌, arith, List, [], ◌∷◌, ◌++◌, length, get_or, refl, sym, ap, ◌∙◌, subst, Some, None, Option}
-use Rattle.std.specs.Prelude.{All, slice_get}
+use Rattle.std.proofs.Common.{◌≡◌, ℕ, zero, suc, ◌+◌, ◌-◌, ◌<◌, ◌≤◌, arith, List, [], ◌∷◌, length, get_or, refl, sym, ap, ◌∙◌, subst, Some, None, Option}
+use Rattle.std.specs.Prelude.{All}
 use Rattle.std.specs.Option.{option_map}
 use Rattle.std.specs.Int.{w64, from_be_bytes}
 use Rattle.bx_page.specs.declared.entry.Entry.{Entry}
 use Rattle.bx_page.specs.Contents.{Contents, first}
-use Rattle.bx_truth.specs.PageTrees.{Chunks, Node, IsIn, IsNode, Leads, IsChain, IsLevel, NamesChild, IsInterior, PageTree, IsTree}
+use Rattle.bx_truth.specs.PageTrees.{Chunks, Node, IsIn, IsNode, IsChain, IsLevel, NamesChild, IsInterior, PageTree, IsTree}
 use Rattle.bx_audit_trees.specs.Pages.{IsPageAt, IsPlaced, LeadsTo, IsLevelFrom}
-use Rattle.bx_audit_trees.specs.Trees.{HasFirst, NamesFirst, IsTop, LiesBelow, tree_of}
+use Rattle.bx_audit_trees.specs.Trees.{NamesFirst, IsTop, LiesBelow, tree_of}
 use Rattle.bx_audit_trees.proofs.NodeLists.{one_beginning, level_rises}
 use Rattle.bx_audit_trees.proofs.OnePage.{one_page_at}
-use Rattle.bx_audit_trees.proofs.Walk.{Walks, StandsHere, here, in_cons, walk_of_level}
+use Rattle.bx_audit_trees.proofs.Walk.{Walks, StandsHere, here, walk_of_level}
 
 some_same : {X : Type 0} (x y : X) → Some x ≡ Some y → x ≡ y
 some_same x y e = cc

@@ -1,5 +1,5 @@
 -- What follows where something is torn.
-use Rattle.std.proofs.Common.{◌≡◌, ℕ, subst, sym, Option, Some, None, Result, Ok, Err}
+use Rattle.std.proofs.Common.{◌≡◌, ℕ, subst, sym, Result, Err}
 use Rattle.bx_audit_trees.specs.declared.error.AuditError.{AuditError}
 use Rattle.bx_audit_trees.specs.declared.error.AuditError.TheVariants.{Torn, Fault, OutOfMemory}
 use Rattle.bx_audit_trees.specs.Errors.{IfTorn, IfTornError}

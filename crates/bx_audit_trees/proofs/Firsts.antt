@@ -1,5 +1,5 @@
 -- The first entry of a page, and entries by their places.
-use Rattle.std.proofs.Common.{◌≡◌, ℕ, zero, suc, ◌<◌, arith, List, [], ◌∷◌, length, get_or, refl, sym, ap, ◌∙◌, subst, Some, None, Option}
+use Rattle.std.proofs.Common.{◌≡◌, ℕ, zero, suc, ◌<◌, arith, List, [], ◌∷◌, length, refl, sym, ◌∙◌, subst, Some, None, Option}
 use Rattle.std.specs.Prelude.{All, slice_get, IfSome}
 use Rattle.std.specs.Int.{w64, from_be_bytes}
 use Rattle.bx_page.specs.declared.entry.Entry.{Entry}

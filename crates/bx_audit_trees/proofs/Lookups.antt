@@ -1,5 +1,5 @@
 -- A key is looked up in the leaves of a tree.
-use Rattle.std.proofs.Common.{◌≡◌, ℕ, zero, suc, ◌+◌, ◌-◌, ◌<◌, ◌≤◌, ◌⊎◌, ⊎_elim, inl, inr, arith, Bool, true, false, List, [], ◌∷◌, ◌++◌, length, take, drop, get_or, refl, sym, ap, ◌∙◌, subst, Option, Some, None, Err, Ok}
+use Rattle.std.proofs.Common.{◌≡◌, ℕ, zero, suc, ◌-◌, ◌<◌, ◌≤◌, arith, Bool, true, false, List, [], ◌∷◌, ◌++◌, length, take, drop, get_or, refl, sym, ap, ◌∙◌, subst, Option, Some, None, Err, Ok}
 use Rattle.std.specs.Prelude.{All, IfSome, bytes_eq}
 use Rattle.std.specs.List.{find}
 use Rattle.std.specs.List.Sorted.{IsBinarySearchResult, IsSearchInRange}
@@ -14,7 +14,7 @@ use Rattle.bx_page.specs.declared.entry.Entry.{Entry}
 use Rattle.bx_page.specs.Keys.{is_below, IsBelow}
 use Rattle.bx_page.specs.Contents.{value_of}
 use Rattle.bx_page.proofs.Cuts.{All-drop_from, find_none}
-use Rattle.bx_page.proofs.Order.{below_trans, not_below_itself, not_below_back, same_from_cmp, greater_cmp}
+use Rattle.bx_page.proofs.Order.{below_trans, not_below_itself, not_below_back, greater_cmp}
 use Rattle.bx_truth.specs.PageTrees.{Chunks, Node, IsIn, IsNode, Leads, IsLevel, entries_of}
 use Rattle.bx_audit_trees.specs.Leaves.{IsLeafFor}
 use Rattle.bx_audit_trees.specs.Pages.{BeginningsRise}

@@ -1,9 +1,9 @@
 -- One page under a handle, and what it may be in a level.
-use Rattle.std.proofs.Common.{◌≡◌, ℕ, zero, suc, ◌<◌, arith, refl, Bool, false, true, List, [], ◌∷◌, length, get_or, sym, ap, ◌∙◌, subst, Option, Some, None}
+use Rattle.std.proofs.Common.{◌≡◌, ℕ, zero, suc, ◌<◌, arith, refl, Bool, false, true, List, [], ◌∷◌, length, get_or, sym, ◌∙◌, subst, Some, None}
 use Rattle.std.specs.Prelude.{All, not, slice_get}
 use Rattle.bx_layout.specs.declared.block.Block.{Block}
 use Rattle.bx_page.specs.declared.entry.Entry.{Entry}
-use Rattle.bx_page.specs.Keys.{is_below, IsBelow}
+use Rattle.bx_page.specs.Keys.{is_below}
 use Rattle.bx_page.specs.Contents.{Contents, Rises}
 use Rattle.bx_page.specs.Spelling.{Spells}
 use Rattle.bx_page.proofs.Order.{below_trans}

@@ -1,12 +1,11 @@
 -- The room above keys falls as they rise.
-use Rattle.std.proofs.Common.{◌≡◌, ℕ, zero, suc, ◌+◌, ◌-◌, ◌*◌, ◌<◌, ◌≤◌, arith, Bool, true, false, List, [], ◌∷◌, length, Ordering, Less, Equal, Greater, refl, sym, ap, ◌∙◌, subst}
+use Rattle.std.proofs.Common.{◌≡◌, ℕ, zero, suc, ◌+◌, ◌-◌, ◌*◌, ◌<◌, ◌≤◌, arith, Bool, true, false, List, [], ◌∷◌, length, Less, Equal, Greater, refl, sym, ◌∙◌, subst}
 use Rattle.std.specs.Prelude.{◌==◌, nat_lt, cond}
 use Rattle.std.specs.Ordering.{is_lt, nat_cmp, ordering_then}
 use Rattle.std.specs.Cmp.Lexicographic.{slice_cmp}
 use Rattle.std.proofs.lemmas.Bool.Decides.{nat_tests}
-use Rattle.std.proofs.Math.Nat.{mul-le-mul_right}
 use Rattle.bx_base.specs.Bytes.{IsBytes}
-use Rattle.bx_page.specs.Keys.{is_below, IsBelow}
+use Rattle.bx_page.specs.Keys.{IsBelow}
 use Rattle.bx_audit_trees.specs.Room.{width, rank, room_above}
 
 some_width : (n : ℕ) → 1 ≤ width n

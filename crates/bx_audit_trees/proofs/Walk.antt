@@ -1,7 +1,7 @@
 -- A level as its right links lead through it, page by page.
-use Rattle.std.proofs.Common.{◌≡◌, ◌≢◌, ℕ, List, [], ◌∷◌, ◌++◌, sym, ap, ◌∙◌, subst, refl, Option, Some, None}
+use Rattle.std.proofs.Common.{◌≡◌, ℕ, List, [], ◌∷◌, ◌++◌, sym, ap, ◌∙◌, subst, refl, Option, Some, None}
 use Rattle.bx_page.specs.Contents.{Contents}
-use Rattle.bx_truth.specs.PageTrees.{Chunks, Node, IsIn, IsNode, IsLast, IsNext, Leads, IsChain, IsLevel}
+use Rattle.bx_truth.specs.PageTrees.{Chunks, Node, IsIn, IsNode, Leads, IsChain}
 use Rattle.bx_audit_trees.specs.Pages.{IsPageAt, IsPlaced, LeadsTo, IsLevelFrom}
 use Rattle.bx_audit_trees.proofs.OnePage.{one_page_at}
 

@@ -1,5 +1,5 @@
 -- Pages of a tree as they are read, one after the other.
-use Rattle.std.specs.Prelude.{◌≡◌, ◌≢◌, ℕ, false, List, [], ◌∷◌, All, AllPairs, Option, Some, None, IfSome}
+use Rattle.std.specs.Prelude.{◌≡◌, ◌≢◌, ℕ, false, List, ◌∷◌, All, AllPairs, Option, Some, None, IfSome}
 use Rattle.bx_layout.specs.declared.block.Block.{Block}
 use Rattle.bx_page.specs.Contents.{Contents}
 use Rattle.bx_page.specs.Keys.{is_below, IsBelow}

@@ -1,9 +1,8 @@
-use Rattle.std.proofs.Common.{◌≡◌, ℕ, List, [], ◌∷◌, ◌++◌, take, get_or, sym, ap, subst, ◌∙◌, arith}
+use Rattle.std.proofs.Common.{◌≡◌, List, ◌++◌, take, sym, ap, subst, ◌∙◌}
 use Rattle.std.specs.Prelude.{All}
 use Rattle.std.proofs.lemmas.List.{take_all}
 use Rattle.std.proofs.lemmas.List.Elements.{All-append}
 use Rattle.bx_page.specs.Contents.{Contents}
-use Rattle.bx_page.specs.declared.entry.Entry.{Entry}
 use Rattle.bx_tree_files.specs.declared.file.Name.{Name}
 use Rattle.bx_truth.specs.PageTrees.{Node, map_of, entries_of}
 use Rattle.bx_truth.specs.Stored.{AreNames}

@@ -1,8 +1,7 @@
-use Rattle.std.proofs.Common.{◌≡◌, ℕ, List, [], ◌∷◌, ◌++◌, take, drop, sym, ap, subst, ◌∙◌, arith}
-use Rattle.std.specs.Prelude.{All, IsTrue, IsFalse}
+use Rattle.std.proofs.Common.{List, ◌++◌, sym, ap, subst, ◌∙◌, arith}
+use Rattle.std.specs.Prelude.{All}
 use Rattle.std.proofs.lemmas.List.{append-nil}
 use Rattle.bx_page.specs.declared.entry.Entry.{Entry}
-use Rattle.bx_tree_files.specs.declared.file.Name.{Name}
 use Rattle.bx_truth.specs.PageTrees.{map_of}
 use Rattle.bx_audit_trees.specs.Trees.{tree_of}
 use Rattle.bx_audit_files.specs.Names.{IsPaired, names_in}

@@ -1,4 +1,4 @@
-use Rattle.std.proofs.Common.{◌≡◌, ℕ, List, ◌++◌, take, drop, sym, ap, subst, ◌∙◌, arith}
+use Rattle.std.proofs.Common.{List, ◌++◌, take, drop, sym, ap, subst, ◌∙◌, arith}
 use Rattle.std.specs.Prelude.{All}
 use Rattle.std.proofs.lemmas.List.{append_assoc, take_all}
 use Rattle.std.proofs.lemmas.List.Elements.{All-append}

@@ -1,6 +1,5 @@
 use Rattle.std.proofs.Common.{sym, ap, ◌∙◌}
-use Rattle.bx_truth.specs.PageTrees.{Node, IsIn}
-use Rattle.bx_homes.proofs.Sectors.{of_some, of_none}
+use Rattle.bx_truth.specs.PageTrees.{Node}
 use Rattle.bx_audit_trees.proofs.NodeLists.{one_beginning}
 use Rattle.bx_audit_trees.proofs.children.names_page.Goals as goal
 

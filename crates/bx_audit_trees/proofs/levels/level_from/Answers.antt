@@ -1,4 +1,4 @@
-use Rattle.std.proofs.Common.{◌≡◌, ℕ, ◌≤◌, length, get_or, List, [], ◌∷◌, ◌++◌, Some, None, Option, Err, sym, ap, subst, ◌∙◌, arith}
+use Rattle.std.proofs.Common.{ℕ, ◌≤◌, length, get_or, List, [], ◌∷◌, ◌++◌, Some, Err, sym, ap, subst, ◌∙◌}
 use Rattle.std.proofs.lemmas.Result.{err_from_is_err_and}
 use Rattle.std.proofs.lemmas.List.{append_assoc}
 use Rattle.std.proofs.lemmas.List.Elements.{All-push}
@@ -6,9 +6,8 @@ use Rattle.std.proofs.lemmas.List.Quantifiers.{all_pairs_push}
 use Rattle.bx_homes.proofs.Sectors.{of_some}
 use Rattle.std.specs.Prelude.{All}
 use Rattle.bx_page.specs.Keys.{IsBelow}
-use Rattle.bx_page.specs.Contents.{Contents}
 use Rattle.bx_page.proofs.Order.{below_trans}
-use Rattle.bx_truth.specs.PageTrees.{Chunks, Node}
+use Rattle.bx_truth.specs.PageTrees.{Node}
 use Rattle.bx_audit_trees.specs.Pages.{BeginningsRise, IsPlaced, LeadsTo, IsLevelFrom}
 use Rattle.bx_audit_trees.proofs.Ends.{if_torn}
 use Rattle.bx_audit_trees.proofs.Walk.{Walks, first_of, rest_of, last_walks, next_walks, level_of_walk, walk_of_level}

@@ -1,4 +1,4 @@
-use Rattle.std.proofs.Common.{◌≡◌, ℕ, ◌≤◌, List, [], ◌++◌, length}
+use Rattle.std.proofs.Common.{◌≡◌, ◌≤◌, List, [], ◌++◌, length}
 use Rattle.std.specs.Prelude.{All}
 use Rattle.bx_page.specs.Keys.{IsBelow}
 use Rattle.bx_truth.specs.PageTrees.{Chunks, Node}

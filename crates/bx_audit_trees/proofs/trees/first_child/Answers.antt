@@ -1,4 +1,4 @@
-use Rattle.std.proofs.Common.{ℕ, sym, subst}
+use Rattle.std.proofs.Common.{sym, subst}
 use Rattle.bx_truth.specs.PageTrees.{Node}
 use Rattle.bx_audit_trees.specs.Trees.{HasFirst}
 use Rattle.bx_audit_trees.proofs.Firsts.{first_named}

@@ -1,9 +1,7 @@
-use Rattle.std.proofs.Common.{◌≡◌, ℕ, List, [], ◌∷◌, ◌++◌, Some, None, Err, refl, sym, ap, subst, ◌∙◌}
+use Rattle.std.proofs.Common.{◌≡◌, ℕ, List, [], ◌∷◌, ◌++◌, None, Err, refl, sym, ap, subst, ◌∙◌}
 use Rattle.std.proofs.lemmas.Result.{err_from_is_err_and}
-use Rattle.bx_page.specs.Contents.{Contents}
 use Rattle.bx_truth.specs.PageTrees.{Node, IsLevel}
 use Rattle.bx_audit_trees.specs.Pages.{IsPlaced, LeadsTo}
-use Rattle.bx_audit_trees.specs.Trees.{IsTop}
 use Rattle.bx_audit_trees.proofs.Ends.{if_torn}
 use Rattle.bx_audit_trees.proofs.Descents.{root_page_at, root_placed}
 use Rattle.bx_audit_trees.proofs.Walk.{last_walks, leads_one_way, level_of_walk}

@@ -1,8 +1,8 @@
-use Rattle.std.proofs.Common.{◌≡◌, ℕ, suc, ◌+◌, ◌-◌, ◌<◌, ◌≤◌, List, [], ◌∷◌, ◌++◌, reverse, Err, refl, sym, ap, subst, ◌∙◌, arith}
+use Rattle.std.proofs.Common.{◌≡◌, ℕ, suc, ◌+◌, ◌-◌, List, [], ◌∷◌, reverse, Err, sym, ap, subst, ◌∙◌, arith}
 use Rattle.std.proofs.lemmas.Result.{err_from_is_err_and}
 use Rattle.std.proofs.lemmas.List.{reverse-append}
-use Rattle.bx_truth.specs.PageTrees.{Node, IsLevel, IsTree}
-use Rattle.bx_audit_trees.specs.Trees.{LiesBelow, tree_of}
+use Rattle.bx_truth.specs.PageTrees.{Node, IsLevel}
+use Rattle.bx_audit_trees.specs.Trees.{LiesBelow}
 use Rattle.bx_audit_trees.proofs.Ends.{if_torn}
 use Rattle.bx_audit_trees.proofs.Descents.{Stack, lowest_level, lies_below, one_top, tree_is}
 use Rattle.bx_audit_trees.proofs.trees.tree_under.Goals as goal

@@ -1,4 +1,4 @@
-use Rattle.std.proofs.Common.{◌≡◌, ℕ, ◌≤◌, ◌∷◌, reverse}
+use Rattle.std.proofs.Common.{◌≡◌, ◌≤◌, ◌∷◌, reverse}
 use Rattle.bx_truth.specs.PageTrees.{Chunks, PageTree, IsTree}
 use Rattle.bx_audit_trees.specs.Pages.{BeginningsRise}
 use Rattle.bx_audit_trees.specs.Shown.{Shows}

@@ -1,4 +1,4 @@
-use Rattle.std.proofs.Common.{ℕ, List, [], get_or, arith, sym, ap, subst, ◌∙◌}
+use Rattle.std.proofs.Common.{List, [], get_or, arith, sym, ap, subst, ◌∙◌}
 use Rattle.std.specs.Prelude.{All}
 use Rattle.std.specs.Option.{option_copied}
 use Rattle.bx_page.specs.Contents.{value_of}

@@ -2,7 +2,7 @@
 
 use crate::model::{Model, handle_of};
 use crate::shelf::{AREAS, OPEN, Shelf};
-use bx_chunks::{ChunkError, allocate, count_free, free, read, read_over};
+use bx_chunks::{ChunkError, allocate, count_free, free, read_over};
 use bx_records::Draft;
 use rand_core::utils::NextWord;
 use rand_pcg::Pcg32;

@@ -1,2 +1,5 @@
+pub mod Heads
 pub mod Inodes
+pub mod Stands
+pub mod Stops
 pub mod Writing

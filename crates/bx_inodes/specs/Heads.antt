@@ -1,0 +1,20 @@
+-- What an inode says of its file.
+use Rattle.std.specs.Prelude.{ℕ, []}
+use Rattle.bx_layout.specs.declared.inode.Inode.{Inode}
+use Rattle.bx_tree_files.specs.declared.file.Body.TheVariants.{Path}
+use Rattle.bx_tree_files.specs.declared.file.File.{File}
+
+-- the file but for its content, for which an empty path stands
+abbrev pub head_of : ℕ → Inode → File
+head_of handle inode = record {
+  handle = handle;
+  kind = inode.kind;
+  mode = inode.mode;
+  nlink = inode.nlink;
+  uid = inode.uid;
+  gid = inode.gid;
+  atime = inode.atime;
+  mtime = inode.mtime;
+  ctime = inode.ctime;
+  body = Path [];
+}

@@ -98,7 +98,7 @@ module _ (held : Held) (old new : List Changed) (is : IsHeldDraft held old) wher
       let few : AreBlocks held → at.area < 64 = λ blocks. area_few at.area at.slots free.block free.has (seen_parts held old (own_block at.area) Shared free.block is free.there blocks) in
       subst (IsHeldDraft held) (sym at.takes.2)
       (put_held held _ _ _ both.at_held (λ blocks. empty_parts _ 3 (next_fits at.area at.slot (slice_index at.slots.words at.slot) (few blocks) free.lowest.there) (omega arith))
-       (put_held held _ _ _ both.own_held (λ blocks. own_parts at.area _ (few blocks) (word_long at.slots at.slot _ free.has.spells.is) free.has.spells.is.dead) is))
+      (put_held held _ _ _ both.own_held (λ blocks. own_parts at.area _ (few blocks) (word_long at.slots at.slot _ free.has.spells.is) free.has.spells.is.dead) is))
   allocates_held near areas (Err error) at same = subst (IsHeldDraft held) (sym same) is
 
   pub frees_held : (handle : ℕ) (r : Result (Unit {0}) ChunkError) → FreesAt held old new handle r → OnErr r (new ≡ old) → IsHeldDraft held new
@@ -107,14 +107,14 @@ module _ (held : Held) (old new : List Changed) (is : IsHeldDraft held old) wher
       let area = at.is.area in
       subst (IsHeldDraft held) (sym at.now)
       (put_held held _ _ _ (seen_held held old (block_at handle) named.block named.there) (λ blocks. empty_parts 0 0 (omega arith) (omega arith))
-       (put_held held _ _ _ (seen_held held old (own_at handle) area.own area.there)
-        (λ blocks. own_parts _ _ (area_few _ _ area.own area.has (seen_parts held old (own_at handle) Exclusive area.own is area.there blocks)) (word_long at.slots _ _ area.has.spells.is) area.has.spells.is.dead) is))
+      (put_held held _ _ _ (seen_held held old (own_at handle) area.own area.there)
+      (λ blocks. own_parts _ _ (area_few _ _ area.own area.has (seen_parts held old (own_at handle) Exclusive area.own is area.there blocks)) (word_long at.slots _ _ area.has.spells.is) area.has.spells.is.dead) is))
   frees_held handle (Err error) at same = subst (IsHeldDraft held) (sym same) is
 
   pub marks_held : (handle : ℕ) (dead : Bool) (r : Result (Unit {0}) ChunkError) → MarksAt held old new handle dead r → OnErr r (new ≡ old) → IsHeldDraft held new
   marks_held handle dead (Ok done) at same =
       let area = at.marked.given in
       subst (IsHeldDraft held) (sym at.now) (put_held held _ _ _ (seen_held held old (own_at handle) area.own area.there)
-       (λ blocks. own_parts _ _ (area_few _ _ area.own area.has (seen_parts held old (own_at handle) Exclusive area.own is area.there blocks))
-        (ap length at.marked.marks.words ∙ area.has.spells.is.words) (at.marked.marks.len ∙ area.has.spells.is.dead)) is)
+      (λ blocks. own_parts _ _ (area_few _ _ area.own area.has (seen_parts held old (own_at handle) Exclusive area.own is area.there blocks))
+      (ap length at.marked.marks.words ∙ area.has.spells.is.words) (at.marked.marks.len ∙ area.has.spells.is.dead)) is)
   marks_held handle dead (Err error) at same = subst (IsHeldDraft held) (sym same) is

@@ -23,7 +23,7 @@ use std::alloc::Global;
 
 /// GETATTR (RFC 1094, section 2.2.2): the attributes of the file that a file handle of the volume names.
 ///
-/// `Need` names the block of its inode, shared, exactly where that isn't held. The status is `STALE`, exactly where the file handle
+/// `Need` names the block of its inode, shared, which isn't held then. The status is `STALE`, exactly where the file handle
 /// names no file.
 pub fn getattr<V: View>(
     alloc: Global,

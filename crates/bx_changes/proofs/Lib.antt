@@ -1,0 +1,3 @@
+pub mod FileChanged
+pub mod ModeSet
+pub mod LiveHeld

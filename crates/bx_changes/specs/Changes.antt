@@ -1,0 +1,43 @@
+-- What a procedure that changes a tree answers.
+use Rattle.std.specs.Prelude.{◌≡◌, ℕ, true, false, List, Result, Ok, Err}
+use Rattle.bx_inodes.specs.Stands.{Stands}
+use Rattle.bx_inodes.specs.declared.stop.Stop.{Stop}
+use Rattle.bx_inodes.specs.declared.stop.Stop.TheVariants.{Need, Inner, Status, OutOfMemory}
+use Rattle.bx_model.specs.declared.reply.Reply.{Reply}
+use Rattle.bx_model.specs.declared.tree.Tree.{Tree}
+use Rattle.bx_model.specs.Steps.{Outcome}
+use Rattle.bx_records.specs.Drafts.{Changed}
+use Rattle.bx_tree_files.specs.declared.sattr.Sattr.{Sattr}
+use Rattle.bx_tree_files.specs.Times.{is_given}
+use Rattle.bx_views.specs.Truths.{Truth, with_draft}
+
+-- The reply is what the procedure comes to, and the truth that the draft leaves stands for the next tree.
+pub record Changes (volume areas : ℕ) (truth : Truth) (outcome : Outcome) (draft : List Changed) (reply : Reply) : Type 0 where
+  pub next : Tree
+  pub comes_to : outcome ≡ Ok (reply, next)
+  pub stands : Stands volume areas (with_draft truth draft) next
+
+-- what is answered is what the procedure comes to
+abbrev pub IsChange : ℕ → ℕ → Truth → Tree → Outcome → Result (List Changed × Reply) Stop → Type 0
+IsChange volume areas truth tree outcome (Ok made) = Changes volume areas truth outcome made.0 made.1
+IsChange volume areas truth tree outcome (Err (Status status)) = outcome ≡ Err status
+IsChange volume areas truth tree outcome (Err (Need at mode)) = Unit {0}
+IsChange volume areas truth tree outcome (Err (Inner blocks)) = ⊥
+IsChange volume areas truth tree outcome (Err OutOfMemory) = Unit {0}
+
+-- the mode is given, and nothing else
+pub record SetsModeAlone (sattr : Sattr) : Type 0 where
+  pub mode : is_given sattr.mode ≡ true
+  pub uid : is_given sattr.uid ≡ false
+  pub gid : is_given sattr.gid ≡ false
+  pub size : is_given sattr.size ≡ false
+  pub atime : is_given sattr.atime.0 ≡ false
+  pub mtime : is_given sattr.mtime.0 ≡ false
+
+-- no block is needed
+abbrev pub NeedsNothing : {T : Type 0} → Result T Stop → Type 0
+NeedsNothing (Ok made) = Unit {0}
+NeedsNothing (Err (Need at mode)) = ⊥
+NeedsNothing (Err (Inner blocks)) = Unit {0}
+NeedsNothing (Err (Status status)) = Unit {0}
+NeedsNothing (Err OutOfMemory) = Unit {0}

@@ -1,0 +1,101 @@
+//! SETATTR.
+
+ghost use Rattle.std.specs.Prelude.{◌≡◌, ℕ, List, IfOk, IsSome, Some};
+ghost use Rattle.bx_base.specs.declared.names.Mode.TheVariants.{Exclusive};
+ghost use Rattle.bx_handles.specs.Handles.{named};
+ghost use Rattle.bx_inodes.specs.Heads.{head_of as head_by};
+ghost use Rattle.bx_inodes.specs.Inodes.{IsInodeOf};
+ghost use Rattle.bx_layout.specs.Inodes.{IsInode};
+ghost use Rattle.bx_model.specs.Permissions.{may as may_do};
+ghost use Rattle.bx_model.specs.declared.permissions.Want.TheVariants.{Times};
+ghost use Rattle.bx_model.specs.declared.tree.Tree.{Tree};
+ghost use Rattle.bx_model.specs.Writing.{setattr};
+ghost use Rattle.bx_truth.specs.Chunks.{block_at};
+ghost use Rattle.bx_views.specs.Attempts.{IsHeldDraft};
+ghost use Rattle.bx_views.specs.Truths.{Held, IsTruth, Truth};
+ghost use Rattle.bx_inodes.specs.Stands.{Stands};
+ghost use Rattle.bx_inodes.specs.Stops.{NeedsOn, OnInode};
+ghost use Rattle.bx_changes.specs.Changes.{IsChange, NeedsNothing, SetsModeAlone};
+
+use crate::rewriting::rewritten;
+use bx_base::{Mode, OutOfMemory};
+use bx_handles::named_handle;
+use bx_inodes::{Stop, head_of, inode_at};
+use bx_layout::Inode;
+use bx_model::{Call, PERM, Reply, STALE, Sattr, Want, may};
+use bx_records::Draft;
+use bx_tree_files::MODES;
+use bx_views::View;
+use std::alloc::Global;
+
+/// SETATTR (RFC 1094, section 2.2.3) of the mode alone: the block that it changes, and the attributes then.
+///
+/// `Need` names the block of the file's inode, exclusively, which isn't held so then. The status is `STALE`, exactly where the
+/// file handle names no file, else `PERM`, exactly where the caller is neither the file's owner nor the user 0. `now` is in seconds and
+/// microseconds.
+pub fn set_mode<V: View>(
+    alloc: Global,
+    volume: u64,
+    areas: u16,
+    call: &Call,
+    at: &[u8],
+    sattr: &Sattr,
+    now: (u32, u32),
+    view: &V,
+) -> Result<(Draft, Reply), Stop>
+    requires { SetsModeAlone sattr.now }
+    ensures step { (truth : Truth) (tree : Tree) → IsTruth (V.held view.now) truth → Stands volume areas truth tree
+        → IsChange volume areas truth tree (setattr tree call.now at.now sattr.now now) result }
+    ensures need { NeedsOn areas (V.held view.now) (OnInode volume at.now Exclusive) result }
+    ensures held { IfOk result (λ made. IsHeldDraft (V.held view.now) made.0) }
+{
+    let Some(handle) = named_handle(volume, at) else {
+        return Err(Stop::Status(STALE));
+    };
+    let none = Draft::new(alloc);
+    match inode_at(alloc, &none, view, areas, handle, Mode::Exclusive) {
+        Err(stop) => Err(stop),
+        Ok(inode) => with_mode(alloc, volume, call, handle, inode, sattr, now),
+    }
+}
+
+/// The same, of the file with a handle, by its inode.
+fn with_mode(
+    alloc: Global,
+    volume: u64,
+    call: &Call,
+    handle: u64,
+    inode: Inode,
+    sattr: &Sattr,
+    now: (u32, u32),
+) -> Result<(Draft, Reply), Stop>
+    requires inode { IsInode inode }
+    requires alone { SetsModeAlone sattr.now }
+    ensures step { (areas : ℕ) (truth : Truth) (tree : Tree) (bytes : List ℕ) → Stands volume areas truth tree → IsInodeOf areas truth tree handle inode → named volume bytes ≡ Some handle
+        → IsChange volume areas truth tree (setattr tree call.now bytes sattr.now now) result }
+    ensures held { (held : Held) → IsSome (held (block_at handle) Exclusive) → IfOk result (λ made. IsHeldDraft held made.0) }
+    ensures acts { NeedsNothing result }
+{
+    match may_set(alloc, call, handle, &inode) {
+        Err(_) => return Err(Stop::OutOfMemory),
+        Ok(false) => return Err(Stop::Status(PERM)),
+        Ok(true) => {}
+    }
+    let changed = Inode {
+        mode: sattr.mode % MODES,
+        ctime: now,
+        ..inode
+    };
+    match rewritten(alloc, volume, handle, &changed) {
+        Err(_) => Err(Stop::OutOfMemory),
+        Ok(made) => Ok(made),
+    }
+}
+
+/// Whether a caller may set the mode of the file with a handle, by its inode.
+fn may_set(alloc: Global, call: &Call, handle: u64, inode: &Inode) -> Result<bool, OutOfMemory>
+    ensures { IfOk result (λ may. may ≡ may_do call.now (head_by handle inode.now) Times) }
+{
+    let head = head_of(alloc, handle, inode)?;
+    Ok(may(call, &head, Want::Times))
+}

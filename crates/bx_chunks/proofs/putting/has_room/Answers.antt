@@ -7,4 +7,4 @@ pub returns : goal.returns
 returns c = λ a b.
     decides (length c.blocks-2.result.now + c.count_missing.result + c.count_missing-2.result) (length (with_block (with_block c.args.draft.now c.args.one a) c.args.other b))
     (length_both c.args.draft.now c.args.one c.args.other a b c.requires
-    ∙ λ i. length (sym c.blocks-2.ensures i) + sym c.count_missing.ensures i + sym c.count_missing-2.ensures i)
+    ∙ λ i. length (sym c.blocks-2.ensures.is i) + sym c.count_missing.ensures i + sym c.count_missing-2.ensures i)

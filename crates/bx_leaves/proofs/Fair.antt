@@ -6,10 +6,11 @@ use Rattle.std.proofs.lemmas.Bool.{cases_eq}
 use Rattle.bx_base.specs.declared.names.Mode.{Mode}
 use Rattle.bx_base.specs.declared.names.Mode.TheVariants.{Shared, Exclusive}
 use Rattle.bx_layout.specs.declared.block.Block.{Block}
-use Rattle.bx_records.specs.Drafts.{Changed, block_in}
+use Rattle.bx_layout.specs.Blocks.{HasParts}
+use Rattle.bx_records.specs.Drafts.{Changed, block_in, with_block}
 use Rattle.bx_page.specs.Contents.{Contents}
 use Rattle.bx_truth.specs.Chunks.{block_at}
-use Rattle.bx_views.specs.Attempts.{IsHeldDraft}
+use Rattle.bx_views.specs.Attempts.{AreBlocks, IsHeldDraft}
 use Rattle.bx_views.specs.Truths.{Held, Hints}
 use Rattle.bx_blink.specs.declared.error.BlinkError.{BlinkError}
 use Rattle.bx_blink.specs.declared.error.BlinkError.TheVariants.{Need, Stale, Full, NoRoom, Absent, Present, OutOfMemory, Crowded}
@@ -18,7 +19,7 @@ use Rattle.bx_blink.proofs.Landings.{landing}
 use Rattle.bx_blink.proofs.Paths.{needs, not_led}
 use Rattle.bx_leaves.specs.Leaves.{OnLeafPath, NeedsLeaf, IsLeafAt, PutsPage, InsertsAt, RemovesAt}
 use Rattle.bx_leaves.specs.Changes.{NeedsUnheld}
-use Rattle.bx_leaves.proofs.Written.{put_elsewhere}
+use Rattle.bx_leaves.proofs.Written.{put_here, put_elsewhere}
 
 -- what is held exclusively is held shared
 abbrev pub Shares : Held → Type 0
@@ -72,24 +73,46 @@ module _ (held : Held) (hints : Hints) (old : List Changed) (root : ℕ) (key : 
   removes_fair new (Err OutOfMemory) f = tt
   removes_fair new (Err Crowded) f = tt
 
+-- ---- what is put
+
+-- a block that is put where one is held exclusively
+pub put_held : (held : Held) (draft : List Changed) (at : ℕ) (block : Block) → IsHeldDraft held draft → IsSome (held at Exclusive) → HasParts block → IsHeldDraft held (with_block draft at block)
+put_held held draft at block before there parts = record {
+  each = λ other some. each_at other some (cases_eq other at);
+  parts = λ are other changed found. parts_at are other changed found (cases_eq other at);
+}
+  where
+    each_at : (other : ℕ) → IsSome (block_in (with_block draft at block) other) → (other ≡ at) ⊎ (other ≡ at → ⊥) → IsSome (held other Exclusive)
+    each_at other some (inl same) = subst (λ (a : ℕ). IsSome (held a Exclusive)) (sym same) there
+    each_at other some (inr apart) = before.each other (subst (λ (o : Option Block). IsSome o) (put_elsewhere draft at other block apart) some)
+
+    parts_at : AreBlocks held → (other : ℕ) (changed : Block) → block_in (with_block draft at block) other ≡ Some changed → (other ≡ at) ⊎ (other ≡ at → ⊥) → HasParts changed
+    parts_at are other changed found (inl same) =
+        let both : Some block ≡ Some changed = sym (put_here draft at block) ∙ ap (λ (a : ℕ). block_in (with_block draft at block) a) (sym same) ∙ found in
+        let one : block ≡ changed = cc in
+        subst HasParts one parts
+    parts_at are other changed found (inr apart) = before.parts are other changed (sym (put_elsewhere draft at other block apart) ∙ found)
+
+pub page_held : (held : Held) (old new : List Changed) (handle : ℕ) (page : Contents) → IsHeldDraft held old → IsSome (held (block_at handle) Exclusive) → PutsPage old new handle page → IsHeldDraft held new
+page_held held old new handle page before there p = subst (λ (d : List Changed). IsHeldDraft held d) (sym p.put) (put_held held old (block_at handle) p.block before there p.parts)
+
+-- what is seen exclusively, over a draft of what is held so, is held so
+pub seen_held : (held : Held) (draft : List Changed) (at : ℕ) (block : Block) → IsHeldDraft held draft → option_or (block_in draft at) (held at Exclusive) ≡ Some block → IsSome (held at Exclusive)
+seen_held held draft at block before seen = by_draft (block_in draft at) refl seen
+  where
+    by_draft : (o : Option Block) → block_in draft at ≡ o → option_or o (held at Exclusive) ≡ Some block → IsSome (held at Exclusive)
+    by_draft None e there = subst (λ (x : Option Block). IsSome x) (sym there) refl
+    by_draft (Some changed) e there = before.each at (subst (λ (x : Option Block). IsSome x) (sym e) refl)
+
 -- what is put where a leaf is held exclusively is held so
 module _ (held : Held) (hints : Hints) (old new : List Changed) (root : ℕ) (key : List ℕ) (before : IsHeldDraft held old) where
-  some_held : (at : ℕ) (block : Block) (o : Option Block) → block_in old at ≡ o → option_or o (held at Exclusive) ≡ Some block → IsSome (held at Exclusive)
-  some_held at block None e there = subst (λ (x : Option Block). IsSome x) (sym there) refl
-  some_held at block (Some changed) e there = before.each at (subst (λ (x : Option Block). IsSome x) (sym e) refl)
-
-  put_held : (handle : ℕ) (page put : Contents) → IsLeafAt (reads_with held hints old) root key handle page → PutsPage old new handle put → IsHeldDraft held new
-  put_held handle page put l p = record { each = λ at some. by_at at some (cases_eq at (block_at handle)) }
-    where
-      by_at : (at : ℕ) → IsSome (block_in new at) → (at ≡ block_at handle) ⊎ (at ≡ block_at handle → ⊥) → IsSome (held at Exclusive)
-      by_at at some (inl same) = subst (λ (a : ℕ). IsSome (held a Exclusive)) (sym same) (some_held (block_at handle) l.block (block_in old (block_at handle)) refl l.held)
-      by_at at some (inr other) =
-          before.each at (subst (λ (x : Option Block). IsSome x) (ap (λ (d : List Changed). block_in d at) p.put ∙ put_elsewhere old (block_at handle) at p.block other) some)
+  leaf_held : (handle : ℕ) (page put : Contents) → IsLeafAt (reads_with held hints old) root key handle page → PutsPage old new handle put → IsHeldDraft held new
+  leaf_held handle page put l p = page_held held old new handle put before (seen_held held old (block_at handle) l.block before l.held) p
 
   pub inserts_held : (value : List ℕ) (result : Result Unit BlinkError) → InsertsAt held hints old new root key value result → OnOk result (IsHeldDraft held new)
-  inserts_held value (Ok done) f = put_held f.handle f.page _ (((f.takes).lacks).leaf) f.puts
+  inserts_held value (Ok done) f = leaf_held f.handle f.page _ (((f.takes).lacks).leaf) f.puts
   inserts_held value (Err e) f = tt
 
   pub removes_held : (result : Result Unit BlinkError) → RemovesAt held hints old new root key result → OnOk result (IsHeldDraft held new)
-  removes_held (Ok done) f = put_held f.handle f.page _ ((f.has).leaf) f.puts
+  removes_held (Ok done) f = leaf_held f.handle f.page _ ((f.has).leaf) f.puts
   removes_held (Err e) f = tt

@@ -3,6 +3,7 @@ use Rattle.std.specs.Prelude.{◌≡◌, ℕ, ◌+◌, ◌<◌, ◌⊎◌, List,
 use Rattle.bx_base.specs.declared.names.Mode.{Mode}
 use Rattle.bx_base.specs.declared.names.Mode.TheVariants.{Exclusive}
 use Rattle.bx_layout.specs.declared.block.Block.{Block}
+use Rattle.bx_layout.specs.Blocks.{HasParts}
 use Rattle.bx_records.specs.Drafts.{Changed, block_in, with_block}
 use Rattle.bx_page.specs.Contents.{Contents, size, value_of, with_value, without_key}
 use Rattle.bx_truth.specs.Chunks.{block_at}
@@ -62,6 +63,7 @@ pub record PutsPage (old new : List Changed) (handle : ℕ) (page : Contents) : 
   pub block : Block
   pub header : block.handle ≡ handle
   pub has : HasPage page block
+  pub parts : HasParts block
   pub put : new ≡ with_block old (block_at handle) block
   pub fits : IsCrowded old (block_at handle) → ⊥
 

@@ -55,6 +55,8 @@ impl Blocks for Memory {
 
     ghost ready = { λ memory. Unit {0} };
 
+    ghost lender = { λ _. 0 };
+
     ghost areas = { λ memory. 1 };
 
     ghost stands = { λ memory at block. block_in memory.blocks at ≡ Some block };

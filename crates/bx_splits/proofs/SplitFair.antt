@@ -1,4 +1,4 @@
--- What a split needs isn't held, and what it puts is held exclusively.
+-- What a split needs isn't held, and what it puts are blocks that are held exclusively.
 use Rattle.std.proofs.Common.{◌≡◌, ℕ, ◌+◌, ◌^◌, ◌%◌, ◌<◌, true, List, Option, Some, None, get_or, refl, sym, ap, subst, ◌∙◌, arith, inl, inr}
 use Rattle.std.specs.Prelude.{Result, Ok, Err, IsSome, OnOk, ◌⊎◌}
 use Rattle.std.specs.Option.{option_or}
@@ -16,10 +16,11 @@ use Rattle.bx_views.specs.Truths.{Held, Hints}
 use Rattle.bx_chunks.specs.declared.error.ChunkError.TheVariants.{Need as ChunkNeed}
 use Rattle.bx_chunks.specs.Allocating.{AllocatesAt, next_handle, slot_block}
 use Rattle.bx_chunks.proofs.FairNeeds.{Shares, fair}
+use Rattle.bx_chunks.proofs.HeldDrafts.{allocates_held}
 use Rattle.bx_blink.specs.declared.error.BlinkError.{BlinkError}
 use Rattle.bx_blink.specs.declared.error.BlinkError.TheVariants.{Need, Stale, Full, NoRoom, Absent, Present, OutOfMemory, Crowded}
 use Rattle.bx_leaves.specs.Leaves.{PutsPage}
-use Rattle.bx_leaves.proofs.Written.{put_elsewhere}
+use Rattle.bx_leaves.proofs.Fair.{page_held, seen_held}
 use Rattle.bx_splits.specs.Cutting.{AllotFails, SplitsAt, NeedsForSplit}
 
 none_left : (o held : Option Block) → option_or o held ≡ None → held ≡ None
@@ -49,17 +50,6 @@ split_fair areas near held hints old new root handle shares (Err OutOfMemory) s 
 split_fair areas near held hints old new root handle shares (Err Crowded) s = tt
 split_fair areas near held hints old new root handle shares (Ok done) s = tt
 
--- a block that is put where one is held exclusively
-put_held : (held : Held) (draft : List Changed) (at : ℕ) (block : Block) → IsHeldDraft held draft → IsSome (held at Exclusive) → IsHeldDraft held (with_block draft at block)
-put_held held draft at block before there = record { each = λ other some. by_at other some (cases_eq other at) }
-  where
-    by_at : (other : ℕ) → IsSome (block_in (with_block draft at block) other) → (other ≡ at) ⊎ (other ≡ at → ⊥) → IsSome (held other Exclusive)
-    by_at other some (inl e) = subst (λ (a : ℕ). IsSome (held a Exclusive)) (sym e) there
-    by_at other some (inr ne) = before.each other (subst (λ (o : Option Block). IsSome o) (put_elsewhere draft at other block ne) some)
-
-page_held : (held : Held) (old new : List Changed) (handle : ℕ) (page : Contents) → IsHeldDraft held old → IsSome (held (block_at handle) Exclusive) → PutsPage old new handle page → IsHeldDraft held new
-page_held held old new handle page before there p = subst (λ (d : List Changed). IsHeldDraft held d) (sym p.put) (put_held held old (block_at handle) p.block before there)
-
 low : (word : ℕ) → word % 2 ^ 31 + 1 < 2 ^ 32
 low word = omega arith
 
@@ -71,19 +61,15 @@ allot_held : (areas near : ℕ) (held : Held) (old one : List Changed) (right : 
 allot_held areas near held old one right before a =
     let t = a.takes in
     let at = new_block a.area a.slots a.slot a.next.free.lowest.there in (
-      subst (λ (d : List Changed). IsHeldDraft held d) (sym t.2) (put_held held _ (slot_block a.area a.slot) _ (put_held held old (own_block a.area) _ before t.0.own_held) t.0.at_held),
+      allocates_held held old one before near areas (Ok right) a tt,
       subst (λ (b : ℕ). IsSome (held b Exclusive)) (sym (ap block_at t.1 ∙ at)) t.0.at_held,
     )
 
 module _ (areas near : ℕ) (held : Held) (hints : Hints) (old new : List Changed) (root handle : ℕ) (before : IsHeldDraft held old) where
-  some_held : (block : Block) (o : Option Block) → block_in old (block_at handle) ≡ o → option_or o (held (block_at handle) Exclusive) ≡ Some block → IsSome (held (block_at handle) Exclusive)
-  some_held block None e there = subst (λ (x : Option Block). IsSome x) (sym there) refl
-  some_held block (Some changed) e there = before.each (block_at handle) (subst (λ (x : Option Block). IsSome x) (sym e) refl)
-
   pub split_held : (result : Result Unit BlinkError) → SplitsAt held hints old new root handle near areas result → OnOk result (IsHeldDraft held new)
   split_held (Err e) s = tt
   split_held (Ok done) s =
-      let page_there : IsSome (held (block_at handle) Exclusive) = some_held (s.owned).block (block_in old (block_at handle)) refl (s.owned).there in
+      let page_there : IsSome (held (block_at handle) Exclusive) = seen_held held old (block_at handle) (s.owned).block before (s.owned).there in
       elim s.cuts [
         | inl r ↦ (
             let c = r.1 in

@@ -1,9 +1,8 @@
 -- What the bench holds once it is made, and after a crash of a disk.
-use Rattle.std.proofs.Common.{◌≡◌, ℕ, zero, suc, ◌⊎◌, inl, inr, Bool, true, false, List, ◌∷◌, [], Some, sym, ap, ◌∙◌, subst, refl}
-use Rattle.std.specs.Prelude.{not, ◌&&◌, ◌==◌, slice_get}
+use Rattle.std.proofs.Common.{◌≡◌, ℕ, zero, suc, ◌⊎◌, inl, inr, Bool, true, false, List, Some, sym, ◌∙◌, subst, refl}
+use Rattle.std.specs.Prelude.{not, ◌&&◌, slice_get}
 use Rattle.bx_disk.specs.Disks.{Image, Disks, IsImage, IsSector}
-use Rattle.bx_global.specs.declared.state.GlobalState.{GlobalState}
-use Rattle.bx_global.specs.Opening.{first_device, opening_state}
+use Rattle.bx_global.specs.Opening.{opening_state}
 use Rattle.bx_model.specs.declared.tree.Tree.{Tree}
 use Rattle.bx_rows.specs.declared.device.DeviceRow.{DeviceRow}
 use Rattle.bx_rows.specs.Modes.{both}

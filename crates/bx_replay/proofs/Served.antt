@@ -1,5 +1,5 @@
 -- The calls that are served are always answered, and leave the tree as it is.
-use Rattle.std.proofs.Common.{◌≡◌, ℕ, ◌==◌, List, Option, None, Some, Result, Ok, Err, OnOk, ap, ◌∙◌, sym, refl}
+use Rattle.std.proofs.Common.{◌≡◌, ℕ, List, Option, None, Some, Result, Ok, Err, OnOk, ap, ◌∙◌, sym, refl}
 use Rattle.bx_model.specs.declared.call.Call.{Call}
 use Rattle.bx_model.specs.declared.call.Args.{Args}
 use Rattle.bx_model.specs.declared.call.Args.TheVariants.{Refused, Nothing, Handle}

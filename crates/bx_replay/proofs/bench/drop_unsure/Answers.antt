@@ -1,4 +1,4 @@
-use Rattle.std.proofs.Common.{◌≡◌, ◌∙◌, false, ap}
+use Rattle.std.proofs.Common.{◌∙◌, ap}
 use Rattle.bx_disk.specs.Disks.{Disks}
 use Rattle.bx_replay.proofs.Held.{crash_holds, stays_sure}
 use Rattle.bx_replay.proofs.bench.drop_unsure.Goals as goal

@@ -56,8 +56,8 @@ pub fn hear<G: Register, O: Owners, S: Store, R: Rack>(
     ensures keeps { (past : Past) → R.tells rack.old → Together (G.keeps register.old (R.state rack.old)) (O.keeps owners.old) (S.keeps store.old (R.state rack.old)) (G.knows register.old) (with_letters past out.old)
         → MayStep past at input.now
         → OnOk result (Heard (λ later. Together (G.keeps register.new (R.state rack.new)) (O.keeps owners.new) (S.keeps store.new (R.state rack.new)) (G.knows register.new) (with_letters later out.new))
-            (Follows at (G.knows register.new at).index input.now past)
-            (λ later. Stays (S.asked store.new) (S.settled store.old) (S.settled store.new) (S.will_read store.old) (S.will_read store.new) (S.stands store.old) (S.stands store.new) (R.state rack.old) (with_letters past out.old) (R.state rack.new) (with_letters later out.new))) }
+        (Follows at (G.knows register.new at).index input.now past)
+        (λ later. Stays (S.asked store.new) (S.settled store.old) (S.settled store.new) (S.will_read store.old) (S.will_read store.new) (S.stands store.old) (S.stands store.new) (R.state rack.old) (with_letters past out.old) (R.state rack.new) (with_letters later out.new))) }
     ensures nodes { (G.nodes register.new ≡ G.nodes register.old) × (O.nodes owners.new ≡ O.nodes owners.old) }
     ensures made { S.made store.new ≡ S.made store.old }
     ensures register_needs { NeedsNoMore (G.needs register.old) (G.needs register.new) }

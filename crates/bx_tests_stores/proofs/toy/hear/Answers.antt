@@ -54,7 +54,7 @@ returns-clause-keeps g c = λ past tells all may.
     let goes = c.in_ok-by_store.ensures.goes_on (of_store decided) still_tells to_store.0 may_store in
     let register = g.met.G.Register.elsewhere c.take.new.self y z _
     (g.met.G.Register.loses c.take.new.self y _ (past.letters ++ third) heard.holds
-      (among_both (none_new IsRegisters IsStores not_registers past.letters second third stores) (none_new IsRegisters IsOwners (λ letter one other. not_both letter other one) past.letters first second owners)))
+    (among_both (none_new IsRegisters IsStores not_registers past.letters second third stores) (none_new IsRegisters IsOwners (λ letter one other. not_both letter other one) past.letters first second owners)))
     (c.take-3.ensures.replicas still_tells).0 in
     let offered = c.in_ok-propose.ensures.keeps z (of_register decided) register may.up in
     let proposes = c.in_ok-propose.ensures.sent z (of_register decided) register in
@@ -80,7 +80,7 @@ returns-clause-keeps g c = λ past tells all may.
         owners_own = owners_more by_owners by_store past.by_owners past.proposed offered.proposed c.in_ok-by_store.ensures.kind all.owners_own each;
         store_own = stores_more by_owners by_store past.by_store past.proposed offered.proposed c.in_ok-by_owners.ensures.kind all.store_own each;
         knew = knew_rises c.args.at known.index past.knew (g.G.Register.knows c.args.register.now) (g.G.Register.knows c.propose.new.register) last_index all.knew
-        (λ who. subst (λ (s : GlobalState). (g.G.Register.knows c.args.register.now who).index ≤ s.index) (sym (c.propose.ensures.knows who)) (c.take.ensures.rises who));
+            (λ who. subst (λ (s : GlobalState). (g.G.Register.knows c.args.register.now who).index ≤ s.index) (sym (c.propose.ensures.knows who)) (c.take.ensures.rises who));
       };
       follows = record { grows = heard.grows; holds = taken.may; letters = refl; boots = refl; down = refl; greatest = refl; knew = ap (λ (n : ℕ). put_at c.args.at n past.knew) last_index; leases = refl; writes = refl };
       goes_on = both (still_out c.in_ok-by_store.ensures.asked (both (both grown.1 to_store.1) goes)) (since (later_reading past.greatest input) done.1);

@@ -1,7 +1,10 @@
-//! Tests of the store on one machine.
+//! Tests of the store on one machine, and a toy over a register, owners and a store at once.
 #![tactic(auto)]
 
 #[cfg(test)]
 mod bench;
 #[cfg(test)]
 mod stores;
+mod toy;
+
+pub use toy::hear;

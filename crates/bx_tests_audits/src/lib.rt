@@ -2,6 +2,8 @@
 #![tactic(auto)]
 
 #[cfg(test)]
+mod inodes;
+#[cfg(test)]
 mod memory;
 #[cfg(test)]
 mod names;

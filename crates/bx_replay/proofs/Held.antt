@@ -58,3 +58,14 @@ crash_holds old new tree sizes left sure held = record {
 pub stays_sure : (a b : Bool) → b ≡ false → (not a && b) ≡ false
 stays_sure true b is = refl
 stays_sure false b is = is
+
+-- once a disk is dropped, it is sure as those before it are
+pub one_more : (disk d : ℕ) (unsure : Bool) → d < suc disk → (d < disk → unsure ≡ false) → (not (d == disk) && unsure) ≡ false
+one_more disk d unsure within before = by (same_or d disk)
+  where
+    same_or : (a b : ℕ) → (a ≡ b) ⊎ ((a ≡ b) → ⊥)
+    same_or a b = grind arith
+
+    by : (d ≡ disk) ⊎ ((d ≡ disk) → ⊥) → (not (d == disk) && unsure) ≡ false
+    by (inl same) = rw (eq_true d disk same) refl
+    by (inr other) = stays_sure (d == disk) unsure (before (omega (arith, within, other)))

@@ -1,6 +1,6 @@
 //! The disks under a replay.
 
-ghost use Rattle.std.specs.Prelude.{◌≡◌, ◌≤◌, IfErr, IsErrOf, OnOk};
+ghost use Rattle.std.specs.Prelude.{◌≡◌, ◌≤◌, ℕ, false, IfErr, IsErrOf, OnOk};
 ghost use Rattle.bx_base.specs.Faults.{Rose};
 ghost use Rattle.bx_disk.specs.declared.fault.RackError.TheVariants.{Fault, OutOfMemory as NoMemory};
 ghost use Rattle.bx_model.specs.declared.tree.Tree.{Tree};
@@ -32,8 +32,9 @@ pub(crate) fn make_volume<B: Rack>(
     Ok(())
 }
 
-/// Drops what is unsure on the bench. What its images stood for they stand for still, also where memory ran out.
+/// Drops what is unsure on the bench: then nothing is. What its images stood for they stand for still, also where memory ran out.
 pub(crate) fn drop_unsure<B: CrashRack>(bench: &mut B) -> Result<(), OutOfMemory>
+    ensures dropped { (d s : ℕ) → B.tells bench.old → OnOk result ((B.state bench.new).unsure d s ≡ false) }
     ensures holds { (tree : Tree) → B.tells bench.old → IsHeldBy (B.state bench.old) tree → IsHeldBy (B.state bench.new) tree }
     ensures no_fault { B.faults bench.new ≡ B.faults bench.old }
     ensures keeps_telling { B.tells bench.old → B.tells bench.new }

@@ -1,6 +1,6 @@
 //! How a replay begins, and how it ends.
 
-ghost use Rattle.std.specs.Prelude.{◌≡◌, ◌≤◌, [], ◌++◌, IfOk, IfErr, MatchResult};
+ghost use Rattle.std.specs.Prelude.{◌≡◌, ◌≤◌, ℕ, false, [], ◌++◌, IfOk, IfErr, MatchResult, OnOk};
 ghost use Rattle.bx_replay.specs.Outcome.{closing_text};
 ghost use Rattle.bx_replay.specs.Bench.{IsHeldBy};
 ghost use Rattle.bx_replay.specs.Replay.{Begins, Finishes, HasBeginCause, HasPrintCause, UnlessDisk, UnlessRead, UnlessWrite};
@@ -54,6 +54,7 @@ impl Replay {
     pub fn finish<K: Sink, B: CrashRack>(&self, bench: &mut B, out: &mut K) -> Result<(), Stop>
         ensures finishes { K.tells out.old → Finishes result (closing_text [] self.now.tree) (K.written out.old) (K.written out.new) }
         ensures holds { B.tells bench.old → IsHeldBy (B.state bench.old) self.now.tree → IsHeldBy (B.state bench.new) self.now.tree }
+        ensures dropped { (d s : ℕ) → B.tells bench.old → OnOk result ((B.state bench.new).unsure d s ≡ false) }
         ensures bench_first { B.faults bench.new ≡ B.faults bench.old }
         ensures bench_tells { B.tells bench.old → B.tells bench.new }
         ensures cause { IfErr result (λ stop. HasPrintCause stop (K.faults out.old) (K.faults out.new)) }

@@ -1,6 +1,6 @@
 //! The whole of a replay.
 
-ghost use Rattle.std.specs.Prelude.{◌≡◌, ◌≤◌, IfErr};
+ghost use Rattle.std.specs.Prelude.{◌≡◌, ◌≤◌, ℕ, false, IfErr, OnOk};
 ghost use Rattle.bx_replay.specs.Bench.{IsHeldBy};
 ghost use Rattle.bx_replay.specs.Replay.{HasCause, Leaves, UnlessDisk, UnlessRead, UnlessWrite};
 
@@ -14,7 +14,7 @@ use std::alloc::Global;
 
 /// Replays the schedule of `input` and writes its trace to `out` as it goes; then the word `end` and the listing
 /// of the tree. It keeps one line of the schedule at a time. The bench becomes a volume of the heading's number, whose
-/// images stand for the tree.
+/// images stand for the tree, and nothing on it is unsure at the end.
 pub fn replay<S: Source, K: Sink, B: CrashRack>(
     alloc: Global,
     input: &mut S,
@@ -22,6 +22,7 @@ pub fn replay<S: Source, K: Sink, B: CrashRack>(
     bench: &mut B,
 ) -> Result<(), Stop>
     ensures leaves { S.tells input.old → Leaves (K.tells out.old) (λ tree. B.tells bench.old → IsHeldBy (B.state bench.new) tree) result (S.left input.old) (S.left input.new) (K.written out.old) (K.written out.new) }
+    ensures dropped { (d s : ℕ) → B.tells bench.old → OnOk result ((B.state bench.new).unsure d s ≡ false) }
     ensures cause { IfErr result (λ stop. HasCause stop (S.faults input.old) (S.faults input.new) (K.faults out.old) (K.faults out.new) (B.faults bench.old) (B.faults bench.new)) }
     ensures bench_first { UnlessDisk result (B.faults bench.new ≡ B.faults bench.old) }
     ensures bench_later { B.faults bench.old ≤ B.faults bench.new }

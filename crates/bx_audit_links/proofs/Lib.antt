@@ -1,0 +1,9 @@
+pub mod Directories
+pub mod Emptied
+pub mod FileTree
+pub mod Kept
+pub mod ReachedOnes
+pub mod Rests
+pub mod Stand
+pub mod Sums
+pub mod Ways

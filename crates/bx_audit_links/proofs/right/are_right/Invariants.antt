@@ -1,0 +1,10 @@
+use Rattle.std.specs.Prelude.{Contains}
+use Rattle.bx_audit_links.specs.Right.{IsRight}
+use Rattle.bx_tree_files.specs.declared.file.File.{File}
+use Rattle.bx_audit_links.proofs.right.are_right.Given as goal
+
+abbrev pub invariant-loop-file : goal.invariant-loop-file
+invariant-loop-file l = record {
+  all : ((file : File) → Contains l.file-iterator file → IsRight l.files l.root file) → (file : File) → Contains l.files file → IsRight l.files l.root file;
+  rest : (file : File) → Contains l.file-iterator file → Contains l.files file;
+}

@@ -1,0 +1,4 @@
+pub mod InOrder
+pub mod Right
+pub mod Counted
+pub mod Reached

@@ -1,0 +1,10 @@
+//! Whether files are a file tree: their links, their parents, and that the root leads to each directory.
+#![tactic(auto)]
+
+mod counts;
+mod entries;
+mod file_trees;
+mod reached;
+mod right;
+
+pub use file_trees::is_file_tree;

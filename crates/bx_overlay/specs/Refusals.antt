@@ -1,5 +1,5 @@
 -- Why disks are refused.
-use Rattle.std.specs.Prelude.{◌≡◌, ◌≢◌, ◌⊎◌, ℕ, List, length, slice_get, Some}
+use Rattle.std.specs.Prelude.{◌≡◌, ◌≢◌, ◌⊎◌, ℕ, List, length, slice_get, Some, Result, Ok, Err}
 use Rattle.bx_disk.specs.Disks.{Image, Disks}
 use Rattle.bx_disk.specs.declared.fault.RackError.{RackError}
 use Rattle.bx_disk.specs.declared.fault.RackError.TheVariants.{Fault, OutOfMemory as OutOfRackMemory}
@@ -23,6 +23,16 @@ audit_error OutOfRackMemory = OutOfMemory
 -- a disk failed, or memory ran out
 abbrev pub IsBreak : AuditError → Type 0
 IsBreak error = (error ≡ DiskFault) ⊎ (error ≡ OutOfMemory)
+
+-- a fact that holds unless a disk failed
+abbrev pub UnlessFault : {A : Type 0} → Result A AuditError → Type 0 → Type 0
+UnlessFault (Ok value) P = P
+UnlessFault (Err DiskFault) P = Unit {0}
+UnlessFault (Err (NoLabel disk)) P = P
+UnlessFault (Err NoMajority) P = P
+UnlessFault (Err (NoSource device)) P = P
+UnlessFault (Err (Torn block found wanted)) P = P
+UnlessFault (Err OutOfMemory) P = P
 
 -- ---- labels and members
 

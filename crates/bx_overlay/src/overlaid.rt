@@ -2,7 +2,7 @@
 
 ghost use Rattle.std.specs.Prelude.{◌≡◌, ◌≤◌, length, IfOk, IfSome, IfNone, OnOk, IsErrOf};
 ghost use Rattle.bx_base.specs.Faults.{Rose};
-ghost use Rattle.bx_disk.specs.declared.fault.RackError.TheVariants.{Fault};
+ghost use Rattle.bx_disk.specs.declared.fault.RackError.TheVariants.{Fault, OutOfMemory as MemoryRanOut};
 ghost use Rattle.bx_homes.specs.Slots.{AreBlocks, IsFirstFault};
 ghost use Rattle.bx_truth.specs.Chunks.{IsChunked};
 ghost use Rattle.bx_views.specs.Truths.{Truth};
@@ -104,6 +104,7 @@ pub fn first_wrong<R: Rack>(
     ensures some { R.tells rack.old → IfOk result (λ found. IfSome found (λ at. (truth : Truth) → AreBlocks members.areas (StandsOver (held_by (R.state rack.old).reads members) members.devices newest.now) truth → IsFirstFault members.areas truth at)) }
     ensures cause { IsErrOf result Fault → Rose (R.faults rack.old) (R.faults rack.new) }
     ensures later { R.faults rack.old ≤ R.faults rack.new }
+    ensures memory_counts { IsErrOf result MemoryRanOut → R.faults rack.new ≡ R.faults rack.old }
     ensures no_fault { OnOk result (R.faults rack.new ≡ R.faults rack.old) }
     ensures keeps_telling { R.tells rack.old → R.tells rack.new }
 {

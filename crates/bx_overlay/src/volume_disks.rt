@@ -2,13 +2,13 @@
 
 ghost use Rattle.std.specs.Prelude.{◌≡◌, ◌↔◌, ◌≤◌, ◌⊎◌, ℕ, false, length, slice_get, Some, IfOk, IfErr, OnOk, IsErrOf};
 ghost use Rattle.bx_base.specs.Faults.{Rose};
-ghost use Rattle.bx_disk.specs.Counts.{NoneFalls};
+ghost use Rattle.bx_disk.specs.Counts.{NoneFalls, NoneRose};
 ghost use Rattle.bx_layout.specs.Labels.{IsLabel};
 ghost use Rattle.bx_volume.specs.Images.{IsFirstLabel};
 ghost use Rattle.bx_overlay.specs.declared.error.AuditError.TheVariants.{DiskFault, NoLabel};
 ghost use Rattle.bx_overlay.specs.Members.{AreThere};
 ghost use Rattle.bx_overlay.specs.Reading.{AreMembers, AreOverlay, IsRead, IsRefused};
-ghost use Rattle.bx_overlay.specs.Refusals.{AreAccepted, HasNoLabel, IsBreak, RefusesLogs, RefusesMembers};
+ghost use Rattle.bx_overlay.specs.Refusals.{AreAccepted, HasNoLabel, IsBreak, RefusesLogs, RefusesMembers, UnlessFault};
 
 use crate::error::AuditError;
 use crate::logs::{points_of, read_logs};
@@ -52,6 +52,7 @@ pub fn read_disks<R: Rack>(
     ensures stays { R.tells rack.old → R.state rack.new ≡ R.state rack.old }
     ensures cause { IsErrOf result DiskFault → Rose (R.faults rack.old) (R.faults rack.new) }
     ensures later { NoneFalls (R.faults rack.old) (R.faults rack.new) (R.faults_of rack.old) (R.faults_of rack.new) }
+    ensures counts { UnlessFault result (NoneRose (R.faults rack.old) (R.faults rack.new) (R.faults_of rack.old) (R.faults_of rack.new)) }
     ensures sizes { (R.state rack.new).sizes ≡ (R.state rack.old).sizes }
     ensures keeps_telling { R.tells rack.old → R.tells rack.new }
 {
@@ -74,6 +75,7 @@ fn find_first<R: Rack>(rack: &mut R) -> Result<Label, AuditError>
     ensures stays { R.tells rack.old → R.state rack.new ≡ R.state rack.old }
     ensures cause { IsErrOf result DiskFault → Rose (R.faults rack.old) (R.faults rack.new) }
     ensures later { NoneFalls (R.faults rack.old) (R.faults rack.new) (R.faults_of rack.old) (R.faults_of rack.new) }
+    ensures counts { UnlessFault result (NoneRose (R.faults rack.old) (R.faults rack.new) (R.faults_of rack.old) (R.faults_of rack.new)) }
     ensures sizes { (R.state rack.new).sizes ≡ (R.state rack.old).sizes }
     ensures keeps_telling { R.tells rack.old → R.tells rack.new }
 {
@@ -97,6 +99,7 @@ fn find_members<R: Rack>(
     ensures stays { R.tells rack.old → R.state rack.new ≡ R.state rack.old }
     ensures cause { IsErrOf result DiskFault → Rose (R.faults rack.old) (R.faults rack.new) }
     ensures later { NoneFalls (R.faults rack.old) (R.faults rack.new) (R.faults_of rack.old) (R.faults_of rack.new) }
+    ensures counts { UnlessFault result (NoneRose (R.faults rack.old) (R.faults rack.new) (R.faults_of rack.old) (R.faults_of rack.new)) }
     ensures sizes { (R.state rack.new).sizes ≡ (R.state rack.old).sizes }
     ensures keeps_telling { R.tells rack.old → R.tells rack.new }
 {
@@ -142,6 +145,7 @@ fn read_overlay<R: Rack>(
     ensures stays { R.tells rack.old → R.state rack.new ≡ R.state rack.old }
     ensures cause { IsErrOf result DiskFault → Rose (R.faults rack.old) (R.faults rack.new) }
     ensures later { NoneFalls (R.faults rack.old) (R.faults rack.new) (R.faults_of rack.old) (R.faults_of rack.new) }
+    ensures counts { UnlessFault result (NoneRose (R.faults rack.old) (R.faults rack.new) (R.faults_of rack.old) (R.faults_of rack.new)) }
     ensures sizes { (R.state rack.new).sizes ≡ (R.state rack.old).sizes }
     ensures keeps_telling { R.tells rack.old → R.tells rack.new }
 {

@@ -1,6 +1,7 @@
 -- What the bench holds once it is made, and after a crash of a disk.
-use Rattle.std.proofs.Common.{◌≡◌, ℕ, zero, suc, ◌⊎◌, inl, inr, Bool, true, false, List, Some, sym, ◌∙◌, subst, refl}
-use Rattle.std.specs.Prelude.{not, ◌&&◌, slice_get}
+use Rattle.std.proofs.Common.{◌≡◌, ℕ, zero, suc, ◌+◌, ◌<◌, ◌⊎◌, inl, inr, Bool, true, false, List, Some, arith, sym, ◌∙◌, subst, refl}
+use Rattle.std.specs.Prelude.{not, ◌&&◌, ◌==◌, slice_get}
+use Rattle.std.proofs.lemmas.Bool.{eq-eqb}
 use Rattle.bx_disk.specs.Disks.{Image, Disks, IsImage, IsSector}
 use Rattle.bx_global.specs.Opening.{opening_state}
 use Rattle.bx_model.specs.declared.tree.Tree.{Tree}
@@ -60,12 +61,12 @@ stays_sure true b is = refl
 stays_sure false b is = is
 
 -- once a disk is dropped, it is sure as those before it are
-pub one_more : (disk d : ℕ) (unsure : Bool) → d < suc disk → (d < disk → unsure ≡ false) → (not (d == disk) && unsure) ≡ false
+pub one_more : (disk d : ℕ) (unsure : Bool) → d < disk + 1 → (d < disk → unsure ≡ false) → (not (d == disk) && unsure) ≡ false
 one_more disk d unsure within before = by (same_or d disk)
   where
     same_or : (a b : ℕ) → (a ≡ b) ⊎ ((a ≡ b) → ⊥)
     same_or a b = grind arith
 
     by : (d ≡ disk) ⊎ ((d ≡ disk) → ⊥) → (not (d == disk) && unsure) ≡ false
-    by (inl same) = rw (eq_true d disk same) refl
+    by (inl same) = rw (eq-eqb d disk same) refl
     by (inr other) = stays_sure (d == disk) unsure (before (omega (arith, within, other)))

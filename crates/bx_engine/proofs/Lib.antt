@@ -1,0 +1,5 @@
+pub mod Acting
+pub mod Along
+pub mod Datagrams
+pub mod Paths
+pub mod Stopping

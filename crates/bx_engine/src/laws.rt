@@ -5,15 +5,17 @@ ghost use Rattle.bx_base.specs.declared.names.Mode.{Mode};
 ghost use Rattle.bx_base.specs.declared.names.Mode.TheVariants.{Exclusive, Shared};
 ghost use Rattle.bx_model.specs.declared.call.Args.TheVariants.{Handle, Refused, Set};
 ghost use Rattle.bx_model.specs.declared.call.Call.{Call};
+ghost use Rattle.bx_model.specs.declared.entry.Entry.{Entry};
 ghost use Rattle.bx_model.specs.declared.tree.Tree.{Tree};
 ghost use Rattle.bx_model.specs.Opening.{opening};
 ghost use Rattle.bx_nfs.specs.Wire.{ReadsAs};
 ghost use Rattle.bx_places.specs.Places.{is_block};
 ghost use Rattle.bx_tree_files.specs.declared.sattr.Sattr.{Sattr};
 ghost use Rattle.bx_truth.specs.Opening.{opening_truth};
+ghost use Rattle.bx_views.specs.Attempts.{Deed};
 ghost use Rattle.bx_views.specs.Truths.{Hints, Truth, no_hints, with_hint, without_hint};
 ghost use Rattle.bx_engine.specs.Paths.{IsOnPath};
-ghost use Rattle.bx_engine.specs.Steps.{StandsWith};
+ghost use Rattle.bx_engine.specs.Steps.{Enters, StandsWith, Step};
 
 /// The truth of a volume that was just made stands for its tree, with no hints. What stands for a tree does so whatever is hinted: so
 /// hints may be forgotten and dropped, and any block may be one.
@@ -32,4 +34,10 @@ pub fn paths_are_of_files()
     ensures exclusive { (volume : ℕ) (bytes : List ℕ) (at xid : ℕ) (call : Call) → IsOnPath volume bytes at Exclusive → ReadsAs bytes xid call
         → (handle : List ℕ) × (sattr : Sattr) × (call.args ≡ Set handle sattr) }
     ensures refused { (volume : ℕ) (bytes : List ℕ) (at xid number : ℕ) (mode : Mode) (call : Call) → IsOnPath volume bytes at mode → ReadsAs bytes xid call → call.args ≡ Refused number → ⊥ }
+{}
+
+/// A step by a deed is a step of a history, under whatever number its call has there; and a deed leads from a tree to one tree at most.
+pub fn steps_are_of_histories()
+    ensures enters { (tree next : Tree) (deed : Deed) (number : ℕ) → Step tree deed next → (entry : Entry) × (entry.call ≡ number) × Enters tree deed entry next }
+    ensures one { (tree a b : Tree) (deed : Deed) → Step tree deed a → Step tree deed b → a ≡ b }
 {}

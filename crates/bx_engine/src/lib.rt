@@ -8,4 +8,4 @@ mod replies;
 mod times;
 
 pub use engine::BoxFs;
-pub use laws::{hints_do_not_matter, paths_are_of_files};
+pub use laws::{hints_do_not_matter, paths_are_of_files, steps_are_of_histories};

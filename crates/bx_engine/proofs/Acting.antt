@@ -23,7 +23,7 @@ use Rattle.bx_tree_files.specs.Times.{time_of}
 use Rattle.bx_views.specs.declared.attempt.Attempt.{Attempt}
 use Rattle.bx_views.specs.declared.attempt.Attempt.TheVariants.{Need, Change, Inner, Answer}
 use Rattle.bx_views.specs.declared.attempt.Done.{Done}
-use Rattle.bx_views.specs.Attempts.{Acts, Deed, Gives, Leads, deed_of}
+use Rattle.bx_views.specs.Attempts.{Acts, Gives, deed_of}
 use Rattle.bx_views.specs.Truths.{Truth, with_draft}
 use Rattle.bx_records.specs.Drafts.{Changed}
 

@@ -1,5 +1,5 @@
 -- A datagram is one call at most, so what is said of its call is said of it.
-use Rattle.std.proofs.Common.{◌≡◌, ℕ, List, subst, sym}
+use Rattle.std.proofs.Common.{ℕ, List, subst}
 use Rattle.bx_base.specs.declared.names.Mode.{Mode}
 use Rattle.bx_engine.specs.Calls.{IsAtOnce, IsAtOnceCall, IsBuilt, IsBuiltCall}
 use Rattle.bx_engine.specs.Paths.{IsOnPath, PathOf}

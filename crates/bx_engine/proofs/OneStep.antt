@@ -11,16 +11,19 @@ use Rattle.bx_views.specs.Attempts.{Deed}
 
 pub entered : (tree next : Tree) (deed : Deed) (number : ℕ) → Step tree deed next → (entry : Entry) × (entry.call ≡ number) × Enters tree deed entry next
 entered tree next deed number s =
-    let entry : Entry = record { call = number; what = s.call; moment = deed.moment; spare = deed.spare; made = deed.made; reply = s.reply } in
-    (entry, refl, record {
-      xid = s.xid;
-      reads = s.reads;
-      moment = refl;
-      spare = refl;
-      made = refl;
-      replies = s.replies;
-      step = record { acts = s.acts; moment_fits = s.moment_fits; spare_fits = s.spare_fits; made_fits = s.made_fits; enough = s.enough };
-    })
+    let entry : Entry = record { call = number; what = s.call; moment = deed.moment; spare = deed.spare; made = deed.made; reply = s.reply } in (
+      entry,
+      refl,
+      record {
+        xid = s.xid;
+        reads = s.reads;
+        moment = refl;
+        spare = refl;
+        made = refl;
+        replies = s.replies;
+        step = record { acts = s.acts; moment_fits = s.moment_fits; spare_fits = s.spare_fits; made_fits = s.made_fits; enough = s.enough };
+      },
+    )
 
 next_in : Tree → Option (Reply × Tree) → Tree
 next_in tree (Some step) = step.1

@@ -1,5 +1,5 @@
 -- What is answered by a reply, by a change, and where an attempt was stopped.
-use Rattle.std.proofs.Common.{◌≡◌, ℕ, ◌<◌, List, [], ◌∷◌, None, Some, refl, sym, ap, subst, inl, inr, arith}
+use Rattle.std.proofs.Common.{◌≡◌, ℕ, List, [], ◌∷◌, None, refl, sym, ap, subst, inl, inr, arith}
 use Rattle.std.specs.Prelude.{◌⊎◌, true, Contains, IfOk, Result, Ok, Err}
 use Rattle.std.proofs.lemmas.Result.{IfOk-weaker}
 use Rattle.std.proofs.lemmas.List.Elements.{Contains-push_cases}
@@ -18,7 +18,7 @@ use Rattle.bx_places.specs.Places.{is_block}
 use Rattle.bx_reads.specs.Answers.{IsOutcome}
 use Rattle.bx_records.specs.Drafts.{Changed}
 use Rattle.bx_views.specs.declared.attempt.Attempt.{Attempt}
-use Rattle.bx_views.specs.declared.attempt.Attempt.TheVariants.{Need, Change, Inner, Answer}
+use Rattle.bx_views.specs.declared.attempt.Attempt.TheVariants.{Change, Answer}
 use Rattle.bx_views.specs.Attempts.{IsFair, IsFairNeed}
 use Rattle.bx_views.specs.Truths.{Held, Truth}
 

@@ -1,7 +1,10 @@
 use Rattle.bx_engine.proofs.Datagrams.{path_of}
-use Rattle.bx_engine.proofs.Paths.{exclusive_of, refused_none, shared_of}
+use Rattle.bx_engine.proofs.Paths.{exclusive_of, one_on, refused_none, shared_of}
 use Rattle.bx_base.specs.declared.names.Mode.TheVariants.{Exclusive, Shared}
 use Rattle.bx_engine.proofs.laws.paths_are_of_files.Goals as goal
+
+pub returns-clause-one : goal.returns-clause-one
+returns-clause-one c = one_on
 
 pub returns-clause-shared : goal.returns-clause-shared
 returns-clause-shared c = λ volume bytes at xid call on reads. shared_of volume at call.args (path_of bytes xid call reads volume at Shared on)

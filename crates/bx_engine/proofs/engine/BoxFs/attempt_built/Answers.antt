@@ -2,7 +2,7 @@ use Rattle.std.proofs.Common.{◌≡◌, ◌∙◌, ℕ, List, sym, ap, subst}
 use Rattle.std.specs.Prelude.{Ok, IfOk}
 use Rattle.bx_engine.proofs.Acting.{getattr_acts, gives_by, nothing_acts, refused_acts, setattr_acts}
 use Rattle.bx_engine.proofs.Stopping.{answered_comes}
-use Rattle.bx_engine.specs.Calls.{HasBuiltArgs, IsProcedure}
+use Rattle.bx_engine.specs.Calls.{HasBuiltArgs}
 use Rattle.bx_engine.specs.Outcomes.{WritesOne}
 use Rattle.bx_engine.specs.Paths.{PathOf}
 use Rattle.bx_model.specs.declared.call.Args.{Args}

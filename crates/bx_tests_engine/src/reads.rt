@@ -2,7 +2,7 @@
 
 use crate::desk::Desk;
 use crate::words::{
-    GONE, MODE, MODE_AND_SIZE, ROOT, attempt, bytes_of, is_answered, is_needed, nobody,
+    GONE, MODE, MODE_AND_SIZE, ROOT, attempt, bytes_of, is_answer, is_answered, is_needed, nobody,
 };
 use bx_base::Mode;
 use std::alloc::Global;
@@ -23,8 +23,37 @@ const CASES: [(&[u32], &[u32]); 6] = [
         &[10, 0, 2, 100003, 2, 0, 1, 8, 0, 0, 0, 0],
         &[10, 1, 1, 1, 1],
     ),
-    // SETATTR without a file handle
-    (&[4, 0, 2, 100003, 2, 2, 0, 0, 0, 0], &[4, 1, 0, 0, 0, 4]),
+    // SETATTR with seven of the eight words to set
+    (
+        &[
+            4,
+            0,
+            2,
+            100003,
+            2,
+            2,
+            0,
+            0,
+            0,
+            0,
+            0x424f_5857,
+            0x4f4f_4431,
+            0,
+            7,
+            0,
+            1,
+            0,
+            0,
+            0o755,
+            0,
+            0,
+            0,
+            0,
+            0,
+            0,
+        ],
+        &[4, 1, 0, 0, 0, 4],
+    ),
 ];
 
 /// The reply to a GETATTR of the root with number 1.
@@ -44,17 +73,12 @@ fn is_passed_over(alloc: Global, desk: &Desk, parts: &[&[u32]]) -> bool {
 }
 
 #[test]
-fn calls_about_no_file_need_nothing(rt: HostRuntime) -> Result<(), Fail> {
+fn calls_about_no_file_need_nothing(rt: HostRuntime) {
     let alloc = rt.alloc();
     let desk = Desk::new(alloc);
-    for (words, reply) in &CASES {
-        let call = bytes_of(alloc, &[*words])?;
-        assert!(rt;
-            is_answered(alloc, &desk, call.as_slice(), 0, *reply),
-            "{words:?}"
-        );
+    for (call, reply) in &CASES {
+        assert!(rt; is_answered(alloc, &desk, &[*call], 0, *reply), "{call:?}");
     }
-    Ok(())
 }
 
 #[test]
@@ -63,7 +87,7 @@ fn a_file_handle_that_is_cut_is_refused(rt: HostRuntime) -> Result<(), Fail> {
     let desk = Desk::new(alloc);
     let call = bytes_of(alloc, &[&nobody(9, 1), &ROOT])?;
     let cut = call.as_slice().get(..71).unwrap_or(&[]);
-    assert!(rt; is_answered(alloc, &desk, cut, 0, &[9, 1, 0, 0, 0, 4]));
+    assert!(rt; is_answer(alloc, &desk, cut, 0, &[9, 1, 0, 0, 0, 4]));
     Ok(())
 }
 
@@ -72,10 +96,9 @@ fn the_root_and_no_file_have_attributes(rt: HostRuntime) -> Result<(), Fail> {
     let alloc = rt.alloc();
     let mut desk = Desk::new(alloc);
     desk.lend(alloc, 0)?;
-    let root = bytes_of(alloc, &[&nobody(1, 1), &ROOT])?;
-    let gone = bytes_of(alloc, &[&nobody(1, 1), &GONE])?;
-    assert!(rt; is_answered(alloc, &desk, root.as_slice(), 0, &ATTRIBUTES));
-    assert!(rt; is_answered(alloc, &desk, gone.as_slice(), 0, &[1, 1, 0, 0, 0, 0, 70]));
+    let stale = [1, 1, 0, 0, 0, 0, 70];
+    assert!(rt; is_answered(alloc, &desk, &[&nobody(1, 1), &ROOT], 0, &ATTRIBUTES));
+    assert!(rt; is_answered(alloc, &desk, &[&nobody(1, 1), &GONE], 0, &stale));
     Ok(())
 }
 
@@ -83,11 +106,17 @@ fn the_root_and_no_file_have_attributes(rt: HostRuntime) -> Result<(), Fail> {
 fn what_is_not_held_so_is_needed(rt: HostRuntime) -> Result<(), Fail> {
     let alloc = rt.alloc();
     let mut desk = Desk::new(alloc);
-    let get = bytes_of(alloc, &[&nobody(1, 1), &ROOT])?;
-    let set = bytes_of(alloc, &[&nobody(1, 2), &ROOT, &MODE])?;
-    assert!(rt; is_needed(alloc, &desk, get.as_slice(), 0, Mode::Shared));
+    assert!(rt; is_needed(alloc, &desk, &[&nobody(1, 1), &ROOT], 0, Mode::Shared));
     desk.lend(alloc, 0)?;
-    assert!(rt; is_needed(alloc, &desk, set.as_slice(), 0, Mode::Exclusive));
+    assert!(rt;
+        is_needed(
+            alloc,
+            &desk,
+            &[&nobody(1, 2), &ROOT, &MODE],
+            0,
+            Mode::Exclusive
+        )
+    );
     Ok(())
 }
 
@@ -96,7 +125,7 @@ fn other_datagrams_are_passed_over(rt: HostRuntime) -> Result<(), Fail> {
     let alloc = rt.alloc();
     let mut desk = Desk::new(alloc);
     desk.hold(alloc, 0)?;
-    // STATFS, a SETATTR of the size too, a MOUNT's NULL, a reply, and a word
+    // a SETATTR of the size too, STATFS, a MOUNT's NULL, a reply, and a word
     let sized = is_passed_over(alloc, &desk, &[&nobody(1, 2), &ROOT, &MODE_AND_SIZE]);
     let space = is_passed_over(alloc, &desk, &[&nobody(1, 17), &ROOT]);
     let mount = is_passed_over(alloc, &desk, &[&[1, 0, 2, 100005, 1, 0, 0, 0, 0, 0]]);

@@ -31,13 +31,6 @@ pub(crate) fn nobody(number: u32, procedure: u32) -> [u32; 10] {
     [number, 0, 2, 100003, 2, procedure, 0, 0, 0, 0]
 }
 
-/// The same of a user's, who is in the group with his number.
-pub(crate) fn user(number: u32, procedure: u32, uid: u32) -> [u32; 15] {
-    [
-        number, 0, 2, 100003, 2, procedure, 1, 20, 0, 0, uid, uid, 0, 0, 0,
-    ]
-}
-
 /// The bytes of words.
 pub(crate) fn bytes_of(alloc: Global, parts: &[&[u32]]) -> Result<Vec<u8>, AllocError> {
     let mut bytes = Vec::new(alloc);
@@ -67,8 +60,8 @@ pub(crate) fn attempt(
     ENGINE.attempt(alloc, 5, call, u64::from(moment), desk)
 }
 
-/// Whether a call is answered so, without a change.
-pub(crate) fn is_answered(
+/// Whether the bytes of a call are answered so, without a change.
+pub(crate) fn is_answer(
     alloc: Global,
     desk: &Desk,
     call: &[u8],
@@ -83,9 +76,26 @@ pub(crate) fn is_answered(
     }
 }
 
+/// Whether the words of a call are answered so, without a change.
+pub(crate) fn is_answered(
+    alloc: Global,
+    desk: &Desk,
+    parts: &[&[u32]],
+    moment: u32,
+    reply: &[u32],
+) -> bool {
+    match bytes_of(alloc, parts) {
+        Ok(call) => is_answer(alloc, desk, call.as_slice(), moment, reply),
+        Err(_) => false,
+    }
+}
+
 /// Whether a call needs this block alone, in this mode.
-pub(crate) fn is_needed(alloc: Global, desk: &Desk, call: &[u8], at: u64, mode: Mode) -> bool {
-    match attempt(alloc, desk, call, 0) {
+pub(crate) fn is_needed(alloc: Global, desk: &Desk, parts: &[&[u32]], at: u64, mode: Mode) -> bool {
+    let Ok(call) = bytes_of(alloc, parts) else {
+        return false;
+    };
+    match attempt(alloc, desk, call.as_slice(), 0) {
         Ok(Some(Attempt::Need(wants))) => wants.items() == [(at, mode)].as_slice(),
         _ => false,
     }

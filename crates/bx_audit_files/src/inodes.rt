@@ -35,6 +35,7 @@ pub fn block_at<B: Blocks>(
     ensures shows { (chunks : Chunks) → Shows (B.tells blocks.old) areas (B.stands blocks.old) chunks → Shows (B.tells blocks.new) areas (B.stands blocks.new) chunks }
     ensures counts { Counts result (B.faults blocks.old) (B.faults blocks.new) }
     ensures keeps_areas { B.areas blocks.new ≡ B.areas blocks.old }
+    ensures keeps_lender { B.lender blocks.new ≡ B.lender blocks.old }
     ensures keeps_ready { B.ready blocks.new }
 {
     let block = chunk_at(blocks, areas, handle)?;
@@ -60,6 +61,7 @@ pub fn inode_at<B: Blocks>(
     ensures shows { (chunks : Chunks) → Shows (B.tells blocks.old) areas (B.stands blocks.old) chunks → Shows (B.tells blocks.new) areas (B.stands blocks.new) chunks }
     ensures counts { Counts result (B.faults blocks.old) (B.faults blocks.new) }
     ensures keeps_areas { B.areas blocks.new ≡ B.areas blocks.old }
+    ensures keeps_lender { B.lender blocks.new ≡ B.lender blocks.old }
     ensures keeps_ready { B.ready blocks.new }
 {
     let block = block_at(blocks, areas, handle, INODE)?;

@@ -1,6 +1,6 @@
 -- The bodies of inodes with trees, both ways.
-use Rattle.std.proofs.Common.{◌≡◌, ℕ, ◌+◌, ◌*◌, ◌/◌, ◌%◌, ◌^◌, ◌<◌, ◌≤◌, ◌⊎◌, inl, inr, arith, lit<, List, [], ◌∷◌, ◌++◌, length, get_or, refl, sym, ap, ◌∙◌, subst, Option, Some, None}
-use Rattle.std.specs.Prelude.{All, Contains, ◌≢◌, option_and_then, IfSome}
+use Rattle.std.proofs.Common.{◌≡◌, ℕ, ◌/◌, ◌%◌, ◌^◌, ◌<◌, ◌⊎◌, inl, inr, arith, lit<, List, [], ◌++◌, length, get_or, refl, sym, ap, ◌∙◌, subst, Option, Some, None}
+use Rattle.std.specs.Prelude.{All, Contains, ◌≢◌, option_and_then}
 use Rattle.std.proofs.lemmas.List.Elements.{Contains-get_or}
 use Rattle.bx_layout.specs.declared.block.Block.{Block}
 use Rattle.bx_layout.specs.declared.inode.Inode.{Inode}
@@ -13,8 +13,8 @@ use Rattle.bx_tree_files.specs.declared.file.File.{File}
 use Rattle.bx_tree_files.specs.declared.file.Name.{Name}
 use Rattle.bx_tree_files.specs.Entries.{AreBelow}
 use Rattle.bx_tree_files.specs.Files.{IsNumbered, size_of}
-use Rattle.bx_truth.specs.Keys.{name_key, entry_key, content_key, content_value}
-use Rattle.bx_truth.specs.PageTrees.{Chunks, Node, PageTree, IsPageOf, IsTree, map_of, handle_in}
+use Rattle.bx_truth.specs.Keys.{content_key, content_value}
+use Rattle.bx_truth.specs.PageTrees.{Chunks, Node, PageTree, IsTree, map_of, handle_in}
 use Rattle.bx_truth.specs.Stored.{Owner, DataOf, Stored, HasTree, HasContents, AreBytesOf, AreNames, IsOfName, IsRegular, HasBody, byte_in, piece_of}
 use Rattle.bx_truth.proofs.OneTree.{one_map}
 use Rattle.bx_truth.proofs.PieceKeys.{one_index, one_handle}
@@ -25,7 +25,7 @@ use Rattle.bx_audit_trees.specs.Trees.{tree_of}
 use Rattle.bx_audit_bodies.specs.Bodies.{HasPieces, IsBodyOf, HasBodyOf, file_with}
 use Rattle.bx_audit_bodies.specs.Claiming.{page_claims, piece_claims}
 use Rattle.bx_audit_bodies.specs.Claims.{AgreesWith, AreClaims, IsNamedBy, IsPieceNamed}
-use Rattle.bx_audit_bodies.specs.Pieces.{IsOfPiece, IsPieceEntry, ArePieces, AreApart, HasPiece, piece_among}
+use Rattle.bx_audit_bodies.specs.Pieces.{IsPieceEntry, AreApart, HasPiece, piece_among}
 use Rattle.bx_audit_bodies.specs.declared.claims.Claim.{Claim}
 use Rattle.bx_audit_bodies.specs.declared.pieces.Piece.{Piece}
 use Rattle.bx_audit_bodies.proofs.ClaimsOfTrees.{all_claimed, are_claims, agree, complete, has_root, pages_own}

@@ -1,6 +1,6 @@
 -- What results and options imply.
 use Rattle.std.proofs.Common.{Option, Some, None, Result, Ok, Err}
-use Rattle.std.specs.Prelude.{IfOk, IfSome, IfNone}
+use Rattle.std.specs.Prelude.{IfSome, IfNone}
 use Rattle.bx_audit_trees.specs.declared.error.AuditError.{AuditError}
 use Rattle.bx_audit_trees.specs.declared.error.AuditError.TheVariants.{Torn, Fault, OutOfMemory}
 use Rattle.std.proofs.Common.{ℕ}

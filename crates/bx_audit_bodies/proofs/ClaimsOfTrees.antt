@@ -1,19 +1,18 @@
 -- The claims of the pages of a tree and of the pieces that it names.
-use Rattle.std.proofs.Common.{◌≡◌, ℕ, zero, suc, ◌+◌, ◌-◌, ◌^◌, ◌<◌, ◌≤◌, ◌⊎◌, inl, inr, arith, List, [], ◌∷◌, ◌++◌, length, get_or, refl, sym, ap, ◌∙◌, subst, Option, Some, None}
+use Rattle.std.proofs.Common.{◌≡◌, ℕ, zero, suc, ◌<◌, ◌⊎◌, inl, inr, arith, List, [], ◌∷◌, ◌++◌, length, get_or, refl, sym, ap, ◌∙◌, subst, Option, Some, None}
 use Rattle.std.specs.Prelude.{Contains, ◌≢◌, map}
 use Rattle.std.proofs.lemmas.List.Elements.{Contains-append_left, Contains-append_right, Contains-append_cases}
-use Rattle.bx_layout.specs.declared.block.Block.{Block}
 use Rattle.bx_layout.specs.declared.inode.Inode.{Inode}
 use Rattle.bx_page.specs.declared.entry.Entry.{Entry}
 use Rattle.bx_page.specs.Contents.{value_of}
-use Rattle.bx_truth.specs.Keys.{content_key, content_value}
-use Rattle.bx_truth.specs.PageTrees.{Chunks, Node, PageTree, IsIn, IsPageOf, IsTree, map_of}
-use Rattle.bx_truth.specs.Stored.{Owner, PageOf, DataOf, Stored, HasTree}
+use Rattle.bx_truth.specs.Keys.{content_key}
+use Rattle.bx_truth.specs.PageTrees.{Chunks, Node, PageTree, IsIn, IsPageOf, IsTree}
+use Rattle.bx_truth.specs.Stored.{Owner, PageOf, DataOf, Stored}
 use Rattle.bx_truth.proofs.OneTree.{one_map, same_pages}
 use Rattle.bx_audit_trees.specs.Trees.{tree_of}
 use Rattle.bx_audit_trees.proofs.Descents.{root_page_at}
 use Rattle.bx_audit_bodies.specs.Claiming.{page_claim, page_claims, piece_claims}
-use Rattle.bx_audit_bodies.specs.Claims.{AgreesWith, AreClaims, IsClaim, IsNamedBy, IsPageNamed, IsPieceNamed, owner_by}
+use Rattle.bx_audit_bodies.specs.Claims.{AgreesWith, AreClaims, IsClaim, IsNamedBy, IsPieceNamed, owner_by}
 use Rattle.bx_audit_bodies.specs.Pieces.{HasPiece}
 use Rattle.bx_audit_bodies.specs.declared.claims.Claim.{Claim}
 use Rattle.bx_audit_bodies.specs.declared.pieces.Piece.{Piece}

@@ -1,6 +1,6 @@
 -- The entries of a tree, and the pieces that they name.
-use Rattle.std.proofs.Common.{◌≡◌, ℕ, suc, ◌+◌, ◌^◌, ◌<◌, arith, Bool, true, false, List, [], ◌∷◌, ◌++◌, length, drop, get_or, cond, refl, sym, ap, ◌∙◌, subst, Option, Some, None}
-use Rattle.std.specs.Prelude.{All, AllPairs, Contains, ◌≢◌, ◌==◌, map, bytes_eq, option_and_then, if◌then◌else◌}
+use Rattle.std.proofs.Common.{◌≡◌, ℕ, suc, ◌^◌, ◌<◌, arith, Bool, true, false, List, [], ◌∷◌, drop, get_or, cond, refl, sym, ap, ◌∙◌, subst, Some}
+use Rattle.std.specs.Prelude.{All, Contains, ◌≢◌, map, bytes_eq, option_and_then, if◌then◌else◌}
 use Rattle.std.specs.Int.{w32, w64, from_be_bytes}
 use Rattle.std.specs.List.{find}
 use Rattle.std.specs.Option.{option_map}
@@ -16,7 +16,7 @@ use Rattle.bx_truth.specs.Keys.{content_key, content_value}
 use Rattle.bx_truth.specs.PageTrees.{Chunks, handle_in}
 use Rattle.bx_truth.proofs.Cases.{eq_true, eq_false}
 use Rattle.bx_truth.proofs.Frames.{handle_back}
-use Rattle.bx_truth.proofs.PieceKeys.{one_index, one_handle, not_yes}
+use Rattle.bx_truth.proofs.PieceKeys.{one_index, one_handle}
 use Rattle.bx_audit_files.proofs.PairedEntries.{of_all, value_in, entry_in}
 use Rattle.bx_audit_bodies.specs.Pieces.{IsOfPiece, IsPieceEntry, piece_in, ArePieces, AreApart, piece_among}
 use Rattle.bx_audit_bodies.specs.declared.pieces.Piece.{Piece}

@@ -1,5 +1,5 @@
 -- Members of lists.
-use Rattle.std.proofs.Common.{◌≡◌, ℕ, zero, suc, ◌<◌, arith, List, [], ◌∷◌, length, get_or, refl, ap, subst}
+use Rattle.std.proofs.Common.{◌≡◌, zero, suc, arith, List, [], ◌∷◌, ap, subst}
 use Rattle.std.specs.Prelude.{Contains, map}
 use Rattle.bx_truth.specs.PageTrees.{IsIn}
 use Rattle.bx_audit_trees.proofs.NodeLists.{at_place, place_of}

@@ -1,5 +1,5 @@
 -- Pieces read one by one.
-use Rattle.std.proofs.Common.{◌≡◌, ℕ, ◌+◌, ◌-◌, ◌*◌, ◌^◌, ◌<◌, ◌≤◌, ◌⊎◌, inl, inr, min, arith, List, [], ◌∷◌, ◌++◌, length, take, drop, get_or, replicate, refl, sym, ap, ◌∙◌, subst, Option, Some}
+use Rattle.std.proofs.Common.{◌≡◌, ℕ, ◌+◌, ◌-◌, ◌*◌, ◌^◌, ◌<◌, ◌≤◌, ◌⊎◌, inl, inr, min, arith, List, [], ◌∷◌, ◌++◌, length, take, drop, get_or, replicate, sym, ap, ◌∙◌, subst, Option, Some}
 use Rattle.std.specs.Prelude.{All, ◌≢◌}
 use Rattle.std.proofs.lemmas.List.{ext_get_or, take_more, length-take, length-drop, length-replicate, get_or-take, get_or-drop, get_or-replicate, get_or_default, get_or_past}
 use Rattle.std.proofs.lemmas.List.Elements.{All-push}

@@ -1,6 +1,6 @@
 -- What was read of an inode, both ways.
 use Rattle.std.proofs.Common.{◌≡◌, ℕ, ◌⊎◌, inl, inr, sym, ap, ◌∙◌, subst, refl, List, Option, Some, None}
-use Rattle.std.specs.Prelude.{◌≢◌, IfSome}
+use Rattle.std.specs.Prelude.{◌≢◌}
 use Rattle.bx_layout.specs.declared.block.Block.{Block}
 use Rattle.bx_layout.specs.declared.inode.Inode.{Inode}
 use Rattle.bx_tree_files.specs.declared.file.Body.{Body}

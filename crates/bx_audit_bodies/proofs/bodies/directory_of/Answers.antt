@@ -1,4 +1,4 @@
-use Rattle.std.proofs.Common.{◌≡◌, List, Some, sym, ap, ◌∙◌, Err, subst}
+use Rattle.std.proofs.Common.{List, Some, sym, ap, ◌∙◌, Err, subst}
 use Rattle.std.proofs.lemmas.Result.{err_from_is_err_and}
 use Rattle.bx_homes.proofs.Sectors.{of_some, of_none}
 use Rattle.bx_page.specs.declared.entry.Entry.{Entry}

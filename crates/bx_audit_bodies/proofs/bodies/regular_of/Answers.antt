@@ -1,4 +1,4 @@
-use Rattle.std.proofs.Common.{◌≡◌, ℕ, List, Some, arith, sym, ap, ◌∙◌, Err, subst}
+use Rattle.std.proofs.Common.{List, Some, arith, sym, ap, ◌∙◌, Err, subst}
 use Rattle.std.specs.Prelude.{All}
 use Rattle.std.proofs.lemmas.Result.{err_from_is_err_and}
 use Rattle.bx_tree_files.specs.declared.file.File.{File}

@@ -1,4 +1,4 @@
-use Rattle.std.proofs.Common.{◌≡◌, ℕ, ◌<◌, length, List, take, sym, ap, ◌∙◌, Err, subst}
+use Rattle.std.proofs.Common.{◌<◌, length, List, ap, ◌∙◌, Err, subst}
 use Rattle.std.specs.Prelude.{All}
 use Rattle.std.proofs.lemmas.Result.{err_from_is_err_and}
 use Rattle.std.proofs.lemmas.List.{take_all}
@@ -6,7 +6,6 @@ use Rattle.bx_truth.specs.Stored.{AreBytesOf}
 use Rattle.bx_audit_trees.proofs.Ends.{if_torn}
 use Rattle.bx_audit_bodies.specs.Pieces.{HasPiece, piece_among}
 use Rattle.bx_audit_bodies.specs.declared.pieces.Piece.{Piece}
-use Rattle.bx_audit_bodies.proofs.PiecesInBytes.{no_bytes}
 use Rattle.bx_audit_bodies.proofs.PiecesRead.{read_more, bytes_step, no_bytes_of}
 use Rattle.bx_audit_bodies.proofs.contents.bytes_of.Goals as goal
 

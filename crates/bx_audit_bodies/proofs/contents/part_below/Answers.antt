@@ -1,4 +1,4 @@
-use Rattle.std.proofs.Common.{◌≡◌, ℕ, min, length, ap, ◌∙◌}
+use Rattle.std.proofs.Common.{ℕ, min, ap, ◌∙◌}
 use Rattle.bx_audit_bodies.proofs.PiecesRead.{part_taken}
 use Rattle.bx_audit_bodies.proofs.contents.part_below.Goals as goal
 

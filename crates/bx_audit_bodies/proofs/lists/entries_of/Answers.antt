@@ -1,7 +1,5 @@
-use Rattle.std.proofs.Common.{◌≡◌, List, sym, subst, ◌∙◌}
+use Rattle.std.proofs.Common.{◌≡◌, sym, subst, ◌∙◌}
 use Rattle.bx_homes.proofs.Sectors.{of_some, of_none}
-use Rattle.bx_tree_files.specs.declared.file.Name.{Name}
-use Rattle.bx_tree_files.specs.Entries.{AreBelow}
 use Rattle.bx_truth.specs.PageTrees.{map_of}
 use Rattle.bx_truth.specs.Stored.{AreNames}
 use Rattle.bx_truth.proofs.OneFile.{one_names}

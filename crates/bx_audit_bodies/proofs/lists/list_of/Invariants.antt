@@ -1,4 +1,4 @@
-use Rattle.std.proofs.Common.{◌≡◌, ℕ, suc, ◌-◌, ◌≤◌, ◌<◌, take, length, get_or}
+use Rattle.std.proofs.Common.{◌≡◌, suc, ◌-◌, ◌<◌, take, get_or}
 use Rattle.bx_tree_files.specs.declared.file.Name.{Name}
 use Rattle.bx_tree_files.specs.Entries.{AreBelow}
 use Rattle.bx_audit_bodies.proofs.lists.list_of.Given as goal

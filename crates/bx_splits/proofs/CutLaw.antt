@@ -14,8 +14,9 @@ use Rattle.bx_blink.specs.Hints.{Under}
 use Rattle.bx_blink.proofs.Handles.{alone}
 use Rattle.bx_leaves.specs.Leaves.{PutsPage}
 use Rattle.bx_splits.specs.Splits.{GrowsTree}
-use Rattle.bx_splits.proofs.CutUnder.{page_cut}
+use Rattle.bx_splits.proofs.CutUnder.{page_halved}
 use Rattle.bx_splits.proofs.Grown.{grows}
+use Rattle.bx_splits.proofs.Halved.{GrowsHalves}
 use Rattle.bx_splits.proofs.Middles.{middle, is_middle}
 
 -- a page that isn't the root is below the root's level
@@ -42,11 +43,14 @@ module _ (areas : ℕ) (held : Held) (hints : Hints) (truth : Truth) (old one tw
   put : new ≡ with_block (with_block one (block_at (with_draft truth one block).handle) p.block) (block_at node.handle) q.block
   put = q.put ∙ ap (λ (d : List Changed). with_block d (block_at node.handle) q.block) p.put
 
-  pub law_cut : GrowsTree areas held hints truth old new root tree node.handle (λ handle. handle ≡ (with_draft truth one block).handle)
-  law_cut =
+  pub law_halves : GrowsHalves areas held hints truth old new root tree node.handle (λ handle. handle ≡ (with_draft truth one block).handle) node.page node.handle (with_draft truth one block).handle
+  law_halves =
       let lt = not_top (chunks_of areas (with_draft truth old)) root tree node u.is i other in
       let n = ((u.is).levels i.level i.within).nodes_are node i.there in
-      subst (λ (d : List Changed). GrowsTree areas held hints truth old d root tree node.handle (λ handle. handle ≡ right)) (sym put)
-      (page_cut areas held hints truth old one root tree u i.level lt (i.there).before node (i.there).behind (i.there).parts right (middle node right ((n.has).spells).is more n.lowest none)
+      subst (λ (d : List Changed). GrowsHalves areas held hints truth old d root tree node.handle (λ handle. handle ≡ right) node.page node.handle right) (sym put)
+      (page_halved areas held hints truth old one root tree u i.level lt (i.there).before node (i.there).behind (i.there).parts right (middle node right ((n.has).spells).is more n.lowest none)
       (is_middle node right ((n.has).spells).is more n.lowest none)
       (grows areas u.few (with_draft truth old) (with_draft truth one) block slots slot takes u.chunked) q.block p.block q.header p.header q.has p.has)
+
+  pub law_cut : GrowsTree areas held hints truth old new root tree node.handle (λ handle. handle ≡ (with_draft truth one block).handle)
+  law_cut = law_halves.grows

@@ -1,25 +1,32 @@
 -- A page that isn't the root is cut in two under a truth: a slot is taken, and two pages are put.
 use Rattle.std.proofs.Common.{◌≡◌, ℕ, ◌<◌, Bool, true, false, eqb, cond, List, [], ◌∷◌, ◌++◌, Option, Some, None, refl, sym, ap, subst, ◌∙◌, arith, eqb-true, inl, inr}
-use Rattle.std.specs.Prelude.{◌⊎◌}
+use Rattle.std.specs.Prelude.{IfSome, ◌⊎◌}
 use Rattle.std.proofs.lemmas.Bool.{eq-eqb}
 use Rattle.bx_layout.specs.declared.block.Block.{Block}
 use Rattle.bx_records.specs.Drafts.{Changed, with_block}
-use Rattle.bx_page.specs.Contents.{first_half, other_half}
+use Rattle.bx_page.specs.Keys.{is_below, IsBelow}
+use Rattle.bx_page.specs.Contents.{Contents, first_half, other_half}
 use Rattle.bx_truth.specs.Chunks.{block_at, chunks_of}
 use Rattle.bx_truth.specs.Edits.{ChunkAnew}
-use Rattle.bx_truth.specs.PageTrees.{Chunks, Node, IsIn, HasPage, IsNode, PageTree, entries_of, map_of}
+use Rattle.bx_truth.specs.PageTrees.{Chunks, Node, IsIn, HasPage, IsNode, IsLevel, PageTree, entries_of, map_of}
 use Rattle.bx_truth.specs.Shown.{KeepsSlots}
 use Rattle.bx_truth.specs.Stands.{WasGiven}
 use Rattle.bx_views.specs.Truths.{Truth, Held, Hints, with_draft}
 use Rattle.bx_blink.specs.Hints.{Place, HintsAgree, HintsFit, Under}
+use Rattle.bx_blink.specs.Places.{IsPlaceOf}
+use Rattle.bx_blink.specs.Walks.{passes}
+use Rattle.bx_blink.proofs.Handles.{kept, passed}
 use Rattle.bx_blink.proofs.Sees.{Holds}
-use Rattle.bx_leaves.proofs.Members.{in_head, in_tail, in_right}
+use Rattle.bx_leaves.proofs.Apart.{same_page}
+use Rattle.bx_leaves.proofs.Exchanged.{apart_before, apart_behind}
+use Rattle.bx_leaves.proofs.Members.{in_head, in_tail, in_right, in_middle, in_split}
 use Rattle.bx_leaves.proofs.Replaced.{with_level}
 use Rattle.bx_leaves.proofs.Written.{puts_writes, holds_still}
 use Rattle.bx_splits.specs.Splits.{GrowsTree}
 use Rattle.bx_splits.proofs.Cut.{left_of, right_of, Cuts, IsMiddle, is_cut, entries_cut}
 use Rattle.bx_splits.proofs.CutPages.{forth, back}
 use Rattle.bx_splits.proofs.Grown.{Grows, still_given}
+use Rattle.bx_splits.proofs.Halved.{GrowsHalves, by_half}
 use Rattle.bx_splits.proofs.HintedCut.{agree_cut, cut_home}
 use Rattle.bx_splits.proofs.Kept.{kept_and, written_keeps, used_given}
 
@@ -149,3 +156,50 @@ module _ (areas : ℕ) (held : Held) (hints : Hints) (truth : Truth) (old one : 
       right_there : (b : Bool) → b ≡ true → IsIn (right_of node right middle) (cond b (before ++ left_of node right ∷ (right_of node right middle ∷ behind)) (tree.level level))
       right_there true e = in_right (right_of node right middle) before (left_of node right ∷ (right_of node right middle ∷ behind)) (in_tail (right_of node right middle) (left_of node right) (right_of node right middle ∷ behind) (in_head (right_of node right middle) behind))
       right_there false e = absurd cc
+
+  -- the page's node is this one
+  same_node : (l : ℕ) (key : List ℕ) (was : Contents) → (p : IsPlaceOf tree l key node.handle was) → (l ≡ level) × (p.node ≡ node)
+  same_node l key was p =
+      let m = ((u.is).levels l p.within).nodes_are p.node p.there in
+      let same : l ≡ level = sym m.same_level ∙ ap (λ (c : Contents). c.level) (same_page c0 l level p.node node m n p.handle_is) ∙ n.same_level in
+      let old_level : IsLevel c0 level (before ++ node ∷ behind) = rw parts at ((u.is).levels level (omega (arith, lt))) in (
+        same,
+        elim (in_split p.node node before behind (subst (λ (ns : List Node). IsIn p.node ns) (ap tree.level same ∙ parts) p.there)) [
+          | inl e ↦ e
+          | inr (inl i) ↦ absurd (apart_before c0 level before node behind old_level p.node i p.handle_is)
+          | inr (inr i) ↦ absurd (apart_behind c0 level before node behind old_level p.node i p.handle_is)
+        ],
+      )
+
+  in_cut : (l : ℕ) (x : Node) → l ≡ level → IsIn x (before ++ left_of node right ∷ (right_of node right middle ∷ behind)) → (b : Bool) → eqb l level ≡ b → IsIn x (cond b (before ++ left_of node right ∷ (right_of node right middle ∷ behind)) (tree.level l))
+  in_cut l x same i true e = i
+  in_cut l x same i false e = let both : false ≡ true = sym e ∙ eq-eqb l level same in absurd cc
+
+  -- each key of the page is in the range of one of the halves
+  pub page_halved : GrowsHalves areas held hints truth old (with_block (with_block one (block_at right) right_block) (block_at node.handle) left_block) root tree node.handle (λ handle. handle ≡ right) node.page node.handle right
+  unfolding page_cut
+  page_halved = record {
+    grows = page_cut;
+    places = λ l key was p.
+        let same = same_node l key was p in
+        by_half cut_tree l key node.page node.handle right
+        (λ e. record {
+          node = left_of node right;
+          within = p.within;
+          there = in_cut l (left_of node right) same.0 (in_middle (left_of node right) before (right_of node right middle ∷ behind)) (eqb l level) refl;
+          handle_is = refl;
+          page_is = refl;
+          from = subst (λ (x : Node). is_below key x.begins ≡ false) same.1 p.from;
+          to = kept (first_half node.page right) key e;
+        })
+        (λ e. record {
+          node = right_of node right middle;
+          within = p.within;
+          there = in_cut l (right_of node right middle) same.0 (in_right (right_of node right middle) before (left_of node right ∷ (right_of node right middle ∷ behind)) (in_tail (right_of node right middle) (left_of node right) (right_of node right middle ∷ behind) (in_head (right_of node right middle) behind)))
+              (eqb l level) refl;
+          handle_is = refl;
+          page_is = refl;
+          from = passed (first_half node.page right) key middle m.high e;
+          to = subst (λ (x : Node). IfSome x.page.high (IsBelow key)) same.1 p.to;
+        });
+  }

@@ -15,8 +15,9 @@ use Rattle.bx_leaves.proofs.Apart.{same_page}
 use Rattle.bx_splits.specs.Splits.{GrowsTree, root_page}
 use Rattle.bx_splits.proofs.Cut.{IsMiddle}
 use Rattle.bx_splits.proofs.Grown.{grows}
+use Rattle.bx_splits.proofs.Halved.{GrowsHalves}
 use Rattle.bx_splits.proofs.Middles.{middle as middle_of, is_middle}
-use Rattle.bx_splits.proofs.RaiseUnder.{root_cut}
+use Rattle.bx_splits.proofs.RaiseUnder.{root_halved}
 
 some_same : (a b : List ℕ) → Some a ≡ Some b → a ≡ b
 some_same a b e = cc
@@ -62,12 +63,16 @@ module _ (areas : ℕ) (held : Held) (hints : Hints) (truth : Truth) (old one tw
       let m = is_middle top right ((t.has).spells).is enough t.lowest none in
       subst (λ (k : List ℕ). IsMiddle top right k) (some_same (middle_of top right ((t.has).spells).is enough t.lowest none) middle (sym m.high ∙ top_middle top.page pages)) m
 
-  pub law_root : GrowsTree areas held hints truth old new root tree root (λ handle. (handle ≡ (with_draft truth one a).handle) ⊎ (handle ≡ (with_draft truth two b).handle))
-  law_root =
+  pub law_halves : GrowsHalves areas held hints truth old new root tree root (λ handle. (handle ≡ (with_draft truth one a).handle) ⊎ (handle ≡ (with_draft truth two b).handle)) node.page (with_draft truth one a).handle (with_draft truth two b).handle
+  law_halves =
       let gl = grows areas u.few (with_draft truth old) (with_draft truth one) a slots a_slot a_takes u.chunked in
       let gr = grows areas u.few (with_draft truth one) (with_draft truth two) b slots_then b_slot b_takes (gl.slots).chunked in
-      subst (λ (d : List Changed). GrowsTree areas held hints truth old d root tree root (λ handle. (handle ≡ left) ⊎ (handle ≡ right))) (sym put)
-      (root_cut areas held hints truth old one two root tree u left right gl gr r.block p.block q.block r.header p.header q.header middle is_mid
+      subst (λ (d : List Changed). GrowsHalves areas held hints truth old d root tree root (λ handle. (handle ≡ left) ⊎ (handle ≡ right)) node.page left right) (sym put)
+      (subst (λ (c : Contents). GrowsHalves areas held hints truth old (with_block (with_block (with_block two (block_at left) p.block) (block_at right) q.block) (block_at root) r.block) root tree root (λ handle. (handle ≡ left) ⊎ (handle ≡ right)) c left right) (sym pages)
+      (root_halved areas held hints truth old one two root tree u left right gl gr r.block p.block q.block r.header p.header q.header middle is_mid
       (subst (λ (c : Contents). HasPage (root_page c left right middle) r.block) pages r.has)
       (subst (λ (c : Contents). HasPage (first_half c right) p.block) pages p.has)
-      (subst (λ (c : Contents). HasPage (other_half c) q.block) pages q.has))
+      (subst (λ (c : Contents). HasPage (other_half c) q.block) pages q.has)))
+
+  pub law_root : GrowsTree areas held hints truth old new root tree root (λ handle. (handle ≡ (with_draft truth one a).handle) ⊎ (handle ≡ (with_draft truth two b).handle))
+  law_root = law_halves.grows

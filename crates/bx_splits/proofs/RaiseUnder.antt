@@ -1,18 +1,26 @@
 -- The root is cut in two under a truth: two slots are taken, and three pages are put.
-use Rattle.std.proofs.Common.{◌≡◌, ℕ, ◌+◌, ◌^◌, ◌<◌, eqb, cond, List, [], ◌∷◌, Option, Some, None, refl, sym, ap, subst, ◌∙◌, arith, inl, inr}
-use Rattle.std.specs.Prelude.{◌⊎◌}
+use Rattle.std.proofs.Common.{◌≡◌, ℕ, ◌+◌, ◌^◌, ◌<◌, false, eqb, cond, List, [], ◌∷◌, Option, Some, None, refl, sym, ap, subst, ◌∙◌, arith, inl, inr}
+use Rattle.std.specs.Prelude.{IfSome, ◌⊎◌}
+use Rattle.std.proofs.lemmas.Bool.{eq-eqb, ne_eqb}
 use Rattle.bx_layout.specs.declared.block.Block.{Block}
 use Rattle.bx_records.specs.Drafts.{Changed, with_block}
-use Rattle.bx_page.specs.Contents.{first_half, other_half}
+use Rattle.bx_page.specs.Keys.{is_below, IsBelow}
+use Rattle.bx_page.specs.Contents.{Contents, first_half, other_half}
 use Rattle.bx_truth.specs.Chunks.{IsName, block_at, chunks_of}
-use Rattle.bx_truth.specs.PageTrees.{Chunks, HasPage, Node, PageTree}
+use Rattle.bx_truth.specs.PageTrees.{Chunks, HasPage, IsIn, Node, PageTree}
 use Rattle.bx_truth.specs.Shown.{KeepsSlots}
 use Rattle.bx_truth.specs.Stands.{WasGiven}
 use Rattle.bx_views.specs.Truths.{Truth, Held, Hints, with_draft}
 use Rattle.bx_blink.specs.Hints.{Place, HintsAgree, HintsFit, Under}
+use Rattle.bx_blink.specs.Places.{IsPlaceOf}
+use Rattle.bx_blink.specs.Walks.{passes}
+use Rattle.bx_blink.proofs.Handles.{alone, kept, not_below_empty, passed}
+use Rattle.bx_leaves.proofs.Apart.{same_page}
+use Rattle.bx_leaves.proofs.Members.{in_head, in_tail}
 use Rattle.bx_splits.specs.Splits.{GrowsTree, root_page}
 use Rattle.bx_splits.proofs.Cut.{IsMiddle}
 use Rattle.bx_splits.proofs.Grown.{Grows, still_given}
+use Rattle.bx_splits.proofs.Halved.{GrowsHalves, by_half}
 use Rattle.bx_splits.proofs.HintedRaise.{agree_raised, raised_home}
 use Rattle.bx_splits.proofs.Kept.{used_given, used_fits}
 use Rattle.bx_splits.proofs.Raise.{Raises, is_raised, map_stays}
@@ -129,4 +137,44 @@ module _ (areas : ℕ) (held : Held) (hints : Hints) (truth : Truth) (old one tw
     others = λ handle not_new other. r.others handle other (λ a. not_new (inl a)) (λ b. not_new (inr b));
     leads = fit_raised;
     slots = k;
+  }
+
+  -- the root's node is the top
+  same_top : (l : ℕ) (key : List ℕ) (was : Contents) → (p : IsPlaceOf tree l key root was) → (l ≡ tree.height) × (p.node ≡ (u.is).top)
+  same_top l key was p =
+      let m = ((u.is).levels l p.within).nodes_are p.node p.there in
+      let t = ((u.is).levels tree.height (omega arith)).nodes_are (u.is).top (record { before = []; behind = []; parts = (u.is).root_alone }) in
+      let same : l ≡ tree.height = sym m.same_level ∙ ap (λ (c : Contents). c.level) (same_page c0 l tree.height p.node (u.is).top m t (p.handle_is ∙ sym (u.is).root_is)) ∙ t.same_level in
+      (same, alone p.node (u.is).top (subst (λ (ns : List Node). IsIn p.node ns) (ap tree.level same ∙ (u.is).root_alone) p.there))
+
+  at_height : (l : ℕ) → l ≡ tree.height → raised_tree.level l ≡ l_node ∷ r_node ∷ []
+  at_height l same = rw (ne_eqb l (tree.height + 1) (λ q. omega (arith, same, q)), eq-eqb l tree.height same) refl
+
+  -- each key is in the range of one of the halves
+  pub root_halved : GrowsHalves areas held hints truth old (with_block (with_block (with_block two (block_at left) left_block) (block_at right) right_block) (block_at root) root_block) root tree root (λ handle. (handle ≡ left) ⊎ (handle ≡ right)) (u.is).top.page left right
+  unfolding root_cut
+  root_halved = record {
+    grows = root_cut;
+    places = λ l key was p.
+        let same = same_top l key was p in
+        let within = p.within in
+        by_half raised_tree l key (u.is).top.page left right
+        (λ e. record {
+          node = l_node;
+          within = omega (arith, within);
+          there = subst (λ (ns : List Node). IsIn l_node ns) (sym (at_height l same.0)) (in_head l_node (r_node ∷ []));
+          handle_is = refl;
+          page_is = refl;
+          from = not_below_empty key;
+          to = kept (first_half (u.is).top.page right) key e;
+        })
+        (λ e. record {
+          node = r_node;
+          within = omega (arith, within);
+          there = subst (λ (ns : List Node). IsIn r_node ns) (sym (at_height l same.0)) (in_tail r_node l_node (r_node ∷ []) (in_head r_node []));
+          handle_is = refl;
+          page_is = refl;
+          from = passed (first_half (u.is).top.page right) key middle m.high e;
+          to = subst (λ (x : Node). IfSome x.page.high (IsBelow key)) same.1 p.to;
+        });
   }

@@ -1,6 +1,6 @@
 -- What a split needs isn't held, and what it puts are blocks that are held exclusively.
 use Rattle.std.proofs.Common.{◌≡◌, ℕ, ◌+◌, ◌^◌, ◌%◌, ◌<◌, true, List, Option, Some, None, get_or, refl, sym, ap, subst, ◌∙◌, arith, inl, inr}
-use Rattle.std.specs.Prelude.{Result, Ok, Err, IsSome, OnOk, ◌⊎◌}
+use Rattle.std.specs.Prelude.{Result, Ok, Err, IsSome, OnOk, ◌⊎◌, ◌≢◌}
 use Rattle.std.specs.Option.{option_or}
 use Rattle.std.proofs.lemmas.Bool.{cases_eq}
 use Rattle.bx_base.specs.declared.names.Mode.{Mode}
@@ -21,25 +21,31 @@ use Rattle.bx_blink.specs.declared.error.BlinkError.{BlinkError}
 use Rattle.bx_blink.specs.declared.error.BlinkError.TheVariants.{Need, Stale, Full, NoRoom, Absent, Present, OutOfMemory, Crowded}
 use Rattle.bx_leaves.specs.Leaves.{PutsPage}
 use Rattle.bx_leaves.proofs.Fair.{page_held, seen_held}
-use Rattle.bx_splits.specs.Cutting.{AllotFails, SplitsAt, NeedsForSplit}
+use Rattle.bx_splits.specs.declared.halves.Halves.{Halves}
+use Rattle.bx_splits.specs.Cutting.{AllotFails, CutsAt, CutsPage, CutsRoot, RaisesAt, SplitsAt, NeedsForSplit}
+use Rattle.bx_splits.specs.Halves.{HalvesAt}
 
 none_left : (o held : Option Block) → option_or o held ≡ None → held ≡ None
 none_left None held e = e
 none_left (Some block) held e = absurd cc
 
-allot_fair : (areas near : ℕ) (held : Held) (draft : List Changed) (handle at : ℕ) (mode : Mode) → Shares held → AllotFails held draft near areas (Need at mode)
-    → (held at mode ≡ None) × ((at ≡ block_at handle) ⊎ (is_block areas at ≡ true))
-allot_fair areas near held draft handle at mode shares a = let f = fair areas near held draft draft shares (Err (ChunkNeed at mode)) a in (f.1, inr f.0)
+allot_fair : (areas near : ℕ) (held : Held) (draft : List Changed) (at : ℕ) (mode : Mode) → Shares held → AllotFails held draft near areas (Need at mode) → (held at mode ≡ None) × (is_block areas at ≡ true)
+allot_fair areas near held draft at mode shares a = let f = fair areas near held draft draft shares (Err (ChunkNeed at mode)) a in (f.1, f.0)
+
+-- what the halves of a page need
+pub halves_fair : (areas near : ℕ) (held : Held) (old new : List Changed) (root handle : ℕ) (page : Contents) (at : ℕ) (mode : Mode) → Shares held → HalvesAt held old new root handle page near areas (Err (Need at mode))
+    → (held at mode ≡ None) × (is_block areas at ≡ true)
+halves_fair areas near held old new root handle page at mode shares h = elim h [
+  | inl r ↦ elim r.1 [ inl a ↦ allot_fair areas near held old at mode shares a | inr t ↦ allot_fair areas near held t.1 at mode shares t.3 ]
+  | inr r ↦ allot_fair areas near held old at mode shares r.1
+]
 
 pub split_fair : (areas near : ℕ) (held : Held) (hints : Hints) (old new : List Changed) (root handle : ℕ) → Shares held → (result : Result Unit BlinkError)
     → SplitsAt held hints old new root handle near areas result → NeedsForSplit areas held handle result
 split_fair areas near held hints old new root handle shares (Err (Need at mode)) s = elim s [
   | inl o ↦ subst (λ (m : Mode). (held at m ≡ None) × ((at ≡ block_at handle) ⊎ (is_block areas at ≡ true))) (sym o.1)
       (subst (λ (a : ℕ). held a Exclusive ≡ None) (sym o.0) (none_left (block_in old (block_at handle)) (held (block_at handle) Exclusive) o.2), inl o.0)
-  | inr c ↦ elim c.cuts [
-    | inl r ↦ elim r.1 [ inl a ↦ allot_fair areas near held old handle at mode shares a | inr t ↦ allot_fair areas near held t.1 handle at mode shares t.3 ]
-    | inr r ↦ allot_fair areas near held old handle at mode shares r.1
-  ]
+  | inr c ↦ (let f = halves_fair areas near held old old root handle c.page at mode shares c.cuts in (f.0, inr f.1))
 ]
 split_fair areas near held hints old new root handle shares (Err Stale) s = tt
 split_fair areas near held hints old new root handle shares (Err (Full spare)) s = tt
@@ -65,23 +71,39 @@ allot_held areas near held old one right before a =
       subst (λ (b : ℕ). IsSome (held b Exclusive)) (sym (ap block_at t.1 ∙ at)) t.0.at_held,
     )
 
-module _ (areas near : ℕ) (held : Held) (hints : Hints) (old new : List Changed) (root handle : ℕ) (before : IsHeldDraft held old) where
-  pub split_held : (result : Result Unit BlinkError) → SplitsAt held hints old new root handle near areas result → OnOk result (IsHeldDraft held new)
-  split_held (Err e) s = tt
-  split_held (Ok done) s =
-      let page_there : IsSome (held (block_at handle) Exclusive) = seen_held held old (block_at handle) (s.owned).block before (s.owned).there in
-      elim s.cuts [
-        | inl r ↦ (
-            let c = r.1 in
-            let one = (c.allots).0 in
-            let a = allot_held areas near held old one c.left before (c.allots).1 in
-            let b = allot_held areas near held one c.two c.right a.0 (c.allots).2 in
-            let three = page_held held c.two c.three c.left _ b.0 a.1 c.puts_first in
-            let four = page_held held c.three c.four c.right _ three b.1 c.puts_other in
-            page_held held c.four new root _ four (subst (λ (h : ℕ). IsSome (held (block_at h) Exclusive)) r.0 page_there) c.puts_root)
-        | inr r ↦ (
-            let c = r.1 in
-            let a = allot_held areas near held old c.one c.right before c.allots in
-            let two = page_held held c.one c.two c.right _ a.0 a.1 c.puts_other in
-            page_held held c.two new handle _ two page_there c.puts_first)
-      ]
+module _ (areas near : ℕ) (held : Held) (old new : List Changed) (root handle : ℕ) (page : Contents) (before : IsHeldDraft held old) (there : IsSome (held (block_at handle) Exclusive)) where
+  root_cut_held : handle ≡ root → (c : CutsRoot held old new root page near areas) → IsHeldDraft held new × IsSome (held (block_at c.left) Exclusive) × IsSome (held (block_at c.right) Exclusive)
+  root_cut_held at_root c =
+      let one = (c.allots).0 in
+      let a = allot_held areas near held old one c.left before (c.allots).1 in
+      let b = allot_held areas near held one c.two c.right a.0 (c.allots).2 in
+      let three = page_held held c.two c.three c.left _ b.0 a.1 c.puts_first in
+      let four = page_held held c.three c.four c.right _ three b.1 c.puts_other in
+      (page_held held c.four new root _ four (subst (λ (h : ℕ). IsSome (held (block_at h) Exclusive)) at_root there) c.puts_root, a.1, b.1)
+
+  page_cut_held : (c : CutsPage held old new handle page near areas) → IsHeldDraft held new × IsSome (held (block_at c.right) Exclusive)
+  page_cut_held c =
+      let a = allot_held areas near held old c.one c.right before c.allots in
+      let two = page_held held c.one c.two c.right _ a.0 a.1 c.puts_other in
+      (page_held held c.two new handle _ two there c.puts_first, a.1)
+
+  pub cut_held : (result : Result Unit BlinkError) → ((handle ≡ root) × RaisesAt held old new root page near areas result) ⊎ ((handle ≢ root) × CutsAt held old new handle page near areas result) → OnOk result (IsHeldDraft held new)
+  cut_held (Err e) c = tt
+  cut_held (Ok done) c = elim c [ inl r ↦ (root_cut_held r.0 r.1).0 | inr r ↦ (page_cut_held r.1).0 ]
+
+  -- the halves of a page are put where blocks are held exclusively
+  pub halves_held : (halves : Halves) → HalvesAt held old new root handle page near areas (Ok halves) → IsHeldDraft held new × IsSome (held (block_at halves.left) Exclusive) × IsSome (held (block_at halves.right) Exclusive)
+  halves_held halves h = elim h [
+    | inl r ↦ (
+        let c = root_cut_held r.0 (r.1).cuts in
+        subst (λ (x : Halves). IsHeldDraft held new × IsSome (held (block_at x.left) Exclusive) × IsSome (held (block_at x.right) Exclusive)) (sym (r.1).halves_are) c)
+    | inr r ↦ (
+        let c = page_cut_held (r.1).cuts in
+        subst (λ (x : Halves). IsHeldDraft held new × IsSome (held (block_at x.left) Exclusive) × IsSome (held (block_at x.right) Exclusive)) (sym (r.1).halves_are) (c.0, there, c.1))
+  ]
+
+pub split_held : (areas near : ℕ) (held : Held) (hints : Hints) (old new : List Changed) (root handle : ℕ) → IsHeldDraft held old → (result : Result Unit BlinkError) → SplitsAt held hints old new root handle near areas result
+    → OnOk result (IsHeldDraft held new)
+split_held areas near held hints old new root handle before (Err e) s = tt
+split_held areas near held hints old new root handle before (Ok done) s =
+    cut_held areas near held old new root handle s.page before (seen_held held old (block_at handle) (s.owned).block before (s.owned).there) (Ok done) s.cuts

@@ -1,2 +1,3 @@
 pub mod Splits
 pub mod Cutting
+pub mod Halves

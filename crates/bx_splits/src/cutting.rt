@@ -1,8 +1,9 @@
 //! A page that isn't the root, cut in two.
 
 ghost use Rattle.std.specs.Prelude.{◌≤◌, length};
-ghost use Rattle.bx_splits.specs.Cutting.{CutsAt};
+ghost use Rattle.bx_splits.specs.Halves.{CutAt};
 
+use crate::halves::Halves;
 use crate::steps::{put_two, take_handle};
 use bx_blink::BlinkError;
 use bx_page::Page;
@@ -18,12 +19,18 @@ pub(crate) fn cut<V: View>(
     handle: u64,
     page: Page,
     near: (u16, u16),
-) -> Result<(), BlinkError>
+) -> Result<Halves, BlinkError>
     requires { 2 ≤ length page.entries }
-    ensures { CutsAt (V.held view.now) draft.old draft.new handle page near.0 near.1 result }
+    ensures { CutAt (V.held view.now) draft.old draft.new handle page near.0 near.1 result }
 {
     let right = take_handle(alloc, draft, view, near.0, near.1)?;
     let mut page = page;
     let other = page.halve(right)?;
-    put_two(alloc, draft, right, &other, handle, &page)
+    put_two(alloc, draft, right, &other, handle, &page)?;
+    Ok(Halves {
+        left: handle,
+        first: page,
+        right,
+        other,
+    })
 }

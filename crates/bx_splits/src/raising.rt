@@ -2,11 +2,12 @@
 
 ghost use Rattle.std.specs.Prelude.{◌≡◌, ◌+◌, ◌<◌, ◌≤◌, [], IfOk, None, OnOk, length};
 ghost use Rattle.std.specs.Int.{w64, to_be_bytes};
-ghost use Rattle.bx_page.specs.Contents.{size, with_value};
+ghost use Rattle.bx_page.specs.Contents.{IsPage, size, with_value};
 ghost use Rattle.bx_page.specs.Keys.{IsBelow};
-ghost use Rattle.bx_splits.specs.Cutting.{RaisesAt};
+ghost use Rattle.bx_splits.specs.Halves.{PutsThree, RaiseAt};
 ghost use Rattle.bx_splits.specs.Splits.{root_entries};
 
+use crate::halves::Halves;
 use crate::steps::{put_two, take_two};
 use bx_base::OutOfMemory;
 use bx_blink::BlinkError;
@@ -24,9 +25,9 @@ pub(crate) fn raise<V: View>(
     root: u64,
     page: Page,
     near: (u16, u16),
-) -> Result<(), BlinkError>
+) -> Result<Halves, BlinkError>
     requires { 2 ≤ length page.entries }
-    ensures { RaisesAt (V.held view.now) draft.old draft.new root page near.0 near.1 result }
+    ensures { RaiseAt (V.held view.now) draft.old draft.new root page near.0 near.1 result }
 {
     let Some(level) = page.level().checked_add(1) else {
         return Err(BlinkError::Stale);
@@ -38,10 +39,40 @@ pub(crate) fn raise<V: View>(
         return Err(BlinkError::Stale);
     };
     let top = page_above(alloc, level, (left, right), middle)?;
-    match put_two(alloc, draft, left, &page, right, &other) {
-        Ok(()) => put_page(alloc, draft, root, &top),
+    let halves = Halves {
+        left,
+        first: page,
+        right,
+        other,
+    };
+    match put_raised(alloc, draft, root, &top, &halves) {
+        Ok(()) => Ok(halves),
         Err(error) => Err(error),
     }
+}
+
+/// Puts the halves of a root, and the page above them in its place.
+fn put_raised(
+    alloc: Global,
+    draft: &mut Draft,
+    root: u64,
+    top: &Page,
+    halves: &Halves,
+) -> Result<(), BlinkError>
+    requires first { IsPage halves.now.first }
+    requires other { IsPage halves.now.other }
+    requires top { IsPage top.now }
+    ensures { PutsThree draft.old draft.new root top.now halves.now result }
+{
+    put_two(
+        alloc,
+        draft,
+        halves.left,
+        &halves.first,
+        halves.right,
+        &halves.other,
+    )?;
+    put_page(alloc, draft, root, top)
 }
 
 /// The page of a level with two entries: for the empty key, and for a middle key that isn't empty.

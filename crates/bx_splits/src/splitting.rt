@@ -11,8 +11,7 @@ ghost use Rattle.bx_page.specs.Contents.{Contents, size};
 ghost use Rattle.bx_blink.specs.Walks.{reads_with};
 ghost use Rattle.bx_splits.specs.Cutting.{IsOwned, NeedsForSplit, SplitsAt, SplitsTo};
 
-use crate::cutting::cut;
-use crate::raising::raise;
+use crate::halves::put_halves;
 use crate::steps::owned_page;
 use bx_blink::BlinkError;
 use bx_chunks::copy_of;
@@ -86,10 +85,6 @@ fn split_of<V: View>(
 {
     let page = owned_page(alloc, draft, view, handle)?;
     let mut next = copy_of(alloc, draft)?;
-    if handle == root {
-        raise(alloc, &mut next, view, root, page, near)?;
-    } else {
-        cut(alloc, &mut next, view, handle, page, near)?;
-    }
+    put_halves(alloc, &mut next, view, root, handle, page, near)?;
     Ok(next)
 }

@@ -1,0 +1,4 @@
+pub mod PutTree
+pub mod PostTree
+pub mod PostFair
+pub mod ParentSteps

@@ -1,0 +1,3 @@
+pub mod Separators
+pub mod Parents
+pub mod Posts

@@ -1,0 +1,8 @@
+//! Separators put into the parents of the pages of B-link trees.
+#![tactic(auto)]
+
+mod parents;
+mod posting;
+mod separators;
+
+pub use posting::{Posted, post};

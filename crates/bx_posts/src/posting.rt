@@ -1,0 +1,103 @@
+//! The call that posts a separator.
+
+ghost use Rattle.std.specs.Prelude.{◌≡◌, IsSome, OnOk, OnErr};
+ghost use Rattle.bx_page.specs.Contents.{Contents};
+ghost use Rattle.bx_records.specs.Drafts.{IsDraft};
+ghost use Rattle.bx_truth.specs.PageTrees.{Node, PageTree, IsPageOf};
+ghost use Rattle.bx_views.specs.Attempts.{IsHeldDraft};
+ghost use Rattle.bx_views.specs.Truths.{Truth};
+ghost use Rattle.bx_blink.specs.Hints.{Under};
+ghost use Rattle.bx_blink.specs.Walks.{reads_with};
+ghost use Rattle.bx_posts.specs.Posts.{NeedsForPost, PostsAt, PostsIn, PostsTo};
+ghost use Rattle.bx_posts.specs.Separators.{IsShown};
+
+use crate::parents::{parent_of, put_in_parent};
+use crate::separators::separator_of;
+use bx_blink::BlinkError;
+use bx_chunks::copy_of;
+use bx_records::Draft;
+use bx_views::View;
+use std::alloc::Global;
+use std::mem;
+
+/// What came of posting a separator.
+#[derive(Clone, Copy, PartialEq, Eq)]
+pub enum Posted {
+    /// The parent has it.
+    Put,
+    /// The parent was split, and its half has no room for it yet: it takes another call.
+    SplitAlone,
+}
+
+/// Puts the separator of a page's right neighbour into their parent, in the tree under a root, by their handles. A parent that has less
+/// than 544 bytes left is split first, near an area, and its own separator is left to a later call.
+///
+/// `Need` names a block that isn't held in that mode: the page's, one on the path of the walk to the parent, which is to be held
+/// exclusively, or one that a new page wants. `Stale` comes where what is held is no tree: of a page of a tree it never comes. `Full`
+/// tells how many slots are free in the view, and `Crowded` that the draft would have more than sixteen blocks. On an error the draft
+/// is as it was.
+pub fn post<V: View>(
+    alloc: Global,
+    draft: &mut Draft,
+    view: &V,
+    root: u64,
+    page: u64,
+    near: u16,
+    areas: u16,
+) -> Result<Posted, BlinkError>
+    requires { (contents : Contents) → IsShown (reads_with (V.held view.now) (V.hints view.now) draft.old) page contents → IsSome contents.high }
+    ensures unchanged { OnErr result (draft.new ≡ draft.old) }
+    ensures at { PostsAt (V.held view.now) (V.hints view.now) draft.old draft.new root page near areas result }
+    ensures map { (truth : Truth) (tree : PageTree) (node : Node) → Under areas (V.held view.now) (V.hints view.now) truth draft.old root tree → IsPageOf tree node → node.handle ≡ page → PostsIn areas (V.held view.now) (V.hints view.now) truth draft.old draft.new root tree node result }
+    ensures fair { NeedsForPost areas (V.held view.now) (V.hints view.now) draft.old root page result }
+    ensures held { IsHeldDraft (V.held view.now) draft.old → OnOk result (IsHeldDraft (V.held view.now) draft.new) }
+{
+    post_page(alloc, draft, view, root, page, (near, areas))
+}
+
+/// The same, by what is held.
+fn post_page<V: View>(
+    alloc: Global,
+    draft: &mut Draft,
+    view: &V,
+    root: u64,
+    handle: u64,
+    near: (u16, u16),
+) -> Result<Posted, BlinkError>
+    requires { (contents : Contents) → IsShown (reads_with (V.held view.now) (V.hints view.now) draft.old) handle contents → IsSome contents.high }
+    ensures unchanged { OnErr result (draft.new ≡ draft.old) }
+    ensures at { PostsAt (V.held view.now) (V.hints view.now) draft.old draft.new root handle near.0 near.1 result }
+{
+    let kept = mem::replace(draft, Draft::new(alloc));
+    match post_of(alloc, &kept, view, root, handle, near) {
+        Ok((next, posted)) => {
+            *draft = next;
+            Ok(posted)
+        }
+        Err(error) => {
+            *draft = kept;
+            Err(error)
+        }
+    }
+}
+
+/// The draft with a separator posted.
+fn post_of<V: View>(
+    alloc: Global,
+    draft: &Draft,
+    view: &V,
+    root: u64,
+    handle: u64,
+    near: (u16, u16),
+) -> Result<(Draft, Posted), BlinkError>
+    requires { (contents : Contents) → IsShown (reads_with (V.held view.now) (V.hints view.now) draft.now) handle contents → IsSome contents.high }
+    ensures { IsDraft draft.now → PostsTo (V.held view.now) (V.hints view.now) draft.now root handle near.0 near.1 result }
+{
+    let separator = separator_of(alloc, draft, view, handle)?;
+    let parent = parent_of(alloc, draft, view, root, &separator)?;
+    let mut next = copy_of(alloc, draft)?;
+    match put_in_parent(alloc, &mut next, view, root, parent, &separator, near) {
+        Ok(posted) => Ok((next, posted)),
+        Err(error) => Err(error),
+    }
+}

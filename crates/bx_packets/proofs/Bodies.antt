@@ -1,5 +1,5 @@
 -- Parts of bodies are read again from their bytes, and no other bytes are read as such.
-use Rattle.std.proofs.Common.{◌≡◌, ℕ, ◌^◌, ◌<◌, List, [], ◌++◌, length, Option, Some, None, refl, sym, ap, ◌∙◌, arith}
+use Rattle.std.proofs.Common.{◌≡◌, ℕ, ◌^◌, ◌<◌, List, [], ◌++◌, length, Some, refl, sym, ap, ◌∙◌, arith}
 use Rattle.std.specs.Int.{w32, w64, to_be_bytes}
 use Rattle.std.proofs.lemmas.Bool.{lt-ltb, ltb-true}
 use Rattle.std.proofs.lemmas.List.{append-nil}
@@ -19,7 +19,7 @@ use Rattle.bx_rows.specs.Spelling.{ballot_text}
 use Rattle.bx_rows.proofs.Fields.{ballot_field}
 use Rattle.bx_packets.specs.declared.message.Promise.{Promise}
 use Rattle.bx_packets.specs.declared.parts.Marks.{Marks}
-use Rattle.bx_packets.specs.Messages.{IsPromise, IsStateOf, marks_text, promise_text, refusal_text, vote_text}
+use Rattle.bx_packets.specs.Messages.{IsPromise, marks_text, promise_text, refusal_text, vote_text}
 use Rattle.bx_packets.specs.Reading
 use Rattle.bx_packets.proofs.Heads.{head_none, head_same}
 

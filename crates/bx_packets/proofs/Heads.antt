@@ -1,7 +1,6 @@
 -- A field at the front of bytes, and what is behind it: what is read is what stands there, and where nothing is read nothing stands.
 use Rattle.std.proofs.Common.{◌≡◌, ℕ, List, [], ◌∷◌, ◌++◌, length, true, false, eqb, Option, Some, None, refl, sym, ap, ◌∙◌, arith, eq-eqb}
 use Rattle.std.proofs.lemmas.Bool.{eqb-true}
-use Rattle.std.proofs.lemmas.List.{append-nil}
 use Rattle.std.proofs.lemmas.Option.{some_pair_parts}
 use Rattle.bx_fields.specs.Reading.{Reader}
 use Rattle.bx_fields.proofs.Fields.{IsField}

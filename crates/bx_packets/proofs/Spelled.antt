@@ -1,7 +1,6 @@
 -- A packet is one message at most.
 use Rattle.std.proofs.Common.{◌≡◌, ℕ, List, ◌++◌, refl, sym, ap, ◌∙◌, arith}
 use Rattle.bx_global.specs.declared.state.GlobalState.{GlobalState}
-use Rattle.bx_global.specs.Allowed.{Fits, IsAllowed}
 use Rattle.bx_global.specs.Bytes.{HasCounts, state_text}
 use Rattle.bx_global.proofs.StateText.{one_state}
 use Rattle.bx_rows.specs.declared.ballot.Ballot.{Ballot}
@@ -11,7 +10,7 @@ use Rattle.bx_packets.specs.declared.message.Message.{Message}
 use Rattle.bx_packets.specs.declared.message.Message.TheVariants.{Ask, Decided, Prepare, Promise as Promising, Accept, Accepted, Refused}
 use Rattle.bx_packets.specs.declared.message.Promise.{Promise}
 use Rattle.bx_packets.specs.declared.parts.Marks.{Marks}
-use Rattle.bx_packets.specs.Messages.{HasCountsIn, IsMessage, IsPromise, IsStateOf, Spells, body_text, kind_of, promise_text, refusal_text, vote_text}
+use Rattle.bx_packets.specs.Messages.{HasCountsIn, IsMessage, IsPromise, IsStateOf, Spells, body_text, kind_of, promise_text}
 use Rattle.bx_packets.proofs.Bodies.{marks_of, one_ballot, one_marks, one_refusal, one_vote, promise_with}
 
 same_state : (devices others : ℕ) (s t : GlobalState) → IsStateOf devices s → IsStateOf others t → state_text s ≡ state_text t → s ≡ t

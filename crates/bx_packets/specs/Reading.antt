@@ -1,5 +1,5 @@
 -- Reading the parts of bodies.
-use Rattle.std.specs.Prelude.{◌≡◌, ℕ, Bool, nat_lt, List, ◌++◌, length}
+use Rattle.std.specs.Prelude.{◌≡◌, ℕ, Bool, nat_lt, List, ◌++◌}
 use Rattle.std.specs.Int.{w32, w64}
 use Rattle.bx_fields.specs.Reading.{Reader, number_at, then_at, as_at, tested_at}
 use Rattle.bx_fields.specs.declared.error.ReadError.{ReadError}

@@ -31,11 +31,7 @@ impl Message {
 }
 
 /// The bytes of a ballot and a state.
-fn write_proposal(
-    alloc: Global,
-    ballot: &Ballot,
-    state: &GlobalState,
-) -> Result<Raw, OutOfMemory>
+fn write_proposal(alloc: Global, ballot: &Ballot, state: &GlobalState) -> Result<Raw, OutOfMemory>
     requires { HasCounts state.now }
     ensures { IfOk result (λ raw. raw ≡ ballot_text ballot.now ++ state_text state.now) }
 {

@@ -1,4 +1,4 @@
-use Rattle.std.proofs.Common.{◌≡◌, length, arith}
+use Rattle.std.proofs.Common.{arith}
 use Rattle.bx_packets.proofs.Bodies.{other_devices}
 use Rattle.bx_packets.proofs.parts.state_in.Goals as goal
 

@@ -1,7 +1,7 @@
 -- What an acceptor takes, and how it stands then.
-use Rattle.std.proofs.Common.{◌≡◌, ℕ, ◌+◌, ◌^◌, ◌<◌, ◌≤◌, List, length, Option, Some, None, IfSome, true, refl, sym, ap, subst, ◌∙◌, arith, inl}
+use Rattle.std.proofs.Common.{◌≡◌, ℕ, ◌+◌, ◌^◌, ◌<◌, List, length, Option, Some, None, IfSome, true, refl, sym, ap, subst, ◌∙◌, arith, inl}
 use Rattle.bx_base.specs.declared.names.Actor.{Actor}
-use Rattle.bx_calls.specs.Calls.{HasSure, LeavesOnly}
+use Rattle.bx_calls.specs.Calls.{LeavesOnly}
 use Rattle.bx_cell.specs.Cells.{HasEither, Holds, Known, next}
 use Rattle.bx_cell.specs.Halves.{Found, cell_in}
 use Rattle.bx_cell.specs.Images.{EachSure}

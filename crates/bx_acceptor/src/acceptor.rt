@@ -75,6 +75,13 @@ impl Acceptor {
         })
     }
 
+    /// The number of its replica, which is that of its disk.
+    pub fn replica(&self) -> u32
+        ensures { result ≡ self.now.replica }
+    {
+        self.replica
+    }
+
     /// Starts, with what its disk holds. Where that has no cell that can be read, it knows the first state, and takes no
     /// packet.
     pub fn restart<R: Rack>(&mut self, rack: &mut R) -> Result<(), FactError>
@@ -145,7 +152,16 @@ impl Acceptor {
             return Ok(());
         };
         let held = &mut self.held;
-        serve(self.alloc, rack, self.replica, &mut cell, held, message, from, out)?;
+        serve(
+            self.alloc,
+            rack,
+            self.replica,
+            &mut cell,
+            held,
+            message,
+            from,
+            out,
+        )?;
         self.cell = Some(cell);
         Ok(())
     }

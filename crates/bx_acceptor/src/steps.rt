@@ -39,11 +39,7 @@ fn unchanged(reply: Reply) -> Step
 }
 
 /// Takes a message. Where memory runs out, nothing changes.
-pub(crate) fn handle(
-    alloc: Global,
-    held: &mut Held,
-    message: Message,
-) -> Result<Step, OutOfMemory>
+pub(crate) fn handle(alloc: Global, held: &mut Held, message: Message) -> Result<Step, OutOfMemory>
     requires { HasRoomAbove message }
     ensures handles { IfOk result (λ step. Handles held.old message held.new (answer_of held.new step.reply)) }
     ensures same { IfOk result (λ step. step.changed ≡ false → held.new ≡ held.old) }

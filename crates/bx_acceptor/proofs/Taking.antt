@@ -17,8 +17,8 @@ use Rattle.bx_packets.specs.declared.message.Message.{Message}
 use Rattle.bx_packets.specs.Messages.{IsMessage}
 use Rattle.bx_packets.proofs.Spelled.{one_message}
 use Rattle.bx_post.specs.declared.packets.Letter.{Letter}
-use Rattle.bx_acceptor.specs.Handling.{MayBecome, first_held}
-use Rattle.bx_acceptor.specs.Standing.{Answers, Brings, HasCell, IsCellOf, IsFound, IsNotFound, IsStanding, Standing, devices_of, with_found, without_cell}
+use Rattle.bx_acceptor.specs.Handling.{Changes, MayBecome, first_held}
+use Rattle.bx_acceptor.specs.Standing.{Answers, Brings, HasCell, IsCellOf, IsFound, IsNotFound, IsStanding, Standing, Takes, devices_of, with_found, without_cell}
 
 -- ---- what comes
 
@@ -53,6 +53,20 @@ became a b others input new m n f t same count p q did =
     let here : Brings (devices_of b) input m f = subst (λ (k : ℕ). Brings k input m f) (count ∙ ap devices_of same) p in
     let one = one_brought (devices_of b) input m n f t here q in
     subst (λ (s : Standing). MayBecome s.held n new) same (subst (λ (x : Message). MayBecome a.held x new) one.0 did)
+
+pub brought_here : (a b : Standing) (others : ℕ) (input : Input) (m : Message) (f : Actor) → a ≡ b → others ≡ devices_of a → Brings others input m f → Brings (devices_of b) input m f
+brought_here a b others input m f same count p = subst (λ (k : ℕ). Brings k input m f) (count ∙ ap devices_of same) p
+
+pub takes_here : (a b : Standing) (m : Message) → a ≡ b → Takes a m → Takes b m
+takes_here a b m same takes = subst (λ (s : Standing). Takes s m) same takes
+
+pub changes_not : (a b : Standing) (others : ℕ) (input : Input) (m n : Message) (f t : Actor)
+    → a ≡ b → others ≡ devices_of a → Brings others input m f → Brings (devices_of b) input n t
+    → (Changes b.held n → ⊥) → Changes a.held m → ⊥
+changes_not a b others input m n f t same count p q spare changes =
+    let here : Brings (devices_of b) input m f = subst (λ (k : ℕ). Brings k input m f) (count ∙ ap devices_of same) p in
+    let one = one_brought (devices_of b) input m n f t here q in
+    spare (subst (λ (s : Standing). Changes s.held n) same (subst (λ (x : Message). Changes a.held x) one.0 changes))
 
 -- ---- how it stands
 

@@ -85,3 +85,24 @@ HasRoomAbove (Refused index b) = Unit {0}
 -- what is held stays, or is what the message makes of it
 abbrev pub MayBecome : Held → Message → Held → Type 0
 MayBecome held message new = (new ≡ held) ⊎ ((answer : Option Message) × Handles held message new answer)
+
+-- a decided state that is newer than the last known; such a state, or a ballot above the promise; a state of the index that
+-- is voted on in a ballot that isn't below the promise
+abbrev pub IsNews : Held → GlobalState → Type 0
+IsNews held s = held.decided.index < s.index
+
+abbrev pub IsNewsOrAbove : Held → Ballot → GlobalState → Type 0
+IsNewsOrAbove held b s = IsNews held s ⊎ ((s.index ≡ held.decided.index) × ComesBefore held.promise b)
+
+abbrev pub IsAcceptable : Held → Ballot → GlobalState → Type 0
+IsAcceptable held b s = (s.index ≡ held.index) × AtMost held.promise b
+
+-- The message changes what is held, or is an accept that was accepted before. The cell is put for such a message alone.
+abbrev pub Changes : Held → Message → Type 0
+Changes held Ask = ⊥
+Changes held (Decided s) = IsNews held s
+Changes held (Prepare b s) = IsNewsOrAbove held b s
+Changes held (Promising promise) = ⊥
+Changes held (Accept b s) = IsAcceptable held b s
+Changes held (Accepted b index) = ⊥
+Changes held (Refused index b) = ⊥

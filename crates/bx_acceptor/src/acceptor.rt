@@ -15,7 +15,7 @@ ghost use Rattle.bx_global.specs.Bytes.{held_text};
 ghost use Rattle.bx_global.specs.declared.held.Held.{Held};
 ghost use Rattle.bx_packets.specs.declared.message.Message.{Message};
 ghost use Rattle.bx_places.specs.Places.{replica_sectors};
-ghost use Rattle.bx_acceptor.specs.Handling.{MayBecome};
+ghost use Rattle.bx_acceptor.specs.Handling.{Changes, MayBecome};
 ghost use Rattle.bx_acceptor.specs.Standing.{Answers, Brings, HasCell, IsFound, IsNotFound, IsStanding, Takes, devices_of, stopped, with_found, without_cell};
 
 use crate::hearing::heard;
@@ -127,6 +127,7 @@ impl Acceptor {
         ensures unsent { OnErr result (out.new ≡ out.old) }
         ensures becomes { (message : Message) (from : Actor) → Brings (devices_of self.old) input.now message from → MayBecome self.old.held message self.new.held }
         ensures stored { OnOk result (IfSome self.old.cell (λ cell. (self.new.cell ≡ Some (with_value cell (held_text self.new.held))) ⊎ ((self.new ≡ self.old) × (rack.new ≡ rack.old)))) }
+        ensures spare { (message : Message) (from : Actor) → Brings (devices_of self.old) input.now message from → (Changes self.old.held message → ⊥) → rack.new ≡ rack.old }
         ensures fault { IsErrOf result DiskFails → self.new.cell ≡ None }
         ensures failed { OnErr result ((self.new ≡ self.old) ⊎ (self.new.cell ≡ None)) }
         ensures stays { (self.new.replica ≡ self.old.replica) × (self.new.first ≡ self.old.first) }

@@ -3,6 +3,7 @@
 
 mod acceptor;
 mod hearing;
+mod laws;
 mod replies;
 mod saving;
 mod serving;
@@ -10,4 +11,5 @@ mod starting;
 mod steps;
 
 pub use acceptor::Acceptor;
+pub use laws::messages_lead_on;
 pub use starting::first_value;

@@ -9,7 +9,7 @@ ghost use Rattle.bx_cell.specs.Cells.{HasEither, Holds, next, with_value};
 ghost use Rattle.bx_facts.specs.declared.input.FactError.TheVariants.{Disk as DiskFails};
 ghost use Rattle.bx_global.specs.Bytes.{IsHeld, held_text};
 ghost use Rattle.bx_packets.specs.Messages.{IsMessage};
-ghost use Rattle.bx_acceptor.specs.Handling.{MayBecome};
+ghost use Rattle.bx_acceptor.specs.Handling.{Changes, MayBecome};
 ghost use Rattle.bx_acceptor.specs.Standing.{Answers, IsCellOf, IsTaken};
 
 use crate::replies::tell;
@@ -44,6 +44,7 @@ pub(crate) fn serve<R: Rack>(
     ensures becomes { MayBecome held.old message held.new }
     ensures held { (devices : ℕ) → IsHeld devices held.old → IsMessage devices message → IsHeld devices held.new }
     ensures stored { OnOk result ((cell.new ≡ with_value cell.old (held_text held.new)) ⊎ ((cell.new ≡ cell.old) × (held.new ≡ held.old) × (rack.new ≡ rack.old))) }
+    ensures spare { (Changes held.old message → ⊥) → rack.new ≡ rack.old }
     ensures cell { OnOk result (IsCellOf replica held.new cell.new) }
     ensures holds { R.tells rack.old → EachSure (R.state rack.old) (Holds cell.old) → OnOk result (EachSure (R.state rack.new) (Holds cell.new)) }
     ensures any_moment { R.tells rack.old → EachSure (R.state rack.old) (Holds cell.old)

@@ -3,8 +3,9 @@
 ghost use Rattle.std.specs.Prelude.{◌≡◌, ℕ, ◌+◌, ◌^◌, ◌<◌, false, true, IfOk, OnOk, OnErr};
 ghost use Rattle.bx_global.specs.Bytes.{IsHeld};
 ghost use Rattle.bx_packets.specs.Messages.{IsMessage, IsStateOf};
+ghost use Rattle.bx_rows.specs.Ballots.{ComesBefore};
 ghost use Rattle.bx_rows.specs.Conditions.{IsBallot};
-ghost use Rattle.bx_acceptor.specs.Handling.{Handles, HasRoomAbove, Learns, Prepares, Promises, Votes, caught_up};
+ghost use Rattle.bx_acceptor.specs.Handling.{Changes, Handles, HasRoomAbove, IsAcceptable, IsNews, IsNewsOrAbove, Learns, Prepares, Promises, Votes, caught_up};
 ghost use Rattle.bx_acceptor.specs.Replies.{answer_of};
 ghost use Rattle.bx_acceptor.specs.Standing.{IsTaken};
 
@@ -38,11 +39,22 @@ fn unchanged(reply: Reply) -> Step
     }
 }
 
+/// A step that changes what is held.
+fn changed(reply: Reply) -> Step
+    ensures { result ≡ record { reply = reply; changed = true } }
+{
+    Step {
+        reply,
+        changed: true,
+    }
+}
+
 /// Takes a message. Where memory runs out, nothing changes.
 pub(crate) fn handle(alloc: Global, held: &mut Held, message: Message) -> Result<Step, OutOfMemory>
     requires { HasRoomAbove message }
     ensures handles { IfOk result (λ step. Handles held.old message held.new (answer_of held.new step.reply)) }
     ensures same { IfOk result (λ step. step.changed ≡ false → held.new ≡ held.old) }
+    ensures spare { IfOk result (λ step. step.changed ≡ true → Changes held.old message) }
     ensures counts { IfOk result (λ step. (number : ℕ) → IsTaken number message → step.changed ≡ true → number + 1 < 2 ^ 64) }
     ensures kept { (devices : ℕ) → IsHeld devices held.old → IsMessage devices message → IsHeld devices held.new }
     ensures err { OnErr result (held.new ≡ held.old) }
@@ -63,6 +75,7 @@ fn learn(alloc: Global, held: &mut Held, state: GlobalState) -> Result<Step, Out
     requires { state.index + 1 < 2 ^ 64 }
     ensures learns { OnOk result (Learns held.old state held.new) }
     ensures silent { IfOk result (λ step. step.reply ≡ Reply.Nothing) }
+    ensures spare { IfOk result (λ step. step.changed ≡ true → IsNews held.old state) }
     ensures same { IfOk result (λ step. step.changed ≡ false → held.new ≡ held.old) }
     ensures kept { (devices : ℕ) → IsHeld devices held.old → IsStateOf devices state → IsHeld devices held.new }
     ensures err { OnErr result (held.new ≡ held.old) }
@@ -71,10 +84,7 @@ fn learn(alloc: Global, held: &mut Held, state: GlobalState) -> Result<Step, Out
         return Ok(unchanged(Reply::Nothing));
     }
     catch_up(alloc, held, state)?;
-    Ok(Step {
-        reply: Reply::Nothing,
-        changed: true,
-    })
+    Ok(changed(Reply::Nothing))
 }
 
 /// Takes a prepare, which brings a decided state.
@@ -86,6 +96,7 @@ fn prepare(
 ) -> Result<Step, OutOfMemory>
     requires { state.index + 1 < 2 ^ 64 }
     ensures prepares { IfOk result (λ step. Prepares held.old ballot state held.new (answer_of held.new step.reply)) }
+    ensures spare { IfOk result (λ step. step.changed ≡ true → IsNewsOrAbove held.old ballot state) }
     ensures same { IfOk result (λ step. step.changed ≡ false → held.new ≡ held.old) }
     ensures kept { (devices : ℕ) → IsHeld devices held.old → IsBallot ballot → IsStateOf devices state → IsHeld devices held.new }
     ensures err { OnErr result (held.new ≡ held.old) }
@@ -98,15 +109,13 @@ fn prepare(
     }
     catch_up(alloc, held, state)?;
     let step = promise(held, ballot);
-    Ok(Step {
-        reply: step.reply,
-        changed: true,
-    })
+    Ok(changed(step.reply))
 }
 
 /// Promises a ballot that is above the promise.
 fn promise(held: &mut Held, ballot: Ballot) -> Step
     ensures promises { Promises held.old ballot held.new (answer_of held.new result.reply) }
+    ensures spare { result.changed ≡ true → ComesBefore held.old.promise ballot }
     ensures same { result.changed ≡ false → held.new ≡ held.old }
     ensures kept { (devices : ℕ) → IsHeld devices held.old → IsBallot ballot → IsHeld devices held.new }
 {
@@ -114,10 +123,7 @@ fn promise(held: &mut Held, ballot: Ballot) -> Step
         return unchanged(Reply::Refused);
     }
     held.promise = ballot;
-    Step {
-        reply: Reply::Promise,
-        changed: true,
-    }
+    changed(Reply::Promise)
 }
 
 /// Takes a decided state that is newer. Where memory runs out, nothing changes.
@@ -138,6 +144,7 @@ fn catch_up(alloc: Global, held: &mut Held, state: GlobalState) -> Result<(), Ou
 /// Takes an accept.
 fn accept(held: &mut Held, ballot: Ballot, state: GlobalState) -> Step
     ensures votes { Votes held.old ballot state held.new (answer_of held.new result.reply) }
+    ensures spare { result.changed ≡ true → IsAcceptable held.old ballot state }
     ensures same { result.changed ≡ false → held.new ≡ held.old }
     ensures kept { (devices : ℕ) → IsHeld devices held.old → IsBallot ballot → IsStateOf devices state → IsHeld devices held.new }
 {
@@ -154,8 +161,5 @@ fn accept(held: &mut Held, ballot: Ballot, state: GlobalState) -> Step
     held.ballot = ballot;
     held.flag = 1;
     held.accepted = state;
-    Step {
-        reply: Reply::Accepted,
-        changed: true,
-    }
+    changed(Reply::Accepted)
 }

@@ -1,6 +1,6 @@
 use Rattle.std.proofs.Common.{Some, length}
 use Rattle.bx_global.specs.Bytes.{held_text}
-use Rattle.bx_acceptor.proofs.Taking.{answered, became, brought_is, no_cell, stands_with, unmoved}
+use Rattle.bx_acceptor.proofs.Taking.{answered, became, brought_here, brought_is, changes_not, no_cell, stands_with, takes_here, unmoved}
 use Rattle.bx_acceptor.proofs.acceptor.Acceptor.take.Goals as goal
 
 pub returns-in_err-from-clause-any_moment : goal.returns-in_err-from-clause-any_moment
@@ -55,3 +55,23 @@ pub returns-clause-becomes : goal.returns-clause-becomes
 returns-clause-becomes g c = λ message from brings.
     let found = rw c.in-Some.is at c.in_ok-from.ensures.some in
     became _ c.args.self.now c.len-devices.result c.args.input.now c.serve.new.held _ message _ from c.self.view_is c.len-devices.ensures found.0 brings c.in_ok-serve.ensures.becomes
+
+pub returns-in_err-serve-clause-spare : goal.returns-in_err-serve-clause-spare
+returns-in_err-serve-clause-spare g c = λ message from brings spare.
+    let found = rw c.in-Some.is at c.in_ok-from.ensures.some in
+    c.in_err-serve.ensures.spare (changes_not _ c.args.self.now c.len-devices.result c.args.input.now _ message _ from c.self.view_is c.len-devices.ensures found.0 brings spare)
+
+pub returns-clause-spare : goal.returns-clause-spare
+returns-clause-spare g c = λ message from brings spare.
+    let found = rw c.in-Some.is at c.in_ok-from.ensures.some in
+    c.in_ok-serve.ensures.spare (changes_not _ c.args.self.now c.len-devices.result c.args.input.now _ message _ from c.self.view_is c.len-devices.ensures found.0 brings spare)
+
+pub returns-in_err-serve-clause-ignores : goal.returns-in_err-serve-clause-ignores
+returns-in_err-serve-clause-ignores g c = λ none.
+    let found = rw c.in-Some.is at c.in_ok-from.ensures.some in
+    absurd (none c.in-Some.message c.in-Some.from (brought_here _ c.args.self.now c.len-devices.result c.args.input.now c.in-Some.message c.in-Some.from c.self.view_is c.len-devices.ensures found.0) (takes_here _ c.args.self.now c.in-Some.message c.self.view_is found.1))
+
+pub returns-clause-ignores : goal.returns-clause-ignores
+returns-clause-ignores g c = λ none.
+    let found = rw c.in-Some.is at c.in_ok-from.ensures.some in
+    absurd (none c.in-Some.message c.in-Some.from (brought_here _ c.args.self.now c.len-devices.result c.args.input.now c.in-Some.message c.in-Some.from c.self.view_is c.len-devices.ensures found.0) (takes_here _ c.args.self.now c.in-Some.message c.self.view_is found.1))

@@ -1,0 +1,4 @@
+pub mod Handling
+pub mod Replies
+pub mod Saving
+pub mod Standing

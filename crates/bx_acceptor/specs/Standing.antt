@@ -1,0 +1,102 @@
+-- How an acceptor stands, and what it takes in.
+use Rattle.std.specs.Prelude.{◌≡◌, ℕ, ◌+◌, ◌^◌, ◌<◌, true, List, [], ◌∷◌, ◌++◌, length, Option, Some, None, IfSome, IsSomeAnd}
+use Rattle.bx_base.specs.declared.names.Actor.{Actor}
+use Rattle.bx_base.specs.declared.names.Actor.TheVariants.{Replica}
+use Rattle.bx_cell.specs.Cells.{Holds, Known}
+use Rattle.bx_disk.specs.Disks.{Image}
+use Rattle.bx_facts.specs.declared.input.Input.{Input}
+use Rattle.bx_facts.specs.declared.input.Input.TheVariants.{Packet, Tick, Synced}
+use Rattle.bx_global.specs.declared.held.Held.{Held}
+use Rattle.bx_global.specs.declared.state.GlobalState.{GlobalState}
+use Rattle.bx_global.specs.Allowed.{IsAllowed}
+use Rattle.bx_global.specs.Bytes.{IsHeld, SpellsHeld, held_text}
+use Rattle.bx_cell.specs.Halves.{Found, cell_in}
+use Rattle.bx_packets.specs.declared.message.Message.{Message}
+use Rattle.bx_packets.specs.declared.message.Message.TheVariants.{Ask, Decided, Prepare, Promise as Promising, Accept, Accepted, Refused}
+use Rattle.bx_packets.specs.Messages.{Spells, letter_with}
+use Rattle.bx_post.specs.declared.packets.Letter.{Letter}
+use Rattle.bx_acceptor.specs.Handling.{Handles, first_held}
+
+-- An acceptor: the number of its replica, which is that of its disk; the first state; what it holds; and its cell, where it
+-- has one.
+pub record Standing : Type 0 where
+  pub replica : ℕ
+  pub first : GlobalState
+  pub held : Held
+  pub cell : Option Known
+
+abbrev pub devices_of : Standing → ℕ
+devices_of a = length a.first.devices
+
+-- the cell is on the disk of the replica, behind its label, may be put, and has what is held
+pub record IsCellOf (replica : ℕ) (held : Held) (cell : Known) : Type 0 where
+  pub disk : cell.disk ≡ replica
+  pub base : cell.base ≡ 1
+  pub ready : cell.ready ≡ true
+  pub content : cell.found.value ≡ held_text held
+
+-- what holds of each acceptor
+pub record IsStanding (a : Standing) : Type 0 where
+  pub first : IsAllowed a.first
+  pub index : a.first.index + 1 < 2 ^ 64
+  pub held : IsHeld (devices_of a) a.held
+  pub cell : IfSome a.cell (IsCellOf a.replica a.held)
+
+-- the packet that comes says this, and is from there
+abbrev pub Brings : ℕ → Input → Message → Actor → Type 0
+Brings devices (Packet packet reading) message from = Spells devices message packet.now.kind packet.now.body × (from ≡ packet.now.from)
+Brings devices (Tick reading) message from = ⊥
+Brings devices Synced message from = ⊥
+
+-- An acceptor whose cell has this number takes the message. An ask it always takes; where the number can't rise no other; a
+-- state with no index behind it isn't taken as decided; what acceptors send is for others.
+abbrev pub IsTaken : ℕ → Message → Type 0
+IsTaken number Ask = Unit {0}
+IsTaken number (Decided s) = (number + 1 < 2 ^ 64) × (s.index + 1 < 2 ^ 64)
+IsTaken number (Prepare b s) = (number + 1 < 2 ^ 64) × (s.index + 1 < 2 ^ 64)
+IsTaken number (Promising promise) = ⊥
+IsTaken number (Accept b s) = number + 1 < 2 ^ 64
+IsTaken number (Accepted b index) = ⊥
+IsTaken number (Refused index b) = ⊥
+
+-- there is a cell with such a number
+abbrev pub IsTakenBy : Option Known → Message → Type 0
+IsTakenBy cell message = IsSomeAnd cell (λ c. IsTaken c.found.number message)
+
+-- the acceptor takes the message
+abbrev pub Takes : Standing → Message → Type 0
+Takes a message = IsTakenBy a.cell message
+
+-- the letters of an answer
+abbrev pub letters_of : ℕ → Actor → Option Message → List Letter
+letters_of replica to None = []
+letters_of replica to (Some message) = letter_with (Replica replica) to message ∷ []
+
+-- A message is taken, and its answer put into the box.
+abbrev pub Answers : ℕ → Held → Message → Actor → Held → List Letter → List Letter → Type 0
+Answers replica held message from new before after = (answer : Option Message) × Handles held message new answer × (after ≡ before ++ letters_of replica from answer)
+
+-- the image has what the cell holds
+abbrev pub HasCell : Standing → Image → Type 0
+HasCell a image = IfSome a.cell (λ cell. Holds cell image)
+
+-- the acceptor without a cell, until it starts again
+abbrev pub stopped : Standing → Standing
+stopped a = record a { cell = None }
+
+-- .. and one that never had a cell that can be read: it knows the first state
+abbrev pub without_cell : ℕ → GlobalState → Standing
+without_cell replica s = record { replica = replica; first = s; held = first_held s; cell = None }
+
+-- .. and one whose cell was found so
+abbrev pub with_found : Standing → Found → Held → Standing
+with_found a found held = record a { held = held; cell = Some (record { disk = a.replica; base = 1; found = found; ready = true }) }
+
+-- the disk, by its sectors, has a cell that can be read, in which this is found
+pub record IsFound (devices : ℕ) (sectors : ℕ → List ℕ) (found : Found) (held : Held) : Type 0 where
+  pub in_cell : cell_in sectors 1 ≡ Some found
+  pub spells : SpellsHeld held found.value devices
+
+-- it has none
+abbrev pub IsNotFound : ℕ → (ℕ → List ℕ) → Type 0
+IsNotFound devices sectors = (found : Found) (held : Held) → IsFound devices sectors found held → ⊥

@@ -1,0 +1,14 @@
+pub mod Agree
+pub mod Begins
+pub mod Cells
+pub mod Decide
+pub mod Events
+pub mod Founds
+pub mod Images
+pub mod Places
+pub mod Propose
+pub mod Readings
+pub mod Replicas
+pub mod Rounds
+pub mod Sent
+pub mod Order

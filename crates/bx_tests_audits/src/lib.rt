@@ -1,6 +1,8 @@
-//! Tests of reading page trees off blocks in memory.
+//! Tests of reading page trees, inodes and their files off blocks in memory.
 #![tactic(auto)]
 
+#[cfg(test)]
+mod bodies;
 #[cfg(test)]
 mod inodes;
 #[cfg(test)]

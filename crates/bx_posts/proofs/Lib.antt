@@ -2,3 +2,4 @@ pub mod PutTree
 pub mod PostTree
 pub mod PostFair
 pub mod ParentSteps
+pub mod Neighbours

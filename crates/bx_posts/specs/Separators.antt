@@ -1,5 +1,5 @@
 -- What is posted of a page, and what reading it answers, on any content.
-use Rattle.std.specs.Prelude.{◌≡◌, ◌≢◌, ℕ, ◌+◌, ◌⊎◌, Some, None, Result, Ok, Err}
+use Rattle.std.specs.Prelude.{◌≡◌, ◌≢◌, ℕ, ◌+◌, ◌⊎◌, Some, None, IsSome, Result, Ok, Err}
 use Rattle.bx_base.specs.declared.names.Mode.TheVariants.{Shared}
 use Rattle.bx_layout.specs.declared.block.Block.{Block}
 use Rattle.bx_page.specs.Contents.{Contents}
@@ -16,6 +16,10 @@ pub record IsShown (reads : Reads) (handle : ℕ) (page : Contents) : Type 0 whe
   pub there : reads.held (block_at handle) Shared ≡ Some block
   pub header : block.handle ≡ handle
   pub has : HasPage page block
+
+-- the page has a right neighbour, wherever it can be read
+abbrev pub MayPost : Reads → ℕ → Type 0
+MayPost reads handle = (contents : Contents) → IsShown reads handle contents → IsSome contents.high
 
 -- a block is held that isn't the page's: its header names another handle, or it is no page
 pub record IsStrange (reads : Reads) (handle : ℕ) : Type 0 where

@@ -6,3 +6,4 @@ mod posting;
 mod separators;
 
 pub use posting::{Posted, post};
+pub use separators::may_post;

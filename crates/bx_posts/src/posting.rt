@@ -1,7 +1,6 @@
 //! The call that posts a separator.
 
-ghost use Rattle.std.specs.Prelude.{◌≡◌, IsSome, OnOk, OnErr};
-ghost use Rattle.bx_page.specs.Contents.{Contents};
+ghost use Rattle.std.specs.Prelude.{◌≡◌, OnOk, OnErr};
 ghost use Rattle.bx_records.specs.Drafts.{IsDraft};
 ghost use Rattle.bx_truth.specs.PageTrees.{Node, PageTree, IsPageOf};
 ghost use Rattle.bx_views.specs.Attempts.{IsHeldDraft};
@@ -9,7 +8,7 @@ ghost use Rattle.bx_views.specs.Truths.{Truth};
 ghost use Rattle.bx_blink.specs.Hints.{Under};
 ghost use Rattle.bx_blink.specs.Walks.{reads_with};
 ghost use Rattle.bx_posts.specs.Posts.{NeedsForPost, PostsAt, PostsIn, PostsTo};
-ghost use Rattle.bx_posts.specs.Separators.{IsShown};
+ghost use Rattle.bx_posts.specs.Separators.{MayPost};
 
 use crate::parents::{parent_of, put_in_parent};
 use crate::separators::separator_of;
@@ -45,7 +44,7 @@ pub fn post<V: View>(
     near: u16,
     areas: u16,
 ) -> Result<Posted, BlinkError>
-    requires { (contents : Contents) → IsShown (reads_with (V.held view.now) (V.hints view.now) draft.old) page contents → IsSome contents.high }
+    requires { MayPost (reads_with (V.held view.now) (V.hints view.now) draft.old) page }
     ensures unchanged { OnErr result (draft.new ≡ draft.old) }
     ensures at { PostsAt (V.held view.now) (V.hints view.now) draft.old draft.new root page near areas result }
     ensures map { (truth : Truth) (tree : PageTree) (node : Node) → Under areas (V.held view.now) (V.hints view.now) truth draft.old root tree → IsPageOf tree node → node.handle ≡ page → PostsIn areas (V.held view.now) (V.hints view.now) truth draft.old draft.new root tree node result }
@@ -64,7 +63,7 @@ fn post_page<V: View>(
     handle: u64,
     near: (u16, u16),
 ) -> Result<Posted, BlinkError>
-    requires { (contents : Contents) → IsShown (reads_with (V.held view.now) (V.hints view.now) draft.old) handle contents → IsSome contents.high }
+    requires { MayPost (reads_with (V.held view.now) (V.hints view.now) draft.old) handle }
     ensures unchanged { OnErr result (draft.new ≡ draft.old) }
     ensures at { PostsAt (V.held view.now) (V.hints view.now) draft.old draft.new root handle near.0 near.1 result }
 {
@@ -90,7 +89,7 @@ fn post_of<V: View>(
     handle: u64,
     near: (u16, u16),
 ) -> Result<(Draft, Posted), BlinkError>
-    requires { (contents : Contents) → IsShown (reads_with (V.held view.now) (V.hints view.now) draft.now) handle contents → IsSome contents.high }
+    requires { MayPost (reads_with (V.held view.now) (V.hints view.now) draft.now) handle }
     ensures { IsDraft draft.now → PostsTo (V.held view.now) (V.hints view.now) draft.now root handle near.0 near.1 result }
 {
     let separator = separator_of(alloc, draft, view, handle)?;

@@ -1,11 +1,10 @@
 //! What is posted of a page.
 
-ghost use Rattle.std.specs.Prelude.{◌≡◌, ◌+◌, ◌<◌, ◌≤◌, IsSome, length, None};
-ghost use Rattle.bx_page.specs.Contents.{Contents};
+ghost use Rattle.std.specs.Prelude.{◌↔◌, IfOk, IsTrue};
 ghost use Rattle.bx_blink.specs.Walks.{reads_with};
-ghost use Rattle.bx_posts.specs.Separators.{IsShown, ShowsAt, SeparatorAt};
+ghost use Rattle.bx_posts.specs.Separators.{MayPost, ShowsAt, SeparatorAt};
 
-use bx_base::{Mode, Raw};
+use bx_base::{Mode, OutOfMemory, Raw};
 use bx_blink::{BlinkError, block_at, page_in, seen};
 use bx_page::Page;
 use bx_records::Draft;
@@ -47,6 +46,32 @@ fn page_shown<V: View>(
     }
 }
 
+/// Whether a page has a right neighbour wherever it can be read, which is what `post` asks for.
+pub fn may_post<V: View>(
+    alloc: Global,
+    draft: &Draft,
+    view: &V,
+    page: u64,
+) -> Result<bool, OutOfMemory>
+    ensures { IfOk result (λ may. IsTrue may ↔ MayPost (reads_with (V.held view.now) (V.hints view.now) draft.now) page) }
+{
+    match seen(draft, view, block_at(page), Mode::Shared) {
+        None => Ok(true),
+        Some(block) => {
+            if block.handle != page {
+                return Ok(true);
+            }
+            match page_in(alloc, block)? {
+                None => Ok(true),
+                Some(found) => match found.high() {
+                    None => Ok(false),
+                    Some(_) => Ok(true),
+                },
+            }
+        }
+    }
+}
+
 /// The separator behind a page that has a right neighbour.
 pub(crate) fn separator_of<V: View>(
     alloc: Global,
@@ -54,7 +79,7 @@ pub(crate) fn separator_of<V: View>(
     view: &V,
     handle: u64,
 ) -> Result<Separator, BlinkError>
-    requires { (contents : Contents) → IsShown (reads_with (V.held view.now) (V.hints view.now) draft.now) handle contents → IsSome contents.high }
+    requires { MayPost (reads_with (V.held view.now) (V.hints view.now) draft.now) handle }
     ensures { SeparatorAt (reads_with (V.held view.now) (V.hints view.now) draft.now) handle result }
 {
     let page = page_shown(alloc, draft, view, handle)?;

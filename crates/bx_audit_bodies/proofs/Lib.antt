@@ -1,0 +1,10 @@
+pub mod Members
+pub mod EntriesOfPieces
+pub mod ClaimsOfTrees
+pub mod PiecesAmong
+pub mod PiecesInBytes
+pub mod BodiesOfTrees
+pub mod PiecesRead
+pub mod Followers
+pub mod Cases
+pub mod ReadFiles

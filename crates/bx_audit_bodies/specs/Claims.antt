@@ -25,6 +25,7 @@ pub record IsPageNamed (tree : PageTree) (handle : ℕ) : Type 0 where
 -- the tree names the chunk with this handle as the block of a piece
 pub record IsPieceNamed (tree : PageTree) (handle index : ℕ) : Type 0 where
   pub index_fits : index < 2 ^ 32
+  pub handle_fits : handle < 2 ^ 64
   pub names : value_of (map_of tree) (content_key index) ≡ Some (content_value handle)
 
 -- a claim is one of a tree

@@ -8,10 +8,12 @@ ghost use Rattle.bx_tree_files.specs.declared.file.File.{File as Kept};
 ghost use Rattle.bx_truth.specs.PageTrees.{Chunks};
 ghost use Rattle.bx_truth.specs.Stored.{Owner, Stored};
 
+use crate::bodies::{dead_of, directory_of, link_of, regular_of};
 use crate::claims::Claim;
+use bx_audit_files::inode_at;
 use bx_audit_trees::AuditError;
 use bx_homes::Blocks;
-use bx_tree_files::File;
+use bx_tree_files::{DIRECTORY, File, LINK, REGULAR};
 use std::alloc::Global;
 
 /// What an inode is that was read.
@@ -43,5 +45,11 @@ pub fn file_of<B: Blocks>(
     ensures keeps_lender { B.lender blocks.new ≡ B.lender blocks.old }
     ensures keeps_ready { B.ready blocks.new }
 {
-    Err(AuditError::OutOfMemory)
+    let inode = inode_at(alloc, blocks, areas, handle)?;
+    match inode.kind {
+        REGULAR => regular_of(alloc, blocks, areas, handle, &inode),
+        DIRECTORY => directory_of(alloc, blocks, areas, handle, &inode),
+        LINK => link_of(alloc, handle, &inode),
+        _ => dead_of(alloc, blocks, areas, handle, &inode),
+    }
 }

@@ -18,8 +18,8 @@ const BY_NAME: u8 = 1;
 
 const BY_NUMBER: u8 = 2;
 
-/// A number of 32 bits at the front, and the bytes behind it.
-fn number_in(bytes: &[u8]) -> Option<(u32, &[u8])>
+/// A number of 32 bits at the front, and the bytes behind it; `None` exactly where there are fewer bytes.
+pub fn number_in(bytes: &[u8]) -> Option<(u32, &[u8])>
     ensures some { IfSome result (λ x. bytes.now ≡ to_be_bytes w32 x.0 ++ x.1.now) }
     ensures none { IfNone result ((number : ℕ) (rest : List ℕ) → number < 2 ^ 32 → bytes.now ≡ to_be_bytes w32 number ++ rest → ⊥) }
 {
@@ -29,8 +29,8 @@ fn number_in(bytes: &[u8]) -> Option<(u32, &[u8])>
     }
 }
 
-/// A handle at the front, and the bytes behind it.
-fn handle_in(bytes: &[u8]) -> Option<(u64, &[u8])>
+/// A handle at the front, and the bytes behind it; `None` exactly where there are fewer bytes.
+pub fn handle_in(bytes: &[u8]) -> Option<(u64, &[u8])>
     ensures some { IfSome result (λ x. bytes.now ≡ to_be_bytes w64 x.0 ++ x.1.now) }
     ensures none { IfNone result ((handle : ℕ) (rest : List ℕ) → handle < 2 ^ 64 → bytes.now ≡ to_be_bytes w64 handle ++ rest → ⊥) }
 {

@@ -6,6 +6,7 @@ ghost use Rattle.bx_audit_trees.specs.Errors.{IfTorn, Counts};
 ghost use Rattle.bx_audit_trees.specs.Shown.{Shows};
 ghost use Rattle.bx_layout.specs.declared.block.Block.{Block};
 ghost use Rattle.bx_layout.specs.declared.inode.Inode.{Inode};
+ghost use Rattle.bx_layout.specs.Inodes.{IsInode};
 ghost use Rattle.bx_truth.specs.PageTrees.{Chunks};
 ghost use Rattle.bx_truth.specs.Stored.{HasInode};
 
@@ -35,6 +36,7 @@ pub fn block_at<B: Blocks>(
     ensures shows { (chunks : Chunks) → Shows (B.tells blocks.old) areas (B.stands blocks.old) chunks → Shows (B.tells blocks.new) areas (B.stands blocks.new) chunks }
     ensures counts { Counts result (B.faults blocks.old) (B.faults blocks.new) }
     ensures keeps_areas { B.areas blocks.new ≡ B.areas blocks.old }
+    ensures keeps_lender { B.lender blocks.new ≡ B.lender blocks.old }
     ensures keeps_ready { B.ready blocks.new }
 {
     let block = chunk_at(blocks, areas, handle)?;
@@ -55,11 +57,13 @@ pub fn inode_at<B: Blocks>(
     requires areas { B.areas blocks.old ≡ areas }
     requires most { areas ≤ 64 }
     ensures ok { (chunks : Chunks) → Shows (B.tells blocks.old) areas (B.stands blocks.old) chunks → IfOk result (λ inode. IsInodeAt chunks handle inode) }
+    ensures is { IfOk result IsInode }
     ensures torn { (chunks : Chunks) → Shows (B.tells blocks.old) areas (B.stands blocks.old) chunks → IfTorn result (λ at found wanted. (inode : Inode) → IsInodeAt chunks handle inode → ⊥) }
     ensures names { IfTorn result (λ at found names. names ≡ handle) }
     ensures shows { (chunks : Chunks) → Shows (B.tells blocks.old) areas (B.stands blocks.old) chunks → Shows (B.tells blocks.new) areas (B.stands blocks.new) chunks }
     ensures counts { Counts result (B.faults blocks.old) (B.faults blocks.new) }
     ensures keeps_areas { B.areas blocks.new ≡ B.areas blocks.old }
+    ensures keeps_lender { B.lender blocks.new ≡ B.lender blocks.old }
     ensures keeps_ready { B.ready blocks.new }
 {
     let block = block_at(blocks, areas, handle, INODE)?;
@@ -73,6 +77,7 @@ pub fn inode_at<B: Blocks>(
 fn inode_in(alloc: Global, block: &Block) -> Result<Option<Inode>, OutOfMemory>
     requires { block.now.kind ≡ 1 }
     ensures some { IfOk result (λ found. IfSome found (λ inode. HasInode inode block.now)) }
+    ensures is { IfOk result (λ found. IfSome found IsInode) }
     ensures none { IfOk result (λ found. IfNone found ((inode : Inode) → HasInode inode block.now → ⊥)) }
 {
     Inode::read(alloc, block.payload.bytes())

@@ -5,5 +5,6 @@ mod fields;
 mod inodes;
 mod names;
 
+pub use fields::{handle_in, number_in};
 pub use inodes::{block_at, inode_at};
 pub use names::names_of;

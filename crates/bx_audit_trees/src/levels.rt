@@ -33,6 +33,7 @@ pub fn level_from<B: Blocks>(
     ensures shows { (chunks : Chunks) → Shows (B.tells blocks.old) areas (B.stands blocks.old) chunks → Shows (B.tells blocks.new) areas (B.stands blocks.new) chunks }
     ensures counts { Counts result (B.faults blocks.old) (B.faults blocks.new) }
     ensures keeps_areas { B.areas blocks.new ≡ B.areas blocks.old }
+    ensures keeps_lender { B.lender blocks.new ≡ B.lender blocks.old }
     ensures keeps_ready { B.ready blocks.new }
 {
     let mut pages = Vec::new(alloc);
@@ -77,6 +78,7 @@ fn page_of<B: Blocks>(
     ensures shows { (chunks : Chunks) → Shows (B.tells blocks.old) areas (B.stands blocks.old) chunks → Shows (B.tells blocks.new) areas (B.stands blocks.new) chunks }
     ensures counts { Counts result (B.faults blocks.old) (B.faults blocks.new) }
     ensures keeps_areas { B.areas blocks.new ≡ B.areas blocks.old }
+    ensures keeps_lender { B.lender blocks.new ≡ B.lender blocks.old }
     ensures keeps_ready { B.ready blocks.new }
 {
     let page = page_at(alloc, blocks, areas, handle)?;

@@ -1,6 +1,6 @@
 //! Page trees.
 
-ghost use Rattle.std.specs.Prelude.{◌≡◌, ◌≤◌, ◌+◌, ℕ, List, [], slice_index_or, IfOk, IfSome, IfNone, IsErrOf};
+ghost use Rattle.std.specs.Prelude.{◌≡◌, ◌≤◌, ◌<◌, ◌+◌, ℕ, List, [], length, slice_index_or, IfOk, IfSome, IfNone, IsErrOf};
 ghost use Rattle.bx_truth.specs.PageTrees.{Chunks, Node, PageTree, IsLevel, IsTree, map_of};
 ghost use Rattle.std.specs.Option.{option_copied};
 ghost use Rattle.bx_page.specs.Contents.{value_of};
@@ -57,6 +57,24 @@ impl Model for ReadTree {
 }
 
 impl ReadTree {
+    /// How many levels there are.
+    pub fn levels(&self) -> usize
+        ensures { result ≡ length self.now }
+    {
+        self.upper.len() + 1
+    }
+
+    /// The pages of a level, counted from 0 for the leaves, from the left.
+    pub fn level(&self, at: usize) -> &[TreePage]
+        requires { at < length self.now }
+        ensures { result.now ≡ slice_index_or self.now at [] }
+    {
+        if at == 0 {
+            return &self.leaves.pages;
+        }
+        &self.upper[self.upper.len() - at].pages
+    }
+
     /// The leaves, from the left.
     pub fn leaves(&self) -> &[TreePage]
         ensures leaves { result.now ≡ slice_index_or self.now 0 [] }
@@ -89,6 +107,7 @@ pub fn tree_under<B: Blocks>(
     ensures shows { (chunks : Chunks) → Shows (B.tells blocks.old) areas (B.stands blocks.old) chunks → Shows (B.tells blocks.new) areas (B.stands blocks.new) chunks }
     ensures counts { Counts result (B.faults blocks.old) (B.faults blocks.new) }
     ensures keeps_areas { B.areas blocks.new ≡ B.areas blocks.old }
+    ensures keeps_lender { B.lender blocks.new ≡ B.lender blocks.old }
     ensures keeps_ready { B.ready blocks.new }
 {
     let (top, height) = root_page(alloc, blocks, areas, root)?;
@@ -123,6 +142,7 @@ fn root_page<B: Blocks>(
     ensures shows { (chunks : Chunks) → Shows (B.tells blocks.old) areas (B.stands blocks.old) chunks → Shows (B.tells blocks.new) areas (B.stands blocks.new) chunks }
     ensures counts { Counts result (B.faults blocks.old) (B.faults blocks.new) }
     ensures keeps_areas { B.areas blocks.new ≡ B.areas blocks.old }
+    ensures keeps_lender { B.lender blocks.new ≡ B.lender blocks.old }
     ensures keeps_ready { B.ready blocks.new }
 {
     let page = page_at(alloc, blocks, areas, root)?;
@@ -158,6 +178,7 @@ fn level_below<B: Blocks>(
     ensures shows { (chunks : Chunks) → Shows (B.tells blocks.old) areas (B.stands blocks.old) chunks → Shows (B.tells blocks.new) areas (B.stands blocks.new) chunks }
     ensures counts { Counts result (B.faults blocks.old) (B.faults blocks.new) }
     ensures keeps_areas { B.areas blocks.new ≡ B.areas blocks.old }
+    ensures keeps_lender { B.lender blocks.new ≡ B.lender blocks.old }
     ensures keeps_ready { B.ready blocks.new }
 {
     let first = first_child(above)?;

@@ -13,6 +13,7 @@ invariant-loop-begins g l = record {
   ready : g.B.Blocks.ready l.blocks;
   none_rose : g.B.Blocks.faults l.blocks ≡ g.B.Blocks.faults l.fn.blocks;
   areas_are : g.B.Blocks.areas l.blocks ≡ g.B.Blocks.areas l.fn.blocks;
+  lender_is : g.B.Blocks.lender l.blocks ≡ g.B.Blocks.lender l.fn.blocks;
   shows : (chunks : Chunks) → Shows (g.B.Blocks.tells l.fn.blocks) l.areas (g.B.Blocks.stands l.fn.blocks) chunks → Shows (g.B.Blocks.tells l.blocks) l.areas (g.B.Blocks.stands l.blocks) chunks;
   short : length l.begins ≤ 256;
   rise : BeginningsRise l.pages.items;

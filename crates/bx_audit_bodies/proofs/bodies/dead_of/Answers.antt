@@ -1,0 +1,32 @@
+use Rattle.std.proofs.Common.{sym, ap, ◌∙◌, Err, subst}
+use Rattle.std.specs.Prelude.{All}
+use Rattle.std.proofs.lemmas.Result.{err_from_is_err_and}
+use Rattle.bx_audit_trees.proofs.Ends.{if_torn}
+use Rattle.bx_audit_bodies.specs.Pieces.{HasPiece}
+use Rattle.bx_audit_bodies.proofs.BodiesOfTrees.{dead_pieces, dead_blocks, dead_alone, dead_read}
+use Rattle.bx_audit_bodies.proofs.bodies.dead_of.Goals as goal
+
+pub returns-then-inode-eq0-clause-ok : goal.returns-then-inode-eq0-clause-ok
+returns-then-inode-eq0-clause-ok g c = λ chunks shows. dead_alone chunks c.args.handle c.args.inode.now c.new.result.items c.new.ensures.items c.if-inode-eq0.true c.requires.kind
+
+pub returns-in_err-pieces-clause-torn : goal.returns-in_err-pieces-clause-torn
+returns-in_err-pieces-clause-torn g c = λ chunks shows.
+    let p = err_from_is_err_and c.from_residual.result c.from_residual.ensures.1 in
+    if_torn _ _ c.in_err-pieces.field-0.0 c.from_residual.result (p.1 ∙ ap Err p.2)
+    (λ at found wanted never owner tree file body.
+    let d = dead_pieces chunks owner c.args.handle c.args.inode.now tree file c.requires.kind c.if-inode-eq0.false body in never tree d.0 d.1)
+    (c.in_err-pieces.ensures.torn chunks shows)
+
+pub returns-in_err-read_pieces-clause-torn : goal.returns-in_err-read_pieces-clause-torn
+returns-in_err-read_pieces-clause-torn g c = λ chunks shows.
+    let p = err_from_is_err_and c.from_residual-in_err-read_pieces.result c.from_residual-in_err-read_pieces.ensures.1 in
+    if_torn _ _ c.in_err-read_pieces.field-0.0 c.from_residual-in_err-read_pieces.result (p.1 ∙ ap Err p.2)
+    (λ at found wanted never owner tree file body.
+    never (subst (All (HasPiece chunks)) (sym c.deref.ensures.value)
+    (dead_blocks chunks shows.none c.args.inode.now c.in_ok-pieces.pieces.items c.in_ok-pieces.claims.items (c.in_ok-pieces.ensures.ok chunks shows) owner c.args.handle tree file c.requires.kind c.if-inode-eq0.false body)))
+    (c.in_err-read_pieces.ensures.torn chunks (c.in_ok-pieces.ensures.shows chunks shows))
+
+pub returns-clause-ok : goal.returns-clause-ok
+returns-clause-ok g c = λ chunks shows.
+    dead_read chunks shows.none c.args.inode.now c.in_ok-pieces.pieces.items c.in_ok-pieces.claims.items (c.in_ok-pieces.ensures.ok chunks shows)
+    (subst (All (HasPiece chunks)) c.deref.ensures.value (c.in_ok-read_pieces.ensures.ok chunks (c.in_ok-pieces.ensures.shows chunks shows))) c.args.handle c.requires.kind

@@ -1,0 +1,36 @@
+use Rattle.std.proofs.Common.{List, Some, sym, ap, ◌∙◌, Err, subst}
+use Rattle.std.proofs.lemmas.Result.{err_from_is_err_and}
+use Rattle.bx_homes.proofs.Sectors.{of_some, of_none}
+use Rattle.bx_page.specs.declared.entry.Entry.{Entry}
+use Rattle.bx_tree_files.specs.declared.file.File.{File}
+use Rattle.bx_truth.specs.Stored.{AreNames}
+use Rattle.bx_truth.proofs.OneTree.{one_map}
+use Rattle.bx_audit_trees.proofs.Ends.{if_torn}
+use Rattle.bx_audit_trees.specs.Trees.{tree_of}
+use Rattle.bx_audit_bodies.specs.Bodies.{HasBodyOf}
+use Rattle.bx_audit_bodies.proofs.BodiesOfTrees.{directory_is, directory_read}
+use Rattle.bx_audit_bodies.proofs.bodies.directory_of.Goals as goal
+
+pub returns-in_err-tree-clause-torn : goal.returns-in_err-tree-clause-torn
+returns-in_err-tree-clause-torn g c = λ chunks shows.
+    let p = err_from_is_err_and c.from_residual.result c.from_residual.ensures.1 in
+    if_torn _ _ c.in_err-tree.field-0.0 c.from_residual.result (p.1 ∙ ap Err p.2)
+    (λ at found wanted never owner tree file body. let d = directory_is chunks owner c.args.handle c.args.inode.now tree file c.requires.kind body in never tree d.1.is)
+    (c.in_err-tree.ensures.torn chunks shows)
+
+pub returns-in_default-clause-torn : goal.returns-in_default-clause-torn
+returns-in_default-clause-torn g c = λ chunks shows.
+    rw c.torn_at-in_default.ensures (λ owner tree file body.
+    let is = c.in_ok-tree.ensures.ok chunks shows in
+    let d = directory_is chunks owner c.args.handle c.args.inode.now tree file c.requires.kind body in
+    of_none c.in_ok-names.field-0 c.in_default.is (c.in_ok-names.ensures.none chunks c.args.inode.now.tree is) d.0
+    (subst (λ (l : List Entry). AreNames l d.0) (one_map chunks c.args.inode.now.tree tree (tree_of c.in_ok-tree.tree) d.1.is is) d.2) d.4)
+
+pub returns-clause-ok : goal.returns-clause-ok
+returns-clause-ok g c = λ chunks shows.
+    let inode = c.args.inode.now in
+    let is = c.in_ok-tree.ensures.ok chunks shows in
+    let are = of_some _ c.in_ok-names.field-0 c.in-Some.names c.in-Some.is (c.in_ok-names.ensures.some chunks inode.tree is) in
+    let below = of_some _ c.in_ok-names.field-0 c.in-Some.names c.in-Some.is c.in_ok-names.ensures.below in
+    subst (λ (f : File). HasBodyOf chunks c.args.handle inode (Some f) c.in_ok-claims.claims.items) (sym c.file_with.ensures)
+    (directory_read chunks shows.none inode c.in_ok-tree.tree c.in_ok-claims.claims.items c.in-Some.names is c.in_ok-claims.ensures are c.args.handle c.requires.inode c.requires.kind c.if-inode.false below)

@@ -1,0 +1,20 @@
+use Rattle.std.proofs.Common.{ap, ◌∙◌, Err, subst}
+use Rattle.std.specs.Prelude.{All}
+use Rattle.std.proofs.lemmas.Result.{err_from_is_err_and}
+use Rattle.bx_homes.proofs.Sectors.{of_none}
+use Rattle.bx_truth.proofs.OneTree.{one_map}
+use Rattle.bx_audit_trees.proofs.Ends.{if_torn}
+use Rattle.bx_audit_trees.specs.Trees.{tree_of}
+use Rattle.bx_audit_bodies.specs.Pieces.{IsPieceEntry}
+use Rattle.bx_audit_bodies.proofs.bodies.pieces_under.Goals as goal
+
+pub returns-in_err-tree-clause-torn : goal.returns-in_err-tree-clause-torn
+returns-in_err-tree-clause-torn g c = λ chunks shows.
+    let p = err_from_is_err_and c.from_residual.result c.from_residual.ensures.1 in
+    if_torn _ _ c.in_err-tree.field-0.0 c.from_residual.result (p.1 ∙ ap Err p.2) (λ at found wanted never tree is all. never tree is) (c.in_err-tree.ensures.torn chunks shows)
+
+pub returns-in_default-clause-torn : goal.returns-in_default-clause-torn
+returns-in_default-clause-torn g c = λ chunks shows.
+    rw c.torn_at.ensures (λ tree is all.
+    of_none c.in_ok-pieces.field-0 c.in_default.is c.in_ok-pieces.ensures.none
+    (subst (All IsPieceEntry) (one_map chunks c.args.root tree (tree_of c.in_ok-tree.tree) is (c.in_ok-tree.ensures.ok chunks shows)) all))

@@ -1,0 +1,45 @@
+use Rattle.std.proofs.Common.{◌<◌, length, List, ap, ◌∙◌, Err, subst}
+use Rattle.std.specs.Prelude.{All}
+use Rattle.std.proofs.lemmas.Result.{err_from_is_err_and}
+use Rattle.std.proofs.lemmas.List.{take_all}
+use Rattle.bx_truth.specs.Stored.{AreBytesOf}
+use Rattle.bx_audit_trees.proofs.Ends.{if_torn}
+use Rattle.bx_audit_bodies.specs.Pieces.{HasPiece, piece_among}
+use Rattle.bx_audit_bodies.specs.declared.pieces.Piece.{Piece}
+use Rattle.bx_audit_bodies.proofs.PiecesRead.{read_more, bytes_step, no_bytes_of}
+use Rattle.bx_audit_bodies.proofs.contents.bytes_of.Goals as goal
+
+pub returns-in_err-put_piece-clause-torn : goal.returns-in_err-put_piece-clause-torn
+returns-in_err-put_piece-clause-torn g c = λ chunks shows apart.
+    let p = err_from_is_err_and c.from_residual-in_err-put_piece.result c.from_residual-in_err-put_piece.ensures.1 in
+    if_torn _ _ c.in_err-put_piece.field-0.0 c.from_residual-in_err-put_piece.result (p.1 ∙ ap Err p.2)
+    (λ at found wanted never bytes all are. no_bytes_of chunks c.args.pieces.now c.loop-piece.piece-index _ c.loop-piece-test.true c.args.size c.args.tail bytes apart c.in_err-put_piece.ensures.fits never all are)
+    (c.in_err-put_piece.ensures.torn chunks (c.loop-piece.invariant.shows chunks shows))
+
+pub loop-piece-preserved : goal.loop-piece-preserved
+loop-piece-preserved g c =
+    let pieces = c.args.pieces.now in
+    let k = c.loop-piece.piece-index in
+    let less : k < length pieces = c.loop-piece-test.true in
+    record {
+      ready = c.in_ok-put_piece.ensures.keeps_ready;
+      none_rose = c.in_ok-put_piece.ensures.counts ∙ c.loop-piece.invariant.none_rose;
+      areas_are = c.in_ok-put_piece.ensures.keeps_areas ∙ c.loop-piece.invariant.areas_are;
+      lender_is = c.in_ok-put_piece.ensures.keeps_lender ∙ c.loop-piece.invariant.lender_is;
+      shows = λ chunks shows. c.in_ok-put_piece.ensures.shows chunks (c.loop-piece.invariant.shows chunks shows);
+      read = λ chunks shows.
+          let puts = c.in_ok-put_piece.ensures.ok chunks (c.loop-piece.invariant.shows chunks shows) in
+          read_more chunks pieces k _ less (c.loop-piece.invariant.read chunks shows) (record { block = puts.block; at = puts.at });
+      bytes = λ chunks shows apart.
+          let puts = c.in_ok-put_piece.ensures.ok chunks (c.loop-piece.invariant.shows chunks shows) in
+          bytes_step chunks pieces k _ less c.args.size c.args.tail c.loop-piece.content c.put_piece.new.content apart (c.loop-piece.invariant.bytes chunks shows apart) puts;
+    }
+
+pub returns-clause-pieces : goal.returns-clause-pieces
+returns-clause-pieces g c = λ chunks shows.
+    subst (All (HasPiece chunks)) (take_all c.loop-piece.piece-index c.args.pieces.now c.loop-piece-test.false) (c.loop-piece.invariant.read chunks shows)
+
+pub returns-clause-bytes : goal.returns-clause-bytes
+returns-clause-bytes g c = λ chunks shows apart.
+    subst (λ (l : List Piece). AreBytesOf (piece_among chunks l) c.args.size c.args.tail c.loop-piece.content) (take_all c.loop-piece.piece-index c.args.pieces.now c.loop-piece-test.false)
+    (c.loop-piece.invariant.bytes chunks shows apart)

@@ -1,0 +1,31 @@
+use Rattle.std.proofs.Common.{ap, ◌∙◌, Err, subst}
+use Rattle.std.specs.Prelude.{All}
+use Rattle.std.proofs.lemmas.Result.{err_from_is_err_and}
+use Rattle.std.proofs.lemmas.List.{take_all}
+use Rattle.bx_audit_trees.proofs.Ends.{if_torn}
+use Rattle.bx_audit_bodies.specs.Pieces.{HasPiece}
+use Rattle.bx_audit_bodies.proofs.PiecesRead.{read_more, no_piece_of}
+use Rattle.bx_audit_bodies.proofs.contents.read_pieces.Goals as goal
+
+pub returns-in_err-block_at-clause-torn : goal.returns-in_err-block_at-clause-torn
+returns-in_err-block_at-clause-torn g c = λ chunks shows.
+    let p = err_from_is_err_and c.from_residual.result c.from_residual.ensures.1 in
+    if_torn _ _ c.in_err-block_at.field-0.0 c.from_residual.result (p.1 ∙ ap Err p.2)
+    (λ at found wanted never all. no_piece_of chunks c.args.pieces.now c.loop-piece.piece-index _ c.loop-piece-test.true never all)
+    (c.in_err-block_at.ensures.torn chunks (c.loop-piece.invariant.shows chunks shows))
+
+pub loop-piece-preserved : goal.loop-piece-preserved
+loop-piece-preserved g c = record {
+  ready = c.in_ok-block_at.ensures.keeps_ready;
+  none_rose = c.in_ok-block_at.ensures.counts ∙ c.loop-piece.invariant.none_rose;
+  areas_are = c.in_ok-block_at.ensures.keeps_areas ∙ c.loop-piece.invariant.areas_are;
+  lender_is = c.in_ok-block_at.ensures.keeps_lender ∙ c.loop-piece.invariant.lender_is;
+  shows = λ chunks shows. c.in_ok-block_at.ensures.shows chunks (c.loop-piece.invariant.shows chunks shows);
+  read = λ chunks shows.
+      read_more chunks c.args.pieces.now c.loop-piece.piece-index _ c.loop-piece-test.true (c.loop-piece.invariant.read chunks shows)
+      (record { block = c.in_ok-block_at.field-0; at = c.in_ok-block_at.ensures.ok chunks (c.loop-piece.invariant.shows chunks shows) });
+}
+
+pub returns-clause-ok : goal.returns-clause-ok
+returns-clause-ok g c = λ chunks shows.
+    subst (All (HasPiece chunks)) (take_all c.loop-piece.piece-index c.args.pieces.now c.loop-piece-test.false) (c.loop-piece.invariant.read chunks shows)

@@ -1,0 +1,52 @@
+use Rattle.std.proofs.Common.{ap, ◌∙◌, Err}
+use Rattle.std.proofs.lemmas.Result.{err_from_is_err_and}
+use Rattle.bx_audit_trees.proofs.Ends.{if_torn}
+use Rattle.bx_audit_files.proofs.NamesOfTrees.{if_ok}
+use Rattle.bx_audit_bodies.proofs.Cases.{torn_too}
+use Rattle.bx_audit_bodies.proofs.ReadFiles.{not_stored, read_as}
+use Rattle.bx_audit_bodies.proofs.files.file_of.Goals as goal
+
+pub returns-in_err-inode-clause-torn : goal.returns-in_err-inode-clause-torn
+returns-in_err-inode-clause-torn g c = λ chunks shows.
+    let p = err_from_is_err_and c.from_residual.result c.from_residual.ensures.1 in
+    if_torn _ _ c.in_err-inode.field-0.0 c.from_residual.result (p.1 ∙ ap Err p.2)
+    (λ at found wanted never owner stored file is. never stored.inode (record { block = is.block; chunk = is.chunk; has = is.inode })) (c.in_err-inode.ensures.torn chunks shows)
+
+pub returns-in-1-clause-ok : goal.returns-in-1-clause-ok
+returns-in-1-clause-ok g c = λ chunks shows.
+    if_ok _ _ c.regular_of.result (λ read body. read_as chunks c.args.handle c.in_ok-inode.inode (c.in_ok-inode.ensures.ok chunks shows) read.file read.claims.items body)
+    (c.regular_of.ensures.ok chunks (c.in_ok-inode.ensures.shows chunks shows))
+
+pub returns-in-1-clause-torn : goal.returns-in-1-clause-torn
+returns-in-1-clause-torn g c = λ chunks shows.
+    torn_too _ _ c.regular_of.result (λ at found wanted never. not_stored chunks c.args.handle c.in_ok-inode.inode (c.in_ok-inode.ensures.ok chunks shows) never)
+    (c.regular_of.ensures.torn chunks (c.in_ok-inode.ensures.shows chunks shows))
+
+pub returns-in-2-clause-ok : goal.returns-in-2-clause-ok
+returns-in-2-clause-ok g c = λ chunks shows.
+    if_ok _ _ c.directory_of.result (λ read body. read_as chunks c.args.handle c.in_ok-inode.inode (c.in_ok-inode.ensures.ok chunks shows) read.file read.claims.items body)
+    (c.directory_of.ensures.ok chunks (c.in_ok-inode.ensures.shows chunks shows))
+
+pub returns-in-2-clause-torn : goal.returns-in-2-clause-torn
+returns-in-2-clause-torn g c = λ chunks shows.
+    torn_too _ _ c.directory_of.result (λ at found wanted never. not_stored chunks c.args.handle c.in_ok-inode.inode (c.in_ok-inode.ensures.ok chunks shows) never)
+    (c.directory_of.ensures.torn chunks (c.in_ok-inode.ensures.shows chunks shows))
+
+pub returns-in-5-clause-ok : goal.returns-in-5-clause-ok
+returns-in-5-clause-ok g c = λ chunks shows.
+    if_ok _ _ c.link_of.result (λ read body. read_as chunks c.args.handle c.in_ok-inode.inode (c.in_ok-inode.ensures.ok chunks shows) read.file read.claims.items body)
+    (c.link_of.ensures.ok chunks)
+
+pub returns-in-5-clause-torn : goal.returns-in-5-clause-torn
+returns-in-5-clause-torn g c = λ chunks shows.
+    torn_too _ _ c.link_of.result (λ at found wanted never. not_stored chunks c.args.handle c.in_ok-inode.inode (c.in_ok-inode.ensures.ok chunks shows) never) (c.link_of.ensures.torn chunks)
+
+pub returns-clause-ok : goal.returns-clause-ok
+returns-clause-ok g c = λ chunks shows.
+    if_ok _ _ c.dead_of.result (λ read body. read_as chunks c.args.handle c.in_ok-inode.inode (c.in_ok-inode.ensures.ok chunks shows) read.file read.claims.items body)
+    (c.dead_of.ensures.ok chunks (c.in_ok-inode.ensures.shows chunks shows))
+
+pub returns-clause-torn : goal.returns-clause-torn
+returns-clause-torn g c = λ chunks shows.
+    torn_too _ _ c.dead_of.result (λ at found wanted never. not_stored chunks c.args.handle c.in_ok-inode.inode (c.in_ok-inode.ensures.ok chunks shows) never)
+    (c.dead_of.ensures.torn chunks (c.in_ok-inode.ensures.shows chunks shows))

@@ -1,0 +1,193 @@
+//! What inodes of each kind have.
+
+ghost use Rattle.std.specs.Prelude.{◌≡◌, ◌≤◌, ◌<◌, ◌^◌, ℕ, All, Option, IfOk, IsErrOf};
+ghost use Rattle.bx_audit_bodies.specs.Bodies.{HasBodyOf, HasPieces, IsBodyOf, file_with as file_with_body};
+ghost use Rattle.bx_audit_bodies.specs.Pieces.{IsPieceEntry};
+ghost use Rattle.bx_audit_trees.specs.declared.error.AuditError.TheVariants.{Fault as DiskFailed};
+ghost use Rattle.bx_audit_trees.specs.Errors.{IfTorn, Counts};
+ghost use Rattle.bx_audit_trees.specs.Shown.{Shows};
+ghost use Rattle.bx_layout.specs.Inodes.{IsInode};
+ghost use Rattle.bx_tree_files.specs.declared.file.File.{File as Kept};
+ghost use Rattle.bx_truth.specs.PageTrees.{Chunks, PageTree, IsTree, map_of};
+ghost use Rattle.bx_truth.specs.Stored.{Owner};
+
+use crate::claims::{Claim, claims_of};
+use crate::contents::{bytes_of, read_pieces};
+use crate::files::ReadFile;
+use crate::lists::entries_of;
+use crate::pieces::{Piece, pieces_of};
+use bx_audit_trees::{AuditError, torn_at, tree_under};
+use bx_base::Raw;
+use bx_homes::Blocks;
+use bx_layout::Inode;
+use bx_tree_files::{Body, File};
+use std::alloc::Global;
+
+/// The most bytes that a file has.
+const MOST_BYTES: u64 = 2147483647;
+
+/// The pieces of a tree under a root, and the claims of its pages and of the pieces. Torn exactly where no tree is there whose entries
+/// all name pieces.
+fn pieces_under<B: Blocks>(
+    alloc: Global,
+    blocks: &mut B,
+    areas: u16,
+    root: u64,
+) -> Result<(Vec<Piece>, Vec<Claim>), AuditError>
+    requires ready { B.ready blocks.old }
+    requires areas { B.areas blocks.old ≡ areas }
+    requires most { areas ≤ 64 }
+    ensures ok { (chunks : Chunks) → Shows (B.tells blocks.old) areas (B.stands blocks.old) chunks → IfOk result (λ x. HasPieces chunks root x.0.items x.1.items) }
+    ensures torn { (chunks : Chunks) → Shows (B.tells blocks.old) areas (B.stands blocks.old) chunks
+        → IfTorn result (λ at found wanted. (tree : PageTree) → IsTree chunks root tree → All IsPieceEntry (map_of tree) → ⊥) }
+    ensures shows { (chunks : Chunks) → Shows (B.tells blocks.old) areas (B.stands blocks.old) chunks → Shows (B.tells blocks.new) areas (B.stands blocks.new) chunks }
+    ensures counts { Counts result (B.faults blocks.old) (B.faults blocks.new) }
+    ensures keeps_areas { B.areas blocks.new ≡ B.areas blocks.old }
+    ensures keeps_lender { B.lender blocks.new ≡ B.lender blocks.old }
+    ensures keeps_ready { B.ready blocks.new }
+{
+    let tree = tree_under(alloc, blocks, areas, root)?;
+    let Some(pieces) = pieces_of(alloc, &tree)? else {
+        return Err(torn_at(root));
+    };
+    let claims = claims_of(alloc, &tree, &pieces)?;
+    Ok((pieces, claims))
+}
+
+/// The file of the inode of a regular file. Torn exactly where it is none, whoever may have which chunks.
+pub(crate) fn regular_of<B: Blocks>(
+    alloc: Global,
+    blocks: &mut B,
+    areas: u16,
+    handle: u64,
+    inode: &Inode,
+) -> Result<ReadFile, AuditError>
+    requires ready { B.ready blocks.old }
+    requires areas { B.areas blocks.old ≡ areas }
+    requires most { areas ≤ 64 }
+    requires inode { IsInode inode.now }
+    requires kind { inode.now.kind ≡ 1 }
+    ensures ok { (chunks : Chunks) → Shows (B.tells blocks.old) areas (B.stands blocks.old) chunks → IfOk result (λ read. HasBodyOf chunks handle inode.now read.file read.claims.items) }
+    ensures torn { (chunks : Chunks) → Shows (B.tells blocks.old) areas (B.stands blocks.old) chunks
+        → IfTorn result (λ at found wanted. (owner : ℕ → Owner) (tree : PageTree) (file : Option Kept) → IsBodyOf chunks owner handle inode.now tree file → ⊥) }
+    ensures shows { (chunks : Chunks) → Shows (B.tells blocks.old) areas (B.stands blocks.old) chunks → Shows (B.tells blocks.new) areas (B.stands blocks.new) chunks }
+    ensures counts { Counts result (B.faults blocks.old) (B.faults blocks.new) }
+    ensures keeps_areas { B.areas blocks.new ≡ B.areas blocks.old }
+    ensures keeps_lender { B.lender blocks.new ≡ B.lender blocks.old }
+    ensures keeps_ready { B.ready blocks.new }
+{
+    if inode.size > MOST_BYTES {
+        return Err(torn_at(handle));
+    }
+    let (pieces, claims) = pieces_under(alloc, blocks, areas, inode.tree)?;
+    let content = bytes_of(alloc, blocks, areas, &pieces, inode.size as u32, inode.tail)?;
+    Ok(ReadFile {
+        file: Some(file_with(handle, inode, Body::Bytes(content))),
+        claims,
+    })
+}
+
+/// The file of the inode of a directory. Torn exactly where it is none, whoever may have which chunks.
+pub(crate) fn directory_of<B: Blocks>(
+    alloc: Global,
+    blocks: &mut B,
+    areas: u16,
+    handle: u64,
+    inode: &Inode,
+) -> Result<ReadFile, AuditError>
+    requires ready { B.ready blocks.old }
+    requires areas { B.areas blocks.old ≡ areas }
+    requires most { areas ≤ 64 }
+    requires inode { IsInode inode.now }
+    requires kind { inode.now.kind ≡ 2 }
+    ensures ok { (chunks : Chunks) → Shows (B.tells blocks.old) areas (B.stands blocks.old) chunks → IfOk result (λ read. HasBodyOf chunks handle inode.now read.file read.claims.items) }
+    ensures torn { (chunks : Chunks) → Shows (B.tells blocks.old) areas (B.stands blocks.old) chunks
+        → IfTorn result (λ at found wanted. (owner : ℕ → Owner) (tree : PageTree) (file : Option Kept) → IsBodyOf chunks owner handle inode.now tree file → ⊥) }
+    ensures shows { (chunks : Chunks) → Shows (B.tells blocks.old) areas (B.stands blocks.old) chunks → Shows (B.tells blocks.new) areas (B.stands blocks.new) chunks }
+    ensures counts { Counts result (B.faults blocks.old) (B.faults blocks.new) }
+    ensures keeps_areas { B.areas blocks.new ≡ B.areas blocks.old }
+    ensures keeps_lender { B.lender blocks.new ≡ B.lender blocks.old }
+    ensures keeps_ready { B.ready blocks.new }
+{
+    if inode.nlink >= inode.next {
+        return Err(torn_at(handle));
+    }
+    let tree = tree_under(alloc, blocks, areas, inode.tree)?;
+    let Some(names) = entries_of(alloc, &tree, inode.next)? else {
+        return Err(torn_at(handle));
+    };
+    let claims = claims_of(alloc, &tree, &[])?;
+    Ok(ReadFile {
+        file: Some(file_with(handle, inode, Body::Names(inode.parent, inode.next, names))),
+        claims,
+    })
+}
+
+/// The file of the inode of a link. Torn exactly where it has a tree.
+pub(crate) fn link_of(alloc: Global, handle: u64, inode: &Inode) -> Result<ReadFile, AuditError>
+    requires inode { IsInode inode.now }
+    requires kind { inode.now.kind ≡ 5 }
+    ensures ok { (chunks : Chunks) → IfOk result (λ read. HasBodyOf chunks handle inode.now read.file read.claims.items) }
+    ensures torn { (chunks : Chunks) → IfTorn result (λ at found wanted. (owner : ℕ → Owner) (tree : PageTree) (file : Option Kept) → IsBodyOf chunks owner handle inode.now tree file → ⊥) }
+    ensures no_fault { IsErrOf result DiskFailed → ⊥ }
+{
+    if inode.tree != 0 {
+        return Err(torn_at(handle));
+    }
+    let path = Raw::of(alloc, inode.path.bytes())?;
+    Ok(ReadFile {
+        file: Some(file_with(handle, inode, Body::Path(path))),
+        claims: Vec::new(alloc),
+    })
+}
+
+/// That an inode is dead: it has no tree, or one of the pieces that are left. Torn exactly where it has another one.
+pub(crate) fn dead_of<B: Blocks>(
+    alloc: Global,
+    blocks: &mut B,
+    areas: u16,
+    handle: u64,
+    inode: &Inode,
+) -> Result<ReadFile, AuditError>
+    requires ready { B.ready blocks.old }
+    requires areas { B.areas blocks.old ≡ areas }
+    requires most { areas ≤ 64 }
+    requires inode { IsInode inode.now }
+    requires kind { inode.now.kind ≡ 0 }
+    ensures ok { (chunks : Chunks) → Shows (B.tells blocks.old) areas (B.stands blocks.old) chunks → IfOk result (λ read. HasBodyOf chunks handle inode.now read.file read.claims.items) }
+    ensures torn { (chunks : Chunks) → Shows (B.tells blocks.old) areas (B.stands blocks.old) chunks
+        → IfTorn result (λ at found wanted. (owner : ℕ → Owner) (tree : PageTree) (file : Option Kept) → IsBodyOf chunks owner handle inode.now tree file → ⊥) }
+    ensures shows { (chunks : Chunks) → Shows (B.tells blocks.old) areas (B.stands blocks.old) chunks → Shows (B.tells blocks.new) areas (B.stands blocks.new) chunks }
+    ensures counts { Counts result (B.faults blocks.old) (B.faults blocks.new) }
+    ensures keeps_areas { B.areas blocks.new ≡ B.areas blocks.old }
+    ensures keeps_lender { B.lender blocks.new ≡ B.lender blocks.old }
+    ensures keeps_ready { B.ready blocks.new }
+{
+    if inode.tree == 0 {
+        return Ok(ReadFile {
+            file: None,
+            claims: Vec::new(alloc),
+        });
+    }
+    let (pieces, claims) = pieces_under(alloc, blocks, areas, inode.tree)?;
+    read_pieces(blocks, areas, &pieces)?;
+    Ok(ReadFile { file: None, claims })
+}
+
+/// The file with a handle and a body, whose other fields its inode has.
+fn file_with(handle: u64, inode: &Inode, body: Body) -> File
+    ensures { result ≡ file_with_body handle inode.now body }
+{
+    File {
+        handle,
+        kind: inode.kind,
+        mode: inode.mode,
+        nlink: inode.nlink,
+        uid: inode.uid,
+        gid: inode.gid,
+        atime: inode.atime,
+        mtime: inode.mtime,
+        ctime: inode.ctime,
+        body,
+    }
+}

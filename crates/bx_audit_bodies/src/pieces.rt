@@ -1,0 +1,102 @@
+//! The pieces of files, as the entries of their trees name them.
+
+ghost use Rattle.std.specs.Prelude.{◌≡◌, ◌++◌, ◌^◌, ◌<◌, ℕ, List, All, take, drop, map, IfOk, IfSome, IfNone, IsTrue, IsFalse};
+ghost use Rattle.bx_audit_bodies.specs.Pieces.{ArePieces, IsPieceEntry, IsOfPiece, piece_in};
+ghost use Rattle.bx_audit_trees.specs.Trees.{tree_of};
+ghost use Rattle.bx_truth.specs.Keys.{content_key, content_value};
+ghost use Rattle.bx_truth.specs.PageTrees.{map_of};
+
+use bx_audit_files::{handle_in, number_in};
+use bx_audit_trees::ReadTree;
+use bx_base::OutOfMemory;
+use bx_page::{Entry, Page};
+use std::alloc::Global;
+
+/// What a key begins with that has the index of a piece.
+const CONTENT: u8 = 3;
+
+/// A piece of 4096 bytes of a file.
+#[derive(Clone, Copy)]
+pub struct Piece {
+    /// Where it is in the file, counted in pieces from 0.
+    pub index: u32,
+    /// The handle of its block.
+    pub handle: u64,
+}
+
+/// The pieces that the entries of a tree name, in the order of their indices. `None` exactly where some entry names none.
+pub(crate) fn pieces_of(alloc: Global, tree: &ReadTree) -> Result<Option<Vec<Piece>>, OutOfMemory>
+    ensures some { IfOk result (λ found. IfSome found (λ pieces. ArePieces (map_of (tree_of tree.now)) pieces.items)) }
+    ensures none { IfOk result (λ found. IfNone found (All IsPieceEntry (map_of (tree_of tree.now)) → ⊥)) }
+{
+    let mut pieces = Vec::new(alloc);
+    let leaves = tree.leaves();
+    for leaf in leaves {
+        if !put_pieces(leaf.page(), &mut pieces)? {
+            return Ok(None);
+        }
+    }
+    Ok(Some(pieces))
+}
+
+/// Puts the pieces that the entries of a leaf name behind others, and says whether each entry names one.
+fn put_pieces(page: &Page, pieces: &mut Vec<Piece>) -> Result<bool, OutOfMemory>
+    ensures yes { IfOk result (λ good. IsTrue good → All IsPieceEntry page.now.entries) }
+    ensures no { IfOk result (λ good. IsFalse good → All IsPieceEntry page.now.entries → ⊥) }
+    ensures pieces { IfOk result (λ good. IsTrue good → pieces.new.items ≡ pieces.old.items ++ map piece_in page.now.entries) }
+{
+    for at in 0..page.len() {
+        if !put_at(page, at, pieces)? {
+            return Ok(false);
+        }
+    }
+    Ok(true)
+}
+
+/// The same of the entry at a place, if there is one.
+fn put_at(page: &Page, at: usize, pieces: &mut Vec<Piece>) -> Result<bool, OutOfMemory>
+    ensures yes { IfOk result (λ good. IsTrue good → All IsPieceEntry (take 1 (drop at page.now.entries))) }
+    ensures no { IfOk result (λ good. IsFalse good → All IsPieceEntry (take 1 (drop at page.now.entries)) → ⊥) }
+    ensures pieces { IfOk result (λ good. IsTrue good → pieces.new.items ≡ pieces.old.items ++ map piece_in (take 1 (drop at page.now.entries))) }
+{
+    let Some(entry) = page.entry(at) else {
+        return Ok(true);
+    };
+    let Some(piece) = piece_of(entry) else {
+        return Ok(false);
+    };
+    pieces.push(piece)?;
+    Ok(true)
+}
+
+/// The piece that an entry names; `None` exactly where it names none.
+fn piece_of(entry: &Entry) -> Option<Piece>
+    ensures some { IfSome result (λ piece. IsOfPiece piece entry.now) }
+    ensures none { IfNone result (IsPieceEntry entry.now → ⊥) }
+{
+    let index = index_in(entry.key.bytes())?;
+    let handle = block_in(entry.value.bytes())?;
+    Some(Piece { index, handle })
+}
+
+/// The index in the key of a piece.
+fn index_in(key: &[u8]) -> Option<u32>
+    ensures some { IfSome result (λ index. key.now ≡ content_key index) }
+    ensures none { IfNone result ((index : ℕ) → index < 2 ^ 32 → key.now ≡ content_key index → ⊥) }
+{
+    let (first, rest) = key.split_first()?;
+    if *first != CONTENT {
+        return None;
+    }
+    let (index, rest) = number_in(rest)?;
+    if rest.is_empty() { Some(index) } else { None }
+}
+
+/// The handle in the value of a piece.
+fn block_in(value: &[u8]) -> Option<u64>
+    ensures some { IfSome result (λ handle. value.now ≡ content_value handle) }
+    ensures none { IfNone result ((handle : ℕ) → handle < 2 ^ 64 → value.now ≡ content_value handle → ⊥) }
+{
+    let (handle, rest) = handle_in(value)?;
+    if rest.is_empty() { Some(handle) } else { None }
+}

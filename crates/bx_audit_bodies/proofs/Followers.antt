@@ -1,9 +1,11 @@
 -- Entries of directories, one behind the other.
-use Rattle.std.proofs.Common.{◌≡◌, ℕ, zero, suc, ◌-◌, ◌^◌, ◌<◌, ◌≤◌, ◌⊎◌, inl, inr, arith, List, [], ◌∷◌, ◌++◌, length, take, get_or, sym, ap, ◌∙◌, subst, Some, None}
+use Rattle.std.proofs.Common.{◌≡◌, ℕ, zero, suc, ◌-◌, ◌^◌, ◌<◌, ◌≤◌, ◌⊎◌, inl, inr, arith, List, [], ◌∷◌, ◌++◌, length, take, get_or, sym, ap, ◌∙◌, subst, refl, Bool, true, false, cond, Some, None}
 use Rattle.std.specs.Prelude.{All, ◌≢◌, bytes_eq}
 use Rattle.std.specs.Int.{w32, from_be_bytes}
 use Rattle.std.proofs.lemmas.List.{length-take, get_or-take, get_or_default}
-use Rattle.std.proofs.lemmas.List.Elements.{Contains-get_or}
+use Rattle.std.proofs.lemmas.List.Elements.{All-cons, Contains-get_or}
+use Rattle.std.proofs.lemmas.List.Quantifiers.{all_pairs_push}
+use Rattle.std.proofs.lemmas.Slice.Eq.{bytes_eq-Decides}
 use Rattle.std.proofs.lemmas.Nat.{from_be_bytes-to_be_bytes_4}
 use Rattle.bx_page.specs.declared.entry.Entry.{Entry}
 use Rattle.bx_page.specs.Contents.{value_of}
@@ -71,3 +73,25 @@ names_listed entries names next are below = record {
     front : (n m h k : ℕ) → n < 2 ^ 32 → m < 2 ^ 32 → name_value n h ≡ name_value m k → n ≡ m
     front n m h k fits_n fits_m same =
         sym (from_be_bytes-to_be_bytes_4 n fits_n) ∙ ap (λ (l : List ℕ). from_be_bytes w32 (take 4 l)) same ∙ from_be_bytes-to_be_bytes_4 m fits_m
+
+bytes_same : (a b : List ℕ) → a ≡ b → bytes_eq a b ≡ true
+bytes_same a b same = (bytes_eq-Decides a b).1 same
+
+apart_by : (x : Name) (xs : List Name) (text : List ℕ) (t : Bool) → bytes_eq x.name text ≡ t → cond t (Some x) (entry_named xs text) ≡ None → (entry_named xs text ≡ None → All (λ n. n.name ≢ text) xs)
+    → All (λ n. n.name ≢ text) (x ∷ xs)
+apart_by x xs text true is none rest = absurd cc
+apart_by x xs text false is none rest = All-cons (λ (n : Name). n.name ≢ text) x xs (λ same. let e : true ≡ false = sym (bytes_same x.name text same) ∙ is in absurd cc) (rest none)
+
+-- where no entry has a name, none of them has it
+named_apart : (xs : List Name) (text : List ℕ) → entry_named xs text ≡ None → All (λ n. n.name ≢ text) xs
+named_apart [] text none = λ k d less. absurd (omega (arith, less))
+named_apart (x ∷ xs) text none = apart_by x xs text (bytes_eq x.name text) refl none (named_apart xs text)
+
+-- an entry that may come behind others is listed behind them
+pub one_listed : (least next : ℕ) (names : List Name) (name : Name) → AreListed next names → AreBelow least names → least ≤ name.number → name.number < next → entry_named names name.name ≡ None
+    → AreListed next (names ++ name ∷ [])
+one_listed least next names name listed below above under apart = record {
+  rise = all_pairs_push (λ (a b : Name). a.number < b.number) names name listed.rise (λ k d less. let lower = below_at least names below k d less in omega (arith, lower, above));
+  apart = all_pairs_push (λ (a b : Name). a.name ≢ b.name) names name listed.apart (named_apart names name.name apart);
+  below = below_push next names name listed.below under;
+}

@@ -1,7 +1,9 @@
 -- What is read of an inode: its file, or that it is dead, and the chunks that it has.
-use Rattle.std.specs.Prelude.{◌≡◌, ◌≢◌, ℕ, List, Contains, Option, Some, IfSome}
+use Rattle.std.specs.Prelude.{◌≡◌, ◌≢◌, ℕ, List, Contains, Option, Some, IfSome, ◌<◌, AllPairs}
 use Rattle.bx_layout.specs.declared.block.Block.{Block}
 use Rattle.bx_layout.specs.declared.inode.Inode.{Inode}
+use Rattle.bx_tree_files.specs.declared.file.Body.{Body}
+use Rattle.bx_tree_files.specs.declared.file.Body.TheVariants.{Bytes, Path, Names}
 use Rattle.bx_tree_files.specs.declared.file.File.{File}
 use Rattle.bx_tree_files.specs.Files.{IsFile}
 use Rattle.bx_truth.specs.PageTrees.{Chunks}
@@ -32,3 +34,9 @@ pub record IsReadAs (chunks : Chunks) (handle : ℕ) (file : Option File) (claim
   pub is : (owner : ℕ → Owner) → AgreesWith owner handle claims → IsStored chunks owner handle stored file
   pub are_claims : AreClaims chunks stored claims
   pub only : (owner : ℕ → Owner) (other : Stored) (found : Option File) → IsStored chunks owner handle other found → IsOnly chunks owner handle other found stored.inode claims file
+
+-- the numbers of a directory's entries rise, and no name stands twice
+abbrev pub AreEntriesApart : Body → Type 0
+AreEntriesApart (Bytes bytes) = Unit {0}
+AreEntriesApart (Path path) = Unit {0}
+AreEntriesApart (Names parent next names) = AllPairs (λ entry later. entry.number < later.number) names × AllPairs (λ entry later. entry.name ≢ later.name) names

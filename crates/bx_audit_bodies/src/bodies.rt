@@ -1,13 +1,15 @@
 //! What inodes of each kind have.
 
-ghost use Rattle.std.specs.Prelude.{◌≡◌, ◌≤◌, ◌<◌, ◌^◌, ℕ, All, Option, IfOk, IsErrOf};
+ghost use Rattle.std.specs.Prelude.{◌≡◌, ◌≤◌, ◌<◌, ◌^◌, ℕ, All, Option, IfOk, IfSome, IsErrOf};
 ghost use Rattle.bx_audit_bodies.specs.Bodies.{HasBodyOf, HasPieces, IsBodyOf, file_with as file_with_body};
 ghost use Rattle.bx_audit_bodies.specs.Pieces.{IsPieceEntry};
+ghost use Rattle.bx_audit_bodies.specs.Reading.{AreEntriesApart};
 ghost use Rattle.bx_audit_trees.specs.declared.error.AuditError.TheVariants.{Fault as DiskFailed};
 ghost use Rattle.bx_audit_trees.specs.Errors.{IfTorn, Counts};
 ghost use Rattle.bx_audit_trees.specs.Shown.{Shows};
 ghost use Rattle.bx_layout.specs.Inodes.{IsInode};
 ghost use Rattle.bx_tree_files.specs.declared.file.File.{File as Kept};
+ghost use Rattle.bx_tree_files.specs.Files.{IsFile};
 ghost use Rattle.bx_truth.specs.PageTrees.{Chunks, PageTree, IsTree, map_of};
 ghost use Rattle.bx_truth.specs.Stored.{Owner};
 
@@ -68,6 +70,8 @@ pub(crate) fn regular_of<B: Blocks>(
     requires inode { IsInode inode.now }
     requires kind { inode.now.kind ≡ 1 }
     ensures ok { (chunks : Chunks) → Shows (B.tells blocks.old) areas (B.stands blocks.old) chunks → IfOk result (λ read. HasBodyOf chunks handle inode.now read.file read.claims.items) }
+    ensures is { IfOk result (λ read. IfSome read.file IsFile) }
+    ensures apart { IfOk result (λ read. IfSome read.file (λ file. AreEntriesApart file.body)) }
     ensures torn { (chunks : Chunks) → Shows (B.tells blocks.old) areas (B.stands blocks.old) chunks
         → IfTorn result (λ at found wanted. (owner : ℕ → Owner) (tree : PageTree) (file : Option Kept) → IsBodyOf chunks owner handle inode.now tree file → ⊥) }
     ensures shows { (chunks : Chunks) → Shows (B.tells blocks.old) areas (B.stands blocks.old) chunks → Shows (B.tells blocks.new) areas (B.stands blocks.new) chunks }
@@ -101,6 +105,8 @@ pub(crate) fn directory_of<B: Blocks>(
     requires inode { IsInode inode.now }
     requires kind { inode.now.kind ≡ 2 }
     ensures ok { (chunks : Chunks) → Shows (B.tells blocks.old) areas (B.stands blocks.old) chunks → IfOk result (λ read. HasBodyOf chunks handle inode.now read.file read.claims.items) }
+    ensures is { IfOk result (λ read. IfSome read.file IsFile) }
+    ensures apart { IfOk result (λ read. IfSome read.file (λ file. AreEntriesApart file.body)) }
     ensures torn { (chunks : Chunks) → Shows (B.tells blocks.old) areas (B.stands blocks.old) chunks
         → IfTorn result (λ at found wanted. (owner : ℕ → Owner) (tree : PageTree) (file : Option Kept) → IsBodyOf chunks owner handle inode.now tree file → ⊥) }
     ensures shows { (chunks : Chunks) → Shows (B.tells blocks.old) areas (B.stands blocks.old) chunks → Shows (B.tells blocks.new) areas (B.stands blocks.new) chunks }
@@ -128,6 +134,8 @@ pub(crate) fn link_of(alloc: Global, handle: u64, inode: &Inode) -> Result<ReadF
     requires inode { IsInode inode.now }
     requires kind { inode.now.kind ≡ 5 }
     ensures ok { (chunks : Chunks) → IfOk result (λ read. HasBodyOf chunks handle inode.now read.file read.claims.items) }
+    ensures is { IfOk result (λ read. IfSome read.file IsFile) }
+    ensures apart { IfOk result (λ read. IfSome read.file (λ file. AreEntriesApart file.body)) }
     ensures torn { (chunks : Chunks) → IfTorn result (λ at found wanted. (owner : ℕ → Owner) (tree : PageTree) (file : Option Kept) → IsBodyOf chunks owner handle inode.now tree file → ⊥) }
     ensures no_fault { IsErrOf result DiskFailed → ⊥ }
 {
@@ -155,6 +163,8 @@ pub(crate) fn dead_of<B: Blocks>(
     requires inode { IsInode inode.now }
     requires kind { inode.now.kind ≡ 0 }
     ensures ok { (chunks : Chunks) → Shows (B.tells blocks.old) areas (B.stands blocks.old) chunks → IfOk result (λ read. HasBodyOf chunks handle inode.now read.file read.claims.items) }
+    ensures is { IfOk result (λ read. IfSome read.file IsFile) }
+    ensures apart { IfOk result (λ read. IfSome read.file (λ file. AreEntriesApart file.body)) }
     ensures torn { (chunks : Chunks) → Shows (B.tells blocks.old) areas (B.stands blocks.old) chunks
         → IfTorn result (λ at found wanted. (owner : ℕ → Owner) (tree : PageTree) (file : Option Kept) → IsBodyOf chunks owner handle inode.now tree file → ⊥) }
     ensures shows { (chunks : Chunks) → Shows (B.tells blocks.old) areas (B.stands blocks.old) chunks → Shows (B.tells blocks.new) areas (B.stands blocks.new) chunks }

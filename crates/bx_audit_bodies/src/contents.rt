@@ -1,6 +1,6 @@
 //! The bytes of regular files, off the blocks of their pieces.
 
-ghost use Rattle.std.specs.Prelude.{◌≡◌, ◌+◌, ◌*◌, ◌^◌, ◌<◌, ◌≤◌, ◌↔◌, ℕ, List, All, take, slice_index, IfOk, OnOk, IsTrue};
+ghost use Rattle.std.specs.Prelude.{◌≡◌, ◌+◌, ◌*◌, ◌^◌, ◌<◌, ◌≤◌, ◌↔◌, ℕ, List, All, take, slice_index, IfOk, OnOk, IsTrue, length};
 ghost use Rattle.bx_audit_bodies.specs.Contents.{IsClear, PutsPiece, with_piece};
 ghost use Rattle.bx_audit_bodies.specs.Pieces.{AreApart, HasPiece, piece_among};
 ghost use Rattle.bx_audit_files.specs.Inodes.{IsBlockAt};
@@ -44,6 +44,7 @@ pub(crate) fn bytes_of<B: Blocks>(
     ensures bytes { (chunks : Chunks) → Shows (B.tells blocks.old) areas (B.stands blocks.old) chunks → AreApart pieces.now → IfOk result (AreBytesOf (piece_among chunks pieces.now) size tail) }
     ensures torn { (chunks : Chunks) → Shows (B.tells blocks.old) areas (B.stands blocks.old) chunks → AreApart pieces.now
         → IfTorn result (λ at found wanted. (bytes : List ℕ) → All (HasPiece chunks) pieces.now → AreBytesOf (piece_among chunks pieces.now) size tail bytes → ⊥) }
+    ensures len { IfOk result (λ content. length content ≡ size) }
     ensures shows { (chunks : Chunks) → Shows (B.tells blocks.old) areas (B.stands blocks.old) chunks → Shows (B.tells blocks.new) areas (B.stands blocks.new) chunks }
     ensures counts { Counts result (B.faults blocks.old) (B.faults blocks.new) }
     ensures keeps_areas { B.areas blocks.new ≡ B.areas blocks.old }
@@ -95,6 +96,7 @@ fn put_piece<B: Blocks>(
     requires most { areas ≤ 64 }
     requires size { size < 2 ^ 31 }
     ensures ok { (chunks : Chunks) → Shows (B.tells blocks.old) areas (B.stands blocks.old) chunks → OnOk result (PutsPiece chunks piece.now size tail content.old content.new) }
+    ensures len { OnOk result (length content.old ≡ size → length content.new ≡ size) }
     ensures fits { piece.now.index < 2 ^ 32 }
     ensures torn { (chunks : Chunks) → Shows (B.tells blocks.old) areas (B.stands blocks.old) chunks
         → IfTorn result (λ at found wanted. (block : Block) → IsBlockAt chunks piece.now.handle 3 block → IsClear tail piece.now.index block.payload → ⊥) }

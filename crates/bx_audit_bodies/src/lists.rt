@@ -4,7 +4,7 @@ ghost use Rattle.std.specs.Prelude.{◌≡◌, ◌++◌, ◌+◌, ◌<◌, ◌�
 ghost use Rattle.bx_audit_bodies.specs.Lists.{AreListed, CanFollow};
 ghost use Rattle.bx_audit_trees.specs.Trees.{tree_of};
 ghost use Rattle.bx_tree_files.specs.declared.file.Name.{Name as Named};
-ghost use Rattle.bx_tree_files.specs.Entries.{AreBelow};
+ghost use Rattle.bx_tree_files.specs.Entries.{AreBelow, entry_named};
 ghost use Rattle.bx_truth.specs.PageTrees.{Chunks, IsTree, map_of};
 ghost use Rattle.bx_truth.specs.Stored.{AreNames};
 
@@ -23,6 +23,7 @@ pub(crate) fn entries_of(
 ) -> Result<Option<NameList>, OutOfMemory>
     ensures some { (chunks : Chunks) (root : ℕ) → IsTree chunks root (tree_of tree.now) → IfOk result (λ found. IfSome found (λ list. AreNames (map_of (tree_of tree.now)) list)) }
     ensures below { IfOk result (λ found. IfSome found (AreBelow next)) }
+    ensures listed { IfOk result (λ found. IfSome found (AreListed next)) }
     ensures none { (chunks : Chunks) (root : ℕ) → IsTree chunks root (tree_of tree.now)
         → IfOk result (λ found. IfNone found ((names : List Named) → AreNames (map_of (tree_of tree.now)) names → AreBelow next names → ⊥)) }
 {
@@ -36,6 +37,7 @@ pub(crate) fn entries_of(
 fn list_of(alloc: Global, names: &[Name], next: u32) -> Result<Option<NameList>, OutOfMemory>
     ensures some { IfOk result (λ found. IfSome found (λ list. list ≡ names.now)) }
     ensures below { IfOk result (λ found. IfSome found (AreBelow next)) }
+    ensures listed { IfOk result (λ found. IfSome found (AreListed next)) }
     ensures none { IfOk result (λ found. IfNone found (AreListed next names.now → ⊥)) }
 {
     let mut list = NameList::new(alloc);
@@ -56,6 +58,7 @@ fn put_name(list: &mut NameList, name: &Name, least: u32, next: u32) -> Result<b
     ensures yes { IfOk result (λ put. IsTrue put → list.new ≡ list.old ++ name.now ∷ []) }
     ensures least { IfOk result (λ put. IsTrue put → least ≤ name.now.number) }
     ensures next { IfOk result (λ put. IsTrue put → name.now.number < next) }
+    ensures apart { IfOk result (λ put. IsTrue put → entry_named list.old name.now.name ≡ None) }
     ensures no { IfOk result (λ put. IsFalse put → CanFollow list.old least next name.now → ⊥) }
 {
     let number = name.number;

@@ -27,6 +27,7 @@ loop-piece-preserved g c =
       areas_are = c.in_ok-put_piece.ensures.keeps_areas ∙ c.loop-piece.invariant.areas_are;
       lender_is = c.in_ok-put_piece.ensures.keeps_lender ∙ c.loop-piece.invariant.lender_is;
       shows = λ chunks shows. c.in_ok-put_piece.ensures.shows chunks (c.loop-piece.invariant.shows chunks shows);
+      len = c.in_ok-put_piece.ensures.len c.loop-piece.invariant.len;
       read = λ chunks shows.
           let puts = c.in_ok-put_piece.ensures.ok chunks (c.loop-piece.invariant.shows chunks shows) in
           read_more chunks pieces k _ less (c.loop-piece.invariant.read chunks shows) (record { block = puts.block; at = puts.at });

@@ -1,8 +1,9 @@
-use Rattle.std.proofs.Common.{◌≡◌, ℕ, List, true, false, Err, sym, ap, ◌∙◌, subst}
+use Rattle.std.proofs.Common.{◌≡◌, ℕ, List, true, false, Err, length, sym, ap, ◌∙◌, subst}
 use Rattle.std.proofs.lemmas.Result.{err_from_is_err_and}
 use Rattle.bx_audit_trees.proofs.Ends.{if_torn}
 use Rattle.bx_audit_bodies.specs.Contents.{IsClear, with_piece}
 use Rattle.bx_audit_bodies.proofs.PiecesRead.{clear_too}
+use Rattle.bx_audit_bodies.proofs.PiecesInBytes.{put_long}
 use Rattle.bx_audit_bodies.proofs.contents.put_piece.Goals as goal
 
 pub returns-in_err-block-clause-torn : goal.returns-in_err-block-clause-torn
@@ -24,3 +25,6 @@ returns-clause-ok g c = λ chunks shows. record {
   clear = subst (IsClear c.args.tail c.args.piece.now.index) c.bytes.ensures (c.is_clear.ensures.0 c.if-not-is_clear.false);
   new_is = c.in_ok-put_bytes.ensures ∙ ap (λ (l : List ℕ). with_piece c.args.size c.args.piece.now.index l c.args.content.now) c.bytes-2.ensures;
 }
+
+pub returns-clause-len : goal.returns-clause-len
+returns-clause-len g c = λ long. ap length c.in_ok-put_bytes.ensures ∙ put_long c.args.size c.args.piece.now.index c.bytes-2.result.now c.args.content.now long

@@ -2,8 +2,8 @@ use Rattle.std.proofs.Common.{◌≡◌, ℕ, ◌+◌, ◌-◌, List, [], ◌∷
 use Rattle.std.proofs.lemmas.List.{take_more, get_or_read}
 use Rattle.bx_tree_files.specs.declared.file.Name.{Name}
 use Rattle.bx_tree_files.specs.Entries.{AreBelow}
-use Rattle.bx_audit_bodies.specs.Lists.{CanFollow}
-use Rattle.bx_audit_bodies.proofs.Followers.{all_below, below_push, follows}
+use Rattle.bx_audit_bodies.specs.Lists.{AreListed, CanFollow}
+use Rattle.bx_audit_bodies.proofs.Followers.{all_below, below_push, follows, one_listed}
 use Rattle.bx_audit_bodies.proofs.lists.list_of.Goals as goal
 
 pub returns-then-not-branch-clause-none : goal.returns-then-not-branch-clause-none
@@ -29,6 +29,8 @@ loop-name-preserved c =
       least = subst (AreBelow (name.number + 1)) (sym put)
           (below_push (name.number + 1) c.loop-name.list name (all_below c.loop-name.least (name.number + 1) c.loop-name.list (omega (arith, above)) c.loop-name.invariant.least) (omega arith));
       below = subst (AreBelow c.args.next) (sym put) (below_push c.args.next c.loop-name.list name c.loop-name.invariant.below under);
+      listed = subst (AreListed c.args.next) (sym put)
+          (one_listed c.loop-name.least c.args.next c.loop-name.list name c.loop-name.invariant.listed c.loop-name.invariant.least above under (c.in_ok-put_name.ensures.apart c.if-not-branch.false));
       last = λ d some.
           let same : name.number ≡ (get_or names (k + 1 - 1) d).number =
           ap (λ (n : Name). n.number) (get_or_read names k name c.loop-name-test.true c.name-item.is d) ∙ ap (λ (n : ℕ). (get_or names n d).number) (sym (back k)) in

@@ -1,0 +1,104 @@
+-- What is read of the blocks of a volume, and of the tree that they stand for.
+use Rattle.std.proofs.Common.{◌≡◌, ℕ, ◌<◌, ◌≤◌, ◌⊎◌, inl, inr, arith, Bool, true, false, List, [], sym, ap, ◌∙◌, subst, refl, Some, Err}
+use Rattle.std.specs.Prelude.{nat_lt, nat_le, ◌&&◌, Contains}
+use Rattle.std.proofs.lemmas.Bool.Decides.{nat_tests}
+use Rattle.bx_audit.specs.Audited.{IsTorn}
+use Rattle.bx_audit.specs.Blocks.{error_of}
+use Rattle.bx_audit_bodies.specs.Reading.{AreEntriesApart}
+use Rattle.bx_audit_links.specs.InOrder.{AreApart, IsInOrder}
+use Rattle.bx_audit_owners.specs.Found.{AreOrdered}
+use Rattle.bx_audit_owners.specs.Told.{IsTold}
+use Rattle.bx_audit_trees.specs.declared.error.AuditError.{AuditError as TreeError}
+use Rattle.bx_audit_trees.specs.declared.error.AuditError.TheVariants.{Torn as TornTree, Fault as TreeFault, OutOfMemory as OutOfTreeMemory}
+use Rattle.bx_audit_trees.specs.Errors.{IfTornError, CountsError}
+use Rattle.bx_disk.specs.Disks.{Disks}
+use Rattle.bx_disk.specs.declared.fault.RackError.{RackError}
+use Rattle.bx_disk.specs.declared.fault.RackError.TheVariants.{Fault, OutOfMemory}
+use Rattle.bx_homes.specs.Slots.{AreBlocks, HasBlock, StaysSo}
+use Rattle.bx_homes.proofs.Kept.{are_still}
+use Rattle.bx_layout.specs.declared.block.Block.{Block}
+use Rattle.bx_model.specs.declared.tree.Tree.{Tree}
+use Rattle.bx_overlay.specs.declared.members.Members.{Members}
+use Rattle.bx_overlay.specs.Members.{held_by}
+use Rattle.bx_overlay.specs.Newest.{Newest, StandsOver}
+use Rattle.bx_overlay.specs.Refusals.{IsBreak, UnlessFault, audit_error}
+use Rattle.bx_places.specs.Places.{IsBlock, is_block, block_area, block_slot}
+use Rattle.bx_tree_files.specs.declared.file.Body.{Body}
+use Rattle.bx_tree_files.specs.declared.file.Body.TheVariants.{Names}
+use Rattle.bx_tree_files.specs.declared.file.File.{File}
+use Rattle.bx_tree_files.specs.declared.file.Name.{Name}
+use Rattle.bx_tree_laws.proofs.Rises.{at_contained}
+use Rattle.bx_truth.specs.Chunks.{IsChunked}
+use Rattle.bx_views.specs.Truths.{Truth}
+
+-- ---- ends
+
+pub break_of : (error : RackError) → IsBreak (audit_error error)
+break_of Fault = inl refl
+break_of OutOfMemory = inr refl
+
+pub end_of : (Q : Type 0) (error : TreeError) → IfTornError error (λ at found wanted. Q) → IsBreak (error_of error) ⊎ (IsTorn (error_of error) × Q)
+end_of Q (TornTree at found wanted) why = inr (tt, why)
+end_of Q TreeFault why = inl (inl refl)
+end_of Q OutOfTreeMemory why = inl (inr refl)
+
+-- what is torn by each truth is so by all
+pub all_torn : (error : TreeError) (T Q : Truth → Type 0) → ((truth : Truth) → T truth → IfTornError error (λ at found wanted. Q truth)) → IfTornError error (λ at found wanted. (truth : Truth) → T truth → Q truth)
+all_torn (TornTree at found wanted) T Q each = each
+all_torn TreeFault T Q each = tt
+all_torn OutOfTreeMemory T Q each = tt
+
+pub counts_of : (A : Type 0) (error : TreeError) (before mid now : ℕ) → mid ≡ before → CountsError error mid now → UnlessFault {A = A} (Err (error_of error)) (now ≡ before)
+counts_of A (TornTree at found wanted) before mid now same counts = counts ∙ same
+counts_of A TreeFault before mid now same counts = tt
+counts_of A OutOfTreeMemory before mid now same counts = counts ∙ same
+
+-- ---- a truth with the blocks that are there
+
+module _ (areas : ℕ) (stands : ℕ → Block → Type 0) (there : (at : ℕ) → IsBlock areas at → HasBlock stands at) where
+  tested : (at : ℕ) → is_block areas at ≡ true → IsBlock areas at
+  tested at is = record { area = grind (arith, nat_tests, is); slot = grind (arith, nat_tests, is) }
+
+  abbrev pick : (at : ℕ) (t : Bool) → is_block areas at ≡ t → Block
+  pick at true is = (there at (tested at is)).block
+  pick at false is = record { handle = 0; kind = 0; payload = [] }
+
+  true_at : (at : ℕ) → IsBlock areas at → is_block areas at ≡ true
+  true_at at is = by is.area is.slot
+    where
+      by : block_area at < areas → block_slot at ≤ 960 → is_block areas at ≡ true
+      by area slot = grind (arith, nat_tests, area, slot)
+
+  picked : (at : ℕ) (t : Bool) (is : is_block areas at ≡ t) → IsBlock areas at → stands at (pick at t is)
+  picked at true is block = (there at (tested at is)).is
+  picked at false is block = let e : true ≡ false = sym (true_at at block) ∙ is in absurd cc
+
+  pub a_truth : (truth : Truth) × AreBlocks areas stands truth
+  a_truth = (λ at. pick at (is_block areas at) refl, λ at is. picked at (is_block areas at) refl is)
+
+-- what stands is told, once the slots are right
+pub is_told : (told now_told : Type 0) (areas : ℕ) (before now : ℕ → Block → Type 0) (truth : Truth) → told → (told → now_told) → (told → StaysSo before now) → AreBlocks areas before truth
+    → IsChunked areas truth → IsTold now_told areas now truth
+is_told told now_told areas before now truth tells keeps stays are chunked = record { told = keeps tells; blocks = are_still areas before now truth (stays tells) are; chunked = chunked }
+
+-- ---- trees in order
+
+apart_of : (file : File) (parent next : ℕ) (names : List Name) → file.body ≡ Names parent next names → AreEntriesApart file.body → AreApart names
+apart_of file parent next names is apart = let pair : AreEntriesApart (Names parent next names) = subst AreEntriesApart is apart in record { rise = pair.0; apart = pair.1 }
+
+pub in_order : (tree : Tree) → AreOrdered tree.files tree.given → IsInOrder tree
+in_order tree ordered = record {
+  rise = ordered.rise;
+  apart = λ file parent next names there is. apart_of file parent next names is (ordered.apart file.handle file (at_contained tree.files file ordered.rise there));
+  given = ordered.all_given;
+}
+
+-- ---- blocks that are read over a rack
+
+-- what stands over a rack's homes is the same, whatever names the rack, its members and its logs
+pub moved : {Row : Type 0} (state : Row → Disks) (P : (ℕ → Block → Type 0) → Type 0) (now rack : Row) (m members : Members) (l logs : List Newest) → now ≡ rack → m ≡ members → l ≡ logs
+    → P (StandsOver (held_by (state now).reads m) m.devices l) → P (StandsOver (held_by (state rack).reads members) members.devices logs)
+moved state P now rack m members l logs same_rack same_members same_logs holds =
+    subst (λ (x : List Newest). P (StandsOver (held_by (state rack).reads members) members.devices x)) same_logs
+    (subst (λ (x : Members). P (StandsOver (held_by (state rack).reads x) x.devices l)) same_members
+    (subst (λ x. P (StandsOver (held_by (state x).reads m) m.devices l)) same_rack holds))

@@ -1,0 +1,76 @@
+use Rattle.std.proofs.Common.{◌≡◌, ◌⊎◌, ⊎_elim, inl, inr, ℕ, Err, ap, subst, ◌∙◌}
+use Rattle.std.proofs.lemmas.Result.{err_from_is_err_and}
+use Rattle.bx_audit.specs.Audited.{IsRefusal, IsTorn}
+use Rattle.bx_audit.specs.Blocks.{StandForNoTree, blocks_of}
+use Rattle.bx_audit.proofs.Shown.{are_open, if_err, no_file_tree, none_stands, refused, stand_for, wrong_blocks}
+use Rattle.bx_disk.specs.Disks.{Disks}
+use Rattle.bx_homes.specs.Slots.{AreBlocks}
+use Rattle.bx_overlay.specs.declared.error.AuditError.{AuditError}
+use Rattle.bx_overlay.specs.Refusals.{IsBreak}
+use Rattle.bx_truth.specs.Stands.{StandsFor}
+use Rattle.bx_views.specs.Truths.{Truth}
+use Rattle.bx_audit.proofs.audits.listed_by.Goals as goal
+
+pub returns-in_err-read-clause-err : goal.returns-in_err-read-clause-err
+returns-in_err-read-clause-err g c = λ tells.
+    let p = err_from_is_err_and c.from_residual.result c.from_residual.ensures.1 in
+    let disks = g.R.Rack.state c.args.rack.now in
+    let state = c.args.state.now in
+    let error = c.in_err-read.field-0.0 in
+    if_err (λ (e : AuditError). IsBreak e ⊎ IsRefusal disks state e) error c.from_residual.result (p.1 ∙ ap Err p.2)
+    (⊎_elim (λ broke. inl broke) (λ why. inr (refused disks state error (c.refused_disks_show_no_tree.ensures disks state error) why)) (c.in_err-read.ensures.err tells))
+
+pub returns-in_err-tree-clause-err : goal.returns-in_err-tree-clause-err
+returns-in_err-tree-clause-err g c = λ tells.
+    let p = err_from_is_err_and c.from_residual-in_err-tree.result c.from_residual-in_err-tree.ensures.1 in
+    let disks = g.R.Rack.state c.args.rack.now in
+    let state = c.args.state.now in
+    let read = c.in_ok-read.read in
+    let is = c.in_ok-read.ensures.ok tells in
+    let blocks = c.what_is_read_is_shown.ensures.blocks disks state read in
+    let truth_of = c.what_is_read_is_shown.ensures.truth disks state read in
+    let one = c.one_first_label.ensures disks.sizes disks.reads in
+    let error = c.in_err-tree.field-0.0 in
+    let why = subst (λ (d : Disks). IsBreak error ⊎ (IsTorn error × StandForNoTree read.members.areas (blocks_of d read))) (c.in_ok-read.ensures.stays tells) (c.in_err-tree.ensures.err (c.in_ok-read.ensures.keeps_telling tells)) in
+    if_err (λ (e : AuditError). IsBreak e ⊎ IsRefusal disks state e) error c.from_residual-in_err-tree.result (p.1 ∙ ap Err p.2)
+    (⊎_elim (λ broke. inl broke) (λ torn. inr (wrong_blocks disks state read is blocks truth_of one error torn.0 (none_stands disks state read is blocks truth_of one torn.1))) why)
+
+pub returns-in_err-text-clause-err : goal.returns-in_err-text-clause-err
+returns-in_err-text-clause-err g c = λ tells.
+    let p = err_from_is_err_and c.from_residual-in_err-text.result c.from_residual-in_err-text.ensures.1 in
+    let disks = g.R.Rack.state c.args.rack.now in
+    let state = c.args.state.now in
+    let read = c.in_ok-read.read in
+    let is = c.in_ok-read.ensures.ok tells in
+    let blocks = c.what_is_read_is_shown.ensures.blocks disks state read in
+    let truth_of = c.what_is_read_is_shown.ensures.truth disks state read in
+    let one = c.one_first_label.ensures disks.sizes disks.reads in
+    let error = c.in_err-text.field-0.0 in
+    let tree = c.in_ok-tree.tree in
+    let any = subst (λ (d : Disks). (truth : Truth) → AreBlocks read.members.areas (blocks_of d read) truth → StandsFor read.members.areas truth tree) (c.in_ok-read.ensures.stays tells)
+        (c.in_ok-tree.ensures.any (c.in_ok-read.ensures.keeps_telling tells)) in
+    if_err (λ (e : AuditError). IsBreak e ⊎ IsRefusal disks state e) error c.from_residual-in_err-text.result (p.1 ∙ ap Err p.2)
+    (⊎_elim (λ ran_out. inl (inr ran_out))
+    (λ torn. inr (wrong_blocks disks state read is blocks truth_of one error torn.0 (no_file_tree disks state read is blocks truth_of one tree any c.in_ok-tree.ensures.ordered.given torn.1)))
+    c.in_err-text.ensures.err)
+
+pub returns-clause-ok : goal.returns-clause-ok
+returns-clause-ok g c = λ tells.
+    let disks = g.R.Rack.state c.args.rack.now in
+    let state = c.args.state.now in
+    let read = c.in_ok-read.read in
+    let is = c.in_ok-read.ensures.ok tells in
+    let blocks = c.what_is_read_is_shown.ensures.blocks disks state read in
+    let truth_of = c.what_is_read_is_shown.ensures.truth disks state read in
+    let one = c.one_first_label.ensures disks.sizes disks.reads in
+    let tree = c.in_ok-tree.tree in
+    let keeps = c.in_ok-read.ensures.keeps_telling tells in
+    let any = subst (λ (d : Disks). (truth : Truth) → AreBlocks read.members.areas (blocks_of d read) truth → StandsFor read.members.areas truth tree) (c.in_ok-read.ensures.stays tells)
+        (c.in_ok-tree.ensures.any keeps) in
+    let there = subst (λ (d : Disks). (truth : Truth) × AreBlocks read.members.areas (blocks_of d read) truth) (c.in_ok-read.ensures.stays tells) (c.in_ok-tree.ensures.there keeps) in
+    record {
+      tree = tree;
+      stands = stand_for disks state read is blocks truth_of one there.0 tree there.1 (any there.0 there.1) c.in_ok-text.ensures.is c.in_ok-tree.ensures.volume;
+      text_is = c.in_ok-text.ensures.text;
+      doubt = are_open disks state read is blocks truth_of one;
+    }

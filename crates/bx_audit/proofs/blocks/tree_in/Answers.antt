@@ -1,0 +1,29 @@
+use Rattle.std.proofs.Common.{◌≡◌, ◌⊎◌, ℕ, IfOk, sym, subst, ◌∙◌}
+use Rattle.std.specs.Prelude.{IfErr, OnOk}
+use Rattle.bx_audit.specs.Audited.{IsTorn}
+use Rattle.bx_audit.specs.Blocks.{StandForNoTree}
+use Rattle.bx_audit.proofs.Trees.{moved}
+use Rattle.bx_homes.specs.Slots.{AreBlocks}
+use Rattle.bx_layout.specs.declared.block.Block.{Block}
+use Rattle.bx_overlay.specs.Refusals.{IsBreak}
+use Rattle.bx_truth.specs.Stands.{StandsFor}
+use Rattle.bx_views.specs.Truths.{Truth}
+use Rattle.bx_audit.proofs.blocks.tree_in.Goals as goal
+
+pub returns-clause-any : goal.returns-clause-any
+returns-clause-any g c = λ tells.
+    moved g.R.Rack.state (λ (st : ℕ → Block → Type 0). IfOk c.tree_of.result (λ tree. (truth : Truth) → AreBlocks c.args.read.now.members.areas st truth → StandsFor c.args.read.now.members.areas truth tree))
+    _ _ _ _ _ _ c.new-blocks.ensures.rack c.new-blocks.ensures.members (c.new-blocks.ensures.logs ∙ c.items.ensures)
+    (c.tree_of.ensures.any (subst (λ r. g.R.Rack.tells r) (sym c.new-blocks.ensures.rack) tells))
+
+pub returns-clause-there : goal.returns-clause-there
+returns-clause-there g c = λ tells.
+    moved g.R.Rack.state (λ (st : ℕ → Block → Type 0). OnOk c.tree_of.result ((truth : Truth) × AreBlocks c.args.read.now.members.areas st truth))
+    _ _ _ _ _ _ c.new-blocks.ensures.rack c.new-blocks.ensures.members (c.new-blocks.ensures.logs ∙ c.items.ensures)
+    (c.tree_of.ensures.there (subst (λ r. g.R.Rack.tells r) (sym c.new-blocks.ensures.rack) tells))
+
+pub returns-clause-err : goal.returns-clause-err
+returns-clause-err g c = λ tells.
+    moved g.R.Rack.state (λ (st : ℕ → Block → Type 0). IfErr c.tree_of.result (λ error. IsBreak error ⊎ (IsTorn error × StandForNoTree c.args.read.now.members.areas st)))
+    _ _ _ _ _ _ c.new-blocks.ensures.rack c.new-blocks.ensures.members (c.new-blocks.ensures.logs ∙ c.items.ensures)
+    (c.tree_of.ensures.err (subst (λ r. g.R.Rack.tells r) (sym c.new-blocks.ensures.rack) tells))

@@ -1,0 +1,45 @@
+use Rattle.std.proofs.Common.{◌≡◌, ◌⊎◌, ℕ, Err, subst, sym, ap, ◌∙◌}
+use Rattle.bx_audit.specs.Audited.{IsTorn}
+use Rattle.bx_audit.specs.Blocks.{StandForNoTree}
+use Rattle.bx_audit.proofs.Trees.{a_truth, all_torn, counts_of, end_of, in_order, is_told}
+use Rattle.bx_audit_owners.specs.Whole.{StandsForNone}
+use Rattle.bx_homes.specs.Slots.{AreBlocks}
+use Rattle.bx_homes.proofs.Sectors.{of_none}
+use Rattle.bx_overlay.specs.declared.error.AuditError.{AuditError}
+use Rattle.bx_overlay.specs.Refusals.{IsBreak, UnlessFault}
+use Rattle.bx_views.specs.Truths.{Truth}
+use Rattle.bx_model.specs.declared.tree.Tree.{Tree}
+use Rattle.bx_audit.proofs.blocks.tree_of.Goals as goal
+
+pub returns-in-Ok-clause-there : goal.returns-in-Ok-clause-there
+returns-in-Ok-clause-there g c = λ tells. a_truth c.args.areas (g.B.Blocks.stands c.args.blocks.now) (of_none c.in_ok-at.field-0 c.in_default.is (c.in_ok-at.ensures.there tells))
+
+pub returns-in-Ok-clause-ordered : goal.returns-in-Ok-clause-ordered
+returns-in-Ok-clause-ordered g c = in_order c.in-Ok.tree c.in-Ok.ensures.ordered
+
+pub returns-in-Ok-clause-keeps_telling : goal.returns-in-Ok-clause-keeps_telling
+returns-in-Ok-clause-keeps_telling g c = λ tells.
+    let some = a_truth c.args.areas (g.B.Blocks.stands c.args.blocks.now) (of_none c.in_ok-at.field-0 c.in_default.is (c.in_ok-at.ensures.there tells)) in
+    c.in-Ok.ensures.keeps_telling some.0
+    (is_told (g.B.Blocks.tells c.args.blocks.now) (g.B.Blocks.tells c.first_fault.new.blocks) c.args.areas (g.B.Blocks.stands c.args.blocks.now) (g.B.Blocks.stands c.first_fault.new.blocks) some.0 tells
+    c.in_ok-at.ensures.keeps_telling c.in_ok-at.ensures.stays some.1 (of_none c.in_ok-at.field-0 c.in_default.is (c.in_ok-at.ensures.none tells) some.0 some.1))
+
+pub returns-in-Err-clause-keeps_telling : goal.returns-in-Err-clause-keeps_telling
+returns-in-Err-clause-keeps_telling g c = λ tells.
+    let some = a_truth c.args.areas (g.B.Blocks.stands c.args.blocks.now) (of_none c.in_ok-at.field-0 c.in_default.is (c.in_ok-at.ensures.there tells)) in
+    c.in-Err.ensures.keeps_telling some.0
+    (is_told (g.B.Blocks.tells c.args.blocks.now) (g.B.Blocks.tells c.first_fault.new.blocks) c.args.areas (g.B.Blocks.stands c.args.blocks.now) (g.B.Blocks.stands c.first_fault.new.blocks) some.0 tells
+    c.in_ok-at.ensures.keeps_telling c.in_ok-at.ensures.stays some.1 (of_none c.in_ok-at.field-0 c.in_default.is (c.in_ok-at.ensures.none tells) some.0 some.1))
+
+pub returns-in-Err-clause-err : goal.returns-in-Err-clause-err
+returns-in-Err-clause-err g c = λ tells.
+    let told = λ (truth : Truth) (are : AreBlocks c.args.areas (g.B.Blocks.stands c.args.blocks.now) truth). is_told (g.B.Blocks.tells c.args.blocks.now) (g.B.Blocks.tells c.first_fault.new.blocks) c.args.areas (g.B.Blocks.stands c.args.blocks.now)
+        (g.B.Blocks.stands c.first_fault.new.blocks) truth tells c.in_ok-at.ensures.keeps_telling c.in_ok-at.ensures.stays are (of_none c.in_ok-at.field-0 c.in_default.is (c.in_ok-at.ensures.none tells) truth are) in
+    subst (λ (e : AuditError). IsBreak e ⊎ (IsTorn e × StandForNoTree c.args.areas (g.B.Blocks.stands c.args.blocks.now))) (sym c.audit_error.ensures)
+    (end_of (StandForNoTree c.args.areas (g.B.Blocks.stands c.args.blocks.now)) c.in-Err.error
+    (all_torn c.in-Err.error (AreBlocks c.args.areas (g.B.Blocks.stands c.args.blocks.now)) (StandsForNone c.args.areas) (λ truth are. c.in-Err.ensures.torn truth (told truth are))))
+
+pub returns-in-Err-clause-counts : goal.returns-in-Err-clause-counts
+returns-in-Err-clause-counts g c =
+    subst (λ (e : AuditError). UnlessFault {A = Tree} (Err e) (g.B.Blocks.faults c.tree_on.new.blocks ≡ g.B.Blocks.faults c.args.blocks.now)) (sym c.audit_error.ensures)
+    (counts_of Tree c.in-Err.error (g.B.Blocks.faults c.args.blocks.now) (g.B.Blocks.faults c.first_fault.new.blocks) (g.B.Blocks.faults c.tree_on.new.blocks) c.in_ok-at.ensures.no_fault c.in-Err.ensures.counts)

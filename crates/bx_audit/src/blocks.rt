@@ -1,0 +1,84 @@
+//! The tree that the blocks of a volume stand for.
+
+ghost use Rattle.std.specs.Prelude.{◌≡◌, ◌≤◌, ◌⊎◌, IfOk, IfErr, IsErrOf, OnOk};
+ghost use Rattle.bx_audit.specs.Audited.{IsTorn};
+ghost use Rattle.bx_audit.specs.Blocks.{StandForNoTree, error_of, blocks_of};
+ghost use Rattle.bx_audit_links.specs.InOrder.{IsInOrder};
+ghost use Rattle.bx_base.specs.Faults.{Rose};
+ghost use Rattle.bx_homes.specs.Slots.{AreBlocks};
+ghost use Rattle.bx_overlay.specs.declared.error.AuditError.TheVariants.{DiskFault};
+ghost use Rattle.bx_overlay.specs.Members.{AreThere};
+ghost use Rattle.bx_overlay.specs.Refusals.{IsBreak, UnlessFault};
+ghost use Rattle.bx_truth.specs.Stands.{StandsFor};
+ghost use Rattle.bx_views.specs.Truths.{Truth};
+
+use bx_audit_owners::tree_on;
+use bx_disk::Rack;
+use bx_homes::{Blocks, first_fault};
+use bx_model::Tree;
+use bx_overlay::{AuditError, Overlaid, VolumeDisks};
+use std::alloc::Global;
+
+/// The tree that the blocks of a volume stand for. Torn where they stand for no file tree: of the first block that isn't as the slots ask,
+/// or of what is wrong once they are right.
+fn tree_of<B: Blocks>(
+    alloc: Global,
+    blocks: &mut B,
+    areas: u16,
+    volume: u64,
+) -> Result<Tree, AuditError>
+    requires ready { B.ready blocks.old }
+    requires areas { B.areas blocks.old ≡ areas }
+    requires most { areas ≤ 64 }
+    ensures any { B.tells blocks.old → IfOk result (λ tree. (truth : Truth) → AreBlocks areas (B.stands blocks.old) truth → StandsFor areas truth tree) }
+    ensures there { B.tells blocks.old → OnOk result ((truth : Truth) × AreBlocks areas (B.stands blocks.old) truth) }
+    ensures volume { IfOk result (λ tree. tree.volume ≡ volume) }
+    ensures ordered { IfOk result IsInOrder }
+    ensures err { B.tells blocks.old → IfErr result (λ error. IsBreak error ⊎ (IsTorn error × StandForNoTree areas (B.stands blocks.old))) }
+    ensures cause { IsErrOf result DiskFault → Rose (B.faults blocks.old) (B.faults blocks.new) }
+    ensures later { B.faults blocks.old ≤ B.faults blocks.new }
+    ensures counts { UnlessFault result (B.faults blocks.new ≡ B.faults blocks.old) }
+    ensures keeps_telling { B.tells blocks.old → B.tells blocks.new }
+    ensures keeps_lender { B.lender blocks.new ≡ B.lender blocks.old }
+{
+    if let Some(at) = first_fault(alloc, blocks, areas)? {
+        return Err(AuditError::Torn(at, 0, 0));
+    }
+    match tree_on(alloc, blocks, areas, volume) {
+        Ok(tree) => Ok(tree),
+        Err(error) => Err(audit_error(error)),
+    }
+}
+
+/// Why an audit fails, where what is read of its trees does.
+fn audit_error(error: bx_audit_trees::AuditError) -> AuditError
+    ensures { result ≡ error_of error }
+{
+    match error {
+        bx_audit_trees::AuditError::Torn(at, found, wanted) => AuditError::Torn(at, found, wanted),
+        bx_audit_trees::AuditError::Fault => AuditError::DiskFault,
+        bx_audit_trees::AuditError::OutOfMemory => AuditError::OutOfMemory,
+    }
+}
+
+/// The tree that the disks of a volume hold, whose labels and logs were read.
+pub(crate) fn tree_in<R: Rack>(
+    alloc: Global,
+    rack: &mut R,
+    read: &VolumeDisks,
+) -> Result<Tree, AuditError>
+    requires { AreThere (R.state rack.old).sizes read.now.members }
+    ensures any { R.tells rack.old → IfOk result (λ tree. (truth : Truth) → AreBlocks read.now.members.areas (blocks_of (R.state rack.old) read.now) truth → StandsFor read.now.members.areas truth tree) }
+    ensures there { R.tells rack.old → OnOk result ((truth : Truth) × AreBlocks read.now.members.areas (blocks_of (R.state rack.old) read.now) truth) }
+    ensures volume { IfOk result (λ tree. tree.volume ≡ read.now.first.volume) }
+    ensures ordered { IfOk result IsInOrder }
+    ensures err { R.tells rack.old → IfErr result (λ error. IsBreak error ⊎ (IsTorn error × StandForNoTree read.now.members.areas (blocks_of (R.state rack.old) read.now))) }
+    ensures cause { IsErrOf result DiskFault → Rose (R.faults rack.old) (R.faults rack.new) }
+    ensures later { R.faults rack.old ≤ R.faults rack.new }
+    ensures counts { UnlessFault result (R.faults rack.new ≡ R.faults rack.old) }
+    ensures keeps_telling { R.tells rack.old → R.tells rack.new }
+{
+    let members = read.members;
+    let mut blocks = Overlaid::new(alloc, rack, members, read.newest.items());
+    tree_of(alloc, &mut blocks, members.areas, read.first.volume)
+}

@@ -1,0 +1,12 @@
+-- What follows where something is torn, or ends otherwise.
+use Rattle.std.proofs.Common.{◌≡◌, ℕ, subst, sym, Result, Ok, Err}
+use Rattle.bx_audit_trees.specs.declared.error.AuditError.{AuditError}
+use Rattle.bx_audit_trees.specs.declared.error.AuditError.TheVariants.{Torn, Fault, OutOfMemory}
+use Rattle.bx_audit_trees.specs.Errors.{IfTorn, IfTornError}
+
+-- what is never torn is torn for any reason
+pub never_torn : {A : Type 0} (Q : ℕ → ℕ → ℕ → Type 0) (now : Result A AuditError) → IfTorn now (λ at found wanted. ⊥) → IfTorn now Q
+never_torn Q (Ok value) never = tt
+never_torn Q (Err (Torn at found wanted)) never = absurd never
+never_torn Q (Err Fault) never = tt
+never_torn Q (Err OutOfMemory) never = tt

@@ -1,0 +1,346 @@
+-- What the blocks of a volume stand for, once all is found.
+use Rattle.std.proofs.Common.{◌≡◌, ℕ, ◌+◌, ◌*◌, ◌<◌, ◌≤◌, ◌^◌, ◌%◌, ◌/◌, ◌⊎◌, ⊎_elim, inl, inr, arith, Bool, true, false, List, [], length, sym, ap, ◌∙◌, subst, refl, Option, Some, None}
+use Rattle.std.specs.Prelude.{◌≢◌, ◌&&◌, ◌==◌, if◌then◌else◌, Contains}
+use Rattle.std.proofs.lemmas.Bool.Decides.{nat_tests}
+use Rattle.bx_audit_owners.specs.declared.holders.Holder.{Holder}
+use Rattle.bx_audit_owners.specs.declared.holders.Holder.TheVariants.{File as OfFile, Dead as OfDead, Page as OfPage, Piece as OfPiece}
+use Rattle.bx_audit_owners.specs.declared.slots.UsedSlot.{UsedSlot}
+use Rattle.bx_audit_owners.specs.Found.{IsInode, IsFound, AreAllRead, AreOrdered, HaveFiles}
+use Rattle.bx_audit_owners.specs.Holding.{Holdings, IsHeld, owner_of, holder_by}
+use Rattle.bx_audit_owners.specs.Told.{IsTold}
+use Rattle.bx_audit_owners.specs.UsedSlots.{IsUsedSlot, AreUsed, IsFreeMarked}
+use Rattle.bx_audit_owners.proofs.Owners.{owner_in, found_owner, found_stored, no_file, inodes_own, owns_itself, stored_here, only_here, agrees, inode_owns, unowned}
+use Rattle.bx_audit_trees.specs.Shown.{Shows}
+use Rattle.bx_layout.specs.declared.block.Block.{Block}
+use Rattle.bx_layout.specs.Areas.{in_use, generation_in}
+use Rattle.bx_model.specs.declared.tree.Tree.{Tree}
+use Rattle.bx_model.specs.FileTrees.{IsFileTree}
+use Rattle.bx_model.specs.Opening.{root_handle}
+use Rattle.bx_tree_files.specs.declared.file.File.{File}
+use Rattle.bx_tree_files.specs.Files.{IsFile, file_at}
+use Rattle.bx_tree_laws.proofs.Rises.{contains_at}
+use Rattle.bx_truth.specs.Chunks.{IsSlot, is_slot, block_at, handle_of, chunks_of, word_at, dead_at}
+use Rattle.bx_truth.specs.PageTrees.{Chunks}
+use Rattle.bx_truth.specs.Stands.{AreFiles, IsOwned, MarksTheDead, StandsFor}
+use Rattle.bx_truth.specs.Stored.{Owner, Inodes, PageOf, DataOf, Stored, HasInode, IsFileOr}
+use Rattle.bx_truth.proofs.Cases.{eq_true}
+use Rattle.bx_truth.proofs.Made.{chunk_given}
+use Rattle.bx_truth.proofs.PieceKeys.{chunk_fits}
+use Rattle.bx_truth.proofs.Put.{is_live, some_there}
+use Rattle.bx_truth.proofs.Same.{chunk_is}
+use Rattle.bx_truth.proofs.SlotWords.{block_back}
+use Rattle.bx_views.specs.Truths.{Truth}
+
+some_same : {X : Type 0} (x y : X) → Some x ≡ Some y → x ≡ y
+some_same x y e = cc
+
+none_some : {X : Type 0} (o : Option X) (x : X) → o ≡ None → o ≡ Some x → ⊥
+none_some o x none some = absurd cc
+
+file_or : (o : Option File) → o ≢ None → (f : File) × (o ≡ Some f)
+file_or None is = absurd (is refl)
+file_or (Some f) is = (f, refl)
+
+-- an inode with a file isn't dead
+not_dead : (chunks : Chunks) (owner : ℕ → Owner) (handle : ℕ) (stored : Stored) (file : Option File) → file ≢ None → IsFileOr chunks owner handle stored file → stored.inode.kind ≡ 0 → ⊥
+not_dead chunks owner handle stored None some is zero = some refl
+not_dead chunks owner handle stored (Some f) some is zero = is_live chunks owner handle stored f.body is.2 zero
+
+is_dead : (chunks : Chunks) (owner : ℕ → Owner) (handle : ℕ) (stored : Stored) (file : Option File) → file ≡ None → IsFileOr chunks owner handle stored file → stored.inode.kind ≡ 0
+is_dead chunks owner handle stored None none is = is.kind
+is_dead chunks owner handle stored (Some f) none is = absurd cc
+
+-- ---- slots in use, and chunks
+
+small : (word : ℕ) → generation_in word < 2 ^ 32
+small word = omega arith
+
+module _ (areas : ℕ) (truth : Truth) (few : areas ≤ 64) where
+  all_true : (t u e : Bool) (b : Block) → t ≡ true → u ≡ true → e ≡ true → (if (t && (u && e)) then Some b else None) ≡ Some b
+  all_true true true true b is_t is_u is_e = refl
+  all_true true true false b is_t is_u is_e = absurd cc
+  all_true true false e b is_t is_u is_e = absurd cc
+  all_true false u e b is_t is_u is_e = absurd cc
+
+  slot_true : (block : ℕ) → IsSlot areas block → is_slot areas block ≡ true
+  slot_true block is = by is.area is.slot
+    where
+      by : block / 1024 < areas → block % 1024 < 960 → is_slot areas block ≡ true
+      by area slot = grind (arith, nat_tests, area, slot)
+
+  module _ (block : ℕ) (slot : UsedSlot) (is : IsUsedSlot areas truth block slot) where
+    -- the handle of a slot is of its block
+    pub in_block : block_at slot.handle ≡ block
+    in_block = ap block_at is.handle_is ∙ block_back areas block (generation_in (word_at truth block)) few is.there (small (word_at truth block))
+
+    -- and names it
+    pub names_block : chunks_of areas truth slot.handle ≡ Some (truth block)
+    names_block =
+        subst (λ (n : ℕ). (if (is_slot areas n && (in_use (word_at truth n) && (slot.handle == handle_of n (generation_in (word_at truth n))))) then Some (truth n) else None) ≡ Some (truth block)) (sym in_block)
+        (all_true (is_slot areas block) (in_use (word_at truth block)) (slot.handle == handle_of block (generation_in (word_at truth block))) (truth block) (slot_true block is.there) is.used
+        (eq_true slot.handle (handle_of block (generation_in (word_at truth block))) is.handle_is))
+
+    -- so does each handle in use of the block
+    pub one_handle_of : (handle : ℕ) (b : Block) → chunks_of areas truth handle ≡ Some b → block_at handle ≡ block → handle ≡ slot.handle
+    one_handle_of handle b chunk at = (chunk_is areas truth handle b chunk).is_handle ∙ ap (λ (n : ℕ). handle_of n (generation_in (word_at truth n))) at ∙ sym is.handle_is
+
+  -- a chunk's slot is among those in use
+  pub slot_for : (slots : List UsedSlot) → AreUsed areas truth slots → (handle : ℕ) (b : Block) → chunks_of areas truth handle ≡ Some b
+      → (slot : UsedSlot) × Contains slots slot × IsUsedSlot areas truth (block_at handle) slot × (slot.handle ≡ handle)
+  slot_for slots are handle b chunk =
+      let c = chunk_is areas truth handle b chunk in
+      let s = are.all (block_at handle) c.slot c.used in
+      (s.0, s.1, s.2, s.2.handle_is ∙ sym c.is_handle)
+
+  -- all inodes are read, once those of all slots are
+  pub all_read_of : (slots : List UsedSlot) (holdings : Holdings) → AreUsed areas truth slots
+      → ((slot : UsedSlot) (block : Block) → Contains slots slot → chunks_of areas truth slot.handle ≡ Some block → block.kind ≡ 1 → holdings slot.handle ≢ None)
+      → AreAllRead (chunks_of areas truth) holdings
+  all_read_of slots holdings are each handle b chunk kind none =
+      let s = slot_for slots are handle b chunk in
+      each s.0 b s.1 (ap (chunks_of areas truth) s.3 ∙ chunk) kind (ap holdings s.3 ∙ none)
+
+  -- each slot in use names a chunk
+  pub all_named : (slots : List UsedSlot) → AreUsed areas truth slots → (slot : UsedSlot) → Contains slots slot → chunks_of areas truth slot.handle ≢ None
+  all_named slots are slot there none =
+      let s = are.each slot there in
+      none_some (chunks_of areas truth slot.handle) (truth s.0) none (names_block s.0 slot s.1)
+
+  -- where the root is in use, its handle and no other names the block, and 0 names none
+  pub root_shows : (is_told : Type 0) (stands : ℕ → Block → Type 0) (slots : List UsedSlot) (slot : UsedSlot) → IsTold is_told areas stands truth → AreUsed areas truth slots → Contains slots slot
+      → slot.handle ≡ root_handle → Shows is_told areas stands (chunks_of areas truth)
+  root_shows is_told stands slots slot told are there root = record {
+    told = told.told;
+    truth = truth;
+    blocks = told.blocks;
+    chunked = told.chunked;
+    chunks_are = λ handle. refl;
+    none = by (chunks_of areas truth 0) refl;
+  }
+    where
+      is : IsUsedSlot areas truth (are.each slot there).0 slot
+      is = (are.each slot there).1
+
+      at_zero : (are.each slot there).0 ≡ 0
+      at_zero = sym (in_block (are.each slot there).0 slot is) ∙ ap block_at root
+
+      by : (o : Option Block) → chunks_of areas truth 0 ≡ o → chunks_of areas truth 0 ≡ None
+      by None none = none
+      by (Some b) some =
+          let e : 0 ≡ 1 = one_handle_of (are.each slot there).0 slot is 0 b some (sym at_zero) ∙ root in
+          absurd (omega (arith, e))
+
+-- ---- where files stand
+
+module _ (areas : ℕ) (truth : Truth) (few : areas ≤ 64) (tree : Tree) (stands : StandsFor areas truth tree) (is_tree : IsFileTree tree) where
+  -- their chunks are theirs
+  pub have_files : HaveFiles (chunks_of areas truth) stands.owner stands.stored tree.files
+  have_files = record { are = stands.are_files; is_file = λ handle file there. is_tree.is_file file (contains_at tree.files handle file there) }
+
+  -- no free slot is marked
+  pub none_marked : IsFreeMarked areas truth → ⊥
+  none_marked free =
+      let m = stands.marks.marked free.block free.there free.marked in
+      let b = some_there (chunks_of areas truth m.0) m.2 in
+      let c = chunk_is areas truth m.0 b.0 b.1 in
+      let e : true ≡ false = sym c.used ∙ ap (λ (n : ℕ). in_use (word_at truth n)) m.1 ∙ free.unused in
+      absurd cc
+
+  root_file : (f : File) × (file_at tree.files root_handle ≡ Some f)
+  root_file = file_or (file_at tree.files root_handle) stands.has_root
+
+  root_block : (b : Block) × (chunks_of areas truth root_handle ≡ Some b)
+  root_block = some_there (chunks_of areas truth root_handle) (stands.are_files.all root_handle root_file.0 root_file.1).1
+
+  -- the root is in use
+  pub root_used : (slots : List UsedSlot) → AreUsed areas truth slots → (slot : UsedSlot) × Contains slots slot × (slot.handle ≡ root_handle)
+  root_used slots are =
+      let s = slot_for areas truth few slots are root_handle root_block.0 root_block.1 in
+      (s.0, s.1, s.3)
+
+  module _ (holdings : Holdings) (found_files : List File) (found : IsFound (chunks_of areas truth) holdings found_files) (all_read : AreAllRead (chunks_of areas truth) holdings) where
+    -- and has a file
+    pub root_found : file_at found_files root_handle ≢ None
+    root_found none =
+        let chunks = chunks_of areas truth in
+        let own = (stands.are_files.all root_handle root_file.0 root_file.1).0 in
+        let s = stored_here chunks stands.owner stands.stored tree.files have_files root_handle root_block.0 root_block.1 own in
+        let x = held_or (holdings root_handle) (all_read root_handle s.block s.chunk s.inode.kind) in
+        let here = subst IsInode (sym x.1) (inodes_own x.0 (sym (agrees chunks stands.owner stands.stored tree.files have_files holdings found_files found root_handle x.0 x.1) ∙ own)) in
+        none_some (file_at tree.files root_handle) root_file.0 ((only_here chunks stands.owner stands.stored tree.files have_files holdings found_files found root_handle here).same_file ∙ none) root_file.1
+      where
+        held_or : (o : Option Holder) → o ≢ None → (x : Holder) × (o ≡ Some x)
+        held_or None is = absurd (is refl)
+        held_or (Some x) is = (x, refl)
+
+    -- each slot in use has a holder, and is marked where it is a dead inode
+    pub held : (block : ℕ) (slot : UsedSlot) → IsUsedSlot areas truth block slot → IsHeld holdings slot
+    held block slot is = by (holdings slot.handle) refl
+      where
+        chunk : chunks_of areas truth slot.handle ≡ Some (truth block)
+        chunk = names_block areas truth few block slot is
+
+        of_files : (x : Holder) → holdings slot.handle ≡ Some x → stands.owner slot.handle ≡ owner_of x
+        of_files x there = agrees (chunks_of areas truth) stands.owner stands.stored tree.files have_files holdings found_files found slot.handle x there
+
+        same_file : IsInode (holdings slot.handle) → file_at tree.files slot.handle ≡ file_at found_files slot.handle
+        same_file here = (only_here (chunks_of areas truth) stands.owner stands.stored tree.files have_files holdings found_files found slot.handle here).same_file
+
+        is_file_or : stands.owner slot.handle ≡ Inodes → IsFileOr (chunks_of areas truth) stands.owner slot.handle (stands.stored slot.handle) (file_at tree.files slot.handle)
+        is_file_or own = (stored_here (chunks_of areas truth) stands.owner stands.stored tree.files have_files slot.handle (truth block) chunk own).file
+
+        -- a marked slot is a dead inode's
+        dead_inode : slot.dead ≡ true → (stands.owner slot.handle ≡ Inodes) × ((stands.stored slot.handle).inode.kind ≡ 0)
+        dead_inode marked =
+            let m = stands.marks.marked block is.there (sym is.dead_is ∙ marked) in
+            let b = some_there (chunks_of areas truth m.0) m.2 in
+            let same : m.0 ≡ slot.handle = one_handle_of areas truth few block slot is m.0 b.0 b.1 m.1 in
+            (ap stands.owner (sym same) ∙ m.3, ap (λ (n : ℕ). (stands.stored n).inode.kind) (sym same) ∙ m.4)
+
+        to : (x : Holder) → holdings slot.handle ≡ Some x → slot.dead ≡ true → x ≡ OfDead
+        to OfDead there marked = refl
+        to OfFile there marked =
+            let d = dead_inode marked in
+            let some = found.has_file slot.handle there in
+            absurd (not_dead (chunks_of areas truth) stands.owner slot.handle (stands.stored slot.handle) (file_at tree.files slot.handle)
+            (λ none. some (sym (same_file (subst IsInode (sym there) tt)) ∙ none)) (is_file_or d.0) d.1)
+        to (OfPage inode) there marked = let e : PageOf inode ≡ Inodes = sym (of_files (OfPage inode) there) ∙ (dead_inode marked).0 in absurd cc
+        to (OfPiece inode index) there marked = let e : DataOf inode index ≡ Inodes = sym (of_files (OfPiece inode index) there) ∙ (dead_inode marked).0 in absurd cc
+
+        from : (x : Holder) → holdings slot.handle ≡ Some x → x ≡ OfDead → slot.dead ≡ true
+        from x there dead =
+            let held_dead : holdings slot.handle ≡ Some OfDead = there ∙ ap Some dead in
+            let own = of_files OfDead held_dead in
+            let none = same_file (subst IsInode (sym held_dead) tt) ∙ no_file (chunks_of areas truth) holdings found_files found slot.handle held_dead in
+            is.dead_is ∙ ap (dead_at truth) (sym (in_block areas truth few block slot is))
+            ∙ stands.marks.dead slot.handle (truth block) chunk own (is_dead (chunks_of areas truth) stands.owner slot.handle (stands.stored slot.handle) (file_at tree.files slot.handle) none (is_file_or own))
+
+        by : (o : Option Holder) → holdings slot.handle ≡ o → IsHeld holdings slot
+        by None none = absurd (unowned (chunks_of areas truth) stands.owner stands.stored tree.files have_files holdings found_files found all_read
+            (λ handle b some. chunk_fits areas truth handle b few some) slot.handle (truth block) chunk none)
+        by (Some x) there = record { holder = x; there = there; marked = (to x there, from x there) }
+
+-- ---- what is found stands
+
+module _ (areas : ℕ) (truth : Truth) (few : areas ≤ 64) (slots : List UsedSlot) (used : AreUsed areas truth slots) (holdings : Holdings) (files : List File)
+    (found : IsFound (chunks_of areas truth) holdings files) (all_held : (slot : UsedSlot) → Contains slots slot → IsHeld holdings slot) where
+  abbrev chunks : Chunks
+  chunks = chunks_of areas truth
+
+  abbrev owner : ℕ → Owner
+  owner = found_owner holdings
+
+  abbrev stored : ℕ → Stored
+  stored handle = (found.readings handle).stored
+
+  -- each chunk's slot is held
+  held_at : (handle : ℕ) (b : Block) → chunks handle ≡ Some b → (x : Holder) × (holdings handle ≡ Some x)
+  held_at handle b chunk =
+      let s = slot_for areas truth few slots used handle b chunk in
+      let h = all_held s.0 s.1 in
+      (h.holder, ap holdings (sym s.3) ∙ h.there)
+
+  one_block : (handle : ℕ) (a b : Block) → chunks handle ≡ Some a → chunks handle ≡ Some b → a ≡ b
+  one_block handle a b is other = some_same a b (sym is ∙ other)
+
+  an_inode : (handle : ℕ) (b : Block) → chunks handle ≡ Some b → IsInode (holdings handle) → IsOwned chunks owner stored files handle b Inodes
+  an_inode handle b chunk is =
+      let s = found_stored chunks holdings files found handle is in
+      record { inode = subst (HasInode (stored handle).inode) (one_block handle s.block b s.chunk chunk) s.inode; file = s.file }
+
+  owns : (handle : ℕ) → IsInode (holdings handle) → owner handle ≡ Inodes
+  owns handle is = by (holdings handle) refl is
+    where
+      by : (o : Option Holder) → holdings handle ≡ o → IsInode o → owner handle ≡ Inodes
+      by None e here = absurd here
+      by (Some OfFile) e here = ap owner_in e
+      by (Some OfDead) e here = ap owner_in e
+      by (Some (OfPage inode)) e here = absurd here
+      by (Some (OfPiece inode index)) e here = absurd here
+
+  owned : (handle : ℕ) (b : Block) → chunks handle ≡ Some b → (x : Holder) → holdings handle ≡ Some x → IsOwned chunks owner stored files handle b (owner_of x)
+  owned handle b chunk OfFile held = an_inode handle b chunk (subst IsInode (sym held) tt)
+  owned handle b chunk OfDead held = an_inode handle b chunk (subst IsInode (sym held) tt)
+  owned handle b chunk (OfPage inode) held =
+      let c = found.claimed handle inode None held in
+      let claim = (found.inodes inode c.0).are_claims.each (record { handle = handle; piece = None }) c.1 in
+      let s = found_stored chunks holdings files found inode c.0 in
+      record {
+        kind = ap (λ (x : Block). x.kind) (one_block handle b claim.block chunk claim.chunk) ∙ claim.kind;
+        of = record { block = s.block; chunk = s.chunk; itself = owns inode c.0; has_tree = claim.has_tree };
+        node = claim.named.node;
+        there = claim.named.there;
+        names = claim.named.names;
+      }
+  owned handle b chunk (OfPiece inode index) held =
+      let c = found.claimed handle inode (Some index) held in
+      let claim = (found.inodes inode c.0).are_claims.each (record { handle = handle; piece = Some index }) c.1 in
+      let s = found_stored chunks holdings files found inode c.0 in
+      record {
+        kind = ap (λ (x : Block). x.kind) (one_block handle b claim.block chunk claim.chunk) ∙ claim.kind;
+        of = record { block = s.block; chunk = s.chunk; itself = owns inode c.0; has_tree = claim.has_tree };
+        names = claim.named.names;
+      }
+
+  are_files : AreFiles chunks owner stored files
+  are_files = record {
+    each = λ handle b chunk.
+        let x = held_at handle b chunk in
+        subst (IsOwned chunks owner stored files handle b) (sym (ap owner_in x.1)) (owned handle b chunk x.0 x.1);
+    all = λ handle file there.
+        let here = subst IsInode (sym (found.is_file handle file there)) tt in
+        let s = found_stored chunks holdings files found handle here in
+        (owns handle here, λ none. none_some (chunks handle) s.block none s.chunk);
+  }
+
+  marks : MarksTheDead areas truth owner stored
+  marks = record {
+    dead = λ handle b chunk own zero.
+        let s = slot_for areas truth few slots used handle b chunk in
+        let h = all_held s.0 s.1 in
+        let there : holdings handle ≡ Some h.holder = ap holdings (sym s.3) ∙ h.there in
+        sym s.2.dead_is ∙ h.marked.1 (dead_holder handle h.holder there own zero);
+    marked = λ block is marked. by block is marked (in_use (word_at truth block)) refl;
+  }
+    where
+      dead_holder : (handle : ℕ) (x : Holder) → holdings handle ≡ Some x → owner handle ≡ Inodes → (stored handle).inode.kind ≡ 0 → x ≡ OfDead
+      dead_holder handle OfDead there own zero = refl
+      dead_holder handle OfFile there own zero =
+          absurd (not_dead chunks owner handle (stored handle) (file_at files handle) (found.has_file handle there) (found_stored chunks holdings files found handle (subst IsInode (sym there) tt)).file zero)
+      dead_holder handle (OfPage inode) there own zero = let e : PageOf inode ≡ Inodes = sym (ap owner_in there) ∙ own in absurd cc
+      dead_holder handle (OfPiece inode index) there own zero = let e : DataOf inode index ≡ Inodes = sym (ap owner_in there) ∙ own in absurd cc
+
+      by : (block : ℕ) → IsSlot areas block → dead_at truth block ≡ true → (t : Bool) → in_use (word_at truth block) ≡ t
+          → (handle : ℕ) × (block_at handle ≡ block) × (chunks handle ≢ None) × (owner handle ≡ Inodes) × ((stored handle).inode.kind ≡ 0)
+      by block is marked false unused = let e : true ≡ false = sym marked ∙ used.unmarked block is unused in absurd cc
+      by block is marked true used_here =
+          let s = used.all block is used_here in
+          let h = all_held s.0 s.1 in
+          let there : holdings s.0.handle ≡ Some OfDead = h.there ∙ ap Some (h.marked.0 (s.2.dead_is ∙ marked)) in
+          let here = subst IsInode (sym there) tt in
+          let st = found_stored chunks holdings files found s.0.handle here in (
+            s.0.handle,
+            in_block areas truth few block s.0 s.2,
+            λ none. none_some (chunks s.0.handle) st.block none st.chunk,
+            owns s.0.handle here,
+            is_dead chunks owner s.0.handle (stored s.0.handle) (file_at files s.0.handle) (no_file chunks holdings files found s.0.handle there) st.file,
+          )
+
+  pub stands : (volume : ℕ) (given : List ℕ) (is_told : Type 0) (standing : ℕ → Block → Type 0) → IsTold is_told areas standing truth → AreOrdered files given
+      → file_at files root_handle ≢ None → StandsFor areas truth (record { volume = volume; areas = areas; files = files; root = root_handle; given = given })
+  stands volume given is_told standing told ordered has_root = record {
+    chunked = told.chunked;
+    owner = owner;
+    stored = stored;
+    are_files = are_files;
+    marks = marks;
+    areas_are = refl;
+    root_is = refl;
+    has_root = has_root;
+    in_order = ordered.rise;
+    given = λ handle there.
+        let f = file_or (file_at files handle) (ordered.given_is handle there) in
+        let here = subst IsInode (sym (found.is_file handle f.0 f.1)) tt in
+        let s = found_stored chunks holdings files found handle here in
+        chunk_given areas truth handle s.block s.chunk;
+  }

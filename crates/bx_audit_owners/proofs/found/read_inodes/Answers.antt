@@ -1,0 +1,58 @@
+use Rattle.std.proofs.Common.{◌≡◌, ℕ, ◌+◌, ◌<◌, ◌⊎◌, ⊎_elim, false, Option, Some, None, arith, length, refl, sym, ap, subst, ◌∙◌, List, []}
+use Rattle.std.specs.Prelude.{◌≢◌, slice_index_or}
+use Rattle.std.specs.BTreeMap.{BTreeMap}
+use Rattle.bx_audit_owners.specs.declared.holders.Holder.{Holder}
+use Rattle.bx_audit_owners.specs.declared.slots.UsedSlot.{UsedSlot}
+use Rattle.bx_audit_owners.specs.Found.{AreOrdered, IsFound}
+use Rattle.bx_audit_owners.specs.Holding.{Holdings, holdings_of}
+use Rattle.bx_audit_owners.proofs.Founds.{none_found}
+use Rattle.bx_audit_owners.proofs.Holding.{none_held, one_there}
+use Rattle.bx_audit_owners.proofs.InOrder.{none_ordered}
+use Rattle.bx_layout.specs.declared.block.Block.{Block}
+use Rattle.bx_truth.specs.PageTrees.{Chunks}
+use Rattle.bx_tree_files.specs.declared.file.File.{File}
+use Rattle.bx_audit_owners.proofs.found.read_inodes.Goals as goal
+
+no_slot : UsedSlot
+no_slot = record { handle = 0; dead = false }
+
+below_or : (n m : ℕ) → n < m + 1 → (n < m) ⊎ (n ≡ m)
+below_or n m less = grind (arith, less)
+
+pub loop-slot-init : goal.loop-slot-init
+loop-slot-init g c = record {
+  ready = c.requires.ready;
+  none_rose = refl;
+  areas_are = refl;
+  lender_is = refl;
+  shows = λ chunks shows. shows;
+  found = λ chunks shows. subst (λ (h : Holdings). IsFound chunks h c.new-2.result) (sym (none_held c.new.result c.new.ensures.empty))
+      (subst (λ (l : List File). IsFound chunks (λ at. None) l) (sym c.new-2.ensures) (none_found chunks));
+  read = λ chunks shows k slot block less. absurd (omega (arith, less));
+  ordered = subst (λ (l : List File). AreOrdered l c.new-3.result) (sym c.new-2.ensures) (subst (λ (h : List ℕ). AreOrdered [] h) (sym c.new-3.ensures) none_ordered);
+}
+
+pub loop-slot-preserved : goal.loop-slot-preserved
+unfolding no_slot
+loop-slot-preserved g c =
+    let within : c.loop-slot.slot-index < length c.args.slots.now = omega arith in
+    record {
+      ready = c.in_ok-read_chunk.ensures.keeps_ready;
+      none_rose = c.in_ok-read_chunk.ensures.counts ∙ c.loop-slot.invariant.none_rose;
+      areas_are = c.in_ok-read_chunk.ensures.keeps_areas ∙ c.loop-slot.invariant.areas_are;
+      lender_is = c.in_ok-read_chunk.ensures.keeps_lender ∙ c.loop-slot.invariant.lender_is;
+      shows = λ chunks shows. c.in_ok-read_chunk.ensures.shows chunks (c.loop-slot.invariant.shows chunks shows);
+      found = λ chunks shows. c.in_ok-read_chunk.ensures.ok chunks (c.loop-slot.invariant.shows chunks shows) (c.loop-slot.invariant.found chunks shows);
+      read = λ chunks shows k slot block less is chunk kind. ⊎_elim
+          (λ before. c.in_ok-read_chunk.ensures.still slot.handle (c.loop-slot.invariant.read chunks shows k slot block before is chunk kind))
+          (λ same.
+          let one : slot ≡ slice_index_or c.args.slots.now c.loop-slot.slot-index no_slot =
+              sym is ∙ ap (λ (n : ℕ). slice_index_or c.args.slots.now n slot) same ∙ one_there c.args.slots.now c.loop-slot.slot-index slot no_slot within in
+          subst (λ (s : UsedSlot). holdings_of c.read_chunk.new.found.holders s.handle ≢ None) (sym one)
+          (c.in_ok-read_chunk.ensures.read chunks block (c.loop-slot.invariant.shows chunks shows) (ap (λ (s : UsedSlot). chunks s.handle) (sym one) ∙ chunk) kind))
+          (below_or k c.loop-slot.slot-index less);
+      ordered = c.in_ok-read_chunk.ensures.ordered c.loop-slot.invariant.ordered;
+    }
+
+pub returns-clause-read : goal.returns-clause-read
+returns-clause-read g c = λ chunks shows slot block there chunk kind. c.loop-slot.invariant.read chunks shows there.0 slot block (omega (arith, there.1, c.loop-slot-test.false)) there.2 chunk kind

@@ -1,0 +1,46 @@
+use Rattle.std.proofs.Common.{◌≡◌, ℕ, Err, List, None, Some, refl, ap, sym, subst, ◌∙◌}
+use Rattle.std.proofs.lemmas.Result.{err_from_is_err_and}
+use Rattle.bx_audit_owners.specs.declared.slots.UsedSlot.{UsedSlot}
+use Rattle.bx_audit_owners.specs.Found.{AreOrdered}
+use Rattle.bx_audit_owners.specs.Holding.{holdings_of}
+use Rattle.bx_audit_owners.specs.UsedSlots.{AreUsed}
+use Rattle.bx_audit_owners.specs.Whole.{IsWhole}
+use Rattle.bx_audit_owners.proofs.Wholes.{none_marked, root_found, stands}
+use Rattle.bx_audit_trees.proofs.Ends.{if_torn}
+use Rattle.bx_model.specs.declared.tree.Tree.{Tree}
+use Rattle.bx_truth.specs.Stands.{StandsFor}
+use Rattle.bx_audit_owners.proofs.tree.tree_on.Goals as goal
+
+pub returns-in_err-slots-clause-torn : goal.returns-in_err-slots-clause-torn
+returns-in_err-slots-clause-torn g c = λ truth told.
+    let p = err_from_is_err_and c.from_residual.result c.from_residual.ensures.1 in
+    if_torn _ _ c.in_err-slots.field-0.0 c.from_residual.result (p.1 ∙ ap Err p.2) (λ at found wanted free tree stands is.
+    none_marked c.args.areas truth c.requires.most tree stands is free) (c.in_err-slots.ensures.torn truth told)
+
+pub returns-in_err-found-clause-torn : goal.returns-in_err-found-clause-torn
+returns-in_err-found-clause-torn g c = λ truth told.
+    let p = err_from_is_err_and c.from_residual-in_err-found.result c.from_residual-in_err-found.ensures.1 in
+    if_torn _ _ c.in_err-found.field-0.0 c.from_residual-in_err-found.result (p.1 ∙ ap Err p.2) (λ at found wanted none. none)
+    (c.in_err-found.ensures.torn truth (c.in_ok-slots.ensures.told truth told) (subst (AreUsed c.args.areas truth) (sym c.as_slice.ensures.value) (c.in_ok-slots.ensures.ok truth told)))
+
+pub returns-in_err-tree-clause-torn : goal.returns-in_err-tree-clause-torn
+returns-in_err-tree-clause-torn g c = λ truth told.
+    let p = err_from_is_err_and c.from_residual-in_err-tree.result c.from_residual-in_err-tree.ensures.1 in
+    let whole = c.in_ok-found.ensures.ok truth (c.in_ok-slots.ensures.told truth told) (subst (AreUsed c.args.areas truth) (sym c.as_slice.ensures.value) (c.in_ok-slots.ensures.ok truth told)) in
+    if_torn _ _ c.in_err-tree.field-0.0 c.from_residual-in_err-tree.result (p.1 ∙ ap Err p.2) (λ at found wanted none tree stands is.
+    root_found c.args.areas truth c.requires.most tree stands is (holdings_of c.in_ok-found.found.holders) c.in_ok-found.found.files whole.found whole.all_read none) c.in_err-tree.ensures.torn
+
+pub returns-clause-ok : goal.returns-clause-ok
+returns-clause-ok g c = λ truth told.
+    let used = c.in_ok-slots.ensures.ok truth told in
+    let whole = subst (λ (l : List UsedSlot). IsWhole c.args.areas truth l (holdings_of c.in_ok-found.found.holders) c.in_ok-found.found.files) c.as_slice.ensures.value
+        (c.in_ok-found.ensures.ok truth (c.in_ok-slots.ensures.told truth told) (subst (AreUsed c.args.areas truth) (sym c.as_slice.ensures.value) used)) in
+    subst (StandsFor c.args.areas truth) (sym c.in_ok-tree.ensures.ok)
+    (stands c.args.areas truth c.requires.most c.in_ok-slots.slots.items used (holdings_of c.in_ok-found.found.holders) c.in_ok-found.found.files whole.found whole.held
+    c.args.volume c.in_ok-found.found.given (g.B.Blocks.tells c.args.blocks.now) (g.B.Blocks.stands c.args.blocks.now) told c.in_ok-found.ensures.ordered c.in_ok-tree.ensures.root)
+
+pub returns-clause-ordered : goal.returns-clause-ordered
+returns-clause-ordered g c = subst (λ (t : Tree). AreOrdered t.files t.given) (sym c.in_ok-tree.ensures.ok) c.in_ok-found.ensures.ordered
+
+pub returns-clause-volume : goal.returns-clause-volume
+returns-clause-volume g c = ap (λ (t : Tree). t.volume) c.in_ok-tree.ensures.ok

@@ -1,0 +1,5 @@
+pub mod Told
+pub mod UsedSlots
+pub mod Holding
+pub mod Found
+pub mod Whole

@@ -1,0 +1,9 @@
+//! The file tree of a volume, read off its blocks slot by slot: each chunk has one owner, each inode is read.
+#![tactic(auto)]
+
+mod found;
+mod holders;
+mod slots;
+mod tree;
+
+pub use tree::tree_on;

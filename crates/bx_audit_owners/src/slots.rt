@@ -1,0 +1,124 @@
+//! The slots of a volume that are in use.
+
+ghost use Rattle.std.specs.Prelude.{◌≡◌, ◌+◌, ◌*◌, ◌<◌, ◌≤◌, ℕ, Contains, IfOk, OnOk, IsErrOf};
+ghost use Rattle.bx_audit_owners.specs.Told.{IsTold};
+ghost use Rattle.bx_audit_owners.specs.UsedSlots.{AreUsed, AreUsedBelow, IsFreeMarked};
+ghost use Rattle.bx_audit_trees.specs.declared.error.AuditError.TheVariants.{Fault as DiskFailed};
+ghost use Rattle.bx_audit_trees.specs.Errors.{Counts, IfTorn};
+ghost use Rattle.bx_layout.specs.Areas.{IsArea, SpellsArea};
+ghost use Rattle.bx_truth.specs.Chunks.{own_block};
+ghost use Rattle.bx_views.specs.Truths.{Truth};
+
+use bx_audit_trees::AuditError;
+use bx_handles::ChunkHandle;
+use bx_homes::Blocks;
+use bx_layout::AreaBlock;
+use bx_places::SLOTS;
+use std::alloc::Global;
+
+/// A slot that is in use.
+#[derive(Clone, Copy)]
+pub(crate) struct UsedSlot {
+    /// The handle of the chunk in it.
+    pub(crate) handle: u64,
+    /// Whether it is marked as that of a dead inode.
+    pub(crate) dead: bool,
+}
+
+/// The slots of a volume that are in use, in the order of their blocks. Torn exactly where one that isn't in use is marked.
+pub(crate) fn used_slots<B: Blocks>(
+    alloc: Global,
+    blocks: &mut B,
+    areas: u16,
+) -> Result<Vec<UsedSlot>, AuditError>
+    requires ready { B.ready blocks.old }
+    requires areas { B.areas blocks.old ≡ areas }
+    requires most { areas ≤ 64 }
+    ensures ok { (truth : Truth) → IsTold (B.tells blocks.old) areas (B.stands blocks.old) truth → IfOk result (λ slots. AreUsed areas truth slots.items) }
+    ensures torn { (truth : Truth) → IsTold (B.tells blocks.old) areas (B.stands blocks.old) truth → IfTorn result (λ at found wanted. IsFreeMarked areas truth) }
+    ensures told { (truth : Truth) → IsTold (B.tells blocks.old) areas (B.stands blocks.old) truth → IsTold (B.tells blocks.new) areas (B.stands blocks.new) truth }
+    ensures counts { Counts result (B.faults blocks.old) (B.faults blocks.new) }
+    ensures keeps_areas { B.areas blocks.new ≡ B.areas blocks.old }
+    ensures keeps_lender { B.lender blocks.new ≡ B.lender blocks.old }
+    ensures keeps_ready { B.ready blocks.new }
+{
+    let mut used = Vec::new(alloc);
+    for area in 0..areas {
+        let slots = slots_of(alloc, blocks, area)?;
+        put_area(&mut used, area, &slots)?;
+    }
+    Ok(used)
+}
+
+/// The slots of an area.
+fn slots_of<B: Blocks>(alloc: Global, blocks: &mut B, area: u16) -> Result<AreaBlock, AuditError>
+    requires ready { B.ready blocks.old }
+    requires area { area < B.areas blocks.old }
+    requires most { B.areas blocks.old ≤ 64 }
+    ensures spells { (truth : Truth) → IsTold (B.tells blocks.old) (B.areas blocks.old) (B.stands blocks.old) truth → IfOk result (λ slots. SpellsArea slots (truth (own_block area)).payload) }
+    ensures is { IfOk result IsArea }
+    ensures never { (truth : Truth) → IsTold (B.tells blocks.old) (B.areas blocks.old) (B.stands blocks.old) truth → IfTorn result (λ at found wanted. ⊥) }
+    ensures told { (truth : Truth) → IsTold (B.tells blocks.old) (B.areas blocks.old) (B.stands blocks.old) truth → IsTold (B.tells blocks.new) (B.areas blocks.old) (B.stands blocks.new) truth }
+    ensures counts { Counts result (B.faults blocks.old) (B.faults blocks.new) }
+    ensures keeps_areas { B.areas blocks.new ≡ B.areas blocks.old }
+    ensures keeps_lender { B.lender blocks.new ≡ B.lender blocks.old }
+    ensures keeps_ready { B.ready blocks.new }
+{
+    let at = 1024 * u64::from(area) + u64::from(SLOTS);
+    let Some(block) = blocks.block(at)? else {
+        return Err(AuditError::Torn(at, 0, 0));
+    };
+    match AreaBlock::read(alloc, block.payload.bytes())? {
+        Some(slots) => Ok(slots),
+        None => Err(AuditError::Torn(at, block.handle, 0)),
+    }
+}
+
+/// Puts the slots of an area that are in use behind others.
+fn put_area(used: &mut Vec<UsedSlot>, area: u16, slots: &AreaBlock) -> Result<(), AuditError>
+    requires { IsArea slots.now }
+    ensures ok { (areas : ℕ) (truth : Truth) → area < areas → SpellsArea slots.now (truth (own_block area)).payload → AreUsedBelow areas truth (1024 * area) used.old.items
+        → OnOk result (AreUsedBelow areas truth (1024 * (area + 1)) used.new.items) }
+    ensures torn { (areas : ℕ) (truth : Truth) → area < areas → SpellsArea slots.now (truth (own_block area)).payload → IfTorn result (λ at found wanted. IsFreeMarked areas truth) }
+    ensures no_fault { IsErrOf result DiskFailed → ⊥ }
+{
+    for slot in 0..SLOTS {
+        put_slot(used, area, slots, slot)?;
+    }
+    Ok(())
+}
+
+/// Puts a slot behind others, if it is in use.
+fn put_slot(
+    used: &mut Vec<UsedSlot>,
+    area: u16,
+    slots: &AreaBlock,
+    slot: u16,
+) -> Result<(), AuditError>
+    requires area { IsArea slots.now }
+    requires slot { slot < 960 }
+    ensures ok { (areas : ℕ) (truth : Truth) → area < areas → SpellsArea slots.now (truth (own_block area)).payload → AreUsedBelow areas truth (1024 * area + slot) used.old.items
+        → OnOk result (AreUsedBelow areas truth (1024 * area + (slot + 1)) used.new.items) }
+    ensures torn { (areas : ℕ) (truth : Truth) → area < areas → SpellsArea slots.now (truth (own_block area)).payload → IfTorn result (λ at found wanted. IsFreeMarked areas truth) }
+    ensures no_fault { IsErrOf result DiskFailed → ⊥ }
+{
+    let dead = slots.is_dead(slot);
+    if slots.is_used(slot) {
+        let name = ChunkHandle {
+            area,
+            slot,
+            generation: slots.generation(slot),
+        };
+        used.push(UsedSlot {
+            handle: name.number(),
+            dead,
+        })?;
+    } else if dead {
+        return Err(AuditError::Torn(
+            1024 * u64::from(area) + u64::from(slot),
+            0,
+            0,
+        ));
+    }
+    Ok(())
+}

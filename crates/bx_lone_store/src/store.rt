@@ -88,12 +88,14 @@ impl PlainStore {
 }
 
 impl Store for PlainStore {
-    ghost use Rattle.std.specs.Prelude.{◌+◌, true, refl};
+    ghost use Rattle.std.specs.Prelude.{◌+◌, ◌≢◌, true, refl};
     ghost use Rattle.std.proofs.Common.{sym, subst};
+    ghost use Rattle.bx_base.specs.declared.names.Actor.TheVariants.{Member, Node};
     ghost use Rattle.bx_disk.specs.Disks.{Disks, blanked};
+    ghost use Rattle.bx_facts.specs.Disks.{NeedsNoMore};
     ghost use Rattle.bx_global.specs.declared.change.Change.{Change};
     ghost use Rattle.bx_facts.specs.Chains.{last};
-    ghost use Rattle.bx_facts.specs.Writes.{IsSettled, StorePast, member_disk};
+    ghost use Rattle.bx_facts.specs.Writes.{IsSettled, StorePast, member_disk, store_crashed};
     ghost use Rattle.bx_plain_store.specs.Out.{out_at};
     ghost use Rattle.bx_lone_store.specs.Fits.{Keeps, WillRead};
     ghost use Rattle.bx_lone_store.specs.Growing.{keeps_grown, keeps_letters, keeps_new, keeps_sure, keeps_without};
@@ -225,7 +227,17 @@ impl Store for PlainStore {
         Ok(None)
     }
 
-    fn crash(&mut self, who: Actor) {
+    fn crash(&mut self, who: Actor)
+        ensures keeps { (x : Disks) (past : StorePast) → Keeps (made_of self.old.volume self.old.nodes self.old.devices self.old.areas) self.old.greatest self.old.owns.items self.old.slots.items x past → Keeps (made_of self.new.volume self.new.nodes self.new.devices self.new.areas) self.new.greatest self.new.owns.items self.new.slots.items x (store_crashed past who) }
+        ensures settled { (x : Disks) (past : StorePast) (device sector : ℕ) (content : List ℕ) → Keeps (made_of self.old.volume self.old.nodes self.old.devices self.old.areas) self.old.greatest self.old.owns.items self.old.slots.items x past → IsSettled x (last past.told.chain) device sector content → IsSettled x (last (store_crashed past who).told.chain) device sector content }
+        ensures stands { (x : Disks) (past : StorePast) (device sector : ℕ) (content : List ℕ) (index : ℕ) → Keeps (made_of self.old.volume self.old.nodes self.old.devices self.old.areas) self.old.greatest self.old.owns.items self.old.slots.items x past → IsSettled x (last past.told.chain) device sector content → IsSettled x (last (store_crashed past who).told.chain) device sector content }
+        ensures reads { (x : Disks) (past : StorePast) (reader sector : ℕ) (content : List ℕ) → who ≢ Node reader → Keeps (made_of self.old.volume self.old.nodes self.old.devices self.old.areas) self.old.greatest self.old.owns.items self.old.slots.items x past → WillRead (asked_at self.old.inquiries.items reader) (answer_at self.old.inquiries.items reader) x (last past.told.chain) sector content → WillRead (asked_at self.new.inquiries.items reader) (answer_at self.new.inquiries.items reader) x (last (store_crashed past who).told.chain) sector content }
+        ensures others { (node : ℕ) → who ≢ Node node → (at self.new.owns.items node ≡ at self.old.owns.items node) × (out_at self.new.slots.items node ≡ out_at self.old.slots.items node) × (asked_at self.new.inquiries.items node ≡ asked_at self.old.inquiries.items node) × (answer_at self.new.inquiries.items node ≡ answer_at self.old.inquiries.items node) }
+        ensures needs { NeedsNoMore (λ disk. needs_of (made_of self.old.volume self.old.nodes self.old.devices self.old.areas) self.old.down.items disk) (λ disk. needs_of (made_of self.new.volume self.new.nodes self.new.devices self.new.areas) self.new.down.items disk) }
+        ensures made { made_of self.new.volume self.new.nodes self.new.devices self.new.areas ≡ made_of self.old.volume self.old.nodes self.old.devices self.old.areas }
+        ensures ended { (node : ℕ) → who ≡ Node node → (at self.new.owns.items node ≡ None) × (out_at self.new.slots.items node ≡ None) × (asked_at self.new.inquiries.items node ≡ None) }
+        ensures down { (member : ℕ) → who ≡ Member member → needs_of (made_of self.new.volume self.new.nodes self.new.devices self.new.areas) self.new.down.items (3 + member) ≡ 0 }
+    {
         if let Actor::Node(node) = who {
             put_session(
                 node as usize,

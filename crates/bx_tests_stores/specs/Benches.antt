@@ -11,3 +11,10 @@ made = record { volume = 7; nodes = 2; devices = 1; areas = 1 }
 pub record IsBench (of_store : Made) (needs : ℕ → ℕ) (sizes : List ℕ) : Type 0 where
   pub made_is : of_store ≡ made
   pub room : HasRoom needs sizes
+
+-- Two nodes use a register and owners beside the store, and the rack has room for both.
+pub record IsShared (of_register of_owners : ℕ) (of_store : Made) (register_needs store_needs : ℕ → ℕ) (sizes : List ℕ) : Type 0 where
+  pub register : of_register ≡ 2
+  pub owners : of_owners ≡ 2
+  pub room : HasRoom register_needs sizes
+  pub store : IsBench of_store store_needs sizes

@@ -54,7 +54,13 @@ fn one_run(alloc: Global, place: u64, byte: u8) -> Result<Runs, OutOfMemory>
 }
 
 /// Sends a write of one sector, if nothing of the node is out, and says whether that went well.
-fn writes<S: Tells>(store: &mut S, alloc: Global, node: u32, place: u64, byte: u8) -> bool
+pub(crate) fn writes<S: Tells>(
+    store: &mut S,
+    alloc: Global,
+    node: u32,
+    place: u64,
+    byte: u8,
+) -> bool
     requires { S.made store.old ≡ made }
     ensures made { S.made store.new ≡ made }
     ensures needs { NeedsNoMore (S.needs store.old) (S.needs store.new) }
@@ -73,7 +79,7 @@ fn writes<S: Tells>(store: &mut S, alloc: Global, node: u32, place: u64, byte: u
 }
 
 /// Sends a read of one sector, if none of the node is out, and says whether that went well.
-fn reads<S: Tells>(store: &mut S, alloc: Global, node: u32, place: u64) -> bool
+pub(crate) fn reads<S: Tells>(store: &mut S, alloc: Global, node: u32, place: u64) -> bool
     requires { S.made store.old ≡ made }
     ensures made { S.made store.new ≡ made }
     ensures needs { NeedsNoMore (S.needs store.old) (S.needs store.new) }
@@ -129,7 +135,7 @@ fn has<R: Rack>(rack: &mut R, disk: u32, sector: u64, byte: u8) -> bool
 }
 
 /// Takes the answer to a node's read, and says whether it is this: nothing, or a sector all of whose bytes are this one.
-fn brings<S: Store>(store: &mut S, node: u32, wanted: Option<u8>) -> bool
+pub(crate) fn brings<S: Store>(store: &mut S, node: u32, wanted: Option<u8>) -> bool
     requires { S.made store.old ≡ made }
     ensures made { S.made store.new ≡ made }
     ensures needs { NeedsNoMore (S.needs store.old) (S.needs store.new) }

@@ -4,6 +4,8 @@
 #[cfg(test)]
 mod bench;
 #[cfg(test)]
+mod sharing;
+#[cfg(test)]
 mod stores;
 mod toy;
 

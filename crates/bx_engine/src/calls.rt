@@ -7,18 +7,18 @@ ghost use Rattle.bx_engine.specs.Calls.{IsBuilt, IsBuiltCall};
 
 use bx_base::OutOfMemory;
 use bx_model::{Args, Call, Sattr};
-use bx_rpc::NFS_PROGRAM;
+use bx_rpc::{MOUNT_PROGRAM, NFS_PROGRAM};
 use bx_tree_files::is_given;
 use std::alloc::Global;
-
-/// The procedure NULL (RFC 1094, section 2.2.1).
-const NULL: u32 = 0;
 
 /// The procedure GETATTR (RFC 1094, section 2.2.2).
 const GETATTR: u32 = 1;
 
 /// The procedure SETATTR (RFC 1094, section 2.2.3).
 const SETATTR: u32 = 2;
+
+/// The procedure UMNT of MOUNT (RFC 1094, appendix A, section 5.4).
+const UMNT: u32 = 3;
 
 /// The number and the call that a datagram is, if it is one that is attempted; `None` exactly where it isn't.
 pub(crate) fn built_call(alloc: Global, datagram: &[u8]) -> Result<Option<(u32, Call)>, OutOfMemory>
@@ -35,13 +35,13 @@ pub(crate) fn built_call(alloc: Global, datagram: &[u8]) -> Result<Option<(u32, 
     }
 }
 
-/// Whether a call is attempted: it is refused as a message, or it is NULL, GETATTR, or SETATTR of the mode alone.
+/// Whether a call is attempted: it is refused as a message, it has no arguments, or it is UMNT, GETATTR, or SETATTR of the mode alone.
 fn is_built(call: &Call) -> bool
     ensures { IsTrue result ↔ IsBuilt call.now }
 {
     match &call.args {
-        Args::Refused(_) => true,
-        Args::Nothing => call.program == NFS_PROGRAM && call.procedure == NULL,
+        Args::Refused(_) | Args::Nothing => true,
+        Args::Path(_) => call.program == MOUNT_PROGRAM && call.procedure == UMNT,
         Args::Handle(_) => call.program == NFS_PROGRAM && call.procedure == GETATTR,
         Args::Set(_, sattr) => {
             call.program == NFS_PROGRAM && call.procedure == SETATTR && sets_mode_alone(sattr)

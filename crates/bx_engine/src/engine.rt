@@ -18,7 +18,7 @@ ghost use Rattle.bx_engine.specs.Paths.{IsOnPath, PathOf};
 ghost use Rattle.bx_engine.specs.Steps.{StandsWith, Step};
 
 use crate::calls::built_call;
-use crate::replies::{answered, changed, stopped};
+use crate::replies::{answered, changed, plain, stopped};
 use crate::times::time_of;
 use bx_base::OutOfMemory;
 use bx_changes::set_mode;
@@ -39,8 +39,9 @@ pub struct BoxFs {
 
 impl BoxFs {
     /// Attempts a call over a view, by its client's number and its bytes, at a moment in milliseconds, at most 4294967295999. `None`
-    /// exactly where the bytes are none of the calls that are built so far: those that are refused as messages, NULL, GETATTR, and
-    /// SETATTR of the mode alone.
+    /// exactly where the bytes are none of the calls that are built so far: those that are refused as messages, those without
+    /// arguments (NULL, ROOT and WRITECACHE of NFS; NULL, DUMP, UMNTALL and EXPORT of MOUNT), UMNT of MOUNT, GETATTR, and SETATTR of
+    /// the mode alone.
     ///
     /// `Need` names the block of the file's inode, shared for GETATTR and exclusively for SETATTR, which isn't held then. A
     /// call that comes to an error is an `Answer`. On an error, which is want of memory alone, nothing is changed.
@@ -93,7 +94,8 @@ impl BoxFs {
     {
         match &call.args {
             Args::Refused(number) => answered(alloc, xid, Reply::Refused(*number, call.program)),
-            Args::Nothing => answered(alloc, xid, Reply::Empty),
+            Args::Nothing => answered(alloc, xid, plain(call.program, call.procedure)),
+            Args::Path(_) => answered(alloc, xid, Reply::Empty),
             Args::Handle(at) => self.getattr(alloc, xid, at.bytes(), view),
             Args::Set(at, sattr) => {
                 self.setattr(alloc, xid, call, at.bytes(), sattr, moment, view)

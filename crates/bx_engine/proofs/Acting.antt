@@ -1,6 +1,6 @@
 -- What comes to a procedure's outcome is one step of the tree.
 use Rattle.std.proofs.Common.{◌≡◌, ℕ, ◌≤◌, List, [], Some, refl, sym, ap, ◌∙◌, subst, inl, arith, lit≤}
-use Rattle.bx_engine.specs.Calls.{IsProcedure, IsUnmount}
+use Rattle.bx_engine.specs.Calls.{IsUnmount}
 use Rattle.bx_engine.specs.Outcomes.{Comes, ComesTo}
 use Rattle.bx_engine.specs.Steps.{StandsWith, Step}
 use Rattle.bx_inodes.specs.Stands.{Stands}
@@ -12,7 +12,7 @@ use Rattle.bx_model.specs.declared.reply.Reply.TheVariants as replies
 use Rattle.bx_model.specs.declared.tree.Tree.{Tree}
 use Rattle.bx_model.specs.Act.{act, given, about_file}
 use Rattle.bx_model.specs.Mounting.{mount, plain}
-use Rattle.bx_model.specs.Reading.{getattr}
+use Rattle.bx_model.specs.Reading.{getattr, readlink}
 use Rattle.bx_model.specs.Steps.{Outcome, done, plainly}
 use Rattle.bx_model.specs.Writing.{setattr}
 use Rattle.std.specs.Prelude.{Result, Ok, IfOk}
@@ -45,8 +45,14 @@ module _ (tree : Tree) (call : Call) (moment : ℕ) where
   pub unmount_acts : (path : List ℕ) → call.args ≡ Path path → IsUnmount call → ActsSo (Ok (replies.Empty, tree))
   unmount_acts path is p = by_args (Path path) (Ok (replies.Empty, tree)) is (ap (λ (procedure : ℕ). plainly tree 0 (Ok (mount tree procedure path, tree))) p.procedure)
 
-  pub getattr_acts : (at : List ℕ) → call.args ≡ Handle at → IsProcedure 1 call → ActsSo (getattr tree at)
-  getattr_acts at is p = by_args (Handle at) (getattr tree at) is (ap (λ (procedure : ℕ). plainly tree 0 (about_file tree procedure at 8)) p.procedure)
+  about_file_acts : (at : List ℕ) (number : ℕ) → call.args ≡ Handle at → call.procedure ≡ number → ActsSo (about_file tree number at 8)
+  about_file_acts at number is p = by_args (Handle at) (about_file tree number at 8) is (ap (λ (procedure : ℕ). plainly tree 0 (about_file tree procedure at 8)) p)
+
+  pub getattr_acts : (at : List ℕ) → call.args ≡ Handle at → call.procedure ≡ 1 → ActsSo (getattr tree at)
+  getattr_acts at is p = about_file_acts at 1 is p
+
+  pub readlink_acts : (at : List ℕ) → call.args ≡ Handle at → call.procedure ≡ 5 → ActsSo (readlink tree at)
+  readlink_acts at is p = about_file_acts at 5 is p
 
   pub setattr_acts : (at : List ℕ) (sattr : Sattr) → call.args ≡ Set at sattr → ActsSo (setattr tree call at sattr (time_of moment))
   setattr_acts at sattr is = by_args (Set at sattr) (setattr tree call at sattr (time_of moment)) is refl

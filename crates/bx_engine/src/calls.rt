@@ -3,7 +3,7 @@
 ghost use Rattle.std.specs.Prelude.{◌↔◌, IsTrue, IfOk, IfSome, IfNone};
 ghost use Rattle.bx_changes.specs.Changes.{SetsModeAlone};
 ghost use Rattle.bx_nfs.specs.Wire.{ReadsAs};
-ghost use Rattle.bx_engine.specs.Calls.{IsBuilt, IsBuiltCall};
+ghost use Rattle.bx_engine.specs.Calls.{IsAboutFile, IsBuilt, IsBuiltCall};
 
 use bx_base::OutOfMemory;
 use bx_model::{Args, Call, Sattr};
@@ -16,6 +16,9 @@ const GETATTR: u32 = 1;
 
 /// The procedure SETATTR (RFC 1094, section 2.2.3).
 const SETATTR: u32 = 2;
+
+/// The procedure READLINK (RFC 1094, section 2.2.6).
+pub(crate) const READLINK: u32 = 5;
 
 /// The procedure UMNT of MOUNT (RFC 1094, appendix A, section 5.4).
 const UMNT: u32 = 3;
@@ -35,19 +38,27 @@ pub(crate) fn built_call(alloc: Global, datagram: &[u8]) -> Result<Option<(u32, 
     }
 }
 
-/// Whether a call is attempted: it is refused as a message, it has no arguments, or it is UMNT, GETATTR, or SETATTR of the mode alone.
+/// Whether a call is attempted: it is refused as a message, it has no arguments, or it is UMNT, GETATTR,
+/// READLINK, or SETATTR of the mode alone.
 fn is_built(call: &Call) -> bool
     ensures { IsTrue result ↔ IsBuilt call.now }
 {
     match &call.args {
         Args::Refused(_) | Args::Nothing => true,
         Args::Path(_) => call.program == MOUNT_PROGRAM && call.procedure == UMNT,
-        Args::Handle(_) => call.program == NFS_PROGRAM && call.procedure == GETATTR,
+        Args::Handle(_) => call.program == NFS_PROGRAM && is_about_file(call.procedure),
         Args::Set(_, sattr) => {
             call.program == NFS_PROGRAM && call.procedure == SETATTR && sets_mode_alone(sattr)
         }
         _ => false,
     }
+}
+
+/// Whether a procedure is GETATTR or READLINK.
+fn is_about_file(procedure: u32) -> bool
+    ensures { IsTrue result ↔ IsAboutFile procedure }
+{
+    procedure == GETATTR || procedure == READLINK
 }
 
 /// Whether the mode is given, and nothing else.

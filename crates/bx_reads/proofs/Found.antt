@@ -1,6 +1,6 @@
 -- The file that a file handle names, by the inode that is found.
-use Rattle.std.proofs.Common.{◌≡◌, ℕ, ◌<◌, ◌^◌, arith, List, [], sym, ap, ◌∙◌, subst, Option, Some, None}
-use Rattle.std.specs.Prelude.{Err, option_and_then}
+use Rattle.std.proofs.Common.{◌≡◌, ℕ, arith, List, [], sym, ap, ◌∙◌, subst, Some, None}
+use Rattle.std.specs.Prelude.{Err}
 use Rattle.bx_handles.specs.Handles.{named}
 use Rattle.bx_inodes.specs.declared.stop.Stop.{Stop}
 use Rattle.bx_inodes.specs.declared.stop.Stop.TheVariants.{Need, Inner, Status, OutOfMemory}
@@ -8,14 +8,12 @@ use Rattle.bx_inodes.specs.Inodes.{FileAt, HoldsInode, IsInodeOf}
 use Rattle.bx_inodes.specs.Stands.{Stands}
 use Rattle.bx_layout.specs.declared.inode.Inode.{Inode}
 use Rattle.bx_model.specs.declared.tree.Tree.{Tree}
-use Rattle.bx_model.specs.FileTrees.{IsFileTree}
 use Rattle.bx_model.specs.Reading.{named_file, path_of}
 use Rattle.bx_records.specs.Drafts.{Changed}
 use Rattle.bx_tree_files.specs.declared.file.Body.{Body}
 use Rattle.bx_tree_files.specs.declared.file.Body.TheVariants.{Bytes, Path, Names}
 use Rattle.bx_tree_files.specs.declared.file.File.{File}
-use Rattle.bx_tree_files.specs.Files.{file_at, size_of}
-use Rattle.bx_tree_laws.proofs.Rises.{contains_at}
+use Rattle.bx_tree_files.specs.Files.{file_at}
 use Rattle.bx_truth.specs.Chunks.{chunks_of}
 use Rattle.bx_truth.specs.PageTrees.{Chunks}
 use Rattle.bx_truth.specs.Stands.{StandsFor, IsAnInode, IsOwned}
@@ -23,18 +21,7 @@ use Rattle.bx_truth.specs.Stored.{HasBody, IsFileOr, Owner, Stored}
 use Rattle.bx_truth.proofs.OneFiles.{one_inode}
 use Rattle.bx_views.specs.Truths.{Truth, with_draft}
 use Rattle.bx_reads.specs.Files.{IsNamed, NamesFile}
-
--- a draft of nothing leaves what stood for a tree
-over_none : (areas : ℕ) (truth : Truth) (tree : Tree) (draft : List Changed) → draft ≡ [] → StandsFor areas truth tree → StandsFor areas (with_draft truth draft) tree
-over_none areas truth tree draft none is = subst (λ (d : List Changed). StandsFor areas (with_draft truth d) tree) (sym none) is
-
--- files of a file tree have sizes of 31 bits
-size_fits : (tree : Tree) (handle : ℕ) (file : File) → IsFileTree tree → file_at tree.files handle ≡ Some file → size_of file.body < 2 ^ 31
-size_fits tree handle file is there = (is.is_file file (contains_at tree.files handle file there)).size
-
--- the file that is named, by the handle that the bytes have
-named_as : (tree : Tree) (volume : ℕ) (bytes : List ℕ) (o : Option ℕ) → tree.volume ≡ volume → o ≡ named volume bytes → named_file tree bytes ≡ option_and_then (file_at tree.files) o
-named_as tree volume bytes o same is = (λ i. option_and_then (file_at tree.files) (named (same i) bytes)) ∙ ap (option_and_then (file_at tree.files)) (sym is)
+use Rattle.bx_reads.proofs.Told.{named_as, over_none, size_fits}
 
 -- the path of a link's inode is the file's
 body_path : (chunks : Chunks) (owner : ℕ → Owner) (handle : ℕ) (stored : Stored) (body : Body) → HasBody chunks owner handle stored body → stored.inode.kind ≡ 5 → path_of body ≡ stored.inode.path

@@ -1,6 +1,14 @@
 -- What the procedures are answered, by the file that is found.
 use Rattle.std.proofs.Common.{◌≡◌, ℕ, Bool, true, false, eqb-true, List, refl, sym, ap, ◌∙◌, subst, Option}
 use Rattle.std.specs.Prelude.{◌≢◌, ◌==◌, not, Result, Ok, Err}
+use Rattle.std.specs.Prelude.{◌<◌, ◌^◌, option_and_then, [], Some}
+use Rattle.bx_handles.specs.Handles.{named}
+use Rattle.bx_model.specs.FileTrees.{IsFileTree}
+use Rattle.bx_records.specs.Drafts.{Changed}
+use Rattle.bx_tree_files.specs.Files.{file_at, size_of}
+use Rattle.bx_tree_laws.proofs.Rises.{contains_at}
+use Rattle.bx_truth.specs.Stands.{StandsFor}
+use Rattle.bx_views.specs.Truths.{Truth, with_draft}
 use Rattle.bx_inodes.specs.declared.stop.Stop.{Stop}
 use Rattle.bx_inodes.specs.declared.stop.Stop.TheVariants.{Need, Inner, Status, OutOfMemory}
 use Rattle.bx_layout.specs.declared.inode.Inode.{Inode}
@@ -15,6 +23,18 @@ use Rattle.bx_tree_files.specs.Files.{is_link}
 use Rattle.bx_truth.proofs.Cases.{eq_false, eq_true}
 use Rattle.bx_reads.specs.Answers.{IsOutcome}
 use Rattle.bx_reads.specs.Files.{IsNamed, NamesFile}
+
+-- a draft of nothing leaves what stood for a tree
+pub over_none : (areas : ℕ) (truth : Truth) (tree : Tree) (draft : List Changed) → draft ≡ [] → StandsFor areas truth tree → StandsFor areas (with_draft truth draft) tree
+over_none areas truth tree draft none is = subst (λ (d : List Changed). StandsFor areas (with_draft truth d) tree) (sym none) is
+
+-- files of a file tree have sizes of 31 bits
+pub size_fits : (tree : Tree) (handle : ℕ) (file : File) → IsFileTree tree → file_at tree.files handle ≡ Some file → size_of file.body < 2 ^ 31
+size_fits tree handle file is there = (is.is_file file (contains_at tree.files handle file there)).size
+
+-- the file that is named, by the handle that the bytes have
+pub named_as : (tree : Tree) (volume : ℕ) (bytes : List ℕ) (o : Option ℕ) → tree.volume ≡ volume → o ≡ named volume bytes → named_file tree bytes ≡ option_and_then (file_at tree.files) o
+named_as tree volume bytes o same is = (λ i. option_and_then (file_at tree.files) (named (same i) bytes)) ∙ ap (option_and_then (file_at tree.files)) (sym is)
 
 -- what READLINK does with a file
 abbrev pub linked : Tree → File → Outcome

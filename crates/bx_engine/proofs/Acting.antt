@@ -1,18 +1,18 @@
 -- What comes to a procedure's outcome is one step of the tree.
 use Rattle.std.proofs.Common.{◌≡◌, ℕ, ◌≤◌, List, [], Some, refl, sym, ap, ◌∙◌, subst, inl, arith, lit≤}
-use Rattle.bx_engine.specs.Calls.{IsProcedure}
+use Rattle.bx_engine.specs.Calls.{IsUnmount}
 use Rattle.bx_engine.specs.Outcomes.{Comes, ComesTo}
 use Rattle.bx_engine.specs.Steps.{StandsWith, Step}
 use Rattle.bx_inodes.specs.Stands.{Stands}
 use Rattle.bx_model.specs.declared.call.Args.{Args}
-use Rattle.bx_model.specs.declared.call.Args.TheVariants.{Refused, Nothing, Handle, Set}
+use Rattle.bx_model.specs.declared.call.Args.TheVariants.{Refused, Nothing, Handle, Set, Path}
 use Rattle.bx_model.specs.declared.call.Call.{Call}
 use Rattle.bx_model.specs.declared.reply.Reply.{Reply}
 use Rattle.bx_model.specs.declared.reply.Reply.TheVariants as replies
 use Rattle.bx_model.specs.declared.tree.Tree.{Tree}
 use Rattle.bx_model.specs.Act.{act, given, about_file}
-use Rattle.bx_model.specs.Mounting.{plain}
-use Rattle.bx_model.specs.Reading.{getattr}
+use Rattle.bx_model.specs.Mounting.{mount, plain}
+use Rattle.bx_model.specs.Reading.{getattr, readlink}
 use Rattle.bx_model.specs.Steps.{Outcome, done, plainly}
 use Rattle.bx_model.specs.Writing.{setattr}
 use Rattle.std.specs.Prelude.{Result, Ok, IfOk}
@@ -39,11 +39,20 @@ module _ (tree : Tree) (call : Call) (moment : ℕ) where
   pub refused_acts : (number : ℕ) → call.args ≡ Refused number → ActsSo (Ok (replies.Refused number call.program, tree))
   refused_acts number is = by_args (Refused number) (Ok (replies.Refused number call.program, tree)) is refl
 
-  pub nothing_acts : call.args ≡ Nothing → IsProcedure 0 call → ActsSo (Ok (replies.Empty, tree))
-  nothing_acts is p = by_args Nothing (Ok (replies.Empty, tree)) is ((λ i. plainly tree 0 (Ok (plain (p.program i) (p.procedure i), tree))))
+  pub nothing_acts : call.args ≡ Nothing → ActsSo (Ok (plain call.program call.procedure, tree))
+  nothing_acts is = by_args Nothing (Ok (plain call.program call.procedure, tree)) is refl
 
-  pub getattr_acts : (at : List ℕ) → call.args ≡ Handle at → IsProcedure 1 call → ActsSo (getattr tree at)
-  getattr_acts at is p = by_args (Handle at) (getattr tree at) is (ap (λ (procedure : ℕ). plainly tree 0 (about_file tree procedure at 8)) p.procedure)
+  pub unmount_acts : (path : List ℕ) → call.args ≡ Path path → IsUnmount call → ActsSo (Ok (replies.Empty, tree))
+  unmount_acts path is p = by_args (Path path) (Ok (replies.Empty, tree)) is (ap (λ (procedure : ℕ). plainly tree 0 (Ok (mount tree procedure path, tree))) p.procedure)
+
+  about_file_acts : (at : List ℕ) (number : ℕ) → call.args ≡ Handle at → call.procedure ≡ number → ActsSo (about_file tree number at 8)
+  about_file_acts at number is p = by_args (Handle at) (about_file tree number at 8) is (ap (λ (procedure : ℕ). plainly tree 0 (about_file tree procedure at 8)) p)
+
+  pub getattr_acts : (at : List ℕ) → call.args ≡ Handle at → call.procedure ≡ 1 → ActsSo (getattr tree at)
+  getattr_acts at is p = about_file_acts at 1 is p
+
+  pub readlink_acts : (at : List ℕ) → call.args ≡ Handle at → call.procedure ≡ 5 → ActsSo (readlink tree at)
+  readlink_acts at is p = about_file_acts at 5 is p
 
   pub setattr_acts : (at : List ℕ) (sattr : Sattr) → call.args ≡ Set at sattr → ActsSo (setattr tree call at sattr (time_of moment))
   setattr_acts at sattr is = by_args (Set at sattr) (setattr tree call at sattr (time_of moment)) is refl

@@ -1,21 +1,37 @@
 -- The calls that are attempted, by their bytes.
-use Rattle.std.specs.Prelude.{◌≡◌, ℕ, List}
+use Rattle.std.specs.Prelude.{◌≡◌, ℕ, ◌⊎◌, List}
 use Rattle.bx_changes.specs.Changes.{SetsModeAlone}
 use Rattle.bx_model.specs.declared.call.Args.{Args}
-use Rattle.bx_model.specs.declared.call.Args.TheVariants.{Refused, Nothing, Handle, Set}
+use Rattle.bx_model.specs.declared.call.Args.TheVariants.{Refused, Nothing, Handle, Set, Path}
 use Rattle.bx_model.specs.declared.call.Call.{Call}
 use Rattle.bx_nfs.specs.Wire.{ReadsAs}
+
+-- the procedures about a file alone that are built: GETATTR (1) and READLINK (5)
+abbrev pub IsAboutFile : ℕ → Type 0
+IsAboutFile procedure = (procedure ≡ 1) ⊎ (procedure ≡ 5)
+
+-- the call is one of those
+pub record AsksAboutFile (call : Call) : Type 0 where
+  pub program : call.program ≡ 100003
+  pub procedure : IsAboutFile call.procedure
 
 -- the call is this procedure of NFS
 pub record IsProcedure (number : ℕ) (call : Call) : Type 0 where
   pub program : call.program ≡ 100003
   pub procedure : call.procedure ≡ number
 
--- The calls that are built: those that are refused, and of NFS NULL (0), GETATTR (1), and SETATTR (2) where it sets the mode alone.
+-- the call is UMNT (3) of MOUNT
+pub record IsUnmount (call : Call) : Type 0 where
+  pub program : call.program ≡ 100005
+  pub procedure : call.procedure ≡ 3
+
+-- The calls that are built: those that are refused; those without arguments, which are NULL, ROOT and WRITECACHE of NFS, and NULL, DUMP,
+-- UMNTALL and EXPORT of MOUNT; UMNT of MOUNT; and of NFS GETATTR (1), READLINK (5), and SETATTR (2) where it sets the mode alone.
 abbrev pub HasBuiltArgs : Call → Args → Type 0
 HasBuiltArgs call (Refused number) = Unit {0}
-HasBuiltArgs call Nothing = IsProcedure 0 call
-HasBuiltArgs call (Handle handle) = IsProcedure 1 call
+HasBuiltArgs call Nothing = Unit {0}
+HasBuiltArgs call (Path path) = IsUnmount call
+HasBuiltArgs call (Handle handle) = AsksAboutFile call
 HasBuiltArgs call (Set handle sattr) = IsProcedure 2 call × SetsModeAlone sattr
 HasBuiltArgs call _ = ⊥
 
@@ -29,10 +45,11 @@ pub record IsBuiltCall (bytes : List ℕ) : Type 0 where
   pub reads : ReadsAs bytes xid call
   pub built : IsBuilt call
 
--- The calls that are answered whatever is held: those that are refused, and NULL.
+-- The calls that are answered whatever is held: those that are refused, those without arguments, and UMNT.
 abbrev pub HasNoFile : Call → Args → Type 0
 HasNoFile call (Refused number) = Unit {0}
-HasNoFile call Nothing = IsProcedure 0 call
+HasNoFile call Nothing = Unit {0}
+HasNoFile call (Path path) = IsUnmount call
 HasNoFile call _ = ⊥
 
 abbrev pub IsAtOnce : Call → Type 0

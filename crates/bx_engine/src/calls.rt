@@ -3,22 +3,25 @@
 ghost use Rattle.std.specs.Prelude.{◌↔◌, IsTrue, IfOk, IfSome, IfNone};
 ghost use Rattle.bx_changes.specs.Changes.{SetsModeAlone};
 ghost use Rattle.bx_nfs.specs.Wire.{ReadsAs};
-ghost use Rattle.bx_engine.specs.Calls.{IsBuilt, IsBuiltCall};
+ghost use Rattle.bx_engine.specs.Calls.{IsAboutFile, IsBuilt, IsBuiltCall};
 
 use bx_base::OutOfMemory;
 use bx_model::{Args, Call, Sattr};
-use bx_rpc::NFS_PROGRAM;
+use bx_rpc::{MOUNT_PROGRAM, NFS_PROGRAM};
 use bx_tree_files::is_given;
 use std::alloc::Global;
-
-/// The procedure NULL (RFC 1094, section 2.2.1).
-const NULL: u32 = 0;
 
 /// The procedure GETATTR (RFC 1094, section 2.2.2).
 const GETATTR: u32 = 1;
 
 /// The procedure SETATTR (RFC 1094, section 2.2.3).
 const SETATTR: u32 = 2;
+
+/// The procedure READLINK (RFC 1094, section 2.2.6).
+pub(crate) const READLINK: u32 = 5;
+
+/// The procedure UMNT of MOUNT (RFC 1094, appendix A, section 5.4).
+const UMNT: u32 = 3;
 
 /// The number and the call that a datagram is, if it is one that is attempted; `None` exactly where it isn't.
 pub(crate) fn built_call(alloc: Global, datagram: &[u8]) -> Result<Option<(u32, Call)>, OutOfMemory>
@@ -35,19 +38,27 @@ pub(crate) fn built_call(alloc: Global, datagram: &[u8]) -> Result<Option<(u32, 
     }
 }
 
-/// Whether a call is attempted: it is refused as a message, or it is NULL, GETATTR, or SETATTR of the mode alone.
+/// Whether a call is attempted: it is refused as a message, it has no arguments, or it is UMNT, GETATTR,
+/// READLINK, or SETATTR of the mode alone.
 fn is_built(call: &Call) -> bool
     ensures { IsTrue result ↔ IsBuilt call.now }
 {
     match &call.args {
-        Args::Refused(_) => true,
-        Args::Nothing => call.program == NFS_PROGRAM && call.procedure == NULL,
-        Args::Handle(_) => call.program == NFS_PROGRAM && call.procedure == GETATTR,
+        Args::Refused(_) | Args::Nothing => true,
+        Args::Path(_) => call.program == MOUNT_PROGRAM && call.procedure == UMNT,
+        Args::Handle(_) => call.program == NFS_PROGRAM && is_about_file(call.procedure),
         Args::Set(_, sattr) => {
             call.program == NFS_PROGRAM && call.procedure == SETATTR && sets_mode_alone(sattr)
         }
         _ => false,
     }
+}
+
+/// Whether a procedure is GETATTR or READLINK.
+fn is_about_file(procedure: u32) -> bool
+    ensures { IsTrue result ↔ IsAboutFile procedure }
+{
+    procedure == GETATTR || procedure == READLINK
 }
 
 /// Whether the mode is given, and nothing else.

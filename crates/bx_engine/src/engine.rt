@@ -6,19 +6,20 @@ ghost use Rattle.bx_changes.specs.Changes.{SetsModeAlone};
 ghost use Rattle.bx_inodes.specs.Stands.{Stands};
 ghost use Rattle.bx_inodes.specs.Stops.{OnInode};
 ghost use Rattle.bx_model.specs.declared.tree.Tree.{Tree};
-ghost use Rattle.bx_model.specs.Reading.{getattr as getattr_of};
+ghost use Rattle.bx_model.specs.declared.call.Args.TheVariants.{Handle as HandleArgs};
+ghost use Rattle.bx_model.specs.Reading.{getattr as getattr_of, readlink as readlink_of};
 ghost use Rattle.bx_model.specs.Writing.{setattr as setattr_of};
 ghost use Rattle.bx_nfs.specs.Wire.{ReadsAs};
 ghost use Rattle.bx_tree_files.specs.Times.{time_of as time_of_moment};
 ghost use Rattle.bx_views.specs.Attempts.{Gives, IsAnswer, IsFair};
 ghost use Rattle.bx_views.specs.Truths.{IsTruth, Truth};
-ghost use Rattle.bx_engine.specs.Calls.{IsAtOnce, IsAtOnceCall, IsBuilt, IsBuiltCall};
+ghost use Rattle.bx_engine.specs.Calls.{IsAboutFile, IsAtOnce, IsAtOnceCall, IsBuilt, IsBuiltCall};
 ghost use Rattle.bx_engine.specs.Outcomes.{Comes, TellsNothing, WritesOne};
 ghost use Rattle.bx_engine.specs.Paths.{IsOnPath, PathOf};
 ghost use Rattle.bx_engine.specs.Steps.{StandsWith, Step};
 
-use crate::calls::built_call;
-use crate::replies::{answered, changed, stopped};
+use crate::calls::{READLINK, built_call};
+use crate::replies::{answered, changed, plain, stopped};
 use crate::times::time_of;
 use bx_base::OutOfMemory;
 use bx_changes::set_mode;
@@ -39,10 +40,11 @@ pub struct BoxFs {
 
 impl BoxFs {
     /// Attempts a call over a view, by its client's number and its bytes, at a moment in milliseconds, at most 4294967295999. `None`
-    /// exactly where the bytes are none of the calls that are built so far: those that are refused as messages, NULL, GETATTR, and
+    /// exactly where the bytes are none of the calls that are built so far: those that are refused as messages, those without
+    /// arguments (NULL, ROOT and WRITECACHE of NFS; NULL, DUMP, UMNTALL and EXPORT of MOUNT), UMNT of MOUNT, GETATTR, READLINK, and
     /// SETATTR of the mode alone.
     ///
-    /// `Need` names the block of the file's inode, shared for GETATTR and exclusively for SETATTR, which isn't held then. A
+    /// `Need` names the block of the file's inode, shared for GETATTR and READLINK and exclusively for SETATTR, which isn't held then. A
     /// call that comes to an error is an `Answer`. On an error, which is want of memory alone, nothing is changed.
     pub fn attempt<V: View>(
         &self,
@@ -93,12 +95,57 @@ impl BoxFs {
     {
         match &call.args {
             Args::Refused(number) => answered(alloc, xid, Reply::Refused(*number, call.program)),
-            Args::Nothing => answered(alloc, xid, Reply::Empty),
-            Args::Handle(at) => self.getattr(alloc, xid, at.bytes(), view),
+            Args::Nothing => answered(alloc, xid, plain(call.program, call.procedure)),
+            Args::Path(_) => answered(alloc, xid, Reply::Empty),
+            Args::Handle(at) => self.about_file(alloc, xid, call, at.bytes(), view),
             Args::Set(at, sattr) => {
                 self.setattr(alloc, xid, call, at.bytes(), sattr, moment, view)
             }
             _ => unreachable!(),
+        }
+    }
+
+    /// The procedures about the file that a file handle names.
+    fn about_file<V: View>(
+        &self,
+        alloc: Global,
+        xid: u32,
+        call: &Call,
+        at: &[u8],
+        view: &V,
+    ) -> Result<Attempt, OutOfMemory>
+        requires handle { call.now.args ≡ HandleArgs at.now }
+        requires procedure { IsAboutFile call.now.procedure }
+        ensures gives { (client moment : ℕ) (bytes : List ℕ) (truth : Truth) (tree : Tree) (free : ℕ) → moment ≤ 4294967295999 → ReadsAs bytes xid call.now → IsTruth (V.held view.now) truth
+            → Stands self.now.volume self.now.areas truth tree → IfOk result (Gives (StandsWith self.now.volume self.now.areas) Step free client bytes moment truth tree) }
+        ensures fair { IfOk result (IsFair self.now.areas (V.held view.now) (OnInode self.now.volume at.now Shared)) }
+        ensures writes { IfOk result (WritesOne (OnInode self.now.volume at.now Shared)) }
+        ensures tells { IfOk result TellsNothing }
+    {
+        if call.procedure == READLINK {
+            self.readlink(alloc, xid, at, view)
+        } else {
+            self.getattr(alloc, xid, at, view)
+        }
+    }
+
+    /// READLINK of the link that a file handle names.
+    fn readlink<V: View>(
+        &self,
+        alloc: Global,
+        xid: u32,
+        at: &[u8],
+        view: &V,
+    ) -> Result<Attempt, OutOfMemory>
+        ensures comes { (truth : Truth) (tree : Tree) → IsTruth (V.held view.now) truth → Stands self.now.volume self.now.areas truth tree
+            → IfOk result (Comes self.now.volume self.now.areas truth tree xid (readlink_of tree at.now)) }
+        ensures fair { IfOk result (IsFair self.now.areas (V.held view.now) (OnInode self.now.volume at.now Shared)) }
+        ensures writes { IfOk result (WritesOne (OnInode self.now.volume at.now Shared)) }
+        ensures tells { IfOk result TellsNothing }
+    {
+        match bx_reads::readlink(alloc, self.volume, self.areas, at, view) {
+            Ok(reply) => answered(alloc, xid, reply),
+            Err(stop) => stopped(alloc, xid, stop),
         }
     }
 

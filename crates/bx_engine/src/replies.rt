@@ -1,6 +1,7 @@
 //! What attempts answer.
 
 ghost use Rattle.std.specs.Prelude.{◌≡◌, IfOk};
+ghost use Rattle.bx_model.specs.Mounting.{plain as plain_of};
 ghost use Rattle.bx_views.specs.declared.attempt.Attempt.TheVariants.{Answer, Change};
 ghost use Rattle.bx_engine.specs.Replies.{IsStopped, done_of};
 
@@ -8,11 +9,29 @@ use bx_base::OutOfMemory;
 use bx_inodes::Stop;
 use bx_model::Reply;
 use bx_records::{Draft, Wants};
+use bx_rpc::MOUNT_PROGRAM;
 use bx_views::{Attempt, Done};
 use std::alloc::Global;
 
 /// The count of free blocks that is told where it doesn't matter: enough.
 const ENOUGH: u64 = 8;
+
+/// The procedure DUMP of MOUNT (RFC 1094, appendix A, section 5.3).
+const DUMP: u32 = 2;
+
+/// The procedure EXPORT of MOUNT (RFC 1094, appendix A, section 5.6).
+const EXPORT: u32 = 5;
+
+/// What a procedure without arguments answers, by the program's number and its own.
+pub(crate) fn plain(program: u32, procedure: u32) -> Reply
+    ensures { result ≡ plain_of program procedure }
+{
+    match (program, procedure) {
+        (MOUNT_PROGRAM, DUMP) => Reply::Mounts,
+        (MOUNT_PROGRAM, EXPORT) => Reply::Exports,
+        _ => Reply::Empty,
+    }
+}
 
 /// What is told of a call that acted, by the call's number and its reply: no free blocks, and no file that it made.
 fn told(alloc: Global, xid: u32, reply: Reply) -> Result<Done, OutOfMemory>

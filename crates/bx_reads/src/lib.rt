@@ -2,7 +2,10 @@
 #![tactic(auto)]
 
 mod attributes;
+mod files;
+mod links;
 mod shown;
 
 pub use attributes::getattr;
+pub use links::readlink;
 pub use shown::attributes_by;

@@ -1,6 +1,6 @@
 use Rattle.std.proofs.Common.{◌≡◌, ◌∙◌, ℕ, List, sym, ap, subst}
 use Rattle.std.specs.Prelude.{Ok, IfOk}
-use Rattle.bx_engine.proofs.Acting.{getattr_acts, gives_by, nothing_acts, refused_acts, setattr_acts}
+use Rattle.bx_engine.proofs.Acting.{gives_by, nothing_acts, refused_acts, setattr_acts, unmount_acts}
 use Rattle.bx_engine.proofs.Stopping.{answered_comes}
 use Rattle.bx_engine.specs.Calls.{HasBuiltArgs}
 use Rattle.bx_engine.specs.Outcomes.{WritesOne}
@@ -8,7 +8,7 @@ use Rattle.bx_engine.specs.Paths.{PathOf}
 use Rattle.bx_model.specs.declared.call.Args.{Args}
 use Rattle.bx_model.specs.declared.call.Args.TheVariants.{Handle, Set}
 use Rattle.bx_model.specs.declared.reply.Reply.TheVariants as replies
-use Rattle.bx_model.specs.Reading.{getattr}
+use Rattle.bx_model.specs.Mounting.{plain}
 use Rattle.bx_model.specs.Steps.{Outcome}
 use Rattle.bx_model.specs.Writing.{setattr}
 use Rattle.bx_tree_files.specs.Times.{time_of}
@@ -29,25 +29,36 @@ pub returns-in-Nothing-clause-gives : goal.returns-in-Nothing-clause-gives
 returns-in-Nothing-clause-gives g c = λ client bytes truth tree free reads same s.
     let fs = c.args.self.now in
     let call = c.args.call.now in
+    let reply = plain call.program call.procedure in
+    let outcome : Outcome = Ok (reply, tree) in
+    gives_by fs.volume fs.areas client bytes c.args.moment free truth tree c.args.xid call outcome reads c.requires.moment
+    (nothing_acts tree call c.args.moment c.in-Nothing.is) s c.answered-in-Nothing.result
+    (answered_comes fs.volume fs.areas truth tree c.args.xid reply c.answered-in-Nothing.result (rw c.plain.ensures at c.answered-in-Nothing.ensures))
+
+pub returns-in-Path-clause-gives : goal.returns-in-Path-clause-gives
+returns-in-Path-clause-gives g c = λ client bytes truth tree free reads same s.
+    let fs = c.args.self.now in
+    let call = c.args.call.now in
     let outcome : Outcome = Ok (replies.Empty, tree) in
     gives_by fs.volume fs.areas client bytes c.args.moment free truth tree c.args.xid call outcome reads c.requires.moment
-    (nothing_acts tree call c.args.moment c.in-Nothing.is (subst (HasBuiltArgs call) c.in-Nothing.is c.requires.built)) s c.answered-in-Nothing.result
-    (answered_comes fs.volume fs.areas truth tree c.args.xid replies.Empty c.answered-in-Nothing.result c.answered-in-Nothing.ensures)
+    (unmount_acts tree call c.args.moment c.in-Path.field-0 c.in-Path.is (subst (HasBuiltArgs call) c.in-Path.is c.requires.built)) s c.answered-in-Path.result
+    (answered_comes fs.volume fs.areas truth tree c.args.xid replies.Empty c.answered-in-Path.result c.answered-in-Path.ensures)
+
+pub about_file-requires-clause-handle : goal.about_file-requires-clause-handle
+about_file-requires-clause-handle g c = c.in-Handle.is ∙ ap (λ (b : List ℕ). Handle b) (sym c.bytes.ensures)
+
+pub about_file-requires-clause-procedure : goal.about_file-requires-clause-procedure
+about_file-requires-clause-procedure g c = (subst (HasBuiltArgs c.args.call.now) c.in-Handle.is c.requires.built).procedure
 
 pub returns-in-Handle-clause-gives : goal.returns-in-Handle-clause-gives
 returns-in-Handle-clause-gives g c = λ client bytes truth tree free reads same s.
-    let fs = c.args.self.now in
-    let call = c.args.call.now in
-    let at = c.bytes.result.now in
-    let is : call.args ≡ Handle at = c.in-Handle.is ∙ ap (λ (b : List ℕ). Handle b) (sym c.bytes.ensures) in
-    gives_by fs.volume fs.areas client bytes c.args.moment free truth tree c.args.xid call (getattr tree at) reads c.requires.moment
-    (getattr_acts tree call c.args.moment at is (subst (HasBuiltArgs call) is c.requires.built)) s c.getattr.result (c.getattr.ensures.comes truth tree same s)
+    c.about_file.ensures.gives client c.args.moment bytes truth tree free c.requires.moment reads same s
 
 pub returns-in-Handle-clause-fair : goal.returns-in-Handle-clause-fair
 returns-in-Handle-clause-fair g c =
     let fs = c.args.self.now in
     let is : c.args.call.now.args ≡ Handle c.bytes.result.now = c.in-Handle.is ∙ ap (λ (b : List ℕ). Handle b) (sym c.bytes.ensures) in
-    subst (λ (args : Args). IfOk c.getattr.result (IsFair fs.areas (g.V.View.held c.args.view.now) (PathOf fs.volume args))) (sym is) c.getattr.ensures.fair
+    subst (λ (args : Args). IfOk c.about_file.result (IsFair fs.areas (g.V.View.held c.args.view.now) (PathOf fs.volume args))) (sym is) c.about_file.ensures.fair
 
 pub returns-in-Set-clause-gives : goal.returns-in-Set-clause-gives
 returns-in-Set-clause-gives g c = λ client bytes truth tree free reads same s.

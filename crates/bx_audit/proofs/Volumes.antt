@@ -1,14 +1,14 @@
 -- What a volume stands for as it reads.
-use Rattle.std.proofs.Common.{◌≡◌, ◌↔◌, ℕ, zero, suc, ◌⊎◌, inl, inr, arith, Bool, true, false, sym, ap, ◌∙◌, subst, refl, Option, Some, None}
+use Rattle.std.proofs.Common.{◌≡◌, ◌↔◌, ℕ, zero, suc, inl, inr, arith, Bool, true, false, sym, ap, subst, refl, Option, Some, None}
 use Rattle.std.specs.Prelude.{slice_get}
 use Rattle.bx_audit.specs.Audited.{StandFor}
-use Rattle.bx_disk.specs.Disks.{Disks, Image, IsImage}
+use Rattle.bx_disk.specs.Disks.{Disks, IsImage}
 use Rattle.bx_global.specs.declared.state.GlobalState.{GlobalState}
 use Rattle.bx_model.specs.declared.tree.Tree.{Tree}
 use Rattle.bx_overlay.proofs.There.{is_source}
 use Rattle.bx_rows.specs.declared.device.DeviceRow.{DeviceRow}
 use Rattle.bx_rows.specs.Modes.{IsReadAtA}
-use Rattle.bx_volume.specs.Images.{AreReadFrom, ShowsTree}
+use Rattle.bx_volume.specs.Images.{ShowsTree}
 use Rattle.bx_volume.specs.Volumes.{IsVolumeFor}
 
 -- whether reads go to member B in a mode

@@ -3,7 +3,7 @@ use Rattle.std.proofs.Common.{◌≡◌, ℕ, Bool, List, inl, inr, sym, ap, ◌
 use Rattle.std.specs.Prelude.{Contains, IfErr}
 use Rattle.bx_audit.specs.Audited.{AreOpen, IsRefusal, IsTorn, StandFor, StandForNone}
 use Rattle.bx_audit.specs.Blocks.{StandForNoTree, blocks_of}
-use Rattle.bx_disk.specs.Disks.{Disks, Image}
+use Rattle.bx_disk.specs.Disks.{Disks}
 use Rattle.bx_global.specs.declared.state.GlobalState.{GlobalState}
 use Rattle.bx_homes.specs.Slots.{AreBlocks}
 use Rattle.bx_layout.specs.declared.label.Label.{Label}
@@ -18,7 +18,7 @@ use Rattle.bx_tree_files.specs.Files.{file_at}
 use Rattle.bx_truth.specs.Stands.{StandsFor}
 use Rattle.bx_truth.proofs.OneFiles.{one_list}
 use Rattle.bx_views.specs.Truths.{Truth}
-use Rattle.bx_volume.specs.Images.{AreReadFrom, IsFirstLabel, ShowsTree, ImageStandsFor}
+use Rattle.bx_volume.specs.Images.{AreReadFrom, IsFirstLabel, ShowsTree}
 use Rattle.bx_truth.specs.Chunks.{chunks_of}
 
 -- a tree with the files and the root of a file tree is one, once their handles were given out
@@ -42,7 +42,7 @@ file_tree_of a b is files root given = subst IsFileTree same record {
 
 module _ (disks : Disks) (state : GlobalState) (read : VolumeDisks) (is : IsRead disks state read)
     (blocks : (second : ℕ → Bool) (tree : Tree) → IsRead disks state read → AreReadFrom state second → (shows : ShowsTree disks.sizes disks.reads state second tree)
-        → AreBlocks read.members.areas (blocks_of disks read) shows.truth)
+    → AreBlocks read.members.areas (blocks_of disks read) shows.truth)
     (truth_of : (truth : Truth) → IsRead disks state read → AreBlocks read.members.areas (blocks_of disks read) truth → HoldsTruth disks.reads state read truth)
     (one_first : (a b : Label) → IsFirstLabel disks.sizes disks.reads a → IsFirstLabel disks.sizes disks.reads b → a ≡ b) where
   -- the tree that a truth with these blocks stands for
@@ -92,7 +92,7 @@ module _ (disks : Disks) (state : GlobalState) (read : VolumeDisks) (is : IsRead
       let here = any s.0 s.1 in
       let there = s.2 in
       let files : other.files ≡ tree.files =
-          one_list (chunks_of read.members.areas s.0) there.owner here.owner there.stored here.stored other.files tree.files there.in_order here.in_order there.are_files here.are_files in
+      one_list (chunks_of read.members.areas s.0) there.owner here.owner there.stored here.stored other.files tree.files there.in_order here.in_order there.are_files here.are_files in
       refuted (file_tree_of other tree s.3 files (there.root_is ∙ sym here.root_is) given)
 
   -- the records that are open

@@ -1,6 +1,5 @@
 -- What is read of the blocks of a volume, and of the tree that they stand for.
-use Rattle.std.proofs.Common.{◌≡◌, ℕ, ◌<◌, ◌≤◌, ◌⊎◌, inl, inr, arith, Bool, true, false, List, [], sym, ap, ◌∙◌, subst, refl, Some, Err}
-use Rattle.std.specs.Prelude.{nat_lt, nat_le, ◌&&◌, Contains}
+use Rattle.std.proofs.Common.{◌≡◌, ℕ, ◌<◌, ◌≤◌, ◌⊎◌, inl, inr, arith, Bool, true, false, List, [], sym, ◌∙◌, subst, refl, Err}
 use Rattle.std.proofs.lemmas.Bool.Decides.{nat_tests}
 use Rattle.bx_audit.specs.Audited.{IsTorn}
 use Rattle.bx_audit.specs.Blocks.{error_of}
@@ -23,7 +22,6 @@ use Rattle.bx_overlay.specs.Members.{held_by}
 use Rattle.bx_overlay.specs.Newest.{Newest, StandsOver}
 use Rattle.bx_overlay.specs.Refusals.{IsBreak, UnlessFault, audit_error}
 use Rattle.bx_places.specs.Places.{IsBlock, is_block, block_area, block_slot}
-use Rattle.bx_tree_files.specs.declared.file.Body.{Body}
 use Rattle.bx_tree_files.specs.declared.file.Body.TheVariants.{Names}
 use Rattle.bx_tree_files.specs.declared.file.File.{File}
 use Rattle.bx_tree_files.specs.declared.file.Name.{Name}

@@ -3,7 +3,9 @@
 
 mod audits;
 mod blocks;
+mod laws;
 mod listing;
 
 pub use audits::audit;
+pub use laws::a_volume_is_listed;
 pub use listing::Listing;

@@ -1,8 +1,5 @@
-use Rattle.std.proofs.Common.{◌≡◌, ⊎_elim, ◌∙◌}
-use Rattle.bx_audit.specs.declared.listing.Listing.{Listing}
-use Rattle.bx_audit.specs.Audited.{IsListed, IsRefusal}
+use Rattle.std.proofs.Common.{⊎_elim, ◌∙◌}
 use Rattle.bx_audit.proofs.Shown.{err_too, ok_too}
-use Rattle.bx_overlay.specs.declared.error.AuditError.{AuditError}
 use Rattle.bx_audit.proofs.audits.audit.Goals as goal
 
 pub returns-clause-stands : goal.returns-clause-stands

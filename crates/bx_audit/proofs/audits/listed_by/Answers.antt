@@ -1,4 +1,4 @@
-use Rattle.std.proofs.Common.{◌≡◌, ◌⊎◌, ⊎_elim, inl, inr, ℕ, Err, ap, subst, ◌∙◌}
+use Rattle.std.proofs.Common.{◌⊎◌, ⊎_elim, inl, inr, Err, ap, subst, ◌∙◌}
 use Rattle.std.proofs.lemmas.Result.{err_from_is_err_and}
 use Rattle.bx_audit.specs.Audited.{IsRefusal, IsTorn}
 use Rattle.bx_audit.specs.Blocks.{StandForNoTree, blocks_of}
@@ -48,7 +48,7 @@ returns-in_err-text-clause-err g c = λ tells.
     let error = c.in_err-text.field-0.0 in
     let tree = c.in_ok-tree.tree in
     let any = subst (λ (d : Disks). (truth : Truth) → AreBlocks read.members.areas (blocks_of d read) truth → StandsFor read.members.areas truth tree) (c.in_ok-read.ensures.stays tells)
-        (c.in_ok-tree.ensures.any (c.in_ok-read.ensures.keeps_telling tells)) in
+    (c.in_ok-tree.ensures.any (c.in_ok-read.ensures.keeps_telling tells)) in
     if_err (λ (e : AuditError). IsBreak e ⊎ IsRefusal disks state e) error c.from_residual-in_err-text.result (p.1 ∙ ap Err p.2)
     (⊎_elim (λ ran_out. inl (inr ran_out))
     (λ torn. inr (wrong_blocks disks state read is blocks truth_of one error torn.0 (no_file_tree disks state read is blocks truth_of one tree any c.in_ok-tree.ensures.ordered.given torn.1)))
@@ -66,7 +66,7 @@ returns-clause-ok g c = λ tells.
     let tree = c.in_ok-tree.tree in
     let keeps = c.in_ok-read.ensures.keeps_telling tells in
     let any = subst (λ (d : Disks). (truth : Truth) → AreBlocks read.members.areas (blocks_of d read) truth → StandsFor read.members.areas truth tree) (c.in_ok-read.ensures.stays tells)
-        (c.in_ok-tree.ensures.any keeps) in
+    (c.in_ok-tree.ensures.any keeps) in
     let there = subst (λ (d : Disks). (truth : Truth) × AreBlocks read.members.areas (blocks_of d read) truth) (c.in_ok-read.ensures.stays tells) (c.in_ok-tree.ensures.there keeps) in
     record {
       tree = tree;

@@ -1,4 +1,4 @@
-use Rattle.std.proofs.Common.{◌≡◌, ◌⊎◌, ℕ, IfOk, sym, subst, ◌∙◌}
+use Rattle.std.proofs.Common.{◌⊎◌, ℕ, IfOk, sym, subst, ◌∙◌}
 use Rattle.std.specs.Prelude.{IfErr, OnOk}
 use Rattle.bx_audit.specs.Audited.{IsTorn}
 use Rattle.bx_audit.specs.Blocks.{StandForNoTree}

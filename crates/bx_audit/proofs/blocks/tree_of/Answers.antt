@@ -1,4 +1,4 @@
-use Rattle.std.proofs.Common.{◌≡◌, ◌⊎◌, ℕ, Err, subst, sym, ap, ◌∙◌}
+use Rattle.std.proofs.Common.{◌≡◌, ◌⊎◌, Err, subst, sym}
 use Rattle.bx_audit.specs.Audited.{IsTorn}
 use Rattle.bx_audit.specs.Blocks.{StandForNoTree}
 use Rattle.bx_audit.proofs.Trees.{a_truth, all_torn, counts_of, end_of, in_order, is_told}
@@ -34,7 +34,7 @@ returns-in-Err-clause-keeps_telling g c = λ tells.
 pub returns-in-Err-clause-err : goal.returns-in-Err-clause-err
 returns-in-Err-clause-err g c = λ tells.
     let told = λ (truth : Truth) (are : AreBlocks c.args.areas (g.B.Blocks.stands c.args.blocks.now) truth). is_told (g.B.Blocks.tells c.args.blocks.now) (g.B.Blocks.tells c.first_fault.new.blocks) c.args.areas (g.B.Blocks.stands c.args.blocks.now)
-        (g.B.Blocks.stands c.first_fault.new.blocks) truth tells c.in_ok-at.ensures.keeps_telling c.in_ok-at.ensures.stays are (of_none c.in_ok-at.field-0 c.in_default.is (c.in_ok-at.ensures.none tells) truth are) in
+    (g.B.Blocks.stands c.first_fault.new.blocks) truth tells c.in_ok-at.ensures.keeps_telling c.in_ok-at.ensures.stays are (of_none c.in_ok-at.field-0 c.in_default.is (c.in_ok-at.ensures.none tells) truth are) in
     subst (λ (e : AuditError). IsBreak e ⊎ (IsTorn e × StandForNoTree c.args.areas (g.B.Blocks.stands c.args.blocks.now))) (sym c.audit_error.ensures)
     (end_of (StandForNoTree c.args.areas (g.B.Blocks.stands c.args.blocks.now)) c.in-Err.error
     (all_torn c.in-Err.error (AreBlocks c.args.areas (g.B.Blocks.stands c.args.blocks.now)) (StandsForNone c.args.areas) (λ truth are. c.in-Err.ensures.torn truth (told truth are))))

@@ -1,0 +1,7 @@
+//! Tests of audits of whole volumes.
+#![tactic(auto)]
+
+#[cfg(test)]
+mod audits;
+#[cfg(test)]
+mod volume;

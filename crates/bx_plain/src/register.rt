@@ -40,10 +40,15 @@ impl PlainRegister {
 }
 
 impl Register for PlainRegister {
-    ghost use Rattle.std.specs.Prelude.{⊤, [], ◌∷◌, refl};
+    ghost use Rattle.std.specs.Prelude.{⊤, [], ◌∷◌, refl, IfOk, IsErrOf, OnOk};
+    ghost use Rattle.bx_base.specs.Faults.{Rose};
+    ghost use Rattle.bx_base.specs.declared.names.Actor.{Actor};
+    ghost use Rattle.bx_disk.specs.Counts.{NoneFalls};
+    ghost use Rattle.bx_facts.specs.Disks.{SameDisks};
+    ghost use Rattle.bx_facts.specs.declared.input.OpenError.TheVariants.{Disk as OpenFails};
     ghost use Rattle.std.proofs.Common.{inl};
     ghost use Rattle.bx_disk.specs.Disks.{Image, Disks};
-    ghost use Rattle.bx_facts.specs.Pasts.{RegisterPast};
+    ghost use Rattle.bx_facts.specs.Pasts.{RegisterPast, found_register};
     ghost use Rattle.bx_plain.specs.Standing.{IsUnchanged, is_last, is_legal, is_next, is_place, needs_little};
 
     ghost made = { λ g. g.state };
@@ -109,7 +114,20 @@ impl Register for PlainRegister {
         Ok(())
     }
 
-    fn open<R: Rack>(&mut self, _rack: &mut R) -> Result<u64, OpenError> {
+    fn open<R: Rack>(&mut self, _rack: &mut R) -> Result<u64, OpenError>
+        ensures keeps { R.tells _rack.old → self.old.busy.items ≡ [] → IfOk result (λ boot. IsUnchanged self.new.state (found_register self.new.state boot)) }
+        ensures found { R.tells _rack.old → self.old.busy.items ≡ [] → OnOk result (self.new.state ≡ self.old.state) }
+        ensures boots { self.old.busy.items ≡ [] → IfOk result (λ boot. ∥ IsAboveBoots self.new.state (boot + 1) ∥₁) }
+        ensures knows { self.old.busy.items ≡ [] → (who : Actor) → OnOk result (self.new.state ≡ self.new.state) }
+        ensures idle { self.old.busy.items ≡ [] → (who : Actor) → OnOk result (Contains self.new.busy.items who → ⊥) }
+        ensures made { (self.new.state ≡ self.old.state) × (self.new.nodes ≡ self.old.nodes) }
+        ensures disks { R.tells _rack.old → SameDisks (R.state _rack.old) (R.state _rack.new) }
+        ensures cause { IsErrOf result OpenFails → Rose (R.faults _rack.old) (R.faults _rack.new) }
+        ensures later { NoneFalls (R.faults _rack.old) (R.faults _rack.new) (R.faults_of _rack.old) (R.faults_of _rack.new) }
+        ensures sizes { (R.state _rack.new).sizes ≡ (R.state _rack.old).sizes }
+        ensures keeps_telling { R.tells _rack.old → R.tells _rack.new }
+        ensures opens { result ≡ Ok 0 }
+    {
         Ok(0)
     }
 

@@ -1,2 +1,3 @@
 pub mod Found
+pub mod FreeSpace
 pub mod Told

@@ -1,9 +1,9 @@
 -- What is found, inode by inode.
-use Rattle.std.proofs.Common.{◌≡◌, ℕ, ◌+◌, ◌<◌, ◌⊎◌, ⊎_elim, inl, inr, arith, Bool, true, false, List, [], length, sym, ap, ◌∙◌, subst, refl, Option, Some, None}
+use Rattle.std.proofs.Common.{◌≡◌, ℕ, ◌⊎◌, ⊎_elim, inl, inr, Bool, List, [], length, sym, ap, ◌∙◌, subst, refl, Option, Some, None}
 use Rattle.std.specs.Prelude.{◌≢◌, ◌==◌, if◌then◌else◌, Contains}
 use Rattle.bx_audit_bodies.specs.declared.claims.Claim.{Claim}
 use Rattle.bx_audit_owners.specs.declared.holders.Holder.{Holder}
-use Rattle.bx_audit_owners.specs.declared.holders.Holder.TheVariants.{File as OfFile, Dead as OfDead, Page as OfPage, Piece as OfPiece}
+use Rattle.bx_audit_owners.specs.declared.holders.Holder.TheVariants.{File as OfFile}
 use Rattle.bx_audit_owners.specs.Holding.{Holdings, holder_by, holder_for, Adds}
 use Rattle.bx_audit_owners.specs.Found.{Reading, IsReadSo, IsInode, IsFound}
 use Rattle.bx_layout.specs.declared.inode.Inode.{Inode}
@@ -42,7 +42,6 @@ claims_no_inode a (Some k) is = is
 pub holder_there : (o : Option Holder) → IsInode o → (x : Holder) × (o ≡ Some x) × IsInode (Some x)
 holder_there None is = absurd is
 holder_there (Some x) is = (x, refl, is)
-
 
 no_inode : Inode
 no_inode = record { kind = 0; mode = 0; nlink = 0; uid = 0; gid = 0; size = 0; tail = 0; atime = (0, 0); mtime = (0, 0); ctime = (0, 0); tree = 0; parent = 0; next = 0; path = [] }

@@ -1,15 +1,13 @@
 -- What has the chunks, claim by claim.
-use Rattle.std.proofs.Common.{◌≡◌, ℕ, zero, suc, ◌+◌, ◌<◌, ◌≤◌, ◌⊎◌, ⊎_elim, inl, inr, arith, Bool, true, false, List, [], ◌∷◌, length, get_or, sym, ap, ◌∙◌, subst, refl, Option, Some, None}
-use Rattle.std.specs.Prelude.{◌≢◌, Contains, slice_index_or}
-use Rattle.std.specs.BTreeMap.{BTreeMap, get, is_at}
+use Rattle.std.proofs.Common.{◌≡◌, ℕ, zero, suc, ◌+◌, ◌<◌, ◌≤◌, ◌⊎◌, ⊎_elim, inl, inr, arith, List, [], ◌∷◌, length, sym, ap, ◌∙◌, subst, refl, Some, None}
+use Rattle.std.specs.Prelude.{slice_index_or}
+use Rattle.std.specs.BTreeMap.{BTreeMap, is_at}
 use Rattle.std.specs.Ordering.{nat_cmp}
 use Rattle.std.specs.Map.{lookup}
 use mathlib.Core.Path.{fun_ext}
 use Rattle.bx_audit_bodies.specs.declared.claims.Claim.{Claim}
 use Rattle.bx_audit_owners.specs.declared.holders.Holder.{Holder}
-use Rattle.bx_audit_owners.specs.declared.holders.Holder.TheVariants.{File as OfFile, Dead as OfDead, Page as OfPage, Piece as OfPiece}
-use Rattle.bx_audit_owners.specs.Holding.{Holdings, holdings_of, owner_of, holder_by, Puts, HasOther, IsAmong, IsHeldAfter, Adds, Clashes}
-use Rattle.bx_truth.specs.Stored.{Owner, Inodes, PageOf, DataOf}
+use Rattle.bx_audit_owners.specs.Holding.{Holdings, holdings_of, holder_by, Puts, HasOther, IsAmong, IsHeldAfter, Adds, Clashes}
 use Rattle.bx_truth.proofs.Cases.{same_or}
 
 some_same : {X : Type 0} (x y : X) → Some x ≡ Some y → x ≡ y

@@ -1,6 +1,6 @@
 -- Files in order, and their handles.
-use Rattle.std.proofs.Common.{◌≡◌, ℕ, ◌<◌, ◌⊎◌, ⊎_elim, inl, inr, arith, Bool, true, false, List, [], sym, ap, ◌∙◌, subst, refl, Option, Some, None}
-use Rattle.std.specs.Prelude.{◌≢◌, ◌==◌, if◌then◌else◌, Contains}
+use Rattle.std.proofs.Common.{◌≡◌, ℕ, ⊎_elim, arith, Bool, List, [], sym, ap, ◌∙◌, subst, refl, Option, Some, None}
+use Rattle.std.specs.Prelude.{◌≢◌, if◌then◌else◌, Contains}
 use Rattle.bx_audit_bodies.specs.Reading.{AreEntriesApart}
 use Rattle.bx_audit_owners.specs.Found.{AreOrdered}
 use Rattle.bx_tree_files.specs.declared.file.File.{File}

@@ -1,6 +1,5 @@
 -- The slots in use, slot by slot.
-use Rattle.std.proofs.Common.{◌≡◌, ℕ, ◌+◌, ◌*◌, ◌^◌, ◌<◌, ◌≤◌, ◌⊎◌, ⊎_elim, inl, inr, arith, Bool, true, false, List, [], ◌∷◌, ◌++◌, get_or, sym, ap, ◌∙◌, subst, refl, Some, None}
-use Rattle.std.specs.Prelude.{Contains}
+use Rattle.std.proofs.Common.{◌≡◌, ℕ, ◌+◌, ◌*◌, ◌^◌, ◌<◌, ◌≤◌, ◌⊎◌, ⊎_elim, arith, true, false, List, [], ◌∷◌, ◌++◌, get_or, sym, ap, ◌∙◌, subst}
 use Rattle.std.proofs.lemmas.List.Elements.{Contains-push, Contains-push_cases, Contains-append_left}
 use Rattle.bx_audit_owners.specs.declared.slots.UsedSlot.{UsedSlot}
 use Rattle.bx_audit_owners.specs.UsedSlots.{IsUsedSlot, AreUsedBelow, AreUsed, IsFreeMarked}
@@ -8,7 +7,7 @@ use Rattle.bx_handles.specs.Handles.{number_of}
 use Rattle.bx_layout.specs.declared.area.AreaBlock.{AreaBlock}
 use Rattle.bx_layout.specs.Areas.{SpellsArea, in_use, generation_in, is_dead}
 use Rattle.bx_places.specs.Places.{block_area, block_slot}
-use Rattle.bx_truth.specs.Chunks.{IsSlot, handle_of, own_block, word_in, dead_in, word_at, dead_at}
+use Rattle.bx_truth.specs.Chunks.{IsSlot, own_block, word_in, dead_in, word_at, dead_at}
 use Rattle.bx_truth.proofs.Words.{word_is, dead_is}
 use Rattle.bx_views.specs.Truths.{Truth}
 

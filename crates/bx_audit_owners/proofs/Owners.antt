@@ -1,14 +1,12 @@
 -- What is found, and whatever files there are.
-use Rattle.std.proofs.Common.{◌≡◌, ℕ, ◌+◌, ◌<◌, ◌^◌, ◌⊎◌, ⊎_elim, inl, inr, arith, List, [], length, get_or, sym, ap, ◌∙◌, subst, refl, Option, Some, None}
+use Rattle.std.proofs.Common.{◌≡◌, ℕ, ◌<◌, ◌^◌, ⊎_elim, inl, inr, arith, List, length, get_or, sym, ap, ◌∙◌, subst, refl, Option, Some, None}
 use Rattle.std.specs.Prelude.{◌≢◌, Contains, IfSome}
-use Rattle.bx_audit_bodies.specs.declared.claims.Claim.{Claim}
 use Rattle.bx_audit_bodies.specs.Claims.{AgreesWith, owner_by}
 use Rattle.bx_audit_bodies.specs.Reading.{IsStored, IsOnly}
 use Rattle.bx_audit_owners.specs.declared.holders.Holder.{Holder}
 use Rattle.bx_audit_owners.specs.declared.holders.Holder.TheVariants.{File as OfFile, Dead as OfDead, Page as OfPage, Piece as OfPiece}
 use Rattle.bx_audit_owners.specs.Holding.{Holdings, IsHeldAfter, Clashes, owner_of, holder_by, holder_for}
 use Rattle.bx_audit_owners.specs.Found.{Reading, IsReadSo, IsInode, IsFound, AreAllRead, HaveFiles}
-use Rattle.bx_audit_owners.proofs.Founds.{holder_there}
 use Rattle.bx_layout.specs.declared.block.Block.{Block}
 use Rattle.bx_tree_files.specs.declared.file.Body.{Body}
 use Rattle.bx_tree_files.specs.declared.file.Body.TheVariants.{Bytes, Path, Names}
@@ -18,10 +16,10 @@ use Rattle.bx_tree_files.specs.Files.{IsFile, file_at}
 use Rattle.bx_page.specs.Contents.{value_of}
 use Rattle.bx_truth.specs.Keys.{entry_key, name_key, content_key, content_value}
 use Rattle.bx_truth.specs.PageTrees.{Chunks, map_of}
-use Rattle.bx_truth.specs.Stands.{AreFiles, IsOwned, IsAnInode, IsAPage, IsAPiece}
-use Rattle.bx_truth.specs.Stored.{Owner, Inodes, PageOf, DataOf, Stored, IsContent, IsFileOr, HasBody, IsOfName, AreNames}
+use Rattle.bx_truth.specs.Stands.{IsOwned, IsAnInode}
+use Rattle.bx_truth.specs.Stored.{Owner, Inodes, PageOf, DataOf, Stored, IsContent, IsFileOr, HasBody, IsOfName}
 use Rattle.bx_truth.proofs.OneFiles.{itself}
-use Rattle.bx_truth.proofs.PieceKeys.{one_handle, one_index}
+use Rattle.bx_truth.proofs.PieceKeys.{one_handle}
 
 none_some : {X : Type 0} (o : Option X) (x : X) → o ≡ None → o ≡ Some x → ⊥
 none_some o x none some = absurd cc

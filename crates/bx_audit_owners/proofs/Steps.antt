@@ -1,10 +1,10 @@
 -- One inode more is found, or can't be.
-use Rattle.std.proofs.Common.{◌≡◌, ℕ, ◌<◌, List, [], length, sym, ap, ◌∙◌, subst, refl, Option, Some, None, IfNone}
+use Rattle.std.proofs.Common.{◌≡◌, ℕ, List, length, sym, ap, ◌∙◌, refl, Option, Some, None, IfNone}
 use Rattle.std.specs.Prelude.{◌≢◌, IfSome}
 use Rattle.bx_audit_bodies.specs.declared.claims.Claim.{Claim}
 use Rattle.bx_audit_bodies.specs.Reading.{IsReadAs, IsStored}
 use Rattle.bx_audit_owners.specs.declared.holders.Holder.{Holder}
-use Rattle.bx_audit_owners.specs.declared.holders.Holder.TheVariants.{File as OfFile, Dead as OfDead}
+use Rattle.bx_audit_owners.specs.declared.holders.Holder.TheVariants.{File as OfFile}
 use Rattle.bx_audit_owners.specs.Found.{Reading, IsReadSo, IsFound, HaveNoFiles}
 use Rattle.bx_audit_owners.specs.Holding.{Holdings, Adds, Clashes, holder_for}
 use Rattle.bx_audit_owners.proofs.Founds.{one_found}

@@ -1,15 +1,15 @@
 -- What the blocks of a volume stand for, once all is found.
-use Rattle.std.proofs.Common.{◌≡◌, ℕ, ◌+◌, ◌*◌, ◌<◌, ◌≤◌, ◌^◌, ◌%◌, ◌/◌, ◌⊎◌, ⊎_elim, inl, inr, arith, Bool, true, false, List, [], length, sym, ap, ◌∙◌, subst, refl, Option, Some, None}
+use Rattle.std.proofs.Common.{◌≡◌, ℕ, ◌<◌, ◌≤◌, ◌^◌, ◌%◌, ◌/◌, arith, Bool, true, false, List, sym, ap, ◌∙◌, subst, refl, Option, Some, None}
 use Rattle.std.specs.Prelude.{◌≢◌, ◌&&◌, ◌==◌, if◌then◌else◌, Contains}
 use Rattle.std.proofs.lemmas.Bool.Decides.{nat_tests}
 use Rattle.bx_audit_owners.specs.declared.holders.Holder.{Holder}
 use Rattle.bx_audit_owners.specs.declared.holders.Holder.TheVariants.{File as OfFile, Dead as OfDead, Page as OfPage, Piece as OfPiece}
 use Rattle.bx_audit_owners.specs.declared.slots.UsedSlot.{UsedSlot}
 use Rattle.bx_audit_owners.specs.Found.{IsInode, IsFound, AreAllRead, AreOrdered, HaveFiles}
-use Rattle.bx_audit_owners.specs.Holding.{Holdings, IsHeld, owner_of, holder_by}
+use Rattle.bx_audit_owners.specs.Holding.{Holdings, IsHeld, owner_of}
 use Rattle.bx_audit_owners.specs.Told.{IsTold}
 use Rattle.bx_audit_owners.specs.UsedSlots.{IsUsedSlot, AreUsed, IsFreeMarked}
-use Rattle.bx_audit_owners.proofs.Owners.{owner_in, found_owner, found_stored, no_file, inodes_own, owns_itself, stored_here, only_here, agrees, inode_owns, unowned}
+use Rattle.bx_audit_owners.proofs.Owners.{owner_in, found_owner, found_stored, no_file, inodes_own, stored_here, only_here, agrees, unowned}
 use Rattle.bx_audit_trees.specs.Shown.{Shows}
 use Rattle.bx_layout.specs.declared.block.Block.{Block}
 use Rattle.bx_layout.specs.Areas.{in_use, generation_in}
@@ -17,7 +17,7 @@ use Rattle.bx_model.specs.declared.tree.Tree.{Tree}
 use Rattle.bx_model.specs.FileTrees.{IsFileTree}
 use Rattle.bx_model.specs.Opening.{root_handle}
 use Rattle.bx_tree_files.specs.declared.file.File.{File}
-use Rattle.bx_tree_files.specs.Files.{IsFile, file_at}
+use Rattle.bx_tree_files.specs.Files.{file_at}
 use Rattle.bx_tree_laws.proofs.Rises.{contains_at}
 use Rattle.bx_truth.specs.Chunks.{IsSlot, is_slot, block_at, handle_of, chunks_of, word_at, dead_at}
 use Rattle.bx_truth.specs.PageTrees.{Chunks}

@@ -2,7 +2,7 @@
 use Rattle.std.specs.Prelude.{◌≡◌, ℕ, ◌<◌, true, false, List, Contains}
 use Rattle.bx_audit_owners.specs.declared.slots.UsedSlot.{UsedSlot}
 use Rattle.bx_layout.specs.Areas.{in_use, generation_in}
-use Rattle.bx_truth.specs.Chunks.{IsSlot, block_at, handle_of, word_at, dead_at}
+use Rattle.bx_truth.specs.Chunks.{IsSlot, handle_of, word_at, dead_at}
 use Rattle.bx_views.specs.Truths.{Truth}
 
 -- the slot of this block is in use, under this handle, and marked so

@@ -114,11 +114,7 @@ fn put_slot(
             dead,
         })?;
     } else if dead {
-        return Err(AuditError::Torn(
-            1024 * u64::from(area) + u64::from(slot),
-            0,
-            0,
-        ));
+        return Err(AuditError::Torn(1024 * u64::from(area) + u64::from(slot), 0, 0));
     }
     Ok(())
 }

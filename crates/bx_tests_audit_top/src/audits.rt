@@ -29,7 +29,12 @@ fn put(rack: &mut MemRack, put: &Put) -> Result<(), Fail> {
     let end = front.len().min(4000);
     bytes[512..512 + end].copy_from_slice(&front[..end]);
     bytes[512 + usize::from(place).min(4095)] = byte;
-    let sector = AREA + if at == 960 { 0 } else { 9 * (u64::from(at) + 1) };
+    let sector = AREA
+        + if at == 960 {
+            0
+        } else {
+            9 * (u64::from(at) + 1)
+        };
     if MEMBER < rack.disks() && sector + 9 <= rack.sectors(MEMBER) {
         write_some(rack, MEMBER, sector, &bytes)?;
     }

@@ -44,7 +44,7 @@ returns-in_err-put_inode-clause-torn g c = λ chunks shows there found.
     let before = holdings_of c.args.found.now.holders in
     let claims = c.in_ok-file.field-0.claims.items in
     let read : IsReadAs chunks c.args.handle c.in_ok-file.field-0.file c.in_ok-file.field-0.claims.items =
-        (c.in_ok-file.ensures.ok chunks (c.in_ok-is_inode.ensures.shows chunks shows)) in
+    (c.in_ok-file.ensures.ok chunks (c.in_ok-is_inode.ensures.shows chunks shows)) in
     let holder : c.holder_of-holder.result ≡ holder_for c.in_ok-file.field-0.file = cc in
     if_torn _ _ c.in_err-put_inode.field-0.0 c.from_residual-in_err-put_inode.result (p.1 ∙ ap Err p.2)
     (λ at f wanted clash. clash_has_none chunks before c.args.found.now.files c.args.handle claims found c.in_ok-file.field-0.file inode.0 read inode.1 inode.2
@@ -66,10 +66,10 @@ returns-clause-ok g c = λ chunks shows found.
     let now = holdings_of c.put_inode.new.holders in
     let claims = c.in_ok-file.field-0.claims.items in
     let read : IsReadAs chunks c.args.handle c.in_ok-file.field-0.file c.in_ok-file.field-0.claims.items =
-        (c.in_ok-file.ensures.ok chunks (c.in_ok-is_inode.ensures.shows chunks shows)) in
+    (c.in_ok-file.ensures.ok chunks (c.in_ok-is_inode.ensures.shows chunks shows)) in
     let holder : c.holder_of-holder.result ≡ holder_for c.in_ok-file.field-0.file = cc in
     let adds = subst (λ (h : Holder). Adds before c.args.handle h claims (length claims) now) holder
-        (subst (λ (l : List Claim). Adds before c.args.handle c.holder_of-holder.result l (length l) now) c.as_slice.ensures.value c.in_ok-put_inode.ensures.ok) in
+    (subst (λ (l : List Claim). Adds before c.args.handle c.holder_of-holder.result l (length l) now) c.as_slice.ensures.value c.in_ok-put_inode.ensures.ok) in
     subst (λ (m : BTreeMap ℕ Holder). IsFound chunks (holdings_of m) c.put_file.new.found.files) (sym c.in_ok-put_file.ensures.holders)
     (with_inode chunks before c.args.found.now.files c.args.handle claims found now c.put_file.new.found.files c.in_ok-file.field-0.file read
     (not_some (holdings_of c.args.found.now.holders c.args.handle) (sym c.contains_key.ensures ∙ c.if-contains_key.false)) adds c.in_ok-put_file.ensures.with c.in_ok-put_file.ensures.none)

@@ -1,15 +1,11 @@
-use Rattle.std.proofs.Common.{◌≡◌, ℕ, ◌+◌, ◌<◌, ◌⊎◌, ⊎_elim, false, Option, Some, None, arith, length, refl, sym, ap, subst, ◌∙◌, List, []}
+use Rattle.std.proofs.Common.{◌≡◌, ℕ, ◌+◌, ◌<◌, ◌⊎◌, ⊎_elim, false, None, arith, length, refl, sym, ap, subst, ◌∙◌, List, []}
 use Rattle.std.specs.Prelude.{◌≢◌, slice_index_or}
-use Rattle.std.specs.BTreeMap.{BTreeMap}
-use Rattle.bx_audit_owners.specs.declared.holders.Holder.{Holder}
 use Rattle.bx_audit_owners.specs.declared.slots.UsedSlot.{UsedSlot}
 use Rattle.bx_audit_owners.specs.Found.{AreOrdered, IsFound}
 use Rattle.bx_audit_owners.specs.Holding.{Holdings, holdings_of}
 use Rattle.bx_audit_owners.proofs.Founds.{none_found}
 use Rattle.bx_audit_owners.proofs.Holding.{none_held, one_there}
 use Rattle.bx_audit_owners.proofs.InOrder.{none_ordered}
-use Rattle.bx_layout.specs.declared.block.Block.{Block}
-use Rattle.bx_truth.specs.PageTrees.{Chunks}
 use Rattle.bx_tree_files.specs.declared.file.File.{File}
 use Rattle.bx_audit_owners.proofs.found.read_inodes.Goals as goal
 
@@ -47,7 +43,7 @@ loop-slot-preserved g c =
           (λ before. c.in_ok-read_chunk.ensures.still slot.handle (c.loop-slot.invariant.read chunks shows k slot block before is chunk kind))
           (λ same.
           let one : slot ≡ slice_index_or c.args.slots.now c.loop-slot.slot-index no_slot =
-              sym is ∙ ap (λ (n : ℕ). slice_index_or c.args.slots.now n slot) same ∙ one_there c.args.slots.now c.loop-slot.slot-index slot no_slot within in
+          sym is ∙ ap (λ (n : ℕ). slice_index_or c.args.slots.now n slot) same ∙ one_there c.args.slots.now c.loop-slot.slot-index slot no_slot within in
           subst (λ (s : UsedSlot). holdings_of c.read_chunk.new.found.holders s.handle ≢ None) (sym one)
           (c.in_ok-read_chunk.ensures.read chunks block (c.loop-slot.invariant.shows chunks shows) (ap (λ (s : UsedSlot). chunks s.handle) (sym one) ∙ chunk) kind))
           (below_or k c.loop-slot.slot-index less);

@@ -1,4 +1,4 @@
-use Rattle.std.proofs.Common.{◌≡◌, ◌<◌, Err, None, arith, length, ap, sym, subst, ◌∙◌}
+use Rattle.std.proofs.Common.{◌<◌, Err, None, arith, length, ap, subst, ◌∙◌}
 use Rattle.std.specs.Prelude.{slice_index_or}
 use Rattle.std.proofs.lemmas.Result.{err_from_is_err_and}
 use Rattle.bx_audit_bodies.specs.declared.claims.Claim.{Claim}

@@ -1,4 +1,4 @@
-use Rattle.std.proofs.Common.{◌≡◌, ◌+◌, ◌*◌, ℕ, arith, sym, subst}
+use Rattle.std.proofs.Common.{◌≡◌, ◌+◌, ◌*◌, ℕ, arith, subst}
 use Rattle.bx_audit_owners.specs.UsedSlots.{AreUsedBelow}
 use Rattle.bx_audit_owners.proofs.InUse.{area_done}
 use Rattle.bx_audit_owners.proofs.slots.put_area.Goals as goal

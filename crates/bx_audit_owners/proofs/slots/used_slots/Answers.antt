@@ -1,4 +1,4 @@
-use Rattle.std.proofs.Common.{◌≡◌, ◌<◌, ℕ, Err, arith, sym, ap, subst, ◌∙◌}
+use Rattle.std.proofs.Common.{ℕ, Err, arith, sym, ap, subst, ◌∙◌}
 use Rattle.std.proofs.lemmas.Result.{err_from_is_err_and}
 use Rattle.bx_audit_owners.specs.Told.{IsTold}
 use Rattle.bx_audit_trees.proofs.Ends.{if_torn}

@@ -1,4 +1,4 @@
-use Rattle.std.proofs.Common.{◌≡◌, ◌*◌, ℕ}
+use Rattle.std.proofs.Common.{◌≡◌, ◌*◌}
 use Rattle.bx_audit_owners.specs.Told.{IsTold}
 use Rattle.bx_audit_owners.specs.UsedSlots.{AreUsedBelow}
 use Rattle.bx_views.specs.Truths.{Truth}

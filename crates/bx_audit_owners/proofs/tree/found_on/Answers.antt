@@ -1,9 +1,6 @@
-use Rattle.std.proofs.Common.{◌≡◌, ℕ, Err, None, Some, ap, ◌∙◌}
-use Rattle.std.specs.Prelude.{◌≢◌, Contains}
+use Rattle.std.proofs.Common.{Err, ap, ◌∙◌}
 use Rattle.std.proofs.lemmas.Result.{err_from_is_err_and}
-use Rattle.bx_audit_owners.specs.declared.slots.UsedSlot.{UsedSlot}
 use Rattle.bx_audit_owners.specs.Holding.{holdings_of}
-use Rattle.bx_audit_owners.specs.UsedSlots.{AreUsed}
 use Rattle.bx_audit_owners.proofs.Wholes.{all_named, all_read_of, have_files, held, root_shows, root_used}
 use Rattle.bx_audit_trees.proofs.Ends.{if_torn}
 use Rattle.bx_truth.specs.Chunks.{chunks_of}

@@ -1,4 +1,4 @@
-use Rattle.std.proofs.Common.{◌≡◌, ℕ, Err, List, None, Some, refl, ap, sym, subst, ◌∙◌}
+use Rattle.std.proofs.Common.{Err, List, ap, sym, subst, ◌∙◌}
 use Rattle.std.proofs.lemmas.Result.{err_from_is_err_and}
 use Rattle.bx_audit_owners.specs.declared.slots.UsedSlot.{UsedSlot}
 use Rattle.bx_audit_owners.specs.Found.{AreOrdered}
@@ -34,7 +34,7 @@ pub returns-clause-ok : goal.returns-clause-ok
 returns-clause-ok g c = λ truth told.
     let used = c.in_ok-slots.ensures.ok truth told in
     let whole = subst (λ (l : List UsedSlot). IsWhole c.args.areas truth l (holdings_of c.in_ok-found.found.holders) c.in_ok-found.found.files) c.as_slice.ensures.value
-        (c.in_ok-found.ensures.ok truth (c.in_ok-slots.ensures.told truth told) (subst (AreUsed c.args.areas truth) (sym c.as_slice.ensures.value) used)) in
+    (c.in_ok-found.ensures.ok truth (c.in_ok-slots.ensures.told truth told) (subst (AreUsed c.args.areas truth) (sym c.as_slice.ensures.value) used)) in
     subst (StandsFor c.args.areas truth) (sym c.in_ok-tree.ensures.ok)
     (stands c.args.areas truth c.requires.most c.in_ok-slots.slots.items used (holdings_of c.in_ok-found.found.holders) c.in_ok-found.found.files whole.found whole.held
     c.args.volume c.in_ok-found.found.given (g.B.Blocks.tells c.args.blocks.now) (g.B.Blocks.stands c.args.blocks.now) told c.in_ok-found.ensures.ordered c.in_ok-tree.ensures.root)

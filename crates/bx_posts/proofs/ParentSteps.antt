@@ -16,7 +16,7 @@ use Rattle.bx_splits.specs.Halves.{HalvesAt, halves_of, half_in}
 use Rattle.bx_posts.specs.declared.posting.Posted.{Posted}
 use Rattle.bx_posts.specs.declared.posting.Posted.TheVariants.{Put, SplitAlone}
 use Rattle.bx_posts.specs.declared.separators.Separator.{Separator}
-use Rattle.bx_posts.specs.Parents.{PutsAt, PutsInHalf, PutsInParent, with_separator}
+use Rattle.bx_posts.specs.Parents.{PutsAt, PutsInParent}
 
 -- an error tells nothing of the draft that is left
 err_same : (one two three : List Changed) (handle : ℕ) (page : Contents) (separator : Separator) (e : BlinkError) → PutsAt one two handle page separator (Err e) → PutsAt one three handle page separator (Err e)

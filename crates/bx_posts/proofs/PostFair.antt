@@ -1,6 +1,6 @@
 -- What a post needs isn't held and is on its path, and what it puts are blocks that are held exclusively.
-use Rattle.std.proofs.Common.{◌≡◌, ℕ, ◌+◌, ◌<◌, ◌≤◌, Bool, true, false, List, Option, Some, None, refl, sym, ap, subst, ◌∙◌, inl, inr}
-use Rattle.std.specs.Prelude.{Result, Ok, Err, IsSome, OnOk, ◌⊎◌, if◌then◌else◌}
+use Rattle.std.proofs.Common.{◌≡◌, ℕ, Bool, true, false, List, Option, Some, None, refl, sym, subst, ◌∙◌, inl, inr}
+use Rattle.std.specs.Prelude.{Result, Ok, Err, IsSome, OnOk}
 use Rattle.std.specs.Option.{option_or}
 use Rattle.bx_base.specs.declared.names.Mode.{Mode}
 use Rattle.bx_base.specs.declared.names.Mode.TheVariants.{Shared, Exclusive}
@@ -25,7 +25,6 @@ use Rattle.bx_posts.specs.declared.posting.Posted.TheVariants.{Put, SplitAlone}
 use Rattle.bx_posts.specs.declared.separators.Separator.{Separator}
 use Rattle.bx_posts.specs.Parents.{NeedsParent, OnParentPath, PutsAt, PutsInHalf, PutsInParent}
 use Rattle.bx_posts.specs.Posts.{NeedsForPost, OnPostPath, page, parent, slot, PostsAt}
-use Rattle.bx_posts.specs.Separators.{ShowsSeparator}
 
 none_left : (o held : Option Block) → option_or o held ≡ None → held ≡ None
 none_left None held e = e

@@ -1,13 +1,12 @@
 -- What `post` does to a tree, by what it answers on any content.
-use Rattle.std.proofs.Common.{◌≡◌, ℕ, ◌+◌, ◌/◌, ◌<◌, ◌≤◌, Bool, true, false, List, [], ◌∷◌, length, take, drop, Some, None, refl, sym, ap, subst, ◌∙◌, arith, inl, inr, length-drop}
-use Rattle.std.specs.Prelude.{Result, Ok, Err, ◌⊎◌, ◌≢◌, if◌then◌else◌}
+use Rattle.std.proofs.Common.{◌≡◌, ℕ, ◌+◌, ◌<◌, ◌≤◌, Bool, true, false, List, length, Some, None, refl, sym, ap, subst, ◌∙◌, arith, inl, inr, length-drop}
+use Rattle.std.specs.Prelude.{Result, Ok, Err, ◌⊎◌, ◌≢◌}
 use Rattle.std.proofs.lemmas.Bool.{cases_lt}
 use Rattle.std.proofs.lemmas.List.{length-take}
 use Rattle.bx_base.specs.declared.names.Mode.TheVariants.{Shared, Exclusive}
 use Rattle.bx_layout.specs.declared.block.Block.{Block}
 use Rattle.bx_records.specs.Drafts.{Changed}
-use Rattle.bx_page.specs.declared.entry.Entry.{Entry}
-use Rattle.bx_page.specs.Contents.{Contents, size, half, first_half, other_half}
+use Rattle.bx_page.specs.Contents.{Contents, size, half, first_half}
 use Rattle.bx_page.proofs.Room.{size-le}
 use Rattle.bx_page.proofs.Whole.{one_page}
 use Rattle.bx_truth.specs.Chunks.{block_at, chunks_of}
@@ -27,15 +26,15 @@ use Rattle.bx_leaves.specs.Leaves.{PutsPage}
 use Rattle.bx_leaves.proofs.Apart.{same_page}
 use Rattle.bx_splits.specs.declared.halves.Halves.{Halves}
 use Rattle.bx_splits.specs.Halves.{HalvesAt, halves_of, half_in}
-use Rattle.bx_splits.specs.Splits.{GrowsTree, SplitsIn}
+use Rattle.bx_splits.specs.Splits.{SplitsIn}
 use Rattle.bx_splits.proofs.Halved.{GrowsHalves}
 use Rattle.bx_splits.proofs.HalvesTree.{halves_fail, page_halves, root_halves}
 use Rattle.bx_splits.proofs.Height.{few_levels}
 use Rattle.bx_posts.specs.declared.posting.Posted.{Posted}
 use Rattle.bx_posts.specs.declared.posting.Posted.TheVariants.{Put, SplitAlone}
 use Rattle.bx_posts.specs.declared.separators.Separator.{Separator}
-use Rattle.bx_posts.specs.Parents.{IsParentAt, ParentEnds, PutsAt, PutsInHalf, PutsInParent, with_separator}
-use Rattle.bx_posts.specs.Posts.{Advances, FindsParent, HasLesserParent, HasSeparator, LacksParent, PostsAt, PostsIn, PostsPage, rewritten, page as one_more, top, PutsThere}
+use Rattle.bx_posts.specs.Parents.{IsParentAt, ParentEnds, PutsAt, PutsInParent, with_separator}
+use Rattle.bx_posts.specs.Posts.{FindsParent, HasLesserParent, LacksParent, PostsAt, PostsIn, PostsPage, rewritten, page as one_more, top}
 use Rattle.bx_posts.specs.Separators.{IsHighest, IsSeparatorOf, IsShown, IsStrange, SeparatorAt, ShowsSeparator}
 use Rattle.bx_posts.proofs.PutTree.{GrowsSeparated, put_grows, same_grown}
 

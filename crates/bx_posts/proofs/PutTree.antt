@@ -1,14 +1,14 @@
 -- A separator is put into a page of a tree that grew, or stayed as it was: the tree grew by the same pages.
-use Rattle.std.proofs.Common.{◌≡◌, ℕ, ◌+◌, ◌<◌, List, Option, Some, None, refl, sym, ap, subst, ◌∙◌, arith, inl, inr}
-use Rattle.std.specs.Prelude.{IfSome, ◌⊎◌, ◌≢◌, bytes_eq, if◌then◌else◌}
+use Rattle.std.proofs.Common.{◌≡◌, ℕ, ◌+◌, List, Option, Some, None, refl, sym, ap, subst, ◌∙◌, arith, inl, inr}
+use Rattle.std.specs.Prelude.{IfSome, ◌⊎◌, ◌≢◌}
 use Rattle.std.specs.Int.{w64, to_be_bytes}
 use Rattle.bx_layout.specs.declared.block.Block.{Block}
-use Rattle.bx_records.specs.Drafts.{Changed, with_block}
+use Rattle.bx_records.specs.Drafts.{Changed}
 use Rattle.bx_page.specs.Contents.{Contents, value_of, with_value}
 use Rattle.bx_page.proofs.Maps.{put_value}
 use Rattle.bx_page.proofs.Order.{same_itself}
 use Rattle.bx_page.proofs.Whole.{one_page}
-use Rattle.bx_truth.specs.Chunks.{block_at, chunks_of}
+use Rattle.bx_truth.specs.Chunks.{chunks_of}
 use Rattle.bx_truth.specs.Edits.{ChunkAnew}
 use Rattle.bx_truth.specs.PageTrees.{Chunks, HasPage, IsNode, Node, PageTree, IsPageOf, map_of}
 use Rattle.bx_truth.specs.Shown.{KeepsSlots}

@@ -29,7 +29,8 @@ pub enum Posted {
 }
 
 /// Puts the separator of a page's right neighbour into their parent, in the tree under a root, by their handles. A parent that has less
-/// than 544 bytes left is split first, near an area, and its own separator is left to a later call.
+/// than 544 bytes left is split first, near an area, and its own separator is left to a later call. The page has a right neighbour,
+/// wherever it can be read, which `may_post` tells.
 ///
 /// `Need` names a block that isn't held in that mode: the page's, one on the path of the walk to the parent, which is to be held
 /// exclusively, or one that a new page wants. `Stale` comes where what is held is no tree: of a page of a tree it never comes. `Full`

@@ -14,7 +14,6 @@ use Rattle.bx_truth.specs.Stands.{WasGiven}
 use Rattle.bx_views.specs.Truths.{Truth, Held, Hints, with_draft}
 use Rattle.bx_blink.specs.Hints.{Place, HintsAgree, HintsFit, Under}
 use Rattle.bx_blink.specs.Places.{IsPlaceOf}
-use Rattle.bx_blink.specs.Walks.{passes}
 use Rattle.bx_blink.proofs.Handles.{kept, passed}
 use Rattle.bx_blink.proofs.Sees.{Holds}
 use Rattle.bx_leaves.proofs.Apart.{same_page}

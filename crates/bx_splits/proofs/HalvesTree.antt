@@ -1,6 +1,6 @@
 -- What putting the halves of a page does to a tree.
-use Rattle.std.proofs.Common.{◌≡◌, ℕ, ◌+◌, ◌<◌, ◌≤◌, List, length, Some, sym, ap, subst, ◌∙◌, arith, inl, inr}
-use Rattle.std.specs.Prelude.{Result, Ok, Err, ◌⊎◌, ◌≢◌}
+use Rattle.std.proofs.Common.{◌≡◌, ℕ, ◌≤◌, List, length, Some, sym, ap, subst, ◌∙◌, arith, inl, inr}
+use Rattle.std.specs.Prelude.{Ok, Err, ◌⊎◌, ◌≢◌}
 use Rattle.bx_layout.specs.declared.block.Block.{Block}
 use Rattle.bx_records.specs.Drafts.{Changed}
 use Rattle.bx_page.specs.Contents.{Contents, first_half, other_half}
@@ -15,7 +15,7 @@ use Rattle.bx_blink.specs.declared.error.BlinkError.{BlinkError}
 use Rattle.bx_blink.specs.declared.error.BlinkError.TheVariants.{Need, Stale, Full, NoRoom, Absent, Present, OutOfMemory, Crowded}
 use Rattle.bx_blink.specs.Hints.{Under}
 use Rattle.bx_leaves.specs.Leaves.{PutsPage}
-use Rattle.bx_splits.specs.Cutting.{AllotFails, AllotTwoFails, CutsPage, CutsRoot}
+use Rattle.bx_splits.specs.Cutting.{AllotTwoFails, CutsPage, CutsRoot}
 use Rattle.bx_splits.specs.Halves.{HalvesAt}
 use Rattle.bx_splits.specs.Splits.{SplitsIn, root_page}
 use Rattle.bx_splits.proofs.CutLaw.{law_halves as cut_halves}

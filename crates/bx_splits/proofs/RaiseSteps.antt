@@ -1,6 +1,6 @@
 -- What the steps of cutting the root come to.
-use Rattle.std.proofs.Common.{◌≡◌, ℕ, List, Some, sym, ap, subst, ◌∙◌, inl, inr}
-use Rattle.std.specs.Prelude.{Result, Ok, Err}
+use Rattle.std.proofs.Common.{◌≡◌, ℕ, List, Some, subst, inl, inr}
+use Rattle.std.specs.Prelude.{Ok, Err}
 use Rattle.bx_records.specs.Drafts.{Changed}
 use Rattle.bx_page.specs.Contents.{Contents, first_half, other_half}
 use Rattle.bx_views.specs.Truths.{Held}

@@ -1,10 +1,10 @@
 -- The root is cut in two under a truth: two slots are taken, and three pages are put.
-use Rattle.std.proofs.Common.{◌≡◌, ℕ, ◌+◌, ◌^◌, ◌<◌, false, eqb, cond, List, [], ◌∷◌, Option, Some, None, refl, sym, ap, subst, ◌∙◌, arith, inl, inr}
+use Rattle.std.proofs.Common.{◌≡◌, ℕ, ◌+◌, ◌^◌, ◌<◌, eqb, cond, List, [], ◌∷◌, Option, Some, None, refl, sym, ap, subst, ◌∙◌, arith, inl, inr}
 use Rattle.std.specs.Prelude.{IfSome, ◌⊎◌}
 use Rattle.std.proofs.lemmas.Bool.{eq-eqb, ne_eqb}
 use Rattle.bx_layout.specs.declared.block.Block.{Block}
 use Rattle.bx_records.specs.Drafts.{Changed, with_block}
-use Rattle.bx_page.specs.Keys.{is_below, IsBelow}
+use Rattle.bx_page.specs.Keys.{IsBelow}
 use Rattle.bx_page.specs.Contents.{Contents, first_half, other_half}
 use Rattle.bx_truth.specs.Chunks.{IsName, block_at, chunks_of}
 use Rattle.bx_truth.specs.PageTrees.{Chunks, HasPage, IsIn, Node, PageTree}
@@ -13,7 +13,6 @@ use Rattle.bx_truth.specs.Stands.{WasGiven}
 use Rattle.bx_views.specs.Truths.{Truth, Held, Hints, with_draft}
 use Rattle.bx_blink.specs.Hints.{Place, HintsAgree, HintsFit, Under}
 use Rattle.bx_blink.specs.Places.{IsPlaceOf}
-use Rattle.bx_blink.specs.Walks.{passes}
 use Rattle.bx_blink.proofs.Handles.{alone, kept, not_below_empty, passed}
 use Rattle.bx_leaves.proofs.Apart.{same_page}
 use Rattle.bx_leaves.proofs.Members.{in_head, in_tail}

@@ -1,16 +1,15 @@
 -- What a split needs isn't held, and what it puts are blocks that are held exclusively.
-use Rattle.std.proofs.Common.{◌≡◌, ℕ, ◌+◌, ◌^◌, ◌%◌, ◌<◌, true, List, Option, Some, None, get_or, refl, sym, ap, subst, ◌∙◌, arith, inl, inr}
+use Rattle.std.proofs.Common.{◌≡◌, ℕ, ◌+◌, ◌^◌, ◌%◌, ◌<◌, true, List, Option, Some, None, get_or, sym, ap, subst, ◌∙◌, arith, inl, inr}
 use Rattle.std.specs.Prelude.{Result, Ok, Err, IsSome, OnOk, ◌⊎◌, ◌≢◌}
 use Rattle.std.specs.Option.{option_or}
-use Rattle.std.proofs.lemmas.Bool.{cases_eq}
 use Rattle.bx_base.specs.declared.names.Mode.{Mode}
 use Rattle.bx_base.specs.declared.names.Mode.TheVariants.{Exclusive}
 use Rattle.bx_layout.specs.declared.area.AreaBlock.{AreaBlock}
 use Rattle.bx_layout.specs.declared.block.Block.{Block}
 use Rattle.bx_places.specs.Places.{is_block}
-use Rattle.bx_records.specs.Drafts.{Changed, block_in, with_block}
+use Rattle.bx_records.specs.Drafts.{Changed, block_in}
 use Rattle.bx_page.specs.Contents.{Contents}
-use Rattle.bx_truth.specs.Chunks.{block_at, own_block}
+use Rattle.bx_truth.specs.Chunks.{block_at}
 use Rattle.bx_views.specs.Attempts.{IsHeldDraft}
 use Rattle.bx_views.specs.Truths.{Held, Hints}
 use Rattle.bx_chunks.specs.declared.error.ChunkError.TheVariants.{Need as ChunkNeed}
@@ -19,7 +18,6 @@ use Rattle.bx_chunks.proofs.FairNeeds.{Shares, fair}
 use Rattle.bx_chunks.proofs.HeldDrafts.{allocates_held}
 use Rattle.bx_blink.specs.declared.error.BlinkError.{BlinkError}
 use Rattle.bx_blink.specs.declared.error.BlinkError.TheVariants.{Need, Stale, Full, NoRoom, Absent, Present, OutOfMemory, Crowded}
-use Rattle.bx_leaves.specs.Leaves.{PutsPage}
 use Rattle.bx_leaves.proofs.Fair.{page_held, seen_held}
 use Rattle.bx_splits.specs.declared.halves.Halves.{Halves}
 use Rattle.bx_splits.specs.Cutting.{AllotFails, CutsAt, CutsPage, CutsRoot, RaisesAt, SplitsAt, NeedsForSplit}

@@ -1,26 +1,21 @@
 -- What `split` does to a tree, by what it answers on any content.
-use Rattle.std.proofs.Common.{◌≡◌, ℕ, ◌+◌, ◌<◌, ◌≤◌, List, length, Some, sym, ap, subst, ◌∙◌, arith, inl, inr}
-use Rattle.std.specs.Prelude.{Result, Ok, Err, ◌⊎◌, ◌≢◌}
+use Rattle.std.proofs.Common.{◌≡◌, ℕ, ◌+◌, ◌<◌, ◌≤◌, List, length, Some, sym, ap, subst, ◌∙◌, inl, inr}
+use Rattle.std.specs.Prelude.{Result, Ok, Err}
 use Rattle.bx_base.specs.declared.names.Mode.TheVariants.{Exclusive}
 use Rattle.bx_layout.specs.declared.block.Block.{Block}
 use Rattle.bx_records.specs.Drafts.{Changed}
-use Rattle.bx_page.specs.Contents.{Contents, size, first_half, other_half}
+use Rattle.bx_page.specs.Contents.{Contents, size}
 use Rattle.bx_page.proofs.Whole.{one_page}
-use Rattle.bx_truth.specs.Chunks.{IsChunked, block_at, chunks_of}
+use Rattle.bx_truth.specs.Chunks.{block_at, chunks_of}
 use Rattle.bx_truth.specs.PageTrees.{Chunks, HasPage, IsNode, Node, PageTree, IsPageOf}
 use Rattle.bx_views.specs.Truths.{Truth, Held, Hints, with_draft}
-use Rattle.bx_chunks.specs.declared.error.ChunkError.TheVariants.{Full as ChunkFull}
-use Rattle.bx_chunks.specs.Allocating.{Adds, AllocatesAt}
-use Rattle.bx_chunks.specs.Counting.{free_slots}
-use Rattle.bx_chunks.proofs.Allocates.{allocates_in}
 use Rattle.bx_blink.specs.declared.error.BlinkError.{BlinkError}
 use Rattle.bx_blink.specs.declared.error.BlinkError.TheVariants.{Need, Stale, Full, NoRoom, Absent, Present, OutOfMemory, Crowded}
 use Rattle.bx_blink.specs.Walks.{Reads, reads_with}
 use Rattle.bx_blink.specs.Hints.{Under}
 use Rattle.bx_blink.proofs.Under.{agrees}
-use Rattle.bx_leaves.specs.Leaves.{PutsPage}
-use Rattle.bx_splits.specs.Cutting.{CutsPage, CutsRoot, IsOwned, IsOther, CutsOwned, SplitsAt}
-use Rattle.bx_splits.specs.Splits.{GrowsTree, SplitsPage, page, top, SplitsIn, root_page}
+use Rattle.bx_splits.specs.Cutting.{IsOwned, IsOther, CutsOwned, SplitsAt}
+use Rattle.bx_splits.specs.Splits.{page, top, SplitsIn}
 use Rattle.bx_splits.proofs.Enough.{enough}
 use Rattle.bx_splits.proofs.HalvesTree.{halves_fail, page_halves, root_halves}
 

@@ -1,6 +1,6 @@
 -- A leaf that refused an entry over an empty draft may be split.
 use Rattle.std.proofs.Common.{◌≡◌, ℕ, ◌+◌, ◌<◌, ◌≤◌, List, [], length, Some, subst, ◌∙◌}
-use Rattle.std.specs.Prelude.{Result, Ok, Err, OnErr}
+use Rattle.std.specs.Prelude.{Result, Err, OnErr}
 use Rattle.bx_base.specs.declared.names.Mode.TheVariants.{Shared, Exclusive}
 use Rattle.bx_layout.specs.declared.block.Block.{Block}
 use Rattle.bx_records.specs.Drafts.{Changed}

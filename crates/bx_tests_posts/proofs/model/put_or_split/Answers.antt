@@ -1,4 +1,4 @@
-use Rattle.std.proofs.Common.{◌≡◌, ℕ, ◌+◌, ◌≤◌, length, Err, ap, ◌∙◌, arith}
+use Rattle.std.proofs.Common.{Err, ap, ◌∙◌, arith}
 use Rattle.bx_tests_posts.specs.Desks.{held_on, in_buckets}
 use Rattle.bx_tests_posts.proofs.Refusals.{may_split}
 use Rattle.bx_tests_posts.proofs.model.put_or_split.Goals as goal

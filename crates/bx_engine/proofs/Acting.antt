@@ -12,7 +12,7 @@ use Rattle.bx_model.specs.declared.reply.Reply.TheVariants as replies
 use Rattle.bx_model.specs.declared.tree.Tree.{Tree}
 use Rattle.bx_model.specs.Act.{act, given, about_file}
 use Rattle.bx_model.specs.Mounting.{mount, plain}
-use Rattle.bx_model.specs.Reading.{getattr, readlink}
+use Rattle.bx_model.specs.Reading.{getattr, readlink, statfs}
 use Rattle.bx_model.specs.Steps.{Outcome, done, plainly}
 use Rattle.bx_model.specs.Writing.{setattr}
 use Rattle.std.specs.Prelude.{Result, Ok, IfOk}
@@ -53,6 +53,9 @@ module _ (tree : Tree) (call : Call) (moment : ℕ) where
 
   pub readlink_acts : (at : List ℕ) → call.args ≡ Handle at → call.procedure ≡ 5 → ActsSo (readlink tree at)
   readlink_acts at is p = about_file_acts at 5 is p
+
+  pub statfs_acts : (at : List ℕ) (spare : ℕ) → call.args ≡ Handle at → call.procedure ≡ 17 → act tree call moment spare 0 ≡ Some (done tree (statfs tree at spare))
+  statfs_acts at spare is p = ap (given tree call (time_of moment) spare 0) is ∙ ap (λ (procedure : ℕ). plainly tree 0 (about_file tree procedure at spare)) p
 
   pub setattr_acts : (at : List ℕ) (sattr : Sattr) → call.args ≡ Set at sattr → ActsSo (setattr tree call at sattr (time_of moment))
   setattr_acts at sattr is = by_args (Set at sattr) (setattr tree call at sattr (time_of moment)) is refl

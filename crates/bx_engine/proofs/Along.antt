@@ -1,8 +1,10 @@
 -- What holds along a path holds along a wider one.
 use Rattle.std.proofs.Common.{ℕ}
 use Rattle.bx_base.specs.declared.names.Mode.{Mode}
+use Rattle.bx_base.specs.declared.names.Mode.TheVariants.{Exclusive}
 use Rattle.bx_views.specs.declared.attempt.Attempt.{Attempt}
 use Rattle.bx_views.specs.declared.attempt.Attempt.TheVariants.{Need, Change, Inner, Answer}
+use Rattle.bx_engine.specs.Outcomes.{ChangesNothing, WritesOne}
 use Rattle.bx_views.specs.Attempts.{IsFair}
 use Rattle.bx_views.specs.Truths.{Held}
 
@@ -15,3 +17,18 @@ module _ (Path Wider : ℕ → Mode → Type 0) (wider : (at : ℕ) (mode : Mode
   fair_along areas held (Change draft acted) fair = fair
   fair_along areas held (Inner draft) fair = fair
   fair_along areas held (Answer acted) fair = fair
+
+-- what changes nothing writes no more than any path has
+pub nothing_written : (Path : ℕ → Mode → Type 0) (attempt : Attempt) → ChangesNothing attempt → WritesOne Path attempt
+nothing_written Path (Need wants) keeps = tt
+nothing_written Path (Change draft acted) keeps = absurd keeps
+nothing_written Path (Inner draft) keeps = keeps
+nothing_written Path (Answer acted) keeps = tt
+
+-- what is written along a path is written along a wider one
+module _ (Path Wider : ℕ → Mode → Type 0) (wider : (at : ℕ) (mode : Mode) → Path at mode → Wider at mode) where
+  pub writes_along : (attempt : Attempt) → WritesOne Path attempt → WritesOne Wider attempt
+  writes_along (Need wants) writes = tt
+  writes_along (Change draft acted) writes = record { at = writes.at; block = writes.block; is = writes.is; on = wider writes.at Exclusive writes.on }
+  writes_along (Inner draft) writes = writes
+  writes_along (Answer acted) writes = tt

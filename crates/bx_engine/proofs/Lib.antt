@@ -4,3 +4,4 @@ pub mod Datagrams
 pub mod OneStep
 pub mod Paths
 pub mod Stopping
+pub mod Spaces

@@ -6,9 +6,9 @@ use Rattle.bx_model.specs.declared.call.Args.TheVariants.{Refused, Nothing, Hand
 use Rattle.bx_model.specs.declared.call.Call.{Call}
 use Rattle.bx_nfs.specs.Wire.{ReadsAs}
 
--- the procedures about a file alone that are built: GETATTR (1) and READLINK (5)
+-- the procedures about a file alone: GETATTR (1), READLINK (5) and STATFS (17)
 abbrev pub IsAboutFile : ℕ → Type 0
-IsAboutFile procedure = (procedure ≡ 1) ⊎ (procedure ≡ 5)
+IsAboutFile procedure = (procedure ≡ 1) ⊎ ((procedure ≡ 5) ⊎ (procedure ≡ 17))
 
 -- the call is one of those
 pub record AsksAboutFile (call : Call) : Type 0 where
@@ -26,7 +26,7 @@ pub record IsUnmount (call : Call) : Type 0 where
   pub procedure : call.procedure ≡ 3
 
 -- The calls that are built: those that are refused; those without arguments, which are NULL, ROOT and WRITECACHE of NFS, and NULL, DUMP,
--- UMNTALL and EXPORT of MOUNT; UMNT of MOUNT; and of NFS GETATTR (1), READLINK (5), and SETATTR (2) where it sets the mode alone.
+-- UMNTALL and EXPORT of MOUNT; UMNT of MOUNT; of NFS GETATTR (1), READLINK (5) and STATFS (17), and SETATTR (2) where it sets the mode alone.
 abbrev pub HasBuiltArgs : Call → Args → Type 0
 HasBuiltArgs call (Refused number) = Unit {0}
 HasBuiltArgs call Nothing = Unit {0}
@@ -44,6 +44,18 @@ pub record IsBuiltCall (bytes : List ℕ) : Type 0 where
   pub call : Call
   pub reads : ReadsAs bytes xid call
   pub built : IsBuilt call
+
+-- the call is STATFS (17) by this file handle
+pub record AsksSpace (call : Call) (at : List ℕ) : Type 0 where
+  pub args : call.args ≡ Handle at
+  pub procedure : call.procedure ≡ 17
+
+-- the datagram is
+pub record IsSpaceCall (bytes at : List ℕ) : Type 0 where
+  pub xid : ℕ
+  pub call : Call
+  pub reads : ReadsAs bytes xid call
+  pub asks : AsksSpace call at
 
 -- The calls that are answered whatever is held: those that are refused, those without arguments, and UMNT.
 abbrev pub HasNoFile : Call → Args → Type 0

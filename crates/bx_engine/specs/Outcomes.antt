@@ -1,11 +1,12 @@
 -- What an attempt comes to, by what its procedure comes to.
-use Rattle.std.specs.Prelude.{◌≡◌, ℕ}
+use Rattle.std.specs.Prelude.{◌≡◌, ℕ, ◌≤◌, List, Ok, Err}
 use Rattle.bx_base.specs.declared.names.Mode.{Mode}
 use Rattle.bx_changes.specs.Changes.{IsOneBlock}
-use Rattle.bx_engine.specs.Replies.{done_of}
+use Rattle.bx_engine.specs.Replies.{done_of, done_with}
 use Rattle.bx_inodes.specs.Stands.{Stands}
 use Rattle.bx_model.specs.declared.reply.Reply.{Reply}
 use Rattle.bx_model.specs.declared.tree.Tree.{Tree}
+use Rattle.bx_model.specs.Reading.{statfs}
 use Rattle.bx_model.specs.Steps.{Outcome, done}
 use Rattle.bx_views.specs.declared.attempt.Attempt.{Attempt}
 use Rattle.bx_views.specs.declared.attempt.Attempt.TheVariants.{Need, Change, Inner, Answer}
@@ -38,6 +39,13 @@ WritesOne Path (Change draft acted) = IsOneBlock Path draft
 WritesOne Path (Inner draft) = ⊥
 WritesOne Path (Answer acted) = Unit {0}
 
+-- no block is changed, nor to be written first
+abbrev pub ChangesNothing : Attempt → Type 0
+ChangesNothing (Need wants) = Unit {0}
+ChangesNothing (Change draft acted) = ⊥
+ChangesNothing (Inner draft) = ⊥
+ChangesNothing (Answer acted) = Unit {0}
+
 -- what acts tells no free blocks, and made no file
 pub record IsPlainly (acted : Done) : Type 0 where
   pub spare : acted.spare ≡ 8
@@ -48,3 +56,34 @@ TellsNothing (Need wants) = Unit {0}
 TellsNothing (Change draft acted) = IsPlainly acted
 TellsNothing (Inner draft) = Unit {0}
 TellsNothing (Answer acted) = IsPlainly acted
+
+-- The free blocks that STATFS tells: how many there are, or 8 where it comes to an error.
+abbrev pub told_free : ℕ → Outcome → ℕ
+told_free free (Ok given) = free
+told_free free (Err status) = 8
+
+-- what acts tells so many free blocks, and made no file
+pub record TellsThem (spare : ℕ) (acted : Done) : Type 0 where
+  pub spare_is : acted.spare ≡ spare
+  pub made : acted.made ≡ 0
+
+-- it does so without a change
+abbrev pub TellsFree : ℕ → Attempt → Type 0
+TellsFree spare (Need wants) = Unit {0}
+TellsFree spare (Change draft acted) = ⊥
+TellsFree spare (Inner draft) = ⊥
+TellsFree spare (Answer acted) = TellsThem spare acted
+
+-- STATFS by a file handle comes to this reply over a tree with so many blocks free, and tells them.
+pub record ComesToSpace (tree : Tree) (free : ℕ) (at : List ℕ) (xid : ℕ) (acted : Done) : Type 0 where
+  pub reply : Reply
+  pub comes_to : done tree (statfs tree at free) ≡ (reply, tree)
+  pub told : acted ≡ done_with xid reply (told_free free (statfs tree at free))
+  pub most : acted.spare ≤ 61440
+
+-- it does so without a change
+abbrev pub ComesSpace : Tree → ℕ → List ℕ → ℕ → Attempt → Type 0
+ComesSpace tree free at xid (Need wants) = Unit {0}
+ComesSpace tree free at xid (Change draft acted) = ⊥
+ComesSpace tree free at xid (Inner draft) = ⊥
+ComesSpace tree free at xid (Answer acted) = ComesToSpace tree free at xid acted

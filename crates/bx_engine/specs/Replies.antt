@@ -13,6 +13,10 @@ use Rattle.bx_views.specs.declared.attempt.Done.{Done}
 abbrev pub done_of : ℕ → Reply → Done
 done_of xid reply = record { reply = reply_text xid reply; spare = 8; made = 0 }
 
+-- the same, with so many free blocks told
+abbrev pub done_with : ℕ → Reply → ℕ → Done
+done_with xid reply spare = record { reply = reply_text xid reply; spare = spare; made = 0 }
+
 -- What an attempt that was stopped answers: the block that it needs, the blocks to be written first, or the status.
 abbrev pub IsStopped : ℕ → Stop → Attempt → Type 0
 IsStopped xid (stops.Need at mode) attempt = attempt ≡ Need ((at, mode) ∷ [])

@@ -20,6 +20,9 @@ const SETATTR: u32 = 2;
 /// The procedure READLINK (RFC 1094, section 2.2.6).
 pub(crate) const READLINK: u32 = 5;
 
+/// The procedure STATFS (RFC 1094, section 2.2.18).
+pub(crate) const STATFS: u32 = 17;
+
 /// The procedure UMNT of MOUNT (RFC 1094, appendix A, section 5.4).
 const UMNT: u32 = 3;
 
@@ -39,7 +42,7 @@ pub(crate) fn built_call(alloc: Global, datagram: &[u8]) -> Result<Option<(u32, 
 }
 
 /// Whether a call is attempted: it is refused as a message, it has no arguments, or it is UMNT, GETATTR,
-/// READLINK, or SETATTR of the mode alone.
+/// READLINK, STATFS, or SETATTR of the mode alone.
 fn is_built(call: &Call) -> bool
     ensures { IsTrue result ↔ IsBuilt call.now }
 {
@@ -54,11 +57,11 @@ fn is_built(call: &Call) -> bool
     }
 }
 
-/// Whether a procedure is GETATTR or READLINK.
+/// Whether a procedure is GETATTR, READLINK or STATFS.
 fn is_about_file(procedure: u32) -> bool
     ensures { IsTrue result ↔ IsAboutFile procedure }
 {
-    procedure == GETATTR || procedure == READLINK
+    procedure == GETATTR || procedure == READLINK || procedure == STATFS
 }
 
 /// Whether the mode is given, and nothing else.

@@ -3,23 +3,25 @@
 ghost use Rattle.std.specs.Prelude.{◌≡◌, ◌≤◌, ℕ, List, IfOk, IfNone, IfSome};
 ghost use Rattle.bx_base.specs.declared.names.Mode.TheVariants.{Exclusive, Shared};
 ghost use Rattle.bx_changes.specs.Changes.{SetsModeAlone};
+ghost use Rattle.bx_chunks.specs.Counting.{free_slots};
 ghost use Rattle.bx_inodes.specs.Stands.{Stands};
 ghost use Rattle.bx_inodes.specs.Stops.{OnInode};
 ghost use Rattle.bx_model.specs.declared.tree.Tree.{Tree};
 ghost use Rattle.bx_model.specs.declared.call.Args.TheVariants.{Handle as HandleArgs};
-ghost use Rattle.bx_model.specs.Reading.{getattr as getattr_of, readlink as readlink_of};
+ghost use Rattle.bx_model.specs.Reading.{getattr as getattr_of, readlink as readlink_of, statfs as statfs_of};
 ghost use Rattle.bx_model.specs.Writing.{setattr as setattr_of};
 ghost use Rattle.bx_nfs.specs.Wire.{ReadsAs};
 ghost use Rattle.bx_tree_files.specs.Times.{time_of as time_of_moment};
+ghost use Rattle.bx_reads.specs.Space.{OnSpace};
 ghost use Rattle.bx_views.specs.Attempts.{Gives, IsAnswer, IsFair};
 ghost use Rattle.bx_views.specs.Truths.{IsTruth, Truth};
-ghost use Rattle.bx_engine.specs.Calls.{IsAboutFile, IsAtOnce, IsAtOnceCall, IsBuilt, IsBuiltCall};
-ghost use Rattle.bx_engine.specs.Outcomes.{Comes, TellsNothing, WritesOne};
+ghost use Rattle.bx_engine.specs.Calls.{AsksSpace, IsAboutFile, IsAtOnce, IsAtOnceCall, IsBuilt, IsBuiltCall, IsSpaceCall};
+ghost use Rattle.bx_engine.specs.Outcomes.{ChangesNothing, Comes, ComesSpace, TellsFree, TellsNothing, WritesOne, told_free};
 ghost use Rattle.bx_engine.specs.Paths.{IsOnPath, PathOf};
 ghost use Rattle.bx_engine.specs.Steps.{StandsWith, Step};
 
-use crate::calls::{READLINK, built_call};
-use crate::replies::{answered, changed, plain, stopped};
+use crate::calls::{READLINK, STATFS, built_call};
+use crate::replies::{answered, answered_with, changed, plain, stopped};
 use crate::times::time_of;
 use bx_base::OutOfMemory;
 use bx_changes::set_mode;
@@ -41,10 +43,11 @@ pub struct BoxFs {
 impl BoxFs {
     /// Attempts a call over a view, by its client's number and its bytes, at a moment in milliseconds, at most 4294967295999. `None`
     /// exactly where the bytes are none of the calls that are built so far: those that are refused as messages, those without
-    /// arguments (NULL, ROOT and WRITECACHE of NFS; NULL, DUMP, UMNTALL and EXPORT of MOUNT), UMNT of MOUNT, GETATTR, READLINK, and
-    /// SETATTR of the mode alone.
+    /// arguments (NULL, ROOT and WRITECACHE of NFS; NULL, DUMP, UMNTALL and EXPORT of MOUNT), UMNT of MOUNT, GETATTR, READLINK,
+    /// STATFS, and SETATTR of the mode alone.
     ///
-    /// `Need` names the block of the file's inode, shared for GETATTR and READLINK and exclusively for SETATTR, which isn't held then. A
+    /// `Need` names the block of the file's inode, exclusively for SETATTR and else shared, which isn't held then; for STATFS,
+    /// where that is held, it names the own block of the first area that isn't, shared. A
     /// call that comes to an error is an `Answer`. On an error, which is want of memory alone, nothing is changed.
     pub fn attempt<V: View>(
         &self,
@@ -56,14 +59,18 @@ impl BoxFs {
     ) -> Result<Option<Attempt>, OutOfMemory>
         requires { moment ≤ 4294967295999 }
 
-        ensures gives { (truth : Truth) (tree : Tree) (free : ℕ) → IsTruth (V.held view.now) truth → Stands self.now.volume self.now.areas truth tree
-            → IfOk result (λ found. IfSome found (Gives (StandsWith self.now.volume self.now.areas) Step free client call.now moment truth tree)) }
+        ensures gives { (truth : Truth) (tree : Tree) → IsTruth (V.held view.now) truth → Stands self.now.volume self.now.areas truth tree
+            → IfOk result (λ found. IfSome found (Gives (StandsWith self.now.volume self.now.areas) Step (free_slots self.now.areas truth) client call.now moment truth tree)) }
         ensures fair { IfOk result (λ found. IfSome found (IsFair self.now.areas (V.held view.now) (IsOnPath self.now.volume call.now))) }
         ensures at_once { IsAtOnceCall call.now → IfOk result (λ found. IfSome found IsAnswer) }
 
         // A change is of one block, the inode's of a SETATTR; and blocks need never be written before a call acts.
         ensures writes { IfOk result (λ found. IfSome found (WritesOne (IsOnPath self.now.volume call.now))) }
-        ensures tells { IfOk result (λ found. IfSome found TellsNothing) }
+
+        // STATFS alone tells how many blocks are free, unless it comes to an error.
+        ensures tells { ((at : List ℕ) → IsSpaceCall call.now at → ⊥) → IfOk result (λ found. IfSome found TellsNothing) }
+        ensures free { (at : List ℕ) (truth : Truth) (tree : Tree) → IsSpaceCall call.now at → IsTruth (V.held view.now) truth → Stands self.now.volume self.now.areas truth tree
+            → IfOk result (λ found. IfSome found (TellsFree (told_free (free_slots self.now.areas truth) (statfs_of tree at (free_slots self.now.areas truth))))) }
 
         ensures built { IfOk result (λ found. IfSome found (λ attempt. IsBuiltCall call.now)) }
         ensures none { IfOk result (λ found. IfNone found (IsBuiltCall call.now → ⊥)) }
@@ -86,12 +93,14 @@ impl BoxFs {
     ) -> Result<Attempt, OutOfMemory>
         requires built { IsBuilt call.now }
         requires moment { moment ≤ 4294967295999 }
-        ensures gives { (client : ℕ) (bytes : List ℕ) (truth : Truth) (tree : Tree) (free : ℕ) → ReadsAs bytes xid call.now → IsTruth (V.held view.now) truth
-            → Stands self.now.volume self.now.areas truth tree → IfOk result (Gives (StandsWith self.now.volume self.now.areas) Step free client bytes moment truth tree) }
-        ensures fair { IfOk result (IsFair self.now.areas (V.held view.now) (PathOf self.now.volume call.now.args)) }
+        ensures gives { (client : ℕ) (bytes : List ℕ) (truth : Truth) (tree : Tree) → ReadsAs bytes xid call.now → IsTruth (V.held view.now) truth
+            → Stands self.now.volume self.now.areas truth tree → IfOk result (Gives (StandsWith self.now.volume self.now.areas) Step (free_slots self.now.areas truth) client bytes moment truth tree) }
+        ensures fair { IfOk result (IsFair self.now.areas (V.held view.now) (PathOf self.now.volume call.now.procedure call.now.args)) }
         ensures at_once { IsAtOnce call.now → IfOk result IsAnswer }
-        ensures writes { IfOk result (WritesOne (PathOf self.now.volume call.now.args)) }
-        ensures tells { IfOk result TellsNothing }
+        ensures writes { IfOk result (WritesOne (PathOf self.now.volume call.now.procedure call.now.args)) }
+        ensures tells { ((at : List ℕ) → AsksSpace call.now at → ⊥) → IfOk result TellsNothing }
+        ensures free { (at : List ℕ) (truth : Truth) (tree : Tree) → AsksSpace call.now at → IsTruth (V.held view.now) truth → Stands self.now.volume self.now.areas truth tree
+            → IfOk result (TellsFree (told_free (free_slots self.now.areas truth) (statfs_of tree at (free_slots self.now.areas truth)))) }
     {
         match &call.args {
             Args::Refused(number) => answered(alloc, xid, Reply::Refused(*number, call.program)),
@@ -116,16 +125,39 @@ impl BoxFs {
     ) -> Result<Attempt, OutOfMemory>
         requires handle { call.now.args ≡ HandleArgs at.now }
         requires procedure { IsAboutFile call.now.procedure }
-        ensures gives { (client moment : ℕ) (bytes : List ℕ) (truth : Truth) (tree : Tree) (free : ℕ) → moment ≤ 4294967295999 → ReadsAs bytes xid call.now → IsTruth (V.held view.now) truth
-            → Stands self.now.volume self.now.areas truth tree → IfOk result (Gives (StandsWith self.now.volume self.now.areas) Step free client bytes moment truth tree) }
-        ensures fair { IfOk result (IsFair self.now.areas (V.held view.now) (OnInode self.now.volume at.now Shared)) }
-        ensures writes { IfOk result (WritesOne (OnInode self.now.volume at.now Shared)) }
-        ensures tells { IfOk result TellsNothing }
+        ensures gives { (client moment : ℕ) (bytes : List ℕ) (truth : Truth) (tree : Tree) → moment ≤ 4294967295999 → ReadsAs bytes xid call.now → IsTruth (V.held view.now) truth
+            → Stands self.now.volume self.now.areas truth tree → IfOk result (Gives (StandsWith self.now.volume self.now.areas) Step (free_slots self.now.areas truth) client bytes moment truth tree) }
+        ensures fair { IfOk result (IsFair self.now.areas (V.held view.now) (PathOf self.now.volume call.now.procedure (HandleArgs at.now))) }
+        ensures keeps { IfOk result ChangesNothing }
+        ensures tells { (call.now.procedure ≡ 17 → ⊥) → IfOk result TellsNothing }
+        ensures free { (truth : Truth) (tree : Tree) → call.now.procedure ≡ 17 → IsTruth (V.held view.now) truth → Stands self.now.volume self.now.areas truth tree
+            → IfOk result (TellsFree (told_free (free_slots self.now.areas truth) (statfs_of tree at.now (free_slots self.now.areas truth)))) }
     {
         if call.procedure == READLINK {
             self.readlink(alloc, xid, at, view)
+        } else if call.procedure == STATFS {
+            self.statfs(alloc, xid, at, view)
         } else {
             self.getattr(alloc, xid, at, view)
+        }
+    }
+
+    /// STATFS by the file that a file handle names.
+    fn statfs<V: View>(
+        &self,
+        alloc: Global,
+        xid: u32,
+        at: &[u8],
+        view: &V,
+    ) -> Result<Attempt, OutOfMemory>
+        ensures comes { (truth : Truth) (tree : Tree) → IsTruth (V.held view.now) truth → Stands self.now.volume self.now.areas truth tree
+            → IfOk result (ComesSpace tree (free_slots self.now.areas truth) at.now xid) }
+        ensures fair { IfOk result (IsFair self.now.areas (V.held view.now) (OnSpace self.now.volume self.now.areas at.now)) }
+        ensures keeps { IfOk result ChangesNothing }
+    {
+        match bx_reads::statfs(alloc, self.volume, self.areas, at, view) {
+            Ok((reply, free)) => answered_with(alloc, xid, reply, free),
+            Err(stop) => stopped(alloc, xid, stop),
         }
     }
 
@@ -140,7 +172,7 @@ impl BoxFs {
         ensures comes { (truth : Truth) (tree : Tree) → IsTruth (V.held view.now) truth → Stands self.now.volume self.now.areas truth tree
             → IfOk result (Comes self.now.volume self.now.areas truth tree xid (readlink_of tree at.now)) }
         ensures fair { IfOk result (IsFair self.now.areas (V.held view.now) (OnInode self.now.volume at.now Shared)) }
-        ensures writes { IfOk result (WritesOne (OnInode self.now.volume at.now Shared)) }
+        ensures keeps { IfOk result ChangesNothing }
         ensures tells { IfOk result TellsNothing }
     {
         match bx_reads::readlink(alloc, self.volume, self.areas, at, view) {
@@ -160,7 +192,7 @@ impl BoxFs {
         ensures comes { (truth : Truth) (tree : Tree) → IsTruth (V.held view.now) truth → Stands self.now.volume self.now.areas truth tree
             → IfOk result (Comes self.now.volume self.now.areas truth tree xid (getattr_of tree at.now)) }
         ensures fair { IfOk result (IsFair self.now.areas (V.held view.now) (OnInode self.now.volume at.now Shared)) }
-        ensures writes { IfOk result (WritesOne (OnInode self.now.volume at.now Shared)) }
+        ensures keeps { IfOk result ChangesNothing }
         ensures tells { IfOk result TellsNothing }
     {
         match bx_reads::getattr(alloc, self.volume, self.areas, at, view) {

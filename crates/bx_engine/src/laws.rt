@@ -27,10 +27,11 @@ pub fn hints_do_not_matter()
         → StandsWith volume areas truth (with_hint at (truth at) hints) tree }
 {}
 
-/// One block at most is on the path of a call, in one mode: shared of a GETATTR, exclusively of a SETATTR. No block is on the path of
-/// a call that is refused.
+/// One block at most is on the path of a call other than STATFS (17), in one mode: shared of a GETATTR or a READLINK, exclusively of a
+/// SETATTR. What is on the path of STATFS is shared. No block is on the path of a call that is refused.
 pub fn paths_are_of_files()
-    ensures one { (volume : ℕ) (bytes : List ℕ) (at other : ℕ) (mode asked : Mode) → IsOnPath volume bytes at mode → IsOnPath volume bytes other asked → (at ≡ other) × (mode ≡ asked) }
+    ensures one { (volume : ℕ) (bytes : List ℕ) (at other xid : ℕ) (mode asked : Mode) (call : Call) → ReadsAs bytes xid call → (call.procedure ≡ 17 → ⊥) → IsOnPath volume bytes at mode → IsOnPath volume bytes other asked
+        → (at ≡ other) × (mode ≡ asked) }
     ensures shared { (volume : ℕ) (bytes : List ℕ) (at xid : ℕ) (call : Call) → IsOnPath volume bytes at Shared → ReadsAs bytes xid call → (handle : List ℕ) × (call.args ≡ Handle handle) }
     ensures exclusive { (volume : ℕ) (bytes : List ℕ) (at xid : ℕ) (call : Call) → IsOnPath volume bytes at Exclusive → ReadsAs bytes xid call
         → (handle : List ℕ) × (sattr : Sattr) × (call.args ≡ Set handle sattr) }

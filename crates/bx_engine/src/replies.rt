@@ -3,7 +3,7 @@
 ghost use Rattle.std.specs.Prelude.{◌≡◌, IfOk};
 ghost use Rattle.bx_model.specs.Mounting.{plain as plain_of};
 ghost use Rattle.bx_views.specs.declared.attempt.Attempt.TheVariants.{Answer, Change};
-ghost use Rattle.bx_engine.specs.Replies.{IsStopped, done_of};
+ghost use Rattle.bx_engine.specs.Replies.{IsStopped, done_of, done_with};
 
 use bx_base::OutOfMemory;
 use bx_inodes::Stop;
@@ -33,14 +33,14 @@ pub(crate) fn plain(program: u32, procedure: u32) -> Reply
     }
 }
 
-/// What is told of a call that acted, by the call's number and its reply: no free blocks, and no file that it made.
-fn told(alloc: Global, xid: u32, reply: Reply) -> Result<Done, OutOfMemory>
-    ensures { IfOk result (λ done. done ≡ done_of xid reply) }
+/// What is told of a call that acted, by the call's number and its reply: so many free blocks, and no file that it made.
+fn told(alloc: Global, xid: u32, reply: Reply, spare: u64) -> Result<Done, OutOfMemory>
+    ensures { IfOk result (λ done. done ≡ done_with xid reply spare) }
 {
     let reply = bx_nfs::text(alloc, xid, &reply)?;
     Ok(Done {
         reply,
-        spare: ENOUGH,
+        spare,
         made: 0,
     })
 }
@@ -49,7 +49,20 @@ fn told(alloc: Global, xid: u32, reply: Reply) -> Result<Done, OutOfMemory>
 pub(crate) fn answered(alloc: Global, xid: u32, reply: Reply) -> Result<Attempt, OutOfMemory>
     ensures { IfOk result (λ attempt. attempt ≡ Answer (done_of xid reply)) }
 {
-    let done = told(alloc, xid, reply)?;
+    let done = told(alloc, xid, reply, ENOUGH)?;
+    Ok(Attempt::Answer(done))
+}
+
+/// The answer with a reply that tells how many blocks are free.
+pub(crate) fn answered_with(
+    alloc: Global,
+    xid: u32,
+    reply: Reply,
+    free: u32,
+) -> Result<Attempt, OutOfMemory>
+    ensures { IfOk result (λ attempt. attempt ≡ Answer (done_with xid reply free)) }
+{
+    let done = told(alloc, xid, reply, u64::from(free))?;
     Ok(Attempt::Answer(done))
 }
 
@@ -62,7 +75,7 @@ pub(crate) fn changed(
 ) -> Result<Attempt, OutOfMemory>
     ensures { IfOk result (λ attempt. attempt ≡ Change draft (done_of xid reply)) }
 {
-    let done = told(alloc, xid, reply)?;
+    let done = told(alloc, xid, reply, ENOUGH)?;
     Ok(Attempt::Change(draft, done))
 }
 

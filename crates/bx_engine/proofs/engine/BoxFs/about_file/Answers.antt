@@ -1,23 +1,68 @@
-use Rattle.std.proofs.Common.{◌≡◌, ℕ, inl, inr}
+use Rattle.std.proofs.Common.{◌≡◌, ℕ, inl, inr, arith}
+use Rattle.std.proofs.lemmas.Result.{IfOk-weaker}
+use Rattle.bx_base.specs.declared.names.Mode.TheVariants.{Shared}
+use Rattle.bx_chunks.specs.Counting.{free_slots}
 use Rattle.bx_engine.proofs.Acting.{getattr_acts, gives_by, readlink_acts}
+use Rattle.bx_engine.proofs.Along.{fair_along}
+use Rattle.bx_engine.proofs.Spaces.{space_gives, space_on, space_tells}
 use Rattle.bx_engine.specs.Calls.{IsAboutFile}
+use Rattle.bx_engine.specs.Paths.{PathOf}
+use Rattle.bx_inodes.specs.Stops.{OnInode}
+use Rattle.bx_model.specs.declared.call.Args.TheVariants.{Handle}
 use Rattle.bx_model.specs.Reading.{getattr, readlink}
+use Rattle.bx_reads.specs.Space.{OnSpace}
 use Rattle.bx_engine.proofs.engine.BoxFs.about_file.Goals as goal
 
 pub returns-then-call-eq-READLINK-clause-gives : goal.returns-then-call-eq-READLINK-clause-gives
-returns-then-call-eq-READLINK-clause-gives g c = λ client moment bytes truth tree free fits reads same s.
+returns-then-call-eq-READLINK-clause-gives g c = λ client moment bytes truth tree fits reads same s.
     let fs = c.args.self.now in
     let call = c.args.call.now in
-    gives_by fs.volume fs.areas client bytes moment free truth tree c.args.xid call (readlink tree c.args.at.now) reads fits
+    gives_by fs.volume fs.areas client bytes moment (free_slots fs.areas truth) truth tree c.args.xid call (readlink tree c.args.at.now) reads fits
     (readlink_acts tree call moment c.args.at.now c.requires.handle c.if-call-eq-READLINK.true) s c.readlink.result (c.readlink.ensures.comes truth tree same s)
 
-pub returns-else-call-eq-READLINK-clause-gives : goal.returns-else-call-eq-READLINK-clause-gives
-returns-else-call-eq-READLINK-clause-gives g c = λ client moment bytes truth tree free fits reads same s.
+pub returns-then-call-eq-READLINK-clause-fair : goal.returns-then-call-eq-READLINK-clause-fair
+returns-then-call-eq-READLINK-clause-fair g c =
+    let fs = c.args.self.now in
+    IfOk-weaker c.readlink.result _ _ (fair_along (OnInode fs.volume c.args.at.now Shared) (PathOf fs.volume c.args.call.now.procedure (Handle c.args.at.now)) (λ at mode on. inl on) fs.areas (g.V.View.held c.args.view.now)) c.readlink.ensures.fair
+
+pub returns-then-call-eq-READLINK-clause-free : goal.returns-then-call-eq-READLINK-clause-free
+returns-then-call-eq-READLINK-clause-free g c = λ truth tree asks same s. absurd (omega (arith, asks, c.if-call-eq-READLINK.true))
+
+pub returns-then-call-eq-STATFS-clause-gives : goal.returns-then-call-eq-STATFS-clause-gives
+returns-then-call-eq-STATFS-clause-gives g c = λ client moment bytes truth tree fits reads same s.
+    let fs = c.args.self.now in
+    IfOk-weaker c.statfs.result _ _
+    (space_gives fs.volume fs.areas client bytes moment (free_slots fs.areas truth) truth tree c.args.xid c.args.call.now c.args.at.now reads fits c.requires.handle c.if-call-eq-STATFS.true)
+    (c.statfs.ensures.comes truth tree same s)
+
+pub returns-then-call-eq-STATFS-clause-fair : goal.returns-then-call-eq-STATFS-clause-fair
+returns-then-call-eq-STATFS-clause-fair g c =
+    let fs = c.args.self.now in
+    IfOk-weaker c.statfs.result _ _ (fair_along (OnSpace fs.volume fs.areas c.args.at.now) (PathOf fs.volume c.args.call.now.procedure (Handle c.args.at.now)) (space_on fs.volume fs.areas c.args.at.now c.args.call.now.procedure c.if-call-eq-STATFS.true) fs.areas (g.V.View.held c.args.view.now)) c.statfs.ensures.fair
+
+pub returns-then-call-eq-STATFS-clause-tells : goal.returns-then-call-eq-STATFS-clause-tells
+returns-then-call-eq-STATFS-clause-tells g c = λ other. absurd (other c.if-call-eq-STATFS.true)
+
+pub returns-then-call-eq-STATFS-clause-free : goal.returns-then-call-eq-STATFS-clause-free
+returns-then-call-eq-STATFS-clause-free g c = λ truth tree asks same s.
+    IfOk-weaker c.statfs.result _ _ (space_tells tree (free_slots c.args.self.now.areas truth) c.args.at.now c.args.xid) (c.statfs.ensures.comes truth tree same s)
+
+pub returns-else-call-eq-STATFS-clause-gives : goal.returns-else-call-eq-STATFS-clause-gives
+returns-else-call-eq-STATFS-clause-gives g c = λ client moment bytes truth tree fits reads same s.
     let fs = c.args.self.now in
     let call = c.args.call.now in
-    gives_by fs.volume fs.areas client bytes moment free truth tree c.args.xid call (getattr tree c.args.at.now) reads fits
-    (getattr_acts tree call moment c.args.at.now c.requires.handle (by c.requires.procedure c.if-call-eq-READLINK.false)) s c.getattr.result (c.getattr.ensures.comes truth tree same s)
+    gives_by fs.volume fs.areas client bytes moment (free_slots fs.areas truth) truth tree c.args.xid call (getattr tree c.args.at.now) reads fits
+    (getattr_acts tree call moment c.args.at.now c.requires.handle (by c.requires.procedure c.if-call-eq-READLINK.false c.if-call-eq-STATFS.false)) s c.getattr.result (c.getattr.ensures.comes truth tree same s)
   where
-    by : {n : ℕ} → IsAboutFile n → (n ≡ 5 → ⊥) → n ≡ 1
-    by (inl one) other = one
-    by (inr five) other = absurd (other five)
+    by : {n : ℕ} → IsAboutFile n → (n ≡ 5 → ⊥) → (n ≡ 17 → ⊥) → n ≡ 1
+    by (inl one) not other = one
+    by (inr (inl five)) not other = absurd (not five)
+    by (inr (inr space)) not other = absurd (other space)
+
+pub returns-else-call-eq-STATFS-clause-fair : goal.returns-else-call-eq-STATFS-clause-fair
+returns-else-call-eq-STATFS-clause-fair g c =
+    let fs = c.args.self.now in
+    IfOk-weaker c.getattr.result _ _ (fair_along (OnInode fs.volume c.args.at.now Shared) (PathOf fs.volume c.args.call.now.procedure (Handle c.args.at.now)) (λ at mode on. inl on) fs.areas (g.V.View.held c.args.view.now)) c.getattr.ensures.fair
+
+pub returns-else-call-eq-STATFS-clause-free : goal.returns-else-call-eq-STATFS-clause-free
+returns-else-call-eq-STATFS-clause-free g c = λ truth tree asks same s. absurd (c.if-call-eq-STATFS.false asks)

@@ -1,14 +1,18 @@
 use Rattle.std.proofs.Common.{◌≡◌, ◌∙◌, ℕ, List, sym, ap, subst}
 use Rattle.std.specs.Prelude.{Ok, IfOk}
+use Rattle.std.proofs.lemmas.Result.{IfOk-weaker}
+use Rattle.bx_chunks.specs.Counting.{free_slots}
+use Rattle.bx_engine.proofs.Along.{nothing_written}
 use Rattle.bx_engine.proofs.Acting.{gives_by, nothing_acts, refused_acts, setattr_acts, unmount_acts}
 use Rattle.bx_engine.proofs.Stopping.{answered_comes}
 use Rattle.bx_engine.specs.Calls.{HasBuiltArgs}
-use Rattle.bx_engine.specs.Outcomes.{WritesOne}
+use Rattle.bx_engine.specs.Outcomes.{TellsFree, WritesOne, told_free}
 use Rattle.bx_engine.specs.Paths.{PathOf}
 use Rattle.bx_model.specs.declared.call.Args.{Args}
 use Rattle.bx_model.specs.declared.call.Args.TheVariants.{Handle, Set}
 use Rattle.bx_model.specs.declared.reply.Reply.TheVariants as replies
 use Rattle.bx_model.specs.Mounting.{plain}
+use Rattle.bx_model.specs.Reading.{statfs}
 use Rattle.bx_model.specs.Steps.{Outcome}
 use Rattle.bx_model.specs.Writing.{setattr}
 use Rattle.bx_tree_files.specs.Times.{time_of}
@@ -16,31 +20,31 @@ use Rattle.bx_views.specs.Attempts.{IsFair}
 use Rattle.bx_engine.proofs.engine.BoxFs.attempt_built.Goals as goal
 
 pub returns-in-Refused-clause-gives : goal.returns-in-Refused-clause-gives
-returns-in-Refused-clause-gives g c = λ client bytes truth tree free reads same s.
+returns-in-Refused-clause-gives g c = λ client bytes truth tree reads same s.
     let fs = c.args.self.now in
     let call = c.args.call.now in
     let reply = replies.Refused c.in-Refused.number call.program in
     let outcome : Outcome = Ok (reply, tree) in
-    gives_by fs.volume fs.areas client bytes c.args.moment free truth tree c.args.xid call outcome reads c.requires.moment
+    gives_by fs.volume fs.areas client bytes c.args.moment (free_slots fs.areas truth) truth tree c.args.xid call outcome reads c.requires.moment
     (refused_acts tree call c.args.moment c.in-Refused.number c.in-Refused.is) s c.answered.result
     (answered_comes fs.volume fs.areas truth tree c.args.xid reply c.answered.result c.answered.ensures)
 
 pub returns-in-Nothing-clause-gives : goal.returns-in-Nothing-clause-gives
-returns-in-Nothing-clause-gives g c = λ client bytes truth tree free reads same s.
+returns-in-Nothing-clause-gives g c = λ client bytes truth tree reads same s.
     let fs = c.args.self.now in
     let call = c.args.call.now in
     let reply = plain call.program call.procedure in
     let outcome : Outcome = Ok (reply, tree) in
-    gives_by fs.volume fs.areas client bytes c.args.moment free truth tree c.args.xid call outcome reads c.requires.moment
+    gives_by fs.volume fs.areas client bytes c.args.moment (free_slots fs.areas truth) truth tree c.args.xid call outcome reads c.requires.moment
     (nothing_acts tree call c.args.moment c.in-Nothing.is) s c.answered-in-Nothing.result
     (answered_comes fs.volume fs.areas truth tree c.args.xid reply c.answered-in-Nothing.result (rw c.plain.ensures at c.answered-in-Nothing.ensures))
 
 pub returns-in-Path-clause-gives : goal.returns-in-Path-clause-gives
-returns-in-Path-clause-gives g c = λ client bytes truth tree free reads same s.
+returns-in-Path-clause-gives g c = λ client bytes truth tree reads same s.
     let fs = c.args.self.now in
     let call = c.args.call.now in
     let outcome : Outcome = Ok (replies.Empty, tree) in
-    gives_by fs.volume fs.areas client bytes c.args.moment free truth tree c.args.xid call outcome reads c.requires.moment
+    gives_by fs.volume fs.areas client bytes c.args.moment (free_slots fs.areas truth) truth tree c.args.xid call outcome reads c.requires.moment
     (unmount_acts tree call c.args.moment c.in-Path.field-0 c.in-Path.is (subst (HasBuiltArgs call) c.in-Path.is c.requires.built)) s c.answered-in-Path.result
     (answered_comes fs.volume fs.areas truth tree c.args.xid replies.Empty c.answered-in-Path.result c.answered-in-Path.ensures)
 
@@ -51,32 +55,61 @@ pub about_file-requires-clause-procedure : goal.about_file-requires-clause-proce
 about_file-requires-clause-procedure g c = (subst (HasBuiltArgs c.args.call.now) c.in-Handle.is c.requires.built).procedure
 
 pub returns-in-Handle-clause-gives : goal.returns-in-Handle-clause-gives
-returns-in-Handle-clause-gives g c = λ client bytes truth tree free reads same s.
-    c.about_file.ensures.gives client c.args.moment bytes truth tree free c.requires.moment reads same s
+returns-in-Handle-clause-gives g c = λ client bytes truth tree reads same s.
+    c.about_file.ensures.gives client c.args.moment bytes truth tree c.requires.moment reads same s
 
 pub returns-in-Handle-clause-fair : goal.returns-in-Handle-clause-fair
 returns-in-Handle-clause-fair g c =
     let fs = c.args.self.now in
     let is : c.args.call.now.args ≡ Handle c.bytes.result.now = c.in-Handle.is ∙ ap (λ (b : List ℕ). Handle b) (sym c.bytes.ensures) in
-    subst (λ (args : Args). IfOk c.about_file.result (IsFair fs.areas (g.V.View.held c.args.view.now) (PathOf fs.volume args))) (sym is) c.about_file.ensures.fair
+    subst (λ (args : Args). IfOk c.about_file.result (IsFair fs.areas (g.V.View.held c.args.view.now) (PathOf fs.volume c.args.call.now.procedure args))) (sym is) c.about_file.ensures.fair
 
 pub returns-in-Set-clause-gives : goal.returns-in-Set-clause-gives
-returns-in-Set-clause-gives g c = λ client bytes truth tree free reads same s.
+returns-in-Set-clause-gives g c = λ client bytes truth tree reads same s.
     let fs = c.args.self.now in
     let call = c.args.call.now in
     let at = c.bytes-in-Set.result.now in
     let is : call.args ≡ Set at c.in-Set.sattr = c.in-Set.is ∙ ap (λ (b : List ℕ). Set b c.in-Set.sattr) (sym c.bytes-in-Set.ensures) in
-    gives_by fs.volume fs.areas client bytes c.args.moment free truth tree c.args.xid call (setattr tree call at c.in-Set.sattr (time_of c.args.moment)) reads c.requires.moment
+    gives_by fs.volume fs.areas client bytes c.args.moment (free_slots fs.areas truth) truth tree c.args.xid call (setattr tree call at c.in-Set.sattr (time_of c.args.moment)) reads c.requires.moment
     (setattr_acts tree call c.args.moment at c.in-Set.sattr is) s c.setattr.result (c.setattr.ensures.comes truth tree same s)
 
 pub returns-in-Set-clause-fair : goal.returns-in-Set-clause-fair
 returns-in-Set-clause-fair g c =
     let fs = c.args.self.now in
     let is : c.args.call.now.args ≡ Set c.bytes-in-Set.result.now c.in-Set.sattr = c.in-Set.is ∙ ap (λ (b : List ℕ). Set b c.in-Set.sattr) (sym c.bytes-in-Set.ensures) in
-    subst (λ (args : Args). IfOk c.setattr.result (IsFair fs.areas (g.V.View.held c.args.view.now) (PathOf fs.volume args))) (sym is) c.setattr.ensures.fair
+    subst (λ (args : Args). IfOk c.setattr.result (IsFair fs.areas (g.V.View.held c.args.view.now) (PathOf fs.volume c.args.call.now.procedure args))) (sym is) c.setattr.ensures.fair
 
 pub returns-in-Set-clause-writes : goal.returns-in-Set-clause-writes
 returns-in-Set-clause-writes g c =
     let fs = c.args.self.now in
     let is : c.args.call.now.args ≡ Set c.bytes-in-Set.result.now c.in-Set.sattr = c.in-Set.is ∙ ap (λ (b : List ℕ). Set b c.in-Set.sattr) (sym c.bytes-in-Set.ensures) in
-    subst (λ (args : Args). IfOk c.setattr.result (WritesOne (PathOf fs.volume args))) (sym is) c.setattr.ensures.writes
+    subst (λ (args : Args). IfOk c.setattr.result (WritesOne (PathOf fs.volume c.args.call.now.procedure args))) (sym is) c.setattr.ensures.writes
+
+pub returns-in-Handle-clause-writes : goal.returns-in-Handle-clause-writes
+returns-in-Handle-clause-writes g c = IfOk-weaker c.about_file.result _ _ (nothing_written (PathOf c.args.self.now.volume c.args.call.now.procedure c.args.call.now.args)) c.about_file.ensures.keeps
+
+pub returns-in-Handle-clause-tells : goal.returns-in-Handle-clause-tells
+returns-in-Handle-clause-tells g c = λ other.
+    let is : c.args.call.now.args ≡ Handle c.bytes.result.now = c.in-Handle.is ∙ ap (λ (b : List ℕ). Handle b) (sym c.bytes.ensures) in
+    c.about_file.ensures.tells (λ asks. other c.bytes.result.now (record { args = is; procedure = asks }))
+
+pub returns-in-Handle-clause-free : goal.returns-in-Handle-clause-free
+returns-in-Handle-clause-free g c = λ at truth tree asks same s.
+    let fs = c.args.self.now in
+    let free = free_slots fs.areas truth in
+    let is : c.args.call.now.args ≡ Handle c.bytes.result.now = c.in-Handle.is ∙ ap (λ (b : List ℕ). Handle b) (sym c.bytes.ensures) in
+    let here : Handle c.bytes.result.now ≡ Handle at = sym is ∙ asks.args in
+    let one : c.bytes.result.now ≡ at = cc in
+    subst (λ (bytes : List ℕ). IfOk c.about_file.result (TellsFree (told_free free (statfs tree bytes free)))) one (c.about_file.ensures.free truth tree asks.procedure same s)
+
+pub returns-in-Refused-clause-free : goal.returns-in-Refused-clause-free
+returns-in-Refused-clause-free g c = λ at truth tree asks same s. let never = sym c.in-Refused.is ∙ asks.args in absurd cc
+
+pub returns-in-Nothing-clause-free : goal.returns-in-Nothing-clause-free
+returns-in-Nothing-clause-free g c = λ at truth tree asks same s. let never = sym c.in-Nothing.is ∙ asks.args in absurd cc
+
+pub returns-in-Path-clause-free : goal.returns-in-Path-clause-free
+returns-in-Path-clause-free g c = λ at truth tree asks same s. let never = sym c.in-Path.is ∙ asks.args in absurd cc
+
+pub returns-in-Set-clause-free : goal.returns-in-Set-clause-free
+returns-in-Set-clause-free g c = λ at truth tree asks same s. let never = sym c.in-Set.is ∙ asks.args in absurd cc

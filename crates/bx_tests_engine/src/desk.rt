@@ -5,6 +5,7 @@ ghost use Rattle.bx_records.specs.Drafts.{block_in};
 ghost use Rattle.bx_views.specs.Truths.{no_hints};
 ghost use Rattle.bx_tests_engine.specs.Desks.{held_on};
 
+use crate::links::link_block;
 use bx_base::{Mode, Raw};
 use bx_format::opening_block;
 use bx_layout::Block;
@@ -61,6 +62,13 @@ impl Desk {
     pub(crate) fn lend(&mut self, alloc: Global, at: u16) -> Result<(), Fail> {
         let block = opening_block(alloc, at)?;
         self.lent.put(u64::from(at), block)?;
+        Ok(())
+    }
+
+    /// Holds a link in slot 2, shared alone.
+    pub(crate) fn lend_link(&mut self, alloc: Global) -> Result<(), Fail> {
+        let block = link_block(alloc)?;
+        self.lent.put(2, block)?;
         Ok(())
     }
 

@@ -6,6 +6,8 @@ mod changes;
 #[cfg(test)]
 mod desk;
 #[cfg(test)]
+mod links;
+#[cfg(test)]
 mod reads;
 #[cfg(test)]
 mod words;

@@ -2,16 +2,32 @@
 
 use crate::desk::Desk;
 use crate::words::{
-    GONE, MODE, MODE_AND_SIZE, ROOT, attempt, bytes_of, is_answer, is_answered, is_needed, nobody,
+    GONE, LINK, MODE, MODE_AND_SIZE, ROOT, attempt, bytes_of, is_answer, is_answered, is_needed,
+    is_space, nobody,
 };
 use bx_base::Mode;
 use std::alloc::Global;
 use std::test::Fail;
 
 /// Calls that are about no file, with their replies.
-const CASES: [(&[u32], &[u32]); 6] = [
+const CASES: [(&[u32], &[u32]); 13] = [
     // NULL
     (&[1, 0, 2, 100003, 2, 0, 0, 0, 0, 0], &[1, 1, 0, 0, 0, 0]),
+    // ROOT and WRITECACHE
+    (&[1, 0, 2, 100003, 2, 3, 0, 0, 0, 0], &[1, 1, 0, 0, 0, 0]),
+    (&[1, 0, 2, 100003, 2, 7, 0, 0, 0, 0], &[1, 1, 0, 0, 0, 0]),
+    // of MOUNT NULL, DUMP, UMNT of `/`, UMNTALL and EXPORT
+    (&[1, 0, 2, 100005, 1, 0, 0, 0, 0, 0], &[1, 1, 0, 0, 0, 0]),
+    (&[1, 0, 2, 100005, 1, 2, 0, 0, 0, 0], &[1, 1, 0, 0, 0, 0, 0]),
+    (
+        &[1, 0, 2, 100005, 1, 3, 0, 0, 0, 0, 1, 0x2f00_0000],
+        &[1, 1, 0, 0, 0, 0],
+    ),
+    (&[1, 0, 2, 100005, 1, 4, 0, 0, 0, 0], &[1, 1, 0, 0, 0, 0]),
+    (
+        &[1, 0, 2, 100005, 1, 5, 0, 0, 0, 0],
+        &[1, 1, 0, 0, 0, 0, 1, 1, 0x2f00_0000, 0, 0],
+    ),
     // another version of RPC
     (&[2, 0, 3, 100003, 2, 0, 0, 0, 0, 0], &[2, 1, 1, 0, 2, 2]),
     // no such procedure
@@ -55,6 +71,12 @@ const CASES: [(&[u32], &[u32]); 6] = [
         &[4, 1, 0, 0, 0, 4],
     ),
 ];
+
+/// The reply to a STATFS of the volume with number 1, where the root and its page alone are in use.
+const SPACE: [u32; 12] = [1, 1, 0, 0, 0, 0, 0, 8192, 4096, 960, 958, 958];
+
+/// MNT of `/`.
+const MOUNT_ROOT: [u32; 12] = [1, 0, 2, 100005, 1, 1, 0, 0, 0, 0, 1, 0x2f00_0000];
 
 /// The reply to a GETATTR of the root with number 1.
 const ATTRIBUTES: [u32; 24] = [
@@ -103,10 +125,42 @@ fn the_root_and_no_file_have_attributes(rt: HostRuntime) -> Result<(), Fail> {
 }
 
 #[test]
+fn links_have_paths(rt: HostRuntime) -> Result<(), Fail> {
+    let alloc = rt.alloc();
+    let mut desk = Desk::new(alloc);
+    desk.lend(alloc, 0)?;
+    desk.lend_link(alloc)?;
+    // a link to `a/bc`, a directory, and no file
+    let call = nobody(1, 5);
+    let path = [1, 1, 0, 0, 0, 0, 0, 4, 0x612f_6263];
+    let link = is_answered(alloc, &desk, &[&call, &LINK], 0, &path);
+    let other = is_answered(alloc, &desk, &[&call, &ROOT], 0, &[1, 1, 0, 0, 0, 0, 6]);
+    let none = is_answered(alloc, &desk, &[&call, &GONE], 0, &[1, 1, 0, 0, 0, 0, 70]);
+    assert!(rt; link && other && none);
+    Ok(())
+}
+
+#[test]
+fn free_blocks_are_counted(rt: HostRuntime) -> Result<(), Fail> {
+    let alloc = rt.alloc();
+    let mut desk = Desk::new(alloc);
+    let call = nobody(1, 17);
+    let stale = [1, 1, 0, 0, 0, 0, 70];
+    let inode = is_needed(alloc, &desk, &[&call, &ROOT], 0, Mode::Shared);
+    desk.lend(alloc, 0)?;
+    let area = is_needed(alloc, &desk, &[&call, &ROOT], 960, Mode::Shared);
+    assert!(rt; inode && area && is_space(alloc, &desk, &[&call, &GONE], &stale, 8));
+    desk.lend(alloc, 960)?;
+    assert!(rt; is_space(alloc, &desk, &[&call, &ROOT], &SPACE, 958));
+    Ok(())
+}
+
+#[test]
 fn what_is_not_held_so_is_needed(rt: HostRuntime) -> Result<(), Fail> {
     let alloc = rt.alloc();
     let mut desk = Desk::new(alloc);
-    assert!(rt; is_needed(alloc, &desk, &[&nobody(1, 1), &ROOT], 0, Mode::Shared));
+    let get = is_needed(alloc, &desk, &[&nobody(1, 1), &ROOT], 0, Mode::Shared);
+    assert!(rt; get && is_needed(alloc, &desk, &[&nobody(1, 5), &LINK], 2, Mode::Shared));
     desk.lend(alloc, 0)?;
     assert!(rt;
         is_needed(
@@ -125,12 +179,12 @@ fn other_datagrams_are_passed_over(rt: HostRuntime) -> Result<(), Fail> {
     let alloc = rt.alloc();
     let mut desk = Desk::new(alloc);
     desk.hold(alloc, 0)?;
-    // a SETATTR of the size too, STATFS, a MOUNT's NULL, a reply, and a word
+    // a SETATTR of the size too, LOOKUP of `a`, MNT of `/`, a reply, and a word
     let sized = is_passed_over(alloc, &desk, &[&nobody(1, 2), &ROOT, &MODE_AND_SIZE]);
-    let space = is_passed_over(alloc, &desk, &[&nobody(1, 17), &ROOT]);
-    let mount = is_passed_over(alloc, &desk, &[&[1, 0, 2, 100005, 1, 0, 0, 0, 0, 0]]);
+    let name = is_passed_over(alloc, &desk, &[&nobody(1, 4), &ROOT, &[1, 0x6100_0000]]);
+    let mount = is_passed_over(alloc, &desk, &[&MOUNT_ROOT]);
     let reply = is_passed_over(alloc, &desk, &[&[1, 1, 0, 0, 0, 0]]);
     let word = is_passed_over(alloc, &desk, &[&[1]]);
-    assert!(rt; sized && space && mount && reply && word);
+    assert!(rt; sized && name && mount && reply && word);
     Ok(())
 }

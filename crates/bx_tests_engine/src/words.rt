@@ -17,6 +17,9 @@ pub(crate) const ROOT: [u32; 8] = [0x424f_5857, 0x4f4f_4431, 0, 7, 0, 1, 0, 0];
 
 pub(crate) const GONE: [u32; 8] = [0x424f_5857, 0x4f4f_4431, 0, 7, 0, 2, 0, 0];
 
+/// The file handle of the first generation of slot 2.
+pub(crate) const LINK: [u32; 8] = [0x424f_5857, 0x4f4f_4431, 0, 7, 2, 1, 0, 0];
+
 /// A word that leaves an attribute alone.
 const ALONE: u32 = 0xffff_ffff;
 
@@ -60,7 +63,7 @@ pub(crate) fn attempt(
     ENGINE.attempt(alloc, 5, call, u64::from(moment), desk)
 }
 
-/// Whether the bytes of a call are answered so, without a change.
+/// Whether the bytes of a call are answered so, without a change, and no free blocks are told.
 pub(crate) fn is_answer(
     alloc: Global,
     desk: &Desk,
@@ -68,11 +71,30 @@ pub(crate) fn is_answer(
     moment: u32,
     reply: &[u32],
 ) -> bool {
+    is_told(alloc, desk, call, moment, (reply, 8))
+}
+
+/// Whether the bytes of a call are answered so, without a change, and so many free blocks are told.
+fn is_told(alloc: Global, desk: &Desk, call: &[u8], moment: u32, told: (&[u32], u64)) -> bool {
     match attempt(alloc, desk, call, moment) {
         Ok(Some(Attempt::Answer(done))) => {
-            are_words(alloc, done.reply.bytes(), reply) && done.spare == 8 && done.made == 0
+            are_words(alloc, done.reply.bytes(), told.0) && done.spare == told.1 && done.made == 0
         }
         _ => false,
+    }
+}
+
+/// Whether the words of a STATFS are answered so, and so many free blocks are told.
+pub(crate) fn is_space(
+    alloc: Global,
+    desk: &Desk,
+    parts: &[&[u32]],
+    reply: &[u32],
+    free: u64,
+) -> bool {
+    match bytes_of(alloc, parts) {
+        Ok(call) => is_told(alloc, desk, call.as_slice(), 0, (reply, free)),
+        Err(_) => false,
     }
 }
 

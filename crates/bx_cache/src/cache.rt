@@ -1,6 +1,7 @@
 //! The cache.
 
 ghost use Rattle.std.specs.Prelude.{◌≡◌, ◌==◌, ℕ, None, Some, IfOk, OnOk, if◌then◌else◌};
+ghost use Rattle.bx_cache.specs.Cached.{block_at, or_older};
 ghost use Rattle.bx_records.specs.Drafts.{block_in};
 
 use bx_base::{Mode, OutOfMemory, Raw};
@@ -8,6 +9,7 @@ use bx_layout::Block;
 use bx_views::View;
 use std::alloc::Global;
 use std::collections::BTreeMap;
+use std::marker::Model;
 
 /// Blocks of a volume by their numbers. A node that has the volume to itself holds each block, so that whoever looks at a
 /// cached one may also change it; there are no hints.
@@ -16,9 +18,16 @@ pub struct Cache {
     blocks: BTreeMap<u64, Block>,
 }
 
-impl Cache {
-    ghost use Rattle.bx_cache.specs.Cached.{block_at, or_older};
+impl Model for Cache {
+    ghost use Rattle.std.specs.Prelude.{ℕ, List};
+    ghost use Rattle.bx_layout.specs.declared.block.Block.{Block};
 
+    ghost Value = { List (ℕ × Block) };
+
+    ghost view = { λ cache. cache.blocks.entries };
+}
+
+impl Cache {
     /// No blocks yet. It takes no memory.
     pub fn new(alloc: Global) -> Cache
         ensures { (at : ℕ) → block_at result at ≡ None }
@@ -50,8 +59,6 @@ impl Cache {
 }
 
 impl View for Cache {
-    ghost use Rattle.bx_cache.specs.Cached.{block_at};
-
     ghost held = { λ cache at mode. block_at cache at };
 
     ghost hints = { λ cache at. None };

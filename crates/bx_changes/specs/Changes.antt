@@ -1,8 +1,11 @@
 -- What a procedure that changes a tree answers.
-use Rattle.std.specs.Prelude.{◌≡◌, ℕ, true, false, List, Result, Ok, Err}
+use Rattle.std.specs.Prelude.{◌≡◌, ℕ, true, false, List, [], ◌∷◌, Result, Ok, Err}
+use Rattle.bx_base.specs.declared.names.Mode.{Mode}
+use Rattle.bx_base.specs.declared.names.Mode.TheVariants.{Exclusive}
 use Rattle.bx_inodes.specs.Stands.{Stands}
 use Rattle.bx_inodes.specs.declared.stop.Stop.{Stop}
 use Rattle.bx_inodes.specs.declared.stop.Stop.TheVariants.{Need, Inner, Status, OutOfMemory}
+use Rattle.bx_layout.specs.declared.block.Block.{Block}
 use Rattle.bx_model.specs.declared.reply.Reply.{Reply}
 use Rattle.bx_model.specs.declared.tree.Tree.{Tree}
 use Rattle.bx_model.specs.Steps.{Outcome}
@@ -33,6 +36,13 @@ pub record SetsModeAlone (sattr : Sattr) : Type 0 where
   pub size : is_given sattr.size ≡ false
   pub atime : is_given sattr.atime.0 ≡ false
   pub mtime : is_given sattr.mtime.0 ≡ false
+
+-- one block is changed, which is on the path exclusively
+pub record IsOneBlock (Path : ℕ → Mode → Type 0) (draft : List Changed) : Type 0 where
+  pub at : ℕ
+  pub block : Block
+  pub is : draft ≡ (at, block) ∷ []
+  pub on : Path at Exclusive
 
 -- no block is needed
 abbrev pub NeedsNothing : {T : Type 0} → Result T Stop → Type 0

@@ -14,8 +14,8 @@ ghost use Rattle.bx_truth.specs.Chunks.{block_at};
 ghost use Rattle.bx_views.specs.Attempts.{IsHeldDraft};
 ghost use Rattle.bx_views.specs.Truths.{Held, IsTruth, Truth};
 ghost use Rattle.bx_inodes.specs.Stands.{Stands};
-ghost use Rattle.bx_inodes.specs.Stops.{NeedsOn, OnInode};
-ghost use Rattle.bx_changes.specs.Changes.{IsChange, NeedsNothing, SetsModeAlone};
+ghost use Rattle.bx_inodes.specs.Stops.{NeedsOn, NeverInner, OnInode};
+ghost use Rattle.bx_changes.specs.Changes.{IsChange, IsOneBlock, NeedsNothing, SetsModeAlone};
 
 use crate::rewriting::rewritten;
 use bx_base::{Mode, OutOfMemory};
@@ -47,7 +47,9 @@ pub fn set_mode<V: View>(
     ensures step { (truth : Truth) (tree : Tree) → IsTruth (V.held view.now) truth → Stands volume areas truth tree
         → IsChange volume areas truth tree (setattr tree call.now at.now sattr.now now) result }
     ensures need { NeedsOn areas (V.held view.now) (OnInode volume at.now Exclusive) result }
+    ensures inner { NeverInner result }
     ensures held { IfOk result (λ made. IsHeldDraft (V.held view.now) made.0) }
+    ensures one { IfOk result (λ made. IsOneBlock (OnInode volume at.now Exclusive) made.0) }
 {
     let Some(handle) = named_handle(volume, at) else {
         return Err(Stop::Status(STALE));
@@ -74,6 +76,8 @@ fn with_mode(
     ensures step { (areas : ℕ) (truth : Truth) (tree : Tree) (bytes : List ℕ) → Stands volume areas truth tree → IsInodeOf areas truth tree handle inode → named volume bytes ≡ Some handle
         → IsChange volume areas truth tree (setattr tree call.now bytes sattr.now now) result }
     ensures held { (held : Held) → IsSome (held (block_at handle) Exclusive) → IfOk result (λ made. IsHeldDraft held made.0) }
+    ensures one { IfOk result (λ made. IsOneBlock (λ at mode. at ≡ block_at handle) made.0) }
+    ensures inner { NeverInner result }
     ensures acts { NeedsNothing result }
 {
     match may_set(alloc, call, handle, &inode) {

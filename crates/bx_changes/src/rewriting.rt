@@ -16,6 +16,7 @@ ghost use Rattle.bx_truth.specs.Stands.{StandsFor};
 ghost use Rattle.bx_truth.specs.Stored.{HasFields};
 ghost use Rattle.bx_views.specs.Attempts.{IsHeldDraft};
 ghost use Rattle.bx_views.specs.Truths.{Held, Truth, with_draft};
+ghost use Rattle.bx_changes.specs.Changes.{IsOneBlock};
 
 use bx_base::OutOfMemory;
 use bx_inodes::put_inode;
@@ -39,6 +40,7 @@ pub(crate) fn rewritten(
         → HoldsInode areas truth handle old → KeepsBody old inode.now → HasFields inode.now file_now → file_now.handle ≡ handle → file_now.body ≡ file.body
         → IfOk result (λ made. StandsFor areas (with_draft truth made.0) (record tree { files = with_file tree.files file_now })) }
     ensures held { (held : Held) → IsSome (held (block_at handle) Exclusive) → IfOk result (λ made. IsHeldDraft held made.0) }
+    ensures one { IfOk result (λ made. IsOneBlock (λ at mode. at ≡ block_at handle) made.0) }
 {
     let words = attributes_by(alloc, volume, handle, inode)?;
     let mut draft = Draft::new(alloc);

@@ -19,3 +19,11 @@ NeedsOn areas held Path (Err OutOfMemory) = Unit {0}
 -- the block of the inode that a file handle of a volume names, in a mode
 abbrev pub OnInode : ℕ → List ℕ → Mode → ℕ → Mode → Type 0
 OnInode volume bytes mode at asked = (handle : ℕ) × (named volume bytes ≡ Some handle) × (at ≡ block_at handle) × (asked ≡ mode)
+
+-- no blocks are to be written first
+abbrev pub NeverInner : {T : Type 0} → Result T Stop → Type 0
+NeverInner (Ok found) = Unit {0}
+NeverInner (Err (Need at mode)) = Unit {0}
+NeverInner (Err (Inner blocks)) = ⊥
+NeverInner (Err (Status status)) = Unit {0}
+NeverInner (Err OutOfMemory) = Unit {0}

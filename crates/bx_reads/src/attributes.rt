@@ -9,7 +9,7 @@ ghost use Rattle.bx_model.specs.Reading.{getattr};
 ghost use Rattle.bx_truth.specs.Chunks.{block_at};
 ghost use Rattle.bx_views.specs.Truths.{IsTruth, Truth};
 ghost use Rattle.bx_inodes.specs.Stands.{Stands};
-ghost use Rattle.bx_inodes.specs.Stops.{NeedsOn, OnInode};
+ghost use Rattle.bx_inodes.specs.Stops.{NeedsOn, NeverInner, OnInode};
 ghost use Rattle.bx_reads.specs.Answers.{IsOutcome};
 
 use crate::shown::attributes_by;
@@ -34,6 +34,7 @@ pub fn getattr<V: View>(
 ) -> Result<Reply, Stop>
     ensures step { (truth : Truth) (tree : Tree) → IsTruth (V.held view.now) truth → Stands volume areas truth tree → IsOutcome tree (getattr tree at.now) result }
     ensures need { NeedsOn areas (V.held view.now) (OnInode volume at.now Shared) result }
+    ensures inner { NeverInner result }
 {
     let Some(handle) = named_handle(volume, at) else {
         return Err(Stop::Status(STALE));

@@ -1,0 +1,90 @@
+-- What comes to a procedure's outcome is one step of the tree.
+use Rattle.std.proofs.Common.{◌≡◌, ℕ, ◌≤◌, List, [], Some, refl, sym, ap, ◌∙◌, subst, inl, arith, lit≤}
+use Rattle.bx_engine.specs.Calls.{IsProcedure}
+use Rattle.bx_engine.specs.Outcomes.{Comes, ComesTo}
+use Rattle.bx_engine.specs.Steps.{StandsWith, Step}
+use Rattle.bx_inodes.specs.Stands.{Stands}
+use Rattle.bx_model.specs.declared.call.Args.{Args}
+use Rattle.bx_model.specs.declared.call.Args.TheVariants.{Refused, Nothing, Handle, Set}
+use Rattle.bx_model.specs.declared.call.Call.{Call}
+use Rattle.bx_model.specs.declared.reply.Reply.{Reply}
+use Rattle.bx_model.specs.declared.reply.Reply.TheVariants as replies
+use Rattle.bx_model.specs.declared.tree.Tree.{Tree}
+use Rattle.bx_model.specs.Act.{act, given, about_file}
+use Rattle.bx_model.specs.Mounting.{plain}
+use Rattle.bx_model.specs.Reading.{getattr}
+use Rattle.bx_model.specs.Steps.{Outcome, done, plainly}
+use Rattle.bx_model.specs.Writing.{setattr}
+use Rattle.std.specs.Prelude.{Result, Ok, IfOk}
+use Rattle.std.proofs.lemmas.Result.{IfOk-weaker}
+use Rattle.bx_nfs.specs.Wire.{ReadsAs, reply_text}
+use Rattle.bx_tree_files.specs.declared.sattr.Sattr.{Sattr}
+use Rattle.bx_tree_files.specs.Times.{time_of}
+use Rattle.bx_views.specs.declared.attempt.Attempt.{Attempt}
+use Rattle.bx_views.specs.declared.attempt.Attempt.TheVariants.{Need, Change, Inner, Answer}
+use Rattle.bx_views.specs.declared.attempt.Done.{Done}
+use Rattle.bx_views.specs.Attempts.{Acts, Gives, deed_of}
+use Rattle.bx_views.specs.Truths.{Truth, with_draft}
+use Rattle.bx_records.specs.Drafts.{Changed}
+
+-- ---- what the tree does
+
+module _ (tree : Tree) (call : Call) (moment : ℕ) where
+  abbrev ActsSo : Outcome → Type 0
+  ActsSo outcome = act tree call moment 8 0 ≡ Some (done tree outcome)
+
+  by_args : (args : Args) (outcome : Outcome) → call.args ≡ args → given tree call (time_of moment) 8 0 args ≡ Some (done tree outcome) → ActsSo outcome
+  by_args args outcome is gives = ap (given tree call (time_of moment) 8 0) is ∙ gives
+
+  pub refused_acts : (number : ℕ) → call.args ≡ Refused number → ActsSo (Ok (replies.Refused number call.program, tree))
+  refused_acts number is = by_args (Refused number) (Ok (replies.Refused number call.program, tree)) is refl
+
+  pub nothing_acts : call.args ≡ Nothing → IsProcedure 0 call → ActsSo (Ok (replies.Empty, tree))
+  nothing_acts is p = by_args Nothing (Ok (replies.Empty, tree)) is ((λ i. plainly tree 0 (Ok (plain (p.program i) (p.procedure i), tree))))
+
+  pub getattr_acts : (at : List ℕ) → call.args ≡ Handle at → IsProcedure 1 call → ActsSo (getattr tree at)
+  getattr_acts at is p = by_args (Handle at) (getattr tree at) is (ap (λ (procedure : ℕ). plainly tree 0 (about_file tree procedure at 8)) p.procedure)
+
+  pub setattr_acts : (at : List ℕ) (sattr : Sattr) → call.args ≡ Set at sattr → ActsSo (setattr tree call at sattr (time_of moment))
+  setattr_acts at sattr is = by_args (Set at sattr) (setattr tree call at sattr (time_of moment)) is refl
+
+-- ---- the step
+
+module _ (volume areas client : ℕ) (bytes : List ℕ) (moment free : ℕ) (truth : Truth) (tree : Tree) (xid : ℕ) (call : Call) (outcome : Outcome)
+    (reads : ReadsAs bytes xid call) (fits : moment ≤ 4294967295999) (acts : act tree call moment 8 0 ≡ Some (done tree outcome)) where
+  abbrev told_as : Reply → Done
+  told_as reply = record { reply = reply_text xid reply; spare = 8; made = 0 }
+
+  steps : (next : Tree) (acted : Done) → ComesTo tree outcome xid acted next → Step tree (deed_of client bytes moment acted) next
+  steps next acted comes = subst (λ (d : Done). Step tree (deed_of client bytes moment d) next) (sym comes.told) (record {
+    xid = xid;
+    call = call;
+    reply = comes.reply;
+    reads = reads;
+    acts = acts ∙ ap (λ (x : Reply × Tree). Some x) comes.comes_to;
+    replies = refl;
+    moment_fits = fits;
+    spare_fits = lit≤ tt;
+    made_fits = omega arith;
+    enough = λ _. refl;
+  })
+
+  by_step : (next : Tree) (acted : Done) (draft : List Changed) → ComesTo tree outcome xid acted next → Stands volume areas (with_draft truth draft) next
+      → Acts (StandsWith volume areas) Step free (deed_of client bytes moment acted) acted truth draft tree
+  by_step next acted draft comes stands = record {
+    next = next;
+    step = steps next acted comes;
+    leads = record { each = λ hints was. stands };
+    spare = inl (ap (λ (d : Done). d.spare) comes.told);
+  }
+
+  comes_gives : Stands volume areas truth tree → (attempt : Attempt) → Comes volume areas truth tree xid outcome attempt
+      → Gives (StandsWith volume areas) Step free client bytes moment truth tree attempt
+  comes_gives stands (Need wants) comes = tt
+  comes_gives stands (Change draft acted) comes = by_step comes.next acted draft comes.comes comes.stands
+  comes_gives stands (Inner draft) comes = absurd comes
+  comes_gives stands (Answer acted) comes = by_step tree acted [] comes stands
+
+  pub gives_by : {E : Type 0} → Stands volume areas truth tree → (result : Result Attempt E) → IfOk result (Comes volume areas truth tree xid outcome)
+      → IfOk result (Gives (StandsWith volume areas) Step free client bytes moment truth tree)
+  gives_by stands result comes = IfOk-weaker result _ _ (comes_gives stands) comes

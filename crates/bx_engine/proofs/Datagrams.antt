@@ -1,0 +1,28 @@
+-- A datagram is one call at most, so what is said of its call is said of it.
+use Rattle.std.proofs.Common.{ℕ, List, subst}
+use Rattle.bx_base.specs.declared.names.Mode.{Mode}
+use Rattle.bx_engine.specs.Calls.{IsAtOnce, IsAtOnceCall, IsBuilt, IsBuiltCall}
+use Rattle.bx_engine.specs.Paths.{IsOnPath, PathOf}
+use Rattle.bx_model.specs.declared.call.Call.{Call}
+use Rattle.bx_nfs.specs.Wire.{ReadsAs}
+use Rattle.bx_nfs.proofs.Reading.{reads_once}
+
+module _ (bytes : List ℕ) (xid : ℕ) (call : Call) (reads : ReadsAs bytes xid call) where
+  pub built_as : IsBuilt call → IsBuiltCall bytes
+  built_as built = record { xid = xid; call = call; reads = reads; built = built }
+
+  pub unbuilt : (IsBuilt call → ⊥) → IsBuiltCall bytes → ⊥
+  unbuilt none is = none (subst IsBuilt (reads_once bytes is.xid xid is.call call is.reads reads).1 is.built)
+
+  pub at_once_as : IsAtOnceCall bytes → IsAtOnce call
+  at_once_as is = subst IsAtOnce (reads_once bytes is.xid xid is.call call is.reads reads).1 is.at_once
+
+  pub on_path : (volume at : ℕ) (mode : Mode) → PathOf volume call.args at mode → IsOnPath volume bytes at mode
+  on_path volume at mode on = record { xid = xid; call = call; reads = reads; on = on }
+
+  pub path_of : (volume at : ℕ) (mode : Mode) → IsOnPath volume bytes at mode → PathOf volume call.args at mode
+  path_of volume at mode is = subst (λ (c : Call). PathOf volume c.args at mode) (reads_once bytes is.xid xid is.call call is.reads reads).1 is.on
+
+-- no call of a datagram that isn't one is built
+pub unread : (bytes : List ℕ) → ((xid : ℕ) (call : Call) → ReadsAs bytes xid call → ⊥) → IsBuiltCall bytes → ⊥
+unread bytes none is = none is.xid is.call is.reads

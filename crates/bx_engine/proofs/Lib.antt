@@ -1,0 +1,6 @@
+pub mod Acting
+pub mod Along
+pub mod Datagrams
+pub mod OneStep
+pub mod Paths
+pub mod Stopping

@@ -1,0 +1,63 @@
+//! The calls that are attempted.
+
+ghost use Rattle.std.specs.Prelude.{◌↔◌, IsTrue, IfOk, IfSome, IfNone};
+ghost use Rattle.bx_changes.specs.Changes.{SetsModeAlone};
+ghost use Rattle.bx_nfs.specs.Wire.{ReadsAs};
+ghost use Rattle.bx_engine.specs.Calls.{IsBuilt, IsBuiltCall};
+
+use bx_base::OutOfMemory;
+use bx_model::{Args, Call, Sattr};
+use bx_rpc::NFS_PROGRAM;
+use bx_tree_files::is_given;
+use std::alloc::Global;
+
+/// The procedure NULL (RFC 1094, section 2.2.1).
+const NULL: u32 = 0;
+
+/// The procedure GETATTR (RFC 1094, section 2.2.2).
+const GETATTR: u32 = 1;
+
+/// The procedure SETATTR (RFC 1094, section 2.2.3).
+const SETATTR: u32 = 2;
+
+/// The number and the call that a datagram is, if it is one that is attempted; `None` exactly where it isn't.
+pub(crate) fn built_call(alloc: Global, datagram: &[u8]) -> Result<Option<(u32, Call)>, OutOfMemory>
+    ensures found { IfOk result (λ found. IfSome found (λ read. ReadsAs datagram.now read.0 read.1 × IsBuilt read.1)) }
+    ensures none { IfOk result (λ found. IfNone found (IsBuiltCall datagram.now → ⊥)) }
+{
+    let Some((xid, call)) = bx_nfs::reads_as(alloc, datagram)? else {
+        return Ok(None);
+    };
+    if is_built(&call) {
+        Ok(Some((xid, call)))
+    } else {
+        Ok(None)
+    }
+}
+
+/// Whether a call is attempted: it is refused as a message, or it is NULL, GETATTR, or SETATTR of the mode alone.
+fn is_built(call: &Call) -> bool
+    ensures { IsTrue result ↔ IsBuilt call.now }
+{
+    match &call.args {
+        Args::Refused(_) => true,
+        Args::Nothing => call.program == NFS_PROGRAM && call.procedure == NULL,
+        Args::Handle(_) => call.program == NFS_PROGRAM && call.procedure == GETATTR,
+        Args::Set(_, sattr) => {
+            call.program == NFS_PROGRAM && call.procedure == SETATTR && sets_mode_alone(sattr)
+        }
+        _ => false,
+    }
+}
+
+/// Whether the mode is given, and nothing else.
+fn sets_mode_alone(sattr: &Sattr) -> bool
+    ensures { IsTrue result ↔ SetsModeAlone sattr.now }
+{
+    is_given(sattr.mode)
+        && !is_given(sattr.uid)
+        && !is_given(sattr.gid)
+        && !is_given(sattr.size)
+        && !is_given(sattr.atime.0)
+        && !is_given(sattr.mtime.0)
+}

@@ -1,0 +1,150 @@
+//! The engine of a volume.
+
+ghost use Rattle.std.specs.Prelude.{◌≡◌, ◌≤◌, ℕ, List, IfOk, IfNone, IfSome};
+ghost use Rattle.bx_base.specs.declared.names.Mode.TheVariants.{Exclusive, Shared};
+ghost use Rattle.bx_changes.specs.Changes.{SetsModeAlone};
+ghost use Rattle.bx_inodes.specs.Stands.{Stands};
+ghost use Rattle.bx_inodes.specs.Stops.{OnInode};
+ghost use Rattle.bx_model.specs.declared.tree.Tree.{Tree};
+ghost use Rattle.bx_model.specs.Reading.{getattr as getattr_of};
+ghost use Rattle.bx_model.specs.Writing.{setattr as setattr_of};
+ghost use Rattle.bx_nfs.specs.Wire.{ReadsAs};
+ghost use Rattle.bx_tree_files.specs.Times.{time_of as time_of_moment};
+ghost use Rattle.bx_views.specs.Attempts.{Gives, IsAnswer, IsFair};
+ghost use Rattle.bx_views.specs.Truths.{IsTruth, Truth};
+ghost use Rattle.bx_engine.specs.Calls.{IsAtOnce, IsAtOnceCall, IsBuilt, IsBuiltCall};
+ghost use Rattle.bx_engine.specs.Outcomes.{Comes, TellsNothing, WritesOne};
+ghost use Rattle.bx_engine.specs.Paths.{IsOnPath, PathOf};
+ghost use Rattle.bx_engine.specs.Steps.{StandsWith, Step};
+
+use crate::calls::built_call;
+use crate::replies::{answered, changed, stopped};
+use crate::times::time_of;
+use bx_base::OutOfMemory;
+use bx_changes::set_mode;
+use bx_model::{Args, Call, Reply, Sattr};
+use bx_views::{Attempt, View};
+use std::alloc::Global;
+
+/// The engine of a volume: what calls do to the file tree that its blocks stand for.
+#[derive(Clone, Copy)]
+pub struct BoxFs {
+    /// The volume's number, which its file handles carry.
+    pub volume: u64,
+    /// How many areas it has, 1 to 64.
+    pub areas: u16,
+    ghost least: { 1 ≤ areas },
+    ghost most: { areas ≤ 64 },
+}
+
+impl BoxFs {
+    /// Attempts a call over a view, by its client's number and its bytes, at a moment in milliseconds, at most 4294967295999. `None`
+    /// exactly where the bytes are none of the calls that are built so far: those that are refused as messages, NULL, GETATTR, and
+    /// SETATTR of the mode alone.
+    ///
+    /// `Need` names the block of the file's inode, shared for GETATTR and exclusively for SETATTR, which isn't held then. A
+    /// call that comes to an error is an `Answer`. On an error, which is want of memory alone, nothing is changed.
+    pub fn attempt<V: View>(
+        &self,
+        alloc: Global,
+        client: u32,
+        call: &[u8],
+        moment: u64,
+        view: &V,
+    ) -> Result<Option<Attempt>, OutOfMemory>
+        requires { moment ≤ 4294967295999 }
+
+        ensures gives { (truth : Truth) (tree : Tree) (free : ℕ) → IsTruth (V.held view.now) truth → Stands self.now.volume self.now.areas truth tree
+            → IfOk result (λ found. IfSome found (Gives (StandsWith self.now.volume self.now.areas) Step free client call.now moment truth tree)) }
+        ensures fair { IfOk result (λ found. IfSome found (IsFair self.now.areas (V.held view.now) (IsOnPath self.now.volume call.now))) }
+        ensures at_once { IsAtOnceCall call.now → IfOk result (λ found. IfSome found IsAnswer) }
+
+        // A change is of one block, the inode's of a SETATTR; and blocks need never be written before a call acts.
+        ensures writes { IfOk result (λ found. IfSome found (WritesOne (IsOnPath self.now.volume call.now))) }
+        ensures tells { IfOk result (λ found. IfSome found TellsNothing) }
+
+        ensures built { IfOk result (λ found. IfSome found (λ attempt. IsBuiltCall call.now)) }
+        ensures none { IfOk result (λ found. IfNone found (IsBuiltCall call.now → ⊥)) }
+    {
+        let Some((xid, read)) = built_call(alloc, call)? else {
+            return Ok(None);
+        };
+        let attempt = self.attempt_built(alloc, xid, &read, moment, view)?;
+        Ok(Some(attempt))
+    }
+
+    /// The same of a call that was read, with its number.
+    fn attempt_built<V: View>(
+        &self,
+        alloc: Global,
+        xid: u32,
+        call: &Call,
+        moment: u64,
+        view: &V,
+    ) -> Result<Attempt, OutOfMemory>
+        requires built { IsBuilt call.now }
+        requires moment { moment ≤ 4294967295999 }
+        ensures gives { (client : ℕ) (bytes : List ℕ) (truth : Truth) (tree : Tree) (free : ℕ) → ReadsAs bytes xid call.now → IsTruth (V.held view.now) truth
+            → Stands self.now.volume self.now.areas truth tree → IfOk result (Gives (StandsWith self.now.volume self.now.areas) Step free client bytes moment truth tree) }
+        ensures fair { IfOk result (IsFair self.now.areas (V.held view.now) (PathOf self.now.volume call.now.args)) }
+        ensures at_once { IsAtOnce call.now → IfOk result IsAnswer }
+        ensures writes { IfOk result (WritesOne (PathOf self.now.volume call.now.args)) }
+        ensures tells { IfOk result TellsNothing }
+    {
+        match &call.args {
+            Args::Refused(number) => answered(alloc, xid, Reply::Refused(*number, call.program)),
+            Args::Nothing => answered(alloc, xid, Reply::Empty),
+            Args::Handle(at) => self.getattr(alloc, xid, at.bytes(), view),
+            Args::Set(at, sattr) => {
+                self.setattr(alloc, xid, call, at.bytes(), sattr, moment, view)
+            }
+            _ => unreachable!(),
+        }
+    }
+
+    /// GETATTR of the file that a file handle names.
+    fn getattr<V: View>(
+        &self,
+        alloc: Global,
+        xid: u32,
+        at: &[u8],
+        view: &V,
+    ) -> Result<Attempt, OutOfMemory>
+        ensures comes { (truth : Truth) (tree : Tree) → IsTruth (V.held view.now) truth → Stands self.now.volume self.now.areas truth tree
+            → IfOk result (Comes self.now.volume self.now.areas truth tree xid (getattr_of tree at.now)) }
+        ensures fair { IfOk result (IsFair self.now.areas (V.held view.now) (OnInode self.now.volume at.now Shared)) }
+        ensures writes { IfOk result (WritesOne (OnInode self.now.volume at.now Shared)) }
+        ensures tells { IfOk result TellsNothing }
+    {
+        match bx_reads::getattr(alloc, self.volume, self.areas, at, view) {
+            Ok(reply) => answered(alloc, xid, reply),
+            Err(stop) => stopped(alloc, xid, stop),
+        }
+    }
+
+    /// SETATTR of the mode alone, of the file that a file handle names.
+    fn setattr<V: View>(
+        &self,
+        alloc: Global,
+        xid: u32,
+        call: &Call,
+        at: &[u8],
+        sattr: &Sattr,
+        moment: u64,
+        view: &V,
+    ) -> Result<Attempt, OutOfMemory>
+        requires alone { SetsModeAlone sattr.now }
+        requires moment { moment ≤ 4294967295999 }
+        ensures comes { (truth : Truth) (tree : Tree) → IsTruth (V.held view.now) truth → Stands self.now.volume self.now.areas truth tree
+            → IfOk result (Comes self.now.volume self.now.areas truth tree xid (setattr_of tree call.now at.now sattr.now (time_of_moment moment))) }
+        ensures fair { IfOk result (IsFair self.now.areas (V.held view.now) (OnInode self.now.volume at.now Exclusive)) }
+        ensures writes { IfOk result (WritesOne (OnInode self.now.volume at.now Exclusive)) }
+        ensures tells { IfOk result TellsNothing }
+    {
+        let now = time_of(moment);
+        match set_mode(alloc, self.volume, self.areas, call, at, sattr, now, view) {
+            Ok((draft, reply)) => changed(alloc, xid, draft, reply),
+            Err(stop) => stopped(alloc, xid, stop),
+        }
+    }
+}

@@ -1,0 +1,11 @@
+//! The engine of a volume: calls as bytes, attempted over views of its blocks.
+#![tactic(auto)]
+
+mod calls;
+mod engine;
+mod laws;
+mod replies;
+mod times;
+
+pub use engine::BoxFs;
+pub use laws::{hints_do_not_matter, paths_are_of_files, steps_are_of_histories};

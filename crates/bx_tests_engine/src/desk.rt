@@ -1,0 +1,80 @@
+//! A view of the blocks of a volume.
+
+ghost use Rattle.std.specs.Option.{option_or};
+ghost use Rattle.bx_records.specs.Drafts.{block_in};
+ghost use Rattle.bx_views.specs.Truths.{no_hints};
+ghost use Rattle.bx_tests_engine.specs.Desks.{held_on};
+
+use bx_base::{Mode, Raw};
+use bx_format::opening_block;
+use bx_layout::Block;
+use bx_records::Draft;
+use bx_views::View;
+use std::alloc::Global;
+use std::test::Fail;
+
+/// Blocks that are held, exclusively or shared alone. There are no hints.
+#[derive(Drop)]
+pub(crate) struct Desk {
+    /// What is held exclusively.
+    held: Draft,
+    /// What else is held shared.
+    lent: Draft,
+}
+
+impl View for Desk {
+    ghost held = { λ desk. held_on desk.held desk.lent };
+
+    ghost hints = { λ desk. no_hints };
+
+    fn block(&self, at: u64, mode: Mode) -> Option<&Block> {
+        match (self.held.find(at), mode) {
+            (None, Mode::Shared) => self.lent.find(at),
+            (found, _) => found,
+        }
+    }
+
+    fn hint(&self, _at: u64) -> Option<&Block> {
+        None
+    }
+
+    ghost shares = { λ desk at block is i. option_or (is i) (block_in desk.lent at) };
+}
+
+impl Desk {
+    /// Nothing is held.
+    pub(crate) fn new(alloc: Global) -> Desk {
+        Desk {
+            held: Draft::new(alloc),
+            lent: Draft::new(alloc),
+        }
+    }
+
+    /// Holds a block of a volume that was just made, exclusively.
+    pub(crate) fn hold(&mut self, alloc: Global, at: u16) -> Result<(), Fail> {
+        let block = opening_block(alloc, at)?;
+        self.held.put(u64::from(at), block)?;
+        Ok(())
+    }
+
+    /// Holds a block of a volume that was just made, shared alone.
+    pub(crate) fn lend(&mut self, alloc: Global, at: u16) -> Result<(), Fail> {
+        let block = opening_block(alloc, at)?;
+        self.lent.put(u64::from(at), block)?;
+        Ok(())
+    }
+
+    /// Holds what a draft has.
+    pub(crate) fn take_in(&mut self, alloc: Global, draft: &Draft) -> Result<(), Fail> {
+        for (at, block) in draft.blocks() {
+            let payload = Raw::of(alloc, block.payload.bytes())?;
+            let copy = Block {
+                handle: block.handle,
+                kind: block.kind,
+                payload,
+            };
+            self.held.put(*at, copy)?;
+        }
+        Ok(())
+    }
+}

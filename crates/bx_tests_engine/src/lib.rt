@@ -1,0 +1,11 @@
+//! Tests of the engine: calls as bytes over views of a volume that was just made.
+#![tactic(auto)]
+
+#[cfg(test)]
+mod changes;
+#[cfg(test)]
+mod desk;
+#[cfg(test)]
+mod reads;
+#[cfg(test)]
+mod words;

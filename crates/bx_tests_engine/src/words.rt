@@ -1,0 +1,92 @@
+//! Calls and replies in words.
+
+use crate::desk::Desk;
+use bx_base::{Mode, OutOfMemory};
+use bx_engine::BoxFs;
+use bx_views::Attempt;
+use std::alloc::{AllocError, Global};
+
+/// The engine of volume 7 with one area.
+pub(crate) const ENGINE: BoxFs = BoxFs {
+    volume: 7,
+    areas: 1,
+};
+
+/// The file handle of the root, and one of its slot's next generation.
+pub(crate) const ROOT: [u32; 8] = [0x424f_5857, 0x4f4f_4431, 0, 7, 0, 1, 0, 0];
+
+pub(crate) const GONE: [u32; 8] = [0x424f_5857, 0x4f4f_4431, 0, 7, 0, 2, 0, 0];
+
+/// A word that leaves an attribute alone.
+const ALONE: u32 = 0xffff_ffff;
+
+/// Attributes to set: the mode 0o755 alone.
+pub(crate) const MODE: [u32; 8] = [0o755, ALONE, ALONE, ALONE, ALONE, ALONE, ALONE, ALONE];
+
+/// The mode and the size.
+pub(crate) const MODE_AND_SIZE: [u32; 8] = [0o755, ALONE, ALONE, 0, ALONE, ALONE, ALONE, ALONE];
+
+/// The words before the arguments of a call of NFS that is nobody's.
+pub(crate) fn nobody(number: u32, procedure: u32) -> [u32; 10] {
+    [number, 0, 2, 100003, 2, procedure, 0, 0, 0, 0]
+}
+
+/// The same of a user's, who is in the group with his number.
+pub(crate) fn user(number: u32, procedure: u32, uid: u32) -> [u32; 15] {
+    [
+        number, 0, 2, 100003, 2, procedure, 1, 20, 0, 0, uid, uid, 0, 0, 0,
+    ]
+}
+
+/// The bytes of words.
+pub(crate) fn bytes_of(alloc: Global, parts: &[&[u32]]) -> Result<Vec<u8>, AllocError> {
+    let mut bytes = Vec::new(alloc);
+    for part in parts {
+        for word in *part {
+            bytes.extend_from_slice(&word.to_be_bytes())?;
+        }
+    }
+    Ok(bytes)
+}
+
+/// Whether bytes are these words.
+fn are_words(alloc: Global, bytes: &[u8], words: &[u32]) -> bool {
+    match bytes_of(alloc, &[words]) {
+        Ok(text) => text.as_slice() == bytes,
+        Err(_) => false,
+    }
+}
+
+/// Attempts a call of client 5 at a moment.
+pub(crate) fn attempt(
+    alloc: Global,
+    desk: &Desk,
+    call: &[u8],
+    moment: u32,
+) -> Result<Option<Attempt>, OutOfMemory> {
+    ENGINE.attempt(alloc, 5, call, u64::from(moment), desk)
+}
+
+/// Whether a call is answered so, without a change.
+pub(crate) fn is_answered(
+    alloc: Global,
+    desk: &Desk,
+    call: &[u8],
+    moment: u32,
+    reply: &[u32],
+) -> bool {
+    match attempt(alloc, desk, call, moment) {
+        Ok(Some(Attempt::Answer(done))) => {
+            are_words(alloc, done.reply.bytes(), reply) && done.spare == 8 && done.made == 0
+        }
+        _ => false,
+    }
+}
+
+/// Whether a call needs this block alone, in this mode.
+pub(crate) fn is_needed(alloc: Global, desk: &Desk, call: &[u8], at: u64, mode: Mode) -> bool {
+    match attempt(alloc, desk, call, 0) {
+        Ok(Some(Attempt::Need(wants))) => wants.items() == [(at, mode)].as_slice(),
+        _ => false,
+    }
+}

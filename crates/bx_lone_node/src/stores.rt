@@ -46,5 +46,6 @@ pub(crate) fn send<S: Store>(store: &mut S, alloc: Global, runs: &Runs) -> Resul
     ensures made { S.made store.new ≡ S.made store.old }
 {
     let mut out = Outbox::new(alloc);
-    store.write(NODE, runs, FOR_EVER, &mut out)
+    store.write(NODE, runs, FOR_EVER, &mut out)?;
+    Ok(())
 }

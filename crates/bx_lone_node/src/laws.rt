@@ -1,0 +1,6 @@
+//! Laws.
+
+/// Holds.
+pub fn all_lemmas()
+    ensures { Unit {0} }
+{}

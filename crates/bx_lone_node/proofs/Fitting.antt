@@ -3,23 +3,32 @@ use Rattle.std.proofs.Common.{◌≡◌, ◌⊎◌, ⊎_elim, inl, inr, ℕ, ◌
 use Rattle.std.specs.Prelude.{◌≢◌, ◌==◌, if◌then◌else◌}
 use Rattle.std.specs.List.{AllByRecursion, IsDistinct}
 use Rattle.std.proofs.lemmas.Bool.Decides.{nat_tests}
-use Rattle.std.proofs.lemmas.List.{map-append, take_more}
+use Rattle.std.proofs.lemmas.List.{length-replicate, map-append, take_more}
 use Rattle.bx_disk.specs.Disks.{sector_of}
 use Rattle.bx_facts.specs.Writes.{AreRuns, IsRun, Made, Writes, WritesIn}
 use Rattle.bx_facts.proofs.Lists.{behind, front, front_or_behind, nothing}
+use Rattle.bx_fields.proofs.Whole.{length-padded}
 use Rattle.bx_layout.specs.declared.block.Block.{Block}
+use Rattle.bx_layout.specs.declared.gate.Gate.{Gate}
+use Rattle.bx_layout.specs.declared.gate.Gate.TheVariants.{Open, Closed as Shut}
+use Rattle.bx_layout.specs.Labels.{gate_text, gate_word}
 use Rattle.bx_layout.specs.Blocks.{HasParts, block_text}
-use Rattle.bx_places.specs.Places.{IsBlock, IsVolume, block_place}
+use Rattle.bx_places.specs.Places.{IsBlock, IsVolume, block_place, log_start}
 use Rattle.bx_records.specs.Drafts.{Changed, IsDraft, block_in, same_number}
 use Rattle.bx_records.specs.declared.runs.Run.{Run}
 use Rattle.bx_redo.specs.Homes.{AreItsHomes, home_run}
+use Rattle.bx_redo.specs.Steps.{AreBlocksOf, shut_text, writes}
+use Rattle.bx_redo.specs.View.{LogView}
+use Rattle.bx_redo.specs.declared.work.Work.{Work}
+use Rattle.bx_redo.specs.declared.work.Work.TheVariants as works
 use Rattle.bx_redo.proofs.Stored.{only_one}
 use Rattle.bx_redo.proofs.Within.{decided}
 use Rattle.bx_truth.proofs.Cases.{eq_false, eq_true, same_or}
 use Rattle.bx_volume.specs.Overlay.{Logs}
-use Rattle.bx_volume.specs.Records.{newest_in}
+use Rattle.bx_volume.specs.Records.{Logged, IsLogged, logged_text, newest_in}
 use Rattle.bx_volume.proofs.Apart.{two_homes}
-use Rattle.bx_volume.proofs.Sizes.{block_bytes}
+use Rattle.bx_volume.proofs.Sizes.{block_bytes, logged_bytes}
+use Rattle.bx_lone_node.specs.Node.{IsBody}
 use Rattle.bx_lone_node.specs.Runs.{AreBlocks, homes_of}
 
 -- one run writes nothing twice
@@ -143,3 +152,60 @@ pub one_home_more : (devices i : ℕ) (changed : List Changed) (item : Changed) 
     → homes_of devices (take (i + 1) changed) ≡ homes_of devices (take i changed) ++ home_run devices item.0 item.1 ∷ []
 one_home_more devices i changed item less is =
     ap (homes_of devices) (take_more changed i item less ∙ ap (λ (c : Changed). take i changed ++ c ∷ []) (sym is)) ∙ map-append (λ (c : Changed). home_run devices c.0 c.1) (take i changed) (item ∷ [])
+
+-- ---- what a log asks for
+
+-- how long its bytes are
+pub gate_long : (gate : Gate) → length (gate_text gate) ≡ 512
+gate_long Open = length-padded 512 gate_word (omega arith)
+gate_long Shut = length-replicate {A = ℕ} 512 0
+
+shut_long : length shut_text ≡ 3584
+unfolding shut_text
+shut_long = length-replicate {A = ℕ} 3584 0
+
+-- a log has room for a work
+abbrev pub HasPlace : Work → ℕ → Type 0
+HasPlace works.Idle count = Unit {0}
+HasPlace (works.Body text point) count = IsBody text × (count ≡ 0)
+HasPlace (works.Opens point) count = count < 8
+HasPlace works.Closes count = Unit {0}
+HasPlace works.Shuts count = Unit {0}
+
+run_fits : (made : Made) (device place sectors : ℕ) (bytes : List ℕ) → 1 ≤ made.devices → device ≡ 0 → 1 ≤ place → length bytes ≡ 512 * sectors → 1 ≤ sectors → place + sectors ≤ 9345
+    → AreRuns made ((record { device = device; place = place; bytes = bytes }) ∷ [])
+run_fits made device place sectors bytes some zero behind_label long least most = one_run_fits made (record { device = device; place = place; bytes = bytes }) record {
+  device = omega (arith, zero, some);
+  behind_label = behind_label;
+  some = omega (arith, long, least);
+  whole = omega (arith, long);
+  within = omega (arith, long, most);
+}
+
+pub log_fits : (made : Made) (log : LogView) (work : Work) → 1 ≤ made.devices → log.slot ≡ 0 → log.device ≡ 0 → HasPlace work log.count → AreRuns made (writes log work).1
+log_fits made log works.Idle some slot device has = record { each = λ run there. absurd (nothing run there); once = λ d s content other w v. absurd (nothing w.0 w.1) }
+log_fits made log (works.Body text point) some slot device has = let whole = has.0.whole in let least = has.0.least in let most = has.0.most in let count = has.1 in
+    run_fits made log.device (log_start log.slot + 8 + 145 * log.count) (length text / 512) text some device (omega arith) (omega (arith, whole)) (omega (arith, least)) (omega (arith, most, count, slot))
+log_fits made log (works.Opens point) some slot device has =
+    run_fits made log.device (log_start log.slot + log.count) 1 (gate_text Open) some device (omega arith) (omega (arith, gate_long Open)) (omega arith) (omega (arith, has, slot))
+log_fits made log works.Closes some slot device has =
+    run_fits made log.device (log_start log.slot + 0) 1 (gate_text Shut) some device (omega arith) (omega (arith, gate_long Shut)) (omega arith) (omega (arith, slot))
+log_fits made log works.Shuts some slot device has =
+    run_fits made log.device (log_start log.slot + 1) 7 shut_text some device (omega arith) (omega (arith, shut_long)) (omega arith) (omega (arith, slot))
+
+-- ---- records
+
+pub of_volume : (areas : ℕ) (changed : List Changed) → areas ≤ 64 → AreBlocks areas changed → AreBlocksOf 64 changed
+of_volume areas changed few blocks at block has =
+    let both = all_at (λ (d : Changed). IsBlock areas d.0 × HasParts d.1) changed blocks (at, block) (in_draft changed at block has) in
+    (record { area = (let a = both.0.area in omega (arith, a, few)); slot = both.0.slot }, both.1)
+
+pub of_areas : (areas : ℕ) (changed : List Changed) → AreBlocks areas changed → AreBlocksOf areas changed
+of_areas areas changed blocks at block has = all_at (λ (d : Changed). IsBlock areas d.0 × HasParts d.1) changed blocks (at, block) (in_draft changed at block has)
+
+pub body_is : (areas : ℕ) (logged : Logged) → IsLogged areas logged → IsBody (logged_text logged)
+body_is areas logged is = let long = logged_bytes areas logged is in let few = is.draft.most in record {
+  whole = omega (arith, long);
+  least = omega (arith, long);
+  most = omega (arith, long, few);
+}

@@ -136,3 +136,18 @@ put_held truth cache cache_then at block puts is held other one has = by (decide
     by : ((at == other) ≡ true) ⊎ ((at == other) ≡ false) → truth other ≡ one
     by (inl e) = let same : block ≡ one = (let h = pick true e in cc) in ap truth (sym (number e)) ∙ is ∙ same
     by (inr e) = held other one (pick false e)
+
+-- what a cache with one block more has
+pub put_from : (cache cache_then : List (ℕ × Block)) (at : ℕ) (block : Block) → ((other : ℕ) → block_at cache_then other ≡ (if at == other then Some block else block_at cache other))
+    → (other : ℕ) (one : Block) → block_at cache_then other ≡ Some one → (block_at cache other ≡ Some one) ⊎ ((other ≡ at) × (block ≡ one))
+put_from cache cache_then at block puts other one has = by (decided (at == other))
+  where
+    pick : (b : Bool) → (at == other) ≡ b → (if b then Some block else block_at cache other) ≡ Some one
+    pick b e = sym (puts other ∙ ap (λ (t : Bool). if t then Some block else block_at cache other) e) ∙ has
+
+    number : (at == other) ≡ true → other ≡ at
+    number e = grind (arith, nat_tests)
+
+    by : ((at == other) ≡ true) ⊎ ((at == other) ≡ false) → (block_at cache other ≡ Some one) ⊎ ((other ≡ at) × (block ≡ one))
+    by (inl e) = let same : block ≡ one = (let h = pick true e in cc) in inr (number e, same)
+    by (inr e) = inl (pick false e)

@@ -2,7 +2,7 @@
 use Rattle.std.proofs.Common.{◌≡◌, ◌⊎◌, ⊎_elim, inl, inr, ℕ, ◌+◌, ◌<◌, arith, List, [], Option, Some, None, refl, sym, ◌∙◌, subst}
 use Rattle.std.specs.Prelude.{◌≢◌}
 use Rattle.bx_disk.specs.Disks.{Image, Disks}
-use Rattle.bx_facts.specs.Writes.{Asked, IsOnly, Made, Sent, StorePast}
+use Rattle.bx_facts.specs.Writes.{AreRuns, Asked, IsOnly, Made, Sent, StorePast}
 use Rattle.bx_global.specs.declared.state.GlobalState.{GlobalState}
 use Rattle.bx_model.specs.declared.tree.Tree.{Tree}
 use Rattle.bx_places.specs.Places.{block_place}
@@ -104,6 +104,31 @@ module _ (Keeps Keeps_then : Disks → StorePast → Type 0) (Standing Standing_
   )
   by_stage slot Spent is finds = absurd finds
 
+  -- while a read is out
+  pub read_on : (at : ℕ) → node.stage ≡ Reads at → Keeps_then y past → IsLone state past → own_then ≡ own
+      → NodeStands Keeps_then Standing_then Reading_then made_then own_then out_then asked_then volume state y node tree next
+  read_on at stage keeps lone same_own =
+      let finds = subst (Finds Keeps Standing Reading made own out asked volume state x node next stood.past stood.session stood.before stood.logs stood.truth stood.more) stage stood.finds in
+      let r = rests finds.0 finds.1 in
+      let then : Finds Keeps_then Standing_then Reading_then made_then own_then out_then asked_then volume state y node next past stood.session stood.before stood.logs stood.truth stood.more (Reads at) = (r.0, r.1, still_read at finds.1 finds.2) in
+      record {
+        past = past;
+        keeps = keeps;
+        lone = lone;
+        session = stood.session;
+        own_is = same_own ∙ stood.own_is;
+        lives = stood.lives;
+        before = stood.before;
+        logs = stood.logs;
+        truth = stood.truth;
+        more = stood.more;
+        log = log_stays (λ d s content. Standing x stood.past d s content state.index) (λ d s content. Standing_then y past d s content state.index) stood.past.writes greatest goes node.devices node.areas state.sessions stood.before stood.logs stood.truth stood.more node.log finds.1 stood.log;
+        others = stood.others;
+        held = stood.held;
+        tree_is = stood.tree_is;
+        finds = subst (Finds Keeps_then Standing_then Reading_then made_then own_then out_then asked_then volume state y node next past stood.session stood.before stood.logs stood.truth stood.more) (sym stage) then;
+      }
+
   pub stays_on : IsNode node → Keeps_then y past → IsLone state past → own_then ≡ own
       → NodeStands Keeps_then Standing_then Reading_then made_then own_then out_then asked_then volume state y node tree next
   stays_on is keeps lone same_own =
@@ -125,3 +150,9 @@ module _ (Keeps Keeps_then : Disks → StorePast → Type 0) (Standing Standing_
         tree_is = stood.tree_is;
         finds = stays.1;
       }
+
+-- what is out is out still, where a store is left alone
+pub flies_on : (made made_then : Made) (Sure : ℕ → ℕ → List ℕ → Type 0) (session : ℕ) (out out_then : Option Sent) (sent : List Sent) → made_then ≡ made → out_then ≡ out
+    → (runs : List Run) → IsFlying made session runs out sent → IsWriting made_then Sure session runs out_then sent
+flies_on made made_then Sure session out out_then sent same_made same runs flying =
+    inl record { write = flying.write; own = flying.own; runs_are = flying.runs_are; fit = subst (λ (m : Made). AreRuns m runs) (sym same_made) flying.fit; is_out = same ∙ flying.is_out; only = flying.only }

@@ -45,10 +45,11 @@ impl LoneNode {
     {
         self.stage = Stage::Spent;
         self.log.append(point, &draft)?;
-        if let Move::Write(runs) = self.log.next(None, false)? {
-            send(store, self.alloc, &runs)?;
-            self.stage = Stage::Logs(recorded, draft);
-        }
+        let Move::Write(runs) = self.log.next(None, false)? else {
+            unreachable!();
+        };
+        send(store, self.alloc, &runs)?;
+        self.stage = Stage::Logs(recorded, draft);
         Ok(())
     }
 
@@ -112,10 +113,11 @@ impl LoneNode {
         ensures stands { (volume : ℕ) (state : GlobalState) (x : Disks) (tree next : Tree) → NodeStands (S.keeps store.old) (S.stands store.old) (S.will_read store.old) (S.made store.old) (S.own store.old 0) (S.out_of store.old 0) (S.asked store.old 0) volume state x (record self.old { stage = Homes }) tree next → OnOk result (NodeStands (S.keeps store.new) (S.stands store.new) (S.will_read store.new) (S.made store.new) (S.own store.new 0) (S.out_of store.new 0) (S.asked store.new 0) volume state x self.new tree next) }
     {
         self.log.close();
-        if let Move::Write(runs) = self.log.next(None, false)? {
-            send(store, self.alloc, &runs)?;
-            self.stage = Stage::Closes;
-        }
+        let Move::Write(runs) = self.log.next(None, false)? else {
+            unreachable!();
+        };
+        send(store, self.alloc, &runs)?;
+        self.stage = Stage::Closes;
         Ok(())
     }
 
@@ -134,11 +136,14 @@ impl LoneNode {
             Move::Write(runs) => {
                 send(store, self.alloc, &runs)?;
                 self.stage = Stage::Closes;
+                Ok(())
             }
-            Move::Closed => self.stage = Stage::Idle,
-            Move::Read(_, _, _) | Move::Acked(_) | Move::Wait => {}
+            Move::Closed => {
+                self.stage = Stage::Idle;
+                Ok(())
+            }
+            Move::Read(_, _, _) | Move::Acked(_) | Move::Wait => unreachable!(),
         }
-        Ok(())
     }
 }
 

@@ -1,18 +1,21 @@
 //! Blocks that are read.
 
 ghost use Rattle.std.specs.Prelude.{◌≡◌, ◌⊎◌, ℕ, OnOk, None, Some};
+ghost use Rattle.bx_cache.specs.Cached.{block_at};
 ghost use Rattle.bx_disk.specs.Disks.{Disks};
 ghost use Rattle.bx_global.specs.declared.state.GlobalState.{GlobalState};
+ghost use Rattle.bx_layout.specs.Blocks.{SpellsBlock};
+ghost use Rattle.bx_layout.specs.declared.block.Block.{Block};
 ghost use Rattle.bx_model.specs.declared.tree.Tree.{Tree};
 ghost use Rattle.bx_places.specs.Places.{IsBlock};
-ghost use Rattle.bx_lone_node.specs.Node.{IsJoined, IsOfSame};
+ghost use Rattle.bx_lone_node.specs.Node.{IsJoined, IsNode, IsOfSame};
 ghost use Rattle.bx_lone_node.specs.Standing.{NodeStands};
 ghost use Rattle.bx_lone_node.specs.declared.stage.Stage.TheVariants.{Idle, Reads};
 
 use crate::node::LoneNode;
 use crate::stage::Stage;
 use crate::stores::{AskedStore, NODE};
-use bx_base::OutOfMemory;
+use bx_base::{OutOfMemory, Raw};
 use bx_facts::Outbox;
 use bx_layout::Block;
 use bx_places::{BLOCK_SECTORS, place};
@@ -52,10 +55,25 @@ impl LoneNode {
         let Some(bytes) = store.arrived(NODE) else {
             return Ok(());
         };
+        self.keep(at, &bytes)?;
+        Ok(())
+    }
+
+    /// Keeps the block that was read, and is idle. Bytes that are no block are let go.
+    fn keep(&mut self, at: u64, bytes: &Raw) -> Result<(), OutOfMemory>
+        requires reads { self.old.stage ≡ Reads at }
+        ensures was { IsNode self.old }
+        ensures node { OnOk result (self.new ≡ record self.old { stage = Idle; cache = self.new.cache }) }
+        ensures queue { self.new.queue ≡ self.old.queue }
+        ensures same { IsOfSame self.old self.new }
+        ensures cache { (other : ℕ) (block : Block) → block_at self.new.cache other ≡ Some block → OnOk result ((block_at self.old.cache other ≡ Some block) ⊎ ((other ≡ at) × SpellsBlock block bytes.now)) }
+    {
+        let Some(block) = Block::read(self.alloc, bytes.bytes())? else {
+            self.stage = Stage::Idle;
+            return Ok(());
+        };
         self.stage = Stage::Spent;
-        if let Some(block) = Block::read(self.alloc, bytes.bytes())? {
-            self.cache.put(at, block)?;
-        }
+        self.cache.put(at, block)?;
         self.stage = Stage::Idle;
         Ok(())
     }

@@ -28,12 +28,12 @@ recording_some recorded (works.Opens point) is = λ e. absurd cc
 recording_some recorded works.Closes is = absurd is
 recording_some recorded works.Shuts is = absurd is
 
-pub closing_some : (work : Work) → IsClosing work → work ≢ works.Idle
-closing_some works.Idle is = absurd is
-closing_some (works.Body text point) is = absurd is
-closing_some (works.Opens point) is = absurd is
-closing_some works.Closes is = λ e. absurd cc
-closing_some works.Shuts is = λ e. absurd cc
+pub closing_some : (work : Work) (count : ℕ) → IsClosing work count → work ≢ works.Idle
+closing_some works.Idle count is = absurd is
+closing_some (works.Body text point) count is = absurd is
+closing_some (works.Opens point) count is = absurd is
+closing_some works.Closes count is = λ e. absurd cc
+closing_some works.Shuts count is = λ e. absurd cc
 
 module _ (Keeps Keeps_then : Disks → StorePast → Type 0) (Standing Standing_then : Disks → StorePast → ℕ → ℕ → List ℕ → ℕ → Type 0) (Reading Reading_then : Disks → StorePast → ℕ → ℕ → List ℕ → Type 0)
     (made made_then : Made) (own own_then : Option ℕ) (out out_then : Option Sent) (asked asked_then : Option Asked) (volume : ℕ) (state : GlobalState) (x y : Disks) (node : NodeView) (tree next : Tree)
@@ -99,7 +99,7 @@ module _ (Keeps Keeps_then : Disks → StorePast → Type 0) (Standing Standing_
       )
   by_stage slot Closes is finds = (
     log_goes (λ d s content. Standing x stood.past d s content state.index) (λ d s content. Standing_then y past d s content state.index) stood.past.writes greatest goes node.devices node.areas state.sessions stood.before stood.logs stood.truth stood.more node.log
-    made stood.session out (closing_some node.log.work is.0) finds stood.log,
+    made stood.session out (closing_some node.log.work node.log.count is.0) finds stood.log,
     still_writing _ finds,
   )
   by_stage slot Spent is finds = absurd finds

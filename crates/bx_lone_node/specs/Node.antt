@@ -58,13 +58,13 @@ IsRecording recorded (works.Opens point) = IsPointOf recorded point
 IsRecording recorded works.Closes = ⊥
 IsRecording recorded works.Shuts = ⊥
 
--- The log is being closed.
-abbrev pub IsClosing : Work → Type 0
-IsClosing works.Idle = ⊥
-IsClosing (works.Body text point) = ⊥
-IsClosing (works.Opens point) = ⊥
-IsClosing works.Closes = Unit {0}
-IsClosing works.Shuts = Unit {0}
+-- The log is being closed; once gate 0 is, it has no records.
+abbrev pub IsClosing : Work → ℕ → Type 0
+IsClosing works.Idle count = ⊥
+IsClosing (works.Body text point) count = ⊥
+IsClosing (works.Opens point) count = ⊥
+IsClosing works.Closes count = Unit {0}
+IsClosing works.Shuts count = count ≡ 0
 
 -- what the log does in each stage
 abbrev pub IsInStage : ℕ → LogView → Stage → Type 0
@@ -72,7 +72,7 @@ IsInStage areas log Idle = (log.work ≡ works.Idle) × (log.out ≡ false) × (
 IsInStage areas log (Reads at) = (log.work ≡ works.Idle) × (log.out ≡ false) × (log.count ≡ 0) × IsBlock areas at
 IsInStage areas log (Logs recorded draft) = IsRecording recorded log.work × (log.out ≡ true) × (log.count ≡ 0) × AreBlocks areas draft
 IsInStage areas log Homes = (log.work ≡ works.Idle) × (log.out ≡ false) × (log.count ≡ 1)
-IsInStage areas log Closes = IsClosing log.work × (log.out ≡ true)
+IsInStage areas log Closes = IsClosing log.work log.count × (log.out ≡ true)
 IsInStage areas log Spent = Unit {0}
 
 -- the node is of use

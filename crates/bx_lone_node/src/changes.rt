@@ -61,6 +61,7 @@ impl LoneNode {
         recorded: Recorded,
         draft: Draft,
     ) -> Result<Option<Acted>, OutOfMemory>
+        requires spent { self.old.stage ≡ Spent }
         requires node { IsNode (record self.old { stage = Logs recorded draft }) }
         requires joined { IsJoined (record self.old { stage = Logs recorded draft }) (S.made store.old) (S.own store.old 0) (S.out_of store.old 0) (S.asked store.old 0) }
         requires none_out { S.out_of store.old 0 ≡ None }
@@ -103,6 +104,7 @@ impl LoneNode {
 
     /// The blocks of the record are home: the log is closed, gate 0 first.
     pub(crate) fn begin_closing<S: AskedStore>(&mut self, store: &mut S) -> Result<(), OutOfMemory>
+        requires spent { self.old.stage ≡ Spent }
         requires node { IsNode (record self.old { stage = Homes }) }
         requires joined { IsJoined (record self.old { stage = Homes }) (S.made store.old) (S.own store.old 0) (S.out_of store.old 0) (S.asked store.old 0) }
         requires none_out { S.out_of store.old 0 ≡ None }
@@ -123,6 +125,7 @@ impl LoneNode {
 
     /// Goes on with the closing: behind gate 0 come the other gates.
     pub(crate) fn close_on<S: AskedStore>(&mut self, store: &mut S) -> Result<(), OutOfMemory>
+        requires spent { self.old.stage ≡ Spent }
         requires node { IsNode (record self.old { stage = Closes }) }
         requires joined { IsJoined (record self.old { stage = Closes }) (S.made store.old) (S.own store.old 0) (S.out_of store.old 0) (S.asked store.old 0) }
         requires none_out { S.out_of store.old 0 ≡ None }

@@ -209,3 +209,9 @@ body_is areas logged is = let long = logged_bytes areas logged is in let few = i
   least = omega (arith, long);
   most = omega (arith, long, few);
 }
+
+-- homes of a node's volume, at a store that is made for it
+pub fit_for : (made : Made) (devices areas : ℕ) (changed : List Changed) → made.devices ≡ devices → made.areas ≡ areas → IsVolume devices areas → IsDraft changed → AreBlocks areas changed → AreRuns made (homes_of devices changed)
+fit_for made devices areas changed same_devices same_areas volume draft blocks =
+    subst (λ (d : ℕ). AreRuns made (homes_of d changed)) same_devices
+    (homes_fit made changed (subst (λ (d : ℕ). IsVolume d made.areas) (sym same_devices) (subst (λ (a : ℕ). IsVolume devices a) (sym same_areas) volume)) draft (subst (λ (a : ℕ). AreBlocks a changed) (sym same_areas) blocks))

@@ -6,7 +6,7 @@ ghost use Rattle.bx_global.specs.declared.state.GlobalState.{GlobalState};
 ghost use Rattle.bx_cache.specs.Cached.{block_at, or_older};
 ghost use Rattle.bx_inodes.specs.Stands.{Stands as TreeStands};
 ghost use Rattle.bx_model.specs.declared.tree.Tree.{Tree};
-ghost use Rattle.bx_records.specs.Drafts.{block_in};
+ghost use Rattle.bx_records.specs.Drafts.{IsDraft, block_in};
 ghost use Rattle.bx_views.specs.Truths.{with_draft};
 ghost use Rattle.bx_redo.specs.Stands.{doing};
 ghost use Rattle.bx_redo.specs.Steps.{record_of};
@@ -95,7 +95,9 @@ impl LoneNode {
         ensures runs { IfOk result (λ runs. runs ≡ (16, homes_of self.old.devices draft.now)) }
         ensures blocks { OnOk result ((at : ℕ) → block_at self.new.cache at ≡ or_older (block_in draft.now at) (block_at self.old.cache at)) }
         ensures same { IsOfSame self.old self.new }
-        ensures stays { (self.new.queue ≡ self.old.queue) × (self.new.log ≡ self.old.log) × (self.new.stage ≡ self.old.stage) }
+        ensures node { OnOk result (self.new ≡ record self.old { cache = self.new.cache }) }
+        ensures queue { self.new.queue ≡ self.old.queue }
+        ensures draft { OnOk result (IsDraft draft.now) }
     {
         let runs = home_runs(self.alloc, self.devices, self.areas, draft.blocks())?;
         self.cache.lay_over(self.alloc, draft.blocks())?;

@@ -1,12 +1,10 @@
 //! Attempts of calls.
 
 ghost use Rattle.std.specs.Prelude.{◌≡◌, ◌⊎◌, ℕ, ◌≤◌, IfOk, OnOk, Contains};
-ghost use Rattle.bx_base.specs.declared.names.Mode.{Mode};
 ghost use Rattle.bx_cache.specs.Cached.{block_at};
 ghost use Rattle.bx_disk.specs.Disks.{Disks};
 ghost use Rattle.bx_global.specs.declared.state.GlobalState.{GlobalState};
 ghost use Rattle.bx_model.specs.declared.tree.Tree.{Tree};
-ghost use Rattle.bx_places.specs.Places.{IsBlock};
 ghost use Rattle.bx_lone_node.specs.Node.{IsJoined, IsOfSame, Takes, calls_of};
 ghost use Rattle.bx_lone_node.specs.Standing.{MayTry, NodeStands, StandsFor, Turns};
 ghost use Rattle.bx_lone_node.specs.declared.stage.Stage.TheVariants.{Idle, Reads};
@@ -17,6 +15,7 @@ use crate::procedures::Procedures;
 use crate::stage::{Acted, Recorded, Waiting};
 use crate::stores::AskedStore;
 use bx_base::{OutOfMemory, Point};
+use bx_places::is_block;
 use bx_records::Wants;
 use bx_views::{Attempt, Done};
 
@@ -40,8 +39,6 @@ impl LoneNode {
         ensures queue { OnOk result ((call : Call) → Contains self.new.queue call → Contains self.old.queue call) }
         ensures same { IsOfSame self.old self.new }
         ensures joined { OnOk result (IsJoined self.new (S.made store.new) (S.own store.new 0) (S.out_of store.new 0) (S.asked store.new 0)) }
-        ensures stands { (volume : ℕ) (state : GlobalState) (x : Disks) (tree next : Tree) → volume ≡ E.volume engine.now → NodeStands (S.keeps store.old) (S.stands store.old) (S.will_read store.old) (S.made store.old) (S.own store.old 0) (S.out_of store.old 0) (S.asked store.old 0) volume state x self.old tree next
-            → IfOk result (Turns (E.step engine.now) (StandsFor (E.step engine.now) (NodeStands (S.keeps store.new) (S.stands store.new) (S.will_read store.new) (S.made store.new) (S.own store.new 0) (S.out_of store.new 0) (S.asked store.new 0) volume state x self.new) self.new) (calls_of self.old) (calls_of self.new) tree) }
     {
         let Some(attempt) = self.try_head(engine, moment)? else {
             return Ok(None);
@@ -99,12 +96,11 @@ impl LoneNode {
         Ok(Some(attempt))
     }
 
-    /// Asks for the first of the blocks that a call wants.
+    /// Asks for the first of the blocks that a call wants, if it is one of the volume.
     fn need<S: AskedStore>(&mut self, store: &mut S, wants: &Wants) -> Result<(), OutOfMemory>
         requires joined { IsJoined self.old (S.made store.old) (S.own store.old 0) (S.out_of store.old 0) (S.asked store.old 0) }
         requires idle { self.old.stage ≡ Idle }
-        requires wants { (at : ℕ) (mode : Mode) → Contains wants.now (at, mode) → IsBlock self.old.areas at }
-        ensures queue { self.new.queue ≡ self.old.queue }
+        ensures queue { OnOk result (self.new.queue ≡ self.old.queue) }
         ensures stage { OnOk result ((self.new.stage ≡ Idle) ⊎ ((at : ℕ) × (self.new.stage ≡ Reads at))) }
         ensures same { IsOfSame self.old self.new }
         ensures joined { OnOk result (IsJoined self.new (S.made store.new) (S.own store.new 0) (S.out_of store.new 0) (S.asked store.new 0)) }
@@ -113,6 +109,9 @@ impl LoneNode {
         let Some((at, _)) = wants.get(0) else {
             return Ok(());
         };
+        if !is_block(*at, self.areas) {
+            return Ok(());
+        }
         self.ask(store, *at)
     }
 }

@@ -110,9 +110,6 @@ impl LoneNode {
         ensures queue { OnOk result ((call : Waiting) → Contains self.new.queue call → Contains self.old.queue call) }
         ensures same { IsOfSame self.old self.new }
         ensures joined { OnOk result (IsJoined self.new (S.made store.new) (S.own store.new 0) (S.out_of store.new 0) (S.asked store.new 0)) }
-        ensures stands { (state : GlobalState) (x : Disks) (tree : Tree) (volume : ℕ) → volume ≡ E.volume engine.now
-            → StandsFor (E.step engine.now) (NodeStands (S.keeps store.old) (S.stands store.old) (S.will_read store.old) (S.made store.old) (S.own store.old 0) (S.out_of store.old 0) (S.asked store.old 0) volume state x self.old) self.old tree
-            → IfOk result (Turns (E.step engine.now) (StandsFor (E.step engine.now) (NodeStands (S.keeps store.new) (S.stands store.new) (S.will_read store.new) (S.made store.new) (S.own store.new 0) (S.out_of store.new 0) (S.asked store.new 0) volume state x self.new) self.new) (calls_of self.old) (calls_of self.new) tree) }
     {
         let acted = self.go_on(store)?;
         if acted.is_some() || !self.is_idle() {
@@ -135,8 +132,6 @@ impl LoneNode {
         ensures queue { self.new.queue ≡ self.old.queue }
         ensures same { IsOfSame self.old self.new }
         ensures joined { OnOk result (IsJoined self.new (S.made store.new) (S.own store.new 0) (S.out_of store.new 0) (S.asked store.new 0)) }
-        ensures stands { (volume : ℕ) (state : GlobalState) (x : Disks) (tree next : Tree) → NodeStands (S.keeps store.old) (S.stands store.old) (S.will_read store.old) (S.made store.old) (S.own store.old 0) (S.out_of store.old 0) (S.asked store.old 0) volume state x self.old tree next
-            → IfOk result (GoesTo (NodeStands (S.keeps store.new) (S.stands store.new) (S.will_read store.new) (S.made store.new) (S.own store.new 0) (S.out_of store.new 0) (S.asked store.new 0) volume state x self.new) self.old self.new tree next) }
     {
         if let Stage::Reads(at) = self.stage {
             self.receive(store, at)?;
@@ -156,8 +151,6 @@ impl LoneNode {
         ensures queue { self.new.queue ≡ self.old.queue }
         ensures same { IsOfSame self.old self.new }
         ensures joined { OnOk result (IsJoined self.new (S.made store.new) (S.own store.new 0) (S.out_of store.new 0) (S.asked store.new 0)) }
-        ensures stands { (volume : ℕ) (state : GlobalState) (x : Disks) (tree next : Tree) → NodeStands (S.keeps store.old) (S.stands store.old) (S.will_read store.old) (S.made store.old) (S.own store.old 0) (S.out_of store.old 0) (S.asked store.old 0) volume state x self.old tree next
-            → IfOk result (GoesTo (NodeStands (S.keeps store.new) (S.stands store.new) (S.will_read store.new) (S.made store.new) (S.own store.new 0) (S.out_of store.new 0) (S.asked store.new 0) volume state x self.new) self.old self.new tree next) }
     {
         match mem::replace(&mut self.stage, Stage::Spent) {
             Stage::Logs(recorded, draft) => self.log_on(store, recorded, draft),

@@ -186,8 +186,8 @@ module _ (Keeps Keeps_then : Disks → StorePast → Type 0) (Standing Standing_
         let opens = record_stands (Sure stood.past) (Sure stood.past) node.devices node.areas state.sessions stood.before now stood.logs stood.truth stood.more log point stood.more st (subst P same ack) in
         let none = none_of stood count in
         let here : (at : ℕ) → newest_in (logs 0) at ≡ block_in draft at = λ at.
-            ap (λ (records : List Logged). newest_in records at) (ap logs (sym slot) ∙ log_here stood.logs log.slot (stood.more ∷ stood.logs log.slot) ∙ ap (λ (older : List Logged). stood.more ∷ older) none)
-            ∙ one_newest stood.more at ∙ ap (λ (changed : List Changed). block_in changed at) finds.1.blocks in
+        ap (λ (records : List Logged). newest_in records at) (ap logs (sym slot) ∙ log_here stood.logs log.slot (stood.more ∷ stood.logs log.slot) ∙ ap (λ (older : List Logged). stood.more ∷ older) none)
+        ∙ one_newest stood.more at ∙ ap (λ (changed : List Changed). block_in changed at) finds.1.blocks in
         let homes = its logs here in
         let out_homes = homes_go (Sure stood.past) (Sure_then (past_with stood.past stood.session runs sends)) (sent_by stood.session runs ∷ stood.past.writes) stood.past.told.greatest
         (λ d s content only was. sends.goes d s content state.index only was) node.devices node.areas state.sessions now logs truth stood.more open_log made_then stood.session runs out_then

@@ -88,10 +88,14 @@ module _ (Keeps : Disks → StorePast → Type 0) (Standing : Disks → StorePas
           others = stood.others;
           held = stood.held;
           tree_is = stood.tree_is;
-          finds = (same_out ∙ finds.0, finds.1, inr record {
-            is_out = asks;
-            brings = λ i less. brings i less (none_only stood.past.writes stood.past.told.greatest (block_place at node.devices).0 ((block_place at node.devices).1 + i) (stood.before (block_place at node.devices).0 ((block_place at node.devices).1 + i)) finds.1);
-          });
+          finds = (
+            same_out ∙ finds.0,
+            finds.1,
+            inr record {
+              is_out = asks;
+              brings = λ i less. brings i less (none_only stood.past.writes stood.past.told.greatest (block_place at node.devices).0 ((block_place at node.devices).1 + i) (stood.before (block_place at node.devices).0 ((block_place at node.devices).1 + i)) finds.1);
+            },
+          );
         }
 
     -- ---- it has come, and what was read with it is the truth

@@ -5,76 +5,22 @@ ghost use Rattle.bx_cache.specs.Cached.{block_at};
 ghost use Rattle.bx_disk.specs.Disks.{Disks};
 ghost use Rattle.bx_global.specs.declared.state.GlobalState.{GlobalState};
 ghost use Rattle.bx_model.specs.declared.tree.Tree.{Tree};
-ghost use Rattle.bx_lone_node.specs.Node.{IsJoined, IsOfSame, Takes, calls_of};
-ghost use Rattle.bx_lone_node.specs.Standing.{MayTry, NodeStands, StandsFor, Turns};
+ghost use Rattle.bx_lone_node.specs.Node.{IsJoined, IsOfSame};
+ghost use Rattle.bx_lone_node.specs.Standing.{MayTry, NodeStands};
 ghost use Rattle.bx_lone_node.specs.declared.stage.Stage.TheVariants.{Idle, Reads};
 ghost use Rattle.bx_lone_node.specs.declared.stage.Waiting.{Waiting as Call};
 
 use crate::node::LoneNode;
 use crate::procedures::Procedures;
-use crate::stage::{Acted, Recorded, Waiting};
 use crate::stores::AskedStore;
-use bx_base::{OutOfMemory, Point};
+use bx_base::OutOfMemory;
 use bx_places::is_block;
 use bx_records::Wants;
-use bx_views::{Attempt, Done};
-
-/// The count of free blocks that a point tells where it doesn't matter: enough.
-const ENOUGH: u64 = 8;
+use bx_views::Attempt;
 
 impl LoneNode {
-    /// Attempts the call at the head, where one waits.
-    pub(crate) fn attempt<S: AskedStore, E: Procedures>(
-        &mut self,
-        store: &mut S,
-        engine: &E,
-        moment: u64,
-    ) -> Result<Option<Acted>, OutOfMemory>
-        requires joined { IsJoined self.old (S.made store.old) (S.own store.old 0) (S.out_of store.old 0) (S.asked store.old 0) }
-        requires idle { self.old.stage ≡ Idle }
-        requires areas { E.areas engine.now ≡ self.old.areas }
-        requires taken { (call : Call) → Contains self.old.queue call → E.takes engine.now call.datagram }
-        requires moment { moment ≤ 4294967295999 }
-        ensures takes { IfOk result (λ acted. Takes acted (calls_of self.old) (calls_of self.new)) }
-        ensures queue { OnOk result ((call : Call) → Contains self.new.queue call → Contains self.old.queue call) }
-        ensures same { IsOfSame self.old self.new }
-        ensures joined { OnOk result (IsJoined self.new (S.made store.new) (S.own store.new 0) (S.out_of store.new 0) (S.asked store.new 0)) }
-    {
-        let Some(attempt) = self.try_head(engine, moment)? else {
-            return Ok(None);
-        };
-        match attempt {
-            Attempt::Need(wants) => {
-                self.need(store, &wants)?;
-                Ok(None)
-            }
-            Attempt::Inner(draft) => {
-                self.begin(store, Recorded::Inner, inner_point(moment), draft)?;
-                Ok(None)
-            }
-            Attempt::Change(draft, done) => {
-                let Some(call) = self.queue.pop_front() else {
-                    unreachable!();
-                };
-                let point = point_of(&call, moment, &done);
-                self.begin(store, Recorded::Call(call, done.reply), point, draft)?;
-                Ok(None)
-            }
-            Attempt::Answer(done) => {
-                let Some(call) = self.queue.pop_front() else {
-                    unreachable!();
-                };
-                let point = point_of(&call, moment, &done);
-                Ok(Some(Acted {
-                    point,
-                    reply: done.reply,
-                }))
-            }
-        }
-    }
-
     /// What an attempt of the call at the head answers, where one waits.
-    fn try_head<E: Procedures>(
+    pub fn try_head<E: Procedures>(
         &self,
         engine: &E,
         moment: u64,
@@ -97,7 +43,7 @@ impl LoneNode {
     }
 
     /// Asks for the first of the blocks that a call wants, if it is one of the volume.
-    fn need<S: AskedStore>(&mut self, store: &mut S, wants: &Wants) -> Result<(), OutOfMemory>
+    pub fn need<S: AskedStore>(&mut self, store: &mut S, wants: &Wants) -> Result<(), OutOfMemory>
         requires joined { IsJoined self.old (S.made store.old) (S.own store.old 0) (S.out_of store.old 0) (S.asked store.old 0) }
         requires idle { self.old.stage ≡ Idle }
         ensures queue { OnOk result (self.new.queue ≡ self.old.queue) }
@@ -113,29 +59,5 @@ impl LoneNode {
             return Ok(());
         }
         self.ask(store, *at)
-    }
-}
-
-/// The point of a call that acted.
-fn point_of(call: &Waiting, moment: u64, done: &Done) -> Point
-    ensures { result ≡ record { call = call.now.number; moment = moment; spare = done.now.spare; made = done.now.made } }
-{
-    Point {
-        call: call.number,
-        moment,
-        spare: done.spare,
-        made: done.made,
-    }
-}
-
-/// The point of a record that is of no call.
-fn inner_point(moment: u64) -> Point
-    ensures { result ≡ record { call = 0; moment = moment; spare = 8; made = 0 } }
-{
-    Point {
-        call: 0,
-        moment,
-        spare: ENOUGH,
-        made: 0,
     }
 }

@@ -5,14 +5,12 @@
 mod attempts;
 mod changes;
 mod homes;
-mod laws;
 mod node;
 mod procedures;
 mod reads;
 mod stage;
 mod stores;
 
-pub use laws::all_lemmas;
 pub use node::LoneNode;
 pub use procedures::Procedures;
 pub use stage::{Acted, Recorded, Stage, Waiting};

@@ -1,12 +1,8 @@
 //! The node.
 
-ghost use Rattle.std.specs.Prelude.{◌≡◌, ◌≢◌, ◌++◌, ◌∷◌, [], ℕ, ◌≤◌, IfOk, OnOk, OnErr, IsTrue, ◌↔◌, Contains, Some, None};
-ghost use Rattle.bx_disk.specs.Disks.{Disks};
-ghost use Rattle.bx_global.specs.declared.state.GlobalState.{GlobalState};
-ghost use Rattle.bx_model.specs.declared.tree.Tree.{Tree};
+ghost use Rattle.std.specs.Prelude.{◌≡◌, ◌≢◌, ◌++◌, ◌∷◌, [], ℕ, IfOk, OnOk, OnErr, IsTrue, ◌↔◌, None};
 ghost use Rattle.bx_places.specs.Places.{IsVolume};
 
-use crate::procedures::Procedures;
 use crate::stage::{Acted, Recorded, Stage, Waiting};
 use crate::stores::{AskedStore, NODE};
 use bx_base::OutOfMemory;
@@ -44,9 +40,7 @@ impl LoneNode {
     ghost use Rattle.bx_cache.specs.Cached.{block_at};
     ghost use Rattle.bx_redo.specs.Steps.{closed_log};
     ghost use Rattle.bx_lone_node.specs.Node.{IsJoined, IsOfSame, Takes, calls_of};
-    ghost use Rattle.bx_lone_node.specs.Standing.{GoesTo, NodeStands, StandsFor, Turns};
     ghost use Rattle.bx_lone_node.specs.declared.stage.Stage.TheVariants.{Idle};
-    ghost use Rattle.bx_lone_node.specs.declared.stage.Waiting.{Waiting};
 
     /// A node of a volume of so many devices (1 to 4) and areas (1 to 64), whose logs are closed. No call waits, and nothing was
     /// read yet. It takes no memory.
@@ -93,40 +87,8 @@ impl LoneNode {
         }
     }
 
-    /// Does what can be done without the disks, at a moment in milliseconds: goes on with what the store has done, and attempts the
-    /// call at the head where nothing is under way. At most one call is answered, the oldest; `None` where none is. For want of memory neither
-    /// the node nor the store is used again.
-    pub fn turn<S: AskedStore, E: Procedures>(
-        &mut self,
-        store: &mut S,
-        engine: &E,
-        moment: u64,
-    ) -> Result<Option<Acted>, OutOfMemory>
-        requires joined { IsJoined self.old (S.made store.old) (S.own store.old 0) (S.out_of store.old 0) (S.asked store.old 0) }
-        requires areas { E.areas engine.now ≡ self.old.areas }
-        requires taken { (call : Waiting) → Contains self.old.queue call → E.takes engine.now call.datagram }
-        requires moment { moment ≤ 4294967295999 }
-        ensures takes { IfOk result (λ acted. Takes acted (calls_of self.old) (calls_of self.new)) }
-        ensures queue { OnOk result ((call : Waiting) → Contains self.new.queue call → Contains self.old.queue call) }
-        ensures same { IsOfSame self.old self.new }
-        ensures joined { OnOk result (IsJoined self.new (S.made store.new) (S.own store.new 0) (S.out_of store.new 0) (S.asked store.new 0)) }
-    {
-        let acted = self.go_on(store)?;
-        if acted.is_some() || !self.is_idle() {
-            return Ok(acted);
-        }
-        self.attempt(store, engine, moment)
-    }
-
-    /// Whether nothing is under way.
-    fn is_idle(&self) -> bool
-        ensures { IsTrue result ↔ (self.now.stage ≡ Idle) }
-    {
-        matches!(self.stage, Stage::Idle)
-    }
-
     /// Goes on with what is under way, where the store has done what it was asked for.
-    fn go_on<S: AskedStore>(&mut self, store: &mut S) -> Result<Option<Acted>, OutOfMemory>
+    pub fn go_on<S: AskedStore>(&mut self, store: &mut S) -> Result<Option<Acted>, OutOfMemory>
         requires joined { IsJoined self.old (S.made store.old) (S.own store.old 0) (S.out_of store.old 0) (S.asked store.old 0) }
         ensures takes { IfOk result (λ acted. Takes acted (calls_of self.old) (calls_of self.new)) }
         ensures queue { self.new.queue ≡ self.old.queue }

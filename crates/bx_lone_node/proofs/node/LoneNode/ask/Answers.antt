@@ -34,7 +34,7 @@ returns-clause-stands g c = λ volume state x tree next stood.
     let st = g.S.Store in
     let old = c.args.store.now in
     let new = c.read.new.self in
-    let node : NodeView = record {devices = c.self.inside.devices; areas = c.self.inside.areas; queue = c.self.inside.queue.items; cache = c.self.inside.cache; log = c.self.inside.log; stage = c.self.inside.stage} in
+    let node : NodeView = record { devices = c.self.inside.devices; areas = c.self.inside.areas; queue = c.self.inside.queue.items; cache = c.self.inside.cache; log = c.self.inside.log; stage = c.self.inside.stage } in
     let P : NodeView → Type 0 = λ n. NodeStands (st.keeps old) (st.stands old) (st.will_read old) (st.made old) (st.own old 0) (st.out_of old 0) (st.asked old 0) volume state x n tree next in
     let stood_here = subst P (sym c.self.view_is) stood in
     let is : c.self.inside.stage ≡ Idle = ap (λ (n : NodeView). n.stage) c.self.view_is ∙ c.requires.idle in

@@ -45,7 +45,7 @@ invariant_of-self-2 g c =
     let work : Work = Body (logged_text (record_of c.args.point c.args.draft)) c.args.point in
     let asks = asks_first c.self.inside.log c.append.new.self c.next.new.self work c.in_ok-runs.field-0 c.in-Write.runs c.in_ok-append.ensures.ok c.in_ok-runs.ensures.ok c.in-Write.is in
     let logged = c.in_ok-append.ensures.logged c.self.inside.areas (of_areas c.self.inside.areas c.args.draft blocks) in
-    let node : NodeView = record {devices = c.self.inside.devices; areas = c.self.inside.areas; queue = c.self.inside.queue.items; cache = c.self.inside.cache; log = c.self.inside.log; stage = c.self.inside.stage} in
+    let node : NodeView = record { devices = c.self.inside.devices; areas = c.self.inside.areas; queue = c.self.inside.queue.items; cache = c.self.inside.cache; log = c.self.inside.log; stage = c.self.inside.stage } in
     subst (λ (l : LogView). IsNode (record node { stage = Logs c.args.recorded c.args.draft; log = l })) (sym asks.0)
     (at_stage node (doing c.self.inside.log work) (Logs c.args.recorded c.args.draft) c.self.invariant (subst IsUsed (sym is) tt) c.self.invariant.slot c.self.invariant.device
     ((body_is c.self.inside.areas (record_of c.args.point c.args.draft) logged, c.requires.point), refl, stage.2, blocks))
@@ -75,9 +75,9 @@ returns-clause-stands g c = λ volume state x tree next any stood leads.
     (log_fits (st.made new) (doing now.log work) work some is.slot is.device (body_is now.areas more logged, stage.2))
     (subst (λ (r : List Run). st.out_of new 0 ≡ Some (sent_by stood.session r)) runs (c.in_ok-send.ensures.is_out stood.session stood.own_is))
     (subst (λ (r : List Run). IsSent (st.keeps new x) (st.stands old x) (st.stands new x) stood.past (sent_by stood.session r)) runs sent) in
-    let node : NodeView = record {devices = c.self.inside.devices; areas = c.self.inside.areas; queue = c.self.inside.queue.items; cache = c.self.inside.cache; log = c.self.inside.log; stage = c.self.inside.stage} in
+    let node : NodeView = record { devices = c.self.inside.devices; areas = c.self.inside.areas; queue = c.self.inside.queue.items; cache = c.self.inside.cache; log = c.self.inside.log; stage = c.self.inside.stage } in
     let here : (let n : NodeView = record node { stage = Logs c.args.recorded c.args.draft; log = c.next.new.self } in n) ≡ record now { stage = Logs c.args.recorded c.args.draft; log = doing now.log work } =
-        ap (λ (l : LogView). let n : NodeView = record node { stage = Logs c.args.recorded c.args.draft; log = l } in n) asks.0
-        ∙ ap (λ (n : NodeView). let m : NodeView = record n { stage = Logs c.args.recorded c.args.draft; log = doing n.log work } in m) c.self.view_is in
+    ap (λ (l : LogView). let n : NodeView = record node { stage = Logs c.args.recorded c.args.draft; log = l } in n) asks.0
+    ∙ ap (λ (n : NodeView). let m : NodeView = record n { stage = Logs c.args.recorded c.args.draft; log = doing n.log work } in m) c.self.view_is in
     let P : NodeView → Type 0 = λ n. NodeStands (st.keeps new) (st.stands new) (st.will_read new) (st.made new) (st.own new 0) (st.out_of new 0) (st.asked new 0) volume state x n tree next in
     subst P (sym here) stands

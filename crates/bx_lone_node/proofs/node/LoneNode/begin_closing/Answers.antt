@@ -33,7 +33,7 @@ pub invariant_of-self-2 : goal.invariant_of-self-2
 invariant_of-self-2 g c =
     let is = subst (λ (n : NodeView). IsNode (record n { stage = Homes })) (sym c.self.view_is) c.requires.node in
     let asks = asks_first c.self.inside.log c.close.new.self c.next.new.self works.Closes c.in_ok-runs.field-0 c.in-Write.runs c.close.ensures c.in_ok-runs.ensures.ok c.in-Write.is in
-    let node : NodeView = record {devices = c.self.inside.devices; areas = c.self.inside.areas; queue = c.self.inside.queue.items; cache = c.self.inside.cache; log = c.self.inside.log; stage = Homes} in
+    let node : NodeView = record { devices = c.self.inside.devices; areas = c.self.inside.areas; queue = c.self.inside.queue.items; cache = c.self.inside.cache; log = c.self.inside.log; stage = Homes } in
     subst (λ (l : LogView). IsNode (record node { stage = Closes; log = l })) (sym asks.0)
     (at_stage node (doing c.self.inside.log works.Closes) Closes is tt is.slot is.device (tt, refl))
 
@@ -58,9 +58,9 @@ returns-clause-stands g c = λ volume state x tree next stood.
     (log_fits (st.made new) now.log works.Closes some is.slot is.device tt)
     (subst (λ (r : List Run). st.out_of new 0 ≡ Some (sent_by stood.session r)) runs (c.in_ok-send.ensures.is_out stood.session stood.own_is))
     (subst (λ (r : List Run). IsSent (st.keeps new x) (st.stands old x) (st.stands new x) stood.past (sent_by stood.session r)) runs sent) in
-    let node : NodeView = record {devices = c.self.inside.devices; areas = c.self.inside.areas; queue = c.self.inside.queue.items; cache = c.self.inside.cache; log = c.self.inside.log; stage = c.self.inside.stage} in
+    let node : NodeView = record { devices = c.self.inside.devices; areas = c.self.inside.areas; queue = c.self.inside.queue.items; cache = c.self.inside.cache; log = c.self.inside.log; stage = c.self.inside.stage } in
     let here : (let n : NodeView = record node { stage = Closes; log = c.next.new.self } in n) ≡ record now { stage = Closes; log = doing now.log works.Closes } =
-        ap (λ (l : LogView). let n : NodeView = record node { stage = Closes; log = l } in n) asks.0
-        ∙ ap (λ (n : NodeView). let m : NodeView = record n { stage = Closes; log = doing n.log works.Closes } in m) c.self.view_is in
+    ap (λ (l : LogView). let n : NodeView = record node { stage = Closes; log = l } in n) asks.0
+    ∙ ap (λ (n : NodeView). let m : NodeView = record n { stage = Closes; log = doing n.log works.Closes } in m) c.self.view_is in
     let P : NodeView → Type 0 = λ n. NodeStands (st.keeps new) (st.stands new) (st.will_read new) (st.made new) (st.own new 0) (st.out_of new 0) (st.asked new 0) volume state x n tree next in
     subst P (sym here) stands

@@ -52,7 +52,7 @@ pub invariant_of-self-in-Write : goal.invariant_of-self-in-Write
 invariant_of-self-in-Write g c =
     let is = subst (λ (n : NodeView). IsNode (record n { stage = Logs c.args.recorded c.args.draft })) (sym c.self.view_is) c.requires.node in
     let asks = gate_of c.self.inside.log c.next.new.self c.in_ok-runs.field-0 c.in-Write.runs c.args.recorded is.stage.0 is.stage.1 c.in_ok-runs.ensures.ok c.in-Write.is in
-    let node : NodeView = record {devices = c.self.inside.devices; areas = c.self.inside.areas; queue = c.self.inside.queue.items; cache = c.self.inside.cache; log = c.self.inside.log; stage = Logs c.args.recorded c.args.draft} in
+    let node : NodeView = record { devices = c.self.inside.devices; areas = c.self.inside.areas; queue = c.self.inside.queue.items; cache = c.self.inside.cache; log = c.self.inside.log; stage = Logs c.args.recorded c.args.draft } in
     let point = subst (IsRecording c.args.recorded) asks.2 is.stage.0 in
     subst (λ (l : LogView). IsNode (record node { stage = Logs c.args.recorded c.args.draft; log = l })) (sym asks.3)
     (at_stage node (doing c.self.inside.log (works.Opens asks.1)) (Logs c.args.recorded c.args.draft) is tt is.slot is.device (point.1, refl, is.stage.2, is.stage.3))
@@ -61,7 +61,7 @@ pub invariant_of-self-in-Acked : goal.invariant_of-self-in-Acked
 invariant_of-self-in-Acked g c =
     let isv = subst (λ (n : NodeView). IsNode (record n { stage = Logs c.args.recorded c.args.draft })) (sym c.self.view_is) c.requires.node in
     let opens = open_of c.self.inside.log c.next.new.self c.in_ok-runs.field-0 c.in-Acked.point c.args.recorded isv.stage.0 isv.stage.1 c.in_ok-runs.ensures.ok c.in-Acked.is in
-    let node : NodeView = record {devices = c.self.inside.devices; areas = c.self.inside.areas; queue = c.self.inside.queue.items; cache = c.self.inside.cache; log = c.self.inside.log; stage = Logs c.args.recorded c.args.draft} in
+    let node : NodeView = record { devices = c.self.inside.devices; areas = c.self.inside.areas; queue = c.self.inside.queue.items; cache = c.self.inside.cache; log = c.self.inside.log; stage = Logs c.args.recorded c.args.draft } in
     let spent : c.self.inside.stage ≡ Spent = ap (λ (n : NodeView). n.stage) c.self.view_is ∙ c.requires.spent in
     subst (λ (s : Stage). IsNode (record node { stage = s; log = c.next.new.self })) (sym spent)
     (spent_with node c.next.new.self isv (ap (λ (l : LogView). l.slot) opens.1 ∙ isv.slot) (ap (λ (l : LogView). l.device) opens.1 ∙ isv.device))
@@ -70,7 +70,7 @@ pub invariant_of-self-in-Acked-1 : goal.invariant_of-self-in-Acked-1
 invariant_of-self-in-Acked-1 g c =
     let isv = subst (λ (n : NodeView). IsNode (record n { stage = Logs c.args.recorded c.args.draft })) (sym c.self.view_is) c.requires.node in
     let opens = open_of c.self.inside.log c.next.new.self c.in_ok-runs.field-0 c.in-Acked.point c.args.recorded isv.stage.0 isv.stage.1 c.in_ok-runs.ensures.ok c.in-Acked.is in
-    let node : NodeView = record {devices = c.self.inside.devices; areas = c.self.inside.areas; queue = c.self.inside.queue.items; cache = c.self.inside.cache; log = c.next.new.self; stage = c.self.inside.stage} in
+    let node : NodeView = record { devices = c.self.inside.devices; areas = c.self.inside.areas; queue = c.self.inside.queue.items; cache = c.self.inside.cache; log = c.next.new.self; stage = c.self.inside.stage } in
     let count : c.next.new.self.count ≡ 1 = ap (λ (l : LogView). l.count) opens.1 ∙ ap (λ (k : ℕ). k + 1) isv.stage.2 in
     let homes : NodeView = record node { cache = c.lay.new.self.cache; stage = Homes } in
     let is : IsNode homes = record {
@@ -107,15 +107,19 @@ returns-in_ok-send-in-Write-clause-stands g c = λ volume state x tree next stoo
     (log_fits (st.made new) now.log (works.Opens point) some is.slot is.device (omega (arith, count)))
     (subst (λ (r : List Run). st.out_of new 0 ≡ Some (sent_by stood.session r)) runs (c.in_ok-send-in-Write.ensures.is_out stood.session stood.own_is))
     (subst (λ (r : List Run). IsSent (st.keeps new x) (st.stands old x) (st.stands new x) stood.past (sent_by stood.session r)) runs sent) in
-    let node : NodeView = record {devices = c.self.inside.devices; areas = c.self.inside.areas; queue = c.self.inside.queue.items; cache = c.self.inside.cache; log = c.self.inside.log; stage = c.self.inside.stage} in
+    let node : NodeView = record { devices = c.self.inside.devices; areas = c.self.inside.areas; queue = c.self.inside.queue.items; cache = c.self.inside.cache; log = c.self.inside.log; stage = c.self.inside.stage } in
     let here : (let n : NodeView = record node { stage = Logs c.args.recorded c.args.draft; log = c.next.new.self } in n) ≡ record now { stage = Logs c.args.recorded c.args.draft; log = doing now.log (works.Opens point) } =
-        ap (λ (l : LogView). let n : NodeView = record node { stage = Logs c.args.recorded c.args.draft; log = l } in n) asks.3
-        ∙ ap (λ (n : NodeView). let m : NodeView = record n { stage = Logs c.args.recorded c.args.draft; log = doing n.log (works.Opens point) } in m) c.self.view_is in
+    ap (λ (l : LogView). let n : NodeView = record node { stage = Logs c.args.recorded c.args.draft; log = l } in n) asks.3
+    ∙ ap (λ (n : NodeView). let m : NodeView = record n { stage = Logs c.args.recorded c.args.draft; log = doing n.log (works.Opens point) } in m) c.self.view_is in
     let P : NodeView → Type 0 = λ n. NodeStands (st.keeps new) (st.stands new) (st.will_read new) (st.made new) (st.own new 0) (st.out_of new 0) (st.asked new 0) volume state x n tree next in
-    inl (refl, record {
-      was = λ recorded draft at stage is_at.
-          (stage, subst (λ (w : Work). IsAt w at) (sym work) (subst (λ (l : LogView). IsAt l.work at) asks.3 is_at));
-    }, subst P (sym here) stands)
+    inl (
+      refl,
+      record {
+        was = λ recorded draft at stage is_at.
+            (stage, subst (λ (w : Work). IsAt w at) (sym work) (subst (λ (l : LogView). IsAt l.work at) asks.3 is_at));
+      },
+      subst P (sym here) stands,
+    )
 
 pub returns-in_ok-send-in-Acked-clause-stands : goal.returns-in_ok-send-in-Acked-clause-stands
 returns-in_ok-send-in-Acked-clause-stands g c = λ volume state x tree next stood.
@@ -145,10 +149,12 @@ returns-in_ok-send-in-Acked-clause-stands g c = λ volume state x tree next stoo
     (fit_for (st.made new) now.devices now.areas c.args.draft e_d e_a is.volume draft is.stage.3)
     (subst (λ (r : List Run). st.out_of new 0 ≡ Some (sent_by stood.session r)) runs (c.in_ok-send-in-Acked.ensures.is_out stood.session stood.own_is))
     (subst (λ (r : List Run). IsSent (st.keeps new x) (st.stands old x) (st.stands new x) stood.past (sent_by stood.session r)) runs sent) in
-    let node : NodeView = record {devices = c.self.inside.devices; areas = c.self.inside.areas; queue = c.self.inside.queue.items; cache = c.self.inside.cache; log = c.self.inside.log; stage = c.self.inside.stage} in
+    let node : NodeView = record { devices = c.self.inside.devices; areas = c.self.inside.areas; queue = c.self.inside.queue.items; cache = c.self.inside.cache; log = c.self.inside.log; stage = c.self.inside.stage } in
     let P : NodeView → Type 0 = λ n. NodeStands (st.keeps new) (st.stands new) (st.will_read new) (st.made new) (st.own new 0) (st.out_of new 0) (st.asked new 0) volume state x n next next in
     let Q : NodeView → Type 0 = λ n. P (record n { stage = Homes; cache = cache; log = resting (record n.log { count = n.log.count + 1 }) }) in
     let one = subst Q (sym c.self.view_is) stands in
     let two = subst (λ (l : LogView). P (record node { stage = Homes; cache = cache; log = l })) (sym opens.1) one in
-    inr (record { recorded = c.args.recorded; draft = c.args.draft; point = c.in-Acked.point; was = refl; at = subst (λ (w : Work). IsAt w c.in-Acked.point) (sym work) refl; says = c.told.ensures; now = refl },
-    subst (λ (n : NodeView). P (record n { stage = Homes })) (sym (c.self-in-Acked.view_is ∙ c.in_ok-runs-in-Acked.ensures.node)) two)
+    inr (
+      record { recorded = c.args.recorded; draft = c.args.draft; point = c.in-Acked.point; was = refl; at = subst (λ (w : Work). IsAt w c.in-Acked.point) (sym work) refl; says = c.told.ensures; now = refl },
+      subst (λ (n : NodeView). P (record n { stage = Homes })) (sym (c.self-in-Acked.view_is ∙ c.in_ok-runs-in-Acked.ensures.node)) two,
+    )

@@ -7,7 +7,6 @@ use Rattle.bx_views.specs.Attempts.{Gives, IsFair}
 use Rattle.bx_views.specs.Truths.{Hints, IsTruth, Truth}
 use Rattle.bx_lone_node.specs.Node.{NodeView}
 use Rattle.bx_lone_node.specs.declared.stage.Waiting.{Waiting}
-use Rattle.bx_lone_node.proofs.Queues.{first_is}
 use Rattle.bx_lone_node.proofs.node.LoneNode.try_head.Goals as goal
 
 pub returns : goal.returns
@@ -15,12 +14,10 @@ returns g c =
     let e = g.E.Procedures in
     let engine = c.args.engine.now in
     let call = c.in-Some.call.now in
-    let items = c.self.inside.queue.items in
     let attempt = c.in_ok-attempt.attempt in
     record {
       call = call;
-      rest = drop 1 items;
-      oldest = sym (ap (λ (n : NodeView). n.queue) c.self.view_is) ∙ first_is items call ?;
+      oldest = subst (λ (n : NodeView). call ≡ slice_index_or n.queue 0 call) c.self.view_is c.in-Some.ensures.lookup;
       gives = λ truth tree is stands.
           subst (λ (d : List ℕ). Gives (λ (other : Truth) (hints : Hints) (then : Tree). Stands (e.volume engine) (e.areas engine) other then) (e.step engine) (e.free engine truth) call.client d c.args.moment truth tree attempt) c.bytes.ensures
           (c.in_ok-attempt.ensures.gives truth tree (subst (λ (n : NodeView). IsTruth (λ at mode. block_at n.cache at) truth) (sym c.self.view_is) is) stands);

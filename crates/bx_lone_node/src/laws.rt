@@ -1,6 +1,0 @@
-//! Laws.
-
-/// Holds.
-pub fn all_lemmas()
-    ensures { Unit {0} }
-{}

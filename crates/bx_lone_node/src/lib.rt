@@ -10,8 +10,10 @@ mod procedures;
 mod reads;
 mod stage;
 mod stores;
+mod syncs;
 
 pub use node::LoneNode;
 pub use procedures::Procedures;
 pub use stage::{Acted, Recorded, Stage, Waiting};
 pub use stores::AskedStore;
+pub use syncs::sync;

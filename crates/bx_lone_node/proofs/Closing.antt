@@ -1,5 +1,5 @@
 -- What a closing says, by what it was doing.
-use Rattle.std.proofs.Common.{◌≡◌, ◌⊎◌, ℕ, ⊎_elim, true, sym, ◌∙◌}
+use Rattle.std.proofs.Common.{◌≡◌, ⊎_elim, true, sym, ◌∙◌}
 use Rattle.bx_records.specs.Runs.{KindAndRuns}
 use Rattle.bx_redo.specs.Stands.{doing, resting}
 use Rattle.bx_redo.specs.Steps.{Asks, Ends, Steps, writes}

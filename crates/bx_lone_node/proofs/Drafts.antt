@@ -1,12 +1,11 @@
 -- What a call changes are blocks of the volume, since a node holds no others.
 use Rattle.std.proofs.Common.{◌≡◌, ℕ, List, Option, Some, None, IsSome, refl, ap}
 use Rattle.std.specs.Prelude.{is_some}
-use Rattle.bx_base.specs.declared.names.Mode.TheVariants.{Exclusive}
 use Rattle.bx_cache.specs.Cached.{block_at}
 use Rattle.bx_layout.specs.declared.block.Block.{Block}
 use Rattle.bx_layout.specs.Blocks.{HasParts}
 use Rattle.bx_places.specs.Places.{IsBlock}
-use Rattle.bx_records.specs.Drafts.{Changed, IsDraft, block_in}
+use Rattle.bx_records.specs.Drafts.{Changed, IsDraft}
 use Rattle.bx_redo.proofs.Heads.{all_of}
 use Rattle.bx_views.specs.Attempts.{IsHeldDraft}
 use Rattle.bx_lone_node.specs.Runs.{AreBlocks}

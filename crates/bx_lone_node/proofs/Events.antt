@@ -1,10 +1,9 @@
 -- What each event makes of a node that stands.
-use Rattle.std.proofs.Common.{◌≡◌, ◌⊎◌, ⊎_elim, inl, inr, ℕ, ◌+◌, ◌<◌, ◌≤◌, arith, Bool, true, false, List, [], ◌∷◌, Contains, length, Option, Some, None, refl, sym, ◌∙◌, ap, subst}
+use Rattle.std.proofs.Common.{◌≡◌, ◌⊎◌, inl, ℕ, ◌+◌, ◌<◌, arith, Bool, true, false, List, [], ◌∷◌, Contains, length, Option, Some, None, refl, sym, ◌∙◌, ap, subst}
 use Rattle.std.specs.Prelude.{◌≢◌}
 use Rattle.bx_base.specs.declared.names.Point.{Point}
 use Rattle.bx_cache.specs.Cached.{block_at}
 use Rattle.bx_disk.specs.Disks.{Image, Disks}
-use Rattle.bx_facts.specs.Chains.{LivesIn}
 use Rattle.bx_facts.specs.Writes.{AreRuns, Asked, IsOnly, IsOver, Made, MayWrite, Sent, StorePast, store_with, writing}
 use Rattle.bx_facts.proofs.Lists.{nothing}
 use Rattle.bx_global.specs.declared.state.GlobalState.{GlobalState}
@@ -31,10 +30,10 @@ use Rattle.bx_volume.specs.Records.{Logged, IsLogged, logged_text, newest_in, or
 use Rattle.bx_volume.proofs.Overlay.{log_here, log_there}
 use Rattle.bx_lone_node.specs.declared.stage.Recorded.{Recorded}
 use Rattle.bx_lone_node.specs.declared.stage.Stage.{Stage}
-use Rattle.bx_lone_node.specs.declared.stage.Stage.TheVariants.{Idle, Reads, Logs, Homes, Closes, Spent}
+use Rattle.bx_lone_node.specs.declared.stage.Stage.TheVariants.{Idle, Logs, Homes, Closes}
 use Rattle.bx_lone_node.specs.Node.{NodeView}
 use Rattle.bx_lone_node.specs.Runs.{IsSent, sent_by}
-use Rattle.bx_lone_node.specs.Standing.{Finds, IsFlying, IsLone, IsWriting, NodeStands, Promises}
+use Rattle.bx_lone_node.specs.Standing.{Finds, IsLone, IsWriting, NodeStands}
 use Rattle.bx_lone_node.proofs.Phases.{homes_go, is_acked, landed, log_out}
 
 -- a write may be sent while members take none

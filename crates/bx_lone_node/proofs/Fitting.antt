@@ -1,6 +1,6 @@
 -- The runs that a node asks for may be written, and those of homes are the homes of a record's blocks.
-use Rattle.std.proofs.Common.{◌≡◌, ◌⊎◌, ⊎_elim, inl, inr, ℕ, ◌+◌, ◌-◌, ◌*◌, ◌/◌, ◌%◌, ◌<◌, ◌≤◌, arith, Bool, true, false, List, [], ◌∷◌, Contains, length, get_or, take, ◌++◌, Option, Some, None, refl, sym, ◌∙◌, ap, subst}
-use Rattle.std.specs.Prelude.{◌≢◌, ◌==◌, if◌then◌else◌}
+use Rattle.std.proofs.Common.{◌≡◌, ◌⊎◌, ⊎_elim, inl, inr, ℕ, ◌+◌, ◌-◌, ◌*◌, ◌/◌, ◌<◌, ◌≤◌, arith, Bool, true, false, List, [], ◌∷◌, Contains, length, get_or, take, ◌++◌, Some, refl, sym, ◌∙◌, ap, subst}
+use Rattle.std.specs.Prelude.{◌==◌, if◌then◌else◌}
 use Rattle.std.specs.List.{AllByRecursion, IsDistinct}
 use Rattle.std.proofs.lemmas.Bool.Decides.{nat_tests}
 use Rattle.std.proofs.lemmas.List.{length-replicate, map-append, take_more}
@@ -23,7 +23,7 @@ use Rattle.bx_redo.specs.declared.work.Work.{Work}
 use Rattle.bx_redo.specs.declared.work.Work.TheVariants as works
 use Rattle.bx_redo.proofs.Stored.{only_one}
 use Rattle.bx_redo.proofs.Within.{decided}
-use Rattle.bx_truth.proofs.Cases.{eq_false, eq_true, same_or}
+use Rattle.bx_truth.proofs.Cases.{eq_true, same_or}
 use Rattle.bx_volume.specs.Overlay.{Logs}
 use Rattle.bx_volume.specs.Records.{Logged, IsLogged, logged_text, newest_in}
 use Rattle.bx_volume.proofs.Apart.{two_homes}

@@ -1,5 +1,5 @@
 -- What an open record makes of a node.
-use Rattle.std.proofs.Common.{◌≡◌, ◌⊎◌, ⊎_elim, inl, inr, refl, ℕ, ◌+◌, List, [], ◌∷◌, Option, Some, None, sym, ◌∙◌, ap, subst, true}
+use Rattle.std.proofs.Common.{◌≡◌, ◌⊎◌, ⊎_elim, inl, inr, refl, ℕ, ◌+◌, List, Option, Some, None, sym, ◌∙◌, ap, subst, true}
 use Rattle.std.specs.Prelude.{unwrap_or}
 use Rattle.bx_base.specs.declared.names.Point.{Point}
 use Rattle.bx_cache.specs.Cached.{block_at, or_older}

@@ -1,8 +1,8 @@
 -- What goes on with a node's log while its store works.
-use Rattle.std.proofs.Common.{◌≡◌, ◌⊎◌, ⊎_elim, inl, inr, ℕ, ◌<◌, arith, Bool, true, false, List, [], ◌∷◌, Contains, Option, Some, None, refl, sym, ◌∙◌, ap, subst}
+use Rattle.std.proofs.Common.{◌≡◌, ⊎_elim, inl, ℕ, ◌<◌, Bool, false, List, [], ◌∷◌, Contains, Option, None, refl, sym, ◌∙◌, ap, subst}
 use Rattle.std.specs.Prelude.{◌≢◌}
 use Rattle.bx_disk.specs.Disks.{Image}
-use Rattle.bx_facts.specs.Writes.{AreRuns, IsDone, IsOnly, IsOver, Made, Sent, WritesIn, WritesTo}
+use Rattle.bx_facts.specs.Writes.{IsOnly, Made, Sent, WritesTo}
 use Rattle.bx_facts.proofs.Lists.{front_or_behind, nothing}
 use Rattle.bx_records.specs.declared.runs.Run.{Run}
 use Rattle.bx_rows.specs.declared.session.SessionRow.{SessionRow}
@@ -10,7 +10,7 @@ use Rattle.bx_views.specs.Truths.{Truth}
 use Rattle.bx_volume.specs.Overlay.{Logs}
 use Rattle.bx_volume.specs.Records.{Logged}
 use Rattle.bx_redo.specs.Homes.{AreItsHomes}
-use Rattle.bx_redo.specs.Stands.{LogStands, IsAcknowledged, IsOut, bytes_of, is_written, resting, stored}
+use Rattle.bx_redo.specs.Stands.{LogStands, IsAcknowledged, bytes_of, resting, stored}
 use Rattle.bx_redo.specs.Steps.{writes}
 use Rattle.bx_redo.specs.View.{LogView}
 use Rattle.bx_redo.specs.declared.work.Work.TheVariants.{Idle}

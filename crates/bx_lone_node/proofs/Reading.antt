@@ -1,31 +1,31 @@
 -- What reads make of a node that stands.
-use Rattle.std.proofs.Common.{◌≡◌, ◌⊎◌, ⊎_elim, inl, inr, ℕ, ◌+◌, ◌-◌, ◌<◌, ◌≤◌, arith, Bool, true, false, List, [], ◌∷◌, length, Option, Some, None, refl, sym, ◌∙◌, ap, subst}
-use Rattle.std.specs.Prelude.{◌≢◌, ◌==◌, if◌then◌else◌}
+use Rattle.std.proofs.Common.{◌≡◌, ◌⊎◌, ⊎_elim, inl, inr, ℕ, ◌+◌, ◌<◌, arith, Bool, true, false, List, [], ◌∷◌, length, Option, Some, None, refl, sym, ◌∙◌, ap, subst}
+use Rattle.std.specs.Prelude.{◌==◌, if◌then◌else◌}
 use Rattle.std.proofs.lemmas.Bool.Decides.{nat_tests}
 use Rattle.bx_cache.specs.Cached.{block_at}
-use Rattle.bx_disk.specs.Disks.{Image, Disks, is_within, sector_of}
+use Rattle.bx_disk.specs.Disks.{Disks, is_within, sector_of}
 use Rattle.bx_facts.specs.Writes.{Asked, IsOnly, Made, Sent, StorePast, store_with}
 use Rattle.bx_global.specs.declared.state.GlobalState.{GlobalState}
 use Rattle.bx_layout.specs.declared.block.Block.{Block}
-use Rattle.bx_layout.specs.Blocks.{HasParts, SpellsBlock, block_text}
+use Rattle.bx_layout.specs.Blocks.{SpellsBlock}
 use Rattle.bx_model.specs.declared.tree.Tree.{Tree}
 use Rattle.bx_places.specs.Places.{IsBlock, block_place}
 use Rattle.bx_post.specs.declared.packets.Letter.{Letter}
 use Rattle.bx_redo.specs.declared.work.Work.TheVariants as works
 use Rattle.bx_redo.specs.declared.work.Work.{Work}
-use Rattle.bx_redo.specs.Stands.{LogStands, begins_at, sectors_of}
+use Rattle.bx_redo.specs.Stands.{begins_at, sectors_of}
 use Rattle.bx_redo.proofs.Begun.{stays}
 use Rattle.bx_redo.proofs.Within.{behind_it, decided}
 use Rattle.bx_truth.proofs.Cases.{same_or}
 use Rattle.bx_views.specs.Truths.{Truth}
-use Rattle.bx_volume.specs.Overlay.{IsHome, Home, Matters}
+use Rattle.bx_volume.specs.Overlay.{IsHome, Home}
 use Rattle.bx_volume.specs.Records.{Logged, newest_in}
 use Rattle.bx_volume.proofs.OneTruth.{one_home}
 use Rattle.bx_volume.proofs.Sizes.{length-block_text}
 use Rattle.bx_lone_node.specs.declared.stage.Stage.TheVariants.{Idle, Reads}
 use Rattle.bx_lone_node.specs.Node.{NodeView}
 use Rattle.bx_lone_node.specs.Runs.{home_of}
-use Rattle.bx_lone_node.specs.Standing.{Finds, IsLone, IsRead, NodeStands}
+use Rattle.bx_lone_node.specs.Standing.{Finds, NodeStands}
 use Rattle.bx_lone_node.proofs.Phases.{none_only}
 
 module _ (Keeps : Disks → StorePast → Type 0) (Standing : Disks → StorePast → ℕ → ℕ → List ℕ → ℕ → Type 0) (Reading : Disks → StorePast → ℕ → ℕ → List ℕ → Type 0)

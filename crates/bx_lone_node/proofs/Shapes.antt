@@ -1,5 +1,5 @@
 -- Nodes are nodes after their steps.
-use Rattle.std.proofs.Common.{◌≡◌, ◌⊎◌, ⊎_elim, inl, inr, refl, ℕ, ◌+◌, ◌≤◌, arith, Bool, true, false, List, Some, None, sym, ◌∙◌, ap, subst}
+use Rattle.std.proofs.Common.{◌≡◌, ◌⊎◌, ⊎_elim, inl, inr, refl, ℕ, ◌+◌, Bool, true, false, List, Some, sym, ◌∙◌, subst}
 use Rattle.bx_cache.specs.Cached.{block_at}
 use Rattle.bx_layout.specs.declared.block.Block.{Block}
 use Rattle.bx_layout.specs.Blocks.{HasParts}
@@ -15,7 +15,7 @@ use Rattle.bx_redo.specs.declared.work.Work.TheVariants as works
 use Rattle.bx_base.specs.declared.names.Point.{Point}
 use Rattle.bx_lone_node.specs.declared.stage.Recorded.{Recorded}
 use Rattle.bx_lone_node.specs.declared.stage.Stage.{Stage}
-use Rattle.bx_lone_node.specs.declared.stage.Stage.TheVariants.{Idle, Reads, Logs, Homes, Closes, Spent}
+use Rattle.bx_lone_node.specs.declared.stage.Stage.TheVariants.{Idle, Reads, Spent}
 use Rattle.bx_lone_node.specs.Node.{IsClosing, IsInStage, IsNode, IsRecording, IsUsed, NodeView}
 
 pub kept_idle : (node : NodeView) (at : ℕ) (cache : List (ℕ × Block)) → IsNode node → node.stage ≡ Reads at

@@ -1,15 +1,14 @@
 -- A node stands on while its store works.
-use Rattle.std.proofs.Common.{◌≡◌, ◌⊎◌, ⊎_elim, inl, inr, ℕ, ◌+◌, ◌<◌, arith, List, [], Option, Some, None, refl, sym, ◌∙◌, subst}
+use Rattle.std.proofs.Common.{◌≡◌, ◌⊎◌, ⊎_elim, inl, inr, ℕ, ◌+◌, arith, List, [], Option, Some, None, sym, ◌∙◌, subst}
 use Rattle.std.specs.Prelude.{◌≢◌}
-use Rattle.bx_disk.specs.Disks.{Image, Disks}
+use Rattle.bx_disk.specs.Disks.{Disks}
 use Rattle.bx_facts.specs.Writes.{AreRuns, Asked, IsOnly, Made, Sent, StorePast}
 use Rattle.bx_global.specs.declared.state.GlobalState.{GlobalState}
 use Rattle.bx_model.specs.declared.tree.Tree.{Tree}
 use Rattle.bx_places.specs.Places.{block_place}
 use Rattle.bx_records.specs.declared.runs.Run.{Run}
 use Rattle.bx_redo.specs.Homes.{AreItsHomes}
-use Rattle.bx_redo.specs.Stands.{LogStands, resting}
-use Rattle.bx_redo.specs.Steps.{writes}
+use Rattle.bx_redo.specs.Stands.{LogStands}
 use Rattle.bx_redo.specs.declared.work.Work.{Work}
 use Rattle.bx_redo.specs.declared.work.Work.TheVariants as works
 use Rattle.bx_lone_node.specs.declared.stage.Recorded.{Recorded}

@@ -1,8 +1,6 @@
 -- What a node asks a store for.
-use Rattle.std.specs.Prelude.{◌≡◌, ℕ, List, ◌∷◌, map, Some}
+use Rattle.std.specs.Prelude.{ℕ, List, ◌∷◌, map}
 use Rattle.std.specs.List.{AllByRecursion}
-use Rattle.bx_base.specs.declared.names.Actor.TheVariants.{Node}
-use Rattle.bx_disk.specs.Disks.{Disks}
 use Rattle.bx_layout.specs.Blocks.{HasParts}
 use Rattle.bx_places.specs.Places.{IsBlock, block_place}
 use Rattle.bx_post.specs.declared.packets.Letter.{Letter}

@@ -1,15 +1,15 @@
-use Rattle.std.proofs.Common.{◌≡◌, ◌⊎◌, ⊎_elim, inl, inr, ℕ, ◌≤◌, arith, Bool, true, false, List, [], ◌∷◌, Contains, Option, Some, None, refl, sym, ◌∙◌, ap, subst, filter}
+use Rattle.std.proofs.Common.{◌≡◌, ⊎_elim, inl, inr, ℕ, ◌≤◌, arith, Bool, true, false, List, [], ◌∷◌, Some, None, refl, sym, ◌∙◌, ap, subst, filter}
 use Rattle.std.specs.Prelude.{not, ◌==◌, if◌then◌else◌}
-use Rattle.bx_base.specs.declared.names.Actor.TheVariants.{Node, Member}
+use Rattle.bx_base.specs.declared.names.Actor.TheVariants.{Member}
 use Rattle.bx_facts.specs.Chains.{Chain, HasOwnBoot, IsPlace, LivesIn, last}
 use Rattle.bx_base.specs.declared.names.Actor.{Actor}
 use Rattle.bx_facts.specs.Machines.{is_same, put_at}
 use Rattle.bx_facts.specs.Pasts.{MayTake}
-use Rattle.bx_facts.specs.Writes.{Asked, IsOnly, Made, Sent, StorePast, WritesIn, WritesTo, store_heard, store_with, without_session}
+use Rattle.bx_facts.specs.Writes.{Sent, StorePast, WritesIn, WritesTo, store_heard, store_with, without_session}
 use Rattle.bx_facts.specs.declared.input.Input.TheVariants.{Synced}
 use Rattle.bx_records.specs.declared.runs.Run.{Run}
 use Rattle.bx_truth.proofs.Cases.{eq_true}
-use Rattle.bx_lone_node.specs.Standing.{IsFlying, IsLanded, IsLone, IsWriting, NodeStands}
+use Rattle.bx_lone_node.specs.Standing.{IsLone}
 use Rattle.bx_lone_node.proofs.Letters.{with_none}
 use Rattle.bx_lone_node.proofs.Phases.{of_one}
 use Rattle.bx_lone_node.proofs.Staying.{flies_on, stays_on}

@@ -1,4 +1,4 @@
-use Rattle.std.proofs.Common.{◌≡◌, ℕ, ◌+◌, ◌<◌, ◌≤◌, List, arith, sym, subst, ap, ◌∙◌, refl}
+use Rattle.std.proofs.Common.{◌≡◌, ℕ, ◌+◌, arith, sym, subst, ap, ◌∙◌}
 use Rattle.std.proofs.Common.{Some}
 use Rattle.bx_base.specs.declared.names.Actor.TheVariants.{Node}
 use Rattle.bx_places.specs.Places.{IsBlock, block_place}
@@ -6,8 +6,7 @@ use Rattle.bx_facts.specs.Writes.{Asked, IsOnly, StorePast, store_with}
 use Rattle.bx_lone_node.specs.Node.{NodeView, IsInStage, IsUsed}
 use Rattle.bx_lone_node.specs.Runs.{home_of}
 use Rattle.bx_lone_node.specs.Standing.{NodeStands}
-use Rattle.bx_lone_node.specs.declared.stage.Stage.{Stage}
-use Rattle.bx_lone_node.specs.declared.stage.Stage.TheVariants.{Idle, Reads}
+use Rattle.bx_lone_node.specs.declared.stage.Stage.TheVariants.{Idle}
 use Rattle.bx_lone_node.proofs.Letters.{with_none}
 use Rattle.bx_lone_node.proofs.Reading.{asked_for, home_sure}
 use Rattle.bx_lone_node.proofs.node.LoneNode.ask.Goals as goal

@@ -1,4 +1,4 @@
-use Rattle.std.proofs.Common.{◌≡◌, ℕ, List, Some, refl, sym, ◌∙◌, ap, subst, arith, ◌≤◌}
+use Rattle.std.proofs.Common.{◌≡◌, List, Some, refl, sym, ◌∙◌, ap, subst, arith, ◌≤◌}
 use Rattle.bx_base.specs.declared.names.Actor.TheVariants.{Node}
 use Rattle.bx_facts.specs.Chains.{last}
 use Rattle.bx_facts.specs.Writes.{AreRuns, Made}
@@ -10,7 +10,7 @@ use Rattle.bx_redo.specs.View.{LogView}
 use Rattle.bx_redo.specs.declared.work.Work.{Work}
 use Rattle.bx_redo.specs.declared.work.Work.TheVariants.{Body}
 use Rattle.bx_volume.specs.Records.{logged_text}
-use Rattle.bx_lone_node.specs.Node.{IsInStage, IsJoined, IsNode, IsUsed, NodeView}
+use Rattle.bx_lone_node.specs.Node.{IsInStage, IsNode, IsUsed, NodeView}
 use Rattle.bx_lone_node.specs.Runs.{AreBlocks, IsSent, sent_by}
 use Rattle.bx_lone_node.specs.Standing.{Finds, NodeStands}
 use Rattle.bx_lone_node.specs.declared.stage.Stage.TheVariants.{Idle, Logs}

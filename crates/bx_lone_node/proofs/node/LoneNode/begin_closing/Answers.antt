@@ -1,4 +1,4 @@
-use Rattle.std.proofs.Common.{◌≡◌, ℕ, List, Some, refl, sym, ◌∙◌, ap, subst, arith, ◌≤◌}
+use Rattle.std.proofs.Common.{◌≡◌, List, Some, refl, sym, ◌∙◌, ap, subst, arith, ◌≤◌}
 use Rattle.bx_base.specs.declared.names.Actor.TheVariants.{Node}
 use Rattle.bx_facts.specs.Chains.{last}
 use Rattle.bx_facts.specs.Writes.{AreRuns, Made}
@@ -7,17 +7,15 @@ use Rattle.bx_records.specs.declared.runs.Run.{Run}
 use Rattle.bx_redo.specs.Stands.{doing}
 use Rattle.bx_redo.specs.Steps.{writes}
 use Rattle.bx_redo.specs.View.{LogView}
-use Rattle.bx_redo.specs.declared.work.Work.{Work}
 use Rattle.bx_redo.specs.declared.work.Work.TheVariants as works
-use Rattle.bx_lone_node.specs.Node.{IsInStage, IsJoined, IsNode, IsUsed, NodeView}
+use Rattle.bx_lone_node.specs.Node.{IsNode, NodeView}
 use Rattle.bx_lone_node.specs.Runs.{IsSent, sent_by}
 use Rattle.bx_lone_node.specs.Standing.{NodeStands}
-use Rattle.bx_lone_node.specs.declared.stage.Stage.{Stage}
-use Rattle.bx_lone_node.specs.declared.stage.Stage.TheVariants.{Homes, Closes, Spent}
+use Rattle.bx_lone_node.specs.declared.stage.Stage.TheVariants.{Homes, Closes}
 use Rattle.bx_lone_node.proofs.Events.{may_write, shutting}
 use Rattle.bx_lone_node.proofs.Fitting.{log_fits}
 use Rattle.bx_lone_node.proofs.Phases.{landed}
-use Rattle.bx_lone_node.proofs.Shapes.{asks_first, at_stage, spent_with}
+use Rattle.bx_lone_node.proofs.Shapes.{asks_first, at_stage}
 use Rattle.bx_lone_node.proofs.node.LoneNode.begin_closing.Goals as goal
 
 pub send-requires-clause-runs : goal.send-requires-clause-runs

@@ -1,21 +1,17 @@
-use Rattle.std.proofs.Common.{◌≡◌, ◌⊎◌, ⊎_elim, ℕ, List, Some, refl, sym, ◌∙◌, ap, subst, arith, ◌≤◌}
+use Rattle.std.proofs.Common.{◌≡◌, List, Some, refl, sym, ◌∙◌, ap, subst, arith, ◌≤◌}
 use Rattle.bx_base.specs.declared.names.Actor.TheVariants.{Node}
 use Rattle.bx_facts.specs.Chains.{last}
 use Rattle.bx_facts.specs.Writes.{AreRuns, Made}
 use Rattle.bx_records.specs.Runs.{KindAndRuns}
 use Rattle.bx_records.specs.declared.runs.Run.{Run}
 use Rattle.bx_redo.specs.Stands.{doing, resting}
-use Rattle.bx_redo.specs.Steps.{Asks, Ends, writes}
+use Rattle.bx_redo.specs.Steps.{writes}
 use Rattle.bx_redo.specs.View.{LogView}
-use Rattle.bx_redo.specs.declared.work.Move.{Move}
-use Rattle.bx_redo.specs.declared.work.Move.TheVariants.{Write, Closed}
-use Rattle.bx_redo.specs.declared.work.Work.{Work}
 use Rattle.bx_redo.specs.declared.work.Work.TheVariants as works
-use Rattle.bx_lone_node.specs.Node.{IsInStage, IsJoined, IsNode, IsUsed, NodeView}
+use Rattle.bx_lone_node.specs.Node.{IsNode, NodeView}
 use Rattle.bx_lone_node.specs.Runs.{IsSent, sent_by}
 use Rattle.bx_lone_node.specs.Standing.{NodeStands}
-use Rattle.bx_lone_node.specs.declared.stage.Stage.{Stage}
-use Rattle.bx_lone_node.specs.declared.stage.Stage.TheVariants.{Idle, Closes, Spent}
+use Rattle.bx_lone_node.specs.declared.stage.Stage.TheVariants.{Idle, Closes}
 use Rattle.bx_lone_node.proofs.Closing.{ends_closed, more_of}
 use Rattle.bx_lone_node.proofs.Events.{may_write, rested, shut_more}
 use Rattle.bx_lone_node.proofs.Fitting.{log_fits}

@@ -1,5 +1,4 @@
-use Rattle.std.proofs.Common.{◌≡◌, ◌⊎◌, ⊎_elim, inl, inr, ap, ◌∙◌, subst}
-use Rattle.bx_layout.specs.declared.block.Block.{Block}
+use Rattle.std.proofs.Common.{⊎_elim, inl, inr, ap, ◌∙◌, subst}
 use Rattle.bx_layout.specs.Blocks.{HasParts}
 use Rattle.bx_lone_node.specs.Node.{NodeView}
 use Rattle.bx_lone_node.proofs.Reading.{put_from}

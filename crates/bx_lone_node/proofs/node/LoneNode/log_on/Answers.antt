@@ -1,6 +1,5 @@
-use Rattle.std.proofs.Common.{◌≡◌, ◌⊎◌, ⊎_elim, inl, inr, ℕ, ◌+◌, List, Some, refl, sym, ◌∙◌, ap, subst, arith, ◌≤◌}
+use Rattle.std.proofs.Common.{◌≡◌, inl, inr, ℕ, ◌+◌, List, Some, refl, sym, ◌∙◌, ap, subst, arith, ◌≤◌}
 use Rattle.bx_base.specs.declared.names.Actor.TheVariants.{Node}
-use Rattle.bx_base.specs.declared.names.Point.{Point}
 use Rattle.bx_cache.specs.Cached.{block_at}
 use Rattle.bx_facts.specs.Chains.{last}
 use Rattle.bx_facts.specs.Writes.{AreRuns, Made}
@@ -12,9 +11,9 @@ use Rattle.bx_redo.specs.Steps.{writes}
 use Rattle.bx_redo.specs.View.{LogView}
 use Rattle.bx_redo.specs.declared.work.Work.{Work}
 use Rattle.bx_redo.specs.declared.work.Work.TheVariants as works
-use Rattle.bx_lone_node.specs.Node.{IsInStage, IsJoined, IsNode, IsRecording, IsUsed, NodeView}
+use Rattle.bx_lone_node.specs.Node.{IsNode, IsRecording, NodeView}
 use Rattle.bx_lone_node.specs.Runs.{IsSent, homes_of, sent_by}
-use Rattle.bx_lone_node.specs.Standing.{IsAt, NodeStands, told}
+use Rattle.bx_lone_node.specs.Standing.{IsAt, NodeStands}
 use Rattle.bx_lone_node.specs.declared.stage.Stage.{Stage}
 use Rattle.bx_lone_node.specs.declared.stage.Stage.TheVariants.{Logs, Homes, Spent}
 use Rattle.bx_lone_node.proofs.Events.{gated, may_write, opened}

@@ -1,10 +1,8 @@
-use Rattle.std.proofs.Common.{◌≡◌, ◌⊎◌, ⊎_elim, inl, inr, ℕ, ◌+◌, ◌-◌, ◌<◌, arith, List, None, Some, ap, sym, ◌∙◌, subst, refl}
-use Rattle.bx_disk.specs.Disks.{Disks, sector_of}
-use Rattle.bx_layout.specs.declared.block.Block.{Block}
+use Rattle.std.proofs.Common.{◌≡◌, ⊎_elim, inr, ◌+◌, ◌-◌, arith, None, ap, sym, ◌∙◌, subst, refl}
+use Rattle.bx_disk.specs.Disks.{sector_of}
 use Rattle.bx_layout.specs.Blocks.{SpellsBlock}
-use Rattle.bx_places.specs.Places.{IsBlock, block_place}
-use Rattle.bx_lone_node.specs.declared.stage.Stage.TheVariants.{Reads}
-use Rattle.bx_lone_node.specs.Node.{IsInStage, IsJoined, NodeView}
+use Rattle.bx_places.specs.Places.{block_place}
+use Rattle.bx_lone_node.specs.Node.{IsInStage, NodeView}
 use Rattle.bx_lone_node.specs.Runs.{home_of}
 use Rattle.bx_lone_node.specs.Standing.{Finds, IsRead, NodeStands}
 use Rattle.bx_lone_node.proofs.Reading.{block_is, received}

@@ -1,4 +1,4 @@
-use Rattle.std.proofs.Common.{◌≡◌, ◌<◌, ℕ, List, [], ◌∷◌, length, drop, Option, sym, ◌∙◌, ap, subst, refl, arith}
+use Rattle.std.proofs.Common.{◌≡◌, ℕ, List, sym, subst}
 use Rattle.std.specs.Prelude.{slice_index_or}
 use Rattle.bx_cache.specs.Cached.{block_at}
 use Rattle.bx_inodes.specs.Stands.{Stands}
@@ -6,7 +6,6 @@ use Rattle.bx_model.specs.declared.tree.Tree.{Tree}
 use Rattle.bx_views.specs.Attempts.{Gives, IsFair}
 use Rattle.bx_views.specs.Truths.{Hints, IsTruth, Truth}
 use Rattle.bx_lone_node.specs.Node.{NodeView}
-use Rattle.bx_lone_node.specs.declared.stage.Waiting.{Waiting}
 use Rattle.bx_lone_node.proofs.node.LoneNode.try_head.Goals as goal
 
 pub returns : goal.returns

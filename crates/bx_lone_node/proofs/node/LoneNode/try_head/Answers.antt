@@ -1,0 +1,27 @@
+use Rattle.std.proofs.Common.{◌≡◌, ℕ, List, sym, subst}
+use Rattle.std.specs.Prelude.{slice_index_or}
+use Rattle.bx_cache.specs.Cached.{block_at}
+use Rattle.bx_inodes.specs.Stands.{Stands}
+use Rattle.bx_model.specs.declared.tree.Tree.{Tree}
+use Rattle.bx_views.specs.Attempts.{Gives, IsFair}
+use Rattle.bx_views.specs.Truths.{Hints, IsTruth, Truth}
+use Rattle.bx_lone_node.specs.Node.{NodeView}
+use Rattle.bx_lone_node.proofs.node.LoneNode.try_head.Goals as goal
+
+pub returns : goal.returns
+returns g c =
+    let e = g.E.Procedures in
+    let engine = c.args.engine.now in
+    let call = c.in-Some.call.now in
+    let attempt = c.in_ok-attempt.attempt in
+    record {
+      call = call;
+      oldest = subst (λ (n : NodeView). call ≡ slice_index_or n.queue 0 call) c.self.view_is c.in-Some.ensures.lookup;
+      gives = λ truth tree is stands.
+          subst (λ (d : List ℕ). Gives (λ (other : Truth) (hints : Hints) (then : Tree). Stands (e.volume engine) (e.areas engine) other then) (e.step engine) (e.free engine truth) call.client d c.args.moment truth tree attempt) c.bytes.ensures
+          (c.in_ok-attempt.ensures.gives truth tree (subst (λ (n : NodeView). IsTruth (λ at mode. block_at n.cache at) truth) (sym c.self.view_is) is) stands);
+      fair =
+          subst (λ (n : NodeView). IsFair (e.areas engine) (λ at mode. block_at n.cache at) (e.path engine call.client call.datagram (λ at mode. block_at n.cache at)) attempt) c.self.view_is
+          (subst (λ (d : List ℕ). IsFair (e.areas engine) (λ at mode. block_at c.self.inside.cache at) (e.path engine call.client d (λ at mode. block_at c.self.inside.cache at)) attempt) c.bytes.ensures
+          c.in_ok-attempt.ensures.fair);
+    }

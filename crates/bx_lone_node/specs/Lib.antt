@@ -1,0 +1,4 @@
+pub mod Answered
+pub mod Node
+pub mod Runs
+pub mod Standing

@@ -1,0 +1,182 @@
+-- How a node stands: what its store and the disks hold, and which file tree that is. `Sure` says of a sector of a device that it stands so for the node.
+use Rattle.std.specs.Prelude.{slice_index_or, ◌≡◌, ◌≢◌, ◌⊎◌, ℕ, ◌+◌, ◌<◌, ◌≤◌, false, List, [], ◌∷◌, Option, Some, None}
+use Rattle.bx_base.specs.declared.names.Actor.{Actor}
+use Rattle.bx_base.specs.declared.names.Actor.TheVariants.{Node}
+use Rattle.bx_base.specs.declared.names.Mode.{Mode}
+use Rattle.bx_base.specs.declared.names.Point.{Point}
+use Rattle.bx_cache.specs.Cached.{block_at}
+use Rattle.bx_disk.specs.Disks.{Image, Disks}
+use Rattle.bx_global.specs.declared.state.GlobalState.{GlobalState}
+use Rattle.bx_inodes.specs.Stands.{Stands}
+use Rattle.bx_layout.specs.declared.block.Block.{Block}
+use Rattle.bx_model.specs.declared.tree.Tree.{Tree}
+use Rattle.bx_places.specs.Places.{block_place}
+use Rattle.bx_records.specs.Drafts.{Changed}
+use Rattle.bx_records.specs.declared.runs.Run.{Run}
+use Rattle.bx_facts.specs.Chains.{LivesIn, opening_chain}
+use Rattle.bx_facts.specs.Writes.{AreRuns, Asked, Made, Sent, StorePast, WritesIn}
+use Rattle.bx_redo.specs.Homes.{AreItsHomes}
+use Rattle.bx_redo.specs.Stands.{LogStands}
+use Rattle.bx_redo.specs.Steps.{writes}
+use Rattle.bx_redo.specs.declared.work.Work.{Work}
+use Rattle.bx_redo.specs.declared.work.Work.TheVariants as works
+use Rattle.bx_views.specs.Attempts.{Deed, Gives, IsFair}
+use Rattle.bx_views.specs.Truths.{Held, IsTruth, Truth, with_draft}
+use Rattle.bx_views.specs.declared.attempt.Attempt.{Attempt}
+use Rattle.bx_volume.specs.Overlay.{Logs as Records}
+use Rattle.bx_volume.specs.Records.{Logged}
+use Rattle.bx_lone_node.specs.declared.stage.Acted.{Acted}
+use Rattle.bx_lone_node.specs.declared.stage.Recorded.{Recorded}
+use Rattle.bx_lone_node.specs.declared.stage.Recorded.TheVariants.{Call, Inner}
+use Rattle.bx_lone_node.specs.declared.stage.Stage.{Stage}
+use Rattle.bx_lone_node.specs.declared.stage.Stage.TheVariants.{Idle, Reads, Logs, Homes, Closes, Spent}
+use Rattle.bx_lone_node.specs.declared.stage.Waiting.{Waiting}
+use Rattle.bx_lone_node.specs.Node.{NodeView, deed_of}
+use Rattle.bx_lone_node.specs.Runs.{home_of}
+
+-- A write of these runs is out, the only one that members may take; or it is done, and members may take none.
+pub record IsFlying (made : Made) (session : ℕ) (runs : List Run) (out : Option Sent) (sent : List Sent) : Type 0 where
+  pub write : Sent
+  pub own : write.session ≡ session
+  pub runs_are : write.runs ≡ runs
+  pub fit : AreRuns made runs
+  pub is_out : out ≡ Some write
+  pub only : sent ≡ write ∷ []
+
+pub record IsLanded (Sure : ℕ → ℕ → List ℕ → Type 0) (runs : List Run) (out : Option Sent) (sent : List Sent) : Type 0 where
+  pub none_out : out ≡ None
+  pub none_left : sent ≡ []
+  pub sure : (d s : ℕ) (content : List ℕ) → WritesIn runs d s content → Sure d s content
+
+abbrev pub IsWriting : Made → (ℕ → ℕ → List ℕ → Type 0) → ℕ → List Run → Option Sent → List Sent → Type 0
+IsWriting made Sure session runs out sent = IsFlying made session runs out sent ⊎ IsLanded Sure runs out sent
+
+-- the point of a record that is under way
+abbrev pub IsAt : Work → Point → Type 0
+IsAt works.Idle point = ⊥
+IsAt (works.Body text at) point = at ≡ point
+IsAt (works.Opens at) point = at ≡ point
+IsAt works.Closes point = ⊥
+IsAt works.Shuts point = ⊥
+
+-- what a record does to a tree: one step by its call, or nothing
+abbrev pub Does : (Tree → Deed → Tree → Type 0) → Recorded → Point → Tree → Tree → Type 0
+Does Step (Call waiting reply) point tree next = Step tree (deed_of waiting point reply) next
+Does Step Inner point tree next = next ≡ tree
+
+-- The truth with the record's blocks stands for the tree that it leads to.
+pub record Promises (volume areas : ℕ) (truth : Truth) (next : Tree) (more : Logged) (draft : List Changed) : Type 0 where
+  pub blocks : more.changed ≡ draft
+  pub leads : Stands volume areas (with_draft truth draft) next
+
+-- A read of a block's home is out, or answered, and brings what stands there.
+pub record IsRead (Reading : ℕ → List ℕ → Type 0) (before : Image) (devices at : ℕ) (asked : Option Asked) : Type 0 where
+  pub is_out : asked ≡ Some (home_of devices at)
+  pub brings : (i : ℕ) → i < 9 → Reading ((block_place at devices).1 + i) (before (block_place at devices).0 ((block_place at devices).1 + i))
+
+-- All machines are up, the state is the first one, and the node knows it.
+pub record IsLone (state : GlobalState) (past : StorePast) : Type 0 where
+  pub chain : past.told.chain ≡ opening_chain state
+  pub up : (who : Actor) → past.told.down who ≡ false
+  pub knew : (who : Actor) → past.told.knew who ≤ state.index
+  pub own_knew : past.told.knew (Node 0) ≡ state.index
+
+module _ (Keeps : Disks → StorePast → Type 0) (Standing : Disks → StorePast → ℕ → ℕ → List ℕ → ℕ → Type 0) (Reading : Disks → StorePast → ℕ → ℕ → List ℕ → Type 0)
+    (made : Made) (own : Option ℕ) (out : Option Sent) (asked : Option Asked) (volume : ℕ) (state : GlobalState) (x : Disks) where
+  -- what stands for the node
+  abbrev pub IsSure : StorePast → ℕ → ℕ → List ℕ → Type 0
+  IsSure past d s content = Standing x past d s content state.index
+
+  -- what is out in each stage
+  abbrev pub Finds : NodeView → Tree → StorePast → ℕ → Image → Records → Truth → Logged → Stage → Type 0
+  Finds node next past session before logs truth more Idle = (out ≡ None) × (past.writes ≡ [])
+  Finds node next past session before logs truth more (Reads at) =
+      (out ≡ None) × (past.writes ≡ []) × ((asked ≡ None) ⊎ IsRead (λ s content. Reading x past 0 s content) before node.devices at asked)
+  Finds node next past session before logs truth more (Logs recorded draft) =
+      IsWriting made (IsSure past) session (writes node.log node.log.work).1 out past.writes × Promises volume node.areas truth next more draft
+  Finds node next past session before logs truth more Homes =
+      (runs : List Run) × AreItsHomes node.devices node.areas logs 0 runs × IsWriting made (IsSure past) session runs out past.writes
+  Finds node next past session before logs truth more Closes = IsWriting made (IsSure past) session (writes node.log node.log.work).1 out past.writes
+  Finds node next past session before logs truth more Spent = ⊥
+
+  -- The node stands on disks for a tree: the log stands, no other log has records, what the node has read is the truth, and that is the
+  -- tree's. While a record is under way, its blocks lead to the next tree.
+  pub record NodeStands (node : NodeView) (tree next : Tree) : Type 0 where
+    pub past : StorePast
+    pub keeps : Keeps x past
+    pub lone : IsLone state past
+    pub session : ℕ
+    pub own_is : own ≡ Some session
+    pub lives : LivesIn state session
+    pub before : Image
+    pub logs : Records
+    pub truth : Truth
+    pub more : Logged
+    pub log : LogStands (IsSure past) node.devices node.areas state.sessions before logs truth more node.log
+    pub others : (slot : ℕ) → slot ≢ 0 → logs slot ≡ []
+    pub held : (at : ℕ) (block : Block) → block_at node.cache at ≡ Some block → truth at ≡ block
+    pub tree_is : Stands volume node.areas truth tree
+    pub finds : Finds node next past session before logs truth more node.stage
+
+-- ---- events
+
+-- what is said of a record that is open
+abbrev pub told : Recorded → Point → Option Acted
+told (Call waiting reply) point = Some (record { point = point; reply = reply })
+told Inner point = None
+
+-- The record under way, if there is one, was under way before, at the same point.
+pub record KeepsRecord (old new : NodeView) : Type 0 where
+  pub was : (recorded : Recorded) (draft : List Changed) (point : Point) → new.stage ≡ Logs recorded draft → IsAt new.log.work point → (old.stage ≡ Logs recorded draft) × IsAt old.log.work point
+
+-- A record was opened: its gate is acknowledged, and its blocks go home.
+pub record Opened (old new : NodeView) (acted : Option Acted) : Type 0 where
+  pub recorded : Recorded
+  pub draft : List Changed
+  pub point : Point
+  pub was : old.stage ≡ Logs recorded draft
+  pub at : IsAt old.log.work point
+  pub says : acted ≡ told recorded point
+  pub now : new.stage ≡ Homes
+
+-- What goes on: the node stands as before, and nothing is said; or a record was opened, and the node stands for the tree that it leads to.
+abbrev pub GoesTo : (Tree → Tree → Type 0) → NodeView → NodeView → Tree → Tree → Option Acted → Type 0
+GoesTo Stands_then old new tree next acted = ((acted ≡ None) × KeepsRecord old new × Stands_then tree next) ⊎ (Opened old new acted × Stands_then next next)
+
+-- What is under way does a step of the tree to the next one, by its call, or nothing.
+abbrev pub IsDoing : (Tree → Deed → Tree → Type 0) → NodeView → Tree → Tree → Type 0
+IsDoing Step node tree next = (recorded : Recorded) (draft : List Changed) (point : Point) → node.stage ≡ Logs recorded draft → IsAt node.log.work point → Does Step recorded point tree next
+
+-- The node stands for the tree, and the record under way is one step from it.
+pub record StandsFor (Step : Tree → Deed → Tree → Type 0) (Stands_now : Tree → Tree → Type 0) (node : NodeView) (tree : Tree) : Type 0 where
+  pub next : Tree
+  pub stands : Stands_now tree next
+  pub doing : IsDoing Step node tree next
+
+-- A call acted: it is the oldest, it made one step of the tree, and the node stands for the next one.
+pub record HasActed (Step : Tree → Deed → Tree → Type 0) (Stands_then : Tree → Type 0) (old new : List Waiting) (acted : Acted) (tree : Tree) : Type 0 where
+  pub call : Waiting
+  pub oldest : old ≡ call ∷ new
+  pub next : Tree
+  pub step : Step tree (deed_of call acted.point acted.reply) next
+  pub stands : Stands_then next
+
+-- what a turn does to the tree
+abbrev pub Turns : (Tree → Deed → Tree → Type 0) → (Tree → Type 0) → List Waiting → List Waiting → Tree → Option Acted → Type 0
+Turns Step Stands_then old new tree None = Stands_then tree
+Turns Step Stands_then old new tree (Some acted) = HasActed Step Stands_then old new acted tree
+
+-- ---- attempts
+
+-- What an attempt of the oldest call answered, over what the node has read.
+pub record IsTried (volume areas : ℕ) (Step : Tree → Deed → Tree → Type 0) (free : Truth → ℕ) (path : ℕ → List ℕ → Held → ℕ → Mode → Type 0) (held : Held) (moment : ℕ) (queue : List Waiting) (attempt : Attempt) : Type 0 where
+  pub call : Waiting
+  pub oldest : call ≡ slice_index_or queue 0 call
+  pub gives : (truth : Truth) (tree : Tree) → IsTruth held truth → Stands volume areas truth tree
+      → Gives (λ other hints then. Stands volume areas other then) Step (free truth) call.client call.datagram moment truth tree attempt
+  pub fair : IsFair areas held (path call.client call.datagram held) attempt
+
+-- it answered nothing exactly where no call waits
+abbrev pub MayTry : ℕ → ℕ → (Tree → Deed → Tree → Type 0) → (Truth → ℕ) → (ℕ → List ℕ → Held → ℕ → Mode → Type 0) → Held → ℕ → List Waiting → Option Attempt → Type 0
+MayTry volume areas Step free path held moment queue None = queue ≡ []
+MayTry volume areas Step free path held moment queue (Some attempt) = IsTried volume areas Step free path held moment queue attempt

@@ -1,0 +1,163 @@
+//! What calls change: a record, its homes, and the closing of the log.
+
+ghost use Rattle.std.specs.Prelude.{◌≡◌, ◌⊎◌, ℕ, IfOk, OnOk, None};
+ghost use Rattle.bx_disk.specs.Disks.{Disks};
+ghost use Rattle.bx_global.specs.declared.state.GlobalState.{GlobalState};
+ghost use Rattle.bx_cache.specs.Cached.{block_at, or_older};
+ghost use Rattle.bx_inodes.specs.Stands.{Stands as TreeStands};
+ghost use Rattle.bx_model.specs.declared.tree.Tree.{Tree};
+ghost use Rattle.bx_records.specs.Drafts.{IsDraft, block_in};
+ghost use Rattle.bx_views.specs.Truths.{with_draft};
+ghost use Rattle.bx_redo.specs.Stands.{doing};
+ghost use Rattle.bx_redo.specs.Steps.{record_of};
+ghost use Rattle.bx_redo.specs.declared.work.Work.TheVariants.{Body};
+ghost use Rattle.bx_volume.specs.Records.{logged_text};
+ghost use Rattle.bx_lone_node.specs.Node.{IsJoined, IsNode, IsOfSame, IsPointOf, Takes, calls_of, unanswered};
+ghost use Rattle.bx_lone_node.specs.Runs.{AreBlocks, homes_of};
+ghost use Rattle.bx_lone_node.specs.Standing.{GoesTo, NodeStands, told as told_of};
+ghost use Rattle.bx_lone_node.specs.declared.stage.Stage.TheVariants.{Idle, Logs, Homes, Closes, Spent};
+
+use crate::homes::home_runs;
+use crate::node::LoneNode;
+use crate::stage::{Acted, Recorded, Stage};
+use crate::stores::{AskedStore, send};
+use bx_base::{OutOfMemory, Point};
+use bx_records::{Draft, Runs};
+use bx_redo::Move;
+
+impl LoneNode {
+    /// Begins the record of what a call changed at a point: its body goes out.
+    pub fn begin<S: AskedStore>(
+        &mut self,
+        store: &mut S,
+        recorded: Recorded,
+        point: Point,
+        draft: Draft,
+    ) -> Result<(), OutOfMemory>
+        requires joined { IsJoined self.old (S.made store.old) (S.own store.old 0) (S.out_of store.old 0) (S.asked store.old 0) }
+        requires idle { self.old.stage ≡ Idle }
+        requires point { IsPointOf recorded point }
+        requires blocks { AreBlocks self.old.areas draft }
+        ensures node { OnOk result (self.new ≡ record self.old { stage = Logs recorded draft; log = doing self.old.log (Body (logged_text (record_of point draft)) point) }) }
+        ensures same { IsOfSame self.old self.new }
+        ensures joined { OnOk result (IsJoined self.new (S.made store.new) (S.own store.new 0) (S.out_of store.new 0) (S.asked store.new 0)) }
+        ensures stands { (volume : ℕ) (state : GlobalState) (x : Disks) (tree next : Tree) (any : Tree) (stood : NodeStands (S.keeps store.old) (S.stands store.old) (S.will_read store.old) (S.made store.old) (S.own store.old 0) (S.out_of store.old 0) (S.asked store.old 0) volume state x self.old tree any) → TreeStands volume self.old.areas (with_draft stood.truth draft) next → OnOk result (NodeStands (S.keeps store.new) (S.stands store.new) (S.will_read store.new) (S.made store.new) (S.own store.new 0) (S.out_of store.new 0) (S.asked store.new 0) volume state x self.new tree next) }
+    {
+        self.stage = Stage::Spent;
+        self.log.append(point, &draft)?;
+        let Move::Write(runs) = self.log.next(None, false)? else {
+            unreachable!();
+        };
+        send(store, self.alloc, &runs)?;
+        self.stage = Stage::Logs(recorded, draft);
+        Ok(())
+    }
+
+    /// Goes on with a record: behind its body comes its gate, and behind that its homes. The call acts when its gate is
+    /// acknowledged.
+    pub(crate) fn log_on<S: AskedStore>(
+        &mut self,
+        store: &mut S,
+        recorded: Recorded,
+        draft: Draft,
+    ) -> Result<Option<Acted>, OutOfMemory>
+        requires spent { self.old.stage ≡ Spent }
+        requires node { IsNode (record self.old { stage = Logs recorded draft }) }
+        requires joined { IsJoined (record self.old { stage = Logs recorded draft }) (S.made store.old) (S.own store.old 0) (S.out_of store.old 0) (S.asked store.old 0) }
+        requires none_out { S.out_of store.old 0 ≡ None }
+        ensures takes { IfOk result (λ acted. Takes acted (unanswered (Logs recorded draft) self.old.queue) (calls_of self.new)) }
+        ensures queue { self.new.queue ≡ self.old.queue }
+        ensures same { IsOfSame self.old self.new }
+        ensures joined { OnOk result (IsJoined self.new (S.made store.new) (S.own store.new 0) (S.out_of store.new 0) (S.asked store.new 0)) }
+        ensures stands { (volume : ℕ) (state : GlobalState) (x : Disks) (tree next : Tree) → NodeStands (S.keeps store.old) (S.stands store.old) (S.will_read store.old) (S.made store.old) (S.own store.old 0) (S.out_of store.old 0) (S.asked store.old 0) volume state x (record self.old { stage = Logs recorded draft }) tree next
+            → IfOk result (GoesTo (NodeStands (S.keeps store.new) (S.stands store.new) (S.will_read store.new) (S.made store.new) (S.own store.new 0) (S.out_of store.new 0) (S.asked store.new 0) volume state x self.new) (record self.old { stage = Logs recorded draft }) self.new tree next) }
+    {
+        match self.log.next(None, true)? {
+            Move::Write(runs) => {
+                send(store, self.alloc, &runs)?;
+                self.stage = Stage::Logs(recorded, draft);
+                Ok(None)
+            }
+            Move::Acked(point) => {
+                let runs = self.lay(&draft)?;
+                send(store, self.alloc, &runs)?;
+                self.stage = Stage::Homes;
+                Ok(told(recorded, point))
+            }
+            Move::Read(_, _, _) | Move::Closed | Move::Wait => unreachable!(),
+        }
+    }
+
+    /// The blocks of a record that is open are what the volume has: they are laid over what was read. The runs write them home.
+    fn lay(&mut self, draft: &Draft) -> Result<Runs, OutOfMemory>
+        requires blocks { AreBlocks self.old.areas draft.now }
+        requires spent { self.old.stage ≡ Spent }
+        ensures runs { IfOk result (λ runs. runs ≡ (16, homes_of self.old.devices draft.now)) }
+        ensures blocks { OnOk result ((at : ℕ) → block_at self.new.cache at ≡ or_older (block_in draft.now at) (block_at self.old.cache at)) }
+        ensures same { IsOfSame self.old self.new }
+        ensures node { OnOk result (self.new ≡ record self.old { cache = self.new.cache }) }
+        ensures queue { self.new.queue ≡ self.old.queue }
+        ensures draft { OnOk result (IsDraft draft.now) }
+    {
+        let runs = home_runs(self.alloc, self.devices, self.areas, draft.blocks())?;
+        self.cache.lay_over(self.alloc, draft.blocks())?;
+        Ok(runs)
+    }
+
+    /// The blocks of the record are home: the log is closed, gate 0 first.
+    pub(crate) fn begin_closing<S: AskedStore>(&mut self, store: &mut S) -> Result<(), OutOfMemory>
+        requires spent { self.old.stage ≡ Spent }
+        requires node { IsNode (record self.old { stage = Homes }) }
+        requires joined { IsJoined (record self.old { stage = Homes }) (S.made store.old) (S.own store.old 0) (S.out_of store.old 0) (S.asked store.old 0) }
+        requires none_out { S.out_of store.old 0 ≡ None }
+        ensures queue { self.new.queue ≡ self.old.queue }
+        ensures same { IsOfSame self.old self.new }
+        ensures stage { OnOk result (self.new.stage ≡ Closes) }
+        ensures joined { OnOk result (IsJoined self.new (S.made store.new) (S.own store.new 0) (S.out_of store.new 0) (S.asked store.new 0)) }
+        ensures stands { (volume : ℕ) (state : GlobalState) (x : Disks) (tree next : Tree) → NodeStands (S.keeps store.old) (S.stands store.old) (S.will_read store.old) (S.made store.old) (S.own store.old 0) (S.out_of store.old 0) (S.asked store.old 0) volume state x (record self.old { stage = Homes }) tree next → OnOk result (NodeStands (S.keeps store.new) (S.stands store.new) (S.will_read store.new) (S.made store.new) (S.own store.new 0) (S.out_of store.new 0) (S.asked store.new 0) volume state x self.new tree next) }
+    {
+        self.log.close();
+        let Move::Write(runs) = self.log.next(None, false)? else {
+            unreachable!();
+        };
+        send(store, self.alloc, &runs)?;
+        self.stage = Stage::Closes;
+        Ok(())
+    }
+
+    /// Goes on with the closing: behind gate 0 come the other gates.
+    pub(crate) fn close_on<S: AskedStore>(&mut self, store: &mut S) -> Result<(), OutOfMemory>
+        requires spent { self.old.stage ≡ Spent }
+        requires node { IsNode (record self.old { stage = Closes }) }
+        requires joined { IsJoined (record self.old { stage = Closes }) (S.made store.old) (S.own store.old 0) (S.out_of store.old 0) (S.asked store.old 0) }
+        requires none_out { S.out_of store.old 0 ≡ None }
+        ensures queue { self.new.queue ≡ self.old.queue }
+        ensures same { IsOfSame self.old self.new }
+        ensures stage { OnOk result ((self.new.stage ≡ Closes) ⊎ (self.new.stage ≡ Idle)) }
+        ensures joined { OnOk result (IsJoined self.new (S.made store.new) (S.own store.new 0) (S.out_of store.new 0) (S.asked store.new 0)) }
+        ensures stands { (volume : ℕ) (state : GlobalState) (x : Disks) (tree next : Tree) → NodeStands (S.keeps store.old) (S.stands store.old) (S.will_read store.old) (S.made store.old) (S.own store.old 0) (S.out_of store.old 0) (S.asked store.old 0) volume state x (record self.old { stage = Closes }) tree next → OnOk result (NodeStands (S.keeps store.new) (S.stands store.new) (S.will_read store.new) (S.made store.new) (S.own store.new 0) (S.out_of store.new 0) (S.asked store.new 0) volume state x self.new tree next) }
+    {
+        match self.log.next(None, true)? {
+            Move::Write(runs) => {
+                send(store, self.alloc, &runs)?;
+                self.stage = Stage::Closes;
+                Ok(())
+            }
+            Move::Closed => {
+                self.stage = Stage::Idle;
+                Ok(())
+            }
+            Move::Read(_, _, _) | Move::Acked(_) | Move::Wait => unreachable!(),
+        }
+    }
+}
+
+/// What is said of a record that is open.
+fn told(recorded: Recorded, point: Point) -> Option<Acted>
+    ensures { result ≡ told_of recorded point }
+{
+    match recorded {
+        Recorded::Call(_, reply) => Some(Acted { point, reply }),
+        Recorded::Inner => None,
+    }
+}

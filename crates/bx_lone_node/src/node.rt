@@ -1,0 +1,138 @@
+//! The node.
+
+ghost use Rattle.std.specs.Prelude.{◌≡◌, ◌≢◌, ◌++◌, ◌∷◌, [], ℕ, IfOk, OnOk, OnErr, IsTrue, ◌↔◌, None};
+ghost use Rattle.bx_places.specs.Places.{IsVolume};
+
+use crate::stage::{Acted, Recorded, Stage, Waiting};
+use crate::stores::{AskedStore, NODE};
+use bx_base::OutOfMemory;
+use bx_cache::Cache;
+use bx_redo::Log;
+use std::alloc::Global;
+use std::collections::VecDeque;
+use std::marker::Model;
+use std::mem;
+
+/// The one node of a volume: the calls that wait, the blocks that it has read, its log, and what is under way. It is data, and
+/// never waits.
+#[derive(Drop)]
+pub struct LoneNode {
+    pub(crate) alloc: Global,
+    pub(crate) devices: u32,
+    pub(crate) areas: u16,
+    pub(crate) queue: VecDeque<Waiting>,
+    pub(crate) cache: Cache,
+    pub(crate) log: Log,
+    pub(crate) stage: Stage,
+}
+
+impl Model for LoneNode {
+    ghost use Rattle.bx_lone_node.specs.Node.{IsNode, NodeView};
+
+    ghost Value = { NodeView };
+
+    ghost view = { λ node. record { devices = node.devices; areas = node.areas; queue = node.queue.items; cache = node.cache; log = node.log; stage = node.stage } };
+
+    ghost invariant = { λ node. IsNode (record { devices = node.devices; areas = node.areas; queue = node.queue.items; cache = node.cache; log = node.log; stage = node.stage }) };
+}
+
+impl LoneNode {
+    ghost use Rattle.bx_cache.specs.Cached.{block_at};
+    ghost use Rattle.bx_redo.specs.Steps.{closed_log};
+    ghost use Rattle.bx_lone_node.specs.Node.{IsJoined, IsOfSame, Takes, calls_of};
+    ghost use Rattle.bx_lone_node.specs.declared.stage.Stage.TheVariants.{Idle};
+
+    /// A node of a volume of so many devices (1 to 4) and areas (1 to 64), whose logs are closed. No call waits, and nothing was
+    /// read yet. It takes no memory.
+    pub fn new(alloc: Global, devices: u32, areas: u16) -> LoneNode
+        requires { IsVolume devices areas }
+        ensures volume { (result.devices ≡ devices) × (result.areas ≡ areas) }
+        ensures queue { result.queue ≡ [] }
+        ensures blocks { (at : ℕ) → block_at result.cache at ≡ None }
+        ensures log { result.log ≡ closed_log 0 0 }
+        ensures stage { result.stage ≡ Idle }
+    {
+        LoneNode {
+            alloc,
+            devices,
+            areas,
+            queue: VecDeque::new(alloc),
+            cache: Cache::new(alloc),
+            log: Log::new(alloc, 0, 0),
+            stage: Stage::Idle,
+        }
+    }
+
+    /// A call comes, and waits behind all others. Where memory runs out, nothing changes.
+    pub fn arrive(&mut self, call: Waiting) -> Result<(), OutOfMemory>
+        ensures ok { OnOk result (self.new ≡ record self.old { queue = self.old.queue ++ call ∷ [] }) }
+        ensures err { OnErr result (self.new ≡ self.old) }
+    {
+        self.queue.push_back(call)?;
+        Ok(())
+    }
+
+    /// Whether a call waits for its reply.
+    pub fn waits(&self) -> bool
+        ensures { IsTrue result ↔ (calls_of self.now ≢ []) }
+    {
+        match &self.stage {
+            Stage::Logs(Recorded::Call(_, _), _) => true,
+            Stage::Logs(Recorded::Inner, _)
+            | Stage::Idle
+            | Stage::Reads(_)
+            | Stage::Homes
+            | Stage::Closes
+            | Stage::Spent => !self.queue.is_empty(),
+        }
+    }
+
+    /// Goes on with what is under way, where the store has done what it was asked for.
+    pub fn go_on<S: AskedStore>(&mut self, store: &mut S) -> Result<Option<Acted>, OutOfMemory>
+        requires joined { IsJoined self.old (S.made store.old) (S.own store.old 0) (S.out_of store.old 0) (S.asked store.old 0) }
+        ensures takes { IfOk result (λ acted. Takes acted (calls_of self.old) (calls_of self.new)) }
+        ensures queue { self.new.queue ≡ self.old.queue }
+        ensures same { IsOfSame self.old self.new }
+        ensures joined { OnOk result (IsJoined self.new (S.made store.new) (S.own store.new 0) (S.out_of store.new 0) (S.asked store.new 0)) }
+    {
+        if let Stage::Reads(at) = self.stage {
+            self.receive(store, at)?;
+            return Ok(None);
+        }
+        if matches!(self.stage, Stage::Idle | Stage::Spent) || !store.done(NODE) {
+            return Ok(None);
+        }
+        self.acknowledged(store)
+    }
+
+    /// Goes on once the write that was out is acknowledged.
+    fn acknowledged<S: AskedStore>(&mut self, store: &mut S) -> Result<Option<Acted>, OutOfMemory>
+        requires joined { IsJoined self.old (S.made store.old) (S.own store.old 0) (S.out_of store.old 0) (S.asked store.old 0) }
+        requires none_out { S.out_of store.old 0 ≡ None }
+        ensures takes { IfOk result (λ acted. Takes acted (calls_of self.old) (calls_of self.new)) }
+        ensures queue { self.new.queue ≡ self.old.queue }
+        ensures same { IsOfSame self.old self.new }
+        ensures joined { OnOk result (IsJoined self.new (S.made store.new) (S.own store.new 0) (S.out_of store.new 0) (S.asked store.new 0)) }
+    {
+        match mem::replace(&mut self.stage, Stage::Spent) {
+            Stage::Logs(recorded, draft) => self.log_on(store, recorded, draft),
+            Stage::Homes => {
+                self.begin_closing(store)?;
+                Ok(None)
+            }
+            Stage::Closes => {
+                self.close_on(store)?;
+                Ok(None)
+            }
+            Stage::Idle => {
+                self.stage = Stage::Idle;
+                Ok(None)
+            }
+            Stage::Reads(at) => {
+                self.stage = Stage::Reads(at);
+                Ok(None)
+            }
+            Stage::Spent => Ok(None),
+        }
+    }
+}

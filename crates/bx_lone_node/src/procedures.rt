@@ -1,0 +1,48 @@
+//! What calls do to a file tree that stands on the blocks of a volume.
+
+ghost use Rattle.std.specs.Prelude.{ℕ, ◌≤◌, List, IfOk};
+ghost use Rattle.bx_base.specs.declared.names.Mode.{Mode};
+ghost use Rattle.bx_inodes.specs.Stands.{Stands};
+ghost use Rattle.bx_model.specs.declared.tree.Tree.{Tree};
+ghost use Rattle.bx_views.specs.Attempts.{Deed, Gives, IsFair};
+ghost use Rattle.bx_views.specs.Truths.{Held, IsTruth, Truth};
+
+use bx_base::OutOfMemory;
+use bx_views::{Attempt, View};
+use std::alloc::Global;
+
+/// The calls that a stage has, on a volume of a number and so many areas.
+pub trait Procedures: Drop {
+    /// The volume's number.
+    ghost volume: { Self → ℕ };
+
+    /// How many areas it has.
+    ghost areas: { Self → ℕ };
+
+    /// These bytes are a call of the stage.
+    ghost takes: { Self → List ℕ → Type 0 };
+
+    /// One step of a tree.
+    ghost step: { Self → Tree → Deed → Tree → Type 0 };
+
+    /// How many blocks are free.
+    ghost free: { Self → Truth → ℕ };
+
+    /// The blocks on the path of a call over a view.
+    ghost path: { Self → ℕ → List ℕ → Held → ℕ → Mode → Type 0 };
+
+    /// Attempts a call over a view, at a moment in milliseconds.
+    fn attempt<V: View>(
+        &self,
+        alloc: Global,
+        client: u32,
+        call: &[u8],
+        moment: u64,
+        view: &V,
+    ) -> Result<Attempt, OutOfMemory>
+        requires takes { takes self.now call.now }
+        requires moment { moment ≤ 4294967295999 }
+        ensures gives { (truth : Truth) (tree : Tree) → IsTruth (V.held view.now) truth → Stands (volume self.now) (areas self.now) truth tree
+            → IfOk result (Gives (λ other hints then. Stands (volume self.now) (areas self.now) other then) (step self.now) (free self.now truth) client call.now moment truth tree) }
+        ensures fair { IfOk result (IsFair (areas self.now) (V.held view.now) (path self.now client call.now (V.held view.now))) };
+}

@@ -1,0 +1,37 @@
+//! A member's disk finishes a sync.
+
+ghost use Rattle.std.specs.Prelude.{◌≡◌, ◌<◌, ℕ, OnOk};
+ghost use Rattle.bx_facts.specs.Disks.{HasRoom};
+ghost use Rattle.bx_global.specs.Allowed.{IsAllowed};
+ghost use Rattle.bx_model.specs.declared.tree.Tree.{Tree};
+ghost use Rattle.bx_lone_node.specs.Node.{IsNode, NodeView};
+ghost use Rattle.bx_lone_node.specs.Standing.{NodeStands};
+
+use crate::stores::AskedStore;
+use bx_base::Actor;
+use bx_disk::Rack;
+use bx_facts::{FactError, Input, Outbox};
+use bx_global::GlobalState;
+use std::alloc::Global;
+
+/// The disk of a member, from 0 to 7, has finished a sync: the store, which knows this state, works on the disks. The node stands as before.
+pub fn sync<S: AskedStore, R: Rack>(
+    alloc: Global,
+    store: &mut S,
+    rack: &mut R,
+    known: &GlobalState,
+    member: u32,
+) -> Result<(), FactError>
+    requires there { member < 8 }
+    requires room { HasRoom (S.needs store.old) (R.state rack.old).sizes }
+    requires known { ∥ IsAllowed known.now ∥₁ }
+    ensures own { S.own store.new 0 ≡ S.own store.old 0 }
+    ensures made { S.made store.new ≡ S.made store.old }
+    ensures stands { (volume : ℕ) (node : NodeView) (tree next : Tree) → R.tells rack.old → IsNode node
+        → NodeStands (S.keeps store.old) (S.stands store.old) (S.will_read store.old) (S.made store.old) (S.own store.old 0) (S.out_of store.old 0) (S.asked store.old 0) volume known.now (R.state rack.old) node tree next
+        → OnOk result (NodeStands (S.keeps store.new) (S.stands store.new) (S.will_read store.new) (S.made store.new) (S.own store.new 0) (S.out_of store.new 0) (S.asked store.new 0) volume known.now (R.state rack.new) node tree next) }
+{
+    let mut out = Outbox::new(alloc);
+    let _change = store.take(rack, known, Actor::Member(member), &Input::Synced, &mut out)?;
+    Ok(())
+}

@@ -47,8 +47,8 @@ impl BoxFs {
     /// STATFS, and SETATTR of the mode alone.
     ///
     /// `Need` names the block of the file's inode, exclusively for SETATTR and else shared, which isn't held then; for STATFS,
-    /// where that is held, it names the own block of the first area that isn't, shared. A
-    /// call that comes to an error is an `Answer`. On an error, which is want of memory alone, nothing is changed.
+    /// where that is held, it names the own block of the first area that isn't, shared. A call that comes to an error is an `Answer`. On
+    /// an error, which is want of memory alone, nothing is changed.
     pub fn attempt<V: View>(
         &self,
         alloc: Global,

@@ -1,6 +1,5 @@
 -- What comes to a procedure's outcome is one step of the tree.
 use Rattle.std.proofs.Common.{◌≡◌, ℕ, ◌≤◌, List, [], Some, refl, sym, ap, ◌∙◌, subst, inl, arith, lit≤}
-use Rattle.bx_engine.specs.Calls.{IsUnmount}
 use Rattle.bx_engine.specs.Outcomes.{Comes, ComesTo}
 use Rattle.bx_engine.specs.Steps.{StandsWith, Step}
 use Rattle.bx_inodes.specs.Stands.{Stands}
@@ -42,8 +41,8 @@ module _ (tree : Tree) (call : Call) (moment : ℕ) where
   pub nothing_acts : call.args ≡ Nothing → ActsSo (Ok (plain call.program call.procedure, tree))
   nothing_acts is = by_args Nothing (Ok (plain call.program call.procedure, tree)) is refl
 
-  pub unmount_acts : (path : List ℕ) → call.args ≡ Path path → IsUnmount call → ActsSo (Ok (replies.Empty, tree))
-  unmount_acts path is p = by_args (Path path) (Ok (replies.Empty, tree)) is (ap (λ (procedure : ℕ). plainly tree 0 (Ok (mount tree procedure path, tree))) p.procedure)
+  pub mount_acts : (path : List ℕ) → call.args ≡ Path path → ActsSo (Ok (mount tree call.procedure path, tree))
+  mount_acts path is = by_args (Path path) (Ok (mount tree call.procedure path, tree)) is refl
 
   about_file_acts : (at : List ℕ) (number : ℕ) → call.args ≡ Handle at → call.procedure ≡ number → ActsSo (about_file tree number at 8)
   about_file_acts at number is p = by_args (Handle at) (about_file tree number at 8) is (ap (λ (procedure : ℕ). plainly tree 0 (about_file tree procedure at 8)) p)

@@ -20,17 +20,17 @@ pub record IsProcedure (number : ℕ) (call : Call) : Type 0 where
   pub program : call.program ≡ 100003
   pub procedure : call.procedure ≡ number
 
--- the call is UMNT (3) of MOUNT
-pub record IsUnmount (call : Call) : Type 0 where
+-- the call is MNT (1) or UMNT (3) of MOUNT
+pub record IsOfMount (call : Call) : Type 0 where
   pub program : call.program ≡ 100005
-  pub procedure : call.procedure ≡ 3
+  pub procedure : (call.procedure ≡ 1) ⊎ (call.procedure ≡ 3)
 
 -- The calls that are built: those that are refused; those without arguments, which are NULL, ROOT and WRITECACHE of NFS, and NULL, DUMP,
--- UMNTALL and EXPORT of MOUNT; UMNT of MOUNT; of NFS GETATTR (1), READLINK (5) and STATFS (17), and SETATTR (2) where it sets the mode alone.
+-- UMNTALL and EXPORT of MOUNT; MNT and UMNT of MOUNT; of NFS GETATTR (1), READLINK (5) and STATFS (17), and SETATTR (2) where it sets the mode alone.
 abbrev pub HasBuiltArgs : Call → Args → Type 0
 HasBuiltArgs call (Refused number) = Unit {0}
 HasBuiltArgs call Nothing = Unit {0}
-HasBuiltArgs call (Path path) = IsUnmount call
+HasBuiltArgs call (Path path) = IsOfMount call
 HasBuiltArgs call (Handle handle) = AsksAboutFile call
 HasBuiltArgs call (Set handle sattr) = IsProcedure 2 call × SetsModeAlone sattr
 HasBuiltArgs call _ = ⊥
@@ -57,11 +57,11 @@ pub record IsSpaceCall (bytes at : List ℕ) : Type 0 where
   pub reads : ReadsAs bytes xid call
   pub asks : AsksSpace call at
 
--- The calls that are answered whatever is held: those that are refused, those without arguments, and UMNT.
+-- The calls that are answered whatever is held: those that are refused, those without arguments, MNT and UMNT.
 abbrev pub HasNoFile : Call → Args → Type 0
 HasNoFile call (Refused number) = Unit {0}
 HasNoFile call Nothing = Unit {0}
-HasNoFile call (Path path) = IsUnmount call
+HasNoFile call (Path path) = IsOfMount call
 HasNoFile call _ = ⊥
 
 abbrev pub IsAtOnce : Call → Type 0

@@ -23,8 +23,11 @@ pub(crate) const READLINK: u32 = 5;
 /// The procedure STATFS (RFC 1094, section 2.2.18).
 pub(crate) const STATFS: u32 = 17;
 
+/// The procedure MNT of MOUNT (RFC 1094, appendix A, section 5.2).
+const MNT: u32 = 1;
+
 /// The procedure UMNT of MOUNT (RFC 1094, appendix A, section 5.4).
-const UMNT: u32 = 3;
+pub(crate) const UMNT: u32 = 3;
 
 /// The number and the call that a datagram is, if it is one that is attempted; `None` exactly where it isn't.
 pub(crate) fn built_call(alloc: Global, datagram: &[u8]) -> Result<Option<(u32, Call)>, OutOfMemory>
@@ -41,14 +44,16 @@ pub(crate) fn built_call(alloc: Global, datagram: &[u8]) -> Result<Option<(u32, 
     }
 }
 
-/// Whether a call is attempted: it is refused as a message, it has no arguments, or it is UMNT, GETATTR,
+/// Whether a call is attempted: it is refused as a message, it has no arguments, or it is MNT, UMNT, GETATTR,
 /// READLINK, STATFS, or SETATTR of the mode alone.
 fn is_built(call: &Call) -> bool
     ensures { IsTrue result ↔ IsBuilt call.now }
 {
     match &call.args {
         Args::Refused(_) | Args::Nothing => true,
-        Args::Path(_) => call.program == MOUNT_PROGRAM && call.procedure == UMNT,
+        Args::Path(_) => {
+            call.program == MOUNT_PROGRAM && (call.procedure == MNT || call.procedure == UMNT)
+        }
         Args::Handle(_) => call.program == NFS_PROGRAM && is_about_file(call.procedure),
         Args::Set(_, sattr) => {
             call.program == NFS_PROGRAM && call.procedure == SETATTR && sets_mode_alone(sattr)

@@ -21,6 +21,7 @@ ghost use Rattle.bx_engine.specs.Paths.{IsOnPath, PathOf};
 ghost use Rattle.bx_engine.specs.Steps.{StandsWith, Step};
 
 use crate::calls::{READLINK, STATFS, built_call};
+use crate::mounting::mounted;
 use crate::replies::{answered, answered_with, changed, plain, stopped};
 use crate::times::time_of;
 use bx_base::OutOfMemory;
@@ -43,7 +44,7 @@ pub struct BoxFs {
 impl BoxFs {
     /// Attempts a call over a view, by its client's number and its bytes, at a moment in milliseconds, at most 4294967295999. `None`
     /// exactly where the bytes are none of the calls that are built so far: those that are refused as messages, those without
-    /// arguments (NULL, ROOT and WRITECACHE of NFS; NULL, DUMP, UMNTALL and EXPORT of MOUNT), UMNT of MOUNT, GETATTR, READLINK,
+    /// arguments (NULL, ROOT and WRITECACHE of NFS; NULL, DUMP, UMNTALL and EXPORT of MOUNT), MNT and UMNT of MOUNT, GETATTR, READLINK,
     /// STATFS, and SETATTR of the mode alone.
     ///
     /// `Need` names the block of the file's inode, exclusively for SETATTR and else shared, which isn't held then; for STATFS,
@@ -105,7 +106,10 @@ impl BoxFs {
         match &call.args {
             Args::Refused(number) => answered(alloc, xid, Reply::Refused(*number, call.program)),
             Args::Nothing => answered(alloc, xid, plain(call.program, call.procedure)),
-            Args::Path(_) => answered(alloc, xid, Reply::Empty),
+            Args::Path(path) => {
+                let reply = mounted(alloc, self.volume, call.procedure, path.bytes())?;
+                answered(alloc, xid, reply)
+            }
             Args::Handle(at) => self.about_file(alloc, xid, call, at.bytes(), view),
             Args::Set(at, sattr) => {
                 self.setattr(alloc, xid, call, at.bytes(), sattr, moment, view)

@@ -4,6 +4,7 @@
 mod calls;
 mod engine;
 mod laws;
+mod mounting;
 mod replies;
 mod times;
 

@@ -10,13 +10,37 @@ use std::alloc::Global;
 use std::test::Fail;
 
 /// Calls that are about no file, with their replies.
-const CASES: [(&[u32], &[u32]); 13] = [
+const CASES: [(&[u32], &[u32]); 15] = [
     // NULL
     (&[1, 0, 2, 100003, 2, 0, 0, 0, 0, 0], &[1, 1, 0, 0, 0, 0]),
     // ROOT and WRITECACHE
     (&[1, 0, 2, 100003, 2, 3, 0, 0, 0, 0], &[1, 1, 0, 0, 0, 0]),
     (&[1, 0, 2, 100003, 2, 7, 0, 0, 0, 0], &[1, 1, 0, 0, 0, 0]),
-    // of MOUNT NULL, DUMP, UMNT of `/`, UMNTALL and EXPORT
+    // of MOUNT MNT of `/`, which answers the root's file handle, and of `/x`; NULL, DUMP, UMNT of `/`, UMNTALL and EXPORT
+    (
+        &[1, 0, 2, 100005, 1, 1, 0, 0, 0, 0, 1, 0x2f00_0000],
+        &[
+            1,
+            1,
+            0,
+            0,
+            0,
+            0,
+            0,
+            0x424f_5857,
+            0x4f4f_4431,
+            0,
+            7,
+            0,
+            1,
+            0,
+            0,
+        ],
+    ),
+    (
+        &[1, 0, 2, 100005, 1, 1, 0, 0, 0, 0, 2, 0x2f78_0000],
+        &[1, 1, 0, 0, 0, 0, 2],
+    ),
     (&[1, 0, 2, 100005, 1, 0, 0, 0, 0, 0], &[1, 1, 0, 0, 0, 0]),
     (&[1, 0, 2, 100005, 1, 2, 0, 0, 0, 0], &[1, 1, 0, 0, 0, 0, 0]),
     (
@@ -74,9 +98,6 @@ const CASES: [(&[u32], &[u32]); 13] = [
 
 /// The reply to a STATFS of the volume with number 1, where the root and its page alone are in use.
 const SPACE: [u32; 12] = [1, 1, 0, 0, 0, 0, 0, 8192, 4096, 960, 958, 958];
-
-/// MNT of `/`.
-const MOUNT_ROOT: [u32; 12] = [1, 0, 2, 100005, 1, 1, 0, 0, 0, 0, 1, 0x2f00_0000];
 
 /// The reply to a GETATTR of the root with number 1.
 const ATTRIBUTES: [u32; 24] = [
@@ -179,12 +200,11 @@ fn other_datagrams_are_passed_over(rt: HostRuntime) -> Result<(), Fail> {
     let alloc = rt.alloc();
     let mut desk = Desk::new(alloc);
     desk.hold(alloc, 0)?;
-    // a SETATTR of the size too, LOOKUP of `a`, MNT of `/`, a reply, and a word
+    // a SETATTR of the size too, LOOKUP of `a`, a reply, and a word
     let sized = is_passed_over(alloc, &desk, &[&nobody(1, 2), &ROOT, &MODE_AND_SIZE]);
     let name = is_passed_over(alloc, &desk, &[&nobody(1, 4), &ROOT, &[1, 0x6100_0000]]);
-    let mount = is_passed_over(alloc, &desk, &[&MOUNT_ROOT]);
     let reply = is_passed_over(alloc, &desk, &[&[1, 1, 0, 0, 0, 0]]);
     let word = is_passed_over(alloc, &desk, &[&[1]]);
-    assert!(rt; sized && name && mount && reply && word);
+    assert!(rt; sized && name && reply && word);
     Ok(())
 }

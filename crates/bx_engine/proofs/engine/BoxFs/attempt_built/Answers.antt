@@ -3,15 +3,15 @@ use Rattle.std.specs.Prelude.{Ok, IfOk}
 use Rattle.std.proofs.lemmas.Result.{IfOk-weaker}
 use Rattle.bx_chunks.specs.Counting.{free_slots}
 use Rattle.bx_engine.proofs.Along.{nothing_written}
-use Rattle.bx_engine.proofs.Acting.{gives_by, nothing_acts, refused_acts, setattr_acts, unmount_acts}
+use Rattle.bx_engine.proofs.Acting.{gives_by, mount_acts, nothing_acts, refused_acts, setattr_acts}
 use Rattle.bx_engine.proofs.Stopping.{answered_comes}
 use Rattle.bx_engine.specs.Calls.{HasBuiltArgs}
 use Rattle.bx_engine.specs.Outcomes.{TellsFree, WritesOne, told_free}
 use Rattle.bx_engine.specs.Paths.{PathOf}
 use Rattle.bx_model.specs.declared.call.Args.{Args}
-use Rattle.bx_model.specs.declared.call.Args.TheVariants.{Handle, Set}
+use Rattle.bx_model.specs.declared.call.Args.TheVariants.{Handle, Path, Set}
 use Rattle.bx_model.specs.declared.reply.Reply.TheVariants as replies
-use Rattle.bx_model.specs.Mounting.{plain}
+use Rattle.bx_model.specs.Mounting.{mount, plain}
 use Rattle.bx_model.specs.Reading.{statfs}
 use Rattle.bx_model.specs.Steps.{Outcome}
 use Rattle.bx_model.specs.Writing.{setattr}
@@ -39,17 +39,20 @@ returns-in-Nothing-clause-gives g c = λ client bytes truth tree reads same s.
     (nothing_acts tree call c.args.moment c.in-Nothing.is) s c.answered-in-Nothing.result
     (answered_comes fs.volume fs.areas truth tree c.args.xid reply c.answered-in-Nothing.result (rw c.plain.ensures at c.answered-in-Nothing.ensures))
 
-pub returns-in-Path-clause-gives : goal.returns-in-Path-clause-gives
-returns-in-Path-clause-gives g c = λ client bytes truth tree reads same s.
+pub returns-in_ok-reply-in-Path-clause-gives : goal.returns-in_ok-reply-in-Path-clause-gives
+returns-in_ok-reply-in-Path-clause-gives g c = λ client bytes truth tree reads same s.
     let fs = c.args.self.now in
     let call = c.args.call.now in
-    let outcome : Outcome = Ok (replies.Empty, tree) in
+    let path = c.bytes.result.now in
+    let is : call.args ≡ Path path = c.in-Path.is ∙ ap (λ (b : List ℕ). Path b) (sym c.bytes.ensures) in
+    let reply = mount tree call.procedure path in
+    let outcome : Outcome = Ok (reply, tree) in
     gives_by fs.volume fs.areas client bytes c.args.moment (free_slots fs.areas truth) truth tree c.args.xid call outcome reads c.requires.moment
-    (unmount_acts tree call c.args.moment c.in-Path.field-0 c.in-Path.is (subst (HasBuiltArgs call) c.in-Path.is c.requires.built)) s c.answered-in-Path.result
-    (answered_comes fs.volume fs.areas truth tree c.args.xid replies.Empty c.answered-in-Path.result c.answered-in-Path.ensures)
+    (mount_acts tree call c.args.moment path is) s c.answered-in-Path.result
+    (answered_comes fs.volume fs.areas truth tree c.args.xid reply c.answered-in-Path.result (rw (c.in_ok-reply-in-Path.ensures tree s.volume_is s.is.root_is) at c.answered-in-Path.ensures))
 
 pub about_file-requires-clause-handle : goal.about_file-requires-clause-handle
-about_file-requires-clause-handle g c = c.in-Handle.is ∙ ap (λ (b : List ℕ). Handle b) (sym c.bytes.ensures)
+about_file-requires-clause-handle g c = c.in-Handle.is ∙ ap (λ (b : List ℕ). Handle b) (sym c.bytes-in-Handle.ensures)
 
 pub about_file-requires-clause-procedure : goal.about_file-requires-clause-procedure
 about_file-requires-clause-procedure g c = (subst (HasBuiltArgs c.args.call.now) c.in-Handle.is c.requires.built).procedure
@@ -61,7 +64,7 @@ returns-in-Handle-clause-gives g c = λ client bytes truth tree reads same s.
 pub returns-in-Handle-clause-fair : goal.returns-in-Handle-clause-fair
 returns-in-Handle-clause-fair g c =
     let fs = c.args.self.now in
-    let is : c.args.call.now.args ≡ Handle c.bytes.result.now = c.in-Handle.is ∙ ap (λ (b : List ℕ). Handle b) (sym c.bytes.ensures) in
+    let is : c.args.call.now.args ≡ Handle c.bytes-in-Handle.result.now = c.in-Handle.is ∙ ap (λ (b : List ℕ). Handle b) (sym c.bytes-in-Handle.ensures) in
     subst (λ (args : Args). IfOk c.about_file.result (IsFair fs.areas (g.V.View.held c.args.view.now) (PathOf fs.volume c.args.call.now.procedure args))) (sym is) c.about_file.ensures.fair
 
 pub returns-in-Set-clause-gives : goal.returns-in-Set-clause-gives
@@ -90,16 +93,16 @@ returns-in-Handle-clause-writes g c = IfOk-weaker c.about_file.result _ _ (nothi
 
 pub returns-in-Handle-clause-tells : goal.returns-in-Handle-clause-tells
 returns-in-Handle-clause-tells g c = λ other.
-    let is : c.args.call.now.args ≡ Handle c.bytes.result.now = c.in-Handle.is ∙ ap (λ (b : List ℕ). Handle b) (sym c.bytes.ensures) in
-    c.about_file.ensures.tells (λ asks. other c.bytes.result.now (record { args = is; procedure = asks }))
+    let is : c.args.call.now.args ≡ Handle c.bytes-in-Handle.result.now = c.in-Handle.is ∙ ap (λ (b : List ℕ). Handle b) (sym c.bytes-in-Handle.ensures) in
+    c.about_file.ensures.tells (λ asks. other c.bytes-in-Handle.result.now (record { args = is; procedure = asks }))
 
 pub returns-in-Handle-clause-free : goal.returns-in-Handle-clause-free
 returns-in-Handle-clause-free g c = λ at truth tree asks same s.
     let fs = c.args.self.now in
     let free = free_slots fs.areas truth in
-    let is : c.args.call.now.args ≡ Handle c.bytes.result.now = c.in-Handle.is ∙ ap (λ (b : List ℕ). Handle b) (sym c.bytes.ensures) in
-    let here : Handle c.bytes.result.now ≡ Handle at = sym is ∙ asks.args in
-    let one : c.bytes.result.now ≡ at = cc in
+    let is : c.args.call.now.args ≡ Handle c.bytes-in-Handle.result.now = c.in-Handle.is ∙ ap (λ (b : List ℕ). Handle b) (sym c.bytes-in-Handle.ensures) in
+    let here : Handle c.bytes-in-Handle.result.now ≡ Handle at = sym is ∙ asks.args in
+    let one : c.bytes-in-Handle.result.now ≡ at = cc in
     subst (λ (bytes : List ℕ). IfOk c.about_file.result (TellsFree (told_free free (statfs tree bytes free)))) one (c.about_file.ensures.free truth tree asks.procedure same s)
 
 pub returns-in-Refused-clause-free : goal.returns-in-Refused-clause-free
@@ -108,8 +111,8 @@ returns-in-Refused-clause-free g c = λ at truth tree asks same s. let never = s
 pub returns-in-Nothing-clause-free : goal.returns-in-Nothing-clause-free
 returns-in-Nothing-clause-free g c = λ at truth tree asks same s. let never = sym c.in-Nothing.is ∙ asks.args in absurd cc
 
-pub returns-in-Path-clause-free : goal.returns-in-Path-clause-free
-returns-in-Path-clause-free g c = λ at truth tree asks same s. let never = sym c.in-Path.is ∙ asks.args in absurd cc
+pub returns-in_ok-reply-in-Path-clause-free : goal.returns-in_ok-reply-in-Path-clause-free
+returns-in_ok-reply-in-Path-clause-free g c = λ at truth tree asks same s. let never = sym c.in-Path.is ∙ asks.args in absurd cc
 
 pub returns-in-Set-clause-free : goal.returns-in-Set-clause-free
 returns-in-Set-clause-free g c = λ at truth tree asks same s. let never = sym c.in-Set.is ∙ asks.args in absurd cc

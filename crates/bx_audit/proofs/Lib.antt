@@ -1,3 +1,4 @@
+pub mod Named
 pub mod Trees
 pub mod Shown
 pub mod Volumes

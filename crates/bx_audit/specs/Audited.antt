@@ -1,6 +1,7 @@
 -- What an audit says of the disks of a volume.
-use Rattle.std.specs.Prelude.{◌≡◌, ◌⊎◌, List}
+use Rattle.std.specs.Prelude.{◌≡◌, ◌⊎◌, ℕ, List}
 use Rattle.bx_audit.specs.declared.listing.Listing.{Listing}
+use Rattle.bx_audit_links.specs.Right.{IsNamedOrRoot, IsWrong}
 use Rattle.bx_base.specs.declared.names.Point.{Point}
 use Rattle.bx_disk.specs.Disks.{Disks}
 use Rattle.bx_global.specs.declared.state.GlobalState.{GlobalState}
@@ -13,6 +14,7 @@ use Rattle.bx_overlay.specs.declared.members.Members.{Members}
 use Rattle.bx_overlay.specs.declared.volume_disks.VolumeDisks.{VolumeDisks}
 use Rattle.bx_overlay.specs.Logs.{AreLogs, points_in}
 use Rattle.bx_overlay.specs.Reading.{AreMembers, IsRead, IsRefused}
+use Rattle.bx_truth.specs.Chunks.{block_at}
 use Rattle.bx_volume.specs.Images.{ImageStandsFor, IsFirstLabel}
 use Rattle.bx_volume.specs.Records.{Logged}
 
@@ -49,6 +51,16 @@ IsTorn NoMajority = ⊥
 IsTorn (NoSource device) = ⊥
 IsTorn (Torn block found wanted) = Unit {0}
 IsTorn OutOfMemory = ⊥
+
+-- It names the block of a file because of which files are no file tree, found by its handle, which is wanted where the file is the root
+-- or an entry names it.
+pub record NamesFile (tree : Tree) (error : AuditError) : Type 0 where
+  pub handle : ℕ
+  pub wrong : IsWrong tree handle
+  pub wanted : ℕ
+  pub error_is : error ≡ Torn (block_at handle) handle wanted
+  pub named : IsNamedOrRoot tree handle → wanted ≡ handle
+  pub unnamed : (IsNamedOrRoot tree handle → ⊥) → wanted ≡ 0
 
 -- labels, members and logs are those of a volume, and a block is wrong
 pub record HasWrongBlocks (disks : Disks) (state : GlobalState) (error : AuditError) : Type 0 where

@@ -1,37 +1,34 @@
 //! The audit.
 
-ghost use Rattle.std.specs.Prelude.{◌≡◌, ◌≤◌, ◌⊎◌, IfOk, IfErr, IsErrOf};
-ghost use Rattle.bx_audit.specs.Audited.{IsListed, IsRefusal, IsTorn, StandFor};
+ghost use Rattle.std.specs.Prelude.{◌≡◌, ◌≤◌, ◌⊎◌, if◌then◌else◌, IfOk, IfErr, IsErrOf};
+ghost use Rattle.bx_audit.specs.Audited.{IsListed, IsRefusal, IsTorn, NamesFile, StandFor};
 ghost use Rattle.bx_audit_links.specs.InOrder.{IsInOrder};
 ghost use Rattle.bx_base.specs.Faults.{Rose};
 ghost use Rattle.bx_model.specs.declared.tree.Tree.{Tree as ModelTree};
 ghost use Rattle.bx_model.specs.FileTrees.{IsFileTree};
 ghost use Rattle.bx_model.specs.Listing.{listing};
-ghost use Rattle.bx_overlay.specs.declared.error.AuditError.TheVariants.{DiskFault, OutOfMemory as MemoryRanOut};
+ghost use Rattle.bx_overlay.specs.declared.error.AuditError.TheVariants.{DiskFault, OutOfMemory as MemoryRanOut, Torn};
 ghost use Rattle.bx_overlay.specs.Refusals.{IsBreak, UnlessFault};
+ghost use Rattle.bx_truth.specs.Chunks.{block_at};
 
 use crate::blocks::tree_in;
 use crate::listing::Listing;
-use bx_audit_links::is_file_tree;
+use bx_audit_links::{WrongFile, wrong_file};
 use bx_base::Raw;
 use bx_disk::Rack;
 use bx_global::GlobalState;
+use bx_handles::ChunkHandle;
 use bx_model::Tree;
 use bx_overlay::{AuditError, read_disks, refused_disks_show_no_tree, what_is_read_is_shown};
 use bx_volume::{one_first_label, one_tree_stands};
 use std::alloc::Global;
-
-/// The root's handle, and the block that it is in.
-const ROOT: u64 = 1;
-
-const ROOT_BLOCK: u64 = 0;
 
 /// Reads the file tree that a volume's disks hold in a global state, and lists it. Ok says that there is a file tree that the disks stand
 /// for as they read, and that this is its listing; a refusal, that there is none. Refused are, in this order: disks without a label,
 /// without a state of theirs, without a source, or with a source that has no label; logs that aren't there or that clash; then the
 /// first block that isn't as its area's slots ask; inodes, in the order of their handles, that aren't as they should be, or whose
 /// chunks have another owner; chunks that nothing has, and marks of dead inodes that are wrong; and at last links and parents, for which
-/// the root is named, with `found` equal to `wanted`.
+/// the block of a wrong file's inode is named, `found` by its handle, which is `wanted` unless no entry names the file.
 ///
 /// Each block is read for its slot, and each chunk of a tree twice besides: for its kind, and by the inode that has it.
 pub fn audit<R: Rack>(
@@ -83,10 +80,20 @@ fn text_of(alloc: Global, tree: &Tree) -> Result<Raw, AuditError>
     ensures is { IfOk result (λ text. IsFileTree tree.now) }
     ensures text { IfOk result (λ text. text ≡ listing tree.now) }
     ensures err { IfErr result (λ error. (error ≡ MemoryRanOut) ⊎ (IsTorn error × (IsFileTree tree.now → ⊥))) }
+    ensures names { IfErr result (λ error. (error ≡ MemoryRanOut) ⊎ NamesFile tree.now error) }
 {
-    if !is_file_tree(alloc, tree)? {
-        return Err(AuditError::Torn(ROOT_BLOCK, ROOT, ROOT));
+    if let Some(wrong) = wrong_file(alloc, tree)? {
+        return Err(torn_file(wrong));
     }
     let text = tree.listing()?;
     Ok(text)
+}
+
+/// That the block of a file is torn: found by the file's handle, which is wanted where the file is the root or an entry names it.
+fn torn_file(wrong: WrongFile) -> AuditError
+    ensures { result ≡ Torn (block_at wrong.handle) wrong.handle (if wrong.is_named then wrong.handle else 0) }
+{
+    let at = ChunkHandle::of(wrong.handle).block();
+    let wanted = if wrong.is_named { wrong.handle } else { 0 };
+    AuditError::Torn(at, wrong.handle, wanted)
 }

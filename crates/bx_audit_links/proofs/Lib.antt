@@ -1,5 +1,6 @@
 pub mod Directories
 pub mod Emptied
+pub mod Found
 pub mod FileTree
 pub mod Kept
 pub mod ReachedOnes

@@ -1,6 +1,7 @@
 -- What a file tree asks of each of its files.
-use Rattle.std.specs.Prelude.{◌≡◌, ◌≢◌, ℕ, ◌≤◌, true, List, Some}
-use Rattle.bx_model.specs.FileTrees.{HasEntries, HasLinks, links_to}
+use Rattle.std.specs.Prelude.{◌≡◌, ◌≢◌, ℕ, ◌≤◌, ◌⊎◌, true, List, Contains, Some}
+use Rattle.bx_model.specs.FileTrees.{HasEntries, HasLinks, is_directory_at, links_to}
+use Rattle.bx_model.specs.declared.tree.Tree.{Tree}
 use Rattle.bx_tree_files.specs.declared.file.Body.{Body}
 use Rattle.bx_tree_files.specs.declared.file.Body.TheVariants.{Names}
 use Rattle.bx_tree_files.specs.declared.file.File.{File}
@@ -25,3 +26,22 @@ pub record IsOwnParent (files : List File) (root : ℕ) : Type 0 where
   pub file : File
   pub there : file_at files root ≡ Some file
   pub itself : NamesItself file.body root
+
+-- a file with the handle isn't as a file tree asks
+pub record IsWrongOf (files : List File) (root handle : ℕ) : Type 0 where
+  pub file : File
+  pub there : Contains files file
+  pub handle_is : file.handle ≡ handle
+  pub wrong : IsRight files root file → ⊥
+
+-- What is wrong with the file that a handle is of: it is the root, and isn't a directory that is its own parent, or is named; or it isn't
+-- as a file tree asks; or all files are, each for itself, and it is a directory to which no way from the root leads.
+abbrev pub IsWrong : Tree → ℕ → Type 0
+IsWrong tree handle =
+    ((handle ≡ tree.root) × (IsOwnParent tree.files tree.root → links_to tree.files tree.root ≡ 0 → ⊥))
+    ⊎ (IsWrongOf tree.files tree.root handle
+    ⊎ ((is_directory_at tree.files handle ≡ true) × (handle ≢ tree.root) × ((file : File) → Contains tree.files file → IsRight tree.files tree.root file)))
+
+-- it is the root, or an entry names it
+abbrev pub IsNamedOrRoot : Tree → ℕ → Type 0
+IsNamedOrRoot tree handle = (handle ≡ tree.root) ⊎ (1 ≤ links_to tree.files handle)

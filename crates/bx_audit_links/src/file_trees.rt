@@ -1,35 +1,67 @@
-//! File trees.
+//! What makes files no file tree.
 
-ghost use Rattle.std.specs.Prelude.{◌≡◌, IfOk, IsTrue, IsFalse};
+ghost use Rattle.std.specs.Prelude.{◌≡◌, ◌↔◌, IfOk, IfNone, IfSome, IsTrue, IsFalse};
+ghost use Rattle.bx_audit_links.specs.Counted.{AreCounted};
 ghost use Rattle.bx_audit_links.specs.InOrder.{IsInOrder};
-ghost use Rattle.bx_audit_links.specs.Right.{IsOwnParent, NamesItself};
+ghost use Rattle.bx_audit_links.specs.Right.{IsNamedOrRoot, IsOwnParent, IsWrong, NamesItself};
 ghost use Rattle.bx_model.specs.FileTrees.{IsFileTree};
 
 use crate::counts::{count_links, count_of};
-use crate::reached::are_below;
-use crate::right::are_right;
+use crate::reached::lost_in;
+use crate::right::wrong_in;
 use bx_base::OutOfMemory;
 use bx_model::Tree;
 use bx_tree_files::{Body, Files};
 use std::alloc::Global;
+use std::collections::BTreeMap;
 
-/// Whether files are a file tree: the root is a directory, its own parent, and no entry names it; entries name files that are there,
-/// of which a directory has theirs as its parent; links are counted; the root leads to each directory. It is linear in the files
-/// and their entries, but for the logarithm of their count.
-pub fn is_file_tree(alloc: Global, tree: &Tree) -> Result<bool, OutOfMemory>
+/// A file because of which files are no file tree.
+#[derive(Clone, Copy, PartialEq, Eq)]
+pub struct WrongFile {
+    /// The number of its handle.
+    pub handle: u64,
+    /// Whether it is the root, or an entry names it.
+    pub is_named: bool,
+}
+
+/// A file because of which files are no file tree; `None` exactly where they are one: the root is a directory, its own parent, and no
+/// entry names it; entries name files that are there, of which a directory has theirs as its parent; links are counted; the root
+/// leads to each directory. It is linear in the files and their entries, but for the logarithm of their count.
+pub fn wrong_file(alloc: Global, tree: &Tree) -> Result<Option<WrongFile>, OutOfMemory>
     requires { IsInOrder tree.now }
-    ensures yes { IfOk result (λ good. IsTrue good → IsFileTree tree.now) }
-    ensures no { IfOk result (λ good. IsFalse good → IsFileTree tree.now → ⊥) }
+    ensures none { IfOk result (λ found. IfNone found (IsFileTree tree.now)) }
+    ensures some { IfOk result (λ found. IfSome found (λ wrong. IsFileTree tree.now → ⊥)) }
+    ensures cause { IfOk result (λ found. IfSome found (λ wrong. IsWrong tree.now wrong.handle)) }
+    ensures named { IfOk result (λ found. IfSome found (λ wrong. IsTrue wrong.is_named ↔ IsNamedOrRoot tree.now wrong.handle)) }
 {
     let counts = count_links(alloc, &tree.files)?;
-    if !is_root(&tree.files, tree.root) || count_of(&counts, tree.root) != 0 {
-        return Ok(false);
+    let Some(handle) = wrong_handle(alloc, tree, &counts)? else {
+        return Ok(None);
+    };
+    let is_named = handle == tree.root || count_of(&counts, handle) > 0;
+    Ok(Some(WrongFile { handle, is_named }))
+}
+
+/// The handle of such a file.
+fn wrong_handle(
+    alloc: Global,
+    tree: &Tree,
+    counts: &BTreeMap<u64, u64>,
+) -> Result<Option<u64>, OutOfMemory>
+    requires order { IsInOrder tree.now }
+    requires counted { AreCounted tree.now.files counts.now }
+    ensures none { IfOk result (λ found. IfNone found (IsFileTree tree.now)) }
+    ensures some { IfOk result (λ found. IfSome found (λ handle. IsFileTree tree.now → ⊥)) }
+    ensures cause { IfOk result (λ found. IfSome found (IsWrong tree.now)) }
+{
+    if !is_root(&tree.files, tree.root) || count_of(counts, tree.root) != 0 {
+        return Ok(Some(tree.root));
     }
-    if !are_right(&tree.files, &counts, tree.root) {
-        return Ok(false);
+    if let Some(handle) = wrong_in(&tree.files, counts, tree.root) {
+        return Ok(Some(handle));
     }
-    let good = are_below(alloc, &tree.files, tree.root)?;
-    Ok(good)
+    let lost = lost_in(alloc, &tree.files, tree.root)?;
+    Ok(lost)
 }
 
 /// Whether a handle is that of a directory that is its own parent.

@@ -7,4 +7,4 @@ mod file_trees;
 mod reached;
 mod right;
 
-pub use file_trees::is_file_tree;
+pub use file_trees::{WrongFile, wrong_file};

@@ -1,11 +1,11 @@
 //! That the root leads to each directory.
 
-ghost use Rattle.std.specs.Prelude.{◌≡◌, ◌≢◌, ◌+◌, ◌⊎◌, ◌++◌, ℕ, List, length, AllPairs, ◌<◌, Contains, true, false, IfOk, OnOk, IsTrue, IsFalse};
+ghost use Rattle.std.specs.Prelude.{◌≡◌, ◌≢◌, ◌+◌, ◌⊎◌, ◌++◌, ℕ, List, length, AllPairs, ◌<◌, Contains, true, false, IfOk, OnOk, IfNone, IfSome};
 ghost use Rattle.std.specs.BTreeSet.{btree_set_len};
 ghost use Rattle.bx_audit_links.specs.Reached.{AreBelow, AreDirectories, IsNamed, Reaches};
 ghost use Rattle.bx_tree_files.specs.Names.{names_of};
 ghost use Rattle.bx_model.specs.declared.tree.Tree.{Tree};
-ghost use Rattle.bx_model.specs.FileTrees.{IsFileTree};
+ghost use Rattle.bx_model.specs.FileTrees.{IsFileTree, is_directory_at};
 ghost use Rattle.bx_tree_laws.specs.Ways.{IsIn};
 
 use bx_base::OutOfMemory;
@@ -13,11 +13,12 @@ use bx_tree_files::{Body, DIRECTORY, Files, NameList};
 use std::alloc::Global;
 use std::collections::BTreeSet;
 
-/// Whether ways from the root lead to all directories.
-pub(crate) fn are_below(alloc: Global, files: &Files, root: u64) -> Result<bool, OutOfMemory>
+/// The handle of a directory to which no way from the root leads; `None` exactly where there is none.
+pub(crate) fn lost_in(alloc: Global, files: &Files, root: u64) -> Result<Option<u64>, OutOfMemory>
     requires { AllPairs (λ file later. file.handle < later.handle) files.now }
-    ensures yes { IfOk result (λ good. IsTrue good → AreBelow files.now root) }
-    ensures no { (tree : Tree) → tree.files ≡ files.now → tree.root ≡ root → IfOk result (λ good. IsFalse good → IsFileTree tree → ⊥) }
+    ensures none { IfOk result (λ found. IfNone found (AreBelow files.now root)) }
+    ensures some { (tree : Tree) → tree.files ≡ files.now → tree.root ≡ root → IfOk result (λ found. IfSome found (λ handle. IsFileTree tree → ⊥)) }
+    ensures is { IfOk result (λ found. IfSome found (λ handle. (is_directory_at files.now handle ≡ true) × (handle ≢ root))) }
 {
     let mut unreached = directories_but(alloc, files, root)?;
     let mut reached = Vec::new(alloc);
@@ -28,7 +29,10 @@ pub(crate) fn are_below(alloc: Global, files: &Files, root: u64) -> Result<bool,
         reach_from(files, directory, &mut unreached, &mut reached)?;
         at += 1;
     }
-    Ok(unreached.is_empty())
+    match unreached.first() {
+        None => Ok(None),
+        Some(handle) => Ok(Some(*handle)),
+    }
 }
 
 /// The directories but the root.

@@ -1,9 +1,9 @@
 //! What a file tree asks of each file.
 
-ghost use Rattle.std.specs.Prelude.{◌≡◌, ◌≢◌, ◌≤◌, ℕ, List, All, Contains, true, IsTrue, IsFalse};
+ghost use Rattle.std.specs.Prelude.{◌≡◌, ◌≢◌, ◌≤◌, ℕ, List, All, Contains, true, IsTrue, IsFalse, IfNone, IfSome};
 ghost use Rattle.bx_audit_links.specs.Counted.{AreCounted};
 ghost use Rattle.bx_audit_links.specs.InOrder.{AreApart};
-ghost use Rattle.bx_audit_links.specs.Right.{IsRight};
+ghost use Rattle.bx_audit_links.specs.Right.{IsRight, IsWrongOf};
 ghost use Rattle.bx_model.specs.FileTrees.{HasEntries, HasLinks, links_to};
 ghost use Rattle.bx_tree_files.specs.declared.file.Body.TheVariants.{Names};
 ghost use Rattle.bx_tree_files.specs.declared.file.File.{File as Kept};
@@ -15,20 +15,20 @@ use crate::entries::{are_entries, directories_in};
 use bx_tree_files::{Body, DIRECTORY, File, Files};
 use std::collections::BTreeMap;
 
-/// Whether each file is as a file tree asks.
-pub(crate) fn are_right(files: &Files, counts: &BTreeMap<u64, u64>, root: u64) -> bool
+/// The handle of a file that isn't as a file tree asks; `None` exactly where each is.
+pub(crate) fn wrong_in(files: &Files, counts: &BTreeMap<u64, u64>, root: u64) -> Option<u64>
     requires counted { AreCounted files.now counts.now }
     requires apart { (file : Kept) (parent next : ℕ) (names : List Name) → Contains files.now file → file.body ≡ Names parent next names → AreApart names }
-    ensures yes { IsTrue result → (file : Kept) → Contains files.now file → IsRight files.now root file }
-    ensures no { IsFalse result → ((file : Kept) → Contains files.now file → IsRight files.now root file) → ⊥ }
+    ensures none { IfNone result ((file : Kept) → Contains files.now file → IsRight files.now root file) }
+    ensures some { IfSome result (IsWrongOf files.now root) }
     ensures are_files { All IsFile files.now }
 {
     for file in files.iter() {
         if !is_right(files, counts, root, file) {
-            return false;
+            return Some(file.handle);
         }
     }
-    true
+    None
 }
 
 fn is_right(files: &Files, counts: &BTreeMap<u64, u64>, root: u64, file: &File) -> bool

@@ -2,7 +2,7 @@ use Rattle.std.proofs.Common.{◌+◌, length}
 use Rattle.std.specs.Prelude.{◌-◌}
 use Rattle.std.specs.BTreeSet.{btree_set_len}
 use Rattle.bx_audit_links.proofs.Stand.{Stand}
-use Rattle.bx_audit_links.proofs.reached.are_below.Given as goal
+use Rattle.bx_audit_links.proofs.reached.lost_in.Given as goal
 
 abbrev pub invariant-loop-at : goal.invariant-loop-at
 invariant-loop-at l = Stand l.files l.root l.reached.items l.unreached l.at

@@ -1,7 +1,7 @@
 use Rattle.std.specs.Prelude.{Contains}
 use Rattle.bx_audit_links.specs.Right.{IsRight}
 use Rattle.bx_tree_files.specs.declared.file.File.{File}
-use Rattle.bx_audit_links.proofs.right.are_right.Given as goal
+use Rattle.bx_audit_links.proofs.right.wrong_in.Given as goal
 
 abbrev pub invariant-loop-file : goal.invariant-loop-file
 invariant-loop-file l = record {

@@ -1,6 +1,6 @@
 use Rattle.std.proofs.Common.{◌∙◌, sym}
 use Rattle.bx_audit_links.proofs.Rests.{all_there, contains_same, front_there, none_there, rest_there}
-use Rattle.bx_audit_links.proofs.right.are_right.Goals as goal
+use Rattle.bx_audit_links.proofs.right.wrong_in.Goals as goal
 
 pub loop-file-init : goal.loop-file-init
 loop-file-init c = record {
@@ -18,5 +18,5 @@ loop-file-preserved c = record {
   rest = λ file there. c.loop-file.invariant.rest file (rest_there _ _ c.in-Some.file.now file c.in-Some.ensures.steps there);
 }
 
-pub returns-clause-yes : goal.returns-clause-yes
-returns-clause-yes c = λ yes. c.loop-file.invariant.all (λ file there. absurd (none_there _ file c.in-None.ensures.steps.0 there))
+pub returns-clause-none : goal.returns-clause-none
+returns-clause-none c = c.loop-file.invariant.all (λ file there. absurd (none_there _ file c.in-None.ensures.steps.0 there))

@@ -1,6 +1,9 @@
 //! The node.
 
 ghost use Rattle.std.specs.Prelude.{◌≡◌, ◌≢◌, ◌++◌, ◌∷◌, [], ℕ, IfOk, OnOk, OnErr, IsTrue, ◌↔◌, None};
+ghost use Rattle.bx_disk.specs.Disks.{Disks};
+ghost use Rattle.bx_global.specs.declared.state.GlobalState.{GlobalState};
+ghost use Rattle.bx_model.specs.declared.tree.Tree.{Tree};
 ghost use Rattle.bx_places.specs.Places.{IsVolume};
 
 use crate::stage::{Acted, Recorded, Stage, Waiting};
@@ -40,6 +43,7 @@ impl LoneNode {
     ghost use Rattle.bx_cache.specs.Cached.{block_at};
     ghost use Rattle.bx_redo.specs.Steps.{closed_log};
     ghost use Rattle.bx_lone_node.specs.Node.{IsJoined, IsOfSame, Takes, calls_of};
+    ghost use Rattle.bx_lone_node.specs.Standing.{GoesTo, NodeStands};
     ghost use Rattle.bx_lone_node.specs.declared.stage.Stage.TheVariants.{Idle};
 
     /// A node of a volume of so many devices (1 to 4) and areas (1 to 64), whose logs are closed. No call waits, and nothing was
@@ -94,6 +98,8 @@ impl LoneNode {
         ensures queue { self.new.queue ≡ self.old.queue }
         ensures same { IsOfSame self.old self.new }
         ensures joined { OnOk result (IsJoined self.new (S.made store.new) (S.own store.new 0) (S.out_of store.new 0) (S.asked store.new 0)) }
+        ensures stands { (volume : ℕ) (state : GlobalState) (x : Disks) (tree next : Tree) → NodeStands (S.keeps store.old) (S.stands store.old) (S.will_read store.old) (S.made store.old) (S.own store.old 0) (S.out_of store.old 0) (S.asked store.old 0) volume state x self.old tree next
+            → IfOk result (GoesTo (NodeStands (S.keeps store.new) (S.stands store.new) (S.will_read store.new) (S.made store.new) (S.own store.new 0) (S.out_of store.new 0) (S.asked store.new 0) volume state x self.new) self.old self.new tree next) }
     {
         if let Stage::Reads(at) = self.stage {
             self.receive(store, at)?;
@@ -113,6 +119,8 @@ impl LoneNode {
         ensures queue { self.new.queue ≡ self.old.queue }
         ensures same { IsOfSame self.old self.new }
         ensures joined { OnOk result (IsJoined self.new (S.made store.new) (S.own store.new 0) (S.out_of store.new 0) (S.asked store.new 0)) }
+        ensures stands { (volume : ℕ) (state : GlobalState) (x : Disks) (tree next : Tree) → NodeStands (S.keeps store.old) (S.stands store.old) (S.will_read store.old) (S.made store.old) (S.own store.old 0) (S.out_of store.old 0) (S.asked store.old 0) volume state x self.old tree next
+            → IfOk result (GoesTo (NodeStands (S.keeps store.new) (S.stands store.new) (S.will_read store.new) (S.made store.new) (S.own store.new 0) (S.out_of store.new 0) (S.asked store.new 0) volume state x self.new) self.old self.new tree next) }
     {
         match mem::replace(&mut self.stage, Stage::Spent) {
             Stage::Logs(recorded, draft) => self.log_on(store, recorded, draft),

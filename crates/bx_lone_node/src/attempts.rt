@@ -3,6 +3,7 @@
 ghost use Rattle.std.specs.Prelude.{◌≡◌, ◌≢◌, ◌⊎◌, ℕ, ◌≤◌, [], Contains, IfOk, OnOk};
 ghost use Rattle.bx_cache.specs.Cached.{block_at};
 ghost use Rattle.bx_disk.specs.Disks.{Disks};
+ghost use Rattle.bx_facts.specs.Disks.{NeedsNoMore};
 ghost use Rattle.bx_global.specs.declared.state.GlobalState.{GlobalState};
 ghost use Rattle.bx_inodes.specs.Stands.{Stands as TreeStands};
 ghost use Rattle.bx_model.specs.declared.tree.Tree.{Tree};
@@ -44,6 +45,7 @@ impl LoneNode {
         ensures queue { OnOk result ((call : Call) → Contains self.new.queue call → Contains self.old.queue call) }
         ensures same { IsOfSame self.old self.new }
         ensures joined { OnOk result (IsJoined self.new (S.made store.new) (S.own store.new 0) (S.out_of store.new 0) (S.asked store.new 0)) }
+        ensures needs { NeedsNoMore (S.needs store.old) (S.needs store.new) }
         ensures stands { (volume : ℕ) (state : GlobalState) (x : Disks) (tree next : Tree) → volume ≡ E.volume engine.now → NodeStands (S.keeps store.old) (S.stands store.old) (S.will_read store.old) (S.made store.old) (S.own store.old 0) (S.out_of store.old 0) (S.asked store.old 0) volume state x self.old tree next
             → IfOk result (Turns (E.step engine.now) (StandsFor (E.step engine.now) (NodeStands (S.keeps store.new) (S.stands store.new) (S.will_read store.new) (S.made store.new) (S.own store.new 0) (S.out_of store.new 0) (S.asked store.new 0) volume state x self.new) self.new) (calls_of self.old) (calls_of self.new) tree) }
     {
@@ -81,6 +83,7 @@ impl LoneNode {
         ensures stage { OnOk result (self.new.stage ≡ Logs Inner draft) }
         ensures same { IsOfSame self.old self.new }
         ensures joined { OnOk result (IsJoined self.new (S.made store.new) (S.own store.new 0) (S.out_of store.new 0) (S.asked store.new 0)) }
+        ensures needs { NeedsNoMore (S.needs store.old) (S.needs store.new) }
         ensures stands { (volume : ℕ) (state : GlobalState) (x : Disks) (tree next : Tree) (any : Tree) (stood : NodeStands (S.keeps store.old) (S.stands store.old) (S.will_read store.old) (S.made store.old) (S.own store.old 0) (S.out_of store.old 0) (S.asked store.old 0) volume state x self.old tree any) → TreeStands volume self.old.areas (with_draft stood.truth draft) next → OnOk result (NodeStands (S.keeps store.new) (S.stands store.new) (S.will_read store.new) (S.made store.new) (S.own store.new 0) (S.out_of store.new 0) (S.asked store.new 0) volume state x self.new tree next) }
     {
         let _waiting = self.queue.len();
@@ -103,6 +106,7 @@ impl LoneNode {
         ensures begun { OnOk result (IsBegun draft moment done self.old self.new) }
         ensures same { IsOfSame self.old self.new }
         ensures joined { OnOk result (IsJoined self.new (S.made store.new) (S.own store.new 0) (S.out_of store.new 0) (S.asked store.new 0)) }
+        ensures needs { NeedsNoMore (S.needs store.old) (S.needs store.new) }
         ensures stands { (volume : ℕ) (state : GlobalState) (x : Disks) (tree next : Tree) (any : Tree) (stood : NodeStands (S.keeps store.old) (S.stands store.old) (S.will_read store.old) (S.made store.old) (S.own store.old 0) (S.out_of store.old 0) (S.asked store.old 0) volume state x self.old tree any) → TreeStands volume self.old.areas (with_draft stood.truth draft) next → OnOk result (NodeStands (S.keeps store.new) (S.stands store.new) (S.will_read store.new) (S.made store.new) (S.own store.new 0) (S.out_of store.new 0) (S.asked store.new 0) volume state x self.new tree next) }
     {
         let Some(call) = self.queue.pop_front() else {
@@ -158,6 +162,7 @@ impl LoneNode {
         ensures stage { OnOk result ((self.new.stage ≡ Idle) ⊎ ((at : ℕ) × (self.new.stage ≡ Reads at))) }
         ensures same { IsOfSame self.old self.new }
         ensures joined { OnOk result (IsJoined self.new (S.made store.new) (S.own store.new 0) (S.out_of store.new 0) (S.asked store.new 0)) }
+        ensures needs { NeedsNoMore (S.needs store.old) (S.needs store.new) }
         ensures stands { (volume : ℕ) (state : GlobalState) (x : Disks) (tree next : Tree) → NodeStands (S.keeps store.old) (S.stands store.old) (S.will_read store.old) (S.made store.old) (S.own store.old 0) (S.out_of store.old 0) (S.asked store.old 0) volume state x self.old tree next → OnOk result (NodeStands (S.keeps store.new) (S.stands store.new) (S.will_read store.new) (S.made store.new) (S.own store.new 0) (S.out_of store.new 0) (S.asked store.new 0) volume state x self.new tree next) }
     {
         let Some((at, _)) = wants.get(0) else {

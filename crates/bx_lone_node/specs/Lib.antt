@@ -1,4 +1,5 @@
 pub mod Answered
+pub mod Attempts
 pub mod Node
 pub mod Runs
 pub mod Standing

@@ -1,5 +1,5 @@
 -- How a node stands: what its store and the disks hold, and which file tree that is. `Sure` says of a sector of a device that it stands so for the node.
-use Rattle.std.specs.Prelude.{slice_index_or, ◌≡◌, ◌≢◌, ◌⊎◌, ℕ, ◌+◌, ◌<◌, ◌≤◌, false, List, [], ◌∷◌, Option, Some, None}
+use Rattle.std.specs.Prelude.{◌≡◌, ◌≢◌, ◌⊎◌, ℕ, ◌+◌, ◌<◌, ◌≤◌, false, List, [], ◌∷◌, Option, Some, None}
 use Rattle.bx_base.specs.declared.names.Actor.{Actor}
 use Rattle.bx_base.specs.declared.names.Actor.TheVariants.{Node}
 use Rattle.bx_base.specs.declared.names.Mode.{Mode}
@@ -171,7 +171,8 @@ Turns Step Stands_then old new tree (Some acted) = HasActed Step Stands_then old
 -- What an attempt of the oldest call answered, over what the node has read.
 pub record IsTried (volume areas : ℕ) (Step : Tree → Deed → Tree → Type 0) (free : Truth → ℕ) (path : ℕ → List ℕ → Held → ℕ → Mode → Type 0) (held : Held) (moment : ℕ) (queue : List Waiting) (attempt : Attempt) : Type 0 where
   pub call : Waiting
-  pub oldest : call ≡ slice_index_or queue 0 call
+  pub rest : List Waiting
+  pub oldest : queue ≡ call ∷ rest
   pub gives : (truth : Truth) (tree : Tree) → IsTruth held truth → Stands volume areas truth tree
       → Gives (λ other hints then. Stands volume areas other then) Step (free truth) call.client call.datagram moment truth tree attempt
   pub fair : IsFair areas held (path call.client call.datagram held) attempt

@@ -2,6 +2,7 @@
 
 ghost use Rattle.std.specs.Prelude.{◌≡◌, ◌⊎◌, ℕ, IfOk, OnOk, None};
 ghost use Rattle.bx_disk.specs.Disks.{Disks};
+ghost use Rattle.bx_facts.specs.Disks.{NeedsNoMore};
 ghost use Rattle.bx_global.specs.declared.state.GlobalState.{GlobalState};
 ghost use Rattle.bx_cache.specs.Cached.{block_at, or_older};
 ghost use Rattle.bx_inodes.specs.Stands.{Stands as TreeStands};
@@ -41,6 +42,7 @@ impl LoneNode {
         ensures node { OnOk result (self.new ≡ record self.old { stage = Logs recorded draft; log = doing self.old.log (Body (logged_text (record_of point draft)) point) }) }
         ensures same { IsOfSame self.old self.new }
         ensures joined { OnOk result (IsJoined self.new (S.made store.new) (S.own store.new 0) (S.out_of store.new 0) (S.asked store.new 0)) }
+        ensures needs { NeedsNoMore (S.needs store.old) (S.needs store.new) }
         ensures stands { (volume : ℕ) (state : GlobalState) (x : Disks) (tree next : Tree) (any : Tree) (stood : NodeStands (S.keeps store.old) (S.stands store.old) (S.will_read store.old) (S.made store.old) (S.own store.old 0) (S.out_of store.old 0) (S.asked store.old 0) volume state x self.old tree any) → TreeStands volume self.old.areas (with_draft stood.truth draft) next → OnOk result (NodeStands (S.keeps store.new) (S.stands store.new) (S.will_read store.new) (S.made store.new) (S.own store.new 0) (S.out_of store.new 0) (S.asked store.new 0) volume state x self.new tree next) }
     {
         self.stage = Stage::Spent;
@@ -69,6 +71,7 @@ impl LoneNode {
         ensures queue { self.new.queue ≡ self.old.queue }
         ensures same { IsOfSame self.old self.new }
         ensures joined { OnOk result (IsJoined self.new (S.made store.new) (S.own store.new 0) (S.out_of store.new 0) (S.asked store.new 0)) }
+        ensures needs { NeedsNoMore (S.needs store.old) (S.needs store.new) }
         ensures stands { (volume : ℕ) (state : GlobalState) (x : Disks) (tree next : Tree) → NodeStands (S.keeps store.old) (S.stands store.old) (S.will_read store.old) (S.made store.old) (S.own store.old 0) (S.out_of store.old 0) (S.asked store.old 0) volume state x (record self.old { stage = Logs recorded draft }) tree next
             → IfOk result (GoesTo (NodeStands (S.keeps store.new) (S.stands store.new) (S.will_read store.new) (S.made store.new) (S.own store.new 0) (S.out_of store.new 0) (S.asked store.new 0) volume state x self.new) (record self.old { stage = Logs recorded draft }) self.new tree next) }
     {
@@ -114,6 +117,7 @@ impl LoneNode {
         ensures same { IsOfSame self.old self.new }
         ensures stage { OnOk result (self.new.stage ≡ Closes) }
         ensures joined { OnOk result (IsJoined self.new (S.made store.new) (S.own store.new 0) (S.out_of store.new 0) (S.asked store.new 0)) }
+        ensures needs { NeedsNoMore (S.needs store.old) (S.needs store.new) }
         ensures stands { (volume : ℕ) (state : GlobalState) (x : Disks) (tree next : Tree) → NodeStands (S.keeps store.old) (S.stands store.old) (S.will_read store.old) (S.made store.old) (S.own store.old 0) (S.out_of store.old 0) (S.asked store.old 0) volume state x (record self.old { stage = Homes }) tree next → OnOk result (NodeStands (S.keeps store.new) (S.stands store.new) (S.will_read store.new) (S.made store.new) (S.own store.new 0) (S.out_of store.new 0) (S.asked store.new 0) volume state x self.new tree next) }
     {
         self.log.close();
@@ -135,6 +139,7 @@ impl LoneNode {
         ensures same { IsOfSame self.old self.new }
         ensures stage { OnOk result ((self.new.stage ≡ Closes) ⊎ (self.new.stage ≡ Idle)) }
         ensures joined { OnOk result (IsJoined self.new (S.made store.new) (S.own store.new 0) (S.out_of store.new 0) (S.asked store.new 0)) }
+        ensures needs { NeedsNoMore (S.needs store.old) (S.needs store.new) }
         ensures stands { (volume : ℕ) (state : GlobalState) (x : Disks) (tree next : Tree) → NodeStands (S.keeps store.old) (S.stands store.old) (S.will_read store.old) (S.made store.old) (S.own store.old 0) (S.out_of store.old 0) (S.asked store.old 0) volume state x (record self.old { stage = Closes }) tree next → OnOk result (NodeStands (S.keeps store.new) (S.stands store.new) (S.will_read store.new) (S.made store.new) (S.own store.new 0) (S.out_of store.new 0) (S.asked store.new 0) volume state x self.new tree next) }
     {
         match self.log.next(None, true)? {

@@ -1,8 +1,13 @@
 //! The node.
 
-ghost use Rattle.std.specs.Prelude.{◌≡◌, ◌≢◌, ◌++◌, ◌∷◌, [], ℕ, IfOk, OnOk, OnErr, IsTrue, ◌↔◌, None};
+ghost use Rattle.std.specs.Prelude.{◌≡◌, ◌≢◌, ◌++◌, ◌∷◌, [], ℕ, IfOk, OnOk, OnErr, IsTrue, ◌↔◌, ◌≤◌, Contains, None};
+ghost use Rattle.bx_disk.specs.Disks.{Disks};
+ghost use Rattle.bx_facts.specs.Disks.{NeedsNoMore};
+ghost use Rattle.bx_global.specs.declared.state.GlobalState.{GlobalState};
+ghost use Rattle.bx_model.specs.declared.tree.Tree.{Tree};
 ghost use Rattle.bx_places.specs.Places.{IsVolume};
 
+use crate::procedures::Procedures;
 use crate::stage::{Acted, Recorded, Stage, Waiting};
 use crate::stores::{AskedStore, NODE};
 use bx_base::OutOfMemory;
@@ -40,6 +45,8 @@ impl LoneNode {
     ghost use Rattle.bx_cache.specs.Cached.{block_at};
     ghost use Rattle.bx_redo.specs.Steps.{closed_log};
     ghost use Rattle.bx_lone_node.specs.Node.{IsJoined, IsOfSame, Takes, calls_of};
+    ghost use Rattle.bx_lone_node.specs.Standing.{GoesTo, NodeStands, StandsFor, Turns};
+    ghost use Rattle.bx_lone_node.specs.declared.stage.Waiting.{Waiting};
     ghost use Rattle.bx_lone_node.specs.declared.stage.Stage.TheVariants.{Idle};
 
     /// A node of a volume of so many devices (1 to 4) and areas (1 to 64), whose logs are closed. No call waits, and nothing was
@@ -87,13 +94,52 @@ impl LoneNode {
         }
     }
 
+    /// Does what can be done without the disks, at a moment in milliseconds: goes on with what the store has done, and attempts the
+    /// call at the head where nothing is under way. At most one call is answered, the oldest; `None` where none is. For want of memory neither
+    /// the node nor the store is used again.
+    pub fn turn<S: AskedStore, E: Procedures>(
+        &mut self,
+        store: &mut S,
+        engine: &E,
+        moment: u64,
+    ) -> Result<Option<Acted>, OutOfMemory>
+        requires joined { IsJoined self.old (S.made store.old) (S.own store.old 0) (S.out_of store.old 0) (S.asked store.old 0) }
+        requires areas { E.areas engine.now ≡ self.old.areas }
+        requires taken { (call : Waiting) → Contains self.old.queue call → E.takes engine.now call.datagram }
+        requires moment { moment ≤ 4294967295999 }
+        ensures takes { IfOk result (λ acted. Takes acted (calls_of self.old) (calls_of self.new)) }
+        ensures queue { OnOk result ((call : Waiting) → Contains self.new.queue call → Contains self.old.queue call) }
+        ensures same { IsOfSame self.old self.new }
+        ensures joined { OnOk result (IsJoined self.new (S.made store.new) (S.own store.new 0) (S.out_of store.new 0) (S.asked store.new 0)) }
+        ensures needs { NeedsNoMore (S.needs store.old) (S.needs store.new) }
+        ensures stands { (state : GlobalState) (x : Disks) (tree : Tree) (volume : ℕ) → volume ≡ E.volume engine.now
+            → StandsFor (E.step engine.now) (NodeStands (S.keeps store.old) (S.stands store.old) (S.will_read store.old) (S.made store.old) (S.own store.old 0) (S.out_of store.old 0) (S.asked store.old 0) volume state x self.old) self.old tree
+            → IfOk result (Turns (E.step engine.now) (StandsFor (E.step engine.now) (NodeStands (S.keeps store.new) (S.stands store.new) (S.will_read store.new) (S.made store.new) (S.own store.new 0) (S.out_of store.new 0) (S.asked store.new 0) volume state x self.new) self.new) (calls_of self.old) (calls_of self.new) tree) }
+    {
+        let acted = self.go_on(store)?;
+        if acted.is_some() || !self.is_idle() {
+            return Ok(acted);
+        }
+        self.attempt(store, engine, moment)
+    }
+
+    /// Whether nothing is under way.
+    fn is_idle(&self) -> bool
+        ensures { IsTrue result ↔ (self.now.stage ≡ Idle) }
+    {
+        matches!(self.stage, Stage::Idle)
+    }
+
     /// Goes on with what is under way, where the store has done what it was asked for.
-    pub fn go_on<S: AskedStore>(&mut self, store: &mut S) -> Result<Option<Acted>, OutOfMemory>
+    fn go_on<S: AskedStore>(&mut self, store: &mut S) -> Result<Option<Acted>, OutOfMemory>
         requires joined { IsJoined self.old (S.made store.old) (S.own store.old 0) (S.out_of store.old 0) (S.asked store.old 0) }
         ensures takes { IfOk result (λ acted. Takes acted (calls_of self.old) (calls_of self.new)) }
         ensures queue { self.new.queue ≡ self.old.queue }
         ensures same { IsOfSame self.old self.new }
         ensures joined { OnOk result (IsJoined self.new (S.made store.new) (S.own store.new 0) (S.out_of store.new 0) (S.asked store.new 0)) }
+        ensures needs { NeedsNoMore (S.needs store.old) (S.needs store.new) }
+        ensures stands { (volume : ℕ) (state : GlobalState) (x : Disks) (tree next : Tree) → NodeStands (S.keeps store.old) (S.stands store.old) (S.will_read store.old) (S.made store.old) (S.own store.old 0) (S.out_of store.old 0) (S.asked store.old 0) volume state x self.old tree next
+            → IfOk result (GoesTo (NodeStands (S.keeps store.new) (S.stands store.new) (S.will_read store.new) (S.made store.new) (S.own store.new 0) (S.out_of store.new 0) (S.asked store.new 0) volume state x self.new) self.old self.new tree next) }
     {
         if let Stage::Reads(at) = self.stage {
             self.receive(store, at)?;
@@ -113,6 +159,9 @@ impl LoneNode {
         ensures queue { self.new.queue ≡ self.old.queue }
         ensures same { IsOfSame self.old self.new }
         ensures joined { OnOk result (IsJoined self.new (S.made store.new) (S.own store.new 0) (S.out_of store.new 0) (S.asked store.new 0)) }
+        ensures needs { NeedsNoMore (S.needs store.old) (S.needs store.new) }
+        ensures stands { (volume : ℕ) (state : GlobalState) (x : Disks) (tree next : Tree) → NodeStands (S.keeps store.old) (S.stands store.old) (S.will_read store.old) (S.made store.old) (S.own store.old 0) (S.out_of store.old 0) (S.asked store.old 0) volume state x self.old tree next
+            → IfOk result (GoesTo (NodeStands (S.keeps store.new) (S.stands store.new) (S.will_read store.new) (S.made store.new) (S.own store.new 0) (S.out_of store.new 0) (S.asked store.new 0) volume state x self.new) self.old self.new tree next) }
     {
         match mem::replace(&mut self.stage, Stage::Spent) {
             Stage::Logs(recorded, draft) => self.log_on(store, recorded, draft),

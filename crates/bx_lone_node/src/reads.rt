@@ -3,6 +3,7 @@
 ghost use Rattle.std.specs.Prelude.{◌≡◌, ◌⊎◌, ℕ, OnOk, None, Some};
 ghost use Rattle.bx_cache.specs.Cached.{block_at};
 ghost use Rattle.bx_disk.specs.Disks.{Disks};
+ghost use Rattle.bx_facts.specs.Disks.{NeedsNoMore};
 ghost use Rattle.bx_global.specs.declared.state.GlobalState.{GlobalState};
 ghost use Rattle.bx_layout.specs.Blocks.{SpellsBlock};
 ghost use Rattle.bx_layout.specs.declared.block.Block.{Block};
@@ -29,6 +30,7 @@ impl LoneNode {
         ensures node { OnOk result (self.new ≡ record self.old { stage = Reads at }) }
         ensures same { IsOfSame self.old self.new }
         ensures joined { OnOk result (IsJoined self.new (S.made store.new) (S.own store.new 0) (S.out_of store.new 0) (S.asked store.new 0)) }
+        ensures needs { NeedsNoMore (S.needs store.old) (S.needs store.new) }
         ensures stands { (volume : ℕ) (state : GlobalState) (x : Disks) (tree next : Tree) → NodeStands (S.keeps store.old) (S.stands store.old) (S.will_read store.old) (S.made store.old) (S.own store.old 0) (S.out_of store.old 0) (S.asked store.old 0) volume state x self.old tree next → OnOk result (NodeStands (S.keeps store.new) (S.stands store.new) (S.will_read store.new) (S.made store.new) (S.own store.new 0) (S.out_of store.new 0) (S.asked store.new 0) volume state x self.new tree next) }
     {
         let (device, sector) = place(at, self.devices, self.areas);
@@ -50,6 +52,7 @@ impl LoneNode {
         ensures same { IsOfSame self.old self.new }
         ensures stage { OnOk result ((self.new.stage ≡ self.old.stage) ⊎ (self.new.stage ≡ Idle)) }
         ensures joined { OnOk result (IsJoined self.new (S.made store.new) (S.own store.new 0) (S.out_of store.new 0) (S.asked store.new 0)) }
+        ensures needs { NeedsNoMore (S.needs store.old) (S.needs store.new) }
         ensures stands { (volume : ℕ) (state : GlobalState) (x : Disks) (tree next : Tree) → NodeStands (S.keeps store.old) (S.stands store.old) (S.will_read store.old) (S.made store.old) (S.own store.old 0) (S.out_of store.old 0) (S.asked store.old 0) volume state x self.old tree next → OnOk result (NodeStands (S.keeps store.new) (S.stands store.new) (S.will_read store.new) (S.made store.new) (S.own store.new 0) (S.out_of store.new 0) (S.asked store.new 0) volume state x self.new tree next) }
     {
         let Some(bytes) = store.arrived(NODE) else {

@@ -3,6 +3,7 @@
 ghost use Rattle.std.specs.Prelude.{◌≡◌, ℕ, false, None, Some, IsSome, OnOk};
 ghost use Rattle.bx_base.specs.declared.names.Actor.TheVariants.{Node};
 ghost use Rattle.bx_disk.specs.Disks.{Disks};
+ghost use Rattle.bx_facts.specs.Disks.{NeedsNoMore};
 ghost use Rattle.bx_facts.specs.Chains.{last};
 ghost use Rattle.bx_facts.specs.Writes.{AreRuns, MayWrite, StorePast};
 ghost use Rattle.bx_plain_store.specs.Out.{at};
@@ -44,6 +45,7 @@ pub(crate) fn send<S: Store>(store: &mut S, alloc: Global, runs: &Runs) -> Resul
     ensures is_out { (session : ℕ) → S.own store.old 0 ≡ Some session → OnOk result (S.out_of store.new 0 ≡ Some (sent_by session runs.now.1)) }
     ensures stays { (S.own store.new 0 ≡ S.own store.old 0) × (S.asked store.new 0 ≡ S.asked store.old 0) }
     ensures made { S.made store.new ≡ S.made store.old }
+    ensures needs { NeedsNoMore (S.needs store.old) (S.needs store.new) }
 {
     let mut out = Outbox::new(alloc);
     store.write(NODE, runs, FOR_EVER, &mut out)?;

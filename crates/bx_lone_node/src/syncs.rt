@@ -1,10 +1,10 @@
 //! A member's disk finishes a sync.
 
 ghost use Rattle.std.specs.Prelude.{◌≡◌, ◌<◌, ℕ, OnOk};
-ghost use Rattle.bx_facts.specs.Disks.{HasRoom};
+ghost use Rattle.bx_facts.specs.Disks.{HasRoom, NeedsNoMore};
 ghost use Rattle.bx_global.specs.Allowed.{IsAllowed};
 ghost use Rattle.bx_model.specs.declared.tree.Tree.{Tree};
-ghost use Rattle.bx_lone_node.specs.Node.{IsNode, NodeView};
+ghost use Rattle.bx_lone_node.specs.Node.{IsJoined, IsNode, NodeView};
 ghost use Rattle.bx_lone_node.specs.Standing.{NodeStands};
 
 use crate::stores::AskedStore;
@@ -27,6 +27,10 @@ pub fn sync<S: AskedStore, R: Rack>(
     requires known { ∥ IsAllowed known.now ∥₁ }
     ensures own { S.own store.new 0 ≡ S.own store.old 0 }
     ensures made { S.made store.new ≡ S.made store.old }
+    ensures joined { (node : NodeView) → IsJoined node (S.made store.old) (S.own store.old 0) (S.out_of store.old 0) (S.asked store.old 0) → OnOk result (IsJoined node (S.made store.new) (S.own store.new 0) (S.out_of store.new 0) (S.asked store.new 0)) }
+    ensures needs { NeedsNoMore (S.needs store.old) (S.needs store.new) }
+    ensures sizes { (R.state rack.new).sizes ≡ (R.state rack.old).sizes }
+    ensures keeps_telling { R.tells rack.old → R.tells rack.new }
     ensures stands { (volume : ℕ) (node : NodeView) (tree next : Tree) → R.tells rack.old → IsNode node
         → NodeStands (S.keeps store.old) (S.stands store.old) (S.will_read store.old) (S.made store.old) (S.own store.old 0) (S.out_of store.old 0) (S.asked store.old 0) volume known.now (R.state rack.old) node tree next
         → OnOk result (NodeStands (S.keeps store.new) (S.stands store.new) (S.will_read store.new) (S.made store.new) (S.own store.new 0) (S.out_of store.new 0) (S.asked store.new 0) volume known.now (R.state rack.new) node tree next) }

@@ -1,4 +1,4 @@
-use Rattle.std.proofs.Common.{◌≡◌, ℕ, List, sym, subst}
+use Rattle.std.proofs.Common.{◌≡◌, ℕ, ◌<◌, List, [], ◌∷◌, length, sym, subst, ap, arith}
 use Rattle.std.specs.Prelude.{slice_index_or}
 use Rattle.bx_cache.specs.Cached.{block_at}
 use Rattle.bx_inodes.specs.Stands.{Stands}
@@ -6,7 +6,13 @@ use Rattle.bx_model.specs.declared.tree.Tree.{Tree}
 use Rattle.bx_views.specs.Attempts.{Gives, IsFair}
 use Rattle.bx_views.specs.Truths.{Hints, IsTruth, Truth}
 use Rattle.bx_lone_node.specs.Node.{NodeView}
+use Rattle.bx_lone_node.specs.declared.stage.Waiting.{Waiting}
 use Rattle.bx_lone_node.proofs.node.LoneNode.try_head.Goals as goal
+
+-- the first of a list that has one
+first_of : (queue : List Waiting) (call : Waiting) → 0 < length queue → call ≡ slice_index_or queue 0 call → (rest : List Waiting) × (queue ≡ call ∷ rest)
+first_of [] call some is = absurd (omega arith)
+first_of (head ∷ rest) call some is = (rest, (let e : head ≡ call = sym is in ap (λ (one : Waiting). one ∷ rest) e))
 
 pub returns : goal.returns
 returns g c =
@@ -14,9 +20,11 @@ returns g c =
     let engine = c.args.engine.now in
     let call = c.in-Some.call.now in
     let attempt = c.in_ok-attempt.attempt in
+    let first = first_of c.self.inside.queue.items call c.in-Some.ensures.item.3.0 c.in-Some.ensures.lookup in
     record {
       call = call;
-      oldest = subst (λ (n : NodeView). call ≡ slice_index_or n.queue 0 call) c.self.view_is c.in-Some.ensures.lookup;
+      rest = first.0;
+      oldest = subst (λ (n : NodeView). n.queue ≡ call ∷ first.0) c.self.view_is first.1;
       gives = λ truth tree is stands.
           subst (λ (d : List ℕ). Gives (λ (other : Truth) (hints : Hints) (then : Tree). Stands (e.volume engine) (e.areas engine) other then) (e.step engine) (e.free engine truth) call.client d c.args.moment truth tree attempt) c.bytes.ensures
           (c.in_ok-attempt.ensures.gives truth tree (subst (λ (n : NodeView). IsTruth (λ at mode. block_at n.cache at) truth) (sym c.self.view_is) is) stands);

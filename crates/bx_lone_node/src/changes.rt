@@ -28,7 +28,7 @@ use bx_redo::Move;
 
 impl LoneNode {
     /// Begins the record of what a call changed at a point: its body goes out.
-    pub fn begin<S: AskedStore>(
+    pub(crate) fn begin<S: AskedStore>(
         &mut self,
         store: &mut S,
         recorded: Recorded,

@@ -1,7 +1,10 @@
 //! A member's disk finishes a sync.
 
-ghost use Rattle.std.specs.Prelude.{◌≡◌, ◌<◌, ℕ, OnOk};
+ghost use Rattle.std.specs.Prelude.{◌≡◌, ◌<◌, ℕ, IsErrOf, OnOk};
+ghost use Rattle.bx_base.specs.Faults.{Rose};
+ghost use Rattle.bx_disk.specs.Counts.{NoneFalls};
 ghost use Rattle.bx_facts.specs.Disks.{HasRoom, NeedsNoMore};
+ghost use Rattle.bx_facts.specs.declared.input.FactError.TheVariants.{Disk as DiskFails};
 ghost use Rattle.bx_global.specs.Allowed.{IsAllowed};
 ghost use Rattle.bx_model.specs.declared.tree.Tree.{Tree};
 ghost use Rattle.bx_lone_node.specs.Node.{IsJoined, IsNode, NodeView};
@@ -14,7 +17,8 @@ use bx_facts::{FactError, Input, Outbox};
 use bx_global::GlobalState;
 use std::alloc::Global;
 
-/// The disk of a member, from 0 to 7, has finished a sync: the store, which knows this state, works on the disks. The node stands as before.
+/// The disk of a member, from 0 to 7, has finished a sync: the store, which knows this state, works on the disks. The node stands as
+/// before. After an error, which is a disk's or want of memory, nothing is said of it.
 pub fn sync<S: AskedStore, R: Rack>(
     alloc: Global,
     store: &mut S,
@@ -29,6 +33,8 @@ pub fn sync<S: AskedStore, R: Rack>(
     ensures made { S.made store.new ≡ S.made store.old }
     ensures joined { (node : NodeView) → IsJoined node (S.made store.old) (S.own store.old 0) (S.out_of store.old 0) (S.asked store.old 0) → OnOk result (IsJoined node (S.made store.new) (S.own store.new 0) (S.out_of store.new 0) (S.asked store.new 0)) }
     ensures needs { NeedsNoMore (S.needs store.old) (S.needs store.new) }
+    ensures cause { IsErrOf result DiskFails → Rose (R.faults rack.old) (R.faults rack.new) }
+    ensures later { NoneFalls (R.faults rack.old) (R.faults rack.new) (R.faults_of rack.old) (R.faults_of rack.new) }
     ensures sizes { (R.state rack.new).sizes ≡ (R.state rack.old).sizes }
     ensures keeps_telling { R.tells rack.old → R.tells rack.new }
     ensures stands { (volume : ℕ) (node : NodeView) (tree next : Tree) → R.tells rack.old → IsNode node

@@ -30,7 +30,7 @@ use std::alloc::Global;
 /// chunks have another owner; chunks that nothing has, and marks of dead inodes that are wrong; and at last links and parents, for which
 /// the block of a wrong file's inode is named, `found` by its handle, which is `wanted` unless no entry names the file.
 ///
-/// Each block is read for its slot, and each chunk of a tree twice besides: for its kind, and by the inode that has it.
+/// Each block is read for its slot, and each chunk of a tree at most twice besides: for its kind, and by the inode that has it.
 pub fn audit<R: Rack>(
     alloc: Global,
     rack: &mut R,

@@ -18,7 +18,7 @@ use Rattle.bx_replay.specs.Headline.{IsBuilt, IsServedLine}
 use Rattle.bx_replay.specs.declared.stop.Stop.{Stop}
 use Rattle.bx_replay.specs.declared.stop.Stop.TheVariants as stops
 use Rattle.bx_replay.specs.Outcome.{IsBroken, IsFirstRefused, IsRefused, IsRefusedAt, IsServedSchedule}
-use Rattle.bx_replay.specs.Replay.{HasCause, Leaves, Wrote}
+use Rattle.bx_replay.specs.Replay.{HasCause, IsDiskCause, Leaves, Wrote}
 use Rattle.boxwood.specs.Report.{IsTold, message, status_of}
 
 -- the line of a schedule behind so many others
@@ -99,32 +99,32 @@ not_refused : (text : List ℕ) (schedule : List Line) (number : ℕ) (reason : 
 not_refused text schedule number reason is served refused =
     none_refused schedule refused.done refused.others reason (sym is.spelled ∙ refused.read) is.begins is.headed is.few served refused.refused
 
-pub completes : (Tells : Type 0) (Stands : Tree → Type 0) (stop : Stop) (status : ℕ) (text left old new : List ℕ) (schedule : List Line) (source_before source_now sink_before sink_now bench_before bench_now : ℕ)
-    → (status ≡ status_of stop) ⊎ ((status_of stop ≡ 2) × (status ≡ 9)) → HasCause stop source_before source_now sink_before sink_now bench_before bench_now
-    → (Rose source_before source_now → ⊥) → (Rose sink_before sink_now → ⊥) → (Rose bench_before bench_now → ⊥) → Leaves Tells Stands (Err stop) text left old new
+pub completes : (Tells : Type 0) (Stands : Tree → Type 0) (stop : Stop) (status : ℕ) (text left old new : List ℕ) (schedule : List Line) (source_before source_now sink_before sink_now : ℕ) (Bench : Type 0) (bench_before bench_now : ℕ)
+    → (status ≡ status_of stop) ⊎ ((status_of stop ≡ 2) × (status ≡ 9)) → HasCause stop source_before source_now sink_before sink_now Bench bench_before bench_now
+    → (Rose source_before source_now → ⊥) → (Rose sink_before sink_now → ⊥) → (IsDiskCause Bench bench_before bench_now → ⊥) → Leaves Tells Stands (Err stop) text left old new
     → IsSchedule (lines_of text) schedule → AllByRecursion IsServedLine schedule → (status ≡ 0) ⊎ (status ≡ 9)
-completes Tells Stands (stops.Refused number reason) status text left old new schedule a b c d e f told cause no_read no_write no_disk leaves is served =
+completes Tells Stands (stops.Refused number reason) status text left old new schedule a b c d bench e f told cause no_read no_write no_disk leaves is served =
     absurd (not_refused text schedule number reason is served leaves.0)
-completes Tells Stands stops.ReadFault status text left old new schedule a b c d e f told cause no_read no_write no_disk leaves is served = absurd (no_read cause)
-completes Tells Stands stops.WriteFault status text left old new schedule a b c d e f told cause no_read no_write no_disk leaves is served = absurd (no_write cause)
-completes Tells Stands stops.DiskFault status text left old new schedule a b c d e f told cause no_read no_write no_disk leaves is served = absurd (no_disk cause)
-completes Tells Stands stops.OutOfMemory status text left old new schedule a b c d e f (inl nine) cause no_read no_write no_disk leaves is served = inr nine
-completes Tells Stands stops.OutOfMemory status text left old new schedule a b c d e f (inr h) cause no_read no_write no_disk leaves is served = inr h.1
+completes Tells Stands stops.ReadFault status text left old new schedule a b c d bench e f told cause no_read no_write no_disk leaves is served = absurd (no_read cause)
+completes Tells Stands stops.WriteFault status text left old new schedule a b c d bench e f told cause no_read no_write no_disk leaves is served = absurd (no_write cause)
+completes Tells Stands stops.DiskFault status text left old new schedule a b c d bench e f told cause no_read no_write no_disk leaves is served = absurd (no_disk cause)
+completes Tells Stands stops.OutOfMemory status text left old new schedule a b c d bench e f (inl nine) cause no_read no_write no_disk leaves is served = inr nine
+completes Tells Stands stops.OutOfMemory status text left old new schedule a b c d bench e f (inr h) cause no_read no_write no_disk leaves is served = inr h.1
 
 -- A schedule with a line that is refused isn't replayed to its end.
 pub not_replayed : (text : List ℕ) (number : ℕ) (reason : Reason) → IsServedSchedule text → IsFirstRefused text number reason → ⊥
 not_replayed text number reason input refused = not_refused text input.schedule number reason input.read input.served refused
 
-pub refuses : (stop : Stop) (status source_before source_now sink_before sink_now bench_before bench_now : ℕ)
-    → (status ≡ status_of stop) ⊎ ((status_of stop ≡ 2) × (status ≡ 9)) → HasCause stop source_before source_now sink_before sink_now bench_before bench_now
-    → (Rose source_before source_now → ⊥) → (Rose sink_before sink_now → ⊥) → (Rose bench_before bench_now → ⊥) → (status ≡ 2) ⊎ (status ≡ 9)
-refuses (stops.Refused number reason) status a b c d e f (inl two) cause no_read no_write no_disk = inl two
-refuses (stops.Refused number reason) status a b c d e f (inr h) cause no_read no_write no_disk = inr h.1
-refuses stops.ReadFault status a b c d e f told cause no_read no_write no_disk = absurd (no_read cause)
-refuses stops.WriteFault status a b c d e f told cause no_read no_write no_disk = absurd (no_write cause)
-refuses stops.DiskFault status a b c d e f told cause no_read no_write no_disk = absurd (no_disk cause)
-refuses stops.OutOfMemory status a b c d e f (inl nine) cause no_read no_write no_disk = inr nine
-refuses stops.OutOfMemory status a b c d e f (inr h) cause no_read no_write no_disk = inr h.1
+pub refuses : (stop : Stop) (status source_before source_now sink_before sink_now : ℕ) (Bench : Type 0) (bench_before bench_now : ℕ)
+    → (status ≡ status_of stop) ⊎ ((status_of stop ≡ 2) × (status ≡ 9)) → HasCause stop source_before source_now sink_before sink_now Bench bench_before bench_now
+    → (Rose source_before source_now → ⊥) → (Rose sink_before sink_now → ⊥) → (IsDiskCause Bench bench_before bench_now → ⊥) → (status ≡ 2) ⊎ (status ≡ 9)
+refuses (stops.Refused number reason) status a b c d bench e f (inl two) cause no_read no_write no_disk = inl two
+refuses (stops.Refused number reason) status a b c d bench e f (inr h) cause no_read no_write no_disk = inr h.1
+refuses stops.ReadFault status a b c d bench e f told cause no_read no_write no_disk = absurd (no_read cause)
+refuses stops.WriteFault status a b c d bench e f told cause no_read no_write no_disk = absurd (no_write cause)
+refuses stops.DiskFault status a b c d bench e f told cause no_read no_write no_disk = absurd (no_disk cause)
+refuses stops.OutOfMemory status a b c d bench e f (inl nine) cause no_read no_write no_disk = inr nine
+refuses stops.OutOfMemory status a b c d bench e f (inr h) cause no_read no_write no_disk = inr h.1
 
 -- a status of 2 is that of a refused line
 pub refuses_at : (Source Tells Told : Type 0) (Stands : Tree → Type 0) (stop : Stop) (status : ℕ) (text left old new err_old err_new : List ℕ) (before now : ℕ)
@@ -182,3 +182,8 @@ breaks Tells Stands stops.ReadFault status text left old new (inr h) leaves brok
 breaks Tells Stands stops.WriteFault status text left old new is leaves broken tells = leaves tells
 breaks Tells Stands stops.DiskFault status text left old new is leaves broken tells = leaves tells
 breaks Tells Stands stops.OutOfMemory status text left old new is leaves broken tells = leaves tells
+
+-- a bench that tells what it holds, and whose faults didn't rise, is no cause
+pub no_cause : (Bench : Type 0) (before now : ℕ) → Bench → (Rose before now → ⊥) → IsDiskCause Bench before now → ⊥
+no_cause Bench before now tells none (inl rose) = none rose
+no_cause Bench before now tells none (inr not) = not tells

@@ -1,12 +1,11 @@
 -- No message makes an acceptor forget.
-use Rattle.std.proofs.Common.{◌≡◌, ℕ, ◌+◌, ◌<◌, ◌≤◌, ◌⊎◌, Option, Some, None, refl, sym, ap, subst, arith, inl, inr}
+use Rattle.std.proofs.Common.{◌≡◌, ◌+◌, ◌<◌, ◌≤◌, Option, refl, sym, subst, arith, inl, inr}
 use Rattle.bx_global.specs.declared.held.Held.{Held}
 use Rattle.bx_global.specs.declared.state.GlobalState.{GlobalState}
 use Rattle.bx_rows.specs.declared.ballot.Ballot.{Ballot}
-use Rattle.bx_rows.specs.Ballots.{ComesBefore}
 use Rattle.bx_packets.specs.declared.message.Message.{Message}
 use Rattle.bx_packets.specs.declared.message.Message.TheVariants.{Ask, Decided, Prepare, Promise as Promising, Accept, Accepted, Refused}
-use Rattle.bx_acceptor.specs.Handling.{AtMost, Handles, Learns, Prepares, Promises, Votes, accepting, caught_up, raised}
+use Rattle.bx_acceptor.specs.Handling.{AtMost, Handles, Learns, Prepares, Promises, Votes, caught_up}
 
 -- what is held leads on
 pub record LeadsOn (held new : Held) : Type 0 where

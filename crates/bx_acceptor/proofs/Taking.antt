@@ -1,8 +1,9 @@
 -- What an acceptor takes, and how it stands then.
-use Rattle.std.proofs.Common.{◌≡◌, ℕ, ◌+◌, ◌^◌, ◌<◌, List, length, Option, Some, None, IfSome, true, refl, sym, ap, subst, ◌∙◌, arith, inl}
+use Rattle.std.proofs.Common.{◌≡◌, ℕ, ◌+◌, ◌^◌, ◌<◌, List, length, Option, Some, None, IfSome, IfNone, Bool, true, ◌⊎◌, refl, sym, ap, subst, ◌∙◌, arith, inl, inr}
+use Rattle.std.proofs.lemmas.Bool.Decides.{eqb_tells}
 use Rattle.bx_base.specs.declared.names.Actor.{Actor}
 use Rattle.bx_calls.specs.Calls.{LeavesOnly}
-use Rattle.bx_cell.specs.Cells.{HasEither, Holds, Known, next}
+use Rattle.bx_cell.specs.Cells.{HasEither, Holds, Known, next, with_value}
 use Rattle.bx_cell.specs.Halves.{Found, cell_in}
 use Rattle.bx_cell.specs.Images.{EachSure}
 use Rattle.bx_disk.specs.Disks.{Disks, Image, IsImage}
@@ -11,14 +12,17 @@ use Rattle.bx_facts.specs.declared.input.Input.TheVariants.{Packet, Tick, Synced
 use Rattle.bx_global.specs.declared.held.Held.{Held}
 use Rattle.bx_global.specs.declared.state.GlobalState.{GlobalState}
 use Rattle.bx_global.specs.Allowed.{IsAllowed}
-use Rattle.bx_global.specs.Bytes.{HasCounts, IsHeld, SpellsHeld}
+use Rattle.bx_global.specs.Bytes.{HasCounts, IsHeld, SpellsHeld, held_text}
 use Rattle.bx_global.proofs.HeldText.{one_held}
 use Rattle.bx_packets.specs.declared.message.Message.{Message}
 use Rattle.bx_packets.specs.Messages.{IsMessage}
 use Rattle.bx_packets.proofs.Spelled.{one_message}
 use Rattle.bx_post.specs.declared.packets.Letter.{Letter}
-use Rattle.bx_acceptor.specs.Handling.{Changes, MayBecome, first_held}
-use Rattle.bx_acceptor.specs.Standing.{Answers, Brings, HasCell, IsCellOf, IsFound, IsNotFound, IsStanding, Standing, Takes, devices_of, with_found, without_cell}
+use Rattle.bx_acceptor.specs.declared.origin.Origin.{Origin}
+use Rattle.bx_acceptor.specs.declared.origin.Origin.TheVariants.{Made, Found as FoundAs, Apart}
+use Rattle.bx_acceptor.specs.Handling.{Changes, MayBecome, caught_up, first_held}
+use Rattle.bx_acceptor.specs.Standing.{Answers, BecomesBy, Brings, CatchesUp, HasCell, HasContent, IsAsFound, IsCellOf, IsFound, IsNotFound, IsStanding, Standing, Takes, TakesPart, cell_with, devices_of}
+use Rattle.bx_acceptor.specs.Starting.{HoldsOf, IsCellAt, StandsSo, StartsWith}
 
 -- ---- what comes
 
@@ -60,6 +64,14 @@ brought_here a b others input m f same count p = subst (λ (k : ℕ). Brings k i
 pub takes_here : (a b : Standing) (m : Message) → a ≡ b → Takes a m → Takes b m
 takes_here a b m same takes = subst (λ (s : Standing). Takes s m) same takes
 
+pub took_so : (a b : Standing) (others : ℕ) (input : Input) (held : Held) (m : Message) (f : Actor) (before after : List Letter) (new : Standing) (Same : Type 0) → a ≡ b → others ≡ devices_of a → Brings others input m f → Takes a m
+    → Answers a.replica a.held m f held before after → ((new ≡ b) × (after ≡ before) × Same) ⊎ ((message : Message) × (from : Actor) × Brings (devices_of b) input message from × Takes b message × Answers b.replica b.held message from held before after)
+took_so a b others input held m f before after new Same same count p takes did =
+    inr (m, f, brought_here a b others input m f same count p, takes_here a b m same takes, subst (λ (s : Standing). Answers s.replica s.held m f held before after) same did)
+
+pub became_so : (a b : Standing) (others : ℕ) (input : Input) (held : Held) (m : Message) (f : Actor) → a ≡ b → others ≡ devices_of a → Brings others input m f → MayBecome a.held m held → BecomesBy b input held
+became_so a b others input held m f same count p did = inr (m, f, brought_here a b others input m f same count p, subst (λ (s : Standing). MayBecome s.held m held) same did)
+
 pub changes_not : (a b : Standing) (others : ℕ) (input : Input) (m n : Message) (f t : Actor)
     → a ≡ b → others ≡ devices_of a → Brings others input m f → Brings (devices_of b) input n t
     → (Changes b.held n → ⊥) → Changes a.held m → ⊥
@@ -70,12 +82,43 @@ changes_not a b others input m n f t same count p q spare changes =
 
 -- ---- how it stands
 
-pub stands_with : (a : Standing) (held : Held) (cell : Option Known) → IsStanding a → IsHeld (devices_of a) held → IfSome cell (IsCellOf a.replica held)
-    → IsStanding (record { replica = a.replica; first = a.first; held = held; cell = cell })
+pub stands_with : (a : Standing) (held : Held) (cell : Option Known) → IsStanding a → IsHeld (devices_of a) held → IfSome cell (IsCellOf a.replica a.first a.origin held)
+    → IsStanding (record { replica = a.replica; first = a.first; origin = a.origin; held = held; cell = cell })
 stands_with a held cell is as_held as_cell = record { first = is.first; index = is.index; held = as_held; cell = as_cell }
 
-pub no_cell : (replica : ℕ) (held : Held) (cell : Option Known) → cell ≡ None → IfSome cell (IsCellOf replica held)
-no_cell replica held cell none = rw none tt
+-- what is put counts as it stands: its number is above the one that was found
+pub later_part : (origin : Origin) (number : ℕ) → TakesPart origin number → TakesPart origin (number + 1)
+later_part Made number part = tt
+later_part (FoundAs k) number part = omega (arith, part)
+later_part Apart number part = absurd part
+
+pub not_as_found : (origin : Origin) (number : ℕ) → TakesPart origin number → IsAsFound origin (number + 1) → ⊥
+not_as_found Made number part is = is
+not_as_found (FoundAs k) number part is = omega (arith, part, is)
+not_as_found Apart number part is = is
+
+pub put_content : (origin : Origin) (first : GlobalState) (old held : Held) (found : Found) → IsHeld (length first.devices) held → HasContent origin first old found → HasContent origin first held (next found (held_text held))
+put_content origin first old held found is has = record {
+  raw = held;
+  spells = record { is = is; parts = refl };
+  part = later_part origin found.number has.part;
+  catches = record { as_found = λ is. absurd (not_as_found origin found.number has.part is); as_put = λ put. refl };
+}
+
+-- a cell that was put has what is held, and one that wasn't has what it had
+pub cell_after : (replica : ℕ) (first : GlobalState) (origin : Origin) (old held : Held) (before : Option Known) (cell new : Known) (Same : Type 0) → IsHeld (length first.devices) held → IfSome before (IsCellOf replica first origin old) → before ≡ Some cell
+    → (new ≡ with_value cell (held_text held)) ⊎ ((new ≡ cell) × (held ≡ old) × Same) → IsCellOf replica first origin held new
+cell_after replica first origin old held before cell new Same as_held is at stored = by stored
+  where
+    this : IsCellOf replica first origin old cell
+    this = subst (λ (o : Option Known). IfSome o (IsCellOf replica first origin old)) at is
+
+    by : (new ≡ with_value cell (held_text held)) ⊎ ((new ≡ cell) × (held ≡ old) × Same) → IsCellOf replica first origin held new
+    by (inl put) = subst (IsCellOf replica first origin held) (sym put) (record { disk = this.disk; base = this.base; ready = refl; content = put_content origin first old held cell.found as_held this.content })
+    by (inr (kept, same, rest)) = subst (IsCellOf replica first origin held) (sym kept) (subst (λ (h : Held). IsCellOf replica first origin h cell) (sym same) this)
+
+pub no_cell : (replica : ℕ) (first : GlobalState) (origin : Origin) (held : Held) (cell : Option Known) → cell ≡ None → IfSome cell (IsCellOf replica first origin held)
+no_cell replica first origin held cell none = rw none tt
 
 pub first_is_held : (s : GlobalState) → IsAllowed s → s.index + 1 < 2 ^ 64 → IsHeld (length s.devices) (first_held s)
 first_is_held s is room = record {
@@ -94,22 +137,22 @@ counts_of s is = record { sessions = omega (arith, is.session_count); devices = 
 
 -- ---- where nothing is written
 
-has_either : (disks : Disks) (replica : ℕ) (held : Held) (cell : Known) (value : List ℕ) (image : Image) → IsCellOf replica held cell → IsImage disks image → Holds cell image
+has_either : (disks : Disks) (replica : ℕ) (first : GlobalState) (origin : Origin) (held : Held) (cell : Known) (value : List ℕ) (image : Image) → IsCellOf replica first origin held cell → IsImage disks image → Holds cell image
     → HasEither disks replica 1 cell.found (next cell.found value) image
-has_either disks replica held cell value image is left has =
+has_either disks replica first origin held cell value image is left has =
     let here : cell_in (image replica) 1 ≡ Some cell.found = subst (λ (d : ℕ). cell_in (image d) 1 ≡ Some cell.found) is.disk (subst (λ (base : ℕ). cell_in (image cell.disk) base ≡ Some cell.found) is.base has) in
     record {
       cell = inl here;
       outside = record { outside = record { elsewhere = λ d s differ sure. left.sure d s sure; before = λ s below sure. left.sure replica s sure; behind = λ s above sure. left.sure replica s sure } };
     }
 
-unmoved_at : (T : Type 0) (replica : ℕ) (held : Held) (cell : Option Known) (disks : Disks) (moment : ℕ) (since : ℕ → Image → Type 0) (value : List ℕ)
-    → IfSome cell (IsCellOf replica held) → (T → (image : Image) → since moment image → IsImage disks image)
+unmoved_at : (T : Type 0) (replica : ℕ) (first : GlobalState) (origin : Origin) (held : Held) (cell : Option Known) (disks : Disks) (moment : ℕ) (since : ℕ → Image → Type 0) (value : List ℕ)
+    → IfSome cell (IsCellOf replica first origin held) → (T → (image : Image) → since moment image → IsImage disks image)
     → IfSome cell (λ c. T → EachSure disks (λ image. IfSome cell (λ k. Holds k image)) → LeavesOnly moment moment since since (HasEither disks replica 1 c.found (next c.found value)))
-unmoved_at T replica held None disks moment since value is only = tt
-unmoved_at T replica held (Some c) disks moment since value is only = λ tells each. record {
+unmoved_at T replica first origin held None disks moment since value is only = tt
+unmoved_at T replica first origin held (Some c) disks moment since value is only = λ tells each. record {
   later = omega arith;
-  each = λ image left. has_either disks replica held c value image is (only tells image left) (each.each image (record { sure = (only tells image left).sure }));
+  each = λ image left. has_either disks replica first origin held c value image is (only tells image left) (each.each image (record { sure = (only tells image left).sure }));
   nothing_else = λ t image at_most left. inl left;
   keeps = λ t image at_most left. left;
 }
@@ -119,50 +162,91 @@ pub unmoved : (T : Type 0) (a b : Standing) (disks : Disks) (moment : ℕ) (sinc
     → IfSome b.cell (λ c. T → EachSure disks (HasCell b) → LeavesOnly moment moment since since (HasEither disks b.replica 1 c.found (next c.found value)))
 unmoved T a b disks moment since value same is only =
     let here : IsStanding b = subst IsStanding same is in
-    unmoved_at T b.replica b.held b.cell disks moment since value here.cell only
+    unmoved_at T b.replica b.first b.origin b.held b.cell disks moment since value here.cell only
 
 -- ---- what is found
 
-some_is : (f g : Found) → ◌≡◌ {A = Option Found} (Some f) (Some g) → f ≡ g
+pub some_is : (f g : Found) → ◌≡◌ {A = Option Found} (Some f) (Some g) → f ≡ g
 some_is f g e = cc
 
-with_found_by : (a : Standing) (sectors : ℕ → List ℕ) (found f : Found) (held h : Held) (cell : Known) → IsFound (devices_of a) sectors f h → cell.found ≡ f → IsCellOf a.replica h cell
-    → IsFound (devices_of a) sectors found held → record { replica = a.replica; first = a.first; held = h; cell = Some cell } ≡ with_found a found held
-with_found_by a sectors found f held h cell is names stands also =
-    let one : f ≡ found = some_is f found (sym is.in_cell ∙ also.in_cell) in
-    let spells : SpellsHeld held f.value (devices_of a) = subst (λ (x : Found). SpellsHeld held x.value (devices_of a)) (sym one) also.spells in
-    let same : h ≡ held = one_held (devices_of a) (devices_of a) f.value h held is.spells spells in
-    let here : cell ≡ record { disk = a.replica; base = 1; found = found; ready = true } = same_cell cell a.replica found stands.disk stands.base stands.ready (names ∙ one) in
-    rw (same, here) refl
+-- a disk has one cell, and one thing in it
+pub one_found : (devices : ℕ) (sectors : ℕ → List ℕ) (f g : Found) (h k : Held) → IsFound devices sectors f h → IsFound devices sectors g k → (f ≡ g) × (h ≡ k)
+one_found devices sectors f g h k is also =
+    let one : f ≡ g = some_is f g (sym is.in_cell ∙ also.in_cell) in
+    let spells : SpellsHeld k f.value devices = subst (λ (x : Found). SpellsHeld k x.value devices) (sym one) also.spells in
+    (one, one_held devices devices f.value h k is.spells spells)
+
+cell_is : (c : Known) (replica : ℕ) (raw : Held) → IsCellAt replica raw c → c ≡ cell_with replica c.found
+cell_is c replica raw at = same_cell c replica 1 true at.disk at.base at.ready
   where
-    same_cell : (c : Known) (disk : ℕ) (f : Found) → c.disk ≡ disk → c.base ≡ 1 → c.ready ≡ true → c.found ≡ f → c ≡ record { disk = disk; base = 1; found = f; ready = true }
-    same_cell c disk f p q r s = rw (sym p, sym q, sym r, sym s) refl
+    same_cell : (c : Known) (disk base : ℕ) (ready : Bool) → c.disk ≡ disk → c.base ≡ base → c.ready ≡ ready → c ≡ record { disk = disk; base = base; found = c.found; ready = ready }
+    same_cell c disk base ready p q r = rw (sym p, sym q, sym r) refl
 
-pub found_so : (a b : Standing) (others : ℕ) (reads : ℕ → ℕ → List ℕ) (found : Found) (held h : Held) (cell : Known) (x : Held × Option Known)
-    → a ≡ b → others ≡ devices_of a → x ≡ (h, Some cell) → IsFound others (reads a.replica) cell.found h → IsCellOf a.replica h cell
-    → IsFound (devices_of b) (reads b.replica) found held → record { replica = a.replica; first = a.first; held = x.0; cell = x.1 } ≡ with_found b found held
-found_so a b others reads found held h cell x same count is here stands also =
-    let back : IsFound (devices_of a) (reads a.replica) found held = subst (λ (s : Standing). IsFound (devices_of s) (reads s.replica) found held) (sym same) also in
-    let mine : IsFound (devices_of a) (reads a.replica) cell.found h = subst (λ (k : ℕ). IsFound k (reads a.replica) cell.found h) count here in
-    let done = with_found_by a (reads a.replica) found cell.found held h cell mine refl stands back in
-    subst (λ (s : Standing). record { replica = a.replica; first = a.first; held = x.0; cell = x.1 } ≡ with_found s found held) same
-    (subst (λ (y : Held × Option Known). record { replica = a.replica; first = a.first; held = y.0; cell = y.1 } ≡ with_found a found held) (sym is) done)
+none_is_some : (c : Known) → ◌≡◌ {A = Option Known} None (Some c) → ⊥
+none_is_some c e = cc
 
-pub found_not : (a b : Standing) (others : ℕ) (reads : ℕ → ℕ → List ℕ) → a ≡ b → others ≡ devices_of a → IsNotFound others (reads a.replica) → IsNotFound (devices_of b) (reads b.replica)
-found_not a b others reads same count none =
-    subst (λ (s : Standing). IsNotFound (devices_of s) (reads s.replica)) same (subst (λ (k : ℕ). IsNotFound k (reads a.replica)) count none)
+-- what an acceptor starts with
+pub starts_with : (replica : ℕ) (first : GlobalState) (origin : Origin) (sectors : ℕ → List ℕ) (found : Option (Known × Held)) (x : Held × Option Known)
+    → IfSome found (λ y. IsFound (length first.devices) sectors y.0.found y.1) → IfNone found (IsNotFound (length first.devices) sectors) → IfSome found (λ y. IsCellAt replica y.1 y.0 × IsHeld (length first.devices) y.1)
+    → HoldsOf first origin found x → StartsWith replica first origin sectors x.0 x.1
+starts_with replica first origin sectors None x some none at holds = record {
+  found = λ f raw part is. absurd (none f raw is);
+  none = λ never. holds;
+}
+starts_with replica first origin sectors (Some y) x some none at (inl (part, catches, is)) = record {
+  found = λ f raw part also.
+      let one = one_found (length first.devices) sectors y.0.found f y.1 raw some also in (
+        subst (λ (k : Found). CatchesUp origin first k.number raw x.0) one.0 (subst (λ (r : Held). CatchesUp origin first y.0.found.number r x.0) one.1 catches),
+        is ∙ ap (λ (c : Known). Some c) (cell_is y.0 replica y.1 at.0) ∙ ap (λ (k : Found). Some (cell_with replica k)) one.0,
+      );
+  none = λ never. absurd (never y.0.found y.1 part some);
+}
+starts_with replica first origin sectors (Some y) x some none at (inr (apart, held, cell)) = record {
+  found = λ f raw part also. let one = one_found (length first.devices) sectors y.0.found f y.1 raw some also in absurd (apart (subst (λ (k : Found). TakesPart origin k.number) (sym one.0) part));
+  none = λ never. (held, cell);
+}
 
-pub found_here : (a b : Standing) (others : ℕ) (reads : ℕ → ℕ → List ℕ) (f : Found) (h : Held) → a ≡ b → others ≡ devices_of a → IsFound others (reads a.replica) f h → IsFound (devices_of b) (reads b.replica) f h
-found_here a b others reads f h same count is =
-    subst (λ (s : Standing). IsFound (devices_of s) (reads s.replica) f h) same (subst (λ (k : ℕ). IsFound k (reads a.replica) f h) count is)
+-- what is held where a cell stands as it was found
+caught_is_held : (first : GlobalState) (raw : Held) → IsAllowed first → first.index + 1 < 2 ^ 64 → IsHeld (length first.devices) raw → IsHeld (length first.devices) (caught_up first raw)
+caught_is_held first raw is room held = record {
+  index = room;
+  promise = held.promise;
+  ballot = record { round = omega arith; actor = omega arith; boot = omega arith };
+  flag = omega arith;
+  accepted = is;
+  decided = is;
+  accepted_devices = refl;
+  decided_devices = refl;
+}
 
-pub none_so : (a b : Standing) (h : Held) (x : Held × Option Known) → a ≡ b → x ≡ (h, None) → h ≡ first_held a.first
-    → record { replica = a.replica; first = a.first; held = x.0; cell = x.1 } ≡ without_cell b.replica b.first
-none_so a b h x same is begins =
-    subst (λ (s : Standing). record { replica = a.replica; first = a.first; held = x.0; cell = x.1 } ≡ without_cell s.replica s.first) same
-    (subst (λ (y : Held × Option Known). record { replica = a.replica; first = a.first; held = y.0; cell = y.1 } ≡ without_cell a.replica a.first) (sym is) (rw begins refl))
+-- a number is the one that was found, or isn't
+pub is_as_found : (origin : Origin) (number : ℕ) → IsAsFound origin number ⊎ (IsAsFound origin number → ⊥)
+is_as_found Made number = inr (λ x. x)
+is_as_found (FoundAs k) number = elim (eqb_tells number k) [ inl same ↦ inl same.1 | inr differ ↦ inr differ.1 ]
+is_as_found Apart number = inr (λ x. x)
 
-pub stands_so : (a : Standing) (x : Held × Option Known) (h : Held) (cell : Option Known) → IsStanding a → x ≡ (h, cell) → IsHeld (devices_of a) h → IfSome cell (IsCellOf a.replica h)
-    → IsStanding (record { replica = a.replica; first = a.first; held = x.0; cell = x.1 })
-stands_so a x h cell is same as_held as_cell =
-    subst (λ (y : Held × Option Known). IsStanding (record { replica = a.replica; first = a.first; held = y.0; cell = y.1 })) (sym same) (stands_with a h cell is as_held as_cell)
+pub stands_so : (replica : ℕ) (first : GlobalState) (origin : Origin) (found : Option (Known × Held)) (x : Held × Option Known) → IsAllowed first → first.index + 1 < 2 ^ 64
+    → IfSome found (λ y. IsCellAt replica y.1 y.0 × IsHeld (length first.devices) y.1) → HoldsOf first origin found x → StandsSo replica first origin x.0 x.1
+stands_so replica first origin None x is room at (held, cell) = record {
+  held_is = subst (IsHeld (length first.devices)) (sym held) (first_is_held first is room);
+  cell_is = subst (λ (c : Option Known). IfSome c (IsCellOf replica first origin x.0)) (sym cell) tt;
+}
+stands_so replica first origin (Some y) x is room at (inr (apart, held, cell)) = record {
+  held_is = subst (IsHeld (length first.devices)) (sym held) (first_is_held first is room);
+  cell_is = subst (λ (c : Option Known). IfSome c (IsCellOf replica first origin x.0)) (sym cell) tt;
+}
+stands_so replica first origin (Some y) x is room at (inl (part, catches, cell)) =
+    elim (is_as_found origin y.0.found.number) [
+      | inl as_found ↦
+          let e : x.0 ≡ caught_up first y.1 = catches.as_found as_found in
+          record {
+            held_is = subst (IsHeld (length first.devices)) (sym e) (caught_is_held first y.1 is room at.1);
+            cell_is = subst (λ (c : Option Known). IfSome c (IsCellOf replica first origin x.0)) (sym cell) (record { disk = at.0.disk; base = at.0.base; ready = at.0.ready; content = record { raw = y.1; spells = record { is = at.1; parts = at.0.content }; part = part; catches = catches } });
+          }
+      | inr put ↦
+          let e : x.0 ≡ y.1 = catches.as_put put in
+          record {
+            held_is = subst (IsHeld (length first.devices)) (sym e) at.1;
+            cell_is = subst (λ (c : Option Known). IfSome c (IsCellOf replica first origin x.0)) (sym cell) (record { disk = at.0.disk; base = at.0.base; ready = at.0.ready; content = record { raw = y.1; spells = record { is = at.1; parts = at.0.content }; part = part; catches = catches } });
+          }
+    ]

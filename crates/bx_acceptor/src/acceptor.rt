@@ -2,25 +2,25 @@
 
 ghost use Rattle.std.specs.Prelude.{◌≡◌, ℕ, ◌+◌, ◌^◌, ◌<◌, ◌≤◌, ◌⊎◌, None, Some, IfOk, IfSome, IsErrOf, OnErr, OnOk, slice_index};
 ghost use Rattle.bx_base.specs.declared.names.Actor.{Actor};
-ghost use Rattle.bx_disk.specs.Disks.{IsImage};
-ghost use Rattle.bx_disk.specs.Counts.{NoneFalls, NoneRose, BothRose};
-ghost use Rattle.bx_calls.specs.Calls.{KeepsAll, KeepsSure, HasSure, LeavesOnly};
+ghost use Rattle.bx_disk.specs.Counts.{NoneRose, BothRose};
+ghost use Rattle.bx_calls.specs.Calls.{LeavesOnly};
 ghost use Rattle.bx_calls.specs.Regions.{IsSynced};
-ghost use Rattle.bx_cell.specs.Halves.{Found};
 ghost use Rattle.bx_cell.specs.Images.{EachSure};
 ghost use Rattle.bx_cell.specs.Cells.{HasEither, next, with_value};
 ghost use Rattle.bx_facts.specs.declared.input.FactError.TheVariants.{Disk as DiskFails};
 ghost use Rattle.bx_global.specs.Allowed.{IsAllowed};
 ghost use Rattle.bx_global.specs.Bytes.{held_text};
-ghost use Rattle.bx_global.specs.declared.held.Held.{Held};
 ghost use Rattle.bx_packets.specs.declared.message.Message.{Message};
 ghost use Rattle.bx_places.specs.Places.{replica_sectors};
+ghost use Rattle.bx_acceptor.specs.Disks.{Counts, Syncs, Writes};
 ghost use Rattle.bx_acceptor.specs.Handling.{Changes, MayBecome};
-ghost use Rattle.bx_acceptor.specs.Standing.{Answers, Brings, HasCell, IsFound, IsNotFound, IsStanding, Takes, devices_of, stopped, with_found, without_cell};
+ghost use Rattle.bx_acceptor.specs.Standing.{Answers, BecomesBy, Brings, HasCell, IsStanding, Takes, TakesIn, devices_of, stopped, without_cell};
+ghost use Rattle.bx_acceptor.specs.Starting.{StartsWith};
 
 use crate::hearing::heard;
+use crate::origin::Origin;
 use crate::serving::serve;
-use crate::starting::{found, make_held};
+use crate::starting::{begin, make_held};
 use bx_base::OutOfMemory;
 use bx_cell::Cell;
 use bx_disk::Rack;
@@ -38,6 +38,7 @@ pub struct Acceptor {
     alloc: Global,
     replica: u32,
     first: GlobalState,
+    origin: Origin,
     held: Held,
     cell: Option<Cell>,
 }
@@ -47,9 +48,9 @@ impl Model for Acceptor {
 
     ghost Value = { Standing };
 
-    ghost view = { λ a. record { replica = a.replica; first = a.first; held = a.held; cell = a.cell } };
+    ghost view = { λ a. record { replica = a.replica; first = a.first; origin = a.origin; held = a.held; cell = a.cell } };
 
-    ghost invariant = { λ a. IsStanding (record { replica = a.replica; first = a.first; held = a.held; cell = a.cell }) };
+    ghost invariant = { λ a. IsStanding (record { replica = a.replica; first = a.first; origin = a.origin; held = a.held; cell = a.cell }) };
 }
 
 impl Acceptor {
@@ -61,15 +62,21 @@ impl Acceptor {
     }
 
     /// The acceptor of a replica of a volume that begins with a state. It has no cell until it starts.
-    pub fn new(alloc: Global, replica: u32, state: &GlobalState) -> Result<Acceptor, OutOfMemory>
+    pub fn new(
+        alloc: Global,
+        replica: u32,
+        state: &GlobalState,
+        origin: Origin,
+    ) -> Result<Acceptor, OutOfMemory>
         requires state { IsAllowed state.now }
         requires index { state.now.index + 1 < 2 ^ 64 }
-        ensures { IfOk result (λ a. a ≡ without_cell replica state.now) }
+        ensures { IfOk result (λ a. a ≡ without_cell replica state.now origin) }
     {
         Ok(Acceptor {
             alloc,
             replica,
             first: state.copy(alloc)?,
+            origin,
             held: make_held(alloc, state)?,
             cell: None,
         })
@@ -82,31 +89,24 @@ impl Acceptor {
         self.replica
     }
 
-    /// Starts, with what its disk holds. Where that has no cell that can be read, it knows the first state, and takes no
-    /// packet.
+    /// Starts, with what its disk holds. Where that has no cell that can be read, or the replica takes no part, it knows the first state, and
+    /// takes no packet. Where its cell stands as it was found, it knows the first state and keeps its promise.
     pub fn restart<R: Rack>(&mut self, rack: &mut R) -> Result<(), FactError>
         requires room { replica_sectors ≤ slice_index (R.state rack.old).sizes self.old.replica }
-        ensures found { R.tells rack.old → (found : Found) (held : Held) → IsFound (devices_of self.old) ((R.state rack.old).reads self.old.replica) found held → OnOk result (self.new ≡ with_found self.old found held) }
-        ensures not_found { R.tells rack.old → IsNotFound (devices_of self.old) ((R.state rack.old).reads self.old.replica) → OnOk result (self.new ≡ without_cell self.old.replica self.old.first) }
+        ensures starts { R.tells rack.old → OnOk result (StartsWith self.old.replica self.old.first self.old.origin ((R.state rack.old).reads self.old.replica) self.new.held self.new.cell) }
         ensures failed { OnErr result (self.new ≡ stopped self.old) }
-        ensures stays { (self.new.replica ≡ self.old.replica) × (self.new.first ≡ self.old.first) }
+        ensures stays { (self.new.replica ≡ self.old.replica) × (self.new.first ≡ self.old.first) × (self.new.origin ≡ self.old.origin) }
         ensures standing { IsStanding self.new }
         ensures holds { R.tells rack.old → OnOk result (EachSure (R.state rack.new) (HasCell self.new)) }
         ensures sure { R.tells rack.old → OnOk result (IsSynced (R.state rack.new) self.old.replica) }
-        ensures keeps { R.tells rack.old → KeepsAll (R.state rack.old) (R.state rack.new) self.old.replica }
-        ensures any_moment { R.tells rack.old → LeavesOnly (R.moment rack.old) (R.moment rack.new) (R.left_since rack.old) (R.left_since rack.new) (IsImage (R.state rack.old)) }
+        ensures disks { R.tells rack.old → Syncs (R.state rack.old) (R.state rack.new) (R.moment rack.old) (R.moment rack.new) (R.left_since rack.old) (R.left_since rack.new) self.old.replica }
+        ensures counts { Counts (R.state rack.old).sizes (R.state rack.new).sizes (R.faults rack.old) (R.faults rack.new) (R.faults_of rack.old) (R.faults_of rack.new) }
         ensures cause { IsErrOf result DiskFails → BothRose (R.faults rack.old) (R.faults rack.new) (R.faults_of rack.old) (R.faults_of rack.new) self.old.replica }
-        ensures later { NoneFalls (R.faults rack.old) (R.faults rack.new) (R.faults_of rack.old) (R.faults_of rack.new) }
         ensures no_fault { OnOk result (NoneRose (R.faults rack.old) (R.faults rack.new) (R.faults_of rack.old) (R.faults_of rack.new)) }
-        ensures sizes { (R.state rack.new).sizes ≡ (R.state rack.old).sizes }
         ensures keeps_telling { R.tells rack.old → R.tells rack.new }
     {
         self.cell = None;
-        let devices = self.first.devices.len() as u32;
-        let (held, cell) = match found(self.alloc, rack, self.replica, devices)? {
-            Some((cell, held)) => (held, Some(cell)),
-            None => (make_held(self.alloc, &self.first)?, None),
-        };
+        let (held, cell) = begin(self.alloc, rack, self.replica, &self.first, self.origin)?;
         self.held = held;
         self.cell = cell;
         Ok(())
@@ -124,25 +124,25 @@ impl Acceptor {
             → OnOk result (Answers self.old.replica self.old.held message from self.new.held out.old out.new) }
         ensures ignores { ((message : Message) (from : Actor) → Brings (devices_of self.old) input.now message from → Takes self.old message → ⊥)
             → (self.new ≡ self.old) × (out.new ≡ out.old) × (rack.new ≡ rack.old) }
+        ensures took { OnOk result (TakesIn self.old input.now self.new out.old out.new (rack.new ≡ rack.old)) }
+        ensures became { BecomesBy self.old input.now self.new.held }
         ensures unsent { OnErr result (out.new ≡ out.old) }
         ensures becomes { (message : Message) (from : Actor) → Brings (devices_of self.old) input.now message from → MayBecome self.old.held message self.new.held }
         ensures stored { OnOk result (IfSome self.old.cell (λ cell. (self.new.cell ≡ Some (with_value cell (held_text self.new.held))) ⊎ ((self.new ≡ self.old) × (rack.new ≡ rack.old)))) }
         ensures spare { (message : Message) (from : Actor) → Brings (devices_of self.old) input.now message from → (Changes self.old.held message → ⊥) → rack.new ≡ rack.old }
         ensures fault { IsErrOf result DiskFails → self.new.cell ≡ None }
         ensures failed { OnErr result ((self.new ≡ self.old) ⊎ (self.new.cell ≡ None)) }
-        ensures stays { (self.new.replica ≡ self.old.replica) × (self.new.first ≡ self.old.first) }
+        ensures stays { (self.new.replica ≡ self.old.replica) × (self.new.first ≡ self.old.first) × (self.new.origin ≡ self.old.origin) }
         ensures standing { IsStanding self.new }
         ensures holds { R.tells rack.old → EachSure (R.state rack.old) (HasCell self.old) → OnOk result (EachSure (R.state rack.new) (HasCell self.new)) }
         ensures any_moment { IfSome self.old.cell (λ cell. R.tells rack.old → EachSure (R.state rack.old) (HasCell self.old)
             → LeavesOnly (R.moment rack.old) (R.moment rack.new) (R.left_since rack.old) (R.left_since rack.new) (HasEither (R.state rack.old) self.old.replica 1 cell.found (next cell.found (held_text self.new.held)))) }
         ensures either { IfSome self.old.cell (λ cell. R.tells rack.old → EachSure (R.state rack.old) (HasCell self.old)
             → EachSure (R.state rack.new) (HasEither (R.state rack.old) self.old.replica 1 cell.found (next cell.found (held_text self.new.held)))) }
-        ensures keeps { R.tells rack.old → KeepsSure (R.state rack.old) (R.state rack.new) self.old.replica 1 20 }
-        ensures beside { R.tells rack.old → LeavesOnly (R.moment rack.old) (R.moment rack.new) (R.left_since rack.old) (R.left_since rack.new) (HasSure (R.state rack.old) self.old.replica 1 20) }
+        ensures disks { R.tells rack.old → Writes (R.state rack.old) (R.state rack.new) (R.moment rack.old) (R.moment rack.new) (R.left_since rack.old) (R.left_since rack.new) self.old.replica }
         ensures cause { IsErrOf result DiskFails → BothRose (R.faults rack.old) (R.faults rack.new) (R.faults_of rack.old) (R.faults_of rack.new) self.old.replica }
-        ensures later { NoneFalls (R.faults rack.old) (R.faults rack.new) (R.faults_of rack.old) (R.faults_of rack.new) }
+        ensures counts { Counts (R.state rack.old).sizes (R.state rack.new).sizes (R.faults rack.old) (R.faults rack.new) (R.faults_of rack.old) (R.faults_of rack.new) }
         ensures no_fault { OnOk result (NoneRose (R.faults rack.old) (R.faults rack.new) (R.faults_of rack.old) (R.faults_of rack.new)) }
-        ensures sizes { (R.state rack.new).sizes ≡ (R.state rack.old).sizes }
         ensures keeps_telling { R.tells rack.old → R.tells rack.new }
     {
         let devices = self.first.devices.len() as u32;

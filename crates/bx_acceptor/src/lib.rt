@@ -4,6 +4,7 @@
 mod acceptor;
 mod hearing;
 mod laws;
+mod origin;
 mod replies;
 mod saving;
 mod serving;
@@ -12,4 +13,5 @@ mod steps;
 
 pub use acceptor::Acceptor;
 pub use laws::messages_lead_on;
+pub use origin::Origin;
 pub use starting::first_value;

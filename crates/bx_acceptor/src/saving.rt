@@ -1,12 +1,13 @@
 //! Writing what an acceptor holds into its cell.
 
-ghost use Rattle.std.specs.Prelude.{◌≡◌, ℕ, ◌+◌, ◌^◌, ◌<◌, ◌≤◌, ◌⊎◌, false, true, length, slice_index, OnErr, OnOk, IsErrOf};
-ghost use Rattle.bx_disk.specs.Counts.{NoneFalls, NoneRose, BothRose};
-ghost use Rattle.bx_calls.specs.Calls.{KeepsSure, HasSure, LeavesOnly};
+ghost use Rattle.std.specs.Prelude.{◌≡◌, ℕ, ◌+◌, ◌^◌, ◌<◌, ◌≤◌, ◌⊎◌, false, true, slice_index, OnOk, IsErrOf};
+ghost use Rattle.bx_disk.specs.Counts.{NoneRose, BothRose};
+ghost use Rattle.bx_calls.specs.Calls.{LeavesOnly};
 ghost use Rattle.bx_cell.specs.Images.{EachSure};
 ghost use Rattle.bx_cell.specs.Cells.{HasEither, Holds, next, shut, with_value};
 ghost use Rattle.bx_facts.specs.declared.input.FactError.TheVariants.{Disk as DiskFails, OutOfMemory as WantsMemory};
 ghost use Rattle.bx_global.specs.Bytes.{IsHeld, held_text};
+ghost use Rattle.bx_acceptor.specs.Disks.{Counts, Writes};
 ghost use Rattle.bx_acceptor.specs.Saving.{IsSaved};
 
 use bx_cell::{Cell, CellError};
@@ -25,23 +26,22 @@ pub(crate) fn save<R: Rack>(
 ) -> Result<(), FactError>
     requires held { (devices : ℕ) × IsHeld devices held.now }
     requires ready { cell.old.ready ≡ true }
+    requires base { cell.old.base ≡ 1 }
     requires number { changed ≡ true → cell.old.found.number + 1 < 2 ^ 64 }
-    requires range { cell.old.base + 20 ≤ slice_index (R.state rack.old).sizes cell.old.disk }
+    requires range { 21 ≤ slice_index (R.state rack.old).sizes cell.old.disk }
     ensures saved { OnOk result (IsSaved changed cell.old (held_text held.now) cell.new) }
     ensures quiet { changed ≡ false → rack.new ≡ rack.old }
     ensures fault { IsErrOf result DiskFails → cell.new ≡ shut cell.old }
     ensures memory { IsErrOf result WantsMemory → (cell.new ≡ cell.old) ⊎ (cell.new ≡ shut cell.old) }
     ensures holds { R.tells rack.old → EachSure (R.state rack.old) (Holds cell.old) → OnOk result (EachSure (R.state rack.new) (Holds cell.new)) }
     ensures any_moment { R.tells rack.old → EachSure (R.state rack.old) (Holds cell.old)
-        → LeavesOnly (R.moment rack.old) (R.moment rack.new) (R.left_since rack.old) (R.left_since rack.new) (HasEither (R.state rack.old) cell.old.disk cell.old.base cell.old.found (next cell.old.found (held_text held.now))) }
+        → LeavesOnly (R.moment rack.old) (R.moment rack.new) (R.left_since rack.old) (R.left_since rack.new) (HasEither (R.state rack.old) cell.old.disk 1 cell.old.found (next cell.old.found (held_text held.now))) }
     ensures either { R.tells rack.old → EachSure (R.state rack.old) (Holds cell.old)
-        → EachSure (R.state rack.new) (HasEither (R.state rack.old) cell.old.disk cell.old.base cell.old.found (next cell.old.found (held_text held.now))) }
-    ensures keeps { R.tells rack.old → KeepsSure (R.state rack.old) (R.state rack.new) cell.old.disk cell.old.base 20 }
-    ensures beside { R.tells rack.old → LeavesOnly (R.moment rack.old) (R.moment rack.new) (R.left_since rack.old) (R.left_since rack.new) (HasSure (R.state rack.old) cell.old.disk cell.old.base 20) }
+        → EachSure (R.state rack.new) (HasEither (R.state rack.old) cell.old.disk 1 cell.old.found (next cell.old.found (held_text held.now))) }
+    ensures disks { R.tells rack.old → Writes (R.state rack.old) (R.state rack.new) (R.moment rack.old) (R.moment rack.new) (R.left_since rack.old) (R.left_since rack.new) cell.old.disk }
     ensures cause { IsErrOf result DiskFails → BothRose (R.faults rack.old) (R.faults rack.new) (R.faults_of rack.old) (R.faults_of rack.new) cell.old.disk }
-    ensures later { NoneFalls (R.faults rack.old) (R.faults rack.new) (R.faults_of rack.old) (R.faults_of rack.new) }
+    ensures counts { Counts (R.state rack.old).sizes (R.state rack.new).sizes (R.faults rack.old) (R.faults rack.new) (R.faults_of rack.old) (R.faults_of rack.new) }
     ensures no_fault { OnOk result (NoneRose (R.faults rack.old) (R.faults rack.new) (R.faults_of rack.old) (R.faults_of rack.new)) }
-    ensures sizes { (R.state rack.new).sizes ≡ (R.state rack.old).sizes }
     ensures keeps_telling { R.tells rack.old → R.tells rack.new }
 {
     if !changed {

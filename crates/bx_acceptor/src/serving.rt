@@ -2,15 +2,16 @@
 
 ghost use Rattle.std.specs.Prelude.{◌≡◌, ℕ, ◌+◌, ◌^◌, ◌<◌, ◌≤◌, ◌⊎◌, true, length, slice_index, OnErr, OnOk, IsErrOf};
 ghost use Rattle.bx_base.specs.declared.names.Actor.{Actor};
-ghost use Rattle.bx_disk.specs.Counts.{NoneFalls, NoneRose, BothRose};
-ghost use Rattle.bx_calls.specs.Calls.{KeepsSure, HasSure, LeavesOnly};
+ghost use Rattle.bx_disk.specs.Counts.{NoneRose, BothRose};
+ghost use Rattle.bx_calls.specs.Calls.{LeavesOnly};
 ghost use Rattle.bx_cell.specs.Images.{EachSure};
 ghost use Rattle.bx_cell.specs.Cells.{HasEither, Holds, next, with_value};
 ghost use Rattle.bx_facts.specs.declared.input.FactError.TheVariants.{Disk as DiskFails};
 ghost use Rattle.bx_global.specs.Bytes.{IsHeld, held_text};
 ghost use Rattle.bx_packets.specs.Messages.{IsMessage};
+ghost use Rattle.bx_acceptor.specs.Disks.{Counts, Writes};
 ghost use Rattle.bx_acceptor.specs.Handling.{Changes, MayBecome};
-ghost use Rattle.bx_acceptor.specs.Standing.{Answers, IsCellOf, IsTaken};
+ghost use Rattle.bx_acceptor.specs.Standing.{Answers, IsTaken};
 
 use crate::replies::tell;
 use crate::saving::save;
@@ -36,7 +37,7 @@ pub(crate) fn serve<R: Rack>(
     out: &mut Outbox,
 ) -> Result<(), FactError>
     requires held { (devices : ℕ) × IsHeld devices held.old × IsMessage devices message }
-    requires cell { IsCellOf replica held.old cell.old }
+    requires cell { (cell.old.disk ≡ replica) × (cell.old.base ≡ 1) × (cell.old.ready ≡ true) }
     requires taken { IsTaken cell.old.found.number message }
     requires range { 21 ≤ slice_index (R.state rack.old).sizes replica }
     ensures answers { OnOk result (Answers replica held.old message from held.new out.old out.new) }
@@ -45,18 +46,15 @@ pub(crate) fn serve<R: Rack>(
     ensures held { (devices : ℕ) → IsHeld devices held.old → IsMessage devices message → IsHeld devices held.new }
     ensures stored { OnOk result ((cell.new ≡ with_value cell.old (held_text held.new)) ⊎ ((cell.new ≡ cell.old) × (held.new ≡ held.old) × (rack.new ≡ rack.old))) }
     ensures spare { (Changes held.old message → ⊥) → rack.new ≡ rack.old }
-    ensures cell { OnOk result (IsCellOf replica held.new cell.new) }
     ensures holds { R.tells rack.old → EachSure (R.state rack.old) (Holds cell.old) → OnOk result (EachSure (R.state rack.new) (Holds cell.new)) }
     ensures any_moment { R.tells rack.old → EachSure (R.state rack.old) (Holds cell.old)
         → LeavesOnly (R.moment rack.old) (R.moment rack.new) (R.left_since rack.old) (R.left_since rack.new) (HasEither (R.state rack.old) replica 1 cell.old.found (next cell.old.found (held_text held.new))) }
     ensures either { R.tells rack.old → EachSure (R.state rack.old) (Holds cell.old)
         → EachSure (R.state rack.new) (HasEither (R.state rack.old) replica 1 cell.old.found (next cell.old.found (held_text held.new))) }
-    ensures keeps { R.tells rack.old → KeepsSure (R.state rack.old) (R.state rack.new) replica 1 20 }
-    ensures beside { R.tells rack.old → LeavesOnly (R.moment rack.old) (R.moment rack.new) (R.left_since rack.old) (R.left_since rack.new) (HasSure (R.state rack.old) replica 1 20) }
+    ensures disks { R.tells rack.old → Writes (R.state rack.old) (R.state rack.new) (R.moment rack.old) (R.moment rack.new) (R.left_since rack.old) (R.left_since rack.new) replica }
     ensures cause { IsErrOf result DiskFails → BothRose (R.faults rack.old) (R.faults rack.new) (R.faults_of rack.old) (R.faults_of rack.new) replica }
-    ensures later { NoneFalls (R.faults rack.old) (R.faults rack.new) (R.faults_of rack.old) (R.faults_of rack.new) }
+    ensures counts { Counts (R.state rack.old).sizes (R.state rack.new).sizes (R.faults rack.old) (R.faults rack.new) (R.faults_of rack.old) (R.faults_of rack.new) }
     ensures no_fault { OnOk result (NoneRose (R.faults rack.old) (R.faults rack.new) (R.faults_of rack.old) (R.faults_of rack.new)) }
-    ensures sizes { (R.state rack.new).sizes ≡ (R.state rack.old).sizes }
     ensures keeps_telling { R.tells rack.old → R.tells rack.new }
 {
     let step = handle(alloc, held, message)?;

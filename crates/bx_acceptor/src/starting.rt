@@ -1,19 +1,20 @@
 //! What an acceptor begins with.
 
-ghost use Rattle.std.specs.Prelude.{◌≡◌, ℕ, ◌+◌, ◌^◌, ◌<◌, ◌≤◌, Some, IfNone, IfOk, IfSome, IsErrOf, OnOk, slice_index};
-ghost use Rattle.bx_disk.specs.Disks.{IsImage};
-ghost use Rattle.bx_disk.specs.Counts.{NoneFalls, NoneRose, BothRose};
-ghost use Rattle.bx_calls.specs.Calls.{KeepsAll, LeavesOnly};
+ghost use Rattle.std.specs.Prelude.{◌≡◌, ℕ, ◌+◌, ◌^◌, ◌<◌, ◌≤◌, ◌↔◌, IfNone, IfOk, IfSome, IsErrOf, IsTrue, OnOk, slice_index};
+ghost use Rattle.bx_disk.specs.Counts.{NoneRose, BothRose};
 ghost use Rattle.bx_calls.specs.Regions.{IsSynced};
-ghost use Rattle.bx_cell.specs.Images.{EachSure};
 ghost use Rattle.bx_cell.specs.Cells.{Holds};
+ghost use Rattle.bx_cell.specs.Images.{EachSure};
 ghost use Rattle.bx_facts.specs.declared.input.FactError.TheVariants.{Disk as DiskFails};
 ghost use Rattle.bx_global.specs.Allowed.{IsAllowed};
 ghost use Rattle.bx_global.specs.Bytes.{IsHeld, held_text};
+ghost use Rattle.bx_acceptor.specs.Disks.{Counts, Syncs};
 ghost use Rattle.bx_acceptor.specs.Handling.{first_held};
-ghost use Rattle.bx_acceptor.specs.Standing.{IsCellOf, IsFound, IsNotFound};
+ghost use Rattle.bx_acceptor.specs.Standing.{CatchesUp, IsAsFound, IsFound, IsNotFound, TakesPart};
+ghost use Rattle.bx_acceptor.specs.Starting.{HoldsOf, IsCellAt, StandsSo, StartsWith};
 
-use crate::steps::NO_BALLOT;
+use crate::origin::Origin;
+use crate::steps::{NO_BALLOT, catch_up};
 use bx_base::{OutOfMemory, Raw};
 use bx_cell::{Cell, CellError};
 use bx_disk::Rack;
@@ -49,8 +50,94 @@ pub(crate) fn make_held(alloc: Global, state: &GlobalState) -> Result<Held, OutO
     })
 }
 
+/// What an acceptor begins with that starts: what it holds, and its cell, where it takes part and one can be read.
+pub(crate) fn begin<R: Rack>(
+    alloc: Global,
+    rack: &mut R,
+    replica: u32,
+    first: &GlobalState,
+    origin: Origin,
+) -> Result<(Held, Option<Cell>), FactError>
+    requires room { 21 ≤ slice_index (R.state rack.old).sizes replica }
+    requires state { IsAllowed first.now }
+    requires index { first.now.index + 1 < 2 ^ 64 }
+    ensures starts { R.tells rack.old → IfOk result (λ x. StartsWith replica first.now origin ((R.state rack.old).reads replica) x.0 x.1) }
+    ensures stands { IfOk result (λ x. StandsSo replica first.now origin x.0 x.1) }
+    ensures holds { R.tells rack.old → IfOk result (λ x. EachSure (R.state rack.new) (λ image. IfSome x.1 (λ cell. Holds cell image))) }
+    ensures sure { R.tells rack.old → OnOk result (IsSynced (R.state rack.new) replica) }
+    ensures disks { R.tells rack.old → Syncs (R.state rack.old) (R.state rack.new) (R.moment rack.old) (R.moment rack.new) (R.left_since rack.old) (R.left_since rack.new) replica }
+    ensures counts { Counts (R.state rack.old).sizes (R.state rack.new).sizes (R.faults rack.old) (R.faults rack.new) (R.faults_of rack.old) (R.faults_of rack.new) }
+    ensures cause { IsErrOf result DiskFails → BothRose (R.faults rack.old) (R.faults rack.new) (R.faults_of rack.old) (R.faults_of rack.new) replica }
+    ensures no_fault { OnOk result (NoneRose (R.faults rack.old) (R.faults rack.new) (R.faults_of rack.old) (R.faults_of rack.new)) }
+    ensures keeps_telling { R.tells rack.old → R.tells rack.new }
+{
+    let found = found(alloc, rack, replica, first.devices.len() as u32)?;
+    Ok(hold(alloc, first, origin, found)?)
+}
+
+/// What an acceptor holds of a cell that was found on its disk.
+fn hold(
+    alloc: Global,
+    first: &GlobalState,
+    origin: Origin,
+    found: Option<(Cell, Held)>,
+) -> Result<(Held, Option<Cell>), OutOfMemory>
+    requires { first.now.index + 1 < 2 ^ 64 }
+    ensures { IfOk result (HoldsOf first.now origin found) }
+{
+    let Some((cell, raw)) = found else {
+        return Ok((make_held(alloc, first)?, None));
+    };
+    if !takes_part(origin, cell.number()) {
+        return Ok((make_held(alloc, first)?, None));
+    }
+    let held = caught_up(alloc, first, origin, cell.number(), raw)?;
+    Ok((held, Some(cell)))
+}
+
+/// What is held of a cell with this number, which has that.
+fn caught_up(
+    alloc: Global,
+    first: &GlobalState,
+    origin: Origin,
+    number: u64,
+    raw: Held,
+) -> Result<Held, OutOfMemory>
+    requires { first.now.index + 1 < 2 ^ 64 }
+    ensures { IfOk result (CatchesUp origin first.now number raw) }
+{
+    let mut held = raw;
+    if !is_as_found(origin, number) {
+        return Ok(held);
+    }
+    let state = first.copy(alloc)?;
+    catch_up(alloc, &mut held, state)?;
+    Ok(held)
+}
+
+/// Whether a replica takes part with a cell under this number.
+fn takes_part(origin: Origin, number: u64) -> bool
+    ensures { IsTrue result ↔ TakesPart origin number }
+{
+    match origin {
+        Origin::Made => true,
+        Origin::Found(found) => found <= number,
+        Origin::Apart => false,
+    }
+}
+
+/// Whether a cell with this number stands as it was found.
+fn is_as_found(origin: Origin, number: u64) -> bool
+    ensures { IsTrue result ↔ IsAsFound origin number }
+{
+    match origin {
+        Origin::Found(found) => found == number,
+        Origin::Made | Origin::Apart => false,
+    }
+}
+
 /// The cell on the disk of a replica, and what it has; `None` exactly where none can be read.
-pub(crate) fn found<R: Rack>(
+fn found<R: Rack>(
     alloc: Global,
     rack: &mut R,
     replica: u32,
@@ -59,15 +146,13 @@ pub(crate) fn found<R: Rack>(
     requires { 21 ≤ slice_index (R.state rack.old).sizes replica }
     ensures some { R.tells rack.old → IfOk result (λ found. IfSome found (λ x. IsFound devices ((R.state rack.old).reads replica) x.0.found x.1)) }
     ensures none { R.tells rack.old → IfOk result (λ found. IfNone found (IsNotFound devices ((R.state rack.old).reads replica))) }
-    ensures cell { IfOk result (λ found. IfSome found (λ x. IsCellOf replica x.1 x.0 × IsHeld devices x.1)) }
+    ensures cell { IfOk result (λ found. IfSome found (λ x. IsCellAt replica x.1 x.0 × IsHeld devices x.1)) }
     ensures holds { R.tells rack.old → IfOk result (λ found. IfSome found (λ x. EachSure (R.state rack.new) (Holds x.0))) }
     ensures sure { R.tells rack.old → OnOk result (IsSynced (R.state rack.new) replica) }
-    ensures keeps { R.tells rack.old → KeepsAll (R.state rack.old) (R.state rack.new) replica }
-    ensures any_moment { R.tells rack.old → LeavesOnly (R.moment rack.old) (R.moment rack.new) (R.left_since rack.old) (R.left_since rack.new) (IsImage (R.state rack.old)) }
+    ensures disks { R.tells rack.old → Syncs (R.state rack.old) (R.state rack.new) (R.moment rack.old) (R.moment rack.new) (R.left_since rack.old) (R.left_since rack.new) replica }
+    ensures counts { Counts (R.state rack.old).sizes (R.state rack.new).sizes (R.faults rack.old) (R.faults rack.new) (R.faults_of rack.old) (R.faults_of rack.new) }
     ensures cause { IsErrOf result DiskFails → BothRose (R.faults rack.old) (R.faults rack.new) (R.faults_of rack.old) (R.faults_of rack.new) replica }
-    ensures later { NoneFalls (R.faults rack.old) (R.faults rack.new) (R.faults_of rack.old) (R.faults_of rack.new) }
     ensures no_fault { OnOk result (NoneRose (R.faults rack.old) (R.faults rack.new) (R.faults_of rack.old) (R.faults_of rack.new)) }
-    ensures sizes { (R.state rack.new).sizes ≡ (R.state rack.old).sizes }
     ensures keeps_telling { R.tells rack.old → R.tells rack.new }
 {
     let cell = match Cell::open(alloc, rack, replica, CELL) {

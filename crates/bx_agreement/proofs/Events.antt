@@ -22,7 +22,7 @@ use Rattle.bx_agreement.proofs.Replicas.{handles}
 use Rattle.bx_agreement.proofs.Rounds.{goes_on, other_sends, sends, may_send, prepares, restarts}
 
 -- what of all machines but one
-turned : (h : History) (old new : ℕ → Machine) (me : ℕ) (machine : Machine) → Turns me machine old new → Is h me machine → ((m : ℕ) → m ≢ me → Is h m (old m)) → (m : ℕ) → Is h m (new m)
+pub turned : (h : History) (old new : ℕ → Machine) (me : ℕ) (machine : Machine) → Turns me machine old new → Is h me machine → ((m : ℕ) → m ≢ me → Is h m (old m)) → (m : ℕ) → Is h m (new m)
 turned h old new me machine turns is others m =
     elim (eqb_tells m me) [
       | inl same ↦ subst (λ (k : ℕ). Is h k (new k)) (sym same.1) (subst (λ (x : Machine). Is h me x) (sym turns.at) is)
@@ -46,7 +46,7 @@ later_state h change = record { proposals = refl; places = λ s k. inr k; propos
 pub later_change : (h : History) (change : Change) → IsLater h (with_change change h)
 later_change h change = record { proposals = refl; places = λ s k. k; proposed = λ c k. contains_more h.proposed change c k; promises = λ q k. k; votes = λ m c k. k }
 
-later_answer : (h : History) (n : ℕ) (answer : Option Message) → IsLater h (answered n answer h)
+pub later_answer : (h : History) (n : ℕ) (answer : Option Message) → IsLater h (answered n answer h)
 later_answer h n None = later_same h
 later_answer h n (Some Ask) = later_same h
 later_answer h n (Some (Decided s)) = later_same h

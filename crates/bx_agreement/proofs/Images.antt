@@ -9,7 +9,7 @@ use Rattle.bx_agreement.specs.History.{History}
 use Rattle.bx_agreement.specs.Sound.{IsSound, IsCell, Puts}
 use Rattle.bx_agreement.proofs.Cells.{put}
 
-placed_at : (n : ℕ) (held : Held) (cells : ℕ → Option Held) → Puts n held cells (placed n held cells)
+pub placed_at : (n : ℕ) (held : Held) (cells : ℕ → Option Held) → Puts n held cells (placed n held cells)
 placed_at n held cells = record {
   at = elim (eqb_tells n n) [ inl same ↦ rw same.0 refl | inr apart ↦ absurd (apart.1 refl) ];
   others = λ m differ. elim (eqb_tells m n) [ inl same ↦ absurd (differ same.1) | inr apart ↦ rw apart.0 refl ];

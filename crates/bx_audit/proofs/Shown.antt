@@ -11,7 +11,7 @@ use Rattle.bx_model.specs.declared.tree.Tree.{Tree}
 use Rattle.bx_model.specs.FileTrees.{IsFileTree}
 use Rattle.bx_overlay.specs.declared.error.AuditError.{AuditError}
 use Rattle.bx_overlay.specs.declared.volume_disks.VolumeDisks.{VolumeDisks}
-use Rattle.bx_overlay.specs.Members.{member_in}
+use Rattle.bx_logs.specs.Members.{member_in}
 use Rattle.bx_overlay.specs.Reading.{HoldsTruth, IsRead, IsRefused}
 use Rattle.bx_tree_files.specs.declared.file.File.{File}
 use Rattle.bx_tree_files.specs.Files.{file_at}
@@ -108,7 +108,7 @@ module _ (disks : Disks) (state : GlobalState) (read : VolumeDisks) (is : IsRead
   }
 
   -- a block is wrong
-  pub wrong_blocks : (error : AuditError) → IsTorn error → StandForNone disks state → IsRefusal disks state error
+  pub wrong_blocks : (error : AuditError) → IsTorn read.members.areas (blocks_of disks read) error → StandForNone disks state → IsRefusal disks state error
   wrong_blocks error torn none = record { why = inr record { read = read; is = is; torn = torn }; none = none }
 
 -- disks whose labels, members or logs are refused

@@ -1,25 +1,21 @@
 -- What is read of the blocks of a volume, and of the tree that they stand for.
 use Rattle.std.proofs.Common.{◌≡◌, ℕ, ◌<◌, ◌≤◌, ◌⊎◌, inl, inr, arith, Bool, true, false, List, [], sym, ◌∙◌, subst, refl, Err}
 use Rattle.std.proofs.lemmas.Bool.Decides.{nat_tests}
-use Rattle.bx_audit.specs.Audited.{IsTorn}
-use Rattle.bx_audit.specs.Blocks.{error_of}
+use Rattle.bx_audit.specs.Blocks.{IsTornBlock, error_of}
 use Rattle.bx_audit_bodies.specs.Reading.{AreEntriesApart}
 use Rattle.bx_audit_links.specs.InOrder.{AreApart, IsInOrder}
 use Rattle.bx_audit_owners.specs.Found.{AreOrdered}
 use Rattle.bx_audit_owners.specs.Told.{IsTold}
+use Rattle.bx_audit_owners.specs.Whole.{IsTreeTorn}
 use Rattle.bx_audit_trees.specs.declared.error.AuditError.{AuditError as TreeError}
 use Rattle.bx_audit_trees.specs.declared.error.AuditError.TheVariants.{Torn as TornTree, Fault as TreeFault, OutOfMemory as OutOfTreeMemory}
 use Rattle.bx_audit_trees.specs.Errors.{IfTornError, CountsError}
-use Rattle.bx_disk.specs.Disks.{Disks}
 use Rattle.bx_disk.specs.declared.fault.RackError.{RackError}
 use Rattle.bx_disk.specs.declared.fault.RackError.TheVariants.{Fault, OutOfMemory}
 use Rattle.bx_homes.specs.Slots.{AreBlocks, HasBlock, StaysSo}
 use Rattle.bx_homes.proofs.Kept.{are_still}
 use Rattle.bx_layout.specs.declared.block.Block.{Block}
 use Rattle.bx_model.specs.declared.tree.Tree.{Tree}
-use Rattle.bx_overlay.specs.declared.members.Members.{Members}
-use Rattle.bx_overlay.specs.Members.{held_by}
-use Rattle.bx_overlay.specs.Newest.{Newest, StandsOver}
 use Rattle.bx_overlay.specs.Refusals.{IsBreak, UnlessFault, audit_error}
 use Rattle.bx_places.specs.Places.{IsBlock, is_block, block_area, block_slot}
 use Rattle.bx_tree_files.specs.declared.file.Body.TheVariants.{Names}
@@ -35,10 +31,12 @@ pub break_of : (error : RackError) → IsBreak (audit_error error)
 break_of Fault = inl refl
 break_of OutOfMemory = inr refl
 
-pub end_of : (Q : Type 0) (error : TreeError) → IfTornError error (λ at found wanted. Q) → IsBreak (error_of error) ⊎ (IsTorn (error_of error) × Q)
-end_of Q (TornTree at found wanted) why = inr (tt, why)
-end_of Q TreeFault why = inl (inl refl)
-end_of Q OutOfTreeMemory why = inl (inr refl)
+pub end_of : (areas : ℕ) (stands : ℕ → Block → Type 0) (truth : Truth) (Q : Type 0) (error : TreeError) → AreBlocks areas stands truth → IsChunked areas truth → IfTornError error (IsTreeTorn areas truth)
+    → IfTornError error (λ at found wanted. Q) → IsBreak (error_of error) ⊎ (IsTornBlock areas stands (error_of error) × Q)
+end_of areas stands truth Q (TornTree at found wanted) are chunked torn why =
+    inr (inr record { at = at; found = found; wanted = wanted; error_is = refl; truth = truth; blocks = are; chunked = chunked; torn = torn }, why)
+end_of areas stands truth Q TreeFault are chunked torn why = inl (inl refl)
+end_of areas stands truth Q OutOfTreeMemory are chunked torn why = inl (inr refl)
 
 -- what is torn by each truth is so by all
 pub all_torn : (error : TreeError) (T Q : Truth → Type 0) → ((truth : Truth) → T truth → IfTornError error (λ at found wanted. Q truth)) → IfTornError error (λ at found wanted. (truth : Truth) → T truth → Q truth)
@@ -90,13 +88,3 @@ in_order tree ordered = record {
   apart = λ file parent next names there is. apart_of file parent next names is (ordered.apart file.handle file (at_contained tree.files file ordered.rise there));
   given = ordered.all_given;
 }
-
--- ---- blocks that are read over a rack
-
--- what stands over a rack's homes is the same, whatever names the rack, its members and its logs
-pub moved : {Row : Type 0} (state : Row → Disks) (P : (ℕ → Block → Type 0) → Type 0) (now rack : Row) (m members : Members) (l logs : List Newest) → now ≡ rack → m ≡ members → l ≡ logs
-    → P (StandsOver (held_by (state now).reads m) m.devices l) → P (StandsOver (held_by (state rack).reads members) members.devices logs)
-moved state P now rack m members l logs same_rack same_members same_logs holds =
-    subst (λ (x : List Newest). P (StandsOver (held_by (state rack).reads members) members.devices x)) same_logs
-    (subst (λ (x : Members). P (StandsOver (held_by (state rack).reads x) x.devices l)) same_members
-    (subst (λ x. P (StandsOver (held_by (state x).reads m) m.devices l)) same_rack holds))

@@ -1,20 +1,26 @@
 -- What an audit says of the disks of a volume.
-use Rattle.std.specs.Prelude.{◌≡◌, ◌⊎◌, ℕ, List}
+use Rattle.std.specs.Prelude.{◌≡◌, ◌⊎◌, ◌<◌, ℕ, List}
 use Rattle.bx_audit.specs.declared.listing.Listing.{Listing}
-use Rattle.bx_audit_links.specs.Right.{IsNamedOrRoot, IsWrong}
+use Rattle.bx_audit.specs.Blocks.{IsTornBlock, blocks_of}
+use Rattle.bx_audit_links.specs.Right.{IsNamedOrRoot, IsToBlame}
 use Rattle.bx_base.specs.declared.names.Point.{Point}
 use Rattle.bx_disk.specs.Disks.{Disks}
 use Rattle.bx_global.specs.declared.state.GlobalState.{GlobalState}
+use Rattle.bx_handles.specs.Handles.{parts_of}
+use Rattle.bx_homes.specs.Slots.{AreBlocks, HasHandle}
+use Rattle.bx_layout.specs.declared.block.Block.{Block}
 use Rattle.bx_layout.specs.declared.label.Label.{Label}
 use Rattle.bx_model.specs.declared.tree.Tree.{Tree}
 use Rattle.bx_model.specs.Listing.{listing}
 use Rattle.bx_overlay.specs.declared.error.AuditError.{AuditError}
-use Rattle.bx_overlay.specs.declared.error.AuditError.TheVariants.{DiskFault, NoLabel, NoMajority, NoSource, Torn, OutOfMemory}
-use Rattle.bx_overlay.specs.declared.members.Members.{Members}
+use Rattle.bx_overlay.specs.declared.error.AuditError.TheVariants.{Torn}
+use Rattle.bx_logs.specs.declared.members.Members.{Members}
 use Rattle.bx_overlay.specs.declared.volume_disks.VolumeDisks.{VolumeDisks}
-use Rattle.bx_overlay.specs.Logs.{AreLogs, points_in}
+use Rattle.bx_logs.specs.Logs.{AreLogs, points_in}
 use Rattle.bx_overlay.specs.Reading.{AreMembers, IsRead, IsRefused}
 use Rattle.bx_truth.specs.Chunks.{block_at}
+use Rattle.bx_truth.specs.Stands.{StandsFor}
+use Rattle.bx_views.specs.Truths.{Truth}
 use Rattle.bx_volume.specs.Images.{ImageStandsFor, IsFirstLabel}
 use Rattle.bx_volume.specs.Records.{Logged}
 
@@ -43,30 +49,46 @@ pub record IsListed (disks : Disks) (state : GlobalState) (listed : Listing) : T
   pub text_is : listed.text ≡ listing tree
   pub doubt : AreOpen disks state listed.doubt
 
--- it names a block
-abbrev pub IsTorn : AuditError → Type 0
-IsTorn DiskFault = ⊥
-IsTorn (NoLabel disk) = ⊥
-IsTorn NoMajority = ⊥
-IsTorn (NoSource device) = ⊥
-IsTorn (Torn block found wanted) = Unit {0}
-IsTorn OutOfMemory = ⊥
+-- the handle is of a slot of the volume
+abbrev pub IsOfSlot : ℕ → ℕ → Type 0
+IsOfSlot areas handle = ((parts_of handle).area < areas) × ((parts_of handle).slot < 960)
 
--- It names the block of a file because of which files are no file tree, found by its handle, which is wanted where the file is the root
--- or an entry names it.
-pub record NamesFile (tree : Tree) (error : AuditError) : Type 0 where
+-- What is told of a handle: the block of its slot, and the handle in its header, 0 where no block is there; block 0 and the handle itself for
+-- one of no slot of the volume.
+pub record IsToldOf (areas : ℕ) (stands : ℕ → Block → Type 0) (handle at found : ℕ) : Type 0 where
+  pub slot : IsOfSlot areas handle → (at ≡ block_at handle) × HasHandle stands at found
+  pub no_slot : (IsOfSlot areas handle → ⊥) → (at ≡ 0) × (found ≡ handle)
+
+-- A file is told of that is to blame for files that are no file tree. Its handle is wanted where it is the root's or an entry names it.
+pub record NamesFile (areas : ℕ) (stands : ℕ → Block → Type 0) (tree : Tree) (error : AuditError) : Type 0 where
   pub handle : ℕ
-  pub wrong : IsWrong tree handle
+  pub blame : IsToBlame tree handle
+  pub at : ℕ
+  pub found : ℕ
   pub wanted : ℕ
-  pub error_is : error ≡ Torn (block_at handle) handle wanted
+  pub error_is : error ≡ Torn at found wanted
+  pub told : IsToldOf areas stands handle at found
   pub named : IsNamedOrRoot tree handle → wanted ≡ handle
   pub unnamed : (IsNamedOrRoot tree handle → ⊥) → wanted ≡ 0
+
+-- They stand for a tree that is no file tree, and the file that is to blame is told of.
+pub record IsWrongTree (areas : ℕ) (stands : ℕ → Block → Type 0) (error : AuditError) : Type 0 where
+  pub truth : Truth
+  pub blocks : AreBlocks areas stands truth
+  pub tree : Tree
+  pub tree_stands : StandsFor areas truth tree
+  pub names : NamesFile areas stands tree error
+
+-- why blocks are refused, and what is told of the one that is torn: it is the first, slot by slot, that isn't as the slots ask; or slots are
+-- right, and files aren't as they should be; or files are, and links aren't
+abbrev pub IsTorn : ℕ → (ℕ → Block → Type 0) → AuditError → Type 0
+IsTorn areas stands error = IsTornBlock areas stands error ⊎ IsWrongTree areas stands error
 
 -- labels, members and logs are those of a volume, and a block is wrong
 pub record HasWrongBlocks (disks : Disks) (state : GlobalState) (error : AuditError) : Type 0 where
   pub read : VolumeDisks
   pub is : IsRead disks state read
-  pub torn : IsTorn error
+  pub torn : IsTorn read.members.areas (blocks_of disks read) error
 
 -- why disks are refused: for their labels, members or logs; or else for a block
 abbrev pub Refuses : Disks → GlobalState → AuditError → Type 0

@@ -1,25 +1,28 @@
 //! The audit.
 
 ghost use Rattle.std.specs.Prelude.{◌≡◌, ◌≤◌, ◌⊎◌, if◌then◌else◌, IfOk, IfErr, IsErrOf};
-ghost use Rattle.bx_audit.specs.Audited.{IsListed, IsRefusal, IsTorn, NamesFile, StandFor};
+ghost use Rattle.bx_audit.specs.Audited.{IsListed, IsRefusal, NamesFile, StandFor};
+ghost use Rattle.bx_audit.specs.Blocks.{blocks_of};
 ghost use Rattle.bx_audit_links.specs.InOrder.{IsInOrder};
 ghost use Rattle.bx_base.specs.Faults.{Rose};
 ghost use Rattle.bx_model.specs.declared.tree.Tree.{Tree as ModelTree};
 ghost use Rattle.bx_model.specs.FileTrees.{IsFileTree};
 ghost use Rattle.bx_model.specs.Listing.{listing};
-ghost use Rattle.bx_overlay.specs.declared.error.AuditError.TheVariants.{DiskFault, OutOfMemory as MemoryRanOut, Torn};
+ghost use Rattle.bx_overlay.specs.declared.error.AuditError.TheVariants.{DiskFault};
+ghost use Rattle.bx_logs.specs.Members.{AreThere};
 ghost use Rattle.bx_overlay.specs.Refusals.{IsBreak, UnlessFault};
-ghost use Rattle.bx_truth.specs.Chunks.{block_at};
 
 use crate::blocks::tree_in;
+use crate::links::block_in;
 use crate::listing::Listing;
 use bx_audit_links::{WrongFile, wrong_file};
 use bx_base::Raw;
 use bx_disk::Rack;
 use bx_global::GlobalState;
-use bx_handles::ChunkHandle;
 use bx_model::Tree;
-use bx_overlay::{AuditError, read_disks, refused_disks_show_no_tree, what_is_read_is_shown};
+use bx_overlay::{
+    AuditError, VolumeDisks, read_disks, refused_disks_show_no_tree, what_is_read_is_shown,
+};
 use bx_volume::{one_first_label, one_tree_stands};
 use std::alloc::Global;
 
@@ -27,10 +30,13 @@ use std::alloc::Global;
 /// for as they read, and that this is its listing; a refusal, that there is none. Refused are, in this order: disks without a label,
 /// without a state of theirs, without a source, or with a source that has no label; logs that aren't there or that clash; then the
 /// first block that isn't as its area's slots ask; inodes, in the order of their handles, that aren't as they should be, or whose
-/// chunks have another owner; chunks that nothing has, and marks of dead inodes that are wrong; and at last links and parents, for which
-/// the block of a wrong file's inode is named, `found` by its handle, which is `wanted` unless no entry names the file.
+/// chunks have another owner; chunks that nothing has, and marks of dead inodes that are wrong; and at last links and parents.
 ///
-/// Each block is read for its slot, and each chunk of a tree at most twice besides: for its kind, and by the inode that has it.
+/// Of a block that is torn its number is told, the handle that is `found` in its header, and the one that is `wanted`: that of its slot, or
+/// the one by which the block is named; 0 where nothing names it.
+///
+/// The disks stay as they were. Each block is read for its slot, and each chunk of a tree at most twice besides: for its kind, and by the
+/// inode that has it; a block that is torn is read once more.
 pub fn audit<R: Rack>(
     alloc: Global,
     rack: &mut R,
@@ -40,6 +46,8 @@ pub fn audit<R: Rack>(
     ensures err { R.tells rack.old → IfErr result (λ error. IsBreak error ⊎ IsRefusal (R.state rack.old) state.now error) }
     ensures stands { R.tells rack.old → (tree : ModelTree) → StandFor (R.state rack.old) state.now tree → IfOk result (λ listed. listed.text ≡ listing tree) }
     ensures breaks { R.tells rack.old → (tree : ModelTree) → StandFor (R.state rack.old) state.now tree → IfErr result IsBreak }
+    ensures stays { R.state rack.new ≡ R.state rack.old }
+    ensures sizes { (R.state rack.new).sizes ≡ (R.state rack.old).sizes }
     ensures cause { IsErrOf result DiskFault → Rose (R.faults rack.old) (R.faults rack.new) }
     ensures later { R.faults rack.old ≤ R.faults rack.new }
     ensures counts { UnlessFault result (R.faults rack.new ≡ R.faults rack.old) }
@@ -57,6 +65,8 @@ fn listed_by<R: Rack>(
 ) -> Result<Listing, AuditError>
     ensures ok { R.tells rack.old → IfOk result (IsListed (R.state rack.old) state.now) }
     ensures err { R.tells rack.old → IfErr result (λ error. IsBreak error ⊎ IsRefusal (R.state rack.old) state.now error) }
+    ensures stays { R.state rack.new ≡ R.state rack.old }
+    ensures sizes { (R.state rack.new).sizes ≡ (R.state rack.old).sizes }
     ensures cause { IsErrOf result DiskFault → Rose (R.faults rack.old) (R.faults rack.new) }
     ensures later { R.faults rack.old ≤ R.faults rack.new }
     ensures counts { UnlessFault result (R.faults rack.new ≡ R.faults rack.old) }
@@ -67,33 +77,42 @@ fn listed_by<R: Rack>(
     one_first_label();
     let read = read_disks(alloc, rack, state)?;
     let tree = tree_in(alloc, rack, &read)?;
-    let text = text_of(alloc, &tree)?;
+    let text = text_of(alloc, rack, &read, &tree)?;
     Ok(Listing {
         text,
         doubt: read.doubt,
     })
 }
 
-/// The listing of a file tree; torn exactly where the tree is none.
-fn text_of(alloc: Global, tree: &Tree) -> Result<Raw, AuditError>
-    requires { IsInOrder tree.now }
+/// The listing of a tree that the disks of a volume stand for, if it is a file tree; torn exactly where it is none.
+fn text_of<R: Rack>(
+    alloc: Global,
+    rack: &mut R,
+    read: &VolumeDisks,
+    tree: &Tree,
+) -> Result<Raw, AuditError>
+    requires there { AreThere (R.state rack.old).sizes read.now.members }
+    requires order { IsInOrder tree.now }
     ensures is { IfOk result (λ text. IsFileTree tree.now) }
     ensures text { IfOk result (λ text. text ≡ listing tree.now) }
-    ensures err { IfErr result (λ error. (error ≡ MemoryRanOut) ⊎ (IsTorn error × (IsFileTree tree.now → ⊥))) }
-    ensures names { IfErr result (λ error. (error ≡ MemoryRanOut) ⊎ NamesFile tree.now error) }
+    ensures err { R.tells rack.old → IfErr result (λ error. IsBreak error ⊎ (NamesFile read.now.members.areas (blocks_of (R.state rack.old) read.now) tree.now error × (IsFileTree tree.now → ⊥))) }
+    ensures stays { R.state rack.new ≡ R.state rack.old }
+    ensures cause { IsErrOf result DiskFault → Rose (R.faults rack.old) (R.faults rack.new) }
+    ensures later { R.faults rack.old ≤ R.faults rack.new }
+    ensures counts { UnlessFault result (R.faults rack.new ≡ R.faults rack.old) }
+    ensures keeps_telling { R.tells rack.old → R.tells rack.new }
 {
     if let Some(wrong) = wrong_file(alloc, tree)? {
-        return Err(torn_file(wrong));
+        let (at, found) = block_in(alloc, rack, read, wrong.handle)?;
+        return Err(AuditError::Torn(at, found, wanted_for(wrong)));
     }
     let text = tree.listing()?;
     Ok(text)
 }
 
-/// That the block of a file is torn: found by the file's handle, which is wanted where the file is the root or an entry names it.
-fn torn_file(wrong: WrongFile) -> AuditError
-    ensures { result ≡ Torn (block_at wrong.handle) wrong.handle (if wrong.is_named then wrong.handle else 0) }
+/// The handle that is wanted for a file: its own, or 0 where nothing names it.
+fn wanted_for(wrong: WrongFile) -> u64
+    ensures { result ≡ (if wrong.is_named then wrong.handle else 0) }
 {
-    let at = ChunkHandle::of(wrong.handle).block();
-    let wanted = if wrong.is_named { wrong.handle } else { 0 };
-    AuditError::Torn(at, wrong.handle, wanted)
+    if wrong.is_named { wrong.handle } else { 0 }
 }

@@ -1,20 +1,19 @@
 //! The tree that the blocks of a volume stand for.
 
 ghost use Rattle.std.specs.Prelude.{◌≡◌, ◌≤◌, ◌⊎◌, IfOk, IfErr, IsErrOf, OnOk};
-ghost use Rattle.bx_audit.specs.Audited.{IsTorn};
-ghost use Rattle.bx_audit.specs.Blocks.{StandForNoTree, error_of, blocks_of};
+ghost use Rattle.bx_audit.specs.Blocks.{IsTornBlock, StandForNoTree, error_of, blocks_of};
 ghost use Rattle.bx_audit_links.specs.InOrder.{IsInOrder};
 ghost use Rattle.bx_base.specs.Faults.{Rose};
 ghost use Rattle.bx_homes.specs.Slots.{AreBlocks};
 ghost use Rattle.bx_overlay.specs.declared.error.AuditError.TheVariants.{DiskFault};
-ghost use Rattle.bx_overlay.specs.Members.{AreThere};
+ghost use Rattle.bx_logs.specs.Members.{AreThere};
 ghost use Rattle.bx_overlay.specs.Refusals.{IsBreak, UnlessFault};
 ghost use Rattle.bx_truth.specs.Stands.{StandsFor};
 ghost use Rattle.bx_views.specs.Truths.{Truth};
 
 use bx_audit_owners::tree_on;
 use bx_disk::Rack;
-use bx_homes::{Blocks, first_fault};
+use bx_homes::{Blocks, WrongBlock, first_fault};
 use bx_model::Tree;
 use bx_overlay::{AuditError, Overlaid, VolumeDisks};
 use std::alloc::Global;
@@ -34,15 +33,15 @@ fn tree_of<B: Blocks>(
     ensures there { B.tells blocks.old → OnOk result ((truth : Truth) × AreBlocks areas (B.stands blocks.old) truth) }
     ensures volume { IfOk result (λ tree. tree.volume ≡ volume) }
     ensures ordered { IfOk result IsInOrder }
-    ensures err { B.tells blocks.old → IfErr result (λ error. IsBreak error ⊎ (IsTorn error × StandForNoTree areas (B.stands blocks.old))) }
+    ensures err { B.tells blocks.old → IfErr result (λ error. IsBreak error ⊎ (IsTornBlock areas (B.stands blocks.old) error × StandForNoTree areas (B.stands blocks.old))) }
     ensures cause { IsErrOf result DiskFault → Rose (B.faults blocks.old) (B.faults blocks.new) }
     ensures later { B.faults blocks.old ≤ B.faults blocks.new }
     ensures counts { UnlessFault result (B.faults blocks.new ≡ B.faults blocks.old) }
     ensures keeps_telling { B.tells blocks.old → B.tells blocks.new }
     ensures keeps_lender { B.lender blocks.new ≡ B.lender blocks.old }
 {
-    if let Some(at) = first_fault(alloc, blocks, areas)? {
-        return Err(AuditError::Torn(at, 0, 0));
+    if let Some(WrongBlock { at, found, wanted }) = first_fault(alloc, blocks, areas)? {
+        return Err(AuditError::Torn(at, found, wanted));
     }
     match tree_on(alloc, blocks, areas, volume) {
         Ok(tree) => Ok(tree),
@@ -72,7 +71,8 @@ pub(crate) fn tree_in<R: Rack>(
     ensures there { R.tells rack.old → OnOk result ((truth : Truth) × AreBlocks read.now.members.areas (blocks_of (R.state rack.old) read.now) truth) }
     ensures volume { IfOk result (λ tree. tree.volume ≡ read.now.first.volume) }
     ensures ordered { IfOk result IsInOrder }
-    ensures err { R.tells rack.old → IfErr result (λ error. IsBreak error ⊎ (IsTorn error × StandForNoTree read.now.members.areas (blocks_of (R.state rack.old) read.now))) }
+    ensures err { R.tells rack.old → IfErr result (λ error. IsBreak error ⊎ (IsTornBlock read.now.members.areas (blocks_of (R.state rack.old) read.now) error × StandForNoTree read.now.members.areas (blocks_of (R.state rack.old) read.now))) }
+    ensures stays { R.state rack.new ≡ R.state rack.old }
     ensures cause { IsErrOf result DiskFault → Rose (R.faults rack.old) (R.faults rack.new) }
     ensures later { R.faults rack.old ≤ R.faults rack.new }
     ensures counts { UnlessFault result (R.faults rack.new ≡ R.faults rack.old) }

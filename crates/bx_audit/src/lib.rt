@@ -4,6 +4,7 @@
 mod audits;
 mod blocks;
 mod laws;
+mod links;
 mod listing;
 
 pub use audits::audit;

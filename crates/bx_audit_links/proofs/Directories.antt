@@ -1,6 +1,6 @@
 -- A set of directories as it grows by the files one after the other.
-use Rattle.std.proofs.Common.{◌≡◌, ℕ, ◌<◌, ◌⊎◌, inl, inr, Bool, true, false, cond, List, [], ◌∷◌, Some, None, Option, refl, sym, ap, ◌∙◌, subst}
-use Rattle.std.specs.Prelude.{◌==◌, ◌≢◌, Contains, AllPairs}
+use Rattle.std.proofs.Common.{◌≡◌, ℕ, ◌⊎◌, inl, inr, true, cond, List, Some, None, Option, refl, sym, ap, ◌∙◌, subst}
+use Rattle.std.specs.Prelude.{◌≢◌, Contains}
 use Rattle.std.specs.BTreeMap.{is_at}
 use Rattle.std.specs.BTreeSet.{BTreeSet}
 use Rattle.std.specs.Ordering.{nat_cmp}

@@ -1,5 +1,5 @@
 -- A file tree, of files that are right each for itself.
-use Rattle.std.proofs.Common.{◌≡◌, ℕ, ◌≤◌, ◌<◌, true, List, Some, refl, sym, ap, ◌∙◌, subst, arith}
+use Rattle.std.proofs.Common.{◌≡◌, ℕ, ◌≤◌, ◌<◌, true, List, Some, sym, ap, ◌∙◌, subst}
 use Rattle.std.specs.Prelude.{◌≢◌, All, Contains}
 use Rattle.std.proofs.lemmas.Bool.{eq-eqb}
 use Rattle.std.proofs.lemmas.List.Elements.{All-contains}
@@ -7,7 +7,7 @@ use Rattle.bx_audit_links.specs.InOrder.{IsInOrder}
 use Rattle.bx_audit_links.specs.Reached.{AreBelow}
 use Rattle.bx_audit_links.specs.Right.{IsOwnParent, IsRight}
 use Rattle.bx_model.specs.declared.tree.Tree.{Tree}
-use Rattle.bx_model.specs.FileTrees.{HasEntries, IsEntryOf, IsFileTree, is_directory_at, is_directory_in, links_to}
+use Rattle.bx_model.specs.FileTrees.{HasEntries, IsEntryOf, IsFileTree, is_directory_in, links_to}
 use Rattle.bx_tree_files.specs.declared.file.Body.{Body}
 use Rattle.bx_tree_files.specs.declared.file.Body.TheVariants.{Bytes, Path, Names}
 use Rattle.bx_tree_files.specs.declared.file.File.{File}

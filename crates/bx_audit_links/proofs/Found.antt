@@ -1,5 +1,5 @@
 -- What is found, or not.
-use Rattle.std.proofs.Common.{◌≡◌, ℕ, zero, suc, ◌<◌, ◌⊎◌, inl, inr, Option, Some, None, true, false, arith, subst, refl}
+use Rattle.std.proofs.Common.{◌≡◌, ℕ, zero, suc, ◌<◌, Option, Some, None, true, false, arith, subst, refl}
 use Rattle.std.specs.Prelude.{IfNone, IfSome, IsSome}
 
 pub none_weaker : {T : Type 0} (P Q : Type 0) (found : Option T) → (P → Q) → IfNone found P → IfNone found Q

@@ -1,5 +1,5 @@
 -- What holds of all elements of a list, and of those that are left of it.
-use Rattle.std.proofs.Common.{◌≡◌, ℕ, List, [], ◌∷◌, ◌⊎◌, inl, inr, sym, subst}
+use Rattle.std.proofs.Common.{◌≡◌, List, [], ◌∷◌, ◌⊎◌, inl, inr, sym, subst}
 use Rattle.std.specs.Prelude.{Contains}
 use Rattle.bx_tree_laws.proofs.Counts.{contained_cases, contains_first, contains_later, none_contained}
 

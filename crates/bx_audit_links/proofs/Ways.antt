@@ -1,8 +1,8 @@
 -- Ways from the root, as they grow by what one directory names; and that a file tree has a way to each directory.
-use Rattle.std.proofs.Common.{◌≡◌, ℕ, zero, suc, ◌+◌, ◌<◌, ◌≤◌, ◌⊎◌, inl, inr, Bool, true, false, cond, List, [], ◌∷◌, ◌++◌, Option, Some, None, arith, refl, sym, ap, ◌∙◌, subst, length}
+use Rattle.std.proofs.Common.{◌≡◌, ℕ, zero, suc, ◌<◌, ◌⊎◌, inl, inr, Bool, true, false, cond, List, [], ◌∷◌, Option, Some, None, arith, refl, sym, ap, ◌∙◌, subst}
 use Rattle.std.specs.Prelude.{◌≢◌, Contains}
 use Rattle.std.specs.BTreeSet.{BTreeSet}
-use Rattle.bx_audit_links.specs.Reached.{AreBelow, IsNamedFrom, Reaches, has}
+use Rattle.bx_audit_links.specs.Reached.{AreBelow, Reaches, has}
 use Rattle.bx_audit_links.proofs.ReachedOnes.{contains_either, contains_front}
 use Rattle.bx_model.specs.declared.tree.Tree.{Tree}
 use Rattle.bx_model.specs.FileTrees.{IsFileTree, is_directory_at, is_directory_in}

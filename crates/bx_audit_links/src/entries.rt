@@ -1,12 +1,12 @@
 //! The entries of a directory.
 
-ghost use Rattle.std.specs.Prelude.{◌≡◌, ◌↔◌, ◌≢◌, ℕ, List, count_by, Contains, IsTrue, IsFalse};
+ghost use Rattle.std.specs.Prelude.{◌≡◌, count_by, Contains, IsTrue, IsFalse};
 ghost use Rattle.bx_audit_links.specs.Counted.{kept};
 ghost use Rattle.bx_model.specs.FileTrees.{IsEntryOf, is_directory_at};
-ghost use Rattle.bx_tree_files.specs.declared.file.Body.TheVariants.{Names};
 ghost use Rattle.bx_tree_files.specs.declared.file.Name.{Name as Named};
 
-use bx_tree_files::{Body, DIRECTORY, Files, Name, NameList, is_bad};
+use crate::children::is_under;
+use bx_tree_files::{DIRECTORY, Files, Name, NameList, is_bad};
 
 /// The least number of an entry.
 const FIRST: u32 = 3;
@@ -33,18 +33,7 @@ fn is_entry(files: &Files, directory: u64, next: u32, entry: &Name) -> bool
     }
     match files.get(entry.handle) {
         None => false,
-        Some(file) => is_child(&file.body, directory),
-    }
-}
-
-/// Whether a file may be in a directory: a directory has it as its parent.
-fn is_child(body: &Body, directory: u64) -> bool
-    ensures yes { IsTrue result → (parent next : ℕ) (names : List Named) → body.now ≡ Names parent next names → parent ≡ directory }
-    ensures no { IsFalse result → ((parent next : ℕ) (names : List Named) → body.now ≡ Names parent next names → parent ≡ directory) → ⊥ }
-{
-    match body {
-        Body::Names(parent, _, _) => *parent == directory,
-        Body::Bytes(_) | Body::Path(_) => true,
+        Some(file) => is_under(&file.body, directory),
     }
 }
 

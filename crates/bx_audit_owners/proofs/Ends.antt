@@ -2,7 +2,7 @@
 use Rattle.std.proofs.Common.{ℕ, Result, Ok, Err}
 use Rattle.bx_audit_trees.specs.declared.error.AuditError.{AuditError}
 use Rattle.bx_audit_trees.specs.declared.error.AuditError.TheVariants.{Torn, Fault, OutOfMemory}
-use Rattle.bx_audit_trees.specs.Errors.{IfTorn}
+use Rattle.bx_audit_trees.specs.Errors.{IfTorn, IfTornError}
 
 -- what is never torn is torn for any reason
 pub never_torn : {A : Type 0} (Q : ℕ → ℕ → ℕ → Type 0) (now : Result A AuditError) → IfTorn now (λ at found wanted. ⊥) → IfTorn now Q
@@ -10,3 +10,9 @@ never_torn Q (Ok value) never = tt
 never_torn Q (Err (Torn at found wanted)) never = absurd never
 never_torn Q (Err Fault) never = tt
 never_torn Q (Err OutOfMemory) never = tt
+
+-- of what is torn two facts hold together
+pub both_torn : (P Q : ℕ → ℕ → ℕ → Type 0) (error : AuditError) → IfTornError error P → IfTornError error Q → IfTornError error (λ at found wanted. P at found wanted × Q at found wanted)
+both_torn P Q (Torn at found wanted) holds too = (holds, too)
+both_torn P Q Fault holds too = tt
+both_torn P Q OutOfMemory holds too = tt

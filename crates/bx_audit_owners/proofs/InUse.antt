@@ -1,5 +1,5 @@
 -- The slots in use, slot by slot.
-use Rattle.std.proofs.Common.{◌≡◌, ℕ, ◌+◌, ◌*◌, ◌^◌, ◌<◌, ◌≤◌, ◌⊎◌, ⊎_elim, arith, true, false, List, [], ◌∷◌, ◌++◌, get_or, sym, ap, ◌∙◌, subst}
+use Rattle.std.proofs.Common.{◌≡◌, ℕ, ◌+◌, ◌*◌, ◌^◌, ◌<◌, ◌≤◌, ◌⊎◌, ⊎_elim, arith, true, false, List, [], ◌∷◌, ◌++◌, get_or, sym, ap, ◌∙◌, subst, refl}
 use Rattle.std.proofs.lemmas.List.Elements.{Contains-push, Contains-push_cases, Contains-append_left}
 use Rattle.bx_audit_owners.specs.declared.slots.UsedSlot.{UsedSlot}
 use Rattle.bx_audit_owners.specs.UsedSlots.{IsUsedSlot, AreUsedBelow, AreUsed, IsFreeMarked}
@@ -72,8 +72,15 @@ module _ (areas : ℕ) (truth : Truth) (area slot : ℕ) (slots : AreaBlock) (in
   }
 
   -- one that is marked
-  pub free_marked : in_use (get_or slots.words slot 0) ≡ false → is_dead slots slot ≡ true → IsFreeMarked areas truth
-  free_marked unused_here marked_here = record { block = 1024 * area + slot; there = is_slot; unused = ap in_use word ∙ unused_here; marked = dead ∙ marked_here }
+  pub free_marked : (wanted : ℕ) → in_use (get_or slots.words slot 0) ≡ false → is_dead slots slot ≡ true
+      → wanted ≡ number_of (record { area = area; slot = slot; generation = generation_in (get_or slots.words slot 0) }) → IsFreeMarked areas truth (1024 * area + slot) 0 wanted
+  free_marked wanted unused_here marked_here is = record {
+    there = is_slot;
+    unused = ap in_use word ∙ unused_here;
+    marked = dead ∙ marked_here;
+    found_is = refl;
+    wanted_is = is ∙ sym (λ i. area_is area slot less i * 2 ^ 48 + slot_is area slot less i * 2 ^ 32 + generation_in (word i));
+  }
 
 -- none before the first slot
 pub none_below : (areas : ℕ) (truth : Truth) → AreUsedBelow areas truth (1024 * 0) []

@@ -6,3 +6,4 @@ pub mod Owners
 pub mod Steps
 pub mod Wholes
 pub mod Ends
+pub mod Told

@@ -138,9 +138,9 @@ module _ (areas : ℕ) (truth : Truth) (few : areas ≤ 64) (tree : Tree) (stand
   have_files = record { are = stands.are_files; is_file = λ handle file there. is_tree.is_file file (contains_at tree.files handle file there) }
 
   -- no free slot is marked
-  pub none_marked : IsFreeMarked areas truth → ⊥
-  none_marked free =
-      let m = stands.marks.marked free.block free.there free.marked in
+  pub none_marked : (block found wanted : ℕ) → IsFreeMarked areas truth block found wanted → ⊥
+  none_marked block found wanted free =
+      let m = stands.marks.marked block free.there free.marked in
       let b = some_there (chunks_of areas truth m.0) m.2 in
       let c = chunk_is areas truth m.0 b.0 b.1 in
       let e : true ≡ false = sym c.used ∙ ap (λ (n : ℕ). in_use (word_at truth n)) m.1 ∙ free.unused in

@@ -3,3 +3,4 @@ pub mod UsedSlots
 pub mod Holding
 pub mod Found
 pub mod Whole
+pub mod Named

@@ -1,8 +1,8 @@
 -- The slots of a volume that are in use, and their marks.
-use Rattle.std.specs.Prelude.{◌≡◌, ℕ, ◌<◌, true, false, List, Contains}
+use Rattle.std.specs.Prelude.{◌≡◌, ◌≢◌, ◌⊎◌, ℕ, ◌<◌, true, false, List, Contains}
 use Rattle.bx_audit_owners.specs.declared.slots.UsedSlot.{UsedSlot}
 use Rattle.bx_layout.specs.Areas.{in_use, generation_in}
-use Rattle.bx_truth.specs.Chunks.{IsSlot, handle_of, word_at, dead_at}
+use Rattle.bx_truth.specs.Chunks.{IsSlot, block_at, handle_of, word_at, dead_at}
 use Rattle.bx_views.specs.Truths.{Truth}
 
 -- the slot of this block is in use, under this handle, and marked so
@@ -24,9 +24,16 @@ pub record AreUsed (areas : ℕ) (truth : Truth) (slots : List UsedSlot) : Type 
   pub all : (block : ℕ) → IsSlot areas block → in_use (word_at truth block) ≡ true → (slot : UsedSlot) × Contains slots slot × IsUsedSlot areas truth block slot
   pub unmarked : (block : ℕ) → IsSlot areas block → in_use (word_at truth block) ≡ false → dead_at truth block ≡ false
 
--- a slot that isn't in use is marked
-pub record IsFreeMarked (areas : ℕ) (truth : Truth) : Type 0 where
-  pub block : ℕ
+-- the handle of the slot of a block among those in use, 0 where it isn't one of them
+abbrev pub IsHandleOf : List UsedSlot → ℕ → ℕ → Type 0
+IsHandleOf slots block handle =
+    ((slot : UsedSlot) × Contains slots slot × (block_at slot.handle ≡ block) × (slot.handle ≡ handle))
+    ⊎ (((slot : UsedSlot) → Contains slots slot → block_at slot.handle ≢ block) × (handle ≡ 0))
+
+-- The slot of a block isn't in use, and is marked: its header names no handle, and that of the slot's last generation is wanted.
+pub record IsFreeMarked (areas : ℕ) (truth : Truth) (block found wanted : ℕ) : Type 0 where
   pub there : IsSlot areas block
   pub unused : in_use (word_at truth block) ≡ false
   pub marked : dead_at truth block ≡ true
+  pub found_is : found ≡ 0
+  pub wanted_is : wanted ≡ handle_of block (generation_in (word_at truth block))

@@ -4,13 +4,15 @@ ghost use Rattle.std.specs.Prelude.{◌≡◌, ◌↔◌, Contains, length, IsEr
 ghost use Rattle.bx_audit_owners.specs.declared.slots.UsedSlot.{UsedSlot as Used};
 ghost use Rattle.bx_audit_owners.specs.declared.holders.Holder.TheVariants.{Dead as OfDead};
 ghost use Rattle.bx_audit_owners.specs.Holding.{Adds, Clashes, HasOther, IsHeld, Puts, holder_by, holdings_of};
+ghost use Rattle.bx_audit_owners.specs.Named.{IsTornSlot};
 ghost use Rattle.bx_audit_trees.specs.declared.error.AuditError.TheVariants.{Fault as DiskFailed};
 ghost use Rattle.bx_audit_trees.specs.Errors.{IfTorn};
 
+use crate::named::torn_slot;
 use crate::slots::UsedSlot;
 use bx_audit_bodies::Claim;
 use bx_audit_trees::{AuditError, torn_at};
-use bx_handles::ChunkHandle;
+use bx_tree_files::Files;
 use std::collections::BTreeMap;
 
 /// What has a chunk.
@@ -74,36 +76,32 @@ fn put(holders: &mut Holders, handle: u64, holder: Holder) -> Result<(), AuditEr
     Ok(())
 }
 
-/// Whether each slot's chunk has a holder, and is marked exactly where that is a dead inode. Torn exactly where not.
-pub(crate) fn check_slots(slots: &[UsedSlot], holders: &Holders) -> Result<(), AuditError>
+/// Whether each slot's chunk has a holder, and is marked exactly where that is a dead inode. Torn exactly where not: `found` by its
+/// handle, which is wanted where anything else names the chunk.
+pub(crate) fn check_slots(
+    slots: &[UsedSlot],
+    holders: &Holders,
+    files: &Files,
+) -> Result<(), AuditError>
     ensures ok { OnOk result ((slot : Used) → Contains slots.now slot → IsHeld (holdings_of holders.now) slot) }
-    ensures torn { IfTorn result (λ at found wanted. (slot : Used) × Contains slots.now slot × (IsHeld (holdings_of holders.now) slot → ⊥)) }
+    ensures torn { IfTorn result (λ at found wanted. (slot : Used) × Contains slots.now slot × IsTornSlot files.now slot at found wanted × (IsHeld (holdings_of holders.now) slot → ⊥)) }
     ensures no_fault { IsErrOf result DiskFailed → ⊥ }
 {
     for slot in slots {
-        check_slot(slot, holders)?;
+        check_slot(slot, holders, files)?;
     }
     Ok(())
 }
 
 /// The same of one slot.
-fn check_slot(slot: &UsedSlot, holders: &Holders) -> Result<(), AuditError>
+fn check_slot(slot: &UsedSlot, holders: &Holders, files: &Files) -> Result<(), AuditError>
     ensures ok { OnOk result (IsHeld (holdings_of holders.now) slot.now) }
-    ensures torn { IfTorn result (λ at found wanted. IsHeld (holdings_of holders.now) slot.now → ⊥) }
+    ensures torn { IfTorn result (λ at found wanted. IsTornSlot files.now slot.now at found wanted × (IsHeld (holdings_of holders.now) slot.now → ⊥)) }
     ensures no_fault { IsErrOf result DiskFailed → ⊥ }
 {
     match holders.get(&slot.handle) {
-        None => {
-            let block = ChunkHandle::of(slot.handle).block();
-            Err(AuditError::Torn(block, slot.handle, 0))
-        }
-        Some(holder) => {
-            if slot.dead == is_dead(*holder) {
-                Ok(())
-            } else {
-                Err(torn_at(slot.handle))
-            }
-        }
+        Some(holder) if slot.dead == is_dead(*holder) => Ok(()),
+        _ => Err(torn_slot(slot, files)),
     }
 }
 

@@ -3,6 +3,7 @@
 
 mod found;
 mod holders;
+mod named;
 mod slots;
 mod tree;
 

@@ -16,6 +16,9 @@ use bx_layout::AreaBlock;
 use bx_places::SLOTS;
 use std::alloc::Global;
 
+/// The root's handle: area 0, slot 0, generation 1.
+pub(crate) const ROOT: u64 = 1;
+
 /// A slot that is in use.
 #[derive(Clone, Copy)]
 pub(crate) struct UsedSlot {
@@ -35,7 +38,7 @@ pub(crate) fn used_slots<B: Blocks>(
     requires areas { B.areas blocks.old ≡ areas }
     requires most { areas ≤ 64 }
     ensures ok { (truth : Truth) → IsTold (B.tells blocks.old) areas (B.stands blocks.old) truth → IfOk result (λ slots. AreUsed areas truth slots.items) }
-    ensures torn { (truth : Truth) → IsTold (B.tells blocks.old) areas (B.stands blocks.old) truth → IfTorn result (λ at found wanted. IsFreeMarked areas truth) }
+    ensures torn { (truth : Truth) → IsTold (B.tells blocks.old) areas (B.stands blocks.old) truth → IfTorn result (IsFreeMarked areas truth) }
     ensures told { (truth : Truth) → IsTold (B.tells blocks.old) areas (B.stands blocks.old) truth → IsTold (B.tells blocks.new) areas (B.stands blocks.new) truth }
     ensures counts { Counts result (B.faults blocks.old) (B.faults blocks.new) }
     ensures keeps_areas { B.areas blocks.new ≡ B.areas blocks.old }
@@ -79,7 +82,7 @@ fn put_area(used: &mut Vec<UsedSlot>, area: u16, slots: &AreaBlock) -> Result<()
     requires { IsArea slots.now }
     ensures ok { (areas : ℕ) (truth : Truth) → area < areas → SpellsArea slots.now (truth (own_block area)).payload → AreUsedBelow areas truth (1024 * area) used.old.items
         → OnOk result (AreUsedBelow areas truth (1024 * (area + 1)) used.new.items) }
-    ensures torn { (areas : ℕ) (truth : Truth) → area < areas → SpellsArea slots.now (truth (own_block area)).payload → IfTorn result (λ at found wanted. IsFreeMarked areas truth) }
+    ensures torn { (areas : ℕ) (truth : Truth) → area < areas → SpellsArea slots.now (truth (own_block area)).payload → IfTorn result (IsFreeMarked areas truth) }
     ensures no_fault { IsErrOf result DiskFailed → ⊥ }
 {
     for slot in 0..SLOTS {
@@ -99,22 +102,22 @@ fn put_slot(
     requires slot { slot < 960 }
     ensures ok { (areas : ℕ) (truth : Truth) → area < areas → SpellsArea slots.now (truth (own_block area)).payload → AreUsedBelow areas truth (1024 * area + slot) used.old.items
         → OnOk result (AreUsedBelow areas truth (1024 * area + (slot + 1)) used.new.items) }
-    ensures torn { (areas : ℕ) (truth : Truth) → area < areas → SpellsArea slots.now (truth (own_block area)).payload → IfTorn result (λ at found wanted. IsFreeMarked areas truth) }
+    ensures torn { (areas : ℕ) (truth : Truth) → area < areas → SpellsArea slots.now (truth (own_block area)).payload → IfTorn result (IsFreeMarked areas truth) }
     ensures no_fault { IsErrOf result DiskFailed → ⊥ }
 {
     let dead = slots.is_dead(slot);
+    let name = ChunkHandle {
+        area,
+        slot,
+        generation: slots.generation(slot),
+    };
     if slots.is_used(slot) {
-        let name = ChunkHandle {
-            area,
-            slot,
-            generation: slots.generation(slot),
-        };
         used.push(UsedSlot {
             handle: name.number(),
             dead,
         })?;
     } else if dead {
-        return Err(AuditError::Torn(1024 * u64::from(area) + u64::from(slot), 0, 0));
+        return Err(AuditError::Torn(name.block(), 0, name.number()));
     }
     Ok(())
 }

@@ -5,8 +5,8 @@ ghost use Rattle.bx_audit_owners.specs.declared.slots.UsedSlot.{UsedSlot as Used
 ghost use Rattle.bx_audit_owners.specs.Found.{AreOrdered};
 ghost use Rattle.bx_audit_owners.specs.Holding.{holdings_of};
 ghost use Rattle.bx_audit_owners.specs.Told.{IsTold};
-ghost use Rattle.bx_audit_owners.specs.UsedSlots.{AreUsed};
-ghost use Rattle.bx_audit_owners.specs.Whole.{IsWhole, StandsForNone};
+ghost use Rattle.bx_audit_owners.specs.UsedSlots.{AreUsed, IsHandleOf};
+ghost use Rattle.bx_audit_owners.specs.Whole.{IsFilesTorn, IsTreeTorn, IsWhole, StandsForNone};
 ghost use Rattle.bx_audit_trees.specs.declared.error.AuditError.TheVariants.{Fault as DiskFailed};
 ghost use Rattle.bx_audit_trees.specs.Errors.{Counts, IfTorn};
 ghost use Rattle.bx_model.specs.Opening.{root_handle};
@@ -16,15 +16,12 @@ ghost use Rattle.bx_views.specs.Truths.{Truth};
 
 use crate::found::{Found, read_inodes};
 use crate::holders::check_slots;
-use crate::slots::{UsedSlot, used_slots};
+use crate::slots::{ROOT, UsedSlot, used_slots};
 use bx_audit_trees::{AuditError, torn_at};
 use bx_handles::ChunkHandle;
 use bx_homes::Blocks;
 use bx_model::Tree;
 use std::alloc::Global;
-
-/// The root's handle: area 0, slot 0, generation 1.
-const ROOT: u64 = 1;
 
 /// The tree that the blocks of a volume stand for, once its slots are right. Torn where they stand for no file tree. Whether what
 /// they stand for is a file tree isn't asked here; the handles given out are those of the files, as far as blocks tell.
@@ -41,6 +38,7 @@ pub fn tree_on<B: Blocks>(
     ensures volume { IfOk result (λ tree. tree.volume ≡ volume) }
     ensures ordered { IfOk result (λ tree. AreOrdered tree.files tree.given) }
     ensures torn { (truth : Truth) → IsTold (B.tells blocks.old) areas (B.stands blocks.old) truth → IfTorn result (λ at found wanted. StandsForNone areas truth) }
+    ensures tells { (truth : Truth) → IsTold (B.tells blocks.old) areas (B.stands blocks.old) truth → IfTorn result (IsTreeTorn areas truth) }
     ensures counts { Counts result (B.faults blocks.old) (B.faults blocks.new) }
     ensures keeps_telling { (truth : Truth) → IsTold (B.tells blocks.old) areas (B.stands blocks.old) truth → B.tells blocks.new }
     ensures keeps_areas { B.areas blocks.new ≡ B.areas blocks.old }
@@ -68,6 +66,7 @@ fn found_on<B: Blocks>(
     ensures ordered { IfOk result (λ found. AreOrdered found.files found.given) }
     ensures torn { (truth : Truth) → IsTold (B.tells blocks.old) areas (B.stands blocks.old) truth → AreUsed areas truth slots.now
         → IfTorn result (λ at wrong wanted. StandsForNone areas truth) }
+    ensures tells { (truth : Truth) → IsTold (B.tells blocks.old) areas (B.stands blocks.old) truth → AreUsed areas truth slots.now → IfTorn result (IsFilesTorn areas truth) }
     ensures counts { Counts result (B.faults blocks.old) (B.faults blocks.new) }
     ensures keeps_telling { (truth : Truth) → IsTold (B.tells blocks.old) areas (B.stands blocks.old) truth → AreUsed areas truth slots.now → B.tells blocks.new }
     ensures keeps_areas { B.areas blocks.new ≡ B.areas blocks.old }
@@ -76,14 +75,15 @@ fn found_on<B: Blocks>(
 {
     find_root(slots)?;
     let found = read_inodes(alloc, blocks, areas, slots)?;
-    check_slots(slots, &found.holders)?;
+    check_slots(slots, &found.holders, &found.files)?;
     Ok(found)
 }
 
-/// Whether the root's handle is that of a slot. Torn exactly where not.
+/// Whether the root's handle is that of a slot. Torn exactly where not: block 0 is, found by the handle of its slot.
 fn find_root(slots: &[UsedSlot]) -> Result<(), AuditError>
     ensures ok { OnOk result ((slot : Used) × Contains slots.now slot × (slot.handle ≡ root_handle)) }
     ensures torn { IfTorn result (λ at found wanted. (slot : Used) → Contains slots.now slot → slot.handle ≢ root_handle) }
+    ensures tells { IfTorn result (λ at found wanted. (at ≡ 0) × IsHandleOf slots.now 0 found × (wanted ≡ root_handle)) }
     ensures no_fault { IsErrOf result DiskFailed → ⊥ }
 {
     for slot in slots {
@@ -91,15 +91,19 @@ fn find_root(slots: &[UsedSlot]) -> Result<(), AuditError>
             return Ok(());
         }
     }
-    Err(AuditError::Torn(0, handle_in_first(slots), ROOT))
+    Err(AuditError::Torn(0, handle_of(slots, 0), ROOT))
 }
 
-/// The handle in the first block of a volume with these slots, 0 for none.
-fn handle_in_first(slots: &[UsedSlot]) -> u64 {
-    match slots.first() {
-        Some(slot) if ChunkHandle::of(slot.handle).block() == 0 => slot.handle,
-        _ => 0,
+/// The handle of the slot of a block, 0 where it isn't in use.
+fn handle_of(slots: &[UsedSlot], block: u64) -> u64
+    ensures { IsHandleOf slots.now block result }
+{
+    for slot in slots {
+        if ChunkHandle::of(slot.handle).block() == block {
+            return slot.handle;
+        }
     }
+    0
 }
 
 /// The tree of what was found, whose root has a file. Torn exactly where it has none.
@@ -107,6 +111,7 @@ fn tree_of(found: Found, areas: u16, volume: u64) -> Result<Tree, AuditError>
     ensures ok { IfOk result (λ tree. tree ≡ record { volume = volume; areas = areas; files = found.files; root = root_handle; given = found.given }) }
     ensures root { OnOk result (file_at found.files root_handle ≢ None) }
     ensures torn { IfTorn result (λ at wrong wanted. file_at found.files root_handle ≡ None) }
+    ensures tells { IfTorn result (λ at wrong wanted. (at ≡ 0) × (wrong ≡ root_handle) × (wanted ≡ root_handle)) }
     ensures no_fault { IsErrOf result DiskFailed → ⊥ }
 {
     if found.files.get(ROOT).is_none() {

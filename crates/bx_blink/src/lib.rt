@@ -11,7 +11,7 @@ mod walks;
 
 pub use error::BlinkError;
 pub use laws::{a_search_has_one_end, no_hints_agree_with_a_leaf};
-pub use look::{block_at, page_in, seen};
+pub use look::{block_at, page_in, page_of, seen};
 pub use searches::{find, next};
 pub use steps::End;
 pub use walks::walk;

@@ -10,6 +10,7 @@ use bx_base::{Mode, OutOfMemory};
 use bx_handles::ChunkHandle;
 use bx_layout::Block;
 use bx_page::Page;
+use bx_page_bytes::PageBytes;
 use bx_records::Draft;
 use bx_views::View;
 use std::alloc::Global;
@@ -34,7 +35,18 @@ pub fn seen<'a, V: View>(draft: &'a Draft, view: &'a V, at: u64, mode: Mode) -> 
     }
 }
 
-/// The page that a block is; `None` exactly where it is none.
+/// The page that a block is, in the block's bytes; `None` exactly where it is none.
+pub fn page_of<'a>(block: &'a Block) -> Option<PageBytes<'a>>
+    ensures some { IfSome result (λ page. HasPage page block.now) }
+    ensures none { IfNone result (IsNoPage block.now) }
+{
+    if block.kind != PAGE {
+        return None;
+    }
+    PageBytes::read(block.payload.bytes())
+}
+
+/// The page that a block is, in lists that own their memory; `None` exactly where it is none.
 pub fn page_in(alloc: Global, block: &Block) -> Result<Option<Page>, OutOfMemory>
     ensures some { IfOk result (λ found. IfSome found (λ page. HasPage page block.now)) }
     ensures none { IfOk result (λ found. IfNone found (IsNoPage block.now)) }

@@ -9,7 +9,7 @@ ghost use Rattle.bx_blink.specs.Runs.{Runs, at_leaf, follow};
 use crate::steps::{End, Found, Out, Spot, decide, look};
 use crate::walks::MOST;
 use bx_base::{Mode, OutOfMemory, Raw};
-use bx_page::Page;
+use bx_page_bytes::PageBytes;
 use bx_records::Draft;
 use bx_views::View;
 use std::alloc::Global;
@@ -53,7 +53,7 @@ pub(crate) fn run<V: View>(
         mode: Mode::Shared,
     };
     for step in 0..MOST {
-        let found = look(alloc, draft, view, &spot, 0)?;
+        let found = look(draft, view, &spot, 0);
         match follow(alloc, found, &spot, key)? {
             Turn::Moves(other, next) => {
                 key = other;
@@ -67,7 +67,7 @@ pub(crate) fn run<V: View>(
 
 /// What follows a step.
 fn follow(alloc: Global, found: Found, spot: &Spot, key: Raw) -> Result<Turn, OutOfMemory>
-    ensures { IfOk result (λ is. is ≡ follow key (decide 0 Shared key spot.now found)) }
+    ensures { IfOk result (λ is. is ≡ follow key (decide 0 Shared key spot.now found.entry)) }
 {
     match decide(found, spot, key.bytes(), 0, Mode::Shared) {
         Out::Goes(next) => Ok(Turn::Moves(key, next)),
@@ -78,13 +78,13 @@ fn follow(alloc: Global, found: Found, spot: &Spot, key: Raw) -> Result<Turn, Ou
 }
 
 /// What follows at a leaf.
-fn leaf_turn(alloc: Global, page: &Page, key: &[u8]) -> Result<Turn, OutOfMemory>
+fn leaf_turn(alloc: Global, page: &PageBytes, key: &[u8]) -> Result<Turn, OutOfMemory>
     ensures { IfOk result (λ is. is ≡ at_leaf page.now (first (from page.now.entries key.now)) page.now.high) }
 {
     match page.first_from(key) {
         Some(entry) => {
-            let name = Raw::of(alloc, entry.key.bytes())?;
-            let value = Raw::of(alloc, entry.value.bytes())?;
+            let name = Raw::of(alloc, entry.key())?;
+            let value = Raw::of(alloc, entry.value())?;
             Ok(Turn::Rests(RunEnd::First(name, value)))
         }
         None => match page.high() {

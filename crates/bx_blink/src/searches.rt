@@ -35,7 +35,7 @@ fn search<V: View>(alloc: Global, view: &V, root: u64, key: &[u8]) -> Result<Raw
     ensures { FindsAt (Ends (reads_with (V.held view.now) (V.hints view.now) []) 0 Shared key.now most (start root Shared)) key.now result }
 {
     let draft = Draft::new(alloc);
-    match walk(alloc, &draft, view, root, key, 0, Mode::Shared)? {
+    match walk(&draft, view, root, key, 0, Mode::Shared) {
         End::Needs(at, mode) => Err(BlinkError::Need(at, mode)),
         End::Lost => Err(BlinkError::Stale),
         End::Lands(_, page) => match page.get(key) {

@@ -1,16 +1,15 @@
 //! One step of a walk.
 
-ghost use Rattle.std.specs.Prelude.{◌≡◌, IfOk};
+ghost use Rattle.std.specs.Prelude.{◌≡◌};
 ghost use Rattle.bx_truth.specs.PageTrees.{handle_in};
 ghost use Rattle.bx_blink.specs.Walks.{reads_with, Finds, passes, child_of, mode_at, onward, decide};
 
-use crate::look::{block_at, page_in, seen};
-use bx_base::{Mode, OutOfMemory};
-use bx_page::Page;
+use crate::look::{block_at, page_of, seen};
+use bx_base::Mode;
+use bx_page_bytes::PageBytes;
 use bx_records::Draft;
 use bx_views::View;
 use byteorder::{BigEndian, ByteOrder};
-use std::alloc::Global;
 
 /// Where a walk is.
 #[derive(Clone, Copy)]
@@ -25,7 +24,7 @@ pub(crate) struct Spot {
 
 /// What a walk finds at a spot.
 #[derive(Drop)]
-pub(crate) enum Found {
+pub(crate) enum Found<'a> {
     /// No block is held there, and no page hinted.
     Missing,
     /// A block is held whose header names another handle.
@@ -33,65 +32,64 @@ pub(crate) enum Found {
     /// A block is held that is no page.
     NoPage,
     /// A page is held.
-    Held(Page),
+    Held(PageBytes<'a>),
     /// A page is hinted.
-    Hinted(Page),
+    Hinted(PageBytes<'a>),
 }
 
 /// How a walk ends.
 #[derive(Drop)]
-pub enum End {
+pub enum End<'a> {
     /// It needs a block, held in a mode.
     Needs(u64, Mode),
     /// What is held is no tree.
     Lost,
     /// At the page with this handle: it is of the wanted level, and the key is below its high key.
-    Lands(u64, Page),
+    Lands(u64, PageBytes<'a>),
 }
 
 /// What follows a step.
 #[derive(Drop)]
-pub(crate) enum Out {
+pub(crate) enum Out<'a> {
     /// The walk goes on at a spot.
     Goes(Spot),
     /// It ends.
-    Stops(End),
+    Stops(End<'a>),
 }
 
 /// What is found at a spot.
-pub(crate) fn look<V: View>(
-    alloc: Global,
-    draft: &Draft,
-    view: &V,
+pub(crate) fn look<'a, V: View>(
+    draft: &'a Draft,
+    view: &'a V,
     spot: &Spot,
     target: u16,
-) -> Result<Found, OutOfMemory>
-    ensures { IfOk result (Finds (reads_with (V.held view.now) (V.hints view.now) draft.now) target spot.now) }
+) -> Found<'a>
+    ensures { Finds (reads_with (V.held view.now) (V.hints view.now) draft.now) target spot.now result }
 {
     let at = block_at(spot.handle);
     match seen(draft, view, at, Mode::Shared) {
         Some(block) => {
             if block.handle != spot.handle {
-                return Ok(Found::Strays);
+                return Found::Strays;
             }
-            match page_in(alloc, block)? {
-                None => Ok(Found::NoPage),
-                Some(page) => Ok(Found::Held(page)),
+            match page_of(block) {
+                None => Found::NoPage,
+                Some(page) => Found::Held(page),
             }
         }
         None => match view.hint(at) {
-            None => Ok(Found::Missing),
+            None => Found::Missing,
             Some(block) => {
                 if block.handle != spot.handle {
-                    return Ok(Found::Missing);
+                    return Found::Missing;
                 }
-                match page_in(alloc, block)? {
-                    None => Ok(Found::Missing),
+                match page_of(block) {
+                    None => Found::Missing,
                     Some(page) => {
                         if page.level() <= target {
-                            return Ok(Found::Missing);
+                            return Found::Missing;
                         }
-                        Ok(Found::Hinted(page))
+                        Found::Hinted(page)
                     }
                 }
             }
@@ -100,8 +98,14 @@ pub(crate) fn look<V: View>(
 }
 
 /// What follows a step.
-pub(crate) fn decide(found: Found, spot: &Spot, key: &[u8], target: u16, asked: Mode) -> Out
-    ensures { result ≡ decide target asked key.now spot.now found }
+pub(crate) fn decide<'a>(
+    found: Found<'a>,
+    spot: &Spot,
+    key: &[u8],
+    target: u16,
+    asked: Mode,
+) -> Out<'a>
+    ensures { result ≡ decide target asked key.now spot.now found.entry }
 {
     match found {
         Found::Missing => Out::Stops(End::Needs(block_at(spot.handle), spot.mode)),
@@ -116,8 +120,15 @@ pub(crate) fn decide(found: Found, spot: &Spot, key: &[u8], target: u16, asked: 
 }
 
 /// Where a walk goes from a page.
-fn onward(page: Page, spot: &Spot, via: Option<u64>, key: &[u8], target: u16, asked: Mode) -> Out
-    ensures { result ≡ onward target asked key.now spot.now via page }
+fn onward<'a>(
+    page: PageBytes<'a>,
+    spot: &Spot,
+    via: Option<u64>,
+    key: &[u8],
+    target: u16,
+    asked: Mode,
+) -> Out<'a>
+    ensures { result ≡ onward target asked key.now spot.now via page.entry }
 {
     if passes(&page, key) {
         return Out::Goes(Spot {
@@ -137,7 +148,7 @@ fn onward(page: Page, spot: &Spot, via: Option<u64>, key: &[u8], target: u16, as
 }
 
 /// Whether a page's keys are all below a key, so that the walk goes to the right.
-fn passes(page: &Page, key: &[u8]) -> bool
+fn passes(page: &PageBytes, key: &[u8]) -> bool
     ensures { result ≡ passes page.now key.now }
 {
     match page.high() {
@@ -154,12 +165,12 @@ fn mode_at(target: u16, asked: Mode, level: u16) -> Mode
 }
 
 /// The handle at the greatest key that isn't above a key; 0 where there is none.
-fn child_of(page: &Page, key: &[u8]) -> u64
+fn child_of(page: &PageBytes, key: &[u8]) -> u64
     ensures { result ≡ child_of page.now key.now }
 {
     match page.last_up_to(key) {
         None => 0,
-        Some(entry) => handle_in(entry.value.bytes()),
+        Some(entry) => handle_in(entry.value()),
     }
 }
 

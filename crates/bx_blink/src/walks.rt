@@ -1,29 +1,27 @@
 //! Walks: how a key is looked for.
 
-ghost use Rattle.std.specs.Prelude.{◌-◌, IfOk};
+ghost use Rattle.std.specs.Prelude.{◌-◌};
 ghost use Rattle.bx_blink.specs.Walks.{reads_with, Ends, start, most};
 
 use crate::steps::{End, Out, Spot, decide, look};
-use bx_base::{Mode, OutOfMemory};
+use bx_base::Mode;
 use bx_records::Draft;
 use bx_views::View;
-use std::alloc::Global;
 
 /// How many pages a walk may pass, and one.
 pub(crate) const MOST: u64 = 61_441;
 
 /// Looks for a key from a tree's root, down to its page of a level, which is to be held in a mode. It reads each page that it
-/// passes once.
-pub fn walk<V: View>(
-    alloc: Global,
-    draft: &Draft,
-    view: &V,
+/// passes once, and takes no memory.
+pub fn walk<'a, V: View>(
+    draft: &'a Draft,
+    view: &'a V,
     root: u64,
     key: &[u8],
     target: u16,
     asked: Mode,
-) -> Result<End, OutOfMemory>
-    ensures { IfOk result (Ends (reads_with (V.held view.now) (V.hints view.now) draft.now) target asked key.now most (start root asked)) }
+) -> End<'a>
+    ensures { Ends (reads_with (V.held view.now) (V.hints view.now) draft.now) target asked key.now most (start root asked) result }
 {
     let mut spot = Spot {
         handle: root,
@@ -31,11 +29,11 @@ pub fn walk<V: View>(
         mode: asked,
     };
     for step in 0..MOST {
-        let found = look(alloc, draft, view, &spot, target)?;
+        let found = look(draft, view, &spot, target);
         match decide(found, &spot, key, target, asked) {
             Out::Goes(next) => spot = next,
-            Out::Stops(end) => return Ok(end),
+            Out::Stops(end) => return end,
         }
     }
-    Ok(End::Lost)
+    End::Lost
 }

@@ -96,7 +96,7 @@ pub fn read_sectors<R: Rack>(
     requires whole { length into.old % 512 ≡ 0 }
     requires range { sector + length into.old / 512 ≤ slice_index (R.state rack.old).sizes disk }
     ensures bytes { R.tells rack.old → OnOk result (ReadsAs (R.state rack.old).reads disk sector into.new) }
-    ensures stays { R.tells rack.old → R.state rack.new ≡ R.state rack.old }
+    ensures stays { R.state rack.new ≡ R.state rack.old }
     ensures any_moment { R.tells rack.old → LeavesOnly (R.moment rack.old) (R.moment rack.new) (R.left_since rack.old) (R.left_since rack.new) (IsImage (R.state rack.old)) }
     ensures cause { OnErr result (BothRose (R.faults rack.old) (R.faults rack.new) (R.faults_of rack.old) (R.faults_of rack.new) disk) }
     ensures later { NoneFalls (R.faults rack.old) (R.faults rack.new) (R.faults_of rack.old) (R.faults_of rack.new) }

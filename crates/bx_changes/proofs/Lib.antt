@@ -1,3 +1,4 @@
 pub mod FileChanged
 pub mod ModeSet
 pub mod LiveHeld
+pub mod HintsKept

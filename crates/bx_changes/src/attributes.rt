@@ -3,16 +3,17 @@
 ghost use Rattle.std.specs.Prelude.{◌≡◌, ℕ, List, IfOk, IsSome, Some};
 ghost use Rattle.bx_base.specs.declared.names.Mode.TheVariants.{Exclusive};
 ghost use Rattle.bx_handles.specs.Handles.{named};
+ghost use Rattle.bx_hints.specs.Fitting.{HintsFitAll};
 ghost use Rattle.bx_inodes.specs.Heads.{head_of as head_by};
-ghost use Rattle.bx_inodes.specs.Inodes.{IsInodeOf};
+ghost use Rattle.bx_inodes.specs.Inodes.{HoldsInode, IsInodeOf};
 ghost use Rattle.bx_layout.specs.Inodes.{IsInode};
 ghost use Rattle.bx_model.specs.Permissions.{may as may_do};
 ghost use Rattle.bx_model.specs.declared.permissions.Want.TheVariants.{Times};
 ghost use Rattle.bx_model.specs.declared.tree.Tree.{Tree};
 ghost use Rattle.bx_model.specs.Writing.{setattr};
-ghost use Rattle.bx_truth.specs.Chunks.{block_at};
+ghost use Rattle.bx_truth.specs.Chunks.{IsChunked, block_at};
 ghost use Rattle.bx_views.specs.Attempts.{IsHeldDraft};
-ghost use Rattle.bx_views.specs.Truths.{Held, IsTruth, Truth};
+ghost use Rattle.bx_views.specs.Truths.{Held, Hints, IsTruth, Truth, with_draft};
 ghost use Rattle.bx_inodes.specs.Stands.{Stands};
 ghost use Rattle.bx_inodes.specs.Stops.{NeedsOn, NeverInner, OnInode};
 ghost use Rattle.bx_changes.specs.Changes.{IsChange, IsOneBlock, NeedsNothing, SetsModeAlone};
@@ -46,6 +47,8 @@ pub fn set_mode<V: View>(
     requires { SetsModeAlone sattr.now }
     ensures step { (truth : Truth) (tree : Tree) → IsTruth (V.held view.now) truth → Stands volume areas truth tree
         → IsChange volume areas truth tree (setattr tree call.now at.now sattr.now now) result }
+    ensures hints { (hints : Hints) (truth : Truth) (tree : Tree) → IsTruth (V.held view.now) truth → Stands volume areas truth tree → HintsFitAll areas hints truth
+        → IfOk result (λ made. HintsFitAll areas hints (with_draft truth made.0)) }
     ensures need { NeedsOn areas (V.held view.now) (OnInode volume at.now Exclusive) result }
     ensures inner { NeverInner result }
     ensures held { IfOk result (λ made. IsHeldDraft (V.held view.now) made.0) }
@@ -75,6 +78,8 @@ fn with_mode(
     requires alone { SetsModeAlone sattr.now }
     ensures step { (areas : ℕ) (truth : Truth) (tree : Tree) (bytes : List ℕ) → Stands volume areas truth tree → IsInodeOf areas truth tree handle inode → named volume bytes ≡ Some handle
         → IsChange volume areas truth tree (setattr tree call.now bytes sattr.now now) result }
+    ensures hints { (areas : ℕ) (hints : Hints) (truth : Truth) → IsChunked areas truth → HoldsInode areas truth handle inode → HintsFitAll areas hints truth
+        → IfOk result (λ made. HintsFitAll areas hints (with_draft truth made.0)) }
     ensures held { (held : Held) → IsSome (held (block_at handle) Exclusive) → IfOk result (λ made. IsHeldDraft held made.0) }
     ensures one { IfOk result (λ made. IsOneBlock (λ at mode. at ≡ block_at handle) made.0) }
     ensures inner { NeverInner result }

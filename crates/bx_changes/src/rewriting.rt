@@ -2,6 +2,7 @@
 
 ghost use Rattle.std.specs.Prelude.{◌≡◌, ◌<◌, ◌^◌, ℕ, IfOk, IsSome, Some};
 ghost use Rattle.bx_base.specs.declared.names.Mode.TheVariants.{Exclusive};
+ghost use Rattle.bx_hints.specs.Fitting.{HintsFitAll};
 ghost use Rattle.bx_inodes.specs.Inodes.{HoldsInode, shown_size};
 ghost use Rattle.bx_layout.specs.Inodes.{IsInode};
 ghost use Rattle.bx_layout.specs.declared.inode.Inode.{Inode as Kept};
@@ -10,12 +11,12 @@ ghost use Rattle.bx_model.specs.declared.tree.Tree.{Tree};
 ghost use Rattle.bx_tree_files.specs.Attributes.{attributes_of};
 ghost use Rattle.bx_tree_files.specs.declared.file.File.{File};
 ghost use Rattle.bx_tree_files.specs.Files.{file_at, size_of, with_file};
-ghost use Rattle.bx_truth.specs.Chunks.{block_at};
+ghost use Rattle.bx_truth.specs.Chunks.{IsChunked, block_at};
 ghost use Rattle.bx_truth.specs.Rewritten.{KeepsBody};
 ghost use Rattle.bx_truth.specs.Stands.{StandsFor};
 ghost use Rattle.bx_truth.specs.Stored.{HasFields};
 ghost use Rattle.bx_views.specs.Attempts.{IsHeldDraft};
-ghost use Rattle.bx_views.specs.Truths.{Held, Truth, with_draft};
+ghost use Rattle.bx_views.specs.Truths.{Held, Hints, Truth, with_draft};
 ghost use Rattle.bx_changes.specs.Changes.{IsOneBlock};
 
 use bx_base::OutOfMemory;
@@ -39,6 +40,8 @@ pub(crate) fn rewritten(
     ensures tree { (areas : ℕ) (truth : Truth) (tree : Tree) (file file_now : File) (old : Kept) → StandsFor areas truth tree → file_at tree.files handle ≡ Some file
         → HoldsInode areas truth handle old → KeepsBody old inode.now → HasFields inode.now file_now → file_now.handle ≡ handle → file_now.body ≡ file.body
         → IfOk result (λ made. StandsFor areas (with_draft truth made.0) (record tree { files = with_file tree.files file_now })) }
+    ensures hints { (areas : ℕ) (hints : Hints) (truth : Truth) (old : Kept) → IsChunked areas truth → HoldsInode areas truth handle old → inode.now.tree ≡ old.tree → HintsFitAll areas hints truth
+        → IfOk result (λ made. HintsFitAll areas hints (with_draft truth made.0)) }
     ensures held { (held : Held) → IsSome (held (block_at handle) Exclusive) → IfOk result (λ made. IsHeldDraft held made.0) }
     ensures one { IfOk result (λ made. IsOneBlock (λ at mode. at ≡ block_at handle) made.0) }
 {

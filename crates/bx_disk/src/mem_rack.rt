@@ -110,7 +110,7 @@ impl Rack for MemRack {
         ensures after { self.new ≡ (if fails self.old then failed_on self.old disk else counted self.old) }
 
         ensures bytes { Unit {0} → OnOk result (AreSectors ((disks_of self.old).reads disk) sector (length into.old / 512) into.new) }
-        ensures stays { Unit {0} → disks_of self.new ≡ disks_of self.old }
+        ensures stays { disks_of self.new ≡ disks_of self.old }
         ensures time { Unit {0} → Elapses (moment_of self.old) (moment_of self.new) (LeftSince self.old) (LeftSince self.new) (disks_of self.new) }
         ensures fault { OnErr result (BothRose self.old.faults self.new.faults (λ d. slice_index self.old.by_disk d) (λ d. slice_index self.new.by_disk d) disk) }
         ensures later { NoneFalls self.old.faults self.new.faults (λ d. slice_index self.old.by_disk d) (λ d. slice_index self.new.by_disk d) }

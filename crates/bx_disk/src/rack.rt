@@ -39,13 +39,13 @@ pub trait Rack {
         requires { disk < length (state self.now).sizes }
         ensures { result ≡ slice_index (state self.now).sizes disk };
 
-    /// Reads sectors. A fault leaves any bytes in the slice.
+    /// Reads sectors, which changes no disk. A fault leaves any bytes in the slice.
     fn read(&mut self, disk: u32, sector: u64, into: &mut [u8]) -> Result<(), DiskFault>
         requires disk { disk < length (state self.old).sizes }
         requires whole { length into.old % 512 ≡ 0 }
         requires range { sector + length into.old / 512 ≤ slice_index (state self.old).sizes disk }
         ensures bytes { tells self.old → OnOk result (AreSectors ((state self.old).reads disk) sector (length into.old / 512) into.new) }
-        ensures stays { tells self.old → state self.new ≡ state self.old }
+        ensures stays { state self.new ≡ state self.old }
         ensures time { tells self.old → Elapses (moment self.old) (moment self.new) (left_since self.old) (left_since self.new) (state self.new) }
         ensures fault { OnErr result (BothRose (faults self.old) (faults self.new) (faults_of self.old) (faults_of self.new) disk) }
         ensures later { NoneFalls (faults self.old) (faults self.new) (faults_of self.old) (faults_of self.new) }

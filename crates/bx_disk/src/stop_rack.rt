@@ -98,7 +98,7 @@ impl<R: Rack> Rack for StopRack<R> {
         ensures passed { 0 < self.old.left → self.new ≡ record { inner = self.new.inner; left = self.old.left - 1; failed = self.old.failed; failed_on = self.old.failed_on } }
 
         ensures bytes { R.tells self.old.inner → OnOk result (AreSectors ((R.state self.old.inner).reads disk) sector (length into.old / 512) into.new) }
-        ensures stays { R.tells self.old.inner → R.state self.new.inner ≡ R.state self.old.inner }
+        ensures stays { R.state self.new.inner ≡ R.state self.old.inner }
         ensures time { R.tells self.old.inner → Elapses (R.moment self.old.inner) (R.moment self.new.inner) (R.left_since self.old.inner) (R.left_since self.new.inner) (R.state self.new.inner) }
         ensures fault { OnErr result (BothRose (with_failed (R.faults self.old.inner) self.old.failed) (with_failed (R.faults self.new.inner) self.new.failed) (each_with_failed (R.faults_of self.old.inner) self.old.failed_on) (each_with_failed (R.faults_of self.new.inner) self.new.failed_on) disk) }
         ensures later { NoneFalls (with_failed (R.faults self.old.inner) self.old.failed) (with_failed (R.faults self.new.inner) self.new.failed) (each_with_failed (R.faults_of self.old.inner) self.old.failed_on) (each_with_failed (R.faults_of self.new.inner) self.new.failed_on) }

@@ -2,19 +2,22 @@
 use Rattle.std.proofs.Common.{◌≡◌, ℕ, ◌≤◌, List, [], Some, refl, sym, ap, ◌∙◌, subst, inl, arith, lit≤}
 use Rattle.bx_engine.specs.Outcomes.{Comes, ComesTo}
 use Rattle.bx_engine.specs.Steps.{StandsWith, Step}
+use Rattle.bx_hints.specs.Fitting.{HintsFitAll}
 use Rattle.bx_inodes.specs.Stands.{Stands}
 use Rattle.bx_model.specs.declared.call.Args.{Args}
-use Rattle.bx_model.specs.declared.call.Args.TheVariants.{Refused, Nothing, Handle, Set, Path}
+use Rattle.bx_model.specs.declared.call.Args.TheVariants.{Refused, Nothing, Handle, List as Listing, Name, Read, Set, Path}
 use Rattle.bx_model.specs.declared.call.Call.{Call}
 use Rattle.bx_model.specs.declared.reply.Reply.{Reply}
 use Rattle.bx_model.specs.declared.reply.Reply.TheVariants as replies
 use Rattle.bx_model.specs.declared.tree.Tree.{Tree}
 use Rattle.bx_model.specs.Act.{act, given, about_file}
+use Rattle.bx_model.specs.Directories.{readdir}
 use Rattle.bx_model.specs.Mounting.{mount, plain}
-use Rattle.bx_model.specs.Reading.{getattr, readlink, statfs}
+use Rattle.bx_model.specs.Reading.{getattr, lookup, read, readlink, statfs}
+use Rattle.bx_model.specs.Removing.{remove, rmdir}
 use Rattle.bx_model.specs.Steps.{Outcome, done, plainly}
 use Rattle.bx_model.specs.Writing.{setattr}
-use Rattle.std.specs.Prelude.{Result, Ok, IfOk}
+use Rattle.std.specs.Prelude.{◌==◌, if◌then◌else◌, Result, Ok, IfOk}
 use Rattle.std.proofs.lemmas.Result.{IfOk-weaker}
 use Rattle.bx_nfs.specs.Wire.{ReadsAs, reply_text}
 use Rattle.bx_tree_files.specs.declared.sattr.Sattr.{Sattr}
@@ -23,7 +26,7 @@ use Rattle.bx_views.specs.declared.attempt.Attempt.{Attempt}
 use Rattle.bx_views.specs.declared.attempt.Attempt.TheVariants.{Need, Change, Inner, Answer}
 use Rattle.bx_views.specs.declared.attempt.Done.{Done}
 use Rattle.bx_views.specs.Attempts.{Acts, Gives, deed_of}
-use Rattle.bx_views.specs.Truths.{Truth, with_draft}
+use Rattle.bx_views.specs.Truths.{Hints, Truth, with_draft}
 use Rattle.bx_records.specs.Drafts.{Changed}
 
 -- ---- what the tree does
@@ -56,6 +59,15 @@ module _ (tree : Tree) (call : Call) (moment : ℕ) where
   pub statfs_acts : (at : List ℕ) (spare : ℕ) → call.args ≡ Handle at → call.procedure ≡ 17 → act tree call moment spare 0 ≡ Some (done tree (statfs tree at spare))
   statfs_acts at spare is p = ap (given tree call (time_of moment) spare 0) is ∙ ap (λ (procedure : ℕ). plainly tree 0 (about_file tree procedure at spare)) p
 
+  pub read_acts : (at : List ℕ) (offset count total : ℕ) → call.args ≡ Read at offset count total → ActsSo (read tree call at offset count)
+  read_acts at offset count total is = by_args (Read at offset count total) (read tree call at offset count) is refl
+
+  pub readdir_acts : (at : List ℕ) (cookie count : ℕ) → call.args ≡ Listing at cookie count → ActsSo (readdir tree call at cookie count)
+  readdir_acts at cookie count is = by_args (Listing at cookie count) (readdir tree call at cookie count) is refl
+
+  pub lookup_acts : (at name : List ℕ) → call.args ≡ Name at name → call.procedure ≡ 4 → ActsSo (lookup tree call at name)
+  lookup_acts at name is p = by_args (Name at name) (lookup tree call at name) is (ap (λ (procedure : ℕ). plainly tree 0 (if procedure == 10 then remove tree call at name (time_of moment) else if procedure == 15 then rmdir tree call at name (time_of moment) else lookup tree call at name)) p)
+
   pub setattr_acts : (at : List ℕ) (sattr : Sattr) → call.args ≡ Set at sattr → ActsSo (setattr tree call at sattr (time_of moment))
   setattr_acts at sattr is = by_args (Set at sattr) (setattr tree call at sattr (time_of moment)) is refl
 
@@ -81,20 +93,20 @@ module _ (volume areas client : ℕ) (bytes : List ℕ) (moment free : ℕ) (tru
   })
 
   by_step : (next : Tree) (acted : Done) (draft : List Changed) → ComesTo tree outcome xid acted next → Stands volume areas (with_draft truth draft) next
-      → Acts (StandsWith volume areas) Step free (deed_of client bytes moment acted) acted truth draft tree
-  by_step next acted draft comes stands = record {
+      → ((hints : Hints) → HintsFitAll areas hints truth → HintsFitAll areas hints (with_draft truth draft)) → Acts (StandsWith volume areas) Step free (deed_of client bytes moment acted) acted truth draft tree
+  by_step next acted draft comes stands fit = record {
     next = next;
     step = steps next acted comes;
-    leads = record { each = λ hints was. stands };
+    leads = record { each = λ hints was. record { stands = stands; fit = fit hints was.fit } };
     spare = inl (ap (λ (d : Done). d.spare) comes.told);
   }
 
   comes_gives : Stands volume areas truth tree → (attempt : Attempt) → Comes volume areas truth tree xid outcome attempt
       → Gives (StandsWith volume areas) Step free client bytes moment truth tree attempt
   comes_gives stands (Need wants) comes = tt
-  comes_gives stands (Change draft acted) comes = by_step comes.next acted draft comes.comes comes.stands
+  comes_gives stands (Change draft acted) comes = by_step comes.next acted draft comes.comes comes.stands comes.fit
   comes_gives stands (Inner draft) comes = absurd comes
-  comes_gives stands (Answer acted) comes = by_step tree acted [] comes stands
+  comes_gives stands (Answer acted) comes = by_step tree acted [] comes stands (λ hints fit. fit)
 
   pub gives_by : {E : Type 0} → Stands volume areas truth tree → (result : Result Attempt E) → IfOk result (Comes volume areas truth tree xid outcome)
       → IfOk result (Gives (StandsWith volume areas) Step free client bytes moment truth tree)

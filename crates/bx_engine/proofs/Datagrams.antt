@@ -6,6 +6,7 @@ use Rattle.bx_engine.specs.Paths.{IsOnPath, PathOf}
 use Rattle.bx_model.specs.declared.call.Call.{Call}
 use Rattle.bx_nfs.specs.Wire.{ReadsAs}
 use Rattle.bx_nfs.proofs.Reading.{reads_once}
+use Rattle.bx_views.specs.Truths.{Held, Hints}
 
 module _ (bytes : List ℕ) (xid : ℕ) (call : Call) (reads : ReadsAs bytes xid call) where
   pub built_as : IsBuilt call → IsBuiltCall bytes
@@ -17,11 +18,11 @@ module _ (bytes : List ℕ) (xid : ℕ) (call : Call) (reads : ReadsAs bytes xid
   pub at_once_as : IsAtOnceCall bytes → IsAtOnce call
   at_once_as is = subst IsAtOnce (reads_once bytes is.xid xid is.call call is.reads reads).1 is.at_once
 
-  pub on_path : (volume at : ℕ) (mode : Mode) → PathOf volume call.procedure call.args at mode → IsOnPath volume bytes at mode
-  on_path volume at mode on = record { xid = xid; call = call; reads = reads; on = on }
+  pub on_path : (held : Held) (hints : Hints) (volume areas at : ℕ) (mode : Mode) → PathOf held hints volume areas call.procedure call.args at mode → IsOnPath held hints volume areas bytes at mode
+  on_path held hints volume areas at mode on = record { xid = xid; call = call; reads = reads; on = on }
 
-  pub path_of : (volume at : ℕ) (mode : Mode) → IsOnPath volume bytes at mode → PathOf volume call.procedure call.args at mode
-  path_of volume at mode is = subst (λ (c : Call). PathOf volume c.procedure c.args at mode) (reads_once bytes is.xid xid is.call call is.reads reads).1 is.on
+  pub path_of : (held : Held) (hints : Hints) (volume areas at : ℕ) (mode : Mode) → IsOnPath held hints volume areas bytes at mode → PathOf held hints volume areas call.procedure call.args at mode
+  path_of held hints volume areas at mode is = subst (λ (c : Call). PathOf held hints volume areas c.procedure c.args at mode) (reads_once bytes is.xid xid is.call call is.reads reads).1 is.on
 
 -- no call of a datagram that isn't one is built
 pub unread : (bytes : List ℕ) → ((xid : ℕ) (call : Call) → ReadsAs bytes xid call → ⊥) → IsBuiltCall bytes → ⊥

@@ -5,3 +5,4 @@ pub mod OneStep
 pub mod Paths
 pub mod Stopping
 pub mod Spaces
+pub mod Hinting

@@ -24,7 +24,7 @@ use Rattle.bx_views.specs.declared.attempt.Attempt.{Attempt}
 use Rattle.bx_views.specs.declared.attempt.Attempt.TheVariants.{Need, Change, Inner, Answer}
 use Rattle.bx_views.specs.declared.attempt.Done.{Done}
 use Rattle.bx_views.specs.Attempts.{Gives, deed_of}
-use Rattle.bx_views.specs.Truths.{Truth}
+use Rattle.bx_views.specs.Truths.{Held, Hints, Truth}
 
 -- ---- an error doesn't depend on the free blocks, and else these are told
 
@@ -110,6 +110,6 @@ module _ (volume areas client : ℕ) (bytes : List ℕ) (moment free : ℕ) (tru
 
 -- ---- the path
 
-pub space_on : (volume areas : ℕ) (handle : List ℕ) (procedure : ℕ) → procedure ≡ 17 → (at : ℕ) (mode : Mode) → OnSpace volume areas handle at mode → PathOf volume procedure (Handle handle) at mode
-space_on volume areas handle procedure asks at mode (inl on) = inl on
-space_on volume areas handle procedure asks at mode (inr own) = inr (asks, record { area = own.area; at_is = own.at_is; mode_is = own.mode_is })
+pub space_on : (held : Held) (hints : Hints) (volume areas : ℕ) (handle : List ℕ) (procedure : ℕ) → procedure ≡ 17 → (at : ℕ) (mode : Mode) → OnSpace volume areas handle at mode → PathOf held hints volume areas procedure (Handle handle) at mode
+space_on held hints volume areas handle procedure asks at mode (inl on) = inl on
+space_on held hints volume areas handle procedure asks at mode (inr own) = inr (asks, record { area = own.area; at_is = own.at_is; mode_is = own.mode_is })

@@ -7,6 +7,7 @@ use Rattle.bx_base.specs.declared.names.Mode.{Mode}
 use Rattle.bx_changes.specs.Changes.{Changes, IsChange}
 use Rattle.bx_engine.specs.Outcomes.{Comes}
 use Rattle.bx_engine.specs.Replies.{IsStopped, done_of}
+use Rattle.bx_hints.specs.Fitting.{HintsFitAll}
 use Rattle.bx_inodes.specs.declared.stop.Stop.{Stop}
 use Rattle.bx_inodes.specs.declared.stop.Stop.TheVariants as stops
 use Rattle.bx_inodes.specs.Stops.{NeedsOn, NeverInner}
@@ -20,7 +21,7 @@ use Rattle.bx_records.specs.Drafts.{Changed}
 use Rattle.bx_views.specs.declared.attempt.Attempt.{Attempt}
 use Rattle.bx_views.specs.declared.attempt.Attempt.TheVariants.{Change, Answer}
 use Rattle.bx_views.specs.Attempts.{IsFair, IsFairNeed}
-use Rattle.bx_views.specs.Truths.{Held, Truth}
+use Rattle.bx_views.specs.Truths.{Held, Hints, Truth, with_draft}
 
 -- ---- a need of one block
 
@@ -67,12 +68,14 @@ module _ (xid : ℕ) (attempt : Attempt) where
     pub answer_comes : (reply : Reply) → outcome ≡ Ok (reply, tree) → attempt ≡ Answer (done_of xid reply) → Comes volume areas truth tree xid outcome attempt
     answer_comes reply comes is = subst (Comes volume areas truth tree xid outcome) (sym is) (record { reply = reply; comes_to = ap (done tree) comes; told = refl })
 
-    pub change_comes : (draft : List Changed) (reply : Reply) → Changes volume areas truth outcome draft reply → attempt ≡ Change draft (done_of xid reply)
+    pub change_comes : (draft : List Changed) (reply : Reply) → Changes volume areas truth outcome draft reply → ((hints : Hints) → HintsFitAll areas hints truth → HintsFitAll areas hints (with_draft truth draft))
+        → attempt ≡ Change draft (done_of xid reply)
         → Comes volume areas truth tree xid outcome attempt
-    change_comes draft reply changes is = subst (Comes volume areas truth tree xid outcome) (sym is) (record {
+    change_comes draft reply changes fit is = subst (Comes volume areas truth tree xid outcome) (sym is) (record {
       next = changes.next;
       comes = record { reply = reply; comes_to = ap (done tree) changes.comes_to; told = refl };
       stands = changes.stands;
+      fit = fit;
     })
 
 -- an answer, where there is memory for it

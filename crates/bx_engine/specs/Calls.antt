@@ -2,7 +2,7 @@
 use Rattle.std.specs.Prelude.{◌≡◌, ℕ, ◌⊎◌, List}
 use Rattle.bx_changes.specs.Changes.{SetsModeAlone}
 use Rattle.bx_model.specs.declared.call.Args.{Args}
-use Rattle.bx_model.specs.declared.call.Args.TheVariants.{Refused, Nothing, Handle, Set, Path}
+use Rattle.bx_model.specs.declared.call.Args.TheVariants.{Refused, Nothing, Handle, List as Listing, Name, Read, Set, Path}
 use Rattle.bx_model.specs.declared.call.Call.{Call}
 use Rattle.bx_nfs.specs.Wire.{ReadsAs}
 
@@ -26,13 +26,17 @@ pub record IsOfMount (call : Call) : Type 0 where
   pub procedure : (call.procedure ≡ 1) ⊎ (call.procedure ≡ 3)
 
 -- The calls that are built: those that are refused; those without arguments, which are NULL, ROOT and WRITECACHE of NFS, and NULL, DUMP,
--- UMNTALL and EXPORT of MOUNT; MNT and UMNT of MOUNT; of NFS GETATTR (1), READLINK (5) and STATFS (17), and SETATTR (2) where it sets the mode alone.
+-- UMNTALL and EXPORT of MOUNT; MNT and UMNT of MOUNT; of NFS GETATTR (1), READLINK (5) and STATFS (17), SETATTR (2) where it sets the mode alone,
+-- LOOKUP (4), READ and READDIR.
 abbrev pub HasBuiltArgs : Call → Args → Type 0
 HasBuiltArgs call (Refused number) = Unit {0}
 HasBuiltArgs call Nothing = Unit {0}
 HasBuiltArgs call (Path path) = IsOfMount call
 HasBuiltArgs call (Handle handle) = AsksAboutFile call
 HasBuiltArgs call (Set handle sattr) = IsProcedure 2 call × SetsModeAlone sattr
+HasBuiltArgs call (Name handle name) = IsProcedure 4 call
+HasBuiltArgs call (Read handle offset count total) = Unit {0}
+HasBuiltArgs call (Listing handle cookie count) = Unit {0}
 HasBuiltArgs call _ = ⊥
 
 abbrev pub IsBuilt : Call → Type 0

@@ -1,5 +1,6 @@
 -- What stands for a file tree, and one step of it.
 use Rattle.std.specs.Prelude.{◌≡◌, ℕ, ◌^◌, ◌<◌, ◌≤◌, false, Some}
+use Rattle.bx_hints.specs.Fitting.{HintsFitAll}
 use Rattle.bx_inodes.specs.Stands.{Stands}
 use Rattle.bx_model.specs.declared.call.Call.{Call}
 use Rattle.bx_model.specs.declared.entry.Entry.{Entry}
@@ -11,10 +12,10 @@ use Rattle.bx_nfs.specs.Wire.{ReadsAs, reply_text}
 use Rattle.bx_views.specs.Attempts.{Deed}
 use Rattle.bx_views.specs.Truths.{Hints, Truth}
 
--- The truth of a volume with this number and so many areas stands for the tree. No notice is taken of hints: no call that is built
--- follows one.
-abbrev pub StandsWith : ℕ → ℕ → Truth → Hints → Tree → Type 0
-StandsWith volume areas truth hints tree = Stands volume areas truth tree
+-- The truth of a volume with this number and so many areas stands for the tree, and the hints fit all page trees.
+pub record StandsWith (volume areas : ℕ) (truth : Truth) (hints : Hints) (tree : Tree) : Type 0 where
+  pub stands : Stands volume areas truth tree
+  pub fit : HintsFitAll areas hints truth
 
 -- One step of the tree by a deed: its bytes read as a call, which the tree takes at its moment, with so many blocks free and the handle
 -- that it made, and the reply's bytes are the text of what the tree answers. Whose call it is doesn't matter.

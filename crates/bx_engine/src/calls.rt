@@ -17,6 +17,9 @@ const GETATTR: u32 = 1;
 /// The procedure SETATTR (RFC 1094, section 2.2.3).
 const SETATTR: u32 = 2;
 
+/// The procedure LOOKUP (RFC 1094, section 2.2.5).
+const LOOKUP: u32 = 4;
+
 /// The procedure READLINK (RFC 1094, section 2.2.6).
 pub(crate) const READLINK: u32 = 5;
 
@@ -45,15 +48,16 @@ pub(crate) fn built_call(alloc: Global, datagram: &[u8]) -> Result<Option<(u32, 
 }
 
 /// Whether a call is attempted: it is refused as a message, it has no arguments, or it is MNT, UMNT, GETATTR,
-/// READLINK, STATFS, or SETATTR of the mode alone.
+/// READLINK, STATFS, LOOKUP, READ, READDIR, or SETATTR of the mode alone.
 fn is_built(call: &Call) -> bool
     ensures { IsTrue result ↔ IsBuilt call.now }
 {
     match &call.args {
-        Args::Refused(_) | Args::Nothing => true,
+        Args::Refused(_) | Args::Nothing | Args::Read(_, _, _, _) | Args::List(_, _, _) => true,
         Args::Path(_) => {
             call.program == MOUNT_PROGRAM && (call.procedure == MNT || call.procedure == UMNT)
         }
+        Args::Name(_, _) => call.program == NFS_PROGRAM && call.procedure == LOOKUP,
         Args::Handle(_) => call.program == NFS_PROGRAM && is_about_file(call.procedure),
         Args::Set(_, sattr) => {
             call.program == NFS_PROGRAM && call.procedure == SETATTR && sets_mode_alone(sattr)

@@ -45,11 +45,12 @@ impl BoxFs {
     /// Attempts a call over a view, by its client's number and its bytes, at a moment in milliseconds, at most 4294967295999. `None`
     /// exactly where the bytes are none of the calls that are built so far: those that are refused as messages, those without
     /// arguments (NULL, ROOT and WRITECACHE of NFS; NULL, DUMP, UMNTALL and EXPORT of MOUNT), MNT and UMNT of MOUNT, GETATTR, READLINK,
-    /// STATFS, and SETATTR of the mode alone.
+    /// STATFS, LOOKUP, READ, READDIR, and SETATTR of the mode alone.
     ///
-    /// `Need` names the block of the file's inode, exclusively for SETATTR and else shared, which isn't held then; for STATFS,
-    /// where that is held, it names the own block of the first area that isn't, shared. A call that comes to an error is an `Answer`. On
-    /// an error, which is want of memory alone, nothing is changed.
+    /// `Need` names the block of the file's inode, exclusively for SETATTR and else shared, which isn't held then. Where that is held, it
+    /// names for STATFS the own block of the first area that isn't, for READ a page or a piece of the file that isn't, for LOOKUP a page
+    /// of the directory or the inode of what the name means, and for READDIR a page of the directory, shared. A call
+    /// that comes to an error is an `Answer`. On an error, which is want of memory alone, nothing is changed.
     pub fn attempt<V: View>(
         &self,
         alloc: Global,
@@ -60,13 +61,13 @@ impl BoxFs {
     ) -> Result<Option<Attempt>, OutOfMemory>
         requires { moment ≤ 4294967295999 }
 
-        ensures gives { (truth : Truth) (tree : Tree) → IsTruth (V.held view.now) truth → Stands self.now.volume self.now.areas truth tree
+        ensures gives { (truth : Truth) (tree : Tree) → IsTruth (V.held view.now) truth → StandsWith self.now.volume self.now.areas truth (V.hints view.now) tree
             → IfOk result (λ found. IfSome found (Gives (StandsWith self.now.volume self.now.areas) Step (free_slots self.now.areas truth) client call.now moment truth tree)) }
-        ensures fair { IfOk result (λ found. IfSome found (IsFair self.now.areas (V.held view.now) (IsOnPath self.now.volume call.now))) }
+        ensures fair { IfOk result (λ found. IfSome found (IsFair self.now.areas (V.held view.now) (IsOnPath (V.held view.now) (V.hints view.now) self.now.volume self.now.areas call.now))) }
         ensures at_once { IsAtOnceCall call.now → IfOk result (λ found. IfSome found IsAnswer) }
 
         // A change is of one block, the inode's of a SETATTR; and blocks need never be written before a call acts.
-        ensures writes { IfOk result (λ found. IfSome found (WritesOne (IsOnPath self.now.volume call.now))) }
+        ensures writes { IfOk result (λ found. IfSome found (WritesOne (IsOnPath (V.held view.now) (V.hints view.now) self.now.volume self.now.areas call.now))) }
 
         // STATFS alone tells how many blocks are free, unless it comes to an error.
         ensures tells { ((at : List ℕ) → IsSpaceCall call.now at → ⊥) → IfOk result (λ found. IfSome found TellsNothing) }
@@ -95,10 +96,10 @@ impl BoxFs {
         requires built { IsBuilt call.now }
         requires moment { moment ≤ 4294967295999 }
         ensures gives { (client : ℕ) (bytes : List ℕ) (truth : Truth) (tree : Tree) → ReadsAs bytes xid call.now → IsTruth (V.held view.now) truth
-            → Stands self.now.volume self.now.areas truth tree → IfOk result (Gives (StandsWith self.now.volume self.now.areas) Step (free_slots self.now.areas truth) client bytes moment truth tree) }
-        ensures fair { IfOk result (IsFair self.now.areas (V.held view.now) (PathOf self.now.volume call.now.procedure call.now.args)) }
+            → StandsWith self.now.volume self.now.areas truth (V.hints view.now) tree → IfOk result (Gives (StandsWith self.now.volume self.now.areas) Step (free_slots self.now.areas truth) client bytes moment truth tree) }
+        ensures fair { IfOk result (IsFair self.now.areas (V.held view.now) (PathOf (V.held view.now) (V.hints view.now) self.now.volume self.now.areas call.now.procedure call.now.args)) }
         ensures at_once { IsAtOnce call.now → IfOk result IsAnswer }
-        ensures writes { IfOk result (WritesOne (PathOf self.now.volume call.now.procedure call.now.args)) }
+        ensures writes { IfOk result (WritesOne (PathOf (V.held view.now) (V.hints view.now) self.now.volume self.now.areas call.now.procedure call.now.args)) }
         ensures tells { ((at : List ℕ) → AsksSpace call.now at → ⊥) → IfOk result TellsNothing }
         ensures free { (at : List ℕ) (truth : Truth) (tree : Tree) → AsksSpace call.now at → IsTruth (V.held view.now) truth → Stands self.now.volume self.now.areas truth tree
             → IfOk result (TellsFree (told_free (free_slots self.now.areas truth) (statfs_of tree at (free_slots self.now.areas truth)))) }
@@ -113,6 +114,15 @@ impl BoxFs {
             Args::Handle(at) => self.about_file(alloc, xid, call, at.bytes(), view),
             Args::Set(at, sattr) => {
                 self.setattr(alloc, xid, call, at.bytes(), sattr, moment, view)
+            }
+            Args::Read(at, offset, count, _) => {
+                self.read(alloc, xid, call, at.bytes(), (*offset, *count), view)
+            }
+            Args::Name(at, name) => {
+                self.lookup(alloc, xid, call, at.bytes(), name.bytes(), view)
+            }
+            Args::List(at, cookie, count) => {
+                self.readdir(alloc, xid, call, at.bytes(), (*cookie, *count), view)
             }
             _ => unreachable!(),
         }
@@ -131,7 +141,7 @@ impl BoxFs {
         requires procedure { IsAboutFile call.now.procedure }
         ensures gives { (client moment : ℕ) (bytes : List ℕ) (truth : Truth) (tree : Tree) → moment ≤ 4294967295999 → ReadsAs bytes xid call.now → IsTruth (V.held view.now) truth
             → Stands self.now.volume self.now.areas truth tree → IfOk result (Gives (StandsWith self.now.volume self.now.areas) Step (free_slots self.now.areas truth) client bytes moment truth tree) }
-        ensures fair { IfOk result (IsFair self.now.areas (V.held view.now) (PathOf self.now.volume call.now.procedure (HandleArgs at.now))) }
+        ensures fair { IfOk result (IsFair self.now.areas (V.held view.now) (PathOf (V.held view.now) (V.hints view.now) self.now.volume self.now.areas call.now.procedure (HandleArgs at.now))) }
         ensures keeps { IfOk result ChangesNothing }
         ensures tells { (call.now.procedure ≡ 17 → ⊥) → IfOk result TellsNothing }
         ensures free { (truth : Truth) (tree : Tree) → call.now.procedure ≡ 17 → IsTruth (V.held view.now) truth → Stands self.now.volume self.now.areas truth tree

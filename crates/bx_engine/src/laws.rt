@@ -3,7 +3,7 @@
 ghost use Rattle.std.specs.Prelude.{◌≡◌, ◌≤◌, ℕ, List, true};
 ghost use Rattle.bx_base.specs.declared.names.Mode.{Mode};
 ghost use Rattle.bx_base.specs.declared.names.Mode.TheVariants.{Exclusive, Shared};
-ghost use Rattle.bx_model.specs.declared.call.Args.TheVariants.{Handle, Refused, Set};
+ghost use Rattle.bx_model.specs.declared.call.Args.TheVariants.{Refused, Set};
 ghost use Rattle.bx_model.specs.declared.call.Call.{Call};
 ghost use Rattle.bx_model.specs.declared.entry.Entry.{Entry};
 ghost use Rattle.bx_model.specs.declared.tree.Tree.{Tree};
@@ -13,13 +13,13 @@ ghost use Rattle.bx_places.specs.Places.{is_block};
 ghost use Rattle.bx_tree_files.specs.declared.sattr.Sattr.{Sattr};
 ghost use Rattle.bx_truth.specs.Opening.{opening_truth};
 ghost use Rattle.bx_views.specs.Attempts.{Deed};
-ghost use Rattle.bx_views.specs.Truths.{Hints, Truth, no_hints, with_hint, without_hint};
-ghost use Rattle.bx_engine.specs.Paths.{IsOnPath};
+ghost use Rattle.bx_views.specs.Truths.{Held, Hints, Truth, no_hints, with_hint, without_hint};
+ghost use Rattle.bx_engine.specs.Paths.{HasOneBlock, IsOnPath};
 ghost use Rattle.bx_engine.specs.Steps.{Enters, StandsWith, Step};
 
-/// The truth of a volume that was just made stands for its tree, with no hints. What stands for a tree does so whatever is hinted: so
-/// hints may be forgotten and dropped, and any block may be one.
-pub fn hints_do_not_matter()
+/// The truth of a volume that was just made stands for its tree, with no hints. Hints that fit may be forgotten and dropped, and what a
+/// block of the volume holds may be a hint of it.
+pub fn hints_come_and_go()
     ensures opens { (volume areas : ℕ) → 1 ≤ areas → StandsWith volume areas opening_truth no_hints (record (opening volume) { areas = areas }) }
     ensures forgets { (volume areas : ℕ) (truth : Truth) (hints : Hints) (tree : Tree) → StandsWith volume areas truth hints tree → StandsWith volume areas truth no_hints tree }
     ensures drops { (volume areas : ℕ) (truth : Truth) (hints : Hints) (tree : Tree) (at : ℕ) → StandsWith volume areas truth hints tree → StandsWith volume areas truth (without_hint at hints) tree }
@@ -27,15 +27,17 @@ pub fn hints_do_not_matter()
         → StandsWith volume areas truth (with_hint at (truth at) hints) tree }
 {}
 
-/// One block at most is on the path of a call other than STATFS (17), in one mode: shared of a GETATTR or a READLINK, exclusively of a
-/// SETATTR. What is on the path of STATFS is shared. No block is on the path of a call that is refused.
+/// One block at most is on the path of a GETATTR or a READLINK, shared, and of a SETATTR, exclusively. What is on the path of any other
+/// call is shared. No block is on the path of a call that is refused.
 pub fn paths_are_of_files()
-    ensures one { (volume : ℕ) (bytes : List ℕ) (at other xid : ℕ) (mode asked : Mode) (call : Call) → ReadsAs bytes xid call → (call.procedure ≡ 17 → ⊥) → IsOnPath volume bytes at mode → IsOnPath volume bytes other asked
-        → (at ≡ other) × (mode ≡ asked) }
-    ensures shared { (volume : ℕ) (bytes : List ℕ) (at xid : ℕ) (call : Call) → IsOnPath volume bytes at Shared → ReadsAs bytes xid call → (handle : List ℕ) × (call.args ≡ Handle handle) }
-    ensures exclusive { (volume : ℕ) (bytes : List ℕ) (at xid : ℕ) (call : Call) → IsOnPath volume bytes at Exclusive → ReadsAs bytes xid call
+    ensures one { (held : Held) (hints : Hints) (volume areas : ℕ) (bytes : List ℕ) (at other xid : ℕ) (mode asked : Mode) (call : Call) → ReadsAs bytes xid call → HasOneBlock call.procedure call.args
+        → IsOnPath held hints volume areas bytes at mode → IsOnPath held hints volume areas bytes other asked → (at ≡ other) × (mode ≡ asked) }
+    ensures shared { (held : Held) (hints : Hints) (volume areas : ℕ) (bytes handle : List ℕ) (sattr : Sattr) (at xid : ℕ) (call : Call) → IsOnPath held hints volume areas bytes at Shared → ReadsAs bytes xid call
+        → call.args ≡ Set handle sattr → ⊥ }
+    ensures exclusive { (held : Held) (hints : Hints) (volume areas : ℕ) (bytes : List ℕ) (at xid : ℕ) (call : Call) → IsOnPath held hints volume areas bytes at Exclusive → ReadsAs bytes xid call
         → (handle : List ℕ) × (sattr : Sattr) × (call.args ≡ Set handle sattr) }
-    ensures refused { (volume : ℕ) (bytes : List ℕ) (at xid number : ℕ) (mode : Mode) (call : Call) → IsOnPath volume bytes at mode → ReadsAs bytes xid call → call.args ≡ Refused number → ⊥ }
+    ensures refused { (held : Held) (hints : Hints) (volume areas : ℕ) (bytes : List ℕ) (at xid number : ℕ) (mode : Mode) (call : Call) → IsOnPath held hints volume areas bytes at mode → ReadsAs bytes xid call
+        → call.args ≡ Refused number → ⊥ }
 {}
 
 /// A step by a deed is a step of a history, under whatever number its call has there; and a deed leads from a tree to one tree at most.

@@ -5,8 +5,9 @@ mod calls;
 mod engine;
 mod laws;
 mod mounting;
+mod reading;
 mod replies;
 mod times;
 
 pub use engine::BoxFs;
-pub use laws::{hints_do_not_matter, paths_are_of_files, steps_are_of_histories};
+pub use laws::{hints_come_and_go, paths_are_of_files, steps_are_of_histories};

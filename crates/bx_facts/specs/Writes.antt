@@ -140,10 +140,13 @@ pub record GoesOn (writes : List Sent) (greatest : ℕ) (asked : ℕ → Option 
   pub standing : (device sector : ℕ) (content : List ℕ) (index : ℕ) → IsOnly writes greatest device sector content → stands device sector content index → stands_then device sector content index
   pub reading : (reader sector : ℕ) (content : List ℕ) (asks : Asked) → asked reader ≡ Some asks → IsOnly writes greatest asks.device sector content → reads reader sector content → reads_then reader sector content
 
--- An image has what was settled, and what was sure on the disks of replicas.
+-- An image has what was settled, the labels that were sure on the members that an audit reads, and what was sure on the disks of
+-- replicas.
 pub record HasSettled (writes : List Sent) (greatest : ℕ) (settled : ℕ → ℕ → List ℕ → Type 0) (old : Disks) (s : GlobalState) (image : Image) : Type 0 where
   pub has : (device sector : ℕ) (content : List ℕ) (second : Bool) → IsOnly writes greatest device sector content → settled device sector content
       → IsSourceIn s device second → image (member_disk device second) sector ≡ content
+  pub labels : (device : ℕ) (second : Bool) → IsSourceIn s device second → old.unsure (member_disk device second) 0 ≡ false
+      → image (member_disk device second) 0 ≡ old.reads (member_disk device second) 0
   pub replicas : (d sector : ℕ) → d < 3 → old.unsure d sector ≡ false → image d sector ≡ old.reads d sector
 
 -- What a write brings stands in each of its sectors, for each reader that knows this index.

@@ -5,7 +5,7 @@ ghost use Rattle.bx_base.specs.Faults.{Rose};
 ghost use Rattle.bx_base.specs.declared.names.Actor.{Actor};
 ghost use Rattle.bx_base.specs.declared.names.Actor.TheVariants.{Node, Member};
 ghost use Rattle.bx_disk.specs.Disks.{Disks, blanked, sector_of};
-ghost use Rattle.bx_disk.specs.Counts.{NoneFalls};
+ghost use Rattle.bx_disk.specs.Counts.{NoneFalls, NoneRose};
 ghost use Rattle.bx_calls.specs.Calls.{LeavesOnly};
 ghost use Rattle.bx_global.specs.Allowed.{IsAllowed};
 ghost use Rattle.bx_global.specs.Table.{IsLegal};
@@ -181,6 +181,7 @@ pub trait Store: Drop {
         ensures made { made self.new ≡ made self.old }
         ensures replicas { R.tells rack.old → SameReplicas (R.state rack.old) (R.state rack.new) × SameLabels (R.state rack.old) (R.state rack.new) }
         ensures cause { IsErrOf result DiskFails → Rose (R.faults rack.old) (R.faults rack.new) }
+        ensures no_fault { OnOk result (NoneRose (R.faults rack.old) (R.faults rack.new) (R.faults_of rack.old) (R.faults_of rack.new)) }
         ensures later { NoneFalls (R.faults rack.old) (R.faults rack.new) (R.faults_of rack.old) (R.faults_of rack.new) }
         ensures sizes { (R.state rack.new).sizes ≡ (R.state rack.old).sizes }
         ensures keeps_telling { R.tells rack.old → R.tells rack.new };
@@ -193,6 +194,8 @@ pub trait Store: Drop {
         ensures reads { (x : Disks) (past : StorePast) (reader sector : ℕ) (content : List ℕ) → who ≢ Node reader → keeps self.old x past → will_read self.old x past reader sector content → will_read self.new x (store_crashed past who) reader sector content }
         ensures others { (node : ℕ) → who ≢ Node node → (own self.new node ≡ own self.old node) × (out_of self.new node ≡ out_of self.old node) × (asked self.new node ≡ asked self.old node) × (answer self.new node ≡ answer self.old node) }
         ensures needs { NeedsNoMore (needs self.old) (needs self.new) }
+        ensures ended { (node : ℕ) → who ≡ Node node → (own self.new node ≡ None) × (out_of self.new node ≡ None) × (asked self.new node ≡ None) }
+        ensures down { (member : ℕ) → who ≡ Member member → needs self.new (3 + member) ≡ 0 }
         ensures made { made self.new ≡ made self.old };
 
     /// A machine that is down starts again, with a boot above those that it had or that were found. A member's disk has a label then, and
@@ -224,6 +227,7 @@ pub trait Store: Drop {
         ensures made { made self.new ≡ made self.old }
         ensures replicas { R.tells rack.old → SameReplicas (R.state rack.old) (R.state rack.new) × SameLabels (R.state rack.old) (R.state rack.new) }
         ensures cause { IsErrOf result DiskFails → Rose (R.faults rack.old) (R.faults rack.new) }
+        ensures no_fault { OnOk result (NoneRose (R.faults rack.old) (R.faults rack.new) (R.faults_of rack.old) (R.faults_of rack.new)) }
         ensures later { NoneFalls (R.faults rack.old) (R.faults rack.new) (R.faults_of rack.old) (R.faults_of rack.new) }
         ensures sizes { (R.state rack.new).sizes ≡ (R.state rack.old).sizes }
         ensures keeps_telling { R.tells rack.old → R.tells rack.new };
@@ -273,6 +277,9 @@ pub trait Store: Drop {
     ghost begins_standing: { (st : Self) (x : Disks) (s : GlobalState) (device sector : ℕ) (content : List ℕ) → is_new st → IsSettled x s device sector content → stands st x (opening_store s) device sector content s.index };
 
     ghost finds_standing: { (st : Self) (x : Disks) (s : GlobalState) (boot device sector : ℕ) (content : List ℕ) → is_new st → is_separate → IsSettled x s device sector content → stands st x (found_store s boot) device sector content s.index };
+
+    /// There is no answer without a read.
+    ghost only_asked: { (st : Self) (node : ℕ) → asked st node ≡ None → answer st node ≡ None };
 
     /// It never needs more than a member's sectors of a disk.
     ghost needs_little: { (st : Self) (disk : ℕ) → needs st disk ≤ store_room (made st) };

@@ -10,7 +10,7 @@ use Rattle.bx_history.specs.Along.{none_ends}
 
 -- all bytes are calls, none is answered at once, and a node keeps two answers
 abbrev rules : Rules
-rules = record { is_call = λ _. true; is_immediate = λ _ _. false; is_prompt = λ _. false; kept = 2 }
+rules = record { is_call = λ _. true; is_immediate = λ _ _. false; is_prompt = λ _. false; is_wary = true; kept = 2 }
 
 -- a client's datagram of one byte, at node 0
 abbrev from : ℕ → ℕ → Arrival
@@ -82,6 +82,19 @@ after_a_crash_nothing_is_sent_again = refl
 pub what_waits_is_not_taken : taken_by rules (waits 1 10 5 7 ∷ []) (Some (from 5 7)) ≡ []
 what_waits_is_not_taken = refl
 
+-- a stage that takes each call
+abbrev each : Rules
+each = record { is_call = λ _. true; is_immediate = λ _ _. false; is_prompt = λ _. false; is_wary = false; kept = 2 }
+
+pub what_waits_is_taken_by_such : taken_by each (waits 1 10 5 7 ∷ []) (Some (from 5 7)) ≡ from 5 7 ∷ []
+what_waits_is_taken_by_such = refl
+
+pub a_repeat_is_taken_by_such : taken_by each (answered 1 10 5 7 ∷ []) (Some (from 5 7)) ≡ from 5 7 ∷ []
+a_repeat_is_taken_by_such = refl
+
+pub such_send_nothing_again : again_by each (answered 1 10 5 7 ∷ []) (Some (from 5 7)) ≡ []
+such_send_nothing_again = refl
+
 pub what_waits_is_not_sent : again_by rules (waits 1 10 5 7 ∷ []) (Some (from 5 7)) ≡ []
 what_waits_is_not_sent = refl
 
@@ -115,7 +128,7 @@ never_at_no_reading h = elim h [ inl e ↦ cc | inr r ↦ elim r.1 [ inl e ↦ c
 -- ---- what is answered at once
 
 abbrev at_once : Rules
-at_once = record { is_call = λ _. true; is_immediate = λ reading _. nat_le reading 4000; is_prompt = λ _. true; kept = 2 }
+at_once = record { is_call = λ _. true; is_immediate = λ reading _. nat_le reading 4000; is_prompt = λ _. true; is_wary = true; kept = 2 }
 
 abbrev first : Taking
 first = record { call = 1; node = 0; client = 5; bytes = 7 ∷ [] }

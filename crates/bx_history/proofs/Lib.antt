@@ -1,5 +1,5 @@
 pub mod Numbering
-pub mod Answered
+pub mod Waiting
 pub mod Whole
 pub mod Spelled
 pub mod Once

@@ -1,29 +1,57 @@
 -- The trace of a run is that of one history.
-use Rattle.std.specs.Prelude.{◌≡◌, ℕ, List, [], ◌∷◌, ◌++◌}
+use Rattle.std.specs.Prelude.{◌≡◌, ℕ, ◌<◌, ◌==◌, if◌then◌else◌, false, List, [], ◌∷◌, ◌++◌, Some}
+use Rattle.std.specs.List.{AllByRecursion}
+use Rattle.bx_base.specs.declared.names.Point.{Point}
 use Rattle.bx_script.specs.declared.line.Line.{Line}
 use Rattle.bx_script.specs.declared.trace_line.TraceLine.{TraceLine}
-use Rattle.bx_script.specs.declared.trace_line.TraceLine.TheVariants.{Took, Acted, Reply}
-use Rattle.bx_history.specs.Trace.{Entry, FitsNewest, Fits}
+use Rattle.bx_history.specs.Trace.{Entry, Taking, FitsNewest, Fits, has_point, has_reply, taking_of}
 use Rattle.bx_history.specs.Legal.{LeadsNewest, Leads}
-use Rattle.bx_history.specs.Parts.{Part, trace_of, waiting}
+use Rattle.bx_history.specs.Parts.{Happening, Part, trace_of, waiting}
 use Rattle.bx_history.specs.Placed.{Rules, PlacedNewest}
 use Rattle.bx_history.specs.Along.{IsPlaced}
 
--- the lines of the trace at a call that is answered at its own line, the newest first
-abbrev pub answered_lines : ℕ → ℕ → ℕ → List ℕ → ℕ → ℕ → ℕ → List ℕ → List TraceLine
-answered_lines call node client bytes moment spare made reply =
-    Reply call reply ∷ Acted (record { call = call; moment = moment; spare = spare; made = made }) ∷ Took call node client bytes ∷ []
+-- A call waits at a node, behind this trace: it was taken there, and has neither point nor reply.
+pub record IsPending (trace : List TraceLine) (node : ℕ) (taking : Taking) : Type 0 where
+  pub taken : taking_of trace taking.call ≡ Some taking
+  pub at : taking.node ≡ node
+  pub no_point : has_point trace taking.call ≡ false
+  pub no_reply : has_reply trace taking.call ≡ false
 
--- the entry of such a call
-abbrev pub answered_entry : ℕ → ℕ → List ℕ → ℕ → ℕ → ℕ → List ℕ → Entry
-answered_entry call client bytes moment spare made reply = record { call = call; client = client; bytes = bytes; moment = moment; spare = spare; made = made; reply = reply }
+-- calls in the order in which they were taken, the newest first
+abbrev pub AreNewestFirst : List Taking → Type 0
+AreNewestFirst [] = Unit {0}
+AreNewestFirst (taking ∷ older) = AllByRecursion (λ other. other.call < taking.call) older × AreNewestFirst older
 
--- Parts so far, the newest first, fit one history, which leads from the one tree to the other; no call waits.
-pub record AccountsNewest {Tree : Type 0} (Step : Tree → Entry → Tree → Type 0) (rules : Rules) (first : Tree) (parts : List Part) (history : List Entry) (last : Tree) : Type 0 where
+-- Parts so far, the newest first, fit one history, which leads from the one tree to the other. These calls wait at each node, the newest
+-- first, and none of them has a point.
+pub record AwaitsNewest {Tree : Type 0} (Step : Tree → Entry → Tree → Type 0) (rules : Rules) (first : Tree) (parts : List Part) (history : List Entry) (last : Tree) (waits : ℕ → List Taking) : Type 0 where
   pub fits : FitsNewest rules.kept (trace_of parts) history
   pub leads : LeadsNewest Step first history last
   pub placed : PlacedNewest rules parts
-  pub answered : (node : ℕ) → waiting parts node ≡ []
+  pub waiting_are : (node : ℕ) → waiting parts node ≡ waits node
+  pub pending : (node : ℕ) → AllByRecursion (IsPending (trace_of parts) node) (waits node)
+  pub in_order : (node : ℕ) → AreNewestFirst (waits node)
+
+-- the entry of a call that waited, with its point and its reply
+abbrev pub entry_for : Taking → Point → List ℕ → Entry
+entry_for taking point reply =
+    record { call = point.call; client = taking.client; bytes = taking.bytes; moment = point.moment; spare = point.spare; made = point.made; reply = reply }
+
+-- what waits at each node once a call more does at one
+abbrev pub waits_with : Taking → (ℕ → List Taking) → ℕ → List Taking
+waits_with taking waits node = if taking.node == node then taking ∷ waits node else waits node
+
+-- what waits at each node once these are left at one
+abbrev pub waits_but : ℕ → List Taking → (ℕ → List Taking) → ℕ → List Taking
+waits_but home left waits node = if home == node then left else waits node
+
+-- A stage in which each call is taken, and nothing is promised of when it is answered.
+pub record IsPatient (rules : Rules) : Type 0 where
+  pub takes_each : rules.is_wary ≡ false
+  pub not_at_once : (reading : ℕ) (bytes : List ℕ) → rules.is_immediate reading bytes ≡ false
+  pub not_prompt : (all : List Happening) → rules.is_prompt all ≡ false
+
+-- ---- the whole
 
 -- The same for a whole schedule and its trace, with the oldest first; the closing points count too.
 pub record Accounts {Tree : Type 0} (Step : Tree → Entry → Tree → Type 0) (rules : Rules) (schedule : List Line) (trace closing : List TraceLine) (first last : Tree) : Type 0 where

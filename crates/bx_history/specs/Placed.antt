@@ -1,5 +1,5 @@
 -- A trace that is placed: which lines of the trace may come at which part of a run.
-use Rattle.std.specs.Prelude.{◌≡◌, ℕ, ◌≤◌, ◌==◌, ◌&&◌, not, nat_lt, Bool, true, false, List, [], ◌∷◌, length, Option, Some, None, is_some, is_none, ◌⊎◌}
+use Rattle.std.specs.Prelude.{◌≡◌, ℕ, ◌≤◌, ◌==◌, ◌&&◌, ◌||◌, not, nat_lt, Bool, true, false, List, [], ◌∷◌, length, Option, Some, None, is_some, is_none, ◌⊎◌}
 use Rattle.std.specs.List.{list_any, find, AllByRecursion}
 use Rattle.std.specs.Str.{bytes_eq}
 use Rattle.bx_script.specs.declared.trace_line.TraceLine.{TraceLine}
@@ -8,12 +8,13 @@ use Rattle.bx_history.specs.Trace.{Taking, Answer, takings, taking_of, has_point
 use Rattle.bx_history.specs.Parts.{Arrival, Happening, Part, happenings, has_ended, waiting, kept_at}
 
 -- What a stage sets: which bytes are a call; which call is answered at once, by the clock's reading and its bytes, at a node that
--- never ended; whether, by all that has happened (the newest first), nothing waits behind a run and no block is wanting; and how
--- many answers a node keeps for repeats.
+-- never ended; whether, by all that has happened (the newest first), nothing waits behind a run and no block is wanting; whether a node
+-- takes a call only where few wait and it is no repeat, or each; and how many answers a node keeps for repeats.
 pub record Rules : Type 0 where
   pub is_call : List ℕ → Bool
   pub is_immediate : ℕ → List ℕ → Bool
   pub is_prompt : List Happening → Bool
+  pub is_wary : Bool
   pub kept : ℕ
 
 -- ---- what is taken, and what is sent again
@@ -26,12 +27,14 @@ waits_already parts arrival = list_any (λ taking. (taking.client == arrival.cli
 abbrev pub kept_answer : ℕ → List Part → Arrival → Option Answer
 kept_answer kept parts arrival = find (λ answer. (answer.client == arrival.client) && bytes_eq answer.bytes arrival.bytes) (kept_at kept parts arrival.node)
 
--- A datagram is taken exactly where it is a call, fewer than 64 calls wait at the node, and it repeats none that waits and no
--- kept answer.
+-- whether fewer than 64 calls wait at the node, and the datagram repeats none that waits and no kept answer
+abbrev pub is_new : Rules → List Part → Arrival → Bool
+is_new rules parts arrival =
+    nat_lt (length (waiting parts arrival.node)) 64 && not (waits_already parts arrival) && is_none (kept_answer rules.kept parts arrival)
+
+-- A datagram is taken exactly where it is a call, and is new or the stage's nodes take each.
 abbrev pub is_taken : Rules → List Part → Arrival → Bool
-is_taken rules parts arrival =
-    rules.is_call arrival.bytes && nat_lt (length (waiting parts arrival.node)) 64 && not (waits_already parts arrival)
-    && is_none (kept_answer rules.kept parts arrival)
+is_taken rules parts arrival = rules.is_call arrival.bytes && (not rules.is_wary || is_new rules parts arrival)
 
 -- what arrives, where a test says that it is taken
 abbrev pub taken_if : Bool → Arrival → List Arrival
@@ -57,7 +60,8 @@ again_if false arrival answer = []
 -- what is sent again after these parts: the reply of the kept answer that a call repeats
 abbrev pub again_by : Rules → List Part → Option Arrival → List Repeat
 again_by rules parts None = []
-again_by rules parts (Some arrival) = again_if (rules.is_call arrival.bytes && not (waits_already parts arrival)) arrival (kept_answer rules.kept parts arrival)
+again_by rules parts (Some arrival) =
+    again_if (rules.is_call arrival.bytes && rules.is_wary && not (waits_already parts arrival)) arrival (kept_answer rules.kept parts arrival)
 
 -- what the trace says was taken, and was sent again
 abbrev pub taken_in : List TraceLine → List Arrival

@@ -1,12 +1,15 @@
 -- What the header of a slot's block names.
 use Rattle.std.proofs.Common.{◌≡◌, ℕ, ◌+◌, ◌*◌, ◌^◌, ◌<◌, arith, Bool, true, false, get_or, sym, ap, ◌∙◌, refl, subst, ⊎_elim}
+use Rattle.std.specs.Prelude.{nat_eq, if◌then◌else◌}
+use Rattle.std.proofs.lemmas.Bool.Decides.{nat_tests}
+use Rattle.bx_handles.specs.Handles.{number_of, own_handle}
 use Rattle.bx_layout.specs.declared.area.AreaBlock.{AreaBlock}
 use Rattle.bx_layout.specs.Areas.{SpellsArea, in_use, generation_in}
 use Rattle.bx_places.specs.Places.{IsBlock, block_area, block_slot}
 use Rattle.bx_truth.specs.Chunks.{IsChunked, IsSlot, handle_of, own_block, word_in, word_at}
 use Rattle.bx_views.specs.Truths.{Truth}
 use Rattle.bx_truth.proofs.Words.{word_is}
-use Rattle.bx_homes.specs.Slots.{HasHeader, IsAreaChunked, IsSlotFault, IsFirstFault}
+use Rattle.bx_homes.specs.Slots.{HasHeader, IsAreaChunked, IsSlotFault, IsFirstFault, wanted_handle}
 
 -- the block of a slot is one of the volume
 pub is_slot_block : (areas area slot : ℕ) → area < areas → slot < 960 → IsBlock areas (1024 * area + slot)
@@ -39,6 +42,19 @@ module _ (truth : Truth) (area slot : ℕ) (slots : AreaBlock) (wanted : ℕ) (l
       by : (t : Bool) → in_use (get_or slots.words slot 0) ≡ t → (truth (1024 * area + slot)).handle ≡ wanted
       by true is = header.used (ap in_use word ∙ is) ∙ name ∙ sym (used is)
       by false is = header.unused (ap in_use word ∙ is) ∙ sym (unused is)
+
+  pub is_wanted : wanted ≡ wanted_handle truth (1024 * area + slot)
+  is_wanted = by (in_use (get_or slots.words slot 0)) refl
+    where
+      no_own : nat_eq (block_slot (1024 * area + slot)) 960 ≡ false
+      no_own = let is = slot_is area slot less in grind (arith, nat_tests, is, less)
+
+      rest : (if in_use (word_at truth (1024 * area + slot)) then handle_of (1024 * area + slot) (generation_in (word_at truth (1024 * area + slot))) else 0) ≡ wanted_handle truth (1024 * area + slot)
+      rest = sym (ap (λ (t : Bool). if t then number_of (own_handle (block_area (1024 * area + slot))) else (if in_use (word_at truth (1024 * area + slot)) then handle_of (1024 * area + slot) (generation_in (word_at truth (1024 * area + slot))) else 0)) no_own)
+
+      by : (t : Bool) → in_use (get_or slots.words slot 0) ≡ t → wanted ≡ wanted_handle truth (1024 * area + slot)
+      by true is = used is ∙ sym name ∙ sym (ap (λ (t : Bool). if t then handle_of (1024 * area + slot) (generation_in (word_at truth (1024 * area + slot))) else 0) (ap in_use word ∙ is)) ∙ rest
+      by false is = unused is ∙ sym (ap (λ (t : Bool). if t then handle_of (1024 * area + slot) (generation_in (word_at truth (1024 * area + slot))) else 0) (ap in_use word ∙ is)) ∙ rest
 
 -- areas that are right, one by one, are so together
 pub are_chunked : (areas : ℕ) (truth : Truth) → ((area : ℕ) → area < areas → IsAreaChunked truth area) → IsChunked areas truth

@@ -4,7 +4,7 @@ use Rattle.bx_layout.specs.declared.block.Block.{Block}
 use Rattle.bx_places.specs.Places.{IsBlock, block_area, block_slot}
 use Rattle.bx_truth.specs.Chunks.{own_block}
 use Rattle.bx_views.specs.Truths.{Truth}
-use Rattle.bx_homes.specs.Slots.{AreBlocks, HasBlock, HasArea, StaysSo}
+use Rattle.bx_homes.specs.Slots.{AreBlocks, HasBlock, HasArea, HasHandle, StaysSo}
 
 pub are_still : (areas : ℕ) (before now : ℕ → Block → Type 0) (truth : Truth) → StaysSo before now → AreBlocks areas before truth → AreBlocks areas now truth
 are_still areas before now truth stays are = λ at is. (stays at (truth at)).0 (are at is)
@@ -14,6 +14,12 @@ stays_then before mid now first next = λ at block. (λ is. (next at block).0 ((
 
 pub was_there : (before now : ℕ → Block → Type 0) (at : ℕ) → StaysSo before now → HasBlock now at → HasBlock before at
 was_there before now at stays has = record { block = has.block; is = (stays at has.block).1 has.is }
+
+pub had_handle : (before now : ℕ → Block → Type 0) (at handle : ℕ) → StaysSo before now → HasHandle now at handle → HasHandle before at handle
+had_handle before now at handle stays has = record {
+  there = λ block is. has.there block ((stays at block).0 is);
+  absent = λ none. has.absent (λ block is. none block ((stays at block).1 is));
+}
 
 pub area_was_there : (before now : ℕ → Block → Type 0) (area : ℕ) → StaysSo before now → HasArea now area → HasArea before area
 area_was_there before now area stays has = record {

@@ -1,8 +1,9 @@
 -- The slots of areas, and the first block that is not as they ask.
-use Rattle.std.specs.Prelude.{◌≡◌, ℕ, ◌+◌, ◌*◌, ◌<◌, ◌⊎◌, ◌↔◌, true, false}
+use Rattle.std.specs.Prelude.{◌≡◌, ℕ, ◌+◌, ◌*◌, ◌<◌, ◌⊎◌, ◌↔◌, ◌==◌, if◌then◌else◌, true, false}
+use Rattle.bx_handles.specs.Handles.{number_of, own_handle}
 use Rattle.bx_layout.specs.declared.block.Block.{Block}
 use Rattle.bx_layout.specs.Areas.{in_use, generation_in}
-use Rattle.bx_places.specs.Places.{IsBlock}
+use Rattle.bx_places.specs.Places.{IsBlock, block_area, block_slot}
 use Rattle.bx_truth.specs.Chunks.{IsAreaBlock, handle_of, own_block, word_at}
 use Rattle.bx_views.specs.Truths.{Truth}
 
@@ -28,6 +29,17 @@ StaysSo before now = (at : ℕ) (block : Block) → before at block ↔ now at b
 pub record HasHeader (truth : Truth) (block : ℕ) : Type 0 where
   pub used : in_use (word_at truth block) ≡ true → (truth block).handle ≡ handle_of block (generation_in (word_at truth block))
   pub unused : in_use (word_at truth block) ≡ false → (truth block).handle ≡ 0
+
+-- the handle in the header of the block that stands there, 0 where none does
+pub record HasHandle (stands : ℕ → Block → Type 0) (at handle : ℕ) : Type 0 where
+  pub there : (block : Block) → stands at block → block.handle ≡ handle
+  pub absent : ((block : Block) → stands at block → ⊥) → handle ≡ 0
+
+-- the handle that the header of a block is to have: an area's own for its own block; that of the slot of any other, 0 where it isn't in use
+abbrev pub wanted_handle : Truth → ℕ → ℕ
+wanted_handle truth block =
+    if block_slot block == 960 then number_of (own_handle (block_area block))
+    else (if in_use (word_at truth block) then handle_of block (generation_in (word_at truth block)) else 0)
 
 -- the area's own block is right, and so are the headers of its slots
 pub record IsAreaChunked (truth : Truth) (area : ℕ) : Type 0 where

@@ -14,6 +14,7 @@ use bx_layout::Block;
 /// stands there is one, it has none.
 pub trait Blocks {
     ghost use Rattle.std.specs.Prelude.{◌≡◌, ℕ};
+    ghost use Rattle.bx_disk.specs.Disks.{Disks};
     ghost use Rattle.bx_layout.specs.declared.block.Block.{Block};
 
     /// Whether it tells what the disks hold.
@@ -31,8 +32,8 @@ pub trait Blocks {
     /// How often its disks have failed.
     ghost faults: { Self → ℕ };
 
-    /// The name of the reference that it holds to what it reads, 0 where it holds none.
-    ghost lender: { Self → ℕ };
+    /// The name of the reference that it holds to what it reads, 0 where it holds none; and the disks behind it.
+    ghost lender: { Self → ℕ × Disks };
 
     /// The block with a number; `None` exactly where there is none. An error is a disk's, or want of memory.
     fn block(&mut self, at: u64) -> Result<Option<Block>, RackError>

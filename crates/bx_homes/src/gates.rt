@@ -33,7 +33,7 @@ pub fn open_gates<R: Rack>(
     ensures opened { R.tells rack.old → IfOk result (λ count. (gate : ℕ) → gate < count → IsOpenGate (gate_of (devices_of (R.state rack.old).reads (λ device. second)) devices slot gate)) }
     ensures end { R.tells rack.old → IfOk result (λ count. count < 8 → IsOpenGate (gate_of (devices_of (R.state rack.old).reads (λ device. second)) devices slot count) → ⊥) }
     ensures records { R.tells rack.old → IfOk result (λ count. (areas : ℕ) (records : List Logged) → IsLog (devices_of (R.state rack.old).reads (λ device. second)) devices areas slot records → length records ≡ count) }
-    ensures stays { R.tells rack.old → R.state rack.new ≡ R.state rack.old }
+    ensures stays { R.state rack.new ≡ R.state rack.old }
     ensures cause { OnErr result (BothRose (R.faults rack.old) (R.faults rack.new) (R.faults_of rack.old) (R.faults_of rack.new) (member_disk (log_device slot devices) second)) }
     ensures later { NoneFalls (R.faults rack.old) (R.faults rack.new) (R.faults_of rack.old) (R.faults_of rack.new) }
     ensures no_fault { OnOk result (NoneRose (R.faults rack.old) (R.faults rack.new) (R.faults_of rack.old) (R.faults_of rack.new)) }
@@ -63,7 +63,7 @@ fn is_open<R: Rack>(
     requires disk { member_disk (log_device slot devices) second < length (R.state rack.old).sizes }
     requires room { 9345 ≤ slice_index (R.state rack.old).sizes (member_disk (log_device slot devices) second) }
     ensures answer { R.tells rack.old → IfOk result (λ is. IsTrue is ↔ IsOpenGate (gate_of (devices_of (R.state rack.old).reads (λ device. second)) devices slot gate)) }
-    ensures stays { R.tells rack.old → R.state rack.new ≡ R.state rack.old }
+    ensures stays { R.state rack.new ≡ R.state rack.old }
     ensures cause { OnErr result (BothRose (R.faults rack.old) (R.faults rack.new) (R.faults_of rack.old) (R.faults_of rack.new) (member_disk (log_device slot devices) second)) }
     ensures later { NoneFalls (R.faults rack.old) (R.faults rack.new) (R.faults_of rack.old) (R.faults_of rack.new) }
     ensures no_fault { OnOk result (NoneRose (R.faults rack.old) (R.faults rack.new) (R.faults_of rack.old) (R.faults_of rack.new)) }

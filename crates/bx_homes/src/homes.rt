@@ -30,7 +30,7 @@ pub fn read_home<R: Rack>(
     requires room { member_sectors devices areas ≤ slice_index (R.state rack.old).sizes (member_disk (block_place at devices).0 second) }
     ensures some { R.tells rack.old → IfOk result (λ found. IfSome found (IsHome (devices_of (R.state rack.old).reads (λ device. second)) devices at)) }
     ensures none { R.tells rack.old → IfOk result (λ found. IfNone found ((block : Block) → IsHome (devices_of (R.state rack.old).reads (λ device. second)) devices at block → ⊥)) }
-    ensures stays { R.tells rack.old → R.state rack.new ≡ R.state rack.old }
+    ensures stays { R.state rack.new ≡ R.state rack.old }
     ensures cause { IsErrOf result Fault → BothRose (R.faults rack.old) (R.faults rack.new) (R.faults_of rack.old) (R.faults_of rack.new) (member_disk (block_place at devices).0 second) }
     ensures later { NoneFalls (R.faults rack.old) (R.faults rack.new) (R.faults_of rack.old) (R.faults_of rack.new) }
     ensures memory_counts { IsErrOf result OutOfMemory → NoneRose (R.faults rack.old) (R.faults rack.new) (R.faults_of rack.old) (R.faults_of rack.new) }
@@ -53,7 +53,7 @@ pub fn read_block<R: Rack>(
     requires room { sector + 9 ≤ slice_index (R.state rack.old).sizes disk }
     ensures some { R.tells rack.old → IfOk result (λ found. IfSome found (StandsAt (R.state rack.old).reads disk sector)) }
     ensures none { R.tells rack.old → IfOk result (λ found. IfNone found ((block : Block) → StandsAt (R.state rack.old).reads disk sector block → ⊥)) }
-    ensures stays { R.tells rack.old → R.state rack.new ≡ R.state rack.old }
+    ensures stays { R.state rack.new ≡ R.state rack.old }
     ensures cause { IsErrOf result Fault → BothRose (R.faults rack.old) (R.faults rack.new) (R.faults_of rack.old) (R.faults_of rack.new) disk }
     ensures later { NoneFalls (R.faults rack.old) (R.faults rack.new) (R.faults_of rack.old) (R.faults_of rack.new) }
     ensures memory_counts { IsErrOf result OutOfMemory → NoneRose (R.faults rack.old) (R.faults rack.new) (R.faults_of rack.old) (R.faults_of rack.new) }

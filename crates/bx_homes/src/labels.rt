@@ -19,7 +19,7 @@ pub fn first_label<R: Rack>(rack: &mut R) -> Result<Option<Label>, DiskFault>
     ensures some { R.tells rack.old → IfOk result (λ found. IfSome found (IsFirstLabel (R.state rack.old).sizes (R.state rack.old).reads)) }
     ensures is { IfOk result (λ found. IfSome found IsLabel) }
     ensures none { R.tells rack.old → IfOk result (λ found. IfNone found ((disk : ℕ) (label : Label) → IsOwnLabel (R.state rack.old).sizes (R.state rack.old).reads disk label → ⊥)) }
-    ensures stays { R.tells rack.old → R.state rack.new ≡ R.state rack.old }
+    ensures stays { R.state rack.new ≡ R.state rack.old }
     ensures cause { OnErr result (Rose (R.faults rack.old) (R.faults rack.new)) }
     ensures later { NoneFalls (R.faults rack.old) (R.faults rack.new) (R.faults_of rack.old) (R.faults_of rack.new) }
     ensures no_fault { OnOk result (NoneRose (R.faults rack.old) (R.faults rack.new) (R.faults_of rack.old) (R.faults_of rack.new)) }
@@ -38,7 +38,7 @@ pub fn first_label<R: Rack>(rack: &mut R) -> Result<Option<Label>, DiskFault>
 pub fn is_labelled<R: Rack>(rack: &mut R, first: &Label, disk: u32) -> Result<bool, DiskFault>
     ensures answer { R.tells rack.old → IfOk result (λ is. IsTrue is ↔ IsLabelled (R.state rack.old).sizes (R.state rack.old).reads first.now disk) }
     ensures room { IfOk result (λ is. IsTrue is → HasRoom (R.state rack.old).sizes first.now disk) }
-    ensures stays { R.tells rack.old → R.state rack.new ≡ R.state rack.old }
+    ensures stays { R.state rack.new ≡ R.state rack.old }
     ensures cause { OnErr result (BothRose (R.faults rack.old) (R.faults rack.new) (R.faults_of rack.old) (R.faults_of rack.new) disk) }
     ensures later { NoneFalls (R.faults rack.old) (R.faults rack.new) (R.faults_of rack.old) (R.faults_of rack.new) }
     ensures no_fault { OnOk result (NoneRose (R.faults rack.old) (R.faults rack.new) (R.faults_of rack.old) (R.faults_of rack.new)) }
@@ -56,7 +56,7 @@ fn own_label<R: Rack>(rack: &mut R, disk: u32) -> Result<Option<Label>, DiskFaul
     ensures some { R.tells rack.old → IfOk result (λ found. IfSome found (IsOwnLabel (R.state rack.old).sizes (R.state rack.old).reads disk)) }
     ensures fits { IfOk result (λ found. IfSome found (Fits (R.state rack.old).sizes disk)) }
     ensures none { R.tells rack.old → IfOk result (λ found. IfNone found ((label : Label) → IsOwnLabel (R.state rack.old).sizes (R.state rack.old).reads disk label → ⊥)) }
-    ensures stays { R.tells rack.old → R.state rack.new ≡ R.state rack.old }
+    ensures stays { R.state rack.new ≡ R.state rack.old }
     ensures cause { OnErr result (BothRose (R.faults rack.old) (R.faults rack.new) (R.faults_of rack.old) (R.faults_of rack.new) disk) }
     ensures later { NoneFalls (R.faults rack.old) (R.faults rack.new) (R.faults_of rack.old) (R.faults_of rack.new) }
     ensures no_fault { OnOk result (NoneRose (R.faults rack.old) (R.faults rack.new) (R.faults_of rack.old) (R.faults_of rack.new)) }

@@ -13,5 +13,5 @@ pub use blocks::Blocks;
 pub use gates::open_gates;
 pub use homes::{member_disk, read_block, read_home};
 pub use labels::{first_label, is_labelled};
-pub use slots::first_fault;
+pub use slots::{WrongBlock, first_fault};
 pub use sources::{first_absent, first_unlabelled};

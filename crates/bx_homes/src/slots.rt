@@ -7,7 +7,7 @@ ghost use Rattle.bx_layout.specs.Areas.{IsArea, SpellsArea, generation_in, in_us
 ghost use Rattle.bx_places.specs.Places.{IsBlock};
 ghost use Rattle.bx_truth.specs.Chunks.{IsAreaBlock, IsChunked, own_block};
 ghost use Rattle.bx_views.specs.Truths.{Truth};
-ghost use Rattle.bx_homes.specs.Slots.{AreBlocks, HasBlock, HasArea, HasHeader, IsAreaChunked, IsAreaFault, IsFirstFault, StaysSo};
+ghost use Rattle.bx_homes.specs.Slots.{AreBlocks, HasBlock, HasArea, HasHandle, HasHeader, IsAreaChunked, IsAreaFault, IsFirstFault, StaysSo, wanted_handle};
 
 use crate::blocks::Blocks;
 use bx_base::OutOfMemory;
@@ -17,20 +17,33 @@ use bx_layout::{AreaBlock, Block};
 use bx_places::SLOTS;
 use std::alloc::Global;
 
+/// A block that is not as the slots ask.
+#[derive(Clone, Copy, PartialEq, Eq, Debug)]
+pub struct WrongBlock {
+    /// Its number.
+    pub at: u64,
+    /// The handle in its header, 0 where no block is there.
+    pub found: u64,
+    /// The handle that is wanted there: that of its slot, 0 where the slot isn't in use; an area's own for the area's block.
+    pub wanted: u64,
+}
+
 /// The first block, area by area, that is not as the slots ask: an area's own block, and then the blocks of its slots. `None` exactly
 /// where the slots are right. A number that has no block is wrong.
 pub fn first_fault<B: Blocks>(
     alloc: Global,
     blocks: &mut B,
     areas: u16,
-) -> Result<Option<u64>, RackError>
+) -> Result<Option<WrongBlock>, RackError>
     requires ready { B.ready blocks.old }
     requires areas { B.areas blocks.old ≡ areas }
     requires most { areas ≤ 64 }
     ensures none { B.tells blocks.old → IfOk result (λ found. IfNone found ((truth : Truth) → AreBlocks areas (B.stands blocks.old) truth → IsChunked areas truth)) }
     ensures there { B.tells blocks.old → IfOk result (λ found. IfNone found ((at : ℕ) → IsBlock areas at → HasBlock (B.stands blocks.old) at)) }
-    ensures some { B.tells blocks.old → IfOk result (λ found. IfSome found (λ at. (truth : Truth) → AreBlocks areas (B.stands blocks.old) truth → IsFirstFault areas truth at)) }
-    ensures wrong { B.tells blocks.old → IfOk result (λ found. IfSome found (λ at. (truth : Truth) → AreBlocks areas (B.stands blocks.old) truth → IsChunked areas truth → ⊥)) }
+    ensures some { B.tells blocks.old → IfOk result (λ found. IfSome found (λ wrong. (truth : Truth) → AreBlocks areas (B.stands blocks.old) truth → IsFirstFault areas truth wrong.at)) }
+    ensures wrong { B.tells blocks.old → IfOk result (λ found. IfSome found (λ wrong. (truth : Truth) → AreBlocks areas (B.stands blocks.old) truth → IsChunked areas truth → ⊥)) }
+    ensures found { B.tells blocks.old → IfOk result (λ found. IfSome found (λ wrong. HasHandle (B.stands blocks.old) wrong.at wrong.found)) }
+    ensures wanted { B.tells blocks.old → IfOk result (λ found. IfSome found (λ wrong. (truth : Truth) → AreBlocks areas (B.stands blocks.old) truth → wrong.wanted ≡ wanted_handle truth wrong.at)) }
     ensures stays { B.tells blocks.old → StaysSo (B.stands blocks.old) (B.stands blocks.new) }
     ensures cause { IsErrOf result Fault → Rose (B.faults blocks.old) (B.faults blocks.new) }
     ensures later { B.faults blocks.old ≤ B.faults blocks.new }
@@ -42,21 +55,27 @@ pub fn first_fault<B: Blocks>(
     ensures keeps_telling { B.tells blocks.old → B.tells blocks.new }
 {
     for area in 0..areas {
-        if let Some(at) = fault_in(alloc, blocks, area)? {
-            return Ok(Some(at));
+        if let Some(wrong) = fault_in(alloc, blocks, area)? {
+            return Ok(Some(wrong));
         }
     }
     Ok(None)
 }
 
 /// The first wrong block of an area.
-fn fault_in<B: Blocks>(alloc: Global, blocks: &mut B, area: u16) -> Result<Option<u64>, RackError>
+fn fault_in<B: Blocks>(
+    alloc: Global,
+    blocks: &mut B,
+    area: u16,
+) -> Result<Option<WrongBlock>, RackError>
     requires ready { B.ready blocks.old }
     requires area { area < B.areas blocks.old }
     requires most { B.areas blocks.old ≤ 64 }
     ensures none { B.tells blocks.old → IfOk result (λ found. IfNone found ((truth : Truth) → AreBlocks (B.areas blocks.old) (B.stands blocks.old) truth → IsAreaChunked truth area)) }
     ensures there { B.tells blocks.old → IfOk result (λ found. IfNone found (HasArea (B.stands blocks.old) area)) }
-    ensures some { B.tells blocks.old → IfOk result (λ found. IfSome found (λ at. (truth : Truth) → AreBlocks (B.areas blocks.old) (B.stands blocks.old) truth → IsAreaFault truth area at)) }
+    ensures some { B.tells blocks.old → IfOk result (λ found. IfSome found (λ wrong. (truth : Truth) → AreBlocks (B.areas blocks.old) (B.stands blocks.old) truth → IsAreaFault truth area wrong.at)) }
+    ensures found { B.tells blocks.old → IfOk result (λ found. IfSome found (λ wrong. HasHandle (B.stands blocks.old) wrong.at wrong.found)) }
+    ensures wanted { B.tells blocks.old → IfOk result (λ found. IfSome found (λ wrong. (truth : Truth) → AreBlocks (B.areas blocks.old) (B.stands blocks.old) truth → wrong.wanted ≡ wanted_handle truth wrong.at)) }
     ensures stays { B.tells blocks.old → StaysSo (B.stands blocks.old) (B.stands blocks.new) }
     ensures cause { IsErrOf result Fault → Rose (B.faults blocks.old) (B.faults blocks.new) }
     ensures later { B.faults blocks.old ≤ B.faults blocks.new }
@@ -67,16 +86,49 @@ fn fault_in<B: Blocks>(alloc: Global, blocks: &mut B, area: u16) -> Result<Optio
     ensures keeps_ready { B.ready blocks.new }
     ensures keeps_telling { B.tells blocks.old → B.tells blocks.new }
 {
-    let first = 1024 * u64::from(area);
     let Some(slots) = slots_of(alloc, blocks, area)? else {
-        return Ok(Some(first + u64::from(SLOTS)));
+        let wrong = wrong_block(blocks, area, SLOTS, ChunkHandle::own(area).number())?;
+        return Ok(Some(wrong));
     };
     for slot in 0..SLOTS {
         if !has_header(blocks, area, &slots, slot)? {
-            return Ok(Some(first + u64::from(slot)));
+            let wrong = wrong_block(blocks, area, slot, wanted_at(area, &slots, slot))?;
+            return Ok(Some(wrong));
         }
     }
     Ok(None)
+}
+
+/// The block of a slot, or an area's own, as a wrong one: with the handle in its header, and the one that is wanted there.
+fn wrong_block<B: Blocks>(
+    blocks: &mut B,
+    area: u16,
+    slot: u16,
+    wanted: u64,
+) -> Result<WrongBlock, RackError>
+    requires ready { B.ready blocks.old }
+    requires area { area < B.areas blocks.old }
+    requires most { B.areas blocks.old ≤ 64 }
+    requires slot { slot ≤ 960 }
+    ensures at { IfOk result (λ wrong. wrong.at ≡ 1024 * area + slot) }
+    ensures found { B.tells blocks.old → IfOk result (λ wrong. HasHandle (B.stands blocks.old) wrong.at wrong.found) }
+    ensures wanted { IfOk result (λ wrong. wrong.wanted ≡ wanted) }
+    ensures stays { B.tells blocks.old → StaysSo (B.stands blocks.old) (B.stands blocks.new) }
+    ensures cause { IsErrOf result Fault → Rose (B.faults blocks.old) (B.faults blocks.new) }
+    ensures later { B.faults blocks.old ≤ B.faults blocks.new }
+    ensures memory_counts { IsErrOf result MemoryRanOut → B.faults blocks.new ≡ B.faults blocks.old }
+    ensures no_fault { OnOk result (B.faults blocks.new ≡ B.faults blocks.old) }
+    ensures keeps_areas { B.areas blocks.new ≡ B.areas blocks.old }
+    ensures keeps_lender { B.lender blocks.new ≡ B.lender blocks.old }
+    ensures keeps_ready { B.ready blocks.new }
+    ensures keeps_telling { B.tells blocks.old → B.tells blocks.new }
+{
+    let at = 1024 * u64::from(area) + u64::from(slot);
+    let found = match blocks.block(at)? {
+        Some(block) => block.handle,
+        None => 0,
+    };
+    Ok(WrongBlock { at, found, wanted })
 }
 
 /// The slots of an area, `None` exactly where its own block isn't one.

@@ -25,7 +25,7 @@ pub fn first_unlabelled<R: Rack>(
     ensures none { R.tells rack.old → IfOk result (λ found. IfNone found ((device : ℕ) (row : DeviceRow) → slice_get rows.now device ≡ Some row → AreLabelled (R.state rack.old).sizes (R.state rack.old).reads first.now device row)) }
     ensures room { IfOk result (λ found. IfNone found ((device : ℕ) (row : DeviceRow) → slice_get rows.now device ≡ Some row → HaveRoom (R.state rack.old).sizes first.now device row)) }
     ensures some { R.tells rack.old → IfOk result (λ found. IfSome found (IsFirstUnlabelled (R.state rack.old).sizes (R.state rack.old).reads first.now rows.now)) }
-    ensures stays { R.tells rack.old → R.state rack.new ≡ R.state rack.old }
+    ensures stays { R.state rack.new ≡ R.state rack.old }
     ensures cause { OnErr result (Rose (R.faults rack.old) (R.faults rack.new)) }
     ensures later { NoneFalls (R.faults rack.old) (R.faults rack.new) (R.faults_of rack.old) (R.faults_of rack.new) }
     ensures no_fault { OnOk result (NoneRose (R.faults rack.old) (R.faults rack.new) (R.faults_of rack.old) (R.faults_of rack.new)) }
@@ -56,7 +56,7 @@ fn lacks_label<R: Rack>(
     ensures yes { R.tells rack.old → IfOk result (λ lacks. IsTrue lacks → IsSource row.now.mode second × (IsLabelled (R.state rack.old).sizes (R.state rack.old).reads first.now (member_disk device second) → ⊥)) }
     ensures room { IfOk result (λ lacks. IsFalse lacks → IsSource row.now.mode second → HasRoom (R.state rack.old).sizes first.now (member_disk device second)) }
     ensures no { R.tells rack.old → IfOk result (λ lacks. IsFalse lacks → IsSource row.now.mode second → IsLabelled (R.state rack.old).sizes (R.state rack.old).reads first.now (member_disk device second)) }
-    ensures stays { R.tells rack.old → R.state rack.new ≡ R.state rack.old }
+    ensures stays { R.state rack.new ≡ R.state rack.old }
     ensures cause { OnErr result (Rose (R.faults rack.old) (R.faults rack.new)) }
     ensures later { NoneFalls (R.faults rack.old) (R.faults rack.new) (R.faults_of rack.old) (R.faults_of rack.new) }
     ensures no_fault { OnOk result (NoneRose (R.faults rack.old) (R.faults rack.new) (R.faults_of rack.old) (R.faults_of rack.new)) }

@@ -6,6 +6,7 @@ use Rattle.bx_layout.specs.declared.block.Block.{Block}
 use Rattle.bx_layout.specs.Blocks.{HasParts}
 use Rattle.bx_records.specs.Drafts.{Changed, block_in, with_block}
 use Rattle.bx_page.specs.Contents.{Contents, size, value_of, with_value, without_key}
+use Rattle.bx_page.specs.Spelling.{Spells}
 use Rattle.bx_truth.specs.Chunks.{block_at}
 use Rattle.bx_truth.specs.PageTrees.{HasPage}
 use Rattle.bx_views.specs.Truths.{Held, Hints}
@@ -46,7 +47,7 @@ abbrev pub LeafOf : Reads → ℕ → List ℕ → Result (ℕ × Contents) Blin
 LeafOf reads root key (Ok leaf) = IsLeafAt reads root key leaf.0 leaf.1
 LeafOf reads root key (Err (Need at mode)) = NeedsLeaf reads root key at mode
 LeafOf reads root key (Err Stale) = LeafEnds reads root key Lost
-LeafOf reads root key (Err OutOfMemory) = Unit {0}
+LeafOf reads root key (Err OutOfMemory) = ⊥
 LeafOf reads root key (Err (Full spare)) = ⊥
 LeafOf reads root key (Err (NoRoom leaf)) = ⊥
 LeafOf reads root key (Err Absent) = ⊥
@@ -110,6 +111,40 @@ pub record RefusesEntry (held : Held) (reads : Reads) (root : ℕ) (key value : 
 pub record TakesEntry (held : Held) (reads : Reads) (root : ℕ) (key value : List ℕ) (handle : ℕ) (page : Contents) : Type 0 where
   pub lacks : LacksKey reads root key handle page
   pub room : HasNoRoom held handle page key value → ⊥
+
+-- The leaf of a key, written with an entry that it hasn't got and takes; or why not.
+pub record WritesEntry (held : Held) (reads : Reads) (root : ℕ) (key value payload : List ℕ) (handle : ℕ) : Type 0 where
+  pub page : Contents
+  pub takes : TakesEntry held reads root key value handle page
+  pub spells : Spells (with_value page key value) payload
+
+abbrev pub LeafWith : Held → Reads → ℕ → List ℕ → List ℕ → List ℕ → Result ℕ BlinkError → Type 0
+LeafWith held reads root key value payload (Ok handle) = WritesEntry held reads root key value payload handle
+LeafWith held reads root key value payload (Err (Need at mode)) = NeedsLeaf reads root key at mode
+LeafWith held reads root key value payload (Err Stale) = LeafEnds reads root key Lost
+LeafWith held reads root key value payload (Err Present) = (handle : ℕ) × (page : Contents) × HasKey reads root key handle page
+LeafWith held reads root key value payload (Err (NoRoom handle)) = RefusesEntry held reads root key value handle
+LeafWith held reads root key value payload (Err Crowded) = ⊥
+LeafWith held reads root key value payload (Err OutOfMemory) = ⊥
+LeafWith held reads root key value payload (Err (Full spare)) = ⊥
+LeafWith held reads root key value payload (Err Absent) = ⊥
+
+-- The leaf of a key, written without the key's entry; or why not.
+pub record WritesWithout (reads : Reads) (root : ℕ) (key payload : List ℕ) (handle : ℕ) : Type 0 where
+  pub page : Contents
+  pub has : HasKey reads root key handle page
+  pub spells : Spells (without_key page key) payload
+
+abbrev pub LeafWithout : Reads → ℕ → List ℕ → List ℕ → Result ℕ BlinkError → Type 0
+LeafWithout reads root key payload (Ok handle) = WritesWithout reads root key payload handle
+LeafWithout reads root key payload (Err (Need at mode)) = NeedsLeaf reads root key at mode
+LeafWithout reads root key payload (Err Stale) = LeafEnds reads root key Lost
+LeafWithout reads root key payload (Err Absent) = (handle : ℕ) × (page : Contents) × LacksKey reads root key handle page
+LeafWithout reads root key payload (Err Present) = ⊥
+LeafWithout reads root key payload (Err (NoRoom handle)) = ⊥
+LeafWithout reads root key payload (Err Crowded) = ⊥
+LeafWithout reads root key payload (Err OutOfMemory) = ⊥
+LeafWithout reads root key payload (Err (Full spare)) = ⊥
 
 -- the leaf is put into the draft with the entry, or without the key
 pub record PutsEntry (held : Held) (reads : Reads) (old new : List Changed) (root : ℕ) (key value : List ℕ) : Type 0 where

@@ -6,13 +6,13 @@ ghost use Rattle.bx_views.specs.Attempts.{IsHeldDraft};
 ghost use Rattle.bx_views.specs.Truths.{Truth};
 ghost use Rattle.bx_blink.specs.Hints.{Under};
 ghost use Rattle.bx_blink.specs.Walks.{reads_with};
-ghost use Rattle.bx_leaves.specs.Leaves.{OnLeafPath, InsertsAt, RemovesAt};
+ghost use Rattle.bx_leaves.specs.Leaves.{OnLeafPath, InsertsAt, RemovesAt, LeafWith, LeafWithout};
 ghost use Rattle.bx_leaves.specs.Changes.{InsertsIn, RemovesIn, NeedsUnheld};
 
 use crate::leaf::leaf_of;
-use crate::pages::{is_nearly_full, put_page};
+use crate::pages::{is_nearly_full, put_bytes};
 use bx_blink::BlinkError;
-use bx_page::PageError;
+use bx_places::PAYLOAD;
 use bx_records::Draft;
 use bx_views::View;
 use std::alloc::Global;
@@ -57,19 +57,33 @@ fn put_entry<V: View>(
     ensures unchanged { OnErr result (draft.new ≡ draft.old) }
     ensures ends { InsertsAt (V.held view.now) (V.hints view.now) draft.old draft.new root key.now value.now result }
 {
-    let (handle, mut page) = leaf_of(alloc, draft, view, root, key)?;
-    match page.get(key) {
-        Some(_) => return Err(BlinkError::Present),
-        None => {}
+    let mut payload = [0; PAYLOAD];
+    let handle = leaf_with(draft, view, root, (key, value), &mut payload)?;
+    put_bytes(alloc, draft, handle, &payload)
+}
+
+/// Writes the leaf of a key with an entry for the key, which it hasn't got yet, and gives its handle.
+fn leaf_with<V: View>(
+    draft: &Draft,
+    view: &V,
+    root: u64,
+    entry: (&[u8], &[u8]),
+    payload: &mut [u8],
+) -> Result<u64, BlinkError>
+    requires size { length payload.old ≡ 4096 }
+    requires key { length entry.0.now ≤ 256 }
+    requires both { length entry.0.now + length entry.1.now ≤ 268 }
+    ensures { LeafWith (V.held view.now) (reads_with (V.held view.now) (V.hints view.now) draft.now) root entry.entry.0.now entry.entry.1.now payload.new result }
+{
+    let (key, value) = entry;
+    let (handle, page) = leaf_of(draft, view, root, key)?;
+    if page.get(key).is_some() {
+        return Err(BlinkError::Present);
     }
-    if is_nearly_full(alloc, view, handle)? {
+    if is_nearly_full(view, handle) || !page.write_with(key, value, payload) {
         return Err(BlinkError::NoRoom(handle));
     }
-    match page.put(key, value) {
-        Err(PageError::NoRoom) => Err(BlinkError::NoRoom(handle)),
-        Err(PageError::OutOfMemory) => Err(BlinkError::OutOfMemory),
-        Ok(()) => put_page(alloc, draft, handle, &page),
-    }
+    Ok(handle)
 }
 
 /// Takes the entry of a key out of its leaf, in the tree under a root, by the root's handle. It changes one page.
@@ -103,10 +117,26 @@ fn take_entry<V: View>(
     ensures unchanged { OnErr result (draft.new ≡ draft.old) }
     ensures ends { RemovesAt (V.held view.now) (V.hints view.now) draft.old draft.new root key.now result }
 {
-    let (handle, mut page) = leaf_of(alloc, draft, view, root, key)?;
-    if page.take(key) {
-        put_page(alloc, draft, handle, &page)
-    } else {
-        Err(BlinkError::Absent)
+    let mut payload = [0; PAYLOAD];
+    let handle = leaf_without(draft, view, root, key, &mut payload)?;
+    put_bytes(alloc, draft, handle, &payload)
+}
+
+/// Writes the leaf of a key without the key's entry, and gives its handle.
+fn leaf_without<V: View>(
+    draft: &Draft,
+    view: &V,
+    root: u64,
+    key: &[u8],
+    payload: &mut [u8],
+) -> Result<u64, BlinkError>
+    requires { length payload.old ≡ 4096 }
+    ensures { LeafWithout (reads_with (V.held view.now) (V.hints view.now) draft.now) root key.now payload.new result }
+{
+    let (handle, page) = leaf_of(draft, view, root, key)?;
+    if page.get(key).is_none() {
+        return Err(BlinkError::Absent);
     }
+    page.write_without(key, payload);
+    Ok(handle)
 }

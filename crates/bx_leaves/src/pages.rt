@@ -1,11 +1,12 @@
 //! Pages put into a draft.
 
-ghost use Rattle.std.specs.Prelude.{◌≡◌, ◌+◌, ◌<◌, ◌↔◌, IsTrue, IfOk, OnErr};
-ghost use Rattle.bx_page.specs.Contents.{IsPage};
+ghost use Rattle.std.specs.Prelude.{◌≡◌, ◌+◌, ◌<◌, ◌↔◌, IsTrue, OnErr};
+ghost use Rattle.bx_page.specs.Contents.{Contents, IsPage};
+ghost use Rattle.bx_page.specs.Spelling.{Spells};
 ghost use Rattle.bx_leaves.specs.Leaves.{IsNearlyFull, PutsOrNot};
 
-use bx_base::{Mode, OutOfMemory, Raw};
-use bx_blink::{BlinkError, block_at, page_in};
+use bx_base::{Mode, Raw};
+use bx_blink::{BlinkError, block_at, page_of};
 use bx_layout::Block;
 use bx_page::Page;
 use bx_places::PAYLOAD;
@@ -33,7 +34,20 @@ pub fn put_page(
 {
     let mut payload = [0; PAYLOAD];
     page.write(&mut payload);
-    let payload = Raw::of(alloc, &payload)?;
+    put_bytes(alloc, draft, handle, &payload)
+}
+
+/// Puts the bytes of a page into a draft, under its handle, as `put_page` does.
+pub(crate) fn put_bytes(
+    alloc: Global,
+    draft: &mut Draft,
+    handle: u64,
+    payload: &[u8],
+) -> Result<(), BlinkError>
+    ensures unchanged { OnErr result (draft.new ≡ draft.old) }
+    ensures puts { (page : Contents) → Spells page payload.now → PutsOrNot draft.old draft.new handle page result }
+{
+    let payload = Raw::of(alloc, payload)?;
     let block = Block {
         handle,
         kind: PAGE,
@@ -44,22 +58,18 @@ pub fn put_page(
 }
 
 /// Whether a page as the view holds it, exclusively, has less left than two greatest entries take.
-pub(crate) fn is_nearly_full<V: View>(
-    alloc: Global,
-    view: &V,
-    handle: u64,
-) -> Result<bool, OutOfMemory>
-    ensures { IfOk result (λ is. IsTrue is ↔ IsNearlyFull (V.held view.now) handle) }
+pub(crate) fn is_nearly_full<V: View>(view: &V, handle: u64) -> bool
+    ensures { IsTrue result ↔ IsNearlyFull (V.held view.now) handle }
 {
     match view.block(block_at(handle), Mode::Exclusive) {
-        None => Ok(false),
+        None => false,
         Some(block) => {
             if block.handle != handle {
-                return Ok(false);
+                return false;
             }
-            match page_in(alloc, block)? {
-                None => Ok(false),
-                Some(page) => Ok(page.room() < ROOM),
+            match page_of(block) {
+                None => false,
+                Some(page) => page.room() < ROOM,
             }
         }
     }

@@ -3,7 +3,7 @@ use Rattle.std.proofs.Common.{◌≡◌, ◌⊎◌, ⊎_elim, ℕ, suc, arith, L
 use Rattle.bx_disk.specs.Disks.{Disks}
 use Rattle.bx_facts.specs.Writes.{Asked, Made, Sent, StorePast}
 use Rattle.bx_global.specs.declared.state.GlobalState.{GlobalState}
-use Rattle.bx_inodes.specs.Stands.{Stands}
+use Rattle.bx_lone_node.specs.Bare.{StandsBare}
 use Rattle.bx_model.specs.declared.tree.Tree.{Tree}
 use Rattle.bx_lone_node.specs.Node.{NodeView, calls_of, unanswered}
 use Rattle.bx_lone_node.specs.Standing.{Finds, NodeStands}
@@ -30,7 +30,7 @@ module _ (Keeps : Disks → StorePast → Type 0) (Standing : Disks → StorePas
     (made : Made) (own : Option ℕ) (out : Option Sent) (asked : Option Asked) (volume : ℕ) (state : GlobalState) (x : Disks) where
   -- other calls wait, and the truth stands for this tree
   abbrev pub requeued : (node : NodeView) (queue : List Waiting) (tree next then after : Tree) (stood : NodeStands Keeps Standing Reading made own out asked volume state x node tree next) → node.stage ≡ Idle
-      → Stands volume node.areas stood.truth then → NodeStands Keeps Standing Reading made own out asked volume state x (record node { queue = queue }) then after
+      → StandsBare volume node.areas stood.truth then → NodeStands Keeps Standing Reading made own out asked volume state x (record node { queue = queue }) then after
   requeued node queue tree next then after stood idle is =
       let finds = subst (Finds Keeps Standing Reading made own out asked volume state x node next stood.past stood.session stood.before stood.logs stood.truth stood.more) idle stood.finds in
       let new : NodeView = record node { queue = queue } in

@@ -1,13 +1,13 @@
 -- What each event makes of a node that stands.
-use Rattle.std.proofs.Common.{◌≡◌, ◌⊎◌, inl, ℕ, ◌+◌, ◌<◌, arith, Bool, true, false, List, [], ◌∷◌, Contains, length, Option, Some, None, refl, sym, ◌∙◌, ap, subst}
+use Rattle.std.proofs.Common.{◌≡◌, ◌⊎◌, ⊎_elim, inl, ℕ, ◌+◌, ◌<◌, arith, Bool, true, false, List, [], ◌∷◌, Contains, length, Option, Some, None, refl, sym, ◌∙◌, ap, subst}
 use Rattle.std.specs.Prelude.{◌≢◌}
 use Rattle.bx_base.specs.declared.names.Point.{Point}
 use Rattle.bx_cache.specs.Cached.{block_at}
 use Rattle.bx_disk.specs.Disks.{Image, Disks}
 use Rattle.bx_facts.specs.Writes.{AreRuns, Asked, IsOnly, IsOver, Made, MayWrite, Sent, StorePast, store_with, writing}
-use Rattle.bx_facts.proofs.Lists.{nothing}
+use Rattle.bx_facts.proofs.Lists.{front_or_behind, nothing}
 use Rattle.bx_global.specs.declared.state.GlobalState.{GlobalState}
-use Rattle.bx_inodes.specs.Stands.{Stands}
+use Rattle.bx_lone_node.specs.Bare.{StandsBare}
 use Rattle.bx_layout.specs.declared.block.Block.{Block}
 use Rattle.bx_model.specs.declared.tree.Tree.{Tree}
 use Rattle.bx_records.specs.Drafts.{Changed, block_in}
@@ -33,7 +33,7 @@ use Rattle.bx_lone_node.specs.declared.stage.Stage.{Stage}
 use Rattle.bx_lone_node.specs.declared.stage.Stage.TheVariants.{Idle, Logs, Homes, Closes}
 use Rattle.bx_lone_node.specs.Node.{NodeView}
 use Rattle.bx_lone_node.specs.Runs.{IsSent, sent_by}
-use Rattle.bx_lone_node.specs.Standing.{Finds, IsLone, IsWriting, NodeStands}
+use Rattle.bx_lone_node.specs.Standing.{AreOf, Finds, IsAt, IsLone, IsWriting, NodeStands, point_in}
 use Rattle.bx_lone_node.proofs.Phases.{homes_go, is_acked, landed, log_out}
 
 -- a write may be sent while members take none
@@ -91,7 +91,7 @@ module _ (Keeps Keeps_then : Disks → StorePast → Type 0) (Standing Standing_
 
     -- a record begins
     pub began : (any : Tree) (recorded : Recorded) (draft : List Changed) (point : Point) (stood : Before node tree any) → node.stage ≡ Idle → node.log.work ≡ works.Idle → node.log.out ≡ false → node.log.count ≡ 0
-        → IsLogged node.areas (record_of point draft) → Stands volume node.areas (with_draft stood.truth draft) next
+        → IsLogged node.areas (record_of point draft) → StandsBare volume node.areas (with_draft stood.truth draft) next
         → AreRuns made_then (writes (doing node.log (works.Body (logged_text (record_of point draft)) point)) (works.Body (logged_text (record_of point draft)) point)).1
         → out_then ≡ Some (sent_by stood.session (writes (doing node.log (works.Body (logged_text (record_of point draft)) point)) (works.Body (logged_text (record_of point draft)) point)).1)
         → Sends stood.past stood.session (writes (doing node.log (works.Body (logged_text (record_of point draft)) point)) (works.Body (logged_text (record_of point draft)) point)).1
@@ -120,7 +120,7 @@ module _ (Keeps Keeps_then : Disks → StorePast → Type 0) (Standing Standing_
           others = stood.others;
           held = stood.held;
           tree_is = stood.tree_is;
-          finds = (flies stood.past stood.session runs sends finds.1 fit is_out, record { blocks = refl; leads = leads });
+          finds = (flies stood.past stood.session runs sends finds.1 fit is_out, record { recorded = λ at is. ap (λ (p : Point). record_of p draft) is; blocks = refl; leads = leads });
         }
 
     -- what is found in a stage
@@ -159,7 +159,10 @@ module _ (Keeps Keeps_then : Disks → StorePast → Type 0) (Standing Standing_
           others = stood.others;
           held = stood.held;
           tree_is = stood.tree_is;
-          finds = (flies stood.past stood.session runs sends done.none_left fit out_is, finds.1);
+          finds = (
+            flies stood.past stood.session runs sends done.none_left fit out_is,
+            record { recorded = λ at is. finds.1.recorded at (subst (λ (w : Work). IsAt w at) (sym body) is); blocks = finds.1.blocks; leads = finds.1.leads },
+          );
         }
 
     -- The gate is acknowledged: the record is open, its blocks are laid over what was read, and go home.
@@ -168,7 +171,7 @@ module _ (Keeps Keeps_then : Disks → StorePast → Type 0) (Standing Standing_
         → ((at : ℕ) (block : Block) → block_at cache at ≡ Some block → with_draft stood.truth draft at ≡ block)
         → ((logs : Records) → ((at : ℕ) → newest_in (logs 0) at ≡ block_in draft at) → AreItsHomes node.devices node.areas logs 0 runs)
         → AreRuns made_then runs → out_then ≡ Some (sent_by stood.session runs) → Sends stood.past stood.session runs
-        → After (record node { stage = Homes; cache = cache; log = resting (record node.log { count = node.log.count + 1 }) }) next next
+        → After (record node { stage = Homes point; cache = cache; log = resting (record node.log { count = node.log.count + 1 }) }) next next
     opened recorded draft point cache runs stood stage gate is_out count none_out held its fit out_is sends =
         let log = node.log in
         let gate_log : LogView = record log { work = works.Opens point; out = true } in
@@ -187,6 +190,9 @@ module _ (Keeps Keeps_then : Disks → StorePast → Type 0) (Standing Standing_
         let here : (at : ℕ) → newest_in (logs 0) at ≡ block_in draft at = λ at.
         ap (λ (records : List Logged). newest_in records at) (ap logs (sym slot) ∙ log_here stood.logs log.slot (stood.more ∷ stood.logs log.slot) ∙ ap (λ (older : List Logged). stood.more ∷ older) none)
         ∙ one_newest stood.more at ∙ ap (λ (changed : List Changed). block_in changed at) finds.1.blocks in
+        let records : logs 0 ≡ stood.more ∷ [] = ap logs (sym slot) ∙ log_here stood.logs log.slot (stood.more ∷ stood.logs log.slot) ∙ ap (λ (older : List Logged). stood.more ∷ older) none in
+        let is_of : point_in stood.more ≡ point = ap point_in (finds.1.recorded point (subst (λ (w : Work). IsAt w point) (sym gate) refl)) in
+        let are_of : AreOf logs point = λ logged there. ap point_in (sym (the_only stood.more logged (subst (λ (all : List Logged). Contains all logged) records there))) ∙ is_of in
         let homes = its logs here in
         let out_homes = homes_go (Sure stood.past) (Sure_then (past_with stood.past stood.session runs sends)) (sent_by stood.session runs ∷ stood.past.writes) stood.past.told.greatest
         (λ d s content only was. sends.goes d s content state.index only was) node.devices node.areas state.sessions now logs truth stood.more open_log made_then stood.session runs out_then
@@ -206,10 +212,13 @@ module _ (Keeps Keeps_then : Disks → StorePast → Type 0) (Standing Standing_
           log = out_homes;
           others = λ other apart. log_there stood.logs log.slot other (stood.more ∷ stood.logs log.slot) (λ e. apart (e ∙ slot)) ∙ stood.others other apart;
           held = λ at block has. ap (λ (changed : List Changed). with_draft stood.truth changed at) finds.1.blocks ∙ held at block has;
-          tree_is = subst (λ (changed : List Changed). Stands volume node.areas (with_draft stood.truth changed) next) (sym finds.1.blocks) finds.1.leads;
-          finds = (runs, homes, flies stood.past stood.session runs sends done.none_left fit out_is);
+          tree_is = subst (λ (changed : List Changed). StandsBare volume node.areas (with_draft stood.truth changed) next) (sym finds.1.blocks) finds.1.leads;
+          finds = (runs, homes, flies stood.past stood.session runs sends done.none_left fit out_is, are_of);
         }
       where
+        the_only : (more logged : Logged) → Contains (more ∷ []) logged → more ≡ logged
+        the_only more logged there = ⊎_elim (λ same. same) (λ none. absurd (nothing logged none)) (front_or_behind more [] logged there)
+
         one_newest : (more : Logged) (at : ℕ) → newest_in (more ∷ []) at ≡ block_in more.changed at
         one_newest more at = by (block_in more.changed at)
           where
@@ -225,11 +234,11 @@ module _ (Keeps Keeps_then : Disks → StorePast → Type 0) (Standing Standing_
             empty (first ∷ records) none = absurd (omega (arith, none))
 
     -- the homes are written: gate 0 is closed next
-    pub shutting : (stood : Before node tree next) → node.stage ≡ Homes → node.log.work ≡ works.Idle → node.log.out ≡ false → node.log.count ≡ 1 → out ≡ None
+    pub shutting : (point : Point) (stood : Before node tree next) → node.stage ≡ Homes point → node.log.work ≡ works.Idle → node.log.out ≡ false → node.log.count ≡ 1 → out ≡ None
         → AreRuns made_then (writes node.log works.Closes).1
         → out_then ≡ Some (sent_by stood.session (writes node.log works.Closes).1) → Sends stood.past stood.session (writes node.log works.Closes).1
-        → After (record node { stage = Closes; log = doing node.log works.Closes }) tree next
-    shutting stood stage rests quiet count none_out fit out_is sends =
+        → After (record node { stage = Closes point; log = doing node.log works.Closes }) tree next
+    shutting point stood stage rests quiet count none_out fit out_is sends =
         let log = node.log in
         let runs = (writes log works.Closes).1 in
         let finds = subst (Finds Keeps Standing Reading made own out asked volume state x node next stood.past stood.session stood.before stood.logs stood.truth stood.more) stage stood.finds in
@@ -263,21 +272,21 @@ module _ (Keeps Keeps_then : Disks → StorePast → Type 0) (Standing Standing_
           others = stood.others;
           held = stood.held;
           tree_is = stood.tree_is;
-          finds = flies stood.past stood.session runs sends done.none_left fit out_is;
+          finds = (flies stood.past stood.session runs sends done.none_left fit out_is, finds.3);
         }
 
     -- gate 0 is closed: the other gates are closed next
-    pub shut_more : (stood : Before node tree next) → node.stage ≡ Closes → node.log.work ≡ works.Closes → node.log.out ≡ true → out ≡ None
+    pub shut_more : (point : Point) (stood : Before node tree next) → node.stage ≡ Closes point → node.log.work ≡ works.Closes → node.log.out ≡ true → out ≡ None
         → AreRuns made_then (writes (record node.log { count = 0 }) works.Shuts).1
         → out_then ≡ Some (sent_by stood.session (writes (record node.log { count = 0 }) works.Shuts).1) → Sends stood.past stood.session (writes (record node.log { count = 0 }) works.Shuts).1
-        → After (record node { stage = Closes; log = doing (record node.log { count = 0 }) works.Shuts }) tree next
-    shut_more stood stage closes is_out none_out fit out_is sends =
+        → After (record node { stage = Closes point; log = doing (record node.log { count = 0 }) works.Shuts }) tree next
+    shut_more point stood stage closes is_out none_out fit out_is sends =
         let log = node.log in
         let first_log : LogView = record log { work = works.Closes; out = true } in
         let runs = (writes (record log { count = 0 }) works.Shuts).1 in
         let same : log ≡ first_log = λ i. record log { work = closes i; out = is_out i } in
         let finds = subst (Finds Keeps Standing Reading made own out asked volume state x node next stood.past stood.session stood.before stood.logs stood.truth stood.more) stage stood.finds in
-        let done = landed made (Sure stood.past) stood.session (writes log log.work).1 out stood.past.writes finds none_out in
+        let done = landed made (Sure stood.past) stood.session (writes log log.work).1 out stood.past.writes finds.0 none_out in
         let ack = is_acked (Sure stood.past) stood.before log out stood.past.writes (λ e. let f = sym closes ∙ e in absurd cc) done in
         let P : LogView → Type 0 = λ l. IsAcknowledged (Sure stood.past) (Sure stood.past) stood.before (stored stood.before l) l (bytes_of l.work) in
         let st = subst (LogStands (Sure stood.past) node.devices node.areas state.sessions stood.before stood.logs stood.truth stood.more) same stood.log in
@@ -298,21 +307,24 @@ module _ (Keeps Keeps_then : Disks → StorePast → Type 0) (Standing Standing_
           others = λ other apart. log_there stood.logs log.slot other [] (λ e. apart (e ∙ slot)) ∙ stood.others other apart;
           held = stood.held;
           tree_is = stood.tree_is;
-          finds = flies stood.past stood.session runs sends done.none_left fit out_is;
+          finds = (
+            flies stood.past stood.session runs sends done.none_left fit out_is,
+            λ logged there. absurd (nothing logged (subst (λ (all : List Logged). Contains all logged) (ap (with_log stood.logs log.slot []) (sym slot) ∙ log_here stood.logs log.slot []) there)),
+          );
         }
 
 -- all gates are closed: nothing is under way. The store stays as it is.
 module _ (Keeps : Disks → StorePast → Type 0) (Standing : Disks → StorePast → ℕ → ℕ → List ℕ → ℕ → Type 0) (Reading : Disks → StorePast → ℕ → ℕ → List ℕ → Type 0)
     (made : Made) (own : Option ℕ) (out : Option Sent) (asked : Option Asked) (volume : ℕ) (state : GlobalState) (x : Disks) (node : NodeView) (tree next : Tree) where
-  pub rested : (stood : NodeStands Keeps Standing Reading made own out asked volume state x node tree next) → node.stage ≡ Closes → node.log.work ≡ works.Shuts → node.log.out ≡ true → out ≡ None
+  pub rested : (point : Point) (stood : NodeStands Keeps Standing Reading made own out asked volume state x node tree next) → node.stage ≡ Closes point → node.log.work ≡ works.Shuts → node.log.out ≡ true → out ≡ None
       → NodeStands Keeps Standing Reading made own out asked volume state x (record node { stage = Idle; log = resting node.log }) tree next
-  rested stood stage shuts is_out none_out =
+  rested point stood stage shuts is_out none_out =
       let log = node.log in
       let last_log : LogView = record log { work = works.Shuts; out = true } in
       let same : log ≡ last_log = λ i. record log { work = shuts i; out = is_out i } in
       let Sure : ℕ → ℕ → List ℕ → Type 0 = λ d s content. Standing x stood.past d s content state.index in
       let finds = subst (Finds Keeps Standing Reading made own out asked volume state x node next stood.past stood.session stood.before stood.logs stood.truth stood.more) stage stood.finds in
-      let done = landed made Sure stood.session (writes log log.work).1 out stood.past.writes finds none_out in
+      let done = landed made Sure stood.session (writes log log.work).1 out stood.past.writes finds.0 none_out in
       let ack = is_acked Sure stood.before log out stood.past.writes (λ e. let f = sym shuts ∙ e in absurd cc) done in
       let P : LogView → Type 0 = λ l. IsAcknowledged Sure Sure stood.before (stored stood.before l) l (bytes_of l.work) in
       let st = subst (LogStands Sure node.devices node.areas state.sessions stood.before stood.logs stood.truth stood.more) same stood.log in

@@ -87,19 +87,19 @@ module _ (Keeps Keeps_then : Disks → StorePast → Type 0) (Standing Standing_
         made stood.session out (recording_some recorded node.log.work is.0) finds.0 stood.log,
     (still_writing _ finds.0, finds.1),
   )
-  by_stage slot Homes is finds =
+  by_stage slot (Homes point) is finds =
       let rest = at_rest node.log is.0 is.1 in
       let st = subst (LogStands (λ d s content. Standing x stood.past d s content state.index) node.devices node.areas state.sessions stood.before stood.logs stood.truth stood.more) rest stood.log in
       let its = subst (λ (n : ℕ). AreItsHomes node.devices node.areas stood.logs n finds.0) (sym slot) finds.1 in (
         subst (LogStands (λ d s content. Standing_then y past d s content state.index) node.devices node.areas state.sessions stood.before stood.logs stood.truth stood.more) (sym rest)
             (homes_go (λ d s content. Standing x stood.past d s content state.index) (λ d s content. Standing_then y past d s content state.index) stood.past.writes greatest goes node.devices node.areas state.sessions stood.before stood.logs stood.truth stood.more node.log
             made stood.session finds.0 out (omega (arith, slot)) its finds.2 st),
-        (finds.0, finds.1, still_writing finds.0 finds.2),
+        (finds.0, finds.1, still_writing finds.0 finds.2, finds.3),
       )
-  by_stage slot Closes is finds = (
+  by_stage slot (Closes point) is finds = (
     log_goes (λ d s content. Standing x stood.past d s content state.index) (λ d s content. Standing_then y past d s content state.index) stood.past.writes greatest goes node.devices node.areas state.sessions stood.before stood.logs stood.truth stood.more node.log
-        made stood.session out (closing_some node.log.work node.log.count is.0) finds stood.log,
-    still_writing _ finds,
+        made stood.session out (closing_some node.log.work node.log.count is.0) finds.0 stood.log,
+    (still_writing _ finds.0, finds.1),
   )
   by_stage slot Spent is finds = absurd finds
 

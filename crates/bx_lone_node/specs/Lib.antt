@@ -1,5 +1,7 @@
-pub mod Answered
 pub mod Attempts
 pub mod Node
 pub mod Runs
+pub mod Showing
 pub mod Standing
+pub mod Turning
+pub mod Bare

@@ -1,5 +1,5 @@
 -- How a node is seen, and how it goes with its store.
-use Rattle.std.specs.Prelude.{◌≡◌, ℕ, ◌*◌, ◌%◌, ◌≤◌, true, false, List, ◌∷◌, length, Option, Some, None, IsSome}
+use Rattle.std.specs.Prelude.{◌≡◌, ◌==◌, ℕ, ◌*◌, ◌%◌, ◌≤◌, Bool, true, false, List, ◌∷◌, length, Option, Some, None, IsSome}
 use Rattle.bx_base.specs.declared.names.Point.{Point}
 use Rattle.bx_cache.specs.Cached.{block_at}
 use Rattle.bx_layout.specs.declared.block.Block.{Block}
@@ -33,17 +33,27 @@ unanswered Idle queue = queue
 unanswered (Reads at) queue = queue
 unanswered (Logs (Call waiting reply) draft) queue = waiting ∷ queue
 unanswered (Logs Inner draft) queue = queue
-unanswered Homes queue = queue
-unanswered Closes queue = queue
+unanswered (Homes point) queue = queue
+unanswered (Closes point) queue = queue
 unanswered Spent queue = queue
 
 abbrev pub calls_of : NodeView → List Waiting
 calls_of node = unanswered node.stage node.queue
 
--- the point is one of the call whose record it is
+-- whether the record that is under way is of the call with this number
+abbrev pub is_of_call : Stage → ℕ → Bool
+is_of_call Idle number = false
+is_of_call (Reads at) number = false
+is_of_call (Logs (Call waiting reply) draft) number = waiting.number == number
+is_of_call (Logs Inner draft) number = false
+is_of_call (Homes point) number = false
+is_of_call (Closes point) number = false
+is_of_call Spent number = false
+
+-- the point is one of the call whose record it is; that of no call has the number 0
 abbrev pub IsPointOf : Recorded → Point → Type 0
 IsPointOf (Call waiting reply) point = point.call ≡ waiting.number
-IsPointOf Inner point = Unit {0}
+IsPointOf Inner point = point.call ≡ 0
 
 -- A record is under way: its body is written, of whole sectors, or its gate is opened.
 pub record IsBody (text : List ℕ) : Type 0 where
@@ -58,12 +68,12 @@ IsRecording recorded (works.Opens point) = IsPointOf recorded point
 IsRecording recorded works.Closes = ⊥
 IsRecording recorded works.Shuts = ⊥
 
--- The log is being closed; once gate 0 is, it has no records.
+-- The log of one record is being closed; once gate 0 is, it has none.
 abbrev pub IsClosing : Work → ℕ → Type 0
 IsClosing works.Idle count = ⊥
 IsClosing (works.Body text point) count = ⊥
 IsClosing (works.Opens point) count = ⊥
-IsClosing works.Closes count = Unit {0}
+IsClosing works.Closes count = count ≡ 1
 IsClosing works.Shuts count = count ≡ 0
 
 -- what the log does in each stage
@@ -71,8 +81,8 @@ abbrev pub IsInStage : ℕ → LogView → Stage → Type 0
 IsInStage areas log Idle = (log.work ≡ works.Idle) × (log.out ≡ false) × (log.count ≡ 0)
 IsInStage areas log (Reads at) = (log.work ≡ works.Idle) × (log.out ≡ false) × (log.count ≡ 0) × IsBlock areas at
 IsInStage areas log (Logs recorded draft) = IsRecording recorded log.work × (log.out ≡ true) × (log.count ≡ 0) × AreBlocks areas draft
-IsInStage areas log Homes = (log.work ≡ works.Idle) × (log.out ≡ false) × (log.count ≡ 1)
-IsInStage areas log Closes = IsClosing log.work log.count × (log.out ≡ true)
+IsInStage areas log (Homes point) = (log.work ≡ works.Idle) × (log.out ≡ false) × (log.count ≡ 1)
+IsInStage areas log (Closes point) = IsClosing log.work log.count × (log.out ≡ true)
 IsInStage areas log Spent = Unit {0}
 
 -- the node is of use
@@ -80,8 +90,8 @@ abbrev pub IsUsed : Stage → Type 0
 IsUsed Idle = Unit {0}
 IsUsed (Reads at) = Unit {0}
 IsUsed (Logs recorded draft) = Unit {0}
-IsUsed Homes = Unit {0}
-IsUsed Closes = Unit {0}
+IsUsed (Homes point) = Unit {0}
+IsUsed (Closes point) = Unit {0}
 IsUsed Spent = ⊥
 
 -- what every node has: its log is in slot 0, and what it has read are blocks of the volume
@@ -102,8 +112,8 @@ abbrev pub MayBeOut : Stage → Option Sent → Option Asked → Type 0
 MayBeOut Idle out asked = (out ≡ None) × (asked ≡ None)
 MayBeOut (Reads at) out asked = out ≡ None
 MayBeOut (Logs recorded draft) out asked = asked ≡ None
-MayBeOut Homes out asked = asked ≡ None
-MayBeOut Closes out asked = asked ≡ None
+MayBeOut (Homes point) out asked = asked ≡ None
+MayBeOut (Closes point) out asked = asked ≡ None
 MayBeOut Spent out asked = Unit {0}
 
 -- A node may use a store that is made for its volume, and knows its session: what is out there is its own.

@@ -1,5 +1,5 @@
 -- How a node stands: what its store and the disks hold, and which file tree that is. `Sure` says of a sector of a device that it stands so for the node.
-use Rattle.std.specs.Prelude.{◌≡◌, ◌≢◌, ◌⊎◌, ℕ, ◌+◌, ◌<◌, ◌≤◌, false, List, [], ◌∷◌, Option, Some, None}
+use Rattle.std.specs.Prelude.{◌≡◌, ◌≢◌, ◌⊎◌, ℕ, ◌+◌, ◌<◌, ◌≤◌, false, List, [], ◌∷◌, Contains, Option, Some, None}
 use Rattle.bx_base.specs.declared.names.Actor.{Actor}
 use Rattle.bx_base.specs.declared.names.Actor.TheVariants.{Node}
 use Rattle.bx_base.specs.declared.names.Mode.{Mode}
@@ -7,7 +7,7 @@ use Rattle.bx_base.specs.declared.names.Point.{Point}
 use Rattle.bx_cache.specs.Cached.{block_at}
 use Rattle.bx_disk.specs.Disks.{Image, Disks}
 use Rattle.bx_global.specs.declared.state.GlobalState.{GlobalState}
-use Rattle.bx_inodes.specs.Stands.{Stands}
+use Rattle.bx_lone_node.specs.Bare.{StandsBare}
 use Rattle.bx_layout.specs.declared.block.Block.{Block}
 use Rattle.bx_model.specs.declared.tree.Tree.{Tree}
 use Rattle.bx_places.specs.Places.{block_place}
@@ -17,7 +17,7 @@ use Rattle.bx_facts.specs.Chains.{LivesIn, opening_chain}
 use Rattle.bx_facts.specs.Writes.{AreRuns, Asked, Made, Sent, StorePast, WritesIn}
 use Rattle.bx_redo.specs.Homes.{AreItsHomes}
 use Rattle.bx_redo.specs.Stands.{LogStands}
-use Rattle.bx_redo.specs.Steps.{writes}
+use Rattle.bx_redo.specs.Steps.{record_of, writes}
 use Rattle.bx_redo.specs.declared.work.Work.{Work}
 use Rattle.bx_redo.specs.declared.work.Work.TheVariants as works
 use Rattle.bx_views.specs.Attempts.{Deed, Gives, IsFair}
@@ -64,10 +64,19 @@ abbrev pub Does : (Tree → Deed → Tree → Type 0) → Recorded → Point →
 Does Step (Call waiting reply) point tree next = Step tree (deed_of waiting point reply) next
 Does Step Inner point tree next = next ≡ tree
 
--- The truth with the record's blocks stands for the tree that it leads to.
-pub record Promises (volume areas : ℕ) (truth : Truth) (next : Tree) (more : Logged) (draft : List Changed) : Type 0 where
+-- the point of a record
+abbrev pub point_in : Logged → Point
+point_in logged = record { call = logged.head.call; moment = logged.head.moment; spare = logged.head.spare; made = logged.head.made }
+
+-- each record of the node's log is of this point
+abbrev pub AreOf : Records → Point → Type 0
+AreOf logs point = (logged : Logged) → Contains (logs 0) logged → point_in logged ≡ point
+
+-- The record is of the draft's blocks, at the point of what is under way. The truth with them stands for the tree that it leads to.
+pub record Promises (volume areas : ℕ) (truth : Truth) (next : Tree) (more : Logged) (work : Work) (draft : List Changed) : Type 0 where
+  pub recorded : (point : Point) → IsAt work point → more ≡ record_of point draft
   pub blocks : more.changed ≡ draft
-  pub leads : Stands volume areas (with_draft truth draft) next
+  pub leads : StandsBare volume areas (with_draft truth draft) next
 
 -- A read of a block's home is out, or answered, and brings what stands there.
 pub record IsRead (Reading : ℕ → List ℕ → Type 0) (before : Image) (devices at : ℕ) (asked : Option Asked) : Type 0 where
@@ -93,10 +102,10 @@ module _ (Keeps : Disks → StorePast → Type 0) (Standing : Disks → StorePas
   Finds node next past session before logs truth more (Reads at) =
       (out ≡ None) × (past.writes ≡ []) × ((asked ≡ None) ⊎ IsRead (λ s content. Reading x past 0 s content) before node.devices at asked)
   Finds node next past session before logs truth more (Logs recorded draft) =
-      IsWriting made (IsSure past) session (writes node.log node.log.work).1 out past.writes × Promises volume node.areas truth next more draft
-  Finds node next past session before logs truth more Homes =
-      (runs : List Run) × AreItsHomes node.devices node.areas logs 0 runs × IsWriting made (IsSure past) session runs out past.writes
-  Finds node next past session before logs truth more Closes = IsWriting made (IsSure past) session (writes node.log node.log.work).1 out past.writes
+      IsWriting made (IsSure past) session (writes node.log node.log.work).1 out past.writes × Promises volume node.areas truth next more node.log.work draft
+  Finds node next past session before logs truth more (Homes point) =
+      (runs : List Run) × AreItsHomes node.devices node.areas logs 0 runs × IsWriting made (IsSure past) session runs out past.writes × AreOf logs point
+  Finds node next past session before logs truth more (Closes point) = IsWriting made (IsSure past) session (writes node.log node.log.work).1 out past.writes × AreOf logs point
   Finds node next past session before logs truth more Spent = ⊥
 
   -- The node stands on disks for a tree: the log stands, no other log has records, what the node has read is the truth, and that is the
@@ -115,7 +124,7 @@ module _ (Keeps : Disks → StorePast → Type 0) (Standing : Disks → StorePas
     pub log : LogStands (IsSure past) node.devices node.areas state.sessions before logs truth more node.log
     pub others : (slot : ℕ) → slot ≢ 0 → logs slot ≡ []
     pub held : (at : ℕ) (block : Block) → block_at node.cache at ≡ Some block → truth at ≡ block
-    pub tree_is : Stands volume node.areas truth tree
+    pub tree_is : StandsBare volume node.areas truth tree
     pub finds : Finds node next past session before logs truth more node.stage
 
 -- ---- events
@@ -125,9 +134,19 @@ abbrev pub told : Recorded → Point → Option Acted
 told (Call waiting reply) point = Some (record { point = point; reply = reply })
 told Inner point = None
 
--- The record under way, if there is one, was under way before, at the same point.
+-- the blocks of the record of this point go home, or its log is closed
+abbrev pub IsPast : Stage → Point → Type 0
+IsPast Idle point = ⊥
+IsPast (Reads at) point = ⊥
+IsPast (Logs recorded draft) point = ⊥
+IsPast (Homes at) point = at ≡ point
+IsPast (Closes at) point = at ≡ point
+IsPast Spent point = ⊥
+
+-- The record under way, if there is one, was under way before, at the same point; and one that is open was open.
 pub record KeepsRecord (old new : NodeView) : Type 0 where
   pub was : (recorded : Recorded) (draft : List Changed) (point : Point) → new.stage ≡ Logs recorded draft → IsAt new.log.work point → (old.stage ≡ Logs recorded draft) × IsAt old.log.work point
+  pub opened : (point : Point) → IsPast new.stage point → IsPast old.stage point
 
 -- A record was opened: its gate is acknowledged, and its blocks go home.
 pub record Opened (old new : NodeView) (acted : Option Acted) : Type 0 where
@@ -137,9 +156,13 @@ pub record Opened (old new : NodeView) (acted : Option Acted) : Type 0 where
   pub was : old.stage ≡ Logs recorded draft
   pub at : IsAt old.log.work point
   pub says : acted ≡ told recorded point
-  pub now : new.stage ≡ Homes
+  pub now : new.stage ≡ Homes point
 
--- What goes on: the node stands as before, and nothing is said; or a record was opened, and the node stands for the tree that it leads to.
+-- What goes on: nothing is said, or a record was opened.
+abbrev pub Goes : NodeView → NodeView → Option Acted → Type 0
+Goes old new acted = ((acted ≡ None) × KeepsRecord old new) ⊎ Opened old new acted
+
+-- Then the node stands as before, and nothing is said; or a record was opened, and the node stands for the tree that it leads to.
 abbrev pub GoesTo : (Tree → Tree → Type 0) → NodeView → NodeView → Tree → Tree → Option Acted → Type 0
 GoesTo Stands_then old new tree next acted = ((acted ≡ None) × KeepsRecord old new × Stands_then tree next) ⊎ (Opened old new acted × Stands_then next next)
 
@@ -173,8 +196,8 @@ pub record IsTried (volume areas : ℕ) (Step : Tree → Deed → Tree → Type 
   pub call : Waiting
   pub rest : List Waiting
   pub oldest : queue ≡ call ∷ rest
-  pub gives : (truth : Truth) (tree : Tree) → IsTruth held truth → Stands volume areas truth tree
-      → Gives (λ other hints then. Stands volume areas other then) Step (free truth) call.client call.datagram moment truth tree attempt
+  pub gives : (truth : Truth) (tree : Tree) → IsTruth held truth → StandsBare volume areas truth tree
+      → Gives (λ other hints then. StandsBare volume areas other then) Step (free truth) call.client call.datagram moment truth tree attempt
   pub fair : IsFair areas held (path call.client call.datagram held) attempt
 
 -- it answered nothing exactly where no call waits

@@ -1,17 +1,21 @@
 //! Attempts of the call at the head.
 
-ghost use Rattle.std.specs.Prelude.{◌≡◌, ◌≢◌, ◌⊎◌, ℕ, ◌≤◌, [], Contains, IfOk, OnOk};
+ghost use Rattle.std.specs.Prelude.{◌≡◌, ◌≢◌, ℕ, ◌≤◌, [], Contains, IfOk, None, OnOk, true};
+ghost use Rattle.bx_base.specs.declared.names.Mode.{Mode};
+ghost use Rattle.bx_base.specs.declared.names.Point.{Point};
 ghost use Rattle.bx_cache.specs.Cached.{block_at};
 ghost use Rattle.bx_disk.specs.Disks.{Disks};
 ghost use Rattle.bx_facts.specs.Disks.{NeedsNoMore};
 ghost use Rattle.bx_global.specs.declared.state.GlobalState.{GlobalState};
-ghost use Rattle.bx_inodes.specs.Stands.{Stands as TreeStands};
+ghost use Rattle.bx_lone_node.specs.Bare.{StandsBare};
 ghost use Rattle.bx_model.specs.declared.tree.Tree.{Tree};
+ghost use Rattle.bx_places.specs.Places.{is_block};
 ghost use Rattle.bx_views.specs.Attempts.{IsHeldDraft};
 ghost use Rattle.bx_views.specs.Truths.{with_draft};
 ghost use Rattle.bx_lone_node.specs.Attempts.{IsAnswered, IsBegun, point_for};
 ghost use Rattle.bx_lone_node.specs.Node.{IsJoined, IsOfSame, Takes, calls_of};
-ghost use Rattle.bx_lone_node.specs.Standing.{MayTry, NodeStands, StandsFor, Turns};
+ghost use Rattle.bx_lone_node.specs.Standing.{IsAt, MayTry, NodeStands, StandsFor, Turns};
+ghost use Rattle.bx_lone_node.specs.Turning.{Awaits, IsBegunAt};
 ghost use Rattle.bx_lone_node.specs.declared.stage.Recorded.TheVariants.{Inner};
 ghost use Rattle.bx_lone_node.specs.declared.stage.Stage.TheVariants.{Idle, Logs, Reads};
 ghost use Rattle.bx_lone_node.specs.declared.stage.Waiting.{Waiting as Call};
@@ -19,9 +23,8 @@ ghost use Rattle.bx_lone_node.specs.declared.stage.Waiting.{Waiting as Call};
 use crate::node::LoneNode;
 use crate::procedures::Procedures;
 use crate::stage::{Acted, Recorded, Waiting};
-use crate::stores::AskedStore;
 use bx_base::{OutOfMemory, Point};
-use bx_places::is_block;
+use bx_facts::Store;
 use bx_records::{Draft, Wants};
 use bx_views::{Attempt, Done};
 
@@ -30,7 +33,7 @@ const ENOUGH: u64 = 8;
 
 impl LoneNode {
     /// Attempts the call at the head, where one waits.
-    pub(crate) fn attempt<S: AskedStore, E: Procedures>(
+    pub(crate) fn attempt<S: Store, E: Procedures>(
         &mut self,
         store: &mut S,
         engine: &E,
@@ -46,6 +49,10 @@ impl LoneNode {
         ensures same { IsOfSame self.old self.new }
         ensures joined { OnOk result (IsJoined self.new (S.made store.new) (S.own store.new 0) (S.out_of store.new 0) (S.asked store.new 0)) }
         ensures needs { NeedsNoMore (S.needs store.old) (S.needs store.new) }
+        ensures made { S.made store.new ≡ S.made store.old }
+        ensures moments { IfOk result (λ acted. IsBegunAt moment self.new acted) }
+        ensures awaits { OnOk result (Awaits self.new.stage (S.out_of store.new 0) (S.answer store.new 0)) }
+        ensures tries { IfOk result (λ acted. self.new.stage ≡ Idle → acted ≡ None → self.new.queue ≡ []) }
         ensures stands { (volume : ℕ) (state : GlobalState) (x : Disks) (tree next : Tree) → volume ≡ E.volume engine.now → NodeStands (S.keeps store.old) (S.stands store.old) (S.will_read store.old) (S.made store.old) (S.own store.old 0) (S.out_of store.old 0) (S.asked store.old 0) volume state x self.old tree next
             → IfOk result (Turns (E.step engine.now) (StandsFor (E.step engine.now) (NodeStands (S.keeps store.new) (S.stands store.new) (S.will_read store.new) (S.made store.new) (S.own store.new 0) (S.out_of store.new 0) (S.asked store.new 0) volume state x self.new) self.new) (calls_of self.old) (calls_of self.new) tree) }
     {
@@ -70,7 +77,7 @@ impl LoneNode {
     }
 
     /// Begins the record of a change that the tree doesn't show. The call stays at the head.
-    fn begin_inner<S: AskedStore>(
+    fn begin_inner<S: Store>(
         &mut self,
         store: &mut S,
         moment: u64,
@@ -84,7 +91,10 @@ impl LoneNode {
         ensures same { IsOfSame self.old self.new }
         ensures joined { OnOk result (IsJoined self.new (S.made store.new) (S.own store.new 0) (S.out_of store.new 0) (S.asked store.new 0)) }
         ensures needs { NeedsNoMore (S.needs store.old) (S.needs store.new) }
-        ensures stands { (volume : ℕ) (state : GlobalState) (x : Disks) (tree next : Tree) (any : Tree) (stood : NodeStands (S.keeps store.old) (S.stands store.old) (S.will_read store.old) (S.made store.old) (S.own store.old 0) (S.out_of store.old 0) (S.asked store.old 0) volume state x self.old tree any) → TreeStands volume self.old.areas (with_draft stood.truth draft) next → OnOk result (NodeStands (S.keeps store.new) (S.stands store.new) (S.will_read store.new) (S.made store.new) (S.own store.new 0) (S.out_of store.new 0) (S.asked store.new 0) volume state x self.new tree next) }
+        ensures made { S.made store.new ≡ S.made store.old }
+        ensures moment { OnOk result ((point : Point) → IsAt self.new.log.work point → point.moment ≡ moment) }
+        ensures awaits { OnOk result (Awaits self.new.stage (S.out_of store.new 0) (S.answer store.new 0)) }
+        ensures stands { (volume : ℕ) (state : GlobalState) (x : Disks) (tree next : Tree) (any : Tree) (stood : NodeStands (S.keeps store.old) (S.stands store.old) (S.will_read store.old) (S.made store.old) (S.own store.old 0) (S.out_of store.old 0) (S.asked store.old 0) volume state x self.old tree any) → StandsBare volume self.old.areas (with_draft stood.truth draft) next → OnOk result (NodeStands (S.keeps store.new) (S.stands store.new) (S.will_read store.new) (S.made store.new) (S.own store.new 0) (S.out_of store.new 0) (S.asked store.new 0) volume state x self.new tree next) }
     {
         let _waiting = self.queue.len();
         let _blocks = draft.blocks();
@@ -92,7 +102,7 @@ impl LoneNode {
     }
 
     /// Begins the record of what the call at the head changes. It waits no more.
-    fn begin_change<S: AskedStore>(
+    fn begin_change<S: Store>(
         &mut self,
         store: &mut S,
         moment: u64,
@@ -107,7 +117,9 @@ impl LoneNode {
         ensures same { IsOfSame self.old self.new }
         ensures joined { OnOk result (IsJoined self.new (S.made store.new) (S.own store.new 0) (S.out_of store.new 0) (S.asked store.new 0)) }
         ensures needs { NeedsNoMore (S.needs store.old) (S.needs store.new) }
-        ensures stands { (volume : ℕ) (state : GlobalState) (x : Disks) (tree next : Tree) (any : Tree) (stood : NodeStands (S.keeps store.old) (S.stands store.old) (S.will_read store.old) (S.made store.old) (S.own store.old 0) (S.out_of store.old 0) (S.asked store.old 0) volume state x self.old tree any) → TreeStands volume self.old.areas (with_draft stood.truth draft) next → OnOk result (NodeStands (S.keeps store.new) (S.stands store.new) (S.will_read store.new) (S.made store.new) (S.own store.new 0) (S.out_of store.new 0) (S.asked store.new 0) volume state x self.new tree next) }
+        ensures made { S.made store.new ≡ S.made store.old }
+        ensures awaits { OnOk result (Awaits self.new.stage (S.out_of store.new 0) (S.answer store.new 0)) }
+        ensures stands { (volume : ℕ) (state : GlobalState) (x : Disks) (tree next : Tree) (any : Tree) (stood : NodeStands (S.keeps store.old) (S.stands store.old) (S.will_read store.old) (S.made store.old) (S.own store.old 0) (S.out_of store.old 0) (S.asked store.old 0) volume state x self.old tree any) → StandsBare volume self.old.areas (with_draft stood.truth draft) next → OnOk result (NodeStands (S.keeps store.new) (S.stands store.new) (S.will_read store.new) (S.made store.new) (S.own store.new 0) (S.out_of store.new 0) (S.asked store.new 0) volume state x self.new tree next) }
     {
         let Some(call) = self.queue.pop_front() else {
             unreachable!();
@@ -154,23 +166,24 @@ impl LoneNode {
         Ok(Some(attempt))
     }
 
-    /// Asks for the first of the blocks that a call wants, if it is one of the volume.
-    fn need<S: AskedStore>(&mut self, store: &mut S, wants: &Wants) -> Result<(), OutOfMemory>
+    /// Asks for the first of the blocks that a call wants.
+    fn need<S: Store>(&mut self, store: &mut S, wants: &Wants) -> Result<(), OutOfMemory>
         requires joined { IsJoined self.old (S.made store.old) (S.own store.old 0) (S.out_of store.old 0) (S.asked store.old 0) }
         requires idle { self.old.stage ≡ Idle }
+        requires some { wants.now ≢ [] }
+        requires blocks { (at : ℕ) (mode : Mode) → Contains wants.now (at, mode) → is_block self.old.areas at ≡ true }
         ensures queue { OnOk result (self.new.queue ≡ self.old.queue) }
-        ensures stage { OnOk result ((self.new.stage ≡ Idle) ⊎ ((at : ℕ) × (self.new.stage ≡ Reads at))) }
+        ensures stage { OnOk result ((at : ℕ) × (self.new.stage ≡ Reads at)) }
         ensures same { IsOfSame self.old self.new }
         ensures joined { OnOk result (IsJoined self.new (S.made store.new) (S.own store.new 0) (S.out_of store.new 0) (S.asked store.new 0)) }
         ensures needs { NeedsNoMore (S.needs store.old) (S.needs store.new) }
+        ensures made { S.made store.new ≡ S.made store.old }
+        ensures awaits { OnOk result (Awaits self.new.stage (S.out_of store.new 0) (S.answer store.new 0)) }
         ensures stands { (volume : ℕ) (state : GlobalState) (x : Disks) (tree next : Tree) → NodeStands (S.keeps store.old) (S.stands store.old) (S.will_read store.old) (S.made store.old) (S.own store.old 0) (S.out_of store.old 0) (S.asked store.old 0) volume state x self.old tree next → OnOk result (NodeStands (S.keeps store.new) (S.stands store.new) (S.will_read store.new) (S.made store.new) (S.own store.new 0) (S.out_of store.new 0) (S.asked store.new 0) volume state x self.new tree next) }
     {
         let Some((at, _)) = wants.get(0) else {
-            return Ok(());
+            unreachable!();
         };
-        if !is_block(*at, self.areas) {
-            return Ok(());
-        }
         self.ask(store, *at)
     }
 }

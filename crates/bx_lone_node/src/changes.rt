@@ -5,7 +5,7 @@ ghost use Rattle.bx_disk.specs.Disks.{Disks};
 ghost use Rattle.bx_facts.specs.Disks.{NeedsNoMore};
 ghost use Rattle.bx_global.specs.declared.state.GlobalState.{GlobalState};
 ghost use Rattle.bx_cache.specs.Cached.{block_at, or_older};
-ghost use Rattle.bx_inodes.specs.Stands.{Stands as TreeStands};
+ghost use Rattle.bx_lone_node.specs.Bare.{StandsBare};
 ghost use Rattle.bx_model.specs.declared.tree.Tree.{Tree};
 ghost use Rattle.bx_records.specs.Drafts.{IsDraft, block_in};
 ghost use Rattle.bx_views.specs.Truths.{with_draft};
@@ -15,20 +15,22 @@ ghost use Rattle.bx_redo.specs.declared.work.Work.TheVariants.{Body};
 ghost use Rattle.bx_volume.specs.Records.{logged_text};
 ghost use Rattle.bx_lone_node.specs.Node.{IsJoined, IsNode, IsOfSame, IsPointOf, Takes, calls_of, unanswered};
 ghost use Rattle.bx_lone_node.specs.Runs.{AreBlocks, homes_of};
-ghost use Rattle.bx_lone_node.specs.Standing.{GoesTo, NodeStands, told as told_of};
+ghost use Rattle.bx_lone_node.specs.Standing.{Goes, GoesTo, NodeStands, told as told_of};
+ghost use Rattle.bx_lone_node.specs.Turning.{Awaits};
 ghost use Rattle.bx_lone_node.specs.declared.stage.Stage.TheVariants.{Idle, Logs, Homes, Closes, Spent};
 
 use crate::homes::home_runs;
 use crate::node::LoneNode;
 use crate::stage::{Acted, Recorded, Stage};
-use crate::stores::{AskedStore, send};
+use crate::stores::send;
 use bx_base::{OutOfMemory, Point};
+use bx_facts::Store;
 use bx_records::{Draft, Runs};
 use bx_redo::Move;
 
 impl LoneNode {
     /// Begins the record of what a call changed at a point: its body goes out.
-    pub(crate) fn begin<S: AskedStore>(
+    pub(crate) fn begin<S: Store>(
         &mut self,
         store: &mut S,
         recorded: Recorded,
@@ -43,7 +45,9 @@ impl LoneNode {
         ensures same { IsOfSame self.old self.new }
         ensures joined { OnOk result (IsJoined self.new (S.made store.new) (S.own store.new 0) (S.out_of store.new 0) (S.asked store.new 0)) }
         ensures needs { NeedsNoMore (S.needs store.old) (S.needs store.new) }
-        ensures stands { (volume : ℕ) (state : GlobalState) (x : Disks) (tree next : Tree) (any : Tree) (stood : NodeStands (S.keeps store.old) (S.stands store.old) (S.will_read store.old) (S.made store.old) (S.own store.old 0) (S.out_of store.old 0) (S.asked store.old 0) volume state x self.old tree any) → TreeStands volume self.old.areas (with_draft stood.truth draft) next → OnOk result (NodeStands (S.keeps store.new) (S.stands store.new) (S.will_read store.new) (S.made store.new) (S.own store.new 0) (S.out_of store.new 0) (S.asked store.new 0) volume state x self.new tree next) }
+        ensures made { S.made store.new ≡ S.made store.old }
+        ensures awaits { OnOk result (Awaits self.new.stage (S.out_of store.new 0) (S.answer store.new 0)) }
+        ensures stands { (volume : ℕ) (state : GlobalState) (x : Disks) (tree next : Tree) (any : Tree) (stood : NodeStands (S.keeps store.old) (S.stands store.old) (S.will_read store.old) (S.made store.old) (S.own store.old 0) (S.out_of store.old 0) (S.asked store.old 0) volume state x self.old tree any) → StandsBare volume self.old.areas (with_draft stood.truth draft) next → OnOk result (NodeStands (S.keeps store.new) (S.stands store.new) (S.will_read store.new) (S.made store.new) (S.own store.new 0) (S.out_of store.new 0) (S.asked store.new 0) volume state x self.new tree next) }
     {
         self.stage = Stage::Spent;
         self.log.append(point, &draft)?;
@@ -57,7 +61,7 @@ impl LoneNode {
 
     /// Goes on with a record: behind its body comes its gate, and behind that its homes. The call acts when its gate is
     /// acknowledged.
-    pub(crate) fn log_on<S: AskedStore>(
+    pub(crate) fn log_on<S: Store>(
         &mut self,
         store: &mut S,
         recorded: Recorded,
@@ -72,6 +76,9 @@ impl LoneNode {
         ensures same { IsOfSame self.old self.new }
         ensures joined { OnOk result (IsJoined self.new (S.made store.new) (S.own store.new 0) (S.out_of store.new 0) (S.asked store.new 0)) }
         ensures needs { NeedsNoMore (S.needs store.old) (S.needs store.new) }
+        ensures made { S.made store.new ≡ S.made store.old }
+        ensures goes { IfOk result (λ acted. Goes (record self.old { stage = Logs recorded draft }) self.new acted) }
+        ensures awaits { OnOk result (Awaits self.new.stage (S.out_of store.new 0) (S.answer store.new 0)) }
         ensures stands { (volume : ℕ) (state : GlobalState) (x : Disks) (tree next : Tree) → NodeStands (S.keeps store.old) (S.stands store.old) (S.will_read store.old) (S.made store.old) (S.own store.old 0) (S.out_of store.old 0) (S.asked store.old 0) volume state x (record self.old { stage = Logs recorded draft }) tree next
             → IfOk result (GoesTo (NodeStands (S.keeps store.new) (S.stands store.new) (S.will_read store.new) (S.made store.new) (S.own store.new 0) (S.out_of store.new 0) (S.asked store.new 0) volume state x self.new) (record self.old { stage = Logs recorded draft }) self.new tree next) }
     {
@@ -84,7 +91,7 @@ impl LoneNode {
             Move::Acked(point) => {
                 let runs = self.lay(&draft)?;
                 send(store, self.alloc, &runs)?;
-                self.stage = Stage::Homes;
+                self.stage = Stage::Homes(point);
                 Ok(told(recorded, point))
             }
             Move::Read(_, _, _) | Move::Closed | Move::Wait => unreachable!(),
@@ -108,44 +115,56 @@ impl LoneNode {
     }
 
     /// The blocks of the record are home: the log is closed, gate 0 first.
-    pub(crate) fn begin_closing<S: AskedStore>(&mut self, store: &mut S) -> Result<(), OutOfMemory>
+    pub(crate) fn begin_closing<S: Store>(
+        &mut self,
+        store: &mut S,
+        point: Point,
+    ) -> Result<(), OutOfMemory>
         requires spent { self.old.stage ≡ Spent }
-        requires node { IsNode (record self.old { stage = Homes }) }
-        requires joined { IsJoined (record self.old { stage = Homes }) (S.made store.old) (S.own store.old 0) (S.out_of store.old 0) (S.asked store.old 0) }
+        requires node { IsNode (record self.old { stage = Homes point }) }
+        requires joined { IsJoined (record self.old { stage = Homes point }) (S.made store.old) (S.own store.old 0) (S.out_of store.old 0) (S.asked store.old 0) }
         requires none_out { S.out_of store.old 0 ≡ None }
         ensures queue { self.new.queue ≡ self.old.queue }
         ensures same { IsOfSame self.old self.new }
-        ensures stage { OnOk result (self.new.stage ≡ Closes) }
+        ensures stage { OnOk result (self.new.stage ≡ Closes point) }
         ensures joined { OnOk result (IsJoined self.new (S.made store.new) (S.own store.new 0) (S.out_of store.new 0) (S.asked store.new 0)) }
         ensures needs { NeedsNoMore (S.needs store.old) (S.needs store.new) }
-        ensures stands { (volume : ℕ) (state : GlobalState) (x : Disks) (tree next : Tree) → NodeStands (S.keeps store.old) (S.stands store.old) (S.will_read store.old) (S.made store.old) (S.own store.old 0) (S.out_of store.old 0) (S.asked store.old 0) volume state x (record self.old { stage = Homes }) tree next → OnOk result (NodeStands (S.keeps store.new) (S.stands store.new) (S.will_read store.new) (S.made store.new) (S.own store.new 0) (S.out_of store.new 0) (S.asked store.new 0) volume state x self.new tree next) }
+        ensures made { S.made store.new ≡ S.made store.old }
+        ensures awaits { OnOk result (Awaits self.new.stage (S.out_of store.new 0) (S.answer store.new 0)) }
+        ensures stands { (volume : ℕ) (state : GlobalState) (x : Disks) (tree next : Tree) → NodeStands (S.keeps store.old) (S.stands store.old) (S.will_read store.old) (S.made store.old) (S.own store.old 0) (S.out_of store.old 0) (S.asked store.old 0) volume state x (record self.old { stage = Homes point }) tree next → OnOk result (NodeStands (S.keeps store.new) (S.stands store.new) (S.will_read store.new) (S.made store.new) (S.own store.new 0) (S.out_of store.new 0) (S.asked store.new 0) volume state x self.new tree next) }
     {
         self.log.close();
         let Move::Write(runs) = self.log.next(None, false)? else {
             unreachable!();
         };
         send(store, self.alloc, &runs)?;
-        self.stage = Stage::Closes;
+        self.stage = Stage::Closes(point);
         Ok(())
     }
 
     /// Goes on with the closing: behind gate 0 come the other gates.
-    pub(crate) fn close_on<S: AskedStore>(&mut self, store: &mut S) -> Result<(), OutOfMemory>
+    pub(crate) fn close_on<S: Store>(
+        &mut self,
+        store: &mut S,
+        point: Point,
+    ) -> Result<(), OutOfMemory>
         requires spent { self.old.stage ≡ Spent }
-        requires node { IsNode (record self.old { stage = Closes }) }
-        requires joined { IsJoined (record self.old { stage = Closes }) (S.made store.old) (S.own store.old 0) (S.out_of store.old 0) (S.asked store.old 0) }
+        requires node { IsNode (record self.old { stage = Closes point }) }
+        requires joined { IsJoined (record self.old { stage = Closes point }) (S.made store.old) (S.own store.old 0) (S.out_of store.old 0) (S.asked store.old 0) }
         requires none_out { S.out_of store.old 0 ≡ None }
         ensures queue { self.new.queue ≡ self.old.queue }
         ensures same { IsOfSame self.old self.new }
-        ensures stage { OnOk result ((self.new.stage ≡ Closes) ⊎ (self.new.stage ≡ Idle)) }
+        ensures stage { OnOk result ((self.new.stage ≡ Closes point) ⊎ (self.new.stage ≡ Idle)) }
         ensures joined { OnOk result (IsJoined self.new (S.made store.new) (S.own store.new 0) (S.out_of store.new 0) (S.asked store.new 0)) }
         ensures needs { NeedsNoMore (S.needs store.old) (S.needs store.new) }
-        ensures stands { (volume : ℕ) (state : GlobalState) (x : Disks) (tree next : Tree) → NodeStands (S.keeps store.old) (S.stands store.old) (S.will_read store.old) (S.made store.old) (S.own store.old 0) (S.out_of store.old 0) (S.asked store.old 0) volume state x (record self.old { stage = Closes }) tree next → OnOk result (NodeStands (S.keeps store.new) (S.stands store.new) (S.will_read store.new) (S.made store.new) (S.own store.new 0) (S.out_of store.new 0) (S.asked store.new 0) volume state x self.new tree next) }
+        ensures made { S.made store.new ≡ S.made store.old }
+        ensures awaits { OnOk result (Awaits self.new.stage (S.out_of store.new 0) (S.answer store.new 0)) }
+        ensures stands { (volume : ℕ) (state : GlobalState) (x : Disks) (tree next : Tree) → NodeStands (S.keeps store.old) (S.stands store.old) (S.will_read store.old) (S.made store.old) (S.own store.old 0) (S.out_of store.old 0) (S.asked store.old 0) volume state x (record self.old { stage = Closes point }) tree next → OnOk result (NodeStands (S.keeps store.new) (S.stands store.new) (S.will_read store.new) (S.made store.new) (S.own store.new 0) (S.out_of store.new 0) (S.asked store.new 0) volume state x self.new tree next) }
     {
         match self.log.next(None, true)? {
             Move::Write(runs) => {
                 send(store, self.alloc, &runs)?;
-                self.stage = Stage::Closes;
+                self.stage = Stage::Closes(point);
                 Ok(())
             }
             Move::Closed => {

@@ -5,6 +5,7 @@
 mod attempts;
 mod changes;
 mod homes;
+mod laws;
 mod node;
 mod procedures;
 mod reads;
@@ -12,8 +13,8 @@ mod stage;
 mod stores;
 mod syncs;
 
+pub use laws::what_images_show;
 pub use node::LoneNode;
 pub use procedures::Procedures;
 pub use stage::{Acted, Recorded, Stage, Waiting};
-pub use stores::AskedStore;
 pub use syncs::sync;

@@ -1,6 +1,7 @@
 //! The node.
 
-ghost use Rattle.std.specs.Prelude.{◌≡◌, ◌≢◌, ◌++◌, ◌∷◌, [], ℕ, IfOk, OnOk, OnErr, IsTrue, ◌↔◌, ◌≤◌, Contains, None};
+ghost use Rattle.std.specs.Prelude.{◌≡◌, ◌≢◌, ◌==◌, ◌++◌, ◌∷◌, [], ℕ, IfOk, OnOk, OnErr, IsTrue, ◌↔◌, ◌≤◌, Contains, None};
+ghost use Rattle.std.specs.List.{list_any};
 ghost use Rattle.bx_disk.specs.Disks.{Disks};
 ghost use Rattle.bx_facts.specs.Disks.{NeedsNoMore};
 ghost use Rattle.bx_global.specs.declared.state.GlobalState.{GlobalState};
@@ -9,9 +10,10 @@ ghost use Rattle.bx_places.specs.Places.{IsVolume};
 
 use crate::procedures::Procedures;
 use crate::stage::{Acted, Recorded, Stage, Waiting};
-use crate::stores::{AskedStore, NODE};
-use bx_base::OutOfMemory;
+use crate::stores::NODE;
+use bx_base::{CallNo, OutOfMemory};
 use bx_cache::Cache;
+use bx_facts::Store;
 use bx_redo::Log;
 use std::alloc::Global;
 use std::collections::VecDeque;
@@ -44,10 +46,11 @@ impl Model for LoneNode {
 impl LoneNode {
     ghost use Rattle.bx_cache.specs.Cached.{block_at};
     ghost use Rattle.bx_redo.specs.Steps.{closed_log};
-    ghost use Rattle.bx_lone_node.specs.Node.{IsJoined, IsOfSame, Takes, calls_of};
-    ghost use Rattle.bx_lone_node.specs.Standing.{GoesTo, NodeStands, StandsFor, Turns};
+    ghost use Rattle.bx_lone_node.specs.Node.{IsJoined, IsNode, IsOfSame, IsUsed, Takes, calls_of, is_of_call};
+    ghost use Rattle.bx_lone_node.specs.Standing.{Goes, GoesTo, NodeStands, StandsFor, Turns};
+    ghost use Rattle.bx_lone_node.specs.Turning.{Awaits, IsOfMoment};
     ghost use Rattle.bx_lone_node.specs.declared.stage.Waiting.{Waiting};
-    ghost use Rattle.bx_lone_node.specs.declared.stage.Stage.TheVariants.{Idle};
+    ghost use Rattle.bx_lone_node.specs.declared.stage.Stage.TheVariants.{Idle, Reads};
 
     /// A node of a volume of so many devices (1 to 4) and areas (1 to 64), whose logs are closed. No call waits, and nothing was
     /// read yet. It takes no memory.
@@ -79,6 +82,13 @@ impl LoneNode {
         Ok(())
     }
 
+    /// What every node has, for those who reason about one.
+    pub fn is_whole(&self)
+        ensures { IsNode self.now }
+    {
+        let _alloc = &self.alloc;
+    }
+
     /// Whether a call waits for its reply.
     pub fn waits(&self) -> bool
         ensures { IsTrue result ↔ (calls_of self.now ≢ []) }
@@ -88,16 +98,48 @@ impl LoneNode {
             Stage::Logs(Recorded::Inner, _)
             | Stage::Idle
             | Stage::Reads(_)
-            | Stage::Homes
-            | Stage::Closes
+            | Stage::Homes(_)
+            | Stage::Closes(_)
             | Stage::Spent => !self.queue.is_empty(),
+        }
+    }
+
+    /// Whether the call with this number waits for its reply.
+    pub fn waits_for(&self, number: CallNo) -> bool
+        ensures { result ≡ list_any (λ call. call.number == number) (calls_of self.now) }
+    {
+        if self.is_recorded(number) {
+            return true;
+        }
+        self.is_queued(number)
+    }
+
+    /// Whether the call with this number is one of those that weren't begun.
+    fn is_queued(&self, number: CallNo) -> bool
+        ensures { result ≡ list_any (λ call. call.number == number) self.now.queue }
+    {
+        self.queue.iter().any(|call| call.number == number)
+    }
+
+    /// Whether the record that is under way is of the call with this number.
+    fn is_recorded(&self, number: CallNo) -> bool
+        ensures { result ≡ is_of_call self.now.stage number }
+    {
+        match &self.stage {
+            Stage::Logs(Recorded::Call(call, _), _) => call.number == number,
+            Stage::Logs(Recorded::Inner, _)
+            | Stage::Idle
+            | Stage::Reads(_)
+            | Stage::Homes(_)
+            | Stage::Closes(_)
+            | Stage::Spent => false,
         }
     }
 
     /// Does what can be done without the disks, at a moment in milliseconds: goes on with what the store has done, and attempts the
     /// call at the head where nothing is under way. At most one call is answered, the oldest; `None` where none is. For want of memory neither
     /// the node nor the store is used again.
-    pub fn turn<S: AskedStore, E: Procedures>(
+    pub fn turn<S: Store, E: Procedures>(
         &mut self,
         store: &mut S,
         engine: &E,
@@ -112,6 +154,10 @@ impl LoneNode {
         ensures same { IsOfSame self.old self.new }
         ensures joined { OnOk result (IsJoined self.new (S.made store.new) (S.own store.new 0) (S.out_of store.new 0) (S.asked store.new 0)) }
         ensures needs { NeedsNoMore (S.needs store.old) (S.needs store.new) }
+        ensures made { S.made store.new ≡ S.made store.old }
+        ensures moments { IfOk result (λ acted. IsOfMoment moment self.old self.new acted) }
+        ensures awaits { IsUsed self.old.stage → OnOk result (Awaits self.new.stage (S.out_of store.new 0) (S.answer store.new 0)) }
+        ensures tries { IsUsed self.old.stage → IfOk result (λ acted. self.new.stage ≡ Idle → acted ≡ None → self.new.queue ≡ []) }
         ensures stands { (state : GlobalState) (x : Disks) (tree : Tree) (volume : ℕ) → volume ≡ E.volume engine.now
             → StandsFor (E.step engine.now) (NodeStands (S.keeps store.old) (S.stands store.old) (S.will_read store.old) (S.made store.old) (S.own store.old 0) (S.out_of store.old 0) (S.asked store.old 0) volume state x self.old) self.old tree
             → IfOk result (Turns (E.step engine.now) (StandsFor (E.step engine.now) (NodeStands (S.keeps store.new) (S.stands store.new) (S.will_read store.new) (S.made store.new) (S.own store.new 0) (S.out_of store.new 0) (S.asked store.new 0) volume state x self.new) self.new) (calls_of self.old) (calls_of self.new) tree) }
@@ -131,13 +177,16 @@ impl LoneNode {
     }
 
     /// Goes on with what is under way, where the store has done what it was asked for.
-    fn go_on<S: AskedStore>(&mut self, store: &mut S) -> Result<Option<Acted>, OutOfMemory>
+    fn go_on<S: Store>(&mut self, store: &mut S) -> Result<Option<Acted>, OutOfMemory>
         requires joined { IsJoined self.old (S.made store.old) (S.own store.old 0) (S.out_of store.old 0) (S.asked store.old 0) }
         ensures takes { IfOk result (λ acted. Takes acted (calls_of self.old) (calls_of self.new)) }
         ensures queue { self.new.queue ≡ self.old.queue }
         ensures same { IsOfSame self.old self.new }
         ensures joined { OnOk result (IsJoined self.new (S.made store.new) (S.own store.new 0) (S.out_of store.new 0) (S.asked store.new 0)) }
         ensures needs { NeedsNoMore (S.needs store.old) (S.needs store.new) }
+        ensures made { S.made store.new ≡ S.made store.old }
+        ensures goes { IfOk result (λ acted. Goes self.old self.new acted) }
+        ensures awaits { IsUsed self.old.stage → OnOk result (Awaits self.new.stage (S.out_of store.new 0) (S.answer store.new 0)) }
         ensures stands { (volume : ℕ) (state : GlobalState) (x : Disks) (tree next : Tree) → NodeStands (S.keeps store.old) (S.stands store.old) (S.will_read store.old) (S.made store.old) (S.own store.old 0) (S.out_of store.old 0) (S.asked store.old 0) volume state x self.old tree next
             → IfOk result (GoesTo (NodeStands (S.keeps store.new) (S.stands store.new) (S.will_read store.new) (S.made store.new) (S.own store.new 0) (S.out_of store.new 0) (S.asked store.new 0) volume state x self.new) self.old self.new tree next) }
     {
@@ -152,7 +201,8 @@ impl LoneNode {
     }
 
     /// Goes on once the write that was out is acknowledged.
-    fn acknowledged<S: AskedStore>(&mut self, store: &mut S) -> Result<Option<Acted>, OutOfMemory>
+    fn acknowledged<S: Store>(&mut self, store: &mut S) -> Result<Option<Acted>, OutOfMemory>
+        requires no_read { (at : ℕ) → self.old.stage ≢ Reads at }
         requires joined { IsJoined self.old (S.made store.old) (S.own store.old 0) (S.out_of store.old 0) (S.asked store.old 0) }
         requires none_out { S.out_of store.old 0 ≡ None }
         ensures takes { IfOk result (λ acted. Takes acted (calls_of self.old) (calls_of self.new)) }
@@ -160,27 +210,27 @@ impl LoneNode {
         ensures same { IsOfSame self.old self.new }
         ensures joined { OnOk result (IsJoined self.new (S.made store.new) (S.own store.new 0) (S.out_of store.new 0) (S.asked store.new 0)) }
         ensures needs { NeedsNoMore (S.needs store.old) (S.needs store.new) }
+        ensures made { S.made store.new ≡ S.made store.old }
+        ensures goes { IfOk result (λ acted. Goes self.old self.new acted) }
+        ensures awaits { IsUsed self.old.stage → OnOk result (Awaits self.new.stage (S.out_of store.new 0) (S.answer store.new 0)) }
         ensures stands { (volume : ℕ) (state : GlobalState) (x : Disks) (tree next : Tree) → NodeStands (S.keeps store.old) (S.stands store.old) (S.will_read store.old) (S.made store.old) (S.own store.old 0) (S.out_of store.old 0) (S.asked store.old 0) volume state x self.old tree next
             → IfOk result (GoesTo (NodeStands (S.keeps store.new) (S.stands store.new) (S.will_read store.new) (S.made store.new) (S.own store.new 0) (S.out_of store.new 0) (S.asked store.new 0) volume state x self.new) self.old self.new tree next) }
     {
         match mem::replace(&mut self.stage, Stage::Spent) {
             Stage::Logs(recorded, draft) => self.log_on(store, recorded, draft),
-            Stage::Homes => {
-                self.begin_closing(store)?;
+            Stage::Homes(point) => {
+                self.begin_closing(store, point)?;
                 Ok(None)
             }
-            Stage::Closes => {
-                self.close_on(store)?;
+            Stage::Closes(point) => {
+                self.close_on(store, point)?;
                 Ok(None)
             }
             Stage::Idle => {
                 self.stage = Stage::Idle;
                 Ok(None)
             }
-            Stage::Reads(at) => {
-                self.stage = Stage::Reads(at);
-                Ok(None)
-            }
+            Stage::Reads(_) => unreachable!(),
             Stage::Spent => Ok(None),
         }
     }

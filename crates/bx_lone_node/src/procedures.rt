@@ -1,11 +1,11 @@
 //! What calls do to a file tree that stands on the blocks of a volume.
 
-ghost use Rattle.std.specs.Prelude.{ℕ, ◌≤◌, List, IfOk};
+ghost use Rattle.std.specs.Prelude.{◌≡◌, ℕ, ◌≤◌, List, IfOk};
 ghost use Rattle.bx_base.specs.declared.names.Mode.{Mode};
-ghost use Rattle.bx_inodes.specs.Stands.{Stands};
+ghost use Rattle.bx_lone_node.specs.Bare.{StandsBare};
 ghost use Rattle.bx_model.specs.declared.tree.Tree.{Tree};
 ghost use Rattle.bx_views.specs.Attempts.{Deed, Gives, IsFair};
-ghost use Rattle.bx_views.specs.Truths.{Held, IsTruth, Truth};
+ghost use Rattle.bx_views.specs.Truths.{Held, IsTruth, Truth, no_hints};
 
 use bx_base::OutOfMemory;
 use bx_views::{Attempt, View};
@@ -31,7 +31,7 @@ pub trait Procedures: Drop {
     /// The blocks on the path of a call over a view.
     ghost path: { Self → ℕ → List ℕ → Held → ℕ → Mode → Type 0 };
 
-    /// Attempts a call over a view, at a moment in milliseconds.
+    /// Attempts a call over a view without hints, at a moment in milliseconds.
     fn attempt<V: View>(
         &self,
         alloc: Global,
@@ -42,7 +42,8 @@ pub trait Procedures: Drop {
     ) -> Result<Attempt, OutOfMemory>
         requires takes { takes self.now call.now }
         requires moment { moment ≤ 4294967295999 }
-        ensures gives { (truth : Truth) (tree : Tree) → IsTruth (V.held view.now) truth → Stands (volume self.now) (areas self.now) truth tree
-            → IfOk result (Gives (λ other hints then. Stands (volume self.now) (areas self.now) other then) (step self.now) (free self.now truth) client call.now moment truth tree) }
+        requires bare { V.hints view.now ≡ no_hints }
+        ensures gives { (truth : Truth) (tree : Tree) → IsTruth (V.held view.now) truth → StandsBare (volume self.now) (areas self.now) truth tree
+            → IfOk result (Gives (λ other hints then. StandsBare (volume self.now) (areas self.now) other then) (step self.now) (free self.now truth) client call.now moment truth tree) }
         ensures fair { IfOk result (IsFair (areas self.now) (V.held view.now) (path self.now client call.now (V.held view.now))) };
 }

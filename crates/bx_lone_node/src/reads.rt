@@ -1,6 +1,6 @@
 //! Blocks that are read.
 
-ghost use Rattle.std.specs.Prelude.{◌≡◌, ◌⊎◌, ℕ, OnOk, None, Some};
+ghost use Rattle.std.specs.Prelude.{◌≡◌, ◌⊎◌, ℕ, OnOk, Some};
 ghost use Rattle.bx_cache.specs.Cached.{block_at};
 ghost use Rattle.bx_disk.specs.Disks.{Disks};
 ghost use Rattle.bx_facts.specs.Disks.{NeedsNoMore};
@@ -11,19 +11,20 @@ ghost use Rattle.bx_model.specs.declared.tree.Tree.{Tree};
 ghost use Rattle.bx_places.specs.Places.{IsBlock};
 ghost use Rattle.bx_lone_node.specs.Node.{IsJoined, IsNode, IsOfSame};
 ghost use Rattle.bx_lone_node.specs.Standing.{NodeStands};
+ghost use Rattle.bx_lone_node.specs.Turning.{Awaits};
 ghost use Rattle.bx_lone_node.specs.declared.stage.Stage.TheVariants.{Idle, Reads};
 
 use crate::node::LoneNode;
 use crate::stage::Stage;
-use crate::stores::{AskedStore, NODE};
+use crate::stores::NODE;
 use bx_base::{OutOfMemory, Raw};
-use bx_facts::Outbox;
+use bx_facts::{Outbox, Store};
 use bx_layout::Block;
 use bx_places::{BLOCK_SECTORS, place};
 
 impl LoneNode {
     /// Asks for the home of a block.
-    pub(crate) fn ask<S: AskedStore>(&mut self, store: &mut S, at: u64) -> Result<(), OutOfMemory>
+    pub(crate) fn ask<S: Store>(&mut self, store: &mut S, at: u64) -> Result<(), OutOfMemory>
         requires joined { IsJoined self.old (S.made store.old) (S.own store.old 0) (S.out_of store.old 0) (S.asked store.old 0) }
         requires idle { self.old.stage ≡ Idle }
         requires block { IsBlock self.old.areas at }
@@ -31,6 +32,8 @@ impl LoneNode {
         ensures same { IsOfSame self.old self.new }
         ensures joined { OnOk result (IsJoined self.new (S.made store.new) (S.own store.new 0) (S.out_of store.new 0) (S.asked store.new 0)) }
         ensures needs { NeedsNoMore (S.needs store.old) (S.needs store.new) }
+        ensures made { S.made store.new ≡ S.made store.old }
+        ensures awaits { OnOk result (Awaits self.new.stage (S.out_of store.new 0) (S.answer store.new 0)) }
         ensures stands { (volume : ℕ) (state : GlobalState) (x : Disks) (tree next : Tree) → NodeStands (S.keeps store.old) (S.stands store.old) (S.will_read store.old) (S.made store.old) (S.own store.old 0) (S.out_of store.old 0) (S.asked store.old 0) volume state x self.old tree next → OnOk result (NodeStands (S.keeps store.new) (S.stands store.new) (S.will_read store.new) (S.made store.new) (S.own store.new 0) (S.out_of store.new 0) (S.asked store.new 0) volume state x self.new tree next) }
     {
         let (device, sector) = place(at, self.devices, self.areas);
@@ -41,11 +44,7 @@ impl LoneNode {
     }
 
     /// Takes the home of a block, once it is read. Bytes that are no block are let go.
-    pub(crate) fn receive<S: AskedStore>(
-        &mut self,
-        store: &mut S,
-        at: u64,
-    ) -> Result<(), OutOfMemory>
+    pub(crate) fn receive<S: Store>(&mut self, store: &mut S, at: u64) -> Result<(), OutOfMemory>
         requires joined { IsJoined self.old (S.made store.old) (S.own store.old 0) (S.out_of store.old 0) (S.asked store.old 0) }
         requires reads { self.old.stage ≡ Reads at }
         ensures queue { self.new.queue ≡ self.old.queue }
@@ -53,6 +52,8 @@ impl LoneNode {
         ensures stage { OnOk result ((self.new.stage ≡ self.old.stage) ⊎ (self.new.stage ≡ Idle)) }
         ensures joined { OnOk result (IsJoined self.new (S.made store.new) (S.own store.new 0) (S.out_of store.new 0) (S.asked store.new 0)) }
         ensures needs { NeedsNoMore (S.needs store.old) (S.needs store.new) }
+        ensures made { S.made store.new ≡ S.made store.old }
+        ensures awaits { OnOk result (Awaits self.new.stage (S.out_of store.new 0) (S.answer store.new 0)) }
         ensures stands { (volume : ℕ) (state : GlobalState) (x : Disks) (tree next : Tree) → NodeStands (S.keeps store.old) (S.stands store.old) (S.will_read store.old) (S.made store.old) (S.own store.old 0) (S.out_of store.old 0) (S.asked store.old 0) volume state x self.old tree next → OnOk result (NodeStands (S.keeps store.new) (S.stands store.new) (S.will_read store.new) (S.made store.new) (S.own store.new 0) (S.out_of store.new 0) (S.asked store.new 0) volume state x self.new tree next) }
     {
         let Some(bytes) = store.arrived(NODE) else {

@@ -41,10 +41,10 @@ pub enum Stage {
     Reads(u64),
     /// A record of these blocks is written: its body, then its gate.
     Logs(Recorded, Draft),
-    /// The blocks of the record are written home.
-    Homes,
-    /// The log is closed.
-    Closes,
+    /// The blocks of the record of this point are written home.
+    Homes(Point),
+    /// The log is closed. Its record was of this point.
+    Closes(Point),
     /// Memory ran out within a turn: the node isn't used again.
     Spent,
 }

@@ -6,27 +6,12 @@ ghost use Rattle.bx_disk.specs.Disks.{Disks};
 ghost use Rattle.bx_facts.specs.Disks.{NeedsNoMore};
 ghost use Rattle.bx_facts.specs.Chains.{last};
 ghost use Rattle.bx_facts.specs.Writes.{AreRuns, MayWrite, StorePast};
-ghost use Rattle.bx_plain_store.specs.Out.{at};
 ghost use Rattle.bx_lone_node.specs.Runs.{IsSent, sent_by};
 
 use bx_base::OutOfMemory;
 use bx_facts::{Outbox, Store};
-use bx_lone_store::PlainStore;
 use bx_records::Runs;
 use std::alloc::Global;
-
-/// A store that answers only reads that are out.
-pub trait AskedStore: Store {
-    /// No answer without a read.
-    ghost only_asked: { (st : Self) (node : ℕ) → Self.asked st node ≡ None → Self.answer st node ≡ None };
-}
-
-impl AskedStore for PlainStore {
-    ghost use Rattle.bx_facts.specs.Writes.{Asked};
-    ghost use Rattle.bx_lone_node.specs.Answered.{none_answered};
-
-    ghost only_asked = { λ st node is. none_answered (at st.inquiries.items node) is };
-}
 
 /// The number of the node.
 pub(crate) const NODE: u32 = 0;

@@ -42,6 +42,7 @@ leaves_still now since P each = record {
 pub image_of : (writes : List Sent) (greatest : ℕ) (s : GlobalState) (x : Disks) (image : Image) → IsImage x image → HasSettled writes greatest (IsSettled x s) x s image
 image_of writes greatest s x image is = record {
   has = λ device sector content second only settled source. is.sure (member_disk device second) sector (settled.sure second source) ∙ settled.reads second source;
+  labels = λ device second source sure. is.sure (member_disk device second) 0 sure;
   replicas = λ d sector less sure. is.sure d sector sure;
 }
 

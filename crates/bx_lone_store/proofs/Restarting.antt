@@ -85,6 +85,7 @@ pub leaves_sources : (before now : ℕ) (past_since since : ℕ → Image → Ty
 leaves_sources before now past_since since writes greatest s x leaves = leaves_implies before now past_since since (HasSources s x) _ leaves
     (λ image has. record {
       has = λ device sector content second only settled source. has.members device second sector source (settled.sure second source) ∙ settled.reads second source;
+      labels = λ device second source sure. has.members device second 0 source sure;
       replicas = has.replicas;
     })
 

@@ -118,6 +118,8 @@ pub image_settled : (made : Made) (g later : ℕ) (owns : List (Option ℕ)) (sl
 image_settled made g later owns slots x chain writes image fits rises has = record {
   has = λ device sector content second only is source.
       has.members device sector second content (only_outs made g later owns slots x chain writes device sector content fits rises only) (is.reads second source) (is.sure second source);
+  labels = λ device second source sure.
+      has.members device 0 second (x.reads (member_disk device second) 0) (only_label made g later owns slots x chain writes device (x.reads (member_disk device second) 0) fits) refl sure;
   replicas = has.replicas;
 }
 

@@ -14,9 +14,10 @@ use Rattle.bx_facts.specs.Disks.{Crashes, SameMembers}
 use Rattle.bx_facts.specs.Writes.{Asked, GoesOn, HasLabels, IsOnly, IsOnlyOther, IsSettled, IsSourceIn, Made, Sent, StorePast, label_on, member_disk, only_other}
 use Rattle.bx_layout.specs.Labels.{SpellsLabel}
 use Rattle.bx_members.proofs.Kept.{past_replicas, same_member}
+use Rattle.bx_plain_store.specs.Out.{at}
 use Rattle.bx_lone_store.specs.declared.inquiries.Inquiry.{Inquiry}
 use Rattle.bx_lone_store.specs.Fits.{WillRead}
-use Rattle.bx_lone_store.specs.Parts.{answer_at, asked_at}
+use Rattle.bx_lone_store.specs.Parts.{answer_at, answer_in, asked_at, asked_in}
 
 none_there : (change : Change) → Contains [] change → ⊥
 none_there change (i, less, is) = absurd (omega (arith, less))
@@ -157,3 +158,11 @@ pub goes_grown : (past : StorePast) (change : Change) (inquiries : List (Option 
     (λ device sector content index. IsSettled x (last past.told.chain) device sector content) (λ device sector content index. IsSettled x (effect (last past.told.chain) change) device sector content)
 goes_grown past change inquiries x none own = goes_same past.writes past.told.greatest inquiries x x (last past.told.chain) (effect (last past.told.chain) change)
     (λ device sector content only is. settled_by x (last past.told.chain) (effect (last past.told.chain) change) device sector content (same_devices (last past.told.chain) change (own_none past.told.handed change none own)) is)
+
+-- there is no answer without a read
+pub only_asked : (inquiries : List (Option Inquiry)) (node : ℕ) → asked_at inquiries node ≡ None → answer_at inquiries node ≡ None
+only_asked inquiries node none = of_slot (at inquiries node) none
+  where
+    of_slot : (slot : Option Inquiry) → asked_in slot ≡ None → answer_in slot ≡ None
+    of_slot None is = refl
+    of_slot (Some inquiry) is = absurd cc

@@ -1,8 +1,13 @@
 //! A store on one machine.
 
-ghost use Rattle.std.specs.Prelude.{◌≡◌, ℕ, ◌*◌, ◌<◌, ◌≤◌, IfOk, List, None, Option, Some, false, is_some, slice_get};
-ghost use Rattle.bx_facts.specs.Writes.{Made};
-ghost use Rattle.bx_lone_store.specs.Fits.{IsNew};
+ghost use Rattle.std.specs.Prelude.{◌≡◌, ◌≢◌, ◌⊎◌, ℕ, ◌*◌, ◌<◌, ◌≤◌, IfOk, List, None, Option, Some, false, is_some, slice_get};
+ghost use Rattle.bx_base.specs.declared.names.Actor.TheVariants.{Node};
+ghost use Rattle.bx_disk.specs.Disks.{Disks};
+ghost use Rattle.bx_facts.specs.Chains.{IsPlace, any_session_of};
+ghost use Rattle.bx_facts.specs.declared.input.Input.TheVariants.{Tick};
+ghost use Rattle.bx_post.specs.declared.packets.Letter.{Letter};
+ghost use Rattle.bx_facts.specs.Writes.{Made, StorePast, store_heard, store_with};
+ghost use Rattle.bx_lone_store.specs.Fits.{IsNew, Keeps};
 ghost use Rattle.bx_plain_store.specs.Out.{at};
 ghost use Rattle.bx_lone_store.specs.Parts.{IsShape, asked_at, made_of};
 
@@ -79,6 +84,28 @@ impl PlainStore {
         find_session(&self.owns, node as usize)
     }
 
+    /// A node, which knows this state, learns which session it has there. What it had out of another session is forgotten. It takes
+    /// no memory.
+    pub fn join(&mut self, known: &GlobalState, node: u32)
+        requires there { node < self.old.nodes }
+        ensures own { at self.new.owns.items node ≡ any_session_of known.now node }
+        ensures out { (at self.new.slots.items node ≡ None) ⊎ (at self.new.slots.items node ≡ at self.old.slots.items node) }
+        ensures asked { (at self.new.inquiries.items node ≡ None) ⊎ (at self.new.inquiries.items node ≡ at self.old.inquiries.items node) }
+        ensures others { (other : ℕ) → other ≢ node → (at self.new.owns.items other ≡ at self.old.owns.items other) × (at self.new.slots.items other ≡ at self.old.slots.items other) × (at self.new.inquiries.items other ≡ at self.old.inquiries.items other) }
+        ensures keeps { (x : Disks) (past : StorePast) (letters : List Letter) → Keeps (made_of self.old.volume self.old.nodes self.old.devices self.old.areas) self.old.greatest self.old.owns.items self.old.slots.items x (store_with past letters) → IsPlace past.told.chain known.now
+            → Keeps (made_of self.new.volume self.new.nodes self.new.devices self.new.areas) self.new.greatest self.new.owns.items self.new.slots.items x (store_with (store_heard past (Node node) known.now.index (Tick 0) None) letters) }
+        ensures made { made_of self.new.volume self.new.nodes self.new.devices self.new.areas ≡ made_of self.old.volume self.old.nodes self.old.devices self.old.areas }
+        ensures down { self.new.down.items ≡ self.old.down.items }
+    {
+        meet_session(
+            node as usize,
+            any_session(known, node),
+            &mut self.owns,
+            &mut self.slots,
+            &mut self.inquiries,
+        );
+    }
+
     /// Whether a node's read is out, or its answer wasn't taken yet. It takes no memory.
     pub fn is_reading(&self, node: u32) -> bool
         ensures { result ≡ is_some (asked_at self.now.inquiries.items node) }
@@ -99,7 +126,7 @@ impl Store for PlainStore {
     ghost use Rattle.bx_plain_store.specs.Out.{out_at};
     ghost use Rattle.bx_lone_store.specs.Fits.{Keeps, WillRead};
     ghost use Rattle.bx_lone_store.specs.Growing.{keeps_grown, keeps_letters, keeps_new, keeps_sure, keeps_without};
-    ghost use Rattle.bx_lone_store.specs.Laws.{goes_grown, goes_same, goes_sure, sure_elsewhere, sure_replaced, sure_survives};
+    ghost use Rattle.bx_lone_store.specs.Laws.{goes_grown, goes_same, goes_sure, only_asked, sure_elsewhere, sure_replaced, sure_survives};
     ghost use Rattle.bx_lone_store.specs.Needs.{needs_little, needs_none};
     ghost use Rattle.bx_lone_store.specs.Parts.{answer_at};
     ghost use Rattle.bx_lone_store.specs.Waiting.{needs_of, owes_in};
@@ -227,17 +254,7 @@ impl Store for PlainStore {
         Ok(None)
     }
 
-    fn crash(&mut self, who: Actor)
-        ensures keeps { (x : Disks) (past : StorePast) → Keeps (made_of self.old.volume self.old.nodes self.old.devices self.old.areas) self.old.greatest self.old.owns.items self.old.slots.items x past → Keeps (made_of self.new.volume self.new.nodes self.new.devices self.new.areas) self.new.greatest self.new.owns.items self.new.slots.items x (store_crashed past who) }
-        ensures settled { (x : Disks) (past : StorePast) (device sector : ℕ) (content : List ℕ) → Keeps (made_of self.old.volume self.old.nodes self.old.devices self.old.areas) self.old.greatest self.old.owns.items self.old.slots.items x past → IsSettled x (last past.told.chain) device sector content → IsSettled x (last (store_crashed past who).told.chain) device sector content }
-        ensures stands { (x : Disks) (past : StorePast) (device sector : ℕ) (content : List ℕ) (index : ℕ) → Keeps (made_of self.old.volume self.old.nodes self.old.devices self.old.areas) self.old.greatest self.old.owns.items self.old.slots.items x past → IsSettled x (last past.told.chain) device sector content → IsSettled x (last (store_crashed past who).told.chain) device sector content }
-        ensures reads { (x : Disks) (past : StorePast) (reader sector : ℕ) (content : List ℕ) → who ≢ Node reader → Keeps (made_of self.old.volume self.old.nodes self.old.devices self.old.areas) self.old.greatest self.old.owns.items self.old.slots.items x past → WillRead (asked_at self.old.inquiries.items reader) (answer_at self.old.inquiries.items reader) x (last past.told.chain) sector content → WillRead (asked_at self.new.inquiries.items reader) (answer_at self.new.inquiries.items reader) x (last (store_crashed past who).told.chain) sector content }
-        ensures others { (node : ℕ) → who ≢ Node node → (at self.new.owns.items node ≡ at self.old.owns.items node) × (out_at self.new.slots.items node ≡ out_at self.old.slots.items node) × (asked_at self.new.inquiries.items node ≡ asked_at self.old.inquiries.items node) × (answer_at self.new.inquiries.items node ≡ answer_at self.old.inquiries.items node) }
-        ensures needs { NeedsNoMore (λ disk. needs_of (made_of self.old.volume self.old.nodes self.old.devices self.old.areas) self.old.down.items disk) (λ disk. needs_of (made_of self.new.volume self.new.nodes self.new.devices self.new.areas) self.new.down.items disk) }
-        ensures made { made_of self.new.volume self.new.nodes self.new.devices self.new.areas ≡ made_of self.old.volume self.old.nodes self.old.devices self.old.areas }
-        ensures ended { (node : ℕ) → who ≡ Node node → (at self.new.owns.items node ≡ None) × (out_at self.new.slots.items node ≡ None) × (asked_at self.new.inquiries.items node ≡ None) }
-        ensures down { (member : ℕ) → who ≡ Member member → needs_of (made_of self.new.volume self.new.nodes self.new.devices self.new.areas) self.new.down.items (3 + member) ≡ 0 }
-    {
+    fn crash(&mut self, who: Actor) {
         if let Actor::Node(node) = who {
             put_session(
                 node as usize,
@@ -302,6 +319,8 @@ impl Store for PlainStore {
     ghost begins_standing = { λ st x s device sector content new is. is };
 
     ghost finds_standing = { λ st x s boot device sector content new separate is. absurd separate };
+
+    ghost only_asked = { λ st node none. only_asked st.inquiries.items node none };
 
     ghost needs_little = { λ st disk. needs_little (made_of st.volume st.nodes st.devices st.areas) st.down.items disk };
 

@@ -17,10 +17,11 @@ use Rattle.bx_volume.specs.Records.{Logged, StandOpen, HasLog, LogWhere, newest_
 use Rattle.bx_volume.specs.Overlay.{Logs, IsTruth, IsUnlogged, IsHome}
 use Rattle.bx_volume.proofs.OneLog.{one_has_log}
 use Rattle.bx_homes.specs.Slots.{AreBlocks}
-use Rattle.bx_overlay.specs.declared.members.Members.{Members}
-use Rattle.bx_overlay.specs.Logs.{AreLogs, log_in}
-use Rattle.bx_overlay.specs.Members.{held_by}
-use Rattle.bx_overlay.specs.Newest.{AreAgreed, AreNewest, Newest, OrHome, StandsOver, first_in, newest_at}
+use Rattle.bx_logs.specs.declared.members.Members.{Members}
+use Rattle.bx_logs.specs.Logs.{AreLogs, log_in}
+use Rattle.bx_logs.specs.Members.{held_by}
+use Rattle.bx_logs.specs.Newest.{AreAgreed, AreNewest, Newest, first_in, newest_at}
+use Rattle.bx_overlay.specs.Over.{OrHome, StandsOver}
 
 some_one : {A : Type 0} (a b : A) → Some a ≡ Some b → a ≡ b
 some_one a b same = cc

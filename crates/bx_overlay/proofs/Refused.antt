@@ -9,7 +9,7 @@ use Rattle.bx_volume.specs.Images.{IsFirstLabel, AreReadFrom, ShowsTree}
 use Rattle.bx_volume.specs.Overlay.{IsTruth}
 use Rattle.bx_overlay.specs.declared.error.AuditError.{AuditError}
 use Rattle.bx_overlay.specs.declared.error.AuditError.TheVariants.{DiskFault, NoLabel, NoMajority, NoSource, Torn, OutOfMemory}
-use Rattle.bx_overlay.specs.Members.{held_by}
+use Rattle.bx_logs.specs.Members.{held_by}
 use Rattle.bx_overlay.specs.Reading.{HasWrongLogs, IsRefused, IsRefusedAs}
 use Rattle.bx_overlay.specs.Refusals.{IsLogClash, IsLogGap, RefusesLogs, RefusesMembers}
 use Rattle.bx_overlay.proofs.Over.{are_agreed}

@@ -16,10 +16,10 @@ use Rattle.bx_volume.specs.Images.{IsLabelled, AreReadFrom, ShowsTree, devices_o
 use Rattle.bx_volume.specs.Overlay.{Logs, IsTruth}
 use Rattle.bx_volume.proofs.Kept.{has_log}
 use Rattle.bx_homes.specs.Sources.{HasSource, IsFirstAbsent, IsFirstUnlabelled}
-use Rattle.bx_overlay.specs.declared.members.Members.{Members}
-use Rattle.bx_overlay.specs.Members.{held_by, member_in}
+use Rattle.bx_logs.specs.declared.members.Members.{Members}
+use Rattle.bx_logs.specs.Members.{held_by, member_in}
 use Rattle.bx_overlay.specs.Reading.{AreMembers}
-use Rattle.bx_overlay.proofs.LogRuns.{log_same}
+use Rattle.bx_logs.proofs.LogRuns.{log_same}
 use Rattle.bx_overlay.proofs.There.{is_source, long_as, row_of}
 
 -- ---- the truth depends on what the devices hold

@@ -1,7 +1,4 @@
-pub mod Bodies
-pub mod Members
-pub mod Logs
-pub mod Newest
+pub mod Over
 pub mod OneOver
 pub mod Refusals
 pub mod Reading

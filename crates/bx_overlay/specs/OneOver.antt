@@ -4,7 +4,8 @@ use Rattle.std.proofs.Common.{sym, ◌∙◌}
 use Rattle.bx_disk.specs.Disks.{Image}
 use Rattle.bx_layout.specs.declared.block.Block.{Block}
 use Rattle.bx_volume.proofs.OneTruth.{one_home}
-use Rattle.bx_overlay.specs.Newest.{Newest, OrHome, StandsOver, first_in}
+use Rattle.bx_logs.specs.Newest.{Newest, first_in}
+use Rattle.bx_overlay.specs.Over.{OrHome, StandsOver}
 
 pub one_over : (held : Image) (devices : ℕ) (logs : List Newest) (at : ℕ) (a b : Block) → StandsOver held devices logs at a → StandsOver held devices logs at b → a ≡ b
 one_over held devices logs at a b = by (first_in logs at)

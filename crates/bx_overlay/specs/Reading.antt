@@ -13,11 +13,11 @@ use Rattle.bx_volume.specs.Overlay.{Logs, IsTruth}
 use Rattle.bx_volume.specs.Records.{Logged}
 use Rattle.bx_overlay.specs.declared.error.AuditError.{AuditError}
 use Rattle.bx_overlay.specs.declared.error.AuditError.TheVariants.{NoLabel}
-use Rattle.bx_overlay.specs.declared.members.Members.{Members}
+use Rattle.bx_logs.specs.declared.members.Members.{Members}
 use Rattle.bx_overlay.specs.declared.volume_disks.VolumeDisks.{VolumeDisks}
-use Rattle.bx_overlay.specs.Members.{AreThere, held_by, member_in}
-use Rattle.bx_overlay.specs.Logs.{AreLogs, points_in}
-use Rattle.bx_overlay.specs.Newest.{AreAgreed, AreNewest, Newest}
+use Rattle.bx_logs.specs.Members.{AreThere, held_by, member_in}
+use Rattle.bx_logs.specs.Logs.{AreLogs, points_in}
+use Rattle.bx_logs.specs.Newest.{AreAgreed, AreNewest, Newest}
 use Rattle.bx_overlay.specs.Refusals.{AreAccepted, HasNoLabel, RefusesLogs, RefusesMembers}
 
 -- the members that reads go to, of a volume with this label and these devices

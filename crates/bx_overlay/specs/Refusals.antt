@@ -11,9 +11,9 @@ use Rattle.bx_volume.specs.Records.{Logged}
 use Rattle.bx_homes.specs.Sources.{AreLabelled, IsFirstUnlabelled, HasSource, IsFirstAbsent}
 use Rattle.bx_overlay.specs.declared.error.AuditError.{AuditError}
 use Rattle.bx_overlay.specs.declared.error.AuditError.TheVariants.{DiskFault, NoLabel, NoMajority, NoSource, Torn, OutOfMemory}
-use Rattle.bx_overlay.specs.declared.members.Members.{Members}
-use Rattle.bx_overlay.specs.Logs.{AreLogs, HaveNoLogs}
-use Rattle.bx_overlay.specs.Newest.{AreNewest, IsClash, Newest}
+use Rattle.bx_logs.specs.declared.members.Members.{Members}
+use Rattle.bx_logs.specs.Logs.{AreLogs, HaveNoLogs}
+use Rattle.bx_logs.specs.Newest.{AreNewest, IsClash, Newest}
 
 -- how a rack's call that fails makes an audit fail
 abbrev pub audit_error : RackError → AuditError

@@ -12,10 +12,11 @@ ghost use Rattle.bx_volume.specs.Records.{Logged};
 ghost use Rattle.bx_homes.specs.Slots.{AreBlocks};
 ghost use Rattle.bx_overlay.specs.declared.error.AuditError.{AuditError};
 ghost use Rattle.bx_overlay.specs.declared.volume_disks.VolumeDisks.{VolumeDisks};
-ghost use Rattle.bx_overlay.specs.declared.members.Members.{Members};
-ghost use Rattle.bx_overlay.specs.Logs.{AreLogs, log_in};
-ghost use Rattle.bx_overlay.specs.Members.{held_by};
-ghost use Rattle.bx_overlay.specs.Newest.{AreAgreed, AreNewest, Newest, StandsOver};
+ghost use Rattle.bx_logs.specs.declared.members.Members.{Members};
+ghost use Rattle.bx_logs.specs.Logs.{AreLogs, log_in};
+ghost use Rattle.bx_logs.specs.Members.{held_by};
+ghost use Rattle.bx_logs.specs.Newest.{AreAgreed, AreNewest, Newest};
+ghost use Rattle.bx_overlay.specs.Over.{StandsOver};
 ghost use Rattle.bx_overlay.specs.Reading.{HoldsTruth, IsRead, IsRefused};
 
 use bx_volume::one_first_label;

@@ -1,51 +1,22 @@
 //! The blocks of a volume: what its logs lay over its homes.
 
-ghost use Rattle.std.specs.Prelude.{◌≡◌, ◌≤◌, length, IfOk, IfSome, IfNone, OnOk, IsErrOf};
+ghost use Rattle.std.specs.Prelude.{◌≡◌, ◌≤◌, IfOk, IfSome, IfNone, OnOk, IsErrOf};
 ghost use Rattle.bx_base.specs.Faults.{Rose};
 ghost use Rattle.bx_disk.specs.declared.fault.RackError.TheVariants.{Fault, OutOfMemory as MemoryRanOut};
-ghost use Rattle.bx_homes.specs.Slots.{AreBlocks, IsFirstFault};
+ghost use Rattle.bx_homes.specs.Slots.{AreBlocks, HasHandle, IsFirstFault, wanted_handle};
 ghost use Rattle.bx_truth.specs.Chunks.{IsChunked};
 ghost use Rattle.bx_views.specs.Truths.{Truth};
 ghost use Rattle.std.specs.Option.{option_copied};
-ghost use Rattle.bx_overlay.specs.Members.{AreThere, held_by};
-ghost use Rattle.bx_overlay.specs.Newest.{AreAgreed, AreNewest, IsClash, StandsOver, first_in};
+ghost use Rattle.bx_logs.specs.Members.{AreThere, held_by};
+ghost use Rattle.bx_logs.specs.Newest.{first_in};
+ghost use Rattle.bx_overlay.specs.Over.{StandsOver};
 
-use crate::members::Members;
-use crate::newest::{Newest, clash_between, copy_of, newest_of};
-use crate::record::Record;
-use bx_base::{List, OutOfMemory};
 use bx_disk::{Rack, RackError};
-use bx_homes::{Blocks, first_fault, read_home};
+use bx_homes::{Blocks, WrongBlock, first_fault, read_home};
 use bx_layout::Block;
+use bx_logs::{Members, Newest, copy_of};
 use bx_places::place;
 use std::alloc::Global;
-
-/// The newest blocks of each log, slot by slot.
-pub fn newest_of_all(alloc: Global, logs: &[List<Record>]) -> Result<List<Newest>, OutOfMemory>
-    ensures { IfOk result (AreNewest logs.now) }
-{
-    let mut newest = List::new(alloc);
-    for records in logs {
-        newest.push(newest_of(alloc, records.items())?)?;
-    }
-    Ok(newest)
-}
-
-/// A number with which two logs have different blocks, and the handle in the header of the later slot's. `None` exactly where any two
-/// logs have the same block where both have one.
-pub fn clash_in(logs: &[Newest]) -> Option<(u64, u64)>
-    ensures none { IfNone result (AreAgreed logs.now (length logs.now)) }
-    ensures some { IfSome result (λ clash. IsClash logs.now clash.0 clash.1) }
-{
-    for later in 0..logs.len() {
-        for slot in 0..later {
-            if let Some(clash) = clash_between(&logs[slot], &logs[later]) {
-                return Some(clash);
-            }
-        }
-    }
-    None
-}
 
 /// The block with a number of the first log that has one.
 fn first_block(logs: &[Newest], at: u64) -> Option<&Block>
@@ -98,10 +69,13 @@ pub fn first_wrong<R: Rack>(
     rack: &mut R,
     members: Members,
     newest: &[Newest],
-) -> Result<Option<u64>, RackError>
+) -> Result<Option<WrongBlock>, RackError>
     requires { AreThere (R.state rack.old).sizes members }
     ensures none { R.tells rack.old → IfOk result (λ found. IfNone found ((truth : Truth) → AreBlocks members.areas (StandsOver (held_by (R.state rack.old).reads members) members.devices newest.now) truth → IsChunked members.areas truth)) }
-    ensures some { R.tells rack.old → IfOk result (λ found. IfSome found (λ at. (truth : Truth) → AreBlocks members.areas (StandsOver (held_by (R.state rack.old).reads members) members.devices newest.now) truth → IsFirstFault members.areas truth at)) }
+    ensures some { R.tells rack.old → IfOk result (λ found. IfSome found (λ wrong. (truth : Truth) → AreBlocks members.areas (StandsOver (held_by (R.state rack.old).reads members) members.devices newest.now) truth → IsFirstFault members.areas truth wrong.at)) }
+    ensures found { R.tells rack.old → IfOk result (λ found. IfSome found (λ wrong. HasHandle (StandsOver (held_by (R.state rack.old).reads members) members.devices newest.now) wrong.at wrong.found)) }
+    ensures wanted { R.tells rack.old → IfOk result (λ found. IfSome found (λ wrong. (truth : Truth) → AreBlocks members.areas (StandsOver (held_by (R.state rack.old).reads members) members.devices newest.now) truth → wrong.wanted ≡ wanted_handle truth wrong.at)) }
+    ensures stays { R.state rack.new ≡ R.state rack.old }
     ensures cause { IsErrOf result Fault → Rose (R.faults rack.old) (R.faults rack.new) }
     ensures later { R.faults rack.old ≤ R.faults rack.new }
     ensures memory_counts { IsErrOf result MemoryRanOut → R.faults rack.new ≡ R.faults rack.old }
@@ -114,8 +88,8 @@ pub fn first_wrong<R: Rack>(
 }
 
 impl<'a, R: Rack> Blocks for Overlaid<'a, R> {
-    ghost use Rattle.bx_overlay.specs.Members.{AreThere, held_by};
-    ghost use Rattle.bx_overlay.specs.Newest.{StandsOver};
+    ghost use Rattle.bx_logs.specs.Members.{AreThere, held_by};
+    ghost use Rattle.bx_overlay.specs.Over.{StandsOver};
     ghost use Rattle.bx_overlay.specs.OneOver.{one_over};
 
     ghost tells = { λ over. R.tells over.rack.now };
@@ -128,7 +102,7 @@ impl<'a, R: Rack> Blocks for Overlaid<'a, R> {
 
     ghost faults = { λ over. R.faults over.rack.now };
 
-    ghost lender = { λ over. over.rack.ghost_name };
+    ghost lender = { λ over. (over.rack.ghost_name, R.state over.rack.now) };
 
     ghost one = { λ over at a b tells is other. one_over (held_by (R.state over.rack.now).reads over.members) over.members.devices over.logs.now at a b is other };
 

@@ -6,20 +6,17 @@ ghost use Rattle.bx_disk.specs.Counts.{NoneFalls, NoneRose};
 ghost use Rattle.bx_layout.specs.Labels.{IsLabel};
 ghost use Rattle.bx_volume.specs.Images.{IsFirstLabel};
 ghost use Rattle.bx_overlay.specs.declared.error.AuditError.TheVariants.{DiskFault, NoLabel};
-ghost use Rattle.bx_overlay.specs.Members.{AreThere};
+ghost use Rattle.bx_logs.specs.Members.{AreThere};
 ghost use Rattle.bx_overlay.specs.Reading.{AreMembers, AreOverlay, IsRead, IsRefused};
 ghost use Rattle.bx_overlay.specs.Refusals.{AreAccepted, HasNoLabel, IsBreak, RefusesLogs, RefusesMembers, UnlessFault};
 
 use crate::error::AuditError;
-use crate::logs::{points_of, read_logs};
-use crate::members::Members;
-use crate::newest::Newest;
-use crate::overlaid::{clash_in, newest_of_all};
 use bx_base::{List, Points};
 use bx_disk::Rack;
 use bx_global::GlobalState;
 use bx_homes::{first_absent, first_label, first_unlabelled};
 use bx_layout::Label;
+use bx_logs::{Members, Newest, clash_in, newest_of_all, points_of, read_logs};
 use bx_rows::{DeviceRow, SessionRow};
 use std::alloc::Global;
 
@@ -49,7 +46,7 @@ pub fn read_disks<R: Rack>(
     ensures ok { R.tells rack.old → IfOk result (IsRead (R.state rack.old) state.now) }
     ensures there { IfOk result (λ read. AreThere (R.state rack.old).sizes read.members) }
     ensures err { R.tells rack.old → IfErr result (λ error. IsBreak error ⊎ IsRefused (R.state rack.old) state.now error) }
-    ensures stays { R.tells rack.old → R.state rack.new ≡ R.state rack.old }
+    ensures stays { R.state rack.new ≡ R.state rack.old }
     ensures cause { IsErrOf result DiskFault → Rose (R.faults rack.old) (R.faults rack.new) }
     ensures later { NoneFalls (R.faults rack.old) (R.faults rack.new) (R.faults_of rack.old) (R.faults_of rack.new) }
     ensures counts { UnlessFault result (NoneRose (R.faults rack.old) (R.faults rack.new) (R.faults_of rack.old) (R.faults_of rack.new)) }
@@ -72,7 +69,7 @@ fn find_first<R: Rack>(rack: &mut R) -> Result<Label, AuditError>
     ensures ok { R.tells rack.old → IfOk result (IsFirstLabel (R.state rack.old).sizes (R.state rack.old).reads) }
     ensures is { IfOk result IsLabel }
     ensures err { R.tells rack.old → IfErr result (λ error. IsBreak error ⊎ ((error ≡ NoLabel 0) × HasNoLabel (R.state rack.old))) }
-    ensures stays { R.tells rack.old → R.state rack.new ≡ R.state rack.old }
+    ensures stays { R.state rack.new ≡ R.state rack.old }
     ensures cause { IsErrOf result DiskFault → Rose (R.faults rack.old) (R.faults rack.new) }
     ensures later { NoneFalls (R.faults rack.old) (R.faults rack.new) (R.faults_of rack.old) (R.faults_of rack.new) }
     ensures counts { UnlessFault result (NoneRose (R.faults rack.old) (R.faults rack.new) (R.faults_of rack.old) (R.faults_of rack.new)) }
@@ -96,7 +93,7 @@ fn find_members<R: Rack>(
     ensures members { IfOk result (AreMembers first.now rows.now) }
     ensures there { IfOk result (AreThere (R.state rack.old).sizes) }
     ensures err { R.tells rack.old → IfErr result (λ error. IsBreak error ⊎ RefusesMembers (R.state rack.old) first.now rows.now error) }
-    ensures stays { R.tells rack.old → R.state rack.new ≡ R.state rack.old }
+    ensures stays { R.state rack.new ≡ R.state rack.old }
     ensures cause { IsErrOf result DiskFault → Rose (R.faults rack.old) (R.faults rack.new) }
     ensures later { NoneFalls (R.faults rack.old) (R.faults rack.new) (R.faults_of rack.old) (R.faults_of rack.new) }
     ensures counts { UnlessFault result (NoneRose (R.faults rack.old) (R.faults rack.new) (R.faults_of rack.old) (R.faults_of rack.new)) }
@@ -142,7 +139,7 @@ fn read_overlay<R: Rack>(
     requires { AreThere (R.state rack.old).sizes members.now }
     ensures ok { R.tells rack.old → IfOk result (λ read. AreOverlay (R.state rack.old).reads members.now sessions.now read.0 read.1) }
     ensures err { R.tells rack.old → IfErr result (λ error. IsBreak error ⊎ RefusesLogs (R.state rack.old).reads members.now sessions.now error) }
-    ensures stays { R.tells rack.old → R.state rack.new ≡ R.state rack.old }
+    ensures stays { R.state rack.new ≡ R.state rack.old }
     ensures cause { IsErrOf result DiskFault → Rose (R.faults rack.old) (R.faults rack.new) }
     ensures later { NoneFalls (R.faults rack.old) (R.faults rack.new) (R.faults_of rack.old) (R.faults_of rack.new) }
     ensures counts { UnlessFault result (NoneRose (R.faults rack.old) (R.faults rack.new) (R.faults_of rack.old) (R.faults_of rack.new)) }

@@ -1,5 +1,5 @@
 -- Disks of replicas are kept, whatever is written on members.
-use Rattle.std.proofs.Common.{◌≡◌, ◌≢◌, ℕ, ◌<◌, ◌≤◌, List, [], ◌∷◌, refl, sym, ◌∙◌, ap, subst, arith}
+use Rattle.std.proofs.Common.{◌≡◌, ◌≢◌, ℕ, ◌≤◌, [], ◌∷◌, refl, sym, ◌∙◌, subst, arith}
 use Rattle.bx_disk.specs.Disks.{Disks}
 use Rattle.bx_calls.specs.Calls.{KeepsAll, KeepsSure}
 use Rattle.bx_facts.proofs.Lists.{front}

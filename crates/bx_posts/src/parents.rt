@@ -31,14 +31,14 @@ pub(crate) fn parent_of<V: View>(
     ensures { ParentOf (reads_with (V.held view.now) (V.hints view.now) draft.now) root separator.now.level separator.now.key result }
 {
     let (level, key) = (separator.level, separator.key.bytes());
-    match walk(alloc, draft, view, root, key, level, Mode::Exclusive)? {
+    match walk(draft, view, root, key, level, Mode::Exclusive) {
         End::Needs(at, mode) => Err(BlinkError::Need(at, mode)),
         End::Lost => Err(BlinkError::Stale),
         End::Lands(handle, page) => {
             let at = block_at(handle);
             match seen(draft, view, at, Mode::Exclusive) {
                 None => Err(BlinkError::Need(at, Mode::Exclusive)),
-                Some(_) => Ok((handle, page)),
+                Some(_) => Ok((handle, page.copied(alloc)?)),
             }
         }
     }

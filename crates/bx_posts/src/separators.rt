@@ -5,8 +5,8 @@ ghost use Rattle.bx_blink.specs.Walks.{reads_with};
 ghost use Rattle.bx_posts.specs.Separators.{MayPost, ShowsAt, SeparatorAt};
 
 use bx_base::{Mode, OutOfMemory, Raw};
-use bx_blink::{BlinkError, block_at, page_in, seen};
-use bx_page::Page;
+use bx_blink::{BlinkError, block_at, page_in, page_of, seen};
+use bx_page_bytes::PageBytes;
 use bx_records::Draft;
 use bx_views::View;
 use std::alloc::Global;
@@ -23,12 +23,11 @@ pub(crate) struct Separator {
 }
 
 /// A page under a handle, held shared at least.
-fn page_shown<V: View>(
-    alloc: Global,
-    draft: &Draft,
-    view: &V,
+fn page_shown<'a, V: View>(
+    draft: &'a Draft,
+    view: &'a V,
     handle: u64,
-) -> Result<Page, BlinkError>
+) -> Result<PageBytes<'a>, BlinkError>
     ensures { ShowsAt (reads_with (V.held view.now) (V.hints view.now) draft.now) handle result }
 {
     let at = block_at(handle);
@@ -38,7 +37,7 @@ fn page_shown<V: View>(
             if block.handle != handle {
                 return Err(BlinkError::Stale);
             }
-            match page_in(alloc, block)? {
+            match page_of(block) {
                 None => Err(BlinkError::Stale),
                 Some(page) => Ok(page),
             }
@@ -82,7 +81,7 @@ pub(crate) fn separator_of<V: View>(
     requires { MayPost (reads_with (V.held view.now) (V.hints view.now) draft.now) handle }
     ensures { SeparatorAt (reads_with (V.held view.now) (V.hints view.now) draft.now) handle result }
 {
-    let page = page_shown(alloc, draft, view, handle)?;
+    let page = page_shown(draft, view, handle)?;
     let Some(level) = page.level().checked_add(1) else {
         return Err(BlinkError::Stale);
     };

@@ -14,7 +14,7 @@ use Rattle.bx_model.specs.declared.reply.Reply.TheVariants.{Space}
 use Rattle.bx_model.specs.declared.tree.Tree.{Tree}
 use Rattle.bx_model.specs.Steps.{Outcome}
 use Rattle.bx_tree_files.specs.declared.file.File.{File}
-use Rattle.bx_views.specs.Truths.{Held}
+use Rattle.bx_views.specs.Truths.{Held, Truth}
 use Rattle.bx_reads.specs.Files.{IsNamed, NamesFile}
 use Rattle.bx_reads.specs.Space.{IsOwnOf, IsSpace, IsSpaceOf, OnSpace, space_words}
 use Rattle.bx_reads.proofs.Told.{told}
@@ -64,13 +64,13 @@ abbrev spaced : Tree → ℕ → File → Outcome
 spaced tree spare file = Ok (Space (space_words tree.areas spare), tree)
 
 module _ (tree : Tree) (bytes : List ℕ) (free : ℕ) where
-  pub stopped_space : (stop : Stop) → NamesFile tree bytes (Err stop) → IsSpace tree free bytes (Err stop)
-  stopped_space (Status status) (code, none) = λ spare. ap (told tree bytes (spaced tree spare)) none ∙ ap Err (sym code)
-  stopped_space (Need at mode) f = tt
-  stopped_space (Inner blocks) never = never
-  stopped_space OutOfMemory f = tt
+  pub stopped_space : (areas : ℕ) (truth : Truth) (stop : Stop) → NamesFile areas truth tree bytes (Err stop) → IsSpace tree free bytes (Err stop)
+  stopped_space areas truth (Status status) (code, none) = λ spare. ap (told tree bytes (spaced tree spare)) none ∙ ap Err (sym code)
+  stopped_space areas truth (Need at mode) f = tt
+  stopped_space areas truth (Inner blocks) never = never
+  stopped_space areas truth OutOfMemory f = tt
 
-  module _ (areas handle : ℕ) (inode : Inode) (same : tree.areas ≡ areas) (is : IsNamed tree bytes handle inode) where
+  module _ (areas handle : ℕ) (truth : Truth) (inode : Inode) (same : tree.areas ≡ areas) (is : IsNamed areas truth tree bytes handle inode) where
     pub space_told : (result : Result (Reply × ℕ) Stop) → IsSpaceOf areas free result → IsSpace tree free bytes result
     space_told (Ok found) (reply_is, free_is) =
         (free_is, ap (told tree bytes (spaced tree free)) is.there ∙ (λ i. Ok (Space (space_words (same i) free), tree)) ∙ ap (λ (r : Reply). Ok (r, tree)) (sym reply_is))

@@ -1,3 +1,4 @@
+pub mod BytesRead
 pub mod Found
 pub mod FreeSpace
 pub mod Told

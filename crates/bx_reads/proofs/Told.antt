@@ -45,13 +45,13 @@ module _ (tree : Tree) (bytes : List ℕ) where
   abbrev pub told : (File → Outcome) → Option File → Outcome
   told then found = must found 70 >>= then
 
-  pub stops : (then : File → Outcome) (stop : Stop) → NamesFile tree bytes (Err stop) → IsOutcome tree (told then (named_file tree bytes)) (Err stop)
-  stops then (Status status) (code, none) = ap (told then) none ∙ ap Err (sym code)
-  stops then (Need at mode) f = tt
-  stops then (Inner blocks) never = never
-  stops then OutOfMemory f = tt
+  pub stops : (areas : ℕ) (truth : Truth) (then : File → Outcome) (stop : Stop) → NamesFile areas truth tree bytes (Err stop) → IsOutcome tree (told then (named_file tree bytes)) (Err stop)
+  stops areas truth then (Status status) (code, none) = ap (told then) none ∙ ap Err (sym code)
+  stops areas truth then (Need at mode) f = tt
+  stops areas truth then (Inner blocks) never = never
+  stops areas truth then OutOfMemory f = tt
 
-  module _ (volume handle : ℕ) (inode : Inode) (same : tree.volume ≡ volume) (is : IsNamed tree bytes handle inode) where
+  module _ (areas : ℕ) (truth : Truth) (volume handle : ℕ) (inode : Inode) (same : tree.volume ≡ volume) (is : IsNamed areas truth tree bytes handle inode) where
     pub shown : (words : List ℕ) → words ≡ attributes_of volume is.file → getattr tree bytes ≡ Ok (Attributes words, tree)
     shown words words_are =
         ap (told (λ file. Ok (attributes_reply tree file, tree))) is.there ∙ (λ i. Ok (Attributes (attributes_of (same i) is.file), tree)) ∙ ap (λ (w : List ℕ). Ok (Attributes w, tree)) (sym words_are)

@@ -1,6 +1,6 @@
 //! The file that a file handle names.
 
-ghost use Rattle.std.specs.Prelude.{◌≡◌, ℕ, Some, []};
+ghost use Rattle.std.specs.Prelude.{◌≡◌, ℕ, IfOk, Some, []};
 ghost use Rattle.bx_base.specs.declared.names.Mode.TheVariants.{Shared};
 ghost use Rattle.bx_blink.specs.Walks.{reads_with};
 ghost use Rattle.bx_handles.specs.Handles.{named};
@@ -9,7 +9,7 @@ ghost use Rattle.bx_truth.specs.Chunks.{block_at};
 ghost use Rattle.bx_views.specs.Truths.{IsTruth, Truth};
 ghost use Rattle.bx_inodes.specs.Stands.{Stands};
 ghost use Rattle.bx_inodes.specs.Stops.{NeedsOn, NeverInner, OnInode};
-ghost use Rattle.bx_reads.specs.Files.{NamesFile};
+ghost use Rattle.bx_reads.specs.Files.{IsSeen, NamesFile};
 
 use bx_base::Mode;
 use bx_handles::named_handle;
@@ -24,14 +24,15 @@ use std::alloc::Global;
 ///
 /// `Need` names the block of its inode, shared, which isn't held then. The status is `STALE`, exactly where the file handle
 /// names no file.
-pub(crate) fn named_inode<V: View>(
+pub fn named_inode<V: View>(
     alloc: Global,
     volume: u64,
     areas: u16,
     at: &[u8],
     view: &V,
 ) -> Result<(u64, Inode), Stop>
-    ensures names { (truth : Truth) (tree : Tree) → IsTruth (V.held view.now) truth → Stands volume areas truth tree → NamesFile tree at.now result }
+    ensures names { (truth : Truth) (tree : Tree) → IsTruth (V.held view.now) truth → Stands volume areas truth tree → NamesFile areas truth tree at.now result }
+    ensures sees { IfOk result (λ found. IsSeen (V.held view.now) (V.hints view.now) volume areas at.now found.0 found.1) }
     ensures need { NeedsOn areas (V.held view.now) (OnInode volume at.now Shared) result }
     ensures inner { NeverInner result }
 {

@@ -61,7 +61,7 @@ module _ (devices areas : ℕ) (logs : Logs) (slot : ℕ) (less : slot < 8) (run
       record { on = refl; from = omega arith; below = omega (arith, within, nine); is = refl }
 
   -- a sector that is written is one of a home whose block the log has
-  of_logged : (d s : ℕ) (content : List ℕ) → WritesIn runs d s content → IsOfLogged devices areas logs d s
+  pub of_logged : (d s : ℕ) (content : List ℕ) → WritesIn runs d s content → IsOfLogged devices areas logs d s
   of_logged d s content (run, there, w) =
       let h = its.each run there in
       let mine : Writes (home_run devices h.at h.block) d s content = subst (λ (r : Run). Writes r d s content) h.run_is w in

@@ -1,6 +1,6 @@
 -- A replay between two lines: how it goes on, and what it leaves where it stops.
-use Rattle.std.proofs.Common.{◌≡◌, ℕ, ◌+◌, ◌<◌, ◌≤◌, ◌==◌, List, [], ◌∷◌, ◌++◌, length, None, false, refl, sym, ap, ◌∙◌, arith, inl, inr, append_assoc}
-use Rattle.std.specs.Prelude.{reverse, ◌⊎◌}
+use Rattle.std.proofs.Common.{◌≡◌, ℕ, ◌+◌, ◌<◌, ◌≤◌, ◌==◌, Bool, List, [], ◌∷◌, ◌++◌, length, Option, None, true, false, refl, sym, ap, ◌∙◌, arith, inl, inr, append_assoc}
+use Rattle.std.specs.Prelude.{if◌then◌else◌, map, reverse, ◌⊎◌}
 use Rattle.std.proofs.lemmas.List.{append-nil, append_cancel_left}
 use Rattle.bx_base.specs.Text.{BeginsWith, LacksFeed, lines_of}
 use Rattle.bx_model.specs.declared.tree.Tree.{Tree}
@@ -9,26 +9,32 @@ use Rattle.bx_script.specs.declared.line.Line.TheVariants.{Heading}
 use Rattle.bx_script.specs.ScheduleLine.{spelling}
 use Rattle.bx_script.specs.TraceText.{trace_text}
 use Rattle.bx_history.specs.Parts.{trace_of}
-use Rattle.bx_history.specs.Along.{parts_of, schedule_of}
-use Rattle.bx_history.proofs.Answered.{silent_part}
+use Rattle.bx_history.specs.Along.{Done, parts_of, schedule_of}
+use Rattle.bx_script.specs.declared.trace_line.TraceLine.{TraceLine}
+use Rattle.bx_script.specs.declared.trace_line.TraceLine.TheVariants.{Acted}
+use Rattle.bx_service.specs.Rounds.{IsOfOldest}
+use Rattle.bx_base.specs.declared.names.Point.{Point}
+use Rattle.bx_history.specs.Trace as traces
+use Rattle.bx_history.proofs.Waiting.{quiet_part}
 use Rattle.bx_model.specs.Opening.{opening}
-use Rattle.bx_replay.specs.declared.state.Replay.{Replay}
 use Rattle.bx_replay.specs.declared.stop.Reason.TheVariants.{Grammar, NotBuilt}
-use Rattle.bx_replay.specs.Headline.{IsInPlace, rules, Step}
-use Rattle.bx_replay.specs.Outcome.{IsBroken, IsCutOff, IsRefused, IsReplayed, closing_text}
-use Rattle.bx_replay.specs.Replay.{Going, IsRead, StandsAfter, BreaksAfter, IsBegun, IsUnservedLine, Wrote}
+use Rattle.bx_replay.specs.Headline.{Headline, IsInPlace, rules, Step}
+use Rattle.bx_replay.specs.Outcome.{AreDone, IsBroken, IsCutOff, IsReadTo, IsRefused, IsReplayed, closing_text}
+use Rattle.bx_replay.specs.Replay.{Going, IsRead, StandsAfter, BreaksAfter, IsBegun, IsEnded, IsEndedShort, IsUnservedLine, Wrote, waits_at}
 use Rattle.bx_replay.proofs.Allowed.{done_begins}
-use Rattle.bx_replay.proofs.Headlines.{headline, no_headline}
+use Rattle.bx_replay.proofs.Headlines.{headline, headline_told, no_headline}
 use Rattle.bx_replay.proofs.NextLines.{IsRefusedHere}
 use Rattle.bx_replay.proofs.ReadLines.{all_read, cut_at, cut_first, lines_read, none_done, read_on, refused_empty, refused_first, refused_outside, refused_unserved}
-use Rattle.bx_replay.proofs.Standing.{length_schedule, schedule_of-cons}
+use Rattle.bx_replay.proofs.Standing.{awaits_same, length_schedule, patient, schedule_of-cons}
 
 -- ---- going on
 
-pub going_on : (text rest next : List ℕ) (number : ℕ) (old new : Replay) (line : Line) (start before after : List ℕ)
-    → (going : Going text rest number old start before) → BeginsWith rest (spelling line) next → StandsAfter new line going.done start after
-    → Going text next (number + 1) new start after
-going_on text rest next number old new line start before after going begins stands = record {
+pub going_on : (Holds_old Holds : Tree → Type 0) (waits_old waits : List traces.Taking) (under_way_old under_way : Option Point) (calls_old calls : ℕ) (text rest next : List ℕ) (number : ℕ) (line : Line) (start before after : List ℕ)
+    → (going : Going Holds_old waits_old under_way_old calls_old text rest number start before) → BeginsWith rest (spelling line) next → StandsAfter Holds waits under_way calls line going.done start after
+    → Going Holds waits under_way calls text next (number + 1) start after
+going_on Holds_old Holds waits_old waits under_way_old under_way calls_old calls text rest next number line start before after going begins stands = record {
+  tree = stands.tree;
+  holds = stands.holds;
   done = record { line = line; lines = stands.lines } ∷ going.done;
   stands = stands.stands;
   read = rw (schedule_of-cons line stands.lines going.done) (read_on text rest next (schedule_of going.done) line (done_begins _ going.stands.are_done) going.read begins);
@@ -37,7 +43,7 @@ going_on text rest next number old new line start before after going begins stan
 
 -- ---- stopping
 
-module _ (text rest : List ℕ) (number : ℕ) (replay : Replay) (start written : List ℕ) (going : Going text rest number replay start written) where
+module _ (Holds : Tree → Type 0) (waits : List traces.Taking) (under_way : Option Point) (calls : ℕ) (text rest : List ℕ) (number : ℕ) (start written : List ℕ) (going : Going Holds waits under_way calls text rest number start written) where
   abbrev so_far : IsRead text rest number
   so_far = record {
     done = schedule_of going.done;
@@ -56,11 +62,11 @@ module _ (text rest : List ℕ) (number : ℕ) (replay : Replay) (start written 
       others = lines_of rest;
       trace = reverse (trace_of (parts_of going.done));
       closing = [];
-      last = replay.tree;
+      last = going.tree;
       more = [];
       read = lines_read text rest (schedule_of going.done) (done_begins _ going.stands.are_done) going.read;
       are_done = going.stands.are_done;
-      headline = headline replay going.done start written going.stands;
+      headline = headline going.tree waits under_way calls going.done start written going.stands;
       part = inl (append-nil (trace_text (reverse (trace_of (parts_of going.done)))));
     };
   }
@@ -72,8 +78,8 @@ module _ (text rest : List ℕ) (number : ℕ) (replay : Replay) (start written 
     holds = record {
       cut = cut_at text rest piece left number so_far e lacks short;
       trace = reverse (trace_of (parts_of going.done));
-      last = replay.tree;
-      headline = headline replay going.done start written going.stands;
+      last = going.tree;
+      headline = headline going.tree waits under_way calls going.done start written going.stands;
       output-is = refl;
     };
   }
@@ -85,8 +91,8 @@ module _ (text rest : List ℕ) (number : ℕ) (replay : Replay) (start written 
     holds = record {
       first = refused_outside text rest number so_far here;
       trace = reverse (trace_of (parts_of going.done));
-      last = replay.tree;
-      headline = headline replay going.done start written going.stands;
+      last = going.tree;
+      headline = headline going.tree waits under_way calls going.done start written going.stands;
       output-is = refl;
     };
   }
@@ -99,8 +105,8 @@ module _ (text rest : List ℕ) (number : ℕ) (replay : Replay) (start written 
     holds = record {
       first = refused_unserved text rest next number line so_far few begins place unserved;
       trace = reverse (trace_of (parts_of going.done));
-      last = replay.tree;
-      headline = headline replay going.done start written going.stands;
+      last = going.tree;
+      headline = headline going.tree waits under_way calls going.done start written going.stands;
       output-is = refl;
     };
   }
@@ -108,67 +114,66 @@ module _ (text rest : List ℕ) (number : ℕ) (replay : Replay) (start written 
 -- ---- parts of what was to be written
 
 -- a part of the trace, or of the trace with what comes after it
-broken_part : (text rest : List ℕ) (number : ℕ) (replay : Replay) (start whole written wrote more : List ℕ) (going : Going text rest number replay start whole)
-    → written ≡ start ++ wrote
-    → (wrote ++ more ≡ trace_text (reverse (trace_of (parts_of going.done)))) ⊎ ((lines_of rest ≡ []) × (wrote ++ more ≡ trace_text (reverse (trace_of (parts_of going.done))) ++ closing_text [] replay.tree))
+broken_part : (text rest : List ℕ) (done : List Done) (start written wrote more : List ℕ) (closing : List TraceLine) (last : Tree) → IsReadTo text (schedule_of done) rest → AreDone (schedule_of done)
+    → Headline (schedule_of done) (reverse (trace_of (parts_of done))) closing last → written ≡ start ++ wrote
+    → (wrote ++ more ≡ trace_text (reverse (trace_of (parts_of done)))) ⊎ ((lines_of rest ≡ []) × (wrote ++ more ≡ trace_text (reverse (trace_of (parts_of done))) ++ closing_text closing last))
     → Wrote start written (IsBroken text)
-broken_part text rest number replay start whole written wrote more going added part = record {
+broken_part text rest done start written wrote more closing last read are_done is added part = record {
   output = wrote;
   added = added;
   holds = record {
-    done = schedule_of going.done;
+    done = schedule_of done;
     others = lines_of rest;
-    trace = reverse (trace_of (parts_of going.done));
-    closing = [];
-    last = replay.tree;
+    trace = reverse (trace_of (parts_of done));
+    closing = closing;
+    last = last;
     more = more;
-    read = lines_read text rest (schedule_of going.done) (done_begins _ going.stands.are_done) going.read;
-    are_done = going.stands.are_done;
-    headline = headline replay going.done start whole going.stands;
+    read = lines_read text rest (schedule_of done) (done_begins _ are_done) read;
+    are_done = are_done;
+    headline = is;
     part = part;
   };
 }
 
 -- a line was done, and only a part of its trace was written
-pub stops_torn : (text rest next : List ℕ) (number : ℕ) (old : Replay) (line : Line) (start before after : List ℕ)
-    → (going : Going text rest number old start before) → BeginsWith rest (spelling line) next → BreaksAfter line going.done start before after
+pub stops_torn : (Holds : Tree → Type 0) (waits : List traces.Taking) (under_way : Option Point) (calls : ℕ) (text rest next : List ℕ) (number : ℕ) (line : Line) (start before after : List ℕ)
+    → (going : Going Holds waits under_way calls text rest number start before) → BeginsWith rest (spelling line) next → BreaksAfter line going.done start after
     → Wrote start after (IsBroken text)
-stops_torn text rest next number old line start before after going begins torn =
-    let on = going_on text rest next number old torn.replay line start before (after ++ torn.more) going begins torn.after in
-    let wrote : List ℕ = trace_text (reverse (trace_of (parts_of going.done))) ++ torn.wrote in
-    let added : after ≡ start ++ wrote =
-    torn.added ∙ ap (λ (w : List ℕ). w ++ torn.wrote) going.stands.output ∙ append_assoc start (trace_text (reverse (trace_of (parts_of going.done)))) torn.wrote in
-    let whole : wrote ++ torn.more ≡ trace_text (reverse (trace_of (parts_of on.done))) =
-    append_cancel_left start _ _ (sym (append_assoc start wrote torn.more) ∙ ap (λ (w : List ℕ). w ++ torn.more) (sym added) ∙ on.stands.output) in
-    broken_part text next (number + 1) torn.replay start (after ++ torn.more) after wrote torn.more on added (inl whole)
+stops_torn Holds waits under_way calls text rest next number line start before after going begins torn =
+    let read : IsReadTo text (schedule_of (record { line = line; lines = torn.lines } ∷ going.done)) next =
+    rw (schedule_of-cons line torn.lines going.done) (read_on text rest next (schedule_of going.done) line (done_begins _ going.stands.are_done) going.read begins) in
+    let whole : torn.output ++ torn.more ≡ trace_text (reverse (trace_of (parts_of (record { line = line; lines = torn.lines } ∷ going.done)))) =
+    append_cancel_left start _ _ (sym (append_assoc start torn.output torn.more) ∙ ap (λ (w : List ℕ). w ++ torn.more) (sym torn.added) ∙ torn.after.output) in
+    broken_part text next (record { line = line; lines = torn.lines } ∷ going.done) start after torn.output torn.more [] torn.tree read torn.after.are_done
+    (headline torn.tree torn.waits torn.under_way torn.calls _ start (after ++ torn.more) torn.after) torn.added (inl whole)
 
 -- the end was reached, and a part of what comes after the trace was written
-pub stops_unfinished : (text : List ℕ) (number : ℕ) (replay : Replay) (start before after more : List ℕ)
-    → (going : Going text [] number replay start before) → (wrote : List ℕ) → after ≡ before ++ wrote → wrote ++ more ≡ closing_text [] replay.tree
-    → Wrote start after (IsBroken text)
-stops_unfinished text number replay start before after more going wrote added e =
+pub stops_unfinished : (Holds : Tree → Type 0) (waits : List traces.Taking) (under_way : Option Point) (calls : ℕ) (text : List ℕ) (number : ℕ) (start before after : List ℕ)
+    → (going : Going Holds waits under_way calls text [] number start before) → IsEndedShort waits under_way going.tree before after → Wrote start after (IsBroken text)
+stops_unfinished Holds waits under_way calls text number start before after going short =
     let trace : List ℕ = trace_text (reverse (trace_of (parts_of going.done))) in
-    let out : after ≡ start ++ (trace ++ wrote) = added ∙ ap (λ (w : List ℕ). w ++ wrote) going.stands.output ∙ append_assoc start trace wrote in
-    let whole : (trace ++ wrote) ++ more ≡ trace ++ closing_text [] replay.tree =
-    append_assoc trace wrote more ∙ ap (λ (w : List ℕ). trace ++ w) e in
-    broken_part text [] number replay start before after (trace ++ wrote) more going out (inr (refl, whole))
+    let out : after ≡ start ++ (trace ++ short.wrote) = short.written ∙ ap (λ (w : List ℕ). w ++ short.wrote) going.stands.output ∙ append_assoc start trace short.wrote in
+    let whole : (trace ++ short.wrote) ++ short.more ≡ trace ++ closing_text (map Acted short.doubt) short.next =
+    append_assoc trace short.wrote short.more ∙ ap (λ (w : List ℕ). trace ++ w) short.part in
+    broken_part text [] going.done start after (trace ++ short.wrote) short.more (map Acted short.doubt) short.next going.read going.stands.are_done
+    (headline_told going.tree waits under_way calls going.done start before going.stands short.next short.doubt short.told short.in_range) out (inr (refl, whole))
 
 -- the end was reached, and all was written
-pub finishes : (text : List ℕ) (Stands : Tree → Type 0) (number : ℕ) (replay : Replay) (start before after : List ℕ)
-    → Going text [] number replay start before → after ≡ before ++ closing_text [] replay.tree → Stands replay.tree → Wrote start after (IsReplayed text Stands)
-finishes text Stands number replay start before after going e stands =
+pub finishes : (Holds : Tree → Type 0) (waits : List traces.Taking) (under_way : Option Point) (calls : ℕ) (text : List ℕ) (Stands : Tree → Type 0) (number : ℕ) (start before after : List ℕ)
+    → (going : Going Holds waits under_way calls text [] number start before) → IsEnded waits under_way going.tree Stands before after → Wrote start after (IsReplayed text Stands)
+finishes Holds waits under_way calls text Stands number start before after going ended =
     let trace : List ℕ = trace_text (reverse (trace_of (parts_of going.done))) in
     record {
-      output = trace ++ closing_text [] replay.tree;
-      added = e ∙ ap (λ (w : List ℕ). w ++ closing_text [] replay.tree) going.stands.output ∙ append_assoc start trace (closing_text [] replay.tree);
+      output = trace ++ closing_text (map Acted ended.doubt) ended.next;
+      added = ended.written ∙ ap (λ (w : List ℕ). w ++ closing_text (map Acted ended.doubt) ended.next) going.stands.output ∙ append_assoc start trace (closing_text (map Acted ended.doubt) ended.next);
       holds = record {
-        input = all_read text number (so_far text [] number replay start before going);
+        input = all_read text number (so_far Holds waits under_way calls text [] number start before going);
         trace = reverse (trace_of (parts_of going.done));
-        closing = [];
-        last = replay.tree;
-        headline = headline replay going.done start before going.stands;
+        closing = map Acted ended.doubt;
+        last = ended.next;
+        headline = headline_told going.tree waits under_way calls going.done start before going.stands ended.next ended.doubt ended.told ended.in_range;
         output-is = refl;
-        stands = stands;
+        stands = ended.stands;
       };
     }
 
@@ -231,19 +236,31 @@ begins_outside text start here = record {
   };
 }
 
+none_wait : (node : ℕ) → [] ≡ waits_at [] node
+none_wait node = by (0 == node)
+  where
+    by : (b : Bool) → [] ≡ (if b then reverse {A = traces.Taking} [] else [])
+    by true = refl
+    by false = refl
+
 -- after the heading
-pub begins_going : (text rest start : List ℕ) (replay : Replay) → IsBegun replay text rest → Going text rest 1 replay start start
-begins_going text rest start replay begun =
+pub begins_going : (Holds : Tree → Type 0) (calls : ℕ) (text rest start : List ℕ) (waits : List traces.Taking) (under_way : Option Point) → waits ≡ [] → IsOfOldest waits under_way → IsBegun Holds calls text rest
+    → Going Holds waits under_way calls text rest 1 start start
+begins_going Holds calls text rest start waits under_way idle oldest begun =
     let heading = Heading begun.volume begun.nodes begun.devices begun.areas in
     let opened : record (opening begun.volume) { areas = begun.areas } ≡ opening begun.volume =
     ap (λ (n : ℕ). record (opening begun.volume) { areas = n }) begun.in_place.1.2 in
     record {
+      tree = opening begun.volume;
+      holds = begun.holds;
       done = record { line = heading; lines = [] } ∷ [];
       stands = record {
         history = [];
-        accounts = rw (opened, begun.tree) (silent_part Step rules (opening begun.volume) [] [] (opening begun.volume) None false
-            (record { fits = refl; leads = refl; placed = tt; answered = λ node. refl }));
-        counted = begun.calls;
+        accounts = rw (opened, idle) (awaits_same (opening begun.volume) (record { line = heading; lines = [] } ∷ []) [] (opening begun.volume) (λ _. []) (waits_at []) none_wait
+            (quiet_part Step rules patient (opening begun.volume) [] [] (opening begun.volume) (λ _. []) None false
+            (record { fits = refl; leads = refl; placed = tt; waiting_are = λ _. refl; pending = λ _. tt; in_order = λ _. tt })));
+        counted = begun.none;
+        since = λ point is. let of = oldest.each point is in absurd (let e : of.0 ∷ of.1 ≡ [] = sym of.2 ∙ idle in cc);
         headed = omega arith;
         are_done = (record { few = omega arith; in_place = begun.in_place; served = begun.in_place.1 }, tt);
         in_range = tt;

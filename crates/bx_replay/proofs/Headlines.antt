@@ -1,26 +1,31 @@
 -- A replay that stands has the headline's property.
-use Rattle.std.proofs.Common.{◌≡◌, ℕ, List, [], ◌∷◌, ◌++◌, refl, sym, ap, ◌∙◌}
+use Rattle.std.proofs.Common.{◌≡◌, ℕ, List, [], ◌∷◌, ◌++◌, Option, inl, inr, refl, sym, ap, ◌∙◌}
 use Rattle.std.specs.Prelude.{map, reverse}
 use Rattle.std.specs.List.{AllByRecursion}
 use Rattle.std.proofs.lemmas.List.{append-nil, reverse-append, reverse-reverse}
 use Rattle.bx_script.specs.declared.line.Line.{Line}
+use Rattle.bx_base.specs.declared.names.Point.{Point}
 use Rattle.bx_script.specs.declared.trace_line.TraceLine.{TraceLine}
+use Rattle.bx_script.specs.declared.trace_line.TraceLine.TheVariants.{Acted}
 use Rattle.bx_script.specs.TraceText.{InTraceRange, trace_text}
 use Rattle.bx_script.proofs.TraceLines.{trace_text_injective}
 use Rattle.bx_history.specs.Trace as traces
 use Rattle.bx_history.specs.Legal.{LeadsNewest}
 use Rattle.bx_history.specs.Parts.{trace_of}
 use Rattle.bx_history.specs.Along.{Done, parts_of, schedule_of}
+use Rattle.bx_history.specs.Account.{Accounts}
 use Rattle.bx_history.proofs.Once.{one_history}
+use Rattle.bx_history.proofs.Whole.{accounts, accounts_with_doubt}
 use Rattle.bx_model.specs.declared.entry.Entry.{Entry}
 use Rattle.bx_model.specs.declared.tree.Tree.{Tree}
 use Rattle.bx_model.specs.History.{IsStep}
 use Rattle.bx_model.specs.Opening.{opening}
-use Rattle.bx_replay.specs.declared.state.Replay.{Replay}
 use Rattle.bx_replay.specs.Headline.{rules, opening_of, AreTyped, Step, Headline}
-use Rattle.bx_replay.specs.Replay.{Stands}
+use Rattle.bx_replay.specs.Replay.{IsTold, Stands, waits_at}
 use Rattle.bx_replay.proofs.OneHistory.{step_once}
 use Rattle.bx_replay.proofs.Allowed.{all_push}
+use Rattle.bx_replay.proofs.Answered.{entered}
+use Rattle.bx_replay.proofs.Standing.{all_append, oldest_of}
 
 AreTyped-append : (a c : List traces.Entry) (b d : List Entry) → AreTyped a b → AreTyped c d → AreTyped (a ++ c) (b ++ d)
 AreTyped-append [] c [] d h k = k
@@ -60,29 +65,41 @@ one_told first last tree trace history others fits leads fits' leads' =
     let one = one_history Step step_once rules.kept first tree last trace (reverse others) history fits' leads' fits leads in
     (sym (reverse-reverse others) ∙ ap (λ (h : List traces.Entry). reverse h) one.0, one.1)
 
-pub headline : (replay : Replay) (done : List Done) (start written : List ℕ) → Stands replay done start written
-    → Headline (schedule_of done) (reverse (trace_of (parts_of done))) [] replay.tree
-headline replay done start written stands =
-    let all = typed (opening_of (schedule_of done)) replay.tree stands.history stands.accounts.leads in
-    let newest : reverse (reverse (trace_of (parts_of done)) ++ []) ≡ trace_of (parts_of done) =
-    ap (λ (t : List TraceLine). reverse t) (append-nil (reverse (trace_of (parts_of done)))) ∙ reverse-reverse (trace_of (parts_of done)) in
+-- accounts of a trace, and of the points behind it, as a headline
+headline_of : (done : List Done) (closing : List TraceLine) (last : Tree) → Accounts Step rules (schedule_of done) (reverse (trace_of (parts_of done))) closing (opening_of (schedule_of done)) last
+    → AllByRecursion InTraceRange (reverse (trace_of (parts_of done)) ++ closing) → Headline (schedule_of done) (reverse (trace_of (parts_of done))) closing last
+headline_of done closing last accounts in_range =
+    let all = typed (opening_of (schedule_of done)) last (reverse accounts.history) accounts.legal in
     record {
       history = reverse all.history;
-      bytes = reverse stands.history;
-      typed = AreTyped-reverse stands.history all.history all.typed;
-      fits = rw (newest, reverse-reverse stands.history) stands.accounts.fits;
+      bytes = accounts.history;
+      typed = rw (reverse-reverse accounts.history) at (AreTyped-reverse (reverse accounts.history) all.history all.typed);
+      fits = accounts.fits;
       legal = rw (reverse-reverse all.history) all.leads;
-      in_range = rw (append-nil (reverse (trace_of (parts_of done)))) (all_reverse InTraceRange (trace_of (parts_of done)) stands.in_range);
-      placed = record {
-        done = done;
-        along = sym (reverse-reverse (map (λ (d : Done). d.line) done));
-        whole = sym (reverse-reverse (trace_of (parts_of done)));
-        placed = stands.accounts.placed;
-        closed = tt;
-      };
+      placed = accounts.placed;
+      in_range = in_range;
       only = λ others tree fits leads.
-          one_told (opening_of (schedule_of done)) replay.tree tree (trace_of (parts_of done)) stands.history others stands.accounts.fits stands.accounts.leads (rw newest at fits) leads;
+          let one = one_told (opening_of (schedule_of done)) last tree (reverse (reverse (trace_of (parts_of done)) ++ closing)) (reverse accounts.history) others accounts.fits accounts.legal fits leads in
+          (one.0 ∙ reverse-reverse accounts.history, one.1);
     }
+
+module _ (tree : Tree) (waits : List traces.Taking) (under_way : Option Point) (calls : ℕ) (done : List Done) (start written : List ℕ) (stands : Stands tree waits under_way calls done start written) where
+  in_range : AllByRecursion InTraceRange (reverse (trace_of (parts_of done)))
+  in_range = all_reverse InTraceRange (trace_of (parts_of done)) stands.in_range
+
+  pub headline : Headline (schedule_of done) (reverse (trace_of (parts_of done))) [] tree
+  headline = headline_of done [] tree (accounts Step rules (opening_of (schedule_of done)) done stands.history tree (waits_at waits) stands.accounts) (rw (append-nil (reverse (trace_of (parts_of done)))) in_range)
+
+  -- and with what is told at the end
+  pub headline_told : (next : Tree) (doubt : List Point) → IsTold waits under_way tree next doubt → AllByRecursion InTraceRange (map Acted doubt)
+      → Headline (schedule_of done) (reverse (trace_of (parts_of done))) (map Acted doubt) next
+  headline_told next doubt (inl none) closing = rw (none.0, none.1) headline
+  headline_told next doubt (inr told) closing =
+      let points : map Acted doubt ≡ Acted told.point ∷ [] = ap (map Acted) told.doubt_is in
+      rw points (headline_of done (Acted told.point ∷ []) next
+      (accounts_with_doubt Step rules (opening_of (schedule_of done)) done stands.history tree next (waits_at waits) 0 told.call told.point told.reply stands.accounts
+      (oldest_of tree waits under_way calls done start written stands told.call told.rest told.oldest) told.of (stands.since told.point told.at) (entered tree next told.call told.point told.reply told.step))
+      (all_append InTraceRange (reverse (trace_of (parts_of done))) (Acted told.point ∷ []) in_range (rw points at closing)))
 
 -- before the first line
 pub no_headline : Headline [] [] [] (opening 0)

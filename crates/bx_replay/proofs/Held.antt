@@ -1,60 +1,39 @@
--- What the bench holds once it is made, and after a crash of a disk.
-use Rattle.std.proofs.Common.{◌≡◌, ℕ, zero, suc, ◌+◌, ◌<◌, ◌⊎◌, inl, inr, Bool, true, false, List, Some, arith, sym, ◌∙◌, subst, refl}
-use Rattle.std.specs.Prelude.{not, ◌&&◌, ◌==◌, slice_get}
+-- What the bench holds once what is unsure on it was dropped.
+use Rattle.std.proofs.Common.{◌≡◌, ℕ, ◌+◌, ◌<◌, ◌⊎◌, inl, inr, Bool, true, false, arith, sym, ◌∙◌, subst, refl}
+use Rattle.std.specs.Prelude.{not, ◌&&◌, ◌==◌}
+use mathlib.Core.Path.{fun_ext}
 use Rattle.std.proofs.lemmas.Bool.{eq-eqb}
+use Rattle.bx_audit.specs.Audited.{StandFor}
+use Rattle.bx_base.specs.Faults.{Rose}
 use Rattle.bx_disk.specs.Disks.{Image, Disks, IsImage, IsSector}
 use Rattle.bx_global.specs.Opening.{opening_state}
 use Rattle.bx_model.specs.declared.tree.Tree.{Tree}
-use Rattle.bx_rows.specs.declared.device.DeviceRow.{DeviceRow}
-use Rattle.bx_rows.specs.Modes.{both}
-use Rattle.bx_volume.specs.Images.{AreReadFrom, AreSources, ImageStandsFor}
-use Rattle.bx_volume.specs.Volumes.{IsVolumeFor}
+use Rattle.bx_overlay.specs.declared.error.AuditError.{AuditError}
+use Rattle.bx_overlay.specs.declared.error.AuditError.TheVariants as audits
+use Rattle.bx_overlay.specs.Refusals.{IsBreak}
+use Rattle.bx_volume.specs.Images.{ImageStandsFor}
 use Rattle.bx_replay.specs.Bench.{IsHeldBy}
-
--- each device is read from its first member
-all_first : ℕ → Bool
-all_first device = false
-
-row_is : (device : ℕ) (row : DeviceRow) → slice_get (opening_state 1 1).devices device ≡ Some row → row.mode ≡ both
-row_is zero row is = cc
-row_is (suc device) row is = absurd (cc)
-
-are_sources : AreSources (opening_state 1 1) all_first
-unfolding all_first
-are_sources device row is = inl (row_is device row is)
-
-are_read : AreReadFrom (opening_state 1 1) all_first
-unfolding all_first
-are_read device row is = ((λ first. inl (row_is device row is)), (λ at_a. refl))
-
--- a rack that is a volume for a tree, in the opening state and with no call in doubt
-pub volume_holds : (disks : Disks) (tree : Tree) → IsVolumeFor disks (λ image told. told ≡ opening_state 1 1) 1 1 (λ before after. before ≡ after) tree → IsHeldBy disks tree
-volume_holds disks tree volume = record {
-  each = λ image is.
-      let stands = volume.stands (record { image = image; is_image = is; state = opening_state 1 1; is_state = refl; second = all_first; sources = are_sources }) in
-      record { state = opening_state 1 1; is_state = refl; second = all_first; reads = are_read; shows = rw stands.1 stands.2 };
-}
+use Rattle.bx_replay.specs.FromLine.{stop_of_audit}
+use Rattle.bx_replay.specs.Replay.{HasBenchCause}
 
 decided : (b : Bool) → (b ≡ true) ⊎ (b ≡ false)
 decided true = inl refl
 decided false = inr refl
 
--- a crash that leaves one of the images that it may leave
-pub crash_holds : (old new : Disks) (tree : Tree) → new.sizes ≡ old.sizes → IsImage old new.reads → ((d s : ℕ) → old.unsure d s ≡ false → new.unsure d s ≡ false)
-    → IsHeldBy old tree → IsHeldBy new tree
-crash_holds old new tree sizes left sure held = record {
-  each = λ image is. subst (λ (l : List ℕ). ImageStandsFor l (λ image told. told ≡ opening_state 1 1) image tree) (sym sizes) (held.each image (was image is));
+-- what disks read as is an image of them, where each unsure sector is one
+pub reads_are : (disks : Disks) → ((d s : ℕ) → disks.unsure d s ≡ true → IsSector (disks.reads d s)) → IsImage disks disks.reads
+reads_are disks sectors = record { sure = λ d s is. refl; torn = λ d s is. sectors d s is }
+
+-- an image of what a crash left is an image of what was there
+pub image_before : (old new : Disks) (image : Image) → IsImage old new.reads → ((d s : ℕ) → old.unsure d s ≡ false → new.unsure d s ≡ false) → IsImage new image → IsImage old image
+image_before old new image left sure is = record {
+  sure = λ d s before. is.sure d s (sure d s before) ∙ left.sure d s before;
+  torn = λ d s before. by d s before (decided (new.unsure d s));
 }
   where
-    was : (image : Image) → IsImage new image → IsImage old image
-    was image is = record {
-      sure = λ d s before. is.sure d s (sure d s before) ∙ left.sure d s before;
-      torn = λ d s before. by d s before (decided (new.unsure d s));
-    }
-      where
-        by : (d s : ℕ) → old.unsure d s ≡ true → (new.unsure d s ≡ true) ⊎ (new.unsure d s ≡ false) → IsSector (image d s)
-        by d s before (inl now) = is.torn d s now
-        by d s before (inr now) = subst IsSector (sym (is.sure d s now)) (left.torn d s before)
+    by : (d s : ℕ) → old.unsure d s ≡ true → (new.unsure d s ≡ true) ⊎ (new.unsure d s ≡ false) → IsSector (image d s)
+    by d s before (inl now) = is.torn d s now
+    by d s before (inr now) = subst IsSector (sym (is.sure d s now)) (left.torn d s before)
 
 pub stays_sure : (a b : Bool) → b ≡ false → (not a && b) ≡ false
 stays_sure true b is = refl
@@ -70,3 +49,18 @@ one_more disk d unsure within before = by (same_or d disk)
     by : (d ≡ disk) ⊎ ((d ≡ disk) → ⊥) → (not (d == disk) && unsure) ≡ false
     by (inl same) = rw (eq-eqb d disk same) refl
     by (inr other) = stays_sure (d == disk) unsure (before (omega (arith, within, other)))
+
+-- disks of which nothing is unsure hold what they stand for as they read
+pub held_by : (disks : Disks) (tree : Tree) → ((d s : ℕ) → disks.unsure d s ≡ false) → StandFor disks (opening_state 1 1) tree → IsHeldBy disks tree
+held_by disks tree sure stands = record {
+  each = λ image is. subst (λ (i : Image). ImageStandsFor disks.sizes (λ image told. told ≡ opening_state 1 1) i tree) (fun_ext (λ d. fun_ext (λ s. sym (is.sure d s (sure d s))))) stands;
+}
+
+-- why a tree that was held isn't read back
+pub audit_cause : (error : AuditError) (Held : Type 0) (before now : ℕ) → (error ≡ audits.DiskFault → Rose before now) → (Held → IsBreak error) → HasBenchCause (stop_of_audit error) Held before now
+audit_cause audits.DiskFault Held before now rose breaks = inl (rose refl)
+audit_cause (audits.NoLabel disk) Held before now rose breaks = inr (λ held. elim (breaks held) [ inl e ↦ cc | inr e ↦ cc ])
+audit_cause audits.NoMajority Held before now rose breaks = inr (λ held. elim (breaks held) [ inl e ↦ cc | inr e ↦ cc ])
+audit_cause (audits.NoSource device) Held before now rose breaks = inr (λ held. elim (breaks held) [ inl e ↦ cc | inr e ↦ cc ])
+audit_cause (audits.Torn block found wanted) Held before now rose breaks = inr (λ held. elim (breaks held) [ inl e ↦ cc | inr e ↦ cc ])
+audit_cause audits.OutOfMemory Held before now rose breaks = tt

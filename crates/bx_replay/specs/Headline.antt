@@ -1,5 +1,5 @@
 -- The headline: what a trace along a schedule says of the file tree.
-use Rattle.std.specs.Prelude.{◌≡◌, ◌⊎◌, ℕ, ◌&&◌, nat_le, Bool, true, false, List, [], ◌∷◌, ◌++◌, length, take, drop}
+use Rattle.std.specs.Prelude.{◌≡◌, ◌⊎◌, ℕ, ◌&&◌, nat_le, Bool, false, List, [], ◌∷◌, ◌++◌, length, take, drop}
 use Rattle.std.specs.Str.{bytes_eq}
 use Rattle.std.specs.List.{AllByRecursion}
 use Rattle.bx_script.specs.declared.line.Line.{Line}
@@ -7,6 +7,7 @@ use Rattle.bx_script.specs.declared.line.Line.TheVariants.{Heading, Call, Run}
 use Rattle.bx_script.specs.declared.trace_line.TraceLine.{TraceLine}
 use Rattle.bx_script.specs.Schedule.{HasPlace}
 use Rattle.bx_script.specs.TraceText.{InTraceRange}
+use Rattle.bx_engine.specs.Calls.{IsBuiltCall}
 use Rattle.bx_history.specs.Trace as traces
 use Rattle.bx_history.specs.Legal.{Leads}
 use Rattle.bx_history.specs.Placed.{Rules}
@@ -15,16 +16,15 @@ use Rattle.bx_model.specs.declared.entry.Entry.{Entry}
 use Rattle.bx_model.specs.declared.tree.Tree.{Tree}
 use Rattle.bx_model.specs.Opening.{opening}
 use Rattle.bx_model.specs.History.{IsStep}
-use Rattle.bx_nfs.specs.Wire.{ReadsAs, IsServed, reply_text}
+use Rattle.bx_nfs.specs.Wire.{ReadsAs, reply_text}
 
 -- whether a datagram is a call's (RFC 5531, section 9): it has 8 to 9216 bytes, of which the second word is CALL (0)
 abbrev pub is_message : List ℕ → Bool
 is_message datagram = nat_le (length datagram) 9216 && bytes_eq (take 4 (drop 4 datagram)) (0 ∷ 0 ∷ 0 ∷ 0 ∷ [])
 
--- Every datagram that is a call is taken, and each is answered at its own line, with blocks enough, so that nothing waits behind a
--- run; no answer is kept for repeats.
+-- Every datagram that is a call is taken, and nothing is promised of when it is answered; no answer is kept for repeats.
 abbrev pub rules : Rules
-rules = record { is_call = is_message; is_immediate = λ _ _. true; is_prompt = λ _. true; kept = 0 }
+rules = record { is_call = is_message; is_immediate = λ _ _. false; is_prompt = λ _. false; is_wary = false; kept = 0 }
 
 -- the tree that a schedule begins with: the opening tree of the heading's volume, with its areas
 abbrev pub opening_of : List Line → Tree
@@ -82,5 +82,5 @@ IsInPlace first line = HasPlace first line × IsBuilt line
 -- such a line of which the datagram, if it has one, is no call, or one that is served
 abbrev pub IsServedLine : Line → Type 0
 IsServedLine (Heading volume nodes devices areas) = IsBuilt (Heading volume nodes devices areas)
-IsServedLine (Call reading node client datagram) = IsBuilt (Call reading node client datagram) × ((is_message datagram ≡ false) ⊎ IsServed datagram)
+IsServedLine (Call reading node client datagram) = IsBuilt (Call reading node client datagram) × ((is_message datagram ≡ false) ⊎ IsBuiltCall datagram)
 IsServedLine (Run reading limit) = Unit {0}

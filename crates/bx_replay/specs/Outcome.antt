@@ -11,7 +11,7 @@ use Rattle.bx_script.specs.Schedule.{IsSchedule}
 use Rattle.bx_history.specs.Along.{AllowedNewest}
 use Rattle.bx_model.specs.declared.tree.Tree.{Tree}
 use Rattle.bx_model.specs.Listing.{listing}
-use Rattle.bx_nfs.specs.Wire.{IsServed}
+use Rattle.bx_engine.specs.Calls.{IsBuiltCall}
 use Rattle.bx_replay.specs.declared.stop.Reason.{Reason}
 use Rattle.bx_replay.specs.declared.stop.Reason.TheVariants.{Grammar, NotBuilt}
 use Rattle.bx_replay.specs.Headline.{Headline, IsInPlace, IsServedLine, is_message}
@@ -56,7 +56,7 @@ pub record IsUnserved (first : Bool) (line : List ℕ) : Type 0 where
   pub in_place : IsInPlace first (Call reading node client datagram)
   pub spelled : line ≡ spelling (Call reading node client datagram)
   pub message : is_message datagram ≡ true
-  pub unserved : IsServed datagram → ⊥
+  pub unserved : IsBuiltCall datagram → ⊥
 
 -- A line of text is refused behind these lines, for a reason. The text decides that it is outside the grammar: no line of this stage
 -- that has its place there is spelled so, or there is no room for one. A line in the grammar is refused for what it asks.

@@ -1,54 +1,46 @@
 -- How a replay stands between two lines.
-use Rattle.std.specs.Prelude.{◌≡◌, ◌≢◌, ℕ, ◌+◌, ◌<◌, ◌≤◌, ◌==◌, true, List, [], ◌∷◌, ◌++◌, length, reverse, take, Result, Ok, Err, Option, Some, None, ◌⊎◌}
+use Rattle.std.specs.Prelude.{◌≡◌, ◌≢◌, ℕ, ◌+◌, ◌<◌, ◌≤◌, ◌==◌, if◌then◌else◌, true, List, [], ◌∷◌, ◌++◌, length, map, reverse, take, Result, Ok, Err, Option, Some, None, ◌⊎◌}
 use Rattle.std.specs.List.{AllByRecursion}
 use Rattle.bx_base.specs.declared.names.Point.{Point}
 use Rattle.bx_base.specs.Faults.{Rose}
 use Rattle.bx_base.specs.Text.{LacksFeed, BeginsWith, lines_of}
+use Rattle.bx_engine.specs.Calls.{IsBuiltCall}
 use Rattle.bx_script.specs.declared.line.Line.{Line}
 use Rattle.bx_script.specs.declared.line.Line.TheVariants.{Heading, Call, Run}
 use Rattle.bx_script.specs.declared.trace_line.TraceLine.{TraceLine}
+use Rattle.bx_script.specs.declared.trace_line.TraceLine.TheVariants.{Acted}
 use Rattle.bx_script.specs.ScheduleLine.{spelling}
 use Rattle.bx_script.specs.TraceText.{InTraceRange, trace_text}
 use Rattle.bx_history.specs.Trace as traces
 use Rattle.bx_history.specs.Parts.{trace_of}
+use Rattle.bx_history.specs.Placed.{HasReadingSince}
 use Rattle.bx_history.specs.Along.{Done, parts_of, schedule_of}
-use Rattle.bx_history.specs.Account.{AccountsNewest, answered_entry}
-use Rattle.bx_model.specs.Act.{act}
+use Rattle.bx_history.specs.Account.{AwaitsNewest}
 use Rattle.bx_model.specs.Opening.{opening}
-use Rattle.bx_model.specs.declared.call.Call as model_calls
-use Rattle.bx_model.specs.declared.reply.Reply.{Reply}
 use Rattle.bx_model.specs.declared.tree.Tree.{Tree}
-use Rattle.bx_nfs.specs.Wire.{IsServed, reply_text}
-use Rattle.bx_replay.specs.declared.state.Replay.{Replay}
+use Rattle.bx_service.specs.Rounds.{IsInDoubt}
 use Rattle.bx_replay.specs.declared.stop.Reason.TheVariants.{Grammar, NotBuilt}
 use Rattle.bx_replay.specs.declared.stop.Stop.{Stop}
 use Rattle.bx_replay.specs.declared.stop.Stop.TheVariants as stops
 use Rattle.bx_replay.specs.Headline.{rules, opening_of, IsInPlace, IsServedLine, Step, is_message}
-use Rattle.bx_replay.specs.Outcome.{AreDone, IsBroken, IsCut, IsCutOff, IsFirstRefused, IsReadTo, IsRefused, IsReplayed, IsServedSchedule}
+use Rattle.bx_replay.specs.Outcome.{AreDone, IsBroken, IsCut, IsCutOff, IsFirstRefused, IsReadTo, IsRefused, IsReplayed, IsServedSchedule, closing_text}
 
--- After these lines, the newest first, the replay's tree and its count of calls are those that the trace leaves, and what was written
--- since the start is that trace, whose lines are in range.
-pub record Stands (replay : Replay) (done : List Done) (start written : List ℕ) : Type 0 where
+-- the calls that wait at each node, the newest first: all of them wait at node 0
+abbrev pub waits_at : List traces.Taking → ℕ → List traces.Taking
+waits_at waits node = if 0 == node then reverse waits else []
+
+-- After these lines, the newest first, the tree, the calls that wait, the oldest first, and the count of calls are those that the trace
+-- leaves; the moment of what is under way is a reading since its call was taken; and what was written since the start is that trace,
+-- whose lines are in range.
+pub record Stands (tree : Tree) (waits : List traces.Taking) (under_way : Option Point) (calls : ℕ) (done : List Done) (start written : List ℕ) : Type 0 where
   pub history : List traces.Entry
-  pub accounts : AccountsNewest Step rules (opening_of (schedule_of done)) (parts_of done) history replay.tree
-  pub counted : replay.calls ≡ traces.taken_count (trace_of (parts_of done))
+  pub accounts : AwaitsNewest Step rules (opening_of (schedule_of done)) (parts_of done) history tree (waits_at waits)
+  pub counted : calls ≡ traces.taken_count (trace_of (parts_of done))
+  pub since : (point : Point) → under_way ≡ Some point → HasReadingSince point.call point.moment (parts_of done)
   pub headed : 0 < length (schedule_of done)
   pub are_done : AreDone (schedule_of done)
   pub in_range : AllByRecursion InTraceRange (trace_of (parts_of done))
   pub output : written ≡ start ++ trace_text (reverse (trace_of (parts_of done)))
-
--- What a call that arrives at a reading leaves of the tree, and the bytes of its reply.
-pub record Replies (old new : Tree) (call : model_calls.Call) (reading xid : ℕ) (text : List ℕ) : Type 0 where
-  pub reply : Reply
-  pub acts : act old call reading 8 0 ≡ Some (reply, new)
-  pub text-is : text ≡ reply_text xid reply
-
--- What a call adds: its point, the reply's bytes, and a step of the tree, whoever asked.
-pub record Answers (old new : Replay) (reading : ℕ) (datagram : List ℕ) (point : Point) (reply : List ℕ) : Type 0 where
-  pub point-is : point ≡ record { call = old.calls + 1; moment = reading; spare = 8; made = 0 }
-  pub counted : new.calls ≡ old.calls + 1
-  pub served : IsServed datagram
-  pub step : (client : ℕ) → Step old.tree (answered_entry (old.calls + 1) client datagram reading 8 0 reply) new.tree
 
 -- facts that hold unless the source failed, unless the sink failed, unless memory ran out, and unless the bench failed
 abbrev pub UnlessRead : {A : Type 0} → Result A Stop → Type 0 → Type 0
@@ -107,23 +99,29 @@ HasLineCause stops.OutOfMemory number before now = Unit {0}
 
 -- ---- doing a line
 
--- the replay stands with one line more
-pub record StandsAfter (replay : Replay) (line : Line) (done : List Done) (start written : List ℕ) : Type 0 where
+-- a tree is held, and the replay stands for it with one line more
+pub record StandsAfter (Holds : Tree → Type 0) (waits : List traces.Taking) (under_way : Option Point) (calls : ℕ) (line : Line) (done : List Done) (start written : List ℕ) : Type 0 where
+  pub tree : Tree
+  pub holds : Holds tree
   pub lines : List TraceLine
-  pub stands : Stands replay (record { line = line; lines = lines } ∷ done) start written
+  pub stands : Stands tree waits under_way calls (record { line = line; lines = lines } ∷ done) start written
 
--- the replay would stand with one line more, but only a part of the trace was written
-pub record BreaksAfter (line : Line) (done : List Done) (start old written : List ℕ) : Type 0 where
-  pub replay : Replay
-  pub wrote : List ℕ
+-- The replay would stand with one line more, but only a part of the trace was written.
+pub record BreaksAfter (line : Line) (done : List Done) (start written : List ℕ) : Type 0 where
+  pub tree : Tree
+  pub waits : List traces.Taking
+  pub under_way : Option Point
+  pub calls : ℕ
+  pub lines : List TraceLine
+  pub output : List ℕ
   pub more : List ℕ
-  pub added : written ≡ old ++ wrote
-  pub after : StandsAfter replay line done start (written ++ more)
+  pub added : written ≡ start ++ output
+  pub after : Stands tree waits under_way calls (record { line = line; lines = lines } ∷ done) start (written ++ more)
 
 -- a call that isn't served
 abbrev pub IsUnservedLine : Line → Type 0
 IsUnservedLine (Heading volume nodes devices areas) = ⊥
-IsUnservedLine (Call reading node client datagram) = (is_message datagram ≡ true) × (IsServed datagram → ⊥)
+IsUnservedLine (Call reading node client datagram) = (is_message datagram ≡ true) × (IsBuiltCall datagram → ⊥)
 IsUnservedLine (Run reading limit) = ⊥
 
 -- a line that is done is served, and a line that is refused isn't
@@ -135,14 +133,14 @@ Serves (Err stops.WriteFault) line = Unit {0}
 Serves (Err stops.DiskFault) line = Unit {0}
 Serves (Err stops.OutOfMemory) line = Unit {0}
 
--- what doing a line leaves, from how the replay stood before
-abbrev pub DoesLine : Result (Unit {0}) Stop → Line → List Done → List ℕ → List ℕ → List ℕ → Replay → Type 0
-DoesLine (Ok _) line done start old new replay = StandsAfter replay line done start new
-DoesLine (Err (stops.Refused number reason)) line done start old new replay = new ≡ old
-DoesLine (Err stops.ReadFault) line done start old new replay = ⊥
-DoesLine (Err stops.WriteFault) line done start old new replay = BreaksAfter line done start old new
-DoesLine (Err stops.DiskFault) line done start old new replay = ⊥
-DoesLine (Err stops.OutOfMemory) line done start old new replay = new ≡ old
+-- what doing a line leaves, by what it leaves where it is done, and by what was written before and now
+abbrev pub DoesLine : Result (Unit {0}) Stop → Type 0 → Line → List Done → List ℕ → List ℕ → List ℕ → Type 0
+DoesLine (Ok _) After line done start old new = After
+DoesLine (Err (stops.Refused number reason)) After line done start old new = new ≡ old
+DoesLine (Err stops.ReadFault) After line done start old new = ⊥
+DoesLine (Err stops.WriteFault) After line done start old new = BreaksAfter line done start new
+DoesLine (Err stops.DiskFault) After line done start old new = ⊥
+DoesLine (Err stops.OutOfMemory) After line done start old new = (new ≡ old) ⊎ BreaksAfter line done start new
 
 -- why doing a line stops short
 abbrev pub HasStepCause : Stop → ℕ → ℕ → ℕ → Type 0
@@ -173,25 +171,25 @@ HasPrintCause stops.OutOfMemory before now = Unit {0}
 
 -- ---- the heading
 
--- The text begins with the heading of a volume, and the tree is that volume's opening tree.
-pub record IsBegun (replay : Replay) (text rest : List ℕ) : Type 0 where
+-- The text begins with the heading of a volume, of which the opening tree is held; no call was taken.
+pub record IsBegun (Holds : Tree → Type 0) (calls : ℕ) (text rest : List ℕ) : Type 0 where
   pub volume : ℕ
   pub nodes : ℕ
   pub devices : ℕ
   pub areas : ℕ
   pub in_place : IsInPlace true (Heading volume nodes devices areas)
   pub begins : BeginsWith text (spelling (Heading volume nodes devices areas)) rest
-  pub tree : replay.tree ≡ opening volume
-  pub calls : replay.calls ≡ 0
+  pub holds : Holds (opening volume)
+  pub none : calls ≡ 0
 
 -- what a read of the heading gives
-abbrev pub Begins : Result Replay Stop → List ℕ → List ℕ → List ℕ → Type 0
-Begins (Ok replay) text rest left = IsBegun replay text rest
-Begins (Err (stops.Refused line reason)) text rest left = (text ≡ []) ⊎ GivesLine (Err (stops.Refused line reason)) 1 text rest left
-Begins (Err stops.ReadFault) text rest left = GivesLine (Err stops.ReadFault) 1 text rest left
-Begins (Err stops.WriteFault) text rest left = ⊥
-Begins (Err stops.DiskFault) text rest left = Unit {0}
-Begins (Err stops.OutOfMemory) text rest left = Unit {0}
+abbrev pub Begins : {A : Type 0} → (A → Tree → Type 0) → (A → ℕ) → Result A Stop → List ℕ → List ℕ → List ℕ → Type 0
+Begins Holds calls (Ok replay) text rest left = IsBegun (Holds replay) (calls replay) text rest
+Begins Holds calls (Err (stops.Refused line reason)) text rest left = (text ≡ []) ⊎ GivesLine (Err (stops.Refused line reason)) 1 text rest left
+Begins Holds calls (Err stops.ReadFault) text rest left = GivesLine (Err stops.ReadFault) 1 text rest left
+Begins Holds calls (Err stops.WriteFault) text rest left = ⊥
+Begins Holds calls (Err stops.DiskFault) text rest left = Unit {0}
+Begins Holds calls (Err stops.OutOfMemory) text rest left = Unit {0}
 
 -- why a replay doesn't begin: the faults of the source and of the bench, before and now
 abbrev pub HasBeginCause : Stop → ℕ → ℕ → ℕ → ℕ → Type 0
@@ -203,10 +201,53 @@ HasBeginCause stops.OutOfMemory source_before source_now bench_before bench_now 
 
 -- ---- the end
 
--- what is written at the end, or a part of it
-abbrev pub Finishes : Result (Unit {0}) Stop → List ℕ → List ℕ → List ℕ → Type 0
-Finishes (Ok _) closing old new = new ≡ old ++ closing
-Finishes (Err stop) closing old new = (wrote : List ℕ) × (more : List ℕ) × (new ≡ old ++ wrote) × (wrote ++ more ≡ closing)
+-- What is told at the end: the tree that is held, with no call in doubt; or the one to which the call leads that is under way, which is
+-- in doubt.
+abbrev pub IsTold : List traces.Taking → Option Point → Tree → Tree → List Point → Type 0
+IsTold waits under_way tree next doubt = ((next ≡ tree) × (doubt ≡ [])) ⊎ IsInDoubt waits under_way tree next doubt
+
+-- The end was written, or a part of it, and the points that it tells are in range.
+pub record IsEnded (waits : List traces.Taking) (under_way : Option Point) (tree : Tree) (Stands : Tree → Type 0) (old new : List ℕ) : Type 0 where
+  pub next : Tree
+  pub doubt : List Point
+  pub told : IsTold waits under_way tree next doubt
+  pub in_range : AllByRecursion InTraceRange (map Acted doubt)
+  pub written : new ≡ old ++ closing_text (map Acted doubt) next
+  pub stands : Stands next
+
+pub record IsEndedShort (waits : List traces.Taking) (under_way : Option Point) (tree : Tree) (old new : List ℕ) : Type 0 where
+  pub next : Tree
+  pub doubt : List Point
+  pub told : IsTold waits under_way tree next doubt
+  pub in_range : AllByRecursion InTraceRange (map Acted doubt)
+  pub wrote : List ℕ
+  pub more : List ℕ
+  pub written : new ≡ old ++ wrote
+  pub part : wrote ++ more ≡ closing_text (map Acted doubt) next
+
+abbrev pub Ends : Result (Unit {0}) Stop → List traces.Taking → Option Point → Tree → (Tree → Type 0) → List ℕ → List ℕ → Type 0
+Ends (Ok _) waits under_way tree Stands old new = IsEnded waits under_way tree Stands old new
+Ends (Err stop) waits under_way tree Stands old new = IsEndedShort waits under_way tree old new
+
+-- A disk failed; or what was held isn't found, which can't be where the bench tells what it holds.
+abbrev pub IsDiskCause : Type 0 → ℕ → ℕ → Type 0
+IsDiskCause Held before now = Rose before now ⊎ (Held → ⊥)
+
+-- why the tree isn't read back from the bench
+abbrev pub HasBenchCause : Stop → Type 0 → ℕ → ℕ → Type 0
+HasBenchCause (stops.Refused line reason) Held before now = ⊥
+HasBenchCause stops.ReadFault Held before now = ⊥
+HasBenchCause stops.WriteFault Held before now = ⊥
+HasBenchCause stops.DiskFault Held before now = IsDiskCause Held before now
+HasBenchCause stops.OutOfMemory Held before now = Unit {0}
+
+-- why a replay doesn't end: the faults of the sink and of the bench, before and now
+abbrev pub HasFinishCause : Stop → ℕ → ℕ → Type 0 → ℕ → ℕ → Type 0
+HasFinishCause (stops.Refused line reason) before now Held bench_before bench_now = ⊥
+HasFinishCause stops.ReadFault before now Held bench_before bench_now = ⊥
+HasFinishCause stops.WriteFault before now Held bench_before bench_now = Rose before now
+HasFinishCause stops.DiskFault before now Held bench_before bench_now = IsDiskCause Held bench_before bench_now
+HasFinishCause stops.OutOfMemory before now Held bench_before bench_now = Unit {0}
 
 -- ---- between two lines
 
@@ -218,10 +259,12 @@ pub record IsRead (text rest : List ℕ) (number : ℕ) : Type 0 where
   pub headed : 0 < length done
   pub count : number ≡ length done
 
--- The replay stands after these lines.
-pub record Going (text rest : List ℕ) (number : ℕ) (replay : Replay) (start written : List ℕ) : Type 0 where
+-- A tree is held, and the replay stands for it after these lines.
+pub record Going (Holds : Tree → Type 0) (waits : List traces.Taking) (under_way : Option Point) (calls : ℕ) (text rest : List ℕ) (number : ℕ) (start written : List ℕ) : Type 0 where
+  pub tree : Tree
+  pub holds : Holds tree
   pub done : List Done
-  pub stands : Stands replay done start written
+  pub stands : Stands tree waits under_way calls done start written
   pub read : IsReadTo text (schedule_of done) rest
   pub count : number ≡ length done
 
@@ -243,10 +286,10 @@ Leaves Tells Stands (Err stops.WriteFault) text left old new = Tells → Wrote o
 Leaves Tells Stands (Err stops.DiskFault) text left old new = Tells → Wrote old new (IsBroken text)
 Leaves Tells Stands (Err stops.OutOfMemory) text left old new = Tells → Wrote old new (IsBroken text)
 
--- why a replay stops short: the faults of the source, of the sink and of the bench, before and now
-abbrev pub HasCause : Stop → ℕ → ℕ → ℕ → ℕ → ℕ → ℕ → Type 0
-HasCause (stops.Refused line reason) source_before source_now sink_before sink_now bench_before bench_now = Unit {0}
-HasCause stops.ReadFault source_before source_now sink_before sink_now bench_before bench_now = Rose source_before source_now
-HasCause stops.WriteFault source_before source_now sink_before sink_now bench_before bench_now = Rose sink_before sink_now
-HasCause stops.DiskFault source_before source_now sink_before sink_now bench_before bench_now = Rose bench_before bench_now
-HasCause stops.OutOfMemory source_before source_now sink_before sink_now bench_before bench_now = Unit {0}
+-- why a replay stops short: the faults of the source, of the sink and of the bench, before and now, and whether the bench tells
+abbrev pub HasCause : Stop → ℕ → ℕ → ℕ → ℕ → Type 0 → ℕ → ℕ → Type 0
+HasCause (stops.Refused line reason) source_before source_now sink_before sink_now Tells bench_before bench_now = Unit {0}
+HasCause stops.ReadFault source_before source_now sink_before sink_now Tells bench_before bench_now = Rose source_before source_now
+HasCause stops.WriteFault source_before source_now sink_before sink_now Tells bench_before bench_now = Rose sink_before sink_now
+HasCause stops.DiskFault source_before source_now sink_before sink_now Tells bench_before bench_now = IsDiskCause Tells bench_before bench_now
+HasCause stops.OutOfMemory source_before source_now sink_before sink_now Tells bench_before bench_now = Unit {0}

@@ -1,46 +1,48 @@
 //! The disks under a replay.
 
-ghost use Rattle.std.specs.Prelude.{◌≡◌, ◌≤◌, ℕ, false, IfErr, IsErrOf, OnOk};
-ghost use Rattle.bx_base.specs.Faults.{Rose};
-ghost use Rattle.bx_disk.specs.declared.fault.RackError.TheVariants.{Fault, OutOfMemory as NoMemory};
+ghost use Rattle.std.specs.Prelude.{◌≡◌, ◌≤◌, ℕ, false, IfErr, IfOk, OnOk};
+ghost use Rattle.bx_audit.specs.Audited.{IsListed, StandFor};
+ghost use Rattle.bx_disk.specs.Disks.{IsImage};
+ghost use Rattle.bx_global.specs.Opening.{opening_state};
 ghost use Rattle.bx_model.specs.declared.tree.Tree.{Tree};
-ghost use Rattle.bx_model.specs.Opening.{opening};
-ghost use Rattle.bx_replay.specs.Bench.{IsHeldBy};
+ghost use Rattle.bx_model.specs.Listing.{listing};
+ghost use Rattle.bx_replay.specs.Bench.{HoldsAny};
+ghost use Rattle.bx_replay.specs.Replay.{HasBenchCause, UnlessDisk};
 
+use crate::stop::Stop;
+use bx_audit::{Listing, audit};
 use bx_base::OutOfMemory;
-use bx_disk::{CrashRack, Noise, Rack, RackError};
-use bx_format::{format, what_is_formatted_is_at_rest};
-use bx_volume::a_formatted_rack;
+use bx_disk::{CrashRack, Noise, Rack};
 use std::alloc::Global;
 
-/// Makes the bench a volume of one device and one area.
-pub(crate) fn make_volume<B: Rack>(
-    alloc: Global,
-    bench: &mut B,
-    volume: u64,
-) -> Result<(), RackError>
-    ensures holds { B.tells bench.old → OnOk result (IsHeldBy (B.state bench.new) (opening volume)) }
-    ensures cause { IsErrOf result Fault → Rose (B.faults bench.old) (B.faults bench.new) }
-    ensures memory { IsErrOf result NoMemory → B.faults bench.new ≡ B.faults bench.old }
-    ensures no_fault { OnOk result (B.faults bench.new ≡ B.faults bench.old) }
-    ensures later { B.faults bench.old ≤ B.faults bench.new }
-    ensures keeps_telling { B.tells bench.old → B.tells bench.new }
-{
-    format(alloc, bench, volume, 1, 1)?;
-    what_is_formatted_is_at_rest();
-    a_formatted_rack();
-    Ok(())
-}
-
-/// Drops what is unsure on the bench: then nothing is. What its images stood for they stand for still, also where memory ran out.
+/// Drops what is unsure on the bench: then nothing is.
 pub(crate) fn drop_unsure<B: CrashRack>(bench: &mut B) -> Result<(), OutOfMemory>
+    ensures left { B.tells bench.old → OnOk result (IsImage (B.state bench.old) (B.state bench.new).reads) }
     ensures dropped { (d s : ℕ) → B.tells bench.old → OnOk result ((B.state bench.new).unsure d s ≡ false) }
-    ensures holds { (tree : Tree) → B.tells bench.old → IsHeldBy (B.state bench.old) tree → IsHeldBy (B.state bench.new) tree }
     ensures no_fault { B.faults bench.new ≡ B.faults bench.old }
+    ensures sizes { (B.state bench.new).sizes ≡ (B.state bench.old).sizes }
     ensures keeps_telling { B.tells bench.old → B.tells bench.new }
 {
     for disk in 0..bench.disks() {
         bench.crash(disk, Noise::Drop)?;
     }
     Ok(())
+}
+
+/// Drops what is unsure on the bench, and lists the file tree that it then holds.
+pub(crate) fn read_back<B: CrashRack>(alloc: Global, bench: &mut B) -> Result<Listing, Stop>
+    ensures left { B.tells bench.old → OnOk result (IsImage (B.state bench.old) (B.state bench.new).reads) }
+    ensures dropped { (d s : ℕ) → B.tells bench.old → OnOk result ((B.state bench.new).unsure d s ≡ false) }
+    ensures listed { B.tells bench.old → IfOk result (IsListed (B.state bench.new) (opening_state 1 1)) }
+    ensures one { (tree : Tree) → B.tells bench.old → IfOk result (λ listed. StandFor (B.state bench.new) (opening_state 1 1) tree → listed.text ≡ listing tree) }
+    ensures cause { IfErr result (λ stop. HasBenchCause stop (B.tells bench.old × HoldsAny (B.state bench.old)) (B.faults bench.old) (B.faults bench.new)) }
+    ensures no_fault { UnlessDisk result (B.faults bench.new ≡ B.faults bench.old) }
+    ensures later { B.faults bench.old ≤ B.faults bench.new }
+    ensures sizes { (B.state bench.new).sizes ≡ (B.state bench.old).sizes }
+    ensures keeps_telling { B.tells bench.old → B.tells bench.new }
+{
+    drop_unsure(bench)?;
+    let state = bx_global::opening(alloc, 1, 1)?;
+    let listed = audit(alloc, bench, &state)?;
+    Ok(listed)
 }

@@ -1,33 +1,43 @@
 //! How a replay begins, and how it ends.
 
-ghost use Rattle.std.specs.Prelude.{◌≡◌, ◌≤◌, ℕ, false, [], ◌++◌, IfOk, IfErr, MatchResult, OnOk};
-ghost use Rattle.bx_replay.specs.Outcome.{closing_text};
+ghost use Rattle.std.specs.Prelude.{◌≡◌, ◌≤◌, ℕ, false, [], ◌++◌, IfOk, IfErr, filter, map, OnOk};
+ghost use Rattle.bx_base.specs.declared.names.Point.{Point};
+ghost use Rattle.bx_model.specs.declared.tree.Tree.{Tree};
 ghost use Rattle.bx_replay.specs.Bench.{IsHeldBy};
-ghost use Rattle.bx_replay.specs.Replay.{Begins, Finishes, HasBeginCause, HasPrintCause, UnlessDisk, UnlessRead, UnlessWrite};
+ghost use Rattle.bx_replay.specs.Replay.{Begins, Ends, HasBeginCause, HasFinishCause, UnlessDisk, UnlessRead, UnlessWrite};
+ghost use Rattle.bx_script.specs.declared.trace_line.TraceLine.TheVariants.{Acted};
+ghost use Rattle.bx_service.specs.Rounds.{waits_for};
 
-use crate::bench::{drop_unsure, make_volume};
+use crate::bench::read_back;
+use crate::print::print_end;
 use crate::schedule::next_line;
 use crate::state::Replay;
 use crate::stop::{Reason, Stop};
+use bx_base::{OutOfMemory, Point};
 use bx_disk::{CrashRack, Rack};
-use bx_model::Tree;
 use bx_outside::{LineReader, Sink, Source, write_all};
-use bx_script::Line;
+use bx_script::{Line, TraceLine};
+use bx_service::Service;
 use std::alloc::Global;
 
-impl Replay {
-    /// Reads the heading, makes the bench its volume, and begins with the opening tree.
+impl<M: Service> Replay<M> {
+    /// Reads the heading, and makes the bench its volume, with the opening tree.
     pub fn begin<S: Source, B: Rack>(
         alloc: Global,
         reader: &mut LineReader,
         input: &mut S,
         bench: &mut B,
-    ) -> Result<Replay, Stop>
+    ) -> Result<Replay<M>, Stop>
         requires { reader.old.most ≡ 18600 }
-        ensures begins { S.tells input.old → Begins result (reader.old.ahead ++ S.left input.old)
-            (reader.new.ahead ++ S.left input.new) (S.left input.new) }
+        ensures begins { S.tells input.old → B.tells bench.old → Begins (λ replay tree. M.holds replay.service (B.state bench.new) tree) (λ replay. replay.calls) result
+            (reader.old.ahead ++ S.left input.old) (reader.new.ahead ++ S.left input.new) (S.left input.new) }
+        ensures reads { S.tells input.old → Begins (λ replay tree. Unit {0}) (λ replay. replay.calls) result
+            (reader.old.ahead ++ S.left input.old) (reader.new.ahead ++ S.left input.new) (S.left input.new) }
+        ensures holds { B.tells bench.old → IfOk result (λ replay. (tree : Tree) × M.holds replay.service (B.state bench.new) tree) }
+        ensures none_wait { IfOk result (λ replay. M.waits replay.service ≡ []) }
+        ensures latest { IfOk result (λ replay. M.latest replay.service ≡ replay.calls) }
+        ensures ready { IfOk result (λ replay. M.ready replay.service (B.state bench.new).sizes) }
         ensures calls { IfOk result (λ replay. replay.calls ≡ 0) }
-        ensures holds { B.tells bench.old → IfOk result (λ replay. IsHeldBy (B.state bench.new) replay.tree) }
         ensures cause { IfErr result (λ stop. HasBeginCause stop (S.faults input.old) (S.faults input.new) (B.faults bench.old) (B.faults bench.new)) }
         ensures first { UnlessRead result (S.faults input.new ≡ S.faults input.old) }
         ensures bench_first { UnlessDisk result (B.faults bench.new ≡ B.faults bench.old) }
@@ -39,9 +49,9 @@ impl Replay {
     {
         match next_line(alloc, reader, input, 1)? {
             Some(Line::Heading { volume, .. }) => {
-                make_volume(alloc, bench, volume)?;
+                let service = M::begin(alloc, bench, volume)?;
                 Ok(Replay {
-                    tree: Tree::opening(alloc, volume)?,
+                    service,
                     calls: 0,
                     text: Vec::new(alloc),
                 })
@@ -50,22 +60,44 @@ impl Replay {
         }
     }
 
-    /// Drops what is unsure on the bench, and writes what comes after the trace: the word `end`, and the listing of the tree.
-    pub fn finish<K: Sink, B: CrashRack>(&self, bench: &mut B, out: &mut K) -> Result<(), Stop>
-        ensures finishes { K.tells out.old → Finishes result (closing_text [] self.now.tree) (K.written out.old) (K.written out.new) }
-        ensures holds { B.tells bench.old → IsHeldBy (B.state bench.old) self.now.tree → IsHeldBy (B.state bench.new) self.now.tree }
+    /// Drops what is unsure on the bench, and writes what comes after the trace: the word `end`, the points of calls that wait and whose
+    /// records are open, and the listing of the tree, read back from the bench.
+    pub fn finish<K: Sink, B: CrashRack>(
+        &mut self,
+        alloc: Global,
+        bench: &mut B,
+        out: &mut K,
+    ) -> Result<(), Stop>
+        requires ready { M.ready self.old.service (B.state bench.old).sizes }
+        ensures ends { (tree : Tree) → K.tells out.old → B.tells bench.old → M.holds self.old.service (B.state bench.old) tree
+            → Ends result (M.waits self.old.service) (M.under_way self.old.service) tree (IsHeldBy (B.state bench.new)) (K.written out.old) (K.written out.new) }
         ensures dropped { (d s : ℕ) → B.tells bench.old → OnOk result ((B.state bench.new).unsure d s ≡ false) }
-        ensures bench_first { B.faults bench.new ≡ B.faults bench.old }
+        ensures bench_first { UnlessDisk result (B.faults bench.new ≡ B.faults bench.old) }
+        ensures bench_later { B.faults bench.old ≤ B.faults bench.new }
         ensures bench_tells { B.tells bench.old → B.tells bench.new }
-        ensures cause { IfErr result (λ stop. HasPrintCause stop (K.faults out.old) (K.faults out.new)) }
+        ensures cause { IfErr result (λ stop. HasFinishCause stop (K.faults out.old) (K.faults out.new) (B.tells bench.old × ((tree : Tree) × M.holds self.old.service (B.state bench.old) tree)) (B.faults bench.old) (B.faults bench.new)) }
         ensures first { UnlessWrite result (K.faults out.new ≡ K.faults out.old) }
         ensures later { K.faults out.old ≤ K.faults out.new }
         ensures keeps_telling { K.tells out.old → K.tells out.new }
     {
-        drop_unsure(bench)?;
-        let listing = self.tree.listing()?;
-        write_all(out, b"end\n")?;
-        write_all(out, listing.bytes())?;
+        let listed = read_back(alloc, bench)?;
+        let mut doubt = Vec::new(alloc);
+        self.put_doubt(listed.doubt.items(), &mut doubt)?;
+        print_end(&mut self.text, &doubt, out)?;
+        write_all(out, listed.text.bytes())?;
+        Ok(())
+    }
+
+    /// Puts the points among these of calls that wait behind lines.
+    fn put_doubt(&self, points: &[Point], lines: &mut Vec<TraceLine>) -> Result<(), OutOfMemory>
+        ensures { OnOk result (lines.new.items ≡ lines.old.items ++ map Acted (filter (λ point. waits_for (M.waits self.now.service) point.call) points.now)) }
+    {
+        if let [point, behind @ ..] = points {
+            if self.service.waits_for(point.call) {
+                lines.push(TraceLine::Acted(*point))?;
+            }
+            self.put_doubt(behind, lines)?;
+        }
         Ok(())
     }
 }

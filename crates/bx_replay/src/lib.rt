@@ -1,4 +1,4 @@
-//! A schedule replayed on a file tree in memory over a bench of disks that hold it, and what its trace says: the headline.
+//! A schedule replayed on a service over a bench of disks that hold the file tree, and what its trace says: the headline.
 #![tactic(auto)]
 
 mod bench;

@@ -2,7 +2,7 @@
 
 ghost use Rattle.std.specs.Prelude.{◌≡◌, ◌≤◌, ℕ, false, IfErr, OnOk};
 ghost use Rattle.bx_replay.specs.Bench.{IsHeldBy};
-ghost use Rattle.bx_replay.specs.Replay.{HasCause, Leaves, UnlessDisk, UnlessRead, UnlessWrite};
+ghost use Rattle.bx_replay.specs.Replay.{HasCause, Leaves, UnlessRead, UnlessWrite};
 
 use crate::schedule::next_line;
 use crate::state::Replay;
@@ -10,21 +10,22 @@ use crate::stop::Stop;
 use bx_disk::CrashRack;
 use bx_outside::{LineReader, Sink, Source};
 use bx_script::MAX_LINE;
+use bx_service::Service;
 use std::alloc::Global;
 
-/// Replays the schedule of `input` and writes its trace to `out` as it goes; then the word `end` and the listing
-/// of the tree. It keeps one line of the schedule at a time. The bench becomes a volume of the heading's number, whose
-/// images stand for the tree, and nothing on it is unsure at the end.
-pub fn replay<S: Source, K: Sink, B: CrashRack>(
+/// Replays the schedule of `input` on a service over `bench`, and writes its trace to `out` as it goes; then the word `end`, the points of
+/// calls in doubt, and the listing of the tree, as it is read back from the bench. It keeps one line of the schedule at a time, and the
+/// calls that wait. The bench becomes a volume of the heading's number, whose images stand for the tree at the end, and nothing on it is
+/// unsure then.
+pub fn replay<M: Service, S: Source, K: Sink, B: CrashRack>(
     alloc: Global,
     input: &mut S,
     out: &mut K,
     bench: &mut B,
 ) -> Result<(), Stop>
-    ensures leaves { S.tells input.old → Leaves (K.tells out.old) (λ tree. B.tells bench.old → IsHeldBy (B.state bench.new) tree) result (S.left input.old) (S.left input.new) (K.written out.old) (K.written out.new) }
+    ensures leaves { S.tells input.old → Leaves (K.tells out.old × B.tells bench.old) (IsHeldBy (B.state bench.new)) result (S.left input.old) (S.left input.new) (K.written out.old) (K.written out.new) }
     ensures dropped { (d s : ℕ) → B.tells bench.old → OnOk result ((B.state bench.new).unsure d s ≡ false) }
-    ensures cause { IfErr result (λ stop. HasCause stop (S.faults input.old) (S.faults input.new) (K.faults out.old) (K.faults out.new) (B.faults bench.old) (B.faults bench.new)) }
-    ensures bench_first { UnlessDisk result (B.faults bench.new ≡ B.faults bench.old) }
+    ensures cause { IfErr result (λ stop. HasCause stop (S.faults input.old) (S.faults input.new) (K.faults out.old) (K.faults out.new) (B.tells bench.old) (B.faults bench.old) (B.faults bench.new)) }
     ensures bench_later { B.faults bench.old ≤ B.faults bench.new }
     ensures bench_tells { B.tells bench.old → B.tells bench.new }
     ensures source_first { UnlessRead result (S.faults input.new ≡ S.faults input.old) }
@@ -35,11 +36,11 @@ pub fn replay<S: Source, K: Sink, B: CrashRack>(
     ensures sink_tells { K.tells out.old → K.tells out.new }
 {
     let mut reader = LineReader::new(alloc, MAX_LINE)?;
-    let mut replay = Replay::begin(alloc, &mut reader, input, bench)?;
+    let mut replay: Replay<M> = Replay::begin(alloc, &mut reader, input, bench)?;
     let mut number = 1;
     'lines: while let Some(line) = next_line(alloc, &mut reader, input, number + 1)? {
         number += 1;
-        replay.step(alloc, number, line, out)?;
+        replay.step(alloc, number, line, bench, out)?;
     }
-    replay.finish(bench, out)
+    replay.finish(alloc, bench, out)
 }

@@ -1,13 +1,12 @@
-//! A schedule, replayed on a file tree in memory.
+//! A schedule, replayed on a service over disks.
 
 use bx_base::CallNo;
-use bx_model::Tree;
 
 /// The state between two lines of a schedule.
 #[derive(Drop)]
-pub struct Replay {
-    /// The file tree.
-    pub tree: Tree,
+pub struct Replay<M> {
+    /// What takes the calls and answers them.
+    pub service: M,
     /// How many calls were taken.
     pub calls: CallNo,
     /// Room for the text of a few lines of the trace.

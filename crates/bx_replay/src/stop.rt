@@ -3,6 +3,7 @@
 use bx_base::OutOfMemory;
 use bx_disk::RackError;
 use bx_outside::{LineError, WriteFault};
+use bx_overlay::AuditError;
 use thiserror::Error;
 
 /// Why a line of a schedule is refused.
@@ -28,7 +29,8 @@ pub enum Stop {
     /// The output failed.
     #[error("write fault")]
     WriteFault,
-    /// The bench failed while it was shaped and formatted.
+    /// The bench failed while it was shaped and formatted, or while the tree was read back from it; or it doesn't hold what was
+    /// written, which no bench does that tells what it holds.
     #[error("disk fault")]
     DiskFault,
     /// Memory ran out.
@@ -82,6 +84,24 @@ impl From<RackError> for Stop {
         match error {
             RackError::Fault => Stop::DiskFault,
             RackError::OutOfMemory => Stop::OutOfMemory,
+        }
+    }
+}
+
+impl From<AuditError> for Stop {
+    ghost use Rattle.bx_replay.specs.FromLine.{stop_of_audit};
+    ghost use Rattle.std.specs.Prelude.{◌≡◌};
+
+    ghost from_gives = { λ error stop. stop ≡ stop_of_audit error };
+
+    fn from(error: AuditError) -> Stop {
+        match error {
+            AuditError::OutOfMemory => Stop::OutOfMemory,
+            AuditError::DiskFault
+            | AuditError::NoLabel(_)
+            | AuditError::NoMajority
+            | AuditError::NoSource(_)
+            | AuditError::Torn(_, _, _) => Stop::DiskFault,
         }
     }
 }

@@ -46,7 +46,8 @@ impl Memory {
 }
 
 impl Blocks for Memory {
-    ghost use Rattle.std.specs.Prelude.{◌≡◌, Option, Some, unwrap_or};
+    ghost use Rattle.std.specs.Prelude.{◌≡◌, Option, Some, [], false, unwrap_or};
+    ghost use Rattle.bx_disk.specs.Disks.{Disks};
     ghost use Rattle.bx_records.specs.Drafts.{block_in};
     ghost use Rattle.bx_layout.specs.declared.block.Block.{Block};
     ghost use mathlib.Core.Path.{ap, sym, ◌∙◌};
@@ -55,7 +56,7 @@ impl Blocks for Memory {
 
     ghost ready = { λ memory. Unit {0} };
 
-    ghost lender = { λ _. 0 };
+    ghost lender = { λ _. (0, record { sizes = []; reads = λ d s. []; held = λ d s. []; unsure = λ d s. false }) };
 
     ghost areas = { λ memory. 1 };
 

@@ -2,6 +2,7 @@
 
 use bx_base::OutOfMemory;
 use bx_disk::MemRack;
+use bx_lone_service::LoneService;
 use bx_outside::{MemSink, MemSource};
 use bx_replay::{Reason, Stop, replay};
 use std::alloc::Global;
@@ -18,6 +19,10 @@ const NULL: &str =
 const NULL_TRACE: &str =
     "took 1 0 5 000000010000000000000002000186a3000000020000000000000000000000000000000000000000\npoint 1 0 8 0000000000000000\nreply 1 000000010000000100000000000000000000000000000000\n";
 
+/// That it was taken.
+const NULL_TAKEN: &str =
+    "took 1 0 5 000000010000000000000002000186a3000000020000000000000000000000000000000000000000\n";
+
 /// GETATTR of the root, and its trace.
 const ROOT: &str =
     "boxwood 1 7 1 1 1\ncall 0 0 5 000000010000000000000002000186a3000000020000000100000000000000000000000000000000424f58574f4f4431000000000000000700000000000000010000000000000000\nrun 0 10000\n";
@@ -32,17 +37,35 @@ const NOTHING: &str =
 const NOTHING_TRACE: &str =
     "took 1 0 5 000000010000000000000002000186a3000000020000000100000000000000000000000000000000424f58574f4f4431000000000000000700000000000000020000000000000000\npoint 1 0 8 0000000000000000\nreply 1 00000001000000010000000000000000000000000000000000000046\n";
 
+/// SETATTR of the root's mode by its owner, and one round less than answer it; that it was taken.
+const MODE_EARLY: &str =
+    "boxwood 1 7 1 1 1\ncall 1000 0 5 000000010000000000000002000186a30000000200000002000000010000001400000000000000000000000000000000000000000000000000000000424f58574f4f4431000000000000000700000000000000010000000000000000000001edffffffffffffffffffffffffffffffffffffffffffffffffffffffff\nrun 1000 5\n";
+
+const MODE_TAKEN: &str =
+    "took 1 0 5 000000010000000000000002000186a30000000200000002000000010000001400000000000000000000000000000000000000000000000000000000424f58574f4f4431000000000000000700000000000000010000000000000000000001edffffffffffffffffffffffffffffffffffffffffffffffffffffffff\n";
+
+/// The same with one round more, at a later reading; the trace.
+const MODE_DONE: &str =
+    "boxwood 1 7 1 1 1\ncall 1000 0 5 000000010000000000000002000186a30000000200000002000000010000001400000000000000000000000000000000000000000000000000000000424f58574f4f4431000000000000000700000000000000010000000000000000000001edffffffffffffffffffffffffffffffffffffffffffffffffffffffff\nrun 1000 5\nrun 2000 1\n";
+
+const MODE_TRACE: &str =
+    "took 1 0 5 000000010000000000000002000186a30000000200000002000000010000001400000000000000000000000000000000000000000000000000000000424f58574f4f4431000000000000000700000000000000010000000000000000000001edffffffffffffffffffffffffffffffffffffffffffffffffffffffff\npoint 1 1000 8 0000000000000000\nreply 1 0000000100000001000000000000000000000000000000000000000000000002000041ed000000020000000000000000000010000000100000000000000000080000000700000002000000000000000000000000000000000000000100000000\n";
+
+/// What comes after the trace once the mode is set.
+const MODE_CLOSING: &str =
+    "end\nfile 0000000000000001 2 40755 2 0 0 4096 0.000000 0.000000 1.000000\ndir 0000000000000001 3\n";
+
 /// NULL, and a line that is no line of a schedule.
 const WALK: &str =
     "boxwood 1 7 1 1 1\ncall 0 0 5 000000010000000000000002000186a3000000020000000000000000000000000000000000000000\nwalk\n";
 
-/// Procedure 17 of the root, which isn't served yet.
-const STATFS: &str =
-    "boxwood 1 7 1 1 1\ncall 0 0 5 000000010000000000000002000186a3000000020000001100000000000000000000000000000000424f58574f4f4431000000000000000700000000000000010000000000000000\n";
+/// REMOVE of an entry `a` of the root, which isn't built yet.
+const REMOVE: &str =
+    "boxwood 1 7 1 1 1\ncall 0 0 5 000000010000000000000002000186a3000000020000000a00000000000000000000000000000000424f58574f4f44310000000000000007000000000000000100000000000000000000000161000000\n";
 
 /// Procedure 17 without its file handle, which is refused as a message, and its trace.
 const GARBAGE: &str =
-    "boxwood 1 7 1 1 1\ncall 0 0 5 000000010000000000000002000186a3000000020000001100000000000000000000000000000000\n";
+    "boxwood 1 7 1 1 1\ncall 0 0 5 000000010000000000000002000186a3000000020000001100000000000000000000000000000000\nrun 0 1\n";
 
 const GARBAGE_TRACE: &str =
     "took 1 0 5 000000010000000000000002000186a3000000020000001100000000000000000000000000000000\npoint 1 0 8 0000000000000000\nreply 1 000000010000000100000000000000000000000000000004\n";
@@ -58,7 +81,12 @@ fn comes_to(
     let mut source = MemSource::new(alloc, schedule.as_bytes(), &[faults.0])?;
     let mut sink = MemSink::new(alloc, &[faults.1])?;
     let mut bench = MemRack::new(alloc, &[], &[faults.2])?;
-    let answer = replay(alloc, &mut source, &mut sink, &mut bench);
+    let answer = replay::<LoneService, MemSource, MemSink, MemRack>(
+        alloc,
+        &mut source,
+        &mut sink,
+        &mut bench,
+    );
     let rest = sink.bytes().strip_prefix(texts.0.as_bytes());
     Ok(answer == want && rest == Some(texts.1.as_bytes()))
 }
@@ -98,10 +126,10 @@ fn a_line_is_refused(rt: HostRuntime) -> Result<(), Fail> {
             Reason::Grammar,
             "",
         ),
-        (STATFS, 2, Reason::NotBuilt, ""),
+        (REMOVE, 2, Reason::NotBuilt, ""),
         ("boxwood 1 7 2 1 1\n", 1, Reason::Grammar, ""),
         ("boxwood 1 7 1 1 1\ncall 0 1 5 00\n", 2, Reason::Grammar, ""),
-        (WALK, 3, Reason::Grammar, NULL_TRACE),
+        (WALK, 3, Reason::Grammar, NULL_TAKEN),
     ] {
         let stop = Err(Stop::Refused(line, reason));
         assert!(rt;
@@ -118,12 +146,34 @@ fn a_fault_stops_a_replay(rt: HostRuntime) -> Result<(), Fail> {
         ((1, 0, 0), Stop::ReadFault, ""),
         ((2, 0, 0), Stop::ReadFault, NULL_TRACE),
         ((0, 1, 0), Stop::WriteFault, ""),
-        ((0, 2, 0), Stop::WriteFault, NULL_TRACE),
+        ((0, 2, 0), Stop::WriteFault, NULL_TAKEN),
+        ((0, 3, 0), Stop::WriteFault, NULL_TRACE),
         ((0, 0, 1), Stop::DiskFault, ""),
         ((0, 0, 22), Stop::DiskFault, ""),
         ((0, 2, 22), Stop::DiskFault, ""),
+        // The bench fails when the tree is read back.
+        ((0, 0, 23), Stop::DiskFault, NULL_TRACE),
+        ((0, 0, 30), Stop::DiskFault, NULL_TRACE),
     ] {
-        assert!(rt; comes_to(rt.alloc(), NULL, faults, Err(stop), (trace, ""))?);
+        let (reads, writes, calls) = faults;
+        assert!(rt;
+            comes_to(rt.alloc(), NULL, faults, Err(stop), (trace, ""))?,
+            "{reads} {writes} {calls}"
+        );
+    }
+    Ok(())
+}
+
+#[test]
+fn a_mode_is_answered_once_it_is_logged(rt: HostRuntime) -> Result<(), Fail> {
+    for (schedule, trace, closing) in [
+        (MODE_EARLY, MODE_TAKEN, CLOSING),
+        (MODE_DONE, MODE_TRACE, MODE_CLOSING),
+    ] {
+        assert!(rt;
+            comes_to(rt.alloc(), schedule, (0, 0, 0), Ok(()), (trace, closing))?,
+            "{schedule}"
+        );
     }
     Ok(())
 }

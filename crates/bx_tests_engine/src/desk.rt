@@ -5,6 +5,7 @@ ghost use Rattle.bx_records.specs.Drafts.{block_in};
 ghost use Rattle.bx_views.specs.Truths.{no_hints};
 ghost use Rattle.bx_tests_engine.specs.Desks.{held_on};
 
+use crate::files::{file_block, names_block};
 use crate::links::link_block;
 use bx_base::{Mode, Raw};
 use bx_format::opening_block;
@@ -12,6 +13,7 @@ use bx_layout::Block;
 use bx_records::Draft;
 use bx_views::View;
 use std::alloc::Global;
+use std::ops::Range;
 use std::test::Fail;
 
 /// Blocks that are held, exclusively or shared alone. There are no hints.
@@ -65,10 +67,31 @@ impl Desk {
         Ok(())
     }
 
-    /// Holds a link in slot 2, shared alone.
-    pub(crate) fn lend_link(&mut self, alloc: Global) -> Result<(), Fail> {
-        let block = link_block(alloc)?;
-        self.lent.put(2, block)?;
+    /// Holds a link in a slot, shared alone.
+    pub(crate) fn lend_link(&mut self, alloc: Global, slot: u8) -> Result<(), Fail> {
+        let block = link_block(alloc, slot)?;
+        self.lent.put(u64::from(slot), block)?;
+        Ok(())
+    }
+
+    /// Holds blocks of a regular file with a mode, by their slots, shared alone.
+    pub(crate) fn lend_file(
+        &mut self,
+        alloc: Global,
+        slots: Range<u8>,
+        mode: u32,
+    ) -> Result<(), Fail> {
+        for slot in slots {
+            let block = file_block(alloc, slot, mode)?;
+            self.lent.put(u64::from(slot), block)?;
+        }
+        Ok(())
+    }
+
+    /// Holds the page of the root with two names, shared alone.
+    pub(crate) fn lend_names(&mut self, alloc: Global) -> Result<(), Fail> {
+        let block = names_block(alloc)?;
+        self.lent.put(1, block)?;
         Ok(())
     }
 

@@ -4,8 +4,8 @@ use bx_base::{OutOfMemory, Raw};
 use bx_layout::{Block, Inode};
 use std::alloc::Global;
 
-/// The inode of a link to `a/bc`, in the first generation of slot 2.
-pub(crate) fn link_block(alloc: Global) -> Result<Block, OutOfMemory> {
+/// The inode of a link to `a/bc`, in the first generation of a slot.
+pub(crate) fn link_block(alloc: Global, slot: u8) -> Result<Block, OutOfMemory> {
     let path = Raw::of(alloc, b"a/bc".as_slice())?;
     let inode = Inode {
         kind: 5,
@@ -27,7 +27,7 @@ pub(crate) fn link_block(alloc: Global) -> Result<Block, OutOfMemory> {
     inode.write(&mut payload);
     let payload = Raw::of(alloc, &payload)?;
     Ok(Block {
-        handle: (2 << 32) + 1,
+        handle: (u64::from(slot) << 32) + 1,
         kind: 1,
         payload,
     })

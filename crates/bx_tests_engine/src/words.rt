@@ -21,7 +21,7 @@ pub(crate) const GONE: [u32; 8] = [0x424f_5857, 0x4f4f_4431, 0, 7, 0, 2, 0, 0];
 pub(crate) const LINK: [u32; 8] = [0x424f_5857, 0x4f4f_4431, 0, 7, 2, 1, 0, 0];
 
 /// A word that leaves an attribute alone.
-const ALONE: u32 = 0xffff_ffff;
+pub(crate) const ALONE: u32 = 0xffff_ffff;
 
 /// Attributes to set: the mode 0o755 alone.
 pub(crate) const MODE: [u32; 8] = [0o755, ALONE, ALONE, ALONE, ALONE, ALONE, ALONE, ALONE];

@@ -94,7 +94,14 @@ pub(crate) fn finds(alloc: Global, case: &Faulty) -> bool {
     let Ok(read) = read_disks(alloc, &mut rack, &state) else {
         return false;
     };
-    first_wrong(alloc, &mut rack, read.members, read.newest.items()) == Ok(case.fault)
+    let Ok(found) = first_wrong(alloc, &mut rack, read.members, read.newest.items()) else {
+        return false;
+    };
+    match (found, case.fault) {
+        (None, None) => true,
+        (Some(wrong), Some(fault)) => (wrong.at, wrong.found, wrong.wanted) == fault,
+        _ => false,
+    }
 }
 
 /// Whether these are the calls of points.

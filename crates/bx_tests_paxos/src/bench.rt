@@ -4,7 +4,7 @@ ghost use Rattle.std.specs.Prelude.{◌≡◌, ◌+◌, ◌^◌, ◌<◌, ◌≤
 ghost use Rattle.bx_global.specs.Allowed.{IsAllowed};
 ghost use Rattle.bx_places.specs.Places.{replica_sectors};
 
-use bx_acceptor::{Acceptor, first_value};
+use bx_acceptor::{Acceptor, Origin, first_value};
 use bx_base::{Actor, Raw};
 use bx_cell::format;
 use bx_disk::{MemRack, Rack};
@@ -69,8 +69,13 @@ fn first_state(alloc: Global) -> Option<GlobalState>
 
 /// The acceptor of replica 0 of a volume that begins with the first state.
 pub(crate) fn replica(alloc: Global) -> Option<Acceptor> {
+    replica_of(alloc, Origin::Made)
+}
+
+/// The same of a volume whose cell came to be so.
+pub(crate) fn replica_of(alloc: Global, origin: Origin) -> Option<Acceptor> {
     let state = first_state(alloc)?;
-    match Acceptor::new(alloc, 0, &state) {
+    match Acceptor::new(alloc, 0, &state, origin) {
         Ok(acceptor) => Some(acceptor),
         Err(_) => None,
     }

@@ -8,6 +8,8 @@ mod bench;
 #[cfg(test)]
 mod bodies;
 #[cfg(test)]
+mod found;
+#[cfg(test)]
 mod silent;
 #[cfg(test)]
 mod stops;

@@ -69,7 +69,7 @@ fn is_missing(alloc: Global, desk: &Desk, slot: u16) -> Result<bool, Fail> {
     };
     let draft = Draft::new(alloc);
     let level = page.level().saturating_add(1);
-    match walk(alloc, &draft, desk, handle_of(1), high, level, Mode::Shared)? {
+    match walk(&draft, desk, handle_of(1), high, level, Mode::Shared) {
         End::Lands(_, parent) => Ok(parent.get(high).is_none()),
         End::Needs(_, _) => Ok(false),
         End::Lost => Ok(false),

@@ -10,6 +10,8 @@ mod levels;
 #[cfg(test)]
 mod model;
 #[cfg(test)]
+mod pages;
+#[cfg(test)]
 mod searches;
 #[cfg(test)]
 mod splits;

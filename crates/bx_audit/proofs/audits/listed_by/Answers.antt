@@ -1,10 +1,11 @@
 use Rattle.std.proofs.Common.{◌⊎◌, ⊎_elim, inl, inr, Err, ap, subst, ◌∙◌}
 use Rattle.std.proofs.lemmas.Result.{err_from_is_err_and}
-use Rattle.bx_audit.specs.Audited.{IsRefusal, IsTorn}
-use Rattle.bx_audit.specs.Blocks.{StandForNoTree, blocks_of}
+use Rattle.bx_audit.specs.Audited.{IsRefusal, NamesFile}
+use Rattle.bx_audit.specs.Blocks.{IsTornBlock, StandForNoTree, blocks_of}
 use Rattle.bx_audit.proofs.Shown.{are_open, if_err, no_file_tree, none_stands, refused, stand_for, wrong_blocks}
 use Rattle.bx_disk.specs.Disks.{Disks}
 use Rattle.bx_homes.specs.Slots.{AreBlocks}
+use Rattle.bx_model.specs.FileTrees.{IsFileTree}
 use Rattle.bx_overlay.specs.declared.error.AuditError.{AuditError}
 use Rattle.bx_overlay.specs.Refusals.{IsBreak}
 use Rattle.bx_truth.specs.Stands.{StandsFor}
@@ -31,9 +32,9 @@ returns-in_err-tree-clause-err g c = λ tells.
     let truth_of = c.what_is_read_is_shown.ensures.truth disks state read in
     let one = c.one_first_label.ensures disks.sizes disks.reads in
     let error = c.in_err-tree.field-0.0 in
-    let why = subst (λ (d : Disks). IsBreak error ⊎ (IsTorn error × StandForNoTree read.members.areas (blocks_of d read))) (c.in_ok-read.ensures.stays tells) (c.in_err-tree.ensures.err (c.in_ok-read.ensures.keeps_telling tells)) in
+    let why = subst (λ (d : Disks). IsBreak error ⊎ (IsTornBlock read.members.areas (blocks_of d read) error × StandForNoTree read.members.areas (blocks_of d read))) c.in_ok-read.ensures.stays (c.in_err-tree.ensures.err (c.in_ok-read.ensures.keeps_telling tells)) in
     if_err (λ (e : AuditError). IsBreak e ⊎ IsRefusal disks state e) error c.from_residual-in_err-tree.result (p.1 ∙ ap Err p.2)
-    (⊎_elim (λ broke. inl broke) (λ torn. inr (wrong_blocks disks state read is blocks truth_of one error torn.0 (none_stands disks state read is blocks truth_of one torn.1))) why)
+    (⊎_elim (λ broke. inl broke) (λ torn. inr (wrong_blocks disks state read is blocks truth_of one error (inl torn.0) (none_stands disks state read is blocks truth_of one torn.1))) why)
 
 pub returns-in_err-text-clause-err : goal.returns-in_err-text-clause-err
 returns-in_err-text-clause-err g c = λ tells.
@@ -47,12 +48,18 @@ returns-in_err-text-clause-err g c = λ tells.
     let one = c.one_first_label.ensures disks.sizes disks.reads in
     let error = c.in_err-text.field-0.0 in
     let tree = c.in_ok-tree.tree in
-    let any = subst (λ (d : Disks). (truth : Truth) → AreBlocks read.members.areas (blocks_of d read) truth → StandsFor read.members.areas truth tree) (c.in_ok-read.ensures.stays tells)
+    let any = subst (λ (d : Disks). (truth : Truth) → AreBlocks read.members.areas (blocks_of d read) truth → StandsFor read.members.areas truth tree) c.in_ok-read.ensures.stays
     (c.in_ok-tree.ensures.any (c.in_ok-read.ensures.keeps_telling tells)) in
+    let there = subst (λ (d : Disks). (truth : Truth) × AreBlocks read.members.areas (blocks_of d read) truth) c.in_ok-read.ensures.stays (c.in_ok-tree.ensures.there (c.in_ok-read.ensures.keeps_telling tells)) in
+    let same = c.in_ok-tree.ensures.stays ∙ c.in_ok-read.ensures.stays in
+    let why = subst (λ (d : Disks). IsBreak error ⊎ (NamesFile read.members.areas (blocks_of d read) tree error × (IsFileTree tree → ⊥))) same
+    (c.in_err-text.ensures.err (c.in_ok-tree.ensures.keeps_telling (c.in_ok-read.ensures.keeps_telling tells))) in
     if_err (λ (e : AuditError). IsBreak e ⊎ IsRefusal disks state e) error c.from_residual-in_err-text.result (p.1 ∙ ap Err p.2)
-    (⊎_elim (λ ran_out. inl (inr ran_out))
-    (λ torn. inr (wrong_blocks disks state read is blocks truth_of one error torn.0 (no_file_tree disks state read is blocks truth_of one tree any c.in_ok-tree.ensures.ordered.given torn.1)))
-    c.in_err-text.ensures.err)
+    (⊎_elim (λ broke. inl broke)
+    (λ torn. inr (wrong_blocks disks state read is blocks truth_of one error
+    (inr record { truth = there.0; blocks = there.1; tree = tree; tree_stands = any there.0 there.1; names = torn.0 })
+    (no_file_tree disks state read is blocks truth_of one tree any c.in_ok-tree.ensures.ordered.given torn.1)))
+    why)
 
 pub returns-clause-ok : goal.returns-clause-ok
 returns-clause-ok g c = λ tells.
@@ -65,9 +72,9 @@ returns-clause-ok g c = λ tells.
     let one = c.one_first_label.ensures disks.sizes disks.reads in
     let tree = c.in_ok-tree.tree in
     let keeps = c.in_ok-read.ensures.keeps_telling tells in
-    let any = subst (λ (d : Disks). (truth : Truth) → AreBlocks read.members.areas (blocks_of d read) truth → StandsFor read.members.areas truth tree) (c.in_ok-read.ensures.stays tells)
+    let any = subst (λ (d : Disks). (truth : Truth) → AreBlocks read.members.areas (blocks_of d read) truth → StandsFor read.members.areas truth tree) c.in_ok-read.ensures.stays
     (c.in_ok-tree.ensures.any keeps) in
-    let there = subst (λ (d : Disks). (truth : Truth) × AreBlocks read.members.areas (blocks_of d read) truth) (c.in_ok-read.ensures.stays tells) (c.in_ok-tree.ensures.there keeps) in
+    let there = subst (λ (d : Disks). (truth : Truth) × AreBlocks read.members.areas (blocks_of d read) truth) c.in_ok-read.ensures.stays (c.in_ok-tree.ensures.there keeps) in
     record {
       tree = tree;
       stands = stand_for disks state read is blocks truth_of one there.0 tree there.1 (any there.0 there.1) c.in_ok-text.ensures.is c.in_ok-tree.ensures.volume;

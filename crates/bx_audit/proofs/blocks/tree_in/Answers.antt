@@ -1,8 +1,7 @@
 use Rattle.std.proofs.Common.{◌⊎◌, ℕ, IfOk, sym, subst, ◌∙◌}
 use Rattle.std.specs.Prelude.{IfErr, OnOk}
-use Rattle.bx_audit.specs.Audited.{IsTorn}
-use Rattle.bx_audit.specs.Blocks.{StandForNoTree}
-use Rattle.bx_audit.proofs.Trees.{moved}
+use Rattle.bx_audit.specs.Blocks.{IsTornBlock, StandForNoTree}
+use Rattle.bx_overlay.proofs.Moved.{moved}
 use Rattle.bx_homes.specs.Slots.{AreBlocks}
 use Rattle.bx_layout.specs.declared.block.Block.{Block}
 use Rattle.bx_overlay.specs.Refusals.{IsBreak}
@@ -24,6 +23,6 @@ returns-clause-there g c = λ tells.
 
 pub returns-clause-err : goal.returns-clause-err
 returns-clause-err g c = λ tells.
-    moved g.R.Rack.state (λ (st : ℕ → Block → Type 0). IfErr c.tree_of.result (λ error. IsBreak error ⊎ (IsTorn error × StandForNoTree c.args.read.now.members.areas st)))
+    moved g.R.Rack.state (λ (st : ℕ → Block → Type 0). IfErr c.tree_of.result (λ error. IsBreak error ⊎ (IsTornBlock c.args.read.now.members.areas st error × StandForNoTree c.args.read.now.members.areas st)))
     _ _ _ _ _ _ c.new-blocks.ensures.rack c.new-blocks.ensures.members (c.new-blocks.ensures.logs ∙ c.items.ensures)
     (c.tree_of.ensures.err (subst (λ r. g.R.Rack.tells r) (sym c.new-blocks.ensures.rack) tells))

@@ -1,6 +1,5 @@
 use Rattle.std.proofs.Common.{◌≡◌, ◌⊎◌, Err, subst, sym}
-use Rattle.bx_audit.specs.Audited.{IsTorn}
-use Rattle.bx_audit.specs.Blocks.{StandForNoTree}
+use Rattle.bx_audit.specs.Blocks.{IsTornBlock, StandForNoTree}
 use Rattle.bx_audit.proofs.Trees.{a_truth, all_torn, counts_of, end_of, in_order, is_told}
 use Rattle.bx_audit_owners.specs.Whole.{StandsForNone}
 use Rattle.bx_homes.specs.Slots.{AreBlocks}
@@ -33,10 +32,12 @@ returns-in-Err-clause-keeps_telling g c = λ tells.
 
 pub returns-in-Err-clause-err : goal.returns-in-Err-clause-err
 returns-in-Err-clause-err g c = λ tells.
+    let some = a_truth c.args.areas (g.B.Blocks.stands c.args.blocks.now) (of_none c.in_ok-at.field-0 c.in_default.is (c.in_ok-at.ensures.there tells)) in
+    let right = λ (truth : Truth) (are : AreBlocks c.args.areas (g.B.Blocks.stands c.args.blocks.now) truth). of_none c.in_ok-at.field-0 c.in_default.is (c.in_ok-at.ensures.none tells) truth are in
     let told = λ (truth : Truth) (are : AreBlocks c.args.areas (g.B.Blocks.stands c.args.blocks.now) truth). is_told (g.B.Blocks.tells c.args.blocks.now) (g.B.Blocks.tells c.first_fault.new.blocks) c.args.areas (g.B.Blocks.stands c.args.blocks.now)
-    (g.B.Blocks.stands c.first_fault.new.blocks) truth tells c.in_ok-at.ensures.keeps_telling c.in_ok-at.ensures.stays are (of_none c.in_ok-at.field-0 c.in_default.is (c.in_ok-at.ensures.none tells) truth are) in
-    subst (λ (e : AuditError). IsBreak e ⊎ (IsTorn e × StandForNoTree c.args.areas (g.B.Blocks.stands c.args.blocks.now))) (sym c.audit_error.ensures)
-    (end_of (StandForNoTree c.args.areas (g.B.Blocks.stands c.args.blocks.now)) c.in-Err.error
+    (g.B.Blocks.stands c.first_fault.new.blocks) truth tells c.in_ok-at.ensures.keeps_telling c.in_ok-at.ensures.stays are (right truth are) in
+    subst (λ (e : AuditError). IsBreak e ⊎ (IsTornBlock c.args.areas (g.B.Blocks.stands c.args.blocks.now) e × StandForNoTree c.args.areas (g.B.Blocks.stands c.args.blocks.now))) (sym c.audit_error.ensures)
+    (end_of c.args.areas (g.B.Blocks.stands c.args.blocks.now) some.0 (StandForNoTree c.args.areas (g.B.Blocks.stands c.args.blocks.now)) c.in-Err.error some.1 (right some.0 some.1) (c.in-Err.ensures.tells some.0 (told some.0 some.1))
     (all_torn c.in-Err.error (AreBlocks c.args.areas (g.B.Blocks.stands c.args.blocks.now)) (StandsForNone c.args.areas) (λ truth are. c.in-Err.ensures.torn truth (told truth are))))
 
 pub returns-in-Err-clause-counts : goal.returns-in-Err-clause-counts

@@ -1,10 +1,14 @@
-use Rattle.std.proofs.Common.{ap, ◌∙◌, Err}
+use Rattle.std.proofs.Common.{◌≡◌, Option, Some, None, ap, ◌∙◌, Err}
 use Rattle.std.proofs.lemmas.Result.{err_from_is_err_and}
 use Rattle.bx_audit_trees.proofs.Ends.{if_torn}
 use Rattle.bx_audit_files.proofs.NamesOfTrees.{if_ok}
 use Rattle.bx_audit_bodies.proofs.Cases.{torn_too}
 use Rattle.bx_audit_bodies.proofs.ReadFiles.{not_stored, read_as}
+use Rattle.bx_layout.specs.declared.block.Block.{Block}
 use Rattle.bx_audit_bodies.proofs.files.file_of.Goals as goal
+
+not_both : (found : Option Block) (block : Block) → found ≡ Some block → found ≡ None → ⊥
+not_both found block some none = absurd cc
 
 pub returns-in_err-inode-clause-torn : goal.returns-in_err-inode-clause-torn
 returns-in_err-inode-clause-torn g c = λ chunks shows.
@@ -50,3 +54,15 @@ pub returns-clause-torn : goal.returns-clause-torn
 returns-clause-torn g c = λ chunks shows.
     torn_too _ _ c.dead_of.result (λ at found wanted never. not_stored chunks c.args.handle c.in_ok-inode.inode (c.in_ok-inode.ensures.ok chunks shows) never)
     (c.dead_of.ensures.torn chunks (c.in_ok-inode.ensures.shows chunks shows))
+
+pub returns-in-1-clause-names : goal.returns-in-1-clause-names
+returns-in-1-clause-names g c = λ chunks shows none. let is = c.in_ok-inode.ensures.ok chunks shows in absurd (not_both (chunks c.args.handle) is.block is.chunk none)
+
+pub returns-in-2-clause-names : goal.returns-in-2-clause-names
+returns-in-2-clause-names g c = λ chunks shows none. let is = c.in_ok-inode.ensures.ok chunks shows in absurd (not_both (chunks c.args.handle) is.block is.chunk none)
+
+pub returns-in-5-clause-names : goal.returns-in-5-clause-names
+returns-in-5-clause-names g c = λ chunks shows none. let is = c.in_ok-inode.ensures.ok chunks shows in absurd (not_both (chunks c.args.handle) is.block is.chunk none)
+
+pub returns-clause-names : goal.returns-clause-names
+returns-clause-names g c = λ chunks shows none. let is = c.in_ok-inode.ensures.ok chunks shows in absurd (not_both (chunks c.args.handle) is.block is.chunk none)

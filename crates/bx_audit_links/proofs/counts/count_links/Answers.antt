@@ -1,4 +1,4 @@
-use Rattle.std.proofs.Common.{◌≡◌, ℕ, ◌+◌, arith, ap, sym, ◌∙◌}
+use Rattle.std.proofs.Common.{◌+◌, arith, ap, ◌∙◌}
 use Rattle.std.specs.Prelude.{◌==◌, count_by}
 use Rattle.bx_audit_links.specs.Counted.{kept}
 use Rattle.bx_audit_links.proofs.Sums.{sum_none, sum_step}

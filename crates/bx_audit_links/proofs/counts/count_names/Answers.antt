@@ -1,6 +1,6 @@
-use Rattle.std.proofs.Common.{◌≡◌, ℕ, ◌+◌, List, ◌∷◌, arith, ap, cond, ◌∙◌}
-use Rattle.std.specs.Prelude.{◌==◌, count_by, if◌then◌else◌}
-use Rattle.bx_audit_links.proofs.Sums.{count_step, count_none}
+use Rattle.std.proofs.Common.{◌+◌, arith}
+use Rattle.std.specs.Prelude.{◌==◌, if◌then◌else◌}
+use Rattle.bx_audit_links.proofs.Sums.{count_step}
 use Rattle.bx_audit_links.proofs.counts.count_names.Goals as goal
 
 pub loop-entry-preserved : goal.loop-entry-preserved

@@ -1,5 +1,4 @@
 use Rattle.std.proofs.Common.{◌∙◌, sym}
-use Rattle.bx_tree_files.specs.declared.file.Name.{Name}
 use Rattle.bx_audit_links.proofs.Rests.{all_there, contains_same, none_there, rest_there}
 use Rattle.bx_audit_links.proofs.entries.are_entries.Goals as goal
 

@@ -1,5 +1,4 @@
-use Rattle.std.proofs.Common.{◌≡◌, ℕ, arith, refl, sym, ◌∙◌, inl, inr, true}
-use Rattle.std.specs.Prelude.{◌≢◌, IfSome}
+use Rattle.std.proofs.Common.{arith, refl, sym, ◌∙◌, inr}
 use Rattle.bx_audit_links.proofs.Found.{none_weaker, some_weaker}
 use Rattle.bx_audit_links.proofs.FileTree.{is_tree, right_of}
 use Rattle.bx_audit_links.proofs.Kept.{kept_is}

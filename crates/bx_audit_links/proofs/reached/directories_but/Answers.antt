@@ -1,13 +1,12 @@
-use Rattle.std.proofs.Common.{◌≡◌, ℕ, ◌⊎◌, inl, inr, true, false, sym, ◌∙◌, ap, subst}
-use Rattle.std.specs.Prelude.{◌≢◌, ◌==◌, Contains}
+use Rattle.std.proofs.Common.{◌≡◌, ℕ, ◌⊎◌, inl, inr, true, sym, ◌∙◌, ap, subst}
+use Rattle.std.specs.Prelude.{◌≢◌, Contains}
 use Rattle.bx_audit_links.specs.Reached.{has}
 use Rattle.bx_model.specs.FileTrees.{is_directory_at}
 use Rattle.bx_tree_files.specs.declared.file.File.{File}
 use Rattle.bx_tree_files.specs.Files.{is_directory}
-use Rattle.bx_tree_laws.proofs.Lookups.{SameOr, same_or}
 use Rattle.std.proofs.lemmas.Bool.{eq-eqb, eqb-true}
 use Rattle.bx_audit_links.proofs.Directories.{all_directories, directory_found, put_here, put_or_there, stays_put}
-use Rattle.bx_audit_links.proofs.Rests.{contains_same, front_or_rest, front_there, none_there, rest_there}
+use Rattle.bx_audit_links.proofs.Rests.{front_or_rest, front_there, none_there, rest_there}
 use Rattle.bx_audit_links.proofs.reached.directories_but.Goals as goal
 use Rattle.bx_audit_links.proofs.reached.directories_but.Goals.{else-file-eq-DIRECTORY-via-then-file-eq-DIRECTORY+else-file-root, else-file-eq-DIRECTORY-via-else-file-eq-DIRECTORY}
 

@@ -1,5 +1,4 @@
-use Rattle.std.proofs.Common.{[], ◌∷◌, ◌++◌, refl, sym, ap, ◌∙◌, append_assoc, append-nil, arith, List}
-use Rattle.bx_audit_links.specs.Reached.{IsNamed, Reaches}
+use Rattle.std.proofs.Common.{[], ◌∷◌, ◌++◌, refl, sym, ap, ◌∙◌, append_assoc, append-nil, List}
 use Rattle.bx_tree_files.specs.declared.file.Name.{Name}
 use Rattle.bx_tree_laws.proofs.Counts.{none_contained}
 use Rattle.bx_audit_links.proofs.ReachedOnes.{more_named, named_more, named_same, reaches_both, reaches_none, reaches_same}

@@ -1,13 +1,16 @@
-use Rattle.std.proofs.Common.{◌+◌, ◌*◌, ℕ, sym, ap, subst, ◌∙◌}
+use Rattle.std.proofs.Common.{◌≡◌, ◌+◌, ◌*◌, ℕ, arith, sym, ap, subst, ◌∙◌}
 use Rattle.bx_audit_owners.specs.declared.slots.UsedSlot.{UsedSlot}
-use Rattle.bx_audit_owners.specs.UsedSlots.{AreUsedBelow}
+use Rattle.bx_audit_owners.specs.UsedSlots.{AreUsedBelow, IsFreeMarked}
 use Rattle.bx_audit_owners.proofs.InUse.{free_marked, pass_unused, push_used}
 use Rattle.bx_handles.specs.Handles.{number_of}
 use Rattle.bx_audit_owners.proofs.slots.put_slot.Goals as goal
 
 pub returns-then-dead-clause-torn : goal.returns-then-dead-clause-torn
 returns-then-dead-clause-torn c = λ areas truth there spells.
-    free_marked areas truth c.args.area c.args.slot c.args.slots.now there c.requires.slot spells (sym c.is_used.ensures ∙ c.if-is_used.false) (sym c.is_dead-dead.ensures ∙ c.if-dead.true)
+    let number : 1024 * c.args.area + c.args.slot ≡ c.block.result = sym c.block.ensures in
+    subst (λ (n : ℕ). IsFreeMarked areas truth n 0 c.number-then-dead.result) number
+    (free_marked areas truth c.args.area c.args.slot c.args.slots.now there c.requires.slot spells c.number-then-dead.result (sym c.is_used.ensures ∙ c.if-is_used.false) (sym c.is_dead-dead.ensures ∙ c.if-dead.true)
+    (c.number-then-dead.ensures ∙ ap (λ (n : ℕ). number_of (record { area = c.args.area; slot = c.args.slot; generation = n })) c.generation.ensures))
 
 pub returns-in_ok-push-clause-ok : goal.returns-in_ok-push-clause-ok
 returns-in_ok-push-clause-ok c = λ areas truth there spells are.

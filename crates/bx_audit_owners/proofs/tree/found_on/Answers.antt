@@ -1,7 +1,9 @@
-use Rattle.std.proofs.Common.{Err, ap, ◌∙◌}
+use Rattle.std.proofs.Common.{Err, inl, inr, ap, ◌∙◌}
 use Rattle.std.proofs.lemmas.Result.{err_from_is_err_and}
 use Rattle.bx_audit_owners.specs.Holding.{holdings_of}
 use Rattle.bx_audit_owners.proofs.Wholes.{all_named, all_read_of, have_files, held, root_shows, root_used}
+use Rattle.bx_audit_owners.proofs.Told.{root_unused, wrong_slot}
+use Rattle.bx_audit_owners.proofs.Ends.{both_torn}
 use Rattle.bx_audit_trees.proofs.Ends.{if_torn}
 use Rattle.bx_truth.specs.Chunks.{chunks_of}
 use Rattle.bx_audit_owners.proofs.tree.found_on.Goals as goal
@@ -36,7 +38,7 @@ returns-in_err-check_slots-clause-torn g c = λ truth told used.
     let all_read = all_read_of c.args.areas truth c.requires.most c.args.slots.now holdings used (c.in_ok-found.ensures.read (chunks_of c.args.areas truth) shows) in
     if_torn _ _ c.in_err-check_slots.field-0.0 c.from_residual-in_err-check_slots.result (p.1 ∙ ap Err p.2) (λ at found wanted wrong tree stands is.
     let slot = used.each wrong.0 wrong.1 in
-    wrong.2 (held c.args.areas truth c.requires.most tree stands is holdings c.in_ok-found.found.files (c.in_ok-found.ensures.ok (chunks_of c.args.areas truth) shows) all_read slot.0 wrong.0 slot.1))
+    wrong.3 (held c.args.areas truth c.requires.most tree stands is holdings c.in_ok-found.found.files (c.in_ok-found.ensures.ok (chunks_of c.args.areas truth) shows) all_read slot.0 wrong.0 slot.1))
     c.in_err-check_slots.ensures.torn
 
 pub returns-in_err-check_slots-clause-keeps_telling : goal.returns-in_err-check_slots-clause-keeps_telling
@@ -60,3 +62,27 @@ returns-clause-keeps_telling g c = λ truth told used.
     let root = c.in_ok-find_root.ensures.ok in
     let shows = root_shows c.args.areas truth c.requires.most (g.B.Blocks.tells c.args.blocks.now) (g.B.Blocks.stands c.args.blocks.now) c.args.slots.now root.0 told used root.1 root.2 in
     (c.in_ok-found.ensures.shows (chunks_of c.args.areas truth) shows).told
+
+pub returns-in_err-find_root-clause-tells : goal.returns-in_err-find_root-clause-tells
+returns-in_err-find_root-clause-tells g c = λ truth told used.
+    let p = err_from_is_err_and c.from_residual.result c.from_residual.ensures.1 in
+    if_torn _ _ c.in_err-find_root.field-0.0 c.from_residual.result (p.1 ∙ ap Err p.2) (λ at found wanted tells. inl (root_unused c.args.areas truth c.requires.most c.args.slots.now used at found wanted told.chunked tells.0 tells.1))
+    (both_torn _ _ c.in_err-find_root.field-0.0 c.in_err-find_root.ensures.torn c.in_err-find_root.ensures.tells)
+
+pub returns-in_err-found-clause-tells : goal.returns-in_err-found-clause-tells
+returns-in_err-found-clause-tells g c = λ truth told used.
+    let p = err_from_is_err_and c.from_residual-in_err-found.result c.from_residual-in_err-found.ensures.1 in
+    let root = c.in_ok-find_root.ensures.ok in
+    let shows = root_shows c.args.areas truth c.requires.most (g.B.Blocks.tells c.args.blocks.now) (g.B.Blocks.stands c.args.blocks.now) c.args.slots.now root.0 told used root.1 root.2 in
+    if_torn _ _ c.in_err-found.field-0.0 c.from_residual-in_err-found.result (p.1 ∙ ap Err p.2) (λ at found wanted none. inr (inl none))
+    (c.in_err-found.ensures.torn (chunks_of c.args.areas truth) shows (all_named c.args.areas truth c.requires.most c.args.slots.now used))
+
+pub returns-in_err-check_slots-clause-tells : goal.returns-in_err-check_slots-clause-tells
+returns-in_err-check_slots-clause-tells g c = λ truth told used.
+    let p = err_from_is_err_and c.from_residual-in_err-check_slots.result c.from_residual-in_err-check_slots.ensures.1 in
+    let root = c.in_ok-find_root.ensures.ok in
+    let shows = root_shows c.args.areas truth c.requires.most (g.B.Blocks.tells c.args.blocks.now) (g.B.Blocks.stands c.args.blocks.now) c.args.slots.now root.0 told used root.1 root.2 in
+    if_torn _ _ c.in_err-check_slots.field-0.0 c.from_residual-in_err-check_slots.result (p.1 ∙ ap Err p.2) (λ at found wanted wrong. inr (inr
+    (wrong_slot c.args.areas truth c.requires.most c.args.slots.now used (holdings_of c.in_ok-found.found.holders) c.in_ok-found.found.files wrong.0 at found wanted
+    (c.in_ok-found.ensures.ok (chunks_of c.args.areas truth) shows) wrong.1 wrong.2 wrong.3)))
+    c.in_err-check_slots.ensures.torn

@@ -1,4 +1,4 @@
-use Rattle.std.proofs.Common.{Err, List, ap, sym, subst, ◌∙◌}
+use Rattle.std.proofs.Common.{Err, inl, inr, List, ap, sym, subst, ◌∙◌}
 use Rattle.std.proofs.lemmas.Result.{err_from_is_err_and}
 use Rattle.bx_audit_owners.specs.declared.slots.UsedSlot.{UsedSlot}
 use Rattle.bx_audit_owners.specs.Found.{AreOrdered}
@@ -6,6 +6,7 @@ use Rattle.bx_audit_owners.specs.Holding.{holdings_of}
 use Rattle.bx_audit_owners.specs.UsedSlots.{AreUsed}
 use Rattle.bx_audit_owners.specs.Whole.{IsWhole}
 use Rattle.bx_audit_owners.proofs.Wholes.{none_marked, root_found, stands}
+use Rattle.bx_audit_owners.proofs.Ends.{both_torn}
 use Rattle.bx_audit_trees.proofs.Ends.{if_torn}
 use Rattle.bx_model.specs.declared.tree.Tree.{Tree}
 use Rattle.bx_truth.specs.Stands.{StandsFor}
@@ -15,7 +16,7 @@ pub returns-in_err-slots-clause-torn : goal.returns-in_err-slots-clause-torn
 returns-in_err-slots-clause-torn g c = λ truth told.
     let p = err_from_is_err_and c.from_residual.result c.from_residual.ensures.1 in
     if_torn _ _ c.in_err-slots.field-0.0 c.from_residual.result (p.1 ∙ ap Err p.2) (λ at found wanted free tree stands is.
-    none_marked c.args.areas truth c.requires.most tree stands is free) (c.in_err-slots.ensures.torn truth told)
+    none_marked c.args.areas truth c.requires.most tree stands is at found wanted free) (c.in_err-slots.ensures.torn truth told)
 
 pub returns-in_err-found-clause-torn : goal.returns-in_err-found-clause-torn
 returns-in_err-found-clause-torn g c = λ truth told.
@@ -44,3 +45,28 @@ returns-clause-ordered g c = subst (λ (t : Tree). AreOrdered t.files t.given) (
 
 pub returns-clause-volume : goal.returns-clause-volume
 returns-clause-volume g c = ap (λ (t : Tree). t.volume) c.in_ok-tree.ensures.ok
+
+pub returns-in_err-slots-clause-tells : goal.returns-in_err-slots-clause-tells
+returns-in_err-slots-clause-tells g c = λ truth told.
+    let p = err_from_is_err_and c.from_residual.result c.from_residual.ensures.1 in
+    if_torn _ _ c.in_err-slots.field-0.0 c.from_residual.result (p.1 ∙ ap Err p.2) (λ at found wanted free. inl free) (c.in_err-slots.ensures.torn truth told)
+
+pub returns-in_err-found-clause-tells : goal.returns-in_err-found-clause-tells
+returns-in_err-found-clause-tells g c = λ truth told.
+    let p = err_from_is_err_and c.from_residual-in_err-found.result c.from_residual-in_err-found.ensures.1 in
+    if_torn _ _ c.in_err-found.field-0.0 c.from_residual-in_err-found.result (p.1 ∙ ap Err p.2) (λ at found wanted torn. inr (inl torn))
+    (c.in_err-found.ensures.tells truth (c.in_ok-slots.ensures.told truth told) (subst (AreUsed c.args.areas truth) (sym c.as_slice.ensures.value) (c.in_ok-slots.ensures.ok truth told)))
+
+pub returns-in_err-tree-clause-tells : goal.returns-in_err-tree-clause-tells
+returns-in_err-tree-clause-tells g c = λ truth told.
+    let p = err_from_is_err_and c.from_residual-in_err-tree.result c.from_residual-in_err-tree.ensures.1 in
+    let whole = c.in_ok-found.ensures.ok truth (c.in_ok-slots.ensures.told truth told) (subst (AreUsed c.args.areas truth) (sym c.as_slice.ensures.value) (c.in_ok-slots.ensures.ok truth told)) in
+    if_torn _ _ c.in_err-tree.field-0.0 c.from_residual-in_err-tree.result (p.1 ∙ ap Err p.2) (λ at found wanted tells. inr (inr record {
+      holdings = holdings_of c.in_ok-found.found.holders;
+      files = c.in_ok-found.found.files;
+      is_found = whole.found;
+      none = tells.0;
+      at_is = tells.1.0;
+      found_is = tells.1.1;
+      wanted_is = tells.1.2;
+    })) (both_torn _ _ c.in_err-tree.field-0.0 c.in_err-tree.ensures.torn c.in_err-tree.ensures.tells)

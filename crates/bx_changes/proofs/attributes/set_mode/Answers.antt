@@ -1,5 +1,5 @@
 use Rattle.std.proofs.Common.{List, subst, sym}
-use Rattle.bx_inodes.specs.Inodes.{IsInodeOf}
+use Rattle.bx_inodes.specs.Inodes.{HoldsInode, IsInodeOf}
 use Rattle.bx_reads.proofs.Told.{over_none}
 use Rattle.bx_records.specs.Drafts.{Changed}
 use Rattle.bx_views.specs.Truths.{with_draft}
@@ -25,3 +25,8 @@ pub returns-clause-held : goal.returns-clause-held
 returns-clause-held g c =
     c.with_mode.ensures.held (g.V.View.held c.args.view.now)
     (live_held (g.V.View.held c.args.view.now) (g.V.View.hints c.args.view.now) c.new-none.result c.args.areas c.in-Some.handle c.in-Ok.inode c.new-none.ensures c.in-Ok.ensures.at)
+
+pub returns-clause-hints : goal.returns-clause-hints
+returns-clause-hints g c = λ hints truth tree same s fit.
+    let f = c.in-Ok.ensures.tree truth tree same (over_none c.args.areas truth tree c.new-none.result c.new-none.ensures s.is) in
+    c.with_mode.ensures.hints c.args.areas hints truth s.is.chunked (subst (λ (d : List Changed). HoldsInode c.args.areas (with_draft truth d) c.in-Some.handle c.in-Ok.inode) c.new-none.ensures f.holds) fit

@@ -7,10 +7,13 @@ pub returns-clause-one : goal.returns-clause-one
 returns-clause-one c = one_on
 
 pub returns-clause-shared : goal.returns-clause-shared
-returns-clause-shared c = λ volume bytes at xid call on reads. shared_of volume call.procedure at call.args (path_of bytes xid call reads volume at Shared on)
+returns-clause-shared c = λ held hints volume areas bytes handle sattr at xid call on reads is.
+    shared_of held hints volume areas call.procedure at handle sattr call.args is (path_of bytes xid call reads held hints volume areas at Shared on)
 
 pub returns-clause-exclusive : goal.returns-clause-exclusive
-returns-clause-exclusive c = λ volume bytes at xid call on reads. exclusive_of volume call.procedure at call.args (path_of bytes xid call reads volume at Exclusive on)
+returns-clause-exclusive c = λ held hints volume areas bytes at xid call on reads.
+    exclusive_of held hints volume areas call.procedure at call.args (path_of bytes xid call reads held hints volume areas at Exclusive on)
 
 pub returns-clause-refused : goal.returns-clause-refused
-returns-clause-refused c = λ volume bytes at xid number mode call on reads is. refused_none volume call.procedure at number mode call.args is (path_of bytes xid call reads volume at mode on)
+returns-clause-refused c = λ held hints volume areas bytes at xid number mode call on reads is.
+    refused_none held hints volume areas call.procedure at number mode call.args is (path_of bytes xid call reads held hints volume areas at mode on)

@@ -1,5 +1,6 @@
-use Rattle.std.proofs.Common.{◌≡◌, ℕ, ◌+◌, ◌*◌, ◌<◌, ◌⊎◌, ⊎_elim, arith, sym, subst, ◌∙◌}
-use Rattle.bx_homes.specs.Slots.{AreBlocks, HasBlock, HasHeader}
+use Rattle.std.proofs.Common.{◌≡◌, ℕ, ◌+◌, ◌*◌, ◌<◌, ◌⊎◌, ⊎_elim, inr, arith, sym, ap, subst, ◌∙◌}
+use Rattle.bx_homes.specs.Slots.{AreBlocks, HasBlock, HasHeader, wanted_handle}
+use Rattle.bx_homes.proofs.Headers.{is_wanted}
 use Rattle.bx_homes.proofs.Kept.{are_still, stays_then, was_there}
 use Rattle.bx_homes.proofs.Sectors.{of_some}
 use Rattle.bx_homes.proofs.slots.fault_in.Goals as goal
@@ -62,3 +63,22 @@ returns-clause-there g c = λ tells. record {
   own = c.loop-slot.invariant.own_there tells;
   slots = λ slot less. c.loop-slot.invariant.there tells slot (omega (arith, less, c.loop-slot-test.false));
 }
+
+pub returns-then-not-branch-clause-some : goal.returns-then-not-branch-clause-some
+returns-then-not-branch-clause-some g c = λ tells truth are. inr record {
+  slot = c.loop-slot.slot;
+  there = omega (arith, c.loop-slot-test.true);
+  at_is = c.in_ok-wrong-2.ensures.at;
+  own = c.loop-slot.invariant.own tells truth are;
+  before = c.loop-slot.invariant.done tells truth are;
+  wrong = c.in_ok-has_header.ensures.no (c.loop-slot.invariant.tells tells) c.if-not-branch.true truth
+      (subst (λ (n : ℕ). AreBlocks n (g.B.Blocks.stands c.loop-slot.blocks) truth) (sym c.loop-slot.invariant.areas_are)
+      (are_still (g.B.Blocks.areas c.args.blocks.now) (g.B.Blocks.stands c.args.blocks.now) (g.B.Blocks.stands c.loop-slot.blocks) truth (c.loop-slot.invariant.stays tells) are))
+      (c.loop-slot.invariant.spells tells truth are);
+}
+
+pub returns-then-not-branch-clause-wanted : goal.returns-then-not-branch-clause-wanted
+returns-then-not-branch-clause-wanted g c = λ tells truth are.
+    c.in_ok-wrong-2.ensures.wanted
+    ∙ is_wanted truth c.args.area c.loop-slot.slot c.in-Some.slots c.wanted_at.result (omega (arith, c.loop-slot-test.true)) (c.loop-slot.invariant.spells tells truth are) c.wanted_at.ensures.used c.wanted_at.ensures.unused
+    ∙ ap (wanted_handle truth) (sym c.in_ok-wrong-2.ensures.at)

@@ -4,7 +4,7 @@ use Rattle.bx_leaves.proofs.leaf.leaf_of.Goals as goal
 pub returns-in-Some : goal.returns-in-Some
 returns-in-Some g c =
     record {
-      end = rw c.in-Lands.is at c.in_ok-at.ensures;
+      end = c.in-Lands.ensures;
       block = c.in-Some.field-0.now;
       held = rw c.block_at-at.ensures at (sym c.in-Some.ensures);
     }

@@ -69,6 +69,7 @@ loop-i-preserved g c =
           (subst (λ (y : Disks). LeavesOnly (g.R.Rack.moment c.loop-i.rack) (g.R.Rack.moment c.answer_one.new.rack) (g.R.Rack.left_since c.loop-i.rack) (g.R.Rack.left_since c.answer_one.new.rack) (IsImage y)) (inv.stays tells) (c.answer_one.ensures.any_moment (inv.tells tells)))
           (λ image is. is);
       later = grind arith;
+      no_fault = grind arith;
       sizes = grind arith;
       tells = λ tells. c.answer_one.ensures.keeps_telling (inv.tells tells);
     }

@@ -1,5 +1,5 @@
 use Rattle.std.proofs.Common.{◌≡◌, ℕ, ◌<◌, ◌≤◌, length, Some, IsSome}
-use Rattle.bx_disk.specs.Counts.{NoneFalls}
+use Rattle.bx_disk.specs.Counts.{NoneFalls, NoneRose}
 use Rattle.bx_disk.specs.Disks.{IsImage}
 use Rattle.bx_calls.specs.Calls.{LeavesOnly}
 use Rattle.bx_facts.specs.Writes.{Asked}
@@ -17,6 +17,7 @@ invariant-loop-i g l = record {
   stays : g.R.Rack.tells l.fn.rack → g.R.Rack.state l.rack ≡ g.R.Rack.state l.fn.rack;
   any_moment : g.R.Rack.tells l.fn.rack → LeavesOnly (g.R.Rack.moment l.fn.rack) (g.R.Rack.moment l.rack) (g.R.Rack.left_since l.fn.rack) (g.R.Rack.left_since l.rack) (IsImage (g.R.Rack.state l.fn.rack));
   later : NoneFalls (g.R.Rack.faults l.fn.rack) (g.R.Rack.faults l.rack) (g.R.Rack.faults_of l.fn.rack) (g.R.Rack.faults_of l.rack);
+  no_fault : NoneRose (g.R.Rack.faults l.fn.rack) (g.R.Rack.faults l.rack) (g.R.Rack.faults_of l.fn.rack) (g.R.Rack.faults_of l.rack);
   sizes : (g.R.Rack.state l.rack).sizes ≡ (g.R.Rack.state l.fn.rack).sizes;
   tells : g.R.Rack.tells l.fn.rack → g.R.Rack.tells l.rack;
 }

@@ -42,6 +42,7 @@ loop-i-preserved g c =
           let brought = subst (λ (b : List ℕ). IsBrought writes greatest c.args.run.now.device (c.args.run.now.place + c.loop-i.i) b) bytes_are (run_brings writes greatest c.args.run.now c.loop-i.i taken (omega (arith, long))) in
           leaves_next _ _ _ _ _ _ _ _ _ _ (c.loop-i.invariant.any_moment writes greatest second tells is taken) (c.loop-i.invariant.keeps writes greatest second tells is taken) (c.put_sector.ensures.any_moment writes greatest c.args.run.now.device second told is brought);
       later = grind arith;
+      no_fault = grind arith;
       sizes = grind arith;
       tells = λ tells. c.put_sector.ensures.keeps_telling (c.loop-i.invariant.tells tells);
     }

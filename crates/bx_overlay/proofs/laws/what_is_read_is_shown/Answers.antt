@@ -1,7 +1,7 @@
 use Rattle.std.proofs.Common.{ℕ, reverse, subst}
 use Rattle.bx_volume.specs.Overlay.{IsTruth}
-use Rattle.bx_overlay.specs.Logs.{log_in}
-use Rattle.bx_overlay.specs.Members.{held_by}
+use Rattle.bx_logs.specs.Logs.{log_in}
+use Rattle.bx_logs.specs.Members.{held_by}
 use Rattle.bx_overlay.proofs.Over.{are_blocks, is_truth}
 use Rattle.bx_overlay.proofs.Shown.{shown_truth}
 use Rattle.bx_overlay.proofs.laws.what_is_read_is_shown.Goals as goal

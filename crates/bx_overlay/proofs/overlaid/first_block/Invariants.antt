@@ -1,5 +1,5 @@
 use Rattle.std.proofs.Common.{◌≡◌, drop}
-use Rattle.bx_overlay.specs.Newest.{first_in}
+use Rattle.bx_logs.specs.Newest.{first_in}
 use Rattle.bx_overlay.proofs.overlaid.first_block.Given as goal
 
 abbrev pub invariant-loop-log : goal.invariant-loop-log

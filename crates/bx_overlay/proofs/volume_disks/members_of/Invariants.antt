@@ -2,7 +2,7 @@ use Rattle.std.proofs.Common.{◌≡◌, ◌↔◌, ℕ, ◌<◌, false, length,
 use Rattle.std.specs.Prelude.{slice_get}
 use Rattle.bx_rows.specs.declared.device.DeviceRow.{DeviceRow}
 use Rattle.bx_rows.specs.Modes.{IsReadAtA}
-use Rattle.bx_overlay.specs.Members.{member_in}
+use Rattle.bx_logs.specs.Members.{member_in}
 use Rattle.bx_overlay.proofs.volume_disks.members_of.Given as goal
 
 abbrev pub invariant-loop-device : goal.invariant-loop-device

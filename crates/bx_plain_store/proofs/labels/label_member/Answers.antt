@@ -18,7 +18,7 @@ returns-in_err-write_some-clause-keeps g c = λ made s tells labels.
     let y : Disks = g.R.Rack.state c.write_some.new.rack in
     let told = c.read_sectors.ensures.keeps_telling tells in
     let without = no_label x c.args.disk c.read_sectors.new.into (omega arith) (c.in_ok-read_sectors.ensures.bytes tells) c.in_default.ensures.none in
-    keeps_written made s x y c.args.disk _ c.requires.member labels without (subst (λ (z : Disks). KeepsSure z y c.args.disk 0 (length c.write.new.into / 512)) (c.read_sectors.ensures.stays tells) (c.write_some.ensures.keeps told))
+    keeps_written made s x y c.args.disk _ c.requires.member labels without (subst (λ (z : Disks). KeepsSure z y c.args.disk 0 (length c.write.new.into / 512)) c.read_sectors.ensures.stays (c.write_some.ensures.keeps told))
 
 pub returns-in_err-write_some-clause-any_moment : goal.returns-in_err-write_some-clause-any_moment
 returns-in_err-write_some-clause-any_moment g c = λ made s tells labels.
@@ -27,7 +27,7 @@ returns-in_err-write_some-clause-any_moment g c = λ made s tells labels.
     let without = no_label x c.args.disk c.read_sectors.new.into (omega arith) (c.in_ok-read_sectors.ensures.bytes tells) c.in_default.ensures.none in
     leaves_next _ _ _ _ _ _ s x x (leaves_image _ _ _ _ s x (c.read_sectors.ensures.any_moment tells)) (same_state s x x refl)
     (leaves_written _ _ _ _ made s x c.args.disk _ c.requires.member labels without
-    (subst (λ (z : Disks). LeavesOnly (g.R.Rack.moment c.read_sectors.new.rack) (g.R.Rack.moment c.write_some.new.rack) (g.R.Rack.left_since c.read_sectors.new.rack) (g.R.Rack.left_since c.write_some.new.rack) (HasSure z c.args.disk 0 (length c.write.new.into / 512))) (c.read_sectors.ensures.stays tells) (c.write_some.ensures.any_moment told)))
+    (subst (λ (z : Disks). LeavesOnly (g.R.Rack.moment c.read_sectors.new.rack) (g.R.Rack.moment c.write_some.new.rack) (g.R.Rack.left_since c.read_sectors.new.rack) (g.R.Rack.left_since c.write_some.new.rack) (HasSure z c.args.disk 0 (length c.write.new.into / 512))) c.read_sectors.ensures.stays (c.write_some.ensures.any_moment told)))
 
 pub returns-in_err-sync_disk-2-clause-keeps : goal.returns-in_err-sync_disk-2-clause-keeps
 returns-in_err-sync_disk-2-clause-keeps g c = λ made s tells labels.
@@ -36,7 +36,7 @@ returns-in_err-sync_disk-2-clause-keeps g c = λ made s tells labels.
     let told = c.read_sectors.ensures.keeps_telling tells in
     let without = no_label x c.args.disk c.read_sectors.new.into (omega arith) (c.in_ok-read_sectors.ensures.bytes tells) c.in_default.ensures.none in
     sources_then s x y (g.R.Rack.state c.sync_disk-2.new.rack)
-    (keeps_written made s x y c.args.disk _ c.requires.member labels without (subst (λ (z : Disks). KeepsSure z y c.args.disk 0 (length c.write.new.into / 512)) (c.read_sectors.ensures.stays tells) (c.write_some.ensures.keeps told)))
+    (keeps_written made s x y c.args.disk _ c.requires.member labels without (subst (λ (z : Disks). KeepsSure z y c.args.disk 0 (length c.write.new.into / 512)) c.read_sectors.ensures.stays (c.write_some.ensures.keeps told)))
     (keeps_all s y _ c.args.disk (c.sync_disk-2.ensures.keeps (c.write_some.ensures.keeps_telling told)))
 
 pub returns-in_err-sync_disk-2-clause-any_moment : goal.returns-in_err-sync_disk-2-clause-any_moment
@@ -45,11 +45,11 @@ returns-in_err-sync_disk-2-clause-any_moment g c = λ made s tells labels.
     let y : Disks = g.R.Rack.state c.write_some.new.rack in
     let told = c.read_sectors.ensures.keeps_telling tells in
     let without = no_label x c.args.disk c.read_sectors.new.into (omega arith) (c.in_ok-read_sectors.ensures.bytes tells) c.in_default.ensures.none in
-    let kept = keeps_written made s x y c.args.disk _ c.requires.member labels without (subst (λ (z : Disks). KeepsSure z y c.args.disk 0 (length c.write.new.into / 512)) (c.read_sectors.ensures.stays tells) (c.write_some.ensures.keeps told)) in
+    let kept = keeps_written made s x y c.args.disk _ c.requires.member labels without (subst (λ (z : Disks). KeepsSure z y c.args.disk 0 (length c.write.new.into / 512)) c.read_sectors.ensures.stays (c.write_some.ensures.keeps told)) in
     leaves_next _ _ _ _ _ _ s x y
     (leaves_next _ _ _ _ _ _ s x x (leaves_image _ _ _ _ s x (c.read_sectors.ensures.any_moment tells)) (same_state s x x refl)
     (leaves_written _ _ _ _ made s x c.args.disk _ c.requires.member labels without
-    (subst (λ (z : Disks). LeavesOnly (g.R.Rack.moment c.read_sectors.new.rack) (g.R.Rack.moment c.write_some.new.rack) (g.R.Rack.left_since c.read_sectors.new.rack) (g.R.Rack.left_since c.write_some.new.rack) (HasSure z c.args.disk 0 (length c.write.new.into / 512))) (c.read_sectors.ensures.stays tells) (c.write_some.ensures.any_moment told))))
+    (subst (λ (z : Disks). LeavesOnly (g.R.Rack.moment c.read_sectors.new.rack) (g.R.Rack.moment c.write_some.new.rack) (g.R.Rack.left_since c.read_sectors.new.rack) (g.R.Rack.left_since c.write_some.new.rack) (HasSure z c.args.disk 0 (length c.write.new.into / 512))) c.read_sectors.ensures.stays (c.write_some.ensures.any_moment told))))
     kept (leaves_image _ _ _ _ s y (c.sync_disk-2.ensures.any_moment (c.write_some.ensures.keeps_telling told)))
 
 pub returns-clause-label : goal.returns-clause-label
@@ -75,7 +75,7 @@ returns-clause-keeps g c = λ made s tells labels.
     let told = c.read_sectors.ensures.keeps_telling tells in
     let without = no_label x c.args.disk c.read_sectors.new.into (omega arith) (c.in_ok-read_sectors.ensures.bytes tells) c.in_default.ensures.none in
     sources_then s x y (g.R.Rack.state c.sync_disk-2.new.rack)
-    (keeps_written made s x y c.args.disk _ c.requires.member labels without (subst (λ (z : Disks). KeepsSure z y c.args.disk 0 (length c.write.new.into / 512)) (c.read_sectors.ensures.stays tells) (c.write_some.ensures.keeps told)))
+    (keeps_written made s x y c.args.disk _ c.requires.member labels without (subst (λ (z : Disks). KeepsSure z y c.args.disk 0 (length c.write.new.into / 512)) c.read_sectors.ensures.stays (c.write_some.ensures.keeps told)))
     (keeps_all s y _ c.args.disk (c.sync_disk-2.ensures.keeps (c.write_some.ensures.keeps_telling told)))
 
 pub returns-clause-any_moment : goal.returns-clause-any_moment
@@ -84,26 +84,26 @@ returns-clause-any_moment g c = λ made s tells labels.
     let y : Disks = g.R.Rack.state c.write_some.new.rack in
     let told = c.read_sectors.ensures.keeps_telling tells in
     let without = no_label x c.args.disk c.read_sectors.new.into (omega arith) (c.in_ok-read_sectors.ensures.bytes tells) c.in_default.ensures.none in
-    let kept = keeps_written made s x y c.args.disk _ c.requires.member labels without (subst (λ (z : Disks). KeepsSure z y c.args.disk 0 (length c.write.new.into / 512)) (c.read_sectors.ensures.stays tells) (c.write_some.ensures.keeps told)) in
+    let kept = keeps_written made s x y c.args.disk _ c.requires.member labels without (subst (λ (z : Disks). KeepsSure z y c.args.disk 0 (length c.write.new.into / 512)) c.read_sectors.ensures.stays (c.write_some.ensures.keeps told)) in
     leaves_next _ _ _ _ _ _ s x y
     (leaves_next _ _ _ _ _ _ s x x (leaves_image _ _ _ _ s x (c.read_sectors.ensures.any_moment tells)) (same_state s x x refl)
     (leaves_written _ _ _ _ made s x c.args.disk _ c.requires.member labels without
-    (subst (λ (z : Disks). LeavesOnly (g.R.Rack.moment c.read_sectors.new.rack) (g.R.Rack.moment c.write_some.new.rack) (g.R.Rack.left_since c.read_sectors.new.rack) (g.R.Rack.left_since c.write_some.new.rack) (HasSure z c.args.disk 0 (length c.write.new.into / 512))) (c.read_sectors.ensures.stays tells) (c.write_some.ensures.any_moment told))))
+    (subst (λ (z : Disks). LeavesOnly (g.R.Rack.moment c.read_sectors.new.rack) (g.R.Rack.moment c.write_some.new.rack) (g.R.Rack.left_since c.read_sectors.new.rack) (g.R.Rack.left_since c.write_some.new.rack) (HasSure z c.args.disk 0 (length c.write.new.into / 512))) c.read_sectors.ensures.stays (c.write_some.ensures.any_moment told))))
     kept (leaves_image _ _ _ _ s y (c.sync_disk-2.ensures.any_moment (c.write_some.ensures.keeps_telling told)))
 
 pub returns-in_err-write_some-clause-replicas : goal.returns-in_err-write_some-clause-replicas
 returns-in_err-write_some-clause-replicas g c = λ tells.
     let told = c.read_sectors.ensures.keeps_telling tells in
-    replicas_then _ _ _ (replicas_state _ _ (c.read_sectors.ensures.stays tells)) (replicas_sure _ _ c.args.disk 0 _ c.requires.member (c.write_some.ensures.keeps told))
+    replicas_then _ _ _ (replicas_state _ _ c.read_sectors.ensures.stays) (replicas_sure _ _ c.args.disk 0 _ c.requires.member (c.write_some.ensures.keeps told))
 
 pub returns-in_err-sync_disk-2-clause-replicas : goal.returns-in_err-sync_disk-2-clause-replicas
 returns-in_err-sync_disk-2-clause-replicas g c = λ tells.
     let told = c.read_sectors.ensures.keeps_telling tells in
-    replicas_then _ _ _ (replicas_then _ _ _ (replicas_state _ _ (c.read_sectors.ensures.stays tells)) (replicas_sure _ _ c.args.disk 0 _ c.requires.member (c.write_some.ensures.keeps told)))
+    replicas_then _ _ _ (replicas_then _ _ _ (replicas_state _ _ c.read_sectors.ensures.stays) (replicas_sure _ _ c.args.disk 0 _ c.requires.member (c.write_some.ensures.keeps told)))
     (replicas_all _ _ c.args.disk (c.sync_disk-2.ensures.keeps (c.write_some.ensures.keeps_telling told)))
 
 pub returns-clause-replicas : goal.returns-clause-replicas
 returns-clause-replicas g c = λ tells.
     let told = c.read_sectors.ensures.keeps_telling tells in
-    replicas_then _ _ _ (replicas_then _ _ _ (replicas_state _ _ (c.read_sectors.ensures.stays tells)) (replicas_sure _ _ c.args.disk 0 _ c.requires.member (c.write_some.ensures.keeps told)))
+    replicas_then _ _ _ (replicas_then _ _ _ (replicas_state _ _ c.read_sectors.ensures.stays) (replicas_sure _ _ c.args.disk 0 _ c.requires.member (c.write_some.ensures.keeps told)))
     (replicas_all _ _ c.args.disk (c.sync_disk-2.ensures.keeps (c.write_some.ensures.keeps_telling told)))

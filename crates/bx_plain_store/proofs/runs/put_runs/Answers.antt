@@ -47,6 +47,7 @@ loop-i-preserved g c =
           leaves_next _ _ _ _ _ _ _ _ _ _ (inv.any_moment writes greatest write tells alone same) (inv.keeps writes greatest write tells alone same) (c.put_both.ensures.any_moment writes greatest (inv.tells tells) taken);
       replicas = λ tells. replicas_then _ _ _ (inv.replicas tells) (replicas_put _ _ c.in-Some.run'.now (λ taken. c.put_both.ensures.keeps (lone c.in-Some.run'.now ∷ []) 0 (inv.tells tells) taken));
       later = grind arith;
+      no_fault = grind arith;
       sizes = grind arith;
       tells = λ tells. c.put_both.ensures.keeps_telling (inv.tells tells);
     }

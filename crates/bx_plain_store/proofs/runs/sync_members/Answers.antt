@@ -21,6 +21,7 @@ loop-device-preserved g c =
       any_moment = λ writes greatest tells.
           leaves_next _ _ _ _ _ _ _ _ _ _ (inv.any_moment writes greatest tells) (keeps_disks writes greatest _ _ (inv.keeps tells)) (c.sync_both.ensures.any_moment writes greatest (inv.tells tells));
       later = grind arith;
+      no_fault = grind arith;
       sizes = grind arith;
       tells = λ tells. c.sync_both.ensures.keeps_telling (inv.tells tells);
     }

@@ -107,6 +107,7 @@ loop-i-preserved g c =
           (λ below. written_kept ws c.args.greatest (sent_of write) _ x (alone_of c.args.slots.now.items c.args.greatest node (sent_of write) apart (ap out_in here) not_over) kept (inv.written node write below tells apart here not_over));
       replicas = λ tells. replicas_then _ _ _ (inv.replicas tells) (c.serve.ensures.replicas (inv.tells tells));
       later = grind arith;
+      no_fault = grind arith;
       sizes = grind arith;
       tells = λ tells. c.serve.ensures.keeps_telling (inv.tells tells);
     }

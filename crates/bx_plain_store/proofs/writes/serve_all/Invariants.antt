@@ -1,5 +1,5 @@
 use Rattle.std.proofs.Common.{◌≡◌, ℕ, ◌<◌, ◌≤◌, ◌⊎◌, false, true, length, Some, None}
-use Rattle.bx_disk.specs.Counts.{NoneFalls}
+use Rattle.bx_disk.specs.Counts.{NoneFalls, NoneRose}
 use Rattle.bx_calls.specs.Calls.{LeavesOnly}
 use Rattle.bx_facts.specs.Writes.{IsDone, IsOver, IsSettled, Sent}
 use Rattle.bx_global.specs.declared.state.GlobalState.{GlobalState}
@@ -22,6 +22,7 @@ invariant-loop-i g l = record {
   out : (node : ℕ) → (out_at l.slots.items node ≡ None) ⊎ (out_at l.slots.items node ≡ out_at l.fn.slots.items node);
   replicas : g.R.Rack.tells l.fn.rack → KeepsReplicas (g.R.Rack.state l.fn.rack) (g.R.Rack.state l.rack);
   later : NoneFalls (g.R.Rack.faults l.fn.rack) (g.R.Rack.faults l.rack) (g.R.Rack.faults_of l.fn.rack) (g.R.Rack.faults_of l.rack);
+  no_fault : NoneRose (g.R.Rack.faults l.fn.rack) (g.R.Rack.faults l.rack) (g.R.Rack.faults_of l.fn.rack) (g.R.Rack.faults_of l.rack);
   sizes : (g.R.Rack.state l.rack).sizes ≡ (g.R.Rack.state l.fn.rack).sizes;
   tells : g.R.Rack.tells l.fn.rack → g.R.Rack.tells l.rack;
 }

@@ -4,5 +4,5 @@ use Rattle.bx_posts.proofs.separators.page_shown.Goals as goal
 pub returns-then-block-handle : goal.returns-then-block-handle
 returns-then-block-handle g c = record { block = c.in-Some.block.now; there = rw c.block_at-at.ensures at (sym c.in-Some.ensures); other = inl c.if-block-handle.true }
 
-pub returns-in-None-2 : goal.returns-in-None-2
-returns-in-None-2 g c = record { block = c.in-Some.block.now; there = rw c.block_at-at.ensures at (sym c.in-Some.ensures); other = inr (rw c.in-None-2.is at c.in_ok-page_in-in-Some.ensures.none) }
+pub returns-in-None-page_of : goal.returns-in-None-page_of
+returns-in-None-page_of g c = record { block = c.in-Some.block.now; there = rw c.block_at-at.ensures at (sym c.in-Some.ensures); other = inr c.in-None-page_of.ensures.none }

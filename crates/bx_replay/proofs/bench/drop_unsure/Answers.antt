@@ -1,16 +1,26 @@
-use Rattle.std.proofs.Common.{ℕ, List, ◌∙◌, ap, arith, length}
+use Rattle.std.proofs.Common.{ℕ, List, refl, ◌∙◌, ap, arith, length}
 use Rattle.bx_disk.specs.Disks.{Disks}
 use Rattle.bx_format.proofs.Sure.{all_sure}
-use Rattle.bx_replay.proofs.Held.{crash_holds, one_more, stays_sure}
+use Rattle.bx_replay.proofs.Held.{image_before, one_more, reads_are, stays_sure}
 use Rattle.bx_replay.proofs.bench.drop_unsure.Goals as goal
+
+pub loop-disk-init : goal.loop-disk-init
+loop-disk-init g c = record {
+  left = λ tells. reads_are (g.B.Rack.state c.args.bench.now) (λ d s unsure. g.met.B.Rack.whole c.args.bench.now d s tells (g.met.B.Rack.there c.args.bench.now d s tells unsure));
+  mostly = λ tells d s sure. sure;
+  sure = λ tells d s below. absurd (omega (arith, below));
+  no_fault = refl;
+  sizes = refl;
+  tells = λ tells. tells;
+}
 
 pub loop-disk-preserved : goal.loop-disk-preserved
 loop-disk-preserved g c = record {
-  holds = λ tree tells held.
+  left = λ tells.
       let told = c.loop-disk.invariant.tells tells in
-      crash_holds (g.B.Rack.state c.loop-disk.bench) (g.B.Rack.state c.crash.new.self) tree c.crash.ensures.sizes (c.in_ok-crash.ensures.image told)
-      (λ d s sure. ap (λ (disks : Disks). disks.unsure d s) (c.in_ok-crash.ensures.crashed told) ∙ stays_sure _ _ sure)
-      (c.loop-disk.invariant.holds tree tells held);
+      image_before (g.B.Rack.state c.args.bench.now) (g.B.Rack.state c.loop-disk.bench) _ (c.loop-disk.invariant.left tells) (c.loop-disk.invariant.mostly tells) (c.in_ok-crash.ensures.image told);
+  mostly = λ tells d s sure.
+      ap (λ (disks : Disks). disks.unsure d s) (c.in_ok-crash.ensures.crashed (c.loop-disk.invariant.tells tells)) ∙ stays_sure _ _ (c.loop-disk.invariant.mostly tells d s sure);
   sure = λ tells d s below.
       ap (λ (disks : Disks). disks.unsure d s) (c.in_ok-crash.ensures.crashed (c.loop-disk.invariant.tells tells))
       ∙ one_more c.loop-disk.disk d _ below (λ before. c.loop-disk.invariant.sure tells d s before);

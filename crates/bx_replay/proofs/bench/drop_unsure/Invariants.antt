@@ -1,11 +1,11 @@
 use Rattle.std.proofs.Common.{◌≡◌, ℕ, ◌<◌, false}
-use Rattle.bx_model.specs.declared.tree.Tree.{Tree}
-use Rattle.bx_replay.specs.Bench.{IsHeldBy}
+use Rattle.bx_disk.specs.Disks.{IsImage}
 use Rattle.bx_replay.proofs.bench.drop_unsure.Given as goal
 
 abbrev pub invariant-loop-disk : goal.invariant-loop-disk
 invariant-loop-disk g l = record {
-  holds : (tree : Tree) → g.B.Rack.tells l.fn.bench → IsHeldBy (g.B.Rack.state l.fn.bench) tree → IsHeldBy (g.B.Rack.state l.bench) tree;
+  left : g.B.Rack.tells l.fn.bench → IsImage (g.B.Rack.state l.fn.bench) (g.B.Rack.state l.bench).reads;
+  mostly : g.B.Rack.tells l.fn.bench → (d s : ℕ) → (g.B.Rack.state l.fn.bench).unsure d s ≡ false → (g.B.Rack.state l.bench).unsure d s ≡ false;
   sure : g.B.Rack.tells l.fn.bench → (d s : ℕ) → d < l.disk → (g.B.Rack.state l.bench).unsure d s ≡ false;
   no_fault : g.B.Rack.faults l.bench ≡ g.B.Rack.faults l.fn.bench;
   sizes : (g.B.Rack.state l.bench).sizes ≡ (g.B.Rack.state l.fn.bench).sizes;

@@ -1,6 +1,6 @@
-use Rattle.std.proofs.Common.{Some, length}
+use Rattle.std.proofs.Common.{Some, length, sym}
 use Rattle.bx_global.specs.Bytes.{held_text}
-use Rattle.bx_acceptor.proofs.Taking.{answered, became, brought_here, brought_is, changes_not, no_cell, stands_with, takes_here, unmoved}
+use Rattle.bx_acceptor.proofs.Taking.{answered, became, brought_here, brought_is, cell_after, changes_not, became_so, no_cell, stands_with, takes_here, took_so, unmoved}
 use Rattle.bx_acceptor.proofs.acceptor.Acceptor.take.Goals as goal
 
 pub returns-in_err-from-clause-any_moment : goal.returns-in_err-from-clause-any_moment
@@ -18,28 +18,28 @@ invariant_of-self-in_err-serve g c =
     let found = rw c.in-Some.is at c.in_ok-from.ensures.some in
     let count = length c.self.inside.first.devices in
     let is = brought_is count c.len-devices.result c.args.input.now c.in-Some.message c.in-Some.from c.len-devices.ensures found.0 in
-    stands_with _ c.serve.new.held c.take.new.self c.self.invariant (c.in_err-serve.ensures.held count c.self.invariant.held is) (no_cell _ _ _ c.take.ensures.after)
+    stands_with _ c.serve.new.held c.take.new.self c.self.invariant (c.in_err-serve.ensures.held count c.self.invariant.held is) (no_cell _ _ _ _ _ c.take.ensures.after)
 
 pub returns-in_err-serve-clause-standing : goal.returns-in_err-serve-clause-standing
 returns-in_err-serve-clause-standing g c =
     let found = rw c.in-Some.is at c.in_ok-from.ensures.some in
     let count = length c.self.inside.first.devices in
     let is = brought_is count c.len-devices.result c.args.input.now c.in-Some.message c.in-Some.from c.len-devices.ensures found.0 in
-    stands_with _ c.serve.new.held c.take.new.self c.self.invariant (c.in_err-serve.ensures.held count c.self.invariant.held is) (no_cell _ _ _ c.take.ensures.after)
+    stands_with _ c.serve.new.held c.take.new.self c.self.invariant (c.in_err-serve.ensures.held count c.self.invariant.held is) (no_cell _ _ _ _ _ c.take.ensures.after)
 
 pub invariant_of-self-2 : goal.invariant_of-self-2
 invariant_of-self-2 g c =
     let found = rw c.in-Some.is at c.in_ok-from.ensures.some in
     let count = length c.self.inside.first.devices in
     let is = brought_is count c.len-devices.result c.args.input.now c.in-Some.message c.in-Some.from c.len-devices.ensures found.0 in
-    stands_with _ c.serve.new.held (Some c.serve.new.cell) c.self.invariant (c.in_ok-serve.ensures.held count c.self.invariant.held is) c.in_ok-serve.ensures.cell
+    stands_with _ c.serve.new.held (Some c.serve.new.cell) c.self.invariant (c.in_ok-serve.ensures.held count c.self.invariant.held is) (cell_after _ _ _ c.self.inside.held c.serve.new.held c.self.inside.cell c.in-Some-take.cell c.serve.new.cell _ (c.in_ok-serve.ensures.held count c.self.invariant.held is) c.self.invariant.cell (sym c.in-Some-take.ensures.value) c.in_ok-serve.ensures.stored)
 
 pub returns-clause-standing : goal.returns-clause-standing
 returns-clause-standing g c =
     let found = rw c.in-Some.is at c.in_ok-from.ensures.some in
     let count = length c.self.inside.first.devices in
     let is = brought_is count c.len-devices.result c.args.input.now c.in-Some.message c.in-Some.from c.len-devices.ensures found.0 in
-    stands_with _ c.serve.new.held (Some c.serve.new.cell) c.self.invariant (c.in_ok-serve.ensures.held count c.self.invariant.held is) c.in_ok-serve.ensures.cell
+    stands_with _ c.serve.new.held (Some c.serve.new.cell) c.self.invariant (c.in_ok-serve.ensures.held count c.self.invariant.held is) (cell_after _ _ _ c.self.inside.held c.serve.new.held c.self.inside.cell c.in-Some-take.cell c.serve.new.cell _ (c.in_ok-serve.ensures.held count c.self.invariant.held is) c.self.invariant.cell (sym c.in-Some-take.ensures.value) c.in_ok-serve.ensures.stored)
 
 pub returns-in_err-serve-clause-becomes : goal.returns-in_err-serve-clause-becomes
 returns-in_err-serve-clause-becomes g c = λ message from brings.
@@ -75,3 +75,18 @@ pub returns-clause-ignores : goal.returns-clause-ignores
 returns-clause-ignores g c = λ none.
     let found = rw c.in-Some.is at c.in_ok-from.ensures.some in
     absurd (none c.in-Some.message c.in-Some.from (brought_here _ c.args.self.now c.len-devices.result c.args.input.now c.in-Some.message c.in-Some.from c.self.view_is c.len-devices.ensures found.0) (takes_here _ c.args.self.now c.in-Some.message c.self.view_is found.1))
+
+pub returns-clause-took : goal.returns-clause-took
+returns-clause-took g c =
+    let found = rw c.in-Some.is at c.in_ok-from.ensures.some in
+    took_so _ c.args.self.now c.len-devices.result c.args.input.now c.serve.new.held c.in-Some.message c.in-Some.from c.args.out.now c.serve.new.out _ _ c.self.view_is c.len-devices.ensures found.0 found.1 c.in_ok-serve.ensures.answers
+
+pub returns-clause-became : goal.returns-clause-became
+returns-clause-became g c =
+    let found = rw c.in-Some.is at c.in_ok-from.ensures.some in
+    became_so _ c.args.self.now c.len-devices.result c.args.input.now c.serve.new.held c.in-Some.message c.in-Some.from c.self.view_is c.len-devices.ensures found.0 c.in_ok-serve.ensures.becomes
+
+pub returns-in_err-serve-clause-became : goal.returns-in_err-serve-clause-became
+returns-in_err-serve-clause-became g c =
+    let found = rw c.in-Some.is at c.in_ok-from.ensures.some in
+    became_so _ c.args.self.now c.len-devices.result c.args.input.now c.serve.new.held c.in-Some.message c.in-Some.from c.self.view_is c.len-devices.ensures found.0 c.in_err-serve.ensures.becomes

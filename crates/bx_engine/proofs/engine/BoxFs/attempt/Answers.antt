@@ -12,7 +12,7 @@ pub returns-clause-fair : goal.returns-clause-fair
 returns-clause-fair g c =
     let found = rw c.in-Some.is at c.in_ok-xid.ensures.found in
     let fs = c.args.self.now in
-    fair_along (PathOf fs.volume c.in-Some.read.procedure c.in-Some.read.args) (IsOnPath fs.volume c.args.call.now) (on_path c.args.call.now c.in-Some.xid c.in-Some.read found.0 fs.volume)
+    fair_along (PathOf (g.V.View.held c.args.view.now) (g.V.View.hints c.args.view.now) fs.volume fs.areas c.in-Some.read.procedure c.in-Some.read.args) (IsOnPath (g.V.View.held c.args.view.now) (g.V.View.hints c.args.view.now) fs.volume fs.areas c.args.call.now) (on_path c.args.call.now c.in-Some.xid c.in-Some.read found.0 (g.V.View.held c.args.view.now) (g.V.View.hints c.args.view.now) fs.volume fs.areas)
     fs.areas (g.V.View.held c.args.view.now) c.in_ok-attempt.attempt c.in_ok-attempt.ensures.fair
 
 pub returns-clause-at_once : goal.returns-clause-at_once
@@ -34,5 +34,5 @@ pub returns-clause-writes : goal.returns-clause-writes
 returns-clause-writes g c =
     let found = rw c.in-Some.is at c.in_ok-xid.ensures.found in
     let fs = c.args.self.now in
-    writes_along (PathOf fs.volume c.in-Some.read.procedure c.in-Some.read.args) (IsOnPath fs.volume c.args.call.now) (on_path c.args.call.now c.in-Some.xid c.in-Some.read found.0 fs.volume)
+    writes_along (PathOf (g.V.View.held c.args.view.now) (g.V.View.hints c.args.view.now) fs.volume fs.areas c.in-Some.read.procedure c.in-Some.read.args) (IsOnPath (g.V.View.held c.args.view.now) (g.V.View.hints c.args.view.now) fs.volume fs.areas c.args.call.now) (on_path c.args.call.now c.in-Some.xid c.in-Some.read found.0 (g.V.View.held c.args.view.now) (g.V.View.hints c.args.view.now) fs.volume fs.areas)
     c.in_ok-attempt.attempt c.in_ok-attempt.ensures.writes

@@ -2,17 +2,19 @@ use Rattle.std.proofs.Common.{◌≡◌, ◌∙◌, ℕ, List, sym, ap, subst}
 use Rattle.std.specs.Prelude.{Ok, IfOk}
 use Rattle.std.proofs.lemmas.Result.{IfOk-weaker}
 use Rattle.bx_chunks.specs.Counting.{free_slots}
-use Rattle.bx_engine.proofs.Along.{nothing_written}
-use Rattle.bx_engine.proofs.Acting.{gives_by, mount_acts, nothing_acts, refused_acts, setattr_acts}
+use Rattle.bx_directory_reads.specs.Lookups.{OnLooking}
+use Rattle.bx_engine.proofs.Along.{fair_along, nothing_written}
+use Rattle.bx_engine.proofs.Acting.{gives_by, lookup_acts, mount_acts, nothing_acts, read_acts, readdir_acts, refused_acts, setattr_acts}
 use Rattle.bx_engine.proofs.Stopping.{answered_comes}
 use Rattle.bx_engine.specs.Calls.{HasBuiltArgs}
 use Rattle.bx_engine.specs.Outcomes.{TellsFree, WritesOne, told_free}
 use Rattle.bx_engine.specs.Paths.{PathOf}
 use Rattle.bx_model.specs.declared.call.Args.{Args}
-use Rattle.bx_model.specs.declared.call.Args.TheVariants.{Handle, Path, Set}
+use Rattle.bx_model.specs.declared.call.Args.TheVariants.{Handle, List as Listing, Name, Path, Read, Set}
 use Rattle.bx_model.specs.declared.reply.Reply.TheVariants as replies
+use Rattle.bx_model.specs.Directories.{readdir}
 use Rattle.bx_model.specs.Mounting.{mount, plain}
-use Rattle.bx_model.specs.Reading.{statfs}
+use Rattle.bx_model.specs.Reading.{lookup, read, statfs}
 use Rattle.bx_model.specs.Steps.{Outcome}
 use Rattle.bx_model.specs.Writing.{setattr}
 use Rattle.bx_tree_files.specs.Times.{time_of}
@@ -26,7 +28,7 @@ returns-in-Refused-clause-gives g c = λ client bytes truth tree reads same s.
     let reply = replies.Refused c.in-Refused.number call.program in
     let outcome : Outcome = Ok (reply, tree) in
     gives_by fs.volume fs.areas client bytes c.args.moment (free_slots fs.areas truth) truth tree c.args.xid call outcome reads c.requires.moment
-    (refused_acts tree call c.args.moment c.in-Refused.number c.in-Refused.is) s c.answered.result
+    (refused_acts tree call c.args.moment c.in-Refused.number c.in-Refused.is) s.stands c.answered.result
     (answered_comes fs.volume fs.areas truth tree c.args.xid reply c.answered.result c.answered.ensures)
 
 pub returns-in-Nothing-clause-gives : goal.returns-in-Nothing-clause-gives
@@ -36,7 +38,7 @@ returns-in-Nothing-clause-gives g c = λ client bytes truth tree reads same s.
     let reply = plain call.program call.procedure in
     let outcome : Outcome = Ok (reply, tree) in
     gives_by fs.volume fs.areas client bytes c.args.moment (free_slots fs.areas truth) truth tree c.args.xid call outcome reads c.requires.moment
-    (nothing_acts tree call c.args.moment c.in-Nothing.is) s c.answered-in-Nothing.result
+    (nothing_acts tree call c.args.moment c.in-Nothing.is) s.stands c.answered-in-Nothing.result
     (answered_comes fs.volume fs.areas truth tree c.args.xid reply c.answered-in-Nothing.result (rw c.plain.ensures at c.answered-in-Nothing.ensures))
 
 pub returns-in_ok-reply-in-Path-clause-gives : goal.returns-in_ok-reply-in-Path-clause-gives
@@ -48,8 +50,8 @@ returns-in_ok-reply-in-Path-clause-gives g c = λ client bytes truth tree reads 
     let reply = mount tree call.procedure path in
     let outcome : Outcome = Ok (reply, tree) in
     gives_by fs.volume fs.areas client bytes c.args.moment (free_slots fs.areas truth) truth tree c.args.xid call outcome reads c.requires.moment
-    (mount_acts tree call c.args.moment path is) s c.answered-in-Path.result
-    (answered_comes fs.volume fs.areas truth tree c.args.xid reply c.answered-in-Path.result (rw (c.in_ok-reply-in-Path.ensures tree s.volume_is s.is.root_is) at c.answered-in-Path.ensures))
+    (mount_acts tree call c.args.moment path is) s.stands c.answered-in-Path.result
+    (answered_comes fs.volume fs.areas truth tree c.args.xid reply c.answered-in-Path.result (rw (c.in_ok-reply-in-Path.ensures tree s.stands.volume_is s.stands.is.root_is) at c.answered-in-Path.ensures))
 
 pub about_file-requires-clause-handle : goal.about_file-requires-clause-handle
 about_file-requires-clause-handle g c = c.in-Handle.is ∙ ap (λ (b : List ℕ). Handle b) (sym c.bytes-in-Handle.ensures)
@@ -59,13 +61,13 @@ about_file-requires-clause-procedure g c = (subst (HasBuiltArgs c.args.call.now)
 
 pub returns-in-Handle-clause-gives : goal.returns-in-Handle-clause-gives
 returns-in-Handle-clause-gives g c = λ client bytes truth tree reads same s.
-    c.about_file.ensures.gives client c.args.moment bytes truth tree c.requires.moment reads same s
+    c.about_file.ensures.gives client c.args.moment bytes truth tree c.requires.moment reads same s.stands
 
 pub returns-in-Handle-clause-fair : goal.returns-in-Handle-clause-fair
 returns-in-Handle-clause-fair g c =
     let fs = c.args.self.now in
     let is : c.args.call.now.args ≡ Handle c.bytes-in-Handle.result.now = c.in-Handle.is ∙ ap (λ (b : List ℕ). Handle b) (sym c.bytes-in-Handle.ensures) in
-    subst (λ (args : Args). IfOk c.about_file.result (IsFair fs.areas (g.V.View.held c.args.view.now) (PathOf fs.volume c.args.call.now.procedure args))) (sym is) c.about_file.ensures.fair
+    subst (λ (args : Args). IfOk c.about_file.result (IsFair fs.areas (g.V.View.held c.args.view.now) (PathOf (g.V.View.held c.args.view.now) (g.V.View.hints c.args.view.now) fs.volume fs.areas c.args.call.now.procedure args))) (sym is) c.about_file.ensures.fair
 
 pub returns-in-Set-clause-gives : goal.returns-in-Set-clause-gives
 returns-in-Set-clause-gives g c = λ client bytes truth tree reads same s.
@@ -74,22 +76,22 @@ returns-in-Set-clause-gives g c = λ client bytes truth tree reads same s.
     let at = c.bytes-in-Set.result.now in
     let is : call.args ≡ Set at c.in-Set.sattr = c.in-Set.is ∙ ap (λ (b : List ℕ). Set b c.in-Set.sattr) (sym c.bytes-in-Set.ensures) in
     gives_by fs.volume fs.areas client bytes c.args.moment (free_slots fs.areas truth) truth tree c.args.xid call (setattr tree call at c.in-Set.sattr (time_of c.args.moment)) reads c.requires.moment
-    (setattr_acts tree call c.args.moment at c.in-Set.sattr is) s c.setattr.result (c.setattr.ensures.comes truth tree same s)
+    (setattr_acts tree call c.args.moment at c.in-Set.sattr is) s.stands c.setattr.result (c.setattr.ensures.comes truth tree same s.stands)
 
 pub returns-in-Set-clause-fair : goal.returns-in-Set-clause-fair
 returns-in-Set-clause-fair g c =
     let fs = c.args.self.now in
     let is : c.args.call.now.args ≡ Set c.bytes-in-Set.result.now c.in-Set.sattr = c.in-Set.is ∙ ap (λ (b : List ℕ). Set b c.in-Set.sattr) (sym c.bytes-in-Set.ensures) in
-    subst (λ (args : Args). IfOk c.setattr.result (IsFair fs.areas (g.V.View.held c.args.view.now) (PathOf fs.volume c.args.call.now.procedure args))) (sym is) c.setattr.ensures.fair
+    subst (λ (args : Args). IfOk c.setattr.result (IsFair fs.areas (g.V.View.held c.args.view.now) (PathOf (g.V.View.held c.args.view.now) (g.V.View.hints c.args.view.now) fs.volume fs.areas c.args.call.now.procedure args))) (sym is) c.setattr.ensures.fair
 
 pub returns-in-Set-clause-writes : goal.returns-in-Set-clause-writes
 returns-in-Set-clause-writes g c =
     let fs = c.args.self.now in
     let is : c.args.call.now.args ≡ Set c.bytes-in-Set.result.now c.in-Set.sattr = c.in-Set.is ∙ ap (λ (b : List ℕ). Set b c.in-Set.sattr) (sym c.bytes-in-Set.ensures) in
-    subst (λ (args : Args). IfOk c.setattr.result (WritesOne (PathOf fs.volume c.args.call.now.procedure args))) (sym is) c.setattr.ensures.writes
+    subst (λ (args : Args). IfOk c.setattr.result (WritesOne (PathOf (g.V.View.held c.args.view.now) (g.V.View.hints c.args.view.now) fs.volume fs.areas c.args.call.now.procedure args))) (sym is) c.setattr.ensures.writes
 
 pub returns-in-Handle-clause-writes : goal.returns-in-Handle-clause-writes
-returns-in-Handle-clause-writes g c = IfOk-weaker c.about_file.result _ _ (nothing_written (PathOf c.args.self.now.volume c.args.call.now.procedure c.args.call.now.args)) c.about_file.ensures.keeps
+returns-in-Handle-clause-writes g c = IfOk-weaker c.about_file.result _ _ (nothing_written (PathOf (g.V.View.held c.args.view.now) (g.V.View.hints c.args.view.now) c.args.self.now.volume c.args.self.now.areas c.args.call.now.procedure c.args.call.now.args)) c.about_file.ensures.keeps
 
 pub returns-in-Handle-clause-tells : goal.returns-in-Handle-clause-tells
 returns-in-Handle-clause-tells g c = λ other.
@@ -116,3 +118,79 @@ returns-in_ok-reply-in-Path-clause-free g c = λ at truth tree asks same s. let 
 
 pub returns-in-Set-clause-free : goal.returns-in-Set-clause-free
 returns-in-Set-clause-free g c = λ at truth tree asks same s. let never = sym c.in-Set.is ∙ asks.args in absurd cc
+
+pub returns-in-Read-clause-gives : goal.returns-in-Read-clause-gives
+returns-in-Read-clause-gives g c = λ client bytes truth tree reads same s.
+    let fs = c.args.self.now in
+    let call = c.args.call.now in
+    let at = c.bytes-in-Read.result.now in
+    let is : call.args ≡ Read at c.in-Read.offset c.in-Read.count c.in-Read.field-3 = c.in-Read.is ∙ ap (λ (b : List ℕ). Read b c.in-Read.offset c.in-Read.count c.in-Read.field-3) (sym c.bytes-in-Read.ensures) in
+    gives_by fs.volume fs.areas client bytes c.args.moment (free_slots fs.areas truth) truth tree c.args.xid call (read tree call at c.in-Read.offset c.in-Read.count) reads c.requires.moment
+    (read_acts tree call c.args.moment at c.in-Read.offset c.in-Read.count c.in-Read.field-3 is) s.stands c.read.result (c.read.ensures.comes truth tree same s)
+
+pub returns-in-Read-clause-fair : goal.returns-in-Read-clause-fair
+returns-in-Read-clause-fair g c =
+    let fs = c.args.self.now in
+    let is : c.args.call.now.args ≡ Read c.bytes-in-Read.result.now c.in-Read.offset c.in-Read.count c.in-Read.field-3 =
+    c.in-Read.is ∙ ap (λ (b : List ℕ). Read b c.in-Read.offset c.in-Read.count c.in-Read.field-3) (sym c.bytes-in-Read.ensures) in
+    subst (λ (args : Args). IfOk c.read.result (IsFair fs.areas (g.V.View.held c.args.view.now) (PathOf (g.V.View.held c.args.view.now) (g.V.View.hints c.args.view.now) fs.volume fs.areas c.args.call.now.procedure args))) (sym is) c.read.ensures.fair
+
+pub returns-in-Read-clause-writes : goal.returns-in-Read-clause-writes
+returns-in-Read-clause-writes g c =
+    IfOk-weaker c.read.result _ _ (nothing_written (PathOf (g.V.View.held c.args.view.now) (g.V.View.hints c.args.view.now) c.args.self.now.volume c.args.self.now.areas c.args.call.now.procedure c.args.call.now.args)) c.read.ensures.keeps
+
+pub returns-in-Read-clause-free : goal.returns-in-Read-clause-free
+returns-in-Read-clause-free g c = λ at truth tree asks same s. let never = sym c.in-Read.is ∙ asks.args in absurd cc
+
+pub returns-in-Name-clause-gives : goal.returns-in-Name-clause-gives
+returns-in-Name-clause-gives g c = λ client bytes truth tree reads same s.
+    let fs = c.args.self.now in
+    let call = c.args.call.now in
+    let at = c.bytes-in-Name.result.now in
+    let name = c.bytes-in-Name-2.result.now in
+    let is : call.args ≡ Name at name = c.in-Name.is ∙ (λ i. Name (sym c.bytes-in-Name.ensures i) (sym c.bytes-in-Name-2.ensures i)) in
+    gives_by fs.volume fs.areas client bytes c.args.moment (free_slots fs.areas truth) truth tree c.args.xid call (lookup tree call at name) reads c.requires.moment
+    (lookup_acts tree call c.args.moment at name is (subst (HasBuiltArgs call) c.in-Name.is c.requires.built).procedure) s.stands c.lookup.result (c.lookup.ensures.comes truth tree same s)
+
+pub returns-in-Name-clause-fair : goal.returns-in-Name-clause-fair
+returns-in-Name-clause-fair g c =
+    let fs = c.args.self.now in
+    let call = c.args.call.now in
+    let held = g.V.View.held c.args.view.now in
+    let hints = g.V.View.hints c.args.view.now in
+    let at = c.bytes-in-Name.result.now in
+    let name = c.bytes-in-Name-2.result.now in
+    let is : call.args ≡ Name at name = c.in-Name.is ∙ (λ i. Name (sym c.bytes-in-Name.ensures i) (sym c.bytes-in-Name-2.ensures i)) in
+    let asks = (subst (HasBuiltArgs call) c.in-Name.is c.requires.built).procedure in
+    subst (λ (args : Args). IfOk c.lookup.result (IsFair fs.areas held (PathOf held hints fs.volume fs.areas call.procedure args))) (sym is)
+    (IfOk-weaker c.lookup.result _ _ (fair_along (OnLooking held hints fs.volume fs.areas at name) (PathOf held hints fs.volume fs.areas call.procedure (Name at name)) (λ block mode on. (asks, on)) fs.areas held) c.lookup.ensures.fair)
+
+pub returns-in-Name-clause-writes : goal.returns-in-Name-clause-writes
+returns-in-Name-clause-writes g c =
+    IfOk-weaker c.lookup.result _ _ (nothing_written (PathOf (g.V.View.held c.args.view.now) (g.V.View.hints c.args.view.now) c.args.self.now.volume c.args.self.now.areas c.args.call.now.procedure c.args.call.now.args)) c.lookup.ensures.keeps
+
+pub returns-in-Name-clause-free : goal.returns-in-Name-clause-free
+returns-in-Name-clause-free g c = λ at truth tree asks same s. let never = sym c.in-Name.is ∙ asks.args in absurd cc
+
+pub returns-in-List-clause-gives : goal.returns-in-List-clause-gives
+returns-in-List-clause-gives g c = λ client bytes truth tree reads same s.
+    let fs = c.args.self.now in
+    let call = c.args.call.now in
+    let at = c.bytes-in-List.result.now in
+    let is : call.args ≡ Listing at c.in-List.cookie c.in-List.count = c.in-List.is ∙ ap (λ (b : List ℕ). Listing b c.in-List.cookie c.in-List.count) (sym c.bytes-in-List.ensures) in
+    gives_by fs.volume fs.areas client bytes c.args.moment (free_slots fs.areas truth) truth tree c.args.xid call (readdir tree call at c.in-List.cookie c.in-List.count) reads c.requires.moment
+    (readdir_acts tree call c.args.moment at c.in-List.cookie c.in-List.count is) s.stands c.readdir.result (c.readdir.ensures.comes truth tree same s)
+
+pub returns-in-List-clause-fair : goal.returns-in-List-clause-fair
+returns-in-List-clause-fair g c =
+    let fs = c.args.self.now in
+    let is : c.args.call.now.args ≡ Listing c.bytes-in-List.result.now c.in-List.cookie c.in-List.count =
+    c.in-List.is ∙ ap (λ (b : List ℕ). Listing b c.in-List.cookie c.in-List.count) (sym c.bytes-in-List.ensures) in
+    subst (λ (args : Args). IfOk c.readdir.result (IsFair fs.areas (g.V.View.held c.args.view.now) (PathOf (g.V.View.held c.args.view.now) (g.V.View.hints c.args.view.now) fs.volume fs.areas c.args.call.now.procedure args))) (sym is) c.readdir.ensures.fair
+
+pub returns-in-List-clause-writes : goal.returns-in-List-clause-writes
+returns-in-List-clause-writes g c =
+    IfOk-weaker c.readdir.result _ _ (nothing_written (PathOf (g.V.View.held c.args.view.now) (g.V.View.hints c.args.view.now) c.args.self.now.volume c.args.self.now.areas c.args.call.now.procedure c.args.call.now.args)) c.readdir.ensures.keeps
+
+pub returns-in-List-clause-free : goal.returns-in-List-clause-free
+returns-in-List-clause-free g c = λ at truth tree asks same s. let never = sym c.in-List.is ∙ asks.args in absurd cc

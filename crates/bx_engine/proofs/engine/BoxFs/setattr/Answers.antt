@@ -16,7 +16,7 @@ returns-in-Ok-clause-comes g c = λ truth tree same s.
     let fs = c.args.self.now in
     IfOk-weaker c.changed.result _ _
     (λ attempt is. change_comes c.args.xid attempt fs.volume fs.areas truth tree (setattr tree c.args.call.now c.args.at.now c.args.sattr.now (time_of c.args.moment)) c.in-Ok.draft c.in-Ok.reply
-    (rw c.time_of-now.ensures at (c.in-Ok.ensures.step truth tree same s)) is) c.changed.ensures
+    (rw c.time_of-now.ensures at (c.in-Ok.ensures.step truth tree same s)) (λ hints fit. c.in-Ok.ensures.hints hints truth tree same s fit) is) c.changed.ensures
 
 pub returns-in-Err-clause-comes : goal.returns-in-Err-clause-comes
 returns-in-Err-clause-comes g c = λ truth tree same s.

@@ -1,29 +1,53 @@
-use Rattle.std.proofs.Common.{◌≡◌, inl, ℕ, List, ◌∷◌, Some, sym, ◌∙◌, ap, subst}
+use Rattle.std.proofs.Common.{◌≡◌, inl, inr, true, ℕ, List, ◌∷◌, Some, sym, ◌∙◌, ap, subst}
 use Rattle.bx_cache.specs.Cached.{block_at}
-use Rattle.bx_inodes.specs.Stands.{Stands}
+use Rattle.bx_lone_node.specs.Bare.{StandsBare}
 use Rattle.bx_model.specs.declared.tree.Tree.{Tree}
+use Rattle.bx_places.specs.Places.{is_block}
 use Rattle.bx_views.specs.Truths.{IsTruth, Truth, no_hints}
 use Rattle.bx_views.specs.declared.attempt.Attempt.{Attempt}
 use Rattle.bx_views.specs.declared.attempt.Attempt.TheVariants as attempts
 use Rattle.bx_lone_node.specs.Attempts.{point_for}
 use Rattle.bx_lone_node.specs.Node.{NodeView, deed_of}
-use Rattle.bx_lone_node.specs.Standing.{IsTried, MayTry, NodeStands}
+use Rattle.bx_lone_node.specs.Standing.{IsPast, IsTried, MayTry, NodeStands}
 use Rattle.bx_lone_node.specs.declared.stage.Acted.{Acted}
+use Rattle.bx_base.specs.declared.names.Point.{Point}
+use Rattle.bx_lone_node.specs.declared.stage.Stage.{Stage}
 use Rattle.bx_lone_node.specs.declared.stage.Stage.TheVariants.{Idle}
 use Rattle.bx_lone_node.specs.declared.stage.Waiting.{Waiting}
 use Rattle.bx_lone_node.proofs.Calls.{calls_wait, requeued, same_head, waits_behind}
+use Rattle.bx_lone_node.proofs.Turns.{begun_at}
 use Rattle.bx_lone_node.proofs.Tried.{change_doing, inner_doing, none_doing}
 use Rattle.bx_lone_node.proofs.node.LoneNode.attempt.Goals as goal
 
 -- a truth of the same volume
-as_of : (volume other areas more : ℕ) (truth : Truth) (tree : Tree) → volume ≡ other → areas ≡ more → Stands volume areas truth tree → Stands other more truth tree
-as_of volume other areas more truth tree e f is = subst (λ (v : ℕ). Stands v more truth tree) e (subst (λ (a : ℕ). Stands volume a truth tree) f is)
+as_of : (volume other areas more : ℕ) (truth : Truth) (tree : Tree) → volume ≡ other → areas ≡ more → StandsBare volume areas truth tree → StandsBare other more truth tree
+as_of volume other areas more truth tree e f is = subst (λ (v : ℕ). StandsBare v more truth tree) e (subst (λ (a : ℕ). StandsBare volume a truth tree) f is)
+
+pub need-requires-clause-some : goal.need-requires-clause-some
+need-requires-clause-some g c =
+    let e = g.E.Procedures in
+    let engine = c.args.engine.now in
+    let now = c.args.self.now in
+    let attempt : Attempt = attempts.Need c.in-Need.wants in
+    let tried : IsTried (e.volume engine) (e.areas engine) (e.step engine) (e.free engine) (e.path engine) (λ at mode. block_at now.cache at) c.args.moment now.queue attempt =
+    subst (MayTry (e.volume engine) (e.areas engine) (e.step engine) (e.free engine) (e.path engine) (λ at mode. block_at now.cache at) c.args.moment now.queue) (c.in-Some.is ∙ ap Some c.in-Need.is) c.in_ok-attempt.ensures in
+    tried.fair.some
+
+pub need-requires-clause-blocks : goal.need-requires-clause-blocks
+need-requires-clause-blocks g c =
+    let e = g.E.Procedures in
+    let engine = c.args.engine.now in
+    let now = c.args.self.now in
+    let attempt : Attempt = attempts.Need c.in-Need.wants in
+    let tried : IsTried (e.volume engine) (e.areas engine) (e.step engine) (e.free engine) (e.path engine) (λ at mode. block_at now.cache at) c.args.moment now.queue attempt =
+    subst (MayTry (e.volume engine) (e.areas engine) (e.step engine) (e.free engine) (e.path engine) (λ at mode. block_at now.cache at) c.args.moment now.queue) (c.in-Some.is ∙ ap Some c.in-Need.is) c.in_ok-attempt.ensures in
+    λ at mode there. subst (λ (a : ℕ). is_block a at ≡ true) c.requires.areas (tried.fair.each at mode there).0
 
 pub returns-in_ok-need-in-Need-clause-stands : goal.returns-in_ok-need-in-Need-clause-stands
 returns-in_ok-need-in-Need-clause-stands g c = λ volume state x tree next same stood. record {
   next = next;
   stands = c.in_ok-need-in-Need.ensures.stands volume state x tree next stood;
-  doing = none_doing (g.E.Procedures.step c.args.engine.now) c.need.new.self tree next c.in_ok-need-in-Need.ensures.stage;
+  doing = none_doing (g.E.Procedures.step c.args.engine.now) c.need.new.self tree next (inr c.in_ok-need-in-Need.ensures.stage);
 }
 
 pub returns-in_ok-begin_inner-in-Inner-clause-stands : goal.returns-in_ok-begin_inner-in-Inner-clause-stands
@@ -93,7 +117,7 @@ returns-in-Answer-clause-stands g c = λ volume state x tree next same stood.
     let answered = c.answer.ensures in
     let head = same_head now.queue tried.call answered.call tried.rest new.queue tried.oldest answered.oldest in
     let idle : new.stage ≡ Idle = ap (λ (n : NodeView). n.stage) answered.node ∙ c.requires.idle in
-    let then : Stands volume now.areas stood.truth acts.next = as_of (e.volume engine) volume (e.areas engine) now.areas stood.truth acts.next (sym same) c.requires.areas (acts.leads.each no_hints is) in
+    let then : StandsBare volume now.areas stood.truth acts.next = as_of (e.volume engine) volume (e.areas engine) now.areas stood.truth acts.next (sym same) c.requires.areas (acts.leads.each no_hints is) in
     let P : NodeView → Type 0 = λ n. NodeStands (st.keeps old) (st.stands old) (st.will_read old) (st.made old) (st.own old 0) (st.out_of old 0) (st.asked old 0) volume state x n acts.next acts.next in
     record {
       call = answered.call;
@@ -107,4 +131,13 @@ returns-in-Answer-clause-stands g c = λ volume state x tree next same stood.
             (requeued (st.keeps old) (st.stands old) (st.will_read old) (st.made old) (st.own old 0) (st.out_of old 0) (st.asked old 0) volume state x now new.queue tree next acts.next acts.next stood c.requires.idle then);
         doing = none_doing (e.step engine) new acts.next acts.next (inl idle);
       };
+    }
+
+pub returns-in_ok-begin_change-in-Change-clause-moments : goal.returns-in_ok-begin_change-in-Change-clause-moments
+returns-in_ok-begin_change-in-Change-clause-moments g c =
+    let begun = c.in_ok-begin_change-in-Change.ensures.begun in
+    record {
+      says = tt;
+      begins = begun_at c.args.moment c.begin_change.new.self (λ point at. ap (λ (p : Point). p.moment) (begun.at point at));
+      rests = λ point past. absurd (subst (λ (s : Stage). IsPast s point) begun.stage past);
     }

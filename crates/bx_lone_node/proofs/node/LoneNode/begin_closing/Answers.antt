@@ -20,7 +20,7 @@ use Rattle.bx_lone_node.proofs.node.LoneNode.begin_closing.Goals as goal
 
 pub send-requires-clause-runs : goal.send-requires-clause-runs
 send-requires-clause-runs g c =
-    let is = subst (λ (n : NodeView). IsNode (record n { stage = Homes })) (sym c.self.view_is) c.requires.node in
+    let is = subst (λ (n : NodeView). IsNode (record n { stage = Homes c.args.point })) (sym c.self.view_is) c.requires.node in
     let asks = asks_first c.self.inside.log c.close.new.self c.next.new.self works.Closes c.in_ok-runs.field-0 c.in-Write.runs c.close.ensures c.in_ok-runs.ensures.ok c.in-Write.is in
     let devices = c.requires.joined.devices ∙ sym (ap (λ (n : NodeView). n.devices) c.self.view_is) in
     let least = is.volume.least_devices in
@@ -29,11 +29,11 @@ send-requires-clause-runs g c =
 
 pub invariant_of-self-2 : goal.invariant_of-self-2
 invariant_of-self-2 g c =
-    let is = subst (λ (n : NodeView). IsNode (record n { stage = Homes })) (sym c.self.view_is) c.requires.node in
+    let is = subst (λ (n : NodeView). IsNode (record n { stage = Homes c.args.point })) (sym c.self.view_is) c.requires.node in
     let asks = asks_first c.self.inside.log c.close.new.self c.next.new.self works.Closes c.in_ok-runs.field-0 c.in-Write.runs c.close.ensures c.in_ok-runs.ensures.ok c.in-Write.is in
-    let node : NodeView = record { devices = c.self.inside.devices; areas = c.self.inside.areas; queue = c.self.inside.queue.items; cache = c.self.inside.cache; log = c.self.inside.log; stage = Homes } in
-    subst (λ (l : LogView). IsNode (record node { stage = Closes; log = l })) (sym asks.0)
-    (at_stage node (doing c.self.inside.log works.Closes) Closes is tt is.slot is.device (tt, refl))
+    let node : NodeView = record { devices = c.self.inside.devices; areas = c.self.inside.areas; queue = c.self.inside.queue.items; cache = c.self.inside.cache; log = c.self.inside.log; stage = Homes c.args.point } in
+    subst (λ (l : LogView). IsNode (record node { stage = Closes c.args.point; log = l })) (sym asks.0)
+    (at_stage node (doing c.self.inside.log works.Closes) (Closes c.args.point) is tt is.slot is.device (is.stage.2, refl))
 
 pub returns-clause-stands : goal.returns-clause-stands
 returns-clause-stands g c = λ volume state x tree next stood.
@@ -50,15 +50,15 @@ returns-clause-stands g c = λ volume state x tree next stood.
     let devices = c.requires.joined.devices in
     let least = is.volume.least_devices in
     let some : 1 ≤ (st.made new).devices = (let e = ap (λ (m : Made). m.devices) c.in_ok-send.ensures.made in omega (arith, e, devices, least)) in
-    let homes : NodeView = record now { stage = Homes } in
+    let homes : NodeView = record now { stage = Homes c.args.point } in
     let stands = shutting (st.keeps old) (st.keeps new) (st.stands old) (st.stands new) (st.will_read old) (st.will_read new) (st.made old) (st.made new) (st.own old 0) (st.own new 0) (st.out_of old 0) (st.out_of new 0) (st.asked old 0) (st.asked new 0)
-    volume state x homes tree next is.slot c.in_ok-send.ensures.stays.0 stood refl is.stage.0 is.stage.1 is.stage.2 c.requires.none_out
+    volume state x homes tree next is.slot c.in_ok-send.ensures.stays.0 c.args.point stood refl is.stage.0 is.stage.1 is.stage.2 c.requires.none_out
     (log_fits (st.made new) now.log works.Closes some is.slot is.device tt)
     (subst (λ (r : List Run). st.out_of new 0 ≡ Some (sent_by stood.session r)) runs (c.in_ok-send.ensures.is_out stood.session stood.own_is))
     (subst (λ (r : List Run). IsSent (st.keeps new x) (st.stands old x) (st.stands new x) stood.past (sent_by stood.session r)) runs sent) in
     let node : NodeView = record { devices = c.self.inside.devices; areas = c.self.inside.areas; queue = c.self.inside.queue.items; cache = c.self.inside.cache; log = c.self.inside.log; stage = c.self.inside.stage } in
-    let here : (let n : NodeView = record node { stage = Closes; log = c.next.new.self } in n) ≡ record now { stage = Closes; log = doing now.log works.Closes } =
-    ap (λ (l : LogView). let n : NodeView = record node { stage = Closes; log = l } in n) asks.0
-    ∙ ap (λ (n : NodeView). let m : NodeView = record n { stage = Closes; log = doing n.log works.Closes } in m) c.self.view_is in
+    let here : (let n : NodeView = record node { stage = Closes c.args.point; log = c.next.new.self } in n) ≡ record now { stage = Closes c.args.point; log = doing now.log works.Closes } =
+    ap (λ (l : LogView). let n : NodeView = record node { stage = Closes c.args.point; log = l } in n) asks.0
+    ∙ ap (λ (n : NodeView). let m : NodeView = record n { stage = Closes c.args.point; log = doing n.log works.Closes } in m) c.self.view_is in
     let P : NodeView → Type 0 = λ n. NodeStands (st.keeps new) (st.stands new) (st.will_read new) (st.made new) (st.own new 0) (st.out_of new 0) (st.asked new 0) volume state x n tree next in
     subst P (sym here) stands

@@ -71,7 +71,7 @@ invariant_of-self-in-Acked-1 g c =
     let opens = open_of c.self.inside.log c.next.new.self c.in_ok-runs.field-0 c.in-Acked.point c.args.recorded isv.stage.0 isv.stage.1 c.in_ok-runs.ensures.ok c.in-Acked.is in
     let node : NodeView = record { devices = c.self.inside.devices; areas = c.self.inside.areas; queue = c.self.inside.queue.items; cache = c.self.inside.cache; log = c.next.new.self; stage = c.self.inside.stage } in
     let count : c.next.new.self.count ≡ 1 = ap (λ (l : LogView). l.count) opens.1 ∙ ap (λ (k : ℕ). k + 1) isv.stage.2 in
-    let homes : NodeView = record node { cache = c.lay.new.self.cache; stage = Homes } in
+    let homes : NodeView = record node { cache = c.lay.new.self.cache; stage = Homes c.in-Acked.point } in
     let is : IsNode homes = record {
       volume = isv.volume;
       slot = ap (λ (l : LogView). l.slot) opens.1 ∙ isv.slot;
@@ -79,7 +79,7 @@ invariant_of-self-in-Acked-1 g c =
       stage = (ap (λ (l : LogView). l.work) opens.1, ap (λ (l : LogView). l.out) opens.1, count);
       blocks = λ used. laid_blocks c.self.inside.cache c.lay.new.self.cache c.args.draft c.in_ok-runs-in-Acked.ensures.blocks c.self.inside.areas isv.stage.3 (isv.blocks tt);
     } in
-    subst (λ (n : NodeView). IsNode (record n { stage = Homes })) (sym (c.self-in-Acked.view_is ∙ c.in_ok-runs-in-Acked.ensures.node)) is
+    subst (λ (n : NodeView). IsNode (record n { stage = Homes c.in-Acked.point })) (sym (c.self-in-Acked.view_is ∙ c.in_ok-runs-in-Acked.ensures.node)) is
 
 pub returns-in_ok-send-in-Write-clause-stands : goal.returns-in_ok-send-in-Write-clause-stands
 returns-in_ok-send-in-Write-clause-stands g c = λ volume state x tree next stood.
@@ -116,6 +116,7 @@ returns-in_ok-send-in-Write-clause-stands g c = λ volume state x tree next stoo
       record {
         was = λ recorded draft at stage is_at.
             (stage, subst (λ (w : Work). IsAt w at) (sym work) (subst (λ (l : LogView). IsAt l.work at) asks.3 is_at));
+        opened = λ at was. was;
       },
       subst P (sym here) stands,
     )
@@ -150,10 +151,10 @@ returns-in_ok-send-in-Acked-clause-stands g c = λ volume state x tree next stoo
     (subst (λ (r : List Run). IsSent (st.keeps new x) (st.stands old x) (st.stands new x) stood.past (sent_by stood.session r)) runs sent) in
     let node : NodeView = record { devices = c.self.inside.devices; areas = c.self.inside.areas; queue = c.self.inside.queue.items; cache = c.self.inside.cache; log = c.self.inside.log; stage = c.self.inside.stage } in
     let P : NodeView → Type 0 = λ n. NodeStands (st.keeps new) (st.stands new) (st.will_read new) (st.made new) (st.own new 0) (st.out_of new 0) (st.asked new 0) volume state x n next next in
-    let Q : NodeView → Type 0 = λ n. P (record n { stage = Homes; cache = cache; log = resting (record n.log { count = n.log.count + 1 }) }) in
+    let Q : NodeView → Type 0 = λ n. P (record n { stage = Homes c.in-Acked.point; cache = cache; log = resting (record n.log { count = n.log.count + 1 }) }) in
     let one = subst Q (sym c.self.view_is) stands in
-    let two = subst (λ (l : LogView). P (record node { stage = Homes; cache = cache; log = l })) (sym opens.1) one in
+    let two = subst (λ (l : LogView). P (record node { stage = Homes c.in-Acked.point; cache = cache; log = l })) (sym opens.1) one in
     inr (
       record { recorded = c.args.recorded; draft = c.args.draft; point = c.in-Acked.point; was = refl; at = subst (λ (w : Work). IsAt w c.in-Acked.point) (sym work) refl; says = c.told.ensures; now = refl },
-      subst (λ (n : NodeView). P (record n { stage = Homes })) (sym (c.self-in-Acked.view_is ∙ c.in_ok-runs-in-Acked.ensures.node)) two,
+      subst (λ (n : NodeView). P (record n { stage = Homes c.in-Acked.point })) (sym (c.self-in-Acked.view_is ∙ c.in_ok-runs-in-Acked.ensures.node)) two,
     )

@@ -47,7 +47,7 @@ returns-clause-stands g c = λ volume state x tree next stood.
     ap stood.truth new_one.0 ∙ block_is (st.keeps old) (st.stands old) (st.will_read old) (st.made old) (st.own old 0) (st.out_of old 0) (st.asked old 0) volume state x node tree next stood is.slot stage.0 stage.2
     c.args.at block c.in-Some.bytes stage.3 new_one.1
     (λ i less. ⊎_elim
-    (λ (gone : st.asked old 0 ≡ None). absurd (let h = sym (g.met.S.AskedStore.only_asked old 0 gone) ∙ sym c.in-Some.ensures.answer in cc))
+    (λ (gone : st.asked old 0 ≡ None). absurd (let h = sym (g.met.S.Store.only_asked old 0 gone) ∙ sym c.in-Some.ensures.answer in cc))
     (λ (read : IsRead (λ s content. st.will_read old x stood.past 0 s content) stood.before node.devices c.args.at (st.asked old 0)).
     let place = (block_place c.args.at node.devices).1 in
     let e : place + i - place ≡ i = omega arith in

@@ -1,7 +1,7 @@
 use Rattle.std.proofs.Common.{◌≡◌, ℕ, ◌<◌, List, [], ◌∷◌, length, sym, subst, ap, arith}
 use Rattle.std.specs.Prelude.{slice_index_or}
 use Rattle.bx_cache.specs.Cached.{block_at}
-use Rattle.bx_inodes.specs.Stands.{Stands}
+use Rattle.bx_lone_node.specs.Bare.{StandsBare}
 use Rattle.bx_model.specs.declared.tree.Tree.{Tree}
 use Rattle.bx_views.specs.Attempts.{Gives, IsFair}
 use Rattle.bx_views.specs.Truths.{Hints, IsTruth, Truth}
@@ -26,7 +26,7 @@ returns g c =
       rest = first.0;
       oldest = subst (λ (n : NodeView). n.queue ≡ call ∷ first.0) c.self.view_is first.1;
       gives = λ truth tree is stands.
-          subst (λ (d : List ℕ). Gives (λ (other : Truth) (hints : Hints) (then : Tree). Stands (e.volume engine) (e.areas engine) other then) (e.step engine) (e.free engine truth) call.client d c.args.moment truth tree attempt) c.bytes.ensures
+          subst (λ (d : List ℕ). Gives (λ (other : Truth) (hints : Hints) (then : Tree). StandsBare (e.volume engine) (e.areas engine) other then) (e.step engine) (e.free engine truth) call.client d c.args.moment truth tree attempt) c.bytes.ensures
           (c.in_ok-attempt.ensures.gives truth tree (subst (λ (n : NodeView). IsTruth (λ at mode. block_at n.cache at) truth) (sym c.self.view_is) is) stands);
       fair =
           subst (λ (n : NodeView). IsFair (e.areas engine) (λ at mode. block_at n.cache at) (e.path engine call.client call.datagram (λ at mode. block_at n.cache at)) attempt) c.self.view_is

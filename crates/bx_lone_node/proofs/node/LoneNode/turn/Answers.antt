@@ -5,7 +5,7 @@ use Rattle.bx_lone_node.specs.Node.{Takes, calls_of}
 use Rattle.bx_lone_node.specs.Standing.{NodeStands, StandsFor, Turns}
 use Rattle.bx_lone_node.specs.declared.stage.Acted.{Acted}
 use Rattle.bx_lone_node.specs.declared.stage.Waiting.{Waiting}
-use Rattle.bx_lone_node.proofs.Turns.{goes_turns}
+use Rattle.bx_lone_node.proofs.Turns.{goes_moment, goes_turns}
 use Rattle.bx_lone_node.proofs.node.LoneNode.turn.Goals as goal
 
 none_said : (acted : Option Acted) → is_some acted ≡ false → acted ≡ None
@@ -44,3 +44,6 @@ returns-clause-stands g c = λ state x tree volume same stood.
     let calls : calls_of then ≡ calls_of now = subst (λ (a : Option Acted). Takes a (calls_of now) (calls_of then)) none c.in_ok-acted.ensures.takes in
     subst (λ (q : List Waiting). IfOk c.attempt.result (Turns Step (StandsFor Step Stands_new c.attempt.new.self) q (calls_of c.attempt.new.self) tree)) calls
     (c.attempt.ensures.stands volume state x tree stands.next same stands.stands)
+
+pub returns-then-is_some-clause-moments : goal.returns-then-is_some-clause-moments
+returns-then-is_some-clause-moments g c = goes_moment c.args.moment c.args.self.now c.go_on.new.self c.in_ok-acted.acted c.in_ok-acted.ensures.goes

@@ -1,0 +1,5 @@
+pub mod Filled
+pub mod Followed
+pub mod LookedUp
+pub mod RunSlots
+pub mod Wider

@@ -1,0 +1,10 @@
+//! The procedures that read directories, over views.
+#![tactic(auto)]
+
+mod entries;
+mod filling;
+mod listing;
+mod lookups;
+
+pub use listing::readdir;
+pub use lookups::lookup;

@@ -1,0 +1,11 @@
+pub mod Numbers
+pub mod Names
+pub mod Ordered
+pub mod Rising
+pub mod Firsts
+pub mod Searched
+pub mod Directories
+pub mod Edited
+pub mod DirectoryEdits
+pub mod EntriesChanged
+pub mod ChangesDone

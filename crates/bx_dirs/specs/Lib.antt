@@ -1,0 +1,4 @@
+pub mod Entries
+pub mod Searches
+pub mod Changes
+pub mod Edits

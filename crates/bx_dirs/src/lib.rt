@@ -1,0 +1,11 @@
+//! Directories over views: lists of entries, by number and by name, in B-link trees.
+#![tactic(auto)]
+
+mod changes;
+mod keys;
+mod laws;
+mod searches;
+
+pub use changes::{add, take};
+pub use laws::a_directory_has_entries;
+pub use searches::{after, lookup};

@@ -1,0 +1,4 @@
+pub mod Needs
+pub mod Slots
+pub mod Told
+pub mod Windows

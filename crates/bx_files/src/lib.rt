@@ -1,0 +1,10 @@
+//! Files as lists of bytes, over views.
+#![tactic(auto)]
+
+mod keys;
+mod pieces;
+mod reading;
+mod searching;
+
+pub use reading::{MOST_BYTES, read};
+pub use searching::needed;

@@ -1,0 +1,4 @@
+pub mod Members
+pub mod Bodies
+pub mod Logs
+pub mod Newest

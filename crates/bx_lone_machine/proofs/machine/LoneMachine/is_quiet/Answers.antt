@@ -1,0 +1,34 @@
+use Rattle.std.proofs.Common.{◌≡◌, ◌≢◌, refl, ℕ, zero, suc, ◌≤◌, arith, Bool, true, false, List, [], ◌∷◌, IsTrue, subst}
+use Rattle.std.specs.Prelude.{not, ◌||◌}
+use Rattle.bx_lone_node.specs.declared.stage.Waiting.{Waiting}
+use Rattle.bx_lone_machine.specs.Machine.{calls_of, member_waits}
+use Rattle.bx_lone_machine.specs.declared.machine.LoneMachine.{LoneMachine}
+use Rattle.bx_lone_machine.proofs.machine.LoneMachine.is_quiet.Goals as goal
+
+-- what isn't so is none
+none_there : (calls : List Waiting) (waits : Bool) → (calls ≢ [] → IsTrue waits) → waits ≡ false → calls ≡ []
+none_there [] waits some quiet = refl
+none_there (call ∷ calls) waits some quiet = absurd (by waits (some (λ e. absurd cc)) quiet)
+  where
+    by : (b : Bool) → IsTrue b → b ≡ false → ⊥
+    by b is e = cc
+
+none_owes : (a b result : Bool) → result ≡ (a || b) → not result ≡ true → (a ≡ false) × (b ≡ false)
+none_owes a b result is quiet = by a b (subst (λ (r : Bool). not r ≡ true) is quiet)
+  where
+    by : (a b : Bool) → not (a || b) ≡ true → (a ≡ false) × (b ≡ false)
+    by true b e = absurd cc
+    by false true e = absurd cc
+    by false false e = (refl, refl)
+
+either : (machine : LoneMachine) (member : ℕ) → member ≤ 1 → (member_waits machine 0 ≡ false) × (member_waits machine 1 ≡ false) → member_waits machine member ≡ false
+either machine zero less both = both.0
+either machine (suc zero) less both = both.1
+either machine (suc (suc member)) less both = absurd (omega (arith, less))
+
+pub returns-then-not-waits-clause-calls : goal.returns-then-not-waits-clause-calls
+returns-then-not-waits-clause-calls c = λ quiet. none_there (calls_of c.args.self.now) c.waits.result c.waits.ensures.1 c.if-not-waits.true
+
+pub returns-then-not-waits-clause-members : goal.returns-then-not-waits-clause-members
+returns-then-not-waits-clause-members c = λ member less quiet.
+    either c.args.self.now member less (none_owes (member_waits c.args.self.now 0) (member_waits c.args.self.now 1) c.is_owed.result c.is_owed.ensures quiet)

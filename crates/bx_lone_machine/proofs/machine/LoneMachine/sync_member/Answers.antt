@@ -1,0 +1,43 @@
+use Rattle.std.proofs.Common.{Err, sym, ap, subst}
+use Rattle.bx_global.specs.declared.state.GlobalState.{GlobalState}
+use Rattle.bx_lone_node.specs.Standing.{NodeStands}
+use Rattle.bx_lone_store.specs.Parts.{asked_at}
+use Rattle.bx_lone_store.specs.declared.store.PlainStore.{PlainStore}
+use Rattle.bx_disk.specs.Disks.{Disks}
+use Rattle.bx_model.specs.declared.tree.Tree.{Tree}
+use Rattle.bx_plain_store.specs.Out.{at, out_at}
+use Rattle.bx_lone_machine.specs.Machine.{store_keeps, store_made, store_reads, store_stands}
+use Rattle.bx_lone_machine.proofs.Leaving.{bench_kept}
+use Rattle.bx_lone_machine.proofs.machine.LoneMachine.sync_member.Goals as goal
+
+pub returns-in-Ok-clause-holds : goal.returns-in-Ok-clause-holds
+returns-in-Ok-clause-holds g c = λ tree tells holds.
+    let now = c.args.self.now in
+    let x = g.B.Rack.state c.args.bench.now in
+    let y = g.B.Rack.state c.sync.new.rack in
+    let store = c.sync.new.store in
+    let volume = now.calls.engine.volume in
+    let stood = holds.stands in
+    let Stood : GlobalState → PlainStore → Disks → Tree → Tree → Type 0 = λ s st d. NodeStands (store_keeps st) (store_stands st) (store_reads st) (store_made st) (at st.owns.items 0) (out_at st.slots.items 0) (asked_at st.inquiries.items 0) volume s d now.node in
+    let before = subst (λ (s : GlobalState). Stood s now.store x tree stood.next) (sym c.requires.ready.knows) stood.stands in
+    let after = c.in-Ok.ensures.stands volume now.node tree stood.next tells c.requires.ready.whole before in
+    record {
+      stands = record { next = stood.next; stands = subst (λ (s : GlobalState). Stood s store y tree stood.next) c.requires.ready.knows after; doing = stood.doing };
+      bench = bench_kept x y volume c.sync.ensures.sizes (c.sync.ensures.replicas tells).1 holds.bench;
+    }
+
+pub returns-in-Err-Disk-clause-holds : goal.returns-in-Err-Disk-clause-holds
+returns-in-Err-Disk-clause-holds g c = λ tree tells holds.
+    let now = c.args.self.now in
+    let x = g.B.Rack.state c.args.bench.now in
+    let y = g.B.Rack.state c.sync.new.rack in
+    let store = c.sync.new.store in
+    let volume = now.calls.engine.volume in
+    let stood = holds.stands in
+    let Stood : GlobalState → PlainStore → Disks → Tree → Tree → Type 0 = λ s st d. NodeStands (store_keeps st) (store_stands st) (store_reads st) (store_made st) (at st.owns.items 0) (out_at st.slots.items 0) (asked_at st.inquiries.items 0) volume s d now.node in
+    let before = subst (λ (s : GlobalState). Stood s now.store x tree stood.next) (sym c.requires.ready.knows) stood.stands in
+    let after = c.in-Err-Disk.ensures.stands_faulted volume now.node tree stood.next tells c.requires.ready.whole before (ap Err c.in-Err-Disk.field-0-is) in
+    record {
+      stands = record { next = stood.next; stands = subst (λ (s : GlobalState). Stood s store y tree stood.next) c.requires.ready.knows after; doing = stood.doing };
+      bench = bench_kept x y volume c.sync.ensures.sizes (c.sync.ensures.replicas tells).1 holds.bench;
+    }

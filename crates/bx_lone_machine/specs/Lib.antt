@@ -1,0 +1,4 @@
+pub mod Machine
+pub mod Resting
+pub mod Rounds
+pub mod Shown

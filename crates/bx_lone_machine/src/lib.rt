@@ -1,0 +1,13 @@
+//! One node and the members under it, on the disks of a bench that holds a volume of one device and one area.
+#![tactic(auto)]
+
+mod begin;
+mod calls;
+mod laws;
+mod machine;
+mod rounds;
+
+pub use bx_lone_node::{Acted, Waiting};
+pub use calls::Calls;
+pub use laws::what_is_held_is_shown;
+pub use machine::LoneMachine;

@@ -1,0 +1,79 @@
+//! The machine.
+
+ghost use Rattle.std.specs.Prelude.{◌≡◌, ◌≢◌, ◌⊎◌, ◌||◌, ◌==◌, IfOk, ◌++◌, ◌∷◌, ◌<◌, ◌≤◌, [], ℕ, List, OnOk, OnErr, true, false};
+ghost use Rattle.std.specs.List.{list_any};
+ghost use Rattle.bx_disk.specs.Disks.{Disks};
+ghost use Rattle.bx_engine.specs.Calls.{IsBuiltCall};
+ghost use Rattle.bx_lone_machine.specs.Machine.{Holds, IsReady, calls_of, latest_of, member_waits, record_of};
+ghost use Rattle.bx_model.specs.declared.tree.Tree.{Tree};
+
+use crate::calls::Calls;
+use bx_base::{Actor, CallNo, OutOfMemory};
+use bx_facts::Store;
+use bx_global::GlobalState;
+use bx_lone_node::{LoneNode, Waiting};
+use bx_lone_store::PlainStore;
+use std::alloc::Global;
+
+/// The one node of a volume of one device and one area, and the store whose members stand on a bench of disks. It waits for nothing:
+/// whoever has the bench drives it, round after round.
+#[derive(Drop)]
+pub struct LoneMachine {
+    pub(crate) alloc: Global,
+    pub(crate) node: LoneNode,
+    pub(crate) store: PlainStore,
+    pub(crate) calls: Calls,
+    pub(crate) state: GlobalState,
+    pub(crate) latest: CallNo,
+}
+
+impl LoneMachine {
+    /// A call comes, and waits behind all others. Its number is above those that came before. Where memory runs out, nothing changes.
+    pub fn arrive(&mut self, call: Waiting) -> Result<(), OutOfMemory>
+        requires built { IsBuiltCall call.datagram }
+        requires rises { latest_of self.old < call.number }
+        ensures calls { OnOk result (calls_of self.new ≡ calls_of self.old ++ call ∷ []) }
+        ensures record { OnOk result (record_of self.new ≡ record_of self.old) }
+        ensures latest { OnOk result (latest_of self.new ≡ call.number) }
+        ensures ready { (sizes : List ℕ) → IsReady self.old sizes → OnOk result (IsReady self.new sizes) }
+        ensures holds { (disks : Disks) (tree : Tree) → Holds self.old disks tree → OnOk result (Holds self.new disks tree) }
+        ensures err { OnErr result (self.new ≡ self.old) }
+    {
+        let number = call.number;
+        self.node.arrive(call)?;
+        self.node.is_whole();
+        self.latest = number;
+        Ok(())
+    }
+
+    /// Whether bytes are a call that is built.
+    pub fn takes(&self, call: &[u8]) -> Result<bool, OutOfMemory>
+        ensures yes { IfOk result (λ is. is ≡ true → IsBuiltCall call.now) }
+        ensures no { IfOk result (λ is. is ≡ false → IsBuiltCall call.now → ⊥) }
+    {
+        self.calls.takes(self.alloc, call)
+    }
+
+    /// Whether the call with this number waits for its reply.
+    pub fn waits_for(&self, number: CallNo) -> bool
+        ensures { result ≡ list_any (λ call. call.number == number) (calls_of self.now) }
+    {
+        self.node.waits_for(number)
+    }
+
+    /// Whether no call waits, and no member: then rounds do nothing more.
+    pub fn is_quiet(&self) -> bool
+        ensures calls { result ≡ true → calls_of self.now ≡ [] }
+        ensures members { (member : ℕ) → member ≤ 1 → result ≡ true → member_waits self.now member ≡ false }
+        ensures busy { result ≡ false → (calls_of self.now ≢ []) ⊎ ((member : ℕ) × (member ≤ 1) × (member_waits self.now member ≡ true)) }
+    {
+        !self.node.waits() && !self.is_owed()
+    }
+
+    /// Whether a member waits.
+    fn is_owed(&self) -> bool
+        ensures { result ≡ (member_waits self.now 0 || member_waits self.now 1) }
+    {
+        self.store.waiting(Actor::Member(0)) || self.store.waiting(Actor::Member(1))
+    }
+}

@@ -1,0 +1,65 @@
+use Rattle.std.proofs.Common.{◌≡◌, ⊎_elim, inl, ℕ, arith, false, List, [], ◌∷◌, Contains, length, sym, ◌∙◌, ap, subst}
+use Rattle.bx_calls.specs.Regions.{ReadsAs}
+use Rattle.bx_disk.specs.Disks.{Disks}
+use Rattle.bx_facts.specs.Writes.{IsSettled, IsSourceIn, Sent, Writes, member_disk}
+use Rattle.bx_facts.proofs.Lists.{front_or_behind, nothing}
+use Rattle.bx_lone_repair.specs.Through.{one_write}
+use Rattle.bx_places.specs.Places.{log_start}
+use Rattle.bx_plain_store.specs.Out.{IsFitting}
+use Rattle.bx_records.specs.declared.runs.Run.{Run}
+use Rattle.bx_redo.specs.Found.{Settles, gates_run, with_gates}
+use Rattle.bx_lone_repair.proofs.gates.settle_gates.Goals as goal
+
+-- in a list of one
+only_one : (one run : Run) (runs : List Run) → runs ≡ one ∷ [] → Contains runs run → one ≡ run
+only_one one run runs are there = ⊎_elim (λ same. same) (λ none. absurd (nothing run none)) (front_or_behind one [] run (subst (λ (all : List Run). Contains all run) are there))
+
+pub write_through-requires-clause-fit : goal.write_through-requires-clause-fit
+write_through-requires-clause-fit g c = λ run there.
+    let gates : Run = record { device = 0; place = 1; bytes = c.read_sectors.new.into } in
+    let same = only_one gates run c.in_ok-runs.runs c.in_ok-runs.ensures there in
+    let long : length c.read_sectors.new.into ≡ 4096 = omega arith in
+    let old = (g.R.Rack.state c.args.rack.now).sizes in
+    let fits : IsFitting 1 old gates = record {
+      device = omega arith;
+      disk = (let few = c.requires.disks in omega (arith, few));
+      whole = omega (arith, long);
+      first = (let room = c.requires.first in omega (arith, long, room));
+      second = (let room = c.requires.second in omega (arith, long, room));
+    } in
+    subst (IsFitting 1 (g.R.Rack.state c.read_sectors.new.rack).sizes) same (subst (λ (sizes : List ℕ). IsFitting 1 sizes gates) (sym c.read_sectors.ensures.sizes) fits)
+
+pub write_through-requires-clause-once : goal.write_through-requires-clause-once
+write_through-requires-clause-once g c = λ device sector content other one two.
+    let gates : Run = record { device = 0; place = 1; bytes = c.read_sectors.new.into } in
+    let a = only_one gates one.0 c.in_ok-runs.runs c.in_ok-runs.ensures one.1 in
+    let b = only_one gates two.0 c.in_ok-runs.runs c.in_ok-runs.ensures two.1 in
+    let w : Writes gates device sector content = subst (λ (r : Run). Writes r device sector content) (sym a) one.2 in
+    let v : Writes gates device sector other = subst (λ (r : Run). Writes r device sector other) (sym b) two.2 in
+    sym v.is ∙ w.is
+
+pub returns-clause-settles : goal.returns-clause-settles
+returns-clause-settles g c = λ state areas before logs truth more log tells many source slot device stands.
+    let bytes = c.read_sectors.new.into in
+    let x : Disks = g.R.Rack.state c.args.rack.now in
+    let mid : Disks = g.R.Rack.state c.read_sectors.new.rack in
+    let z : Disks = g.R.Rack.state c.write_through.new.rack in
+    let told = c.read_sectors.ensures.keeps_telling tells in
+    let long : length bytes ≡ 4096 = omega arith in
+    let run : Run = record { device = 0; place = 1; bytes = bytes } in
+    let mine : run ≡ gates_run log bytes = λ i. record { device = sym device i; place = log_start (sym slot i); bytes = bytes } in
+    let runs : c.in_ok-runs.runs ≡ gates_run log bytes ∷ [] = c.in_ok-runs.ensures ∙ ap (λ (r : Run). r ∷ []) mine in
+    let write : Sent = one_write c.in_ok-runs.runs in
+    let source_is : IsSourceIn state log.device false = subst (λ (d : ℕ). IsSourceIn state d false) (sym device) source in
+    let reads : ReadsAs x.reads (member_disk log.device false) (log_start log.slot) bytes = subst (λ (d : ℕ). ReadsAs x.reads (member_disk d false) (log_start log.slot) bytes) (sym device)
+    (subst (λ (n : ℕ). ReadsAs x.reads (member_disk 0 false) (log_start n) bytes) (sym slot) (c.in_ok-read_sectors.ensures.bytes tells)) in
+    let all : (d s : ℕ) (content : List ℕ) → IsSettled x state d s content → IsSettled z state d s content =
+    c.a_store_writes_gates_back.ensures.out x z state state log false bytes (write ∷ []) 0 source_is long reads
+    (λ other there. ⊎_elim (λ (is : write ≡ other). inl (ap (λ (w : Sent). w.runs) (sym is) ∙ runs)) (λ none. absurd (nothing other none)) (front_or_behind write [] other there))
+    (λ d s content only was. c.write_through.ensures.keeps state d s content told only (subst (λ (y : Disks). IsSettled y state d s content) (sym c.read_sectors.ensures.stays) was)) in
+    let done = c.in_ok-write_through.ensures.done state told many in
+    let now = with_gates before log bytes in
+    let settled = c.a_store_writes_gates_back.ensures.done x z state state log bytes write before 0 long runs all done in
+    let read = c.gates_are_read.ensures x state 1 areas state.sessions before logs truth more log false bytes stands source_is long reads in
+    let found = c.gates_are_settled.ensures x z state state 1 areas state.sessions before now logs truth more log bytes stands read settled in
+    (now, subst (λ (n : ℕ). Settles (IsSettled z state) 1 areas state.sessions now logs truth more n log.work) slot found)

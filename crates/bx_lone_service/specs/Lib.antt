@@ -1,0 +1,4 @@
+pub mod Calls
+pub mod Oldest
+pub mod Logs
+pub mod Shown

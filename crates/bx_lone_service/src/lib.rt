@@ -1,0 +1,6 @@
+//! The one node of a volume as a service: what a replay drives.
+#![tactic(auto)]
+
+mod service;
+
+pub use service::LoneService;

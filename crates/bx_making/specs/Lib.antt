@@ -1,0 +1,4 @@
+pub mod Making
+pub mod Made
+pub mod Burying
+pub mod Links

@@ -1,0 +1,4 @@
+pub mod Counted
+pub mod Fits
+pub mod Machines
+pub mod Reading

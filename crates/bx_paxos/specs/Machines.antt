@@ -1,0 +1,20 @@
+-- The machine of a replica: its acceptor and its proposer.
+use Rattle.std.specs.Prelude.{◌≡◌, ℕ, ◌<◌}
+use Rattle.bx_acceptor.specs.Standing.{IsStanding as IsAcceptor, Standing as Acceptor}
+use Rattle.bx_base.specs.declared.names.Actor.TheVariants.{Replica}
+use Rattle.bx_proposer.specs.Standing.{IsStanding as IsProposer, Standing as Proposer}
+use Rattle.bx_paxos.specs.Fits.{Voters}
+
+-- Both are of one machine, and begin with one state.
+pub record AreHalves (a : Acceptor) (p : Proposer) : Type 0 where
+  pub low : a.replica < 3
+  pub at : p.at ≡ Replica a.replica
+  pub first : p.first ≡ a.first
+  pub acceptor : IsAcceptor a
+  pub proposer : IsProposer p
+
+-- They are those of these voters.
+pub record AreOf (v : Voters) (a : Acceptor) (p : Proposer) : Type 0 where
+  pub first : v.first ≡ a.first
+  pub origin : v.origins a.replica ≡ a.origin
+  pub course : v.courses p.actor ≡ p.course

@@ -1,0 +1,39 @@
+-- What images are read as.
+use Rattle.std.specs.Prelude.{◌≡◌, ℕ, ◌<◌, length, Option, Some, None}
+use Rattle.bx_acceptor.specs.Standing.{IsFound}
+use Rattle.bx_acceptor.specs.declared.origin.Origin.{Origin}
+use Rattle.bx_acceptor.specs.declared.origin.Origin.TheVariants.{Made}
+use Rattle.bx_agreement.specs.Sound.{HasTwo, ReadsAs}
+use Rattle.bx_cell.specs.Halves.{Found}
+use Rattle.bx_disk.specs.Disks.{Image}
+use Rattle.bx_facts.specs.Chains.{IsNext, last}
+use Rattle.bx_facts.specs.Pasts.{RegisterPast}
+use Rattle.bx_global.specs.declared.held.Held.{Held}
+use Rattle.bx_global.specs.declared.state.GlobalState.{GlobalState}
+use Rattle.bx_layout.specs.Labels.{SpellsLabel}
+use Rattle.bx_layout.specs.declared.label.Label.{Label}
+
+-- These are the cells that can be read on the disks of replicas that have a label.
+pub record AreSeen (devices : ℕ) (image : Image) (seen : ℕ → Option Held) : Type 0 where
+  pub some : (n : ℕ) (held : Held) → seen n ≡ Some held → (n < 3) × ((label : Label) × SpellsLabel label (image n 0)) × ((found : Found) × IsFound devices (image n) found held)
+  pub none : (n : ℕ) (label : Label) (found : Found) (held : Held) → n < 3 → seen n ≡ None → SpellsLabel label (image n 0) → IsFound devices (image n) found held → ⊥
+
+-- Of such cells, two at least, the image is read as a state: the accepted one of the highest ballot at the greatest index above each decided
+-- one, or where there is none, the decided one of the greatest index.
+pub record ReadsState (made : GlobalState) (image : Image) (s : GlobalState) : Type 0 where
+  pub seen : ℕ → Option Held
+  pub are : AreSeen (length made.devices) image seen
+  pub one : ℕ
+  pub other : ℕ
+  pub one_held : Held
+  pub other_held : Held
+  pub two : HasTwo seen one other one_held other_held
+  pub reads : ReadsAs seen s
+
+-- each cell was made with the volume
+abbrev pub AreMade : (ℕ → Origin) → Type 0
+AreMade origins = (n : ℕ) → n < 3 → origins n ≡ Made
+
+-- The image is read as the last state of the chain, or as what a change that was handed in makes of it.
+abbrev pub ReadsNext : GlobalState → RegisterPast → Image → Type 0
+ReadsNext made past image = (s : GlobalState) → ReadsState made image s → IsNext past.proposed (last past.chain) s

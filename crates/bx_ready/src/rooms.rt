@@ -1,0 +1,73 @@
+//! Room in leaves.
+
+ghost use Rattle.std.specs.Prelude.{◌≡◌, [], IfOk, IfSome};
+ghost use Rattle.bx_blink.specs.Hints.{Under};
+ghost use Rattle.bx_blink.specs.Walks.{reads_with};
+ghost use Rattle.bx_leaves.specs.Changes.{NeedsUnheld};
+ghost use Rattle.bx_truth.specs.PageTrees.{PageTree};
+ghost use Rattle.bx_views.specs.Attempts.{IsHeldDraft};
+ghost use Rattle.bx_views.specs.Truths.{Truth};
+ghost use Rattle.bx_ready.specs.Rooms.{FindsFull, OnSplitPath, SplitsForIn};
+
+use bx_base::Mode;
+use bx_blink::{BlinkError, End, block_at, seen, walk};
+use bx_records::Draft;
+use bx_splits::split;
+use bx_views::View;
+use std::alloc::Global;
+
+/// The bytes that two greatest entries take: a leaf that has less left is to be split.
+const ROOM: usize = 544;
+
+/// Splits the leaf of a key, near an area, where it has less than 544 bytes left, in the tree under a root: the draft that does so, to be
+/// written before any entry is put under the key. `None` exactly where the leaf has room.
+///
+/// `Need` names a block that isn't held in that mode: one on the path of the walk to the leaf, which is to be held exclusively, or one that a
+/// new page wants. `Stale` comes where what is held is no tree, and `Full` tells how many slots are free in the view.
+pub fn split_for<V: View>(
+    alloc: Global,
+    view: &V,
+    root: u64,
+    key: &[u8],
+    near: u16,
+    areas: u16,
+) -> Result<Option<Draft>, BlinkError>
+    ensures map { (truth : Truth) (tree : PageTree) → Under areas (V.held view.now) (V.hints view.now) truth [] root tree → SplitsForIn areas (V.held view.now) (V.hints view.now) truth root tree key.now result }
+    ensures fair { NeedsUnheld (V.held view.now) (OnSplitPath areas (reads_with (V.held view.now) (V.hints view.now) []) root key.now) result }
+    ensures held { IfOk result (λ found. IfSome found (IsHeldDraft (V.held view.now))) }
+{
+    let mut draft = Draft::new(alloc);
+    match full_leaf(&draft, view, root, key) {
+        Err(error) => Err(error),
+        Ok(found) => match found {
+            None => Ok(None),
+            Some(leaf) => match split(alloc, &mut draft, view, root, leaf, near, areas) {
+                Ok(()) => Ok(Some(draft)),
+                Err(error) => Err(error),
+            },
+        },
+    }
+}
+
+/// The leaf of a key, held exclusively, where it has less than 544 bytes left; `None` exactly where it has them.
+fn full_leaf<V: View>(
+    draft: &Draft,
+    view: &V,
+    root: u64,
+    key: &[u8],
+) -> Result<Option<u64>, BlinkError>
+    ensures { FindsFull (reads_with (V.held view.now) (V.hints view.now) draft.now) root key.now result }
+{
+    match walk(draft, view, root, key, 0, Mode::Exclusive) {
+        End::Needs(at, mode) => Err(BlinkError::Need(at, mode)),
+        End::Lost => Err(BlinkError::Stale),
+        End::Lands(handle, page) => {
+            let at = block_at(handle);
+            match seen(draft, view, at, Mode::Exclusive) {
+                None => Err(BlinkError::Need(at, Mode::Exclusive)),
+                Some(_) if page.room() < ROOM => Ok(Some(handle)),
+                Some(_) => Ok(None),
+            }
+        }
+    }
+}

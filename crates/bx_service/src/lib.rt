@@ -1,0 +1,6 @@
+//! What takes calls and answers them, over the disks of a volume that hold a file tree: the contract under a replay.
+#![tactic(auto)]
+
+mod service;
+
+pub use service::{Acted, Service};

@@ -1,11 +1,14 @@
 //! What inodes of each kind have.
 
-ghost use Rattle.std.specs.Prelude.{◌≡◌, ◌≤◌, ◌<◌, ◌^◌, ℕ, All, Option, IfOk, IfSome, IsErrOf};
+ghost use Rattle.std.specs.Prelude.{◌≡◌, ◌≤◌, ◌<◌, ◌^◌, ℕ, All, Contains, Option, IfOk, IfSome, IsErrOf};
 ghost use Rattle.bx_audit_bodies.specs.Bodies.{HasBodyOf, HasPieces, IsBodyOf, file_with as file_with_body};
+ghost use Rattle.bx_audit_bodies.specs.Parts.{IsPartWith};
 ghost use Rattle.bx_audit_bodies.specs.Pieces.{IsPieceEntry};
+ghost use Rattle.bx_audit_bodies.specs.declared.pieces.Piece.{Piece as Part};
 ghost use Rattle.bx_audit_bodies.specs.Reading.{AreEntriesApart};
 ghost use Rattle.bx_audit_trees.specs.declared.error.AuditError.TheVariants.{Fault as DiskFailed};
 ghost use Rattle.bx_audit_trees.specs.Errors.{IfTorn, Counts};
+ghost use Rattle.bx_audit_trees.specs.Leading.{IsLedTo};
 ghost use Rattle.bx_audit_trees.specs.Shown.{Shows};
 ghost use Rattle.bx_layout.specs.Inodes.{IsInode};
 ghost use Rattle.bx_tree_files.specs.declared.file.File.{File as Kept};
@@ -42,6 +45,8 @@ fn pieces_under<B: Blocks>(
     ensures ok { (chunks : Chunks) → Shows (B.tells blocks.old) areas (B.stands blocks.old) chunks → IfOk result (λ x. HasPieces chunks root x.0.items x.1.items) }
     ensures torn { (chunks : Chunks) → Shows (B.tells blocks.old) areas (B.stands blocks.old) chunks
         → IfTorn result (λ at found wanted. (tree : PageTree) → IsTree chunks root tree → All IsPieceEntry (map_of tree) → ⊥) }
+    ensures led { (chunks : Chunks) → Shows (B.tells blocks.old) areas (B.stands blocks.old) chunks → IfOk result (λ x. (piece : Part) → Contains x.0.items piece → IsLedTo chunks root piece.handle) }
+    ensures leads { (chunks : Chunks) → Shows (B.tells blocks.old) areas (B.stands blocks.old) chunks → IfTorn result (λ at found wanted. IsLedTo chunks root wanted) }
     ensures shows { (chunks : Chunks) → Shows (B.tells blocks.old) areas (B.stands blocks.old) chunks → Shows (B.tells blocks.new) areas (B.stands blocks.new) chunks }
     ensures counts { Counts result (B.faults blocks.old) (B.faults blocks.new) }
     ensures keeps_areas { B.areas blocks.new ≡ B.areas blocks.old }
@@ -74,6 +79,7 @@ pub(crate) fn regular_of<B: Blocks>(
     ensures apart { IfOk result (λ read. IfSome read.file (λ file. AreEntriesApart file.body)) }
     ensures torn { (chunks : Chunks) → Shows (B.tells blocks.old) areas (B.stands blocks.old) chunks
         → IfTorn result (λ at found wanted. (owner : ℕ → Owner) (tree : PageTree) (file : Option Kept) → IsBodyOf chunks owner handle inode.now tree file → ⊥) }
+    ensures part { (chunks : Chunks) → Shows (B.tells blocks.old) areas (B.stands blocks.old) chunks → IfTorn result (λ at found wanted. IsPartWith chunks handle inode.now.tree wanted) }
     ensures shows { (chunks : Chunks) → Shows (B.tells blocks.old) areas (B.stands blocks.old) chunks → Shows (B.tells blocks.new) areas (B.stands blocks.new) chunks }
     ensures counts { Counts result (B.faults blocks.old) (B.faults blocks.new) }
     ensures keeps_areas { B.areas blocks.new ≡ B.areas blocks.old }
@@ -109,6 +115,7 @@ pub(crate) fn directory_of<B: Blocks>(
     ensures apart { IfOk result (λ read. IfSome read.file (λ file. AreEntriesApart file.body)) }
     ensures torn { (chunks : Chunks) → Shows (B.tells blocks.old) areas (B.stands blocks.old) chunks
         → IfTorn result (λ at found wanted. (owner : ℕ → Owner) (tree : PageTree) (file : Option Kept) → IsBodyOf chunks owner handle inode.now tree file → ⊥) }
+    ensures part { (chunks : Chunks) → Shows (B.tells blocks.old) areas (B.stands blocks.old) chunks → IfTorn result (λ at found wanted. IsPartWith chunks handle inode.now.tree wanted) }
     ensures shows { (chunks : Chunks) → Shows (B.tells blocks.old) areas (B.stands blocks.old) chunks → Shows (B.tells blocks.new) areas (B.stands blocks.new) chunks }
     ensures counts { Counts result (B.faults blocks.old) (B.faults blocks.new) }
     ensures keeps_areas { B.areas blocks.new ≡ B.areas blocks.old }
@@ -137,6 +144,7 @@ pub(crate) fn link_of(alloc: Global, handle: u64, inode: &Inode) -> Result<ReadF
     ensures is { IfOk result (λ read. IfSome read.file IsFile) }
     ensures apart { IfOk result (λ read. IfSome read.file (λ file. AreEntriesApart file.body)) }
     ensures torn { (chunks : Chunks) → IfTorn result (λ at found wanted. (owner : ℕ → Owner) (tree : PageTree) (file : Option Kept) → IsBodyOf chunks owner handle inode.now tree file → ⊥) }
+    ensures part { IfTorn result (λ at found wanted. wanted ≡ handle) }
     ensures no_fault { IsErrOf result DiskFailed → ⊥ }
 {
     if inode.tree != 0 {
@@ -167,6 +175,7 @@ pub(crate) fn dead_of<B: Blocks>(
     ensures apart { IfOk result (λ read. IfSome read.file (λ file. AreEntriesApart file.body)) }
     ensures torn { (chunks : Chunks) → Shows (B.tells blocks.old) areas (B.stands blocks.old) chunks
         → IfTorn result (λ at found wanted. (owner : ℕ → Owner) (tree : PageTree) (file : Option Kept) → IsBodyOf chunks owner handle inode.now tree file → ⊥) }
+    ensures part { (chunks : Chunks) → Shows (B.tells blocks.old) areas (B.stands blocks.old) chunks → IfTorn result (λ at found wanted. IsPartWith chunks handle inode.now.tree wanted) }
     ensures shows { (chunks : Chunks) → Shows (B.tells blocks.old) areas (B.stands blocks.old) chunks → Shows (B.tells blocks.new) areas (B.stands blocks.new) chunks }
     ensures counts { Counts result (B.faults blocks.old) (B.faults blocks.new) }
     ensures keeps_areas { B.areas blocks.new ≡ B.areas blocks.old }

@@ -15,6 +15,7 @@ ghost use Rattle.bx_overlay.specs.Refusals.{IsBreak, UnlessFault};
 use crate::blocks::tree_in;
 use crate::links::block_in;
 use crate::listing::Listing;
+use crate::walks::walked_in;
 use bx_audit_links::{WrongFile, wrong_file};
 use bx_base::Raw;
 use bx_disk::Rack;
@@ -76,7 +77,8 @@ fn listed_by<R: Rack>(
     refused_disks_show_no_tree();
     one_first_label();
     let read = read_disks(alloc, rack, state)?;
-    let tree = tree_in(alloc, rack, &read)?;
+    let walked = walked_in(alloc, rack, &read)?;
+    let tree = tree_in(alloc, rack, &read, walked)?;
     let text = text_of(alloc, rack, &read, &tree)?;
     Ok(Listing {
         text,

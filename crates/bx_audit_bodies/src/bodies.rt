@@ -52,6 +52,7 @@ fn pieces_under<B: Blocks>(
     ensures keeps_areas { B.areas blocks.new ≡ B.areas blocks.old }
     ensures keeps_lender { B.lender blocks.new ≡ B.lender blocks.old }
     ensures keeps_ready { B.ready blocks.new }
+    ensures keeps_telling { B.tells blocks.old → B.tells blocks.new }
 {
     let tree = tree_under(alloc, blocks, areas, root)?;
     let Some(pieces) = pieces_of(alloc, &tree)? else {
@@ -85,6 +86,7 @@ pub(crate) fn regular_of<B: Blocks>(
     ensures keeps_areas { B.areas blocks.new ≡ B.areas blocks.old }
     ensures keeps_lender { B.lender blocks.new ≡ B.lender blocks.old }
     ensures keeps_ready { B.ready blocks.new }
+    ensures keeps_telling { B.tells blocks.old → B.tells blocks.new }
 {
     if inode.size > MOST_BYTES {
         return Err(torn_at(handle));
@@ -121,6 +123,7 @@ pub(crate) fn directory_of<B: Blocks>(
     ensures keeps_areas { B.areas blocks.new ≡ B.areas blocks.old }
     ensures keeps_lender { B.lender blocks.new ≡ B.lender blocks.old }
     ensures keeps_ready { B.ready blocks.new }
+    ensures keeps_telling { B.tells blocks.old → B.tells blocks.new }
 {
     if inode.nlink >= inode.next {
         return Err(torn_at(handle));
@@ -181,6 +184,7 @@ pub(crate) fn dead_of<B: Blocks>(
     ensures keeps_areas { B.areas blocks.new ≡ B.areas blocks.old }
     ensures keeps_lender { B.lender blocks.new ≡ B.lender blocks.old }
     ensures keeps_ready { B.ready blocks.new }
+    ensures keeps_telling { B.tells blocks.old → B.tells blocks.new }
 {
     if inode.tree == 0 {
         return Ok(ReadFile {

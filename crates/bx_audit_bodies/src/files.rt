@@ -50,6 +50,7 @@ pub fn file_of<B: Blocks>(
     ensures keeps_areas { B.areas blocks.new ≡ B.areas blocks.old }
     ensures keeps_lender { B.lender blocks.new ≡ B.lender blocks.old }
     ensures keeps_ready { B.ready blocks.new }
+    ensures keeps_telling { B.tells blocks.old → B.tells blocks.new }
 {
     let inode = inode_at(alloc, blocks, areas, handle)?;
     match inode.kind {

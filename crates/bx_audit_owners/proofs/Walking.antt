@@ -8,8 +8,8 @@ use Rattle.bx_audit_bodies.specs.Reading.{IsReadAs, IsStored}
 use Rattle.bx_audit_bodies.proofs.Members.{contains_map, from_map}
 use Rattle.bx_audit_owners.specs.declared.holders.Holder.{Holder}
 use Rattle.bx_audit_owners.specs.declared.holders.Holder.TheVariants.{File as OfFile, Dead as OfDead, Page as OfPage, Piece as OfPiece}
-use Rattle.bx_audit_owners.specs.Found.{HaveFiles, IsFound, IsInode}
-use Rattle.bx_audit_owners.specs.Holding.{Adds, Clashes, Holdings, holder_by}
+use Rattle.bx_audit_owners.specs.Found.{IsFound, IsInode}
+use Rattle.bx_audit_owners.specs.Holding.{Adds, Holdings, holder_by}
 use Rattle.bx_audit_owners.specs.Walks.{HaveNoTree, HaveTree, IsFileAt, IsMet, IsTaken, IsUnread, IsWalked, IsWrongMet, Meets, Again, New, Root, Named}
 use Rattle.bx_audit_owners.proofs.Founds.{none_found}
 use Rattle.bx_audit_owners.proofs.Holding.{one_there}

@@ -34,6 +34,7 @@ pub fn walk<B: Blocks>(alloc: Global, blocks: &mut B, areas: u16) -> Result<Foun
     ensures keeps_areas { B.areas blocks.new ≡ B.areas blocks.old }
     ensures keeps_lender { B.lender blocks.new ≡ B.lender blocks.old }
     ensures keeps_ready { B.ready blocks.new }
+    ensures keeps_telling { B.tells blocks.old → B.tells blocks.new }
 {
     let mut found = Found {
         holders: Holders::new(alloc),
@@ -77,6 +78,7 @@ fn meet<B: Blocks>(
     ensures keeps_areas { B.areas blocks.new ≡ B.areas blocks.old }
     ensures keeps_lender { B.lender blocks.new ≡ B.lender blocks.old }
     ensures keeps_ready { B.ready blocks.new }
+    ensures keeps_telling { B.tells blocks.old → B.tells blocks.new }
 {
     if is_file(&found.holders, handle)? {
         return Ok(());

@@ -39,6 +39,7 @@ pub fn level_from<B: Blocks>(
     ensures keeps_areas { B.areas blocks.new ≡ B.areas blocks.old }
     ensures keeps_lender { B.lender blocks.new ≡ B.lender blocks.old }
     ensures keeps_ready { B.ready blocks.new }
+    ensures keeps_telling { B.tells blocks.old → B.tells blocks.new }
 {
     let mut pages = Vec::new(alloc);
     let mut handle = first;
@@ -84,6 +85,7 @@ fn page_of<B: Blocks>(
     ensures keeps_areas { B.areas blocks.new ≡ B.areas blocks.old }
     ensures keeps_lender { B.lender blocks.new ≡ B.lender blocks.old }
     ensures keeps_ready { B.ready blocks.new }
+    ensures keeps_telling { B.tells blocks.old → B.tells blocks.new }
 {
     let page = page_at(alloc, blocks, areas, handle)?;
     let next = way_of(alloc, &page, handle, level, begins)?;

@@ -112,6 +112,7 @@ pub fn tree_under<B: Blocks>(
     ensures keeps_areas { B.areas blocks.new ≡ B.areas blocks.old }
     ensures keeps_lender { B.lender blocks.new ≡ B.lender blocks.old }
     ensures keeps_ready { B.ready blocks.new }
+    ensures keeps_telling { B.tells blocks.old → B.tells blocks.new }
 {
     let (top, height) = root_page(alloc, blocks, areas, root)?;
     let mut levels = Vec::new(alloc);
@@ -149,6 +150,7 @@ fn root_page<B: Blocks>(
     ensures keeps_areas { B.areas blocks.new ≡ B.areas blocks.old }
     ensures keeps_lender { B.lender blocks.new ≡ B.lender blocks.old }
     ensures keeps_ready { B.ready blocks.new }
+    ensures keeps_telling { B.tells blocks.old → B.tells blocks.new }
 {
     let page = page_at(alloc, blocks, areas, root)?;
     let level = page.level();
@@ -187,6 +189,7 @@ fn level_below<B: Blocks>(
     ensures keeps_areas { B.areas blocks.new ≡ B.areas blocks.old }
     ensures keeps_lender { B.lender blocks.new ≡ B.lender blocks.old }
     ensures keeps_ready { B.ready blocks.new }
+    ensures keeps_telling { B.tells blocks.old → B.tells blocks.new }
 {
     let first = first_child(above)?;
     let pages = level_from(alloc, blocks, areas, level, first)?;

@@ -1,14 +1,10 @@
-use Rattle.std.proofs.Common.{Err, ◌≡◌, ℕ, ◌+◌, ◌<◌, ◌⊎◌, ⊎_elim, false, None, arith, length, refl, sym, ap, subst, ◌∙◌, List, []}
+use Rattle.std.proofs.Common.{Err, ◌≡◌, ℕ, ◌+◌, ◌<◌, ◌⊎◌, ⊎_elim, false, None, arith, length, refl, sym, ap, subst, ◌∙◌}
 use Rattle.std.specs.Prelude.{◌≢◌, slice_index_or}
 use Rattle.bx_audit_owners.specs.declared.slots.UsedSlot.{UsedSlot}
-use Rattle.bx_audit_owners.specs.Found.{AreOrdered, IsFound}
-use Rattle.bx_audit_owners.specs.Holding.{Holdings, holdings_of}
-use Rattle.bx_audit_owners.proofs.Founds.{none_found}
+use Rattle.bx_audit_owners.specs.Holding.{holdings_of}
 use Rattle.std.proofs.lemmas.Result.{err_from_is_err_and}
 use Rattle.bx_audit_trees.proofs.Ends.{if_torn}
-use Rattle.bx_audit_owners.proofs.Holding.{none_held, one_there}
-use Rattle.bx_audit_owners.proofs.InOrder.{none_ordered}
-use Rattle.bx_tree_files.specs.declared.file.File.{File}
+use Rattle.bx_audit_owners.proofs.Holding.{one_there}
 use Rattle.bx_audit_owners.proofs.found.read_inodes.Goals as goal
 
 no_slot : UsedSlot

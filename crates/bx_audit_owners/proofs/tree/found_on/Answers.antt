@@ -3,7 +3,6 @@ use Rattle.std.proofs.lemmas.Result.{err_from_is_err_and}
 use Rattle.bx_audit_owners.specs.Holding.{holdings_of}
 use Rattle.bx_audit_owners.proofs.Wholes.{all_named, all_read_of, have_files, held, root_shows}
 use Rattle.bx_audit_owners.proofs.Told.{wrong_slot}
-use Rattle.bx_audit_owners.proofs.Ends.{both_torn}
 use Rattle.bx_audit_trees.proofs.Ends.{if_torn}
 use Rattle.bx_truth.specs.Chunks.{chunks_of}
 use Rattle.bx_audit_owners.proofs.tree.found_on.Goals as goal

@@ -7,7 +7,7 @@ use Rattle.bx_audit_owners.specs.declared.holders.Holder.{Holder}
 use Rattle.bx_audit_owners.specs.declared.holders.Holder.TheVariants.{File as OfFile}
 use Rattle.bx_audit_owners.specs.Found.{IsFound}
 use Rattle.bx_audit_owners.specs.Holding.{Adds, Clashes, holdings_of}
-use Rattle.bx_audit_owners.specs.Walks.{Again, New}
+use Rattle.bx_audit_owners.specs.Walks.{New}
 use Rattle.bx_audit_owners.proofs.Ends.{both_torn}
 use Rattle.bx_audit_owners.proofs.Steps.{with_inode}
 use Rattle.bx_audit_owners.proofs.Walking.{dead_has_none, file_named, other_has_none}

@@ -1,11 +1,9 @@
-use Rattle.std.proofs.Common.{◌≡◌, ℕ, ◌+◌, ◌<◌, ◌≤◌, ◌⊎◌, ⊎_elim, arith, Err, length, get_or, refl, sym, ap, subst, ◌∙◌, List, [], ◌∷◌, ◌++◌, Some, None}
+use Rattle.std.proofs.Common.{◌≡◌, ℕ, ◌+◌, ◌<◌, arith, Err, length, get_or, refl, sym, ap, subst, ◌∙◌, List, [], ◌∷◌, ◌++◌, None}
 use Rattle.std.specs.Prelude.{Contains}
 use Rattle.std.proofs.lemmas.Result.{err_from_is_err_and}
-use Rattle.bx_audit_owners.specs.declared.holders.Holder.TheVariants.{File as OfFile}
-use Rattle.bx_audit_owners.specs.Found.{AreOrdered, IsFound}
+use Rattle.bx_audit_owners.specs.Found.{AreOrdered}
 use Rattle.bx_audit_owners.specs.Holding.{Holdings, holdings_of}
-use Rattle.bx_audit_owners.specs.Walks.{IsFileAt, IsMet, Meets, Root}
-use Rattle.bx_audit_owners.proofs.Founds.{none_found}
+use Rattle.bx_audit_owners.specs.Walks.{IsFileAt}
 use Rattle.bx_audit_owners.proofs.Holding.{none_held, one_there}
 use Rattle.bx_audit_owners.proofs.InOrder.{none_ordered}
 use Rattle.bx_audit_owners.proofs.Walking.{IsUnderWay, all_walked, at_place, done_more, goes_on, for_one, longer, nothing_yet, place_done, still_there}
@@ -19,6 +17,7 @@ loop-at-init g c =
     let one : c.push.new.self.items ≡ root_handle ∷ [] = c.in_ok-push.ensures.items ∙ ap (λ (l : List ℕ). l ++ root_handle ∷ []) c.new-met.ensures.items in
     record {
       ready = c.requires.ready;
+      telling = λ tells. tells;
       none_rose = refl;
       areas_are = refl;
       lender_is = refl;
@@ -61,6 +60,7 @@ loop-at-preserved g c =
     let step = c.in_ok-meet.ensures.step in
     record {
       ready = c.in_ok-meet.ensures.keeps_ready;
+      telling = λ tells. c.in_ok-meet.ensures.keeps_telling (c.loop-at.invariant.telling tells);
       none_rose = c.in_ok-meet.ensures.counts ∙ c.loop-at.invariant.none_rose;
       areas_are = c.in_ok-meet.ensures.keeps_areas ∙ c.loop-at.invariant.areas_are;
       lender_is = c.in_ok-meet.ensures.keeps_lender ∙ c.loop-at.invariant.lender_is;

@@ -46,6 +46,7 @@ loop-begins-preserved g c =
     subst (λ (k : List ℕ). IsBelow k c.in-Some.high) c.bytes.ensures (of_some (λ (n : ℕ × List ℕ). IsBelow c.bytes.result.now n.1) c.in_ok-page.next next c.in-Some.is c.in_ok-page.ensures.above) in
     record {
       ready = c.in_ok-page.ensures.keeps_ready;
+      telling = λ tells. c.in_ok-page.ensures.keeps_telling (c.loop-begins.invariant.telling tells);
       none_rose = c.in_ok-page.ensures.counts ∙ c.loop-begins.invariant.none_rose;
       areas_are = c.in_ok-page.ensures.keeps_areas ∙ c.loop-begins.invariant.areas_are;
       lender_is = c.in_ok-page.ensures.keeps_lender ∙ c.loop-begins.invariant.lender_is;

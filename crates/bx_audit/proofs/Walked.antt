@@ -1,20 +1,20 @@
 -- The walk from the root over blocks that are read.
-use Rattle.std.proofs.Common.{◌≡◌, ◌⊎◌, inl, inr, ℕ, ◌≤◌, refl, sym, ◌∙◌, subst, Result, Ok, Err, IfOk}
-use Rattle.std.specs.Prelude.{IfErr}
-use Rattle.bx_audit.specs.Blocks.{StandForNoTree}
-use Rattle.bx_audit.specs.Walked.{AreHeaded, IsToldOf, IsWrongFromRoot}
+use Rattle.std.proofs.Common.{◌≡◌, ℕ, ◌≤◌, subst, Result, Ok, Err}
+use Rattle.bx_audit.specs.Blocks.{StandForNoTree, blocks_of}
+use Rattle.bx_audit.specs.Walked.{AreHeaded}
 use Rattle.bx_audit_owners.specs.declared.found.Found.{Found}
-use Rattle.bx_audit_owners.specs.Walks.{IsStarted, IsWrongMet}
+use Rattle.bx_audit_owners.specs.Holding.{holdings_of}
+use Rattle.bx_audit_owners.specs.Walks.{IsStarted, IsWalked, IsWrongMet}
+use Rattle.bx_disk.specs.Disks.{Disks}
+use Rattle.bx_overlay.specs.declared.volume_disks.VolumeDisks.{VolumeDisks}
 use Rattle.bx_audit_owners.proofs.Walking.{wrong_met}
 use Rattle.bx_audit_owners.proofs.Wholes.{have_tree, tree_shows}
 use Rattle.bx_audit_trees.specs.declared.error.AuditError.{AuditError as TreeError}
 use Rattle.bx_audit_trees.specs.declared.error.AuditError.TheVariants.{Torn as TornTree, Fault as TreeFault, OutOfMemory as OutOfTreeMemory}
-use Rattle.bx_audit_trees.specs.Errors.{IfTorn}
-use Rattle.bx_audit_trees.specs.Shown.{NamesBlock, Shows}
+use Rattle.bx_audit_trees.specs.Errors.{IfTorn, IfTornError}
+use Rattle.bx_audit_trees.specs.Shown.{Shows}
 use Rattle.bx_homes.specs.Slots.{StaysSo}
 use Rattle.bx_layout.specs.declared.block.Block.{Block}
-use Rattle.bx_overlay.specs.declared.error.AuditError.{AuditError}
-use Rattle.bx_overlay.specs.declared.error.AuditError.TheVariants.{Torn}
 use Rattle.bx_truth.specs.Chunks.{block_at, chunks_of}
 use Rattle.bx_truth.specs.PageTrees.{Chunks}
 
@@ -43,3 +43,13 @@ none_met told areas stands few (Err (TornTree at found wanted)) tells one torn =
     wrong_met (chunks_of areas truth) wanted (torn (chunks_of areas truth) (tree_shows areas truth few tree stand is told stands tells are one)) tree (have_tree areas truth few tree stand is)
 none_met told areas stands few (Err TreeFault) tells one torn = tt
 none_met told areas stands few (Err OutOfTreeMemory) tells one torn = tt
+
+-- and by disks that stay
+pub started_on : (read : VolumeDisks) (before now : Disks) (found : Found) → now ≡ before
+    → ((chunks : Chunks) → AreHeaded read.members.areas (blocks_of before read) chunks → IsWalked chunks (holdings_of found.holders) found.files)
+    → IsStarted (Unit {0}) read.members.areas (blocks_of now read) found
+started_on read before now found same walked = λ chunks headed. (walked chunks (subst (λ (d : Disks). AreHeaded read.members.areas (blocks_of d read) chunks) same headed)).found
+
+-- what holds of an error that is a torn block
+pub of_torn : (P : ℕ → ℕ → ℕ → Type 0) (error : TreeError) (at found wanted : ℕ) → error ≡ TornTree at found wanted → IfTornError error P → P at found wanted
+of_torn P error at found wanted is holds = subst (λ (e : TreeError). IfTornError e P) is holds

@@ -1,5 +1,5 @@
 -- What the walk from the root says of the blocks of a volume.
-use Rattle.std.specs.Prelude.{◌≡◌, ◌≢◌, ℕ, List, Contains}
+use Rattle.std.specs.Prelude.{◌≡◌, ℕ, List}
 use Rattle.bx_audit_owners.specs.Holding.{Holdings}
 use Rattle.bx_audit_owners.specs.Walks.{IsWalked, IsWrongMet}
 use Rattle.bx_audit_trees.specs.Shown.{IsOfSlot, Shows}

@@ -4,13 +4,13 @@ use Rattle.bx_audit.specs.Audited.{IsRefusal, NamesFile}
 use Rattle.bx_audit.specs.Blocks.{IsTornBlock, StandForNoTree, blocks_of}
 use Rattle.bx_audit.proofs.Shown.{are_open, if_err, no_file_tree, none_stands, refused, stand_for, wrong_blocks}
 use Rattle.bx_audit.specs.Walked.{AreHeaded, IsRightFromRoot, IsWrongFromRoot}
+use Rattle.bx_audit.proofs.Walked.{started_on}
 use Rattle.bx_audit_owners.specs.Holding.{holdings_of}
 use Rattle.bx_disk.specs.Disks.{Disks}
 use Rattle.bx_homes.specs.Slots.{AreBlocks}
 use Rattle.bx_model.specs.FileTrees.{IsFileTree}
 use Rattle.bx_overlay.specs.declared.error.AuditError.{AuditError}
 use Rattle.bx_overlay.specs.Refusals.{IsBreak}
-use Rattle.bx_truth.specs.PageTrees.{Chunks}
 use Rattle.bx_truth.specs.Stands.{StandsFor}
 use Rattle.bx_views.specs.Truths.{Truth}
 use Rattle.bx_audit.proofs.audits.listed_by.Goals as goal
@@ -40,7 +40,7 @@ returns-in_err-tree-clause-err g c = λ tells.
       files = c.in_ok-walked.walked.files;
       walked = λ chunks headed. c.in_ok-walked.ensures.ok keeps chunks (subst (λ (d : Disks). AreHeaded read.members.areas (blocks_of d read) chunks) (sym c.in_ok-read.ensures.stays) headed);
     } in
-    let started = λ (chunks : Chunks) headed. (c.in_ok-walked.ensures.ok keeps chunks (subst (λ (d : Disks). AreHeaded read.members.areas (blocks_of d read) chunks) c.in_ok-walked.ensures.stays headed)).found in
+    let started = started_on read _ _ c.in_ok-walked.walked c.in_ok-walked.ensures.stays (c.in_ok-walked.ensures.ok keeps) in
     let keeps_then = c.in_ok-walked.ensures.keeps_telling keeps in
     let same_then = c.in_ok-walked.ensures.stays ∙ c.in_ok-read.ensures.stays in
     let error = c.in_err-tree.field-0.0 in
@@ -64,7 +64,7 @@ returns-in_err-text-clause-err g c = λ tells.
       files = c.in_ok-walked.walked.files;
       walked = λ chunks headed. c.in_ok-walked.ensures.ok keeps chunks (subst (λ (d : Disks). AreHeaded read.members.areas (blocks_of d read) chunks) (sym c.in_ok-read.ensures.stays) headed);
     } in
-    let started = λ (chunks : Chunks) headed. (c.in_ok-walked.ensures.ok keeps chunks (subst (λ (d : Disks). AreHeaded read.members.areas (blocks_of d read) chunks) c.in_ok-walked.ensures.stays headed)).found in
+    let started = started_on read _ _ c.in_ok-walked.walked c.in_ok-walked.ensures.stays (c.in_ok-walked.ensures.ok keeps) in
     let keeps_then = c.in_ok-walked.ensures.keeps_telling keeps in
     let same_then = c.in_ok-walked.ensures.stays ∙ c.in_ok-read.ensures.stays in
     let error = c.in_err-text.field-0.0 in
@@ -98,7 +98,7 @@ returns-clause-ok g c = λ tells.
       files = c.in_ok-walked.walked.files;
       walked = λ chunks headed. c.in_ok-walked.ensures.ok keeps chunks (subst (λ (d : Disks). AreHeaded read.members.areas (blocks_of d read) chunks) (sym c.in_ok-read.ensures.stays) headed);
     } in
-    let started = λ (chunks : Chunks) headed. (c.in_ok-walked.ensures.ok keeps chunks (subst (λ (d : Disks). AreHeaded read.members.areas (blocks_of d read) chunks) c.in_ok-walked.ensures.stays headed)).found in
+    let started = started_on read _ _ c.in_ok-walked.walked c.in_ok-walked.ensures.stays (c.in_ok-walked.ensures.ok keeps) in
     let keeps_then = c.in_ok-walked.ensures.keeps_telling keeps in
     let same_then = c.in_ok-walked.ensures.stays ∙ c.in_ok-read.ensures.stays in
     let any = subst (λ (d : Disks). (truth : Truth) → AreBlocks read.members.areas (blocks_of d read) truth → StandsFor read.members.areas truth tree) same_then

@@ -1,4 +1,4 @@
-use Rattle.std.proofs.Common.{◌≡◌, ℕ, IfOk, sym, subst, ◌∙◌}
+use Rattle.std.proofs.Common.{ℕ, IfOk, sym, subst, ◌∙◌}
 use Rattle.bx_audit.specs.Walked.{IsToldOf}
 use Rattle.bx_layout.specs.declared.block.Block.{Block}
 use Rattle.bx_overlay.proofs.Moved.{moved}

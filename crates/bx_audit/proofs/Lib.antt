@@ -2,3 +2,4 @@ pub mod Named
 pub mod Trees
 pub mod Shown
 pub mod Volumes
+pub mod Walked

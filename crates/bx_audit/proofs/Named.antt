@@ -1,7 +1,8 @@
 -- The file that is to blame is told of.
 use Rattle.std.proofs.Common.{◌≡◌, ℕ, Bool, true, false, refl}
 use Rattle.std.specs.Prelude.{◌↔◌, IsTrue, if◌then◌else◌}
-use Rattle.bx_audit.specs.Audited.{IsToldOf, NamesFile}
+use Rattle.bx_audit.specs.Audited.{NamesFile}
+use Rattle.bx_audit.specs.Walked.{IsToldOf}
 use Rattle.bx_audit_links.specs.Right.{IsNamedOrRoot, IsToBlame}
 use Rattle.bx_layout.specs.declared.block.Block.{Block}
 use Rattle.bx_model.specs.declared.tree.Tree.{Tree}

@@ -1,13 +1,13 @@
 -- What an audit says of the disks of a volume.
-use Rattle.std.specs.Prelude.{◌≡◌, ◌⊎◌, ◌<◌, ℕ, List}
+use Rattle.std.specs.Prelude.{◌≡◌, ◌⊎◌, ℕ, List}
 use Rattle.bx_audit.specs.declared.listing.Listing.{Listing}
 use Rattle.bx_audit.specs.Blocks.{IsTornBlock, blocks_of}
+use Rattle.bx_audit.specs.Walked.{IsRightFromRoot, IsToldOf, IsWrongFromRoot}
 use Rattle.bx_audit_links.specs.Right.{IsNamedOrRoot, IsToBlame}
 use Rattle.bx_base.specs.declared.names.Point.{Point}
 use Rattle.bx_disk.specs.Disks.{Disks}
 use Rattle.bx_global.specs.declared.state.GlobalState.{GlobalState}
-use Rattle.bx_handles.specs.Handles.{parts_of}
-use Rattle.bx_homes.specs.Slots.{AreBlocks, HasHandle}
+use Rattle.bx_homes.specs.Slots.{AreBlocks}
 use Rattle.bx_layout.specs.declared.block.Block.{Block}
 use Rattle.bx_layout.specs.declared.label.Label.{Label}
 use Rattle.bx_model.specs.declared.tree.Tree.{Tree}
@@ -18,7 +18,6 @@ use Rattle.bx_logs.specs.declared.members.Members.{Members}
 use Rattle.bx_overlay.specs.declared.volume_disks.VolumeDisks.{VolumeDisks}
 use Rattle.bx_logs.specs.Logs.{AreLogs, points_in}
 use Rattle.bx_overlay.specs.Reading.{AreMembers, IsRead, IsRefused}
-use Rattle.bx_truth.specs.Chunks.{block_at}
 use Rattle.bx_truth.specs.Stands.{StandsFor}
 use Rattle.bx_views.specs.Truths.{Truth}
 use Rattle.bx_volume.specs.Images.{ImageStandsFor, IsFirstLabel}
@@ -49,16 +48,6 @@ pub record IsListed (disks : Disks) (state : GlobalState) (listed : Listing) : T
   pub text_is : listed.text ≡ listing tree
   pub doubt : AreOpen disks state listed.doubt
 
--- the handle is of a slot of the volume
-abbrev pub IsOfSlot : ℕ → ℕ → Type 0
-IsOfSlot areas handle = ((parts_of handle).area < areas) × ((parts_of handle).slot < 960)
-
--- What is told of a handle: the block of its slot, and the handle in its header, 0 where no block is there; block 0 and the handle itself for
--- one of no slot of the volume.
-pub record IsToldOf (areas : ℕ) (stands : ℕ → Block → Type 0) (handle at found : ℕ) : Type 0 where
-  pub slot : IsOfSlot areas handle → (at ≡ block_at handle) × HasHandle stands at found
-  pub no_slot : (IsOfSlot areas handle → ⊥) → (at ≡ 0) × (found ≡ handle)
-
 -- A file is told of that is to blame for files that are no file tree. Its handle is wanted where it is the root's or an entry names it.
 pub record NamesFile (areas : ℕ) (stands : ℕ → Block → Type 0) (tree : Tree) (error : AuditError) : Type 0 where
   pub handle : ℕ
@@ -79,10 +68,16 @@ pub record IsWrongTree (areas : ℕ) (stands : ℕ → Block → Type 0) (error 
   pub tree_stands : StandsFor areas truth tree
   pub names : NamesFile areas stands tree error
 
--- why blocks are refused, and what is told of the one that is torn: it is the first, slot by slot, that isn't as the slots ask; or slots are
--- right, and files aren't as they should be; or files are, and links aren't
+-- What the walk from the root meets is as it should be, and still a block is wrong: it is the first, slot by slot, that isn't as the slots ask;
+-- or slots are right, and chunks aren't those of files; or they are, and links aren't right.
+pub record IsTornElse (areas : ℕ) (stands : ℕ → Block → Type 0) (error : AuditError) : Type 0 where
+  pub right : IsRightFromRoot areas stands
+  pub why : IsTornBlock areas stands error ⊎ IsWrongTree areas stands error
+
+-- Why blocks are refused, and what is told of the one that is torn: the walk from the root meets it; or, where nothing that it meets is wrong,
+-- another one.
 abbrev pub IsTorn : ℕ → (ℕ → Block → Type 0) → AuditError → Type 0
-IsTorn areas stands error = IsTornBlock areas stands error ⊎ IsWrongTree areas stands error
+IsTorn areas stands error = IsWrongFromRoot areas stands error ⊎ IsTornElse areas stands error
 
 -- labels, members and logs are those of a volume, and a block is wrong
 pub record HasWrongBlocks (disks : Disks) (state : GlobalState) (error : AuditError) : Type 0 where

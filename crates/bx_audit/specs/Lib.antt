@@ -1,2 +1,3 @@
 pub mod Audited
 pub mod Blocks
+pub mod Walked

@@ -15,6 +15,7 @@ ghost use Rattle.bx_overlay.specs.Refusals.{IsBreak, UnlessFault};
 use crate::blocks::tree_in;
 use crate::links::block_in;
 use crate::listing::Listing;
+use crate::walks::walked_in;
 use bx_audit_links::{WrongFile, wrong_file};
 use bx_base::Raw;
 use bx_disk::Rack;
@@ -28,15 +29,17 @@ use std::alloc::Global;
 
 /// Reads the file tree that a volume's disks hold in a global state, and lists it. Ok says that there is a file tree that the disks stand
 /// for as they read, and that this is its listing; a refusal, that there is none. Refused are, in this order: disks without a label,
-/// without a state of theirs, without a source, or with a source that has no label; logs that aren't there or that clash; then the
-/// first block that isn't as its area's slots ask; inodes, in the order of their handles, that aren't as they should be, or whose
-/// chunks have another owner; chunks that nothing has, and marks of dead inodes that are wrong; and at last links and parents.
+/// without a state of theirs, without a source, or with a source that has no label; logs that aren't there or that clash; then what the
+/// walk from the root meets, over directories and files, and that isn't as it should be or has two owners; then, where nothing that it
+/// meets is so, the first block that isn't as its area's slots ask; inodes that the walk didn't meet, in the order of their handles, that
+/// aren't as they should be, or whose chunks have another owner; chunks that nothing has, and marks of dead inodes that are wrong; and at
+/// last links and parents.
 ///
-/// Of a block that is torn its number is told, the handle that is `found` in its header, and the one that is `wanted`: that of its slot, or
-/// the one by which the block is named; 0 where nothing names it.
+/// Of a block that is torn its number is told, the handle that is `found` in its header, and the one that is `wanted`: the one by which the
+/// block is named, or that of its slot; 0 where nothing names it.
 ///
-/// The disks stay as they were. Each block is read for its slot, and each chunk of a tree at most twice besides: for its kind, and by the
-/// inode that has it; a block that is torn is read once more.
+/// The disks stay as they were. Each chunk that the walk meets is read once for it, and each block once for its slot; what the walk doesn't
+/// meet at most twice besides; a block that is torn is read once more.
 pub fn audit<R: Rack>(
     alloc: Global,
     rack: &mut R,
@@ -76,7 +79,8 @@ fn listed_by<R: Rack>(
     refused_disks_show_no_tree();
     one_first_label();
     let read = read_disks(alloc, rack, state)?;
-    let tree = tree_in(alloc, rack, &read)?;
+    let walked = walked_in(alloc, rack, &read)?;
+    let tree = tree_in(alloc, rack, &read, walked)?;
     let text = text_of(alloc, rack, &read, &tree)?;
     Ok(Listing {
         text,

@@ -6,6 +6,7 @@ mod blocks;
 mod laws;
 mod links;
 mod listing;
+mod walks;
 
 pub use audits::audit;
 pub use laws::a_volume_is_listed;

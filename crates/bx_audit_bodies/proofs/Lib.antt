@@ -8,3 +8,4 @@ pub mod PiecesRead
 pub mod Followers
 pub mod Cases
 pub mod ReadFiles
+pub mod PartsLed

@@ -5,3 +5,4 @@ pub mod Contents
 pub mod Lists
 pub mod Bodies
 pub mod Reading
+pub mod Parts

@@ -1,11 +1,14 @@
 //! What inodes of each kind have.
 
-ghost use Rattle.std.specs.Prelude.{◌≡◌, ◌≤◌, ◌<◌, ◌^◌, ℕ, All, Option, IfOk, IfSome, IsErrOf};
+ghost use Rattle.std.specs.Prelude.{◌≡◌, ◌≤◌, ◌<◌, ◌^◌, ℕ, All, Contains, Option, IfOk, IfSome, IsErrOf};
 ghost use Rattle.bx_audit_bodies.specs.Bodies.{HasBodyOf, HasPieces, IsBodyOf, file_with as file_with_body};
+ghost use Rattle.bx_audit_bodies.specs.Parts.{IsPartWith};
 ghost use Rattle.bx_audit_bodies.specs.Pieces.{IsPieceEntry};
+ghost use Rattle.bx_audit_bodies.specs.declared.pieces.Piece.{Piece as Part};
 ghost use Rattle.bx_audit_bodies.specs.Reading.{AreEntriesApart};
 ghost use Rattle.bx_audit_trees.specs.declared.error.AuditError.TheVariants.{Fault as DiskFailed};
 ghost use Rattle.bx_audit_trees.specs.Errors.{IfTorn, Counts};
+ghost use Rattle.bx_audit_trees.specs.Leading.{IsLedTo};
 ghost use Rattle.bx_audit_trees.specs.Shown.{Shows};
 ghost use Rattle.bx_layout.specs.Inodes.{IsInode};
 ghost use Rattle.bx_tree_files.specs.declared.file.File.{File as Kept};
@@ -42,11 +45,14 @@ fn pieces_under<B: Blocks>(
     ensures ok { (chunks : Chunks) → Shows (B.tells blocks.old) areas (B.stands blocks.old) chunks → IfOk result (λ x. HasPieces chunks root x.0.items x.1.items) }
     ensures torn { (chunks : Chunks) → Shows (B.tells blocks.old) areas (B.stands blocks.old) chunks
         → IfTorn result (λ at found wanted. (tree : PageTree) → IsTree chunks root tree → All IsPieceEntry (map_of tree) → ⊥) }
+    ensures led { (chunks : Chunks) → Shows (B.tells blocks.old) areas (B.stands blocks.old) chunks → IfOk result (λ x. (piece : Part) → Contains x.0.items piece → IsLedTo chunks root piece.handle) }
+    ensures leads { (chunks : Chunks) → Shows (B.tells blocks.old) areas (B.stands blocks.old) chunks → IfTorn result (λ at found wanted. IsLedTo chunks root wanted) }
     ensures shows { (chunks : Chunks) → Shows (B.tells blocks.old) areas (B.stands blocks.old) chunks → Shows (B.tells blocks.new) areas (B.stands blocks.new) chunks }
     ensures counts { Counts result (B.faults blocks.old) (B.faults blocks.new) }
     ensures keeps_areas { B.areas blocks.new ≡ B.areas blocks.old }
     ensures keeps_lender { B.lender blocks.new ≡ B.lender blocks.old }
     ensures keeps_ready { B.ready blocks.new }
+    ensures keeps_telling { B.tells blocks.old → B.tells blocks.new }
 {
     let tree = tree_under(alloc, blocks, areas, root)?;
     let Some(pieces) = pieces_of(alloc, &tree)? else {
@@ -74,11 +80,13 @@ pub(crate) fn regular_of<B: Blocks>(
     ensures apart { IfOk result (λ read. IfSome read.file (λ file. AreEntriesApart file.body)) }
     ensures torn { (chunks : Chunks) → Shows (B.tells blocks.old) areas (B.stands blocks.old) chunks
         → IfTorn result (λ at found wanted. (owner : ℕ → Owner) (tree : PageTree) (file : Option Kept) → IsBodyOf chunks owner handle inode.now tree file → ⊥) }
+    ensures part { (chunks : Chunks) → Shows (B.tells blocks.old) areas (B.stands blocks.old) chunks → IfTorn result (λ at found wanted. IsPartWith chunks handle inode.now.tree wanted) }
     ensures shows { (chunks : Chunks) → Shows (B.tells blocks.old) areas (B.stands blocks.old) chunks → Shows (B.tells blocks.new) areas (B.stands blocks.new) chunks }
     ensures counts { Counts result (B.faults blocks.old) (B.faults blocks.new) }
     ensures keeps_areas { B.areas blocks.new ≡ B.areas blocks.old }
     ensures keeps_lender { B.lender blocks.new ≡ B.lender blocks.old }
     ensures keeps_ready { B.ready blocks.new }
+    ensures keeps_telling { B.tells blocks.old → B.tells blocks.new }
 {
     if inode.size > MOST_BYTES {
         return Err(torn_at(handle));
@@ -109,11 +117,13 @@ pub(crate) fn directory_of<B: Blocks>(
     ensures apart { IfOk result (λ read. IfSome read.file (λ file. AreEntriesApart file.body)) }
     ensures torn { (chunks : Chunks) → Shows (B.tells blocks.old) areas (B.stands blocks.old) chunks
         → IfTorn result (λ at found wanted. (owner : ℕ → Owner) (tree : PageTree) (file : Option Kept) → IsBodyOf chunks owner handle inode.now tree file → ⊥) }
+    ensures part { (chunks : Chunks) → Shows (B.tells blocks.old) areas (B.stands blocks.old) chunks → IfTorn result (λ at found wanted. IsPartWith chunks handle inode.now.tree wanted) }
     ensures shows { (chunks : Chunks) → Shows (B.tells blocks.old) areas (B.stands blocks.old) chunks → Shows (B.tells blocks.new) areas (B.stands blocks.new) chunks }
     ensures counts { Counts result (B.faults blocks.old) (B.faults blocks.new) }
     ensures keeps_areas { B.areas blocks.new ≡ B.areas blocks.old }
     ensures keeps_lender { B.lender blocks.new ≡ B.lender blocks.old }
     ensures keeps_ready { B.ready blocks.new }
+    ensures keeps_telling { B.tells blocks.old → B.tells blocks.new }
 {
     if inode.nlink >= inode.next {
         return Err(torn_at(handle));
@@ -137,6 +147,7 @@ pub(crate) fn link_of(alloc: Global, handle: u64, inode: &Inode) -> Result<ReadF
     ensures is { IfOk result (λ read. IfSome read.file IsFile) }
     ensures apart { IfOk result (λ read. IfSome read.file (λ file. AreEntriesApart file.body)) }
     ensures torn { (chunks : Chunks) → IfTorn result (λ at found wanted. (owner : ℕ → Owner) (tree : PageTree) (file : Option Kept) → IsBodyOf chunks owner handle inode.now tree file → ⊥) }
+    ensures part { IfTorn result (λ at found wanted. wanted ≡ handle) }
     ensures no_fault { IsErrOf result DiskFailed → ⊥ }
 {
     if inode.tree != 0 {
@@ -167,11 +178,13 @@ pub(crate) fn dead_of<B: Blocks>(
     ensures apart { IfOk result (λ read. IfSome read.file (λ file. AreEntriesApart file.body)) }
     ensures torn { (chunks : Chunks) → Shows (B.tells blocks.old) areas (B.stands blocks.old) chunks
         → IfTorn result (λ at found wanted. (owner : ℕ → Owner) (tree : PageTree) (file : Option Kept) → IsBodyOf chunks owner handle inode.now tree file → ⊥) }
+    ensures part { (chunks : Chunks) → Shows (B.tells blocks.old) areas (B.stands blocks.old) chunks → IfTorn result (λ at found wanted. IsPartWith chunks handle inode.now.tree wanted) }
     ensures shows { (chunks : Chunks) → Shows (B.tells blocks.old) areas (B.stands blocks.old) chunks → Shows (B.tells blocks.new) areas (B.stands blocks.new) chunks }
     ensures counts { Counts result (B.faults blocks.old) (B.faults blocks.new) }
     ensures keeps_areas { B.areas blocks.new ≡ B.areas blocks.old }
     ensures keeps_lender { B.lender blocks.new ≡ B.lender blocks.old }
     ensures keeps_ready { B.ready blocks.new }
+    ensures keeps_telling { B.tells blocks.old → B.tells blocks.new }
 {
     if inode.tree == 0 {
         return Ok(ReadFile {

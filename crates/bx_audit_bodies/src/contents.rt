@@ -2,6 +2,7 @@
 
 ghost use Rattle.std.specs.Prelude.{◌≡◌, ◌+◌, ◌*◌, ◌^◌, ◌<◌, ◌≤◌, ◌↔◌, ℕ, List, All, take, slice_index, IfOk, OnOk, IsTrue, length};
 ghost use Rattle.bx_audit_bodies.specs.Contents.{IsClear, PutsPiece, with_piece};
+ghost use Rattle.bx_audit_bodies.specs.Parts.{IsOfOne};
 ghost use Rattle.bx_audit_bodies.specs.Pieces.{AreApart, HasPiece, piece_among};
 ghost use Rattle.bx_audit_files.specs.Inodes.{IsBlockAt};
 ghost use Rattle.bx_audit_trees.specs.Errors.{IfTorn, Counts};
@@ -45,11 +46,13 @@ pub(crate) fn bytes_of<B: Blocks>(
     ensures torn { (chunks : Chunks) → Shows (B.tells blocks.old) areas (B.stands blocks.old) chunks → AreApart pieces.now
         → IfTorn result (λ at found wanted. (bytes : List ℕ) → All (HasPiece chunks) pieces.now → AreBytesOf (piece_among chunks pieces.now) size tail bytes → ⊥) }
     ensures len { IfOk result (λ content. length content ≡ size) }
+    ensures names { IfTorn result (λ at found wanted. IsOfOne pieces.now wanted) }
     ensures shows { (chunks : Chunks) → Shows (B.tells blocks.old) areas (B.stands blocks.old) chunks → Shows (B.tells blocks.new) areas (B.stands blocks.new) chunks }
     ensures counts { Counts result (B.faults blocks.old) (B.faults blocks.new) }
     ensures keeps_areas { B.areas blocks.new ≡ B.areas blocks.old }
     ensures keeps_lender { B.lender blocks.new ≡ B.lender blocks.old }
     ensures keeps_ready { B.ready blocks.new }
+    ensures keeps_telling { B.tells blocks.old → B.tells blocks.new }
 {
     let mut content = Content::zeros(alloc, size)?;
     for piece in pieces {
@@ -69,11 +72,13 @@ pub(crate) fn read_pieces<B: Blocks>(
     requires most { areas ≤ 64 }
     ensures ok { (chunks : Chunks) → Shows (B.tells blocks.old) areas (B.stands blocks.old) chunks → OnOk result (All (HasPiece chunks) pieces.now) }
     ensures torn { (chunks : Chunks) → Shows (B.tells blocks.old) areas (B.stands blocks.old) chunks → IfTorn result (λ at found wanted. All (HasPiece chunks) pieces.now → ⊥) }
+    ensures names { IfTorn result (λ at found wanted. IsOfOne pieces.now wanted) }
     ensures shows { (chunks : Chunks) → Shows (B.tells blocks.old) areas (B.stands blocks.old) chunks → Shows (B.tells blocks.new) areas (B.stands blocks.new) chunks }
     ensures counts { Counts result (B.faults blocks.old) (B.faults blocks.new) }
     ensures keeps_areas { B.areas blocks.new ≡ B.areas blocks.old }
     ensures keeps_lender { B.lender blocks.new ≡ B.lender blocks.old }
     ensures keeps_ready { B.ready blocks.new }
+    ensures keeps_telling { B.tells blocks.old → B.tells blocks.new }
 {
     for piece in pieces {
         block_at(blocks, areas, piece.handle, DATA)?;
@@ -100,11 +105,13 @@ fn put_piece<B: Blocks>(
     ensures fits { piece.now.index < 2 ^ 32 }
     ensures torn { (chunks : Chunks) → Shows (B.tells blocks.old) areas (B.stands blocks.old) chunks
         → IfTorn result (λ at found wanted. (block : Block) → IsBlockAt chunks piece.now.handle 3 block → IsClear tail piece.now.index block.payload → ⊥) }
+    ensures names { IfTorn result (λ at found wanted. wanted ≡ piece.now.handle) }
     ensures shows { (chunks : Chunks) → Shows (B.tells blocks.old) areas (B.stands blocks.old) chunks → Shows (B.tells blocks.new) areas (B.stands blocks.new) chunks }
     ensures counts { Counts result (B.faults blocks.old) (B.faults blocks.new) }
     ensures keeps_areas { B.areas blocks.new ≡ B.areas blocks.old }
     ensures keeps_lender { B.lender blocks.new ≡ B.lender blocks.old }
     ensures keeps_ready { B.ready blocks.new }
+    ensures keeps_telling { B.tells blocks.old → B.tells blocks.new }
 {
     let index = piece.index;
     let block = block_at(blocks, areas, piece.handle, DATA)?;

@@ -1,6 +1,7 @@
 //! The file of an inode.
 
 ghost use Rattle.std.specs.Prelude.{◌≡◌, ◌≤◌, ℕ, None, Option, IfOk, IfSome};
+ghost use Rattle.bx_audit_bodies.specs.Parts.{IsPartOf};
 ghost use Rattle.bx_audit_bodies.specs.Reading.{AreEntriesApart, IsReadAs, IsStored};
 ghost use Rattle.bx_audit_trees.specs.Errors.{IfTorn, Counts};
 ghost use Rattle.bx_audit_trees.specs.Shown.{Shows};
@@ -43,11 +44,13 @@ pub fn file_of<B: Blocks>(
     ensures torn { (chunks : Chunks) → Shows (B.tells blocks.old) areas (B.stands blocks.old) chunks
         → IfTorn result (λ at found wanted. (owner : ℕ → Owner) (stored : Stored) (file : Option Kept) → IsStored chunks owner handle stored file → ⊥) }
     ensures names { (chunks : Chunks) → Shows (B.tells blocks.old) areas (B.stands blocks.old) chunks → chunks handle ≡ None → IfTorn result (λ at found wanted. wanted ≡ handle) }
+    ensures part { (chunks : Chunks) → Shows (B.tells blocks.old) areas (B.stands blocks.old) chunks → IfTorn result (λ at found wanted. IsPartOf chunks handle wanted) }
     ensures shows { (chunks : Chunks) → Shows (B.tells blocks.old) areas (B.stands blocks.old) chunks → Shows (B.tells blocks.new) areas (B.stands blocks.new) chunks }
     ensures counts { Counts result (B.faults blocks.old) (B.faults blocks.new) }
     ensures keeps_areas { B.areas blocks.new ≡ B.areas blocks.old }
     ensures keeps_lender { B.lender blocks.new ≡ B.lender blocks.old }
     ensures keeps_ready { B.ready blocks.new }
+    ensures keeps_telling { B.tells blocks.old → B.tells blocks.new }
 {
     let inode = inode_at(alloc, blocks, areas, handle)?;
     match inode.kind {

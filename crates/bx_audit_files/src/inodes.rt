@@ -38,6 +38,7 @@ pub fn block_at<B: Blocks>(
     ensures keeps_areas { B.areas blocks.new ≡ B.areas blocks.old }
     ensures keeps_lender { B.lender blocks.new ≡ B.lender blocks.old }
     ensures keeps_ready { B.ready blocks.new }
+    ensures keeps_telling { B.tells blocks.old → B.tells blocks.new }
 {
     let block = chunk_at(blocks, areas, handle)?;
     if block.kind != kind {
@@ -65,6 +66,7 @@ pub fn inode_at<B: Blocks>(
     ensures keeps_areas { B.areas blocks.new ≡ B.areas blocks.old }
     ensures keeps_lender { B.lender blocks.new ≡ B.lender blocks.old }
     ensures keeps_ready { B.ready blocks.new }
+    ensures keeps_telling { B.tells blocks.old → B.tells blocks.new }
 {
     let block = block_at(blocks, areas, handle, INODE)?;
     match inode_in(alloc, &block)? {

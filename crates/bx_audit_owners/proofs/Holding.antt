@@ -84,6 +84,12 @@ module _ (before : Holdings) (inode : ℕ) (holder : Holder) (claims : List Clai
     apart = has.apart;
   }
 
+  -- which is the one that is wanted
+  pub clash_wanted : (count : ℕ) (last : Claim) (mid : Holdings) (wanted : ℕ) → slice_index_or claims count last ≡ last → count < length claims → Adds before inode holder claims count mid
+      → HasOther mid last.handle (holder_by inode last.piece) × (wanted ≡ last.handle) → (clash : Clashes before inode holder claims) × (wanted ≡ clash.claim.handle)
+  unfolding one_clash
+  clash_wanted count last mid wanted is within adds has = (one_clash count last mid is within adds has.0, has.1)
+
 -- an empty map has none
 pub none_held : (holders : BTreeMap ℕ Holder) → holders.entries ≡ [] → holdings_of holders ≡ (λ at. None)
 none_held holders empty = fun_ext (λ at. ap (λ (es : List (ℕ × Holder)). lookup (is_at (nat_cmp at)) es) empty)

@@ -7,3 +7,4 @@ pub mod Steps
 pub mod Wholes
 pub mod Ends
 pub mod Told
+pub mod Walking

@@ -1,5 +1,5 @@
 -- What is told of a block that is torn, once slots are right.
-use Rattle.std.proofs.Common.{◌≡◌, ℕ, ◌≤◌, ◌⊎◌, inl, inr, Bool, true, false, List, sym, ap, ◌∙◌, subst, refl, Option, Some, None}
+use Rattle.std.proofs.Common.{◌≡◌, ℕ, ◌≤◌, inl, inr, Bool, true, false, List, sym, ap, ◌∙◌, subst, refl, Option, Some, None}
 use Rattle.std.specs.Prelude.{◌≢◌, Contains}
 use Rattle.bx_audit_owners.specs.declared.slots.UsedSlot.{UsedSlot}
 use Rattle.bx_audit_owners.specs.Found.{IsFound}
@@ -12,7 +12,7 @@ use Rattle.bx_layout.specs.declared.block.Block.{Block}
 use Rattle.bx_layout.specs.Areas.{in_use}
 use Rattle.bx_model.specs.Opening.{root_handle}
 use Rattle.bx_tree_files.specs.declared.file.File.{File}
-use Rattle.bx_truth.specs.Chunks.{IsChunked, IsSlot, block_at, chunks_of, word_at}
+use Rattle.bx_truth.specs.Chunks.{IsChunked, IsSlot, chunks_of, word_at}
 use Rattle.bx_views.specs.Truths.{Truth}
 
 module _ (areas : ℕ) (truth : Truth) (few : areas ≤ 64) (slots : List UsedSlot) (are : AreUsed areas truth slots) where

@@ -1,5 +1,5 @@
 -- What the blocks of a volume stand for, once all is found.
-use Rattle.std.proofs.Common.{◌≡◌, ℕ, ◌<◌, ◌≤◌, ◌^◌, ◌%◌, ◌/◌, arith, Bool, true, false, List, sym, ap, ◌∙◌, subst, refl, Option, Some, None}
+use Rattle.std.proofs.Common.{◌≡◌, ℕ, ◌+◌, ◌*◌, ◌<◌, ◌≤◌, ◌^◌, ◌%◌, ◌/◌, arith, Bool, true, false, List, sym, ap, ◌∙◌, subst, refl, Option, Some, None}
 use Rattle.std.specs.Prelude.{◌≢◌, ◌&&◌, ◌==◌, if◌then◌else◌, Contains}
 use Rattle.std.proofs.lemmas.Bool.Decides.{nat_tests}
 use Rattle.bx_audit_owners.specs.declared.holders.Holder.{Holder}
@@ -9,8 +9,10 @@ use Rattle.bx_audit_owners.specs.Found.{IsInode, IsFound, AreAllRead, AreOrdered
 use Rattle.bx_audit_owners.specs.Holding.{Holdings, IsHeld, owner_of}
 use Rattle.bx_audit_owners.specs.Told.{IsTold}
 use Rattle.bx_audit_owners.specs.UsedSlots.{IsUsedSlot, AreUsed, IsFreeMarked}
+use Rattle.bx_audit_owners.specs.Walks.{HaveTree}
 use Rattle.bx_audit_owners.proofs.Owners.{owner_in, found_owner, found_stored, no_file, inodes_own, stored_here, only_here, agrees, unowned}
-use Rattle.bx_audit_trees.specs.Shown.{Shows}
+use Rattle.bx_audit_trees.specs.Shown.{IsOfSlot, NamesBlock, Shows}
+use Rattle.bx_homes.specs.Slots.{AreBlocks}
 use Rattle.bx_layout.specs.declared.block.Block.{Block}
 use Rattle.bx_layout.specs.Areas.{in_use, generation_in}
 use Rattle.bx_model.specs.declared.tree.Tree.{Tree}
@@ -27,7 +29,7 @@ use Rattle.bx_truth.proofs.Cases.{eq_true}
 use Rattle.bx_truth.proofs.Made.{chunk_given}
 use Rattle.bx_truth.proofs.PieceKeys.{chunk_fits}
 use Rattle.bx_truth.proofs.Put.{is_live, some_there}
-use Rattle.bx_truth.proofs.Same.{chunk_is}
+use Rattle.bx_truth.proofs.Same.{chunk_is, slot_block}
 use Rattle.bx_truth.proofs.SlotWords.{block_back}
 use Rattle.bx_views.specs.Truths.{Truth}
 
@@ -106,29 +108,62 @@ module _ (areas : ℕ) (truth : Truth) (few : areas ≤ 64) where
       let s = are.each slot there in
       none_some (chunks_of areas truth slot.handle) (truth s.0) none (names_block s.0 slot s.1)
 
-  -- where the root is in use, its handle and no other names the block, and 0 names none
-  pub root_shows : (is_told : Type 0) (stands : ℕ → Block → Type 0) (slots : List UsedSlot) (slot : UsedSlot) → IsTold is_told areas stands truth → AreUsed areas truth slots → Contains slots slot
-      → slot.handle ≡ root_handle → Shows is_told areas stands (chunks_of areas truth)
-  root_shows is_told stands slots slot told are there root = record {
-    told = told.told;
-    truth = truth;
-    blocks = told.blocks;
-    chunked = told.chunked;
-    chunks_are = λ handle. refl;
-    none = by (chunks_of areas truth 0) refl;
-  }
+  -- the handle of a slot's block is of that slot
+  of_slot : (handle : ℕ) → IsSlot areas (block_at handle) → handle ≡ handle_of (block_at handle) (generation_in (word_at truth (block_at handle))) → IsOfSlot areas handle
+  of_slot handle is same = by (block_at handle / 1024) (block_at handle % 1024) (generation_in (word_at truth (block_at handle))) is.area is.slot (small (word_at truth (block_at handle))) same
     where
-      is : IsUsedSlot areas truth (are.each slot there).0 slot
-      is = (are.each slot there).1
+      by : (area slot generation : ℕ) → area < areas → slot < 960 → generation < 2 ^ 32 → handle ≡ area * 2 ^ 48 + slot * 2 ^ 32 + generation → IsOfSlot areas handle
+      by area slot generation is_area is_slot fits e = (omega (arith, is_area, is_slot, fits, e), omega (arith, is_area, is_slot, fits, e))
 
-      at_zero : (are.each slot there).0 ≡ 0
-      at_zero = sym (in_block (are.each slot there).0 slot is) ∙ ap block_at root
+  slot_of : (handle : ℕ) → IsOfSlot areas handle → IsSlot areas (block_at handle)
+  slot_of handle is = by (handle / 281474976710656) (handle / 4294967296 % 65536) is.0 is.1
+    where
+      by : (area slot : ℕ) → area < areas → slot < 960 → IsSlot areas (1024 * area + slot)
+      by area slot is_area is_slot = record { area = omega (arith, is_area, is_slot); slot = omega (arith, is_area, is_slot) }
 
-      by : (o : Option Block) → chunks_of areas truth 0 ≡ o → chunks_of areas truth 0 ≡ None
-      by None none = none
-      by (Some b) some =
-          let e : 0 ≡ 1 = one_handle_of (are.each slot there).0 slot is 0 b some (sym at_zero) ∙ root in
-          absurd (omega (arith, e))
+  -- where slots are right, and the root is in use, chunks are those by the headers of blocks
+  pub shows_at : (is_told : Type 0) (stands : ℕ → Block → Type 0) (b : Block) → IsTold is_told areas stands truth → ((at : ℕ) (x y : Block) → is_told → stands at x → stands at y → x ≡ y)
+      → chunks_of areas truth root_handle ≡ Some b → Shows is_told areas stands (chunks_of areas truth)
+  shows_at is_told stands b told one root = record { told = told.told; each = each; all = all; none = zero }
+    where
+      zero : chunks_of areas truth 0 ≡ None
+      zero = by (chunks_of areas truth 0) refl
+        where
+          by : (o : Option Block) → chunks_of areas truth 0 ≡ o → chunks_of areas truth 0 ≡ None
+          by None none = none
+          by (Some x) some =
+              let e : 0 ≡ 1 = (chunk_is areas truth 0 x some).is_handle ∙ sym (chunk_is areas truth root_handle b root).is_handle in
+              absurd (omega (arith, e))
+
+      each : (handle : ℕ) (block : Block) → chunks_of areas truth handle ≡ Some block → NamesBlock areas stands handle block
+      each handle block some =
+          let c = chunk_is areas truth handle block some in
+          record {
+            slot = of_slot handle c.slot c.is_handle;
+            some = λ is_zero. none_some (chunks_of areas truth 0) block zero (ap (chunks_of areas truth) (sym is_zero) ∙ some);
+            there = subst (stands (block_at handle)) c.is_block (told.blocks (block_at handle) (slot_block areas (block_at handle) c.slot));
+            header = ap (λ (b : Block). b.handle) (sym c.is_block) ∙ told.chunked.used (block_at handle) c.slot c.used ∙ sym c.is_handle;
+          }
+
+      all : (handle : ℕ) (block : Block) → NamesBlock areas stands handle block → chunks_of areas truth handle ≡ Some block
+      all handle block names =
+          let at_slot = slot_of handle names.slot in
+          let same = one (block_at handle) (truth (block_at handle)) block told.told (told.blocks (block_at handle) (slot_block areas (block_at handle) at_slot)) names.there in
+          by at_slot (ap (λ (b : Block). b.handle) same ∙ names.header) (in_use (word_at truth (block_at handle))) refl ∙ ap Some same
+        where
+          by : IsSlot areas (block_at handle) → (truth (block_at handle)).handle ≡ handle → (t : Bool) → in_use (word_at truth (block_at handle)) ≡ t → chunks_of areas truth handle ≡ Some (truth (block_at handle))
+          by at_slot header true used =
+              all_true (is_slot areas (block_at handle)) (in_use (word_at truth (block_at handle))) (handle == handle_of (block_at handle) (generation_in (word_at truth (block_at handle)))) (truth (block_at handle))
+              (slot_true (block_at handle) at_slot) used
+              (eq_true handle (handle_of (block_at handle) (generation_in (word_at truth (block_at handle)))) (sym header ∙ told.chunked.used (block_at handle) at_slot used))
+          by at_slot header false unused = absurd (names.some (sym header ∙ told.chunked.unused (block_at handle) at_slot unused))
+
+  pub root_shows : (is_told : Type 0) (stands : ℕ → Block → Type 0) (slots : List UsedSlot) (slot : UsedSlot) → IsTold is_told areas stands truth
+      → ((at : ℕ) (a b : Block) → is_told → stands at a → stands at b → a ≡ b) → AreUsed areas truth slots → Contains slots slot
+      → slot.handle ≡ root_handle → Shows is_told areas stands (chunks_of areas truth)
+  root_shows is_told stands slots slot told one are there root =
+      let s = are.each slot there in
+      shows_at is_told stands (truth s.0) told one (ap (chunks_of areas truth) (sym root) ∙ names_block s.0 slot s.1)
 
 -- ---- where files stand
 
@@ -136,6 +171,10 @@ module _ (areas : ℕ) (truth : Truth) (few : areas ≤ 64) (tree : Tree) (stand
   -- their chunks are theirs
   pub have_files : HaveFiles (chunks_of areas truth) stands.owner stands.stored tree.files
   have_files = record { are = stands.are_files; is_file = λ handle file there. is_tree.is_file file (contains_at tree.files handle file there) }
+
+  -- and the chunks are those of a file tree
+  pub have_tree : HaveTree (chunks_of areas truth) tree
+  have_tree = record { owner = stands.owner; stored = stands.stored; have = have_files; is = is_tree; root_is = stands.root_is }
 
   -- no free slot is marked
   pub none_marked : (block found wanted : ℕ) → IsFreeMarked areas truth block found wanted → ⊥
@@ -151,6 +190,11 @@ module _ (areas : ℕ) (truth : Truth) (few : areas ≤ 64) (tree : Tree) (stand
 
   root_block : (b : Block) × (chunks_of areas truth root_handle ≡ Some b)
   root_block = some_there (chunks_of areas truth root_handle) (stands.are_files.all root_handle root_file.0 root_file.1).1
+
+  -- so chunks are those by the headers of blocks
+  pub tree_shows : (is_told : Type 0) (at_stand : ℕ → Block → Type 0) → is_told → AreBlocks areas at_stand truth → ((at : ℕ) (a b : Block) → is_told → at_stand at a → at_stand at b → a ≡ b)
+      → Shows is_told areas at_stand (chunks_of areas truth)
+  tree_shows is_told at_stand told are one = shows_at areas truth few is_told at_stand root_block.0 record { told = told; blocks = are; chunked = stands.chunked } one root_block.1
 
   -- the root is in use
   pub root_used : (slots : List UsedSlot) → AreUsed areas truth slots → (slot : UsedSlot) × Contains slots slot × (slot.handle ≡ root_handle)

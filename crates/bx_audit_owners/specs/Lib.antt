@@ -4,3 +4,4 @@ pub mod Holding
 pub mod Found
 pub mod Whole
 pub mod Named
+pub mod Walks

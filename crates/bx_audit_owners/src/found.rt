@@ -25,7 +25,7 @@ const INODE: u32 = 1;
 
 /// What is found of a volume.
 #[derive(Drop)]
-pub(crate) struct Found {
+pub struct Found {
     /// What has each chunk that was found.
     pub(crate) holders: Holders,
     /// The files of the inodes that were read.
@@ -34,33 +34,31 @@ pub(crate) struct Found {
     pub(crate) given: Handles,
 }
 
-/// What is found of the inodes among some chunks.
+/// What is found of the inodes among some chunks, beside what was found at the start.
 pub(crate) fn read_inodes<B: Blocks>(
     alloc: Global,
     blocks: &mut B,
     areas: u16,
     slots: &[UsedSlot],
+    start: Found,
 ) -> Result<Found, AuditError>
     requires ready { B.ready blocks.old }
     requires areas { B.areas blocks.old ≡ areas }
     requires most { areas ≤ 64 }
-    ensures ok { (chunks : Chunks) → Shows (B.tells blocks.old) areas (B.stands blocks.old) chunks → IfOk result (λ found. IsFound chunks (holdings_of found.holders) found.files) }
+    requires ordered { AreOrdered start.files start.given }
+    ensures ok { (chunks : Chunks) → Shows (B.tells blocks.old) areas (B.stands blocks.old) chunks → IsFound chunks (holdings_of start.holders) start.files → IfOk result (λ found. IsFound chunks (holdings_of found.holders) found.files) }
     ensures read { (chunks : Chunks) → Shows (B.tells blocks.old) areas (B.stands blocks.old) chunks
         → IfOk result (λ found. (slot : Used) (block : Block) → Contains slots.now slot → chunks slot.handle ≡ Some block → block.kind ≡ 1 → holdings_of found.holders slot.handle ≢ None) }
     ensures ordered { IfOk result (λ found. AreOrdered found.files found.given) }
     ensures torn { (chunks : Chunks) → Shows (B.tells blocks.old) areas (B.stands blocks.old) chunks
-        → ((slot : Used) → Contains slots.now slot → chunks slot.handle ≢ None) → IfTorn result (λ at found wanted. HaveNoFiles chunks) }
+        → ((slot : Used) → Contains slots.now slot → chunks slot.handle ≢ None) → IsFound chunks (holdings_of start.holders) start.files → IfTorn result (λ at found wanted. HaveNoFiles chunks) }
     ensures shows { (chunks : Chunks) → Shows (B.tells blocks.old) areas (B.stands blocks.old) chunks → Shows (B.tells blocks.new) areas (B.stands blocks.new) chunks }
     ensures counts { Counts result (B.faults blocks.old) (B.faults blocks.new) }
     ensures keeps_areas { B.areas blocks.new ≡ B.areas blocks.old }
     ensures keeps_lender { B.lender blocks.new ≡ B.lender blocks.old }
     ensures keeps_ready { B.ready blocks.new }
 {
-    let mut found = Found {
-        holders: Holders::new(alloc),
-        files: Files::new(alloc),
-        given: Handles::new(alloc),
-    };
+    let mut found = start;
     for slot in slots {
         read_chunk(alloc, blocks, areas, slot.handle, &mut found)?;
     }
@@ -135,7 +133,7 @@ fn holder_of(file: &Option<File>) -> Holder
 }
 
 /// Puts the file of an inode, if it has one, beside the others.
-fn put_file(found: &mut Found, file: Option<File>) -> Result<(), OutOfMemory>
+pub(crate) fn put_file(found: &mut Found, file: Option<File>) -> Result<(), OutOfMemory>
     requires is { IfSome file IsFile }
     requires apart { IfSome file (λ new. AreEntriesApart new.body) }
     ensures holders { found.new.holders ≡ found.old.holders }

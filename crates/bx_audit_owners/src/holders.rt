@@ -1,8 +1,8 @@
 //! What has the chunks of a volume.
 
-ghost use Rattle.std.specs.Prelude.{◌≡◌, ◌↔◌, Contains, length, IsErrOf, IsTrue, None, OnOk};
+ghost use Rattle.std.specs.Prelude.{◌≡◌, ◌↔◌, Contains, length, IfOk, IsErrOf, IsFalse, IsTrue, None, OnOk, Some};
 ghost use Rattle.bx_audit_owners.specs.declared.slots.UsedSlot.{UsedSlot as Used};
-ghost use Rattle.bx_audit_owners.specs.declared.holders.Holder.TheVariants.{Dead as OfDead};
+ghost use Rattle.bx_audit_owners.specs.declared.holders.Holder.TheVariants.{Dead as OfDead, File as OfFile};
 ghost use Rattle.bx_audit_owners.specs.Holding.{Adds, Clashes, HasOther, IsHeld, Puts, holder_by, holdings_of};
 ghost use Rattle.bx_audit_owners.specs.Named.{IsTornSlot};
 ghost use Rattle.bx_audit_trees.specs.declared.error.AuditError.TheVariants.{Fault as DiskFailed};
@@ -40,7 +40,7 @@ pub(crate) fn put_inode(
 ) -> Result<(), AuditError>
     requires { holdings_of holders.old inode ≡ None }
     ensures ok { OnOk result (Adds (holdings_of holders.old) inode holder claims.now (length claims.now) (holdings_of holders.new)) }
-    ensures torn { IfTorn result (λ at found wanted. Clashes (holdings_of holders.old) inode holder claims.now) }
+    ensures torn { IfTorn result (λ at found wanted. (clash : Clashes (holdings_of holders.old) inode holder claims.now) × (wanted ≡ clash.claim.handle)) }
     ensures no_fault { IsErrOf result DiskFailed → ⊥ }
 {
     put(holders, inode, holder)?;
@@ -48,6 +48,20 @@ pub(crate) fn put_inode(
         put(holders, claim.handle, claimer(inode, claim.piece))?;
     }
     Ok(())
+}
+
+/// Whether a handle is that of a file that was found. Torn where its chunk has another holder.
+pub(crate) fn is_file(holders: &Holders, handle: u64) -> Result<bool, AuditError>
+    ensures yes { IfOk result (λ is. IsTrue is → holdings_of holders.now handle ≡ Some OfFile) }
+    ensures no { IfOk result (λ is. IsFalse is → holdings_of holders.now handle ≡ None) }
+    ensures torn { IfTorn result (λ at found wanted. HasOther (holdings_of holders.now) handle OfFile × (wanted ≡ handle)) }
+    ensures no_fault { IsErrOf result DiskFailed → ⊥ }
+{
+    match holders.get(&handle) {
+        None => Ok(false),
+        Some(holder) if *holder == Holder::File => Ok(true),
+        Some(_) => Err(torn_at(handle)),
+    }
 }
 
 /// What has a chunk that an inode claims as a page, or as the block of a piece.
@@ -63,7 +77,7 @@ fn claimer(inode: u64, piece: Option<u32>) -> Holder
 /// Says what has a chunk. Torn exactly where it has another holder.
 fn put(holders: &mut Holders, handle: u64, holder: Holder) -> Result<(), AuditError>
     ensures ok { OnOk result (Puts (holdings_of holders.old) handle holder (holdings_of holders.new)) }
-    ensures torn { IfTorn result (λ at found wanted. HasOther (holdings_of holders.old) handle holder) }
+    ensures torn { IfTorn result (λ at found wanted. HasOther (holdings_of holders.old) handle holder × (wanted ≡ handle)) }
     ensures no_fault { IsErrOf result DiskFailed → ⊥ }
 {
     if let Some(other) = holders.get(&handle) {

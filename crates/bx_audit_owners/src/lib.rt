@@ -6,5 +6,8 @@ mod holders;
 mod named;
 mod slots;
 mod tree;
+mod walks;
 
+pub use found::Found;
 pub use tree::tree_on;
+pub use walks::walk;

@@ -6,3 +6,5 @@ pub mod NodeLists
 pub mod Descents
 pub mod Firsts
 pub mod Lookups
+pub mod Leads
+pub mod Headers

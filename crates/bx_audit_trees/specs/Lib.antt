@@ -4,3 +4,4 @@ pub mod Pages
 pub mod Room
 pub mod Trees
 pub mod Leaves
+pub mod Leading

@@ -1,11 +1,12 @@
 //! Whether the entries of interior pages name the pages of the level below.
 
-ghost use Rattle.std.specs.Prelude.{◌≡◌, ◌↔◌, All, Some, slice_get, IfSome, IfNone, IsTrue, IsErrOf, OnOk, length};
+ghost use Rattle.std.specs.Prelude.{◌≡◌, ◌↔◌, ℕ, All, Some, slice_get, IfSome, IfNone, IsTrue, IsErrOf, OnOk, length};
 ghost use Rattle.std.specs.Int.{w64, from_be_bytes};
 ghost use Rattle.bx_page.specs.declared.entry.Entry.{Entry};
-ghost use Rattle.bx_truth.specs.PageTrees.{IsIn, IsInterior, NamesChild, Node};
+ghost use Rattle.bx_truth.specs.PageTrees.{Chunks, IsIn, IsInterior, NamesChild, Node};
 ghost use Rattle.bx_audit_trees.specs.declared.error.AuditError.TheVariants.{Fault as DiskFailed};
 ghost use Rattle.bx_audit_trees.specs.Errors.{IfTorn};
+ghost use Rattle.bx_audit_trees.specs.Leading.{AreLedTo, IsLedTo};
 ghost use Rattle.bx_audit_trees.specs.Pages.{BeginningsRise};
 
 use crate::error::AuditError;
@@ -21,6 +22,7 @@ pub(crate) fn lead_down(above: &[TreePage], below: &[TreePage]) -> Result<(), Au
     requires { BeginningsRise below.now }
     ensures ok { OnOk result ((node : Node) → IsIn node above.now → IsInterior below.now node) }
     ensures torn { IfTorn result (λ at found wanted. ((node : Node) → IsIn node above.now → IsInterior below.now node) → ⊥) }
+    ensures led { (chunks : Chunks) (root : ℕ) → AreLedTo chunks root above.now → IfTorn result (λ at found wanted. IsLedTo chunks root wanted) }
     ensures no_fault { IsErrOf result DiskFailed → ⊥ }
 {
     for page in above {

@@ -24,6 +24,7 @@ pub fn chunk_at<B: Blocks>(blocks: &mut B, areas: u16, handle: u64) -> Result<Bl
     ensures keeps_areas { B.areas blocks.new ≡ B.areas blocks.old }
     ensures keeps_lender { B.lender blocks.new ≡ B.lender blocks.old }
     ensures keeps_ready { B.ready blocks.new }
+    ensures keeps_telling { B.tells blocks.old → B.tells blocks.new }
 {
     let name = ChunkHandle::of(handle);
     if handle == 0 || name.area >= areas || name.slot >= SLOTS {

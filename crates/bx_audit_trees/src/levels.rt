@@ -5,6 +5,7 @@ ghost use Rattle.bx_page.specs.Contents.{Contents};
 ghost use Rattle.bx_page.specs.Keys.{IsBelow};
 ghost use Rattle.bx_truth.specs.PageTrees.{Chunks, Node};
 ghost use Rattle.bx_audit_trees.specs.Errors.{IfTorn, Counts};
+ghost use Rattle.bx_audit_trees.specs.Leading.{AreLedTo, IsLedTo};
 ghost use Rattle.bx_audit_trees.specs.Pages.{BeginningsRise, IsLevelFrom, IsPageAt, IsPlaced, LeadsTo};
 ghost use Rattle.bx_audit_trees.specs.Room.{room_above};
 ghost use Rattle.bx_audit_trees.specs.Shown.{Shows};
@@ -17,6 +18,7 @@ use bx_page::Page;
 use std::alloc::Global;
 
 /// The pages of a level, from the one with a handle on to the right. Torn exactly where this is no level's first page.
+#[tactic(auto, using(crate::proofs::Leads::itself_led, crate::proofs::Leads::none_led))]
 pub fn level_from<B: Blocks>(
     alloc: Global,
     blocks: &mut B,
@@ -30,11 +32,14 @@ pub fn level_from<B: Blocks>(
     ensures ok { (chunks : Chunks) → Shows (B.tells blocks.old) areas (B.stands blocks.old) chunks → IfOk result (λ pages. IsLevelFrom chunks level first pages.items) }
     ensures torn { (chunks : Chunks) → Shows (B.tells blocks.old) areas (B.stands blocks.old) chunks → IfTorn result (λ at found wanted. (nodes : List Node) → IsLevelFrom chunks level first nodes → ⊥) }
     ensures rise { IfOk result (λ pages. BeginningsRise pages.items) }
+    ensures led { (chunks : Chunks) → Shows (B.tells blocks.old) areas (B.stands blocks.old) chunks → IfOk result (λ pages. AreLedTo chunks first pages.items) }
+    ensures leads { (chunks : Chunks) → Shows (B.tells blocks.old) areas (B.stands blocks.old) chunks → IfTorn result (λ at found wanted. IsLedTo chunks first wanted) }
     ensures shows { (chunks : Chunks) → Shows (B.tells blocks.old) areas (B.stands blocks.old) chunks → Shows (B.tells blocks.new) areas (B.stands blocks.new) chunks }
     ensures counts { Counts result (B.faults blocks.old) (B.faults blocks.new) }
     ensures keeps_areas { B.areas blocks.new ≡ B.areas blocks.old }
     ensures keeps_lender { B.lender blocks.new ≡ B.lender blocks.old }
     ensures keeps_ready { B.ready blocks.new }
+    ensures keeps_telling { B.tells blocks.old → B.tells blocks.new }
 {
     let mut pages = Vec::new(alloc);
     let mut handle = first;
@@ -80,6 +85,7 @@ fn page_of<B: Blocks>(
     ensures keeps_areas { B.areas blocks.new ≡ B.areas blocks.old }
     ensures keeps_lender { B.lender blocks.new ≡ B.lender blocks.old }
     ensures keeps_ready { B.ready blocks.new }
+    ensures keeps_telling { B.tells blocks.old → B.tells blocks.new }
 {
     let page = page_at(alloc, blocks, areas, handle)?;
     let next = way_of(alloc, &page, handle, level, begins)?;

@@ -76,6 +76,7 @@ pub fn page_at<B: Blocks>(
     ensures keeps_areas { B.areas blocks.new ≡ B.areas blocks.old }
     ensures keeps_lender { B.lender blocks.new ≡ B.lender blocks.old }
     ensures keeps_ready { B.ready blocks.new }
+    ensures keeps_telling { B.tells blocks.old → B.tells blocks.new }
 {
     let block = chunk_at(blocks, areas, handle)?;
     match page_in(alloc, &block)? {

@@ -7,6 +7,7 @@ ghost use Rattle.bx_page.specs.Contents.{value_of};
 ghost use Rattle.bx_audit_trees.specs.Pages.{BeginningsRise};
 ghost use Rattle.bx_audit_trees.specs.declared.error.AuditError.TheVariants.{Fault as DiskFailed};
 ghost use Rattle.bx_audit_trees.specs.Errors.{IfTorn, Counts};
+ghost use Rattle.bx_audit_trees.specs.Leading.{AreLedTo, IsLedTo};
 ghost use Rattle.bx_audit_trees.specs.Shown.{Shows};
 ghost use Rattle.bx_audit_trees.specs.Trees.{HasFirst, IsTop, LiesBelow, NamesFirst, tree_of};
 
@@ -104,11 +105,14 @@ pub fn tree_under<B: Blocks>(
     requires most { areas ≤ 64 }
     ensures ok { (chunks : Chunks) → Shows (B.tells blocks.old) areas (B.stands blocks.old) chunks → IfOk result (λ tree. IsTree chunks root (tree_of tree)) }
     ensures torn { (chunks : Chunks) → Shows (B.tells blocks.old) areas (B.stands blocks.old) chunks → IfTorn result (λ at found wanted. (tree : PageTree) → IsTree chunks root tree → ⊥) }
+    ensures led { (chunks : Chunks) → Shows (B.tells blocks.old) areas (B.stands blocks.old) chunks → IfOk result (λ tree. AreLedTo chunks root (slice_index_or tree 0 [])) }
+    ensures leads { (chunks : Chunks) → Shows (B.tells blocks.old) areas (B.stands blocks.old) chunks → IfTorn result (λ at found wanted. IsLedTo chunks root wanted) }
     ensures shows { (chunks : Chunks) → Shows (B.tells blocks.old) areas (B.stands blocks.old) chunks → Shows (B.tells blocks.new) areas (B.stands blocks.new) chunks }
     ensures counts { Counts result (B.faults blocks.old) (B.faults blocks.new) }
     ensures keeps_areas { B.areas blocks.new ≡ B.areas blocks.old }
     ensures keeps_lender { B.lender blocks.new ≡ B.lender blocks.old }
     ensures keeps_ready { B.ready blocks.new }
+    ensures keeps_telling { B.tells blocks.old → B.tells blocks.new }
 {
     let (top, height) = root_page(alloc, blocks, areas, root)?;
     let mut levels = Vec::new(alloc);
@@ -138,12 +142,15 @@ fn root_page<B: Blocks>(
     requires most { areas ≤ 64 }
     ensures ok { (chunks : Chunks) → Shows (B.tells blocks.old) areas (B.stands blocks.old) chunks → IfOk result (λ x. IsTop chunks root x.1 x.0.items) }
     ensures rise { IfOk result (λ x. BeginningsRise x.0.items) }
+    ensures led { (chunks : Chunks) → IfOk result (λ x. AreLedTo chunks root x.0.items) }
+    ensures names { IfTorn result (λ at found wanted. wanted ≡ root) }
     ensures torn { (chunks : Chunks) → Shows (B.tells blocks.old) areas (B.stands blocks.old) chunks → IfTorn result (λ at found wanted. (tree : PageTree) → IsTree chunks root tree → ⊥) }
     ensures shows { (chunks : Chunks) → Shows (B.tells blocks.old) areas (B.stands blocks.old) chunks → Shows (B.tells blocks.new) areas (B.stands blocks.new) chunks }
     ensures counts { Counts result (B.faults blocks.old) (B.faults blocks.new) }
     ensures keeps_areas { B.areas blocks.new ≡ B.areas blocks.old }
     ensures keeps_lender { B.lender blocks.new ≡ B.lender blocks.old }
     ensures keeps_ready { B.ready blocks.new }
+    ensures keeps_telling { B.tells blocks.old → B.tells blocks.new }
 {
     let page = page_at(alloc, blocks, areas, root)?;
     let level = page.level();
@@ -173,6 +180,8 @@ fn level_below<B: Blocks>(
     requires most { areas ≤ 64 }
     ensures ok { (chunks : Chunks) → Shows (B.tells blocks.old) areas (B.stands blocks.old) chunks → IsLevel chunks (level + 1) above.now → IfOk result (λ pages. LiesBelow chunks level above.now pages.items) }
     ensures rise { IfOk result (λ pages. BeginningsRise pages.items) }
+    ensures led { (chunks : Chunks) (root : ℕ) → Shows (B.tells blocks.old) areas (B.stands blocks.old) chunks → IsLevel chunks (level + 1) above.now → AreLedTo chunks root above.now → IfOk result (λ pages. AreLedTo chunks root pages.items) }
+    ensures leads { (chunks : Chunks) (root : ℕ) → Shows (B.tells blocks.old) areas (B.stands blocks.old) chunks → IsLevel chunks (level + 1) above.now → AreLedTo chunks root above.now → IfTorn result (λ at found wanted. IsLedTo chunks root wanted) }
     ensures one { (chunks : Chunks) → Shows (B.tells blocks.old) areas (B.stands blocks.old) chunks → IsLevel chunks (level + 1) above.now → IfOk result (λ pages. (nodes : List Node) → LiesBelow chunks level above.now nodes → nodes ≡ pages.items) }
     ensures torn { (chunks : Chunks) → Shows (B.tells blocks.old) areas (B.stands blocks.old) chunks → IsLevel chunks (level + 1) above.now → IfTorn result (λ at found wanted. (nodes : List Node) → LiesBelow chunks level above.now nodes → ⊥) }
     ensures shows { (chunks : Chunks) → Shows (B.tells blocks.old) areas (B.stands blocks.old) chunks → Shows (B.tells blocks.new) areas (B.stands blocks.new) chunks }
@@ -180,6 +189,7 @@ fn level_below<B: Blocks>(
     ensures keeps_areas { B.areas blocks.new ≡ B.areas blocks.old }
     ensures keeps_lender { B.lender blocks.new ≡ B.lender blocks.old }
     ensures keeps_ready { B.ready blocks.new }
+    ensures keeps_telling { B.tells blocks.old → B.tells blocks.new }
 {
     let first = first_child(above)?;
     let pages = level_from(alloc, blocks, areas, level, first)?;
@@ -191,6 +201,7 @@ fn level_below<B: Blocks>(
 fn first_child(above: &[TreePage]) -> Result<u64, AuditError>
     ensures ok { IfOk result (NamesFirst above.now) }
     ensures torn { IfTorn result (λ at found wanted. (handle : ℕ) → NamesFirst above.now handle → ⊥) }
+    ensures led { (chunks : Chunks) (root : ℕ) → 0 < length above.now → AreLedTo chunks root above.now → IfTorn result (λ at found wanted. IsLedTo chunks root wanted) }
     ensures no_fault { IsErrOf result DiskFailed → ⊥ }
 {
     let Some(page) = above.first() else {

@@ -88,7 +88,23 @@ pub(crate) const BLOCKS: [Put; 12] = [
 ];
 
 /// What is wrong in each stands above it.
-pub(crate) const DAMAGES: [Damage; 18] = [
+pub(crate) const DAMAGES: [Damage; 20] = [
+    // a free slot has a header, and the block of a piece is a page.
+    (
+        &[
+            (6, 25769803777, 0, b"", (4095, 0)),
+            (7, 30064771073, 2, b"tail", (4095, 0)),
+        ],
+        (7, 30064771073, 30064771073),
+    ),
+    // a free slot has a header, and a directory's page has another.
+    (
+        &[
+            (6, 25769803777, 0, b"", (4095, 0)),
+            (8, 34359738370, 2, b"", (4095, 0)),
+        ],
+        (8, 34359738370, 34359738369),
+    ),
     // the root has another number of links.
     (
         &[(

@@ -1,9 +1,12 @@
-use Rattle.std.proofs.Common.{sym, ap, ◌∙◌, Err, subst}
+use Rattle.std.proofs.Common.{inr, List, sym, ap, ◌∙◌, Err, subst}
 use Rattle.std.specs.Prelude.{All}
 use Rattle.std.proofs.lemmas.Result.{err_from_is_err_and}
 use Rattle.bx_audit_trees.proofs.Ends.{if_torn}
 use Rattle.bx_audit_bodies.specs.Pieces.{HasPiece}
 use Rattle.bx_audit_bodies.proofs.BodiesOfTrees.{dead_pieces, dead_blocks, dead_alone, dead_read}
+use Rattle.bx_audit_bodies.specs.Parts.{IsOfOne}
+use Rattle.bx_audit_bodies.specs.declared.pieces.Piece.{Piece}
+use Rattle.bx_audit_bodies.proofs.PartsLed.{one_led}
 use Rattle.bx_audit_bodies.proofs.bodies.dead_of.Goals as goal
 
 pub returns-then-inode-eq0-clause-ok : goal.returns-then-inode-eq0-clause-ok
@@ -30,3 +33,20 @@ pub returns-clause-ok : goal.returns-clause-ok
 returns-clause-ok g c = λ chunks shows.
     dead_read chunks shows.none c.args.inode.now c.in_ok-pieces.pieces.items c.in_ok-pieces.claims.items (c.in_ok-pieces.ensures.ok chunks shows)
     (subst (All (HasPiece chunks)) c.deref.ensures.value (c.in_ok-read_pieces.ensures.ok chunks (c.in_ok-pieces.ensures.shows chunks shows))) c.args.handle c.requires.kind
+
+pub returns-in_err-pieces-clause-part : goal.returns-in_err-pieces-clause-part
+returns-in_err-pieces-clause-part g c = λ chunks shows.
+    let p = err_from_is_err_and c.from_residual.result c.from_residual.ensures.1 in
+    if_torn _ _ c.in_err-pieces.field-0.0 c.from_residual.result (p.1 ∙ ap Err p.2) (λ at found wanted leads. inr leads) (c.in_err-pieces.ensures.leads chunks shows)
+
+pub returns-in_err-read_pieces-clause-part : goal.returns-in_err-read_pieces-clause-part
+returns-in_err-read_pieces-clause-part g c = λ chunks shows.
+    let p = err_from_is_err_and c.from_residual-in_err-read_pieces.result c.from_residual-in_err-read_pieces.ensures.1 in
+    if_torn _ _ c.in_err-read_pieces.field-0.0 c.from_residual-in_err-read_pieces.result (p.1 ∙ ap Err p.2) (λ at found wanted one. inr (one_led chunks c.args.inode.now.tree wanted c.in_ok-pieces.pieces.items (c.in_ok-pieces.ensures.led chunks shows)
+    (subst (λ (l : List Piece). IsOfOne l wanted) c.deref.ensures.value one))) (c.in_err-read_pieces.ensures.names)
+
+pub returns-in_err-read_pieces-clause-shows : goal.returns-in_err-read_pieces-clause-shows
+returns-in_err-read_pieces-clause-shows g c = λ chunks shows. c.in_err-read_pieces.ensures.shows chunks (c.in_ok-pieces.ensures.shows chunks shows)
+
+pub returns-clause-shows : goal.returns-clause-shows
+returns-clause-shows g c = λ chunks shows. c.in_ok-read_pieces.ensures.shows chunks (c.in_ok-pieces.ensures.shows chunks shows)

@@ -1,4 +1,4 @@
-use Rattle.std.proofs.Common.{List, Some, sym, ap, ◌∙◌, Err, subst}
+use Rattle.std.proofs.Common.{inr, List, Some, sym, ap, ◌∙◌, Err, subst}
 use Rattle.std.proofs.lemmas.Result.{err_from_is_err_and}
 use Rattle.bx_homes.proofs.Sectors.{of_some, of_none}
 use Rattle.bx_page.specs.declared.entry.Entry.{Entry}
@@ -34,3 +34,8 @@ returns-clause-ok g c = λ chunks shows.
     let below = of_some _ c.in_ok-names.field-0 c.in-Some.names c.in-Some.is c.in_ok-names.ensures.below in
     subst (λ (f : File). HasBodyOf chunks c.args.handle inode (Some f) c.in_ok-claims.claims.items) (sym c.file_with.ensures)
     (directory_read chunks shows.none inode c.in_ok-tree.tree c.in_ok-claims.claims.items c.in-Some.names is c.in_ok-claims.ensures are c.args.handle c.requires.inode c.requires.kind c.if-inode.false below)
+
+pub returns-in_err-tree-clause-part : goal.returns-in_err-tree-clause-part
+returns-in_err-tree-clause-part g c = λ chunks shows.
+    let p = err_from_is_err_and c.from_residual.result c.from_residual.ensures.1 in
+    if_torn _ _ c.in_err-tree.field-0.0 c.from_residual.result (p.1 ∙ ap Err p.2) (λ at found wanted leads. inr leads) (c.in_err-tree.ensures.leads chunks shows)

@@ -1,4 +1,4 @@
-use Rattle.std.proofs.Common.{List, Some, arith, sym, ap, ◌∙◌, Err, subst}
+use Rattle.std.proofs.Common.{inr, List, Some, arith, sym, ap, ◌∙◌, Err, subst}
 use Rattle.std.specs.Prelude.{All}
 use Rattle.std.proofs.lemmas.Result.{err_from_is_err_and}
 use Rattle.bx_tree_files.specs.declared.file.File.{File}
@@ -8,6 +8,8 @@ use Rattle.bx_audit_bodies.specs.Bodies.{HasBodyOf}
 use Rattle.bx_audit_bodies.specs.Pieces.{AreApart, HasPiece, piece_among}
 use Rattle.bx_audit_bodies.specs.declared.pieces.Piece.{Piece}
 use Rattle.bx_audit_bodies.proofs.BodiesOfTrees.{all_pieces, apart_read, regular_is, regular_bytes, regular_read}
+use Rattle.bx_audit_bodies.specs.Parts.{IsOfOne}
+use Rattle.bx_audit_bodies.proofs.PartsLed.{one_led}
 use Rattle.bx_audit_bodies.proofs.bodies.regular_of.Goals as goal
 
 pub returns-in_err-pieces-clause-torn : goal.returns-in_err-pieces-clause-torn
@@ -44,3 +46,20 @@ returns-clause-ok g c = λ chunks shows.
     let bytes = subst (λ (l : List Piece). AreBytesOf (piece_among chunks l) inode.size inode.tail c.in_ok-content.content) c.deref.ensures.value (c.in_ok-content.ensures.bytes chunks still apart) in
     subst (λ (f : File). HasBodyOf chunks c.args.handle inode (Some f) claims) (sym c.file_with.ensures)
     (regular_read chunks shows.none inode pieces claims read blocks c.args.handle c.in_ok-content.content c.requires.inode c.requires.kind (omega (arith, c.if-inode-gt-MOST_BYTES.false)) bytes)
+
+pub returns-in_err-pieces-clause-part : goal.returns-in_err-pieces-clause-part
+returns-in_err-pieces-clause-part g c = λ chunks shows.
+    let p = err_from_is_err_and c.from_residual.result c.from_residual.ensures.1 in
+    if_torn _ _ c.in_err-pieces.field-0.0 c.from_residual.result (p.1 ∙ ap Err p.2) (λ at found wanted leads. inr leads) (c.in_err-pieces.ensures.leads chunks shows)
+
+pub returns-in_err-content-clause-part : goal.returns-in_err-content-clause-part
+returns-in_err-content-clause-part g c = λ chunks shows.
+    let p = err_from_is_err_and c.from_residual-in_err-content.result c.from_residual-in_err-content.ensures.1 in
+    if_torn _ _ c.in_err-content.field-0.0 c.from_residual-in_err-content.result (p.1 ∙ ap Err p.2) (λ at found wanted one. inr (one_led chunks c.args.inode.now.tree wanted c.in_ok-pieces.pieces.items (c.in_ok-pieces.ensures.led chunks shows)
+    (subst (λ (l : List Piece). IsOfOne l wanted) c.deref.ensures.value one))) (c.in_err-content.ensures.names)
+
+pub returns-in_err-content-clause-shows : goal.returns-in_err-content-clause-shows
+returns-in_err-content-clause-shows g c = λ chunks shows. c.in_err-content.ensures.shows chunks (c.in_ok-pieces.ensures.shows chunks shows)
+
+pub returns-clause-shows : goal.returns-clause-shows
+returns-clause-shows g c = λ chunks shows. c.in_ok-content.ensures.shows chunks (c.in_ok-pieces.ensures.shows chunks shows)

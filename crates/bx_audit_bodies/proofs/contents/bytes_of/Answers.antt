@@ -7,6 +7,7 @@ use Rattle.bx_audit_trees.proofs.Ends.{if_torn}
 use Rattle.bx_audit_bodies.specs.Pieces.{HasPiece, piece_among}
 use Rattle.bx_audit_bodies.specs.declared.pieces.Piece.{Piece}
 use Rattle.bx_audit_bodies.proofs.PiecesRead.{read_more, bytes_step, no_bytes_of}
+use Rattle.bx_audit_bodies.proofs.PartsLed.{one_at}
 use Rattle.bx_audit_bodies.proofs.contents.bytes_of.Goals as goal
 
 pub returns-in_err-put_piece-clause-torn : goal.returns-in_err-put_piece-clause-torn
@@ -23,6 +24,7 @@ loop-piece-preserved g c =
     let less : k < length pieces = c.loop-piece-test.true in
     record {
       ready = c.in_ok-put_piece.ensures.keeps_ready;
+      telling = λ tells. c.in_ok-put_piece.ensures.keeps_telling (c.loop-piece.invariant.telling tells);
       none_rose = c.in_ok-put_piece.ensures.counts ∙ c.loop-piece.invariant.none_rose;
       areas_are = c.in_ok-put_piece.ensures.keeps_areas ∙ c.loop-piece.invariant.areas_are;
       lender_is = c.in_ok-put_piece.ensures.keeps_lender ∙ c.loop-piece.invariant.lender_is;
@@ -44,3 +46,11 @@ pub returns-clause-bytes : goal.returns-clause-bytes
 returns-clause-bytes g c = λ chunks shows apart.
     subst (λ (l : List Piece). AreBytesOf (piece_among chunks l) c.args.size c.args.tail c.loop-piece.content) (take_all c.loop-piece.piece-index c.args.pieces.now c.loop-piece-test.false)
     (c.loop-piece.invariant.bytes chunks shows apart)
+
+pub returns-in_err-put_piece-clause-names : goal.returns-in_err-put_piece-clause-names
+returns-in_err-put_piece-clause-names g c =
+    let p = err_from_is_err_and c.from_residual-in_err-put_piece.result c.from_residual-in_err-put_piece.ensures.1 in
+    if_torn _ _ c.in_err-put_piece.field-0.0 c.from_residual-in_err-put_piece.result (p.1 ∙ ap Err p.2) (λ at found wanted is. one_at c.args.pieces.now c.loop-piece.piece-index _ wanted c.loop-piece-test.true is) (c.in_err-put_piece.ensures.names)
+
+pub returns-in_err-put_piece-clause-shows : goal.returns-in_err-put_piece-clause-shows
+returns-in_err-put_piece-clause-shows g c = λ chunks shows. c.in_err-put_piece.ensures.shows chunks (c.loop-piece.invariant.shows chunks shows)

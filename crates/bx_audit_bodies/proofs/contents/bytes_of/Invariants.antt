@@ -9,6 +9,7 @@ use Rattle.bx_audit_bodies.proofs.contents.bytes_of.Given as goal
 abbrev pub invariant-loop-piece : goal.invariant-loop-piece
 invariant-loop-piece g l = record {
   ready : g.B.Blocks.ready l.blocks;
+  telling : g.B.Blocks.tells l.fn.blocks → g.B.Blocks.tells l.blocks;
   none_rose : g.B.Blocks.faults l.blocks ≡ g.B.Blocks.faults l.fn.blocks;
   areas_are : g.B.Blocks.areas l.blocks ≡ g.B.Blocks.areas l.fn.blocks;
   lender_is : g.B.Blocks.lender l.blocks ≡ g.B.Blocks.lender l.fn.blocks;

@@ -5,6 +5,7 @@ use Rattle.std.proofs.lemmas.List.{take_all}
 use Rattle.bx_audit_trees.proofs.Ends.{if_torn}
 use Rattle.bx_audit_bodies.specs.Pieces.{HasPiece}
 use Rattle.bx_audit_bodies.proofs.PiecesRead.{read_more, no_piece_of}
+use Rattle.bx_audit_bodies.proofs.PartsLed.{one_at}
 use Rattle.bx_audit_bodies.proofs.contents.read_pieces.Goals as goal
 
 pub returns-in_err-block_at-clause-torn : goal.returns-in_err-block_at-clause-torn
@@ -17,6 +18,7 @@ returns-in_err-block_at-clause-torn g c = λ chunks shows.
 pub loop-piece-preserved : goal.loop-piece-preserved
 loop-piece-preserved g c = record {
   ready = c.in_ok-block_at.ensures.keeps_ready;
+  telling = λ tells. c.in_ok-block_at.ensures.keeps_telling (c.loop-piece.invariant.telling tells);
   none_rose = c.in_ok-block_at.ensures.counts ∙ c.loop-piece.invariant.none_rose;
   areas_are = c.in_ok-block_at.ensures.keeps_areas ∙ c.loop-piece.invariant.areas_are;
   lender_is = c.in_ok-block_at.ensures.keeps_lender ∙ c.loop-piece.invariant.lender_is;
@@ -29,3 +31,11 @@ loop-piece-preserved g c = record {
 pub returns-clause-ok : goal.returns-clause-ok
 returns-clause-ok g c = λ chunks shows.
     subst (All (HasPiece chunks)) (take_all c.loop-piece.piece-index c.args.pieces.now c.loop-piece-test.false) (c.loop-piece.invariant.read chunks shows)
+
+pub returns-in_err-block_at-clause-names : goal.returns-in_err-block_at-clause-names
+returns-in_err-block_at-clause-names g c =
+    let p = err_from_is_err_and c.from_residual.result c.from_residual.ensures.1 in
+    if_torn _ _ c.in_err-block_at.field-0.0 c.from_residual.result (p.1 ∙ ap Err p.2) (λ at found wanted is. one_at c.args.pieces.now c.loop-piece.piece-index _ wanted c.loop-piece-test.true is) (c.in_err-block_at.ensures.names)
+
+pub returns-in_err-block_at-clause-shows : goal.returns-in_err-block_at-clause-shows
+returns-in_err-block_at-clause-shows g c = λ chunks shows. c.in_err-block_at.ensures.shows chunks (c.loop-piece.invariant.shows chunks shows)

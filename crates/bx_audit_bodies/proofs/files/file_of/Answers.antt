@@ -1,4 +1,4 @@
-use Rattle.std.proofs.Common.{◌≡◌, Option, Some, None, ap, ◌∙◌, Err}
+use Rattle.std.proofs.Common.{◌≡◌, ⊎_elim, inl, inr, Option, Some, None, ap, ◌∙◌, Err}
 use Rattle.std.proofs.lemmas.Result.{err_from_is_err_and}
 use Rattle.bx_audit_trees.proofs.Ends.{if_torn}
 use Rattle.bx_audit_files.proofs.NamesOfTrees.{if_ok}
@@ -66,3 +66,29 @@ returns-in-5-clause-names g c = λ chunks shows none. let is = c.in_ok-inode.ens
 
 pub returns-clause-names : goal.returns-clause-names
 returns-clause-names g c = λ chunks shows none. let is = c.in_ok-inode.ensures.ok chunks shows in absurd (not_both (chunks c.args.handle) is.block is.chunk none)
+
+pub returns-in_err-inode-clause-part : goal.returns-in_err-inode-clause-part
+returns-in_err-inode-clause-part g c = λ chunks shows.
+    let p = err_from_is_err_and c.from_residual.result c.from_residual.ensures.1 in
+    if_torn _ _ c.in_err-inode.field-0.0 c.from_residual.result (p.1 ∙ ap Err p.2) (λ at found wanted is. inl is) c.in_err-inode.ensures.names
+
+pub returns-in-1-clause-part : goal.returns-in-1-clause-part
+returns-in-1-clause-part g c = λ chunks shows. torn_too _ _ c.regular_of.result (λ at found wanted. ⊎_elim (λ itself. inl itself) (λ led. inr (c.in_ok-inode.inode, c.in_ok-inode.ensures.ok chunks shows, led))) (c.regular_of.ensures.part chunks (c.in_ok-inode.ensures.shows chunks shows))
+
+pub returns-in-2-clause-part : goal.returns-in-2-clause-part
+returns-in-2-clause-part g c = λ chunks shows. torn_too _ _ c.directory_of.result (λ at found wanted. ⊎_elim (λ itself. inl itself) (λ led. inr (c.in_ok-inode.inode, c.in_ok-inode.ensures.ok chunks shows, led))) (c.directory_of.ensures.part chunks (c.in_ok-inode.ensures.shows chunks shows))
+
+pub returns-in-5-clause-part : goal.returns-in-5-clause-part
+returns-in-5-clause-part g c = λ chunks shows. torn_too _ _ c.link_of.result (λ at found wanted itself. inl itself) (c.link_of.ensures.part)
+
+pub returns-clause-part : goal.returns-clause-part
+returns-clause-part g c = λ chunks shows. torn_too _ _ c.dead_of.result (λ at found wanted. ⊎_elim (λ itself. inl itself) (λ led. inr (c.in_ok-inode.inode, c.in_ok-inode.ensures.ok chunks shows, led))) (c.dead_of.ensures.part chunks (c.in_ok-inode.ensures.shows chunks shows))
+
+pub returns-in-1-clause-shows : goal.returns-in-1-clause-shows
+returns-in-1-clause-shows g c = λ chunks shows. c.regular_of.ensures.shows chunks (c.in_ok-inode.ensures.shows chunks shows)
+
+pub returns-in-2-clause-shows : goal.returns-in-2-clause-shows
+returns-in-2-clause-shows g c = λ chunks shows. c.directory_of.ensures.shows chunks (c.in_ok-inode.ensures.shows chunks shows)
+
+pub returns-clause-shows : goal.returns-clause-shows
+returns-clause-shows g c = λ chunks shows. c.dead_of.ensures.shows chunks (c.in_ok-inode.ensures.shows chunks shows)

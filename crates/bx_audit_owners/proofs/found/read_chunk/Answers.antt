@@ -48,7 +48,7 @@ returns-in_err-put_inode-clause-torn g c = λ chunks shows there found.
     let holder : c.holder_of-holder.result ≡ holder_for c.in_ok-file.field-0.file = cc in
     if_torn _ _ c.in_err-put_inode.field-0.0 c.from_residual-in_err-put_inode.result (p.1 ∙ ap Err p.2)
     (λ at f wanted clash. clash_has_none chunks before c.args.found.now.files c.args.handle claims found c.in_ok-file.field-0.file inode.0 read inode.1 inode.2
-    (subst (λ (h : Holder). Clashes before c.args.handle h claims) holder (subst (Clashes before c.args.handle c.holder_of-holder.result) c.as_slice.ensures.value clash)))
+    (subst (λ (h : Holder). Clashes before c.args.handle h claims) holder (subst (Clashes before c.args.handle c.holder_of-holder.result) c.as_slice.ensures.value clash.0)))
     c.in_err-put_inode.ensures.torn
 
 pub returns-in_err-put_inode-clause-shows : goal.returns-in_err-put_inode-clause-shows
@@ -73,3 +73,6 @@ returns-clause-ok g c = λ chunks shows found.
     subst (λ (m : BTreeMap ℕ Holder). IsFound chunks (holdings_of m) c.put_file.new.found.files) (sym c.in_ok-put_file.ensures.holders)
     (with_inode chunks before c.args.found.now.files c.args.handle claims found now c.put_file.new.found.files c.in_ok-file.field-0.file read
     (not_some (holdings_of c.args.found.now.holders c.args.handle) (sym c.contains_key.ensures ∙ c.if-contains_key.false)) adds c.in_ok-put_file.ensures.with c.in_ok-put_file.ensures.none)
+
+pub returns-in_err-file-clause-shows : goal.returns-in_err-file-clause-shows
+returns-in_err-file-clause-shows g c = λ chunks shows. c.in_err-file.ensures.shows chunks (c.in_ok-is_inode.ensures.shows chunks shows)

@@ -1,4 +1,4 @@
-use Rattle.std.proofs.Common.{◌≡◌, ◌+◌, ◌*◌, ℕ, arith, sym, ap, subst, ◌∙◌}
+use Rattle.std.proofs.Common.{◌≡◌, ◌+◌, ◌*◌, ℕ, sym, ap, subst, ◌∙◌}
 use Rattle.bx_audit_owners.specs.declared.slots.UsedSlot.{UsedSlot}
 use Rattle.bx_audit_owners.specs.UsedSlots.{AreUsedBelow, IsFreeMarked}
 use Rattle.bx_audit_owners.proofs.InUse.{free_marked, pass_unused, push_used}

@@ -1,6 +1,7 @@
 use Rattle.std.proofs.Common.{sym, subst, arith}
 use Rattle.bx_truth.specs.PageTrees.{Node, IsIn, IsInterior}
 use Rattle.bx_audit_trees.proofs.NodeLists.{at_place, all_in}
+use Rattle.bx_audit_trees.specs.Leading.{IsLedTo}
 use Rattle.bx_homes.proofs.Sectors.{not_both}
 use Rattle.bx_audit_trees.proofs.children.lead_down.Goals as goal
 
@@ -12,3 +13,9 @@ returns-then-not-is_interior-clause-torn c = rw c.torn_at.ensures (λ all.
 
 pub returns-clause-ok : goal.returns-clause-ok
 returns-clause-ok c = all_in (IsInterior c.args.below.now) c.args.above.now (λ k d less. c.loop-page.invariant k d (omega (arith, less, c.loop-page-test.false)))
+
+pub returns-then-not-is_interior-clause-led : goal.returns-then-not-is_interior-clause-led
+returns-then-not-is_interior-clause-led c = rw c.torn_at.ensures (λ chunks root led.
+    let page = c.page-item.result in
+    let is = subst (λ (n : Node). IsIn n c.args.above.now) (sym c.page-item.is) (at_place c.args.above.now c.loop-page.page-index page c.loop-page-test.true) in
+    subst (λ (n : Node). IsLedTo chunks root n.handle) (sym c.page.view_is) (all_in (λ (n : Node). IsLedTo chunks root n.handle) c.args.above.now led page is))

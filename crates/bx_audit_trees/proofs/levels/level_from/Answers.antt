@@ -8,9 +8,11 @@ use Rattle.std.specs.Prelude.{All}
 use Rattle.bx_page.specs.Keys.{IsBelow}
 use Rattle.bx_page.proofs.Order.{below_trans}
 use Rattle.bx_truth.specs.PageTrees.{Node}
+use Rattle.bx_audit_trees.specs.Leading.{AreLedTo, IsLedTo}
 use Rattle.bx_audit_trees.specs.Pages.{BeginningsRise, IsPlaced, LeadsTo, IsLevelFrom}
 use Rattle.bx_audit_trees.proofs.Ends.{if_torn}
 use Rattle.bx_audit_trees.proofs.Walk.{Walks, first_of, rest_of, last_walks, next_walks, level_of_walk, walk_of_level}
+use Rattle.bx_audit_trees.proofs.Leads.{push_led, right_led}
 use Rattle.bx_audit_trees.proofs.levels.level_from.Goals as goal
 
 pub returns-in_err-page-clause-torn : goal.returns-in_err-page-clause-torn
@@ -44,6 +46,7 @@ loop-begins-preserved g c =
     subst (λ (k : List ℕ). IsBelow k c.in-Some.high) c.bytes.ensures (of_some (λ (n : ℕ × List ℕ). IsBelow c.bytes.result.now n.1) c.in_ok-page.next next c.in-Some.is c.in_ok-page.ensures.above) in
     record {
       ready = c.in_ok-page.ensures.keeps_ready;
+      telling = λ tells. c.in_ok-page.ensures.keeps_telling (c.loop-begins.invariant.telling tells);
       none_rose = c.in_ok-page.ensures.counts ∙ c.loop-begins.invariant.none_rose;
       areas_are = c.in_ok-page.ensures.keeps_areas ∙ c.loop-begins.invariant.areas_are;
       lender_is = c.in_ok-page.ensures.keeps_lender ∙ c.loop-begins.invariant.lender_is;
@@ -51,6 +54,9 @@ loop-begins-preserved g c =
       short = of_some (λ (n : ℕ × List ℕ). length n.1 ≤ 256) c.in_ok-page.next next c.in-Some.is c.in_ok-page.ensures.short;
       rise = subst BeginningsRise (sym c.in_ok-push.ensures.items) (all_pairs_push (λ (a b : Node). IsBelow a.begins b.begins) old node c.loop-begins.invariant.rise c.loop-begins.invariant.below);
       below = subst (All (λ (n : Node). IsBelow n.begins c.in-Some.high)) (sym c.in_ok-push.ensures.items) (All-push (λ (n : Node). IsBelow n.begins c.in-Some.high) old node (λ k d less. below_trans (get_or old k d).begins c.loop-begins.begins c.in-Some.high (c.loop-begins.invariant.below k d less) above) above);
+      here = λ chunks shows. right_led chunks c.args.first c.loop-begins.handle c.in-Some.right c.in-Some.high page (c.loop-begins.invariant.here chunks shows)
+          (c.in_ok-page.ensures.at chunks (c.loop-begins.invariant.shows chunks shows)) leads;
+      led = λ chunks shows. subst (AreLedTo chunks c.args.first) (sym c.in_ok-push.ensures.items) (push_led chunks c.args.first old node (c.loop-begins.invariant.led chunks shows) (c.loop-begins.invariant.here chunks shows));
       read = λ chunks shows rest walks.
           subst (Walks chunks c.args.level c.args.first []) (sym (ap (λ (l : List Node). l ++ rest) c.in_ok-push.ensures.items ∙ append_assoc old (node ∷ []) rest)) (c.loop-begins.invariant.read chunks shows (node ∷ rest)
           (next_walks chunks c.args.level c.loop-begins.handle c.loop-begins.begins page (c.in_ok-page.ensures.at chunks (c.loop-begins.invariant.shows chunks shows)) placed c.in-Some.right c.in-Some.high rest leads walks));
@@ -58,3 +64,23 @@ loop-begins-preserved g c =
           let rest = c.loop-begins.invariant.any chunks shows nodes walks in
           rest_of chunks c.args.level c.loop-begins.handle c.loop-begins.begins page c.in-Some.right c.in-Some.high rest.0 (c.in_ok-page.ensures.at chunks (c.loop-begins.invariant.shows chunks shows)) leads rest.1;
     }
+
+pub returns-in_err-page-clause-leads : goal.returns-in_err-page-clause-leads
+returns-in_err-page-clause-leads g c = λ chunks shows.
+    let p = err_from_is_err_and c.from_residual-in_err-page.result c.from_residual-in_err-page.ensures.1 in
+    if_torn _ _ c.in_err-page.field-0.0 c.from_residual-in_err-page.result (p.1 ∙ ap Err p.2) (λ at found wanted names.
+    subst (IsLedTo chunks c.args.first) (sym names) (c.loop-begins.invariant.here chunks shows)) c.in_err-page.ensures.names
+
+pub returns-in_default-clause-led : goal.returns-in_default-clause-led
+returns-in_default-clause-led g c = λ chunks shows.
+    let node : Node = record { handle = c.loop-begins.handle; begins = c.loop-begins.begins; page = c.in_ok-page.page } in
+    subst (AreLedTo chunks c.args.first) (sym c.in_ok-push.ensures.items) (push_led chunks c.args.first c.loop-begins.pages.items node (c.loop-begins.invariant.led chunks shows) (c.loop-begins.invariant.here chunks shows))
+
+pub returns-in_err-page-clause-shows : goal.returns-in_err-page-clause-shows
+returns-in_err-page-clause-shows g c = λ chunks shows. c.in_err-page.ensures.shows chunks (c.loop-begins.invariant.shows chunks shows)
+
+pub returns-in_err-push-clause-shows : goal.returns-in_err-push-clause-shows
+returns-in_err-push-clause-shows g c = λ chunks shows. c.in_ok-page.ensures.shows chunks (c.loop-begins.invariant.shows chunks shows)
+
+pub returns-in_default-clause-shows : goal.returns-in_default-clause-shows
+returns-in_default-clause-shows g c = λ chunks shows. c.in_ok-page.ensures.shows chunks (c.loop-begins.invariant.shows chunks shows)

@@ -3,6 +3,7 @@ use Rattle.std.specs.Prelude.{All}
 use Rattle.bx_page.specs.Keys.{IsBelow}
 use Rattle.bx_truth.specs.PageTrees.{Chunks, Node}
 use Rattle.bx_audit_trees.specs.Pages.{BeginningsRise}
+use Rattle.bx_audit_trees.specs.Leading.{AreLedTo, IsLedTo}
 use Rattle.bx_audit_trees.specs.Room.{room_above}
 use Rattle.bx_audit_trees.specs.Shown.{Shows}
 use Rattle.bx_audit_trees.proofs.Walk.{Walks}
@@ -11,10 +12,13 @@ use Rattle.bx_audit_trees.proofs.levels.level_from.Given as goal
 abbrev pub invariant-loop-begins : goal.invariant-loop-begins
 invariant-loop-begins g l = record {
   ready : g.B.Blocks.ready l.blocks;
+  telling : g.B.Blocks.tells l.fn.blocks → g.B.Blocks.tells l.blocks;
   none_rose : g.B.Blocks.faults l.blocks ≡ g.B.Blocks.faults l.fn.blocks;
   areas_are : g.B.Blocks.areas l.blocks ≡ g.B.Blocks.areas l.fn.blocks;
   lender_is : g.B.Blocks.lender l.blocks ≡ g.B.Blocks.lender l.fn.blocks;
   shows : (chunks : Chunks) → Shows (g.B.Blocks.tells l.fn.blocks) l.areas (g.B.Blocks.stands l.fn.blocks) chunks → Shows (g.B.Blocks.tells l.blocks) l.areas (g.B.Blocks.stands l.blocks) chunks;
+  here : (chunks : Chunks) → Shows (g.B.Blocks.tells l.fn.blocks) l.areas (g.B.Blocks.stands l.fn.blocks) chunks → IsLedTo chunks l.first l.handle;
+  led : (chunks : Chunks) → Shows (g.B.Blocks.tells l.fn.blocks) l.areas (g.B.Blocks.stands l.fn.blocks) chunks → AreLedTo chunks l.first l.pages.items;
   short : length l.begins ≤ 256;
   rise : BeginningsRise l.pages.items;
   below : All (λ (node : Node). IsBelow node.begins l.begins) l.pages.items;

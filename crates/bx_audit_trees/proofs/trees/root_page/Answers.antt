@@ -5,6 +5,7 @@ use Rattle.bx_audit_trees.specs.Pages.{IsPlaced, LeadsTo}
 use Rattle.bx_audit_trees.proofs.Ends.{if_torn}
 use Rattle.bx_audit_trees.proofs.Descents.{root_page_at, root_placed}
 use Rattle.bx_audit_trees.proofs.Walk.{last_walks, leads_one_way, level_of_walk}
+use Rattle.bx_audit_trees.proofs.Leads.{alone_led}
 use Rattle.bx_audit_trees.proofs.trees.root_page.Goals as goal
 
 pub returns-in_err-page-clause-torn : goal.returns-in_err-page-clause-torn
@@ -35,3 +36,9 @@ returns-clause-ok g c = λ chunks shows.
     let level = level_of_walk chunks shows.none c.level-level.result c.args.root (record { handle = c.args.root; begins = []; page = page } ∷ []) walks in
     let same : record { handle = c.args.root; begins = []; page = page } ∷ [] ≡ c.push.new.self.items = (λ i. record { handle = c.args.root; begins = (sym c.in_ok-begins.ensures) i; page = page } ∷ []) ∙ sym items in
     record { is = subst (IsLevel chunks c.level-level.result) same level.is; node = node; alone = items; root_is = refl }
+
+pub returns-clause-led : goal.returns-clause-led
+returns-clause-led g c = λ chunks.
+    let node : Node = record { handle = c.args.root; begins = c.in_ok-begins.begins; page = c.in_ok-page.page } in
+    let items : c.push.new.self.items ≡ node ∷ [] = c.in_ok-push.ensures.items ∙ ap (λ (l : List Node). l ++ node ∷ []) c.new-pages.ensures.items in
+    alone_led chunks c.args.root c.push.new.self.items node items refl

@@ -2,6 +2,7 @@ use Rattle.std.proofs.Common.{◌≡◌, ℕ, suc, ◌+◌, ◌-◌, List, [], �
 use Rattle.std.proofs.lemmas.Result.{err_from_is_err_and}
 use Rattle.std.proofs.lemmas.List.{reverse-append}
 use Rattle.bx_truth.specs.PageTrees.{Node, IsLevel}
+use Rattle.bx_audit_trees.specs.Leading.{AreLedTo, IsLedTo, Itself}
 use Rattle.bx_audit_trees.specs.Trees.{LiesBelow}
 use Rattle.bx_audit_trees.proofs.Ends.{if_torn}
 use Rattle.bx_audit_trees.proofs.Descents.{Stack, lowest_level, lies_below, one_top, tree_is}
@@ -15,11 +16,13 @@ returns-in_err-top-clause-torn g c = λ chunks shows.
 pub loop-level-init : goal.loop-level-init
 loop-level-init g c = record {
   ready = c.in_ok-top.ensures.keeps_ready;
+  telling = c.in_ok-top.ensures.keeps_telling;
   none_rose = c.in_ok-top.ensures.counts;
   areas_are = c.in_ok-top.ensures.keeps_areas;
   lender_is = c.in_ok-top.ensures.keeps_lender;
   shows = c.in_ok-top.ensures.shows;
   rise = c.in_ok-top.ensures.rise;
+  led = λ chunks shows. c.in_ok-top.ensures.led chunks;
   read = λ chunks shows. subst (λ (l : List (List Node)). Stack chunks c.args.root c.in_ok-top.height (c.in_ok-top.top.items ∷ reverse l)) (sym c.new-levels.ensures.items) (c.in_ok-top.ensures.ok chunks shows);
   any = λ chunks shows tree is. one_top chunks c.args.root c.in_ok-top.height c.in_ok-top.top.items tree (c.in_ok-top.ensures.ok chunks shows) is;
 }
@@ -49,11 +52,17 @@ loop-level-preserved g c =
     let turned : low ∷ reverse old ≡ reverse c.push.new.self.items = sym (ap reverse c.in_ok-push.ensures.items ∙ reverse-append old (low ∷ [])) in
     record {
       ready = c.in_ok-below.ensures.keeps_ready;
+      telling = λ tells. c.in_ok-below.ensures.keeps_telling (c.loop-level.invariant.telling tells);
       none_rose = c.in_ok-below.ensures.counts ∙ c.loop-level.invariant.none_rose;
       areas_are = c.in_ok-below.ensures.keeps_areas ∙ c.loop-level.invariant.areas_are;
       lender_is = c.in_ok-below.ensures.keeps_lender ∙ c.loop-level.invariant.lender_is;
       shows = λ chunks shows. c.in_ok-below.ensures.shows chunks (c.loop-level.invariant.shows chunks shows);
       rise = c.in_ok-below.ensures.rise;
+      led = λ chunks shows.
+          let stack = c.loop-level.invariant.read chunks shows in
+          let above : IsLevel chunks (level - 1 + 1) c.deref.result.now =
+          subst (λ (n : ℕ). IsLevel chunks n c.deref.result.now) up (subst (IsLevel chunks level) same (lowest_level chunks c.args.root level low (reverse old) stack)) in
+          c.in_ok-below.ensures.led chunks c.args.root (c.loop-level.invariant.shows chunks shows) above (subst (AreLedTo chunks c.args.root) same (c.loop-level.invariant.led chunks shows));
       read = λ chunks shows.
           let stack = c.loop-level.invariant.read chunks shows in
           let above : IsLevel chunks (level - 1 + 1) c.deref.result.now =
@@ -79,3 +88,29 @@ returns-clause-ok g c = λ chunks shows.
     let old = c.loop-level.levels.items in
     let ground_level : c.loop-level.level ≡ 0 = omega (arith, c.loop-level-test.false) in
     tree_is chunks c.args.root (low ∷ reverse old) (subst (λ (n : ℕ). Stack chunks c.args.root n (low ∷ reverse old)) ground_level (c.loop-level.invariant.read chunks shows))
+
+pub returns-in_err-top-clause-leads : goal.returns-in_err-top-clause-leads
+returns-in_err-top-clause-leads g c = λ chunks shows.
+    let p = err_from_is_err_and c.from_residual.result c.from_residual.ensures.1 in
+    if_torn _ _ c.in_err-top.field-0.0 c.from_residual.result (p.1 ∙ ap Err p.2) (λ at found wanted is. subst (IsLedTo chunks c.args.root) (sym is) Itself) c.in_err-top.ensures.names
+
+pub returns-in_err-below-clause-leads : goal.returns-in_err-below-clause-leads
+returns-in_err-below-clause-leads g c = λ chunks shows.
+    let p = err_from_is_err_and c.from_residual-in_err-below.result c.from_residual-in_err-below.ensures.1 in
+    let level = c.loop-level.level in
+    let low = c.loop-level.lowest in
+    let up : level ≡ level - 1 + 1 = omega (arith, c.loop-level-test.true) in
+    let same : low ≡ c.deref.result.now = sym (c.deref.ensures.value ∙ c.lowest.view_is) in
+    let above : IsLevel chunks (level - 1 + 1) c.deref.result.now =
+    subst (λ (n : ℕ). IsLevel chunks n c.deref.result.now) up (subst (IsLevel chunks level) same (lowest_level chunks c.args.root level low (reverse c.loop-level.levels.items) (c.loop-level.invariant.read chunks shows))) in
+    if_torn _ _ c.in_err-below.field-0.0 c.from_residual-in_err-below.result (p.1 ∙ ap Err p.2) (λ at found wanted leads. leads)
+    (c.in_err-below.ensures.leads chunks c.args.root (c.loop-level.invariant.shows chunks shows) above (subst (AreLedTo chunks c.args.root) same (c.loop-level.invariant.led chunks shows)))
+
+pub returns-clause-led : goal.returns-clause-led
+returns-clause-led g c = λ chunks shows. c.loop-level.invariant.led chunks shows
+
+pub returns-in_err-below-clause-shows : goal.returns-in_err-below-clause-shows
+returns-in_err-below-clause-shows g c = λ chunks shows. c.in_err-below.ensures.shows chunks (c.loop-level.invariant.shows chunks shows)
+
+pub returns-in_err-push-clause-shows : goal.returns-in_err-push-clause-shows
+returns-in_err-push-clause-shows g c = λ chunks shows. c.in_ok-below.ensures.shows chunks (c.loop-level.invariant.shows chunks shows)

@@ -1,0 +1,82 @@
+//! The walk from the root over the disks of a volume.
+
+ghost use Rattle.std.specs.Prelude.{◌≡◌, ◌≤◌, ◌⊎◌, IfOk, IfErr, IsErrOf};
+ghost use Rattle.bx_audit.specs.Blocks.{StandForNoTree, blocks_of};
+ghost use Rattle.bx_audit.specs.Walked.{AreHeaded, IsWrongFromRoot};
+ghost use Rattle.bx_audit_owners.specs.Found.{AreOrdered};
+ghost use Rattle.bx_audit_owners.specs.Holding.{holdings_of};
+ghost use Rattle.bx_audit_owners.specs.Walks.{IsWalked, IsWrongMet};
+ghost use Rattle.bx_audit_trees.specs.Errors.{Counts, IfTorn};
+ghost use Rattle.bx_base.specs.Faults.{Rose};
+ghost use Rattle.bx_logs.specs.Members.{AreThere};
+ghost use Rattle.bx_overlay.specs.declared.error.AuditError.TheVariants.{DiskFault};
+ghost use Rattle.bx_overlay.specs.Refusals.{IsBreak, UnlessFault};
+ghost use Rattle.bx_truth.specs.PageTrees.{Chunks};
+
+use crate::links::block_in;
+use bx_audit_owners::{Found, walk};
+use bx_audit_trees::AuditError as TreeError;
+use bx_disk::Rack;
+use bx_homes::Blocks;
+use bx_overlay::{AuditError, Overlaid, VolumeDisks};
+use std::alloc::Global;
+
+/// What the walk from the root finds. Torn where something that it meets is wrong, and so no truth with these blocks stands for a file tree.
+fn walk_of<B: Blocks>(alloc: Global, blocks: &mut B, areas: u16) -> Result<Found, TreeError>
+    requires ready { B.ready blocks.old }
+    requires areas { B.areas blocks.old ≡ areas }
+    requires most { areas ≤ 64 }
+    ensures ok { B.tells blocks.old → (chunks : Chunks) → AreHeaded areas (B.stands blocks.old) chunks → IfOk result (λ found. IsWalked chunks (holdings_of found.holders) found.files) }
+    ensures ordered { IfOk result (λ found. AreOrdered found.files found.given) }
+    ensures torn { B.tells blocks.old → (chunks : Chunks) → AreHeaded areas (B.stands blocks.old) chunks → IfTorn result (λ at found wanted. IsWrongMet chunks wanted) }
+    ensures none { B.tells blocks.old → IfTorn result (λ at found wanted. StandForNoTree areas (B.stands blocks.old)) }
+    ensures counts { Counts result (B.faults blocks.old) (B.faults blocks.new) }
+    ensures keeps_lender { B.lender blocks.new ≡ B.lender blocks.old }
+    ensures keeps_telling { B.tells blocks.old → B.tells blocks.new }
+{
+    walk(alloc, blocks, areas)
+}
+
+/// The same over the disks of a volume whose labels and logs were read.
+fn walk_in<R: Rack>(alloc: Global, rack: &mut R, read: &VolumeDisks) -> Result<Found, TreeError>
+    requires { AreThere (R.state rack.old).sizes read.now.members }
+    ensures ok { R.tells rack.old → (chunks : Chunks) → AreHeaded read.now.members.areas (blocks_of (R.state rack.old) read.now) chunks → IfOk result (λ found. IsWalked chunks (holdings_of found.holders) found.files) }
+    ensures ordered { IfOk result (λ found. AreOrdered found.files found.given) }
+    ensures torn { R.tells rack.old → (chunks : Chunks) → AreHeaded read.now.members.areas (blocks_of (R.state rack.old) read.now) chunks → IfTorn result (λ at found wanted. IsWrongMet chunks wanted) }
+    ensures none { R.tells rack.old → IfTorn result (λ at found wanted. StandForNoTree read.now.members.areas (blocks_of (R.state rack.old) read.now)) }
+    ensures stays { R.state rack.new ≡ R.state rack.old }
+    ensures counts { Counts result (R.faults rack.old) (R.faults rack.new) }
+    ensures keeps_telling { R.tells rack.old → R.tells rack.new }
+{
+    let members = read.members;
+    let mut blocks = Overlaid::new(alloc, rack, members, read.newest.items());
+    walk_of(alloc, &mut blocks, members.areas)
+}
+
+/// What the walk from the root finds on the disks of a volume. Torn where something that it meets is wrong: of that the handle is wanted, and
+/// found is the one in the header of its block.
+pub(crate) fn walked_in<R: Rack>(
+    alloc: Global,
+    rack: &mut R,
+    read: &VolumeDisks,
+) -> Result<Found, AuditError>
+    requires { AreThere (R.state rack.old).sizes read.now.members }
+    ensures ok { R.tells rack.old → (chunks : Chunks) → AreHeaded read.now.members.areas (blocks_of (R.state rack.old) read.now) chunks → IfOk result (λ found. IsWalked chunks (holdings_of found.holders) found.files) }
+    ensures ordered { IfOk result (λ found. AreOrdered found.files found.given) }
+    ensures err { R.tells rack.old → IfErr result (λ error. IsBreak error ⊎ (IsWrongFromRoot read.now.members.areas (blocks_of (R.state rack.old) read.now) error × StandForNoTree read.now.members.areas (blocks_of (R.state rack.old) read.now))) }
+    ensures stays { R.state rack.new ≡ R.state rack.old }
+    ensures cause { IsErrOf result DiskFault → Rose (R.faults rack.old) (R.faults rack.new) }
+    ensures later { R.faults rack.old ≤ R.faults rack.new }
+    ensures counts { UnlessFault result (R.faults rack.new ≡ R.faults rack.old) }
+    ensures keeps_telling { R.tells rack.old → R.tells rack.new }
+{
+    match walk_in(alloc, rack, read) {
+        Ok(found) => Ok(found),
+        Err(TreeError::Torn(_, _, wanted)) => {
+            let (at, found) = block_in(alloc, rack, read, wanted)?;
+            Err(AuditError::Torn(at, found, wanted))
+        }
+        Err(TreeError::Fault) => Err(AuditError::DiskFault),
+        Err(TreeError::OutOfMemory) => Err(AuditError::OutOfMemory),
+    }
+}

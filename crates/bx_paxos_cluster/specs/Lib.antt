@@ -1,0 +1,3 @@
+pub mod Cluster
+pub mod Keeps
+pub mod Parts

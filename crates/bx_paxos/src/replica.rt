@@ -70,7 +70,7 @@ impl Replica {
         ensures leads { OnOk result (LeadsOn self.old.proposer.course self.new.proposer.course) }
         ensures rises { self.old.proposer.course.known.index ≤ self.new.proposer.course.known.index }
         ensures down { self.old.acceptor.cell ≡ None → self.new.acceptor.cell ≡ None }
-        ensures fault { IsErrOf result DiskFails → self.new.acceptor.cell ≡ None }
+        ensures fault { IsErrOf result DiskFails → (self.new.acceptor.cell ≡ None) × (self.new.proposer ≡ self.old.proposer) }
         ensures sent { OnOk result (SendsOnly IsRegisters out.old out.new) }
         ensures halves { AreHalves self.new.acceptor self.new.proposer }
         ensures stays { IsSame self.old.acceptor self.new.acceptor self.old.proposer self.new.proposer }

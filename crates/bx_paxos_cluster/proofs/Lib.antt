@@ -1,1 +1,5 @@
+pub mod Keeping
 pub mod Others
+pub mod Places
+pub mod Steps
+pub mod Voting

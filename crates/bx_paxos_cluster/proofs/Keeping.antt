@@ -181,7 +181,7 @@ disk_for g who (IsReplica r) sizes whole at room =
 
 -- ---- what is kept
 
-place_on : (old new : Chain) (m : Machine) → ((s : GlobalState) → IsPlace old s → IsPlace new s) → KnowsPlace old m → KnowsPlace new m
+pub place_on : (old new : Chain) (m : Machine) → ((s : GlobalState) → IsPlace old s → IsPlace new s) → KnowsPlace old m → KnowsPlace new m
 place_on old new (IsReplica r) on place = on r.acceptor.held.decided place
 place_on old new (Other p) on place = tt
 

@@ -1,4 +1,5 @@
 -- A step of one machine of a cluster, which stands at a place of the list.
+use Rattle.std.proofs.lemmas.Bool.{false≢true}
 use Rattle.std.proofs.Common.{◌≡◌, ◌≢◌, ℕ, ◌+◌, ◌<◌, ◌≤◌, ◌⊎◌, Bool, true, false, List, ◌++◌, length, Option, Some, None, IfSome, Result, Ok, Err, OnOk, IfOk, refl, sym, ap, subst, ◌∙◌, arith}
 use Rattle.std.specs.Prelude.{IsSome, IsSomeAnd, slice_index_or, slice_set}
 use Rattle.bx_acceptor.specs.Standing.{HasCell, Standing as Acceptor}
@@ -17,13 +18,14 @@ use Rattle.bx_paxos.proofs.Starts.{crashed}
 use Rattle.bx_paxos.specs.Fits.{Fits, Turned, going}
 use Rattle.bx_post.specs.declared.packets.Letter.{Letter}
 use Rattle.bx_proposer.specs.Names.{number_of}
-use Rattle.bx_proposer.specs.Standing.{stopped}
+use Rattle.bx_proposer.specs.Agreement.{IsProposing}
+use Rattle.bx_proposer.specs.Standing.{IsCourse, stopped}
 use Rattle.bx_proposer.specs.declared.course.Course.{Course}
 use Rattle.bx_paxos_cluster.specs.declared.machine.Machine.{Machine}
-use Rattle.bx_paxos_cluster.specs.Cluster.{Cluster, IsCluster, is_busy, knows, voters_of}
+use Rattle.bx_paxos_cluster.specs.Cluster.{Cluster, IsCluster, course_at, is_busy, knows, named, voters_of}
 use Rattle.bx_paxos_cluster.specs.Keeps.{Keeps}
 use Rattle.bx_paxos_cluster.specs.Parts.{HasCells, IsOf, IsOut, IsPart, KnowsPlace, acceptor_of, cell_held, cell_of, course_in, course_of, machine_at, name_of, place_in, proposer_of}
-use Rattle.bx_paxos_cluster.proofs.Keeping.{busy_at, each_machine, keeps_put, known_at, tells}
+use Rattle.bx_paxos_cluster.proofs.Keeping.{busy_at, each_machine, keeps_put, known_at, none_has, place_on}
 use Rattle.bx_paxos_cluster.proofs.Places.{found, got, name_at, part_at, parts_put, put_beside, put_here}
 use Rattle.bx_paxos_cluster.proofs.Voting.{named_number, part_of, turned_at, turned_part}
 
@@ -88,6 +90,10 @@ busy_is g who m at out = subst (λ (o : Option Machine). IsSomeAnd o IsOut) (sym
 pub is_out : (g : Cluster) (who : Actor) (m : Machine) → machine_at g.machines who ≡ Some m → is_busy g who → IsOut m
 is_out g who m at busy = subst (λ (o : Option Machine). IsSomeAnd o IsOut) at busy
 
+pub not_out : {A : Type 0} (o : Option A) → o ≡ None → IsSome o → ⊥
+not_out None e is = false≢true is
+not_out (Some a) e is = absurd cc
+
 pub known_stays : (g : Cluster) (who : Actor) (m v : Machine) (ms : List Machine) → IsStep g who m v ms → (course_of v).known ≡ (course_of m).known → (other : Actor) → knows (with_machines g ms) other ≡ knows g other
 known_stays g who m v ms step same other =
     each_machine g.machines ms who m v step.at step.here step.beside (λ o n. (course_in g.made n).known ≡ (course_in g.made o).known) same (λ o. refl) other
@@ -103,6 +109,27 @@ pub busy_only : (g : Cluster) (who : Actor) (m v : Machine) (ms : List Machine) 
 busy_only g who m v ms step = busy_at g.machines ms who m v step.at step.here step.beside
 
 -- ---- what is kept
+
+true_not : true ≡ false → ⊥
+true_not e = absurd (false≢true (sym e))
+
+-- no course changed
+same_voters : (g : Cluster) (who : Actor) (m v : Machine) (ms : List Machine) (y : Disks) (past : RegisterPast) → IsStep g who m v ms → course_of v ≡ course_of m → Fits (voters_of g) y past → Fits (voters_of (with_machines g ms)) y past
+same_voters g who m v ms y past step course fits = record {
+  history = fits.history;
+  chain = fits.chain;
+  proposed = fits.proposed;
+  first = fits.first;
+  letters = fits.letters;
+  images = fits.images;
+  proposing = λ me. subst (IsProposing fits.history me) (sym (same (named me))) (fits.proposing me);
+  courses = λ me. subst (IsCourse (length g.made.devices)) (sym (same (named me))) (fits.courses me);
+  boots = λ a there. subst (λ (c : Course). c.boot ≤ past.boots a) (sym (same (named (number_of a)))) (fits.boots a there);
+  allowed = fits.allowed;
+}
+  where
+    same : (other : Actor) → course_at (with_machines g ms) other ≡ course_at g other
+    same other = each_machine g.machines ms who m v step.at step.here step.beside (λ o n. course_in g.made n ≡ course_in g.made o) course (λ o. refl) other
 
 same_disks : (who : Actor) (x : Disks) → OnlyDiskOf who x x
 same_disks who x = record { others = λ d s apart. record { reads = refl; held = refl; unsure = refl } }
@@ -134,3 +161,34 @@ crash_keeps g who m v ms x past step course none has place keeps =
     turned : Turned (number_of who) (stopped ((voters_of g).courses (number_of who))) (voters_of g).courses (voters_of (with_machines g ms)).courses
     turned = subst (λ (c : Course). Turned (number_of who) c (voters_of g).courses (voters_of (with_machines g ms)).courses) (course ∙ ap stopped (sym was))
         (turned_at g.made g.machines ms g.nodes who v step.is.few step.there step.here step.beside)
+
+-- it took what comes
+pub takes_keeps : (g : Cluster) (who : Actor) (m v : Machine) (ms : List Machine) (x y : Disks) (past : RegisterPast) (out after : List Letter) → IsStep g who m v ms → OnlyDiskOf who x y → past.down who ≡ false → Keeps g x (register_with past out)
+    → HasCells v y → KnowsPlace past.chain v → Decides (Fits (going (voters_of g) (voters_of (with_machines g ms)).courses) y) (register_with past after) → Decides (Keeps (with_machines g ms) y) (register_with past after)
+takes_keeps g who m v ms x y past out after step only up keeps has place decides = record {
+  chain = decides.chain;
+  grows = decides.grows;
+  holds = keeps_put g ms who v x y (register_with past out) (record (register_with past after) { chain = decides.chain }) step.is step.here step.beside only (places_on past.proposed past.chain decides.chain decides.grows) (λ other apart down. down) keeps
+      has (place_on past.chain decides.chain v (places_on past.proposed past.chain decides.chain decides.grows) place) (λ down. absurd (true_not (sym down ∙ up))) decides.holds;
+}
+
+-- a fault stopped it
+pub faults_keep : (g : Cluster) (who : Actor) (m v : Machine) (ms : List Machine) (x y : Disks) (past : RegisterPast) (out : List Letter) → IsStep g who m v ms → OnlyDiskOf who x y → Keeps g x (register_with past out)
+    → cell_of v ≡ None → course_of v ≡ course_of m → KnowsPlace past.chain v → Fits (voters_of g) y (register_with past out) → Keeps (with_machines g ms) y (register_with past out)
+faults_keep g who m v ms x y past out step only keeps none course place fits =
+    keeps_put g ms who v x y (register_with past out) (register_with past out) step.is step.here step.beside only (λ s at. at) (λ other apart down. down) keeps
+    (none_has y v none) place (λ down. none) (same_voters g who m v ms y (register_with past out) step course fits)
+
+-- it started again
+pub starts_keeps : (g : Cluster) (who : Actor) (m v : Machine) (ms : List Machine) (x y : Disks) (past : RegisterPast) (boot : ℕ) (out after : List Letter) → IsStep g who m v ms → OnlyDiskOf who x y → Keeps g x (register_with past out)
+    → HasCells v y → KnowsPlace past.chain v → Fits (going (voters_of g) (voters_of (with_machines g ms)).courses) y (register_with (register_restarted past who boot) after) → Keeps (with_machines g ms) y (register_with (register_restarted past who boot) after)
+starts_keeps g who m v ms x y past boot out after step only keeps has place fits =
+    keeps_put g ms who v x y (register_with past out) (register_with (register_restarted past who boot) after) step.is step.here step.beside only (λ s at. at)
+    (λ other apart down. sym (elsewhere who other false past.down apart) ∙ down) keeps has place (λ down. absurd (true_not (sym down ∙ put_at_here who false past.down))) fits
+
+pub start_fails : (g : Cluster) (who : Actor) (m v : Machine) (ms : List Machine) (x y : Disks) (past : RegisterPast) (boot : ℕ) (out : List Letter) → IsStep g who m v ms → OnlyDiskOf who x y → Keeps g x (register_with past out)
+    → cell_of v ≡ None → course_of v ≡ course_of m → KnowsPlace past.chain v → Fits (voters_of g) y (register_with (register_failed past who boot) out) → Keeps (with_machines g ms) y (register_with (register_failed past who boot) out)
+start_fails g who m v ms x y past boot out step only keeps none course place fits =
+    keeps_put g ms who v x y (register_with past out) (register_with (register_failed past who boot) out) step.is step.here step.beside only (λ s at. at)
+    (λ other apart down. sym (elsewhere who other true past.down apart) ∙ down) keeps (none_has y v none) place (λ down. none)
+    (same_voters g who m v ms y (register_with (register_failed past who boot) out) step course fits)

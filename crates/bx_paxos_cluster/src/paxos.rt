@@ -96,4 +96,66 @@ impl Paxos {
         let place = place_of(&self.machines, &who);
         self.machines[place].crash();
     }
+
+    /// Does one event of a machine. At a disk fault what is in the box isn't sent. For want of memory it isn't used again.
+    pub fn take<R: Rack>(
+        &mut self,
+        rack: &mut R,
+        at: Actor,
+        input: &Input,
+        out: &mut Outbox,
+    ) -> Result<(), FactError>
+        requires there { IsMachine self.old.nodes at }
+        requires room { HasRoom (needs self.old) (R.state rack.old).sizes }
+        ensures keeps { (past : RegisterPast) → R.tells rack.old → Keeps self.old (R.state rack.old) (register_with past out.old) → MayHear (register_with past out.old) at input.now → OnOk result (Decides (Keeps self.new (R.state rack.new)) (register_with past out.new)) }
+        ensures keeps_faulted { (past : RegisterPast) → R.tells rack.old → Keeps self.old (R.state rack.old) (register_with past out.old) → MayHear (register_with past out.old) at input.now → IsErrOf result DiskFails → Keeps self.new (R.state rack.new) (register_with past out.old) }
+        ensures any_moment { (past : RegisterPast) → R.tells rack.old → Keeps self.old (R.state rack.old) (register_with past out.old) → MayHear (register_with past out.old) at input.now → LeavesOnly (R.moment rack.old) (R.moment rack.new) (R.left_since rack.old) (R.left_since rack.new) (ReadsOnly (ReadsState self.old.made) (R.state rack.old) (IsNext past.proposed (last past.chain))) }
+        ensures rises { (who : Actor) → (knows self.old who).index ≤ (knows self.new who).index }
+        ensures knows { OnlyAt at (knows self.old) (knows self.new) }
+        ensures others { OnlyFactsAt at (is_busy self.old) (is_busy self.new) }
+        ensures still_busy { is_busy self.old at → (knows self.new at).index ≡ (knows self.old at).index → OnOk result (is_busy self.new at) }
+        ensures was_busy { OnOk result (is_busy self.new at → is_busy self.old at × ((knows self.new at).index ≡ (knows self.old at).index)) }
+        ensures needs { NeedsNoMore (needs self.old) (needs self.new) }
+        ensures sent { OnOk result (SendsOnly IsRegisters out.old out.new) }
+        ensures made { (self.new.made ≡ self.old.made) × (self.new.nodes ≡ self.old.nodes) }
+        ensures members { R.tells rack.old → SameMembers (R.state rack.old) (R.state rack.new) × SameLabels (R.state rack.old) (R.state rack.new) }
+        ensures disks { R.tells rack.old → OnlyDiskOf at (R.state rack.old) (R.state rack.new) }
+        ensures cause { IsErrOf result DiskFails → Rose (R.faults rack.old) (R.faults rack.new) }
+        ensures later { NoneFalls (R.faults rack.old) (R.faults rack.new) (R.faults_of rack.old) (R.faults_of rack.new) }
+        ensures sizes { (R.state rack.new).sizes ≡ (R.state rack.old).sizes }
+        ensures keeps_telling { R.tells rack.old → R.tells rack.new }
+    {
+        let place = place_of(&self.machines, &at);
+        self.machines[place].take(rack, input, out)
+    }
+
+    /// A machine that is down starts again, with a boot above those that it had or that were found. It has no proposal out then.
+    pub fn restart<R: Rack>(
+        &mut self,
+        rack: &mut R,
+        who: Actor,
+        boot: u64,
+        out: &mut Outbox,
+    ) -> Result<(), FactError>
+        requires there { IsMachine self.old.nodes who }
+        requires disk { HasRoom (wanted_by (disk_of who) replica_sectors) (R.state rack.old).sizes }
+        ensures keeps { (past : RegisterPast) → R.tells rack.old → Keeps self.old (R.state rack.old) (register_with past out.old) → past.boots who < boot → OnOk result (Keeps self.new (R.state rack.new) (register_with (register_restarted past who boot) out.new)) }
+        ensures keeps_faulted { (past : RegisterPast) → R.tells rack.old → Keeps self.old (R.state rack.old) (register_with past out.old) → past.boots who < boot → IsErrOf result DiskFails → Keeps self.new (R.state rack.new) (register_with (register_failed past who boot) out.old) }
+        ensures any_moment { (past : RegisterPast) → R.tells rack.old → Keeps self.old (R.state rack.old) (register_with past out.old) → LeavesOnly (R.moment rack.old) (R.moment rack.new) (R.left_since rack.old) (R.left_since rack.new) (ReadsOnly (ReadsState self.old.made) (R.state rack.old) (IsNext past.proposed (last past.chain))) }
+        ensures knows { OnlyAt who (knows self.old) (knows self.new) }
+        ensures others { OnlyFactsAt who (is_busy self.old) (is_busy self.new) }
+        ensures idle { OnOk result (is_busy self.new who → ⊥) }
+        ensures needs { NeedsAt who replica_sectors (needs self.old) (needs self.new) }
+        ensures sent { OnOk result (SendsOnly IsRegisters out.old out.new) }
+        ensures made { (self.new.made ≡ self.old.made) × (self.new.nodes ≡ self.old.nodes) }
+        ensures members { R.tells rack.old → SameMembers (R.state rack.old) (R.state rack.new) × SameLabels (R.state rack.old) (R.state rack.new) }
+        ensures disks { R.tells rack.old → OnlyDiskOf who (R.state rack.old) (R.state rack.new) }
+        ensures cause { IsErrOf result DiskFails → Rose (R.faults rack.old) (R.faults rack.new) }
+        ensures later { NoneFalls (R.faults rack.old) (R.faults rack.new) (R.faults_of rack.old) (R.faults_of rack.new) }
+        ensures sizes { (R.state rack.new).sizes ≡ (R.state rack.old).sizes }
+        ensures keeps_telling { R.tells rack.old → R.tells rack.new }
+    {
+        let place = place_of(&self.machines, &who);
+        self.machines[place].restart(rack, boot, out)
+    }
 }

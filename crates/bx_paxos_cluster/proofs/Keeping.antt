@@ -113,7 +113,7 @@ module _ (ms new : List Machine) (who : Actor) (m v : Machine) (at : machine_at 
 
 -- ---- sectors
 
-most : (o : Option Known) → sectors_for o ≤ 21
+pub most : (o : Option Known) → sectors_for o ≤ 21
 most None = omega arith
 most (Some c) = omega arith
 

@@ -62,6 +62,8 @@ steps g who place m v is there same value name part = subst (λ (n : ℕ). IsSte
   beside = beside;
   cluster = record {
     few = is.few;
+    allowed = is.allowed;
+    index = is.index;
     parts = parts_put g.nodes g.made g.machines (place_in g.machines who) v is.parts (part g.nodes g.made (part_at g.nodes g.made g.machines who m is.parts at));
     all = λ other machine. each_machine g.machines (slice_set g.machines (place_in g.machines who) v) who m v at here beside (λ o n. IsSome o → IsSome n) (λ some. refl) (λ o some. some) other (is.all other machine);
   };

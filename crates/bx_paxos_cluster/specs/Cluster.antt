@@ -1,9 +1,10 @@
 -- The register of a cluster: its machines, and what each knows, has out and needs.
-use Rattle.std.specs.Prelude.{◌≡◌, ℕ, ◌-◌, ◌≤◌, nat_lt, List, Option, Some, None, IsSome, IsSomeAnd, if◌then◌else◌}
+use Rattle.std.specs.Prelude.{◌≡◌, ℕ, ◌+◌, ◌-◌, ◌^◌, ◌<◌, ◌≤◌, nat_lt, List, Option, Some, None, IsSome, IsSomeAnd, if◌then◌else◌}
 use Rattle.bx_acceptor.specs.declared.origin.Origin.TheVariants.{Made}
 use Rattle.bx_base.specs.declared.names.Actor.{Actor}
 use Rattle.bx_base.specs.declared.names.Actor.TheVariants.{Node, Replica, Server, Member}
 use Rattle.bx_facts.specs.Machines.{IsMachine}
+use Rattle.bx_global.specs.Allowed.{IsAllowed}
 use Rattle.bx_global.specs.declared.state.GlobalState.{GlobalState}
 use Rattle.bx_paxos.specs.Fits.{Voters}
 use Rattle.bx_proposer.specs.declared.course.Course.{Course}
@@ -16,9 +17,12 @@ pub record Cluster : Type 0 where
   pub made : GlobalState
   pub machines : List Machine
 
--- What holds of each: there are at most sixteen nodes, and each machine is there and is one of this cluster's.
+-- What holds of each: there are at most sixteen nodes; its first state meets the conditions, and another may follow; each machine is there
+-- and is one of this cluster's.
 pub record IsCluster (g : Cluster) : Type 0 where
   pub few : g.nodes ≤ 16
+  pub allowed : IsAllowed g.made
+  pub index : g.made.index + 1 < 2 ^ 64
   pub parts : AreParts g.nodes g.made g.machines
   pub all : (who : Actor) → IsMachine g.nodes who → IsSome (machine_at g.machines who)
 

@@ -2,8 +2,11 @@
 #![tactic(auto)]
 
 mod finding;
+mod laws;
 mod machine;
+mod making;
 mod paxos;
 
+pub use laws::{other_disks_and_letters, what_a_register_tells};
 pub use machine::Machine;
 pub use paxos::Paxos;

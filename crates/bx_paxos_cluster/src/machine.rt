@@ -18,6 +18,7 @@ ghost use Rattle.bx_paxos.specs.Fits.{Fits, Turned, Voters, going};
 ghost use Rattle.bx_paxos.specs.Reading.{AreMade, ReadsState};
 ghost use Rattle.bx_proposer.specs.Standing.{LeadsOn, stopped};
 ghost use Rattle.bx_proposer.specs.declared.course.Course.{Course};
+ghost use Rattle.bx_paxos_cluster.specs.Beginning.{HasFirst, IsBegun, IsCalm, IsNew};
 ghost use Rattle.bx_paxos_cluster.specs.Parts.{HasCellDisk, HasCells, HasDisk, IsOf, IsOut, IsPart, IsWhole, KnowsPlace, acceptor_of, cell_of, course_of, name_of, proposer_of};
 
 use bx_base::Actor;
@@ -168,6 +169,26 @@ impl Machine {
         match self {
             Machine::Replica(replica) => replica.restart(rack, boot, out),
             Machine::Other(proposer) => Ok(proposer.restart(boot, out)?),
+        }
+    }
+
+    /// Starts for the first time, a replica with what its disk holds.
+    pub(crate) fn begin<R: Rack>(&mut self, rack: &mut R) -> Result<(), FactError>
+        requires whole { IsWhole self.old }
+        requires room { HasDisk (R.state rack.old).sizes self.old }
+        ensures begun { (nodes : ℕ) (made : GlobalState) → R.tells rack.old → IsPart nodes made self.old → IsNew made self.old → HasFirst made (R.state rack.old).reads → OnOk result (IsBegun made (R.state rack.new) self.new) }
+        ensures part { (nodes : ℕ) (made : GlobalState) → IsPart nodes made self.old → IsPart nodes made self.new }
+        ensures name { name_of self.new ≡ name_of self.old }
+        ensures course { course_of self.new ≡ course_of self.old }
+        ensures calm { R.tells rack.old → IsCalm (R.state rack.old) (R.state rack.new) }
+        ensures cause { IsErrOf result DiskFails → Rose (R.faults rack.old) (R.faults rack.new) }
+        ensures later { NoneFalls (R.faults rack.old) (R.faults rack.new) (R.faults_of rack.old) (R.faults_of rack.new) }
+        ensures sizes { (R.state rack.new).sizes ≡ (R.state rack.old).sizes }
+        ensures keeps_telling { R.tells rack.old → R.tells rack.new }
+    {
+        match self {
+            Machine::Replica(replica) => replica.acceptor.restart(rack),
+            Machine::Other(_) => Ok(()),
         }
     }
 }

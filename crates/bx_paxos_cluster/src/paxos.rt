@@ -1,8 +1,9 @@
 //! The register.
 
-ghost use Rattle.std.specs.Prelude.{◌≡◌, ◌≢◌, ℕ, ◌+◌, ◌^◌, ◌<◌, ◌≤◌, ◌⊎◌, false, true, IsErrOf, OnOk};
+ghost use Rattle.std.specs.Prelude.{◌≡◌, ◌≢◌, ℕ, ◌+◌, ◌^◌, ◌<◌, ◌≤◌, ◌⊎◌, false, true, IfOk, IsErrOf, OnErr, OnOk};
 ghost use Rattle.bx_base.specs.Faults.{Rose};
 ghost use Rattle.bx_base.specs.declared.names.Actor.{Actor};
+ghost use Rattle.bx_base.specs.declared.names.Actor.TheVariants.{Replica};
 ghost use Rattle.bx_calls.specs.Calls.{LeavesOnly};
 ghost use Rattle.bx_disk.specs.Counts.{NoneFalls};
 ghost use Rattle.bx_disk.specs.Disks.{Disks};
@@ -10,7 +11,7 @@ ghost use Rattle.bx_facts.specs.Chains.{IsNext, last};
 ghost use Rattle.bx_facts.specs.Disks.{HasRoom, NeedsAt, NeedsNoMore, OnlyDiskOf, ReadsOnly, SameLabels, SameMembers, wanted_by};
 ghost use Rattle.bx_facts.specs.Inputs.{IsRegisters, SendsOnly};
 ghost use Rattle.bx_facts.specs.Machines.{IsMachine, OnlyAt, OnlyFactsAt, disk_of};
-ghost use Rattle.bx_facts.specs.Pasts.{Decides, MayHear, RegisterPast, proposing, register_crashed, register_failed, register_restarted, register_with};
+ghost use Rattle.bx_facts.specs.Pasts.{Decides, MayHear, RegisterPast, opening_register, proposing, register_crashed, register_failed, register_restarted, register_with};
 ghost use Rattle.bx_facts.specs.declared.input.FactError.TheVariants.{Disk as DiskFails};
 ghost use Rattle.bx_facts.specs.declared.input.ProposeError.TheVariants.{NotLegal, Busy};
 ghost use Rattle.bx_global.specs.Allowed.{IsAllowed};
@@ -22,7 +23,8 @@ ghost use Rattle.bx_paxos_cluster.specs.Keeps.{Keeps};
 
 use crate::finding::place_of;
 use crate::machine::Machine;
-use bx_base::Actor;
+use crate::making::{begin_anew, make_all};
+use bx_base::{Actor, OutOfMemory};
 use bx_disk::Rack;
 use bx_facts::{FactError, Input, Outbox, ProposeError};
 use bx_global::{Change, GlobalState};
@@ -49,6 +51,45 @@ impl Model for Paxos {
 }
 
 impl Paxos {
+    /// The register of a cluster of so many nodes, at most sixteen, that is made with a state. Nothing was done with it, and its machines have
+    /// no cells yet: `format` writes them.
+    pub fn new(alloc: Global, nodes: u32, state: GlobalState) -> Result<Paxos, OutOfMemory>
+        requires few { nodes ≤ 16 }
+        requires state { IsAllowed state }
+        requires index { state.index + 1 < 2 ^ 64 }
+        ensures made { IfOk result (λ g. (g.made ≡ state) × (g.nodes ≡ nodes)) }
+        ensures knows { IfOk result (λ g. (who : Actor) → knows g who ≡ state) }
+        ensures idle { IfOk result (λ g. (who : Actor) → is_busy g who → ⊥) }
+        ensures needs { IfOk result (λ g. (disk : ℕ) → needs g disk ≡ 0) }
+    {
+        let machines = make_all(alloc, nodes, &state)?;
+        Ok(Paxos {
+            alloc,
+            nodes,
+            made: state,
+            machines,
+        })
+    }
+
+    /// Writes what the replicas' disks hold of the state that it was made with, and begins anew: every machine is up and knows that state.
+    pub fn format<R: Rack>(&mut self, rack: &mut R) -> Result<(), FactError>
+        requires room { (n : ℕ) → n < 3 → HasRoom (wanted_by (disk_of (Replica n)) replica_sectors) (R.state rack.old).sizes }
+        ensures keeps { R.tells rack.old → OnOk result (Keeps self.new (R.state rack.new) (opening_register self.old.made)) }
+        ensures knows { (who : Actor) → OnOk result (knows self.new who ≡ self.old.made) }
+        ensures idle { (who : Actor) → OnOk result (is_busy self.new who → ⊥) }
+        ensures failed { OnErr result (self.new ≡ self.old) }
+        ensures made { (self.new.made ≡ self.old.made) × (self.new.nodes ≡ self.old.nodes) }
+        ensures members { R.tells rack.old → SameMembers (R.state rack.old) (R.state rack.new) × SameLabels (R.state rack.old) (R.state rack.new) }
+        ensures cause { IsErrOf result DiskFails → Rose (R.faults rack.old) (R.faults rack.new) }
+        ensures later { NoneFalls (R.faults rack.old) (R.faults rack.new) (R.faults_of rack.old) (R.faults_of rack.new) }
+        ensures sizes { (R.state rack.new).sizes ≡ (R.state rack.old).sizes }
+        ensures keeps_telling { R.tells rack.old → R.tells rack.new }
+    {
+        let machines = begin_anew(self.alloc, rack, self.nodes, &self.made)?;
+        self.machines = machines;
+        Ok(())
+    }
+
     /// The state that a machine knows. It takes no memory.
     pub fn known(&self, who: Actor) -> &GlobalState
         requires there { IsMachine self.now.nodes who }

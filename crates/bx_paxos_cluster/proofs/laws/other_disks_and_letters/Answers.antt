@@ -1,4 +1,4 @@
-use Rattle.bx_paxos_cluster.proofs.Laws.{crash_survives, elsewhere_keeps, loses_keeps, needs_far, needs_most}
+use Rattle.bx_paxos_cluster.proofs.Telling.{crash_survives, elsewhere_keeps, loses_keeps, needs_far, needs_most}
 use Rattle.bx_paxos_cluster.proofs.laws.other_disks_and_letters.Goals as goal
 
 pub returns-clause-elsewhere : goal.returns-clause-elsewhere

@@ -1,6 +1,6 @@
 use Rattle.bx_paxos.proofs.Events.{is_legal}
 use Rattle.bx_paxos_cluster.specs.Cluster.{voters_of}
-use Rattle.bx_paxos_cluster.proofs.Laws.{first_allowed, places_at, reads_on}
+use Rattle.bx_paxos_cluster.proofs.Telling.{first_allowed, places_at, reads_on}
 use Rattle.bx_paxos_cluster.proofs.laws.what_a_register_tells.Goals as goal
 
 pub returns-clause-places : goal.returns-clause-places

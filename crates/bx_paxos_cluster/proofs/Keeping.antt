@@ -1,5 +1,5 @@
 -- What a step of one machine leaves of what a register keeps.
-use Rattle.std.proofs.Common.{◌≡◌, ◌≢◌, ℕ, ◌+◌, ◌<◌, ◌≤◌, ◌⊎◌, inl, inr, ⊎_elim, Bool, true, false, ◌==◌, List, Option, Some, None, IfSome, refl, sym, ap, subst, ◌∙◌, max, arith}
+use Rattle.std.proofs.Common.{◌≡◌, ◌≢◌, ℕ, ◌+◌, ◌<◌, ◌≤◌, ◌⊎◌, inl, inr, Bool, true, false, ◌==◌, List, Option, Some, None, IfSome, refl, sym, ap, subst, ◌∙◌, max, arith}
 use Rattle.std.specs.Prelude.{IsSomeAnd, nat_le, nat_lt, if◌then◌else◌, slice_index}
 use Rattle.std.proofs.lemmas.Bool.{false≢true}
 use Rattle.std.proofs.lemmas.Bool.Decides.{eqb_tells, nat_tests}
@@ -14,16 +14,15 @@ use Rattle.bx_disk.specs.Disks.{Disks, Image, Stays}
 use Rattle.bx_facts.proofs.Machines.{is_itself, is_one}
 use Rattle.bx_facts.specs.Chains.{Chain, IsPlace}
 use Rattle.bx_facts.specs.Disks.{HasRoom, IsKept, NeedsAt, NeedsNoMore, OnlyDiskOf, wanted_by}
-use Rattle.bx_facts.specs.Machines.{IsMachine, OnlyAt, OnlyFactsAt, disk_of, is_same}
+use Rattle.bx_facts.specs.Machines.{OnlyAt, OnlyFactsAt, disk_of, is_same}
 use Rattle.bx_facts.specs.Pasts.{RegisterPast}
 use Rattle.bx_global.specs.declared.state.GlobalState.{GlobalState}
-use Rattle.bx_paxos.specs.Fits.{Fits, Turned}
-use Rattle.bx_proposer.specs.declared.course.Course.{Course}
+use Rattle.bx_paxos.specs.Fits.{Fits}
 use Rattle.bx_paxos_cluster.specs.declared.machine.Machine.{Machine}
 use Rattle.bx_paxos_cluster.specs.declared.machine.Machine.TheVariants.{Replica as IsReplica, Other}
-use Rattle.bx_paxos_cluster.specs.Cluster.{Cluster, IsCluster, is_busy, knows, needs, needs_in, voters_of}
+use Rattle.bx_paxos_cluster.specs.Cluster.{Cluster, IsCluster, needs, needs_in, voters_of}
 use Rattle.bx_paxos_cluster.specs.Keeps.{Keeps}
-use Rattle.bx_paxos_cluster.specs.Parts.{HasCellDisk, HasCells, HasDisk, IsOut, IsWhole, KnowsPlace, acceptor_of, cell_of, course_in, course_of, machine_at, name_of, sectors_for}
+use Rattle.bx_paxos_cluster.specs.Parts.{HasCellDisk, HasCells, HasDisk, IsOut, IsWhole, KnowsPlace, cell_of, course_in, machine_at, name_of, sectors_for}
 use Rattle.bx_paxos_cluster.proofs.Places.{name_at, part_at}
 
 -- ---- cells on other disks

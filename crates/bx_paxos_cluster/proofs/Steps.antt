@@ -1,15 +1,15 @@
 -- A step of one machine of a cluster, which stands at a place of the list.
 use Rattle.std.proofs.lemmas.Bool.{false≢true}
-use Rattle.std.proofs.Common.{◌≡◌, ◌≢◌, ℕ, ◌+◌, ◌<◌, ◌≤◌, ◌⊎◌, Bool, true, false, List, ◌++◌, length, Option, Some, None, IfSome, Result, Ok, Err, OnOk, IfOk, refl, sym, ap, subst, ◌∙◌, arith}
+use Rattle.std.proofs.Common.{◌≡◌, ◌≢◌, ℕ, ◌<◌, ◌≤◌, true, false, List, length, Option, Some, None, IfSome, refl, sym, ap, subst, ◌∙◌, arith}
 use Rattle.std.specs.Prelude.{IsSome, IsSomeAnd, slice_index_or, slice_set}
 use Rattle.bx_acceptor.specs.Standing.{HasCell, Standing as Acceptor}
 use Rattle.bx_base.specs.declared.names.Actor.{Actor}
 use Rattle.bx_cell.specs.Images.{EachSure}
 use Rattle.bx_disk.specs.Disks.{Disks}
 use Rattle.bx_facts.proofs.Machines.{elsewhere, here as put_at_here}
-use Rattle.bx_facts.specs.Chains.{Chain, GrowsBy, IsPlace}
+use Rattle.bx_facts.specs.Chains.{Chain, IsPlace}
 use Rattle.bx_facts.specs.Disks.{OnlyDiskOf}
-use Rattle.bx_facts.specs.Machines.{IsMachine, OnlyAt, OnlyFactsAt, put_at}
+use Rattle.bx_facts.specs.Machines.{IsMachine, OnlyAt, OnlyFactsAt}
 use Rattle.bx_facts.specs.Pasts.{Decides, RegisterPast, proposing, register_crashed, register_failed, register_restarted, register_with}
 use Rattle.bx_global.specs.declared.change.Change.{Change}
 use Rattle.bx_global.specs.declared.state.GlobalState.{GlobalState}
@@ -24,10 +24,10 @@ use Rattle.bx_proposer.specs.declared.course.Course.{Course}
 use Rattle.bx_paxos_cluster.specs.declared.machine.Machine.{Machine}
 use Rattle.bx_paxos_cluster.specs.Cluster.{Cluster, IsCluster, course_at, is_busy, knows, named, voters_of}
 use Rattle.bx_paxos_cluster.specs.Keeps.{Keeps}
-use Rattle.bx_paxos_cluster.specs.Parts.{HasCells, IsOf, IsOut, IsPart, KnowsPlace, acceptor_of, cell_held, cell_of, course_in, course_of, machine_at, name_of, place_in, proposer_of}
+use Rattle.bx_paxos_cluster.specs.Parts.{HasCells, IsOut, IsPart, KnowsPlace, acceptor_of, cell_held, cell_of, course_in, course_of, machine_at, name_of, place_in}
 use Rattle.bx_paxos_cluster.proofs.Keeping.{busy_at, each_machine, keeps_put, known_at, none_has, place_on}
 use Rattle.bx_paxos_cluster.proofs.Places.{found, got, name_at, part_at, parts_put, put_beside, put_here}
-use Rattle.bx_paxos_cluster.proofs.Voting.{named_number, part_of, turned_at, turned_part}
+use Rattle.bx_paxos_cluster.proofs.Voting.{named_number, turned_at}
 
 -- the cluster with these machines
 abbrev pub with_machines : Cluster → List Machine → Cluster

@@ -1,12 +1,12 @@
 -- Laws of a register and the past that it keeps.
-use Rattle.std.proofs.Common.{◌≡◌, ◌≢◌, ℕ, ◌+◌, ◌<◌, ◌≤◌, ◌⊎◌, inl, inr, Bool, true, false, List, Option, Some, None, refl, sym, ap, subst, ◌∙◌, arith}
-use Rattle.std.specs.Prelude.{nat_lt, if◌then◌else◌}
+use Rattle.std.proofs.Common.{◌≡◌, ℕ, ◌<◌, ◌≤◌, inl, inr, Bool, true, false, List, Option, Some, None, refl, sym, ap, subst, ◌∙◌, arith}
+use Rattle.std.specs.Prelude.{nat_lt, if◌then◌else◌, slice_index}
 use Rattle.std.proofs.lemmas.Bool.Decides.{nat_tests}
 use Rattle.bx_base.specs.declared.names.Actor.{Actor}
 use Rattle.bx_base.specs.declared.names.Actor.TheVariants.{Replica}
 use Rattle.bx_disk.specs.Disks.{Disks, Image, IsImage}
 use Rattle.bx_facts.specs.Chains.{Chain, IsNext, IsPlace, last}
-use Rattle.bx_facts.specs.Disks.{Crashes, IsKept, SameReplicas}
+use Rattle.bx_facts.specs.Disks.{Crashes, HasRoom, SameReplicas}
 use Rattle.bx_facts.specs.Inputs.{AreAmong, IsRegisters}
 use Rattle.bx_facts.specs.Machines.{IsMachine}
 use Rattle.bx_facts.specs.Pasts.{RegisterPast}
@@ -20,9 +20,9 @@ use Rattle.bx_post.specs.declared.packets.Letter.{Letter}
 use Rattle.bx_proposer.specs.Names.{number_of}
 use Rattle.bx_proposer.specs.declared.course.Course.{Course}
 use Rattle.bx_paxos_cluster.specs.declared.machine.Machine.{Machine}
-use Rattle.bx_paxos_cluster.specs.Cluster.{Cluster, IsCluster, knows, named, needs, needs_in, voters_of}
+use Rattle.bx_paxos_cluster.specs.Cluster.{Cluster, IsCluster, knows, needs, needs_in, voters_of}
 use Rattle.bx_paxos_cluster.specs.Keeps.{Keeps}
-use Rattle.bx_paxos_cluster.specs.Parts.{cell_of, course_in, course_of, machine_at, name_of, sectors_for}
+use Rattle.bx_paxos_cluster.specs.Parts.{cell_of, course_in, course_of, machine_at, name_of}
 use Rattle.bx_paxos_cluster.proofs.Keeping.{has_kept, most, none_has, stays_kept, tells}
 use Rattle.bx_paxos_cluster.proofs.Places.{name_at, part_at}
 use Rattle.bx_paxos_cluster.proofs.Voting.{named_number, proposer_is}
@@ -83,3 +83,10 @@ pub needs_far : (g : Cluster) (disk : ℕ) → 3 ≤ disk → needs g disk ≡ 0
 needs_far g disk far =
     let t : nat_lt disk 3 ≡ false = grind (arith, nat_tests, far) in
     ap (λ (b : Bool). if b then needs_in (machine_at g.machines (Replica disk)) else 0) t
+
+pub room_of : (g : Cluster) (sizes : List ℕ) → ((n : ℕ) → n < 3 → 21 ≤ slice_index sizes n) → HasRoom (needs g) sizes
+room_of g sizes long = record { each = λ disk. by disk (nat_lt disk 3) refl }
+  where
+    by : (disk : ℕ) (t : Bool) → nat_lt disk 3 ≡ t → (if t then needs_in (machine_at g.machines (Replica disk)) else 0) ≤ slice_index sizes disk
+    by disk true e = let low : disk < 3 = grind (arith, nat_tests, e) in let some = long disk low in let few = most_in (machine_at g.machines (Replica disk)) in omega (arith, some, few)
+    by disk false e = omega arith

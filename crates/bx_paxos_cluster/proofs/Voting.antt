@@ -1,16 +1,14 @@
 -- The machines of a cluster as voters, by their numbers.
-use Rattle.std.proofs.Common.{◌≡◌, ◌≢◌, ℕ, ◌+◌, ◌-◌, ◌<◌, ◌≤◌, Bool, true, false, List, Option, Some, None, refl, sym, ap, subst, ◌∙◌, arith}
+use Rattle.std.proofs.Common.{◌≡◌, ◌≢◌, ℕ, ◌+◌, ◌-◌, ◌<◌, ◌≤◌, Bool, true, false, List, Some, refl, sym, ap, subst, ◌∙◌, arith}
 use Rattle.std.specs.Prelude.{nat_lt, if◌then◌else◌}
 use Rattle.std.proofs.lemmas.Bool.Decides.{nat_tests}
-use Rattle.bx_acceptor.specs.declared.origin.Origin.TheVariants.{Made}
 use Rattle.bx_base.specs.declared.names.Actor.{Actor}
 use Rattle.bx_base.specs.declared.names.Actor.TheVariants.{Node, Replica, Server, Member}
 use Rattle.bx_facts.specs.Machines.{IsMachine}
 use Rattle.bx_global.specs.declared.state.GlobalState.{GlobalState}
 use Rattle.bx_paxos.specs.Fits.{Turned}
 use Rattle.bx_proposer.specs.Names.{number_of}
-use Rattle.bx_proposer.specs.Standing.{IsStanding as IsProposer, Standing as Proposer}
-use Rattle.bx_proposer.specs.declared.course.Course.{Course}
+use Rattle.bx_proposer.specs.Standing.{IsStanding as IsProposer}
 use Rattle.bx_paxos_cluster.specs.declared.machine.Machine.{Machine}
 use Rattle.bx_paxos_cluster.specs.declared.machine.Machine.TheVariants.{Replica as IsReplica, Other}
 use Rattle.bx_paxos_cluster.specs.Cluster.{Cluster, IsCluster, course_at, named, voters_of}

@@ -1,11 +1,10 @@
 -- Machines that begin: in which order they stand, and what each has and knows.
-use Rattle.std.specs.Prelude.{◌≡◌, ℕ, ◌+◌, ◌-◌, ◌<◌, nat_lt, false, List, [], ◌∷◌, Some, None, IfSome, if◌then◌else◌}
+use Rattle.std.specs.Prelude.{◌≡◌, ℕ, ◌-◌, ◌<◌, nat_lt, false, List, [], ◌∷◌, Some, None, IfSome, if◌then◌else◌}
 use Rattle.bx_acceptor.specs.Handling.{first_held}
 use Rattle.bx_base.specs.declared.names.Actor.{Actor}
 use Rattle.bx_base.specs.declared.names.Actor.TheVariants.{Node, Replica, Server, Member}
 use Rattle.bx_cell.specs.Formats.{first}
 use Rattle.bx_cell.specs.Halves.{cell_in}
-use Rattle.bx_cell.specs.Images.{EachSure}
 use Rattle.bx_disk.specs.Disks.{Disks, Image}
 use Rattle.bx_global.specs.Bytes.{held_text}
 use Rattle.bx_global.specs.declared.state.GlobalState.{GlobalState}

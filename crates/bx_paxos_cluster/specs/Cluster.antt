@@ -1,5 +1,5 @@
 -- The register of a cluster: its machines, and what each knows, has out and needs.
-use Rattle.std.specs.Prelude.{◌≡◌, ℕ, ◌+◌, ◌-◌, ◌^◌, ◌<◌, ◌≤◌, nat_lt, List, Option, Some, None, IsSome, IsSomeAnd, if◌then◌else◌}
+use Rattle.std.specs.Prelude.{ℕ, ◌+◌, ◌-◌, ◌^◌, ◌<◌, ◌≤◌, nat_lt, List, Option, Some, None, IsSome, IsSomeAnd, if◌then◌else◌}
 use Rattle.bx_acceptor.specs.declared.origin.Origin.TheVariants.{Made}
 use Rattle.bx_base.specs.declared.names.Actor.{Actor}
 use Rattle.bx_base.specs.declared.names.Actor.TheVariants.{Node, Replica, Server, Member}

@@ -1,5 +1,5 @@
 -- The machines of a register: what each has, and what is said of it among voters and over disks.
-use Rattle.std.specs.Prelude.{◌≡◌, ℕ, ◌+◌, ◌≤◌, Bool, true, false, List, [], ◌∷◌, Option, Some, None, IfSome, IsSome, IsSomeAnd, if◌then◌else◌, slice_index}
+use Rattle.std.specs.Prelude.{◌≡◌, ℕ, ◌+◌, ◌≤◌, List, [], ◌∷◌, Option, Some, None, IfSome, IsSome, if◌then◌else◌, slice_index}
 use Rattle.bx_acceptor.specs.Standing.{HasCell, Standing as Acceptor}
 use Rattle.bx_acceptor.specs.declared.origin.Origin.TheVariants.{Made}
 use Rattle.bx_base.specs.declared.names.Actor.{Actor}

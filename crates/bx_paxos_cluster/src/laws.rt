@@ -1,11 +1,11 @@
 //! What holds of a register and the past that it keeps.
 
-ghost use Rattle.std.specs.Prelude.{◌≡◌, ℕ, ◌≤◌, true, List};
+ghost use Rattle.std.specs.Prelude.{◌≡◌, ℕ, ◌<◌, ◌≤◌, true, List, slice_index};
 ghost use Rattle.bx_base.specs.declared.names.Actor.{Actor};
 ghost use Rattle.bx_base.specs.declared.names.Actor.TheVariants.{Replica};
 ghost use Rattle.bx_disk.specs.Disks.{Disks, Image, IsImage};
 ghost use Rattle.bx_facts.specs.Chains.{AreLegal, IsNext, IsPlace, last};
-ghost use Rattle.bx_facts.specs.Disks.{Crashes, SameReplicas};
+ghost use Rattle.bx_facts.specs.Disks.{Crashes, HasRoom, SameReplicas};
 ghost use Rattle.bx_facts.specs.Inputs.{AreAmong, IsRegisters};
 ghost use Rattle.bx_facts.specs.Pasts.{RegisterPast};
 ghost use Rattle.bx_global.specs.Allowed.{IsAllowed};
@@ -32,5 +32,6 @@ pub fn other_disks_and_letters()
     ensures survives { (g : Cluster) (x y : Disks) (past : RegisterPast) (n : ℕ) → IsCluster g → Keeps g x past → past.down (Replica n) ≡ true → Crashes n x y → Keeps g y past }
     ensures loses { (g : Cluster) (x : Disks) (past : RegisterPast) (letters : List Letter) → Keeps g x past → AreAmong IsRegisters letters past.letters → Keeps g x (record past { letters = letters }) }
     ensures needs_little { (g : Cluster) (disk : ℕ) → needs g disk ≤ replica_sectors }
+    ensures room { (g : Cluster) (sizes : List ℕ) → ((n : ℕ) → n < 3 → replica_sectors ≤ slice_index sizes n) → HasRoom (needs g) sizes }
     ensures needs_none { (g : Cluster) (disk : ℕ) → 3 ≤ disk → needs g disk ≡ 0 }
 {}

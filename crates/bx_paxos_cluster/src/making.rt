@@ -43,12 +43,7 @@ fn name_at(place: u32) -> Actor
 }
 
 /// A machine of a cluster of so many nodes that begins with a state.
-fn make(
-    alloc: Global,
-    at: Actor,
-    nodes: u32,
-    state: &GlobalState,
-) -> Result<Machine, OutOfMemory>
+fn make(alloc: Global, at: Actor, nodes: u32, state: &GlobalState) -> Result<Machine, OutOfMemory>
     requires machine { IsMachine nodes at }
     requires state { IsAllowed state.now }
     requires index { state.now.index + 1 < 2 ^ 64 }

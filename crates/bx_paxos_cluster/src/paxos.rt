@@ -1,6 +1,6 @@
 //! The register.
 
-ghost use Rattle.std.specs.Prelude.{◌≡◌, ◌≢◌, ℕ, ◌+◌, ◌^◌, ◌<◌, ◌≤◌, ◌⊎◌, false, true, IfOk, IsErrOf, OnErr, OnOk};
+ghost use Rattle.std.specs.Prelude.{◌≡◌, ◌≢◌, ℕ, ◌+◌, ◌^◌, ◌<◌, ◌≤◌, ◌⊎◌, ◌↔◌, false, true, IfOk, IsErrOf, IsTrue, OnErr, OnOk};
 ghost use Rattle.bx_base.specs.Faults.{Rose};
 ghost use Rattle.bx_base.specs.declared.names.Actor.{Actor};
 ghost use Rattle.bx_base.specs.declared.names.Actor.TheVariants.{Replica};
@@ -88,6 +88,18 @@ impl Paxos {
         let machines = begin_anew(self.alloc, rack, self.nodes, &self.made)?;
         self.machines = machines;
         Ok(())
+    }
+
+    /// Whether this is one of the cluster's machines. It takes no memory.
+    pub fn has(&self, who: Actor) -> bool
+        ensures { IsTrue result ↔ IsMachine self.now.nodes who }
+    {
+        match who {
+            Actor::Node(n) => n < self.nodes,
+            Actor::Replica(n) => n < 3,
+            Actor::Server(n) => n < 2,
+            Actor::Member(n) => n < 8,
+        }
     }
 
     /// The state that a machine knows. It takes no memory.

@@ -1,4 +1,4 @@
-use Rattle.bx_paxos_cluster.proofs.Telling.{crash_survives, elsewhere_keeps, loses_keeps, needs_far, needs_most}
+use Rattle.bx_paxos_cluster.proofs.Telling.{crash_survives, elsewhere_keeps, loses_keeps, needs_far, needs_most, room_of}
 use Rattle.bx_paxos_cluster.proofs.laws.other_disks_and_letters.Goals as goal
 
 pub returns-clause-elsewhere : goal.returns-clause-elsewhere
@@ -15,3 +15,6 @@ returns-clause-needs_little c = needs_most
 
 pub returns-clause-needs_none : goal.returns-clause-needs_none
 returns-clause-needs_none c = needs_far
+
+pub returns-clause-room : goal.returns-clause-room
+returns-clause-room c = room_of

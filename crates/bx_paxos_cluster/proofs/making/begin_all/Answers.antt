@@ -1,7 +1,7 @@
-use Rattle.std.proofs.Common.{◌≡◌, ◌+◌, ◌≤◌, List, sym, subst, ◌∙◌, arith}
+use Rattle.std.proofs.Common.{◌+◌, List, sym, subst, ◌∙◌, arith}
 use Rattle.bx_paxos_cluster.specs.Beginning.{AreBegun, AreIdle}
 use Rattle.bx_paxos_cluster.specs.declared.machine.Machine.{Machine}
-use Rattle.bx_paxos_cluster.proofs.Beginnings.{AreMadeTo, begun_push, calm_begun, calm_first, calm_none, calm_twice, idle_push, made_all, made_more, new_push}
+use Rattle.bx_paxos_cluster.proofs.Beginnings.{AreMadeTo, begun_push, calm_begun, calm_first, calm_twice, idle_push, made_all, made_more}
 use Rattle.bx_paxos_cluster.proofs.making.begin_all.Goals as goal
 
 pub loop-place-preserved : goal.loop-place-preserved

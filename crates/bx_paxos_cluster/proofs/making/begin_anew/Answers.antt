@@ -1,12 +1,10 @@
-use Rattle.std.proofs.Common.{◌≡◌, ℕ, ◌<◌, ◌≤◌, List, length, Some, OnOk, sym, subst, ◌∙◌, arith}
+use Rattle.std.proofs.Common.{◌≡◌, ℕ, ◌≤◌, List, length, Some, sym, subst, ◌∙◌, arith}
 use Rattle.bx_acceptor.proofs.Taking.{first_is_held}
 use Rattle.bx_acceptor.specs.Handling.{first_held}
 use Rattle.bx_cell.specs.Formats.{first}
 use Rattle.bx_cell.specs.Halves.{cell_in}
-use Rattle.bx_cell.specs.Images.{EachSure}
 use Rattle.bx_global.proofs.Lengths.{length-held}
 use Rattle.bx_global.specs.Bytes.{held_text}
-use Rattle.bx_paxos_cluster.specs.Beginning.{HasFirst}
 use Rattle.bx_paxos_cluster.proofs.Beginnings.{any_ok, calm_image}
 use Rattle.bx_paxos_cluster.proofs.making.begin_anew.Goals as goal
 

@@ -1,4 +1,4 @@
-use Rattle.std.proofs.Common.{◌≡◌, ◌+◌, ◌≤◌, List, sym, subst, ◌∙◌, arith}
+use Rattle.std.proofs.Common.{◌+◌, List, sym, subst, ◌∙◌, arith}
 use Rattle.bx_paxos_cluster.specs.Beginning.{AreNew}
 use Rattle.bx_paxos_cluster.specs.declared.machine.Machine.{Machine}
 use Rattle.bx_paxos_cluster.proofs.Beginnings.{AreMadeTo, made_all, made_more, new_push}

@@ -1,11 +1,8 @@
-use Rattle.std.proofs.Common.{◌≡◌, Option, None, OnOk, ◌+◌, ◌^◌, ◌<◌, refl, sym, ap, subst, ◌∙◌}
-use Rattle.std.specs.Prelude.{IfSome}
-use Rattle.bx_cell.specs.Images.{EachSure}
+use Rattle.std.proofs.Common.{◌≡◌, ◌+◌, ◌^◌, ◌<◌, sym, subst, ◌∙◌}
 use Rattle.bx_global.specs.Allowed.{IsAllowed}
 use Rattle.bx_global.specs.declared.state.GlobalState.{GlobalState}
-use Rattle.bx_proposer.specs.Standing.{started}
-use Rattle.bx_paxos_cluster.specs.Beginning.{IsBegun, IsNew}
-use Rattle.bx_paxos_cluster.specs.Parts.{IsPart, IsWhole}
+use Rattle.bx_paxos_cluster.specs.Beginning.{IsNew}
+use Rattle.bx_paxos_cluster.specs.Parts.{IsPart}
 use Rattle.bx_paxos_cluster.proofs.Beginnings.{starts_first}
 use Rattle.bx_paxos_cluster.proofs.Others.{all_ok}
 use Rattle.bx_acceptor.specs.Starting.{StartsWith}

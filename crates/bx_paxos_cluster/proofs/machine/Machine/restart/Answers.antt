@@ -1,5 +1,4 @@
-use Rattle.std.proofs.Common.{◌≡◌, ℕ, ◌<◌, ◌≤◌, List, ◌++◌, sym, ap, subst}
-use Rattle.bx_base.specs.declared.names.Actor.{Actor}
+use Rattle.std.proofs.Common.{◌≡◌, ◌<◌, sym, subst}
 use Rattle.bx_facts.specs.Pasts.{register_restarted, register_with}
 use Rattle.bx_paxos.proofs.Sending.{start_sends}
 use Rattle.bx_paxos.specs.Fits.{Fits, Turned, going}

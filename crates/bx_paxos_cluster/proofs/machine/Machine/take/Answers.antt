@@ -1,5 +1,4 @@
-use Rattle.std.proofs.Common.{◌≡◌, ℕ, ◌<◌, sym, ap, subst, ◌∙◌}
-use Rattle.bx_facts.specs.Chains.{IsPlace}
+use Rattle.std.proofs.Common.{sym, ap, subst, ◌∙◌}
 use Rattle.bx_paxos.proofs.Replicas.{proposer_takes}
 use Rattle.bx_paxos.proofs.Sending.{proposer_sends}
 use Rattle.bx_paxos.specs.Fits.{Turned}

@@ -1,7 +1,6 @@
-use Rattle.std.proofs.Common.{◌≡◌, ◌<◌, Option, sym, ap, subst, ◌∙◌, arith}
+use Rattle.std.proofs.Common.{◌≡◌, sym, subst, ◌∙◌, arith}
 use Rattle.bx_facts.specs.Machines.{IsMachine}
 use Rattle.bx_global.specs.Allowed.{IsAllowed}
-use Rattle.bx_global.specs.declared.state.GlobalState.{GlobalState}
 use Rattle.bx_paxos_cluster.specs.Cluster.{Cluster, knows}
 use Rattle.bx_paxos_cluster.proofs.Steps.{is_part, knows_it, stands_at, within}
 use Rattle.bx_paxos_cluster.proofs.Voting.{proposer_is}

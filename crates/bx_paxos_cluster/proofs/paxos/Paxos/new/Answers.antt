@@ -1,4 +1,4 @@
-use Rattle.std.proofs.Common.{◌≡◌, ap}
+use Rattle.std.proofs.Common.{ap}
 use Rattle.bx_proposer.specs.declared.course.Course.{Course}
 use Rattle.bx_paxos_cluster.proofs.Beginnings.{idle_at, new_idle, new_needs_none, not_busy}
 use Rattle.bx_paxos_cluster.proofs.paxos.Paxos.new.Goals as goal

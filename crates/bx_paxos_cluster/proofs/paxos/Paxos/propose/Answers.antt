@@ -1,19 +1,17 @@
-use Rattle.std.proofs.Common.{◌≡◌, ◌≢◌, ℕ, ◌<◌, ◌≤◌, Option, Some, None, Result, Ok, Err, OnOk, refl, sym, ap, subst, ◌∙◌, arith}
+use Rattle.std.proofs.Common.{◌≡◌, sym, ap, subst, ◌∙◌, arith}
 use Rattle.std.specs.Prelude.{slice_set}
 use Rattle.std.proofs.lemmas.Result.{on_ok_weaker}
-use Rattle.bx_base.specs.declared.names.Actor.{Actor}
 use Rattle.bx_facts.specs.Disks.{NeedsNoMore}
 use Rattle.bx_facts.specs.Machines.{IsMachine, OnlyFactsAt}
-use Rattle.bx_facts.specs.Pasts.{proposing, register_crashed, register_with}
+use Rattle.bx_facts.specs.Pasts.{register_with}
 use Rattle.bx_global.specs.Table.{IsLegal}
 use Rattle.bx_global.specs.declared.state.GlobalState.{GlobalState}
 use Rattle.bx_paxos_cluster.specs.Cluster.{Cluster, is_busy, knows, needs, voters_of}
 use Rattle.bx_paxos_cluster.specs.Keeps.{Keeps}
-use Rattle.bx_paxos_cluster.specs.Parts.{IsOut, acceptor_of, cell_held, course_of}
-use Rattle.bx_paxos_cluster.proofs.Keeping.{needs_less, none_has}
+use Rattle.bx_paxos_cluster.specs.Parts.{cell_held}
+use Rattle.bx_paxos_cluster.proofs.Keeping.{needs_less}
 use Rattle.bx_paxos_cluster.proofs.Others.{all_ok}
-use Rattle.bx_paxos_cluster.proofs.Places.{put_same}
-use Rattle.bx_paxos_cluster.proofs.Steps.{busy_is, busy_only, crash_keeps, is_out, is_part, known_stays, knows_it, proposes_keeps, stands_at, steps, with_machines, within}
+use Rattle.bx_paxos_cluster.proofs.Steps.{busy_is, busy_only, is_out, is_part, known_stays, knows_it, proposes_keeps, steps, with_machines, within}
 use Rattle.bx_paxos_cluster.proofs.Voting.{part_of, turned_part}
 use Rattle.bx_paxos_cluster.proofs.paxos.Paxos.propose.Goals as goal
 

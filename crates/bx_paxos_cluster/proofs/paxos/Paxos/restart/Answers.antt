@@ -1,26 +1,21 @@
-use Rattle.std.proofs.Common.{◌≡◌, ◌≢◌, ℕ, ◌<◌, ◌≤◌, ◌++◌, List, Option, Some, None, Result, Ok, Err, OnOk, refl, sym, ap, subst, ◌∙◌, arith}
+use Rattle.std.proofs.Common.{◌<◌, OnOk, refl, sym, subst, arith}
 use Rattle.std.specs.Prelude.{slice_set}
 use Rattle.std.proofs.lemmas.Result.{on_ok_weaker}
 use Rattle.bx_base.specs.declared.names.Actor.{Actor}
 use Rattle.bx_calls.specs.Calls.{LeavesOnly}
-use Rattle.bx_disk.specs.Disks.{Disks}
 use Rattle.bx_facts.specs.Chains.{IsNext, last}
-use Rattle.bx_facts.specs.Disks.{HasRoom, NeedsAt, NeedsNoMore, OnlyDiskOf, ReadsOnly}
-use Rattle.bx_facts.specs.Inputs.{IsComing}
+use Rattle.bx_facts.specs.Disks.{NeedsAt, OnlyDiskOf, ReadsOnly}
 use Rattle.bx_facts.specs.Machines.{IsMachine, OnlyAt, OnlyFactsAt}
-use Rattle.bx_facts.specs.Pasts.{Decides, RegisterPast, proposing, register_crashed, register_failed, register_restarted, register_with}
-use Rattle.bx_global.specs.Table.{IsLegal}
-use Rattle.bx_global.specs.declared.state.GlobalState.{GlobalState}
+use Rattle.bx_facts.specs.Pasts.{register_failed, register_restarted, register_with}
 use Rattle.bx_paxos.specs.Fits.{Fits, Turned, going}
 use Rattle.bx_paxos.specs.Reading.{ReadsState}
-use Rattle.bx_proposer.specs.declared.course.Course.{Course}
 use Rattle.bx_paxos_cluster.specs.Cluster.{Cluster, is_busy, knows, needs, voters_of}
 use Rattle.bx_paxos_cluster.specs.Keeps.{Keeps}
-use Rattle.bx_paxos_cluster.specs.Parts.{IsOut, acceptor_of, cell_held, course_of, name_of, proposer_of}
-use Rattle.bx_paxos_cluster.proofs.Keeping.{disk_for, needs_less, needs_own, none_has, room_for}
+use Rattle.bx_paxos_cluster.specs.Parts.{course_of, proposer_of}
+use Rattle.bx_paxos_cluster.proofs.Keeping.{disk_for, needs_own}
 use Rattle.bx_paxos_cluster.proofs.Others.{all_ok}
 use Rattle.bx_paxos_cluster.proofs.Places.{name_at}
-use Rattle.bx_paxos_cluster.proofs.Steps.{busy_is, busy_only, crash_keeps, faults_keep, is_out, is_part, known_only, known_rises, known_stays, knows_it, stands_at, start_fails, starts_keeps, steps, takes_keeps, with_machines, within}
+use Rattle.bx_paxos_cluster.proofs.Steps.{busy_only, is_out, is_part, known_only, stands_at, start_fails, starts_keeps, steps, with_machines, within}
 use Rattle.bx_paxos_cluster.proofs.Voting.{part_of, turned_part}
 use Rattle.bx_paxos_cluster.proofs.paxos.Paxos.restart.Goals as goal
 
@@ -68,7 +63,7 @@ returns-clause-keeps r c = λ past tells keeps above.
     let only = subst (λ (a : Actor). OnlyDiskOf a x y) named (did.disks tells) in
     let nodes = sym (is_part g c.args.who c.place_of-place.result m c.self.invariant there c.place_of-place.ensures c.index_mut.ensures.value).nodes_are in
     let fits = subst (λ (a : Actor). past.boots a < c.args.boot → OnOk c.restart.result (Turned (proposer_of m).actor (course_of v) (voters_of g).courses (voters_of (with_machines g ms)).courses → Fits (going (voters_of g) (voters_of (with_machines g ms)).courses) y (register_with (register_restarted past a c.args.boot) c.restart.new.out))) named
-        (λ higher. did.keeps (voters_of g) past (voters_of (with_machines g ms)).courses tells part step.is.few nodes higher kept.fits) above in
+    (λ higher. did.keeps (voters_of g) past (voters_of (with_machines g ms)).courses tells part step.is.few nodes higher kept.fits) above in
     all_ok c.restart.result _ _ _ _ fits (did.cells tells) (did.places (voters_of g) past tells part kept.fits)
     (λ goes cells place. starts_keeps g c.args.who m v ms x y past c.args.boot c.args.out.now c.restart.new.out step only kept cells place (goes (turned_part g ms c.args.who m v step.is there step.at step.here step.beside)))
 

@@ -1,26 +1,20 @@
-use Rattle.std.proofs.Common.{◌≡◌, ◌≢◌, ℕ, ◌<◌, ◌≤◌, ◌++◌, List, Option, Some, None, Result, Ok, Err, OnOk, refl, sym, ap, subst, ◌∙◌, arith}
+use Rattle.std.proofs.Common.{◌≡◌, ◌≤◌, OnOk, refl, sym, ap, subst, ◌∙◌, arith}
 use Rattle.std.specs.Prelude.{slice_set}
 use Rattle.std.proofs.lemmas.Result.{on_ok_weaker}
 use Rattle.bx_base.specs.declared.names.Actor.{Actor}
 use Rattle.bx_calls.specs.Calls.{LeavesOnly}
-use Rattle.bx_disk.specs.Disks.{Disks}
 use Rattle.bx_facts.specs.Chains.{IsNext, last}
-use Rattle.bx_facts.specs.Disks.{HasRoom, NeedsAt, NeedsNoMore, OnlyDiskOf, ReadsOnly}
-use Rattle.bx_facts.specs.Inputs.{IsComing}
+use Rattle.bx_facts.specs.Disks.{HasRoom, NeedsNoMore, OnlyDiskOf, ReadsOnly}
 use Rattle.bx_facts.specs.Machines.{IsMachine, OnlyAt, OnlyFactsAt}
-use Rattle.bx_facts.specs.Pasts.{Decides, RegisterPast, proposing, register_crashed, register_failed, register_restarted, register_with}
-use Rattle.bx_global.specs.Table.{IsLegal}
+use Rattle.bx_facts.specs.Pasts.{register_with}
 use Rattle.bx_global.specs.declared.state.GlobalState.{GlobalState}
-use Rattle.bx_paxos.specs.Fits.{Fits, going}
 use Rattle.bx_paxos.specs.Reading.{ReadsState}
-use Rattle.bx_proposer.specs.declared.course.Course.{Course}
 use Rattle.bx_paxos_cluster.specs.Cluster.{Cluster, is_busy, knows, needs, voters_of}
 use Rattle.bx_paxos_cluster.specs.Keeps.{Keeps}
-use Rattle.bx_paxos_cluster.specs.Parts.{IsOut, acceptor_of, cell_held, course_of, name_of}
-use Rattle.bx_paxos_cluster.proofs.Keeping.{disk_for, needs_less, needs_own, none_has, room_for}
+use Rattle.bx_paxos_cluster.proofs.Keeping.{needs_less, room_for}
 use Rattle.bx_paxos_cluster.proofs.Others.{all_ok}
 use Rattle.bx_paxos_cluster.proofs.Places.{name_at}
-use Rattle.bx_paxos_cluster.proofs.Steps.{busy_is, busy_only, crash_keeps, faults_keep, is_out, is_part, known_only, known_rises, known_stays, knows_it, stands_at, start_fails, starts_keeps, steps, takes_keeps, with_machines, within}
+use Rattle.bx_paxos_cluster.proofs.Steps.{busy_is, busy_only, faults_keep, is_out, is_part, known_only, known_rises, knows_it, stands_at, steps, takes_keeps, with_machines, within}
 use Rattle.bx_paxos_cluster.proofs.Voting.{part_of, turned_part}
 use Rattle.bx_paxos_cluster.proofs.paxos.Paxos.take.Goals as goal
 

@@ -27,7 +27,7 @@ use Rattle.bx_paxos_cluster.specs.Keeps.{Keeps}
 use Rattle.bx_paxos_cluster.specs.Parts.{HasCells, IsOut, IsPart, KnowsPlace, acceptor_of, cell_held, cell_of, course_in, course_of, machine_at, name_of, place_in}
 use Rattle.bx_paxos_cluster.proofs.Keeping.{busy_at, each_machine, keeps_put, known_at, none_has, place_on}
 use Rattle.bx_paxos_cluster.proofs.Places.{found, got, name_at, part_at, parts_put, put_beside, put_here}
-use Rattle.bx_paxos_cluster.proofs.Voting.{named_number, turned_at}
+use Rattle.bx_paxos_cluster.proofs.Voting.{named_number, proposer_is, turned_at}
 
 -- the cluster with these machines
 abbrev pub with_machines : Cluster → List Machine → Cluster
@@ -194,3 +194,36 @@ start_fails g who m v ms x y past boot out step only keeps none course place fit
     keeps_put g ms who v x y (register_with past out) (register_with (register_failed past who boot) out) step.is step.here step.beside only (λ s at. at)
     (λ other apart down. sym (elsewhere who other true past.down apart) ∙ down) keeps (none_has y v none) place (λ down. none)
     (same_voters g who m v ms y (register_with (register_failed past who boot) out) step course fits)
+
+-- ---- a name that no machine has
+
+pub is_there : (g : Cluster) (who : Actor) (m : Machine) → IsCluster g → machine_at g.machines who ≡ Some m → IsMachine g.nodes who
+is_there g who m is at =
+    let part = part_at g.nodes g.made g.machines who m is.parts at in
+    subst (IsMachine g.nodes) (name_at g.machines who m at) (subst (λ (n : ℕ). IsMachine n (name_of m)) part.nodes_are (proposer_is m part.whole).machine)
+
+pub nobody_busy : (g : Cluster) (who : Actor) → IsCluster g → (IsMachine g.nodes who → ⊥) → is_busy g who → ⊥
+nobody_busy g who is nobody busy = by (machine_at g.machines who) refl busy
+  where
+    by : (o : Option Machine) → machine_at g.machines who ≡ o → IsSomeAnd o IsOut → ⊥
+    by None at out = absurd out
+    by (Some m) at out = nobody (is_there g who m is at)
+
+pub nobody_keeps : (g : Cluster) (who : Actor) (x : Disks) (past : RegisterPast) → IsCluster g → (IsMachine g.nodes who → ⊥) → Keeps g x past → Keeps g x (register_crashed past who)
+nobody_keeps g who x past is nobody keeps = record {
+  fits = record {
+    history = keeps.fits.history;
+    chain = keeps.fits.chain;
+    proposed = keeps.fits.proposed;
+    first = keeps.fits.first;
+    letters = keeps.fits.letters;
+    images = keeps.fits.images;
+    proposing = keeps.fits.proposing;
+    courses = keeps.fits.courses;
+    boots = keeps.fits.boots;
+    allowed = keeps.fits.allowed;
+  };
+  cells = keeps.cells;
+  places = keeps.places;
+  down = λ other m at down. keeps.down other m at (sym (elsewhere who other true past.down (λ same. nobody (subst (IsMachine g.nodes) same (is_there g other m is at)))) ∙ down);
+}

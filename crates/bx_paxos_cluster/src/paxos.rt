@@ -138,7 +138,6 @@ impl Paxos {
 
     /// A machine stops. It takes no memory.
     pub fn crash(&mut self, who: Actor)
-        requires there { IsMachine self.old.nodes who }
         ensures keeps { (x : Disks) (past : RegisterPast) → Keeps self.old x past → Keeps self.new x (register_crashed past who) }
         ensures others { OnlyFactsAt who (is_busy self.old) (is_busy self.new) }
         ensures idle { is_busy self.new who → ⊥ }
@@ -146,6 +145,9 @@ impl Paxos {
         ensures needs { NeedsNoMore (needs self.old) (needs self.new) }
         ensures made { (self.new.made ≡ self.old.made) × (self.new.nodes ≡ self.old.nodes) }
     {
+        if !self.has(who) {
+            return;
+        }
         let place = place_of(&self.machines, &who);
         self.machines[place].crash();
     }

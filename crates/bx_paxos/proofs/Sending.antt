@@ -1,7 +1,7 @@
 -- All that a register sends is of the register's kinds.
-use Rattle.std.proofs.Common.{◌≡◌, ℕ, ◌≤◌, List, [], ◌∷◌, ◌++◌, Option, Some, None, Contains, refl, sym, subst, inl, inr, lit≤}
+use Rattle.std.proofs.Common.{◌≡◌, ℕ, List, [], ◌∷◌, ◌++◌, Option, Some, None, Contains, refl, sym, subst, inl, inr, lit≤}
 use Rattle.std.proofs.lemmas.List.Elements.{Contains-append_cases, Contains-append_left}
-use Rattle.bx_acceptor.specs.Standing.{Answers, Standing as Acceptor, TakesIn, letters_of as answers_of}
+use Rattle.bx_acceptor.specs.Standing.{Standing as Acceptor, TakesIn, letters_of as answers_of}
 use Rattle.bx_base.specs.declared.names.Actor.{Actor}
 use Rattle.bx_base.specs.declared.names.Actor.TheVariants.{Node, Replica, Server, Member}
 use Rattle.bx_facts.proofs.Lists.{front_or_behind, nothing}
@@ -10,7 +10,7 @@ use Rattle.bx_facts.specs.declared.input.Input.{Input}
 use Rattle.bx_facts.specs.declared.input.Input.TheVariants.{Packet, Tick, Synced}
 use Rattle.bx_global.specs.declared.change.Change.{Change}
 use Rattle.bx_global.specs.declared.state.GlobalState.{GlobalState}
-use Rattle.bx_packets.specs.Messages.{kind_of, letter_with}
+use Rattle.bx_packets.specs.Messages.{letter_with}
 use Rattle.bx_packets.specs.declared.message.Message.{Message}
 use Rattle.bx_packets.specs.declared.message.Message.TheVariants.{Ask, Decided, Prepare, Promise as Promising, Accept, Accepted, Refused}
 use Rattle.bx_post.specs.declared.packets.Letter.{Letter}

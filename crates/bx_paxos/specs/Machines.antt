@@ -1,5 +1,5 @@
 -- The machine of a replica: its acceptor and its proposer.
-use Rattle.std.specs.Prelude.{◌≡◌, ℕ, ◌<◌}
+use Rattle.std.specs.Prelude.{◌≡◌, ◌<◌}
 use Rattle.bx_acceptor.specs.Standing.{IsStanding as IsAcceptor, Standing as Acceptor}
 use Rattle.bx_base.specs.declared.names.Actor.TheVariants.{Replica}
 use Rattle.bx_proposer.specs.Standing.{IsStanding as IsProposer, Standing as Proposer, going_on}

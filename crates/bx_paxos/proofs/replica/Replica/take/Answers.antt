@@ -1,4 +1,4 @@
-use Rattle.std.proofs.Common.{◌≡◌, length, refl, sym, ap, subst}
+use Rattle.std.proofs.Common.{length, refl, sym, ap, subst}
 use Rattle.bx_calls.specs.Calls.{LeavesOnly}
 use Rattle.bx_disk.specs.Disks.{IsImage}
 use Rattle.bx_global.specs.Bytes.{IsHeld}

@@ -31,7 +31,13 @@ fn register(alloc: Global) -> Option<(Paxos, MemRack)> {
 }
 
 /// An input comes to a machine. Says whether that went well.
-fn takes(paxos: &mut Paxos, rack: &mut MemRack, at: Actor, input: &Input, out: &mut Outbox) -> bool {
+fn takes(
+    paxos: &mut Paxos,
+    rack: &mut MemRack,
+    at: Actor,
+    input: &Input,
+    out: &mut Outbox,
+) -> bool {
     paxos.has(at) && has_disks(rack) && paxos.take(rack, at, input, out).is_ok()
 }
 
@@ -105,8 +111,20 @@ fn decides(alloc: Global, order: u64) -> bool {
             let replica = (count / TURN % 3) as u32;
             right = right
                 && turns(&mut paxos, &mut rack, replica, count, &mut more)
-                && takes(&mut paxos, &mut rack, node, &Input::Tick(count * 1_100), &mut more)
-                && takes(&mut paxos, &mut rack, server, &Input::Tick(count * 1_100), &mut more)
+                && takes(
+                    &mut paxos,
+                    &mut rack,
+                    node,
+                    &Input::Tick(count * 1_100),
+                    &mut more,
+                )
+                && takes(
+                    &mut paxos,
+                    &mut rack,
+                    server,
+                    &Input::Tick(count * 1_100),
+                    &mut more,
+                )
                 && post.send(alloc, more).is_ok();
         }
     }

@@ -1,9 +1,9 @@
 -- What comes to the machine of a replica: its acceptor takes it, its proposer is told what that knows, and takes it too.
-use Rattle.std.proofs.Common.{◌≡◌, ◌≢◌, ℕ, ◌+◌, ◌^◌, ◌<◌, ◌≤◌, ◌⊎◌, ◌==◌, Bool, true, false, List, [], ◌∷◌, ◌++◌, length, Contains, Option, Some, None, IfSome, IsSomeAnd, if◌then◌else◌, refl, sym, ap, subst, ◌∙◌, append_assoc, append-nil, inl, inr, arith}
+use Rattle.std.proofs.Common.{◌≡◌, ℕ, ◌^◌, ◌<◌, ◌≤◌, ◌⊎◌, ◌==◌, Bool, true, false, List, [], ◌++◌, length, Contains, Option, Some, None, IfSome, IsSomeAnd, if◌then◌else◌, refl, sym, ap, subst, ◌∙◌, append_assoc, append-nil, inl, inr, arith}
 use Rattle.std.proofs.lemmas.Bool.Decides.{eqb_tells}
 use Rattle.std.proofs.lemmas.List.Elements.{Contains-append_left}
-use Rattle.bx_acceptor.specs.Handling.{Handles, MayBecome}
-use Rattle.bx_acceptor.specs.Standing.{Answers, BecomesBy, Brings, HasCell, HasContent, IsCellOf, IsStanding, IsTaken, Standing as Acceptor, Takes as TakesMessage, TakesIn, letters_of as answers_of, cell_with}
+use Rattle.bx_acceptor.specs.Handling.{Handles}
+use Rattle.bx_acceptor.specs.Standing.{BecomesBy, HasCell, HasContent, IsCellOf, IsStanding, IsTaken, Standing as Acceptor, Takes as TakesMessage, TakesIn, letters_of as answers_of, cell_with}
 use Rattle.bx_acceptor.specs.Starting.{StartsWith}
 use Rattle.bx_acceptor.specs.declared.origin.Origin.{Origin}
 use Rattle.bx_agreement.specs.Passing.{MayCome}
@@ -12,10 +12,10 @@ use Rattle.bx_base.specs.declared.names.Actor.TheVariants.{Replica}
 use Rattle.bx_calls.specs.Calls.{KeepsAll, KeepsSure, LeavesOnly}
 use Rattle.bx_calls.specs.Laws.{leaves_implies}
 use Rattle.bx_cell.specs.Cells.{HasEither, Holds, Known, next, with_value}
-use Rattle.bx_cell.specs.Halves.{Found, cell_in}
-use Rattle.bx_cell.specs.Images.{EachSure, HasAllSure}
+use Rattle.bx_cell.specs.Halves.{cell_in}
+use Rattle.bx_cell.specs.Images.{EachSure}
 use Rattle.bx_disk.specs.Disks.{Disks, Image, IsImage}
-use Rattle.bx_facts.specs.Chains.{Chain, GrowsBy, IsNext, IsPlace, last}
+use Rattle.bx_facts.specs.Chains.{Chain, IsNext, IsPlace, last}
 use Rattle.bx_facts.proofs.Machines.{is_one}
 use Rattle.bx_facts.specs.Inputs.{IsComing}
 use Rattle.bx_facts.specs.Machines.{is_same}
@@ -42,7 +42,7 @@ use Rattle.bx_proposer.specs.declared.course.Course.{Course}
 use Rattle.bx_proposer.specs.declared.course.Move.{Move}
 use Rattle.bx_proposer.specs.declared.course.Move.TheVariants.{Nothing}
 use Rattle.bx_paxos.specs.Counted.{IsCounted, IsHeldSound}
-use Rattle.bx_paxos.specs.Fits.{AllPass, Comes, Fits, Goes, KnowsCell, Turned, Voters, devices_of, going}
+use Rattle.bx_paxos.specs.Fits.{AllPass, Fits, Goes, KnowsCell, Turned, Voters, devices_of, going}
 use Rattle.bx_paxos.specs.Reading.{AreMade, ReadsNext}
 use Rattle.bx_paxos.specs.Machines.{AreHalves, AreOf}
 use Rattle.bx_paxos.proofs.Events.{answers, counted, hears, holds_place, may_come, ticks_at, syncs, to_replica, with_images}

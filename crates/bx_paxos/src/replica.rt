@@ -1,6 +1,6 @@
 //! The machine of a replica.
 
-ghost use Rattle.std.specs.Prelude.{◌≡◌, ℕ, ◌<◌, ◌≤◌, ◌⊎◌, ◌++◌, IfSome, IsErrOf, OnOk, slice_index};
+ghost use Rattle.std.specs.Prelude.{◌≡◌, ℕ, ◌<◌, ◌≤◌, ◌⊎◌, ◌++◌, None, IfSome, IsErrOf, OnOk, slice_index};
 ghost use Rattle.bx_acceptor.specs.Disks.{Counts, Syncs, Writes};
 ghost use Rattle.bx_acceptor.specs.Standing.{HasCell, stopped as no_cell};
 ghost use Rattle.bx_base.specs.declared.names.Actor.TheVariants.{Replica as OfReplica};
@@ -9,16 +9,16 @@ ghost use Rattle.bx_cell.specs.Images.{EachSure};
 ghost use Rattle.bx_disk.specs.Counts.{BothRose};
 ghost use Rattle.bx_disk.specs.Disks.{Disks};
 ghost use Rattle.bx_facts.specs.Chains.{IsPlace};
-ghost use Rattle.bx_facts.specs.Inputs.{IsComing};
+ghost use Rattle.bx_facts.specs.Inputs.{IsComing, IsRegisters, SendsOnly};
 ghost use Rattle.bx_facts.specs.Pasts.{Decides, RegisterPast, proposing, register_failed, register_restarted, register_with};
 ghost use Rattle.bx_facts.specs.declared.input.FactError.TheVariants.{Disk as DiskFails};
 ghost use Rattle.bx_facts.specs.declared.input.ProposeError.TheVariants.{NotLegal, Busy};
 ghost use Rattle.bx_global.specs.Table.{IsLegal};
 ghost use Rattle.bx_places.specs.Places.{replica_sectors};
-ghost use Rattle.bx_proposer.specs.Standing.{IsBusy, going_on, stopped};
+ghost use Rattle.bx_proposer.specs.Standing.{IsBusy, LeadsOn, going_on, stopped};
 ghost use Rattle.bx_proposer.specs.declared.course.Course.{Course};
 ghost use Rattle.bx_paxos.specs.Fits.{Fits, Turned, Voters, going};
-ghost use Rattle.bx_paxos.specs.Machines.{AreHalves, AreOf};
+ghost use Rattle.bx_paxos.specs.Machines.{AreHalves, AreOf, IsSame};
 ghost use Rattle.bx_paxos.specs.Reading.{AreMade, ReadsNext};
 
 use bx_acceptor::Acceptor;
@@ -65,9 +65,15 @@ impl Replica {
             → IsComing (past.letters ++ out.old) input.now → Fits v (R.state rack.old) (register_with past out.old)
             → LeavesOnly (R.moment rack.old) (R.moment rack.new) (R.left_since rack.old) (R.left_since rack.new) (ReadsNext v.first past) }
         ensures known { (v : Voters) (past : RegisterPast) → R.tells rack.old → AreOf v self.old.acceptor self.old.proposer → EachSure (R.state rack.old) (HasCell self.old.acceptor) → IsPlace past.chain self.old.acceptor.held.decided
-            → IsComing (past.letters ++ out.old) input.now → Fits v (R.state rack.old) (register_with past out.old) → OnOk result (IsPlace past.chain self.new.acceptor.held.decided) }
+            → IsComing (past.letters ++ out.old) input.now → Fits v (R.state rack.old) (register_with past out.old) → IsPlace past.chain self.new.acceptor.held.decided }
         ensures holds { R.tells rack.old → EachSure (R.state rack.old) (HasCell self.old.acceptor) → OnOk result (EachSure (R.state rack.new) (HasCell self.new.acceptor)) }
-        ensures halves { OnOk result (AreHalves self.new.acceptor self.new.proposer) }
+        ensures leads { OnOk result (LeadsOn self.old.proposer.course self.new.proposer.course) }
+        ensures rises { self.old.proposer.course.known.index ≤ self.new.proposer.course.known.index }
+        ensures down { self.old.acceptor.cell ≡ None → self.new.acceptor.cell ≡ None }
+        ensures fault { IsErrOf result DiskFails → (self.new.acceptor.cell ≡ None) × (self.new.proposer ≡ self.old.proposer) }
+        ensures sent { OnOk result (SendsOnly IsRegisters out.old out.new) }
+        ensures halves { AreHalves self.new.acceptor self.new.proposer }
+        ensures stays { IsSame self.old.acceptor self.new.acceptor self.old.proposer self.new.proposer }
         ensures disks { R.tells rack.old → Writes (R.state rack.old) (R.state rack.new) (R.moment rack.old) (R.moment rack.new) (R.left_since rack.old) (R.left_since rack.new) self.old.acceptor.replica }
         ensures counts { Counts (R.state rack.old).sizes (R.state rack.new).sizes (R.faults rack.old) (R.faults rack.new) (R.faults_of rack.old) (R.faults_of rack.new) }
         ensures cause { IsErrOf result DiskFails → BothRose (R.faults rack.old) (R.faults rack.new) (R.faults_of rack.old) (R.faults_of rack.new) self.old.acceptor.replica }
@@ -89,7 +95,11 @@ impl Replica {
         ensures not_legal { IsErrOf result NotLegal → IsLegal self.old.proposer.course.known change.now → ⊥ }
         ensures busy { IsErrOf result Busy → IsLegal self.old.proposer.course.known change.now × IsBusy self.old.proposer }
         ensures refused { IsErrOf result NotLegal ⊎ IsErrOf result Busy → (self.new ≡ self.old) × (out.new ≡ out.old) }
-        ensures halves { OnOk result (AreHalves self.new.acceptor self.new.proposer) }
+        ensures out { OnOk result (IsBusy self.new.proposer) }
+        ensures known { self.new.proposer.course.known ≡ self.old.proposer.course.known }
+        ensures sent { OnOk result (SendsOnly IsRegisters out.old out.new) }
+        ensures halves { AreHalves self.new.acceptor self.new.proposer }
+        ensures stays { IsSame self.old.acceptor self.new.acceptor self.old.proposer self.new.proposer }
         ensures acceptor { self.new.acceptor ≡ self.old.acceptor }
     {
         self.proposer.propose(change, out)
@@ -97,6 +107,8 @@ impl Replica {
 
     /// Stops. What it knows stays. It takes no memory.
     pub fn crash(&mut self)
+        requires halves { AreHalves self.old.acceptor self.old.proposer }
+        ensures halves { AreHalves self.new.acceptor self.new.proposer }
         ensures acceptor { self.new.acceptor ≡ no_cell self.old.acceptor }
         ensures proposer { self.new.proposer ≡ going_on self.old.proposer (stopped self.old.proposer.course) }
     {
@@ -122,7 +134,11 @@ impl Replica {
             → LeavesOnly (R.moment rack.old) (R.moment rack.new) (R.left_since rack.old) (R.left_since rack.new) (ReadsNext v.first past) }
         ensures known { (v : Voters) (past : RegisterPast) → R.tells rack.old → AreOf v self.old.acceptor self.old.proposer → Fits v (R.state rack.old) (register_with past out.old) → OnOk result (IsPlace past.chain self.new.acceptor.held.decided) }
         ensures holds { R.tells rack.old → OnOk result (EachSure (R.state rack.new) (HasCell self.new.acceptor)) }
-        ensures halves { OnOk result (AreHalves self.new.acceptor self.new.proposer) }
+        ensures idle { OnOk result (IsBusy self.new.proposer → ⊥) }
+        ensures failed { IsErrOf result DiskFails → (self.new.acceptor ≡ no_cell self.old.acceptor) × (self.new.proposer ≡ self.old.proposer) }
+        ensures sent { OnOk result (out.new ≡ out.old) }
+        ensures halves { AreHalves self.new.acceptor self.new.proposer }
+        ensures stays { IsSame self.old.acceptor self.new.acceptor self.old.proposer self.new.proposer }
         ensures disks { R.tells rack.old → Syncs (R.state rack.old) (R.state rack.new) (R.moment rack.old) (R.moment rack.new) (R.left_since rack.old) (R.left_since rack.new) self.old.acceptor.replica }
         ensures counts { Counts (R.state rack.old).sizes (R.state rack.new).sizes (R.faults rack.old) (R.faults rack.new) (R.faults_of rack.old) (R.faults_of rack.new) }
         ensures cause { IsErrOf result DiskFails → BothRose (R.faults rack.old) (R.faults rack.new) (R.faults_of rack.old) (R.faults_of rack.new) self.old.acceptor.replica }

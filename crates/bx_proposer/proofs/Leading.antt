@@ -1,8 +1,11 @@
 -- No step forgets: what is known doesn't go back, and a proposal is out until what is known rises.
-use Rattle.std.proofs.Common.{◌≡◌, ◌≢◌, ℕ, ◌+◌, ◌<◌, ◌≤◌, ◌⊎◌, Option, Some, None, IfSome, IsSome, IsSomeAnd, refl, sym, ap, subst, ◌∙◌, inl, inr, arith}
+use Rattle.std.proofs.Common.{◌≡◌, ℕ, ◌+◌, ◌<◌, Option, Some, None, IfSome, IsSome, IsSomeAnd, refl, sym, ap, subst, inl, inr, arith}
 use Rattle.std.proofs.lemmas.Bool.{false≢true}
 use Rattle.bx_base.specs.declared.names.Actor.{Actor}
 use Rattle.bx_base.specs.declared.names.Actor.TheVariants.{Node, Replica, Server, Member}
+use Rattle.bx_facts.specs.declared.input.Input.{Input}
+use Rattle.bx_facts.specs.declared.input.Input.TheVariants.{Packet, Tick, Synced}
+use Rattle.bx_global.specs.declared.change.Change.{Change}
 use Rattle.bx_global.specs.declared.state.GlobalState.{GlobalState}
 use Rattle.bx_packets.specs.declared.message.Message.{Message}
 use Rattle.bx_packets.specs.declared.message.Message.TheVariants.{Ask, Decided, Prepare, Promise as Promising, Accept, Accepted, Refused}
@@ -11,11 +14,15 @@ use Rattle.bx_rows.specs.declared.ballot.Ballot.{Ballot}
 use Rattle.bx_proposer.specs.declared.course.Course.{Course}
 use Rattle.bx_proposer.specs.declared.course.Move.{Move}
 use Rattle.bx_proposer.specs.declared.course.Proposal.{Proposal}
-use Rattle.bx_proposer.specs.Standing.{IsCourse, IsProposal, IsSentState, LeadsOn}
-use Rattle.bx_proposer.specs.Steps.{FromReplica, Gathers, Hears, HearsPromise, HearsRefusal, HearsVote, Learns, PromiseAt, RefusedAt, TickAt, Ticks, VoteAt, learned, noting, preparing, with_out}
+use Rattle.bx_proposer.specs.Standing.{IsCourse, IsProposal, IsSentState, IsStanding, LeadsOn, Standing, Steps, devices_of}
+use Rattle.bx_proposer.specs.Steps.{FromReplica, Gathers, Hears, HearsPromise, HearsRefusal, HearsVote, PromiseAt, Proposes, RefusedAt, TickAt, Ticks, VoteAt, learned, noting, preparing, reading_now, with_out}
 
 same : (c new : Course) → new ≡ c → LeadsOn c new
 same c new e = subst (LeadsOn c) (sym e) (record { boot = refl; rises = omega arith; still = λ busy k. busy; was = λ busy. (busy, refl) })
+
+-- with another reading of the clock
+clocked : (c new : Course) (reading : ℕ) → LeadsOn (reading_now reading c) new → LeadsOn c new
+clocked c new reading on = record { boot = on.boot; rises = on.rises; still = on.still; was = on.was }
 
 -- a proposal is out before and afterwards
 stays_out : (c new : Course) (p x : Proposal) → c.out ≡ Some p → new ≡ with_out x c → LeadsOn c new
@@ -89,3 +96,20 @@ ticked me (Some p) c new move at (inr (early, e, says)) = stays_out c new p (rec
 
 pub ticks_on : (me : ℕ) (c new : Course) (move : Move) → Ticks me c new move → LeadsOn c new
 ticks_on me c new move x = ticked me c.out c new move refl x
+
+-- whatever comes
+pub step_on : (devices me : ℕ) (c new : Course) (input : Input) (move : Move) → IsCourse devices c → Steps me devices c input new move → LeadsOn c new
+step_on devices me c new (Packet packet reading) move is (inl (message, spells, does)) =
+    clocked c new reading (hears_on devices me (reading_now reading c) new packet.now.from message move (record { known = is.known; boot = is.boot; out = is.out }) does)
+step_on devices me c new (Packet packet reading) move is (inr (none, e, silent)) = clocked c new reading (same (reading_now reading c) new e)
+step_on devices me c new (Tick reading) move is does = clocked c new reading (ticks_on me (reading_now reading c) new move does)
+step_on devices me c new Synced move is (e, silent) = same c new e
+
+-- .. of the devices that a proposer has
+pub steps_on : (s : Standing) (count : ℕ) (new : Course) (input : Input) (move : Move) → count ≡ devices_of s → IsStanding s → Steps s.actor count s.course input new move → LeadsOn s.course new
+steps_on s count new input move devices is steps = step_on (devices_of s) s.actor s.course new input move is.course (subst (λ (k : ℕ). Steps s.actor k s.course input new move) devices steps)
+
+-- a change that is proposed is out, and what is known stays
+pub proposes_on : (me : ℕ) (c new : Course) (change : Change) (move : Move) → Proposes me c change new move → IsSome new.out × (new.known ≡ c.known)
+proposes_on me c new change move (inl (room, e, says)) = (subst (λ (x : Course). IsSome x.out) (sym e) refl, ap (λ (x : Course). x.known) e)
+proposes_on me c new change move (inr (none, e, silent)) = (subst (λ (x : Course). IsSome x.out) (sym e) refl, ap (λ (x : Course). x.known) e)

@@ -1,13 +1,13 @@
 //! Proposers.
 
-ghost use Rattle.std.specs.Prelude.{◌≡◌, ◌++◌, ◌⊎◌, ◌↔◌, IfOk, IsErrOf, IsTrue, OnErr, OnOk};
+ghost use Rattle.std.specs.Prelude.{◌≡◌, ◌≤◌, ◌++◌, ◌⊎◌, ◌↔◌, IfOk, IsErrOf, IsTrue, OnErr, OnOk};
 ghost use Rattle.bx_facts.specs.Machines.{IsMachine};
 ghost use Rattle.bx_facts.specs.declared.input.ProposeError.TheVariants.{NotLegal, Busy};
 ghost use Rattle.bx_global.specs.Allowed.{IsAllowed, IsChange};
 ghost use Rattle.bx_global.specs.Table.{IsLegal};
 ghost use Rattle.bx_packets.specs.Messages.{IsStateOf};
 ghost use Rattle.bx_proposer.specs.Letters.{asks_of};
-ghost use Rattle.bx_proposer.specs.Standing.{IsBusy, IsStanding, ProposesTo, Takes, devices_of, going_on, started, stopped};
+ghost use Rattle.bx_proposer.specs.Standing.{IsBusy, IsStanding, LeadsOn, ProposesTo, Takes, devices_of, going_on, started, stopped};
 ghost use Rattle.bx_proposer.specs.Steps.{Learns};
 
 use crate::course::Course;
@@ -99,6 +99,8 @@ impl Proposer {
         ensures not_legal { IsErrOf result NotLegal → IsLegal self.old.course.known change.now → ⊥ }
         ensures busy { IsErrOf result Busy → IsLegal self.old.course.known change.now × IsBusy self.old }
         ensures refused { IsErrOf result NotLegal ⊎ IsErrOf result Busy → (self.new ≡ self.old) × (out.new ≡ out.old) }
+        ensures out { OnOk result (IsBusy self.new) }
+        ensures stays { (self.new ≡ going_on self.old self.new.course) × (self.new.course.known ≡ self.old.course.known) }
         ensures standing { IsStanding self.new }
     {
         let course = &mut self.course;
@@ -117,6 +119,9 @@ impl Proposer {
     /// Takes what comes.
     pub fn take(&mut self, input: &Input, out: &mut Outbox) -> Result<(), OutOfMemory>
         ensures takes { OnOk result (Takes self.old input.now self.new out.old out.new) }
+        ensures leads { OnOk result (LeadsOn self.old.course self.new.course) }
+        ensures rises { self.old.course.known.index ≤ self.new.course.known.index }
+        ensures stays { self.new ≡ going_on self.old self.new.course }
         ensures standing { IsStanding self.new }
     {
         let devices = self.first.devices.len() as u32;
@@ -145,6 +150,13 @@ impl Proposer {
         Ok(())
     }
 
+    /// The machine.
+    pub fn at(&self) -> Actor
+        ensures { result ≡ self.now.at }
+    {
+        self.at
+    }
+
     /// The machine's number in its ballots.
     pub fn actor(&self) -> u32
         ensures { result ≡ self.now.actor }
@@ -163,6 +175,7 @@ impl Proposer {
     pub fn restart(&mut self, boot: u64, out: &mut Outbox) -> Result<(), OutOfMemory>
         ensures restarts { OnOk result (self.new ≡ going_on self.old (started boot self.old.course.reading self.old.first)) }
         ensures asks { OnOk result (out.new ≡ out.old ++ asks_of self.old.at) }
+        ensures stays { self.new ≡ going_on self.old self.new.course }
         ensures standing { IsStanding self.new }
     {
         let known = self.first.copy(self.alloc)?;

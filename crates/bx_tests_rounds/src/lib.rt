@@ -11,3 +11,5 @@ mod orders;
 mod rounds;
 #[cfg(test)]
 mod states;
+#[cfg(test)]
+mod whole;

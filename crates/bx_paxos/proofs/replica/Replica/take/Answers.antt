@@ -1,10 +1,12 @@
-use Rattle.std.proofs.Common.{◌≡◌, length, refl, sym, ap, subst}
+use Rattle.std.proofs.Common.{length, refl, sym, ap, subst}
 use Rattle.bx_calls.specs.Calls.{LeavesOnly}
 use Rattle.bx_disk.specs.Disks.{IsImage}
 use Rattle.bx_global.specs.Bytes.{IsHeld}
 use Rattle.bx_global.specs.declared.state.GlobalState.{GlobalState}
 use Rattle.bx_proposer.specs.Steps.{Learns}
-use Rattle.bx_paxos.proofs.Replicas.{acceptor_takes, comes_more, leaves_none, no_cell_takes, replica_faults, replica_moments, replica_takes}
+use Rattle.bx_paxos.proofs.Halves.{became_place}
+use Rattle.bx_paxos.proofs.Replicas.{comes_more, leaves_none, no_cell_takes, replica_faults, replica_moments, replica_takes}
+use Rattle.bx_paxos.proofs.Sending.{acceptor_sends, proposer_sends, sends_both}
 use Rattle.bx_paxos.proofs.replica.Replica.take.Goals as goal
 
 pub returns-clause-keeps : goal.returns-clause-keeps
@@ -84,11 +86,24 @@ returns-clause-any_moment g c = λ v past tells of made has comes fits.
     (λ none. subst (λ r. LeavesOnly (g.R.Rack.moment rack) (g.R.Rack.moment r) (g.R.Rack.left_since rack) (g.R.Rack.left_since r) (IsImage (g.R.Rack.state rack))) (sym (did.ignores (λ m f brings takes. no_cell_takes a m none takes)).2)
     (leaves_none (g.R.Rack.state rack) (g.R.Rack.moment rack) (g.R.Rack.left_since rack) (λ image left. g.met.R.Rack.only_now rack image tells left)))
 
+pub returns-in_err-take-clause-known : goal.returns-in_err-take-clause-known
+returns-in_err-take-clause-known g c = λ v past tells of has place comes fits.
+    became_place v (g.R.Rack.state c.args.rack.now) past c.args.self.now.acceptor c.take.new.self.held c.args.input.now c.args.out.now fits of.first comes c.take.ensures.became place
+
+pub returns-in_err-learn-clause-known : goal.returns-in_err-learn-clause-known
+returns-in_err-learn-clause-known g c = λ v past tells of has place comes fits.
+    became_place v (g.R.Rack.state c.args.rack.now) past c.args.self.now.acceptor c.take.new.self.held c.args.input.now c.args.out.now fits of.first comes c.take.ensures.became place
+
+pub returns-in_err-take-2-clause-known : goal.returns-in_err-take-2-clause-known
+returns-in_err-take-2-clause-known g c = λ v past tells of has place comes fits.
+    became_place v (g.R.Rack.state c.args.rack.now) past c.args.self.now.acceptor c.take.new.self.held c.args.input.now c.args.out.now fits of.first comes c.take.ensures.became place
+
 pub returns-clause-known : goal.returns-clause-known
 returns-clause-known g c = λ v past tells of has place comes fits.
-    let a = c.args.self.now.acceptor in
-    let b = c.take.new.self in
-    let did = c.in_ok-take.ensures in
-    let halves = c.requires.halves in
-    (acceptor_takes v (g.R.Rack.state c.args.rack.now) (g.R.Rack.state c.take.new.rack) past a b c.args.input.now c.args.out.now c.take.new.out _ of.first of.origin halves.low halves.acceptor did.standing did.stays.0 did.stays.1 did.stays.2
-    (λ e. ap (λ r. g.R.Rack.state r) e) (did.disks tells).keeps has (did.holds tells has) did.stored comes place did.took fits).1
+    became_place v (g.R.Rack.state c.args.rack.now) past c.args.self.now.acceptor c.take.new.self.held c.args.input.now c.args.out.now fits of.first comes c.take.ensures.became place
+
+pub returns-clause-sent : goal.returns-clause-sent
+returns-clause-sent g c =
+    sends_both c.args.out.now c.take.new.out c.take-2.new.out
+    (acceptor_sends c.args.self.now.acceptor c.args.input.now c.take.new.self c.args.out.now c.take.new.out _ c.in_ok-take.ensures.took)
+    (proposer_sends c.learn.new.self c.args.input.now c.take-2.new.self c.take.new.out c.take-2.new.out c.in_ok-take-2.ensures.takes)

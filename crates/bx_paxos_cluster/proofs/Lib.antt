@@ -1,0 +1,7 @@
+pub mod Beginnings
+pub mod Keeping
+pub mod Others
+pub mod Places
+pub mod Steps
+pub mod Telling
+pub mod Voting

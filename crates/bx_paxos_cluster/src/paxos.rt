@@ -1,0 +1,216 @@
+//! The register.
+
+ghost use Rattle.std.specs.Prelude.{◌≡◌, ◌≢◌, ℕ, ◌+◌, ◌^◌, ◌<◌, ◌≤◌, ◌⊎◌, ◌↔◌, false, true, IfOk, IsErrOf, IsTrue, OnErr, OnOk};
+ghost use Rattle.bx_base.specs.Faults.{Rose};
+ghost use Rattle.bx_base.specs.declared.names.Actor.{Actor};
+ghost use Rattle.bx_base.specs.declared.names.Actor.TheVariants.{Replica};
+ghost use Rattle.bx_calls.specs.Calls.{LeavesOnly};
+ghost use Rattle.bx_disk.specs.Counts.{NoneFalls};
+ghost use Rattle.bx_disk.specs.Disks.{Disks};
+ghost use Rattle.bx_facts.specs.Chains.{IsNext, last};
+ghost use Rattle.bx_facts.specs.Disks.{HasRoom, NeedsAt, NeedsNoMore, OnlyDiskOf, ReadsOnly, SameLabels, SameMembers, wanted_by};
+ghost use Rattle.bx_facts.specs.Inputs.{IsRegisters, SendsOnly};
+ghost use Rattle.bx_facts.specs.Machines.{IsMachine, OnlyAt, OnlyFactsAt, disk_of};
+ghost use Rattle.bx_facts.specs.Pasts.{Decides, MayHear, RegisterPast, opening_register, proposing, register_crashed, register_failed, register_restarted, register_with};
+ghost use Rattle.bx_facts.specs.declared.input.FactError.TheVariants.{Disk as DiskFails};
+ghost use Rattle.bx_facts.specs.declared.input.ProposeError.TheVariants.{NotLegal, Busy};
+ghost use Rattle.bx_global.specs.Allowed.{IsAllowed};
+ghost use Rattle.bx_global.specs.Table.{IsLegal};
+ghost use Rattle.bx_paxos.specs.Reading.{ReadsState};
+ghost use Rattle.bx_places.specs.Places.{replica_sectors};
+ghost use Rattle.bx_paxos_cluster.specs.Cluster.{is_busy, knows, needs};
+ghost use Rattle.bx_paxos_cluster.specs.Keeps.{Keeps};
+
+use crate::finding::place_of;
+use crate::machine::Machine;
+use crate::making::{begin_anew, make_all};
+use bx_base::{Actor, OutOfMemory};
+use bx_disk::Rack;
+use bx_facts::{FactError, Input, Outbox, ProposeError};
+use bx_global::{Change, GlobalState};
+use std::alloc::Global;
+use std::marker::Model;
+
+/// The register of three replicas, with all machines of a cluster of at most sixteen nodes. What comes to a machine goes to that one alone.
+#[derive(Drop)]
+pub struct Paxos {
+    pub(crate) alloc: Global,
+    pub(crate) nodes: u32,
+    pub(crate) made: GlobalState,
+    pub(crate) machines: Vec<Machine>,
+}
+
+impl Model for Paxos {
+    ghost use Rattle.bx_paxos_cluster.specs.Cluster.{Cluster, IsCluster};
+
+    ghost Value = { Cluster };
+
+    ghost view = { λ p. record { nodes = p.nodes; made = p.made; machines = p.machines.items } };
+
+    ghost invariant = { λ p. IsCluster (record { nodes = p.nodes; made = p.made; machines = p.machines.items }) };
+}
+
+impl Paxos {
+    /// The register of a cluster of so many nodes, at most sixteen, that is made with a state. Nothing was done with it, and its machines have
+    /// no cells yet: `format` writes them.
+    pub fn new(alloc: Global, nodes: u32, state: GlobalState) -> Result<Paxos, OutOfMemory>
+        requires few { nodes ≤ 16 }
+        requires state { IsAllowed state }
+        requires index { state.index + 1 < 2 ^ 64 }
+        ensures made { IfOk result (λ g. (g.made ≡ state) × (g.nodes ≡ nodes)) }
+        ensures knows { IfOk result (λ g. (who : Actor) → knows g who ≡ state) }
+        ensures idle { IfOk result (λ g. (who : Actor) → is_busy g who → ⊥) }
+        ensures needs { IfOk result (λ g. (disk : ℕ) → needs g disk ≡ 0) }
+    {
+        let machines = make_all(alloc, nodes, &state)?;
+        Ok(Paxos {
+            alloc,
+            nodes,
+            made: state,
+            machines,
+        })
+    }
+
+    /// Writes what the replicas' disks hold of the state that it was made with, and begins anew: every machine is up and knows that state.
+    pub fn format<R: Rack>(&mut self, rack: &mut R) -> Result<(), FactError>
+        requires room { (n : ℕ) → n < 3 → HasRoom (wanted_by (disk_of (Replica n)) replica_sectors) (R.state rack.old).sizes }
+        ensures keeps { R.tells rack.old → OnOk result (Keeps self.new (R.state rack.new) (opening_register self.old.made)) }
+        ensures knows { (who : Actor) → OnOk result (knows self.new who ≡ self.old.made) }
+        ensures idle { (who : Actor) → OnOk result (is_busy self.new who → ⊥) }
+        ensures failed { OnErr result (self.new ≡ self.old) }
+        ensures made { (self.new.made ≡ self.old.made) × (self.new.nodes ≡ self.old.nodes) }
+        ensures members { R.tells rack.old → SameMembers (R.state rack.old) (R.state rack.new) × SameLabels (R.state rack.old) (R.state rack.new) }
+        ensures cause { IsErrOf result DiskFails → Rose (R.faults rack.old) (R.faults rack.new) }
+        ensures later { NoneFalls (R.faults rack.old) (R.faults rack.new) (R.faults_of rack.old) (R.faults_of rack.new) }
+        ensures sizes { (R.state rack.new).sizes ≡ (R.state rack.old).sizes }
+        ensures keeps_telling { R.tells rack.old → R.tells rack.new }
+    {
+        let machines = begin_anew(self.alloc, rack, self.nodes, &self.made)?;
+        self.machines = machines;
+        Ok(())
+    }
+
+    /// Whether this is one of the cluster's machines. It takes no memory.
+    pub fn has(&self, who: Actor) -> bool
+        ensures { IsTrue result ↔ IsMachine self.now.nodes who }
+    {
+        match who {
+            Actor::Node(n) => n < self.nodes,
+            Actor::Replica(n) => n < 3,
+            Actor::Server(n) => n < 2,
+            Actor::Member(n) => n < 8,
+        }
+    }
+
+    /// The state that a machine knows. It takes no memory.
+    pub fn known(&self, who: Actor) -> &GlobalState
+        requires there { IsMachine self.now.nodes who }
+        ensures knows { result.now ≡ knows self.now who }
+        ensures allowed { IsAllowed result.now }
+    {
+        let place = place_of(&self.machines, &who);
+        self.machines[place].known()
+    }
+
+    /// Hands a change to a machine, which tries to have it decided. `NotLegal` exactly where it isn't legal on what the machine knows; else
+    /// `Busy` exactly where the machine has a proposal out.
+    pub fn propose(
+        &mut self,
+        who: Actor,
+        change: &Change,
+        out: &mut Outbox,
+    ) -> Result<(), ProposeError>
+        requires there { IsMachine self.old.nodes who }
+        ensures keeps { (x : Disks) (past : RegisterPast) → Keeps self.old x (register_with past out.old) → past.down who ≡ false → OnOk result (Keeps self.new x (register_with (proposing past change.now) out.new)) }
+        ensures refused { IsErrOf result NotLegal ⊎ IsErrOf result Busy → (self.new ≡ self.old) × (out.new ≡ out.old) }
+        ensures legal { OnOk result (IsLegal (knows self.old who) change.now × (is_busy self.old who → ⊥) × is_busy self.new who) }
+        ensures not_legal { IsErrOf result NotLegal → IsLegal (knows self.old who) change.now → ⊥ }
+        ensures busy { IsErrOf result Busy → IsLegal (knows self.old who) change.now × is_busy self.old who }
+        ensures others { OnlyFactsAt who (is_busy self.old) (is_busy self.new) }
+        ensures knows { (other : Actor) → knows self.new other ≡ knows self.old other }
+        ensures needs { NeedsNoMore (needs self.old) (needs self.new) }
+        ensures sent { OnOk result (SendsOnly IsRegisters out.old out.new) }
+        ensures made { (self.new.made ≡ self.old.made) × (self.new.nodes ≡ self.old.nodes) }
+    {
+        let place = place_of(&self.machines, &who);
+        self.machines[place].propose(change, out)
+    }
+
+    /// A machine stops. It takes no memory.
+    pub fn crash(&mut self, who: Actor)
+        ensures keeps { (x : Disks) (past : RegisterPast) → Keeps self.old x past → Keeps self.new x (register_crashed past who) }
+        ensures others { OnlyFactsAt who (is_busy self.old) (is_busy self.new) }
+        ensures idle { is_busy self.new who → ⊥ }
+        ensures knows { (other : Actor) → knows self.new other ≡ knows self.old other }
+        ensures needs { NeedsNoMore (needs self.old) (needs self.new) }
+        ensures made { (self.new.made ≡ self.old.made) × (self.new.nodes ≡ self.old.nodes) }
+    {
+        if !self.has(who) {
+            return;
+        }
+        let place = place_of(&self.machines, &who);
+        self.machines[place].crash();
+    }
+
+    /// Does one event of a machine. At a disk fault what is in the box isn't sent. For want of memory it isn't used again.
+    pub fn take<R: Rack>(
+        &mut self,
+        rack: &mut R,
+        at: Actor,
+        input: &Input,
+        out: &mut Outbox,
+    ) -> Result<(), FactError>
+        requires there { IsMachine self.old.nodes at }
+        requires room { HasRoom (needs self.old) (R.state rack.old).sizes }
+        ensures keeps { (past : RegisterPast) → R.tells rack.old → Keeps self.old (R.state rack.old) (register_with past out.old) → MayHear (register_with past out.old) at input.now → OnOk result (Decides (Keeps self.new (R.state rack.new)) (register_with past out.new)) }
+        ensures keeps_faulted { (past : RegisterPast) → R.tells rack.old → Keeps self.old (R.state rack.old) (register_with past out.old) → MayHear (register_with past out.old) at input.now → IsErrOf result DiskFails → Keeps self.new (R.state rack.new) (register_with past out.old) }
+        ensures any_moment { (past : RegisterPast) → R.tells rack.old → Keeps self.old (R.state rack.old) (register_with past out.old) → MayHear (register_with past out.old) at input.now → LeavesOnly (R.moment rack.old) (R.moment rack.new) (R.left_since rack.old) (R.left_since rack.new) (ReadsOnly (ReadsState self.old.made) (R.state rack.old) (IsNext past.proposed (last past.chain))) }
+        ensures rises { (who : Actor) → (knows self.old who).index ≤ (knows self.new who).index }
+        ensures knows { OnlyAt at (knows self.old) (knows self.new) }
+        ensures others { OnlyFactsAt at (is_busy self.old) (is_busy self.new) }
+        ensures still_busy { is_busy self.old at → (knows self.new at).index ≡ (knows self.old at).index → OnOk result (is_busy self.new at) }
+        ensures was_busy { OnOk result (is_busy self.new at → is_busy self.old at × ((knows self.new at).index ≡ (knows self.old at).index)) }
+        ensures needs { NeedsNoMore (needs self.old) (needs self.new) }
+        ensures sent { OnOk result (SendsOnly IsRegisters out.old out.new) }
+        ensures made { (self.new.made ≡ self.old.made) × (self.new.nodes ≡ self.old.nodes) }
+        ensures members { R.tells rack.old → SameMembers (R.state rack.old) (R.state rack.new) × SameLabels (R.state rack.old) (R.state rack.new) }
+        ensures disks { R.tells rack.old → OnlyDiskOf at (R.state rack.old) (R.state rack.new) }
+        ensures cause { IsErrOf result DiskFails → Rose (R.faults rack.old) (R.faults rack.new) }
+        ensures later { NoneFalls (R.faults rack.old) (R.faults rack.new) (R.faults_of rack.old) (R.faults_of rack.new) }
+        ensures sizes { (R.state rack.new).sizes ≡ (R.state rack.old).sizes }
+        ensures keeps_telling { R.tells rack.old → R.tells rack.new }
+    {
+        let place = place_of(&self.machines, &at);
+        self.machines[place].take(rack, input, out)
+    }
+
+    /// A machine that is down starts again, with a boot above those that it had or that were found. It has no proposal out then.
+    pub fn restart<R: Rack>(
+        &mut self,
+        rack: &mut R,
+        who: Actor,
+        boot: u64,
+        out: &mut Outbox,
+    ) -> Result<(), FactError>
+        requires there { IsMachine self.old.nodes who }
+        requires disk { HasRoom (wanted_by (disk_of who) replica_sectors) (R.state rack.old).sizes }
+        ensures keeps { (past : RegisterPast) → R.tells rack.old → Keeps self.old (R.state rack.old) (register_with past out.old) → past.boots who < boot → OnOk result (Keeps self.new (R.state rack.new) (register_with (register_restarted past who boot) out.new)) }
+        ensures keeps_faulted { (past : RegisterPast) → R.tells rack.old → Keeps self.old (R.state rack.old) (register_with past out.old) → past.boots who < boot → IsErrOf result DiskFails → Keeps self.new (R.state rack.new) (register_with (register_failed past who boot) out.old) }
+        ensures any_moment { (past : RegisterPast) → R.tells rack.old → Keeps self.old (R.state rack.old) (register_with past out.old) → LeavesOnly (R.moment rack.old) (R.moment rack.new) (R.left_since rack.old) (R.left_since rack.new) (ReadsOnly (ReadsState self.old.made) (R.state rack.old) (IsNext past.proposed (last past.chain))) }
+        ensures knows { OnlyAt who (knows self.old) (knows self.new) }
+        ensures others { OnlyFactsAt who (is_busy self.old) (is_busy self.new) }
+        ensures idle { OnOk result (is_busy self.new who → ⊥) }
+        ensures needs { NeedsAt who replica_sectors (needs self.old) (needs self.new) }
+        ensures sent { OnOk result (SendsOnly IsRegisters out.old out.new) }
+        ensures made { (self.new.made ≡ self.old.made) × (self.new.nodes ≡ self.old.nodes) }
+        ensures members { R.tells rack.old → SameMembers (R.state rack.old) (R.state rack.new) × SameLabels (R.state rack.old) (R.state rack.new) }
+        ensures disks { R.tells rack.old → OnlyDiskOf who (R.state rack.old) (R.state rack.new) }
+        ensures cause { IsErrOf result DiskFails → Rose (R.faults rack.old) (R.faults rack.new) }
+        ensures later { NoneFalls (R.faults rack.old) (R.faults rack.new) (R.faults_of rack.old) (R.faults_of rack.new) }
+        ensures sizes { (R.state rack.new).sizes ≡ (R.state rack.old).sizes }
+        ensures keeps_telling { R.tells rack.old → R.tells rack.new }
+    {
+        let place = place_of(&self.machines, &who);
+        self.machines[place].restart(rack, boot, out)
+    }
+}

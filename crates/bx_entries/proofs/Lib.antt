@@ -1,0 +1,5 @@
+pub mod InodePut
+pub mod Twice
+pub mod Leaves
+pub mod Taken
+pub mod Unlinked

@@ -3,3 +3,4 @@ pub mod Twice
 pub mod Leaves
 pub mod Taken
 pub mod Unlinked
+pub mod Removed

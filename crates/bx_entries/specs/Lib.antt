@@ -1,3 +1,4 @@
 pub mod Stopping
 pub mod Taking
 pub mod Unlinking
+pub mod Removing

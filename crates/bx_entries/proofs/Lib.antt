@@ -4,3 +4,4 @@ pub mod Leaves
 pub mod Taken
 pub mod Unlinked
 pub mod Removed
+pub mod Found

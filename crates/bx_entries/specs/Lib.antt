@@ -2,3 +2,4 @@ pub mod Stopping
 pub mod Taking
 pub mod Unlinking
 pub mod Removing
+pub mod Finding

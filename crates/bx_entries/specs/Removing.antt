@@ -3,15 +3,12 @@ use Rattle.std.specs.Prelude.{◌≡◌, ◌≢◌, ℕ, ◌≤◌, ◌⊎◌, n
 use Rattle.bx_base.specs.declared.names.Mode.{Mode}
 use Rattle.bx_base.specs.declared.names.Mode.TheVariants.{Exclusive}
 use Rattle.bx_dirs.specs.Changes.{OnTakePath}
-use Rattle.bx_files.specs.Paths.{Finds, OnSearch}
-use Rattle.bx_handles.specs.Handles.{named, parts_of}
+use Rattle.bx_handles.specs.Handles.{parts_of}
 use Rattle.bx_hints.specs.Fitting.{HintsFitAll}
-use Rattle.bx_inodes.specs.Inodes.{InodeAt, IsInodeOf, LiveAt}
+use Rattle.bx_inodes.specs.Inodes.{IsInodeOf}
 use Rattle.bx_inodes.specs.Stands.{Stands}
-use Rattle.bx_inodes.specs.Stops.{OnInode}
 use Rattle.bx_inodes.specs.declared.stop.Stop.{Stop}
 use Rattle.bx_inodes.specs.declared.stop.Stop.TheVariants.{Need, Inner, Status, OutOfMemory}
-use Rattle.bx_blink.specs.Walks.{reads_with}
 use Rattle.bx_layout.specs.declared.inode.Inode.{Inode}
 use Rattle.bx_model.specs.declared.call.Call.{Call}
 use Rattle.bx_model.specs.declared.permissions.Want.TheVariants as want
@@ -27,8 +24,7 @@ use Rattle.bx_tree_files.specs.Changes.{taken_out}
 use Rattle.bx_tree_files.specs.Entries.{entry_named, is_bad}
 use Rattle.bx_tree_files.specs.Files.{is_directory}
 use Rattle.bx_tree_files.specs.Times.{Time}
-use Rattle.bx_truth.specs.Chunks.{block_at, own_block}
-use Rattle.bx_truth.specs.Keys.{name_key, name_value}
+use Rattle.bx_truth.specs.Chunks.{own_block}
 use Rattle.bx_truth.specs.Stands.{StandsFor}
 use Rattle.bx_views.specs.Truths.{Truth, Held, Hints, IsTruth, with_draft}
 

@@ -5,3 +5,4 @@ pub mod Taken
 pub mod Unlinked
 pub mod Removed
 pub mod Found
+pub mod RemovedFrom

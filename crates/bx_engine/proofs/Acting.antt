@@ -68,6 +68,9 @@ module _ (tree : Tree) (call : Call) (moment : ℕ) where
   pub lookup_acts : (at name : List ℕ) → call.args ≡ Name at name → call.procedure ≡ 4 → ActsSo (lookup tree call at name)
   lookup_acts at name is p = by_args (Name at name) (lookup tree call at name) is (ap (λ (procedure : ℕ). plainly tree 0 (if procedure == 10 then remove tree call at name (time_of moment) else if procedure == 15 then rmdir tree call at name (time_of moment) else lookup tree call at name)) p)
 
+  pub remove_acts : (at name : List ℕ) → call.args ≡ Name at name → call.procedure ≡ 10 → ActsSo (remove tree call at name (time_of moment))
+  remove_acts at name is p = by_args (Name at name) (remove tree call at name (time_of moment)) is (ap (λ (procedure : ℕ). plainly tree 0 (if procedure == 10 then remove tree call at name (time_of moment) else if procedure == 15 then rmdir tree call at name (time_of moment) else lookup tree call at name)) p)
+
   pub setattr_acts : (at : List ℕ) (sattr : Sattr) → call.args ≡ Set at sattr → ActsSo (setattr tree call at sattr (time_of moment))
   setattr_acts at sattr is = by_args (Set at sattr) (setattr tree call at sattr (time_of moment)) is refl
 

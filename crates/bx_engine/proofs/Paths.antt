@@ -52,11 +52,13 @@ module _ (held : Held) (hints : Hints) (volume areas : ℕ) where
   listing_shared bytes cookie at mode (inl on) = on.3
   listing_shared bytes cookie at mode (inr on) = on.on.on.mode_is
 
-  pub exclusive_of : (procedure at : ℕ) (args : Args) → PathOf held hints volume areas procedure args at Exclusive → (handle : List ℕ) × (sattr : Sattr) × (args ≡ Set handle sattr)
+  pub exclusive_of : (procedure at : ℕ) (args : Args) → PathOf held hints volume areas procedure args at Exclusive
+      → ((handle : List ℕ) × (sattr : Sattr) × (args ≡ Set handle sattr)) ⊎ ((handle : List ℕ) × (name : List ℕ) × (args ≡ Name handle name) × (procedure ≡ 10))
   exclusive_of procedure at (Handle handle) on = absurd (not_shared (handle_shared procedure at handle Exclusive on))
-  exclusive_of procedure at (Set handle sattr) on = (handle, sattr, refl)
+  exclusive_of procedure at (Set handle sattr) on = inl (handle, sattr, refl)
   exclusive_of procedure at (Read handle offset count total) on = absurd (not_shared (reading_shared handle offset count at Exclusive on))
-  exclusive_of procedure at (Name handle name) on = absurd (not_shared (looking_shared handle name at Exclusive on.1))
+  exclusive_of procedure at (Name handle name) (inl on) = absurd (not_shared (looking_shared handle name at Exclusive on.1))
+  exclusive_of procedure at (Name handle name) (inr on) = inr (handle, name, refl, on.0)
   exclusive_of procedure at (Listing handle cookie count) on = absurd (not_shared (listing_shared handle cookie at Exclusive on))
   exclusive_of procedure at _ on = absurd on
 

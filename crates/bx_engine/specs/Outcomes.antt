@@ -1,5 +1,5 @@
 -- What an attempt comes to, by what its procedure comes to.
-use Rattle.std.specs.Prelude.{◌≡◌, ℕ, ◌≤◌, List, Ok, Err}
+use Rattle.std.specs.Prelude.{◌≡◌, ℕ, ◌≤◌, ◌⊎◌, List, Ok, Err}
 use Rattle.bx_base.specs.declared.names.Mode.{Mode}
 use Rattle.bx_changes.specs.Changes.{IsOneBlock}
 use Rattle.bx_engine.specs.Replies.{done_of, done_with}
@@ -40,6 +40,20 @@ WritesOne Path (Need wants) = Unit {0}
 WritesOne Path (Change draft acted) = IsOneBlock Path draft
 WritesOne Path (Inner draft) = ⊥
 WritesOne Path (Answer acted) = Unit {0}
+
+-- A change is of one block, which is on the path exclusively, unless the call may change more. No blocks are to be written first.
+abbrev pub WritesFew : (ℕ → Mode → Type 0) → Type 0 → Attempt → Type 0
+WritesFew Path More (Need wants) = Unit {0}
+WritesFew Path More (Change draft acted) = IsOneBlock Path draft ⊎ More
+WritesFew Path More (Inner draft) = ⊥
+WritesFew Path More (Answer acted) = Unit {0}
+
+-- no blocks are to be written first
+abbrev pub NeverFirst : Attempt → Type 0
+NeverFirst (Need wants) = Unit {0}
+NeverFirst (Change draft acted) = Unit {0}
+NeverFirst (Inner draft) = ⊥
+NeverFirst (Answer acted) = Unit {0}
 
 -- no block is changed, nor to be written first
 abbrev pub ChangesNothing : Attempt → Type 0

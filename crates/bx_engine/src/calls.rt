@@ -3,7 +3,7 @@
 ghost use Rattle.std.specs.Prelude.{◌↔◌, IsTrue, IfOk, IfSome, IfNone};
 ghost use Rattle.bx_changes.specs.Changes.{SetsModeAlone};
 ghost use Rattle.bx_nfs.specs.Wire.{ReadsAs};
-ghost use Rattle.bx_engine.specs.Calls.{IsAboutFile, IsBuilt, IsBuiltCall};
+ghost use Rattle.bx_engine.specs.Calls.{IsAboutFile, IsAboutName, IsBuilt, IsBuiltCall};
 
 use bx_base::OutOfMemory;
 use bx_model::{Args, Call, Sattr};
@@ -22,6 +22,9 @@ const LOOKUP: u32 = 4;
 
 /// The procedure READLINK (RFC 1094, section 2.2.6).
 pub(crate) const READLINK: u32 = 5;
+
+/// The procedure REMOVE (RFC 1094, section 2.2.11).
+pub(crate) const REMOVE: u32 = 10;
 
 /// The procedure STATFS (RFC 1094, section 2.2.18).
 pub(crate) const STATFS: u32 = 17;
@@ -48,7 +51,7 @@ pub(crate) fn built_call(alloc: Global, datagram: &[u8]) -> Result<Option<(u32, 
 }
 
 /// Whether a call is attempted: it is refused as a message, it has no arguments, or it is MNT, UMNT, GETATTR,
-/// READLINK, STATFS, LOOKUP, READ, READDIR, or SETATTR of the mode alone.
+/// READLINK, STATFS, LOOKUP, REMOVE, READ, READDIR, or SETATTR of the mode alone.
 fn is_built(call: &Call) -> bool
     ensures { IsTrue result ↔ IsBuilt call.now }
 {
@@ -57,7 +60,7 @@ fn is_built(call: &Call) -> bool
         Args::Path(_) => {
             call.program == MOUNT_PROGRAM && (call.procedure == MNT || call.procedure == UMNT)
         }
-        Args::Name(_, _) => call.program == NFS_PROGRAM && call.procedure == LOOKUP,
+        Args::Name(_, _) => call.program == NFS_PROGRAM && is_about_name(call.procedure),
         Args::Handle(_) => call.program == NFS_PROGRAM && is_about_file(call.procedure),
         Args::Set(_, sattr) => {
             call.program == NFS_PROGRAM && call.procedure == SETATTR && sets_mode_alone(sattr)
@@ -71,6 +74,13 @@ fn is_about_file(procedure: u32) -> bool
     ensures { IsTrue result ↔ IsAboutFile procedure }
 {
     procedure == GETATTR || procedure == READLINK || procedure == STATFS
+}
+
+/// Whether a procedure is LOOKUP or REMOVE.
+fn is_about_name(procedure: u32) -> bool
+    ensures { IsTrue result ↔ IsAboutName procedure }
+{
+    procedure == LOOKUP || procedure == REMOVE
 }
 
 /// Whether the mode is given, and nothing else.

@@ -15,8 +15,8 @@ ghost use Rattle.bx_tree_files.specs.Times.{time_of as time_of_moment};
 ghost use Rattle.bx_reads.specs.Space.{OnSpace};
 ghost use Rattle.bx_views.specs.Attempts.{Gives, IsAnswer, IsFair};
 ghost use Rattle.bx_views.specs.Truths.{IsTruth, Truth};
-ghost use Rattle.bx_engine.specs.Calls.{AsksSpace, IsAboutFile, IsAtOnce, IsAtOnceCall, IsBuilt, IsBuiltCall, IsSpaceCall};
-ghost use Rattle.bx_engine.specs.Outcomes.{ChangesNothing, Comes, ComesSpace, TellsFree, TellsNothing, WritesOne, told_free};
+ghost use Rattle.bx_engine.specs.Calls.{AsksRemoval, AsksSpace, IsAboutFile, IsAtOnce, IsAtOnceCall, IsBuilt, IsBuiltCall, IsRemoveCall, IsSpaceCall};
+ghost use Rattle.bx_engine.specs.Outcomes.{ChangesNothing, Comes, ComesSpace, TellsFree, TellsNothing, WritesFew, WritesOne, told_free};
 ghost use Rattle.bx_engine.specs.Paths.{IsOnPath, PathOf};
 ghost use Rattle.bx_engine.specs.Steps.{StandsWith, Step};
 
@@ -45,11 +45,12 @@ impl BoxFs {
     /// Attempts a call over a view, by its client's number and its bytes, at a moment in milliseconds, at most 4294967295999. `None`
     /// exactly where the bytes are none of the calls that are built so far: those that are refused as messages, those without
     /// arguments (NULL, ROOT and WRITECACHE of NFS; NULL, DUMP, UMNTALL and EXPORT of MOUNT), MNT and UMNT of MOUNT, GETATTR, READLINK,
-    /// STATFS, LOOKUP, READ, READDIR, and SETATTR of the mode alone.
+    /// STATFS, LOOKUP, READ, READDIR, REMOVE, and SETATTR of the mode alone.
     ///
     /// `Need` names the block of the file's inode, exclusively for SETATTR and else shared, which isn't held then. Where that is held, it
     /// names for STATFS the own block of the first area that isn't, for READ a page or a piece of the file that isn't, for LOOKUP a page
-    /// of the directory or the inode of what the name means, and for READDIR a page of the directory, shared. A call
+    /// of the directory or the inode of what the name means, and for READDIR a page of the directory, shared. For REMOVE it names what
+    /// `bx_entries::remove` does. A call
     /// that comes to an error is an `Answer`. On an error, which is want of memory alone, nothing is changed.
     pub fn attempt<V: View>(
         &self,
@@ -66,8 +67,8 @@ impl BoxFs {
         ensures fair { IfOk result (λ found. IfSome found (IsFair self.now.areas (V.held view.now) (IsOnPath (V.held view.now) (V.hints view.now) self.now.volume self.now.areas call.now))) }
         ensures at_once { IsAtOnceCall call.now → IfOk result (λ found. IfSome found IsAnswer) }
 
-        // A change is of one block, the inode's of a SETATTR; and blocks need never be written before a call acts.
-        ensures writes { IfOk result (λ found. IfSome found (WritesOne (IsOnPath (V.held view.now) (V.hints view.now) self.now.volume self.now.areas call.now))) }
+        // A change is of one block, the inode's of a SETATTR, unless the call is REMOVE; and blocks need never be written before a call acts.
+        ensures writes { IfOk result (λ found. IfSome found (WritesFew (IsOnPath (V.held view.now) (V.hints view.now) self.now.volume self.now.areas call.now) (IsRemoveCall call.now))) }
 
         // STATFS alone tells how many blocks are free, unless it comes to an error.
         ensures tells { ((at : List ℕ) → IsSpaceCall call.now at → ⊥) → IfOk result (λ found. IfSome found TellsNothing) }
@@ -99,7 +100,7 @@ impl BoxFs {
             → StandsWith self.now.volume self.now.areas truth (V.hints view.now) tree → IfOk result (Gives (StandsWith self.now.volume self.now.areas) Step (free_slots self.now.areas truth) client bytes moment truth tree) }
         ensures fair { IfOk result (IsFair self.now.areas (V.held view.now) (PathOf (V.held view.now) (V.hints view.now) self.now.volume self.now.areas call.now.procedure call.now.args)) }
         ensures at_once { IsAtOnce call.now → IfOk result IsAnswer }
-        ensures writes { IfOk result (WritesOne (PathOf (V.held view.now) (V.hints view.now) self.now.volume self.now.areas call.now.procedure call.now.args)) }
+        ensures writes { IfOk result (WritesFew (PathOf (V.held view.now) (V.hints view.now) self.now.volume self.now.areas call.now.procedure call.now.args) (AsksRemoval call.now)) }
         ensures tells { ((at : List ℕ) → AsksSpace call.now at → ⊥) → IfOk result TellsNothing }
         ensures free { (at : List ℕ) (truth : Truth) (tree : Tree) → AsksSpace call.now at → IsTruth (V.held view.now) truth → Stands self.now.volume self.now.areas truth tree
             → IfOk result (TellsFree (told_free (free_slots self.now.areas truth) (statfs_of tree at (free_slots self.now.areas truth)))) }
@@ -119,7 +120,7 @@ impl BoxFs {
                 self.read(alloc, xid, call, at.bytes(), (*offset, *count), view)
             }
             Args::Name(at, name) => {
-                self.lookup(alloc, xid, call, at.bytes(), name.bytes(), view)
+                self.about_name(alloc, xid, call, at.bytes(), name.bytes(), moment, view)
             }
             Args::List(at, cookie, count) => {
                 self.readdir(alloc, xid, call, at.bytes(), (*cookie, *count), view)

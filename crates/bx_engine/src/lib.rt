@@ -5,6 +5,7 @@ mod calls;
 mod engine;
 mod laws;
 mod mounting;
+mod naming;
 mod reading;
 mod replies;
 mod times;

@@ -1,1 +1,4 @@
+pub mod Descents
+pub mod Separators
 pub mod Rooms
+pub mod Ready

@@ -95,6 +95,37 @@ impl Desk {
         Ok(())
     }
 
+    /// Holds the page of the root with two names, exclusively.
+    pub(crate) fn hold_names(&mut self, alloc: Global) -> Result<(), Fail> {
+        let block = names_block(alloc)?;
+        self.held.put(1, block)?;
+        Ok(())
+    }
+
+    /// Holds a link in a slot, exclusively.
+    pub(crate) fn hold_link(&mut self, alloc: Global, slot: u8) -> Result<(), Fail> {
+        let block = link_block(alloc, slot)?;
+        self.held.put(u64::from(slot), block)?;
+        Ok(())
+    }
+
+    /// Holds the area's own block, exclusively, with so many slots in use.
+    pub(crate) fn hold_area(&mut self, alloc: Global, slots: usize) -> Result<(), Fail> {
+        let mut bytes = [0; 4096];
+        for slot in 0..slots.min(960) {
+            bytes[4 * slot] = 128;
+            bytes[4 * slot + 3] = 1;
+        }
+        let payload = Raw::of(alloc, &bytes)?;
+        let block = Block {
+            handle: 960 << 32,
+            kind: 4,
+            payload,
+        };
+        self.held.put(960, block)?;
+        Ok(())
+    }
+
     /// Holds what a draft has.
     pub(crate) fn take_in(&mut self, alloc: Global, draft: &Draft) -> Result<(), Fail> {
         for (at, block) in draft.blocks() {

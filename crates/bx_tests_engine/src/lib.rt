@@ -18,4 +18,6 @@ mod random;
 #[cfg(test)]
 mod reads;
 #[cfg(test)]
+mod removals;
+#[cfg(test)]
 mod words;

@@ -71,7 +71,7 @@ fn write_from(alloc: Global, tree: &mut Tree, place: u32) -> Result<(), Fail> {
 }
 
 /// The tree with the file in slot 2, which the root names `f`, and a link in slot 9, which it names `gh`.
-fn tree_of(alloc: Global) -> Result<Tree, Fail> {
+pub(crate) fn tree_of(alloc: Global) -> Result<Tree, Fail> {
     let mut tree = Tree::opening(alloc, 7)?;
     let make = root_user(9);
     let _told = told(
@@ -110,7 +110,7 @@ fn tree_of(alloc: Global) -> Result<Tree, Fail> {
 }
 
 /// A random call of one of five procedures that change nothing.
-fn random_call(alloc: Global, state: &mut u32) -> Result<Vec<u8>, AllocError> {
+pub(crate) fn random_call(alloc: Global, state: &mut u32) -> Result<Vec<u8>, AllocError> {
     let at = FILES[next_below(state, 4) as usize % 4];
     let name = NAMES[next_below(state, 5) as usize % 5];
     let part = [next_below(state, 14000), next_below(state, 9000), 0];
@@ -125,7 +125,12 @@ fn random_call(alloc: Global, state: &mut u32) -> Result<Vec<u8>, AllocError> {
 }
 
 /// Whether a call is answered over a desk as by a tree.
-fn is_same(alloc: Global, desk: &Desk, tree: &mut Tree, call: &[u8]) -> Result<bool, Fail> {
+pub(crate) fn is_same(
+    alloc: Global,
+    desk: &Desk,
+    tree: &mut Tree,
+    call: &[u8],
+) -> Result<bool, Fail> {
     let Some((xid, read)) = bx_nfs::reads_as(alloc, call)? else {
         return Ok(false);
     };

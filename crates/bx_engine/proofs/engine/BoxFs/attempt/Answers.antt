@@ -1,5 +1,6 @@
 use Rattle.bx_engine.proofs.Along.{fair_along, writes_along}
-use Rattle.bx_engine.proofs.Datagrams.{asks_as, at_once_as, on_path, space_as}
+use Rattle.bx_engine.proofs.Datagrams.{asks_as, at_once_as, on_path, removal_as, space_as}
+use Rattle.bx_engine.specs.Calls.{AsksRemoval, IsRemoveCall}
 use Rattle.bx_engine.specs.Paths.{IsOnPath, PathOf}
 use Rattle.bx_engine.proofs.engine.BoxFs.attempt.Goals as goal
 
@@ -35,4 +36,5 @@ returns-clause-writes g c =
     let found = rw c.in-Some.is at c.in_ok-xid.ensures.found in
     let fs = c.args.self.now in
     writes_along (PathOf (g.V.View.held c.args.view.now) (g.V.View.hints c.args.view.now) fs.volume fs.areas c.in-Some.read.procedure c.in-Some.read.args) (IsOnPath (g.V.View.held c.args.view.now) (g.V.View.hints c.args.view.now) fs.volume fs.areas c.args.call.now) (on_path c.args.call.now c.in-Some.xid c.in-Some.read found.0 (g.V.View.held c.args.view.now) (g.V.View.hints c.args.view.now) fs.volume fs.areas)
+    (AsksRemoval c.in-Some.read) (IsRemoveCall c.args.call.now) (removal_as c.args.call.now c.in-Some.xid c.in-Some.read found.0)
     c.in_ok-attempt.attempt c.in_ok-attempt.ensures.writes

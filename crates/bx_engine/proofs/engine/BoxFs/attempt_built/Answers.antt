@@ -2,9 +2,8 @@ use Rattle.std.proofs.Common.{◌≡◌, ◌∙◌, ℕ, List, sym, ap, subst}
 use Rattle.std.specs.Prelude.{Ok, IfOk}
 use Rattle.std.proofs.lemmas.Result.{IfOk-weaker}
 use Rattle.bx_chunks.specs.Counting.{free_slots}
-use Rattle.bx_directory_reads.specs.Lookups.{OnLooking}
-use Rattle.bx_engine.proofs.Along.{fair_along, nothing_written}
-use Rattle.bx_engine.proofs.Acting.{gives_by, lookup_acts, mount_acts, nothing_acts, read_acts, readdir_acts, refused_acts, setattr_acts}
+use Rattle.bx_engine.proofs.Along.{name_written, nothing_written, one_written}
+use Rattle.bx_engine.proofs.Acting.{gives_by, mount_acts, nothing_acts, read_acts, readdir_acts, refused_acts, setattr_acts}
 use Rattle.bx_engine.proofs.Stopping.{answered_comes}
 use Rattle.bx_engine.specs.Calls.{HasBuiltArgs}
 use Rattle.bx_engine.specs.Outcomes.{TellsFree, WritesOne, told_free}
@@ -14,7 +13,7 @@ use Rattle.bx_model.specs.declared.call.Args.TheVariants.{Handle, List as Listin
 use Rattle.bx_model.specs.declared.reply.Reply.TheVariants as replies
 use Rattle.bx_model.specs.Directories.{readdir}
 use Rattle.bx_model.specs.Mounting.{mount, plain}
-use Rattle.bx_model.specs.Reading.{lookup, read, statfs}
+use Rattle.bx_model.specs.Reading.{read, statfs}
 use Rattle.bx_model.specs.Steps.{Outcome}
 use Rattle.bx_model.specs.Writing.{setattr}
 use Rattle.bx_tree_files.specs.Times.{time_of}
@@ -88,10 +87,11 @@ pub returns-in-Set-clause-writes : goal.returns-in-Set-clause-writes
 returns-in-Set-clause-writes g c =
     let fs = c.args.self.now in
     let is : c.args.call.now.args ≡ Set c.bytes-in-Set.result.now c.in-Set.sattr = c.in-Set.is ∙ ap (λ (b : List ℕ). Set b c.in-Set.sattr) (sym c.bytes-in-Set.ensures) in
-    subst (λ (args : Args). IfOk c.setattr.result (WritesOne (PathOf (g.V.View.held c.args.view.now) (g.V.View.hints c.args.view.now) fs.volume fs.areas c.args.call.now.procedure args))) (sym is) c.setattr.ensures.writes
+    IfOk-weaker c.setattr.result _ _ (one_written _ (PathOf (g.V.View.held c.args.view.now) (g.V.View.hints c.args.view.now) fs.volume fs.areas c.args.call.now.procedure c.args.call.now.args))
+    (subst (λ (args : Args). IfOk c.setattr.result (WritesOne (PathOf (g.V.View.held c.args.view.now) (g.V.View.hints c.args.view.now) fs.volume fs.areas c.args.call.now.procedure args))) (sym is) c.setattr.ensures.writes)
 
 pub returns-in-Handle-clause-writes : goal.returns-in-Handle-clause-writes
-returns-in-Handle-clause-writes g c = IfOk-weaker c.about_file.result _ _ (nothing_written (PathOf (g.V.View.held c.args.view.now) (g.V.View.hints c.args.view.now) c.args.self.now.volume c.args.self.now.areas c.args.call.now.procedure c.args.call.now.args)) c.about_file.ensures.keeps
+returns-in-Handle-clause-writes g c = IfOk-weaker c.about_file.result _ _ (nothing_written _ (PathOf (g.V.View.held c.args.view.now) (g.V.View.hints c.args.view.now) c.args.self.now.volume c.args.self.now.areas c.args.call.now.procedure c.args.call.now.args)) c.about_file.ensures.keeps
 
 pub returns-in-Handle-clause-tells : goal.returns-in-Handle-clause-tells
 returns-in-Handle-clause-tells g c = λ other.
@@ -137,37 +137,31 @@ returns-in-Read-clause-fair g c =
 
 pub returns-in-Read-clause-writes : goal.returns-in-Read-clause-writes
 returns-in-Read-clause-writes g c =
-    IfOk-weaker c.read.result _ _ (nothing_written (PathOf (g.V.View.held c.args.view.now) (g.V.View.hints c.args.view.now) c.args.self.now.volume c.args.self.now.areas c.args.call.now.procedure c.args.call.now.args)) c.read.ensures.keeps
+    IfOk-weaker c.read.result _ _ (nothing_written _ (PathOf (g.V.View.held c.args.view.now) (g.V.View.hints c.args.view.now) c.args.self.now.volume c.args.self.now.areas c.args.call.now.procedure c.args.call.now.args)) c.read.ensures.keeps
 
 pub returns-in-Read-clause-free : goal.returns-in-Read-clause-free
 returns-in-Read-clause-free g c = λ at truth tree asks same s. let never = sym c.in-Read.is ∙ asks.args in absurd cc
 
+pub about_name-requires-clause-args : goal.about_name-requires-clause-args
+about_name-requires-clause-args g c = c.in-Name.is ∙ (λ i. Name (sym c.bytes-in-Name.ensures i) (sym c.bytes-in-Name-2.ensures i))
+
+pub about_name-requires-clause-procedure : goal.about_name-requires-clause-procedure
+about_name-requires-clause-procedure g c = (subst (HasBuiltArgs c.args.call.now) c.in-Name.is c.requires.built).procedure
+
 pub returns-in-Name-clause-gives : goal.returns-in-Name-clause-gives
-returns-in-Name-clause-gives g c = λ client bytes truth tree reads same s.
-    let fs = c.args.self.now in
-    let call = c.args.call.now in
-    let at = c.bytes-in-Name.result.now in
-    let name = c.bytes-in-Name-2.result.now in
-    let is : call.args ≡ Name at name = c.in-Name.is ∙ (λ i. Name (sym c.bytes-in-Name.ensures i) (sym c.bytes-in-Name-2.ensures i)) in
-    gives_by fs.volume fs.areas client bytes c.args.moment (free_slots fs.areas truth) truth tree c.args.xid call (lookup tree call at name) reads c.requires.moment
-    (lookup_acts tree call c.args.moment at name is (subst (HasBuiltArgs call) c.in-Name.is c.requires.built).procedure) s.stands c.lookup.result (c.lookup.ensures.comes truth tree same s)
+returns-in-Name-clause-gives g c = λ client bytes truth tree reads same s. c.about_name.ensures.gives client bytes truth tree reads same s
 
 pub returns-in-Name-clause-fair : goal.returns-in-Name-clause-fair
 returns-in-Name-clause-fair g c =
     let fs = c.args.self.now in
-    let call = c.args.call.now in
-    let held = g.V.View.held c.args.view.now in
-    let hints = g.V.View.hints c.args.view.now in
-    let at = c.bytes-in-Name.result.now in
-    let name = c.bytes-in-Name-2.result.now in
-    let is : call.args ≡ Name at name = c.in-Name.is ∙ (λ i. Name (sym c.bytes-in-Name.ensures i) (sym c.bytes-in-Name-2.ensures i)) in
-    let asks = (subst (HasBuiltArgs call) c.in-Name.is c.requires.built).procedure in
-    subst (λ (args : Args). IfOk c.lookup.result (IsFair fs.areas held (PathOf held hints fs.volume fs.areas call.procedure args))) (sym is)
-    (IfOk-weaker c.lookup.result _ _ (fair_along (OnLooking held hints fs.volume fs.areas at name) (PathOf held hints fs.volume fs.areas call.procedure (Name at name)) (λ block mode on. (asks, on)) fs.areas held) c.lookup.ensures.fair)
+    let is : c.args.call.now.args ≡ Name c.bytes-in-Name.result.now c.bytes-in-Name-2.result.now = c.in-Name.is ∙ (λ i. Name (sym c.bytes-in-Name.ensures i) (sym c.bytes-in-Name-2.ensures i)) in
+    subst (λ (args : Args). IfOk c.about_name.result (IsFair fs.areas (g.V.View.held c.args.view.now) (PathOf (g.V.View.held c.args.view.now) (g.V.View.hints c.args.view.now) fs.volume fs.areas c.args.call.now.procedure args))) (sym is) c.about_name.ensures.fair
 
 pub returns-in-Name-clause-writes : goal.returns-in-Name-clause-writes
 returns-in-Name-clause-writes g c =
-    IfOk-weaker c.lookup.result _ _ (nothing_written (PathOf (g.V.View.held c.args.view.now) (g.V.View.hints c.args.view.now) c.args.self.now.volume c.args.self.now.areas c.args.call.now.procedure c.args.call.now.args)) c.lookup.ensures.keeps
+    let is : c.args.call.now.args ≡ Name c.bytes-in-Name.result.now c.bytes-in-Name-2.result.now = c.in-Name.is ∙ (λ i. Name (sym c.bytes-in-Name.ensures i) (sym c.bytes-in-Name-2.ensures i)) in
+    name_written (PathOf (g.V.View.held c.args.view.now) (g.V.View.hints c.args.view.now) c.args.self.now.volume c.args.self.now.areas c.args.call.now.procedure c.args.call.now.args)
+    c.args.call.now c.bytes-in-Name.result.now c.bytes-in-Name-2.result.now is (subst (HasBuiltArgs c.args.call.now) c.in-Name.is c.requires.built).procedure c.about_name.result c.about_name.ensures.keeps c.about_name.ensures.first
 
 pub returns-in-Name-clause-free : goal.returns-in-Name-clause-free
 returns-in-Name-clause-free g c = λ at truth tree asks same s. let never = sym c.in-Name.is ∙ asks.args in absurd cc
@@ -190,7 +184,7 @@ returns-in-List-clause-fair g c =
 
 pub returns-in-List-clause-writes : goal.returns-in-List-clause-writes
 returns-in-List-clause-writes g c =
-    IfOk-weaker c.readdir.result _ _ (nothing_written (PathOf (g.V.View.held c.args.view.now) (g.V.View.hints c.args.view.now) c.args.self.now.volume c.args.self.now.areas c.args.call.now.procedure c.args.call.now.args)) c.readdir.ensures.keeps
+    IfOk-weaker c.readdir.result _ _ (nothing_written _ (PathOf (g.V.View.held c.args.view.now) (g.V.View.hints c.args.view.now) c.args.self.now.volume c.args.self.now.areas c.args.call.now.procedure c.args.call.now.args)) c.readdir.ensures.keeps
 
 pub returns-in-List-clause-free : goal.returns-in-List-clause-free
 returns-in-List-clause-free g c = λ at truth tree asks same s. let never = sym c.in-List.is ∙ asks.args in absurd cc

@@ -1,0 +1,5 @@
+pub mod Stopping
+pub mod Taking
+pub mod Unlinking
+pub mod Removing
+pub mod Finding

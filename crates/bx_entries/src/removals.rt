@@ -1,0 +1,93 @@
+//! REMOVE.
+
+ghost use Rattle.std.specs.Prelude.{◌≡◌, ◌≤◌, ℕ, List, [], IfOk};
+ghost use Rattle.bx_base.specs.declared.names.Mode.TheVariants.{Exclusive};
+ghost use Rattle.bx_blink.specs.Walks.{reads_with};
+ghost use Rattle.bx_changes.specs.Changes.{IsChange};
+ghost use Rattle.bx_hints.specs.Fitting.{HintsFitAll};
+ghost use Rattle.bx_inodes.specs.Inodes.{LiveAt};
+ghost use Rattle.bx_inodes.specs.Stands.{Stands};
+ghost use Rattle.bx_inodes.specs.Stops.{NeedsOn, NeverInner};
+ghost use Rattle.bx_model.specs.declared.tree.Tree.{Tree};
+ghost use Rattle.bx_model.specs.Removing.{remove as remove_of};
+ghost use Rattle.bx_tree_files.specs.Entries.{entry_named};
+ghost use Rattle.bx_tree_files.specs.Names.{names_of};
+ghost use Rattle.bx_views.specs.Attempts.{IsHeldDraft};
+ghost use Rattle.bx_views.specs.Truths.{Hints, IsTruth, Truth, with_draft};
+ghost use Rattle.bx_entries.specs.Finding.{IsDirectoryOf, OnNamed, OnRemove, RemovesFrom, removing_entry};
+
+use crate::finding::{directory_for, entry_for, file_for};
+use crate::removing::{Known, remove_entry};
+use bx_handles::named_handle;
+use bx_inodes::Stop;
+use bx_model::{Call, NFS_OK, Reply, STALE};
+use bx_records::Draft;
+use bx_views::View;
+use std::alloc::Global;
+
+/// REMOVE (RFC 1094, section 2.2.11), of a volume with at most 64 areas: the blocks that it changes, and the reply. The entry of a name goes
+/// out of the directory that a file handle of the volume names, and the file that it names loses a name, or dies with its last one.
+///
+/// `Need` names a block that isn't held: that of the directory's inode, exclusively, or, where that is held, one on the path of the search for the
+/// name, shared; where that finds an entry the block of the inode that it names, one on the path of the two changes of the directory's tree, or the
+/// own block of the area of a file that dies, exclusively. The status is `STALE`, exactly where the file handle names no file, else `NOTDIR` where that
+/// is no directory, `ACCES` of a bad name and where the caller may not change it, `NOENT` where no entry has the name, and `ISDIR` where that of a
+/// directory has. `now` is in seconds and microseconds.
+pub fn remove<V: View>(
+    alloc: Global,
+    volume: u64,
+    areas: u16,
+    call: &Call,
+    at: &[u8],
+    name: &[u8],
+    now: (u32, u32),
+    view: &V,
+) -> Result<(Draft, Reply), Stop>
+    requires { areas ≤ 64 }
+    ensures step { (truth : Truth) (tree : Tree) → IsTruth (V.held view.now) truth → Stands volume areas truth tree → HintsFitAll areas (V.hints view.now) truth
+        → IsChange volume areas truth tree (remove_of tree call.now at.now name.now now) result }
+    ensures hints { (hints : Hints) (truth : Truth) (tree : Tree) → IsTruth (V.held view.now) truth → Stands volume areas truth tree → HintsFitAll areas (V.hints view.now) truth
+        → HintsFitAll areas hints truth → IfOk result (λ made. HintsFitAll areas hints (with_draft truth made.0)) }
+    ensures need { NeedsOn areas (V.held view.now) (OnRemove (V.held view.now) (V.hints view.now) volume areas at.now name.now) result }
+    ensures inner { NeverInner result }
+    ensures held { IfOk result (λ made. IsHeldDraft (V.held view.now) made.0) }
+{
+    let Some(handle) = named_handle(volume, at) else {
+        return Err(Stop::Status(STALE));
+    };
+    match directory_for(alloc, view, areas, call, handle, name) {
+        Err(stop) => Err(stop),
+        Ok(inode) => match remove_from(alloc, view, areas, Known { handle, inode }, name, now) {
+            Err(stop) => Err(stop),
+            Ok(draft) => Ok((draft, Reply::Status(NFS_OK))),
+        },
+    }
+}
+
+/// The same, in a directory, by its inode.
+fn remove_from<V: View>(
+    alloc: Global,
+    view: &V,
+    areas: u16,
+    directory: Known,
+    name: &[u8],
+    now: (u32, u32),
+) -> Result<Draft, Stop>
+    requires { LiveAt (reads_with (V.held view.now) (V.hints view.now) []) areas directory.handle Exclusive directory.inode }
+    ensures step { (volume : ℕ) (truth : Truth) (tree : Tree) → (is : IsDirectoryOf volume areas (V.held view.now) (V.hints view.now) truth tree directory.handle directory.inode)
+        → RemovesFrom areas truth (removing_entry tree is.at.file name.now now (entry_named (names_of is.at.file.body) name.now)) result }
+    ensures need { NeedsOn areas (V.held view.now) (OnNamed (V.held view.now) (V.hints view.now) directory.inode.tree name.now) result }
+    ensures inner { NeverInner result }
+    ensures held { IfOk result (IsHeldDraft (V.held view.now)) }
+{
+    match entry_for(alloc, view, areas, directory.inode.tree, name) {
+        Err(stop) => Err(stop),
+        Ok((number, handle)) => match file_for(alloc, view, areas, handle) {
+            Err(stop) => Err(stop),
+            Ok(inode) => {
+                let file = Known { handle, inode };
+                remove_entry(alloc, view, areas, directory, number, name, file, now)
+            }
+        },
+    }
+}

@@ -1,0 +1,39 @@
+use Rattle.std.proofs.Common.{List, Option, sym, subst}
+use Rattle.std.specs.Prelude.{Err}
+use Rattle.bx_blink.specs.Hints.{Under}
+use Rattle.bx_posts.specs.Posts.{NeedsForPost, PostsIn, PostsPage}
+use Rattle.bx_records.specs.Drafts.{Changed}
+use Rattle.bx_ready.proofs.Line.{all_posted, not_lost, short}
+use Rattle.bx_ready.proofs.Post.{post_error, post_fair}
+use Rattle.bx_ready.proofs.separators.post_for.Goals as goal
+
+pub returns-in-Lost-clause-map : goal.returns-in-Lost-clause-map
+returns-in-Lost-clause-map g c = λ truth tree u. not_lost c.args.areas (g.V.View.held c.args.view.now) (g.V.View.hints c.args.view.now) truth c.args.root tree c.args.key.now u c.in-Lost.ensures
+
+pub returns-in-Arrives-clause-map : goal.returns-in-Arrives-clause-map
+returns-in-Arrives-clause-map g c = λ truth tree u. all_posted c.args.areas (g.V.View.held c.args.view.now) (g.V.View.hints c.args.view.now) truth c.args.root tree c.args.key.now u c.in-Arrives.ensures
+
+pub returns-in-Ok-clause-map : goal.returns-in-Ok-clause-map
+returns-in-Ok-clause-map g c = λ truth tree u.
+    let s = short c.args.areas (g.V.View.held c.args.view.now) (g.V.View.hints c.args.view.now) truth c.args.root tree c.args.key.now u c.in-Short.page c.in-Short.ensures in
+    record {
+      node = s.node;
+      lacks = s.lacks;
+      posted = c.in-Ok.field-0;
+      posts = subst (λ (d : List Changed). PostsPage c.args.areas (g.V.View.held c.args.view.now) (g.V.View.hints c.args.view.now) truth d c.post.new.draft c.args.root tree s.node c.in-Ok.field-0) c.new-draft.ensures
+          (c.in-Ok.ensures.map truth tree s.node (subst (λ (d : List Changed). Under c.args.areas (g.V.View.held c.args.view.now) (g.V.View.hints c.args.view.now) truth d c.args.root tree) (sym c.new-draft.ensures) u)
+          (record { level = s.level; within = s.within; there = s.there }) s.handle_is);
+    }
+
+pub returns-in-Err-clause-map : goal.returns-in-Err-clause-map
+returns-in-Err-clause-map g c = λ truth tree u.
+    let s = short c.args.areas (g.V.View.held c.args.view.now) (g.V.View.hints c.args.view.now) truth c.args.root tree c.args.key.now u c.in-Short.page c.in-Short.ensures in
+    post_error c.args.areas (g.V.View.held c.args.view.now) (g.V.View.hints c.args.view.now) truth c.args.root tree c.args.key.now c.post.new.draft s.node c.in-Err.error
+    (subst (λ (d : List Changed). PostsIn c.args.areas (g.V.View.held c.args.view.now) (g.V.View.hints c.args.view.now) truth d c.post.new.draft c.args.root tree s.node (Err c.in-Err.error)) c.new-draft.ensures
+    (c.in-Err.ensures.map truth tree s.node (subst (λ (d : List Changed). Under c.args.areas (g.V.View.held c.args.view.now) (g.V.View.hints c.args.view.now) truth d c.args.root tree) (sym c.new-draft.ensures) u)
+    (record { level = s.level; within = s.within; there = s.there }) s.handle_is))
+
+pub returns-in-Err-clause-fair : goal.returns-in-Err-clause-fair
+returns-in-Err-clause-fair g c =
+    post_fair c.args.areas (g.V.View.held c.args.view.now) (g.V.View.hints c.args.view.now) c.args.root c.args.key.now (Option (List Changed)) c.in-Short.page c.in-Err.error c.in-Short.ensures
+    (subst (λ (d : List Changed). NeedsForPost c.args.areas (g.V.View.held c.args.view.now) (g.V.View.hints c.args.view.now) d c.args.root c.in-Short.page (Err c.in-Err.error)) c.new-draft.ensures c.in-Err.ensures.fair)

@@ -1,0 +1,58 @@
+//! The one answer of what is to be written first.
+
+ghost use Rattle.std.specs.Prelude.{[], IfOk, IfSome};
+ghost use Rattle.bx_blink.specs.Hints.{Under};
+ghost use Rattle.bx_file_laws.specs.Keeping.{KeepsFiles};
+ghost use Rattle.bx_leaves.specs.Changes.{NeedsUnheld};
+ghost use Rattle.bx_model.specs.declared.tree.Tree.{Tree};
+ghost use Rattle.bx_truth.specs.PageTrees.{PageTree};
+ghost use Rattle.bx_views.specs.Attempts.{IsHeldDraft};
+ghost use Rattle.bx_views.specs.Truths.{Truth};
+ghost use Rattle.bx_ready.specs.Ready.{IsFileUnder, OnReadyPath, ReadiesIn};
+
+use crate::rooms::split_for;
+use crate::separators::post_for;
+use bx_blink::BlinkError;
+use bx_records::Draft;
+use bx_views::View;
+use std::alloc::Global;
+
+/// What is to be written before an entry is put under a key, near an area, in the tree under a root: the draft that posts a separator
+/// that is missing above the key's page, or else the one that splits its leaf where that has less than 544 bytes left. `None` exactly
+/// where the entry finds room, below no missing separator. The draft leaves all files as they are.
+///
+/// `Need`, `Stale` and `Full` come as they do of `post_for` and `split_for`.
+pub fn ready<V: View>(
+    alloc: Global,
+    view: &V,
+    root: u64,
+    key: &[u8],
+    near: u16,
+    areas: u16,
+) -> Result<Option<Draft>, BlinkError>
+    ensures map { (truth : Truth) (tree : PageTree) → Under areas (V.held view.now) (V.hints view.now) truth [] root tree → ReadiesIn areas (V.held view.now) (V.hints view.now) truth root tree key.now result }
+    ensures files { (truth : Truth) (tree : Tree) → IsFileUnder areas (V.held view.now) (V.hints view.now) truth root tree → IfOk result (λ found. IfSome found (λ new. KeepsFiles areas truth [] new tree)) }
+    ensures fair { NeedsUnheld (V.held view.now) (OnReadyPath areas (V.held view.now) (V.hints view.now) root key.now) result }
+    ensures held { IfOk result (λ found. IfSome found (IsHeldDraft (V.held view.now))) }
+{
+    first_of(alloc, view, root, key, (near, areas))
+}
+
+/// The same, but for the files.
+fn first_of<V: View>(
+    alloc: Global,
+    view: &V,
+    root: u64,
+    key: &[u8],
+    near: (u16, u16),
+) -> Result<Option<Draft>, BlinkError>
+    ensures map { (truth : Truth) (tree : PageTree) → Under near.1 (V.held view.now) (V.hints view.now) truth [] root tree → ReadiesIn near.1 (V.held view.now) (V.hints view.now) truth root tree key.now result }
+    ensures fair { NeedsUnheld (V.held view.now) (OnReadyPath near.1 (V.held view.now) (V.hints view.now) root key.now) result }
+    ensures held { IfOk result (λ found. IfSome found (IsHeldDraft (V.held view.now))) }
+{
+    match post_for(alloc, view, root, key, near.0, near.1) {
+        Err(error) => Err(error),
+        Ok(Some(draft)) => Ok(Some(draft)),
+        Ok(None) => split_for(alloc, view, root, key, near.0, near.1),
+    }
+}

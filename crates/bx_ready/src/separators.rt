@@ -1,0 +1,50 @@
+//! Separators above keys.
+
+ghost use Rattle.std.specs.Prelude.{◌≡◌, [], IfOk, IfSome};
+ghost use Rattle.bx_blink.specs.Hints.{Under};
+ghost use Rattle.bx_leaves.specs.Changes.{NeedsUnheld};
+ghost use Rattle.bx_truth.specs.PageTrees.{PageTree};
+ghost use Rattle.bx_views.specs.Attempts.{IsHeldDraft};
+ghost use Rattle.bx_views.specs.Truths.{Truth};
+ghost use Rattle.bx_ready.specs.Separators.{OnPostForPath, PostsForIn};
+
+use crate::descents::{Descent, descend};
+use bx_base::Mode;
+use bx_blink::BlinkError;
+use bx_posts::post;
+use bx_records::Draft;
+use bx_views::View;
+use std::alloc::Global;
+
+/// Posts the first separator that is missing above the page of a key, near an area, in the tree under a root: the draft that does so, to be
+/// written before any entry is put under the key. `None` exactly where none is missing: each page from the root on names the one in whose range
+/// the key is.
+///
+/// Hints don't count, since an old one may lack a separator that is there. `Need` names a block that isn't held in that mode: one of these
+/// pages', shared, or one on the path of the post. `Stale` comes where what is held is no tree, and `Full` tells how many slots are free in the
+/// view.
+pub fn post_for<V: View>(
+    alloc: Global,
+    view: &V,
+    root: u64,
+    key: &[u8],
+    near: u16,
+    areas: u16,
+) -> Result<Option<Draft>, BlinkError>
+    ensures map { (truth : Truth) (tree : PageTree) → Under areas (V.held view.now) (V.hints view.now) truth [] root tree → PostsForIn areas (V.held view.now) (V.hints view.now) truth root tree key.now result }
+    ensures fair { NeedsUnheld (V.held view.now) (OnPostForPath areas (V.held view.now) (V.hints view.now) root key.now) result }
+    ensures held { IfOk result (λ found. IfSome found (IsHeldDraft (V.held view.now))) }
+{
+    match descend(view, root, key) {
+        Descent::Needs(at) => Err(BlinkError::Need(at, Mode::Shared)),
+        Descent::Lost => Err(BlinkError::Stale),
+        Descent::Arrives => Ok(None),
+        Descent::Short(page) => {
+            let mut draft = Draft::new(alloc);
+            match post(alloc, &mut draft, view, root, page, near, areas) {
+                Ok(_) => Ok(Some(draft)),
+                Err(error) => Err(error),
+            }
+        }
+    }
+}

@@ -1,9 +1,7 @@
 -- An entry removed, with a name of its file, by the two steps.
-use Rattle.std.proofs.Common.{◌≡◌, ℕ, Bool, true, false, List, Option, Some, refl, sym, ap, ◌∙◌, subst, arith, inl, inr}
+use Rattle.std.proofs.Common.{◌≡◌, ℕ, false, List, Some, refl, sym, ap, ◌∙◌, subst, arith}
 use Rattle.std.specs.Prelude.{◌≢◌, Err}
 use Rattle.bx_changes.proofs.FileChanged.{changed_is_put}
-use Rattle.bx_hints.specs.Fitting.{HintsFitAll}
-use Rattle.bx_inodes.specs.Inodes.{HoldsInode}
 use Rattle.bx_inodes.specs.declared.stop.Stop.{Stop}
 use Rattle.bx_inodes.specs.declared.stop.Stop.TheVariants.{Need, Inner, Status, OutOfMemory}
 use Rattle.bx_layout.specs.declared.block.Block.{Block}
@@ -15,7 +13,7 @@ use Rattle.bx_records.specs.Drafts.{Changed}
 use Rattle.bx_tree_files.specs.declared.file.Body.{Body}
 use Rattle.bx_tree_files.specs.declared.file.File.{File}
 use Rattle.bx_tree_files.specs.Changes.{taken_out}
-use Rattle.bx_tree_files.specs.Files.{file_at, is_directory, kind_of, with_changed, with_file}
+use Rattle.bx_tree_files.specs.Files.{file_at, kind_of, with_changed, with_file}
 use Rattle.bx_tree_files.specs.Times.{Time}
 use Rattle.bx_tree_laws.proofs.Lookups.{some_same, with_other}
 use Rattle.bx_tree_laws.proofs.Rises.{contains_at}
@@ -100,7 +98,7 @@ module _ (volume areas : ℕ) (held : Held) (hints : Hints) (truth : Truth) (tre
 
     files : with_file tree.files (taken_out now name false r.at.file) ≡ with_changed tree.files r.at.file.handle (taken_out now name false)
     files = sym (ap (λ (h : ℕ). with_changed tree.files h (taken_out now name false)) r.at.handle_is
-      ∙ changed_is_put tree.files directory (taken_out now name false) r.at.file r.stands.is.in_order r.at.there r.at.handle_is)
+        ∙ changed_is_put tree.files directory (taken_out now name false) r.at.file r.stands.is.in_order r.at.there r.at.handle_is)
 
     pub removes : (new : List Changed) → Unlinks areas truth mid new (without_entry_of tree r.at.file name now) handle r.file.file now → Removes areas truth new (removed tree r.at.file name r.file.file now)
     removes new u = record {

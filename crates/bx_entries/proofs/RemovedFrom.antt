@@ -1,5 +1,5 @@
 -- What REMOVE comes to, from the directory on.
-use Rattle.std.proofs.Common.{◌≡◌, ℕ, ◌+◌, ◌*◌, ◌/◌, ◌<◌, ◌≤◌, Bool, true, false, eqb-true, List, [], Option, Some, None, refl, sym, ap, ◌∙◌, subst, arith, inl, inr}
+use Rattle.std.proofs.Common.{◌≡◌, ℕ, ◌+◌, ◌*◌, ◌/◌, ◌<◌, ◌≤◌, eqb-true, List, [], Option, Some, None, refl, sym, ap, ◌∙◌, arith}
 use Rattle.std.specs.Prelude.{Result, Ok, Err}
 use Rattle.bx_base.specs.declared.names.Mode.{Mode}
 use Rattle.bx_changes.specs.Changes.{Changes, IsChange}
@@ -30,10 +30,10 @@ use Rattle.bx_tree_files.specs.Files.{file_at, is_directory}
 use Rattle.bx_tree_files.specs.Names.{names_of}
 use Rattle.bx_tree_files.specs.Times.{Time}
 use Rattle.bx_tree_laws.proofs.Removings.{remove_keeps}
-use Rattle.bx_truth.specs.Chunks.{IsName, block_at, chunks_of}
+use Rattle.bx_truth.specs.Chunks.{IsName, chunks_of}
 use Rattle.bx_truth.specs.PageTrees.{Chunks}
 use Rattle.bx_truth.specs.Stored.{HasBody, IsDirectory, Owner, Stored}
-use Rattle.bx_views.specs.Truths.{Held, Hints, IsTruth, Truth, with_draft}
+use Rattle.bx_views.specs.Truths.{Held, Hints, IsTruth, Truth}
 use Rattle.bx_entries.specs.Finding.{DirectoryFor, EntryFor, FileFor, IsDirectoryOf, MayChange, MayRemove, RemovesFrom, RemovesSo, changeable, removing, removing_entry}
 use Rattle.bx_entries.specs.Removing.{IsRemoval, RemovesIn, removed}
 use Rattle.bx_entries.proofs.Found.{changes, is_a_directory, is_removed}

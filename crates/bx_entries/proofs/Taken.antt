@@ -1,22 +1,19 @@
 -- An entry taken out of a directory, by the two changes of its tree and its inode.
-use Rattle.std.proofs.Common.{◌≡◌, ℕ, ◌≤◌, true, false, List, [], Option, Some, refl, sym, ap, ◌∙◌, subst, arith, inl, inr}
-use Rattle.std.specs.Prelude.{◌≢◌, ◌⊎◌, Ok, Err}
+use Rattle.std.proofs.Common.{◌≡◌, ℕ, true, false, List, [], Some, refl, sym, ap, ◌∙◌, subst, arith, inl, inr}
+use Rattle.std.specs.Prelude.{◌≢◌, Err}
 use Rattle.bx_blink.specs.declared.error.BlinkError.{BlinkError}
 use Rattle.bx_blink.specs.declared.error.BlinkError.TheVariants as tree_error
 use Rattle.bx_dirs.specs.Changes.{OnTakePath, TakesIn}
 use Rattle.bx_dirs.specs.Edits.{EditsDirectory, IsDirectoryUnder, with_names}
 use Rattle.bx_dirs.specs.Entries.{HasEntries}
 use Rattle.bx_dirs.proofs.DirectoryEdits.{entries, pages, under}
-use Rattle.bx_hints.specs.Fitting.{HintsFitAll}
 use Rattle.bx_inodes.specs.Inodes.{HoldsInode}
 use Rattle.bx_inodes.specs.Writing.{PutsInode}
 use Rattle.bx_inodes.specs.declared.stop.Stop.{Stop}
-use Rattle.bx_inodes.specs.declared.stop.Stop.TheVariants.{Need, Inner, Status, OutOfMemory}
 use Rattle.bx_layout.specs.declared.block.Block.{Block}
 use Rattle.bx_layout.specs.declared.inode.Inode.{Inode}
 use Rattle.bx_leaves.specs.Changes.{NeedsUnheld}
 use Rattle.bx_model.specs.declared.tree.Tree.{Tree}
-use Rattle.bx_places.specs.Places.{is_block}
 use Rattle.bx_records.specs.Drafts.{Changed}
 use Rattle.bx_tree_files.specs.declared.file.File.{File}
 use Rattle.bx_tree_files.specs.declared.file.Name.{Name}
@@ -25,7 +22,6 @@ use Rattle.bx_tree_files.specs.Entries.{without_name}
 use Rattle.bx_tree_files.specs.Files.{file_at, with_file}
 use Rattle.bx_tree_files.specs.Names.{without_entry}
 use Rattle.bx_tree_files.specs.Times.{Time}
-use Rattle.bx_truth.specs.Chunks.{chunks_of}
 use Rattle.bx_truth.specs.Rewritten.{KeepsBody}
 use Rattle.bx_truth.specs.Stands.{StandsFor}
 use Rattle.bx_truth.specs.Stored.{HasFields}

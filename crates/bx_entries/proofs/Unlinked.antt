@@ -1,6 +1,6 @@
 -- A file that loses a name.
-use Rattle.std.proofs.Common.{◌≡◌, ℕ, ◌-◌, ◌<◌, ◌≤◌, Bool, true, false, List, Option, Some, refl, sym, ap, ◌∙◌, subst, arith, inl, inr}
-use Rattle.std.specs.Prelude.{◌≢◌, ◌==◌, nat_le, if◌then◌else◌, length, Ok, Err}
+use Rattle.std.proofs.Common.{◌≡◌, ℕ, ◌-◌, ◌<◌, ◌≤◌, Bool, true, false, List, Some, refl, sym, ap, ◌∙◌, subst, arith, inl, inr}
+use Rattle.std.specs.Prelude.{nat_le, if◌then◌else◌, length, Err}
 use Rattle.std.proofs.lemmas.Bool.{le-leb}
 use Rattle.std.proofs.lemmas.Bool.Decides.{nat_tests}
 use Rattle.bx_chunks.specs.Freeing.{own_at}
@@ -8,25 +8,22 @@ use Rattle.bx_chunks.specs.Putting.{own_of}
 use Rattle.bx_changes.proofs.FileChanged.{changed_is_put}
 use Rattle.bx_chunks.specs.declared.error.ChunkError.{ChunkError}
 use Rattle.bx_chunks.specs.declared.error.ChunkError.TheVariants as chunk
-use Rattle.bx_hints.specs.Fitting.{HintsFitAll}
 use Rattle.bx_inodes.specs.Inodes.{HoldsInode}
 use Rattle.bx_inodes.specs.Writing.{PutsInode}
 use Rattle.bx_inodes.specs.declared.stop.Stop.{Stop}
-use Rattle.bx_inodes.specs.declared.stop.Stop.TheVariants.{Need, Inner, Status, OutOfMemory}
 use Rattle.bx_handles.specs.Handles.{parts_of}
 use Rattle.bx_layout.specs.declared.block.Block.{Block}
 use Rattle.bx_layout.specs.declared.inode.Inode.{Inode}
 use Rattle.bx_making.specs.Burying.{BuriesAt, BuriesFile, BuriesIn, IsBare}
 use Rattle.bx_making.proofs.Steps.{fifteen}
 use Rattle.bx_model.specs.Edits.{changed, without}
-use Rattle.bx_model.specs.Removing.{without_link}
 use Rattle.bx_model.specs.declared.tree.Tree.{Tree}
 use Rattle.bx_records.specs.Drafts.{Changed, with_block}
 use Rattle.bx_tree_files.specs.declared.file.Body.{Body}
 use Rattle.bx_tree_files.specs.declared.file.Body.TheVariants.{Bytes, Path, Names}
 use Rattle.bx_tree_files.specs.declared.file.File.{File}
 use Rattle.bx_tree_files.specs.Changes.{unlinked}
-use Rattle.bx_tree_files.specs.Files.{file_at, with_changed, with_file}
+use Rattle.bx_tree_files.specs.Files.{file_at, with_file}
 use Rattle.bx_tree_files.specs.Times.{Time}
 use Rattle.bx_truth.specs.Chunks.{chunks_of}
 use Rattle.bx_truth.specs.Rewritten.{KeepsBody}
@@ -35,7 +32,7 @@ use Rattle.bx_truth.specs.Stands.{StandsFor}
 use Rattle.bx_truth.specs.Stored.{HasBody, HasFields}
 use Rattle.bx_truth.proofs.Cases.{eq_true}
 use Rattle.bx_truth.proofs.Put.{shown}
-use Rattle.bx_views.specs.Truths.{Held, Hints, Truth, with_draft}
+use Rattle.bx_views.specs.Truths.{Held, Truth, with_draft}
 use Rattle.bx_entries.specs.Stopping.{StopsByChunks}
 use Rattle.bx_entries.specs.Unlinking.{IsFileOf, Unlinks, UnlinksIn}
 use Rattle.bx_entries.proofs.InodePut.{fits}

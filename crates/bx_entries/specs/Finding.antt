@@ -19,12 +19,10 @@ use Rattle.bx_model.specs.declared.tree.Tree.{Tree}
 use Rattle.bx_model.specs.Permissions.{may}
 use Rattle.bx_model.specs.Steps.{Outcome, must, refuse, ◌>>=◌, ◌>>◌}
 use Rattle.bx_records.specs.Drafts.{Changed}
-use Rattle.bx_tree_files.specs.declared.file.Body.TheVariants.{Names}
 use Rattle.bx_tree_files.specs.declared.file.File.{File}
 use Rattle.bx_tree_files.specs.declared.file.Name.{Name}
 use Rattle.bx_tree_files.specs.Entries.{entry_named, is_bad}
 use Rattle.bx_tree_files.specs.Files.{file_at, is_directory}
-use Rattle.bx_tree_files.specs.Names.{names_of}
 use Rattle.bx_tree_files.specs.Times.{Time}
 use Rattle.bx_truth.specs.Chunks.{block_at}
 use Rattle.bx_truth.specs.Keys.{name_key, name_value}

@@ -1,5 +1,5 @@
 -- What taking an entry out of a directory rests on, and what it leaves.
-use Rattle.std.specs.Prelude.{◌≡◌, ◌≢◌, ℕ, ◌≤◌, false, List, [], Some, Result, Ok, Err}
+use Rattle.std.specs.Prelude.{◌≡◌, ◌≢◌, ℕ, ◌≤◌, false, List, Some, Result, Ok, Err}
 use Rattle.bx_hints.specs.Fitting.{HintsFitAll}
 use Rattle.bx_inodes.specs.Inodes.{HoldsInode}
 use Rattle.bx_inodes.specs.declared.stop.Stop.{Stop}

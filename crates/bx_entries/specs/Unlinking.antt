@@ -1,7 +1,5 @@
 -- What taking a name from a file leaves.
 use Rattle.std.specs.Prelude.{◌≡◌, ◌≢◌, ℕ, false, List, Some, Result, Ok, Err}
-use Rattle.bx_base.specs.declared.names.Mode.{Mode}
-use Rattle.bx_base.specs.declared.names.Mode.TheVariants.{Exclusive}
 use Rattle.bx_hints.specs.Fitting.{HintsFitAll}
 use Rattle.bx_inodes.specs.Inodes.{HoldsInode}
 use Rattle.bx_inodes.specs.declared.stop.Stop.{Stop}

@@ -1,4 +1,4 @@
-use Rattle.std.proofs.Common.{List, sym, subst, Err}
+use Rattle.std.proofs.Common.{List, subst, Err}
 use Rattle.bx_inodes.specs.Inodes.{FileAt, IsInodeOf}
 use Rattle.bx_reads.proofs.Told.{over_none}
 use Rattle.bx_records.specs.Drafts.{Changed}
@@ -21,7 +21,7 @@ returns-then-inode-eq-DIRECTORY-clause-step g c = λ truth tree directory name n
 
 pub returns-clause-step : goal.returns-clause-step
 returns-clause-step g c = λ truth tree directory name now same is. record {
-    at = subst (λ (d : List Changed). IsInodeOf c.args.areas (with_draft truth d) tree c.args.handle c.in-Ok.inode) c.new-none.ensures
-        (c.in-Ok.ensures.tree truth tree same (over_none c.args.areas truth tree c.new-none.result c.new-none.ensures is));
-    other = c.if-inode-eq-DIRECTORY.false;
-  }
+  at = subst (λ (d : List Changed). IsInodeOf c.args.areas (with_draft truth d) tree c.args.handle c.in-Ok.inode) c.new-none.ensures
+      (c.in-Ok.ensures.tree truth tree same (over_none c.args.areas truth tree c.new-none.result c.new-none.ensures is));
+  other = c.if-inode-eq-DIRECTORY.false;
+}

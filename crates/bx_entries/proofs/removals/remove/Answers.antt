@@ -1,4 +1,3 @@
-use Rattle.std.proofs.Common.{sym}
 use Rattle.std.specs.Prelude.{Ok, Err}
 use Rattle.bx_entries.proofs.RemovedFrom.{is_changed, no_directory, no_name, not_removed, removes_from}
 use Rattle.bx_entries.proofs.removals.remove.Goals as goal

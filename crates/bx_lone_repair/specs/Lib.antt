@@ -1,1 +1,5 @@
+pub mod Bench
+pub mod Left
+pub mod Recovering
+pub mod Shown
 pub mod Through

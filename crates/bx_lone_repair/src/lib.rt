@@ -2,10 +2,15 @@
 //! open records are told, their blocks are written home, and the log is closed.
 #![tactic(auto)]
 
+mod closing;
 mod gates;
+mod homes;
+mod reading;
 mod recovery;
+mod repair;
 mod through;
 
 pub use gates::settle_gates;
 pub use recovery::Recovery;
+pub use repair::recover;
 pub use through::write_through;

@@ -8,7 +8,7 @@ ghost use Rattle.bx_lone_repair.specs.Bench.{AreLong};
 ghost use Rattle.bx_lone_repair.specs.Left.{Doubt, IsClosed, IsLeft};
 ghost use Rattle.bx_lone_repair.specs.HomesOf.{HasNone};
 ghost use Rattle.bx_lone_repair.specs.Recovering.{Recovers};
-ghost use Rattle.bx_lone_repair.specs.Resting.{IsOpenLog, Rests, StandsAs, shuts_log};
+ghost use Rattle.bx_lone_repair.specs.Resting.{Comes, IsOpenLog, Rests, StandsAs, shuts_log};
 ghost use Rattle.bx_model.specs.declared.tree.Tree.{Tree};
 ghost use Rattle.bx_volume.specs.Records.{Logged, newest_in};
 
@@ -36,13 +36,49 @@ pub fn recover<R: Rack>(alloc: Global, rack: &mut R, floor: CallNo) -> Result<Re
     ensures keeps_telling { R.tells rack.old → R.tells rack.new }
 {
     settle_gates(alloc, rack)?;
+    go_on(alloc, rack, floor)
+}
+
+/// What comes once the gates are settled.
+fn go_on<R: Rack>(alloc: Global, rack: &mut R, floor: CallNo) -> Result<Recovery, RackError>
+    requires long { AreLong (R.state rack.old).sizes }
+    ensures recovers { (volume : ℕ) (tree : Tree) (doubt : Option Doubt) (records : List Logged) → R.tells rack.old → Comes volume floor tree doubt records (R.state rack.old)
+        → IfOk result (Recovers volume floor tree doubt (R.state rack.new)) }
+    ensures left { (volume : ℕ) (tree : Tree) (doubt : Option Doubt) (records : List Logged) → R.tells rack.old → Comes volume floor tree doubt records (R.state rack.old)
+        → IsLeft volume floor tree doubt (R.state rack.old) → OnErr result (IsLeft volume floor tree doubt (R.state rack.new)) }
+    ensures cause { IsErrOf result Fault → Rose (R.faults rack.old) (R.faults rack.new)
+        ⊎ ((volume : ℕ) (tree : Tree) (doubt : Option Doubt) (records : List Logged) → R.tells rack.old → Comes volume floor tree doubt records (R.state rack.old) → ⊥) }
+    ensures later { NoneFalls (R.faults rack.old) (R.faults rack.new) (R.faults_of rack.old) (R.faults_of rack.new) }
+    ensures sizes { (R.state rack.new).sizes ≡ (R.state rack.old).sizes }
+    ensures keeps_telling { R.tells rack.old → R.tells rack.new }
+{
     let Some(log) = read_open(alloc, rack)? else {
         return Err(RackError::Fault);
     };
+    answer(alloc, rack, floor, &log)
+}
+
+/// Tells the point of an open record whose call wasn't told, or closes the log.
+fn answer<R: Rack>(
+    alloc: Global,
+    rack: &mut R,
+    floor: CallNo,
+    log: &OpenLog,
+) -> Result<Recovery, RackError>
+    requires long { AreLong (R.state rack.old).sizes }
+    ensures recovers { (volume : ℕ) (tree : Tree) (doubt : Option Doubt) (records : List Logged) → R.tells rack.old → Comes volume floor tree doubt records (R.state rack.old) → IsOpenLog records log.now
+        → IfOk result (Recovers volume floor tree doubt (R.state rack.new)) }
+    ensures left { (volume : ℕ) (tree : Tree) (doubt : Option Doubt) (records : List Logged) → R.tells rack.old → Comes volume floor tree doubt records (R.state rack.old) → IsOpenLog records log.now
+        → OnErr result (IsLeft volume floor tree doubt (R.state rack.new)) }
+    ensures cause { IsErrOf result Fault → Rose (R.faults rack.old) (R.faults rack.new) ⊎ ((records : List Logged) → IsOpenLog records log.now → HasNone (newest_in records)) }
+    ensures later { NoneFalls (R.faults rack.old) (R.faults rack.new) (R.faults_of rack.old) (R.faults_of rack.new) }
+    ensures sizes { (R.state rack.new).sizes ≡ (R.state rack.old).sizes }
+    ensures keeps_telling { R.tells rack.old → R.tells rack.new }
+{
     if let Some(point) = untold(log.points.items(), floor) {
         return Ok(Recovery::Found(point));
     }
-    close_all(alloc, rack, &log)?;
+    close_all(alloc, rack, log)?;
     Ok(Recovery::Closed)
 }
 

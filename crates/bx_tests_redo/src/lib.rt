@@ -16,4 +16,6 @@ mod looks;
 #[cfg(test)]
 mod recovery;
 #[cfg(test)]
+mod repairs;
+#[cfg(test)]
 mod written;

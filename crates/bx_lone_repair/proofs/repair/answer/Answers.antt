@@ -1,0 +1,24 @@
+use Rattle.std.proofs.Common.{◌≤◌, List, Contains, subst}
+use Rattle.bx_base.specs.declared.names.Point.{Point}
+use Rattle.bx_lone_repair.specs.Left.{IsLeft}
+use Rattle.bx_lone_repair.proofs.Finding.{above_acted, none_above}
+use Rattle.bx_lone_repair.proofs.Results.{on_err}
+use Rattle.bx_lone_repair.proofs.repair.answer.Goals as goal
+
+pub returns-in-Some-clause-recovers : goal.returns-in-Some-clause-recovers
+returns-in-Some-clause-recovers g c = λ volume tree doubt records tells came read.
+    let there = subst (λ (l : List Point). Contains l c.in-Some.point) c.items.ensures c.in-Some.ensures.some.0 in
+    above_acted volume c.args.floor tree doubt records (g.R.Rack.state c.args.rack.now) c.args.log.now read c.in-Some.point there c.in-Some.ensures.some.1 came
+
+pub returns-in_err-close_all-clause-left : goal.returns-in_err-close_all-clause-left
+returns-in_err-close_all-clause-left g c = λ volume tree doubt records tells came read.
+    let low = subst (λ (l : List Point). (point : Point) → Contains l point → point.call ≤ c.args.floor) c.items.ensures c.in_default.ensures.none in
+    let rests = none_above volume c.args.floor tree doubt records (g.R.Rack.state c.args.rack.now) c.args.log.now read low came in
+    on_err (IsLeft volume c.args.floor tree doubt (g.R.Rack.state c.close_all.new.rack)) c.from_residual.result
+    (c.in_err-close_all.ensures.left volume c.args.floor tree doubt records tells rests read)
+
+pub returns-clause-recovers : goal.returns-clause-recovers
+returns-clause-recovers g c = λ volume tree doubt records tells came read.
+    let low = subst (λ (l : List Point). (point : Point) → Contains l point → point.call ≤ c.args.floor) c.items.ensures c.in_default.ensures.none in
+    let rests = none_above volume c.args.floor tree doubt records (g.R.Rack.state c.args.rack.now) c.args.log.now read low came in
+    c.in_ok-close_all.ensures.closes volume c.args.floor tree records tells rests read

@@ -1,8 +1,8 @@
-//! Names that are added where both leaves have room for them.
+//! Names that are added where both leaves have room for them, below no missing separator.
 
 use crate::desk::{Desk, ROOT};
 use bx_dirs::{add, lookup};
-use bx_ready::split_for;
+use bx_ready::ready;
 use bx_records::Draft;
 use std::alloc::Global;
 use std::test::Fail;
@@ -10,19 +10,19 @@ use std::test::Fail;
 /// How many names there are.
 const NAMES: u16 = 300;
 
-/// A name of 60 bytes, by its number.
-fn name_of(name: u16) -> [u8; 60] {
+/// A name of 200 bytes, by its number.
+fn name_of(name: u16) -> [u8; 200] {
     let [high, low] = name.to_be_bytes();
-    let mut bytes = [7; 60];
+    let mut bytes = [7; 200];
     bytes[0] = low;
     bytes[1] = high;
     bytes
 }
 
-/// Splits the leaf of a key until it has room; how many splits that took. `None` where it takes too many.
-fn splits_of(alloc: Global, desk: &mut Desk, key: &[u8]) -> Result<Option<u32>, Fail> {
-    for count in 0..4 {
-        match split_for(alloc, desk, ROOT, key, 0, 1)? {
+/// Writes what is to be written first for a key; how many drafts that took. `None` where it takes too many.
+fn readied(alloc: Global, desk: &mut Desk, key: &[u8]) -> Result<Option<u32>, Fail> {
+    for count in 0..8 {
+        match ready(alloc, desk, ROOT, key, 0, 1)? {
             None => return Ok(Some(count)),
             Some(draft) => desk.take_in(alloc, &draft)?,
         }
@@ -30,17 +30,17 @@ fn splits_of(alloc: Global, desk: &mut Desk, key: &[u8]) -> Result<Option<u32>, 
     Ok(None)
 }
 
-/// Adds a name under a number, once both leaves have room; how many splits that took.
+/// Adds a name under a number, once its two keys are ready; how many drafts that took.
 fn adds(alloc: Global, desk: &mut Desk, number: u32, name: &[u8]) -> Result<Option<u32>, Fail> {
-    if name.len() > 60 {
+    if name.len() > 200 {
         return Ok(None);
     }
     let mut key = Vec::new(alloc);
     key.push(1)?;
     key.extend_from_slice(name)?;
-    let named = splits_of(alloc, desk, &key)?;
+    let named = readied(alloc, desk, &key)?;
     let [a, b, c, d] = number.to_be_bytes();
-    let numbered = splits_of(alloc, desk, &[2, a, b, c, d])?;
+    let numbered = readied(alloc, desk, &[2, a, b, c, d])?;
     let mut draft = Draft::new(alloc);
     add(
         alloc,
@@ -62,12 +62,12 @@ fn adds(alloc: Global, desk: &mut Desk, number: u32, name: &[u8]) -> Result<Opti
 fn a_name_is_added_where_there_is_room(rt: HostRuntime) -> Result<(), Fail> {
     let alloc = rt.alloc();
     let mut desk = Desk::new(alloc)?;
-    let mut splits = 0_u32;
+    let mut drafts = 0_u32;
     for turn in 0..NAMES {
         let name = name_of(turn.wrapping_mul(77) % NAMES);
         match adds(alloc, &mut desk, u32::from(turn) + 3, &name)? {
             None => assert!(rt; false, "no room for name {turn}"),
-            Some(count) => splits = splits.saturating_add(count),
+            Some(count) => drafts = drafts.saturating_add(count),
         }
     }
     let mut found = 0_u16;
@@ -78,8 +78,9 @@ fn a_name_is_added_where_there_is_room(rt: HostRuntime) -> Result<(), Fail> {
         }
     }
     assert!(rt;
-        found == NAMES && splits > 10,
-        "{found} names, {splits} splits"
+        found == NAMES && drafts > 40 && desk.height() == 2,
+        "{found} names, {drafts} drafts, height {}",
+        desk.height()
     );
     Ok(())
 }

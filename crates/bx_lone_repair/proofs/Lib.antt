@@ -1,0 +1,3 @@
+pub mod Crashing
+pub mod Labels
+pub mod Showing

@@ -17,7 +17,7 @@ use Rattle.bx_lone_node.specs.Bare.{StandsBare}
 use Rattle.bx_lone_node.specs.Node.{NodeView}
 use Rattle.bx_lone_node.specs.Standing.{Finds, NodeStands}
 use Rattle.bx_lone_node.specs.declared.stage.Stage.TheVariants.{Idle}
-use Rattle.bx_lone_repair.proofs.Labels.{only_first}
+use Rattle.bx_lone_repair.proofs.Images.{only_first}
 use Rattle.bx_lone_repair.specs.Bench.{AreLong, IsLabelled, first_label, made_for}
 use Rattle.bx_lone_repair.specs.Left.{IsClosed}
 use Rattle.bx_model.specs.declared.tree.Tree.{Tree}

@@ -39,6 +39,7 @@ impl LoneMachine {
         ensures ready { IfOk result (λ machine. IsReady machine (B.state bench.new).sizes) }
         ensures calls { IfOk result (λ machine. (calls_of machine ≡ []) × (latest_of machine ≡ 0)) }
         ensures volume { IfOk result (λ machine. volume_of machine ≡ volume) }
+        ensures long { OnOk result (AreLong (B.state bench.new).sizes) }
         ensures cause { IsErrOf result Fault → Rose (B.faults bench.old) (B.faults bench.new) }
         ensures memory { IsErrOf result NoMemory → B.faults bench.new ≡ B.faults bench.old }
         ensures no_fault { OnOk result (B.faults bench.new ≡ B.faults bench.old) }

@@ -1,3 +1,3 @@
 pub mod Crashing
-pub mod Labels
+pub mod Images
 pub mod Showing

@@ -10,7 +10,7 @@ use Rattle.bx_lone_node.specs.Bare.{StandsBare}
 use Rattle.bx_lone_node.specs.Standing.{IsAt, point_in}
 use Rattle.bx_lone_repair.specs.Left.{Doubt, IsLeft, IsOfDoubt, IsUnsettled}
 use Rattle.bx_lone_repair.specs.Shown.{Shows}
-use Rattle.bx_lone_repair.proofs.Labels.{shows_tree}
+use Rattle.bx_lone_repair.proofs.Images.{shows_tree}
 use Rattle.bx_model.specs.declared.tree.Tree.{Tree}
 use Rattle.bx_redo.specs.Stands.{Shows as ShowsLog}
 use Rattle.bx_redo.specs.declared.work.Work.{Work}

@@ -25,3 +25,6 @@ returns-clause-holds g c = λ tells.
 
 pub returns-clause-ready : goal.returns-clause-ready
 returns-clause-ready g c = c.in_ok-machine.ensures.ready (g.B.Rack.state c.format.new.rack).sizes (sizes_long (g.B.Rack.state c.format.new.rack).sizes c.in_ok-format.ensures.sizes)
+
+pub returns-clause-long : goal.returns-clause-long
+returns-clause-long g c = sizes_long (g.B.Rack.state c.format.new.rack).sizes c.in_ok-format.ensures.sizes

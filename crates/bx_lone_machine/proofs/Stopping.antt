@@ -1,5 +1,5 @@
 -- What a machine leaves when it stops between two calls.
-use Rattle.std.proofs.Common.{◌≡◌, inl, inr, refl, ℕ, ◌<◌, ◌≤◌, arith, List, [], ◌∷◌, Contains, length, Option, Some, None, sym, ◌∙◌, ap, subst}
+use Rattle.std.proofs.Common.{◌≡◌, inl, inr, refl, ℕ, ◌<◌, ◌≤◌, arith, List, [], ◌∷◌, Contains, length, Option, Some, sym, ◌∙◌, ap, subst}
 use Rattle.std.specs.Option.{option_map}
 use Rattle.bx_base.specs.declared.names.Point.{Point}
 use Rattle.bx_disk.specs.Disks.{Disks}
@@ -8,7 +8,7 @@ use Rattle.bx_facts.specs.Writes.{Asked, HasLabels, IsSettled, Made, Sent, Store
 use Rattle.bx_global.specs.Opening.{opening_state}
 use Rattle.bx_global.specs.declared.state.GlobalState.{GlobalState}
 use Rattle.bx_lone_node.specs.Bare.{StandsBare}
-use Rattle.bx_lone_node.specs.Node.{IsClosing, IsInStage, IsNode, IsRecording, IsUsed, NodeView, calls_of as node_calls, unanswered}
+use Rattle.bx_lone_node.specs.Node.{IsClosing, IsInStage, IsNode, IsRecording, IsUsed, NodeView, unanswered}
 use Rattle.bx_lone_node.specs.Standing.{AreOf, Finds, IsAt, NodeStands, Promises, point_in}
 use Rattle.bx_lone_node.specs.Turning.{point_at, recorded_in}
 use Rattle.bx_lone_node.specs.declared.stage.Recorded.{Recorded}
@@ -19,7 +19,7 @@ use Rattle.bx_lone_node.specs.declared.stage.Waiting.{Waiting}
 use Rattle.bx_lone_machine.specs.Machine.{AreRising, Holds, IsReady, call_past, calls_of, doubt_in, doubt_of, floor_in, floor_of, record_of, store_keeps, store_made, store_reads, store_stands, volume_of}
 use Rattle.bx_lone_machine.specs.declared.machine.LoneMachine.{LoneMachine}
 use Rattle.bx_lone_machine.proofs.Rising.{point_of}
-use Rattle.bx_lone_repair.specs.Bench.{IsLabelled, made_for}
+use Rattle.bx_lone_repair.specs.Bench.{IsLabelled}
 use Rattle.bx_lone_repair.specs.Left.{Doubt, IsLeft, IsUnsettled, Leads}
 use Rattle.bx_model.specs.declared.tree.Tree.{Tree}
 use Rattle.bx_records.specs.Drafts.{Changed}

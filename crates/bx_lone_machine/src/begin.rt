@@ -57,11 +57,7 @@ impl LoneMachine {
 
     /// A machine on a bench whose log is closed, as one is that was recovered: no call waits, and nothing was read. The numbers of calls go
     /// on above the latest that came.
-    pub fn returned(
-        alloc: Global,
-        volume: u64,
-        latest: CallNo,
-    ) -> Result<LoneMachine, OutOfMemory>
+    pub fn returned(alloc: Global, volume: u64, latest: CallNo) -> Result<LoneMachine, OutOfMemory>
         ensures volume { IfOk result (λ machine. volume_of machine ≡ volume) }
         ensures calls { IfOk result (λ machine. (calls_of machine ≡ []) × (latest_of machine ≡ latest)) }
         ensures ready { (sizes : List ℕ) → AreLong sizes → IfOk result (λ machine. IsReady machine sizes) }

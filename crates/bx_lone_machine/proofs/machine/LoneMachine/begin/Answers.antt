@@ -20,8 +20,9 @@ returns-clause-holds g c = λ tells.
       stands = record { is = c.a_new_volume.ensures.tree 1 volume (omega arith); volume_is = refl; file_tree = c.the_opening_tree_is_one.ensures.opening volume };
       fit = opening_fit 1 (omega arith);
     } in
-    let log = λ more. c.a_log_begins.ensures disks (opening_state 1 1) (first_label volume) opening_truth more 0 rest (gates_alike disks volume is rest) (omega arith) refl in
-    c.in_ok-machine.ensures.holds disks (opening volume) (formatted_closed disks volume is rest (opening volume) stands log)
+    c.in_ok-machine.ensures.holds disks (opening volume)
+    (formatted_closed disks volume is rest (opening volume) stands
+    (λ more. c.a_log_begins.ensures disks (opening_state 1 1) (first_label volume) opening_truth more 0 rest (gates_alike disks volume is rest) (omega arith) refl))
 
 pub returns-clause-ready : goal.returns-clause-ready
 returns-clause-ready g c = c.in_ok-machine.ensures.ready (g.B.Rack.state c.format.new.rack).sizes (sizes_long (g.B.Rack.state c.format.new.rack).sizes c.in_ok-format.ensures.sizes)

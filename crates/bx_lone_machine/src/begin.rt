@@ -1,10 +1,10 @@
 //! How a machine begins.
 
-ghost use Rattle.std.specs.Prelude.{◌≡◌, ◌≤◌, [], ℕ, List, IfOk, IsErrOf, OnOk};
+ghost use Rattle.std.specs.Prelude.{◌≡◌, ◌≤◌, [], ℕ, List, IfOk, IsErrOf, None, OnOk};
 ghost use Rattle.bx_base.specs.Faults.{Rose};
 ghost use Rattle.bx_disk.specs.Disks.{Disks};
 ghost use Rattle.bx_disk.specs.declared.fault.RackError.TheVariants.{Fault, OutOfMemory as NoMemory};
-ghost use Rattle.bx_lone_machine.specs.Machine.{Holds, IsReady, calls_of, latest_of, volume_of};
+ghost use Rattle.bx_lone_machine.specs.Machine.{Holds, IsReady, calls_of, latest_of, record_of, volume_of};
 ghost use Rattle.bx_lone_repair.specs.Bench.{AreLong};
 ghost use Rattle.bx_lone_repair.specs.Left.{IsClosed};
 ghost use Rattle.bx_model.specs.Opening.{opening};
@@ -38,6 +38,7 @@ impl LoneMachine {
         ensures holds { B.tells bench.old → IfOk result (λ machine. Holds machine (B.state bench.new) (opening volume)) }
         ensures ready { IfOk result (λ machine. IsReady machine (B.state bench.new).sizes) }
         ensures calls { IfOk result (λ machine. (calls_of machine ≡ []) × (latest_of machine ≡ 0)) }
+        ensures record { IfOk result (λ machine. record_of machine ≡ None) }
         ensures volume { IfOk result (λ machine. volume_of machine ≡ volume) }
         ensures long { OnOk result (AreLong (B.state bench.new).sizes) }
         ensures cause { IsErrOf result Fault → Rose (B.faults bench.old) (B.faults bench.new) }
@@ -58,6 +59,7 @@ impl LoneMachine {
     /// A machine on a bench whose log is closed, as one is that was recovered: no call waits, and nothing was read. The numbers of calls go
     /// on above the latest that came.
     pub fn returned(alloc: Global, volume: u64, latest: CallNo) -> Result<LoneMachine, OutOfMemory>
+        ensures record { IfOk result (λ machine. record_of machine ≡ None) }
         ensures volume { IfOk result (λ machine. volume_of machine ≡ volume) }
         ensures calls { IfOk result (λ machine. (calls_of machine ≡ []) × (latest_of machine ≡ latest)) }
         ensures ready { (sizes : List ℕ) → AreLong sizes → IfOk result (λ machine. IsReady machine sizes) }

@@ -1,9 +1,9 @@
 //! What a machine that stops leaves on the disks of its bench.
 
-ghost use Rattle.std.specs.Prelude.{◌≡◌, ◌∷◌, ℕ, List, Some};
+ghost use Rattle.std.specs.Prelude.{◌≡◌, ◌<◌, ◌≤◌, ◌∷◌, ℕ, List, Contains, Some};
 ghost use Rattle.std.specs.Option.{option_map};
 ghost use Rattle.bx_disk.specs.Disks.{Disks};
-ghost use Rattle.bx_lone_machine.specs.Machine.{Holds, IsReady, calls_of, doubt_of, floor_of, record_of, volume_of};
+ghost use Rattle.bx_lone_machine.specs.Machine.{AreRising, Holds, IsReady, calls_of, doubt_of, floor_of, latest_of, record_of, volume_of};
 ghost use Rattle.bx_lone_machine.specs.declared.machine.LoneMachine.{LoneMachine};
 ghost use Rattle.bx_lone_node.specs.declared.stage.Waiting.{Waiting};
 ghost use Rattle.bx_lone_repair.specs.Left.{Doubt, IsLeft};
@@ -21,4 +21,12 @@ pub fn what_is_in_doubt_is_the_oldest()
     ensures point { (machine : LoneMachine) → option_map (λ doubt. doubt.point) (doubt_of machine) ≡ record_of machine }
     ensures oldest { (machine : LoneMachine) (sizes : List ℕ) (doubt : Doubt) → IsReady machine sizes → doubt_of machine ≡ Some doubt
         → (rest : List Waiting) × (calls_of machine ≡ doubt.call ∷ rest) × (doubt.point.call ≡ doubt.call.number) }
+{}
+
+/// Each call that waits is above the floor, and none is later than the latest.
+pub fn what_waits_is_above_the_floor()
+    ensures rising { (machine : LoneMachine) (sizes : List ℕ) → IsReady machine sizes → AreRising (floor_of machine) (latest_of machine) (calls_of machine) }
+    ensures each { (machine : LoneMachine) (sizes : List ℕ) (call : Waiting) → IsReady machine sizes → Contains (calls_of machine) call
+        → (floor_of machine < call.number) × (call.number ≤ latest_of machine) }
+    ensures latest { (machine : LoneMachine) (sizes : List ℕ) → IsReady machine sizes → floor_of machine ≤ latest_of machine }
 {}

@@ -68,6 +68,13 @@ impl LoneMachine {
         self.calls.engine.volume
     }
 
+    /// The greatest number of a call that came, or what it returned with.
+    pub fn latest(&self) -> CallNo
+        ensures { result ≡ latest_of self.now }
+    {
+        self.latest
+    }
+
     /// The greatest number that a call which was answered may have: one less than that of the oldest call that waits, and where none waits the
     /// latest.
     pub fn floor(&self) -> CallNo

@@ -1,6 +1,5 @@
 -- What a crash leaves of what was left.
-use Rattle.std.proofs.Common.{◌≡◌, ℕ, false, List, [], Contains, Option, None, refl, sym, subst}
-use Rattle.bx_base.specs.declared.names.Point.{Point}
+use Rattle.std.proofs.Common.{◌≡◌, ℕ, false, [], Option, None, refl, sym, subst}
 use Rattle.bx_disk.specs.Disks.{Disks}
 use Rattle.bx_facts.proofs.Lists.{nothing}
 use Rattle.bx_facts.specs.Disks.{IsKept}

@@ -1,14 +1,14 @@
 -- What images show of what was left.
 use Rattle.std.proofs.Common.{◌≡◌, ⊎_elim, inl, inr, refl, ℕ, ◌<◌, ◌≤◌, arith, Bool, true, false, List, [], ◌∷◌, Contains, filter, map, Option, sym, ◌∙◌, ap, subst}
 use Rattle.std.proofs.lemmas.Bool.Decides.{nat_tests}
-use Rattle.std.specs.Prelude.{◌≢◌, ◌⊎◌, if◌then◌else◌, nat_lt}
+use Rattle.std.specs.Prelude.{◌≢◌, if◌then◌else◌, nat_lt}
 use Rattle.bx_base.specs.declared.names.Point.{Point}
 use Rattle.bx_disk.specs.Disks.{Disks, Image, IsImage}
 use Rattle.bx_facts.proofs.Lists.{behind, front}
 use Rattle.bx_global.specs.Opening.{opening_state}
 use Rattle.bx_lone_node.specs.Bare.{StandsBare}
 use Rattle.bx_lone_node.specs.Standing.{IsAt, point_in}
-use Rattle.bx_lone_repair.specs.Left.{Doubt, IsLeft, IsOfDoubt, IsUnsettled}
+use Rattle.bx_lone_repair.specs.Left.{Doubt, IsLeft, IsOfDoubt}
 use Rattle.bx_lone_repair.specs.Shown.{Shows}
 use Rattle.bx_lone_repair.proofs.Images.{shows_tree}
 use Rattle.bx_model.specs.declared.tree.Tree.{Tree}
@@ -99,12 +99,12 @@ module _ (volume floor : ℕ) (tree : Tree) (doubt : Option Doubt) (disks : Disk
       let call : left.more.head.call ≡ point.call = ap (λ (p : Point). p.call) under_way.of in
       ⊎_elim
       (λ (nothing_new : (under_way.next ≡ tree) × (point.call ≤ floor)).
-          plain logs truth under_way.next it (others_with (left.more ∷ left.logs 0))
-          (here ∙ none_more floor left.more (left.logs 0) (let le = nothing_new.1 in omega (arith, call, le)) ∙ none_told) under_way.stands nothing_new.0)
+      plain logs truth under_way.next it (others_with (left.more ∷ left.logs 0))
+      (here ∙ none_more floor left.more (left.logs 0) (let le = nothing_new.1 in omega (arith, call, le)) ∙ none_told) under_way.stands nothing_new.0)
       (λ (of : IsOfDoubt floor tree doubt point under_way.next).
-          doubtful point logs truth under_way.next it (others_with (left.more ∷ left.logs 0))
-          (here ∙ one_more floor left.more (left.logs 0) (let less = of.above in omega (arith, call, less)) ∙ ap (λ (l : List Point). point_in left.more ∷ l) none_told ∙ ap (λ (p : Point). p ∷ []) under_way.of)
-          under_way.stands of)
+      doubtful point logs truth under_way.next it (others_with (left.more ∷ left.logs 0))
+      (here ∙ one_more floor left.more (left.logs 0) (let less = of.above in omega (arith, call, less)) ∙ ap (λ (l : List Point). point_in left.more ∷ l) none_told ∙ ap (λ (p : Point). p ∷ []) under_way.of)
+      under_way.stands of)
       under_way.leads
 
   abbrev ShowsWork : ℕ → Work → Type 0

@@ -9,3 +9,6 @@ pub mod HomesOf
 pub mod Fits
 pub mod Results
 pub mod Finding
+pub mod Crashing
+pub mod Images
+pub mod Showing

@@ -98,20 +98,20 @@ Restarts Holds waits tree doubt (Some point) = Finds Holds waits tree doubt poin
 -- ---- what disks show
 
 -- The call in doubt acted, and its record is open, alone of those of calls that lack a point.
-pub record IsInDoubt (tree : Tree) (doubt : Option Doubt) (next : Tree) (open : List Point) : Type 0 where
+pub record IsInDoubt (tree : Tree) (doubt : Option Doubt) (next : Tree) (opened : List Point) : Type 0 where
   pub of : Doubt
   pub is : doubt ≡ Some of
   pub acts : Acts tree of next
-  pub open_is : open ≡ of.point ∷ []
+  pub open_is : opened ≡ of.point ∷ []
 
 -- what the disks tell of the tree that is held: that one, and no record is open of a call that lacks a point; or the next one
 abbrev pub Tells : Tree → Option Doubt → Tree → List Point → Type 0
-Tells tree doubt next open = ((next ≡ tree) × (open ≡ [])) ⊎ IsInDoubt tree doubt next open
+Tells tree doubt next opened = ((next ≡ tree) × (opened ≡ [])) ⊎ IsInDoubt tree doubt next opened
 
 -- The disks show a tree as they read, of which they tell so.
 pub record Shows (lacks : ℕ → Bool) (disks : Disks) (tree : Tree) (doubt : Option Doubt) : Type 0 where
   pub next : Tree
   pub stands : StandFor disks (opening_state 1 1) next
-  pub open : List Point
-  pub open_is : (points : List Point) → AreOpen disks (opening_state 1 1) points → filter (λ point. lacks point.call) points ≡ open
-  pub tells : Tells tree doubt next open
+  pub opened : List Point
+  pub open_is : (points : List Point) → AreOpen disks (opening_state 1 1) points → filter (λ point. lacks point.call) points ≡ opened
+  pub tells : Tells tree doubt next opened

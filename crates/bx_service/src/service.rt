@@ -100,7 +100,7 @@ pub trait Service: Drop {
 
     /// It comes back, and brings the disks to rest. Where the record of the call in doubt is open, it says at which point that call
     /// acted. A fault of the bench ends nothing: what is left to do is tried again in each round. After an error it isn't used again.
-    fn restart<B: Rack>(&mut self, alloc: Global, bench: &mut B) -> Result<Option<Point>, OutOfMemory>
+    fn restart<B: Rack>(&mut self, bench: &mut B) -> Result<Option<Point>, OutOfMemory>
         requires down { up self.old ≡ false }
         requires ready { ready self.old (B.state bench.old).sizes }
         ensures up { OnOk result (up self.new ≡ true) }
@@ -111,6 +111,9 @@ pub trait Service: Drop {
             → IfOk result (Restarts (holds self.new (B.state bench.new)) (waits self.new) tree doubt) }
         ensures later { B.faults bench.old ≤ B.faults bench.new }
         ensures keeps_telling { B.tells bench.old → B.tells bench.new };
+
+    /// While it is down no call waits.
+    ghost idle: { (service : Self) → up service ≡ false → waits service ≡ [] };
 
     /// Once what is unsure was lost, the disks show the tree; or the one to which the call in doubt leads.
     ghost shown: { (service : Self) (x y : Disks) (tree : Tree) (doubt : Option Doubt) → ready service x.sizes → holds service x tree doubt → IsCrashed x y → Shows (lacks service) y tree doubt };

@@ -13,9 +13,9 @@ use Rattle.bx_lone_node.specs.declared.stage.Acted.{Acted}
 use Rattle.bx_lone_node.specs.declared.stage.Stage.{Stage}
 use Rattle.bx_lone_node.specs.declared.stage.Stage.TheVariants.{Idle, Reads, Logs, Homes, Closes, Spent}
 use Rattle.bx_lone_node.specs.declared.stage.Waiting.{Waiting}
+use Rattle.bx_lone_repair.specs.Bench.{AreLong, IsBench, first_label}
 use Rattle.bx_model.specs.declared.tree.Tree.{Tree}
 use Rattle.bx_views.specs.Attempts.{Deed}
-use Rattle.bx_lone_machine.specs.Machine.{AreLong, IsBench, first_label}
 use Rattle.bx_lone_machine.specs.Rounds.{IsOfRound}
 
 -- disks of the same sizes whose labels are kept are a bench still

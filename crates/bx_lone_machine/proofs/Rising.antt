@@ -1,9 +1,7 @@
 -- Numbers of calls that rise.
-use Rattle.std.proofs.Common.{◌≡◌, ◌⊎◌, ⊎_elim, inl, inr, refl, ℕ, ◌<◌, ◌≤◌, arith, Bool, true, false, List, [], ◌∷◌, ◌++◌, Option, Some, None, sym, ◌∙◌, ap, subst}
-use Rattle.std.specs.Prelude.{◌==◌, ◌||◌}
-use Rattle.std.specs.List.{list_any}
-use Rattle.std.proofs.lemmas.Bool.Decides.{nat_tests}
+use Rattle.std.proofs.Common.{◌≡◌, ◌⊎◌, ⊎_elim, inl, inr, refl, ℕ, ◌<◌, ◌≤◌, arith, List, [], ◌∷◌, ◌++◌, Contains, Option, Some, None, sym, ◌∙◌, ap, subst}
 use Rattle.bx_base.specs.declared.names.Point.{Point}
+use Rattle.bx_facts.proofs.Lists.{front_or_behind, nothing}
 use Rattle.bx_lone_node.specs.Node.{IsInStage, IsNode, IsRecording, IsPointOf, NodeView, Takes, calls_of, unanswered}
 use Rattle.bx_lone_node.specs.Standing.{IsAt, IsPast, told}
 use Rattle.bx_lone_node.specs.Turning.{IsOfMoment, WasOpened}
@@ -16,7 +14,7 @@ use Rattle.bx_lone_node.specs.declared.stage.Waiting.{Waiting}
 use Rattle.bx_redo.specs.declared.work.Work.{Work}
 use Rattle.bx_redo.specs.declared.work.Work.TheVariants as works
 use Rattle.bx_records.specs.Drafts.{Changed}
-use Rattle.bx_lone_machine.specs.Machine.{AreRising, call_past}
+use Rattle.bx_lone_machine.specs.Machine.{AreRising, call_past, floor_in}
 
 -- one more
 pub rising_more : (above most number : ℕ) (calls : List Waiting) (call : Waiting) → AreRising above most calls → most < number → call.number ≡ number → AreRising above number (calls ++ call ∷ [])
@@ -28,19 +26,22 @@ pub rising_above : (above less most : ℕ) (calls : List Waiting) → less ≤ a
 rising_above above less most [] le rises = (let r = rises in omega (arith, le, r))
 rising_above above less most (call ∷ calls) le rises = (let r = rises.0 in omega (arith, le, r), rises.1)
 
--- none has a number that isn't above
-pub not_among : (above most number : ℕ) (calls : List Waiting) → number ≤ above → AreRising above most calls → list_any (λ (call : Waiting). call.number == number) calls ≡ false
-not_among above most number [] le rises = refl
-not_among above most number (call ∷ calls) le rises =
-    let apart : (call.number == number) ≡ false = (let r = rises.0 in grind (arith, nat_tests, le, r)) in
-    let others = not_among call.number most number calls (let r = rises.0 in omega (arith, le, r)) rises.1 in
-    ap (λ (b : Bool). b || list_any (λ (one : Waiting). one.number == number) calls) apart ∙ others
+-- the floor is right below them
+pub above_floor : (above most : ℕ) (calls : List Waiting) → AreRising above most calls → AreRising (floor_in calls most) most calls
+above_floor above most [] rises = omega arith
+above_floor above most (call ∷ calls) rises = (let r = rises.0 in omega (arith, r), rises.1)
 
--- the first one's is among them
-pub first_among : (call : Waiting) (calls : List Waiting) (number : ℕ) → number ≡ call.number → list_any (λ (one : Waiting). one.number == number) (call ∷ calls) ≡ true
-first_among call calls number is =
-    let same : (call.number == number) ≡ true = grind (arith, nat_tests, is) in
-    ap (λ (b : Bool). b || list_any (λ (one : Waiting). one.number == number) calls) same
+-- none is later than the latest
+pub up_to : (above most : ℕ) (calls : List Waiting) → AreRising above most calls → above ≤ most
+up_to above most [] rises = rises
+up_to above most (call ∷ calls) rises = let less = rises.0 in let le = up_to call.number most calls rises.1 in omega (arith, less, le)
+
+pub between : (above most : ℕ) (calls : List Waiting) (call : Waiting) → AreRising above most calls → Contains calls call → (above < call.number) × (call.number ≤ most)
+between above most [] call rises there = absurd (nothing call there)
+between above most (first ∷ calls) call rises there = ⊎_elim
+    (λ (same : first ≡ call). subst (λ (c : Waiting). (above < c.number) × (c.number ≤ most)) same (rises.0, up_to first.number most calls rises.1))
+    (λ (more : Contains calls call). let less = rises.0 in let rest = between first.number most calls call rises.1 more in let later = rest.0 in (omega (arith, less, later), rest.1))
+    (front_or_behind first calls call there)
 
 -- behind others
 pub unanswered_more : (stage : Stage) (queue : List Waiting) (call : Waiting) → unanswered stage (queue ++ call ∷ []) ≡ unanswered stage queue ++ call ∷ []

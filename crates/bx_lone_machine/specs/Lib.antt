@@ -1,4 +1,2 @@
 pub mod Machine
-pub mod Resting
 pub mod Rounds
-pub mod Shown

@@ -1,5 +1,5 @@
 -- How a machine stands on the disks of its bench.
-use Rattle.std.specs.Prelude.{◌≡◌, ℕ, Bool, ◌<◌, ◌≤◌, false, List, [], ◌∷◌, Contains, Option, slice_index}
+use Rattle.std.specs.Prelude.{◌≡◌, ℕ, ◌-◌, Bool, ◌<◌, ◌≤◌, List, [], ◌∷◌, Contains, None, Option, Some}
 use Rattle.bx_base.specs.declared.names.Actor.TheVariants.{Member}
 use Rattle.bx_base.specs.declared.names.Point.{Point}
 use Rattle.bx_disk.specs.Disks.{Disks}
@@ -9,20 +9,19 @@ use Rattle.bx_facts.specs.Chains.{last}
 use Rattle.bx_facts.specs.Disks.{HasRoom}
 use Rattle.bx_facts.specs.Writes.{IsSettled, Made, StorePast}
 use Rattle.bx_global.specs.Opening.{opening_state}
-use Rattle.bx_layout.specs.declared.label.Label.{Label}
-use Rattle.bx_layout.specs.Labels.{SpellsLabel}
 use Rattle.bx_lone_node.specs.Node.{IsJoined, IsNode, IsUsed, calls_of as node_calls}
 use Rattle.bx_lone_node.specs.Standing.{NodeStands, StandsFor}
 use Rattle.bx_lone_node.specs.Turning.{record_of as node_record}
 use Rattle.bx_lone_node.specs.declared.stage.Stage.{Stage}
 use Rattle.bx_lone_node.specs.declared.stage.Stage.TheVariants.{Idle, Reads, Logs, Homes, Closes, Spent}
 use Rattle.bx_lone_node.specs.declared.stage.Waiting.{Waiting}
+use Rattle.bx_lone_repair.specs.Bench.{IsBench}
+use Rattle.bx_lone_repair.specs.Left.{Doubt}
 use Rattle.bx_lone_store.specs.Fits.{Keeps, WillRead}
 use Rattle.bx_lone_store.specs.Parts.{answer_at, asked_at, made_of}
 use Rattle.bx_lone_store.specs.Waiting.{needs_of, owes_in}
 use Rattle.bx_lone_store.specs.declared.store.PlainStore.{PlainStore}
 use Rattle.bx_model.specs.declared.tree.Tree.{Tree}
-use Rattle.bx_places.specs.Places.{disk_sectors}
 use Rattle.bx_plain_store.specs.Out.{at, out_at}
 use Rattle.bx_lone_machine.specs.declared.machine.LoneMachine.{LoneMachine}
 
@@ -56,6 +55,29 @@ latest_of machine = machine.latest
 -- the point of the call's record that is under way, and isn't open yet
 abbrev pub record_of : LoneMachine → Option Point
 record_of machine = node_record machine.node
+
+-- the number of the volume
+abbrev pub volume_of : LoneMachine → ℕ
+volume_of machine = machine.calls.engine.volume
+
+-- one less than the number of the oldest call that waits; where none waits, the greatest number of a call that came
+abbrev pub floor_in : List Waiting → ℕ → ℕ
+floor_in [] latest = latest
+floor_in (call ∷ calls) latest = call.number - 1
+
+-- the greatest number that a call which was answered may have
+abbrev pub floor_of : LoneMachine → ℕ
+floor_of machine = floor_in (calls_of machine) machine.latest
+
+-- the oldest call, where a record is under way: it is that call's
+abbrev pub doubt_in : List Waiting → Option Point → Option Doubt
+doubt_in calls None = None
+doubt_in [] (Some point) = None
+doubt_in (call ∷ calls) (Some point) = Some (record { call = call; point = point })
+
+-- the call that a crash may leave in doubt
+abbrev pub doubt_of : LoneMachine → Option Doubt
+doubt_of machine = doubt_in (calls_of machine) (record_of machine)
 
 -- the call of a record whose blocks go home, or 0
 abbrev pub call_past : Stage → ℕ
@@ -91,20 +113,6 @@ pub record IsReady (machine : LoneMachine) (sizes : List ℕ) : Type 0 where
   pub room : HasRoom (store_needs machine.store) sizes
   pub built : (call : Waiting) → Contains machine.node.queue call → IsBuiltCall call.datagram
   pub rising : AreRising (call_past machine.node.stage) machine.latest (calls_of machine)
-
--- the first label of a volume with this number
-abbrev pub first_label : ℕ → Label
-first_label volume = record { volume = volume; disk = 0; devices = 1; areas = 1 }
-
--- The disks are as long as those of a volume of one device and one area.
-pub record AreLong (sizes : List ℕ) : Type 0 where
-  pub long : (disk : ℕ) → disk < 5 → disk_sectors 1 1 disk ≤ slice_index sizes disk
-
--- They are, and the first has its label, surely.
-pub record IsBench (disks : Disks) (volume : ℕ) : Type 0 where
-  pub long : AreLong disks.sizes
-  pub reads : SpellsLabel (first_label volume) (disks.reads 0 0)
-  pub sure : disks.unsure 0 0 ≡ false
 
 -- the node stands for the tree, and what is under way leads to the next one
 abbrev pub MachineStands : LoneMachine → Disks → Tree → Tree → Type 0

@@ -1,25 +1,25 @@
 //! How a machine begins.
 
-ghost use Rattle.std.specs.Prelude.{◌≡◌, ◌≤◌, [], ℕ, List, IfOk, IsErrOf, OnOk};
+ghost use Rattle.std.specs.Prelude.{◌≡◌, ◌≤◌, [], ℕ, List, IfOk, IsErrOf, None, OnOk};
 ghost use Rattle.bx_base.specs.Faults.{Rose};
 ghost use Rattle.bx_disk.specs.Disks.{Disks};
 ghost use Rattle.bx_disk.specs.declared.fault.RackError.TheVariants.{Fault, OutOfMemory as NoMemory};
-ghost use Rattle.bx_lone_node.specs.Bare.{StandsBare};
-ghost use Rattle.bx_lone_machine.specs.Machine.{AreLong, Holds, IsReady, calls_of, latest_of};
-ghost use Rattle.bx_lone_machine.specs.Resting.{Rests};
+ghost use Rattle.bx_lone_machine.specs.Machine.{Holds, IsReady, calls_of, latest_of, record_of, volume_of};
+ghost use Rattle.bx_lone_repair.specs.Bench.{AreLong};
+ghost use Rattle.bx_lone_repair.specs.Left.{IsClosed};
 ghost use Rattle.bx_model.specs.Opening.{opening};
 ghost use Rattle.bx_model.specs.declared.tree.Tree.{Tree};
-ghost use Rattle.bx_views.specs.Truths.{Truth};
 
 use crate::calls::Calls;
 use crate::machine::LoneMachine;
-use bx_base::OutOfMemory;
+use bx_base::{CallNo, OutOfMemory};
 use bx_disk::{Rack, RackError};
 use bx_engine::BoxFs;
 use bx_format::{format, what_is_formatted_is_at_rest};
 use bx_global::{begins_allowed, opening};
 use bx_lone_node::LoneNode;
 use bx_lone_store::PlainStore;
+use bx_redo::a_log_begins;
 use bx_tree_laws::the_opening_tree_is_one;
 use bx_truth::a_new_volume;
 use std::alloc::Global;
@@ -38,6 +38,9 @@ impl LoneMachine {
         ensures holds { B.tells bench.old → IfOk result (λ machine. Holds machine (B.state bench.new) (opening volume)) }
         ensures ready { IfOk result (λ machine. IsReady machine (B.state bench.new).sizes) }
         ensures calls { IfOk result (λ machine. (calls_of machine ≡ []) × (latest_of machine ≡ 0)) }
+        ensures record { IfOk result (λ machine. record_of machine ≡ None) }
+        ensures volume { IfOk result (λ machine. volume_of machine ≡ volume) }
+        ensures long { OnOk result (AreLong (B.state bench.new).sizes) }
         ensures cause { IsErrOf result Fault → Rose (B.faults bench.old) (B.faults bench.new) }
         ensures memory { IsErrOf result NoMemory → B.faults bench.new ≡ B.faults bench.old }
         ensures no_fault { OnOk result (B.faults bench.new ≡ B.faults bench.old) }
@@ -46,18 +49,21 @@ impl LoneMachine {
     {
         format(alloc, bench, volume, 1, 1)?;
         what_is_formatted_is_at_rest();
+        a_log_begins();
         a_new_volume();
         the_opening_tree_is_one();
-        let machine = LoneMachine::resting(alloc, volume)?;
+        let machine = LoneMachine::returned(alloc, volume, 0)?;
         Ok(machine)
     }
 
-    /// A machine for a bench at rest: no call waits, and nothing was read.
-    pub(crate) fn resting(alloc: Global, volume: u64) -> Result<LoneMachine, OutOfMemory>
-        ensures volume { IfOk result (λ machine. machine.calls.engine.volume ≡ volume) }
-        ensures calls { IfOk result (λ machine. (calls_of machine ≡ []) × (latest_of machine ≡ 0)) }
+    /// A machine on a bench whose log is closed, as one is that was recovered: no call waits, and nothing was read. The numbers of calls go
+    /// on above the latest that came.
+    pub fn returned(alloc: Global, volume: u64, latest: CallNo) -> Result<LoneMachine, OutOfMemory>
+        ensures record { IfOk result (λ machine. record_of machine ≡ None) }
+        ensures volume { IfOk result (λ machine. volume_of machine ≡ volume) }
+        ensures calls { IfOk result (λ machine. (calls_of machine ≡ []) × (latest_of machine ≡ latest)) }
         ensures ready { (sizes : List ℕ) → AreLong sizes → IfOk result (λ machine. IsReady machine sizes) }
-        ensures holds { (disks : Disks) (truth : Truth) (tree : Tree) → Rests disks volume truth → StandsBare volume 1 truth tree → IfOk result (λ machine. Holds machine disks tree) }
+        ensures holds { (disks : Disks) (tree : Tree) → IsClosed volume tree disks → IfOk result (λ machine. Holds machine disks tree) }
     {
         let state = opening(alloc, 1, 1)?;
         let mut store = PlainStore::new(alloc, volume, 1, 1, 1)?;
@@ -73,7 +79,7 @@ impl LoneMachine {
                 engine: BoxFs { volume, areas: 1 },
             },
             state,
-            latest: 0,
+            latest,
         })
     }
 }

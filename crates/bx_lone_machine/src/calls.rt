@@ -18,13 +18,17 @@ impl Calls {
     ghost use Rattle.std.specs.Prelude.{◌≡◌, IfOk, true, false};
     ghost use Rattle.bx_engine.specs.Calls.{IsBuiltCall};
 
-    /// Whether bytes are a call that is built.
-    pub fn takes(&self, alloc: Global, call: &[u8]) -> Result<bool, OutOfMemory>
+    /// Whether bytes are a call that is built, on whatever volume.
+    pub fn takes(alloc: Global, call: &[u8]) -> Result<bool, OutOfMemory>
         ensures yes { IfOk result (λ is. is ≡ true → IsBuiltCall call.now) }
         ensures no { IfOk result (λ is. is ≡ false → IsBuiltCall call.now → ⊥) }
     {
         let nothing = Cache::new(alloc);
-        let attempt = self.engine.attempt(alloc, 0, call, 0, &nothing)?;
+        let engine = BoxFs {
+            volume: 0,
+            areas: 1,
+        };
+        let attempt = engine.attempt(alloc, 0, call, 0, &nothing)?;
         Ok(attempt.is_some())
     }
 }

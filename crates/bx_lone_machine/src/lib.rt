@@ -9,5 +9,5 @@ mod rounds;
 
 pub use bx_lone_node::{Acted, Waiting};
 pub use calls::Calls;
-pub use laws::what_is_held_is_shown;
+pub use laws::{what_is_in_doubt_is_the_oldest, what_stops_is_left, what_waits_is_above_the_floor};
 pub use machine::LoneMachine;

@@ -4,7 +4,7 @@ ghost use Rattle.std.specs.Prelude.{◌≡◌, ◌≢◌, ◌⊎◌, ◌||◌, �
 ghost use Rattle.std.specs.List.{list_any};
 ghost use Rattle.bx_disk.specs.Disks.{Disks};
 ghost use Rattle.bx_engine.specs.Calls.{IsBuiltCall};
-ghost use Rattle.bx_lone_machine.specs.Machine.{Holds, IsReady, calls_of, latest_of, member_waits, record_of};
+ghost use Rattle.bx_lone_machine.specs.Machine.{Holds, IsReady, calls_of, floor_of, latest_of, member_waits, record_of, volume_of};
 ghost use Rattle.bx_model.specs.declared.tree.Tree.{Tree};
 
 use crate::calls::Calls;
@@ -47,11 +47,11 @@ impl LoneMachine {
     }
 
     /// Whether bytes are a call that is built.
-    pub fn takes(&self, call: &[u8]) -> Result<bool, OutOfMemory>
+    pub fn takes(alloc: Global, call: &[u8]) -> Result<bool, OutOfMemory>
         ensures yes { IfOk result (λ is. is ≡ true → IsBuiltCall call.now) }
         ensures no { IfOk result (λ is. is ≡ false → IsBuiltCall call.now → ⊥) }
     {
-        self.calls.takes(self.alloc, call)
+        Calls::takes(alloc, call)
     }
 
     /// Whether the call with this number waits for its reply.
@@ -59,6 +59,31 @@ impl LoneMachine {
         ensures { result ≡ list_any (λ call. call.number == number) (calls_of self.now) }
     {
         self.node.waits_for(number)
+    }
+
+    /// The number of the volume.
+    pub fn volume(&self) -> u64
+        ensures { result ≡ volume_of self.now }
+    {
+        self.calls.engine.volume
+    }
+
+    /// The greatest number of a call that came, or what it returned with.
+    pub fn latest(&self) -> CallNo
+        ensures { result ≡ latest_of self.now }
+    {
+        self.latest
+    }
+
+    /// The greatest number that a call which was answered may have: one less than that of the oldest call that waits, and where none waits the
+    /// latest.
+    pub fn floor(&self) -> CallNo
+        ensures { result ≡ floor_of self.now }
+    {
+        match self.node.oldest() {
+            Some(number) => number.saturating_sub(1),
+            None => self.latest,
+        }
     }
 
     /// Whether no call waits, and no member: then rounds do nothing more.

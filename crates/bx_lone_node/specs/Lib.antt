@@ -5,3 +5,4 @@ pub mod Showing
 pub mod Standing
 pub mod Turning
 pub mod Bare
+pub mod Oldest

@@ -47,6 +47,7 @@ impl LoneNode {
     ghost use Rattle.bx_cache.specs.Cached.{block_at};
     ghost use Rattle.bx_redo.specs.Steps.{closed_log};
     ghost use Rattle.bx_lone_node.specs.Node.{IsJoined, IsNode, IsOfSame, IsUsed, Takes, calls_of, is_of_call};
+    ghost use Rattle.bx_lone_node.specs.Oldest.{oldest_of};
     ghost use Rattle.bx_lone_node.specs.Standing.{Goes, GoesTo, NodeStands, StandsFor, Turns};
     ghost use Rattle.bx_lone_node.specs.Turning.{Awaits, IsOfMoment};
     ghost use Rattle.bx_lone_node.specs.declared.stage.Waiting.{Waiting};
@@ -134,6 +135,29 @@ impl LoneNode {
             | Stage::Closes(_)
             | Stage::Spent => false,
         }
+    }
+
+    /// The number of the oldest call that waits for its reply, if one does.
+    pub fn oldest(&self) -> Option<CallNo>
+        ensures { result ≡ oldest_of (calls_of self.now) }
+    {
+        match &self.stage {
+            Stage::Logs(Recorded::Call(call, _), _) => Some(call.number),
+            Stage::Logs(Recorded::Inner, _)
+            | Stage::Idle
+            | Stage::Reads(_)
+            | Stage::Homes(_)
+            | Stage::Closes(_)
+            | Stage::Spent => self.first_queued(),
+        }
+    }
+
+    /// The number of the call at the head of those that weren't begun.
+    fn first_queued(&self) -> Option<CallNo>
+        ensures { result ≡ oldest_of self.now.queue }
+    {
+        let call = self.queue.front()?;
+        Some(call.number)
     }
 
     /// Does what can be done without the disks, at a moment in milliseconds: goes on with what the store has done, and attempts the

@@ -1,0 +1,3 @@
+pub mod Crashing
+pub mod Images
+pub mod Showing

@@ -3,9 +3,11 @@
 #![tactic(auto)]
 
 mod gates;
+mod laws;
 mod recovery;
 mod through;
 
 pub use gates::settle_gates;
+pub use laws::{what_crashes_is_left, what_is_closed_is_left, what_is_left_is_shown};
 pub use recovery::Recovery;
 pub use through::write_through;

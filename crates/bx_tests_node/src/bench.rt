@@ -19,7 +19,7 @@ pub(crate) fn sends(
     ensures ready { (sizes : List ℕ) → IsReady machine.old sizes → OnOk result (IsReady machine.new sizes) }
     ensures latest { OnOk result (latest_of machine.new ≤ number) }
 {
-    if !machine.takes(bytes)? {
+    if !LoneMachine::takes(alloc, bytes)? {
         return Ok(false);
     }
     let datagram = Raw::of(alloc, bytes)?;

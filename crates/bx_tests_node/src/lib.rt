@@ -6,6 +6,8 @@ mod bench;
 #[cfg(test)]
 mod faults;
 #[cfg(test)]
+mod returns;
+#[cfg(test)]
 mod rounds;
 #[cfg(test)]
 mod words;

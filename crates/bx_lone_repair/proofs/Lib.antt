@@ -1,3 +1,14 @@
 pub mod Crashing
 pub mod Images
 pub mod Showing
+pub mod Labels
+pub mod Only
+pub mod Homing
+pub mod Shutting
+pub mod Leaving
+pub mod Settling
+pub mod OpenLogs
+pub mod HomesOf
+pub mod Fits
+pub mod Results
+pub mod Finding

@@ -1,5 +1,7 @@
 pub mod Bench
+pub mod HomesOf
 pub mod Left
 pub mod Recovering
+pub mod Resting
 pub mod Shown
 pub mod Through

@@ -1,12 +1,15 @@
 //! The gates of the log.
 
-ghost use Rattle.std.specs.Prelude.{◌≡◌, ◌≤◌, [], ◌∷◌, ℕ, false, length, slice_index, IfOk, IsErrOf, OnOk};
+ghost use Rattle.std.specs.Prelude.{◌≡◌, ◌≤◌, [], ◌∷◌, ℕ, false, List, Option, length, slice_index, IfOk, IsErrOf, OnOk};
 ghost use Rattle.bx_base.specs.Faults.{Rose};
 ghost use Rattle.bx_disk.specs.Disks.{Image};
 ghost use Rattle.bx_disk.specs.declared.fault.RackError.TheVariants.{Fault};
 ghost use Rattle.bx_disk.specs.Counts.{NoneFalls, NoneRose};
 ghost use Rattle.bx_facts.specs.Writes.{IsSettled, IsSourceIn};
 ghost use Rattle.bx_global.specs.declared.state.GlobalState.{GlobalState};
+ghost use Rattle.bx_lone_repair.specs.Left.{Doubt, IsLeft};
+ghost use Rattle.bx_lone_repair.specs.Resting.{Comes};
+ghost use Rattle.bx_model.specs.declared.tree.Tree.{Tree};
 ghost use Rattle.bx_redo.specs.Found.{Settles};
 ghost use Rattle.bx_redo.specs.Stands.{LogStands};
 ghost use Rattle.bx_plain_store.specs.Out.{KeepsReplicas};
@@ -30,7 +33,7 @@ const FIRST_MEMBER: u32 = 3;
 const GATES_AT: u64 = 1;
 
 /// Reads the eight gates of the log in slot 0 off the first member, and writes them back as they read, on both members, and surely: so a gate that was
-/// being opened or closed is one of both, and stays it. The rack has the replicas' three disks and the two members, each with the gates and
+/// being opened or closed is one of both, and stays it. What a stopped node left stays left, also after an error. The rack has the replicas' three disks and the two members, each with the gates and
 /// bodies of all logs.
 pub fn settle_gates<R: Rack>(alloc: Global, rack: &mut R) -> Result<(), RackError>
     requires disks { 5 ≤ length (R.state rack.old).sizes }
@@ -39,6 +42,9 @@ pub fn settle_gates<R: Rack>(alloc: Global, rack: &mut R) -> Result<(), RackErro
     ensures settles { (state : GlobalState) (areas : ℕ) (before : Image) (logs : Logs) (truth : Truth) (more : Logged) (log : LogView) → R.tells rack.old → length state.devices ≡ 1 → IsSourceIn state 0 false → log.slot ≡ 0 → log.device ≡ 0
         → LogStands (IsSettled (R.state rack.old) state) 1 areas state.sessions before logs truth more log
         → OnOk result ((now : Image) × Settles (IsSettled (R.state rack.new) state) 1 areas state.sessions now logs truth more 0 log.work) }
+    ensures left { (volume floor : ℕ) (tree : Tree) (doubt : Option Doubt) → R.tells rack.old → IsLeft volume floor tree doubt (R.state rack.old) → IsLeft volume floor tree doubt (R.state rack.new) }
+    ensures comes { (volume floor : ℕ) (tree : Tree) (doubt : Option Doubt) → R.tells rack.old → IsLeft volume floor tree doubt (R.state rack.old)
+        → OnOk result ((records : List Logged) × Comes volume floor tree doubt records (R.state rack.new)) }
     ensures replicas { R.tells rack.old → KeepsReplicas (R.state rack.old) (R.state rack.new) }
     ensures cause { IsErrOf result Fault → Rose (R.faults rack.old) (R.faults rack.new) }
     ensures later { NoneFalls (R.faults rack.old) (R.faults rack.new) (R.faults_of rack.old) (R.faults_of rack.new) }

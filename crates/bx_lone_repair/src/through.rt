@@ -7,6 +7,7 @@ ghost use Rattle.bx_disk.specs.Counts.{NoneFalls, NoneRose};
 ghost use Rattle.bx_facts.specs.Writes.{IsDone, IsOnly, IsSettled, WritesIn};
 ghost use Rattle.bx_global.specs.declared.state.GlobalState.{GlobalState};
 ghost use Rattle.bx_lone_repair.specs.Through.{one_write};
+ghost use Rattle.bx_members.specs.Members.{KeepsMembers};
 ghost use Rattle.bx_plain_store.specs.Out.{IsFitting, KeepsReplicas};
 ghost use Rattle.bx_records.specs.declared.runs.Run.{Run};
 
@@ -22,6 +23,7 @@ pub fn write_through<R: Rack>(rack: &mut R, runs: List<Run>) -> Result<(), RackE
     requires once { (device sector : ℕ) (content other : List ℕ) → WritesIn runs device sector content → WritesIn runs device sector other → other ≡ content }
     requires disks { 5 ≤ length (R.state rack.old).sizes }
     ensures keeps { (s : GlobalState) (device sector : ℕ) (content : List ℕ) → R.tells rack.old → IsOnly (one_write runs ∷ []) 0 device sector content → IsSettled (R.state rack.old) s device sector content → IsSettled (R.state rack.new) s device sector content }
+    ensures members { R.tells rack.old → KeepsMembers (one_write runs ∷ []) 0 (R.state rack.old) (R.state rack.new) }
     ensures done { (s : GlobalState) → R.tells rack.old → length s.devices ≡ 1 → OnOk result (IsDone (λ device sector content index. IsSettled (R.state rack.new) s device sector content) 0 (one_write runs)) }
     ensures replicas { R.tells rack.old → KeepsReplicas (R.state rack.old) (R.state rack.new) }
     ensures cause { IsErrOf result Fault → Rose (R.faults rack.old) (R.faults rack.new) }

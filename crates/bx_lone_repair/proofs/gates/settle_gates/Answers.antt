@@ -1,9 +1,14 @@
-use Rattle.std.proofs.Common.{◌≡◌, ⊎_elim, inl, ℕ, arith, false, List, [], ◌∷◌, Contains, length, sym, ◌∙◌, ap, subst}
+use Rattle.std.proofs.Common.{◌≡◌, ⊎_elim, inl, refl, ℕ, ◌≤◌, arith, false, List, [], ◌∷◌, Contains, length, sym, ◌∙◌, ap, subst}
 use Rattle.bx_calls.specs.Regions.{ReadsAs}
 use Rattle.bx_disk.specs.Disks.{Disks}
 use Rattle.bx_facts.specs.Writes.{IsSettled, IsSourceIn, Sent, Writes, member_disk}
 use Rattle.bx_facts.proofs.Lists.{front_or_behind, nothing}
+use Rattle.bx_global.specs.Opening.{opening_state}
+use Rattle.bx_lone_repair.specs.Bench.{IsLabelled}
+use Rattle.bx_lone_repair.specs.Left.{IsLeft}
 use Rattle.bx_lone_repair.specs.Through.{one_write}
+use Rattle.bx_lone_repair.proofs.Labels.{labelled_kept}
+use Rattle.bx_lone_repair.proofs.Settling.{still_left, then_comes}
 use Rattle.bx_places.specs.Places.{log_start}
 use Rattle.bx_plain_store.specs.Out.{IsFitting}
 use Rattle.bx_records.specs.declared.runs.Run.{Run}
@@ -13,6 +18,9 @@ use Rattle.bx_lone_repair.proofs.gates.settle_gates.Goals as goal
 -- in a list of one
 only_one : (one run : Run) (runs : List Run) → runs ≡ one ∷ [] → Contains runs run → one ≡ run
 only_one one run runs are there = ⊎_elim (λ same. same) (λ none. absurd (nothing run none)) (front_or_behind one [] run (subst (λ (all : List Run). Contains all run) are there))
+
+behind_label : (bytes : List ℕ) (runs : List Run) → runs ≡ record { device = 0; place = 1; bytes = bytes } ∷ [] → (run : Run) → Contains runs run → 1 ≤ run.place
+behind_label bytes runs are run there = subst (λ (r : Run). 1 ≤ r.place) (only_one (record { device = 0; place = 1; bytes = bytes }) run runs are there) (omega arith)
 
 pub write_through-requires-clause-fit : goal.write_through-requires-clause-fit
 write_through-requires-clause-fit g c = λ run there.
@@ -37,6 +45,52 @@ write_through-requires-clause-once g c = λ device sector content other one two.
     let w : Writes gates device sector content = subst (λ (r : Run). Writes r device sector content) (sym a) one.2 in
     let v : Writes gates device sector other = subst (λ (r : Run). Writes r device sector other) (sym b) two.2 in
     sym v.is ∙ w.is
+
+-- nothing was written
+pub returns-in_err-read_sectors-clause-left : goal.returns-in_err-read_sectors-clause-left
+returns-in_err-read_sectors-clause-left g c = λ volume floor tree doubt tells left. subst (IsLeft volume floor tree doubt) (sym c.read_sectors.ensures.stays) left
+
+pub returns-in_err-runs-clause-left : goal.returns-in_err-runs-clause-left
+returns-in_err-runs-clause-left g c = λ volume floor tree doubt tells left. subst (IsLeft volume floor tree doubt) (sym c.read_sectors.ensures.stays) left
+
+pub returns-in_err-write_through-clause-left : goal.returns-in_err-write_through-clause-left
+returns-in_err-write_through-clause-left g c = λ volume floor tree doubt tells left.
+    let x : Disks = g.R.Rack.state c.args.rack.now in
+    let mid : Disks = g.R.Rack.state c.read_sectors.new.rack in
+    let z : Disks = g.R.Rack.state c.write_through.new.rack in
+    let runs = c.in_ok-runs.runs in
+    let told = c.read_sectors.ensures.keeps_telling tells in
+    let there = subst (λ (y : Disks). IsLabelled y volume) (sym c.read_sectors.ensures.stays) left.labelled in
+    let labelled = labelled_kept mid z volume runs there c.write_through.ensures.sizes (c.write_through.ensures.members told) (behind_label c.read_sectors.new.into runs c.in_ok-runs.ensures) in
+    still_left x z volume floor tree doubt c.read_sectors.new.into runs (omega arith) (c.in_ok-read_sectors.ensures.bytes tells) c.in_ok-runs.ensures
+    (λ d s content only was. c.write_through.ensures.keeps (opening_state 1 1) d s content told only (subst (λ (y : Disks). IsSettled y (opening_state 1 1) d s content) (sym c.read_sectors.ensures.stays) was))
+    labelled left
+
+pub returns-clause-left : goal.returns-clause-left
+returns-clause-left g c = λ volume floor tree doubt tells left.
+    let x : Disks = g.R.Rack.state c.args.rack.now in
+    let mid : Disks = g.R.Rack.state c.read_sectors.new.rack in
+    let z : Disks = g.R.Rack.state c.write_through.new.rack in
+    let runs = c.in_ok-runs.runs in
+    let told = c.read_sectors.ensures.keeps_telling tells in
+    let there = subst (λ (y : Disks). IsLabelled y volume) (sym c.read_sectors.ensures.stays) left.labelled in
+    let labelled = labelled_kept mid z volume runs there c.write_through.ensures.sizes (c.write_through.ensures.members told) (behind_label c.read_sectors.new.into runs c.in_ok-runs.ensures) in
+    still_left x z volume floor tree doubt c.read_sectors.new.into runs (omega arith) (c.in_ok-read_sectors.ensures.bytes tells) c.in_ok-runs.ensures
+    (λ d s content only was. c.write_through.ensures.keeps (opening_state 1 1) d s content told only (subst (λ (y : Disks). IsSettled y (opening_state 1 1) d s content) (sym c.read_sectors.ensures.stays) was))
+    labelled left
+
+pub returns-clause-comes : goal.returns-clause-comes
+returns-clause-comes g c = λ volume floor tree doubt tells left.
+    let x : Disks = g.R.Rack.state c.args.rack.now in
+    let mid : Disks = g.R.Rack.state c.read_sectors.new.rack in
+    let z : Disks = g.R.Rack.state c.write_through.new.rack in
+    let runs = c.in_ok-runs.runs in
+    let told = c.read_sectors.ensures.keeps_telling tells in
+    let there = subst (λ (y : Disks). IsLabelled y volume) (sym c.read_sectors.ensures.stays) left.labelled in
+    let labelled = labelled_kept mid z volume runs there c.write_through.ensures.sizes (c.write_through.ensures.members told) (behind_label c.read_sectors.new.into runs c.in_ok-runs.ensures) in
+    then_comes x z volume floor tree doubt c.read_sectors.new.into runs (omega arith) (c.in_ok-read_sectors.ensures.bytes tells) c.in_ok-runs.ensures
+    (λ d s content only was. c.write_through.ensures.keeps (opening_state 1 1) d s content told only (subst (λ (y : Disks). IsSettled y (opening_state 1 1) d s content) (sym c.read_sectors.ensures.stays) was))
+    labelled left (c.in_ok-write_through.ensures.done (opening_state 1 1) told refl)
 
 pub returns-clause-settles : goal.returns-clause-settles
 returns-clause-settles g c = λ state areas before logs truth more log tells many source slot device stands.

@@ -40,6 +40,16 @@ returns-clause-keeps g c = λ s device sector content tells only is.
     let write : Write = record { session = 0; until = 0; runs = runs; is_written = true } in
     settled_kept (one_write runs ∷ []) 0 s _ _ device sector content (c.serve.ensures.keeps (one_write runs ∷ []) tells (free runs write refl c.requires.once)) only is
 
+pub returns-in_err-serve-clause-members : goal.returns-in_err-serve-clause-members
+returns-in_err-serve-clause-members g c = λ tells.
+    let write : Write = record { session = 0; until = 0; runs = c.args.runs; is_written = true } in
+    c.serve.ensures.keeps (one_write c.args.runs ∷ []) tells (free c.args.runs write refl c.requires.once)
+
+pub returns-clause-members : goal.returns-clause-members
+returns-clause-members g c = λ tells.
+    let write : Write = record { session = 0; until = 0; runs = c.args.runs; is_written = true } in
+    c.serve.ensures.keeps (one_write c.args.runs ∷ []) tells (free c.args.runs write refl c.requires.once)
+
 pub returns-clause-done : goal.returns-clause-done
 returns-clause-done g c = λ s tells many.
     let runs = c.args.runs in

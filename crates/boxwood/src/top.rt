@@ -14,8 +14,8 @@ ghost use Rattle.boxwood.specs.Report.{IsStatus, IsTold, line_of, message};
 
 use crate::report::{report, usage};
 use bx_disk::CrashRack;
-use bx_outside::{Sink, Source};
 use bx_lone_service::LoneService;
+use bx_outside::{Sink, Source};
 use bx_replay::replay;
 use std::alloc::Global;
 

@@ -1,5 +1,5 @@
 -- What disks show of a service once what was unsure on them was lost.
-use Rattle.std.proofs.Common.{◌≡◌, ℕ, zero, suc, ◌+◌, ◌<◌, ◌≤◌, ◌⊎◌, inl, inr, Bool, false, List, [], ◌∷◌, ◌++◌, length, Option, refl, sym, ap, ◌∙◌, subst, arith}
+use Rattle.std.proofs.Common.{◌≡◌, ℕ, zero, suc, ◌+◌, ◌<◌, ◌≤◌, ◌⊎◌, inl, inr, Bool, false, List, [], ◌∷◌, ◌++◌, length, Option, Some, refl, sym, ap, ◌∙◌, subst, arith}
 use Rattle.std.specs.Prelude.{◌||◌, filter, map, nat_lt, reverse, slice_get, slice_index}
 use Rattle.std.proofs.lemmas.Bool.{ne_eqb}
 use Rattle.std.proofs.lemmas.List.{map-append, reverse-append, reverse-reverse}
@@ -143,4 +143,4 @@ pub shows : (stage : Stage) (x y : Disks) (tree : Tree) (doubt : Option Doubt) �
 shows (Up machine) x y tree doubt ready holds crashed =
     rw holds.1 (left_is_shown (volume_of machine) (floor_of machine) tree (doubt_of machine) x y (stopped machine x tree ready.0 holds.0) crashed)
 shows (Down left) x y tree doubt ready holds crashed = rw (holds.is) (left_is_shown left.volume left.floor tree holds.of x y holds.left_is crashed)
-shows (Returning left queue) x y tree doubt ready holds crashed = rw (holds.is) (left_is_shown left.volume left.floor tree holds.of x y holds.left_is crashed)
+shows (Returning left queue latest) x y tree doubt ready holds crashed = rw (holds.is) (left_is_shown left.volume left.floor tree holds.of x y holds.left_is crashed)

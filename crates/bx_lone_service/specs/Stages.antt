@@ -30,33 +30,38 @@ pub record AreQueued (above : ℕ) (queue : List Waiting) : Type 0 where
 abbrev pub waits_of : Stage → List Taking
 waits_of (Up machine) = map taking_of (calls_of machine)
 waits_of (Down left) = []
-waits_of (Returning left queue) = map taking_of queue.items
-
-abbrev pub latest_of : Stage → ℕ
-latest_of (Up machine) = machines.latest_of machine
-latest_of (Down left) = left.latest
-latest_of (Returning left queue) = latest_in left.latest queue.items
+waits_of (Returning left queue latest) = map taking_of queue.items
 
 abbrev pub is_up : Stage → Bool
 is_up (Up machine) = true
 is_up (Down left) = false
-is_up (Returning left queue) = true
+is_up (Returning left queue latest) = true
 
 -- the greatest number of a call that was told
 abbrev pub floor_in : Stage → ℕ
 floor_in (Up machine) = floor_of machine
 floor_in (Down left) = left.floor
-floor_in (Returning left queue) = left.floor
+floor_in (Returning left queue latest) = left.floor
 
 -- whether a call with a number wasn't told
 abbrev pub lacks_of : Stage → ℕ → Bool
 lacks_of stage number = nat_lt (floor_in stage) number
 
+-- the number of the volume
+abbrev pub volume_in : Stage → ℕ
+volume_in (Up machine) = volume_of machine
+volume_in (Down left) = left.volume
+volume_in (Returning left queue latest) = left.volume
+
+-- the greatest number of a call that came
+abbrev pub latest_of : Stage → ℕ
+latest_of (Up machine) = machines.latest_of machine
+latest_of (Down left) = left.latest
+latest_of (Returning left queue latest) = latest
+
 -- what the node leaves where it stops
 abbrev pub left_of : Stage → Left
-left_of (Up machine) = record { volume = volume_of machine; floor = floor_of machine; latest = machines.latest_of machine }
-left_of (Down left) = left
-left_of (Returning left queue) = record { volume = left.volume; floor = left.floor; latest = latest_in left.latest queue.items }
+left_of stage = record { volume = volume_in stage; floor = floor_in stage; latest = latest_of stage }
 
 -- ---- what is in doubt
 
@@ -79,15 +84,15 @@ pub record IsLeftBy (left : Left) (disks : Disks) (tree : Tree) (doubt : Option 
 abbrev pub IsReady : Stage → List ℕ → Type 0
 IsReady (Up machine) sizes = machines.IsReady machine sizes × AreLong sizes
 IsReady (Down left) sizes = AreLong sizes
-IsReady (Returning left queue) sizes = AreQueued left.latest queue.items × AreLong sizes
+IsReady (Returning left queue latest) sizes = AreQueued left.latest queue.items × AreLong sizes × (latest_in left.latest queue.items ≡ latest)
 
 abbrev pub IsHolding : Stage → Disks → Tree → Option Doubt → Type 0
 IsHolding (Up machine) disks tree doubt = Holds machine disks tree × (doubt ≡ maybe_doubt (doubt_of machine))
 IsHolding (Down left) disks tree doubt = IsLeftBy left disks tree doubt
-IsHolding (Returning left queue) disks tree doubt = IsLeftBy left disks tree doubt
+IsHolding (Returning left queue latest) disks tree doubt = IsLeftBy left disks tree doubt
 
 -- while it is down no call waits
 pub none_down : (stage : Stage) → is_up stage ≡ false → waits_of stage ≡ []
 none_down (Up machine) down = absurd cc
 none_down (Down left) down = refl
-none_down (Returning left queue) down = absurd cc
+none_down (Returning left queue latest) down = absurd cc

@@ -21,7 +21,7 @@ pub(crate) struct Left {
     pub(crate) volume: u64,
     /// The greatest number of a call that was told.
     pub(crate) floor: CallNo,
-    /// The greatest number of a call that came.
+    /// The greatest number of a call that came before it stopped.
     pub(crate) latest: CallNo,
 }
 
@@ -36,13 +36,10 @@ pub(crate) fn left_by(stage: &Stage) -> Left
             latest: machine.latest(),
         },
         Stage::Down(left) => *left,
-        Stage::Returning(left, queue) => Left {
+        Stage::Returning(left, _, latest) => Left {
             volume: left.volume,
             floor: left.floor,
-            latest: match queue.back() {
-                Some(call) => call.number,
-                None => left.latest,
-            },
+            latest: *latest,
         },
     }
 }

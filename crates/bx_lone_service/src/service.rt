@@ -24,8 +24,8 @@ pub(crate) enum Stage {
     Up(LoneMachine),
     /// It is down.
     Down(Left),
-    /// It is back, but the disks aren't at rest yet. These calls wait, the oldest first.
-    Returning(Left, VecDeque<Waiting>),
+    /// It is back, but the disks aren't at rest yet. These calls wait, the oldest first, and calls up to this number came.
+    Returning(Left, VecDeque<Waiting>, CallNo),
 }
 
 impl LoneService {
@@ -46,7 +46,7 @@ impl LoneService {
         ensures later { B.faults bench.old ≤ B.faults bench.new }
         ensures keeps_telling { B.tells bench.old → B.tells bench.new }
     {
-        let Stage::Returning(left, queue) = &mut self.stage else {
+        let Stage::Returning(left, queue, _) = &mut self.stage else {
             return Ok(None);
         };
         match recover(self.alloc, bench, left.floor) {
@@ -103,14 +103,18 @@ impl Service for LoneService {
     }
 
     fn arrive(&mut self, call: CallNo, client: u32, datagram: Raw) -> Result<(), OutOfMemory> {
-        let call = Waiting {
+        let waiting = Waiting {
             number: call,
             client,
             datagram,
         };
         match &mut self.stage {
-            Stage::Up(machine) => machine.arrive(call),
-            Stage::Returning(_, queue) => Ok(queue.push_back(call)?),
+            Stage::Up(machine) => machine.arrive(waiting),
+            Stage::Returning(_, queue, latest) => {
+                queue.push_back(waiting)?;
+                *latest = call;
+                Ok(())
+            }
             Stage::Down(_) => Ok(()),
         }
     }
@@ -119,14 +123,14 @@ impl Service for LoneService {
         match &self.stage {
             Stage::Up(machine) => machine.is_quiet(),
             Stage::Down(_) => true,
-            Stage::Returning(_, _) => false,
+            Stage::Returning(_, _, _) => false,
         }
     }
 
     fn lacks_point(&self, call: CallNo) -> bool {
         let floor = match &self.stage {
             Stage::Up(machine) => machine.floor(),
-            Stage::Down(left) | Stage::Returning(left, _) => left.floor,
+            Stage::Down(left) | Stage::Returning(left, _, _) => left.floor,
         };
         floor < call
     }
@@ -153,7 +157,7 @@ impl Service for LoneService {
 
     fn restart<B: Rack>(&mut self, bench: &mut B) -> Result<Option<Point>, OutOfMemory> {
         let left = left_by(&self.stage);
-        self.stage = Stage::Returning(left, VecDeque::new(self.alloc));
+        self.stage = Stage::Returning(left, VecDeque::new(self.alloc), left.latest);
         let found = self.recover(bench)?;
         if found.is_some() {
             self.recover(bench)?;

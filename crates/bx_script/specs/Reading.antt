@@ -89,8 +89,8 @@ seed_of field = do
 unfoldable pub noise_of : List ℕ → Option Noise
 noise_of field =
     if bytes_eq field (codes "keep") then Some Keep
-        else if bytes_eq field (codes "drop") then Some Drop
-        else seed_of field
+    else if bytes_eq field (codes "drop") then Some Drop
+    else seed_of field
 
 -- `all NOISE`
 unfoldable pub crash_of : List ℕ → Option Line
@@ -109,8 +109,8 @@ restart_of text = do
 unfoldable pub machines_line_of : List ℕ → List ℕ → Option Line
 machines_line_of word rest =
     if bytes_eq word (codes "crash") then crash_of rest
-        else if bytes_eq word (codes "restart") then restart_of rest
-        else None
+    else if bytes_eq word (codes "restart") then restart_of rest
+    else None
 
 -- a line
 unfoldable pub line_of : List ℕ → Option Line

@@ -1,108 +1,110 @@
--- What a status says, by what a replay left: a schedule whose every line is in the grammar and served has no line that is refused.
-use Rattle.std.proofs.Common.{◌≡◌, ℕ, ◌<◌, ◌≤◌, ◌==◌, Bool, false, List, [], ◌∷◌, ◌++◌, length, Err, sym, ap, ◌∙◌, arith, inl, inr}
-use Rattle.std.specs.Prelude.{map, ◌⊎◌, if◌then◌else◌}
+-- What a status says, by what a replay left: a schedule each line of which may be done behind those before it has no line that is refused.
+use Rattle.std.proofs.Common.{◌≡◌, ℕ, ◌<◌, ◌==◌, Bool, true, false, List, [], ◌∷◌, ◌++◌, length, Err, refl, sym, ap, subst, ◌∙◌, arith, append_assoc, inl, inr}
+use Rattle.std.specs.Prelude.{map, reverse, ◌⊎◌, if◌then◌else◌}
 use Rattle.std.specs.List.{AllByRecursion}
-use Rattle.std.proofs.lemmas.Bool.{ne_eqb}
-use Rattle.std.proofs.lemmas.List.{append-nil, length-map}
+use Rattle.std.proofs.lemmas.List.{append-nil, length-map, length-reverse, reverse-append}
 use Rattle.bx_base.specs.Faults.{Rose}
 use Rattle.bx_base.specs.Text.{lines_of}
 use Rattle.bx_script.specs.declared.line.Line.{Line}
-use Rattle.bx_script.specs.declared.line.Line.TheVariants.{Heading, Call, Run}
-use Rattle.bx_script.specs.ScheduleLine.{spelling}
+use Rattle.bx_script.specs.declared.line.Line.TheVariants.{Call}
+use Rattle.bx_script.specs.ScheduleLine.{InRange, spelling}
 use Rattle.bx_script.specs.Schedule.{BeginsSchedule, HasPlace, IsSchedule}
 use Rattle.bx_script.proofs.Spelled.{spelling_injective}
 use Rattle.bx_model.specs.declared.tree.Tree.{Tree}
 use Rattle.bx_replay.specs.declared.stop.Reason.{Reason}
-use Rattle.bx_replay.specs.declared.stop.Reason.TheVariants.{Grammar, NotBuilt}
-use Rattle.bx_replay.specs.Headline.{IsBuilt, IsServedLine}
+use Rattle.bx_replay.specs.declared.stop.Reason.TheVariants.{Grammar, NotBuilt, Down}
+use Rattle.bx_history.specs.Along.{AllowedNewest}
+use Rattle.bx_replay.specs.Headline.{is_up}
 use Rattle.bx_replay.specs.declared.stop.Stop.{Stop}
 use Rattle.bx_replay.specs.declared.stop.Stop.TheVariants as stops
-use Rattle.bx_replay.specs.Outcome.{IsBroken, IsFirstRefused, IsRefused, IsRefusedAt, IsServedSchedule}
+use Rattle.bx_replay.specs.Outcome.{Allows, AreDone, IsBroken, IsFirstRefused, IsRefused, IsRefusedAt, IsServedSchedule, Refuses}
+use Rattle.bx_replay.proofs.Allowed.{done_begins}
 use Rattle.bx_replay.specs.Replay.{HasCause, IsDiskCause, Leaves, Wrote}
 use Rattle.boxwood.specs.Report.{IsTold, message, status_of}
 
--- the line of a schedule behind so many others
-record Found (first : Bool) (line : List ℕ) (front : List (List ℕ)) (count : ℕ) : Type 0 where
-  value : Line
-  place : HasPlace first value
-  served : IsServedLine value
-  spelled : line ≡ spelling value
-  within : length front < count
-
-head_is : (a b : List ℕ) (xs ys : List (List ℕ)) → a ∷ xs ≡ b ∷ ys → b ≡ a
+head_is : {A : Type 0} (a b : A) (xs ys : List A) → a ∷ xs ≡ b ∷ ys → a ≡ b
 head_is a b xs ys e = cc
 
-tail_is : (a b : List ℕ) (xs ys : List (List ℕ)) → a ∷ xs ≡ b ∷ ys → xs ≡ ys
+tail_is : {A : Type 0} (a b : A) (xs ys : List A) → a ∷ xs ≡ b ∷ ys → xs ≡ ys
 tail_is a b xs ys e = cc
 
-later : (schedule : List Line) (front : List (List ℕ)) (line : List ℕ) (others : List (List ℕ)) → map spelling schedule ≡ front ++ line ∷ others
-    → AllByRecursion (HasPlace false) schedule → AllByRecursion IsServedLine schedule → Found false line front (length schedule)
-later [] [] line others e places served = absurd cc
-later [] (f ∷ front) line others e places served = absurd cc
-later (x ∷ schedule) [] line others e places served = record {
-  value = x;
-  place = places.0;
-  served = served.0;
-  spelled = head_is (spelling x) line (map spelling schedule) others e;
-  within = omega arith;
-}
-later (x ∷ schedule) (f ∷ front) line others e places served =
-    let found = later schedule front line others (tail_is (spelling x) f (map spelling schedule) (front ++ line ∷ others) e) places.1 served.1 in
-    record { value = found.value; place = found.place; served = found.served; spelled = found.spelled; within = let w = found.within in omega arith }
+-- ---- a schedule that is spelled as lines that were done, with others behind them
 
-found : (schedule : List Line) (front : List (List ℕ)) (line : List ℕ) (others : List (List ℕ)) → map spelling schedule ≡ front ++ line ∷ others
-    → BeginsSchedule schedule → AllByRecursion IsServedLine schedule → Found (length front == 0) line front (length schedule)
-found [] [] line others e begins served = absurd cc
-found [] (f ∷ front) line others e begins served = absurd cc
-found (x ∷ schedule) [] line others e begins served = record {
-  value = x;
-  place = begins.0;
-  served = served.0;
-  spelled = head_is (spelling x) line (map spelling schedule) others e;
-  within = omega arith;
-}
-found (x ∷ schedule) (f ∷ front) line others e begins served =
-    let rest = later schedule front line others (tail_is (spelling x) f (map spelling schedule) (front ++ line ∷ others) e) begins.1 served.1 in
-    record { value = rest.value; place = rw (ne_eqb (length (f ∷ front)) 0 (λ z. omega arith)) rest.place; served = rest.served; spelled = rest.spelled; within = let w = rest.within in omega arith }
+all_in_range : (first : Bool) (lines : List Line) → AllByRecursion (HasPlace first) lines → AllByRecursion InRange lines
+all_in_range first [] places = tt
+all_in_range first (line ∷ lines) places = (places.0.0, all_in_range first lines places.1)
 
-served_built : (line : Line) → IsServedLine line → IsBuilt line
-served_built (Heading volume nodes devices areas) served = served
-served_built (Call reading node client datagram) served = served.0
-served_built (Run reading limit) served = tt
+begins_in_range : (lines : List Line) → BeginsSchedule lines → AllByRecursion InRange lines
+begins_in_range [] begins = tt
+begins_in_range (line ∷ lines) begins = (begins.0.0, all_in_range false lines begins.1)
+
+-- it is these lines, and the next one is the first of the others
+record Behind (schedule done : List Line) (line : List ℕ) : Type 0 where
+  value : Line
+  rest : List Line
+  whole : schedule ≡ done ++ value ∷ rest
+  spelled : line ≡ spelling value
+  in_range : InRange value
+
+behind : (schedule done : List Line) (line : List ℕ) (others : List (List ℕ)) → map spelling schedule ≡ map spelling done ++ line ∷ others
+    → AllByRecursion InRange schedule → AllByRecursion InRange done → Behind schedule done line
+behind [] [] line others e all all_done = absurd cc
+behind [] (d ∷ done) line others e all all_done = absurd cc
+behind (x ∷ schedule) [] line others e all all_done = record { value = x; rest = schedule; whole = refl; spelled = sym (head_is (spelling x) line (map spelling schedule) others e); in_range = all.0 }
+behind (x ∷ schedule) (d ∷ done) line others e all all_done =
+    let same : x ≡ d = spelling_injective x d all.0 all_done.0 (head_is (spelling x) (spelling d) (map spelling schedule) (map spelling done ++ line ∷ others) e) in
+    let later = behind schedule done line others (tail_is (spelling x) (spelling d) (map spelling schedule) (map spelling done ++ line ∷ others) e) all.1 all_done.1 in
+    record { value = later.value; rest = later.rest; whole = rw same (ap (λ (l : List Line). d ∷ l) later.whole); spelled = later.spelled; in_range = later.in_range }
+
+-- the line behind these was allowed
+allowed_at : (newer older : List Line) (line : Line) → AllowedNewest Allows (newer ++ line ∷ older) → Allows older line
+allowed_at [] older line all = all.0
+allowed_at (x ∷ newer) older line all = allowed_at newer older line all.1
+
+allowed_behind : (done rest : List Line) (line : Line) → AreDone (done ++ line ∷ rest) → Allows (reverse done) line
+allowed_behind done rest line all =
+    allowed_at (reverse rest) (reverse done) line
+    (subst (AllowedNewest Allows) (reverse-append done (line ∷ rest) ∙ ap (λ (l : List Line). l ++ reverse done) (reverse-append (line ∷ []) rest) ∙ append_assoc (reverse rest) (line ∷ []) (reverse done)) all)
 
 none_refused : (schedule done : List Line) (others : List (List ℕ)) (reason : Reason) → map spelling schedule ≡ map spelling done ++ others
-    → BeginsSchedule schedule → 0 < length schedule → length schedule ≤ 4294967295 → AllByRecursion IsServedLine schedule
+    → BeginsSchedule schedule → BeginsSchedule done → 0 < length schedule → AreDone schedule
     → IsRefusedAt done others reason → ⊥
-none_refused schedule done [] Grammar e begins headed few served refused =
+none_refused schedule done [] Grammar e begins begun headed are_done refused =
     let same : length schedule ≡ 0 = sym (length-map schedule spelling) ∙ ap length (e ∙ append-nil (map spelling done)) ∙ length-map done spelling ∙ ap length refused in
     omega arith
-none_refused schedule done [] NotBuilt e begins headed few served refused = refused
-none_refused schedule done (line ∷ others) Grammar e begins headed few served refused =
-    let at = found schedule (map spelling done) line others e begins served in
-    let long : length (map spelling done) ≡ length done = length-map done spelling in
-    elim refused [
-      | inl many ↦ (let w = at.within in omega (arith, long))
-      | inr none ↦ none at.value (rw long at at.place, served_built at.value at.served) at.spelled
-    ]
-none_refused schedule done (line ∷ others) NotBuilt e begins headed few served refused =
-    let at = found schedule (map spelling done) line others e begins served in
-    let long : length (map spelling done) ≡ length done = length-map done spelling in
-    let call = Call refused.1.reading refused.1.node refused.1.client refused.1.datagram in
-    let same : at.value ≡ call = spelling_injective at.value call at.place.0 refused.1.in_place.0.0 (sym at.spelled ∙ refused.1.spelled) in
-    elim (rw same at at.served).1 [
-      | inl none ↦ (let message = refused.1.message in cc)
-      | inr known ↦ refused.1.unserved known
-    ]
+none_refused schedule done [] NotBuilt e begins begun headed are_done refused = refused
+none_refused schedule done [] Down e begins begun headed are_done refused = refused
+none_refused schedule done (line ∷ others) reason e begins begun headed are_done refused =
+    let at = behind schedule done line others e (begins_in_range schedule begins) (begins_in_range done begun) in
+    let allows = allowed_behind done at.rest at.value (subst AreDone at.whole are_done) in
+    by reason at.value at.in_range at.spelled allows refused
+  where
+    by : (reason : Reason) (value : Line) → InRange value → line ≡ spelling value → Allows (reverse done) value → Refuses done line reason → ⊥
+    by Grammar value in_range spelled allows (inl many) = let few = allows.few in omega (arith, many, few, length-reverse done)
+    by Grammar value in_range spelled allows (inr none) = none value (rw (length-reverse done) at allows.in_place) spelled
+    by NotBuilt value in_range spelled allows why =
+        let call = Call why.1.reading why.1.node why.1.client why.1.datagram in
+        let same : value ≡ call = spelling_injective value call in_range why.1.in_place.0.0 (sym spelled ∙ why.1.spelled) in
+        elim (rw same at allows.served).1 [
+          | inl none ↦ (let message = why.1.message in cc)
+          | inr known ↦ why.1.unserved known
+        ]
+    by Down value in_range spelled allows why =
+        let call = Call why.1.reading why.1.node why.1.client why.1.datagram in
+        let same : value ≡ call = spelling_injective value call in_range why.1.in_place.0.0 (sym spelled ∙ why.1.spelled) in
+        let heard : is_up (reverse done) ≡ true = rw same at allows.heard in
+        let down = why.1.down in
+        cc
 
 not_refused : (text : List ℕ) (schedule : List Line) (number : ℕ) (reason : Reason)
-    → IsSchedule (lines_of text) schedule → AllByRecursion IsServedLine schedule → IsFirstRefused text number reason → ⊥
-not_refused text schedule number reason is served refused =
-    none_refused schedule refused.done refused.others reason (sym is.spelled ∙ refused.read) is.begins is.headed is.few served refused.refused
+    → IsSchedule (lines_of text) schedule → AreDone schedule → IsFirstRefused text number reason → ⊥
+not_refused text schedule number reason is are_done refused =
+    none_refused schedule refused.done refused.others reason (sym is.spelled ∙ refused.read) is.begins (done_begins refused.done refused.are_done) is.headed are_done refused.refused
 
 pub completes : (Tells : Type 0) (Stands : Tree → Type 0) (stop : Stop) (status : ℕ) (text left old new : List ℕ) (schedule : List Line) (source_before source_now sink_before sink_now : ℕ) (Bench : Type 0) (bench_before bench_now : ℕ)
     → (status ≡ status_of stop) ⊎ ((status_of stop ≡ 2) × (status ≡ 9)) → HasCause stop source_before source_now sink_before sink_now Bench bench_before bench_now
     → (Rose source_before source_now → ⊥) → (Rose sink_before sink_now → ⊥) → (IsDiskCause Bench bench_before bench_now → ⊥) → Leaves Tells Stands (Err stop) text left old new
-    → IsSchedule (lines_of text) schedule → AllByRecursion IsServedLine schedule → (status ≡ 0) ⊎ (status ≡ 9)
+    → IsSchedule (lines_of text) schedule → AreDone schedule → (status ≡ 0) ⊎ (status ≡ 9)
 completes Tells Stands (stops.Refused number reason) status text left old new schedule a b c d bench e f told cause no_read no_write no_disk leaves is served =
     absurd (not_refused text schedule number reason is served leaves.0)
 completes Tells Stands stops.ReadFault status text left old new schedule a b c d bench e f told cause no_read no_write no_disk leaves is served = absurd (no_read cause)
@@ -113,7 +115,7 @@ completes Tells Stands stops.OutOfMemory status text left old new schedule a b c
 
 -- A schedule with a line that is refused isn't replayed to its end.
 pub not_replayed : (text : List ℕ) (number : ℕ) (reason : Reason) → IsServedSchedule text → IsFirstRefused text number reason → ⊥
-not_replayed text number reason input refused = not_refused text input.schedule number reason input.read input.served refused
+not_replayed text number reason input refused = not_refused text input.schedule number reason input.read input.are_done refused
 
 pub refuses : (stop : Stop) (status source_before source_now sink_before sink_now : ℕ) (Bench : Type 0) (bench_before bench_now : ℕ)
     → (status ≡ status_of stop) ⊎ ((status_of stop ≡ 2) × (status ≡ 9)) → HasCause stop source_before source_now sink_before sink_now Bench bench_before bench_now

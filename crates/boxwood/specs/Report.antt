@@ -5,7 +5,7 @@ use Rattle.std.specs.Fmt.{decimal}
 use Rattle.bx_base.specs.Faults.{Rose}
 use Rattle.bx_base.specs.Text.{ended}
 use Rattle.bx_replay.specs.declared.stop.Reason.{Reason}
-use Rattle.bx_replay.specs.declared.stop.Reason.TheVariants.{Grammar, NotBuilt}
+use Rattle.bx_replay.specs.declared.stop.Reason.TheVariants.{Grammar, NotBuilt, Down}
 use Rattle.bx_replay.specs.declared.stop.Stop.{Stop}
 use Rattle.bx_replay.specs.declared.stop.Stop.TheVariants as stops
 
@@ -13,6 +13,7 @@ use Rattle.bx_replay.specs.declared.stop.Stop.TheVariants as stops
 abbrev pub reason_text : Reason → List ℕ
 reason_text Grammar = codes "grammar"
 reason_text NotBuilt = codes "not built"
+reason_text Down = codes "down"
 
 -- the line that tells which command lines there are
 abbrev pub usage_line : List ℕ

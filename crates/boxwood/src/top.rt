@@ -1,7 +1,6 @@
 //! The command.
 
 ghost use Rattle.std.specs.Prelude.{◌≡◌, ◌≢◌, ◌⊎◌, ◌↔◌, ℕ, false, List, codes, [], ◌∷◌, map, string_bytes, IsTrue};
-ghost use Rattle.std.specs.List.{AllByRecursion};
 ghost use Rattle.bx_base.specs.Faults.{Rose};
 ghost use Rattle.bx_base.specs.Text.{lines_of};
 ghost use Rattle.bx_script.specs.declared.line.Line.{Line};
@@ -9,8 +8,7 @@ ghost use Rattle.bx_script.specs.Schedule.{IsSchedule};
 ghost use Rattle.bx_replay.specs.declared.stop.Reason.{Reason};
 ghost use Rattle.bx_replay.specs.declared.stop.Stop.TheVariants as stops;
 ghost use Rattle.bx_replay.specs.Bench.{IsHeldBy};
-ghost use Rattle.bx_replay.specs.Headline.{IsServedLine};
-ghost use Rattle.bx_replay.specs.Outcome.{IsBroken, IsCut, IsCutOff, IsFirstRefused, IsRefused, IsReplayed, IsServedSchedule};
+ghost use Rattle.bx_replay.specs.Outcome.{AreDone, IsBroken, IsCut, IsCutOff, IsFirstRefused, IsRefused, IsReplayed, IsServedSchedule};
 ghost use Rattle.bx_replay.specs.Replay.{IsDiskCause, Wrote};
 ghost use Rattle.boxwood.specs.Report.{IsStatus, IsTold, line_of, message};
 
@@ -28,7 +26,7 @@ use std::alloc::Global;
 ///
 /// - 0: done.
 /// - 1: the words are no command line.
-/// - 2: the first line of the schedule that is outside the grammar, or a call that isn't served, was met.
+/// - 2: the first line of the schedule that is outside the grammar, or a call that isn't served or comes while its node is down, was met.
 /// - 3: `input` failed.
 /// - 4: `out` failed.
 /// - 5: `bench` failed while it was shaped and formatted, or while the tree was read back from it.
@@ -86,9 +84,9 @@ pub fn boxwood<S: Source, K: Sink, B: CrashRack>(
     ensures source_first { result ≢ 3 → S.faults input.new ≡ S.faults input.old }
     ensures sink_first { result ≢ 4 → K.faults out.new ≡ K.faults out.old }
 
-    // A schedule whose every line is in the grammar and served is done, unless memory runs out.
+    // A schedule each line of which may be done behind those before it is done, unless memory runs out.
     ensures complete { S.tells input.old → map string_bytes words.now ≡ codes "replay" ∷ []
-        → (schedule : List Line) → IsSchedule (lines_of (S.left input.old)) schedule → AllByRecursion IsServedLine schedule
+        → (schedule : List Line) → IsSchedule (lines_of (S.left input.old)) schedule → AreDone schedule
         → (Rose (S.faults input.old) (S.faults input.new) → ⊥) → (Rose (K.faults out.old) (K.faults out.new) → ⊥)
         → B.tells bench.old → (Rose (B.faults bench.old) (B.faults bench.new) → ⊥) → (result ≡ 0) ⊎ (result ≡ 9) }
 {

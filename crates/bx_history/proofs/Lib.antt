@@ -3,5 +3,6 @@ pub mod Waiting
 pub mod Whole
 pub mod Spelled
 pub mod Once
+pub mod Ended
 pub mod Fronts
 pub mod Cases

@@ -22,7 +22,7 @@ pub all_mapped : {X : Type 0} (P Q : X → Type 0) (xs : List X) → ((x : X) �
 all_mapped P Q [] gives all = tt
 all_mapped P Q (x ∷ xs) gives all = (gives x all.0, all_mapped P Q xs gives all.1)
 
-all_of : {X : Type 0} (P : X → Type 0) (xs : List X) → ((x : X) → P x) → AllByRecursion P xs
+pub all_of : {X : Type 0} (P : X → Type 0) (xs : List X) → ((x : X) → P x) → AllByRecursion P xs
 all_of P [] gives = tt
 all_of P (x ∷ xs) gives = (gives x, all_of P xs gives)
 
@@ -82,7 +82,7 @@ no_reply_since (part ∷ older) node call none =
     (λ without. unless_ended (part.what.ends node) (trace_since older node) call (no_reply_since older node call without)) none
 
 module _ {Tree : Type 0} (Step : Tree → Entry → Tree → Type 0) (rules : Rules) (patient : IsPatient rules) where
-  no_prompt : (all : List Happening) → rules.is_prompt all ≡ true → ⊥
+  pub no_prompt : (all : List Happening) → rules.is_prompt all ≡ true → ⊥
   no_prompt all is = let never : rules.is_prompt all ≡ false = patient.not_prompt all in cc
 
   -- ---- a part in which nothing arrives

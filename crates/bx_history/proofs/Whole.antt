@@ -9,7 +9,7 @@ use Rattle.bx_history.specs.Trace.{Entry, Taking, has_point, taking_of}
 use Rattle.bx_history.specs.Parts.{trace_of}
 use Rattle.bx_history.specs.Placed.{Rules, HasReadingSince}
 use Rattle.bx_history.specs.Along.{Done, parts_of, schedule_of}
-use Rattle.bx_history.specs.Account.{Accounts, AwaitsNewest, IsPending, entry_for}
+use Rattle.bx_history.specs.Account.{Accounts, AwaitsNewest, LacksPoint, entry_for}
 
 pub accounts : {Tree : Type 0} (Step : Tree → Entry → Tree → Type 0) (rules : Rules) (first : Tree) (done : List Done) (history : List Entry) (last : Tree) (waits : ℕ → List Taking)
     → AwaitsNewest Step rules first (parts_of done) history last waits
@@ -33,16 +33,16 @@ accounts Step rules first done history last waits so_far =
 
 -- the same with a call in doubt, whose point is told behind the trace
 pub accounts_with_doubt : {Tree : Type 0} (Step : Tree → Entry → Tree → Type 0) (rules : Rules) (first : Tree) (done : List Done) (history : List Entry) (last next : Tree) (waits : ℕ → List Taking)
-    (node : ℕ) (taking : Taking) (point : Point) (reply : List ℕ)
-    → AwaitsNewest Step rules first (parts_of done) history last waits → IsPending (trace_of (parts_of done)) node taking → point.call ≡ taking.call
+    (taking : Taking) (point : Point) (reply : List ℕ)
+    → AwaitsNewest Step rules first (parts_of done) history last waits → LacksPoint (trace_of (parts_of done)) taking → point.call ≡ taking.call
     → HasReadingSince point.call point.moment (parts_of done) → Step last (entry_for taking point reply) next
     → Accounts Step rules (schedule_of done) (reverse (trace_of (parts_of done))) (Acted point ∷ []) first next
-accounts_with_doubt Step rules first done history last next waits node taking point reply so_far pending of moment step =
+accounts_with_doubt Step rules first done history last next waits taking point reply so_far lacks of moment step =
     let newest : reverse (reverse (trace_of (parts_of done)) ++ Acted point ∷ []) ≡ Acted point ∷ trace_of (parts_of done) =
     reverse-append (reverse (trace_of (parts_of done))) (Acted point ∷ []) ∙ ap (λ (t : List TraceLine). Acted point ∷ t) (reverse-reverse (trace_of (parts_of done))) in
     let entries : reverse (reverse (entry_for taking point reply ∷ history)) ≡ entry_for taking point reply ∷ history = reverse-reverse (entry_for taking point reply ∷ history) in
-    let taken : taking_of (trace_of (parts_of done)) point.call ≡ Some taking = rw of (pending.taken) in
-    let none : has_point (trace_of (parts_of done)) point.call ≡ false = rw of (pending.no_point) in
+    let taken : taking_of (trace_of (parts_of done)) point.call ≡ Some taking = rw of (lacks.taken) in
+    let none : has_point (trace_of (parts_of done)) point.call ≡ false = rw of (lacks.no_point) in
     record {
       history = reverse (entry_for taking point reply ∷ history);
       fits = rw (newest, entries) (

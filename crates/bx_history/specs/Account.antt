@@ -17,6 +17,11 @@ pub record IsPending (trace : List TraceLine) (node : ℕ) (taking : Taking) : T
   pub no_point : has_point trace taking.call ≡ false
   pub no_reply : has_reply trace taking.call ≡ false
 
+-- A call was taken, and has no point behind this trace: whether it waits or its node ended.
+pub record LacksPoint (trace : List TraceLine) (taking : Taking) : Type 0 where
+  pub taken : taking_of trace taking.call ≡ Some taking
+  pub no_point : has_point trace taking.call ≡ false
+
 -- calls in the order in which they were taken, the newest first
 abbrev pub AreNewestFirst : List Taking → Type 0
 AreNewestFirst [] = Unit {0}

@@ -2,7 +2,7 @@
 use Rattle.std.specs.Prelude.{◌≡◌, ℕ, Bool, true, false, List, [], ◌∷◌, map, reverse, Some, None}
 use Rattle.std.specs.List.{AllByRecursion}
 use Rattle.bx_script.specs.declared.line.Line.{Line}
-use Rattle.bx_script.specs.declared.line.Line.TheVariants.{Heading, Call, Run}
+use Rattle.bx_script.specs.declared.line.Line.TheVariants.{Heading, Call, Run, Crash, Restart}
 use Rattle.bx_script.specs.declared.trace_line.TraceLine.{TraceLine}
 use Rattle.bx_history.specs.Parts.{Happening, Part, trace_of}
 use Rattle.bx_history.specs.Placed.{Rules, PlacedNewest, IsClosing}
@@ -11,12 +11,18 @@ use Rattle.bx_history.specs.Placed.{Rules, PlacedNewest, IsClosing}
 abbrev pub none_ends : ℕ → Bool
 none_ends node = false
 
+-- each node ends
+abbrev pub all_end : ℕ → Bool
+all_end node = true
+
 -- what happens at a line of a schedule
 abbrev pub happening : Line → Happening
 happening (Heading volume nodes devices areas) = record { arrives = None; reading = None; ends = none_ends; runs = false }
 happening (Call reading node client bytes) =
     record { arrives = Some (record { node = node; client = client; bytes = bytes }); reading = Some reading; ends = none_ends; runs = false }
 happening (Run reading limit) = record { arrives = None; reading = Some reading; ends = none_ends; runs = true }
+happening (Crash noise) = record { arrives = None; reading = None; ends = all_end; runs = false }
+happening (Restart reading) = record { arrives = None; reading = Some reading; ends = none_ends; runs = false }
 
 -- a line of the schedule that was done, with the lines of the trace that came at it, the newest first
 pub record Done : Type 0 where

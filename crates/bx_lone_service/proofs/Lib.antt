@@ -1,1 +1,3 @@
+pub mod Queues
 pub mod Rounding
+pub mod Stopping

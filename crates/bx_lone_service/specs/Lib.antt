@@ -1,4 +1,4 @@
 pub mod Calls
-pub mod Oldest
 pub mod Logs
 pub mod Shown
+pub mod Stages

@@ -74,7 +74,3 @@ filter_reverse p [] = refl
 filter_reverse {X = X} p (x ∷ xs) =
     ap (filter p) (reverse-append (x ∷ []) xs) ∙ filter_two p (reverse xs) x ∙ ap (λ (l : List X). l ++ filter p (x ∷ [])) (filter_reverse p xs)
     ∙ ap (λ (l : List X). reverse (filter p xs) ++ l) (sym (one_reverse p x)) ∙ sym (reverse-append (filter p (x ∷ [])) (filter p xs)) ∙ ap reverse (sym (filter_cons p x xs))
-
-pub filter_alike : {X : Type 0} (p q : X → Bool) (xs : List X) → ((x : X) → p x ≡ q x) → filter p xs ≡ filter q xs
-filter_alike p q [] same = refl
-filter_alike {X = X} p q (x ∷ xs) same = rw (same x, filter_alike p q xs same) refl

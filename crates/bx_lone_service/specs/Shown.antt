@@ -1,17 +1,23 @@
--- What disks show of the node once what was unsure on them was lost.
-use Rattle.std.proofs.Common.{◌≡◌, ℕ, zero, suc, ◌+◌, ◌<◌, ◌≤◌, ◌⊎◌, inl, inr, Bool, false, List, [], ◌∷◌, ◌++◌, length, Some, refl, sym, ap, ◌∙◌, subst, arith}
-use Rattle.std.specs.Prelude.{◌||◌, filter, map, reverse, slice_get, slice_index}
+-- What disks show of a service once what was unsure on them was lost.
+use Rattle.std.proofs.Common.{◌≡◌, ℕ, zero, suc, ◌+◌, ◌<◌, ◌≤◌, ◌⊎◌, inl, inr, Bool, false, List, [], ◌∷◌, ◌++◌, length, Option, Some, refl, sym, ap, ◌∙◌, subst, arith}
+use Rattle.std.specs.Prelude.{◌||◌, filter, map, nat_lt, reverse, slice_get, slice_index}
 use Rattle.std.proofs.lemmas.Bool.{ne_eqb}
 use Rattle.std.proofs.lemmas.List.{map-append, reverse-append, reverse-reverse}
 use Rattle.bx_audit.specs.Audited.{AreOpen}
 use Rattle.bx_base.specs.declared.names.Point.{Point}
-use Rattle.bx_disk.specs.Disks.{Disks, IsImage}
+use Rattle.bx_disk.specs.Disks.{Disks}
 use Rattle.bx_global.specs.Opening.{opening_state}
 use Rattle.bx_layout.specs.Labels.{SpellsLabel}
-use Rattle.bx_lone_machine.specs.Machine.{Holds, IsReady, calls_of, first_label, record_of}
-use Rattle.bx_lone_machine.specs.Shown as machines
-use Rattle.bx_lone_machine.specs.declared.machine.LoneMachine.{LoneMachine}
-use Rattle.bx_lone_machine.proofs.Imaging.{machine_shows}
+use Rattle.bx_facts.specs.Writes.{IsSettled}
+use Rattle.bx_lone_machine.specs.Machine.{doubt_of, floor_of, volume_of}
+use Rattle.bx_lone_machine.proofs.Stopping.{stopped}
+use Rattle.bx_lone_repair.specs.Bench.{first_label}
+use Rattle.bx_lone_repair.specs.Left as lefts
+use Rattle.bx_lone_repair.specs.Left.{IsLeft, IsOfDoubt}
+use Rattle.bx_lone_repair.specs.Shown as lefts_shown
+use Rattle.bx_lone_repair.proofs.Showing.{left_shows}
+use Rattle.bx_redo.proofs.Settled.{settled_has}
+use Rattle.bx_redo.proofs.Shown.{shown as log_shown}
 use Rattle.bx_model.specs.declared.tree.Tree.{Tree}
 use Rattle.bx_logs.specs.Bodies.{point_of}
 use Rattle.bx_logs.specs.Logs.{log_in}
@@ -19,15 +25,16 @@ use Rattle.bx_logs.specs.Members.{held_by}
 use Rattle.bx_rows.specs.declared.device.DeviceRow.{DeviceRow}
 use Rattle.bx_rows.specs.Modes.{both}
 use Rattle.bx_rows.specs.Words.{is_taken}
-use Rattle.bx_service.specs.Rounds.{IsInDoubt, Shows, waits_for}
+use Rattle.bx_service.specs.Rounds.{Doubt, IsCrashed, IsInDoubt, Shows}
 use Rattle.bx_volume.specs.Images.{AreReadFrom, AreSources, IsOwnLabel, ShowsTree, devices_of, member_disk}
 use Rattle.bx_volume.specs.Records.{HasLog, LogWhere, Logged}
 use Rattle.bx_volume.proofs.OneLog.{one_log}
 use Rattle.bx_layout.proofs.LabelFields.{areas_in, devices_in}
 use Rattle.bx_places.specs.Places.{disk_sectors}
-use Rattle.bx_lone_service.specs.Calls.{taking_of}
-use Rattle.bx_lone_service.specs.Oldest.{waits_same}
-use Rattle.bx_lone_service.specs.Logs.{filter_alike, filter_reverse, is_log, points_first, reverse_none}
+use Rattle.bx_lone_service.specs.Logs.{filter_reverse, is_log, points_first, reverse_none}
+use Rattle.bx_lone_service.specs.Stages.{IsHolding, IsReady, doubt_as, lacks_of, maybe_doubt}
+use Rattle.bx_lone_service.specs.declared.service.Stage.{Stage}
+use Rattle.bx_lone_service.specs.declared.service.Stage.TheVariants.{Up, Down, Returning}
 
 -- each device is read from its first member
 abbrev all_first : ℕ → Bool
@@ -52,18 +59,19 @@ map_reverse f [] = refl
 map_reverse f (x ∷ xs) =
     ap (map f) (reverse-append (x ∷ []) xs) ∙ map-append f (reverse xs) (x ∷ []) ∙ ap (λ (l : List Point). l ++ f x ∷ []) (map_reverse f xs) ∙ sym (reverse-append (f x ∷ []) (map f xs))
 
-module _ (machine : LoneMachine) (x y : Disks) (tree : Tree) (ready : IsReady machine x.sizes) (holds : Holds machine x tree) (is : IsImage x y.reads) (sizes : y.sizes ≡ x.sizes) where
-  shown : machines.Shows machine x.sizes y.reads all_first tree
-  shown = machine_shows machine x tree y.reads all_first ready holds is are_sources
+-- ---- what a node left
 
-  abbrev volume : ℕ
-  volume = machine.calls.engine.volume
+module _ (volume floor : ℕ) (tree : Tree) (of : Option lefts.Doubt) (x y : Disks) (left : IsLeft volume floor tree of x) (crashed : IsCrashed x y) where
+  shown : lefts_shown.Shows floor tree of x.sizes y.reads all_first
+  shown = left_shows volume floor tree of x y.reads all_first left crashed.left
+      (log_shown (IsSettled x (opening_state 1 1)) 1 1 (opening_state 1 1).sessions left.before (devices_of y.reads all_first) left.logs left.truth left.more left.log left.log.work
+      (λ d s apart. settled_has x (opening_state 1 1) y.reads all_first crashed.left are_sources d s (left.before d s)) left.stands)
 
   spells : SpellsLabel (first_label volume) (y.reads 0 0)
-  spells = subst (SpellsLabel (first_label volume)) (sym (is.sure 0 0 holds.bench.sure)) holds.bench.reads
+  spells = subst (SpellsLabel (first_label volume)) (sym (crashed.left.sure 0 0 left.labelled.bench.sure)) left.labelled.bench.reads
 
   own : IsOwnLabel y.sizes y.reads 0 (first_label volume)
-  own = record { spells = spells; names = refl; there = omega arith; long_enough = subst (λ (s : List ℕ). disk_sectors 1 1 0 ≤ slice_index s 0) (sym sizes) (holds.bench.long.long 0 (omega arith)) }
+  own = record { spells = spells; names = refl; there = omega arith; long_enough = subst (λ (s : List ℕ). disk_sectors 1 1 0 ≤ slice_index s 0) (sym crashed.sizes) (left.labelled.bench.long.long 0 (omega arith)) }
 
   -- ---- the records that are open
 
@@ -107,31 +115,32 @@ module _ (machine : LoneMachine) (x y : Disks) (tree : Tree) (ready : IsReady ma
     all_points = opened.points_are ∙ points_first opened.logs (omega (arith, opened.are_logs.count)) others
         ∙ ap (map point_of) (sym (reverse-reverse (log_in opened.logs 0)) ∙ ap reverse first_log) ∙ map_reverse point_of (shown.logs 0)
 
-    told : filter (λ point. waits_for (map taking_of (calls_of machine)) point.call) points ≡ reverse shown.closing
-    told = ap (filter (λ point. waits_for (map taking_of (calls_of machine)) point.call)) all_points
-        ∙ filter_reverse _ (map point_of (shown.logs 0))
-        ∙ ap reverse (filter_alike _ (machines.is_waiting (calls_of machine)) (map point_of (shown.logs 0)) (λ point. waits_same (calls_of machine) point.call) ∙ shown.doubt)
+    told : filter (λ point. nat_lt floor point.call) points ≡ reverse shown.untold
+    told = ap (filter (λ point. nat_lt floor point.call)) all_points ∙ filter_reverse _ (map point_of (shown.logs 0)) ∙ ap reverse shown.untold_is
 
-  pub shows : Shows (map taking_of (calls_of machine)) (record_of machine) y tree
-  shows = record {
+  pub left_is_shown : Shows (λ number. nat_lt floor number) y tree (maybe_doubt of)
+  left_is_shown = record {
     next = shown.shown;
-    stands = record { state = opening_state 1 1; is_state = refl; second = all_first; reads = are_read; shows = subst (λ (s : List ℕ). ShowsTree s y.reads (opening_state 1 1) all_first shown.shown) (sym sizes) shown.shows };
-    doubt = reverse shown.closing;
-    opened = told;
-    case = by shown.comes;
+    stands = record { state = opening_state 1 1; is_state = refl; second = all_first; reads = are_read; shows = subst (λ (s : List ℕ). ShowsTree s y.reads (opening_state 1 1) all_first shown.shown) (sym crashed.sizes) shown.shows };
+    opened = reverse shown.untold;
+    open_is = told;
+    tells = by shown.comes;
   }
     where
-      by : ((shown.closing ≡ []) × (shown.shown ≡ tree)) ⊎ ((point : Point) × (shown.closing ≡ point ∷ []) × machines.IsInDoubt machine point tree shown.shown)
-          → ((shown.shown ≡ tree) × (reverse shown.closing ≡ [])) ⊎ IsInDoubt (map taking_of (calls_of machine)) (record_of machine) tree shown.shown (reverse shown.closing)
+      by : ((shown.untold ≡ []) × (shown.shown ≡ tree)) ⊎ ((point : Point) × (shown.untold ≡ point ∷ []) × IsOfDoubt floor tree of point shown.shown)
+          → ((shown.shown ≡ tree) × (reverse shown.untold ≡ [])) ⊎ IsInDoubt tree (maybe_doubt of) shown.shown (reverse shown.untold)
       by (inl none) = inl (none.1, ap reverse none.0)
       by (inr one) = inr (record {
-        call = taking_of one.2.call;
-        rest = map taking_of one.2.others;
-        oldest = ap (map taking_of) one.2.oldest;
-        point = one.0;
-        at = one.2.recorded;
-        of = one.2.of_call;
-        reply = one.2.reply;
-        step = one.2.step;
-        doubt_is = ap reverse one.1;
+        of = doubt_as (record { call = one.2.call; point = one.0 });
+        is = ap maybe_doubt one.2.is;
+        acts = record { of = one.2.of; reply = one.2.reply; step = one.2.step };
+        open_is = ap reverse one.1;
       })
+
+-- ---- the service
+
+pub shows : (stage : Stage) (x y : Disks) (tree : Tree) (doubt : Option Doubt) → IsReady stage x.sizes → IsHolding stage x tree doubt → IsCrashed x y → Shows (lacks_of stage) y tree doubt
+shows (Up machine) x y tree doubt ready holds crashed =
+    rw holds.1 (left_is_shown (volume_of machine) (floor_of machine) tree (doubt_of machine) x y (stopped machine x tree ready.0 holds.0) crashed)
+shows (Down left) x y tree doubt ready holds crashed = rw (holds.is) (left_is_shown left.volume left.floor tree holds.of x y holds.left_is crashed)
+shows (Returning left queue latest) x y tree doubt ready holds crashed = rw (holds.is) (left_is_shown left.volume left.floor tree holds.of x y holds.left_is crashed)

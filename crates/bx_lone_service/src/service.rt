@@ -1,70 +1,167 @@
 //! The service.
 
-use bx_base::{CallNo, OutOfMemory, Raw};
+use crate::returning::{Left, left_by, rejoin};
+use bx_base::{CallNo, OutOfMemory, Point, Raw};
 use bx_disk::{Rack, RackError};
 use bx_lone_machine::{LoneMachine, Waiting};
-use bx_service::{Acted, Service};
+use bx_lone_repair::{Recovery, recover};
+use bx_service::{Acted, Event, Service};
 use std::alloc::Global;
+use std::collections::VecDeque;
+use std::mem;
 
 /// The one node of a volume of one device and one area, and the members under it.
 #[derive(Drop)]
 pub struct LoneService {
-    machine: LoneMachine,
+    alloc: Global,
+    stage: Stage,
+}
+
+/// Whether the node is up.
+#[derive(Drop)]
+pub(crate) enum Stage {
+    /// It is.
+    Up(LoneMachine),
+    /// It is down.
+    Down(Left),
+    /// It is back, but the disks aren't at rest yet. These calls wait, the oldest first, and calls up to this number came.
+    Returning(Left, VecDeque<Waiting>, CallNo),
+}
+
+impl LoneService {
+    ghost use Rattle.std.specs.Prelude.{◌≡◌, ◌≤◌, Option, IfOk, OnOk};
+    ghost use Rattle.bx_lone_service.specs.Stages.{IsHolding, IsReady, is_up, latest_of, waits_of};
+    ghost use Rattle.bx_model.specs.declared.tree.Tree.{Tree};
+    ghost use Rattle.bx_service.specs.Rounds.{Doubt, Restarts};
+
+    /// Where the node is back, tries to bring the disks to rest: then it goes on. Says at which point a call acted that was in doubt.
+    fn recover<B: Rack>(&mut self, bench: &mut B) -> Result<Option<Point>, OutOfMemory>
+        requires ready { IsReady self.old.stage (B.state bench.old).sizes }
+        ensures ready { OnOk result (IsReady self.new.stage (B.state bench.new).sizes) }
+        ensures waits { OnOk result (waits_of self.new.stage ≡ waits_of self.old.stage) }
+        ensures latest { OnOk result (latest_of self.new.stage ≡ latest_of self.old.stage) }
+        ensures up { OnOk result (is_up self.new.stage ≡ is_up self.old.stage) }
+        ensures restarts { (tree : Tree) (doubt : Option Doubt) → B.tells bench.old → IsHolding self.old.stage (B.state bench.old) tree doubt
+            → IfOk result (Restarts (IsHolding self.new.stage (B.state bench.new)) (waits_of self.new.stage) tree doubt) }
+        ensures later { B.faults bench.old ≤ B.faults bench.new }
+        ensures keeps_telling { B.tells bench.old → B.tells bench.new }
+    {
+        let Stage::Returning(left, queue, _) = &mut self.stage else {
+            return Ok(None);
+        };
+        match recover(self.alloc, bench, left.floor) {
+            Ok(Recovery::Found(point)) => {
+                left.floor = point.call;
+                Ok(Some(point))
+            }
+            Ok(Recovery::Closed) => {
+                let waiting = mem::replace(queue, VecDeque::new(self.alloc));
+                self.stage = Stage::Up(rejoin(self.alloc, *left, waiting)?);
+                Ok(None)
+            }
+            // What is left to do is tried again in the next round.
+            Err(RackError::Fault) => Ok(None),
+            Err(RackError::OutOfMemory) => Err(OutOfMemory),
+        }
+    }
 }
 
 impl Service for LoneService {
-    ghost use Rattle.std.specs.Prelude.{map};
-    ghost use Rattle.bx_lone_machine.specs.Machine.{Holds, IsReady, calls_of, latest_of, record_of};
-    ghost use Rattle.bx_lone_service.specs.Calls.{taking_of};
-    ghost use Rattle.bx_lone_service.specs.Oldest.{oldest_call};
     ghost use Rattle.bx_lone_service.specs.Shown.{shows};
+    ghost use Rattle.bx_lone_service.specs.Stages.{IsHolding, IsReady, is_up, lacks_of, latest_of, none_down, waits_of};
 
-    ghost waits = { λ service. map taking_of (calls_of service.machine) };
+    ghost waits = { λ service. waits_of service.stage };
 
-    ghost under_way = { λ service. record_of service.machine };
+    ghost latest = { λ service. latest_of service.stage };
 
-    ghost latest = { λ service. latest_of service.machine };
+    ghost up = { λ service. is_up service.stage };
 
-    ghost ready = { λ service sizes. IsReady service.machine sizes };
+    ghost lacks = { λ service. lacks_of service.stage };
 
-    ghost holds = { λ service disks tree. Holds service.machine disks tree };
+    ghost ready = { λ service sizes. IsReady service.stage sizes };
 
-    ghost oldest = { λ service sizes ready. oldest_call service.machine sizes ready };
+    ghost holds = { λ service disks tree doubt. IsHolding service.stage disks tree doubt };
 
-    ghost shown = { λ service x y tree ready holds is sizes. shows service.machine x y tree ready holds is sizes };
+    ghost idle = { λ service down. none_down service.stage down };
+
+    ghost shown = { λ service x y tree doubt ready holds crashed. shows service.stage x y tree doubt ready holds crashed };
 
     fn begin<B: Rack>(alloc: Global, bench: &mut B, volume: u64) -> Result<LoneService, RackError> {
         let machine = LoneMachine::begin(alloc, bench, volume)?;
-        Ok(LoneService { machine })
-    }
-
-    fn takes(&self, _alloc: Global, datagram: &[u8]) -> Result<bool, OutOfMemory> {
-        self.machine.takes(datagram)
-    }
-
-    fn arrive(&mut self, call: CallNo, client: u32, datagram: Raw) -> Result<(), OutOfMemory> {
-        self.machine.arrive(Waiting {
-            number: call,
-            client,
-            datagram,
+        Ok(LoneService {
+            alloc,
+            stage: Stage::Up(machine),
         })
     }
 
-    fn is_quiet(&self) -> bool {
-        self.machine.is_quiet()
+    fn takes(alloc: Global, datagram: &[u8]) -> Result<bool, OutOfMemory> {
+        LoneMachine::takes(alloc, datagram)
     }
 
-    fn waits_for(&self, call: CallNo) -> bool {
-        self.machine.waits_for(call)
+    fn is_up(&self) -> bool {
+        !matches!(self.stage, Stage::Down(_))
     }
 
-    fn round<B: Rack>(&mut self, bench: &mut B, moment: u64) -> Result<Option<Acted>, OutOfMemory> {
-        let Some(acted) = self.machine.round(bench, moment)? else {
-            return Ok(None);
+    fn arrive(&mut self, call: CallNo, client: u32, datagram: Raw) -> Result<(), OutOfMemory> {
+        let waiting = Waiting {
+            number: call,
+            client,
+            datagram,
         };
-        Ok(Some(Acted {
-            point: acted.point,
-            reply: acted.reply,
-        }))
+        match &mut self.stage {
+            Stage::Up(machine) => machine.arrive(waiting),
+            Stage::Returning(_, queue, latest) => {
+                queue.push_back(waiting)?;
+                *latest = call;
+                Ok(())
+            }
+            Stage::Down(_) => Ok(()),
+        }
+    }
+
+    fn is_quiet(&self) -> bool {
+        match &self.stage {
+            Stage::Up(machine) => machine.is_quiet(),
+            Stage::Down(_) => true,
+            Stage::Returning(_, _, _) => false,
+        }
+    }
+
+    fn lacks_point(&self, call: CallNo) -> bool {
+        let floor = match &self.stage {
+            Stage::Up(machine) => machine.floor(),
+            Stage::Down(left) | Stage::Returning(left, _, _) => left.floor,
+        };
+        floor < call
+    }
+
+    fn round<B: Rack>(&mut self, bench: &mut B, moment: u64) -> Result<Option<Event>, OutOfMemory> {
+        if let Stage::Up(machine) = &mut self.stage {
+            let Some(acted) = machine.round(bench, moment)? else {
+                return Ok(None);
+            };
+            return Ok(Some(Event::Answered(Acted {
+                point: acted.point,
+                reply: acted.reply,
+            })));
+        }
+        match self.recover(bench)? {
+            Some(point) => Ok(Some(Event::Found(point))),
+            None => Ok(None),
+        }
+    }
+
+    fn crash(&mut self) {
+        self.stage = Stage::Down(left_by(&self.stage));
+    }
+
+    fn restart<B: Rack>(&mut self, bench: &mut B) -> Result<Option<Point>, OutOfMemory> {
+        let left = left_by(&self.stage);
+        self.stage = Stage::Returning(left, VecDeque::new(self.alloc), left.latest);
+        let found = self.recover(bench)?;
+        if found.is_some() {
+            self.recover(bench)?;
+        }
+        Ok(found)
     }
 }

@@ -7,7 +7,7 @@ use Rattle.std.proofs.lemmas.List.{length-reverse, reverse-append, reverse-rever
 use Rattle.bx_script.specs.declared.line.Line.{Line}
 use Rattle.bx_script.specs.Schedule.{HasPlace, BeginsSchedule}
 use Rattle.bx_history.specs.Along.{AllowedNewest}
-use Rattle.bx_replay.specs.Headline.{IsInPlace, IsServedLine}
+use Rattle.bx_replay.specs.Headline.{IsHeard, IsInPlace, IsServedLine, is_up}
 use Rattle.bx_replay.specs.Outcome.{Allows, AreDone}
 
 pub all_push : {A : Type 0} (P : A → Type 0) (xs : List A) (x : A) → AllByRecursion P xs → P x → AllByRecursion P (xs ++ x ∷ [])
@@ -26,10 +26,6 @@ begins_newest (line ∷ before) done =
     let place : HasPlace (length (reverse before) == 0) line = rw (length-reverse before) done.0.in_place.0 in
     rw (reverse-append (line ∷ []) before) (begins_push (reverse before) line (begins_newest before done.1) place)
 
-served_newest : (newest : List Line) → AllowedNewest Allows newest → AllByRecursion IsServedLine (reverse newest)
-served_newest [] done = tt
-served_newest (line ∷ before) done = rw (reverse-append (line ∷ []) before) (all_push IsServedLine (reverse before) line (served_newest before done.1) done.0.served)
-
 few_newest : (newest : List Line) → AllowedNewest Allows newest → length newest ≤ 4294967295
 few_newest [] done = omega arith
 few_newest (line ∷ before) done = let few = done.0.few in omega arith
@@ -37,15 +33,12 @@ few_newest (line ∷ before) done = let few = done.0.few in omega arith
 pub done_begins : (lines : List Line) → AreDone lines → BeginsSchedule lines
 done_begins lines done = rw (reverse-reverse lines) at (begins_newest (reverse lines) done)
 
-pub done_served : (lines : List Line) → AreDone lines → AllByRecursion IsServedLine lines
-done_served lines done = rw (reverse-reverse lines) at (served_newest (reverse lines) done)
-
 pub done_few : (lines : List Line) → AreDone lines → length lines ≤ 4294967295
 done_few lines done = let few = few_newest (reverse lines) done in omega (arith, length-reverse lines)
 
 -- with one line more
-pub done_push : (lines : List Line) (line : Line) → 0 < length lines → length lines < 4294967295 → AreDone lines → IsInPlace false line → IsServedLine line
+pub done_push : (lines : List Line) (line : Line) → 0 < length lines → length lines < 4294967295 → AreDone lines → IsInPlace false line → IsServedLine line → IsHeard (is_up (reverse lines)) line
     → AreDone (lines ++ line ∷ [])
-done_push lines line some room done place served =
+done_push lines line some room done place served heard =
     let later : (length (reverse lines) == 0) ≡ false = ne_eqb (length (reverse lines)) 0 (λ e. omega (arith, length-reverse lines)) in
-    rw (reverse-append lines (line ∷ [])) (record { few = omega (arith, length-reverse lines); in_place = rw later place; served = served }, done)
+    rw (reverse-append lines (line ∷ [])) (record { few = omega (arith, length-reverse lines); in_place = rw later place; served = served; heard = heard }, done)

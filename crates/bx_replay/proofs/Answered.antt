@@ -1,25 +1,27 @@
--- A replay that stands goes on within a run.
-use Rattle.std.proofs.Common.{◌≡◌, ℕ, Bool, true, false, List, [], ◌∷◌, ◌++◌, Option, Some, inl, inr, refl, sym, ap, ◌∙◌, append_assoc}
-use Rattle.std.specs.Prelude.{◌==◌, if◌then◌else◌, reverse}
+-- A replay that stands goes on within a run, and where it is found later that a call acted.
+use Rattle.std.proofs.Common.{◌≡◌, ℕ, Bool, true, false, List, [], ◌∷◌, ◌++◌, Option, Some, None, inl, inr, refl, sym, ap, subst, ◌∙◌, append_assoc}
+use Rattle.std.specs.Prelude.{◌≢◌, ◌==◌, ◌⊎◌, if◌then◌else◌, reverse}
 use Rattle.std.specs.List.{AllByRecursion}
 use Rattle.std.proofs.lemmas.List.{reverse-append}
 use Rattle.bx_base.specs.declared.names.Point.{Point}
 use Rattle.bx_engine.specs.Steps as engine
-use Rattle.bx_script.specs.declared.line.Line.TheVariants.{Run}
+use Rattle.bx_script.specs.declared.line.Line.{Line}
+use Rattle.bx_script.specs.declared.line.Line.TheVariants.{Heading, Call, Run, Crash, Restart}
 use Rattle.bx_script.specs.declared.trace_line.TraceLine.{TraceLine}
 use Rattle.bx_script.specs.declared.trace_line.TraceLine.TheVariants.{Acted, Reply}
 use Rattle.bx_script.specs.TraceText.{InTraceRange, trace_text}
 use Rattle.bx_history.specs.Trace as traces
 use Rattle.bx_history.specs.Parts.{trace_of}
 use Rattle.bx_history.specs.Placed.{HasReadingSince}
-use Rattle.bx_history.specs.Along.{Done, parts_of, schedule_of}
-use Rattle.bx_history.specs.Account.{entry_for, waits_but}
+use Rattle.bx_history.specs.Along.{Done, none_ends, parts_of, schedule_of}
+use Rattle.bx_history.specs.Account.{AwaitsNewest, IsPending, LacksPoint, entry_for, waits_but}
+use Rattle.bx_history.proofs.Ended.{found_point}
 use Rattle.bx_history.proofs.Waiting.{answered_oldest}
 use Rattle.bx_model.specs.declared.tree.Tree.{Tree}
-use Rattle.bx_service.specs.Rounds.{IsOfMoment, deed_at}
+use Rattle.bx_service.specs.Rounds.{Doubt, Finds, Follows, IsBegun, deed_at}
 use Rattle.bx_replay.specs.Headline.{Step, opening_of, rules}
-use Rattle.bx_replay.specs.Replay.{Stands, waits_at}
-use Rattle.bx_replay.proofs.Standing.{awaits_same, patient}
+use Rattle.bx_replay.specs.Replay.{IsDoubted, Stands, waits_at}
+use Rattle.bx_replay.proofs.Standing.{all_append, awaits_same, lacks_in, oldest_in, patient}
 use Rattle.bx_replay.proofs.TraceTexts.{trace_text-append}
 
 -- what a call did is an entry of the history
@@ -38,57 +40,159 @@ fewer_wait call rest waits node = by (0 == node)
     by true = refl
     by false = refl
 
-module _ (reading limit : ℕ) (done : List Done) (start : List ℕ) where
-  -- the lines that are done, of which the run is the newest, with what came in it
-  abbrev in_run : List TraceLine → List Done
-  in_run lines = record { line = Run reading limit; lines = lines } ∷ done
+-- the lines that are done, of which the run is the newest, with what came in it
+abbrev pub in_run : List Done → ℕ → ℕ → List TraceLine → List Done
+in_run done reading limit lines = record { line = Run reading limit; lines = lines } ∷ done
 
-  -- the moment of what is under way is a reading since its call was taken
-  since_then : (lines : List TraceLine) (under_way : Option Point) (point : Point)
-      → ((before : Point) → under_way ≡ Some before → HasReadingSince before.call before.moment (parts_of (in_run lines))) → IsOfMoment reading under_way point
-      → HasReadingSince point.call point.moment (parts_of (in_run lines))
-  since_then lines under_way point since (inl is) = inl (ap Some (sym is))
-  since_then lines under_way point since (inr before) = since point before
-
-  module _ (tree : Tree) (waits : List traces.Taking) (under_way under_way_then : Option Point) (calls : ℕ) (lines : List TraceLine) (written : List ℕ)
-      (stands : Stands tree waits under_way calls (in_run lines) start written)
-      (goes_on : (point : Point) → under_way_then ≡ Some point → IsOfMoment reading under_way point) where
-    -- ---- a round in which no call is answered
-
-    pub stands_waiting : Stands tree waits under_way_then calls (in_run lines) start written
-    stands_waiting = record {
-      history = stands.history;
-      accounts = stands.accounts;
-      counted = stands.counted;
-      since = λ point is. since_then lines under_way point stands.since (goes_on point is);
-      headed = stands.headed;
-      are_done = stands.are_done;
-      in_range = stands.in_range;
-      output = stands.output;
+-- what is in doubt after a round is so rightly
+doubted_then : (done : List Done) (reading limit : ℕ) (lines : List TraceLine) (waits : List traces.Taking) (before now : Option Doubt) → AllByRecursion (IsPending (trace_of (parts_of (in_run done reading limit lines))) 0) (waits_at waits 0)
+    → ((of : Doubt) → before ≡ Some of → IsDoubted (in_run done reading limit lines) of) → Follows reading waits before now
+    → (of : Doubt) → now ≡ Some of → IsDoubted (in_run done reading limit lines) of
+doubted_then done reading limit lines waits before now pending doubted follows of is = by (follows of is)
+  where
+    by : (before ≡ Some of) ⊎ IsBegun reading waits of → IsDoubted (in_run done reading limit lines) of
+    by (inl was) = doubted of was
+    by (inr begun) = record {
+      of = begun.of;
+      lacks = lacks_in _ of.call (oldest_in _ waits pending of.call begun.rest begun.oldest);
+      since = inl (ap Some (sym begun.at));
     }
 
-    -- ---- the oldest call is answered
+module _ (reading limit : ℕ) (done : List Done) (start : List ℕ) (tree : Tree) (up : Bool) (waits : List traces.Taking) (doubt : Option Doubt) (calls : ℕ) (lines : List TraceLine) (written : List ℕ)
+    (stands : Stands tree up waits doubt calls (in_run done reading limit lines) start written) where
+  -- ---- a round in which no call is answered
 
-    module _ (call : traces.Taking) (rest : List traces.Taking) (point : Point) (reply : List ℕ) (next : Tree) (oldest : waits ≡ call ∷ rest) (of : point.call ≡ call.call)
-        (at : IsOfMoment reading under_way point) (step : engine.Step tree (deed_at call point reply) next) where
-      newest : waits_at waits 0 ≡ reverse rest ++ call ∷ []
-      newest = ap reverse oldest ∙ reverse-append (call ∷ []) rest
+  pub stands_waiting : (now : Option Doubt) → Follows reading waits doubt now → Stands tree up waits now calls (in_run done reading limit lines) start written
+  stands_waiting now follows = record {
+    history = stands.history;
+    accounts = stands.accounts;
+    counted = stands.counted;
+    up_is = stands.up_is;
+    doubted = doubted_then done reading limit lines waits doubt now (stands.accounts.pending 0) stands.doubted follows;
+    headed = stands.headed;
+    are_done = stands.are_done;
+    in_range = stands.in_range;
+    output = stands.output;
+  }
 
-      told : trace_text (reverse (Reply point.call reply ∷ Acted point ∷ trace_of (parts_of (in_run lines)))) ≡ trace_text (reverse (trace_of (parts_of (in_run lines)))) ++ trace_text (Acted point ∷ Reply point.call reply ∷ [])
-      told = ap trace_text (reverse-append (Reply point.call reply ∷ Acted point ∷ []) (trace_of (parts_of (in_run lines))))
-          ∙ trace_text-append (reverse (trace_of (parts_of (in_run lines)))) (Acted point ∷ Reply point.call reply ∷ [])
+  -- ---- the oldest call is answered
 
-      pub stands_answered : AllByRecursion InTraceRange (Acted point ∷ Reply point.call reply ∷ [])
-          → Stands next rest under_way_then calls (in_run (Reply point.call reply ∷ Acted point ∷ lines)) start (written ++ trace_text (Acted point ∷ Reply point.call reply ∷ []))
-      stands_answered in_range = record {
-        history = entry_for call point reply ∷ stands.history;
-        accounts = awaits_same (opening_of (schedule_of (in_run lines))) (in_run (Reply point.call reply ∷ Acted point ∷ lines)) (entry_for call point reply ∷ stands.history) next _ _ (fewer_wait call rest waits)
-            (answered_oldest Step rules patient (opening_of (schedule_of (in_run lines))) (parts_of done) stands.history tree next (waits_at waits) (Some reading) lines 0 (reverse rest) call point reply
-            stands.accounts newest of (since_then lines under_way point stands.since at) (entered tree next call point reply step));
-        counted = stands.counted;
-        since = λ later is. since_then lines under_way later stands.since (goes_on later is);
-        headed = stands.headed;
-        are_done = stands.are_done;
-        in_range = (in_range.1.0, (in_range.0, stands.in_range));
-        output = ap (λ (w : List ℕ). w ++ trace_text (Acted point ∷ Reply point.call reply ∷ [])) stands.output ∙ append_assoc start _ _ ∙ ap (λ (w : List ℕ). start ++ w) (sym told);
-      }
+  module _ (call : traces.Taking) (rest : List traces.Taking) (point : Point) (reply : List ℕ) (next : Tree) (now : Option Doubt) (oldest : waits ≡ call ∷ rest) (of : point.call ≡ call.call)
+      (at : (point.moment ≡ reading) ⊎ (doubt ≡ Some (record { call = call; point = point }))) (step : engine.Step tree (deed_at call point reply) next) (follows : Follows reading rest None now) where
+    newest : waits_at waits 0 ≡ reverse rest ++ call ∷ []
+    newest = ap reverse oldest ∙ reverse-append (call ∷ []) rest
+
+    told : trace_text (reverse (Reply point.call reply ∷ Acted point ∷ trace_of (parts_of (in_run done reading limit lines)))) ≡ trace_text (reverse (trace_of (parts_of (in_run done reading limit lines)))) ++ trace_text (Acted point ∷ Reply point.call reply ∷ [])
+    told = ap trace_text (reverse-append (Reply point.call reply ∷ Acted point ∷ []) (trace_of (parts_of (in_run done reading limit lines))))
+        ∙ trace_text-append (reverse (trace_of (parts_of (in_run done reading limit lines)))) (Acted point ∷ Reply point.call reply ∷ [])
+
+    moment : HasReadingSince point.call point.moment (parts_of (in_run done reading limit lines))
+    moment = by at
+      where
+        by : (point.moment ≡ reading) ⊎ (doubt ≡ Some (record { call = call; point = point })) → HasReadingSince point.call point.moment (parts_of (in_run done reading limit lines))
+        by (inl is) = inl (ap Some (sym is))
+        by (inr was) = (stands.doubted _ was).since
+
+    accounts_now : AwaitsNewest Step rules (opening_of (schedule_of (in_run done reading limit lines))) (parts_of (in_run done reading limit (Reply point.call reply ∷ Acted point ∷ lines))) (entry_for call point reply ∷ stands.history) next (waits_at rest)
+    accounts_now = awaits_same (opening_of (schedule_of (in_run done reading limit lines))) (in_run done reading limit (Reply point.call reply ∷ Acted point ∷ lines)) (entry_for call point reply ∷ stands.history) next _ _ (fewer_wait call rest waits)
+        (answered_oldest Step rules patient (opening_of (schedule_of (in_run done reading limit lines))) (parts_of done) stands.history tree next (waits_at waits) (Some reading) lines 0 (reverse rest) call point reply
+        stands.accounts newest of moment (entered tree next call point reply step))
+
+    none_before : (none : Doubt) → None ≡ Some none → IsDoubted (in_run done reading limit (Reply point.call reply ∷ Acted point ∷ lines)) none
+    none_before none is = absurd cc
+
+    pub stands_answered : AllByRecursion InTraceRange (Acted point ∷ Reply point.call reply ∷ [])
+        → Stands next up rest now calls (in_run done reading limit (Reply point.call reply ∷ Acted point ∷ lines)) start (written ++ trace_text (Acted point ∷ Reply point.call reply ∷ []))
+    stands_answered in_range = record {
+      history = entry_for call point reply ∷ stands.history;
+      accounts = accounts_now;
+      counted = stands.counted;
+      up_is = stands.up_is;
+      doubted = doubted_then done reading limit (Reply point.call reply ∷ Acted point ∷ lines) rest None now (accounts_now.pending 0) none_before follows;
+      headed = stands.headed;
+      are_done = stands.are_done;
+      in_range = (in_range.1.0, (in_range.0, stands.in_range));
+      output = ap (λ (w : List ℕ). w ++ trace_text (Acted point ∷ Reply point.call reply ∷ [])) stands.output ∙ append_assoc start _ _ ∙ ap (λ (w : List ℕ). start ++ w) (sym told);
+    }
+
+-- ---- less is in doubt
+
+pub stands_but : (tree : Tree) (up : Bool) (waits : List traces.Taking) (doubt now : Option Doubt) (calls : ℕ) (done : List Done) (start written : List ℕ) → Stands tree up waits doubt calls done start written
+    → ((of : Doubt) → now ≡ Some of → doubt ≡ Some of) → Stands tree up waits now calls done start written
+stands_but tree up waits doubt now calls done start written stands was = record {
+  history = stands.history;
+  accounts = stands.accounts;
+  counted = stands.counted;
+  up_is = stands.up_is;
+  doubted = λ of is. stands.doubted of (was of is);
+  headed = stands.headed;
+  are_done = stands.are_done;
+  in_range = stands.in_range;
+  output = stands.output;
+}
+
+-- ---- the call in doubt is found to have acted
+
+-- a line at which that may be told
+abbrev pub MayFind : Line → Type 0
+MayFind (Heading volume nodes devices areas) = ⊥
+MayFind (Call reading node client datagram) = ⊥
+MayFind (Run reading limit) = Unit {0}
+MayFind (Crash noise) = ⊥
+MayFind (Restart reading) = Unit {0}
+
+abbrev pub at_line : Line → List TraceLine → List Done → List Done
+at_line line lines done = record { line = line; lines = lines } ∷ done
+
+found_at : (first last next : Tree) (done : List Done) (history : List traces.Entry) (waits : ℕ → List traces.Taking) (line : Line) (lines : List TraceLine) (call : traces.Taking) (point : Point) (reply : List ℕ) → MayFind line
+    → AwaitsNewest Step rules first (parts_of (at_line line lines done)) history last waits → LacksPoint (trace_of (parts_of (at_line line lines done))) call → point.call ≡ call.call
+    → ((node : ℕ) → AllByRecursion (λ other. other.call ≢ point.call) (waits node)) → HasReadingSince point.call point.moment (parts_of (at_line line lines done)) → Step last (entry_for call point reply) next
+    → AwaitsNewest Step rules first (parts_of (at_line line (Acted point ∷ lines) done)) (entry_for call point reply ∷ history) next waits
+found_at first last next done history waits (Heading volume nodes devices areas) lines call point reply may so_far lacks of gone since step = absurd may
+found_at first last next done history waits (Call reading node client datagram) lines call point reply may so_far lacks of gone since step = absurd may
+found_at first last next done history waits (Run reading limit) lines call point reply may so_far lacks of gone since step =
+    found_point Step rules patient first (parts_of done) history last next waits (Some reading) none_ends true lines call point reply so_far lacks of gone since step
+found_at first last next done history waits (Crash noise) lines call point reply may so_far lacks of gone since step = absurd may
+found_at first last next done history waits (Restart reading) lines call point reply may so_far lacks of gone since step =
+    found_point Step rules patient first (parts_of done) history last next waits (Some reading) none_ends false lines call point reply so_far lacks of gone since step
+
+pub all_reversed : {A : Type 0} (P : A → Type 0) (xs : List A) → AllByRecursion P xs → AllByRecursion P (reverse xs)
+all_reversed P [] h = tt
+all_reversed P (x ∷ xs) h = rw (reverse-append (x ∷ []) xs) (all_append P (reverse xs) (x ∷ []) (all_reversed P xs h.1) (h.0, tt))
+
+gone_at : (P : traces.Taking → Type 0) (waits : List traces.Taking) → AllByRecursion P waits → (node : ℕ) → AllByRecursion P (waits_at waits node)
+gone_at P waits all node = by (0 == node)
+  where
+    by : (b : Bool) → AllByRecursion P (if b then reverse waits else [])
+    by true = all_reversed P waits all
+    by false = tt
+
+module _ (Holds : Tree → Option Doubt → Type 0) (line : Line) (may : MayFind line) (done : List Done) (start : List ℕ) (tree : Tree) (up : Bool) (waits : List traces.Taking) (before : Option Doubt) (calls : ℕ) (lines : List TraceLine) (written : List ℕ)
+    (stands : Stands tree up waits before calls (at_line line lines done) start written) (point : Point) (finds : Finds Holds waits tree before point) where
+  told_found : trace_text (reverse (Acted point ∷ trace_of (parts_of (at_line line lines done)))) ≡ trace_text (reverse (trace_of (parts_of (at_line line lines done)))) ++ trace_text (Acted point ∷ [])
+  told_found = ap trace_text (reverse-append (Acted point ∷ []) (trace_of (parts_of (at_line line lines done)))) ∙ trace_text-append (reverse (trace_of (parts_of (at_line line lines done)))) (Acted point ∷ [])
+
+  was : IsDoubted (at_line line lines done) finds.doubt
+  was = stands.doubted finds.doubt finds.was
+
+  accounts_found : AwaitsNewest Step rules (opening_of (schedule_of (at_line line lines done))) (parts_of (at_line line (Acted point ∷ lines) done)) (entry_for finds.doubt.call point finds.acts.reply ∷ stands.history) finds.next (waits_at waits)
+  accounts_found = found_at (opening_of (schedule_of (at_line line lines done))) tree finds.next done stands.history (waits_at waits) line lines finds.doubt.call point finds.acts.reply may stands.accounts was.lacks
+      (ap (λ (p : Point). p.call) (sym finds.at) ∙ finds.acts.of) (gone_at (λ other. other.call ≢ point.call) waits finds.gone)
+      (subst (λ (p : Point). HasReadingSince p.call p.moment (parts_of (at_line line lines done))) finds.at was.since)
+      (subst (λ (p : Point). Step tree (entry_for finds.doubt.call p finds.acts.reply) finds.next) finds.at (entered tree finds.next finds.doubt.call finds.doubt.point finds.acts.reply finds.acts.step))
+
+  pub stands_found : AllByRecursion InTraceRange (Acted point ∷ []) → Stands finds.next up waits None calls (at_line line (Acted point ∷ lines) done) start (written ++ trace_text (Acted point ∷ []))
+  stands_found in_range = record {
+    history = entry_for finds.doubt.call point finds.acts.reply ∷ stands.history;
+    accounts = accounts_found;
+    counted = stands.counted;
+    up_is = stands.up_is;
+    doubted = λ of is. absurd (none_is of is);
+    headed = stands.headed;
+    are_done = stands.are_done;
+    in_range = (in_range.0, stands.in_range);
+    output = ap (λ (w : List ℕ). w ++ trace_text (Acted point ∷ [])) stands.output ∙ append_assoc start _ _ ∙ ap (λ (w : List ℕ). start ++ w) (sym told_found);
+  }
+    where
+      none_is : (of : Doubt) → None ≡ Some of → ⊥
+      none_is of is = cc

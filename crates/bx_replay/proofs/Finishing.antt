@@ -1,5 +1,5 @@
 -- What is written at the end, or a part of it; and why an end isn't reached.
-use Rattle.std.proofs.Common.{◌≡◌, ℕ, List, [], ◌++◌, Option, Err, inl, inr, refl, sym, ap, ◌∙◌, take, drop, append_assoc}
+use Rattle.std.proofs.Common.{◌≡◌, ℕ, Bool, List, [], ◌++◌, Option, Err, inl, inr, refl, sym, ap, ◌∙◌, take, drop, append_assoc}
 use Rattle.std.specs.Prelude.{codes, filter, map}
 use Rattle.std.specs.List.{AllByRecursion}
 use Rattle.std.proofs.lemmas.List.{append-nil, take-append-drop}
@@ -8,17 +8,16 @@ use Rattle.bx_base.specs.declared.names.Point.{Point}
 use Rattle.bx_base.specs.Text.{ended}
 use Rattle.bx_disk.specs.Disks.{Disks}
 use Rattle.bx_global.specs.Opening.{opening_state}
-use Rattle.bx_history.specs.Trace as traces
 use Rattle.bx_model.specs.declared.tree.Tree.{Tree}
 use Rattle.bx_model.specs.Listing.{listing}
 use Rattle.bx_script.specs.declared.trace_line.TraceLine.{TraceLine}
 use Rattle.bx_script.specs.declared.trace_line.TraceLine.TheVariants.{Acted}
 use Rattle.bx_script.specs.TraceText.{InTraceRange, trace_text}
-use Rattle.bx_service.specs.Rounds.{Shows, waits_for}
+use Rattle.bx_service.specs.Rounds.{Doubt, Shows, Tells}
 use Rattle.bx_replay.specs.declared.stop.Stop.{Stop}
 use Rattle.bx_replay.specs.declared.stop.Stop.TheVariants as stops
 use Rattle.bx_replay.specs.Outcome.{closing_text}
-use Rattle.bx_replay.specs.Replay.{HasBenchCause, HasFinishCause, HasPrintCause, IsEnded, IsEndedShort, IsTold, Prints, UnlessMemory}
+use Rattle.bx_replay.specs.Replay.{HasBenchCause, HasFinishCause, HasPrintCause, IsEnded, IsEndedShort, Prints, UnlessMemory}
 
 -- where the tree isn't read back, there is no end
 pub not_read_back : (stop : Stop) (before now : ℕ) (Held Held_then : Type 0) (bench_before bench_now : ℕ) → (Held_then → Held) → HasBenchCause stop Held bench_before bench_now
@@ -38,18 +37,18 @@ not_printed stops.WriteFault before now Held bench_before bench_now cause = caus
 not_printed stops.DiskFault before now Held bench_before bench_now cause = absurd cause
 not_printed stops.OutOfMemory before now Held bench_before bench_now cause = tt
 
-module _ (waits : List traces.Taking) (under_way : Option Point) (tree : Tree) where
+module _ (tree : Tree) (of : Option Doubt) where
   -- nothing was written: it is a part of the end that tells the tree
-  pub nothing_ended : (old : List ℕ) → IsEndedShort waits under_way tree old old
+  pub nothing_ended : (old : List ℕ) → IsEndedShort tree of old old
   nothing_ended old = record { next = tree; doubt = []; told = inl (refl, refl); in_range = tt; wrote = []; more = closing_text [] tree; written = sym (append-nil old); part = refl }
 
-  -- The disks show what is told: the points that are open, of calls that wait, and the tree.
-  module _ (disks : Disks) (shows : Shows waits under_way disks tree) (points : List Point) (opened : AreOpen disks (opening_state 1 1) points) where
+  -- The disks show what is told: the points that are open, of calls that lack one, and the tree.
+  module _ (lacks : ℕ → Bool) (disks : Disks) (shows : Shows lacks disks tree of) (points : List Point) (opened : AreOpen disks (opening_state 1 1) points) where
     abbrev pub doubt : List Point
-    doubt = filter (λ point. waits_for waits point.call) points
+    doubt = filter (λ point. lacks point.call) points
 
-    told : IsTold waits under_way tree shows.next doubt
-    told = rw (shows.opened points opened) (shows.case)
+    told : Tells tree of shows.next doubt
+    told = rw (shows.open_is points opened) (shows.tells)
 
     whole : (lines : List TraceLine) → lines ≡ map Acted doubt → (ended (codes "end") ++ trace_text lines) ++ listing shows.next ≡ closing_text (map Acted doubt) shows.next
     whole lines is = ap (λ (l : List TraceLine). (ended (codes "end") ++ trace_text l) ++ listing shows.next) is ∙ append_assoc (ended (codes "end")) (trace_text (map Acted doubt)) (listing shows.next)
@@ -57,7 +56,7 @@ module _ (waits : List traces.Taking) (under_way : Option Point) (tree : Tree) w
     module _ (lines : List TraceLine) (is : lines ≡ map Acted doubt) where
       -- the word and the points weren't all written
       pub ended_in_points : (stop : Stop) (old new : List ℕ) (before now : ℕ) → HasPrintCause stop before now → Prints (Err stop) (ended (codes "end") ++ trace_text lines) old new
-          → UnlessMemory {A = Unit {0}} (Err stop) (AllByRecursion InTraceRange lines) → IsEndedShort waits under_way tree old new
+          → UnlessMemory {A = Unit {0}} (Err stop) (AllByRecursion InTraceRange lines) → IsEndedShort tree of old new
       ended_in_points (stops.Refused line reason) old new before now cause prints in_range = absurd cause
       ended_in_points stops.ReadFault old new before now cause prints in_range = absurd cause
       ended_in_points stops.WriteFault old new before now cause prints in_range = record {
@@ -75,7 +74,7 @@ module _ (waits : List traces.Taking) (under_way : Option Point) (tree : Tree) w
 
       module _ (old middle text : List ℕ) (in_range : AllByRecursion InTraceRange lines) (begun : middle ≡ old ++ (ended (codes "end") ++ trace_text lines)) (listed : text ≡ listing shows.next) where
         -- the listing wasn't all written
-        pub ended_in_listing : (new : List ℕ) (n : ℕ) → new ≡ middle ++ take n text → IsEndedShort waits under_way tree old new
+        pub ended_in_listing : (new : List ℕ) (n : ℕ) → new ≡ middle ++ take n text → IsEndedShort tree of old new
         ended_in_listing new n is_part = record {
           next = shows.next;
           doubt = doubt;
@@ -87,7 +86,7 @@ module _ (waits : List traces.Taking) (under_way : Option Point) (tree : Tree) w
           part = append_assoc (ended (codes "end") ++ trace_text lines) (take n text) (drop n text) ∙ ap (λ (w : List ℕ). (ended (codes "end") ++ trace_text lines) ++ w) (take-append-drop n text ∙ listed) ∙ whole lines is;
         }
 
-        pub ended_whole : (Stands : Tree → Type 0) (new : List ℕ) → new ≡ middle ++ text → Stands shows.next → IsEnded waits under_way tree Stands old new
+        pub ended_whole : (Stands : Tree → Type 0) (new : List ℕ) → new ≡ middle ++ text → Stands shows.next → IsEnded tree of Stands old new
         ended_whole Stands new all stands = record {
           next = shows.next;
           doubt = doubt;

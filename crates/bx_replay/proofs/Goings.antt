@@ -1,5 +1,5 @@
 -- A replay between two lines: how it goes on, and what it leaves where it stops.
-use Rattle.std.proofs.Common.{◌≡◌, ℕ, ◌+◌, ◌<◌, ◌≤◌, ◌==◌, Bool, List, [], ◌∷◌, ◌++◌, length, Option, None, true, false, refl, sym, ap, ◌∙◌, arith, inl, inr, append_assoc}
+use Rattle.std.proofs.Common.{◌≡◌, ℕ, ◌+◌, ◌<◌, ◌≤◌, ◌==◌, Bool, List, [], ◌∷◌, ◌++◌, length, Option, Some, None, true, false, refl, sym, ap, ◌∙◌, arith, inl, inr, append_assoc}
 use Rattle.std.specs.Prelude.{if◌then◌else◌, map, reverse, ◌⊎◌}
 use Rattle.std.proofs.lemmas.List.{append-nil, append_cancel_left}
 use Rattle.bx_base.specs.Text.{BeginsWith, LacksFeed, lines_of}
@@ -12,28 +12,30 @@ use Rattle.bx_history.specs.Parts.{trace_of}
 use Rattle.bx_history.specs.Along.{Done, parts_of, schedule_of}
 use Rattle.bx_script.specs.declared.trace_line.TraceLine.{TraceLine}
 use Rattle.bx_script.specs.declared.trace_line.TraceLine.TheVariants.{Acted}
-use Rattle.bx_service.specs.Rounds.{IsOfOldest}
+use Rattle.bx_service.specs.Rounds.{Doubt}
 use Rattle.bx_base.specs.declared.names.Point.{Point}
 use Rattle.bx_history.specs.Trace as traces
 use Rattle.bx_history.proofs.Waiting.{quiet_part}
 use Rattle.bx_model.specs.Opening.{opening}
-use Rattle.bx_replay.specs.declared.stop.Reason.TheVariants.{Grammar, NotBuilt}
+use Rattle.bx_replay.specs.declared.stop.Reason.{Reason}
+use Rattle.bx_replay.specs.declared.stop.Reason.TheVariants.{Grammar}
 use Rattle.bx_replay.specs.Headline.{Headline, IsInPlace, rules, Step}
 use Rattle.bx_replay.specs.Outcome.{AreDone, IsBroken, IsCutOff, IsReadTo, IsRefused, IsReplayed, closing_text}
-use Rattle.bx_replay.specs.Replay.{Going, IsRead, StandsAfter, BreaksAfter, IsBegun, IsEnded, IsEndedShort, IsUnservedLine, Wrote, waits_at}
+use Rattle.bx_replay.specs.Replay.{Going, IsRead, StandsAfter, BreaksAfter, IsBegun, IsEnded, IsEndedShort, IsRefusedLine, Wrote, waits_at}
 use Rattle.bx_replay.proofs.Allowed.{done_begins}
 use Rattle.bx_replay.proofs.Headlines.{headline, headline_told, no_headline}
 use Rattle.bx_replay.proofs.NextLines.{IsRefusedHere}
-use Rattle.bx_replay.proofs.ReadLines.{all_read, cut_at, cut_first, lines_read, none_done, read_on, refused_empty, refused_first, refused_outside, refused_unserved}
-use Rattle.bx_replay.proofs.Standing.{awaits_same, length_schedule, patient, schedule_of-cons}
+use Rattle.bx_replay.proofs.ReadLines.{all_read, cut_at, cut_first, lines_read, none_done, read_on, refused_empty, refused_first, refused_line, refused_outside}
+use Rattle.bx_replay.proofs.Standing.{awaits_same, length_schedule, none_wait, patient, schedule_of-cons}
 
 -- ---- going on
 
-pub going_on : (Holds_old Holds : Tree → Type 0) (waits_old waits : List traces.Taking) (under_way_old under_way : Option Point) (calls_old calls : ℕ) (text rest next : List ℕ) (number : ℕ) (line : Line) (start before after : List ℕ)
-    → (going : Going Holds_old waits_old under_way_old calls_old text rest number start before) → BeginsWith rest (spelling line) next → StandsAfter Holds waits under_way calls line going.done start after
-    → Going Holds waits under_way calls text next (number + 1) start after
-going_on Holds_old Holds waits_old waits under_way_old under_way calls_old calls text rest next number line start before after going begins stands = record {
+pub going_on : (Holds_old Holds : Tree → Option Doubt → Type 0) (up_old up : Bool) (waits_old waits : List traces.Taking) (calls_old calls : ℕ) (text rest next : List ℕ) (number : ℕ) (line : Line) (start before after : List ℕ)
+    → (going : Going Holds_old up_old waits_old calls_old text rest number start before) → BeginsWith rest (spelling line) next → StandsAfter Holds up waits calls line going.done start after
+    → Going Holds up waits calls text next (number + 1) start after
+going_on Holds_old Holds up_old up waits_old waits calls_old calls text rest next number line start before after going begins stands = record {
   tree = stands.tree;
+  doubt = stands.doubt;
   holds = stands.holds;
   done = record { line = line; lines = stands.lines } ∷ going.done;
   stands = stands.stands;
@@ -43,13 +45,14 @@ going_on Holds_old Holds waits_old waits under_way_old under_way calls_old calls
 
 -- ---- stopping
 
-module _ (Holds : Tree → Type 0) (waits : List traces.Taking) (under_way : Option Point) (calls : ℕ) (text rest : List ℕ) (number : ℕ) (start written : List ℕ) (going : Going Holds waits under_way calls text rest number start written) where
-  abbrev so_far : IsRead text rest number
+module _ (Holds : Tree → Option Doubt → Type 0) (up : Bool) (waits : List traces.Taking) (calls : ℕ) (text rest : List ℕ) (number : ℕ) (start written : List ℕ) (going : Going Holds up waits calls text rest number start written) where
+  abbrev so_far : IsRead up text rest number
   so_far = record {
     done = schedule_of going.done;
     read = going.read;
     are_done = going.stands.are_done;
     headed = going.stands.headed;
+    up_is = going.stands.up_is;
     count = going.count ∙ sym (length_schedule going.done);
   }
 
@@ -66,7 +69,7 @@ module _ (Holds : Tree → Type 0) (waits : List traces.Taking) (under_way : Opt
       more = [];
       read = lines_read text rest (schedule_of going.done) (done_begins _ going.stands.are_done) going.read;
       are_done = going.stands.are_done;
-      headline = headline going.tree waits under_way calls going.done start written going.stands;
+      headline = headline going.tree up waits going.doubt calls going.done start written going.stands;
       part = inl (append-nil (trace_text (reverse (trace_of (parts_of going.done)))));
     };
   }
@@ -76,10 +79,10 @@ module _ (Holds : Tree → Type 0) (waits : List traces.Taking) (under_way : Opt
     output = trace_text (reverse (trace_of (parts_of going.done)));
     added = going.stands.output;
     holds = record {
-      cut = cut_at text rest piece left number so_far e lacks short;
+      cut = cut_at up text rest piece left number so_far e lacks short;
       trace = reverse (trace_of (parts_of going.done));
       last = going.tree;
-      headline = headline going.tree waits under_way calls going.done start written going.stands;
+      headline = headline going.tree up waits going.doubt calls going.done start written going.stands;
       output-is = refl;
     };
   }
@@ -89,24 +92,24 @@ module _ (Holds : Tree → Type 0) (waits : List traces.Taking) (under_way : Opt
     output = trace_text (reverse (trace_of (parts_of going.done)));
     added = going.stands.output;
     holds = record {
-      first = refused_outside text rest number so_far here;
+      first = refused_outside up text rest number so_far here;
       trace = reverse (trace_of (parts_of going.done));
       last = going.tree;
-      headline = headline going.tree waits under_way calls going.done start written going.stands;
+      headline = headline going.tree up waits going.doubt calls going.done start written going.stands;
       output-is = refl;
     };
   }
 
-  pub stops_unserved : (line : Line) (next : List ℕ) → number < 4294967295 → BeginsWith rest (spelling line) next → IsInPlace ((number + 1) == 1) line → IsUnservedLine line
-      → Wrote start written (IsRefused text (number + 1) NotBuilt)
-  stops_unserved line next few begins place unserved = record {
+  pub stops_refused : (reason : Reason) (line : Line) (next : List ℕ) → number < 4294967295 → BeginsWith rest (spelling line) next → IsInPlace ((number + 1) == 1) line → IsRefusedLine reason up line
+      → Wrote start written (IsRefused text (number + 1) reason)
+  stops_refused reason line next few begins place why = record {
     output = trace_text (reverse (trace_of (parts_of going.done)));
     added = going.stands.output;
     holds = record {
-      first = refused_unserved text rest next number line so_far few begins place unserved;
+      first = refused_line up text rest next number line so_far few begins place reason why;
       trace = reverse (trace_of (parts_of going.done));
       last = going.tree;
-      headline = headline going.tree waits under_way calls going.done start written going.stands;
+      headline = headline going.tree up waits going.doubt calls going.done start written going.stands;
       output-is = refl;
     };
   }
@@ -136,42 +139,42 @@ broken_part text rest done start written wrote more closing last read are_done i
 }
 
 -- a line was done, and only a part of its trace was written
-pub stops_torn : (Holds : Tree → Type 0) (waits : List traces.Taking) (under_way : Option Point) (calls : ℕ) (text rest next : List ℕ) (number : ℕ) (line : Line) (start before after : List ℕ)
-    → (going : Going Holds waits under_way calls text rest number start before) → BeginsWith rest (spelling line) next → BreaksAfter line going.done start after
+pub stops_torn : (Holds : Tree → Option Doubt → Type 0) (up : Bool) (waits : List traces.Taking) (calls : ℕ) (text rest next : List ℕ) (number : ℕ) (line : Line) (start before after : List ℕ)
+    → (going : Going Holds up waits calls text rest number start before) → BeginsWith rest (spelling line) next → BreaksAfter line going.done start after
     → Wrote start after (IsBroken text)
-stops_torn Holds waits under_way calls text rest next number line start before after going begins torn =
+stops_torn Holds up waits calls text rest next number line start before after going begins torn =
     let read : IsReadTo text (schedule_of (record { line = line; lines = torn.lines } ∷ going.done)) next =
     rw (schedule_of-cons line torn.lines going.done) (read_on text rest next (schedule_of going.done) line (done_begins _ going.stands.are_done) going.read begins) in
     let whole : torn.output ++ torn.more ≡ trace_text (reverse (trace_of (parts_of (record { line = line; lines = torn.lines } ∷ going.done)))) =
     append_cancel_left start _ _ (sym (append_assoc start torn.output torn.more) ∙ ap (λ (w : List ℕ). w ++ torn.more) (sym torn.added) ∙ torn.after.output) in
     broken_part text next (record { line = line; lines = torn.lines } ∷ going.done) start after torn.output torn.more [] torn.tree read torn.after.are_done
-    (headline torn.tree torn.waits torn.under_way torn.calls _ start (after ++ torn.more) torn.after) torn.added (inl whole)
+    (headline torn.tree torn.up torn.waits torn.doubt torn.calls _ start (after ++ torn.more) torn.after) torn.added (inl whole)
 
 -- the end was reached, and a part of what comes after the trace was written
-pub stops_unfinished : (Holds : Tree → Type 0) (waits : List traces.Taking) (under_way : Option Point) (calls : ℕ) (text : List ℕ) (number : ℕ) (start before after : List ℕ)
-    → (going : Going Holds waits under_way calls text [] number start before) → IsEndedShort waits under_way going.tree before after → Wrote start after (IsBroken text)
-stops_unfinished Holds waits under_way calls text number start before after going short =
+pub stops_unfinished : (Holds : Tree → Option Doubt → Type 0) (up : Bool) (waits : List traces.Taking) (calls : ℕ) (text : List ℕ) (number : ℕ) (start before after : List ℕ)
+    → (going : Going Holds up waits calls text [] number start before) → IsEndedShort going.tree going.doubt before after → Wrote start after (IsBroken text)
+stops_unfinished Holds up waits calls text number start before after going short =
     let trace : List ℕ = trace_text (reverse (trace_of (parts_of going.done))) in
     let out : after ≡ start ++ (trace ++ short.wrote) = short.written ∙ ap (λ (w : List ℕ). w ++ short.wrote) going.stands.output ∙ append_assoc start trace short.wrote in
     let whole : (trace ++ short.wrote) ++ short.more ≡ trace ++ closing_text (map Acted short.doubt) short.next =
     append_assoc trace short.wrote short.more ∙ ap (λ (w : List ℕ). trace ++ w) short.part in
     broken_part text [] going.done start after (trace ++ short.wrote) short.more (map Acted short.doubt) short.next going.read going.stands.are_done
-    (headline_told going.tree waits under_way calls going.done start before going.stands short.next short.doubt short.told short.in_range) out (inr (refl, whole))
+    (headline_told going.tree up waits going.doubt calls going.done start before going.stands short.next short.doubt short.told short.in_range) out (inr (refl, whole))
 
 -- the end was reached, and all was written
-pub finishes : (Holds : Tree → Type 0) (waits : List traces.Taking) (under_way : Option Point) (calls : ℕ) (text : List ℕ) (Stands : Tree → Type 0) (number : ℕ) (start before after : List ℕ)
-    → (going : Going Holds waits under_way calls text [] number start before) → IsEnded waits under_way going.tree Stands before after → Wrote start after (IsReplayed text Stands)
-finishes Holds waits under_way calls text Stands number start before after going ended =
+pub finishes : (Holds : Tree → Option Doubt → Type 0) (up : Bool) (waits : List traces.Taking) (calls : ℕ) (text : List ℕ) (Stands : Tree → Type 0) (number : ℕ) (start before after : List ℕ)
+    → (going : Going Holds up waits calls text [] number start before) → IsEnded going.tree going.doubt Stands before after → Wrote start after (IsReplayed text Stands)
+finishes Holds up waits calls text Stands number start before after going ended =
     let trace : List ℕ = trace_text (reverse (trace_of (parts_of going.done))) in
     record {
       output = trace ++ closing_text (map Acted ended.doubt) ended.next;
       added = ended.written ∙ ap (λ (w : List ℕ). w ++ closing_text (map Acted ended.doubt) ended.next) going.stands.output ∙ append_assoc start trace (closing_text (map Acted ended.doubt) ended.next);
       holds = record {
-        input = all_read text number (so_far Holds waits under_way calls text [] number start before going);
+        input = all_read up text number (so_far Holds up waits calls text [] number start before going);
         trace = reverse (trace_of (parts_of going.done));
         closing = map Acted ended.doubt;
         last = ended.next;
-        headline = headline_told going.tree waits under_way calls going.done start before going.stands ended.next ended.doubt ended.told ended.in_range;
+        headline = headline_told going.tree up waits going.doubt calls going.done start before going.stands ended.next ended.doubt ended.told ended.in_range;
         output-is = refl;
         stands = ended.stands;
       };
@@ -236,22 +239,16 @@ begins_outside text start here = record {
   };
 }
 
-none_wait : (node : ℕ) → [] ≡ waits_at [] node
-none_wait node = by (0 == node)
-  where
-    by : (b : Bool) → [] ≡ (if b then reverse {A = traces.Taking} [] else [])
-    by true = refl
-    by false = refl
-
 -- after the heading
-pub begins_going : (Holds : Tree → Type 0) (calls : ℕ) (text rest start : List ℕ) (waits : List traces.Taking) (under_way : Option Point) → waits ≡ [] → IsOfOldest waits under_way → IsBegun Holds calls text rest
-    → Going Holds waits under_way calls text rest 1 start start
-begins_going Holds calls text rest start waits under_way idle oldest begun =
+pub begins_going : (Holds : Tree → Option Doubt → Type 0) (calls : ℕ) (text rest start : List ℕ) (up : Bool) (waits : List traces.Taking) → up ≡ true → waits ≡ [] → IsBegun Holds calls text rest
+    → Going Holds up waits calls text rest 1 start start
+begins_going Holds calls text rest start up waits is_up idle begun =
     let heading = Heading begun.volume begun.nodes begun.devices begun.areas in
     let opened : record (opening begun.volume) { areas = begun.areas } ≡ opening begun.volume =
     ap (λ (n : ℕ). record (opening begun.volume) { areas = n }) begun.in_place.1.2 in
     record {
       tree = opening begun.volume;
+      doubt = None;
       holds = begun.holds;
       done = record { line = heading; lines = [] } ∷ [];
       stands = record {
@@ -260,12 +257,16 @@ begins_going Holds calls text rest start waits under_way idle oldest begun =
             (quiet_part Step rules patient (opening begun.volume) [] [] (opening begun.volume) (λ _. []) None false
             (record { fits = refl; leads = refl; placed = tt; waiting_are = λ _. refl; pending = λ _. tt; in_order = λ _. tt })));
         counted = begun.none;
-        since = λ point is. let of = oldest.each point is in absurd (let e : of.0 ∷ of.1 ≡ [] = sym of.2 ∙ idle in cc);
+        up_is = is_up;
+        doubted = λ of is. absurd (none_is of is);
         headed = omega arith;
-        are_done = (record { few = omega arith; in_place = begun.in_place; served = begun.in_place.1 }, tt);
+        are_done = (record { few = omega arith; in_place = begun.in_place; served = begun.in_place.1; heard = tt }, tt);
         in_range = tt;
         output = sym (append-nil start);
       };
       read = read_on text text rest [] heading tt (inl refl) begun.begins;
       count = refl;
     }
+  where
+    none_is : (of : Doubt) → None ≡ Some of → ⊥
+    none_is of is = cc

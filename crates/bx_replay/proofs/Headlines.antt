@@ -1,5 +1,5 @@
 -- A replay that stands has the headline's property.
-use Rattle.std.proofs.Common.{◌≡◌, ℕ, List, [], ◌∷◌, ◌++◌, Option, inl, inr, refl, sym, ap, ◌∙◌}
+use Rattle.std.proofs.Common.{◌≡◌, ℕ, Bool, List, [], ◌∷◌, ◌++◌, Option, inl, inr, refl, sym, ap, ◌∙◌}
 use Rattle.std.specs.Prelude.{map, reverse}
 use Rattle.std.specs.List.{AllByRecursion}
 use Rattle.std.proofs.lemmas.List.{append-nil, reverse-append, reverse-reverse}
@@ -21,11 +21,11 @@ use Rattle.bx_model.specs.declared.tree.Tree.{Tree}
 use Rattle.bx_model.specs.History.{IsStep}
 use Rattle.bx_model.specs.Opening.{opening}
 use Rattle.bx_replay.specs.Headline.{rules, opening_of, AreTyped, Step, Headline}
-use Rattle.bx_replay.specs.Replay.{IsTold, Stands, waits_at}
+use Rattle.bx_service.specs.Rounds.{Doubt, Tells}
+use Rattle.bx_replay.specs.Replay.{Stands, waits_at}
 use Rattle.bx_replay.proofs.OneHistory.{step_once}
-use Rattle.bx_replay.proofs.Allowed.{all_push}
-use Rattle.bx_replay.proofs.Answered.{entered}
-use Rattle.bx_replay.proofs.Standing.{all_append, oldest_of}
+use Rattle.bx_replay.proofs.Answered.{all_reversed, entered}
+use Rattle.bx_replay.proofs.Standing.{all_append}
 
 AreTyped-append : (a c : List traces.Entry) (b d : List Entry) → AreTyped a b → AreTyped c d → AreTyped (a ++ c) (b ++ d)
 AreTyped-append [] c [] d h k = k
@@ -39,10 +39,6 @@ AreTyped-reverse [] (y ∷ b) h = absurd h
 AreTyped-reverse (x ∷ a) [] h = absurd h
 AreTyped-reverse (x ∷ a) (y ∷ b) h =
     rw (reverse-append (x ∷ []) a, reverse-append (y ∷ []) b) (AreTyped-append (reverse a) (x ∷ []) (reverse b) (y ∷ []) (AreTyped-reverse a b h.1) (h.0, tt))
-
-all_reverse : {A : Type 0} (P : A → Type 0) (xs : List A) → AllByRecursion P xs → AllByRecursion P (reverse xs)
-all_reverse P [] h = tt
-all_reverse P (x ∷ xs) h = rw (reverse-append (x ∷ []) xs) (all_push P (reverse xs) x (all_reverse P xs h.1) h.0)
 
 -- a history in bytes, with the calls and the replies that the bytes are
 record Typed (first last : Tree) (bytes : List traces.Entry) : Type 0 where
@@ -83,23 +79,24 @@ headline_of done closing last accounts in_range =
           (one.0 ∙ reverse-reverse accounts.history, one.1);
     }
 
-module _ (tree : Tree) (waits : List traces.Taking) (under_way : Option Point) (calls : ℕ) (done : List Done) (start written : List ℕ) (stands : Stands tree waits under_way calls done start written) where
+module _ (tree : Tree) (up : Bool) (waits : List traces.Taking) (doubt : Option Doubt) (calls : ℕ) (done : List Done) (start written : List ℕ) (stands : Stands tree up waits doubt calls done start written) where
   in_range : AllByRecursion InTraceRange (reverse (trace_of (parts_of done)))
-  in_range = all_reverse InTraceRange (trace_of (parts_of done)) stands.in_range
+  in_range = all_reversed InTraceRange (trace_of (parts_of done)) stands.in_range
 
   pub headline : Headline (schedule_of done) (reverse (trace_of (parts_of done))) [] tree
   headline = headline_of done [] tree (accounts Step rules (opening_of (schedule_of done)) done stands.history tree (waits_at waits) stands.accounts) (rw (append-nil (reverse (trace_of (parts_of done)))) in_range)
 
   -- and with what is told at the end
-  pub headline_told : (next : Tree) (doubt : List Point) → IsTold waits under_way tree next doubt → AllByRecursion InTraceRange (map Acted doubt)
-      → Headline (schedule_of done) (reverse (trace_of (parts_of done))) (map Acted doubt) next
-  headline_told next doubt (inl none) closing = rw (none.0, none.1) headline
-  headline_told next doubt (inr told) closing =
-      let points : map Acted doubt ≡ Acted told.point ∷ [] = ap (map Acted) told.doubt_is in
-      rw points (headline_of done (Acted told.point ∷ []) next
-      (accounts_with_doubt Step rules (opening_of (schedule_of done)) done stands.history tree next (waits_at waits) 0 told.call told.point told.reply stands.accounts
-      (oldest_of tree waits under_way calls done start written stands told.call told.rest told.oldest) told.of (stands.since told.point told.at) (entered tree next told.call told.point told.reply told.step))
-      (all_append InTraceRange (reverse (trace_of (parts_of done))) (Acted told.point ∷ []) in_range (rw points at closing)))
+  pub headline_told : (next : Tree) (opened : List Point) → Tells tree doubt next opened → AllByRecursion InTraceRange (map Acted opened)
+      → Headline (schedule_of done) (reverse (trace_of (parts_of done))) (map Acted opened) next
+  headline_told next opened (inl none) closing = rw (none.0, none.1) headline
+  headline_told next opened (inr told) closing =
+      let points : map Acted opened ≡ Acted told.of.point ∷ [] = ap (map Acted) told.open_is in
+      let was = stands.doubted told.of told.is in
+      rw points (headline_of done (Acted told.of.point ∷ []) next
+      (accounts_with_doubt Step rules (opening_of (schedule_of done)) done stands.history tree next (waits_at waits) told.of.call told.of.point told.acts.reply stands.accounts
+      was.lacks told.acts.of was.since (entered tree next told.of.call told.of.point told.acts.reply told.acts.step))
+      (all_append InTraceRange (reverse (trace_of (parts_of done))) (Acted told.of.point ∷ []) in_range (rw points at closing)))
 
 -- before the first line
 pub no_headline : Headline [] [] [] (opening 0)

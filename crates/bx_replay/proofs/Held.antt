@@ -5,7 +5,10 @@ use mathlib.Core.Path.{fun_ext}
 use Rattle.std.proofs.lemmas.Bool.{eq-eqb}
 use Rattle.bx_audit.specs.Audited.{StandFor}
 use Rattle.bx_base.specs.Faults.{Rose}
+use Rattle.bx_disk.specs.Crash.{crashed}
 use Rattle.bx_disk.specs.Disks.{Image, Disks, IsImage, IsSector}
+use Rattle.bx_disk.specs.declared.noise.Noise.{Noise}
+use Rattle.bx_disk.specs.declared.noise.Noise.TheVariants.{Keep, Drop, Seed}
 use Rattle.bx_global.specs.Opening.{opening_state}
 use Rattle.bx_model.specs.declared.tree.Tree.{Tree}
 use Rattle.bx_overlay.specs.declared.error.AuditError.{AuditError}
@@ -34,6 +37,12 @@ image_before old new image left sure is = record {
     by : (d s : ℕ) → old.unsure d s ≡ true → (new.unsure d s ≡ true) ⊎ (new.unsure d s ≡ false) → IsSector (image d s)
     by d s before (inl now) = is.torn d s now
     by d s before (inr now) = subst IsSector (sym (is.sure d s now)) (left.torn d s before)
+
+-- a crash of a disk leaves nothing unsure there
+pub crashed_unsure : (disks : Disks) (disk : ℕ) (how : Noise) (d s : ℕ) → (crashed disks disk how).unsure d s ≡ (not (d == disk) && disks.unsure d s)
+crashed_unsure disks disk Keep d s = refl
+crashed_unsure disks disk Drop d s = refl
+crashed_unsure disks disk (Seed seed) d s = refl
 
 pub stays_sure : (a b : Bool) → b ≡ false → (not a && b) ≡ false
 stays_sure true b is = refl

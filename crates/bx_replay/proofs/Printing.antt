@@ -1,8 +1,7 @@
 -- What a line leaves where it breaks off.
-use Rattle.std.proofs.Common.{◌≡◌, ℕ, List, [], ◌∷◌, ◌++◌, Option, Result, Ok, Err, take, drop, ap, ◌∙◌, append_assoc}
-use Rattle.std.specs.Prelude.{◌⊎◌, IfErr, reverse}
+use Rattle.std.proofs.Common.{◌≡◌, ℕ, Bool, List, [], ◌∷◌, ◌++◌, Option, Result, Ok, Err, take, drop, ap, ◌∙◌, append_assoc}
+use Rattle.std.specs.Prelude.{◌⊎◌, IfErr, OnOk, reverse}
 use Rattle.std.proofs.lemmas.List.{append-nil, take-append-drop}
-use Rattle.bx_base.specs.declared.names.Point.{Point}
 use Rattle.bx_script.specs.declared.line.Line.{Line}
 use Rattle.bx_script.specs.declared.trace_line.TraceLine.{TraceLine}
 use Rattle.bx_script.specs.TraceText.{trace_text}
@@ -10,21 +9,23 @@ use Rattle.bx_history.specs.Trace as traces
 use Rattle.bx_history.specs.Parts.{trace_of}
 use Rattle.bx_history.specs.Along.{Done, parts_of}
 use Rattle.bx_model.specs.declared.tree.Tree.{Tree}
+use Rattle.bx_service.specs.Rounds.{Doubt}
 use Rattle.bx_replay.specs.declared.stop.Stop.{Stop}
 use Rattle.bx_replay.specs.declared.stop.Stop.TheVariants as stops
-use Rattle.bx_replay.specs.Headline.{IsServedLine}
+use Rattle.bx_replay.specs.Headline.{IsHeard, IsServedLine, up_after}
 use Rattle.bx_replay.specs.Replay.{BreaksAfter, DoesLine, HasPrintCause, Prints, Serves, Stands, UnlessMemory}
 
-module _ (tree : Tree) (waits : List traces.Taking) (under_way : Option Point) (calls : ℕ) (line : Line) (lines : List TraceLine) (done : List Done) (start : List ℕ) where
+module _ (tree : Tree) (up : Bool) (waits : List traces.Taking) (doubt : Option Doubt) (calls : ℕ) (line : Line) (lines : List TraceLine) (done : List Done) (start : List ℕ) where
   abbrev StandsAt : List ℕ → Type 0
-  StandsAt written = Stands tree waits under_way calls (record { line = line; lines = lines } ∷ done) start written
+  StandsAt written = Stands tree up waits doubt calls (record { line = line; lines = lines } ∷ done) start written
 
   -- all was written that had happened
   pub breaks_here : (written : List ℕ) → StandsAt written → BreaksAfter line done start written
   breaks_here written stands = record {
     tree = tree;
+    up = up;
     waits = waits;
-    under_way = under_way;
+    doubt = doubt;
     calls = calls;
     lines = lines;
     output = trace_text (reverse (trace_of (parts_of (record { line = line; lines = lines } ∷ done))));
@@ -44,8 +45,9 @@ module _ (tree : Tree) (waits : List traces.Taking) (under_way : Option Point) (
       ap (λ (w : List ℕ). w ++ drop n text) part ∙ append_assoc old (take n text) (drop n text) ∙ ap (λ (w : List ℕ). old ++ w) (take-append-drop n text) in
       record {
         tree = tree;
+        up = up;
         waits = waits;
-        under_way = under_way;
+        doubt = doubt;
         calls = calls;
         lines = lines;
         output = output ++ take n text;
@@ -65,11 +67,12 @@ module _ (tree : Tree) (waits : List traces.Taking) (under_way : Option Point) (
   unprinted InRange stops.DiskFault After first old new output text before now begun cause prints in_range stands none = absurd cause
   unprinted InRange stops.OutOfMemory After first old new output text before now begun cause prints in_range stands none = none prints
 
--- a line whose call is taken is served
-pub serves_call : (r : Result (Unit {0}) Stop) (line : Line) (before now : ℕ) → IfErr r (λ stop. HasPrintCause stop before now) → IsServedLine line → Serves r line
-serves_call (Ok x) line before now cause served = served
-serves_call (Err (stops.Refused number reason)) line before now cause served = absurd cause
-serves_call (Err stops.ReadFault) line before now cause served = tt
-serves_call (Err stops.WriteFault) line before now cause served = tt
-serves_call (Err stops.DiskFault) line before now cause served = tt
-serves_call (Err stops.OutOfMemory) line before now cause served = tt
+-- what a line is that is done, where it only prints
+pub serves_line : (r : Result (Unit {0}) Stop) (up now : Bool) (line : Line) (before after : ℕ) → IfErr r (λ stop. HasPrintCause stop before after) → IsServedLine line → IsHeard up line
+    → OnOk r (now ≡ up_after line up) → Serves r up now line
+serves_line (Ok x) up now line before after cause served heard then_is = (served, heard, then_is)
+serves_line (Err (stops.Refused number reason)) up now line before after cause served heard then_is = absurd cause
+serves_line (Err stops.ReadFault) up now line before after cause served heard then_is = tt
+serves_line (Err stops.WriteFault) up now line before after cause served heard then_is = tt
+serves_line (Err stops.DiskFault) up now line before after cause served heard then_is = tt
+serves_line (Err stops.OutOfMemory) up now line before after cause served heard then_is = tt

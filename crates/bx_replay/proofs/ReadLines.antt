@@ -1,22 +1,22 @@
 -- What was read of a text: lines in the grammar, in their places and served, and where a replay of them stops.
-use Rattle.std.proofs.Common.{◌≡◌, ℕ, ◌+◌, ◌<◌, ◌≤◌, ◌==◌, Bool, true, false, List, [], ◌∷◌, ◌++◌, length, refl, sym, ap, ◌∙◌, arith, inl, inr, append_assoc}
-use Rattle.std.specs.Prelude.{map, ◌⊎◌, ◌≢◌}
+use Rattle.std.proofs.Common.{◌≡◌, ℕ, ◌+◌, ◌<◌, ◌≤◌, ◌==◌, Bool, true, false, List, [], ◌∷◌, ◌++◌, length, refl, sym, ap, subst, ◌∙◌, arith, inl, inr, append_assoc}
+use Rattle.std.specs.Prelude.{map, reverse, ◌⊎◌, ◌≢◌}
 use Rattle.std.specs.List.{AllByRecursion}
 use Rattle.std.proofs.lemmas.Bool.{ne_eqb}
-use Rattle.std.proofs.lemmas.List.{append-nil, length-append, map-append}
+use Rattle.std.proofs.lemmas.List.{append-nil, length-append, map-append, reverse-append}
 use Rattle.bx_base.specs.Text.{BeginsWith, LacksFeed, ended, lines_of, text_of}
 use Rattle.bx_base.proofs.Lines.{lines_of-append, lines_of-begins, text_of-append}
 use Rattle.bx_script.specs.declared.line.Line.{Line}
-use Rattle.bx_script.specs.declared.line.Line.TheVariants.{Heading, Call, Run}
+use Rattle.bx_script.specs.declared.line.Line.TheVariants.{Heading, Call, Run, Crash, Restart}
 use Rattle.bx_script.specs.ScheduleLine.{spelling}
 use Rattle.bx_script.specs.Schedule.{HasPlace, BeginsSchedule}
 use Rattle.bx_script.proofs.Spelled.{spelling_lacks_feed}
 use Rattle.bx_replay.specs.declared.stop.Reason.{Reason}
-use Rattle.bx_replay.specs.declared.stop.Reason.TheVariants.{Grammar, NotBuilt}
-use Rattle.bx_replay.specs.Headline.{IsInPlace, IsServedLine}
+use Rattle.bx_replay.specs.declared.stop.Reason.TheVariants.{Grammar, NotBuilt, Down}
+use Rattle.bx_replay.specs.Headline.{IsHeard, IsInPlace, IsServedLine, is_up, up_after}
 use Rattle.bx_replay.specs.Outcome.{AreDone, IsCut, IsFirstRefused, IsReadTo, IsRefusedAt, IsServedSchedule}
-use Rattle.bx_replay.specs.Replay.{IsRead, IsUnservedLine}
-use Rattle.bx_replay.proofs.Allowed.{done_begins, done_few, done_push, done_served}
+use Rattle.bx_replay.specs.Replay.{IsCallLine, IsRead, IsRefusedLine}
+use Rattle.bx_replay.proofs.Allowed.{done_begins, done_few, done_push}
 use Rattle.bx_replay.proofs.NextLines.{IsRefusedHere}
 
 -- ---- the lines of a text
@@ -69,22 +69,24 @@ not_first done number some count = ne_eqb (number + 1) 1 (λ e. omega (arith, so
 behind : (number : ℕ) → 0 < number → ((number + 1) == 1) ≡ false
 behind number some = ne_eqb (number + 1) 1 (λ e. omega (arith, some))
 
-pub reads_on : (text rest next : List ℕ) (number : ℕ) (line : Line) → IsRead text rest number → number < 4294967295 → BeginsWith rest (spelling line) next → IsInPlace ((number + 1) == 1) line
-    → IsServedLine line → IsRead text next (number + 1)
-reads_on text rest next number line so_far few begins place served =
+pub reads_on : (up now : Bool) (text rest next : List ℕ) (number : ℕ) (line : Line) → IsRead up text rest number → number < 4294967295 → BeginsWith rest (spelling line) next → IsInPlace ((number + 1) == 1) line
+    → IsServedLine line × IsHeard up line × (now ≡ up_after line up) → IsRead now text next (number + 1)
+reads_on up now text rest next number line so_far few begins place serves =
     let some : 0 < number = let h = so_far.headed in omega (arith, h, so_far.count) in
     record {
       done = so_far.done ++ line ∷ [];
       read = read_on text rest next so_far.done line (done_begins so_far.done so_far.are_done) so_far.read begins;
-      are_done = done_push so_far.done line so_far.headed (omega (arith, few, so_far.count)) so_far.are_done (rw (behind number some) at place) served;
+      are_done = done_push so_far.done line so_far.headed (omega (arith, few, so_far.count)) so_far.are_done (rw (behind number some) at place) serves.0
+          (subst (λ (b : Bool). IsHeard b line) so_far.up_is serves.1);
       headed = omega (arith, length-append so_far.done (line ∷ []));
+      up_is = serves.2 ∙ ap (up_after line) so_far.up_is ∙ sym (ap is_up (reverse-append so_far.done (line ∷ [])));
       count = omega (arith, length-append so_far.done (line ∷ []), so_far.count);
     }
 
 -- ---- where a replay stops
 
-abbrev pub all_read : (text : List ℕ) (number : ℕ) → IsRead text [] number → IsServedSchedule text
-all_read text number so_far = record {
+abbrev pub all_read : (up : Bool) (text : List ℕ) (number : ℕ) → IsRead up text [] number → IsServedSchedule text
+all_read up text number so_far = record {
   schedule = so_far.done;
   read = record {
     spelled = lines_read text [] so_far.done (done_begins so_far.done so_far.are_done) so_far.read ∙ append-nil (map spelling so_far.done);
@@ -92,11 +94,11 @@ all_read text number so_far = record {
     headed = so_far.headed;
     few = done_few so_far.done so_far.are_done;
   };
-  served = done_served so_far.done so_far.are_done;
+  are_done = so_far.are_done;
 }
 
-abbrev pub cut_at : (text rest piece left : List ℕ) (number : ℕ) → IsRead text rest number → rest ≡ piece ++ left → LacksFeed piece → length piece ≤ 18600 → IsCut text left
-cut_at text rest piece left number so_far e lacks short = record {
+abbrev pub cut_at : (up : Bool) (text rest piece left : List ℕ) (number : ℕ) → IsRead up text rest number → rest ≡ piece ++ left → LacksFeed piece → length piece ≤ 18600 → IsCut text left
+cut_at up text rest piece left number so_far e lacks short = record {
   done = so_far.done;
   piece = piece;
   read = rw e at so_far.read;
@@ -105,9 +107,9 @@ cut_at text rest piece left number so_far e lacks short = record {
   are_done = so_far.are_done;
 }
 
-abbrev pub refused_at : (text rest : List ℕ) (number : ℕ) (so_far : IsRead text rest number) (reason : Reason) (others : List (List ℕ)) → lines_of rest ≡ others
+abbrev pub refused_at : (up : Bool) (text rest : List ℕ) (number : ℕ) (so_far : IsRead up text rest number) (reason : Reason) (others : List (List ℕ)) → lines_of rest ≡ others
     → IsRefusedAt so_far.done others reason → IsFirstRefused text (number + 1) reason
-refused_at text rest number so_far reason others e refused = record {
+refused_at up text rest number so_far reason others e refused = record {
   done = so_far.done;
   others = others;
   read = lines_read text rest so_far.done (done_begins so_far.done so_far.are_done) so_far.read ∙ ap (λ (ls : List (List ℕ)). map spelling so_far.done ++ ls) e;
@@ -121,14 +123,14 @@ pub outside : (done : List Line) (number : ℕ) (first : List ℕ) (others : Lis
 outside done number first others some count (inl many) = inl (omega (arith, count))
 outside done number first others some count (inr none) = inr (λ value place. none value (rw (not_first done number some count) place))
 
-abbrev pub refused_outside : (text rest : List ℕ) (number : ℕ) → IsRead text rest number → IsRefusedHere rest (number + 1) → IsFirstRefused text (number + 1) Grammar
-refused_outside text rest number so_far here =
-    refused_at text rest number so_far Grammar (here.0 ∷ here.1) here.2 (outside so_far.done number here.0 here.1 so_far.headed so_far.count here.3)
+abbrev pub refused_outside : (up : Bool) (text rest : List ℕ) (number : ℕ) → IsRead up text rest number → IsRefusedHere rest (number + 1) → IsFirstRefused text (number + 1) Grammar
+refused_outside up text rest number so_far here =
+    refused_at up text rest number so_far Grammar (here.0 ∷ here.1) here.2 (outside so_far.done number here.0 here.1 so_far.headed so_far.count here.3)
 
-pub unserved_at : (done : List Line) (number : ℕ) (line : Line) (others : List (List ℕ)) → 0 < length done → number ≡ length done → number < 4294967295
-    → IsInPlace ((number + 1) == 1) line → IsUnservedLine line → IsRefusedAt done (spelling line ∷ others) NotBuilt
-unserved_at done number (Heading volume nodes devices areas) others some count few place unserved = absurd unserved
-unserved_at done number (Call reading node client datagram) others some count few place unserved = (
+pub refused_call : (up : Bool) (done : List Line) (number reading node client : ℕ) (datagram : List ℕ) (others : List (List ℕ)) (reason : Reason) → 0 < length done → number ≡ length done → number < 4294967295 → up ≡ is_up (reverse done)
+    → IsInPlace ((number + 1) == 1) (Call reading node client datagram) → IsRefusedLine reason up (Call reading node client datagram) → IsRefusedAt done (spelling (Call reading node client datagram) ∷ others) reason
+refused_call up done number reading node client datagram others Grammar some count few up_is place why = absurd why
+refused_call up done number reading node client datagram others NotBuilt some count few up_is place why = (
   omega (arith, few, count),
   record {
     reading = reading;
@@ -137,17 +139,47 @@ unserved_at done number (Call reading node client datagram) others some count fe
     datagram = datagram;
     in_place = rw (not_first done number some count) at place;
     spelled = refl;
-    message = unserved.0;
-    unserved = unserved.1;
+    heard = sym up_is ∙ why.0;
+    message = why.1.0;
+    unserved = why.1.1;
   },
 )
-unserved_at done number (Run reading limit) others some count few place unserved = absurd unserved
+refused_call up done number reading node client datagram others Down some count few up_is place why = (
+  omega (arith, few, count),
+  record {
+    reading = reading;
+    node = node;
+    client = client;
+    datagram = datagram;
+    in_place = rw (not_first done number some count) at place;
+    spelled = refl;
+    down = sym up_is ∙ why.0;
+  },
+)
 
-abbrev pub refused_unserved : (text rest next : List ℕ) (number : ℕ) (line : Line) → IsRead text rest number → number < 4294967295 → BeginsWith rest (spelling line) next
-    → IsInPlace ((number + 1) == 1) line → IsUnservedLine line → IsFirstRefused text (number + 1) NotBuilt
-refused_unserved text rest next number line so_far few begins place unserved =
-    refused_at text rest number so_far NotBuilt (spelling line ∷ lines_of next) (lines_of-begins rest (spelling line) next begins)
-    (unserved_at so_far.done number line (lines_of next) so_far.headed so_far.count few place unserved)
+-- only calls are refused so
+only_calls : (reason : Reason) (up : Bool) (line : Line) → (IsCallLine line → ⊥) → IsRefusedLine reason up line → ⊥
+only_calls Grammar up line none why = why
+only_calls NotBuilt up (Heading volume nodes devices areas) none why = why.1
+only_calls NotBuilt up (Call reading node client datagram) none why = none tt
+only_calls NotBuilt up (Run reading limit) none why = why.1
+only_calls NotBuilt up (Crash noise) none why = why.1
+only_calls NotBuilt up (Restart reading) none why = why.1
+only_calls Down up line none why = none why.1
+
+pub line_refused_at : (up : Bool) (done : List Line) (number : ℕ) (line : Line) (others : List (List ℕ)) (reason : Reason) → 0 < length done → number ≡ length done → number < 4294967295 → up ≡ is_up (reverse done)
+    → IsInPlace ((number + 1) == 1) line → IsRefusedLine reason up line → IsRefusedAt done (spelling line ∷ others) reason
+line_refused_at up done number (Heading volume nodes devices areas) others reason some count few up_is place why = absurd (only_calls reason up (Heading volume nodes devices areas) (λ e. e) why)
+line_refused_at up done number (Call reading node client datagram) others reason some count few up_is place why = refused_call up done number reading node client datagram others reason some count few up_is place why
+line_refused_at up done number (Run reading limit) others reason some count few up_is place why = absurd (only_calls reason up (Run reading limit) (λ e. e) why)
+line_refused_at up done number (Crash noise) others reason some count few up_is place why = absurd (only_calls reason up (Crash noise) (λ e. e) why)
+line_refused_at up done number (Restart reading) others reason some count few up_is place why = absurd (only_calls reason up (Restart reading) (λ e. e) why)
+
+abbrev pub refused_line : (up : Bool) (text rest next : List ℕ) (number : ℕ) (line : Line) → IsRead up text rest number → number < 4294967295 → BeginsWith rest (spelling line) next
+    → IsInPlace ((number + 1) == 1) line → (reason : Reason) → IsRefusedLine reason up line → IsFirstRefused text (number + 1) reason
+refused_line up text rest next number line so_far few begins place reason why =
+    refused_at up text rest number so_far reason (spelling line ∷ lines_of next) (lines_of-begins rest (spelling line) next begins)
+    (line_refused_at up so_far.done number line (lines_of next) reason so_far.headed so_far.count few so_far.up_is place why)
 
 -- ---- the first line
 
@@ -170,11 +202,12 @@ refused_first text here = begins_refused text (here.0 ∷ here.1) here.2 (first_
 abbrev pub cut_first : (text piece left : List ℕ) → text ≡ piece ++ left → LacksFeed piece → length piece ≤ 18600 → IsCut text left
 cut_first text piece left e lacks short = record { done = []; piece = piece; read = inl e; lacks = lacks; short = short; are_done = none_done }
 
-pub heading_read : (text rest : List ℕ) (volume nodes devices areas : ℕ) → IsInPlace true (Heading volume nodes devices areas) → BeginsWith text (spelling (Heading volume nodes devices areas)) rest → IsRead text rest 1
+pub heading_read : (text rest : List ℕ) (volume nodes devices areas : ℕ) → IsInPlace true (Heading volume nodes devices areas) → BeginsWith text (spelling (Heading volume nodes devices areas)) rest → IsRead true text rest 1
 heading_read text rest volume nodes devices areas place begins = record {
   done = Heading volume nodes devices areas ∷ [];
   read = read_on text text rest [] (Heading volume nodes devices areas) tt (inl refl) begins;
-  are_done = (record { few = omega arith; in_place = place; served = place.1 }, tt);
+  are_done = (record { few = omega arith; in_place = place; served = place.1; heard = tt }, tt);
   headed = omega arith;
+  up_is = refl;
   count = refl;
 }

@@ -1,27 +1,29 @@
 -- A replay that stands goes on by one line, or by what happens within a run.
 use Rattle.std.proofs.Common.{◌≡◌, ℕ, ◌+◌, ◌<◌, Bool, false, List, [], ◌∷◌, ◌++◌, length, Option, Some, None, inl, inr, true, refl, sym, ap, subst, ◌∙◌, arith, append_assoc}
-use Rattle.std.specs.Prelude.{◌≢◌, ◌==◌, if◌then◌else◌, is_some, map, reverse}
+use Rattle.std.specs.Prelude.{◌≢◌, ◌==◌, ◌⊎◌, if◌then◌else◌, is_some, map, reverse}
 use Rattle.std.specs.List.{AllByRecursion}
 use Rattle.std.proofs.lemmas.Bool.{ne_eqb}
 use Rattle.std.proofs.lemmas.List.{append-nil, length-append, length-map, length-reverse, reverse-append}
 use Rattle.bx_base.specs.declared.names.Point.{Point}
+use Rattle.bx_disk.specs.declared.noise.Noise.{Noise}
 use Rattle.bx_engine.specs.Calls.{IsBuiltCall}
 use Rattle.bx_script.specs.declared.line.Line.{Line}
-use Rattle.bx_script.specs.declared.line.Line.TheVariants.{Heading, Call, Run}
+use Rattle.bx_script.specs.declared.line.Line.TheVariants.{Heading, Call, Run, Crash, Restart}
 use Rattle.bx_script.specs.declared.trace_line.TraceLine.{TraceLine}
-use Rattle.bx_script.specs.declared.trace_line.TraceLine.TheVariants.{Took}
+use Rattle.bx_script.specs.declared.trace_line.TraceLine.TheVariants.{Took, Acted}
 use Rattle.bx_script.specs.TraceText.{InTraceRange, trace_text}
 use Rattle.bx_history.specs.Trace as traces
 use Rattle.bx_history.specs.Parts.{trace_of}
 use Rattle.bx_history.specs.Placed.{HasReadingSince}
 use Rattle.bx_history.specs.Along.{Done, parts_of, schedule_of}
-use Rattle.bx_history.specs.Account.{AreNewestFirst, AwaitsNewest, IsPatient, IsPending, waits_with}
+use Rattle.bx_history.specs.Account.{AreNewestFirst, AwaitsNewest, IsPatient, IsPending, LacksPoint, waits_with}
+use Rattle.bx_history.proofs.Ended.{ended_part}
 use Rattle.bx_history.proofs.Numbering.{taking_bound}
 use Rattle.bx_history.proofs.Waiting.{all_front, passed_part, quiet_part, taken_call}
 use Rattle.bx_model.specs.declared.tree.Tree.{Tree}
-use Rattle.bx_service.specs.Rounds.{IsOfOldest}
-use Rattle.bx_replay.specs.Headline.{IsInPlace, rules, opening_of, Step, IsServedLine, is_message}
-use Rattle.bx_replay.specs.Replay.{Stands, waits_at}
+use Rattle.bx_service.specs.Rounds.{Doubt}
+use Rattle.bx_replay.specs.Headline.{IsHeard, IsInPlace, rules, opening_of, Step, IsServedLine, is_message, is_up, up_after}
+use Rattle.bx_replay.specs.Replay.{IsDoubted, Stands, waits_at}
 use Rattle.bx_replay.proofs.Allowed.{done_push}
 use Rattle.bx_replay.proofs.TraceTexts.{trace_text-append}
 
@@ -39,6 +41,8 @@ opening_of-append [] more some = absurd (omega arith)
 opening_of-append (Heading volume nodes devices areas ∷ lines) more some = refl
 opening_of-append (Call reading node client datagram ∷ lines) more some = refl
 opening_of-append (Run reading limit ∷ lines) more some = refl
+opening_of-append (Crash noise ∷ lines) more some = refl
+opening_of-append (Restart reading ∷ lines) more some = refl
 
 -- what goes on whatever the line is
 pub length_schedule : (done : List Done) → length (schedule_of done) ≡ length done
@@ -60,82 +64,119 @@ awaits_same first done history tree a b same so_far = record {
   in_order = λ node. subst AreNewestFirst (same node) (so_far.in_order node);
 }
 
-extended : (tree next : Tree) (waits waits_then : List traces.Taking) (under_way under_way_then : Option Point) (calls calls_then : ℕ) (line : Line) (lines : List TraceLine) (done : List Done) (start written text : List ℕ) (history : List traces.Entry)
-    → length done < 4294967295 → IsInPlace false line → IsServedLine line → (stands : Stands tree waits under_way calls done start written)
+-- whether the machines are up after one line more
+up_more : (up up_then : Bool) (line : Line) (lines : List TraceLine) (done : List Done) → up ≡ is_up (reverse (schedule_of done)) → up_then ≡ up_after line up
+    → up_then ≡ is_up (reverse (schedule_of (record { line = line; lines = lines } ∷ done)))
+up_more up up_then line lines done was then_is =
+    then_is ∙ ap (up_after line) was ∙ sym (ap (λ (l : List Line). is_up (reverse l)) (schedule_of-cons line lines done) ∙ ap is_up (reverse-append (schedule_of done) (line ∷ [])))
+
+extended : (tree next : Tree) (up up_then : Bool) (waits waits_then : List traces.Taking) (doubt doubt_then : Option Doubt) (calls calls_then : ℕ) (line : Line) (lines : List TraceLine) (done : List Done) (start written text : List ℕ) (history : List traces.Entry)
+    → length done < 4294967295 → IsInPlace false line → IsServedLine line → IsHeard up line → up_then ≡ up_after line up → (stands : Stands tree up waits doubt calls done start written)
     → AwaitsNewest Step rules (opening_of (schedule_of done)) (parts_of (record { line = line; lines = lines } ∷ done)) history next (waits_at waits_then)
     → calls_then ≡ traces.taken_count (lines ++ trace_of (parts_of done))
-    → ((point : Point) → under_way_then ≡ Some point → HasReadingSince point.call point.moment (parts_of (record { line = line; lines = lines } ∷ done)))
+    → ((of : Doubt) → doubt_then ≡ Some of → IsDoubted (record { line = line; lines = lines } ∷ done) of)
     → AllByRecursion InTraceRange lines
     → text ≡ trace_text (reverse lines)
-    → Stands next waits_then under_way_then calls_then (record { line = line; lines = lines } ∷ done) start (written ++ text)
-extended tree next waits waits_then under_way under_way_then calls calls_then line lines done start written text history room place served stands accounts counted since in_range text-is =
+    → Stands next up_then waits_then doubt_then calls_then (record { line = line; lines = lines } ∷ done) start (written ++ text)
+extended tree next up up_then waits waits_then doubt doubt_then calls calls_then line lines done start written text history room place served heard then_is stands accounts counted doubted in_range text-is =
     let more : schedule_of (record { line = line; lines = lines } ∷ done) ≡ schedule_of done ++ line ∷ [] = schedule_of-cons line lines done in
     let long : length (schedule_of done) ≡ length done = length_schedule done in
     let first : opening_of (schedule_of (record { line = line; lines = lines } ∷ done)) ≡ opening_of (schedule_of done) =
     ap opening_of more ∙ opening_of-append (schedule_of done) (line ∷ []) stands.headed in
+    let hears : IsHeard (is_up (reverse (schedule_of done))) line = subst (λ (b : Bool). IsHeard b line) stands.up_is heard in
     record {
       history = history;
       accounts = rw first accounts;
       counted = counted;
-      since = since;
+      up_is = up_more up up_then line lines done stands.up_is then_is;
+      doubted = doubted;
       headed = rw more (omega (arith, length-append (schedule_of done) (line ∷ [])));
-      are_done = rw more (done_push (schedule_of done) line stands.headed (omega arith) stands.are_done place served);
+      are_done = rw more (done_push (schedule_of done) line stands.headed (omega arith) stands.are_done place served hears);
       in_range = all_append InTraceRange lines (trace_of (parts_of done)) in_range stands.in_range;
       output = rw (reverse-append lines (trace_of (parts_of done)), trace_text-append (reverse (trace_of (parts_of done))) (reverse lines), ← text-is, stands.output) (append_assoc start (trace_text (reverse (trace_of (parts_of done)))) text);
     }
 
 -- ---- a line without events
 
--- nothing arrives at the line
+-- nothing arrives at the line, and no node ends
 abbrev pub IsSilent : Line → Type 0
 IsSilent (Heading volume nodes devices areas) = Unit {0}
 IsSilent (Call reading node client datagram) = ⊥
 IsSilent (Run reading limit) = Unit {0}
+IsSilent (Crash noise) = ⊥
+IsSilent (Restart reading) = Unit {0}
 
 silent_line : (first last : Tree) (done : List Done) (history : List traces.Entry) (waits : ℕ → List traces.Taking) (line : Line) → IsSilent line
     → AwaitsNewest Step rules first (parts_of done) history last waits → AwaitsNewest Step rules first (parts_of (record { line = line; lines = [] } ∷ done)) history last waits
 silent_line first last done history waits (Heading volume nodes devices areas) silent so_far = quiet_part Step rules patient first (parts_of done) history last waits None false so_far
 silent_line first last done history waits (Call reading node client datagram) silent so_far = absurd silent
 silent_line first last done history waits (Run reading limit) silent so_far = quiet_part Step rules patient first (parts_of done) history last waits (Some reading) true so_far
+silent_line first last done history waits (Crash noise) silent so_far = absurd silent
+silent_line first last done history waits (Restart reading) silent so_far = quiet_part Step rules patient first (parts_of done) history last waits (Some reading) false so_far
 
 -- the oldest call that waits was taken there
-pub oldest_of : (tree : Tree) (waits : List traces.Taking) (under_way : Option Point) (calls : ℕ) (done : List Done) (start written : List ℕ) → Stands tree waits under_way calls done start written
-    → (call : traces.Taking) (rest : List traces.Taking) → waits ≡ call ∷ rest → IsPending (trace_of (parts_of done)) 0 call
-oldest_of tree waits under_way calls done start written stands call rest is =
-    (all_front (IsPending (trace_of (parts_of done)) 0) (reverse rest) call
-    (subst (AllByRecursion (IsPending (trace_of (parts_of done)) 0)) (ap reverse is ∙ reverse-append (call ∷ []) rest) (stands.accounts.pending 0))).1
+pub oldest_in : (trace : List TraceLine) (waits : List traces.Taking) → AllByRecursion (IsPending trace 0) (waits_at waits 0)
+    → (call : traces.Taking) (rest : List traces.Taking) → waits ≡ call ∷ rest → IsPending trace 0 call
+oldest_in trace waits pending call rest is =
+    (all_front (IsPending trace 0) (reverse rest) call
+    (subst (AllByRecursion (IsPending trace 0)) (ap reverse is ∙ reverse-append (call ∷ []) rest) pending)).1
 
-module _ (tree : Tree) (waits : List traces.Taking) (under_way : Option Point) (calls : ℕ) (done : List Done) (start written : List ℕ) (room : length done < 4294967295)
-    (stands : Stands tree waits under_way calls done start written) where
-  pub stands_silent : (line : Line) → IsSilent line → IsInPlace false line → IsServedLine line → Stands tree waits under_way calls (record { line = line; lines = [] } ∷ done) start written
-  stands_silent line silent place served =
+pub lacks_in : (trace : List TraceLine) (call : traces.Taking) → IsPending trace 0 call → LacksPoint trace call
+lacks_in trace call pending = record { taken = pending.taken; no_point = pending.no_point }
+
+-- none waits
+pub none_wait : (node : ℕ) → [] ≡ waits_at [] node
+none_wait node = by (0 == node)
+  where
+    by : (b : Bool) → [] ≡ (if b then reverse {A = traces.Taking} [] else [])
+    by true = refl
+    by false = refl
+
+module _ (tree : Tree) (up : Bool) (waits : List traces.Taking) (doubt : Option Doubt) (calls : ℕ) (done : List Done) (start written : List ℕ) (room : length done < 4294967295)
+    (stands : Stands tree up waits doubt calls done start written) where
+  -- what is in doubt is so behind a line at which nothing is told
+  still_doubted : (line : Line) (of : Doubt) → doubt ≡ Some of → IsDoubted (record { line = line; lines = [] } ∷ done) of
+  still_doubted line of is = let was = stands.doubted of is in record { of = was.of; lacks = was.lacks; since = inr (refl, was.since) }
+
+  pub stands_silent : (line : Line) (up_then : Bool) → IsSilent line → IsInPlace false line → IsServedLine line → IsHeard up line → up_then ≡ up_after line up
+      → Stands tree up_then waits doubt calls (record { line = line; lines = [] } ∷ done) start written
+  stands_silent line up_then silent place served heard then_is =
       let accounts = silent_line (opening_of (schedule_of done)) tree done stands.history (waits_at waits) line silent stands.accounts in
-      let after = extended tree tree waits waits under_way under_way calls calls line [] done start written [] stands.history room place served stands accounts stands.counted (λ point is. inr (refl, stands.since point is)) tt refl in
+      let after = extended tree tree up up_then waits waits doubt doubt calls calls line [] done start written [] stands.history room place served heard then_is stands accounts stands.counted (still_doubted line) tt refl in
+      rw append-nil at after
+
+  -- ---- all machines crash
+
+  pub stands_crashed : (noise : Noise) → IsInPlace false (Crash noise) → Stands tree false [] doubt calls (record { line = Crash noise; lines = [] } ∷ done) start written
+  stands_crashed noise place =
+      let ended = ended_part Step rules patient (opening_of (schedule_of done)) (parts_of done) stands.history tree (waits_at waits) None stands.accounts in
+      let accounts = awaits_same (opening_of (schedule_of done)) (record { line = Crash noise; lines = [] } ∷ done) stands.history tree (λ _. []) (waits_at []) none_wait ended in
+      let after = extended tree tree up false waits [] doubt doubt calls calls (Crash noise) [] done start written [] stands.history room place tt tt refl stands accounts stands.counted (still_doubted (Crash noise)) tt refl in
       rw append-nil at after
 
   -- ---- a datagram that is no call
 
-  pub stands_ignored : (reading node client : ℕ) (datagram : List ℕ) → is_message datagram ≡ false → IsInPlace false (Call reading node client datagram)
-      → Stands tree waits under_way calls (record { line = Call reading node client datagram; lines = [] } ∷ done) start written
-  stands_ignored reading node client datagram none place =
+  pub stands_ignored : (reading node client : ℕ) (datagram : List ℕ) → up ≡ true → is_message datagram ≡ false → IsInPlace false (Call reading node client datagram)
+      → Stands tree up waits doubt calls (record { line = Call reading node client datagram; lines = [] } ∷ done) start written
+  stands_ignored reading node client datagram heard none place =
       let accounts = passed_part Step rules patient (opening_of (schedule_of done)) (parts_of done) stands.history tree (waits_at waits) reading (record { node = node; client = client; bytes = datagram }) none stands.accounts in
-      let after = extended tree tree waits waits under_way under_way calls calls (Call reading node client datagram) [] done start written [] stands.history room place (place.1, inl none) stands accounts stands.counted (λ point is. inr (refl, stands.since point is)) tt refl in
+      let after = extended tree tree up up waits waits doubt doubt calls calls (Call reading node client datagram) [] done start written [] stands.history room place (place.1, inl none) heard refl stands accounts stands.counted
+      (still_doubted (Call reading node client datagram)) tt refl in
       rw append-nil at after
 
   -- ---- a call that is taken
 
-  pub stands_taken : (reading client : ℕ) (datagram text : List ℕ) → is_message datagram ≡ true → IsBuiltCall datagram → IsInPlace false (Call reading 0 client datagram)
-      → (oldest : (point : Point) → under_way ≡ Some point → point.call ≢ calls + 1)
+  pub stands_taken : (reading client : ℕ) (datagram text : List ℕ) → up ≡ true → is_message datagram ≡ true → IsBuiltCall datagram → IsInPlace false (Call reading 0 client datagram)
       → AllByRecursion InTraceRange (Took (calls + 1) 0 client datagram ∷ []) → text ≡ trace_text (Took (calls + 1) 0 client datagram ∷ [])
-      → Stands tree (waits ++ record { call = calls + 1; node = 0; client = client; bytes = datagram } ∷ []) under_way (calls + 1)
+      → Stands tree up (waits ++ record { call = calls + 1; node = 0; client = client; bytes = datagram } ∷ []) doubt (calls + 1)
       (record { line = Call reading 0 client datagram; lines = Took (calls + 1) 0 client datagram ∷ [] } ∷ done) start (written ++ text)
-  stands_taken reading client datagram text message built place older in_range text-is =
+  stands_taken reading client datagram text heard message built place in_range text-is =
       let taking : traces.Taking = record { call = calls + 1; node = 0; client = client; bytes = datagram } in
       let number : calls + 1 ≡ traces.taken_count (trace_of (parts_of done)) + 1 = ap (λ (n : ℕ). n + 1) stands.counted in
       let taken = taken_call Step rules patient (opening_of (schedule_of done)) (parts_of done) stands.history tree (waits_at waits) reading taking message number stands.accounts in
       let accounts = awaits_same (opening_of (schedule_of done)) (record { line = Call reading 0 client datagram; lines = Took (calls + 1) 0 client datagram ∷ [] } ∷ done) stands.history tree _ _ more_wait taken in
-      extended tree tree waits _ under_way under_way calls (calls + 1) (Call reading 0 client datagram) _ done start written text stands.history room place (place.1, inr built) stands accounts
-      (ap (λ (n : ℕ). n + 1) stands.counted ∙ omega arith) (λ point is. inr (other_taking taking point.call (older point is), stands.since point is)) in_range text-is
+      extended tree tree up up waits _ doubt doubt calls (calls + 1) (Call reading 0 client datagram) _ done start written text stands.history room place (place.1, inr built) heard refl stands accounts
+      (ap (λ (n : ℕ). n + 1) stands.counted ∙ omega arith) doubted_then in_range text-is
     where
       more_wait : (node : ℕ) → waits_with (record { call = calls + 1; node = 0; client = client; bytes = datagram }) (waits_at waits) node
           ≡ waits_at (waits ++ record { call = calls + 1; node = 0; client = client; bytes = datagram } ∷ []) node
@@ -146,24 +187,36 @@ module _ (tree : Tree) (waits : List traces.Taking) (under_way : Option Point) (
           by true = sym (reverse-append waits (record { call = calls + 1; node = 0; client = client; bytes = datagram } ∷ []))
           by false = refl
 
-      other_taking : (taking : traces.Taking) (call : ℕ) → call ≢ taking.call → is_some (if taking.call == call then Some taking else None) ≡ false
-      other_taking taking call other = rw (ne_eqb taking.call call (λ is. other (sym is))) refl
+      not_taken : (taking : traces.Taking) (call : ℕ) → call ≢ taking.call → is_some (if taking.call == call then Some taking else None) ≡ false
+      not_taken taking call other = rw (ne_eqb taking.call call (λ is. other (sym is))) refl
+
+      taken_before : (taking : traces.Taking) (call : ℕ) (found : Option traces.Taking) → call ≢ taking.call → (if taking.call == call then Some taking else found) ≡ found
+      taken_before taking call found other = rw (ne_eqb taking.call call (λ is. other (sym is))) refl
+
+      doubted_then : (of : Doubt) → doubt ≡ Some of → IsDoubted (record { line = Call reading 0 client datagram; lines = Took (calls + 1) 0 client datagram ∷ [] } ∷ done) of
+      doubted_then of is =
+          let was = stands.doubted of is in
+          let taking : traces.Taking = record { call = calls + 1; node = 0; client = client; bytes = datagram } in
+          let below = taking_bound rules.kept (trace_of (parts_of done)) stands.history of.call.call of.call stands.accounts.fits was.lacks.taken in
+          let apart : of.call.call ≢ calls + 1 = λ same. omega (arith, below, same, stands.counted) in
+          let apart_at : of.point.call ≢ calls + 1 = λ same. omega (arith, below, was.of, same, stands.counted) in
+          record {
+            of = was.of;
+            lacks = record { taken = taken_before taking of.call.call (traces.taking_of (trace_of (parts_of done)) of.call.call) apart ∙ was.lacks.taken; no_point = was.lacks.no_point };
+            since = inr (not_taken taking of.point.call apart_at, was.since);
+          }
 
   -- the same at a node that is 0
   abbrev TakesAt : ℕ → Type 0
-  TakesAt node = (reading client : ℕ) (datagram text : List ℕ) → is_message datagram ≡ true → IsBuiltCall datagram → IsInPlace false (Call reading node client datagram)
-      → ((point : Point) → under_way ≡ Some point → point.call ≢ calls + 1)
+  TakesAt node = (reading client : ℕ) (datagram text : List ℕ) → up ≡ true → is_message datagram ≡ true → IsBuiltCall datagram → IsInPlace false (Call reading node client datagram)
       → AllByRecursion InTraceRange (Took (calls + 1) node client datagram ∷ []) → text ≡ trace_text (Took (calls + 1) node client datagram ∷ [])
-      → Stands tree (waits ++ record { call = calls + 1; node = 0; client = client; bytes = datagram } ∷ []) under_way (calls + 1)
+      → Stands tree up (waits ++ record { call = calls + 1; node = 0; client = client; bytes = datagram } ∷ []) doubt (calls + 1)
       (record { line = Call reading node client datagram; lines = Took (calls + 1) node client datagram ∷ [] } ∷ done) start (written ++ text)
 
   pub stands_taken_at : (node : ℕ) → node ≡ 0 → TakesAt node
   stands_taken_at node zero = subst TakesAt (sym zero) stands_taken
 
-  -- what is under way is of an older call than the next
-  pub older_point : IsOfOldest waits under_way → (point : Point) → under_way ≡ Some point → point.call ≢ calls + 1
-  older_point oldest point is same =
-      let of = oldest.each point is in
-      let pending = oldest_of tree waits under_way calls done start written stands of.0 of.1 of.2 in
-      let below = taking_bound rules.kept (trace_of (parts_of done)) stands.history of.0.call of.0 stands.accounts.fits pending.taken in
-      omega (arith, below, of.3, same, stands.counted)
+-- the calls that wait, said in two ways
+pub stands_same : (tree : Tree) (up : Bool) (waits waits_then : List traces.Taking) (doubt : Option Doubt) (calls : ℕ) (done : List Done) (start written : List ℕ) → waits_then ≡ waits
+    → Stands tree up waits doubt calls done start written → Stands tree up waits_then doubt calls done start written
+stands_same tree up waits waits_then doubt calls done start written same stands = rw same stands

@@ -4,6 +4,7 @@ use Rattle.bx_disk.specs.Disks.{Image, Disks, IsImage}
 use Rattle.bx_global.specs.Opening.{opening_state}
 use Rattle.bx_model.specs.declared.tree.Tree.{Tree}
 use Rattle.bx_audit.specs.Audited.{StandFor}
+use Rattle.bx_service.specs.Rounds.{IsCrashed}
 use Rattle.bx_volume.specs.Images.{ImageStandsFor}
 
 -- Each image that a crash now may leave stands for the tree, in the state in which a volume of one node and one device opens.
@@ -12,4 +13,4 @@ pub record IsHeldBy (disks : Disks) (tree : Tree) : Type 0 where
 
 -- However what is unsure is lost, the disks stand for a tree then.
 abbrev pub HoldsAny : Disks → Type 0
-HoldsAny disks = (left : Disks) → IsImage disks left.reads → left.sizes ≡ disks.sizes → (tree : Tree) × StandFor left (opening_state 1 1) tree
+HoldsAny disks = (left : Disks) → IsCrashed disks left → (tree : Tree) × StandFor left (opening_state 1 1) tree

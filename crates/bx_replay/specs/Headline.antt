@@ -1,9 +1,9 @@
 -- The headline: what a trace along a schedule says of the file tree.
-use Rattle.std.specs.Prelude.{◌≡◌, ◌⊎◌, ℕ, ◌&&◌, nat_le, Bool, false, List, [], ◌∷◌, ◌++◌, length, take, drop}
+use Rattle.std.specs.Prelude.{◌≡◌, ◌⊎◌, ℕ, ◌&&◌, nat_le, Bool, true, false, List, [], ◌∷◌, ◌++◌, length, take, drop}
 use Rattle.std.specs.Str.{bytes_eq}
 use Rattle.std.specs.List.{AllByRecursion}
 use Rattle.bx_script.specs.declared.line.Line.{Line}
-use Rattle.bx_script.specs.declared.line.Line.TheVariants.{Heading, Call, Run}
+use Rattle.bx_script.specs.declared.line.Line.TheVariants.{Heading, Call, Run, Crash, Restart}
 use Rattle.bx_script.specs.declared.trace_line.TraceLine.{TraceLine}
 use Rattle.bx_script.specs.Schedule.{HasPlace}
 use Rattle.bx_script.specs.TraceText.{InTraceRange}
@@ -32,6 +32,8 @@ opening_of [] = opening 0
 opening_of (Heading volume nodes devices areas ∷ lines) = record (opening volume) { areas = areas }
 opening_of (Call reading node client datagram ∷ lines) = opening 0
 opening_of (Run reading limit ∷ lines) = opening 0
+opening_of (Crash noise ∷ lines) = opening 0
+opening_of (Restart reading ∷ lines) = opening 0
 
 -- The entry as bytes: the call is what its bytes read as, and the reply's bytes are its text.
 pub record IsTyped (bytes : traces.Entry) (entry : Entry) : Type 0 where
@@ -74,6 +76,8 @@ abbrev pub IsBuilt : Line → Type 0
 IsBuilt (Heading volume nodes devices areas) = (nodes ≡ 1) × (devices ≡ 1) × (areas ≡ 1)
 IsBuilt (Call reading node client datagram) = node ≡ 0
 IsBuilt (Run reading limit) = Unit {0}
+IsBuilt (Crash noise) = Unit {0}
+IsBuilt (Restart reading) = Unit {0}
 
 -- such a line, in its place
 abbrev pub IsInPlace : Bool → Line → Type 0
@@ -84,3 +88,26 @@ abbrev pub IsServedLine : Line → Type 0
 IsServedLine (Heading volume nodes devices areas) = IsBuilt (Heading volume nodes devices areas)
 IsServedLine (Call reading node client datagram) = IsBuilt (Call reading node client datagram) × ((is_message datagram ≡ false) ⊎ IsBuiltCall datagram)
 IsServedLine (Run reading limit) = Unit {0}
+IsServedLine (Crash noise) = Unit {0}
+IsServedLine (Restart reading) = Unit {0}
+
+-- whether the machines are up after a line, by whether they were before it
+abbrev pub up_after : Line → Bool → Bool
+up_after (Heading volume nodes devices areas) up = up
+up_after (Call reading node client datagram) up = up
+up_after (Run reading limit) up = up
+up_after (Crash noise) up = false
+up_after (Restart reading) up = true
+
+-- and after these lines, the newest first; they are up at first
+abbrev pub is_up : List Line → Bool
+is_up [] = true
+is_up (line ∷ before) = up_after line (is_up before)
+
+-- a datagram arrives only while the machines are up
+abbrev pub IsHeard : Bool → Line → Type 0
+IsHeard up (Heading volume nodes devices areas) = Unit {0}
+IsHeard up (Call reading node client datagram) = up ≡ true
+IsHeard up (Run reading limit) = Unit {0}
+IsHeard up (Crash noise) = Unit {0}
+IsHeard up (Restart reading) = Unit {0}

@@ -1,42 +1,52 @@
 -- How a replay stands between two lines.
-use Rattle.std.specs.Prelude.{◌≡◌, ◌≢◌, ℕ, ◌+◌, ◌<◌, ◌≤◌, ◌==◌, if◌then◌else◌, true, List, [], ◌∷◌, ◌++◌, length, map, reverse, take, Result, Ok, Err, Option, Some, None, ◌⊎◌}
+use Rattle.std.specs.Prelude.{◌≡◌, ◌≢◌, ℕ, ◌+◌, ◌<◌, ◌≤◌, ◌==◌, if◌then◌else◌, Bool, true, false, List, [], ◌∷◌, ◌++◌, length, map, reverse, take, Result, Ok, Err, Option, Some, None, ◌⊎◌}
 use Rattle.std.specs.List.{AllByRecursion}
 use Rattle.bx_base.specs.declared.names.Point.{Point}
 use Rattle.bx_base.specs.Faults.{Rose}
 use Rattle.bx_base.specs.Text.{LacksFeed, BeginsWith, lines_of}
 use Rattle.bx_engine.specs.Calls.{IsBuiltCall}
 use Rattle.bx_script.specs.declared.line.Line.{Line}
-use Rattle.bx_script.specs.declared.line.Line.TheVariants.{Heading, Call, Run}
+use Rattle.bx_script.specs.declared.line.Line.TheVariants.{Heading, Call, Run, Crash, Restart}
 use Rattle.bx_script.specs.declared.trace_line.TraceLine.{TraceLine}
-use Rattle.bx_script.specs.declared.trace_line.TraceLine.TheVariants.{Acted}
+use Rattle.bx_script.specs.declared.trace_line.TraceLine.TheVariants.{Acted, Reply}
 use Rattle.bx_script.specs.ScheduleLine.{spelling}
 use Rattle.bx_script.specs.TraceText.{InTraceRange, trace_text}
 use Rattle.bx_history.specs.Trace as traces
 use Rattle.bx_history.specs.Parts.{trace_of}
 use Rattle.bx_history.specs.Placed.{HasReadingSince}
 use Rattle.bx_history.specs.Along.{Done, parts_of, schedule_of}
-use Rattle.bx_history.specs.Account.{AwaitsNewest}
+use Rattle.bx_history.specs.Account.{AwaitsNewest, LacksPoint}
 use Rattle.bx_model.specs.Opening.{opening}
 use Rattle.bx_model.specs.declared.tree.Tree.{Tree}
-use Rattle.bx_service.specs.Rounds.{IsInDoubt}
-use Rattle.bx_replay.specs.declared.stop.Reason.TheVariants.{Grammar, NotBuilt}
+use Rattle.bx_service.specs.Rounds.{Doubt, Tells}
+use Rattle.bx_service.specs.declared.event.Event.{Event}
+use Rattle.bx_service.specs.declared.event.Event.TheVariants.{Answered, Found}
+use Rattle.bx_replay.specs.declared.stop.Reason.{Reason}
+use Rattle.bx_replay.specs.declared.stop.Reason.TheVariants.{Grammar, NotBuilt, Down}
 use Rattle.bx_replay.specs.declared.stop.Stop.{Stop}
 use Rattle.bx_replay.specs.declared.stop.Stop.TheVariants as stops
-use Rattle.bx_replay.specs.Headline.{rules, opening_of, IsInPlace, IsServedLine, Step, is_message}
+use Rattle.bx_replay.specs.Headline.{rules, opening_of, IsHeard, IsInPlace, IsServedLine, Step, is_message, is_up, up_after}
 use Rattle.bx_replay.specs.Outcome.{AreDone, IsBroken, IsCut, IsCutOff, IsFirstRefused, IsReadTo, IsRefused, IsReplayed, IsServedSchedule, closing_text}
 
 -- the calls that wait at each node, the newest first: all of them wait at node 0
 abbrev pub waits_at : List traces.Taking → ℕ → List traces.Taking
 waits_at waits node = if 0 == node then reverse waits else []
 
+-- A call in doubt has no point in the trace, and its record's moment is a reading since it was taken.
+pub record IsDoubted (done : List Done) (doubt : Doubt) : Type 0 where
+  pub of : doubt.point.call ≡ doubt.call.call
+  pub lacks : LacksPoint (trace_of (parts_of done)) doubt.call
+  pub since : HasReadingSince doubt.point.call doubt.point.moment (parts_of done)
+
 -- After these lines, the newest first, the tree, the calls that wait, the oldest first, and the count of calls are those that the trace
--- leaves; the moment of what is under way is a reading since its call was taken; and what was written since the start is that trace,
--- whose lines are in range.
-pub record Stands (tree : Tree) (waits : List traces.Taking) (under_way : Option Point) (calls : ℕ) (done : List Done) (start written : List ℕ) : Type 0 where
+-- leaves, and the machines are up or not; what is in doubt may be told later; and what was written since the start is that trace, whose
+-- lines are in range.
+pub record Stands (tree : Tree) (up : Bool) (waits : List traces.Taking) (doubt : Option Doubt) (calls : ℕ) (done : List Done) (start written : List ℕ) : Type 0 where
   pub history : List traces.Entry
   pub accounts : AwaitsNewest Step rules (opening_of (schedule_of done)) (parts_of done) history tree (waits_at waits)
   pub counted : calls ≡ traces.taken_count (trace_of (parts_of done))
-  pub since : (point : Point) → under_way ≡ Some point → HasReadingSince point.call point.moment (parts_of done)
+  pub up_is : up ≡ is_up (reverse (schedule_of done))
+  pub doubted : (of : Doubt) → doubt ≡ Some of → IsDoubted done of
   pub headed : 0 < length (schedule_of done)
   pub are_done : AreDone (schedule_of done)
   pub in_range : AllByRecursion InTraceRange (trace_of (parts_of done))
@@ -100,38 +110,55 @@ HasLineCause stops.OutOfMemory number before now = Unit {0}
 -- ---- doing a line
 
 -- a tree is held, and the replay stands for it with one line more
-pub record StandsAfter (Holds : Tree → Type 0) (waits : List traces.Taking) (under_way : Option Point) (calls : ℕ) (line : Line) (done : List Done) (start written : List ℕ) : Type 0 where
+pub record StandsAfter (Holds : Tree → Option Doubt → Type 0) (up : Bool) (waits : List traces.Taking) (calls : ℕ) (line : Line) (done : List Done) (start written : List ℕ) : Type 0 where
   pub tree : Tree
-  pub holds : Holds tree
+  pub doubt : Option Doubt
+  pub holds : Holds tree doubt
   pub lines : List TraceLine
-  pub stands : Stands tree waits under_way calls (record { line = line; lines = lines } ∷ done) start written
+  pub stands : Stands tree up waits doubt calls (record { line = line; lines = lines } ∷ done) start written
 
 -- The replay would stand with one line more, but only a part of the trace was written.
 pub record BreaksAfter (line : Line) (done : List Done) (start written : List ℕ) : Type 0 where
   pub tree : Tree
+  pub up : Bool
   pub waits : List traces.Taking
-  pub under_way : Option Point
+  pub doubt : Option Doubt
   pub calls : ℕ
   pub lines : List TraceLine
   pub output : List ℕ
   pub more : List ℕ
   pub added : written ≡ start ++ output
-  pub after : Stands tree waits under_way calls (record { line = line; lines = lines } ∷ done) start (written ++ more)
+  pub after : Stands tree up waits doubt calls (record { line = line; lines = lines } ∷ done) start (written ++ more)
 
--- a call that isn't served
+-- a line of a call, and of one that isn't served
+abbrev pub IsCallLine : Line → Type 0
+IsCallLine (Heading volume nodes devices areas) = ⊥
+IsCallLine (Call reading node client datagram) = Unit {0}
+IsCallLine (Run reading limit) = ⊥
+IsCallLine (Crash noise) = ⊥
+IsCallLine (Restart reading) = ⊥
+
 abbrev pub IsUnservedLine : Line → Type 0
 IsUnservedLine (Heading volume nodes devices areas) = ⊥
 IsUnservedLine (Call reading node client datagram) = (is_message datagram ≡ true) × (IsBuiltCall datagram → ⊥)
 IsUnservedLine (Run reading limit) = ⊥
+IsUnservedLine (Crash noise) = ⊥
+IsUnservedLine (Restart reading) = ⊥
 
--- a line that is done is served, and a line that is refused isn't
-abbrev pub Serves : Result (Unit {0}) Stop → Line → Type 0
-Serves (Ok _) line = IsServedLine line
-Serves (Err (stops.Refused number reason)) line = IsUnservedLine line
-Serves (Err stops.ReadFault) line = Unit {0}
-Serves (Err stops.WriteFault) line = Unit {0}
-Serves (Err stops.DiskFault) line = Unit {0}
-Serves (Err stops.OutOfMemory) line = Unit {0}
+-- a line is refused for this reason where the machines are up or not
+abbrev pub IsRefusedLine : Reason → Bool → Line → Type 0
+IsRefusedLine Grammar up line = ⊥
+IsRefusedLine NotBuilt up line = (up ≡ true) × IsUnservedLine line
+IsRefusedLine Down up line = (up ≡ false) × IsCallLine line
+
+-- a line that is done is served and heard, and the machines are up or not after it; and a line that is refused isn't
+abbrev pub Serves : Result (Unit {0}) Stop → Bool → Bool → Line → Type 0
+Serves (Ok _) up now line = IsServedLine line × IsHeard up line × (now ≡ up_after line up)
+Serves (Err (stops.Refused number reason)) up now line = IsRefusedLine reason up line
+Serves (Err stops.ReadFault) up now line = Unit {0}
+Serves (Err stops.WriteFault) up now line = Unit {0}
+Serves (Err stops.DiskFault) up now line = Unit {0}
+Serves (Err stops.OutOfMemory) up now line = Unit {0}
 
 -- what doing a line leaves, by what it leaves where it is done, and by what was written before and now
 abbrev pub DoesLine : Result (Unit {0}) Stop → Type 0 → Line → List Done → List ℕ → List ℕ → List ℕ → Type 0
@@ -144,13 +171,18 @@ DoesLine (Err stops.OutOfMemory) After line done start old new = (new ≡ old) �
 
 -- why doing a line stops short
 abbrev pub HasStepCause : Stop → ℕ → ℕ → ℕ → Type 0
-HasStepCause (stops.Refused line reason) number before now = (line ≡ number) × (reason ≡ NotBuilt)
+HasStepCause (stops.Refused line reason) number before now = line ≡ number
 HasStepCause stops.ReadFault number before now = ⊥
 HasStepCause stops.WriteFault number before now = Rose before now
 HasStepCause stops.DiskFault number before now = ⊥
 HasStepCause stops.OutOfMemory number before now = Unit {0}
 
 -- ---- printing
+
+-- the lines of the trace for what happened in a round
+abbrev pub told_at : Event → List TraceLine
+told_at (Answered acted) = Acted acted.point ∷ Reply acted.point.call acted.reply ∷ []
+told_at (Found point) = Acted point ∷ []
 
 -- all of a text is behind what was there before; or a part of it, from its front; or none
 abbrev pub Prints : Result (Unit {0}) Stop → List ℕ → List ℕ → List ℕ → Type 0
@@ -172,18 +204,18 @@ HasPrintCause stops.OutOfMemory before now = Unit {0}
 -- ---- the heading
 
 -- The text begins with the heading of a volume, of which the opening tree is held; no call was taken.
-pub record IsBegun (Holds : Tree → Type 0) (calls : ℕ) (text rest : List ℕ) : Type 0 where
+pub record IsBegun (Holds : Tree → Option Doubt → Type 0) (calls : ℕ) (text rest : List ℕ) : Type 0 where
   pub volume : ℕ
   pub nodes : ℕ
   pub devices : ℕ
   pub areas : ℕ
   pub in_place : IsInPlace true (Heading volume nodes devices areas)
   pub begins : BeginsWith text (spelling (Heading volume nodes devices areas)) rest
-  pub holds : Holds (opening volume)
+  pub holds : Holds (opening volume) None
   pub none : calls ≡ 0
 
 -- what a read of the heading gives
-abbrev pub Begins : {A : Type 0} → (A → Tree → Type 0) → (A → ℕ) → Result A Stop → List ℕ → List ℕ → List ℕ → Type 0
+abbrev pub Begins : {A : Type 0} → (A → Tree → Option Doubt → Type 0) → (A → ℕ) → Result A Stop → List ℕ → List ℕ → List ℕ → Type 0
 Begins Holds calls (Ok replay) text rest left = IsBegun (Holds replay) (calls replay) text rest
 Begins Holds calls (Err (stops.Refused line reason)) text rest left = (text ≡ []) ⊎ GivesLine (Err (stops.Refused line reason)) 1 text rest left
 Begins Holds calls (Err stops.ReadFault) text rest left = GivesLine (Err stops.ReadFault) 1 text rest left
@@ -201,33 +233,28 @@ HasBeginCause stops.OutOfMemory source_before source_now bench_before bench_now 
 
 -- ---- the end
 
--- What is told at the end: the tree that is held, with no call in doubt; or the one to which the call leads that is under way, which is
--- in doubt.
-abbrev pub IsTold : List traces.Taking → Option Point → Tree → Tree → List Point → Type 0
-IsTold waits under_way tree next doubt = ((next ≡ tree) × (doubt ≡ [])) ⊎ IsInDoubt waits under_way tree next doubt
-
 -- The end was written, or a part of it, and the points that it tells are in range.
-pub record IsEnded (waits : List traces.Taking) (under_way : Option Point) (tree : Tree) (Stands : Tree → Type 0) (old new : List ℕ) : Type 0 where
+pub record IsEnded (tree : Tree) (of : Option Doubt) (Stands : Tree → Type 0) (old new : List ℕ) : Type 0 where
   pub next : Tree
   pub doubt : List Point
-  pub told : IsTold waits under_way tree next doubt
+  pub told : Tells tree of next doubt
   pub in_range : AllByRecursion InTraceRange (map Acted doubt)
   pub written : new ≡ old ++ closing_text (map Acted doubt) next
   pub stands : Stands next
 
-pub record IsEndedShort (waits : List traces.Taking) (under_way : Option Point) (tree : Tree) (old new : List ℕ) : Type 0 where
+pub record IsEndedShort (tree : Tree) (of : Option Doubt) (old new : List ℕ) : Type 0 where
   pub next : Tree
   pub doubt : List Point
-  pub told : IsTold waits under_way tree next doubt
+  pub told : Tells tree of next doubt
   pub in_range : AllByRecursion InTraceRange (map Acted doubt)
   pub wrote : List ℕ
   pub more : List ℕ
   pub written : new ≡ old ++ wrote
   pub part : wrote ++ more ≡ closing_text (map Acted doubt) next
 
-abbrev pub Ends : Result (Unit {0}) Stop → List traces.Taking → Option Point → Tree → (Tree → Type 0) → List ℕ → List ℕ → Type 0
-Ends (Ok _) waits under_way tree Stands old new = IsEnded waits under_way tree Stands old new
-Ends (Err stop) waits under_way tree Stands old new = IsEndedShort waits under_way tree old new
+abbrev pub Ends : Result (Unit {0}) Stop → Tree → Option Doubt → (Tree → Type 0) → List ℕ → List ℕ → Type 0
+Ends (Ok _) tree doubt Stands old new = IsEnded tree doubt Stands old new
+Ends (Err stop) tree doubt Stands old new = IsEndedShort tree doubt old new
 
 -- A disk failed; or what was held isn't found, which can't be where the bench tells what it holds.
 abbrev pub IsDiskCause : Type 0 → ℕ → ℕ → Type 0
@@ -251,20 +278,22 @@ HasFinishCause stops.OutOfMemory before now Held bench_before bench_now = Unit {
 
 -- ---- between two lines
 
--- The text was read up to the rest: so many lines, each of them in its place and served.
-pub record IsRead (text rest : List ℕ) (number : ℕ) : Type 0 where
+-- The text was read up to the rest: so many lines, each of which might be done; then the machines are up or not.
+pub record IsRead (up : Bool) (text rest : List ℕ) (number : ℕ) : Type 0 where
   pub done : List Line
   pub read : IsReadTo text done rest
   pub are_done : AreDone done
   pub headed : 0 < length done
+  pub up_is : up ≡ is_up (reverse done)
   pub count : number ≡ length done
 
 -- A tree is held, and the replay stands for it after these lines.
-pub record Going (Holds : Tree → Type 0) (waits : List traces.Taking) (under_way : Option Point) (calls : ℕ) (text rest : List ℕ) (number : ℕ) (start written : List ℕ) : Type 0 where
+pub record Going (Holds : Tree → Option Doubt → Type 0) (up : Bool) (waits : List traces.Taking) (calls : ℕ) (text rest : List ℕ) (number : ℕ) (start written : List ℕ) : Type 0 where
   pub tree : Tree
-  pub holds : Holds tree
+  pub doubt : Option Doubt
+  pub holds : Holds tree doubt
   pub done : List Done
-  pub stands : Stands tree waits under_way calls done start written
+  pub stands : Stands tree up waits doubt calls done start written
   pub read : IsReadTo text (schedule_of done) rest
   pub count : number ≡ length done
 

@@ -1,12 +1,12 @@
 //! The disks under a replay.
 
-ghost use Rattle.std.specs.Prelude.{◌≡◌, ◌≤◌, ℕ, false, IfErr, IfOk, OnOk};
+ghost use Rattle.std.specs.Prelude.{◌≡◌, ◌≤◌, IfErr, IfOk, OnOk};
 ghost use Rattle.bx_audit.specs.Audited.{IsListed, StandFor};
-ghost use Rattle.bx_disk.specs.Disks.{IsImage};
 ghost use Rattle.bx_global.specs.Opening.{opening_state};
 ghost use Rattle.bx_model.specs.declared.tree.Tree.{Tree};
 ghost use Rattle.bx_model.specs.Listing.{listing};
 ghost use Rattle.bx_replay.specs.Bench.{HoldsAny};
+ghost use Rattle.bx_service.specs.Rounds.{IsCrashed};
 ghost use Rattle.bx_replay.specs.Replay.{HasBenchCause, UnlessDisk};
 
 use crate::stop::Stop;
@@ -15,24 +15,22 @@ use bx_base::OutOfMemory;
 use bx_disk::{CrashRack, Noise, Rack};
 use std::alloc::Global;
 
-/// Drops what is unsure on the bench: then nothing is.
-pub(crate) fn drop_unsure<B: CrashRack>(bench: &mut B) -> Result<(), OutOfMemory>
-    ensures left { B.tells bench.old → OnOk result (IsImage (B.state bench.old) (B.state bench.new).reads) }
-    ensures dropped { (d s : ℕ) → B.tells bench.old → OnOk result ((B.state bench.new).unsure d s ≡ false) }
+/// Crashes all disks of the bench: then nothing on them is unsure.
+pub(crate) fn crash_all<B: CrashRack>(bench: &mut B, noise: Noise) -> Result<(), OutOfMemory>
+    ensures crashed { B.tells bench.old → OnOk result (IsCrashed (B.state bench.old) (B.state bench.new)) }
     ensures no_fault { B.faults bench.new ≡ B.faults bench.old }
     ensures sizes { (B.state bench.new).sizes ≡ (B.state bench.old).sizes }
     ensures keeps_telling { B.tells bench.old → B.tells bench.new }
 {
     for disk in 0..bench.disks() {
-        bench.crash(disk, Noise::Drop)?;
+        bench.crash(disk, noise)?;
     }
     Ok(())
 }
 
 /// Drops what is unsure on the bench, and lists the file tree that it then holds.
 pub(crate) fn read_back<B: CrashRack>(alloc: Global, bench: &mut B) -> Result<Listing, Stop>
-    ensures left { B.tells bench.old → OnOk result (IsImage (B.state bench.old) (B.state bench.new).reads) }
-    ensures dropped { (d s : ℕ) → B.tells bench.old → OnOk result ((B.state bench.new).unsure d s ≡ false) }
+    ensures crashed { B.tells bench.old → OnOk result (IsCrashed (B.state bench.old) (B.state bench.new)) }
     ensures listed { B.tells bench.old → IfOk result (IsListed (B.state bench.new) (opening_state 1 1)) }
     ensures one { (tree : Tree) → B.tells bench.old → IfOk result (λ listed. StandFor (B.state bench.new) (opening_state 1 1) tree → listed.text ≡ listing tree) }
     ensures cause { IfErr result (λ stop. HasBenchCause stop (B.tells bench.old × HoldsAny (B.state bench.old)) (B.faults bench.old) (B.faults bench.new)) }
@@ -41,7 +39,7 @@ pub(crate) fn read_back<B: CrashRack>(alloc: Global, bench: &mut B) -> Result<Li
     ensures sizes { (B.state bench.new).sizes ≡ (B.state bench.old).sizes }
     ensures keeps_telling { B.tells bench.old → B.tells bench.new }
 {
-    drop_unsure(bench)?;
+    crash_all(bench, Noise::Drop)?;
     let state = bx_global::opening(alloc, 1, 1)?;
     let listed = audit(alloc, bench, &state)?;
     Ok(listed)

@@ -1,12 +1,12 @@
 //! How a replay begins, and how it ends.
 
-ghost use Rattle.std.specs.Prelude.{◌≡◌, ◌≤◌, ℕ, false, [], ◌++◌, IfOk, IfErr, filter, map, OnOk};
+ghost use Rattle.std.specs.Prelude.{◌≡◌, ◌≤◌, ℕ, Option, true, false, [], ◌++◌, IfOk, IfErr, filter, map, OnOk};
 ghost use Rattle.bx_base.specs.declared.names.Point.{Point};
 ghost use Rattle.bx_model.specs.declared.tree.Tree.{Tree};
 ghost use Rattle.bx_replay.specs.Bench.{IsHeldBy};
 ghost use Rattle.bx_replay.specs.Replay.{Begins, Ends, HasBeginCause, HasFinishCause, UnlessDisk, UnlessRead, UnlessWrite};
 ghost use Rattle.bx_script.specs.declared.trace_line.TraceLine.TheVariants.{Acted};
-ghost use Rattle.bx_service.specs.Rounds.{waits_for};
+ghost use Rattle.bx_service.specs.Rounds.{Doubt};
 
 use crate::bench::read_back;
 use crate::print::print_end;
@@ -29,11 +29,12 @@ impl<M: Service> Replay<M> {
         bench: &mut B,
     ) -> Result<Replay<M>, Stop>
         requires { reader.old.most ≡ 18600 }
-        ensures begins { S.tells input.old → B.tells bench.old → Begins (λ replay tree. M.holds replay.service (B.state bench.new) tree) (λ replay. replay.calls) result
+        ensures begins { S.tells input.old → B.tells bench.old → Begins (λ replay. M.holds replay.service (B.state bench.new)) (λ replay. replay.calls) result
             (reader.old.ahead ++ S.left input.old) (reader.new.ahead ++ S.left input.new) (S.left input.new) }
-        ensures reads { S.tells input.old → Begins (λ replay tree. Unit {0}) (λ replay. replay.calls) result
+        ensures reads { S.tells input.old → Begins (λ replay tree doubt. Unit {0}) (λ replay. replay.calls) result
             (reader.old.ahead ++ S.left input.old) (reader.new.ahead ++ S.left input.new) (S.left input.new) }
-        ensures holds { B.tells bench.old → IfOk result (λ replay. (tree : Tree) × M.holds replay.service (B.state bench.new) tree) }
+        ensures holds { B.tells bench.old → IfOk result (λ replay. (tree : Tree) × (doubt : Option Doubt) × M.holds replay.service (B.state bench.new) tree doubt) }
+        ensures up { IfOk result (λ replay. M.up replay.service ≡ true) }
         ensures none_wait { IfOk result (λ replay. M.waits replay.service ≡ []) }
         ensures latest { IfOk result (λ replay. M.latest replay.service ≡ replay.calls) }
         ensures ready { IfOk result (λ replay. M.ready replay.service (B.state bench.new).sizes) }
@@ -60,7 +61,7 @@ impl<M: Service> Replay<M> {
         }
     }
 
-    /// Drops what is unsure on the bench, and writes what comes after the trace: the word `end`, the points of calls that wait and whose
+    /// Drops what is unsure on the bench, and writes what comes after the trace: the word `end`, the points of calls that lack one and whose
     /// records are open, and the listing of the tree, read back from the bench.
     pub fn finish<K: Sink, B: CrashRack>(
         &mut self,
@@ -69,13 +70,13 @@ impl<M: Service> Replay<M> {
         out: &mut K,
     ) -> Result<(), Stop>
         requires ready { M.ready self.old.service (B.state bench.old).sizes }
-        ensures ends { (tree : Tree) → K.tells out.old → B.tells bench.old → M.holds self.old.service (B.state bench.old) tree
-            → Ends result (M.waits self.old.service) (M.under_way self.old.service) tree (IsHeldBy (B.state bench.new)) (K.written out.old) (K.written out.new) }
+        ensures ends { (tree : Tree) (doubt : Option Doubt) → K.tells out.old → B.tells bench.old → M.holds self.old.service (B.state bench.old) tree doubt
+            → Ends result tree doubt (IsHeldBy (B.state bench.new)) (K.written out.old) (K.written out.new) }
         ensures dropped { (d s : ℕ) → B.tells bench.old → OnOk result ((B.state bench.new).unsure d s ≡ false) }
         ensures bench_first { UnlessDisk result (B.faults bench.new ≡ B.faults bench.old) }
         ensures bench_later { B.faults bench.old ≤ B.faults bench.new }
         ensures bench_tells { B.tells bench.old → B.tells bench.new }
-        ensures cause { IfErr result (λ stop. HasFinishCause stop (K.faults out.old) (K.faults out.new) (B.tells bench.old × ((tree : Tree) × M.holds self.old.service (B.state bench.old) tree)) (B.faults bench.old) (B.faults bench.new)) }
+        ensures cause { IfErr result (λ stop. HasFinishCause stop (K.faults out.old) (K.faults out.new) (B.tells bench.old × ((tree : Tree) × (doubt : Option Doubt) × M.holds self.old.service (B.state bench.old) tree doubt)) (B.faults bench.old) (B.faults bench.new)) }
         ensures first { UnlessWrite result (K.faults out.new ≡ K.faults out.old) }
         ensures later { K.faults out.old ≤ K.faults out.new }
         ensures keeps_telling { K.tells out.old → K.tells out.new }
@@ -88,12 +89,12 @@ impl<M: Service> Replay<M> {
         Ok(())
     }
 
-    /// Puts the points among these of calls that wait behind lines.
+    /// Puts the points among these of calls that lack one behind lines.
     fn put_doubt(&self, points: &[Point], lines: &mut Vec<TraceLine>) -> Result<(), OutOfMemory>
-        ensures { OnOk result (lines.new.items ≡ lines.old.items ++ map Acted (filter (λ point. waits_for (M.waits self.now.service) point.call) points.now)) }
+        ensures { OnOk result (lines.new.items ≡ lines.old.items ++ map Acted (filter (λ point. M.lacks self.now.service point.call) points.now)) }
     {
         if let [point, behind @ ..] = points {
-            if self.service.waits_for(point.call) {
+            if self.service.lacks_point(point.call) {
                 lines.push(TraceLine::Acted(*point))?;
             }
             self.put_doubt(behind, lines)?;

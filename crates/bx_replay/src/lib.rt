@@ -2,9 +2,11 @@
 #![tactic(auto)]
 
 mod bench;
+mod crashes;
 mod ends;
 mod laws;
 mod print;
+mod rounds;
 mod run;
 mod schedule;
 mod state;

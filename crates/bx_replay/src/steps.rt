@@ -1,19 +1,20 @@
 //! What the lines of a schedule do.
 
-ghost use Rattle.std.specs.Prelude.{◌≡◌, ◌≤◌, ◌<◌, ◌+◌, ◌^◌, List, ℕ, length, IfErr, OnOk, true, false};
+ghost use Rattle.std.specs.Prelude.{◌≡◌, ◌≤◌, ◌<◌, ◌+◌, ◌^◌, List, ℕ, length, IfErr, OnOk, Option, true, false};
 ghost use Rattle.bx_disk.specs.Disks.{Disks};
 ghost use Rattle.bx_engine.specs.Calls.{IsBuiltCall};
 ghost use Rattle.bx_history.specs.Along.{Done};
 ghost use Rattle.bx_model.specs.declared.tree.Tree.{Tree};
-ghost use Rattle.bx_script.specs.declared.line.Line.TheVariants.{Call as CallLine, Run as RunLine};
+ghost use Rattle.bx_script.specs.declared.line.Line.TheVariants.{Call as CallLine};
 ghost use Rattle.bx_replay.specs.Headline.{IsInPlace, is_message as is_call};
 ghost use Rattle.bx_replay.specs.Replay.{DoesLine, HasPrintCause, HasStepCause, Serves, Stands, StandsAfter, UnlessWrite};
+ghost use Rattle.bx_service.specs.Rounds.{Doubt};
 
 use crate::print::print_lines;
 use crate::state::Replay;
 use crate::stop::{Reason, Stop};
 use bx_base::Raw;
-use bx_disk::Rack;
+use bx_disk::{CrashRack, Rack};
 use bx_outside::Sink;
 use bx_script::{Line, TraceLine};
 use bx_service::Service;
@@ -26,8 +27,8 @@ const LONGEST_DATAGRAM: usize = 9216;
 const CALL: [u8; 4] = [0; 4];
 
 impl<M: Service> Replay<M> {
-    /// Does a line behind the heading: a call is taken, and a datagram that is none is passed over; a run does rounds.
-    pub fn step<K: Sink, B: Rack>(
+    /// Does a line behind the heading: a call is taken, and a datagram that is none is passed over; a run does rounds; all crash, or come back.
+    pub fn step<K: Sink, B: CrashRack>(
         &mut self,
         alloc: Global,
         number: u64,
@@ -40,13 +41,13 @@ impl<M: Service> Replay<M> {
         requires latest { M.latest self.old.service ≡ self.old.calls }
         requires ready { M.ready self.old.service (B.state bench.old).sizes }
 
-        ensures does { (tree : Tree) (done : List Done) (start : List ℕ) → K.tells out.old → B.tells bench.old → M.holds self.old.service (B.state bench.old) tree → length done < 4294967295
-            → Stands tree (M.waits self.old.service) (M.under_way self.old.service) self.old.calls done start (K.written out.old)
-            → DoesLine result (StandsAfter (M.holds self.new.service (B.state bench.new)) (M.waits self.new.service) (M.under_way self.new.service) self.new.calls line done start (K.written out.new)) line done start (K.written out.old) (K.written out.new) }
-        ensures holds { (tree : Tree) → B.tells bench.old → M.holds self.old.service (B.state bench.old) tree → OnOk result ((next : Tree) × M.holds self.new.service (B.state bench.new) next) }
+        ensures does { (tree : Tree) (doubt : Option Doubt) (done : List Done) (start : List ℕ) → K.tells out.old → B.tells bench.old → M.holds self.old.service (B.state bench.old) tree doubt → length done < 4294967295
+            → Stands tree (M.up self.old.service) (M.waits self.old.service) doubt self.old.calls done start (K.written out.old)
+            → DoesLine result (StandsAfter (M.holds self.new.service (B.state bench.new)) (M.up self.new.service) (M.waits self.new.service) self.new.calls line done start (K.written out.new)) line done start (K.written out.old) (K.written out.new) }
+        ensures holds { (tree : Tree) (doubt : Option Doubt) → B.tells bench.old → M.holds self.old.service (B.state bench.old) tree doubt → OnOk result ((next : Tree) × (now : Option Doubt) × M.holds self.new.service (B.state bench.new) next now) }
         ensures latest { OnOk result (M.latest self.new.service ≡ self.new.calls) }
         ensures ready { OnOk result (M.ready self.new.service (B.state bench.new).sizes) }
-        ensures serves { Serves result line }
+        ensures serves { Serves result (M.up self.old.service) (M.up self.new.service) line }
         ensures cause { IfErr result (λ stop. HasStepCause stop number (K.faults out.old) (K.faults out.new)) }
         ensures first { UnlessWrite result (K.faults out.new ≡ K.faults out.old) }
         ensures calls { self.new.calls ≤ self.old.calls + 1 }
@@ -61,18 +62,51 @@ impl<M: Service> Replay<M> {
                 node,
                 client,
                 datagram,
-            } => {
-                if !is_message(datagram.bytes()) {
-                    return Ok(());
-                }
-                if !self.service.takes(alloc, datagram.bytes())? {
-                    return Err(Stop::Refused(number, Reason::NotBuilt));
-                }
-                self.take(alloc, node, client, datagram, out)
-            }
+            } => self.call(alloc, number, node, client, datagram, out),
             Line::Run { reading, limit } => self.run(reading, limit, bench, out),
+            Line::Crash { noise } => Ok(self.crash(noise, bench)?),
+            Line::Restart { reading: _ } => self.restart(bench, out),
             Line::Heading { .. } => Ok(()),
         }
+    }
+
+    /// A datagram arrives: a call is taken, and what is none is passed over.
+    fn call<K: Sink>(
+        &mut self,
+        alloc: Global,
+        number: u64,
+        node: u32,
+        client: u32,
+        datagram: Raw,
+        out: &mut K,
+    ) -> Result<(), Stop>
+        requires node { node ≡ 0 }
+        requires few { self.old.calls < 2 ^ 32 }
+        requires latest { M.latest self.old.service ≡ self.old.calls }
+        ensures latest { OnOk result (M.latest self.new.service ≡ self.new.calls) }
+        ensures ready { (sizes : List ℕ) → M.ready self.old.service sizes → OnOk result (M.ready self.new.service sizes) }
+        ensures does { (reading : ℕ) (x : Disks) (tree : Tree) (doubt : Option Doubt) (done : List Done) (start : List ℕ) → K.tells out.old → M.ready self.old.service x.sizes → M.holds self.old.service x tree doubt → length done < 4294967295
+            → IsInPlace false (CallLine reading node client datagram)
+            → Stands tree (M.up self.old.service) (M.waits self.old.service) doubt self.old.calls done start (K.written out.old)
+            → DoesLine result (StandsAfter (M.holds self.new.service x) (M.up self.new.service) (M.waits self.new.service) self.new.calls (CallLine reading node client datagram) done start (K.written out.new)) (CallLine reading node client datagram) done start (K.written out.old) (K.written out.new) }
+        ensures holds { (x : Disks) (tree : Tree) (doubt : Option Doubt) → M.ready self.old.service x.sizes → M.holds self.old.service x tree doubt → OnOk result (M.holds self.new.service x tree doubt) }
+        ensures serves { (reading : ℕ) → IsInPlace false (CallLine reading node client datagram) → Serves result (M.up self.old.service) (M.up self.new.service) (CallLine reading node client datagram) }
+        ensures cause { IfErr result (λ stop. HasStepCause stop number (K.faults out.old) (K.faults out.new)) }
+        ensures first { UnlessWrite result (K.faults out.new ≡ K.faults out.old) }
+        ensures calls { self.new.calls ≤ self.old.calls + 1 }
+        ensures later { K.faults out.old ≤ K.faults out.new }
+        ensures keeps_telling { K.tells out.old → K.tells out.new }
+    {
+        if !self.service.is_up() {
+            return Err(Stop::Refused(number, Reason::Down));
+        }
+        if !is_message(datagram.bytes()) {
+            return Ok(());
+        }
+        if !M::takes(alloc, datagram.bytes())? {
+            return Err(Stop::Refused(number, Reason::NotBuilt));
+        }
+        self.take(alloc, node, client, datagram, out)
     }
 
     /// Takes a call.
@@ -84,6 +118,7 @@ impl<M: Service> Replay<M> {
         datagram: Raw,
         out: &mut K,
     ) -> Result<(), Stop>
+        requires up { M.up self.old.service ≡ true }
         requires built { IsBuiltCall datagram }
         requires message { is_call datagram ≡ true }
         requires node { node ≡ 0 }
@@ -91,11 +126,12 @@ impl<M: Service> Replay<M> {
         requires latest { M.latest self.old.service ≡ self.old.calls }
         ensures latest { OnOk result (M.latest self.new.service ≡ self.new.calls) }
         ensures ready { (sizes : List ℕ) → M.ready self.old.service sizes → OnOk result (M.ready self.new.service sizes) }
-        ensures takes { (reading : ℕ) (x : Disks) (tree : Tree) (done : List Done) (start : List ℕ) → K.tells out.old → M.ready self.old.service x.sizes → M.holds self.old.service x tree → length done < 4294967295
+        ensures up { OnOk result (M.up self.new.service ≡ true) }
+        ensures takes { (reading : ℕ) (x : Disks) (tree : Tree) (doubt : Option Doubt) (done : List Done) (start : List ℕ) → K.tells out.old → M.ready self.old.service x.sizes → M.holds self.old.service x tree doubt → length done < 4294967295
             → IsInPlace false (CallLine reading node client datagram)
-            → Stands tree (M.waits self.old.service) (M.under_way self.old.service) self.old.calls done start (K.written out.old)
-            → DoesLine result (StandsAfter (M.holds self.new.service x) (M.waits self.new.service) (M.under_way self.new.service) self.new.calls (CallLine reading node client datagram) done start (K.written out.new)) (CallLine reading node client datagram) done start (K.written out.old) (K.written out.new) }
-        ensures holds { (x : Disks) (tree : Tree) → M.holds self.old.service x tree → OnOk result (M.holds self.new.service x tree) }
+            → Stands tree (M.up self.old.service) (M.waits self.old.service) doubt self.old.calls done start (K.written out.old)
+            → DoesLine result (StandsAfter (M.holds self.new.service x) (M.up self.new.service) (M.waits self.new.service) self.new.calls (CallLine reading node client datagram) done start (K.written out.new)) (CallLine reading node client datagram) done start (K.written out.old) (K.written out.new) }
+        ensures holds { (x : Disks) (tree : Tree) (doubt : Option Doubt) → M.ready self.old.service x.sizes → M.holds self.old.service x tree doubt → OnOk result (M.holds self.new.service x tree doubt) }
         ensures cause { IfErr result (λ stop. HasPrintCause stop (K.faults out.old) (K.faults out.new)) }
         ensures first { UnlessWrite result (K.faults out.new ≡ K.faults out.old) }
         ensures calls { self.new.calls ≤ self.old.calls + 1 }
@@ -113,47 +149,6 @@ impl<M: Service> Replay<M> {
         print_lines(&mut self.text, &lines, out)?;
         self.service.arrive(call, client, bytes)?;
         self.calls = call;
-        Ok(())
-    }
-
-    /// Does rounds at a reading, until nothing is left to do, but at most so many.
-    fn run<K: Sink, B: Rack>(
-        &mut self,
-        reading: u64,
-        limit: u32,
-        bench: &mut B,
-        out: &mut K,
-    ) -> Result<(), Stop>
-        requires reading { reading ≤ 4294967295999 }
-        requires ready { M.ready self.old.service (B.state bench.old).sizes }
-        ensures latest { OnOk result (M.latest self.new.service ≡ M.latest self.old.service) }
-        ensures ready { OnOk result (M.ready self.new.service (B.state bench.new).sizes) }
-        ensures runs { (done : List Done) (start : List ℕ) → K.tells out.old → B.tells bench.old
-            → StandsAfter (M.holds self.old.service (B.state bench.old)) (M.waits self.old.service) (M.under_way self.old.service) self.old.calls (RunLine reading limit) done start (K.written out.old)
-            → DoesLine result (StandsAfter (M.holds self.new.service (B.state bench.new)) (M.waits self.new.service) (M.under_way self.new.service) self.new.calls (RunLine reading limit) done start (K.written out.new)) (RunLine reading limit) done start (K.written out.old) (K.written out.new) }
-        ensures holds { (tree : Tree) → B.tells bench.old → M.holds self.old.service (B.state bench.old) tree → OnOk result ((next : Tree) × M.holds self.new.service (B.state bench.new) next) }
-        ensures cause { IfErr result (λ stop. HasPrintCause stop (K.faults out.old) (K.faults out.new)) }
-        ensures first { UnlessWrite result (K.faults out.new ≡ K.faults out.old) }
-        ensures calls { self.new.calls ≡ self.old.calls }
-        ensures later { K.faults out.old ≤ K.faults out.new }
-        ensures keeps_telling { K.tells out.old → K.tells out.new }
-        ensures bench_later { B.faults bench.old ≤ B.faults bench.new }
-        ensures bench_tells { B.tells bench.old → B.tells bench.new }
-    {
-        for _ in 0..limit {
-            if self.service.is_quiet() {
-                return Ok(());
-            }
-            if let Some(acted) = self.service.round(bench, reading)? {
-                let call = acted.point.call;
-                let reply = acted.reply;
-                let lines = [
-                    TraceLine::Acted(acted.point),
-                    TraceLine::Reply { call, reply },
-                ];
-                print_lines(&mut self.text, &lines, out)?;
-            }
-        }
         Ok(())
     }
 }

@@ -15,6 +15,9 @@ pub enum Reason {
     /// It is a call that isn't served yet.
     #[error("not built")]
     NotBuilt,
+    /// It is a call, and its node is down.
+    #[error("down")]
+    Down,
 }
 
 /// Why a replay stops short of its end.

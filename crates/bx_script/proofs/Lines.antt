@@ -1,18 +1,21 @@
 -- What is read is in range and spelled so, and what is in range and spelled so is read.
-use Rattle.std.proofs.Common.{◌≡◌, ℕ, ◌-◌, ◌^◌, ◌<◌, ◌≤◌, ◌⊎◌, inl, inr, Bool, true, false, cond, leb, eqb, ◌&&◌, List, Option, Some, None, Result, Ok, Err, refl, sym, ap, subst, ◌∙◌, arith}
+use Rattle.std.proofs.Common.{◌≡◌, ℕ, ◌+◌, ◌-◌, ◌^◌, ◌<◌, ◌≤◌, ◌⊎◌, inl, inr, Bool, true, false, cond, leb, eqb, ◌&&◌, List, ◌++◌, take, drop, Option, Some, None, Result, Ok, Err, refl, sym, ap, subst, ◌∙◌, arith}
 use Rattle.std.specs.Prelude.{IfOk, IfSome, codes}
 use Rattle.std.specs.Fmt.{decimal}
 use Rattle.std.specs.Str.{bytes_eq}
 use Rattle.std.proofs.lemmas.Bool.{and_parts, eqb-true, leb-true, le-leb}
+use Rattle.std.proofs.lemmas.List.{take-append-drop}
 use Rattle.std.proofs.lemmas.Option.{cond_some, option_and_then_some}
 use Rattle.std.proofs.lemmas.Slice.Eq.{bytes_eq-Decides}
 use Rattle.hex.specs.Hex.{encode_lower}
 use Rattle.bx_base.specs.declared.memory.OutOfMemory.{OutOfMemory}
 use Rattle.bx_script.specs.declared.line.Line.{Line}
-use Rattle.bx_script.specs.declared.line.Line.TheVariants.{Heading, Call, Run}
-use Rattle.bx_script.specs.ScheduleLine.{InRange, IsHeading, IsCall, IsRun, spelling}
-use Rattle.bx_script.specs.Reading.{◌>>=◌, cut, number_of, number_at, datagram_of, heading_of, call_fields_of, call_of, run_of, line_of}
-use Rattle.bx_script.proofs.Fields.{bind_some, some_is, Lacks, lacks_from_test, then_space, cut_takes, cut_again}
+use Rattle.bx_disk.specs.declared.noise.Noise.{Noise}
+use Rattle.bx_disk.specs.declared.noise.Noise.TheVariants.{Keep, Drop, Seed}
+use Rattle.bx_script.specs.declared.line.Line.TheVariants.{Heading, Call, Run, Crash, Restart}
+use Rattle.bx_script.specs.ScheduleLine.{InRange, IsHeading, IsCall, IsNoise, IsRun, noise_text, spelling}
+use Rattle.bx_script.specs.Reading.{◌>>=◌, cut, number_of, number_at, datagram_of, heading_of, call_fields_of, call_of, crash_of, machines_line_of, noise_of, restart_of, run_of, seed_of, line_of}
+use Rattle.bx_script.proofs.Fields.{bind_some, some, some_is, Lacks, lacks_from_test, then_space, cut_takes, cut_again}
 use Rattle.std.proofs.lemmas.Fmt.{decimal_digit}
 use Rattle.bx_script.proofs.Numbers.{IsNumber, number_takes, number_again, Lacks-decimal}
 use Rattle.bx_script.proofs.HexText.{IsDatagram, datagram_takes, datagram_again}
@@ -71,6 +74,82 @@ unfolding run_of
 run_again reading limit fits =
     let low : leb 1 limit ≡ true = le-leb _ _ fits.some in
     rw (number_at_again 4294967295999 reading (decimal limit) (omega arith) fits.reading_fits, number_again 1000000 limit (omega arith) fits.most, low) refl
+
+-- ---- `crash`
+
+-- a field that spells what a crash makes of unsure sectors
+pub record IsNoiseText (field : List ℕ) (noise : Noise) : Type 0 where
+  pub spelled : field ≡ noise_text noise
+  pub fits : IsNoise noise
+
+text_is : (a b : List ℕ) → bytes_eq a b ≡ true → a ≡ b
+text_is a b e = (bytes_eq-Decides a b).0 e
+
+seed_takes : (field : List ℕ) (noise : Noise) → seed_of field ≡ Some noise → IsNoiseText field noise
+unfolding seed_of
+seed_takes field noise e =
+    option_and_then_some _ (number_of (2 ^ 64 - 1) (drop 5 field)) noise e (λ seed e1 f1.
+    let d = cond_some (bytes_eq (take 5 field) (codes "seed:")) (Seed seed) noise f1 in
+    let number = number_takes (2 ^ 64 - 1) (drop 5 field) seed (omega arith) e1 in
+    let spelled : field ≡ codes "seed:" ++ decimal seed =
+    sym (take-append-drop 5 field) ∙ ap (λ (front : List ℕ). front ++ drop 5 field) (text_is (take 5 field) (codes "seed:") d.0) ∙ ap (λ (behind : List ℕ). codes "seed:" ++ behind) number.spelled in
+    subst (IsNoiseText field) d.1 (record { spelled = spelled; fits = omega (arith, number.within) }))
+
+seed_again : (seed : ℕ) → seed < 2 ^ 64 → seed_of (codes "seed:" ++ decimal seed) ≡ Some (Seed seed)
+unfolding seed_of
+seed_again seed fits =
+    rw (number_again (2 ^ 64 - 1) seed (omega arith) (omega (arith, fits))) refl
+
+noise_takes : (field : List ℕ) (noise : Noise) → noise_of field ≡ Some noise → IsNoiseText field noise
+unfolding noise_of
+noise_takes field noise e =
+    elim (chosen (bytes_eq field (codes "keep")) (Some Keep) _ (Some noise) e) [
+      | inl h ↦ subst (IsNoiseText field) (noise_is Keep noise h.1) (record { spelled = text_is field (codes "keep") h.0; fits = tt })
+      | inr h ↦
+          elim (chosen (bytes_eq field (codes "drop")) (Some Drop) _ (Some noise) h.1) [
+            | inl d ↦ subst (IsNoiseText field) (noise_is Drop noise d.1) (record { spelled = text_is field (codes "drop") d.0; fits = tt })
+            | inr d ↦ seed_takes field noise d.1
+          ]
+    ]
+  where
+    noise_is : (a b : Noise) → some a ≡ some b → a ≡ b
+    noise_is a b same = some_is a b same
+
+noise_again : (noise : Noise) → IsNoise noise → noise_of (noise_text noise) ≡ Some noise
+unfolding noise_of
+noise_again Keep fits = refl
+noise_again Drop fits = refl
+noise_again (Seed seed) fits = seed_again seed fits
+
+crash_takes : (text : List ℕ) (line : Line) → crash_of text ≡ Some line → Reads (codes "crash") text line
+unfolding crash_of
+crash_takes text line e =
+    option_and_then_some _ (cut text) line e (λ who e1 f1.
+    option_and_then_some _ (noise_of who.1) line f1 (λ noise e2 f2.
+    let d = cond_some (bytes_eq who.0 (codes "all")) (Crash noise) line f2 in
+    let read = noise_takes who.1 noise e2 in
+    let spelled : text ≡ then_space (codes "all") (noise_text noise) =
+    cut_takes text who e1 ∙ ap (λ (w : List ℕ). then_space w who.1) (text_is who.0 (codes "all") d.0) ∙ ap (λ (n : List ℕ). then_space (codes "all") n) read.spelled in
+    subst (λ (l : Line). Reads (codes "crash") text l) d.1 (read.fits, ap (λ (t : List ℕ). then_space (codes "crash") t) spelled)))
+
+crash_again : (noise : Noise) → IsNoise noise → crash_of (then_space (codes "all") (noise_text noise)) ≡ Some (Crash noise)
+unfolding crash_of
+crash_again noise fits = rw (cut_again (codes "all") (noise_text noise) (lacks_from_test 32 (codes "all") refl), noise_again noise fits) refl
+
+-- ---- `restart`
+
+restart_takes : (text : List ℕ) (line : Line) → restart_of text ≡ Some line → Reads (codes "restart") text line
+unfolding restart_of
+restart_takes text line e =
+    option_and_then_some _ (number_at 4294967295999 text) line e (λ reading e1 f1.
+    let d = cond_some (bytes_eq reading.1 (codes "all")) (Restart reading.0) line f1 in
+    let number = number_at_takes 4294967295999 text reading (omega arith) e1 in
+    let spelled = joined text reading.1 (decimal reading.0) (codes "all") number.spelled (text_is reading.1 (codes "all") d.0) in
+    subst (λ (l : Line). Reads (codes "restart") text l) d.1 (number.within, ap (λ (t : List ℕ). then_space (codes "restart") t) spelled))
+
+restart_again : (reading : ℕ) → reading ≤ 4294967295999 → restart_of (then_space (decimal reading) (codes "all")) ≡ Some (Restart reading)
+unfolding restart_of
+restart_again reading fits = rw (number_at_again 4294967295999 reading (codes "all") (omega arith) fits) refl
 
 -- ---- `boxwood`
 
@@ -195,13 +274,33 @@ call_again reading node client bytes fits =
 
 -- what follows the word
 abbrev rest_of : List ℕ → List ℕ → Option Line
-rest_of word rest = cond (bytes_eq word (codes "boxwood")) (heading_of rest) (cond (bytes_eq word (codes "call")) (call_of rest) (cond (bytes_eq word (codes "run")) (run_of rest) None))
+rest_of word rest = cond (bytes_eq word (codes "boxwood")) (heading_of rest) (cond (bytes_eq word (codes "call")) (call_of rest) (cond (bytes_eq word (codes "run")) (run_of rest) (machines_line_of word rest)))
 
 word_is : (word other : List ℕ) → bytes_eq word other ≡ true → word ≡ other
 word_is word other e = (bytes_eq-Decides word other).0 e
 
 under_word : (word other rest : List ℕ) (line : Line) → bytes_eq word other ≡ true → Reads other rest line → Reads word rest line
 under_word word other rest line e h = subst (λ (w : List ℕ). Reads w rest line) (sym (word_is word other e)) h
+
+machines_take : (word rest : List ℕ) (line : Line) → machines_line_of word rest ≡ Some line → Reads word rest line
+unfolding machines_line_of
+machines_take word rest line e =
+    elim (chosen (bytes_eq word (codes "crash")) (crash_of rest) _ (Some line) e) [
+      | inl s ↦ under_word word (codes "crash") rest line s.0 (crash_takes rest line s.1)
+      | inr s ↦
+          elim (chosen (bytes_eq word (codes "restart")) (restart_of rest) None (Some line) s.1) [
+            | inl t ↦ under_word word (codes "restart") rest line t.0 (restart_takes rest line t.1)
+            | inr t ↦ absurd (cc t.1)
+          ]
+    ]
+
+crash_word : (rest : List ℕ) → machines_line_of (codes "crash") rest ≡ crash_of rest
+unfolding machines_line_of
+crash_word rest = refl
+
+restart_word : (rest : List ℕ) → machines_line_of (codes "restart") rest ≡ restart_of rest
+unfolding machines_line_of
+restart_word rest = refl
 
 rest_takes : (word rest : List ℕ) (line : Line) → rest_of word rest ≡ Some line → Reads word rest line
 rest_takes word rest line e =
@@ -211,9 +310,9 @@ rest_takes word rest line e =
           elim (chosen (bytes_eq word (codes "call")) (call_of rest) _ (Some line) h.1) [
             | inl c ↦ under_word word (codes "call") rest line c.0 (call_takes rest line c.1)
             | inr c ↦
-                elim (chosen (bytes_eq word (codes "run")) (run_of rest) None (Some line) c.1) [
+                elim (chosen (bytes_eq word (codes "run")) (run_of rest) _ (Some line) c.1) [
                   | inl r ↦ under_word word (codes "run") rest line r.0 (run_takes rest line r.1)
-                  | inr r ↦ absurd (cc r.1)
+                  | inr r ↦ machines_take word rest line r.1
                 ]
           ]
     ]
@@ -243,6 +342,10 @@ line_again (Call reading node client bytes) fits =
     word_again (codes "call") (then_space (decimal reading) (then_space (decimal node) (then_space (decimal client) (encode_lower bytes)))) (lacks_from_test 32 (codes "call") refl) ∙ call_again reading node client bytes fits
 line_again (Run reading limit) fits =
     word_again (codes "run") (then_space (decimal reading) (decimal limit)) (lacks_from_test 32 (codes "run") refl) ∙ run_again reading limit fits
+line_again (Crash noise) fits =
+    word_again (codes "crash") (then_space (codes "all") (noise_text noise)) (lacks_from_test 32 (codes "crash") refl) ∙ crash_word (then_space (codes "all") (noise_text noise)) ∙ crash_again noise fits
+line_again (Restart reading) fits =
+    word_again (codes "restart") (then_space (decimal reading) (codes "all")) (lacks_from_test 32 (codes "restart") refl) ∙ restart_word (then_space (decimal reading) (codes "all")) ∙ restart_again reading fits
 
 -- ---- what `read` answers
 

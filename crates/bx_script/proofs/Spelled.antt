@@ -9,10 +9,12 @@ use Rattle.hex.specs.Hex.{encode_lower, lower_digits}
 use Rattle.hex.proofs.HexLemmas.{length-encode_with}
 use Rattle.bx_base.specs.Text.{LacksFeed}
 use Rattle.bx_script.specs.declared.line.Line.{Line}
-use Rattle.bx_script.specs.declared.line.Line.TheVariants.{Heading, Call, Run}
-use Rattle.bx_script.specs.ScheduleLine.{InRange, IsHeading, IsCall, IsRun, fields, spelling}
+use Rattle.bx_disk.specs.declared.noise.Noise.{Noise}
+use Rattle.bx_disk.specs.declared.noise.Noise.TheVariants.{Keep, Drop, Seed}
+use Rattle.bx_script.specs.declared.line.Line.TheVariants.{Heading, Call, Run, Crash, Restart}
+use Rattle.bx_script.specs.ScheduleLine.{InRange, IsHeading, IsCall, IsNoise, IsRun, fields, noise_text, spelling}
 use Rattle.bx_script.specs.Reading.{line_of}
-use Rattle.bx_script.proofs.Fields.{Lacks, lacks_from_test, then_space, some_is}
+use Rattle.bx_script.proofs.Fields.{Lacks, Lacks-append, lacks_from_test, then_space, some_is}
 use Rattle.bx_script.proofs.Numbers.{Lacks-decimal}
 use Rattle.bx_script.proofs.HexText.{Lacks-hex}
 use Rattle.bx_script.proofs.Spaced.{Lacks-spaced, LacksFeed-from_lacks}
@@ -63,6 +65,13 @@ short_run reading limit fits =
     let l = length-decimal-le 7 limit (omega arith) (omega (arith, fits.most)) (omega (arith, fits.most)) in
     omega (arith, length-then_space (decimal reading) (decimal limit))
 
+short_noise : (noise : Noise) → IsNoise noise → length (noise_text noise) ≤ 25
+short_noise Keep fits = omega arith
+short_noise Drop fits = omega arith
+short_noise (Seed seed) fits =
+    let s = length-decimal-le 20 seed (omega arith) (omega (arith, fits)) fits in
+    omega (arith, length-append (codes "seed:") (decimal seed))
+
 -- no line is longer than the most
 pub short_spelling : (line : Line) → InRange line → length (spelling line) ≤ 18600
 short_spelling (Heading volume nodes devices areas) fits =
@@ -71,8 +80,18 @@ short_spelling (Call reading node client bytes) fits =
     omega (arith, length-then_space (codes "call") (then_space (decimal reading) (then_space (decimal node) (then_space (decimal client) (encode_lower bytes)))), short_call reading node client bytes fits)
 short_spelling (Run reading limit) fits =
     omega (arith, length-then_space (codes "run") (then_space (decimal reading) (decimal limit)), short_run reading limit fits)
+short_spelling (Crash noise) fits =
+    omega (arith, length-then_space (codes "crash") (then_space (codes "all") (noise_text noise)), length-then_space (codes "all") (noise_text noise), short_noise noise fits)
+short_spelling (Restart reading) fits =
+    let r = length-decimal-le 13 reading (omega arith) (omega (arith, fits)) (omega (arith, fits)) in
+    omega (arith, length-then_space (codes "restart") (then_space (decimal reading) (codes "all")), length-then_space (decimal reading) (codes "all"))
 
 -- ---- no line feed
+
+noise_lacks_feed : (noise : Noise) → IsNoise noise → Lacks 10 (noise_text noise)
+noise_lacks_feed Keep fits = lacks_from_test 10 (codes "keep") refl
+noise_lacks_feed Drop fits = lacks_from_test 10 (codes "drop") refl
+noise_lacks_feed (Seed seed) fits = Lacks-append 10 (codes "seed:") (decimal seed) (lacks_from_test 10 (codes "seed:") refl) (Lacks-decimal 10 seed (omega arith) fits)
 
 fields_lack_feed : (line : Line) → InRange line → AllByRecursion (Lacks 10) (fields line)
 fields_lack_feed (Heading volume nodes devices areas) fits = (
@@ -97,6 +116,9 @@ fields_lack_feed (Call reading node client bytes) fits = (
 )
 fields_lack_feed (Run reading limit) fits =
     (lacks_from_test 10 (codes "run") refl, (Lacks-decimal 10 reading (omega arith) (omega (arith, fits.reading_fits)), (Lacks-decimal 10 limit (omega arith) (omega (arith, fits.most)), tt)))
+fields_lack_feed (Crash noise) fits = (lacks_from_test 10 (codes "crash") refl, (lacks_from_test 10 (codes "all") refl, (noise_lacks_feed noise fits, tt)))
+fields_lack_feed (Restart reading) fits =
+    (lacks_from_test 10 (codes "restart") refl, (Lacks-decimal 10 reading (omega arith) (omega (arith, fits)), (lacks_from_test 10 (codes "all") refl, tt)))
 
 -- no line has a line feed
 pub spelling_lacks_feed : (line : Line) → InRange line → LacksFeed (spelling line)

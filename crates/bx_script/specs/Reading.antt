@@ -6,8 +6,10 @@ use Rattle.std.specs.Char.{is_ascii_digit, is_ascii_uppercase}
 use Rattle.std.specs.Str.{bytes_eq}
 use Rattle.std.specs.Str.Parse.{digits_value}
 use Rattle.hex.specs.Hex.{decode_of}
+use Rattle.bx_disk.specs.declared.noise.Noise.{Noise}
+use Rattle.bx_disk.specs.declared.noise.Noise.TheVariants.{Keep, Drop, Seed}
 use Rattle.bx_script.specs.declared.line.Line.{Line}
-use Rattle.bx_script.specs.declared.line.Line.TheVariants.{Heading, Call, Run}
+use Rattle.bx_script.specs.declared.line.Line.TheVariants.{Heading, Call, Run, Crash, Restart}
 
 infixl 10 ◌>>=◌
 abbrev pub ◌>>=◌ : {A B : Type 0} → Option A → (A → Option B) → Option B
@@ -77,6 +79,39 @@ run_of text = do
   limit ← number_of 1000000 reading.1
   if nat_le 1 limit then Some (Run reading.0 limit) else None
 
+-- `seed:N`, where the field begins so
+unfoldable pub seed_of : List ℕ → Option Noise
+seed_of field = do
+  seed ← number_of (2 ^ 64 - 1) (drop 5 field)
+  if bytes_eq (take 5 field) (codes "seed:") then Some (Seed seed) else None
+
+-- `keep`, `drop` or `seed:N`
+unfoldable pub noise_of : List ℕ → Option Noise
+noise_of field =
+    if bytes_eq field (codes "keep") then Some Keep
+    else if bytes_eq field (codes "drop") then Some Drop
+    else seed_of field
+
+-- `all NOISE`
+unfoldable pub crash_of : List ℕ → Option Line
+crash_of text = do
+  who ← cut text
+  noise ← noise_of who.1
+  if bytes_eq who.0 (codes "all") then Some (Crash noise) else None
+
+-- `READING all`
+unfoldable pub restart_of : List ℕ → Option Line
+restart_of text = do
+  reading ← number_at 4294967295999 text
+  if bytes_eq reading.1 (codes "all") then Some (Restart reading.0) else None
+
+-- a line of a word and a rest that says what machines do
+unfoldable pub machines_line_of : List ℕ → List ℕ → Option Line
+machines_line_of word rest =
+    if bytes_eq word (codes "crash") then crash_of rest
+    else if bytes_eq word (codes "restart") then restart_of rest
+    else None
+
 -- a line
 unfoldable pub line_of : List ℕ → Option Line
 line_of text = do
@@ -84,4 +119,4 @@ line_of text = do
   if bytes_eq word.0 (codes "boxwood") then heading_of word.1
       else if bytes_eq word.0 (codes "call") then call_of word.1
       else if bytes_eq word.0 (codes "run") then run_of word.1
-      else None
+      else machines_line_of word.0 word.1

@@ -2,19 +2,23 @@
 use Rattle.std.specs.Prelude.{◌≡◌, ℕ, ◌<◌, ◌≤◌, Bool, true, false, List, [], ◌∷◌, length, map, Option, Some, None}
 use Rattle.std.specs.List.{AllByRecursion}
 use Rattle.bx_script.specs.declared.line.Line.{Line}
-use Rattle.bx_script.specs.declared.line.Line.TheVariants.{Heading, Call, Run}
+use Rattle.bx_script.specs.declared.line.Line.TheVariants.{Heading, Call, Run, Crash, Restart}
 use Rattle.bx_script.specs.ScheduleLine.{InRange, spelling}
 
 abbrev pub is_heading : Line → Bool
 is_heading (Heading volume nodes devices areas) = true
 is_heading (Call reading node client datagram) = false
 is_heading (Run reading limit) = false
+is_heading (Crash noise) = false
+is_heading (Restart reading) = false
 
 -- the clock's reading at a line, where it has one
 abbrev pub reading_of : Line → Option ℕ
 reading_of (Heading volume nodes devices areas) = None
 reading_of (Call reading node client datagram) = Some reading
 reading_of (Run reading limit) = Some reading
+reading_of (Crash noise) = None
+reading_of (Restart reading) = Some reading
 
 -- a line in the grammar, in its place: the heading comes first, and nowhere else
 abbrev pub HasPlace : Bool → Line → Type 0

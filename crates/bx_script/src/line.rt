@@ -8,6 +8,7 @@ ghost use Rattle.bx_script.specs.declared.line.Line.{Line};
 
 use crate::reading::read_line;
 use bx_base::{OutOfMemory, Raw};
+use bx_disk::Noise;
 use std::alloc::Global;
 
 /// The most bytes of a line of a schedule, its line feed not counted. No line in the grammar is longer.
@@ -65,6 +66,16 @@ pub enum Line {
         reading: u64,
         /// At most so many events, 1 to 1000000.
         limit: u32,
+    },
+    /// `crash all NOISE`: every machine that is up crashes, and its disk with it.
+    Crash {
+        /// What the disks' unsure sectors hold afterwards: `keep`, `drop` or `seed:N`.
+        noise: Noise,
+    },
+    /// `restart READING all`: every machine that is down starts again.
+    Restart {
+        /// The clock, in milliseconds.
+        reading: u64,
     },
 }
 

@@ -4,10 +4,11 @@ ghost use Rattle.std.specs.Prelude.{◌≡◌, ◌<◌, ◌≤◌, ◌==◌, ◌
 ghost use Rattle.std.specs.List.{list_all};
 ghost use Rattle.std.specs.Char.{is_ascii_digit, is_ascii_uppercase};
 ghost use Rattle.std.specs.Str.Parse.{digits_value};
-ghost use Rattle.bx_script.specs.Reading.{Gives, cut, call_fields_of, number_at, datagram_of, heading_of, call_of, run_of, is_numeral, line_of, number_of};
+ghost use Rattle.bx_script.specs.Reading.{Gives, cut, call_fields_of, crash_of, number_at, datagram_of, heading_of, call_of, machines_line_of, noise_of, restart_of, run_of, seed_of, is_numeral, line_of, number_of};
 
 use crate::line::{Line, MAX_AREAS, MAX_DATAGRAM, MAX_DEVICES, MAX_NODES, MAX_READING, MAX_RUN};
 use bx_base::{OutOfMemory, Raw};
+use bx_disk::Noise;
 use hex::FromHexError;
 use std::alloc::Global;
 use std::str;
@@ -24,7 +25,7 @@ pub fn read_line(alloc: Global, text: &[u8]) -> Result<Option<Line>, OutOfMemory
         b"boxwood" => Ok(heading(rest)),
         b"call" => call(alloc, rest),
         b"run" => Ok(run(rest)),
-        _ => Ok(None),
+        _ => Ok(machines_line(word, rest)),
     }
 }
 
@@ -94,6 +95,66 @@ fn run(text: &[u8]) -> Option<Line>
         reading,
         limit: limit as u32,
     })
+}
+
+// The line of a word and a rest that says what machines do.
+#[tactic(auto, unfolding(crate::specs::Reading::machines_line_of))]
+fn machines_line(word: &[u8], rest: &[u8]) -> Option<Line>
+    ensures { result ≡ machines_line_of word.now rest.now }
+{
+    if word == b"crash".as_slice() {
+        crash(rest)
+    } else if word == b"restart".as_slice() {
+        restart(rest)
+    } else {
+        None
+    }
+}
+
+// `all NOISE`
+#[tactic(auto, unfolding(crate::specs::Reading::crash_of))]
+fn crash(text: &[u8]) -> Option<Line>
+    ensures { result ≡ crash_of text.now }
+{
+    let (who, field) = cut(text)?;
+    let noise = noise(field)?;
+    if who != b"all".as_slice() {
+        return None;
+    }
+    Some(Line::Crash { noise })
+}
+
+// `keep`, `drop` or `seed:N`
+#[tactic(auto, unfolding(crate::specs::Reading::noise_of))]
+fn noise(field: &[u8]) -> Option<Noise>
+    ensures { result ≡ noise_of field.now }
+{
+    match field {
+        b"keep" => Some(Noise::Keep),
+        b"drop" => Some(Noise::Drop),
+        _ => seed(field),
+    }
+}
+
+// `seed:N`
+#[tactic(auto, unfolding(crate::specs::Reading::seed_of))]
+fn seed(field: &[u8]) -> Option<Noise>
+    ensures { result ≡ seed_of field.now }
+{
+    let digits = field.strip_prefix(b"seed:")?;
+    Some(Noise::Seed(number(digits, u64::MAX)?))
+}
+
+// `READING all`
+#[tactic(auto, unfolding(crate::specs::Reading::restart_of))]
+fn restart(text: &[u8]) -> Option<Line>
+    ensures { result ≡ restart_of text.now }
+{
+    let (reading, who) = number_at(text, MAX_READING)?;
+    if who != b"all".as_slice() {
+        return None;
+    }
+    Some(Line::Restart { reading })
 }
 
 // The bytes that hex digits in lower case spell, at most `MAX_DATAGRAM`.

@@ -1,6 +1,8 @@
 //! What takes calls and answers them, over the disks of a volume that hold a file tree: the contract under a replay.
 #![tactic(auto)]
 
+mod event;
 mod service;
 
-pub use service::{Acted, Service};
+pub use event::{Acted, Event};
+pub use service::Service;

@@ -1,52 +1,47 @@
 //! Services.
 
-ghost use Rattle.std.specs.Prelude.{◌≡◌, ◌↔◌, ◌<◌, ◌≤◌, ◌++◌, ◌∷◌, [], ℕ, List, Option, IfOk, IsErrOf, IsTrue, OnOk};
+ghost use Rattle.std.specs.Prelude.{◌≡◌, ◌↔◌, ◌<◌, ◌≤◌, ◌++◌, ◌∷◌, [], ℕ, Bool, true, false, List, Option, None, IfOk, IsErrOf, IsTrue, OnOk};
 ghost use Rattle.bx_base.specs.Faults.{Rose};
-ghost use Rattle.bx_base.specs.declared.names.Point.{Point};
 ghost use Rattle.bx_disk.specs.declared.fault.RackError.TheVariants.{Fault, OutOfMemory as NoMemory};
-ghost use Rattle.bx_disk.specs.Disks.{Disks, IsImage};
+ghost use Rattle.bx_disk.specs.Disks.{Disks};
 ghost use Rattle.bx_engine.specs.Calls.{IsBuiltCall};
 ghost use Rattle.bx_history.specs.Trace.{Taking};
 ghost use Rattle.bx_model.specs.declared.tree.Tree.{Tree};
 ghost use Rattle.bx_model.specs.Opening.{opening};
-ghost use Rattle.bx_service.specs.Rounds.{IsOfOldest, KeepsPoint, Rounds, Shows, waits_for};
+ghost use Rattle.bx_service.specs.Rounds.{Doubt, IsCrashed, Restarts, Rounds, Shows};
 
+use crate::event::Event;
 use bx_base::{CallNo, OutOfMemory, Point, Raw};
 use bx_disk::{Rack, RackError};
 use std::alloc::Global;
 
-/// A call that acted.
-#[derive(Drop)]
-pub struct Acted {
-    /// Its place in the one order of all calls.
-    pub point: Point,
-    /// The bytes of its reply.
-    pub reply: Raw,
-}
-
 /// What takes calls, and answers them in rounds, one after the other. It is data, and the file tree is on the disks: those of a volume of
-/// one device and one area.
+/// one device and one area. It crashes with all its memory, and comes back with what the disks hold.
 pub trait Service: Drop {
     /// The calls that wait, the oldest first.
     ghost waits: { Self → List Taking };
 
-    /// The point of the oldest call, once what it does is being written.
-    ghost under_way: { Self → Option Point };
-
     /// The greatest number of a call that came, 0 where none did.
     ghost latest: { Self → ℕ };
+
+    /// Whether it is up. While it is down no call waits.
+    ghost up: { Self → Bool };
+
+    /// Whether the call with a number lacks its point, where an open record is of it.
+    ghost lacks: { Self → ℕ → Bool };
 
     /// It may be used over disks of these sizes.
     ghost ready: { Self → List ℕ → Type 0 };
 
-    /// These disks hold this file tree for it.
-    ghost holds: { Self → Disks → Tree → Type 0 };
+    /// These disks hold this file tree for it, with this call in doubt.
+    ghost holds: { Self → Disks → Tree → Option Doubt → Type 0 };
 
     /// Makes a bench a volume with this number, and begins with its opening tree.
     fn begin<B: Rack>(alloc: Global, bench: &mut B, volume: u64) -> Result<Self, RackError>
-        ensures holds { B.tells bench.old → IfOk result (λ service. holds service (B.state bench.new) (opening volume)) }
+        ensures holds { B.tells bench.old → IfOk result (λ service. holds service (B.state bench.new) (opening volume) None) }
         ensures none_wait { IfOk result (λ service. waits service ≡ []) }
         ensures latest { IfOk result (λ service. latest service ≡ 0) }
+        ensures up { IfOk result (λ service. up service ≡ true) }
         ensures ready { IfOk result (λ service. ready service (B.state bench.new).sizes) }
         ensures cause { IsErrOf result Fault → Rose (B.faults bench.old) (B.faults bench.new) }
         ensures memory { IsErrOf result NoMemory → B.faults bench.new ≡ B.faults bench.old }
@@ -55,44 +50,71 @@ pub trait Service: Drop {
         ensures keeps_telling { B.tells bench.old → B.tells bench.new };
 
     /// Whether a datagram is a call that it takes.
-    fn takes(&self, alloc: Global, datagram: &[u8]) -> Result<bool, OutOfMemory>
+    fn takes(alloc: Global, datagram: &[u8]) -> Result<bool, OutOfMemory>
         ensures { IfOk result (λ is. IsTrue is ↔ IsBuiltCall datagram.now) };
+
+    /// Whether it is up.
+    fn is_up(&self) -> bool
+        ensures { result ≡ up self.now };
 
     /// A call that it takes comes, with its number, and waits behind all others.
     fn arrive(&mut self, call: CallNo, client: u32, datagram: Raw) -> Result<(), OutOfMemory>
+        requires up { up self.old ≡ true }
         requires built { IsBuiltCall datagram }
         requires later { latest self.old < call }
         ensures latest { OnOk result (latest self.new ≡ call) }
+        ensures up { OnOk result (up self.new ≡ true) }
         ensures ready { (sizes : List ℕ) → ready self.old sizes → OnOk result (ready self.new sizes) }
         ensures waits { OnOk result (waits self.new ≡ waits self.old ++ record { call = call; node = 0; client = client; bytes = datagram } ∷ []) }
-        ensures under_way { OnOk result (under_way self.new ≡ under_way self.old) }
-        ensures holds { (x : Disks) (tree : Tree) → holds self.old x tree → OnOk result (holds self.new x tree) };
+        ensures holds { (x : Disks) (tree : Tree) (doubt : Option Doubt) → ready self.old x.sizes → holds self.old x tree doubt → OnOk result (holds self.new x tree doubt) };
 
-    /// Whether nothing is left to do: no call waits, and no disk has a sync to finish.
+    /// Whether nothing is left to do: no call waits, no disk has a sync to finish, and nothing has to be brought back after a crash.
     fn is_quiet(&self) -> bool
         ensures { IsTrue result → waits self.now ≡ [] };
 
-    /// Whether a call waits, by its number.
-    fn waits_for(&self, call: CallNo) -> bool
-        ensures { result ≡ waits_for (waits self.now) call };
+    /// Whether the call with a number lacks its point, where an open record is of it.
+    fn lacks_point(&self, call: CallNo) -> bool
+        ensures { result ≡ lacks self.now call };
 
     /// Does one round at a moment, in milliseconds: each disk that has a sync to finish does so, and then what can be done without the disks
     /// is done. At most one call is answered, the oldest. A fault of the bench ends nothing: what was asked of the disk is asked again. After an
     /// error it isn't used again.
-    fn round<B: Rack>(&mut self, bench: &mut B, moment: u64) -> Result<Option<Acted>, OutOfMemory>
+    fn round<B: Rack>(&mut self, bench: &mut B, moment: u64) -> Result<Option<Event>, OutOfMemory>
         requires moment { moment ≤ 4294967295999 }
         requires ready { ready self.old (B.state bench.old).sizes }
         ensures ready { OnOk result (ready self.new (B.state bench.new).sizes) }
         ensures latest { OnOk result (latest self.new ≡ latest self.old) }
-        ensures rounds { (tree : Tree) → B.tells bench.old → holds self.old (B.state bench.old) tree
-            → IfOk result (Rounds (holds self.new (B.state bench.new)) (waits self.old) (waits self.new) tree) }
-        ensures point { IfOk result (KeepsPoint moment (under_way self.old) (under_way self.new)) }
+        ensures up { OnOk result (up self.new ≡ up self.old) }
+        ensures rounds { (tree : Tree) (doubt : Option Doubt) → B.tells bench.old → holds self.old (B.state bench.old) tree doubt
+            → IfOk result (Rounds (holds self.new (B.state bench.new)) moment (waits self.old) (waits self.new) tree doubt) }
         ensures later { B.faults bench.old ≤ B.faults bench.new }
         ensures keeps_telling { B.tells bench.old → B.tells bench.new };
 
-    /// What is under way is of the oldest call.
-    ghost oldest: { (service : Self) (sizes : List ℕ) → ready service sizes → IsOfOldest (waits service) (under_way service) };
+    /// It crashes: it forgets all that isn't on the disks, and each call that waits. Whoever has the bench crashes the disks with it.
+    fn crash(&mut self)
+        ensures up { up self.new ≡ false }
+        ensures waits { waits self.new ≡ [] }
+        ensures latest { latest self.new ≡ latest self.old }
+        ensures ready { (sizes : List ℕ) → ready self.old sizes → ready self.new sizes }
+        ensures holds { (x y : Disks) (tree : Tree) (doubt : Option Doubt) → ready self.old x.sizes → holds self.old x tree doubt → IsCrashed x y → holds self.new y tree doubt };
 
-    /// Once what is unsure was lost, the disks show the tree; or the one to which the call leads that is under way.
-    ghost shown: { (service : Self) (x y : Disks) (tree : Tree) → ready service x.sizes → holds service x tree → IsImage x y.reads → y.sizes ≡ x.sizes → Shows (waits service) (under_way service) y tree };
+    /// It comes back, and brings the disks to rest. Where the record of the call in doubt is open, it says at which point that call
+    /// acted. A fault of the bench ends nothing: what is left to do is tried again in each round. After an error it isn't used again.
+    fn restart<B: Rack>(&mut self, bench: &mut B) -> Result<Option<Point>, OutOfMemory>
+        requires down { up self.old ≡ false }
+        requires ready { ready self.old (B.state bench.old).sizes }
+        ensures up { OnOk result (up self.new ≡ true) }
+        ensures waits { OnOk result (waits self.new ≡ waits self.old) }
+        ensures latest { OnOk result (latest self.new ≡ latest self.old) }
+        ensures ready { OnOk result (ready self.new (B.state bench.new).sizes) }
+        ensures restarts { (tree : Tree) (doubt : Option Doubt) → B.tells bench.old → holds self.old (B.state bench.old) tree doubt
+            → IfOk result (Restarts (holds self.new (B.state bench.new)) (waits self.new) tree doubt) }
+        ensures later { B.faults bench.old ≤ B.faults bench.new }
+        ensures keeps_telling { B.tells bench.old → B.tells bench.new };
+
+    /// While it is down no call waits.
+    ghost idle: { (service : Self) → up service ≡ false → waits service ≡ [] };
+
+    /// Once what is unsure was lost, the disks show the tree; or the one to which the call in doubt leads.
+    ghost shown: { (service : Self) (x y : Disks) (tree : Tree) (doubt : Option Doubt) → ready service x.sizes → holds service x tree doubt → IsCrashed x y → Shows (lacks service) y tree doubt };
 }

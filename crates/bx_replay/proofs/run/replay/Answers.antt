@@ -14,7 +14,7 @@ returns-in_err-reader-clause-leaves g c = λ source_tells.
 pub returns-in_err-replay-clause-leaves : goal.returns-in_err-replay-clause-leaves
 returns-in_err-replay-clause-leaves g c = λ source_tells.
     let p = err_from_is_err_and c.from_residual-in_err-replay.result c.from_residual-in_err-replay.ensures.1 in
-    rw (p.1, p.2) (begin_stops {A = Unit {0}} (λ _ _. Unit {0}) (λ _. 0) (g.K.Sink.tells c.args.out.now × g.B.Rack.tells c.args.bench.now) (IsHeldBy (g.B.Rack.state c.begin.new.bench)) c.in_err-replay.field-0.0 _ _ _ (g.K.Sink.written c.args.out.now) _ _ _ _ c.in_err-replay.ensures.cause
+    rw (p.1, p.2) (begin_stops {A = Unit {0}} (λ _ _ _. Unit {0}) (λ _. 0) (g.K.Sink.tells c.args.out.now × g.B.Rack.tells c.args.bench.now) (IsHeldBy (g.B.Rack.state c.begin.new.bench)) c.in_err-replay.field-0.0 _ _ _ (g.K.Sink.written c.args.out.now) _ _ _ _ c.in_err-replay.ensures.cause
     (rw c.in_ok-reader.ensures at (c.in_err-replay.ensures.reads source_tells)))
 
 pub lines-init : goal.lines-init
@@ -35,9 +35,9 @@ lines-init g c = record {
   holds = c.in_ok-replay.ensures.holds;
   read = λ source_tells.
       let begun = rw c.in_ok-reader.ensures at (c.in_ok-replay.ensures.reads source_tells) in
-      heading_read _ _ begun.volume begun.nodes begun.devices begun.areas begun.in_place begun.begins;
+      rw (c.in_ok-replay.ensures.up) (heading_read _ _ begun.volume begun.nodes begun.devices begun.areas begun.in_place begun.begins);
   going = λ source_tells sink_tells bench_tells.
-      begins_going _ _ _ _ _ _ _ c.in_ok-replay.ensures.none_wait (g.met.M.Service.oldest c.in_ok-replay.replay.service _ c.in_ok-replay.ensures.ready) (rw c.in_ok-reader.ensures at (c.in_ok-replay.ensures.begins source_tells bench_tells));
+      begins_going _ _ _ _ _ _ _ c.in_ok-replay.ensures.up c.in_ok-replay.ensures.none_wait (rw c.in_ok-reader.ensures at (c.in_ok-replay.ensures.begins source_tells bench_tells));
 }
 
 pub returns-in_err-line-clause-leaves : goal.returns-in_err-line-clause-leaves
@@ -66,16 +66,16 @@ lines-preserved g c =
       bench_tells = λ tells. c.in_ok-step.ensures.bench_tells (c.lines.invariant.bench_tells tells);
       holds = λ tells.
           let held = c.lines.invariant.holds tells in
-          c.in_ok-step.ensures.holds held.0 (c.lines.invariant.bench_tells tells) held.1;
+          c.in_ok-step.ensures.holds held.0 held.1 (c.lines.invariant.bench_tells tells) held.2;
       read = λ source_tells.
           let begins = rw c.in-Some.is at (c.in_ok-line.ensures.gives (c.lines.invariant.source_tells source_tells)) in
           let place = rw c.in-Some.is at c.in_ok-line.ensures.in_place in
-          reads_on _ _ _ c.lines.number c.in-Some.line (c.lines.invariant.read source_tells) (omega (arith, few)) begins place c.in_ok-step.ensures.serves;
+          reads_on _ _ _ _ _ c.lines.number c.in-Some.line (c.lines.invariant.read source_tells) (omega (arith, few)) begins place c.in_ok-step.ensures.serves;
       going = λ source_tells sink_tells bench_tells.
           let going = c.lines.invariant.going source_tells sink_tells bench_tells in
           let begins = rw c.in-Some.is at (c.in_ok-line.ensures.gives (c.lines.invariant.source_tells source_tells)) in
           going_on _ _ _ _ _ _ _ _ _ _ _ c.lines.number c.in-Some.line _ _ _ going begins
-          (c.in_ok-step.ensures.does going.tree going.done _ (c.lines.invariant.sink_tells sink_tells) (c.lines.invariant.bench_tells bench_tells) going.holds (omega (arith, going.count, few)) going.stands);
+          (c.in_ok-step.ensures.does going.tree going.doubt going.done _ (c.lines.invariant.sink_tells sink_tells) (c.lines.invariant.bench_tells bench_tells) going.holds (omega (arith, going.count, few)) going.stands);
     }
 
 pub returns-in_err-step-clause-leaves : goal.returns-in_err-step-clause-leaves
@@ -86,10 +86,10 @@ returns-in_err-step-clause-leaves g c = λ source_tells.
     let place = rw c.in-Some.is at c.in_ok-line.ensures.in_place in
     rw (p.1, p.2) (step_stops (g.K.Sink.tells c.args.out.now × g.B.Rack.tells c.args.bench.now) (IsHeldBy (g.B.Rack.state c.step.new.bench)) _ _ _ _ _ c.in_err-step.field-0.0 _ _ _ _ _ _ _ c.lines.number c.in-Some.line _ _
     (c.lines.invariant.read source_tells) (λ tells. c.lines.invariant.going source_tells tells.0 tells.1) (omega (arith, few)) begins place
-    c.in_err-step.ensures.cause c.in_err-step.ensures.serves
+    c.in_err-step.ensures.cause _ c.in_err-step.ensures.serves
     (λ tells.
     let going = c.lines.invariant.going source_tells tells.0 tells.1 in
-    c.in_err-step.ensures.does going.tree going.done _ (c.lines.invariant.sink_tells tells.0) (c.lines.invariant.bench_tells tells.1) going.holds (omega (arith, going.count, few)) going.stands))
+    c.in_err-step.ensures.does going.tree going.doubt going.done _ (c.lines.invariant.sink_tells tells.0) (c.lines.invariant.bench_tells tells.1) going.holds (omega (arith, going.count, few)) going.stands))
 
 pub returns-clause-leaves : goal.returns-clause-leaves
 returns-clause-leaves g c = λ source_tells.
@@ -98,4 +98,4 @@ returns-clause-leaves g c = λ source_tells.
     (rw ends.0 at (c.lines.invariant.read source_tells)) ends.1 (λ tells. rw ends.0 at (c.lines.invariant.going source_tells tells.0 tells.1)) c.finish.ensures.cause
     (λ tells.
     let going = rw ends.0 at (c.lines.invariant.going source_tells tells.0 tells.1) in
-    c.finish.ensures.ends going.tree (c.lines.invariant.sink_tells tells.0) (c.lines.invariant.bench_tells tells.1) going.holds)
+    c.finish.ensures.ends going.tree going.doubt (c.lines.invariant.sink_tells tells.0) (c.lines.invariant.bench_tells tells.1) going.holds)

@@ -1,4 +1,5 @@
-use Rattle.std.proofs.Common.{◌≡◌, ◌≤◌, ◌-◌, ◌++◌}
+use Rattle.std.proofs.Common.{◌≡◌, ◌≤◌, ◌-◌, ◌++◌, Option}
+use Rattle.bx_service.specs.Rounds.{Doubt}
 use Rattle.bx_model.specs.declared.tree.Tree.{Tree}
 use Rattle.bx_replay.specs.Replay.{Going, IsRead}
 use Rattle.bx_replay.proofs.Running.{IsRunning}
@@ -15,10 +16,10 @@ invariant-lines g l = record {
   source_tells : g.S.Source.tells l.fn.input → g.S.Source.tells l.input;
   sink_tells : g.K.Sink.tells l.fn.out → g.K.Sink.tells l.out;
   bench_tells : g.B.Rack.tells l.fn.bench → g.B.Rack.tells l.bench;
-  holds : g.B.Rack.tells l.fn.bench → (tree : Tree) × g.M.Service.holds l.replay.service (g.B.Rack.state l.bench) tree;
-  read : g.S.Source.tells l.fn.input → IsRead (g.S.Source.left l.fn.input) (l.reader.ahead ++ g.S.Source.left l.input) l.number;
+  holds : g.B.Rack.tells l.fn.bench → (tree : Tree) × (doubt : Option Doubt) × g.M.Service.holds l.replay.service (g.B.Rack.state l.bench) tree doubt;
+  read : g.S.Source.tells l.fn.input → IsRead (g.M.Service.up l.replay.service) (g.S.Source.left l.fn.input) (l.reader.ahead ++ g.S.Source.left l.input) l.number;
   going : g.S.Source.tells l.fn.input → g.K.Sink.tells l.fn.out → g.B.Rack.tells l.fn.bench
-      → Going (g.M.Service.holds l.replay.service (g.B.Rack.state l.bench)) (g.M.Service.waits l.replay.service) (g.M.Service.under_way l.replay.service) l.replay.calls
+      → Going (g.M.Service.holds l.replay.service (g.B.Rack.state l.bench)) (g.M.Service.up l.replay.service) (g.M.Service.waits l.replay.service) l.replay.calls
       (g.S.Source.left l.fn.input) (l.reader.ahead ++ g.S.Source.left l.input) l.number (g.K.Sink.written l.fn.out) (g.K.Sink.written l.out);
 }
 

@@ -1,40 +1,43 @@
 use Rattle.std.proofs.Common.{Some, inr, ◌∙◌, arith}
 use Rattle.std.proofs.lemmas.Result.{err_from_is_err_and}
-use Rattle.bx_replay.proofs.Rounding.{after_answer, after_unprinted, after_waiting, breaks_before}
-use Rattle.bx_replay.proofs.state.Replay.run.Goals.{in-Some+in_ok-print_lines, in_default}
+use Rattle.bx_replay.proofs.Rounding.{after_waiting, breaks_before, goes_event, held_after, told_after, untold}
+use Rattle.bx_replay.specs.Replay.{told_at}
+use Rattle.bx_replay.proofs.state.Replay.run.Goals.{in-Some+in_ok-tell, in_default}
 use Rattle.bx_replay.proofs.state.Replay.run.Goals as goal
 
 pub loop-preserved : goal.loop-preserved
 loop-preserved g c = elim c.match-branch-2.branch [
-  | in-Some+in_ok-print_lines w ↦ rw (w.self-is, w.out-is) (record {
+  | in-Some+in_ok-tell w ↦ rw (w.self-is, w.out-is) (record {
     stands = λ done start sink_tells bench_tells before.
         let so_far = c.loop.invariant.stands done start sink_tells bench_tells before in
-        let answers = rw w.in-Some.is at (c.in_ok-acted.ensures.rounds so_far.tree (c.loop.invariant.bench_tells bench_tells) so_far.holds) in
-        let keeps = rw w.in-Some.is at c.in_ok-acted.ensures.point in
-        after_answer _ _ _ _ _ _ _ c.args.reading c.args.limit done start _ so_far w.in-Some.acted keeps answers (g.K.Sink.written w.print_lines.new.out)
-        (w.in_ok-print_lines.ensures.prints (c.loop.invariant.sink_tells sink_tells)) w.in_ok-print_lines.ensures.in_range;
-    holds = λ tree bench_tells held.
-        let so_far = c.loop.invariant.holds tree bench_tells held in
-        let answers = rw w.in-Some.is at (c.in_ok-acted.ensures.rounds so_far.0 (c.loop.invariant.bench_tells bench_tells) so_far.1) in
-        (answers.next, answers.holds);
-    ready = c.in_ok-acted.ensures.ready;
-    latest = c.in_ok-acted.ensures.latest ∙ c.loop.invariant.latest;
-    first = w.in_ok-print_lines.ensures.first ∙ c.loop.invariant.first;
+        let event = rw w.in-Some.is at (c.in_ok-event.ensures.rounds so_far.tree so_far.doubt (c.loop.invariant.bench_tells bench_tells) so_far.holds) in
+        rw (c.in_ok-event.ensures.up) (told_after (g.M.Service.holds c.round.new.self (g.B.Rack.state c.round.new.bench)) _ _ _ _ done start (g.K.Sink.written c.loop.out) (told_at w.in-Some.event)
+        (goes_event _ _ _ _ _ _ c.args.reading c.args.limit done start _ so_far w.in-Some.event event) _ (w.in_ok-tell.ensures.prints (c.loop.invariant.sink_tells sink_tells)) w.in_ok-tell.ensures.in_range);
+    holds = λ tree doubt bench_tells held.
+        let so_far = c.loop.invariant.holds tree doubt bench_tells held in
+        let event = rw w.in-Some.is at (c.in_ok-event.ensures.rounds so_far.0 so_far.1 (c.loop.invariant.bench_tells bench_tells) so_far.2) in
+        held_after _ _ _ _ _ _ w.in-Some.event event;
+    up = c.in_ok-event.ensures.up ∙ c.loop.invariant.up;
+    ready = c.in_ok-event.ensures.ready;
+    latest = c.in_ok-event.ensures.latest ∙ c.loop.invariant.latest;
+    first = w.in_ok-tell.ensures.first ∙ c.loop.invariant.first;
     calls = c.loop.invariant.calls;
-    sink_tells = λ tells. w.in_ok-print_lines.ensures.keeps_telling (c.loop.invariant.sink_tells tells);
+    sink_tells = λ tells. w.in_ok-tell.ensures.keeps_telling (c.loop.invariant.sink_tells tells);
     bench_later = omega (arith, c.loop.invariant.bench_later, c.round.ensures.later);
     bench_tells = λ tells. c.round.ensures.keeps_telling (c.loop.invariant.bench_tells tells);
   })
   | in_default w ↦ rw (w.self-is, w.out-is) (record {
     stands = λ done start sink_tells bench_tells before.
-        after_waiting _ _ _ _ _ _ _ c.args.reading c.args.limit done start _ (c.loop.invariant.stands done start sink_tells bench_tells before)
-        (λ tree holds. rw w.in_default.is at (c.in_ok-acted.ensures.rounds tree (c.loop.invariant.bench_tells bench_tells) holds)) (rw w.in_default.is at c.in_ok-acted.ensures.point);
-    holds = λ tree bench_tells held.
-        let so_far = c.loop.invariant.holds tree bench_tells held in
-        let rounds = rw w.in_default.is at (c.in_ok-acted.ensures.rounds so_far.0 (c.loop.invariant.bench_tells bench_tells) so_far.1) in
-        (so_far.0, rounds.1);
-    ready = c.in_ok-acted.ensures.ready;
-    latest = c.in_ok-acted.ensures.latest ∙ c.loop.invariant.latest;
+        let so_far = c.loop.invariant.stands done start sink_tells bench_tells before in
+        rw (c.in_ok-event.ensures.up) (after_waiting _ _ _ _ _ _ c.args.reading c.args.limit done start _ so_far
+        (rw w.in_default.is at (c.in_ok-event.ensures.rounds so_far.tree so_far.doubt (c.loop.invariant.bench_tells bench_tells) so_far.holds)));
+    holds = λ tree doubt bench_tells held.
+        let so_far = c.loop.invariant.holds tree doubt bench_tells held in
+        let rounds = rw w.in_default.is at (c.in_ok-event.ensures.rounds so_far.0 so_far.1 (c.loop.invariant.bench_tells bench_tells) so_far.2) in
+        (so_far.0, rounds.now, rounds.holds);
+    up = c.in_ok-event.ensures.up ∙ c.loop.invariant.up;
+    ready = c.in_ok-event.ensures.ready;
+    latest = c.in_ok-event.ensures.latest ∙ c.loop.invariant.latest;
     first = c.loop.invariant.first;
     calls = c.loop.invariant.calls;
     sink_tells = c.loop.invariant.sink_tells;
@@ -43,17 +46,18 @@ loop-preserved g c = elim c.match-branch-2.branch [
   })
 ]
 
-pub returns-in_err-acted-clause-runs : goal.returns-in_err-acted-clause-runs
-returns-in_err-acted-clause-runs g c = λ done start sink_tells bench_tells before.
+pub returns-in_err-event-clause-runs : goal.returns-in_err-event-clause-runs
+returns-in_err-event-clause-runs g c = λ done start sink_tells bench_tells before.
     let p = err_from_is_err_and c.from_residual.result c.from_residual.ensures.1 in
-    rw (p.1, p.2) (inr (breaks_before _ (g.M.Service.holds c.loop.self.service (g.B.Rack.state c.loop.bench)) _ (g.M.Service.waits c.loop.self.service) _ (g.M.Service.under_way c.loop.self.service) _ c.args.reading c.args.limit done start _
+    rw (p.1, p.2) (inr (breaks_before (g.M.Service.holds c.loop.self.service (g.B.Rack.state c.loop.bench)) (g.M.Service.holds c.loop.self.service (g.B.Rack.state c.loop.bench)) _ _ (g.M.Service.waits c.loop.self.service) _ c.args.reading c.args.limit done start _
     (c.loop.invariant.stands done start sink_tells bench_tells before)))
 
-pub returns-in_err-print_lines-clause-runs : goal.returns-in_err-print_lines-clause-runs
-returns-in_err-print_lines-clause-runs g c = λ done start sink_tells bench_tells before.
-    let p = err_from_is_err_and c.from_residual-in_err-print_lines.result c.from_residual-in_err-print_lines.ensures.1 in
+pub returns-in_err-tell-clause-runs : goal.returns-in_err-tell-clause-runs
+returns-in_err-tell-clause-runs g c = λ done start sink_tells bench_tells before.
+    let p = err_from_is_err_and c.from_residual-in_err-tell.result c.from_residual-in_err-tell.ensures.1 in
     let so_far = c.loop.invariant.stands done start sink_tells bench_tells before in
-    let answers = rw c.in-Some.is at (c.in_ok-acted.ensures.rounds so_far.tree (c.loop.invariant.bench_tells bench_tells) so_far.holds) in
-    let keeps = rw c.in-Some.is at c.in_ok-acted.ensures.point in
-    rw (p.1, p.2) (after_unprinted _ _ _ _ _ _ _ c.args.reading c.args.limit done start _ so_far c.in-Some.acted keeps answers c.in_err-print_lines.field-0.0 _ _ _ _ _
-    c.in_err-print_lines.ensures.cause (c.in_err-print_lines.ensures.prints (c.loop.invariant.sink_tells sink_tells)) c.in_err-print_lines.ensures.in_range)
+    let event = rw c.in-Some.is at (c.in_ok-event.ensures.rounds so_far.tree so_far.doubt (c.loop.invariant.bench_tells bench_tells) so_far.holds) in
+    rw (p.1, p.2) (untold (g.M.Service.holds c.round.new.self (g.B.Rack.state c.round.new.bench)) _ _ _ _ done start (g.K.Sink.written c.loop.out) (told_at c.in-Some.event)
+    (goes_event _ _ _ _ _ _ c.args.reading c.args.limit done start _ so_far c.in-Some.event event)
+    c.in_err-tell.field-0.0 _ _ _ _ _ _ so_far.stands.output c.in_err-tell.ensures.cause (c.in_err-tell.ensures.prints (c.loop.invariant.sink_tells sink_tells)) c.in_err-tell.ensures.in_range
+    (breaks_before (g.M.Service.holds c.loop.self.service (g.B.Rack.state c.loop.bench)) (g.M.Service.holds c.loop.self.service (g.B.Rack.state c.loop.bench)) _ _ (g.M.Service.waits c.loop.self.service) _ c.args.reading c.args.limit done start _ so_far))

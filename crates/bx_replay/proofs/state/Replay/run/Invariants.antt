@@ -1,16 +1,18 @@
-use Rattle.std.proofs.Common.{◌≡◌, ◌≤◌, ℕ, List, ◌-◌}
+use Rattle.std.proofs.Common.{◌≡◌, ◌≤◌, ℕ, List, Option, ◌-◌}
 use Rattle.bx_history.specs.Along.{Done}
 use Rattle.bx_model.specs.declared.tree.Tree.{Tree}
 use Rattle.bx_script.specs.declared.line.Line.TheVariants.{Run}
+use Rattle.bx_service.specs.Rounds.{Doubt}
 use Rattle.bx_replay.specs.Replay.{StandsAfter}
 use Rattle.bx_replay.proofs.state.Replay.run.Given as goal
 
 abbrev pub invariant-loop : goal.invariant-loop
 invariant-loop g l = record {
   stands : (done : List Done) (start : List ℕ) → g.K.Sink.tells l.fn.out → g.B.Rack.tells l.fn.bench
-      → StandsAfter (g.M.Service.holds l.fn.self.service (g.B.Rack.state l.fn.bench)) (g.M.Service.waits l.fn.self.service) (g.M.Service.under_way l.fn.self.service) l.fn.self.calls (Run l.fn.reading l.fn.limit) done start (g.K.Sink.written l.fn.out)
-      → StandsAfter (g.M.Service.holds l.self.service (g.B.Rack.state l.bench)) (g.M.Service.waits l.self.service) (g.M.Service.under_way l.self.service) l.self.calls (Run l.fn.reading l.fn.limit) done start (g.K.Sink.written l.out);
-  holds : (tree : Tree) → g.B.Rack.tells l.fn.bench → g.M.Service.holds l.fn.self.service (g.B.Rack.state l.fn.bench) tree → (next : Tree) × g.M.Service.holds l.self.service (g.B.Rack.state l.bench) next;
+      → StandsAfter (g.M.Service.holds l.fn.self.service (g.B.Rack.state l.fn.bench)) (g.M.Service.up l.fn.self.service) (g.M.Service.waits l.fn.self.service) l.fn.self.calls (Run l.fn.reading l.fn.limit) done start (g.K.Sink.written l.fn.out)
+      → StandsAfter (g.M.Service.holds l.self.service (g.B.Rack.state l.bench)) (g.M.Service.up l.self.service) (g.M.Service.waits l.self.service) l.self.calls (Run l.fn.reading l.fn.limit) done start (g.K.Sink.written l.out);
+  holds : (tree : Tree) (doubt : Option Doubt) → g.B.Rack.tells l.fn.bench → g.M.Service.holds l.fn.self.service (g.B.Rack.state l.fn.bench) tree doubt → (next : Tree) × (now : Option Doubt) × g.M.Service.holds l.self.service (g.B.Rack.state l.bench) next now;
+  up : g.M.Service.up l.self.service ≡ g.M.Service.up l.fn.self.service;
   ready : g.M.Service.ready l.self.service (g.B.Rack.state l.bench).sizes;
   latest : g.M.Service.latest l.self.service ≡ g.M.Service.latest l.fn.self.service;
   first : g.K.Sink.faults l.out ≡ g.K.Sink.faults l.fn.out;

@@ -4,32 +4,30 @@ use Rattle.bx_script.specs.declared.line.Line.TheVariants.{Call}
 use Rattle.bx_script.specs.declared.trace_line.TraceLine.TheVariants.{Took}
 use Rattle.bx_script.specs.TraceText.{trace_text}
 use Rattle.bx_replay.proofs.Printing.{breaks_behind, unprinted}
-use Rattle.bx_replay.proofs.Standing.{older_point, stands_taken_at}
+use Rattle.bx_replay.proofs.Standing.{stands_taken_at}
 use Rattle.bx_replay.proofs.state.Replay.take.Goals as goal
 
 pub returns-in_err-print_lines-clause-takes : goal.returns-in_err-print_lines-clause-takes
-returns-in_err-print_lines-clause-takes g c = λ reading x tree done start tells ready holds room place stands.
+returns-in_err-print_lines-clause-takes g c = λ reading x tree doubt done start tells ready holds room place stands.
     let p = err_from_is_err_and c.from_residual-in_err-print_lines.result c.from_residual-in_err-print_lines.ensures.1 in
-    rw (p.1, p.2) (unprinted tree _ _ _ (Call reading c.args.node c.args.client c.args.datagram) (Took _ c.args.node c.args.client c.args.datagram ∷ []) done start _ c.in_err-print_lines.field-0.0 _ _ _ _ _ _ _ _ stands.output
+    rw (p.1, p.2) (unprinted tree _ _ doubt _ (Call reading c.args.node c.args.client c.args.datagram) (Took _ c.args.node c.args.client c.args.datagram ∷ []) done start _ c.in_err-print_lines.field-0.0 _ _ _ _ _ _ _ _ stands.output
     c.in_err-print_lines.ensures.cause (c.in_err-print_lines.ensures.prints tells) c.in_err-print_lines.ensures.in_range
-    (λ in_range. stands_taken_at tree _ _ _ done start _ room stands c.args.node c.requires.node reading c.args.client c.args.datagram _ c.requires.message c.requires.built place
-    (older_point tree _ _ _ done start _ room stands (g.met.M.Service.oldest c.args.self.now.service _ ready)) in_range refl)
+    (λ in_range. stands_taken_at tree _ _ doubt _ done start _ room stands c.args.node c.requires.node reading c.args.client c.args.datagram _ c.requires.up c.requires.message c.requires.built place in_range refl)
     (λ same. inl same))
 
 pub returns-in_err-arrive-clause-takes : goal.returns-in_err-arrive-clause-takes
-returns-in_err-arrive-clause-takes g c = λ reading x tree done start tells ready holds room place stands.
+returns-in_err-arrive-clause-takes g c = λ reading x tree doubt done start tells ready holds room place stands.
     let p = err_from_is_err_and c.from_residual-in_err-arrive.result c.from_residual-in_err-arrive.ensures.1 in
-    rw (p.1, p.2) (inr (breaks_behind tree _ _ _ (Call reading c.args.node c.args.client c.args.datagram) (Took _ c.args.node c.args.client c.args.datagram ∷ []) done start (g.K.Sink.written c.args.out.now) (trace_text (Took (c.args.self.now.calls + 1) c.args.node c.args.client c.args.datagram ∷ [])) (g.K.Sink.written c.print_lines.new.out)
+    rw (p.1, p.2) (inr (breaks_behind tree _ _ doubt _ (Call reading c.args.node c.args.client c.args.datagram) (Took _ c.args.node c.args.client c.args.datagram ∷ []) done start (g.K.Sink.written c.args.out.now) (trace_text (Took (c.args.self.now.calls + 1) c.args.node c.args.client c.args.datagram ∷ [])) (g.K.Sink.written c.print_lines.new.out)
     (c.in_ok-print_lines.ensures.prints tells)
-    (stands_taken_at tree _ _ _ done start _ room stands c.args.node c.requires.node reading c.args.client c.args.datagram _ c.requires.message c.requires.built place
-    (older_point tree _ _ _ done start _ room stands (g.met.M.Service.oldest c.args.self.now.service _ ready)) c.in_ok-print_lines.ensures.in_range refl)))
+    (stands_taken_at tree _ _ doubt _ done start _ room stands c.args.node c.requires.node reading c.args.client c.args.datagram _ c.requires.up c.requires.message c.requires.built place c.in_ok-print_lines.ensures.in_range refl)))
 
 pub returns-clause-takes : goal.returns-clause-takes
-returns-clause-takes g c = λ reading x tree done start tells ready holds room place stands. record {
+returns-clause-takes g c = λ reading x tree doubt done start tells ready holds room place stands. record {
   tree = tree;
-  holds = c.in_ok-arrive.ensures.holds x tree holds;
+  doubt = doubt;
+  holds = c.in_ok-arrive.ensures.holds x tree doubt ready holds;
   lines = Took (c.args.self.now.calls + 1) c.args.node c.args.client c.args.datagram ∷ [];
-  stands = rw (c.in_ok-arrive.ensures.waits, c.in_ok-arrive.ensures.under_way, c.in_ok-bytes.ensures, c.bytes.ensures, c.in_ok-print_lines.ensures.prints tells)
-      (stands_taken_at tree _ _ _ done start _ room stands c.args.node c.requires.node reading c.args.client c.args.datagram _ c.requires.message c.requires.built place
-      (older_point tree _ _ _ done start _ room stands (g.met.M.Service.oldest c.args.self.now.service _ ready)) c.in_ok-print_lines.ensures.in_range refl);
+  stands = rw (c.in_ok-arrive.ensures.up, ← c.requires.up, c.in_ok-arrive.ensures.waits, c.in_ok-bytes.ensures, c.bytes.ensures, c.in_ok-print_lines.ensures.prints tells)
+      (stands_taken_at tree _ _ doubt _ done start _ room stands c.args.node c.requires.node reading c.args.client c.args.datagram _ c.requires.up c.requires.message c.requires.built place c.in_ok-print_lines.ensures.in_range refl);
 }

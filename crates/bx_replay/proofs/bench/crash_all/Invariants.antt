@@ -1,6 +1,6 @@
 use Rattle.std.proofs.Common.{◌≡◌, ℕ, ◌<◌, false}
 use Rattle.bx_disk.specs.Disks.{IsImage}
-use Rattle.bx_replay.proofs.bench.drop_unsure.Given as goal
+use Rattle.bx_replay.proofs.bench.crash_all.Given as goal
 
 abbrev pub invariant-loop-disk : goal.invariant-loop-disk
 invariant-loop-disk g l = record {

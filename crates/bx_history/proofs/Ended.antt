@@ -1,0 +1,88 @@
+-- An account goes on where nodes end, and where it is found later that a call acted which has no reply.
+use Rattle.std.proofs.Common.{◌≡◌, ℕ, Bool, true, false, List, [], ◌∷◌, Option, Some, None, refl, sym, eqb}
+use Rattle.std.specs.Prelude.{◌≢◌, ◌||◌}
+use Rattle.std.specs.List.{AllByRecursion}
+use Rattle.std.proofs.lemmas.Bool.{ne_eqb, or_from}
+use Rattle.bx_base.specs.declared.names.Point.{Point}
+use Rattle.bx_script.specs.declared.trace_line.TraceLine.{TraceLine}
+use Rattle.bx_script.specs.declared.trace_line.TraceLine.TheVariants.{Acted}
+use Rattle.bx_history.specs.Trace.{Entry, Taking, takings}
+use Rattle.bx_history.specs.Parts.{Happening, Part, trace_of}
+use Rattle.bx_history.specs.Placed.{Rules, HasReadingSince, IsAnsweredAtOnce, is_immediate_at}
+use Rattle.bx_history.specs.Along.{all_end}
+use Rattle.bx_history.specs.Account.{AwaitsNewest, IsPatient, IsPending, LacksPoint, entry_for}
+use Rattle.bx_history.proofs.Waiting.{all_mapped, all_of, no_prompt}
+
+module _ {Tree : Type 0} (Step : Tree → Entry → Tree → Type 0) (rules : Rules) (patient : IsPatient rules) where
+  -- ---- all nodes end: no call waits any more
+
+  pub ended_part : (first : Tree) (parts : List Part) (history : List Entry) (last : Tree) (waits : ℕ → List Taking) (reading : Option ℕ)
+      → AwaitsNewest Step rules first parts history last waits
+      → AwaitsNewest Step rules first (record { what = record { arrives = None; reading = reading; ends = all_end; runs = false }; lines = [] } ∷ parts) history last (λ _. [])
+  ended_part first parts history last waits reading so_far = record {
+    fits = so_far.fits;
+    leads = so_far.leads;
+    placed = (
+      record { takes = refl; repeats = refl; immediate = tt; prompt = λ is. absurd (no_prompt Step rules patient _ is); moments = tt },
+      so_far.placed,
+    );
+    waiting_are = λ node. refl;
+    pending = λ node. tt;
+    in_order = λ node. tt;
+  }
+
+  -- ---- a call acted that waits no more
+
+  module _ (first : Tree) (older : List Part) (history : List Entry) (last next : Tree) (waits : ℕ → List Taking) (reading : Option ℕ) (ends : ℕ → Bool) (runs : Bool) (lines : List TraceLine)
+      (taking : Taking) (point : Point) (reply : List ℕ) where
+    -- the part, with what came in it before and now
+    abbrev part_before : Part
+    part_before = record { what = record { arrives = None; reading = reading; ends = ends; runs = runs }; lines = lines }
+
+    abbrev part_after : Part
+    part_after = record { what = record { arrives = None; reading = reading; ends = ends; runs = runs }; lines = Acted point ∷ lines }
+
+    module _ (so_far : AwaitsNewest Step rules first (part_before ∷ older) history last waits) (lacks : LacksPoint (trace_of (part_before ∷ older)) taking) (of : point.call ≡ taking.call)
+        (gone : (node : ℕ) → AllByRecursion (λ call. call.call ≢ point.call) (waits node))
+        (moment : HasReadingSince point.call point.moment (part_before ∷ older)) (step : Step last (entry_for taking point reply) next) where
+      waits_on : (node : ℕ) (calls : List Taking) → AllByRecursion (λ call. call.call ≢ point.call) calls
+          → AllByRecursion (IsPending (trace_of (part_before ∷ older)) node) calls → AllByRecursion (IsPending (trace_of (part_after ∷ older)) node) calls
+      waits_on node [] apart pending = tt
+      waits_on node (call ∷ calls) apart pending = (
+        record {
+          taken = pending.0.taken;
+          at = pending.0.at;
+          no_point = or_from _ _ (ne_eqb point.call call.call (λ is. apart.0 (sym is))) pending.0.no_point;
+          no_reply = pending.0.no_reply;
+        },
+        waits_on node calls apart.1 pending.1,
+      )
+
+      never : (t : Taking) → IsAnsweredAtOnce rules older part_after t
+      never t at_once alive = absurd (by reading at_once)
+        where
+          by : (r : Option ℕ) → is_immediate_at rules r t.bytes ≡ true → ⊥
+          by None is = cc
+          by (Some r) is = let never_is : rules.is_immediate r t.bytes ≡ false = patient.not_at_once r t.bytes in cc
+
+      pub found_point : AwaitsNewest Step rules first (part_after ∷ older) (entry_for taking point reply ∷ history) next waits
+      found_point = record {
+        fits = (
+          record { taking = taking; taken = rw of (lacks.taken); client = refl; bytes = refl; first = rw of (lacks.no_point); call = refl; moment = refl; spare = refl; made = refl },
+          so_far.fits,
+        );
+        leads = (last, so_far.leads, step);
+        placed = (
+          record {
+            takes = so_far.placed.0.takes;
+            repeats = so_far.placed.0.repeats;
+            immediate = all_of _ (takings lines) never;
+            prompt = λ is. absurd (no_prompt Step rules patient _ is);
+            moments = (moment, so_far.placed.0.moments);
+          },
+          so_far.placed.1,
+        );
+        waiting_are = so_far.waiting_are;
+        pending = λ node. waits_on node (waits node) (gone node) (so_far.pending node);
+        in_order = so_far.in_order;
+      }

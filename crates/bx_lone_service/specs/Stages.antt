@@ -1,0 +1,98 @@
+-- What a service is by its stage.
+use Rattle.std.specs.Prelude.{◌≡◌, ℕ, ◌<◌, ◌≤◌, ◌-◌, nat_lt, Bool, true, false, List, [], ◌∷◌, Contains, map, Option, Some, None, refl}
+use Rattle.bx_disk.specs.Disks.{Disks}
+use Rattle.bx_engine.specs.Calls.{IsBuiltCall}
+use Rattle.bx_history.specs.Trace.{Taking}
+use Rattle.bx_lone_machine.specs.Machine as machines
+use Rattle.bx_lone_machine.specs.Machine.{Holds, calls_of, doubt_of, floor_of, volume_of}
+use Rattle.bx_lone_node.specs.declared.stage.Waiting.{Waiting}
+use Rattle.bx_lone_repair.specs.Bench.{AreLong}
+use Rattle.bx_lone_repair.specs.Left as lefts
+use Rattle.bx_model.specs.declared.tree.Tree.{Tree}
+use Rattle.bx_service.specs.Rounds.{Doubt}
+use Rattle.bx_lone_service.specs.Calls.{taking_of}
+use Rattle.bx_lone_service.specs.declared.returning.Left.{Left}
+use Rattle.bx_lone_service.specs.declared.service.Stage.{Stage}
+use Rattle.bx_lone_service.specs.declared.service.Stage.TheVariants.{Up, Down, Returning}
+
+-- ---- calls
+
+-- the greatest number of a call among these, which rise, or one below them
+abbrev pub latest_in : ℕ → List Waiting → ℕ
+latest_in latest [] = latest
+latest_in latest (call ∷ calls) = latest_in call.number calls
+
+-- Calls wait that are built, and their numbers rise above one.
+pub record AreQueued (above : ℕ) (queue : List Waiting) : Type 0 where
+  pub built : (call : Waiting) → Contains queue call → IsBuiltCall call.datagram
+  pub rising : machines.AreRising above (latest_in above queue) queue
+
+abbrev pub waits_of : Stage → List Taking
+waits_of (Up machine) = map taking_of (calls_of machine)
+waits_of (Down left) = []
+waits_of (Returning left queue latest) = map taking_of queue.items
+
+abbrev pub is_up : Stage → Bool
+is_up (Up machine) = true
+is_up (Down left) = false
+is_up (Returning left queue latest) = true
+
+-- the greatest number of a call that was told
+abbrev pub floor_in : Stage → ℕ
+floor_in (Up machine) = floor_of machine
+floor_in (Down left) = left.floor
+floor_in (Returning left queue latest) = left.floor
+
+-- whether a call with a number wasn't told
+abbrev pub lacks_of : Stage → ℕ → Bool
+lacks_of stage number = nat_lt (floor_in stage) number
+
+-- the number of the volume
+abbrev pub volume_in : Stage → ℕ
+volume_in (Up machine) = volume_of machine
+volume_in (Down left) = left.volume
+volume_in (Returning left queue latest) = left.volume
+
+-- the greatest number of a call that came
+abbrev pub latest_of : Stage → ℕ
+latest_of (Up machine) = machines.latest_of machine
+latest_of (Down left) = left.latest
+latest_of (Returning left queue latest) = latest
+
+-- what the node leaves where it stops
+abbrev pub left_of : Stage → Left
+left_of stage = record { volume = volume_in stage; floor = floor_in stage; latest = latest_of stage }
+
+-- ---- what is in doubt
+
+abbrev pub doubt_as : lefts.Doubt → Doubt
+doubt_as doubt = record { call = taking_of doubt.call; point = doubt.point }
+
+abbrev pub maybe_doubt : Option lefts.Doubt → Option Doubt
+maybe_doubt None = None
+maybe_doubt (Some doubt) = Some (doubt_as doubt)
+
+-- ---- how it stands
+
+-- The disks hold what the node left, with this call in doubt, which isn't later than the latest that came.
+pub record IsLeftBy (left : Left) (disks : Disks) (tree : Tree) (doubt : Option Doubt) : Type 0 where
+  pub of : Option lefts.Doubt
+  pub is : doubt ≡ maybe_doubt of
+  pub left_is : lefts.IsLeft left.volume left.floor tree of disks
+  pub old : (one : lefts.Doubt) → of ≡ Some one → one.call.number ≤ left.latest
+
+abbrev pub IsReady : Stage → List ℕ → Type 0
+IsReady (Up machine) sizes = machines.IsReady machine sizes × AreLong sizes
+IsReady (Down left) sizes = AreLong sizes
+IsReady (Returning left queue latest) sizes = AreQueued left.latest queue.items × AreLong sizes × (latest_in left.latest queue.items ≡ latest)
+
+abbrev pub IsHolding : Stage → Disks → Tree → Option Doubt → Type 0
+IsHolding (Up machine) disks tree doubt = Holds machine disks tree × (doubt ≡ maybe_doubt (doubt_of machine))
+IsHolding (Down left) disks tree doubt = IsLeftBy left disks tree doubt
+IsHolding (Returning left queue latest) disks tree doubt = IsLeftBy left disks tree doubt
+
+-- while it is down no call waits
+pub none_down : (stage : Stage) → is_up stage ≡ false → waits_of stage ≡ []
+none_down (Up machine) down = absurd cc
+none_down (Down left) down = refl
+none_down (Returning left queue latest) down = absurd cc

@@ -1,0 +1,78 @@
+//! How a replay crashes, and comes back.
+
+ghost use Rattle.std.specs.Prelude.{◌≡◌, ◌≤◌, ◌<◌, List, ℕ, length, IfErr, OnOk, Option, true, false};
+ghost use Rattle.bx_disk.specs.declared.noise.Noise.{Noise};
+ghost use Rattle.bx_history.specs.Along.{Done};
+ghost use Rattle.bx_model.specs.declared.tree.Tree.{Tree};
+ghost use Rattle.bx_script.specs.declared.line.Line.TheVariants.{Crash as CrashLine, Restart as RestartLine};
+ghost use Rattle.bx_replay.specs.Headline.{IsInPlace};
+ghost use Rattle.bx_replay.specs.Replay.{DoesLine, HasPrintCause, Stands, StandsAfter, UnlessWrite};
+ghost use Rattle.bx_service.specs.Rounds.{Doubt};
+
+use crate::bench::crash_all;
+use crate::print::print_lines;
+use crate::state::Replay;
+use crate::stop::Stop;
+use bx_base::OutOfMemory;
+use bx_disk::{CrashRack, Noise, Rack};
+use bx_outside::Sink;
+use bx_script::TraceLine;
+use bx_service::Service;
+
+impl<M: Service> Replay<M> {
+    /// All machines that are up crash, and their disks with them.
+    pub(crate) fn crash<B: CrashRack>(
+        &mut self,
+        noise: Noise,
+        bench: &mut B,
+    ) -> Result<(), OutOfMemory>
+        requires ready { M.ready self.old.service (B.state bench.old).sizes }
+        ensures crashes { (tree : Tree) (doubt : Option Doubt) (done : List Done) (start written : List ℕ) (how : Noise) → B.tells bench.old → M.holds self.old.service (B.state bench.old) tree doubt → length done < 4294967295
+            → IsInPlace false (CrashLine how) → Stands tree (M.up self.old.service) (M.waits self.old.service) doubt self.old.calls done start written
+            → OnOk result (StandsAfter (M.holds self.new.service (B.state bench.new)) (M.up self.new.service) (M.waits self.new.service) self.new.calls (CrashLine how) done start written) }
+        ensures holds { (tree : Tree) (doubt : Option Doubt) → B.tells bench.old → M.holds self.old.service (B.state bench.old) tree doubt → OnOk result (M.holds self.new.service (B.state bench.new) tree doubt) }
+        ensures up { OnOk result (M.up self.new.service ≡ false) }
+        ensures latest { OnOk result (M.latest self.new.service ≡ M.latest self.old.service) }
+        ensures ready { OnOk result (M.ready self.new.service (B.state bench.new).sizes) }
+        ensures calls { self.new.calls ≡ self.old.calls }
+        ensures bench_later { B.faults bench.old ≤ B.faults bench.new }
+        ensures bench_tells { B.tells bench.old → B.tells bench.new }
+    {
+        if self.service.is_up() {
+            self.service.crash();
+            crash_all(bench, noise)?;
+        }
+        Ok(())
+    }
+
+    /// All machines that are down start again. The point of a call that turns out to have acted is told.
+    pub(crate) fn restart<K: Sink, B: Rack>(
+        &mut self,
+        bench: &mut B,
+        out: &mut K,
+    ) -> Result<(), Stop>
+        requires ready { M.ready self.old.service (B.state bench.old).sizes }
+        ensures restarts { (tree : Tree) (doubt : Option Doubt) (reading : ℕ) (done : List Done) (start : List ℕ) → K.tells out.old → B.tells bench.old → M.holds self.old.service (B.state bench.old) tree doubt → length done < 4294967295
+            → IsInPlace false (RestartLine reading) → Stands tree (M.up self.old.service) (M.waits self.old.service) doubt self.old.calls done start (K.written out.old)
+            → DoesLine result (StandsAfter (M.holds self.new.service (B.state bench.new)) (M.up self.new.service) (M.waits self.new.service) self.new.calls (RestartLine reading) done start (K.written out.new)) (RestartLine reading) done start (K.written out.old) (K.written out.new) }
+        ensures holds { (tree : Tree) (doubt : Option Doubt) → B.tells bench.old → M.holds self.old.service (B.state bench.old) tree doubt → OnOk result ((next : Tree) × (now : Option Doubt) × M.holds self.new.service (B.state bench.new) next now) }
+        ensures up { OnOk result (M.up self.new.service ≡ true) }
+        ensures latest { OnOk result (M.latest self.new.service ≡ M.latest self.old.service) }
+        ensures ready { OnOk result (M.ready self.new.service (B.state bench.new).sizes) }
+        ensures cause { IfErr result (λ stop. HasPrintCause stop (K.faults out.old) (K.faults out.new)) }
+        ensures first { UnlessWrite result (K.faults out.new ≡ K.faults out.old) }
+        ensures calls { self.new.calls ≡ self.old.calls }
+        ensures later { K.faults out.old ≤ K.faults out.new }
+        ensures keeps_telling { K.tells out.old → K.tells out.new }
+        ensures bench_later { B.faults bench.old ≤ B.faults bench.new }
+        ensures bench_tells { B.tells bench.old → B.tells bench.new }
+    {
+        if self.service.is_up() {
+            return Ok(());
+        }
+        if let Some(point) = self.service.restart(bench)? {
+            print_lines(&mut self.text, &[TraceLine::Acted(point)], out)?;
+        }
+        Ok(())
+    }
+}

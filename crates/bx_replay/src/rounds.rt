@@ -1,0 +1,79 @@
+//! How a replay runs.
+
+ghost use Rattle.std.specs.Prelude.{◌≡◌, ◌≤◌, List, ℕ, IfErr, OnOk, Option};
+ghost use Rattle.std.specs.List.{AllByRecursion};
+ghost use Rattle.bx_history.specs.Along.{Done};
+ghost use Rattle.bx_model.specs.declared.tree.Tree.{Tree};
+ghost use Rattle.bx_script.specs.declared.line.Line.TheVariants.{Run as RunLine};
+ghost use Rattle.bx_script.specs.TraceText.{InTraceRange, trace_text};
+ghost use Rattle.bx_replay.specs.Replay.{DoesLine, HasPrintCause, Prints, StandsAfter, UnlessMemory, UnlessWrite, told_at};
+ghost use Rattle.bx_service.specs.Rounds.{Doubt};
+
+use crate::print::print_lines;
+use crate::state::Replay;
+use crate::stop::Stop;
+use bx_disk::Rack;
+use bx_outside::Sink;
+use bx_script::TraceLine;
+use bx_service::{Event, Service};
+
+impl<M: Service> Replay<M> {
+    /// Does rounds at a reading, until nothing is left to do, but at most so many.
+    pub(crate) fn run<K: Sink, B: Rack>(
+        &mut self,
+        reading: u64,
+        limit: u32,
+        bench: &mut B,
+        out: &mut K,
+    ) -> Result<(), Stop>
+        requires reading { reading ≤ 4294967295999 }
+        requires ready { M.ready self.old.service (B.state bench.old).sizes }
+        ensures latest { OnOk result (M.latest self.new.service ≡ M.latest self.old.service) }
+        ensures up { OnOk result (M.up self.new.service ≡ M.up self.old.service) }
+        ensures ready { OnOk result (M.ready self.new.service (B.state bench.new).sizes) }
+        ensures runs { (done : List Done) (start : List ℕ) → K.tells out.old → B.tells bench.old
+            → StandsAfter (M.holds self.old.service (B.state bench.old)) (M.up self.old.service) (M.waits self.old.service) self.old.calls (RunLine reading limit) done start (K.written out.old)
+            → DoesLine result (StandsAfter (M.holds self.new.service (B.state bench.new)) (M.up self.new.service) (M.waits self.new.service) self.new.calls (RunLine reading limit) done start (K.written out.new)) (RunLine reading limit) done start (K.written out.old) (K.written out.new) }
+        ensures holds { (tree : Tree) (doubt : Option Doubt) → B.tells bench.old → M.holds self.old.service (B.state bench.old) tree doubt → OnOk result ((next : Tree) × (now : Option Doubt) × M.holds self.new.service (B.state bench.new) next now) }
+        ensures cause { IfErr result (λ stop. HasPrintCause stop (K.faults out.old) (K.faults out.new)) }
+        ensures first { UnlessWrite result (K.faults out.new ≡ K.faults out.old) }
+        ensures calls { self.new.calls ≡ self.old.calls }
+        ensures later { K.faults out.old ≤ K.faults out.new }
+        ensures keeps_telling { K.tells out.old → K.tells out.new }
+        ensures bench_later { B.faults bench.old ≤ B.faults bench.new }
+        ensures bench_tells { B.tells bench.old → B.tells bench.new }
+    {
+        for _ in 0..limit {
+            if self.service.is_quiet() {
+                return Ok(());
+            }
+            if let Some(event) = self.service.round(bench, reading)? {
+                tell(&mut self.text, event, out)?;
+            }
+        }
+        Ok(())
+    }
+}
+
+/// Tells what happened in a round. The text has room for that, and what it had goes.
+fn tell<K: Sink>(text: &mut Vec<u8>, event: Event, out: &mut K) -> Result<(), Stop>
+    ensures prints { K.tells out.old → Prints result (trace_text (told_at event)) (K.written out.old) (K.written out.new) }
+    ensures in_range { UnlessMemory result (AllByRecursion InTraceRange (told_at event)) }
+    ensures cause { IfErr result (λ stop. HasPrintCause stop (K.faults out.old) (K.faults out.new)) }
+    ensures first { UnlessWrite result (K.faults out.new ≡ K.faults out.old) }
+    ensures later { K.faults out.old ≤ K.faults out.new }
+    ensures keeps_telling { K.tells out.old → K.tells out.new }
+{
+    match event {
+        Event::Answered(acted) => {
+            let call = acted.point.call;
+            let reply = acted.reply;
+            let lines = [
+                TraceLine::Acted(acted.point),
+                TraceLine::Reply { call, reply },
+            ];
+            print_lines(text, &lines, out)
+        }
+        Event::Found(point) => print_lines(text, &[TraceLine::Acted(point)], out),
+    }
+}

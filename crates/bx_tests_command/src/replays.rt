@@ -51,6 +51,24 @@ const MODE_DONE: &str =
 const MODE_TRACE: &str =
     "took 1 0 5 000000010000000000000002000186a30000000200000002000000010000001400000000000000000000000000000000000000000000000000000000424f58574f4f4431000000000000000700000000000000010000000000000000000001edffffffffffffffffffffffffffffffffffffffffffffffffffffffff\npoint 1 1000 8 0000000000000000\nreply 1 0000000100000001000000000000000000000000000000000000000000000002000041ed000000020000000000000000000010000000100000000000000000080000000700000002000000000000000000000000000000000000000100000000\n";
 
+/// The same call, and a crash of all while its gate may be on the disks: it was, or it is lost. What is told when they start again.
+const MODE_KEPT: &str =
+    "boxwood 1 7 1 1 1\ncall 1000 0 5 000000010000000000000002000186a30000000200000002000000010000001400000000000000000000000000000000000000000000000000000000424f58574f4f4431000000000000000700000000000000010000000000000000000001edffffffffffffffffffffffffffffffffffffffffffffffffffffffff\nrun 1000 5\ncrash all keep\nrestart 2000 all\nrun 2000 10\n";
+
+const MODE_LOST: &str =
+    "boxwood 1 7 1 1 1\ncall 1000 0 5 000000010000000000000002000186a30000000200000002000000010000001400000000000000000000000000000000000000000000000000000000424f58574f4f4431000000000000000700000000000000010000000000000000000001edffffffffffffffffffffffffffffffffffffffffffffffffffffffff\nrun 1000 5\ncrash all drop\nrestart 2000 all\nrun 2000 10\n";
+
+/// A crash of all after that, and none starts again.
+const MODE_DOWN: &str =
+    "boxwood 1 7 1 1 1\ncall 1000 0 5 000000010000000000000002000186a30000000200000002000000010000001400000000000000000000000000000000000000000000000000000000424f58574f4f4431000000000000000700000000000000010000000000000000000001edffffffffffffffffffffffffffffffffffffffffffffffffffffffff\nrun 1000 5\ncrash all keep\nrun 2000 10\n";
+
+const MODE_FOUND_TRACE: &str =
+    "took 1 0 5 000000010000000000000002000186a30000000200000002000000010000001400000000000000000000000000000000000000000000000000000000424f58574f4f4431000000000000000700000000000000010000000000000000000001edffffffffffffffffffffffffffffffffffffffffffffffffffffffff\npoint 1 1000 8 0000000000000000\n";
+
+/// What comes after the trace where the call is in doubt at the end.
+const MODE_DOUBT: &str =
+    "end\npoint 1 1000 8 0000000000000000\nfile 0000000000000001 2 40755 2 0 0 4096 0.000000 0.000000 1.000000\ndir 0000000000000001 3\n";
+
 /// What comes after the trace once the mode is set.
 const MODE_CLOSING: &str =
     "end\nfile 0000000000000001 2 40755 2 0 0 4096 0.000000 0.000000 1.000000\ndir 0000000000000001 3\n";
@@ -104,6 +122,11 @@ fn a_call_is_answered(rt: HostRuntime) -> Result<(), Fail> {
         ("boxwood 1 7 1 1 1\ncall 0 0 5 0000000100000001\n", ""),
         ("boxwood 1 7 1 1 1\n", ""),
         ("boxwood 1 7 1 1 1", ""),
+        // Only what is up crashes, and only what is down starts again.
+        (
+            "boxwood 1 7 1 1 1\ncrash all keep\ncrash all seed:7\nrun 0 1\nrestart 0 all\nrestart 0 all\n",
+            "",
+        ),
     ] {
         assert!(rt;
             comes_to(rt.alloc(), schedule, (0, 0, 0), Ok(()), (trace, CLOSING))?,
@@ -130,6 +153,24 @@ fn a_line_is_refused(rt: HostRuntime) -> Result<(), Fail> {
         ("boxwood 1 7 2 1 1\n", 1, Reason::Grammar, ""),
         ("boxwood 1 7 1 1 1\ncall 0 1 5 00\n", 2, Reason::Grammar, ""),
         (WALK, 3, Reason::Grammar, NULL_TAKEN),
+        (
+            "boxwood 1 7 1 1 1\ncrash all drop\ncall 0 0 5 00\n",
+            3,
+            Reason::Down,
+            "",
+        ),
+        (
+            "boxwood 1 7 1 1 1\ncrash all seed:18446744073709551616\n",
+            2,
+            Reason::Grammar,
+            "",
+        ),
+        (
+            "boxwood 1 7 1 1 1\nrestart 4294967296000 all\n",
+            2,
+            Reason::Grammar,
+            "",
+        ),
     ] {
         let stop = Err(Stop::Refused(line, reason));
         assert!(rt;
@@ -169,6 +210,9 @@ fn a_mode_is_answered_once_it_is_logged(rt: HostRuntime) -> Result<(), Fail> {
     for (schedule, trace, closing) in [
         (MODE_EARLY, MODE_TAKEN, CLOSING),
         (MODE_DONE, MODE_TRACE, MODE_CLOSING),
+        (MODE_KEPT, MODE_FOUND_TRACE, MODE_CLOSING),
+        (MODE_LOST, MODE_TAKEN, CLOSING),
+        (MODE_DOWN, MODE_TAKEN, MODE_DOUBT),
     ] {
         assert!(rt;
             comes_to(rt.alloc(), schedule, (0, 0, 0), Ok(()), (trace, closing))?,

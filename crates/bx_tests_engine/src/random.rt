@@ -41,7 +41,12 @@ fn next_below(state: &mut u32, bound: u32) -> u32 {
 }
 
 /// What a tree answers a call that makes the file with a handle, or 0; none where it is no call.
-fn told(alloc: Global, tree: &mut Tree, parts: &[&[u32]], made: u64) -> Result<Option<Raw>, Fail> {
+pub(crate) fn told(
+    alloc: Global,
+    tree: &mut Tree,
+    parts: &[&[u32]],
+    made: u64,
+) -> Result<Option<Raw>, Fail> {
     let call = bytes_of(alloc, parts)?;
     let Some((xid, read)) = bx_nfs::reads_as(alloc, call.as_slice())? else {
         return Ok(None);

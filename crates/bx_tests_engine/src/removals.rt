@@ -1,10 +1,11 @@
 //! REMOVE, beside the file tree that the blocks stand for.
 
 use crate::desk::Desk;
-use crate::random::{is_same, random_call, tree_of};
+use crate::random::{is_same, random_call, told, tree_of};
 use crate::words::{GONE, LINK, ROOT, attempt, bytes_of};
-use bx_model::Tree;
-use bx_views::Attempt;
+use bx_base::Raw;
+use bx_records::Draft;
+use bx_views::{Attempt, Done};
 use std::alloc::Global;
 use std::test::Fail;
 
@@ -22,34 +23,52 @@ const REFUSED: [(&[u32], [u32; 2]); 4] = [
     (&GONE, NAME),
 ];
 
-/// Attempts the removal of the link's name, whose blocks the desk then holds. Whether it changes four, and is answered as by a tree.
-fn is_removed(alloc: Global, desk: &mut Desk, tree: &mut Tree) -> Result<bool, Fail> {
+/// Attempts the removal of the link's name, whose blocks the desk then holds; the reply's bytes, where it changes four.
+fn removed(alloc: Global, desk: &mut Desk) -> Result<Option<Raw>, Fail> {
     let call = bytes_of(alloc, &[&REMOVE, &ROOT, &NAME])?;
-    let Some((xid, read)) = bx_nfs::reads_as(alloc, call.as_slice())? else {
-        return Ok(false);
-    };
-    let Some(reply) = tree.act(&read, 0, 8, 0)? else {
-        return Ok(false);
-    };
-    let text = bx_nfs::text(alloc, xid, &reply)?;
-    let Some(Attempt::Change(draft, done)) = attempt(alloc, desk, call.as_slice(), 0)? else {
-        return Ok(false);
-    };
-    desk.take_in(alloc, &draft)?;
-    Ok(draft.blocks().len() == 4 && done.reply.bytes() == text.bytes())
+    match attempt(alloc, desk, call.as_slice(), 0)? {
+        Some(Attempt::Change(draft, done)) => changed(alloc, desk, &draft, done),
+        _ => Ok(None),
+    }
 }
 
-#[test]
-fn a_name_that_is_removed_is_gone(rt: HostRuntime) -> Result<(), Fail> {
-    let alloc = rt.alloc();
+/// What a change says, if it is one of four blocks, which the desk then holds.
+fn changed(alloc: Global, desk: &mut Desk, draft: &Draft, done: Done) -> Result<Option<Raw>, Fail> {
+    desk.take_in(alloc, draft)?;
+    if draft.blocks().len() == 4 {
+        Ok(Some(done.reply))
+    } else {
+        Ok(None)
+    }
+}
+
+/// Whether both are there, and are the same bytes.
+fn are_same(one: &Option<Raw>, other: &Option<Raw>) -> bool {
+    match (one, other) {
+        (Some(one), Some(other)) => one.bytes() == other.bytes(),
+        _ => false,
+    }
+}
+
+/// A desk on which the link's name may be removed.
+fn desk_for_removal(alloc: Global) -> Result<Desk, Fail> {
     let mut desk = Desk::new(alloc);
     desk.hold(alloc, 0)?;
     desk.hold_names(alloc)?;
     desk.hold_link(alloc, 9)?;
     desk.hold_area(alloc, 10)?;
     desk.lend_file(alloc, 2..9, 0o644)?;
+    Ok(desk)
+}
+
+#[test]
+fn a_name_that_is_removed_is_gone(rt: HostRuntime) -> Result<(), Fail> {
+    let alloc = rt.alloc();
+    let mut desk = desk_for_removal(alloc)?;
     let mut tree = tree_of(alloc)?;
-    assert!(rt; is_removed(alloc, &mut desk, &mut tree)?);
+    let reply = removed(alloc, &mut desk)?;
+    let want = told(alloc, &mut tree, &[&REMOVE, &ROOT, &NAME], 0)?;
+    assert!(rt; are_same(&reply, &want));
     let mut state = 20261128;
     for turn in 0..200 {
         let call = random_call(alloc, &mut state)?;

@@ -54,7 +54,7 @@ behind (x ∷ schedule) [] line others e all all_done = record { value = x; rest
 behind (x ∷ schedule) (d ∷ done) line others e all all_done =
     let same : x ≡ d = spelling_injective x d all.0 all_done.0 (head_is (spelling x) (spelling d) (map spelling schedule) (map spelling done ++ line ∷ others) e) in
     let later = behind schedule done line others (tail_is (spelling x) (spelling d) (map spelling schedule) (map spelling done ++ line ∷ others) e) all.1 all_done.1 in
-    record { value = later.value; rest = later.rest; whole = rw same (ap (λ (l : List Line). d ∷ l) later.whole); spelled = later.spelled; in_range = later.in_range }
+    record { value = later.value; rest = later.rest; whole = ap (λ (l : List Line). x ∷ l) later.whole ∙ ap (λ (head : Line). head ∷ (done ++ later.value ∷ later.rest)) same; spelled = later.spelled; in_range = later.in_range }
 
 -- the line behind these was allowed
 allowed_at : (newer older : List Line) (line : Line) → AllowedNewest Allows (newer ++ line ∷ older) → Allows older line

@@ -1,17 +1,17 @@
 -- An account goes on where nodes end, and where it is found later that a call acted which has no reply.
-use Rattle.std.proofs.Common.{◌≡◌, ℕ, Bool, true, false, List, [], ◌∷◌, Option, Some, None, refl, sym, eqb}
-use Rattle.std.specs.Prelude.{◌≢◌, ◌||◌}
+use Rattle.std.proofs.Common.{◌≡◌, ℕ, Bool, true, false, List, [], ◌∷◌, Option, Some, None, refl, sym}
+use Rattle.std.specs.Prelude.{◌≢◌}
 use Rattle.std.specs.List.{AllByRecursion}
 use Rattle.std.proofs.lemmas.Bool.{ne_eqb, or_from}
 use Rattle.bx_base.specs.declared.names.Point.{Point}
 use Rattle.bx_script.specs.declared.trace_line.TraceLine.{TraceLine}
 use Rattle.bx_script.specs.declared.trace_line.TraceLine.TheVariants.{Acted}
 use Rattle.bx_history.specs.Trace.{Entry, Taking, takings}
-use Rattle.bx_history.specs.Parts.{Happening, Part, trace_of}
+use Rattle.bx_history.specs.Parts.{Part, trace_of}
 use Rattle.bx_history.specs.Placed.{Rules, HasReadingSince, IsAnsweredAtOnce, is_immediate_at}
 use Rattle.bx_history.specs.Along.{all_end}
 use Rattle.bx_history.specs.Account.{AwaitsNewest, IsPatient, IsPending, LacksPoint, entry_for}
-use Rattle.bx_history.proofs.Waiting.{all_mapped, all_of, no_prompt}
+use Rattle.bx_history.proofs.Waiting.{all_of, no_prompt}
 
 module _ {Tree : Type 0} (Step : Tree → Entry → Tree → Type 0) (rules : Rules) (patient : IsPatient rules) where
   -- ---- all nodes end: no call waits any more

@@ -7,10 +7,9 @@ use Rattle.bx_engine.specs.Calls.{IsBuiltCall}
 use Rattle.bx_lone_machine.specs.Machine.{AreRising, calls_of, latest_of}
 use Rattle.bx_lone_machine.specs.declared.machine.LoneMachine.{LoneMachine}
 use Rattle.bx_lone_machine.proofs.Arrivals.{built_more}
-use Rattle.bx_lone_machine.proofs.Rising.{rising_more, up_to}
+use Rattle.bx_lone_machine.proofs.Rising.{rising_more}
 use Rattle.bx_facts.proofs.Lists.{behind}
 use Rattle.bx_lone_node.specs.declared.stage.Waiting.{Waiting}
-use Rattle.bx_history.specs.Trace.{Taking}
 use Rattle.bx_lone_service.specs.Calls.{taking_of}
 use Rattle.bx_lone_service.specs.Stages.{AreQueued, latest_in}
 use Rattle.bx_lone_service.specs.declared.returning.Left.{Left}

@@ -1,5 +1,5 @@
 -- What rounds and recoveries are to a service.
-use Rattle.std.proofs.Common.{◌≡◌, ℕ, ◌<◌, ◌≤◌, ◌⊎◌, inl, inr, List, [], ◌∷◌, ◌++◌, Option, Some, None, Result, Ok, Err, OnOk, refl, sym, ap, subst, ◌∙◌, arith}
+use Rattle.std.proofs.Common.{◌≡◌, ℕ, ◌⊎◌, inl, inr, List, [], ◌∷◌, ◌++◌, Option, Some, None, Result, Ok, Err, OnOk, refl, sym, ap, subst, ◌∙◌, arith}
 use Rattle.std.specs.Prelude.{IfSome, is_some, map, true}
 use Rattle.std.specs.Option.{option_map}
 use Rattle.bx_base.specs.declared.names.Point.{Point}
@@ -18,7 +18,7 @@ use Rattle.bx_lone_repair.specs.Left as lefts
 use Rattle.bx_lone_repair.specs.Recovering.{IsFoundOpen}
 use Rattle.bx_model.specs.declared.tree.Tree.{Tree}
 use Rattle.bx_history.specs.Trace.{Taking}
-use Rattle.bx_service.specs.Rounds.{Answers, Doubt, Finds, Follows, GoesOn, IsBegun, Restarts}
+use Rattle.bx_service.specs.Rounds.{Answers, Doubt, Finds, GoesOn, IsBegun, Restarts}
 use Rattle.bx_lone_service.specs.Calls.{taking_of}
 use Rattle.bx_lone_service.specs.Stages.{AreQueued, IsHolding, IsLeftBy, doubt_as, latest_in, maybe_doubt}
 use Rattle.bx_lone_service.specs.declared.returning.Left.{Left}

@@ -1,5 +1,5 @@
 -- What a service is by its stage.
-use Rattle.std.specs.Prelude.{◌≡◌, ℕ, ◌<◌, ◌≤◌, ◌-◌, nat_lt, Bool, true, false, List, [], ◌∷◌, Contains, map, Option, Some, None, refl}
+use Rattle.std.specs.Prelude.{◌≡◌, ℕ, ◌≤◌, nat_lt, Bool, true, false, List, [], ◌∷◌, Contains, map, Option, Some, None, refl}
 use Rattle.bx_disk.specs.Disks.{Disks}
 use Rattle.bx_engine.specs.Calls.{IsBuiltCall}
 use Rattle.bx_history.specs.Trace.{Taking}

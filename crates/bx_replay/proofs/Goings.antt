@@ -1,6 +1,6 @@
 -- A replay between two lines: how it goes on, and what it leaves where it stops.
 use Rattle.std.proofs.Common.{◌≡◌, ℕ, ◌+◌, ◌<◌, ◌≤◌, ◌==◌, Bool, List, [], ◌∷◌, ◌++◌, length, Option, Some, None, true, false, refl, sym, ap, ◌∙◌, arith, inl, inr, append_assoc}
-use Rattle.std.specs.Prelude.{if◌then◌else◌, map, reverse, ◌⊎◌}
+use Rattle.std.specs.Prelude.{map, reverse, ◌⊎◌}
 use Rattle.std.proofs.lemmas.List.{append-nil, append_cancel_left}
 use Rattle.bx_base.specs.Text.{BeginsWith, LacksFeed, lines_of}
 use Rattle.bx_model.specs.declared.tree.Tree.{Tree}
@@ -13,7 +13,6 @@ use Rattle.bx_history.specs.Along.{Done, parts_of, schedule_of}
 use Rattle.bx_script.specs.declared.trace_line.TraceLine.{TraceLine}
 use Rattle.bx_script.specs.declared.trace_line.TraceLine.TheVariants.{Acted}
 use Rattle.bx_service.specs.Rounds.{Doubt}
-use Rattle.bx_base.specs.declared.names.Point.{Point}
 use Rattle.bx_history.specs.Trace as traces
 use Rattle.bx_history.proofs.Waiting.{quiet_part}
 use Rattle.bx_model.specs.Opening.{opening}

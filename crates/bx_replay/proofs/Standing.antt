@@ -1,20 +1,18 @@
 -- A replay that stands goes on by one line, or by what happens within a run.
 use Rattle.std.proofs.Common.{◌≡◌, ℕ, ◌+◌, ◌<◌, Bool, false, List, [], ◌∷◌, ◌++◌, length, Option, Some, None, inl, inr, true, refl, sym, ap, subst, ◌∙◌, arith, append_assoc}
-use Rattle.std.specs.Prelude.{◌≢◌, ◌==◌, ◌⊎◌, if◌then◌else◌, is_some, map, reverse}
+use Rattle.std.specs.Prelude.{◌≢◌, ◌==◌, if◌then◌else◌, is_some, map, reverse}
 use Rattle.std.specs.List.{AllByRecursion}
 use Rattle.std.proofs.lemmas.Bool.{ne_eqb}
 use Rattle.std.proofs.lemmas.List.{append-nil, length-append, length-map, length-reverse, reverse-append}
-use Rattle.bx_base.specs.declared.names.Point.{Point}
 use Rattle.bx_disk.specs.declared.noise.Noise.{Noise}
 use Rattle.bx_engine.specs.Calls.{IsBuiltCall}
 use Rattle.bx_script.specs.declared.line.Line.{Line}
 use Rattle.bx_script.specs.declared.line.Line.TheVariants.{Heading, Call, Run, Crash, Restart}
 use Rattle.bx_script.specs.declared.trace_line.TraceLine.{TraceLine}
-use Rattle.bx_script.specs.declared.trace_line.TraceLine.TheVariants.{Took, Acted}
+use Rattle.bx_script.specs.declared.trace_line.TraceLine.TheVariants.{Took}
 use Rattle.bx_script.specs.TraceText.{InTraceRange, trace_text}
 use Rattle.bx_history.specs.Trace as traces
 use Rattle.bx_history.specs.Parts.{trace_of}
-use Rattle.bx_history.specs.Placed.{HasReadingSince}
 use Rattle.bx_history.specs.Along.{Done, parts_of, schedule_of}
 use Rattle.bx_history.specs.Account.{AreNewestFirst, AwaitsNewest, IsPatient, IsPending, LacksPoint, waits_with}
 use Rattle.bx_history.proofs.Ended.{ended_part}

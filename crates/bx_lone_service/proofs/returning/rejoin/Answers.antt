@@ -1,5 +1,4 @@
-use Rattle.std.proofs.Common.{sym, ◌∙◌, ap, subst}
-use Rattle.std.proofs.lemmas.List.{append-nil}
+use Rattle.std.proofs.Common.{◌∙◌, subst}
 use Rattle.bx_lone_service.proofs.Queues.{Joins, joins_first, joins_next}
 use Rattle.bx_lone_service.proofs.returning.rejoin.Goals as goal
 

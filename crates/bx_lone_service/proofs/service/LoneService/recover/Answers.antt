@@ -1,4 +1,4 @@
-use Rattle.std.proofs.Common.{None, refl, ap, ◌∙◌, sym}
+use Rattle.std.proofs.Common.{None}
 use Rattle.bx_lone_service.proofs.Rounding.{finds, none_doubted, none_was}
 use Rattle.bx_lone_service.proofs.service.LoneService.recover.Goals as goal
 

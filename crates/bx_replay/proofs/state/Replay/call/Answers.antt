@@ -1,4 +1,4 @@
-use Rattle.std.proofs.Common.{◌≡◌, [], true, false, inl, inr, refl, sym, ◌∙◌}
+use Rattle.std.proofs.Common.{◌≡◌, [], true, false, inr, refl, sym, ◌∙◌}
 use Rattle.bx_script.specs.declared.line.Line.TheVariants.{Call}
 use Rattle.bx_replay.specs.Headline.{is_message}
 use Rattle.bx_replay.proofs.Printing.{serves_line}

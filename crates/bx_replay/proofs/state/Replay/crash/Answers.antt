@@ -1,5 +1,4 @@
 use Rattle.std.proofs.Common.{◌≡◌, [], false, sym, ◌∙◌}
-use Rattle.bx_script.specs.declared.line.Line.TheVariants.{Crash}
 use Rattle.bx_replay.proofs.Standing.{stands_crashed}
 use Rattle.bx_replay.proofs.state.Replay.crash.Goals as goal
 

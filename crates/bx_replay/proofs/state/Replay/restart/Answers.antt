@@ -1,4 +1,4 @@
-use Rattle.std.proofs.Common.{◌≡◌, ◌∷◌, [], true, inr, sym, ◌∙◌}
+use Rattle.std.proofs.Common.{◌≡◌, ◌∷◌, [], true, sym, ◌∙◌}
 use Rattle.std.proofs.lemmas.Result.{err_from_is_err_and}
 use Rattle.bx_script.specs.declared.line.Line.TheVariants.{Restart}
 use Rattle.bx_script.specs.declared.trace_line.TraceLine.TheVariants.{Acted}

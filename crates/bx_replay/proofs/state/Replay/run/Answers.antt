@@ -1,4 +1,4 @@
-use Rattle.std.proofs.Common.{Some, inr, ◌∙◌, arith}
+use Rattle.std.proofs.Common.{inr, ◌∙◌, arith}
 use Rattle.std.proofs.lemmas.Result.{err_from_is_err_and}
 use Rattle.bx_replay.proofs.Rounding.{after_waiting, breaks_before, goes_event, held_after, told_after, untold}
 use Rattle.bx_replay.specs.Replay.{told_at}

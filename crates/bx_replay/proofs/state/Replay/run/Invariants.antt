@@ -1,4 +1,4 @@
-use Rattle.std.proofs.Common.{◌≡◌, ◌≤◌, ℕ, List, Option, ◌-◌}
+use Rattle.std.proofs.Common.{◌≡◌, ◌≤◌, ℕ, List, Option}
 use Rattle.bx_history.specs.Along.{Done}
 use Rattle.bx_model.specs.declared.tree.Tree.{Tree}
 use Rattle.bx_script.specs.declared.line.Line.TheVariants.{Run}

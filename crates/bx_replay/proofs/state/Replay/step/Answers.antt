@@ -1,5 +1,4 @@
-use Rattle.std.proofs.Common.{◌≡◌, [], true, inr, refl, sym, ◌∙◌}
-use Rattle.bx_replay.proofs.Printing.{serves_line}
+use Rattle.std.proofs.Common.{[], refl}
 use Rattle.bx_replay.proofs.Standing.{stands_silent}
 use Rattle.bx_replay.proofs.state.Replay.step.Goals as goal
 

@@ -1,6 +1,7 @@
 //! The lines of a schedule, in the grammar and outside it.
 
 use bx_base::OutOfMemory;
+use bx_disk::Noise;
 use bx_script::Line;
 use std::alloc::Global;
 use std::test::Fail;
@@ -65,9 +66,42 @@ fn headings_and_runs_are_read(rt: HostRuntime) -> Result<(), Fail> {
     Ok(())
 }
 
+/// What a crash that a text is the line of makes of unsure sectors.
+fn noise_in(alloc: Global, text: &[u8]) -> Result<Option<Noise>, OutOfMemory> {
+    match Line::read(alloc, text)? {
+        Some(Line::Crash { noise }) => Ok(Some(noise)),
+        _ => Ok(None),
+    }
+}
+
+#[test]
+fn crashes_and_restarts_are_read(rt: HostRuntime) -> Result<(), Fail> {
+    let texts: [(&[u8], Noise); 3] = [
+        (b"crash all keep", Noise::Keep),
+        (b"crash all drop", Noise::Drop),
+        (
+            b"crash all seed:18446744073709551615",
+            Noise::Seed(u64::MAX),
+        ),
+    ];
+    for (text, noise) in texts {
+        assert!(rt; noise_in(rt.alloc(), text)? == Some(noise), "{text:?}");
+    }
+    let restart = Line::read(rt.alloc(), b"restart 4294967295999 all")?;
+    assert!(rt;
+        matches!(
+            restart,
+            Some(Line::Restart {
+                reading: 4294967295999,
+            })
+        )
+    );
+    Ok(())
+}
+
 #[test]
 fn other_lines_are_refused(rt: HostRuntime) -> Result<(), Fail> {
-    let texts: [&[u8]; 29] = [
+    let texts: [&[u8]; 40] = [
         b"",
         b"boxwood",
         b"boxwood 1 7 1 1",
@@ -97,6 +131,17 @@ fn other_lines_are_refused(rt: HostRuntime) -> Result<(), Fail> {
         b"run 0 1 ",
         b"run \xff 1",
         b"run 0 1\r",
+        b"crash all",
+        b"crash n0 keep",
+        b"crash all keep ",
+        b"crash all seed:",
+        b"crash all seed:07",
+        b"crash all seed:18446744073709551616",
+        b"crash all Keep",
+        b"restart all",
+        b"restart 0 n0",
+        b"restart 0 all ",
+        b"restart 4294967296000 all",
     ];
     for text in texts {
         assert!(rt; !is_line(rt.alloc(), text)?, "{text:?}");

@@ -2,6 +2,8 @@
 #![tactic(auto)]
 
 mod attributes;
+mod error;
 mod rewriting;
 
 pub use attributes::set_mode;
+pub use error::ChangeError;

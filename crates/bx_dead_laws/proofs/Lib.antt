@@ -1,0 +1,4 @@
+pub mod Given
+pub mod Levels
+pub mod Absorbed
+pub mod Lowered

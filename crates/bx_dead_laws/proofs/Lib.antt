@@ -4,3 +4,7 @@ pub mod Absorbed
 pub mod Lowered
 pub mod DeadFile
 pub mod DeadTree
+pub mod Slots
+pub mod DeadPiece
+pub mod Bare
+pub mod Gone

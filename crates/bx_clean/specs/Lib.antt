@@ -1,2 +1,4 @@
 pub mod Held
+pub mod Pages
 pub mod Puts
+pub mod Trees

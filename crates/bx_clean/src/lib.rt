@@ -1,5 +1,8 @@
 //! Dead files are freed, a step at a time.
 #![tactic(auto)]
 
+mod files;
 mod held;
+mod pages;
 mod puts;
+mod trees;

@@ -1,2 +1,7 @@
 mod Firsts
 mod Takes
+mod Found
+mod Freed
+mod Sizes
+mod Cuts
+mod Stripped

@@ -18,7 +18,7 @@ use Rattle.bx_clean.specs.Puts.{FreesSlotOf, PutsAndFrees}
 -- some, or takes the neighbour's place.
 pub data ShrinksBelow (held : Held) (areas root child : ℕ) (below : Contents) (result : Result (List Changed) ChunkError) : Type 0 where
   lowers : below.right ≡ 0 → PutsAndFrees held areas root below child result → ShrinksBelow held areas root child below result
-  cuts_child : below.right ≢ 0 → below.level ≡ 0 → CutsFirst held areas child below result → ShrinksBelow held areas root child below result
+  cuts_child : below.right ≢ 0 → below.level ≡ 0 → below.entries ≢ [] → CutsFirst held areas child below result → ShrinksBelow held areas root child below result
   absorbs : below.right ≢ 0 → (below.level ≡ 0 → below.entries ≡ []) → AbsorbsNext held areas child below result → ShrinksBelow held areas root child below result
 
 -- A root above the leaves: where it has more entries than one, all but the first go; else what is below it shrinks.
@@ -42,7 +42,7 @@ pub data FreesTree (held : Held) (areas handle : ℕ) (inode : Inode) (result : 
 pub data CleansTree (held : Held) (areas handle : ℕ) (inode : Inode) (result : Result (List Changed) ChunkError) : Type 0 where
   no_page : (error : ChunkError) → PageAt held areas inode.tree (Err error) → result ≡ Err error → CleansTree held areas handle inode result
   shrinks : (page : Contents) → HoldsPage held areas inode.tree page → 0 < page.level → ShrinksAbove held areas inode.tree page result → CleansTree held areas handle inode result
-  cuts_root : (page : Contents) → HoldsPage held areas inode.tree page → page.level ≡ 0 → CutsFirst held areas inode.tree page result → CleansTree held areas handle inode result
+  cuts_root : (page : Contents) → HoldsPage held areas inode.tree page → page.level ≡ 0 → page.entries ≢ [] → CutsFirst held areas inode.tree page result → CleansTree held areas handle inode result
   ends : (page : Contents) → HoldsPage held areas inode.tree page → page.level ≡ 0 → page.entries ≡ [] → FreesTree held areas handle inode result → CleansTree held areas handle inode result
 
 -- the slot of a dead inode is marked no more, and freed

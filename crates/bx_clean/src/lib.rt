@@ -5,4 +5,7 @@ mod files;
 mod held;
 mod pages;
 mod puts;
+mod tidying;
 mod trees;
+
+pub use tidying::Tidied;

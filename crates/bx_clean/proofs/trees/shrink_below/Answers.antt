@@ -1,4 +1,4 @@
-use Rattle.std.proofs.Common.{◌≡◌, [], arith, sym, ◌∙◌}
+use Rattle.std.proofs.Common.{◌≡◌, [], ap, arith, length, sym, ◌∙◌}
 use Rattle.std.specs.Prelude.{◌≢◌}
 use Rattle.bx_clean.specs.Trees.{absorbs, cuts_child, lowers}
 use Rattle.bx_clean.proofs.Firsts.{none_there}
@@ -10,7 +10,8 @@ returns-then-right-eq0 g c = lowers (sym c.right.ensures ∙ c.if-right-eq0.true
 
 pub returns-then-len-gt0 : goal.returns-then-len-gt0
 returns-then-len-gt0 g c =
-    cuts_child (λ e. let r = c.right.ensures in let f = c.if-right-eq0.false in absurd (omega (arith, e, r, f))) (sym c.level.ensures ∙ c.if-level-eq0.true) c.cut.ensures
+    cuts_child (λ e. let r = c.right.ensures in let f = c.if-right-eq0.false in absurd (omega (arith, e, r, f))) (sym c.level.ensures ∙ c.if-level-eq0.true)
+    (λ e. let n = c.len.ensures in let f = c.if-len-gt0.true in let m = ap length e in absurd (omega (arith, n, f, m))) c.cut.ensures
 
 pub returns : goal.returns
 returns g c =

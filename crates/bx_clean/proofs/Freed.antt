@@ -1,12 +1,14 @@
 -- A slot that is freed in a draft of one block, and a page that is put before, by the truth.
-use Rattle.std.proofs.Common.{◌≡◌, ℕ, ◌+◌, ◌<◌, ◌≤◌, arith, Bool, true, false, List, [], ◌∷◌, length, Option, Some, None, Result, Ok, Err, refl, sym, ap, subst, ◌∙◌}
+use Rattle.std.proofs.Common.{◌≡◌, ℕ, ◌+◌, ◌<◌, ◌≤◌, arith, Bool, true, false, List, [], ◌∷◌, get_or, length, Option, Some, None, Result, Ok, Err, refl, sym, ap, subst, ◌∙◌}
 use Rattle.std.specs.Prelude.{◌≢◌, ◌==◌, if◌then◌else◌}
 use Rattle.bx_chunks.specs.Freeing.{FreesAt, FreesIn, Removes, slot_freed}
+use Rattle.bx_chunks.specs.Putting.{empty_of, own_of}
 use Rattle.bx_chunks.specs.declared.error.ChunkError.{ChunkError}
 use Rattle.bx_chunks.specs.declared.error.ChunkError.TheVariants.{Need, Stale, Full, OutOfMemory, Crowded}
 use Rattle.bx_chunks.proofs.Drafts.{length_put}
 use Rattle.bx_chunks.proofs.Removed.{frees_in}
 use Rattle.bx_handles.specs.Handles.{parts_of}
+use Rattle.bx_layout.specs.Areas.{freed_word, with_word}
 use Rattle.bx_layout.specs.declared.block.Block.{Block}
 use Rattle.bx_leaves.specs.Leaves.{PutsPage}
 use Rattle.bx_leaves.proofs.Written.{draft_elsewhere, holds_still, own_not_slot, puts_writes}
@@ -61,7 +63,8 @@ module _ (areas : ℕ) (held : Held) (truth : Truth) (few : areas ≤ 64) (same 
       by (Err (Need at mode)) f = tt
       by (Err OutOfMemory) f = tt
       by (Err Stale) f = none_some block (sym (is old (Err Stale) f) ∙ chunk)
-      by (Err Crowded) f = let n = f.no_room in let m = two_more old (own_block (parts_of handle).area) (block_at handle) _ _ in absurd (omega (arith, n, m, short))
+      by (Err Crowded) f = let n = f.no_room in let m = two_more old (own_block (parts_of handle).area) (block_at handle)
+          (own_of (parts_of handle).area (with_word f.slots (parts_of handle).slot (freed_word (get_or f.slots.words (parts_of handle).slot 0)))) (empty_of 0 0) in absurd (omega (arith, n, m, short))
       by (Err (Full spare)) f = f
 
   -- a page that is put, in a draft of its own

@@ -5,3 +5,4 @@ mod Freed
 mod Sizes
 mod Cuts
 mod Stripped
+mod Below

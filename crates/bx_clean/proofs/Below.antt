@@ -46,7 +46,7 @@ empty_below : (a b : List ℕ) → IsBelow a b → IsBelow [] b
 empty_below a [] less = let e : false ≡ true = sym (none_below a) ∙ less in absurd cc
 empty_below a (x ∷ xs) less = refl
 
-none_first : (es : List Entry) (key : List ℕ) → option_map (λ (e : Entry). e.key) (first_of_list es) ≡ Some key → slice_get es 0 ≡ None → ⊥
+pub none_first : (es : List Entry) (key : List ℕ) → option_map (λ (e : Entry). e.key) (first_of_list es) ≡ Some key → slice_get es 0 ≡ None → ⊥
 none_first es key some none =
     let e : ◌≡◌ {A = Option (List ℕ)} None (Some key) = ap (option_map (λ (e : Entry). e.key)) (sym none) ∙ some in absurd cc
 

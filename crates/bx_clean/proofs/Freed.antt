@@ -30,7 +30,7 @@ use Rattle.bx_clean.proofs.Found.{IsWant}
 none_some : (block : Block) → ◌≡◌ {A = Option Block} None (Some block) → ⊥
 none_some block e = absurd cc
 
-one_more : (draft : List Changed) (at : ℕ) (block : Block) → length (with_block draft at block) ≤ length draft + 1
+pub one_more : (draft : List Changed) (at : ℕ) (block : Block) → length (with_block draft at block) ≤ length draft + 1
 one_more [] at block = omega arith
 one_more (x ∷ draft) at block = by (x.0 == at) (one_more draft at block)
   where
@@ -41,12 +41,12 @@ one_more (x ∷ draft) at block = by (x.0 == at) (one_more draft at block)
 two_more : (draft : List Changed) (one other : ℕ) (a b : Block) → length (with_block (with_block draft one a) other b) ≤ length draft + 2
 two_more draft one other a b = let x = one_more draft one a in let y = one_more (with_block draft one a) other b in omega (arith, x, y)
 
-within : (areas handle : ℕ) → IsSlot areas (block_at handle) → (parts_of handle).area < areas
+pub within : (areas handle : ℕ) → IsSlot areas (block_at handle) → (parts_of handle).area < areas
 within areas handle slot = let s = slot.area in omega (arith, s)
 
 module _ (areas : ℕ) (held : Held) (truth : Truth) (few : areas ≤ 64) (same : IsTruth held truth) where
   -- what freeing a slot answers
-  abbrev FreedIn : List Changed → ℕ → Result (List Changed) ChunkError → Type 0
+  abbrev pub FreedIn : List Changed → ℕ → Result (List Changed) ChunkError → Type 0
   FreedIn old handle (Ok new) = Removes areas (with_draft truth old) (with_draft truth new) handle
   FreedIn old handle (Err error) = IsWant error
 
@@ -67,21 +67,22 @@ module _ (areas : ℕ) (held : Held) (truth : Truth) (few : areas ≤ 64) (same 
           (own_of (parts_of handle).area (with_word f.slots (parts_of handle).slot (freed_word (get_or f.slots.words (parts_of handle).slot 0)))) (empty_of 0 0) in absurd (omega (arith, n, m, short))
       by (Err (Full spare)) f = f
 
-  -- a page that is put, in a draft of its own
-  module _ (handle : ℕ) (page : Contents) (mid : List Changed) (before : Block) (chunked : IsChunked areas truth) (chunk : chunks_of areas truth handle ≡ Some before) (p : PutsPage [] mid handle page) where
+  -- a block that is put, in a draft of its own
+  module _ (handle : ℕ) (mid : List Changed) (before after : Block) (chunked : IsChunked areas truth) (chunk : chunks_of areas truth handle ≡ Some before) (header : after.handle ≡ handle)
+      (put : mid ≡ with_block [] (block_at handle) after) where
     holds : Holds areas held truth []
     holds = record { same = same; chunked = chunked }
 
     pub short : length mid ≤ 1
-    short = let m = one_more [] (block_at handle) p.block in let e = ap length p.put in omega (arith, m, e)
+    short = let m = one_more [] (block_at handle) after in let e = ap length put in omega (arith, m, e)
 
-    pub put_anew : ChunkAnew (chunks_of areas truth) (chunks_of areas (with_draft truth mid)) handle p.block
-    put_anew = subst (λ (d : List Changed). ChunkAnew (chunks_of areas truth) (chunks_of areas (with_draft truth d)) handle p.block) (sym p.put) (puts_writes areas held truth [] handle before p.block holds chunk p.header)
+    pub put_anew : ChunkAnew (chunks_of areas truth) (chunks_of areas (with_draft truth mid)) handle after
+    put_anew = subst (λ (d : List Changed). ChunkAnew (chunks_of areas truth) (chunks_of areas (with_draft truth d)) handle after) (sym put) (puts_writes areas held truth [] handle before after holds chunk header)
 
     pub put_keeps : KeepsSlots areas truth (with_draft truth mid)
-    put_keeps = subst (λ (d : List Changed). KeepsSlots areas truth (with_draft truth d)) (sym p.put) (keeps_slots areas truth (with_draft truth (with_block [] (block_at handle) p.block)) (record {
-      chunked = (holds_still areas held truth [] handle before p.block holds chunk p.header).chunked;
-      own = λ area less. draft_elsewhere truth [] (block_at handle) (own_block area) p.block (own_not_slot areas (block_at handle) area (chunk_is areas truth handle before chunk).slot);
+    put_keeps = subst (λ (d : List Changed). KeepsSlots areas truth (with_draft truth d)) (sym put) (keeps_slots areas truth (with_draft truth (with_block [] (block_at handle) after)) (record {
+      chunked = (holds_still areas held truth [] handle before after holds chunk header).chunked;
+      own = λ area less. draft_elsewhere truth [] (block_at handle) (own_block area) after (own_not_slot areas (block_at handle) area (chunk_is areas truth handle before chunk).slot);
     }))
 
   -- a page that is put, and a slot that is freed then
@@ -99,13 +100,13 @@ module _ (areas : ℕ) (held : Held) (truth : Truth) (few : areas ≤ 64) (same 
   pub put_freed : (handle : ℕ) (page : Contents) (gone : ℕ) (before block : Block) → IsChunked areas truth → chunks_of areas truth handle ≡ Some before → chunks_of areas truth gone ≡ Some block → handle ≢ gone
       → (result : Result (List Changed) ChunkError) → PutsAndFrees held areas handle page gone result → PutFreedIn handle page gone result
   put_freed handle page gone before block chunked chunk there apart result (memory e) = subst (PutFreedIn handle page gone) (sym e) tt
-  put_freed handle page gone before block chunked chunk there apart result (puts mid p f) = by result (freed_in mid gone block (short handle page mid before chunked chunk p) keeps.chunked still result f)
+  put_freed handle page gone before block chunked chunk there apart result (puts mid p f) = by result (freed_in mid gone block (short handle mid before p.block chunked chunk p.header p.put) keeps.chunked still result f)
     where
       keeps : KeepsSlots areas truth (with_draft truth mid)
-      keeps = put_keeps handle page mid before chunked chunk p
+      keeps = put_keeps handle mid before p.block chunked chunk p.header p.put
 
       anew : ChunkAnew (chunks_of areas truth) (chunks_of areas (with_draft truth mid)) handle p.block
-      anew = put_anew handle page mid before chunked chunk p
+      anew = put_anew handle mid before p.block chunked chunk p.header p.put
 
       still : chunks_of areas (with_draft truth mid) gone ≡ Some block
       still = anew.others gone (λ e. apart (sym e)) ∙ there

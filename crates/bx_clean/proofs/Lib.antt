@@ -6,3 +6,5 @@ mod Sizes
 mod Cuts
 mod Stripped
 mod Below
+mod WholeTree
+mod WholeFile

@@ -25,7 +25,7 @@ pub data ShrinksBelow (held : Held) (areas root child : ℕ) (below : Contents) 
 pub data ShrinksAbove (held : Held) (areas root : ℕ) (page : Contents) (result : Result (List Changed) ChunkError) : Type 0 where
   many : 1 < length page.entries → StripsPage root page result → ShrinksAbove held areas root page result
   empty : slice_get page.entries 0 ≡ None → result ≡ Err Stale → ShrinksAbove held areas root page result
-  unread : (first : Entry) (error : ChunkError) → slice_get page.entries 0 ≡ Some first → PageAt held areas (handle_in first.value) (Err error) → result ≡ Err error → ShrinksAbove held areas root page result
+  unread : (first : Entry) (error : ChunkError) → length page.entries ≤ 1 → slice_get page.entries 0 ≡ Some first → PageAt held areas (handle_in first.value) (Err error) → result ≡ Err error → ShrinksAbove held areas root page result
   single : (first : Entry) (below : Contents) → length page.entries ≤ 1 → slice_get page.entries 0 ≡ Some first → HoldsPage held areas (handle_in first.value) below
       → ShrinksBelow held areas root (handle_in first.value) below result → ShrinksAbove held areas root page result
 

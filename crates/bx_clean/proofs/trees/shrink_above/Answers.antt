@@ -9,7 +9,7 @@ returns-then-len-gt1 g c = many (let n = c.len.ensures in let f = c.if-len-gt1.t
 
 pub returns-in-Err : goal.returns-in-Err
 returns-in-Err g c =
-    unread c.in-Some.first.now c.in-Err.error (sym c.in-Some.ensures)
+    unread c.in-Some.first.now c.in-Err.error (let n = c.len.ensures in let f = c.if-len-gt1.false in omega (arith, n, f)) (sym c.in-Some.ensures)
     (subst (λ (h : ℕ). PageAt (g.V.View.held c.args.view.now) c.args.areas h (Err c.in-Err.error)) (c.handle_in-child.ensures ∙ ap handle_in c.bytes.ensures) c.in-Err.ensures) refl
 
 pub returns-in-Ok : goal.returns-in-Ok

@@ -24,7 +24,7 @@ use Rattle.bx_views.specs.Truths.{Truth, Held, IsTruth, with_draft}
 use Rattle.bx_blink.proofs.Sees.{Holds}
 use Rattle.bx_dead_laws.specs.Shrinking.{ChunkGone}
 use Rattle.bx_dead_laws.proofs.Slots.{removes_keeps, slots_steps}
-use Rattle.bx_clean.specs.Puts.{FreesSlotOf, FreesTo, PutsAndFrees, frees, memory, none, puts}
+use Rattle.bx_clean.specs.Puts.{FreesSlotOf, FreesTo, PutsAndFrees, frees, memory, outside, puts}
 use Rattle.bx_clean.proofs.Found.{IsWant}
 
 none_some : (block : Block) → ◌≡◌ {A = Option Block} None (Some block) → ⊥
@@ -52,7 +52,7 @@ module _ (areas : ℕ) (held : Held) (truth : Truth) (few : areas ≤ 64) (same 
 
   pub freed_in : (old : List Changed) (handle : ℕ) (block : Block) → length old ≤ 1 → IsChunked areas (with_draft truth old) → chunks_of areas (with_draft truth old) handle ≡ Some block
       → (result : Result (List Changed) ChunkError) → FreesSlotOf held areas old handle result → FreedIn old handle result
-  freed_in old handle block short chunked chunk result (none outside e) = absurd (outside (chunk_is areas (with_draft truth old) handle block chunk).slot)
+  freed_in old handle block short chunked chunk result (outside other e) = absurd (other (chunk_is areas (with_draft truth old) handle block chunk).slot)
   freed_in old handle block short chunked chunk result (frees slot f) = by result f
     where
       is : (new : List Changed) (r : Result Unit ChunkError) → FreesAt held old new handle r → FreesIn areas truth old new handle r

@@ -8,3 +8,6 @@ mod Stripped
 mod Below
 mod WholeTree
 mod WholeFile
+mod Needed
+mod HeldOnes
+mod Told

@@ -16,7 +16,7 @@ FreesTo held old handle (Err error) = FreesAt held old old handle (Err error)
 
 -- the slot of a handle of the volume is freed; a handle that is none of the volume's is refused
 pub data FreesSlotOf (held : Held) (areas : ℕ) (old : List Changed) (handle : ℕ) (result : Result (List Changed) ChunkError) : Type 0 where
-  none : (IsSlot areas (block_at handle) → ⊥) → result ≡ Err Stale → FreesSlotOf held areas old handle result
+  outside : (IsSlot areas (block_at handle) → ⊥) → result ≡ Err Stale → FreesSlotOf held areas old handle result
   frees : IsSlot areas (block_at handle) → FreesTo held old handle result → FreesSlotOf held areas old handle result
 
 -- A page is put under its handle, and the slot of another handle is freed.

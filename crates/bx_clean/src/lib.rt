@@ -8,4 +8,4 @@ mod puts;
 mod tidying;
 mod trees;
 
-pub use tidying::Tidied;
+pub use tidying::{Tidied, tidy};

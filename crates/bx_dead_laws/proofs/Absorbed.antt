@@ -1,27 +1,24 @@
 -- The first page of the level below a root takes the place of its right neighbour too.
-use Rattle.std.proofs.Common.{◌≡◌, ℕ, suc, ◌+◌, ◌<◌, ◌≤◌, Bool, true, false, eqb, cond, get_or, List, [], ◌∷◌, ◌++◌, Option, Some, None, refl, sym, ap, subst, ◌∙◌, eqb-true, arith, inl, inr}
-use Rattle.std.specs.Prelude.{◌≢◌, ◌⊎◌, All, IfSome}
-use Rattle.std.proofs.lemmas.Bool.{eqb-false}
-use Rattle.std.proofs.lemmas.List.Elements.{All-weaker, All-head, All-cons}
+use Rattle.std.proofs.Common.{◌≡◌, ℕ, ◌+◌, ◌<◌, ◌≤◌, get_or, List, [], ◌∷◌, ◌++◌, Option, Some, None, refl, sym, ap, subst, ◌∙◌, arith, inl, inr}
+use Rattle.std.specs.Prelude.{◌≢◌, ◌⊎◌, IfSome}
+use Rattle.std.proofs.lemmas.List.Elements.{All-head, All-cons}
 use Rattle.bx_layout.specs.declared.block.Block.{Block}
 use Rattle.bx_page.specs.declared.entry.Entry.{Entry}
 use Rattle.bx_page.specs.Contents.{Contents}
-use Rattle.bx_page.specs.Keys.{is_below, IsBelow}
+use Rattle.bx_page.specs.Keys.{IsBelow}
 use Rattle.bx_page.proofs.Order.{below_trans}
 use Rattle.bx_truth.specs.Chunks.{chunks_of}
-use Rattle.bx_truth.specs.Edits.{HasPagesOf}
-use Rattle.bx_truth.specs.PageTrees.{Chunks, Node, IsIn, IsNode, Leads, IsChain, IsLevel, NamesChild, IsInterior, PageTree, IsTree, IsPageOf, entries_of, map_of}
+use Rattle.bx_truth.specs.PageTrees.{Chunks, Node, IsIn, IsNode, Leads, IsLevel, NamesChild, IsInterior, PageTree, IsTree, entries_of, map_of}
 use Rattle.bx_truth.specs.Shown.{KeepsSlots}
-use Rattle.bx_truth.specs.Stands.{WasGiven}
 use Rattle.bx_truth.proofs.Cases.{same_or}
 use Rattle.bx_truth.proofs.Put.{some_there}
 use Rattle.bx_views.specs.Truths.{Truth, Hints}
-use Rattle.bx_blink.specs.Hints.{HintsAgree, HintsFit, Place, StandsAt}
-use Rattle.bx_leaves.proofs.Exchanged.{apart_before, apart_behind}
+use Rattle.bx_blink.specs.Hints.{HintsFit}
+use Rattle.bx_leaves.proofs.Exchanged.{apart_behind}
 use Rattle.bx_leaves.proofs.Members.{in_cases, in_head, in_tail, in_none}
 use Rattle.bx_leaves.proofs.Replaced.{with_level}
 use Rattle.bx_dead_laws.specs.Shrinking.{ChunkGone, HasOneChild, MayReplace, ShrinksTree}
-use Rattle.bx_dead_laws.proofs.Levels.{moved, levels_apart, levels_now, level_below, inside_now, level_here, level_there, none_below, first_of}
+use Rattle.bx_dead_laws.proofs.Levels.{moved, levels_apart, levels_now, inside_now, level_here, level_there, none_below, first_of}
 use Rattle.bx_dead_laws.proofs.Given.{given_now}
 
 -- the first page, in the place of both

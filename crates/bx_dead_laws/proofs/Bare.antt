@@ -1,5 +1,5 @@
 -- A dead file loses its tree, which is one page without entries.
-use Rattle.std.proofs.Common.{◌≡◌, ℕ, ◌≤◌, arith, Bool, true, false, List, [], sym, ap, ◌∙◌, subst, refl, Option, Some, None, inl, inr}
+use Rattle.std.proofs.Common.{◌≡◌, ℕ, ◌≤◌, arith, Bool, false, List, [], sym, ap, ◌∙◌, refl, Some, None, inl, inr}
 use Rattle.std.specs.Prelude.{◌≢◌, ◌⊎◌, ◌==◌, if◌then◌else◌}
 use Rattle.bx_layout.specs.declared.block.Block.{Block}
 use Rattle.bx_layout.specs.declared.inode.Inode.{Inode}
@@ -13,17 +13,17 @@ use Rattle.bx_truth.specs.Keys.{content_key, content_value}
 use Rattle.bx_truth.specs.PageTrees.{Node, PageTree, IsTree, IsPageOf, map_of}
 use Rattle.bx_truth.specs.Shown.{KeepsSlots}
 use Rattle.bx_truth.specs.Stands.{StandsFor, inode_of}
-use Rattle.bx_truth.specs.Stored.{DataOf, HasInode, PageOf, Stored}
+use Rattle.bx_truth.specs.Stored.{DataOf, HasInode, PageOf}
 use Rattle.bx_truth.proofs.Cases.{eq_true, eq_false, same_or}
 use Rattle.bx_truth.proofs.Cleaned.{dead_anew, dead_shown}
 use Rattle.bx_views.specs.Truths.{Truth, Hints}
 use Rattle.bx_blink.specs.Hints.{HintsFit}
 use Rattle.bx_chunks.specs.Freeing.{Removes}
-use Rattle.bx_hints.specs.Fitting.{HintsFitAll, Continues, ChangesOne, IsPageUnder}
+use Rattle.bx_hints.specs.Fitting.{HintsFitAll, Continues, IsPageUnder}
 use Rattle.bx_hints.proofs.Later.{fit_still}
 use Rattle.bx_inodes.specs.Inodes.{HoldsInode}
 use Rattle.bx_dead_laws.specs.Cleaning.{Cleans}
-use Rattle.bx_dead_laws.proofs.DeadFile.{was, not_its, not_page, none_some, no_root, not_inodes, not_data, data_not_inodes, others_stay, itself, this_inode, from_stored, map_same, mine}
+use Rattle.bx_dead_laws.proofs.DeadFile.{was, not_its, not_page, none_some, no_root, not_inodes, data_not_inodes, others_stay, itself, this_inode, from_stored, map_same, mine}
 use Rattle.bx_dead_laws.proofs.Slots.{removes_keeps, slots_steps}
 
 no_value : (key value : List ℕ) → value_of [] key ≡ Some value → ⊥

@@ -1,16 +1,16 @@
 -- A dead file by its inode: what is its own, and what is another's.
-use Rattle.std.proofs.Common.{◌≡◌, ℕ, arith, Bool, true, false, [], sym, ap, ◌∙◌, subst, refl, Option, Some, None, inl, inr, List}
+use Rattle.std.proofs.Common.{◌≡◌, ℕ, arith, false, [], sym, ap, ◌∙◌, subst, refl, Option, Some, None, inl, inr}
 use Rattle.std.specs.Prelude.{◌≢◌, ◌⊎◌, ◌==◌}
 use Rattle.bx_layout.specs.declared.block.Block.{Block}
 use Rattle.bx_layout.specs.declared.inode.Inode.{Inode}
 use Rattle.bx_layout.specs.Inodes.{SpellsInode}
 use Rattle.bx_model.specs.declared.tree.Tree.{Tree}
 use Rattle.bx_truth.specs.Chunks.{chunks_of}
-use Rattle.bx_truth.specs.Dying.{IsDeadFile, IsShownDead}
-use Rattle.bx_truth.specs.PageTrees.{Chunks, Node, PageTree, IsTree, IsPageOf, map_of}
+use Rattle.bx_truth.specs.Dying.{IsDeadFile}
+use Rattle.bx_truth.specs.PageTrees.{Node, PageTree, IsTree, IsPageOf, map_of}
 use Rattle.bx_truth.specs.Shown.{KeepsOthers}
 use Rattle.bx_truth.specs.Stands.{StandsFor, inode_of}
-use Rattle.bx_truth.specs.Stored.{Owner, Inodes, PageOf, DataOf, Stored, HasContents, HasTree}
+use Rattle.bx_truth.specs.Stored.{Owner, Inodes, PageOf, DataOf, HasContents, HasTree}
 use Rattle.bx_truth.proofs.Cases.{eq_true}
 use Rattle.bx_truth.proofs.Cleaned.{dead_shown}
 use Rattle.bx_truth.proofs.Named.{named}

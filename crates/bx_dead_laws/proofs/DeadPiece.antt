@@ -1,6 +1,6 @@
 -- A dead file loses a piece: its entry, and its slot.
-use Rattle.std.proofs.Common.{◌≡◌, ℕ, ◌≤◌, arith, Bool, true, false, List, [], sym, ap, ◌∙◌, subst, refl, Option, Some, None, inl, inr}
-use Rattle.std.specs.Prelude.{◌≢◌, ◌⊎◌, ◌==◌, if◌then◌else◌, bytes_eq}
+use Rattle.std.proofs.Common.{◌≡◌, ℕ, ◌≤◌, arith, Bool, List, [], sym, ap, ◌∙◌, subst, refl, Some, None, inl, inr}
+use Rattle.std.specs.Prelude.{◌≢◌, ◌⊎◌, if◌then◌else◌, bytes_eq}
 use Rattle.bx_layout.specs.declared.block.Block.{Block}
 use Rattle.bx_layout.specs.declared.inode.Inode.{Inode}
 use Rattle.bx_model.specs.declared.tree.Tree.{Tree}
@@ -8,29 +8,27 @@ use Rattle.bx_page.specs.declared.entry.Entry.{Entry}
 use Rattle.bx_page.specs.Contents.{Contents, value_of}
 use Rattle.bx_page.proofs.Maps.{taken_value}
 use Rattle.bx_records.specs.Drafts.{Changed}
-use Rattle.bx_truth.specs.Chunks.{block_at, chunks_of}
+use Rattle.bx_truth.specs.Chunks.{chunks_of}
 use Rattle.bx_truth.specs.Keys.{content_key, content_value}
 use Rattle.bx_truth.specs.PageTrees.{Node, PageTree, IsTree, IsPageOf, handle_in, map_of, without_entry}
 use Rattle.bx_truth.specs.Pieces.{CutsPiece}
 use Rattle.bx_truth.specs.Shown.{KeepsSlots}
 use Rattle.bx_truth.specs.Stands.{StandsFor}
-use Rattle.bx_truth.specs.Stored.{DataOf, IsContent, PageOf}
+use Rattle.bx_truth.specs.Stored.{DataOf, IsContent}
 use Rattle.bx_truth.proofs.Cases.{eq_true, eq_false, same_or}
 use Rattle.bx_truth.proofs.Dirs.{keeps_slots}
 use Rattle.bx_truth.proofs.Frames.{handle_back, tree_kept}
-use Rattle.bx_truth.proofs.Freed.{freed_keeps}
 use Rattle.bx_truth.proofs.PieceCut.{dead_piece_cut}
 use Rattle.bx_views.specs.Truths.{Truth, Held, Hints, with_draft}
 use Rattle.bx_blink.specs.Hints.{HintsFit}
 use Rattle.bx_chunks.specs.Freeing.{Removes}
-use Rattle.bx_hints.specs.Fitting.{HintsFitAll, Continues, ChangesOne, IsPageUnder}
+use Rattle.bx_hints.specs.Fitting.{HintsFitAll, Continues, IsPageUnder}
 use Rattle.bx_hints.proofs.Later.{fit_later, fit_still}
-use Rattle.bx_hints.proofs.Pages.{one_block}
 use Rattle.bx_hints.proofs.Trees.{fit_other}
 use Rattle.bx_inodes.specs.Inodes.{HoldsInode}
 use Rattle.bx_leaves.specs.Changes.{MakesMap}
 use Rattle.bx_dead_laws.specs.Cleaning.{Cleans}
-use Rattle.bx_dead_laws.proofs.DeadFile.{was, root_same, none_some, no_root, not_inodes, not_data, data_not_inodes, itself, this_inode, stored_at, to_stored, from_stored, map_same, mine, contents}
+use Rattle.bx_dead_laws.proofs.DeadFile.{was, root_same, none_some, no_root, not_inodes, not_data, data_not_inodes, itself, this_inode, to_stored, from_stored, map_same, mine, contents}
 use Rattle.bx_dead_laws.proofs.Slots.{removes_keeps, slots_steps}
 
 module _ (areas : ℕ) (held : Held) (hints : Hints) (truth : Truth) (mid new : List Changed) (T : Tree) (handle : ℕ) (inode : Inode) (tree : PageTree) (key value : List ℕ) (few : areas ≤ 64)

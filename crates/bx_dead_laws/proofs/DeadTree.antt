@@ -1,5 +1,5 @@
 -- A dead file's page tree loses pages.
-use Rattle.std.proofs.Common.{◌≡◌, ℕ, arith, List, [], sym, ap, ◌∙◌, subst, refl, Option, Some, None, inl, inr}
+use Rattle.std.proofs.Common.{◌≡◌, ℕ, List, sym, ap, ◌∙◌, subst, refl, Some, inl, inr}
 use Rattle.std.specs.Prelude.{◌≢◌, ◌⊎◌}
 use Rattle.bx_layout.specs.declared.block.Block.{Block}
 use Rattle.bx_layout.specs.declared.inode.Inode.{Inode}
@@ -9,7 +9,7 @@ use Rattle.bx_page.specs.Contents.{value_of}
 use Rattle.bx_truth.specs.Chunks.{chunks_of}
 use Rattle.bx_truth.specs.Dying.{IsShownDead}
 use Rattle.bx_truth.specs.Keys.{content_key}
-use Rattle.bx_truth.specs.PageTrees.{Node, PageTree, IsTree, IsPageOf, map_of}
+use Rattle.bx_truth.specs.PageTrees.{PageTree, IsTree, map_of}
 use Rattle.bx_truth.specs.Shown.{IsPageIn, IsPieceIn}
 use Rattle.bx_truth.specs.Stands.{StandsFor}
 use Rattle.bx_truth.specs.Stored.{Owner, Inodes, PageOf, DataOf, Stored, IsContent}
@@ -18,14 +18,14 @@ use Rattle.bx_truth.proofs.Cleaned.{dead_anew, dead_shown}
 use Rattle.bx_truth.proofs.Put.{some_not, some_there}
 use Rattle.bx_views.specs.Truths.{Truth, Hints}
 use Rattle.bx_blink.specs.Hints.{HintsFit}
-use Rattle.bx_hints.specs.Fitting.{HintsFitAll, Continues, ChangesOne, IsPageUnder}
+use Rattle.bx_hints.specs.Fitting.{HintsFitAll, Continues, IsPageUnder}
 use Rattle.bx_hints.proofs.Later.{fit_still}
 use Rattle.bx_hints.proofs.Pages.{one_block}
 use Rattle.bx_hints.proofs.Trees.{fit_other}
 use Rattle.bx_inodes.specs.Inodes.{HoldsInode}
 use Rattle.bx_dead_laws.specs.Cleaning.{Cleans}
 use Rattle.bx_dead_laws.specs.Shrinking.{ShrinksTree}
-use Rattle.bx_dead_laws.proofs.DeadFile.{was, root_same, not_page, not_inodes, not_data, page_same, others_stay, itself, this_inode, stored_at, from_stored, map_same, mine, contents}
+use Rattle.bx_dead_laws.proofs.DeadFile.{was, root_same, not_page, not_inodes, not_data, page_same, others_stay, itself, this_inode, from_stored, map_same, mine, contents}
 
 module _ (areas : ℕ) (truth now : Truth) (T : Tree) (handle : ℕ) (inode : Inode) (tree after : PageTree) (is : StandsFor areas truth T) (holds : HoldsInode areas truth handle inode) (dead : inode.kind ≡ 0)
     (at : IsTree (chunks_of areas truth) inode.tree tree) (s : ShrinksTree areas truth now inode.tree tree after) where

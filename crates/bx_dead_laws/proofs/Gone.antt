@@ -1,12 +1,11 @@
 -- A dead file without a tree is gone: its slot is freed, and marked no more.
-use Rattle.std.proofs.Common.{◌≡◌, ℕ, ◌≤◌, arith, Bool, true, false, List, [], sym, ap, ◌∙◌, subst, refl, Option, Some, None, inl, inr}
+use Rattle.std.proofs.Common.{◌≡◌, ℕ, ◌≤◌, Bool, false, sym, ap, ◌∙◌, refl, Some, None, inl, inr}
 use Rattle.std.specs.Prelude.{◌≢◌, ◌⊎◌, ◌==◌, if◌then◌else◌}
 use Rattle.bx_layout.specs.declared.block.Block.{Block}
 use Rattle.bx_layout.specs.declared.inode.Inode.{Inode}
 use Rattle.bx_model.specs.declared.tree.Tree.{Tree}
-use Rattle.bx_truth.specs.Chunks.{block_at, chunks_of}
+use Rattle.bx_truth.specs.Chunks.{chunks_of}
 use Rattle.bx_truth.specs.Dying.{IsShownDead, MarksSlot}
-use Rattle.bx_truth.specs.PageTrees.{Node, PageTree, IsTree, IsPageOf}
 use Rattle.bx_truth.specs.Stands.{StandsFor, inode_of}
 use Rattle.bx_truth.specs.Stored.{Owner, Inodes, PageOf, DataOf}
 use Rattle.bx_truth.proofs.Cases.{eq_true, eq_false, same_or}
@@ -15,7 +14,6 @@ use Rattle.bx_truth.proofs.Frames.{tree_kept}
 use Rattle.bx_truth.proofs.Marking.{marked_then_kept}
 use Rattle.bx_truth.proofs.Same.{chunk_is}
 use Rattle.bx_views.specs.Truths.{Truth, Hints}
-use Rattle.bx_blink.specs.Hints.{HintsFit}
 use Rattle.bx_chunks.specs.Freeing.{Removes}
 use Rattle.bx_chunks.specs.Marking.{Marks}
 use Rattle.bx_hints.specs.Fitting.{HintsFitAll, Continues}

@@ -1,17 +1,15 @@
 -- A tree of which a level is other pages, with the levels below it.
-use Rattle.std.proofs.Common.{◌≡◌, ℕ, ◌+◌, ◌<◌, ◌≤◌, Bool, true, false, eqb, cond, List, [], ◌∷◌, ◌++◌, refl, sym, ap, subst, ◌∙◌, eqb-true, arith, inl, inr}
+use Rattle.std.proofs.Common.{◌≡◌, ℕ, ◌+◌, ◌<◌, ◌≤◌, Bool, true, false, eqb, cond, List, [], ◌∷◌, refl, sym, ap, subst, ◌∙◌, eqb-true, arith, inl, inr}
 use Rattle.std.specs.Prelude.{◌≢◌}
 use Rattle.std.specs.List.{AllByRecursion}
 use Rattle.std.proofs.lemmas.Bool.{eqb-false}
-use Rattle.std.proofs.lemmas.List.Elements.{All-weaker}
-use Rattle.bx_page.specs.declared.entry.Entry.{Entry}
 use Rattle.bx_page.specs.Contents.{Contents}
 use Rattle.bx_page.specs.Keys.{is_below, IsBelow}
-use Rattle.bx_truth.specs.PageTrees.{Chunks, Node, IsIn, IsNode, IsChain, IsLevel, NamesChild, IsInterior, PageTree, IsTree}
+use Rattle.bx_truth.specs.PageTrees.{Chunks, Node, IsIn, IsNode, IsLevel, IsInterior, PageTree, IsTree}
 use Rattle.bx_blink.proofs.Chains.{IsRange, all_before}
 use Rattle.bx_blink.proofs.Places.{range_of, ranges_of}
 use Rattle.bx_leaves.proofs.Apart.{same_page}
-use Rattle.bx_leaves.proofs.Members.{in_cases, in_head, in_none}
+use Rattle.bx_leaves.proofs.Members.{in_cases}
 use Rattle.bx_leaves.proofs.Replaced.{with_level}
 
 -- a page whose chunk is the same in other chunks

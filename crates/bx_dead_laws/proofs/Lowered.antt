@@ -1,12 +1,10 @@
 -- A root whose one child is alone on its level takes the child's place.
-use Rattle.std.proofs.Common.{◌≡◌, ℕ, ◌+◌, ◌<◌, ◌≤◌, List, [], ◌∷◌, ◌++◌, get_or, Option, Some, None, refl, sym, ap, subst, ◌∙◌, arith, inl, inr}
-use Rattle.std.specs.Prelude.{◌≢◌, ◌⊎◌, All, IfSome}
+use Rattle.std.proofs.Common.{◌≡◌, ℕ, ◌+◌, ◌<◌, ◌≤◌, List, [], ◌∷◌, get_or, Option, Some, None, refl, sym, ap, subst, ◌∙◌, arith, inl, inr}
+use Rattle.std.specs.Prelude.{◌≢◌, ◌⊎◌, IfSome}
 use Rattle.bx_layout.specs.declared.block.Block.{Block}
-use Rattle.bx_page.specs.declared.entry.Entry.{Entry}
-use Rattle.bx_page.specs.Contents.{Contents}
 use Rattle.bx_page.specs.Keys.{IsBelow}
 use Rattle.bx_truth.specs.Chunks.{chunks_of}
-use Rattle.bx_truth.specs.PageTrees.{Chunks, Node, HasPage, IsIn, IsNode, IsLevel, IsInterior, PageTree, IsTree, IsPageOf, entries_of, map_of}
+use Rattle.bx_truth.specs.PageTrees.{Node, HasPage, IsIn, IsNode, IsLevel, IsInterior, PageTree, IsTree, IsPageOf, entries_of, map_of}
 use Rattle.bx_truth.specs.Shown.{KeepsSlots}
 use Rattle.bx_truth.proofs.Cases.{same_or}
 use Rattle.bx_truth.proofs.Put.{some_there}

@@ -5,7 +5,7 @@ use Rattle.bx_page.specs.declared.entry.Entry.{Entry}
 use Rattle.bx_page.specs.Contents.{Contents}
 use Rattle.bx_truth.specs.Chunks.{chunks_of}
 use Rattle.bx_truth.specs.Edits.{HasPagesOf}
-use Rattle.bx_truth.specs.PageTrees.{Chunks, Node, PageTree, HasPage, IsIn, IsInterior, IsTree, IsPageOf, handle_in, map_of}
+use Rattle.bx_truth.specs.PageTrees.{Chunks, Node, PageTree, HasPage, IsInterior, IsTree, IsPageOf, handle_in, map_of}
 use Rattle.bx_truth.specs.Shown.{KeepsSlots}
 use Rattle.bx_views.specs.Truths.{Truth, Hints}
 use Rattle.bx_blink.specs.Hints.{HintsFit}
@@ -46,3 +46,7 @@ pub record MayReplace (tree : PageTree) (under : ℕ) (child next : Node) (page 
   pub high : page.high ≡ next.page.high
   pub leaf : under ≡ 0 → (child.page.entries ≡ []) × (page.entries ≡ next.page.entries)
   pub interior : (below : ℕ) → under ≡ below + 1 → IsInterior (tree.level below) (record { handle = child.handle; begins = child.begins; page = page })
+
+-- the tree shrinks to another one
+abbrev pub ShrinksInto : ℕ → Truth → Truth → ℕ → PageTree → Type 0
+ShrinksInto areas truth now root tree = (after : PageTree) × ShrinksTree areas truth now root tree after

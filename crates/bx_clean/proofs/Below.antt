@@ -1,6 +1,6 @@
 -- Below a root with one entry: the child takes the root's place, loses an entry, or takes its neighbour's place.
 use Rattle.std.proofs.Common.{◌≡◌, ℕ, ◌+◌, ◌-◌, ◌<◌, ◌≤◌, arith, Bool, true, false, List, [], ◌∷◌, ◌++◌, get_or, length, Option, Some, None, Result, Ok, Err, refl, sym, ap, subst, ◌∙◌}
-use Rattle.std.specs.Prelude.{◌≢◌, ◌==◌, if◌then◌else◌, All, IfSome, slice_get}
+use Rattle.std.specs.Prelude.{◌≢◌, if◌then◌else◌, All, IfSome, slice_get}
 use Rattle.std.specs.Int.{w64, from_be_bytes}
 use Rattle.std.specs.Option.{option_map}
 use Rattle.std.proofs.lemmas.List.Elements.{All-append, All-cons, All-filter}
@@ -9,12 +9,12 @@ use Rattle.bx_chunks.specs.declared.error.ChunkError.TheVariants.{OutOfMemory, S
 use Rattle.bx_layout.specs.declared.block.Block.{Block}
 use Rattle.bx_leaves.proofs.Members.{in_head, in_tail}
 use Rattle.bx_page.specs.declared.entry.Entry.{Entry}
-use Rattle.bx_page.specs.Contents.{Contents, IsPage, above, below, first as first_of_list, size, with_value, without_key}
+use Rattle.bx_page.specs.Contents.{Contents, above, below, first as first_of_list, size, with_value, without_key}
 use Rattle.bx_page.specs.Keys.{is_below, IsBelow}
 use Rattle.bx_page.proofs.Cuts.{filter_none}
 use Rattle.bx_records.specs.Drafts.{Changed}
 use Rattle.bx_truth.specs.Chunks.{chunks_of}
-use Rattle.bx_truth.specs.PageTrees.{HasPage, IsChain, IsIn, IsInterior, IsLevel, IsNode, Leads, NamesChild, Node, PageTree, handle_in, map_of}
+use Rattle.bx_truth.specs.PageTrees.{HasPage, IsIn, IsInterior, IsLevel, IsNode, NamesChild, Node, PageTree, handle_in}
 use Rattle.bx_truth.proofs.Cases.{eq_true}
 use Rattle.bx_views.specs.Truths.{Truth, Held, Hints, with_draft}
 use Rattle.bx_blink.specs.Hints.{Under}
@@ -25,15 +25,15 @@ use Rattle.bx_dead_laws.proofs.Lowered.{lowered, tree_lowered}
 use Rattle.bx_leaves.proofs.Exchanged.{apart_behind}
 use Rattle.bx_leaves.proofs.Replaced.{with_level}
 use Rattle.bx_clean.specs.Held.{HoldsPage, PageAt}
-use Rattle.bx_clean.specs.Pages.{AbsorbsNext, CutsFirst, LedBy, fails, inner, leaf, lead_empty, lead_high, lead_long, lead_memory, lead_none, leads, led_by, stops}
+use Rattle.bx_clean.specs.Pages.{AbsorbsNext, LedBy, fails, inner, leaf, lead_empty, lead_high, lead_long, lead_memory, lead_none, leads, led_by, stops}
 use Rattle.bx_clean.specs.Puts.{PutsAndFrees}
-use Rattle.bx_clean.specs.Trees.{ShrinksAbove, ShrinksBelow, absorbs, cuts_child, empty, lowers, many, single, unread}
-use Rattle.bx_clean.proofs.Cuts.{NamesPieces, StepIn, cut_in, no_first, shrinks}
+use Rattle.bx_clean.specs.Trees.{ShrinksBelow, absorbs, cuts_child, lowers}
+use Rattle.bx_clean.proofs.Cuts.{NamesPieces, StepIn, cut_in, shrinks}
 use Rattle.bx_clean.proofs.Firsts.{first_has}
-use Rattle.bx_clean.proofs.Freed.{PutFreed, PutFreedIn, put_freed}
+use Rattle.bx_clean.proofs.Freed.{PutFreedIn, put_freed}
 use Rattle.bx_clean.proofs.Found.{IsWant, page_err, page_is}
 use Rattle.bx_clean.proofs.Sizes.{led_fits}
-use Rattle.bx_clean.proofs.Stripped.{inner as inner_of, strip_in, top_begins, top_chunk, top_in, top_node}
+use Rattle.bx_clean.proofs.Stripped.{inner as inner_of, top_begins, top_chunk, top_node}
 
 -- a list of at most one member, which is this
 alone : (es : List Entry) (e : Entry) → length es ≤ 1 → slice_get es 0 ≡ Some e → es ≡ e ∷ []

@@ -1,5 +1,5 @@
 -- A step at a dead file's tree, for a truth: what it is, and a leaf that loses its first entry.
-use Rattle.std.proofs.Common.{◌≡◌, ℕ, ◌≤◌, arith, false, List, [], ◌∷◌, Option, Some, None, Result, Ok, Err, refl, sym, ap, subst, ◌∙◌}
+use Rattle.std.proofs.Common.{◌≡◌, ℕ, arith, false, List, [], ◌∷◌, Option, Some, None, Result, Ok, Err, refl, sym, ap, subst, ◌∙◌}
 use Rattle.std.specs.Prelude.{◌≢◌, All, IfSome, slice_get}
 use Rattle.bx_chunks.specs.Freeing.{Removes}
 use Rattle.bx_chunks.specs.declared.error.ChunkError.{ChunkError}
@@ -7,7 +7,7 @@ use Rattle.bx_layout.specs.declared.block.Block.{Block}
 use Rattle.bx_leaves.specs.Changes.{MakesMap}
 use Rattle.bx_leaves.proofs.LeafMaps.{removed}
 use Rattle.bx_page.specs.declared.entry.Entry.{Entry}
-use Rattle.bx_page.specs.Contents.{Contents, value_of, without_key}
+use Rattle.bx_page.specs.Contents.{value_of, without_key}
 use Rattle.bx_page.specs.Keys.{is_below, IsBelow}
 use Rattle.bx_page.proofs.Order.{same_itself}
 use Rattle.bx_records.specs.Drafts.{Changed}
@@ -20,7 +20,7 @@ use Rattle.bx_blink.proofs.Places.{value_here}
 use Rattle.bx_dead_laws.specs.Shrinking.{ShrinksTree}
 use Rattle.bx_clean.specs.Pages.{CutsFirst, cuts, cut_empty, cut_memory}
 use Rattle.bx_clean.proofs.Firsts.{first_has}
-use Rattle.bx_clean.proofs.Freed.{PutFreed, PutFreedIn, put_freed}
+use Rattle.bx_clean.proofs.Freed.{PutFreedIn, put_freed}
 use Rattle.bx_clean.proofs.Found.{IsWant}
 
 -- the value of the first entry's key

@@ -1,6 +1,5 @@
 -- What is read of a page and of a dead inode, where the truth has them.
-use Rattle.std.proofs.Common.{◌≡◌, ℕ, ◌≤◌, List, Some, None, Result, Ok, Err, refl, sym, ap, subst, ◌∙◌, inl, inr}
-use Rattle.std.specs.Prelude.{◌≢◌, ◌⊎◌}
+use Rattle.std.proofs.Common.{◌≡◌, ℕ, Some, Err, sym, ap, subst, ◌∙◌, inl, inr}
 use Rattle.bx_base.specs.declared.names.Mode.TheVariants.{Exclusive}
 use Rattle.bx_chunks.specs.declared.error.ChunkError.{ChunkError}
 use Rattle.bx_chunks.specs.declared.error.ChunkError.TheVariants.{Need, Stale, Full, OutOfMemory, Crowded}
@@ -14,7 +13,7 @@ use Rattle.bx_truth.specs.Stored.{HasInode}
 use Rattle.bx_truth.proofs.Same.{chunk_is}
 use Rattle.bx_views.specs.Truths.{Truth, Held, IsTruth}
 use Rattle.bx_inodes.specs.Inodes.{HoldsInode}
-use Rattle.bx_clean.specs.Held.{DeadAt, HoldsBlock, HoldsDead, HoldsNoDead, HoldsNoPage, HoldsPage, PageAt}
+use Rattle.bx_clean.specs.Held.{DeadAt, HoldsDead, HoldsNoDead, HoldsNoPage, HoldsPage, PageAt}
 
 -- what is asked for, or want of memory
 abbrev pub IsWant : ChunkError → Type 0

@@ -1,11 +1,10 @@
 -- A slot that is freed in a draft of one block, and a page that is put before, by the truth.
 use Rattle.std.proofs.Common.{◌≡◌, ℕ, ◌+◌, ◌<◌, ◌≤◌, arith, Bool, true, false, List, [], ◌∷◌, get_or, length, Option, Some, None, Result, Ok, Err, refl, sym, ap, subst, ◌∙◌}
 use Rattle.std.specs.Prelude.{◌≢◌, ◌==◌, if◌then◌else◌}
-use Rattle.bx_chunks.specs.Freeing.{FreesAt, FreesIn, Removes, slot_freed}
+use Rattle.bx_chunks.specs.Freeing.{FreesAt, FreesIn, Removes}
 use Rattle.bx_chunks.specs.Putting.{empty_of, own_of}
 use Rattle.bx_chunks.specs.declared.error.ChunkError.{ChunkError}
 use Rattle.bx_chunks.specs.declared.error.ChunkError.TheVariants.{Need, Stale, Full, OutOfMemory, Crowded}
-use Rattle.bx_chunks.proofs.Drafts.{length_put}
 use Rattle.bx_chunks.proofs.Removed.{frees_in}
 use Rattle.bx_handles.specs.Handles.{parts_of}
 use Rattle.bx_layout.specs.Areas.{freed_word, with_word}
@@ -13,7 +12,7 @@ use Rattle.bx_layout.specs.declared.block.Block.{Block}
 use Rattle.bx_leaves.specs.Leaves.{PutsPage}
 use Rattle.bx_leaves.proofs.Written.{draft_elsewhere, holds_still, own_not_slot, puts_writes}
 use Rattle.bx_page.specs.Contents.{Contents}
-use Rattle.bx_records.specs.Drafts.{Changed, block_in, with_block}
+use Rattle.bx_records.specs.Drafts.{Changed, with_block}
 use Rattle.bx_truth.specs.Chunks.{IsChunked, IsSlot, block_at, chunks_of, own_block}
 use Rattle.bx_truth.specs.Edits.{ChunkAnew}
 use Rattle.bx_truth.specs.Shown.{KeepsSlots}

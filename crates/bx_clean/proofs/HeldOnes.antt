@@ -1,13 +1,11 @@
 -- What a step writes is held exclusively.
-use Rattle.std.proofs.Common.{◌≡◌, ℕ, true, false, List, [], Option, Some, None, Result, Ok, Err, refl, sym, ap, subst}
+use Rattle.std.proofs.Common.{ℕ, false, List, [], Option, Result, Ok, Err, refl, sym, subst}
 use Rattle.std.specs.Prelude.{IsSome}
 use Rattle.bx_base.specs.declared.names.Mode.TheVariants.{Exclusive}
 use Rattle.bx_chunks.specs.declared.error.ChunkError.{ChunkError}
-use Rattle.bx_chunks.specs.declared.error.ChunkError.TheVariants.{OutOfMemory, Stale}
 use Rattle.bx_chunks.proofs.HeldDrafts.{frees_held, marks_held}
 use Rattle.bx_layout.specs.declared.block.Block.{Block}
 use Rattle.bx_layout.specs.declared.inode.Inode.{Inode}
-use Rattle.bx_leaves.specs.Leaves.{PutsPage}
 use Rattle.bx_leaves.proofs.Fair.{page_held, put_held}
 use Rattle.bx_page.specs.Contents.{Contents}
 use Rattle.bx_records.specs.Drafts.{Changed}
@@ -15,7 +13,7 @@ use Rattle.bx_truth.specs.Chunks.{block_at}
 use Rattle.bx_views.specs.Attempts.{IsHeldDraft}
 use Rattle.bx_views.specs.Truths.{Held}
 use Rattle.bx_clean.specs.Held.{HoldsDead, HoldsPage}
-use Rattle.bx_clean.specs.Pages.{AbsorbsNext, CutsFirst, StripsPage, cut_empty, cut_memory, cuts, fails, inner, leaf, stops, strip_empty, strip_memory, strips}
+use Rattle.bx_clean.specs.Pages.{AbsorbsNext, CutsFirst, cut_empty, cut_memory, cuts, fails, inner, leaf, stops, strip_empty, strip_memory, strips}
 use Rattle.bx_clean.specs.Puts.{FreesSlotOf, FreesTo, PutsAndFrees, frees, memory, outside, puts}
 use Rattle.bx_clean.specs.Trees.{CleansFile, CleansTree, FreesFile, FreesTree, ShrinksAbove, ShrinksBelow, absorbs, cuts_child, cuts_root, empty, ends, frees_file, frees_tree, lowers, many, no_inode, no_page, no_room, shrinks, single, unmarked, unread, with_tree, without_tree}
 

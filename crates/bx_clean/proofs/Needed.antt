@@ -1,17 +1,16 @@
 -- What a step needs: blocks of the volume that aren't held, of handles that the dead inode leads to.
-use Rattle.std.proofs.Common.{◌≡◌, ℕ, ◌<◌, ◌≤◌, arith, true, false, List, [], Option, Some, None, Result, Ok, Err, refl, sym, ap, subst, ◌∙◌, inl, inr}
-use Rattle.std.specs.Prelude.{◌⊎◌, ◌&&◌, nat_le, nat_lt, slice_get}
+use Rattle.std.proofs.Common.{◌≡◌, ℕ, ◌<◌, ◌≤◌, arith, true, false, List, [], None, Result, Ok, Err, refl, sym, subst, inl, inr}
+use Rattle.std.specs.Prelude.{◌⊎◌}
 use Rattle.std.proofs.lemmas.Bool.Decides.{nat_tests}
 use Rattle.bx_base.specs.declared.names.Mode.{Mode}
-use Rattle.bx_base.specs.declared.names.Mode.TheVariants.{Exclusive, Shared}
+use Rattle.bx_base.specs.declared.names.Mode.TheVariants.{Exclusive}
 use Rattle.bx_chunks.specs.Freeing.{LacksBlock as LacksOf, its_area, its_block, own_at}
-use Rattle.bx_chunks.specs.Marking.{FindsDeadAt, MarksAt}
+use Rattle.bx_chunks.specs.Marking.{MarksAt}
 use Rattle.bx_chunks.specs.declared.error.ChunkError.{ChunkError}
 use Rattle.bx_chunks.specs.declared.error.ChunkError.TheVariants.{Need, Stale, Full, OutOfMemory, Crowded}
 use Rattle.bx_handles.specs.Handles.{parts_of}
 use Rattle.bx_layout.specs.declared.inode.Inode.{Inode}
 use Rattle.bx_page.specs.Contents.{Contents}
-use Rattle.bx_page.specs.declared.entry.Entry.{Entry}
 use Rattle.bx_places.specs.Places.{block_area, block_slot, is_block}
 use Rattle.bx_records.specs.Drafts.{Changed}
 use Rattle.bx_truth.specs.Chunks.{IsSlot, block_at, own_block}

@@ -1,6 +1,6 @@
 -- A root that is left with its first entry.
-use Rattle.std.proofs.Common.{◌≡◌, ℕ, ◌+◌, ◌<◌, ◌≤◌, arith, false, List, [], ◌∷◌, ◌++◌, get_or, length, Option, Some, None, Result, Ok, Err, refl, sym, ap, subst, ◌∙◌, inl, inr}
-use Rattle.std.specs.Prelude.{◌≢◌, ◌⊎◌, All, slice_get}
+use Rattle.std.proofs.Common.{◌≡◌, ℕ, ◌+◌, ◌<◌, arith, List, [], ◌∷◌, ◌++◌, get_or, length, Option, Some, None, Result, Ok, refl, sym, ap, subst, ◌∙◌, inl, inr}
+use Rattle.std.specs.Prelude.{◌≢◌, ◌⊎◌, slice_get}
 use Rattle.std.specs.Option.{option_map}
 use Rattle.std.proofs.lemmas.List.Elements.{All-cons}
 use Rattle.bx_chunks.specs.declared.error.ChunkError.{ChunkError}
@@ -13,7 +13,6 @@ use Rattle.bx_leaves.proofs.Replaced.{Fits, with_level}
 use Rattle.bx_leaves.proofs.Rewritten.{rewritten}
 use Rattle.bx_page.specs.declared.entry.Entry.{Entry}
 use Rattle.bx_page.specs.Contents.{Contents}
-use Rattle.bx_page.specs.Keys.{is_below}
 use Rattle.bx_records.specs.Drafts.{Changed, with_block}
 use Rattle.bx_truth.specs.Chunks.{block_at, chunks_of}
 use Rattle.bx_truth.specs.PageTrees.{Node, PageTree, IsIn, IsInterior, IsLast, IsLevel, IsNode, NamesChild, entries_of, map_of}

@@ -1,9 +1,9 @@
 -- The first entry of a page, taken out, and another one put.
-use Rattle.std.proofs.Common.{◌≡◌, ℕ, ◌<◌, List, Some, None, Result, Ok, Err, refl, sym, ap, subst, ◌∙◌}
+use Rattle.std.proofs.Common.{◌≡◌, ℕ, ◌<◌, List, Some, Result, Ok, Err, refl, sym, ap, subst, ◌∙◌}
 use Rattle.std.specs.Prelude.{IfSome, slice_get}
 use Rattle.bx_chunks.specs.declared.error.ChunkError.{ChunkError}
 use Rattle.bx_chunks.specs.declared.error.ChunkError.TheVariants.{OutOfMemory, Stale}
-use Rattle.bx_page.specs.Contents.{Contents, size, with_value, without_key}
+use Rattle.bx_page.specs.Contents.{Contents, size, with_value}
 use Rattle.bx_page.specs.Keys.{IsBelow}
 use Rattle.bx_page.specs.declared.entry.Entry.{Entry}
 use Rattle.bx_records.specs.Drafts.{Changed}

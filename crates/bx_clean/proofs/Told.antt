@@ -1,5 +1,5 @@
 -- What a step of cleaning an area gives.
-use Rattle.std.proofs.Common.{◌≡◌, ℕ, ◌+◌, ◌*◌, ◌<◌, ◌≤◌, arith, true, false, List, Option, Some, None, Result, Ok, Err, refl, sym, ap, subst, ◌∙◌, inl, inr}
+use Rattle.std.proofs.Common.{◌≡◌, ℕ, ◌+◌, ◌*◌, ◌<◌, ◌≤◌, arith, true, false, List, Option, Some, None, Result, Ok, Err, sym, ap, subst, ◌∙◌}
 use Rattle.std.specs.Prelude.{IfOk}
 use Rattle.bx_base.specs.declared.memory.OutOfMemory.{OutOfMemory as NoMemory}
 use Rattle.bx_base.specs.declared.names.Mode.{Mode}
@@ -13,18 +13,15 @@ use Rattle.bx_layout.specs.Areas.{generation_in}
 use Rattle.bx_model.specs.declared.tree.Tree.{Tree}
 use Rattle.bx_places.specs.Places.{is_block}
 use Rattle.bx_records.specs.Drafts.{Changed}
-use Rattle.bx_truth.specs.Chunks.{IsSlot, block_at, chunks_of, handle_of, word_at}
+use Rattle.bx_truth.specs.Chunks.{chunks_of, handle_of, word_at}
 use Rattle.bx_truth.specs.Dying.{IsDeadFile}
 use Rattle.bx_truth.specs.Stands.{StandsFor}
 use Rattle.bx_truth.proofs.Put.{some_there}
 use Rattle.bx_truth.proofs.Same.{chunk_is}
-use Rattle.bx_views.specs.Attempts.{IsHeldDraft}
 use Rattle.bx_views.specs.Truths.{Truth, Held, Hints, IsTruth, with_draft}
 use Rattle.bx_hints.specs.Fitting.{HintsFitAll}
-use Rattle.bx_inodes.specs.Stands.{Stands}
 use Rattle.bx_dead_laws.specs.Cleaning.{Cleans}
 use Rattle.bx_clean.specs.declared.tidying.Tidied.{Tidied}
-use Rattle.bx_clean.specs.declared.tidying.Tidied.TheVariants.{Need, Inner, Clean}
 use Rattle.bx_clean.specs.Tidying.{HoldsDraft, IsClean, NeedsFor, OnTidyPath, Stops, TidiesAt, TidiesIn, clean, cleans, stopped, unread}
 use Rattle.bx_clean.specs.Trees.{CleansFile}
 use Rattle.bx_clean.proofs.Found.{IsWant}

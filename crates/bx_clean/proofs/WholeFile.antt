@@ -1,8 +1,8 @@
 -- A step at a dead file, for a truth.
-use Rattle.std.proofs.Common.{◌≡◌, ℕ, ◌+◌, ◌<◌, ◌≤◌, arith, false, List, [], ◌∷◌, ◌++◌, length, Option, Some, None, Result, Ok, Err, refl, sym, ap, subst, ◌∙◌, inl, inr}
+use Rattle.std.proofs.Common.{◌≡◌, ℕ, ◌<◌, ◌≤◌, arith, false, List, [], ◌∷◌, ◌++◌, length, Option, Some, None, Result, Ok, Err, refl, sym, ap, subst, ◌∙◌, inl, inr}
 use Rattle.std.specs.Prelude.{◌≢◌, ◌⊎◌}
-use Rattle.bx_chunks.specs.Freeing.{Removes, own_at}
-use Rattle.bx_chunks.specs.Marking.{Marks, MarksAt, MarksIn, area_put}
+use Rattle.bx_chunks.specs.Freeing.{own_at}
+use Rattle.bx_chunks.specs.Marking.{Marks, MarksAt, MarksIn}
 use Rattle.bx_chunks.specs.Putting.{own_of}
 use Rattle.bx_chunks.specs.declared.error.ChunkError.{ChunkError}
 use Rattle.bx_chunks.specs.declared.error.ChunkError.TheVariants.{Need, Stale, Full, OutOfMemory, Crowded}
@@ -13,15 +13,15 @@ use Rattle.bx_layout.specs.declared.inode.Inode.{Inode}
 use Rattle.bx_leaves.proofs.Members.{in_cases, in_none}
 use Rattle.bx_model.specs.declared.tree.Tree.{Tree}
 use Rattle.bx_page.specs.declared.entry.Entry.{Entry}
-use Rattle.bx_page.specs.Contents.{Contents, value_of}
+use Rattle.bx_page.specs.Contents.{Contents}
 use Rattle.bx_records.specs.Drafts.{Changed}
-use Rattle.bx_truth.specs.Chunks.{block_at, chunks_of}
+use Rattle.bx_truth.specs.Chunks.{chunks_of}
 use Rattle.bx_truth.specs.Dying.{IsDeadFile, IsShownDead}
 use Rattle.bx_truth.specs.Edits.{ChunkAnew}
 use Rattle.bx_truth.specs.PageTrees.{IsIn, IsPageOf, IsTree, Node, PageTree, entries_of, handle_in, map_of}
 use Rattle.bx_truth.specs.Shown.{KeepsSlots}
 use Rattle.bx_truth.specs.Stands.{StandsFor}
-use Rattle.bx_truth.specs.Stored.{HasContents, HasTree, PageOf}
+use Rattle.bx_truth.specs.Stored.{HasContents, HasTree}
 use Rattle.bx_truth.proofs.Cleaned.{dead_shown}
 use Rattle.bx_truth.proofs.Frames.{handle_back}
 use Rattle.bx_truth.proofs.Same.{chunk_is}
@@ -36,10 +36,10 @@ use Rattle.bx_dead_laws.proofs.DeadFile.{contents, itself, mine, not_inodes}
 use Rattle.bx_dead_laws.proofs.DeadPiece.{piece_freed}
 use Rattle.bx_dead_laws.proofs.DeadTree.{dead_shrinks}
 use Rattle.bx_dead_laws.proofs.Gone.{file_freed}
-use Rattle.bx_clean.specs.Held.{HoldsDead, HoldsPage, PageAt}
+use Rattle.bx_clean.specs.Held.{HoldsDead, HoldsPage}
 use Rattle.bx_clean.specs.Pages.{CutsFirst}
 use Rattle.bx_clean.specs.Trees.{CleansFile, CleansTree, FreesFile, FreesTree, ShrinksAbove, bare_inode, cuts_root, ends, frees_file, frees_tree, no_inode, no_page, no_room, shrinks, unmarked, with_tree, without_tree}
-use Rattle.bx_clean.proofs.Cuts.{NamesPieces, StepIn, TreeStep, cuts_entry, shrinks as shrinks_tree}
+use Rattle.bx_clean.proofs.Cuts.{NamesPieces, StepIn, cuts_entry, shrinks as shrinks_tree}
 use Rattle.bx_clean.proofs.Found.{IsWant, dead_err, dead_holds}
 use Rattle.bx_clean.proofs.Freed.{FreedIn, freed_in, one_more, put_anew, put_keeps, short, within}
 use Rattle.bx_clean.proofs.Stripped.{top_chunk, top_node}

@@ -1,11 +1,10 @@
 -- A step at a dead file's tree, for a truth.
-use Rattle.std.proofs.Common.{◌≡◌, ℕ, ◌-◌, ◌+◌, ◌<◌, ◌≤◌, arith, List, [], Option, Some, None, Result, Ok, Err, refl, sym, ap, subst, ◌∙◌}
+use Rattle.std.proofs.Common.{◌≡◌, ℕ, ◌-◌, ◌+◌, ◌<◌, arith, List, [], Result, Err, sym, subst}
 use Rattle.std.specs.Prelude.{◌≢◌}
 use Rattle.bx_chunks.specs.declared.error.ChunkError.{ChunkError}
-use Rattle.bx_chunks.specs.declared.error.ChunkError.TheVariants.{Stale}
 use Rattle.bx_page.specs.Contents.{Contents}
 use Rattle.bx_records.specs.Drafts.{Changed}
-use Rattle.bx_truth.specs.PageTrees.{IsIn, Node, PageTree}
+use Rattle.bx_truth.specs.PageTrees.{IsIn, PageTree}
 use Rattle.bx_views.specs.Truths.{Truth, Held, Hints}
 use Rattle.bx_blink.specs.Hints.{Under}
 use Rattle.bx_clean.specs.Held.{HoldsPage, PageAt}
@@ -14,7 +13,7 @@ use Rattle.bx_clean.specs.Trees.{ShrinksAbove, empty, many, single, unread}
 use Rattle.bx_clean.proofs.Below.{below_in, child_err, none_first}
 use Rattle.bx_clean.proofs.Cuts.{NamesPieces, StepIn, cut_in}
 use Rattle.bx_clean.proofs.Found.{IsWant, page_err, page_is}
-use Rattle.bx_clean.proofs.Stripped.{inner, strip_in, top_begins, top_chunk, top_in, top_node}
+use Rattle.bx_clean.proofs.Stripped.{inner, strip_in, top_chunk, top_in, top_node}
 
 module _ (areas : ℕ) (held : Held) (hints : Hints) (truth : Truth) (root : ℕ) (tree : PageTree) (u : Under areas held hints truth [] root tree) (pieces : NamesPieces areas held hints truth root tree) where
   pub root_is : (page : Contents) → HoldsPage held areas root page → page ≡ u.is.top.page

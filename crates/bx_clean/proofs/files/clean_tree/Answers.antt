@@ -1,4 +1,4 @@
-use Rattle.std.proofs.Common.{ap, arith, length, refl, sym, ◌∙◌}
+use Rattle.std.proofs.Common.{ap, arith, length, refl}
 use Rattle.bx_clean.specs.Trees.{cuts_root, ends, no_page, shrinks}
 use Rattle.bx_clean.proofs.Firsts.{none_there}
 use Rattle.bx_clean.proofs.files.clean_tree.Goals as goal

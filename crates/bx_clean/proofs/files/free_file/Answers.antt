@@ -1,4 +1,4 @@
-use Rattle.std.proofs.Common.{[], List, false, Err, Ok, refl, subst, sym, ◌∙◌}
+use Rattle.std.proofs.Common.{List, false, Err, Ok, refl, subst}
 use Rattle.bx_chunks.specs.Marking.{MarksAt}
 use Rattle.bx_records.specs.Drafts.{Changed}
 use Rattle.bx_clean.specs.Trees.{frees_file, unmarked}

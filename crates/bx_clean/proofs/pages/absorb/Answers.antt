@@ -1,4 +1,4 @@
-use Rattle.std.proofs.Common.{arith, ap, sym, refl, ◌∙◌, subst, ℕ, ◌<◌, Err}
+use Rattle.std.proofs.Common.{arith, sym, refl, ◌∙◌, subst, ℕ, ◌<◌, Err}
 use Rattle.bx_clean.specs.Held.{HoldsPage, PageAt}
 use Rattle.bx_clean.specs.Pages.{stops, leaf, fails, inner}
 use Rattle.bx_clean.specs.Puts.{PutsAndFrees}

@@ -1,6 +1,6 @@
 use Rattle.std.proofs.Common.{◌≡◌, [], ◌∷◌, None, arith, ap, sym, refl, subst, ◌∙◌, length}
 use Rattle.bx_leaves.specs.Leaves.{PutsPage}
-use Rattle.bx_page.specs.Contents.{Contents, with_value}
+use Rattle.bx_page.specs.Contents.{with_value}
 use Rattle.bx_clean.specs.Pages.{strips}
 use Rattle.bx_clean.proofs.Firsts.{first_child, first_fits}
 use Rattle.bx_clean.proofs.pages.strip.Goals as goal

@@ -1,5 +1,4 @@
-use Rattle.std.proofs.Common.{◌≡◌, [], ap, arith, length, sym, ◌∙◌}
-use Rattle.std.specs.Prelude.{◌≢◌}
+use Rattle.std.proofs.Common.{ap, arith, length, sym, ◌∙◌}
 use Rattle.bx_clean.specs.Trees.{absorbs, cuts_child, lowers}
 use Rattle.bx_clean.proofs.Firsts.{none_there}
 use Rattle.bx_clean.proofs.trees.shrink_below.Goals.{else-level-eq0-via-then-level-eq0+else-len-gt0, else-level-eq0-via-else-level-eq0}

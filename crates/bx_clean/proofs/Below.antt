@@ -29,6 +29,7 @@ use Rattle.bx_clean.specs.Pages.{AbsorbsNext, LedBy, fails, inner, leaf, lead_em
 use Rattle.bx_clean.specs.Puts.{PutsAndFrees}
 use Rattle.bx_clean.specs.Trees.{ShrinksBelow, absorbs, cuts_child, lowers}
 use Rattle.bx_clean.proofs.Cuts.{NamesPieces, StepIn, cut_in, shrinks}
+use Rattle.bx_clean.proofs.Fallen.{gone_falls}
 use Rattle.bx_clean.proofs.Firsts.{first_has}
 use Rattle.bx_clean.proofs.Freed.{PutFreedIn, put_freed}
 use Rattle.bx_clean.proofs.Found.{IsWant, page_err, page_is}
@@ -116,8 +117,10 @@ module _ (areas : ℕ) (held : Held) (hints : Hints) (truth : Truth) (root : ℕ
   module _ (x : Node) (parts : tree.level under ≡ x ∷ []) where
     lower_done : (result : Result (List Changed) ChunkError) → PutFreedIn areas held truth u.few u.same root x.page x.handle result → StepIn areas held hints truth root tree result
     lower_done (Err error) want = want
-    lower_done (Ok new) f = shrinks (tree_lowered tree under root x)
-        (lowered areas truth (with_draft truth new) root tree under u.is.top x f.puts.block u.is (one x [] parts) f.puts.has f.chunks f.slots)
+    lower_done (Ok new) f = (
+      shrinks (tree_lowered tree under root x) (lowered areas truth (with_draft truth new) root tree under u.is.top x f.puts.block u.is (one x [] parts) f.puts.has f.chunks f.slots),
+      gone_falls areas truth (with_draft truth new) root x.handle f.puts.block (top_node areas held hints truth root tree u).block (x_node x [] parts).block (top_chunk areas held hints truth root tree u) (x_node x [] parts).chunk f.chunks,
+    )
 
     last : x.page.right ≡ 0
     last = ((level x [] parts).chain).1.right
@@ -153,8 +156,11 @@ module _ (areas : ℕ) (held : Held) (hints : Hints) (truth : Truth) (root : ℕ
     absorb_done : (page : Contents) → ((block : Block) → HasPage page block → MayReplace tree under x y page block) → (result : Result (List Changed) ChunkError)
         → PutFreedIn areas held truth u.few u.same x.handle page y.handle result → StepIn areas held hints truth root tree result
     absorb_done page may (Err error) want = want
-    absorb_done page may (Ok new) f = shrinks (with_level tree under (kept_of x page ∷ ys))
-        (absorbed areas truth (with_draft truth new) root tree under u.is.top x y ys page f.puts.block u.is (one x (y ∷ ys) parts) (may f.puts.block f.puts.has) f.chunks f.slots)
+    absorb_done page may (Ok new) f = (
+      shrinks (with_level tree under (kept_of x page ∷ ys))
+          (absorbed areas truth (with_draft truth new) root tree under u.is.top x y ys page f.puts.block u.is (one x (y ∷ ys) parts) (may f.puts.block f.puts.has) f.chunks f.slots),
+      gone_falls areas truth (with_draft truth new) x.handle y.handle f.puts.block (x_node x (y ∷ ys) parts).block y_node.block (x_node x (y ∷ ys) parts).chunk y_node.chunk f.chunks,
+    )
 
     put_in : (page : Contents) → ((block : Block) → HasPage page block → MayReplace tree under x y page block) → (result : Result (List Changed) ChunkError)
         → PutsAndFrees held areas x.handle page x.page.right result → StepIn areas held hints truth root tree result

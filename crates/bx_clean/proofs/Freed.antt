@@ -37,7 +37,7 @@ one_more (x ∷ draft) at block = by (x.0 == at) (one_more draft at block)
     by true rest = omega arith
     by false rest = omega (arith, rest)
 
-two_more : (draft : List Changed) (one other : ℕ) (a b : Block) → length (with_block (with_block draft one a) other b) ≤ length draft + 2
+pub two_more : (draft : List Changed) (one other : ℕ) (a b : Block) → length (with_block (with_block draft one a) other b) ≤ length draft + 2
 two_more draft one other a b = let x = one_more draft one a in let y = one_more (with_block draft one a) other b in omega (arith, x, y)
 
 pub within : (areas handle : ℕ) → IsSlot areas (block_at handle) → (parts_of handle).area < areas

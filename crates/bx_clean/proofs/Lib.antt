@@ -3,6 +3,7 @@ mod Takes
 mod Found
 mod Freed
 mod Sizes
+mod Fallen
 mod Cuts
 mod Stripped
 mod Below

@@ -25,6 +25,7 @@ use Rattle.bx_dead_laws.proofs.Levels.{level_there, none_below}
 use Rattle.bx_clean.specs.Pages.{StripsPage, strip_empty, strip_memory, strips}
 use Rattle.bx_clean.proofs.Cuts.{StepIn, no_first, shrinks}
 use Rattle.bx_clean.proofs.Firsts.{first_has}
+use Rattle.bx_clean.proofs.Freed.{put_anew}
 
 none_some : (block : Block) → ◌≡◌ {A = Option Block} None (Some block) → ⊥
 none_some block e = absurd cc
@@ -83,8 +84,8 @@ module _ (areas : ℕ) (held : Held) (hints : Hints) (truth : Truth) (root : ℕ
             names = All-cons (NamesChild (tree.level under)) first [] (first_has (NamesChild (tree.level under)) u.is.top.page.entries first inner.names (sym is)) (λ k d less. elim less [ ]);
           })
 
-      strip_done : PutsPage [] new root (record { level = u.is.top.page.level; right = 0; high = None; entries = first ∷ [] }) → StepIn areas held hints truth root tree (Ok new)
-      strip_done p =
+      strip_done : 1 < length u.is.top.page.entries → PutsPage [] new root (record { level = u.is.top.page.level; right = 0; high = None; entries = first ∷ [] }) → StepIn areas held hints truth root tree (Ok new)
+      strip_done many p =
           let fits : Fits tree tree.height u.is.top left p.block = record {
             has = p.has;
             same_level = refl;
@@ -98,9 +99,19 @@ module _ (areas : ℕ) (held : Held) (hints : Hints) (truth : Truth) (root : ℕ
           let put : new ≡ with_block [] (block_at u.is.top.handle) p.block = p.put ∙ ap (λ (h : ℕ). with_block [] (block_at h) p.block) (sym u.is.root_is) in
           let m = rewritten areas held hints truth [] root tree u tree.height (omega arith) [] u.is.top [] u.is.root_alone left p.block (p.header ∙ sym u.is.root_is) fits (map_of tree) map_is in
           let made : MakesMap areas held hints truth [] new root tree (map_of tree) = subst (λ (d : List Changed). MakesMap areas held hints truth [] d root tree (map_of tree)) (sym put) m in
-          shrinks made.after (makes_shrinks new made)
+          let anew = put_anew areas held truth u.few u.same root new top_node.block p.block u.chunked top_chunk p.header p.put in
+          (shrinks made.after (makes_shrinks new made), inr (record {
+            handle = root;
+            page = u.is.top.page;
+            page_now = left;
+            was = record { block = top_node.block; chunk = top_chunk; has = top_node.has };
+            is = record { block = p.block; chunk = anew.here; has = p.has };
+            many = many;
+            one = refl;
+            others = anew.others;
+          }))
 
     pub strip_in : 1 < length u.is.top.page.entries → (result : Result (List Changed) ChunkError) → StripsPage root u.is.top.page result → StepIn areas held hints truth root tree result
     strip_in many result (strip_memory e) = subst (StepIn areas held hints truth root tree) (sym e) tt
     strip_in many result (strip_empty none e) = let l = ap length (no_first u.is.top.page.entries none) in absurd (omega (arith, many, l))
-    strip_in many result (strips first new is p e) = subst (StepIn areas held hints truth root tree) (sym e) (strip_done first new is p)
+    strip_in many result (strips first new is p e) = subst (StepIn areas held hints truth root tree) (sym e) (strip_done first new is many p)

@@ -22,6 +22,7 @@ use Rattle.bx_views.specs.Truths.{Truth, Held, Hints, IsTruth, with_draft}
 use Rattle.bx_hints.specs.Fitting.{HintsFitAll}
 use Rattle.bx_dead_laws.specs.Cleaning.{Cleans}
 use Rattle.bx_clean.specs.declared.tidying.Tidied.{Tidied}
+use Rattle.bx_clean.specs.Falling.{Falls}
 use Rattle.bx_clean.specs.Tidying.{HoldsDraft, IsClean, NeedsFor, OnTidyPath, Stops, TidiesAt, TidiesIn, clean, cleans, stopped, unread}
 use Rattle.bx_clean.specs.Trees.{CleansFile}
 use Rattle.bx_clean.proofs.Found.{IsWant}
@@ -52,11 +53,11 @@ module _ (areas area : ℕ) (held : Held) where
 
     leaves : (T : Tree) (is : StandsFor areas truth T) (handle : ℕ) (draft : List Changed) → IsFirstDead truth area handle → CleansFile held areas handle (Ok draft) → LeavesTrees areas truth draft
     leaves T is handle draft f c =
-        let step : (other : Tree) (o : StandsFor areas truth other) → Cleans areas truth (with_draft truth draft) other =
+        let step : (other : Tree) (o : StandsFor areas truth other) → Cleans areas truth (with_draft truth draft) other × Falls areas truth (with_draft truth draft) =
             λ other o. cleans_in areas held hints truth other handle few same o fit (dead_is other o handle f) (Ok draft) c in
         record {
-          stands = λ volume other s. record { is = (step other s.is).stands; volume_is = s.volume_is; file_tree = s.file_tree };
-          leads = (step T is).leads;
+          stands = λ volume other s. record { is = (step other s.is).0.stands; volume_is = s.volume_is; file_tree = s.file_tree };
+          leads = (step T is).0.leads;
         }
 
     wanted : (error : ChunkError) → IsWant error → (result : Step) → Stops error result → IfOk result (TidiesIn areas truth area)
@@ -85,7 +86,11 @@ module _ (areas area : ℕ) (held : Held) where
         wanted error (cleans_in areas held hints truth T handle few same is fit (dead_is T is handle first) (Err error) c) result s
     tidies_in T is result (cleans handle draft f c e) =
         let first = finds T is (Ok (Some handle)) f in
-        subst (λ (r : Step). IfOk r (TidiesIn areas truth area)) (sym e) (not_clean handle first, leaves T is handle draft first c)
+        subst (λ (r : Step). IfOk r (TidiesIn areas truth area)) (sym e) (record {
+          dead = not_clean handle first;
+          leaves = leaves T is handle draft first c;
+          falls = (cleans_in areas held hints truth T handle few same is fit (dead_is T is handle first) (Ok draft) c).1;
+        })
 
   -- ---- what is needed
 

@@ -40,6 +40,8 @@ use Rattle.bx_clean.specs.Held.{HoldsDead, HoldsPage}
 use Rattle.bx_clean.specs.Pages.{CutsFirst}
 use Rattle.bx_clean.specs.Trees.{CleansFile, CleansTree, FreesFile, FreesTree, ShrinksAbove, bare_inode, cuts_root, ends, frees_file, frees_tree, no_inode, no_page, no_room, shrinks, unmarked, with_tree, without_tree}
 use Rattle.bx_clean.proofs.Cuts.{NamesPieces, StepIn, cuts_entry, shrinks as shrinks_tree}
+use Rattle.bx_clean.specs.Falling.{Falls}
+use Rattle.bx_clean.proofs.Fallen.{alone_falls, gone_falls, then_gone}
 use Rattle.bx_clean.proofs.Found.{IsWant, dead_err, dead_holds}
 use Rattle.bx_clean.proofs.Freed.{FreedIn, freed_in, one_more, put_anew, put_keeps, short, within}
 use Rattle.bx_clean.proofs.Stripped.{top_chunk, top_node}
@@ -51,7 +53,7 @@ none_some block e = absurd cc
 module _ (areas : ℕ) (held : Held) (hints : Hints) (truth : Truth) (T : Tree) (handle : ℕ) (few : areas ≤ 64) (same : IsTruth held truth) (is : StandsFor areas truth T)
     (fit : HintsFitAll areas hints truth) (was : IsDeadFile areas truth T is handle) where
   abbrev pub CleansIn : Result (List Changed) ChunkError → Type 0
-  CleansIn (Ok new) = Cleans areas truth (with_draft truth new) T
+  CleansIn (Ok new) = Cleans areas truth (with_draft truth new) T × Falls areas truth (with_draft truth new)
   CleansIn (Err error) = IsWant error
 
   shown : IsShownDead (chunks_of areas truth) is.owner handle (is.stored handle)
@@ -90,7 +92,10 @@ module _ (areas : ℕ) (held : Held) (hints : Hints) (truth : Truth) (T : Tree) 
 
         by : (r : Result (List Changed) ChunkError) → FreedIn areas held truth few same mid handle r → CleansIn r
         by (Err error) want = want
-        by (Ok new) r = file_freed areas truth (with_draft truth mid) (with_draft truth new) T handle inode few is holds h.dead bare marks r
+        by (Ok new) r = (
+          file_freed areas truth (with_draft truth mid) (with_draft truth new) T handle inode few is holds h.dead bare marks r,
+          alone_falls areas truth (with_draft truth mid) (with_draft truth new) handle shown.block shown.chunk marks.chunks r,
+        )
 
     -- its tree
     module _ (some : inode.tree ≢ 0) where
@@ -118,8 +123,8 @@ module _ (areas : ℕ) (held : Held) (hints : Hints) (truth : Truth) (T : Tree) 
 
       step_done : (result : Result (List Changed) ChunkError) → StepIn areas held hints truth inode.tree (is.stored handle).tree result → CleansIn result
       step_done (Err error) want = want
-      step_done (Ok new) (shrinks_tree after s) = dead_shrinks areas truth (with_draft truth new) T handle inode (is.stored handle).tree after is holds h.dead at s
-      step_done (Ok new) (cuts_entry c) = piece_freed areas held hints truth c.mid new T handle inode (is.stored handle).tree c.key c.value few is holds h.dead at c.found c.makes c.removes
+      step_done (Ok new) (shrinks_tree after s, less) = (dead_shrinks areas truth (with_draft truth new) T handle inode (is.stored handle).tree after is holds h.dead at s, less)
+      step_done (Ok new) (cuts_entry c, less) = (piece_freed areas held hints truth c.mid new T handle inode (is.stored handle).tree c.key c.value few is holds h.dead at c.found c.makes c.removes, less)
 
       page_is : (page : Contents) → HoldsPage held areas inode.tree page → page ≡ u.is.top.page
       page_is page p = root_is areas held hints truth inode.tree (is.stored handle).tree u pieces page p
@@ -163,8 +168,12 @@ module _ (areas : ℕ) (held : Held) (hints : Hints) (truth : Truth) (T : Tree) 
 
             by : (r : Result (List Changed) ChunkError) → FreedIn areas held truth few same mid inode.tree r → CleansIn r
             by (Err error) want = want
-            by (Ok new) r = tree_freed areas truth (with_draft truth mid) (with_draft truth new) T handle inode (bare_inode inode) (is.stored handle).tree p.block few is holds h.dead at
-                alone empty_map anew p.is.has h.dead refl keeps r
+            by (Ok new) r = (
+              tree_freed areas truth (with_draft truth mid) (with_draft truth new) T handle inode (bare_inode inode) (is.stored handle).tree p.block few is holds h.dead at
+                  alone empty_map anew p.is.has h.dead refl keeps r,
+              gone_falls areas truth (with_draft truth new) handle inode.tree p.block shown.block (top_node areas held hints truth inode.tree (is.stored handle).tree u).block shown.chunk
+                  (top_chunk areas held hints truth inode.tree (is.stored handle).tree u) (then_gone areas truth (with_draft truth mid) (with_draft truth new) handle inode.tree p.block root_apart anew r),
+            )
 
       tree_in : (result : Result (List Changed) ChunkError) → CleansTree held areas handle inode result → CleansIn result
       tree_in result (no_page error f e) = subst CleansIn (sym e) (root_err areas held hints truth inode.tree (is.stored handle).tree u pieces error f)

@@ -1,3 +1,4 @@
+pub mod Falling
 pub mod Held
 pub mod Pages
 pub mod Puts

@@ -1,5 +1,5 @@
 -- A step of cleaning an area.
-use Rattle.std.specs.Prelude.{◌≡◌, ℕ, ◌+◌, ◌*◌, ◌<◌, ◌⊎◌, true, false, List, Some, None, Result, Ok, Err, slice_get}
+use Rattle.std.specs.Prelude.{◌≡◌, ℕ, ◌+◌, ◌*◌, ◌<◌, ◌⊎◌, true, false, List, Some, None, Result, Ok, Err, slice_get, length, ◌≤◌}
 use Rattle.bx_base.specs.declared.names.Mode.{Mode}
 use Rattle.bx_base.specs.declared.names.Mode.TheVariants.{Exclusive, Shared}
 use Rattle.bx_changes.specs.Growing.{LeavesTrees}
@@ -16,9 +16,10 @@ use Rattle.bx_records.specs.Drafts.{Changed}
 use Rattle.bx_truth.specs.Chunks.{block_at, dead_at, own_block}
 use Rattle.bx_truth.specs.PageTrees.{handle_in}
 use Rattle.bx_views.specs.Attempts.{IsHeldDraft}
-use Rattle.bx_views.specs.Truths.{Truth, Held}
+use Rattle.bx_views.specs.Truths.{Truth, Held, with_draft}
 use Rattle.bx_clean.specs.declared.tidying.Tidied.{Tidied}
 use Rattle.bx_clean.specs.declared.tidying.Tidied.TheVariants.{Need, Inner, Clean}
+use Rattle.bx_clean.specs.Falling.{Falls}
 use Rattle.bx_clean.specs.Held.{HoldsDead, HoldsPage}
 use Rattle.bx_clean.specs.Trees.{CleansFile}
 
@@ -26,10 +27,16 @@ use Rattle.bx_clean.specs.Trees.{CleansFile}
 abbrev pub IsClean : Truth → ℕ → Type 0
 IsClean truth area = (slot : ℕ) → slot < 960 → dead_at truth (1024 * area + slot) ≡ false
 
--- What a step gives, for a truth: blocks to be written where the area isn't clean, which leave each tree that the truth may stand for.
+-- The area isn't clean; and blocks to be written leave each tree that the truth may stand for, and something less.
+pub record CleansArea (areas : ℕ) (truth : Truth) (area : ℕ) (draft : List Changed) : Type 0 where
+  pub dead : IsClean truth area → ⊥
+  pub leaves : LeavesTrees areas truth draft
+  pub falls : Falls areas truth (with_draft truth draft)
+
+-- what a step gives, for a truth
 abbrev pub TidiesIn : ℕ → Truth → ℕ → Tidied → Type 0
 TidiesIn areas truth area Clean = IsClean truth area
-TidiesIn areas truth area (Inner draft) = (IsClean truth area → ⊥) × LeavesTrees areas truth draft
+TidiesIn areas truth area (Inner draft) = CleansArea areas truth area draft
 TidiesIn areas truth area (Need at mode) = Unit {0}
 
 -- The handles that a dead file's inode leads to, by what is held: its own, that of its tree's root, and of each of these pages the handle that
@@ -60,9 +67,9 @@ NeedsFor areas held area (Need at mode) = (is_block areas at ≡ true) × (held 
 NeedsFor areas held area (Inner draft) = Unit {0}
 NeedsFor areas held area Clean = Unit {0}
 
--- what is to be written is held exclusively
+-- what is to be written is held exclusively, and at most three blocks
 abbrev pub HoldsDraft : Held → Tidied → Type 0
-HoldsDraft held (Inner draft) = IsHeldDraft held draft
+HoldsDraft held (Inner draft) = IsHeldDraft held draft × (length draft ≤ 3)
 HoldsDraft held (Need at mode) = Unit {0}
 HoldsDraft held Clean = Unit {0}
 

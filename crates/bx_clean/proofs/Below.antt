@@ -196,7 +196,7 @@ module _ (areas : ℕ) (held : Held) (hints : Hints) (truth : Truth) (root : ℕ
       fits_in : size (led_by y.page own lead) ≤ 4096
       fits_in =
           let less = led_fits y.page own lead.key lead.value own_is (eight_of y.page.entries own (y_inner below_level e).names own_is) (ap length lead_key)
-              (eight_of x.page.entries lead (x_inner x (y ∷ ys) parts below_level e).names lead_is) in
+          (eight_of x.page.entries lead (x_inner x (y ∷ ys) parts below_level e).names lead_is) in
           let room = y_node.has.spells.is.room in
           omega (arith, less, room)
 
@@ -215,9 +215,9 @@ module _ (areas : ℕ) (held : Held) (hints : Hints) (truth : Truth) (root : ℕ
           let P : Entry → Type 0 = NamesChild (tree.level below_level) in
           let inn = (y_inner below_level e).names in
           let left : All (NamesChild (tree.level below_level)) (below y.page.entries own.key ++ above y.page.entries own.key) =
-              All-append (NamesChild (tree.level below_level)) (below y.page.entries own.key) (above y.page.entries own.key)
-              (All-filter (λ (n : Entry). is_below n.key own.key) (NamesChild (tree.level below_level)) y.page.entries inn)
-              (All-filter (λ (n : Entry). is_below own.key n.key) (NamesChild (tree.level below_level)) y.page.entries inn) in
+          All-append (NamesChild (tree.level below_level)) (below y.page.entries own.key) (above y.page.entries own.key)
+          (All-filter (λ (n : Entry). is_below n.key own.key) (NamesChild (tree.level below_level)) y.page.entries inn)
+          (All-filter (λ (n : Entry). is_below own.key n.key) (NamesChild (tree.level below_level)) y.page.entries inn) in
           All-append (NamesChild (tree.level below_level)) (below kept_entries lead.key) (lead ∷ above kept_entries lead.key)
           (All-filter (λ (n : Entry). is_below n.key lead.key) (NamesChild (tree.level below_level)) kept_entries left)
           (All-cons (NamesChild (tree.level below_level)) lead (above kept_entries lead.key)

@@ -92,15 +92,18 @@ module _ (areas : ℕ) (held : Held) (hints : Hints) (truth : Truth) (root : ℕ
 
       cut_done : (result : Result (List Changed) ChunkError) → PutFreedIn areas held truth u.few u.same node.handle (without_key node.page first.key) (handle_in first.value) result → StepIn result
       cut_done (Err error) want = want
-      cut_done (Ok new) f = (cuts_entry (record {
-        key = first.key;
-        value = first.value;
-        mid = f.mid;
-        found = found;
-        makes = subst (λ (d : List Changed). MakesMap areas held hints truth [] d root tree (without_entry (map_of tree) first.key)) (sym f.puts.put)
-            (removed areas held hints truth [] root tree u first.key node.handle node.page place f.puts.block f.puts.header f.puts.has);
-        removes = f.removes;
-      }), gone_falls areas truth (with_draft truth new) node.handle (handle_in first.value) f.puts.block node_is.block (pieces first.key first.value found).0 node_is.chunk (pieces first.key first.value found).1 f.chunks)
+      cut_done (Ok new) f = (
+        cuts_entry (record {
+          key = first.key;
+          value = first.value;
+          mid = f.mid;
+          found = found;
+          makes = subst (λ (d : List Changed). MakesMap areas held hints truth [] d root tree (without_entry (map_of tree) first.key)) (sym f.puts.put)
+              (removed areas held hints truth [] root tree u first.key node.handle node.page place f.puts.block f.puts.header f.puts.has);
+          removes = f.removes;
+        }),
+        gone_falls areas truth (with_draft truth new) node.handle (handle_in first.value) f.puts.block node_is.block (pieces first.key first.value found).0 node_is.chunk (pieces first.key first.value found).1 f.chunks,
+      )
 
     pub cut_in : node.page.entries ≢ [] → (result : Result (List Changed) ChunkError) → CutsFirst held areas node.handle node.page result → StepIn result
     cut_in some result (cut_memory e) = subst StepIn (sym e) tt

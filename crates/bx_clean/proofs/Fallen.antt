@@ -1,6 +1,6 @@
 -- A step leaves less.
 use Rattle.std.proofs.Common.{◌≡◌, ℕ, Bool, Option, Some, None, refl, sym, ap, ◌∙◌, inl, inr}
-use Rattle.std.specs.Prelude.{◌≢◌, ◌⊎◌, ◌==◌, if◌then◌else◌}
+use Rattle.std.specs.Prelude.{◌≢◌, ◌⊎◌, if◌then◌else◌}
 use Rattle.bx_chunks.specs.Freeing.{Removes}
 use Rattle.bx_layout.specs.declared.block.Block.{Block}
 use Rattle.bx_truth.specs.Chunks.{chunks_of}
@@ -9,7 +9,7 @@ use Rattle.bx_truth.proofs.Cases.{eq_false, eq_true, same_or}
 use Rattle.bx_truth.proofs.Put.{some_not}
 use Rattle.bx_views.specs.Truths.{Truth}
 use Rattle.bx_dead_laws.specs.Shrinking.{ChunkGone}
-use Rattle.bx_clean.specs.Falling.{Falls, FreesOne}
+use Rattle.bx_clean.specs.Falling.{Falls}
 
 none_some : (block : Block) → ◌≡◌ {A = Option Block} None (Some block) → ⊥
 none_some block e = absurd cc

@@ -44,9 +44,9 @@ module _ (held : Held) where
       by (Ok new) at = (
         frees_held held old new before handle (Ok tt) at tt,
         (let n = ap length at.now in
-        let m = two_more old (own_block (parts_of handle).area) (block_at handle)
+            let m = two_more old (own_block (parts_of handle).area) (block_at handle)
             (own_of (parts_of handle).area (with_word at.slots (parts_of handle).slot (freed_word (get_or at.slots.words (parts_of handle).slot 0)))) (empty_of 0 0) in
-        omega (arith, n, m, short)),
+            omega (arith, n, m, short)),
       )
       by (Err error) at = tt
 

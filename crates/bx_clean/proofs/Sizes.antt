@@ -30,7 +30,7 @@ at_head : (e : Entry) (es : List Entry) → sum_by entry_size (below (e ∷ es) 
 at_head e es =
     let itself = not_below_itself e.key in
     let lists : below (e ∷ es) e.key ++ above (e ∷ es) e.key ≡ below es e.key ++ above es e.key =
-        (λ i. cond (itself i) (e ∷ below es e.key) (below es e.key) ++ cond (itself i) (e ∷ above es e.key) (above es e.key)) in
+    (λ i. cond (itself i) (e ∷ below es e.key) (below es e.key) ++ cond (itself i) (e ∷ above es e.key) (above es e.key)) in
     let sum = ap (sum_by entry_size) lists in
     let less = others_less es e.key in
     let sums = sum_by-append entry_size (below es e.key) (above es e.key) in

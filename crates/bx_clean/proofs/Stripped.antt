@@ -95,21 +95,23 @@ module _ (areas : ℕ) (held : Held) (hints : Hints) (truth : Truth) (root : ℕ
             interior = interior_now;
           } in
           let map_is : map_of (with_level tree tree.height ([] ++ with_page u.is.top left ∷ [])) ≡ map_of tree =
-              ap entries_of (level_there tree tree.height 0 ([] ++ with_page u.is.top left ∷ []) (λ e. absurd (omega (arith, e, height)))) in
+          ap entries_of (level_there tree tree.height 0 ([] ++ with_page u.is.top left ∷ []) (λ e. absurd (omega (arith, e, height)))) in
           let put : new ≡ with_block [] (block_at u.is.top.handle) p.block = p.put ∙ ap (λ (h : ℕ). with_block [] (block_at h) p.block) (sym u.is.root_is) in
           let m = rewritten areas held hints truth [] root tree u tree.height (omega arith) [] u.is.top [] u.is.root_alone left p.block (p.header ∙ sym u.is.root_is) fits (map_of tree) map_is in
           let made : MakesMap areas held hints truth [] new root tree (map_of tree) = subst (λ (d : List Changed). MakesMap areas held hints truth [] d root tree (map_of tree)) (sym put) m in
-          let anew = put_anew areas held truth u.few u.same root new top_node.block p.block u.chunked top_chunk p.header p.put in
-          (shrinks made.after (makes_shrinks new made), inr (record {
-            handle = root;
-            page = u.is.top.page;
-            page_now = left;
-            was = record { block = top_node.block; chunk = top_chunk; has = top_node.has };
-            is = record { block = p.block; chunk = anew.here; has = p.has };
-            many = many;
-            one = refl;
-            others = anew.others;
-          }))
+          let anew = put_anew areas held truth u.few u.same root new top_node.block p.block u.chunked top_chunk p.header p.put in (
+            shrinks made.after (makes_shrinks new made),
+            inr (record {
+              handle = root;
+              page = u.is.top.page;
+              page_now = left;
+              was = record { block = top_node.block; chunk = top_chunk; has = top_node.has };
+              is = record { block = p.block; chunk = anew.here; has = p.has };
+              many = many;
+              one = refl;
+              others = anew.others;
+            }),
+          )
 
     pub strip_in : 1 < length u.is.top.page.entries → (result : Result (List Changed) ChunkError) → StripsPage root u.is.top.page result → StepIn areas held hints truth root tree result
     strip_in many result (strip_memory e) = subst (StepIn areas held hints truth root tree) (sym e) tt

@@ -23,7 +23,7 @@ use Rattle.bx_hints.specs.Fitting.{HintsFitAll}
 use Rattle.bx_dead_laws.specs.Cleaning.{Cleans}
 use Rattle.bx_clean.specs.declared.tidying.Tidied.{Tidied}
 use Rattle.bx_clean.specs.Falling.{Falls}
-use Rattle.bx_clean.specs.Tidying.{HoldsDraft, IsClean, NeedsFor, OnTidyPath, Stops, TidiesAt, TidiesIn, clean, cleans, stopped, unread}
+use Rattle.bx_clean.specs.Tidying.{HoldsDraft, IsClean, WritesThree, NeedsFor, OnTidyPath, Stops, TidiesAt, TidiesIn, clean, cleans, stopped, unread}
 use Rattle.bx_clean.specs.Trees.{CleansFile}
 use Rattle.bx_clean.proofs.Found.{IsWant}
 use Rattle.bx_clean.proofs.HeldOnes.{held_of}
@@ -54,7 +54,7 @@ module _ (areas area : ℕ) (held : Held) where
     leaves : (T : Tree) (is : StandsFor areas truth T) (handle : ℕ) (draft : List Changed) → IsFirstDead truth area handle → CleansFile held areas handle (Ok draft) → LeavesTrees areas truth draft
     leaves T is handle draft f c =
         let step : (other : Tree) (o : StandsFor areas truth other) → Cleans areas truth (with_draft truth draft) other × Falls areas truth (with_draft truth draft) =
-            λ other o. cleans_in areas held hints truth other handle few same o fit (dead_is other o handle f) (Ok draft) c in
+        λ other o. cleans_in areas held hints truth other handle few same o fit (dead_is other o handle f) (Ok draft) c in
         record {
           stands = λ volume other s. record { is = (step other s.is).0.stands; volume_is = s.volume_is; file_tree = s.file_tree };
           leads = (step T is).0.leads;
@@ -86,11 +86,8 @@ module _ (areas area : ℕ) (held : Held) where
         wanted error (cleans_in areas held hints truth T handle few same is fit (dead_is T is handle first) (Err error) c) result s
     tidies_in T is result (cleans handle draft f c e) =
         let first = finds T is (Ok (Some handle)) f in
-        subst (λ (r : Step). IfOk r (TidiesIn areas truth area)) (sym e) (record {
-          dead = not_clean handle first;
-          leaves = leaves T is handle draft first c;
-          falls = (cleans_in areas held hints truth T handle few same is fit (dead_is T is handle first) (Ok draft) c).1;
-        })
+        subst (λ (r : Step). IfOk r (TidiesIn areas truth area)) (sym e)
+        (not_clean handle first, leaves T is handle draft first c, (cleans_in areas held hints truth T handle few same is fit (dead_is T is handle first) (Ok draft) c).1)
 
   -- ---- what is needed
 
@@ -140,4 +137,18 @@ module _ (areas area : ℕ) (held : Held) where
   holds_draft result (unread error f s) = stop_holds error result s
   holds_draft result (clean f e) = subst (λ (r : Step). IfOk r (HoldsDraft held)) (sym e) tt
   holds_draft result (stopped handle error f c s) = stop_holds error result s
-  holds_draft result (cleans handle draft f c e) = subst (λ (r : Step). IfOk r (HoldsDraft held)) (sym e) (held_of held areas handle (Ok draft) c)
+  holds_draft result (cleans handle draft f c e) = subst (λ (r : Step). IfOk r (HoldsDraft held)) (sym e) (held_of held areas handle (Ok draft) c).0
+
+  stop_writes : (error : ChunkError) (result : Step) → Stops error result → IfOk result WritesThree
+  stop_writes (Wants at mode) result e = subst (λ (r : Step). IfOk r WritesThree) (sym e) tt
+  stop_writes OutOfMemory (Err error) s = tt
+  stop_writes OutOfMemory (Ok tidied) s = absurd s
+  stop_writes Stale result e = subst (λ (r : Step). IfOk r WritesThree) (sym e) tt
+  stop_writes Crowded result e = subst (λ (r : Step). IfOk r WritesThree) (sym e) tt
+  stop_writes (Full spare) result e = subst (λ (r : Step). IfOk r WritesThree) (sym e) tt
+
+  pub writes_three : (result : Step) → TidiesAt held areas area result → IfOk result WritesThree
+  writes_three result (unread error f s) = stop_writes error result s
+  writes_three result (clean f e) = subst (λ (r : Step). IfOk r WritesThree) (sym e) tt
+  writes_three result (stopped handle error f c s) = stop_writes error result s
+  writes_three result (cleans handle draft f c e) = subst (λ (r : Step). IfOk r WritesThree) (sym e) (held_of held areas handle (Ok draft) c).1

@@ -27,16 +27,11 @@ use Rattle.bx_clean.specs.Trees.{CleansFile}
 abbrev pub IsClean : Truth → ℕ → Type 0
 IsClean truth area = (slot : ℕ) → slot < 960 → dead_at truth (1024 * area + slot) ≡ false
 
--- The area isn't clean; and blocks to be written leave each tree that the truth may stand for, and something less.
-pub record CleansArea (areas : ℕ) (truth : Truth) (area : ℕ) (draft : List Changed) : Type 0 where
-  pub dead : IsClean truth area → ⊥
-  pub leaves : LeavesTrees areas truth draft
-  pub falls : Falls areas truth (with_draft truth draft)
-
--- what a step gives, for a truth
+-- What a step gives, for a truth: blocks to be written where the area isn't clean, which leave each tree that the truth may stand for, and
+-- something less.
 abbrev pub TidiesIn : ℕ → Truth → ℕ → Tidied → Type 0
 TidiesIn areas truth area Clean = IsClean truth area
-TidiesIn areas truth area (Inner draft) = CleansArea areas truth area draft
+TidiesIn areas truth area (Inner draft) = (IsClean truth area → ⊥) × LeavesTrees areas truth draft × Falls areas truth (with_draft truth draft)
 TidiesIn areas truth area (Need at mode) = Unit {0}
 
 -- The handles that a dead file's inode leads to, by what is held: its own, that of its tree's root, and of each of these pages the handle that
@@ -67,11 +62,17 @@ NeedsFor areas held area (Need at mode) = (is_block areas at ≡ true) × (held 
 NeedsFor areas held area (Inner draft) = Unit {0}
 NeedsFor areas held area Clean = Unit {0}
 
--- what is to be written is held exclusively, and at most three blocks
+-- what is to be written is held exclusively
 abbrev pub HoldsDraft : Held → Tidied → Type 0
-HoldsDraft held (Inner draft) = IsHeldDraft held draft × (length draft ≤ 3)
+HoldsDraft held (Inner draft) = IsHeldDraft held draft
 HoldsDraft held (Need at mode) = Unit {0}
 HoldsDraft held Clean = Unit {0}
+
+-- at most three blocks are to be written
+abbrev pub WritesThree : Tidied → Type 0
+WritesThree (Inner draft) = length draft ≤ 3
+WritesThree (Need at mode) = Unit {0}
+WritesThree Clean = Unit {0}
 
 -- how an error ends a step
 abbrev pub Stops : ChunkError → Result Tidied NoMemory → Type 0

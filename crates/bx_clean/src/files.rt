@@ -76,12 +76,7 @@ fn free_tree<V: View>(
 }
 
 /// Frees the slot of a dead inode, which is marked no more.
-fn free_file<V: View>(
-    alloc: Global,
-    view: &V,
-    areas: u16,
-    handle: u64,
-) -> Result<Draft, ChunkError>
+fn free_file<V: View>(alloc: Global, view: &V, areas: u16, handle: u64) -> Result<Draft, ChunkError>
     ensures { FreesFile (V.held view.now) areas handle result }
 {
     let mut draft = Draft::new(alloc);

@@ -29,11 +29,7 @@ pub(crate) fn is_slot(areas: u16, handle: u64) -> bool
 }
 
 /// The block of a handle.
-fn held_block<'a, V: View>(
-    view: &'a V,
-    areas: u16,
-    handle: u64,
-) -> Result<&'a Block, ChunkError>
+fn held_block<'a, V: View>(view: &'a V, areas: u16, handle: u64) -> Result<&'a Block, ChunkError>
     ensures { BlockAt (V.held view.now) areas handle (result_map_both (λ block. block.now) (λ error. error) result) }
 {
     if !is_slot(areas, handle) {

@@ -3,7 +3,6 @@
 ghost use Rattle.std.specs.Prelude.{◌≡◌, ◌<◌, ◌≤◌, ◌↔◌, length, IsTrue, IfOk, IfSome};
 ghost use Rattle.bx_page.specs.Contents.{IsPage};
 ghost use Rattle.bx_page.specs.Keys.{IsBelow};
-
 ghost use Rattle.bx_truth.specs.PageTrees.{handle_in as handle_of};
 ghost use Rattle.bx_clean.specs.Pages.{AbsorbsNext, CutsFirst, LedBy, PutsFirst, StripsPage, TakesFirst};
 

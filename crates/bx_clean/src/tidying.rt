@@ -5,7 +5,7 @@ ghost use Rattle.bx_hints.specs.Fitting.{HintsFitAll};
 ghost use Rattle.bx_inodes.specs.Stands.{Stands};
 ghost use Rattle.bx_model.specs.declared.tree.Tree.{Tree};
 ghost use Rattle.bx_views.specs.Truths.{IsTruth, Truth};
-ghost use Rattle.bx_clean.specs.Tidying.{HoldsDraft, NeedsFor, Stops, TidiesAt, TidiesIn};
+ghost use Rattle.bx_clean.specs.Tidying.{HoldsDraft, NeedsFor, Stops, TidiesAt, TidiesIn, WritesThree};
 
 use crate::files::clean_file;
 use bx_base::{Mode, OutOfMemory};
@@ -26,18 +26,13 @@ pub enum Tidied {
 }
 
 /// Takes one step of cleaning an area: a dead file in it loses a piece, or a page of its tree, or its tree, or at last its inode. So
-/// repeated steps come to `Clean`. A step reads at most five blocks beside the own blocks of areas, and writes at most three, so that no step
+/// repeated steps come to `Clean`. A step reads at most four blocks beside the own blocks of areas, and writes at most three, so that no step
 /// reads a whole file.
 ///
 /// `Need` names a block that isn't held and is on the path: the area's own block, shared, or exclusively one of the dead file's, or the own block
 /// of the area of a slot that is freed. `Inner` comes exactly where nothing is needed and the area has a dead file, `Clean` where it has none.
 /// On content that no volume has `Clean` comes too.
-pub fn tidy<V: View>(
-    alloc: Global,
-    view: &V,
-    area: u16,
-    areas: u16,
-) -> Result<Tidied, OutOfMemory>
+pub fn tidy<V: View>(alloc: Global, view: &V, area: u16, areas: u16) -> Result<Tidied, OutOfMemory>
     requires area { area < areas }
     requires few { areas ≤ 64 }
     ensures at { TidiesAt (V.held view.now) areas area result }
@@ -45,17 +40,13 @@ pub fn tidy<V: View>(
         → IfOk result (TidiesIn areas truth area) }
     ensures needs { IfOk result (NeedsFor areas (V.held view.now) area) }
     ensures held { IfOk result (HoldsDraft (V.held view.now)) }
+    ensures few { IfOk result WritesThree }
 {
     tidy_held(alloc, view, area, areas)
 }
 
 /// The same, by what is held.
-fn tidy_held<V: View>(
-    alloc: Global,
-    view: &V,
-    area: u16,
-    areas: u16,
-) -> Result<Tidied, OutOfMemory>
+fn tidy_held<V: View>(alloc: Global, view: &V, area: u16, areas: u16) -> Result<Tidied, OutOfMemory>
     ensures { TidiesAt (V.held view.now) areas area result }
 {
     match first_dead(alloc, view, area) {

@@ -132,8 +132,13 @@ fn a_file_with_holes_is_freed(rt: HostRuntime) -> Result<(), Fail> {
     let held = count_free(alloc, &desk, 1)?;
     let steps = cleaned(alloc, &mut desk)?;
     let after = count_free(alloc, &desk, 1)?;
-    assert!(rt; after == before && before > held + 256, "{before} {held} {after}");
-    assert!(rt; steps.is_some_and(|(steps, most)| u64::from(steps) == before - held + 1 && most <= 3));
+    assert!(rt;
+        after == before && before > held + 256,
+        "{before} {held} {after}"
+    );
+    assert!(rt;
+        steps.is_some_and(|(steps, most)| u64::from(steps) == before - held + 1 && most <= 3)
+    );
     Ok(())
 }
 
@@ -155,7 +160,12 @@ fn a_tree_of_three_levels_is_freed(rt: HostRuntime) -> Result<(), Fail> {
     let held = count_free(alloc, &desk, 1)?;
     let steps = cleaned(alloc, &mut desk)?;
     let after = count_free(alloc, &desk, 1)?;
-    assert!(rt; after == before && before > held + 300, "{before} {held} {after}");
-    assert!(rt; steps.is_some_and(|(steps, most)| u64::from(steps) == before - held + 2 && most <= 3));
+    assert!(rt;
+        after == before && before > held + 300,
+        "{before} {held} {after}"
+    );
+    assert!(rt;
+        steps.is_some_and(|(steps, most)| u64::from(steps) == before - held + 2 && most <= 3)
+    );
     Ok(())
 }

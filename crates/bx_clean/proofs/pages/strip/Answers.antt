@@ -22,6 +22,6 @@ put-requires-clause-child c = λ above. ap length c.bytes-2.ensures ∙ first_ch
 pub returns : goal.returns
 returns c =
     let page_is : c.put.new.self ≡ record { level = c.args.page.now.level; right = 0; high = None; entries = c.in-Some.first.now ∷ [] } =
-        c.in-Ok.ensures.ok ∙ (λ i. with_value (c.new-next.ensures i) (c.bytes.ensures i) (c.bytes-2.ensures i))
-        ∙ (λ i. record { level = c.level.ensures i; right = 0; high = None; entries = c.in-Some.first.now ∷ [] }) in
+    c.in-Ok.ensures.ok ∙ (λ i. with_value (c.new-next.ensures i) (c.bytes.ensures i) (c.bytes-2.ensures i))
+    ∙ (λ i. record { level = c.level.ensures i; right = 0; high = None; entries = c.in-Some.first.now ∷ [] }) in
     strips c.in-Some.first.now c.in_ok-draft.draft (sym c.in-Some.ensures) (subst (PutsPage [] c.in_ok-draft.draft c.args.handle) page_is c.in_ok-draft.ensures) refl

@@ -1,4 +1,4 @@
-use Rattle.bx_clean.proofs.Told.{holds_draft, needs_for, tidies_in}
+use Rattle.bx_clean.proofs.Told.{holds_draft, needs_for, tidies_in, writes_three}
 use Rattle.bx_clean.proofs.tidying.tidy.Goals as goal
 
 pub returns-clause-gives : goal.returns-clause-gives
@@ -10,3 +10,6 @@ returns-clause-needs g c = needs_for c.args.areas c.args.area (g.V.View.held c.a
 
 pub returns-clause-held : goal.returns-clause-held
 returns-clause-held g c = holds_draft c.args.areas c.args.area (g.V.View.held c.args.view.now) c.tidy_held.result c.tidy_held.ensures
+
+pub returns-clause-few : goal.returns-clause-few
+returns-clause-few g c = writes_three c.args.areas c.args.area (g.V.View.held c.args.view.now) c.tidy_held.result c.tidy_held.ensures

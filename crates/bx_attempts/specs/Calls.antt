@@ -1,0 +1,20 @@
+-- The calls that change a file tree, and are built.
+use Rattle.std.specs.Prelude.{◌≡◌, ℕ}
+use Rattle.bx_changes.specs.Changes.{SetsModeAlone}
+use Rattle.bx_model.specs.declared.call.Args.{Args}
+use Rattle.bx_model.specs.declared.call.Args.TheVariants.{Name, Set}
+use Rattle.bx_model.specs.declared.call.Call.{Call}
+
+-- the call is this procedure of NFS
+pub record IsProcedure (number : ℕ) (call : Call) : Type 0 where
+  pub program : call.program ≡ 100003
+  pub procedure : call.procedure ≡ number
+
+-- By their arguments: SETATTR (2) where it sets the mode alone, and REMOVE (10).
+abbrev pub HasChangeArgs : Call → Args → Type 0
+HasChangeArgs call (Set handle sattr) = IsProcedure 2 call × SetsModeAlone sattr
+HasChangeArgs call (Name handle name) = IsProcedure 10 call
+HasChangeArgs call _ = ⊥
+
+abbrev pub IsChanging : Call → Type 0
+IsChanging call = HasChangeArgs call call.args

@@ -1,0 +1,11 @@
+//! Attempts of the calls that change a file tree, and what any attempt answers.
+#![tactic(auto)]
+
+mod attributes;
+mod calls;
+mod naming;
+mod replies;
+mod times;
+
+pub use calls::{change, is_change};
+pub use replies::{answered, answered_with, stopped};

@@ -56,7 +56,7 @@ module _ (held : Held) (hints : Hints) (volume areas : ℕ) where
   not_changing : (call : Call) (at : ℕ) (mode : Mode) (args : Args) → HasReadArgs call args → ChangePathOf held hints volume areas call.procedure args at mode → ⊥
   not_changing call at mode (Name handle name) reads on = let four = reads.procedure in let ten = on.0 in omega (arith, four, ten)
   not_changing call at mode (Set handle sattr) reads on = reads
-  not_changing call at mode _ reads on = absurd cc
+  not_changing call at mode _ reads on = absurd on
 
   pub shared_of : (call : Call) (at : ℕ) (mode : Mode) → IsReading call → PathOf held hints volume areas call.procedure call.args at mode → mode ≡ Shared
   shared_of call at mode reads (inl on) = read_shared call.procedure at mode call.args on

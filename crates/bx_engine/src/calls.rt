@@ -36,11 +36,18 @@ pub(crate) fn built_call(alloc: Global, datagram: &[u8]) -> Result<Option<(u32, 
     let Some((xid, call)) = bx_nfs::reads_as(alloc, datagram)? else {
         return Ok(None);
     };
-    if is_reading(&call) || is_change(&call) {
+    if is_built(&call) {
         Ok(Some((xid, call)))
     } else {
         Ok(None)
     }
+}
+
+/// Whether a call is attempted.
+fn is_built(call: &Call) -> bool
+    ensures { IsTrue result ↔ IsBuilt call.now }
+{
+    is_reading(call) || is_change(call)
 }
 
 /// Whether a call changes nothing, and is attempted: it is refused as a message, it has no arguments, or it is MNT, UMNT, GETATTR, READLINK,

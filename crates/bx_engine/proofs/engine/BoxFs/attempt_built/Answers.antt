@@ -3,7 +3,7 @@ use Rattle.std.specs.Prelude.{IfOk}
 use Rattle.std.proofs.lemmas.Result.{IfOk-weaker}
 use Rattle.bx_attempts.specs.Paths.{ChangePathOf}
 use Rattle.bx_engine.proofs.Along.{fair_along}
-use Rattle.bx_engine.proofs.Kinds.{changes_no_space, changes_not_at_once, changes_not_reads}
+use Rattle.bx_engine.proofs.Apart.{changes_no_space, changes_not_at_once, changes_not_reads}
 use Rattle.bx_engine.specs.Paths.{PathOf, ReadPathOf}
 use Rattle.bx_engine.proofs.engine.BoxFs.attempt_built.Goals as goal
 
@@ -22,3 +22,6 @@ returns-else-is_change-clause-fair g c =
     let hints = g.V.View.hints c.args.view.now in
     let call = c.args.call.now in
     IfOk-weaker c.answer.result _ _ (fair_along (ReadPathOf held hints fs.volume fs.areas call.procedure call.args) (PathOf held hints fs.volume fs.areas call.procedure call.args) (λ at mode on. inl on) fs.areas held) c.answer.ensures.fair
+
+pub returns-else-is_change-clause-gives : goal.returns-else-is_change-clause-gives
+returns-else-is_change-clause-gives g c = λ client bytes truth tree reads same s. c.answer.ensures.gives client c.args.moment bytes truth tree c.requires.moment reads same s

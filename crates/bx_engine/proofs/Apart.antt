@@ -10,7 +10,7 @@ module _ (call : Call) where
   not_read_by : (args : Args) → HasChangeArgs call args → HasReadArgs call args → ⊥
   not_read_by (Name at name) change read = let four = read.procedure in let ten = change.procedure in omega (arith, four, ten)
   not_read_by (Set at sattr) change read = read
-  not_read_by _ change read = absurd cc
+  not_read_by _ change read = absurd change
 
   pub changes_not_reads : IsChanging call → IsReading call → ⊥
   changes_not_reads change read = not_read_by call.args change read
@@ -18,7 +18,7 @@ module _ (call : Call) where
   not_once_by : (args : Args) → HasChangeArgs call args → HasNoFile call args → ⊥
   not_once_by (Name at name) change once = once
   not_once_by (Set at sattr) change once = once
-  not_once_by _ change once = absurd cc
+  not_once_by _ change once = absurd change
 
   pub changes_not_at_once : IsChanging call → IsAtOnce call → ⊥
   changes_not_at_once change once = not_once_by call.args change once

@@ -1,10 +1,10 @@
 -- The calls that are attempted, by their bytes.
-use Rattle.std.specs.Prelude.{◌≡◌, ℕ, ◌⊎◌, List}
-use Rattle.bx_changes.specs.Changes.{SetsModeAlone}
+use Rattle.std.specs.Prelude.{◌≡◌, ℕ, ◌⊎◌, false, List}
 use Rattle.bx_model.specs.declared.call.Args.{Args}
 use Rattle.bx_model.specs.declared.call.Args.TheVariants.{Refused, Nothing, Handle, List as Listing, Name, Read, Set, Path}
 use Rattle.bx_model.specs.declared.call.Call.{Call}
 use Rattle.bx_nfs.specs.Wire.{ReadsAs}
+use Rattle.bx_tree_files.specs.Times.{is_given}
 
 -- the procedures about a file alone: GETATTR (1), READLINK (5) and STATFS (17)
 abbrev pub IsAboutFile : ℕ → Type 0
@@ -35,14 +35,14 @@ pub record IsOfMount (call : Call) : Type 0 where
   pub procedure : (call.procedure ≡ 1) ⊎ (call.procedure ≡ 3)
 
 -- The calls that are built: those that are refused; those without arguments, which are NULL, ROOT and WRITECACHE of NFS, and NULL, DUMP,
--- UMNTALL and EXPORT of MOUNT; MNT and UMNT of MOUNT; of NFS GETATTR (1), READLINK (5) and STATFS (17), SETATTR (2) where it sets the mode alone,
+-- UMNTALL and EXPORT of MOUNT; MNT and UMNT of MOUNT; of NFS GETATTR (1), READLINK (5) and STATFS (17), SETATTR (2) without a size,
 -- LOOKUP (4), REMOVE (10), READ and READDIR.
 abbrev pub HasBuiltArgs : Call → Args → Type 0
 HasBuiltArgs call (Refused number) = Unit {0}
 HasBuiltArgs call Nothing = Unit {0}
 HasBuiltArgs call (Path path) = IsOfMount call
 HasBuiltArgs call (Handle handle) = AsksAboutFile call
-HasBuiltArgs call (Set handle sattr) = IsProcedure 2 call × SetsModeAlone sattr
+HasBuiltArgs call (Set handle sattr) = IsProcedure 2 call × (is_given sattr.size ≡ false)
 HasBuiltArgs call (Name handle name) = AsksAboutName call
 HasBuiltArgs call (Read handle offset count total) = Unit {0}
 HasBuiltArgs call (Listing handle cookie count) = Unit {0}

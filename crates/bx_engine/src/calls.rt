@@ -1,12 +1,11 @@
 //! The calls that are attempted.
 
 ghost use Rattle.std.specs.Prelude.{◌↔◌, IsTrue, IfOk, IfSome, IfNone};
-ghost use Rattle.bx_changes.specs.Changes.{SetsModeAlone};
 ghost use Rattle.bx_nfs.specs.Wire.{ReadsAs};
 ghost use Rattle.bx_engine.specs.Calls.{IsAboutFile, IsAboutName, IsBuilt, IsBuiltCall};
 
 use bx_base::OutOfMemory;
-use bx_model::{Args, Call, Sattr};
+use bx_model::{Args, Call};
 use bx_rpc::{MOUNT_PROGRAM, NFS_PROGRAM};
 use bx_tree_files::is_given;
 use std::alloc::Global;
@@ -51,7 +50,7 @@ pub(crate) fn built_call(alloc: Global, datagram: &[u8]) -> Result<Option<(u32, 
 }
 
 /// Whether a call is attempted: it is refused as a message, it has no arguments, or it is MNT, UMNT, GETATTR,
-/// READLINK, STATFS, LOOKUP, REMOVE, READ, READDIR, or SETATTR of the mode alone.
+/// READLINK, STATFS, LOOKUP, REMOVE, READ, READDIR, or SETATTR without a size.
 fn is_built(call: &Call) -> bool
     ensures { IsTrue result ↔ IsBuilt call.now }
 {
@@ -63,7 +62,7 @@ fn is_built(call: &Call) -> bool
         Args::Name(_, _) => call.program == NFS_PROGRAM && is_about_name(call.procedure),
         Args::Handle(_) => call.program == NFS_PROGRAM && is_about_file(call.procedure),
         Args::Set(_, sattr) => {
-            call.program == NFS_PROGRAM && call.procedure == SETATTR && sets_mode_alone(sattr)
+            call.program == NFS_PROGRAM && call.procedure == SETATTR && !is_given(sattr.size)
         }
         _ => false,
     }
@@ -81,16 +80,4 @@ fn is_about_name(procedure: u32) -> bool
     ensures { IsTrue result ↔ IsAboutName procedure }
 {
     procedure == LOOKUP || procedure == REMOVE
-}
-
-/// Whether the mode is given, and nothing else.
-fn sets_mode_alone(sattr: &Sattr) -> bool
-    ensures { IsTrue result ↔ SetsModeAlone sattr.now }
-{
-    is_given(sattr.mode)
-        && !is_given(sattr.uid)
-        && !is_given(sattr.gid)
-        && !is_given(sattr.size)
-        && !is_given(sattr.atime.0)
-        && !is_given(sattr.mtime.0)
 }

@@ -1,8 +1,7 @@
 //! The engine of a volume.
 
-ghost use Rattle.std.specs.Prelude.{◌≡◌, ◌≤◌, ℕ, List, IfOk, IfNone, IfSome};
+ghost use Rattle.std.specs.Prelude.{◌≡◌, ◌≤◌, ℕ, false, List, IfOk, IfNone, IfSome};
 ghost use Rattle.bx_base.specs.declared.names.Mode.TheVariants.{Exclusive, Shared};
-ghost use Rattle.bx_changes.specs.Changes.{SetsModeAlone};
 ghost use Rattle.bx_chunks.specs.Counting.{free_slots};
 ghost use Rattle.bx_inodes.specs.Stands.{Stands};
 ghost use Rattle.bx_inodes.specs.Stops.{OnInode};
@@ -11,7 +10,7 @@ ghost use Rattle.bx_model.specs.declared.call.Args.TheVariants.{Handle as Handle
 ghost use Rattle.bx_model.specs.Reading.{getattr as getattr_of, readlink as readlink_of, statfs as statfs_of};
 ghost use Rattle.bx_model.specs.Writing.{setattr as setattr_of};
 ghost use Rattle.bx_nfs.specs.Wire.{ReadsAs};
-ghost use Rattle.bx_tree_files.specs.Times.{time_of as time_of_moment};
+ghost use Rattle.bx_tree_files.specs.Times.{is_given, time_of as time_of_moment};
 ghost use Rattle.bx_reads.specs.Space.{OnSpace};
 ghost use Rattle.bx_views.specs.Attempts.{Gives, IsAnswer, IsFair};
 ghost use Rattle.bx_views.specs.Truths.{IsTruth, Truth};
@@ -25,7 +24,7 @@ use crate::mounting::mounted;
 use crate::replies::{answered, answered_with, changed, plain, stopped};
 use crate::times::time_of;
 use bx_base::OutOfMemory;
-use bx_changes::set_mode;
+use bx_changes::set_attributes;
 use bx_model::{Args, Call, Reply, Sattr};
 use bx_views::{Attempt, View};
 use std::alloc::Global;
@@ -45,7 +44,7 @@ impl BoxFs {
     /// Attempts a call over a view, by its client's number and its bytes, at a moment in milliseconds, at most 4294967295999. `None`
     /// exactly where the bytes are none of the calls that are built so far: those that are refused as messages, those without
     /// arguments (NULL, ROOT and WRITECACHE of NFS; NULL, DUMP, UMNTALL and EXPORT of MOUNT), MNT and UMNT of MOUNT, GETATTR, READLINK,
-    /// STATFS, LOOKUP, READ, READDIR, REMOVE, and SETATTR of the mode alone.
+    /// STATFS, LOOKUP, READ, READDIR, REMOVE, and SETATTR without a size.
     ///
     /// `Need` names the block of the file's inode, exclusively for SETATTR and else shared, which isn't held then. Where that is held, it
     /// names for STATFS the own block of the first area that isn't, for READ a page or a piece of the file that isn't, for LOOKUP a page
@@ -216,7 +215,7 @@ impl BoxFs {
         }
     }
 
-    /// SETATTR of the mode alone, of the file that a file handle names.
+    /// SETATTR without a size, of the file that a file handle names.
     fn setattr<V: View>(
         &self,
         alloc: Global,
@@ -227,7 +226,7 @@ impl BoxFs {
         moment: u64,
         view: &V,
     ) -> Result<Attempt, OutOfMemory>
-        requires alone { SetsModeAlone sattr.now }
+        requires alone { is_given sattr.now.size ≡ false }
         requires moment { moment ≤ 4294967295999 }
         ensures comes { (truth : Truth) (tree : Tree) → IsTruth (V.held view.now) truth → Stands self.now.volume self.now.areas truth tree
             → IfOk result (Comes self.now.volume self.now.areas truth tree xid (setattr_of tree call.now at.now sattr.now (time_of_moment moment))) }
@@ -236,7 +235,7 @@ impl BoxFs {
         ensures tells { IfOk result TellsNothing }
     {
         let now = time_of(moment);
-        match set_mode(alloc, self.volume, self.areas, call, at, sattr, now, view) {
+        match set_attributes(alloc, self.volume, self.areas, call, at, sattr, now, view) {
             Ok((draft, reply)) => changed(alloc, xid, draft, reply),
             Err(stop) => stopped(alloc, xid, stop),
         }

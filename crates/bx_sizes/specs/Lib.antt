@@ -1,0 +1,4 @@
+pub mod Answers
+pub mod Clearing
+pub mod Lengths
+pub mod Steps

@@ -35,12 +35,12 @@ use Rattle.bx_truth.specs.Stands.{StandsFor}
 use Rattle.bx_truth.specs.Stored.{HasFields}
 use Rattle.bx_views.specs.Truths.{Truth, with_draft}
 
-module _ (call : Call) (sattr : Sattr) (now : Time) (file : File) where
-  no_size : is_given sattr.size ≡ false → resize_errors call file sattr.size ≡ Ok tt
-  no_size none = λ i.
-      refuse (none i && is_directory file) 21
-      >> (refuse (none i && is_link file) 6 >> (refuse (none i && not (may call file want.Write)) 13 >> refuse (none i && nat_lt most_bytes sattr.size) 27))
+no_size : (call : Call) (sattr : Sattr) (file : File) → is_given sattr.size ≡ false → resize_errors call file sattr.size ≡ Ok tt
+no_size call sattr file none = λ i.
+    refuse (none i && is_directory file) 21
+    >> (refuse (none i && is_link file) 6 >> (refuse (none i && not (may call file want.Write)) 13 >> refuse (none i && nat_lt most_bytes sattr.size) 27))
 
+module _ (sattr : Sattr) (now : Time) (file : File) where
   same_body : is_given sattr.size ≡ false → (with_fields now sattr file).body ≡ file.body
   same_body none = ap (λ (b : Bool). if b then resized sattr.size file.body else file.body) none
 
@@ -90,7 +90,7 @@ module _ (tree : Tree) (volume : ℕ) (bytes : List ℕ) (call : Call) (sattr : 
     rest forbidden = refuse forbidden 1 >> done file
 
     by_right : setattr tree call bytes sattr now ≡ rest (is_forbidden call file sattr)
-    by_right = ap set (named_as tree volume bytes (Some handle) same is ∙ there) ∙ (λ i. refuse (is_forbidden call file sattr) 1 >> (no_size call sattr now file none i >> done file))
+    by_right = ap set (named_as tree volume bytes (Some handle) same is ∙ there) ∙ (λ i. refuse (is_forbidden call file sattr) 1 >> (no_size call sattr file none i >> done file))
 
     pub refused : true ≡ is_forbidden call file sattr → setattr tree call bytes sattr now ≡ Err 1
     refused forbidden = by_right ∙ ap rest (sym forbidden)
@@ -111,10 +111,10 @@ module _ (volume areas : ℕ) (truth : Truth) (tree : Tree) (bytes : List ℕ) (
   not_allowed forbidden = refused tree volume bytes call sattr now s.volume_is none handle f.file (sym is) f.there (forbidden ∙ right_is call sattr handle inode f.file f.fields)
 
   body_is : file_now.body ≡ f.file.body
-  body_is = same_body call sattr now f.file none
+  body_is = same_body sattr now f.file none
 
   new_fields : HasFields (with_given now sattr inode) (with_fields now sattr f.file)
-  new_fields = fields_now call sattr now f.file inode f.fields
+  new_fields = fields_now sattr now f.file inode f.fields
 
   size_is : size_of file_now.body ≡ shown_size inode
   size_is = ap size_of body_is ∙ f.size

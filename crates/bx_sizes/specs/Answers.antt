@@ -24,6 +24,7 @@ pub record PutsFile (areas : ℕ) (truth : Truth) (tree : Tree) (file : File) (d
   pub stands : StandsFor areas (with_draft truth draft) (record tree { files = with_file tree.files file })
   pub fields : HasFields inode file
   pub size : size_of file.body ≡ shown_size inode
+  pub small : size_of file.body < 2 ^ 31
   pub leads : (hints : Hints) → HintsFitAll areas hints truth → HintsFitAll areas hints (with_draft truth draft)
 
 -- What is answered is the file, put; or bytes are to be cleared first, which leaves each tree. No status comes.
@@ -47,13 +48,13 @@ Clears areas truth tree (Err (Need at mode)) = Unit {0}
 Clears areas truth tree (Err (Inner blocks)) = ⊥
 Clears areas truth tree (Err OutOfMemory) = Unit {0}
 
--- What is answered is what the procedure comes to, or what is to be written first leaves each tree. Where nothing is changed, the tree stays.
-abbrev pub IsChangeOr : ℕ → ℕ → Truth → Tree → Outcome → Result (List Changed × Reply) Stop → Type 0
-IsChangeOr volume areas truth tree outcome (Ok made) = Changes volume areas truth outcome made.0 made.1 × (made.0 ≡ [] → outcome ≡ Ok (made.1, tree))
-IsChangeOr volume areas truth tree outcome (Err (Status status)) = outcome ≡ Err status
-IsChangeOr volume areas truth tree outcome (Err (Need at mode)) = Unit {0}
-IsChangeOr volume areas truth tree outcome (Err (Inner blocks)) = LeavesTrees areas truth blocks
-IsChangeOr volume areas truth tree outcome (Err OutOfMemory) = Unit {0}
+-- What is answered is what the procedure comes to, or what is to be written first leaves each tree.
+abbrev pub IsChangeOr : ℕ → ℕ → Truth → Outcome → Result (List Changed × Reply) Stop → Type 0
+IsChangeOr volume areas truth outcome (Ok made) = Changes volume areas truth outcome made.0 made.1
+IsChangeOr volume areas truth outcome (Err (Status status)) = outcome ≡ Err status
+IsChangeOr volume areas truth outcome (Err (Need at mode)) = Unit {0}
+IsChangeOr volume areas truth outcome (Err (Inner blocks)) = LeavesTrees areas truth blocks
+IsChangeOr volume areas truth outcome (Err OutOfMemory) = Unit {0}
 
 -- the blocks that are to be written first are held exclusively
 abbrev pub HoldsInner : {T : Type 0} → Held → Result T Stop → Type 0

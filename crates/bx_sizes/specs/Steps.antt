@@ -46,7 +46,7 @@ pub record IsCleared (before : Block) (keep names : ℕ) (block : Block) : Type 
   pub kind : block.kind ≡ 3
   pub parts : HasParts block
   pub kept : (place : ℕ) → place < keep → slice_index block.payload place ≡ slice_index before.payload place
-  pub cleared : (place : ℕ) → keep ≤ place → slice_index block.payload place ≡ 0
+  pub cleared : (place : ℕ) → keep ≤ place → place < 4096 → slice_index block.payload place ≡ 0
 
 -- how many bytes of a piece are below a size
 abbrev pub kept_of : ℕ → ℕ → ℕ

@@ -1,6 +1,6 @@
 //! What is behind the end of a file, cleared.
 
-ghost use Rattle.std.specs.Prelude.{◌≡◌, ◌<◌, ◌≤◌, ◌+◌, ◌*◌, ◌^◌, ℕ, List, IfOk, IsSome, Some, [], ◌∷◌, length};
+ghost use Rattle.std.specs.Prelude.{◌≡◌, ◌<◌, ◌≤◌, ◌+◌, ◌*◌, ◌^◌, ℕ, List, IfOk, IsSome, Some, [], ◌∷◌, length, slice_index};
 ghost use Rattle.std.specs.Result.{result_map_both};
 ghost use Rattle.bx_base.specs.declared.names.Mode.TheVariants.{Exclusive};
 ghost use Rattle.bx_hints.specs.Fitting.{HintsFitAll};
@@ -50,7 +50,8 @@ pub(crate) fn clear<V: View>(
     handle: u64,
     inode: Inode,
 ) -> Result<Draft, Stop>
-    requires { IsInode inode }
+    requires inode { IsInode inode }
+    requires small { inode.size < 2 ^ 31 }
     ensures tree { (truth : Truth) (tree : Tree) (file : File) (bytes : List ℕ) → areas ≤ 64 → IsTruth (V.held view.now) truth → StandsFor areas truth tree
         → HintsFitAll areas (V.hints view.now) truth → HoldsInode areas truth handle inode → file_at tree.files handle ≡ Some file → file.body ≡ Bytes bytes
         → Clears areas truth tree result }
@@ -125,15 +126,24 @@ fn cleared(alloc: Global, names: u64, block: &Block, keep: usize) -> Result<Bloc
     ensures { IfOk result (IsCleared block.now keep names) }
 {
     let mut payload = [0; PAYLOAD];
-    let bytes = block.payload.bytes();
-    let kept = bytes.len().min(keep);
-    payload[..kept].copy_from_slice(&bytes[..kept]);
+    put_front(&mut payload, block.payload.bytes(), keep);
     let payload = Raw::of(alloc, &payload)?;
     Ok(Block {
         handle: names,
         kind: DATA,
         payload,
     })
+}
+
+/// Puts the first of some bytes, as many as are kept, and zeros behind them.
+fn put_front(into: &mut [u8], bytes: &[u8], keep: usize)
+    requires { keep ≤ length into.old }
+    ensures kept { (place : ℕ) → place < keep → slice_index into.new place ≡ slice_index bytes.now place }
+    ensures cleared { (place : ℕ) → keep ≤ place → place < length into.old → slice_index into.new place ≡ 0 }
+{
+    let kept = bytes.len().min(keep);
+    into[..kept].copy_from_slice(&bytes[..kept]);
+    into[kept..].fill(0);
 }
 
 /// A draft with a block under a handle.

@@ -20,7 +20,7 @@ ghost use Rattle.bx_views.specs.Truths.{Held, IsTruth, Truth};
 ghost use Rattle.bx_changes.specs.Given.{with_given as with_those_given};
 ghost use Rattle.bx_sizes.specs.Answers.{HoldsInner, SetsSize};
 ghost use Rattle.bx_sizes.specs.Clearing.{OnClearing};
-ghost use Rattle.bx_sizes.specs.Lengths.{grows_over, with_length};
+ghost use Rattle.bx_sizes.specs.Lengths.{grows_over as grows_over_to, with_length};
 
 use crate::clearing::clear;
 use bx_base::OutOfMemory;
@@ -62,16 +62,23 @@ pub fn set_size<V: View>(
     ensures first { IsSome (V.held view.now (place_of handle) Exclusive) → HoldsInner (V.held view.now) result }
 {
     let size = u64::from(sattr.size);
-    if inode.size < size && inode.size < inode.tail {
-        return match clear(alloc, areas, view, handle, inode) {
-            Err(stop) => Err(stop),
-            Ok(draft) => Err(Stop::Inner(draft)),
-        };
+    if grows_over(&inode, size) {
+        match clear(alloc, areas, view, handle, inode) {
+            Err(stop) => return Err(stop),
+            Ok(draft) => return Err(Stop::Inner(draft)),
+        }
     }
     let changed = sized(with_given(inode, sattr, now), size);
     let mut draft = Draft::new(alloc);
     put_inode(alloc, &mut draft, handle, &changed)?;
     Ok((draft, changed))
+}
+
+/// Whether growing to a size would show bytes again that were cut and aren't cleared.
+fn grows_over(inode: &Inode, size: u64) -> bool
+    ensures { result ≡ grows_over_to inode.now size }
+{
+    inode.size < size && inode.size < inode.tail
 }
 
 /// The inode with another size.

@@ -1,10 +1,10 @@
 -- A step of clearing leaves the tree: the last piece behind the end is cleared there, and the tail falls.
-use Rattle.std.proofs.Common.{◌≡◌, ℕ, ◌+◌, ◌-◌, ◌*◌, ◌/◌, ◌^◌, ◌<◌, ◌≤◌, arith, Bool, true, false, List, [], ◌∷◌, Option, Some, None, sym, ap, ◌∙◌, subst, refl, inl, inr, Ok, Err}
-use Rattle.std.specs.Prelude.{◌⊎◌, ◌≢◌, ◌==◌, if◌then◌else◌, max, min, option_and_then, Result}
+use Rattle.std.proofs.Common.{◌≡◌, ℕ, ◌+◌, ◌-◌, ◌*◌, ◌^◌, ◌<◌, ◌≤◌, arith, List, [], ◌∷◌, Option, Some, None, sym, ap, ◌∙◌, subst, refl, inl, inr, Ok, Err}
+use Rattle.std.specs.Prelude.{◌⊎◌, ◌≢◌, max, min, option_and_then, Result}
 use Rattle.std.specs.Int.{div_ceil}
 use Rattle.std.proofs.lemmas.Bool.{cases_lt}
 use Rattle.bx_hints.specs.Fitting.{HintsFitAll}
-use Rattle.bx_hints.proofs.Pages.{inode_is, one_block}
+use Rattle.bx_hints.proofs.Pages.{inode_is}
 use Rattle.bx_blink.specs.Hints.{Under}
 use Rattle.bx_inodes.specs.declared.stop.Stop.{Stop}
 use Rattle.bx_inodes.specs.declared.stop.Stop.TheVariants.{Need, Inner, Status, OutOfMemory}

@@ -1,5 +1,5 @@
 -- The inode of a regular file is put over a draft, with another size or tail.
-use Rattle.std.proofs.Common.{◌≡◌, ℕ, ◌<◌, arith, List, sym, ap, ◌∙◌, subst, Some}
+use Rattle.std.proofs.Common.{◌≡◌, ℕ, arith, List, sym, ap, ◌∙◌, subst, Some}
 use Rattle.std.specs.Prelude.{◌≢◌}
 use Rattle.bx_hints.specs.Fitting.{HintsFitAll}
 use Rattle.bx_hints.proofs.Pages.{inode_is}
@@ -18,7 +18,7 @@ use Rattle.bx_truth.specs.Edits.{ChunkAnew, SameSlots}
 use Rattle.bx_truth.specs.PageTrees.{IsTree}
 use Rattle.bx_truth.specs.Shown.{KeepsSlots}
 use Rattle.bx_truth.specs.Stands.{StandsFor}
-use Rattle.bx_truth.specs.Stored.{AreBytesOf, HasBody, HasFields, HasInode, IsRegular, piece_of}
+use Rattle.bx_truth.specs.Stored.{AreBytesOf, HasBody, HasFields, IsRegular, piece_of}
 use Rattle.bx_truth.proofs.Dirs.{file_anew}
 use Rattle.bx_truth.proofs.Put.{shown}
 use Rattle.bx_truth.proofs.Same.{chunk_is}

@@ -1,18 +1,15 @@
 -- The file with another size, and clearing first.
-use Rattle.std.proofs.Common.{◌≡◌, ℕ, ◌^◌, ◌<◌, ◌≤◌, arith, Bool, true, false, List, [], Some, sym, ap, ◌∙◌, subst, refl, inl, inr, Err, Ok}
-use Rattle.std.specs.Prelude.{◌⊎◌, ◌≢◌, ◌==◌, ◌&&◌, if◌then◌else◌, length, max, nat_lt, Result}
+use Rattle.std.proofs.Common.{◌≡◌, ℕ, ◌≤◌, arith, Bool, true, false, List, [], Some, sym, ap, ◌∙◌, subst, refl, inl, inr, Err}
+use Rattle.std.specs.Prelude.{◌⊎◌, ◌==◌, ◌&&◌, if◌then◌else◌, length, nat_lt}
 use Rattle.std.proofs.lemmas.Bool.Decides.{nat_tests}
 use Rattle.bx_changes.proofs.AttributesSet.{fields_now}
 use Rattle.bx_changes.specs.Given.{with_given}
 use Rattle.bx_changes.specs.Growing.{LeavesTrees}
-use Rattle.bx_hints.specs.Fitting.{HintsFitAll}
 use Rattle.bx_inodes.specs.declared.stop.Stop.{Stop}
 use Rattle.bx_inodes.specs.declared.stop.Stop.TheVariants.{Need, Inner, Status, OutOfMemory}
 use Rattle.bx_inodes.specs.Inodes.{HoldsInode, shown_size}
-use Rattle.bx_inodes.specs.Stands.{Stands}
 use Rattle.bx_inodes.specs.Writing.{PutsInode}
 use Rattle.bx_layout.specs.declared.inode.Inode.{Inode}
-use Rattle.bx_model.specs.declared.call.Call.{Call}
 use Rattle.bx_model.specs.declared.tree.Tree.{Tree}
 use Rattle.bx_records.specs.Drafts.{Changed}
 use Rattle.bx_tree_files.specs.declared.file.Body.{Body}
@@ -21,7 +18,7 @@ use Rattle.bx_tree_files.specs.declared.file.File.{File}
 use Rattle.bx_tree_files.specs.declared.sattr.Sattr.{Sattr}
 use Rattle.bx_tree_files.specs.Changes.{resized, with_fields}
 use Rattle.bx_tree_files.specs.Contents.{sized}
-use Rattle.bx_tree_files.specs.Files.{file_at, size_of, with_file}
+use Rattle.bx_tree_files.specs.Files.{file_at, size_of}
 use Rattle.bx_tree_files.specs.Times.{Time, is_given}
 use Rattle.bx_truth.specs.Chunks.{chunks_of}
 use Rattle.bx_truth.specs.Stands.{StandsFor}
@@ -30,7 +27,7 @@ use Rattle.bx_truth.specs.PageTrees.{Chunks}
 use Rattle.bx_truth.proofs.OneFiles.{one_list}
 use Rattle.bx_truth.proofs.Put.{shown}
 use Rattle.bx_hints.proofs.Pages.{inode_is}
-use Rattle.bx_views.specs.Truths.{Held, Hints, IsTruth, Truth, with_draft}
+use Rattle.bx_views.specs.Truths.{Held, IsTruth, Truth}
 use Rattle.bx_sizes.proofs.Bytes.{long, resized as resized_bytes}
 use Rattle.bx_sizes.proofs.InodePut.{bytes_were, inode_leads, inode_put}
 use Rattle.bx_sizes.specs.Answers.{Clears, LeavesTree, PutsFile, SetsSize}

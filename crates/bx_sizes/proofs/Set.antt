@@ -1,5 +1,5 @@
 -- What SETATTR with a size comes to, by the inode of the file.
-use Rattle.std.proofs.Common.{◌≡◌, ℕ, ◌/◌, ◌<◌, ◌^◌, Bool, true, false, List, [], refl, sym, ap, ◌∙◌, subst, Option, Some, None, inr}
+use Rattle.std.proofs.Common.{◌≡◌, ℕ, ◌/◌, ◌<◌, ◌^◌, Bool, true, false, List, [], sym, ap, ◌∙◌, subst, Option, Some, inr}
 use Rattle.std.specs.Prelude.{◌==◌, ◌&&◌, ◌||◌, bit_and, not, nat_lt, if◌then◌else◌, Result, Ok, Err}
 use Rattle.bx_base.specs.declared.names.Mode.TheVariants.{Exclusive}
 use Rattle.bx_blink.specs.Walks.{reads_with}

@@ -1,22 +1,18 @@
 -- What stops clearing a piece of a file is never that it is lost.
-use Rattle.std.proofs.Common.{◌≡◌, ℕ, ◌≤◌, Bool, true, false, List, Some, None, sym, ap, ◌∙◌, inl, inr, Err, Ok}
-use Rattle.std.specs.Prelude.{◌⊎◌, ◌≢◌, Option, Result}
+use Rattle.std.proofs.Common.{◌≡◌, ℕ, true, false, List, Some, sym, ap, ◌∙◌, inl, inr, Err}
 use Rattle.bx_base.specs.declared.names.Mode.TheVariants.{Exclusive}
 use Rattle.bx_files.proofs.Slots.{slot_is_block}
 use Rattle.bx_inodes.specs.declared.stop.Stop.{Stop}
 use Rattle.bx_inodes.specs.declared.stop.Stop.TheVariants.{Need, Inner, Status, OutOfMemory}
 use Rattle.bx_layout.specs.declared.block.Block.{Block}
-use Rattle.bx_layout.specs.declared.inode.Inode.{Inode}
 use Rattle.bx_model.specs.declared.tree.Tree.{Tree}
 use Rattle.bx_page.specs.declared.entry.Entry.{Entry}
-use Rattle.bx_places.specs.Places.{is_block}
-use Rattle.bx_records.specs.Drafts.{Changed}
 use Rattle.bx_truth.specs.Chunks.{IsChunked, block_at, chunks_of}
 use Rattle.bx_truth.proofs.Same.{chunk_is}
 use Rattle.bx_views.specs.Truths.{Held, IsTruth, Truth}
 use Rattle.bx_sizes.specs.Answers.{Clears}
 use Rattle.bx_sizes.specs.Clearing.{FindsLast}
-use Rattle.bx_sizes.specs.Steps.{ClearsAt, LacksPiece}
+use Rattle.bx_sizes.specs.Steps.{LacksPiece}
 
 -- the block of a handle in use is there
 pub not_lost : (areas : ℕ) (held : Held) (truth : Truth) (names : ℕ) (block : Block) → IsTruth held truth → IsChunked areas truth → chunks_of areas truth names ≡ Some block → LacksPiece areas held names → ⊥

@@ -1,6 +1,5 @@
 -- What setting the size of a file answers.
-use Rattle.std.specs.Prelude.{◌≡◌, ℕ, ◌<◌, ◌≤◌, ◌^◌, true, List, [], None, Result, Ok, Err}
-use Rattle.bx_base.specs.declared.names.Mode.{Mode}
+use Rattle.std.specs.Prelude.{◌≡◌, ℕ, ◌<◌, ◌^◌, List, Result, Ok, Err}
 use Rattle.bx_changes.specs.Changes.{Changes}
 use Rattle.bx_changes.specs.Growing.{LeavesTrees}
 use Rattle.bx_hints.specs.Fitting.{HintsFitAll}

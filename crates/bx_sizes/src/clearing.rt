@@ -91,7 +91,12 @@ fn clear_piece<V: View>(
     match piece_held(areas, view, names) {
         Err(stop) => Err(stop),
         Ok(block) => {
-            let cleared = cleared(alloc, names, block, inode.size.saturating_sub(begins) as usize)?;
+            let cleared = cleared(
+                alloc,
+                names,
+                block,
+                inode.size.saturating_sub(begins) as usize,
+            )?;
             let draft = draft_of(alloc, names, cleared)?;
             let tail = inode.size.max(begins);
             let draft = with_tail(alloc, draft, handle, inode, tail)?;

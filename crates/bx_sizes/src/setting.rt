@@ -64,7 +64,16 @@ pub fn setattr<V: View>(
     let none = Draft::new(alloc);
     match inode_at(alloc, &none, view, areas, handle, Mode::Exclusive) {
         Err(stop) => Err(stop),
-        Ok(inode) => set_all(alloc, (volume, areas), view, call, handle, inode, sattr, now),
+        Ok(inode) => set_all(
+            alloc,
+            (volume, areas),
+            view,
+            call,
+            handle,
+            inode,
+            sattr,
+            now,
+        ),
     }
 }
 

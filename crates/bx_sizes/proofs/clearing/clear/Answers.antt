@@ -1,4 +1,4 @@
-use Rattle.std.proofs.Common.{◌≡◌, ◌∙◌, ◌/◌, ℕ, List, [], ap, subst}
+use Rattle.std.proofs.Common.{◌≡◌, ◌∙◌, ◌/◌, ℕ, List, ap, subst}
 use Rattle.std.specs.Prelude.{min}
 use Rattle.bx_inodes.specs.Writing.{PutsInode}
 use Rattle.bx_records.specs.Drafts.{Changed}

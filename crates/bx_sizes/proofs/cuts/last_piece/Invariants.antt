@@ -1,4 +1,4 @@
-use Rattle.std.proofs.Common.{[], ◌-◌, ◌≤◌}
+use Rattle.std.proofs.Common.{[], ◌-◌}
 use Rattle.bx_blink.specs.Hints.{Under}
 use Rattle.bx_truth.specs.PageTrees.{PageTree, map_of}
 use Rattle.bx_views.specs.Truths.{Truth}

@@ -1,5 +1,5 @@
 -- What a procedure that changes a tree answers.
-use Rattle.std.specs.Prelude.{◌≡◌, ℕ, true, false, List, [], ◌∷◌, Result, Ok, Err}
+use Rattle.std.specs.Prelude.{◌≡◌, ℕ, List, [], ◌∷◌, Result, Ok, Err}
 use Rattle.bx_base.specs.declared.names.Mode.{Mode}
 use Rattle.bx_base.specs.declared.names.Mode.TheVariants.{Exclusive}
 use Rattle.bx_inodes.specs.Stands.{Stands}
@@ -10,9 +10,6 @@ use Rattle.bx_model.specs.declared.reply.Reply.{Reply}
 use Rattle.bx_model.specs.declared.tree.Tree.{Tree}
 use Rattle.bx_model.specs.Steps.{Outcome}
 use Rattle.bx_records.specs.Drafts.{Changed}
-use Rattle.bx_tree_files.specs.declared.sattr.Sattr.{Sattr}
-use Rattle.bx_tree_files.specs.Changes.{sets_field}
-use Rattle.bx_tree_files.specs.Times.{is_given}
 use Rattle.bx_views.specs.Truths.{Truth, with_draft}
 
 -- The reply is what the procedure comes to, and the truth that the draft leaves stands for the next tree.

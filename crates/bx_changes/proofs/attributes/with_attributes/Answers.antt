@@ -1,6 +1,6 @@
 use Rattle.std.proofs.Common.{sym, ap, ◌∙◌}
 use Rattle.bx_layout.specs.declared.inode.Inode.{Inode}
-use Rattle.bx_changes.proofs.AttributesSet.{change, not_allowed}
+use Rattle.bx_changes.proofs.AttributesSet.{change}
 use Rattle.bx_changes.proofs.attributes.with_attributes.Goals as goal
 
 pub returns-clause-step : goal.returns-clause-step

@@ -1,0 +1,6 @@
+pub mod Places
+pub mod Spaces
+pub mod Room
+pub mod Asked
+pub mod First
+pub mod Entered

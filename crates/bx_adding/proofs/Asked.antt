@@ -92,9 +92,9 @@ module _ (areas : ℕ) (held : Held) (hints : Hints) (truth : Truth) (root : ℕ
       omega (arith, level, up, below)
 
   post_block : (handle at : ℕ) (mode : Mode) → IsShortOf areas held hints truth root tree key u handle → OnPostPath areas (reads_with held hints []) root handle at mode → is_block areas at ≡ true
-  post_block handle at mode s page = page_block s.level s.node handle s.within s.there s.handle_is
-  post_block handle at mode s (parent separator at mode shows on) = level_block separator.level Exclusive separator.key at mode (separator_within handle separator s shows) on
-  post_block handle at mode s (slot at mode is) = is
+  post_block handle _ _ s page = page_block s.level s.node handle s.within s.there s.handle_is
+  post_block handle _ _ s (parent separator at mode shows on) = level_block separator.level Exclusive separator.key at mode (separator_within handle separator s shows) on
+  post_block handle _ _ s (slot at mode is) = is
 
   posts_block : (at : ℕ) (mode : Mode) → OnPostForPath areas held hints root key at mode → is_block areas at ≡ true
   posts_block at mode (inl led) = led_block at mode led

@@ -53,7 +53,8 @@ below_all next (x ∷ xs) below other (zero, less, is) = subst (λ (n : Name). n
 below_all next (x ∷ xs) below other (suc k, less, is) = below_all next xs below.1 other (k, omega (arith, less), is)
 
 none_some : (o : Option Name) → o ≡ None → IsSome o → ⊥
-none_some o none some = let both : IsSome {A = Name} None = subst IsSome none some in absurd cc
+none_some None none some = let both : false ≡ true = some in absurd cc
+none_some (Some found) none some = absurd cc
 
 module _ (areas : ℕ) (held : Held) (hints : Hints) (truth : Truth) (old : List Changed) (tree : Tree) (handle : ℕ) (inode : Inode) (file : File) (name : List ℕ) (made : ℕ) (counts : Bool) (now : Time)
     (e : MayEnter areas held hints truth old tree handle inode file name) where

@@ -14,7 +14,7 @@ use Rattle.bx_blink.proofs.Under.{agrees}
 use Rattle.bx_dirs.specs.Changes.{AddsAt, PutsByName, PutsByNumber, entry_of}
 use Rattle.bx_leaves.proofs.Done.{inserts_in}
 use Rattle.bx_making.proofs.Puts.{put_chunk}
-use Rattle.bx_page.specs.Contents.{Contents, above, below, with_value}
+use Rattle.bx_page.specs.Contents.{Contents, above, below, size, with_value}
 use Rattle.bx_page.specs.Keys.{is_below}
 use Rattle.bx_page.specs.declared.entry.Entry.{Entry}
 use Rattle.bx_page.proofs.Room.{size_with-le}
@@ -72,7 +72,7 @@ module _ (areas : ℕ) (held : Held) (hints : Hints) (truth : Truth) (old : List
     no_second leaf g =
         let one = (inserts_in areas held hints truth old mid root pages (name_key name) u (name_value number handle) (Ok tt) f).1 in
         let anew = put_chunk areas held truth old mid f.handle node.block f.puts.block (record { same = u.same; chunked = u.chunked }) (ap (chunks_of areas (with_draft truth old)) (sym at_name.handle_is) ∙ node.chunk) f.puts.header f.puts.put in
-        let grows = omega (arith, name_fits number handle name short, size_with-le page (name_key name) (name_value number handle)) in
+        let grows : size (with_value page (name_key name) (name_value number handle)) + 272 ≤ size page + 544 = omega (arith, name_fits number handle name short, size_with-le page (name_key name) (name_value number handle)) in
         let space =
         space_stays chunks (chunks_of areas (with_draft truth mid)) root held pages u.is (name_key name) f.handle page (with_value page (name_key name) (name_value number handle)) f.puts.block at_name anew f.puts.has refl refl refl lowest
         (entry_key number) 544 272 by_number (omega arith) grows one.after one.under.is in

@@ -1,5 +1,5 @@
 -- What adding an entry and looking for room ask for are blocks of the volume.
-use Rattle.std.proofs.Common.{◌≡◌, ℕ, zero, suc, ◌+◌, ◌≤◌, ◌<◌, true, List, [], Option, Some, None, sym, ap, ◌∙◌, subst, arith, inl, inr}
+use Rattle.std.proofs.Common.{◌≡◌, ℕ, zero, suc, ◌≤◌, true, List, [], Option, Some, None, sym, ap, ◌∙◌, subst, arith, inl, inr}
 use Rattle.std.specs.Prelude.{Ok}
 use Rattle.bx_base.specs.declared.names.Mode.{Mode}
 use Rattle.bx_base.specs.declared.names.Mode.TheVariants.{Exclusive}
@@ -21,14 +21,14 @@ use Rattle.bx_posts.specs.Posts.{OnPostPath, page, parent, slot}
 use Rattle.bx_posts.specs.Separators.{ShowsSeparator}
 use Rattle.bx_records.specs.Drafts.{Changed}
 use Rattle.bx_ready.specs.Ready.{OnReadyPath}
-use Rattle.bx_ready.specs.Rooms.{IsLeafBlock, OnSplitPath}
-use Rattle.bx_ready.specs.Separators.{IsLedTo, OnPostForPath, OnPosting}
+use Rattle.bx_ready.specs.Rooms.{OnSplitPath}
+use Rattle.bx_ready.specs.Separators.{IsLedTo, OnPostForPath}
 use Rattle.bx_ready.proofs.Line.{IsShortOf, line, short}
 use Rattle.bx_ready.proofs.Split.{place_of}
 use Rattle.bx_tree_files.specs.declared.file.Name.{Name}
 use Rattle.bx_truth.specs.Chunks.{IsSlot, block_at, chunks_of}
 use Rattle.bx_truth.specs.Keys.{entry_key, name_key, name_value}
-use Rattle.bx_truth.specs.PageTrees.{Chunks, HasPage, IsIn, IsNode, IsTree, Node, PageTree}
+use Rattle.bx_truth.specs.PageTrees.{Chunks, HasPage, IsIn, IsTree, Node, PageTree}
 use Rattle.bx_views.specs.Truths.{Held, Hints, Truth, with_draft}
 
 -- ---- an entry is added

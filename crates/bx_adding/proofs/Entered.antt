@@ -20,11 +20,9 @@ use Rattle.bx_layout.specs.declared.inode.Inode.{Inode}
 use Rattle.bx_leaves.specs.Changes.{NeedsUnheld}
 use Rattle.bx_leaves.proofs.Written.{draft_elsewhere, own_not_slot}
 use Rattle.bx_making.proofs.Puts.{put_chunk, put_holds}
-use Rattle.bx_model.specs.Edits.{changed}
 use Rattle.bx_model.specs.declared.tree.Tree.{Tree}
 use Rattle.bx_records.specs.Drafts.{Changed}
 use Rattle.bx_tree_files.specs.declared.file.Body.{Body}
-use Rattle.bx_tree_files.specs.declared.file.Body.TheVariants.{Names}
 use Rattle.bx_tree_files.specs.declared.file.File.{File}
 use Rattle.bx_tree_files.specs.declared.file.Name.{Name}
 use Rattle.bx_tree_files.specs.Changes.{entered}

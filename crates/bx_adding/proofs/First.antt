@@ -1,6 +1,6 @@
 -- What is to be written first before an entry comes into a directory leaves each tree; and where the directory has room for the entry.
-use Rattle.std.proofs.Common.{◌≡◌, ℕ, true, false, List, [], Option, Some, None, sym, ap, ◌∙◌, subst, arith, inl, inr}
-use Rattle.std.specs.Prelude.{◌⊎◌, Err, Ok, Result}
+use Rattle.std.proofs.Common.{◌≡◌, ℕ, true, false, List, [], Option, sym, ◌∙◌, subst, arith, inl, inr}
+use Rattle.std.specs.Prelude.{Err, Ok, Result}
 use Rattle.bx_blink.specs.declared.error.BlinkError.{BlinkError}
 use Rattle.bx_blink.specs.declared.error.BlinkError.TheVariants as tree_error
 use Rattle.bx_blink.specs.Hints.{HintsFit, Under}
@@ -114,3 +114,9 @@ stops_both areas held truth root name number key (Stopped (Inner blocks)) r = r
 stops_both areas held truth root name number key (Stopped (Status status)) r = r
 stops_both areas held truth root name number key (Stopped OutOfMemory) r = tt
 stops_both areas held truth root name number key (Full spare) r = r
+
+-- what is answered of the second key, where there is room for the first
+pub either : (volume areas : ℕ) (held : Held) (hints : Hints) (truth : Truth) (tree : Tree) (handle : ℕ) (inode : Inode) (d : IsDirectoryOf volume areas held hints truth tree handle inode) (name : List ℕ) (number : ℕ)
+    → ReadyIn areas truth inode.tree (name_key name) (Ok tt) → (result : Result (Unit {0}) ChangeError) → ReadyIn areas truth inode.tree (entry_key number) result → RoomIn areas held truth inode.tree name number result
+either volume areas held hints truth tree handle inode d name number first (Ok done) r = found volume areas held hints truth tree handle inode d name number first r
+either volume areas held hints truth tree handle inode d name number first (Err stop) r = stops_both areas held truth inode.tree name number (entry_key number) stop r

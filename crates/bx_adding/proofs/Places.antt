@@ -1,5 +1,5 @@
 -- A key is in the range of one page of a level.
-use Rattle.std.proofs.Common.{◌≡◌, ℕ, ◌+◌, ◌≤◌, true, false, List, [], ◌∷◌, ◌++◌, sym, ap, ◌∙◌, subst, arith, inl, inr}
+use Rattle.std.proofs.Common.{◌≡◌, ℕ, true, false, List, [], ◌∷◌, ◌++◌, sym, ap, ◌∙◌, subst, arith, inl, inr}
 use Rattle.std.specs.Prelude.{IfSome}
 use Rattle.std.specs.List.{AllByRecursion}
 use Rattle.std.proofs.lemmas.List.{append_assoc}
@@ -11,7 +11,7 @@ use Rattle.bx_page.proofs.Order.{below_trans}
 use Rattle.bx_page.specs.Contents.{Contents}
 use Rattle.bx_page.specs.Keys.{IsBelow, is_below}
 use Rattle.bx_truth.specs.PageTrees.{Chunks, IsChain, IsIn, IsTree, Leads, Node, PageTree}
-use Rattle.bx_truth.proofs.OneTree.{same_height, same_levels}
+use Rattle.bx_truth.proofs.OneTree.{same_levels}
 
 -- a key in the range of a page is below where the range of each later one begins
 below_later : (x : Node) (between : List Node) (node : Node) (behind : List Node) (key : List ℕ) → Leads x (between ++ node ∷ behind) → AllByRecursion IsRange (x ∷ (between ++ node ∷ behind))

@@ -1,5 +1,5 @@
 -- Space for entries in leaves: where it comes from, what an entry takes of it, and that it stays.
-use Rattle.std.proofs.Common.{◌≡◌, ℕ, ◌+◌, ◌≤◌, ◌<◌, ◌⊎◌, eqb, false, List, [], ◌∷◌, ◌++◌, length, Some, sym, ap, ◌∙◌, subst, arith, inl, inr, refl}
+use Rattle.std.proofs.Common.{◌≡◌, ℕ, ◌+◌, ◌≤◌, ◌<◌, ◌⊎◌, false, List, [], ◌∷◌, ◌++◌, length, sym, ap, ◌∙◌, subst, arith, inl, inr, refl}
 use Rattle.std.specs.Prelude.{All, IfSome}
 use Rattle.bx_base.specs.declared.names.Mode.TheVariants.{Exclusive}
 use Rattle.bx_blink.specs.Hints.{Under}
@@ -13,10 +13,9 @@ use Rattle.bx_leaves.proofs.Members.{in_left, in_middle, in_right, in_split}
 use Rattle.bx_leaves.proofs.Replaced.{Fits, replaced, with_level}
 use Rattle.bx_page.specs.Contents.{Contents, size, with_value}
 use Rattle.bx_page.specs.Keys.{IsBelow, is_below}
-use Rattle.bx_page.specs.declared.entry.Entry.{Entry}
 use Rattle.bx_page.proofs.Room.{size_with-le}
 use Rattle.bx_page.proofs.Whole.{one_page}
-use Rattle.bx_truth.specs.Chunks.{block_at, chunks_of}
+use Rattle.bx_truth.specs.Chunks.{chunks_of}
 use Rattle.bx_truth.specs.Edits.{ChunkAnew}
 use Rattle.bx_truth.specs.PageTrees.{Chunks, HasPage, IsIn, IsNode, IsTree, Node, PageTree}
 use Rattle.bx_views.specs.Truths.{Held, Hints, Truth}

@@ -1,5 +1,5 @@
 -- What a change needs that is stopped by a call on a tree; and how many blocks a draft gets.
-use Rattle.std.proofs.Common.{◌≡◌, ℕ, ◌+◌, ◌≤◌, arith, List, length, sym, ap, subst, inl, inr}
+use Rattle.std.proofs.Common.{ℕ, ◌+◌, ◌≤◌, arith, List, length, sym, ap, subst, inl, inr}
 use Rattle.std.specs.Prelude.{Err, Ok}
 use Rattle.bx_base.specs.declared.names.Mode.{Mode}
 use Rattle.bx_blink.specs.declared.error.BlinkError.{BlinkError}

@@ -1,5 +1,5 @@
 -- Room for an entry in the leaves of a directory's tree, over a view with a draft.
-use Rattle.std.specs.Prelude.{◌≡◌, ℕ, ◌+◌, ◌≤◌, List}
+use Rattle.std.specs.Prelude.{ℕ, ◌+◌, ◌≤◌, List}
 use Rattle.bx_blink.specs.Places.{IsPlaceOf}
 use Rattle.bx_leaves.specs.Leaves.{IsNearlyFull}
 use Rattle.bx_page.specs.Contents.{Contents, size}

@@ -1,4 +1,4 @@
-use Rattle.std.proofs.Common.{◌+◌, ◌≤◌, length, arith, ap, sym, subst, Err, Ok}
+use Rattle.std.proofs.Common.{arith, subst}
 use Rattle.bx_adding.proofs.Entered.{above, directory, enters, has_numbers, listed, stopped}
 use Rattle.bx_adding.proofs.Stopped.{added_more, inode_more, needs_stop}
 use Rattle.bx_dirs.specs.Changes.{OnAddPath, entry_of}

@@ -1,8 +1,9 @@
 -- What LINK comes to by what it finds.
-use Rattle.std.proofs.Common.{◌≡◌, ℕ, ◌≤◌, List, [], Option, Some, None, refl, sym, ap, ◌∙◌, subst, eqb-true}
-use Rattle.std.specs.Prelude.{Result, Ok, Err}
+use Rattle.std.proofs.Common.{◌≡◌, ℕ, ◌≤◌, Bool, true, false, List, Option, Some, None, refl, sym, ap, ◌∙◌, eqb-true}
+use Rattle.std.specs.Prelude.{nat_le, nat_lt, IfErr, Result, Ok, Err}
+use Rattle.bx_base.specs.declared.names.Mode.{Mode}
 use Rattle.bx_changes.specs.Changes.{Changes}
-use Rattle.bx_changes.specs.Growing.{IsChangeBy}
+use Rattle.bx_changes.specs.Growing.{IsChangeBy, NeedsBy}
 use Rattle.bx_changes.specs.declared.error.ChangeError.{ChangeError}
 use Rattle.bx_changes.specs.declared.error.ChangeError.TheVariants.{Stopped, Full}
 use Rattle.bx_entries.specs.Finding.{DirectoryFor, MayChange, changeable}
@@ -17,18 +18,19 @@ use Rattle.bx_layout.specs.declared.inode.Inode.{Inode}
 use Rattle.bx_model.specs.declared.call.Call.{Call}
 use Rattle.bx_model.specs.declared.reply.Reply.TheVariants as reply
 use Rattle.bx_model.specs.declared.tree.Tree.{Tree}
-use Rattle.bx_model.specs.Making.{link}
+use Rattle.bx_model.specs.Making.{has_entry, link}
 use Rattle.bx_model.specs.Reading.{named_file}
 use Rattle.bx_model.specs.Steps.{Outcome, must, refuse, ◌>>=◌, ◌>>◌}
 use Rattle.bx_reads.proofs.Told.{named_as}
 use Rattle.bx_records.specs.Drafts.{Changed}
 use Rattle.bx_tree_files.specs.declared.file.File.{File}
-use Rattle.bx_tree_files.specs.Files.{file_at}
+use Rattle.bx_tree_files.specs.Files.{file_at, is_directory}
+use Rattle.bx_tree_files.specs.Names.{next_of}
 use Rattle.bx_tree_files.specs.Times.{Time}
 use Rattle.bx_tree_laws.proofs.Makings.{link_keeps}
 use Rattle.bx_views.specs.Truths.{Held, Hints, IsTruth, Truth}
 use Rattle.bx_linking.specs.Drafting.{ComesBy, ComesSo}
-use Rattle.bx_linking.specs.Linking.{IsLinking, LinksIn, MayLink, MayLinkIn, link_errors, linking, linking_in, with_link}
+use Rattle.bx_linking.specs.Linking.{IsLinking, LinksIn, MayLinkIn, link_errors, linking, linking_in, with_link}
 
 -- ---- from a directory on
 
@@ -77,7 +79,7 @@ module _ (tree : Tree) (call : Call) (file : File) (name : List ℕ) (now : Time
       pub into : (spare : ℕ) → linking tree call file name now spare (named_file tree bytes) ≡ linking_in tree file name now spare m.at.file
       into spare = by_handle spare ∙ ap (linking tree call file name now spare) m.at.there ∙ ap (λ (r : Result File ℕ). r >>= linking_in tree file name now spare) (changes call name m.at.file m.may)
 
-      pub both : (held : Held) (hints : Hints) (of_file : Inode) (from : ℕ) → areas ≤ 64 → IsTruth held truth → Stands volume areas truth tree → HintsFitAll areas hints truth
+      abbrev pub both : (held : Held) (hints : Hints) (of_file : Inode) (from : ℕ) → areas ≤ 64 → IsTruth held truth → Stands volume areas truth tree → HintsFitAll areas hints truth
           → IsInodeOf areas truth tree from of_file → IsLinking volume areas held hints truth tree from of_file handle inode
       both held hints of_file from few agrees stands fit f = record {
         few = few;
@@ -91,26 +93,39 @@ module _ (tree : Tree) (call : Call) (file : File) (name : List ℕ) (now : Time
 
 -- ---- LINK
 
+next_same : {A B : Type 0} (f g : A → Result B ℕ) → ((a : A) → f a ≡ g a) → (r : Result A ℕ) → r >>= f ≡ r >>= g
+next_same f g same (Ok a) = same a
+next_same f g same (Err status) = refl
+
+-- the tests of the model, one behind the other, are those of both files and then what comes
+in_one : (d h m n f : Bool) (rest : Outcome) → refuse d 1 >> (refuse h 17 >> (refuse m 69 >> ((refuse n 69 >> refuse f 28) >> rest))) ≡ (refuse d 1 >> (refuse h 17 >> (refuse m 69 >> (refuse n 69 >> refuse f 28)))) >> rest
+in_one true h m n f rest = refl
+in_one false true m n f rest = refl
+in_one false false true n f rest = refl
+in_one false false false n f rest = refl
+
 module _ (tree : Tree) (call : Call) (at name : List ℕ) (now : Time) (volume : ℕ) (bytes : List ℕ) (same : tree.volume ≡ volume) where
   abbrev from_file : ℕ → Option File → Outcome
   from_file spare found = must found 70 >>= (λ file. linking tree call file name now spare (named_file tree at))
 
   link_is : (spare : ℕ) → link tree call bytes at name now spare ≡ from_file spare (named_file tree bytes)
-  link_is spare = refl
+  link_is spare = next_same _ _ (λ file. next_same _ _ (λ directory.
+      in_one (is_directory file) (has_entry directory name) (nat_le 32000 file.nlink) (nat_le 4294967295 (next_of directory.body)) (nat_lt spare 8) (Ok (reply.Status 0, with_link tree file directory name now)))
+      (changeable call name (named_file tree at))) (must (named_file tree bytes) 70)
 
   pub no_file_named : None ≡ named volume bytes → link tree call bytes at name now 8 ≡ Err 70
-  no_file_named is = ap (from_file 8) (named_as tree volume bytes None same is)
+  no_file_named is = link_is 8 ∙ ap (from_file 8) (named_as tree volume bytes None same is)
 
   module _ (handle : ℕ) (is : Some handle ≡ named volume bytes) (areas : ℕ) (truth : Truth) where
     pub no_file : (stop : Stop) → FileAt areas truth tree handle (Err stop) → IsChangeBy volume areas truth (λ spare. link tree call bytes at name now spare) (Err (Stopped stop))
-    no_file (Status status) (code, none) = ap (from_file 8) (named_as tree volume bytes (Some handle) same is ∙ none) ∙ ap Err (sym code)
+    no_file (Status status) (code, none) = link_is 8 ∙ ap (from_file 8) (named_as tree volume bytes (Some handle) same is ∙ none) ∙ ap Err (sym code)
     no_file (Need at mode) f = tt
     no_file (Inner blocks) f = absurd f
     no_file OutOfMemory f = tt
 
     module _ (inode : Inode) (f : IsInodeOf areas truth tree handle inode) where
       comes : (spare : ℕ) → link tree call bytes at name now spare ≡ linking tree call f.file name now spare (named_file tree at)
-      comes spare = ap (from_file spare) (named_as tree volume bytes (Some handle) same is ∙ f.there)
+      comes spare = link_is spare ∙ ap (from_file spare) (named_as tree volume bytes (Some handle) same is ∙ f.there)
 
       pub is_stopped : (error : ChangeError) → ComesBy areas truth (λ spare. linking tree call f.file name now spare (named_file tree at)) (Err error) → IsChangeBy volume areas truth (λ spare. link tree call bytes at name now spare) (Err error)
       is_stopped (Stopped (Status status)) e = comes 8 ∙ e
@@ -125,3 +140,16 @@ module _ (tree : Tree) (call : Call) (at name : List ℕ) (now : Time) (volume :
           let to = comes 8 ∙ c.comes_to in
           let keeps = link_keeps tree call bytes at name now 8 (reply.Status 0) c.next stands.file_tree to in
           record { next = c.next; comes_to = to; stands = record { is = c.leaves.stands; volume_is = keeps.grows.volume ∙ stands.volume_is; file_tree = keeps.is } }
+
+-- ---- what is needed on one path is needed on a wider one
+
+pub needs_by : (areas : ℕ) (held : Held) (P Q : ℕ → Mode → Type 0) → ((at : ℕ) (mode : Mode) → P at mode → Q at mode) → (error : ChangeError) → NeedsBy areas held P error → NeedsBy areas held Q error
+needs_by areas held P Q wider (Stopped (Need at mode)) n = (n.0, n.1, wider at mode n.2)
+needs_by areas held P Q wider (Stopped (Inner blocks)) n = tt
+needs_by areas held P Q wider (Stopped (Status status)) n = tt
+needs_by areas held P Q wider (Stopped OutOfMemory) n = tt
+needs_by areas held P Q wider (Full spare) n = tt
+
+pub needs_if : {T : Type 0} (areas : ℕ) (held : Held) (P Q : ℕ → Mode → Type 0) → ((at : ℕ) (mode : Mode) → P at mode → Q at mode) → (result : Result T ChangeError) → IfErr result (NeedsBy areas held P) → IfErr result (NeedsBy areas held Q)
+needs_if areas held P Q wider (Ok done) n = tt
+needs_if areas held P Q wider (Err error) n = needs_by areas held P Q wider error n

@@ -10,12 +10,14 @@ use Rattle.bx_dirs.specs.Entries.{HasEntries}
 use Rattle.bx_entries.specs.declared.finding.Removable.TheVariants as of
 use Rattle.bx_entries.specs.Finding.{IsDirectoryOf}
 use Rattle.bx_entries.proofs.RemovedFrom.{IsListed, listed}
+use Rattle.bx_files.specs.Paths.{IsNeed}
 use Rattle.bx_hints.proofs.Pages.{inode_is}
 use Rattle.bx_inodes.specs.declared.stop.Stop.{Stop}
 use Rattle.bx_inodes.specs.declared.stop.Stop.TheVariants.{Need, Inner, Status, OutOfMemory}
 use Rattle.bx_layout.specs.declared.inode.Inode.{Inode}
 use Rattle.bx_model.specs.declared.tree.Tree.{Tree}
 use Rattle.bx_model.specs.Steps.{refuse, ◌>>◌}
+use Rattle.bx_places.specs.Places.{is_block}
 use Rattle.bx_tree_files.specs.declared.file.Body.{Body}
 use Rattle.bx_tree_files.specs.declared.file.Body.TheVariants.{Names}
 use Rattle.bx_tree_files.specs.declared.file.File.{File}
@@ -29,6 +31,12 @@ use Rattle.bx_truth.proofs.Cases.{eq_false, eq_true}
 use Rattle.bx_truth.proofs.Put.{shown}
 use Rattle.bx_views.specs.Truths.{Held, Hints, Truth}
 use Rattle.bx_linking.specs.Linking.{IsLinking, LinkErrorIn, MayLinkIn, TellsEntry, link_errors}
+
+-- ---- what a search that needs a block tells
+
+pub need_told : (names : List Name) (name : List ℕ) (areas at : ℕ) (stop : Stop) → IsNeed areas at stop → is_block areas at ≡ true → TellsEntry names name (Err stop)
+need_told names name areas at stop (inl need) block = subst (λ (s : Stop). TellsEntry names name (Err s)) (sym need.1) tt
+need_told names name areas at stop (inr none) block = let both : true ≡ false = sym block ∙ none.0 in absurd cc
 
 -- ---- the tests, one after the other
 
@@ -92,7 +100,7 @@ module _ (volume areas : ℕ) (held : Held) (hints : Hints) (truth : Truth) (tre
   by_names : (l : IsListed areas held hints truth inode d.at.file) → IsPlaceOf areas held hints truth inode d.at.file
   by_names l =
       let is : IsDirectory (chunks_of areas truth) d.stands.is.owner handle (d.stands.is.stored handle) l.parent l.next l.names =
-          subst (λ (b : Body). HasBody (chunks_of areas truth) d.stands.is.owner handle (d.stands.is.stored handle) b) l.body_is (shown areas truth tree handle d.at.file d.stands.is d.at.there).body in
+      subst (λ (b : Body). HasBody (chunks_of areas truth) d.stands.is.owner handle (d.stands.is.stored handle) b) l.body_is (shown areas truth tree handle d.at.file d.stands.is d.at.there).body in
       record {
         parent = l.parent;
         next = l.next;
@@ -164,8 +172,8 @@ module _ (volume areas : ℕ) (held : Held) (hints : Hints) (truth : Truth) (tre
       either true = refl
       either false = refl
 
-  pub none : (of_file.kind ≡ 2 → ⊥) → entry_named (names_of is.at.file.body) name ≡ None → of_file.nlink < 32000 → inode.next < 4294967295 → link_errors is.file.file is.at.file name 8 ≡ Ok tt
-  none other gone few left =
+  pub no_error : (of_file.kind ≡ 2 → ⊥) → entry_named (names_of is.at.file.body) name ≡ None → of_file.nlink < 32000 → inode.next < 4294967295 → link_errors is.file.file is.at.file name 8 ≡ Ok tt
+  no_error other gone few left =
       let fewer : is.file.file.nlink < 32000 = let same = is.file.fields.nlink in omega (arith, same, few) in
       let lower : next_of is.at.file.body < 4294967295 = omega (arith, next_is, left) in
       chains false false false false (plain other) (ap (λ (o : Option Name). is_some o) gone) (grind (arith, nat_tests, fewer)) (grind (arith, nat_tests, lower))
@@ -189,9 +197,9 @@ stopped areas held truth file directory inode name OutOfMemory e = tt
 
 pub with_room : (areas : ℕ) (held : Held) (truth : Truth) (file directory : File) (inode : Inode) (name : List ℕ) → link_errors file directory name 8 ≡ Ok tt
     → (result : Result (Unit {0}) ChangeError) → RoomIn areas held truth inode.tree name inode.next result → MayLinkIn areas held truth file directory inode name result
-with_room areas held truth file directory inode name none (Ok done) r = record { none = none; ready = r }
-with_room areas held truth file directory inode name none (Err (Stopped (Status status))) r = absurd r
-with_room areas held truth file directory inode name none (Err (Stopped (Need at mode))) r = tt
-with_room areas held truth file directory inode name none (Err (Stopped (Inner blocks))) r = r
-with_room areas held truth file directory inode name none (Err (Stopped OutOfMemory)) r = tt
-with_room areas held truth file directory inode name none (Err (Full spare)) r = (r, is_full file directory name spare r.few none)
+with_room areas held truth file directory inode name passed (Ok done) r = record { none = passed; ready = r }
+with_room areas held truth file directory inode name passed (Err (Stopped (Status status))) r = absurd r
+with_room areas held truth file directory inode name passed (Err (Stopped (Need at mode))) r = tt
+with_room areas held truth file directory inode name passed (Err (Stopped (Inner blocks))) r = r
+with_room areas held truth file directory inode name passed (Err (Stopped OutOfMemory)) r = tt
+with_room areas held truth file directory inode name passed (Err (Full spare)) r = (r, is_full file directory name spare r.few passed)

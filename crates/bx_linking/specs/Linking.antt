@@ -1,5 +1,5 @@
 -- LINK: what it comes to by what it finds, and its path.
-use Rattle.std.specs.Prelude.{◌≡◌, ◌≢◌, ℕ, ◌+◌, ◌<◌, ◌⊎◌, nat_le, false, List, [], Option, None, Some, Result, Ok, Err}
+use Rattle.std.specs.Prelude.{◌≡◌, ℕ, ◌≤◌, ◌⊎◌, nat_le, false, List, [], Option, None, Some, Result, Ok, Err}
 use Rattle.bx_adding.specs.Finding.{IsReadyFor, OnRoomPath}
 use Rattle.bx_base.specs.declared.names.Mode.{Mode}
 use Rattle.bx_base.specs.declared.names.Mode.TheVariants.{Exclusive}

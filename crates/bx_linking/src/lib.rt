@@ -3,6 +3,8 @@
 
 mod linking;
 mod places;
+mod searching;
 mod testing;
 
 pub use linking::link;
+pub use searching::find_entry;

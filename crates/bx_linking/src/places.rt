@@ -96,7 +96,9 @@ fn link_file<V: View>(
 {
     let Known { handle, inode } = file;
     let none = Draft::new(alloc);
-    match enter(alloc, none, view, areas, directory, name, handle, false, now) {
+    match enter(
+        alloc, none, view, areas, directory, name, handle, false, now,
+    ) {
         Err(error) => Err(error),
         Ok(draft) => {
             let mut draft = draft;

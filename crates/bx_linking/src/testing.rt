@@ -1,21 +1,20 @@
 //! Whether a file may have one more name.
 
-ghost use Rattle.std.specs.Prelude.{◌≡◌, ◌<◌, ℕ, List, [], IfErr, IfOk};
+ghost use Rattle.std.specs.Prelude.{◌≡◌, ◌<◌, ℕ, None, IfErr, IfOk};
 ghost use Rattle.bx_changes.specs.Growing.{HoldsFirst, NeedsBy};
-ghost use Rattle.bx_dirs.specs.Entries.{HasEntries};
 ghost use Rattle.bx_files.specs.Paths.{OnSearch};
 ghost use Rattle.bx_inodes.specs.Stops.{NeedsOn, NeverInner};
 ghost use Rattle.bx_model.specs.declared.tree.Tree.{Tree};
-ghost use Rattle.bx_tree_files.specs.declared.file.Name.{Name};
 ghost use Rattle.bx_truth.specs.Keys.{name_key};
 ghost use Rattle.bx_views.specs.Truths.{Truth};
-ghost use Rattle.bx_linking.specs.Linking.{IsLinking, LinkErrorIn, MayLinkIn, OnTest, TellsEntry};
+ghost use Rattle.bx_linking.specs.Linking.{IsLinking, LinkErrorIn, MayLinkIn, OnTest};
 
+use crate::searching::find_entry;
 use bx_adding::room_for;
 use bx_changes::ChangeError;
-use bx_entries::{Known, entry_for};
+use bx_entries::Known;
 use bx_inodes::Stop;
-use bx_model::{DQUOT, EXIST, NOENT, PERM};
+use bx_model::{DQUOT, EXIST, PERM};
 use bx_tree_files::DIRECTORY;
 use bx_views::View;
 use std::alloc::Global;
@@ -81,27 +80,5 @@ fn link_error<V: View>(
             }
             Ok(None)
         }
-    }
-}
-
-/// The number and the handle of the entry with a name, in the directory whose tree is under a root; `None` exactly where no entry has it.
-///
-/// `Need` names a block of the volume that isn't held and is on the path of the search, shared. The status is `STALE` where what is held is no
-/// directory.
-fn find_entry<V: View>(
-    alloc: Global,
-    view: &V,
-    areas: u16,
-    root: u64,
-    name: &[u8],
-) -> Result<Option<(u32, u64)>, Stop>
-    ensures list { (truth : Truth) (names : List Name) → HasEntries areas (V.held view.now) (V.hints view.now) truth [] root names → TellsEntry names name.now result }
-    ensures need { NeedsOn areas (V.held view.now) (OnSearch (V.held view.now) (V.hints view.now) root (name_key name.now)) result }
-    ensures inner { NeverInner result }
-{
-    match entry_for(alloc, view, areas, root, name) {
-        Ok(found) => Ok(Some(found)),
-        Err(Stop::Status(NOENT)) => Ok(None),
-        Err(stop) => Err(stop),
     }
 }

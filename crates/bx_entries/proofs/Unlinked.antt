@@ -39,7 +39,7 @@ use Rattle.bx_entries.specs.Stopping.{StopsByChunks}
 use Rattle.bx_entries.specs.Unlinking.{IsFileOf, Unlinks, UnlinksIn}
 use Rattle.bx_entries.proofs.InodePut.{fits}
 
-few_more : (xs : List Changed) (at : ℕ) (block : Block) → length xs ≤ 3 → 16 ≤ length (with_block xs at block) → ⊥
+few_more : (xs : List Changed) (at : ℕ) (block : Block) → length xs ≤ 12 → 16 ≤ length (with_block xs at block) → ⊥
 few_more xs at block few many = let more : 15 ≤ length xs = fifteen xs (with_block xs at block) at block refl many in omega (arith, few, more)
 
 above16 : (n : ℕ) → 16 < n → 16 ≤ n
@@ -78,7 +78,7 @@ module _ (areas : ℕ) (held : Held) (truth : Truth) (old : List Changed) (tree 
     leads = b.leads;
   }
 
-  pub stopped : (new : List Changed) → length old ≤ 3 → (error : ChunkError) (stop : Stop) → BuriesAt held old new handle inode (Err error) → BuriesIn areas truth old new tree handle inode (Err error) → StopsByChunks error stop
+  pub stopped : (new : List Changed) → length old ≤ 12 → (error : ChunkError) (stop : Stop) → BuriesAt held old new handle inode (Err error) → BuriesIn areas truth old new tree handle inode (Err error) → StopsByChunks error stop
       → UnlinksIn areas truth old new tree handle file now (Err stop)
   stopped new few (chunk.Need at mode) stop b i s = subst (λ (x : Stop). UnlinksIn areas truth old new tree handle file now (Err x)) (sym s) tt
   stopped new few chunk.OutOfMemory stop b i s = subst (λ (x : Stop). UnlinksIn areas truth old new tree handle file now (Err x)) (sym s) tt

@@ -1,7 +1,9 @@
 -- What taking an entry out of a directory rests on, and what it leaves.
 use Rattle.std.specs.Prelude.{◌≡◌, ◌≢◌, ℕ, ◌-◌, ◌≤◌, Bool, if◌then◌else◌, List, Some, Result, Ok, Err}
+use Rattle.bx_dirs.specs.Changes.{TakesAt}
 use Rattle.bx_hints.specs.Fitting.{HintsFitAll}
 use Rattle.bx_inodes.specs.Inodes.{HoldsInode}
+use Rattle.bx_inodes.specs.Writing.{PutsInode}
 use Rattle.bx_inodes.specs.declared.stop.Stop.{Stop}
 use Rattle.bx_inodes.specs.declared.stop.Stop.TheVariants.{Need, Inner, Status, OutOfMemory}
 use Rattle.bx_layout.specs.declared.block.Block.{Block}
@@ -54,6 +56,12 @@ links_left counts nlink = if counts then nlink - 1 else nlink
 -- the directory's inode without the entry, changed now
 abbrev pub inode_without : Bool → Time → Inode → Inode
 inode_without counts now inode = record inode { nlink = links_left counts inode.nlink; mtime = now; ctime = now }
+
+-- the entry is taken out under both its keys, and then the directory's inode is put
+pub record TakesOutAt (held : Held) (hints : Hints) (old new : List Changed) (directory : ℕ) (inode : Inode) (number : ℕ) (name : List ℕ) (counts : Bool) (now : Time) : Type 0 where
+  pub mid : List Changed
+  pub takes : TakesAt held hints old mid inode.tree number name (Ok tt)
+  pub puts : PutsInode mid new directory (inode_without counts now inode)
 
 -- the tree with the directory without the entry of a name, changed now
 abbrev pub without_entry_of : Tree → File → List ℕ → Bool → Time → Tree

@@ -10,7 +10,7 @@ ghost use Rattle.bx_tree_files.specs.declared.file.File.{File};
 ghost use Rattle.bx_truth.specs.Chunks.{block_at};
 ghost use Rattle.bx_views.specs.Attempts.{IsHeldDraft};
 ghost use Rattle.bx_views.specs.Truths.{Truth};
-ghost use Rattle.bx_entries.specs.Taking.{IsEntryOf, TakesEntry, inode_without, links_left as left};
+ghost use Rattle.bx_entries.specs.Taking.{IsEntryOf, TakesEntry, TakesOutAt, inode_without, links_left as left};
 
 use crate::stops::stop_of;
 use bx_dirs::take;
@@ -49,6 +49,7 @@ pub fn take_entry<V: View>(
     requires few { length draft ≤ 12 }
     ensures step { (truth : Truth) (tree : Tree) (file : File) → IsEntryOf areas (V.held view.now) (V.hints view.now) truth draft tree directory.handle directory.inode file number name.now
         → TakesEntry areas truth draft tree directory.handle file name.now counts now result }
+    ensures ends { IfOk result (λ new. TakesOutAt (V.held view.now) (V.hints view.now) draft new directory.handle directory.inode number name.now counts now) }
     ensures need { NeedsOn areas (V.held view.now) (OnTakePath (V.held view.now) (V.hints view.now) draft directory.inode.tree number name.now) result }
     ensures inner { NeverInner result }
     ensures held { IsHeldDraft (V.held view.now) draft → IsSome (V.held view.now (block_at directory.handle) Exclusive) → IfOk result (IsHeldDraft (V.held view.now)) }

@@ -35,7 +35,7 @@ pub fn unlink<V: View>(
     now: (u32, u32),
 ) -> Result<(), Stop>
     requires inode { IsInode inode }
-    requires few { length draft.old ≤ 3 }
+    requires few { length draft.old ≤ 12 }
     ensures unchanged { OnErr result (draft.new ≡ draft.old) }
     ensures step { (areas : ℕ) (truth : Truth) (tree : Tree) (file : File) → IsFileOf areas (V.held view.now) truth draft.old tree handle inode file
         → UnlinksIn areas truth draft.old draft.new tree handle file now result }

@@ -1,4 +1,6 @@
-use Rattle.std.proofs.Common.{ap, arith, length}
+use Rattle.std.proofs.Common.{List, ap, arith, length, subst}
+use Rattle.bx_inodes.specs.Writing.{PutsInode}
+use Rattle.bx_layout.specs.declared.inode.Inode.{Inode}
 use Rattle.bx_truth.specs.Chunks.{block_at}
 use Rattle.bx_entries.proofs.Taken.{directory, left_as, listed, one_block_more, stopped, two_more}
 use Rattle.bx_entries.proofs.taking.take_entry.Goals as goal
@@ -31,3 +33,10 @@ returns-in-Ok-put_inode-clause-few g c =
     let one = one_block_more c.take.new.draft (block_at c.args.directory.handle) c.in-Ok-put_inode.ensures.puts.block in
     let same = ap length c.in-Ok-put_inode.ensures.puts.put in
     omega (arith, more, one, same)
+
+pub returns-in-Ok-put_inode-clause-ends : goal.returns-in-Ok-put_inode-clause-ends
+returns-in-Ok-put_inode-clause-ends g c = record {
+  mid = c.take.new.draft;
+  takes = c.in-Ok.ensures.ends;
+  puts = subst (λ (i : Inode). PutsInode c.take.new.draft c.put_inode.new.draft c.args.directory.handle i) c.without_entry-changed.ensures c.in-Ok-put_inode.ensures.puts;
+}

@@ -1,0 +1,13 @@
+mod Firsts
+mod Takes
+mod Found
+mod Freed
+mod Sizes
+mod Cuts
+mod Stripped
+mod Below
+mod WholeTree
+mod WholeFile
+mod Needed
+mod HeldOnes
+mod Told

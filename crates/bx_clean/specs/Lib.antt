@@ -1,0 +1,5 @@
+pub mod Held
+pub mod Pages
+pub mod Puts
+pub mod Tidying
+pub mod Trees

@@ -22,6 +22,7 @@ use Rattle.bx_model.specs.History.{tells_spare}
 use Rattle.bx_model.specs.Steps.{Making, Outcome, done, taken}
 use Rattle.bx_nfs.specs.Wire.{ReadsAs, reply_text}
 use Rattle.bx_records.specs.Drafts.{Changed}
+use Rattle.bx_sizes.specs.Answers.{IsChangeOr}
 use Rattle.bx_views.specs.declared.attempt.Attempt.{Attempt}
 use Rattle.bx_views.specs.declared.attempt.Attempt.TheVariants.{Need, Change, Inner, Answer}
 use Rattle.bx_views.specs.declared.attempt.Done.{Done}
@@ -54,6 +55,12 @@ module _ (volume areas : ℕ) (truth : Truth) (tree : Tree) (call : Call) (momen
     pub change_acts : (draft : List Changed) (reply : Reply) → Changes volume areas truth outcome draft reply → Leads draft → ActsBy draft reply 0
     change_acts draft reply changes leads = record { next = changes.next; acts = acts ∙ ap (λ (o : Outcome). Some (done tree o)) changes.comes_to; stands = changes.stands; leads = leads }
 
+    pub stop_refuses_or : (stop : Stop) → IsChangeOr volume areas truth outcome (Err stop) → RefusesBy (Stopped stop)
+    stop_refuses_or (stops.Need at mode) is = tt
+    stop_refuses_or (stops.Inner draft) is = is
+    stop_refuses_or (stops.Status status) is = acts ∙ ap (λ (o : Outcome). Some (done tree o)) is
+    stop_refuses_or stops.OutOfMemory is = tt
+
     pub stop_refuses : (stop : Stop) → IsChange volume areas truth tree outcome (Err stop) → RefusesBy (Stopped stop)
     stop_refuses (stops.Need at mode) is = tt
     stop_refuses (stops.Inner draft) is = absurd is
@@ -62,6 +69,9 @@ module _ (volume areas : ℕ) (truth : Truth) (tree : Tree) (call : Call) (momen
 
   -- by one that may take some
   module _ (outcome : ℕ → Outcome) (acts : (spare : ℕ) → act tree call moment spare 0 ≡ Some (done tree (outcome spare))) where
+    pub change_by_acts : (draft : List Changed) (reply : Reply) → Changes volume areas truth (outcome 8) draft reply → Leads draft → ActsBy draft reply 0
+    change_by_acts draft reply changes leads = change_acts (outcome 8) (acts 8) draft reply changes leads
+
     pub error_refuses : (error : ChangeError) → IsChangeBy volume areas truth outcome (Err error) → RefusesBy error
     error_refuses (Stopped (stops.Need at mode)) is = tt
     error_refuses (Stopped (stops.Inner draft)) is = is

@@ -13,6 +13,7 @@ use Rattle.bx_inodes.specs.Stops.{NeedsOn, NeverInner}
 use Rattle.bx_model.specs.declared.reply.Reply.{Reply}
 use Rattle.bx_places.specs.Places.{is_block}
 use Rattle.bx_records.specs.Drafts.{Changed}
+use Rattle.bx_sizes.specs.Answers.{HoldsInner}
 use Rattle.bx_views.specs.declared.attempt.Attempt.{Attempt}
 use Rattle.bx_views.specs.declared.attempt.Attempt.TheVariants.{Need, Change, Inner, Answer}
 use Rattle.bx_views.specs.Attempts.{IsFair, IsFairNeed, IsHeldDraft}
@@ -47,6 +48,12 @@ module _ (xid areas : ℕ) (held : Held) (Path : ℕ → Mode → Type 0) (attem
   refused_fair (Stopped (stops.Status status)) needs first is = subst (IsFair areas held Path) (sym is) tt
   refused_fair (Stopped stops.OutOfMemory) needs first is = absurd is
   refused_fair (Full spare) needs first is = subst (IsFair areas held Path) (sym is) tt
+
+  pub inner_fair : (T : Type 0) (stop : Stop) → NeedsOn areas held Path {T = T} (Err stop) → HoldsInner {T = T} held (Err stop) → IsStopped xid stop attempt → IsFair areas held Path attempt
+  inner_fair T (stops.Need at mode) needs first is = subst (IsFair areas held Path) (sym is) (one_needed areas held Path at mode needs)
+  inner_fair T (stops.Inner draft) needs first is = subst (IsFair areas held Path) (sym is) first
+  inner_fair T (stops.Status status) needs first is = subst (IsFair areas held Path) (sym is) tt
+  inner_fair T stops.OutOfMemory needs first is = absurd is
 
   pub stops_fair : (T : Type 0) (stop : Stop) → NeedsOn areas held Path {T = T} (Err stop) → NeverInner {T = T} (Err stop) → IsStopped xid stop attempt → IsFair areas held Path attempt
   stops_fair T (stops.Need at mode) needs never is = subst (IsFair areas held Path) (sym is) (one_needed areas held Path at mode needs)

@@ -1,8 +1,7 @@
 -- The calls that change a file tree, and are built.
-use Rattle.std.specs.Prelude.{◌≡◌, ℕ}
-use Rattle.bx_changes.specs.Changes.{SetsModeAlone}
+use Rattle.std.specs.Prelude.{◌≡◌, ◌≤◌, ◌⊎◌, ℕ, length}
 use Rattle.bx_model.specs.declared.call.Args.{Args}
-use Rattle.bx_model.specs.declared.call.Args.TheVariants.{Name, Set}
+use Rattle.bx_model.specs.declared.call.Args.TheVariants.{Link, Name, Set}
 use Rattle.bx_model.specs.declared.call.Call.{Call}
 
 -- the call is this procedure of NFS
@@ -10,10 +9,11 @@ pub record IsProcedure (number : ℕ) (call : Call) : Type 0 where
   pub program : call.program ≡ 100003
   pub procedure : call.procedure ≡ number
 
--- By their arguments: SETATTR (2) where it sets the mode alone, and REMOVE (10).
+-- By their arguments: SETATTR (2), REMOVE (10), LINK (12) and RMDIR (15).
 abbrev pub HasChangeArgs : Call → Args → Type 0
-HasChangeArgs call (Set handle sattr) = IsProcedure 2 call × SetsModeAlone sattr
-HasChangeArgs call (Name handle name) = IsProcedure 10 call
+HasChangeArgs call (Set handle sattr) = IsProcedure 2 call
+HasChangeArgs call (Name handle name) = IsProcedure 10 call ⊎ IsProcedure 15 call
+HasChangeArgs call (Link from handle name) = IsProcedure 12 call × (length name ≤ 255)
 HasChangeArgs call _ = ⊥
 
 abbrev pub IsChanging : Call → Type 0

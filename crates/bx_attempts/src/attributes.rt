@@ -1,7 +1,6 @@
 //! Changes of attributes.
 
 ghost use Rattle.std.specs.Prelude.{◌≡◌, ◌≤◌, ℕ, List, IfOk};
-ghost use Rattle.bx_changes.specs.Changes.{SetsModeAlone};
 ghost use Rattle.bx_chunks.specs.Counting.{free_slots};
 ghost use Rattle.bx_model.specs.declared.call.Args.TheVariants.{Set};
 ghost use Rattle.bx_model.specs.declared.tree.Tree.{Tree};
@@ -14,13 +13,12 @@ ghost use Rattle.bx_attempts.specs.Steps.{StandsWith, Step};
 use crate::replies::{changed, stopped};
 use crate::times::time_of;
 use bx_base::OutOfMemory;
-use bx_changes::set_mode;
 use bx_model::{Call, Sattr};
 use bx_views::{Attempt, View};
 use std::alloc::Global;
 
-/// Attempts SETATTR of the mode alone, of the file that a file handle names, of a volume by its number and its areas, at a moment in
-/// milliseconds: `bx_changes::set_mode`, as an attempt.
+/// Attempts SETATTR of the file that a file handle names, of a volume by its number and its areas, at most 64, at a moment in milliseconds:
+/// `bx_sizes::setattr`, as an attempt.
 pub(crate) fn setattr<V: View>(
     alloc: Global,
     volume: u64,
@@ -32,7 +30,7 @@ pub(crate) fn setattr<V: View>(
     moment: u64,
     view: &V,
 ) -> Result<Attempt, OutOfMemory>
-    requires alone { SetsModeAlone sattr.now }
+    requires areas { areas ≤ 64 }
     requires args { call.now.args ≡ Set at.now sattr.now }
     requires moment { moment ≤ 4294967295999 }
     ensures gives { (client : ℕ) (bytes : List ℕ) (truth : Truth) (tree : Tree) → ReadsAs bytes xid call.now → IsTruth (V.held view.now) truth → StandsWith volume areas truth (V.hints view.now) tree
@@ -40,7 +38,7 @@ pub(crate) fn setattr<V: View>(
     ensures fair { IfOk result (IsFair areas (V.held view.now) (ChangePathOf (V.held view.now) (V.hints view.now) volume areas call.now.procedure call.now.args)) }
 {
     let now = time_of(moment);
-    match set_mode(alloc, volume, areas, call, at, sattr, now, view) {
+    match bx_sizes::setattr(alloc, volume, areas, call, at, sattr, now, view) {
         Ok((draft, reply)) => changed(alloc, xid, draft, reply, 0),
         Err(stop) => stopped(alloc, xid, stop),
     }

@@ -1,7 +1,6 @@
 //! The calls that change a file tree.
 
 ghost use Rattle.std.specs.Prelude.{◌≡◌, ◌≤◌, ◌↔◌, ℕ, List, IfOk, IsTrue};
-ghost use Rattle.bx_changes.specs.Changes.{SetsModeAlone};
 ghost use Rattle.bx_chunks.specs.Counting.{free_slots};
 ghost use Rattle.bx_model.specs.declared.tree.Tree.{Tree};
 ghost use Rattle.bx_nfs.specs.Wire.{ReadsAs};
@@ -12,11 +11,10 @@ ghost use Rattle.bx_attempts.specs.Paths.{ChangePathOf};
 ghost use Rattle.bx_attempts.specs.Steps.{StandsWith, Step};
 
 use crate::attributes::setattr;
-use crate::naming::remove;
+use crate::naming::{link, remove, rmdir};
 use bx_base::OutOfMemory;
-use bx_model::{Args, Call, Sattr};
+use bx_model::{Args, Call};
 use bx_rpc::NFS_PROGRAM;
-use bx_tree_files::is_given;
 use bx_views::{Attempt, View};
 use std::alloc::Global;
 
@@ -26,13 +24,23 @@ const SETATTR: u32 = 2;
 /// The procedure REMOVE (RFC 1094, section 2.2.11).
 const REMOVE: u32 = 10;
 
-/// Whether a call changes the file tree, and is built: it is REMOVE, or SETATTR of the mode alone.
+/// The procedure LINK (RFC 1094, section 2.2.13).
+const LINK: u32 = 12;
+
+/// The procedure RMDIR (RFC 1094, section 2.2.16).
+const RMDIR: u32 = 15;
+
+/// How many bytes a name has at most.
+const MOST_NAME: usize = 255;
+
+/// Whether a call changes the file tree, and is built: it is SETATTR, REMOVE, LINK or RMDIR.
 pub fn is_change(call: &Call) -> bool
     ensures { IsTrue result ↔ IsChanging call.now }
 {
     match &call.args {
-        Args::Set(_, sattr) => is_procedure(call, SETATTR) && sets_mode_alone(sattr),
-        Args::Name(_, _) => is_procedure(call, REMOVE),
+        Args::Set(_, _) => is_procedure(call, SETATTR),
+        Args::Name(_, _) => is_procedure(call, REMOVE) || is_procedure(call, RMDIR),
+        Args::Link(_, _, name) => is_procedure(call, LINK) && name.bytes().len() <= MOST_NAME,
         _ => false,
     }
 }
@@ -44,20 +52,8 @@ fn is_procedure(call: &Call, number: u32) -> bool
     call.program == NFS_PROGRAM && call.procedure == number
 }
 
-/// Whether the mode is given, and nothing else.
-fn sets_mode_alone(sattr: &Sattr) -> bool
-    ensures { IsTrue result ↔ SetsModeAlone sattr.now }
-{
-    is_given(sattr.mode)
-        && !is_given(sattr.uid)
-        && !is_given(sattr.gid)
-        && !is_given(sattr.size)
-        && !is_given(sattr.atime.0)
-        && !is_given(sattr.mtime.0)
-}
-
 /// Attempts a call that changes the file tree of a volume, by its number and its areas, at most 64, at a moment in milliseconds, at most
-/// 4294967295999. `Need` names what the procedures do, as those of `bx_changes` and `bx_entries`.
+/// 4294967295999. `Need` names what its procedure does.
 pub fn change<V: View>(
     alloc: Global,
     volume: u64,
@@ -79,7 +75,16 @@ pub fn change<V: View>(
             setattr(alloc, volume, areas, xid, call, at.bytes(), sattr, moment, view)
         }
         Args::Name(at, name) => {
-            remove(alloc, volume, areas, xid, call, at.bytes(), name.bytes(), moment, view)
+            let (at, name) = (at.bytes(), name.bytes());
+            if call.procedure == REMOVE {
+                remove(alloc, volume, areas, xid, call, at, name, moment, view)
+            } else {
+                rmdir(alloc, volume, areas, xid, call, at, name, moment, view)
+            }
+        }
+        Args::Link(from, at, name) => {
+            let (from, at, name) = (from.bytes(), at.bytes(), name.bytes());
+            link(alloc, volume, areas, xid, call, from, at, name, moment, view)
         }
         _ => unreachable!(),
     }

@@ -5,7 +5,9 @@ mod attributes;
 mod calls;
 mod naming;
 mod replies;
+mod tidying;
 mod times;
 
 pub use calls::{change, is_change};
 pub use replies::{answered, answered_with, stopped};
+pub use tidying::tidy;

@@ -1,14 +1,16 @@
 -- A call that changes a tree is none of those that read.
-use Rattle.std.proofs.Common.{◌≡◌, ◌∙◌, ℕ, List, refl, subst, sym, arith}
+use Rattle.std.proofs.Common.{◌≡◌, ◌∙◌, ℕ, List, refl, subst, sym, arith, inl, inr}
 use Rattle.bx_attempts.specs.Calls.{HasChangeArgs, IsChanging}
 use Rattle.bx_engine.specs.Calls.{AsksSpace, HasNoFile, HasReadArgs, IsAtOnce, IsReading}
 use Rattle.bx_model.specs.declared.call.Args.{Args}
-use Rattle.bx_model.specs.declared.call.Args.TheVariants.{Refused, Nothing, Handle, List as Listing, Name, Read, Set, Path}
+use Rattle.bx_model.specs.declared.call.Args.TheVariants.{Refused, Nothing, Handle, List as Listing, Link, Name, Read, Set, Path}
 use Rattle.bx_model.specs.declared.call.Call.{Call}
 
 module _ (call : Call) where
   not_read_by : (args : Args) → HasChangeArgs call args → HasReadArgs call args → ⊥
-  not_read_by (Name at name) change read = let four = read.procedure in let ten = change.procedure in omega (arith, four, ten)
+  not_read_by (Name at name) (inl removes) read = let four = read.procedure in let ten = removes.procedure in omega (arith, four, ten)
+  not_read_by (Name at name) (inr removes) read = let four = read.procedure in let fifteen = removes.procedure in omega (arith, four, fifteen)
+  not_read_by (Link from at name) change read = read
   not_read_by (Set at sattr) change read = read
   not_read_by _ change read = absurd change
 
@@ -17,6 +19,7 @@ module _ (call : Call) where
 
   not_once_by : (args : Args) → HasChangeArgs call args → HasNoFile call args → ⊥
   not_once_by (Name at name) change once = once
+  not_once_by (Link from at name) change once = once
   not_once_by (Set at sattr) change once = once
   not_once_by _ change once = absurd change
 

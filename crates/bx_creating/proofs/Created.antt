@@ -1,5 +1,5 @@
 -- What a call comes to that makes a file with a new entry.
-use Rattle.std.proofs.Common.{◌≡◌, ℕ, ◌<◌, ◌^◌, Bool, true, List, [], ◌∷◌, Option, Some, None, refl, sym, ap, ◌∙◌, subst, inr, arith}
+use Rattle.std.proofs.Common.{◌≡◌, ℕ, ◌<◌, ◌^◌, Bool, true, List, [], ◌∷◌, Option, Some, None, refl, sym, ap, ◌∙◌, subst, inl, inr, arith}
 use Rattle.std.specs.Prelude.{if◌then◌else◌, Result, Ok, Err}
 use Rattle.bx_changes.specs.Growing.{IsMaking, Makes}
 use Rattle.bx_changes.specs.declared.error.ChangeError.{ChangeError}
@@ -13,23 +13,24 @@ use Rattle.bx_layout.specs.declared.inode.Inode.{Inode}
 use Rattle.bx_making.specs.Made.{file_of}
 use Rattle.bx_model.specs.declared.call.Call.{Call}
 use Rattle.bx_model.specs.declared.reply.Reply.{Reply}
+use Rattle.bx_model.specs.declared.reply.Reply.TheVariants as reply_of
 use Rattle.bx_model.specs.declared.tree.Tree.{Tree}
 use Rattle.bx_model.specs.FileTrees.{IsFileTree}
-use Rattle.bx_model.specs.Making.{mkdir, new_file, new_place, with_made}
+use Rattle.bx_model.specs.Making.{mkdir, new_file, new_place, symlink, with_made}
 use Rattle.bx_model.specs.Reading.{handle_reply}
 use Rattle.bx_model.specs.Steps.{Making, Step, ◌>>=◌, taken}
 use Rattle.bx_model.specs.Steps.Step.{Makes as MakesBy}
 use Rattle.bx_records.specs.Drafts.{Changed}
 use Rattle.bx_tree_files.specs.declared.file.Body.{Body}
-use Rattle.bx_tree_files.specs.declared.file.Body.TheVariants.{Names}
+use Rattle.bx_tree_files.specs.declared.file.Body.TheVariants.{Names, Path}
 use Rattle.bx_tree_files.specs.declared.file.File.{File}
 use Rattle.bx_tree_files.specs.declared.sattr.Sattr.{Sattr}
 use Rattle.bx_tree_files.specs.Files.{size_of}
 use Rattle.bx_tree_files.specs.Times.{Time}
-use Rattle.bx_tree_laws.proofs.Makings.{StepKeeps, mkdir_keeps}
+use Rattle.bx_tree_laws.proofs.Makings.{StepKeeps}
 use Rattle.bx_views.specs.Truths.{Held, Hints, Truth}
 use Rattle.bx_creating.specs.Finding.{FindsPlace, PlaceIn}
-use Rattle.bx_creating.specs.Inodes.{IsNewBody, directory_inode}
+use Rattle.bx_creating.specs.Inodes.{IsNewBody, directory_inode, link_inode}
 use Rattle.bx_creating.specs.Placing.{Places, PlacesIn}
 
 module _ (volume areas : ℕ) (held : Held) (hints : Hints) (truth : Truth) (tree : Tree) (call : Call) (bytes name : List ℕ) (stands : Stands volume areas truth tree)
@@ -101,3 +102,24 @@ module _ (tree : Tree) (call : Call) (bytes name : List ℕ) (sattr : Sattr) (no
       → ((tree : Tree) (body : Body) → tree.volume ≡ volume → size_of body ≡ shown_size inode → size_of body < 2 ^ 31 → reply ≡ handle_reply tree (file_of inode made body))
       → reply ≡ handle_reply tree (file_of (directory_inode call sattr now handle) made (Names handle 3 []))
   told volume handle made inode reply is same tells = (rw is at tells) tree (Names handle 3 []) same refl (omega arith)
+
+-- ---- SYMLINK
+
+module _ (tree : Tree) (call : Call) (bytes name path : List ℕ) (sattr : Sattr) (now : Time) where
+  pub last_symlink : File → ℕ → Reply × Tree
+  last_symlink directory made = (reply_of.Status 0, with_made tree directory.handle name now (new_file call sattr now 0o777 made (Path path)))
+
+  pub symlink_is : (spare : ℕ) → symlink tree call bytes name path sattr now spare ≡ (new_place tree call bytes name spare >>= (λ directory. Ok (MakesBy (last_symlink directory))))
+  unfolding last_symlink
+  symlink_is spare = refl
+
+  pub last_link_is : (directory : File) (parent made : ℕ) → directory.handle ≡ parent → last_symlink directory made ≡ (reply_of.Status 0, with_made tree parent name now (file_of (link_inode call sattr now path) made (Path path)))
+  unfolding last_symlink
+  last_link_is directory parent made handle_is = λ i. (reply_of.Status 0, with_made tree (handle_is i) name now (new_file call sattr now 0o777 made (Path path)))
+
+  -- the link that is placed, by the inode that it is made with
+  pub placed_link : (areas : ℕ) (truth : Truth) (handle : ℕ) (inode : Inode) (result : Result (List Changed × ℕ) ChangeError) → inode ≡ link_inode call sattr now path
+      → ((body : Body) → IsNewBody inode body → PlacesIn areas truth tree handle name now inode body result) → PlacesIn areas truth tree handle name now (link_inode call sattr now path) (Path path) result
+  placed_link areas truth handle inode result is step =
+      let five : IsNewBody (link_inode call sattr now path) (Path path) = inl (refl, refl, refl) in
+      (rw is at step) (Path path) five

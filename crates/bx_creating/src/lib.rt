@@ -4,8 +4,10 @@
 mod directories;
 mod finding;
 mod inodes;
+mod links;
 mod placing;
 mod stops;
 mod telling;
 
 pub use directories::mkdir;
+pub use links::symlink;

@@ -1,0 +1,4 @@
+pub mod Made
+pub mod Placed
+pub mod Found
+pub mod Created

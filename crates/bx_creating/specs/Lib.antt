@@ -1,0 +1,4 @@
+pub mod Inodes
+pub mod Finding
+pub mod Placing
+pub mod Making

@@ -1,0 +1,13 @@
+//! Files that are made with the entries that name them, over views: MKDIR, SYMLINK and CREATE.
+#![tactic(auto)]
+
+mod directories;
+mod finding;
+mod inodes;
+mod links;
+mod placing;
+mod stops;
+mod telling;
+
+pub use directories::mkdir;
+pub use links::symlink;

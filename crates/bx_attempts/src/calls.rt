@@ -11,6 +11,7 @@ ghost use Rattle.bx_attempts.specs.Paths.{ChangePathOf};
 ghost use Rattle.bx_attempts.specs.Steps.{StandsWith, Step};
 
 use crate::attributes::setattr;
+use crate::making::{mkdir, symlink};
 use crate::naming::{link, remove, rmdir};
 use bx_base::OutOfMemory;
 use bx_model::{Args, Call};
@@ -27,13 +28,23 @@ const REMOVE: u32 = 10;
 /// The procedure LINK (RFC 1094, section 2.2.13).
 const LINK: u32 = 12;
 
+/// The procedure SYMLINK (RFC 1094, section 2.2.14).
+const SYMLINK: u32 = 13;
+
+/// The procedure MKDIR (RFC 1094, section 2.2.15).
+const MKDIR: u32 = 14;
+
 /// The procedure RMDIR (RFC 1094, section 2.2.16).
 const RMDIR: u32 = 15;
 
 /// How many bytes a name has at most.
 const MOST_NAME: usize = 255;
 
-/// Whether a call changes the file tree, and is built: it is SETATTR, REMOVE, LINK or RMDIR.
+/// How many bytes a link's path has at most.
+const MOST_PATH: usize = 1024;
+
+/// Whether a call changes the file tree, and is built: it is SETATTR, REMOVE, LINK, SYMLINK, MKDIR
+/// or RMDIR.
 pub fn is_change(call: &Call) -> bool
     ensures { IsTrue result ↔ IsChanging call.now }
 {
@@ -41,6 +52,12 @@ pub fn is_change(call: &Call) -> bool
         Args::Set(_, _) => is_procedure(call, SETATTR),
         Args::Name(_, _) => is_procedure(call, REMOVE) || is_procedure(call, RMDIR),
         Args::Link(_, _, name) => is_procedure(call, LINK) && name.bytes().len() <= MOST_NAME,
+        Args::Symlink(_, name, path, _) => {
+            is_procedure(call, SYMLINK)
+                && name.bytes().len() <= MOST_NAME
+                && path.bytes().len() <= MOST_PATH
+        }
+        Args::Make(_, name, _) => is_procedure(call, MKDIR) && name.bytes().len() <= MOST_NAME,
         _ => false,
     }
 }
@@ -85,6 +102,14 @@ pub fn change<V: View>(
         Args::Link(from, at, name) => {
             let (from, at, name) = (from.bytes(), at.bytes(), name.bytes());
             link(alloc, volume, areas, xid, call, from, at, name, moment, view)
+        }
+        Args::Symlink(at, name, path, sattr) => {
+            let (at, name, path) = (at.bytes(), name.bytes(), path.bytes());
+            symlink(alloc, volume, areas, xid, call, at, name, path, sattr, moment, view)
+        }
+        Args::Make(at, name, sattr) => {
+            let (at, name) = (at.bytes(), name.bytes());
+            mkdir(alloc, volume, areas, xid, call, at, name, sattr, moment, view)
         }
         _ => unreachable!(),
     }

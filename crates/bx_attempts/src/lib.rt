@@ -3,6 +3,7 @@
 
 mod attributes;
 mod calls;
+mod making;
 mod naming;
 mod replies;
 mod tidying;

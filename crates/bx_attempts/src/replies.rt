@@ -1,6 +1,6 @@
 //! What attempts answer.
 
-ghost use Rattle.std.specs.Prelude.{◌≡◌, IfOk};
+ghost use Rattle.std.specs.Prelude.{◌≡◌, ◌<◌, ◌^◌, IfOk};
 ghost use Rattle.bx_views.specs.declared.attempt.Attempt.TheVariants.{Answer};
 ghost use Rattle.bx_attempts.specs.Replies.{IsChanged, IsRefused, IsStopped, done_of, done_with};
 
@@ -59,7 +59,8 @@ pub(crate) fn changed(
     reply: Reply,
     made: u64,
 ) -> Result<Attempt, OutOfMemory>
-    ensures { IfOk result (IsChanged xid draft reply made) }
+    ensures is { IfOk result (IsChanged xid draft reply made) }
+    ensures fits { made < 2 ^ 64 }
 {
     let reply = bx_nfs::text(alloc, xid, &reply)?;
     let done = Done {

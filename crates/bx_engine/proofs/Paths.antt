@@ -12,7 +12,7 @@ use Rattle.bx_engine.specs.Paths.{HasOneBlock, IsOnPath, PathOf, ReadPathOf}
 use Rattle.bx_files.specs.Paths.{OnPiece, OnSearch}
 use Rattle.bx_inodes.specs.Stops.{OnInode}
 use Rattle.bx_model.specs.declared.call.Args.{Args}
-use Rattle.bx_model.specs.declared.call.Args.TheVariants.{Handle, Link, List as Listing, Name, Read, Refused, Set}
+use Rattle.bx_model.specs.declared.call.Args.TheVariants.{Handle, Link, List as Listing, Make, Name, Read, Refused, Set, Symlink}
 use Rattle.bx_model.specs.declared.call.Call.{Call}
 use Rattle.bx_nfs.specs.Wire.{ReadsAs}
 use Rattle.bx_reads.specs.Bytes.{OnReading}
@@ -57,6 +57,8 @@ module _ (held : Held) (hints : Hints) (volume areas : ℕ) where
   not_changing call at mode (Name handle name) reads (inl on) = let four = reads.procedure in let ten = on.0 in omega (arith, four, ten)
   not_changing call at mode (Name handle name) reads (inr on) = let four = reads.procedure in let fifteen = on.0 in omega (arith, four, fifteen)
   not_changing call at mode (Link from handle name) reads on = reads
+  not_changing call at mode (Symlink handle name path sattr) reads on = reads
+  not_changing call at mode (Make handle name sattr) reads on = reads
   not_changing call at mode (Set handle sattr) reads on = reads
   not_changing call at mode _ reads on = absurd on
 

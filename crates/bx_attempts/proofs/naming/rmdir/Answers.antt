@@ -1,4 +1,4 @@
-use Rattle.std.proofs.Common.{ℕ, List, subst, sym, arith, inl, inr}
+use Rattle.std.proofs.Common.{ℕ, List, subst, sym, inl, inr}
 use Rattle.std.specs.Prelude.{Err, IfOk}
 use Rattle.std.proofs.lemmas.Result.{IfOk-weaker}
 use Rattle.bx_attempts.proofs.Acting.{rmdir_acts}
@@ -22,7 +22,7 @@ returns-in-Ok-clause-gives g c = λ client bytes truth tree reads same s.
     let step = rw c.time_of-now.ensures at (c.in-Ok.ensures.step truth tree same s.stands s.fit) in
     let by = change_acts a.volume a.areas truth tree call a.moment (rmdir tree a.call.now a.at.now a.name.now (time_of a.moment)) (rmdir_acts tree call a.moment a.at.now a.name.now 8 c.requires.args c.requires.procedure) c.in-Ok.draft c.in-Ok.reply step
     (λ hints fit. c.in-Ok.ensures.hints hints truth tree same s.stands s.fit fit) in
-    IfOk-weaker c.changed.result _ _ (λ attempt is. changed_gives a.volume a.areas client bytes a.moment truth tree a.xid call reads c.requires.moment c.in-Ok.draft c.in-Ok.reply 0 attempt (omega arith) by is) c.changed.ensures
+    IfOk-weaker c.changed.result _ _ (λ attempt is. changed_gives a.volume a.areas client bytes a.moment truth tree a.xid call reads c.requires.moment c.in-Ok.draft c.in-Ok.reply 0 attempt c.changed.ensures.fits by is) c.changed.ensures.is
 
 pub returns-in-Err-clause-gives : goal.returns-in-Err-clause-gives
 returns-in-Err-clause-gives g c = λ client bytes truth tree reads same s.
@@ -37,7 +37,7 @@ returns-in-Ok-clause-fair g c =
     let a = c.args in
     let held = g.V.View.held a.view.now in
     let Path = ChangePathOf held (g.V.View.hints a.view.now) a.volume a.areas a.call.now.procedure a.call.now.args in
-    IfOk-weaker c.changed.result _ _ (λ attempt is. changed_fair a.xid a.areas held Path attempt c.in-Ok.draft c.in-Ok.reply 0 c.in-Ok.ensures.held is) c.changed.ensures
+    IfOk-weaker c.changed.result _ _ (λ attempt is. changed_fair a.xid a.areas held Path attempt c.in-Ok.draft c.in-Ok.reply 0 c.in-Ok.ensures.held is) c.changed.ensures.is
 
 pub returns-in-Err-clause-fair : goal.returns-in-Err-clause-fair
 returns-in-Err-clause-fair g c =

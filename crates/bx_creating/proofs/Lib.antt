@@ -2,3 +2,4 @@ pub mod Made
 pub mod Placed
 pub mod Found
 pub mod Created
+pub mod NewFiles

@@ -2,3 +2,4 @@ pub mod Inodes
 pub mod Finding
 pub mod Placing
 pub mod Making
+pub mod Creating

@@ -2,6 +2,7 @@
 #![tactic(auto)]
 
 mod directories;
+mod files;
 mod finding;
 mod inodes;
 mod links;
@@ -10,4 +11,5 @@ mod stops;
 mod telling;
 
 pub use directories::mkdir;
+pub use files::create_new;
 pub use links::symlink;

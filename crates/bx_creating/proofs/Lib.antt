@@ -3,3 +3,5 @@ pub mod Placed
 pub mod Found
 pub mod Created
 pub mod NewFiles
+pub mod NamesThere
+pub mod CreateWhole

@@ -2,3 +2,6 @@ pub mod Made
 pub mod Placed
 pub mod Found
 pub mod Created
+pub mod NewFiles
+pub mod NamesThere
+pub mod CreateWhole

@@ -2,3 +2,5 @@ pub mod Inodes
 pub mod Finding
 pub mod Placing
 pub mod Making
+pub mod Creating
+pub mod Existing

@@ -3,8 +3,10 @@
 
 mod edits;
 mod entries;
+mod moves;
 mod settling;
 
 pub use edits::{leave, lose};
 pub use entries::come;
+pub use moves::{Moving, Replaced, move_file};
 pub use settling::settle;

@@ -1,6 +1,6 @@
 //! Files that have moved.
 
-ghost use Rattle.std.specs.Prelude.{◌≡◌, ◌<◌, ◌==◌, if◌then◌else◌, ℕ, Some, length, IfOk};
+ghost use Rattle.std.specs.Prelude.{◌≡◌, ◌+◌, ◌<◌, ◌≤◌, ◌==◌, if◌then◌else◌, ℕ, Some, length, IfOk};
 ghost use Rattle.bx_entries.specs.Finding.{IsOwnBlock};
 ghost use Rattle.bx_inodes.specs.Stops.{NeedsOn, NeverInner};
 ghost use Rattle.bx_model.specs.declared.tree.Tree.{Tree};
@@ -39,6 +39,7 @@ pub fn settle<V: View>(
     ensures need { NeedsOn areas (V.held view.now) (IsOwnBlock handle) result }
     ensures inner { NeverInner result }
     ensures held { IsHeldDraft (V.held view.now) draft → IfOk result (IsHeldDraft (V.held view.now)) }
+    ensures few { IfOk result (λ new. length new ≤ length draft + 1) }
 {
     match inode_at(alloc, &draft, view, areas, handle, Mode::Exclusive) {
         Err(stop) => Err(stop),

@@ -1,4 +1,5 @@
-use Rattle.std.proofs.Common.{subst}
+use Rattle.bx_entries.proofs.Taken.{one_block_more}
+use Rattle.std.proofs.Common.{ap, arith, length, subst}
 use Rattle.bx_inodes.specs.Writing.{PutsInode}
 use Rattle.bx_layout.specs.declared.inode.Inode.{Inode}
 use Rattle.bx_leaves.proofs.Fair.{seen_held}
@@ -21,3 +22,9 @@ returns-in-Ok-put_inode-clause-step g c = λ truth tree file r there.
 pub returns-in-Ok-put_inode-clause-held : goal.returns-in-Ok-put_inode-clause-held
 returns-in-Ok-put_inode-clause-held g c = λ held.
     c.in-Ok-put_inode.ensures.held (g.V.View.held c.args.view.now) held (seen_held (g.V.View.held c.args.view.now) c.args.draft (block_at c.args.handle) c.in-Ok.ensures.at.block held c.in-Ok.ensures.at.there)
+
+pub returns-in-Ok-put_inode-clause-few : goal.returns-in-Ok-put_inode-clause-few
+returns-in-Ok-put_inode-clause-few g c =
+    let one = one_block_more c.args.draft (block_at c.args.handle) c.in-Ok-put_inode.ensures.puts.block in
+    let same = ap length c.in-Ok-put_inode.ensures.puts.put in
+    omega (arith, one, same)

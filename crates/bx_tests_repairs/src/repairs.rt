@@ -4,15 +4,12 @@
 ghost use Rattle.std.specs.Prelude.{IsTrue};
 ghost use Rattle.bx_lone_repair.specs.Bench.{AreLong};
 
-use crate::crashes::{crash, formatted};
-use crate::drafts::Bytes;
-use crate::life::{Reached, lives};
-use crate::looks::{gates, sees};
 use bx_base::{CallNo, OutOfMemory};
 use bx_disk::{MemRack, Noise, Rack, RackError, StopRack};
 use bx_lone_repair::{Recovery, recover};
 use bx_records::DraftError;
 use bx_redo::Log;
+use bx_tests_bench::{Bytes, Reached, Ways, crash, formatted, gates, lives, sees};
 use std::alloc::Global;
 use std::test::Fail;
 
@@ -32,9 +29,6 @@ const CALLS: u64 = 140;
 const FINDING_CALLS: u64 = 40;
 
 const CLOSING_CALLS: u64 = 120;
-
-/// What the disks of both members make of unsure sectors.
-type Ways = (Noise, Noise);
 
 const WAYS: [Ways; 4] = [
     (Noise::Keep, Noise::Keep),
@@ -107,6 +101,34 @@ fn may_find(reached: Reached, found: Option<CallNo>, blocks: (u8, u8)) -> bool {
     may && blocks == expected
 }
 
+/// The rack after a recovery that is stopped after so many calls, and a crash; and what the recovery said.
+fn stopped(
+    alloc: Global,
+    rack: MemRack,
+    ways: Ways,
+    floor: CallNo,
+    calls: u64,
+) -> Result<(MemRack, Option<CallNo>), OutOfMemory> {
+    let mut stopping = StopRack::new(rack, calls);
+    let said = repairs(alloc, &mut stopping, floor)?;
+    let mut rack = stopping.into_inner();
+    crash(&mut rack, ways);
+    Ok((rack, said))
+}
+
+/// Whether both members come to rest with what a recovery found, once the call is told.
+fn come_to_rest<R: Rack>(
+    alloc: Global,
+    rack: &mut R,
+    reached: Reached,
+    found: Option<CallNo>,
+) -> Result<bool, OutOfMemory> {
+    let closed = repairs(alloc, rack, CALL)?;
+    let first = rests(alloc, rack, false)?;
+    let other = rests(alloc, rack, true)?;
+    Ok(closed == Some(0) && first == other && may_find(reached, found, first))
+}
+
 /// Whether a recovery that is stopped after so many calls, and a crash, change nothing of what the next one finds, if it told it; and both members are at rest
 /// with it, once the call is told.
 fn agrees(
@@ -117,20 +139,10 @@ fn agrees(
     calls: u64,
 ) -> Result<bool, DraftError> {
     let (rack, reached) = left(alloc, stop, ways)?;
-    let mut stopping = StopRack::new(rack, calls);
-    let said = repairs(alloc, &mut stopping, floor)?;
-    let mut rack = stopping.into_inner();
-    crash(&mut rack, ways);
+    let (mut rack, said) = stopped(alloc, rack, ways, floor, calls)?;
     let found = repairs(alloc, &mut rack, CALL - 1)?;
-    let closed = repairs(alloc, &mut rack, CALL)?;
-    let first = rests(alloc, &mut rack, false)?;
-    let other = rests(alloc, &mut rack, true)?;
-    Ok(
-        (said.is_none() || said == found)
-            && closed == Some(0)
-            && first == other
-            && may_find(reached, found, first),
-    )
+    let same = said.is_none() || said == found;
+    Ok(same && come_to_rest(alloc, &mut rack, reached, found)?)
 }
 
 /// Whether a recovery comes to its end within so many calls, where a life was stopped after so many.

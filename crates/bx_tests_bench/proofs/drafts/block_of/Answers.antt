@@ -1,5 +1,5 @@
 use Rattle.std.proofs.Common.{◌≡◌, length, arith, rules}
-use Rattle.bx_tests_redo.proofs.drafts.block_of.Goals as goal
+use Rattle.bx_tests_bench.proofs.drafts.block_of.Goals as goal
 
 pub returns : goal.returns
 returns c =

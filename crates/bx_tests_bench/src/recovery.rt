@@ -76,7 +76,7 @@ fn closes_found<R: Rack>(alloc: Global, rack: &mut R, count: u32) -> Result<bool
 
 /// Recovers the log, and says how many records it found open once the gates were sure; nothing where the rack stopped before that.
 /// What is left of it is done as far as the rack goes.
-pub(crate) fn recovers<R: Rack>(alloc: Global, rack: &mut R) -> Result<Option<u32>, OutOfMemory> {
+pub fn recovers<R: Rack>(alloc: Global, rack: &mut R) -> Result<Option<u32>, OutOfMemory> {
     if !settles(alloc, rack)? {
         return Ok(None);
     }

@@ -11,7 +11,7 @@ use bx_records::RecordHead;
 use std::alloc::Global;
 
 /// How many gates are open from the first one on, by a member; 9 where that can't be read.
-pub(crate) fn gates<R: Rack>(rack: &mut R, second: bool) -> u32 {
+pub fn gates<R: Rack>(rack: &mut R, second: bool) -> u32 {
     if !is_bench(rack) {
         return 9;
     }
@@ -24,7 +24,7 @@ pub(crate) fn gates<R: Rack>(rack: &mut R, second: bool) -> u32 {
 }
 
 /// The byte that a block is filled with; 0 where it isn't filled with one.
-pub(crate) fn byte_of(block: &Block) -> u8 {
+fn byte_of(block: &Block) -> u8 {
     let bytes = block.payload.bytes();
     match bytes.first() {
         Some(first) if bytes.iter().all(|byte| byte == first) => *first,
@@ -49,7 +49,7 @@ fn at_home<R: Rack>(alloc: Global, rack: &mut R, second: bool, at: u64) -> Resul
 }
 
 /// Reads sectors of a member, and says whether that went well.
-pub(crate) fn reads<R: Rack>(rack: &mut R, second: bool, sector: u64, into: &mut [u8]) -> bool {
+pub fn reads<R: Rack>(rack: &mut R, second: bool, sector: u64, into: &mut [u8]) -> bool {
     let disk = if second { 4 } else { 3 };
     is_bench(rack)
         && into.len() % 512 == 0
@@ -109,7 +109,7 @@ fn in_record<R: Rack>(
 }
 
 /// The byte of a block as a volume with a log of at most one record has it, by a member; 0 where it has none.
-pub(crate) fn sees<R: Rack>(
+pub fn sees<R: Rack>(
     alloc: Global,
     rack: &mut R,
     second: bool,

@@ -13,7 +13,7 @@ pub(crate) const SIZES: [u64; 5] = [21, 21, 21, 17994, 17994];
 const MEMBER: u64 = 17994;
 
 /// Whether a rack has the disks of the volume.
-pub(crate) fn is_bench<R: Rack>(rack: &R) -> bool
+pub fn is_bench<R: Rack>(rack: &R) -> bool
     ensures disks { IsTrue result → length (R.state rack.now).sizes ≡ 5 }
     ensures first { IsTrue result → slice_index (R.state rack.now).sizes 3 ≡ 17994 }
     ensures second { IsTrue result → slice_index (R.state rack.now).sizes 4 ≡ 17994 }
@@ -34,7 +34,7 @@ fn puts<R: Rack>(rack: &mut R, run: &Run) -> bool {
 }
 
 /// Writes runs on both members and makes them sure, and says whether that went well.
-pub(crate) fn stores<R: Rack>(rack: &mut R, runs: &Runs) -> bool {
+pub fn stores<R: Rack>(rack: &mut R, runs: &Runs) -> bool {
     for at in 0..runs.len() {
         let Some(run) = runs.get(at) else {
             return false;

@@ -12,21 +12,21 @@ use std::alloc::Global;
 
 /// How far a log came: how many of its records were acknowledged, and the kind of the write that was asked for since then, or 0.
 #[derive(Clone, Copy, PartialEq, Eq)]
-pub(crate) struct Reached {
-    pub(crate) records: usize,
-    pub(crate) asked: u8,
+pub struct Reached {
+    pub records: usize,
+    pub asked: u8,
 }
 
 impl Reached {
     /// Nothing was asked for.
-    pub(crate) const START: Reached = Reached {
+    pub const START: Reached = Reached {
         records: 0,
         asked: 0,
     };
 }
 
 /// Moves a log on until nothing is under way, and says whether the rack took all that it asked for.
-pub(crate) fn moves<R: Rack>(
+pub fn moves<R: Rack>(
     log: &mut Log,
     rack: &mut R,
     reached: &mut Reached,
@@ -53,7 +53,7 @@ pub(crate) fn moves<R: Rack>(
 }
 
 /// The point of a call.
-pub(crate) fn point_of(call: u64) -> Point {
+pub fn point_of(call: u64) -> Point {
     Point {
         call,
         moment: 1000,
@@ -63,7 +63,7 @@ pub(crate) fn point_of(call: u64) -> Point {
 }
 
 /// Brings a record to its `Acked`, and says whether the rack took it.
-pub(crate) fn acknowledges<R: Rack>(
+pub fn acknowledges<R: Rack>(
     log: &mut Log,
     rack: &mut R,
     draft: &Draft,
@@ -79,7 +79,7 @@ pub(crate) fn acknowledges<R: Rack>(
 }
 
 /// Closes a log, and says whether the rack took that.
-pub(crate) fn closes<R: Rack>(
+pub fn closes<R: Rack>(
     log: &mut Log,
     rack: &mut R,
     reached: &mut Reached,
@@ -92,7 +92,7 @@ pub(crate) fn closes<R: Rack>(
 }
 
 /// The whole life of a record: body, gate, homes, closing. Says whether the rack took it.
-pub(crate) fn lives<R: Rack>(
+pub fn lives<R: Rack>(
     alloc: Global,
     log: &mut Log,
     rack: &mut R,

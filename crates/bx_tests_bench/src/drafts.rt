@@ -14,7 +14,7 @@ use bx_records::{Draft, DraftError, Run, Runs};
 use std::alloc::Global;
 
 /// A block by its number, and the byte that it is filled with.
-pub(crate) type Bytes = (u64, u8);
+pub type Bytes = (u64, u8);
 
 /// The kind of the packets that carry homes.
 const HOME: u8 = 16;
@@ -54,7 +54,7 @@ fn adds(alloc: Global, draft: &mut Draft, at: u64, byte: u8) -> Result<(), Draft
 }
 
 /// A draft of such blocks.
-pub(crate) fn draft_of(alloc: Global, blocks: &[Bytes]) -> Result<Draft, DraftError>
+pub fn draft_of(alloc: Global, blocks: &[Bytes]) -> Result<Draft, DraftError>
     ensures { IfOk result (AreBlocksOf 64) }
 {
     let mut draft = Draft::new(alloc);
@@ -72,7 +72,7 @@ fn text_of(alloc: Global, byte: u8) -> Result<Raw, OutOfMemory> {
 }
 
 /// Writes such blocks into their homes, and says whether that went well.
-pub(crate) fn go_home<R: Rack>(
+pub fn go_home<R: Rack>(
     alloc: Global,
     rack: &mut R,
     blocks: &[Bytes],

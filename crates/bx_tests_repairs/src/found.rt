@@ -1,16 +1,14 @@
 //! Logs that are found with any of their gates open, differing on the two members.
 
-use crate::bench::stores;
-use crate::crashes::formatted;
-use crate::drafts::{Bytes, draft_of};
-use crate::life::{Reached, acknowledges, point_of};
-use crate::looks::{gates, reads, sees};
-use crate::recovery::recovers;
 use bx_base::{OutOfMemory, Raw};
 use bx_calls::write_some;
 use bx_disk::{MemRack, Rack};
 use bx_records::{DraftError, Run, Runs};
 use bx_redo::{Log, Move};
+use bx_tests_bench::{
+    Bytes, Reached, acknowledges, draft_of, formatted, gates, point_of, reads, recovers, sees,
+    stores,
+};
 use std::alloc::Global;
 use std::test::Fail;
 
@@ -26,8 +24,10 @@ const RECORDS: [[Bytes; 2]; 8] = [
     [(0, 57), (9, 67)],
 ];
 
-/// Which gates are open on the first member, on the second, and how many records the log has by the first.
-const CASES: [([u8; 8], [u8; 8], u32); 10] = [
+/// Which gates are open on the first member, which on the second, and how many records the log has by the first.
+type Case = ([u8; 8], [u8; 8], u32);
+
+const CASES: [Case; 10] = [
     ([0, 0, 0, 0, 0, 0, 0, 0], [0, 0, 0, 0, 0, 0, 0, 0], 0),
     ([1, 0, 0, 0, 0, 0, 0, 0], [0, 0, 0, 0, 0, 0, 0, 0], 1),
     ([0, 0, 0, 0, 0, 0, 0, 0], [1, 0, 0, 0, 0, 0, 0, 0], 0),
@@ -122,36 +122,44 @@ fn has_records<R: Rack>(
     Ok(has)
 }
 
-/// Whether a new record can be written then, and both members have it.
-fn goes_on(alloc: Global, rack: &mut MemRack) -> Result<bool, DraftError> {
+/// Whether a new record of block 0 is taken then.
+fn takes_another(alloc: Global, rack: &mut MemRack) -> Result<bool, DraftError> {
     let draft = draft_of(alloc, &[(0, 99)])?;
     let mut log = Log::new(alloc, 0, 0);
     let mut reached = Reached::START;
-    let taken = acknowledges(&mut log, rack, &draft, &mut reached)?;
-    let first = sees(alloc, rack, false, 0)?;
-    let other = sees(alloc, rack, true, 0)?;
-    Ok(taken && reached.records == 1 && first == 99 && other == 99)
+    Ok(acknowledges(&mut log, rack, &draft, &mut reached)? && reached.records == 1)
 }
 
-/// Whether a log is found as in a case.
-fn is_found(alloc: Global, case: &([u8; 8], [u8; 8], u32)) -> Result<bool, DraftError> {
+/// Whether a new record can be written then, and both members have it.
+fn goes_on(alloc: Global, rack: &mut MemRack) -> Result<bool, DraftError> {
+    let taken = takes_another(alloc, rack)?;
+    let first = sees(alloc, rack, false, 0)?;
+    let other = sees(alloc, rack, true, 0)?;
+    Ok(taken && first == 99 && other == 99)
+}
+
+/// A rack with all records in their bodies and the gates of a case, and whether that went well.
+fn rack_of(alloc: Global, case: &Case) -> Result<(MemRack, bool), DraftError> {
     let (mut rack, formatted) = formatted(alloc)?;
     let written = writes_records(alloc, &mut rack)?;
     let gated = writes_gates(&mut rack, 3, &case.0) && writes_gates(&mut rack, 4, &case.1);
-    let count = recovers(alloc, &mut rack)?;
-    let shut = are_shut(&mut rack, false) && are_shut(&mut rack, true);
-    let first = has_records(alloc, &mut rack, false, case.2)?;
-    let other = has_records(alloc, &mut rack, true, case.2)?;
-    Ok(
-        formatted
-            && written
-            && gated
-            && count == Some(case.2)
-            && shut
-            && first
-            && other
-            && goes_on(alloc, &mut rack)?,
-    )
+    Ok((rack, formatted && written && gated))
+}
+
+/// Whether a recovery finds so many records, closes all gates, and leaves what the records put, on both members.
+fn recovers_all<R: Rack>(alloc: Global, rack: &mut R, count: u32) -> Result<bool, OutOfMemory> {
+    let found = recovers(alloc, rack)?;
+    let shut = are_shut(rack, false) && are_shut(rack, true);
+    let first = has_records(alloc, rack, false, count)?;
+    let other = has_records(alloc, rack, true, count)?;
+    Ok(found == Some(count) && shut && first && other)
+}
+
+/// Whether a log is found as in a case.
+fn is_found(alloc: Global, case: &Case) -> Result<bool, DraftError> {
+    let (mut rack, written) = rack_of(alloc, case)?;
+    let recovered = recovers_all(alloc, &mut rack, case.2)?;
+    Ok(written && recovered && goes_on(alloc, &mut rack)?)
 }
 
 #[test]

@@ -3,22 +3,21 @@
 ghost use Rattle.std.specs.Option.{option_or};
 ghost use Rattle.bx_records.specs.Drafts.{block_in};
 ghost use Rattle.bx_views.specs.Truths.{no_hints};
-ghost use Rattle.bx_tests_engine.specs.Desks.{held_on};
+ghost use Rattle.bx_tests_desk.specs.Desks.{held_on};
 
 use crate::files::{file_block, names_block};
 use crate::links::link_block;
 use bx_base::{Mode, Raw};
 use bx_format::opening_block;
 use bx_layout::Block;
-use bx_records::Draft;
+use bx_records::{Draft, DraftError};
 use bx_views::View;
 use std::alloc::Global;
 use std::ops::Range;
-use std::test::Fail;
 
 /// Blocks that are held, exclusively or shared alone. There are no hints.
 #[derive(Drop)]
-pub(crate) struct Desk {
+pub struct Desk {
     /// What is held exclusively.
     held: Draft,
     /// What else is held shared.
@@ -46,7 +45,7 @@ impl View for Desk {
 
 impl Desk {
     /// Nothing is held.
-    pub(crate) fn new(alloc: Global) -> Desk {
+    pub fn new(alloc: Global) -> Desk {
         Desk {
             held: Draft::new(alloc),
             lent: Draft::new(alloc),
@@ -54,33 +53,33 @@ impl Desk {
     }
 
     /// Holds a block of a volume that was just made, exclusively.
-    pub(crate) fn hold(&mut self, alloc: Global, at: u16) -> Result<(), Fail> {
+    pub fn hold(&mut self, alloc: Global, at: u16) -> Result<(), DraftError> {
         let block = opening_block(alloc, at)?;
         self.held.put(u64::from(at), block)?;
         Ok(())
     }
 
     /// Holds a block of a volume that was just made, shared alone.
-    pub(crate) fn lend(&mut self, alloc: Global, at: u16) -> Result<(), Fail> {
+    pub fn lend(&mut self, alloc: Global, at: u16) -> Result<(), DraftError> {
         let block = opening_block(alloc, at)?;
         self.lent.put(u64::from(at), block)?;
         Ok(())
     }
 
     /// Holds a link in a slot, shared alone.
-    pub(crate) fn lend_link(&mut self, alloc: Global, slot: u8) -> Result<(), Fail> {
+    pub fn lend_link(&mut self, alloc: Global, slot: u8) -> Result<(), DraftError> {
         let block = link_block(alloc, slot)?;
         self.lent.put(u64::from(slot), block)?;
         Ok(())
     }
 
     /// Holds blocks of a regular file with a mode, by their slots, shared alone.
-    pub(crate) fn lend_file(
+    pub fn lend_file(
         &mut self,
         alloc: Global,
         slots: Range<u8>,
         mode: u32,
-    ) -> Result<(), Fail> {
+    ) -> Result<(), DraftError> {
         for slot in slots {
             let block = file_block(alloc, slot, mode)?;
             self.lent.put(u64::from(slot), block)?;
@@ -89,28 +88,28 @@ impl Desk {
     }
 
     /// Holds the page of the root with two names, shared alone.
-    pub(crate) fn lend_names(&mut self, alloc: Global) -> Result<(), Fail> {
+    pub fn lend_names(&mut self, alloc: Global) -> Result<(), DraftError> {
         let block = names_block(alloc)?;
         self.lent.put(1, block)?;
         Ok(())
     }
 
     /// Holds the page of the root with two names, exclusively.
-    pub(crate) fn hold_names(&mut self, alloc: Global) -> Result<(), Fail> {
+    pub fn hold_names(&mut self, alloc: Global) -> Result<(), DraftError> {
         let block = names_block(alloc)?;
         self.held.put(1, block)?;
         Ok(())
     }
 
     /// Holds a link in a slot, exclusively.
-    pub(crate) fn hold_link(&mut self, alloc: Global, slot: u8) -> Result<(), Fail> {
+    pub fn hold_link(&mut self, alloc: Global, slot: u8) -> Result<(), DraftError> {
         let block = link_block(alloc, slot)?;
         self.held.put(u64::from(slot), block)?;
         Ok(())
     }
 
     /// Holds the area's own block, exclusively, with so many slots in use.
-    pub(crate) fn hold_area(&mut self, alloc: Global, slots: usize) -> Result<(), Fail> {
+    pub fn hold_area(&mut self, alloc: Global, slots: usize) -> Result<(), DraftError> {
         let mut bytes = [0; 4096];
         for slot in 0..slots.min(960) {
             bytes[4 * slot] = 128;
@@ -127,7 +126,7 @@ impl Desk {
     }
 
     /// Holds what a draft has.
-    pub(crate) fn take_in(&mut self, alloc: Global, draft: &Draft) -> Result<(), Fail> {
+    pub fn take_in(&mut self, alloc: Global, draft: &Draft) -> Result<(), DraftError> {
         for (at, block) in draft.blocks() {
             let payload = Raw::of(alloc, block.payload.bytes())?;
             let copy = Block {

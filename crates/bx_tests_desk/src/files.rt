@@ -5,13 +5,13 @@ use bx_layout::{Block, Inode};
 use std::alloc::Global;
 
 /// How many bytes the file has.
-pub(crate) const SIZE: u32 = 12388;
+pub const SIZE: u32 = 12388;
 
 /// What one slot more adds to the number of a handle.
 const SLOT: u64 = 1 << 32;
 
 /// The byte of the file at a place.
-pub(crate) fn byte_at(place: u32) -> u8 {
+pub fn byte_at(place: u32) -> u8 {
     match place / 4096 {
         0 => (place % 251) as u8,
         1 => 0,

@@ -7,35 +7,36 @@ use bx_views::Attempt;
 use std::alloc::{AllocError, Global};
 
 /// The engine of volume 7 with one area.
-pub(crate) const ENGINE: BoxFs = BoxFs {
+const ENGINE: BoxFs = BoxFs {
     volume: 7,
     areas: 1,
 };
 
-/// The file handle of the root, and one of its slot's next generation.
-pub(crate) const ROOT: [u32; 8] = [0x424f_5857, 0x4f4f_4431, 0, 7, 0, 1, 0, 0];
+/// The file handle of the root.
+pub const ROOT: [u32; 8] = [0x424f_5857, 0x4f4f_4431, 0, 7, 0, 1, 0, 0];
 
-pub(crate) const GONE: [u32; 8] = [0x424f_5857, 0x4f4f_4431, 0, 7, 0, 2, 0, 0];
+/// That of its slot's next generation, which names no file.
+pub const GONE: [u32; 8] = [0x424f_5857, 0x4f4f_4431, 0, 7, 0, 2, 0, 0];
 
 /// The file handle of the first generation of slot 2.
-pub(crate) const LINK: [u32; 8] = [0x424f_5857, 0x4f4f_4431, 0, 7, 2, 1, 0, 0];
+pub const LINK: [u32; 8] = [0x424f_5857, 0x4f4f_4431, 0, 7, 2, 1, 0, 0];
 
 /// A word that leaves an attribute alone.
-pub(crate) const ALONE: u32 = 0xffff_ffff;
+pub const ALONE: u32 = 0xffff_ffff;
 
 /// Attributes to set: the mode 0o755 alone.
-pub(crate) const MODE: [u32; 8] = [0o755, ALONE, ALONE, ALONE, ALONE, ALONE, ALONE, ALONE];
+pub const MODE: [u32; 8] = [0o755, ALONE, ALONE, ALONE, ALONE, ALONE, ALONE, ALONE];
 
 /// The mode and the size.
-pub(crate) const MODE_AND_SIZE: [u32; 8] = [0o755, ALONE, ALONE, 0, ALONE, ALONE, ALONE, ALONE];
+pub const MODE_AND_SIZE: [u32; 8] = [0o755, ALONE, ALONE, 0, ALONE, ALONE, ALONE, ALONE];
 
 /// The words before the arguments of a call of NFS that is nobody's.
-pub(crate) fn nobody(number: u32, procedure: u32) -> [u32; 10] {
+pub fn nobody(number: u32, procedure: u32) -> [u32; 10] {
     [number, 0, 2, 100003, 2, procedure, 0, 0, 0, 0]
 }
 
 /// The bytes of words.
-pub(crate) fn bytes_of(alloc: Global, parts: &[&[u32]]) -> Result<Vec<u8>, AllocError> {
+pub fn bytes_of(alloc: Global, parts: &[&[u32]]) -> Result<Vec<u8>, AllocError> {
     let mut bytes = Vec::new(alloc);
     for part in parts {
         for word in *part {
@@ -46,7 +47,7 @@ pub(crate) fn bytes_of(alloc: Global, parts: &[&[u32]]) -> Result<Vec<u8>, Alloc
 }
 
 /// Whether bytes are these words.
-fn are_words(alloc: Global, bytes: &[u8], words: &[u32]) -> bool {
+pub fn are_words(alloc: Global, bytes: &[u8], words: &[u32]) -> bool {
     match bytes_of(alloc, &[words]) {
         Ok(text) => text.as_slice() == bytes,
         Err(_) => false,
@@ -54,7 +55,7 @@ fn are_words(alloc: Global, bytes: &[u8], words: &[u32]) -> bool {
 }
 
 /// Attempts a call of client 5 at a moment.
-pub(crate) fn attempt(
+pub fn attempt(
     alloc: Global,
     desk: &Desk,
     call: &[u8],
@@ -64,7 +65,7 @@ pub(crate) fn attempt(
 }
 
 /// Whether the bytes of a call are answered so, without a change, and no free blocks are told.
-pub(crate) fn is_answer(
+pub fn is_answer(
     alloc: Global,
     desk: &Desk,
     call: &[u8],
@@ -85,7 +86,7 @@ fn is_told(alloc: Global, desk: &Desk, call: &[u8], moment: u32, told: (&[u32], 
 }
 
 /// Whether the words of a STATFS are answered so, and so many free blocks are told.
-pub(crate) fn is_space(
+pub fn is_space(
     alloc: Global,
     desk: &Desk,
     parts: &[&[u32]],
@@ -99,7 +100,7 @@ pub(crate) fn is_space(
 }
 
 /// Whether the words of a call are answered so, without a change.
-pub(crate) fn is_answered(
+pub fn is_answered(
     alloc: Global,
     desk: &Desk,
     parts: &[&[u32]],
@@ -113,7 +114,7 @@ pub(crate) fn is_answered(
 }
 
 /// Whether a call needs this block alone, in this mode.
-pub(crate) fn is_needed(alloc: Global, desk: &Desk, parts: &[&[u32]], at: u64, mode: Mode) -> bool {
+pub fn is_needed(alloc: Global, desk: &Desk, parts: &[&[u32]], at: u64, mode: Mode) -> bool {
     let Ok(call) = bytes_of(alloc, parts) else {
         return false;
     };

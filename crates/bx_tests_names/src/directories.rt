@@ -1,109 +1,29 @@
 //! Calls that read directories.
 
-use crate::desk::Desk;
-use crate::words::{LINK, ROOT, is_answered, is_needed, nobody};
 use bx_base::Mode;
-use std::alloc::Global;
+use bx_tests_desk::{Desk, LINK, ROOT, is_answered, is_needed, nobody};
+use std::alloc::{AllocError, Global};
 use std::test::Fail;
 
-/// The status 0 and the file handle of the root, behind the six words of a reply with number 1; and its attributes.
-const ROOT_TOLD: [u32; 32] = [
-    1,
-    1,
-    0,
-    0,
-    0,
-    0,
-    0,
-    0x424f_5857,
-    0x4f4f_4431,
-    0,
-    7,
-    0,
-    1,
-    0,
-    0,
-    2,
-    0o40777,
-    2,
-    0,
-    0,
-    4096,
-    4096,
-    0,
-    8,
-    7,
-    2,
-    0,
-    0,
-    0,
-    0,
-    0,
-    0,
+/// The attributes of the root.
+const ROOT_TOLD: [u32; 17] = [
+    2, 0o40777, 2, 0, 0, 4096, 4096, 0, 8, 7, 2, 0, 0, 0, 0, 0, 0,
 ];
 
-/// The same of the file in slot 2.
-const FILE_TOLD: [u32; 32] = [
-    1,
-    1,
-    0,
-    0,
-    0,
-    0,
-    0,
-    0x424f_5857,
-    0x4f4f_4431,
-    0,
-    7,
-    2,
-    1,
-    0,
-    0,
-    1,
-    0o100644,
-    1,
-    0,
-    0,
-    12388,
-    4096,
-    0,
-    25,
-    7,
-    4,
-    0,
-    0,
-    0,
-    0,
-    0,
-    0,
+/// Those of the file in slot 2.
+const FILE_TOLD: [u32; 17] = [
+    1, 0o100644, 1, 0, 0, 12388, 4096, 0, 25, 7, 4, 0, 0, 0, 0, 0, 0,
 ];
 
 /// What the root lists: itself, its parent, `f` and `gh`, each with its file's number, its name and its cookie.
 const LISTED: [u32; 20] = [
-    1,
-    2,
-    1,
-    0x2e00_0000,
-    1,
-    1,
-    2,
-    2,
-    0x2e2e_0000,
-    2,
-    1,
-    4,
-    1,
-    0x6600_0000,
-    3,
-    1,
-    11,
-    2,
-    0x6768_0000,
-    5,
+    1, 2, 1, 0x2e000000, 1, 1, 2, 2, 0x2e2e0000, 2, 1, 4, 1, 0x66000000, 3, 1, 11, 2, 0x67680000, 5,
 ];
 
-/// Pages of the root: a cookie, a count, the words that are listed of it, from one on and up to another, and what ends it.
-const PAGES: [(u32, u32, usize, usize, u32); 9] = [
+/// A page of the root: a cookie, a count, the words that are listed of it, from one on and up to another, and what ends it.
+type Page = (u32, u32, usize, usize, u32);
+
+const PAGES: [Page; 9] = [
     (0, 8192, 0, 20, 1),
     (0, 88, 0, 20, 1),
     (0, 87, 0, 15, 0),
@@ -124,32 +44,28 @@ fn desk_of(alloc: Global) -> Result<Desk, Fail> {
     Ok(desk)
 }
 
+/// Whether a name of the root is found so: the file with a file handle and attributes.
+fn is_found(
+    alloc: Global,
+    desk: &Desk,
+    name: &[u32],
+    file: &[u32; 8],
+    attributes: &[u32; 17],
+) -> bool {
+    let mut reply = [0; 32];
+    reply[..2].copy_from_slice(&[1, 1]);
+    reply[7..15].copy_from_slice(file);
+    reply[15..].copy_from_slice(attributes);
+    is_answered(alloc, desk, &[&nobody(1, 4), &ROOT, name], 0, &reply)
+}
+
 #[test]
 fn names_are_looked_up(rt: HostRuntime) -> Result<(), Fail> {
     let alloc = rt.alloc();
     let desk = desk_of(alloc)?;
-    let call = nobody(1, 4);
-    let itself = is_answered(
-        alloc,
-        &desk,
-        &[&call, &ROOT, &[1, 0x2e00_0000]],
-        0,
-        &ROOT_TOLD,
-    );
-    let parent = is_answered(
-        alloc,
-        &desk,
-        &[&call, &ROOT, &[2, 0x2e2e_0000]],
-        0,
-        &ROOT_TOLD,
-    );
-    let file = is_answered(
-        alloc,
-        &desk,
-        &[&call, &ROOT, &[1, 0x6600_0000]],
-        0,
-        &FILE_TOLD,
-    );
+    let itself = is_found(alloc, &desk, &[1, 0x2e00_0000], &ROOT, &ROOT_TOLD);
+    let parent = is_found(alloc, &desk, &[2, 0x2e2e_0000], &ROOT, &ROOT_TOLD);
+    let file = is_found(alloc, &desk, &[1, 0x6600_0000], &LINK, &FILE_TOLD);
     assert!(rt; itself && parent && file);
     Ok(())
 }
@@ -191,24 +107,27 @@ fn a_lookup_needs_its_path_alone(rt: HostRuntime) -> Result<(), Fail> {
     Ok(())
 }
 
+/// Whether a page of the root is listed so.
+fn is_listed(alloc: Global, desk: &Desk, page: &Page) -> Result<bool, AllocError> {
+    let (cookie, count, from, to, end) = *page;
+    let mut reply = vec![in alloc; 1, 1, 0, 0, 0, 0, 0]?;
+    reply.extend_from_slice(LISTED.get(from..to).unwrap_or(&[]))?;
+    reply.extend_from_slice(&[0, end])?;
+    Ok(is_answered(
+        alloc,
+        desk,
+        &[&nobody(1, 16), &ROOT, &[cookie, count]],
+        0,
+        reply.as_slice(),
+    ))
+}
+
 #[test]
 fn pages_hold_the_longest_run(rt: HostRuntime) -> Result<(), Fail> {
     let alloc = rt.alloc();
     let desk = desk_of(alloc)?;
-    for (cookie, count, from, to, end) in &PAGES {
-        let listed = LISTED.get(*from..*to).unwrap_or(&[]);
-        let mut reply = vec![in alloc; 1, 1, 0, 0, 0, 0, 0]?;
-        reply.extend_from_slice(listed)?;
-        reply.extend_from_slice(&[0, *end])?;
-        let call = [*cookie, *count];
-        let told = is_answered(
-            alloc,
-            &desk,
-            &[&nobody(1, 16), &ROOT, &call],
-            0,
-            reply.as_slice(),
-        );
-        assert!(rt; told, "{cookie} {count}");
+    for page in &PAGES {
+        assert!(rt; is_listed(alloc, &desk, page)?, "{page:?}");
     }
     Ok(())
 }

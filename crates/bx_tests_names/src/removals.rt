@@ -1,10 +1,10 @@
 //! REMOVE, beside the file tree that the blocks stand for.
 
-use crate::desk::Desk;
-use crate::random::{is_same, random_call, told, tree_of};
-use crate::words::{GONE, LINK, ROOT, attempt, bytes_of};
+use crate::random::{are_same, is_same, told, tree_of};
 use bx_base::Raw;
+use bx_model::Tree;
 use bx_records::Draft;
+use bx_tests_desk::{Desk, GONE, LINK, ROOT, attempt, bytes_of};
 use bx_views::{Attempt, Done};
 use std::alloc::Global;
 use std::test::Fail;
@@ -43,18 +43,31 @@ fn changed(alloc: Global, desk: &mut Desk, draft: &Draft, done: Done) -> Result<
 }
 
 /// Whether both are there, and are the same bytes.
-fn are_same(one: &Option<Raw>, other: &Option<Raw>) -> bool {
+fn are_bytes(one: &Option<Raw>, other: &Option<Raw>) -> bool {
     match (one, other) {
         (Some(one), Some(other)) => one.bytes() == other.bytes(),
         _ => false,
     }
 }
 
+/// Whether the removal of the link's name is answered over a desk as by a tree.
+fn is_removed(alloc: Global, desk: &mut Desk, tree: &mut Tree) -> Result<bool, Fail> {
+    let reply = removed(alloc, desk)?;
+    let want = told(alloc, tree, &[&REMOVE, &ROOT, &NAME], 0)?;
+    Ok(are_bytes(&reply, &want))
+}
+
+/// Holds the root and its names, exclusively.
+fn hold_root(alloc: Global, desk: &mut Desk) -> Result<(), Fail> {
+    desk.hold(alloc, 0)?;
+    desk.hold_names(alloc)?;
+    Ok(())
+}
+
 /// A desk on which the link's name may be removed.
 fn desk_for_removal(alloc: Global) -> Result<Desk, Fail> {
     let mut desk = Desk::new(alloc);
-    desk.hold(alloc, 0)?;
-    desk.hold_names(alloc)?;
+    hold_root(alloc, &mut desk)?;
     desk.hold_link(alloc, 9)?;
     desk.hold_area(alloc, 10)?;
     desk.lend_file(alloc, 2..9, 0o644)?;
@@ -66,34 +79,38 @@ fn a_name_that_is_removed_is_gone(rt: HostRuntime) -> Result<(), Fail> {
     let alloc = rt.alloc();
     let mut desk = desk_for_removal(alloc)?;
     let mut tree = tree_of(alloc)?;
-    let reply = removed(alloc, &mut desk)?;
-    let want = told(alloc, &mut tree, &[&REMOVE, &ROOT, &NAME], 0)?;
-    assert!(rt; are_same(&reply, &want));
-    let mut state = 20261128;
-    for turn in 0..200 {
-        let call = random_call(alloc, &mut state)?;
-        assert!(rt;
-            is_same(alloc, &desk, &mut tree, call.as_slice())?,
-            "{turn}"
-        );
-    }
+    let removed = is_removed(alloc, &mut desk, &mut tree)?;
+    assert!(rt; removed && are_same(alloc, &desk, &mut tree, 20261128, 200)?);
     Ok(())
+}
+
+/// Whether a removal that comes to an error is answered over a desk as by a tree.
+fn is_refused(
+    alloc: Global,
+    desk: &Desk,
+    tree: &mut Tree,
+    at: &[u32],
+    name: &[u32; 2],
+) -> Result<bool, Fail> {
+    let call = bytes_of(alloc, &[&REMOVE, at, name])?;
+    is_same(alloc, desk, tree, call.as_slice())
+}
+
+/// A desk with the root, its names and a link, on which nothing else is held.
+fn desk_of_names(alloc: Global) -> Result<Desk, Fail> {
+    let mut desk = Desk::new(alloc);
+    hold_root(alloc, &mut desk)?;
+    desk.hold_link(alloc, 2)?;
+    Ok(desk)
 }
 
 #[test]
 fn a_name_that_may_not_be_removed_is_an_answer(rt: HostRuntime) -> Result<(), Fail> {
     let alloc = rt.alloc();
-    let mut desk = Desk::new(alloc);
-    desk.hold(alloc, 0)?;
-    desk.hold_names(alloc)?;
-    desk.hold_link(alloc, 2)?;
+    let desk = desk_of_names(alloc)?;
     let mut tree = tree_of(alloc)?;
     for (at, name) in &REFUSED {
-        let call = bytes_of(alloc, &[&REMOVE, *at, name])?;
-        assert!(rt;
-            is_same(alloc, &desk, &mut tree, call.as_slice())?,
-            "{name:?}"
-        );
+        assert!(rt; is_refused(alloc, &desk, &mut tree, *at, name)?, "{name:?}");
     }
     Ok(())
 }

@@ -65,13 +65,7 @@ pub fn attempt(
 }
 
 /// Whether the bytes of a call are answered so, without a change, and no free blocks are told.
-pub fn is_answer(
-    alloc: Global,
-    desk: &Desk,
-    call: &[u8],
-    moment: u32,
-    reply: &[u32],
-) -> bool {
+pub fn is_answer(alloc: Global, desk: &Desk, call: &[u8], moment: u32, reply: &[u32]) -> bool {
     is_told(alloc, desk, call, moment, (reply, 8))
 }
 
@@ -86,13 +80,7 @@ fn is_told(alloc: Global, desk: &Desk, call: &[u8], moment: u32, told: (&[u32], 
 }
 
 /// Whether the words of a STATFS are answered so, and so many free blocks are told.
-pub fn is_space(
-    alloc: Global,
-    desk: &Desk,
-    parts: &[&[u32]],
-    reply: &[u32],
-    free: u64,
-) -> bool {
+pub fn is_space(alloc: Global, desk: &Desk, parts: &[&[u32]], reply: &[u32], free: u64) -> bool {
     match bytes_of(alloc, parts) {
         Ok(call) => is_told(alloc, desk, call.as_slice(), 0, (reply, free)),
         Err(_) => false,

@@ -39,12 +39,7 @@ fn next_below(state: &mut u32, bound: u32) -> u32 {
 }
 
 /// What a tree answers the bytes of a call that makes the file with a handle, or 0; none where they are no call.
-fn reply_of(
-    alloc: Global,
-    tree: &mut Tree,
-    call: &[u8],
-    made: u64,
-) -> Result<Option<Raw>, Fail> {
+fn reply_of(alloc: Global, tree: &mut Tree, call: &[u8], made: u64) -> Result<Option<Raw>, Fail> {
     let Some((xid, read)) = bx_nfs::reads_as(alloc, call)? else {
         return Ok(None);
     };

@@ -127,7 +127,7 @@ fn pages_hold_the_longest_run(rt: HostRuntime) -> Result<(), Fail> {
     let alloc = rt.alloc();
     let desk = desk_of(alloc)?;
     for page in &PAGES {
-        assert!(rt; is_listed(alloc, &desk, page)?, "{page:?}");
+        assert!(rt; is_listed(alloc, &desk, page)?, "{} {}", page.0, page.1);
     }
     Ok(())
 }

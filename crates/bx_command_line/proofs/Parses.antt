@@ -1,7 +1,7 @@
 -- What `clap` makes of the words of a command line.
-use Rattle.std.proofs.Common.{◌≡◌, ℕ, List, [], ◌∷◌, ◌∙◌, ap, refl, sym, codes, true}
+use Rattle.std.proofs.Common.{◌≡◌, List, ◌∙◌, ap, refl, sym, codes, true}
 use Rattle.std.specs.Prelude.{Option, Some, None, option_map}
-use Rattle.clap.specs.Words.{HasMatchesOf, Row, Text, is_simple, subcommand_name_of, subcommand_of, subcommand_rows_of, takes}
+use Rattle.clap.specs.Words.{HasMatchesOf, Row, Text, is_simple, subcommand_name_of, subcommand_of, takes}
 use Rattle.clap.specs.declared.parser.matches.ArgMatches.{ArgMatches}
 use Rattle.clap.specs.declared.parser.matches.ArgMatches.TheViews.{out-ArgMatches}
 use Rattle.clap.proofs.OnLiterals.{clap_on_literals}

@@ -1,4 +1,4 @@
-use Rattle.std.proofs.Common.{◌∙◌, ap}
+use Rattle.std.proofs.Common.{ap}
 use Rattle.std.specs.Prelude.{map, option_map, string_bytes}
 use Rattle.bx_command_line.proofs.Parses.{names_none}
 use Rattle.bx_command_line.proofs.command_line.line_of.Goals as goal

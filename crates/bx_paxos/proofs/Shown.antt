@@ -24,13 +24,13 @@ use Rattle.bx_paxos.specs.Shown.{HasLabel, IsAsItWas, IsKnown, IsUnread, Shows, 
 
 -- ---- one disk
 
-found_alike : (devices : ℕ) (sectors other : ℕ → List ℕ) (found : Found) (held : Held) → ((s : ℕ) → other s ≡ sectors s) → IsFound devices sectors found held → IsFound devices other found held
+pub found_alike : (devices : ℕ) (sectors other : ℕ → List ℕ) (found : Found) (held : Held) → ((s : ℕ) → other s ≡ sectors s) → IsFound devices sectors found held → IsFound devices other found held
 found_alike devices sectors other found held same is = record { in_cell = cell_sectors sectors other 1 (λ s low high. same s) ∙ is.in_cell; spells = is.spells }
 
-label_alike : (one other : List ℕ) → other ≡ one → HasLabel one → HasLabel other
+pub label_alike : (one other : List ℕ) → other ≡ one → HasLabel one → HasLabel other
 label_alike one other same has = (has.0, subst (SpellsLabel has.0) (sym same) has.1)
 
-unread_alike : (devices : ℕ) (sectors other : ℕ → List ℕ) → ((s : ℕ) → other s ≡ sectors s) → IsUnread devices sectors → IsUnread devices other
+pub unread_alike : (devices : ℕ) (sectors other : ℕ → List ℕ) → ((s : ℕ) → other s ≡ sectors s) → IsUnread devices sectors → IsUnread devices other
 unread_alike devices sectors other same is = record {
   none = λ label found held spells there. is.none label found held (subst (SpellsLabel label) (same 0) spells) (found_alike devices other sectors found held (λ s. sym (same s)) there);
 }

@@ -1,5 +1,5 @@
 -- Machines that are put into a list one behind the other, and disks that are only synced.
-use Rattle.std.proofs.Common.{◌≡◌, ℕ, ◌+◌, ◌-◌, ◌^◌, ◌<◌, ◌≤◌, ◌⊎◌, inl, inr, Bool, true, false, List, [], ◌∷◌, ◌++◌, length, Option, Some, None, Result, Ok, Err, OnOk, refl, sym, ap, subst, ◌∙◌, arith}
+use Rattle.std.proofs.Common.{◌≡◌, ℕ, ◌+◌, ◌-◌, ◌^◌, ◌<◌, ◌≤◌, ◌⊎◌, inl, inr, ◌==◌, Bool, true, false, List, [], ◌∷◌, ◌++◌, length, Option, Some, None, Result, Ok, Err, OnOk, refl, sym, ap, subst, ◌∙◌, arith}
 use Rattle.std.specs.Prelude.{IsSome, IsSomeAnd, nat_lt, if◌then◌else◌}
 use Rattle.std.proofs.lemmas.Bool.{false≢true}
 use Rattle.std.proofs.lemmas.Bool.Decides.{nat_tests}
@@ -18,18 +18,25 @@ use Rattle.bx_cell.specs.Images.{EachSure, HasAllSure}
 use Rattle.bx_disk.specs.Disks.{Disks, Image}
 use Rattle.bx_facts.proofs.Machines.{is_itself}
 use Rattle.bx_facts.specs.Machines.{IsMachine, is_same}
-use Rattle.bx_facts.specs.Pasts.{opening_register}
+use Rattle.bx_facts.specs.Chains.{found_chain}
+use Rattle.bx_facts.specs.Pasts.{found_register, opening_register}
 use Rattle.bx_global.specs.Allowed.{IsAllowed}
 use Rattle.bx_global.specs.Bytes.{held_text}
 use Rattle.bx_global.specs.declared.held.Held.{Held}
 use Rattle.bx_global.specs.declared.state.GlobalState.{GlobalState}
-use Rattle.bx_paxos.proofs.Starts.{begun}
+use Rattle.bx_global.specs.declared.held.Held.{Held}
+use Rattle.bx_paxos.proofs.Starts.{begun, found_begun}
+use Rattle.bx_paxos.specs.Reading.{AreMade}
+use Rattle.bx_paxos.specs.Shown.{HasFound, StandsAsFound}
+use Rattle.bx_paxos_found.specs.Origins.{origin_in}
+use Rattle.bx_paxos_found.specs.declared.origins.Origins.{Origins}
+use Rattle.bx_paxos_cluster.proofs.Keeping.{none_has}
 use Rattle.bx_paxos.specs.Counted.{IsCounted}
 use Rattle.bx_proposer.specs.Standing.{started}
 use Rattle.bx_proposer.specs.declared.course.Course.{Course}
 use Rattle.bx_paxos_cluster.specs.declared.machine.Machine.{Machine}
 use Rattle.bx_paxos_cluster.specs.declared.machine.Machine.TheVariants.{Replica as IsReplica, Other}
-use Rattle.bx_paxos_cluster.specs.Beginning.{AreBegun, AreIdle, AreNew, HasFirst, IsBegun, IsCalm, IsNew, name_in}
+use Rattle.bx_paxos_cluster.specs.Beginning.{AreBegun, AreIdle, AreMachines, AreNew, HasFirst, IsBegun, IsCalm, IsNew, name_in}
 use Rattle.bx_paxos_cluster.specs.Cluster.{Cluster, IsCluster, named, needs, needs_in, voters_of}
 use Rattle.bx_paxos_cluster.specs.Keeps.{Keeps}
 use Rattle.bx_paxos_cluster.specs.Parts.{AreParts, HasCells, IsOut, IsPart, KnowsPlace, course_in, course_of, machine_at, name_of, sectors_for}
@@ -73,9 +80,9 @@ starts_first replica made origin sectors held cell e is index at starts =
 
 -- ---- one more in the list
 
-pub parts_push : (nodes : ℕ) (made : GlobalState) (ms : List Machine) (m : Machine) → AreParts nodes made ms → IsPart nodes made m → AreParts nodes made (ms ++ m ∷ [])
-parts_push nodes made [] m are is = (is, tt)
-parts_push nodes made (k ∷ ms) m are is = (are.0, parts_push nodes made ms m are.1 is)
+pub parts_push : (nodes : ℕ) (made : GlobalState) (origins : Origins) (ms : List Machine) (m : Machine) → AreParts nodes made origins ms → IsPart nodes made origins m → AreParts nodes made origins (ms ++ m ∷ [])
+parts_push nodes made origins [] m are is = (is, tt)
+parts_push nodes made origins (k ∷ ms) m are is = (are.0, parts_push nodes made origins ms m are.1 is)
 
 pub new_push : (made : GlobalState) (ms : List Machine) (m : Machine) → AreNew made ms → IsNew made m → AreNew made (ms ++ m ∷ [])
 new_push made [] m are is = (is, tt)
@@ -148,16 +155,16 @@ machine_in nodes place less = by (nat_lt place 3) (nat_lt place 5) (nat_lt place
     by false false false e f k = let high : 13 ≤ place = grind (arith, nat_tests, k) in omega (arith, high, less)
 
 -- the machines before a place are there
-pub record AreMadeTo (nodes : ℕ) (made : GlobalState) (place : ℕ) (ms : List Machine) : Type 0 where
-  pub parts : AreParts nodes made ms
+pub record AreMadeTo (nodes : ℕ) (made : GlobalState) (origins : Origins) (place : ℕ) (ms : List Machine) : Type 0 where
+  pub parts : AreParts nodes made origins ms
   pub all : (who : Actor) → IsMachine nodes who → place_for who < place → IsSome (machine_at ms who)
 
-pub made_none : (nodes : ℕ) (made : GlobalState) → AreMadeTo nodes made 0 []
-made_none nodes made = record { parts = tt; all = λ who there less. absurd (omega (arith, less)) }
+pub made_none : (nodes : ℕ) (made : GlobalState) (origins : Origins) → AreMadeTo nodes made origins 0 []
+made_none nodes made origins = record { parts = tt; all = λ who there less. absurd (omega (arith, less)) }
 
-pub made_more : (nodes : ℕ) (made : GlobalState) (place : ℕ) (ms : List Machine) (m : Machine) → AreMadeTo nodes made place ms → name_of m ≡ name_in place → IsPart nodes made m → AreMadeTo nodes made (place + 1) (ms ++ m ∷ [])
-made_more nodes made place ms m are named is = record {
-  parts = parts_push nodes made ms m are.parts is;
+pub made_more : (nodes : ℕ) (made : GlobalState) (origins : Origins) (place : ℕ) (ms : List Machine) (m : Machine) → AreMadeTo nodes made origins place ms → name_of m ≡ name_in place → IsPart nodes made origins m → AreMadeTo nodes made origins (place + 1) (ms ++ m ∷ [])
+made_more nodes made origins place ms m are named is = record {
+  parts = parts_push nodes made origins ms m are.parts is;
   all = λ who there less. by who there (at (place_for who) less);
 }
   where
@@ -168,13 +175,20 @@ made_more nodes made place ms m are named is = record {
     by who there (inl before) = some_on ms m who (are.all who there before)
     by who there (inr here) = some_last ms m who (named ∙ ap name_in (sym here) ∙ named_place nodes who there)
 
-pub made_all : (nodes : ℕ) (made : GlobalState) (place : ℕ) (ms : List Machine) → nodes ≤ 16 → IsAllowed made → made.index + 1 < 2 ^ 64 → 13 + nodes ≤ place → AreMadeTo nodes made place ms → IsCluster (record { nodes = nodes; made = made; machines = ms })
-made_all nodes made place ms few allowed index full are = record {
+pub made_all : (nodes : ℕ) (made : GlobalState) (origins : Origins) (place : ℕ) (ms : List Machine) → 13 + nodes ≤ place → AreMadeTo nodes made origins place ms → AreMachines nodes made origins ms
+made_all nodes made origins place ms full are = record { parts = are.parts; all = λ who there. are.all who there (let less = place_less nodes who there in omega (arith, less, full)) }
+
+-- machines of these nodes make a cluster, with a first state of as many devices
+pub cluster_of : (g : Cluster) → g.nodes ≤ 16 → IsAllowed g.made → g.made.index + 1 < 2 ^ 64 → IsAllowed g.first → g.first.index + 1 < 2 ^ 64 → length g.first.devices ≡ length g.made.devices → AreMachines g.nodes g.first g.origins g.machines → IsCluster g
+cluster_of g few allowed index first_allowed first_index devices are = record {
   few = few;
   allowed = allowed;
   index = index;
+  first_allowed = first_allowed;
+  first_index = first_index;
+  devices = devices;
   parts = are.parts;
-  all = λ who there. are.all who there (let less = place_less nodes who there in omega (arith, less, full));
+  all = are.all;
 }
 
 -- ---- a register that begins
@@ -206,11 +220,11 @@ new_needs made (m ∷ ms) who are = by (is_same (name_of m) who) (new_needs made
     by true more = ap sectors_for are.0.cell
     by false more = more
 
-pub new_needs_none : (nodes : ℕ) (made : GlobalState) (ms : List Machine) (disk : ℕ) → AreNew made ms → needs (record { nodes = nodes; made = made; machines = ms }) disk ≡ 0
-new_needs_none nodes made ms disk are = by (nat_lt disk 3)
+pub new_needs_none : (g : Cluster) (disk : ℕ) → AreNew g.first g.machines → needs g disk ≡ 0
+new_needs_none g disk are = by (nat_lt disk 3)
   where
-    by : (t : Bool) → (if t then needs_in (machine_at ms (Replica disk)) else 0) ≡ 0
-    by true = new_needs made ms (Replica disk) are
+    by : (t : Bool) → (if t then needs_in (machine_at g.machines (Replica disk)) else 0) ≡ 0
+    by true = new_needs g.first g.machines (Replica disk) are
     by false = refl
 
 begun_at : (made : GlobalState) (x : Disks) (ms : List Machine) (who : Actor) (v : Machine) → AreBegun made x ms → machine_at ms who ≡ Some v → IsBegun made x v
@@ -221,25 +235,57 @@ begun_at made x (m ∷ ms) who v are is = by (is_same (name_of m) who) (λ k. be
     by true more k = let one : m ≡ v = cc in subst (IsBegun made x) one are.0
     by false more k = more k
 
-first_counts : (made : GlobalState) (image : Image) (n : ℕ) → IsAllowed made → made.index + 1 < 2 ^ 64 → n < 3 → HasFirst made image → IsCounted made Made (image n) (first_held made)
-first_counts made image n is index low has = record {
+first_counts : (made : GlobalState) (origin : Origin) (image : Image) (n : ℕ) → origin ≡ Made → IsAllowed made → made.index + 1 < 2 ^ 64 → n < 3 → HasFirst made image → IsCounted made origin (image n) (first_held made)
+first_counts made origin image n same is index low has = subst (λ (o : Origin). IsCounted made o (image n) (first_held made)) (sym same) (record {
   found = first (held_text (first_held made));
   raw = first_held made;
   part = tt;
   is = first_found made (image n) is index (has.each n low);
   catches = record { as_found = λ bad. absurd bad; as_put = λ put. refl };
-}
+})
 
 first_place : (made : GlobalState) (x : Disks) (m : Machine) → IsBegun made x m → KnowsPlace (opening_register made).chain m
 first_place made x (IsReplica r) is = is.knows
 first_place made x (Other p) is = tt
 
-pub begins_keeping : (g : Cluster) (x : Disks) → IsCluster g → AreIdle g.made g.machines → AreBegun g.made x g.machines → EachSure x (HasFirst g.made) → Keeps g x (opening_register g.made)
-begins_keeping g x is idle are first = record {
-  fits = begun (voters_of g) x is.allowed (record { each = λ image sure n low. first_counts g.made image n is.allowed is.index low (first.each image sure) }) (λ me. idle_at g.made g.machines (named me) idle);
-  cells = λ who m at. (begun_at g.made x g.machines who m are at).cells;
-  places = λ who m at. first_place g.made x m (begun_at g.made x g.machines who m are at);
+-- each cell was made with the volume
+pub made_origins : (origins : Origins) → (origins.first ≡ Made) × (origins.second ≡ Made) × (origins.third ≡ Made) → AreMade (origin_in origins)
+made_origins origins made = λ n low. by (n == 0) (n == 1)
+  where
+    by : (t u : Bool) → (if t then origins.first else (if u then origins.second else origins.third)) ≡ Made
+    by true u = made.0
+    by false true = made.1
+    by false false = made.2
+
+pub begins_keeping : (g : Cluster) (x : Disks) → IsCluster g → AreMade (origin_in g.origins) → AreIdle g.first g.machines → AreBegun g.first x g.machines → EachSure x (HasFirst g.first) → Keeps g x (opening_register g.first)
+begins_keeping g x is made idle are first = record {
+  fits = begun (voters_of g) x is.first_allowed made (record { each = λ image sure n low. first_counts g.first (origin_in g.origins n) image n (made n low) is.first_allowed is.first_index low (first.each image sure) })
+      (λ me. idle_at g.first g.machines (named me) idle);
+  cells = λ who m at. (begun_at g.first x g.machines who m are at).cells;
+  places = λ who m at. first_place g.first x m (begun_at g.first x g.machines who m are at);
   down = λ who m at down. absurd (false≢true down);
+}
+
+-- ---- one that found its volume
+
+new_at : (made : GlobalState) (ms : List Machine) (who : Actor) (v : Machine) → AreNew made ms → machine_at ms who ≡ Some v → IsNew made v
+new_at made [] who v are is = absurd cc
+new_at made (m ∷ ms) who v are is = by (is_same (name_of m) who) (λ k. new_at made ms who v are.1 k) is
+  where
+    by : (t : Bool) → (machine_at ms who ≡ Some v → IsNew made v) → (if t then Some m else machine_at ms who) ≡ Some v → IsNew made v
+    by true more k = let one : m ≡ v = cc in subst (IsNew made) one are.0
+    by false more k = more k
+
+found_place : (made : GlobalState) (m : Machine) → IsNew made m → KnowsPlace (found_chain made) m
+found_place made (IsReplica r) is = is.knows
+found_place made (Other p) is = tt
+
+pub finds_keeping : (g : Cluster) (x : Disks) (was : ℕ → Option Held) (boot : ℕ) → IsCluster g → AreNew g.first g.machines → HasFound g.first (origin_in g.origins) was → EachSure x (StandsAsFound g.first (origin_in g.origins) was) → Keeps g x (found_register g.first boot)
+finds_keeping g x was boot is are found stands = record {
+  fits = found_begun (voters_of g) x was boot is.first_allowed found stands (λ me. idle_at g.first g.machines (named me) (new_idle g.first g.machines are));
+  cells = λ who m at. none_has x m (new_at g.first g.machines who m are at).cell;
+  places = λ who m at. found_place g.first m (new_at g.first g.machines who m are at);
+  down = λ who m at down. (new_at g.first g.machines who m are at).cell;
 }
 
 pub any_ok : {T E : Type 0} (r : Result T E) (A : Type 0) → A → OnOk r A

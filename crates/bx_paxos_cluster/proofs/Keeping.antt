@@ -189,7 +189,7 @@ pub keeps_put : (g : Cluster) (ms : List Machine) (who : Actor) (v : Machine) (x
     → Keeps g x old → HasCells v y → KnowsPlace new.chain v → (new.down who ≡ true → cell_of v ≡ None) → Fits (voters_of (record g { machines = ms })) y new → Keeps (record g { machines = ms }) y new
 keeps_put g ms who v x y old new is here beside only on downs keeps cells place down fits = record {
   fits = fits;
-  cells = λ other m at. each other (λ k. HasCells k y) (λ same. cells) (λ apart k was. has_kept x y k (part_at g.nodes g.made g.machines other k is.parts was).whole
+  cells = λ other m at. each other (λ k. HasCells k y) (λ same. cells) (λ apart k was. has_kept x y k (part_at g.nodes g.first g.origins g.machines other k is.parts was).whole
       (λ n s named low behind. stays_kept x y n s (only.others n s (λ disk. apart (sym (name_at g.machines other k was) ∙ named ∙ sym (disk_is who n low disk))))) (keeps.cells other k was)) m at;
   places = λ other m at. each other (KnowsPlace new.chain) (λ same. place) (λ apart k was. place_on old.chain new.chain k on (keeps.places other k was)) m at;
   down = λ other m at. each other (λ k. new.down other ≡ true → cell_of k ≡ None) (λ same stopped. down (subst (λ (a : Actor). new.down a ≡ true) same stopped)) (λ apart k was stopped. keeps.down other k was (downs other apart stopped)) m at;

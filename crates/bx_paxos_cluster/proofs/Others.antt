@@ -14,32 +14,33 @@ use Rattle.bx_proposer.specs.Letters.{asks_of}
 use Rattle.bx_proposer.specs.Names.{number_of}
 use Rattle.bx_proposer.specs.Standing.{IsStanding as IsProposer, Standing as Proposer, going_on, started}
 use Rattle.bx_proposer.specs.declared.course.Course.{Course}
-use Rattle.bx_paxos.proofs.Replicas.{leaves_none, next_of}
+use Rattle.bx_paxos.proofs.Replicas.{leaves_none}
 use Rattle.bx_paxos.proofs.Starts.{restarted}
 use Rattle.bx_paxos.specs.Fits.{Fits, Turned, Voters, going}
-use Rattle.bx_paxos.specs.Reading.{AreMade, ReadsNext, ReadsState}
+use Rattle.bx_paxos.proofs.Reading.{reads}
+use Rattle.bx_paxos.specs.Reading.{ReadsNext, ReadsState}
 
 -- ---- images
 
 -- an image that a crash may leave
-pub image_reads : (v : Voters) (x : Disks) (past : RegisterPast) (out : List Letter) (image : Image) → Fits v x (register_with past out) → AreMade v.origins → IsImage x image → ReadsOnly (ReadsState v.first) x (IsNext past.proposed (last past.chain)) image
-image_reads v x past out image f made is = record {
+pub image_reads : (v : Voters) (x : Disks) (past : RegisterPast) (out : List Letter) (image : Image) → Fits v x (register_with past out) → IsImage x image → ReadsOnly (ReadsState v.first) x (IsNext past.proposed (last past.chain)) image
+image_reads v x past out image f is = record {
   members = λ d s far sure. is.sure d s sure;
   labels = λ d low sure. is.sure d 0 sure;
-  read = next_of v x (register_with past out) image f made (f.images.each image (record { sure = is.sure }));
+  read = λ s read. reads v x (register_with past out) image s f (record { sure = is.sure }) read;
 }
 
 -- .. while nothing was asked of the rack
-pub quiet_moments : (v : Voters) (x : Disks) (past : RegisterPast) (out : List Letter) (moment : ℕ) (since : ℕ → Image → Type 0) → Fits v x (register_with past out) → AreMade v.origins → ((image : Image) → since moment image → IsImage x image)
+pub quiet_moments : (v : Voters) (x : Disks) (past : RegisterPast) (out : List Letter) (moment : ℕ) (since : ℕ → Image → Type 0) → Fits v x (register_with past out) → ((image : Image) → since moment image → IsImage x image)
     → LeavesOnly moment moment since since (ReadsOnly (ReadsState v.first) x (IsNext past.proposed (last past.chain)))
-quiet_moments v x past out moment since f made only =
-    leaves_implies moment moment since since (IsImage x) (ReadsOnly (ReadsState v.first) x (IsNext past.proposed (last past.chain))) (leaves_none x moment since only) (λ image is. image_reads v x past out image f made is)
+quiet_moments v x past out moment since f only =
+    leaves_implies moment moment since since (IsImage x) (ReadsOnly (ReadsState v.first) x (IsNext past.proposed (last past.chain))) (leaves_none x moment since only) (λ image is. image_reads v x past out image f is)
 
 -- .. while a disk was synced
-pub sync_moments : (v : Voters) (x : Disks) (past : RegisterPast) (out : List Letter) (before now : ℕ) (left since : ℕ → Image → Type 0) → Fits v x (register_with past out) → AreMade v.origins → LeavesOnly before now left since (IsImage x)
+pub sync_moments : (v : Voters) (x : Disks) (past : RegisterPast) (out : List Letter) (before now : ℕ) (left since : ℕ → Image → Type 0) → Fits v x (register_with past out) → LeavesOnly before now left since (IsImage x)
     → LeavesOnly before now left since (ReadsOnly (ReadsState v.first) x (IsNext past.proposed (last past.chain)))
-sync_moments v x past out before now left since f made leaves =
-    leaves_implies before now left since (IsImage x) (ReadsOnly (ReadsState v.first) x (IsNext past.proposed (last past.chain))) leaves (λ image is. image_reads v x past out image f made is)
+sync_moments v x past out before now left since f leaves =
+    leaves_implies before now left since (IsImage x) (ReadsOnly (ReadsState v.first) x (IsNext past.proposed (last past.chain))) leaves (λ image is. image_reads v x past out image f is)
 
 leaves_both : (before now : ℕ) (left since : ℕ → Image → Type 0) (P Q : Image → Type 0) → LeavesOnly before now left since P → LeavesOnly before now left since Q → LeavesOnly before now left since (λ image. P image × Q image)
 leaves_both before now left since P Q one other = record {

@@ -39,20 +39,20 @@ name_at (m ∷ ms) who v is = by (is_same (name_of m) who) (λ k. name_at ms who
     by true more e k = let one : m ≡ v = cc in ap name_of (sym one) ∙ is_one (name_of m) who e
     by false more e k = more k
 
-pub part_at : (nodes : ℕ) (made : GlobalState) (ms : List Machine) (who : Actor) (v : Machine) → AreParts nodes made ms → machine_at ms who ≡ Some v → IsPart nodes made v
-part_at nodes made [] who v parts is = absurd cc
-part_at nodes made (m ∷ ms) who v parts is = by (is_same (name_of m) who) (λ k. part_at nodes made ms who v parts.1 k) is
+pub part_at : (nodes : ℕ) (made : GlobalState) (origins : Origins) (ms : List Machine) (who : Actor) (v : Machine) → AreParts nodes made origins ms → machine_at ms who ≡ Some v → IsPart nodes made origins v
+part_at nodes made origins [] who v parts is = absurd cc
+part_at nodes made origins (m ∷ ms) who v parts is = by (is_same (name_of m) who) (λ k. part_at nodes made origins ms who v parts.1 k) is
   where
-    by : (t : Bool) → (machine_at ms who ≡ Some v → IsPart nodes made v) → (if t then Some m else machine_at ms who) ≡ Some v → IsPart nodes made v
-    by true more k = let one : m ≡ v = cc in subst (IsPart nodes made) one parts.0
+    by : (t : Bool) → (machine_at ms who ≡ Some v → IsPart nodes made origins v) → (if t then Some m else machine_at ms who) ≡ Some v → IsPart nodes made origins v
+    by true more k = let one : m ≡ v = cc in subst (IsPart nodes made origins) one parts.0
     by false more k = more k
 
 -- ---- another in its place
 
-pub parts_put : (nodes : ℕ) (made : GlobalState) (ms : List Machine) (i : ℕ) (v : Machine) → AreParts nodes made ms → IsPart nodes made v → AreParts nodes made (slice_set ms i v)
-parts_put nodes made [] i v parts is = tt
-parts_put nodes made (m ∷ ms) zero v parts is = (is, parts.1)
-parts_put nodes made (m ∷ ms) (suc i) v parts is = (parts.0, parts_put nodes made ms i v parts.1 is)
+pub parts_put : (nodes : ℕ) (made : GlobalState) (origins : Origins) (ms : List Machine) (i : ℕ) (v : Machine) → AreParts nodes made origins ms → IsPart nodes made origins v → AreParts nodes made origins (slice_set ms i v)
+parts_put nodes made origins [] i v parts is = tt
+parts_put nodes made origins (m ∷ ms) zero v parts is = (is, parts.1)
+parts_put nodes made origins (m ∷ ms) (suc i) v parts is = (parts.0, parts_put nodes made origins ms i v parts.1 is)
 
 -- it is found there
 pub put_here : (ms : List Machine) (who : Actor) (v : Machine) → IsSome (machine_at ms who) → name_of v ≡ who → machine_at (slice_set ms (place_in ms who) v) who ≡ Some v

@@ -49,11 +49,11 @@ within g who place is there same = subst (λ (n : ℕ). n < length g.machines) (
 pub stands_at : (g : Cluster) (who : Actor) (place : ℕ) (m : Machine) → IsCluster g → IsMachine g.nodes who → place ≡ place_in g.machines who → m ≡ slice_index_or g.machines place m → machine_at g.machines who ≡ Some m
 stands_at g who place m is there same value = got g.machines who m (found g.machines who (is.all who there)) (subst (λ (n : ℕ). m ≡ slice_index_or g.machines n m) same value)
 
-pub is_part : (g : Cluster) (who : Actor) (place : ℕ) (m : Machine) → IsCluster g → IsMachine g.nodes who → place ≡ place_in g.machines who → m ≡ slice_index_or g.machines place m → IsPart g.nodes g.made m
-is_part g who place m is there same value = part_at g.nodes g.made g.machines who m is.parts (stands_at g who place m is there same value)
+pub is_part : (g : Cluster) (who : Actor) (place : ℕ) (m : Machine) → IsCluster g → IsMachine g.nodes who → place ≡ place_in g.machines who → m ≡ slice_index_or g.machines place m → IsPart g.nodes g.first g.origins m
+is_part g who place m is there same value = part_at g.nodes g.first g.origins g.machines who m is.parts (stands_at g who place m is there same value)
 
 pub steps : (g : Cluster) (who : Actor) (place : ℕ) (m v : Machine) → IsCluster g → IsMachine g.nodes who → place ≡ place_in g.machines who → m ≡ slice_index_or g.machines place m → name_of v ≡ name_of m
-    → ((nodes : ℕ) (made : GlobalState) → IsPart nodes made m → IsPart nodes made v) → IsStep g who m v (slice_set g.machines place v)
+    → ((nodes : ℕ) (made : GlobalState) (origins : Origins) → IsPart nodes made origins m → IsPart nodes made origins v) → IsStep g who m v (slice_set g.machines place v)
 steps g who place m v is there same value name part = subst (λ (n : ℕ). IsStep g who m v (slice_set g.machines n v)) (sym same) (record {
   is = is;
   there = there;
@@ -64,7 +64,10 @@ steps g who place m v is there same value name part = subst (λ (n : ℕ). IsSte
     few = is.few;
     allowed = is.allowed;
     index = is.index;
-    parts = parts_put g.nodes g.made g.machines (place_in g.machines who) v is.parts (part g.nodes g.made (part_at g.nodes g.made g.machines who m is.parts at));
+    first_allowed = is.first_allowed;
+    first_index = is.first_index;
+    devices = is.devices;
+    parts = parts_put g.nodes g.first g.origins g.machines (place_in g.machines who) v is.parts (part g.nodes g.first g.origins (part_at g.nodes g.first g.origins g.machines who m is.parts at));
     all = λ other machine. each_machine g.machines (slice_set g.machines (place_in g.machines who) v) who m v at here beside (λ o n. IsSome o → IsSome n) (λ some. refl) (λ o some. some) other (is.all other machine);
   };
 })
@@ -84,7 +87,7 @@ steps g who place m v is there same value name part = subst (λ (n : ℕ). IsSte
 -- ---- what is known and out
 
 pub knows_it : (g : Cluster) (who : Actor) (m : Machine) → machine_at g.machines who ≡ Some m → (course_of m).known ≡ knows g who
-knows_it g who m at = ap (λ (o : Option Machine). (course_in g.made o).known) (sym at)
+knows_it g who m at = ap (λ (o : Option Machine). (course_in g.first o).known) (sym at)
 
 pub busy_is : (g : Cluster) (who : Actor) (m : Machine) → machine_at g.machines who ≡ Some m → IsOut m → is_busy g who
 busy_is g who m at out = subst (λ (o : Option Machine). IsSomeAnd o IsOut) (sym at) out
@@ -98,14 +101,14 @@ not_out (Some a) e is = absurd cc
 
 pub known_stays : (g : Cluster) (who : Actor) (m v : Machine) (ms : List Machine) → IsStep g who m v ms → (course_of v).known ≡ (course_of m).known → (other : Actor) → knows (with_machines g ms) other ≡ knows g other
 known_stays g who m v ms step same other =
-    each_machine g.machines ms who m v step.at step.here step.beside (λ o n. (course_in g.made n).known ≡ (course_in g.made o).known) same (λ o. refl) other
+    each_machine g.machines ms who m v step.at step.here step.beside (λ o n. (course_in g.first n).known ≡ (course_in g.first o).known) same (λ o. refl) other
 
 pub known_rises : (g : Cluster) (who : Actor) (m v : Machine) (ms : List Machine) → IsStep g who m v ms → (course_of m).known.index ≤ (course_of v).known.index → (other : Actor) → (knows g other).index ≤ (knows (with_machines g ms) other).index
 known_rises g who m v ms step up other =
-    each_machine g.machines ms who m v step.at step.here step.beside (λ o n. (course_in g.made o).known.index ≤ (course_in g.made n).known.index) up (λ o. omega arith) other
+    each_machine g.machines ms who m v step.at step.here step.beside (λ o n. (course_in g.first o).known.index ≤ (course_in g.first n).known.index) up (λ o. omega arith) other
 
 pub known_only : (g : Cluster) (who : Actor) (m v : Machine) (ms : List Machine) → IsStep g who m v ms → OnlyAt who (knows g) (knows (with_machines g ms))
-known_only g who m v ms step = known_at g.machines ms who m v step.at step.here step.beside g.made
+known_only g who m v ms step = known_at g.machines ms who m v step.at step.here step.beside g.first
 
 pub busy_only : (g : Cluster) (who : Actor) (m v : Machine) (ms : List Machine) → IsStep g who m v ms → OnlyFactsAt who (is_busy g) (is_busy (with_machines g ms))
 busy_only g who m v ms step = busy_at g.machines ms who m v step.at step.here step.beside
@@ -124,14 +127,17 @@ same_voters g who m v ms y past step course fits = record {
   first = fits.first;
   letters = fits.letters;
   images = fits.images;
+  was = fits.was;
+  begun = fits.begun;
+  shown = fits.shown;
   proposing = λ me. subst (IsProposing fits.history me) (sym (same (named me))) (fits.proposing me);
-  courses = λ me. subst (IsCourse (length g.made.devices)) (sym (same (named me))) (fits.courses me);
+  courses = λ me. subst (IsCourse (length g.first.devices)) (sym (same (named me))) (fits.courses me);
   boots = λ a there. subst (λ (c : Course). c.boot ≤ past.boots a) (sym (same (named (number_of a)))) (fits.boots a there);
   allowed = fits.allowed;
 }
   where
     same : (other : Actor) → course_at (with_machines g ms) other ≡ course_at g other
-    same other = each_machine g.machines ms who m v step.at step.here step.beside (λ o n. course_in g.made n ≡ course_in g.made o) course (λ o. refl) other
+    same other = each_machine g.machines ms who m v step.at step.here step.beside (λ o n. course_in g.first n ≡ course_in g.first o) course (λ o. refl) other
 
 same_disks : (who : Actor) (x : Disks) → OnlyDiskOf who x x
 same_disks who x = record { others = λ d s apart. record { reads = refl; held = refl; unsure = refl } }
@@ -158,11 +164,11 @@ crash_keeps g who m v ms x past step course none has place keeps =
     (crashed (voters_of g) x past who (voters_of (with_machines g ms)).courses keeps.fits turned)
   where
     was : (voters_of g).courses (number_of who) ≡ course_of m
-    was = ap (λ (a : Actor). course_in g.made (machine_at g.machines a)) (named_number g.nodes who step.is.few step.there) ∙ ap (course_in g.made) step.at
+    was = ap (λ (a : Actor). course_in g.first (machine_at g.machines a)) (named_number g.nodes who step.is.few step.there) ∙ ap (course_in g.first) step.at
 
     turned : Turned (number_of who) (stopped ((voters_of g).courses (number_of who))) (voters_of g).courses (voters_of (with_machines g ms)).courses
     turned = subst (λ (c : Course). Turned (number_of who) c (voters_of g).courses (voters_of (with_machines g ms)).courses) (course ∙ ap stopped (sym was))
-        (turned_at g.made g.machines ms g.nodes who v step.is.few step.there step.here step.beside)
+        (turned_at g.first g.machines ms g.nodes who v step.is.few step.there step.here step.beside)
 
 -- it took what comes
 pub takes_keeps : (g : Cluster) (who : Actor) (m v : Machine) (ms : List Machine) (x y : Disks) (past : RegisterPast) (out after : List Letter) → IsStep g who m v ms → OnlyDiskOf who x y → past.down who ≡ false → Keeps g x (register_with past out)
@@ -199,7 +205,7 @@ start_fails g who m v ms x y past boot out step only keeps none course place fit
 
 pub is_there : (g : Cluster) (who : Actor) (m : Machine) → IsCluster g → machine_at g.machines who ≡ Some m → IsMachine g.nodes who
 is_there g who m is at =
-    let part = part_at g.nodes g.made g.machines who m is.parts at in
+    let part = part_at g.nodes g.first g.origins g.machines who m is.parts at in
     subst (IsMachine g.nodes) (name_at g.machines who m at) (subst (λ (n : ℕ). IsMachine n (name_of m)) part.nodes_are (proposer_is m part.whole).machine)
 
 pub nobody_busy : (g : Cluster) (who : Actor) → IsCluster g → (IsMachine g.nodes who → ⊥) → is_busy g who → ⊥
@@ -218,6 +224,9 @@ nobody_keeps g who x past is nobody keeps = record {
     first = keeps.fits.first;
     letters = keeps.fits.letters;
     images = keeps.fits.images;
+    was = keeps.fits.was;
+    begun = keeps.fits.begun;
+    shown = keeps.fits.shown;
     proposing = keeps.fits.proposing;
     courses = keeps.fits.courses;
     boots = keeps.fits.boots;

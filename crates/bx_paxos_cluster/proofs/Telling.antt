@@ -1,12 +1,12 @@
 -- Laws of a register and the past that it keeps.
-use Rattle.std.proofs.Common.{◌≡◌, ℕ, ◌<◌, ◌≤◌, inl, inr, Bool, true, false, List, Option, Some, None, refl, sym, ap, subst, ◌∙◌, arith}
+use Rattle.std.proofs.Common.{◌≡◌, ℕ, ◌<◌, ◌≤◌, inl, inr, Bool, true, false, List, length, Option, Some, None, refl, sym, ap, subst, ◌∙◌, arith}
 use Rattle.std.specs.Prelude.{nat_lt, if◌then◌else◌, slice_index}
 use Rattle.std.proofs.lemmas.Bool.Decides.{nat_tests}
 use Rattle.bx_base.specs.declared.names.Actor.{Actor}
 use Rattle.bx_base.specs.declared.names.Actor.TheVariants.{Replica}
 use Rattle.bx_disk.specs.Disks.{Disks, Image, IsImage}
 use Rattle.bx_facts.specs.Chains.{Chain, IsNext, IsPlace, last}
-use Rattle.bx_facts.specs.Disks.{Crashes, HasRoom, SameReplicas}
+use Rattle.bx_facts.specs.Disks.{Crashes, HasRoom, SameLabels, SameReplicas}
 use Rattle.bx_facts.specs.Inputs.{AreAmong, IsRegisters}
 use Rattle.bx_facts.specs.Machines.{IsMachine}
 use Rattle.bx_facts.specs.Pasts.{RegisterPast}
@@ -15,7 +15,7 @@ use Rattle.bx_global.specs.declared.state.GlobalState.{GlobalState}
 use Rattle.bx_paxos.proofs.Events.{is_place, loses, other_disks, survives}
 use Rattle.bx_paxos.proofs.Reading.{reads}
 use Rattle.bx_paxos.proofs.Starts.{first_place}
-use Rattle.bx_paxos.specs.Reading.{ReadsState}
+use Rattle.bx_paxos.specs.Reading.{AreSeen, ReadsState}
 use Rattle.bx_post.specs.declared.packets.Letter.{Letter}
 use Rattle.bx_proposer.specs.Names.{number_of}
 use Rattle.bx_proposer.specs.declared.course.Course.{Course}
@@ -30,25 +30,29 @@ use Rattle.bx_paxos_cluster.proofs.Voting.{named_number, proposer_is}
 pub places_at : (g : Cluster) (x : Disks) (past : RegisterPast) (who : Actor) → Keeps g x past → IsCluster g → IsPlace past.chain (knows g who)
 places_at g x past who keeps is = by (machine_at g.machines who) refl
   where
-    by : (o : Option Machine) → machine_at g.machines who ≡ o → IsPlace past.chain (course_in g.made o).known
+    by : (o : Option Machine) → machine_at g.machines who ≡ o → IsPlace past.chain (course_in g.first o).known
     by None at = first_place (voters_of g) x past keeps.fits
     by (Some m) at =
-        let part = part_at g.nodes g.made g.machines who m is.parts at in
+        let part = part_at g.nodes g.first g.origins g.machines who m is.parts at in
         let p = proposer_is m part.whole in
         let there : IsMachine g.nodes who = subst (IsMachine g.nodes) (name_at g.machines who m at) (subst (λ (n : ℕ). IsMachine n (name_of m)) part.nodes_are p.machine) in
-        let course : (voters_of g).courses (number_of who) ≡ course_of m = ap (λ (a : Actor). course_in g.made (machine_at g.machines a)) (named_number g.nodes who is.few there) ∙ ap (course_in g.made) at in
+        let course : (voters_of g).courses (number_of who) ≡ course_of m = ap (λ (a : Actor). course_in g.first (machine_at g.machines a)) (named_number g.nodes who is.few there) ∙ ap (course_in g.first) at in
         subst (λ (c : Course). IsPlace past.chain c.known) course (is_place (voters_of g) x past (number_of who) keeps.fits)
 
 pub first_allowed : (g : Cluster) (x : Disks) (past : RegisterPast) → Keeps g x past → IsAllowed past.chain.first
 first_allowed g x past keeps = subst (λ (c : Chain). IsAllowed c.first) keeps.fits.chain (subst IsAllowed (sym keeps.fits.first) keeps.fits.allowed)
 
-pub reads_on : (g : Cluster) (x : Disks) (past : RegisterPast) (image : Image) (s : GlobalState) → Keeps g x past → IsImage x image → ReadsState g.made image s → IsNext past.proposed (last past.chain) s
-reads_on g x past image s keeps is read = reads (voters_of g) x past image s keeps.fits (λ n low. refl) (record { sure = is.sure }) read
+-- what an image is read as goes by the number of devices alone
+pub read_alike : (one other : GlobalState) (image : Image) (s : GlobalState) → length one.devices ≡ length other.devices → ReadsState one image s → ReadsState other image s
+read_alike one other image s same read = record { seen = read.seen; are = subst (λ (n : ℕ). AreSeen n image read.seen) same read.are; tells = read.tells }
 
-pub elsewhere_keeps : (g : Cluster) (x y : Disks) (past : RegisterPast) → IsCluster g → Keeps g x past → SameReplicas x y → Keeps g y past
-elsewhere_keeps g x y past is keeps same = record {
-  fits = other_disks (voters_of g) x y past keeps.fits same;
-  cells = λ who m at. has_kept x y m (part_at g.nodes g.made g.machines who m is.parts at).whole (λ n s named low behind. same.each n s low behind) (keeps.cells who m at);
+pub reads_on : (g : Cluster) (x : Disks) (past : RegisterPast) (image : Image) (s : GlobalState) → IsCluster g → Keeps g x past → IsImage x image → ReadsState g.made image s → IsNext past.proposed (last past.chain) s
+reads_on g x past image s cluster keeps is read = reads (voters_of g) x past image s keeps.fits (record { sure = is.sure }) (read_alike g.made g.first image s (sym cluster.devices) read)
+
+pub elsewhere_keeps : (g : Cluster) (x y : Disks) (past : RegisterPast) → IsCluster g → Keeps g x past → SameReplicas x y → SameLabels x y → Keeps g y past
+elsewhere_keeps g x y past is keeps same labels = record {
+  fits = other_disks (voters_of g) x y past keeps.fits same labels;
+  cells = λ who m at. has_kept x y m (part_at g.nodes g.first g.origins g.machines who m is.parts at).whole (λ n s named low behind. same.each n s low behind) (keeps.cells who m at);
   places = keeps.places;
   down = keeps.down;
 }
@@ -58,7 +62,7 @@ crash_survives g x y past n is keeps down crash = record {
   fits = survives (voters_of g) x y past n keeps.fits crash;
   cells = λ who m at. elim (tells who (Replica n)) [
     | inl same ↦ none_has y m (keeps.down who m at (subst (λ (a : Actor). past.down a ≡ true) (sym same) down))
-    | inr apart ↦ has_kept x y m (part_at g.nodes g.made g.machines who m is.parts at).whole
+    | inr apart ↦ has_kept x y m (part_at g.nodes g.first g.origins g.machines who m is.parts at).whole
         (λ d s named low behind. stays_kept x y d s (crash.others d s (λ e. apart (sym (name_at g.machines who m at) ∙ named ∙ ap Replica e)))) (keeps.cells who m at)
   ];
   places = keeps.places;

@@ -60,10 +60,10 @@ proposer_is (Other p) whole = whole
 
 -- a part is one of the voters
 pub part_of : (g : Cluster) (who : Actor) (m : Machine) → IsCluster g → machine_at g.machines who ≡ Some m → IsOf (voters_of g) m
-part_of g who m is at = by m (part_at g.nodes g.made g.machines who m is.parts at) course
+part_of g who m is at = by m (part_at g.nodes g.first g.origins g.machines who m is.parts at) course
   where
-    part : IsPart g.nodes g.made m
-    part = part_at g.nodes g.made g.machines who m is.parts at
+    part : IsPart g.nodes g.first g.origins m
+    part = part_at g.nodes g.first g.origins g.machines who m is.parts at
 
     p : IsProposer (proposer_of m)
     p = proposer_is m part.whole
@@ -75,9 +75,9 @@ part_of g who m is at = by m (part_at g.nodes g.made g.machines who m is.parts a
     number = p.actor ∙ ap number_of (name_at g.machines who m at)
 
     course : course_at g (named (proposer_of m).actor) ≡ course_of m
-    course = ap (λ (n : ℕ). course_at g (named n)) number ∙ ap (course_at g) (named_number g.nodes who is.few there) ∙ ap (course_in g.made) at
+    course = ap (λ (n : ℕ). course_at g (named n)) number ∙ ap (course_at g) (named_number g.nodes who is.few there) ∙ ap (course_in g.first) at
 
-    by : (k : Machine) → IsPart g.nodes g.made k → course_at g (named (proposer_of k).actor) ≡ course_of k → IsOf (voters_of g) k
+    by : (k : Machine) → IsPart g.nodes g.first g.origins k → course_at g (named (proposer_of k).actor) ≡ course_of k → IsOf (voters_of g) k
     by (IsReplica r) this goes = record { first = sym this.first ∙ this.whole.first; origin = sym this.origin; course = goes }
     by (Other q) this goes = (sym this.first, goes)
 
@@ -85,6 +85,6 @@ part_of g who m is at = by m (part_at g.nodes g.made g.machines who m is.parts a
 pub turned_part : (g : Cluster) (ms : List Machine) (who : Actor) (m v : Machine) → IsCluster g → IsMachine g.nodes who → machine_at g.machines who ≡ Some m → machine_at ms who ≡ Some v → ((other : Actor) → other ≢ who → machine_at ms other ≡ machine_at g.machines other)
     → Turned (proposer_of m).actor (course_of v) (voters_of g).courses (voters_of (record g { machines = ms })).courses
 turned_part g ms who m v is there at here beside =
-    let p = proposer_is m (part_at g.nodes g.made g.machines who m is.parts at).whole in
+    let p = proposer_is m (part_at g.nodes g.first g.origins g.machines who m is.parts at).whole in
     subst (λ (n : ℕ). Turned n (course_of v) (voters_of g).courses (voters_of (record g { machines = ms })).courses) (sym (p.actor ∙ ap number_of (name_at g.machines who m at)))
-    (turned_at g.made g.machines ms g.nodes who v is.few there here beside)
+    (turned_at g.first g.machines ms g.nodes who v is.few there here beside)

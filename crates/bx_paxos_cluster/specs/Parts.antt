@@ -1,7 +1,6 @@
 -- The machines of a register: what each has, and what is said of it among voters and over disks.
 use Rattle.std.specs.Prelude.{◌≡◌, ℕ, ◌+◌, ◌≤◌, List, [], ◌∷◌, Option, Some, None, IfSome, IsSome, if◌then◌else◌, slice_index}
 use Rattle.bx_acceptor.specs.Standing.{HasCell, Standing as Acceptor}
-use Rattle.bx_acceptor.specs.declared.origin.Origin.TheVariants.{Made}
 use Rattle.bx_base.specs.declared.names.Actor.{Actor}
 use Rattle.bx_cell.specs.Cells.{Known}
 use Rattle.bx_cell.specs.Images.{EachSure}
@@ -14,6 +13,8 @@ use Rattle.bx_paxos.specs.Machines.{AreHalves, AreOf}
 use Rattle.bx_places.specs.Places.{replica_sectors}
 use Rattle.bx_proposer.specs.Standing.{IsStanding as IsProposer, Standing as Proposer, started}
 use Rattle.bx_proposer.specs.declared.course.Course.{Course}
+use Rattle.bx_paxos_found.specs.Origins.{origin_in}
+use Rattle.bx_paxos_found.specs.declared.origins.Origins.{Origins}
 use Rattle.bx_paxos_cluster.specs.declared.machine.Machine.{Machine}
 use Rattle.bx_paxos_cluster.specs.declared.machine.Machine.TheVariants.{Replica, Other}
 
@@ -53,12 +54,12 @@ abbrev pub IsWhole : Machine → Type 0
 IsWhole (Replica r) = AreHalves r.acceptor r.proposer
 IsWhole (Other p) = IsProposer p
 
--- The machine of a cluster of so many nodes that began with this state.
-pub record IsPart (nodes : ℕ) (made : GlobalState) (m : Machine) : Type 0 where
+-- The machine of a cluster of so many nodes that began with this state, and with cells that came to be so.
+pub record IsPart (nodes : ℕ) (made : GlobalState) (origins : Origins) (m : Machine) : Type 0 where
   pub whole : IsWhole m
   pub nodes_are : (proposer_of m).nodes ≡ nodes
   pub first : (proposer_of m).first ≡ made
-  pub origin : IfSome (acceptor_of m) (λ a. a.origin ≡ Made)
+  pub origin : IfSome (acceptor_of m) (λ a. a.origin ≡ origin_in origins a.replica)
 
 -- It is one of these voters.
 abbrev pub IsOf : Voters → Machine → Type 0
@@ -94,6 +95,6 @@ course_in made None = started 0 0 made
 course_in made (Some m) = course_of m
 
 -- each machine of a list is such a part
-abbrev pub AreParts : ℕ → GlobalState → List Machine → Type 0
-AreParts nodes made [] = Unit {0}
-AreParts nodes made (m ∷ ms) = IsPart nodes made m × AreParts nodes made ms
+abbrev pub AreParts : ℕ → GlobalState → Origins → List Machine → Type 0
+AreParts nodes made origins [] = Unit {0}
+AreParts nodes made origins (m ∷ ms) = IsPart nodes made origins m × AreParts nodes made origins ms

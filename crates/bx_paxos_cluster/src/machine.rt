@@ -16,6 +16,8 @@ ghost use Rattle.bx_global.specs.Table.{IsLegal};
 ghost use Rattle.bx_global.specs.Allowed.{IsAllowed};
 ghost use Rattle.bx_paxos.specs.Fits.{Fits, Turned, Voters, going};
 ghost use Rattle.bx_paxos.specs.Reading.{AreMade, ReadsState};
+ghost use Rattle.bx_paxos_found.specs.Origins.{origin_in};
+ghost use Rattle.bx_paxos_found.specs.declared.origins.Origins.{Origins};
 ghost use Rattle.bx_proposer.specs.Standing.{LeadsOn, stopped};
 ghost use Rattle.bx_proposer.specs.declared.course.Course.{Course};
 ghost use Rattle.bx_paxos_cluster.specs.Beginning.{HasFirst, IsBegun, IsCalm, IsNew};
@@ -70,7 +72,7 @@ impl Machine {
         ensures out { OnOk result (IsOut self.new) }
         ensures known { (course_of self.new).known ≡ (course_of self.old).known }
         ensures sent { OnOk result (SendsOnly IsRegisters out.old out.new) }
-        ensures part { (nodes : ℕ) (made : GlobalState) → IsPart nodes made self.old → IsPart nodes made self.new }
+        ensures part { (nodes : ℕ) (made : GlobalState) (origins : Origins) → IsPart nodes made origins self.old → IsPart nodes made origins self.new }
         ensures name { name_of self.new ≡ name_of self.old }
         ensures acceptor { acceptor_of self.new ≡ acceptor_of self.old }
     {
@@ -94,7 +96,7 @@ impl Machine {
             → OnOk result (Turned (proposer_of self.old).actor (course_of self.new) v.courses courses → Decides (Fits (going v courses) (R.state rack.new)) (register_with past out.new)) }
         ensures keeps_faulted { (v : Voters) (past : RegisterPast) → R.tells rack.old → IsOf v self.old → HasCells self.old (R.state rack.old)
             → IsComing (past.letters ++ out.old) input.now → Fits v (R.state rack.old) (register_with past out.old) → IsErrOf result DiskFails → Fits v (R.state rack.new) (register_with past out.old) }
-        ensures any_moment { (v : Voters) (past : RegisterPast) → R.tells rack.old → IsOf v self.old → AreMade v.origins → HasCells self.old (R.state rack.old)
+        ensures any_moment { (v : Voters) (past : RegisterPast) → R.tells rack.old → IsOf v self.old → HasCells self.old (R.state rack.old)
             → IsComing (past.letters ++ out.old) input.now → Fits v (R.state rack.old) (register_with past out.old)
             → LeavesOnly (R.moment rack.old) (R.moment rack.new) (R.left_since rack.old) (R.left_since rack.new) (ReadsOnly (ReadsState v.first) (R.state rack.old) (IsNext past.proposed (last past.chain))) }
         ensures places { (v : Voters) (past : RegisterPast) → R.tells rack.old → IsOf v self.old → HasCells self.old (R.state rack.old) → KnowsPlace past.chain self.old
@@ -105,7 +107,7 @@ impl Machine {
         ensures rises { (course_of self.old).known.index ≤ (course_of self.new).known.index }
         ensures down { cell_of self.old ≡ None → cell_of self.new ≡ None }
         ensures sent { OnOk result (SendsOnly IsRegisters out.old out.new) }
-        ensures part { (nodes : ℕ) (made : GlobalState) → IsPart nodes made self.old → IsPart nodes made self.new }
+        ensures part { (nodes : ℕ) (made : GlobalState) (origins : Origins) → IsPart nodes made origins self.old → IsPart nodes made origins self.new }
         ensures name { name_of self.new ≡ name_of self.old }
         ensures disks { R.tells rack.old → OnlyDiskOf (name_of self.old) (R.state rack.old) (R.state rack.new) }
         ensures members { R.tells rack.old → SameMembers (R.state rack.old) (R.state rack.new) × SameLabels (R.state rack.old) (R.state rack.new) }
@@ -126,7 +128,7 @@ impl Machine {
         ensures course { course_of self.new ≡ stopped (course_of self.old) }
         ensures down { cell_of self.new ≡ None }
         ensures places { (past : RegisterPast) → KnowsPlace past.chain self.old → KnowsPlace past.chain self.new }
-        ensures part { (nodes : ℕ) (made : GlobalState) → IsPart nodes made self.old → IsPart nodes made self.new }
+        ensures part { (nodes : ℕ) (made : GlobalState) (origins : Origins) → IsPart nodes made origins self.old → IsPart nodes made origins self.new }
         ensures name { name_of self.new ≡ name_of self.old }
     {
         match self {
@@ -149,7 +151,7 @@ impl Machine {
             → OnOk result (Turned (proposer_of self.old).actor (course_of self.new) v.courses courses → Fits (going v courses) (R.state rack.new) (register_with (register_restarted past (name_of self.old) boot) out.new)) }
         ensures keeps_faulted { (v : Voters) (past : RegisterPast) → R.tells rack.old → past.boots (name_of self.old) < boot → Fits v (R.state rack.old) (register_with past out.old)
             → IsErrOf result DiskFails → Fits v (R.state rack.new) (register_with (register_failed past (name_of self.old) boot) out.old) }
-        ensures any_moment { (v : Voters) (past : RegisterPast) → R.tells rack.old → AreMade v.origins → Fits v (R.state rack.old) (register_with past out.old)
+        ensures any_moment { (v : Voters) (past : RegisterPast) → R.tells rack.old → Fits v (R.state rack.old) (register_with past out.old)
             → LeavesOnly (R.moment rack.old) (R.moment rack.new) (R.left_since rack.old) (R.left_since rack.new) (ReadsOnly (ReadsState v.first) (R.state rack.old) (IsNext past.proposed (last past.chain))) }
         ensures places { (v : Voters) (past : RegisterPast) → R.tells rack.old → IsOf v self.old → Fits v (R.state rack.old) (register_with past out.old) → OnOk result (KnowsPlace past.chain self.new) }
         ensures cells { R.tells rack.old → OnOk result (HasCells self.new (R.state rack.new)) }
@@ -157,7 +159,7 @@ impl Machine {
         ensures places_faulted { (past : RegisterPast) → IsErrOf result DiskFails → KnowsPlace past.chain self.old → KnowsPlace past.chain self.new }
         ensures idle { OnOk result (IsOut self.new → ⊥) }
         ensures sent { OnOk result (SendsOnly IsRegisters out.old out.new) }
-        ensures part { (nodes : ℕ) (made : GlobalState) → IsPart nodes made self.old → IsPart nodes made self.new }
+        ensures part { (nodes : ℕ) (made : GlobalState) (origins : Origins) → IsPart nodes made origins self.old → IsPart nodes made origins self.new }
         ensures name { name_of self.new ≡ name_of self.old }
         ensures disks { R.tells rack.old → OnlyDiskOf (name_of self.old) (R.state rack.old) (R.state rack.new) }
         ensures members { R.tells rack.old → SameMembers (R.state rack.old) (R.state rack.new) × SameLabels (R.state rack.old) (R.state rack.new) }
@@ -176,8 +178,8 @@ impl Machine {
     pub(crate) fn begin<R: Rack>(&mut self, rack: &mut R) -> Result<(), FactError>
         requires whole { IsWhole self.old }
         requires room { HasDisk (R.state rack.old).sizes self.old }
-        ensures begun { (nodes : ℕ) (made : GlobalState) → R.tells rack.old → IsPart nodes made self.old → IsNew made self.old → HasFirst made (R.state rack.old).reads → OnOk result (IsBegun made (R.state rack.new) self.new) }
-        ensures part { (nodes : ℕ) (made : GlobalState) → IsPart nodes made self.old → IsPart nodes made self.new }
+        ensures begun { (nodes : ℕ) (made : GlobalState) (origins : Origins) → R.tells rack.old → IsPart nodes made origins self.old → AreMade (origin_in origins) → IsNew made self.old → HasFirst made (R.state rack.old).reads → OnOk result (IsBegun made (R.state rack.new) self.new) }
+        ensures part { (nodes : ℕ) (made : GlobalState) (origins : Origins) → IsPart nodes made origins self.old → IsPart nodes made origins self.new }
         ensures name { name_of self.new ≡ name_of self.old }
         ensures course { course_of self.new ≡ course_of self.old }
         ensures calm { R.tells rack.old → IsCalm (R.state rack.old) (R.state rack.new) }

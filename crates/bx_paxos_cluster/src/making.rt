@@ -8,18 +8,20 @@ ghost use Rattle.bx_facts.specs.Disks.{SameLabels, SameMembers};
 ghost use Rattle.bx_facts.specs.Machines.{IsMachine};
 ghost use Rattle.bx_facts.specs.declared.input.FactError.TheVariants.{Disk as DiskFails};
 ghost use Rattle.bx_global.specs.Allowed.{IsAllowed};
-ghost use Rattle.bx_paxos_cluster.specs.Beginning.{AreBegun, AreIdle, AreNew, HasFirst, IsCalm, IsNew, name_in};
-ghost use Rattle.bx_paxos_cluster.specs.Cluster.{IsCluster};
+ghost use Rattle.bx_paxos.specs.Reading.{AreMade};
+ghost use Rattle.bx_paxos_found.specs.Origins.{origin_in};
+ghost use Rattle.bx_paxos_cluster.specs.Beginning.{AreBegun, AreIdle, AreMachines, AreNew, HasFirst, IsCalm, IsNew, name_in};
 ghost use Rattle.bx_paxos_cluster.specs.Parts.{IsPart, name_of};
 
 use crate::machine::Machine;
-use bx_acceptor::{Acceptor, Origin, first_value};
+use bx_acceptor::{Acceptor, first_value};
 use bx_base::{Actor, OutOfMemory};
 use bx_cell::format_each;
 use bx_disk::Rack;
 use bx_facts::FactError;
 use bx_global::GlobalState;
 use bx_paxos::Replica;
+use bx_paxos_found::Origins;
 use bx_proposer::Proposer;
 use std::alloc::Global;
 
@@ -42,19 +44,25 @@ fn name_at(place: u32) -> Actor
     Actor::Node(place - FIXED)
 }
 
-/// A machine of a cluster of so many nodes that begins with a state.
-fn make(alloc: Global, at: Actor, nodes: u32, state: &GlobalState) -> Result<Machine, OutOfMemory>
+/// A machine of a cluster of so many nodes that begins with a state, and with cells that came to be so.
+fn make(
+    alloc: Global,
+    at: Actor,
+    nodes: u32,
+    state: &GlobalState,
+    origins: &Origins,
+) -> Result<Machine, OutOfMemory>
     requires machine { IsMachine nodes at }
     requires state { IsAllowed state.now }
     requires index { state.now.index + 1 < 2 ^ 64 }
     ensures name { IfOk result (λ m. name_of m ≡ at) }
-    ensures part { IfOk result (IsPart nodes state.now) }
+    ensures part { IfOk result (IsPart nodes state.now origins.now) }
     ensures new { IfOk result (IsNew state.now) }
 {
     let proposer = Proposer::new(alloc, at, nodes, state)?;
     match at {
         Actor::Replica(replica) => {
-            let acceptor = Acceptor::new(alloc, replica, state, Origin::Made)?;
+            let acceptor = Acceptor::new(alloc, replica, state, origins.of(replica))?;
             Ok(Machine::Replica(Replica { acceptor, proposer }))
         }
         Actor::Node(_) | Actor::Server(_) | Actor::Member(_) => Ok(Machine::Other(proposer)),
@@ -69,21 +77,22 @@ fn put_last(all: &mut Vec<Machine>, machine: Machine) -> Result<(), OutOfMemory>
     Ok(())
 }
 
-/// All machines of a cluster of so many nodes that begins with a state.
+/// All machines of a cluster of so many nodes that begins with a state, and with cells that came to be so.
 pub(crate) fn make_all(
     alloc: Global,
     nodes: u32,
     state: &GlobalState,
+    origins: &Origins,
 ) -> Result<Vec<Machine>, OutOfMemory>
     requires few { nodes ≤ 16 }
     requires state { IsAllowed state.now }
     requires index { state.now.index + 1 < 2 ^ 64 }
-    ensures cluster { IfOk result (λ all. IsCluster (record { nodes = nodes; made = state.now; machines = all.items })) }
+    ensures machines { IfOk result (λ all. AreMachines nodes state.now origins.now all.items) }
     ensures new { IfOk result (λ all. AreNew state.now all.items) }
 {
     let mut all = Vec::new(alloc);
     for place in 0..FIXED + nodes {
-        let machine = make(alloc, name_at(place), nodes, state)?;
+        let machine = make(alloc, name_at(place), nodes, state, origins)?;
         put_last(&mut all, machine)?;
     }
     Ok(all)
@@ -95,12 +104,14 @@ pub(crate) fn begin_all<R: Rack>(
     rack: &mut R,
     nodes: u32,
     state: &GlobalState,
+    origins: &Origins,
 ) -> Result<Vec<Machine>, FactError>
     requires few { nodes ≤ 16 }
     requires state { IsAllowed state.now }
+    requires made { AreMade (origin_in origins.now) }
     requires index { state.now.index + 1 < 2 ^ 64 }
     requires room { (n : ℕ) → n < 3 → 21 ≤ slice_index (R.state rack.old).sizes n }
-    ensures cluster { IfOk result (λ all. IsCluster (record { nodes = nodes; made = state.now; machines = all.items })) }
+    ensures machines { IfOk result (λ all. AreMachines nodes state.now origins.now all.items) }
     ensures begun { R.tells rack.old → HasFirst state.now (R.state rack.old).reads → IfOk result (λ all. AreBegun state.now (R.state rack.new) all.items) }
     ensures courses { IfOk result (λ all. AreIdle state.now all.items) }
     ensures calm { R.tells rack.old → IsCalm (R.state rack.old) (R.state rack.new) }
@@ -111,7 +122,7 @@ pub(crate) fn begin_all<R: Rack>(
 {
     let mut all = Vec::new(alloc);
     for place in 0..FIXED + nodes {
-        let mut machine = make(alloc, name_at(place), nodes, state)?;
+        let mut machine = make(alloc, name_at(place), nodes, state, origins)?;
         machine.begin(rack)?;
         put_last(&mut all, machine)?;
     }
@@ -124,12 +135,14 @@ pub(crate) fn begin_anew<R: Rack>(
     rack: &mut R,
     nodes: u32,
     state: &GlobalState,
+    origins: &Origins,
 ) -> Result<Vec<Machine>, FactError>
     requires few { nodes ≤ 16 }
     requires state { IsAllowed state.now }
+    requires made { AreMade (origin_in origins.now) }
     requires index { state.now.index + 1 < 2 ^ 64 }
     requires room { (n : ℕ) → n < 3 → 21 ≤ slice_index (R.state rack.old).sizes n }
-    ensures cluster { IfOk result (λ all. IsCluster (record { nodes = nodes; made = state.now; machines = all.items })) }
+    ensures machines { IfOk result (λ all. AreMachines nodes state.now origins.now all.items) }
     ensures begun { R.tells rack.old → IfOk result (λ all. AreBegun state.now (R.state rack.new) all.items) }
     ensures courses { IfOk result (λ all. AreIdle state.now all.items) }
     ensures cells { R.tells rack.old → OnOk result (EachSure (R.state rack.new) (HasFirst state.now)) }
@@ -141,5 +154,5 @@ pub(crate) fn begin_anew<R: Rack>(
 {
     let value = first_value(alloc, state)?;
     format_each(rack, 3, 1, value.bytes())?;
-    begin_all(alloc, rack, nodes, state)
+    begin_all(alloc, rack, nodes, state, origins)
 }

@@ -18,6 +18,7 @@ ghost use Rattle.bx_global.specs.Allowed.{IsAllowed};
 ghost use Rattle.bx_global.specs.Table.{IsLegal};
 ghost use Rattle.bx_paxos.specs.Reading.{ReadsState};
 ghost use Rattle.bx_places.specs.Places.{replica_sectors};
+ghost use Rattle.bx_paxos_cluster.specs.Beginning.{AreNew};
 ghost use Rattle.bx_paxos_cluster.specs.Cluster.{is_busy, knows, needs};
 ghost use Rattle.bx_paxos_cluster.specs.Keeps.{Keeps};
 
@@ -28,6 +29,7 @@ use bx_base::{Actor, OutOfMemory};
 use bx_disk::Rack;
 use bx_facts::{FactError, Input, Outbox, ProposeError};
 use bx_global::{Change, GlobalState};
+use bx_paxos_found::Origins;
 use std::alloc::Global;
 use std::marker::Model;
 
@@ -37,6 +39,8 @@ pub struct Paxos {
     pub(crate) alloc: Global,
     pub(crate) nodes: u32,
     pub(crate) made: GlobalState,
+    pub(crate) first: GlobalState,
+    pub(crate) origins: Origins,
     pub(crate) machines: Vec<Machine>,
 }
 
@@ -45,9 +49,9 @@ impl Model for Paxos {
 
     ghost Value = { Cluster };
 
-    ghost view = { λ p. record { nodes = p.nodes; made = p.made; machines = p.machines.items } };
+    ghost view = { λ p. record { nodes = p.nodes; made = p.made; first = p.first; origins = p.origins; machines = p.machines.items } };
 
-    ghost invariant = { λ p. IsCluster (record { nodes = p.nodes; made = p.made; machines = p.machines.items }) };
+    ghost invariant = { λ p. IsCluster (record { nodes = p.nodes; made = p.made; first = p.first; origins = p.origins; machines = p.machines.items }) };
 }
 
 impl Paxos {
@@ -61,12 +65,17 @@ impl Paxos {
         ensures knows { IfOk result (λ g. (who : Actor) → knows g who ≡ state) }
         ensures idle { IfOk result (λ g. (who : Actor) → is_busy g who → ⊥) }
         ensures needs { IfOk result (λ g. (disk : ℕ) → needs g disk ≡ 0) }
+        ensures new { IfOk result (λ g. (g.first ≡ state) × AreNew g.first g.machines) }
     {
-        let machines = make_all(alloc, nodes, &state)?;
+        let origins = Origins::made();
+        let first = state.copy(alloc)?;
+        let machines = make_all(alloc, nodes, &first, &origins)?;
         Ok(Paxos {
             alloc,
             nodes,
             made: state,
+            first,
+            origins,
             machines,
         })
     }
@@ -85,7 +94,11 @@ impl Paxos {
         ensures sizes { (R.state rack.new).sizes ≡ (R.state rack.old).sizes }
         ensures keeps_telling { R.tells rack.old → R.tells rack.new }
     {
-        let machines = begin_anew(self.alloc, rack, self.nodes, &self.made)?;
+        let origins = Origins::made();
+        let first = self.made.copy(self.alloc)?;
+        let machines = begin_anew(self.alloc, rack, self.nodes, &first, &origins)?;
+        self.first = first;
+        self.origins = origins;
         self.machines = machines;
         Ok(())
     }

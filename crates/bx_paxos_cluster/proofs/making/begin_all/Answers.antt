@@ -18,13 +18,13 @@ loop-place-preserved r c =
     let up = was.later in
     let on = then.later in
     record {
-      made = subst (λ (ms : List Machine). AreMadeTo c.args.nodes made (c.loop-place.place + 1) ms) (sym c.in_ok-put_last.ensures)
-          (made_more c.args.nodes made c.loop-place.place c.loop-place.all.items v was.made (then.name ∙ did.name ∙ c.name_at.ensures) (then.part c.args.nodes made did.part));
+      made = subst (λ (ms : List Machine). AreMadeTo c.args.nodes made c.args.origins.now (c.loop-place.place + 1) ms) (sym c.in_ok-put_last.ensures)
+          (made_more c.args.nodes made c.args.origins.now c.loop-place.place c.loop-place.all.items v was.made (then.name ∙ did.name ∙ c.name_at.ensures) (then.part c.args.nodes made c.args.origins.now did.part));
       begun = λ tells first.
           let told = was.tells tells in
           subst (λ (ms : List Machine). AreBegun made z ms) (sym c.in_ok-put_last.ensures)
           (begun_push made z c.loop-place.all.items v (calm_begun made y z c.loop-place.all.items (then.calm told) (was.begun tells first))
-          (c.in_ok-begin.ensures.begun c.args.nodes made told did.part did.new (calm_first made x y (was.calm tells) first)));
+          (c.in_ok-begin.ensures.begun c.args.nodes made c.args.origins.now told did.part c.requires.made did.new (calm_first made x y (was.calm tells) first)));
       idle = subst (λ (ms : List Machine). AreIdle made ms) (sym c.in_ok-put_last.ensures) (idle_push made c.loop-place.all.items v was.idle (then.course ∙ did.new.course));
       calm = λ tells. calm_twice x y z (was.calm tells) (then.calm (was.tells tells));
       later = grind arith;
@@ -32,7 +32,7 @@ loop-place-preserved r c =
       tells = λ tells. then.keeps_telling (was.tells tells);
     }
 
-pub returns-clause-cluster : goal.returns-clause-cluster
-returns-clause-cluster r c =
+pub returns-clause-machines : goal.returns-clause-machines
+returns-clause-machines r c =
     let over = c.loop-place-test.false in
-    made_all c.args.nodes c.args.state.now c.loop-place.place c.loop-place.all.items c.requires.few c.requires.state c.requires.index (omega (arith, over)) c.loop-place.invariant.made
+    made_all c.args.nodes c.args.state.now c.args.origins.now c.loop-place.place c.loop-place.all.items (omega (arith, over)) c.loop-place.invariant.made

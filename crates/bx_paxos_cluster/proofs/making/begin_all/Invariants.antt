@@ -6,7 +6,7 @@ use Rattle.bx_paxos_cluster.proofs.making.begin_all.Given as goal
 
 abbrev pub invariant-loop-place : goal.invariant-loop-place
 invariant-loop-place r l = record {
-  made : AreMadeTo l.nodes l.state l.place l.all.items;
+  made : AreMadeTo l.nodes l.state l.origins l.place l.all.items;
   begun : r.R.Rack.tells l.fn.rack → HasFirst l.state (r.R.Rack.state l.fn.rack).reads → AreBegun l.state (r.R.Rack.state l.rack) l.all.items;
   idle : AreIdle l.state l.all.items;
   calm : r.R.Rack.tells l.fn.rack → IsCalm (r.R.Rack.state l.fn.rack) (r.R.Rack.state l.rack);

@@ -10,12 +10,12 @@ loop-place-preserved c =
     let m = c.in_ok-machine.machine in
     let did = c.in_ok-machine.ensures in
     record {
-      made = subst (λ (ms : List Machine). AreMadeTo c.args.nodes made (c.loop-place.place + 1) ms) (sym c.in_ok-put_last.ensures)
-          (made_more c.args.nodes made c.loop-place.place c.loop-place.all.items m c.loop-place.invariant.made (did.name ∙ c.name_at.ensures) did.part);
+      made = subst (λ (ms : List Machine). AreMadeTo c.args.nodes made c.args.origins.now (c.loop-place.place + 1) ms) (sym c.in_ok-put_last.ensures)
+          (made_more c.args.nodes made c.args.origins.now c.loop-place.place c.loop-place.all.items m c.loop-place.invariant.made (did.name ∙ c.name_at.ensures) did.part);
       fresh = subst (λ (ms : List Machine). AreNew made ms) (sym c.in_ok-put_last.ensures) (new_push made c.loop-place.all.items m c.loop-place.invariant.fresh did.new);
     }
 
-pub returns-clause-cluster : goal.returns-clause-cluster
-returns-clause-cluster c =
+pub returns-clause-machines : goal.returns-clause-machines
+returns-clause-machines c =
     let over = c.loop-place-test.false in
-    made_all c.args.nodes c.args.state.now c.loop-place.place c.loop-place.all.items c.requires.few c.requires.state c.requires.index (omega (arith, over)) c.loop-place.invariant.made
+    made_all c.args.nodes c.args.state.now c.args.origins.now c.loop-place.place c.loop-place.all.items (omega (arith, over)) c.loop-place.invariant.made

@@ -9,9 +9,9 @@ use Rattle.bx_acceptor.specs.Starting.{StartsWith}
 use Rattle.bx_paxos_cluster.proofs.machine.Machine.begin.Goals as goal
 
 pub returns-in-Replica-clause-begun : goal.returns-in-Replica-clause-begun
-returns-in-Replica-clause-begun r c = λ nodes made tells part new has.
+returns-in-Replica-clause-begun r c = λ nodes made origins tells part are new has.
     let k = c.in-Replica.replica in
-    let mine = subst (IsPart nodes made) c.in-Replica.is part in
+    let mine = subst (IsPart nodes made origins) c.in-Replica.is part in
     let fresh = subst (IsNew made) c.in-Replica.is new in
     let did = c.restart.ensures in
     let first : k.acceptor.first ≡ made = sym mine.whole.first ∙ mine.first in
@@ -20,7 +20,7 @@ returns-in-Replica-clause-begun r c = λ nodes made tells part new has.
     (λ starts holds again. record {
       course = fresh.course;
       cells = holds;
-      knows = starts_first k.acceptor.replica made k.acceptor.origin ((r.R.Rack.state c.args.rack.now).reads k.acceptor.replica) c.restart.new.self.held c.restart.new.self.cell mine.origin
+      knows = starts_first k.acceptor.replica made k.acceptor.origin ((r.R.Rack.state c.args.rack.now).reads k.acceptor.replica) c.restart.new.self.held c.restart.new.self.cell (mine.origin ∙ are k.acceptor.replica mine.whole.low)
           (subst (λ (s : GlobalState). IsAllowed s) first acceptor.first) (subst (λ (s : GlobalState). s.index + 1 < 2 ^ 64) first acceptor.index) (has.each k.acceptor.replica mine.whole.low)
           (subst (λ (s : GlobalState). StartsWith k.acceptor.replica s k.acceptor.origin ((r.R.Rack.state c.args.rack.now).reads k.acceptor.replica) c.restart.new.self.held c.restart.new.self.cell) first starts);
     })

@@ -8,14 +8,14 @@ use Rattle.bx_paxos_cluster.proofs.Others.{other_starts, quiet_moments, sync_mom
 use Rattle.bx_paxos_cluster.proofs.machine.Machine.restart.Goals as goal
 
 pub returns-in_err-restart-in-Other-clause-any_moment : goal.returns-in_err-restart-in-Other-clause-any_moment
-returns-in_err-restart-in-Other-clause-any_moment g c = λ v past tells made fits.
+returns-in_err-restart-in-Other-clause-any_moment g c = λ v past tells fits.
     let rack = c.args.rack.now in
-    quiet_moments v (g.R.Rack.state rack) past c.args.out.now (g.R.Rack.moment rack) (g.R.Rack.left_since rack) fits made (λ image left. g.met.R.Rack.only_now rack image tells left)
+    quiet_moments v (g.R.Rack.state rack) past c.args.out.now (g.R.Rack.moment rack) (g.R.Rack.left_since rack) fits (λ image left. g.met.R.Rack.only_now rack image tells left)
 
 pub returns-in-Replica-clause-any_moment : goal.returns-in-Replica-clause-any_moment
-returns-in-Replica-clause-any_moment g c = λ v past tells made fits.
+returns-in-Replica-clause-any_moment g c = λ v past tells fits.
     let rack = c.args.rack.now in
-    sync_moments v (g.R.Rack.state rack) past c.args.out.now (g.R.Rack.moment rack) (g.R.Rack.moment c.restart.new.rack) (g.R.Rack.left_since rack) (g.R.Rack.left_since c.restart.new.rack) fits made (c.restart.ensures.disks tells).any_moment
+    sync_moments v (g.R.Rack.state rack) past c.args.out.now (g.R.Rack.moment rack) (g.R.Rack.moment c.restart.new.rack) (g.R.Rack.left_since rack) (g.R.Rack.left_since c.restart.new.rack) fits (c.restart.ensures.disks tells).any_moment
 
 pub returns-in_ok-restart-in-Other-clause-keeps : goal.returns-in_ok-restart-in-Other-clause-keeps
 returns-in_ok-restart-in-Other-clause-keeps g c = λ v past courses tells of few nodes above fits turned.
@@ -28,9 +28,9 @@ returns-in_ok-restart-in-Other-clause-keeps g c = λ v past courses tells of few
     (λ whole o same higher turns. other_starts v x past p q c.args.boot courses c.args.out.now out o.0 whole few same higher c.ranges.boot.fits did.restarts did.asks turns fits) c.requires.whole of nodes above turned
 
 pub returns-in_ok-restart-in-Other-clause-any_moment : goal.returns-in_ok-restart-in-Other-clause-any_moment
-returns-in_ok-restart-in-Other-clause-any_moment g c = λ v past tells made fits.
+returns-in_ok-restart-in-Other-clause-any_moment g c = λ v past tells fits.
     let rack = c.args.rack.now in
-    quiet_moments v (g.R.Rack.state rack) past c.args.out.now (g.R.Rack.moment rack) (g.R.Rack.left_since rack) fits made (λ image left. g.met.R.Rack.only_now rack image tells left)
+    quiet_moments v (g.R.Rack.state rack) past c.args.out.now (g.R.Rack.moment rack) (g.R.Rack.left_since rack) fits (λ image left. g.met.R.Rack.only_now rack image tells left)
 
 pub returns-in_ok-restart-in-Other-clause-sent : goal.returns-in_ok-restart-in-Other-clause-sent
 returns-in_ok-restart-in-Other-clause-sent g c = start_sends c.in-Other.proposer.at c.args.out.now c.restart-in-Other.new.out c.in_ok-restart-in-Other.ensures.asks

@@ -8,18 +8,18 @@ use Rattle.bx_paxos_cluster.proofs.Others.{put_moments, quiet_moments}
 use Rattle.bx_paxos_cluster.proofs.machine.Machine.take.Goals as goal
 
 pub returns-in_err-take-in-Other-clause-any_moment : goal.returns-in_err-take-in-Other-clause-any_moment
-returns-in_err-take-in-Other-clause-any_moment g c = λ v past tells of made has comes fits.
+returns-in_err-take-in-Other-clause-any_moment g c = λ v past tells of has comes fits.
     let rack = c.args.rack.now in
-    quiet_moments v (g.R.Rack.state rack) past c.args.out.now (g.R.Rack.moment rack) (g.R.Rack.left_since rack) fits made (λ image left. g.met.R.Rack.only_now rack image tells left)
+    quiet_moments v (g.R.Rack.state rack) past c.args.out.now (g.R.Rack.moment rack) (g.R.Rack.left_since rack) fits (λ image left. g.met.R.Rack.only_now rack image tells left)
 
 pub returns-in-Replica-clause-any_moment : goal.returns-in-Replica-clause-any_moment
-returns-in-Replica-clause-any_moment g c = λ v past tells of made has comes fits.
+returns-in-Replica-clause-any_moment g c = λ v past tells of has comes fits.
     let rack = c.args.rack.now in
     let r = c.in-Replica.replica in
     let whole = subst IsWhole c.in-Replica.is c.requires.whole in
     let did = c.take.ensures in
     put_moments v (g.R.Rack.state rack) past r.acceptor.replica (g.R.Rack.moment rack) (g.R.Rack.moment c.take.new.rack) (g.R.Rack.left_since rack) (g.R.Rack.left_since c.take.new.rack) whole.low
-    (did.any_moment v past tells (subst (IsOf v) c.in-Replica.is of) made (subst (λ (m : Machine). HasCells m (g.R.Rack.state rack)) c.in-Replica.is has) comes fits) (did.disks tells).beside
+    (did.any_moment v past tells (subst (IsOf v) c.in-Replica.is of) (subst (λ (m : Machine). HasCells m (g.R.Rack.state rack)) c.in-Replica.is has) comes fits) (did.disks tells).beside
 
 pub returns-in-Replica-clause-places : goal.returns-in-Replica-clause-places
 returns-in-Replica-clause-places g c = λ v past tells of has place comes fits.
@@ -41,9 +41,9 @@ returns-in_ok-take-in-Other-clause-keeps g c = λ v past courses tells of has pl
     (subst (λ (m : Machine). Turned (proposer_of m).actor q.course v.courses courses) c.in-Other.is turned) fits
 
 pub returns-in_ok-take-in-Other-clause-any_moment : goal.returns-in_ok-take-in-Other-clause-any_moment
-returns-in_ok-take-in-Other-clause-any_moment g c = λ v past tells of made has comes fits.
+returns-in_ok-take-in-Other-clause-any_moment g c = λ v past tells of has comes fits.
     let rack = c.args.rack.now in
-    quiet_moments v (g.R.Rack.state rack) past c.args.out.now (g.R.Rack.moment rack) (g.R.Rack.left_since rack) fits made (λ image left. g.met.R.Rack.only_now rack image tells left)
+    quiet_moments v (g.R.Rack.state rack) past c.args.out.now (g.R.Rack.moment rack) (g.R.Rack.left_since rack) fits (λ image left. g.met.R.Rack.only_now rack image tells left)
 
 pub returns-in_ok-take-in-Other-clause-sent : goal.returns-in_ok-take-in-Other-clause-sent
 returns-in_ok-take-in-Other-clause-sent g c = proposer_sends c.in-Other.proposer c.args.input.now c.take-in-Other.new.self c.args.out.now c.take-in-Other.new.out c.in_ok-take-in-Other.ensures.takes

@@ -20,14 +20,14 @@ use Rattle.bx_paxos_cluster.proofs.paxos.Paxos.take.Goals as goal
 
 pub index_mut-requires : goal.index_mut-requires
 index_mut-requires r c =
-    let g : Cluster = record { nodes = c.self.inside.nodes; made = c.self.inside.made; machines = c.self.inside.machines.items } in
+    let g : Cluster = record { nodes = c.self.inside.nodes; made = c.self.inside.made; first = c.self.inside.first; origins = c.self.inside.origins; machines = c.self.inside.machines.items } in
     let there : IsMachine g.nodes c.args.at = subst (λ (k : Cluster). IsMachine k.nodes c.args.at) (sym c.self.view_is) c.requires.there in
     let less = within g c.args.at c.place_of-place.result c.self.invariant there c.place_of-place.ensures in
     omega (arith, less)
 
 pub take-requires : goal.take-requires
 take-requires r c =
-    let g : Cluster = record { nodes = c.self.inside.nodes; made = c.self.inside.made; machines = c.self.inside.machines.items } in
+    let g : Cluster = record { nodes = c.self.inside.nodes; made = c.self.inside.made; first = c.self.inside.first; origins = c.self.inside.origins; machines = c.self.inside.machines.items } in
     let there : IsMachine g.nodes c.args.at = subst (λ (k : Cluster). IsMachine k.nodes c.args.at) (sym c.self.view_is) c.requires.there in
     let m = c.index_mut.result.now in
     let at = stands_at g c.args.at c.place_of-place.result m c.self.invariant there c.place_of-place.ensures c.index_mut.ensures.value in
@@ -36,7 +36,7 @@ take-requires r c =
 
 pub invariant_of-self : goal.invariant_of-self
 invariant_of-self r c =
-    let g : Cluster = record { nodes = c.self.inside.nodes; made = c.self.inside.made; machines = c.self.inside.machines.items } in
+    let g : Cluster = record { nodes = c.self.inside.nodes; made = c.self.inside.made; first = c.self.inside.first; origins = c.self.inside.origins; machines = c.self.inside.machines.items } in
     let there : IsMachine g.nodes c.args.at = subst (λ (k : Cluster). IsMachine k.nodes c.args.at) (sym c.self.view_is) c.requires.there in
     let m = c.index_mut.result.now in
     let v = c.take.new.self in
@@ -47,7 +47,7 @@ invariant_of-self r c =
 
 pub returns-clause-keeps : goal.returns-clause-keeps
 returns-clause-keeps r c = λ past tells keeps may.
-    let g : Cluster = record { nodes = c.self.inside.nodes; made = c.self.inside.made; machines = c.self.inside.machines.items } in
+    let g : Cluster = record { nodes = c.self.inside.nodes; made = c.self.inside.made; first = c.self.inside.first; origins = c.self.inside.origins; machines = c.self.inside.machines.items } in
     let there : IsMachine g.nodes c.args.at = subst (λ (k : Cluster). IsMachine k.nodes c.args.at) (sym c.self.view_is) c.requires.there in
     let m = c.index_mut.result.now in
     let v = c.take.new.self in
@@ -66,7 +66,7 @@ returns-clause-keeps r c = λ past tells keeps may.
 
 pub returns-clause-keeps_faulted : goal.returns-clause-keeps_faulted
 returns-clause-keeps_faulted r c = λ past tells keeps may fault.
-    let g : Cluster = record { nodes = c.self.inside.nodes; made = c.self.inside.made; machines = c.self.inside.machines.items } in
+    let g : Cluster = record { nodes = c.self.inside.nodes; made = c.self.inside.made; first = c.self.inside.first; origins = c.self.inside.origins; machines = c.self.inside.machines.items } in
     let there : IsMachine g.nodes c.args.at = subst (λ (k : Cluster). IsMachine k.nodes c.args.at) (sym c.self.view_is) c.requires.there in
     let m = c.index_mut.result.now in
     let v = c.take.new.self in
@@ -85,7 +85,7 @@ returns-clause-keeps_faulted r c = λ past tells keeps may fault.
 
 pub returns-clause-any_moment : goal.returns-clause-any_moment
 returns-clause-any_moment r c = λ past tells keeps may.
-    let g : Cluster = record { nodes = c.self.inside.nodes; made = c.self.inside.made; machines = c.self.inside.machines.items } in
+    let g : Cluster = record { nodes = c.self.inside.nodes; made = c.self.inside.made; first = c.self.inside.first; origins = c.self.inside.origins; machines = c.self.inside.machines.items } in
     let there : IsMachine g.nodes c.args.at = subst (λ (k : Cluster). IsMachine k.nodes c.args.at) (sym c.self.view_is) c.requires.there in
     let m = c.index_mut.result.now in
     let v = c.take.new.self in
@@ -99,7 +99,7 @@ returns-clause-any_moment r c = λ past tells keeps may.
 
 pub returns-clause-rises : goal.returns-clause-rises
 returns-clause-rises r c = λ other.
-    let g : Cluster = record { nodes = c.self.inside.nodes; made = c.self.inside.made; machines = c.self.inside.machines.items } in
+    let g : Cluster = record { nodes = c.self.inside.nodes; made = c.self.inside.made; first = c.self.inside.first; origins = c.self.inside.origins; machines = c.self.inside.machines.items } in
     let there : IsMachine g.nodes c.args.at = subst (λ (k : Cluster). IsMachine k.nodes c.args.at) (sym c.self.view_is) c.requires.there in
     let m = c.index_mut.result.now in
     let v = c.take.new.self in
@@ -110,7 +110,7 @@ returns-clause-rises r c = λ other.
 
 pub returns-clause-knows : goal.returns-clause-knows
 returns-clause-knows r c =
-    let g : Cluster = record { nodes = c.self.inside.nodes; made = c.self.inside.made; machines = c.self.inside.machines.items } in
+    let g : Cluster = record { nodes = c.self.inside.nodes; made = c.self.inside.made; first = c.self.inside.first; origins = c.self.inside.origins; machines = c.self.inside.machines.items } in
     let there : IsMachine g.nodes c.args.at = subst (λ (k : Cluster). IsMachine k.nodes c.args.at) (sym c.self.view_is) c.requires.there in
     let m = c.index_mut.result.now in
     let v = c.take.new.self in
@@ -121,7 +121,7 @@ returns-clause-knows r c =
 
 pub returns-clause-others : goal.returns-clause-others
 returns-clause-others r c =
-    let g : Cluster = record { nodes = c.self.inside.nodes; made = c.self.inside.made; machines = c.self.inside.machines.items } in
+    let g : Cluster = record { nodes = c.self.inside.nodes; made = c.self.inside.made; first = c.self.inside.first; origins = c.self.inside.origins; machines = c.self.inside.machines.items } in
     let there : IsMachine g.nodes c.args.at = subst (λ (k : Cluster). IsMachine k.nodes c.args.at) (sym c.self.view_is) c.requires.there in
     let m = c.index_mut.result.now in
     let v = c.take.new.self in
@@ -132,7 +132,7 @@ returns-clause-others r c =
 
 pub returns-clause-still_busy : goal.returns-clause-still_busy
 returns-clause-still_busy r c =
-    let g : Cluster = record { nodes = c.self.inside.nodes; made = c.self.inside.made; machines = c.self.inside.machines.items } in
+    let g : Cluster = record { nodes = c.self.inside.nodes; made = c.self.inside.made; first = c.self.inside.first; origins = c.self.inside.origins; machines = c.self.inside.machines.items } in
     let there : IsMachine g.nodes c.args.at = subst (λ (k : Cluster). IsMachine k.nodes c.args.at) (sym c.self.view_is) c.requires.there in
     let m = c.index_mut.result.now in
     let v = c.take.new.self in
@@ -145,7 +145,7 @@ returns-clause-still_busy r c =
 
 pub returns-clause-was_busy : goal.returns-clause-was_busy
 returns-clause-was_busy r c =
-    let g : Cluster = record { nodes = c.self.inside.nodes; made = c.self.inside.made; machines = c.self.inside.machines.items } in
+    let g : Cluster = record { nodes = c.self.inside.nodes; made = c.self.inside.made; first = c.self.inside.first; origins = c.self.inside.origins; machines = c.self.inside.machines.items } in
     let there : IsMachine g.nodes c.args.at = subst (λ (k : Cluster). IsMachine k.nodes c.args.at) (sym c.self.view_is) c.requires.there in
     let m = c.index_mut.result.now in
     let v = c.take.new.self in
@@ -158,7 +158,7 @@ returns-clause-was_busy r c =
 
 pub returns-clause-needs : goal.returns-clause-needs
 returns-clause-needs r c =
-    let g : Cluster = record { nodes = c.self.inside.nodes; made = c.self.inside.made; machines = c.self.inside.machines.items } in
+    let g : Cluster = record { nodes = c.self.inside.nodes; made = c.self.inside.made; first = c.self.inside.first; origins = c.self.inside.origins; machines = c.self.inside.machines.items } in
     let there : IsMachine g.nodes c.args.at = subst (λ (k : Cluster). IsMachine k.nodes c.args.at) (sym c.self.view_is) c.requires.there in
     let m = c.index_mut.result.now in
     let v = c.take.new.self in
@@ -169,7 +169,7 @@ returns-clause-needs r c =
 
 pub returns-clause-disks : goal.returns-clause-disks
 returns-clause-disks r c = λ tells.
-    let g : Cluster = record { nodes = c.self.inside.nodes; made = c.self.inside.made; machines = c.self.inside.machines.items } in
+    let g : Cluster = record { nodes = c.self.inside.nodes; made = c.self.inside.made; first = c.self.inside.first; origins = c.self.inside.origins; machines = c.self.inside.machines.items } in
     let there : IsMachine g.nodes c.args.at = subst (λ (k : Cluster). IsMachine k.nodes c.args.at) (sym c.self.view_is) c.requires.there in
     let m = c.index_mut.result.now in
     let v = c.take.new.self in

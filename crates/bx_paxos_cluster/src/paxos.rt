@@ -7,29 +7,28 @@ ghost use Rattle.bx_base.specs.declared.names.Actor.TheVariants.{Replica};
 ghost use Rattle.bx_calls.specs.Calls.{LeavesOnly};
 ghost use Rattle.bx_disk.specs.Counts.{NoneFalls};
 ghost use Rattle.bx_disk.specs.Disks.{Disks};
-ghost use Rattle.bx_facts.specs.Chains.{IsNext, last};
-ghost use Rattle.bx_facts.specs.Disks.{HasRoom, NeedsAt, NeedsNoMore, OnlyDiskOf, ReadsOnly, SameLabels, SameMembers, wanted_by};
+ghost use Rattle.bx_facts.specs.Chains.{IsAboveBoots, IsNext, last};
+ghost use Rattle.bx_facts.specs.Disks.{HasRoom, NeedsAt, NeedsNoMore, OnlyDiskOf, ReadsOnly, SameDisks, SameLabels, SameMembers, wanted_by};
 ghost use Rattle.bx_facts.specs.Inputs.{IsRegisters, SendsOnly};
 ghost use Rattle.bx_facts.specs.Machines.{IsMachine, OnlyAt, OnlyFactsAt, disk_of};
-ghost use Rattle.bx_facts.specs.Pasts.{Decides, MayHear, RegisterPast, opening_register, proposing, register_crashed, register_failed, register_restarted, register_with};
+ghost use Rattle.bx_facts.specs.Pasts.{Decides, MayHear, RegisterPast, found_register, opening_register, proposing, register_crashed, register_failed, register_restarted, register_with};
 ghost use Rattle.bx_facts.specs.declared.input.FactError.TheVariants.{Disk as DiskFails};
+ghost use Rattle.bx_facts.specs.declared.input.OpenError.TheVariants.{Disk as OpenFails};
 ghost use Rattle.bx_facts.specs.declared.input.ProposeError.TheVariants.{NotLegal, Busy};
 ghost use Rattle.bx_global.specs.Allowed.{IsAllowed};
 ghost use Rattle.bx_global.specs.Table.{IsLegal};
 ghost use Rattle.bx_paxos.specs.Reading.{ReadsState};
 ghost use Rattle.bx_places.specs.Places.{replica_sectors};
-ghost use Rattle.bx_paxos_cluster.specs.Beginning.{AreNew};
-ghost use Rattle.bx_paxos_cluster.specs.Cluster.{is_busy, knows, needs};
-ghost use Rattle.bx_paxos_cluster.specs.Keeps.{Keeps};
+ghost use Rattle.bx_paxos_machines.specs.Beginning.{AreNew};
+ghost use Rattle.bx_paxos_machines.specs.Cluster.{is_busy, knows, needs};
+ghost use Rattle.bx_paxos_machines.specs.Keeps.{Keeps};
 
-use crate::finding::place_of;
-use crate::machine::Machine;
-use crate::making::{begin_anew, make_all};
 use bx_base::{Actor, OutOfMemory};
 use bx_disk::Rack;
-use bx_facts::{FactError, Input, Outbox, ProposeError};
+use bx_facts::{FactError, Input, OpenError, Outbox, ProposeError};
 use bx_global::{Change, GlobalState};
-use bx_paxos_found::Origins;
+use bx_paxos_found::{Origins, find};
+use bx_paxos_machines::{Machine, begin_anew, make_all, place_of};
 use std::alloc::Global;
 use std::marker::Model;
 
@@ -45,7 +44,7 @@ pub struct Paxos {
 }
 
 impl Model for Paxos {
-    ghost use Rattle.bx_paxos_cluster.specs.Cluster.{Cluster, IsCluster};
+    ghost use Rattle.bx_paxos_machines.specs.Cluster.{Cluster, IsCluster};
 
     ghost Value = { Cluster };
 
@@ -101,6 +100,34 @@ impl Paxos {
         self.origins = origins;
         self.machines = machines;
         Ok(())
+    }
+
+    /// Begins with the state that the disks are read as, which every machine knows then; each is to start again before it does anything. The
+    /// answer is the greatest boot in a cell that is read. `NoMajority` where fewer than two replicas have a label and a cell that can be read;
+    /// `Spent` where no boot is left. After an error all is as it was.
+    pub fn open<R: Rack>(&mut self, rack: &mut R) -> Result<u64, OpenError>
+        ensures keeps { R.tells rack.old → IfOk result (λ boot. Keeps self.new (R.state rack.new) (found_register (knows self.new (Replica 0)) boot)) }
+        ensures found { R.tells rack.old → OnOk result (ReadsState self.old.made (R.state rack.old).reads (knows self.new (Replica 0))) }
+        ensures boots { IfOk result (λ boot. IsAboveBoots (knows self.new (Replica 0)) (boot + 1)) }
+        ensures knows { (who : Actor) → OnOk result (knows self.new who ≡ knows self.new (Replica 0)) }
+        ensures idle { (who : Actor) → OnOk result (is_busy self.new who → ⊥) }
+        ensures failed { OnErr result (self.new ≡ self.old) }
+        ensures made { (self.new.made ≡ self.old.made) × (self.new.nodes ≡ self.old.nodes) }
+        ensures disks { R.tells rack.old → SameDisks (R.state rack.old) (R.state rack.new) }
+        ensures cause { IsErrOf result OpenFails → Rose (R.faults rack.old) (R.faults rack.new) }
+        ensures later { NoneFalls (R.faults rack.old) (R.faults rack.new) (R.faults_of rack.old) (R.faults_of rack.new) }
+        ensures sizes { (R.state rack.new).sizes ≡ (R.state rack.old).sizes }
+        ensures keeps_telling { R.tells rack.old → R.tells rack.new }
+    {
+        let devices = self.made.devices.len() as u32;
+        let found = find(self.alloc, rack, devices)?;
+        let Ok(machines) = make_all(self.alloc, self.nodes, &found.state, &found.origins) else {
+            return Err(OpenError::OutOfMemory);
+        };
+        self.first = found.state;
+        self.origins = found.origins;
+        self.machines = machines;
+        Ok(found.boot)
     }
 
     /// Whether this is one of the cluster's machines. It takes no memory.

@@ -58,7 +58,10 @@ above_boots s b most = record {
 
 -- ---- three
 
-three_each : (P : ℕ → Option Seen → Type 0) (a b c : Option Seen) → P 0 a → P 1 b → P 2 c → (n : ℕ) → n < 3 → P n (three a b c n)
+none_seen : (h : Held) → None ≡ Some h → ⊥
+none_seen h e = absurd cc
+
+pub three_each : {A : Type 0} (P : ℕ → Option A → Type 0) (a b c : Option A) → P 0 a → P 1 b → P 2 c → (n : ℕ) → n < 3 → P n (three a b c n)
 three_each P a b c one two last n low = by (eqb_tells n 0) (eqb_tells n 1) (eqb_tells n 2)
   where
     by : (((n == 0) ≡ true) × (n ≡ 0)) ⊎ (((n == 0) ≡ false) × (n ≡ 0 → ⊥)) → (((n == 1) ≡ true) × (n ≡ 1)) ⊎ (((n == 1) ≡ false) × (n ≡ 1 → ⊥)) → (((n == 2) ≡ true) × (n ≡ 2)) ⊎ (((n == 2) ≡ false) × (n ≡ 2 → ⊥)) → P n (three a b c n)
@@ -73,6 +76,16 @@ three_each P a b c one two last n low = by (eqb_tells n 0) (eqb_tells n 1) (eqb_
         more (suc (suc zero)) less x y z = z refl
         more (suc (suc (suc k))) less x y z = omega (arith, less)
 
+-- one that is there is one of the three
+pub three_within : (a b c : Option Held) (n : ℕ) (held : Held) → three a b c n ≡ Some held → n < 3
+three_within a b c n held e = by (eqb_tells n 0) (eqb_tells n 1) (eqb_tells n 2)
+  where
+    by : (((n == 0) ≡ true) × (n ≡ 0)) ⊎ (((n == 0) ≡ false) × (n ≡ 0 → ⊥)) → (((n == 1) ≡ true) × (n ≡ 1)) ⊎ (((n == 1) ≡ false) × (n ≡ 1 → ⊥)) → (((n == 2) ≡ true) × (n ≡ 2)) ⊎ (((n == 2) ≡ false) × (n ≡ 2 → ⊥)) → n < 3
+    by (inl here) other rest = omega (arith, here.1)
+    by (inr first) (inl here) rest = omega (arith, here.1)
+    by (inr first) (inr second) (inl here) = omega (arith, here.1)
+    by (inr first) (inr second) (inr third) = let k = rw (first.0, second.0, third.0) at e in absurd (none_seen held k)
+
 three_held : (a b c : Option Seen) (n : ℕ) → three (held_of a) (held_of b) (held_of c) n ≡ held_of (three a b c n)
 three_held a b c n = by (n == 0) (n == 1) (n == 2)
   where
@@ -81,9 +94,6 @@ three_held a b c n = by (n == 0) (n == 1) (n == 2)
     by false true w = refl
     by false false true = refl
     by false false false = refl
-
-none_seen : (h : Held) → None ≡ Some h → ⊥
-none_seen h e = absurd cc
 
 three_low : (a b c : Option Seen) (n : ℕ) (held : Held) → held_of (three a b c n) ≡ Some held → n < 3
 three_low a b c n held e = by (eqb_tells n 0) (eqb_tells n 1) (eqb_tells n 2)

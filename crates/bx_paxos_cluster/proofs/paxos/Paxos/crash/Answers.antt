@@ -5,11 +5,11 @@ use Rattle.std.specs.Prelude.{IsSome, slice_set}
 use Rattle.bx_facts.specs.Disks.{NeedsNoMore}
 use Rattle.bx_facts.specs.Machines.{IsMachine, OnlyFactsAt}
 use Rattle.bx_proposer.specs.declared.course.Course.{Course}
-use Rattle.bx_paxos_cluster.specs.Cluster.{Cluster, is_busy, knows, needs}
-use Rattle.bx_paxos_cluster.specs.Keeps.{Keeps}
-use Rattle.bx_paxos_cluster.specs.Parts.{course_of}
-use Rattle.bx_paxos_cluster.proofs.Keeping.{needs_less, none_has}
-use Rattle.bx_paxos_cluster.proofs.Steps.{busy_only, crash_keeps, is_out, is_part, known_stays, nobody_busy, nobody_keeps, not_out, stands_at, steps, with_machines, within}
+use Rattle.bx_paxos_machines.specs.Cluster.{Cluster, is_busy, knows, needs}
+use Rattle.bx_paxos_machines.specs.Keeps.{Keeps}
+use Rattle.bx_paxos_machines.specs.Parts.{course_of}
+use Rattle.bx_paxos_machines.proofs.Keeping.{needs_less, none_has}
+use Rattle.bx_paxos_machines.proofs.Steps.{busy_only, crash_keeps, is_out, is_part, known_stays, nobody_busy, nobody_keeps, not_out, stands_at, steps, with_machines, within}
 use Rattle.bx_paxos_cluster.proofs.paxos.Paxos.crash.Goals as goal
 
 pub index_mut-requires : goal.index_mut-requires

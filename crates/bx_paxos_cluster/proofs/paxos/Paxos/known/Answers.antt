@@ -1,9 +1,9 @@
 use Rattle.std.proofs.Common.{◌≡◌, sym, subst, ◌∙◌, arith}
 use Rattle.bx_facts.specs.Machines.{IsMachine}
 use Rattle.bx_global.specs.Allowed.{IsAllowed}
-use Rattle.bx_paxos_cluster.specs.Cluster.{Cluster, knows}
-use Rattle.bx_paxos_cluster.proofs.Steps.{is_part, knows_it, stands_at, within}
-use Rattle.bx_paxos_cluster.proofs.Voting.{proposer_is}
+use Rattle.bx_paxos_machines.specs.Cluster.{Cluster, knows}
+use Rattle.bx_paxos_machines.proofs.Steps.{is_part, knows_it, stands_at, within}
+use Rattle.bx_paxos_machines.proofs.Voting.{proposer_is}
 use Rattle.bx_paxos_cluster.proofs.paxos.Paxos.known.Goals as goal
 
 pub index-requires : goal.index-requires

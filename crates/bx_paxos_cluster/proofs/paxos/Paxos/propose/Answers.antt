@@ -6,13 +6,13 @@ use Rattle.bx_facts.specs.Machines.{IsMachine, OnlyFactsAt}
 use Rattle.bx_facts.specs.Pasts.{register_with}
 use Rattle.bx_global.specs.Table.{IsLegal}
 use Rattle.bx_global.specs.declared.state.GlobalState.{GlobalState}
-use Rattle.bx_paxos_cluster.specs.Cluster.{Cluster, is_busy, knows, needs, voters_of}
-use Rattle.bx_paxos_cluster.specs.Keeps.{Keeps}
-use Rattle.bx_paxos_cluster.specs.Parts.{cell_held}
-use Rattle.bx_paxos_cluster.proofs.Keeping.{needs_less}
-use Rattle.bx_paxos_cluster.proofs.Others.{all_ok}
-use Rattle.bx_paxos_cluster.proofs.Steps.{busy_is, busy_only, is_out, is_part, known_stays, knows_it, proposes_keeps, steps, with_machines, within}
-use Rattle.bx_paxos_cluster.proofs.Voting.{part_of, turned_part}
+use Rattle.bx_paxos_machines.specs.Cluster.{Cluster, is_busy, knows, needs, voters_of}
+use Rattle.bx_paxos_machines.specs.Keeps.{Keeps}
+use Rattle.bx_paxos_machines.specs.Parts.{cell_held}
+use Rattle.bx_paxos_machines.proofs.Keeping.{needs_less}
+use Rattle.bx_paxos_machines.proofs.Others.{all_ok}
+use Rattle.bx_paxos_machines.proofs.Steps.{busy_is, busy_only, is_out, is_part, known_stays, knows_it, proposes_keeps, steps, with_machines, within}
+use Rattle.bx_paxos_machines.proofs.Voting.{part_of, turned_part}
 use Rattle.bx_paxos_cluster.proofs.paxos.Paxos.propose.Goals as goal
 
 pub index_mut-requires : goal.index_mut-requires

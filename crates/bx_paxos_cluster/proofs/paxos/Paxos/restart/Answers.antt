@@ -9,14 +9,15 @@ use Rattle.bx_facts.specs.Machines.{IsMachine, OnlyAt, OnlyFactsAt}
 use Rattle.bx_facts.specs.Pasts.{register_failed, register_restarted, register_with}
 use Rattle.bx_paxos.specs.Fits.{Fits, Turned, going}
 use Rattle.bx_paxos.specs.Reading.{ReadsState}
-use Rattle.bx_paxos_cluster.specs.Cluster.{Cluster, is_busy, knows, needs, voters_of}
-use Rattle.bx_paxos_cluster.specs.Keeps.{Keeps}
-use Rattle.bx_paxos_cluster.specs.Parts.{course_of, proposer_of}
-use Rattle.bx_paxos_cluster.proofs.Keeping.{disk_for, needs_own}
-use Rattle.bx_paxos_cluster.proofs.Others.{all_ok}
-use Rattle.bx_paxos_cluster.proofs.Places.{name_at}
-use Rattle.bx_paxos_cluster.proofs.Steps.{busy_only, is_out, is_part, known_only, stands_at, start_fails, starts_keeps, steps, with_machines, within}
-use Rattle.bx_paxos_cluster.proofs.Voting.{part_of, turned_part}
+use Rattle.bx_paxos_machines.specs.Cluster.{Cluster, is_busy, knows, needs, voters_of}
+use Rattle.bx_paxos_machines.specs.Keeps.{Keeps}
+use Rattle.bx_paxos_machines.specs.Parts.{course_of, proposer_of}
+use Rattle.bx_paxos_machines.proofs.Keeping.{disk_for, needs_own}
+use Rattle.bx_paxos_machines.proofs.Others.{all_ok}
+use Rattle.bx_paxos_machines.proofs.Places.{name_at}
+use Rattle.bx_paxos_machines.proofs.Steps.{busy_only, is_out, is_part, known_only, stands_at, start_fails, starts_keeps, steps, with_machines, within}
+use Rattle.bx_paxos_machines.proofs.Telling.{moments_made}
+use Rattle.bx_paxos_machines.proofs.Voting.{part_of, turned_part}
 use Rattle.bx_paxos_cluster.proofs.paxos.Paxos.restart.Goals as goal
 
 pub index_mut-requires : goal.index_mut-requires
@@ -97,7 +98,7 @@ returns-clause-any_moment r c = λ past tells keeps.
     let x = r.R.Rack.state c.args.rack.now in
     let kept : Keeps g x (register_with past c.args.out.now) = subst (λ (k : Cluster). Keeps k x (register_with past c.args.out.now)) (sym c.self.view_is) keeps in
     subst (λ (k : Cluster). LeavesOnly (r.R.Rack.moment c.args.rack.now) (r.R.Rack.moment c.restart.new.rack) (r.R.Rack.left_since c.args.rack.now) (r.R.Rack.left_since c.restart.new.rack) (ReadsOnly (ReadsState k.made) x (IsNext past.proposed (last past.chain)))) c.self.view_is
-    (did.any_moment (voters_of g) past tells kept.fits)
+    (moments_made g x _ _ _ _ _ step.is (did.any_moment (voters_of g) past tells kept.fits))
 
 pub returns-clause-knows : goal.returns-clause-knows
 returns-clause-knows r c =

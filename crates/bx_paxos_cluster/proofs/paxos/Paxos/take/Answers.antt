@@ -9,13 +9,14 @@ use Rattle.bx_facts.specs.Machines.{IsMachine, OnlyAt, OnlyFactsAt}
 use Rattle.bx_facts.specs.Pasts.{register_with}
 use Rattle.bx_global.specs.declared.state.GlobalState.{GlobalState}
 use Rattle.bx_paxos.specs.Reading.{ReadsState}
-use Rattle.bx_paxos_cluster.specs.Cluster.{Cluster, is_busy, knows, needs, voters_of}
-use Rattle.bx_paxos_cluster.specs.Keeps.{Keeps}
-use Rattle.bx_paxos_cluster.proofs.Keeping.{needs_less, room_for}
-use Rattle.bx_paxos_cluster.proofs.Others.{all_ok}
-use Rattle.bx_paxos_cluster.proofs.Places.{name_at}
-use Rattle.bx_paxos_cluster.proofs.Steps.{busy_is, busy_only, faults_keep, is_out, is_part, known_only, known_rises, knows_it, stands_at, steps, takes_keeps, with_machines, within}
-use Rattle.bx_paxos_cluster.proofs.Voting.{part_of, turned_part}
+use Rattle.bx_paxos_machines.specs.Cluster.{Cluster, is_busy, knows, needs, voters_of}
+use Rattle.bx_paxos_machines.specs.Keeps.{Keeps}
+use Rattle.bx_paxos_machines.proofs.Keeping.{needs_less, room_for}
+use Rattle.bx_paxos_machines.proofs.Others.{all_ok}
+use Rattle.bx_paxos_machines.proofs.Places.{name_at}
+use Rattle.bx_paxos_machines.proofs.Steps.{busy_is, busy_only, faults_keep, is_out, is_part, known_only, known_rises, knows_it, stands_at, steps, takes_keeps, with_machines, within}
+use Rattle.bx_paxos_machines.proofs.Telling.{moments_made}
+use Rattle.bx_paxos_machines.proofs.Voting.{part_of, turned_part}
 use Rattle.bx_paxos_cluster.proofs.paxos.Paxos.take.Goals as goal
 
 pub index_mut-requires : goal.index_mut-requires
@@ -95,7 +96,7 @@ returns-clause-any_moment r c = λ past tells keeps may.
     let x = r.R.Rack.state c.args.rack.now in
     let kept : Keeps g x (register_with past c.args.out.now) = subst (λ (k : Cluster). Keeps k x (register_with past c.args.out.now)) (sym c.self.view_is) keeps in
     subst (λ (k : Cluster). LeavesOnly (r.R.Rack.moment c.args.rack.now) (r.R.Rack.moment c.take.new.rack) (r.R.Rack.left_since c.args.rack.now) (r.R.Rack.left_since c.take.new.rack) (ReadsOnly (ReadsState k.made) x (IsNext past.proposed (last past.chain)))) c.self.view_is
-    (did.any_moment (voters_of g) past tells (part_of g c.args.at m step.is step.at) (λ n low. refl) (kept.cells c.args.at m step.at) may.comes kept.fits)
+    (moments_made g x _ _ _ _ _ step.is (did.any_moment (voters_of g) past tells (part_of g c.args.at m step.is step.at) (kept.cells c.args.at m step.at) may.comes kept.fits))
 
 pub returns-clause-rises : goal.returns-clause-rises
 returns-clause-rises r c = λ other.

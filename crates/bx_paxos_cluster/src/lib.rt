@@ -3,6 +3,7 @@
 
 mod disks;
 mod paxos;
+mod register;
 
 pub use disks::has_disks;
 pub use paxos::Paxos;

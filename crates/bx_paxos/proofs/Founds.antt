@@ -80,8 +80,7 @@ was_level : (was : ℕ → Option Held) (first : GlobalState) → ReadsFirst was
     → (m : ℕ) × (k : Held) × (was m ≡ Some k) × (first ≡ k.decided) × (m ≤ n)
 was_level was first (inl (m, k, is, e)) n held at same = let index = ap (λ (x : GlobalState). x.index) e in let above = is.ahead.above n held at in absurd (omega (arith, index, above, same))
 was_level was first (inr (m, k, is, e)) n held at same =
-    let index = ap (λ (x : GlobalState). x.index) e in
-    (
+    let index = ap (λ (x : GlobalState). x.index) e in (
       m,
       k,
       is.level.is,
@@ -136,10 +135,14 @@ module _ (h : History) (cells : ℕ → Option Held) (sound : IsSound h cells) (
       | inl put ↦ inl (tt, caught_at n held e ∙ put.0, put.1)
       | inr found ↦ inr (subst (WasFound first) (sym found.0) (none_above n s.old s.was_old), caught_at n held e ∙ found.1)
     ];
-    whole = λ n held e. let c = caught_seen n held e in let s = stood n c.0 c.1 in (c.0, c.1, elim s.kind [
-      | inl put ↦ inl (some_is held c.0 (sym c.2 ∙ put.0))
-      | inr found ↦ inr (some_is held (caught_up first c.0) (sym c.2 ∙ found.1), subst (WasFound first) (sym found.0) (none_above n s.old s.was_old))
-    ]);
+    whole = λ n held e. let c = caught_seen n held e in let s = stood n c.0 c.1 in (
+      c.0,
+      c.1,
+      elim s.kind [
+        | inl put ↦ inl (some_is held c.0 (sym c.2 ∙ put.0))
+        | inr found ↦ inr (some_is held (caught_up first c.0) (sym c.2 ∙ found.1), subst (WasFound first) (sym found.0) (none_above n s.old s.was_old))
+      ],
+    );
   }
 
   -- two are seen, and so caught up
@@ -173,16 +176,17 @@ module _ (h : History) (cells : ℕ → Option Held) (sound : IsSound h cells) (
     -- .. and where each knows less, all stand as they were found, and tell it
     untouched : (s : GlobalState) → ReadsFirst seen s → ((m : ℕ) (their : Held) → seen m ≡ Some their → their.decided.index < first.index) → (s ≡ first) × (first ≡ last h.chain)
     untouched s reads less =
-        let at = stood k one two.is_one in
-        (one_state was s first (reads_so seen was s there back reads) told.reads,
-        elim at.kind [
-          | inl put ↦ absurd (not_put k one two.is_one put.1)
-          | inr found ↦ first_last k one two.is_one found.1 (λ m their e. let low = less m their e in omega (arith, low))
-              (λ m their e flag. let s = stood m their e in elim s.kind [
-                | inl put ↦ absurd (not_put m their e put.1)
-                | inr as_found ↦ (subst (WasFound first) (sym as_found.0) (none_above m s.old s.was_old)).accepted flag
-              ])
-        ])
+        let at = stood k one two.is_one in (
+          one_state was s first (reads_so seen was s there back reads) told.reads,
+          elim at.kind [
+            | inl put ↦ absurd (not_put k one two.is_one put.1)
+            | inr found ↦ first_last k one two.is_one found.1 (λ m their e. let low = less m their e in omega (arith, low))
+                (λ m their e flag. let s = stood m their e in elim s.kind [
+                  | inl put ↦ absurd (not_put m their e put.1)
+                  | inr as_found ↦ (subst (WasFound first) (sym as_found.0) (none_above m s.old s.was_old)).accepted flag
+                ])
+          ],
+        )
       where
         not_put : (m : ℕ) (their : Held) → seen m ≡ Some their → first.index ≤ their.decided.index → ⊥
         not_put m their e high = let low = less m their e in omega (arith, low, high)

@@ -83,8 +83,7 @@ best_step cells k o best = by o (cells k) refl best
 
         test : (t : Bool) → nat_lt s.index held.decided.index ≡ t → BestTo cells (k + 1) (if t then Some held.decided else Some s)
         test true t =
-            let more : s.index < held.decided.index = grind (arith, nat_tests, t) in
-            (
+            let more : s.index < held.decided.index = grind (arith, nat_tests, t) in (
               k,
               held,
               omega arith,
@@ -96,8 +95,7 @@ best_step cells k o best = by o (cells k) refl best
               ],
             )
         test false t =
-            let no_more : held.decided.index ≤ s.index = grind (arith, nat_tests, t) in
-            (
+            let no_more : held.decided.index ≤ s.index = grind (arith, nat_tests, t) in (
               n,
               old,
               omega (arith, less),
@@ -137,10 +135,13 @@ no_more_then m n k other old held no_more t = by no_more (cases_lt old.accepted.
         let level : old.accepted.index ≡ held.accepted.index = grind (arith, nat_tests, t, most) in
         let ballots : before_in old.ballot held.ballot ≡ true = grind (arith, nat_tests, t, most) in
         let before = before_is old.ballot held.ballot ballots in
-        inr (same ∙ level, elim rest [
-          | inl less ↦ inl (before_then other.ballot old.ballot held.ballot less before)
-          | inr equal ↦ inl (subst (λ (b : Ballot). ComesBefore b held.ballot) (sym equal.0) before)
-        ])
+        inr (
+          same ∙ level,
+          elim rest [
+            | inl less ↦ inl (before_then other.ballot old.ballot held.ballot less before)
+            | inr equal ↦ inl (subst (λ (b : Ballot). ComesBefore b held.ballot) (sym equal.0) before)
+          ],
+        )
 
 -- one that doesn't count more than an earlier one
 not_less : (n k : ℕ) (old held : Held) → n ≤ k → counts_less (record { ballot = old.ballot; state = old.accepted }) (record { ballot = held.ballot; state = held.accepted }) ≡ false → NoMore k held n old
@@ -284,10 +285,15 @@ module _ (a b c : Option Held) where
   reads_chosen : (o : Option Accepted) (d : Option GlobalState) (s : GlobalState) → HighTo cells 3 o → BestTo cells 3 d → told_of o d ≡ Some s → ReadsFirst cells s
   unfolding HighTo BestTo NoMore
   reads_chosen o None s high best e = let bad : None ≡ Some s = e in absurd cc
-  reads_chosen None (Some d) s high (n, held, less, is, same, most) e = inr (n, held, record {
-    level = record { is = is; greatest = λ m other there. (most m other (low_of m other there) there).0; none = λ m other there flag. absurd (high m other (low_of m other there) there flag) };
-    lowest = λ m other also. let k = also.greatest n held is in let j = most m other (low_of m other also.is) also.is in let low = j.0 in j.1 (omega (arith, k, low));
-  }, state_is)
+  reads_chosen None (Some d) s high (n, held, less, is, same, most) e = inr (
+    n,
+    held,
+    record {
+      level = record { is = is; greatest = λ m other there. (most m other (low_of m other there) there).0; none = λ m other there flag. absurd (high m other (low_of m other there) there flag) };
+      lowest = λ m other also. let k = also.greatest n held is in let j = most m other (low_of m other also.is) also.is in let low = j.0 in j.1 (omega (arith, k, low));
+    },
+    state_is,
+  )
     where
       state_is : s ≡ held.decided
       state_is = let one : d ≡ s = cc in sym one ∙ same
@@ -309,14 +315,19 @@ module _ (a b c : Option Held) where
           let no_more : x.state.index ≤ d.index = grind (arith, nat_tests, t) in
           let told : Some d ≡ Some s = subst (λ (b : Bool). (if b then Some x.state else Some d) ≡ Some s) t e in
           let one : d ≡ s = cc in
-          inr (n, held, record {
-            level = record {
-              is = is;
-              greatest = λ m other there. (most m other (low_of m other there) there).0;
-              none = λ m other there flagged. at_most m other (highest m other (low_of m other there) there flagged) no_more;
-            };
-            lowest = λ m other also. let j = also.greatest n held is in let i = most m other (low_of m other also.is) also.is in let low = i.0 in i.1 (omega (arith, j, low));
-          }, sym one ∙ same)
+          inr (
+            n,
+            held,
+            record {
+              level = record {
+                is = is;
+                greatest = λ m other there. (most m other (low_of m other there) there).0;
+                none = λ m other there flagged. at_most m other (highest m other (low_of m other there) there flagged) no_more;
+              };
+              lowest = λ m other also. let j = also.greatest n held is in let i = most m other (low_of m other also.is) also.is in let low = i.0 in i.1 (omega (arith, j, low));
+            },
+            sym one ∙ same,
+          )
         where
           at_most : (m : ℕ) (other : Held) → NoMore m other k cell → x.state.index ≤ d.index → other.accepted.index ≤ held.decided.index
           at_most m other (inl lower) no_more = omega (arith, lower, no_more, index, above_is)

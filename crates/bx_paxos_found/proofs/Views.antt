@@ -155,12 +155,14 @@ module _ (devices : ℕ) (image : Image) (a b c : Option Held) (view_a : IsView 
 
   reads_two : (state : GlobalState) (n m : ℕ) (one other : Held) → length state.devices ≡ devices → HasTwo (three a b c) n m one other → (s : GlobalState) × ReadsState state image s
   reads_two state n m one other same two =
-      let s = some_chosen a b c n one two.is_one in
-      (s.0, record {
-        seen = three a b c;
-        are = subst (λ (k : ℕ). AreSeen k image (three a b c)) (sym same) are;
-        tells = record { one = n; other = m; one_held = one; other_held = other; two = two; reads = chosen_reads a b c s.0 s.1 };
-      })
+      let s = some_chosen a b c n one two.is_one in (
+        s.0,
+        record {
+          seen = three a b c;
+          are = subst (λ (k : ℕ). AreSeen k image (three a b c)) (sym same) are;
+          tells = record { one = n; other = m; one_held = one; other_held = other; two = two; reads = chosen_reads a b c s.0 s.1 };
+        },
+      )
 
 -- ---- an image of a register
 

@@ -113,5 +113,8 @@ pub(crate) fn chosen(
     let (one, level) = split(first);
     let (two, next) = split(second);
     let (three, last) = split(third);
-    told(higher(higher(one, two), three), later(later(level, next), last))
+    told(
+        higher(higher(one, two), three),
+        later(later(level, next), last),
+    )
 }

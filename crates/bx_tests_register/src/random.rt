@@ -4,9 +4,11 @@
 use crate::chain::Known;
 use crate::states::first_state;
 use bx_base::Actor;
+use bx_calls::write_through;
 use bx_disk::{CrashRack, MemRack, Noise, Rack};
 use bx_facts::{Input, Outbox, ProposeError};
 use bx_global::Change;
+use bx_layout::Label;
 use bx_paxos_cluster::{Paxos, has_disks};
 use bx_post::Post;
 use rand_core::utils::NextWord;
@@ -46,6 +48,24 @@ fn machine(number: usize) -> Actor {
     }
 }
 
+/// Labels the disks of replicas. Says whether that went well.
+fn labels(rack: &mut MemRack) -> bool {
+    for disk in 0..3 {
+        let label = Label {
+            volume: 7,
+            disk,
+            devices: 1,
+            areas: 1,
+        };
+        let mut sector = [0; 512];
+        label.write(&mut sector);
+        if !has_disks(rack) || write_through(rack, disk, 0, &sector).is_err() {
+            return false;
+        }
+    }
+    true
+}
+
 /// A register on three new disks, and these.
 fn register(alloc: Global) -> Option<(Paxos, MemRack)> {
     let state = first_state(alloc)?;
@@ -55,7 +75,7 @@ fn register(alloc: Global) -> Option<(Paxos, MemRack)> {
     let Ok(mut paxos) = Paxos::new(alloc, NODES, state) else {
         return None;
     };
-    if !has_disks(&rack) || paxos.format(&mut rack).is_err() {
+    if !labels(&mut rack) || !has_disks(&rack) || paxos.format(&mut rack).is_err() {
         return None;
     }
     Some((paxos, rack))
@@ -89,7 +109,7 @@ impl Run {
 
     /// The number of a packet that is pending.
     fn picked(&mut self) -> Option<u64> {
-        let ahead = self.below(64);
+        let ahead = self.below(24);
         let mut number = self.post.pending(0)?;
         for _ in 0..ahead {
             number = self.post.pending(number).unwrap_or(number);
@@ -139,7 +159,10 @@ impl Run {
             || !self.is_up(at)
             || (self.paxos.has(at)
                 && has_disks(&self.rack)
-                && self.paxos.take(&mut self.rack, at, &input, &mut out).is_ok());
+                && self
+                    .paxos
+                    .take(&mut self.rack, at, &input, &mut out)
+                    .is_ok());
         if !stays {
             self.post.settle(number);
         }
@@ -177,7 +200,8 @@ impl Run {
     fn crashes_disk(&mut self, who: Actor) -> bool {
         let seed = u64::from(self.words.next_word());
         match who {
-            Actor::Replica(n) => n < self.rack.disks() && self.rack.crash(n, Noise::Seed(seed)).is_ok(),
+            Actor::Replica(n) => n < self.rack.disks()
+                && self.rack.crash(n, Noise::Seed(seed)).is_ok(),
             _ => true,
         }
     }
@@ -202,7 +226,10 @@ impl Run {
         let mut out = Outbox::new(self.alloc);
         self.paxos.has(who)
             && has_disks(&self.rack)
-            && self.paxos.restart(&mut self.rack, who, self.boot, &mut out).is_ok()
+            && self
+                .paxos
+                .restart(&mut self.rack, who, self.boot, &mut out)
+                .is_ok()
             && self.post.send(self.alloc, out).is_ok()
             && self.knows(who)
     }
@@ -242,11 +269,11 @@ impl Run {
         }
         let who = machine(number);
         match self.below(1_000) {
-            0..=2 => self.opens(),
-            3..=19 => self.down[number] || self.stops(number),
-            20..=119 => !self.down[number] || self.starts(number),
-            120..=219 => self.down[number] || self.takes(who, &Input::Tick(self.reading)),
-            220..=319 => self.down[number] || self.proposes(who),
+            0..=1 => self.opens(),
+            2..=9 => self.down[number] || self.stops(number),
+            10..=99 => !self.down[number] || self.starts(number),
+            100..=139 => self.down[number] || self.takes(who, &Input::Tick(self.reading)),
+            140..=199 => self.down[number] || self.proposes(who),
             _ => self.comes(),
         }
     }
@@ -265,5 +292,8 @@ fn what_machines_know_is_one_chain(rt: HostRuntime) {
         last = run.known.last();
         opened = run.opened;
     }
-    assert!(rt; is_right && last > 100 && opened > 10, "{last} states, opened {opened} times");
+    assert!(rt;
+        is_right && last > 50 && opened > 10,
+        "{last} states, opened {opened} times"
+    );
 }

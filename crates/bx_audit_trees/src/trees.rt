@@ -1,6 +1,6 @@
 //! Page trees.
 
-ghost use Rattle.std.specs.Prelude.{◌≡◌, ◌≤◌, ◌<◌, ◌+◌, ℕ, List, [], length, slice_index_or, IfOk, IfSome, IfNone, IsErrOf};
+ghost use Rattle.std.specs.Prelude.{◌≡◌, ◌≤◌, ◌<◌, ◌+◌, ℕ, List, [], ◌∷◌, length, slice_index_or, IfOk, IfSome, IfNone, IsErrOf};
 ghost use Rattle.bx_truth.specs.PageTrees.{Chunks, Node, PageTree, IsLevel, IsTree, map_of};
 ghost use Rattle.std.specs.Option.{option_copied};
 ghost use Rattle.bx_page.specs.Contents.{value_of};
@@ -16,7 +16,7 @@ use crate::error::AuditError;
 use crate::leaves::leaf_for;
 use crate::levels::level_from;
 use crate::pages::{TreePage, page_at, torn_at, way_of};
-use bx_base::Raw;
+use bx_base::{OutOfMemory, Raw};
 use bx_homes::Blocks;
 use bx_page::Page;
 use std::alloc::Global;
@@ -157,14 +157,22 @@ fn root_page<B: Blocks>(
     if let Some(_) = way_of(alloc, &page, root, level, &[])? {
         return Err(torn_at(root));
     }
+    let pages = one_page(alloc, root, page)?;
+    Ok((pages, level))
+}
+
+/// A page, with its handle, that is alone on its level.
+fn one_page(alloc: Global, handle: u64, page: Page) -> Result<Vec<TreePage>, OutOfMemory>
+    ensures { IfOk result (λ pages. pages.items ≡ record { handle = handle; begins = []; page = page } ∷ []) }
+{
     let begins = Raw::of(alloc, &[])?;
     let mut pages = Vec::new(alloc);
     pages.push(TreePage {
-        handle: root,
+        handle,
         begins,
         page,
     })?;
-    Ok((pages, level))
+    Ok(pages)
 }
 
 /// The level below the pages of another one. Torn exactly where none lies below them.

@@ -1,4 +1,4 @@
 pub mod FileChanged
-pub mod ModeSet
+pub mod AttributesSet
 pub mod LiveHeld
 pub mod HintsKept

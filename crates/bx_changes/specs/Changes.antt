@@ -1,5 +1,5 @@
 -- What a procedure that changes a tree answers.
-use Rattle.std.specs.Prelude.{◌≡◌, ℕ, true, false, List, [], ◌∷◌, Result, Ok, Err}
+use Rattle.std.specs.Prelude.{◌≡◌, ℕ, List, [], ◌∷◌, Result, Ok, Err}
 use Rattle.bx_base.specs.declared.names.Mode.{Mode}
 use Rattle.bx_base.specs.declared.names.Mode.TheVariants.{Exclusive}
 use Rattle.bx_inodes.specs.Stands.{Stands}
@@ -10,8 +10,6 @@ use Rattle.bx_model.specs.declared.reply.Reply.{Reply}
 use Rattle.bx_model.specs.declared.tree.Tree.{Tree}
 use Rattle.bx_model.specs.Steps.{Outcome}
 use Rattle.bx_records.specs.Drafts.{Changed}
-use Rattle.bx_tree_files.specs.declared.sattr.Sattr.{Sattr}
-use Rattle.bx_tree_files.specs.Times.{is_given}
 use Rattle.bx_views.specs.Truths.{Truth, with_draft}
 
 -- The reply is what the procedure comes to, and the truth that the draft leaves stands for the next tree.
@@ -27,15 +25,6 @@ IsChange volume areas truth tree outcome (Err (Status status)) = outcome ≡ Err
 IsChange volume areas truth tree outcome (Err (Need at mode)) = Unit {0}
 IsChange volume areas truth tree outcome (Err (Inner blocks)) = ⊥
 IsChange volume areas truth tree outcome (Err OutOfMemory) = Unit {0}
-
--- the mode is given, and nothing else
-pub record SetsModeAlone (sattr : Sattr) : Type 0 where
-  pub mode : is_given sattr.mode ≡ true
-  pub uid : is_given sattr.uid ≡ false
-  pub gid : is_given sattr.gid ≡ false
-  pub size : is_given sattr.size ≡ false
-  pub atime : is_given sattr.atime.0 ≡ false
-  pub mtime : is_given sattr.mtime.0 ≡ false
 
 -- one block is changed, which is on the path exclusively
 pub record IsOneBlock (Path : ℕ → Mode → Type 0) (draft : List Changed) : Type 0 where

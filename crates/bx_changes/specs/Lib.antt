@@ -1,2 +1,3 @@
 pub mod Changes
+pub mod Given
 pub mod Growing

@@ -1,40 +1,38 @@
 //! SETATTR.
 
-ghost use Rattle.std.specs.Prelude.{◌≡◌, ℕ, List, IfOk, IsSome, Some};
+ghost use Rattle.std.specs.Prelude.{◌≡◌, ℕ, false, List, IfOk, IsSome, Some};
 ghost use Rattle.bx_base.specs.declared.names.Mode.TheVariants.{Exclusive};
 ghost use Rattle.bx_handles.specs.Handles.{named};
 ghost use Rattle.bx_hints.specs.Fitting.{HintsFitAll};
-ghost use Rattle.bx_inodes.specs.Heads.{head_of as head_by};
 ghost use Rattle.bx_inodes.specs.Inodes.{HoldsInode, IsInodeOf};
 ghost use Rattle.bx_layout.specs.Inodes.{IsInode};
-ghost use Rattle.bx_model.specs.Permissions.{may as may_do};
-ghost use Rattle.bx_model.specs.declared.permissions.Want.TheVariants.{Times};
 ghost use Rattle.bx_model.specs.declared.tree.Tree.{Tree};
 ghost use Rattle.bx_model.specs.Writing.{setattr};
+ghost use Rattle.bx_tree_files.specs.Times.{is_given};
 ghost use Rattle.bx_truth.specs.Chunks.{IsChunked, block_at};
 ghost use Rattle.bx_views.specs.Attempts.{IsHeldDraft};
 ghost use Rattle.bx_views.specs.Truths.{Held, Hints, IsTruth, Truth, with_draft};
 ghost use Rattle.bx_inodes.specs.Stands.{Stands};
 ghost use Rattle.bx_inodes.specs.Stops.{NeedsOn, NeverInner, OnInode};
-ghost use Rattle.bx_changes.specs.Changes.{IsChange, IsOneBlock, NeedsNothing, SetsModeAlone};
+ghost use Rattle.bx_changes.specs.Changes.{IsChange, IsOneBlock, NeedsNothing};
 
+use crate::given::{is_forbidden, with_given};
 use crate::rewriting::rewritten;
-use bx_base::{Mode, OutOfMemory};
+use bx_base::Mode;
 use bx_handles::named_handle;
-use bx_inodes::{Stop, head_of, inode_at};
+use bx_inodes::{Stop, inode_at};
 use bx_layout::Inode;
-use bx_model::{Call, PERM, Reply, STALE, Sattr, Want, may};
+use bx_model::{Call, PERM, Reply, STALE, Sattr};
 use bx_records::Draft;
-use bx_tree_files::MODES;
 use bx_views::View;
 use std::alloc::Global;
 
-/// SETATTR (RFC 1094, section 2.2.3) of the mode alone: the block that it changes, and the attributes then.
+/// SETATTR (RFC 1094, section 2.2.3) of anything but a size: the block that it changes, and the attributes then.
 ///
 /// `Need` names the block of the file's inode, exclusively, which isn't held so then. The status is `STALE`, exactly where the
-/// file handle names no file, else `PERM`, exactly where the caller is neither the file's owner nor the user 0. `now` is in seconds and
+/// file handle names no file, else `PERM`, exactly where the caller may not set something that is given. `now` is in seconds and
 /// microseconds.
-pub fn set_mode<V: View>(
+pub fn set_attributes<V: View>(
     alloc: Global,
     volume: u64,
     areas: u16,
@@ -44,7 +42,7 @@ pub fn set_mode<V: View>(
     now: (u32, u32),
     view: &V,
 ) -> Result<(Draft, Reply), Stop>
-    requires { SetsModeAlone sattr.now }
+    requires { is_given sattr.now.size ≡ false }
     ensures step { (truth : Truth) (tree : Tree) → IsTruth (V.held view.now) truth → Stands volume areas truth tree
         → IsChange volume areas truth tree (setattr tree call.now at.now sattr.now now) result }
     ensures hints { (hints : Hints) (truth : Truth) (tree : Tree) → IsTruth (V.held view.now) truth → Stands volume areas truth tree → HintsFitAll areas hints truth
@@ -60,12 +58,12 @@ pub fn set_mode<V: View>(
     let none = Draft::new(alloc);
     match inode_at(alloc, &none, view, areas, handle, Mode::Exclusive) {
         Err(stop) => Err(stop),
-        Ok(inode) => with_mode(alloc, volume, call, handle, inode, sattr, now),
+        Ok(inode) => with_attributes(alloc, volume, call, handle, inode, sattr, now),
     }
 }
 
 /// The same, of the file with a handle, by its inode.
-fn with_mode(
+fn with_attributes(
     alloc: Global,
     volume: u64,
     call: &Call,
@@ -75,7 +73,7 @@ fn with_mode(
     now: (u32, u32),
 ) -> Result<(Draft, Reply), Stop>
     requires inode { IsInode inode }
-    requires alone { SetsModeAlone sattr.now }
+    requires given { is_given sattr.now.size ≡ false }
     ensures step { (areas : ℕ) (truth : Truth) (tree : Tree) (bytes : List ℕ) → Stands volume areas truth tree → IsInodeOf areas truth tree handle inode → named volume bytes ≡ Some handle
         → IsChange volume areas truth tree (setattr tree call.now bytes sattr.now now) result }
     ensures hints { (areas : ℕ) (hints : Hints) (truth : Truth) → IsChunked areas truth → HoldsInode areas truth handle inode → HintsFitAll areas hints truth
@@ -85,26 +83,14 @@ fn with_mode(
     ensures inner { NeverInner result }
     ensures acts { NeedsNothing result }
 {
-    match may_set(alloc, call, handle, &inode) {
+    match is_forbidden(alloc, call, handle, &inode, sattr) {
         Err(_) => return Err(Stop::OutOfMemory),
-        Ok(false) => return Err(Stop::Status(PERM)),
-        Ok(true) => {}
+        Ok(true) => return Err(Stop::Status(PERM)),
+        Ok(false) => {}
     }
-    let changed = Inode {
-        mode: sattr.mode % MODES,
-        ctime: now,
-        ..inode
-    };
+    let changed = with_given(inode, sattr, now);
     match rewritten(alloc, volume, handle, &changed) {
         Err(_) => Err(Stop::OutOfMemory),
         Ok(made) => Ok(made),
     }
-}
-
-/// Whether a caller may set the mode of the file with a handle, by its inode.
-fn may_set(alloc: Global, call: &Call, handle: u64, inode: &Inode) -> Result<bool, OutOfMemory>
-    ensures { IfOk result (λ may. may ≡ may_do call.now (head_by handle inode.now) Times) }
-{
-    let head = head_of(alloc, handle, inode)?;
-    Ok(may(call, &head, Want::Times))
 }

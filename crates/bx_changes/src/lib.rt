@@ -3,7 +3,9 @@
 
 mod attributes;
 mod error;
+mod given;
 mod rewriting;
 
-pub use attributes::set_mode;
+pub use attributes::set_attributes;
 pub use error::ChangeError;
+pub use given::{is_forbidden, sets_field, with_given};

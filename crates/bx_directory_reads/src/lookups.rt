@@ -1,20 +1,25 @@
 //! LOOKUP.
 
-ghost use Rattle.std.specs.Prelude.{◌≡◌, ◌≤◌, ℕ, List, [], IfOk, Some};
+ghost use Rattle.std.specs.Prelude.{◌≡◌, ◌<◌, ◌≤◌, ◌^◌, ℕ, List, [], IfOk, Some};
 ghost use Rattle.bx_dirs.specs.Entries.{HasEntries};
 ghost use Rattle.bx_files.specs.Paths.{IsBlockOf, OnSearch};
+ghost use Rattle.bx_handles.specs.Handles.{file_text};
 ghost use Rattle.bx_hints.specs.Fitting.{HintsFitAll};
 ghost use Rattle.bx_inodes.specs.Heads.{head_of as head_by};
+ghost use Rattle.bx_inodes.specs.Inodes.{shown_size};
 ghost use Rattle.bx_inodes.specs.Stands.{Stands};
 ghost use Rattle.bx_inodes.specs.Stops.{NeedsOn, NeverInner};
 ghost use Rattle.bx_model.specs.declared.tree.Tree.{Tree};
+ghost use Rattle.bx_model.specs.declared.reply.Reply.TheVariants.{Handle};
 ghost use Rattle.bx_model.specs.Reading.{lookup as lookup_of};
 ghost use Rattle.bx_reads.specs.Answers.{IsOutcome};
+ghost use Rattle.bx_tree_files.specs.Attributes.{attributes_of};
 ghost use Rattle.bx_tree_files.specs.declared.file.Body.TheVariants.{Names};
 ghost use Rattle.bx_tree_files.specs.declared.file.File.{File};
 ghost use Rattle.bx_tree_files.specs.declared.file.Name.{Name};
-ghost use Rattle.bx_tree_files.specs.Files.{file_at};
+ghost use Rattle.bx_tree_files.specs.Files.{file_at, size_of};
 ghost use Rattle.bx_truth.specs.Keys.{name_key};
+ghost use Rattle.bx_truth.specs.Stored.{HasFields};
 ghost use Rattle.bx_views.specs.Truths.{IsTruth, Truth};
 ghost use Rattle.bx_directory_reads.specs.Lookups.{MayMean, MeansIn, OnLooking, search_error as error_of, telling};
 
@@ -140,11 +145,25 @@ fn told<V: View>(
     let none = Draft::new(alloc);
     match inode_at(alloc, &none, view, areas, handle, Mode::Shared) {
         Ok(inode) => {
-            let words = attributes_by(alloc, volume, handle, &inode)?;
-            let bytes = Raw::of(alloc, file_handle(volume, handle).as_slice())?;
-            Ok(Reply::Handle(bytes, words))
+            let reply = handle_reply(alloc, volume, handle, &inode)?;
+            Ok(reply)
         }
         Err(Stop::Status(_)) => Err(Stop::Status(NOENT)),
         Err(stop) => Err(stop),
     }
+}
+
+/// The reply with the file handle and the attributes of the file with a handle, by its inode.
+fn handle_reply(
+    alloc: Global,
+    volume: u64,
+    handle: u64,
+    inode: &Inode,
+) -> Result<Reply, OutOfMemory>
+    ensures { (file : File) → file.handle ≡ handle → HasFields inode.now file → size_of file.body ≡ shown_size inode.now → size_of file.body < 2 ^ 31
+        → IfOk result (λ reply. reply ≡ Handle (file_text volume handle) (attributes_of volume file)) }
+{
+    let words = attributes_by(alloc, volume, handle, inode)?;
+    let bytes = Raw::of(alloc, file_handle(volume, handle).as_slice())?;
+    Ok(Reply::Handle(bytes, words))
 }

@@ -2,10 +2,9 @@
 use Rattle.std.proofs.Common.{◌≡◌, ℕ, ◌≤◌, List, [], Some, refl, sym, ap, ◌∙◌, subst, inl, arith, lit≤}
 use Rattle.bx_engine.specs.Outcomes.{Comes, ComesTo}
 use Rattle.bx_engine.specs.Steps.{StandsWith, Step}
-use Rattle.bx_hints.specs.Fitting.{HintsFitAll}
 use Rattle.bx_inodes.specs.Stands.{Stands}
 use Rattle.bx_model.specs.declared.call.Args.{Args}
-use Rattle.bx_model.specs.declared.call.Args.TheVariants.{Refused, Nothing, Handle, List as Listing, Name, Read, Set, Path}
+use Rattle.bx_model.specs.declared.call.Args.TheVariants.{Refused, Nothing, Handle, List as Listing, Name, Read, Path}
 use Rattle.bx_model.specs.declared.call.Call.{Call}
 use Rattle.bx_model.specs.declared.reply.Reply.{Reply}
 use Rattle.bx_model.specs.declared.reply.Reply.TheVariants as replies
@@ -16,18 +15,15 @@ use Rattle.bx_model.specs.Mounting.{mount, plain}
 use Rattle.bx_model.specs.Reading.{getattr, lookup, read, readlink, statfs}
 use Rattle.bx_model.specs.Removing.{remove, rmdir}
 use Rattle.bx_model.specs.Steps.{Outcome, done, plainly}
-use Rattle.bx_model.specs.Writing.{setattr}
 use Rattle.std.specs.Prelude.{◌==◌, if◌then◌else◌, Result, Ok, IfOk}
 use Rattle.std.proofs.lemmas.Result.{IfOk-weaker}
 use Rattle.bx_nfs.specs.Wire.{ReadsAs, reply_text}
-use Rattle.bx_tree_files.specs.declared.sattr.Sattr.{Sattr}
 use Rattle.bx_tree_files.specs.Times.{time_of}
 use Rattle.bx_views.specs.declared.attempt.Attempt.{Attempt}
 use Rattle.bx_views.specs.declared.attempt.Attempt.TheVariants.{Need, Change, Inner, Answer}
 use Rattle.bx_views.specs.declared.attempt.Done.{Done}
 use Rattle.bx_views.specs.Attempts.{Acts, Gives, deed_of}
-use Rattle.bx_views.specs.Truths.{Hints, Truth, with_draft}
-use Rattle.bx_records.specs.Drafts.{Changed}
+use Rattle.bx_views.specs.Truths.{Truth}
 
 -- ---- what the tree does
 
@@ -68,12 +64,6 @@ module _ (tree : Tree) (call : Call) (moment : ℕ) where
   pub lookup_acts : (at name : List ℕ) → call.args ≡ Name at name → call.procedure ≡ 4 → ActsSo (lookup tree call at name)
   lookup_acts at name is p = by_args (Name at name) (lookup tree call at name) is (ap (λ (procedure : ℕ). plainly tree 0 (if procedure == 10 then remove tree call at name (time_of moment) else if procedure == 15 then rmdir tree call at name (time_of moment) else lookup tree call at name)) p)
 
-  pub remove_acts : (at name : List ℕ) → call.args ≡ Name at name → call.procedure ≡ 10 → ActsSo (remove tree call at name (time_of moment))
-  remove_acts at name is p = by_args (Name at name) (remove tree call at name (time_of moment)) is (ap (λ (procedure : ℕ). plainly tree 0 (if procedure == 10 then remove tree call at name (time_of moment) else if procedure == 15 then rmdir tree call at name (time_of moment) else lookup tree call at name)) p)
-
-  pub setattr_acts : (at : List ℕ) (sattr : Sattr) → call.args ≡ Set at sattr → ActsSo (setattr tree call at sattr (time_of moment))
-  setattr_acts at sattr is = by_args (Set at sattr) (setattr tree call at sattr (time_of moment)) is refl
-
 -- ---- the step
 
 module _ (volume areas client : ℕ) (bytes : List ℕ) (moment free : ℕ) (truth : Truth) (tree : Tree) (xid : ℕ) (call : Call) (outcome : Outcome)
@@ -95,22 +85,20 @@ module _ (volume areas client : ℕ) (bytes : List ℕ) (moment free : ℕ) (tru
     enough = λ _. refl;
   })
 
-  by_step : (next : Tree) (acted : Done) (draft : List Changed) → ComesTo tree outcome xid acted next → Stands volume areas (with_draft truth draft) next
-      → ((hints : Hints) → HintsFitAll areas hints truth → HintsFitAll areas hints (with_draft truth draft)) → Acts (StandsWith volume areas) Step free (deed_of client bytes moment acted) acted truth draft tree
-  by_step next acted draft comes stands fit = record {
-    next = next;
-    step = steps next acted comes;
-    leads = record { each = λ hints was. record { stands = stands; fit = fit hints was.fit } };
+  answers : Stands volume areas truth tree → (acted : Done) → ComesTo tree outcome xid acted tree → Acts (StandsWith volume areas) Step free (deed_of client bytes moment acted) acted truth [] tree
+  answers stands acted comes = record {
+    next = tree;
+    step = steps tree acted comes;
+    leads = record { each = λ hints was. was };
     spare = inl (ap (λ (d : Done). d.spare) comes.told);
   }
 
-  comes_gives : Stands volume areas truth tree → (attempt : Attempt) → Comes volume areas truth tree xid outcome attempt
-      → Gives (StandsWith volume areas) Step free client bytes moment truth tree attempt
+  comes_gives : Stands volume areas truth tree → (attempt : Attempt) → Comes tree xid outcome attempt → Gives (StandsWith volume areas) Step free client bytes moment truth tree attempt
   comes_gives stands (Need wants) comes = tt
-  comes_gives stands (Change draft acted) comes = by_step comes.next acted draft comes.comes comes.stands comes.fit
+  comes_gives stands (Change draft acted) comes = absurd comes
   comes_gives stands (Inner draft) comes = absurd comes
-  comes_gives stands (Answer acted) comes = by_step tree acted [] comes stands (λ hints fit. fit)
+  comes_gives stands (Answer acted) comes = answers stands acted comes
 
-  pub gives_by : {E : Type 0} → Stands volume areas truth tree → (result : Result Attempt E) → IfOk result (Comes volume areas truth tree xid outcome)
+  pub gives_by : {E : Type 0} → Stands volume areas truth tree → (result : Result Attempt E) → IfOk result (Comes tree xid outcome)
       → IfOk result (Gives (StandsWith volume areas) Step free client bytes moment truth tree)
   gives_by stands result comes = IfOk-weaker result _ _ (comes_gives stands) comes

@@ -1,7 +1,7 @@
 -- A datagram is one call at most, so what is said of its call is said of it.
 use Rattle.std.proofs.Common.{ℕ, List, subst}
 use Rattle.bx_base.specs.declared.names.Mode.{Mode}
-use Rattle.bx_engine.specs.Calls.{AsksRemoval, AsksSpace, IsAtOnce, IsAtOnceCall, IsBuilt, IsBuiltCall, IsRemoveCall, IsSpaceCall}
+use Rattle.bx_engine.specs.Calls.{AsksSpace, IsAtOnce, IsAtOnceCall, IsBuilt, IsBuiltCall, IsReadCall, IsReading, IsSpaceCall}
 use Rattle.bx_engine.specs.Paths.{IsOnPath, PathOf}
 use Rattle.bx_model.specs.declared.call.Call.{Call}
 use Rattle.bx_nfs.specs.Wire.{ReadsAs}
@@ -15,8 +15,8 @@ module _ (bytes : List ℕ) (xid : ℕ) (call : Call) (reads : ReadsAs bytes xid
   pub unbuilt : (IsBuilt call → ⊥) → IsBuiltCall bytes → ⊥
   unbuilt none is = none (subst IsBuilt (reads_once bytes is.xid xid is.call call is.reads reads).1 is.built)
 
-  pub removal_as : AsksRemoval call → IsRemoveCall bytes
-  removal_as asks = record { xid = xid; call = call; reads = reads; asks = asks }
+  pub reading_as : IsReadCall bytes → IsReading call
+  reading_as is = subst IsReading (reads_once bytes is.xid xid is.call call is.reads reads).1 is.reading
 
   pub at_once_as : IsAtOnceCall bytes → IsAtOnce call
   at_once_as is = subst IsAtOnce (reads_once bytes is.xid xid is.call call is.reads reads).1 is.at_once

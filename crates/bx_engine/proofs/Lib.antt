@@ -1,6 +1,7 @@
 pub mod Acting
 pub mod Along
 pub mod Datagrams
+pub mod Apart
 pub mod OneStep
 pub mod Paths
 pub mod Stopping

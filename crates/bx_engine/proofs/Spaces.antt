@@ -3,8 +3,8 @@ use Rattle.std.proofs.Common.{◌≡◌, ℕ, ◌*◌, ◌≤◌, List, [], ◌�
 use Rattle.std.specs.Prelude.{◌⊎◌, Ok, Err}
 use Rattle.bx_base.specs.declared.names.Mode.{Mode}
 use Rattle.bx_engine.specs.Outcomes.{ComesSpace, ComesToSpace, TellsFree, told_free}
-use Rattle.bx_engine.specs.Paths.{PathOf}
-use Rattle.bx_engine.specs.Replies.{IsStopped, done_with}
+use Rattle.bx_engine.specs.Paths.{ReadPathOf}
+use Rattle.bx_attempts.specs.Replies.{IsStopped, done_with}
 use Rattle.bx_engine.specs.Steps.{StandsWith, Step}
 use Rattle.bx_engine.proofs.Acting.{statfs_acts}
 use Rattle.bx_inodes.specs.declared.stop.Stop.{Stop}
@@ -110,6 +110,6 @@ module _ (volume areas client : ℕ) (bytes : List ℕ) (moment free : ℕ) (tru
 
 -- ---- the path
 
-pub space_on : (held : Held) (hints : Hints) (volume areas : ℕ) (handle : List ℕ) (procedure : ℕ) → procedure ≡ 17 → (at : ℕ) (mode : Mode) → OnSpace volume areas handle at mode → PathOf held hints volume areas procedure (Handle handle) at mode
+pub space_on : (held : Held) (hints : Hints) (volume areas : ℕ) (handle : List ℕ) (procedure : ℕ) → procedure ≡ 17 → (at : ℕ) (mode : Mode) → OnSpace volume areas handle at mode → ReadPathOf held hints volume areas procedure (Handle handle) at mode
 space_on held hints volume areas handle procedure asks at mode (inl on) = inl on
 space_on held hints volume areas handle procedure asks at mode (inr own) = inr (asks, record { area = own.area; at_is = own.at_is; mode_is = own.mode_is })

@@ -1,8 +1,8 @@
 -- The calls that are attempted, by their bytes.
 use Rattle.std.specs.Prelude.{◌≡◌, ℕ, ◌⊎◌, List}
-use Rattle.bx_changes.specs.Changes.{SetsModeAlone}
+use Rattle.bx_attempts.specs.Calls.{IsChanging, IsProcedure}
 use Rattle.bx_model.specs.declared.call.Args.{Args}
-use Rattle.bx_model.specs.declared.call.Args.TheVariants.{Refused, Nothing, Handle, List as Listing, Name, Read, Set, Path}
+use Rattle.bx_model.specs.declared.call.Args.TheVariants.{Refused, Nothing, Handle, List as Listing, Name, Read, Path}
 use Rattle.bx_model.specs.declared.call.Call.{Call}
 use Rattle.bx_nfs.specs.Wire.{ReadsAs}
 
@@ -15,41 +15,37 @@ pub record AsksAboutFile (call : Call) : Type 0 where
   pub program : call.program ≡ 100003
   pub procedure : IsAboutFile call.procedure
 
--- the procedures about a name in a directory: LOOKUP (4) and REMOVE (10)
-abbrev pub IsAboutName : ℕ → Type 0
-IsAboutName procedure = (procedure ≡ 4) ⊎ (procedure ≡ 10)
-
--- the call is one of those
-pub record AsksAboutName (call : Call) : Type 0 where
-  pub program : call.program ≡ 100003
-  pub procedure : IsAboutName call.procedure
-
--- the call is this procedure of NFS
-pub record IsProcedure (number : ℕ) (call : Call) : Type 0 where
-  pub program : call.program ≡ 100003
-  pub procedure : call.procedure ≡ number
-
 -- the call is MNT (1) or UMNT (3) of MOUNT
 pub record IsOfMount (call : Call) : Type 0 where
   pub program : call.program ≡ 100005
   pub procedure : (call.procedure ≡ 1) ⊎ (call.procedure ≡ 3)
 
--- The calls that are built: those that are refused; those without arguments, which are NULL, ROOT and WRITECACHE of NFS, and NULL, DUMP,
--- UMNTALL and EXPORT of MOUNT; MNT and UMNT of MOUNT; of NFS GETATTR (1), READLINK (5) and STATFS (17), SETATTR (2) where it sets the mode alone,
--- LOOKUP (4), REMOVE (10), READ and READDIR.
-abbrev pub HasBuiltArgs : Call → Args → Type 0
-HasBuiltArgs call (Refused number) = Unit {0}
-HasBuiltArgs call Nothing = Unit {0}
-HasBuiltArgs call (Path path) = IsOfMount call
-HasBuiltArgs call (Handle handle) = AsksAboutFile call
-HasBuiltArgs call (Set handle sattr) = IsProcedure 2 call × SetsModeAlone sattr
-HasBuiltArgs call (Name handle name) = AsksAboutName call
-HasBuiltArgs call (Read handle offset count total) = Unit {0}
-HasBuiltArgs call (Listing handle cookie count) = Unit {0}
-HasBuiltArgs call _ = ⊥
+-- The calls that are built and change nothing, by their arguments: those that are refused; those without arguments, which are NULL, ROOT and
+-- WRITECACHE of NFS, and NULL, DUMP, UMNTALL and EXPORT of MOUNT; MNT and UMNT of MOUNT; of NFS GETATTR (1), READLINK (5), STATFS (17), LOOKUP (4),
+-- READ and READDIR.
+abbrev pub HasReadArgs : Call → Args → Type 0
+HasReadArgs call (Refused number) = Unit {0}
+HasReadArgs call Nothing = Unit {0}
+HasReadArgs call (Path path) = IsOfMount call
+HasReadArgs call (Handle handle) = AsksAboutFile call
+HasReadArgs call (Name handle name) = IsProcedure 4 call
+HasReadArgs call (Read handle offset count total) = Unit {0}
+HasReadArgs call (Listing handle cookie count) = Unit {0}
+HasReadArgs call _ = ⊥
 
+abbrev pub IsReading : Call → Type 0
+IsReading call = HasReadArgs call call.args
+
+-- the datagram is one of them
+pub record IsReadCall (bytes : List ℕ) : Type 0 where
+  pub xid : ℕ
+  pub call : Call
+  pub reads : ReadsAs bytes xid call
+  pub reading : IsReading call
+
+-- The calls that are built: these, and those that change a file tree.
 abbrev pub IsBuilt : Call → Type 0
-IsBuilt call = HasBuiltArgs call call.args
+IsBuilt call = IsReading call ⊎ IsChanging call
 
 -- the datagram is one of them
 pub record IsBuiltCall (bytes : List ℕ) : Type 0 where
@@ -57,20 +53,6 @@ pub record IsBuiltCall (bytes : List ℕ) : Type 0 where
   pub call : Call
   pub reads : ReadsAs bytes xid call
   pub built : IsBuilt call
-
--- the call is REMOVE (10)
-pub record AsksRemoval (call : Call) : Type 0 where
-  pub at : List ℕ
-  pub name : List ℕ
-  pub args : call.args ≡ Name at name
-  pub procedure : call.procedure ≡ 10
-
--- the datagram is
-pub record IsRemoveCall (bytes : List ℕ) : Type 0 where
-  pub xid : ℕ
-  pub call : Call
-  pub reads : ReadsAs bytes xid call
-  pub asks : AsksRemoval call
 
 -- the call is STATFS (17) by this file handle
 pub record AsksSpace (call : Call) (at : List ℕ) : Type 0 where

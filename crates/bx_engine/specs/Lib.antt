@@ -1,5 +1,4 @@
 pub mod Calls
 pub mod Outcomes
 pub mod Paths
-pub mod Replies
 pub mod Steps

@@ -1,30 +1,23 @@
 //! The calls that are attempted.
 
 ghost use Rattle.std.specs.Prelude.{◌↔◌, IsTrue, IfOk, IfSome, IfNone};
-ghost use Rattle.bx_changes.specs.Changes.{SetsModeAlone};
 ghost use Rattle.bx_nfs.specs.Wire.{ReadsAs};
-ghost use Rattle.bx_engine.specs.Calls.{IsAboutFile, IsAboutName, IsBuilt, IsBuiltCall};
+ghost use Rattle.bx_engine.specs.Calls.{IsAboutFile, IsBuilt, IsBuiltCall, IsReading};
 
+use bx_attempts::is_change;
 use bx_base::OutOfMemory;
-use bx_model::{Args, Call, Sattr};
+use bx_model::{Args, Call};
 use bx_rpc::{MOUNT_PROGRAM, NFS_PROGRAM};
-use bx_tree_files::is_given;
 use std::alloc::Global;
 
 /// The procedure GETATTR (RFC 1094, section 2.2.2).
 const GETATTR: u32 = 1;
-
-/// The procedure SETATTR (RFC 1094, section 2.2.3).
-const SETATTR: u32 = 2;
 
 /// The procedure LOOKUP (RFC 1094, section 2.2.5).
 const LOOKUP: u32 = 4;
 
 /// The procedure READLINK (RFC 1094, section 2.2.6).
 pub(crate) const READLINK: u32 = 5;
-
-/// The procedure REMOVE (RFC 1094, section 2.2.11).
-pub(crate) const REMOVE: u32 = 10;
 
 /// The procedure STATFS (RFC 1094, section 2.2.18).
 pub(crate) const STATFS: u32 = 17;
@@ -50,21 +43,25 @@ pub(crate) fn built_call(alloc: Global, datagram: &[u8]) -> Result<Option<(u32, 
     }
 }
 
-/// Whether a call is attempted: it is refused as a message, it has no arguments, or it is MNT, UMNT, GETATTR,
-/// READLINK, STATFS, LOOKUP, REMOVE, READ, READDIR, or SETATTR of the mode alone.
+/// Whether a call is attempted.
 fn is_built(call: &Call) -> bool
     ensures { IsTrue result ↔ IsBuilt call.now }
+{
+    is_reading(call) || is_change(call)
+}
+
+/// Whether a call changes nothing, and is attempted: it is refused as a message, it has no arguments, or it is MNT, UMNT, GETATTR, READLINK,
+/// STATFS, LOOKUP, READ or READDIR.
+fn is_reading(call: &Call) -> bool
+    ensures { IsTrue result ↔ IsReading call.now }
 {
     match &call.args {
         Args::Refused(_) | Args::Nothing | Args::Read(_, _, _, _) | Args::List(_, _, _) => true,
         Args::Path(_) => {
             call.program == MOUNT_PROGRAM && (call.procedure == MNT || call.procedure == UMNT)
         }
-        Args::Name(_, _) => call.program == NFS_PROGRAM && is_about_name(call.procedure),
+        Args::Name(_, _) => call.program == NFS_PROGRAM && call.procedure == LOOKUP,
         Args::Handle(_) => call.program == NFS_PROGRAM && is_about_file(call.procedure),
-        Args::Set(_, sattr) => {
-            call.program == NFS_PROGRAM && call.procedure == SETATTR && sets_mode_alone(sattr)
-        }
         _ => false,
     }
 }
@@ -74,23 +71,4 @@ fn is_about_file(procedure: u32) -> bool
     ensures { IsTrue result ↔ IsAboutFile procedure }
 {
     procedure == GETATTR || procedure == READLINK || procedure == STATFS
-}
-
-/// Whether a procedure is LOOKUP or REMOVE.
-fn is_about_name(procedure: u32) -> bool
-    ensures { IsTrue result ↔ IsAboutName procedure }
-{
-    procedure == LOOKUP || procedure == REMOVE
-}
-
-/// Whether the mode is given, and nothing else.
-fn sets_mode_alone(sattr: &Sattr) -> bool
-    ensures { IsTrue result ↔ SetsModeAlone sattr.now }
-{
-    is_given(sattr.mode)
-        && !is_given(sattr.uid)
-        && !is_given(sattr.gid)
-        && !is_given(sattr.size)
-        && !is_given(sattr.atime.0)
-        && !is_given(sattr.mtime.0)
 }

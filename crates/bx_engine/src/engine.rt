@@ -1,32 +1,28 @@
 //! The engine of a volume.
 
 ghost use Rattle.std.specs.Prelude.{◌≡◌, ◌≤◌, ℕ, List, IfOk, IfNone, IfSome};
-ghost use Rattle.bx_base.specs.declared.names.Mode.TheVariants.{Exclusive, Shared};
-ghost use Rattle.bx_changes.specs.Changes.{SetsModeAlone};
+ghost use Rattle.bx_base.specs.declared.names.Mode.TheVariants.{Shared};
 ghost use Rattle.bx_chunks.specs.Counting.{free_slots};
 ghost use Rattle.bx_inodes.specs.Stands.{Stands};
 ghost use Rattle.bx_inodes.specs.Stops.{OnInode};
 ghost use Rattle.bx_model.specs.declared.tree.Tree.{Tree};
 ghost use Rattle.bx_model.specs.declared.call.Args.TheVariants.{Handle as HandleArgs};
 ghost use Rattle.bx_model.specs.Reading.{getattr as getattr_of, readlink as readlink_of, statfs as statfs_of};
-ghost use Rattle.bx_model.specs.Writing.{setattr as setattr_of};
 ghost use Rattle.bx_nfs.specs.Wire.{ReadsAs};
-ghost use Rattle.bx_tree_files.specs.Times.{time_of as time_of_moment};
 ghost use Rattle.bx_reads.specs.Space.{OnSpace};
 ghost use Rattle.bx_views.specs.Attempts.{Gives, IsAnswer, IsFair};
 ghost use Rattle.bx_views.specs.Truths.{IsTruth, Truth};
-ghost use Rattle.bx_engine.specs.Calls.{AsksRemoval, AsksSpace, IsAboutFile, IsAtOnce, IsAtOnceCall, IsBuilt, IsBuiltCall, IsRemoveCall, IsSpaceCall};
-ghost use Rattle.bx_engine.specs.Outcomes.{ChangesNothing, Comes, ComesSpace, TellsFree, TellsNothing, WritesFew, WritesOne, told_free};
-ghost use Rattle.bx_engine.specs.Paths.{IsOnPath, PathOf};
+ghost use Rattle.bx_engine.specs.Calls.{AsksSpace, IsAboutFile, IsAtOnce, IsAtOnceCall, IsBuilt, IsBuiltCall, IsReadCall, IsReading, IsSpaceCall};
+ghost use Rattle.bx_engine.specs.Outcomes.{ChangesNothing, Comes, ComesSpace, TellsFree, TellsNothing, told_free};
+ghost use Rattle.bx_engine.specs.Paths.{IsOnPath, PathOf, ReadPathOf};
 ghost use Rattle.bx_engine.specs.Steps.{StandsWith, Step};
 
 use crate::calls::{READLINK, STATFS, built_call};
 use crate::mounting::mounted;
-use crate::replies::{answered, answered_with, changed, plain, stopped};
-use crate::times::time_of;
+use crate::plain::plain;
+use bx_attempts::{answered, answered_with, change, is_change, stopped};
 use bx_base::OutOfMemory;
-use bx_changes::set_mode;
-use bx_model::{Args, Call, Reply, Sattr};
+use bx_model::{Args, Call, Reply};
 use bx_views::{Attempt, View};
 use std::alloc::Global;
 
@@ -67,11 +63,11 @@ impl BoxFs {
         ensures fair { IfOk result (λ found. IfSome found (IsFair self.now.areas (V.held view.now) (IsOnPath (V.held view.now) (V.hints view.now) self.now.volume self.now.areas call.now))) }
         ensures at_once { IsAtOnceCall call.now → IfOk result (λ found. IfSome found IsAnswer) }
 
-        // A change is of one block, the inode's of a SETATTR, unless the call is REMOVE; and blocks need never be written before a call acts.
-        ensures writes { IfOk result (λ found. IfSome found (WritesFew (IsOnPath (V.held view.now) (V.hints view.now) self.now.volume self.now.areas call.now) (IsRemoveCall call.now))) }
+        // A call that reads changes nothing, and blocks need not be written before it acts.
+        ensures keeps { IsReadCall call.now → IfOk result (λ found. IfSome found ChangesNothing) }
 
-        // STATFS alone tells how many blocks are free, unless it comes to an error.
-        ensures tells { ((at : List ℕ) → IsSpaceCall call.now at → ⊥) → IfOk result (λ found. IfSome found TellsNothing) }
+        // Of these STATFS alone tells how many blocks are free, unless it comes to an error.
+        ensures tells { IsReadCall call.now → ((at : List ℕ) → IsSpaceCall call.now at → ⊥) → IfOk result (λ found. IfSome found TellsNothing) }
         ensures free { (at : List ℕ) (truth : Truth) (tree : Tree) → IsSpaceCall call.now at → IsTruth (V.held view.now) truth → Stands self.now.volume self.now.areas truth tree
             → IfOk result (λ found. IfSome found (TellsFree (told_free (free_slots self.now.areas truth) (statfs_of tree at (free_slots self.now.areas truth))))) }
 
@@ -100,7 +96,32 @@ impl BoxFs {
             → StandsWith self.now.volume self.now.areas truth (V.hints view.now) tree → IfOk result (Gives (StandsWith self.now.volume self.now.areas) Step (free_slots self.now.areas truth) client bytes moment truth tree) }
         ensures fair { IfOk result (IsFair self.now.areas (V.held view.now) (PathOf (V.held view.now) (V.hints view.now) self.now.volume self.now.areas call.now.procedure call.now.args)) }
         ensures at_once { IsAtOnce call.now → IfOk result IsAnswer }
-        ensures writes { IfOk result (WritesFew (PathOf (V.held view.now) (V.hints view.now) self.now.volume self.now.areas call.now.procedure call.now.args) (AsksRemoval call.now)) }
+        ensures keeps { IsReading call.now → IfOk result ChangesNothing }
+        ensures tells { IsReading call.now → ((at : List ℕ) → AsksSpace call.now at → ⊥) → IfOk result TellsNothing }
+        ensures free { (at : List ℕ) (truth : Truth) (tree : Tree) → AsksSpace call.now at → IsTruth (V.held view.now) truth → Stands self.now.volume self.now.areas truth tree
+            → IfOk result (TellsFree (told_free (free_slots self.now.areas truth) (statfs_of tree at (free_slots self.now.areas truth)))) }
+    {
+        if is_change(call) {
+            change(alloc, self.volume, self.areas, xid, call, moment, view)
+        } else {
+            self.answer(alloc, xid, call, view)
+        }
+    }
+
+    /// The same of a call that changes nothing, whenever it comes.
+    fn answer<V: View>(
+        &self,
+        alloc: Global,
+        xid: u32,
+        call: &Call,
+        view: &V,
+    ) -> Result<Attempt, OutOfMemory>
+        requires reading { IsReading call.now }
+        ensures gives { (client moment : ℕ) (bytes : List ℕ) (truth : Truth) (tree : Tree) → moment ≤ 4294967295999 → ReadsAs bytes xid call.now → IsTruth (V.held view.now) truth
+            → StandsWith self.now.volume self.now.areas truth (V.hints view.now) tree → IfOk result (Gives (StandsWith self.now.volume self.now.areas) Step (free_slots self.now.areas truth) client bytes moment truth tree) }
+        ensures fair { IfOk result (IsFair self.now.areas (V.held view.now) (ReadPathOf (V.held view.now) (V.hints view.now) self.now.volume self.now.areas call.now.procedure call.now.args)) }
+        ensures at_once { IsAtOnce call.now → IfOk result IsAnswer }
+        ensures keeps { IfOk result ChangesNothing }
         ensures tells { ((at : List ℕ) → AsksSpace call.now at → ⊥) → IfOk result TellsNothing }
         ensures free { (at : List ℕ) (truth : Truth) (tree : Tree) → AsksSpace call.now at → IsTruth (V.held view.now) truth → Stands self.now.volume self.now.areas truth tree
             → IfOk result (TellsFree (told_free (free_slots self.now.areas truth) (statfs_of tree at (free_slots self.now.areas truth)))) }
@@ -113,15 +134,10 @@ impl BoxFs {
                 answered(alloc, xid, reply)
             }
             Args::Handle(at) => self.about_file(alloc, xid, call, at.bytes(), view),
-            Args::Set(at, sattr) => {
-                self.setattr(alloc, xid, call, at.bytes(), sattr, moment, view)
-            }
             Args::Read(at, offset, count, _) => {
                 self.read(alloc, xid, call, at.bytes(), (*offset, *count), view)
             }
-            Args::Name(at, name) => {
-                self.about_name(alloc, xid, call, at.bytes(), name.bytes(), moment, view)
-            }
+            Args::Name(at, name) => self.lookup(alloc, xid, call, at.bytes(), name.bytes(), view),
             Args::List(at, cookie, count) => {
                 self.readdir(alloc, xid, call, at.bytes(), (*cookie, *count), view)
             }
@@ -142,7 +158,7 @@ impl BoxFs {
         requires procedure { IsAboutFile call.now.procedure }
         ensures gives { (client moment : ℕ) (bytes : List ℕ) (truth : Truth) (tree : Tree) → moment ≤ 4294967295999 → ReadsAs bytes xid call.now → IsTruth (V.held view.now) truth
             → Stands self.now.volume self.now.areas truth tree → IfOk result (Gives (StandsWith self.now.volume self.now.areas) Step (free_slots self.now.areas truth) client bytes moment truth tree) }
-        ensures fair { IfOk result (IsFair self.now.areas (V.held view.now) (PathOf (V.held view.now) (V.hints view.now) self.now.volume self.now.areas call.now.procedure (HandleArgs at.now))) }
+        ensures fair { IfOk result (IsFair self.now.areas (V.held view.now) (ReadPathOf (V.held view.now) (V.hints view.now) self.now.volume self.now.areas call.now.procedure (HandleArgs at.now))) }
         ensures keeps { IfOk result ChangesNothing }
         ensures tells { (call.now.procedure ≡ 17 → ⊥) → IfOk result TellsNothing }
         ensures free { (truth : Truth) (tree : Tree) → call.now.procedure ≡ 17 → IsTruth (V.held view.now) truth → Stands self.now.volume self.now.areas truth tree
@@ -171,7 +187,7 @@ impl BoxFs {
         ensures keeps { IfOk result ChangesNothing }
     {
         match bx_reads::statfs(alloc, self.volume, self.areas, at, view) {
-            Ok((reply, free)) => answered_with(alloc, xid, reply, free),
+            Ok((reply, free)) => answered_with(alloc, xid, reply, u64::from(free)),
             Err(stop) => stopped(alloc, xid, stop),
         }
     }
@@ -185,7 +201,7 @@ impl BoxFs {
         view: &V,
     ) -> Result<Attempt, OutOfMemory>
         ensures comes { (truth : Truth) (tree : Tree) → IsTruth (V.held view.now) truth → Stands self.now.volume self.now.areas truth tree
-            → IfOk result (Comes self.now.volume self.now.areas truth tree xid (readlink_of tree at.now)) }
+            → IfOk result (Comes tree xid (readlink_of tree at.now)) }
         ensures fair { IfOk result (IsFair self.now.areas (V.held view.now) (OnInode self.now.volume at.now Shared)) }
         ensures keeps { IfOk result ChangesNothing }
         ensures tells { IfOk result TellsNothing }
@@ -205,39 +221,13 @@ impl BoxFs {
         view: &V,
     ) -> Result<Attempt, OutOfMemory>
         ensures comes { (truth : Truth) (tree : Tree) → IsTruth (V.held view.now) truth → Stands self.now.volume self.now.areas truth tree
-            → IfOk result (Comes self.now.volume self.now.areas truth tree xid (getattr_of tree at.now)) }
+            → IfOk result (Comes tree xid (getattr_of tree at.now)) }
         ensures fair { IfOk result (IsFair self.now.areas (V.held view.now) (OnInode self.now.volume at.now Shared)) }
         ensures keeps { IfOk result ChangesNothing }
         ensures tells { IfOk result TellsNothing }
     {
         match bx_reads::getattr(alloc, self.volume, self.areas, at, view) {
             Ok(reply) => answered(alloc, xid, reply),
-            Err(stop) => stopped(alloc, xid, stop),
-        }
-    }
-
-    /// SETATTR of the mode alone, of the file that a file handle names.
-    fn setattr<V: View>(
-        &self,
-        alloc: Global,
-        xid: u32,
-        call: &Call,
-        at: &[u8],
-        sattr: &Sattr,
-        moment: u64,
-        view: &V,
-    ) -> Result<Attempt, OutOfMemory>
-        requires alone { SetsModeAlone sattr.now }
-        requires moment { moment ≤ 4294967295999 }
-        ensures comes { (truth : Truth) (tree : Tree) → IsTruth (V.held view.now) truth → Stands self.now.volume self.now.areas truth tree
-            → IfOk result (Comes self.now.volume self.now.areas truth tree xid (setattr_of tree call.now at.now sattr.now (time_of_moment moment))) }
-        ensures fair { IfOk result (IsFair self.now.areas (V.held view.now) (OnInode self.now.volume at.now Exclusive)) }
-        ensures writes { IfOk result (WritesOne (OnInode self.now.volume at.now Exclusive)) }
-        ensures tells { IfOk result TellsNothing }
-    {
-        let now = time_of(moment);
-        match set_mode(alloc, self.volume, self.areas, call, at, sattr, now, view) {
-            Ok((draft, reply)) => changed(alloc, xid, draft, reply),
             Err(stop) => stopped(alloc, xid, stop),
         }
     }

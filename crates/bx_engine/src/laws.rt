@@ -1,19 +1,19 @@
 //! Laws of the engine.
 
-ghost use Rattle.std.specs.Prelude.{◌≡◌, ◌≤◌, ◌⊎◌, ℕ, List, true};
+ghost use Rattle.std.specs.Prelude.{◌≡◌, ◌≤◌, ℕ, List, true};
 ghost use Rattle.bx_base.specs.declared.names.Mode.{Mode};
-ghost use Rattle.bx_base.specs.declared.names.Mode.TheVariants.{Exclusive, Shared};
-ghost use Rattle.bx_model.specs.declared.call.Args.TheVariants.{Name, Refused, Set};
+ghost use Rattle.bx_base.specs.declared.names.Mode.TheVariants.{Shared};
+ghost use Rattle.bx_model.specs.declared.call.Args.TheVariants.{Refused};
 ghost use Rattle.bx_model.specs.declared.call.Call.{Call};
 ghost use Rattle.bx_model.specs.declared.entry.Entry.{Entry};
 ghost use Rattle.bx_model.specs.declared.tree.Tree.{Tree};
 ghost use Rattle.bx_model.specs.Opening.{opening};
 ghost use Rattle.bx_nfs.specs.Wire.{ReadsAs};
 ghost use Rattle.bx_places.specs.Places.{is_block};
-ghost use Rattle.bx_tree_files.specs.declared.sattr.Sattr.{Sattr};
 ghost use Rattle.bx_truth.specs.Opening.{opening_truth};
 ghost use Rattle.bx_views.specs.Attempts.{Deed};
 ghost use Rattle.bx_views.specs.Truths.{Held, Hints, Truth, no_hints, with_hint, without_hint};
+ghost use Rattle.bx_engine.specs.Calls.{IsReading};
 ghost use Rattle.bx_engine.specs.Paths.{HasOneBlock, IsOnPath};
 ghost use Rattle.bx_engine.specs.Steps.{Enters, StandsWith, Step};
 
@@ -27,15 +27,13 @@ pub fn hints_come_and_go()
         → StandsWith volume areas truth (with_hint at (truth at) hints) tree }
 {}
 
-/// One block at most is on the path of a GETATTR or a READLINK, shared, and of a SETATTR, exclusively. What is on the path of any other
-/// call but REMOVE is shared. No block is on the path of a call that is refused.
+/// One block at most is on the path of a GETATTR or a READLINK. What is on the path of a call that reads is shared, and no block is on that of
+/// a call that is refused.
 pub fn paths_are_of_files()
     ensures one { (held : Held) (hints : Hints) (volume areas : ℕ) (bytes : List ℕ) (at other xid : ℕ) (mode asked : Mode) (call : Call) → ReadsAs bytes xid call → HasOneBlock call.procedure call.args
         → IsOnPath held hints volume areas bytes at mode → IsOnPath held hints volume areas bytes other asked → (at ≡ other) × (mode ≡ asked) }
-    ensures shared { (held : Held) (hints : Hints) (volume areas : ℕ) (bytes handle : List ℕ) (sattr : Sattr) (at xid : ℕ) (call : Call) → IsOnPath held hints volume areas bytes at Shared → ReadsAs bytes xid call
-        → call.args ≡ Set handle sattr → ⊥ }
-    ensures exclusive { (held : Held) (hints : Hints) (volume areas : ℕ) (bytes : List ℕ) (at xid : ℕ) (call : Call) → IsOnPath held hints volume areas bytes at Exclusive → ReadsAs bytes xid call
-        → ((handle : List ℕ) × (sattr : Sattr) × (call.args ≡ Set handle sattr)) ⊎ ((handle : List ℕ) × (name : List ℕ) × (call.args ≡ Name handle name) × (call.procedure ≡ 10)) }
+    ensures shared { (held : Held) (hints : Hints) (volume areas : ℕ) (bytes : List ℕ) (at xid : ℕ) (mode : Mode) (call : Call) → IsOnPath held hints volume areas bytes at mode → ReadsAs bytes xid call
+        → IsReading call → mode ≡ Shared }
     ensures refused { (held : Held) (hints : Hints) (volume areas : ℕ) (bytes : List ℕ) (at xid number : ℕ) (mode : Mode) (call : Call) → IsOnPath held hints volume areas bytes at mode → ReadsAs bytes xid call
         → call.args ≡ Refused number → ⊥ }
 {}

@@ -2,13 +2,12 @@
 #![tactic(auto)]
 
 mod calls;
+mod cleaning;
 mod engine;
 mod laws;
 mod mounting;
-mod naming;
+mod plain;
 mod reading;
-mod replies;
-mod times;
 
 pub use engine::BoxFs;
 pub use laws::{hints_come_and_go, paths_are_of_files, steps_are_of_histories};

@@ -13,7 +13,7 @@ ghost use Rattle.bx_engine.specs.Outcomes.{ChangesNothing, Comes, TellsNothing};
 ghost use Rattle.bx_engine.specs.Steps.{StandsWith};
 
 use crate::engine::BoxFs;
-use crate::replies::{answered, stopped};
+use bx_attempts::{answered, stopped};
 use bx_base::OutOfMemory;
 use bx_model::Call;
 use bx_views::{Attempt, View};
@@ -31,7 +31,7 @@ impl BoxFs {
         view: &V,
     ) -> Result<Attempt, OutOfMemory>
         ensures comes { (truth : Truth) (tree : Tree) → IsTruth (V.held view.now) truth → StandsWith self.now.volume self.now.areas truth (V.hints view.now) tree
-            → IfOk result (Comes self.now.volume self.now.areas truth tree xid (read_of tree call.now at.now part.0 part.1)) }
+            → IfOk result (Comes tree xid (read_of tree call.now at.now part.0 part.1)) }
         ensures fair { IfOk result (IsFair self.now.areas (V.held view.now) (OnReading (V.held view.now) (V.hints view.now) self.now.volume self.now.areas at.now part.0 part.1)) }
         ensures keeps { IfOk result ChangesNothing }
         ensures tells { IfOk result TellsNothing }
@@ -62,7 +62,7 @@ impl BoxFs {
         view: &V,
     ) -> Result<Attempt, OutOfMemory>
         ensures comes { (truth : Truth) (tree : Tree) → IsTruth (V.held view.now) truth → StandsWith self.now.volume self.now.areas truth (V.hints view.now) tree
-            → IfOk result (Comes self.now.volume self.now.areas truth tree xid (lookup_of tree call.now at.now name.now)) }
+            → IfOk result (Comes tree xid (lookup_of tree call.now at.now name.now)) }
         ensures fair { IfOk result (IsFair self.now.areas (V.held view.now) (OnLooking (V.held view.now) (V.hints view.now) self.now.volume self.now.areas at.now name.now)) }
         ensures keeps { IfOk result ChangesNothing }
         ensures tells { IfOk result TellsNothing }
@@ -83,7 +83,7 @@ impl BoxFs {
         view: &V,
     ) -> Result<Attempt, OutOfMemory>
         ensures comes { (truth : Truth) (tree : Tree) → IsTruth (V.held view.now) truth → StandsWith self.now.volume self.now.areas truth (V.hints view.now) tree
-            → IfOk result (Comes self.now.volume self.now.areas truth tree xid (readdir_of tree call.now at.now part.0 part.1)) }
+            → IfOk result (Comes tree xid (readdir_of tree call.now at.now part.0 part.1)) }
         ensures fair { IfOk result (IsFair self.now.areas (V.held view.now) (OnListing (V.held view.now) (V.hints view.now) self.now.volume self.now.areas at.now part.0)) }
         ensures keeps { IfOk result ChangesNothing }
         ensures tells { IfOk result TellsNothing }

@@ -185,7 +185,7 @@ pub trait Register: Drop {
     ghost reads_some: { (g : Self) (x : Disks) (past : RegisterPast) (image : Image) (n m : ℕ) (one other : Label) → keeps g x past → IsImage x image → n < 3 → m < 3 → n ≢ m → SpellsLabel one (image n 0) → SpellsLabel other (image m 0) → (s : GlobalState) × reads_as (made g) image s };
 
     /// Other disks don't matter.
-    ghost elsewhere: { (g : Self) (x y : Disks) (past : RegisterPast) → keeps g x past → SameReplicas x y → keeps g y past };
+    ghost elsewhere: { (g : Self) (x y : Disks) (past : RegisterPast) → keeps g x past → SameReplicas x y → SameLabels x y → keeps g y past };
 
     /// The disk of a machine that is down may crash.
     ghost survives: { (g : Self) (x y : Disks) (past : RegisterPast) (n : ℕ) → keeps g x past → past.down (Replica n) ≡ true → Crashes n x y → keeps g y past };

@@ -7,7 +7,7 @@ ghost use Rattle.bx_truth.specs.PageTrees.{handle_in as handle_of_value};
 use byteorder::{BigEndian, ByteOrder};
 
 /// The key of the piece with an index: 3, and the index.
-pub(crate) fn content_key(index: u32) -> [u8; 5]
+pub fn content_key(index: u32) -> [u8; 5]
     ensures { result ≡ key_of_content index }
 {
     let [first, second, third, fourth] = index.to_be_bytes();
@@ -15,7 +15,7 @@ pub(crate) fn content_key(index: u32) -> [u8; 5]
 }
 
 /// The handle's number that a value is; 0 where it hasn't got eight bytes.
-pub(crate) fn handle_in(value: &[u8]) -> u64
+pub fn handle_in(value: &[u8]) -> u64
     ensures { result ≡ handle_of_value value.now }
 {
     if value.len() == 8 {

@@ -22,7 +22,7 @@ use bx_views::View;
 use std::alloc::Global;
 
 /// How many bytes a piece has.
-pub(crate) const PIECE: usize = 4096;
+pub const PIECE: usize = 4096;
 
 /// The block of the piece with an index of a regular file, by the handle of the root of its tree; `None` exactly where the file has
 /// a hole there.

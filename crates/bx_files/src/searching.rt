@@ -21,7 +21,7 @@ use std::alloc::Global;
 ///
 /// `Need` names a block of the volume that isn't held and is on the path of the search, shared. The status is `STALE`, where what is
 /// held is no tree of the volume.
-pub(crate) fn value_at<V: View>(
+pub fn value_at<V: View>(
     alloc: Global,
     areas: u16,
     view: &V,

@@ -17,7 +17,8 @@ use Rattle.bx_cell.specs.Halves.{Found}
 use Rattle.bx_cell.specs.Images.{EachSure, HasAllSure}
 use Rattle.bx_disk.specs.Disks.{Disks, Image}
 use Rattle.bx_facts.specs.Chains.{AreLegal, Chain, GrowsBy, IsPlace}
-use Rattle.bx_facts.specs.Disks.{Crashes, SameReplicas}
+use Rattle.bx_facts.specs.Disks.{Crashes, SameLabels, SameReplicas}
+use Rattle.bx_paxos.specs.Shown.{Shows}
 use Rattle.bx_facts.specs.Inputs.{AreAmong, IsRegisters}
 use Rattle.bx_facts.specs.Pasts.{RegisterPast}
 use Rattle.bx_global.specs.Bytes.{IsHeld, held_text}
@@ -41,7 +42,8 @@ use Rattle.bx_proposer.specs.declared.course.Course.{Course}
 use Rattle.bx_proposer.specs.declared.course.Move.{Move}
 use Rattle.bx_proposer.specs.declared.course.Proposal.{Proposal}
 use Rattle.bx_paxos.specs.Counted.{IsCounted, IsHeldSound}
-use Rattle.bx_paxos.specs.Fits.{AllPass, Fits, Goes, KnowsCell, Turned, Voters, devices_of, going, machines_of}
+use Rattle.bx_paxos.specs.Fits.{AllPass, Fits, Goes, IsPutOn, KnowsCell, Turned, Voters, devices_of, going, machines_of}
+use Rattle.bx_paxos.proofs.Shown.{shown_either, shown_elsewhere, shown_fewer, shown_then}
 use Rattle.bx_paxos.proofs.Images.{at_moment, at_replica, counted_either, counted_of, crash_has, elsewhere, fewer, sound_with, synced_has, the_cell}
 use Rattle.bx_paxos.proofs.Letters.{all_more, all_none, all_on, all_to, first_stays, longer_later, longer_on, places_on, sent_pass}
 
@@ -84,6 +86,9 @@ fewer_letters v x past letters f among = record {
   first = f.first;
   letters = record { each = λ letter has. record { each = λ m spells. may_come v x past f letter m (among letter has (registers (devices_of v) letter m spells)) spells } };
   images = f.images;
+  was = f.was;
+  begun = f.begun;
+  shown = f.shown;
   proposing = f.proposing;
   courses = f.courses;
   boots = f.boots;
@@ -106,28 +111,35 @@ pub loses : (v : Voters) (x : Disks) (past : RegisterPast) (letters : List Lette
 loses v x past letters f among = fewer_letters v x past letters f (λ letter has own. among.each letter own has)
 
 -- other images, by all that is sure
-pub with_images : (v : Voters) (x y : Disks) (past : RegisterPast) (f : Fits v x past) → EachSure y (IsHeldSound v.first v.origins f.history) → Fits v y past
-with_images v x y past f images = record {
+pub with_images : (v : Voters) (x y : Disks) (past : RegisterPast) (f : Fits v x past) → EachSure y (IsHeldSound v.first v.origins f.history) → EachSure y (Shows v.first v.origins f.was) → Fits v y past
+with_images v x y past f images shown = record {
   history = f.history;
   chain = f.chain;
   proposed = f.proposed;
   first = f.first;
   letters = f.letters;
   images = images;
+  was = f.was;
+  begun = f.begun;
+  shown = shown;
   proposing = f.proposing;
   courses = f.courses;
   boots = f.boots;
   allowed = f.allowed;
 }
 
-pub other_disks : (v : Voters) (x y : Disks) (past : RegisterPast) → Fits v x past → SameReplicas x y → Fits v y past
-other_disks v x y past f same = with_images v x y past f (elsewhere v.first v.origins f.history x y same f.images)
+-- what has all that is sure has all that was sure before
+fewer_images : (v : Voters) (x y : Disks) (past : RegisterPast) → Fits v x past → ((image : Image) → HasAllSure y image → HasAllSure x image) → Fits v y past
+fewer_images v x y past f implies = with_images v x y past f (fewer v.first v.origins f.history x y implies f.images) (shown_fewer v f.was x y implies f.shown)
+
+pub other_disks : (v : Voters) (x y : Disks) (past : RegisterPast) → Fits v x past → SameReplicas x y → SameLabels x y → Fits v y past
+other_disks v x y past f same labels = with_images v x y past f (elsewhere v.first v.origins f.history x y same f.images) (shown_elsewhere v f.was x y same labels f.shown)
 
 pub survives : (v : Voters) (x y : Disks) (past : RegisterPast) (n : ℕ) → Fits v x past → Crashes n x y → Fits v y past
-survives v x y past n f crash = with_images v x y past f (fewer v.first v.origins f.history x y (crash_has v.first v.origins x y n crash) f.images)
+survives v x y past n f crash = fewer_images v x y past f (crash_has v.first v.origins x y n crash)
 
 pub syncs : (v : Voters) (x y : Disks) (past : RegisterPast) (n : ℕ) → Fits v x past → KeepsAll x y n → Fits v y past
-syncs v x y past n f keeps = with_images v x y past f (fewer v.first v.origins f.history x y (synced_has v.first v.origins x y n keeps) f.images)
+syncs v x y past n f keeps = fewer_images v x y past f (synced_has v.first v.origins x y n keeps)
 
 -- ---- a packet at a replica
 
@@ -211,9 +223,9 @@ holds_place v x past n held found f three knows =
 
 -- A replica took a packet that may be under way, and has answered it.
 pub answers : (v : Voters) (x y : Disks) (past : RegisterPast) (n : ℕ) (held now : Held) (found after : Found) (letter : Letter) (message : Message) (answer : Option Message) → Fits v x past → n < 3
-    → KnowsCell v x n held found → KnowsCell v y n now after → KeepsSure x y n 1 20 → Contains past.letters letter → Spells (devices_of v) message letter.kind letter.body → Handles held message now answer
+    → KnowsCell v x n held found → KnowsCell v y n now after → IsPutOn found after → KeepsSure x y n 1 20 → Contains past.letters letter → Spells (devices_of v) message letter.kind letter.body → Handles held message now answer
     → Fits v y (record past { letters = past.letters ++ answers_of n letter.from answer })
-answers v x y past n held now found after letter message answer f three knows knows_now keeps has spells does = record {
+answers v x y past n held now found after letter message answer f three knows knows_now put keeps has spells does = record {
   history = new;
   chain = same.0 ∙ f.chain;
   proposed = same.1 ∙ f.proposed;
@@ -223,6 +235,9 @@ answers v x y past n held now found after letter message answer f three knows kn
       (answer_passes f.history n held now (holds_place v x past n held found f three knows) answer message does));
   images = at_replica v.first v.origins f.history x y n held now message answer three keeps f.images (counted v x n held found knows) (counted v y n now after knows_now)
       (to_replica f.history letter.from message (may_come v x past f letter message has spells)) does;
+  was = f.was;
+  begun = f.begun;
+  shown = shown_then v f.was x y n held now found after f.shown keeps knows knows_now put;
   proposing = λ me. let is = f.proposing me in record {
     is = goes_on f.history new me (v.courses me).boot (v.courses me).seen (v.courses me).known (round_of (v.courses me).out) is.is later;
     own = own_later (v.courses me).out is.own;
@@ -258,6 +273,7 @@ pub faults : (v : Voters) (x y : Disks) (past : RegisterPast) (n : ℕ) (held no
     → EachSure y (HasEither x n 1 found (next found (held_text now))) → Fits v y past
 faults v x y past n held now found letter message f three knows is_now has spells does either =
     with_images v x y past f (record { each = λ image sure. moment v x past n held now found letter message image f three knows is_now has spells does (either.each image sure) })
+    (record { each = λ image sure. shown_either v f.was x n held now found image f.shown knows is_now (either.each image sure) })
 
 -- ---- a step of a proposer
 
@@ -280,6 +296,9 @@ goes v x past f me course courses sent turned a is boot pass = record {
         sound = sound_with f.history a.history was.cells (here v x past f).cells a.goes_on (places_on f.history.proposed f.history.chain a.history.chain a.goes_on.grows) was.sound a.stands.sound;
       };
     };
+    was = f.was;
+    begun = f.begun;
+    shown = f.shown;
     proposing = λ m. record {
       is = a.stands.each m;
       own = elim (eqb_tells m me) [

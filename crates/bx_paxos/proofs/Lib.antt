@@ -6,3 +6,5 @@ pub mod Reading
 pub mod Replicas
 pub mod Sending
 pub mod Starts
+pub mod Shown
+pub mod Founds

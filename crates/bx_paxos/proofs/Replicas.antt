@@ -42,12 +42,14 @@ use Rattle.bx_proposer.specs.declared.course.Course.{Course}
 use Rattle.bx_proposer.specs.declared.course.Move.{Move}
 use Rattle.bx_proposer.specs.declared.course.Move.TheVariants.{Nothing}
 use Rattle.bx_paxos.specs.Counted.{IsCounted, IsHeldSound}
-use Rattle.bx_paxos.specs.Fits.{AllPass, Fits, Goes, KnowsCell, Turned, Voters, devices_of, going}
-use Rattle.bx_paxos.specs.Reading.{AreMade, ReadsNext}
+use Rattle.bx_paxos.specs.Fits.{AllPass, Fits, Goes, IsPutOn, KnowsCell, Turned, Voters, devices_of, going}
+use Rattle.bx_paxos.specs.Reading.{ReadsNext}
+use Rattle.bx_paxos.specs.Shown.{Shows}
 use Rattle.bx_paxos.specs.Machines.{AreHalves, AreOf}
 use Rattle.bx_paxos.proofs.Events.{answers, counted, hears, holds_place, may_come, ticks_at, syncs, to_replica, with_images}
 use Rattle.bx_paxos.proofs.Images.{at_moment, counted_either}
-use Rattle.bx_paxos.proofs.Reading.{sound_reads}
+use Rattle.bx_paxos.proofs.Reading.{next_read, reads}
+use Rattle.bx_paxos.proofs.Shown.{shown_either}
 use Rattle.bx_paxos.proofs.Letters.{all_more, asks_pass}
 use Rattle.bx_paxos.proofs.Starts.{boots_stay, first_place, proposed, restarted, told, turned_each}
 
@@ -80,6 +82,9 @@ more_letters v x past sent f pass = record {
   first = f.first;
   letters = all_more (devices_of v) f.history past.letters sent f.letters pass;
   images = f.images;
+  was = f.was;
+  begun = f.begun;
+  shown = f.shown;
   proposing = f.proposing;
   courses = f.courses;
   boots = f.boots;
@@ -95,6 +100,9 @@ reads_clock v x past me reading courses f turned = record {
   first = f.first;
   letters = f.letters;
   images = f.images;
+  was = f.was;
+  begun = f.begun;
+  shown = f.shown;
   proposing = turned_each (λ c m. IsProposing f.history m c) me (reading_now reading (v.courses me)) v.courses courses turned (record { is = (f.proposing me).is; own = (f.proposing me).own }) f.proposing;
   courses = turned_each (λ c m. IsCourse (devices_of v) c) me (reading_now reading (v.courses me)) v.courses courses turned (record { known = (f.courses me).known; boot = (f.courses me).boot; out = (f.courses me).out }) f.courses;
   boots = boots_stay v x past f me (reading_now reading (v.courses me)) courses turned refl;
@@ -141,15 +149,15 @@ acceptor_takes v x y past a b (Packet packet reading) out after Same first origi
     let then_at = after_cell at.0 (subst (λ (o : Option Known). IfSome o (λ cell. (b.cell ≡ Some (with_value cell (held_text b.held))) ⊎ ((b ≡ a) × Same))) at.1 stored) at.1 in
     let knows_then = subst (λ (n : ℕ). KnowsCell v y n b.held then_at.0.found) replica (knows_of v y b then_at.0 (first ∙ sym firsts) (ap v.origins replica ∙ origin ∙ sym origins) is_b then_at.1 has_b) in
     let spells : Spells (devices_of v) message packet.now.kind packet.now.body = subst (λ (s : GlobalState). Spells (length s.devices) message packet.now.kind packet.now.body) (sym first) brings.0 in
-    let done = answers v x y (register_with past out) a.replica a.held b.held at.0.found then_at.0.found (letter_of packet.now) message did.0 f low knows knows_then keeps comes spells did.1 in
+    let done = answers v x y (register_with past out) a.replica a.held b.held at.0.found then_at.0.found (letter_of packet.now) message did.0 f low knows knows_then then_at.2 keeps comes spells did.1 in
     let to : answers_of a.replica from did.0 ≡ answers_of a.replica packet.now.from did.0 = ap (λ (w : Actor). answers_of a.replica w did.0) brings.1 in
     let now : (past.letters ++ out) ++ answers_of a.replica packet.now.from did.0 ≡ past.letters ++ after = append_assoc past.letters out (answers_of a.replica packet.now.from did.0) ∙ ap (λ (l : List Letter). past.letters ++ (out ++ l)) (sym to) ∙ ap (λ (l : List Letter). past.letters ++ l) (sym did.2) in
     let fits = letters_as v y past ((past.letters ++ out) ++ answers_of a.replica packet.now.from did.0) (past.letters ++ after) now done in
     (fits, subst (λ (c : Chain). IsPlace c b.held.decided) fits.chain (holds_place v y (register_with past after) a.replica b.held then_at.0.found fits low knows_then))
   where
-    after_cell : (c : Known) → (b.cell ≡ Some (with_value c (held_text b.held))) ⊎ ((b ≡ a) × Same) → a.cell ≡ Some c → (k : Known) × (b.cell ≡ Some k)
-    after_cell c (inl put) e = (with_value c (held_text b.held), put)
-    after_cell c (inr (same, rest)) e = (c, ap (λ (s : Acceptor). s.cell) same ∙ e)
+    after_cell : (c : Known) → (b.cell ≡ Some (with_value c (held_text b.held))) ⊎ ((b ≡ a) × Same) → a.cell ≡ Some c → (k : Known) × (b.cell ≡ Some k) × IsPutOn c.found k.found
+    after_cell c (inl put) e = (with_value c (held_text b.held), put, inr (omega arith))
+    after_cell c (inr (same, rest)) e = (c, ap (λ (s : Acceptor). s.cell) same ∙ e, inl refl)
 acceptor_takes v x y past a b (Tick reading) out after Same first origin low is_a is_b replica firsts origins back keeps has has_b stored comes place (inr (message, from, brings, takes, did)) f = absurd brings
 acceptor_takes v x y past a b Synced out after Same first origin low is_a is_b replica firsts origins back keeps has has_b stored comes place (inr (message, from, brings, takes, did)) f = absurd brings
 
@@ -294,6 +302,12 @@ sound_at v x past a c now input out image f first origin low is at has is_now co
     by (Tick reading) coming (inr (message, from, brings, becomes)) = absurd brings
     by Synced coming (inr (message, from, brings, becomes)) = absurd brings
 
+-- and it has the cells with which replicas take part
+shows_now : (v : Voters) (x : Disks) (past : RegisterPast) (a : Acceptor) (c : Known) (now : Held) (out : List Letter) (image : Image) (f : Fits v x (register_with past out)) → v.first ≡ a.first → v.origins a.replica ≡ a.origin → IsStanding a
+    → a.cell ≡ Some c → EachSure x (HasCell a) → IsHeld (length a.first.devices) now → HasEither x a.replica 1 c.found (next c.found (held_text now)) image → Shows v.first v.origins f.was image
+shows_now v x past a c now out image f first origin is at has is_now either =
+    shown_either v f.was x a.replica a.held now c.found image f.shown (knows_of v x a c first origin is at has) (subst (λ (s : GlobalState). IsHeld (length s.devices) now) (sym first) is_now) either
+
 -- after a fault
 pub replica_faults : (v : Voters) (x y : Disks) (past : RegisterPast) (a b : Acceptor) (input : Input) (out : List Letter) (f : Fits v x (register_with past out)) → v.first ≡ a.first → v.origins a.replica ≡ a.origin → a.replica < 3 → IsStanding a → EachSure x (HasCell a)
     → IsHeld (length a.first.devices) b.held → IsComing (past.letters ++ out) input → BecomesBy a input b.held → (T : Type 0) → T → IfSome a.cell (λ cell. T → EachSure x (HasCell a) → EachSure y (HasEither x a.replica 1 cell.found (next cell.found (held_text b.held)))) → (a.cell ≡ None → y ≡ x)
@@ -303,11 +317,11 @@ replica_faults v x y past a b input out f first origin low is has is_now comes b
     by : (o : Option Known) → a.cell ≡ o → IfSome o (λ cell. T → EachSure x (HasCell a) → EachSure y (HasEither x a.replica 1 cell.found (next cell.found (held_text b.held)))) → Fits v y (register_with past out)
     by None at each = subst (λ (d : Disks). Fits v d (register_with past out)) (sym (unmoved at)) f
     by (Some c) at each = with_images v x y (register_with past out) f (record { each = λ image sure. sound_at v x past a c b.held input out image f first origin low is at has is_now comes became ((each t has).each image sure) })
+        (record { each = λ image sure. shows_now v x past a c b.held out image f first origin is at has is_now ((each t has).each image sure) })
 
--- what is sound is read as the last state, or as one change ahead
-pub next_of : (v : Voters) (x : Disks) (past : RegisterPast) (image : Image) (f : Fits v x past) → AreMade v.origins → IsHeldSound v.first v.origins f.history image → ReadsNext v.first past image
-next_of v x past image f made sound s is =
-    subst (λ (c : Chain). IsNext past.proposed (last c) s) f.chain (subst (λ (cs : List Change). IsNext cs (last f.history.chain) s) f.proposed (sound_reads v.first v.origins f.history image s made sound is))
+-- an image that has all that is sure is read as the last state, or as one change ahead
+image_next : (v : Voters) (x : Disks) (past : RegisterPast) (out : List Letter) → Fits v x (register_with past out) → (image : Image) → IsImage x image → ReadsNext v.first past image
+image_next v x past out f image is s read = reads v x (register_with past out) image s f (record { sure = is.sure }) read
 
 -- without a cell it takes no message
 pub no_cell_takes : (a : Acceptor) (m : Message) → a.cell ≡ None → TakesMessage a m → ⊥
@@ -323,15 +337,15 @@ leaves_none x moment since only = record {
 }
 
 -- each moment
-pub replica_moments : (v : Voters) (x : Disks) (past : RegisterPast) (a b : Acceptor) (input : Input) (out : List Letter) (before now : ℕ) (left since : ℕ → Image → Type 0) (f : Fits v x (register_with past out)) → AreMade v.origins → v.first ≡ a.first → v.origins a.replica ≡ a.origin → a.replica < 3 → IsStanding a → EachSure x (HasCell a)
+pub replica_moments : (v : Voters) (x : Disks) (past : RegisterPast) (a b : Acceptor) (input : Input) (out : List Letter) (before now : ℕ) (left since : ℕ → Image → Type 0) (f : Fits v x (register_with past out)) → v.first ≡ a.first → v.origins a.replica ≡ a.origin → a.replica < 3 → IsStanding a → EachSure x (HasCell a)
     → IsHeld (length a.first.devices) b.held → IsComing (past.letters ++ out) input → BecomesBy a input b.held → (T : Type 0) → T → IfSome a.cell (λ cell. T → EachSure x (HasCell a) → LeavesOnly before now left since (HasEither x a.replica 1 cell.found (next cell.found (held_text b.held))))
     → (a.cell ≡ None → LeavesOnly before now left since (IsImage x)) → LeavesOnly before now left since (ReadsNext v.first past)
-replica_moments v x past a b input out before now left since f made first origin low is has is_now comes became T t leaves unmoved = by a.cell refl leaves
+replica_moments v x past a b input out before now left since f first origin low is has is_now comes became T t leaves unmoved = by a.cell refl leaves
   where
     by : (o : Option Known) → a.cell ≡ o → IfSome o (λ cell. T → EachSure x (HasCell a) → LeavesOnly before now left since (HasEither x a.replica 1 cell.found (next cell.found (held_text b.held)))) → LeavesOnly before now left since (ReadsNext v.first past)
-    by None at each = leaves_implies before now left since (IsImage x) (ReadsNext v.first past) (unmoved at) (λ image is. next_of v x (register_with past out) image f made (f.images.each image (record { sure = is.sure })))
+    by None at each = leaves_implies before now left since (IsImage x) (ReadsNext v.first past) (unmoved at) (image_next v x past out f)
     by (Some c) at each = leaves_implies before now left since (HasEither x a.replica 1 c.found (next c.found (held_text b.held))) (ReadsNext v.first past) (each t has)
-        (λ image either. next_of v x (register_with past out) image f made (sound_at v x past a c b.held input out image f first origin low is at has is_now comes became either))
+        (λ image either s read. next_read v x (register_with past out) image s f (sound_at v x past a c b.held input out image f first origin low is at has is_now comes became either) (shows_now v x past a c b.held out image f first origin is at has is_now either) read)
 
 -- ---- a start
 
@@ -374,6 +388,9 @@ replica_start_fails v x y past n boot out keeps above f = let synced = syncs v x
   first = synced.first;
   letters = synced.letters;
   images = synced.images;
+  was = synced.was;
+  begun = synced.begun;
+  shown = synced.shown;
   proposing = synced.proposing;
   courses = synced.courses;
   boots = λ who there. more who (is_same (Replica n) who) refl (synced.boots who there);
@@ -385,9 +402,9 @@ replica_start_fails v x y past n boot out keeps above f = let synced = syncs v x
     more who false e least = least
 
 -- each moment of a start
-pub start_moments : (v : Voters) (x : Disks) (past : RegisterPast) (out : List Letter) (before now : ℕ) (left since : ℕ → Image → Type 0) (f : Fits v x (register_with past out)) → AreMade v.origins → LeavesOnly before now left since (IsImage x) → LeavesOnly before now left since (ReadsNext v.first past)
-start_moments v x past out before now left since f made leaves =
-    leaves_implies before now left since (IsImage x) (ReadsNext v.first past) leaves (λ image is. next_of v x (register_with past out) image f made (f.images.each image (record { sure = is.sure })))
+pub start_moments : (v : Voters) (x : Disks) (past : RegisterPast) (out : List Letter) (before now : ℕ) (left since : ℕ → Image → Type 0) (f : Fits v x (register_with past out)) → LeavesOnly before now left since (IsImage x) → LeavesOnly before now left since (ReadsNext v.first past)
+start_moments v x past out before now left since f leaves =
+    leaves_implies before now left since (IsImage x) (ReadsNext v.first past) leaves (image_next v x past out f)
 
 -- without a cell it knows the first state
 pub knows_first : (replica : ℕ) (first : GlobalState) (origin : Origin) (sectors : ℕ → List ℕ) (held : Held) (cell : Option Known) → StartsWith replica first origin sectors held cell → cell ≡ None → held.decided ≡ first

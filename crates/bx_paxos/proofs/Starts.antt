@@ -3,12 +3,15 @@ use Rattle.std.proofs.Common.{◌≡◌, ℕ, ◌^◌, ◌<◌, ◌≤◌, Bool,
 use Rattle.std.proofs.lemmas.Bool.{false≢true, lt-ltb, ltb-true}
 use Rattle.std.proofs.lemmas.Bool.Decides.{eqb_tells}
 use Rattle.std.specs.Prelude.{if◌then◌else◌}
-use Rattle.bx_acceptor.specs.Handling.{first_held}
+use Rattle.bx_acceptor.specs.Handling.{caught_up, first_held}
+use Rattle.bx_acceptor.specs.Standing.{IsFound}
+use Rattle.bx_acceptor.specs.declared.origin.Origin.{Origin}
+use Rattle.bx_acceptor.specs.declared.origin.Origin.TheVariants.{Made, Found as FoundAs, Apart}
 use Rattle.bx_agreement.specs.Cells.{KnowsFirst, opening}
 use Rattle.bx_agreement.specs.Events.{Stands, Turns}
 use Rattle.bx_agreement.specs.History.{ComesNext, History}
 use Rattle.bx_agreement.specs.Sound.{with_change}
-use Rattle.bx_agreement.proofs.Begins.{begins}
+use Rattle.bx_agreement.proofs.Begins.{begins, found_knows}
 use Rattle.bx_agreement.proofs.Decide.{contains_more, handed}
 use Rattle.bx_agreement.proofs.Events.{later_change}
 use Rattle.bx_base.specs.declared.names.Actor.{Actor}
@@ -18,7 +21,7 @@ use Rattle.bx_disk.specs.Disks.{Disks, Image}
 use Rattle.bx_facts.proofs.Machines.{is_itself, is_one}
 use Rattle.bx_facts.specs.Chains.{Chain, IsAmong, IsPlace}
 use Rattle.bx_facts.specs.Machines.{IsMachine, is_same, put_at}
-use Rattle.bx_facts.specs.Pasts.{RegisterPast, opening_register, proposing, register_crashed, register_restarted}
+use Rattle.bx_facts.specs.Pasts.{RegisterPast, found_register, opening_register, proposing, register_crashed, register_restarted}
 use Rattle.bx_global.specs.Allowed.{IsAllowed, IsChange}
 use Rattle.bx_global.specs.Table.{IsLegal}
 use Rattle.bx_global.specs.declared.change.Change.{Change}
@@ -38,7 +41,10 @@ use Rattle.bx_proposer.specs.declared.course.Move.{Move}
 use Rattle.bx_proposer.specs.declared.course.Proposal.{Proposal}
 use Rattle.bx_paxos.specs.Counted.{AreCounted, IsCounted}
 use Rattle.bx_paxos.specs.Fits.{AllPass, Fits, Turned, Voters, devices_of, going, machines_of}
+use Rattle.bx_paxos.specs.Reading.{AreMade}
+use Rattle.bx_paxos.specs.Shown.{HasFound, IsAsItWas, ShowsOne, StandsAsFound}
 use Rattle.bx_paxos.proofs.Events.{here}
+use Rattle.bx_paxos.proofs.Shown.{shows_found}
 use Rattle.bx_paxos.proofs.Letters.{all_more, all_none, all_on, asks_pass, longer_later, sent_pass}
 
 -- ---- numbers of machines
@@ -88,6 +94,9 @@ same_history v x past boots down f me course courses sent turned is as_course le
   first = f.first;
   letters = all_more (devices_of v) f.history past.letters sent f.letters pass;
   images = f.images;
+  was = f.was;
+  begun = f.begun;
+  shown = f.shown;
   proposing = turned_each (λ c m. IsProposing f.history m c) me course v.courses courses turned is f.proposing;
   courses = turned_each (λ c m. IsCourse (devices_of v) c) me course v.courses courses turned as_course f.courses;
   boots = least;
@@ -112,6 +121,9 @@ proposed v x past at others change course courses move f fits numbers legal does
   letters = all_more (devices_of v) new past.letters (letters_of at others course move) (all_on (devices_of v) f.history new past.letters (longer_later f.history new (later_change f.history change)) f.letters)
       (sent_pass (devices_of v) new at others course move (may_tell new me course both.1) as_course);
   images = record { each = λ image sure. let was = f.images.each image sure in record { cells = was.cells; are = was.are; sound = handed f.history was.cells change was.sound } };
+  was = f.was;
+  begun = f.begun;
+  shown = f.shown;
   proposing = λ m. record {
     is = both.0.each m;
     own = turned_each (λ c k. IfSome c.out (λ p. ComesNext new.chain new.proposed p.own)) me course v.courses courses turned both.1.own (λ k. own_on (v.courses k).out (f.proposing k).own) m;
@@ -155,6 +167,9 @@ crashed v x past who courses f turned =
       first = f.first;
       letters = f.letters;
       images = f.images;
+      was = f.was;
+      begun = f.begun;
+      shown = f.shown;
       proposing = turned_each (λ c m. IsProposing f.history m c) me (stopped (v.courses me)) v.courses courses turned both.1 f.proposing;
       courses = turned_each (λ c m. IsCourse (devices_of v) c) me (stopped (v.courses me)) v.courses courses turned (record { known = is.known; boot = is.boot; out = tt }) f.courses;
       boots = boots_stay v x past f me (stopped (v.courses me)) courses turned refl;
@@ -206,6 +221,9 @@ told v x past me s course courses f place state learns turned = record {
   first = f.first;
   letters = f.letters;
   images = f.images;
+  was = f.was;
+  begun = f.begun;
+  shown = f.shown;
   proposing = turned_each (λ c m. IsProposing f.history m c) me course v.courses courses turned (proposing_now learns) f.proposing;
   courses = turned_each (λ c m. IsCourse (devices_of v) c) me course v.courses courses turned (course_now learns) f.courses;
   boots = boots_stay v x past f me course courses turned (boot_now learns);
@@ -227,14 +245,21 @@ told v x past me s course courses f place state learns turned = record {
 -- ---- the beginning
 
 -- Each replica holds the first state, in each image, and nothing was done.
-pub begun : (v : Voters) (x : Disks) → IsAllowed v.first → EachSure x (λ image. (n : ℕ) → n < 3 → IsCounted v.first (v.origins n) (image n) (first_held v.first)) → ((me : ℕ) → v.courses me ≡ started 0 0 v.first) → Fits v x (opening_register v.first)
-begun v x is each courses = record {
+pub begun : (v : Voters) (x : Disks) → IsAllowed v.first → AreMade v.origins → EachSure x (λ image. (n : ℕ) → n < 3 → IsCounted v.first (v.origins n) (image n) (first_held v.first)) → ((me : ℕ) → v.courses me ≡ started 0 0 v.first) → Fits v x (opening_register v.first)
+begun v x is made each courses = record {
   history = opening 0 v.first;
   chain = refl;
   proposed = refl;
   first = refl;
   letters = all_none (devices_of v) (opening 0 v.first);
   images = record { each = λ image sure. record { cells = cells; are = are_counted image (each.each image sure); sound = begins 0 v.first cells knows } };
+  was = λ n. None;
+  begun = inl made;
+  shown = record {
+    each = λ image sure. record {
+      each = λ n low. let k = each.each image sure n low in subst (λ (o : Origin). ShowsOne (devices_of v) o None (image n)) (sym (made n low)) (k.found, k.raw, k.is);
+    };
+  };
   proposing = λ me. subst (IsProposing (opening 0 v.first) me) (sym (courses me)) (record {
     is = record { place = refl; before = record { each = λ b s proposed. absurd proposed.is }; round = λ r e. absurd cc };
     own = tt;
@@ -263,3 +288,66 @@ begun v x is each courses = record {
         by : (n : ℕ) (held : Held) (t : Bool) → ltb n 3 ≡ t → (if t then Some (first_held v.first) else None) ≡ Some held → (n < 3) × IsCounted v.first (v.origins n) (image n) held
         by n held true low k = let three = ltb-true n 3 low in let one : first_held v.first ≡ held = cc in (three, subst (IsCounted v.first (v.origins n) (image n)) one (has n three))
         by n held false high k = absurd cc
+
+-- Each cell stands as it was found, and these told the first state; nothing was done.
+pub found_begun : (v : Voters) (x : Disks) (was : ℕ → Option Held) (boot : ℕ) → IsAllowed v.first → HasFound v.first v.origins was → EachSure x (StandsAsFound v.first v.origins was) → ((me : ℕ) → v.courses me ≡ started 0 0 v.first) → Fits v x (found_register v.first boot)
+found_begun v x was boot is found each courses = record {
+  history = new;
+  chain = refl;
+  proposed = refl;
+  first = refl;
+  letters = all_none (devices_of v) new;
+  images = record { each = λ image sure. record { cells = cells; are = are_counted image (each.each image sure); sound = begins v.first.next_session v.first cells knows } };
+  was = was;
+  begun = inr found;
+  shown = record { each = λ image sure. shows_found v.first v.origins was image (each.each image sure) };
+  proposing = λ me. subst (IsProposing new me) (sym (courses me)) (record {
+    is = record { place = refl; before = record { each = λ b s proposed. absurd proposed.is }; round = λ r e. absurd cc };
+    own = tt;
+  });
+  courses = λ me. subst (IsCourse (devices_of v)) (sym (courses me)) (record { known = record { is = is; devices_are = refl }; boot = omega arith; out = tt });
+  boots = λ who there. subst (λ (c : Course). c.boot ≤ boot) (sym (courses (number_of who))) (omega arith);
+  allowed = is;
+}
+  where
+    new : History
+    new = opening v.first.next_session v.first
+
+    caught : Option Held → Option Held
+    caught None = None
+    caught (Some raw) = Some (caught_up v.first raw)
+
+    cells : ℕ → Option Held
+    cells n = caught (was n)
+
+    was_some : (n : ℕ) (held : Held) → cells n ≡ Some held → (raw : Held) × (was n ≡ Some raw) × (caught_up v.first raw ≡ held)
+    was_some n held e = by (was n) refl e
+      where
+        by : (o : Option Held) → was n ≡ o → caught o ≡ Some held → (raw : Held) × (was n ≡ Some raw) × (caught_up v.first raw ≡ held)
+        by None at k = absurd cc
+        by (Some raw) at k = (raw, at, cc)
+
+    knows : (n : ℕ) (held : Held) → cells n ≡ Some held → KnowsFirst v.first held
+    knows n held e = let k = was_some n held e in subst (KnowsFirst v.first) k.2 (found_knows v.first k.0)
+
+    are_counted : (image : Image) → StandsAsFound v.first v.origins was image → AreCounted v.first v.origins image cells
+    are_counted image has = record {
+      some = λ n held e. let k = was_some n held e in let low = found.low n k.0 k.1 in (low, subst (IsCounted v.first (v.origins n) (image n)) k.2 (some n k.0 (v.origins n) k.1 (has.each n low)));
+      none = λ n held low e counted. none n held (v.origins n) e (has.each n low) counted;
+    }
+      where
+        some : (n : ℕ) (raw : Held) (o : Origin) → was n ≡ Some raw → IsAsItWas (devices_of v) o (was n) (image n) → IsCounted v.first o (image n) (caught_up v.first raw)
+        some n raw Made at is = absurd is
+        some n raw (FoundAs number) at (old, same, label, (it, number_is, is)) = record {
+          found = it;
+          raw = raw;
+          part = omega (arith, number_is);
+          is = let one : old ≡ raw = (let e : Some old ≡ Some raw = sym same ∙ at in cc) in subst (IsFound (devices_of v) (image n) it) one is;
+          catches = record { as_found = λ k. refl; as_put = λ put. absurd (put number_is) };
+        }
+        some n raw Apart at is = let bad : None ≡ Some raw = sym is.0 ∙ at in absurd cc
+
+        none : (n : ℕ) (held : Held) (o : Origin) → cells n ≡ None → IsAsItWas (devices_of v) o (was n) (image n) → IsCounted v.first o (image n) held → ⊥
+        none n held Made e is counted = is
+        none n held (FoundAs number) e (old, same, label, rest) counted = let bad : Some (caught_up v.first old) ≡ None = sym (ap caught same) ∙ e in absurd cc
+        none n held Apart e is counted = counted.part

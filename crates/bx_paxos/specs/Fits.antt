@@ -1,5 +1,5 @@
 -- A register of three replicas, and the past that led to it.
-use Rattle.std.specs.Prelude.{◌≡◌, ℕ, ◌≤◌, List, ◌++◌, length, Some, Contains}
+use Rattle.std.specs.Prelude.{◌≡◌, ℕ, ◌<◌, ◌≤◌, ◌⊎◌, List, ◌++◌, length, Option, Some, Contains}
 use Rattle.bx_acceptor.specs.Standing.{HasContent}
 use Rattle.bx_acceptor.specs.declared.origin.Origin.{Origin}
 use Rattle.bx_agreement.specs.Events.{Machine}
@@ -24,6 +24,7 @@ use Rattle.bx_proposer.specs.Names.{number_of}
 use Rattle.bx_proposer.specs.Standing.{IsCourse}
 use Rattle.bx_proposer.specs.declared.course.Course.{Course}
 use Rattle.bx_paxos.specs.Counted.{IsHeldSound}
+use Rattle.bx_paxos.specs.Shown.{HasBegun, Shows}
 
 -- The machines: how many nodes there are, the first state, how each replica's cell came to be, and what each machine knows and has out, by
 -- its number in ballots.
@@ -56,7 +57,8 @@ pub record AllPass (devices : ℕ) (h : History) (letters : List Letter) : Type 
   pub each : (letter : Letter) → Contains letters letter → Passes devices h letter
 
 -- This past is one that led to these machines and disks: there is a history of votes of which the chain and the changes that were handed in are
--- a part, by which each letter may be under way, each image that has all that is sure is sound, and each machine proposes.
+-- a part, by which each letter may be under way, each image that has all that is sure is sound, and each machine proposes; and each such image
+-- has the cells with which replicas take part, of which those that still stand as they were found told the first state.
 pub record Fits (v : Voters) (x : Disks) (past : RegisterPast) : Type 0 where
   pub history : History
   pub chain : history.chain ≡ past.chain
@@ -64,6 +66,9 @@ pub record Fits (v : Voters) (x : Disks) (past : RegisterPast) : Type 0 where
   pub first : history.chain.first ≡ v.first
   pub letters : AllPass (devices_of v) history past.letters
   pub images : EachSure x (IsHeldSound v.first v.origins history)
+  pub was : ℕ → Option Held
+  pub begun : HasBegun v.first v.origins was
+  pub shown : EachSure x (Shows v.first v.origins was)
   pub proposing : (me : ℕ) → IsProposing history me (v.courses me)
   pub courses : (me : ℕ) → IsCourse (devices_of v) (v.courses me)
   pub boots : (who : Actor) → IsMachine v.nodes who → (v.courses (number_of who)).boot ≤ past.boots who
@@ -74,6 +79,10 @@ pub record Goes (v : Voters) (x : Disks) (past : RegisterPast) (sent : List Lett
   pub chain : Chain
   pub grows : GrowsBy past.proposed past.chain chain
   pub fits : Fits v x (record past { chain = chain; letters = past.letters ++ sent })
+
+-- A cell stands as it did, or was put.
+abbrev pub IsPutOn : Found → Found → Type 0
+IsPutOn before after = (after ≡ before) ⊎ (before.number < after.number)
 
 -- What a replica's cell has in each image, by what is known of it.
 pub record KnowsCell (v : Voters) (x : Disks) (n : ℕ) (held : Held) (found : Found) : Type 0 where

@@ -2,3 +2,4 @@ pub mod Counted
 pub mod Fits
 pub mod Machines
 pub mod Reading
+pub mod Shown

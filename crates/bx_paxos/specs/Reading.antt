@@ -1,9 +1,9 @@
 -- What images are read as.
-use Rattle.std.specs.Prelude.{◌≡◌, ℕ, ◌<◌, length, Option, Some, None}
+use Rattle.std.specs.Prelude.{◌≡◌, ℕ, ◌<◌, ◌≤◌, ◌⊎◌, length, Option, Some, None}
 use Rattle.bx_acceptor.specs.Standing.{IsFound}
 use Rattle.bx_acceptor.specs.declared.origin.Origin.{Origin}
 use Rattle.bx_acceptor.specs.declared.origin.Origin.TheVariants.{Made}
-use Rattle.bx_agreement.specs.Sound.{HasTwo, ReadsAs}
+use Rattle.bx_agreement.specs.Sound.{HasTwo, IsAhead, IsLevel}
 use Rattle.bx_cell.specs.Halves.{Found}
 use Rattle.bx_disk.specs.Disks.{Image}
 use Rattle.bx_facts.specs.Chains.{IsNext, last}
@@ -18,17 +18,34 @@ pub record AreSeen (devices : ℕ) (image : Image) (seen : ℕ → Option Held) 
   pub some : (n : ℕ) (held : Held) → seen n ≡ Some held → (n < 3) × ((label : Label) × SpellsLabel label (image n 0)) × ((found : Found) × IsFound devices (image n) found held)
   pub none : (n : ℕ) (label : Label) (found : Found) (held : Held) → n < 3 → seen n ≡ None → SpellsLabel label (image n 0) → IsFound devices (image n) found held → ⊥
 
--- Of such cells, two at least, the image is read as a state: the accepted one of the highest ballot at the greatest index above each decided
--- one, or where there is none, the decided one of the greatest index.
-pub record ReadsState (made : GlobalState) (image : Image) (s : GlobalState) : Type 0 where
-  pub seen : ℕ → Option Held
-  pub are : AreSeen (length made.devices) image seen
+-- The accepted state of a replica is read, or where none is above each decided one, the decided state of a replica. Among equals the lowest
+-- replica's counts.
+pub record IsAheadFirst (cells : ℕ → Option Held) (n : ℕ) (held : Held) : Type 0 where
+  pub ahead : IsAhead cells n held
+  pub lowest : (m : ℕ) (other : Held) → IsAhead cells m other → n ≤ m
+
+pub record IsLevelFirst (cells : ℕ → Option Held) (n : ℕ) (held : Held) : Type 0 where
+  pub level : IsLevel cells n held
+  pub lowest : (m : ℕ) (other : Held) → IsLevel cells m other → n ≤ m
+
+abbrev pub ReadsFirst : (ℕ → Option Held) → GlobalState → Type 0
+ReadsFirst cells s = ((n : ℕ) × (held : Held) × IsAheadFirst cells n held × (s ≡ held.accepted)) ⊎ ((n : ℕ) × (held : Held) × IsLevelFirst cells n held × (s ≡ held.decided))
+
+-- Cells, two at least, tell a state.
+pub record Tells (cells : ℕ → Option Held) (s : GlobalState) : Type 0 where
   pub one : ℕ
   pub other : ℕ
   pub one_held : Held
   pub other_held : Held
-  pub two : HasTwo seen one other one_held other_held
-  pub reads : ReadsAs seen s
+  pub two : HasTwo cells one other one_held other_held
+  pub reads : ReadsFirst cells s
+
+-- The image is read as a state: the accepted one of the highest ballot at the greatest index above each decided one, or where there is none,
+-- the decided one of the greatest index, of the cells of replicas that have a label.
+pub record ReadsState (made : GlobalState) (image : Image) (s : GlobalState) : Type 0 where
+  pub seen : ℕ → Option Held
+  pub are : AreSeen (length made.devices) image seen
+  pub tells : Tells seen s
 
 -- each cell was made with the volume
 abbrev pub AreMade : (ℕ → Origin) → Type 0

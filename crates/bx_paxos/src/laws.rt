@@ -10,10 +10,10 @@ ghost use Rattle.bx_cell.specs.Halves.{Found};
 ghost use Rattle.bx_cell.specs.Images.{EachSure, HasAllSure};
 ghost use Rattle.bx_disk.specs.Disks.{Disks, Image};
 ghost use Rattle.bx_facts.specs.Chains.{AreLegal, IsNext, IsPlace, last};
-ghost use Rattle.bx_facts.specs.Disks.{Crashes, SameReplicas};
+ghost use Rattle.bx_facts.specs.Disks.{Crashes, SameLabels, SameReplicas};
 ghost use Rattle.bx_facts.specs.Inputs.{AreAmong, IsRegisters};
 ghost use Rattle.bx_facts.specs.Machines.{IsMachine};
-ghost use Rattle.bx_facts.specs.Pasts.{RegisterPast, opening_register, proposing, register_crashed, register_restarted};
+ghost use Rattle.bx_facts.specs.Pasts.{RegisterPast, found_register, opening_register, proposing, register_crashed, register_restarted};
 ghost use Rattle.bx_global.specs.Allowed.{IsAllowed, IsChange};
 ghost use Rattle.bx_global.specs.Bytes.{IsHeld, held_text};
 ghost use Rattle.bx_global.specs.Table.{IsLegal};
@@ -30,22 +30,23 @@ ghost use Rattle.bx_proposer.specs.Steps.{Hears, Learns, Proposes, Ticks};
 ghost use Rattle.bx_proposer.specs.declared.course.Course.{Course};
 ghost use Rattle.bx_proposer.specs.declared.course.Move.{Move};
 ghost use Rattle.bx_paxos.specs.Counted.{IsCounted};
-ghost use Rattle.bx_paxos.specs.Fits.{Comes, Fits, Goes, KnowsCell, Turned, Voters, devices_of, going};
+ghost use Rattle.bx_paxos.specs.Fits.{Comes, Fits, Goes, IsPutOn, KnowsCell, Turned, Voters, devices_of, going};
 ghost use Rattle.bx_paxos.specs.Reading.{AreMade, ReadsState};
+ghost use Rattle.bx_paxos.specs.Shown.{HasFound, StandsAsFound};
 
-/// What each machine knows is a place of the chain, whose changes were legal; and of a volume that was made with its register each image is
-/// read as the last state, or as what a change that was handed in makes of it.
+/// What each machine knows is a place of the chain, whose changes were legal; and each image is read as the last state, or as what a change
+/// that was handed in makes of it.
 pub fn a_past_tells()
     ensures place { (v : Voters) (x : Disks) (past : RegisterPast) (me : ℕ) → Fits v x past → IsPlace past.chain (v.courses me).known }
     ensures legal { (v : Voters) (x : Disks) (past : RegisterPast) → Fits v x past → AreLegal past.chain.first past.chain.changes }
-    ensures reads { (v : Voters) (x : Disks) (past : RegisterPast) (image : Image) (s : GlobalState) → Fits v x past → AreMade v.origins → HasAllSure x image → ReadsState v.first image s → IsNext past.proposed (last past.chain) s }
+    ensures reads { (v : Voters) (x : Disks) (past : RegisterPast) (image : Image) (s : GlobalState) → Fits v x past → HasAllSure x image → ReadsState v.first image s → IsNext past.proposed (last past.chain) s }
 {}
 
-/// Letters may be lost, come again and in any order, and those of other layers don't matter. Other disks don't matter, nor do labels. A disk
-/// may crash, and be synced.
+/// Letters may be lost, come again and in any order, and those of other layers don't matter. Other disks don't matter. A disk may crash, and
+/// be synced.
 pub fn disks_and_letters_may_change()
     ensures loses { (v : Voters) (x : Disks) (past : RegisterPast) (letters : List Letter) → Fits v x past → AreAmong IsRegisters letters past.letters → Fits v x (record past { letters = letters }) }
-    ensures elsewhere { (v : Voters) (x y : Disks) (past : RegisterPast) → Fits v x past → SameReplicas x y → Fits v y past }
+    ensures elsewhere { (v : Voters) (x y : Disks) (past : RegisterPast) → Fits v x past → SameReplicas x y → SameLabels x y → Fits v y past }
     ensures survives { (v : Voters) (x y : Disks) (past : RegisterPast) (n : ℕ) → Fits v x past → Crashes n x y → Fits v y past }
     ensures syncs { (v : Voters) (x y : Disks) (past : RegisterPast) (n : ℕ) → Fits v x past → KeepsAll x y n → Fits v y past }
 {}
@@ -53,7 +54,7 @@ pub fn disks_and_letters_may_change()
 /// A replica takes a letter that may be under way; its cell has what it holds then, and its answer is under way.
 pub fn a_replica_answers()
     ensures { (v : Voters) (x y : Disks) (past : RegisterPast) (n : ℕ) (held now : Held) (found after : Found) (letter : Letter) (message : Message) (answer : Option Message) → Fits v x past → n < 3
-        → KnowsCell v x n held found → KnowsCell v y n now after → KeepsSure x y n 1 20 → Comes v past letter message → Handles held message now answer
+        → KnowsCell v x n held found → KnowsCell v y n now after → IsPutOn found after → KeepsSure x y n 1 20 → Comes v past letter message → Handles held message now answer
         → Fits v y (record past { letters = past.letters ++ letters_of n letter.from answer }) }
 {}
 
@@ -61,7 +62,7 @@ pub fn a_replica_answers()
 pub fn a_replica_is_stopped()
     ensures faults { (v : Voters) (x y : Disks) (past : RegisterPast) (n : ℕ) (held now : Held) (found : Found) (letter : Letter) (message : Message) → Fits v x past → n < 3 → KnowsCell v x n held found → IsHeld (devices_of v) now
         → Comes v past letter message → (now ≡ held) ⊎ ((answer : Option Message) × Handles held message now answer) → EachSure y (HasEither x n 1 found (next found (held_text now))) → Fits v y past }
-    ensures moment { (v : Voters) (x : Disks) (past : RegisterPast) (n : ℕ) (held now : Held) (found : Found) (letter : Letter) (message : Message) (image : Image) (s : GlobalState) → Fits v x past → AreMade v.origins → n < 3 → KnowsCell v x n held found → IsHeld (devices_of v) now
+    ensures moment { (v : Voters) (x : Disks) (past : RegisterPast) (n : ℕ) (held now : Held) (found : Found) (letter : Letter) (message : Message) (image : Image) (s : GlobalState) → Fits v x past → n < 3 → KnowsCell v x n held found → IsHeld (devices_of v) now
         → Comes v past letter message → (now ≡ held) ⊎ ((answer : Option Message) × Handles held message now answer) → HasEither x n 1 found (next found (held_text now)) image → ReadsState v.first image s → IsNext past.proposed (last past.chain) s }
 {}
 
@@ -100,6 +101,13 @@ pub fn a_machine_is_told()
 
 /// Where each replica's cell has the first state, and nothing was done, the past of a new volume fits.
 pub fn the_beginning_fits()
-    ensures { (v : Voters) (x : Disks) → IsAllowed v.first → EachSure x (λ image. (n : ℕ) → n < 3 → IsCounted v.first (v.origins n) (image n) (first_held v.first)) → ((me : ℕ) → v.courses me ≡ started 0 0 v.first)
+    ensures { (v : Voters) (x : Disks) → IsAllowed v.first → AreMade v.origins → EachSure x (λ image. (n : ℕ) → n < 3 → IsCounted v.first (v.origins n) (image n) (first_held v.first)) → ((me : ℕ) → v.courses me ≡ started 0 0 v.first)
         → Fits v x (opening_register v.first) }
+{}
+
+/// Where the cells of replicas stand as they were found, which told the first state, and nothing was done, the past of a volume that was found
+/// fits: no machine has a boot above the one found.
+pub fn a_found_volume_fits()
+    ensures { (v : Voters) (x : Disks) (was : ℕ → Option Held) (boot : ℕ) → IsAllowed v.first → HasFound v.first v.origins was → EachSure x (StandsAsFound v.first v.origins was) → ((me : ℕ) → v.courses me ≡ started 0 0 v.first)
+        → Fits v x (found_register v.first boot) }
 {}

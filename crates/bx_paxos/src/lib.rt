@@ -6,8 +6,8 @@ mod laws;
 mod replica;
 
 pub use laws::{
-    a_change_is_proposed, a_machine_is_told, a_machine_starts, a_machine_stops, a_past_tells,
-    a_proposer_takes, a_replica_answers, a_replica_is_stopped, disks_and_letters_may_change,
-    the_beginning_fits,
+    a_change_is_proposed, a_found_volume_fits, a_machine_is_told, a_machine_starts,
+    a_machine_stops, a_past_tells, a_proposer_takes, a_replica_answers, a_replica_is_stopped,
+    disks_and_letters_may_change, the_beginning_fits,
 };
 pub use replica::Replica;

@@ -19,7 +19,7 @@ ghost use Rattle.bx_proposer.specs.Standing.{IsBusy, LeadsOn, going_on, stopped}
 ghost use Rattle.bx_proposer.specs.declared.course.Course.{Course};
 ghost use Rattle.bx_paxos.specs.Fits.{Fits, Turned, Voters, going};
 ghost use Rattle.bx_paxos.specs.Machines.{AreHalves, AreOf, IsSame};
-ghost use Rattle.bx_paxos.specs.Reading.{AreMade, ReadsNext};
+ghost use Rattle.bx_paxos.specs.Reading.{ReadsNext};
 
 use bx_acceptor::Acceptor;
 use bx_disk::Rack;
@@ -61,7 +61,7 @@ impl Replica {
         ensures keeps_faulted { (v : Voters) (past : RegisterPast) → R.tells rack.old → AreOf v self.old.acceptor self.old.proposer → EachSure (R.state rack.old) (HasCell self.old.acceptor)
             → IsComing (past.letters ++ out.old) input.now → Fits v (R.state rack.old) (register_with past out.old)
             → IsErrOf result DiskFails → Fits v (R.state rack.new) (register_with past out.old) × (self.new.proposer ≡ self.old.proposer) }
-        ensures any_moment { (v : Voters) (past : RegisterPast) → R.tells rack.old → AreOf v self.old.acceptor self.old.proposer → AreMade v.origins → EachSure (R.state rack.old) (HasCell self.old.acceptor)
+        ensures any_moment { (v : Voters) (past : RegisterPast) → R.tells rack.old → AreOf v self.old.acceptor self.old.proposer → EachSure (R.state rack.old) (HasCell self.old.acceptor)
             → IsComing (past.letters ++ out.old) input.now → Fits v (R.state rack.old) (register_with past out.old)
             → LeavesOnly (R.moment rack.old) (R.moment rack.new) (R.left_since rack.old) (R.left_since rack.new) (ReadsNext v.first past) }
         ensures known { (v : Voters) (past : RegisterPast) → R.tells rack.old → AreOf v self.old.acceptor self.old.proposer → EachSure (R.state rack.old) (HasCell self.old.acceptor) → IsPlace past.chain self.old.acceptor.held.decided
@@ -130,7 +130,7 @@ impl Replica {
             → OnOk result (Turned self.old.proposer.actor self.new.proposer.course v.courses courses → Fits (going v courses) (R.state rack.new) (register_with (register_restarted past (OfReplica self.old.acceptor.replica) boot) out.new)) }
         ensures keeps_faulted { (v : Voters) (past : RegisterPast) → R.tells rack.old → past.boots (OfReplica self.old.acceptor.replica) < boot → Fits v (R.state rack.old) (register_with past out.old)
             → IsErrOf result DiskFails → Fits v (R.state rack.new) (register_with (register_failed past (OfReplica self.old.acceptor.replica) boot) out.old) }
-        ensures any_moment { (v : Voters) (past : RegisterPast) → R.tells rack.old → AreMade v.origins → Fits v (R.state rack.old) (register_with past out.old)
+        ensures any_moment { (v : Voters) (past : RegisterPast) → R.tells rack.old → Fits v (R.state rack.old) (register_with past out.old)
             → LeavesOnly (R.moment rack.old) (R.moment rack.new) (R.left_since rack.old) (R.left_since rack.new) (ReadsNext v.first past) }
         ensures known { (v : Voters) (past : RegisterPast) → R.tells rack.old → AreOf v self.old.acceptor self.old.proposer → Fits v (R.state rack.old) (register_with past out.old) → OnOk result (IsPlace past.chain self.new.acceptor.held.decided) }
         ensures holds { R.tells rack.old → OnOk result (EachSure (R.state rack.new) (HasCell self.new.acceptor)) }

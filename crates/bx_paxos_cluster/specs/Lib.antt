@@ -1,4 +1,1 @@
-pub mod Beginning
-pub mod Cluster
-pub mod Keeps
-pub mod Parts
+pub mod Laws

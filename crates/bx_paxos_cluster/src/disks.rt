@@ -5,7 +5,7 @@ ghost use Rattle.bx_base.specs.declared.names.Actor.TheVariants.{Replica};
 ghost use Rattle.bx_facts.specs.Disks.{HasRoom, wanted_by};
 ghost use Rattle.bx_facts.specs.Machines.{disk_of};
 ghost use Rattle.bx_places.specs.Places.{replica_sectors};
-ghost use Rattle.bx_paxos_cluster.specs.Cluster.{Cluster, needs};
+ghost use Rattle.bx_paxos_machines.specs.Cluster.{Cluster, needs};
 
 use bx_disk::Rack;
 

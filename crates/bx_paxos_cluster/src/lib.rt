@@ -2,13 +2,8 @@
 #![tactic(auto)]
 
 mod disks;
-mod finding;
-mod laws;
-mod machine;
-mod making;
 mod paxos;
+mod register;
 
 pub use disks::has_disks;
-pub use laws::{other_disks_and_letters, what_a_register_tells};
-pub use machine::Machine;
 pub use paxos::Paxos;

@@ -7,27 +7,28 @@ ghost use Rattle.bx_base.specs.declared.names.Actor.TheVariants.{Replica};
 ghost use Rattle.bx_calls.specs.Calls.{LeavesOnly};
 ghost use Rattle.bx_disk.specs.Counts.{NoneFalls};
 ghost use Rattle.bx_disk.specs.Disks.{Disks};
-ghost use Rattle.bx_facts.specs.Chains.{IsNext, last};
-ghost use Rattle.bx_facts.specs.Disks.{HasRoom, NeedsAt, NeedsNoMore, OnlyDiskOf, ReadsOnly, SameLabels, SameMembers, wanted_by};
+ghost use Rattle.bx_facts.specs.Chains.{IsAboveBoots, IsNext, last};
+ghost use Rattle.bx_facts.specs.Disks.{HasRoom, NeedsAt, NeedsNoMore, OnlyDiskOf, ReadsOnly, SameDisks, SameLabels, SameMembers, wanted_by};
 ghost use Rattle.bx_facts.specs.Inputs.{IsRegisters, SendsOnly};
 ghost use Rattle.bx_facts.specs.Machines.{IsMachine, OnlyAt, OnlyFactsAt, disk_of};
-ghost use Rattle.bx_facts.specs.Pasts.{Decides, MayHear, RegisterPast, opening_register, proposing, register_crashed, register_failed, register_restarted, register_with};
+ghost use Rattle.bx_facts.specs.Pasts.{Decides, MayHear, RegisterPast, found_register, opening_register, proposing, register_crashed, register_failed, register_restarted, register_with};
 ghost use Rattle.bx_facts.specs.declared.input.FactError.TheVariants.{Disk as DiskFails};
+ghost use Rattle.bx_facts.specs.declared.input.OpenError.TheVariants.{Disk as OpenFails};
 ghost use Rattle.bx_facts.specs.declared.input.ProposeError.TheVariants.{NotLegal, Busy};
 ghost use Rattle.bx_global.specs.Allowed.{IsAllowed};
 ghost use Rattle.bx_global.specs.Table.{IsLegal};
 ghost use Rattle.bx_paxos.specs.Reading.{ReadsState};
 ghost use Rattle.bx_places.specs.Places.{replica_sectors};
-ghost use Rattle.bx_paxos_cluster.specs.Cluster.{is_busy, knows, needs};
-ghost use Rattle.bx_paxos_cluster.specs.Keeps.{Keeps};
+ghost use Rattle.bx_paxos_machines.specs.Beginning.{AreNew};
+ghost use Rattle.bx_paxos_machines.specs.Cluster.{is_busy, knows, needs};
+ghost use Rattle.bx_paxos_machines.specs.Keeps.{Keeps};
 
-use crate::finding::place_of;
-use crate::machine::Machine;
-use crate::making::{begin_anew, make_all};
 use bx_base::{Actor, OutOfMemory};
 use bx_disk::Rack;
-use bx_facts::{FactError, Input, Outbox, ProposeError};
+use bx_facts::{FactError, Input, OpenError, Outbox, ProposeError};
 use bx_global::{Change, GlobalState};
+use bx_paxos_found::{Origins, find};
+use bx_paxos_machines::{Machine, begin_anew, make_all, place_of};
 use std::alloc::Global;
 use std::marker::Model;
 
@@ -37,17 +38,19 @@ pub struct Paxos {
     pub(crate) alloc: Global,
     pub(crate) nodes: u32,
     pub(crate) made: GlobalState,
+    pub(crate) first: GlobalState,
+    pub(crate) origins: Origins,
     pub(crate) machines: Vec<Machine>,
 }
 
 impl Model for Paxos {
-    ghost use Rattle.bx_paxos_cluster.specs.Cluster.{Cluster, IsCluster};
+    ghost use Rattle.bx_paxos_machines.specs.Cluster.{Cluster, IsCluster};
 
     ghost Value = { Cluster };
 
-    ghost view = { λ p. record { nodes = p.nodes; made = p.made; machines = p.machines.items } };
+    ghost view = { λ p. record { nodes = p.nodes; made = p.made; first = p.first; origins = p.origins; machines = p.machines.items } };
 
-    ghost invariant = { λ p. IsCluster (record { nodes = p.nodes; made = p.made; machines = p.machines.items }) };
+    ghost invariant = { λ p. IsCluster (record { nodes = p.nodes; made = p.made; first = p.first; origins = p.origins; machines = p.machines.items }) };
 }
 
 impl Paxos {
@@ -61,12 +64,17 @@ impl Paxos {
         ensures knows { IfOk result (λ g. (who : Actor) → knows g who ≡ state) }
         ensures idle { IfOk result (λ g. (who : Actor) → is_busy g who → ⊥) }
         ensures needs { IfOk result (λ g. (disk : ℕ) → needs g disk ≡ 0) }
+        ensures new { IfOk result (λ g. (g.first ≡ state) × AreNew g.first g.machines) }
     {
-        let machines = make_all(alloc, nodes, &state)?;
+        let origins = Origins::made();
+        let first = state.copy(alloc)?;
+        let machines = make_all(alloc, nodes, &first, &origins)?;
         Ok(Paxos {
             alloc,
             nodes,
             made: state,
+            first,
+            origins,
             machines,
         })
     }
@@ -85,9 +93,41 @@ impl Paxos {
         ensures sizes { (R.state rack.new).sizes ≡ (R.state rack.old).sizes }
         ensures keeps_telling { R.tells rack.old → R.tells rack.new }
     {
-        let machines = begin_anew(self.alloc, rack, self.nodes, &self.made)?;
+        let origins = Origins::made();
+        let first = self.made.copy(self.alloc)?;
+        let machines = begin_anew(self.alloc, rack, self.nodes, &first, &origins)?;
+        self.first = first;
+        self.origins = origins;
         self.machines = machines;
         Ok(())
+    }
+
+    /// Begins with the state that the disks are read as, which every machine knows then; each is to start again before it does anything. The
+    /// answer is the greatest boot in a cell that is read. `NoMajority` where fewer than two replicas have a label and a cell that can be read;
+    /// `Spent` where no boot is left. After an error all is as it was.
+    pub fn open<R: Rack>(&mut self, rack: &mut R) -> Result<u64, OpenError>
+        ensures keeps { R.tells rack.old → IfOk result (λ boot. Keeps self.new (R.state rack.new) (found_register (knows self.new (Replica 0)) boot)) }
+        ensures found { R.tells rack.old → OnOk result (ReadsState self.old.made (R.state rack.old).reads (knows self.new (Replica 0))) }
+        ensures boots { IfOk result (λ boot. IsAboveBoots (knows self.new (Replica 0)) (boot + 1)) }
+        ensures knows { (who : Actor) → OnOk result (knows self.new who ≡ knows self.new (Replica 0)) }
+        ensures idle { (who : Actor) → OnOk result (is_busy self.new who → ⊥) }
+        ensures failed { OnErr result (self.new ≡ self.old) }
+        ensures made { (self.new.made ≡ self.old.made) × (self.new.nodes ≡ self.old.nodes) }
+        ensures disks { R.tells rack.old → SameDisks (R.state rack.old) (R.state rack.new) }
+        ensures cause { IsErrOf result OpenFails → Rose (R.faults rack.old) (R.faults rack.new) }
+        ensures later { NoneFalls (R.faults rack.old) (R.faults rack.new) (R.faults_of rack.old) (R.faults_of rack.new) }
+        ensures sizes { (R.state rack.new).sizes ≡ (R.state rack.old).sizes }
+        ensures keeps_telling { R.tells rack.old → R.tells rack.new }
+    {
+        let devices = self.made.devices.len() as u32;
+        let found = find(self.alloc, rack, devices)?;
+        let Ok(machines) = make_all(self.alloc, self.nodes, &found.state, &found.origins) else {
+            return Err(OpenError::OutOfMemory);
+        };
+        self.first = found.state;
+        self.origins = found.origins;
+        self.machines = machines;
+        Ok(found.boot)
     }
 
     /// Whether this is one of the cluster's machines. It takes no memory.

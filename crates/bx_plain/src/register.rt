@@ -141,7 +141,7 @@ impl Register for PlainRegister {
 
     ghost reads_some = { λ g x past image n m one other keeps is first second apart left right. (g.state, refl) };
 
-    ghost elsewhere = { λ g x y past keeps same. keeps };
+    ghost elsewhere = { λ g x y past keeps same labels. keeps };
 
     ghost survives = { λ g x y past n keeps down crash. keeps };
 

@@ -12,7 +12,7 @@ ghost use Rattle.bx_facts.specs.Writes.{HasLabels, Made};
 ghost use Rattle.bx_plain_store.specs.Out.{KeepsReplicas};
 ghost use Rattle.bx_plain_store.specs.Sources.{HasSources, KeepsSources};
 
-use bx_calls::{read_sectors, sync_disk, write_some};
+use bx_calls::{read_sectors, sync_disk, write_through};
 use bx_disk::{Rack, RackError};
 use bx_layout::Label;
 
@@ -41,7 +41,6 @@ pub fn label_member<R: Rack>(rack: &mut R, disk: u32, label: &Label) -> Result<(
         return Ok(());
     }
     label.write(&mut sector);
-    write_some(rack, disk, 0, &sector)?;
-    sync_disk(rack, disk)?;
+    write_through(rack, disk, 0, &sector)?;
     Ok(())
 }

@@ -87,57 +87,89 @@ fn handle_of(slot: u64) -> u64 {
     (slot << 32) + 1
 }
 
+/// Whether a draft has a directory's inode in the block of a handle, whose tree is under another one.
+fn has_directory(alloc: Global, draft: &Draft, handle: u64, tree: u64) -> Result<bool, Fail> {
+    let kept = inode_in(alloc, draft, handle)?;
+    Ok(kept.is_some_and(|inode| inode.kind == 2 && inode.tree == tree && inode.gid == 6))
+}
+
 #[test]
 fn a_file_is_made_in_the_lowest_slots(rt: HostRuntime) -> Result<(), Fail> {
     let alloc = rt.alloc();
     let desk = Desk::new(alloc)?;
     let mut draft = Draft::new(alloc);
-    let inode = directory(alloc)?;
-    let made = make(alloc, &mut draft, &desk, inode, 0, 1)?;
-    assert!(rt; made == handle_of(2) && draft.blocks().len() == 3);
-    assert!(rt; has_empty_page(&draft, handle_of(3)));
-    let kept = inode_in(alloc, &draft, made)?;
-    assert!(rt;
-        kept.is_some_and(|inode| inode.kind == 2 && inode.tree == handle_of(3) && inode.gid == 6)
-    );
+    let made = make(alloc, &mut draft, &desk, directory(alloc)?, 0, 1)?;
+    let placed = made == handle_of(2) && draft.blocks().len() == 3;
+    let page = has_empty_page(&draft, handle_of(3));
+    assert!(rt; placed && page && has_directory(alloc, &draft, made, handle_of(3))?);
     Ok(())
+}
+
+/// Makes a directory, whose blocks the desk then holds, and gives the number of its handle.
+fn makes(alloc: Global, desk: &mut Desk) -> Result<u64, Fail> {
+    let mut draft = Draft::new(alloc);
+    let made = make(alloc, &mut draft, desk, directory(alloc)?, 0, 1)?;
+    desk.take_in(alloc, &draft)?;
+    Ok(made)
+}
+
+/// Buries a directory with this handle, whose blocks the desk then holds. Whether its inode is a dead one with the mode that it had.
+fn buries(alloc: Global, desk: &mut Desk, made: u64) -> Result<bool, Fail> {
+    let mut draft = Draft::new(alloc);
+    bury(alloc, &mut draft, desk, made, directory(alloc)?)?;
+    desk.take_in(alloc, &draft)?;
+    let kept = inode_in(alloc, &draft, made)?;
+    Ok(kept.is_some_and(|inode| inode.kind == 0 && inode.mode == 0o755))
 }
 
 #[test]
 fn a_file_dies_and_waits(rt: HostRuntime) -> Result<(), Fail> {
     let alloc = rt.alloc();
     let mut desk = Desk::new(alloc)?;
-    let mut draft = Draft::new(alloc);
-    let inode = directory(alloc)?;
-    let made = make(alloc, &mut draft, &desk, inode, 0, 1)?;
-    desk.take_in(alloc, &draft)?;
-    assert!(rt; first_dead(alloc, &desk, 0)?.is_none());
-    let mut draft = Draft::new(alloc);
-    let inode = directory(alloc)?;
-    bury(alloc, &mut draft, &desk, made, inode)?;
-    desk.take_in(alloc, &draft)?;
-    assert!(rt; first_dead(alloc, &desk, 0)? == Some(made));
-    let kept = inode_in(alloc, &draft, made)?;
-    assert!(rt; kept.is_some_and(|inode| inode.kind == 0 && inode.mode == 0o755));
+    let made = makes(alloc, &mut desk)?;
+    let none = first_dead(alloc, &desk, 0)?.is_none();
+    let dies = buries(alloc, &mut desk, made)?;
+    assert!(rt; none && dies && first_dead(alloc, &desk, 0)? == Some(made));
     Ok(())
+}
+
+/// Whether a directory can't be buried whose handle isn't given, and the draft is as it was.
+fn is_stale(alloc: Global, desk: &Desk) -> Result<bool, Fail> {
+    let mut draft = Draft::new(alloc);
+    let stale = bury(alloc, &mut draft, desk, handle_of(7), directory(alloc)?);
+    Ok(matches!(stale, Err(ChunkError::Stale)) && draft.blocks().len() == 0)
+}
+
+/// Whether a directory can't be made where one slot alone is free, and the draft is as it was.
+fn is_full(alloc: Global, desk: &Desk) -> Result<bool, Fail> {
+    let mut draft = Draft::new(alloc);
+    let full = make(alloc, &mut draft, desk, directory(alloc)?, 0, 1);
+    Ok(matches!(full, Err(ChunkError::Full(1))) && draft.blocks().len() == 0)
 }
 
 #[test]
 fn no_slot_is_free_or_in_use(rt: HostRuntime) -> Result<(), Fail> {
     let alloc = rt.alloc();
     let mut desk = Desk::new(alloc)?;
-    let mut draft = Draft::new(alloc);
-    let inode = directory(alloc)?;
-    let stale = bury(alloc, &mut draft, &desk, handle_of(7), inode);
-    assert!(rt; matches!(stale, Err(ChunkError::Stale)) && draft.blocks().len() == 0);
+    let stale = is_stale(alloc, &desk)?;
     let mut words = [128; 3840];
     words[20] = 0;
-    let own = block_of(alloc, 960 << 32, 4, &words)?;
-    desk.hold(alloc, 960, own)?;
-    let inode = directory(alloc)?;
-    let full = make(alloc, &mut draft, &desk, inode, 0, 1);
-    assert!(rt; matches!(full, Err(ChunkError::Full(1))) && draft.blocks().len() == 0);
+    desk.hold(alloc, 960, block_of(alloc, 960 << 32, 4, &words)?)?;
+    assert!(rt; stale && is_full(alloc, &desk)?);
     Ok(())
+}
+
+/// Whether a draft has the link's inode in the block of a handle.
+fn has_link(alloc: Global, draft: &Draft, handle: u64) -> Result<bool, Fail> {
+    let kept = inode_in(alloc, draft, handle)?;
+    Ok(kept.is_some_and(|inode| inode.kind == 5 && inode.path.bytes() == b"../x".as_slice()))
+}
+
+/// Makes the link, and gives the number of its handle.
+fn makes_link(alloc: Global, draft: &mut Draft, desk: &Desk) -> Result<u64, Fail> {
+    let inode = link(alloc)?;
+    let made = make_link(alloc, draft, desk, &inode, 0, 1)?;
+    Ok(made)
 }
 
 #[test]
@@ -145,12 +177,8 @@ fn a_link_is_made_in_the_lowest_slot(rt: HostRuntime) -> Result<(), Fail> {
     let alloc = rt.alloc();
     let desk = Desk::new(alloc)?;
     let mut draft = Draft::new(alloc);
-    let inode = link(alloc)?;
-    let made = make_link(alloc, &mut draft, &desk, &inode, 0, 1)?;
-    assert!(rt; made == handle_of(2) && draft.blocks().len() == 2);
-    let kept = inode_in(alloc, &draft, made)?;
-    assert!(rt;
-        kept.is_some_and(|inode| inode.kind == 5 && inode.path.bytes() == b"../x".as_slice())
-    );
+    let made = makes_link(alloc, &mut draft, &desk)?;
+    let placed = made == handle_of(2) && draft.blocks().len() == 2;
+    assert!(rt; placed && has_link(alloc, &draft, made)?);
     Ok(())
 }

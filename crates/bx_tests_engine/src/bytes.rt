@@ -1,9 +1,9 @@
 //! Calls that read a file's bytes.
 
-use crate::desk::Desk;
-use crate::files::{SIZE, byte_at};
-use crate::words::{LINK, ROOT, attempt, bytes_of, is_answered, is_needed, nobody};
 use bx_base::Mode;
+use bx_tests_desk::{
+    Desk, LINK, ROOT, SIZE, attempt, byte_at, bytes_of, is_answered, is_needed, nobody,
+};
 use bx_views::Attempt;
 use std::alloc::Global;
 use std::test::Fail;

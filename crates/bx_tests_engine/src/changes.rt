@@ -1,8 +1,7 @@
 //! Calls that change the tree.
 
-use crate::desk::Desk;
-use crate::words::{GONE, MODE, ROOT, attempt, bytes_of, is_answered, nobody};
-use bx_views::Attempt;
+use bx_tests_desk::{Desk, GONE, MODE, ROOT, are_words, attempt, bytes_of, is_answered, nobody};
+use bx_views::{Attempt, Done};
 use std::alloc::Global;
 use std::test::Fail;
 
@@ -30,6 +29,11 @@ fn attributes_then(number: u32) -> [u32; 24] {
     ]
 }
 
+/// Whether a call is answered so, making no file.
+fn is_told(alloc: Global, done: &Done, reply: &[u32]) -> bool {
+    are_words(alloc, done.reply.bytes(), reply) && done.spare == 8 && done.made == 0
+}
+
 /// Attempts a call at 1 second that is to change one block, which the desk then holds. Whether it does, and is answered so.
 fn is_changed(
     alloc: Global,
@@ -41,9 +45,8 @@ fn is_changed(
     let Some(Attempt::Change(draft, done)) = attempt(alloc, desk, call.as_slice(), 1000)? else {
         return Ok(false);
     };
+    let told = is_told(alloc, &done, reply);
     desk.take_in(alloc, &draft)?;
-    let text = bytes_of(alloc, &[reply])?;
-    let told = done.reply.bytes() == text.as_slice() && done.spare == 8 && done.made == 0;
     Ok(told && draft.blocks().len() == 1)
 }
 

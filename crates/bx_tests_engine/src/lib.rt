@@ -1,4 +1,4 @@
-//! Tests of the engine: calls as bytes over views of a volume that was just made.
+//! Tests of the engine: calls as bytes over views of a volume that was just made, on files.
 #![tactic(auto)]
 
 #[cfg(test)]
@@ -6,18 +6,4 @@ mod bytes;
 #[cfg(test)]
 mod changes;
 #[cfg(test)]
-mod desk;
-#[cfg(test)]
-mod directories;
-#[cfg(test)]
-mod files;
-#[cfg(test)]
-mod links;
-#[cfg(test)]
-mod random;
-#[cfg(test)]
 mod reads;
-#[cfg(test)]
-mod removals;
-#[cfg(test)]
-mod words;

@@ -1,11 +1,10 @@
 //! Calls that change nothing.
 
-use crate::desk::Desk;
-use crate::words::{
-    GONE, LINK, MODE, MODE_AND_SIZE, ROOT, attempt, bytes_of, is_answer, is_answered, is_needed,
-    is_space, nobody,
-};
 use bx_base::Mode;
+use bx_tests_desk::{
+    Desk, GONE, LINK, MODE, MODE_AND_SIZE, ROOT, attempt, bytes_of, is_answer, is_answered,
+    is_needed, is_space, nobody,
+};
 use std::alloc::Global;
 use std::test::Fail;
 
@@ -18,39 +17,25 @@ const CASES: [(&[u32], &[u32]); 15] = [
     (&[1, 0, 2, 100003, 2, 7, 0, 0, 0, 0], &[1, 1, 0, 0, 0, 0]),
     // of MOUNT MNT of `/`, which answers the root's file handle, and of `/x`; NULL, DUMP, UMNT of `/`, UMNTALL and EXPORT
     (
-        &[1, 0, 2, 100005, 1, 1, 0, 0, 0, 0, 1, 0x2f00_0000],
+        &[1, 0, 2, 100005, 1, 1, 0, 0, 0, 0, 1, 0x2f000000],
         &[
-            1,
-            1,
-            0,
-            0,
-            0,
-            0,
-            0,
-            0x424f_5857,
-            0x4f4f_4431,
-            0,
-            7,
-            0,
-            1,
-            0,
-            0,
+            1, 1, 0, 0, 0, 0, 0, 0x424f5857, 0x4f4f4431, 0, 7, 0, 1, 0, 0,
         ],
     ),
     (
-        &[1, 0, 2, 100005, 1, 1, 0, 0, 0, 0, 2, 0x2f78_0000],
+        &[1, 0, 2, 100005, 1, 1, 0, 0, 0, 0, 2, 0x2f780000],
         &[1, 1, 0, 0, 0, 0, 2],
     ),
     (&[1, 0, 2, 100005, 1, 0, 0, 0, 0, 0], &[1, 1, 0, 0, 0, 0]),
     (&[1, 0, 2, 100005, 1, 2, 0, 0, 0, 0], &[1, 1, 0, 0, 0, 0, 0]),
     (
-        &[1, 0, 2, 100005, 1, 3, 0, 0, 0, 0, 1, 0x2f00_0000],
+        &[1, 0, 2, 100005, 1, 3, 0, 0, 0, 0, 1, 0x2f000000],
         &[1, 1, 0, 0, 0, 0],
     ),
     (&[1, 0, 2, 100005, 1, 4, 0, 0, 0, 0], &[1, 1, 0, 0, 0, 0]),
     (
         &[1, 0, 2, 100005, 1, 5, 0, 0, 0, 0],
-        &[1, 1, 0, 0, 0, 0, 1, 1, 0x2f00_0000, 0, 0],
+        &[1, 1, 0, 0, 0, 0, 1, 1, 0x2f000000, 0, 0],
     ),
     // another version of RPC
     (&[2, 0, 3, 100003, 2, 0, 0, 0, 0, 0], &[2, 1, 1, 0, 2, 2]),
@@ -66,31 +51,8 @@ const CASES: [(&[u32], &[u32]); 15] = [
     // SETATTR with seven of the eight words to set
     (
         &[
-            4,
-            0,
-            2,
-            100003,
-            2,
-            2,
-            0,
-            0,
-            0,
-            0,
-            0x424f_5857,
-            0x4f4f_4431,
-            0,
-            7,
-            0,
-            1,
-            0,
-            0,
-            0o755,
-            0,
-            0,
-            0,
-            0,
-            0,
-            0,
+            4, 0, 2, 100003, 2, 2, 0, 0, 0, 0, 0x424f5857, 0x4f4f4431, 0, 7, 0, 1, 0, 0, 0o755, 0,
+            0, 0, 0, 0, 0,
         ],
         &[4, 1, 0, 0, 0, 4],
     ),
@@ -153,7 +115,7 @@ fn links_have_paths(rt: HostRuntime) -> Result<(), Fail> {
     desk.lend_link(alloc, 2)?;
     // a link to `a/bc`, a directory, and no file
     let call = nobody(1, 5);
-    let path = [1, 1, 0, 0, 0, 0, 0, 4, 0x612f_6263];
+    let path = [1, 1, 0, 0, 0, 0, 0, 4, 0x612f6263];
     let link = is_answered(alloc, &desk, &[&call, &LINK], 0, &path);
     let other = is_answered(alloc, &desk, &[&call, &ROOT], 0, &[1, 1, 0, 0, 0, 0, 6]);
     let none = is_answered(alloc, &desk, &[&call, &GONE], 0, &[1, 1, 0, 0, 0, 0, 70]);
@@ -202,7 +164,7 @@ fn other_datagrams_are_passed_over(rt: HostRuntime) -> Result<(), Fail> {
     desk.hold(alloc, 0)?;
     // a SETATTR of the size too, RMDIR of `a`, a reply, and a word
     let sized = is_passed_over(alloc, &desk, &[&nobody(1, 2), &ROOT, &MODE_AND_SIZE]);
-    let name = is_passed_over(alloc, &desk, &[&nobody(1, 15), &ROOT, &[1, 0x6100_0000]]);
+    let name = is_passed_over(alloc, &desk, &[&nobody(1, 15), &ROOT, &[1, 0x61000000]]);
     let reply = is_passed_over(alloc, &desk, &[&[1, 1, 0, 0, 0, 0]]);
     let word = is_passed_over(alloc, &desk, &[&[1]]);
     assert!(rt; sized && name && reply && word);

@@ -43,15 +43,23 @@ fn parent(alloc: Global) -> Result<Vec<u8>, Fail> {
     Ok(page)
 }
 
-/// The root, that page, and the leaf, which was split: its right neighbour's range begins at a long key.
+/// Holds the page of a slot.
+fn hold(alloc: Global, desk: &mut Desk, slot: u16, page: Vec<u8>) -> Result<(), Fail> {
+    desk.hold_page(alloc, slot, &page)?;
+    Ok(())
+}
+
+/// Holds the root, that page, and the leaf, which was split: its right neighbour's range begins at a long key.
+fn hold_full_parent(alloc: Global, desk: &mut Desk) -> Result<(), Fail> {
+    hold(alloc, desk, 1, root(alloc)?)?;
+    hold(alloc, desk, 2, parent(alloc)?)?;
+    hold(alloc, desk, 4, front(alloc, 0, 0, 5, &long_key(100, 9))?)
+}
+
+/// A desk that holds these, with so many slots in use.
 fn with_full_parent(alloc: Global, used: u16) -> Result<Desk, Fail> {
     let mut desk = Desk::new(alloc, used)?;
-    let page = root(alloc)?;
-    desk.hold_page(alloc, 1, &page)?;
-    let page = parent(alloc)?;
-    desk.hold_page(alloc, 2, &page)?;
-    let page = front(alloc, 0, 0, 5, &long_key(100, 9))?;
-    desk.hold_page(alloc, 4, &page)?;
+    hold_full_parent(alloc, &mut desk)?;
     Ok(desk)
 }
 
@@ -96,22 +104,23 @@ fn a_post_needs_the_page_its_parent_and_slots(rt: HostRuntime) -> Result<(), Fai
     Ok(())
 }
 
+/// What comes of a post where so many slots are in use, over a draft of so many blocks, and how many blocks that has then.
+fn came_over(alloc: Global, used: u16, count: u16) -> Result<(Came, usize), Fail> {
+    let desk = with_full_parent(alloc, used)?;
+    let mut draft = draft_of(alloc, count)?;
+    let came = came_of(alloc, &desk, &mut draft, 4)?;
+    Ok((came, draft.blocks().len()))
+}
+
 #[test]
 fn a_post_is_refused_where_nothing_is_free_or_the_draft_is_full(
     rt: HostRuntime,
 ) -> Result<(), Fail> {
-    let alloc = rt.alloc();
-    let desk = with_full_parent(alloc, 960)?;
-    let mut draft = Draft::new(alloc);
-    let full = came_of(alloc, &desk, &mut draft, 4)?;
-    assert!(rt; full == Came::Full(0) && draft.blocks().len() == 0);
-    let desk = with_full_parent(alloc, 100)?;
-    let mut draft = draft_of(alloc, 14)?;
-    let crowded = came_of(alloc, &desk, &mut draft, 4)?;
-    assert!(rt; crowded == Came::Crowded && draft.blocks().len() == 14);
-    let mut draft = draft_of(alloc, 13)?;
-    let fits = came_of(alloc, &desk, &mut draft, 4)?;
-    assert!(rt; fits == Came::SplitAlone && draft.blocks().len() == 16);
+    let full = came_over(rt.alloc(), 960, 0)?;
+    let crowded = came_over(rt.alloc(), 100, 14)?;
+    let fits = came_over(rt.alloc(), 100, 13)?;
+    assert!(rt; full == (Came::Full(0), 0) && crowded == (Came::Crowded, 14));
+    assert!(rt; fits == (Came::SplitAlone, 16));
     Ok(())
 }
 

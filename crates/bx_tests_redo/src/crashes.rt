@@ -1,31 +1,24 @@
 //! Two records' lives that are stopped at each call of the rack, and then the members crash in each way.
 
-use crate::bench::SIZES;
-use crate::drafts::{Bytes, go_home};
-use crate::life::{Reached, lives};
-use crate::looks::{gates, sees};
-use crate::recovery::recovers;
 use bx_base::OutOfMemory;
-use bx_disk::{CrashRack, MemRack, Noise, Rack, StopRack};
+use bx_disk::{MemRack, Noise, Rack, StopRack};
 use bx_records::DraftError;
 use bx_redo::Log;
+use bx_tests_bench::{Bytes, Reached, Ways, crash, formatted, gates, lives, recovers, sees};
 use std::alloc::Global;
 use std::test::Fail;
 
 /// The kind of the packets that carry an opened gate.
 const GATE: u8 = 15;
 
-/// What two blocks are filled with before the records.
-pub(crate) const FORMATTED: [(u64, u8); 2] = [(0, 10), (7, 17)];
-
-/// What the two records put there. The second is shorter, so that something of the first stays behind it in the body.
+/// What the two records put into blocks 0 and 7. The second is shorter, so that something of the first stays behind it in the body.
 const RECORDS: [&[Bytes]; 2] = [&[(0, 21), (7, 27)], &[(7, 37)]];
 
-/// What the blocks 0 and 7 are before the records, after the first, and after the second.
-const TRUTHS: [(u8, u8); 3] = [(10, 17), (21, 27), (21, 37)];
+/// What blocks 0 and 7 are filled with.
+type Both = (u8, u8);
 
-/// What the disks of both members make of unsure sectors.
-type Ways = (Noise, Noise);
+/// What they are before the records, after the first, and after the second.
+const TRUTHS: [Both; 3] = [(10, 17), (21, 27), (21, 37)];
 
 const WAYS: [Ways; 6] = [
     (Noise::Keep, Noise::Keep),
@@ -38,18 +31,6 @@ const WAYS: [Ways; 6] = [
 
 /// How many calls the two lives make.
 const CALLS: u64 = 280;
-
-/// A rack of which the homes of two blocks are written, and whether they are.
-pub(crate) fn formatted(alloc: Global) -> Result<(MemRack, bool), OutOfMemory> {
-    let mut rack = MemRack::new(alloc, &SIZES, &[])?;
-    let written = go_home(alloc, &mut rack, &FORMATTED)?;
-    Ok((rack, written))
-}
-
-/// Lets both members crash, and says whether that went well.
-pub(crate) fn crash(rack: &mut MemRack, ways: Ways) -> bool {
-    rack.disks() == 5 && rack.crash(3, ways.0).is_ok() && rack.crash(4, ways.1).is_ok()
-}
 
 /// Both lives, as far as the rack goes, and whether it went on to the end.
 fn live_twice<R: Rack>(alloc: Global, rack: &mut R) -> Result<(Reached, bool), DraftError> {
@@ -79,40 +60,51 @@ fn both_lives_make_so_many_calls(rt: HostRuntime) -> Result<(), Fail> {
 }
 
 /// What both blocks are, by a member.
-fn both<R: Rack>(alloc: Global, rack: &mut R, second: bool) -> Result<(u8, u8), OutOfMemory> {
+fn both<R: Rack>(alloc: Global, rack: &mut R, second: bool) -> Result<Both, OutOfMemory> {
     let first = sees(alloc, rack, second, 0)?;
     let other = sees(alloc, rack, second, 7)?;
     Ok((first, other))
 }
 
+/// What both blocks are, by the first member and by the second.
+fn sides<R: Rack>(alloc: Global, rack: &mut R) -> Result<(Both, Both), OutOfMemory> {
+    let first = both(alloc, rack, false)?;
+    let other = both(alloc, rack, true)?;
+    Ok((first, other))
+}
+
 /// Whether an image may have these blocks where a log came so far: those of the acknowledged records, or while a gate is written those
 /// with the record in doubt.
-fn may_be(reached: Reached, blocks: (u8, u8)) -> bool {
+fn may_be(reached: Reached, blocks: Both) -> bool {
     TRUTHS.get(reached.records) == Some(&blocks)
         || reached.asked == GATE && TRUTHS.get(reached.records.saturating_add(1)) == Some(&blocks)
 }
 
-/// Whether a crash after so many calls leaves what it may, on both members, and a recovery then what was read off the first.
-fn leaves_a_truth(alloc: Global, ways: Ways, stop: u64) -> Result<bool, DraftError> {
+/// A rack as two lives left it that were stopped after so many calls, and a crash then; how far they came; and whether the rack was
+/// written before and crashed.
+fn left(alloc: Global, stop: u64, ways: Ways) -> Result<(MemRack, Reached, bool), DraftError> {
     let (rack, written) = formatted(alloc)?;
     let mut stopping = StopRack::new(rack, stop);
     let (reached, _) = live_twice(alloc, &mut stopping)?;
     let mut rack = stopping.into_inner();
     let crashed = crash(&mut rack, ways);
-    let first = both(alloc, &mut rack, false)?;
-    let other = both(alloc, &mut rack, true)?;
-    let recovered = recovers(alloc, &mut rack)?.is_some();
-    let closed = gates(&mut rack, false) == 0 && gates(&mut rack, true) == 0;
-    let then = both(alloc, &mut rack, false)? == first && both(alloc, &mut rack, true)? == first;
-    Ok(
-        written
-            && crashed
-            && may_be(reached, first)
-            && may_be(reached, other)
-            && recovered
-            && closed
-            && then,
-    )
+    Ok((rack, reached, written && crashed))
+}
+
+/// Whether a recovery goes to its end, closes all gates and leaves these blocks, on both members.
+fn recovers_to<R: Rack>(alloc: Global, rack: &mut R, blocks: Both) -> Result<bool, OutOfMemory> {
+    let recovered = recovers(alloc, rack)?.is_some();
+    let closed = gates(rack, false) == 0 && gates(rack, true) == 0;
+    let (first, other) = sides(alloc, rack)?;
+    Ok(recovered && closed && first == blocks && other == blocks)
+}
+
+/// Whether a crash after so many calls leaves what it may, on both members, and a recovery then what was read off the first.
+fn leaves_a_truth(alloc: Global, ways: Ways, stop: u64) -> Result<bool, DraftError> {
+    let (mut rack, reached, crashed) = left(alloc, stop, ways)?;
+    let (first, other) = sides(alloc, &mut rack)?;
+    let may = may_be(reached, first) && may_be(reached, other);
+    Ok(crashed && may && recovers_to(alloc, &mut rack, first)?)
 }
 
 #[test]
@@ -133,7 +125,7 @@ const RECOVERY_CALLS: u64 = 150;
 
 /// Whether blocks are what a recovery said: those without the record where it found no gate open, those with it where it found one. Where it
 /// said nothing they are what they may be.
-fn as_said(said: Option<u32>, reached: Reached, blocks: (u8, u8)) -> bool {
+fn as_said(said: Option<u32>, reached: Reached, blocks: Both) -> bool {
     match said {
         Some(0) => blocks == TRUTHS[0],
         Some(_) => blocks == TRUTHS[1],
@@ -141,24 +133,40 @@ fn as_said(said: Option<u32>, reached: Reached, blocks: (u8, u8)) -> bool {
     }
 }
 
-/// Whether, after a recovery that stops after so many calls and a crash, both members have what it said as soon as it said it, and after a
-/// second recovery too.
-fn agrees(alloc: Global, stop: u64, ways: Ways, calls: u64) -> Result<bool, DraftError> {
-    let (rack, _) = formatted(alloc)?;
-    let mut stopping = StopRack::new(rack, stop);
-    let (reached, _) = live_twice(alloc, &mut stopping)?;
-    let mut rack = stopping.into_inner();
-    let crashed = crash(&mut rack, ways);
+/// The rack after a recovery that stops after so many calls and a crash; what it said; and whether the rack crashed.
+fn stopped(
+    alloc: Global,
+    rack: MemRack,
+    ways: Ways,
+    calls: u64,
+) -> Result<(MemRack, Option<u32>, bool), OutOfMemory> {
     let mut stopping = StopRack::new(rack, calls);
     let said = recovers(alloc, &mut stopping)?;
     let mut rack = stopping.into_inner();
-    let again = crash(&mut rack, ways);
-    let left = as_said(said, reached, both(alloc, &mut rack, false)?)
-        && as_said(said, reached, both(alloc, &mut rack, true)?);
-    let recovered = recovers(alloc, &mut rack)?.is_some();
-    let first = both(alloc, &mut rack, false)?;
-    let other = both(alloc, &mut rack, true)?;
-    Ok(crashed && again && left && recovered && first == other && as_said(said, reached, first))
+    let crashed = crash(&mut rack, ways);
+    Ok((rack, said, crashed))
+}
+
+/// Whether both members have what a recovery said, and after another recovery the same still, and the same as one another.
+fn holds_to<R: Rack>(
+    alloc: Global,
+    rack: &mut R,
+    said: Option<u32>,
+    reached: Reached,
+) -> Result<bool, OutOfMemory> {
+    let (first, other) = sides(alloc, rack)?;
+    let left = as_said(said, reached, first) && as_said(said, reached, other);
+    let recovered = recovers(alloc, rack)?.is_some();
+    let (first, other) = sides(alloc, rack)?;
+    Ok(left && recovered && first == other && as_said(said, reached, first))
+}
+
+/// Whether, after a recovery that stops after so many calls and a crash, both members have what it said as soon as it said it, and after a
+/// second recovery too.
+fn agrees(alloc: Global, stop: u64, ways: Ways, calls: u64) -> Result<bool, DraftError> {
+    let (rack, reached, crashed) = left(alloc, stop, ways)?;
+    let (mut rack, said, again) = stopped(alloc, rack, ways, calls)?;
+    Ok(crashed && again && holds_to(alloc, &mut rack, said, reached)?)
 }
 
 #[test]

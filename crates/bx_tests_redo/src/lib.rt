@@ -1,21 +1,7 @@
-//! Tests of logs: over both members of a device, stopped at each call of the rack, and recovered.
+//! Tests of logs: what a log asks for, and two records' lives over both members of a device that are stopped at each call of the rack.
 #![tactic(auto)]
 
 #[cfg(test)]
-mod bench;
-#[cfg(test)]
 mod crashes;
-#[cfg(test)]
-mod drafts;
-#[cfg(test)]
-mod found;
-#[cfg(test)]
-mod life;
-#[cfg(test)]
-mod looks;
-#[cfg(test)]
-mod recovery;
-#[cfg(test)]
-mod repairs;
 #[cfg(test)]
 mod written;

@@ -1,10 +1,9 @@
 //! What a log asks for, beside what another program asks for in its place.
 
-use crate::drafts::{Bytes, draft_of};
-use crate::life::point_of;
 use bx_base::{OutOfMemory, Point};
 use bx_records::{DraftError, Runs};
 use bx_redo::{Log, Move};
+use bx_tests_bench::{Bytes, draft_of};
 use std::alloc::Global;
 use std::test::Fail;
 

@@ -140,21 +140,18 @@ fn entries_are_put_and_taken_in_their_leaves(rt: HostRuntime) -> Result<(), Fail
 fn a_leaf_is_to_be_held_exclusively(rt: HostRuntime) -> Result<(), Fail> {
     let alloc = rt.alloc();
     let mut desk = Desk::new(alloc);
-    assert!(rt; is_put(alloc, &desk, b"a", b"2", Want::Need(1, Mode::Exclusive)));
+    let root = is_put(alloc, &desk, b"a", b"2", Want::Need(1, Mode::Exclusive));
     desk.lend(alloc, 1, &ROOT)?;
-    assert!(rt; is_put(alloc, &desk, b"c", b"2", Want::Need(2, Mode::Exclusive)));
+    let missing = is_put(alloc, &desk, b"c", b"2", Want::Need(2, Mode::Exclusive));
     desk.lend(alloc, 2, &LEFT)?;
-    assert!(rt;
-        is_put(alloc, &desk, b"c", b"2", Want::Need(2, Mode::Exclusive))
-            && is_taken(alloc, &desk, b"a", Want::Need(2, Mode::Exclusive))
-    );
+    let lent = is_put(alloc, &desk, b"c", b"2", Want::Need(2, Mode::Exclusive))
+        && is_taken(alloc, &desk, b"a", Want::Need(2, Mode::Exclusive));
     desk.hold(alloc, 2, 2, &LEFT)?;
-    assert!(rt;
-        is_put(alloc, &desk, b"c", b"2", Want::Done) && is_taken(alloc, &desk, b"a", Want::Done)
-    );
+    let held = is_put(alloc, &desk, b"c", b"2", Want::Done)
+        && is_taken(alloc, &desk, b"a", Want::Done);
     desk.hold(alloc, 2, 5, &LEFT)?;
-    assert!(rt;
-        is_put(alloc, &desk, b"c", b"2", Want::Stale) && is_taken(alloc, &desk, b"a", Want::Stale)
-    );
+    let other = is_put(alloc, &desk, b"c", b"2", Want::Stale)
+        && is_taken(alloc, &desk, b"a", Want::Stale);
+    assert!(rt; root && missing && lent && held && other);
     Ok(())
 }

@@ -1,4 +1,4 @@
-use Rattle.std.proofs.Common.{◌≡◌, ℕ, List, [], ◌∷◌, ◌++◌, None, Err, refl, sym, ap, subst, ◌∙◌}
+use Rattle.std.proofs.Common.{◌≡◌, ℕ, List, [], ◌∷◌, None, Err, refl, sym, ap, subst, ◌∙◌}
 use Rattle.std.proofs.lemmas.Result.{err_from_is_err_and}
 use Rattle.bx_truth.specs.PageTrees.{Node, IsLevel}
 use Rattle.bx_audit_trees.specs.Pages.{IsPlaced, LeadsTo}
@@ -29,16 +29,13 @@ returns-in-Some-clause-torn g c = λ chunks shows.
 pub returns-clause-ok : goal.returns-clause-ok
 returns-clause-ok g c = λ chunks shows.
     let page = c.in_ok-page.page in
-    let node : Node = record { handle = c.args.root; begins = c.in_ok-begins.begins; page = page } in
-    let items : c.push.new.self.items ≡ node ∷ [] = c.in_ok-push.ensures.items ∙ ap (λ (l : List Node). l ++ node ∷ []) c.new-pages.ensures.items in
+    let node : Node = record { handle = c.args.root; begins = []; page = page } in
     let last = subst (LeadsTo page) c.in_default.is c.in_ok-way_of.ensures.leads in
     let walks = last_walks chunks c.level-level.result c.args.root [] page (c.in_ok-page.ensures.ok chunks shows) c.in_ok-way_of.ensures.placed last in
-    let level = level_of_walk chunks shows.none c.level-level.result c.args.root (record { handle = c.args.root; begins = []; page = page } ∷ []) walks in
-    let same : record { handle = c.args.root; begins = []; page = page } ∷ [] ≡ c.push.new.self.items = (λ i. record { handle = c.args.root; begins = (sym c.in_ok-begins.ensures) i; page = page } ∷ []) ∙ sym items in
-    record { is = subst (IsLevel chunks c.level-level.result) same level.is; node = node; alone = items; root_is = refl }
+    let level = level_of_walk chunks shows.none c.level-level.result c.args.root (node ∷ []) walks in
+    record { is = subst (IsLevel chunks c.level-level.result) (sym c.in_ok-pages.ensures) level.is; node = node; alone = c.in_ok-pages.ensures; root_is = refl }
 
 pub returns-clause-led : goal.returns-clause-led
 returns-clause-led g c = λ chunks.
-    let node : Node = record { handle = c.args.root; begins = c.in_ok-begins.begins; page = c.in_ok-page.page } in
-    let items : c.push.new.self.items ≡ node ∷ [] = c.in_ok-push.ensures.items ∙ ap (λ (l : List Node). l ++ node ∷ []) c.new-pages.ensures.items in
-    alone_led chunks c.args.root c.push.new.self.items node items refl
+    let node : Node = record { handle = c.args.root; begins = []; page = c.in_ok-page.page } in
+    alone_led chunks c.args.root c.in_ok-pages.pages.items node c.in_ok-pages.ensures refl

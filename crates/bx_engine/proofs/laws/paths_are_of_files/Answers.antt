@@ -1,18 +1,13 @@
 use Rattle.bx_engine.proofs.Datagrams.{path_of}
-use Rattle.bx_engine.proofs.Paths.{exclusive_of, one_on, refused_none, shared_of}
-use Rattle.bx_base.specs.declared.names.Mode.TheVariants.{Exclusive, Shared}
+use Rattle.bx_engine.proofs.Paths.{one_on, refused_none, shared_of}
 use Rattle.bx_engine.proofs.laws.paths_are_of_files.Goals as goal
 
 pub returns-clause-one : goal.returns-clause-one
 returns-clause-one c = one_on
 
 pub returns-clause-shared : goal.returns-clause-shared
-returns-clause-shared c = λ held hints volume areas bytes handle sattr at xid call on reads is.
-    shared_of held hints volume areas call.procedure at handle sattr call.args is (path_of bytes xid call reads held hints volume areas at Shared on)
-
-pub returns-clause-exclusive : goal.returns-clause-exclusive
-returns-clause-exclusive c = λ held hints volume areas bytes at xid call on reads.
-    exclusive_of held hints volume areas call.procedure at call.args (path_of bytes xid call reads held hints volume areas at Exclusive on)
+returns-clause-shared c = λ held hints volume areas bytes at xid mode call on reads reading.
+    shared_of held hints volume areas call at mode reading (path_of bytes xid call reads held hints volume areas at mode on)
 
 pub returns-clause-refused : goal.returns-clause-refused
 returns-clause-refused c = λ held hints volume areas bytes at xid number mode call on reads is.

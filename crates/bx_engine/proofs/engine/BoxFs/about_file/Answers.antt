@@ -6,7 +6,7 @@ use Rattle.bx_engine.proofs.Acting.{getattr_acts, gives_by, readlink_acts}
 use Rattle.bx_engine.proofs.Along.{fair_along}
 use Rattle.bx_engine.proofs.Spaces.{space_gives, space_on, space_tells}
 use Rattle.bx_engine.specs.Calls.{IsAboutFile}
-use Rattle.bx_engine.specs.Paths.{PathOf}
+use Rattle.bx_engine.specs.Paths.{ReadPathOf}
 use Rattle.bx_inodes.specs.Stops.{OnInode}
 use Rattle.bx_model.specs.declared.call.Args.TheVariants.{Handle}
 use Rattle.bx_model.specs.Reading.{getattr, readlink}
@@ -23,7 +23,7 @@ returns-then-call-eq-READLINK-clause-gives g c = λ client moment bytes truth tr
 pub returns-then-call-eq-READLINK-clause-fair : goal.returns-then-call-eq-READLINK-clause-fair
 returns-then-call-eq-READLINK-clause-fair g c =
     let fs = c.args.self.now in
-    IfOk-weaker c.readlink.result _ _ (fair_along (OnInode fs.volume c.args.at.now Shared) (PathOf (g.V.View.held c.args.view.now) (g.V.View.hints c.args.view.now) fs.volume fs.areas c.args.call.now.procedure (Handle c.args.at.now)) (λ at mode on. inl on) fs.areas (g.V.View.held c.args.view.now)) c.readlink.ensures.fair
+    IfOk-weaker c.readlink.result _ _ (fair_along (OnInode fs.volume c.args.at.now Shared) (ReadPathOf (g.V.View.held c.args.view.now) (g.V.View.hints c.args.view.now) fs.volume fs.areas c.args.call.now.procedure (Handle c.args.at.now)) (λ at mode on. inl on) fs.areas (g.V.View.held c.args.view.now)) c.readlink.ensures.fair
 
 pub returns-then-call-eq-READLINK-clause-free : goal.returns-then-call-eq-READLINK-clause-free
 returns-then-call-eq-READLINK-clause-free g c = λ truth tree asks same s. absurd (omega (arith, asks, c.if-call-eq-READLINK.true))
@@ -38,7 +38,7 @@ returns-then-call-eq-STATFS-clause-gives g c = λ client moment bytes truth tree
 pub returns-then-call-eq-STATFS-clause-fair : goal.returns-then-call-eq-STATFS-clause-fair
 returns-then-call-eq-STATFS-clause-fair g c =
     let fs = c.args.self.now in
-    IfOk-weaker c.statfs.result _ _ (fair_along (OnSpace fs.volume fs.areas c.args.at.now) (PathOf (g.V.View.held c.args.view.now) (g.V.View.hints c.args.view.now) fs.volume fs.areas c.args.call.now.procedure (Handle c.args.at.now)) (space_on (g.V.View.held c.args.view.now) (g.V.View.hints c.args.view.now) fs.volume fs.areas c.args.at.now c.args.call.now.procedure c.if-call-eq-STATFS.true) fs.areas (g.V.View.held c.args.view.now)) c.statfs.ensures.fair
+    IfOk-weaker c.statfs.result _ _ (fair_along (OnSpace fs.volume fs.areas c.args.at.now) (ReadPathOf (g.V.View.held c.args.view.now) (g.V.View.hints c.args.view.now) fs.volume fs.areas c.args.call.now.procedure (Handle c.args.at.now)) (space_on (g.V.View.held c.args.view.now) (g.V.View.hints c.args.view.now) fs.volume fs.areas c.args.at.now c.args.call.now.procedure c.if-call-eq-STATFS.true) fs.areas (g.V.View.held c.args.view.now)) c.statfs.ensures.fair
 
 pub returns-then-call-eq-STATFS-clause-tells : goal.returns-then-call-eq-STATFS-clause-tells
 returns-then-call-eq-STATFS-clause-tells g c = λ other. absurd (other c.if-call-eq-STATFS.true)
@@ -62,7 +62,7 @@ returns-else-call-eq-STATFS-clause-gives g c = λ client moment bytes truth tree
 pub returns-else-call-eq-STATFS-clause-fair : goal.returns-else-call-eq-STATFS-clause-fair
 returns-else-call-eq-STATFS-clause-fair g c =
     let fs = c.args.self.now in
-    IfOk-weaker c.getattr.result _ _ (fair_along (OnInode fs.volume c.args.at.now Shared) (PathOf (g.V.View.held c.args.view.now) (g.V.View.hints c.args.view.now) fs.volume fs.areas c.args.call.now.procedure (Handle c.args.at.now)) (λ at mode on. inl on) fs.areas (g.V.View.held c.args.view.now)) c.getattr.ensures.fair
+    IfOk-weaker c.getattr.result _ _ (fair_along (OnInode fs.volume c.args.at.now Shared) (ReadPathOf (g.V.View.held c.args.view.now) (g.V.View.hints c.args.view.now) fs.volume fs.areas c.args.call.now.procedure (Handle c.args.at.now)) (λ at mode on. inl on) fs.areas (g.V.View.held c.args.view.now)) c.getattr.ensures.fair
 
 pub returns-else-call-eq-STATFS-clause-free : goal.returns-else-call-eq-STATFS-clause-free
 returns-else-call-eq-STATFS-clause-free g c = λ truth tree asks same s. absurd (c.if-call-eq-STATFS.false asks)

@@ -1,6 +1,5 @@
-use Rattle.bx_engine.proofs.Along.{fair_along, writes_along}
-use Rattle.bx_engine.proofs.Datagrams.{asks_as, at_once_as, on_path, removal_as, space_as}
-use Rattle.bx_engine.specs.Calls.{AsksRemoval, IsRemoveCall}
+use Rattle.bx_engine.proofs.Along.{fair_along}
+use Rattle.bx_engine.proofs.Datagrams.{asks_as, at_once_as, on_path, reading_as, space_as}
 use Rattle.bx_engine.specs.Paths.{IsOnPath, PathOf}
 use Rattle.bx_engine.proofs.engine.BoxFs.attempt.Goals as goal
 
@@ -22,19 +21,16 @@ returns-clause-at_once g c = λ once.
     c.in_ok-attempt.ensures.at_once (at_once_as c.args.call.now c.in-Some.xid c.in-Some.read found.0 once)
 
 pub returns-clause-tells : goal.returns-clause-tells
-returns-clause-tells g c = λ other.
+returns-clause-tells g c = λ reading other.
     let found = rw c.in-Some.is at c.in_ok-xid.ensures.found in
-    c.in_ok-attempt.ensures.tells (λ at asks. other at (space_as c.args.call.now c.in-Some.xid c.in-Some.read found.0 at asks))
+    c.in_ok-attempt.ensures.tells (reading_as c.args.call.now c.in-Some.xid c.in-Some.read found.0 reading) (λ at asks. other at (space_as c.args.call.now c.in-Some.xid c.in-Some.read found.0 at asks))
 
 pub returns-clause-free : goal.returns-clause-free
 returns-clause-free g c = λ at truth tree is same s.
     let found = rw c.in-Some.is at c.in_ok-xid.ensures.found in
     c.in_ok-attempt.ensures.free at truth tree (asks_as c.args.call.now c.in-Some.xid c.in-Some.read found.0 at is) same s
 
-pub returns-clause-writes : goal.returns-clause-writes
-returns-clause-writes g c =
+pub returns-clause-keeps : goal.returns-clause-keeps
+returns-clause-keeps g c = λ reading.
     let found = rw c.in-Some.is at c.in_ok-xid.ensures.found in
-    let fs = c.args.self.now in
-    writes_along (PathOf (g.V.View.held c.args.view.now) (g.V.View.hints c.args.view.now) fs.volume fs.areas c.in-Some.read.procedure c.in-Some.read.args) (IsOnPath (g.V.View.held c.args.view.now) (g.V.View.hints c.args.view.now) fs.volume fs.areas c.args.call.now) (on_path c.args.call.now c.in-Some.xid c.in-Some.read found.0 (g.V.View.held c.args.view.now) (g.V.View.hints c.args.view.now) fs.volume fs.areas)
-    (AsksRemoval c.in-Some.read) (IsRemoveCall c.args.call.now) (removal_as c.args.call.now c.in-Some.xid c.in-Some.read found.0)
-    c.in_ok-attempt.attempt c.in_ok-attempt.ensures.writes
+    c.in_ok-attempt.ensures.keeps (reading_as c.args.call.now c.in-Some.xid c.in-Some.read found.0 reading)

@@ -1,190 +1,27 @@
-use Rattle.std.proofs.Common.{◌≡◌, ◌∙◌, ℕ, List, sym, ap, subst}
-use Rattle.std.specs.Prelude.{Ok, IfOk}
+use Rattle.std.proofs.Common.{ℕ, inl, inr}
+use Rattle.std.specs.Prelude.{IfOk}
 use Rattle.std.proofs.lemmas.Result.{IfOk-weaker}
-use Rattle.bx_chunks.specs.Counting.{free_slots}
-use Rattle.bx_engine.proofs.Along.{name_written, nothing_written, one_written}
-use Rattle.bx_engine.proofs.Acting.{gives_by, mount_acts, nothing_acts, read_acts, readdir_acts, refused_acts, setattr_acts}
-use Rattle.bx_engine.proofs.Stopping.{answered_comes}
-use Rattle.bx_engine.specs.Calls.{HasBuiltArgs}
-use Rattle.bx_engine.specs.Outcomes.{TellsFree, WritesOne, told_free}
-use Rattle.bx_engine.specs.Paths.{PathOf}
-use Rattle.bx_model.specs.declared.call.Args.{Args}
-use Rattle.bx_model.specs.declared.call.Args.TheVariants.{Handle, List as Listing, Name, Path, Read, Set}
-use Rattle.bx_model.specs.declared.reply.Reply.TheVariants as replies
-use Rattle.bx_model.specs.Directories.{readdir}
-use Rattle.bx_model.specs.Mounting.{mount, plain}
-use Rattle.bx_model.specs.Reading.{read, statfs}
-use Rattle.bx_model.specs.Steps.{Outcome}
-use Rattle.bx_model.specs.Writing.{setattr}
-use Rattle.bx_tree_files.specs.Times.{time_of}
-use Rattle.bx_views.specs.Attempts.{IsFair}
+use Rattle.bx_attempts.specs.Paths.{ChangePathOf}
+use Rattle.bx_engine.proofs.Along.{fair_along}
+use Rattle.bx_engine.proofs.Apart.{changes_no_space, changes_not_at_once, changes_not_reads}
+use Rattle.bx_engine.specs.Paths.{PathOf, ReadPathOf}
 use Rattle.bx_engine.proofs.engine.BoxFs.attempt_built.Goals as goal
 
-pub returns-in-Refused-clause-gives : goal.returns-in-Refused-clause-gives
-returns-in-Refused-clause-gives g c = λ client bytes truth tree reads same s.
+pub returns-then-is_change-clause-fair : goal.returns-then-is_change-clause-fair
+returns-then-is_change-clause-fair g c =
     let fs = c.args.self.now in
+    let held = g.V.View.held c.args.view.now in
+    let hints = g.V.View.hints c.args.view.now in
     let call = c.args.call.now in
-    let reply = replies.Refused c.in-Refused.number call.program in
-    let outcome : Outcome = Ok (reply, tree) in
-    gives_by fs.volume fs.areas client bytes c.args.moment (free_slots fs.areas truth) truth tree c.args.xid call outcome reads c.requires.moment
-    (refused_acts tree call c.args.moment c.in-Refused.number c.in-Refused.is) s.stands c.answered.result
-    (answered_comes fs.volume fs.areas truth tree c.args.xid reply c.answered.result c.answered.ensures)
+    IfOk-weaker c.change.result _ _ (fair_along (ChangePathOf held hints fs.volume fs.areas call.procedure call.args) (PathOf held hints fs.volume fs.areas call.procedure call.args) (λ at mode on. inr on) fs.areas held) c.change.ensures.fair
 
-pub returns-in-Nothing-clause-gives : goal.returns-in-Nothing-clause-gives
-returns-in-Nothing-clause-gives g c = λ client bytes truth tree reads same s.
+pub returns-else-is_change-clause-fair : goal.returns-else-is_change-clause-fair
+returns-else-is_change-clause-fair g c =
     let fs = c.args.self.now in
+    let held = g.V.View.held c.args.view.now in
+    let hints = g.V.View.hints c.args.view.now in
     let call = c.args.call.now in
-    let reply = plain call.program call.procedure in
-    let outcome : Outcome = Ok (reply, tree) in
-    gives_by fs.volume fs.areas client bytes c.args.moment (free_slots fs.areas truth) truth tree c.args.xid call outcome reads c.requires.moment
-    (nothing_acts tree call c.args.moment c.in-Nothing.is) s.stands c.answered-in-Nothing.result
-    (answered_comes fs.volume fs.areas truth tree c.args.xid reply c.answered-in-Nothing.result (rw c.plain.ensures at c.answered-in-Nothing.ensures))
+    IfOk-weaker c.answer.result _ _ (fair_along (ReadPathOf held hints fs.volume fs.areas call.procedure call.args) (PathOf held hints fs.volume fs.areas call.procedure call.args) (λ at mode on. inl on) fs.areas held) c.answer.ensures.fair
 
-pub returns-in_ok-reply-in-Path-clause-gives : goal.returns-in_ok-reply-in-Path-clause-gives
-returns-in_ok-reply-in-Path-clause-gives g c = λ client bytes truth tree reads same s.
-    let fs = c.args.self.now in
-    let call = c.args.call.now in
-    let path = c.bytes.result.now in
-    let is : call.args ≡ Path path = c.in-Path.is ∙ ap (λ (b : List ℕ). Path b) (sym c.bytes.ensures) in
-    let reply = mount tree call.procedure path in
-    let outcome : Outcome = Ok (reply, tree) in
-    gives_by fs.volume fs.areas client bytes c.args.moment (free_slots fs.areas truth) truth tree c.args.xid call outcome reads c.requires.moment
-    (mount_acts tree call c.args.moment path is) s.stands c.answered-in-Path.result
-    (answered_comes fs.volume fs.areas truth tree c.args.xid reply c.answered-in-Path.result (rw (c.in_ok-reply-in-Path.ensures tree s.stands.volume_is s.stands.is.root_is) at c.answered-in-Path.ensures))
-
-pub about_file-requires-clause-handle : goal.about_file-requires-clause-handle
-about_file-requires-clause-handle g c = c.in-Handle.is ∙ ap (λ (b : List ℕ). Handle b) (sym c.bytes-in-Handle.ensures)
-
-pub about_file-requires-clause-procedure : goal.about_file-requires-clause-procedure
-about_file-requires-clause-procedure g c = (subst (HasBuiltArgs c.args.call.now) c.in-Handle.is c.requires.built).procedure
-
-pub returns-in-Handle-clause-gives : goal.returns-in-Handle-clause-gives
-returns-in-Handle-clause-gives g c = λ client bytes truth tree reads same s.
-    c.about_file.ensures.gives client c.args.moment bytes truth tree c.requires.moment reads same s.stands
-
-pub returns-in-Handle-clause-fair : goal.returns-in-Handle-clause-fair
-returns-in-Handle-clause-fair g c =
-    let fs = c.args.self.now in
-    let is : c.args.call.now.args ≡ Handle c.bytes-in-Handle.result.now = c.in-Handle.is ∙ ap (λ (b : List ℕ). Handle b) (sym c.bytes-in-Handle.ensures) in
-    subst (λ (args : Args). IfOk c.about_file.result (IsFair fs.areas (g.V.View.held c.args.view.now) (PathOf (g.V.View.held c.args.view.now) (g.V.View.hints c.args.view.now) fs.volume fs.areas c.args.call.now.procedure args))) (sym is) c.about_file.ensures.fair
-
-pub returns-in-Set-clause-gives : goal.returns-in-Set-clause-gives
-returns-in-Set-clause-gives g c = λ client bytes truth tree reads same s.
-    let fs = c.args.self.now in
-    let call = c.args.call.now in
-    let at = c.bytes-in-Set.result.now in
-    let is : call.args ≡ Set at c.in-Set.sattr = c.in-Set.is ∙ ap (λ (b : List ℕ). Set b c.in-Set.sattr) (sym c.bytes-in-Set.ensures) in
-    gives_by fs.volume fs.areas client bytes c.args.moment (free_slots fs.areas truth) truth tree c.args.xid call (setattr tree call at c.in-Set.sattr (time_of c.args.moment)) reads c.requires.moment
-    (setattr_acts tree call c.args.moment at c.in-Set.sattr is) s.stands c.setattr.result (c.setattr.ensures.comes truth tree same s.stands)
-
-pub returns-in-Set-clause-fair : goal.returns-in-Set-clause-fair
-returns-in-Set-clause-fair g c =
-    let fs = c.args.self.now in
-    let is : c.args.call.now.args ≡ Set c.bytes-in-Set.result.now c.in-Set.sattr = c.in-Set.is ∙ ap (λ (b : List ℕ). Set b c.in-Set.sattr) (sym c.bytes-in-Set.ensures) in
-    subst (λ (args : Args). IfOk c.setattr.result (IsFair fs.areas (g.V.View.held c.args.view.now) (PathOf (g.V.View.held c.args.view.now) (g.V.View.hints c.args.view.now) fs.volume fs.areas c.args.call.now.procedure args))) (sym is) c.setattr.ensures.fair
-
-pub returns-in-Set-clause-writes : goal.returns-in-Set-clause-writes
-returns-in-Set-clause-writes g c =
-    let fs = c.args.self.now in
-    let is : c.args.call.now.args ≡ Set c.bytes-in-Set.result.now c.in-Set.sattr = c.in-Set.is ∙ ap (λ (b : List ℕ). Set b c.in-Set.sattr) (sym c.bytes-in-Set.ensures) in
-    IfOk-weaker c.setattr.result _ _ (one_written _ (PathOf (g.V.View.held c.args.view.now) (g.V.View.hints c.args.view.now) fs.volume fs.areas c.args.call.now.procedure c.args.call.now.args))
-    (subst (λ (args : Args). IfOk c.setattr.result (WritesOne (PathOf (g.V.View.held c.args.view.now) (g.V.View.hints c.args.view.now) fs.volume fs.areas c.args.call.now.procedure args))) (sym is) c.setattr.ensures.writes)
-
-pub returns-in-Handle-clause-writes : goal.returns-in-Handle-clause-writes
-returns-in-Handle-clause-writes g c = IfOk-weaker c.about_file.result _ _ (nothing_written _ (PathOf (g.V.View.held c.args.view.now) (g.V.View.hints c.args.view.now) c.args.self.now.volume c.args.self.now.areas c.args.call.now.procedure c.args.call.now.args)) c.about_file.ensures.keeps
-
-pub returns-in-Handle-clause-tells : goal.returns-in-Handle-clause-tells
-returns-in-Handle-clause-tells g c = λ other.
-    let is : c.args.call.now.args ≡ Handle c.bytes-in-Handle.result.now = c.in-Handle.is ∙ ap (λ (b : List ℕ). Handle b) (sym c.bytes-in-Handle.ensures) in
-    c.about_file.ensures.tells (λ asks. other c.bytes-in-Handle.result.now (record { args = is; procedure = asks }))
-
-pub returns-in-Handle-clause-free : goal.returns-in-Handle-clause-free
-returns-in-Handle-clause-free g c = λ at truth tree asks same s.
-    let fs = c.args.self.now in
-    let free = free_slots fs.areas truth in
-    let is : c.args.call.now.args ≡ Handle c.bytes-in-Handle.result.now = c.in-Handle.is ∙ ap (λ (b : List ℕ). Handle b) (sym c.bytes-in-Handle.ensures) in
-    let here : Handle c.bytes-in-Handle.result.now ≡ Handle at = sym is ∙ asks.args in
-    let one : c.bytes-in-Handle.result.now ≡ at = cc in
-    subst (λ (bytes : List ℕ). IfOk c.about_file.result (TellsFree (told_free free (statfs tree bytes free)))) one (c.about_file.ensures.free truth tree asks.procedure same s)
-
-pub returns-in-Refused-clause-free : goal.returns-in-Refused-clause-free
-returns-in-Refused-clause-free g c = λ at truth tree asks same s. let never = sym c.in-Refused.is ∙ asks.args in absurd cc
-
-pub returns-in-Nothing-clause-free : goal.returns-in-Nothing-clause-free
-returns-in-Nothing-clause-free g c = λ at truth tree asks same s. let never = sym c.in-Nothing.is ∙ asks.args in absurd cc
-
-pub returns-in_ok-reply-in-Path-clause-free : goal.returns-in_ok-reply-in-Path-clause-free
-returns-in_ok-reply-in-Path-clause-free g c = λ at truth tree asks same s. let never = sym c.in-Path.is ∙ asks.args in absurd cc
-
-pub returns-in-Set-clause-free : goal.returns-in-Set-clause-free
-returns-in-Set-clause-free g c = λ at truth tree asks same s. let never = sym c.in-Set.is ∙ asks.args in absurd cc
-
-pub returns-in-Read-clause-gives : goal.returns-in-Read-clause-gives
-returns-in-Read-clause-gives g c = λ client bytes truth tree reads same s.
-    let fs = c.args.self.now in
-    let call = c.args.call.now in
-    let at = c.bytes-in-Read.result.now in
-    let is : call.args ≡ Read at c.in-Read.offset c.in-Read.count c.in-Read.field-3 = c.in-Read.is ∙ ap (λ (b : List ℕ). Read b c.in-Read.offset c.in-Read.count c.in-Read.field-3) (sym c.bytes-in-Read.ensures) in
-    gives_by fs.volume fs.areas client bytes c.args.moment (free_slots fs.areas truth) truth tree c.args.xid call (read tree call at c.in-Read.offset c.in-Read.count) reads c.requires.moment
-    (read_acts tree call c.args.moment at c.in-Read.offset c.in-Read.count c.in-Read.field-3 is) s.stands c.read.result (c.read.ensures.comes truth tree same s)
-
-pub returns-in-Read-clause-fair : goal.returns-in-Read-clause-fair
-returns-in-Read-clause-fair g c =
-    let fs = c.args.self.now in
-    let is : c.args.call.now.args ≡ Read c.bytes-in-Read.result.now c.in-Read.offset c.in-Read.count c.in-Read.field-3 =
-    c.in-Read.is ∙ ap (λ (b : List ℕ). Read b c.in-Read.offset c.in-Read.count c.in-Read.field-3) (sym c.bytes-in-Read.ensures) in
-    subst (λ (args : Args). IfOk c.read.result (IsFair fs.areas (g.V.View.held c.args.view.now) (PathOf (g.V.View.held c.args.view.now) (g.V.View.hints c.args.view.now) fs.volume fs.areas c.args.call.now.procedure args))) (sym is) c.read.ensures.fair
-
-pub returns-in-Read-clause-writes : goal.returns-in-Read-clause-writes
-returns-in-Read-clause-writes g c =
-    IfOk-weaker c.read.result _ _ (nothing_written _ (PathOf (g.V.View.held c.args.view.now) (g.V.View.hints c.args.view.now) c.args.self.now.volume c.args.self.now.areas c.args.call.now.procedure c.args.call.now.args)) c.read.ensures.keeps
-
-pub returns-in-Read-clause-free : goal.returns-in-Read-clause-free
-returns-in-Read-clause-free g c = λ at truth tree asks same s. let never = sym c.in-Read.is ∙ asks.args in absurd cc
-
-pub about_name-requires-clause-args : goal.about_name-requires-clause-args
-about_name-requires-clause-args g c = c.in-Name.is ∙ (λ i. Name (sym c.bytes-in-Name.ensures i) (sym c.bytes-in-Name-2.ensures i))
-
-pub about_name-requires-clause-procedure : goal.about_name-requires-clause-procedure
-about_name-requires-clause-procedure g c = (subst (HasBuiltArgs c.args.call.now) c.in-Name.is c.requires.built).procedure
-
-pub returns-in-Name-clause-gives : goal.returns-in-Name-clause-gives
-returns-in-Name-clause-gives g c = λ client bytes truth tree reads same s. c.about_name.ensures.gives client bytes truth tree reads same s
-
-pub returns-in-Name-clause-fair : goal.returns-in-Name-clause-fair
-returns-in-Name-clause-fair g c =
-    let fs = c.args.self.now in
-    let is : c.args.call.now.args ≡ Name c.bytes-in-Name.result.now c.bytes-in-Name-2.result.now = c.in-Name.is ∙ (λ i. Name (sym c.bytes-in-Name.ensures i) (sym c.bytes-in-Name-2.ensures i)) in
-    subst (λ (args : Args). IfOk c.about_name.result (IsFair fs.areas (g.V.View.held c.args.view.now) (PathOf (g.V.View.held c.args.view.now) (g.V.View.hints c.args.view.now) fs.volume fs.areas c.args.call.now.procedure args))) (sym is) c.about_name.ensures.fair
-
-pub returns-in-Name-clause-writes : goal.returns-in-Name-clause-writes
-returns-in-Name-clause-writes g c =
-    let is : c.args.call.now.args ≡ Name c.bytes-in-Name.result.now c.bytes-in-Name-2.result.now = c.in-Name.is ∙ (λ i. Name (sym c.bytes-in-Name.ensures i) (sym c.bytes-in-Name-2.ensures i)) in
-    name_written (PathOf (g.V.View.held c.args.view.now) (g.V.View.hints c.args.view.now) c.args.self.now.volume c.args.self.now.areas c.args.call.now.procedure c.args.call.now.args)
-    c.args.call.now c.bytes-in-Name.result.now c.bytes-in-Name-2.result.now is (subst (HasBuiltArgs c.args.call.now) c.in-Name.is c.requires.built).procedure c.about_name.result c.about_name.ensures.keeps c.about_name.ensures.first
-
-pub returns-in-Name-clause-free : goal.returns-in-Name-clause-free
-returns-in-Name-clause-free g c = λ at truth tree asks same s. let never = sym c.in-Name.is ∙ asks.args in absurd cc
-
-pub returns-in-List-clause-gives : goal.returns-in-List-clause-gives
-returns-in-List-clause-gives g c = λ client bytes truth tree reads same s.
-    let fs = c.args.self.now in
-    let call = c.args.call.now in
-    let at = c.bytes-in-List.result.now in
-    let is : call.args ≡ Listing at c.in-List.cookie c.in-List.count = c.in-List.is ∙ ap (λ (b : List ℕ). Listing b c.in-List.cookie c.in-List.count) (sym c.bytes-in-List.ensures) in
-    gives_by fs.volume fs.areas client bytes c.args.moment (free_slots fs.areas truth) truth tree c.args.xid call (readdir tree call at c.in-List.cookie c.in-List.count) reads c.requires.moment
-    (readdir_acts tree call c.args.moment at c.in-List.cookie c.in-List.count is) s.stands c.readdir.result (c.readdir.ensures.comes truth tree same s)
-
-pub returns-in-List-clause-fair : goal.returns-in-List-clause-fair
-returns-in-List-clause-fair g c =
-    let fs = c.args.self.now in
-    let is : c.args.call.now.args ≡ Listing c.bytes-in-List.result.now c.in-List.cookie c.in-List.count =
-    c.in-List.is ∙ ap (λ (b : List ℕ). Listing b c.in-List.cookie c.in-List.count) (sym c.bytes-in-List.ensures) in
-    subst (λ (args : Args). IfOk c.readdir.result (IsFair fs.areas (g.V.View.held c.args.view.now) (PathOf (g.V.View.held c.args.view.now) (g.V.View.hints c.args.view.now) fs.volume fs.areas c.args.call.now.procedure args))) (sym is) c.readdir.ensures.fair
-
-pub returns-in-List-clause-writes : goal.returns-in-List-clause-writes
-returns-in-List-clause-writes g c =
-    IfOk-weaker c.readdir.result _ _ (nothing_written _ (PathOf (g.V.View.held c.args.view.now) (g.V.View.hints c.args.view.now) c.args.self.now.volume c.args.self.now.areas c.args.call.now.procedure c.args.call.now.args)) c.readdir.ensures.keeps
-
-pub returns-in-List-clause-free : goal.returns-in-List-clause-free
-returns-in-List-clause-free g c = λ at truth tree asks same s. let never = sym c.in-List.is ∙ asks.args in absurd cc
+pub returns-else-is_change-clause-gives : goal.returns-else-is_change-clause-gives
+returns-else-is_change-clause-gives g c = λ client bytes truth tree reads same s. c.answer.ensures.gives client c.args.moment bytes truth tree c.requires.moment reads same s

@@ -10,13 +10,13 @@ pub returns-in-Ok-clause-comes : goal.returns-in-Ok-clause-comes
 returns-in-Ok-clause-comes g c = λ truth tree same s.
     let fs = c.args.self.now in
     IfOk-weaker c.answered.result _ _
-    (λ attempt is. answer_comes c.args.xid attempt fs.volume fs.areas truth tree (getattr tree c.args.at.now) c.in-Ok.reply (c.in-Ok.ensures.step truth tree same s) is) c.answered.ensures
+    (λ attempt is. answer_comes c.args.xid attempt tree (getattr tree c.args.at.now) c.in-Ok.reply (c.in-Ok.ensures.step truth tree same s) is) c.answered.ensures
 
 pub returns-in-Err-clause-comes : goal.returns-in-Err-clause-comes
 returns-in-Err-clause-comes g c = λ truth tree same s.
     let fs = c.args.self.now in
     IfOk-weaker c.stopped.result _ _
-    (λ attempt is. stops_come c.args.xid attempt fs.volume fs.areas truth tree (getattr tree c.args.at.now) c.in-Err.stop (c.in-Err.ensures.step truth tree same s) is) c.stopped.ensures
+    (λ attempt is. stops_come c.args.xid attempt tree (getattr tree c.args.at.now) c.in-Err.stop (c.in-Err.ensures.step truth tree same s) is) c.stopped.ensures
 
 pub returns-in-Err-clause-fair : goal.returns-in-Err-clause-fair
 returns-in-Err-clause-fair g c =

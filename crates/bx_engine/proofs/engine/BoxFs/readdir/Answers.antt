@@ -9,13 +9,13 @@ pub returns-in-Ok-clause-comes : goal.returns-in-Ok-clause-comes
 returns-in-Ok-clause-comes g c = λ truth tree same s.
     let fs = c.args.self.now in
     IfOk-weaker c.answered.result _ _
-    (λ attempt is. answer_comes c.args.xid attempt fs.volume fs.areas truth tree (readdir tree c.args.call.now c.args.at.now c.args.part.0 c.args.part.1) c.in-Ok.reply (c.in-Ok.ensures.step truth tree same s.stands s.fit) is) c.answered.ensures
+    (λ attempt is. answer_comes c.args.xid attempt tree (readdir tree c.args.call.now c.args.at.now c.args.part.0 c.args.part.1) c.in-Ok.reply (c.in-Ok.ensures.step truth tree same s.stands s.fit) is) c.answered.ensures
 
 pub returns-in-Err-clause-comes : goal.returns-in-Err-clause-comes
 returns-in-Err-clause-comes g c = λ truth tree same s.
     let fs = c.args.self.now in
     IfOk-weaker c.stopped.result _ _
-    (λ attempt is. stops_come c.args.xid attempt fs.volume fs.areas truth tree (readdir tree c.args.call.now c.args.at.now c.args.part.0 c.args.part.1) c.in-Err.stop (c.in-Err.ensures.step truth tree same s.stands s.fit) is) c.stopped.ensures
+    (λ attempt is. stops_come c.args.xid attempt tree (readdir tree c.args.call.now c.args.at.now c.args.part.0 c.args.part.1) c.in-Err.stop (c.in-Err.ensures.step truth tree same s.stands s.fit) is) c.stopped.ensures
 
 pub returns-in-Err-clause-fair : goal.returns-in-Err-clause-fair
 returns-in-Err-clause-fair g c =

@@ -12,7 +12,7 @@ returns-in-Ok-clause-comes g c = λ truth tree same s.
     let fs = c.args.self.now in
     let step = c.in-Ok.ensures.step truth tree same s in
     IfOk-weaker c.answered_with.result _ _
-    (λ attempt is. space_answer tree (free_slots fs.areas truth) c.args.at.now c.args.xid attempt c.in-Ok.reply c.in-Ok.free step.0 step.1 c.in-Ok.ensures.most is) c.answered_with.ensures
+    (λ attempt is. space_answer tree (free_slots fs.areas truth) c.args.at.now c.args.xid attempt c.in-Ok.reply c.in-Ok.free step.0 step.1 c.in-Ok.ensures.most is) (rw c.from.ensures at c.answered_with.ensures)
 
 pub returns-in-Err-clause-comes : goal.returns-in-Err-clause-comes
 returns-in-Err-clause-comes g c = λ truth tree same s.

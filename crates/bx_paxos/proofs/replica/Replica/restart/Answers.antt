@@ -42,21 +42,21 @@ returns-clause-known g c = λ v past tells of fits.
     (subst (λ (n : ℕ). n < 3) (sym did.stays.0) halves.low) did.standing (did.holds tells) (λ none. knows_first a.replica a.first a.origin (x.reads a.replica) b.held b.cell (did.starts tells) none ∙ sym did.stays.1)
 
 pub returns-in_err-restart-clause-any_moment : goal.returns-in_err-restart-clause-any_moment
-returns-in_err-restart-clause-any_moment g c = λ v past tells made fits.
+returns-in_err-restart-clause-any_moment g c = λ v past tells fits.
     let rack = c.args.rack.now in
-    start_moments v (g.R.Rack.state rack) past c.args.out.now (g.R.Rack.moment rack) (g.R.Rack.moment c.restart.new.rack) (g.R.Rack.left_since rack) (g.R.Rack.left_since c.restart.new.rack) fits made (c.in_err-restart.ensures.disks tells).any_moment
+    start_moments v (g.R.Rack.state rack) past c.args.out.now (g.R.Rack.moment rack) (g.R.Rack.moment c.restart.new.rack) (g.R.Rack.left_since rack) (g.R.Rack.left_since c.restart.new.rack) fits (c.in_err-restart.ensures.disks tells).any_moment
 
 pub returns-in_err-restart-2-clause-any_moment : goal.returns-in_err-restart-2-clause-any_moment
-returns-in_err-restart-2-clause-any_moment g c = λ v past tells made fits.
+returns-in_err-restart-2-clause-any_moment g c = λ v past tells fits.
     let rack = c.args.rack.now in
-    start_moments v (g.R.Rack.state rack) past c.args.out.now (g.R.Rack.moment rack) (g.R.Rack.moment c.restart.new.rack) (g.R.Rack.left_since rack) (g.R.Rack.left_since c.restart.new.rack) fits made (c.in_ok-restart.ensures.disks tells).any_moment
+    start_moments v (g.R.Rack.state rack) past c.args.out.now (g.R.Rack.moment rack) (g.R.Rack.moment c.restart.new.rack) (g.R.Rack.left_since rack) (g.R.Rack.left_since c.restart.new.rack) fits (c.in_ok-restart.ensures.disks tells).any_moment
 
 pub returns-in_err-learn-clause-any_moment : goal.returns-in_err-learn-clause-any_moment
-returns-in_err-learn-clause-any_moment g c = λ v past tells made fits.
+returns-in_err-learn-clause-any_moment g c = λ v past tells fits.
     let rack = c.args.rack.now in
-    start_moments v (g.R.Rack.state rack) past c.args.out.now (g.R.Rack.moment rack) (g.R.Rack.moment c.restart.new.rack) (g.R.Rack.left_since rack) (g.R.Rack.left_since c.restart.new.rack) fits made (c.in_ok-restart.ensures.disks tells).any_moment
+    start_moments v (g.R.Rack.state rack) past c.args.out.now (g.R.Rack.moment rack) (g.R.Rack.moment c.restart.new.rack) (g.R.Rack.left_since rack) (g.R.Rack.left_since c.restart.new.rack) fits (c.in_ok-restart.ensures.disks tells).any_moment
 
 pub returns-clause-any_moment : goal.returns-clause-any_moment
-returns-clause-any_moment g c = λ v past tells made fits.
+returns-clause-any_moment g c = λ v past tells fits.
     let rack = c.args.rack.now in
-    start_moments v (g.R.Rack.state rack) past c.args.out.now (g.R.Rack.moment rack) (g.R.Rack.moment c.restart.new.rack) (g.R.Rack.left_since rack) (g.R.Rack.left_since c.restart.new.rack) fits made (c.in_ok-restart.ensures.disks tells).any_moment
+    start_moments v (g.R.Rack.state rack) past c.args.out.now (g.R.Rack.moment rack) (g.R.Rack.moment c.restart.new.rack) (g.R.Rack.left_since rack) (g.R.Rack.left_since c.restart.new.rack) fits (c.in_ok-restart.ensures.disks tells).any_moment

@@ -35,53 +35,53 @@ returns-in_err-take-clause-keeps_faulted g c = λ v past tells of has comes fits
     )
 
 pub returns-in_err-take-clause-any_moment : goal.returns-in_err-take-clause-any_moment
-returns-in_err-take-clause-any_moment g c = λ v past tells of made has comes fits.
+returns-in_err-take-clause-any_moment g c = λ v past tells of has comes fits.
     let a = c.args.self.now.acceptor in
     let b = c.take.new.self in
     let did = c.in_err-take.ensures in
     let halves = c.requires.halves in
     let rack = c.args.rack.now in
     let is_now : IsHeld (length a.first.devices) b.held = subst (λ (s : GlobalState). IsHeld (length s.devices) b.held) did.stays.1 did.standing.held in
-    replica_moments v (g.R.Rack.state rack) past a b c.args.input.now c.args.out.now (g.R.Rack.moment rack) (g.R.Rack.moment c.take.new.rack) (g.R.Rack.left_since rack) (g.R.Rack.left_since c.take.new.rack) fits made of.first of.origin halves.low halves.acceptor has is_now comes did.became
+    replica_moments v (g.R.Rack.state rack) past a b c.args.input.now c.args.out.now (g.R.Rack.moment rack) (g.R.Rack.moment c.take.new.rack) (g.R.Rack.left_since rack) (g.R.Rack.left_since c.take.new.rack) fits of.first of.origin halves.low halves.acceptor has is_now comes did.became
     (g.R.Rack.tells rack) tells did.any_moment
     (λ none. subst (λ r. LeavesOnly (g.R.Rack.moment rack) (g.R.Rack.moment r) (g.R.Rack.left_since rack) (g.R.Rack.left_since r) (IsImage (g.R.Rack.state rack))) (sym (did.ignores (λ m f brings takes. no_cell_takes a m none takes)).2)
     (leaves_none (g.R.Rack.state rack) (g.R.Rack.moment rack) (g.R.Rack.left_since rack) (λ image left. g.met.R.Rack.only_now rack image tells left)))
 
 pub returns-in_err-learn-clause-any_moment : goal.returns-in_err-learn-clause-any_moment
-returns-in_err-learn-clause-any_moment g c = λ v past tells of made has comes fits.
+returns-in_err-learn-clause-any_moment g c = λ v past tells of has comes fits.
     let a = c.args.self.now.acceptor in
     let b = c.take.new.self in
     let did = c.in_ok-take.ensures in
     let halves = c.requires.halves in
     let rack = c.args.rack.now in
     let is_now : IsHeld (length a.first.devices) b.held = subst (λ (s : GlobalState). IsHeld (length s.devices) b.held) did.stays.1 did.standing.held in
-    replica_moments v (g.R.Rack.state rack) past a b c.args.input.now c.args.out.now (g.R.Rack.moment rack) (g.R.Rack.moment c.take.new.rack) (g.R.Rack.left_since rack) (g.R.Rack.left_since c.take.new.rack) fits made of.first of.origin halves.low halves.acceptor has is_now comes did.became
+    replica_moments v (g.R.Rack.state rack) past a b c.args.input.now c.args.out.now (g.R.Rack.moment rack) (g.R.Rack.moment c.take.new.rack) (g.R.Rack.left_since rack) (g.R.Rack.left_since c.take.new.rack) fits of.first of.origin halves.low halves.acceptor has is_now comes did.became
     (g.R.Rack.tells rack) tells did.any_moment
     (λ none. subst (λ r. LeavesOnly (g.R.Rack.moment rack) (g.R.Rack.moment r) (g.R.Rack.left_since rack) (g.R.Rack.left_since r) (IsImage (g.R.Rack.state rack))) (sym (did.ignores (λ m f brings takes. no_cell_takes a m none takes)).2)
     (leaves_none (g.R.Rack.state rack) (g.R.Rack.moment rack) (g.R.Rack.left_since rack) (λ image left. g.met.R.Rack.only_now rack image tells left)))
 
 pub returns-in_err-take-2-clause-any_moment : goal.returns-in_err-take-2-clause-any_moment
-returns-in_err-take-2-clause-any_moment g c = λ v past tells of made has comes fits.
+returns-in_err-take-2-clause-any_moment g c = λ v past tells of has comes fits.
     let a = c.args.self.now.acceptor in
     let b = c.take.new.self in
     let did = c.in_ok-take.ensures in
     let halves = c.requires.halves in
     let rack = c.args.rack.now in
     let is_now : IsHeld (length a.first.devices) b.held = subst (λ (s : GlobalState). IsHeld (length s.devices) b.held) did.stays.1 did.standing.held in
-    replica_moments v (g.R.Rack.state rack) past a b c.args.input.now c.args.out.now (g.R.Rack.moment rack) (g.R.Rack.moment c.take.new.rack) (g.R.Rack.left_since rack) (g.R.Rack.left_since c.take.new.rack) fits made of.first of.origin halves.low halves.acceptor has is_now comes did.became
+    replica_moments v (g.R.Rack.state rack) past a b c.args.input.now c.args.out.now (g.R.Rack.moment rack) (g.R.Rack.moment c.take.new.rack) (g.R.Rack.left_since rack) (g.R.Rack.left_since c.take.new.rack) fits of.first of.origin halves.low halves.acceptor has is_now comes did.became
     (g.R.Rack.tells rack) tells did.any_moment
     (λ none. subst (λ r. LeavesOnly (g.R.Rack.moment rack) (g.R.Rack.moment r) (g.R.Rack.left_since rack) (g.R.Rack.left_since r) (IsImage (g.R.Rack.state rack))) (sym (did.ignores (λ m f brings takes. no_cell_takes a m none takes)).2)
     (leaves_none (g.R.Rack.state rack) (g.R.Rack.moment rack) (g.R.Rack.left_since rack) (λ image left. g.met.R.Rack.only_now rack image tells left)))
 
 pub returns-clause-any_moment : goal.returns-clause-any_moment
-returns-clause-any_moment g c = λ v past tells of made has comes fits.
+returns-clause-any_moment g c = λ v past tells of has comes fits.
     let a = c.args.self.now.acceptor in
     let b = c.take.new.self in
     let did = c.in_ok-take.ensures in
     let halves = c.requires.halves in
     let rack = c.args.rack.now in
     let is_now : IsHeld (length a.first.devices) b.held = subst (λ (s : GlobalState). IsHeld (length s.devices) b.held) did.stays.1 did.standing.held in
-    replica_moments v (g.R.Rack.state rack) past a b c.args.input.now c.args.out.now (g.R.Rack.moment rack) (g.R.Rack.moment c.take.new.rack) (g.R.Rack.left_since rack) (g.R.Rack.left_since c.take.new.rack) fits made of.first of.origin halves.low halves.acceptor has is_now comes did.became
+    replica_moments v (g.R.Rack.state rack) past a b c.args.input.now c.args.out.now (g.R.Rack.moment rack) (g.R.Rack.moment c.take.new.rack) (g.R.Rack.left_since rack) (g.R.Rack.left_since c.take.new.rack) fits of.first of.origin halves.low halves.acceptor has is_now comes did.became
     (g.R.Rack.tells rack) tells did.any_moment
     (λ none. subst (λ r. LeavesOnly (g.R.Rack.moment rack) (g.R.Rack.moment r) (g.R.Rack.left_since rack) (g.R.Rack.left_since r) (IsImage (g.R.Rack.state rack))) (sym (did.ignores (λ m f brings takes. no_cell_takes a m none takes)).2)
     (leaves_none (g.R.Rack.state rack) (g.R.Rack.moment rack) (g.R.Rack.left_since rack) (λ image left. g.met.R.Rack.only_now rack image tells left)))

@@ -5,23 +5,23 @@ use Rattle.std.specs.Prelude.{IsSome, slice_set}
 use Rattle.bx_facts.specs.Disks.{NeedsNoMore}
 use Rattle.bx_facts.specs.Machines.{IsMachine, OnlyFactsAt}
 use Rattle.bx_proposer.specs.declared.course.Course.{Course}
-use Rattle.bx_paxos_cluster.specs.Cluster.{Cluster, is_busy, knows, needs}
-use Rattle.bx_paxos_cluster.specs.Keeps.{Keeps}
-use Rattle.bx_paxos_cluster.specs.Parts.{course_of}
-use Rattle.bx_paxos_cluster.proofs.Keeping.{needs_less, none_has}
-use Rattle.bx_paxos_cluster.proofs.Steps.{busy_only, crash_keeps, is_out, is_part, known_stays, nobody_busy, nobody_keeps, not_out, stands_at, steps, with_machines, within}
+use Rattle.bx_paxos_machines.specs.Cluster.{Cluster, is_busy, knows, needs}
+use Rattle.bx_paxos_machines.specs.Keeps.{Keeps}
+use Rattle.bx_paxos_machines.specs.Parts.{course_of}
+use Rattle.bx_paxos_machines.proofs.Keeping.{needs_less, none_has}
+use Rattle.bx_paxos_machines.proofs.Steps.{busy_only, crash_keeps, is_out, is_part, known_stays, nobody_busy, nobody_keeps, not_out, stands_at, steps, with_machines, within}
 use Rattle.bx_paxos_cluster.proofs.paxos.Paxos.crash.Goals as goal
 
 pub index_mut-requires : goal.index_mut-requires
 index_mut-requires c =
-    let g : Cluster = record { nodes = c.self.inside.nodes; made = c.self.inside.made; machines = c.self.inside.machines.items } in
+    let g : Cluster = record { nodes = c.self.inside.nodes; made = c.self.inside.made; first = c.self.inside.first; origins = c.self.inside.origins; machines = c.self.inside.machines.items } in
     let there : IsMachine g.nodes c.args.who = subst (λ (k : Cluster). IsMachine k.nodes c.args.who) (sym c.self.view_is) (c.has.ensures.0 c.if-not-has.false) in
     let less = within g c.args.who c.place_of-place.result c.self.invariant there c.place_of-place.ensures in
     omega (arith, less)
 
 pub crash-requires : goal.crash-requires
 crash-requires c =
-    let g : Cluster = record { nodes = c.self.inside.nodes; made = c.self.inside.made; machines = c.self.inside.machines.items } in
+    let g : Cluster = record { nodes = c.self.inside.nodes; made = c.self.inside.made; first = c.self.inside.first; origins = c.self.inside.origins; machines = c.self.inside.machines.items } in
     let there : IsMachine g.nodes c.args.who = subst (λ (k : Cluster). IsMachine k.nodes c.args.who) (sym c.self.view_is) (c.has.ensures.0 c.if-not-has.false) in
     let m = c.index_mut.result.now in
     let at = stands_at g c.args.who c.place_of-place.result m c.self.invariant there c.place_of-place.ensures c.index_mut.ensures.value in
@@ -30,7 +30,7 @@ crash-requires c =
 
 pub invariant_of-self : goal.invariant_of-self
 invariant_of-self c =
-    let g : Cluster = record { nodes = c.self.inside.nodes; made = c.self.inside.made; machines = c.self.inside.machines.items } in
+    let g : Cluster = record { nodes = c.self.inside.nodes; made = c.self.inside.made; first = c.self.inside.first; origins = c.self.inside.origins; machines = c.self.inside.machines.items } in
     let there : IsMachine g.nodes c.args.who = subst (λ (k : Cluster). IsMachine k.nodes c.args.who) (sym c.self.view_is) (c.has.ensures.0 c.if-not-has.false) in
     let m = c.index_mut.result.now in
     let v = c.crash.new.self in
@@ -41,7 +41,7 @@ invariant_of-self c =
 
 pub returns-clause-keeps : goal.returns-clause-keeps
 returns-clause-keeps c = λ x past keeps.
-    let g : Cluster = record { nodes = c.self.inside.nodes; made = c.self.inside.made; machines = c.self.inside.machines.items } in
+    let g : Cluster = record { nodes = c.self.inside.nodes; made = c.self.inside.made; first = c.self.inside.first; origins = c.self.inside.origins; machines = c.self.inside.machines.items } in
     let there : IsMachine g.nodes c.args.who = subst (λ (k : Cluster). IsMachine k.nodes c.args.who) (sym c.self.view_is) (c.has.ensures.0 c.if-not-has.false) in
     let m = c.index_mut.result.now in
     let v = c.crash.new.self in
@@ -52,7 +52,7 @@ returns-clause-keeps c = λ x past keeps.
 
 pub returns-clause-others : goal.returns-clause-others
 returns-clause-others c =
-    let g : Cluster = record { nodes = c.self.inside.nodes; made = c.self.inside.made; machines = c.self.inside.machines.items } in
+    let g : Cluster = record { nodes = c.self.inside.nodes; made = c.self.inside.made; first = c.self.inside.first; origins = c.self.inside.origins; machines = c.self.inside.machines.items } in
     let there : IsMachine g.nodes c.args.who = subst (λ (k : Cluster). IsMachine k.nodes c.args.who) (sym c.self.view_is) (c.has.ensures.0 c.if-not-has.false) in
     let m = c.index_mut.result.now in
     let v = c.crash.new.self in
@@ -63,7 +63,7 @@ returns-clause-others c =
 
 pub returns-clause-idle : goal.returns-clause-idle
 returns-clause-idle c = λ busy.
-    let g : Cluster = record { nodes = c.self.inside.nodes; made = c.self.inside.made; machines = c.self.inside.machines.items } in
+    let g : Cluster = record { nodes = c.self.inside.nodes; made = c.self.inside.made; first = c.self.inside.first; origins = c.self.inside.origins; machines = c.self.inside.machines.items } in
     let there : IsMachine g.nodes c.args.who = subst (λ (k : Cluster). IsMachine k.nodes c.args.who) (sym c.self.view_is) (c.has.ensures.0 c.if-not-has.false) in
     let m = c.index_mut.result.now in
     let v = c.crash.new.self in
@@ -76,7 +76,7 @@ returns-clause-idle c = λ busy.
 
 pub returns-clause-knows : goal.returns-clause-knows
 returns-clause-knows c = λ other.
-    let g : Cluster = record { nodes = c.self.inside.nodes; made = c.self.inside.made; machines = c.self.inside.machines.items } in
+    let g : Cluster = record { nodes = c.self.inside.nodes; made = c.self.inside.made; first = c.self.inside.first; origins = c.self.inside.origins; machines = c.self.inside.machines.items } in
     let there : IsMachine g.nodes c.args.who = subst (λ (k : Cluster). IsMachine k.nodes c.args.who) (sym c.self.view_is) (c.has.ensures.0 c.if-not-has.false) in
     let m = c.index_mut.result.now in
     let v = c.crash.new.self in
@@ -87,7 +87,7 @@ returns-clause-knows c = λ other.
 
 pub returns-clause-needs : goal.returns-clause-needs
 returns-clause-needs c =
-    let g : Cluster = record { nodes = c.self.inside.nodes; made = c.self.inside.made; machines = c.self.inside.machines.items } in
+    let g : Cluster = record { nodes = c.self.inside.nodes; made = c.self.inside.made; first = c.self.inside.first; origins = c.self.inside.origins; machines = c.self.inside.machines.items } in
     let there : IsMachine g.nodes c.args.who = subst (λ (k : Cluster). IsMachine k.nodes c.args.who) (sym c.self.view_is) (c.has.ensures.0 c.if-not-has.false) in
     let m = c.index_mut.result.now in
     let v = c.crash.new.self in
@@ -98,12 +98,12 @@ returns-clause-needs c =
 
 pub returns-then-not-has-clause-keeps : goal.returns-then-not-has-clause-keeps
 returns-then-not-has-clause-keeps c = λ x past keeps.
-    let g : Cluster = record { nodes = c.self.inside.nodes; made = c.self.inside.made; machines = c.self.inside.machines.items } in
+    let g : Cluster = record { nodes = c.self.inside.nodes; made = c.self.inside.made; first = c.self.inside.first; origins = c.self.inside.origins; machines = c.self.inside.machines.items } in
     let nobody : IsMachine g.nodes c.args.who → ⊥ = λ there. false≢true (sym c.if-not-has.true ∙ c.has.ensures.1 (subst (λ (k : Cluster). IsMachine k.nodes c.args.who) c.self.view_is there)) in
     subst (λ (k : Cluster). Keeps k x (register_crashed past c.args.who)) c.self.view_is (nobody_keeps g c.args.who x past c.self.invariant nobody (subst (λ (k : Cluster). Keeps k x past) (sym c.self.view_is) keeps))
 
 pub returns-then-not-has-clause-idle : goal.returns-then-not-has-clause-idle
 returns-then-not-has-clause-idle c = λ busy.
-    let g : Cluster = record { nodes = c.self.inside.nodes; made = c.self.inside.made; machines = c.self.inside.machines.items } in
+    let g : Cluster = record { nodes = c.self.inside.nodes; made = c.self.inside.made; first = c.self.inside.first; origins = c.self.inside.origins; machines = c.self.inside.machines.items } in
     let nobody : IsMachine g.nodes c.args.who → ⊥ = λ there. false≢true (sym c.if-not-has.true ∙ c.has.ensures.1 (subst (λ (k : Cluster). IsMachine k.nodes c.args.who) c.self.view_is there)) in
     nobody_busy g c.args.who c.self.invariant nobody (subst (λ (k : Cluster). is_busy k c.args.who) (sym c.self.view_is) busy)

@@ -6,31 +6,31 @@ use Rattle.bx_facts.specs.Machines.{IsMachine, OnlyFactsAt}
 use Rattle.bx_facts.specs.Pasts.{register_with}
 use Rattle.bx_global.specs.Table.{IsLegal}
 use Rattle.bx_global.specs.declared.state.GlobalState.{GlobalState}
-use Rattle.bx_paxos_cluster.specs.Cluster.{Cluster, is_busy, knows, needs, voters_of}
-use Rattle.bx_paxos_cluster.specs.Keeps.{Keeps}
-use Rattle.bx_paxos_cluster.specs.Parts.{cell_held}
-use Rattle.bx_paxos_cluster.proofs.Keeping.{needs_less}
-use Rattle.bx_paxos_cluster.proofs.Others.{all_ok}
-use Rattle.bx_paxos_cluster.proofs.Steps.{busy_is, busy_only, is_out, is_part, known_stays, knows_it, proposes_keeps, steps, with_machines, within}
-use Rattle.bx_paxos_cluster.proofs.Voting.{part_of, turned_part}
+use Rattle.bx_paxos_machines.specs.Cluster.{Cluster, is_busy, knows, needs, voters_of}
+use Rattle.bx_paxos_machines.specs.Keeps.{Keeps}
+use Rattle.bx_paxos_machines.specs.Parts.{cell_held}
+use Rattle.bx_paxos_machines.proofs.Keeping.{needs_less}
+use Rattle.bx_paxos_machines.proofs.Others.{all_ok}
+use Rattle.bx_paxos_machines.proofs.Steps.{busy_is, busy_only, is_out, is_part, known_stays, knows_it, proposes_keeps, steps, with_machines, within}
+use Rattle.bx_paxos_machines.proofs.Voting.{part_of, turned_part}
 use Rattle.bx_paxos_cluster.proofs.paxos.Paxos.propose.Goals as goal
 
 pub index_mut-requires : goal.index_mut-requires
 index_mut-requires c =
-    let g : Cluster = record { nodes = c.self.inside.nodes; made = c.self.inside.made; machines = c.self.inside.machines.items } in
+    let g : Cluster = record { nodes = c.self.inside.nodes; made = c.self.inside.made; first = c.self.inside.first; origins = c.self.inside.origins; machines = c.self.inside.machines.items } in
     let there : IsMachine g.nodes c.args.who = subst (λ (k : Cluster). IsMachine k.nodes c.args.who) (sym c.self.view_is) c.requires.there in
     let less = within g c.args.who c.place_of-place.result c.self.invariant there c.place_of-place.ensures in
     omega (arith, less)
 
 pub propose-requires : goal.propose-requires
 propose-requires c =
-    let g : Cluster = record { nodes = c.self.inside.nodes; made = c.self.inside.made; machines = c.self.inside.machines.items } in
+    let g : Cluster = record { nodes = c.self.inside.nodes; made = c.self.inside.made; first = c.self.inside.first; origins = c.self.inside.origins; machines = c.self.inside.machines.items } in
     let there : IsMachine g.nodes c.args.who = subst (λ (k : Cluster). IsMachine k.nodes c.args.who) (sym c.self.view_is) c.requires.there in
     record { whole = (is_part g c.args.who c.place_of-place.result c.index_mut.result.now c.self.invariant there c.place_of-place.ensures c.index_mut.ensures.value).whole }
 
 pub invariant_of-self : goal.invariant_of-self
 invariant_of-self c =
-    let g : Cluster = record { nodes = c.self.inside.nodes; made = c.self.inside.made; machines = c.self.inside.machines.items } in
+    let g : Cluster = record { nodes = c.self.inside.nodes; made = c.self.inside.made; first = c.self.inside.first; origins = c.self.inside.origins; machines = c.self.inside.machines.items } in
     let there : IsMachine g.nodes c.args.who = subst (λ (k : Cluster). IsMachine k.nodes c.args.who) (sym c.self.view_is) c.requires.there in
     let m = c.index_mut.result.now in
     let v = c.propose.new.self in
@@ -41,7 +41,7 @@ invariant_of-self c =
 
 pub returns-clause-keeps : goal.returns-clause-keeps
 returns-clause-keeps c = λ x past keeps up.
-    let g : Cluster = record { nodes = c.self.inside.nodes; made = c.self.inside.made; machines = c.self.inside.machines.items } in
+    let g : Cluster = record { nodes = c.self.inside.nodes; made = c.self.inside.made; first = c.self.inside.first; origins = c.self.inside.origins; machines = c.self.inside.machines.items } in
     let there : IsMachine g.nodes c.args.who = subst (λ (k : Cluster). IsMachine k.nodes c.args.who) (sym c.self.view_is) c.requires.there in
     let m = c.index_mut.result.now in
     let v = c.propose.new.self in
@@ -55,7 +55,7 @@ returns-clause-keeps c = λ x past keeps up.
 
 pub returns-clause-legal : goal.returns-clause-legal
 returns-clause-legal c =
-    let g : Cluster = record { nodes = c.self.inside.nodes; made = c.self.inside.made; machines = c.self.inside.machines.items } in
+    let g : Cluster = record { nodes = c.self.inside.nodes; made = c.self.inside.made; first = c.self.inside.first; origins = c.self.inside.origins; machines = c.self.inside.machines.items } in
     let there : IsMachine g.nodes c.args.who = subst (λ (k : Cluster). IsMachine k.nodes c.args.who) (sym c.self.view_is) c.requires.there in
     let m = c.index_mut.result.now in
     let v = c.propose.new.self in
@@ -68,7 +68,7 @@ returns-clause-legal c =
 
 pub returns-clause-not_legal : goal.returns-clause-not_legal
 returns-clause-not_legal c = λ err legal.
-    let g : Cluster = record { nodes = c.self.inside.nodes; made = c.self.inside.made; machines = c.self.inside.machines.items } in
+    let g : Cluster = record { nodes = c.self.inside.nodes; made = c.self.inside.made; first = c.self.inside.first; origins = c.self.inside.origins; machines = c.self.inside.machines.items } in
     let there : IsMachine g.nodes c.args.who = subst (λ (k : Cluster). IsMachine k.nodes c.args.who) (sym c.self.view_is) c.requires.there in
     let m = c.index_mut.result.now in
     let v = c.propose.new.self in
@@ -79,7 +79,7 @@ returns-clause-not_legal c = λ err legal.
 
 pub returns-clause-busy : goal.returns-clause-busy
 returns-clause-busy c = λ err.
-    let g : Cluster = record { nodes = c.self.inside.nodes; made = c.self.inside.made; machines = c.self.inside.machines.items } in
+    let g : Cluster = record { nodes = c.self.inside.nodes; made = c.self.inside.made; first = c.self.inside.first; origins = c.self.inside.origins; machines = c.self.inside.machines.items } in
     let there : IsMachine g.nodes c.args.who = subst (λ (k : Cluster). IsMachine k.nodes c.args.who) (sym c.self.view_is) c.requires.there in
     let m = c.index_mut.result.now in
     let v = c.propose.new.self in
@@ -91,7 +91,7 @@ returns-clause-busy c = λ err.
 
 pub returns-clause-others : goal.returns-clause-others
 returns-clause-others c =
-    let g : Cluster = record { nodes = c.self.inside.nodes; made = c.self.inside.made; machines = c.self.inside.machines.items } in
+    let g : Cluster = record { nodes = c.self.inside.nodes; made = c.self.inside.made; first = c.self.inside.first; origins = c.self.inside.origins; machines = c.self.inside.machines.items } in
     let there : IsMachine g.nodes c.args.who = subst (λ (k : Cluster). IsMachine k.nodes c.args.who) (sym c.self.view_is) c.requires.there in
     let m = c.index_mut.result.now in
     let v = c.propose.new.self in
@@ -102,7 +102,7 @@ returns-clause-others c =
 
 pub returns-clause-knows : goal.returns-clause-knows
 returns-clause-knows c = λ other.
-    let g : Cluster = record { nodes = c.self.inside.nodes; made = c.self.inside.made; machines = c.self.inside.machines.items } in
+    let g : Cluster = record { nodes = c.self.inside.nodes; made = c.self.inside.made; first = c.self.inside.first; origins = c.self.inside.origins; machines = c.self.inside.machines.items } in
     let there : IsMachine g.nodes c.args.who = subst (λ (k : Cluster). IsMachine k.nodes c.args.who) (sym c.self.view_is) c.requires.there in
     let m = c.index_mut.result.now in
     let v = c.propose.new.self in
@@ -113,7 +113,7 @@ returns-clause-knows c = λ other.
 
 pub returns-clause-needs : goal.returns-clause-needs
 returns-clause-needs c =
-    let g : Cluster = record { nodes = c.self.inside.nodes; made = c.self.inside.made; machines = c.self.inside.machines.items } in
+    let g : Cluster = record { nodes = c.self.inside.nodes; made = c.self.inside.made; first = c.self.inside.first; origins = c.self.inside.origins; machines = c.self.inside.machines.items } in
     let there : IsMachine g.nodes c.args.who = subst (λ (k : Cluster). IsMachine k.nodes c.args.who) (sym c.self.view_is) c.requires.there in
     let m = c.index_mut.result.now in
     let v = c.propose.new.self in

@@ -9,26 +9,27 @@ use Rattle.bx_facts.specs.Machines.{IsMachine, OnlyAt, OnlyFactsAt}
 use Rattle.bx_facts.specs.Pasts.{register_failed, register_restarted, register_with}
 use Rattle.bx_paxos.specs.Fits.{Fits, Turned, going}
 use Rattle.bx_paxos.specs.Reading.{ReadsState}
-use Rattle.bx_paxos_cluster.specs.Cluster.{Cluster, is_busy, knows, needs, voters_of}
-use Rattle.bx_paxos_cluster.specs.Keeps.{Keeps}
-use Rattle.bx_paxos_cluster.specs.Parts.{course_of, proposer_of}
-use Rattle.bx_paxos_cluster.proofs.Keeping.{disk_for, needs_own}
-use Rattle.bx_paxos_cluster.proofs.Others.{all_ok}
-use Rattle.bx_paxos_cluster.proofs.Places.{name_at}
-use Rattle.bx_paxos_cluster.proofs.Steps.{busy_only, is_out, is_part, known_only, stands_at, start_fails, starts_keeps, steps, with_machines, within}
-use Rattle.bx_paxos_cluster.proofs.Voting.{part_of, turned_part}
+use Rattle.bx_paxos_machines.specs.Cluster.{Cluster, is_busy, knows, needs, voters_of}
+use Rattle.bx_paxos_machines.specs.Keeps.{Keeps}
+use Rattle.bx_paxos_machines.specs.Parts.{course_of, proposer_of}
+use Rattle.bx_paxos_machines.proofs.Keeping.{disk_for, needs_own}
+use Rattle.bx_paxos_machines.proofs.Others.{all_ok}
+use Rattle.bx_paxos_machines.proofs.Places.{name_at}
+use Rattle.bx_paxos_machines.proofs.Steps.{busy_only, is_out, is_part, known_only, stands_at, start_fails, starts_keeps, steps, with_machines, within}
+use Rattle.bx_paxos_machines.proofs.Telling.{moments_made}
+use Rattle.bx_paxos_machines.proofs.Voting.{part_of, turned_part}
 use Rattle.bx_paxos_cluster.proofs.paxos.Paxos.restart.Goals as goal
 
 pub index_mut-requires : goal.index_mut-requires
 index_mut-requires r c =
-    let g : Cluster = record { nodes = c.self.inside.nodes; made = c.self.inside.made; machines = c.self.inside.machines.items } in
+    let g : Cluster = record { nodes = c.self.inside.nodes; made = c.self.inside.made; first = c.self.inside.first; origins = c.self.inside.origins; machines = c.self.inside.machines.items } in
     let there : IsMachine g.nodes c.args.who = subst (λ (k : Cluster). IsMachine k.nodes c.args.who) (sym c.self.view_is) c.requires.there in
     let less = within g c.args.who c.place_of-place.result c.self.invariant there c.place_of-place.ensures in
     omega (arith, less)
 
 pub restart-requires : goal.restart-requires
 restart-requires r c =
-    let g : Cluster = record { nodes = c.self.inside.nodes; made = c.self.inside.made; machines = c.self.inside.machines.items } in
+    let g : Cluster = record { nodes = c.self.inside.nodes; made = c.self.inside.made; first = c.self.inside.first; origins = c.self.inside.origins; machines = c.self.inside.machines.items } in
     let there : IsMachine g.nodes c.args.who = subst (λ (k : Cluster). IsMachine k.nodes c.args.who) (sym c.self.view_is) c.requires.there in
     let m = c.index_mut.result.now in
     let at = stands_at g c.args.who c.place_of-place.result m c.self.invariant there c.place_of-place.ensures c.index_mut.ensures.value in
@@ -37,7 +38,7 @@ restart-requires r c =
 
 pub invariant_of-self : goal.invariant_of-self
 invariant_of-self r c =
-    let g : Cluster = record { nodes = c.self.inside.nodes; made = c.self.inside.made; machines = c.self.inside.machines.items } in
+    let g : Cluster = record { nodes = c.self.inside.nodes; made = c.self.inside.made; first = c.self.inside.first; origins = c.self.inside.origins; machines = c.self.inside.machines.items } in
     let there : IsMachine g.nodes c.args.who = subst (λ (k : Cluster). IsMachine k.nodes c.args.who) (sym c.self.view_is) c.requires.there in
     let m = c.index_mut.result.now in
     let v = c.restart.new.self in
@@ -48,7 +49,7 @@ invariant_of-self r c =
 
 pub returns-clause-keeps : goal.returns-clause-keeps
 returns-clause-keeps r c = λ past tells keeps above.
-    let g : Cluster = record { nodes = c.self.inside.nodes; made = c.self.inside.made; machines = c.self.inside.machines.items } in
+    let g : Cluster = record { nodes = c.self.inside.nodes; made = c.self.inside.made; first = c.self.inside.first; origins = c.self.inside.origins; machines = c.self.inside.machines.items } in
     let there : IsMachine g.nodes c.args.who = subst (λ (k : Cluster). IsMachine k.nodes c.args.who) (sym c.self.view_is) c.requires.there in
     let m = c.index_mut.result.now in
     let v = c.restart.new.self in
@@ -69,7 +70,7 @@ returns-clause-keeps r c = λ past tells keeps above.
 
 pub returns-clause-keeps_faulted : goal.returns-clause-keeps_faulted
 returns-clause-keeps_faulted r c = λ past tells keeps above fault.
-    let g : Cluster = record { nodes = c.self.inside.nodes; made = c.self.inside.made; machines = c.self.inside.machines.items } in
+    let g : Cluster = record { nodes = c.self.inside.nodes; made = c.self.inside.made; first = c.self.inside.first; origins = c.self.inside.origins; machines = c.self.inside.machines.items } in
     let there : IsMachine g.nodes c.args.who = subst (λ (k : Cluster). IsMachine k.nodes c.args.who) (sym c.self.view_is) c.requires.there in
     let m = c.index_mut.result.now in
     let v = c.restart.new.self in
@@ -87,7 +88,7 @@ returns-clause-keeps_faulted r c = λ past tells keeps above fault.
 
 pub returns-clause-any_moment : goal.returns-clause-any_moment
 returns-clause-any_moment r c = λ past tells keeps.
-    let g : Cluster = record { nodes = c.self.inside.nodes; made = c.self.inside.made; machines = c.self.inside.machines.items } in
+    let g : Cluster = record { nodes = c.self.inside.nodes; made = c.self.inside.made; first = c.self.inside.first; origins = c.self.inside.origins; machines = c.self.inside.machines.items } in
     let there : IsMachine g.nodes c.args.who = subst (λ (k : Cluster). IsMachine k.nodes c.args.who) (sym c.self.view_is) c.requires.there in
     let m = c.index_mut.result.now in
     let v = c.restart.new.self in
@@ -97,11 +98,11 @@ returns-clause-any_moment r c = λ past tells keeps.
     let x = r.R.Rack.state c.args.rack.now in
     let kept : Keeps g x (register_with past c.args.out.now) = subst (λ (k : Cluster). Keeps k x (register_with past c.args.out.now)) (sym c.self.view_is) keeps in
     subst (λ (k : Cluster). LeavesOnly (r.R.Rack.moment c.args.rack.now) (r.R.Rack.moment c.restart.new.rack) (r.R.Rack.left_since c.args.rack.now) (r.R.Rack.left_since c.restart.new.rack) (ReadsOnly (ReadsState k.made) x (IsNext past.proposed (last past.chain)))) c.self.view_is
-    (did.any_moment (voters_of g) past tells (λ n low. refl) kept.fits)
+    (moments_made g x _ _ _ _ _ step.is (did.any_moment (voters_of g) past tells kept.fits))
 
 pub returns-clause-knows : goal.returns-clause-knows
 returns-clause-knows r c =
-    let g : Cluster = record { nodes = c.self.inside.nodes; made = c.self.inside.made; machines = c.self.inside.machines.items } in
+    let g : Cluster = record { nodes = c.self.inside.nodes; made = c.self.inside.made; first = c.self.inside.first; origins = c.self.inside.origins; machines = c.self.inside.machines.items } in
     let there : IsMachine g.nodes c.args.who = subst (λ (k : Cluster). IsMachine k.nodes c.args.who) (sym c.self.view_is) c.requires.there in
     let m = c.index_mut.result.now in
     let v = c.restart.new.self in
@@ -112,7 +113,7 @@ returns-clause-knows r c =
 
 pub returns-clause-others : goal.returns-clause-others
 returns-clause-others r c =
-    let g : Cluster = record { nodes = c.self.inside.nodes; made = c.self.inside.made; machines = c.self.inside.machines.items } in
+    let g : Cluster = record { nodes = c.self.inside.nodes; made = c.self.inside.made; first = c.self.inside.first; origins = c.self.inside.origins; machines = c.self.inside.machines.items } in
     let there : IsMachine g.nodes c.args.who = subst (λ (k : Cluster). IsMachine k.nodes c.args.who) (sym c.self.view_is) c.requires.there in
     let m = c.index_mut.result.now in
     let v = c.restart.new.self in
@@ -123,7 +124,7 @@ returns-clause-others r c =
 
 pub returns-clause-idle : goal.returns-clause-idle
 returns-clause-idle r c =
-    let g : Cluster = record { nodes = c.self.inside.nodes; made = c.self.inside.made; machines = c.self.inside.machines.items } in
+    let g : Cluster = record { nodes = c.self.inside.nodes; made = c.self.inside.made; first = c.self.inside.first; origins = c.self.inside.origins; machines = c.self.inside.machines.items } in
     let there : IsMachine g.nodes c.args.who = subst (λ (k : Cluster). IsMachine k.nodes c.args.who) (sym c.self.view_is) c.requires.there in
     let m = c.index_mut.result.now in
     let v = c.restart.new.self in
@@ -134,7 +135,7 @@ returns-clause-idle r c =
 
 pub returns-clause-needs : goal.returns-clause-needs
 returns-clause-needs r c =
-    let g : Cluster = record { nodes = c.self.inside.nodes; made = c.self.inside.made; machines = c.self.inside.machines.items } in
+    let g : Cluster = record { nodes = c.self.inside.nodes; made = c.self.inside.made; first = c.self.inside.first; origins = c.self.inside.origins; machines = c.self.inside.machines.items } in
     let there : IsMachine g.nodes c.args.who = subst (λ (k : Cluster). IsMachine k.nodes c.args.who) (sym c.self.view_is) c.requires.there in
     let m = c.index_mut.result.now in
     let v = c.restart.new.self in
@@ -145,7 +146,7 @@ returns-clause-needs r c =
 
 pub returns-clause-disks : goal.returns-clause-disks
 returns-clause-disks r c = λ tells.
-    let g : Cluster = record { nodes = c.self.inside.nodes; made = c.self.inside.made; machines = c.self.inside.machines.items } in
+    let g : Cluster = record { nodes = c.self.inside.nodes; made = c.self.inside.made; first = c.self.inside.first; origins = c.self.inside.origins; machines = c.self.inside.machines.items } in
     let there : IsMachine g.nodes c.args.who = subst (λ (k : Cluster). IsMachine k.nodes c.args.who) (sym c.self.view_is) c.requires.there in
     let m = c.index_mut.result.now in
     let v = c.restart.new.self in

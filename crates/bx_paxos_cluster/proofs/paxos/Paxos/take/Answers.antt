@@ -9,25 +9,26 @@ use Rattle.bx_facts.specs.Machines.{IsMachine, OnlyAt, OnlyFactsAt}
 use Rattle.bx_facts.specs.Pasts.{register_with}
 use Rattle.bx_global.specs.declared.state.GlobalState.{GlobalState}
 use Rattle.bx_paxos.specs.Reading.{ReadsState}
-use Rattle.bx_paxos_cluster.specs.Cluster.{Cluster, is_busy, knows, needs, voters_of}
-use Rattle.bx_paxos_cluster.specs.Keeps.{Keeps}
-use Rattle.bx_paxos_cluster.proofs.Keeping.{needs_less, room_for}
-use Rattle.bx_paxos_cluster.proofs.Others.{all_ok}
-use Rattle.bx_paxos_cluster.proofs.Places.{name_at}
-use Rattle.bx_paxos_cluster.proofs.Steps.{busy_is, busy_only, faults_keep, is_out, is_part, known_only, known_rises, knows_it, stands_at, steps, takes_keeps, with_machines, within}
-use Rattle.bx_paxos_cluster.proofs.Voting.{part_of, turned_part}
+use Rattle.bx_paxos_machines.specs.Cluster.{Cluster, is_busy, knows, needs, voters_of}
+use Rattle.bx_paxos_machines.specs.Keeps.{Keeps}
+use Rattle.bx_paxos_machines.proofs.Keeping.{needs_less, room_for}
+use Rattle.bx_paxos_machines.proofs.Others.{all_ok}
+use Rattle.bx_paxos_machines.proofs.Places.{name_at}
+use Rattle.bx_paxos_machines.proofs.Steps.{busy_is, busy_only, faults_keep, is_out, is_part, known_only, known_rises, knows_it, stands_at, steps, takes_keeps, with_machines, within}
+use Rattle.bx_paxos_machines.proofs.Telling.{moments_made}
+use Rattle.bx_paxos_machines.proofs.Voting.{part_of, turned_part}
 use Rattle.bx_paxos_cluster.proofs.paxos.Paxos.take.Goals as goal
 
 pub index_mut-requires : goal.index_mut-requires
 index_mut-requires r c =
-    let g : Cluster = record { nodes = c.self.inside.nodes; made = c.self.inside.made; machines = c.self.inside.machines.items } in
+    let g : Cluster = record { nodes = c.self.inside.nodes; made = c.self.inside.made; first = c.self.inside.first; origins = c.self.inside.origins; machines = c.self.inside.machines.items } in
     let there : IsMachine g.nodes c.args.at = subst (λ (k : Cluster). IsMachine k.nodes c.args.at) (sym c.self.view_is) c.requires.there in
     let less = within g c.args.at c.place_of-place.result c.self.invariant there c.place_of-place.ensures in
     omega (arith, less)
 
 pub take-requires : goal.take-requires
 take-requires r c =
-    let g : Cluster = record { nodes = c.self.inside.nodes; made = c.self.inside.made; machines = c.self.inside.machines.items } in
+    let g : Cluster = record { nodes = c.self.inside.nodes; made = c.self.inside.made; first = c.self.inside.first; origins = c.self.inside.origins; machines = c.self.inside.machines.items } in
     let there : IsMachine g.nodes c.args.at = subst (λ (k : Cluster). IsMachine k.nodes c.args.at) (sym c.self.view_is) c.requires.there in
     let m = c.index_mut.result.now in
     let at = stands_at g c.args.at c.place_of-place.result m c.self.invariant there c.place_of-place.ensures c.index_mut.ensures.value in
@@ -36,7 +37,7 @@ take-requires r c =
 
 pub invariant_of-self : goal.invariant_of-self
 invariant_of-self r c =
-    let g : Cluster = record { nodes = c.self.inside.nodes; made = c.self.inside.made; machines = c.self.inside.machines.items } in
+    let g : Cluster = record { nodes = c.self.inside.nodes; made = c.self.inside.made; first = c.self.inside.first; origins = c.self.inside.origins; machines = c.self.inside.machines.items } in
     let there : IsMachine g.nodes c.args.at = subst (λ (k : Cluster). IsMachine k.nodes c.args.at) (sym c.self.view_is) c.requires.there in
     let m = c.index_mut.result.now in
     let v = c.take.new.self in
@@ -47,7 +48,7 @@ invariant_of-self r c =
 
 pub returns-clause-keeps : goal.returns-clause-keeps
 returns-clause-keeps r c = λ past tells keeps may.
-    let g : Cluster = record { nodes = c.self.inside.nodes; made = c.self.inside.made; machines = c.self.inside.machines.items } in
+    let g : Cluster = record { nodes = c.self.inside.nodes; made = c.self.inside.made; first = c.self.inside.first; origins = c.self.inside.origins; machines = c.self.inside.machines.items } in
     let there : IsMachine g.nodes c.args.at = subst (λ (k : Cluster). IsMachine k.nodes c.args.at) (sym c.self.view_is) c.requires.there in
     let m = c.index_mut.result.now in
     let v = c.take.new.self in
@@ -66,7 +67,7 @@ returns-clause-keeps r c = λ past tells keeps may.
 
 pub returns-clause-keeps_faulted : goal.returns-clause-keeps_faulted
 returns-clause-keeps_faulted r c = λ past tells keeps may fault.
-    let g : Cluster = record { nodes = c.self.inside.nodes; made = c.self.inside.made; machines = c.self.inside.machines.items } in
+    let g : Cluster = record { nodes = c.self.inside.nodes; made = c.self.inside.made; first = c.self.inside.first; origins = c.self.inside.origins; machines = c.self.inside.machines.items } in
     let there : IsMachine g.nodes c.args.at = subst (λ (k : Cluster). IsMachine k.nodes c.args.at) (sym c.self.view_is) c.requires.there in
     let m = c.index_mut.result.now in
     let v = c.take.new.self in
@@ -85,7 +86,7 @@ returns-clause-keeps_faulted r c = λ past tells keeps may fault.
 
 pub returns-clause-any_moment : goal.returns-clause-any_moment
 returns-clause-any_moment r c = λ past tells keeps may.
-    let g : Cluster = record { nodes = c.self.inside.nodes; made = c.self.inside.made; machines = c.self.inside.machines.items } in
+    let g : Cluster = record { nodes = c.self.inside.nodes; made = c.self.inside.made; first = c.self.inside.first; origins = c.self.inside.origins; machines = c.self.inside.machines.items } in
     let there : IsMachine g.nodes c.args.at = subst (λ (k : Cluster). IsMachine k.nodes c.args.at) (sym c.self.view_is) c.requires.there in
     let m = c.index_mut.result.now in
     let v = c.take.new.self in
@@ -95,11 +96,11 @@ returns-clause-any_moment r c = λ past tells keeps may.
     let x = r.R.Rack.state c.args.rack.now in
     let kept : Keeps g x (register_with past c.args.out.now) = subst (λ (k : Cluster). Keeps k x (register_with past c.args.out.now)) (sym c.self.view_is) keeps in
     subst (λ (k : Cluster). LeavesOnly (r.R.Rack.moment c.args.rack.now) (r.R.Rack.moment c.take.new.rack) (r.R.Rack.left_since c.args.rack.now) (r.R.Rack.left_since c.take.new.rack) (ReadsOnly (ReadsState k.made) x (IsNext past.proposed (last past.chain)))) c.self.view_is
-    (did.any_moment (voters_of g) past tells (part_of g c.args.at m step.is step.at) (λ n low. refl) (kept.cells c.args.at m step.at) may.comes kept.fits)
+    (moments_made g x _ _ _ _ _ step.is (did.any_moment (voters_of g) past tells (part_of g c.args.at m step.is step.at) (kept.cells c.args.at m step.at) may.comes kept.fits))
 
 pub returns-clause-rises : goal.returns-clause-rises
 returns-clause-rises r c = λ other.
-    let g : Cluster = record { nodes = c.self.inside.nodes; made = c.self.inside.made; machines = c.self.inside.machines.items } in
+    let g : Cluster = record { nodes = c.self.inside.nodes; made = c.self.inside.made; first = c.self.inside.first; origins = c.self.inside.origins; machines = c.self.inside.machines.items } in
     let there : IsMachine g.nodes c.args.at = subst (λ (k : Cluster). IsMachine k.nodes c.args.at) (sym c.self.view_is) c.requires.there in
     let m = c.index_mut.result.now in
     let v = c.take.new.self in
@@ -110,7 +111,7 @@ returns-clause-rises r c = λ other.
 
 pub returns-clause-knows : goal.returns-clause-knows
 returns-clause-knows r c =
-    let g : Cluster = record { nodes = c.self.inside.nodes; made = c.self.inside.made; machines = c.self.inside.machines.items } in
+    let g : Cluster = record { nodes = c.self.inside.nodes; made = c.self.inside.made; first = c.self.inside.first; origins = c.self.inside.origins; machines = c.self.inside.machines.items } in
     let there : IsMachine g.nodes c.args.at = subst (λ (k : Cluster). IsMachine k.nodes c.args.at) (sym c.self.view_is) c.requires.there in
     let m = c.index_mut.result.now in
     let v = c.take.new.self in
@@ -121,7 +122,7 @@ returns-clause-knows r c =
 
 pub returns-clause-others : goal.returns-clause-others
 returns-clause-others r c =
-    let g : Cluster = record { nodes = c.self.inside.nodes; made = c.self.inside.made; machines = c.self.inside.machines.items } in
+    let g : Cluster = record { nodes = c.self.inside.nodes; made = c.self.inside.made; first = c.self.inside.first; origins = c.self.inside.origins; machines = c.self.inside.machines.items } in
     let there : IsMachine g.nodes c.args.at = subst (λ (k : Cluster). IsMachine k.nodes c.args.at) (sym c.self.view_is) c.requires.there in
     let m = c.index_mut.result.now in
     let v = c.take.new.self in
@@ -132,7 +133,7 @@ returns-clause-others r c =
 
 pub returns-clause-still_busy : goal.returns-clause-still_busy
 returns-clause-still_busy r c =
-    let g : Cluster = record { nodes = c.self.inside.nodes; made = c.self.inside.made; machines = c.self.inside.machines.items } in
+    let g : Cluster = record { nodes = c.self.inside.nodes; made = c.self.inside.made; first = c.self.inside.first; origins = c.self.inside.origins; machines = c.self.inside.machines.items } in
     let there : IsMachine g.nodes c.args.at = subst (λ (k : Cluster). IsMachine k.nodes c.args.at) (sym c.self.view_is) c.requires.there in
     let m = c.index_mut.result.now in
     let v = c.take.new.self in
@@ -145,7 +146,7 @@ returns-clause-still_busy r c =
 
 pub returns-clause-was_busy : goal.returns-clause-was_busy
 returns-clause-was_busy r c =
-    let g : Cluster = record { nodes = c.self.inside.nodes; made = c.self.inside.made; machines = c.self.inside.machines.items } in
+    let g : Cluster = record { nodes = c.self.inside.nodes; made = c.self.inside.made; first = c.self.inside.first; origins = c.self.inside.origins; machines = c.self.inside.machines.items } in
     let there : IsMachine g.nodes c.args.at = subst (λ (k : Cluster). IsMachine k.nodes c.args.at) (sym c.self.view_is) c.requires.there in
     let m = c.index_mut.result.now in
     let v = c.take.new.self in
@@ -158,7 +159,7 @@ returns-clause-was_busy r c =
 
 pub returns-clause-needs : goal.returns-clause-needs
 returns-clause-needs r c =
-    let g : Cluster = record { nodes = c.self.inside.nodes; made = c.self.inside.made; machines = c.self.inside.machines.items } in
+    let g : Cluster = record { nodes = c.self.inside.nodes; made = c.self.inside.made; first = c.self.inside.first; origins = c.self.inside.origins; machines = c.self.inside.machines.items } in
     let there : IsMachine g.nodes c.args.at = subst (λ (k : Cluster). IsMachine k.nodes c.args.at) (sym c.self.view_is) c.requires.there in
     let m = c.index_mut.result.now in
     let v = c.take.new.self in
@@ -169,7 +170,7 @@ returns-clause-needs r c =
 
 pub returns-clause-disks : goal.returns-clause-disks
 returns-clause-disks r c = λ tells.
-    let g : Cluster = record { nodes = c.self.inside.nodes; made = c.self.inside.made; machines = c.self.inside.machines.items } in
+    let g : Cluster = record { nodes = c.self.inside.nodes; made = c.self.inside.made; first = c.self.inside.first; origins = c.self.inside.origins; machines = c.self.inside.machines.items } in
     let there : IsMachine g.nodes c.args.at = subst (λ (k : Cluster). IsMachine k.nodes c.args.at) (sym c.self.view_is) c.requires.there in
     let m = c.index_mut.result.now in
     let v = c.take.new.self in

@@ -1,0 +1,49 @@
+use Rattle.std.proofs.Common.{ℕ, List, subst, sym, inl, inr}
+use Rattle.std.specs.Prelude.{Err, IfOk}
+use Rattle.std.proofs.lemmas.Result.{IfOk-weaker}
+use Rattle.bx_attempts.proofs.Acting.{setattr_acts}
+use Rattle.bx_attempts.proofs.Changing.{change_acts, changed_gives, refused_gives, stop_refuses_or}
+use Rattle.bx_attempts.proofs.Fairness.{changed_fair, fair_over, inner_fair}
+use Rattle.bx_attempts.specs.Paths.{ChangePathOf}
+use Rattle.bx_changes.specs.declared.error.ChangeError.TheVariants.{Stopped}
+use Rattle.bx_sizes.specs.Answers.{IsChangeOr}
+use Rattle.bx_sizes.specs.Setting.{OnSetting}
+use Rattle.bx_model.specs.Writing.{setattr}
+use Rattle.bx_model.specs.declared.call.Args.{Args}
+use Rattle.bx_model.specs.declared.reply.Reply.{Reply}
+use Rattle.bx_records.specs.Drafts.{Changed}
+use Rattle.bx_tree_files.specs.Times.{Time, time_of}
+use Rattle.bx_attempts.proofs.attributes.setattr.Goals as goal
+
+pub returns-in-Ok-clause-gives : goal.returns-in-Ok-clause-gives
+returns-in-Ok-clause-gives g c = λ client bytes truth tree reads same s.
+    let a = c.args in
+    let call = a.call.now in
+    let step = rw c.time_of-now.ensures at (c.in-Ok.ensures.step truth tree c.requires.areas same s.stands s.fit) in
+    let by = change_acts a.volume a.areas truth tree call a.moment (setattr tree a.call.now a.at.now a.sattr.now (time_of a.moment)) (setattr_acts tree call a.moment a.at.now a.sattr.now 8 c.requires.args) c.in-Ok.draft c.in-Ok.reply step
+    (λ hints fit. c.in-Ok.ensures.hints hints truth tree c.requires.areas same s.stands s.fit fit) in
+    IfOk-weaker c.changed.result _ _ (λ attempt is. changed_gives a.volume a.areas client bytes a.moment truth tree a.xid call reads c.requires.moment c.in-Ok.draft c.in-Ok.reply 0 attempt c.changed.ensures.fits by is) c.changed.ensures.is
+
+pub returns-in-Err-clause-gives : goal.returns-in-Err-clause-gives
+returns-in-Err-clause-gives g c = λ client bytes truth tree reads same s.
+    let a = c.args in
+    let call = a.call.now in
+    let step = subst (λ (t : Time). IsChangeOr a.volume a.areas truth (setattr tree a.call.now a.at.now a.sattr.now t) (Err c.in-Err.stop)) c.time_of-now.ensures (c.in-Err.ensures.step truth tree c.requires.areas same s.stands s.fit) in
+    let by = stop_refuses_or a.volume a.areas truth tree call a.moment (setattr tree a.call.now a.at.now a.sattr.now (time_of a.moment)) (setattr_acts tree call a.moment a.at.now a.sattr.now 8 c.requires.args) c.in-Err.stop step in
+    IfOk-weaker c.stopped.result _ _ (λ attempt is. refused_gives a.volume a.areas client bytes a.moment truth tree a.xid call reads c.requires.moment s.stands (Stopped c.in-Err.stop) attempt by is) c.stopped.ensures
+
+pub returns-in-Ok-clause-fair : goal.returns-in-Ok-clause-fair
+returns-in-Ok-clause-fair g c =
+    let a = c.args in
+    let held = g.V.View.held a.view.now in
+    let Path = ChangePathOf held (g.V.View.hints a.view.now) a.volume a.areas a.call.now.procedure a.call.now.args in
+    IfOk-weaker c.changed.result _ _ (λ attempt is. changed_fair a.xid a.areas held Path attempt c.in-Ok.draft c.in-Ok.reply 0 c.in-Ok.ensures.held is) c.changed.ensures.is
+
+pub returns-in-Err-clause-fair : goal.returns-in-Err-clause-fair
+returns-in-Err-clause-fair g c =
+    let a = c.args in
+    let held = g.V.View.held a.view.now in
+    let hints = g.V.View.hints a.view.now in
+    IfOk-weaker c.stopped.result _ _
+    (λ attempt is. fair_over a.areas held (OnSetting held hints a.volume a.areas a.at.now) (ChangePathOf held hints a.volume a.areas a.call.now.procedure a.call.now.args) (λ block mode on. subst (λ (args : Args). ChangePathOf held hints a.volume a.areas a.call.now.procedure args block mode) (sym c.requires.args) on) attempt
+    (inner_fair a.xid a.areas held (OnSetting held hints a.volume a.areas a.at.now) attempt (List Changed × Reply) c.in-Err.stop c.in-Err.ensures.need c.in-Err.ensures.first is)) c.stopped.ensures

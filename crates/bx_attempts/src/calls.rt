@@ -1,0 +1,116 @@
+//! The calls that change a file tree.
+
+ghost use Rattle.std.specs.Prelude.{◌≡◌, ◌≤◌, ◌↔◌, ℕ, List, IfOk, IsTrue};
+ghost use Rattle.bx_chunks.specs.Counting.{free_slots};
+ghost use Rattle.bx_model.specs.declared.tree.Tree.{Tree};
+ghost use Rattle.bx_nfs.specs.Wire.{ReadsAs};
+ghost use Rattle.bx_views.specs.Attempts.{Gives, IsFair};
+ghost use Rattle.bx_views.specs.Truths.{IsTruth, Truth};
+ghost use Rattle.bx_attempts.specs.Calls.{IsChanging, IsProcedure};
+ghost use Rattle.bx_attempts.specs.Paths.{ChangePathOf};
+ghost use Rattle.bx_attempts.specs.Steps.{StandsWith, Step};
+
+use crate::attributes::setattr;
+use crate::making::{mkdir, symlink};
+use crate::naming::{link, remove, rmdir};
+use bx_base::OutOfMemory;
+use bx_model::{Args, Call};
+use bx_rpc::NFS_PROGRAM;
+use bx_views::{Attempt, View};
+use std::alloc::Global;
+
+/// The procedure SETATTR (RFC 1094, section 2.2.3).
+const SETATTR: u32 = 2;
+
+/// The procedure REMOVE (RFC 1094, section 2.2.11).
+const REMOVE: u32 = 10;
+
+/// The procedure LINK (RFC 1094, section 2.2.13).
+const LINK: u32 = 12;
+
+/// The procedure SYMLINK (RFC 1094, section 2.2.14).
+const SYMLINK: u32 = 13;
+
+/// The procedure MKDIR (RFC 1094, section 2.2.15).
+const MKDIR: u32 = 14;
+
+/// The procedure RMDIR (RFC 1094, section 2.2.16).
+const RMDIR: u32 = 15;
+
+/// How many bytes a name has at most.
+const MOST_NAME: usize = 255;
+
+/// How many bytes a link's path has at most.
+const MOST_PATH: usize = 1024;
+
+/// Whether a call changes the file tree, and is built: it is SETATTR, REMOVE, LINK, SYMLINK, MKDIR
+/// or RMDIR.
+pub fn is_change(call: &Call) -> bool
+    ensures { IsTrue result ↔ IsChanging call.now }
+{
+    match &call.args {
+        Args::Set(_, _) => is_procedure(call, SETATTR),
+        Args::Name(_, _) => is_procedure(call, REMOVE) || is_procedure(call, RMDIR),
+        Args::Link(_, _, name) => is_procedure(call, LINK) && name.bytes().len() <= MOST_NAME,
+        Args::Symlink(_, name, path, _) => {
+            is_procedure(call, SYMLINK)
+                && name.bytes().len() <= MOST_NAME
+                && path.bytes().len() <= MOST_PATH
+        }
+        Args::Make(_, name, _) => is_procedure(call, MKDIR) && name.bytes().len() <= MOST_NAME,
+        _ => false,
+    }
+}
+
+/// Whether a call is a procedure of NFS.
+fn is_procedure(call: &Call, number: u32) -> bool
+    ensures { IsTrue result ↔ IsProcedure number call.now }
+{
+    call.program == NFS_PROGRAM && call.procedure == number
+}
+
+/// Attempts a call that changes the file tree of a volume, by its number and its areas, at most 64, at a moment in milliseconds, at most
+/// 4294967295999. `Need` names what its procedure does.
+pub fn change<V: View>(
+    alloc: Global,
+    volume: u64,
+    areas: u16,
+    xid: u32,
+    call: &Call,
+    moment: u64,
+    view: &V,
+) -> Result<Attempt, OutOfMemory>
+    requires areas { areas ≤ 64 }
+    requires changing { IsChanging call.now }
+    requires moment { moment ≤ 4294967295999 }
+    ensures gives { (client : ℕ) (bytes : List ℕ) (truth : Truth) (tree : Tree) → ReadsAs bytes xid call.now → IsTruth (V.held view.now) truth → StandsWith volume areas truth (V.hints view.now) tree
+        → IfOk result (Gives (StandsWith volume areas) Step (free_slots areas truth) client bytes moment truth tree) }
+    ensures fair { IfOk result (IsFair areas (V.held view.now) (ChangePathOf (V.held view.now) (V.hints view.now) volume areas call.now.procedure call.now.args)) }
+{
+    match &call.args {
+        Args::Set(at, sattr) => {
+            setattr(alloc, volume, areas, xid, call, at.bytes(), sattr, moment, view)
+        }
+        Args::Name(at, name) => {
+            let (at, name) = (at.bytes(), name.bytes());
+            if call.procedure == REMOVE {
+                remove(alloc, volume, areas, xid, call, at, name, moment, view)
+            } else {
+                rmdir(alloc, volume, areas, xid, call, at, name, moment, view)
+            }
+        }
+        Args::Link(from, at, name) => {
+            let (from, at, name) = (from.bytes(), at.bytes(), name.bytes());
+            link(alloc, volume, areas, xid, call, from, at, name, moment, view)
+        }
+        Args::Symlink(at, name, path, sattr) => {
+            let (at, name, path) = (at.bytes(), name.bytes(), path.bytes());
+            symlink(alloc, volume, areas, xid, call, at, name, path, sattr, moment, view)
+        }
+        Args::Make(at, name, sattr) => {
+            let (at, name) = (at.bytes(), name.bytes());
+            mkdir(alloc, volume, areas, xid, call, at, name, sattr, moment, view)
+        }
+        _ => unreachable!(),
+    }
+}

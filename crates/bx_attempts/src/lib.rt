@@ -1,0 +1,14 @@
+//! Attempts of the calls that change a file tree, and what any attempt answers.
+#![tactic(auto)]
+
+mod attributes;
+mod calls;
+mod making;
+mod naming;
+mod replies;
+mod tidying;
+mod times;
+
+pub use calls::{change, is_change};
+pub use replies::{answered, answered_with, stopped};
+pub use tidying::tidy;

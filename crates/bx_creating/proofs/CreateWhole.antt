@@ -1,0 +1,131 @@
+-- What CREATE comes to, from the directory on.
+use Rattle.std.proofs.Common.{◌≡◌, ℕ, ◌≤◌, eqb-true, false, List, [], Option, Some, None, refl, sym, ap, ◌∙◌, subst}
+use Rattle.std.specs.Prelude.{Result, Ok, Err}
+use Rattle.bx_changes.specs.Growing.{IsMaking, Makes}
+use Rattle.bx_changes.specs.declared.error.ChangeError.{ChangeError}
+use Rattle.bx_changes.specs.declared.error.ChangeError.TheVariants.{Stopped}
+use Rattle.bx_entries.specs.Finding.{IsDirectoryOf}
+use Rattle.bx_entries.specs.declared.finding.Removable.TheVariants as of
+use Rattle.bx_entries.proofs.RemovedFrom.{IsListed, listed}
+use Rattle.bx_handles.specs.Handles.{named}
+use Rattle.bx_hints.specs.Fitting.{HintsFitAll}
+use Rattle.bx_inodes.specs.Stands.{Stands}
+use Rattle.bx_inodes.specs.declared.stop.Stop.{Stop}
+use Rattle.bx_inodes.specs.declared.stop.Stop.TheVariants.{Need, Inner, Status, OutOfMemory}
+use Rattle.bx_layout.specs.declared.inode.Inode.{Inode}
+use Rattle.bx_model.specs.declared.call.Call.{Call}
+use Rattle.bx_model.specs.declared.reply.Reply.{Reply}
+use Rattle.bx_model.specs.declared.tree.Tree.{Tree}
+use Rattle.bx_model.specs.Making.{create, create_at, create_new, create_over}
+use Rattle.bx_model.specs.Reading.{named_file}
+use Rattle.bx_model.specs.Steps.{Making, ◌>>=◌, taken}
+use Rattle.bx_reads.proofs.Told.{named_as}
+use Rattle.bx_records.specs.Drafts.{Changed}
+use Rattle.bx_tree_files.specs.declared.file.Body.{Body}
+use Rattle.bx_tree_files.specs.declared.file.File.{File}
+use Rattle.bx_tree_files.specs.declared.file.Name.{Name}
+use Rattle.bx_tree_files.specs.declared.sattr.Sattr.{Sattr}
+use Rattle.bx_tree_files.specs.Entries.{entry_named}
+use Rattle.bx_tree_files.specs.Files.{file_at}
+use Rattle.bx_tree_files.specs.Names.{names_of}
+use Rattle.bx_tree_files.specs.Times.{Time}
+use Rattle.bx_views.specs.Truths.{Held, Hints, IsTruth, Truth}
+use Rattle.bx_creating.specs.Creating.{IsWithout}
+use Rattle.bx_creating.specs.Existing.{FoundIn, GivesIn, IsSearched, MaySearch, SearchedFor, searchable}
+use Rattle.bx_creating.proofs.NamesThere.{is_a_directory, is_good, searches}
+
+abbrev Made : Type 0
+Made = Result (List Changed × Reply × ℕ) ChangeError
+
+-- ---- from the directory on
+
+module _ (volume areas : ℕ) (held : Held) (hints : Hints) (truth : Truth) (tree : Tree) (handle : ℕ) (inode : Inode) (name : List ℕ) (s : IsSearched volume areas held hints truth tree handle inode name) (call : Call) (sattr : Sattr) (now : Time) where
+  abbrev file : File
+  file = s.directory.at.file
+
+  pub list : IsListed areas held hints truth inode s.directory.at.file
+  list = listed of.Plain volume areas held hints truth tree handle inode name now s.directory
+
+  same_names : entry_named (names_of s.directory.at.file.body) name ≡ entry_named list.names name
+  same_names = ap (λ (b : Body). entry_named (names_of b) name) list.body_is
+
+  abbrev by_entry : Option Name → ℕ → Making
+  by_entry found spare = create_at tree call s.directory.at.file name sattr now spare found
+
+  pub not_searched : (stop : Stop) → FoundIn list.names name (Err stop) → IsMaking volume areas truth tree (λ spare. create_at tree call s.directory.at.file name sattr now spare (entry_named (names_of s.directory.at.file.body) name)) (Err (Stopped stop))
+  not_searched (Status status) never = absurd never
+  not_searched (Need at mode) f = tt
+  not_searched (Inner blocks) never = absurd never
+  not_searched OutOfMemory f = tt
+
+  module _ (absent : FoundIn list.names name (Ok None)) where
+    pub without : IsWithout volume areas held hints truth tree handle inode name
+    without = record { directory = s.directory; good = s.good; absent = same_names ∙ absent }
+
+    pub made_new : (result : Result (List Changed × Reply × ℕ) ChangeError) → ((w : IsWithout volume areas held hints truth tree handle inode name) → IsMaking volume areas truth tree (create_new tree call w.directory.at.file name sattr now) result)
+        → IsMaking volume areas truth tree (λ spare. create_at tree call s.directory.at.file name sattr now spare (entry_named (names_of s.directory.at.file.body) name)) result
+    unfolding without
+    made_new result step = subst (λ (o : Option Name). IsMaking volume areas truth tree (by_entry o) result) (sym (same_names ∙ absent)) (step without)
+
+  module _ (found : ℕ) (there : FoundIn list.names name (Ok (Some found))) where
+    found_is : entry_named (names_of s.directory.at.file.body) name ≡ Some (record { number = there.number; name = name; handle = found })
+    found_is = same_names ∙ there.is
+
+    pub not_told : (stop : Stop) → GivesIn tree (create_over tree call found sattr now) (Err stop)
+        → IsMaking volume areas truth tree (λ spare. create_at tree call s.directory.at.file name sattr now spare (entry_named (names_of s.directory.at.file.body) name)) (Err (Stopped stop))
+    not_told (Status status) e = ap (λ (o : Option Name). by_entry o 8) found_is ∙ e
+    not_told (Need at mode) e = tt
+    not_told (Inner blocks) never = absurd never
+    not_told OutOfMemory e = tt
+
+    pub tells : (draft : List Changed) (reply : Reply) → draft ≡ [] → GivesIn tree (create_over tree call found sattr now) (Ok reply)
+        → Makes volume areas truth tree (create_at tree call s.directory.at.file name sattr now 8 (entry_named (names_of s.directory.at.file.body) name)) draft reply 0
+    tells draft reply empty e =
+        subst (λ (d : List Changed). Makes volume areas truth tree (create_at tree call s.directory.at.file name sattr now 8 (entry_named (names_of s.directory.at.file.body) name)) d reply 0) (sym empty)
+        (record { next = tree; comes_to = ap (taken tree 0) (ap (λ (o : Option Name). by_entry o 8) found_is ∙ e); stands = s.directory.stands })
+
+-- ---- CREATE
+
+module _ (tree : Tree) (call : Call) (bytes name : List ℕ) (sattr : Sattr) (now : Time) (volume : ℕ) (same : tree.volume ≡ volume) where
+  abbrev rest : ℕ → Result File ℕ → Making
+  rest spare found = found >>= (λ directory. create_at tree call directory name sattr now spare (entry_named (names_of directory.body) name))
+
+  create_is : (spare : ℕ) → create tree call bytes name sattr now spare ≡ rest spare (searchable call name (named_file tree bytes))
+  create_is spare = refl
+
+  pub no_name : None ≡ named volume bytes → create tree call bytes name sattr now 8 ≡ Err 70
+  no_name is = create_is 8 ∙ ap (λ (o : Option File). rest 8 (searchable call name o)) (named_as tree volume bytes None same is)
+
+  module _ (handle : ℕ) (is : Some handle ≡ named volume bytes) where
+    by_handle : (spare : ℕ) → create tree call bytes name sattr now spare ≡ rest spare (searchable call name (file_at tree.files handle))
+    by_handle spare = create_is spare ∙ ap (λ (o : Option File). rest spare (searchable call name o)) (named_as tree volume bytes (Some handle) same is)
+
+    pub no_directory : (areas : ℕ) (truth : Truth) (stop : Stop) → SearchedFor areas truth tree call name handle (Err stop) → IsMaking volume areas truth tree (create tree call bytes name sattr now) (Err (Stopped stop))
+    no_directory areas truth (Status status) e = by_handle 8 ∙ ap (rest 8) e
+    no_directory areas truth (Need at mode) e = tt
+    no_directory areas truth (Inner blocks) never = absurd never
+    no_directory areas truth OutOfMemory e = tt
+
+    module _ (areas : ℕ) (held : Held) (hints : Hints) (truth : Truth) (inode : Inode) (m : MaySearch areas truth tree call name handle inode) (few : areas ≤ 64) (agrees : IsTruth held truth) (stands : Stands volume areas truth tree) (fit : HintsFitAll areas hints truth) where
+      pub searched : IsSearched volume areas held hints truth tree handle inode name
+      searched = record {
+        directory = record {
+          few = few;
+          same = agrees;
+          stands = stands;
+          fit = fit;
+          at = m.at;
+          kind = m.at.fields.kind ∙ eqb-true m.at.file.kind 2 (is_a_directory call name m.at.file m.may);
+        };
+        good = is_good call name m.at.file m.may;
+      }
+
+      at_file : (spare : ℕ) → create tree call bytes name sattr now spare ≡ create_at tree call m.at.file name sattr now spare (entry_named (names_of m.at.file.body) name)
+      at_file spare = by_handle spare ∙ ap (λ (o : Option File). rest spare (searchable call name o)) m.at.there ∙ ap (rest spare) (searches call name m.at.file m.may)
+
+      pub comes : (result : Result (List Changed × Reply × ℕ) ChangeError)
+          → ((s : IsSearched volume areas held hints truth tree handle inode name)
+          → IsMaking volume areas truth tree (λ spare. create_at tree call s.directory.at.file name sattr now spare (entry_named (names_of s.directory.at.file.body) name)) result)
+          → IsMaking volume areas truth tree (create tree call bytes name sattr now) result
+      unfolding searched
+      comes result step = subst (λ (f : ℕ → Making). IsMaking volume areas truth tree f result) (λ i spare. sym (at_file spare) i) (step searched)

@@ -1,0 +1,7 @@
+pub mod Made
+pub mod Placed
+pub mod Found
+pub mod Created
+pub mod NewFiles
+pub mod NamesThere
+pub mod CreateWhole

@@ -1,0 +1,136 @@
+-- What CREATE finds: the directory in which it looks for its name, and the file that has it.
+use Rattle.std.proofs.Common.{◌≡◌, ℕ, Bool, true, false, eqb-true, List, Option, Some, None, refl, sym, ap, ◌∙◌, subst}
+use Rattle.std.specs.Prelude.{◌≢◌, ◌&&◌, not, nat_lt, if◌then◌else◌, Result, Ok, Err}
+use Rattle.bx_inodes.specs.Heads.{head_of}
+use Rattle.bx_inodes.specs.Inodes.{FileAt, IsInodeOf}
+use Rattle.bx_inodes.specs.declared.stop.Stop.{Stop}
+use Rattle.bx_inodes.specs.declared.stop.Stop.TheVariants.{Need, Inner, Status, OutOfMemory}
+use Rattle.bx_layout.specs.declared.inode.Inode.{Inode}
+use Rattle.bx_making.specs.Made.{file_of}
+use Rattle.bx_model.specs.declared.call.Call.{Call}
+use Rattle.bx_model.specs.declared.permissions.Want.TheVariants as want
+use Rattle.bx_model.specs.declared.reply.Reply.{Reply}
+use Rattle.bx_model.specs.declared.tree.Tree.{Tree}
+use Rattle.bx_model.specs.Edits.{changed}
+use Rattle.bx_model.specs.Making.{create_over}
+use Rattle.bx_model.specs.Permissions.{may}
+use Rattle.bx_model.specs.Reading.{handle_reply}
+use Rattle.bx_model.specs.Steps.{Making, must, refuse, ◌>>=◌, ◌>>◌}
+use Rattle.bx_model.specs.Steps.Step.{Gives}
+use Rattle.bx_model.specs.Writing.{resize_errors}
+use Rattle.bx_tree_files.specs.declared.file.File.{File}
+use Rattle.bx_tree_files.specs.declared.sattr.Sattr.{Sattr}
+use Rattle.bx_tree_files.specs.Changes.{most_bytes, with_size}
+use Rattle.bx_tree_files.specs.Entries.{is_bad}
+use Rattle.bx_tree_files.specs.Files.{file_at, is_directory, is_link, is_regular}
+use Rattle.bx_tree_files.specs.Times.{Time, is_given}
+use Rattle.bx_truth.specs.Stored.{HasFields}
+use Rattle.bx_truth.proofs.Cases.{eq_false, eq_true}
+use Rattle.bx_views.specs.Truths.{Truth}
+use Rattle.bx_creating.specs.Existing.{GivesIn, SearchedFor, search_error, searchable}
+
+-- ---- the directory
+
+abbrev or_error : Option ℕ → Result File ℕ → Result File ℕ
+or_error (Some status) rest = Err status
+or_error None rest = rest
+
+abbrev first_error : Bool → Bool → Bool → Option ℕ
+first_error d b m = if d then (if b then Some 13 else if m then None else Some 13) else Some 20
+
+tests : (d b m : Bool) (rest : Result File ℕ) → refuse (not d) 20 >> (refuse b 13 >> (refuse (not m) 13 >> rest)) ≡ or_error (first_error d b m) rest
+tests false b m rest = refl
+tests true true m rest = refl
+tests true false true rest = refl
+tests true false false rest = refl
+
+directory_of : (d b m : Bool) → first_error d b m ≡ None → d ≡ true
+directory_of false b m none = absurd cc
+directory_of true b m none = refl
+
+good_of : (d b m : Bool) → first_error d b m ≡ None → b ≡ false
+good_of false b m none = absurd cc
+good_of true true m none = absurd cc
+good_of true false m none = refl
+
+error_is : (call : Call) (name : List ℕ) (handle : ℕ) (inode : Inode) (file : File) → HasFields inode file → search_error call name (head_of handle inode) ≡ search_error call name file
+error_is call name handle inode file fields = λ i. search_error call name (record file { kind = fields.kind i; mode = fields.mode i; uid = fields.uid i; gid = fields.gid i })
+
+module _ (call : Call) (name : List ℕ) (file : File) where
+  searched_by : searchable call name (Some file) ≡ or_error (search_error call name file) (Ok file)
+  searched_by = tests (is_directory file) (is_bad name) (may call file want.Search) (Ok file)
+
+  pub searches : search_error call name file ≡ None → searchable call name (Some file) ≡ Ok file
+  searches none = searched_by ∙ ap (λ (o : Option ℕ). or_error o (Ok file)) none
+
+  pub refuses : (status : ℕ) → search_error call name file ≡ Some status → searchable call name (Some file) ≡ Err status
+  refuses status some = searched_by ∙ ap (λ (o : Option ℕ). or_error o (Ok file)) some
+
+  pub is_a_directory : search_error call name file ≡ None → is_directory file ≡ true
+  is_a_directory none = directory_of (is_directory file) (is_bad name) (may call file want.Search) none
+
+  pub is_good : search_error call name file ≡ None → is_bad name ≡ false
+  is_good none = good_of (is_directory file) (is_bad name) (may call file want.Search) none
+
+module _ (areas : ℕ) (truth : Truth) (tree : Tree) (call : Call) (name : List ℕ) (handle : ℕ) where
+  pub no_directory : (stop : Stop) → FileAt areas truth tree handle (Err stop) → SearchedFor areas truth tree call name handle (Err stop)
+  no_directory (Status status) (code, none) = ap (searchable call name) none ∙ ap Err (sym code)
+  no_directory (Need at mode) f = tt
+  no_directory (Inner blocks) never = never
+  no_directory OutOfMemory f = tt
+
+  module _ (inode : Inode) (f : IsInodeOf areas truth tree handle inode) where
+    pub refused : (status : ℕ) (error : Option ℕ) → error ≡ Some status → error ≡ search_error call name (head_of handle inode) → searchable call name (file_at tree.files handle) ≡ Err status
+    refused status error some is = ap (searchable call name) f.there ∙ refuses call name f.file status (sym (is ∙ error_is call name handle inode f.file f.fields) ∙ some)
+
+    pub allowed : None ≡ search_error call name (head_of handle inode) → search_error call name f.file ≡ None
+    allowed none = sym (none ∙ error_is call name handle inode f.file f.fields)
+
+-- ---- the file that has the name
+
+module _ (tree : Tree) (call : Call) (sattr : Sattr) (now : Time) where
+  -- what comes of a file by whether it is regular, and whether a size is given
+  abbrev with_tests : Bool → Bool → File → Making
+  with_tests regular given file =
+      refuse (not regular) 17
+      >> ((refuse (given && is_directory file) 21 >> (refuse (given && is_link file) 6 >> (refuse (given && not (may call file want.Write)) 13 >> refuse (given && nat_lt most_bytes sattr.size) 27)))
+      >> (if given then Ok (Gives (handle_reply tree (with_size now sattr.size file)) (changed tree file.handle (with_size now sattr.size))) else Ok (Gives (handle_reply tree file) tree)))
+
+  abbrev over : Option File → Making
+  over found = must found 70 >>= (λ file. with_tests (is_regular file) (is_given sattr.size) file)
+
+  over_is : (handle : ℕ) → create_over tree call handle sattr now ≡ over (file_at tree.files handle)
+  over_is handle = refl
+
+  module _ (areas : ℕ) (truth : Truth) (handle : ℕ) where
+    pub not_there : (stop : Stop) → FileAt areas truth tree handle (Err stop) → GivesIn tree (create_over tree call handle sattr now) (Err stop)
+    not_there (Status status) (code, none) = over_is handle ∙ ap over none ∙ ap Err (sym code)
+    not_there (Need at mode) f = tt
+    not_there (Inner blocks) never = never
+    not_there OutOfMemory f = tt
+
+    module _ (inode : Inode) (f : IsInodeOf areas truth tree handle inode) where
+      pub irregular : inode.kind ≢ 1 → create_over tree call handle sattr now ≡ Err 17
+      irregular other =
+          over_is handle ∙ ap over f.there ∙ ap (λ (r : Bool). with_tests r (is_given sattr.size) f.file) (eq_false f.file.kind 1 (λ one. other (f.fields.kind ∙ one)))
+
+      file_is : file_of inode handle f.file.body ≡ f.file
+      file_is =
+          let fields = f.fields in
+          λ i. record {
+            handle = sym f.handle_is i;
+            kind = fields.kind i;
+            mode = fields.mode i;
+            nlink = fields.nlink i;
+            uid = fields.uid i;
+            gid = fields.gid i;
+            atime = fields.atime i;
+            mtime = fields.mtime i;
+            ctime = fields.ctime i;
+            body = f.file.body;
+          }
+
+      pub gives : is_given sattr.size ≡ false → inode.kind ≡ 1 → (reply : Reply) → reply ≡ handle_reply tree (file_of inode handle f.file.body) → create_over tree call handle sattr now ≡ Ok (Gives reply tree)
+      gives none one reply told =
+          over_is handle ∙ ap over f.there ∙ (λ i. with_tests (eq_true f.file.kind 1 (sym f.fields.kind ∙ one) i) (none i) f.file)
+          ∙ ap (λ (r : Reply). Ok (Gives r tree)) (sym (told ∙ ap (handle_reply tree) file_is))

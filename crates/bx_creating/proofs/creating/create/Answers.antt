@@ -1,0 +1,20 @@
+use Rattle.bx_creating.proofs.CreateWhole.{comes, no_directory, no_name, searched}
+use Rattle.bx_creating.proofs.creating.create.Goals as goal
+
+pub returns-in_default-clause-step : goal.returns-in_default-clause-step
+returns-in_default-clause-step g c = λ truth tree same s fit. no_name tree c.args.call.now c.args.at.now c.args.name.now c.args.sattr.now c.args.now c.args.volume s.volume_is c.in_default.ensures
+
+pub returns-in-Err-clause-step : goal.returns-in-Err-clause-step
+returns-in-Err-clause-step g c = λ truth tree same s fit.
+    no_directory tree c.args.call.now c.args.at.now c.args.name.now c.args.sattr.now c.args.now c.args.volume s.volume_is c.in-Some.handle c.in-Some.ensures c.args.areas truth c.in-Err.stop (c.in-Err.ensures.step truth tree same s.is)
+
+pub returns-in-Ok-clause-step : goal.returns-in-Ok-clause-step
+returns-in-Ok-clause-step g c = λ truth tree same s fit.
+    comes tree c.args.call.now c.args.at.now c.args.name.now c.args.sattr.now c.args.now c.args.volume s.volume_is c.in-Some.handle c.in-Some.ensures c.args.areas (g.V.View.held c.args.view.now) (g.V.View.hints c.args.view.now) truth c.in-Ok.inode
+    (c.in-Ok.ensures.step truth tree same s.is) c.requires.areas same s fit c.create_in.result (λ is. c.create_in.ensures.step truth tree is)
+
+pub returns-in-Ok-clause-hints : goal.returns-in-Ok-clause-hints
+returns-in-Ok-clause-hints g c = λ other truth tree same s fit other_fit.
+    c.create_in.ensures.hints other truth tree
+    (searched tree c.args.call.now c.args.at.now c.args.name.now c.args.sattr.now c.args.now c.args.volume s.volume_is c.in-Some.handle c.in-Some.ensures c.args.areas (g.V.View.held c.args.view.now) (g.V.View.hints c.args.view.now) truth
+    c.in-Ok.inode (c.in-Ok.ensures.step truth tree same s.is) c.requires.areas same s fit) other_fit

@@ -1,0 +1,42 @@
+use Rattle.std.proofs.Common.{List, sym, subst}
+use Rattle.bx_hints.specs.Fitting.{HintsFitAll}
+use Rattle.bx_records.specs.Drafts.{Changed}
+use Rattle.bx_views.specs.Truths.{with_draft}
+use Rattle.bx_creating.proofs.CreateWhole.{list, made_new, not_searched, not_told, tells, without}
+use Rattle.bx_creating.proofs.creating.create_in.Goals as goal
+
+pub returns-in-Err-clause-step : goal.returns-in-Err-clause-step
+returns-in-Err-clause-step g c = λ truth tree s.
+    let l = list c.args.volume c.args.areas (g.V.View.held c.args.view.now) (g.V.View.hints c.args.view.now) truth tree c.args.directory.handle c.args.directory.inode c.args.name.now s c.args.call.now c.args.sattr.now c.args.now in
+    not_searched c.args.volume c.args.areas (g.V.View.held c.args.view.now) (g.V.View.hints c.args.view.now) truth tree c.args.directory.handle c.args.directory.inode c.args.name.now s c.args.call.now c.args.sattr.now c.args.now c.in-Err.stop
+    (c.in-Err.ensures.list truth l.names l.entries)
+
+pub returns-in-None-clause-step : goal.returns-in-None-clause-step
+returns-in-None-clause-step g c = λ truth tree s.
+    let l = list c.args.volume c.args.areas (g.V.View.held c.args.view.now) (g.V.View.hints c.args.view.now) truth tree c.args.directory.handle c.args.directory.inode c.args.name.now s c.args.call.now c.args.sattr.now c.args.now in
+    made_new c.args.volume c.args.areas (g.V.View.held c.args.view.now) (g.V.View.hints c.args.view.now) truth tree c.args.directory.handle c.args.directory.inode c.args.name.now s c.args.call.now c.args.sattr.now c.args.now
+    ((rw c.in-None.is at c.in-Ok.ensures.list) truth l.names l.entries) c.create_new.result (λ w. c.create_new.ensures.step truth tree w)
+
+pub returns-in-None-clause-hints : goal.returns-in-None-clause-hints
+returns-in-None-clause-hints g c = λ other truth tree s fit.
+    let l = list c.args.volume c.args.areas (g.V.View.held c.args.view.now) (g.V.View.hints c.args.view.now) truth tree c.args.directory.handle c.args.directory.inode c.args.name.now s c.args.call.now c.args.sattr.now c.args.now in
+    c.create_new.ensures.hints other truth tree
+    (without c.args.volume c.args.areas (g.V.View.held c.args.view.now) (g.V.View.hints c.args.view.now) truth tree c.args.directory.handle c.args.directory.inode c.args.name.now s c.args.call.now c.args.sattr.now c.args.now
+    ((rw c.in-None.is at c.in-Ok.ensures.list) truth l.names l.entries)) fit
+
+pub returns-in-Err-told_over-clause-step : goal.returns-in-Err-told_over-clause-step
+returns-in-Err-told_over-clause-step g c = λ truth tree s.
+    let l = list c.args.volume c.args.areas (g.V.View.held c.args.view.now) (g.V.View.hints c.args.view.now) truth tree c.args.directory.handle c.args.directory.inode c.args.name.now s c.args.call.now c.args.sattr.now c.args.now in
+    not_told c.args.volume c.args.areas (g.V.View.held c.args.view.now) (g.V.View.hints c.args.view.now) truth tree c.args.directory.handle c.args.directory.inode c.args.name.now s c.args.call.now c.args.sattr.now c.args.now c.in-Some.handle
+    ((rw c.in-Some.is at c.in-Ok.ensures.list) truth l.names l.entries) c.in-Err-told_over.stop
+    (c.in-Err-told_over.ensures.step truth tree c.args.call.now c.args.sattr.now c.args.now s.directory.same s.directory.stands c.requires.size)
+
+pub returns-clause-step : goal.returns-clause-step
+returns-clause-step g c = λ truth tree s.
+    let l = list c.args.volume c.args.areas (g.V.View.held c.args.view.now) (g.V.View.hints c.args.view.now) truth tree c.args.directory.handle c.args.directory.inode c.args.name.now s c.args.call.now c.args.sattr.now c.args.now in
+    tells c.args.volume c.args.areas (g.V.View.held c.args.view.now) (g.V.View.hints c.args.view.now) truth tree c.args.directory.handle c.args.directory.inode c.args.name.now s c.args.call.now c.args.sattr.now c.args.now c.in-Some.handle
+    ((rw c.in-Some.is at c.in-Ok.ensures.list) truth l.names l.entries) _ c.in-Ok-told_over.reply c.new.ensures
+    (c.in-Ok-told_over.ensures.step truth tree c.args.call.now c.args.sattr.now c.args.now s.directory.same s.directory.stands c.requires.size)
+
+pub returns-clause-hints : goal.returns-clause-hints
+returns-clause-hints g c = λ other truth tree s fit. subst (λ (d : List Changed). HintsFitAll c.args.areas other (with_draft truth d)) (sym c.new.ensures) fit

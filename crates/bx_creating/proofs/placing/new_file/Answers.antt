@@ -1,0 +1,41 @@
+use Rattle.std.proofs.Common.{List, [], Err, Ok, subst, sym}
+use Rattle.bx_chunks.specs.declared.error.ChunkError.TheVariants as chunk
+use Rattle.bx_making.specs.Made.{MakesFile, MakesIn}
+use Rattle.bx_making.specs.Making.{MakesAt}
+use Rattle.bx_ready.proofs.Split.{none_held}
+use Rattle.bx_records.specs.Drafts.{Changed}
+use Rattle.bx_truth.specs.Stands.{StandsFor}
+use Rattle.bx_views.specs.Attempts.{IsHeldDraft}
+use Rattle.bx_views.specs.Truths.{with_draft}
+use Rattle.bx_creating.proofs.Made.{make_crowds, make_full, make_long, make_needs, needs, stops}
+use Rattle.bx_creating.proofs.placing.new_file.Goals as goal
+
+pub returns-in-Err-clause-step : goal.returns-in-Err-clause-step
+returns-in-Err-clause-step g c = λ truth tree body few same is empty.
+    let at = subst (λ (d : List Changed). MakesAt (g.V.View.held c.args.view.now) d c.make.new.draft c.args.inode c.args.near c.args.areas (Err c.in-Err.error)) c.new-draft.ensures c.in-Err.ensures.at in
+    stops c.args.areas truth tree c.args.inode body c.make.new.draft c.in-Err.error c.chunk_error.result
+    (λ crowded. make_crowds (g.V.View.held c.args.view.now) c.args.near c.args.areas c.args.inode c.make.new.draft (rw crowded at at))
+    (λ spare full. make_full (g.V.View.held c.args.view.now) c.args.near c.args.areas truth few same is.chunked c.args.inode c.make.new.draft spare (rw full at at))
+    (subst (λ (d : List Changed). MakesIn c.args.areas truth d c.make.new.draft tree c.args.inode body (Err c.in-Err.error)) c.new-draft.ensures
+    (c.in-Err.ensures.tree truth tree body few same (subst (λ (d : List Changed). StandsFor c.args.areas (with_draft truth d) tree) (sym c.new-draft.ensures) is) empty))
+    c.chunk_error.ensures
+
+pub returns-in-Err-clause-need : goal.returns-in-Err-clause-need
+returns-in-Err-clause-need g c =
+    let at = subst (λ (d : List Changed). MakesAt (g.V.View.held c.args.view.now) d c.make.new.draft c.args.inode c.args.near c.args.areas (Err c.in-Err.error)) c.new-draft.ensures c.in-Err.ensures.at in
+    needs c.args.areas (g.V.View.held c.args.view.now) c.args.near c.in-Err.error c.chunk_error.result
+    (λ block mode need. make_needs (g.V.View.held c.args.view.now) c.args.near c.args.areas c.args.inode c.make.new.draft block mode (rw need at at)) c.in-Err.ensures.fair c.chunk_error.ensures
+
+pub returns-in-Ok-clause-step : goal.returns-in-Ok-clause-step
+returns-in-Ok-clause-step g c = λ truth tree body few same is empty.
+    subst (λ (d : List Changed). MakesFile c.args.areas truth d c.make.new.draft tree c.args.inode body c.in-Ok.handle) c.new-draft.ensures
+    (c.in-Ok.ensures.tree truth tree body few same (subst (λ (d : List Changed). StandsFor c.args.areas (with_draft truth d) tree) (sym c.new-draft.ensures) is) empty)
+
+pub returns-in-Ok-clause-held : goal.returns-in-Ok-clause-held
+returns-in-Ok-clause-held g c =
+    c.in-Ok.ensures.held (subst (λ (d : List Changed). IsHeldDraft (g.V.View.held c.args.view.now) d) (sym c.new-draft.ensures) (none_held (g.V.View.held c.args.view.now)))
+
+pub returns-in-Ok-clause-few : goal.returns-in-Ok-clause-few
+returns-in-Ok-clause-few g c =
+    make_long (g.V.View.held c.args.view.now) c.args.near c.args.areas c.args.inode c.make.new.draft c.in-Ok.handle
+    (subst (λ (d : List Changed). MakesAt (g.V.View.held c.args.view.now) d c.make.new.draft c.args.inode c.args.near c.args.areas (Ok c.in-Ok.handle)) c.new-draft.ensures c.in-Ok.ensures.at)

@@ -1,0 +1,42 @@
+use Rattle.std.proofs.Common.{List, [], Err, Ok, subst, sym}
+use Rattle.bx_chunks.specs.declared.error.ChunkError.TheVariants as chunk
+use Rattle.bx_making.specs.Made.{MakesFile, MakesIn}
+use Rattle.bx_making.specs.Links.{LinksAt}
+use Rattle.bx_ready.proofs.Split.{none_held}
+use Rattle.bx_records.specs.Drafts.{Changed}
+use Rattle.bx_tree_files.specs.declared.file.Body.TheVariants.{Path}
+use Rattle.bx_truth.specs.Stands.{StandsFor}
+use Rattle.bx_views.specs.Attempts.{IsHeldDraft}
+use Rattle.bx_views.specs.Truths.{with_draft}
+use Rattle.bx_creating.proofs.Made.{link_crowds, link_full, link_long, link_needs, needs, stops}
+use Rattle.bx_creating.proofs.placing.new_link.Goals as goal
+
+pub returns-in-Err-clause-step : goal.returns-in-Err-clause-step
+returns-in-Err-clause-step g c = λ truth tree few same is five none.
+    let at = subst (λ (d : List Changed). LinksAt (g.V.View.held c.args.view.now) d c.make_link.new.draft c.args.inode.now c.args.near c.args.areas (Err c.in-Err.error)) c.new-draft.ensures c.in-Err.ensures.at in
+    stops c.args.areas truth tree c.args.inode.now (Path c.args.inode.now.path) c.make_link.new.draft c.in-Err.error c.chunk_error.result
+    (λ crowded. link_crowds (g.V.View.held c.args.view.now) c.args.near c.args.areas c.args.inode.now c.make_link.new.draft (rw crowded at at))
+    (λ spare full. link_full (g.V.View.held c.args.view.now) c.args.near c.args.areas truth few same is.chunked c.args.inode.now c.make_link.new.draft spare (rw full at at))
+    (subst (λ (d : List Changed). MakesIn c.args.areas truth d c.make_link.new.draft tree c.args.inode.now (Path c.args.inode.now.path) (Err c.in-Err.error)) c.new-draft.ensures
+    (c.in-Err.ensures.tree truth tree few same (subst (λ (d : List Changed). StandsFor c.args.areas (with_draft truth d) tree) (sym c.new-draft.ensures) is) five none))
+    c.chunk_error.ensures
+
+pub returns-in-Err-clause-need : goal.returns-in-Err-clause-need
+returns-in-Err-clause-need g c =
+    let at = subst (λ (d : List Changed). LinksAt (g.V.View.held c.args.view.now) d c.make_link.new.draft c.args.inode.now c.args.near c.args.areas (Err c.in-Err.error)) c.new-draft.ensures c.in-Err.ensures.at in
+    needs c.args.areas (g.V.View.held c.args.view.now) c.args.near c.in-Err.error c.chunk_error.result
+    (λ block mode need. link_needs (g.V.View.held c.args.view.now) c.args.near c.args.areas c.args.inode.now c.make_link.new.draft block mode (rw need at at)) c.in-Err.ensures.fair c.chunk_error.ensures
+
+pub returns-in-Ok-clause-step : goal.returns-in-Ok-clause-step
+returns-in-Ok-clause-step g c = λ truth tree few same is five none.
+    subst (λ (d : List Changed). MakesFile c.args.areas truth d c.make_link.new.draft tree c.args.inode.now (Path c.args.inode.now.path) c.in-Ok.handle) c.new-draft.ensures
+    (c.in-Ok.ensures.tree truth tree few same (subst (λ (d : List Changed). StandsFor c.args.areas (with_draft truth d) tree) (sym c.new-draft.ensures) is) five none)
+
+pub returns-in-Ok-clause-held : goal.returns-in-Ok-clause-held
+returns-in-Ok-clause-held g c =
+    c.in-Ok.ensures.held (subst (λ (d : List Changed). IsHeldDraft (g.V.View.held c.args.view.now) d) (sym c.new-draft.ensures) (none_held (g.V.View.held c.args.view.now)))
+
+pub returns-in-Ok-clause-few : goal.returns-in-Ok-clause-few
+returns-in-Ok-clause-few g c =
+    link_long (g.V.View.held c.args.view.now) c.args.near c.args.areas c.args.inode.now c.make_link.new.draft c.in-Ok.handle
+    (subst (λ (d : List Changed). LinksAt (g.V.View.held c.args.view.now) d c.make_link.new.draft c.args.inode.now c.args.near c.args.areas (Ok c.in-Ok.handle)) c.new-draft.ensures c.in-Ok.ensures.at)

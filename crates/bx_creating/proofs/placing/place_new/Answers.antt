@@ -1,0 +1,32 @@
+use Rattle.bx_creating.proofs.Placed.{enter_stops, make_stops, may_enter, places, room_stops}
+use Rattle.bx_creating.proofs.placing.place_new.Goals as goal
+
+pub returns-in-Err-clause-step : goal.returns-in-Err-clause-step
+returns-in-Err-clause-step g c = λ volume truth tree body p b.
+    room_stops volume c.args.areas (g.V.View.held c.args.view.now) (g.V.View.hints c.args.view.now) truth tree c.args.directory.handle c.args.directory.inode c.args.name.now p c.args.now c.args.inode body c.in-Err.error
+    (c.in-Err.ensures.step volume truth tree p.directory)
+
+pub returns-in-Err-make_new-clause-step : goal.returns-in-Err-make_new-clause-step
+returns-in-Err-make_new-clause-step g c = λ volume truth tree body p b.
+    make_stops volume c.args.areas (g.V.View.held c.args.view.now) (g.V.View.hints c.args.view.now) truth tree c.args.directory.handle c.args.directory.inode c.args.name.now p c.args.now c.args.inode body c.in-Err-make_new.error
+    (c.in-Err-make_new.ensures.step truth tree body p.directory.few p.directory.same p.directory.stands.is b)
+
+pub returns-in-Err-enter-clause-step : goal.returns-in-Err-enter-clause-step
+returns-in-Err-enter-clause-step g c = λ volume truth tree body p b.
+    let ready = c.in-Ok.ensures.step volume truth tree p.directory in
+    let m = c.in-Ok-make_new.ensures.step truth tree body p.directory.few p.directory.same p.directory.stands.is b in
+    enter_stops volume c.args.areas (g.V.View.held c.args.view.now) (g.V.View.hints c.args.view.now) truth tree c.args.directory.handle c.args.directory.inode c.args.name.now p c.args.now c.args.inode body ready c.in-Ok-make_new.draft
+    c.in-Ok-make_new.made m c.in-Err-enter.error
+    (c.in-Err-enter.ensures.step truth _ p.directory.at.file
+    (may_enter volume c.args.areas (g.V.View.held c.args.view.now) (g.V.View.hints c.args.view.now) truth tree c.args.directory.handle c.args.directory.inode c.args.name.now p c.args.now c.args.inode body ready c.in-Ok-make_new.draft
+    c.in-Ok-make_new.made m))
+
+pub returns-in-Ok-enter-clause-step : goal.returns-in-Ok-enter-clause-step
+returns-in-Ok-enter-clause-step g c = λ volume truth tree body p b.
+    let ready = c.in-Ok.ensures.step volume truth tree p.directory in
+    let m = c.in-Ok-make_new.ensures.step truth tree body p.directory.few p.directory.same p.directory.stands.is b in
+    places volume c.args.areas (g.V.View.held c.args.view.now) (g.V.View.hints c.args.view.now) truth tree c.args.directory.handle c.args.directory.inode c.args.name.now p c.args.now c.args.inode body ready c.in-Ok-make_new.draft
+    c.in-Ok-make_new.made m c.in-Ok-enter.draft
+    (c.in-Ok-enter.ensures.step truth _ p.directory.at.file
+    (may_enter volume c.args.areas (g.V.View.held c.args.view.now) (g.V.View.hints c.args.view.now) truth tree c.args.directory.handle c.args.directory.inode c.args.name.now p c.args.now c.args.inode body ready c.in-Ok-make_new.draft
+    c.in-Ok-make_new.made m))

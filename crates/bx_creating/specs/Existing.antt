@@ -1,0 +1,111 @@
+-- CREATE: the directory in which it looks for the name, and what it comes to where an entry has it.
+use Rattle.std.specs.Prelude.{◌≡◌, ℕ, ◌⊎◌, false, not, if◌then◌else◌, List, Option, Some, None, Result, Ok, Err}
+use Rattle.bx_base.specs.declared.names.Mode.{Mode}
+use Rattle.bx_base.specs.declared.names.Mode.TheVariants.{Exclusive}
+use Rattle.bx_entries.specs.Finding.{IsDirectoryOf}
+use Rattle.bx_files.specs.Paths.{Finds, IsBlockOf, OnSearch}
+use Rattle.bx_inodes.specs.Inodes.{IsInodeOf}
+use Rattle.bx_inodes.specs.Stops.{OnInode}
+use Rattle.bx_inodes.specs.declared.stop.Stop.{Stop}
+use Rattle.bx_inodes.specs.declared.stop.Stop.TheVariants.{Need, Inner, Status, OutOfMemory}
+use Rattle.bx_layout.specs.declared.inode.Inode.{Inode}
+use Rattle.bx_model.specs.declared.call.Call.{Call}
+use Rattle.bx_model.specs.declared.permissions.Want.TheVariants as want
+use Rattle.bx_model.specs.declared.reply.Reply.{Reply}
+use Rattle.bx_model.specs.declared.tree.Tree.{Tree}
+use Rattle.bx_model.specs.Permissions.{may}
+use Rattle.bx_model.specs.Steps.{Making, must, refuse, ◌>>=◌, ◌>>◌}
+use Rattle.bx_model.specs.Steps.Step.{Gives}
+use Rattle.bx_tree_files.specs.Entries.{entry_named, is_bad}
+use Rattle.bx_tree_files.specs.Files.{file_at, is_directory}
+use Rattle.bx_tree_files.specs.declared.file.File.{File}
+use Rattle.bx_tree_files.specs.declared.file.Name.{Name}
+use Rattle.bx_truth.specs.Keys.{name_key, name_value}
+use Rattle.bx_views.specs.Truths.{Held, Hints, Truth}
+use Rattle.bx_creating.specs.Finding.{IsHeldAt}
+use Rattle.bx_creating.specs.Placing.{OnPlacing}
+
+-- ---- the directory
+
+-- the directory in which a name may be looked for, if a file is found: 70 is STALE, 20 NOTDIR, 13 ACCES
+abbrev pub searchable : Call → List ℕ → Option File → Result File ℕ
+searchable call name found = do
+  directory ← must found 70
+  refuse (not (is_directory directory)) 20
+  refuse (is_bad name) 13
+  refuse (not (may call directory want.Search)) 13
+  Ok directory
+
+-- the error that a caller meets who looks for a name in a file
+abbrev pub search_error : Call → List ℕ → File → Option ℕ
+search_error call name file = if is_directory file then (if is_bad name then Some 13 else if may call file want.Search then None else Some 13) else Some 20
+
+-- the directory is there, and the caller may search it
+pub record MaySearch (areas : ℕ) (truth : Truth) (tree : Tree) (call : Call) (name : List ℕ) (handle : ℕ) (inode : Inode) : Type 0 where
+  pub at : IsInodeOf areas truth tree handle inode
+  pub may : search_error call name at.file ≡ None
+
+abbrev pub SearchedFor : ℕ → Truth → Tree → Call → List ℕ → ℕ → Result Inode Stop → Type 0
+SearchedFor areas truth tree call name handle (Ok inode) = MaySearch areas truth tree call name handle inode
+SearchedFor areas truth tree call name handle (Err (Status status)) = searchable call name (file_at tree.files handle) ≡ Err status
+SearchedFor areas truth tree call name handle (Err (Need at mode)) = Unit {0}
+SearchedFor areas truth tree call name handle (Err (Inner blocks)) = ⊥
+SearchedFor areas truth tree call name handle (Err OutOfMemory) = Unit {0}
+
+-- a directory of a file tree, by its inode, in which a name that isn't bad is looked for
+pub record IsSearched (volume areas : ℕ) (held : Held) (hints : Hints) (truth : Truth) (tree : Tree) (handle : ℕ) (inode : Inode) (name : List ℕ) : Type 0 where
+  pub directory : IsDirectoryOf volume areas held hints truth tree handle inode
+  pub good : is_bad name ≡ false
+
+-- ---- the name
+
+-- an entry of a list has a name, and names a handle
+pub record Names (names : List Name) (name : List ℕ) (handle : ℕ) : Type 0 where
+  pub number : ℕ
+  pub is : entry_named names name ≡ Some (record { number = number; name = name; handle = handle })
+
+-- what looking for a name answers, by the list of entries: the handle that its entry names, if there is one
+abbrev pub FoundIn : List Name → List ℕ → Result (Option ℕ) Stop → Type 0
+FoundIn names name (Ok None) = entry_named names name ≡ None
+FoundIn names name (Ok (Some handle)) = Names names name handle
+FoundIn names name (Err (Status status)) = ⊥
+FoundIn names name (Err (Need at mode)) = Unit {0}
+FoundIn names name (Err (Inner blocks)) = ⊥
+FoundIn names name (Err OutOfMemory) = Unit {0}
+
+-- a search finds an entry of the name that names a handle
+pub record FindsEntry (held : Held) (hints : Hints) (root : ℕ) (name : List ℕ) (handle : ℕ) : Type 0 where
+  pub number : ℕ
+  pub found : Finds held hints root (name_key name) (Some (name_value number handle))
+
+-- what is answered where the call gives a reply and leaves the tree
+abbrev pub GivesIn : Tree → Making → Result Reply Stop → Type 0
+GivesIn tree making (Ok reply) = making ≡ Ok (Gives reply tree)
+GivesIn tree making (Err (Status status)) = making ≡ Err status
+GivesIn tree making (Err (Need at mode)) = Unit {0}
+GivesIn tree making (Err (Inner blocks)) = ⊥
+GivesIn tree making (Err OutOfMemory) = Unit {0}
+
+-- ---- the path
+
+-- the block of the inode of the file that has the name, shared
+pub record OnOver (held : Held) (hints : Hints) (root : ℕ) (name : List ℕ) (at : ℕ) (mode : Mode) : Type 0 where
+  pub handle : ℕ
+  pub finds : FindsEntry held hints root name handle
+  pub on : IsBlockOf handle at mode
+
+-- from a directory on by its inode: the search for the name; the file that has it, or that of placing the new file
+abbrev pub OnNamed : ℕ → Held → Hints → ℕ → Inode → List ℕ → ℕ → Mode → Type 0
+OnNamed areas held hints handle inode name at mode =
+    OnSearch held hints inode.tree (name_key name) at mode ⊎ (OnOver held hints inode.tree name at mode ⊎ OnPlacing areas held hints handle inode name at mode)
+
+-- from the directory that the call names, and that is held, on
+pub record OnDirectory (held : Held) (hints : Hints) (volume areas : ℕ) (bytes name : List ℕ) (at : ℕ) (mode : Mode) : Type 0 where
+  pub handle : ℕ
+  pub inode : Inode
+  pub is : IsHeldAt held hints volume areas bytes handle inode
+  pub on : OnNamed areas held hints handle inode name at mode
+
+-- The path of CREATE: the block of the directory's inode, exclusively, and that from there on.
+abbrev pub OnCreate : Held → Hints → ℕ → ℕ → List ℕ → List ℕ → ℕ → Mode → Type 0
+OnCreate held hints volume areas bytes name at mode = OnInode volume bytes Exclusive at mode ⊎ OnDirectory held hints volume areas bytes name at mode

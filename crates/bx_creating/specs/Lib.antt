@@ -1,0 +1,6 @@
+pub mod Inodes
+pub mod Finding
+pub mod Placing
+pub mod Making
+pub mod Creating
+pub mod Existing

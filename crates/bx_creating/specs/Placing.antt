@@ -1,0 +1,77 @@
+-- A new file, and the entry of a directory that names it.
+use Rattle.std.specs.Prelude.{◌≡◌, ℕ, ◌⊎◌, true, List, [], Result, Ok, Err}
+use Rattle.bx_adding.specs.Finding.{OnRoomPath}
+use Rattle.bx_base.specs.declared.names.Mode.{Mode}
+use Rattle.bx_changes.specs.Growing.{IsNearlyFull, LeavesTrees}
+use Rattle.bx_changes.specs.declared.error.ChangeError.{ChangeError}
+use Rattle.bx_changes.specs.declared.error.ChangeError.TheVariants.{Stopped, Full}
+use Rattle.bx_chunks.specs.Allocating.{AllocatesAt}
+use Rattle.bx_chunks.specs.declared.error.ChunkError.{ChunkError}
+use Rattle.bx_chunks.specs.declared.error.ChunkError.TheVariants as chunk
+use Rattle.bx_dirs.specs.Changes.{OnAddPath, entry_of}
+use Rattle.bx_handles.specs.Handles.{parts_of}
+use Rattle.bx_hints.specs.Fitting.{HintsFitAll}
+use Rattle.bx_inodes.specs.declared.stop.Stop.TheVariants.{Need, Inner, Status, OutOfMemory}
+use Rattle.bx_layout.specs.declared.inode.Inode.{Inode}
+use Rattle.bx_making.specs.Made.{MakesFile, file_of}
+use Rattle.bx_model.specs.Edits.{is_unused}
+use Rattle.bx_model.specs.Making.{with_made}
+use Rattle.bx_model.specs.declared.tree.Tree.{Tree}
+use Rattle.bx_records.specs.Drafts.{Changed}
+use Rattle.bx_tree_files.specs.declared.file.Body.{Body}
+use Rattle.bx_tree_files.specs.Times.{Time}
+use Rattle.bx_truth.specs.Stands.{StandsFor}
+use Rattle.bx_views.specs.Truths.{Held, Hints, Truth, with_draft}
+
+-- what stops a change whose call on chunks isn't answered: 70 is STALE
+abbrev pub StopsByChunks : ChunkError → ChangeError → Type 0
+StopsByChunks (chunk.Need at mode) stop = stop ≡ Stopped (Need at mode)
+StopsByChunks (chunk.Full spare) stop = stop ≡ Full spare
+StopsByChunks chunk.OutOfMemory stop = stop ≡ Stopped OutOfMemory
+StopsByChunks chunk.Stale stop = stop ≡ Stopped (Status 70)
+StopsByChunks chunk.Crowded stop = stop ≡ Stopped (Status 70)
+
+-- ---- a file is made
+
+-- What making a file answers, for a truth: it is full where fewer than 8 blocks are free, and the status never comes.
+abbrev pub MakesNew : ℕ → Truth → Tree → Inode → Body → Result (List Changed × ℕ) ChangeError → Type 0
+MakesNew areas truth tree inode body (Ok made) = MakesFile areas truth [] made.0 tree inode body made.1
+MakesNew areas truth tree inode body (Err (Full spare)) = IsNearlyFull areas truth spare
+MakesNew areas truth tree inode body (Err (Stopped (Need at mode))) = Unit {0}
+MakesNew areas truth tree inode body (Err (Stopped OutOfMemory)) = Unit {0}
+MakesNew areas truth tree inode body (Err (Stopped (Status status))) = ⊥
+MakesNew areas truth tree inode body (Err (Stopped (Inner blocks))) = ⊥
+
+-- the path: what taking a slot near an area needs
+pub record OnTaking (held : Held) (near areas at : ℕ) (mode : Mode) : Type 0 where
+  pub draft : List Changed
+  pub needs : AllocatesAt held draft draft near areas (Err (chunk.Need at mode))
+
+-- ---- and the entry that names it
+
+-- The handle was never given out. The truth with the draft stands for the tree with the file and the entry that names it, and all hints that
+-- fitted still fit.
+pub record Places (areas : ℕ) (truth : Truth) (tree : Tree) (handle : ℕ) (name : List ℕ) (now : Time) (inode : Inode) (body : Body) (draft : List Changed) (made : ℕ) : Type 0 where
+  pub unused : is_unused tree made ≡ true
+  pub stands : StandsFor areas (with_draft truth draft) (with_made tree handle name now (file_of inode made body))
+  pub leads : (hints : Hints) → HintsFitAll areas hints truth → HintsFitAll areas hints (with_draft truth draft)
+
+-- What placing a new file in a directory answers, by the tree.
+abbrev pub PlacesIn : ℕ → Truth → Tree → ℕ → List ℕ → Time → Inode → Body → Result (List Changed × ℕ) ChangeError → Type 0
+PlacesIn areas truth tree handle name now inode body (Ok made) = Places areas truth tree handle name now inode body made.0 made.1
+PlacesIn areas truth tree handle name now inode body (Err (Full spare)) = IsNearlyFull areas truth spare
+PlacesIn areas truth tree handle name now inode body (Err (Stopped (Inner blocks))) = LeavesTrees areas truth blocks
+PlacesIn areas truth tree handle name now inode body (Err (Stopped (Need at mode))) = Unit {0}
+PlacesIn areas truth tree handle name now inode body (Err (Stopped OutOfMemory)) = Unit {0}
+PlacesIn areas truth tree handle name now inode body (Err (Stopped (Status status))) = ⊥
+
+-- the path of the entry that names the file, once that is made
+pub record OnEntering (held : Held) (hints : Hints) (inode : Inode) (name : List ℕ) (at : ℕ) (mode : Mode) : Type 0 where
+  pub draft : List Changed
+  pub made : ℕ
+  pub on : OnAddPath held hints draft inode.tree (entry_of inode.next name made) at mode
+
+-- The path, from a directory on by its inode: that of the room for the entry, the slots of the file near the directory, and the entry.
+abbrev pub OnPlacing : ℕ → Held → Hints → ℕ → Inode → List ℕ → ℕ → Mode → Type 0
+OnPlacing areas held hints handle inode name at mode =
+    OnRoomPath areas held hints inode.tree name inode.next at mode ⊎ (OnTaking held (parts_of handle).area areas at mode ⊎ OnEntering held hints inode name at mode)

@@ -1,0 +1,69 @@
+//! MKDIR.
+
+ghost use Rattle.std.specs.Prelude.{◌≡◌, ◌≤◌, ℕ, length, IfErr, IfOk};
+ghost use Rattle.bx_changes.specs.Growing.{HoldsFirst, IsMaking, NeedsBy};
+ghost use Rattle.bx_hints.specs.Fitting.{HintsFitAll};
+ghost use Rattle.bx_inodes.specs.Stands.{Stands};
+ghost use Rattle.bx_model.specs.declared.tree.Tree.{Tree};
+ghost use Rattle.bx_model.specs.Making.{mkdir as mkdir_of};
+ghost use Rattle.bx_views.specs.Attempts.{IsHeldDraft};
+ghost use Rattle.bx_views.specs.Truths.{Hints, IsTruth, Truth, with_draft};
+ghost use Rattle.bx_creating.specs.Making.{OnMaking};
+
+use crate::finding::place_for;
+use crate::inodes::directory_inode;
+use crate::placing::place_new;
+use crate::telling::told_of;
+use bx_changes::ChangeError;
+use bx_inodes::Stop;
+use bx_model::{Call, Reply, Sattr};
+use bx_records::Draft;
+use bx_views::View;
+use std::alloc::Global;
+
+/// MKDIR (RFC 1094, section 2.2.15), of a volume with at most 64 areas: the blocks that it changes, the reply, and the number of the handle of the
+/// directory that it makes. That is empty, with a name in the directory that a file handle of the volume names.
+///
+/// `Need` names a block that isn't held: that of the directory's inode, exclusively, or, where that is held, one on the path of the search for the name,
+/// shared, one on the path of finding room for its entry, one that the new directory's slots want, exclusively, or one on the path of the entry,
+/// exclusively. `Inner` are blocks that make room for the entry. The status is `STALE`, exactly where the file handle names no file, else `NOTDIR`
+/// where that is no directory, `ACCES` of a bad name and where the caller may not change it, `EXIST` where an entry has the name, and `DQUOT` where it has
+/// no number left. `Full` comes behind these, where fewer than 8 blocks are free and one more is wanted. `now` is in seconds and microseconds.
+pub fn mkdir<V: View>(
+    alloc: Global,
+    volume: u64,
+    areas: u16,
+    call: &Call,
+    at: &[u8],
+    name: &[u8],
+    sattr: &Sattr,
+    now: (u32, u32),
+    view: &V,
+) -> Result<(Draft, Reply, u64), ChangeError>
+    requires areas { areas ≤ 64 }
+    requires name { length name.now ≤ 255 }
+    ensures step { (truth : Truth) (tree : Tree) → IsTruth (V.held view.now) truth → Stands volume areas truth tree → HintsFitAll areas (V.hints view.now) truth
+        → IsMaking volume areas truth tree (mkdir_of tree call.now at.now name.now sattr.now now) result }
+    ensures hints { (hints : Hints) (truth : Truth) (tree : Tree) → IsTruth (V.held view.now) truth → Stands volume areas truth tree → HintsFitAll areas (V.hints view.now) truth
+        → HintsFitAll areas hints truth → IfOk result (λ made. HintsFitAll areas hints (with_draft truth made.0)) }
+    ensures need { IfErr result (NeedsBy areas (V.held view.now) (OnMaking (V.held view.now) (V.hints view.now) volume areas at.now name.now)) }
+    ensures first { IfErr result (HoldsFirst (V.held view.now)) }
+    ensures held { IfOk result (λ made. IsHeldDraft (V.held view.now) made.0) }
+{
+    let directory = match place_for(alloc, volume, areas, call, at, name, view) {
+        Err(stop) => return Err(ChangeError::Stopped(stop)),
+        Ok(directory) => directory,
+    };
+    let parent = directory.handle;
+    let inode = directory_inode(alloc, call, sattr, now, parent);
+    match place_new(alloc, view, areas, directory, name, inode, now) {
+        Err(error) => Err(error),
+        Ok((draft, made)) => {
+            let inode = directory_inode(alloc, call, sattr, now, parent);
+            match told_of(alloc, volume, made, &inode) {
+                Err(_) => Err(ChangeError::Stopped(Stop::OutOfMemory)),
+                Ok(reply) => Ok((draft, reply, made)),
+            }
+        }
+    }
+}

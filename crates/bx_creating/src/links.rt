@@ -1,0 +1,64 @@
+//! SYMLINK.
+
+ghost use Rattle.std.specs.Prelude.{◌≡◌, ◌≤◌, ℕ, length, IfErr, IfOk};
+ghost use Rattle.bx_changes.specs.Growing.{HoldsFirst, IsMaking, NeedsBy};
+ghost use Rattle.bx_hints.specs.Fitting.{HintsFitAll};
+ghost use Rattle.bx_inodes.specs.Stands.{Stands};
+ghost use Rattle.bx_model.specs.declared.tree.Tree.{Tree};
+ghost use Rattle.bx_model.specs.Making.{symlink as symlink_of};
+ghost use Rattle.bx_views.specs.Attempts.{IsHeldDraft};
+ghost use Rattle.bx_views.specs.Truths.{Hints, IsTruth, Truth, with_draft};
+ghost use Rattle.bx_creating.specs.Making.{OnMaking};
+
+use crate::finding::place_for;
+use crate::inodes::link_inode;
+use crate::placing::place_new;
+use bx_base::Raw;
+use bx_changes::ChangeError;
+use bx_inodes::Stop;
+use bx_model::{Call, NFS_OK, Reply, Sattr};
+use bx_records::Draft;
+use bx_views::View;
+use std::alloc::Global;
+
+/// SYMLINK (RFC 1094, section 2.2.14), of a volume with at most 64 areas: the blocks that it changes, the reply, and the number of the handle of the link
+/// that it makes. That has the path, and a name in the directory that a file handle of the volume names.
+///
+/// `Need`, `Inner`, `Full` and the status come as they do of MKDIR. `now` is in seconds and microseconds.
+pub fn symlink<V: View>(
+    alloc: Global,
+    volume: u64,
+    areas: u16,
+    call: &Call,
+    at: &[u8],
+    name: &[u8],
+    path: &[u8],
+    sattr: &Sattr,
+    now: (u32, u32),
+    view: &V,
+) -> Result<(Draft, Reply, u64), ChangeError>
+    requires areas { areas ≤ 64 }
+    requires name { length name.now ≤ 255 }
+    requires path { length path.now ≤ 1024 }
+    ensures step { (truth : Truth) (tree : Tree) → IsTruth (V.held view.now) truth → Stands volume areas truth tree → HintsFitAll areas (V.hints view.now) truth
+        → IsMaking volume areas truth tree (symlink_of tree call.now at.now name.now path.now sattr.now now) result }
+    ensures hints { (hints : Hints) (truth : Truth) (tree : Tree) → IsTruth (V.held view.now) truth → Stands volume areas truth tree → HintsFitAll areas (V.hints view.now) truth
+        → HintsFitAll areas hints truth → IfOk result (λ made. HintsFitAll areas hints (with_draft truth made.0)) }
+    ensures need { IfErr result (NeedsBy areas (V.held view.now) (OnMaking (V.held view.now) (V.hints view.now) volume areas at.now name.now)) }
+    ensures first { IfErr result (HoldsFirst (V.held view.now)) }
+    ensures held { IfOk result (λ made. IsHeldDraft (V.held view.now) made.0) }
+{
+    let directory = match place_for(alloc, volume, areas, call, at, name, view) {
+        Err(stop) => return Err(ChangeError::Stopped(stop)),
+        Ok(directory) => directory,
+    };
+    let path = match Raw::of(alloc, path) {
+        Err(_) => return Err(ChangeError::Stopped(Stop::OutOfMemory)),
+        Ok(path) => path,
+    };
+    let inode = link_inode(alloc, call, sattr, now, path);
+    match place_new(alloc, view, areas, directory, name, inode, now) {
+        Err(error) => Err(error),
+        Ok((draft, made)) => Ok((draft, Reply::Status(NFS_OK), made)),
+    }
+}

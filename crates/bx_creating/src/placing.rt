@@ -1,0 +1,138 @@
+//! New files in directories.
+
+ghost use Rattle.std.specs.Prelude.{◌≡◌, ◌≤◌, ℕ, length, IfErr, IfOk, IsSome};
+ghost use Rattle.bx_base.specs.declared.names.Mode.TheVariants.{Exclusive};
+ghost use Rattle.bx_changes.specs.Growing.{HoldsFirst, NeedsBy};
+ghost use Rattle.bx_layout.specs.Inodes.{IsInode};
+ghost use Rattle.bx_model.specs.declared.tree.Tree.{Tree};
+ghost use Rattle.bx_tree_files.specs.declared.file.Body.{Body};
+ghost use Rattle.bx_tree_files.specs.declared.file.Body.TheVariants.{Path};
+ghost use Rattle.bx_truth.specs.Chunks.{block_at};
+ghost use Rattle.bx_truth.specs.Making.{IsEmptyBody};
+ghost use Rattle.bx_truth.specs.Stands.{StandsFor};
+ghost use Rattle.bx_views.specs.Attempts.{IsHeldDraft};
+ghost use Rattle.bx_views.specs.Truths.{IsTruth, Truth};
+ghost use Rattle.bx_adding.specs.Stopping.{NeverFirst};
+ghost use Rattle.bx_creating.specs.Finding.{IsPlaceFor};
+ghost use Rattle.bx_creating.specs.Inodes.{IsNewBody};
+ghost use Rattle.bx_creating.specs.Placing.{MakesNew, OnPlacing, OnTaking, PlacesIn};
+
+use crate::stops::chunk_error;
+use bx_adding::{enter, room_for};
+use bx_changes::ChangeError;
+use bx_entries::Known;
+use bx_handles::ChunkHandle;
+use bx_layout::Inode;
+use bx_making::{make, make_link};
+use bx_records::Draft;
+use bx_tree_files::{DIRECTORY, LINK};
+use bx_views::View;
+use std::alloc::Global;
+
+/// Makes a file with an inode, and puts an entry of a name for it into a directory, by the directory's inode, which is changed now, in seconds and
+/// microseconds: the draft that does so, and the number of the file's handle. Room for the entry is found first; the file's slots are looked for in
+/// the directory's area first.
+///
+/// `Need` names a block of the volume that isn't held: one on the path of `room_for`, one that the file's slots want, exclusively, or one on the path of
+/// the entry, exclusively. `Inner` and `Full` come as they do of `room_for`; `Full` also where the volume has no slot left for the file. The status is
+/// `STALE` where what is held is no directory into which the entry may come: where it may, it never comes.
+pub(crate) fn place_new<V: View>(
+    alloc: Global,
+    view: &V,
+    areas: u16,
+    directory: Known,
+    name: &[u8],
+    inode: Inode,
+    now: (u32, u32),
+) -> Result<(Draft, u64), ChangeError>
+    requires directory { IsInode directory.inode }
+    requires name { length name.now ≤ 255 }
+    requires inode { IsInode inode }
+    ensures step { (volume : ℕ) (truth : Truth) (tree : Tree) (body : Body) → IsPlaceFor volume areas (V.held view.now) (V.hints view.now) truth tree directory.handle directory.inode name.now → IsNewBody inode body
+        → PlacesIn areas truth tree directory.handle name.now now inode body result }
+    ensures need { IfErr result (NeedsBy areas (V.held view.now) (OnPlacing areas (V.held view.now) (V.hints view.now) directory.handle directory.inode name.now)) }
+    ensures first { IfErr result (HoldsFirst (V.held view.now)) }
+    ensures held { IsSome (V.held view.now (block_at directory.handle) Exclusive) → IfOk result (λ made. IsHeldDraft (V.held view.now) made.0) }
+{
+    match room_for(alloc, view, areas, &directory, name) {
+        Err(error) => return Err(error),
+        Ok(()) => {}
+    }
+    let counts = inode.kind == DIRECTORY;
+    let near = ChunkHandle::of(directory.handle).area;
+    match make_new(alloc, view, inode, near, areas) {
+        Err(error) => Err(error),
+        Ok((draft, made)) => match enter(
+            alloc, draft, view, areas, directory, name, made, counts, now,
+        ) {
+            Err(error) => Err(error),
+            Ok(draft) => Ok((draft, made)),
+        },
+    }
+}
+
+/// Makes a file with an inode near an area: the draft that does so, and the number of its handle.
+fn make_new<V: View>(
+    alloc: Global,
+    view: &V,
+    inode: Inode,
+    near: u16,
+    areas: u16,
+) -> Result<(Draft, u64), ChangeError>
+    requires { IsInode inode }
+    ensures step { (truth : Truth) (tree : Tree) (body : Body) → areas ≤ 64 → IsTruth (V.held view.now) truth → StandsFor areas truth tree → IsNewBody inode body → MakesNew areas truth tree inode body result }
+    ensures need { IfErr result (NeedsBy areas (V.held view.now) (OnTaking (V.held view.now) near areas)) }
+    ensures inner { IfErr result NeverFirst }
+    ensures held { IfOk result (λ made. IsHeldDraft (V.held view.now) made.0) }
+    ensures few { IfOk result (λ made. length made.0 ≤ 13) }
+{
+    if inode.kind == LINK {
+        return new_link(alloc, view, &inode, near, areas);
+    }
+    new_file(alloc, view, inode, near, areas)
+}
+
+/// The same of a link.
+fn new_link<V: View>(
+    alloc: Global,
+    view: &V,
+    inode: &Inode,
+    near: u16,
+    areas: u16,
+) -> Result<(Draft, u64), ChangeError>
+    requires { IsInode inode.now }
+    ensures step { (truth : Truth) (tree : Tree) → areas ≤ 64 → IsTruth (V.held view.now) truth → StandsFor areas truth tree → inode.now.kind ≡ 5 → inode.now.tree ≡ 0
+        → MakesNew areas truth tree inode.now (Path inode.now.path) result }
+    ensures need { IfErr result (NeedsBy areas (V.held view.now) (OnTaking (V.held view.now) near areas)) }
+    ensures inner { IfErr result NeverFirst }
+    ensures held { IfOk result (λ made. IsHeldDraft (V.held view.now) made.0) }
+    ensures few { IfOk result (λ made. length made.0 ≤ 13) }
+{
+    let mut draft = Draft::new(alloc);
+    match make_link(alloc, &mut draft, view, inode, near, areas) {
+        Err(error) => Err(chunk_error(error)),
+        Ok(handle) => Ok((draft, handle)),
+    }
+}
+
+/// The same of a file with a tree.
+fn new_file<V: View>(
+    alloc: Global,
+    view: &V,
+    inode: Inode,
+    near: u16,
+    areas: u16,
+) -> Result<(Draft, u64), ChangeError>
+    requires { IsInode inode }
+    ensures step { (truth : Truth) (tree : Tree) (body : Body) → areas ≤ 64 → IsTruth (V.held view.now) truth → StandsFor areas truth tree → IsEmptyBody inode body → MakesNew areas truth tree inode body result }
+    ensures need { IfErr result (NeedsBy areas (V.held view.now) (OnTaking (V.held view.now) near areas)) }
+    ensures inner { IfErr result NeverFirst }
+    ensures held { IfOk result (λ made. IsHeldDraft (V.held view.now) made.0) }
+    ensures few { IfOk result (λ made. length made.0 ≤ 13) }
+{
+    let mut draft = Draft::new(alloc);
+    match make(alloc, &mut draft, view, inode, near, areas) {
+        Err(error) => Err(chunk_error(error)),
+        Ok(handle) => Ok((draft, handle)),
+    }
+}

@@ -1,0 +1,37 @@
+use Rattle.std.proofs.Common.{inl, inr, sym}
+use Rattle.bx_dirs.specs.Changes.{OnAddPath, entry_of}
+use Rattle.bx_model.specs.Reading.{named_file}
+use Rattle.bx_linking.specs.Linking.{OnInto, OnTest, linking}
+use Rattle.bx_linking.proofs.Comes.{both, into, is_linked, needs_by, needs_if, no_directory, no_name, not_linked}
+use Rattle.bx_linking.proofs.places.link_into.Goals as goal
+
+pub returns-in_default-clause-step : goal.returns-in_default-clause-step
+returns-in_default-clause-step g c = λ truth tree same s fit is. no_name tree c.args.call.now is.file c.args.name.now c.args.now c.args.volume c.args.at.now s.volume_is c.in_default.ensures
+
+pub returns-in-Err-clause-step : goal.returns-in-Err-clause-step
+returns-in-Err-clause-step g c = λ truth tree same s fit is. no_directory tree c.args.call.now is.file c.args.name.now c.args.now c.args.volume c.args.at.now s.volume_is c.in-Some.handle c.in-Some.ensures c.args.areas truth c.in-Err.stop (c.in-Err.ensures.step truth tree same s.is)
+
+pub returns-in-Err-may_link-clause-step : goal.returns-in-Err-may_link-clause-step
+returns-in-Err-may_link-clause-step g c = λ truth tree same s fit is.
+    let m = c.in-Ok.ensures.step truth tree same s.is in
+    let b = both tree c.args.call.now is.file c.args.name.now c.args.now c.args.volume c.args.at.now s.volume_is c.in-Some.handle c.in-Some.ensures c.args.areas truth c.in-Ok.inode m (g.V.View.held c.args.view.now) (g.V.View.hints c.args.view.now) c.args.file.inode c.args.file.handle c.requires.few same s fit is in
+    not_linked c.args.areas truth (λ spare. linking tree c.args.call.now is.file c.args.name.now c.args.now spare (named_file tree c.args.at.now)) tree is.file m.at.file c.args.name.now c.args.now (into tree c.args.call.now is.file c.args.name.now c.args.now c.args.volume c.args.at.now s.volume_is c.in-Some.handle c.in-Some.ensures c.args.areas truth c.in-Ok.inode m) (g.V.View.held c.args.view.now) c.in-Ok.inode c.in-Err-may_link.error
+    (c.in-Err-may_link.ensures.step c.args.volume truth tree b)
+
+pub returns-in-Err-may_link-clause-need : goal.returns-in-Err-may_link-clause-need
+returns-in-Err-may_link-clause-need g c =
+    needs_by c.args.areas (g.V.View.held c.args.view.now) (OnTest c.args.areas (g.V.View.held c.args.view.now) (g.V.View.hints c.args.view.now) c.in-Ok.inode c.args.name.now) (OnInto (g.V.View.held c.args.view.now) (g.V.View.hints c.args.view.now) c.args.volume c.args.areas c.args.file.handle c.args.at.now c.args.name.now)
+    (λ at mode on. inr (record { directory = c.in-Some.handle; inode = c.in-Ok.inode; is_named = sym c.in-Some.ensures; live = c.in-Ok.ensures.live; on = inl on })) c.in-Err-may_link.error c.in-Err-may_link.ensures.need
+
+pub returns-in-Ok-may_link-clause-step : goal.returns-in-Ok-may_link-clause-step
+returns-in-Ok-may_link-clause-step g c = λ truth tree same s fit is.
+    let m = c.in-Ok.ensures.step truth tree same s.is in
+    let b = both tree c.args.call.now is.file c.args.name.now c.args.now c.args.volume c.args.at.now s.volume_is c.in-Some.handle c.in-Some.ensures c.args.areas truth c.in-Ok.inode m (g.V.View.held c.args.view.now) (g.V.View.hints c.args.view.now) c.args.file.inode c.args.file.handle c.requires.few same s fit is in
+    let may = c.in-Ok-may_link.ensures.step c.args.volume truth tree b in
+    is_linked c.args.areas truth (λ spare. linking tree c.args.call.now is.file c.args.name.now c.args.now spare (named_file tree c.args.at.now)) tree is.file m.at.file c.args.name.now c.args.now (into tree c.args.call.now is.file c.args.name.now c.args.now c.args.volume c.args.at.now s.volume_is c.in-Some.handle c.in-Some.ensures c.args.areas truth c.in-Ok.inode m) may.none c.link_file.result
+    (c.link_file.ensures.step c.args.volume truth tree b may)
+
+pub returns-in-Ok-may_link-clause-need : goal.returns-in-Ok-may_link-clause-need
+returns-in-Ok-may_link-clause-need g c =
+    needs_if c.args.areas (g.V.View.held c.args.view.now) (OnAddPath (g.V.View.held c.args.view.now) (g.V.View.hints c.args.view.now) _ c.in-Ok.inode.tree (entry_of c.in-Ok.inode.next c.args.name.now c.args.file.handle)) (OnInto (g.V.View.held c.args.view.now) (g.V.View.hints c.args.view.now) c.args.volume c.args.areas c.args.file.handle c.args.at.now c.args.name.now)
+    (λ at mode on. inr (record { directory = c.in-Some.handle; inode = c.in-Ok.inode; is_named = sym c.in-Some.ensures; live = c.in-Ok.ensures.live; on = inr on })) c.link_file.result c.link_file.ensures.need

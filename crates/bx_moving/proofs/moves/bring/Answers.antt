@@ -1,0 +1,17 @@
+use Rattle.std.proofs.Common.{[], refl}
+use Rattle.bx_moving.specs.Moves.{brought, cleared}
+use Rattle.bx_moving.proofs.Brought.{may_come}
+use Rattle.bx_moving.proofs.Steps.{next_rests, stops_by, then_grows}
+use Rattle.bx_moving.proofs.moves.bring.Goals as goal
+
+pub returns-in-Err-clause-step : goal.returns-in-Err-clause-step
+returns-in-Err-clause-step g c = λ truth tree old_name m.
+    stops_by c.args.areas truth [] [] (cleared c.args.now tree c.args.moving.target c.args.name.now c.args.replaced) (brought c.args.now tree c.args.moving c.args.name.now c.args.replaced) c.in-Err.stop (c.in-Err.ensures.step truth tree c.args.moving old_name m refl)
+
+pub returns-in-Ok-clause-step : goal.returns-in-Ok-clause-step
+returns-in-Ok-clause-step g c = λ truth tree old_name m.
+    let e = c.in-Ok.ensures.step truth tree c.args.moving old_name m refl in
+    let r = next_rests c.args.areas (g.V.View.held c.args.view.now) (g.V.View.hints c.args.view.now) truth [] c.in-Ok.draft tree (cleared c.args.now tree c.args.moving.target c.args.name.now c.args.replaced) m.rests e in
+    let k = may_come c.args.areas (g.V.View.held c.args.view.now) (g.V.View.hints c.args.view.now) truth tree c.args.moving old_name c.args.name.now c.args.replaced c.args.now m c.args.replaced m.other in
+    then_grows c.args.areas truth [] c.in-Ok.draft (cleared c.args.now tree c.args.moving.target c.args.name.now c.args.replaced) (brought c.args.now tree c.args.moving c.args.name.now c.args.replaced) e c.come.result
+    (c.come.ensures.step truth (cleared c.args.now tree c.args.moving.target c.args.name.now c.args.replaced) k.file k.parent k.next k.names r k.there k.body k.absent k.numbered k.left (c.in-Ok.ensures.rooms truth tree c.args.moving old_name m refl))

@@ -1,0 +1,63 @@
+//! Entries that come into directories.
+
+ghost use Rattle.std.specs.Prelude.{◌≡◌, ◌+◌, ◌<◌, ◌≤◌, ℕ, List, None, Some, length, IfErr, IfOk};
+ghost use Rattle.bx_changes.specs.Growing.{HoldsFirst, NeedsBy};
+ghost use Rattle.bx_model.specs.declared.tree.Tree.{Tree};
+ghost use Rattle.bx_model.specs.Edits.{changed};
+ghost use Rattle.bx_tree_files.specs.declared.file.Body.TheVariants.{Names};
+ghost use Rattle.bx_tree_files.specs.declared.file.File.{File};
+ghost use Rattle.bx_tree_files.specs.declared.file.Name.{Name};
+ghost use Rattle.bx_tree_files.specs.Changes.{entered};
+ghost use Rattle.bx_tree_files.specs.Entries.{entry_named};
+ghost use Rattle.bx_tree_files.specs.Files.{IsNumbered, file_at};
+ghost use Rattle.bx_views.specs.Attempts.{IsHeldDraft};
+ghost use Rattle.bx_views.specs.Truths.{Truth};
+ghost use Rattle.bx_moving.specs.Edits.{GrowsTo, HasRoomFor, OnComing, Rests};
+
+use bx_adding::enter;
+use bx_base::Mode;
+use bx_changes::ChangeError;
+use bx_entries::Known;
+use bx_inodes::inode_at;
+use bx_records::Draft;
+use bx_views::View;
+use std::alloc::Global;
+
+/// Puts an entry with a name into the directory with a handle, which is changed now, in seconds and microseconds: the draft with that. The entry takes
+/// the directory's next number and names the file with a handle; a directory that comes in counts among the directory's links.
+///
+/// `Need` names the block of the directory's inode, exclusively, or one on the path of the two changes of its tree over the draft. The status is `STALE`
+/// where no such entry may come into the directory: where it may, it never comes.
+pub fn come<V: View>(
+    alloc: Global,
+    draft: Draft,
+    view: &V,
+    areas: u16,
+    directory: u64,
+    name: &[u8],
+    made: u64,
+    counts: bool,
+    now: (u32, u32),
+) -> Result<Draft, ChangeError>
+    requires name { length name.now ≤ 255 }
+    requires few { length draft ≤ 13 }
+    ensures step { (truth : Truth) (tree : Tree) (file : File) (parent next : ℕ) (names : List Name) → Rests areas (V.held view.now) (V.hints view.now) truth draft tree
+        → file_at tree.files directory ≡ Some file → file.body ≡ Names parent next names → entry_named names name.now ≡ None → IsNumbered file.nlink file.body → next < 4294967295
+        → HasRoomFor areas (V.held view.now) truth draft directory name.now
+        → GrowsTo areas truth draft (changed tree directory (entered now name.now made counts)) result }
+    ensures need { IfErr result (NeedsBy areas (V.held view.now) (OnComing (V.held view.now) (V.hints view.now) areas draft directory name.now made)) }
+    ensures first { IfErr result (HoldsFirst (V.held view.now)) }
+    ensures held { IsHeldDraft (V.held view.now) draft → IfOk result (IsHeldDraft (V.held view.now)) }
+    ensures few { IfOk result (λ new. length new ≤ length draft + 3) }
+{
+    match inode_at(alloc, &draft, view, areas, directory, Mode::Exclusive) {
+        Err(stop) => Err(ChangeError::Stopped(stop)),
+        Ok(inode) => {
+            let known = Known {
+                handle: directory,
+                inode,
+            };
+            enter(alloc, draft, view, areas, known, name, made, counts, now)
+        }
+    }
+}

@@ -1,9 +1,0 @@
-use Rattle.bx_paxos_cluster.specs.Beginning.{AreNew}
-use Rattle.bx_paxos_cluster.proofs.Beginnings.{AreMadeTo}
-use Rattle.bx_paxos_cluster.proofs.making.make_all.Given as goal
-
-abbrev pub invariant-loop-place : goal.invariant-loop-place
-invariant-loop-place l = record {
-  made : AreMadeTo l.nodes l.state l.place l.all.items;
-  fresh : AreNew l.state l.all.items;
-}

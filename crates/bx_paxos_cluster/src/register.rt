@@ -1,0 +1,96 @@
+//! The register as the layers above know it.
+
+use crate::paxos::Paxos;
+use bx_base::Actor;
+use bx_disk::Rack;
+use bx_facts::{FactError, Input, OpenError, Outbox, ProposeError, Register};
+use bx_global::{Change, GlobalState};
+
+impl Register for Paxos {
+    ghost use Rattle.bx_paxos.specs.Reading.{ReadsState};
+    ghost use Rattle.bx_paxos_machines.specs.Beginning.{AreNew};
+    ghost use Rattle.bx_paxos_machines.specs.Cluster.{is_busy as busy_in, knows as known_in, needs as needed_in};
+    ghost use Rattle.bx_paxos_machines.specs.Keeps.{Keeps};
+    ghost use Rattle.bx_paxos_cluster.specs.Laws.{begins_allowed, elsewhere, legal, loses, needs_little, needs_none, places, reads_next, reads_some, survives};
+
+    ghost made = { λ g. g.made };
+
+    ghost nodes = { λ g. g.nodes };
+
+    ghost is_new = { λ g. AreNew g.first g.machines };
+
+    ghost knows = { λ g who. known_in g who };
+
+    ghost is_busy = { λ g who. busy_in g who };
+
+    ghost needs = { λ g disk. needed_in g disk };
+
+    ghost keeps = { λ g x past. Keeps g x past };
+
+    ghost reads_as = { λ made image s. ReadsState made image s };
+
+    fn known(&self, who: Actor) -> &GlobalState {
+        Paxos::known(self, who)
+    }
+
+    fn propose(
+        &mut self,
+        who: Actor,
+        change: &Change,
+        out: &mut Outbox,
+    ) -> Result<(), ProposeError> {
+        Paxos::propose(self, who, change, out)
+    }
+
+    fn take<R: Rack>(
+        &mut self,
+        rack: &mut R,
+        at: Actor,
+        input: &Input,
+        out: &mut Outbox,
+    ) -> Result<(), FactError> {
+        Paxos::take(self, rack, at, input, out)
+    }
+
+    fn crash(&mut self, who: Actor) {
+        Paxos::crash(self, who);
+    }
+
+    fn restart<R: Rack>(
+        &mut self,
+        rack: &mut R,
+        who: Actor,
+        boot: u64,
+        out: &mut Outbox,
+    ) -> Result<(), FactError> {
+        Paxos::restart(self, rack, who, boot, out)
+    }
+
+    fn format<R: Rack>(&mut self, rack: &mut R) -> Result<(), FactError> {
+        Paxos::format(self, rack)
+    }
+
+    fn open<R: Rack>(&mut self, rack: &mut R) -> Result<u64, OpenError> {
+        Paxos::open(self, rack)
+    }
+
+    ghost places = { places };
+
+    ghost legal = { legal };
+
+    ghost begins_allowed = { begins_allowed };
+
+    ghost reads_next = { reads_next };
+
+    ghost reads_some = { reads_some };
+
+    ghost elsewhere = { elsewhere };
+
+    ghost survives = { survives };
+
+    ghost loses = { loses };
+
+    ghost needs_little = { needs_little };
+
+    ghost needs_none = { needs_none };
+}

@@ -1,0 +1,4 @@
+pub mod Chosen
+pub mod Sectors
+pub mod Threes
+pub mod Views

@@ -1,0 +1,4 @@
+pub mod Boots
+pub mod Choosing
+pub mod Finding
+pub mod Origins

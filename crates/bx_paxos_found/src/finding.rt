@@ -1,0 +1,58 @@
+//! The state of the cluster, read off the disks of replicas.
+
+ghost use Rattle.std.specs.Prelude.{◌≡◌, ℕ, ◌+◌, ◌^◌, ◌<◌, ◌≤◌, length, Option, IfOk, IsErrOf, OnOk, IsTrue, slice_index};
+ghost use Rattle.bx_base.specs.Faults.{Rose};
+ghost use Rattle.bx_cell.specs.Images.{EachSure};
+ghost use Rattle.bx_disk.specs.Counts.{NoneFalls};
+ghost use Rattle.bx_facts.specs.Chains.{IsAboveBoots};
+ghost use Rattle.bx_facts.specs.Disks.{SameDisks};
+ghost use Rattle.bx_facts.specs.declared.input.OpenError.TheVariants.{Disk as OpenFails};
+ghost use Rattle.bx_global.specs.Allowed.{IsAllowed};
+ghost use Rattle.bx_global.specs.declared.held.Held.{Held};
+ghost use Rattle.bx_global.specs.declared.state.GlobalState.{GlobalState};
+ghost use Rattle.bx_paxos.specs.Reading.{ReadsState};
+ghost use Rattle.bx_paxos.specs.Shown.{HasFound, StandsAsFound};
+ghost use Rattle.bx_paxos_found.specs.Origins.{origin_in};
+
+use crate::looking::look;
+use crate::making::{FoundState, make};
+use bx_disk::Rack;
+use bx_facts::OpenError;
+use std::alloc::Global;
+
+/// How many sectors a replica's disk has: its label, and its cell.
+const SECTORS: u64 = 21;
+
+/// Whether a rack has the disks of three replicas.
+fn has_replicas<R: Rack>(rack: &R) -> bool
+    ensures { IsTrue result → (n : ℕ) → n < 3 → 21 ≤ slice_index (R.state rack.now).sizes n }
+{
+    if rack.disks() < 3 {
+        return false;
+    }
+    rack.sectors(0) >= SECTORS && rack.sectors(1) >= SECTORS && rack.sectors(2) >= SECTORS
+}
+
+/// Makes the disks of replicas sure, and reads the cluster's state off them, for a volume of so many devices. `NoMajority` where fewer than two
+/// have a label and a cell that can be read, or no index is left behind the state; `Spent` where no boot is left.
+pub fn find<R: Rack>(alloc: Global, rack: &mut R, devices: u32) -> Result<FoundState, OpenError>
+    ensures reads { (made : GlobalState) → length made.devices ≡ devices → R.tells rack.old → IfOk result (λ f. ReadsState made (R.state rack.old).reads f.state) }
+    ensures found { R.tells rack.old → IfOk result (λ f. (was : ℕ → Option Held) × HasFound f.state (origin_in f.origins) was × EachSure (R.state rack.new) (StandsAsFound f.state (origin_in f.origins) was)) }
+    ensures allowed { IfOk result (λ f. IsAllowed f.state) }
+    ensures devices { IfOk result (λ f. length f.state.devices ≡ devices) }
+    ensures index { IfOk result (λ f. f.state.index + 1 < 2 ^ 64) }
+    ensures boots { IfOk result (λ f. IsAboveBoots f.state (f.boot + 1)) }
+    ensures disks { R.tells rack.old → SameDisks (R.state rack.old) (R.state rack.new) }
+    ensures cause { IsErrOf result OpenFails → Rose (R.faults rack.old) (R.faults rack.new) }
+    ensures later { NoneFalls (R.faults rack.old) (R.faults rack.new) (R.faults_of rack.old) (R.faults_of rack.new) }
+    ensures sizes { (R.state rack.new).sizes ≡ (R.state rack.old).sizes }
+    ensures keeps_telling { R.tells rack.old → R.tells rack.new }
+{
+    if !has_replicas(rack) {
+        return Err(OpenError::NoMajority);
+    }
+    let first = look(alloc, rack, 0, devices)?;
+    let second = look(alloc, rack, 1, devices)?;
+    let third = look(alloc, rack, 2, devices)?;
+    make(first, second, third)
+}

@@ -1,0 +1,113 @@
+//! The disk of a replica, looked at.
+
+ghost use Rattle.std.specs.Prelude.{◌≡◌, ℕ, ◌≤◌, ◌↔◌, IfOk, IfSome, IfNone, IsErrOf, IsTrue, OnErr, OnOk, slice_index};
+ghost use Rattle.bx_acceptor.specs.Standing.{IsFound, IsNotFound};
+ghost use Rattle.bx_base.specs.Faults.{Rose};
+ghost use Rattle.bx_calls.specs.Regions.{IsSynced};
+ghost use Rattle.bx_cell.specs.Halves.{Found};
+ghost use Rattle.bx_disk.specs.Counts.{NoneFalls};
+ghost use Rattle.bx_facts.specs.Disks.{SameDisks};
+ghost use Rattle.bx_facts.specs.declared.input.OpenError.TheVariants.{Disk as OpenFails};
+ghost use Rattle.bx_global.specs.Bytes.{IsHeld};
+ghost use Rattle.bx_layout.specs.Labels.{SpellsLabel};
+ghost use Rattle.bx_layout.specs.declared.label.Label.{Label};
+ghost use Rattle.bx_paxos.specs.Shown.{HasLabel};
+ghost use Rattle.bx_paxos_found.specs.Finding.{IsSeen};
+
+use bx_calls::read_sectors;
+use bx_cell::{Cell, CellError};
+use bx_disk::{DiskFault, Rack};
+use bx_facts::OpenError;
+use bx_global::Held;
+use bx_layout::Label;
+use std::alloc::Global;
+
+/// The first sector of the cell, behind the label.
+const CELL: u64 = 1;
+
+/// What is seen of a replica that counts.
+#[derive(Drop)]
+pub struct Seen {
+    /// The number of its cell.
+    pub number: u64,
+    /// What the cell has.
+    pub held: Held,
+}
+
+/// Makes the disk of a replica sure, and reads its cell; `None` exactly where none can be read.
+fn cell_on<R: Rack>(
+    alloc: Global,
+    rack: &mut R,
+    replica: u32,
+    devices: u32,
+) -> Result<Option<Seen>, OpenError>
+    requires { 21 ≤ slice_index (R.state rack.old).sizes replica }
+    ensures some { R.tells rack.old → IfOk result (λ seen. IfSome seen (λ x. (found : Found) × (found.number ≡ x.number) × IsFound devices ((R.state rack.old).reads replica) found x.held)) }
+    ensures none { R.tells rack.old → IfOk result (λ seen. IfNone seen (IsNotFound devices ((R.state rack.old).reads replica))) }
+    ensures held { IfOk result (λ seen. IfSome seen (λ x. IsHeld devices x.held)) }
+    ensures sure { R.tells rack.old → OnOk result (IsSynced (R.state rack.new) replica) }
+    ensures disks { R.tells rack.old → SameDisks (R.state rack.old) (R.state rack.new) }
+    ensures cause { IsErrOf result OpenFails → Rose (R.faults rack.old) (R.faults rack.new) }
+    ensures later { NoneFalls (R.faults rack.old) (R.faults rack.new) (R.faults_of rack.old) (R.faults_of rack.new) }
+    ensures sizes { (R.state rack.new).sizes ≡ (R.state rack.old).sizes }
+    ensures keeps_telling { R.tells rack.old → R.tells rack.new }
+{
+    let cell = match Cell::open(alloc, rack, replica, CELL) {
+        Ok(cell) => cell,
+        Err(CellError::NoCell) => return Ok(None),
+        Err(CellError::DiskFault) => return Err(OpenError::Disk),
+        Err(CellError::OutOfMemory) => return Err(OpenError::OutOfMemory),
+    };
+    match Held::read(alloc, cell.get(), devices) {
+        Ok(Some(held)) => Ok(Some(Seen {
+            number: cell.number(),
+            held,
+        })),
+        Ok(None) => Ok(None),
+        Err(_) => Err(OpenError::OutOfMemory),
+    }
+}
+
+/// Whether a disk has a label.
+fn is_labelled<R: Rack>(rack: &mut R, disk: u32) -> Result<bool, DiskFault>
+    requires { 21 ≤ slice_index (R.state rack.old).sizes disk }
+    ensures is { R.tells rack.old → IfOk result (λ answer. IsTrue answer ↔ HasLabel ((R.state rack.old).reads disk 0)) }
+    ensures stays { R.state rack.new ≡ R.state rack.old }
+    ensures cause { OnErr result (Rose (R.faults rack.old) (R.faults rack.new)) }
+    ensures later { NoneFalls (R.faults rack.old) (R.faults rack.new) (R.faults_of rack.old) (R.faults_of rack.new) }
+    ensures keeps_telling { R.tells rack.old → R.tells rack.new }
+{
+    let mut sector = [0; 512];
+    read_sectors(rack, disk, 0, &mut sector)?;
+    match Label::read(&sector) {
+        Some(_label) => Ok(true),
+        None => Ok(false),
+    }
+}
+
+/// Makes the disk of a replica sure, and looks at it: `None` exactly where it has no label, or no cell that can be read.
+pub(crate) fn look<R: Rack>(
+    alloc: Global,
+    rack: &mut R,
+    replica: u32,
+    devices: u32,
+) -> Result<Option<Seen>, OpenError>
+    requires { 21 ≤ slice_index (R.state rack.old).sizes replica }
+    ensures seen { R.tells rack.old → IfOk result (IsSeen devices ((R.state rack.old).reads replica)) }
+    ensures held { IfOk result (λ seen. IfSome seen (λ x. IsHeld devices x.held)) }
+    ensures sure { R.tells rack.old → OnOk result (IsSynced (R.state rack.new) replica) }
+    ensures disks { R.tells rack.old → SameDisks (R.state rack.old) (R.state rack.new) }
+    ensures cause { IsErrOf result OpenFails → Rose (R.faults rack.old) (R.faults rack.new) }
+    ensures later { NoneFalls (R.faults rack.old) (R.faults rack.new) (R.faults_of rack.old) (R.faults_of rack.new) }
+    ensures sizes { (R.state rack.new).sizes ≡ (R.state rack.old).sizes }
+    ensures keeps_telling { R.tells rack.old → R.tells rack.new }
+{
+    let Some(seen) = cell_on(alloc, rack, replica, devices)? else {
+        return Ok(None);
+    };
+    match is_labelled(rack, replica) {
+        Ok(true) => Ok(Some(seen)),
+        Ok(false) => Ok(None),
+        Err(DiskFault) => Err(OpenError::Disk),
+    }
+}

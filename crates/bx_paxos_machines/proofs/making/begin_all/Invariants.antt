@@ -1,0 +1,16 @@
+use Rattle.std.proofs.Common.{◌≡◌}
+use Rattle.bx_disk.specs.Counts.{NoneFalls}
+use Rattle.bx_paxos_machines.specs.Beginning.{AreBegun, AreIdle, HasFirst, IsCalm}
+use Rattle.bx_paxos_machines.proofs.Beginnings.{AreMadeTo}
+use Rattle.bx_paxos_machines.proofs.making.begin_all.Given as goal
+
+abbrev pub invariant-loop-place : goal.invariant-loop-place
+invariant-loop-place r l = record {
+  made : AreMadeTo l.nodes l.state l.origins l.place l.all.items;
+  begun : r.R.Rack.tells l.fn.rack → HasFirst l.state (r.R.Rack.state l.fn.rack).reads → AreBegun l.state (r.R.Rack.state l.rack) l.all.items;
+  idle : AreIdle l.state l.all.items;
+  calm : r.R.Rack.tells l.fn.rack → IsCalm (r.R.Rack.state l.fn.rack) (r.R.Rack.state l.rack);
+  later : NoneFalls (r.R.Rack.faults l.fn.rack) (r.R.Rack.faults l.rack) (r.R.Rack.faults_of l.fn.rack) (r.R.Rack.faults_of l.rack);
+  sizes : (r.R.Rack.state l.rack).sizes ≡ (r.R.Rack.state l.fn.rack).sizes;
+  tells : r.R.Rack.tells l.fn.rack → r.R.Rack.tells l.rack;
+}

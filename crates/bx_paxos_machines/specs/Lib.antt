@@ -1,0 +1,4 @@
+pub mod Beginning
+pub mod Cluster
+pub mod Keeps
+pub mod Parts

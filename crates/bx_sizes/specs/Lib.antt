@@ -1,0 +1,5 @@
+pub mod Answers
+pub mod Clearing
+pub mod Lengths
+pub mod Setting
+pub mod Steps

@@ -1,10 +1,9 @@
 -- What CREATE comes to, from the directory on.
-use Rattle.std.proofs.Common.{◌≡◌, ℕ, ◌≤◌, eqb-true, false, List, [], Option, Some, None, refl, sym, ap, ◌∙◌, subst}
+use Rattle.std.proofs.Common.{◌≡◌, ℕ, ◌≤◌, eqb-true, List, [], Option, Some, None, refl, sym, ap, ◌∙◌, subst}
 use Rattle.std.specs.Prelude.{Result, Ok, Err}
 use Rattle.bx_changes.specs.Growing.{IsMaking, Makes}
 use Rattle.bx_changes.specs.declared.error.ChangeError.{ChangeError}
 use Rattle.bx_changes.specs.declared.error.ChangeError.TheVariants.{Stopped}
-use Rattle.bx_entries.specs.Finding.{IsDirectoryOf}
 use Rattle.bx_entries.specs.declared.finding.Removable.TheVariants as of
 use Rattle.bx_entries.proofs.RemovedFrom.{IsListed, listed}
 use Rattle.bx_handles.specs.Handles.{named}

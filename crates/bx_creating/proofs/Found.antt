@@ -1,9 +1,8 @@
 -- The directory that a new entry comes into, by what is found.
-use Rattle.std.proofs.Common.{◌≡◌, ℕ, ◌<◌, ◌≤◌, Bool, true, false, eqb-true, List, [], Option, Some, None, refl, sym, ap, ◌∙◌, subst, arith}
-use Rattle.std.specs.Prelude.{IsSome, is_some, nat_le, nat_lt, Result, Ok, Err}
+use Rattle.std.proofs.Common.{◌≡◌, ℕ, ◌<◌, ◌≤◌, Bool, true, false, eqb-true, List, Option, Some, None, refl, sym, ap, ◌∙◌, arith}
+use Rattle.std.specs.Prelude.{is_some, nat_le, nat_lt, Result, Ok, Err}
 use Rattle.std.proofs.lemmas.Bool.{le-leb, lt-ltb}
 use Rattle.bx_entries.specs.Finding.{DirectoryFor, IsDirectoryOf, MayChange, changeable}
-use Rattle.bx_entries.specs.declared.taking.Known.{Known}
 use Rattle.bx_entries.specs.declared.finding.Removable.TheVariants as of
 use Rattle.bx_entries.proofs.Found.{changes, is_a_directory}
 use Rattle.bx_entries.proofs.RemovedFrom.{IsListed, listed}

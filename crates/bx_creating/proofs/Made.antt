@@ -1,13 +1,10 @@
 -- Files that are made over a view with no draft: they are never crowded, and where no slot is left they tell fewer than 8.
-use Rattle.std.proofs.Common.{◌≡◌, ℕ, ◌+◌, ◌≤◌, ◌<◌, arith, List, [], length, sym, ap, ◌∙◌, subst, inl, inr, refl}
-use Rattle.std.specs.Prelude.{◌⊎◌, Err, Ok}
-use Rattle.bx_adding.specs.Stopping.{NeverFirst}
+use Rattle.std.proofs.Common.{◌≡◌, ℕ, ◌≤◌, arith, List, [], length, sym, subst, inl, inr, refl}
+use Rattle.std.specs.Prelude.{Err, Ok}
 use Rattle.bx_adding.proofs.Stopped.{inode_more}
 use Rattle.bx_base.specs.declared.names.Mode.{Mode}
-use Rattle.bx_blink.specs.declared.error.BlinkError.TheVariants as tree_error
 use Rattle.bx_changes.specs.Growing.{NeedsBy}
 use Rattle.bx_changes.specs.declared.error.ChangeError.{ChangeError}
-use Rattle.bx_changes.specs.declared.error.ChangeError.TheVariants.{Stopped}
 use Rattle.bx_chunks.specs.Allocating.{AllocatesAt, NeedsFairly}
 use Rattle.bx_chunks.specs.declared.error.ChunkError.{ChunkError}
 use Rattle.bx_chunks.specs.declared.error.ChunkError.TheVariants as chunk

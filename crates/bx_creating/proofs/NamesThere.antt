@@ -1,5 +1,5 @@
 -- What CREATE finds: the directory in which it looks for its name, and the file that has it.
-use Rattle.std.proofs.Common.{◌≡◌, ℕ, Bool, true, false, eqb-true, List, Option, Some, None, refl, sym, ap, ◌∙◌, subst}
+use Rattle.std.proofs.Common.{◌≡◌, ℕ, Bool, true, false, List, Option, Some, None, refl, sym, ap, ◌∙◌}
 use Rattle.std.specs.Prelude.{◌≢◌, ◌&&◌, not, nat_lt, if◌then◌else◌, Result, Ok, Err}
 use Rattle.bx_inodes.specs.Heads.{head_of}
 use Rattle.bx_inodes.specs.Inodes.{FileAt, IsInodeOf}
@@ -17,7 +17,6 @@ use Rattle.bx_model.specs.Permissions.{may}
 use Rattle.bx_model.specs.Reading.{handle_reply}
 use Rattle.bx_model.specs.Steps.{Making, must, refuse, ◌>>=◌, ◌>>◌}
 use Rattle.bx_model.specs.Steps.Step.{Gives}
-use Rattle.bx_model.specs.Writing.{resize_errors}
 use Rattle.bx_tree_files.specs.declared.file.File.{File}
 use Rattle.bx_tree_files.specs.declared.sattr.Sattr.{Sattr}
 use Rattle.bx_tree_files.specs.Changes.{most_bytes, with_size}

@@ -1,5 +1,5 @@
 -- What CREATE comes to of a name that isn't there.
-use Rattle.std.proofs.Common.{◌≡◌, ℕ, ◌^◌, ◌<◌, ◌≤◌, Bool, true, false, List, [], ◌∷◌, length, Option, Some, None, refl, sym, ap, ◌∙◌, subst, inl, inr, arith}
+use Rattle.std.proofs.Common.{◌≡◌, ℕ, ◌^◌, ◌<◌, Bool, true, false, List, length, Option, Some, None, refl, sym, ap, ◌∙◌, subst, inl, inr, arith}
 use Rattle.std.specs.Prelude.{◌≢◌, ◌⊎◌, ◌==◌, ◌&&◌, not, nat_le, nat_lt, if◌then◌else◌, replicate, Result, Ok, Err}
 use Rattle.std.proofs.lemmas.Bool.{le-leb, lt-ltb}
 use Rattle.std.proofs.lemmas.Bool.Decides.{nat_tests}
@@ -31,7 +31,7 @@ use Rattle.bx_tree_files.specs.declared.file.Body.TheVariants.{Bytes}
 use Rattle.bx_tree_files.specs.declared.file.File.{File}
 use Rattle.bx_tree_files.specs.declared.sattr.Sattr.{Sattr}
 use Rattle.bx_tree_files.specs.Changes.{most_bytes}
-use Rattle.bx_tree_files.specs.Files.{file_at, is_directory, size_of}
+use Rattle.bx_tree_files.specs.Files.{file_at, size_of}
 use Rattle.bx_tree_files.specs.Names.{next_of}
 use Rattle.bx_tree_files.specs.Times.{Time, is_given}
 use Rattle.bx_tree_laws.proofs.MadeKeeps.{made_follows}

@@ -1,5 +1,5 @@
 -- A new file placed in a directory, by the steps: room, the file, the entry.
-use Rattle.std.proofs.Common.{◌≡◌, ℕ, Bool, List, [], ◌∷◌, Option, Some, None, refl, sym, ap, ◌∙◌, subst, arith}
+use Rattle.std.proofs.Common.{◌≡◌, ℕ, List, [], Option, Some, None, sym, ap, ◌∙◌, arith}
 use Rattle.std.specs.Prelude.{◌≢◌, ◌==◌, Err}
 use Rattle.bx_adding.specs.Entering.{Enters, EntersIn, MayEnter}
 use Rattle.bx_adding.specs.Finding.{IsReadyFor, RoomIn}

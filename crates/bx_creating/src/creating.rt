@@ -64,7 +64,9 @@ pub fn create<V: View>(
         Err(stop) => Err(ChangeError::Stopped(stop)),
         Ok(inode) => {
             let directory = Known { handle, inode };
-            create_in(alloc, volume, areas, call, directory, name, sattr, now, view)
+            create_in(
+                alloc, volume, areas, call, directory, name, sattr, now, view,
+            )
         }
     }
 }
@@ -95,7 +97,9 @@ fn create_in<V: View>(
     match found_in(alloc, view, areas, directory.inode.tree, name) {
         Err(stop) => Err(ChangeError::Stopped(stop)),
         Ok(found) => match found {
-            None => create_new(alloc, volume, areas, call, directory, name, sattr, now, view),
+            None => create_new(
+                alloc, volume, areas, call, directory, name, sattr, now, view,
+            ),
             Some(handle) => match told_over(alloc, volume, areas, handle, view) {
                 Err(stop) => Err(ChangeError::Stopped(stop)),
                 Ok(reply) => Ok((Draft::new(alloc), reply, 0)),

@@ -59,12 +59,7 @@ pub(crate) fn link_inode(
 }
 
 /// The inode of a new regular file, of zeros where a size is given.
-pub(crate) fn file_inode(
-    alloc: Global,
-    call: &Call,
-    sattr: &Sattr,
-    now: (u32, u32),
-) -> Inode
+pub(crate) fn file_inode(alloc: Global, call: &Call, sattr: &Sattr, now: (u32, u32)) -> Inode
     ensures is { result ≡ file_inode_of call.now sattr.now now }
     ensures inode { IsInode result }
 {

@@ -55,8 +55,14 @@ module _ (held : Held) (near areas : ℕ) where
   -- how many blocks the halves of a page are
   root_long : (new : List Changed) (root : ℕ) (page : Contents) → CutsRoot held [] new root page near areas → length new ≤ 7
   root_long new root page c =
-      omega (arith, taken_more held [] c.allots.0 near areas c.left c.allots.1, taken_more held c.allots.0 c.two near areas c.right c.allots.2, put_more c.two c.three c.left _ c.puts_first,
-          put_more c.three c.four c.right _ c.puts_other, put_more c.four new root _ c.puts_root)
+      omega (
+        arith,
+        taken_more held [] c.allots.0 near areas c.left c.allots.1,
+        taken_more held c.allots.0 c.two near areas c.right c.allots.2,
+        put_more c.two c.three c.left _ c.puts_first,
+        put_more c.three c.four c.right _ c.puts_other,
+        put_more c.four new root _ c.puts_root,
+      )
 
   page_long : (new : List Changed) (handle : ℕ) (page : Contents) → CutsPage held [] new handle page near areas → length new ≤ 7
   page_long new handle page c = omega (arith, taken_more held [] c.one near areas c.right c.allots, put_more c.one c.two c.right _ c.puts_other, put_more c.two new handle _ c.puts_first)

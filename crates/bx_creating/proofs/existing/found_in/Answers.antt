@@ -1,4 +1,3 @@
-use Rattle.std.proofs.Common.{refl}
 use Rattle.bx_creating.proofs.existing.found_in.Goals as goal
 
 pub returns-in-Ok-clause-list : goal.returns-in-Ok-clause-list

@@ -1,4 +1,4 @@
-use Rattle.std.proofs.Common.{List, sym, subst, Err}
+use Rattle.std.proofs.Common.{List, subst, Err}
 use Rattle.bx_inodes.specs.Inodes.{FileAt, IsInodeOf}
 use Rattle.bx_reads.proofs.Told.{over_none, size_fits}
 use Rattle.bx_records.specs.Drafts.{Changed}

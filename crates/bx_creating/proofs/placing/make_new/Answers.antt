@@ -1,4 +1,4 @@
-use Rattle.std.proofs.Common.{◌≡◌, ℕ, sym, subst, inl, inr}
+use Rattle.std.proofs.Common.{sym, subst, inl, inr}
 use Rattle.bx_tree_files.specs.declared.file.Body.{Body}
 use Rattle.bx_creating.specs.Placing.{MakesNew}
 use Rattle.bx_creating.proofs.placing.make_new.Goals as goal

@@ -1,5 +1,4 @@
-use Rattle.std.proofs.Common.{List, [], Err, Ok, subst, sym}
-use Rattle.bx_chunks.specs.declared.error.ChunkError.TheVariants as chunk
+use Rattle.std.proofs.Common.{List, Err, Ok, subst, sym}
 use Rattle.bx_making.specs.Made.{MakesFile, MakesIn}
 use Rattle.bx_making.specs.Links.{LinksAt}
 use Rattle.bx_ready.proofs.Split.{none_held}

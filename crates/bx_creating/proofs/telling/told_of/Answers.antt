@@ -1,4 +1,4 @@
-use Rattle.std.proofs.Common.{◌≡◌, ℕ, List, refl, sym, ◌∙◌}
+use Rattle.std.proofs.Common.{refl, sym, ◌∙◌}
 use Rattle.bx_handles.specs.Handles.{file_text}
 use Rattle.bx_making.specs.Made.{file_of}
 use Rattle.bx_model.specs.declared.reply.Reply.TheVariants.{Handle}

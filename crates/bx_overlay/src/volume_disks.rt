@@ -1,15 +1,11 @@
 //! What an audit reads off the disks of a volume before its blocks: labels, members, logs.
 
-ghost use Rattle.std.specs.Prelude.{◌≡◌, ◌↔◌, ◌≤◌, ◌⊎◌, ℕ, List, false, length, slice_get, Some, IfOk, IfErr, OnOk, IsErrOf};
+ghost use Rattle.std.specs.Prelude.{◌≡◌, ◌↔◌, ◌≤◌, ◌⊎◌, ℕ, false, length, slice_get, Some, IfOk, IfErr, OnOk, IsErrOf};
 ghost use Rattle.bx_base.specs.Faults.{Rose};
 ghost use Rattle.bx_disk.specs.Counts.{NoneFalls, NoneRose};
-ghost use Rattle.bx_disk.specs.Disks.{Image};
 ghost use Rattle.bx_layout.specs.Labels.{IsLabel};
-ghost use Rattle.bx_rows.specs.declared.session.SessionRow.{SessionRow};
 ghost use Rattle.bx_volume.specs.Images.{IsFirstLabel};
 ghost use Rattle.bx_overlay.specs.declared.error.AuditError.TheVariants.{DiskFault, NoLabel};
-ghost use Rattle.bx_logs.specs.declared.members.Members.{Members};
-ghost use Rattle.bx_logs.specs.Logs.{AreLogs};
 ghost use Rattle.bx_logs.specs.Members.{AreThere};
 ghost use Rattle.bx_overlay.specs.Reading.{AreMembers, AreOverlay, IsRead, IsRefused};
 ghost use Rattle.bx_overlay.specs.Refusals.{AreAccepted, HasNoLabel, IsBreak, RefusesLogs, RefusesMembers, UnlessFault};
@@ -20,7 +16,7 @@ use bx_disk::Rack;
 use bx_global::GlobalState;
 use bx_homes::{first_absent, first_label, first_unlabelled};
 use bx_layout::Label;
-use bx_logs::{Members, Newest, Record, clash_in, newest_of_all, points_of, read_logs};
+use bx_logs::{Members, Newest, clash_in, newest_of_all, points_of, read_logs};
 use bx_rows::{DeviceRow, SessionRow};
 use std::alloc::Global;
 
@@ -150,22 +146,13 @@ fn read_overlay<R: Rack>(
     ensures sizes { (R.state rack.new).sizes ≡ (R.state rack.old).sizes }
     ensures keeps_telling { R.tells rack.old → R.tells rack.new }
 {
-    match read_logs(alloc, rack, members, sessions)? {
-        None => Err(AuditError::Torn(NO_BLOCK, 0, 0)),
-        Some(logs) => overlay_of(alloc, logs.items()),
-    }
-}
-
-/// The newest blocks of logs, and the points of their records; refused where two logs clash.
-fn overlay_of(alloc: Global, logs: &[List<Record>]) -> Result<(List<Newest>, Points), AuditError>
-    ensures ok { (image : Image) (members : Members) (sessions : List SessionRow) → AreLogs image members sessions logs.now → IfOk result (λ read. AreOverlay image members sessions read.0 read.1) }
-    ensures err { (image : Image) (members : Members) (sessions : List SessionRow) → AreLogs image members sessions logs.now → IfErr result (λ error. IsBreak error ⊎ RefusesLogs image members sessions error) }
-    ensures no_fault { IsErrOf result DiskFault → ⊥ }
-{
-    let newest = newest_of_all(alloc, logs)?;
+    let Some(logs) = read_logs(alloc, rack, members, sessions)? else {
+        return Err(AuditError::Torn(NO_BLOCK, 0, 0));
+    };
+    let newest = newest_of_all(alloc, logs.items())?;
     if let Some((at, handle)) = clash_in(newest.items()) {
         return Err(AuditError::Torn(at, handle, handle));
     }
-    let doubt = points_of(alloc, logs)?;
+    let doubt = points_of(alloc, logs.items())?;
     Ok((newest, doubt))
 }

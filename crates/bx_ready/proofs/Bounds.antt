@@ -1,16 +1,14 @@
 -- Splits and posts over a view with no draft: they are never crowded, and where no slot is left for one they tell fewer than 8.
-use Rattle.std.proofs.Common.{◌≡◌, ℕ, ◌+◌, ◌<◌, ◌≤◌, arith, List, [], length, inl, inr, ap, sym, ◌∙◌, Ok, Err}
-use Rattle.std.specs.Prelude.{◌⊎◌}
+use Rattle.std.proofs.Common.{ℕ, ◌≤◌, arith, List, [], length, inl, inr, Ok, Err}
 use Rattle.bx_blink.specs.declared.error.BlinkError.TheVariants.{Full, Crowded}
 use Rattle.bx_chunks.specs.Allocating.{AllocatesAt}
-use Rattle.bx_chunks.specs.Counting.{free_slots}
 use Rattle.bx_chunks.specs.declared.error.ChunkError.TheVariants as chunk
 use Rattle.bx_leaves.specs.Leaves.{IsCrowded}
 use Rattle.bx_page.specs.Contents.{Contents, first_half, other_half}
 use Rattle.bx_posts.specs.Posts.{PostsAt}
 use Rattle.bx_posts.specs.Parents.{PutsInParent}
 use Rattle.bx_records.specs.Drafts.{Changed}
-use Rattle.bx_splits.specs.Cutting.{AllotTwoFails, CutCrowds, CutFails, CutsPage, CutsRoot, PutsTwo, RaiseFails, RootCrowds, SplitsAt}
+use Rattle.bx_splits.specs.Cutting.{AllotTwoFails, CutFails, CutsPage, CutsRoot, PutsTwo, RaiseFails, RootCrowds, SplitsAt}
 use Rattle.bx_splits.specs.Halves.{HalvesAt}
 use Rattle.bx_truth.specs.Chunks.{IsChunked}
 use Rattle.bx_views.specs.Truths.{Held, Hints, IsTruth, Truth}

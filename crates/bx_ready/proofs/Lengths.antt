@@ -1,5 +1,5 @@
 -- How many blocks a draft has after each step.
-use Rattle.std.proofs.Common.{◌≡◌, ℕ, ◌+◌, ◌<◌, ◌≤◌, arith, List, length, Option, Some, None, ap, Ok, Err}
+use Rattle.std.proofs.Common.{ℕ, ◌+◌, ◌<◌, ◌≤◌, arith, List, length, Option, Some, None, ap, Ok, Err}
 use Rattle.bx_chunks.specs.Allocating.{AllocatesAt, slot_taken}
 use Rattle.bx_chunks.specs.Putting.{missing_of}
 use Rattle.bx_chunks.specs.declared.error.ChunkError.TheVariants.{Crowded}

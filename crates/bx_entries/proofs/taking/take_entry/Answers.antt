@@ -1,4 +1,4 @@
-use Rattle.std.proofs.Common.{List, ap, arith, length, subst}
+use Rattle.std.proofs.Common.{ap, arith, length, subst}
 use Rattle.bx_inodes.specs.Writing.{PutsInode}
 use Rattle.bx_layout.specs.declared.inode.Inode.{Inode}
 use Rattle.bx_truth.specs.Chunks.{block_at}

@@ -1,6 +1,7 @@
 -- The path of a call that changes a file tree, over what is held and hinted.
 use Rattle.std.specs.Prelude.{◌≡◌, ◌⊎◌, ℕ}
 use Rattle.bx_base.specs.declared.names.Mode.{Mode}
+use Rattle.bx_creating.specs.Existing.{OnCreate}
 use Rattle.bx_creating.specs.Making.{OnMaking}
 use Rattle.bx_entries.specs.Finding.{OnRemove, OnRmdir}
 use Rattle.bx_linking.specs.Linking.{OnLink}
@@ -9,12 +10,13 @@ use Rattle.bx_model.specs.declared.call.Args.TheVariants.{Link, Make, Name, Set,
 use Rattle.bx_sizes.specs.Setting.{OnSetting}
 use Rattle.bx_views.specs.Truths.{Held, Hints}
 
--- By the call's procedure and arguments, that of its procedure: of SETATTR, REMOVE (10) and RMDIR (15), LINK, SYMLINK, MKDIR (14).
+-- By the call's procedure and arguments, that of its procedure: of SETATTR, REMOVE (10) and RMDIR (15), LINK, SYMLINK, MKDIR (14) and CREATE (9).
 abbrev pub ChangePathOf : Held → Hints → ℕ → ℕ → ℕ → Args → ℕ → Mode → Type 0
 ChangePathOf held hints volume areas procedure (Set handle sattr) at mode = OnSetting held hints volume areas handle at mode
 ChangePathOf held hints volume areas procedure (Name handle name) at mode =
     ((procedure ≡ 10) × OnRemove held hints volume areas handle name at mode) ⊎ ((procedure ≡ 15) × OnRmdir held hints volume areas handle name at mode)
 ChangePathOf held hints volume areas procedure (Link from handle name) at mode = OnLink held hints volume areas from handle name at mode
 ChangePathOf held hints volume areas procedure (Symlink handle name path sattr) at mode = OnMaking held hints volume areas handle name at mode
-ChangePathOf held hints volume areas procedure (Make handle name sattr) at mode = (procedure ≡ 14) × OnMaking held hints volume areas handle name at mode
+ChangePathOf held hints volume areas procedure (Make handle name sattr) at mode =
+    ((procedure ≡ 14) × OnMaking held hints volume areas handle name at mode) ⊎ ((procedure ≡ 9) × OnCreate held hints volume areas handle name at mode)
 ChangePathOf held hints volume areas procedure _ at mode = ⊥

@@ -11,16 +11,20 @@ ghost use Rattle.bx_attempts.specs.Paths.{ChangePathOf};
 ghost use Rattle.bx_attempts.specs.Steps.{StandsWith, Step};
 
 use crate::attributes::setattr;
-use crate::making::{mkdir, symlink};
+use crate::making::{create, mkdir, symlink};
 use crate::naming::{link, remove, rmdir};
 use bx_base::OutOfMemory;
 use bx_model::{Args, Call};
 use bx_rpc::NFS_PROGRAM;
+use bx_tree_files::is_given;
 use bx_views::{Attempt, View};
 use std::alloc::Global;
 
 /// The procedure SETATTR (RFC 1094, section 2.2.3).
 const SETATTR: u32 = 2;
+
+/// The procedure CREATE (RFC 1094, section 2.2.10).
+const CREATE: u32 = 9;
 
 /// The procedure REMOVE (RFC 1094, section 2.2.11).
 const REMOVE: u32 = 10;
@@ -43,8 +47,8 @@ const MOST_NAME: usize = 255;
 /// How many bytes a link's path has at most.
 const MOST_PATH: usize = 1024;
 
-/// Whether a call changes the file tree, and is built: it is SETATTR, REMOVE, LINK, SYMLINK, MKDIR
-/// or RMDIR.
+/// Whether a call changes the file tree, and is built: it is SETATTR, CREATE without a size,
+/// REMOVE, LINK, SYMLINK, MKDIR or RMDIR.
 pub fn is_change(call: &Call) -> bool
     ensures { IsTrue result ↔ IsChanging call.now }
 {
@@ -57,7 +61,10 @@ pub fn is_change(call: &Call) -> bool
                 && name.bytes().len() <= MOST_NAME
                 && path.bytes().len() <= MOST_PATH
         }
-        Args::Make(_, name, _) => is_procedure(call, MKDIR) && name.bytes().len() <= MOST_NAME,
+        Args::Make(_, name, sattr) => {
+            (is_procedure(call, MKDIR) || is_procedure(call, CREATE) && !is_given(sattr.size))
+                && name.bytes().len() <= MOST_NAME
+        }
         _ => false,
     }
 }
@@ -109,7 +116,11 @@ pub fn change<V: View>(
         }
         Args::Make(at, name, sattr) => {
             let (at, name) = (at.bytes(), name.bytes());
-            mkdir(alloc, volume, areas, xid, call, at, name, sattr, moment, view)
+            if call.procedure == MKDIR {
+                mkdir(alloc, volume, areas, xid, call, at, name, sattr, moment, view)
+            } else {
+                create(alloc, volume, areas, xid, call, at, name, sattr, moment, view)
+            }
         }
         _ => unreachable!(),
     }

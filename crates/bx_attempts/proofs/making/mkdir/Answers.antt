@@ -44,5 +44,5 @@ returns-in-Err-clause-fair g c =
     let held = g.V.View.held a.view.now in
     let hints = g.V.View.hints a.view.now in
     IfOk-weaker c.refused.result _ _
-    (λ attempt is. fair_over a.areas held (OnMaking held hints a.volume a.areas a.at.now a.name.now) (ChangePathOf held hints a.volume a.areas a.call.now.procedure a.call.now.args) (λ block mode on. subst (λ (args : Args). ChangePathOf held hints a.volume a.areas a.call.now.procedure args block mode) (sym c.requires.args) (c.requires.procedure, on)) attempt
+    (λ attempt is. fair_over a.areas held (OnMaking held hints a.volume a.areas a.at.now a.name.now) (ChangePathOf held hints a.volume a.areas a.call.now.procedure a.call.now.args) (λ block mode on. subst (λ (args : Args). ChangePathOf held hints a.volume a.areas a.call.now.procedure args block mode) (sym c.requires.args) (inl (c.requires.procedure, on))) attempt
     (refused_fair a.xid a.areas held (OnMaking held hints a.volume a.areas a.at.now a.name.now) attempt c.in-Err.error c.in-Err.ensures.need c.in-Err.ensures.first is)) c.refused.ensures

@@ -1,6 +1,8 @@
-//! Tests of a replay, on the worked examples of the schedule's language.
+//! Tests of the command lines, and of a replay, on the worked examples of the schedule's language.
 #![tactic(auto)]
 
+#[cfg(test)]
+mod command_lines;
 #[cfg(test)]
 mod crashes;
 #[cfg(test)]

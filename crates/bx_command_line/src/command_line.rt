@@ -1,0 +1,70 @@
+//! A command line, and the words that spell it.
+
+ghost use Rattle.std.specs.Prelude.{◌≡◌, ◌↔◌, IfOk, IsTrue, [], ◌∷◌, map, string_bytes};
+ghost use Rattle.clap.specs.Words.{HasMatchesOf, app_of};
+ghost use Rattle.bx_command_line.specs.CommandLines.{AreWordsOf, grammar};
+
+use bx_base::OutOfMemory;
+use clap::error::ErrorKind;
+use clap::{ArgMatches, Command};
+use std::alloc::{AllocError, Global};
+
+/// What a command line asks for.
+#[derive(Clone, Copy, PartialEq, Eq, Debug)]
+pub enum CommandLine {
+    /// `replay`: a schedule is read from the input, and its trace written to the output.
+    Replay,
+}
+
+impl CommandLine {
+    /// The command line that these words spell, which are those after the program's name; `None` where they spell none.
+    ///
+    /// Fails for want of memory alone.
+    pub fn read(alloc: Global, words: &[String]) -> Result<Option<CommandLine>, OutOfMemory>
+        ensures { IfOk result (AreWordsOf (map string_bytes words.now)) }
+    {
+        let command = command(alloc)?;
+        match command.try_get_matches_from(words) {
+            Ok(matches) => Ok(line_of(&matches, words)),
+            Err(error) => match error.kind() {
+                ErrorKind::OutOfMemory => Err(OutOfMemory),
+                _ => Ok(None),
+            },
+        }
+    }
+}
+
+// The command, as `clap` is told of it. Nothing answers `help` or `--help`: the line that tells which command lines there are comes
+// for them as for any other words.
+fn command<'a>(alloc: Global) -> Result<Command<'a>, AllocError>
+    ensures { IfOk result (λ command. app_of command ≡ grammar) }
+{
+    Command::new(alloc, "boxwood")
+        .no_binary_name(true)
+        .subcommand_required(true)
+        .disable_help_flag(true)
+        .disable_help_subcommand(true)
+        .subcommand(Command::new(alloc, "replay"))
+}
+
+// The command line of words that `clap` takes. It takes `replay --` too, which is no command line, so the words are compared besides.
+fn line_of(matches: &ArgMatches<'_>, words: &[String]) -> Option<CommandLine>
+    ensures { HasMatchesOf grammar (map string_bytes words.now) matches.now → AreWordsOf (map string_bytes words.now) result }
+{
+    let name = matches.subcommand_name()?;
+    if name == "replay" && are_only(words, name) {
+        Some(CommandLine::Replay)
+    } else {
+        None
+    }
+}
+
+// Whether there is one word, and it is this one.
+fn are_only(words: &[String], only: &str) -> bool
+    ensures { IsTrue result ↔ (map string_bytes words.now ≡ only.now ∷ []) }
+{
+    match words {
+        [word] => word.as_str() == only,
+        _ => false,
+    }
+}

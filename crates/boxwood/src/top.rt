@@ -1,8 +1,9 @@
 //! The command.
 
-ghost use Rattle.std.specs.Prelude.{◌≡◌, ◌≢◌, ◌⊎◌, ◌↔◌, ℕ, false, List, codes, [], ◌∷◌, map, string_bytes, IsTrue};
+ghost use Rattle.std.specs.Prelude.{◌≡◌, ◌≢◌, ◌⊎◌, ℕ, false, List, codes, [], ◌∷◌, map, string_bytes};
 ghost use Rattle.bx_base.specs.Faults.{Rose};
 ghost use Rattle.bx_base.specs.Text.{lines_of};
+ghost use Rattle.bx_command_line.specs.CommandLines.{AreNone};
 ghost use Rattle.bx_script.specs.declared.line.Line.{Line};
 ghost use Rattle.bx_script.specs.Schedule.{IsSchedule};
 ghost use Rattle.bx_replay.specs.declared.stop.Reason.{Reason};
@@ -13,10 +14,12 @@ ghost use Rattle.bx_replay.specs.Replay.{IsDiskCause, Wrote};
 ghost use Rattle.boxwood.specs.Report.{IsStatus, IsTold, line_of, message};
 
 use crate::report::{report, usage};
+use bx_base::OutOfMemory;
+use bx_command_line::CommandLine;
 use bx_disk::CrashRack;
 use bx_lone_service::LoneService;
 use bx_outside::{Sink, Source};
-use bx_replay::replay;
+use bx_replay::{Stop, replay};
 use std::alloc::Global;
 
 /// Runs the command that the words spell, and answers its exit status. The one command line is `replay`, which reads a
@@ -44,8 +47,9 @@ pub fn boxwood<S: Source, K: Sink, B: CrashRack>(
     ensures status { IsStatus result }
 
     // The words are no command line.
-    ensures usage { (result ≡ 1) ↔ (map string_bytes words.now ≢ codes "replay" ∷ []) }
-    ensures untouched { result ≡ 1 → (input.new ≡ input.old) × (out.new ≡ out.old) × (bench.new ≡ bench.old) }
+    ensures usage { result ≡ 1 → AreNone (map string_bytes words.now) }
+    ensures none { AreNone (map string_bytes words.now) → (result ≡ 1) ⊎ (result ≡ 9) }
+    ensures untouched { AreNone (map string_bytes words.now) → (input.new ≡ input.old) × (out.new ≡ out.old) × (bench.new ≡ bench.old) }
 
     // The headline.
     ensures replayed { result ≡ 0 → S.tells input.old → IsServedSchedule (S.left input.old) × (S.left input.new ≡ [])
@@ -90,21 +94,14 @@ pub fn boxwood<S: Source, K: Sink, B: CrashRack>(
         → (Rose (S.faults input.old) (S.faults input.new) → ⊥) → (Rose (K.faults out.old) (K.faults out.new) → ⊥)
         → B.tells bench.old → (Rose (B.faults bench.old) (B.faults bench.new) → ⊥) → (result ≡ 0) ⊎ (result ≡ 9) }
 {
-    if !is_replay(words) {
-        return usage(err);
-    }
-    match replay::<LoneService, S, K, B>(alloc, input, out, bench) {
-        Err(stop) => report(alloc, stop, err),
-        Ok(()) => 0,
-    }
-}
-
-// Whether the words are the one command line.
-fn is_replay(words: &[String]) -> bool
-    ensures { IsTrue result ↔ (map string_bytes words.now ≡ codes "replay" ∷ []) }
-{
-    match words {
-        [word] => word.as_str() == "replay",
-        _ => false,
+    match CommandLine::read(alloc, words) {
+        Ok(Some(CommandLine::Replay)) => match replay::<LoneService, S, K, B>(
+            alloc, input, out, bench,
+        ) {
+            Ok(()) => 0,
+            Err(stop) => report(alloc, stop, err),
+        },
+        Ok(None) => usage(err),
+        Err(OutOfMemory) => report(alloc, Stop::OutOfMemory, err),
     }
 }

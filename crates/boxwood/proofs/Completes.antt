@@ -1,10 +1,12 @@
 -- What a status says, by what a replay left: a schedule each line of which may be done behind those before it has no line that is refused.
 use Rattle.std.proofs.Common.{◌≡◌, ℕ, ◌<◌, ◌==◌, Bool, true, false, List, [], ◌∷◌, ◌++◌, length, Err, refl, sym, ap, subst, ◌∙◌, arith, append_assoc, inl, inr}
-use Rattle.std.specs.Prelude.{map, reverse, ◌⊎◌, if◌then◌else◌}
+use Rattle.std.specs.Prelude.{Option, Some, None, map, reverse, ◌⊎◌, if◌then◌else◌}
 use Rattle.std.specs.List.{AllByRecursion}
 use Rattle.std.proofs.lemmas.List.{append-nil, length-map, length-reverse, reverse-append}
 use Rattle.bx_base.specs.Faults.{Rose}
 use Rattle.bx_base.specs.Text.{lines_of}
+use Rattle.bx_command_line.specs.declared.command_line.CommandLine.{CommandLine}
+use Rattle.bx_command_line.specs.CommandLines.{AreNone, AreWordsOf}
 use Rattle.bx_script.specs.declared.line.Line.{Line}
 use Rattle.bx_script.specs.declared.line.Line.TheVariants.{Call}
 use Rattle.bx_script.specs.ScheduleLine.{InRange, spelling}
@@ -189,3 +191,8 @@ breaks Tells Stands stops.OutOfMemory status text left old new is leaves broken 
 pub no_cause : (Bench : Type 0) (before now : ℕ) → Bench → (Rose before now → ⊥) → IsDiskCause Bench before now → ⊥
 no_cause Bench before now tells none (inl rose) = none rose
 no_cause Bench before now tells none (inr not) = not tells
+
+-- words that were read as no command line
+pub none_of : (words : List (List ℕ)) (line : Option CommandLine) → line ≡ None → AreWordsOf words line → AreNone words
+none_of words None is are = are
+none_of words (Some line) is are = absurd cc

@@ -81,6 +81,34 @@ fn register(alloc: Global) -> Option<(Paxos, MemRack)> {
     Some((paxos, rack))
 }
 
+/// The machine that a packet is for.
+fn receiver(post: &Post, number: u64) -> Option<Actor> {
+    match post.packet(number) {
+        Some(packet) => Some(packet.to),
+        None => None,
+    }
+}
+
+/// A packet comes to the machine that it is for. Says whether that went well.
+fn hears(
+    paxos: &mut Paxos,
+    rack: &mut MemRack,
+    post: &Post,
+    number: u64,
+    reading: u64,
+    out: &mut Outbox,
+) -> bool {
+    match post.packet(number) {
+        Some(packet) => {
+            let input = Input::Packet(packet, reading);
+            paxos.has(packet.to)
+                && has_disks(rack)
+                && paxos.take(rack, packet.to, &input, out).is_ok()
+        }
+        None => false,
+    }
+}
+
 impl Run {
     /// A run that begins.
     fn new(alloc: Global) -> Option<Run> {
@@ -149,20 +177,20 @@ impl Run {
         };
         let stays = self.below(8) == 0;
         let is_lost = self.below(16) == 0;
-        let Some(packet) = self.post.packet(number) else {
+        let Some(at) = receiver(&self.post, number) else {
             return false;
         };
-        let at = packet.to;
         let mut out = Outbox::new(self.alloc);
-        let input = Input::Packet(packet, self.reading);
         let is_right = is_lost
             || !self.is_up(at)
-            || (self.paxos.has(at)
-                && has_disks(&self.rack)
-                && self
-                    .paxos
-                    .take(&mut self.rack, at, &input, &mut out)
-                    .is_ok());
+            || hears(
+                &mut self.paxos,
+                &mut self.rack,
+                &self.post,
+                number,
+                self.reading,
+                &mut out,
+            );
         if !stays {
             self.post.settle(number);
         }
@@ -224,15 +252,23 @@ impl Run {
         match who {
             Actor::Replica(n) => {
                 let at = Actor::Replica(n);
-                n < 3 && self.paxos.restart(&mut self.rack, at, self.boot, out).is_ok()
+                n < 3
+                    && self
+                        .paxos
+                        .restart(&mut self.rack, at, self.boot, out)
+                        .is_ok()
             }
             Actor::Node(n) => {
                 let at = Actor::Node(n);
-                self.paxos.restart(&mut self.rack, at, self.boot, out).is_ok()
+                self.paxos
+                    .restart(&mut self.rack, at, self.boot, out)
+                    .is_ok()
             }
             Actor::Server(n) => {
                 let at = Actor::Server(n);
-                self.paxos.restart(&mut self.rack, at, self.boot, out).is_ok()
+                self.paxos
+                    .restart(&mut self.rack, at, self.boot, out)
+                    .is_ok()
             }
             Actor::Member(_) => false,
         }
@@ -246,9 +282,7 @@ impl Run {
         }
         self.boot = self.boot.saturating_add(1);
         let mut out = Outbox::new(self.alloc);
-        self.restarts(who, &mut out)
-            && self.post.send(self.alloc, out).is_ok()
-            && self.knows(who)
+        self.restarts(who, &mut out) && self.post.send(self.alloc, out).is_ok() && self.knows(who)
     }
 
     /// All machines stop, and a register is opened on what their disks hold: on the last state of the chain, or on one ahead. Says whether

@@ -1,11 +1,8 @@
 -- What the images of a volume that was found are read as.
-use Rattle.std.proofs.Common.{◌≡◌, ℕ, ◌+◌, ◌<◌, ◌≤◌, ◌⊎◌, List, length, Option, Some, None, refl, sym, ap, subst, ◌∙◌, inl, inr, arith}
+use Rattle.std.proofs.Common.{◌≡◌, ℕ, ◌<◌, ◌≤◌, ◌⊎◌, Option, Some, None, refl, sym, ap, subst, ◌∙◌, inl, inr, arith}
 use Rattle.std.proofs.lemmas.Bool.{cases_lt}
-use Rattle.std.proofs.lemmas.Bool.Decides.{eqb_tells}
-use Rattle.bx_acceptor.specs.Handling.{AtMost, caught_up}
+use Rattle.bx_acceptor.specs.Handling.{caught_up}
 use Rattle.bx_agreement.proofs.Founds.{found_ahead, found_level}
-use Rattle.bx_agreement.proofs.Order.{not_back}
-use Rattle.bx_agreement.proofs.Places.{not_below}
 use Rattle.bx_agreement.proofs.Readings.{level}
 use Rattle.bx_agreement.specs.Cells.{CatchUp, WasFound}
 use Rattle.bx_agreement.specs.History.{History}
@@ -13,7 +10,7 @@ use Rattle.bx_agreement.specs.Sound.{HasTwo, IsAhead, IsLevel, IsSound}
 use Rattle.bx_facts.specs.Chains.{IsNext, last}
 use Rattle.bx_global.specs.declared.held.Held.{Held}
 use Rattle.bx_global.specs.declared.state.GlobalState.{GlobalState}
-use Rattle.bx_paxos.specs.Reading.{IsAheadFirst, IsLevelFirst, ReadsFirst, Tells}
+use Rattle.bx_paxos.specs.Reading.{IsLevelFirst, ReadsFirst, Tells}
 
 -- ---- cells tell one state
 

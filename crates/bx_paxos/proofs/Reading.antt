@@ -27,7 +27,7 @@ use Rattle.bx_global.specs.declared.state.GlobalState.{GlobalState}
 use Rattle.bx_paxos.specs.Counted.{AreCounted, IsCounted, IsHeldSound}
 use Rattle.bx_paxos.specs.Fits.{Comes, Fits, KnowsCell, Voters, devices_of}
 use Rattle.bx_paxos.specs.Reading.{AreMade, AreSeen, ReadsFirst, ReadsState, Tells}
-use Rattle.bx_paxos.specs.Shown.{HasBegun, HasFound, IsKnown, Shows, ShowsOne}
+use Rattle.bx_paxos.specs.Shown.{HasBegun, HasFound, Shows, ShowsOne}
 use Rattle.bx_paxos.proofs.Events.{moment}
 use Rattle.bx_paxos.proofs.Founds.{Stood, found_next}
 use Rattle.bx_paxos.proofs.Images.{the_cell}

@@ -15,7 +15,7 @@ use Rattle.bx_cell.specs.Cells.{HasEither, Holds, Known, next, with_value}
 use Rattle.bx_cell.specs.Halves.{cell_in}
 use Rattle.bx_cell.specs.Images.{EachSure}
 use Rattle.bx_disk.specs.Disks.{Disks, Image, IsImage}
-use Rattle.bx_facts.specs.Chains.{Chain, IsNext, IsPlace, last}
+use Rattle.bx_facts.specs.Chains.{Chain, IsPlace}
 use Rattle.bx_facts.proofs.Machines.{is_one}
 use Rattle.bx_facts.specs.Inputs.{IsComing}
 use Rattle.bx_facts.specs.Machines.{is_same}

@@ -1,12 +1,12 @@
 -- What images have of the cells of replicas goes on: beside a put and through it, once a disk was synced or has crashed, and at the beginning.
-use Rattle.std.proofs.Common.{◌≡◌, ◌≢◌, ℕ, ◌+◌, ◌<◌, ◌≤◌, ◌⊎◌, ◌==◌, Bool, true, false, List, length, Option, Some, None, if◌then◌else◌, refl, sym, ap, subst, ◌∙◌, inl, inr, arith}
+use Rattle.std.proofs.Common.{◌≡◌, ◌≢◌, ℕ, ◌<◌, ◌≤◌, ◌==◌, Bool, true, false, List, length, Option, Some, if◌then◌else◌, refl, sym, ap, subst, ◌∙◌, inl, inr, arith}
 use Rattle.std.specs.Prelude.{nat_le, nat_lt}
 use Rattle.std.proofs.lemmas.Bool.Decides.{eqb_tells, nat_tests}
-use Rattle.bx_acceptor.specs.Standing.{HasContent, IsFound, TakesPart}
+use Rattle.bx_acceptor.specs.Standing.{IsFound, TakesPart}
 use Rattle.bx_acceptor.specs.declared.origin.Origin.{Origin}
 use Rattle.bx_acceptor.specs.declared.origin.Origin.TheVariants.{Made, Found as FoundAs, Apart}
 use Rattle.bx_acceptor.proofs.Taking.{one_found}
-use Rattle.bx_calls.specs.Calls.{HasSure, KeepsSure}
+use Rattle.bx_calls.specs.Calls.{KeepsSure}
 use Rattle.bx_calls.specs.Regions.{EachOutside}
 use Rattle.bx_cell.specs.Cells.{HasEither, next}
 use Rattle.bx_cell.specs.Halves.{Found, cell_in}
@@ -18,9 +18,8 @@ use Rattle.bx_global.specs.Bytes.{IsHeld, SpellsHeld, held_text}
 use Rattle.bx_global.specs.declared.held.Held.{Held}
 use Rattle.bx_global.specs.declared.state.GlobalState.{GlobalState}
 use Rattle.bx_layout.specs.Labels.{SpellsLabel}
-use Rattle.bx_layout.specs.declared.label.Label.{Label}
 use Rattle.bx_paxos.specs.Fits.{IsPutOn, KnowsCell, Voters}
-use Rattle.bx_paxos.specs.Shown.{HasLabel, IsAsItWas, IsKnown, IsUnread, Shows, ShowsOne, StandsAsFound}
+use Rattle.bx_paxos.specs.Shown.{HasLabel, IsAsItWas, IsUnread, Shows, ShowsOne, StandsAsFound}
 
 -- ---- one disk
 

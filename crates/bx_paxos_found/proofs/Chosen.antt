@@ -1,14 +1,12 @@
 -- What three cells are read as is what is read first.
-use Rattle.std.proofs.Common.{◌≡◌, ℕ, ◌+◌, ◌<◌, ◌≤◌, ◌⊎◌, inl, inr, ◌==◌, Bool, true, false, ◌&&◌, ◌||◌, Option, Some, None, refl, sym, ap, subst, ◌∙◌, arith}
+use Rattle.std.proofs.Common.{◌≡◌, ℕ, ◌+◌, ◌<◌, ◌≤◌, ◌⊎◌, inl, inr, ◌==◌, Bool, true, false, Option, Some, None, refl, sym, ap, subst, ◌∙◌, arith}
 use Rattle.std.specs.Prelude.{nat_lt, if◌then◌else◌}
 use Rattle.std.proofs.lemmas.Bool.{cases_lt}
 use Rattle.std.proofs.lemmas.Bool.Decides.{eqb_tells, nat_tests}
-use Rattle.bx_acceptor.specs.Handling.{AtMost}
-use Rattle.bx_agreement.proofs.Order.{most_then, not_back}
-use Rattle.bx_agreement.specs.Sound.{IsAhead, IsLevel}
+use Rattle.bx_agreement.proofs.Order.{not_back}
 use Rattle.bx_global.specs.declared.held.Held.{Held}
 use Rattle.bx_global.specs.declared.state.GlobalState.{GlobalState}
-use Rattle.bx_paxos.specs.Reading.{IsAheadFirst, IsLevelFirst, ReadsFirst}
+use Rattle.bx_paxos.specs.Reading.{IsAheadFirst, ReadsFirst}
 use Rattle.bx_rows.proofs.Ballots.{before_then, one_before}
 use Rattle.bx_rows.specs.Ballots.{ComesBefore}
 use Rattle.bx_rows.specs.declared.ballot.Ballot.{Ballot}

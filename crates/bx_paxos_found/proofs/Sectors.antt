@@ -1,5 +1,5 @@
 -- A sector that was read whole.
-use Rattle.std.proofs.Common.{◌≡◌, ℕ, ◌+◌, ◌/◌, List, length, ap, ◌∙◌, arith}
+use Rattle.std.proofs.Common.{◌≡◌, ℕ, List, length, ◌∙◌, arith}
 use Rattle.std.proofs.lemmas.List.{take_all}
 use Rattle.bx_calls.specs.Regions.{ReadsAs}
 use Rattle.bx_disk.specs.Disks.{Image, sector_of}

@@ -1,24 +1,20 @@
 -- What is made of what is seen of three replicas.
-use Rattle.std.proofs.Common.{◌≡◌, ◌≢◌, ℕ, zero, suc, ◌+◌, ◌^◌, ◌<◌, ◌≤◌, ◌⊎◌, inl, inr, ◌==◌, max, Bool, true, false, List, [], ◌∷◌, length, Option, Some, None, Result, Ok, Err, refl, sym, ap, subst, ◌∙◌, arith}
+use Rattle.std.proofs.Common.{◌≡◌, ℕ, zero, suc, ◌+◌, ◌<◌, ◌≤◌, ◌⊎◌, inl, inr, ◌==◌, Bool, true, false, List, [], ◌∷◌, length, Option, Some, None, Result, Ok, Err, refl, sym, ap, subst, ◌∙◌, arith}
 use Rattle.std.specs.Prelude.{IfOk, IfSome, find, if◌then◌else◌, slice_get}
-use Rattle.std.proofs.lemmas.Bool.{cases_lt}
 use Rattle.std.proofs.lemmas.Bool.Decides.{eqb_tells}
 use Rattle.bx_acceptor.specs.Standing.{IsFound}
 use Rattle.bx_acceptor.specs.declared.origin.Origin.{Origin}
-use Rattle.bx_acceptor.specs.declared.origin.Origin.TheVariants.{Made, Found as FoundAs, Apart}
+use Rattle.bx_acceptor.specs.declared.origin.Origin.TheVariants.{Made}
 use Rattle.bx_agreement.specs.Sound.{HasTwo}
 use Rattle.bx_calls.specs.Regions.{IsSynced}
-use Rattle.bx_cell.specs.Halves.{Found}
-use Rattle.bx_cell.specs.Images.{EachSure, HasAllSure}
-use Rattle.bx_disk.specs.Disks.{Disks, Image}
+use Rattle.bx_cell.specs.Images.{EachSure}
+use Rattle.bx_disk.specs.Disks.{Disks}
 use Rattle.bx_facts.specs.Chains.{IsAboveBoots}
 use Rattle.bx_facts.specs.Disks.{SameDisks}
 use Rattle.bx_global.specs.Allowed.{IsAllowed}
 use Rattle.bx_global.specs.Bytes.{IsHeld}
 use Rattle.bx_global.specs.declared.held.Held.{Held}
 use Rattle.bx_global.specs.declared.state.GlobalState.{GlobalState}
-use Rattle.bx_layout.specs.Labels.{SpellsLabel}
-use Rattle.bx_layout.specs.declared.label.Label.{Label}
 use Rattle.bx_paxos.proofs.Founds.{reads_so}
 use Rattle.bx_paxos.proofs.Shown.{found_alike, label_alike, unread_alike}
 use Rattle.bx_paxos.specs.Reading.{AreMade, AreSeen, ReadsFirst, ReadsState, Tells}
@@ -29,7 +25,7 @@ use Rattle.bx_paxos_found.specs.declared.looking.Seen.{Seen}
 use Rattle.bx_paxos_found.specs.declared.making.FoundState.{FoundState}
 use Rattle.bx_paxos_found.specs.declared.origins.Origins.{Origins}
 use Rattle.bx_paxos_found.specs.Boots.{boot_of_devices, boot_of_held, boot_of_sessions, boot_of_state}
-use Rattle.bx_paxos_found.specs.Choosing.{chosen_of, three}
+use Rattle.bx_paxos_found.specs.Choosing.{three}
 use Rattle.bx_paxos_found.specs.Finding.{IsMadeOf, IsSeen, boot_of, count_of, held_of, origin_of}
 use Rattle.bx_paxos_found.specs.Origins.{origin_in}
 use Rattle.bx_paxos_found.proofs.Chosen.{chosen_reads}

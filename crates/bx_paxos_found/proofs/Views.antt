@@ -19,8 +19,8 @@ use Rattle.bx_layout.proofs.LabelFields.{areas_in, devices_in, disk_in, same_lab
 use Rattle.bx_layout.specs.Labels.{IsLabel, SpellsLabel, label_text}
 use Rattle.bx_layout.specs.declared.label.Label.{Label}
 use Rattle.bx_paxos.specs.Fits.{Fits, Voters, devices_of}
-use Rattle.bx_paxos.specs.Reading.{AreMade, AreSeen, ReadsFirst, ReadsState}
-use Rattle.bx_paxos.specs.Shown.{HasBegun, HasFound, HasLabel, IsUnread, Shows, ShowsOne}
+use Rattle.bx_paxos.specs.Reading.{AreSeen, ReadsState}
+use Rattle.bx_paxos.specs.Shown.{HasBegun, HasLabel, IsUnread, Shows, ShowsOne}
 use Rattle.bx_paxos_found.specs.declared.choosing.Accepted.{Accepted}
 use Rattle.bx_paxos_found.specs.Choosing.{accepted_of, chosen_of, decided_of, higher_of, later_of, three, told_of}
 use Rattle.bx_paxos_found.proofs.Chosen.{chosen_reads}

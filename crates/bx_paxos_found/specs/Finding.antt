@@ -10,7 +10,6 @@ use Rattle.bx_paxos_found.specs.declared.looking.Seen.{Seen}
 use Rattle.bx_paxos_found.specs.declared.making.FoundState.{FoundState}
 use Rattle.bx_paxos_found.specs.Boots.{boot_of_held}
 use Rattle.bx_paxos_found.specs.Choosing.{chosen_of}
-use Rattle.bx_paxos_found.specs.Origins.{origin_in}
 
 -- this is seen of a disk: nothing, where it isn't read; else what its cell has, and under which number
 abbrev pub IsSeen : ℕ → (ℕ → List ℕ) → Option Seen → Type 0

@@ -1,5 +1,7 @@
 //! The states that machines came to know.
 
+ghost use Rattle.bx_global.specs.Allowed.{IsAllowed};
+
 use bx_base::Raw;
 use bx_global::GlobalState;
 use std::alloc::Global;
@@ -26,7 +28,9 @@ impl Known {
     }
 
     /// Whether a state is the one of its index, or the next. Says no where memory ran out.
-    pub(crate) fn has(&mut self, state: &GlobalState) -> bool {
+    pub(crate) fn has(&mut self, state: &GlobalState) -> bool
+        requires { IsAllowed state.now }
+    {
         let Ok(bytes) = state.write(self.alloc) else {
             return false;
         };

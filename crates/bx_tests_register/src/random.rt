@@ -19,7 +19,7 @@ use std::alloc::Global;
 const NODES: u32 = 2;
 
 /// How many machines take part: the replicas, the servers and the nodes.
-const MACHINES: usize = 7;
+const MACHINES: u32 = 7;
 
 /// How many events a run has.
 const EVENTS: u32 = 20_000;
@@ -33,18 +33,18 @@ struct Run {
     post: Post,
     words: Pcg32,
     known: Known,
-    down: [bool; MACHINES],
+    down: [bool; 7],
     reading: u64,
     boot: u64,
     opened: u32,
 }
 
 /// The machine with this number.
-fn machine(number: usize) -> Actor {
+fn machine(number: u32) -> Actor {
     match number {
-        0..=2 => Actor::Replica(number as u32),
-        3..=4 => Actor::Server(number as u32 - 3),
-        _ => Actor::Node(number as u32 % NODES),
+        0..=2 => Actor::Replica(number),
+        3..=4 => Actor::Server(number - 3),
+        _ => Actor::Node(number % NODES),
     }
 }
 
@@ -81,6 +81,34 @@ fn register(alloc: Global) -> Option<(Paxos, MemRack)> {
     Some((paxos, rack))
 }
 
+/// The machine that a packet is for.
+fn receiver(post: &Post, number: u64) -> Option<Actor> {
+    match post.packet(number) {
+        Some(packet) => Some(packet.to),
+        None => None,
+    }
+}
+
+/// A packet comes to the machine that it is for. Says whether that went well.
+fn hears(
+    paxos: &mut Paxos,
+    rack: &mut MemRack,
+    post: &Post,
+    number: u64,
+    reading: u64,
+    out: &mut Outbox,
+) -> bool {
+    match post.packet(number) {
+        Some(packet) => {
+            let input = Input::Packet(packet, reading);
+            paxos.has(packet.to)
+                && has_disks(rack)
+                && paxos.take(rack, packet.to, &input, out).is_ok()
+        }
+        None => false,
+    }
+}
+
 impl Run {
     /// A run that begins.
     fn new(alloc: Global) -> Option<Run> {
@@ -92,7 +120,7 @@ impl Run {
             post: Post::new(alloc),
             words: Pcg32::new(42, 54),
             known: Known::new(alloc),
-            down: [false; MACHINES],
+            down: [false; 7],
             reading: 0,
             boot: 0,
             opened: 0,
@@ -126,7 +154,7 @@ impl Run {
     fn is_up(&self, who: Actor) -> bool {
         for number in 0..MACHINES {
             if machine(number) == who {
-                return !self.down[number];
+                return !self.down[number as usize];
             }
         }
         false
@@ -149,20 +177,20 @@ impl Run {
         };
         let stays = self.below(8) == 0;
         let is_lost = self.below(16) == 0;
-        let Some(packet) = self.post.packet(number) else {
+        let Some(at) = receiver(&self.post, number) else {
             return false;
         };
-        let at = packet.to;
         let mut out = Outbox::new(self.alloc);
-        let input = Input::Packet(packet, self.reading);
         let is_right = is_lost
             || !self.is_up(at)
-            || (self.paxos.has(at)
-                && has_disks(&self.rack)
-                && self
-                    .paxos
-                    .take(&mut self.rack, at, &input, &mut out)
-                    .is_ok());
+            || hears(
+                &mut self.paxos,
+                &mut self.rack,
+                &self.post,
+                number,
+                self.reading,
+                &mut out,
+            );
         if !stays {
             self.post.settle(number);
         }
@@ -207,31 +235,54 @@ impl Run {
     }
 
     /// A machine stops. Says whether that went well.
-    fn stops(&mut self, number: usize) -> bool {
+    fn stops(&mut self, number: u32) -> bool {
         let who = machine(number);
         if number < MACHINES {
-            self.down[number] = true;
+            self.down[number as usize] = true;
         }
         self.paxos.crash(who);
         self.crashes_disk(who)
     }
 
+    /// A machine starts again, in the boot that is next. Says whether that went well.
+    fn restarts(&mut self, who: Actor, out: &mut Outbox) -> bool {
+        if !self.paxos.has(who) || !has_disks(&self.rack) {
+            return false;
+        }
+        match who {
+            Actor::Replica(n) => {
+                let at = Actor::Replica(n);
+                n < 3
+                    && self
+                        .paxos
+                        .restart(&mut self.rack, at, self.boot, out)
+                        .is_ok()
+            }
+            Actor::Node(n) => {
+                let at = Actor::Node(n);
+                self.paxos
+                    .restart(&mut self.rack, at, self.boot, out)
+                    .is_ok()
+            }
+            Actor::Server(n) => {
+                let at = Actor::Server(n);
+                self.paxos
+                    .restart(&mut self.rack, at, self.boot, out)
+                    .is_ok()
+            }
+            Actor::Member(_) => false,
+        }
+    }
+
     /// A machine starts again. Says whether that went well.
-    fn starts(&mut self, number: usize) -> bool {
+    fn starts(&mut self, number: u32) -> bool {
         let who = machine(number);
         if number < MACHINES {
-            self.down[number] = false;
+            self.down[number as usize] = false;
         }
         self.boot = self.boot.saturating_add(1);
         let mut out = Outbox::new(self.alloc);
-        self.paxos.has(who)
-            && has_disks(&self.rack)
-            && self
-                .paxos
-                .restart(&mut self.rack, who, self.boot, &mut out)
-                .is_ok()
-            && self.post.send(self.alloc, out).is_ok()
-            && self.knows(who)
+        self.restarts(who, &mut out) && self.post.send(self.alloc, out).is_ok() && self.knows(who)
     }
 
     /// All machines stop, and a register is opened on what their disks hold: on the last state of the chain, or on one ahead. Says whether
@@ -263,17 +314,18 @@ impl Run {
     /// One event. Says whether that went well.
     fn step(&mut self) -> bool {
         self.reading = self.reading.saturating_add(u64::from(self.below(40)));
-        let number = self.below(MACHINES as u32) as usize;
+        let number = self.below(MACHINES);
         if number >= MACHINES {
             return false;
         }
         let who = machine(number);
+        let is_down = self.down[number as usize];
         match self.below(1_000) {
             0..=1 => self.opens(),
-            2..=9 => self.down[number] || self.stops(number),
-            10..=99 => !self.down[number] || self.starts(number),
-            100..=139 => self.down[number] || self.takes(who, &Input::Tick(self.reading)),
-            140..=199 => self.down[number] || self.proposes(who),
+            2..=9 => is_down || self.stops(number),
+            10..=99 => !is_down || self.starts(number),
+            100..=139 => is_down || self.takes(who, &Input::Tick(self.reading)),
+            140..=199 => is_down || self.proposes(who),
             _ => self.comes(),
         }
     }

@@ -1,4 +1,3 @@
-use Rattle.std.proofs.Common.{◌≡◌, ◌<◌, arith}
 use Rattle.bx_paxos_found.proofs.Threes.{boots_below, has_found, ok_map, reads_found, same_twice, seen_before, stands_found, state_is, synced_all}
 use Rattle.bx_paxos_found.proofs.finding.find.Goals as goal
 

@@ -1,4 +1,4 @@
-use Rattle.std.proofs.Common.{◌≡◌, ◌∙◌, ◌+◌, ◌/◌, ℕ, List, length, take, refl, sym, ap, subst, arith}
+use Rattle.std.proofs.Common.{refl, sym, subst, arith}
 use Rattle.bx_layout.specs.Labels.{SpellsLabel}
 use Rattle.bx_paxos_found.proofs.Sectors.{first_sector}
 use Rattle.bx_paxos_found.proofs.looking.is_labelled.Goals as goal

@@ -1,4 +1,4 @@
-use Rattle.std.proofs.Common.{◌≡◌, ◌+◌, ◌^◌, ◌<◌, length, sym, ap, subst, ◌∙◌}
+use Rattle.std.proofs.Common.{◌+◌, ◌^◌, ◌<◌, length, sym, ap, subst, ◌∙◌}
 use Rattle.bx_facts.specs.Pasts.{opening_register}
 use Rattle.bx_global.specs.Allowed.{IsAllowed}
 use Rattle.bx_global.specs.declared.state.GlobalState.{GlobalState}

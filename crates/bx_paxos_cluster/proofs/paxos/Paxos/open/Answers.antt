@@ -1,4 +1,4 @@
-use Rattle.std.proofs.Common.{◌≡◌, ◌+◌, length, sym, ap, subst, ◌∙◌}
+use Rattle.std.proofs.Common.{◌+◌, length, sym, ap, subst, ◌∙◌}
 use Rattle.bx_base.specs.declared.names.Actor.TheVariants.{Replica}
 use Rattle.bx_facts.specs.Chains.{IsAboveBoots}
 use Rattle.bx_facts.specs.Pasts.{found_register}

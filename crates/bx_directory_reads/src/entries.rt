@@ -22,7 +22,7 @@ use std::alloc::Global;
 ///
 /// `Need` names a block of the volume that isn't held and is on the path of the run for it, shared. The status is `STALE`, where what
 /// is held is no directory.
-fn entry_behind<V: View>(
+pub fn entry_behind<V: View>(
     alloc: Global,
     areas: u16,
     root: u64,

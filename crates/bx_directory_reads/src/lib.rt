@@ -6,5 +6,6 @@ mod filling;
 mod listing;
 mod lookups;
 
+pub use entries::entry_behind;
 pub use listing::readdir;
 pub use lookups::lookup;

@@ -1,7 +1,8 @@
--- What REMOVE comes to by what it finds: the directory, the entry, the file.
+-- What a removal comes to by what it finds: the directory, the entry, the file.
 use Rattle.std.proofs.Common.{◌≡◌, ℕ, Bool, true, false, List, Option, Some, None, refl, sym, ap, ◌∙◌, subst, inl, inr}
-use Rattle.std.specs.Prelude.{◌≢◌, not, if◌then◌else◌, Result, Ok, Err}
+use Rattle.std.specs.Prelude.{not, if◌then◌else◌, Result, Ok, Err}
 use Rattle.bx_files.specs.Paths.{IsNeed}
+use Rattle.bx_files.specs.Reads.{Tells}
 use Rattle.bx_inodes.specs.Heads.{head_of}
 use Rattle.bx_inodes.specs.Inodes.{FileAt, IsInodeOf}
 use Rattle.bx_inodes.specs.declared.stop.Stop.{Stop}
@@ -12,6 +13,7 @@ use Rattle.bx_model.specs.declared.permissions.Want.TheVariants as want
 use Rattle.bx_model.specs.declared.reply.Reply.TheVariants as reply
 use Rattle.bx_model.specs.declared.tree.Tree.{Tree}
 use Rattle.bx_model.specs.Permissions.{may}
+use Rattle.bx_model.specs.Removing.{has_entries}
 use Rattle.bx_model.specs.Steps.{Outcome, refuse, ◌>>◌}
 use Rattle.bx_places.specs.Places.{is_block}
 use Rattle.bx_tree_files.specs.declared.file.File.{File}
@@ -20,9 +22,10 @@ use Rattle.bx_tree_files.specs.Entries.{is_bad}
 use Rattle.bx_tree_files.specs.Files.{file_at, is_directory}
 use Rattle.bx_tree_files.specs.Times.{Time}
 use Rattle.bx_truth.specs.Stored.{HasFields}
-use Rattle.bx_truth.proofs.Cases.{eq_false, eq_true}
 use Rattle.bx_views.specs.Truths.{Truth}
-use Rattle.bx_entries.specs.Finding.{DirectoryFor, EntryFor, FileFor, changeable, removing}
+use Rattle.bx_entries.specs.declared.finding.Removable.{Removable}
+use Rattle.bx_entries.specs.declared.finding.Removable.TheVariants as of
+use Rattle.bx_entries.specs.Finding.{DirectoryFor, EntryFor, FileFor, changeable, removal_error, removing, unless}
 use Rattle.bx_entries.specs.Removing.{change_error, removed}
 
 -- ---- the entry
@@ -82,9 +85,9 @@ module _ (areas : ℕ) (truth : Truth) (tree : Tree) (call : Call) (name : List 
 
 -- ---- the file
 
-module _ (areas : ℕ) (truth : Truth) (tree : Tree) (directory : File) (name : List ℕ) (now : Time) (handle : ℕ) where
-  pub no_file : (stop : Stop) → FileAt areas truth tree handle (Err stop) → FileFor areas truth tree directory name now handle (Err stop)
-  no_file (Status status) (code, none) = ap (removing tree directory name now) none ∙ ap Err (sym code)
+module _ (sort : Removable) (areas : ℕ) (truth : Truth) (tree : Tree) (directory : File) (name : List ℕ) (now : Time) (handle : ℕ) where
+  pub no_file : (stop : Stop) → FileAt areas truth tree handle (Err stop) → FileFor sort areas truth tree directory name now handle (Err stop)
+  no_file (Status status) (code, none) = ap (removing sort tree directory name now) none ∙ ap Err (sym code)
   no_file (Need at mode) f = tt
   no_file (Inner blocks) never = never
   no_file OutOfMemory f = tt
@@ -92,10 +95,37 @@ module _ (areas : ℕ) (truth : Truth) (tree : Tree) (directory : File) (name : 
   abbrev done : File → Outcome
   done file = Ok (reply.Status 0, removed tree directory name file now)
 
-  pub is_other_directory : (inode : Inode) (f : IsInodeOf areas truth tree handle inode) → inode.kind ≡ 2 → removing tree directory name now (file_at tree.files handle) ≡ Err 21
-  is_other_directory inode f two =
-      ap (removing tree directory name now) f.there ∙ ap (λ (t : Bool). refuse t 21 >> done f.file) (eq_true f.file.kind 2 (sym f.fields.kind ∙ two))
+  module _ (inode : Inode) (f : IsInodeOf areas truth tree handle inode) where
+    comes : (error : Option ℕ) → error ≡ removal_error sort f.file → removing sort tree directory name now (file_at tree.files handle) ≡ unless error (done f.file)
+    comes error is = ap (removing sort tree directory name now) f.there ∙ ap (λ (o : Option ℕ). unless o (done f.file)) (sym is)
 
-  pub is_removed : (inode : Inode) (f : IsInodeOf areas truth tree handle inode) → inode.kind ≢ 2 → removing tree directory name now (file_at tree.files handle) ≡ Ok (reply.Status 0, removed tree directory name f.file now)
-  is_removed inode f other =
-      ap (removing tree directory name now) f.there ∙ ap (λ (t : Bool). refuse t 21 >> done f.file) (eq_false f.file.kind 2 (λ two. other (f.fields.kind ∙ two)))
+    pub is_refused : (status : ℕ) (error : Option ℕ) → error ≡ Some status → error ≡ removal_error sort f.file → removing sort tree directory name now (file_at tree.files handle) ≡ Err status
+    is_refused status error some is = comes error is ∙ ap (λ (o : Option ℕ). unless o (done f.file)) some
+
+    pub is_removed : removal_error sort f.file ≡ None → removing sort tree directory name now (file_at tree.files handle) ≡ Ok (reply.Status 0, removed tree directory name f.file now)
+    is_removed none = comes None (sym none)
+
+    pub not_told : (stop : Stop) → Tells (removal_error sort f.file) (Err stop) → FileFor sort areas truth tree directory name now handle (Err stop)
+    not_told (Status status) never = absurd never
+    not_told (Need at mode) t = tt
+    not_told (Inner blocks) never = never
+    not_told OutOfMemory t = tt
+
+-- what may be removed has no entries where it is a directory
+abbrev error_by : Removable → Bool → Bool → Option ℕ
+error_by of.Plain d e = if d then Some 21 else None
+error_by of.Directory d e = if d then (if e then Some 66 else None) else Some 20
+
+empty_by : (sort : Removable) (d e : Bool) → error_by sort d e ≡ None → d ≡ true → e ≡ false
+empty_by of.Plain true e none one = absurd cc
+empty_by of.Plain false e none one = absurd cc
+empty_by of.Directory true true none one = absurd cc
+empty_by of.Directory false true none one = absurd cc
+empty_by of.Directory d false none one = refl
+
+by_parts : (sort : Removable) (file : File) → removal_error sort file ≡ error_by sort (is_directory file) (has_entries file)
+by_parts of.Plain file = refl
+by_parts of.Directory file = refl
+
+pub may_be_empty : (sort : Removable) (file : File) → removal_error sort file ≡ None → is_directory file ≡ true → has_entries file ≡ false
+may_be_empty sort file none one = empty_by sort (is_directory file) (has_entries file) (sym (by_parts sort file) ∙ none) one

@@ -1,5 +1,5 @@
 -- What changes of leaves ask for are blocks of the volume.
-use Rattle.std.proofs.Common.{◌≡◌, ℕ, zero, suc, ◌≤◌, true, List, [], Option, Some, None, subst, arith, inl, inr}
+use Rattle.std.proofs.Common.{◌≡◌, ℕ, zero, suc, ◌≤◌, true, List, Option, Some, None, subst, arith, inl, inr}
 use Rattle.std.specs.Prelude.{Ok}
 use Rattle.bx_base.specs.declared.names.Mode.{Mode}
 use Rattle.bx_base.specs.declared.names.Mode.TheVariants.{Exclusive}
@@ -44,9 +44,9 @@ leaf_block areas held hints truth draft root tree key at mode u on =
     (on_way areas (reads_with held hints draft) (chunks_of areas (with_draft truth draft)) root tree 0 Exclusive key a.sees a.is a.hints (omega arith)))
 
 -- so are those of taking an entry out
-pub take_block : (areas : ℕ) (held : Held) (hints : Hints) (truth : Truth) (root : ℕ) (tree : PageTree) (number : ℕ) (name : List ℕ) (at : ℕ) (mode : Mode) → Under areas held hints truth [] root tree
-    → OnTakePath held hints [] root number name at mode → is_block areas at ≡ true
-take_block areas held hints truth root tree number name at mode u (inl on) = leaf_block areas held hints truth [] root tree (name_key name) at mode u on
-take_block areas held hints truth root tree number name at mode u (inr on) =
-    let one = removes_in areas held hints truth [] on.mid root tree (name_key name) u (Ok tt) on.named in
+pub take_block : (areas : ℕ) (held : Held) (hints : Hints) (truth : Truth) (draft : List Changed) (root : ℕ) (tree : PageTree) (number : ℕ) (name : List ℕ) (at : ℕ) (mode : Mode) → Under areas held hints truth draft root tree
+    → OnTakePath held hints draft root number name at mode → is_block areas at ≡ true
+take_block areas held hints truth draft root tree number name at mode u (inl on) = leaf_block areas held hints truth draft root tree (name_key name) at mode u on
+take_block areas held hints truth draft root tree number name at mode u (inr on) =
+    let one = removes_in areas held hints truth draft on.mid root tree (name_key name) u (Ok tt) on.named in
     leaf_block areas held hints truth on.mid root one.1.after (entry_key number) at mode one.1.under on.numbered

@@ -6,3 +6,4 @@ pub mod Unlinked
 pub mod Removed
 pub mod Found
 pub mod RemovedFrom
+pub mod Emptied

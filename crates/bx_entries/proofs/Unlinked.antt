@@ -1,6 +1,6 @@
 -- A file that loses a name.
-use Rattle.std.proofs.Common.{◌≡◌, ℕ, ◌-◌, ◌<◌, ◌≤◌, Bool, true, false, List, Some, refl, sym, ap, ◌∙◌, subst, arith, inl, inr}
-use Rattle.std.specs.Prelude.{nat_le, if◌then◌else◌, length, Err}
+use Rattle.std.proofs.Common.{◌≡◌, ℕ, ◌-◌, ◌<◌, ◌≤◌, Bool, true, false, List, [], ◌∷◌, Some, refl, sym, ap, ◌∙◌, subst, arith, inl, inr}
+use Rattle.std.specs.Prelude.{◌≢◌, ◌⊎◌, nat_le, nat_lt, if◌then◌else◌, length, Err}
 use Rattle.std.proofs.lemmas.Bool.{le-leb}
 use Rattle.std.proofs.lemmas.Bool.Decides.{nat_tests}
 use Rattle.bx_chunks.specs.Freeing.{own_at}
@@ -23,14 +23,16 @@ use Rattle.bx_tree_files.specs.declared.file.Body.{Body}
 use Rattle.bx_tree_files.specs.declared.file.Body.TheVariants.{Bytes, Path, Names}
 use Rattle.bx_tree_files.specs.declared.file.File.{File}
 use Rattle.bx_tree_files.specs.Changes.{unlinked}
-use Rattle.bx_tree_files.specs.Files.{file_at, with_file}
+use Rattle.bx_tree_files.specs.declared.file.Name.{Name}
+use Rattle.bx_tree_files.specs.Files.{file_at, is_directory, with_file}
+use Rattle.bx_tree_files.specs.Names.{names_of}
 use Rattle.bx_tree_files.specs.Times.{Time}
 use Rattle.bx_truth.specs.Chunks.{chunks_of}
 use Rattle.bx_truth.specs.Rewritten.{KeepsBody}
 use Rattle.bx_truth.specs.Shown.{IsShown}
 use Rattle.bx_truth.specs.Stands.{StandsFor}
 use Rattle.bx_truth.specs.Stored.{HasBody, HasFields}
-use Rattle.bx_truth.proofs.Cases.{eq_true}
+use Rattle.bx_truth.proofs.Cases.{eq_false, eq_true}
 use Rattle.bx_truth.proofs.Put.{shown}
 use Rattle.bx_views.specs.Truths.{Held, Truth, with_draft}
 use Rattle.bx_entries.specs.Stopping.{StopsByChunks}
@@ -47,25 +49,34 @@ module _ (areas : ℕ) (held : Held) (truth : Truth) (old : List Changed) (tree 
   is_shown : IsShown (chunks_of areas (with_draft truth old)) f.is.owner handle (f.is.stored handle) file
   is_shown = shown areas (with_draft truth old) tree handle file f.is f.there
 
+  none_in : (names : List Name) → nat_lt 0 (length names) ≡ false → names ≡ []
+  none_in [] few = refl
+  none_in (name ∷ names) few = absurd (grind (arith, nat_tests, few))
+
   pub bare : IsBare file.body
-  bare = by file.body is_shown.body
+  bare = by file.body is_shown.body f.empty
     where
-      by : (b : Body) → HasBody (chunks_of areas (with_draft truth old)) f.is.owner handle (f.is.stored handle) b → IsBare b
-      by (Bytes bytes) has = tt
-      by (Path path) has = tt
-      by (Names parent next names) has =
-          let two : file.kind ≡ 2 = sym is_shown.fields.kind ∙ has.kind in
-          let both : false ≡ true = sym f.other ∙ eq_true file.kind 2 two in
-          absurd cc
+      by : (b : Body) → HasBody (chunks_of areas (with_draft truth old)) f.is.owner handle (f.is.stored handle) b → (is_directory file ≡ true → nat_lt 0 (length (names_of b)) ≡ false) → IsBare b
+      by (Bytes bytes) has none = tt
+      by (Path path) has none = tt
+      by (Names parent next names) has none = none_in names (none (eq_true file.kind 2 (sym is_shown.fields.kind ∙ has.kind)))
+
+  abbrev after : Bool → Bool → Tree
+  after d few = if d then without tree handle else (if few then without tree handle else changed tree handle (unlinked now))
 
   -- it dies
-  pub dies : (new : List Changed) → inode.nlink ≤ 1 → BuriesFile areas truth old new tree handle inode → Unlinks areas truth old new tree handle file now
-  dies new last b =
+  dies_by : (d : Bool) → is_directory file ≡ d → (inode.kind ≡ 2) ⊎ (inode.nlink ≤ 1) → after (is_directory file) (nat_le file.nlink 1) ≡ without tree handle
+  dies_by true is last = rw is refl
+  dies_by false is (inl two) = let both : false ≡ true = sym is ∙ eq_true file.kind 2 (sym f.fields.kind ∙ two) in absurd cc
+  dies_by false is (inr last) =
       let few : file.nlink ≤ 1 = let same = f.fields.nlink in omega (arith, same, last) in
-      record {
-        stands = subst (λ (t : Bool). StandsFor areas (with_draft truth new) (if t then without tree handle else changed tree handle (unlinked now))) (sym (le-leb file.nlink 1 few)) b.stands;
-        leads = b.leads;
-      }
+      rw (is, le-leb file.nlink 1 few) refl
+
+  pub dies : (new : List Changed) → (inode.kind ≡ 2) ⊎ (inode.nlink ≤ 1) → BuriesFile areas truth old new tree handle inode → Unlinks areas truth old new tree handle file now
+  dies new last b = record {
+    stands = subst (λ (t : Tree). StandsFor areas (with_draft truth new) t) (sym (dies_by (is_directory file) refl last)) b.stands;
+    leads = b.leads;
+  }
 
   pub stopped : (new : List Changed) → length old ≤ 3 → (error : ChunkError) (stop : Stop) → BuriesAt held old new handle inode (Err error) → BuriesIn areas truth old new tree handle inode (Err error) → StopsByChunks error stop
       → UnlinksIn areas truth old new tree handle file now (Err stop)
@@ -87,16 +98,18 @@ module _ (areas : ℕ) (held : Held) (truth : Truth) (old : List Changed) (tree 
   fields : HasFields less (unlinked now file)
   fields = record { kind = f.fields.kind; mode = f.fields.mode; nlink = ap (λ (n : ℕ). n - 1) f.fields.nlink; uid = f.fields.uid; gid = f.fields.gid; atime = f.fields.atime; mtime = f.fields.mtime; ctime = refl }
 
-  pub lessens : (new : List Changed) → 1 < inode.nlink → PutsInode old new handle (record inode { nlink = inode.nlink - 1; ctime = now })
+  pub lessens : (new : List Changed) → inode.kind ≢ 2 → 1 < inode.nlink → PutsInode old new handle (record inode { nlink = inode.nlink - 1; ctime = now })
       → ((areas : ℕ) (truth : Truth) (tree : Tree) (file file_now : File) (kept : Inode) → StandsFor areas (with_draft truth old) tree
       → file_at tree.files handle ≡ Some file → HoldsInode areas (with_draft truth old) handle kept → KeepsBody kept (record inode { nlink = inode.nlink - 1; ctime = now })
       → HasFields (record inode { nlink = inode.nlink - 1; ctime = now }) file_now → file_now.handle ≡ handle → file_now.body ≡ file.body
       → StandsFor areas (with_draft truth new) (record tree { files = with_file tree.files file_now })) → Unlinks areas truth old new tree handle file now
-  lessens new more puts put =
+  lessens new other more puts put =
       let many : 1 < file.nlink = let same = f.fields.nlink in omega (arith, same, more) in
       let test : nat_le file.nlink 1 ≡ false = grind (arith, nat_tests, many) in
+      let none : is_directory file ≡ false = eq_false file.kind 2 (λ two. other (f.fields.kind ∙ two)) in
+      let is : after (is_directory file) (nat_le file.nlink 1) ≡ changed tree handle (unlinked now) = rw (none, test) refl in
       record {
-        stands = subst (λ (t : Bool). StandsFor areas (with_draft truth new) (if t then without tree handle else changed tree handle (unlinked now))) (sym test)
+        stands = subst (λ (t : Tree). StandsFor areas (with_draft truth new) t) (sym is)
             (subst (λ (files : List File). StandsFor areas (with_draft truth new) (record tree { files = files })) (sym (changed_is_put tree.files handle (unlinked now) file f.is.in_order f.there f.handle_is))
             (put areas truth tree file (unlinked now file) inode f.is f.there f.holds keeps fields f.handle_is refl));
         leads = λ hints fit. fits areas held truth old new handle inode less f.same f.is.chunked f.holds puts hints refl fit;

@@ -1,5 +1,5 @@
--- What REMOVE finds: the directory, the entry of a name, and the file that it names; and its path.
-use Rattle.std.specs.Prelude.{◌≡◌, ◌≢◌, ℕ, ◌≤◌, ◌⊎◌, not, List, [], Option, Some, None, Result, Ok, Err}
+-- What REMOVE and RMDIR find: the directory, the entry of a name, and the file that it names; and their paths.
+use Rattle.std.specs.Prelude.{◌≡◌, ℕ, ◌≤◌, ◌⊎◌, not, if◌then◌else◌, List, [], Option, Some, None, Result, Ok, Err}
 use Rattle.bx_base.specs.declared.names.Mode.{Mode}
 use Rattle.bx_base.specs.declared.names.Mode.TheVariants.{Exclusive}
 use Rattle.bx_blink.specs.Walks.{reads_with}
@@ -17,6 +17,7 @@ use Rattle.bx_model.specs.declared.permissions.Want.TheVariants as want
 use Rattle.bx_model.specs.declared.reply.Reply.TheVariants as reply
 use Rattle.bx_model.specs.declared.tree.Tree.{Tree}
 use Rattle.bx_model.specs.Permissions.{may}
+use Rattle.bx_model.specs.Removing.{has_entries, remove, rmdir}
 use Rattle.bx_model.specs.Steps.{Outcome, must, refuse, ◌>>=◌, ◌>>◌}
 use Rattle.bx_records.specs.Drafts.{Changed}
 use Rattle.bx_tree_files.specs.declared.file.File.{File}
@@ -27,6 +28,9 @@ use Rattle.bx_tree_files.specs.Times.{Time}
 use Rattle.bx_truth.specs.Chunks.{block_at}
 use Rattle.bx_truth.specs.Keys.{name_key, name_value}
 use Rattle.bx_views.specs.Truths.{Truth, Held, Hints, IsTruth}
+use Rattle.bx_directory_reads.specs.Listings.{OnBehind}
+use Rattle.bx_entries.specs.declared.finding.Removable.{Removable}
+use Rattle.bx_entries.specs.declared.finding.Removable.TheVariants as of
 use Rattle.bx_entries.specs.Removing.{OnRemoving, Removes, change_error, removed}
 
 -- the directory in which an entry of a name may be changed, if a file is found: 70 is STALE, 20 NOTDIR, 13 ACCES
@@ -38,16 +42,29 @@ changeable call name found = do
   refuse (not (may call directory want.Change)) 13
   Ok directory
 
--- what REMOVE comes to with a file that the entry names, if it is there: 21 is ISDIR
-abbrev pub removing : Tree → File → List ℕ → Time → Option File → Outcome
-removing tree directory name now found = do
-  file ← must found 70
-  refuse (is_directory file) 21
-  Ok (reply.Status 0, removed tree directory name file now)
+-- what a call comes to that removes a file of one sort or the other: REMOVE, or RMDIR
+abbrev pub removal : Removable → Tree → Call → List ℕ → List ℕ → Time → Outcome
+removal of.Plain tree call at name now = remove tree call at name now
+removal of.Directory tree call at name now = rmdir tree call at name now
+
+-- the error that a file is to its removal: of a file that is no directory, ISDIR (21) where it is one; of a directory without entries, NOTDIR (20)
+-- where it is none, and NOTEMPTY (66) where it has entries
+abbrev pub removal_error : Removable → File → Option ℕ
+removal_error of.Plain file = if is_directory file then Some 21 else None
+removal_error of.Directory file = if is_directory file then (if has_entries file then Some 66 else None) else Some 20
+
+-- the error, if there is one, or else what comes
+abbrev pub unless : Option ℕ → Outcome → Outcome
+unless None next = next
+unless (Some status) next = Err status
+
+-- what the call comes to with a file that the entry names, if it is there
+abbrev pub removing : Removable → Tree → File → List ℕ → Time → Option File → Outcome
+removing sort tree directory name now found = must found 70 >>= (λ file. unless (removal_error sort file) (Ok (reply.Status 0, removed tree directory name file now)))
 
 -- what it comes to with an entry of the name, if there is one: 2 is NOENT
-abbrev pub removing_entry : Tree → File → List ℕ → Time → Option Name → Outcome
-removing_entry tree directory name now found = must found 2 >>= (λ entry. removing tree directory name now (file_at tree.files entry.handle))
+abbrev pub removing_entry : Removable → Tree → File → List ℕ → Time → Option Name → Outcome
+removing_entry sort tree directory name now found = must found 2 >>= (λ entry. removing sort tree directory name now (file_at tree.files entry.handle))
 
 -- the directory is there, and the caller may change it
 pub record MayChange (areas : ℕ) (truth : Truth) (tree : Tree) (call : Call) (name : List ℕ) (handle : ℕ) (inode : Inode) : Type 0 where
@@ -69,17 +86,25 @@ EntryFor names name (Err (Need at mode)) = Unit {0}
 EntryFor names name (Err (Inner blocks)) = ⊥
 EntryFor names name (Err OutOfMemory) = Unit {0}
 
--- the file is there, and no directory
-pub record MayRemove (areas : ℕ) (truth : Truth) (tree : Tree) (handle : ℕ) (inode : Inode) : Type 0 where
+-- the file is there, and nothing is against its removal
+pub record MayRemove (sort : Removable) (areas : ℕ) (truth : Truth) (tree : Tree) (handle : ℕ) (inode : Inode) : Type 0 where
   pub at : IsInodeOf areas truth tree handle inode
-  pub other : inode.kind ≢ 2
+  pub may : removal_error sort at.file ≡ None
 
-abbrev pub FileFor : ℕ → Truth → Tree → File → List ℕ → Time → ℕ → Result Inode Stop → Type 0
-FileFor areas truth tree directory name now handle (Ok inode) = MayRemove areas truth tree handle inode
-FileFor areas truth tree directory name now handle (Err (Status status)) = removing tree directory name now (file_at tree.files handle) ≡ Err status
-FileFor areas truth tree directory name now handle (Err (Need at mode)) = Unit {0}
-FileFor areas truth tree directory name now handle (Err (Inner blocks)) = ⊥
-FileFor areas truth tree directory name now handle (Err OutOfMemory) = Unit {0}
+abbrev pub FileFor : Removable → ℕ → Truth → Tree → File → List ℕ → Time → ℕ → Result Inode Stop → Type 0
+FileFor sort areas truth tree directory name now handle (Ok inode) = MayRemove sort areas truth tree handle inode
+FileFor sort areas truth tree directory name now handle (Err (Status status)) = removing sort tree directory name now (file_at tree.files handle) ≡ Err status
+FileFor sort areas truth tree directory name now handle (Err (Need at mode)) = Unit {0}
+FileFor sort areas truth tree directory name now handle (Err (Inner blocks)) = ⊥
+FileFor sort areas truth tree directory name now handle (Err OutOfMemory) = Unit {0}
+
+-- a file of a file tree, by its inode
+pub record IsKnownFile (volume areas : ℕ) (held : Held) (hints : Hints) (truth : Truth) (tree : Tree) (handle : ℕ) (inode : Inode) : Type 0 where
+  pub few : areas ≤ 64
+  pub same : IsTruth held truth
+  pub stands : Stands volume areas truth tree
+  pub fit : HintsFitAll areas hints truth
+  pub at : IsInodeOf areas truth tree handle inode
 
 -- a directory of a file tree, by its inode
 pub record IsDirectoryOf (volume areas : ℕ) (held : Held) (hints : Hints) (truth : Truth) (tree : Tree) (handle : ℕ) (inode : Inode) : Type 0 where
@@ -90,7 +115,7 @@ pub record IsDirectoryOf (volume areas : ℕ) (held : Held) (hints : Hints) (tru
   pub at : IsInodeOf areas truth tree handle inode
   pub kind : inode.kind ≡ 2
 
--- what REMOVE comes to is what the draft leaves
+-- what the call comes to is what the draft leaves
 pub record RemovesSo (areas : ℕ) (truth : Truth) (outcome : Outcome) (new : List Changed) : Type 0 where
   pub next : Tree
   pub comes_to : outcome ≡ Ok (reply.Status 0, next)
@@ -103,31 +128,53 @@ RemovesFrom areas truth outcome (Err (Need at mode)) = Unit {0}
 RemovesFrom areas truth outcome (Err (Inner blocks)) = ⊥
 RemovesFrom areas truth outcome (Err OutOfMemory) = Unit {0}
 
--- ---- the path
+-- ---- the paths
 
 -- the block of a handle, exclusively
 abbrev pub IsOwnBlock : ℕ → ℕ → Mode → Type 0
 IsOwnBlock handle at mode = (at ≡ block_at handle) × (mode ≡ Exclusive)
 
--- from an entry that a search finds on: the block of what it names, and the path of removing it
-pub record OnFound (held : Held) (hints : Hints) (root : ℕ) (name : List ℕ) (at : ℕ) (mode : Mode) : Type 0 where
+-- the way to the first entry of the directory whose tree is under a root, where a directory is to be removed
+abbrev pub OnEmptiness : Removable → Held → Hints → ℕ → ℕ → Mode → Type 0
+OnEmptiness of.Plain held hints root at mode = ⊥
+OnEmptiness of.Directory held hints root at mode = OnBehind held hints root 0 at mode
+
+-- the same of the directory with a handle, by the inode that is held
+pub record OnFirst (sort : Removable) (held : Held) (hints : Hints) (areas handle at : ℕ) (mode : Mode) : Type 0 where
+  pub inode : Inode
+  pub live : LiveAt (reads_with held hints []) areas handle Exclusive inode
+  pub on : OnEmptiness sort held hints inode.tree at mode
+
+-- the block of the file to remove; of a directory the way to its first entry besides
+abbrev pub OnFile : Removable → Held → Hints → ℕ → ℕ → ℕ → Mode → Type 0
+OnFile sort held hints areas handle at mode = IsOwnBlock handle at mode ⊎ OnFirst sort held hints areas handle at mode
+
+-- from an entry that a search finds on: that of what it names, and the path of removing it
+pub record OnFound (sort : Removable) (held : Held) (hints : Hints) (areas root : ℕ) (name : List ℕ) (at : ℕ) (mode : Mode) : Type 0 where
   pub number : ℕ
   pub handle : ℕ
   pub found : Finds held hints root (name_key name) (Some (name_value number handle))
-  pub on : IsOwnBlock handle at mode ⊎ OnRemoving held hints root number name handle at mode
+  pub on : OnFile sort held hints areas handle at mode ⊎ OnRemoving held hints root number name handle at mode
 
 -- from a directory's root on: the search for the name, and that from the entry on
-abbrev pub OnNamed : Held → Hints → ℕ → List ℕ → ℕ → Mode → Type 0
-OnNamed held hints root name at mode = OnSearch held hints root (name_key name) at mode ⊎ OnFound held hints root name at mode
+abbrev pub OnNamed : Removable → Held → Hints → ℕ → ℕ → List ℕ → ℕ → Mode → Type 0
+OnNamed sort held hints areas root name at mode = OnSearch held hints root (name_key name) at mode ⊎ OnFound sort held hints areas root name at mode
 
 -- from the directory that is named, and held, on
-pub record OnDirectory (held : Held) (hints : Hints) (volume areas : ℕ) (bytes name : List ℕ) (at : ℕ) (mode : Mode) : Type 0 where
+pub record OnDirectory (sort : Removable) (held : Held) (hints : Hints) (volume areas : ℕ) (bytes name : List ℕ) (at : ℕ) (mode : Mode) : Type 0 where
   pub directory : ℕ
   pub inode : Inode
   pub is_named : named volume bytes ≡ Some directory
   pub live : LiveAt (reads_with held hints []) areas directory Exclusive inode
-  pub on : OnNamed held hints inode.tree name at mode
+  pub on : OnNamed sort held hints areas inode.tree name at mode
 
--- The path of REMOVE: the inode of the directory that is named, exclusively, and that from there on.
+-- The path of a removal: the inode of the directory that is named, exclusively, and that from there on.
+abbrev pub OnRemoval : Removable → Held → Hints → ℕ → ℕ → List ℕ → List ℕ → ℕ → Mode → Type 0
+OnRemoval sort held hints volume areas bytes name at mode = OnInode volume bytes Exclusive at mode ⊎ OnDirectory sort held hints volume areas bytes name at mode
+
+-- The paths of REMOVE and of RMDIR.
 abbrev pub OnRemove : Held → Hints → ℕ → ℕ → List ℕ → List ℕ → ℕ → Mode → Type 0
-OnRemove held hints volume areas bytes name at mode = OnInode volume bytes Exclusive at mode ⊎ OnDirectory held hints volume areas bytes name at mode
+OnRemove held hints volume areas bytes name at mode = OnRemoval of.Plain held hints volume areas bytes name at mode
+
+abbrev pub OnRmdir : Held → Hints → ℕ → ℕ → List ℕ → List ℕ → ℕ → Mode → Type 0
+OnRmdir held hints volume areas bytes name at mode = OnRemoval of.Directory held hints volume areas bytes name at mode

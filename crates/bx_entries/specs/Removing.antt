@@ -1,5 +1,5 @@
--- REMOVE: what it does with the directory, the entry and the file that it finds.
-use Rattle.std.specs.Prelude.{◌≡◌, ◌≢◌, ℕ, ◌≤◌, ◌⊎◌, false, if◌then◌else◌, List, [], Option, Some, None, Result, Ok, Err}
+-- REMOVE and RMDIR: what they do with the directory, the entry and the file that they find.
+use Rattle.std.specs.Prelude.{◌≡◌, ℕ, ◌≤◌, ◌⊎◌, true, false, if◌then◌else◌, List, [], Option, Some, None, Result, Ok, Err}
 use Rattle.bx_base.specs.declared.names.Mode.{Mode}
 use Rattle.bx_base.specs.declared.names.Mode.TheVariants.{Exclusive}
 use Rattle.bx_dirs.specs.Changes.{OnTakePath}
@@ -13,14 +13,13 @@ use Rattle.bx_layout.specs.declared.inode.Inode.{Inode}
 use Rattle.bx_model.specs.declared.call.Call.{Call}
 use Rattle.bx_model.specs.declared.permissions.Want.TheVariants as want
 use Rattle.bx_model.specs.declared.tree.Tree.{Tree}
-use Rattle.bx_model.specs.Edits.{changed}
 use Rattle.bx_model.specs.Permissions.{may}
-use Rattle.bx_model.specs.Removing.{without_link}
+use Rattle.bx_model.specs.Removing.{has_entries}
+use Rattle.bx_model.specs.Renaming.{without_replaced}
 use Rattle.bx_records.specs.Drafts.{Changed}
 use Rattle.bx_tree_files.specs.declared.file.Body.TheVariants.{Names}
 use Rattle.bx_tree_files.specs.declared.file.File.{File}
 use Rattle.bx_tree_files.specs.declared.file.Name.{Name}
-use Rattle.bx_tree_files.specs.Changes.{taken_out}
 use Rattle.bx_tree_files.specs.Entries.{entry_named, is_bad}
 use Rattle.bx_tree_files.specs.Files.{is_directory}
 use Rattle.bx_tree_files.specs.Times.{Time}
@@ -33,8 +32,8 @@ use Rattle.bx_views.specs.Truths.{Truth, Held, Hints, IsTruth, with_draft}
 abbrev pub change_error : Call → List ℕ → File → Option ℕ
 change_error call name file = if is_directory file then (if is_bad name then Some 13 else if may call file want.Change then None else Some 13) else Some 20
 
--- A directory of a file tree, by its inode, with an entry of a name by its number, and the file that the entry names, by its inode, which is no
--- directory.
+-- A directory of a file tree, by its inode, with an entry of a name by its number, and the file that the entry names, by its inode, which has no
+-- entries where it is a directory.
 pub record IsRemoval (volume areas : ℕ) (held : Held) (hints : Hints) (truth : Truth) (tree : Tree) (directory : ℕ) (inode : Inode) (number : ℕ) (name : List ℕ) (handle : ℕ) (of : Inode) : Type 0 where
   pub few : areas ≤ 64
   pub same : IsTruth held truth
@@ -48,11 +47,11 @@ pub record IsRemoval (volume areas : ℕ) (held : Held) (hints : Hints) (truth :
   pub body : at.file.body ≡ Names parent next names
   pub found : entry_named names name ≡ Some (record { number = number; name = name; handle = handle })
   pub file : IsInodeOf areas truth tree handle of
-  pub other : of.kind ≢ 2
+  pub empty : is_directory file.file ≡ true → has_entries file.file ≡ false
 
--- the tree in which the entry is no more, and the file has one name less or is no more
+-- the tree in which the entry is no more, and the file has one name less or is no more, as a directory then is
 abbrev pub removed : Tree → File → List ℕ → File → Time → Tree
-removed tree directory name file now = without_link now (changed tree directory.handle (taken_out now name false)) file.handle file.nlink
+removed tree directory name file now = without_replaced now tree directory name (Some file)
 
 -- the truth with the draft stands for it, and all hints that fitted still fit
 pub record Removes (areas : ℕ) (truth : Truth) (new : List Changed) (next : Tree) : Type 0 where

@@ -1,12 +1,15 @@
-//! What REMOVE finds: the directory, the entry, and the file that it names.
+//! What REMOVE and RMDIR find: the directory, the entry, and the file that it names.
 
-ghost use Rattle.std.specs.Prelude.{◌≡◌, ℕ, List, [], IfOk, Some};
+ghost use Rattle.std.specs.Prelude.{◌≡◌, ◌≤◌, ℕ, List, [], IfOk, Some};
 ghost use Rattle.bx_base.specs.declared.names.Mode.TheVariants.{Exclusive};
 ghost use Rattle.bx_blink.specs.Walks.{reads_with};
 ghost use Rattle.bx_dirs.specs.Entries.{HasEntries};
 ghost use Rattle.bx_files.specs.Paths.{Finds, OnSearch};
+ghost use Rattle.bx_files.specs.Reads.{Tells};
+ghost use Rattle.bx_hints.specs.Fitting.{HintsFitAll};
 ghost use Rattle.bx_inodes.specs.Heads.{head_of as head_by};
 ghost use Rattle.bx_inodes.specs.Inodes.{LiveAt};
+ghost use Rattle.bx_inodes.specs.Stands.{Stands};
 ghost use Rattle.bx_inodes.specs.Stops.{NeedsOn, NeverInner};
 ghost use Rattle.bx_model.specs.declared.tree.Tree.{Tree};
 ghost use Rattle.bx_tree_files.specs.declared.file.File.{File};
@@ -15,15 +18,16 @@ ghost use Rattle.bx_tree_files.specs.Times.{Time};
 ghost use Rattle.bx_truth.specs.Keys.{name_key, name_value};
 ghost use Rattle.bx_truth.specs.Stands.{StandsFor};
 ghost use Rattle.bx_views.specs.Truths.{IsTruth, Truth};
-ghost use Rattle.bx_entries.specs.Finding.{DirectoryFor, EntryFor, FileFor, IsOwnBlock};
+ghost use Rattle.bx_entries.specs.Finding.{DirectoryFor, EntryFor, FileFor, IsKnownFile, IsOwnBlock, OnEmptiness, OnFile, removal_error as removal_error_of};
 ghost use Rattle.bx_entries.specs.Removing.{change_error as error_of};
 
 use bx_base::{Mode, OutOfMemory};
 use bx_blink::BlinkError;
+use bx_directory_reads::entry_behind;
 use bx_files::needed;
 use bx_inodes::{Stop, head_of, inode_at};
 use bx_layout::Inode;
-use bx_model::{ACCES, Call, ISDIR, NOENT, NOTDIR, STALE, Want, may};
+use bx_model::{ACCES, Call, ISDIR, NOENT, NOTDIR, NOTEMPTY, STALE, Want, may};
 use bx_records::Draft;
 use bx_tree_files::{DIRECTORY, is_bad};
 use bx_views::View;
@@ -33,7 +37,7 @@ use std::alloc::Global;
 ///
 /// `Need` names the inode's block, exclusively, which isn't held so. The status is `STALE`, exactly where there is no such file, else `NOTDIR`
 /// where it is no directory, and `ACCES` of a bad name and where the caller may not change it.
-pub(crate) fn directory_for<V: View>(
+pub fn directory_for<V: View>(
     alloc: Global,
     view: &V,
     areas: u16,
@@ -85,7 +89,7 @@ fn change_error(
 ///
 /// `Need` names a block of the volume that isn't held and is on the path of the search, shared. The status is `NOENT`, exactly where no entry has
 /// the name, and `STALE` where what is held is no directory.
-pub(crate) fn entry_for<V: View>(
+pub fn entry_for<V: View>(
     alloc: Global,
     view: &V,
     areas: u16,
@@ -110,29 +114,69 @@ pub(crate) fn entry_for<V: View>(
     }
 }
 
-/// The inode of the file with a handle, which is no directory.
+/// What a call removes.
+#[derive(Clone, Copy)]
+pub enum Removable {
+    /// A file that is no directory.
+    Plain,
+    /// A directory without entries.
+    Directory,
+}
+
+/// The inode of the file with a handle, of the sort that a call removes.
 ///
-/// `Need` names its block, exclusively, which isn't held so. The status is `STALE`, exactly where there is no such file, else `ISDIR` where it is
-/// a directory.
+/// `Need` names its block, exclusively, which isn't held so; or, where it is that of a directory, and a directory is to be removed, a block on
+/// the way to its first entry, shared. The status is `STALE`, exactly where there is no such file, else `ISDIR` where it is a directory and none is to
+/// be removed, `NOTDIR` where it is none and one is to be, and `NOTEMPTY` where it has entries.
 pub(crate) fn file_for<V: View>(
     alloc: Global,
     view: &V,
     areas: u16,
     handle: u64,
+    sort: Removable,
 ) -> Result<Inode, Stop>
-    ensures step { (truth : Truth) (tree : Tree) (directory : File) (name : List ℕ) (now : Time) → IsTruth (V.held view.now) truth → StandsFor areas truth tree → FileFor areas truth tree directory name now handle result }
+    ensures step { (volume : ℕ) (truth : Truth) (tree : Tree) (directory : File) (name : List ℕ) (now : Time) → areas ≤ 64 → IsTruth (V.held view.now) truth → Stands volume areas truth tree
+        → HintsFitAll areas (V.hints view.now) truth → FileFor sort areas truth tree directory name now handle result }
     ensures live { IfOk result (LiveAt (reads_with (V.held view.now) (V.hints view.now) []) areas handle Exclusive) }
-    ensures need { NeedsOn areas (V.held view.now) (IsOwnBlock handle) result }
+    ensures need { NeedsOn areas (V.held view.now) (OnFile sort (V.held view.now) (V.hints view.now) areas handle) result }
     ensures inner { NeverInner result }
 {
     let none = Draft::new(alloc);
     match inode_at(alloc, &none, view, areas, handle, Mode::Exclusive) {
         Err(stop) => Err(stop),
-        Ok(inode) => {
-            if inode.kind == DIRECTORY {
-                return Err(Stop::Status(ISDIR));
+        Ok(inode) => match removal_error(alloc, view, areas, &inode, sort) {
+            Err(stop) => Err(stop),
+            Ok(Some(status)) => Err(Stop::Status(status)),
+            Ok(None) => Ok(inode),
+        },
+    }
+}
+
+/// The error that the file of an inode is to its removal; `None` exactly where there is none.
+fn removal_error<V: View>(
+    alloc: Global,
+    view: &V,
+    areas: u16,
+    inode: &Inode,
+    sort: Removable,
+) -> Result<Option<u32>, Stop>
+    ensures step { (volume : ℕ) (truth : Truth) (tree : Tree) (handle : ℕ) → (is : IsKnownFile volume areas (V.held view.now) (V.hints view.now) truth tree handle inode.now)
+        → Tells (removal_error_of sort is.at.file) result }
+    ensures need { NeedsOn areas (V.held view.now) (OnEmptiness sort (V.held view.now) (V.hints view.now) inode.now.tree) result }
+    ensures inner { NeverInner result }
+{
+    let is_directory = inode.kind == DIRECTORY;
+    match sort {
+        Removable::Plain => Ok(if is_directory { Some(ISDIR) } else { None }),
+        Removable::Directory => {
+            if !is_directory {
+                return Ok(Some(NOTDIR));
             }
-            Ok(inode)
+            match entry_behind(alloc, areas, inode.tree, 0, view) {
+                Err(stop) => Err(stop),
+                Ok(Some(_)) => Ok(Some(NOTEMPTY)),
+                Ok(None) => Ok(None),
+            }
         }
     }
 }

@@ -1,4 +1,4 @@
-//! Entries that are taken out of directories, and files that lose a name, over views.
+//! Entries that are taken out of directories, and files that lose a name, over views: REMOVE and RMDIR.
 #![tactic(auto)]
 
 mod finding;
@@ -8,7 +8,8 @@ mod stops;
 mod taking;
 mod unlinking;
 
-pub use removals::remove;
-pub use removing::{Known, remove_entry};
-pub use taking::take_entry;
+pub use finding::{Removable, directory_for, entry_for};
+pub use removals::{remove, rmdir};
+pub use removing::remove_entry;
+pub use taking::{Known, take_entry};
 pub use unlinking::unlink;

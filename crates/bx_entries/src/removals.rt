@@ -1,4 +1,4 @@
-//! REMOVE.
+//! REMOVE and RMDIR.
 
 ghost use Rattle.std.specs.Prelude.{◌≡◌, ◌≤◌, ℕ, List, [], IfOk};
 ghost use Rattle.bx_base.specs.declared.names.Mode.TheVariants.{Exclusive};
@@ -9,15 +9,16 @@ ghost use Rattle.bx_inodes.specs.Inodes.{LiveAt};
 ghost use Rattle.bx_inodes.specs.Stands.{Stands};
 ghost use Rattle.bx_inodes.specs.Stops.{NeedsOn, NeverInner};
 ghost use Rattle.bx_model.specs.declared.tree.Tree.{Tree};
-ghost use Rattle.bx_model.specs.Removing.{remove as remove_of};
+ghost use Rattle.bx_model.specs.Removing.{remove as remove_of, rmdir as rmdir_of};
 ghost use Rattle.bx_tree_files.specs.Entries.{entry_named};
 ghost use Rattle.bx_tree_files.specs.Names.{names_of};
 ghost use Rattle.bx_views.specs.Attempts.{IsHeldDraft};
 ghost use Rattle.bx_views.specs.Truths.{Hints, IsTruth, Truth, with_draft};
-ghost use Rattle.bx_entries.specs.Finding.{IsDirectoryOf, OnNamed, OnRemove, RemovesFrom, removing_entry};
+ghost use Rattle.bx_entries.specs.Finding.{IsDirectoryOf, OnNamed, OnRemoval, OnRemove, OnRmdir, RemovesFrom, removal, removing_entry};
 
-use crate::finding::{directory_for, entry_for, file_for};
-use crate::removing::{Known, remove_entry};
+use crate::finding::{Removable, directory_for, entry_for, file_for};
+use crate::removing::remove_entry;
+use crate::taking::Known;
 use bx_handles::named_handle;
 use bx_inodes::Stop;
 use bx_model::{Call, NFS_OK, Reply, STALE};
@@ -52,15 +53,90 @@ pub fn remove<V: View>(
     ensures inner { NeverInner result }
     ensures held { IfOk result (λ made. IsHeldDraft (V.held view.now) made.0) }
 {
+    remove_name(
+        alloc,
+        volume,
+        areas,
+        call,
+        at,
+        name,
+        now,
+        view,
+        Removable::Plain,
+    )
+}
+
+/// RMDIR (RFC 1094, section 2.2.16), of a volume with at most 64 areas: the blocks that it changes, and the reply. The entry of a name goes out of
+/// the directory that a file handle of the volume names, and the directory that it names, which has no entries, dies.
+///
+/// `Need` names a block as that of `remove` does, or one on the way to the first entry of the directory that the name is of, shared. The status is
+/// `STALE`, `NOTDIR`, `ACCES` and `NOENT` as it is of `remove`, then `NOTDIR` where the entry with the name has no directory, and `NOTEMPTY` where that has
+/// entries. `now` is in seconds and microseconds.
+pub fn rmdir<V: View>(
+    alloc: Global,
+    volume: u64,
+    areas: u16,
+    call: &Call,
+    at: &[u8],
+    name: &[u8],
+    now: (u32, u32),
+    view: &V,
+) -> Result<(Draft, Reply), Stop>
+    requires { areas ≤ 64 }
+    ensures step { (truth : Truth) (tree : Tree) → IsTruth (V.held view.now) truth → Stands volume areas truth tree → HintsFitAll areas (V.hints view.now) truth
+        → IsChange volume areas truth tree (rmdir_of tree call.now at.now name.now now) result }
+    ensures hints { (hints : Hints) (truth : Truth) (tree : Tree) → IsTruth (V.held view.now) truth → Stands volume areas truth tree → HintsFitAll areas (V.hints view.now) truth
+        → HintsFitAll areas hints truth → IfOk result (λ made. HintsFitAll areas hints (with_draft truth made.0)) }
+    ensures need { NeedsOn areas (V.held view.now) (OnRmdir (V.held view.now) (V.hints view.now) volume areas at.now name.now) result }
+    ensures inner { NeverInner result }
+    ensures held { IfOk result (λ made. IsHeldDraft (V.held view.now) made.0) }
+{
+    remove_name(
+        alloc,
+        volume,
+        areas,
+        call,
+        at,
+        name,
+        now,
+        view,
+        Removable::Directory,
+    )
+}
+
+/// Both, by what is removed.
+fn remove_name<V: View>(
+    alloc: Global,
+    volume: u64,
+    areas: u16,
+    call: &Call,
+    at: &[u8],
+    name: &[u8],
+    now: (u32, u32),
+    view: &V,
+    sort: Removable,
+) -> Result<(Draft, Reply), Stop>
+    requires { areas ≤ 64 }
+    ensures step { (truth : Truth) (tree : Tree) → IsTruth (V.held view.now) truth → Stands volume areas truth tree → HintsFitAll areas (V.hints view.now) truth
+        → IsChange volume areas truth tree (removal sort tree call.now at.now name.now now) result }
+    ensures hints { (hints : Hints) (truth : Truth) (tree : Tree) → IsTruth (V.held view.now) truth → Stands volume areas truth tree → HintsFitAll areas (V.hints view.now) truth
+        → HintsFitAll areas hints truth → IfOk result (λ made. HintsFitAll areas hints (with_draft truth made.0)) }
+    ensures need { NeedsOn areas (V.held view.now) (OnRemoval sort (V.held view.now) (V.hints view.now) volume areas at.now name.now) result }
+    ensures inner { NeverInner result }
+    ensures held { IfOk result (λ made. IsHeldDraft (V.held view.now) made.0) }
+{
     let Some(handle) = named_handle(volume, at) else {
         return Err(Stop::Status(STALE));
     };
     match directory_for(alloc, view, areas, call, handle, name) {
         Err(stop) => Err(stop),
-        Ok(inode) => match remove_from(alloc, view, areas, Known { handle, inode }, name, now) {
-            Err(stop) => Err(stop),
-            Ok(draft) => Ok((draft, Reply::Status(NFS_OK))),
-        },
+        Ok(inode) => {
+            let directory = Known { handle, inode };
+            match remove_from(alloc, view, areas, directory, name, now, sort) {
+                Err(stop) => Err(stop),
+                Ok(draft) => Ok((draft, Reply::Status(NFS_OK))),
+            }
+        }
     }
 }
 
@@ -72,17 +148,18 @@ fn remove_from<V: View>(
     directory: Known,
     name: &[u8],
     now: (u32, u32),
+    sort: Removable,
 ) -> Result<Draft, Stop>
     requires { LiveAt (reads_with (V.held view.now) (V.hints view.now) []) areas directory.handle Exclusive directory.inode }
     ensures step { (volume : ℕ) (truth : Truth) (tree : Tree) → (is : IsDirectoryOf volume areas (V.held view.now) (V.hints view.now) truth tree directory.handle directory.inode)
-        → RemovesFrom areas truth (removing_entry tree is.at.file name.now now (entry_named (names_of is.at.file.body) name.now)) result }
-    ensures need { NeedsOn areas (V.held view.now) (OnNamed (V.held view.now) (V.hints view.now) directory.inode.tree name.now) result }
+        → RemovesFrom areas truth (removing_entry sort tree is.at.file name.now now (entry_named (names_of is.at.file.body) name.now)) result }
+    ensures need { NeedsOn areas (V.held view.now) (OnNamed sort (V.held view.now) (V.hints view.now) areas directory.inode.tree name.now) result }
     ensures inner { NeverInner result }
     ensures held { IfOk result (IsHeldDraft (V.held view.now)) }
 {
     match entry_for(alloc, view, areas, directory.inode.tree, name) {
         Err(stop) => Err(stop),
-        Ok((number, handle)) => match file_for(alloc, view, areas, handle) {
+        Ok((number, handle)) => match file_for(alloc, view, areas, handle, sort) {
             Err(stop) => Err(stop),
             Ok(inode) => {
                 let file = Known { handle, inode };

@@ -11,25 +11,17 @@ ghost use Rattle.bx_views.specs.Attempts.{IsHeldDraft};
 ghost use Rattle.bx_views.specs.Truths.{Truth};
 ghost use Rattle.bx_entries.specs.Removing.{IsRemoval, OnRemoving, RemovesIn, removed};
 
-use crate::taking::take_entry;
+use crate::taking::{Known, take_entry};
 use crate::unlinking::unlink;
 use bx_inodes::Stop;
-use bx_layout::Inode;
 use bx_records::Draft;
+use bx_tree_files::DIRECTORY;
 use bx_views::View;
 use std::alloc::Global;
 
-/// A file by its handle and its inode.
-#[derive(Drop)]
-pub struct Known {
-    /// The number of its handle.
-    pub handle: u64,
-    /// Its inode.
-    pub inode: Inode,
-}
-
-/// Takes the entry with a name and its number out of a directory, and a name from the file that it names, which is no directory: the draft that
-/// does so. Both are changed now, in seconds and microseconds; the file dies with its last name.
+/// Takes the entry with a name and its number out of a directory, and a name from the file that it names: the draft that does so. Both are
+/// changed now, in seconds and microseconds; the file dies with its last name. A directory dies; it has no entries, and is one link less to
+/// the one that it was in.
 ///
 /// `Need` names a block of the volume that isn't held exclusively: one on the path of the two changes of the directory's tree, or the own block
 /// of the file's area. The status is `STALE` where what is held is no directory with that entry, or the file isn't there.
@@ -52,8 +44,11 @@ pub fn remove_entry<V: View>(
     ensures inner { NeverInner result }
     ensures held { IsSome (V.held view.now (block_at directory.handle) Exclusive) → IsSome (V.held view.now (block_at file.handle) Exclusive) → IfOk result (IsHeldDraft (V.held view.now)) }
 {
-    let Known { handle, inode } = directory;
-    match take_entry(alloc, view, areas, handle, inode, number, name, now) {
+    let none = Draft::new(alloc);
+    let counts = file.inode.kind == DIRECTORY;
+    match take_entry(
+        alloc, none, view, areas, directory, number, name, counts, now,
+    ) {
         Err(stop) => Err(stop),
         Ok(draft) => {
             let mut draft = draft;

@@ -17,11 +17,12 @@ use bx_inodes::{Stop, put_inode};
 use bx_layout::Inode;
 use bx_making::bury;
 use bx_records::Draft;
+use bx_tree_files::DIRECTORY;
 use bx_views::View;
 use std::alloc::Global;
 
 /// Takes a name from the file with a handle, by its inode, which is changed now, in seconds and microseconds; the file dies with its last
-/// name. It is no directory.
+/// name. A directory, which has one name, dies; it has no entries.
 ///
 /// `Need` names the own block of the file's area, which isn't held exclusively. The status is `STALE` where the handle names no file: of a file that is
 /// there it never comes. On an error the draft is as it was.
@@ -42,7 +43,7 @@ pub fn unlink<V: View>(
     ensures inner { NeverInner result }
     ensures held { IsHeldDraft (V.held view.now) draft.old → IsSome (V.held view.now (block_at handle) Exclusive) → OnOk result (IsHeldDraft (V.held view.now) draft.new) }
 {
-    if inode.nlink <= 1 {
+    if inode.kind == DIRECTORY || inode.nlink <= 1 {
         match bury(alloc, draft, view, handle, inode) {
             Err(error) => return Err(stop_of_chunks(error)),
             Ok(()) => return Ok(()),

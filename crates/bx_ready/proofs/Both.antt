@@ -22,7 +22,7 @@ module _ (areas : ℕ) (held : Held) (hints : Hints) (truth : Truth) (root : ℕ
   post_fails (NoRoom leaf) p = p
   post_fails Absent p = p
   post_fails Present p = p
-  post_fails Crowded p = tt
+  post_fails Crowded p = p
 
   pub then_splits : HasSeparators tree key → (result : Result (Option (List Changed)) BlinkError) → SplitsForIn areas held hints truth root tree key result → ReadiesIn areas held hints truth root tree key result
   then_splits posted (Ok (Some new)) s = inr (record { posted = posted; splits = s })
@@ -34,7 +34,7 @@ module _ (areas : ℕ) (held : Held) (hints : Hints) (truth : Truth) (root : ℕ
   then_splits posted (Err (NoRoom leaf)) s = s
   then_splits posted (Err Absent) s = s
   then_splits posted (Err Present) s = s
-  then_splits posted (Err Crowded) s = tt
+  then_splits posted (Err Crowded) s = s
 
 -- what is needed for one is needed for both
 pub wider : {X : Type 0} (held : Held) (P Q : ℕ → Mode → Type 0) → ((at : ℕ) (mode : Mode) → P at mode → Q at mode) → (result : Result X BlinkError) → NeedsUnheld held P result → NeedsUnheld held Q result

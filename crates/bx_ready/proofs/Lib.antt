@@ -1,3 +1,6 @@
+pub mod Spare
+pub mod Lengths
+pub mod Bounds
 pub mod Greatest
 pub mod Line
 pub mod Post

@@ -1,27 +1,30 @@
 -- Separators that are posted, by how a descent ends.
 use Rattle.std.proofs.Common.{ℕ, List, [], inr}
 use Rattle.std.specs.Prelude.{Err}
+use Rattle.bx_blink.specs.Hints.{Under}
 use Rattle.bx_blink.specs.declared.error.BlinkError.{BlinkError}
 use Rattle.bx_blink.specs.declared.error.BlinkError.TheVariants.{Need, Stale, Full, NoRoom, Absent, Present, OutOfMemory, Crowded}
 use Rattle.bx_leaves.specs.Changes.{NeedsUnheld}
-use Rattle.bx_posts.specs.Posts.{NeedsForPost, PostsIn}
+use Rattle.bx_posts.specs.Posts.{NeedsForPost, PostsAt, PostsIn}
 use Rattle.bx_records.specs.Drafts.{Changed}
 use Rattle.bx_truth.specs.PageTrees.{Node, PageTree}
 use Rattle.bx_views.specs.Truths.{Truth, Held, Hints}
 use Rattle.bx_ready.specs.Descents.{LeadsWhere}
 use Rattle.bx_ready.specs.Separators.{OnPostForPath, PostsForIn}
 use Rattle.bx_ready.specs.declared.descents.Descent.TheVariants.{Short}
+use Rattle.bx_ready.proofs.Bounds.{post_crowds, post_full}
 
-module _ (areas : ℕ) (held : Held) (hints : Hints) (truth : Truth) (root : ℕ) (tree : PageTree) (key : List ℕ) where
-  pub post_error : (new : List Changed) (node : Node) (error : BlinkError) → PostsIn areas held hints truth [] new root tree node (Err error) → PostsForIn areas held hints truth root tree key (Err error)
-  post_error new node (Need at mode) p = tt
-  post_error new node Stale p = p
-  post_error new node OutOfMemory p = tt
-  post_error new node (Full spare) p = p
-  post_error new node (NoRoom other) p = p
-  post_error new node Absent p = p
-  post_error new node Present p = p
-  post_error new node Crowded p = tt
+module _ (areas : ℕ) (held : Held) (hints : Hints) (truth : Truth) (root : ℕ) (tree : PageTree) (key : List ℕ) (u : Under areas held hints truth [] root tree) where
+  pub post_error : (near page : ℕ) (new : List Changed) (node : Node) (error : BlinkError) → PostsAt held hints [] [] root page near areas (Err error) → PostsIn areas held hints truth [] new root tree node (Err error)
+      → PostsForIn areas held hints truth root tree key (Err error)
+  post_error near page new node (Need at mode) a p = tt
+  post_error near page new node Stale a p = p
+  post_error near page new node OutOfMemory a p = tt
+  post_error near page new node (Full spare) a p = post_full areas near held truth u.few u.same u.chunked hints root page spare a
+  post_error near page new node (NoRoom other) a p = p
+  post_error near page new node Absent a p = p
+  post_error near page new node Present a p = p
+  post_error near page new node Crowded a p = post_crowds held near areas hints root page a
 
 module _ (areas : ℕ) (held : Held) (hints : Hints) (root : ℕ) (key : List ℕ) where
   pub post_fair : (X : Type 0) (page : ℕ) (error : BlinkError) → LeadsWhere held root key (Short page) → NeedsForPost areas held hints [] root page (Err error) → NeedsUnheld {X = X} held (OnPostForPath areas held hints root key) (Err error)

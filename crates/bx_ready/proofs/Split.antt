@@ -23,9 +23,10 @@ use Rattle.bx_records.specs.Drafts.{Changed}
 use Rattle.bx_truth.specs.PageTrees.{HasPage, PageTree}
 use Rattle.bx_views.specs.Attempts.{IsHeldDraft}
 use Rattle.bx_views.specs.Truths.{Truth, Held, Hints, with_draft}
-use Rattle.bx_splits.specs.Cutting.{IsOwned, NeedsForSplit}
+use Rattle.bx_splits.specs.Cutting.{IsOwned, NeedsForSplit, SplitsAt}
 use Rattle.bx_splits.specs.Splits.{SplitsIn}
 use Rattle.bx_ready.specs.Rooms.{FindsFull, LandsFull, OnSplitPath, SplitsForIn}
+use Rattle.bx_ready.proofs.Bounds.{split_crowds, split_full}
 
 some_same : (a b : Block) → Some a ≡ Some b → a ≡ b
 some_same a b e = cc
@@ -68,15 +69,16 @@ module _ (areas : ℕ) (held : Held) (hints : Hints) (truth : Truth) (root : ℕ
   walk_error Present f = f
   walk_error Crowded f = absurd f
 
-  pub split_error : (new : List Changed) (leaf : ℕ) (error : BlinkError) → SplitsIn areas held hints truth [] new root tree leaf (Err error) → SplitsForIn areas held hints truth root tree key (Err error)
-  split_error new leaf (Need at mode) s = tt
-  split_error new leaf Stale s = s
-  split_error new leaf OutOfMemory s = tt
-  split_error new leaf (Full spare) s = s
-  split_error new leaf (NoRoom other) s = s
-  split_error new leaf Absent s = s
-  split_error new leaf Present s = s
-  split_error new leaf Crowded s = tt
+  pub split_error : (near : ℕ) (new : List Changed) (leaf : ℕ) (error : BlinkError) → SplitsAt held hints [] [] root leaf near areas (Err error) → SplitsIn areas held hints truth [] new root tree leaf (Err error)
+      → SplitsForIn areas held hints truth root tree key (Err error)
+  split_error near new leaf (Need at mode) a s = tt
+  split_error near new leaf Stale a s = s
+  split_error near new leaf OutOfMemory a s = tt
+  split_error near new leaf (Full spare) a s = split_full areas near held truth u.few u.same u.chunked hints root leaf spare a
+  split_error near new leaf (NoRoom other) a s = s
+  split_error near new leaf Absent a s = s
+  split_error near new leaf Present a s = s
+  split_error near new leaf Crowded a s = split_crowds held near areas hints root leaf a
 
 -- ---- what is needed
 

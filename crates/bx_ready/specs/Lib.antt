@@ -1,4 +1,5 @@
 pub mod Descents
+pub mod Spare
 pub mod Separators
 pub mod Rooms
 pub mod Ready

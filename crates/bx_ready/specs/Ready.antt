@@ -4,7 +4,6 @@ use Rattle.bx_base.specs.declared.names.Mode.{Mode}
 use Rattle.bx_blink.specs.Walks.{reads_with}
 use Rattle.bx_blink.specs.declared.error.BlinkError.{BlinkError}
 use Rattle.bx_blink.specs.declared.error.BlinkError.TheVariants.{Need, Stale, Full, NoRoom, Absent, Present, OutOfMemory, Crowded}
-use Rattle.bx_chunks.specs.Counting.{free_slots}
 use Rattle.bx_hints.specs.Fitting.{HintsFitAll}
 use Rattle.bx_inodes.specs.Inodes.{HoldsInode}
 use Rattle.bx_layout.specs.declared.inode.Inode.{Inode}
@@ -12,12 +11,12 @@ use Rattle.bx_model.specs.declared.tree.Tree.{Tree}
 use Rattle.bx_records.specs.Drafts.{Changed}
 use Rattle.bx_tree_files.specs.declared.file.File.{File}
 use Rattle.bx_tree_files.specs.Files.{file_at}
-use Rattle.bx_truth.specs.Chunks.{IsChunked}
 use Rattle.bx_truth.specs.PageTrees.{PageTree}
 use Rattle.bx_truth.specs.Stands.{StandsFor}
 use Rattle.bx_views.specs.Truths.{Truth, Held, Hints, IsTruth}
 use Rattle.bx_ready.specs.Rooms.{HasRoom, OnSplitPath, SplitsLeaf}
 use Rattle.bx_ready.specs.Separators.{HasSeparators, OnPostForPath, PostsMissing}
+use Rattle.bx_ready.specs.Spare.{TellsFew}
 
 -- an entry under a key finds room in its leaf, below no missing separator
 pub record IsReady (tree : PageTree) (key : List ℕ) : Type 0 where
@@ -29,13 +28,13 @@ pub record SplitsReady (areas : ℕ) (held : Held) (hints : Hints) (truth : Trut
   pub posted : HasSeparators tree key
   pub splits : SplitsLeaf areas held hints truth new root tree key
 
--- What is answered, by the tree: what is to be written first, a missing separator before a full leaf. It is never Stale there.
+-- What is answered, by the tree: what is to be written first, a missing separator before a full leaf. It is never Stale there, nor Crowded, and where it is Full it tells fewer than 8.
 abbrev pub ReadiesIn : ℕ → Held → Hints → Truth → ℕ → PageTree → List ℕ → Result (Option (List Changed)) BlinkError → Type 0
 ReadiesIn areas held hints truth root tree key (Ok (Some new)) = PostsMissing areas held hints truth new root tree key ⊎ SplitsReady areas held hints truth new root tree key
 ReadiesIn areas held hints truth root tree key (Ok None) = IsReady tree key
-ReadiesIn areas held hints truth root tree key (Err (Full spare)) = IsChunked areas truth → spare ≡ free_slots areas truth
+ReadiesIn areas held hints truth root tree key (Err (Full spare)) = TellsFew areas truth spare
 ReadiesIn areas held hints truth root tree key (Err (Need at mode)) = Unit {0}
-ReadiesIn areas held hints truth root tree key (Err Crowded) = Unit {0}
+ReadiesIn areas held hints truth root tree key (Err Crowded) = ⊥
 ReadiesIn areas held hints truth root tree key (Err OutOfMemory) = Unit {0}
 ReadiesIn areas held hints truth root tree key (Err Stale) = ⊥
 ReadiesIn areas held hints truth root tree key (Err (NoRoom leaf)) = ⊥

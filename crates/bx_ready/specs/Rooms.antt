@@ -6,15 +6,15 @@ use Rattle.bx_blink.specs.Walks.{Reads}
 use Rattle.bx_blink.specs.declared.error.BlinkError.{BlinkError}
 use Rattle.bx_blink.specs.declared.error.BlinkError.TheVariants.{Need, Stale, Full, NoRoom, Absent, Present, OutOfMemory, Crowded}
 use Rattle.bx_blink.specs.declared.steps.End.TheVariants.{Lost}
-use Rattle.bx_chunks.specs.Counting.{free_slots}
 use Rattle.bx_leaves.specs.Leaves.{IsLeafAt, LeafEnds, NeedsLeaf, OnLeafPath}
 use Rattle.bx_page.specs.Contents.{Contents, size}
 use Rattle.bx_places.specs.Places.{is_block}
 use Rattle.bx_records.specs.Drafts.{Changed}
 use Rattle.bx_splits.specs.Splits.{SplitsPage}
-use Rattle.bx_truth.specs.Chunks.{IsChunked, block_at}
+use Rattle.bx_truth.specs.Chunks.{block_at}
 use Rattle.bx_truth.specs.PageTrees.{PageTree}
 use Rattle.bx_views.specs.Truths.{Truth, Held, Hints}
+use Rattle.bx_ready.specs.Spare.{TellsFew}
 
 -- a page has less left than two greatest entries take, which are 544 bytes
 abbrev pub IsFull : Contents → Type 0
@@ -60,13 +60,13 @@ pub record HasRoom (tree : PageTree) (key : List ℕ) : Type 0 where
   pub place : IsPlaceOf tree 0 key handle page
   pub room : size page + 544 ≤ 4096
 
--- What is answered, by the tree: the draft that splits the leaf of a key, where that is full. It is never Stale there.
+-- What is answered, by the tree: the draft that splits the leaf of a key, where that is full. It is never Stale there, nor Crowded, and where it is Full it tells fewer than 8.
 abbrev pub SplitsForIn : ℕ → Held → Hints → Truth → ℕ → PageTree → List ℕ → Result (Option (List Changed)) BlinkError → Type 0
 SplitsForIn areas held hints truth root tree key (Ok (Some new)) = SplitsLeaf areas held hints truth new root tree key
 SplitsForIn areas held hints truth root tree key (Ok None) = HasRoom tree key
-SplitsForIn areas held hints truth root tree key (Err (Full spare)) = IsChunked areas truth → spare ≡ free_slots areas truth
+SplitsForIn areas held hints truth root tree key (Err (Full spare)) = TellsFew areas truth spare
 SplitsForIn areas held hints truth root tree key (Err (Need at mode)) = Unit {0}
-SplitsForIn areas held hints truth root tree key (Err Crowded) = Unit {0}
+SplitsForIn areas held hints truth root tree key (Err Crowded) = ⊥
 SplitsForIn areas held hints truth root tree key (Err OutOfMemory) = Unit {0}
 SplitsForIn areas held hints truth root tree key (Err Stale) = ⊥
 SplitsForIn areas held hints truth root tree key (Err (NoRoom leaf)) = ⊥

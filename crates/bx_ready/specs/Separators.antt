@@ -6,16 +6,16 @@ use Rattle.bx_blink.specs.Places.{IsPlaceOf}
 use Rattle.bx_blink.specs.Walks.{child_of, reads_with}
 use Rattle.bx_blink.specs.declared.error.BlinkError.{BlinkError}
 use Rattle.bx_blink.specs.declared.error.BlinkError.TheVariants.{Need, Stale, Full, NoRoom, Absent, Present, OutOfMemory, Crowded}
-use Rattle.bx_chunks.specs.Counting.{free_slots}
 use Rattle.bx_page.specs.Contents.{Contents, value_of}
 use Rattle.bx_page.specs.Keys.{is_below}
 use Rattle.bx_posts.specs.Posts.{OnPostPath, PostsPage}
 use Rattle.bx_posts.specs.declared.posting.Posted.{Posted}
 use Rattle.bx_records.specs.Drafts.{Changed}
-use Rattle.bx_truth.specs.Chunks.{IsChunked, block_at}
+use Rattle.bx_truth.specs.Chunks.{block_at}
 use Rattle.bx_truth.specs.PageTrees.{Node, IsIn, PageTree}
 use Rattle.bx_views.specs.Truths.{Truth, Held, Hints}
 use Rattle.bx_ready.specs.Descents.{LeadsTo, LeadsWhere}
+use Rattle.bx_ready.specs.Spare.{TellsFew}
 use Rattle.bx_ready.specs.declared.descents.Descent.TheVariants.{Short}
 
 -- the page one level above a level in whose range a key is names this page for the key
@@ -56,13 +56,13 @@ pub record PostsMissing (areas : ℕ) (held : Held) (hints : Hints) (truth : Tru
   pub posted : Posted
   pub posts : PostsPage areas held hints truth [] new root tree node posted
 
--- What is answered, by the tree: the draft that posts a separator that is missing above a key, where one is. It is never Stale there.
+-- What is answered, by the tree: the draft that posts a separator that is missing above a key, where one is. It is never Stale there, nor Crowded, and where it is Full it tells fewer than 8.
 abbrev pub PostsForIn : ℕ → Held → Hints → Truth → ℕ → PageTree → List ℕ → Result (Option (List Changed)) BlinkError → Type 0
 PostsForIn areas held hints truth root tree key (Ok (Some new)) = PostsMissing areas held hints truth new root tree key
 PostsForIn areas held hints truth root tree key (Ok None) = HasSeparators tree key
-PostsForIn areas held hints truth root tree key (Err (Full spare)) = IsChunked areas truth → spare ≡ free_slots areas truth
+PostsForIn areas held hints truth root tree key (Err (Full spare)) = TellsFew areas truth spare
 PostsForIn areas held hints truth root tree key (Err (Need at mode)) = Unit {0}
-PostsForIn areas held hints truth root tree key (Err Crowded) = Unit {0}
+PostsForIn areas held hints truth root tree key (Err Crowded) = ⊥
 PostsForIn areas held hints truth root tree key (Err OutOfMemory) = Unit {0}
 PostsForIn areas held hints truth root tree key (Err Stale) = ⊥
 PostsForIn areas held hints truth root tree key (Err (NoRoom leaf)) = ⊥

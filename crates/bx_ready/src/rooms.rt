@@ -23,7 +23,7 @@ const ROOM: usize = 544;
 /// written before any entry is put under the key. `None` exactly where the leaf has room.
 ///
 /// `Need` names a block that isn't held in that mode: one on the path of the walk to the leaf, which is to be held exclusively, or one that a
-/// new page wants. `Stale` comes where what is held is no tree, and `Full` tells how many slots are free in the view.
+/// new page wants. `Stale` comes where what is held is no tree, and `Full` tells how many slots are free in the view, which are fewer than 8.
 pub fn split_for<V: View>(
     alloc: Global,
     view: &V,

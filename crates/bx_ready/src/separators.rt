@@ -22,7 +22,7 @@ use std::alloc::Global;
 ///
 /// Hints don't count, since an old one may lack a separator that is there. `Need` names a block that isn't held in that mode: one of these
 /// pages', shared, or one on the path of the post. `Stale` comes where what is held is no tree, and `Full` tells how many slots are free in the
-/// view.
+/// view, which are fewer than 8.
 pub fn post_for<V: View>(
     alloc: Global,
     view: &V,

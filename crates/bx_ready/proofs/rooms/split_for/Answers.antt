@@ -1,7 +1,7 @@
 use Rattle.std.proofs.Common.{List, Option, sym, subst, Err}
 use Rattle.bx_blink.specs.Walks.{reads_with}
 use Rattle.bx_records.specs.Drafts.{Changed}
-use Rattle.bx_splits.specs.Cutting.{IsOwned}
+use Rattle.bx_splits.specs.Cutting.{IsOwned, SplitsAt}
 use Rattle.bx_splits.specs.Splits.{SplitsIn, SplitsPage}
 use Rattle.bx_blink.specs.Hints.{Under}
 use Rattle.bx_ready.specs.Rooms.{FindsFull, LandsFull, LandsRoomy}
@@ -51,7 +51,8 @@ pub returns-in-Err-split-clause-map : goal.returns-in-Err-split-clause-map
 returns-in-Err-split-clause-map g c = λ truth tree u.
     let f = subst (λ (d : List Changed). LandsFull (reads_with (g.V.View.held c.args.view.now) (g.V.View.hints c.args.view.now) d) c.args.root c.args.key.now c.in-Some.leaf) c.new-draft.ensures (rw c.in-Some.is at c.in-Ok.ensures) in
     let place = place_of c.args.areas (g.V.View.held c.args.view.now) (g.V.View.hints c.args.view.now) truth c.args.root tree c.args.key.now u c.in-Some.leaf f.page f.leaf in
-    split_error c.args.areas (g.V.View.held c.args.view.now) (g.V.View.hints c.args.view.now) truth c.args.root tree c.args.key.now u c.split.new.draft c.in-Some.leaf c.in-Err-split.error
+    split_error c.args.areas (g.V.View.held c.args.view.now) (g.V.View.hints c.args.view.now) truth c.args.root tree c.args.key.now u c.args.near c.split.new.draft c.in-Some.leaf c.in-Err-split.error
+    (subst (λ (d : List Changed). SplitsAt (g.V.View.held c.args.view.now) (g.V.View.hints c.args.view.now) d d c.args.root c.in-Some.leaf c.args.near c.args.areas (Err c.in-Err-split.error)) c.new-draft.ensures c.in-Err-split.ensures.at)
     (subst (λ (d : List Changed). SplitsIn c.args.areas (g.V.View.held c.args.view.now) (g.V.View.hints c.args.view.now) truth d c.split.new.draft c.args.root tree c.in-Some.leaf (Err c.in-Err-split.error)) c.new-draft.ensures
     (c.in-Err-split.ensures.map truth tree place.node (subst (λ (d : List Changed). Under c.args.areas (g.V.View.held c.args.view.now) (g.V.View.hints c.args.view.now) truth d c.args.root tree) (sym c.new-draft.ensures) u)
     (record { level = 0; within = place.within; there = place.there }) place.handle_is))

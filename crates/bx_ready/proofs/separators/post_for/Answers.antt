@@ -1,7 +1,7 @@
 use Rattle.std.proofs.Common.{List, Option, sym, subst}
 use Rattle.std.specs.Prelude.{Err}
 use Rattle.bx_blink.specs.Hints.{Under}
-use Rattle.bx_posts.specs.Posts.{NeedsForPost, PostsIn, PostsPage}
+use Rattle.bx_posts.specs.Posts.{NeedsForPost, PostsAt, PostsIn, PostsPage}
 use Rattle.bx_records.specs.Drafts.{Changed}
 use Rattle.bx_ready.proofs.Line.{all_posted, not_lost, short}
 use Rattle.bx_ready.proofs.Post.{post_error, post_fair}
@@ -28,7 +28,8 @@ returns-in-Ok-clause-map g c = λ truth tree u.
 pub returns-in-Err-clause-map : goal.returns-in-Err-clause-map
 returns-in-Err-clause-map g c = λ truth tree u.
     let s = short c.args.areas (g.V.View.held c.args.view.now) (g.V.View.hints c.args.view.now) truth c.args.root tree c.args.key.now u c.in-Short.page c.in-Short.ensures in
-    post_error c.args.areas (g.V.View.held c.args.view.now) (g.V.View.hints c.args.view.now) truth c.args.root tree c.args.key.now c.post.new.draft s.node c.in-Err.error
+    post_error c.args.areas (g.V.View.held c.args.view.now) (g.V.View.hints c.args.view.now) truth c.args.root tree c.args.key.now u c.args.near c.in-Short.page c.post.new.draft s.node c.in-Err.error
+    (subst (λ (d : List Changed). PostsAt (g.V.View.held c.args.view.now) (g.V.View.hints c.args.view.now) d d c.args.root c.in-Short.page c.args.near c.args.areas (Err c.in-Err.error)) c.new-draft.ensures c.in-Err.ensures.at)
     (subst (λ (d : List Changed). PostsIn c.args.areas (g.V.View.held c.args.view.now) (g.V.View.hints c.args.view.now) truth d c.post.new.draft c.args.root tree s.node (Err c.in-Err.error)) c.new-draft.ensures
     (c.in-Err.ensures.map truth tree s.node (subst (λ (d : List Changed). Under c.args.areas (g.V.View.held c.args.view.now) (g.V.View.hints c.args.view.now) truth d c.args.root tree) (sym c.new-draft.ensures) u)
     (record { level = s.level; within = s.within; there = s.there }) s.handle_is))

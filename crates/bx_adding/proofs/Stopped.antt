@@ -1,0 +1,55 @@
+-- What a change needs that is stopped by a call on a tree; and how many blocks a draft gets.
+use Rattle.std.proofs.Common.{ℕ, ◌+◌, ◌≤◌, arith, List, length, sym, ap, subst, inl, inr}
+use Rattle.std.specs.Prelude.{Err, Ok}
+use Rattle.bx_base.specs.declared.names.Mode.{Mode}
+use Rattle.bx_blink.specs.declared.error.BlinkError.{BlinkError}
+use Rattle.bx_blink.specs.declared.error.BlinkError.TheVariants as tree_error
+use Rattle.bx_changes.specs.Growing.{HoldsFirst, NeedsBy}
+use Rattle.bx_changes.specs.declared.error.ChangeError.{ChangeError}
+use Rattle.bx_changes.specs.declared.error.ChangeError.TheVariants.{Stopped, Full}
+use Rattle.bx_dirs.specs.Changes.{AddsAt}
+use Rattle.bx_inodes.specs.Writing.{PutsInode}
+use Rattle.bx_inodes.specs.declared.stop.Stop.TheVariants.{Need, Inner, Status, OutOfMemory}
+use Rattle.bx_layout.specs.declared.inode.Inode.{Inode}
+use Rattle.bx_leaves.specs.Changes.{NeedsUnheld}
+use Rattle.bx_ready.proofs.Lengths.{one_more, put_more}
+use Rattle.bx_records.specs.Drafts.{Changed}
+use Rattle.bx_tree_files.specs.declared.file.Name.{Name}
+use Rattle.bx_truth.specs.Chunks.{block_at}
+use Rattle.bx_views.specs.Truths.{Held, Hints}
+use Rattle.bx_adding.specs.Stopping.{NeverFirst, StopsChange}
+
+pub needs_stop : (X : Type 0) (areas : ℕ) (held : Held) (Path : ℕ → Mode → Type 0) (error : BlinkError) (stop : ChangeError) → NeedsUnheld {X = X} held Path (Err error) → StopsChange areas error stop → NeedsBy areas held Path stop
+needs_stop X areas held Path (tree_error.Need at mode) stop n (inl s) = subst (NeedsBy areas held Path) (sym s.1) (s.0, n.0, n.1)
+needs_stop X areas held Path (tree_error.Need at mode) stop n (inr s) = subst (NeedsBy areas held Path) (sym s.1) tt
+needs_stop X areas held Path (tree_error.Full spare) stop n s = subst (NeedsBy areas held Path) (sym s) tt
+needs_stop X areas held Path tree_error.OutOfMemory stop n s = subst (NeedsBy areas held Path) (sym s) tt
+needs_stop X areas held Path tree_error.Stale stop n s = subst (NeedsBy areas held Path) (sym s) tt
+needs_stop X areas held Path tree_error.Absent stop n s = subst (NeedsBy areas held Path) (sym s) tt
+needs_stop X areas held Path tree_error.Present stop n s = subst (NeedsBy areas held Path) (sym s) tt
+needs_stop X areas held Path (tree_error.NoRoom leaf) stop n s = subst (NeedsBy areas held Path) (sym s) tt
+needs_stop X areas held Path tree_error.Crowded stop n s = subst (NeedsBy areas held Path) (sym s) tt
+
+-- what is needed on one path is needed on a wider one
+pub wider : (areas : ℕ) (held : Held) (Path Wider : ℕ → Mode → Type 0) → ((at : ℕ) (mode : Mode) → Path at mode → Wider at mode) → (stop : ChangeError) → NeedsBy areas held Path stop → NeedsBy areas held Wider stop
+wider areas held Path Wider more (Stopped (Need at mode)) n = (n.0, n.1, more at mode n.2)
+wider areas held Path Wider more (Stopped (Inner blocks)) n = tt
+wider areas held Path Wider more (Stopped (Status status)) n = tt
+wider areas held Path Wider more (Stopped OutOfMemory) n = tt
+wider areas held Path Wider more (Full spare) n = tt
+
+-- where no blocks are to be written first they are held
+pub never_held : (held : Held) (stop : ChangeError) → NeverFirst stop → HoldsFirst held stop
+never_held held (Stopped (Need at mode)) n = tt
+never_held held (Stopped (Inner blocks)) n = absurd n
+never_held held (Stopped (Status status)) n = tt
+never_held held (Stopped OutOfMemory) n = tt
+never_held held (Full spare) n = tt
+
+-- ---- how many blocks a draft gets
+
+pub added_more : (held : Held) (hints : Hints) (old new : List Changed) (root : ℕ) (entry : Name) → AddsAt held hints old new root entry (Ok tt) → length new ≤ length old + 2
+added_more held hints old new root entry a = omega (arith, put_more old a.mid a.named.handle _ a.named.puts, put_more a.mid new a.numbered.handle _ a.numbered.puts)
+
+pub inode_more : (old new : List Changed) (handle : ℕ) (inode : Inode) → PutsInode old new handle inode → length new ≤ length old + 1
+inode_more old new handle inode p = let same = ap (λ (l : List Changed). length l) p.put in omega (arith, same, one_more old (block_at handle) p.block)

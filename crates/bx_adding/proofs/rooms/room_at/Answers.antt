@@ -1,0 +1,17 @@
+use Rattle.bx_adding.proofs.First.{leaves, stopped, under}
+use Rattle.bx_adding.proofs.rooms.room_at.Goals as goal
+
+pub returns-in-Err-clause-step : goal.returns-in-Err-clause-step
+returns-in-Err-clause-step g c = λ volume truth tree handle inode d root_is.
+    stopped volume c.args.near.1 (g.V.View.held c.args.view.now) (g.V.View.hints c.args.view.now) truth tree handle inode d c.args.root root_is c.args.key.now c.in-Err.error c.change_error.result
+    (λ pages u. c.in-Err.ensures.map truth pages u) c.in-Err.ensures.fair c.change_error.ensures
+
+pub returns-in-Ok-Some-clause-step : goal.returns-in-Ok-Some-clause-step
+returns-in-Ok-Some-clause-step g c = λ volume truth tree handle inode d root_is.
+    rw c.in-Ok-Some.field-0-is
+    (leaves volume c.args.near.1 (g.V.View.held c.args.view.now) (g.V.View.hints c.args.view.now) truth tree handle inode d c.args.root root_is c.in-Ok-Some.draft (rw c.in-Ok-Some.field-0-is at c.in-Ok-Some.ensures.files))
+
+pub returns-in-Ok-None-clause-step : goal.returns-in-Ok-None-clause-step
+returns-in-Ok-None-clause-step g c = λ volume truth tree handle inode d root_is pages is.
+    (rw c.in-Ok-None.field-0-is at c.in-Ok-None.ensures.map) truth pages
+    (under volume c.args.near.1 (g.V.View.held c.args.view.now) (g.V.View.hints c.args.view.now) truth tree handle inode d c.args.root root_is pages is)

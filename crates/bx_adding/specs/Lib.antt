@@ -1,0 +1,4 @@
+pub mod Stopping
+pub mod Rooms
+pub mod Entering
+pub mod Finding

@@ -1,0 +1,10 @@
+//! Entries that are put into directories, over views: room is found for them first.
+#![tactic(auto)]
+
+mod entering;
+mod keys;
+mod rooms;
+mod stops;
+
+pub use entering::enter;
+pub use rooms::room_for;

@@ -105,8 +105,10 @@ fn clear_piece<V: View>(
     }
 }
 
-/// The block of a handle, exclusively.
-fn piece_held<V: View>(areas: u16, view: &V, names: u64) -> Result<&Block, Stop>
+/// The block of a handle, by the handle's number, exclusively.
+///
+/// `Need` names that block, which isn't held so. The status is `STALE` where the volume has no such block, or its header names another handle.
+pub fn piece_held<V: View>(areas: u16, view: &V, names: u64) -> Result<&Block, Stop>
     ensures { PieceAt areas (V.held view.now) names (result_map_both (λ block. block.now) (λ stop. stop) result) }
 {
     let at = block_at(names);

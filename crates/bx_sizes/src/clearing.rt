@@ -43,7 +43,7 @@ const INDEXES: u64 = 4294967296;
 ///
 /// `Need` names a block of the volume that isn't held: one on the path of the search for such a piece, shared, or the piece's own,
 /// exclusively.
-pub(crate) fn clear<V: View>(
+pub fn clear<V: View>(
     alloc: Global,
     areas: u16,
     view: &V,

@@ -6,3 +6,4 @@ pub mod Base
 pub mod Missing
 pub mod PutStops
 pub mod Laid
+pub mod Wrote

@@ -1,5 +1,5 @@
 -- The path of WRITE.
-use Rattle.std.specs.Prelude.{◌≡◌, ℕ, ◌+◌, ◌<◌, ◌≤◌, ◌⊎◌, true, [], List, Some}
+use Rattle.std.specs.Prelude.{◌≡◌, ℕ, ◌+◌, ◌/◌, ◌%◌, ◌<◌, ◌≤◌, ◌⊎◌, true, [], List, Some}
 use Rattle.bx_base.specs.declared.names.Mode.{Mode}
 use Rattle.bx_base.specs.declared.names.Mode.TheVariants.{Exclusive}
 use Rattle.bx_blink.specs.Walks.{reads_with}
@@ -15,6 +15,7 @@ use Rattle.bx_truth.specs.Chunks.{block_at}
 use Rattle.bx_truth.specs.Keys.{content_key}
 use Rattle.bx_truth.specs.PageTrees.{handle_in}
 use Rattle.bx_views.specs.Truths.{Held, Hints}
+use Rattle.bx_writes.specs.Laying.{pieces_of}
 
 -- a search for the piece with an index finds this block's handle, exclusively
 pub record IsWrittenBlock (held : Held) (hints : Hints) (root index at : ℕ) (mode : Mode) : Type 0 where
@@ -35,3 +36,20 @@ pub record OnWrittenPieces (areas : ℕ) (held : Held) (hints : Hints) (root fro
   pub above : from ≤ index
   pub below : index < end
   pub on : OnWrittenPiece areas held hints root index at mode
+
+-- The path from a file's inode on: that of clearing, and those of the pieces that bytes from an offset on are in.
+abbrev pub OnFileWritten : ℕ → Held → Hints → Inode → ℕ → List ℕ → ℕ → Mode → Type 0
+OnFileWritten areas held hints inode offset written at mode =
+    OnClearing held hints inode at mode ⊎ OnWrittenPieces areas held hints inode.tree (offset / 4096) (offset / 4096 + pieces_of (offset % 4096) written) at mode
+
+-- the same from the inode that is named, and held, on
+pub record OnNamedWritten (held : Held) (hints : Hints) (volume areas : ℕ) (bytes : List ℕ) (offset : ℕ) (written : List ℕ) (at : ℕ) (mode : Mode) : Type 0 where
+  pub handle : ℕ
+  pub inode : Inode
+  pub is_named : named volume bytes ≡ Some handle
+  pub live : LiveAt (reads_with held hints []) areas handle Exclusive inode
+  pub on : OnFileWritten areas held hints inode offset written at mode
+
+-- The path of WRITE: the inode of the file that is named, exclusively, and that from there on.
+abbrev pub OnWriting : Held → Hints → ℕ → ℕ → List ℕ → ℕ → List ℕ → ℕ → Mode → Type 0
+OnWriting held hints volume areas bytes offset written at mode = OnInode volume bytes Exclusive at mode ⊎ OnNamedWritten held hints volume areas bytes offset written at mode

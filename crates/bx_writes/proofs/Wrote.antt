@@ -3,7 +3,7 @@ use Rattle.std.proofs.Common.{◌≡◌, ℕ, ◌+◌, ◌-◌, ◌*◌, ◌/◌
 use Rattle.std.specs.Prelude.{◌==◌, ◌&&◌, ◌||◌, ◌⊎◌, ◌≢◌, bit_and, max, min, not, nat_lt, if◌then◌else◌, IfErr, IfOk, Result, Ok, Err}
 use Rattle.std.proofs.lemmas.Bool.{cases_lt}
 use Rattle.std.proofs.lemmas.Bool.Decides.{nat_tests}
-use Rattle.std.proofs.lemmas.List.{ext_get_or, get_or_append_left, get_or-append_right, get_or-drop, get_or_past, get_or-replicate, get_or-take, length-append, length-drop, length-replicate, length-take}
+use Rattle.std.proofs.lemmas.List.{append_assoc, ext_get_or, get_or_append_left, get_or-append_right, get_or-drop, get_or_past, get_or-replicate, get_or-take, length-append, length-drop, length-replicate, length-take}
 use Rattle.bx_changes.specs.Changes.{Changes}
 use Rattle.bx_base.specs.declared.names.Mode.TheVariants.{Exclusive}
 use Rattle.bx_blink.specs.Walks.{reads_with}
@@ -50,6 +50,7 @@ use Rattle.bx_truth.specs.Chunks.{chunks_of}
 use Rattle.bx_truth.specs.PageTrees.{PageTree}
 use Rattle.bx_truth.specs.Stands.{StandsFor}
 use Rattle.bx_truth.specs.Stored.{AreBytesOf, HasBody, HasFields, IsRegular, piece_of}
+use Rattle.bx_truth.proofs.Cases.{eq_false, eq_true}
 use Rattle.bx_truth.proofs.Put.{shown}
 use Rattle.bx_views.specs.Attempts.{IsHeldDraft}
 use Rattle.bx_views.specs.Truths.{Held, Hints, IsTruth, Truth, with_draft}
@@ -86,29 +87,30 @@ sized_long n bytes =
 
 -- bytes written over those that reach far enough are those of the model
 pub over_is : (bytes now written : List ℕ) (offset : ℕ) → 0 < length written → IsOver (sized (max (length bytes) (offset + length written)) bytes) offset written now → now ≡ written_over offset written bytes
-over_is bytes now written offset some o = ext_get_or 0 now (written_over offset written bytes) both each
+over_is bytes now written offset some o =
+    ext_get_or 0 now (sized offset bytes ++ (written ++ drop (offset + length written) bytes)) both each ∙ sym (append_assoc (sized offset bytes) written (drop (offset + length written) bytes))
   where
     now_long : length now ≡ max (length bytes) (offset + length written)
     now_long = o.long ∙ sized_long (max (length bytes) (offset + length written)) bytes
 
-    whole : length (written_over offset written bytes) ≡ offset + (length written + (length bytes - (offset + length written)))
+    whole : length (sized offset bytes ++ (written ++ drop (offset + length written) bytes)) ≡ offset + (length written + (length bytes - (offset + length written)))
     whole =
-        let a : length (written_over offset written bytes) ≡ length (sized offset bytes) + length (written ++ drop (offset + length written) bytes) = length-append (sized offset bytes) (written ++ drop (offset + length written) bytes) in
+        let a : length (sized offset bytes ++ (written ++ drop (offset + length written) bytes)) ≡ length (sized offset bytes) + length (written ++ drop (offset + length written) bytes) = length-append (sized offset bytes) (written ++ drop (offset + length written) bytes) in
         let b = length-append written (drop (offset + length written) bytes) in
         let c = length-drop (offset + length written) bytes in
         let d = sized_long offset bytes in
         omega (arith, a, b, c, d)
 
-    both : length now ≡ length (written_over offset written bytes)
+    both : length now ≡ length (sized offset bytes ++ (written ++ drop (offset + length written) bytes))
     both = omega (arith, now_long, whole)
 
-    each : (k : ℕ) → k < length now → get_or now k 0 ≡ get_or (written_over offset written bytes) k 0
+    each : (k : ℕ) → k < length now → get_or now k 0 ≡ get_or (sized offset bytes ++ (written ++ drop (offset + length written) bytes)) k 0
     each k less = by (cases_lt k offset) (cases_lt k (offset + length written))
       where
         front : length (sized offset bytes) ≡ offset
         front = sized_long offset bytes
 
-        by : (k < offset) ⊎ (offset ≤ k) → (k < offset + length written) ⊎ (offset + length written ≤ k) → get_or now k 0 ≡ get_or (written_over offset written bytes) k 0
+        by : (k < offset) ⊎ (offset ≤ k) → (k < offset + length written) ⊎ (offset + length written ≤ k) → get_or now k 0 ≡ get_or (sized offset bytes ++ (written ++ drop (offset + length written) bytes)) k 0
         by (inl low) second =
             o.below k low ∙ sized_at (max (length bytes) (offset + length written)) bytes k (omega (arith, low))
             ∙ sym (get_or_append_left (sized offset bytes) (written ++ drop (offset + length written) bytes) 0 k (omega (arith, front, low)) ∙ sized_at offset bytes k low)
@@ -231,7 +233,7 @@ module _ (volume areas : ℕ) (held : Held) (hints : Hints) (truth : Truth) (tre
   }
     where
       test : (length written == 0) ≡ true
-      test = grind (arith, nat_tests, none)
+      test = eq_true (length written) 0 none
 
   module _ (few : areas ≤ 64) (same : IsTruth held truth) (fit : HintsFitAll areas hints truth) (kind : inode.kind ≡ 1) (some : 0 < length written) (fits : offset + length written ≤ 2147483647)
       (clear : grows_over inode (offset + length written) ≡ false) where
@@ -291,7 +293,7 @@ module _ (volume areas : ℕ) (held : Held) (hints : Hints) (truth : Truth) (tre
           }
         where
           not_none : (length written == 0) ≡ false
-          not_none = grind (arith, nat_tests, some)
+          not_none = eq_false (length written) 0 (λ e. omega (arith, e, some))
 
 -- ---- answers
 

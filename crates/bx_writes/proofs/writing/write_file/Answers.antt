@@ -7,6 +7,7 @@ use Rattle.bx_tree_files.specs.Attributes.{attributes_of}
 use Rattle.bx_tree_files.specs.declared.file.File.{File}
 use Rattle.bx_tree_files.specs.Files.{size_of}
 use Rattle.bx_truth.specs.Stored.{HasFields}
+use Rattle.bx_writes.specs.Steps.{IsRegularOf}
 use Rattle.bx_writes.specs.Written.{IsWritten}
 use Rattle.bx_writes.specs.Grown.{grown}
 use Rattle.bx_writes.specs.Laying.{GrowsTo, pieces_of}
@@ -19,7 +20,7 @@ use Rattle.bx_sizes.proofs.Resized.{leaves_trees, regular_bytes}
 use Rattle.bx_sizes.specs.Lengths.{grows_over}
 use Rattle.bx_views.specs.Truths.{with_draft}
 use Rattle.bx_writes.proofs.Laid.{none_of, some_of}
-use Rattle.bx_writes.proofs.Wrote.{bytes as file_bytes, clear_stops, full, grows, kind_is, lay_stops, nothing, regular_of, told_changes, told_hints, wrote}
+use Rattle.bx_writes.proofs.Wrote.{bytes as file_bytes, clear_stops, full, grows, kind_is, lay_stops, nothing, told_changes, told_hints, wrote}
 use Rattle.bx_writes.proofs.writing.write_file.Goals as goal
 
 pub returns-then-is_empty-clause-step : goal.returns-then-is_empty-clause-step
@@ -64,7 +65,7 @@ returns-in-Err-lay-clause-step g c = λ truth tree bytes few same s fit f is.
     let fits = (rw c.in-Ok-None.field-0-is at c.in-Ok-None.ensures.fits) some in
     let clear = ap (λ (n : ℕ). grows_over inode (n + length written)) (sym c.from.ensures) ∙ sym c.grows_over.ensures ∙ c.if-grows_over.false in
     let grown_is : c.grown-changed.result ≡ grown (offset + length written) c.args.now inode = c.grown-changed.ensures.is ∙ ap (λ (n : ℕ). grown (n + length written) c.args.now inode) c.from.ensures in
-    let r = regular_of c.args.volume.0 c.args.volume.1 held hints truth tree offset written c.args.now handle inode s f few same fit kind some fits clear in
+    let r : IsRegularOf c.args.volume.0 c.args.volume.1 held hints truth tree handle inode = record { few = few; same = same; stands = s; fit = fit; at = f; kind = kind } in
     let base = sized (max inode.size (offset + length written)) (file_bytes c.args.volume.0 c.args.volume.1 held hints truth tree offset written c.args.now handle inode s f few same fit kind some fits clear).0 in
     let file = record f.file { mtime = c.args.now; ctime = c.args.now } in
     let grows_so = subst (λ (i : Inode). GrowsTo f.file inode i file base) (sym grown_is) (grows c.args.volume.0 c.args.volume.1 held hints truth tree offset written c.args.now handle inode s f few same fit kind some fits clear) in
@@ -88,7 +89,7 @@ returns-clause-step g c = λ truth tree bytes few same s fit f is.
     let fits = (rw c.in-Ok-None.field-0-is at c.in-Ok-None.ensures.fits) some in
     let clear = ap (λ (n : ℕ). grows_over inode (n + length written)) (sym c.from.ensures) ∙ sym c.grows_over.ensures ∙ c.if-grows_over.false in
     let grown_is : c.grown-changed.result ≡ grown (offset + length written) c.args.now inode = c.grown-changed.ensures.is ∙ ap (λ (n : ℕ). grown (n + length written) c.args.now inode) c.from.ensures in
-    let r = regular_of c.args.volume.0 c.args.volume.1 held hints truth tree offset written c.args.now handle inode s f few same fit kind some fits clear in
+    let r : IsRegularOf c.args.volume.0 c.args.volume.1 held hints truth tree handle inode = record { few = few; same = same; stands = s; fit = fit; at = f; kind = kind } in
     let base = sized (max inode.size (offset + length written)) (file_bytes c.args.volume.0 c.args.volume.1 held hints truth tree offset written c.args.now handle inode s f few same fit kind some fits clear).0 in
     let file = record f.file { mtime = c.args.now; ctime = c.args.now } in
     let grows_so = subst (λ (i : Inode). GrowsTo f.file inode i file base) (sym grown_is) (grows c.args.volume.0 c.args.volume.1 held hints truth tree offset written c.args.now handle inode s f few same fit kind some fits clear) in
@@ -114,7 +115,7 @@ returns-clause-hints g c = λ all_hints truth tree few same s fit f all.
     let fits = (rw c.in-Ok-None.field-0-is at c.in-Ok-None.ensures.fits) some in
     let clear = ap (λ (n : ℕ). grows_over inode (n + length written)) (sym c.from.ensures) ∙ sym c.grows_over.ensures ∙ c.if-grows_over.false in
     let grown_is : c.grown-changed.result ≡ grown (offset + length written) c.args.now inode = c.grown-changed.ensures.is ∙ ap (λ (n : ℕ). grown (n + length written) c.args.now inode) c.from.ensures in
-    let r = regular_of c.args.volume.0 c.args.volume.1 held hints truth tree offset written c.args.now handle inode s f few same fit kind some fits clear in
+    let r : IsRegularOf c.args.volume.0 c.args.volume.1 held hints truth tree handle inode = record { few = few; same = same; stands = s; fit = fit; at = f; kind = kind } in
     let base = sized (max inode.size (offset + length written)) (file_bytes c.args.volume.0 c.args.volume.1 held hints truth tree offset written c.args.now handle inode s f few same fit kind some fits clear).0 in
     let file = record f.file { mtime = c.args.now; ctime = c.args.now } in
     let grows_so = subst (λ (i : Inode). GrowsTo f.file inode i file base) (sym grown_is) (grows c.args.volume.0 c.args.volume.1 held hints truth tree offset written c.args.now handle inode s f few same fit kind some fits clear) in

@@ -63,7 +63,16 @@ pub fn write<V: View>(
     let none = Draft::new(alloc);
     match inode_at(alloc, &none, view, volume.1, handle, Mode::Exclusive) {
         Err(stop) => Err(ChangeError::Stopped(stop)),
-        Ok(inode) => write_file(alloc, volume, view, call, (handle, inode), offset, written, now),
+        Ok(inode) => write_file(
+            alloc,
+            volume,
+            view,
+            call,
+            (handle, inode),
+            offset,
+            written,
+            now,
+        ),
     }
 }
 

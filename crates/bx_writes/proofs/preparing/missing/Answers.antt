@@ -19,7 +19,7 @@ returns-in-Ok-Some-clause-step g c = λ volume truth tree handle inode r root_is
 
 pub returns-in-Ok-clause-step : goal.returns-in-Ok-clause-step
 returns-in-Ok-clause-step g c = λ volume truth tree handle inode r root_is. (
-    λ pages is. (rw (c.in-Ok-None.field-0-is, c.content_key.ensures) at c.in-Ok-None.ensures.map) truth pages
-        (under volume c.args.near.1 (g.V.View.held c.args.view.now) (g.V.View.hints c.args.view.now) truth tree handle inode r c.args.root root_is pages is),
-    c.in-Ok.ensures,
+  λ pages is. (rw (c.in-Ok-None.field-0-is, c.content_key.ensures) at c.in-Ok-None.ensures.map) truth pages
+      (under volume c.args.near.1 (g.V.View.held c.args.view.now) (g.V.View.hints c.args.view.now) truth tree handle inode r c.args.root root_is pages is),
+  c.in-Ok.ensures,
 )

@@ -30,8 +30,8 @@ returns-then-is_empty-clause-step g c = λ truth tree bytes few same s fit f is.
     let fine = rw c.in-Ok-None.field-0-is at c.in-Ok-None.ensures.error in
     told_changes c.args.volume.0 c.args.volume.1 truth (write tree call bytes c.args.offset written c.args.now) c.args.file.0 c.args.file.1 c.new.result c.told.result c.told.ensures
     (λ reply tells. subst (λ (d : List Changed). Changes c.args.volume.0 c.args.volume.1 truth (write tree call bytes c.args.offset written c.args.now 8) d reply) (sym c.new.ensures)
-        (nothing c.args.volume.0 c.args.volume.1 (g.V.View.held c.args.view.now) (g.V.View.hints c.args.view.now) truth tree bytes call c.args.offset written c.args.now c.args.file.0 c.args.file.1 s f is reply
-        (none_of (length written) c.if-is_empty.ensures) fine tells))
+    (nothing c.args.volume.0 c.args.volume.1 (g.V.View.held c.args.view.now) (g.V.View.hints c.args.view.now) truth tree bytes call c.args.offset written c.args.now c.args.file.0 c.args.file.1 s f is reply
+    (none_of (length written) c.if-is_empty.ensures) fine tells))
 
 pub returns-then-is_empty-clause-hints : goal.returns-then-is_empty-clause-hints
 returns-then-is_empty-clause-hints g c = λ hints truth tree few same s fit f all.
@@ -98,8 +98,8 @@ returns-clause-step g c = λ truth tree bytes few same s fit f is.
     (c.in-Ok-lay.ensures.step c.args.volume.0 truth tree inode file base r grows_so (λ more. omega (arith, size))) in
     told_changes c.args.volume.0 c.args.volume.1 truth (write tree c.args.call.now bytes offset written c.args.now) handle c.grown-changed.result c.in-Ok-lay.draft c.told-in-Ok-lay.result c.told-in-Ok-lay.ensures
     (λ reply tells. wrote c.args.volume.0 c.args.volume.1 held hints truth tree bytes c.args.call.now offset written c.args.now handle inode s f is few same fit kind some fits clear (offset / 4096) (pieces_of (offset % 4096) written)
-        c.in-Ok-lay.draft (4096 * (offset / 4096) + offset % 4096) (omega arith) w reply fine
-        (subst (λ (i : Inode). (other : File) → other.handle ≡ handle → HasFields i other → size_of other.body ≡ shown_size i → size_of other.body < 2 ^ 31 → reply ≡ Attributes (attributes_of c.args.volume.0 other)) grown_is tells))
+    c.in-Ok-lay.draft (4096 * (offset / 4096) + offset % 4096) (omega arith) w reply fine
+    (subst (λ (i : Inode). (other : File) → other.handle ≡ handle → HasFields i other → size_of other.body ≡ shown_size i → size_of other.body < 2 ^ 31 → reply ≡ Attributes (attributes_of c.args.volume.0 other)) grown_is tells))
 
 pub returns-clause-hints : goal.returns-clause-hints
 returns-clause-hints g c = λ all_hints truth tree few same s fit f all.

@@ -53,7 +53,7 @@ module _ (areas : ℕ) (truth : Truth) (tree : Tree) (handle : ℕ) (file : File
   regular_handle = (shown areas truth tree handle file is there).handle_is
 
 -- growing over nothing that was cut
-over_none : (size tail size_now : ℕ) → (nat_lt size size_now && nat_lt size tail) ≡ false → (size_now ≤ size) ⊎ (tail ≤ size)
+pub over_none : (size tail size_now : ℕ) → (nat_lt size size_now && nat_lt size tail) ≡ false → (size_now ≤ size) ⊎ (tail ≤ size)
 over_none size tail size_now test = by (nat_lt size size_now) (nat_lt size tail) refl refl test
   where
     by : (a b : Bool) → nat_lt size size_now ≡ a → nat_lt size tail ≡ b → (a && b) ≡ false → (size_now ≤ size) ⊎ (tail ≤ size)

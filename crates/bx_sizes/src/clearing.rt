@@ -43,7 +43,7 @@ const INDEXES: u64 = 4294967296;
 ///
 /// `Need` names a block of the volume that isn't held: one on the path of the search for such a piece, shared, or the piece's own,
 /// exclusively.
-pub(crate) fn clear<V: View>(
+pub fn clear<V: View>(
     alloc: Global,
     areas: u16,
     view: &V,
@@ -105,8 +105,10 @@ fn clear_piece<V: View>(
     }
 }
 
-/// The block of a handle, exclusively.
-fn piece_held<V: View>(areas: u16, view: &V, names: u64) -> Result<&Block, Stop>
+/// The block of a handle, by the handle's number, exclusively.
+///
+/// `Need` names that block, which isn't held so. The status is `STALE` where the volume has no such block, or its header names another handle.
+pub fn piece_held<V: View>(areas: u16, view: &V, names: u64) -> Result<&Block, Stop>
     ensures { PieceAt areas (V.held view.now) names (result_map_both (λ block. block.now) (λ stop. stop) result) }
 {
     let at = block_at(names);

@@ -6,5 +6,6 @@ mod cuts;
 mod setting;
 mod sizes;
 
+pub use clearing::{clear, piece_held};
 pub use setting::setattr;
-pub use sizes::{set_size, size_error};
+pub use sizes::{grows_over, set_size, size_error};

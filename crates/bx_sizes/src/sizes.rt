@@ -75,7 +75,7 @@ pub fn set_size<V: View>(
 }
 
 /// Whether growing to a size would show bytes again that were cut and aren't cleared.
-fn grows_over(inode: &Inode, size: u64) -> bool
+pub fn grows_over(inode: &Inode, size: u64) -> bool
     ensures { result ≡ grows_over_to inode.now size }
 {
     inode.size < size && inode.size < inode.tail

@@ -1,0 +1,9 @@
+pub mod Over
+pub mod On
+pub mod InPlace
+pub mod Anew
+pub mod Base
+pub mod Missing
+pub mod PutStops
+pub mod Laid
+pub mod Wrote

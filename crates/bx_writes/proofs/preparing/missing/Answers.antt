@@ -1,0 +1,25 @@
+use Rattle.std.proofs.Common.{ℕ, List, Option, Err, subst}
+use Rattle.bx_leaves.specs.Changes.{NeedsUnheld}
+use Rattle.bx_ready.specs.Ready.{OnReadyPath, ReadiesIn}
+use Rattle.bx_records.specs.Drafts.{Changed}
+use Rattle.bx_writes.proofs.Missing.{leaves, stopped, under}
+use Rattle.bx_writes.proofs.preparing.missing.Goals as goal
+
+pub returns-in-Err-clause-step : goal.returns-in-Err-clause-step
+returns-in-Err-clause-step g c = λ volume truth tree handle inode r root_is.
+    stopped volume c.args.near.1 (g.V.View.held c.args.view.now) (g.V.View.hints c.args.view.now) truth tree handle inode r c.args.root root_is c.args.place.0 c.args.place.1 c.args.part.now c.in-Err.error c.of_tree.result
+    (λ pages u. subst (λ (k : List ℕ). ReadiesIn c.args.near.1 (g.V.View.held c.args.view.now) (g.V.View.hints c.args.view.now) truth c.args.root pages k (Err c.in-Err.error)) c.content_key.ensures (c.in-Err.ensures.map truth pages u))
+    (subst (λ (k : List ℕ). NeedsUnheld {X = Option (List Changed)} (g.V.View.held c.args.view.now) (OnReadyPath c.args.near.1 (g.V.View.held c.args.view.now) (g.V.View.hints c.args.view.now) c.args.root k) (Err c.in-Err.error)) c.content_key.ensures
+    c.in-Err.ensures.fair) c.of_tree.ensures
+
+pub returns-in-Ok-Some-clause-step : goal.returns-in-Ok-Some-clause-step
+returns-in-Ok-Some-clause-step g c = λ volume truth tree handle inode r root_is.
+    rw c.in-Ok-Some.field-0-is
+    (leaves volume c.args.near.1 (g.V.View.held c.args.view.now) (g.V.View.hints c.args.view.now) truth tree handle inode r c.args.root root_is c.in-Ok-Some.draft (rw c.in-Ok-Some.field-0-is at c.in-Ok-Some.ensures.files))
+
+pub returns-in-Ok-clause-step : goal.returns-in-Ok-clause-step
+returns-in-Ok-clause-step g c = λ volume truth tree handle inode r root_is. (
+  λ pages is. (rw (c.in-Ok-None.field-0-is, c.content_key.ensures) at c.in-Ok-None.ensures.map) truth pages
+      (under volume c.args.near.1 (g.V.View.held c.args.view.now) (g.V.View.hints c.args.view.now) truth tree handle inode r c.args.root root_is pages is),
+  c.in-Ok.ensures,
+)

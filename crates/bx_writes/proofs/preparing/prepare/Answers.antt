@@ -1,0 +1,22 @@
+use Rattle.std.proofs.Common.{◌∙◌, ℕ, List, Err, ap, subst, sym}
+use Rattle.bx_files.specs.Reads.{Tells}
+use Rattle.bx_page.specs.Contents.{value_of}
+use Rattle.bx_truth.specs.PageTrees.{handle_in, map_of}
+use Rattle.bx_writes.proofs.Missing.{found_in, misses_in, value_stops}
+use Rattle.bx_writes.proofs.preparing.prepare.Goals as goal
+
+pub returns-in-Err-clause-step : goal.returns-in-Err-clause-step
+returns-in-Err-clause-step g c = λ volume truth tree handle inode r root_is.
+    value_stops volume c.args.near.1 (g.V.View.held c.args.view.now) (g.V.View.hints c.args.view.now) truth tree handle inode r c.args.root root_is c.args.place.0 c.args.place.1 c.args.part.now c.in-Err.stop
+    (λ pages u. subst (λ (k : List ℕ). Tells (value_of (map_of pages) k) (Err c.in-Err.stop)) c.content_key.ensures (c.in-Err.ensures.map truth pages u))
+
+pub returns-in-Ok-Some-clause-step : goal.returns-in-Ok-Some-clause-step
+returns-in-Ok-Some-clause-step g c = λ volume truth tree handle inode r root_is.
+    found_in volume c.args.near.1 (g.V.View.held c.args.view.now) (g.V.View.hints c.args.view.now) truth tree handle inode r c.args.root root_is c.args.place.0 c.args.place.1 c.args.part.now c.in-Ok-Some.value c.handle_in.result
+    (c.handle_in.ensures ∙ ap handle_in c.bytes.ensures)
+    (λ pages u. sym (rw (c.in-Ok-Some.field-0-is, c.content_key.ensures) at (c.in-Ok-Some.ensures.map truth pages u))) c.found.result c.found.ensures.at
+
+pub returns-in-Ok-None-clause-step : goal.returns-in-Ok-None-clause-step
+returns-in-Ok-None-clause-step g c = λ volume truth tree handle inode r root_is.
+    misses_in volume c.args.near.1 (g.V.View.held c.args.view.now) (g.V.View.hints c.args.view.now) truth tree handle inode r c.args.root root_is c.args.place.0 c.args.place.1 c.args.part.now
+    (λ pages u. sym (rw (c.in-Ok-None.field-0-is, c.content_key.ensures) at (c.in-Ok-None.ensures.map truth pages u))) c.missing.result c.missing.ensures.none (c.missing.ensures.step volume truth tree handle inode r root_is)

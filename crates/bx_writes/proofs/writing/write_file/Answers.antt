@@ -1,0 +1,124 @@
+use Rattle.std.specs.Prelude.{max}
+use Rattle.bx_layout.specs.declared.inode.Inode.{Inode}
+use Rattle.bx_tree_files.specs.Contents.{sized}
+use Rattle.bx_inodes.specs.Inodes.{shown_size}
+use Rattle.bx_model.specs.declared.reply.Reply.TheVariants.{Attributes}
+use Rattle.bx_tree_files.specs.Attributes.{attributes_of}
+use Rattle.bx_tree_files.specs.declared.file.File.{File}
+use Rattle.bx_tree_files.specs.Files.{size_of}
+use Rattle.bx_truth.specs.Stored.{HasFields}
+use Rattle.bx_writes.specs.Steps.{IsRegularOf}
+use Rattle.bx_writes.specs.Written.{IsWritten}
+use Rattle.bx_writes.specs.Grown.{grown}
+use Rattle.bx_writes.specs.Laying.{GrowsTo, pieces_of}
+use Rattle.std.proofs.Common.{◌≡◌, ◌∙◌, ◌+◌, ◌*◌, ◌/◌, ◌%◌, ◌<◌, ◌^◌, ℕ, List, Ok, [], length, arith, ap, subst, sym, refl}
+use Rattle.bx_changes.specs.Changes.{Changes}
+use Rattle.bx_hints.specs.Fitting.{HintsFitAll}
+use Rattle.bx_model.specs.Writing.{write}
+use Rattle.bx_records.specs.Drafts.{Changed}
+use Rattle.bx_sizes.proofs.Resized.{leaves_trees, regular_bytes}
+use Rattle.bx_sizes.specs.Lengths.{grows_over}
+use Rattle.bx_views.specs.Truths.{with_draft}
+use Rattle.bx_writes.proofs.Laid.{none_of, some_of}
+use Rattle.bx_writes.proofs.Wrote.{bytes as file_bytes, clear_stops, full, grows, kind_is, lay_stops, nothing, told_changes, told_hints, wrote}
+use Rattle.bx_writes.proofs.writing.write_file.Goals as goal
+
+pub returns-then-is_empty-clause-step : goal.returns-then-is_empty-clause-step
+returns-then-is_empty-clause-step g c = λ truth tree bytes few same s fit f is.
+    let call = c.args.call.now in
+    let written = c.args.written.now in
+    let fine = rw c.in-Ok-None.field-0-is at c.in-Ok-None.ensures.error in
+    told_changes c.args.volume.0 c.args.volume.1 truth (write tree call bytes c.args.offset written c.args.now) c.args.file.0 c.args.file.1 c.new.result c.told.result c.told.ensures
+    (λ reply tells. subst (λ (d : List Changed). Changes c.args.volume.0 c.args.volume.1 truth (write tree call bytes c.args.offset written c.args.now 8) d reply) (sym c.new.ensures)
+    (nothing c.args.volume.0 c.args.volume.1 (g.V.View.held c.args.view.now) (g.V.View.hints c.args.view.now) truth tree bytes call c.args.offset written c.args.now c.args.file.0 c.args.file.1 s f is reply
+    (none_of (length written) c.if-is_empty.ensures) fine tells))
+
+pub returns-then-is_empty-clause-hints : goal.returns-then-is_empty-clause-hints
+returns-then-is_empty-clause-hints g c = λ hints truth tree few same s fit f all.
+    told_hints c.args.volume.0 c.args.volume.1 hints truth c.args.file.0 c.args.file.1 c.new.result c.told.result c.told.ensures (subst (λ (d : List Changed). HintsFitAll c.args.volume.1 hints (with_draft truth d)) (sym c.new.ensures) all)
+
+pub returns-in-Err-clear-clause-step : goal.returns-in-Err-clear-clause-step
+returns-in-Err-clear-clause-step g c = λ truth tree bytes few same s fit f is.
+    let fine = rw c.in-Ok-None.field-0-is at c.in-Ok-None.ensures.error in
+    let kind = kind_is c.args.call.now c.args.offset (length c.args.written.now) c.args.file.0 c.args.file.1 c.requires.inode.kind c.requires.live fine in
+    let b = regular_bytes c.args.volume.1 truth tree c.args.file.0 f.file c.args.file.1 s.is f.holds f.there kind in
+    clear_stops c.args.volume.0 c.args.volume.1 truth (write tree c.args.call.now bytes c.args.offset c.args.written.now c.args.now) tree c.in-Err-clear.stop
+    (c.in-Err-clear.ensures.tree truth tree f.file b.0 few same s.is fit f.holds f.there b.1)
+
+pub returns-in-Ok-clause-step : goal.returns-in-Ok-clause-step
+returns-in-Ok-clause-step g c = λ truth tree bytes few same s fit f is.
+    let fine = rw c.in-Ok-None.field-0-is at c.in-Ok-None.ensures.error in
+    let kind = kind_is c.args.call.now c.args.offset (length c.args.written.now) c.args.file.0 c.args.file.1 c.requires.inode.kind c.requires.live fine in
+    leaves_trees c.args.volume.1 truth tree c.args.file.0 f.file c.args.file.1 c.in-Ok.draft s.is f.holds f.there kind (λ was of bs st there body. c.in-Ok.ensures.tree truth was of bs few same st fit f.holds there body)
+
+pub returns-in-Err-lay-clause-step : goal.returns-in-Err-lay-clause-step
+returns-in-Err-lay-clause-step g c = λ truth tree bytes few same s fit f is.
+    let held = g.V.View.held c.args.view.now in
+    let hints = g.V.View.hints c.args.view.now in
+    let written = c.args.written.now in
+    let offset = c.args.offset in
+    let handle = c.args.file.0 in
+    let inode = c.args.file.1 in
+    let fine = rw c.in-Ok-None.field-0-is at c.in-Ok-None.ensures.error in
+    let kind = kind_is c.args.call.now offset (length written) handle inode c.requires.inode.kind c.requires.live fine in
+    let some = some_of (length written) c.if-is_empty.ensures in
+    let fits = (rw c.in-Ok-None.field-0-is at c.in-Ok-None.ensures.fits) some in
+    let clear = ap (λ (n : ℕ). grows_over inode (n + length written)) (sym c.from.ensures) ∙ sym c.grows_over.ensures ∙ c.if-grows_over.false in
+    let grown_is : c.grown-changed.result ≡ grown (offset + length written) c.args.now inode = c.grown-changed.ensures.is ∙ ap (λ (n : ℕ). grown (n + length written) c.args.now inode) c.from.ensures in
+    let r : IsRegularOf c.args.volume.0 c.args.volume.1 held hints truth tree handle inode = record { few = few; same = same; stands = s; fit = fit; at = f; kind = kind } in
+    let base = sized (max inode.size (offset + length written)) (file_bytes c.args.volume.0 c.args.volume.1 held hints truth tree offset written c.args.now handle inode s f few same fit kind some fits clear).0 in
+    let file = record f.file { mtime = c.args.now; ctime = c.args.now } in
+    let grows_so = subst (λ (i : Inode). GrowsTo f.file inode i file base) (sym grown_is) (grows c.args.volume.0 c.args.volume.1 held hints truth tree offset written c.args.now handle inode s f few same fit kind some fits clear) in
+    let size = ap (λ (i : Inode). i.size) grown_is in
+    lay_stops c.args.volume.0 c.args.volume.1 truth (write tree c.args.call.now bytes offset written c.args.now) held tree handle file (s.is.stored handle).tree c.grown-changed.result base
+    (4096 * (offset / 4096) + offset % 4096) written (offset / 4096) (pieces_of (offset % 4096) written) c.in-Err-lay.error
+    (λ spare less. full c.args.volume.0 c.args.volume.1 held hints truth tree bytes c.args.call.now offset written c.args.now handle inode s f is spare fine some less)
+    (c.in-Err-lay.ensures.step c.args.volume.0 truth tree inode file base r grows_so (λ more. omega (arith, size)))
+
+pub returns-clause-step : goal.returns-clause-step
+returns-clause-step g c = λ truth tree bytes few same s fit f is.
+    let held = g.V.View.held c.args.view.now in
+    let hints = g.V.View.hints c.args.view.now in
+    let written = c.args.written.now in
+    let offset = c.args.offset in
+    let handle = c.args.file.0 in
+    let inode = c.args.file.1 in
+    let fine = rw c.in-Ok-None.field-0-is at c.in-Ok-None.ensures.error in
+    let kind = kind_is c.args.call.now offset (length written) handle inode c.requires.inode.kind c.requires.live fine in
+    let some = some_of (length written) c.if-is_empty.ensures in
+    let fits = (rw c.in-Ok-None.field-0-is at c.in-Ok-None.ensures.fits) some in
+    let clear = ap (λ (n : ℕ). grows_over inode (n + length written)) (sym c.from.ensures) ∙ sym c.grows_over.ensures ∙ c.if-grows_over.false in
+    let grown_is : c.grown-changed.result ≡ grown (offset + length written) c.args.now inode = c.grown-changed.ensures.is ∙ ap (λ (n : ℕ). grown (n + length written) c.args.now inode) c.from.ensures in
+    let r : IsRegularOf c.args.volume.0 c.args.volume.1 held hints truth tree handle inode = record { few = few; same = same; stands = s; fit = fit; at = f; kind = kind } in
+    let base = sized (max inode.size (offset + length written)) (file_bytes c.args.volume.0 c.args.volume.1 held hints truth tree offset written c.args.now handle inode s f few same fit kind some fits clear).0 in
+    let file = record f.file { mtime = c.args.now; ctime = c.args.now } in
+    let grows_so = subst (λ (i : Inode). GrowsTo f.file inode i file base) (sym grown_is) (grows c.args.volume.0 c.args.volume.1 held hints truth tree offset written c.args.now handle inode s f few same fit kind some fits clear) in
+    let size = ap (λ (i : Inode). i.size) grown_is in
+    let w = subst (λ (i : Inode). IsWritten c.args.volume.1 held truth tree handle file (s.is.stored handle).tree i base (4096 * (offset / 4096) + offset % 4096) written (offset / 4096) (pieces_of (offset % 4096) written) c.in-Ok-lay.draft) grown_is
+    (c.in-Ok-lay.ensures.step c.args.volume.0 truth tree inode file base r grows_so (λ more. omega (arith, size))) in
+    told_changes c.args.volume.0 c.args.volume.1 truth (write tree c.args.call.now bytes offset written c.args.now) handle c.grown-changed.result c.in-Ok-lay.draft c.told-in-Ok-lay.result c.told-in-Ok-lay.ensures
+    (λ reply tells. wrote c.args.volume.0 c.args.volume.1 held hints truth tree bytes c.args.call.now offset written c.args.now handle inode s f is few same fit kind some fits clear (offset / 4096) (pieces_of (offset % 4096) written)
+    c.in-Ok-lay.draft (4096 * (offset / 4096) + offset % 4096) (omega arith) w reply fine
+    (subst (λ (i : Inode). (other : File) → other.handle ≡ handle → HasFields i other → size_of other.body ≡ shown_size i → size_of other.body < 2 ^ 31 → reply ≡ Attributes (attributes_of c.args.volume.0 other)) grown_is tells))
+
+pub returns-clause-hints : goal.returns-clause-hints
+returns-clause-hints g c = λ all_hints truth tree few same s fit f all.
+    let held = g.V.View.held c.args.view.now in
+    let hints = g.V.View.hints c.args.view.now in
+    let written = c.args.written.now in
+    let offset = c.args.offset in
+    let handle = c.args.file.0 in
+    let inode = c.args.file.1 in
+    let fine = rw c.in-Ok-None.field-0-is at c.in-Ok-None.ensures.error in
+    let kind = kind_is c.args.call.now offset (length written) handle inode c.requires.inode.kind c.requires.live fine in
+    let some = some_of (length written) c.if-is_empty.ensures in
+    let fits = (rw c.in-Ok-None.field-0-is at c.in-Ok-None.ensures.fits) some in
+    let clear = ap (λ (n : ℕ). grows_over inode (n + length written)) (sym c.from.ensures) ∙ sym c.grows_over.ensures ∙ c.if-grows_over.false in
+    let grown_is : c.grown-changed.result ≡ grown (offset + length written) c.args.now inode = c.grown-changed.ensures.is ∙ ap (λ (n : ℕ). grown (n + length written) c.args.now inode) c.from.ensures in
+    let r : IsRegularOf c.args.volume.0 c.args.volume.1 held hints truth tree handle inode = record { few = few; same = same; stands = s; fit = fit; at = f; kind = kind } in
+    let base = sized (max inode.size (offset + length written)) (file_bytes c.args.volume.0 c.args.volume.1 held hints truth tree offset written c.args.now handle inode s f few same fit kind some fits clear).0 in
+    let file = record f.file { mtime = c.args.now; ctime = c.args.now } in
+    let grows_so = subst (λ (i : Inode). GrowsTo f.file inode i file base) (sym grown_is) (grows c.args.volume.0 c.args.volume.1 held hints truth tree offset written c.args.now handle inode s f few same fit kind some fits clear) in
+    let size = ap (λ (i : Inode). i.size) grown_is in
+    told_hints c.args.volume.0 c.args.volume.1 all_hints truth handle c.grown-changed.result c.in-Ok-lay.draft c.told-in-Ok-lay.result c.told-in-Ok-lay.ensures
+    ((c.in-Ok-lay.ensures.step c.args.volume.0 truth tree inode file base r grows_so (λ more. omega (arith, size))).leads all_hints all)

@@ -1,0 +1,13 @@
+//! WRITE, over views.
+#![tactic(auto)]
+
+mod errors;
+mod grown;
+mod laying;
+mod payloads;
+mod preparing;
+mod putting;
+mod stops;
+mod writing;
+
+pub use writing::write;

@@ -13,6 +13,7 @@ ghost use Rattle.bx_attempts.specs.Steps.{StandsWith, Step};
 use crate::attributes::setattr;
 use crate::making::{create, mkdir, symlink};
 use crate::naming::{link, remove, rmdir};
+use crate::writing::write;
 use bx_base::OutOfMemory;
 use bx_model::{Args, Call};
 use bx_rpc::NFS_PROGRAM;
@@ -22,6 +23,9 @@ use std::alloc::Global;
 
 /// The procedure SETATTR (RFC 1094, section 2.2.3).
 const SETATTR: u32 = 2;
+
+/// The procedure WRITE (RFC 1094, section 2.2.9).
+const WRITE: u32 = 8;
 
 /// The procedure CREATE (RFC 1094, section 2.2.10).
 const CREATE: u32 = 9;
@@ -47,13 +51,19 @@ const MOST_NAME: usize = 255;
 /// How many bytes a link's path has at most.
 const MOST_PATH: usize = 1024;
 
-/// Whether a call changes the file tree, and is built: it is SETATTR, CREATE without a size,
+/// How many bytes are written at once at most.
+const MOST_DATA: usize = 8192;
+
+/// Whether a call changes the file tree, and is built: it is SETATTR, WRITE, CREATE without a size,
 /// REMOVE, LINK, SYMLINK, MKDIR or RMDIR.
 pub fn is_change(call: &Call) -> bool
     ensures { IsTrue result ↔ IsChanging call.now }
 {
     match &call.args {
         Args::Set(_, _) => is_procedure(call, SETATTR),
+        Args::Write(_, _, _, _, written) => {
+            is_procedure(call, WRITE) && written.bytes().len() <= MOST_DATA
+        }
         Args::Name(_, _) => is_procedure(call, REMOVE) || is_procedure(call, RMDIR),
         Args::Link(_, _, name) => is_procedure(call, LINK) && name.bytes().len() <= MOST_NAME,
         Args::Symlink(_, name, path, _) => {
@@ -97,6 +107,10 @@ pub fn change<V: View>(
     match &call.args {
         Args::Set(at, sattr) => {
             setattr(alloc, volume, areas, xid, call, at.bytes(), sattr, moment, view)
+        }
+        Args::Write(at, _, offset, _, written) => {
+            let (at, written) = (at.bytes(), written.bytes());
+            write(alloc, volume, areas, xid, call, at, *offset, written, moment, view)
         }
         Args::Name(at, name) => {
             let (at, name) = (at.bytes(), name.bytes());

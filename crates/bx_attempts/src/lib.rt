@@ -8,6 +8,7 @@ mod naming;
 mod replies;
 mod tidying;
 mod times;
+mod writing;
 
 pub use calls::{change, is_change};
 pub use replies::{answered, answered_with, stopped};

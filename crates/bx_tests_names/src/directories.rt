@@ -5,14 +5,16 @@ use bx_tests_desk::{Desk, LINK, ROOT, is_answered, is_needed, nobody};
 use std::alloc::{AllocError, Global};
 use std::test::Fail;
 
-/// The attributes of the root.
-const ROOT_TOLD: [u32; 17] = [
-    2, 0o40777, 2, 0, 0, 4096, 4096, 0, 8, 7, 2, 0, 0, 0, 0, 0, 0,
+/// The status 0 and the file handle of the root, behind the six words of a reply with number 1; and its attributes.
+const ROOT_TOLD: [u32; 32] = [
+    1, 1, 0, 0, 0, 0, 0, 0x424f5857, 0x4f4f4431, 0, 7, 0, 1, 0, 0, 2, 0o40777, 2, 0, 0, 4096, 4096,
+    0, 8, 7, 2, 0, 0, 0, 0, 0, 0,
 ];
 
-/// Those of the file in slot 2.
-const FILE_TOLD: [u32; 17] = [
-    1, 0o100644, 1, 0, 0, 12388, 4096, 0, 25, 7, 4, 0, 0, 0, 0, 0, 0,
+/// The same of the file in slot 2.
+const FILE_TOLD: [u32; 32] = [
+    1, 1, 0, 0, 0, 0, 0, 0x424f5857, 0x4f4f4431, 0, 7, 2, 1, 0, 0, 1, 0o100644, 1, 0, 0, 12388,
+    4096, 0, 25, 7, 4, 0, 0, 0, 0, 0, 0,
 ];
 
 /// What the root lists: itself, its parent, `f` and `gh`, each with its file's number, its name and its cookie.
@@ -44,28 +46,18 @@ fn desk_of(alloc: Global) -> Result<Desk, Fail> {
     Ok(desk)
 }
 
-/// Whether a name of the root is found so: the file with a file handle and attributes.
-fn is_found(
-    alloc: Global,
-    desk: &Desk,
-    name: &[u32],
-    file: &[u32; 8],
-    attributes: &[u32; 17],
-) -> bool {
-    let mut reply = [0; 32];
-    reply[..2].copy_from_slice(&[1, 1]);
-    reply[7..15].copy_from_slice(file);
-    reply[15..].copy_from_slice(attributes);
-    is_answered(alloc, desk, &[&nobody(1, 4), &ROOT, name], 0, &reply)
+/// Whether the look-up of a name in the root is answered so.
+fn is_found(alloc: Global, desk: &Desk, name: &[u32], reply: &[u32]) -> bool {
+    is_answered(alloc, desk, &[&nobody(1, 4), &ROOT, name], 0, reply)
 }
 
 #[test]
 fn names_are_looked_up(rt: HostRuntime) -> Result<(), Fail> {
     let alloc = rt.alloc();
     let desk = desk_of(alloc)?;
-    let itself = is_found(alloc, &desk, &[1, 0x2e00_0000], &ROOT, &ROOT_TOLD);
-    let parent = is_found(alloc, &desk, &[2, 0x2e2e_0000], &ROOT, &ROOT_TOLD);
-    let file = is_found(alloc, &desk, &[1, 0x6600_0000], &LINK, &FILE_TOLD);
+    let itself = is_found(alloc, &desk, &[1, 0x2e00_0000], &ROOT_TOLD);
+    let parent = is_found(alloc, &desk, &[2, 0x2e2e_0000], &ROOT_TOLD);
+    let file = is_found(alloc, &desk, &[1, 0x6600_0000], &FILE_TOLD);
     assert!(rt; itself && parent && file);
     Ok(())
 }

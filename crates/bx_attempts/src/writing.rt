@@ -1,0 +1,48 @@
+//! Bytes that are written.
+
+ghost use Rattle.std.specs.Prelude.{◌≡◌, ◌≤◌, ℕ, List, length, IfOk};
+ghost use Rattle.bx_chunks.specs.Counting.{free_slots};
+ghost use Rattle.bx_model.specs.declared.tree.Tree.{Tree};
+ghost use Rattle.bx_nfs.specs.Wire.{ReadsAs};
+ghost use Rattle.bx_views.specs.Attempts.{Gives, IsFair};
+ghost use Rattle.bx_views.specs.Truths.{IsTruth, Truth};
+ghost use Rattle.bx_attempts.specs.Calls.{IsWriteOf};
+ghost use Rattle.bx_attempts.specs.Paths.{ChangePathOf};
+ghost use Rattle.bx_attempts.specs.Steps.{StandsWith, Step};
+
+use crate::replies::{changed, refused};
+use crate::times::time_of;
+use bx_base::OutOfMemory;
+use bx_model::Call;
+use bx_views::{Attempt, View};
+use std::alloc::Global;
+
+/// Attempts WRITE of at most 8192 bytes from an offset on into the file that a file handle names, of a volume by its number and its areas, at most 64,
+/// at a moment in milliseconds: `bx_writes::write`, as an attempt.
+pub(crate) fn write<V: View>(
+    alloc: Global,
+    volume: u64,
+    areas: u16,
+    xid: u32,
+    call: &Call,
+    at: &[u8],
+    offset: u32,
+    written: &[u8],
+    moment: u64,
+    view: &V,
+) -> Result<Attempt, OutOfMemory>
+    requires areas { areas ≤ 64 }
+    requires args { IsWriteOf call.now at.now offset written.now }
+    requires few { length written.now ≤ 8192 }
+    requires moment { moment ≤ 4294967295999 }
+    ensures gives { (client : ℕ) (bytes : List ℕ) (truth : Truth) (tree : Tree) → ReadsAs bytes xid call.now → IsTruth (V.held view.now) truth → StandsWith volume areas truth (V.hints view.now) tree
+        → IfOk result (Gives (StandsWith volume areas) Step (free_slots areas truth) client bytes moment truth tree) }
+    ensures fair { IfOk result (IsFair areas (V.held view.now) (ChangePathOf (V.held view.now) (V.hints view.now) volume areas call.now.procedure call.now.args)) }
+{
+    let now = time_of(moment);
+    let place = (volume, areas);
+    match bx_writes::write(alloc, place, view, call, at, offset, written, now) {
+        Ok((draft, reply)) => changed(alloc, xid, draft, reply, 0),
+        Err(error) => refused(alloc, xid, error),
+    }
+}

@@ -15,6 +15,8 @@ use std::mem;
 pub struct LoneService {
     alloc: Global,
     stage: Stage,
+    /// Whether a tidy of the one area is under way.
+    tidies: bool,
 }
 
 /// Whether the node is up.
@@ -41,6 +43,7 @@ impl LoneService {
         ensures waits { OnOk result (waits_of self.new.stage ≡ waits_of self.old.stage) }
         ensures latest { OnOk result (latest_of self.new.stage ≡ latest_of self.old.stage) }
         ensures up { OnOk result (is_up self.new.stage ≡ is_up self.old.stage) }
+        ensures tidies { self.new.tidies ≡ self.old.tidies }
         ensures restarts { (tree : Tree) (doubt : Option Doubt) → B.tells bench.old → IsHolding self.old.stage (B.state bench.old) tree doubt
             → IfOk result (Restarts (IsHolding self.new.stage (B.state bench.new)) (waits_of self.new.stage) tree doubt) }
         ensures later { B.faults bench.old ≤ B.faults bench.new }
@@ -78,6 +81,8 @@ impl Service for LoneService {
 
     ghost lacks = { λ service. lacks_of service.stage };
 
+    ghost tidies = { λ service. service.tidies };
+
     ghost ready = { λ service sizes. IsReady service.stage sizes };
 
     ghost holds = { λ service disks tree doubt. IsHolding service.stage disks tree doubt };
@@ -91,6 +96,7 @@ impl Service for LoneService {
         Ok(LoneService {
             alloc,
             stage: Stage::Up(machine),
+            tidies: false,
         })
     }
 
@@ -119,10 +125,21 @@ impl Service for LoneService {
         }
     }
 
+    fn tick(&mut self) {
+        let waits = match &self.stage {
+            Stage::Up(machine) => machine.waits(),
+            Stage::Down(_) => false,
+            Stage::Returning(_, queue, _) => !queue.is_empty(),
+        };
+        if !waits {
+            self.tidies = true;
+        }
+    }
+
     fn is_quiet(&self) -> bool {
         match &self.stage {
-            Stage::Up(machine) => machine.is_quiet(),
-            Stage::Down(_) => true,
+            Stage::Up(machine) => !self.tidies && machine.is_quiet(),
+            Stage::Down(_) => !self.tidies,
             Stage::Returning(_, _, _) => false,
         }
     }
@@ -138,6 +155,9 @@ impl Service for LoneService {
     fn round<B: Rack>(&mut self, bench: &mut B, moment: u64) -> Result<Option<Event>, OutOfMemory> {
         if let Stage::Up(machine) = &mut self.stage {
             let Some(acted) = machine.round(bench, moment)? else {
+                if self.tidies && machine.tidy(moment)? {
+                    self.tidies = false;
+                }
                 return Ok(None);
             };
             return Ok(Some(Event::Answered(Acted {
@@ -153,6 +173,7 @@ impl Service for LoneService {
 
     fn crash(&mut self) {
         self.stage = Stage::Down(left_by(&self.stage));
+        self.tidies = false;
     }
 
     fn restart<B: Rack>(&mut self, bench: &mut B) -> Result<Option<Point>, OutOfMemory> {

@@ -38,6 +38,7 @@ impl LoneNode {
         ensures goes { OnOk result (GoesUnasked self.old self.new) }
         ensures busy { self.old.stage ≢ Idle → IfOk result (λ is_clean. (self.new ≡ self.old) × (is_clean ≡ false)) }
         ensures waits { self.old.queue ≢ [] → IfOk result (λ is_clean. (self.new ≡ self.old) × (is_clean ≡ false)) }
+        ensures rests { IfOk result (λ is_clean. is_clean ≡ true → (self.new ≡ self.old) × (store.new ≡ store.old)) }
         ensures tries { IfOk result (λ is_clean. self.old.queue ≡ [] → self.new.stage ≡ Idle → is_clean ≡ true) }
         ensures same { IsOfSame self.old self.new }
         ensures joined { OnOk result (IsJoined self.new (S.made store.new) (S.own store.new 0) (S.out_of store.new 0) (S.asked store.new 0)) }

@@ -25,6 +25,7 @@ impl LoneMachine {
         ensures latest { latest_of self.new ≡ latest_of self.old }
         ensures volume { volume_of self.new ≡ volume_of self.old }
         ensures waits { calls_of self.old ≢ [] → IfOk result (λ is_clean. is_clean ≡ false) }
+        ensures rests { IfOk result (λ is_clean. is_clean ≡ true → self.new ≡ self.old) }
         ensures tries { IfOk result (λ is_clean. calls_of self.old ≡ [] → self.new.node.stage ≡ Idle → is_clean ≡ true) }
         ensures holds { (disks : Disks) (tree : Tree) → Holds self.old disks tree → OnOk result (Holds self.new disks tree) }
         ensures clean { (disks : Disks) (tree : Tree) (held : Holds self.old disks tree) → IfOk result (λ is_clean. is_clean ≡ true → IsClean held.stands.stands.truth AREA) }

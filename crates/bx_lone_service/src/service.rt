@@ -1,6 +1,7 @@
 //! The service.
 
 use crate::returning::{Left, left_by, rejoin};
+use crate::tidying::tidy;
 use bx_base::{CallNo, OutOfMemory, Point, Raw};
 use bx_disk::{Rack, RackError};
 use bx_lone_machine::{LoneMachine, Waiting};
@@ -31,10 +32,22 @@ pub(crate) enum Stage {
 }
 
 impl LoneService {
-    ghost use Rattle.std.specs.Prelude.{◌≡◌, ◌≤◌, Option, IfOk, OnOk};
+    ghost use Rattle.std.specs.Prelude.{◌≡◌, ◌≢◌, ◌≤◌, [], Option, IfOk, OnOk, true, false};
     ghost use Rattle.bx_lone_service.specs.Stages.{IsHolding, IsReady, is_up, latest_of, waits_of};
     ghost use Rattle.bx_model.specs.declared.tree.Tree.{Tree};
     ghost use Rattle.bx_service.specs.Rounds.{Doubt, Restarts};
+
+    /// Whether a call waits.
+    fn waits(&self) -> bool
+        ensures none { result ≡ false → waits_of self.now.stage ≡ [] }
+        ensures some { result ≡ true → waits_of self.now.stage ≢ [] }
+    {
+        match &self.stage {
+            Stage::Up(machine) => machine.waits(),
+            Stage::Down(_) => false,
+            Stage::Returning(_, queue, _) => !queue.is_empty(),
+        }
+    }
 
     /// Where the node is back, tries to bring the disks to rest: then it goes on. Says at which point a call acted that was in doubt.
     fn recover<B: Rack>(&mut self, bench: &mut B) -> Result<Option<Point>, OutOfMemory>
@@ -71,7 +84,7 @@ impl LoneService {
 
 impl Service for LoneService {
     ghost use Rattle.bx_lone_service.specs.Shown.{shows};
-    ghost use Rattle.bx_lone_service.specs.Stages.{IsHolding, IsReady, is_up, lacks_of, latest_of, none_down, waits_of};
+    ghost use Rattle.bx_lone_service.specs.Stages.{IsCleanOn, IsHolding, IsReady, is_up, lacks_of, latest_of, none_down, waits_of};
 
     ghost waits = { λ service. waits_of service.stage };
 
@@ -86,6 +99,8 @@ impl Service for LoneService {
     ghost ready = { λ service sizes. IsReady service.stage sizes };
 
     ghost holds = { λ service disks tree doubt. IsHolding service.stage disks tree doubt };
+
+    ghost clean = { λ service disks. IsCleanOn service.stage disks };
 
     ghost idle = { λ service down. none_down service.stage down };
 
@@ -126,12 +141,7 @@ impl Service for LoneService {
     }
 
     fn tick(&mut self) {
-        let waits = match &self.stage {
-            Stage::Up(machine) => machine.waits(),
-            Stage::Down(_) => false,
-            Stage::Returning(_, queue, _) => !queue.is_empty(),
-        };
-        if !waits {
+        if !self.waits() {
             self.tidies = true;
         }
     }
@@ -155,9 +165,7 @@ impl Service for LoneService {
     fn round<B: Rack>(&mut self, bench: &mut B, moment: u64) -> Result<Option<Event>, OutOfMemory> {
         if let Stage::Up(machine) = &mut self.stage {
             let Some(acted) = machine.round(bench, moment)? else {
-                if self.tidies && machine.tidy(moment)? {
-                    self.tidies = false;
-                }
+                tidy(machine, &mut self.tidies, moment)?;
                 return Ok(None);
             };
             return Ok(Some(Event::Answered(Acted {

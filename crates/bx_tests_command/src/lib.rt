@@ -5,3 +5,5 @@
 mod crashes;
 #[cfg(test)]
 mod replays;
+#[cfg(test)]
+mod ticks;

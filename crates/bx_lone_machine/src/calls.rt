@@ -72,12 +72,7 @@ impl Procedures for Calls {
     }
 
     // PROVISIONAL: to be `self.engine.tidy(alloc, area, view)`.
-    fn tidy<V: View>(
-        &self,
-        alloc: Global,
-        _area: u16,
-        _view: &V,
-    ) -> Result<Attempt, OutOfMemory> {
+    fn tidy<V: View>(&self, alloc: Global, _area: u16, _view: &V) -> Result<Attempt, OutOfMemory> {
         Ok(Attempt::Answer(Done {
             reply: Raw::from(Vec::new(alloc)),
             spare: 8,

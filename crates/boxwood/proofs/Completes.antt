@@ -8,7 +8,7 @@ use Rattle.bx_base.specs.Text.{lines_of}
 use Rattle.bx_command_line.specs.declared.command_line.CommandLine.{CommandLine}
 use Rattle.bx_command_line.specs.CommandLines.{AreNone, AreWordsOf}
 use Rattle.bx_script.specs.declared.line.Line.{Line}
-use Rattle.bx_script.specs.declared.line.Line.TheVariants.{Call}
+use Rattle.bx_script.specs.declared.line.Line.TheVariants.{Heading, Call, Run, Crash, Restart, Tick}
 use Rattle.bx_script.specs.ScheduleLine.{InRange, spelling}
 use Rattle.bx_script.specs.Schedule.{BeginsSchedule, HasPlace, IsSchedule}
 use Rattle.bx_script.proofs.Spelled.{spelling_injective}
@@ -16,7 +16,7 @@ use Rattle.bx_model.specs.declared.tree.Tree.{Tree}
 use Rattle.bx_replay.specs.declared.stop.Reason.{Reason}
 use Rattle.bx_replay.specs.declared.stop.Reason.TheVariants.{Grammar, NotBuilt, Down}
 use Rattle.bx_history.specs.Along.{AllowedNewest}
-use Rattle.bx_replay.specs.Headline.{is_up}
+use Rattle.bx_replay.specs.Headline.{Asks, IsHeard, is_up}
 use Rattle.bx_replay.specs.declared.stop.Stop.{Stop}
 use Rattle.bx_replay.specs.declared.stop.Stop.TheVariants as stops
 use Rattle.bx_replay.specs.Outcome.{Allows, AreDone, IsBroken, IsFirstRefused, IsRefused, IsRefusedAt, IsServedSchedule, Refuses}
@@ -68,6 +68,15 @@ allowed_behind done rest line all =
     allowed_at (reverse rest) (reverse done) line
     (subst (AllowedNewest Allows) (reverse-append done (line ∷ rest) ∙ ap (λ (l : List Line). l ++ reverse done) (reverse-append (line ∷ []) rest) ∙ append_assoc (reverse rest) (line ∷ []) (reverse done)) all)
 
+-- a line that is to be heard is heard by machines that are up
+hears : (up : Bool) (line : Line) → Asks line → IsHeard up line → up ≡ true
+hears up (Heading volume nodes devices areas) asks heard = absurd asks
+hears up (Call reading node client datagram) asks heard = heard
+hears up (Run reading limit) asks heard = absurd asks
+hears up (Crash noise) asks heard = absurd asks
+hears up (Restart reading) asks heard = absurd asks
+hears up (Tick reading) asks heard = heard
+
 none_refused : (schedule done : List Line) (others : List (List ℕ)) (reason : Reason) → map spelling schedule ≡ map spelling done ++ others
     → BeginsSchedule schedule → BeginsSchedule done → 0 < length schedule → AreDone schedule
     → IsRefusedAt done others reason → ⊥
@@ -92,9 +101,8 @@ none_refused schedule done (line ∷ others) reason e begins begun headed are_do
           | inr known ↦ why.1.unserved known
         ]
     by Down value in_range spelled allows why =
-        let call = Call why.1.reading why.1.node why.1.client why.1.datagram in
-        let same : value ≡ call = spelling_injective value call in_range why.1.in_place.0.0 (sym spelled ∙ why.1.spelled) in
-        let heard : is_up (reverse done) ≡ true = rw same at allows.heard in
+        let same : value ≡ why.1.value = spelling_injective value why.1.value in_range why.1.in_place.0.0 (sym spelled ∙ why.1.spelled) in
+        let up = hears (is_up (reverse done)) why.1.value why.1.asks (rw same at allows.heard) in
         let down = why.1.down in
         cc
 

@@ -2,7 +2,7 @@
 use Rattle.std.specs.Prelude.{◌≡◌, ℕ, Bool, true, false, List, [], ◌∷◌, map, reverse, Some, None}
 use Rattle.std.specs.List.{AllByRecursion}
 use Rattle.bx_script.specs.declared.line.Line.{Line}
-use Rattle.bx_script.specs.declared.line.Line.TheVariants.{Heading, Call, Run, Crash, Restart}
+use Rattle.bx_script.specs.declared.line.Line.TheVariants.{Heading, Call, Run, Crash, Restart, Tick}
 use Rattle.bx_script.specs.declared.trace_line.TraceLine.{TraceLine}
 use Rattle.bx_history.specs.Parts.{Happening, Part, trace_of}
 use Rattle.bx_history.specs.Placed.{Rules, PlacedNewest, IsClosing}
@@ -23,6 +23,7 @@ happening (Call reading node client bytes) =
 happening (Run reading limit) = record { arrives = None; reading = Some reading; ends = none_ends; runs = true }
 happening (Crash noise) = record { arrives = None; reading = None; ends = all_end; runs = false }
 happening (Restart reading) = record { arrives = None; reading = Some reading; ends = none_ends; runs = false }
+happening (Tick reading) = record { arrives = None; reading = Some reading; ends = none_ends; runs = false }
 
 -- a line of the schedule that was done, with the lines of the trace that came at it, the newest first
 pub record Done : Type 0 where

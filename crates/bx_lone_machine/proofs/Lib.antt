@@ -4,3 +4,4 @@ pub mod Leaving
 pub mod Plainly
 pub mod Rising
 pub mod Stopping
+pub mod Unasked

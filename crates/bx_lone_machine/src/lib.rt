@@ -6,6 +6,7 @@ mod calls;
 mod laws;
 mod machine;
 mod rounds;
+mod tidying;
 
 pub use bx_lone_node::{Acted, Waiting};
 pub use calls::Calls;

@@ -1,6 +1,6 @@
 //! The machine.
 
-ghost use Rattle.std.specs.Prelude.{◌≡◌, ◌≢◌, ◌⊎◌, ◌||◌, ◌==◌, IfOk, ◌++◌, ◌∷◌, ◌<◌, ◌≤◌, [], ℕ, List, OnOk, OnErr, true, false};
+ghost use Rattle.std.specs.Prelude.{◌≡◌, ◌≢◌, ◌↔◌, ◌⊎◌, ◌||◌, ◌==◌, IfOk, IsTrue, ◌++◌, ◌∷◌, ◌<◌, ◌≤◌, [], ℕ, List, OnOk, OnErr, true, false};
 ghost use Rattle.std.specs.List.{list_any};
 ghost use Rattle.bx_disk.specs.Disks.{Disks};
 ghost use Rattle.bx_engine.specs.Calls.{IsBuiltCall};
@@ -52,6 +52,13 @@ impl LoneMachine {
         ensures no { IfOk result (λ is. is ≡ false → IsBuiltCall call.now → ⊥) }
     {
         Calls::takes(alloc, call)
+    }
+
+    /// Whether a call waits for its reply.
+    pub fn waits(&self) -> bool
+        ensures { IsTrue result ↔ (calls_of self.now ≢ []) }
+    {
+        self.node.waits()
     }
 
     /// Whether the call with this number waits for its reply.

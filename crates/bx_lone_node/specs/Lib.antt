@@ -6,3 +6,4 @@ pub mod Standing
 pub mod Turning
 pub mod Bare
 pub mod Oldest
+pub mod Tidying

@@ -76,8 +76,8 @@ impl LoneNode {
         }
     }
 
-    /// Begins the record of a change that the tree doesn't show. The call stays at the head.
-    fn begin_inner<S: Store>(
+    /// Begins the record of a change that the tree doesn't show. The calls wait as they did.
+    pub(crate) fn begin_inner<S: Store>(
         &mut self,
         store: &mut S,
         moment: u64,
@@ -166,8 +166,8 @@ impl LoneNode {
         Ok(Some(attempt))
     }
 
-    /// Asks for the first of the blocks that a call wants.
-    fn need<S: Store>(&mut self, store: &mut S, wants: &Wants) -> Result<(), OutOfMemory>
+    /// Asks for the first of the blocks that an attempt wants.
+    pub(crate) fn need<S: Store>(&mut self, store: &mut S, wants: &Wants) -> Result<(), OutOfMemory>
         requires joined { IsJoined self.old (S.made store.old) (S.own store.old 0) (S.out_of store.old 0) (S.asked store.old 0) }
         requires idle { self.old.stage ≡ Idle }
         requires some { wants.now ≢ [] }

@@ -12,6 +12,7 @@ mod reads;
 mod stage;
 mod stores;
 mod syncs;
+mod tidying;
 
 pub use laws::what_images_show;
 pub use node::LoneNode;

@@ -194,7 +194,7 @@ impl LoneNode {
     }
 
     /// Whether nothing is under way.
-    fn is_idle(&self) -> bool
+    pub(crate) fn is_idle(&self) -> bool
         ensures { IsTrue result ↔ (self.now.stage ≡ Idle) }
     {
         matches!(self.stage, Stage::Idle)

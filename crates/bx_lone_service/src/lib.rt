@@ -3,5 +3,6 @@
 
 mod returning;
 mod service;
+mod tidying;
 
 pub use service::LoneService;

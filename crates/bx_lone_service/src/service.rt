@@ -1,6 +1,7 @@
 //! The service.
 
 use crate::returning::{Left, left_by, rejoin};
+use crate::tidying::tidy;
 use bx_base::{CallNo, OutOfMemory, Point, Raw};
 use bx_disk::{Rack, RackError};
 use bx_lone_machine::{LoneMachine, Waiting};
@@ -15,6 +16,8 @@ use std::mem;
 pub struct LoneService {
     alloc: Global,
     stage: Stage,
+    /// Whether a tidy of the one area is under way.
+    tidies: bool,
 }
 
 /// Whether the node is up.
@@ -29,10 +32,22 @@ pub(crate) enum Stage {
 }
 
 impl LoneService {
-    ghost use Rattle.std.specs.Prelude.{◌≡◌, ◌≤◌, Option, IfOk, OnOk};
+    ghost use Rattle.std.specs.Prelude.{◌≡◌, ◌≢◌, ◌≤◌, [], Option, IfOk, OnOk, true, false};
     ghost use Rattle.bx_lone_service.specs.Stages.{IsHolding, IsReady, is_up, latest_of, waits_of};
     ghost use Rattle.bx_model.specs.declared.tree.Tree.{Tree};
     ghost use Rattle.bx_service.specs.Rounds.{Doubt, Restarts};
+
+    /// Whether a call waits.
+    fn waits(&self) -> bool
+        ensures none { result ≡ false → waits_of self.now.stage ≡ [] }
+        ensures some { result ≡ true → waits_of self.now.stage ≢ [] }
+    {
+        match &self.stage {
+            Stage::Up(machine) => machine.waits(),
+            Stage::Down(_) => false,
+            Stage::Returning(_, queue, _) => !queue.is_empty(),
+        }
+    }
 
     /// Where the node is back, tries to bring the disks to rest: then it goes on. Says at which point a call acted that was in doubt.
     fn recover<B: Rack>(&mut self, bench: &mut B) -> Result<Option<Point>, OutOfMemory>
@@ -41,6 +56,7 @@ impl LoneService {
         ensures waits { OnOk result (waits_of self.new.stage ≡ waits_of self.old.stage) }
         ensures latest { OnOk result (latest_of self.new.stage ≡ latest_of self.old.stage) }
         ensures up { OnOk result (is_up self.new.stage ≡ is_up self.old.stage) }
+        ensures tidies { self.new.tidies ≡ self.old.tidies }
         ensures restarts { (tree : Tree) (doubt : Option Doubt) → B.tells bench.old → IsHolding self.old.stage (B.state bench.old) tree doubt
             → IfOk result (Restarts (IsHolding self.new.stage (B.state bench.new)) (waits_of self.new.stage) tree doubt) }
         ensures later { B.faults bench.old ≤ B.faults bench.new }
@@ -68,7 +84,7 @@ impl LoneService {
 
 impl Service for LoneService {
     ghost use Rattle.bx_lone_service.specs.Shown.{shows};
-    ghost use Rattle.bx_lone_service.specs.Stages.{IsHolding, IsReady, is_up, lacks_of, latest_of, none_down, waits_of};
+    ghost use Rattle.bx_lone_service.specs.Stages.{IsCleanOn, IsHolding, IsReady, is_up, lacks_of, latest_of, none_down, waits_of};
 
     ghost waits = { λ service. waits_of service.stage };
 
@@ -78,9 +94,13 @@ impl Service for LoneService {
 
     ghost lacks = { λ service. lacks_of service.stage };
 
+    ghost tidies = { λ service. service.tidies };
+
     ghost ready = { λ service sizes. IsReady service.stage sizes };
 
     ghost holds = { λ service disks tree doubt. IsHolding service.stage disks tree doubt };
+
+    ghost clean = { λ service disks. IsCleanOn service.stage disks };
 
     ghost idle = { λ service down. none_down service.stage down };
 
@@ -91,6 +111,7 @@ impl Service for LoneService {
         Ok(LoneService {
             alloc,
             stage: Stage::Up(machine),
+            tidies: false,
         })
     }
 
@@ -119,10 +140,16 @@ impl Service for LoneService {
         }
     }
 
+    fn tick(&mut self) {
+        if !self.waits() {
+            self.tidies = true;
+        }
+    }
+
     fn is_quiet(&self) -> bool {
         match &self.stage {
-            Stage::Up(machine) => machine.is_quiet(),
-            Stage::Down(_) => true,
+            Stage::Up(machine) => !self.tidies && machine.is_quiet(),
+            Stage::Down(_) => !self.tidies,
             Stage::Returning(_, _, _) => false,
         }
     }
@@ -138,6 +165,7 @@ impl Service for LoneService {
     fn round<B: Rack>(&mut self, bench: &mut B, moment: u64) -> Result<Option<Event>, OutOfMemory> {
         if let Stage::Up(machine) = &mut self.stage {
             let Some(acted) = machine.round(bench, moment)? else {
+                tidy(machine, &mut self.tidies, moment)?;
                 return Ok(None);
             };
             return Ok(Some(Event::Answered(Acted {
@@ -153,6 +181,7 @@ impl Service for LoneService {
 
     fn crash(&mut self) {
         self.stage = Stage::Down(left_by(&self.stage));
+        self.tidies = false;
     }
 
     fn restart<B: Rack>(&mut self, bench: &mut B) -> Result<Option<Point>, OutOfMemory> {

@@ -6,7 +6,7 @@ use Rattle.std.proofs.lemmas.List.{reverse-append}
 use Rattle.bx_base.specs.declared.names.Point.{Point}
 use Rattle.bx_engine.specs.Steps as engine
 use Rattle.bx_script.specs.declared.line.Line.{Line}
-use Rattle.bx_script.specs.declared.line.Line.TheVariants.{Heading, Call, Run, Crash, Restart}
+use Rattle.bx_script.specs.declared.line.Line.TheVariants.{Heading, Call, Run, Crash, Restart, Tick}
 use Rattle.bx_script.specs.declared.trace_line.TraceLine.{TraceLine}
 use Rattle.bx_script.specs.declared.trace_line.TraceLine.TheVariants.{Acted, Reply}
 use Rattle.bx_script.specs.TraceText.{InTraceRange, trace_text}
@@ -140,6 +140,7 @@ MayFind (Call reading node client datagram) = ⊥
 MayFind (Run reading limit) = Unit {0}
 MayFind (Crash noise) = ⊥
 MayFind (Restart reading) = Unit {0}
+MayFind (Tick reading) = ⊥
 
 abbrev pub at_line : Line → List TraceLine → List Done → List Done
 at_line line lines done = record { line = line; lines = lines } ∷ done
@@ -155,6 +156,7 @@ found_at first last next done history waits (Run reading limit) lines call point
 found_at first last next done history waits (Crash noise) lines call point reply may so_far lacks of gone since step = absurd may
 found_at first last next done history waits (Restart reading) lines call point reply may so_far lacks of gone since step =
     found_point Step rules patient first (parts_of done) history last next waits (Some reading) none_ends false lines call point reply so_far lacks of gone since step
+found_at first last next done history waits (Tick reading) lines call point reply may so_far lacks of gone since step = absurd may
 
 pub all_reversed : {A : Type 0} (P : A → Type 0) (xs : List A) → AllByRecursion P xs → AllByRecursion P (reverse xs)
 all_reversed P [] h = tt

@@ -7,15 +7,15 @@ use Rattle.std.proofs.lemmas.List.{append-nil, length-append, map-append, revers
 use Rattle.bx_base.specs.Text.{BeginsWith, LacksFeed, ended, lines_of, text_of}
 use Rattle.bx_base.proofs.Lines.{lines_of-append, lines_of-begins, text_of-append}
 use Rattle.bx_script.specs.declared.line.Line.{Line}
-use Rattle.bx_script.specs.declared.line.Line.TheVariants.{Heading, Call, Run, Crash, Restart}
+use Rattle.bx_script.specs.declared.line.Line.TheVariants.{Heading, Call, Run, Crash, Restart, Tick}
 use Rattle.bx_script.specs.ScheduleLine.{spelling}
 use Rattle.bx_script.specs.Schedule.{HasPlace, BeginsSchedule}
 use Rattle.bx_script.proofs.Spelled.{spelling_lacks_feed}
 use Rattle.bx_replay.specs.declared.stop.Reason.{Reason}
 use Rattle.bx_replay.specs.declared.stop.Reason.TheVariants.{Grammar, NotBuilt, Down}
-use Rattle.bx_replay.specs.Headline.{IsHeard, IsInPlace, IsServedLine, is_up, up_after}
+use Rattle.bx_replay.specs.Headline.{Asks, IsHeard, IsInPlace, IsServedLine, is_up, up_after}
 use Rattle.bx_replay.specs.Outcome.{AreDone, IsCut, IsFirstRefused, IsReadTo, IsRefusedAt, IsServedSchedule}
-use Rattle.bx_replay.specs.Replay.{IsCallLine, IsRead, IsRefusedLine}
+use Rattle.bx_replay.specs.Replay.{IsRead, IsRefusedLine}
 use Rattle.bx_replay.proofs.Allowed.{done_begins, done_few, done_push}
 use Rattle.bx_replay.proofs.NextLines.{IsRefusedHere}
 
@@ -127,6 +127,12 @@ abbrev pub refused_outside : (up : Bool) (text rest : List ℕ) (number : ℕ) �
 refused_outside up text rest number so_far here =
     refused_at up text rest number so_far Grammar (here.0 ∷ here.1) here.2 (outside so_far.done number here.0 here.1 so_far.headed so_far.count here.3)
 
+-- nobody hears a line
+unheard_here : (up : Bool) (done : List Line) (number : ℕ) (line : Line) (others : List (List ℕ)) → 0 < length done → number ≡ length done → number < 4294967295 → up ≡ is_up (reverse done)
+    → IsInPlace ((number + 1) == 1) line → up ≡ false → Asks line → IsRefusedAt done (spelling line ∷ others) Down
+unheard_here up done number line others some count few up_is place down asks =
+    (omega (arith, few, count), record { value = line; asks = asks; in_place = rw (not_first done number some count) at place; spelled = refl; down = sym up_is ∙ down })
+
 pub refused_call : (up : Bool) (done : List Line) (number reading node client : ℕ) (datagram : List ℕ) (others : List (List ℕ)) (reason : Reason) → 0 < length done → number ≡ length done → number < 4294967295 → up ≡ is_up (reverse done)
     → IsInPlace ((number + 1) == 1) (Call reading node client datagram) → IsRefusedLine reason up (Call reading node client datagram) → IsRefusedAt done (spelling (Call reading node client datagram) ∷ others) reason
 refused_call up done number reading node client datagram others Grammar some count few up_is place why = absurd why
@@ -144,27 +150,25 @@ refused_call up done number reading node client datagram others NotBuilt some co
     unserved = why.1.1;
   },
 )
-refused_call up done number reading node client datagram others Down some count few up_is place why = (
-  omega (arith, few, count),
-  record {
-    reading = reading;
-    node = node;
-    client = client;
-    datagram = datagram;
-    in_place = rw (not_first done number some count) at place;
-    spelled = refl;
-    down = sym up_is ∙ why.0;
-  },
-)
+refused_call up done number reading node client datagram others Down some count few up_is place why =
+    unheard_here up done number (Call reading node client datagram) others some count few up_is place why.0 tt
 
--- only calls are refused so
-only_calls : (reason : Reason) (up : Bool) (line : Line) → (IsCallLine line → ⊥) → IsRefusedLine reason up line → ⊥
+-- a tick is refused only where nobody hears it
+refused_tick : (up : Bool) (done : List Line) (number reading : ℕ) (others : List (List ℕ)) (reason : Reason) → 0 < length done → number ≡ length done → number < 4294967295 → up ≡ is_up (reverse done)
+    → IsInPlace ((number + 1) == 1) (Tick reading) → IsRefusedLine reason up (Tick reading) → IsRefusedAt done (spelling (Tick reading) ∷ others) reason
+refused_tick up done number reading others Grammar some count few up_is place why = absurd why
+refused_tick up done number reading others NotBuilt some count few up_is place why = absurd why.1
+refused_tick up done number reading others Down some count few up_is place why = unheard_here up done number (Tick reading) others some count few up_is place why.0 tt
+
+-- only calls and ticks are refused so
+only_calls : (reason : Reason) (up : Bool) (line : Line) → (Asks line → ⊥) → IsRefusedLine reason up line → ⊥
 only_calls Grammar up line none why = why
 only_calls NotBuilt up (Heading volume nodes devices areas) none why = why.1
 only_calls NotBuilt up (Call reading node client datagram) none why = none tt
 only_calls NotBuilt up (Run reading limit) none why = why.1
 only_calls NotBuilt up (Crash noise) none why = why.1
 only_calls NotBuilt up (Restart reading) none why = why.1
+only_calls NotBuilt up (Tick reading) none why = why.1
 only_calls Down up line none why = none why.1
 
 pub line_refused_at : (up : Bool) (done : List Line) (number : ℕ) (line : Line) (others : List (List ℕ)) (reason : Reason) → 0 < length done → number ≡ length done → number < 4294967295 → up ≡ is_up (reverse done)
@@ -174,6 +178,7 @@ line_refused_at up done number (Call reading node client datagram) others reason
 line_refused_at up done number (Run reading limit) others reason some count few up_is place why = absurd (only_calls reason up (Run reading limit) (λ e. e) why)
 line_refused_at up done number (Crash noise) others reason some count few up_is place why = absurd (only_calls reason up (Crash noise) (λ e. e) why)
 line_refused_at up done number (Restart reading) others reason some count few up_is place why = absurd (only_calls reason up (Restart reading) (λ e. e) why)
+line_refused_at up done number (Tick reading) others reason some count few up_is place why = refused_tick up done number reading others reason some count few up_is place why
 
 abbrev pub refused_line : (up : Bool) (text rest next : List ℕ) (number : ℕ) (line : Line) → IsRead up text rest number → number < 4294967295 → BeginsWith rest (spelling line) next
     → IsInPlace ((number + 1) == 1) line → (reason : Reason) → IsRefusedLine reason up line → IsFirstRefused text (number + 1) reason

@@ -7,7 +7,7 @@ use Rattle.std.proofs.lemmas.List.{append-nil, length-append, length-map, length
 use Rattle.bx_disk.specs.declared.noise.Noise.{Noise}
 use Rattle.bx_engine.specs.Calls.{IsBuiltCall}
 use Rattle.bx_script.specs.declared.line.Line.{Line}
-use Rattle.bx_script.specs.declared.line.Line.TheVariants.{Heading, Call, Run, Crash, Restart}
+use Rattle.bx_script.specs.declared.line.Line.TheVariants.{Heading, Call, Run, Crash, Restart, Tick}
 use Rattle.bx_script.specs.declared.trace_line.TraceLine.{TraceLine}
 use Rattle.bx_script.specs.declared.trace_line.TraceLine.TheVariants.{Took}
 use Rattle.bx_script.specs.TraceText.{InTraceRange, trace_text}
@@ -41,6 +41,7 @@ opening_of-append (Call reading node client datagram ∷ lines) more some = refl
 opening_of-append (Run reading limit ∷ lines) more some = refl
 opening_of-append (Crash noise ∷ lines) more some = refl
 opening_of-append (Restart reading ∷ lines) more some = refl
+opening_of-append (Tick reading ∷ lines) more some = refl
 
 -- what goes on whatever the line is
 pub length_schedule : (done : List Done) → length (schedule_of done) ≡ length done
@@ -103,6 +104,7 @@ IsSilent (Call reading node client datagram) = ⊥
 IsSilent (Run reading limit) = Unit {0}
 IsSilent (Crash noise) = ⊥
 IsSilent (Restart reading) = Unit {0}
+IsSilent (Tick reading) = Unit {0}
 
 silent_line : (first last : Tree) (done : List Done) (history : List traces.Entry) (waits : ℕ → List traces.Taking) (line : Line) → IsSilent line
     → AwaitsNewest Step rules first (parts_of done) history last waits → AwaitsNewest Step rules first (parts_of (record { line = line; lines = [] } ∷ done)) history last waits
@@ -111,6 +113,7 @@ silent_line first last done history waits (Call reading node client datagram) si
 silent_line first last done history waits (Run reading limit) silent so_far = quiet_part Step rules patient first (parts_of done) history last waits (Some reading) true so_far
 silent_line first last done history waits (Crash noise) silent so_far = absurd silent
 silent_line first last done history waits (Restart reading) silent so_far = quiet_part Step rules patient first (parts_of done) history last waits (Some reading) false so_far
+silent_line first last done history waits (Tick reading) silent so_far = quiet_part Step rules patient first (parts_of done) history last waits (Some reading) false so_far
 
 -- the oldest call that waits was taken there
 pub oldest_in : (trace : List TraceLine) (waits : List traces.Taking) → AllByRecursion (IsPending trace 0) (waits_at waits 0)

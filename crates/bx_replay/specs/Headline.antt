@@ -3,7 +3,7 @@ use Rattle.std.specs.Prelude.{◌≡◌, ◌⊎◌, ℕ, ◌&&◌, nat_le, Bool,
 use Rattle.std.specs.Str.{bytes_eq}
 use Rattle.std.specs.List.{AllByRecursion}
 use Rattle.bx_script.specs.declared.line.Line.{Line}
-use Rattle.bx_script.specs.declared.line.Line.TheVariants.{Heading, Call, Run, Crash, Restart}
+use Rattle.bx_script.specs.declared.line.Line.TheVariants.{Heading, Call, Run, Crash, Restart, Tick}
 use Rattle.bx_script.specs.declared.trace_line.TraceLine.{TraceLine}
 use Rattle.bx_script.specs.Schedule.{HasPlace}
 use Rattle.bx_script.specs.TraceText.{InTraceRange}
@@ -34,6 +34,7 @@ opening_of (Call reading node client datagram ∷ lines) = opening 0
 opening_of (Run reading limit ∷ lines) = opening 0
 opening_of (Crash noise ∷ lines) = opening 0
 opening_of (Restart reading ∷ lines) = opening 0
+opening_of (Tick reading ∷ lines) = opening 0
 
 -- The entry as bytes: the call is what its bytes read as, and the reply's bytes are its text.
 pub record IsTyped (bytes : traces.Entry) (entry : Entry) : Type 0 where
@@ -78,6 +79,7 @@ IsBuilt (Call reading node client datagram) = node ≡ 0
 IsBuilt (Run reading limit) = Unit {0}
 IsBuilt (Crash noise) = Unit {0}
 IsBuilt (Restart reading) = Unit {0}
+IsBuilt (Tick reading) = Unit {0}
 
 -- such a line, in its place
 abbrev pub IsInPlace : Bool → Line → Type 0
@@ -90,6 +92,7 @@ IsServedLine (Call reading node client datagram) = IsBuilt (Call reading node cl
 IsServedLine (Run reading limit) = Unit {0}
 IsServedLine (Crash noise) = Unit {0}
 IsServedLine (Restart reading) = Unit {0}
+IsServedLine (Tick reading) = Unit {0}
 
 -- whether the machines are up after a line, by whether they were before it
 abbrev pub up_after : Line → Bool → Bool
@@ -98,16 +101,27 @@ up_after (Call reading node client datagram) up = up
 up_after (Run reading limit) up = up
 up_after (Crash noise) up = false
 up_after (Restart reading) up = true
+up_after (Tick reading) up = up
 
 -- and after these lines, the newest first; they are up at first
 abbrev pub is_up : List Line → Bool
 is_up [] = true
 is_up (line ∷ before) = up_after line (is_up before)
 
--- a datagram arrives only while the machines are up
+-- a line that a machine has to hear: a datagram arrives there, or its clock ticks
+abbrev pub Asks : Line → Type 0
+Asks (Heading volume nodes devices areas) = ⊥
+Asks (Call reading node client datagram) = Unit {0}
+Asks (Run reading limit) = ⊥
+Asks (Crash noise) = ⊥
+Asks (Restart reading) = ⊥
+Asks (Tick reading) = Unit {0}
+
+-- such a line comes only while the machines are up
 abbrev pub IsHeard : Bool → Line → Type 0
 IsHeard up (Heading volume nodes devices areas) = Unit {0}
 IsHeard up (Call reading node client datagram) = up ≡ true
 IsHeard up (Run reading limit) = Unit {0}
 IsHeard up (Crash noise) = Unit {0}
 IsHeard up (Restart reading) = Unit {0}
+IsHeard up (Tick reading) = up ≡ true

@@ -13,7 +13,7 @@ use Rattle.bx_model.specs.Listing.{listing}
 use Rattle.bx_engine.specs.Calls.{IsBuiltCall}
 use Rattle.bx_replay.specs.declared.stop.Reason.{Reason}
 use Rattle.bx_replay.specs.declared.stop.Reason.TheVariants.{Grammar, NotBuilt, Down}
-use Rattle.bx_replay.specs.Headline.{Headline, IsHeard, IsInPlace, IsServedLine, is_message, is_up}
+use Rattle.bx_replay.specs.Headline.{Asks, Headline, IsHeard, IsInPlace, IsServedLine, is_message, is_up}
 
 -- A line may be done behind these, the newest of which comes first: there is room for it, it has its place and is one of this stage,
 -- and its datagram, if it has one, is no call, or one that is served, and comes while the machines are up.
@@ -47,14 +47,12 @@ pub record IsReplayed (text : List ℕ) (Stands : Tree → Type 0) (output : Lis
   pub output-is : output ≡ trace_text trace ++ closing_text closing last
   pub stands : Stands last
 
--- a call that comes while the machines are down
+-- a call or a tick that comes while the machines are down
 pub record IsUnheard (first : Bool) (up : Bool) (line : List ℕ) : Type 0 where
-  pub reading : ℕ
-  pub node : ℕ
-  pub client : ℕ
-  pub datagram : List ℕ
-  pub in_place : IsInPlace first (Call reading node client datagram)
-  pub spelled : line ≡ spelling (Call reading node client datagram)
+  pub value : Line
+  pub asks : Asks value
+  pub in_place : IsInPlace first value
+  pub spelled : line ≡ spelling value
   pub down : up ≡ false
 
 -- a call that comes while they are up, and isn't served

@@ -6,7 +6,7 @@ use Rattle.bx_base.specs.Faults.{Rose}
 use Rattle.bx_base.specs.Text.{LacksFeed, BeginsWith, lines_of}
 use Rattle.bx_engine.specs.Calls.{IsBuiltCall}
 use Rattle.bx_script.specs.declared.line.Line.{Line}
-use Rattle.bx_script.specs.declared.line.Line.TheVariants.{Heading, Call, Run, Crash, Restart}
+use Rattle.bx_script.specs.declared.line.Line.TheVariants.{Heading, Call, Run, Crash, Restart, Tick}
 use Rattle.bx_script.specs.declared.trace_line.TraceLine.{TraceLine}
 use Rattle.bx_script.specs.declared.trace_line.TraceLine.TheVariants.{Acted, Reply}
 use Rattle.bx_script.specs.ScheduleLine.{spelling}
@@ -25,7 +25,7 @@ use Rattle.bx_replay.specs.declared.stop.Reason.{Reason}
 use Rattle.bx_replay.specs.declared.stop.Reason.TheVariants.{Grammar, NotBuilt, Down}
 use Rattle.bx_replay.specs.declared.stop.Stop.{Stop}
 use Rattle.bx_replay.specs.declared.stop.Stop.TheVariants as stops
-use Rattle.bx_replay.specs.Headline.{rules, opening_of, IsHeard, IsInPlace, IsServedLine, Step, is_message, is_up, up_after}
+use Rattle.bx_replay.specs.Headline.{Asks, rules, opening_of, IsHeard, IsInPlace, IsServedLine, Step, is_message, is_up, up_after}
 use Rattle.bx_replay.specs.Outcome.{AreDone, IsBroken, IsCut, IsCutOff, IsFirstRefused, IsReadTo, IsRefused, IsReplayed, IsServedSchedule, closing_text}
 
 -- the calls that wait at each node, the newest first: all of them wait at node 0
@@ -130,26 +130,20 @@ pub record BreaksAfter (line : Line) (done : List Done) (start written : List �
   pub added : written ≡ start ++ output
   pub after : Stands tree up waits doubt calls (record { line = line; lines = lines } ∷ done) start (written ++ more)
 
--- a line of a call, and of one that isn't served
-abbrev pub IsCallLine : Line → Type 0
-IsCallLine (Heading volume nodes devices areas) = ⊥
-IsCallLine (Call reading node client datagram) = Unit {0}
-IsCallLine (Run reading limit) = ⊥
-IsCallLine (Crash noise) = ⊥
-IsCallLine (Restart reading) = ⊥
-
+-- a line of a call that isn't served
 abbrev pub IsUnservedLine : Line → Type 0
 IsUnservedLine (Heading volume nodes devices areas) = ⊥
 IsUnservedLine (Call reading node client datagram) = (is_message datagram ≡ true) × (IsBuiltCall datagram → ⊥)
 IsUnservedLine (Run reading limit) = ⊥
 IsUnservedLine (Crash noise) = ⊥
 IsUnservedLine (Restart reading) = ⊥
+IsUnservedLine (Tick reading) = ⊥
 
 -- a line is refused for this reason where the machines are up or not
 abbrev pub IsRefusedLine : Reason → Bool → Line → Type 0
 IsRefusedLine Grammar up line = ⊥
 IsRefusedLine NotBuilt up line = (up ≡ true) × IsUnservedLine line
-IsRefusedLine Down up line = (up ≡ false) × IsCallLine line
+IsRefusedLine Down up line = (up ≡ false) × Asks line
 
 -- a line that is done is served and heard, and the machines are up or not after it; and a line that is refused isn't
 abbrev pub Serves : Result (Unit {0}) Stop → Bool → Bool → Line → Type 0

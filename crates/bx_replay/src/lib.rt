@@ -12,6 +12,7 @@ mod schedule;
 mod state;
 mod steps;
 mod stop;
+mod ticks;
 
 pub use laws::one_output;
 pub use run::replay;

@@ -68,6 +68,6 @@ fn is_built(line: &Line) -> bool
             ..
         } => *nodes == 1 && *devices == 1 && *areas == 1,
         Line::Call { node, .. } => *node == 0,
-        Line::Run { .. } | Line::Crash { .. } | Line::Restart { .. } => true,
+        Line::Run { .. } | Line::Crash { .. } | Line::Restart { .. } | Line::Tick { .. } => true,
     }
 }

@@ -1,11 +1,11 @@
 //! What the lines of a schedule do.
 
-ghost use Rattle.std.specs.Prelude.{◌≡◌, ◌≤◌, ◌<◌, ◌+◌, ◌^◌, List, ℕ, length, IfErr, OnOk, Option, true, false};
+ghost use Rattle.std.specs.Prelude.{◌≡◌, ◌≤◌, ◌<◌, ◌+◌, ◌^◌, [], List, ℕ, length, IfErr, OnOk, Option, true, false};
 ghost use Rattle.bx_disk.specs.Disks.{Disks};
 ghost use Rattle.bx_engine.specs.Calls.{IsBuiltCall};
 ghost use Rattle.bx_history.specs.Along.{Done};
 ghost use Rattle.bx_model.specs.declared.tree.Tree.{Tree};
-ghost use Rattle.bx_script.specs.declared.line.Line.TheVariants.{Call as CallLine};
+ghost use Rattle.bx_script.specs.declared.line.Line.TheVariants.{Call as CallLine, Tick as TickLine};
 ghost use Rattle.bx_replay.specs.Headline.{IsInPlace, is_message as is_call};
 ghost use Rattle.bx_replay.specs.Replay.{DoesLine, HasPrintCause, HasStepCause, Serves, Stands, StandsAfter, UnlessWrite};
 ghost use Rattle.bx_service.specs.Rounds.{Doubt};
@@ -27,7 +27,7 @@ const LONGEST_DATAGRAM: usize = 9216;
 const CALL: [u8; 4] = [0; 4];
 
 impl<M: Service> Replay<M> {
-    /// Does a line behind the heading: a call is taken, and a datagram that is none is passed over; a run does rounds; all crash, or come back.
+    /// Does a line behind the heading: a call is taken, and a datagram that is none is passed over; a run does rounds; all crash, or come back; a clock ticks.
     pub fn step<K: Sink, B: CrashRack>(
         &mut self,
         alloc: Global,
@@ -48,6 +48,7 @@ impl<M: Service> Replay<M> {
         ensures latest { OnOk result (M.latest self.new.service ≡ self.new.calls) }
         ensures ready { OnOk result (M.ready self.new.service (B.state bench.new).sizes) }
         ensures serves { Serves result (M.up self.old.service) (M.up self.new.service) line }
+        ensures ticks { (reading : ℕ) → line ≡ TickLine reading → M.waits self.old.service ≡ [] → OnOk result (M.tidies self.new.service ≡ true) }
         ensures cause { IfErr result (λ stop. HasStepCause stop number (K.faults out.old) (K.faults out.new)) }
         ensures first { UnlessWrite result (K.faults out.new ≡ K.faults out.old) }
         ensures calls { self.new.calls ≤ self.old.calls + 1 }
@@ -66,6 +67,7 @@ impl<M: Service> Replay<M> {
             Line::Run { reading, limit } => self.run(reading, limit, bench, out),
             Line::Crash { noise } => Ok(self.crash(noise, bench)?),
             Line::Restart { reading: _ } => self.restart(bench, out),
+            Line::Tick { reading: _ } => self.tick(number),
             Line::Heading { .. } => Ok(()),
         }
     }

@@ -15,7 +15,7 @@ pub enum Reason {
     /// It is a call that isn't served yet.
     #[error("not built")]
     NotBuilt,
-    /// It is a call, and its node is down.
+    /// It is a call or a tick, and its node is down.
     #[error("down")]
     Down,
 }

@@ -12,9 +12,9 @@ use Rattle.bx_base.specs.declared.memory.OutOfMemory.{OutOfMemory}
 use Rattle.bx_script.specs.declared.line.Line.{Line}
 use Rattle.bx_disk.specs.declared.noise.Noise.{Noise}
 use Rattle.bx_disk.specs.declared.noise.Noise.TheVariants.{Keep, Drop, Seed}
-use Rattle.bx_script.specs.declared.line.Line.TheVariants.{Heading, Call, Run, Crash, Restart}
+use Rattle.bx_script.specs.declared.line.Line.TheVariants.{Heading, Call, Run, Crash, Restart, Tick}
 use Rattle.bx_script.specs.ScheduleLine.{InRange, IsHeading, IsCall, IsNoise, IsRun, noise_text, spelling}
-use Rattle.bx_script.specs.Reading.{◌>>=◌, cut, number_of, number_at, datagram_of, heading_of, call_fields_of, call_of, crash_of, machines_line_of, noise_of, restart_of, run_of, seed_of, line_of}
+use Rattle.bx_script.specs.Reading.{◌>>=◌, cut, number_of, number_at, datagram_of, heading_of, call_fields_of, call_of, crash_of, machines_line_of, noise_of, restart_of, run_of, seed_of, tick_of, line_of}
 use Rattle.bx_script.proofs.Fields.{bind_some, some, some_is, Lacks, lacks_from_test, then_space, cut_takes, cut_again}
 use Rattle.std.proofs.lemmas.Fmt.{decimal_digit}
 use Rattle.bx_script.proofs.Numbers.{IsNumber, number_takes, number_again, Lacks-decimal}
@@ -150,6 +150,21 @@ restart_takes text line e =
 restart_again : (reading : ℕ) → reading ≤ 4294967295999 → restart_of (then_space (decimal reading) (codes "all")) ≡ Some (Restart reading)
 unfolding restart_of
 restart_again reading fits = rw (number_at_again 4294967295999 reading (codes "all") (omega arith) fits) refl
+
+-- ---- `tick`
+
+tick_takes : (text : List ℕ) (line : Line) → tick_of text ≡ Some line → Reads (codes "tick") text line
+unfolding tick_of
+tick_takes text line e =
+    option_and_then_some _ (number_at 4294967295999 text) line e (λ reading e1 f1.
+    let d = cond_some (bytes_eq reading.1 (codes "n0")) (Tick reading.0) line f1 in
+    let number = number_at_takes 4294967295999 text reading (omega arith) e1 in
+    let spelled = joined text reading.1 (decimal reading.0) (codes "n0") number.spelled (text_is reading.1 (codes "n0") d.0) in
+    subst (λ (l : Line). Reads (codes "tick") text l) d.1 (number.within, ap (λ (t : List ℕ). then_space (codes "tick") t) spelled))
+
+tick_again : (reading : ℕ) → reading ≤ 4294967295999 → tick_of (then_space (decimal reading) (codes "n0")) ≡ Some (Tick reading)
+unfolding tick_of
+tick_again reading fits = rw (number_at_again 4294967295999 reading (codes "n0") (omega arith) fits) refl
 
 -- ---- `boxwood`
 
@@ -288,9 +303,13 @@ machines_take word rest line e =
     elim (chosen (bytes_eq word (codes "crash")) (crash_of rest) _ (Some line) e) [
       | inl s ↦ under_word word (codes "crash") rest line s.0 (crash_takes rest line s.1)
       | inr s ↦
-          elim (chosen (bytes_eq word (codes "restart")) (restart_of rest) None (Some line) s.1) [
+          elim (chosen (bytes_eq word (codes "restart")) (restart_of rest) _ (Some line) s.1) [
             | inl t ↦ under_word word (codes "restart") rest line t.0 (restart_takes rest line t.1)
-            | inr t ↦ absurd (cc t.1)
+            | inr t ↦
+                elim (chosen (bytes_eq word (codes "tick")) (tick_of rest) None (Some line) t.1) [
+                  | inl u ↦ under_word word (codes "tick") rest line u.0 (tick_takes rest line u.1)
+                  | inr u ↦ absurd (cc u.1)
+                ]
           ]
     ]
 
@@ -301,6 +320,10 @@ crash_word rest = refl
 restart_word : (rest : List ℕ) → machines_line_of (codes "restart") rest ≡ restart_of rest
 unfolding machines_line_of
 restart_word rest = refl
+
+tick_word : (rest : List ℕ) → machines_line_of (codes "tick") rest ≡ tick_of rest
+unfolding machines_line_of
+tick_word rest = refl
 
 rest_takes : (word rest : List ℕ) (line : Line) → rest_of word rest ≡ Some line → Reads word rest line
 rest_takes word rest line e =
@@ -346,6 +369,8 @@ line_again (Crash noise) fits =
     word_again (codes "crash") (then_space (codes "all") (noise_text noise)) (lacks_from_test 32 (codes "crash") refl) ∙ crash_word (then_space (codes "all") (noise_text noise)) ∙ crash_again noise fits
 line_again (Restart reading) fits =
     word_again (codes "restart") (then_space (decimal reading) (codes "all")) (lacks_from_test 32 (codes "restart") refl) ∙ restart_word (then_space (decimal reading) (codes "all")) ∙ restart_again reading fits
+line_again (Tick reading) fits =
+    word_again (codes "tick") (then_space (decimal reading) (codes "n0")) (lacks_from_test 32 (codes "tick") refl) ∙ tick_word (then_space (decimal reading) (codes "n0")) ∙ tick_again reading fits
 
 -- ---- what `read` answers
 

@@ -11,7 +11,7 @@ use Rattle.bx_base.specs.Text.{LacksFeed}
 use Rattle.bx_script.specs.declared.line.Line.{Line}
 use Rattle.bx_disk.specs.declared.noise.Noise.{Noise}
 use Rattle.bx_disk.specs.declared.noise.Noise.TheVariants.{Keep, Drop, Seed}
-use Rattle.bx_script.specs.declared.line.Line.TheVariants.{Heading, Call, Run, Crash, Restart}
+use Rattle.bx_script.specs.declared.line.Line.TheVariants.{Heading, Call, Run, Crash, Restart, Tick}
 use Rattle.bx_script.specs.ScheduleLine.{InRange, IsHeading, IsCall, IsNoise, IsRun, fields, noise_text, spelling}
 use Rattle.bx_script.specs.Reading.{line_of}
 use Rattle.bx_script.proofs.Fields.{Lacks, Lacks-append, lacks_from_test, then_space, some_is}
@@ -85,6 +85,9 @@ short_spelling (Crash noise) fits =
 short_spelling (Restart reading) fits =
     let r = length-decimal-le 13 reading (omega arith) (omega (arith, fits)) (omega (arith, fits)) in
     omega (arith, length-then_space (codes "restart") (then_space (decimal reading) (codes "all")), length-then_space (decimal reading) (codes "all"))
+short_spelling (Tick reading) fits =
+    let r = length-decimal-le 13 reading (omega arith) (omega (arith, fits)) (omega (arith, fits)) in
+    omega (arith, length-then_space (codes "tick") (then_space (decimal reading) (codes "n0")), length-then_space (decimal reading) (codes "n0"))
 
 -- ---- no line feed
 
@@ -119,6 +122,8 @@ fields_lack_feed (Run reading limit) fits =
 fields_lack_feed (Crash noise) fits = (lacks_from_test 10 (codes "crash") refl, (lacks_from_test 10 (codes "all") refl, (noise_lacks_feed noise fits, tt)))
 fields_lack_feed (Restart reading) fits =
     (lacks_from_test 10 (codes "restart") refl, (Lacks-decimal 10 reading (omega arith) (omega (arith, fits)), (lacks_from_test 10 (codes "all") refl, tt)))
+fields_lack_feed (Tick reading) fits =
+    (lacks_from_test 10 (codes "tick") refl, (Lacks-decimal 10 reading (omega arith) (omega (arith, fits)), (lacks_from_test 10 (codes "n0") refl, tt)))
 
 -- no line has a line feed
 pub spelling_lacks_feed : (line : Line) → InRange line → LacksFeed (spelling line)

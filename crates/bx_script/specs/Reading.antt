@@ -9,7 +9,7 @@ use Rattle.hex.specs.Hex.{decode_of}
 use Rattle.bx_disk.specs.declared.noise.Noise.{Noise}
 use Rattle.bx_disk.specs.declared.noise.Noise.TheVariants.{Keep, Drop, Seed}
 use Rattle.bx_script.specs.declared.line.Line.{Line}
-use Rattle.bx_script.specs.declared.line.Line.TheVariants.{Heading, Call, Run, Crash, Restart}
+use Rattle.bx_script.specs.declared.line.Line.TheVariants.{Heading, Call, Run, Crash, Restart, Tick}
 
 infixl 10 ◌>>=◌
 abbrev pub ◌>>=◌ : {A B : Type 0} → Option A → (A → Option B) → Option B
@@ -105,11 +105,18 @@ restart_of text = do
   reading ← number_at 4294967295999 text
   if bytes_eq reading.1 (codes "all") then Some (Restart reading.0) else None
 
+-- `READING n0`
+unfoldable pub tick_of : List ℕ → Option Line
+tick_of text = do
+  reading ← number_at 4294967295999 text
+  if bytes_eq reading.1 (codes "n0") then Some (Tick reading.0) else None
+
 -- a line of a word and a rest that says what machines do
 unfoldable pub machines_line_of : List ℕ → List ℕ → Option Line
 machines_line_of word rest =
     if bytes_eq word (codes "crash") then crash_of rest
     else if bytes_eq word (codes "restart") then restart_of rest
+    else if bytes_eq word (codes "tick") then tick_of rest
     else None
 
 -- a line

@@ -2,7 +2,7 @@
 use Rattle.std.specs.Prelude.{◌≡◌, ℕ, ◌<◌, ◌≤◌, Bool, true, false, List, [], ◌∷◌, length, map, Option, Some, None}
 use Rattle.std.specs.List.{AllByRecursion}
 use Rattle.bx_script.specs.declared.line.Line.{Line}
-use Rattle.bx_script.specs.declared.line.Line.TheVariants.{Heading, Call, Run, Crash, Restart}
+use Rattle.bx_script.specs.declared.line.Line.TheVariants.{Heading, Call, Run, Crash, Restart, Tick}
 use Rattle.bx_script.specs.ScheduleLine.{InRange, spelling}
 
 abbrev pub is_heading : Line → Bool
@@ -11,6 +11,7 @@ is_heading (Call reading node client datagram) = false
 is_heading (Run reading limit) = false
 is_heading (Crash noise) = false
 is_heading (Restart reading) = false
+is_heading (Tick reading) = false
 
 -- the clock's reading at a line, where it has one
 abbrev pub reading_of : Line → Option ℕ
@@ -19,6 +20,7 @@ reading_of (Call reading node client datagram) = Some reading
 reading_of (Run reading limit) = Some reading
 reading_of (Crash noise) = None
 reading_of (Restart reading) = Some reading
+reading_of (Tick reading) = Some reading
 
 -- a line in the grammar, in its place: the heading comes first, and nowhere else
 abbrev pub HasPlace : Bool → Line → Type 0

@@ -7,7 +7,7 @@ use Rattle.bx_base.specs.Text.{spaced}
 use Rattle.bx_disk.specs.declared.noise.Noise.{Noise}
 use Rattle.bx_disk.specs.declared.noise.Noise.TheVariants.{Keep, Drop, Seed}
 use Rattle.bx_script.specs.declared.line.Line.{Line}
-use Rattle.bx_script.specs.declared.line.Line.TheVariants.{Heading, Call, Run, Crash, Restart}
+use Rattle.bx_script.specs.declared.line.Line.TheVariants.{Heading, Call, Run, Crash, Restart, Tick}
 
 -- the word for what a crash makes of unsure sectors
 abbrev pub noise_text : Noise → List ℕ
@@ -22,6 +22,7 @@ fields (Call reading node client datagram) = codes "call" ∷ decimal reading �
 fields (Run reading limit) = codes "run" ∷ decimal reading ∷ decimal limit ∷ []
 fields (Crash noise) = codes "crash" ∷ codes "all" ∷ noise_text noise ∷ []
 fields (Restart reading) = codes "restart" ∷ decimal reading ∷ codes "all" ∷ []
+fields (Tick reading) = codes "tick" ∷ decimal reading ∷ codes "n0" ∷ []
 
 -- the bytes of a line, without its line feed
 abbrev pub spelling : Line → List ℕ
@@ -64,3 +65,4 @@ InRange (Call reading node client datagram) = IsCall reading node client datagra
 InRange (Run reading limit) = IsRun reading limit
 InRange (Crash noise) = IsNoise noise
 InRange (Restart reading) = IsReading reading
+InRange (Tick reading) = IsReading reading

@@ -77,6 +77,11 @@ pub enum Line {
         /// The clock, in milliseconds.
         reading: u64,
     },
+    /// `tick READING n0`: the clock of the node ticks.
+    Tick {
+        /// The node's clock, in milliseconds.
+        reading: u64,
+    },
 }
 
 impl Line {

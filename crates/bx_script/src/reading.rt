@@ -4,7 +4,7 @@ ghost use Rattle.std.specs.Prelude.{◌≡◌, ◌<◌, ◌≤◌, ◌==◌, ◌
 ghost use Rattle.std.specs.List.{list_all};
 ghost use Rattle.std.specs.Char.{is_ascii_digit, is_ascii_uppercase};
 ghost use Rattle.std.specs.Str.Parse.{digits_value};
-ghost use Rattle.bx_script.specs.Reading.{Gives, cut, call_fields_of, crash_of, number_at, datagram_of, heading_of, call_of, machines_line_of, noise_of, restart_of, run_of, seed_of, is_numeral, line_of, number_of};
+ghost use Rattle.bx_script.specs.Reading.{Gives, cut, call_fields_of, crash_of, number_at, datagram_of, heading_of, call_of, machines_line_of, noise_of, restart_of, run_of, seed_of, tick_of, is_numeral, line_of, number_of};
 
 use crate::line::{Line, MAX_AREAS, MAX_DATAGRAM, MAX_DEVICES, MAX_NODES, MAX_READING, MAX_RUN};
 use bx_base::{OutOfMemory, Raw};
@@ -106,6 +106,8 @@ fn machines_line(word: &[u8], rest: &[u8]) -> Option<Line>
         crash(rest)
     } else if word == b"restart".as_slice() {
         restart(rest)
+    } else if word == b"tick".as_slice() {
+        tick(rest)
     } else {
         None
     }
@@ -155,6 +157,18 @@ fn restart(text: &[u8]) -> Option<Line>
         return None;
     }
     Some(Line::Restart { reading })
+}
+
+// `READING n0`
+#[tactic(auto, unfolding(crate::specs::Reading::tick_of))]
+fn tick(text: &[u8]) -> Option<Line>
+    ensures { result ≡ tick_of text.now }
+{
+    let (reading, who) = number_at(text, MAX_READING)?;
+    if who != b"n0".as_slice() {
+        return None;
+    }
+    Some(Line::Tick { reading })
 }
 
 // The bytes that hex digits in lower case spell, at most `MAX_DATAGRAM`.

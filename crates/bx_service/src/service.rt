@@ -1,6 +1,6 @@
 //! Services.
 
-ghost use Rattle.std.specs.Prelude.{◌≡◌, ◌↔◌, ◌<◌, ◌≤◌, ◌++◌, ◌∷◌, [], ℕ, Bool, true, false, List, Option, None, IfOk, IsErrOf, IsTrue, OnOk};
+ghost use Rattle.std.specs.Prelude.{◌≡◌, ◌≢◌, ◌↔◌, ◌<◌, ◌≤◌, ◌++◌, ◌∷◌, [], ℕ, Bool, true, false, List, Option, None, IfOk, IsErrOf, IsTrue, OnOk};
 ghost use Rattle.bx_base.specs.Faults.{Rose};
 ghost use Rattle.bx_disk.specs.declared.fault.RackError.TheVariants.{Fault, OutOfMemory as NoMemory};
 ghost use Rattle.bx_disk.specs.Disks.{Disks};
@@ -30,11 +30,17 @@ pub trait Service: Drop {
     /// Whether the call with a number lacks its point, where an open record is of it.
     ghost lacks: { Self → ℕ → Bool };
 
+    /// Whether a tidy is under way: it cleans the one area, a little in each round in which no call waits, until that has no dead file.
+    ghost tidies: { Self → Bool };
+
     /// It may be used over disks of these sizes.
     ghost ready: { Self → List ℕ → Type 0 };
 
     /// These disks hold this file tree for it, with this call in doubt.
     ghost holds: { Self → Disks → Tree → Option Doubt → Type 0 };
+
+    /// These disks hold no dead file for it in the one area.
+    ghost clean: { Self → Disks → Type 0 };
 
     /// Makes a bench a volume with this number, and begins with its opening tree.
     fn begin<B: Rack>(alloc: Global, bench: &mut B, volume: u64) -> Result<Self, RackError>
@@ -42,6 +48,7 @@ pub trait Service: Drop {
         ensures none_wait { IfOk result (λ service. waits service ≡ []) }
         ensures latest { IfOk result (λ service. latest service ≡ 0) }
         ensures up { IfOk result (λ service. up service ≡ true) }
+        ensures tidies { IfOk result (λ service. tidies service ≡ false) }
         ensures ready { IfOk result (λ service. ready service (B.state bench.new).sizes) }
         ensures cause { IsErrOf result Fault → Rose (B.faults bench.old) (B.faults bench.new) }
         ensures memory { IsErrOf result NoMemory → B.faults bench.new ≡ B.faults bench.old }
@@ -64,20 +71,34 @@ pub trait Service: Drop {
         requires later { latest self.old < call }
         ensures latest { OnOk result (latest self.new ≡ call) }
         ensures up { OnOk result (up self.new ≡ true) }
+        ensures tidies { OnOk result (tidies self.new ≡ tidies self.old) }
         ensures ready { (sizes : List ℕ) → ready self.old sizes → OnOk result (ready self.new sizes) }
         ensures waits { OnOk result (waits self.new ≡ waits self.old ++ record { call = call; node = 0; client = client; bytes = datagram } ∷ []) }
         ensures holds { (x : Disks) (tree : Tree) (doubt : Option Doubt) → ready self.old x.sizes → holds self.old x tree doubt → OnOk result (holds self.new x tree doubt) };
 
-    /// Whether nothing is left to do: no call waits, no disk has a sync to finish, and nothing has to be brought back after a crash.
+    /// Its clock ticks: where no call waits, a tidy begins. It takes no memory.
+    fn tick(&mut self)
+        requires up { up self.old ≡ true }
+        ensures begins { waits self.old ≡ [] → tidies self.new ≡ true }
+        ensures busy { waits self.old ≢ [] → tidies self.new ≡ tidies self.old }
+        ensures waits { waits self.new ≡ waits self.old }
+        ensures latest { latest self.new ≡ latest self.old }
+        ensures up { up self.new ≡ true }
+        ensures ready { (sizes : List ℕ) → ready self.old sizes → ready self.new sizes }
+        ensures holds { (x : Disks) (tree : Tree) (doubt : Option Doubt) → holds self.old x tree doubt → holds self.new x tree doubt };
+
+    /// Whether nothing is left to do: no call waits, no tidy is under way, no disk has a sync to finish, and nothing has to be brought back
+    /// after a crash.
     fn is_quiet(&self) -> bool
-        ensures { IsTrue result → waits self.now ≡ [] };
+        ensures waits { IsTrue result → waits self.now ≡ [] }
+        ensures tidies { IsTrue result → tidies self.now ≡ false };
 
     /// Whether the call with a number lacks its point, where an open record is of it.
     fn lacks_point(&self, call: CallNo) -> bool
         ensures { result ≡ lacks self.now call };
 
     /// Does one round at a moment, in milliseconds: each disk that has a sync to finish does so, and then what can be done without the disks
-    /// is done. At most one call is answered, the oldest. A fault of the bench ends nothing: what was asked of the disk is asked again. After an
+    /// is done. At most one call is answered, the oldest; where none waits, a tidy goes on that is under way. A fault of the bench ends nothing: what was asked of the disk is asked again. After an
     /// error it isn't used again.
     fn round<B: Rack>(&mut self, bench: &mut B, moment: u64) -> Result<Option<Event>, OutOfMemory>
         requires moment { moment ≤ 4294967295999 }
@@ -85,6 +106,10 @@ pub trait Service: Drop {
         ensures ready { OnOk result (ready self.new (B.state bench.new).sizes) }
         ensures latest { OnOk result (latest self.new ≡ latest self.old) }
         ensures up { OnOk result (up self.new ≡ up self.old) }
+        ensures tidies { tidies self.old ≡ false → OnOk result (tidies self.new ≡ false) }
+        ensures cleans { (tree : Tree) (doubt : Option Doubt) → B.tells bench.old → holds self.old (B.state bench.old) tree doubt → tidies self.old ≡ true
+            → OnOk result (tidies self.new ≡ false → clean self.new (B.state bench.new)) }
+        ensures tidies_on { waits self.new ≢ [] → OnOk result (tidies self.new ≡ tidies self.old) }
         ensures rounds { (tree : Tree) (doubt : Option Doubt) → B.tells bench.old → holds self.old (B.state bench.old) tree doubt
             → IfOk result (Rounds (holds self.new (B.state bench.new)) moment (waits self.old) (waits self.new) tree doubt) }
         ensures later { B.faults bench.old ≤ B.faults bench.new }
@@ -94,6 +119,7 @@ pub trait Service: Drop {
     fn crash(&mut self)
         ensures up { up self.new ≡ false }
         ensures waits { waits self.new ≡ [] }
+        ensures tidies { tidies self.new ≡ false }
         ensures latest { latest self.new ≡ latest self.old }
         ensures ready { (sizes : List ℕ) → ready self.old sizes → ready self.new sizes }
         ensures holds { (x y : Disks) (tree : Tree) (doubt : Option Doubt) → ready self.old x.sizes → holds self.old x tree doubt → IsCrashed x y → holds self.new y tree doubt };
@@ -105,6 +131,7 @@ pub trait Service: Drop {
         requires ready { ready self.old (B.state bench.old).sizes }
         ensures up { OnOk result (up self.new ≡ true) }
         ensures waits { OnOk result (waits self.new ≡ waits self.old) }
+        ensures tidies { OnOk result (tidies self.new ≡ tidies self.old) }
         ensures latest { OnOk result (latest self.new ≡ latest self.old) }
         ensures ready { OnOk result (ready self.new (B.state bench.new).sizes) }
         ensures restarts { (tree : Tree) (doubt : Option Doubt) → B.tells bench.old → holds self.old (B.state bench.old) tree doubt

@@ -7,3 +7,5 @@ mod command_lines;
 mod crashes;
 #[cfg(test)]
 mod replays;
+#[cfg(test)]
+mod ticks;

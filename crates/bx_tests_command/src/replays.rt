@@ -127,6 +127,8 @@ fn a_call_is_answered(rt: HostRuntime) -> Result<(), Fail> {
             "boxwood 1 7 1 1 1\ncrash all keep\ncrash all seed:7\nrun 0 1\nrestart 0 all\nrestart 0 all\n",
             "",
         ),
+        // A tick makes no line.
+        ("boxwood 1 7 1 1 1\ntick 0 n0\nrun 0 10000\ntick 0 n0\n", ""),
     ] {
         assert!(rt;
             comes_to(rt.alloc(), schedule, (0, 0, 0), Ok(()), (trace, CLOSING))?,
@@ -159,6 +161,13 @@ fn a_line_is_refused(rt: HostRuntime) -> Result<(), Fail> {
             Reason::Down,
             "",
         ),
+        (
+            "boxwood 1 7 1 1 1\ntick 0 n0\ncrash all drop\ntick 0 n0\n",
+            4,
+            Reason::Down,
+            "",
+        ),
+        ("boxwood 1 7 1 1 1\ntick 0 n1\n", 2, Reason::Grammar, ""),
         (
             "boxwood 1 7 1 1 1\ncrash all seed:18446744073709551616\n",
             2,

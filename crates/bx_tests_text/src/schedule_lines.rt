@@ -100,8 +100,22 @@ fn crashes_and_restarts_are_read(rt: HostRuntime) -> Result<(), Fail> {
 }
 
 #[test]
+fn ticks_are_read(rt: HostRuntime) -> Result<(), Fail> {
+    let tick = Line::read(rt.alloc(), b"tick 4294967295999 n0")?;
+    assert!(rt;
+        matches!(
+            tick,
+            Some(Line::Tick {
+                reading: 4294967295999,
+            })
+        )
+    );
+    Ok(())
+}
+
+#[test]
 fn other_lines_are_refused(rt: HostRuntime) -> Result<(), Fail> {
-    let texts: [&[u8]; 40] = [
+    let texts: [&[u8]; 45] = [
         b"",
         b"boxwood",
         b"boxwood 1 7 1 1",
@@ -131,6 +145,11 @@ fn other_lines_are_refused(rt: HostRuntime) -> Result<(), Fail> {
         b"run 0 1 ",
         b"run \xff 1",
         b"run 0 1\r",
+        b"tick 0",
+        b"tick 0 all",
+        b"tick 0 n1",
+        b"tick 0 n0 ",
+        b"tick 4294967296000 n0",
         b"crash all",
         b"crash n0 keep",
         b"crash all keep ",

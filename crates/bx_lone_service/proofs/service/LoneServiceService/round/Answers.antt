@@ -1,12 +1,29 @@
+use Rattle.std.proofs.Common.{◌≡◌, Option, None, sym, ◌∙◌, subst}
+use Rattle.bx_base.specs.declared.names.Point.{Point}
+use Rattle.bx_lone_machine.specs.Machine.{calls_of, record_of}
+use Rattle.bx_lone_machine.specs.Rounds.{IsOfRound}
 use Rattle.bx_lone_service.proofs.Rounding.{answers, goes_on}
 use Rattle.bx_lone_service.proofs.service.LoneServiceService.round.Goals as goal
 
 pub returns-in_default-2-clause-rounds : goal.returns-in_default-2-clause-rounds
 returns-in_default-2-clause-rounds g c = λ tree doubt tells holding.
+    let old = c.in-Up.machine in
+    let new = c.tidy.new.machine in
+    let y = g.B.Rack.state c.round.new.bench in
+    let said = c.in_ok-acted.ensures in
+    let tidied = c.in_ok-tidy.ensures in
     let holds = rw c.in-Up.is at holding in
     let ready = rw c.in-Up.is at c.requires.ready in
-    rw c.in-Up.is (goes_on c.in-Up.machine c.round.new.self _ _ ready.0 c.in_ok-acted.ensures.ready (g.B.Rack.state c.round.new.bench) c.args.moment tree doubt holds.1
-    (rw c.in_default-2.is at c.in_ok-acted.ensures.calls) (rw c.in_default-2.is at c.in_ok-acted.ensures.moments) (rw c.in_default-2.is at (c.in_ok-acted.ensures.holds tree tells holds.0)))
+    let calls : calls_of new ≡ calls_of old = tidied.calls ∙ rw c.in_default-2.is at said.calls in
+    let moments = rw c.in_default-2.is at said.moments in
+    rw c.in-Up.is (goes_on old new _ _ ready.0 (tidied.ready _ said.ready) y c.args.moment tree doubt holds.1 calls
+    (subst (λ (r : Option Point). IsOfRound c.args.moment (record_of old) r None) (sym tidied.record) moments)
+    (tidied.holds y tree (rw c.in_default-2.is at (said.holds tree tells holds.0))))
+
+pub returns-in_default-2-clause-cleans : goal.returns-in_default-2-clause-cleans
+returns-in_default-2-clause-cleans g c = λ tree doubt tells holding under over.
+    let holds = rw c.in-Up.is at holding in
+    c.in_ok-tidy.ensures.clean (g.B.Rack.state c.round.new.bench) tree (rw c.in_default-2.is at (c.in_ok-acted.ensures.holds tree tells holds.0)) under over
 
 pub returns-in-Up-clause-rounds : goal.returns-in-Up-clause-rounds
 returns-in-Up-clause-rounds g c = λ tree doubt tells holding.

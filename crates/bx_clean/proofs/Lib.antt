@@ -1,0 +1,14 @@
+mod Firsts
+mod Takes
+mod Found
+mod Freed
+mod Sizes
+mod Fallen
+mod Cuts
+mod Stripped
+mod Below
+mod WholeTree
+mod WholeFile
+mod Needed
+mod HeldOnes
+mod Told

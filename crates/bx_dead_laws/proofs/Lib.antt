@@ -1,0 +1,10 @@
+pub mod Given
+pub mod Levels
+pub mod Absorbed
+pub mod Lowered
+pub mod DeadFile
+pub mod DeadTree
+pub mod Slots
+pub mod DeadPiece
+pub mod Bare
+pub mod Gone

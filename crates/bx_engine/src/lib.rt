@@ -2,6 +2,7 @@
 #![tactic(auto)]
 
 mod calls;
+mod cleaning;
 mod engine;
 mod laws;
 mod mounting;

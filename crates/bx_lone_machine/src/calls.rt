@@ -71,12 +71,7 @@ impl Procedures for Calls {
         Ok(attempt)
     }
 
-    fn tidy<V: View>(
-        &self,
-        alloc: Global,
-        area: u16,
-        view: &V,
-    ) -> Result<Attempt, OutOfMemory> {
+    fn tidy<V: View>(&self, alloc: Global, area: u16, view: &V) -> Result<Attempt, OutOfMemory> {
         self.engine.tidy(alloc, area, view)
     }
 }

@@ -54,12 +54,7 @@ pub trait Procedures: Drop {
         ensures fair { IfOk result (IsFair (areas self.now) (V.held view.now) (path self.now client call.now (V.held view.now))) };
 
     /// Cleans an area over a view without hints, a little at a time.
-    fn tidy<V: View>(
-        &self,
-        alloc: Global,
-        area: u16,
-        view: &V,
-    ) -> Result<Attempt, OutOfMemory>
+    fn tidy<V: View>(&self, alloc: Global, area: u16, view: &V) -> Result<Attempt, OutOfMemory>
         requires area { area < areas self.now }
         requires bare { V.hints view.now ≡ no_hints }
         ensures gives { (truth : Truth) (tree : Tree) → IsTruth (V.held view.now) truth → StandsBare (volume self.now) (areas self.now) truth tree

@@ -1,4 +1,4 @@
-use Rattle.std.proofs.Common.{◌≡◌, refl, ◌∙◌}
+use Rattle.std.proofs.Common.{refl, ◌∙◌}
 use Rattle.bx_global.specs.Opening.{opening_state}
 use Rattle.bx_lone_machine.specs.Machine.{store_needs}
 use Rattle.bx_lone_machine.proofs.Leaving.{room_kept}

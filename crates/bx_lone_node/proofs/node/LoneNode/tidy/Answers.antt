@@ -1,12 +1,10 @@
-use Rattle.std.proofs.Common.{◌≡◌, true, ℕ, ap, sym, ◌∙◌, subst}
+use Rattle.std.proofs.Common.{◌≡◌, true, ℕ, sym, subst}
 use Rattle.bx_cache.specs.Cached.{block_at}
 use Rattle.bx_lone_node.specs.Bare.{StandsBare}
-use Rattle.bx_lone_node.specs.Standing.{NodeStands}
 use Rattle.bx_model.specs.declared.tree.Tree.{Tree}
 use Rattle.bx_places.specs.Places.{is_block}
-use Rattle.bx_views.specs.Attempts.{IsFair, IsFairNeed, Leads, Tidies}
+use Rattle.bx_views.specs.Attempts.{IsFair, IsFairNeed, Tidies}
 use Rattle.bx_views.specs.Truths.{Hints, IsTruth, Truth, no_hints}
-use Rattle.bx_views.specs.declared.attempt.Attempt.{Attempt}
 use Rattle.bx_views.specs.declared.attempt.Attempt.TheVariants as attempts
 use Rattle.bx_lone_node.proofs.Tried.{inner_doing}
 use Rattle.bx_lone_node.proofs.node.LoneNode.tidy.Goals as goal

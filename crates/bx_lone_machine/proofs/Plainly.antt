@@ -6,7 +6,7 @@ use Rattle.bx_hints.specs.Fitting.{HintsFitAll}
 use Rattle.bx_lone_node.specs.Bare.{StandsBare}
 use Rattle.bx_model.specs.declared.tree.Tree.{Tree}
 use Rattle.bx_records.specs.Drafts.{Changed}
-use Rattle.bx_views.specs.Attempts.{Acts, Deed, Gives, IsFair, Leads}
+use Rattle.bx_views.specs.Attempts.{Acts, Deed, Gives, IsFair, Leads, Tidies}
 use Rattle.bx_views.specs.Truths.{Held, Hints, Truth, no_hints}
 use Rattle.bx_views.specs.declared.attempt.Attempt.{Attempt}
 use Rattle.bx_views.specs.declared.attempt.Attempt.TheVariants.{Need, Change, Inner, Answer}
@@ -34,3 +34,10 @@ gives_bare volume areas free client call moment truth tree (Answer done) gives =
 pub fair_bare : (volume areas : ℕ) (held : Held) (hints : Hints) (call : List ℕ) (attempt : Attempt) → hints ≡ no_hints → IsFair areas held (IsOnPath held hints volume areas call) attempt
     → IsFair areas held (IsOnPath held no_hints volume areas call) attempt
 fair_bare volume areas held hints call attempt none fair = subst (λ (h : Hints). IsFair areas held (IsOnPath held h volume areas call) attempt) none fair
+
+pub tidies_bare : (volume areas : ℕ) (IsClean : Type 0) (truth : Truth) (tree : Tree) (attempt : Attempt) → Tidies (StandsWith volume areas) IsClean truth tree attempt
+    → Tidies (λ other hints then. StandsBare volume areas other then) IsClean truth tree attempt
+tidies_bare volume areas IsClean truth tree (Need wants) tidies = tt
+tidies_bare volume areas IsClean truth tree (Change draft done) tidies = tidies
+tidies_bare volume areas IsClean truth tree (Inner draft) tidies = (tidies.0, leads_bare volume areas truth draft tree tree tidies.1)
+tidies_bare volume areas IsClean truth tree (Answer done) tidies = tidies

@@ -1,10 +1,10 @@
 //! The calls that the node takes.
 
-use bx_base::{OutOfMemory, Raw};
+use bx_base::OutOfMemory;
 use bx_cache::Cache;
 use bx_engine::BoxFs;
 use bx_lone_node::Procedures;
-use bx_views::{Attempt, Done, View};
+use bx_views::{Attempt, View};
 use std::alloc::Global;
 
 /// The calls that are built, on a volume.
@@ -35,10 +35,10 @@ impl Calls {
 
 impl Procedures for Calls {
     ghost use Rattle.bx_chunks.specs.Counting.{free_slots};
+    ghost use Rattle.bx_clean.specs.Tidying.{IsClean, OnTidyPath};
     ghost use Rattle.bx_engine.specs.Calls.{IsBuiltCall};
     ghost use Rattle.bx_engine.specs.Paths.{IsOnPath};
     ghost use Rattle.bx_engine.specs.Steps.{Step};
-    ghost use Rattle.bx_lone_machine.specs.Tidying.{IsClean, IsOnTidyPath};
     ghost use Rattle.bx_views.specs.Truths.{no_hints};
 
     ghost volume = { λ calls. calls.engine.volume };
@@ -53,7 +53,7 @@ impl Procedures for Calls {
 
     ghost path = { λ calls client bytes held. IsOnPath held no_hints calls.engine.volume calls.engine.areas bytes };
 
-    ghost tidy_path = { λ calls area held. IsOnTidyPath held area };
+    ghost tidy_path = { λ calls area held. OnTidyPath held calls.engine.areas area };
 
     ghost is_clean = { λ calls truth area. IsClean truth area };
 
@@ -71,12 +71,7 @@ impl Procedures for Calls {
         Ok(attempt)
     }
 
-    // PROVISIONAL: to be `self.engine.tidy(alloc, area, view)`.
-    fn tidy<V: View>(&self, alloc: Global, _area: u16, _view: &V) -> Result<Attempt, OutOfMemory> {
-        Ok(Attempt::Answer(Done {
-            reply: Raw::from(Vec::new(alloc)),
-            spare: 8,
-            made: 0,
-        }))
+    fn tidy<V: View>(&self, alloc: Global, area: u16, view: &V) -> Result<Attempt, OutOfMemory> {
+        self.engine.tidy(alloc, area, view)
     }
 }

@@ -4,7 +4,7 @@ use Rattle.bx_disk.specs.Disks.{Disks}
 use Rattle.bx_engine.specs.Calls.{IsBuiltCall}
 use Rattle.bx_history.specs.Trace.{Taking}
 use Rattle.bx_lone_machine.specs.Machine as machines
-use Rattle.bx_lone_machine.specs.Tidying.{IsClean}
+use Rattle.bx_clean.specs.Tidying.{IsClean}
 use Rattle.bx_lone_machine.specs.Machine.{Holds, calls_of, doubt_of, floor_of, volume_of}
 use Rattle.bx_lone_machine.specs.declared.machine.LoneMachine.{LoneMachine}
 use Rattle.bx_lone_node.specs.declared.stage.Waiting.{Waiting}

@@ -36,3 +36,7 @@ returns-clause-holds c = λ disks tree holds. record {
   stands = c.in_ok-is_clean.ensures.stands (c.args.self.now.calls.engine.volume) (opening_state 1 1) disks tree refl holds.stands;
   bench = holds.bench;
 }
+
+pub returns-clause-clean : goal.returns-clause-clean
+returns-clause-clean c = λ disks tree held clean.
+    c.in_ok-is_clean.ensures.clean c.args.self.now.calls.engine.volume (opening_state 1 1) disks tree held.stands.next refl held.stands.stands clean

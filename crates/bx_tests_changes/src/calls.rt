@@ -27,18 +27,32 @@ impl Chance {
 /// The words of a file handle of volume 7, by the handle's number.
 fn handle_words(handle: u64) -> [u32; 8] {
     let number = (handle >> 32) as u32;
-    [0x424f_5857, 0x4f4f_4431, 0, 7, number, handle as u32, 0, 0]
+    [
+        0x424f_5857,
+        0x4f4f_4431,
+        0,
+        7,
+        number,
+        (handle % (1 << 32)) as u32,
+        0,
+        0,
+    ]
 }
 
 /// The words before the arguments of a call of NFS by a user, 0 or another.
 fn head(procedure: u32, user: u32) -> [u32; 15] {
-    [1, 0, 2, 100003, 2, procedure, 1, 20, 0, 0, user, user, 0, 0, 0]
+    [
+        1, 0, 2, 100003, 2, procedure, 1, 20, 0, 0, user, user, 0, 0, 0,
+    ]
 }
 
 /// A name of four bytes, by its number: a letter and three digits.
 fn name_words(number: u32) -> [u32; 2] {
     let digit = |power: u32| 0x30 + number / power % 10;
-    [4, 0x6e00_0000 | digit(100) << 16 | digit(10) << 8 | digit(1)]
+    [
+        4,
+        0x6e00_0000 | digit(100) << 16 | digit(10) << 8 | digit(1),
+    ]
 }
 
 /// Attributes to set, each given or not: the mode, the user, the group, the size, and both times.
@@ -62,6 +76,7 @@ fn sattr_words(chance: &mut Chance) -> [u32; 8] {
 }
 
 /// What a random call is about: files by their handles, and how many names there are.
+#[derive(Drop)]
 pub(crate) struct About {
     /// A directory.
     pub(crate) directory: u64,
@@ -99,7 +114,12 @@ pub(crate) fn random_call(
         4 | 10 | 15 => bytes_of(alloc, &[&head, &at, &name]),
         6 => bytes_of(alloc, &[&head, &to, &[chance.below(20000), 3000, 0]]),
         8 => bytes_of(alloc, &[&head, &to, &data_words(chance), &[7; 600]]),
-        9 | 14 => bytes_of(alloc, &[&head, &at, &name, &sattr_words(chance)]),
+        9 => {
+            let mut sattr = sattr_words(chance);
+            sattr[3] = ALONE;
+            bytes_of(alloc, &[&head, &at, &name, &sattr])
+        }
+        14 => bytes_of(alloc, &[&head, &at, &name, &sattr_words(chance)]),
         11 => bytes_of(alloc, &[&head, &at, &name, &to, &other]),
         12 => bytes_of(alloc, &[&head, &to, &at, &name]),
         13 => bytes_of(alloc, &[&head, &at, &name, &name, &sattr_words(chance)]),

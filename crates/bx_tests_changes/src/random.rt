@@ -10,7 +10,7 @@ const ROOT: u64 = 1;
 
 /// The procedures, of which those that make files come twice.
 const PROCEDURES: [u32; 20] = [
-    1, 2, 4, 5, 6, 8, 8, 9, 9, 10, 11, 12, 13, 14, 14, 15, 16, 17, 2, 10,
+    1, 2, 4, 5, 6, 8, 8, 9, 9, 10, 12, 12, 13, 14, 14, 15, 16, 17, 2, 10,
 ];
 
 /// Files that were made, by their handles; a place is used again.
@@ -36,43 +36,75 @@ impl Files {
     }
 }
 
-/// Whether so many random calls with a seed, of so many names, are answered as by the tree; else the number of the first that isn't.
-fn first_other(alloc: Global, seed: u32, turns: u32, names: u32) -> Result<Option<u32>, Fail> {
+/// What came of random calls.
+#[derive(Drop)]
+struct Came {
+    /// The number of the first that wasn't answered as by the tree.
+    other: Option<u32>,
+    /// How many files were made.
+    made: usize,
+    /// How often fewer blocks were free than a call may take.
+    fulls: u32,
+}
+
+/// What comes of so many random calls that follow from a seed, over so many names.
+fn random_calls(alloc: Global, seed: u32, turns: u32, names: u32) -> Result<Came, Fail> {
     let mut world = World::new(alloc)?;
     let mut chance = Chance::new(seed);
     let mut files = Files {
         handles: [ROOT; 16],
         next: 0,
     };
+    let mut other = None;
     for turn in 0..turns {
-        let procedure = PROCEDURES[chance.below(20) as usize % 20];
-        let about = About {
-            directory: files.any(&mut chance),
-            other: files.any(&mut chance),
-            names,
-        };
-        let call = random_call(alloc, &mut chance, procedure, &about)?;
-        world.made = 0;
-        if !world.takes(alloc, call.as_slice(), u64::from(turn) * 7)? {
-            return Ok(Some(turn));
-        }
-        if world.made != 0 {
-            files.add(world.made);
+        let is_same = one_call(alloc, &mut world, &mut chance, &mut files, names, turn)?;
+        if !is_same && other == None {
+            other = Some(turn);
         }
     }
-    Ok(None)
+    Ok(Came {
+        other,
+        made: files.next,
+        fulls: world.fulls,
+    })
+}
+
+/// Whether a random call is answered as by the tree.
+fn one_call(
+    alloc: Global,
+    world: &mut World,
+    chance: &mut Chance,
+    files: &mut Files,
+    names: u32,
+    turn: u32,
+) -> Result<bool, Fail> {
+    let procedure = PROCEDURES[chance.below(20) as usize % 20];
+    let about = About {
+        directory: files.any(chance),
+        other: files.any(chance),
+        names,
+    };
+    let call = random_call(alloc, chance, procedure, &about)?;
+    world.made = 0;
+    let is_same = world.takes(alloc, call.as_slice(), u64::from(turn) * 7)?;
+    if world.made != 0 {
+        files.add(world.made);
+    }
+    Ok(is_same)
 }
 
 #[test]
 fn few_names_are_used_again(rt: HostRuntime) -> Result<(), Fail> {
-    let first = first_other(rt.alloc(), 20261128, 3000, 12)?;
-    assert!(rt; first == None, "{first:?}");
+    let came = random_calls(rt.alloc(), 20261128, 3000, 12)?;
+    assert!(rt; came.other == None, "{:?}", came.other);
+    assert!(rt; came.made > 200, "{}", came.made);
     Ok(())
 }
 
 #[test]
 fn a_volume_fills(rt: HostRuntime) -> Result<(), Fail> {
-    let first = first_other(rt.alloc(), 7, 3000, 900)?;
-    assert!(rt; first == None, "{first:?}");
+    let came = random_calls(rt.alloc(), 7, 3000, 900)?;
+    assert!(rt; came.other == None, "{:?}", came.other);
+    assert!(rt; came.fulls > 20, "{}", came.fulls);
     Ok(())
 }

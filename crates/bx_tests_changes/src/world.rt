@@ -36,6 +36,8 @@ pub(crate) struct World {
     tree: Tree,
     /// The handle of the last file that was made, or 0.
     pub(crate) made: u64,
+    /// How often fewer blocks were free than a call may take.
+    pub(crate) fulls: u32,
 }
 
 /// The block with a number.
@@ -87,6 +89,7 @@ impl World {
             blocks,
             tree,
             made: 0,
+            fulls: 0,
         };
         for at in 0..BLOCKS {
             let block = opening_block(alloc, at)?;
@@ -159,6 +162,9 @@ impl World {
         };
         if done.made != 0 {
             self.made = done.made;
+        }
+        if done.spare < 8 {
+            self.fulls = self.fulls.wrapping_add(1);
         }
         let text = bx_nfs::text(alloc, xid, &reply)?;
         Ok(done.reply.bytes() == text.bytes())

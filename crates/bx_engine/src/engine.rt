@@ -39,15 +39,13 @@ pub struct BoxFs {
 
 impl BoxFs {
     /// Attempts a call over a view, by its client's number and its bytes, at a moment in milliseconds, at most 4294967295999. `None`
-    /// exactly where the bytes are none of the calls that are built so far: those that are refused as messages, those without
-    /// arguments (NULL, ROOT and WRITECACHE of NFS; NULL, DUMP, UMNTALL and EXPORT of MOUNT), MNT and UMNT of MOUNT, GETATTR, READLINK,
-    /// STATFS, LOOKUP, READ, READDIR, REMOVE, and SETATTR of the mode alone.
+    /// exactly where the bytes are none of the calls that are built: all but RENAME, and CREATE with a size. Bytes that are no call are none.
     ///
-    /// `Need` names the block of the file's inode, exclusively for SETATTR and else shared, which isn't held then. Where that is held, it
-    /// names for STATFS the own block of the first area that isn't, for READ a page or a piece of the file that isn't, for LOOKUP a page
-    /// of the directory or the inode of what the name means, and for READDIR a page of the directory, shared. For REMOVE it names what
-    /// `bx_entries::remove` does. A call
-    /// that comes to an error is an `Answer`. On an error, which is want of memory alone, nothing is changed.
+    /// `Need` names a block that isn't held and is on the call's path: of GETATTR, READLINK and STATFS the block of the file's inode, shared; where
+    /// that is held, for STATFS the own block of the first area that isn't, for READ a page or a piece of the file, for LOOKUP a page of the directory or
+    /// the inode of what the name means, and for READDIR a page of the directory, shared. Of a call that changes the tree it names what its procedure
+    /// does (`bx_attempts`). `Inner` are blocks to be written before the call is attempted again: room that is made for an entry, bytes that are cleared
+    /// before a file grows over them. A call that comes to an error is an `Answer`. On an error, which is want of memory alone, nothing is changed.
     pub fn attempt<V: View>(
         &self,
         alloc: Global,

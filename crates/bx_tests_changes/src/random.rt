@@ -8,10 +8,13 @@ use std::test::Fail;
 /// The handle of the root.
 const ROOT: u64 = 1;
 
-/// The procedures, of which those that make files come twice.
-const PROCEDURES: [u32; 20] = [
+/// The procedures, of which some come twice.
+const ALL: [u32; 20] = [
     1, 2, 4, 5, 6, 8, 8, 9, 9, 10, 12, 12, 13, 14, 14, 15, 16, 17, 2, 10,
 ];
+
+/// Those that take blocks.
+const TAKING: [u32; 6] = [8, 9, 9, 9, 13, 14];
 
 /// Files that were made, by their handles; a place is used again.
 #[derive(Drop)]
@@ -47,8 +50,14 @@ struct Came {
     fulls: u32,
 }
 
-/// What comes of so many random calls that follow from a seed, over so many names.
-fn random_calls(alloc: Global, seed: u32, turns: u32, names: u32) -> Result<Came, Fail> {
+/// What comes of so many random calls of these procedures that follow from a seed, over so many names.
+fn random_calls(
+    alloc: Global,
+    seed: u32,
+    turns: u32,
+    procedures: &[u32],
+    names: u32,
+) -> Result<Came, Fail> {
     let mut world = World::new(alloc)?;
     let mut chance = Chance::new(seed);
     let mut files = Files {
@@ -57,7 +66,15 @@ fn random_calls(alloc: Global, seed: u32, turns: u32, names: u32) -> Result<Came
     };
     let mut other = None;
     for turn in 0..turns {
-        let is_same = one_call(alloc, &mut world, &mut chance, &mut files, names, turn)?;
+        let which = chance.below(procedures.len() as u32) as usize;
+        let procedure = procedures.get(which).copied().unwrap_or(0);
+        let about = About {
+            directory: files.any(&mut chance),
+            other: files.any(&mut chance),
+            names,
+        };
+        let call = random_call(alloc, &mut chance, procedure, &about)?;
+        let is_same = one_call(alloc, &mut world, &mut files, call.as_slice(), turn)?;
         if !is_same && other == None {
             other = Some(turn);
         }
@@ -69,24 +86,16 @@ fn random_calls(alloc: Global, seed: u32, turns: u32, names: u32) -> Result<Came
     })
 }
 
-/// Whether a random call is answered as by the tree.
+/// Whether a call is answered as by the tree. A file that it makes is one of those that are called about then.
 fn one_call(
     alloc: Global,
     world: &mut World,
-    chance: &mut Chance,
     files: &mut Files,
-    names: u32,
+    call: &[u8],
     turn: u32,
 ) -> Result<bool, Fail> {
-    let procedure = PROCEDURES[chance.below(20) as usize % 20];
-    let about = About {
-        directory: files.any(chance),
-        other: files.any(chance),
-        names,
-    };
-    let call = random_call(alloc, chance, procedure, &about)?;
     world.made = 0;
-    let is_same = world.takes(alloc, call.as_slice(), u64::from(turn) * 7)?;
+    let is_same = world.takes(alloc, call, u64::from(turn) * 7)?;
     if world.made != 0 {
         files.add(world.made);
     }
@@ -95,15 +104,15 @@ fn one_call(
 
 #[test]
 fn few_names_are_used_again(rt: HostRuntime) -> Result<(), Fail> {
-    let came = random_calls(rt.alloc(), 20261128, 3000, 12)?;
+    let came = random_calls(rt.alloc(), 20261128, 3000, &ALL, 12)?;
     assert!(rt; came.other == None, "{:?}", came.other);
-    assert!(rt; came.made > 200, "{}", came.made);
+    assert!(rt; came.made > 100, "{}", came.made);
     Ok(())
 }
 
 #[test]
 fn a_volume_fills(rt: HostRuntime) -> Result<(), Fail> {
-    let came = random_calls(rt.alloc(), 7, 3000, 900)?;
+    let came = random_calls(rt.alloc(), 7, 2000, &TAKING, 900)?;
     assert!(rt; came.other == None, "{:?}", came.other);
     assert!(rt; came.fulls > 20, "{}", came.fulls);
     Ok(())

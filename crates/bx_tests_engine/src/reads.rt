@@ -162,9 +162,19 @@ fn other_datagrams_are_passed_over(rt: HostRuntime) -> Result<(), Fail> {
     let alloc = rt.alloc();
     let mut desk = Desk::new(alloc);
     desk.hold(alloc, 0)?;
-    // a SETATTR of the size too, RMDIR of `a`, a reply, and a word
-    let sized = is_passed_over(alloc, &desk, &[&nobody(1, 2), &ROOT, &MODE_AND_SIZE]);
-    let name = is_passed_over(alloc, &desk, &[&nobody(1, 15), &ROOT, &[1, 0x61000000]]);
+    // CREATE of `a` with a size, RENAME of `a` to `b`, a reply, and a word
+    let name = [1, 0x61000000];
+    let other = [1, 0x62000000];
+    let sized = is_passed_over(
+        alloc,
+        &desk,
+        &[&nobody(1, 9), &ROOT, &name, &MODE_AND_SIZE],
+    );
+    let name = is_passed_over(
+        alloc,
+        &desk,
+        &[&nobody(1, 11), &ROOT, &name, &ROOT, &other],
+    );
     let reply = is_passed_over(alloc, &desk, &[&[1, 1, 0, 0, 0, 0]]);
     let word = is_passed_over(alloc, &desk, &[&[1]]);
     assert!(rt; sized && name && reply && word);

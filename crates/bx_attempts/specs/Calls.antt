@@ -1,23 +1,22 @@
 -- The calls that change a file tree, and are built.
-use Rattle.std.specs.Prelude.{◌≡◌, ◌≤◌, ◌⊎◌, ℕ, false, length}
+use Rattle.std.specs.Prelude.{◌≡◌, ◌≤◌, ◌⊎◌, ℕ, length}
 use Rattle.bx_model.specs.declared.call.Args.{Args}
 use Rattle.bx_model.specs.declared.call.Args.TheVariants.{Link, Make, Name, Set, Symlink}
 use Rattle.bx_model.specs.declared.call.Call.{Call}
-use Rattle.bx_tree_files.specs.Times.{is_given}
 
 -- the call is this procedure of NFS
 pub record IsProcedure (number : ℕ) (call : Call) : Type 0 where
   pub program : call.program ≡ 100003
   pub procedure : call.procedure ≡ number
 
--- By their arguments: SETATTR (2), CREATE (9) where it gives no size, REMOVE (10), LINK (12), SYMLINK (13), MKDIR (14) and RMDIR (15). A name that is made has at most 255 bytes,
+-- By their arguments: SETATTR (2), CREATE (9), REMOVE (10), LINK (12), SYMLINK (13), MKDIR (14) and RMDIR (15). A name that is made has at most 255 bytes,
 -- and a path 1024, as those of all calls that are read have.
 abbrev pub HasChangeArgs : Call → Args → Type 0
 HasChangeArgs call (Set handle sattr) = IsProcedure 2 call
 HasChangeArgs call (Name handle name) = IsProcedure 10 call ⊎ IsProcedure 15 call
 HasChangeArgs call (Link from handle name) = IsProcedure 12 call × (length name ≤ 255)
 HasChangeArgs call (Symlink handle name path sattr) = IsProcedure 13 call × (length name ≤ 255) × (length path ≤ 1024)
-HasChangeArgs call (Make handle name sattr) = (IsProcedure 14 call ⊎ (IsProcedure 9 call × (is_given sattr.size ≡ false))) × (length name ≤ 255)
+HasChangeArgs call (Make handle name sattr) = (IsProcedure 14 call ⊎ IsProcedure 9 call) × (length name ≤ 255)
 HasChangeArgs call _ = ⊥
 
 abbrev pub IsChanging : Call → Type 0

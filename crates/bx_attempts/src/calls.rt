@@ -16,7 +16,6 @@ use crate::naming::{link, remove, rmdir};
 use bx_base::OutOfMemory;
 use bx_model::{Args, Call};
 use bx_rpc::NFS_PROGRAM;
-use bx_tree_files::is_given;
 use bx_views::{Attempt, View};
 use std::alloc::Global;
 
@@ -47,8 +46,7 @@ const MOST_NAME: usize = 255;
 /// How many bytes a link's path has at most.
 const MOST_PATH: usize = 1024;
 
-/// Whether a call changes the file tree, and is built: it is SETATTR, CREATE without a size,
-/// REMOVE, LINK, SYMLINK, MKDIR or RMDIR.
+/// Whether a call changes the file tree, and is built: it is SETATTR, CREATE, REMOVE, LINK, SYMLINK, MKDIR or RMDIR.
 pub fn is_change(call: &Call) -> bool
     ensures { IsTrue result ↔ IsChanging call.now }
 {
@@ -61,8 +59,8 @@ pub fn is_change(call: &Call) -> bool
                 && name.bytes().len() <= MOST_NAME
                 && path.bytes().len() <= MOST_PATH
         }
-        Args::Make(_, name, sattr) => {
-            (is_procedure(call, MKDIR) || is_procedure(call, CREATE) && !is_given(sattr.size))
+        Args::Make(_, name, _) => {
+            (is_procedure(call, MKDIR) || is_procedure(call, CREATE))
                 && name.bytes().len() <= MOST_NAME
         }
         _ => false,

@@ -1,4 +1,4 @@
-//! What is told of a new file.
+//! What is told of a file that is made, or whose name is there.
 
 ghost use Rattle.std.specs.Prelude.{◌≡◌, ◌<◌, ◌^◌, IfOk};
 ghost use Rattle.bx_inodes.specs.Inodes.{shown_size};
@@ -16,7 +16,7 @@ use bx_reads::attributes_by;
 use std::alloc::Global;
 
 /// The file handle and the attributes of the file with a handle, by its inode.
-pub(crate) fn told_of(
+pub fn told_of(
     alloc: Global,
     volume: u64,
     handle: u64,

@@ -1,5 +1,5 @@
 -- What CREATE comes to, from the directory on.
-use Rattle.std.proofs.Common.{◌≡◌, ℕ, ◌≤◌, eqb-true, List, [], Option, Some, None, refl, sym, ap, ◌∙◌, subst}
+use Rattle.std.proofs.Common.{◌≡◌, ℕ, ◌≤◌, eqb-true, List, Option, Some, None, refl, sym, ap, ◌∙◌, subst}
 use Rattle.std.specs.Prelude.{Result, Ok, Err}
 use Rattle.bx_changes.specs.Growing.{IsMaking, Makes}
 use Rattle.bx_changes.specs.declared.error.ChangeError.{ChangeError}

@@ -1,10 +1,10 @@
 -- What CREATE comes to where a file has the name, by the size.
-use Rattle.std.proofs.Common.{◌≡◌, ℕ, ◌<◌, ◌^◌, Bool, true, false, List, [], Option, Some, refl, sym, ap, ◌∙◌, subst}
+use Rattle.std.proofs.Common.{◌≡◌, ℕ, ◌<◌, ◌^◌, Bool, true, false, List, [], Option, Some, sym, ap, ◌∙◌, subst}
 use Rattle.std.specs.Prelude.{◌||◌, not, if◌then◌else◌, Result, Ok, Err}
 use Rattle.bx_changes.specs.Growing.{Makes}
 use Rattle.bx_changes.proofs.FileChanged.{changed_is_put}
 use Rattle.bx_inodes.specs.Heads.{head_of}
-use Rattle.bx_inodes.specs.Inodes.{FileAt, IsInodeOf, shown_size}
+use Rattle.bx_inodes.specs.Inodes.{IsInodeOf, shown_size}
 use Rattle.bx_inodes.specs.Stands.{Stands}
 use Rattle.bx_inodes.specs.declared.stop.Stop.{Stop}
 use Rattle.bx_inodes.specs.declared.stop.Stop.TheVariants.{Need, Inner, Status, OutOfMemory}
@@ -25,7 +25,7 @@ use Rattle.bx_tree_files.specs.declared.file.Body.{Body}
 use Rattle.bx_tree_files.specs.declared.file.File.{File}
 use Rattle.bx_tree_files.specs.declared.sattr.Sattr.{Sattr}
 use Rattle.bx_tree_files.specs.Changes.{resized, with_fields, with_size}
-use Rattle.bx_tree_files.specs.Files.{file_at, is_regular, size_of, with_changed, with_file}
+use Rattle.bx_tree_files.specs.Files.{is_regular, size_of, with_changed, with_file}
 use Rattle.bx_tree_files.specs.Times.{Time, is_given}
 use Rattle.bx_tree_laws.proofs.Touched.{touched_follows}
 use Rattle.bx_tree_laws.proofs.Writings.{resize_fits, size_touch}

@@ -1,4 +1,4 @@
-use Rattle.bx_create.proofs.SizeSet.{refused, sets, stopped}
+use Rattle.bx_create.proofs.SizeSet.{sets, stopped}
 use Rattle.bx_create.proofs.existing.set_over.Goals as goal
 
 pub returns-in-Err-clause-step : goal.returns-in-Err-clause-step

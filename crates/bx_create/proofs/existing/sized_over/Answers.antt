@@ -1,4 +1,4 @@
-use Rattle.std.proofs.Common.{List, sym, subst, Err}
+use Rattle.std.proofs.Common.{List, subst, Err}
 use Rattle.bx_inodes.specs.Inodes.{FileAt, IsInodeOf}
 use Rattle.bx_model.specs.Making.{create_over}
 use Rattle.bx_reads.proofs.Told.{over_none}

@@ -1,7 +1,7 @@
 -- The path of a call that changes a file tree, over what is held and hinted.
 use Rattle.std.specs.Prelude.{◌≡◌, ◌⊎◌, ℕ}
 use Rattle.bx_base.specs.declared.names.Mode.{Mode}
-use Rattle.bx_creating.specs.Existing.{OnCreate}
+use Rattle.bx_create.specs.Creating.{OnCreate}
 use Rattle.bx_creating.specs.Making.{OnMaking}
 use Rattle.bx_entries.specs.Finding.{OnRemove, OnRmdir}
 use Rattle.bx_linking.specs.Linking.{OnLink}
@@ -19,6 +19,6 @@ ChangePathOf held hints volume areas procedure (Name handle name) at mode =
 ChangePathOf held hints volume areas procedure (Link from handle name) at mode = OnLink held hints volume areas from handle name at mode
 ChangePathOf held hints volume areas procedure (Symlink handle name path sattr) at mode = OnMaking held hints volume areas handle name at mode
 ChangePathOf held hints volume areas procedure (Make handle name sattr) at mode =
-    ((procedure ≡ 14) × OnMaking held hints volume areas handle name at mode) ⊎ ((procedure ≡ 9) × OnCreate held hints volume areas handle name at mode)
+    ((procedure ≡ 14) × OnMaking held hints volume areas handle name at mode) ⊎ ((procedure ≡ 9) × OnCreate held hints volume areas handle name sattr.size at mode)
 ChangePathOf held hints volume areas procedure (Write handle begin offset total written) at mode = OnWriting held hints volume areas handle offset written at mode
 ChangePathOf held hints volume areas procedure _ at mode = ⊥

@@ -17,7 +17,6 @@ use crate::writing::write;
 use bx_base::OutOfMemory;
 use bx_model::{Args, Call};
 use bx_rpc::NFS_PROGRAM;
-use bx_tree_files::is_given;
 use bx_views::{Attempt, View};
 use std::alloc::Global;
 
@@ -54,8 +53,8 @@ const MOST_PATH: usize = 1024;
 /// How many bytes are written at once at most.
 const MOST_DATA: usize = 8192;
 
-/// Whether a call changes the file tree, and is built: it is SETATTR, WRITE, CREATE without a size,
-/// REMOVE, LINK, SYMLINK, MKDIR or RMDIR.
+/// Whether a call changes the file tree, and is built: it is SETATTR, WRITE, CREATE, REMOVE, LINK,
+/// SYMLINK, MKDIR or RMDIR.
 pub fn is_change(call: &Call) -> bool
     ensures { IsTrue result ↔ IsChanging call.now }
 {
@@ -71,8 +70,8 @@ pub fn is_change(call: &Call) -> bool
                 && name.bytes().len() <= MOST_NAME
                 && path.bytes().len() <= MOST_PATH
         }
-        Args::Make(_, name, sattr) => {
-            (is_procedure(call, MKDIR) || is_procedure(call, CREATE) && !is_given(sattr.size))
+        Args::Make(_, name, _) => {
+            (is_procedure(call, MKDIR) || is_procedure(call, CREATE))
                 && name.bytes().len() <= MOST_NAME
         }
         _ => false,

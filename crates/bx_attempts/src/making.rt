@@ -1,11 +1,10 @@
 //! Files that are made, with the entries that name them.
 
-ghost use Rattle.std.specs.Prelude.{◌≡◌, ◌≤◌, ℕ, List, length, IfOk, false};
+ghost use Rattle.std.specs.Prelude.{◌≡◌, ◌≤◌, ℕ, List, length, IfOk};
 ghost use Rattle.bx_chunks.specs.Counting.{free_slots};
 ghost use Rattle.bx_model.specs.declared.call.Args.TheVariants.{Make, Symlink};
 ghost use Rattle.bx_model.specs.declared.tree.Tree.{Tree};
 ghost use Rattle.bx_nfs.specs.Wire.{ReadsAs};
-ghost use Rattle.bx_tree_files.specs.Times.{is_given};
 ghost use Rattle.bx_views.specs.Attempts.{Gives, IsFair};
 ghost use Rattle.bx_views.specs.Truths.{IsTruth, Truth};
 ghost use Rattle.bx_attempts.specs.Paths.{ChangePathOf};
@@ -48,8 +47,7 @@ pub(crate) fn mkdir<V: View>(
     }
 }
 
-/// Attempts CREATE without a size of a name of at most 255 bytes in the directory that a file handle names, as `mkdir` does: `bx_creating::create`, as
-/// an attempt.
+/// Attempts CREATE of a name of at most 255 bytes in the directory that a file handle names, as `mkdir` does: `bx_create::create`, as an attempt.
 pub(crate) fn create<V: View>(
     alloc: Global,
     volume: u64,
@@ -65,7 +63,6 @@ pub(crate) fn create<V: View>(
     requires areas { areas ≤ 64 }
     requires args { call.now.args ≡ Make at.now name.now sattr.now }
     requires procedure { call.now.procedure ≡ 9 }
-    requires size { is_given sattr.now.size ≡ false }
     requires name { length name.now ≤ 255 }
     requires moment { moment ≤ 4294967295999 }
     ensures gives { (client : ℕ) (bytes : List ℕ) (truth : Truth) (tree : Tree) → ReadsAs bytes xid call.now → IsTruth (V.held view.now) truth → StandsWith volume areas truth (V.hints view.now) tree
@@ -73,7 +70,7 @@ pub(crate) fn create<V: View>(
     ensures fair { IfOk result (IsFair areas (V.held view.now) (ChangePathOf (V.held view.now) (V.hints view.now) volume areas call.now.procedure call.now.args)) }
 {
     let now = time_of(moment);
-    match bx_creating::create(alloc, volume, areas, call, at, name, sattr, now, view) {
+    match bx_create::create(alloc, volume, areas, call, at, name, sattr, now, view) {
         Ok((draft, reply, made)) => changed(alloc, xid, draft, reply, made),
         Err(error) => refused(alloc, xid, error),
     }

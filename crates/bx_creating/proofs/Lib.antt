@@ -3,5 +3,3 @@ pub mod Placed
 pub mod Found
 pub mod Created
 pub mod NewFiles
-pub mod NamesThere
-pub mod CreateWhole

@@ -3,4 +3,3 @@ pub mod Finding
 pub mod Placing
 pub mod Making
 pub mod Creating
-pub mod Existing

@@ -1,9 +1,7 @@
-//! Files that are made with the entries that name them, over views: MKDIR, SYMLINK and CREATE.
+//! Files that are made with the entries that name them, over views: MKDIR, SYMLINK, and CREATE of a name that isn't there.
 #![tactic(auto)]
 
-mod creating;
 mod directories;
-mod existing;
 mod files;
 mod finding;
 mod inodes;
@@ -12,7 +10,7 @@ mod placing;
 mod stops;
 mod telling;
 
-pub use creating::create;
 pub use directories::mkdir;
 pub use files::create_new;
 pub use links::symlink;
+pub use telling::told_of;

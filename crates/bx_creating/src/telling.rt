@@ -1,4 +1,4 @@
-//! What is told of a new file.
+//! What is told of a file that is made, or whose name is there.
 
 ghost use Rattle.std.specs.Prelude.{◌≡◌, ◌<◌, ◌^◌, IfOk};
 ghost use Rattle.bx_inodes.specs.Inodes.{shown_size};
@@ -16,12 +16,7 @@ use bx_reads::attributes_by;
 use std::alloc::Global;
 
 /// The file handle and the attributes of the file with a handle, by its inode.
-pub(crate) fn told_of(
-    alloc: Global,
-    volume: u64,
-    handle: u64,
-    inode: &Inode,
-) -> Result<Reply, OutOfMemory>
+pub fn told_of(alloc: Global, volume: u64, handle: u64, inode: &Inode) -> Result<Reply, OutOfMemory>
     ensures { (tree : Tree) (body : Body) → tree.volume ≡ volume → size_of body ≡ shown_size inode.now → size_of body < 2 ^ 31
         → IfOk result (λ reply. reply ≡ handle_reply tree (file_of inode.now handle body)) }
 {

@@ -6,7 +6,7 @@ use Rattle.bx_attempts.proofs.Changing.{changed_gives, making_acts, making_refus
 use Rattle.bx_attempts.proofs.Fairness.{changed_fair, fair_over, refused_fair}
 use Rattle.bx_attempts.specs.Paths.{ChangePathOf}
 use Rattle.bx_changes.specs.Growing.{IsMaking}
-use Rattle.bx_creating.specs.Existing.{OnCreate}
+use Rattle.bx_create.specs.Creating.{OnCreate}
 use Rattle.bx_model.specs.Making.{create}
 use Rattle.bx_model.specs.declared.call.Args.{Args}
 use Rattle.bx_model.specs.declared.reply.Reply.{Reply}
@@ -44,5 +44,5 @@ returns-in-Err-clause-fair g c =
     let held = g.V.View.held a.view.now in
     let hints = g.V.View.hints a.view.now in
     IfOk-weaker c.refused.result _ _
-    (λ attempt is. fair_over a.areas held (OnCreate held hints a.volume a.areas a.at.now a.name.now) (ChangePathOf held hints a.volume a.areas a.call.now.procedure a.call.now.args) (λ block mode on. subst (λ (args : Args). ChangePathOf held hints a.volume a.areas a.call.now.procedure args block mode) (sym c.requires.args) (inr (c.requires.procedure, on))) attempt
-    (refused_fair a.xid a.areas held (OnCreate held hints a.volume a.areas a.at.now a.name.now) attempt c.in-Err.error c.in-Err.ensures.need c.in-Err.ensures.first is)) c.refused.ensures
+    (λ attempt is. fair_over a.areas held (OnCreate held hints a.volume a.areas a.at.now a.name.now a.sattr.now.size) (ChangePathOf held hints a.volume a.areas a.call.now.procedure a.call.now.args) (λ block mode on. subst (λ (args : Args). ChangePathOf held hints a.volume a.areas a.call.now.procedure args block mode) (sym c.requires.args) (inr (c.requires.procedure, on))) attempt
+    (refused_fair a.xid a.areas held (OnCreate held hints a.volume a.areas a.at.now a.name.now a.sattr.now.size) attempt c.in-Err.error c.in-Err.ensures.need c.in-Err.ensures.first is)) c.refused.ensures

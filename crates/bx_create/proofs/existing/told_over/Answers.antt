@@ -3,8 +3,8 @@ use Rattle.bx_inodes.specs.Inodes.{FileAt, IsInodeOf}
 use Rattle.bx_reads.proofs.Told.{over_none, size_fits}
 use Rattle.bx_records.specs.Drafts.{Changed}
 use Rattle.bx_views.specs.Truths.{with_draft}
-use Rattle.bx_creating.proofs.NamesThere.{gives, irregular, not_there}
-use Rattle.bx_creating.proofs.existing.told_over.Goals as goal
+use Rattle.bx_create.proofs.NamesThere.{gives, irregular, not_there}
+use Rattle.bx_create.proofs.existing.told_over.Goals as goal
 
 pub returns-in-Err-clause-step : goal.returns-in-Err-clause-step
 returns-in-Err-clause-step g c = λ truth tree call sattr now same s none.

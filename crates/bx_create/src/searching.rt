@@ -1,34 +1,28 @@
-//! The directory in which CREATE looks for its name, and the file that has it.
+//! The directory in which CREATE looks for its name, and the search for it.
 
-ghost use Rattle.std.specs.Prelude.{◌≡◌, false, ℕ, List, [], IfOk, IfSome};
+ghost use Rattle.std.specs.Prelude.{◌≡◌, ℕ, List, [], IfOk, IfSome};
 ghost use Rattle.bx_base.specs.declared.names.Mode.TheVariants.{Exclusive};
 ghost use Rattle.bx_blink.specs.Walks.{reads_with};
 ghost use Rattle.bx_dirs.specs.Entries.{HasEntries};
 ghost use Rattle.bx_entries.specs.Finding.{IsOwnBlock};
-ghost use Rattle.bx_files.specs.Paths.{IsBlockOf, OnSearch};
+ghost use Rattle.bx_files.specs.Paths.{OnSearch};
 ghost use Rattle.bx_inodes.specs.Heads.{head_of as head_by};
 ghost use Rattle.bx_inodes.specs.Inodes.{LiveAt};
-ghost use Rattle.bx_inodes.specs.Stands.{Stands};
 ghost use Rattle.bx_inodes.specs.Stops.{NeedsOn, NeverInner};
-ghost use Rattle.bx_model.specs.declared.call.Call.{Call as Caller};
 ghost use Rattle.bx_model.specs.declared.tree.Tree.{Tree};
-ghost use Rattle.bx_model.specs.Making.{create_over};
 ghost use Rattle.bx_tree_files.specs.declared.file.Name.{Name};
-ghost use Rattle.bx_tree_files.specs.declared.sattr.Sattr.{Sattr};
-ghost use Rattle.bx_tree_files.specs.Times.{Time, is_given};
 ghost use Rattle.bx_truth.specs.Keys.{name_key};
 ghost use Rattle.bx_truth.specs.Stands.{StandsFor};
 ghost use Rattle.bx_views.specs.Truths.{IsTruth, Truth};
-ghost use Rattle.bx_creating.specs.Existing.{FindsEntry, FoundIn, GivesIn, SearchedFor, search_error as search_error_of};
+ghost use Rattle.bx_create.specs.Searching.{FindsEntry, FoundIn, SearchedFor, search_error as search_error_of};
 
-use crate::telling::told_of;
 use bx_base::{Mode, OutOfMemory};
 use bx_entries::entry_for;
 use bx_inodes::{Stop, head_of, inode_at};
 use bx_layout::Inode;
-use bx_model::{ACCES, Call, EXIST, NOENT, NOTDIR, Reply, Want, may};
+use bx_model::{ACCES, Call, NOENT, NOTDIR, Want, may};
 use bx_records::Draft;
-use bx_tree_files::{DIRECTORY, REGULAR, is_bad};
+use bx_tree_files::{DIRECTORY, is_bad};
 use bx_views::View;
 use std::alloc::Global;
 
@@ -109,36 +103,5 @@ pub(crate) fn found_in<V: View>(
             Err(Stop::Status(status))
         }
         Err(stop) => Err(stop),
-    }
-}
-
-/// What CREATE without a size tells of the file with a handle, which has the name.
-///
-/// `Need` names the block of its inode, shared, which isn't held then. The status is `STALE`, exactly where there is no such file, else `EXIST` where it
-/// isn't regular.
-pub(crate) fn told_over<V: View>(
-    alloc: Global,
-    volume: u64,
-    areas: u16,
-    handle: u64,
-    view: &V,
-) -> Result<Reply, Stop>
-    ensures step { (truth : Truth) (tree : Tree) (call : Caller) (sattr : Sattr) (now : Time) → IsTruth (V.held view.now) truth → Stands volume areas truth tree → is_given sattr.size ≡ false
-        → GivesIn tree (create_over tree call handle sattr now) result }
-    ensures need { NeedsOn areas (V.held view.now) (IsBlockOf handle) result }
-    ensures inner { NeverInner result }
-{
-    let none = Draft::new(alloc);
-    match inode_at(alloc, &none, view, areas, handle, Mode::Shared) {
-        Err(stop) => Err(stop),
-        Ok(inode) => {
-            if inode.kind != REGULAR {
-                return Err(Stop::Status(EXIST));
-            }
-            match told_of(alloc, volume, handle, &inode) {
-                Err(_) => Err(Stop::OutOfMemory),
-                Ok(reply) => Ok(reply),
-            }
-        }
     }
 }

@@ -1,9 +1,5 @@
-use Rattle.std.proofs.Common.{List, sym, subst}
-use Rattle.bx_hints.specs.Fitting.{HintsFitAll}
-use Rattle.bx_records.specs.Drafts.{Changed}
-use Rattle.bx_views.specs.Truths.{with_draft}
-use Rattle.bx_creating.proofs.CreateWhole.{list, made_new, not_searched, not_told, tells, without}
-use Rattle.bx_creating.proofs.creating.create_in.Goals as goal
+use Rattle.bx_create.proofs.CreateWhole.{list, made_new, not_over, not_searched, over, without}
+use Rattle.bx_create.proofs.creating.create_in.Goals as goal
 
 pub returns-in-Err-clause-step : goal.returns-in-Err-clause-step
 returns-in-Err-clause-step g c = λ truth tree s.
@@ -24,19 +20,19 @@ returns-in-None-clause-hints g c = λ other truth tree s fit.
     (without c.args.volume c.args.areas (g.V.View.held c.args.view.now) (g.V.View.hints c.args.view.now) truth tree c.args.directory.handle c.args.directory.inode c.args.name.now s c.args.call.now c.args.sattr.now c.args.now
     ((rw c.in-None.is at c.in-Ok.ensures.list) truth l.names l.entries)) fit
 
-pub returns-in-Err-told_over-clause-step : goal.returns-in-Err-told_over-clause-step
-returns-in-Err-told_over-clause-step g c = λ truth tree s.
+pub returns-in-Err-create_over-clause-step : goal.returns-in-Err-create_over-clause-step
+returns-in-Err-create_over-clause-step g c = λ truth tree s.
     let l = list c.args.volume c.args.areas (g.V.View.held c.args.view.now) (g.V.View.hints c.args.view.now) truth tree c.args.directory.handle c.args.directory.inode c.args.name.now s c.args.call.now c.args.sattr.now c.args.now in
-    not_told c.args.volume c.args.areas (g.V.View.held c.args.view.now) (g.V.View.hints c.args.view.now) truth tree c.args.directory.handle c.args.directory.inode c.args.name.now s c.args.call.now c.args.sattr.now c.args.now c.in-Some.handle
-    ((rw c.in-Some.is at c.in-Ok.ensures.list) truth l.names l.entries) c.in-Err-told_over.stop
-    (c.in-Err-told_over.ensures.step truth tree c.args.call.now c.args.sattr.now c.args.now s.directory.same s.directory.stands c.requires.size)
+    not_over c.args.volume c.args.areas (g.V.View.held c.args.view.now) (g.V.View.hints c.args.view.now) truth tree c.args.directory.handle c.args.directory.inode c.args.name.now s c.args.call.now c.args.sattr.now c.args.now c.in-Some.handle
+    ((rw c.in-Some.is at c.in-Ok.ensures.list) truth l.names l.entries) c.in-Err-create_over.stop
+    (c.in-Err-create_over.ensures.step truth tree s.directory.few s.directory.same s.directory.stands s.directory.fit)
 
 pub returns-clause-step : goal.returns-clause-step
 returns-clause-step g c = λ truth tree s.
     let l = list c.args.volume c.args.areas (g.V.View.held c.args.view.now) (g.V.View.hints c.args.view.now) truth tree c.args.directory.handle c.args.directory.inode c.args.name.now s c.args.call.now c.args.sattr.now c.args.now in
-    tells c.args.volume c.args.areas (g.V.View.held c.args.view.now) (g.V.View.hints c.args.view.now) truth tree c.args.directory.handle c.args.directory.inode c.args.name.now s c.args.call.now c.args.sattr.now c.args.now c.in-Some.handle
-    ((rw c.in-Some.is at c.in-Ok.ensures.list) truth l.names l.entries) _ c.in-Ok-told_over.reply c.new.ensures
-    (c.in-Ok-told_over.ensures.step truth tree c.args.call.now c.args.sattr.now c.args.now s.directory.same s.directory.stands c.requires.size)
+    over c.args.volume c.args.areas (g.V.View.held c.args.view.now) (g.V.View.hints c.args.view.now) truth tree c.args.directory.handle c.args.directory.inode c.args.name.now s c.args.call.now c.args.sattr.now c.args.now c.in-Some.handle
+    ((rw c.in-Some.is at c.in-Ok.ensures.list) truth l.names l.entries) c.in-Ok-create_over.draft c.in-Ok-create_over.reply
+    (c.in-Ok-create_over.ensures.step truth tree s.directory.few s.directory.same s.directory.stands s.directory.fit)
 
 pub returns-clause-hints : goal.returns-clause-hints
-returns-clause-hints g c = λ other truth tree s fit. subst (λ (d : List Changed). HintsFitAll c.args.areas other (with_draft truth d)) (sym c.new.ensures) fit
+returns-clause-hints g c = λ other truth tree s fit. c.in-Ok-create_over.ensures.hints other truth tree s.directory.few s.directory.same s.directory.stands s.directory.fit fit

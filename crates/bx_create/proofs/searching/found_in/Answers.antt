@@ -1,4 +1,4 @@
-use Rattle.bx_creating.proofs.existing.found_in.Goals as goal
+use Rattle.bx_create.proofs.searching.found_in.Goals as goal
 
 pub returns-in-Ok-clause-list : goal.returns-in-Ok-clause-list
 returns-in-Ok-clause-list g c = λ truth names has. record { number = c.in-Ok.entry.0; is = c.in-Ok.ensures.list truth names has }

@@ -1,5 +1,5 @@
 -- What CREATE comes to, from the directory on.
-use Rattle.std.proofs.Common.{◌≡◌, ℕ, ◌≤◌, eqb-true, List, [], Option, Some, None, refl, sym, ap, ◌∙◌, subst}
+use Rattle.std.proofs.Common.{◌≡◌, ℕ, ◌≤◌, eqb-true, List, Option, Some, None, refl, sym, ap, ◌∙◌, subst}
 use Rattle.std.specs.Prelude.{Result, Ok, Err}
 use Rattle.bx_changes.specs.Growing.{IsMaking, Makes}
 use Rattle.bx_changes.specs.declared.error.ChangeError.{ChangeError}
@@ -30,8 +30,9 @@ use Rattle.bx_tree_files.specs.Names.{names_of}
 use Rattle.bx_tree_files.specs.Times.{Time}
 use Rattle.bx_views.specs.Truths.{Held, Hints, IsTruth, Truth}
 use Rattle.bx_creating.specs.Creating.{IsWithout}
-use Rattle.bx_creating.specs.Existing.{FoundIn, GivesIn, IsSearched, MaySearch, SearchedFor, searchable}
-use Rattle.bx_creating.proofs.NamesThere.{is_a_directory, is_good, searches}
+use Rattle.bx_create.specs.Existing.{ComesOver}
+use Rattle.bx_create.specs.Searching.{FoundIn, IsSearched, MaySearch, SearchedFor, searchable}
+use Rattle.bx_create.proofs.NamesThere.{is_a_directory, is_good, searches}
 
 abbrev Made : Type 0
 Made = Result (List Changed × Reply × ℕ) ChangeError
@@ -70,18 +71,16 @@ module _ (volume areas : ℕ) (held : Held) (hints : Hints) (truth : Truth) (tre
     found_is : entry_named (names_of s.directory.at.file.body) name ≡ Some (record { number = there.number; name = name; handle = found })
     found_is = same_names ∙ there.is
 
-    pub not_told : (stop : Stop) → GivesIn tree (create_over tree call found sattr now) (Err stop)
+    pub not_over : (stop : Stop) → ComesOver volume areas truth tree (create_over tree call found sattr now) (Err stop)
         → IsMaking volume areas truth tree (λ spare. create_at tree call s.directory.at.file name sattr now spare (entry_named (names_of s.directory.at.file.body) name)) (Err (Stopped stop))
-    not_told (Status status) e = ap (λ (o : Option Name). by_entry o 8) found_is ∙ e
-    not_told (Need at mode) e = tt
-    not_told (Inner blocks) never = absurd never
-    not_told OutOfMemory e = tt
+    not_over (Status status) e = ap (λ (o : Option Name). by_entry o 8) found_is ∙ e
+    not_over (Need at mode) e = tt
+    not_over (Inner blocks) leaves = leaves
+    not_over OutOfMemory e = tt
 
-    pub tells : (draft : List Changed) (reply : Reply) → draft ≡ [] → GivesIn tree (create_over tree call found sattr now) (Ok reply)
+    pub over : (draft : List Changed) (reply : Reply) → Makes volume areas truth tree (create_over tree call found sattr now) draft reply 0
         → Makes volume areas truth tree (create_at tree call s.directory.at.file name sattr now 8 (entry_named (names_of s.directory.at.file.body) name)) draft reply 0
-    tells draft reply empty e =
-        subst (λ (d : List Changed). Makes volume areas truth tree (create_at tree call s.directory.at.file name sattr now 8 (entry_named (names_of s.directory.at.file.body) name)) d reply 0) (sym empty)
-        (record { next = tree; comes_to = ap (taken tree 0) (ap (λ (o : Option Name). by_entry o 8) found_is ∙ e); stands = s.directory.stands })
+    over draft reply m = record { next = m.next; comes_to = ap (taken tree 0) (ap (λ (o : Option Name). by_entry o 8) found_is) ∙ m.comes_to; stands = m.stands }
 
 -- ---- CREATE
 

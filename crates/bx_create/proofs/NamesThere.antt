@@ -1,4 +1,4 @@
--- What CREATE finds: the directory in which it looks for its name, and the file that has it.
+-- What CREATE finds: the directory in which it looks for its name, and the file that has it, which it tells of.
 use Rattle.std.proofs.Common.{◌≡◌, ℕ, Bool, true, false, List, Option, Some, None, refl, sym, ap, ◌∙◌}
 use Rattle.std.specs.Prelude.{◌≢◌, ◌&&◌, not, nat_lt, if◌then◌else◌, Result, Ok, Err}
 use Rattle.bx_inodes.specs.Heads.{head_of}
@@ -26,7 +26,8 @@ use Rattle.bx_tree_files.specs.Times.{Time, is_given}
 use Rattle.bx_truth.specs.Stored.{HasFields}
 use Rattle.bx_truth.proofs.Cases.{eq_false, eq_true}
 use Rattle.bx_views.specs.Truths.{Truth}
-use Rattle.bx_creating.specs.Existing.{GivesIn, SearchedFor, search_error, searchable}
+use Rattle.bx_create.specs.Existing.{GivesIn}
+use Rattle.bx_create.specs.Searching.{SearchedFor, search_error, searchable}
 
 -- ---- the directory
 
@@ -87,6 +88,21 @@ module _ (areas : ℕ) (truth : Truth) (tree : Tree) (call : Call) (name : List 
 
 -- ---- the file that has the name
 
+-- the file of an inode with its fields
+pub of_fields : (inode : Inode) (handle : ℕ) (file : File) → file.handle ≡ handle → HasFields inode file → file_of inode handle file.body ≡ file
+of_fields inode handle file handle_is fields = λ i. record {
+  handle = sym handle_is i;
+  kind = fields.kind i;
+  mode = fields.mode i;
+  nlink = fields.nlink i;
+  uid = fields.uid i;
+  gid = fields.gid i;
+  atime = fields.atime i;
+  mtime = fields.mtime i;
+  ctime = fields.ctime i;
+  body = file.body;
+}
+
 module _ (tree : Tree) (call : Call) (sattr : Sattr) (now : Time) where
   -- what comes of a file by whether it is regular, and whether a size is given
   abbrev with_tests : Bool → Bool → File → Making
@@ -113,23 +129,7 @@ module _ (tree : Tree) (call : Call) (sattr : Sattr) (now : Time) where
       irregular other =
           over_is handle ∙ ap over f.there ∙ ap (λ (r : Bool). with_tests r (is_given sattr.size) f.file) (eq_false f.file.kind 1 (λ one. other (f.fields.kind ∙ one)))
 
-      file_is : file_of inode handle f.file.body ≡ f.file
-      file_is =
-          let fields = f.fields in
-          λ i. record {
-            handle = sym f.handle_is i;
-            kind = fields.kind i;
-            mode = fields.mode i;
-            nlink = fields.nlink i;
-            uid = fields.uid i;
-            gid = fields.gid i;
-            atime = fields.atime i;
-            mtime = fields.mtime i;
-            ctime = fields.ctime i;
-            body = f.file.body;
-          }
-
       pub gives : is_given sattr.size ≡ false → inode.kind ≡ 1 → (reply : Reply) → reply ≡ handle_reply tree (file_of inode handle f.file.body) → create_over tree call handle sattr now ≡ Ok (Gives reply tree)
       gives none one reply told =
           over_is handle ∙ ap over f.there ∙ (λ i. with_tests (eq_true f.file.kind 1 (sym f.fields.kind ∙ one) i) (none i) f.file)
-          ∙ ap (λ (r : Reply). Ok (Gives r tree)) (sym (told ∙ ap (handle_reply tree) file_is))
+          ∙ ap (λ (r : Reply). Ok (Gives r tree)) (sym (told ∙ ap (handle_reply tree) (of_fields inode handle f.file f.handle_is f.fields)))

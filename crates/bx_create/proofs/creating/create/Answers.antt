@@ -1,5 +1,5 @@
-use Rattle.bx_creating.proofs.CreateWhole.{comes, no_directory, no_name, searched}
-use Rattle.bx_creating.proofs.creating.create.Goals as goal
+use Rattle.bx_create.proofs.CreateWhole.{comes, no_directory, no_name, searched}
+use Rattle.bx_create.proofs.creating.create.Goals as goal
 
 pub returns-in_default-clause-step : goal.returns-in_default-clause-step
 returns-in_default-clause-step g c = λ truth tree same s fit. no_name tree c.args.call.now c.args.at.now c.args.name.now c.args.sattr.now c.args.now c.args.volume s.volume_is c.in_default.ensures

@@ -1,29 +1,22 @@
--- CREATE: the directory in which it looks for the name, and what it comes to where an entry has it.
-use Rattle.std.specs.Prelude.{◌≡◌, ℕ, ◌⊎◌, false, not, if◌then◌else◌, List, Option, Some, None, Result, Ok, Err}
-use Rattle.bx_base.specs.declared.names.Mode.{Mode}
-use Rattle.bx_base.specs.declared.names.Mode.TheVariants.{Exclusive}
+-- CREATE: the directory in which it looks for the name, and the search for it.
+use Rattle.std.specs.Prelude.{◌≡◌, ℕ, false, not, if◌then◌else◌, List, Option, Some, None, Result, Ok, Err}
 use Rattle.bx_entries.specs.Finding.{IsDirectoryOf}
-use Rattle.bx_files.specs.Paths.{Finds, IsBlockOf, OnSearch}
+use Rattle.bx_files.specs.Paths.{Finds}
 use Rattle.bx_inodes.specs.Inodes.{IsInodeOf}
-use Rattle.bx_inodes.specs.Stops.{OnInode}
 use Rattle.bx_inodes.specs.declared.stop.Stop.{Stop}
 use Rattle.bx_inodes.specs.declared.stop.Stop.TheVariants.{Need, Inner, Status, OutOfMemory}
 use Rattle.bx_layout.specs.declared.inode.Inode.{Inode}
 use Rattle.bx_model.specs.declared.call.Call.{Call}
 use Rattle.bx_model.specs.declared.permissions.Want.TheVariants as want
-use Rattle.bx_model.specs.declared.reply.Reply.{Reply}
 use Rattle.bx_model.specs.declared.tree.Tree.{Tree}
 use Rattle.bx_model.specs.Permissions.{may}
-use Rattle.bx_model.specs.Steps.{Making, must, refuse, ◌>>=◌, ◌>>◌}
-use Rattle.bx_model.specs.Steps.Step.{Gives}
+use Rattle.bx_model.specs.Steps.{must, refuse, ◌>>=◌, ◌>>◌}
 use Rattle.bx_tree_files.specs.Entries.{entry_named, is_bad}
 use Rattle.bx_tree_files.specs.Files.{file_at, is_directory}
 use Rattle.bx_tree_files.specs.declared.file.File.{File}
 use Rattle.bx_tree_files.specs.declared.file.Name.{Name}
 use Rattle.bx_truth.specs.Keys.{name_key, name_value}
 use Rattle.bx_views.specs.Truths.{Held, Hints, Truth}
-use Rattle.bx_creating.specs.Finding.{IsHeldAt}
-use Rattle.bx_creating.specs.Placing.{OnPlacing}
 
 -- ---- the directory
 
@@ -77,35 +70,3 @@ FoundIn names name (Err OutOfMemory) = Unit {0}
 pub record FindsEntry (held : Held) (hints : Hints) (root : ℕ) (name : List ℕ) (handle : ℕ) : Type 0 where
   pub number : ℕ
   pub found : Finds held hints root (name_key name) (Some (name_value number handle))
-
--- what is answered where the call gives a reply and leaves the tree
-abbrev pub GivesIn : Tree → Making → Result Reply Stop → Type 0
-GivesIn tree making (Ok reply) = making ≡ Ok (Gives reply tree)
-GivesIn tree making (Err (Status status)) = making ≡ Err status
-GivesIn tree making (Err (Need at mode)) = Unit {0}
-GivesIn tree making (Err (Inner blocks)) = ⊥
-GivesIn tree making (Err OutOfMemory) = Unit {0}
-
--- ---- the path
-
--- the block of the inode of the file that has the name, shared
-pub record OnOver (held : Held) (hints : Hints) (root : ℕ) (name : List ℕ) (at : ℕ) (mode : Mode) : Type 0 where
-  pub handle : ℕ
-  pub finds : FindsEntry held hints root name handle
-  pub on : IsBlockOf handle at mode
-
--- from a directory on by its inode: the search for the name; the file that has it, or that of placing the new file
-abbrev pub OnNamed : ℕ → Held → Hints → ℕ → Inode → List ℕ → ℕ → Mode → Type 0
-OnNamed areas held hints handle inode name at mode =
-    OnSearch held hints inode.tree (name_key name) at mode ⊎ (OnOver held hints inode.tree name at mode ⊎ OnPlacing areas held hints handle inode name at mode)
-
--- from the directory that the call names, and that is held, on
-pub record OnDirectory (held : Held) (hints : Hints) (volume areas : ℕ) (bytes name : List ℕ) (at : ℕ) (mode : Mode) : Type 0 where
-  pub handle : ℕ
-  pub inode : Inode
-  pub is : IsHeldAt held hints volume areas bytes handle inode
-  pub on : OnNamed areas held hints handle inode name at mode
-
--- The path of CREATE: the block of the directory's inode, exclusively, and that from there on.
-abbrev pub OnCreate : Held → Hints → ℕ → ℕ → List ℕ → List ℕ → ℕ → Mode → Type 0
-OnCreate held hints volume areas bytes name at mode = OnInode volume bytes Exclusive at mode ⊎ OnDirectory held hints volume areas bytes name at mode

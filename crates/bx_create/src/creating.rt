@@ -1,6 +1,6 @@
 //! CREATE.
 
-ghost use Rattle.std.specs.Prelude.{◌≡◌, ◌≤◌, false, ℕ, [], length, IfErr, IfOk};
+ghost use Rattle.std.specs.Prelude.{◌≡◌, ◌≤◌, ℕ, [], length, IfErr, IfOk};
 ghost use Rattle.bx_base.specs.declared.names.Mode.TheVariants.{Exclusive};
 ghost use Rattle.bx_blink.specs.Walks.{reads_with};
 ghost use Rattle.bx_changes.specs.Growing.{HoldsFirst, IsMaking, NeedsBy};
@@ -11,14 +11,15 @@ ghost use Rattle.bx_model.specs.declared.tree.Tree.{Tree};
 ghost use Rattle.bx_model.specs.Making.{create as create_of, create_at};
 ghost use Rattle.bx_tree_files.specs.Entries.{entry_named};
 ghost use Rattle.bx_tree_files.specs.Names.{names_of};
-ghost use Rattle.bx_tree_files.specs.Times.{is_given as is_given_word};
 ghost use Rattle.bx_views.specs.Attempts.{IsHeldDraft};
 ghost use Rattle.bx_views.specs.Truths.{Hints, IsTruth, Truth, with_draft};
-ghost use Rattle.bx_creating.specs.Existing.{IsSearched, OnCreate, OnNamed};
+ghost use Rattle.bx_create.specs.Creating.{OnCreate, OnNamed};
+ghost use Rattle.bx_create.specs.Searching.{IsSearched};
 
-use crate::existing::{directory_to_search, found_in, told_over};
-use crate::files::create_new;
+use crate::existing::create_over;
+use crate::searching::{directory_to_search, found_in};
 use bx_changes::ChangeError;
+use bx_creating::create_new;
 use bx_entries::Known;
 use bx_handles::named_handle;
 use bx_inodes::Stop;
@@ -27,14 +28,15 @@ use bx_records::Draft;
 use bx_views::View;
 use std::alloc::Global;
 
-/// CREATE (RFC 1094, section 2.2.10) without a size, of a volume with at most 64 areas: the blocks that it changes, the reply, and the number of the handle
-/// of the file that it makes. Where the name is there, nothing is changed, and the number is 0.
+/// CREATE (RFC 1094, section 2.2.10), of a volume with at most 64 areas: the blocks that it changes, the reply, and the number of the handle of the file
+/// that it makes. Where the name is there, a size that is given is set, and nothing else, and the number is 0.
 ///
 /// `Need` names a block that isn't held: that of the directory's inode, exclusively, or, where that is held, one on the path of the search for the name,
-/// shared; where that finds an entry the block of the inode that it names, shared, else one that `create_new` needs. `Inner` and `Full` come as they do of
-/// `create_new`. The status is `STALE`, exactly where the file handle names no file, else `NOTDIR` where that is no directory, `ACCES` of a bad name and
-/// where the caller may not search it; where the name is there `EXIST`, if the file isn't regular, else as it does of `create_new`. `now` is in seconds and
-/// microseconds.
+/// shared; where that finds an entry, the block of the inode that it names, exclusively where a size is given, else shared, and then with a size one on the
+/// path of clearing bytes that were cut; where it finds none, one that `create_new` needs. `Inner` clears such bytes, over which the file would grow, or comes
+/// as `Full` does of `create_new`. The status is `STALE`, exactly where the file handle names no file, else `NOTDIR` where that is no directory, `ACCES` of a
+/// bad name and where the caller may not search it; where the name is there `EXIST`, if the file isn't regular, and with a size `ACCES` and `FBIG`; else as it
+/// does of `create_new`. `now` is in seconds and microseconds.
 pub fn create<V: View>(
     alloc: Global,
     volume: u64,
@@ -48,12 +50,11 @@ pub fn create<V: View>(
 ) -> Result<(Draft, Reply, u64), ChangeError>
     requires areas { areas ≤ 64 }
     requires name { length name.now ≤ 255 }
-    requires size { is_given_word sattr.now.size ≡ false }
     ensures step { (truth : Truth) (tree : Tree) → IsTruth (V.held view.now) truth → Stands volume areas truth tree → HintsFitAll areas (V.hints view.now) truth
         → IsMaking volume areas truth tree (create_of tree call.now at.now name.now sattr.now now) result }
     ensures hints { (hints : Hints) (truth : Truth) (tree : Tree) → IsTruth (V.held view.now) truth → Stands volume areas truth tree → HintsFitAll areas (V.hints view.now) truth
         → HintsFitAll areas hints truth → IfOk result (λ made. HintsFitAll areas hints (with_draft truth made.0)) }
-    ensures need { IfErr result (NeedsBy areas (V.held view.now) (OnCreate (V.held view.now) (V.hints view.now) volume areas at.now name.now)) }
+    ensures need { IfErr result (NeedsBy areas (V.held view.now) (OnCreate (V.held view.now) (V.hints view.now) volume areas at.now name.now sattr.now.size)) }
     ensures first { IfErr result (HoldsFirst (V.held view.now)) }
     ensures held { IfOk result (λ made. IsHeldDraft (V.held view.now) made.0) }
 {
@@ -85,12 +86,11 @@ fn create_in<V: View>(
 ) -> Result<(Draft, Reply, u64), ChangeError>
     requires live { LiveAt (reads_with (V.held view.now) (V.hints view.now) []) areas directory.handle Exclusive directory.inode }
     requires name { length name.now ≤ 255 }
-    requires size { is_given_word sattr.now.size ≡ false }
     ensures step { (truth : Truth) (tree : Tree) → (is : IsSearched volume areas (V.held view.now) (V.hints view.now) truth tree directory.handle directory.inode name.now)
         → IsMaking volume areas truth tree (λ spare. create_at tree call.now is.directory.at.file name.now sattr.now now spare (entry_named (names_of is.directory.at.file.body) name.now)) result }
     ensures hints { (hints : Hints) (truth : Truth) (tree : Tree) → IsSearched volume areas (V.held view.now) (V.hints view.now) truth tree directory.handle directory.inode name.now
         → HintsFitAll areas hints truth → IfOk result (λ made. HintsFitAll areas hints (with_draft truth made.0)) }
-    ensures need { IfErr result (NeedsBy areas (V.held view.now) (OnNamed areas (V.held view.now) (V.hints view.now) directory.handle directory.inode name.now)) }
+    ensures need { IfErr result (NeedsBy areas (V.held view.now) (OnNamed areas (V.held view.now) (V.hints view.now) directory.handle directory.inode name.now sattr.now.size)) }
     ensures first { IfErr result (HoldsFirst (V.held view.now)) }
     ensures held { IfOk result (λ made. IsHeldDraft (V.held view.now) made.0) }
 {
@@ -100,9 +100,11 @@ fn create_in<V: View>(
             None => create_new(
                 alloc, volume, areas, call, directory, name, sattr, now, view,
             ),
-            Some(handle) => match told_over(alloc, volume, areas, handle, view) {
+            Some(handle) => match create_over(
+                alloc, volume, areas, call, handle, sattr, now, view,
+            ) {
                 Err(stop) => Err(ChangeError::Stopped(stop)),
-                Ok(reply) => Ok((Draft::new(alloc), reply, 0)),
+                Ok((draft, reply)) => Ok((draft, reply, 0)),
             },
         },
     }

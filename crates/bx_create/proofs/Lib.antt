@@ -1,0 +1,3 @@
+pub mod NamesThere
+pub mod SizeSet
+pub mod CreateWhole

@@ -114,12 +114,7 @@ pub(crate) fn random_call(
         4 | 10 | 15 => bytes_of(alloc, &[&head, &at, &name]),
         6 => bytes_of(alloc, &[&head, &to, &[chance.below(20000), 3000, 0]]),
         8 => bytes_of(alloc, &[&head, &to, &data_words(chance), &[7; 600]]),
-        9 => {
-            let mut sattr = sattr_words(chance);
-            sattr[3] = ALONE;
-            bytes_of(alloc, &[&head, &at, &name, &sattr])
-        }
-        14 => bytes_of(alloc, &[&head, &at, &name, &sattr_words(chance)]),
+        9 | 14 => bytes_of(alloc, &[&head, &at, &name, &sattr_words(chance)]),
         11 => bytes_of(alloc, &[&head, &at, &name, &to, &other]),
         12 => bytes_of(alloc, &[&head, &to, &at, &name]),
         13 => bytes_of(alloc, &[&head, &at, &name, &name, &sattr_words(chance)]),

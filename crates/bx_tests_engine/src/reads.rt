@@ -2,8 +2,8 @@
 
 use bx_base::Mode;
 use bx_tests_desk::{
-    Desk, GONE, LINK, MODE, MODE_AND_SIZE, ROOT, attempt, bytes_of, is_answer, is_answered,
-    is_needed, is_space, nobody,
+    Desk, GONE, LINK, MODE, ROOT, attempt, bytes_of, is_answer, is_answered, is_needed, is_space,
+    nobody,
 };
 use std::alloc::Global;
 use std::test::Fail;
@@ -162,21 +162,20 @@ fn other_datagrams_are_passed_over(rt: HostRuntime) -> Result<(), Fail> {
     let alloc = rt.alloc();
     let mut desk = Desk::new(alloc);
     desk.hold(alloc, 0)?;
-    // CREATE of `a` with a size, RENAME of `a` to `b`, a reply, and a word
-    let name = [1, 0x61000000];
-    let other = [1, 0x62000000];
-    let sized = is_passed_over(
-        alloc,
-        &desk,
-        &[&nobody(1, 9), &ROOT, &name, &MODE_AND_SIZE],
-    );
+    // RENAME of `a` to `b`, a reply, and a word
     let name = is_passed_over(
         alloc,
         &desk,
-        &[&nobody(1, 11), &ROOT, &name, &ROOT, &other],
+        &[
+            &nobody(1, 11),
+            &ROOT,
+            &[1, 0x61000000],
+            &ROOT,
+            &[1, 0x62000000],
+        ],
     );
     let reply = is_passed_over(alloc, &desk, &[&[1, 1, 0, 0, 0, 0]]);
     let word = is_passed_over(alloc, &desk, &[&[1]]);
-    assert!(rt; sized && name && reply && word);
+    assert!(rt; name && reply && word);
     Ok(())
 }

@@ -1,7 +1,7 @@
 -- A change that a procedure comes to is one step of the tree, and so is why it isn't made.
-use Rattle.std.proofs.Common.{◌≡◌, ℕ, ◌≤◌, ◌<◌, ◌^◌, false, true, List, [], ◌∷◌, Option, Some, refl, sym, ap, ◌∙◌, subst, inl, inr, arith, lit≤}
-use Rattle.std.specs.Prelude.{◌⊎◌, Result, Ok, Err}
-use Rattle.bx_attempts.specs.Replies.{IsChanged, IsRefused, IsStopped, done_making, done_of, done_with}
+use Rattle.std.proofs.Common.{◌≡◌, ℕ, ◌≤◌, ◌<◌, ◌^◌, false, true, List, [], ◌∷◌, Some, refl, sym, ap, ◌∙◌, subst, inl, inr, arith, lit≤}
+use Rattle.std.specs.Prelude.{◌⊎◌, Err}
+use Rattle.bx_attempts.specs.Replies.{IsChanged, IsRefused, done_with}
 use Rattle.bx_attempts.specs.Steps.{StandsWith, Step}
 use Rattle.bx_changes.specs.Changes.{Changes, IsChange}
 use Rattle.bx_changes.specs.Growing.{IsChangeBy, IsMaking, IsNearlyFull, LeavesTrees, Makes}
@@ -24,7 +24,7 @@ use Rattle.bx_nfs.specs.Wire.{ReadsAs, reply_text}
 use Rattle.bx_records.specs.Drafts.{Changed}
 use Rattle.bx_sizes.specs.Answers.{IsChangeOr}
 use Rattle.bx_views.specs.declared.attempt.Attempt.{Attempt}
-use Rattle.bx_views.specs.declared.attempt.Attempt.TheVariants.{Need, Change, Inner, Answer}
+use Rattle.bx_views.specs.declared.attempt.Attempt.TheVariants.{Answer}
 use Rattle.bx_views.specs.declared.attempt.Done.{Done}
 use Rattle.bx_views.specs.Attempts.{Acts, Gives, TellsSpare, deed_of}
 use Rattle.bx_views.specs.Truths.{Hints, Truth, with_draft}

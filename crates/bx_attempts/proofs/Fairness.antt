@@ -1,6 +1,6 @@
 -- A change that isn't made needs what is on the path, and what is written is held.
-use Rattle.std.proofs.Common.{◌≡◌, ◌≢◌, ℕ, true, List, [], ◌∷◌, Contains, None, refl, sym, subst, inl, inr, arith}
-use Rattle.std.specs.Prelude.{◌⊎◌, Result, Err}
+use Rattle.std.proofs.Common.{◌≡◌, ℕ, true, List, [], ◌∷◌, Contains, None, sym, subst, inl, inr, arith}
+use Rattle.std.specs.Prelude.{◌⊎◌, Err}
 use Rattle.std.proofs.lemmas.List.Elements.{Contains-push_cases}
 use Rattle.bx_attempts.specs.Replies.{IsChanged, IsRefused, IsStopped}
 use Rattle.bx_base.specs.declared.names.Mode.{Mode}

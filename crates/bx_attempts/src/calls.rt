@@ -105,7 +105,17 @@ pub fn change<V: View>(
 {
     match &call.args {
         Args::Set(at, sattr) => {
-            setattr(alloc, volume, areas, xid, call, at.bytes(), sattr, moment, view)
+            setattr(
+                alloc,
+                volume,
+                areas,
+                xid,
+                call,
+                at.bytes(),
+                sattr,
+                moment,
+                view,
+            )
         }
         Args::Write(at, _, offset, _, written) => {
             let (at, written) = (at.bytes(), written.bytes());
@@ -121,18 +131,26 @@ pub fn change<V: View>(
         }
         Args::Link(from, at, name) => {
             let (from, at, name) = (from.bytes(), at.bytes(), name.bytes());
-            link(alloc, volume, areas, xid, call, from, at, name, moment, view)
+            link(
+                alloc, volume, areas, xid, call, from, at, name, moment, view,
+            )
         }
         Args::Symlink(at, name, path, sattr) => {
             let (at, name, path) = (at.bytes(), name.bytes(), path.bytes());
-            symlink(alloc, volume, areas, xid, call, at, name, path, sattr, moment, view)
+            symlink(
+                alloc, volume, areas, xid, call, at, name, path, sattr, moment, view,
+            )
         }
         Args::Make(at, name, sattr) => {
             let (at, name) = (at.bytes(), name.bytes());
             if call.procedure == MKDIR {
-                mkdir(alloc, volume, areas, xid, call, at, name, sattr, moment, view)
+                mkdir(
+                    alloc, volume, areas, xid, call, at, name, sattr, moment, view,
+                )
             } else {
-                create(alloc, volume, areas, xid, call, at, name, sattr, moment, view)
+                create(
+                    alloc, volume, areas, xid, call, at, name, sattr, moment, view,
+                )
             }
         }
         _ => unreachable!(),

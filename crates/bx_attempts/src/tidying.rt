@@ -17,12 +17,7 @@ use std::alloc::Global;
 
 /// Attempts a step of cleaning an area, of a volume with so many areas, at most 64: `bx_clean::tidy`, as an attempt. Where the area is clean it
 /// is an answer without bytes.
-pub fn tidy<V: View>(
-    alloc: Global,
-    areas: u16,
-    area: u16,
-    view: &V,
-) -> Result<Attempt, OutOfMemory>
+pub fn tidy<V: View>(alloc: Global, areas: u16, area: u16, view: &V) -> Result<Attempt, OutOfMemory>
     requires area { area < areas }
     requires few { areas ≤ 64 }
     ensures gives { (volume : ℕ) (truth : Truth) (tree : Tree) → IsTruth (V.held view.now) truth → StandsWith volume areas truth (V.hints view.now) tree

@@ -108,6 +108,20 @@ impl Desk {
         Ok(())
     }
 
+    /// Holds blocks of a regular file with a mode, by their slots, exclusively.
+    pub fn hold_file(
+        &mut self,
+        alloc: Global,
+        slots: Range<u8>,
+        mode: u32,
+    ) -> Result<(), DraftError> {
+        for slot in slots {
+            let block = file_block(alloc, slot, mode)?;
+            self.held.put(u64::from(slot), block)?;
+        }
+        Ok(())
+    }
+
     /// Holds the area's own block, exclusively, with so many slots in use.
     pub fn hold_area(&mut self, alloc: Global, slots: usize) -> Result<(), DraftError> {
         let mut bytes = [0; 4096];

@@ -2,6 +2,8 @@
 #![tactic(auto)]
 
 #[cfg(test)]
+mod creations;
+#[cfg(test)]
 mod directories;
 #[cfg(test)]
 mod random;

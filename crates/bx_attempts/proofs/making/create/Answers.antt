@@ -1,5 +1,5 @@
-use Rattle.std.proofs.Common.{ℕ, List, subst, sym, inl, inr}
-use Rattle.std.specs.Prelude.{Err, IfOk}
+use Rattle.std.proofs.Common.{ℕ, subst, sym, inr}
+use Rattle.std.specs.Prelude.{Err}
 use Rattle.std.proofs.lemmas.Result.{IfOk-weaker}
 use Rattle.bx_attempts.proofs.Acting.{create_acts}
 use Rattle.bx_attempts.proofs.Changing.{changed_gives, making_acts, making_refuses, refused_gives}
@@ -9,8 +9,6 @@ use Rattle.bx_changes.specs.Growing.{IsMaking}
 use Rattle.bx_create.specs.Existing.{OnCreate}
 use Rattle.bx_model.specs.Making.{create}
 use Rattle.bx_model.specs.declared.call.Args.{Args}
-use Rattle.bx_model.specs.declared.reply.Reply.{Reply}
-use Rattle.bx_records.specs.Drafts.{Changed}
 use Rattle.bx_tree_files.specs.Times.{Time, time_of}
 use Rattle.bx_attempts.proofs.making.create.Goals as goal
 

@@ -1,5 +1,5 @@
-use Rattle.std.proofs.Common.{ℕ, List, subst, sym, inl, inr}
-use Rattle.std.specs.Prelude.{Err, IfOk}
+use Rattle.std.proofs.Common.{ℕ, subst, sym}
+use Rattle.std.specs.Prelude.{Err}
 use Rattle.std.proofs.lemmas.Result.{IfOk-weaker}
 use Rattle.bx_attempts.proofs.Acting.{link_acts}
 use Rattle.bx_attempts.proofs.Changing.{change_by_acts, changed_gives, error_refuses, refused_gives}
@@ -9,8 +9,6 @@ use Rattle.bx_changes.specs.Growing.{IsChangeBy}
 use Rattle.bx_linking.specs.Linking.{OnLink}
 use Rattle.bx_model.specs.Making.{link}
 use Rattle.bx_model.specs.declared.call.Args.{Args}
-use Rattle.bx_model.specs.declared.reply.Reply.{Reply}
-use Rattle.bx_records.specs.Drafts.{Changed}
 use Rattle.bx_tree_files.specs.Times.{Time, time_of}
 use Rattle.bx_attempts.proofs.naming.link.Goals as goal
 

@@ -1,5 +1,5 @@
-use Rattle.std.proofs.Common.{ℕ, List, subst, sym, inl, inr}
-use Rattle.std.specs.Prelude.{Err, IfOk}
+use Rattle.std.proofs.Common.{List, subst, sym, inr}
+use Rattle.std.specs.Prelude.{Err}
 use Rattle.std.proofs.lemmas.Result.{IfOk-weaker}
 use Rattle.bx_attempts.proofs.Acting.{rmdir_acts}
 use Rattle.bx_attempts.proofs.Changing.{change_acts, changed_gives, refused_gives, stop_refuses}

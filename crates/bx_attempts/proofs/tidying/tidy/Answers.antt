@@ -1,5 +1,4 @@
-use Rattle.std.proofs.Common.{ℕ, refl, subst, sym}
-use Rattle.std.specs.Prelude.{IfOk}
+use Rattle.std.proofs.Common.{refl, subst, sym}
 use Rattle.std.proofs.lemmas.Result.{IfOk-weaker}
 use Rattle.bx_attempts.proofs.Fairness.{inner_fair}
 use Rattle.bx_attempts.specs.Steps.{StandsWith}

@@ -119,7 +119,9 @@ pub fn change<V: View>(
         }
         Args::Write(at, _, offset, _, written) => {
             let (at, written) = (at.bytes(), written.bytes());
-            write(alloc, volume, areas, xid, call, at, *offset, written, moment, view)
+            write(
+                alloc, volume, areas, xid, call, at, *offset, written, moment, view,
+            )
         }
         Args::Name(at, name) => {
             let (at, name) = (at.bytes(), name.bytes());

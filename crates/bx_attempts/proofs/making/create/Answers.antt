@@ -6,7 +6,7 @@ use Rattle.bx_attempts.proofs.Changing.{changed_gives, making_acts, making_refus
 use Rattle.bx_attempts.proofs.Fairness.{changed_fair, fair_over, refused_fair}
 use Rattle.bx_attempts.specs.Paths.{ChangePathOf}
 use Rattle.bx_changes.specs.Growing.{IsMaking}
-use Rattle.bx_create.specs.Existing.{OnCreate}
+use Rattle.bx_create.specs.Creating.{OnCreate}
 use Rattle.bx_model.specs.Making.{create}
 use Rattle.bx_model.specs.declared.call.Args.{Args}
 use Rattle.bx_tree_files.specs.Times.{Time, time_of}

@@ -1,11 +1,11 @@
 -- What RENAME finds in a directory, by the list of its entries.
-use Rattle.std.proofs.Common.{◌≡◌, ℕ, List, [], Option, Some, None, refl, sym, ap, ◌∙◌, subst}
-use Rattle.std.specs.Prelude.{Result, Ok, Err}
+use Rattle.std.proofs.Common.{◌≡◌, ℕ, List, [], Option, Some, None, sym, ap, ◌∙◌, subst}
+use Rattle.std.specs.Prelude.{Ok, Err}
 use Rattle.bx_dirs.specs.Entries.{HasEntries}
 use Rattle.bx_entries.specs.declared.finding.Removable.TheVariants as of
 use Rattle.bx_entries.specs.Finding.{EntryFor, IsDirectoryOf}
 use Rattle.bx_entries.proofs.RemovedFrom.{IsListed, listed}
-use Rattle.bx_inodes.specs.Inodes.{FileAt, IsInodeOf}
+use Rattle.bx_inodes.specs.Inodes.{FileAt}
 use Rattle.bx_inodes.specs.declared.stop.Stop.{Stop}
 use Rattle.bx_inodes.specs.declared.stop.Stop.TheVariants.{Need, Inner, Status, OutOfMemory}
 use Rattle.bx_layout.specs.declared.inode.Inode.{Inode}
@@ -20,7 +20,7 @@ use Rattle.bx_tree_files.specs.Entries.{entry_named}
 use Rattle.bx_tree_files.specs.Files.{file_at}
 use Rattle.bx_tree_files.specs.Names.{names_of}
 use Rattle.bx_views.specs.Truths.{Held, Hints, Truth}
-use Rattle.bx_renaming.specs.Found.{IsMoved, MovedFor, OtherFor}
+use Rattle.bx_renaming.specs.Found.{MovedFor, OtherFor}
 
 module _ (volume areas : ℕ) (held : Held) (hints : Hints) (truth : Truth) (tree : Tree) (handle : ℕ) (inode : Inode) (name : List ℕ) (d : IsDirectoryOf volume areas held hints truth tree handle inode) where
   list : IsListed areas held hints truth inode d.at.file

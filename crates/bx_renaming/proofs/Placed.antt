@@ -21,7 +21,7 @@ use Rattle.bx_tree_files.specs.Files.{file_at, is_directory}
 use Rattle.bx_truth.specs.Stored.{HasFields}
 use Rattle.bx_views.specs.Truths.{Truth}
 use Rattle.bx_renaming.specs.declared.places.Places.{Places}
-use Rattle.bx_renaming.specs.Places.{ArePlaces, PlacesFor, place_error, places_from}
+use Rattle.bx_renaming.specs.Places.{PlacesFor, place_error, places_from}
 
 abbrev or_error : Option ℕ → Result (File × File) ℕ → Result (File × File) ℕ
 or_error (Some status) rest = Err status

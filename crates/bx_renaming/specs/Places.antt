@@ -19,7 +19,7 @@ use Rattle.bx_renaming.specs.declared.places.Places.{Places}
 abbrev pub place_error : Call → List ℕ → List ℕ → File → File → Option ℕ
 place_error call name new_name source target =
     if is_directory source && is_directory target then (if is_bad name || is_bad new_name then Some 13
-        else if may call source want.Change && may call target want.Change then None else Some 13) else Some 20
+    else if may call source want.Change && may call target want.Change then None else Some 13) else Some 20
 
 -- what finding the second directory comes to, where the first file is there: 70 is STALE
 abbrev pub places_from : Call → List ℕ → List ℕ → File → Option File → Result (File × File) ℕ

@@ -1,4 +1,4 @@
-use Rattle.std.proofs.Common.{List, refl, subst}
+use Rattle.std.proofs.Common.{List, subst}
 use Rattle.std.specs.Prelude.{Err}
 use Rattle.bx_inodes.specs.Inodes.{FileAt, IsInodeOf}
 use Rattle.bx_reads.proofs.Told.{over_none}
@@ -22,6 +22,6 @@ returns-in-Err-inode_at-clause-step g c = λ volume truth tree d.
 pub returns-clause-step : goal.returns-clause-step
 returns-clause-step g c = λ volume truth tree d. record {
   found = somebody volume c.args.areas (g.V.View.held c.args.view.now) (g.V.View.hints c.args.view.now) truth tree c.args.directory.now.handle c.args.directory.now.inode c.args.name.now d c.in-Ok-Some.field-0 c.in-Ok-Some.number c.in-Ok-Some.handle c.in-Ok-Some.field-0-is c.in-Ok-Some.ensures.list;
-  at = (subst (λ (d : List Changed). IsInodeOf c.args.areas (with_draft truth d) tree c.in-Ok-Some.handle c.in-Ok-inode_at.inode) c.new-none.ensures
-    (c.in-Ok-inode_at.ensures.tree truth tree d.same (over_none c.args.areas truth tree c.new-none.result c.new-none.ensures d.stands.is)));
+  at = (subst (λ (d : List Changed). IsInodeOf c.args.areas (with_draft truth d) tree c.in-Ok-Some.handle c.in-Ok.inode) c.new-none.ensures
+      (c.in-Ok.ensures.tree truth tree d.same (over_none c.args.areas truth tree c.new-none.result c.new-none.ensures d.stands.is)));
 }

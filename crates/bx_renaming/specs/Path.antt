@@ -40,20 +40,41 @@ pub record OnNamed (held : Held) (hints : Hints) (areas root : ℕ) (name : List
   pub found : Finds held hints root (name_key name) (Some (name_value number handle))
   pub on : IsOwnBlock handle at mode ⊎ ((inode : Inode) × LiveAt (reads_with held hints []) areas handle Exclusive inode × OnBehind held hints inode.tree 0 at mode)
 
--- from both directories on: the two searches, what their entries name, the way up from the target, room for the new name, and the move
+-- where a move meets no error: room for the new name in the directory that it goes to, and the move
+abbrev pub OnEnd : Held → Hints → ℕ → ℕ → ℕ → Inode → List ℕ → List ℕ → ℕ → Mode → Type 0
+OnEnd held hints areas source target other name new_name at mode = OnRoomPath areas held hints other.tree new_name other.next at mode
+    ⊎ ((moving : Moving) × (replaced : Option Replaced) × (moving.source ≡ source) × (moving.target ≡ target) × OnMoving held hints areas moving name new_name replaced at mode)
+
+-- the same of one move
+abbrev pub OnMove : Held → Hints → ℕ → Inode → Moving → List ℕ → List ℕ → Option Replaced → ℕ → Mode → Type 0
+OnMove held hints areas other moving name new_name replaced at mode =
+    OnRoomPath areas held hints other.tree new_name other.next at mode ⊎ OnMoving held hints areas moving name new_name replaced at mode
+
+-- the way up from the target before that
+abbrev pub OnTested : Held → Hints → ℕ → ℕ → ℕ → Inode → List ℕ → List ℕ → ℕ → Mode → Type 0
+OnTested held hints areas source target other name new_name at mode = OnWay held hints areas target at mode ⊎ OnEnd held hints areas source target other name new_name at mode
+
+-- the way to the first entry of the directory whose name is taken besides
+abbrev pub OnReplacing : Held → Hints → ℕ → ℕ → ℕ → Inode → ℕ → List ℕ → List ℕ → ℕ → Mode → Type 0
+OnReplacing held hints areas source target other root name new_name at mode = OnBehind held hints root 0 at mode ⊎ OnTested held hints areas source target other name new_name at mode
+
+-- from the search for the new name on: what has it, and that
+abbrev pub OnOnto : Held → Hints → ℕ → ℕ → ℕ → Inode → List ℕ → List ℕ → ℕ → Mode → Type 0
+OnOnto held hints areas source target other name new_name at mode = OnSearch held hints other.tree (name_key new_name) at mode
+    ⊎ (OnNamed held hints areas other.tree new_name at mode ⊎ OnTested held hints areas source target other name new_name at mode)
+
+-- from both directories on: the two searches, what their entries name, and what comes then
+abbrev pub OnPlaces : Held → Hints → ℕ → ℕ → ℕ → Inode → Inode → List ℕ → List ℕ → ℕ → Mode → Type 0
+OnPlaces held hints areas source target inode other name new_name at mode = OnSearch held hints inode.tree (name_key name) at mode
+    ⊎ (OnNamed held hints areas inode.tree name at mode ⊎ OnOnto held hints areas source target other name new_name at mode)
+
 pub record OnBetween (held : Held) (hints : Hints) (volume areas : ℕ) (from name to new_name : List ℕ) (at : ℕ) (mode : Mode) : Type 0 where
   pub source : ℕ
   pub target : ℕ
   pub inode : Inode
   pub other : Inode
   pub held_so : AreHeld held hints volume areas from to source target inode other
-  pub on : OnSearch held hints inode.tree (name_key name) at mode
-      ⊎ (OnNamed held hints areas inode.tree name at mode
-      ⊎ (OnSearch held hints other.tree (name_key new_name) at mode
-      ⊎ (OnNamed held hints areas other.tree new_name at mode
-      ⊎ (OnWay held hints areas target at mode
-      ⊎ (OnRoomPath areas held hints other.tree new_name other.next at mode
-      ⊎ ((moving : Moving) × (replaced : Option Replaced) × (moving.source ≡ source) × (moving.target ≡ target) × OnMoving held hints areas moving name new_name replaced at mode))))))
+  pub on : OnPlaces held hints areas source target inode other name new_name at mode
 
 -- The path of RENAME: the inode of the first directory that is named, then that of the second, exclusively, and that from both on.
 abbrev pub OnRename : Held → Hints → ℕ → ℕ → List ℕ → List ℕ → List ℕ → List ℕ → ℕ → Mode → Type 0

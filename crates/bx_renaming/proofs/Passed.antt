@@ -83,10 +83,12 @@ module _ (volume areas : ℕ) (held : Held) (hints : Hints) (truth : Truth) (tre
         by : (places.source.handle ≡ places.target.handle) ⊎ (places.source.handle ≢ places.target.handle) → ⊥
         by (inl within) = not_source (e ∙ sym within)
         by (inr apart) =
-            let passed : depth_by true false (leads_by tree are.target.file is.at.file.handle) (leads_by tree are.target.file tree.root) ≡ Ok tt =
-            sym (ap (λ (d : Bool). depth_by d (are.source.file.handle == are.target.file.handle) (leads_by tree are.target.file is.at.file.handle) (leads_by tree are.target.file tree.root)) one
+            let at_all : depth_errors tree are.source.file are.target.file is.at.file ≡ depth_by true false (leads_by tree are.target.file is.at.file.handle) (leads_by tree are.target.file tree.root) =
+            ap (λ (d : Bool). depth_by d (are.source.file.handle == are.target.file.handle) (leads_by tree are.target.file is.at.file.handle) (leads_by tree are.target.file tree.root)) one
             ∙ ap (λ (s : Bool). depth_by true s (leads_by tree are.target.file is.at.file.handle) (leads_by tree are.target.file tree.root))
-            (other_handles volume areas held hints truth tree places are known.handle known.inode is.at apart)) ∙ none in
+            (other_handles volume areas held hints truth tree places are known.handle known.inode is.at apart) in
+            let passed : depth_by true false (leads_by tree are.target.file is.at.file.handle) (leads_by tree are.target.file tree.root) ≡ Ok tt =
+            sym {a = depth_errors tree are.source.file are.target.file is.at.file} at_all ∙ none in
             let both = passes_depth (leads_by tree are.target.file is.at.file.handle) (leads_by tree are.target.file tree.root) passed in
             let cut : Cut tree is.at.file.handle are.target.file.handle = cut_of tree are.stands.file_tree is.at.file.handle are.target.file.handle 512 both.0 both.1 in
             let clash : true ≡ false = sym cut.top_is ∙ ap (λ (f : File). cut.below f.handle) same ∙ cut.apart_is in

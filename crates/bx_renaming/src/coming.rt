@@ -61,11 +61,11 @@ pub(crate) fn move_in<V: View>(
 /// The move of a file between two directories, by the number of its entry.
 pub(crate) fn moving_of(places: &Places, number: u32, moved: &Known) -> Moving
     ensures { result ≡ record {
-        source = places.now.source.handle;
-        number = number;
-        target = places.now.target.handle;
-        handle = moved.now.handle;
-        counts = (moved.now.inode.kind == 2) && not (places.now.source.handle == places.now.target.handle);
+      source = places.now.source.handle;
+      number = number;
+      target = places.now.target.handle;
+      handle = moved.now.handle;
+      counts = (moved.now.inode.kind == 2) && not (places.now.source.handle == places.now.target.handle);
     } }
 {
     let from = places.source.handle;

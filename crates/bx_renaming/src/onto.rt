@@ -90,7 +90,9 @@ fn move_free<V: View>(
         Ok(Some(status)) => Err(ChangeError::Stopped(Stop::Status(status))),
         Ok(None) => {
             let moving = moving_of(places, number, moved);
-            move_in(alloc, view, areas, places, moving, None, name, new_name, now)
+            move_in(
+                alloc, view, areas, places, moving, None, name, new_name, now,
+            )
         }
     }
 }
@@ -128,7 +130,17 @@ fn move_over<V: View>(
         Ok(None) => {
             let moving = moving_of(places, number, moved);
             let replaced = replaced_of(second, other);
-            move_in(alloc, view, areas, places, moving, Some(replaced), name, new_name, now)
+            move_in(
+                alloc,
+                view,
+                areas,
+                places,
+                moving,
+                Some(replaced),
+                name,
+                new_name,
+                now,
+            )
         }
     }
 }

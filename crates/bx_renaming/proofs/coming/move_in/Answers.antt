@@ -1,0 +1,18 @@
+use Rattle.std.proofs.Common.{arith}
+use Rattle.bx_renaming.proofs.Rooms.{counts_so, into, may_move, moves_so, no_number, no_room}
+use Rattle.bx_renaming.proofs.coming.move_in.Goals as goal
+
+pub returns-then-places-ge-LAST_NUMBER-clause-step : goal.returns-then-places-ge-LAST_NUMBER-clause-step
+returns-then-places-ge-LAST_NUMBER-clause-step g c = λ volume truth tree are passed. no_number volume c.args.areas (g.V.View.held c.args.view.now) (g.V.View.hints c.args.view.now) truth tree c.args.places.now are c.args.name.now c.args.new_name.now c.args.now c.args.moving c.args.replaced passed c.if-places-ge-LAST_NUMBER.true
+
+pub returns-in-Err-clause-step : goal.returns-in-Err-clause-step
+returns-in-Err-clause-step g c = λ volume truth tree are passed.
+    no_room volume c.args.areas (g.V.View.held c.args.view.now) (g.V.View.hints c.args.view.now) truth tree c.args.places.now are c.args.name.now c.args.new_name.now c.args.now c.args.moving c.args.replaced passed (let left = c.if-places-ge-LAST_NUMBER.false in omega (arith, left)) c.in-Err.error
+    (c.in-Err.ensures.step volume truth tree (into volume c.args.areas (g.V.View.held c.args.view.now) (g.V.View.hints c.args.view.now) truth tree c.args.places.now are))
+
+pub returns-in-Ok-clause-step : goal.returns-in-Ok-clause-step
+returns-in-Ok-clause-step g c = λ volume truth tree are passed.
+    let left = c.if-places-ge-LAST_NUMBER.false in
+    let ready = c.in-Ok.ensures.step volume truth tree (into volume c.args.areas (g.V.View.held c.args.view.now) (g.V.View.hints c.args.view.now) truth tree c.args.places.now are) in
+    moves_so volume c.args.areas (g.V.View.held c.args.view.now) (g.V.View.hints c.args.view.now) truth tree c.args.places.now are c.args.name.now c.args.new_name.now c.args.now c.args.moving c.args.replaced passed (omega (arith, left)) ready c.move_file.result
+    (c.move_file.ensures.step truth tree (may_move volume c.args.areas (g.V.View.held c.args.view.now) (g.V.View.hints c.args.view.now) truth tree c.args.places.now are c.args.name.now c.args.new_name.now c.args.now c.args.moving c.args.replaced passed (omega (arith, left)) ready) (counts_so volume c.args.areas (g.V.View.held c.args.view.now) (g.V.View.hints c.args.view.now) truth tree c.args.places.now are c.args.name.now c.args.new_name.now c.args.now c.args.moving c.args.replaced passed (omega (arith, left)) ready))

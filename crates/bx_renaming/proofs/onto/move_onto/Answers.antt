@@ -1,0 +1,28 @@
+use Rattle.std.proofs.Common.{ℕ, Option, subst}
+use Rattle.std.specs.Prelude.{Ok}
+use Rattle.bx_entries.specs.declared.taking.Known.{Known}
+use Rattle.bx_tree_files.specs.Names.{names_of}
+use Rattle.bx_renaming.specs.Found.{OtherFor}
+use Rattle.bx_renaming.proofs.Comes.{itself_has, nobody_has, not_had, other_has}
+use Rattle.bx_renaming.proofs.Rooms.{into}
+use Rattle.bx_renaming.proofs.onto.move_onto.Goals as goal
+
+pub returns-in-Err-clause-step : goal.returns-in-Err-clause-step
+returns-in-Err-clause-step g c = λ volume truth tree are is.
+    not_had tree are.source.file c.args.name.now are.target.file c.args.new_name.now is.at.file c.args.now c.args.areas truth c.in-Err.stop (c.in-Err.ensures.step volume truth tree (into volume c.args.areas (g.V.View.held c.args.view.now) (g.V.View.hints c.args.view.now) truth tree c.args.places.now are))
+
+pub returns-in-Ok-None-clause-step : goal.returns-in-Ok-None-clause-step
+returns-in-Ok-None-clause-step g c = λ volume truth tree are is.
+    let none = subst (λ (o : Option (ℕ × Known)). OtherFor c.args.areas truth tree (names_of are.target.file.body) c.args.new_name.now (Ok o)) c.in-Ok-None.field-0-is (c.in-Ok-None.ensures.step volume truth tree (into volume c.args.areas (g.V.View.held c.args.view.now) (g.V.View.hints c.args.view.now) truth tree c.args.places.now are)) in
+    nobody_has tree are.source.file c.args.name.now are.target.file c.args.new_name.now is.at.file c.args.now c.args.areas truth none c.move_free.result (c.move_free.ensures.step volume truth tree are is none)
+
+pub returns-then-other-moved-clause-step : goal.returns-then-other-moved-clause-step
+returns-then-other-moved-clause-step g c = λ volume truth tree are is.
+    let had = subst (λ (o : Option (ℕ × Known)). OtherFor c.args.areas truth tree (names_of are.target.file.body) c.args.new_name.now (Ok o)) c.in-Ok-Some.field-0-is (c.in-Ok-Some.ensures.step volume truth tree (into volume c.args.areas (g.V.View.held c.args.view.now) (g.V.View.hints c.args.view.now) truth tree c.args.places.now are)) in
+    itself_has tree are.source.file c.args.name.now are.target.file c.args.new_name.now is.at.file c.args.now c.args.areas truth c.in-Ok-Some.second c.in-Ok-Some.other had c.args.moved.now.handle is.at.handle_is c.if-other-moved.true volume are.stands c.new.result c.new.ensures
+
+pub returns-else-other-moved-clause-step : goal.returns-else-other-moved-clause-step
+returns-else-other-moved-clause-step g c = λ volume truth tree are is.
+    let had = subst (λ (o : Option (ℕ × Known)). OtherFor c.args.areas truth tree (names_of are.target.file.body) c.args.new_name.now (Ok o)) c.in-Ok-Some.field-0-is (c.in-Ok-Some.ensures.step volume truth tree (into volume c.args.areas (g.V.View.held c.args.view.now) (g.V.View.hints c.args.view.now) truth tree c.args.places.now are)) in
+    other_has tree are.source.file c.args.name.now are.target.file c.args.new_name.now is.at.file c.args.now c.args.areas truth c.in-Ok-Some.second c.in-Ok-Some.other had c.args.moved.now.handle is.at.handle_is c.if-other-moved.false c.move_over.result
+    (c.move_over.ensures.step volume truth tree are is had c.if-other-moved.false)

@@ -1,0 +1,22 @@
+use Rattle.bx_renaming.proofs.Comes.{between, is_renamed, is_stopped, no_places}
+use Rattle.bx_renaming.proofs.renaming.rename.Goals as goal
+
+pub returns-in-Err-clause-step : goal.returns-in-Err-clause-step
+returns-in-Err-clause-step g c = λ truth tree same s fit. no_places tree c.args.call.now c.args.from.now c.args.name.now c.args.to.now c.args.new_name.now c.args.now c.args.volume c.args.areas truth c.in-Err.stop (c.in-Err.ensures.step truth tree same s)
+
+pub returns-in-Err-move_between-clause-step : goal.returns-in-Err-move_between-clause-step
+returns-in-Err-move_between-clause-step g c = λ truth tree same s fit.
+    let p = c.in-Ok.ensures.step truth tree same s in
+    is_stopped tree c.args.call.now c.args.from.now c.args.name.now c.args.to.now c.args.new_name.now c.args.now c.args.volume c.args.areas truth c.in-Ok.places p c.in-Err-move_between.error
+    (c.in-Err-move_between.ensures.step c.args.volume truth tree (between tree c.args.call.now c.args.from.now c.args.name.now c.args.to.now c.args.new_name.now c.args.now c.args.volume c.args.areas truth c.in-Ok.places p (g.V.View.held c.args.view.now) (g.V.View.hints c.args.view.now) c.requires.few same s fit))
+
+pub returns-clause-step : goal.returns-clause-step
+returns-clause-step g c = λ truth tree same s fit.
+    let p = c.in-Ok.ensures.step truth tree same s in
+    is_renamed tree c.args.call.now c.args.from.now c.args.name.now c.args.to.now c.args.new_name.now c.args.now c.args.volume c.args.areas truth c.in-Ok.places p s c.in-Ok-move_between.draft
+    (c.in-Ok-move_between.ensures.step c.args.volume truth tree (between tree c.args.call.now c.args.from.now c.args.name.now c.args.to.now c.args.new_name.now c.args.now c.args.volume c.args.areas truth c.in-Ok.places p (g.V.View.held c.args.view.now) (g.V.View.hints c.args.view.now) c.requires.few same s fit))
+
+pub returns-clause-hints : goal.returns-clause-hints
+returns-clause-hints g c = λ hints truth tree same s fit other.
+    let p = c.in-Ok.ensures.step truth tree same s in
+    (c.in-Ok-move_between.ensures.step c.args.volume truth tree (between tree c.args.call.now c.args.from.now c.args.name.now c.args.to.now c.args.new_name.now c.args.now c.args.volume c.args.areas truth c.in-Ok.places p (g.V.View.held c.args.view.now) (g.V.View.hints c.args.view.now) c.requires.few same s fit)).leaves.leads hints other

@@ -1,0 +1,91 @@
+//! Moves that have been tested, into directories with room for them.
+
+ghost use Rattle.std.specs.Prelude.{◌≡◌, ◌==◌, ◌&&◌, ◌<◌, ◌≤◌, ℕ, not, length, IfErr, IfOk, IfSome};
+ghost use Rattle.bx_changes.specs.Growing.{HoldsFirst, NeedsBy};
+ghost use Rattle.bx_handles.specs.Handles.{parts_of};
+ghost use Rattle.bx_linking.specs.Drafting.{ComesBy};
+ghost use Rattle.bx_model.specs.declared.tree.Tree.{Tree};
+ghost use Rattle.bx_views.specs.Attempts.{IsHeldDraft};
+ghost use Rattle.bx_views.specs.Truths.{Truth};
+ghost use Rattle.bx_renaming.specs.Path.{OnMove};
+ghost use Rattle.bx_renaming.specs.Renaming.{AreDirectories, IsPassed, coming_in, other_file};
+
+use crate::places::Places;
+use bx_adding::room_for;
+use bx_changes::ChangeError;
+use bx_entries::Known;
+use bx_inodes::Stop;
+use bx_model::DQUOT;
+use bx_moving::{Moving, Replaced, move_file};
+use bx_records::Draft;
+use bx_tree_files::DIRECTORY;
+use bx_views::View;
+use std::alloc::Global;
+
+/// The greatest number of a directory's next entry, at which it takes no other.
+const LAST_NUMBER: u32 = 0xffff_ffff;
+
+/// Makes a move that meets no other error, where the directory that the file comes into has a number left and room for the name: the draft that does so.
+///
+/// `Need` names a block that isn't held: one on the path to room for the name, or one of the move. The status is `DQUOT` where no number is left. `Inner`
+/// and `Full` come as they do of `room_for`.
+pub(crate) fn move_in<V: View>(
+    alloc: Global,
+    view: &V,
+    areas: u16,
+    places: &Places,
+    moving: Moving,
+    replaced: Option<Replaced>,
+    name: &[u8],
+    new_name: &[u8],
+    now: (u32, u32),
+) -> Result<Draft, ChangeError>
+    requires name { length new_name.now ≤ 255 }
+    requires area { IfSome replaced (λ replaced. (parts_of replaced.handle).area < areas) }
+    ensures step { (volume : ℕ) (truth : Truth) (tree : Tree) → (are : AreDirectories volume areas (V.held view.now) (V.hints view.now) truth tree places.now)
+        → (passed : IsPassed tree are.source.file are.target.file moving name.now new_name.now replaced)
+        → ComesBy areas truth (coming_in tree are.source.file name.now are.target.file new_name.now passed.moved (other_file tree are.source.file are.target.file moving name.now new_name.now replaced passed) now) result }
+    ensures need { IfErr result (NeedsBy areas (V.held view.now) (OnMove (V.held view.now) (V.hints view.now) areas places.now.target.inode moving name.now new_name.now replaced)) }
+    ensures first { IfErr result (HoldsFirst (V.held view.now)) }
+    ensures held { IfOk result (IsHeldDraft (V.held view.now)) }
+{
+    if places.target.inode.next >= LAST_NUMBER {
+        return Err(ChangeError::Stopped(Stop::Status(DQUOT)));
+    }
+    match room_for(alloc, view, areas, &places.target, new_name) {
+        Err(error) => Err(error),
+        Ok(()) => move_file(alloc, view, areas, moving, replaced, name, new_name, now),
+    }
+}
+
+/// The move of a file between two directories, by the number of its entry.
+pub(crate) fn moving_of(places: &Places, number: u32, moved: &Known) -> Moving
+    ensures { result ≡ record {
+      source = places.now.source.handle;
+      number = number;
+      target = places.now.target.handle;
+      handle = moved.now.handle;
+      counts = (moved.now.inode.kind == 2) && not (places.now.source.handle == places.now.target.handle);
+    } }
+{
+    let from = places.source.handle;
+    let to = places.target.handle;
+    Moving {
+        source: from,
+        number,
+        target: to,
+        handle: moved.handle,
+        counts: moved.inode.kind == DIRECTORY && from != to,
+    }
+}
+
+/// The file whose name is taken, by the number of its entry.
+pub(crate) fn replaced_of(number: u32, other: &Known) -> Replaced
+    ensures { result ≡ record { number = number; handle = other.now.handle; is_directory = other.now.inode.kind == 2 } }
+{
+    Replaced {
+        number,
+        handle: other.handle,
+        is_directory: other.inode.kind == DIRECTORY,
+    }
+}

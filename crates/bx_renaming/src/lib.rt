@@ -1,0 +1,13 @@
+//! Files that move between directories, over views: RENAME.
+#![tactic(auto)]
+
+mod coming;
+mod finding;
+mod onto;
+mod places;
+mod renaming;
+mod testing;
+
+pub use finding::{moved_for, other_for};
+pub use places::{Places, places_for};
+pub use renaming::rename;

@@ -1,0 +1,146 @@
+//! Moves to a name, by what has it.
+
+ghost use Rattle.std.specs.Prelude.{◌≡◌, ◌<◌, ◌≤◌, ◌≢◌, ℕ, None, Some, length, IfErr, IfOk};
+ghost use Rattle.bx_changes.specs.Growing.{HoldsFirst, NeedsBy};
+ghost use Rattle.bx_handles.specs.Handles.{parts_of};
+ghost use Rattle.bx_linking.specs.Drafting.{ComesBy};
+ghost use Rattle.bx_model.specs.declared.tree.Tree.{Tree};
+ghost use Rattle.bx_model.specs.Renaming.{file_of_entry};
+ghost use Rattle.bx_tree_files.specs.Entries.{entry_named};
+ghost use Rattle.bx_tree_files.specs.Names.{names_of};
+ghost use Rattle.bx_views.specs.Attempts.{IsHeldDraft};
+ghost use Rattle.bx_views.specs.Truths.{Truth};
+ghost use Rattle.bx_renaming.specs.Found.{IsMoved};
+ghost use Rattle.bx_renaming.specs.Path.{OnOnto, OnReplacing, OnTested};
+ghost use Rattle.bx_renaming.specs.Renaming.{AreDirectories, moving_onto, moving_so};
+
+use crate::coming::{move_in, moving_of, replaced_of};
+use crate::finding::other_for;
+use crate::places::Places;
+use crate::testing::{depth_error, move_error};
+use bx_changes::ChangeError;
+use bx_entries::Known;
+use bx_inodes::Stop;
+use bx_records::Draft;
+use bx_views::View;
+use std::alloc::Global;
+
+/// Moves a file, whose entry in the first directory has this number, to a name in the second one: the draft that does so, which is empty where
+/// the name is the file's own.
+///
+/// `Need` names a block that isn't held: one on the path of the search for the name, shared, or that of the inode that it names, exclusively, or as it
+/// is of `move_over`. The status is `STALE` where what has the name isn't there, or else as it is of `move_over`, as `Inner` and `Full` are.
+pub(crate) fn move_onto<V: View>(
+    alloc: Global,
+    view: &V,
+    areas: u16,
+    places: &Places,
+    number: u32,
+    moved: &Known,
+    name: &[u8],
+    new_name: &[u8],
+    now: (u32, u32),
+) -> Result<Draft, ChangeError>
+    requires name { length new_name.now ≤ 255 }
+    ensures step { (volume : ℕ) (truth : Truth) (tree : Tree) → (are : AreDirectories volume areas (V.held view.now) (V.hints view.now) truth tree places.now)
+        → (is : IsMoved areas truth tree (names_of are.source.file.body) name.now number moved.now)
+        → ComesBy areas truth (λ spare. moving_onto tree are.source.file name.now are.target.file new_name.now is.at.file now spare (file_of_entry tree (entry_named (names_of are.target.file.body) new_name.now))) result }
+    ensures need { IfErr result (NeedsBy areas (V.held view.now) (OnOnto (V.held view.now) (V.hints view.now) areas places.now.source.handle places.now.target.handle places.now.target.inode name.now new_name.now)) }
+    ensures first { IfErr result (HoldsFirst (V.held view.now)) }
+    ensures held { IfOk result (IsHeldDraft (V.held view.now)) }
+{
+    match other_for(alloc, view, areas, &places.target, new_name) {
+        Err(stop) => Err(ChangeError::Stopped(stop)),
+        Ok(None) => move_free(
+            alloc, view, areas, places, number, moved, name, new_name, now,
+        ),
+        Ok(Some((second, other))) => {
+            if other.handle == moved.handle {
+                return Ok(Draft::new(alloc));
+            }
+            move_over(
+                alloc, view, areas, places, number, moved, second, &other, name, new_name, now,
+            )
+        }
+    }
+}
+
+/// Moves the file to a name that nobody has.
+fn move_free<V: View>(
+    alloc: Global,
+    view: &V,
+    areas: u16,
+    places: &Places,
+    number: u32,
+    moved: &Known,
+    name: &[u8],
+    new_name: &[u8],
+    now: (u32, u32),
+) -> Result<Draft, ChangeError>
+    requires name { length new_name.now ≤ 255 }
+    ensures step { (volume : ℕ) (truth : Truth) (tree : Tree) → (are : AreDirectories volume areas (V.held view.now) (V.hints view.now) truth tree places.now)
+        → (is : IsMoved areas truth tree (names_of are.source.file.body) name.now number moved.now) → entry_named (names_of are.target.file.body) new_name.now ≡ None
+        → ComesBy areas truth (moving_so tree are.source.file name.now are.target.file new_name.now is.at.file None now) result }
+    ensures need { IfErr result (NeedsBy areas (V.held view.now) (OnTested (V.held view.now) (V.hints view.now) areas places.now.source.handle places.now.target.handle places.now.target.inode name.now new_name.now)) }
+    ensures first { IfErr result (HoldsFirst (V.held view.now)) }
+    ensures held { IfOk result (IsHeldDraft (V.held view.now)) }
+{
+    match depth_error(alloc, view, areas, places, moved) {
+        Err(stop) => Err(ChangeError::Stopped(stop)),
+        Ok(Some(status)) => Err(ChangeError::Stopped(Stop::Status(status))),
+        Ok(None) => {
+            let moving = moving_of(places, number, moved);
+            move_in(
+                alloc, view, areas, places, moving, None, name, new_name, now,
+            )
+        }
+    }
+}
+
+/// Moves the file to a name that another file has, by an entry with a number, which loses it.
+///
+/// `Need` names a block as it does of `move_error`, or of `move_in`. The status is `PERM` where a directory would come below itself, `NAMETOOLONG` where 512
+/// moves to a parent don't lead to the root, `NOTDIR` and `ISDIR` where one of both files is a directory, `NOTEMPTY` where the other has entries, or as it is of
+/// `move_in`, as `Inner` and `Full` are.
+fn move_over<V: View>(
+    alloc: Global,
+    view: &V,
+    areas: u16,
+    places: &Places,
+    number: u32,
+    moved: &Known,
+    second: u32,
+    other: &Known,
+    name: &[u8],
+    new_name: &[u8],
+    now: (u32, u32),
+) -> Result<Draft, ChangeError>
+    requires name { length new_name.now ≤ 255 }
+    requires area { (parts_of other.now.handle).area < areas }
+    ensures step { (volume : ℕ) (truth : Truth) (tree : Tree) → (are : AreDirectories volume areas (V.held view.now) (V.hints view.now) truth tree places.now)
+        → (is : IsMoved areas truth tree (names_of are.source.file.body) name.now number moved.now) → (had : IsMoved areas truth tree (names_of are.target.file.body) new_name.now second other.now)
+        → other.now.handle ≢ moved.now.handle → ComesBy areas truth (moving_so tree are.source.file name.now are.target.file new_name.now is.at.file (Some had.at.file) now) result }
+    ensures need { IfErr result (NeedsBy areas (V.held view.now) (OnReplacing (V.held view.now) (V.hints view.now) areas places.now.source.handle places.now.target.handle places.now.target.inode other.now.inode.tree name.now new_name.now)) }
+    ensures first { IfErr result (HoldsFirst (V.held view.now)) }
+    ensures held { IfOk result (IsHeldDraft (V.held view.now)) }
+{
+    match move_error(alloc, view, areas, places, moved, other) {
+        Err(stop) => Err(ChangeError::Stopped(stop)),
+        Ok(Some(status)) => Err(ChangeError::Stopped(Stop::Status(status))),
+        Ok(None) => {
+            let moving = moving_of(places, number, moved);
+            let replaced = replaced_of(second, other);
+            move_in(
+                alloc,
+                view,
+                areas,
+                places,
+                moving,
+                Some(replaced),
+                name,
+                new_name,
+                now,
+            )
+        }
+    }
+}

@@ -1,0 +1,90 @@
+//! RENAME.
+
+ghost use Rattle.std.specs.Prelude.{◌≤◌, ℕ, length, IfErr, IfOk};
+ghost use Rattle.bx_changes.specs.Growing.{HoldsFirst, IsChangeBy, NeedsBy};
+ghost use Rattle.bx_hints.specs.Fitting.{HintsFitAll};
+ghost use Rattle.bx_inodes.specs.Stands.{Stands};
+ghost use Rattle.bx_linking.specs.Drafting.{ComesBy};
+ghost use Rattle.bx_model.specs.declared.tree.Tree.{Tree};
+ghost use Rattle.bx_model.specs.Moves.{move_between as between_of};
+ghost use Rattle.bx_model.specs.Renaming.{rename as rename_of};
+ghost use Rattle.bx_views.specs.Attempts.{IsHeldDraft};
+ghost use Rattle.bx_views.specs.Truths.{Hints, IsTruth, Truth, with_draft};
+ghost use Rattle.bx_renaming.specs.Path.{OnPlaces, OnRename};
+ghost use Rattle.bx_renaming.specs.Renaming.{AreDirectories};
+
+use crate::finding::moved_for;
+use crate::onto::move_onto;
+use crate::places::{Places, places_for};
+use bx_changes::ChangeError;
+use bx_model::{Call, NFS_OK, Reply};
+use bx_records::Draft;
+use bx_views::View;
+use std::alloc::Global;
+
+/// RENAME (RFC 1094, section 2.2.12), of a volume with at most 64 areas: the blocks that it changes, and the reply. The file with a name in the
+/// directory that a file handle of the volume names gets a new name, of at most 255 bytes, in the directory that another one names. A file that
+/// had that name loses it; where both names are one file, nothing changes.
+///
+/// `Need` names a block that isn't held: that of a directory's inode or of what a name names, exclusively, or one on the path of the searches, of the way
+/// up from the second directory, to room for the new name in its tree, or of the changes. The status is `STALE` where a file handle or an entry names no
+/// file, `NOTDIR` where a file handle names no directory, `ACCES` of a bad name and where the caller may not change a directory, `NOENT` where no entry
+/// has the name, `PERM` where a directory would come below itself, `NAMETOOLONG` where 512 moves to a parent don't lead from the second directory to
+/// the root, `NOTDIR` of a directory in the place of another file, `ISDIR` of a file in that of a directory, `NOTEMPTY` where that has entries, and
+/// `DQUOT` where the second directory has no number left. `Inner` are the blocks that make room, which are to be written first, and `Full` comes where
+/// fewer than 8 blocks are free and one is wanted for that. `now` is in seconds and microseconds.
+pub fn rename<V: View>(
+    alloc: Global,
+    volume: u64,
+    areas: u16,
+    call: &Call,
+    from: &[u8],
+    name: &[u8],
+    to: &[u8],
+    new_name: &[u8],
+    now: (u32, u32),
+    view: &V,
+) -> Result<(Draft, Reply), ChangeError>
+    requires few { areas ≤ 64 }
+    requires name { length new_name.now ≤ 255 }
+    ensures step { (truth : Truth) (tree : Tree) → IsTruth (V.held view.now) truth → Stands volume areas truth tree → HintsFitAll areas (V.hints view.now) truth
+        → IsChangeBy volume areas truth (λ spare. rename_of tree call.now from.now name.now to.now new_name.now now spare) result }
+    ensures hints { (hints : Hints) (truth : Truth) (tree : Tree) → IsTruth (V.held view.now) truth → Stands volume areas truth tree → HintsFitAll areas (V.hints view.now) truth
+        → HintsFitAll areas hints truth → IfOk result (λ made. HintsFitAll areas hints (with_draft truth made.0)) }
+    ensures need { IfErr result (NeedsBy areas (V.held view.now) (OnRename (V.held view.now) (V.hints view.now) volume areas from.now name.now to.now new_name.now)) }
+    ensures first { IfErr result (HoldsFirst (V.held view.now)) }
+    ensures held { IfOk result (λ made. IsHeldDraft (V.held view.now) made.0) }
+{
+    match places_for(alloc, volume, areas, call, from, name, to, new_name, view) {
+        Err(stop) => Err(ChangeError::Stopped(stop)),
+        Ok(places) => match move_between(alloc, view, areas, &places, name, new_name, now) {
+            Err(error) => Err(error),
+            Ok(draft) => Ok((draft, Reply::Status(NFS_OK))),
+        },
+    }
+}
+
+/// Moves the file with a name in the first directory to a name in the second one: the draft that does so.
+fn move_between<V: View>(
+    alloc: Global,
+    view: &V,
+    areas: u16,
+    places: &Places,
+    name: &[u8],
+    new_name: &[u8],
+    now: (u32, u32),
+) -> Result<Draft, ChangeError>
+    requires name { length new_name.now ≤ 255 }
+    ensures step { (volume : ℕ) (truth : Truth) (tree : Tree) → (are : AreDirectories volume areas (V.held view.now) (V.hints view.now) truth tree places.now)
+        → ComesBy areas truth (between_of tree are.source.file name.now are.target.file new_name.now now) result }
+    ensures need { IfErr result (NeedsBy areas (V.held view.now) (OnPlaces (V.held view.now) (V.hints view.now) areas places.now.source.handle places.now.target.handle places.now.source.inode places.now.target.inode name.now new_name.now)) }
+    ensures first { IfErr result (HoldsFirst (V.held view.now)) }
+    ensures held { IfOk result (IsHeldDraft (V.held view.now)) }
+{
+    match moved_for(alloc, view, areas, &places.source, name) {
+        Err(stop) => Err(ChangeError::Stopped(stop)),
+        Ok((number, moved)) => move_onto(
+            alloc, view, areas, places, number, &moved, name, new_name, now,
+        ),
+    }
+}

@@ -6,12 +6,13 @@ use Rattle.bx_creating.specs.Making.{OnMaking}
 use Rattle.bx_entries.specs.Finding.{OnRemove, OnRmdir}
 use Rattle.bx_linking.specs.Linking.{OnLink}
 use Rattle.bx_model.specs.declared.call.Args.{Args}
-use Rattle.bx_model.specs.declared.call.Args.TheVariants.{Link, Make, Name, Set, Symlink, Write}
+use Rattle.bx_model.specs.declared.call.Args.TheVariants.{Link, Make, Name, Rename, Set, Symlink, Write}
+use Rattle.bx_renaming.specs.Path.{OnRename}
 use Rattle.bx_sizes.specs.Setting.{OnSetting}
 use Rattle.bx_writes.specs.Paths.{OnWriting}
 use Rattle.bx_views.specs.Truths.{Held, Hints}
 
--- By the call's procedure and arguments, that of its procedure: of SETATTR, WRITE, REMOVE (10) and RMDIR (15), LINK, SYMLINK, MKDIR (14) and CREATE (9).
+-- By the call's procedure and arguments, that of its procedure: of SETATTR, WRITE, REMOVE (10) and RMDIR (15), RENAME, LINK, SYMLINK, MKDIR (14) and CREATE (9).
 abbrev pub ChangePathOf : Held → Hints → ℕ → ℕ → ℕ → Args → ℕ → Mode → Type 0
 ChangePathOf held hints volume areas procedure (Set handle sattr) at mode = OnSetting held hints volume areas handle at mode
 ChangePathOf held hints volume areas procedure (Name handle name) at mode =
@@ -21,4 +22,5 @@ ChangePathOf held hints volume areas procedure (Symlink handle name path sattr) 
 ChangePathOf held hints volume areas procedure (Make handle name sattr) at mode =
     ((procedure ≡ 14) × OnMaking held hints volume areas handle name at mode) ⊎ ((procedure ≡ 9) × OnCreate held hints volume areas handle name sattr.size at mode)
 ChangePathOf held hints volume areas procedure (Write handle begin offset total written) at mode = OnWriting held hints volume areas handle offset written at mode
+ChangePathOf held hints volume areas procedure (Rename from name to new_name) at mode = OnRename held hints volume areas from name to new_name at mode
 ChangePathOf held hints volume areas procedure _ at mode = ⊥

@@ -13,6 +13,7 @@ ghost use Rattle.bx_attempts.specs.Steps.{StandsWith, Step};
 use crate::attributes::setattr;
 use crate::making::{create, mkdir, symlink};
 use crate::naming::{link, remove, rmdir};
+use crate::renaming::rename;
 use crate::writing::write;
 use bx_base::OutOfMemory;
 use bx_model::{Args, Call};
@@ -31,6 +32,9 @@ const CREATE: u32 = 9;
 
 /// The procedure REMOVE (RFC 1094, section 2.2.11).
 const REMOVE: u32 = 10;
+
+/// The procedure RENAME (RFC 1094, section 2.2.12).
+const RENAME: u32 = 11;
 
 /// The procedure LINK (RFC 1094, section 2.2.13).
 const LINK: u32 = 12;
@@ -53,7 +57,7 @@ const MOST_PATH: usize = 1024;
 /// How many bytes are written at once at most.
 const MOST_DATA: usize = 8192;
 
-/// Whether a call changes the file tree, and is built: it is SETATTR, WRITE, CREATE, REMOVE, LINK,
+/// Whether a call changes the file tree, and is built: it is SETATTR, WRITE, CREATE, REMOVE, RENAME, LINK,
 /// SYMLINK, MKDIR or RMDIR.
 pub fn is_change(call: &Call) -> bool
     ensures { IsTrue result ↔ IsChanging call.now }
@@ -64,6 +68,9 @@ pub fn is_change(call: &Call) -> bool
             is_procedure(call, WRITE) && written.bytes().len() <= MOST_DATA
         }
         Args::Name(_, _) => is_procedure(call, REMOVE) || is_procedure(call, RMDIR),
+        Args::Rename(_, _, _, new_name) => {
+            is_procedure(call, RENAME) && new_name.bytes().len() <= MOST_NAME
+        }
         Args::Link(_, _, name) => is_procedure(call, LINK) && name.bytes().len() <= MOST_NAME,
         Args::Symlink(_, name, path, _) => {
             is_procedure(call, SYMLINK)
@@ -130,6 +137,13 @@ pub fn change<V: View>(
             } else {
                 rmdir(alloc, volume, areas, xid, call, at, name, moment, view)
             }
+        }
+        Args::Rename(from, name, to, new_name) => {
+            let (from, name) = (from.bytes(), name.bytes());
+            let (to, new_name) = (to.bytes(), new_name.bytes());
+            rename(
+                alloc, volume, areas, xid, call, from, name, to, new_name, moment, view,
+            )
         }
         Args::Link(from, at, name) => {
             let (from, at, name) = (from.bytes(), at.bytes(), name.bytes());

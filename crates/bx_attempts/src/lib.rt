@@ -5,6 +5,7 @@ mod attributes;
 mod calls;
 mod making;
 mod naming;
+mod renaming;
 mod replies;
 mod tidying;
 mod times;

@@ -3,7 +3,7 @@ use Rattle.std.proofs.Common.{◌≡◌, ◌∙◌, ℕ, List, refl, subst, sym,
 use Rattle.bx_attempts.specs.Calls.{HasChangeArgs, IsChanging}
 use Rattle.bx_engine.specs.Calls.{AsksSpace, HasNoFile, HasReadArgs, IsAtOnce, IsReading}
 use Rattle.bx_model.specs.declared.call.Args.{Args}
-use Rattle.bx_model.specs.declared.call.Args.TheVariants.{Refused, Nothing, Handle, List as Listing, Link, Make, Name, Read, Set, Path, Symlink, Write}
+use Rattle.bx_model.specs.declared.call.Args.TheVariants.{Refused, Nothing, Handle, List as Listing, Link, Make, Name, Read, Rename, Set, Path, Symlink, Write}
 use Rattle.bx_model.specs.declared.call.Call.{Call}
 
 module _ (call : Call) where
@@ -13,6 +13,7 @@ module _ (call : Call) where
   not_read_by (Link from at name) change read = read
   not_read_by (Symlink at name path sattr) change read = read
   not_read_by (Make at name sattr) change read = read
+  not_read_by (Rename from name to new_name) change read = read
   not_read_by (Write at begin offset total written) change read = read
   not_read_by (Set at sattr) change read = read
   not_read_by _ change read = absurd change
@@ -25,6 +26,7 @@ module _ (call : Call) where
   not_once_by (Link from at name) change once = once
   not_once_by (Symlink at name path sattr) change once = once
   not_once_by (Make at name sattr) change once = once
+  not_once_by (Rename from name to new_name) change once = once
   not_once_by (Write at begin offset total written) change once = once
   not_once_by (Set at sattr) change once = once
   not_once_by _ change once = absurd change

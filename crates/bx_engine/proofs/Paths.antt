@@ -12,7 +12,7 @@ use Rattle.bx_engine.specs.Paths.{HasOneBlock, IsOnPath, PathOf, ReadPathOf}
 use Rattle.bx_files.specs.Paths.{OnPiece, OnSearch}
 use Rattle.bx_inodes.specs.Stops.{OnInode}
 use Rattle.bx_model.specs.declared.call.Args.{Args}
-use Rattle.bx_model.specs.declared.call.Args.TheVariants.{Handle, Link, List as Listing, Make, Name, Read, Refused, Set, Symlink, Write}
+use Rattle.bx_model.specs.declared.call.Args.TheVariants.{Handle, Link, List as Listing, Make, Name, Read, Refused, Rename, Set, Symlink, Write}
 use Rattle.bx_model.specs.declared.call.Call.{Call}
 use Rattle.bx_nfs.specs.Wire.{ReadsAs}
 use Rattle.bx_reads.specs.Bytes.{OnReading}
@@ -59,6 +59,7 @@ module _ (held : Held) (hints : Hints) (volume areas : ℕ) where
   not_changing call at mode (Link from handle name) reads on = reads
   not_changing call at mode (Symlink handle name path sattr) reads on = reads
   not_changing call at mode (Make handle name sattr) reads on = reads
+  not_changing call at mode (Rename from name to new_name) reads on = reads
   not_changing call at mode (Write handle begin offset total written) reads on = reads
   not_changing call at mode (Set handle sattr) reads on = reads
   not_changing call at mode _ reads on = absurd on

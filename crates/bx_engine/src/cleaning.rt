@@ -18,12 +18,7 @@ impl BoxFs {
     ///
     /// `Inner` are the blocks that do so, where the area has a dead file; where it has none it is an answer without bytes. `Need` names a
     /// block of the dead file, or the own block of an area, that isn't held. On an error, which is want of memory alone, nothing is changed.
-    pub fn tidy<V: View>(
-        &self,
-        alloc: Global,
-        area: u16,
-        view: &V,
-    ) -> Result<Attempt, OutOfMemory>
+    pub fn tidy<V: View>(&self, alloc: Global, area: u16, view: &V) -> Result<Attempt, OutOfMemory>
         requires { area < self.now.areas }
         ensures gives { (truth : Truth) (tree : Tree) → IsTruth (V.held view.now) truth → StandsWith self.now.volume self.now.areas truth (V.hints view.now) tree
             → IfOk result (Tidies (StandsWith self.now.volume self.now.areas) (IsClean truth area) truth tree) }

@@ -39,7 +39,7 @@ pub struct BoxFs {
 
 impl BoxFs {
     /// Attempts a call over a view, by its client's number and its bytes, at a moment in milliseconds, at most 4294967295999. `None`
-    /// exactly where the bytes are none of the calls that are built: all but RENAME, and CREATE with a size. Bytes that are no call are none.
+    /// exactly where the bytes are none of the calls that are built, which are those of all procedures. Bytes that are no call are none.
     ///
     /// `Need` names a block that isn't held and is on the call's path: of GETATTR, READLINK and STATFS the block of the file's inode, shared; where
     /// that is held, for STATFS the own block of the first area that isn't, for READ a page or a piece of the file, for LOOKUP a page of the directory or

@@ -10,7 +10,7 @@ const ROOT: u64 = 1;
 
 /// The procedures, of which some come twice.
 const ALL: [u32; 20] = [
-    1, 2, 4, 5, 6, 8, 8, 9, 9, 10, 12, 12, 13, 14, 14, 15, 16, 17, 2, 10,
+    1, 2, 4, 5, 6, 8, 8, 9, 9, 10, 11, 12, 13, 14, 14, 15, 16, 17, 2, 10,
 ];
 
 /// Those that take blocks.

@@ -77,10 +77,6 @@ const MODE_CLOSING: &str =
 const WALK: &str =
     "boxwood 1 7 1 1 1\ncall 0 0 5 000000010000000000000002000186a3000000020000000000000000000000000000000000000000\nwalk\n";
 
-/// RENAME of an entry `a` of the root to `b`, which isn't built yet.
-const RENAME: &str =
-    "boxwood 1 7 1 1 1\ncall 0 0 5 000000010000000000000002000186a3000000020000000b00000000000000000000000000000000424f58574f4f44310000000000000007000000000000000100000000000000000000000161000000424f58574f4f44310000000000000007000000000000000100000000000000000000000162000000\n";
-
 /// Procedure 17 without its file handle, which is refused as a message, and its trace.
 const GARBAGE: &str =
     "boxwood 1 7 1 1 1\ncall 0 0 5 000000010000000000000002000186a3000000020000001100000000000000000000000000000000\nrun 0 1\n";
@@ -151,7 +147,6 @@ fn a_line_is_refused(rt: HostRuntime) -> Result<(), Fail> {
             Reason::Grammar,
             "",
         ),
-        (RENAME, 2, Reason::NotBuilt, ""),
         ("boxwood 1 7 2 1 1\n", 1, Reason::Grammar, ""),
         ("boxwood 1 7 1 1 1\ncall 0 1 5 00\n", 2, Reason::Grammar, ""),
         (WALK, 3, Reason::Grammar, NULL_TAKEN),

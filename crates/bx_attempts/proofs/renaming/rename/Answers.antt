@@ -1,0 +1,48 @@
+use Rattle.std.proofs.Common.{ℕ, List, subst, sym, inl, inr}
+use Rattle.std.specs.Prelude.{Err, IfOk}
+use Rattle.std.proofs.lemmas.Result.{IfOk-weaker}
+use Rattle.bx_attempts.proofs.Acting.{rename_acts}
+use Rattle.bx_attempts.proofs.Changing.{change_by_acts, changed_gives, error_refuses, refused_gives}
+use Rattle.bx_attempts.proofs.Fairness.{changed_fair, fair_over, refused_fair}
+use Rattle.bx_attempts.specs.Paths.{ChangePathOf}
+use Rattle.bx_changes.specs.Growing.{IsChangeBy}
+use Rattle.bx_renaming.specs.Path.{OnRename}
+use Rattle.bx_model.specs.Renaming.{rename}
+use Rattle.bx_model.specs.declared.call.Args.{Args}
+use Rattle.bx_model.specs.declared.reply.Reply.{Reply}
+use Rattle.bx_records.specs.Drafts.{Changed}
+use Rattle.bx_tree_files.specs.Times.{Time, time_of}
+use Rattle.bx_attempts.proofs.renaming.rename.Goals as goal
+
+pub returns-in-Ok-clause-gives : goal.returns-in-Ok-clause-gives
+returns-in-Ok-clause-gives g c = λ client bytes truth tree reads same s.
+    let a = c.args in
+    let call = a.call.now in
+    let step = rw c.time_of-now.ensures at (c.in-Ok.ensures.step truth tree same s.stands s.fit) in
+    let by = change_by_acts a.volume a.areas truth tree call a.moment (λ (spare : ℕ). rename tree a.call.now a.from.now a.name.now a.to.now a.new_name.now (time_of a.moment) spare) (λ spare. rename_acts tree call a.moment a.from.now a.name.now a.to.now a.new_name.now spare c.requires.args) c.in-Ok.draft c.in-Ok.reply step
+    (λ hints fit. c.in-Ok.ensures.hints hints truth tree same s.stands s.fit fit) in
+    IfOk-weaker c.changed.result _ _ (λ attempt is. changed_gives a.volume a.areas client bytes a.moment truth tree a.xid call reads c.requires.moment c.in-Ok.draft c.in-Ok.reply 0 attempt c.changed.ensures.fits by is) c.changed.ensures.is
+
+pub returns-in-Err-clause-gives : goal.returns-in-Err-clause-gives
+returns-in-Err-clause-gives g c = λ client bytes truth tree reads same s.
+    let a = c.args in
+    let call = a.call.now in
+    let step = subst (λ (t : Time). IsChangeBy a.volume a.areas truth (λ (spare : ℕ). rename tree a.call.now a.from.now a.name.now a.to.now a.new_name.now t spare) (Err c.in-Err.error)) c.time_of-now.ensures (c.in-Err.ensures.step truth tree same s.stands s.fit) in
+    let by = error_refuses a.volume a.areas truth tree call a.moment (λ (spare : ℕ). rename tree a.call.now a.from.now a.name.now a.to.now a.new_name.now (time_of a.moment) spare) (λ spare. rename_acts tree call a.moment a.from.now a.name.now a.to.now a.new_name.now spare c.requires.args) c.in-Err.error step in
+    IfOk-weaker c.refused.result _ _ (λ attempt is. refused_gives a.volume a.areas client bytes a.moment truth tree a.xid call reads c.requires.moment s.stands c.in-Err.error attempt by is) c.refused.ensures
+
+pub returns-in-Ok-clause-fair : goal.returns-in-Ok-clause-fair
+returns-in-Ok-clause-fair g c =
+    let a = c.args in
+    let held = g.V.View.held a.view.now in
+    let Path = ChangePathOf held (g.V.View.hints a.view.now) a.volume a.areas a.call.now.procedure a.call.now.args in
+    IfOk-weaker c.changed.result _ _ (λ attempt is. changed_fair a.xid a.areas held Path attempt c.in-Ok.draft c.in-Ok.reply 0 c.in-Ok.ensures.held is) c.changed.ensures.is
+
+pub returns-in-Err-clause-fair : goal.returns-in-Err-clause-fair
+returns-in-Err-clause-fair g c =
+    let a = c.args in
+    let held = g.V.View.held a.view.now in
+    let hints = g.V.View.hints a.view.now in
+    IfOk-weaker c.refused.result _ _
+    (λ attempt is. fair_over a.areas held (OnRename held hints a.volume a.areas a.from.now a.name.now a.to.now a.new_name.now) (ChangePathOf held hints a.volume a.areas a.call.now.procedure a.call.now.args) (λ block mode on. subst (λ (args : Args). ChangePathOf held hints a.volume a.areas a.call.now.procedure args block mode) (sym c.requires.args) on) attempt
+    (refused_fair a.xid a.areas held (OnRename held hints a.volume a.areas a.from.now a.name.now a.to.now a.new_name.now) attempt c.in-Err.error c.in-Err.ensures.need c.in-Err.ensures.first is)) c.refused.ensures

@@ -1,0 +1,50 @@
+//! Files that get other names.
+
+ghost use Rattle.std.specs.Prelude.{◌≡◌, ◌≤◌, ℕ, List, length, IfOk};
+ghost use Rattle.bx_chunks.specs.Counting.{free_slots};
+ghost use Rattle.bx_model.specs.declared.call.Args.TheVariants.{Rename};
+ghost use Rattle.bx_model.specs.declared.tree.Tree.{Tree};
+ghost use Rattle.bx_nfs.specs.Wire.{ReadsAs};
+ghost use Rattle.bx_views.specs.Attempts.{Gives, IsFair};
+ghost use Rattle.bx_views.specs.Truths.{IsTruth, Truth};
+ghost use Rattle.bx_attempts.specs.Paths.{ChangePathOf};
+ghost use Rattle.bx_attempts.specs.Steps.{StandsWith, Step};
+
+use crate::replies::{changed, refused};
+use crate::times::time_of;
+use bx_base::OutOfMemory;
+use bx_model::Call;
+use bx_views::{Attempt, View};
+use std::alloc::Global;
+
+/// Attempts RENAME of a name in the directory that one file handle names to another name, of at most 255 bytes, in the directory that another names, of a
+/// volume by its number and its areas, at most 64, at a moment in milliseconds: `bx_renaming::rename`, as an attempt.
+pub(crate) fn rename<V: View>(
+    alloc: Global,
+    volume: u64,
+    areas: u16,
+    xid: u32,
+    call: &Call,
+    from: &[u8],
+    name: &[u8],
+    to: &[u8],
+    new_name: &[u8],
+    moment: u64,
+    view: &V,
+) -> Result<Attempt, OutOfMemory>
+    requires areas { areas ≤ 64 }
+    requires args { call.now.args ≡ Rename from.now name.now to.now new_name.now }
+    requires new_name { length new_name.now ≤ 255 }
+    requires moment { moment ≤ 4294967295999 }
+    ensures gives { (client : ℕ) (bytes : List ℕ) (truth : Truth) (tree : Tree) → ReadsAs bytes xid call.now → IsTruth (V.held view.now) truth → StandsWith volume areas truth (V.hints view.now) tree
+        → IfOk result (Gives (StandsWith volume areas) Step (free_slots areas truth) client bytes moment truth tree) }
+    ensures fair { IfOk result (IsFair areas (V.held view.now) (ChangePathOf (V.held view.now) (V.hints view.now) volume areas call.now.procedure call.now.args)) }
+{
+    let now = time_of(moment);
+    match bx_renaming::rename(
+        alloc, volume, areas, call, from, name, to, new_name, now, view,
+    ) {
+        Ok((draft, reply)) => changed(alloc, xid, draft, reply, 0),
+        Err(error) => refused(alloc, xid, error),
+    }
+}

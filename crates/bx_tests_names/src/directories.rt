@@ -48,7 +48,9 @@ fn desk_of(alloc: Global) -> Result<Desk, Fail> {
 
 /// Whether the look-up of a name in the root is answered so.
 fn is_found(alloc: Global, desk: &Desk, name: &[u32], reply: &[u32]) -> bool {
-    is_answered(alloc, desk, &[&nobody(1, 4), &ROOT, name], 0, reply)
+    let call = nobody(1, 4);
+    let parts: [&[u32]; 3] = [&call, &ROOT, name];
+    is_answered(alloc, desk, &parts, 0, reply)
 }
 
 #[test]

@@ -59,7 +59,7 @@ fn name_words(number: u32) -> [u32; 2] {
 fn sattr_words(chance: &mut Chance) -> [u32; 8] {
     let mut words = [ALONE; 8];
     if chance.below(2) == 0 {
-        words[0] = 0o700 + chance.below(64);
+        words[0] = 0o700 | chance.below(64);
     }
     if chance.below(8) == 0 {
         words[1] = chance.below(2);

@@ -95,7 +95,7 @@ fn one_call(
     turn: u32,
 ) -> Result<bool, Fail> {
     world.made = 0;
-    let is_same = world.takes(alloc, call, u64::from(turn) * 7)?;
+    let is_same = world.takes(alloc, call, turn.wrapping_mul(7))?;
     if world.made != 0 {
         files.add(world.made);
     }

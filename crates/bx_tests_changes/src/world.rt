@@ -122,8 +122,8 @@ impl World {
     }
 
     /// What an attempt of a call at a moment comes to. What it changes is held then.
-    fn attempted(&mut self, alloc: Global, call: &[u8], moment: u64) -> Result<Came, Fail> {
-        match ENGINE.attempt(alloc, 5, call, moment, &*self)? {
+    fn attempted(&mut self, alloc: Global, call: &[u8], moment: u32) -> Result<Came, Fail> {
+        match ENGINE.attempt(alloc, 5, call, u64::from(moment), &*self)? {
             Some(Attempt::Inner(draft)) => {
                 self.take_in(alloc, &draft)?;
                 Ok(Came::Again)
@@ -138,7 +138,7 @@ impl World {
     }
 
     /// What a call does at a moment, once all that is to be written first was.
-    fn acted(&mut self, alloc: Global, call: &[u8], moment: u64) -> Result<Option<Done>, Fail> {
+    fn acted(&mut self, alloc: Global, call: &[u8], moment: u32) -> Result<Option<Done>, Fail> {
         for _ in 0..ATTEMPTS {
             match self.attempted(alloc, call, moment)? {
                 Came::Again => {}
@@ -150,14 +150,17 @@ impl World {
     }
 
     /// Whether a call at a moment is answered over the blocks as by the tree, with the free blocks and the handle that are told.
-    pub(crate) fn takes(&mut self, alloc: Global, call: &[u8], moment: u64) -> Result<bool, Fail> {
+    pub(crate) fn takes(&mut self, alloc: Global, call: &[u8], moment: u32) -> Result<bool, Fail> {
         let Some(done) = self.acted(alloc, call, moment)? else {
             return Ok(false);
         };
         let Some((xid, read)) = bx_nfs::reads_as(alloc, call)? else {
             return Ok(false);
         };
-        let Some(reply) = self.tree.act(&read, moment, done.spare, done.made)? else {
+        let Some(reply) = self
+            .tree
+            .act(&read, u64::from(moment), done.spare, done.made)?
+        else {
             return Ok(false);
         };
         if done.made != 0 {

@@ -20,6 +20,9 @@ const BLOCKS: u16 = 961;
 /// How many buckets there are, of sixteen blocks each.
 const BUCKETS: u64 = 61;
 
+/// How many blocks may be free.
+const MOST_FREE: u64 = 960;
+
 /// How often a call is attempted: once for each page to be written before, on each level of a tree, and once more.
 const ATTEMPTS: u32 = 12;
 
@@ -157,6 +160,9 @@ impl World {
         let Some((xid, read)) = bx_nfs::reads_as(alloc, call)? else {
             return Ok(false);
         };
+        if done.spare > MOST_FREE {
+            return Ok(false);
+        }
         let Some(reply) = self
             .tree
             .act(&read, u64::from(moment), done.spare, done.made)?

@@ -1,5 +1,5 @@
 -- A datagram is one call at most.
-use Rattle.std.proofs.Common.{◌≡◌, ℕ, ◌<◌, ◌≤◌, List, length, drop, refl, sym, ap, ◌∙◌, subst, inl, inr, arith}
+use Rattle.std.proofs.Common.{◌≡◌, ℕ, ◌<◌, ◌≤◌, List, length, drop, refl, sym, ap, ◌∙◌, inl, inr, arith}
 use Rattle.bx_rpc.specs.declared.caller.Caller.{Caller}
 use Rattle.bx_rpc.specs.declared.opened.Opened.{Opened}
 use Rattle.bx_rpc.specs.Checks.{Verdict}
@@ -9,7 +9,7 @@ use Rattle.bx_rpc.proofs.Verdicts.{verdict_once}
 use Rattle.bx_rpc.proofs.Openings.{call_once}
 use Rattle.bx_model.specs.declared.call.Call.{Call}
 use Rattle.bx_nfs.specs.Forms.{form_of}
-use Rattle.bx_nfs.specs.Wire.{refused_call, passed_call, FromArguments, IsOf, ReadsAs, IsServedCall, IsServed}
+use Rattle.bx_nfs.specs.Wire.{refused_call, passed_call, FromArguments, IsOf, ReadsAs}
 use Rattle.bx_nfs.proofs.OneForm.{arguments_once}
 
 arguments_same : (p q : ℕ) (caller : Caller) (text : List ℕ) (a b : Call) → FromArguments p q caller a text → FromArguments p q caller b text → a ≡ b
@@ -30,11 +30,6 @@ reads_once bytes x y a b r s =
     let message = call_once bytes x y r.text s.text r.message s.message in
     let verdict = verdict_once s.text r.verdict s.verdict (rw message.1 at r.checked) s.checked in
     (message.0, is_of-same s.verdict a b (rw verdict at r.says) s.says)
-
--- a datagram whose call is not served is not served
-pub unserved : (bytes : List ℕ) (xid : ℕ) (call : Call) → ReadsAs bytes xid call → (IsServedCall call → ⊥) → IsServed bytes → ⊥
-unserved bytes xid call reads none served =
-    none (subst IsServedCall (reads_once bytes served.xid xid served.call call served.reads reads).1 served.served)
 
 -- a datagram that opens is a call
 reads-refused : (bytes : List ℕ) (verdict : Verdict) (opened : Opened) → Says bytes verdict opened → 0 < opened.refusal → IsOf verdict (refused_call opened.refusal opened.program)

@@ -6,7 +6,7 @@ use Rattle.bx_rpc.specs.Checks.{Verdict, Checks}
 use Rattle.bx_rpc.specs.Checks.Verdict.{refused, passed}
 use Rattle.bx_rpc.specs.Message.{IsCall}
 use Rattle.bx_model.specs.declared.call.Args.{Args}
-use Rattle.bx_model.specs.declared.call.Args.TheVariants.{Refused, Nothing, Handle}
+use Rattle.bx_model.specs.declared.call.Args.TheVariants.{Refused}
 use Rattle.bx_model.specs.declared.call.Call.{Call}
 use Rattle.bx_nfs.specs.Forms.{Arguments, form_of}
 pub use Rattle.bx_nfs.specs.Results.{reply_text}
@@ -37,21 +37,3 @@ pub record ReadsAs (bytes : List ℕ) (xid : ℕ) (call : Call) : Type 0 where
   pub message : IsCall bytes xid text
   pub checked : Checks verdict text
   pub says : IsOf verdict call
-
--- The calls that the command serves: those that are refused, and of NFS NULL (0) and GETATTR (1).
-abbrev pub HasServedArgs : Call → Args → Type 0
-HasServedArgs call (Refused number) = Unit {0}
-HasServedArgs call Nothing = (call.program ≡ 100003) × (call.procedure ≡ 0)
-HasServedArgs call (Handle handle) = (call.program ≡ 100003) × (call.procedure ≡ 1)
-HasServedArgs call _ = ⊥
-
--- the command serves the call
-abbrev pub IsServedCall : Call → Type 0
-IsServedCall call = HasServedArgs call call.args
-
--- the datagrams that the command serves
-pub record IsServed (bytes : List ℕ) : Type 0 where
-  pub xid : ℕ
-  pub call : Call
-  pub reads : ReadsAs bytes xid call
-  pub served : IsServedCall call

@@ -8,18 +8,11 @@ ghost use Rattle.bx_model.specs.declared.call.Call.{Call};
 ghost use Rattle.bx_model.specs.declared.reply.Reply.{Reply};
 ghost use Rattle.bx_nfs.specs.Forms.{Arguments, form_of};
 ghost use Rattle.bx_nfs.specs.Limits.{IsLimited};
-ghost use Rattle.bx_nfs.specs.Wire.{IsServed, IsServedCall, ReadsAs, FromArguments, passed_call, reply_text};
+ghost use Rattle.bx_nfs.specs.Wire.{ReadsAs, FromArguments, passed_call, reply_text};
 
 /// A datagram is one call at most.
 pub fn one_reading()
     ensures { (bytes : List ℕ) (x y : ℕ) (a b : Call) → ReadsAs bytes x a → ReadsAs bytes y b → (x ≡ y) × (a ≡ b) }
-{}
-
-/// The datagrams that are served are those that are a call that is served.
-pub fn served_calls()
-    ensures reads { (bytes : List ℕ) → IsServed bytes → (xid : ℕ) × (call : Call) × ReadsAs bytes xid call × IsServedCall call }
-    ensures served { (bytes : List ℕ) (xid : ℕ) (call : Call) → ReadsAs bytes xid call → IsServedCall call → IsServed bytes }
-    ensures unserved { (bytes : List ℕ) (xid : ℕ) (call : Call) → ReadsAs bytes xid call → (IsServedCall call → ⊥) → IsServed bytes → ⊥ }
 {}
 
 /// What stands behind the arguments of a call doesn't matter to what it reads as.

@@ -7,9 +7,7 @@ mod forms;
 mod items;
 mod laws;
 mod replies;
-mod served;
 
 pub use calls::reads_as;
-pub use laws::{lengths, one_reading, served_calls, tail_passed_over};
+pub use laws::{lengths, one_reading, tail_passed_over};
 pub use replies::text;
-pub use served::is_served;

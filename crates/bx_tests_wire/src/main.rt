@@ -46,9 +46,6 @@ fn datagram(alloc: Global, line: &mut Line, bytes: &[u8]) -> Result<(), Error> {
         return Ok(());
     };
     calls::tell(line, xid, &call);
-    if bx_nfs::is_served(&call) {
-        line.text(" served");
-    }
     let reply = sample::reply(alloc, &call)?;
     let reply = bx_nfs::text(alloc, xid, &reply)?;
     line.text(" ->");

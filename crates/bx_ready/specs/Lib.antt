@@ -2,4 +2,5 @@ pub mod Descents
 pub mod Spare
 pub mod Separators
 pub mod Rooms
+pub mod Lacking
 pub mod Ready

@@ -1,5 +1,5 @@
 -- A call that a datagram is has the arguments of its procedure.
-use Rattle.std.proofs.Common.{◌≡◌, ℕ, ◌+◌, ◌≤◌, ◌⊎◌, Bool, true, false, List, length, refl, sym, subst, inl, inr, arith}
+use Rattle.std.proofs.Common.{◌≡◌, ℕ, ◌+◌, ◌≤◌, Bool, true, false, List, refl, sym, subst, inl, inr, arith}
 use Rattle.std.specs.Prelude.{◌==◌, if◌then◌else◌}
 use Rattle.std.proofs.lemmas.Bool.{cases_eq, eqb-false, eqb-true}
 use Rattle.bx_rpc.specs.Checks.{Verdict, Checks, IsProgram, last_procedure}
@@ -12,7 +12,7 @@ use Rattle.bx_nfs.specs.Asked.{AsksFile, AsksName, AsksNew, AsksNothing, AsksPat
 use Rattle.bx_nfs.specs.declared.forms.Form.{Form}
 use Rattle.bx_nfs.specs.declared.forms.Form.TheVariants as forms
 use Rattle.bx_nfs.specs.Forms.{Arguments, form_of, mount_form, nfs_form}
-use Rattle.bx_nfs.specs.Wire.{IsOf, ReadsAs, passed_call, refused_call}
+use Rattle.bx_nfs.specs.Wire.{IsOf, ReadsAs, passed_call}
 
 -- what a call asks whose arguments have a form
 abbrev AsksBy : Form → Call → Type 0
@@ -79,25 +79,25 @@ module _ (call : Call) where
               | inr n3 ↦ elim (cases_eq q 7) [
                 | inl e ↦ inl (inr (inr (nfs 7 e)))
                 | inr n7 ↦ (
-                let l1 = above q 0 (omega arith) n0 in
-                let l2 = above q 1 l1 n1 in
-                let l3 = above q 2 l2 n2 in
-                let l4 = above q 3 l3 n3 in
-                let l5 = above q 4 l4 n4 in
-                let l6 = above q 5 l5 n5 in
-                let l7 = above q 6 l6 n6 in
-                let l8 = above q 7 l7 n7 in
-                let l9 = above q 8 l8 n8 in
-                let l10 = above q 9 l9 n9 in
-                let l11 = above q 10 l10 n10 in
-                let l12 = above q 11 l11 n11 in
-                let l13 = above q 12 l12 n12 in
-                let l14 = above q 13 l13 n13 in
-                let l15 = above q 14 l14 n14 in
-                let l16 = above q 15 l15 n15 in
-                let l17 = above q 16 l16 n16 in
-                let l18 = above q 17 l17 n17 in
-                absurd (omega (arith, l18, most)))
+                    let l1 = above q 0 (omega arith) n0 in
+                    let l2 = above q 1 l1 n1 in
+                    let l3 = above q 2 l2 n2 in
+                    let l4 = above q 3 l3 n3 in
+                    let l5 = above q 4 l4 n4 in
+                    let l6 = above q 5 l5 n5 in
+                    let l7 = above q 6 l6 n6 in
+                    let l8 = above q 7 l7 n7 in
+                    let l9 = above q 8 l8 n8 in
+                    let l10 = above q 9 l9 n9 in
+                    let l11 = above q 10 l10 n10 in
+                    let l12 = above q 11 l11 n11 in
+                    let l13 = above q 12 l12 n12 in
+                    let l14 = above q 13 l13 n13 in
+                    let l15 = above q 14 l14 n14 in
+                    let l16 = above q 15 l15 n15 in
+                    let l17 = above q 16 l16 n16 in
+                    let l18 = above q 17 l17 n17 in
+                    absurd (omega (arith, l18, most)))
               ]
             ]
           ]
@@ -117,12 +117,12 @@ module _ (call : Call) where
               | inr n2 ↦ elim (cases_eq q 4) [
                 | inl e ↦ inr (inr (inr (inl (mounts 4 e))))
                 | inr n4 ↦ inr (inr (inr (inr (mounts 5 (
-                let l1 = above q 0 (omega arith) n0 in
-                let l2 = above q 1 l1 n1 in
-                let l3 = above q 2 l2 n2 in
-                let l4 = above q 3 l3 n3 in
-                let l5 = above q 4 l4 n4 in
-                omega (arith, l5, most))))))
+                    let l1 = above q 0 (omega arith) n0 in
+                    let l2 = above q 1 l1 n1 in
+                    let l3 = above q 2 l2 n2 in
+                    let l4 = above q 3 l3 n3 in
+                    let l5 = above q 4 l4 n4 in
+                    omega (arith, l5, most))))))
               ]
             ]
           ]

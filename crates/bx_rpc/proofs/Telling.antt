@@ -1,5 +1,5 @@
 -- The test of a datagram tells exactly those that are a call's.
-use Rattle.std.proofs.Common.{◌≡◌, ℕ, ◌+◌, ◌*◌, ◌^◌, ◌<◌, ◌≤◌, Bool, true, false, List, [], ◌∷◌, ◌++◌, length, get_or, take, drop, refl, sym, ap, ◌∙◌, inl, inr, arith}
+use Rattle.std.proofs.Common.{◌≡◌, ℕ, ◌^◌, ◌<◌, ◌≤◌, Bool, true, false, List, [], ◌∷◌, ◌++◌, length, take, drop, refl, sym, ap, ◌∙◌, inl, inr, arith}
 use Rattle.std.specs.Prelude.{◌&&◌, nat_le}
 use Rattle.std.specs.Int.{w32, to_be_bytes, from_be_bytes}
 use Rattle.std.specs.Str.{bytes_eq}
@@ -8,7 +8,6 @@ use Rattle.std.proofs.lemmas.List.{take-append-drop, length-take, length-drop, g
 use Rattle.std.proofs.lemmas.Nat.{be_bytes_4}
 use Rattle.std.proofs.lemmas.Slice.Eq.{bytes_eq-Decides}
 use Rattle.bx_base.specs.Bytes.{IsBytes, words}
-use Rattle.bx_xdr.specs.Items.{AreWords, SpellsWords, Reads}
 use Rattle.bx_rpc.specs.Message.{IsCall, is_message}
 
 both : (a b : Bool) → (a && b) ≡ true → (a ≡ true) × (b ≡ true)
@@ -26,9 +25,6 @@ told datagram xid text call =
     let second : take 4 (drop 4 datagram) ≡ 0 ∷ 0 ∷ 0 ∷ 0 ∷ [] = ap (λ (d : List ℕ). take 4 (drop 4 d)) whole in
     as_both (nat_le (length datagram) 9216) (bytes_eq (take 4 (drop 4 datagram)) (0 ∷ 0 ∷ 0 ∷ 0 ∷ [])) (le-leb (length datagram) 9216 call.short)
     ((bytes_eq-Decides (take 4 (drop 4 datagram)) (0 ∷ 0 ∷ 0 ∷ 0 ∷ [])).1 second)
-
-
-
 
 -- the first four of bytes are bytes
 front_fits : (bytes : List ℕ) → IsBytes bytes → IsBytes (take 4 bytes)
@@ -62,15 +58,18 @@ tells datagram fits is =
     let text : List ℕ = drop 4 (drop 4 datagram) in
     let behind : drop 4 datagram ≡ (0 ∷ 0 ∷ 0 ∷ 0 ∷ []) ++ text = sym (take-append-drop 4 (drop 4 datagram)) ∙ ap (λ (s : List ℕ). s ++ text) second in
     let whole : datagram ≡ words (xid ∷ 0 ∷ []) ++ text =
-    sym (take-append-drop 4 datagram) ∙ ap (λ (s : List ℕ). s ++ drop 4 datagram) (sym number) ∙ ap (λ (s : List ℕ). to_be_bytes w32 xid ++ s) behind in
-    (xid, text, record {
-      short = leb-true (length datagram) 9216 passes.0;
-      reads = record {
-        spelling = words (xid ∷ 0 ∷ []);
-        spells = record { count = refl; fit = (four_fit first (front_fits datagram fits) four, (omega arith, tt)); parts = refl };
-        parts = whole;
-      };
-    })
+    sym (take-append-drop 4 datagram) ∙ ap (λ (s : List ℕ). s ++ drop 4 datagram) (sym number) ∙ ap (λ (s : List ℕ). to_be_bytes w32 xid ++ s) behind in (
+      xid,
+      text,
+      record {
+        short = leb-true (length datagram) 9216 passes.0;
+        reads = record {
+          spelling = words (xid ∷ 0 ∷ []);
+          spells = record { count = refl; fit = (four_fit first (front_fits datagram fits) four, (omega arith, tt)); parts = refl };
+          parts = whole;
+        };
+      },
+    )
 
 -- bytes that are no call's don't pass
 pub fails : (datagram : List ℕ) → IsBytes datagram → ((xid : ℕ) (text : List ℕ) → IsCall datagram xid text → ⊥) → is_message datagram ≡ false

@@ -57,7 +57,7 @@ const MOST_PATH: usize = 1024;
 /// How many bytes are written at once at most.
 const MOST_DATA: usize = 8192;
 
-/// Whether a call changes the file tree, and is built: it is SETATTR, WRITE, CREATE, REMOVE, RENAME, LINK,
+/// Whether a call changes the file tree: it is SETATTR, WRITE, CREATE, REMOVE, RENAME, LINK,
 /// SYMLINK, MKDIR or RMDIR.
 pub fn is_change(call: &Call) -> bool
     ensures { IsTrue result ↔ IsChanging call.now }

@@ -31,7 +31,7 @@ returns-clause-ready g c =
       joined = said.joined;
       used = awaits_used node.stage (out_at store.slots.items 0) _ (said.awaits ready.used);
       room = room_kept (store_needs mid.store) (store_needs store) (g.B.Rack.state c.sync_member-2.new.bench).sizes said.needs ready.room;
-      built = λ call there. ready.built call (said.queue call there);
+      messages = λ call there. ready.messages call (said.queue call there);
       rising = rising_turned c.args.moment mid.node node c.in_ok-acted.acted ready.whole said.moments said.takes mid.latest ready.rising;
     }
 

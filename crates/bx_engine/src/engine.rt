@@ -17,7 +17,7 @@ ghost use Rattle.bx_views.specs.Truths.{IsTruth, Truth};
 ghost use Rattle.bx_engine.specs.Calls.{AsksSpace, IsAboutFile, IsAtOnce, IsAtOnceCall, IsReadCall, IsReading, IsSpaceCall};
 ghost use Rattle.bx_engine.specs.Outcomes.{ChangesNothing, Comes, ComesSpace, TellsFree, TellsNothing, told_free};
 ghost use Rattle.bx_engine.specs.Paths.{IsOnPath, PathOf, ReadPathOf};
-ghost use Rattle.bx_engine.specs.Steps.{StandsWith, Step};
+ghost use Rattle.bx_steps.specs.Steps.{StandsWith, Step};
 
 use crate::mounting::mounted;
 use crate::plain::plain;

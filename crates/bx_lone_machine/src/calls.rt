@@ -18,7 +18,7 @@ impl Procedures for Calls {
     ghost use Rattle.bx_chunks.specs.Counting.{free_slots};
     ghost use Rattle.bx_clean.specs.Tidying.{IsClean, OnTidyPath};
     ghost use Rattle.bx_engine.specs.Paths.{IsOnPath};
-    ghost use Rattle.bx_engine.specs.Steps.{Step};
+    ghost use Rattle.bx_steps.specs.Steps.{Step};
     ghost use Rattle.bx_rpc.specs.Message.{is_message};
     ghost use Rattle.bx_views.specs.Truths.{no_hints};
 

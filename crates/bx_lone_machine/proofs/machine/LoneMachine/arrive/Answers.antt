@@ -1,5 +1,5 @@
 use Rattle.std.proofs.Common.{◌≡◌, true, refl, [], ◌∷◌, ◌++◌, Contains, sym, subst}
-use Rattle.bx_engine.specs.Steps.{Step}
+use Rattle.bx_steps.specs.Steps.{Step}
 use Rattle.bx_global.specs.Opening.{opening_state}
 use Rattle.bx_lone_node.specs.Node.{IsJoined, IsUsed, NodeView, unanswered}
 use Rattle.bx_lone_node.specs.Standing.{NodeStands, StandsFor}

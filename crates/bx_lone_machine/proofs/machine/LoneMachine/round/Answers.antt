@@ -1,5 +1,5 @@
 use Rattle.std.proofs.Common.{ap, ◌≡◌, refl, ◌∙◌, subst}
-use Rattle.bx_engine.specs.Steps.{Step}
+use Rattle.bx_steps.specs.Steps.{Step}
 use Rattle.bx_global.specs.Opening.{opening_state}
 use Rattle.bx_lone_node.specs.Node.{NodeView, calls_of as node_calls, unanswered}
 use Rattle.bx_lone_node.specs.declared.stage.Stage.{Stage}

@@ -1,4 +1,5 @@
 pub mod Filled
+pub mod Along
 pub mod Followed
 pub mod LookedUp
 pub mod RunSlots

@@ -109,8 +109,8 @@ impl Page {
         alloc: Global,
         mut entries: Entries,
     ) -> Result<Put, OutOfMemory>
-        ensures list { (names : List Name) → DoFit names → entries ≡ map by_number names → IfOk result (PutsSo self.old names self.new) }
-        ensures room { IfOk result (λ put. put ≡ All → self.new.room + length entries ≤ self.old.room) }
+        ensures list { (names : List Name) → DoFit names → entries.entry ≡ map by_number names → IfOk result (PutsSo self.old names self.new) }
+        ensures room { IfOk result (λ put. put ≡ All → self.new.room + length entries.entry ≤ self.old.room) }
     {
         while let Some(entry) = entries.next() {
             match numbered_in(entry.key(), entry.value()) {

@@ -1,8 +1,8 @@
 -- The entries of a directory behind a number are what its map has from a key on.
-use Rattle.std.proofs.Common.{◌≡◌, ℕ, ◌^◌, ◌<◌, suc, Bool, true, false, eqb, List, [], ◌∷◌, ◌++◌, map, cond, refl, sym, ap, ◌∙◌, subst, Option, Some, None, arith}
+use Rattle.std.proofs.Common.{◌≡◌, ℕ, ◌^◌, ◌<◌, suc, Bool, true, false, eqb, List, [], ◌∷◌, ◌++◌, map, cond, refl, sym, ap, ◌∙◌, Option, Some, None, arith}
 use Rattle.std.proofs.Common.{Ordering, Less, Equal, Greater}
 use Rattle.std.specs.Prelude.{All, Contains, filter, nat_lt, not}
-use Rattle.std.specs.Ordering.{is_lt, nat_cmp, ordering_then, ordering_reverse}
+use Rattle.std.specs.Ordering.{is_lt, nat_cmp, ordering_then}
 use Rattle.std.specs.Cmp.Lexicographic.{slice_cmp}
 use Rattle.std.proofs.lemmas.Bool.Decides.{nat_tests}
 use Rattle.bx_page.specs.declared.entry.Entry.{Entry}
@@ -12,7 +12,7 @@ use Rattle.bx_page.proofs.Cuts.{filter_all}
 use Rattle.bx_page.proofs.Order.{below_trans, not_below_itself}
 use Rattle.bx_tree_files.specs.declared.file.Name.{Name}
 use Rattle.bx_tree_files.specs.Entries.{above as numbers_above}
-use Rattle.bx_truth.specs.Keys.{entry_key, entry_value}
+use Rattle.bx_truth.specs.Keys.{entry_key}
 use Rattle.bx_truth.specs.Stored.{AreNames}
 use Rattle.bx_dirs.specs.Entries.{DoFit, by_number, key_behind}
 use Rattle.bx_dirs.proofs.Firsts.{first_from}

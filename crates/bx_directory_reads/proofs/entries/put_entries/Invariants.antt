@@ -1,4 +1,4 @@
-use Rattle.std.proofs.Common.{◌≡◌, List, []}
+use Rattle.std.proofs.Common.{List, []}
 use Rattle.bx_dirs.specs.Entries.{HasEntries}
 use Rattle.bx_tree_files.specs.declared.file.Name.{Name}
 use Rattle.bx_tree_files.specs.Entries.{above}

@@ -1,4 +1,4 @@
-use Rattle.std.proofs.Common.{◌∷◌, List, true, false, refl, subst, sym, ◌∙◌}
+use Rattle.std.proofs.Common.{List, true, false, refl, subst, sym, ◌∙◌}
 use Rattle.bx_dirs.specs.Entries.{IsNoNumbered}
 use Rattle.bx_directory_reads.proofs.Filled.{put_as}
 use Rattle.bx_directory_reads.proofs.Putting.{entry_of, goes_on, less_room, no_stray, stops}

@@ -1,6 +1,6 @@
--- At a key's leaf that has no entry from the key on: the first one is the first from its high key on.
-use Rattle.std.proofs.Common.{◌≡◌, ℕ, true, false, List, [], ◌∷◌, ◌++◌, Some, None, refl, sym, ap, ◌∙◌}
-use Rattle.std.specs.Prelude.{not}
+-- At a key's leaf: what is behind it is what there is from its high key on.
+use Rattle.std.proofs.Common.{◌≡◌, ℕ, true, false, List, [], ◌∷◌, ◌++◌, Option, Some, None, refl, sym, ap, ◌∙◌}
+use Rattle.std.specs.Prelude.{not, IfSome}
 use Rattle.std.proofs.lemmas.List.{append_assoc}
 use Rattle.std.proofs.lemmas.List.Elements.{All-weaker}
 use Rattle.bx_page.specs.declared.entry.Entry.{Entry}
@@ -9,6 +9,7 @@ use Rattle.bx_page.specs.Contents.{Contents, first, from}
 use Rattle.bx_page.proofs.Order.{not_below_itself}
 use Rattle.bx_page.proofs.Cuts.{filter_all}
 use Rattle.bx_truth.specs.PageTrees.{Chunks, Node, IsIn, Leads, PageTree, IsTree, entries_of, map_of}
+use Rattle.bx_blink.specs.Leaves.{IsLeafOf, IsNextLeaf, behind_leaf}
 use Rattle.bx_blink.specs.Places.{IsPlaceOf}
 use Rattle.bx_blink.proofs.Entries.{from_within}
 use Rattle.bx_blink.proofs.Chains.{leads_in}
@@ -42,21 +43,23 @@ module _ (chunks : Chunks) (root : ℕ) (tree : PageTree) (is : IsTree chunks ro
   chained : (key : List ℕ) (handle : ℕ) (page : Contents) (p : IsPlaceOf tree 0 key handle page) → Leads p.node (p.there).behind
   chained key handle page p = leads_in (p.there).before p.node (p.there).behind (rw (p.there).parts at (is.levels 0 p.within).chain)
 
-  pub nowhere : (key : List ℕ) (handle : ℕ) (page : Contents) → IsPlaceOf tree 0 key handle page → first (from page.entries key) ≡ None → page.high ≡ None → first (from (map_of tree) key) ≡ None
-  nowhere key handle page p e high = ap first (behind key handle page p e ∙ by_behind (p.there).behind (chained key handle page p))
+  -- where it has no high key, there is nothing behind it
+  none_behind : (key : List ℕ) (handle : ℕ) (page : Contents) (p : IsPlaceOf tree 0 key handle page) → page.high ≡ None → entries_of (p.there).behind ≡ []
+  none_behind key handle page p high = by_behind (p.there).behind (chained key handle page p)
     where
       by_behind : (nodes : List Node) → Leads p.node nodes → entries_of nodes ≡ []
       by_behind [] l = refl
       by_behind (next ∷ more) l = absurd (none_some next.begins (sym high ∙ ap (λ (c : Contents). c.high) (sym p.page_is) ∙ l.0.high))
 
-  -- the next leaf is the high key's
-  pub beyond : (key : List ℕ) (handle : ℕ) (page : Contents) (high : List ℕ) → IsPlaceOf tree 0 key handle page → first (from page.entries key) ≡ None → page.high ≡ Some high → from (map_of tree) key ≡ from (map_of tree) high
-  beyond key handle page high p e is_high = behind key handle page p e ∙ by_behind (p.there).behind (p.there).parts (chained key handle page p)
+  -- else the next leaf is the high key's
+  next_behind : (key : List ℕ) (handle : ℕ) (page : Contents) (high : List ℕ) (p : IsPlaceOf tree 0 key handle page) → page.high ≡ Some high
+      → (entries_of (p.there).behind ≡ from (map_of tree) high) × IsLeafOf tree high page.right
+  next_behind key handle page high p is_high = by_behind (p.there).behind (p.there).parts (chained key handle page p)
     where
       node_high : (p.node).page.high ≡ Some high
       node_high = ap (λ (c : Contents). c.high) p.page_is ∙ is_high
 
-      by_behind : (nodes : List Node) → tree.level 0 ≡ (p.there).before ++ p.node ∷ nodes → Leads p.node nodes → entries_of nodes ≡ from (map_of tree) high
+      by_behind : (nodes : List Node) → tree.level 0 ≡ (p.there).before ++ p.node ∷ nodes → Leads p.node nodes → (entries_of nodes ≡ from (map_of tree) high) × IsLeafOf tree high page.right
       by_behind [] parts l = absurd (none_some high (sym l.high ∙ node_high))
       by_behind (next ∷ more) parts l =
           let there : IsIn next (tree.level 0) = record { before = (p.there).before ++ p.node ∷ []; behind = more; parts = parts ∙ sym (append_assoc (p.there).before (p.node ∷ []) (next ∷ more)) } in
@@ -73,5 +76,24 @@ module _ (chunks : Chunks) (root : ℕ) (tree : PageTree) (is : IsTree chunks ro
           } in
           let all : from next.page.entries high ≡ next.page.entries =
           filter_all (λ (x : Entry). not (is_below x.key high)) next.page.entries
-          (All-weaker (λ (x : Entry). is_below x.key next.begins ≡ false) (λ (x : Entry). not (is_below x.key high) ≡ true) (λ x h. ap not (rw begins at h)) next.page.entries nd.lowest) in
-          ap (λ (es : List Entry). es ++ entries_of more) (sym all) ∙ sym (from_here high next.handle next.page q)
+          (All-weaker (λ (x : Entry). is_below x.key next.begins ≡ false) (λ (x : Entry). not (is_below x.key high) ≡ true) (λ x h. ap not (rw begins at h)) next.page.entries nd.lowest) in (
+            ap (λ (es : List Entry). es ++ entries_of more) (sym all) ∙ sym (from_here high next.handle next.page q),
+            record { node = next; there = there; handle_is = sym l.0.right ∙ ap (λ (c : Contents). c.right) p.page_is; begins_is = begins },
+          )
+
+  by_high : (key : List ℕ) (handle : ℕ) (page : Contents) (p : IsPlaceOf tree 0 key handle page) (high : Option (List ℕ)) → page.high ≡ high
+      → (entries_of (p.there).behind ≡ behind_leaf (map_of tree) high) × IfSome high (λ (h : List ℕ). IsLeafOf tree h page.right)
+  by_high key handle page p None is_high = (none_behind key handle page p is_high, tt)
+  by_high key handle page p (Some high) is_high = next_behind key handle page high p is_high
+
+  pub next_leaf : (key : List ℕ) (handle : ℕ) (page : Contents) → IsPlaceOf tree 0 key handle page → IsNextLeaf tree key key page
+  next_leaf key handle page p =
+      let h = by_high key handle page p page.high refl in
+      record { entries = from_here key handle page p ∙ ap (λ (es : List Entry). from page.entries key ++ es) h.0; onward = h.1 }
+
+  pub nowhere : (key : List ℕ) (handle : ℕ) (page : Contents) → IsPlaceOf tree 0 key handle page → first (from page.entries key) ≡ None → page.high ≡ None → from (map_of tree) key ≡ []
+  nowhere key handle page p e high = behind key handle page p e ∙ none_behind key handle page p high
+
+  -- the next leaf is the high key's
+  pub beyond : (key : List ℕ) (handle : ℕ) (page : Contents) (high : List ℕ) → IsPlaceOf tree 0 key handle page → first (from page.entries key) ≡ None → page.high ≡ Some high → from (map_of tree) key ≡ from (map_of tree) high
+  beyond key handle page high p e is_high = behind key handle page p e ∙ (next_behind key handle page high p is_high).0

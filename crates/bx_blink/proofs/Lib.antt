@@ -21,9 +21,11 @@ pub mod Paths
 pub mod RunLoops
 pub mod Leaves
 pub mod Landed
+pub mod Begins
 pub mod RunRights
 pub mod RunFound
 pub mod OneRun
+pub mod RunLeaves
 pub mod RunPaths
 pub mod LonePage
 pub mod Landings

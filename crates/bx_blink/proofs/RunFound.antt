@@ -3,7 +3,7 @@ use Rattle.std.proofs.Common.{◌≡◌, ℕ, zero, suc, ◌+◌, ◌≤◌, Lis
 use Rattle.std.specs.Prelude.{Result, Ok, Err}
 use Rattle.std.specs.List.{AllByRecursion}
 use Rattle.bx_base.specs.declared.names.Mode.TheVariants.{Shared}
-use Rattle.bx_page.specs.Contents.{first, from}
+use Rattle.bx_page.specs.Contents.{Contents, first, from}
 use Rattle.bx_blink.specs.declared.error.BlinkError.{BlinkError}
 use Rattle.bx_blink.specs.declared.error.BlinkError.TheVariants.{Need, Stale, Full, NoRoom, Absent, Present, OutOfMemory, Crowded}
 use Rattle.bx_blink.specs.declared.steps.Spot.{Spot}
@@ -15,6 +15,8 @@ use Rattle.bx_truth.specs.PageTrees.{Chunks, PageTree, IsTree, map_of}
 use Rattle.bx_blink.specs.Walks.{Reads, decide, start, most}
 use Rattle.bx_blink.specs.Runs.{follow, Turns, Runs, NextAt, NextIn}
 use Rattle.bx_blink.specs.Hints.{Sees, Place, HintsAgree, Agrees}
+use Rattle.bx_blink.specs.Leaves.{BeginsAt, LeafAt, LeafIn}
+use Rattle.bx_blink.proofs.Begins.{Begun, at_leaf, at_root, begun}
 use Rattle.bx_blink.proofs.OnWay.{Behind, IsOnWay}
 use Rattle.bx_blink.proofs.Rights.{on_way}
 use Rattle.bx_blink.proofs.RunRights.{IsFirst, Turned, run_step}
@@ -25,8 +27,8 @@ use Rattle.bx_blink.proofs.Pigeons.{Distinct, pigeons}
 same_first : (tree : PageTree) (key other : List ℕ) (end : RunEnd) → from (map_of tree) key ≡ from (map_of tree) other → IsFirst tree other end → IsFirst tree key end
 same_first tree key other (Wants at mode) same f = tt
 same_first tree key other Broken same f = f
-same_first tree key other (First name value) same f = ap first same ∙ f
-same_first tree key other Nothing same f = ap first same ∙ f
+same_first tree key other (First last page entry) same f = record { first_is = ap first same ∙ f.first_is; leaf = record { entries = same ∙ f.leaf.entries; onward = f.leaf.onward } }
+same_first tree key other Nothing same f = same ∙ f
 
 module _ (areas : ℕ) (reads : Reads) (chunks : Chunks) (root : ℕ) (tree : PageTree) (few : areas ≤ 64) (sees : Sees areas reads chunks) (is : IsTree chunks root tree) (hints : HintsAgree areas reads.hint chunks root tree) where
   runs_on : (n : ℕ) (p : Place) (key : List ℕ) (spot : Spot) (end : RunEnd) → Runs reads n key spot end → (w : IsOnWay hints.home root hints.most tree 0 key (Some p) spot) → (vs : List Visit) → AllByRecursion (Was areas reads hints.home root w.level w.begins) vs
@@ -70,10 +72,19 @@ module _ (areas : ℕ) (reads : Reads) (chunks : Chunks) (root : ℕ) (tree : Pa
           (tt, tt)
           (omega (arith, many)))
 
+  -- so does one that begins at a leaf
+  pub runs_from : (key : List ℕ) (handle : ℕ) (end : RunEnd) → BeginsAt root tree key handle → Runs reads most key (start handle Shared) end → IsFirst tree key end
+  unfolding numbers
+  runs_from key handle end b e = by_begun (begun areas reads chunks root tree is hints key handle b)
+    where
+      by_begun : Begun hints.home root hints.most tree key handle → IsFirst tree key end
+      by_begun (at_root here) = runs_right 61440 refl key end (subst (λ (h : ℕ). Runs reads most key (start h Shared) end) here e)
+      by_begun (at_leaf p w) = runs_on 61441 p key (start handle Shared) end e w [] tt tt refl
+
 pub next_in : (areas : ℕ) (reads : Reads) (chunks : Chunks) (root : ℕ) (tree : PageTree) (key : List ℕ) (result : Result (Option (List ℕ × List ℕ)) BlinkError) → Agrees areas reads chunks root tree
     → NextAt (Runs reads most key (start root Shared)) result → NextIn (map_of tree) key result
-next_in areas reads chunks root tree key (Ok (Some entry)) a f = runs_right areas reads chunks root tree a.few a.sees a.is a.hints 61440 refl key (First entry.0 entry.1) f
-next_in areas reads chunks root tree key (Ok None) a f = runs_right areas reads chunks root tree a.few a.sees a.is a.hints 61440 refl key Nothing f
+next_in areas reads chunks root tree key (Ok (Some entry)) a f = (runs_right areas reads chunks root tree a.few a.sees a.is a.hints 61440 refl key (First f.key f.page (record { key = entry.0; value = entry.1 })) f.end).first_is
+next_in areas reads chunks root tree key (Ok None) a f = ap first (runs_right areas reads chunks root tree a.few a.sees a.is a.hints 61440 refl key Nothing f)
 next_in areas reads chunks root tree key (Err (Need at mode)) a f = tt
 next_in areas reads chunks root tree key (Err Stale) a f = runs_right areas reads chunks root tree a.few a.sees a.is a.hints 61440 refl key Broken f
 next_in areas reads chunks root tree key (Err OutOfMemory) a f = tt
@@ -82,3 +93,19 @@ next_in areas reads chunks root tree key (Err (Full spare)) a f = f
 next_in areas reads chunks root tree key (Err (NoRoom leaf)) a f = f
 next_in areas reads chunks root tree key (Err Present) a f = f
 next_in areas reads chunks root tree key (Err Crowded) a f = f
+
+module _ (areas : ℕ) (reads : Reads) (chunks : Chunks) (root : ℕ) (tree : PageTree) (key : List ℕ) (handle : ℕ) (a : Agrees areas reads chunks root tree) (begins : BeginsAt root tree key handle) where
+  so : (end : RunEnd) → Runs reads most key (start handle Shared) end → IsFirst tree key end
+  so end e = runs_from areas reads chunks root tree a.few a.sees a.is a.hints key handle end begins e
+
+  pub leaf_in : (result : Result (Option (List ℕ × Contents)) BlinkError) → LeafAt (Runs reads most key (start handle Shared)) result → LeafIn tree key result
+  leaf_in (Ok (Some found)) f = (so (First found.0 found.1 f.entry) f.end).leaf
+  leaf_in (Ok None) f = so Nothing f
+  leaf_in (Err (Need at mode)) f = tt
+  leaf_in (Err Stale) f = so Broken f
+  leaf_in (Err OutOfMemory) f = tt
+  leaf_in (Err Absent) f = f
+  leaf_in (Err (Full spare)) f = f
+  leaf_in (Err (NoRoom leaf)) f = f
+  leaf_in (Err Present) f = f
+  leaf_in (Err Crowded) f = f

@@ -1,11 +1,10 @@
 -- What a run needs is on its path, and isn't held.
-use Rattle.std.proofs.Common.{◌≡◌, ℕ, zero, suc, List, [], Option, Some, None, refl, sym, ap, subst, ◌∙◌, inl, inr}
+use Rattle.std.proofs.Common.{◌≡◌, ℕ, zero, suc, List, Option, Some, None, refl, sym, ap, subst, ◌∙◌, inl, inr}
 use Rattle.std.specs.Prelude.{Result, Ok, Err}
 use Rattle.bx_base.specs.declared.names.Mode.{Mode}
 use Rattle.bx_base.specs.declared.names.Mode.TheVariants.{Shared}
 use Rattle.bx_page.specs.declared.entry.Entry.{Entry}
 use Rattle.bx_page.specs.Contents.{Contents, first, from}
-use Rattle.bx_views.specs.Truths.{Held, Hints}
 use Rattle.bx_truth.specs.Chunks.{block_at}
 use Rattle.bx_blink.specs.declared.error.BlinkError.{BlinkError}
 use Rattle.bx_blink.specs.declared.error.BlinkError.TheVariants.{Need, Stale, Full, NoRoom, Absent, Present, OutOfMemory, Crowded}
@@ -17,9 +16,10 @@ use Rattle.bx_blink.specs.declared.steps.Out.TheVariants.{Goes, Stops}
 use Rattle.bx_blink.specs.declared.runs.RunEnd.TheVariants.{Wants}
 use Rattle.bx_blink.specs.declared.runs.Turn.{Turn}
 use Rattle.bx_blink.specs.declared.runs.Turn.TheVariants.{Moves, Rests}
-use Rattle.bx_blink.specs.Walks.{Reads, reads_with, Finds, decide, shared, start, most}
+use Rattle.bx_blink.specs.Walks.{Reads, Finds, decide, shared, start, most}
 use Rattle.bx_blink.specs.Runs.{at_leaf, follow, Turns, Runs, OnRun, NextAt}
 use Rattle.bx_blink.specs.Answers.{NeedsFairly}
+use Rattle.bx_blink.specs.Leaves.{LeafAt}
 use Rattle.bx_blink.proofs.Paths.{Led, stop, next_led, not_led}
 
 some_not_none : (via : ℕ) → None ≡ Some via → ⊥
@@ -28,21 +28,21 @@ some_not_none via e = cc
 via_none : (a b : Spot) (x y : List ℕ) → Moves x a ≡ Moves y b → a.via ≡ None → b.via ≡ None
 via_none a b x y e none = let same : a ≡ b = cc in subst (λ (s : Spot). s.via ≡ None) same none
 
-leaf_via : (page : Contents) (o : Option Entry) (high : Option (List ℕ)) (other : List ℕ) (next : Spot) → at_leaf page o high ≡ Moves other next → next.via ≡ None
-leaf_via page (Some entry) high other next e = absurd cc
-leaf_via page None None other next e = absurd cc
-leaf_via page None (Some high) other next e = via_none (record { handle = page.right; via = None; mode = Shared }) next high other e refl
+leaf_via : (key : List ℕ) (page : Contents) (o : Option Entry) (high : Option (List ℕ)) (other : List ℕ) (next : Spot) → at_leaf key page o high ≡ Moves other next → next.via ≡ None
+leaf_via key page (Some entry) high other next e = absurd cc
+leaf_via key page None None other next e = absurd cc
+leaf_via key page None (Some high) other next e = via_none (record { handle = page.right; via = None; mode = Shared }) next high other e refl
 
-leaf_wants : (page : Contents) (o : Option Entry) (high : Option (List ℕ)) (at : ℕ) (mode : Mode) → at_leaf page o high ≡ Rests (Wants at mode) → ⊥
-leaf_wants page (Some entry) high at mode e = cc
-leaf_wants page None None at mode e = cc
-leaf_wants page None (Some high) at mode e = cc
+leaf_wants : (key : List ℕ) (page : Contents) (o : Option Entry) (high : Option (List ℕ)) (at : ℕ) (mode : Mode) → at_leaf key page o high ≡ Rests (Wants at mode) → ⊥
+leaf_wants key page (Some entry) high at mode e = cc
+leaf_wants key page None None at mode e = cc
+leaf_wants key page None (Some high) at mode e = cc
 
 needs_here : (key : List ℕ) (out : Out) (at : ℕ) (mode : Mode) → follow key out ≡ Rests (Wants at mode) → Stops (Needs at mode) ≡ out
 needs_here key (Goes next) at mode e = absurd cc
 needs_here key (Stops (Needs a m)) at mode e = cc
 needs_here key (Stops Lost) at mode e = absurd cc
-needs_here key (Stops (Lands handle page)) at mode e = absurd (leaf_wants page (first (from page.entries key)) page.high at mode e)
+needs_here key (Stops (Lands handle page)) at mode e = absurd (leaf_wants key page (first (from page.entries key)) page.high at mode e)
 
 module _ (reads : Reads) where
   none_led : (P : ℕ → Mode → Type 0) (next : Spot) → next.via ≡ None → Led reads P next
@@ -57,7 +57,7 @@ module _ (reads : Reads) where
       by_out (Goes there) d e = let same : there ≡ next = cc in subst (λ (s : Spot). Led reads P s) same (next_led reads 0 Shared key P spot there found f d p)
       by_out (Stops (Needs at mode)) d e = absurd cc
       by_out (Stops Lost) d e = absurd cc
-      by_out (Stops (Lands handle page)) d e = none_led P next (leaf_via page (first (from page.entries key)) page.high other next e)
+      by_out (Stops (Lands handle page)) d e = none_led P next (leaf_via key page (first (from page.entries key)) page.high other next e)
 
   -- What a run needs isn't held and is on the path, or on what was passed before.
   pub run_needs : (P : ℕ → Mode → Type 0) (n : ℕ) (key : List ℕ) (spot : Spot) (at : ℕ) (mode : Mode) → Runs reads n key spot (Wants at mode) → Led reads P spot → ((a : ℕ) (m : Mode) → OnRun reads n key spot a m → P a m)
@@ -75,17 +75,30 @@ module _ (reads : Reads) where
           (s.0, elim s.1 [ inl p ↦ p | inr a ↦ all at mode (inl a) ])
 
 -- what a run needs isn't held, and is on its path
-pub run_fair : (held : Held) (hints : Hints) (root : ℕ) (key : List ℕ) (result : Result (Option (List ℕ × List ℕ)) BlinkError)
-    → NextAt (Runs (reads_with held hints []) most key (start root Shared)) result → NeedsFairly held (OnRun (reads_with held hints []) most key (start root Shared)) result
-run_fair held hints root key (Ok (Some entry)) f = tt
-run_fair held hints root key (Ok None) f = tt
-run_fair held hints root key (Err (Need at mode)) f =
-    let reads : Reads = reads_with held hints [] in
-    run_needs reads (OnRun reads most key (start root Shared)) most key (start root Shared) at mode f (not_led reads (OnRun reads most key (start root Shared)) root Shared) (λ a m o. o)
-run_fair held hints root key (Err Absent) f = tt
-run_fair held hints root key (Err Stale) f = tt
-run_fair held hints root key (Err OutOfMemory) f = tt
-run_fair held hints root key (Err (Full spare)) f = f
-run_fair held hints root key (Err (NoRoom leaf)) f = f
-run_fair held hints root key (Err Present) f = f
-run_fair held hints root key (Err Crowded) f = f
+module _ (reads : Reads) (from : ℕ) (key : List ℕ) where
+  wants_fair : (at : ℕ) (mode : Mode) → Runs reads most key (start from Shared) (Wants at mode) → (reads.held at Shared ≡ None) × OnRun reads most key (start from Shared) at mode
+  wants_fair at mode f = run_needs reads (OnRun reads most key (start from Shared)) most key (start from Shared) at mode f (not_led reads (OnRun reads most key (start from Shared)) from Shared) (λ a m o. o)
+
+  pub run_fair : (result : Result (Option (List ℕ × List ℕ)) BlinkError) → NextAt (Runs reads most key (start from Shared)) result → NeedsFairly reads.held (OnRun reads most key (start from Shared)) result
+  run_fair (Ok (Some entry)) f = tt
+  run_fair (Ok None) f = tt
+  run_fair (Err (Need at mode)) f = wants_fair at mode f
+  run_fair (Err Absent) f = tt
+  run_fair (Err Stale) f = tt
+  run_fair (Err OutOfMemory) f = tt
+  run_fair (Err (Full spare)) f = f
+  run_fair (Err (NoRoom leaf)) f = f
+  run_fair (Err Present) f = f
+  run_fair (Err Crowded) f = f
+
+  pub leaf_fair : (result : Result (Option (List ℕ × Contents)) BlinkError) → LeafAt (Runs reads most key (start from Shared)) result → NeedsFairly reads.held (OnRun reads most key (start from Shared)) result
+  leaf_fair (Ok (Some found)) f = tt
+  leaf_fair (Ok None) f = tt
+  leaf_fair (Err (Need at mode)) f = wants_fair at mode f
+  leaf_fair (Err Absent) f = tt
+  leaf_fair (Err Stale) f = tt
+  leaf_fair (Err OutOfMemory) f = tt
+  leaf_fair (Err (Full spare)) f = f
+  leaf_fair (Err (NoRoom leaf)) f = f
+  leaf_fair (Err Present) f = f
+  leaf_fair (Err Crowded) f = f

@@ -1,5 +1,5 @@
 -- A run in a tree ends with the first entry from its key on, or needs a block: one step.
-use Rattle.std.proofs.Common.{◌≡◌, ℕ, Bool, true, false, eqb, List, Option, Some, None, refl, sym, ap, subst, ◌∙◌, arith}
+use Rattle.std.proofs.Common.{◌≡◌, ℕ, Bool, true, false, eqb, List, [], Option, Some, None, refl, sym, ap, subst, ◌∙◌, arith}
 use Rattle.bx_base.specs.declared.names.Mode.{Mode}
 use Rattle.bx_base.specs.declared.names.Mode.TheVariants.{Shared}
 use Rattle.bx_page.specs.declared.entry.Entry.{Entry}
@@ -22,20 +22,26 @@ use Rattle.bx_truth.specs.PageTrees.{Chunks, PageTree, IsTree, map_of}
 use Rattle.bx_blink.specs.Walks.{Reads, Finds, passes, mode_at, decide}
 use Rattle.bx_blink.specs.Runs.{at_leaf, follow}
 use Rattle.bx_blink.specs.Hints.{Sees, Place, HintsAgree}
+use Rattle.bx_blink.specs.Leaves.{IsNextLeaf}
 use Rattle.bx_blink.specs.Places.{IsPlaceOf}
 use Rattle.bx_blink.proofs.OnWay.{IsOnWay, After}
 use Rattle.bx_blink.proofs.FromPages.{from_page}
 use Rattle.bx_blink.proofs.Rights.{stands, chunk_of, has_page, step}
-use Rattle.bx_blink.proofs.Leaves.{here, nowhere, beyond}
+use Rattle.bx_blink.proofs.Leaves.{here, next_leaf, nowhere, beyond}
 use Rattle.bx_blink.proofs.Visits.{headed, header_of, headed_held}
 use Rattle.bx_blink.proofs.Landed.{lands_here}
+
+-- an entry is the first from a key on, and in the next leaf
+pub record Starts (tree : PageTree) (key other : List ℕ) (page : Contents) (entry : Entry) : Type 0 where
+  pub first_is : first (from (map_of tree) key) ≡ Some entry
+  pub leaf : IsNextLeaf tree key other page
 
 -- the first entry from a key on, or none
 abbrev pub IsFirst : PageTree → List ℕ → RunEnd → Type 0
 IsFirst tree key (Wants at mode) = Unit {0}
 IsFirst tree key Broken = ⊥
-IsFirst tree key (First name value) = first (from (map_of tree) key) ≡ Some (record { key = name; value = value })
-IsFirst tree key Nothing = first (from (map_of tree) key) ≡ None
+IsFirst tree key (First other page entry) = Starts tree key other page entry
+IsFirst tree key Nothing = from (map_of tree) key ≡ []
 
 -- a run goes on from a page, behind it, with a key from which on there are the same entries
 pub record Onwards (reads : Reads) (home : ℕ → Option Place) (root most : ℕ) (tree : PageTree) (here : Place) (spot : Spot) (key other : List ℕ) (next : Spot) : Type 0 where
@@ -87,8 +93,8 @@ module _ (areas : ℕ) (reads : Reads) (chunks : Chunks) (root : ℕ) (tree : Pa
       place = record { level = w.rank; begins = w.begins }
 
       by_leaf : (handle : ℕ) (page : Contents) → Finds reads 0 spot (Held page) → IsPlaceOf tree 0 key handle page → page.level ≡ 0 → (o : Option Entry) → first (from page.entries key) ≡ o → (high : Option (List ℕ)) → page.high ≡ high
-          → Turned reads hints.home root hints.most tree (record { level = w.rank; begins = w.begins }) spot key (at_leaf page o high)
-      by_leaf handle page g p leaf (Some entry) e high is_high = here chunks root tree is key handle page entry p e
+          → Turned reads hints.home root hints.most tree (record { level = w.rank; begins = w.begins }) spot key (at_leaf key page o high)
+      by_leaf handle page g p leaf (Some entry) e high is_high = record { first_is = here chunks root tree is key handle page entry p e; leaf = next_leaf chunks root tree is key handle page p }
       by_leaf handle page g p leaf None e None is_high = nowhere chunks root tree is key handle page p e is_high
       by_leaf handle page g p leaf None e (Some high) is_high = record { way = right_of low spot page high g w leaf is_high; same = beyond chunks root tree is key handle page high p e is_high; header = headed_held reads spot page g }
 

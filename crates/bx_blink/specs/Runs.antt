@@ -20,17 +20,17 @@ use Rattle.bx_blink.specs.Walks.{Reads, Finds, decide, MayAsk}
 
 -- what follows at a leaf, by its first entry from the key on and its high key: where it has none, the leaf on the right is the
 -- high key's
-abbrev pub at_leaf : Contents → Option Entry → Option (List ℕ) → Turn
-at_leaf page (Some entry) high = Rests (First entry.key entry.value)
-at_leaf page None None = Rests Nothing
-at_leaf page None (Some high) = Moves high (record { handle = page.right; via = None; mode = Shared })
+abbrev pub at_leaf : List ℕ → Contents → Option Entry → Option (List ℕ) → Turn
+at_leaf key page (Some entry) high = Rests (First key page entry)
+at_leaf key page None None = Rests Nothing
+at_leaf key page None (Some high) = Moves high (record { handle = page.right; via = None; mode = Shared })
 
 -- what follows a step
 abbrev pub follow : List ℕ → Out → Turn
 follow key (Goes next) = Moves key next
 follow key (Stops (Needs at mode)) = Rests (Wants at mode)
 follow key (Stops Lost) = Rests Broken
-follow key (Stops (Lands handle page)) = at_leaf page (first (from page.entries key)) page.high
+follow key (Stops (Lands handle page)) = at_leaf key page (first (from page.entries key)) page.high
 
 abbrev pub Turns : (List ℕ → Spot → Type 0) → RunEnd → Turn → Type 0
 Turns Rest end (Moves key next) = Rest key next
@@ -49,9 +49,15 @@ OnRun reads (suc more) key spot at mode =
     MayAsk reads 0 Shared spot at mode
     ⊎ ((found : Found) × Finds reads 0 spot found × (other : List ℕ) × (next : Spot) × (follow key (decide 0 Shared key spot found) ≡ Moves other next) × OnRun reads more other next at mode)
 
+-- a run ends at a leaf with this entry
+pub record EndsWith (E : RunEnd → Type 0) (entry : Entry) : Type 0 where
+  pub key : List ℕ
+  pub page : Contents
+  pub end : E (First key page entry)
+
 -- what `next` answers, by a run's end
 abbrev pub NextAt : (RunEnd → Type 0) → Result (Option (List ℕ × List ℕ)) BlinkError → Type 0
-NextAt E (Ok (Some entry)) = E (First entry.0 entry.1)
+NextAt E (Ok (Some entry)) = EndsWith E (record { key = entry.0; value = entry.1 })
 NextAt E (Ok None) = E Nothing
 NextAt E (Err (Need at mode)) = E (Wants at mode)
 NextAt E (Err Stale) = E Broken

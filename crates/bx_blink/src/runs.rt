@@ -9,46 +9,46 @@ ghost use Rattle.bx_blink.specs.Runs.{Runs, at_leaf, follow};
 use crate::steps::{End, Found, Out, Spot, decide, look};
 use crate::walks::MOST;
 use bx_base::{Mode, OutOfMemory, Raw};
-use bx_page_bytes::PageBytes;
+use bx_page_bytes::{EntryBytes, PageBytes};
 use bx_records::Draft;
 use bx_views::View;
 use std::alloc::Global;
 
 /// How a run ends.
 #[derive(Drop)]
-pub(crate) enum RunEnd {
+pub(crate) enum RunEnd<'a> {
     /// It wants a block, held in a mode.
     Wants(u64, Mode),
     /// What is held is no tree.
     Broken,
-    /// The first entry, with its key and value.
-    First(Raw, Raw),
+    /// At a leaf, with the key that it looks from there, and the first entry of the leaf from that key on.
+    First(Raw, PageBytes<'a>, EntryBytes<'a>),
     /// There is none.
     Nothing,
 }
 
 /// What follows a step of a run.
 #[derive(Drop)]
-pub(crate) enum Turn {
+pub(crate) enum Turn<'a> {
     /// The run goes on at a spot, with this key.
     Moves(Raw, Spot),
     /// It ends.
-    Rests(RunEnd),
+    Rests(RunEnd<'a>),
 }
 
-/// Looks for the first entry from a key on. It reads each page that it passes once.
-pub(crate) fn run<V: View>(
+/// Looks for the first entry from a key on, from the page with a handle. It reads each page that it passes once.
+pub(crate) fn run<'a, V: View>(
     alloc: Global,
-    draft: &Draft,
-    view: &V,
-    root: u64,
+    draft: &'a Draft,
+    view: &'a V,
+    from: u64,
     not_below: &[u8],
-) -> Result<RunEnd, OutOfMemory>
-    ensures { IfOk result (Runs (reads_with (V.held view.now) (V.hints view.now) draft.now) most not_below.now (start root Shared)) }
+) -> Result<RunEnd<'a>, OutOfMemory>
+    ensures { IfOk result (Runs (reads_with (V.held view.now) (V.hints view.now) draft.now) most not_below.now (start from Shared)) }
 {
     let mut key = Raw::of(alloc, not_below)?;
     let mut spot = Spot {
-        handle: root,
+        handle: from,
         via: None,
         mode: Mode::Shared,
     };
@@ -66,27 +66,28 @@ pub(crate) fn run<V: View>(
 }
 
 /// What follows a step.
-fn follow(alloc: Global, found: Found, spot: &Spot, key: Raw) -> Result<Turn, OutOfMemory>
+fn follow<'a>(
+    alloc: Global,
+    found: Found<'a>,
+    spot: &Spot,
+    key: Raw,
+) -> Result<Turn<'a>, OutOfMemory>
     ensures { IfOk result (λ is. is ≡ follow key (decide 0 Shared key spot.now found.entry)) }
 {
     match decide(found, spot, key.bytes(), 0, Mode::Shared) {
         Out::Goes(next) => Ok(Turn::Moves(key, next)),
         Out::Stops(End::Needs(at, mode)) => Ok(Turn::Rests(RunEnd::Wants(at, mode))),
         Out::Stops(End::Lost) => Ok(Turn::Rests(RunEnd::Broken)),
-        Out::Stops(End::Lands(_, page)) => leaf_turn(alloc, &page, key.bytes()),
+        Out::Stops(End::Lands(_, page)) => leaf_turn(alloc, page, key),
     }
 }
 
 /// What follows at a leaf.
-fn leaf_turn(alloc: Global, page: &PageBytes, key: &[u8]) -> Result<Turn, OutOfMemory>
-    ensures { IfOk result (λ is. is ≡ at_leaf page.now (first (from page.now.entries key.now)) page.now.high) }
+fn leaf_turn<'a>(alloc: Global, page: PageBytes<'a>, key: Raw) -> Result<Turn<'a>, OutOfMemory>
+    ensures { IfOk result (λ is. is ≡ at_leaf key page.entry (first (from page.entry.entries key)) page.entry.high) }
 {
-    match page.first_from(key) {
-        Some(entry) => {
-            let name = Raw::of(alloc, entry.key())?;
-            let value = Raw::of(alloc, entry.value())?;
-            Ok(Turn::Rests(RunEnd::First(name, value)))
-        }
+    match page.first_from(key.bytes()) {
+        Some(entry) => Ok(Turn::Rests(RunEnd::First(key, page, entry))),
         None => match page.high() {
             None => Ok(Turn::Rests(RunEnd::Nothing)),
             Some(high) => {

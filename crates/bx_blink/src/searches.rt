@@ -77,7 +77,11 @@ fn run_on<V: View>(
     match run(alloc, &draft, view, root, not_below)? {
         RunEnd::Wants(at, mode) => Err(BlinkError::Need(at, mode)),
         RunEnd::Broken => Err(BlinkError::Stale),
-        RunEnd::First(key, value) => Ok(Some((key, value))),
+        RunEnd::First(_key, _leaf, entry) => {
+            let key = Raw::of(alloc, entry.key())?;
+            let value = Raw::of(alloc, entry.value())?;
+            Ok(Some((key, value)))
+        }
         RunEnd::Nothing => Ok(None),
     }
 }

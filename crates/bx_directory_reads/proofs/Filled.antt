@@ -54,6 +54,16 @@ pub all_fit : (page mid : Page) (es more : List Name) → ◌≡◌ {A = Bool ×
 all_fit page mid [] more is = ap (λ (p : Page). filled p more) (sym (same_page true true mid page is))
 all_fit page mid (e ∷ es) more is = more_by (leb (cost e) page.room) page mid e es more is (all_fit (with_listed page e) mid es more)
 
+some_by : (fits : Bool) (page mid : Page) (e : Name) (es more : List Name) → ◌≡◌ {A = Bool × Page} (false, mid) (cond fits (filled (with_listed page e) es) (false, page))
+    → (◌≡◌ {A = Bool × Page} (false, mid) (filled (with_listed page e) es) → ◌≡◌ {A = Bool × Page} (false, mid) (filled (with_listed page e) (es ++ more)))
+    → ◌≡◌ {A = Bool × Page} (false, mid) (cond fits (filled (with_listed page e) (es ++ more)) (false, page))
+some_by true page mid e es more is later = later is
+some_by false page mid e es more is later = is
+
+pub some_fit : (page mid : Page) (es more : List Name) → ◌≡◌ {A = Bool × Page} (false, mid) (filled page es) → ◌≡◌ {A = Bool × Page} (false, mid) (filled page (es ++ more))
+some_fit page mid [] more is = absurd (true_false (sym (same_answer false true mid page is)))
+some_fit page mid (e ∷ es) more is = some_by (leb (cost e) page.room) page mid e es more is (some_fit (with_listed page e) mid es more)
+
 -- ---- the page that is filled lists the longest run that fits, and all of it where it ends
 
 record Lists (page next : Page) (all : Bool) (entries : List Name) (given : List Name) : Type 0 where

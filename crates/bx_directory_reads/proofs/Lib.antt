@@ -1,4 +1,6 @@
 pub mod Filled
+pub mod Along
+pub mod Putting
 pub mod Followed
 pub mod LookedUp
 pub mod RunSlots

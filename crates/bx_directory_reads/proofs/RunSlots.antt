@@ -2,9 +2,11 @@
 use Rattle.std.proofs.Common.{◌≡◌, ℕ, zero, suc, ◌≤◌, true, List, [], Option, Some, None, subst, arith, inl, inr}
 use Rattle.bx_base.specs.declared.names.Mode.{Mode}
 use Rattle.bx_base.specs.declared.names.Mode.TheVariants.{Shared}
-use Rattle.bx_blink.specs.Hints.{HintsAgree, Place, Sees, Under}
+use Rattle.bx_blink.specs.Hints.{Agrees, HintsAgree, Place, Sees, Under}
+use Rattle.bx_blink.specs.Leaves.{BeginsAt}
 use Rattle.bx_blink.specs.Runs.{OnRun}
 use Rattle.bx_blink.specs.Walks.{MayAsk, Reads, as_said, landed, most, reads_with, shared, start}
+use Rattle.bx_blink.proofs.Begins.{Begun, at_leaf, at_root, begun}
 use Rattle.bx_blink.proofs.OnWay.{IsOnWay}
 use Rattle.bx_blink.proofs.Rights.{on_way}
 use Rattle.bx_blink.proofs.RunRights.{Turned, run_step}
@@ -30,10 +32,21 @@ module _ (areas : ℕ) (reads : Reads) (chunks : Chunks) (root : ℕ) (tree : Pa
       let turned = subst (Turned reads hints.home root hints.most tree (record { level = w.rank; begins = w.begins }) spot key) on.4 (run_step areas reads chunks root tree key sees is hints low spot on.0 on.1 w) in
       run_slot n on.2 (Some (record { level = w.rank; begins = w.begins })) on.3 at mode on.5 turned.way
 
-pub run_block : (areas : ℕ) (held : Held) (hints : Hints) (truth : Truth) (root : ℕ) (tree : PageTree) (key : List ℕ) (at : ℕ) (mode : Mode) → Under areas held hints truth [] root tree
-    → OnRun (reads_with held hints []) most key (start root Shared) at mode → is_block areas at ≡ true
-run_block areas held hints truth root tree key at mode u on =
-    let a = agrees areas held hints truth [] root tree u in
-    slot_is_block areas at
-    (run_slot areas (reads_with held hints []) (chunks_of areas truth) root tree a.few a.sees a.is a.hints most key None (start root Shared) at mode on
-    (on_way areas (reads_with held hints []) (chunks_of areas truth) root tree 0 Shared key a.sees a.is a.hints (omega arith)))
+pub run_block : (areas : ℕ) (held : Held) (hints : Hints) (truth : Truth) (root : ℕ) (tree : PageTree) (handle : ℕ) (key : List ℕ) (at : ℕ) (mode : Mode) → Under areas held hints truth [] root tree
+    → BeginsAt root tree key handle → OnRun (reads_with held hints []) most key (start handle Shared) at mode → is_block areas at ≡ true
+run_block areas held hints truth root tree handle key at mode u b on = slot_is_block areas at (by_begun (begun areas reads chunks root tree a.is a.hints key handle b))
+  where
+    reads : Reads
+    reads = reads_with held hints []
+
+    chunks : Chunks
+    chunks = chunks_of areas truth
+
+    a : Agrees areas reads chunks root tree
+    a = agrees areas held hints truth [] root tree u
+
+    by_begun : Begun a.hints.home root a.hints.most tree key handle → IsSlot areas at
+    by_begun (at_root here) =
+        run_slot areas reads chunks root tree a.few a.sees a.is a.hints most key None (start root Shared) at mode (subst (λ (h : ℕ). OnRun reads most key (start h Shared) at mode) here on)
+        (on_way areas reads chunks root tree 0 Shared key a.sees a.is a.hints (omega arith))
+    by_begun (at_leaf p w) = run_slot areas reads chunks root tree a.few a.sees a.is a.hints most key (Some p) (start handle Shared) at mode on w

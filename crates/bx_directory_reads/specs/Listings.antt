@@ -2,6 +2,7 @@
 use Rattle.std.specs.Prelude.{◌≡◌, ℕ, ◌⊎◌, if◌then◌else◌, List, [], ◌∷◌, map, Option, Some, None, Result, Ok, Err}
 use Rattle.bx_base.specs.declared.names.Mode.{Mode}
 use Rattle.bx_base.specs.declared.names.Mode.TheVariants.{Shared}
+use Rattle.bx_blink.specs.Leaves.{EndsAt, IsNextLeaf}
 use Rattle.bx_blink.specs.Runs.{NextAt, OnRun, Runs}
 use Rattle.bx_blink.specs.Walks.{most, reads_with, start}
 use Rattle.bx_dirs.specs.Entries.{key_behind}
@@ -15,12 +16,14 @@ use Rattle.bx_model.specs.declared.reply.Reply.{Reply}
 use Rattle.bx_model.specs.declared.reply.Reply.TheVariants as replies
 use Rattle.bx_model.specs.Directories.{end_of, listed, page}
 use Rattle.bx_model.specs.Permissions.{may}
+use Rattle.bx_page.specs.Contents.{Contents, from}
 use Rattle.bx_reads.specs.Files.{IsSeen}
 use Rattle.bx_tree_files.specs.declared.file.File.{File}
 use Rattle.bx_tree_files.specs.declared.file.Name.{Name}
 use Rattle.bx_tree_files.specs.Entries.{above}
 use Rattle.bx_tree_files.specs.Files.{is_directory}
 use Rattle.bx_truth.specs.Keys.{entry_key, entry_value}
+use Rattle.bx_truth.specs.PageTrees.{PageTree, map_of}
 use Rattle.bx_views.specs.Truths.{Held, Hints}
 
 -- the error that a caller who lists a file meets: NOTDIR (20) where it is no directory, ACCES (13) without the right
@@ -36,6 +39,15 @@ FollowsSo names number (Err (Inner blocks)) = ⊥
 FollowsSo names number (Err (Status status)) = ⊥
 FollowsSo names number (Err OutOfMemory) = Unit {0}
 
+-- The next leaf with an entry from a key on is told, or that there is none, unless a block is needed first or memory ran out. No status comes.
+abbrev pub LeafSo : PageTree → List ℕ → Result (Option (List ℕ × Contents)) Stop → Type 0
+LeafSo tree key (Ok (Some found)) = IsNextLeaf tree key found.0 found.1
+LeafSo tree key (Ok None) = from (map_of tree) key ≡ []
+LeafSo tree key (Err (Need at mode)) = Unit {0}
+LeafSo tree key (Err (Inner blocks)) = ⊥
+LeafSo tree key (Err (Status status)) = ⊥
+LeafSo tree key (Err OutOfMemory) = Unit {0}
+
 -- the reply that lists the longest run of entries that fits into so many bytes
 abbrev pub listing : List Name → ℕ → Reply
 listing entries count = replies.List (map listed (page entries count)) (end_of entries (page entries count))
@@ -45,22 +57,33 @@ abbrev pub FindsBehind : Held → Hints → ℕ → ℕ → Name → Type 0
 FindsBehind held hints root number entry =
     NextAt (Runs (reads_with held hints []) most (key_behind number) (start root Shared)) (Ok (Some (entry_key entry.number, entry_value entry.handle entry.name)))
 
--- the numbers that a listing comes to: its cookie, and that of each entry that is found behind one
-pub data IsReached (held : Held) (hints : Hints) (root cookie : ℕ) : ℕ → Type 0 where
-  first : IsReached held hints root cookie cookie
-  behind : (number : ℕ) (entry : Name) → IsReached held hints root cookie number → FindsBehind held hints root number entry → IsReached held hints root cookie entry.number
-
--- the blocks on the path of the run for the entry behind a number, shared
-pub record OnBehind (held : Held) (hints : Hints) (root number at : ℕ) (mode : Mode) : Type 0 where
+-- the blocks on the path of the run for the first entry from a key on, from the page with a handle, shared
+pub record OnFrom (held : Held) (hints : Hints) (handle : ℕ) (key : List ℕ) (at : ℕ) (mode : Mode) : Type 0 where
   pub asked : Mode
-  pub on : OnRun (reads_with held hints []) most (key_behind number) (start root Shared) at asked
+  pub on : OnRun (reads_with held hints []) most key (start handle Shared) at asked
   pub mode_is : mode ≡ Shared
 
--- those for the entries behind a cookie
+-- those on the path of the run for the entry behind a number
+abbrev pub OnBehind : Held → Hints → ℕ → ℕ → ℕ → Mode → Type 0
+OnBehind held hints root number at mode = OnFrom held hints root (key_behind number) at mode
+
+-- a run for the first entry from a key on, from the page with a handle, ends at this leaf, with this key
+abbrev pub LeadsTo : Held → Hints → ℕ → List ℕ → List ℕ → Contents → Type 0
+LeadsTo held hints handle key other leaf = EndsAt (Runs (reads_with held hints []) most key (start handle Shared)) other leaf
+
+-- Where a listing comes to: the root, with the key behind its cookie, and from each leaf that a run leads to the one on its right, with the high
+-- key.
+pub data IsReached (held : Held) (hints : Hints) (root cookie : ℕ) : ℕ → List ℕ → Type 0 where
+  root_first : IsReached held hints root cookie root (key_behind cookie)
+  rightward : (handle : ℕ) (key other high : List ℕ) (leaf : Contents) → IsReached held hints root cookie handle key → LeadsTo held hints handle key other leaf → leaf.high ≡ Some high
+      → IsReached held hints root cookie leaf.right high
+
+-- the blocks on the path of the runs from there, shared
 pub record OnEntries (held : Held) (hints : Hints) (root cookie at : ℕ) (mode : Mode) : Type 0 where
-  pub number : ℕ
-  pub reached : IsReached held hints root cookie number
-  pub on : OnBehind held hints root number at mode
+  pub handle : ℕ
+  pub key : List ℕ
+  pub reached : IsReached held hints root cookie handle key
+  pub on : OnFrom held hints handle key at mode
 
 -- those of the directory that a file handle names, by the inode that is seen
 pub record OnNames (held : Held) (hints : Hints) (volume areas : ℕ) (bytes : List ℕ) (cookie at : ℕ) (mode : Mode) : Type 0 where

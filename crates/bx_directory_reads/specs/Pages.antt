@@ -1,6 +1,8 @@
 -- A page of a directory that is being filled.
 use Rattle.std.specs.Prelude.{◌≡◌, ℕ, ◌+◌, ◌-◌, ◌*◌, ◌/◌, nat_le, Bool, true, false, if◌then◌else◌, List, [], ◌∷◌, ◌++◌, codes, length, Result, Ok, Err}
 use Rattle.bx_directory_reads.specs.declared.filling.Page.{Page}
+use Rattle.bx_directory_reads.specs.declared.filling.Put.{Put}
+use Rattle.bx_directory_reads.specs.declared.filling.Put.TheVariants.{All, Part, Stray}
 use Rattle.bx_inodes.specs.declared.stop.Stop.{Stop}
 use Rattle.bx_inodes.specs.declared.stop.Stop.TheVariants.{Need, Inner, Status, OutOfMemory}
 use Rattle.bx_model.specs.Directories.{cost, listed}
@@ -22,6 +24,12 @@ with_listed page entry = record { entries = page.entries ++ listed entry ∷ [];
 abbrev pub filled : Page → List Name → Bool × Page
 filled page [] = (true, page)
 filled page (entry ∷ entries) = if nat_le (cost entry) page.room then filled (with_listed page entry) entries else (false, page)
+
+-- The page was filled so by all entries of a leaf, or by those that fit; these are entries of a directory.
+abbrev pub PutsSo : Page → List Name → Page → Put → Type 0
+PutsSo page entries next All = (true, next) ≡ filled page entries
+PutsSo page entries next Part = (false, next) ≡ filled page entries
+PutsSo page entries next Stray = ⊥
 
 -- The page was filled so, and whether all fit is told, unless a block is needed first or memory ran out. No status comes.
 abbrev pub Fills : Page → List Name → Page → Result Bool Stop → Type 0

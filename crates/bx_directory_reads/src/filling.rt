@@ -1,11 +1,16 @@
 //! A page of a directory that is being filled.
 
-ghost use Rattle.std.specs.Prelude.{◌≡◌, ◌-◌, ◌∷◌, [], IfOk, min};
+ghost use Rattle.std.specs.Prelude.{◌≡◌, ◌+◌, ◌-◌, ◌≤◌, ◌∷◌, List, [], IfOk, length, map, min};
+ghost use Rattle.bx_dirs.specs.Entries.{DoFit, by_number};
 ghost use Rattle.bx_model.specs.Directories.{behind};
-ghost use Rattle.bx_directory_reads.specs.Pages.{dots, filled, spent};
+ghost use Rattle.bx_tree_files.specs.declared.file.Name.{Name};
+ghost use Rattle.bx_directory_reads.specs.declared.filling.Put.TheVariants.{All};
+ghost use Rattle.bx_directory_reads.specs.Pages.{PutsSo, dots, filled, spent};
 
 use bx_base::{OutOfMemory, Raw};
+use bx_dirs::numbered_in;
 use bx_model::{Listed, ListedList};
+use bx_page_bytes::Entries;
 use bx_tree_files::fileid;
 use std::alloc::Global;
 
@@ -27,6 +32,17 @@ pub(crate) struct Page {
     pub(crate) entries: ListedList,
     /// How many bytes are left for others.
     pub(crate) room: usize,
+}
+
+/// How the entries of a leaf were put on a page.
+#[derive(Drop)]
+pub(crate) enum Put {
+    /// All of them fit.
+    All,
+    /// Those before one that doesn't fit.
+    Part,
+    /// Those before one that is no entry of a directory.
+    Stray,
 }
 
 impl Page {
@@ -85,6 +101,29 @@ impl Page {
         })?;
         self.room -= cost;
         Ok(true)
+    }
+
+    /// Puts the entries of a leaf on the page until one doesn't fit.
+    pub(crate) fn put_leaf(
+        &mut self,
+        alloc: Global,
+        mut entries: Entries,
+    ) -> Result<Put, OutOfMemory>
+        ensures list { (names : List Name) → DoFit names → entries.entry ≡ map by_number names → IfOk result (PutsSo self.old names self.new) }
+        ensures room { IfOk result (λ put. put ≡ All → self.new.room + length entries.entry ≤ self.old.room) }
+    {
+        while let Some(entry) = entries.next() {
+            match numbered_in(entry.key(), entry.value()) {
+                None => return Ok(Put::Stray),
+                Some((number, handle, name)) => {
+                    let fits = self.put(alloc, number, name, handle)?;
+                    if !fits {
+                        return Ok(Put::Part);
+                    }
+                }
+            }
+        }
+        Ok(Put::All)
     }
 }
 

@@ -4,6 +4,7 @@ pub mod Ordered
 pub mod Rising
 pub mod Firsts
 pub mod Searched
+pub mod Behind
 pub mod Directories
 pub mod Edited
 pub mod DirectoryEdits

@@ -1,5 +1,6 @@
 -- A directory as a list of entries: the tree that has them, and the values of its keys.
 use Rattle.std.specs.Prelude.{◌≡◌, ℕ, ◌^◌, ◌<◌, List, [], ◌∷◌, ◌++◌}
+use Rattle.bx_page.specs.declared.entry.Entry.{Entry}
 use Rattle.bx_records.specs.Drafts.{Changed}
 use Rattle.bx_tree_files.specs.declared.file.Name.{Name}
 use Rattle.bx_truth.specs.Keys.{name_value, entry_key, entry_value}
@@ -17,6 +18,15 @@ pub record HasEntries (areas : ℕ) (held : Held) (hints : Hints) (truth : Truth
 -- the least key above that of a number
 abbrev pub key_behind : ℕ → List ℕ
 key_behind number = entry_key number ++ 0 ∷ []
+
+-- an entry as it stands in the tree by its number
+abbrev pub by_number : Name → Entry
+by_number name = record { key = entry_key name.number; value = entry_value name.handle name.name }
+
+-- the numbers and the handles of entries fit into their words
+abbrev pub DoFit : List Name → Type 0
+DoFit [] = Unit {0}
+DoFit (name ∷ names) = (name.number < 2 ^ 32) × (name.handle < 2 ^ 64) × DoFit names
 
 -- the value is none that a name's key has
 abbrev pub IsNoPlace : List ℕ → Type 0

@@ -56,7 +56,7 @@ pub(crate) fn value_by_number(alloc: Global, handle: u64, name: &[u8]) -> Result
 }
 
 /// The least key above that of a number.
-pub(crate) fn key_behind(alloc: Global, number: u32) -> Result<Raw, OutOfMemory>
+pub fn key_behind(alloc: Global, number: u32) -> Result<Raw, OutOfMemory>
     ensures { IfOk result (λ key. key ≡ behind number) }
 {
     let mut bytes = Vec::new(alloc);
@@ -116,6 +116,18 @@ fn number_of(key: &[u8]) -> Option<u32>
     if rest.is_empty() { Some(number) } else { None }
 }
 
+/// The number, the handle and the name of the entry that a number's key and its value are; `None` exactly where they are none.
+pub fn numbered_in<'a>(key: &[u8], value: &'a [u8]) -> Option<(u32, u64, &'a [u8])>
+    ensures key { IfSome result (λ x. key.now ≡ entry_key x.0) }
+    ensures value { IfSome result (λ x. value.now ≡ entry_value x.1 x.2.now) }
+    ensures fits { IfSome result (λ x. (x.0 < 2 ^ 32) × (x.1 < 2 ^ 64)) }
+    ensures none { IfNone result (IsNoNumbered key.now value.now) }
+{
+    let number = number_of(key)?;
+    let (handle, name) = handle_in(value)?;
+    Some((number, handle, name))
+}
+
 /// The entry that a number's key and its value are; `None` exactly where they are none.
 pub(crate) fn entry_in(alloc: Global, key: &[u8], value: &[u8]) -> Result<Option<Name>, OutOfMemory>
     ensures key { IfOk result (λ found. IfSome found (λ name. key.now ≡ entry_key name.number)) }
@@ -123,10 +135,7 @@ pub(crate) fn entry_in(alloc: Global, key: &[u8], value: &[u8]) -> Result<Option
     ensures fits { IfOk result (λ found. IfSome found (λ name. (name.number < 2 ^ 32) × (name.handle < 2 ^ 64))) }
     ensures none { IfOk result (λ found. IfNone found (IsNoNumbered key.now value.now)) }
 {
-    let Some(number) = number_of(key) else {
-        return Ok(None);
-    };
-    let Some((handle, name)) = handle_in(value) else {
+    let Some((number, handle, name)) = numbered_in(key, value) else {
         return Ok(None);
     };
     let name = Raw::of(alloc, name)?;

@@ -7,5 +7,6 @@ mod laws;
 mod searches;
 
 pub use changes::{add, take};
+pub use keys::{key_behind, numbered_in};
 pub use laws::a_directory_has_entries;
 pub use searches::{after, lookup};

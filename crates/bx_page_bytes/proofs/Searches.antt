@@ -6,9 +6,9 @@ use Rattle.std.proofs.lemmas.List.{reverse-append}
 use Rattle.std.proofs.lemmas.List.Elements.{All-cons, All-weaker}
 use Rattle.bx_page.specs.declared.entry.Entry.{Entry}
 use Rattle.bx_page.specs.Keys.{is_below, IsBelow}
-use Rattle.bx_page.specs.Contents.{Rises, up_to, first, last}
+use Rattle.bx_page.specs.Contents.{Rises, up_to, from, first, last}
 use Rattle.bx_page.proofs.Order.{below_trans}
-use Rattle.bx_page.proofs.Cuts.{filter_none}
+use Rattle.bx_page.proofs.Cuts.{filter_all, filter_none}
 
 -- the entries behind the first rise, and are above it
 pub rises_behind : (entry : Entry) (entries : List Entry) → Rises (entry ∷ entries) → Rises entries
@@ -75,3 +75,20 @@ goes (other ∷ others) entry key found all rises is le so_far =
       rises = rises_behind other others rises;
       found = ap (λ (e : Entry). option_or (last (up_to others key)) (Some e)) same ∙ sym now ∙ so_far;
     }
+
+-- what is above a key that isn't below another isn't below that either
+not_below_later : (a b key : List ℕ) → IsBelow a b → is_below a key ≡ false → is_below b key ≡ false
+not_below_later a b key less not_below = by (is_below b key) refl
+  where
+    by : (t : Bool) → is_below b key ≡ t → is_below b key ≡ false
+    by true is = let both : true ≡ false = sym (below_trans a b key less is) ∙ not_below in absurd cc
+    by false is = is
+
+-- where the first entry isn't below a key, none is
+pub all_from : (entries : List Entry) (entry : Entry) (key : List ℕ) → Rises entries → Some entry ≡ first entries → is_below entry.key key ≡ false → from entries key ≡ entries
+all_from [] entry key rises is not_below = absurd (no_first entry is)
+all_from (other ∷ others) entry key rises is not_below =
+    let here : is_below other.key key ≡ false = ap (λ (e : Entry). is_below e.key key) (sym (first_is entry other is)) ∙ not_below in
+    filter_all (λ (x : Entry). not (is_below x.key key)) (other ∷ others)
+    (All-cons (λ (x : Entry). not (is_below x.key key) ≡ true) other others (not_false _ here)
+    (All-weaker (λ (x : Entry). IsBelow other.key x.key) (λ (x : Entry). not (is_below x.key key) ≡ true) (λ x later. not_false _ (not_below_later other.key x.key key later here)) others (above_first other others rises)))

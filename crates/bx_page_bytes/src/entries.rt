@@ -41,7 +41,7 @@ impl<'a> EntryBytes<'a> {
 
 /// The entries that stand at the front of bytes. Contracts see them as the list of entries.
 #[derive(Drop)]
-pub(crate) struct Entries<'a> {
+pub struct Entries<'a> {
     pub(crate) left: u16,
     pub(crate) bytes: &'a [u8],
 }
@@ -60,8 +60,18 @@ impl<'a> Model for Entries<'a> {
 }
 
 impl<'a> Entries<'a> {
+    /// The same entries.
+    pub(crate) fn copied(&self) -> Entries<'a>
+        ensures { result ≡ self.now }
+    {
+        Entries {
+            left: self.left,
+            bytes: self.bytes,
+        }
+    }
+
     /// The next entry, which is left out then; `None` exactly where there are no more.
-    pub(crate) fn next(&mut self) -> Option<EntryBytes<'a>>
+    pub fn next(&mut self) -> Option<EntryBytes<'a>>
         ensures next { result ≡ first self.old }
         ensures rest { self.new ≡ drop 1 self.old }
     {

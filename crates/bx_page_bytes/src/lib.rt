@@ -6,5 +6,5 @@ mod page;
 mod reading;
 mod writing;
 
-pub use entries::EntryBytes;
+pub use entries::{Entries, EntryBytes};
 pub use page::PageBytes;

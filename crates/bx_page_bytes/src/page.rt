@@ -150,6 +150,22 @@ impl<'a> PageBytes<'a> {
         None
     }
 
+    /// The entries whose keys aren't below a key.
+    pub fn from(&self, key: &[u8]) -> Entries<'a>
+        ensures { result ≡ from self.now.entries key.now }
+    {
+        let mut entries = self.entries();
+        let mut rest = entries.copied();
+        while let Some(entry) = entries.next() {
+            if entry.key().cmp(key).is_lt() {
+                rest = entries.copied();
+            } else {
+                return rest;
+            }
+        }
+        rest
+    }
+
     /// The page with all its entries, in lists that own their memory.
     pub fn copied(&self, alloc: Global) -> Result<Page, OutOfMemory>
         ensures { IfOk result (λ page. page ≡ self.now) }

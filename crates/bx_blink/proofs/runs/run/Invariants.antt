@@ -8,4 +8,4 @@ use Rattle.bx_blink.proofs.runs.run.Given as goal
 abbrev pub invariant-loop-step : goal.invariant-loop-step
 invariant-loop-step g l =
     (end : RunEnd) → Runs (reads_with (g.V.View.held l.view) (g.V.View.hints l.view) l.draft) (most - l.step) l.key l.spot end
-    → Runs (reads_with (g.V.View.held l.view) (g.V.View.hints l.view) l.draft) most l.not_below (start l.root Shared) end
+    → Runs (reads_with (g.V.View.held l.view) (g.V.View.hints l.view) l.draft) most l.not_below (start l.from Shared) end

@@ -13,4 +13,4 @@ returns-clause-map g c = λ areas truth tree u.
     (agrees areas (g.V.View.held c.args.view.now) (g.V.View.hints c.args.view.now) truth [] c.args.root tree u) c.run_on.ensures
 
 pub returns-clause-fair : goal.returns-clause-fair
-returns-clause-fair g c = run_fair (g.V.View.held c.args.view.now) (g.V.View.hints c.args.view.now) c.args.root c.args.not_below.now c.run_on.result c.run_on.ensures
+returns-clause-fair g c = run_fair (reads_with (g.V.View.held c.args.view.now) (g.V.View.hints c.args.view.now) []) c.args.root c.args.not_below.now c.run_on.result c.run_on.ensures

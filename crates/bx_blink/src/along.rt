@@ -1,0 +1,59 @@
+//! The leaves of a tree, from one to the next.
+
+ghost use Rattle.std.specs.Prelude.{◌<◌, ℕ, IfOk, IfSome, length};
+ghost use Rattle.bx_base.specs.declared.names.Mode.TheVariants.{Shared};
+ghost use Rattle.bx_page.specs.Contents.{from as entries_from};
+ghost use Rattle.bx_truth.specs.PageTrees.{PageTree};
+ghost use Rattle.bx_views.specs.Truths.{Truth};
+ghost use Rattle.bx_blink.specs.Answers.{NeedsFairly};
+ghost use Rattle.bx_blink.specs.Hints.{Under};
+ghost use Rattle.bx_blink.specs.Leaves.{BeginsAt, LeafAt, LeafIn};
+ghost use Rattle.bx_blink.specs.Runs.{Runs, OnRun};
+ghost use Rattle.bx_blink.specs.Walks.{reads_with, start, most};
+
+use crate::error::BlinkError;
+use crate::runs::{RunEnd, run};
+use bx_base::Raw;
+use bx_page_bytes::PageBytes;
+use bx_records::Draft;
+use bx_views::View;
+use std::alloc::Global;
+
+/// The first leaf that has an entry from a key on, with the key from which on its entries are wanted; `None` exactly where there is none.
+/// The search begins at the page with a handle: at the root of a tree, or at the leaf on the right of one that was given, with the high key of that.
+///
+/// `Need` names a block that isn't held and is on the path of the search, and `Stale` comes where what is held is no tree: where the view
+/// agrees with a tree it never comes.
+pub fn leaf_from<'a, V: View>(
+    alloc: Global,
+    draft: &'a Draft,
+    view: &'a V,
+    from: u64,
+    not_below: &[u8],
+) -> Result<Option<(Raw, PageBytes<'a>)>, BlinkError>
+    ensures ends { LeafAt (Runs (reads_with (V.held view.now) (V.hints view.now) draft.now) most not_below.now (start from Shared)) result }
+    ensures map { (areas : ℕ) (truth : Truth) (root : ℕ) (tree : PageTree) → Under areas (V.held view.now) (V.hints view.now) truth draft.now root tree → BeginsAt root tree not_below.now from
+        → LeafIn tree not_below.now result }
+    ensures some { IfOk result (λ found. IfSome found (λ leaf. 0 < length (entries_from leaf.1.entries leaf.0))) }
+    ensures fair { NeedsFairly (reads_with (V.held view.now) (V.hints view.now) draft.now).held (OnRun (reads_with (V.held view.now) (V.hints view.now) draft.now) most not_below.now (start from Shared)) result }
+{
+    leaf_on(alloc, draft, view, from, not_below)
+}
+
+/// The same, by how the run ends.
+fn leaf_on<'a, V: View>(
+    alloc: Global,
+    draft: &'a Draft,
+    view: &'a V,
+    from: u64,
+    not_below: &[u8],
+) -> Result<Option<(Raw, PageBytes<'a>)>, BlinkError>
+    ensures { LeafAt (Runs (reads_with (V.held view.now) (V.hints view.now) draft.now) most not_below.now (start from Shared)) result }
+{
+    match run(alloc, draft, view, from, not_below)? {
+        RunEnd::Wants(at, mode) => Err(BlinkError::Need(at, mode)),
+        RunEnd::Broken => Err(BlinkError::Stale),
+        RunEnd::First(key, leaf, _) => Ok(Some((key, leaf))),
+        RunEnd::Nothing => Ok(None),
+    }
+}

@@ -1,0 +1,50 @@
+-- Where nothing is to be written first, and where that lowers a tail.
+use Rattle.std.proofs.Common.{◌≡◌, ℕ, arith, Bool, true, false, List, refl, Ok, Err}
+use Rattle.std.specs.Prelude.{◌<◌, ◌&&◌, IfErr, nat_lt, Result}
+use Rattle.std.proofs.lemmas.Bool.Decides.{nat_tests}
+use Rattle.bx_changes.specs.First.{StopsFirst}
+use Rattle.bx_inodes.specs.Stops.{NeverInner}
+use Rattle.bx_inodes.specs.declared.stop.Stop.{Stop}
+use Rattle.bx_inodes.specs.declared.stop.Stop.TheVariants.{Need, Inner, Status, OutOfMemory}
+use Rattle.bx_layout.specs.declared.inode.Inode.{Inode}
+use Rattle.bx_sizes.specs.Cuts.{LowersFirst}
+use Rattle.bx_sizes.specs.Lengths.{grows_over}
+use Rattle.bx_views.specs.Truths.{Truth}
+
+-- the tail of a file that would grow over it is behind its end
+pub behind_end : (inode : Inode) (size : ℕ) → grows_over inode size ≡ true → inode.size < inode.tail
+behind_end inode size test = by (nat_lt inode.size size) (nat_lt inode.size inode.tail) refl test
+  where
+    by : (a b : Bool) → nat_lt inode.size inode.tail ≡ b → (a && b) ≡ true → inode.size < inode.tail
+    by a true second both = grind (arith, nat_tests, second)
+    by true false second both = absurd cc
+    by false false second both = absurd cc
+
+module _ {T : Type 0} where
+  pub never_stops : (Fails : ℕ → Type 0) (Lacks : Type 0) (stop : Stop) → NeverInner {T} (Err stop) → StopsFirst Fails Lacks stop
+  never_stops Fails Lacks (Need at mode) never = tt
+  never_stops Fails Lacks (Inner blocks) never = absurd never
+  never_stops Fails Lacks (Status status) never = tt
+  never_stops Fails Lacks OutOfMemory never = tt
+
+  pub never_lowers : (areas : ℕ) (truth : Truth) (handle : ℕ) (inode : Inode) (stop : Stop) → NeverInner {T} (Err stop) → LowersFirst areas truth handle inode stop
+  never_lowers areas truth handle inode (Need at mode) never = tt
+  never_lowers areas truth handle inode (Inner blocks) never = absurd never
+  never_lowers areas truth handle inode (Status status) never = tt
+  never_lowers areas truth handle inode OutOfMemory never = tt
+
+  pub never_first : (Fails : ℕ → Type 0) (Lacks : Type 0) (result : Result T Stop) → NeverInner result → IfErr result (StopsFirst Fails Lacks)
+  never_first Fails Lacks (Ok made) never = tt
+  never_first Fails Lacks (Err stop) never = never_stops Fails Lacks stop never
+
+  pub never_lowering : (areas : ℕ) (truth : Truth) (handle : ℕ) (inode : Inode) (result : Result T Stop) → NeverInner result → IfErr result (LowersFirst areas truth handle inode)
+  never_lowering areas truth handle inode (Ok made) never = tt
+  never_lowering areas truth handle inode (Err stop) never = never_lowers areas truth handle inode stop never
+
+-- where one error is no error of another, and what lacks is lacking there too
+pub first_wider : (Fails Fails_there : ℕ → Type 0) (Lacks Lacks_there : Type 0) → ((status : ℕ) → Fails_there status → Fails status) → (Lacks → Lacks_there) → (stop : Stop)
+    → StopsFirst Fails Lacks stop → StopsFirst Fails_there Lacks_there stop
+first_wider Fails Fails_there Lacks Lacks_there fails lacks (Need at mode) s = tt
+first_wider Fails Fails_there Lacks Lacks_there fails lacks (Inner blocks) s = ((λ status fail. s.0 status (fails status fail)), lacks s.1)
+first_wider Fails Fails_there Lacks Lacks_there fails lacks (Status status) s = tt
+first_wider Fails Fails_there Lacks Lacks_there fails lacks OutOfMemory s = tt

@@ -1,4 +1,3 @@
-pub mod Places
 pub mod Spaces
 pub mod Room
 pub mod Asked

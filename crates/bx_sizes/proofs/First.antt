@@ -27,26 +27,31 @@ behind_end inode size test = by (nat_lt inode.size size) (nat_lt inode.size inod
     by true false second both = absurd cc
     by false false second both = absurd cc
 
-module _ {T : Type 0} where
-  pub never_stops : (Fails : ℕ → Type 0) (Lacks : Type 0) (stop : Stop) → NeverInner {T} (Err stop) → StopsFirst Fails Lacks stop
-  never_stops Fails Lacks (Need at mode) never = tt
-  never_stops Fails Lacks (Inner blocks) never = absurd never
-  never_stops Fails Lacks (Status status) never = tt
-  never_stops Fails Lacks OutOfMemory never = tt
+pub never_stops : (T : Type 0) (Fails : ℕ → Type 0) (Lacks : Type 0) (stop : Stop) → NeverInner {T = T} (Err stop) → StopsFirst Fails Lacks stop
+never_stops T Fails Lacks (Need at mode) never = tt
+never_stops T Fails Lacks (Inner blocks) never = absurd never
+never_stops T Fails Lacks (Status status) never = tt
+never_stops T Fails Lacks OutOfMemory never = tt
 
-  pub never_lowers : (areas : ℕ) (truth : Truth) (handle : ℕ) (inode : Inode) (stop : Stop) → NeverInner {T} (Err stop) → LowersFirst areas truth handle inode stop
-  never_lowers areas truth handle inode (Need at mode) never = tt
-  never_lowers areas truth handle inode (Inner blocks) never = absurd never
-  never_lowers areas truth handle inode (Status status) never = tt
-  never_lowers areas truth handle inode OutOfMemory never = tt
+pub never_lowers : (T : Type 0) (areas : ℕ) (truth : Truth) (handle : ℕ) (inode : Inode) (stop : Stop) → NeverInner {T = T} (Err stop) → LowersFirst areas truth handle inode stop
+never_lowers T areas truth handle inode (Need at mode) never = tt
+never_lowers T areas truth handle inode (Inner blocks) never = absurd never
+never_lowers T areas truth handle inode (Status status) never = tt
+never_lowers T areas truth handle inode OutOfMemory never = tt
 
-  pub never_first : (Fails : ℕ → Type 0) (Lacks : Type 0) (result : Result T Stop) → NeverInner result → IfErr result (StopsFirst Fails Lacks)
-  never_first Fails Lacks (Ok made) never = tt
-  never_first Fails Lacks (Err stop) never = never_stops Fails Lacks stop never
+pub never_first : {T : Type 0} (Fails : ℕ → Type 0) (Lacks : Type 0) (result : Result T Stop) → NeverInner result → IfErr result (StopsFirst Fails Lacks)
+never_first Fails Lacks (Ok made) never = tt
+never_first Fails Lacks (Err (Need at mode)) never = tt
+never_first Fails Lacks (Err (Inner blocks)) never = absurd never
+never_first Fails Lacks (Err (Status status)) never = tt
+never_first Fails Lacks (Err OutOfMemory) never = tt
 
-  pub never_lowering : (areas : ℕ) (truth : Truth) (handle : ℕ) (inode : Inode) (result : Result T Stop) → NeverInner result → IfErr result (LowersFirst areas truth handle inode)
-  never_lowering areas truth handle inode (Ok made) never = tt
-  never_lowering areas truth handle inode (Err stop) never = never_lowers areas truth handle inode stop never
+pub never_lowering : {T : Type 0} (areas : ℕ) (truth : Truth) (handle : ℕ) (inode : Inode) (result : Result T Stop) → NeverInner result → IfErr result (LowersFirst areas truth handle inode)
+never_lowering areas truth handle inode (Ok made) never = tt
+never_lowering areas truth handle inode (Err (Need at mode)) never = tt
+never_lowering areas truth handle inode (Err (Inner blocks)) never = absurd never
+never_lowering areas truth handle inode (Err (Status status)) never = tt
+never_lowering areas truth handle inode (Err OutOfMemory) never = tt
 
 -- where one error is no error of another, and what lacks is lacking there too
 pub first_wider : (Fails Fails_there : ℕ → Type 0) (Lacks Lacks_there : Type 0) → ((status : ℕ) → Fails_there status → Fails status) → (Lacks → Lacks_there) → (stop : Stop)

@@ -22,11 +22,11 @@ use Rattle.bx_writes.specs.Telling.{TellsWith}
 
 -- ---- a piece
 
-pub value_first : {T : Type 0} (Holds : Type 0) (stop : Stop) → NeverInner {T} (Err stop) → IfFirst Holds (Stopped stop)
-value_first Holds (Need at mode) never = tt
-value_first Holds (Inner blocks) never = absurd never
-value_first Holds (Status status) never = tt
-value_first Holds OutOfMemory never = tt
+pub value_first : (T : Type 0) (Holds : Type 0) (stop : Stop) → NeverInner {T = T} (Err stop) → IfFirst Holds (Stopped stop)
+value_first T Holds (Need at mode) never = tt
+value_first T Holds (Inner blocks) never = absurd never
+value_first T Holds (Status status) never = tt
+value_first T Holds OutOfMemory never = tt
 
 pub found_first : (Holds : Type 0) (areas : ℕ) (held : Held) (names place : ℕ) (part : List ℕ) (result : Result (Option ℕ × List ℕ) ChangeError) → FoundAt areas held names place part result → IfErr result (IfFirst Holds)
 found_first Holds areas held names place part (Ok made) f = tt

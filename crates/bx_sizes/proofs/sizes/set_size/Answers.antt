@@ -26,13 +26,13 @@ returns-clause-step g c = λ truth tree file few same is fit holds there.
     (subst (λ (d : List Changed). PutsInode d c.put_inode.new.draft c.args.handle c.sized-changed.result) c.new-draft.ensures c.in_ok-put_inode.ensures.puts) b.0 b.1
 
 pub returns-in-Err-clause-lacks : goal.returns-in-Err-clause-lacks
-returns-in-Err-clause-lacks g c = never_stops (λ status. ⊥) (grows_over c.args.inode c.args.sattr.now.size ≡ true) c.in-Err.stop c.in-Err.ensures.inner
+returns-in-Err-clause-lacks g c = never_stops (List Changed) (λ status. ⊥) (grows_over c.args.inode c.args.sattr.now.size ≡ true) c.in-Err.stop c.in-Err.ensures.inner
 
 pub returns-in-Ok-clause-lacks : goal.returns-in-Ok-clause-lacks
 returns-in-Ok-clause-lacks g c = ((λ status never. never), ap (grows_over c.args.inode) (sym c.from-size.ensures) ∙ sym c.grows_over.ensures ∙ c.if-grows_over.true)
 
 pub returns-in-Err-clause-lowers : goal.returns-in-Err-clause-lowers
-returns-in-Err-clause-lowers g c = λ truth tree file few same is fit holds there. never_lowers c.args.areas truth c.args.handle c.args.inode c.in-Err.stop c.in-Err.ensures.inner
+returns-in-Err-clause-lowers g c = λ truth tree file few same is fit holds there. never_lowers (List Changed) c.args.areas truth c.args.handle c.args.inode c.in-Err.stop c.in-Err.ensures.inner
 
 pub returns-in-Ok-clause-lowers : goal.returns-in-Ok-clause-lowers
 returns-in-Ok-clause-lowers g c = λ truth tree file few same is fit holds there.

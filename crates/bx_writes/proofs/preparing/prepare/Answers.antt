@@ -1,4 +1,4 @@
-use Rattle.std.proofs.Common.{◌∙◌, ℕ, List, Err, ap, subst, sym}
+use Rattle.std.proofs.Common.{◌∙◌, ℕ, List, Option, Err, ap, subst, sym}
 use Rattle.bx_files.specs.Reads.{Tells}
 use Rattle.bx_page.specs.Contents.{value_of}
 use Rattle.bx_truth.specs.PageTrees.{handle_in, map_of}
@@ -24,7 +24,7 @@ returns-in-Ok-None-clause-step g c = λ volume truth tree handle inode r root_is
     (λ pages u. sym (rw (c.in-Ok-None.field-0-is, c.content_key.ensures) at (c.in-Ok-None.ensures.map truth pages u))) c.missing.result c.missing.ensures.none (c.missing.ensures.step volume truth tree handle inode r root_is)
 
 pub returns-in-Err-clause-lacks : goal.returns-in-Err-clause-lacks
-returns-in-Err-clause-lacks g c = λ volume truth tree handle inode r root_is. value_first (LacksEntry c.args.near.1 truth c.args.root c.args.place.0) c.in-Err.stop c.in-Err.ensures.inner
+returns-in-Err-clause-lacks g c = λ volume truth tree handle inode r root_is. value_first (Option (List ℕ)) (LacksEntry c.args.near.1 truth c.args.root c.args.place.0) c.in-Err.stop c.in-Err.ensures.inner
 
 pub returns-in-Ok-Some-clause-lacks : goal.returns-in-Ok-Some-clause-lacks
 returns-in-Ok-Some-clause-lacks g c = λ volume truth tree handle inode r root_is.

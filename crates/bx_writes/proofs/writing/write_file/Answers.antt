@@ -133,7 +133,7 @@ returns-then-is_empty-clause-lacks g c = λ truth tree bytes few same s fit f is
 
 pub returns-in-Err-clear-clause-lacks : goal.returns-in-Err-clear-clause-lacks
 returns-in-Err-clear-clause-lacks g c = λ truth tree bytes few same s fit f is.
-    never_stops (λ status. write tree c.args.call.now bytes c.args.offset c.args.written.now c.args.now 8 ≡ Err status) (LacksWritten c.args.volume.1 truth c.args.file.0 c.args.offset c.args.written.now)
+    never_stops (List Changed) (λ status. write tree c.args.call.now bytes c.args.offset c.args.written.now c.args.now 8 ≡ Err status) (LacksWritten c.args.volume.1 truth c.args.file.0 c.args.offset c.args.written.now)
     c.in-Err-clear.stop c.in-Err-clear.ensures.inner
 
 pub returns-in-Ok-clause-lacks : goal.returns-in-Ok-clause-lacks
@@ -183,7 +183,7 @@ returns-then-is_empty-clause-lowers g c = λ truth tree few same s fit f grows.
     told_lowers c.args.volume.1 truth c.args.file.0 c.args.file.1 c.args.volume.0 c.args.file.0 c.args.file.1 c.new.result c.told.result c.told.ensures
 
 pub returns-in-Err-clear-clause-lowers : goal.returns-in-Err-clear-clause-lowers
-returns-in-Err-clear-clause-lowers g c = λ truth tree few same s fit f grows. never_lowers c.args.volume.1 truth c.args.file.0 c.args.file.1 c.in-Err-clear.stop c.in-Err-clear.ensures.inner
+returns-in-Err-clear-clause-lowers g c = λ truth tree few same s fit f grows. never_lowers (List Changed) c.args.volume.1 truth c.args.file.0 c.args.file.1 c.in-Err-clear.stop c.in-Err-clear.ensures.inner
 
 pub returns-in-Ok-clause-lowers : goal.returns-in-Ok-clause-lowers
 returns-in-Ok-clause-lowers g c = λ truth tree few same s fit f grows.

@@ -1,9 +1,9 @@
 -- Blocks are written first only where no error comes, and something is lacking.
-use Rattle.std.proofs.Common.{◌≡◌, ◌∙◌, ℕ, ◌+◌, ◌<◌, ◌≤◌, arith, Bool, true, false, List, subst, sym, Ok, Err}
+use Rattle.std.proofs.Common.{◌≡◌, ◌∙◌, ℕ, ◌+◌, ◌<◌, arith, Bool, true, false, List, subst, sym, Ok, Err}
 use Rattle.std.specs.Prelude.{IfErr, Option, Result}
 use Rattle.bx_adding.specs.Lacking.{IfFirst}
 use Rattle.bx_adding.specs.Stopping.{NeverFirst}
-use Rattle.bx_adding.proofs.Lacks.{first_if, first_so, never_first}
+use Rattle.bx_adding.proofs.Lacks.{first_so, never_first}
 use Rattle.bx_changes.specs.First.{ComesFirst}
 use Rattle.bx_changes.specs.declared.error.ChangeError.{ChangeError}
 use Rattle.bx_changes.specs.declared.error.ChangeError.TheVariants.{Stopped, Full}

@@ -19,15 +19,14 @@ use Rattle.bx_model.specs.declared.tree.Tree.{Tree}
 use Rattle.bx_page.specs.Contents.{value_of}
 use Rattle.bx_records.specs.Drafts.{Changed}
 use Rattle.bx_ready.specs.Lacking.{LacksRoom}
-use Rattle.bx_ready.specs.Ready.{IsFileUnder, IsReady, OnReadyPath, ReadiesIn}
+use Rattle.bx_ready.specs.Ready.{IsFileUnder, OnReadyPath, ReadiesIn}
 use Rattle.bx_ready.specs.Spare.{TellsFew}
 use Rattle.bx_truth.specs.Chunks.{block_at, chunks_of}
 use Rattle.bx_truth.specs.Keys.{content_key}
 use Rattle.bx_truth.specs.PageTrees.{IsTree, PageTree, handle_in, map_of}
-use Rattle.bx_truth.specs.Stored.{HasBody, IsContent, IsRegular}
+use Rattle.bx_truth.specs.Stored.{HasBody, IsRegular}
 use Rattle.bx_truth.proofs.Frames.{handle_back}
 use Rattle.bx_truth.proofs.OneFiles.{file_there}
-use Rattle.bx_truth.proofs.OneTree.{one_map}
 use Rattle.bx_hints.specs.Pages.{HasPages}
 use Rattle.bx_hints.proofs.Pages.{has_pages, inode_is}
 use Rattle.bx_truth.proofs.Put.{shown}
@@ -35,13 +34,11 @@ use Rattle.bx_truth.proofs.Same.{chunk_is}
 use Rattle.bx_tree_files.specs.declared.file.Body.TheVariants.{Bytes}
 use Rattle.bx_sizes.proofs.Resized.{regular_bytes}
 use Rattle.bx_sizes.proofs.Stops.{not_lost}
-use Rattle.bx_sizes.specs.Steps.{HoldsPiece}
 use Rattle.bx_views.specs.Truths.{Held, Hints, Truth}
 use Rattle.bx_adding.specs.Lacking.{IfFirst}
 use Rattle.bx_adding.specs.Stopping.{StopsChange}
 use Rattle.bx_adding.proofs.Lacks.{first_if}
 use Rattle.bx_adding.proofs.Asked.{ready_block}
-use Rattle.bx_writes.specs.Bytes.{IsPayload}
 use Rattle.bx_writes.specs.Lacking.{LacksEntry}
 use Rattle.bx_writes.specs.Steps.{FoundAt, IsPrepared, IsRegularOf, MissesIn, PreparesIn}
 

@@ -11,7 +11,7 @@ use Rattle.bx_writes.specs.Steps.{IsRegularOf}
 use Rattle.bx_writes.specs.Written.{IsWritten}
 use Rattle.bx_writes.specs.Grown.{grown}
 use Rattle.bx_writes.specs.Laying.{GrowsTo, pieces_of}
-use Rattle.std.proofs.Common.{◌≡◌, ◌∙◌, ◌+◌, ◌*◌, ◌/◌, ◌%◌, ◌<◌, ◌^◌, ℕ, List, Ok, Err, [], length, arith, ap, subst, sym, refl, inl, inr}
+use Rattle.std.proofs.Common.{◌≡◌, ◌∙◌, ◌+◌, ◌*◌, ◌/◌, ◌%◌, ◌<◌, ◌^◌, ℕ, List, Err, length, arith, ap, subst, sym, inl, inr}
 use Rattle.bx_changes.specs.Changes.{Changes}
 use Rattle.bx_hints.specs.Fitting.{HintsFitAll}
 use Rattle.bx_model.specs.Writing.{write}
@@ -139,8 +139,7 @@ returns-in-Err-clear-clause-lacks g c = λ truth tree bytes few same s fit f is.
 pub returns-in-Ok-clause-lacks : goal.returns-in-Ok-clause-lacks
 returns-in-Ok-clause-lacks g c = λ truth tree bytes few same s fit f is.
     let written = c.args.written.now in
-    let fine = rw c.in-Ok-None.field-0-is at c.in-Ok-None.ensures.error in
-    (
+    let fine = rw c.in-Ok-None.field-0-is at c.in-Ok-None.ensures.error in (
       accepted c.args.volume.0 c.args.volume.1 (g.V.View.held c.args.view.now) (g.V.View.hints c.args.view.now) truth tree bytes c.args.call.now c.args.offset written c.args.now c.args.file.0 c.args.file.1 s f is fine,
       record {
         some = some_of (length written) c.if-is_empty.ensures;

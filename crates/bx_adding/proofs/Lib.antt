@@ -1,4 +1,3 @@
-pub mod Places
 pub mod Spaces
 pub mod Room
 pub mod Asked
@@ -6,3 +5,4 @@ pub mod Stopped
 pub mod First
 pub mod Entered
 pub mod Kept
+pub mod Lacks

@@ -21,7 +21,7 @@ use Rattle.bx_truth.specs.PageTrees.{Chunks, HasPage, IsIn, IsNode, IsTree, Node
 use Rattle.bx_views.specs.Truths.{Held, Hints, Truth}
 use Rattle.bx_ready.specs.Rooms.{HasRoom}
 use Rattle.bx_adding.specs.Rooms.{HasSpace}
-use Rattle.bx_adding.proofs.Places.{one_place, place_in}
+use Rattle.bx_ready.proofs.Places.{one_place, place_in}
 
 -- ---- where it comes from
 

@@ -1,3 +1,4 @@
+pub mod Places
 pub mod Spare
 pub mod Lengths
 pub mod Bounds
@@ -7,3 +8,4 @@ pub mod Post
 pub mod Split
 pub mod Both
 pub mod Files
+pub mod Lacks

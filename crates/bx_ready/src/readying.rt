@@ -8,6 +8,7 @@ ghost use Rattle.bx_model.specs.declared.tree.Tree.{Tree};
 ghost use Rattle.bx_truth.specs.PageTrees.{PageTree};
 ghost use Rattle.bx_views.specs.Attempts.{IsHeldDraft};
 ghost use Rattle.bx_views.specs.Truths.{Truth};
+ghost use Rattle.bx_ready.specs.Lacking.{LacksRoom};
 ghost use Rattle.bx_ready.specs.Ready.{IsFileUnder, OnReadyPath, ReadiesIn};
 
 use crate::rooms::split_for;
@@ -19,7 +20,7 @@ use std::alloc::Global;
 
 /// What is to be written before an entry is put under a key, near an area, in the tree under a root: the draft that posts a separator
 /// that is missing above the key's page, or else the one that splits its leaf where that has less than 544 bytes left. `None` exactly
-/// where the entry finds room, below no missing separator. The draft leaves all files as they are.
+/// where the entry finds room, below no missing separator: a draft comes only where room is lacking. It leaves all files as they are.
 ///
 /// `Need`, `Stale` and `Full` come as they do of `post_for` and `split_for`.
 pub fn ready<V: View>(
@@ -31,6 +32,7 @@ pub fn ready<V: View>(
     areas: u16,
 ) -> Result<Option<Draft>, BlinkError>
     ensures map { (truth : Truth) (tree : PageTree) → Under areas (V.held view.now) (V.hints view.now) truth [] root tree → ReadiesIn areas (V.held view.now) (V.hints view.now) truth root tree key.now result }
+    ensures lacks { (truth : Truth) (tree : PageTree) → Under areas (V.held view.now) (V.hints view.now) truth [] root tree → IfOk result (λ found. IfSome found (λ new. LacksRoom areas truth root key.now)) }
     ensures files { (truth : Truth) (tree : Tree) → IsFileUnder areas (V.held view.now) (V.hints view.now) truth root tree → IfOk result (λ found. IfSome found (λ new. KeepsFiles areas truth [] new tree)) }
     ensures fair { NeedsUnheld (V.held view.now) (OnReadyPath areas (V.held view.now) (V.hints view.now) root key.now) result }
     ensures held { IfOk result (λ found. IfSome found (IsHeldDraft (V.held view.now))) }

@@ -1,7 +1,6 @@
 -- A piece that isn't there is made: a block is taken, and the file's tree names it.
-use Rattle.std.proofs.Common.{◌≡◌, ℕ, ◌+◌, ◌-◌, ◌*◌, ◌%◌, ◌^◌, ◌<◌, ◌≤◌, arith, Bool, true, false, List, [], ◌∷◌, length, ◌++◌, Option, Some, None, Ok, sym, ap, ◌∙◌, subst, refl, inl, inr}
-use Rattle.std.specs.Prelude.{◌⊎◌, ◌≢◌, ◌==◌, if◌then◌else◌, bytes_eq, option_and_then, All}
-use Rattle.std.specs.Int.{w32, w64, to_be_bytes}
+use Rattle.std.proofs.Common.{◌≡◌, ℕ, ◌+◌, ◌-◌, ◌*◌, ◌%◌, ◌^◌, ◌<◌, ◌≤◌, arith, Bool, false, List, ◌∷◌, length, ◌++◌, Option, Some, None, Ok, sym, ap, ◌∙◌, subst, refl, inl, inr}
+use Rattle.std.specs.Prelude.{◌⊎◌, ◌≢◌, if◌then◌else◌, bytes_eq, option_and_then, All}
 use Rattle.std.proofs.lemmas.List.Elements.{All-append, All-cons, All-filter}
 use Rattle.bx_adding.specs.Rooms.{HasSpace}
 use Rattle.bx_adding.proofs.Spaces.{space_stays}
@@ -23,11 +22,11 @@ use Rattle.bx_inodes.specs.Inodes.{HoldsInode}
 use Rattle.bx_layout.specs.Areas.{generation_in}
 use Rattle.bx_layout.specs.declared.block.Block.{Block}
 use Rattle.bx_layout.specs.declared.inode.Inode.{Inode}
-use Rattle.bx_leaves.specs.Changes.{InsertsIn, MakesMap}
+use Rattle.bx_leaves.specs.Changes.{MakesMap}
 use Rattle.bx_leaves.specs.Leaves.{InsertsAt}
 use Rattle.bx_leaves.proofs.Done.{inserts_in}
 use Rattle.bx_leaves.proofs.Written.{draft_elsewhere, own_not_slot}
-use Rattle.bx_making.proofs.Puts.{put_chunk, put_holds, put_slots}
+use Rattle.bx_making.proofs.Puts.{put_chunk, put_slots}
 use Rattle.bx_model.specs.declared.tree.Tree.{Tree}
 use Rattle.bx_page.specs.declared.entry.Entry.{Entry}
 use Rattle.bx_page.specs.Contents.{Contents, above, below, size, value_of, with_entry, with_value}
@@ -44,7 +43,7 @@ use Rattle.bx_truth.specs.PageTrees.{IsNode, IsPageOf, IsTree, Node, PageTree, h
 use Rattle.bx_truth.specs.Pieces.{PutsPiece}
 use Rattle.bx_truth.specs.Shown.{KeepsSlots}
 use Rattle.bx_truth.specs.Stands.{StandsFor, WasGiven}
-use Rattle.bx_truth.specs.Stored.{HasInode, IsContent, piece_of}
+use Rattle.bx_truth.specs.Stored.{HasInode, piece_of}
 use Rattle.bx_truth.proofs.Cases.{eq_false, eq_true, same_or}
 use Rattle.bx_truth.proofs.Dirs.{keeps_slots}
 use Rattle.bx_truth.proofs.Frames.{handle_back, tree_kept}
@@ -59,7 +58,7 @@ use Rattle.bx_views.specs.Truths.{Held, Hints, IsTruth, Truth, with_draft}
 use Rattle.bx_writes.proofs.On.{free_same, inode_same, map_same, regular, stands_now, tree_is, value_is}
 use Rattle.bx_writes.proofs.Over.{is_over, over, over_both}
 use Rattle.bx_writes.specs.Bytes.{IsOver, IsPayload}
-use Rattle.bx_writes.specs.Written.{IsWritten, LeavesBelow, with_bytes}
+use Rattle.bx_writes.specs.Written.{IsWritten, with_bytes}
 
 module _ (areas near : ℕ) (held : Held) (hints : Hints) (truth : Truth) (tree : Tree) (handle : ℕ) (file : File) (pages : PageTree) (inode : Inode) (base : List ℕ) (index place : ℕ) (part rest : List ℕ) (taken : ℕ) (old one two : List Changed)
     (handle_is : file.handle ≡ handle) (few : areas ≤ 64) (same : IsTruth held truth) (fit : HintsFitAll areas hints truth) (next : ℕ) (index_fits : index < 2 ^ 32)

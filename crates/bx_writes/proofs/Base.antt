@@ -1,9 +1,8 @@
 -- The draft with the file's inode alone, where no piece is written yet.
-use Rattle.std.proofs.Common.{◌≡◌, ℕ, ◌+◌, ◌-◌, ◌*◌, ◌<◌, ◌≤◌, arith, List, [], length, Option, Some, None, sym, ap, ◌∙◌, subst, refl}
+use Rattle.std.proofs.Common.{◌≡◌, ℕ, ◌-◌, ◌*◌, ◌<◌, arith, List, [], length, Some, sym, ap, ◌∙◌, subst, refl}
 use Rattle.std.specs.Prelude.{◌≢◌}
 use Rattle.bx_adding.proofs.Spaces.{space_of}
 use Rattle.bx_hints.proofs.Pages.{inode_is, one_block}
-use Rattle.bx_inodes.specs.Inodes.{HoldsInode}
 use Rattle.bx_inodes.specs.Writing.{PutsInode}
 use Rattle.bx_layout.specs.declared.block.Block.{Block}
 use Rattle.bx_layout.specs.declared.inode.Inode.{Inode}
@@ -29,7 +28,7 @@ use Rattle.bx_writes.proofs.On.{free_same, less_space}
 use Rattle.bx_writes.proofs.Over.{over_nothing}
 use Rattle.bx_writes.specs.Laying.{GrowsTo}
 use Rattle.bx_writes.specs.Steps.{IsRegularOf}
-use Rattle.bx_writes.specs.Written.{IsWritten, with_bytes}
+use Rattle.bx_writes.specs.Written.{IsWritten}
 
 module _ (volume areas : ℕ) (held : Held) (hints : Hints) (truth : Truth) (tree : Tree) (handle : ℕ) (old inode : Inode) (file : File) (base : List ℕ) (r : IsRegularOf volume areas held hints truth tree handle old)
     (grows : GrowsTo r.at.file old inode file base) (draft : List Changed) (puts : PutsInode [] draft handle inode) where

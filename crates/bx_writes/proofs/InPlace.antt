@@ -1,9 +1,7 @@
 -- A piece that is there is written over.
-use Rattle.std.proofs.Common.{◌≡◌, ℕ, ◌+◌, ◌-◌, ◌*◌, ◌^◌, ◌<◌, ◌≤◌, arith, Bool, true, false, List, [], ◌∷◌, length, ◌++◌, Option, Some, None, sym, ap, ◌∙◌, subst, refl, inl, inr}
-use Rattle.std.specs.Prelude.{◌⊎◌, ◌≢◌, ◌==◌, if◌then◌else◌, bytes_eq, option_and_then}
+use Rattle.std.proofs.Common.{◌≡◌, ℕ, ◌+◌, ◌-◌, ◌*◌, ◌^◌, ◌<◌, ◌≤◌, arith, Bool, true, false, List, length, ◌++◌, Option, Some, sym, ap, ◌∙◌, subst, refl, inr}
+use Rattle.std.specs.Prelude.{◌≢◌, if◌then◌else◌, bytes_eq, option_and_then}
 use Rattle.std.proofs.lemmas.Slice.Eq.{bytes_eq-Decides}
-use Rattle.bx_adding.specs.Rooms.{HasSpace}
-use Rattle.bx_hints.specs.Fitting.{HintsFitAll}
 use Rattle.bx_hints.proofs.Pages.{one_block}
 use Rattle.bx_layout.specs.declared.block.Block.{Block}
 use Rattle.bx_layout.specs.declared.inode.Inode.{Inode}
@@ -20,15 +18,15 @@ use Rattle.bx_truth.specs.Keys.{content_key, content_value}
 use Rattle.bx_truth.specs.PageTrees.{IsPageOf, IsTree, Node, PageTree, handle_in, map_of}
 use Rattle.bx_truth.specs.Pieces.{PutsPiece}
 use Rattle.bx_truth.specs.Shown.{KeepsSlots}
-use Rattle.bx_truth.specs.Stored.{DataOf, IsContent, PageOf, piece_of}
+use Rattle.bx_truth.specs.Stored.{DataOf, IsContent, piece_of}
 use Rattle.bx_truth.proofs.Frames.{handle_back, tree_kept}
 use Rattle.bx_truth.proofs.PieceKeys.{one_handle, one_index, some_same}
 use Rattle.bx_truth.proofs.Same.{chunk_is}
-use Rattle.bx_views.specs.Truths.{Held, Hints, IsTruth, Truth, with_draft}
-use Rattle.bx_writes.proofs.On.{free_same, less_space, not_inode, regular, stands_now, there, tree_is, value_is}
+use Rattle.bx_views.specs.Truths.{Held, IsTruth, Truth, with_draft}
+use Rattle.bx_writes.proofs.On.{free_same, less_space, not_inode, regular, stands_now, value_is}
 use Rattle.bx_writes.proofs.Over.{is_over, over, over_both}
 use Rattle.bx_writes.specs.Bytes.{IsOver, IsPayload}
-use Rattle.bx_writes.specs.Written.{IsWritten, LeavesBelow, with_bytes}
+use Rattle.bx_writes.specs.Written.{IsWritten}
 
 module _ (areas : ℕ) (held : Held) (truth : Truth) (tree : Tree) (handle : ℕ) (file : File) (pages : PageTree) (inode : Inode) (base : List ℕ) (index place : ℕ) (part rest : List ℕ) (taken : ℕ) (old new : List Changed)
     (handle_is : file.handle ≡ handle) (few : areas ≤ 64) (same : IsTruth held truth) (small : inode.size < 2 ^ 31) (low : inode.size ≤ inode.tail) (long : length base ≡ inode.size)

@@ -1,11 +1,11 @@
 -- What a draft of some pieces of a file has, to write one more over it.
-use Rattle.std.proofs.Common.{◌≡◌, ℕ, ◌+◌, ◌-◌, ◌*◌, ◌^◌, ◌<◌, ◌≤◌, arith, Bool, true, List, [], ◌∷◌, length, Option, Some, None, sym, ap, ◌∙◌, subst, refl, inl, inr}
-use Rattle.std.specs.Prelude.{◌⊎◌, ◌≢◌, ◌==◌, if◌then◌else◌, option_and_then}
+use Rattle.std.proofs.Common.{◌≡◌, ℕ, ◌+◌, ◌*◌, ◌^◌, ◌<◌, ◌≤◌, arith, Bool, List, length, Some, sym, ap, ◌∙◌, subst, refl}
+use Rattle.std.specs.Prelude.{◌≢◌, if◌then◌else◌}
 use Rattle.bx_adding.specs.Rooms.{HasSpace}
 use Rattle.bx_chunks.proofs.Sums.{sum_same}
 use Rattle.bx_chunks.specs.Counting.{free_in, free_slots}
 use Rattle.bx_entries.proofs.Twice.{twice}
-use Rattle.bx_hints.proofs.Pages.{inode_is, one_block}
+use Rattle.bx_hints.proofs.Pages.{inode_is}
 use Rattle.bx_layout.specs.declared.block.Block.{Block}
 use Rattle.bx_layout.specs.declared.inode.Inode.{Inode}
 use Rattle.bx_model.specs.declared.tree.Tree.{Tree}
@@ -16,20 +16,19 @@ use Rattle.bx_tree_files.specs.declared.file.Body.TheVariants.{Bytes}
 use Rattle.bx_tree_files.specs.declared.file.File.{File}
 use Rattle.bx_tree_files.specs.Files.{file_at, with_file}
 use Rattle.bx_truth.specs.Chunks.{chunks_of, own_block}
-use Rattle.bx_truth.specs.Keys.{content_key, content_value}
-use Rattle.bx_truth.specs.PageTrees.{IsPageOf, IsTree, Node, PageTree, handle_in, map_of}
+use Rattle.bx_truth.specs.Keys.{content_key}
+use Rattle.bx_truth.specs.PageTrees.{IsTree, PageTree, map_of}
 use Rattle.bx_truth.specs.Pieces.{PutsPiece, pieces_with}
 use Rattle.bx_truth.specs.Shown.{IsShown, KeepsSlots}
 use Rattle.bx_truth.specs.Stands.{StandsFor}
-use Rattle.bx_truth.specs.Stored.{AreBytesOf, IsContent, IsRegular, Inodes, DataOf, piece_of}
+use Rattle.bx_truth.specs.Stored.{AreBytesOf, IsRegular, Inodes, DataOf, piece_of}
 use Rattle.bx_truth.proofs.Cases.{eq_true}
 use Rattle.bx_truth.proofs.FilesInOrder.{file_with}
-use Rattle.bx_truth.proofs.Frames.{handle_back}
 use Rattle.bx_truth.proofs.OneTree.{one_map}
 use Rattle.bx_truth.proofs.Pieces.{piece_put}
 use Rattle.bx_truth.proofs.Put.{shown}
 use Rattle.bx_views.specs.Truths.{Held, Truth, with_draft}
-use Rattle.bx_writes.proofs.Over.{over, over_are}
+use Rattle.bx_writes.proofs.Over.{over_are}
 use Rattle.bx_writes.specs.Bytes.{IsOver, IsPayload}
 use Rattle.bx_writes.specs.Written.{IsWritten, with_bytes}
 

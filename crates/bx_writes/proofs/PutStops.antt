@@ -1,6 +1,6 @@
 -- What stops a piece that is put: a block that is needed, and want of blocks or of memory, never what the draft has.
-use Rattle.std.proofs.Common.{◌≡◌, ℕ, ◌+◌, ◌-◌, ◌*◌, ◌^◌, ◌<◌, ◌≤◌, arith, true, false, List, [], ◌++◌, length, Option, Some, None, sym, ap, ◌∙◌, subst, refl, inl, inr, Ok, Err}
-use Rattle.std.specs.Prelude.{IfOk, IsSome, Result}
+use Rattle.std.proofs.Common.{◌≡◌, ℕ, ◌+◌, ◌-◌, ◌*◌, ◌^◌, ◌<◌, ◌≤◌, arith, true, false, List, ◌++◌, length, Option, Some, None, sym, ◌∙◌, subst, inl, inr, Ok, Err}
+use Rattle.std.specs.Prelude.{IsSome}
 use Rattle.bx_adding.proofs.Spaces.{finds_space}
 use Rattle.bx_adding.specs.Stopping.{NeverFirst, StopsChange}
 use Rattle.bx_base.specs.declared.names.Mode.{Mode}
@@ -8,14 +8,12 @@ use Rattle.bx_blink.specs.Hints.{Under}
 use Rattle.bx_blink.specs.declared.error.BlinkError.{BlinkError}
 use Rattle.bx_blink.specs.declared.error.BlinkError.TheVariants as tree_error
 use Rattle.bx_blink.specs.Walks.{reads_with}
-use Rattle.bx_changes.specs.Growing.{IsNearlyFull, NeedsBy}
+use Rattle.bx_changes.specs.Growing.{NeedsBy}
 use Rattle.bx_changes.specs.declared.error.ChangeError.{ChangeError}
-use Rattle.bx_changes.specs.declared.error.ChangeError.TheVariants as change
 use Rattle.bx_chunks.specs.Allocating.{AllocatesAt}
 use Rattle.bx_chunks.specs.declared.error.ChunkError.{ChunkError}
 use Rattle.bx_chunks.specs.declared.error.ChunkError.TheVariants.{Need, Stale, Full, OutOfMemory, Crowded}
 use Rattle.bx_entries.proofs.Leaves.{leaf_block}
-use Rattle.bx_layout.specs.declared.block.Block.{Block}
 use Rattle.bx_layout.specs.declared.inode.Inode.{Inode}
 use Rattle.bx_leaves.specs.Changes.{InsertsIn, NeedsUnheld}
 use Rattle.bx_leaves.specs.Leaves.{InsertsAt, OnLeafPath}
@@ -23,11 +21,11 @@ use Rattle.bx_leaves.proofs.Done.{inserts_in}
 use Rattle.bx_model.specs.declared.tree.Tree.{Tree}
 use Rattle.bx_page.specs.Contents.{value_of}
 use Rattle.bx_places.specs.Places.{is_block}
-use Rattle.bx_ready.proofs.Lengths.{crowded_many, one_more, taken_more}
+use Rattle.bx_ready.proofs.Lengths.{crowded_many}
 use Rattle.bx_ready.proofs.Spare.{full_none, told}
-use Rattle.bx_records.specs.Drafts.{Changed, with_block}
+use Rattle.bx_records.specs.Drafts.{Changed}
 use Rattle.bx_tree_files.specs.declared.file.File.{File}
-use Rattle.bx_truth.specs.Chunks.{block_at, chunks_of}
+use Rattle.bx_truth.specs.Chunks.{chunks_of}
 use Rattle.bx_truth.specs.Keys.{content_key, content_value}
 use Rattle.bx_truth.specs.PageTrees.{PageTree, map_of}
 use Rattle.bx_views.specs.Truths.{Held, Hints, Truth, with_draft}

@@ -1,5 +1,5 @@
 -- What WRITE comes to, by the inode of the file.
-use Rattle.std.proofs.Common.{◌≡◌, ℕ, ◌+◌, ◌-◌, ◌*◌, ◌/◌, ◌%◌, ◌<◌, ◌≤◌, ◌^◌, arith, Bool, true, false, List, [], ◌++◌, length, take, drop, replicate, get_or, refl, sym, ap, ◌∙◌, subst, Option, Some, None, inl, inr}
+use Rattle.std.proofs.Common.{◌≡◌, ℕ, ◌+◌, ◌-◌, ◌/◌, ◌<◌, ◌≤◌, ◌^◌, arith, Bool, true, false, List, [], ◌++◌, length, take, drop, replicate, get_or, refl, sym, ap, ◌∙◌, subst, Option, Some, None, inl, inr}
 use Rattle.std.specs.Prelude.{◌==◌, ◌&&◌, ◌||◌, ◌⊎◌, ◌≢◌, bit_and, max, min, not, nat_lt, if◌then◌else◌, IfErr, IfOk, Result, Ok, Err}
 use Rattle.std.proofs.lemmas.Bool.{cases_lt}
 use Rattle.std.proofs.lemmas.Bool.Decides.{nat_tests}
@@ -19,7 +19,6 @@ use Rattle.bx_inodes.specs.declared.stop.Stop.TheVariants.{Need, Inner, Status, 
 use Rattle.bx_inodes.specs.Heads.{head_of}
 use Rattle.bx_inodes.specs.Inodes.{FileAt, IsInodeOf, LiveAt, shown_size}
 use Rattle.bx_inodes.specs.Stands.{Stands}
-use Rattle.bx_layout.specs.declared.block.Block.{Block}
 use Rattle.bx_layout.specs.declared.inode.Inode.{Inode}
 use Rattle.bx_model.specs.declared.call.Call.{Call}
 use Rattle.bx_model.specs.declared.reply.Reply.{Reply}
@@ -32,24 +31,23 @@ use Rattle.bx_model.specs.Steps.{Outcome, must, refuse, ◌>>=◌, ◌>>◌}
 use Rattle.bx_model.specs.Writing.{write, write_errors}
 use Rattle.bx_reads.proofs.Told.{named_as, size_fits}
 use Rattle.bx_records.specs.Drafts.{Changed}
-use Rattle.bx_sizes.proofs.Bytes.{long, resized}
-use Rattle.bx_sizes.proofs.Resized.{over_none, regular_bytes, regular_fields}
+use Rattle.bx_sizes.proofs.Bytes.{resized}
+use Rattle.bx_sizes.proofs.Resized.{over_none, regular_bytes}
 use Rattle.bx_layout.specs.Inodes.{IsKind}
 use Rattle.bx_sizes.specs.Answers.{Clears}
 use Rattle.bx_sizes.specs.Lengths.{grows_over}
-use Rattle.bx_tree_files.specs.declared.file.Body.{Body}
 use Rattle.bx_tree_files.specs.declared.file.Body.TheVariants.{Bytes}
 use Rattle.bx_tree_files.specs.declared.file.File.{File}
 use Rattle.bx_tree_files.specs.Attributes.{attributes_of}
 use Rattle.bx_tree_files.specs.Changes.{most_bytes, overwritten, with_data}
 use Rattle.bx_tree_files.specs.Contents.{sized, written_over}
-use Rattle.bx_tree_files.specs.Files.{file_at, size_of, with_changed, with_file}
+use Rattle.bx_tree_files.specs.Files.{size_of, with_changed, with_file}
 use Rattle.bx_tree_files.specs.Times.{Time}
 use Rattle.bx_tree_laws.proofs.Writings.{write_keeps}
 use Rattle.bx_truth.specs.Chunks.{chunks_of}
 use Rattle.bx_truth.specs.PageTrees.{PageTree}
 use Rattle.bx_truth.specs.Stands.{StandsFor}
-use Rattle.bx_truth.specs.Stored.{AreBytesOf, HasBody, HasFields, IsRegular, piece_of}
+use Rattle.bx_truth.specs.Stored.{HasBody, HasFields}
 use Rattle.bx_truth.proofs.Cases.{eq_false, eq_true}
 use Rattle.bx_truth.proofs.Put.{shown}
 use Rattle.bx_views.specs.Attempts.{IsHeldDraft}
@@ -61,7 +59,7 @@ use Rattle.bx_writes.specs.Laying.{GrowsTo}
 use Rattle.bx_writes.specs.Paths.{OnFileWritten, OnWriting}
 use Rattle.bx_writes.specs.Steps.{IsRegularOf, PutsOn}
 use Rattle.bx_writes.specs.Telling.{TellsWith}
-use Rattle.bx_writes.specs.Written.{IsWritten, with_bytes}
+use Rattle.bx_writes.specs.Written.{IsWritten}
 
 -- ---- bytes
 
@@ -215,6 +213,15 @@ module _ (volume areas : ℕ) (held : Held) (hints : Hints) (truth : Truth) (tre
 
   pub refused : (status : ℕ) → write_errors call (head_of handle inode) offset (length written) 8 ≡ Err status → write tree call at offset written now 8 ≡ Err status
   refused status error = by_inode 8 ∙ (λ i. error i >> given f.file)
+
+  -- where nothing is refused, no error comes
+  pub accepted : write_errors call (head_of handle inode) offset (length written) 8 ≡ Ok tt → (status : ℕ) → write tree call at offset written now 8 ≡ Err status → ⊥
+  accepted fine status error = by (length written == 0) (sym (by_inode 8 ∙ (λ i. fine i >> given f.file)) ∙ error)
+    where
+      by : (none : Bool)
+          → ◌≡◌ {A = Outcome} (if none then Ok (attributes_reply tree f.file, tree) else Ok (attributes_reply tree (with_data now offset written f.file), changed tree f.file.handle (with_data now offset written))) (Err status) → ⊥
+      by true same = absurd cc
+      by false same = absurd cc
 
   pub full : (spare : ℕ) → write_errors call (head_of handle inode) offset (length written) 8 ≡ Ok tt → 0 < length written → spare < 8 → write tree call at offset written now spare ≡ Err 28
   full spare fine some few =

@@ -1,7 +1,6 @@
 -- All pieces that bytes are in, laid on a file's inode.
 use Rattle.std.specs.Prelude.{◌≡◌, ℕ, ◌+◌, ◌*◌, ◌<◌, ◌≤◌, ◌^◌, [], List, length, Result, Ok, Err}
 use Rattle.std.specs.Int.{div_ceil}
-use Rattle.bx_changes.specs.Growing.{LeavesTrees}
 use Rattle.bx_changes.specs.declared.error.ChangeError.{ChangeError}
 use Rattle.bx_changes.specs.declared.error.ChangeError.TheVariants.{Stopped, Full}
 use Rattle.bx_inodes.specs.declared.stop.Stop.TheVariants.{Need, Inner, Status, OutOfMemory}

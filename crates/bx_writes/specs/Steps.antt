@@ -1,5 +1,5 @@
 -- The steps of writing one piece: what is read first, and what it is written on.
-use Rattle.std.specs.Prelude.{◌≡◌, ℕ, ◌+◌, ◌*◌, ◌^◌, ◌<◌, ◌≤◌, List, ◌++◌, length, Option, None, Some, IsSome, Result, Ok, Err}
+use Rattle.std.specs.Prelude.{◌≡◌, ℕ, ◌+◌, ◌*◌, ◌^◌, ◌<◌, ◌≤◌, List, length, Option, None, Some, IsSome, Result, Ok, Err}
 use Rattle.bx_base.specs.declared.names.Mode.TheVariants.{Exclusive}
 use Rattle.bx_changes.specs.Growing.{IsNearlyFull, LeavesTrees}
 use Rattle.bx_changes.specs.declared.error.ChangeError.{ChangeError}

@@ -1,5 +1,5 @@
 -- What a draft has of a file's bytes, from its last pieces on.
-use Rattle.std.specs.Prelude.{◌≡◌, ℕ, ◌+◌, ◌-◌, ◌*◌, ◌<◌, ◌≤◌, List, length, Some}
+use Rattle.std.specs.Prelude.{◌≡◌, ℕ, ◌+◌, ◌-◌, ◌*◌, ◌<◌, ◌≤◌, List, Some}
 use Rattle.bx_adding.specs.Rooms.{HasSpace}
 use Rattle.bx_chunks.specs.Counting.{free_slots}
 use Rattle.bx_hints.specs.Fitting.{HintsFitAll}

@@ -1,6 +1,11 @@
 use Rattle.bx_ready.proofs.Files.{keeps}
+use Rattle.bx_ready.proofs.Lacks.{lacks}
 use Rattle.bx_ready.proofs.readying.ready.Goals as goal
 
 pub returns-clause-files : goal.returns-clause-files
 returns-clause-files g c = λ truth tree f.
     keeps c.args.areas (g.V.View.held c.args.view.now) (g.V.View.hints c.args.view.now) truth c.args.root tree c.args.key.now f c.first_of.result (λ pages u. c.first_of.ensures.map truth pages u)
+
+pub returns-clause-lacks : goal.returns-clause-lacks
+returns-clause-lacks g c = λ truth tree u.
+    lacks c.args.areas (g.V.View.held c.args.view.now) (g.V.View.hints c.args.view.now) truth c.args.root tree c.args.key.now u c.first_of.result (c.first_of.ensures.map truth tree u)

@@ -1,4 +1,4 @@
-use Rattle.std.proofs.Common.{◌≡◌, ◌∙◌, ◌<◌, ◌≤◌, ◌^◌, ℕ, List, Ok, Err, Some, None, length, arith, ap, subst, sym}
+use Rattle.std.proofs.Common.{ℕ, List, Ok, Err, None, length, arith, ap, subst, sym}
 use Rattle.bx_blink.specs.Walks.{reads_with}
 use Rattle.bx_leaves.proofs.Fair.{put_held}
 use Rattle.bx_leaves.specs.Changes.{NeedsUnheld}

@@ -1,4 +1,4 @@
-use Rattle.std.proofs.Common.{◌≡◌, ◌<◌, ◌^◌, ℕ, List, Option, Some, None, length, arith, ap, subst, sym}
+use Rattle.std.proofs.Common.{ℕ, List, Option, Some, length, arith, ap, subst, sym}
 use Rattle.bx_leaves.proofs.Fair.{put_held}
 use Rattle.bx_ready.proofs.Lengths.{one_more}
 use Rattle.bx_records.specs.Drafts.{Changed}

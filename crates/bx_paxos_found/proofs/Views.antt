@@ -22,6 +22,8 @@ use Rattle.bx_paxos.specs.Fits.{Fits, Voters, devices_of}
 use Rattle.bx_paxos.specs.Reading.{AreSeen, ReadsState}
 use Rattle.bx_paxos.specs.Shown.{HasBegun, HasLabel, IsUnread, Shows, ShowsOne}
 use Rattle.bx_paxos_found.specs.declared.choosing.Accepted.{Accepted}
+use Rattle.bx_paxos_found.specs.declared.looking.Seen.{Seen}
+use Rattle.bx_paxos_found.specs.Finding.{IsSeen, held_of}
 use Rattle.bx_paxos_found.specs.Choosing.{accepted_of, chosen_of, decided_of, higher_of, later_of, three, told_of}
 use Rattle.bx_paxos_found.proofs.Chosen.{chosen_reads}
 use Rattle.bx_paxos_found.proofs.Threes.{three_each, three_within}
@@ -70,7 +72,7 @@ has_label sector = by (is_label (read_label sector)) (bytes_eq sector text) refl
 -- ---- one replica
 
 -- what is seen of a disk: its cell, where it has a label and a cell that can be read
-IsView : ℕ → (ℕ → List ℕ) → Option Held → Type 0
+pub IsView : ℕ → (ℕ → List ℕ) → Option Held → Type 0
 IsView devices sectors None = IsUnread devices sectors
 IsView devices sectors (Some held) = HasLabel (sectors 0) × ((found : Found) × IsFound devices sectors found held)
 
@@ -87,6 +89,11 @@ view_of devices Made was sectors (found, held, is) =
     ]
 view_of devices (FoundAs number) was sectors (held, e, known) = record { cell = Some known.held; is = (known.label, (known.found, known.is)) }
 view_of devices Apart was sectors (e, unread) = record { cell = None; is = unread }
+
+pub view_seen : (devices : ℕ) (o : Option Seen) (sectors : ℕ → List ℕ) → IsSeen devices sectors o → IsView devices sectors (held_of o)
+unfolding IsView
+view_seen devices None sectors is = is
+view_seen devices (Some s) sectors (label, (found, number, is)) = (label, (found, is))
 
 -- ---- three
 
@@ -127,7 +134,7 @@ latest None (Some y) c n held e = later_left y.decided (decided_of c)
 latest None None (Some z) n held e = (z.decided, refl)
 latest None None None n held e = absurd (three_none n held e)
 
-some_chosen : (a b c : Option Held) (n : ℕ) (held : Held) → three a b c n ≡ Some held → (s : GlobalState) × (chosen_of a b c ≡ Some s)
+pub some_chosen : (a b c : Option Held) (n : ℕ) (held : Held) → three a b c n ≡ Some held → (s : GlobalState) × (chosen_of a b c ≡ Some s)
 some_chosen a b c n held e =
     let d = latest a b c n held e in
     let t = told_some (higher_of (higher_of (accepted_of a) (accepted_of b)) (accepted_of c)) d.0 in
@@ -153,16 +160,17 @@ module _ (devices : ℕ) (image : Image) (a b c : Option Held) (view_a : IsView 
       by None e = let gone : IsView devices (image n) None = subst (IsView devices (image n)) e (at n low) in absurd (gone.none label.0 found held label.1 is)
       by (Some k) e = (k, e)
 
+  pub reads_so_chosen : (state s : GlobalState) (n m : ℕ) (one other : Held) → length state.devices ≡ devices → HasTwo (three a b c) n m one other → chosen_of a b c ≡ Some s → ReadsState state image s
+  reads_so_chosen state s n m one other same two chosen = record {
+    seen = three a b c;
+    are = subst (λ (k : ℕ). AreSeen k image (three a b c)) (sym same) are;
+    tells = record { one = n; other = m; one_held = one; other_held = other; two = two; reads = chosen_reads a b c s chosen };
+  }
+
   reads_two : (state : GlobalState) (n m : ℕ) (one other : Held) → length state.devices ≡ devices → HasTwo (three a b c) n m one other → (s : GlobalState) × ReadsState state image s
   reads_two state n m one other same two =
-      let s = some_chosen a b c n one two.is_one in (
-        s.0,
-        record {
-          seen = three a b c;
-          are = subst (λ (k : ℕ). AreSeen k image (three a b c)) (sym same) are;
-          tells = record { one = n; other = m; one_held = one; other_held = other; two = two; reads = chosen_reads a b c s.0 s.1 };
-        },
-      )
+      let s = some_chosen a b c n one two.is_one in
+      (s.0, reads_so_chosen state s.0 n m one other same two s.1)
 
 -- ---- an image of a register
 

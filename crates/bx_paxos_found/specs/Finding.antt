@@ -1,10 +1,14 @@
 -- What is seen of the disks of replicas, and what is made of it.
-use Rattle.std.specs.Prelude.{◌≡◌, ℕ, ◌+◌, ◌^◌, ◌<◌, ◌≤◌, max, List, Option, Some, None}
+use Rattle.std.specs.Prelude.{◌≡◌, ℕ, ◌+◌, ◌^◌, ◌<◌, ◌≤◌, ◌⊎◌, max, List, length, Option, Some, None, slice_index}
 use Rattle.bx_acceptor.specs.Standing.{IsFound}
 use Rattle.bx_acceptor.specs.declared.origin.Origin.{Origin}
 use Rattle.bx_acceptor.specs.declared.origin.Origin.TheVariants.{Found as FoundAs, Apart}
+use Rattle.bx_agreement.specs.History.{AreTwo}
 use Rattle.bx_cell.specs.Halves.{Found}
+use Rattle.bx_disk.specs.Disks.{Disks, Image}
 use Rattle.bx_global.specs.declared.held.Held.{Held}
+use Rattle.bx_global.specs.declared.state.GlobalState.{GlobalState}
+use Rattle.bx_paxos.specs.Reading.{ReadsState}
 use Rattle.bx_paxos.specs.Shown.{HasLabel, IsUnread}
 use Rattle.bx_paxos_found.specs.declared.looking.Seen.{Seen}
 use Rattle.bx_paxos_found.specs.declared.making.FoundState.{FoundState}
@@ -33,6 +37,10 @@ abbrev pub count_of : Option Seen → ℕ
 count_of None = 0
 count_of (Some x) = 1
 
+-- the greatest boot that may be found
+abbrev pub most_boot : ℕ
+most_boot = 4611686018427387903
+
 -- What is made of what is seen of three replicas: at least two count.
 pub record IsMadeOf (a b c : Option Seen) (f : FoundState) : Type 0 where
   pub two : 2 ≤ count_of a + (count_of b + count_of c)
@@ -42,3 +50,41 @@ pub record IsMadeOf (a b c : Option Seen) (f : FoundState) : Type 0 where
   pub third : f.origins.third ≡ origin_of c
   pub boot : f.boot ≡ max (boot_of a) (max (boot_of b) (boot_of c))
   pub index : f.state.index + 1 < 2 ^ 64
+  pub most : f.boot ≤ most_boot
+
+-- .. of too few, or of cells that are read as no state that another may follow
+abbrev pub AreTooFew : Option Seen → Option Seen → Option Seen → Type 0
+AreTooFew a b c = (count_of a + (count_of b + count_of c) < 2) ⊎ ((chosen_of (held_of a) (held_of b) (held_of c) ≡ None)
+    ⊎ ((s : GlobalState) × (chosen_of (held_of a) (held_of b) (held_of c) ≡ Some s) × (2 ≤ count_of a + (count_of b + count_of c)) × (2 ^ 64 ≤ s.index + 1)))
+
+-- .. of cells whose greatest boot is that
+pub record IsSpentAt (a b c : Option Seen) (boot : ℕ) : Type 0 where
+  pub two : 2 ≤ count_of a + (count_of b + count_of c)
+  pub greatest : boot ≡ max (boot_of a) (max (boot_of b) (boot_of c))
+  pub above : most_boot < boot
+
+-- ---- what disks tell
+
+-- The replica has a label, and a cell that can be read, which has this.
+abbrev pub Counts : ℕ → Image → ℕ → Held → Type 0
+Counts devices image n held = (n < 3) × HasLabel (image n 0) × ((found : Found) × IsFound devices (image n) found held)
+
+-- Two replicas have no label, or no cell that can be read; or the disk of a replica isn't there.
+pub record LackTwo (devices : ℕ) (image : Image) : Type 0 where
+  pub one : ℕ
+  pub other : ℕ
+  pub two : AreTwo one other
+  pub one_unread : IsUnread devices (image one)
+  pub other_unread : IsUnread devices (image other)
+
+abbrev pub LackMajority : ℕ → Disks → Type 0
+LackMajority devices x = ((n : ℕ) × (n < 3) × (slice_index x.sizes n < 21)) ⊎ LackTwo devices x.reads
+
+-- They are read as a state that no other may follow, since its index is the greatest that a number can be.
+abbrev pub AreAtTheEnd : ℕ → Image → Type 0
+AreAtTheEnd devices image = (made : GlobalState) → length made.devices ≡ devices → (s : GlobalState) × ReadsState made image s × (2 ^ 64 ≤ s.index + 1)
+
+-- This is the greatest boot in the cells of replicas that count.
+pub record IsGreatestBoot (devices : ℕ) (image : Image) (boot : ℕ) : Type 0 where
+  pub most : (n : ℕ) (held : Held) → Counts devices image n held → boot_of_held held ≤ boot
+  pub is : (n : ℕ) × (held : Held) × Counts devices image n held × (boot_of_held held ≡ boot)

@@ -1,17 +1,18 @@
 //! The state of the cluster, read off the disks of replicas.
 
-ghost use Rattle.std.specs.Prelude.{◌≡◌, ℕ, ◌+◌, ◌^◌, ◌<◌, ◌≤◌, length, Option, IfOk, IsErrOf, OnOk, IsTrue, slice_index};
+ghost use Rattle.std.specs.Prelude.{◌≡◌, ℕ, ◌+◌, ◌^◌, ◌<◌, ◌≤◌, ◌⊎◌, ◌↔◌, length, Option, IfOk, IsErrOf, OnOk, IsTrue, slice_index};
 ghost use Rattle.bx_base.specs.Faults.{Rose};
 ghost use Rattle.bx_cell.specs.Images.{EachSure};
 ghost use Rattle.bx_disk.specs.Counts.{NoneFalls};
 ghost use Rattle.bx_facts.specs.Chains.{IsAboveBoots};
 ghost use Rattle.bx_facts.specs.Disks.{SameDisks};
-ghost use Rattle.bx_facts.specs.declared.input.OpenError.TheVariants.{Disk as OpenFails};
+ghost use Rattle.bx_facts.specs.declared.input.OpenError.TheVariants.{Disk as OpenFails, NoLabel, NoMajority, Spent};
 ghost use Rattle.bx_global.specs.Allowed.{IsAllowed};
 ghost use Rattle.bx_global.specs.declared.held.Held.{Held};
 ghost use Rattle.bx_global.specs.declared.state.GlobalState.{GlobalState};
 ghost use Rattle.bx_paxos.specs.Reading.{ReadsState};
 ghost use Rattle.bx_paxos.specs.Shown.{HasFound, StandsAsFound};
+ghost use Rattle.bx_paxos_found.specs.Finding.{AreAtTheEnd, IsGreatestBoot, LackMajority, most_boot};
 ghost use Rattle.bx_paxos_found.specs.Origins.{origin_in};
 
 use crate::looking::look;
@@ -25,7 +26,7 @@ const SECTORS: u64 = 21;
 
 /// Whether a rack has the disks of three replicas.
 fn has_replicas<R: Rack>(rack: &R) -> bool
-    ensures { IsTrue result → (n : ℕ) → n < 3 → 21 ≤ slice_index (R.state rack.now).sizes n }
+    ensures { IsTrue result ↔ ((n : ℕ) → n < 3 → 21 ≤ slice_index (R.state rack.now).sizes n) }
 {
     if rack.disks() < 3 {
         return false;
@@ -33,8 +34,9 @@ fn has_replicas<R: Rack>(rack: &R) -> bool
     rack.sectors(0) >= SECTORS && rack.sectors(1) >= SECTORS && rack.sectors(2) >= SECTORS
 }
 
-/// Makes the disks of replicas sure, and reads the cluster's state off them, for a volume of so many devices. `NoMajority` where fewer than two
-/// have a label and a cell that can be read, or no index is left behind the state; `Spent` where no boot is left.
+/// Makes the disks of replicas sure, and reads the cluster's state off them, for a volume of so many devices. `NoMajority` exactly where the disk of
+/// one isn't there, fewer than two have a label and a cell that can be read, or no index is left behind the state; else `Spent` exactly where the
+/// greatest boot in these cells is that one, and is above 4611686018427387903.
 pub fn find<R: Rack>(alloc: Global, rack: &mut R, devices: u32) -> Result<FoundState, OpenError>
     ensures reads { (made : GlobalState) → length made.devices ≡ devices → R.tells rack.old → IfOk result (λ f. ReadsState made (R.state rack.old).reads f.state) }
     ensures found { R.tells rack.old → IfOk result (λ f. (was : ℕ → Option Held) × HasFound f.state (origin_in f.origins) was × EachSure (R.state rack.new) (StandsAsFound f.state (origin_in f.origins) was)) }
@@ -42,6 +44,11 @@ pub fn find<R: Rack>(alloc: Global, rack: &mut R, devices: u32) -> Result<FoundS
     ensures devices { IfOk result (λ f. length f.state.devices ≡ devices) }
     ensures index { IfOk result (λ f. f.state.index + 1 < 2 ^ 64) }
     ensures boots { IfOk result (λ f. IsAboveBoots f.state (f.boot + 1)) }
+    ensures no_majority { R.tells rack.old → IsErrOf result NoMajority → LackMajority devices (R.state rack.old) ⊎ AreAtTheEnd devices (R.state rack.old).reads }
+    ensures majority { R.tells rack.old → OnOk result (LackMajority devices (R.state rack.old) → ⊥) }
+    ensures spent { (boot : ℕ) → R.tells rack.old → IsErrOf result (Spent boot) → IsGreatestBoot devices (R.state rack.old).reads boot × (most_boot < boot) × (LackMajority devices (R.state rack.old) → ⊥) }
+    ensures greatest { R.tells rack.old → IfOk result (λ f. IsGreatestBoot devices (R.state rack.old).reads f.boot × (f.boot ≤ most_boot)) }
+    ensures no_label { (disk : ℕ) → IsErrOf result (NoLabel disk) → ⊥ }
     ensures disks { R.tells rack.old → SameDisks (R.state rack.old) (R.state rack.new) }
     ensures cause { IsErrOf result OpenFails → Rose (R.faults rack.old) (R.faults rack.new) }
     ensures later { NoneFalls (R.faults rack.old) (R.faults rack.new) (R.faults_of rack.old) (R.faults_of rack.new) }

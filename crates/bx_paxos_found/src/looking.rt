@@ -1,13 +1,13 @@
 //! The disk of a replica, looked at.
 
-ghost use Rattle.std.specs.Prelude.{◌≡◌, ℕ, ◌≤◌, ◌↔◌, IfOk, IfSome, IfNone, IsErrOf, IsTrue, OnErr, OnOk, slice_index};
+ghost use Rattle.std.specs.Prelude.{◌≡◌, ℕ, ◌≤◌, ◌⊎◌, ◌↔◌, IfOk, IfErr, IfSome, IfNone, IsErrOf, IsTrue, OnErr, OnOk, slice_index};
 ghost use Rattle.bx_acceptor.specs.Standing.{IsFound, IsNotFound};
 ghost use Rattle.bx_base.specs.Faults.{Rose};
 ghost use Rattle.bx_calls.specs.Regions.{IsSynced};
 ghost use Rattle.bx_cell.specs.Halves.{Found};
 ghost use Rattle.bx_disk.specs.Counts.{NoneFalls};
 ghost use Rattle.bx_facts.specs.Disks.{SameDisks};
-ghost use Rattle.bx_facts.specs.declared.input.OpenError.TheVariants.{Disk as OpenFails};
+ghost use Rattle.bx_facts.specs.declared.input.OpenError.TheVariants.{Disk as OpenFails, OutOfMemory as WantsMemory};
 ghost use Rattle.bx_global.specs.Bytes.{IsHeld};
 ghost use Rattle.bx_layout.specs.Labels.{SpellsLabel};
 ghost use Rattle.bx_layout.specs.declared.label.Label.{Label};
@@ -47,6 +47,7 @@ fn cell_on<R: Rack>(
     ensures held { IfOk result (λ seen. IfSome seen (λ x. IsHeld devices x.held)) }
     ensures sure { R.tells rack.old → OnOk result (IsSynced (R.state rack.new) replica) }
     ensures disks { R.tells rack.old → SameDisks (R.state rack.old) (R.state rack.new) }
+    ensures errors { IfErr result (λ e. (e ≡ OpenFails) ⊎ (e ≡ WantsMemory)) }
     ensures cause { IsErrOf result OpenFails → Rose (R.faults rack.old) (R.faults rack.new) }
     ensures later { NoneFalls (R.faults rack.old) (R.faults rack.new) (R.faults_of rack.old) (R.faults_of rack.new) }
     ensures sizes { (R.state rack.new).sizes ≡ (R.state rack.old).sizes }
@@ -97,6 +98,7 @@ pub(crate) fn look<R: Rack>(
     ensures held { IfOk result (λ seen. IfSome seen (λ x. IsHeld devices x.held)) }
     ensures sure { R.tells rack.old → OnOk result (IsSynced (R.state rack.new) replica) }
     ensures disks { R.tells rack.old → SameDisks (R.state rack.old) (R.state rack.new) }
+    ensures errors { IfErr result (λ e. (e ≡ OpenFails) ⊎ (e ≡ WantsMemory)) }
     ensures cause { IsErrOf result OpenFails → Rose (R.faults rack.old) (R.faults rack.new) }
     ensures later { NoneFalls (R.faults rack.old) (R.faults rack.new) (R.faults_of rack.old) (R.faults_of rack.new) }
     ensures sizes { (R.state rack.new).sizes ≡ (R.state rack.old).sizes }

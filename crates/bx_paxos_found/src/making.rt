@@ -1,8 +1,8 @@
 //! What is made of what is seen of three replicas.
 
-ghost use Rattle.std.specs.Prelude.{◌≡◌, ◌+◌, ◌<◌, max, IfOk, IsErrOf};
-ghost use Rattle.bx_facts.specs.declared.input.OpenError.TheVariants.{Disk as OpenFails, NoMajority, Spent};
-ghost use Rattle.bx_paxos_found.specs.Finding.{IsMadeOf, boot_of, count_of, held_of, origin_of};
+ghost use Rattle.std.specs.Prelude.{◌≡◌, ℕ, ◌+◌, ◌<◌, max, IfOk, IsErrOf};
+ghost use Rattle.bx_facts.specs.declared.input.OpenError.TheVariants.{Disk as OpenFails, NoLabel, NoMajority, Spent};
+ghost use Rattle.bx_paxos_found.specs.Finding.{AreTooFew, IsMadeOf, IsSpentAt, boot_of, count_of, held_of, origin_of};
 
 use crate::boots::boot_of_held;
 use crate::choosing::chosen;
@@ -75,6 +75,9 @@ pub(crate) fn make(
     third: Option<Seen>,
 ) -> Result<FoundState, OpenError>
     ensures made { IfOk result (IsMadeOf first second third) }
+    ensures few { IsErrOf result NoMajority → AreTooFew first second third }
+    ensures spent { (boot : ℕ) → IsErrOf result (Spent boot) → IsSpentAt first second third boot }
+    ensures no_label { (disk : ℕ) → IsErrOf result (NoLabel disk) → ⊥ }
     ensures no_fault { IsErrOf result OpenFails → ⊥ }
 {
     if count_of(&first) + (count_of(&second) + count_of(&third)) < 2 {

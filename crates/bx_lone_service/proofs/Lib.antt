@@ -1,3 +1,4 @@
+mod Cleaning
 pub mod Queues
 pub mod Rounding
 pub mod Stopping

@@ -1,5 +1,6 @@
 -- What a service is by its stage.
 use Rattle.std.specs.Prelude.{◌≡◌, ℕ, ◌≤◌, nat_lt, Bool, true, false, List, [], ◌∷◌, Contains, map, Option, Some, None, refl}
+use Rattle.bx_clean.specs.Tidying.{IsClean}
 use Rattle.bx_disk.specs.Disks.{Disks}
 use Rattle.bx_history.specs.Trace.{Taking}
 use Rattle.bx_lone_machine.specs.Machine as machines
@@ -91,6 +92,18 @@ abbrev pub IsHolding : Stage → Disks → Tree → Option Doubt → Type 0
 IsHolding (Up machine) disks tree doubt = Holds machine disks tree × (doubt ≡ maybe_doubt (doubt_of machine))
 IsHolding (Down left) disks tree doubt = IsLeftBy left disks tree doubt
 IsHolding (Returning left queue latest) disks tree doubt = IsLeftBy left disks tree doubt
+
+-- A machine stands on disks whose one area has no dead file.
+pub record HoldsClean (machine : LoneMachine) (disks : Disks) : Type 0 where
+  pub tree : Tree
+  pub holds : Holds machine disks tree
+  pub clean : IsClean holds.stands.stands.truth 0
+
+-- a node that is up does
+abbrev pub IsCleanOn : Stage → Disks → Type 0
+IsCleanOn (Up machine) disks = HoldsClean machine disks
+IsCleanOn (Down left) disks = ⊥
+IsCleanOn (Returning left queue latest) disks = ⊥
 
 -- while it is down no call waits
 pub none_down : (stage : Stage) → is_up stage ≡ false → waits_of stage ≡ []

@@ -84,7 +84,7 @@ impl LoneService {
 
 impl Service for LoneService {
     ghost use Rattle.bx_lone_service.specs.Shown.{shows};
-    ghost use Rattle.bx_lone_service.specs.Stages.{IsHolding, IsReady, is_up, lacks_of, latest_of, none_down, waits_of};
+    ghost use Rattle.bx_lone_service.specs.Stages.{IsCleanOn, IsHolding, IsReady, is_up, lacks_of, latest_of, none_down, waits_of};
 
     ghost waits = { λ service. waits_of service.stage };
 
@@ -99,6 +99,8 @@ impl Service for LoneService {
     ghost ready = { λ service sizes. IsReady service.stage sizes };
 
     ghost holds = { λ service disks tree doubt. IsHolding service.stage disks tree doubt };
+
+    ghost clean = { λ service disks. IsCleanOn service.stage disks };
 
     ghost idle = { λ service down. none_down service.stage down };
 

@@ -1,8 +1,9 @@
 //! A tidy that is under way.
 
-ghost use Rattle.std.specs.Prelude.{◌≡◌, ◌≢◌, [], ℕ, List, OnOk, false};
+ghost use Rattle.std.specs.Prelude.{◌≡◌, ◌≢◌, [], ℕ, List, OnOk, true, false};
 ghost use Rattle.bx_disk.specs.Disks.{Disks};
 ghost use Rattle.bx_lone_machine.specs.Machine.{Holds, IsReady, calls_of, latest_of, record_of};
+ghost use Rattle.bx_lone_service.specs.Stages.{HoldsClean};
 ghost use Rattle.bx_model.specs.declared.tree.Tree.{Tree};
 
 use bx_base::OutOfMemory;
@@ -22,6 +23,7 @@ pub(crate) fn tidy(
     ensures holds { (disks : Disks) (tree : Tree) → Holds machine.old disks tree → OnOk result (Holds machine.new disks tree) }
     ensures idle { tidies.old ≡ false → OnOk result (tidies.new ≡ false) }
     ensures waits { calls_of machine.old ≢ [] → OnOk result (tidies.new ≡ tidies.old) }
+    ensures clean { (disks : Disks) (tree : Tree) → Holds machine.old disks tree → tidies.old ≡ true → OnOk result (tidies.new ≡ false → HoldsClean machine.new disks) }
 {
     if !*tidies {
         return Ok(());

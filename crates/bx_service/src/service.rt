@@ -39,6 +39,9 @@ pub trait Service: Drop {
     /// These disks hold this file tree for it, with this call in doubt.
     ghost holds: { Self → Disks → Tree → Option Doubt → Type 0 };
 
+    /// These disks hold no dead file for it in the one area.
+    ghost clean: { Self → Disks → Type 0 };
+
     /// Makes a bench a volume with this number, and begins with its opening tree.
     fn begin<B: Rack>(alloc: Global, bench: &mut B, volume: u64) -> Result<Self, RackError>
         ensures holds { B.tells bench.old → IfOk result (λ service. holds service (B.state bench.new) (opening volume) None) }
@@ -100,6 +103,8 @@ pub trait Service: Drop {
         ensures latest { OnOk result (latest self.new ≡ latest self.old) }
         ensures up { OnOk result (up self.new ≡ up self.old) }
         ensures tidies { tidies self.old ≡ false → OnOk result (tidies self.new ≡ false) }
+        ensures cleans { (tree : Tree) (doubt : Option Doubt) → B.tells bench.old → holds self.old (B.state bench.old) tree doubt → tidies self.old ≡ true
+            → OnOk result (tidies self.new ≡ false → clean self.new (B.state bench.new)) }
         ensures tidies_on { waits self.new ≢ [] → OnOk result (tidies self.new ≡ tidies self.old) }
         ensures rounds { (tree : Tree) (doubt : Option Doubt) → B.tells bench.old → holds self.old (B.state bench.old) tree doubt
             → IfOk result (Rounds (holds self.new (B.state bench.new)) moment (waits self.old) (waits self.new) tree doubt) }

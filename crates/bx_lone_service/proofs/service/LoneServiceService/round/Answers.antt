@@ -20,6 +20,11 @@ returns-in_default-2-clause-rounds g c = λ tree doubt tells holding.
     (subst (λ (r : Option Point). IsOfRound c.args.moment (record_of old) r None) (sym tidied.record) moments)
     (tidied.holds y tree (rw c.in_default-2.is at (said.holds tree tells holds.0))))
 
+pub returns-in_default-2-clause-cleans : goal.returns-in_default-2-clause-cleans
+returns-in_default-2-clause-cleans g c = λ tree doubt tells holding under over.
+    let holds = rw c.in-Up.is at holding in
+    c.in_ok-tidy.ensures.clean (g.B.Rack.state c.round.new.bench) tree (rw c.in_default-2.is at (c.in_ok-acted.ensures.holds tree tells holds.0)) under over
+
 pub returns-in-Up-clause-rounds : goal.returns-in-Up-clause-rounds
 returns-in-Up-clause-rounds g c = λ tree doubt tells holding.
     let holds = rw c.in-Up.is at holding in

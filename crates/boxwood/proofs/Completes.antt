@@ -14,12 +14,12 @@ use Rattle.bx_script.specs.Schedule.{BeginsSchedule, HasPlace, IsSchedule}
 use Rattle.bx_script.proofs.Spelled.{spelling_injective}
 use Rattle.bx_model.specs.declared.tree.Tree.{Tree}
 use Rattle.bx_replay.specs.declared.stop.Reason.{Reason}
-use Rattle.bx_replay.specs.declared.stop.Reason.TheVariants.{Grammar, NotBuilt, Down}
+use Rattle.bx_replay.specs.declared.stop.Reason.TheVariants.{Grammar, Down}
 use Rattle.bx_history.specs.Along.{AllowedNewest}
 use Rattle.bx_replay.specs.Headline.{Asks, IsHeard, is_up}
 use Rattle.bx_replay.specs.declared.stop.Stop.{Stop}
 use Rattle.bx_replay.specs.declared.stop.Stop.TheVariants as stops
-use Rattle.bx_replay.specs.Outcome.{Allows, AreDone, IsBroken, IsFirstRefused, IsRefused, IsRefusedAt, IsServedSchedule, Refuses}
+use Rattle.bx_replay.specs.Outcome.{Allows, AreDone, IsBroken, IsFirstRefused, IsPlayable, IsRefused, IsRefusedAt, Refuses}
 use Rattle.bx_replay.proofs.Allowed.{done_begins}
 use Rattle.bx_replay.specs.Replay.{HasCause, IsDiskCause, Leaves, Wrote}
 use Rattle.boxwood.specs.Report.{IsTold, message, status_of}
@@ -83,7 +83,6 @@ none_refused : (schedule done : List Line) (others : List (List ℕ)) (reason : 
 none_refused schedule done [] Grammar e begins begun headed are_done refused =
     let same : length schedule ≡ 0 = sym (length-map schedule spelling) ∙ ap length (e ∙ append-nil (map spelling done)) ∙ length-map done spelling ∙ ap length refused in
     omega arith
-none_refused schedule done [] NotBuilt e begins begun headed are_done refused = refused
 none_refused schedule done [] Down e begins begun headed are_done refused = refused
 none_refused schedule done (line ∷ others) reason e begins begun headed are_done refused =
     let at = behind schedule done line others e (begins_in_range schedule begins) (begins_in_range done begun) in
@@ -93,13 +92,6 @@ none_refused schedule done (line ∷ others) reason e begins begun headed are_do
     by : (reason : Reason) (value : Line) → InRange value → line ≡ spelling value → Allows (reverse done) value → Refuses done line reason → ⊥
     by Grammar value in_range spelled allows (inl many) = let few = allows.few in omega (arith, many, few, length-reverse done)
     by Grammar value in_range spelled allows (inr none) = none value (rw (length-reverse done) at allows.in_place) spelled
-    by NotBuilt value in_range spelled allows why =
-        let call = Call why.1.reading why.1.node why.1.client why.1.datagram in
-        let same : value ≡ call = spelling_injective value call in_range why.1.in_place.0.0 (sym spelled ∙ why.1.spelled) in
-        elim (rw same at allows.served).1 [
-          | inl none ↦ (let message = why.1.message in cc)
-          | inr known ↦ why.1.unserved known
-        ]
     by Down value in_range spelled allows why =
         let same : value ≡ why.1.value = spelling_injective value why.1.value in_range why.1.in_place.0.0 (sym spelled ∙ why.1.spelled) in
         let up = hears (is_up (reverse done)) why.1.value why.1.asks (rw same at allows.heard) in
@@ -124,7 +116,7 @@ completes Tells Stands stops.OutOfMemory status text left old new schedule a b c
 completes Tells Stands stops.OutOfMemory status text left old new schedule a b c d bench e f (inr h) cause no_read no_write no_disk leaves is served = inr h.1
 
 -- A schedule with a line that is refused isn't replayed to its end.
-pub not_replayed : (text : List ℕ) (number : ℕ) (reason : Reason) → IsServedSchedule text → IsFirstRefused text number reason → ⊥
+pub not_replayed : (text : List ℕ) (number : ℕ) (reason : Reason) → IsPlayable text → IsFirstRefused text number reason → ⊥
 not_replayed text number reason input refused = not_refused text input.schedule number reason input.read input.are_done refused
 
 pub refuses : (stop : Stop) (status source_before source_now sink_before sink_now : ℕ) (Bench : Type 0) (bench_before bench_now : ℕ)

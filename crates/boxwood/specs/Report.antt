@@ -5,14 +5,13 @@ use Rattle.std.specs.Fmt.{decimal}
 use Rattle.bx_base.specs.Faults.{Rose}
 use Rattle.bx_base.specs.Text.{ended}
 use Rattle.bx_replay.specs.declared.stop.Reason.{Reason}
-use Rattle.bx_replay.specs.declared.stop.Reason.TheVariants.{Grammar, NotBuilt, Down}
+use Rattle.bx_replay.specs.declared.stop.Reason.TheVariants.{Grammar, Down}
 use Rattle.bx_replay.specs.declared.stop.Stop.{Stop}
 use Rattle.bx_replay.specs.declared.stop.Stop.TheVariants as stops
 
 -- the name of a reason
 abbrev pub reason_text : Reason → List ℕ
 reason_text Grammar = codes "grammar"
-reason_text NotBuilt = codes "not built"
 reason_text Down = codes "down"
 
 -- the line that tells which command lines there are

@@ -64,7 +64,6 @@ fn refusal(alloc: Global, line: u64, reason: Reason) -> Result<String, AllocErro
 {
     match reason {
         Reason::Grammar => format!(in alloc; "schedule line {line}: grammar\n"),
-        Reason::NotBuilt => format!(in alloc; "schedule line {line}: not built\n"),
         Reason::Down => format!(in alloc; "schedule line {line}: down\n"),
     }
 }

@@ -9,7 +9,7 @@ ghost use Rattle.bx_script.specs.Schedule.{IsSchedule};
 ghost use Rattle.bx_replay.specs.declared.stop.Reason.{Reason};
 ghost use Rattle.bx_replay.specs.declared.stop.Stop.TheVariants as stops;
 ghost use Rattle.bx_replay.specs.Bench.{IsHeldBy};
-ghost use Rattle.bx_replay.specs.Outcome.{AreDone, IsBroken, IsCut, IsCutOff, IsFirstRefused, IsRefused, IsReplayed, IsServedSchedule};
+ghost use Rattle.bx_replay.specs.Outcome.{AreDone, IsBroken, IsCut, IsCutOff, IsFirstRefused, IsPlayable, IsRefused, IsReplayed};
 ghost use Rattle.bx_replay.specs.Replay.{IsDiskCause, Wrote};
 ghost use Rattle.boxwood.specs.Report.{IsStatus, IsTold, line_of, message};
 
@@ -29,7 +29,7 @@ use std::alloc::Global;
 ///
 /// - 0: done.
 /// - 1: the words are no command line.
-/// - 2: the first line of the schedule that is outside the grammar, or a call that isn't served or comes while its node is down, was met.
+/// - 2: the first line of the schedule that is outside the grammar, or a call or a tick that comes while its node is down, was met.
 /// - 3: `input` failed.
 /// - 4: `out` failed.
 /// - 5: `bench` failed while it was shaped and formatted, or while the tree was read back from it.
@@ -52,7 +52,7 @@ pub fn boxwood<S: Source, K: Sink, B: CrashRack>(
     ensures untouched { AreNone (map string_bytes words.now) → (input.new ≡ input.old) × (out.new ≡ out.old) × (bench.new ≡ bench.old) }
 
     // The headline.
-    ensures replayed { result ≡ 0 → S.tells input.old → IsServedSchedule (S.left input.old) × (S.left input.new ≡ [])
+    ensures replayed { result ≡ 0 → S.tells input.old → IsPlayable (S.left input.old) × (S.left input.new ≡ [])
         × (K.tells out.old × B.tells bench.old → Wrote (K.written out.old) (K.written out.new) (IsReplayed (S.left input.old) (IsHeldBy (B.state bench.new)))) }
     ensures dropped { result ≡ 0 → B.tells bench.old → (d s : ℕ) → (B.state bench.new).unsure d s ≡ false }
     ensures silent { result ≡ 0 → err.new ≡ err.old }

@@ -2,7 +2,7 @@
 use Rattle.std.proofs.Common.{◌≡◌, ℕ, ◌≤◌, ◌<◌, ◌^◌, false, true, List, [], ◌∷◌, Some, refl, sym, ap, ◌∙◌, subst, inl, inr, arith, lit≤}
 use Rattle.std.specs.Prelude.{◌⊎◌, Err}
 use Rattle.bx_attempts.specs.Replies.{IsChanged, IsRefused, done_with}
-use Rattle.bx_attempts.specs.Steps.{StandsWith, Step}
+use Rattle.bx_steps.specs.Steps.{StandsWith, Step}
 use Rattle.bx_changes.specs.Changes.{Changes, IsChange}
 use Rattle.bx_changes.specs.Growing.{IsChangeBy, IsMaking, IsNearlyFull, LeavesTrees, Makes}
 use Rattle.bx_changes.specs.declared.error.ChangeError.{ChangeError}

@@ -1,4 +1,4 @@
--- The calls that change a file tree, and are built.
+-- The calls that change a file tree.
 use Rattle.std.specs.Prelude.{◌≡◌, ◌≤◌, ◌⊎◌, ℕ, List, length}
 use Rattle.bx_model.specs.declared.call.Args.{Args}
 use Rattle.bx_model.specs.declared.call.Args.TheVariants.{Link, Make, Name, Rename, Set, Symlink, Write}

@@ -1,4 +1,3 @@
 pub mod Calls
 pub mod Paths
 pub mod Replies
-pub mod Steps

@@ -8,7 +8,7 @@ ghost use Rattle.bx_views.specs.Attempts.{Gives, IsFair};
 ghost use Rattle.bx_views.specs.Truths.{IsTruth, Truth};
 ghost use Rattle.bx_attempts.specs.Calls.{IsChanging, IsProcedure};
 ghost use Rattle.bx_attempts.specs.Paths.{ChangePathOf};
-ghost use Rattle.bx_attempts.specs.Steps.{StandsWith, Step};
+ghost use Rattle.bx_steps.specs.Steps.{StandsWith, Step};
 
 use crate::attributes::setattr;
 use crate::making::{create, mkdir, symlink};
@@ -57,7 +57,7 @@ const MOST_PATH: usize = 1024;
 /// How many bytes are written at once at most.
 const MOST_DATA: usize = 8192;
 
-/// Whether a call changes the file tree, and is built: it is SETATTR, WRITE, CREATE, REMOVE, RENAME, LINK,
+/// Whether a call changes the file tree: it is SETATTR, WRITE, CREATE, REMOVE, RENAME, LINK,
 /// SYMLINK, MKDIR or RMDIR.
 pub fn is_change(call: &Call) -> bool
     ensures { IsTrue result ↔ IsChanging call.now }

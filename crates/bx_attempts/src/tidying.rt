@@ -6,7 +6,7 @@ ghost use Rattle.bx_model.specs.declared.tree.Tree.{Tree};
 ghost use Rattle.bx_views.specs.declared.attempt.Attempt.TheVariants.{Answer};
 ghost use Rattle.bx_views.specs.Attempts.{IsFair, Tidies};
 ghost use Rattle.bx_views.specs.Truths.{IsTruth, Truth};
-ghost use Rattle.bx_attempts.specs.Steps.{StandsWith};
+ghost use Rattle.bx_steps.specs.Steps.{StandsWith};
 
 use crate::replies::stopped;
 use bx_base::{OutOfMemory, Raw};

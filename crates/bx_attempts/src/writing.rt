@@ -8,7 +8,7 @@ ghost use Rattle.bx_views.specs.Attempts.{Gives, IsFair};
 ghost use Rattle.bx_views.specs.Truths.{IsTruth, Truth};
 ghost use Rattle.bx_attempts.specs.Calls.{IsWriteOf};
 ghost use Rattle.bx_attempts.specs.Paths.{ChangePathOf};
-ghost use Rattle.bx_attempts.specs.Steps.{StandsWith, Step};
+ghost use Rattle.bx_steps.specs.Steps.{StandsWith, Step};
 
 use crate::replies::{changed, refused};
 use crate::times::time_of;

@@ -1,7 +1,7 @@
 -- What comes to a procedure's outcome is one step of the tree.
 use Rattle.std.proofs.Common.{◌≡◌, ℕ, ◌≤◌, List, [], Some, refl, sym, ap, ◌∙◌, subst, inl, arith, lit≤}
 use Rattle.bx_engine.specs.Outcomes.{Comes, ComesTo}
-use Rattle.bx_engine.specs.Steps.{StandsWith, Step}
+use Rattle.bx_steps.specs.Steps.{StandsWith, Step}
 use Rattle.bx_inodes.specs.Stands.{Stands}
 use Rattle.bx_model.specs.declared.call.Args.{Args}
 use Rattle.bx_model.specs.declared.call.Args.TheVariants.{Refused, Nothing, Handle, List as Listing, Name, Read, Path}

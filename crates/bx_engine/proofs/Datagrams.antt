@@ -1,7 +1,7 @@
 -- A datagram is one call at most, so what is said of its call is said of it.
 use Rattle.std.proofs.Common.{ℕ, List, subst}
 use Rattle.bx_base.specs.declared.names.Mode.{Mode}
-use Rattle.bx_engine.specs.Calls.{AsksSpace, IsAtOnce, IsAtOnceCall, IsBuilt, IsBuiltCall, IsReadCall, IsReading, IsSpaceCall}
+use Rattle.bx_engine.specs.Calls.{AsksSpace, IsAtOnce, IsAtOnceCall, IsReadCall, IsReading, IsSpaceCall}
 use Rattle.bx_engine.specs.Paths.{IsOnPath, PathOf}
 use Rattle.bx_model.specs.declared.call.Call.{Call}
 use Rattle.bx_nfs.specs.Wire.{ReadsAs}
@@ -9,12 +9,6 @@ use Rattle.bx_nfs.proofs.Reading.{reads_once}
 use Rattle.bx_views.specs.Truths.{Held, Hints}
 
 module _ (bytes : List ℕ) (xid : ℕ) (call : Call) (reads : ReadsAs bytes xid call) where
-  pub built_as : IsBuilt call → IsBuiltCall bytes
-  built_as built = record { xid = xid; call = call; reads = reads; built = built }
-
-  pub unbuilt : (IsBuilt call → ⊥) → IsBuiltCall bytes → ⊥
-  unbuilt none is = none (subst IsBuilt (reads_once bytes is.xid xid is.call call is.reads reads).1 is.built)
-
   pub reading_as : IsReadCall bytes → IsReading call
   reading_as is = subst IsReading (reads_once bytes is.xid xid is.call call is.reads reads).1 is.reading
 
@@ -26,10 +20,6 @@ module _ (bytes : List ℕ) (xid : ℕ) (call : Call) (reads : ReadsAs bytes xid
 
   pub path_of : (held : Held) (hints : Hints) (volume areas at : ℕ) (mode : Mode) → IsOnPath held hints volume areas bytes at mode → PathOf held hints volume areas call.procedure call.args at mode
   path_of held hints volume areas at mode is = subst (λ (c : Call). PathOf held hints volume areas c.procedure c.args at mode) (reads_once bytes is.xid xid is.call call is.reads reads).1 is.on
-
--- no call of a datagram that isn't one is built
-pub unread : (bytes : List ℕ) → ((xid : ℕ) (call : Call) → ReadsAs bytes xid call → ⊥) → IsBuiltCall bytes → ⊥
-unread bytes none is = none is.xid is.call is.reads
 
 -- a datagram that is a STATFS is this call, and the other way round
 module _ (bytes : List ℕ) (xid : ℕ) (call : Call) (reads : ReadsAs bytes xid call) where

@@ -1,9 +1,10 @@
 pub mod Acting
 pub mod Along
-pub mod Datagrams
 pub mod Apart
+mod Asking
+pub mod Datagrams
+pub mod Hinting
 pub mod OneStep
 pub mod Paths
-pub mod Stopping
 pub mod Spaces
-pub mod Hinting
+pub mod Stopping

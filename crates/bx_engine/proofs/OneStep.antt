@@ -1,6 +1,6 @@
 -- A step by a deed as a step of a history, and that there is one.
 use Rattle.std.proofs.Common.{◌≡◌, ℕ, Option, Some, refl, sym, ap, ◌∙◌}
-use Rattle.bx_engine.specs.Steps.{Enters, Step}
+use Rattle.bx_steps.specs.Steps.{Enters, Step}
 use Rattle.bx_model.specs.declared.call.Call.{Call}
 use Rattle.bx_model.specs.declared.entry.Entry.{Entry}
 use Rattle.bx_model.specs.declared.reply.Reply.{Reply}

@@ -5,7 +5,7 @@ use Rattle.bx_base.specs.declared.names.Mode.{Mode}
 use Rattle.bx_engine.specs.Outcomes.{ComesSpace, ComesToSpace, TellsFree, told_free}
 use Rattle.bx_engine.specs.Paths.{ReadPathOf}
 use Rattle.bx_attempts.specs.Replies.{IsStopped, done_with}
-use Rattle.bx_engine.specs.Steps.{StandsWith, Step}
+use Rattle.bx_steps.specs.Steps.{StandsWith, Step}
 use Rattle.bx_engine.proofs.Acting.{statfs_acts}
 use Rattle.bx_inodes.specs.declared.stop.Stop.{Stop}
 use Rattle.bx_inodes.specs.declared.stop.Stop.TheVariants as stops

@@ -1,6 +1,6 @@
--- The calls that are attempted, by their bytes.
+-- The calls that read, by their bytes.
 use Rattle.std.specs.Prelude.{◌≡◌, ℕ, ◌⊎◌, List}
-use Rattle.bx_attempts.specs.Calls.{IsChanging, IsProcedure}
+use Rattle.bx_attempts.specs.Calls.{IsProcedure}
 use Rattle.bx_model.specs.declared.call.Args.{Args}
 use Rattle.bx_model.specs.declared.call.Args.TheVariants.{Refused, Nothing, Handle, List as Listing, Name, Read, Path}
 use Rattle.bx_model.specs.declared.call.Call.{Call}
@@ -20,7 +20,7 @@ pub record IsOfMount (call : Call) : Type 0 where
   pub program : call.program ≡ 100005
   pub procedure : (call.procedure ≡ 1) ⊎ (call.procedure ≡ 3)
 
--- The calls that are built and change nothing, by their arguments: those that are refused; those without arguments, which are NULL, ROOT and
+-- The calls that change nothing, by their arguments: those that are refused; those without arguments, which are NULL, ROOT and
 -- WRITECACHE of NFS, and NULL, DUMP, UMNTALL and EXPORT of MOUNT; MNT and UMNT of MOUNT; of NFS GETATTR (1), READLINK (5), STATFS (17), LOOKUP (4),
 -- READ and READDIR.
 abbrev pub HasReadArgs : Call → Args → Type 0
@@ -42,17 +42,6 @@ pub record IsReadCall (bytes : List ℕ) : Type 0 where
   pub call : Call
   pub reads : ReadsAs bytes xid call
   pub reading : IsReading call
-
--- The calls that are built: these, and those that change a file tree.
-abbrev pub IsBuilt : Call → Type 0
-IsBuilt call = IsReading call ⊎ IsChanging call
-
--- the datagram is one of them
-pub record IsBuiltCall (bytes : List ℕ) : Type 0 where
-  pub xid : ℕ
-  pub call : Call
-  pub reads : ReadsAs bytes xid call
-  pub built : IsBuilt call
 
 -- the call is STATFS (17) by this file handle
 pub record AsksSpace (call : Call) (at : List ℕ) : Type 0 where

@@ -1,4 +1,3 @@
 pub mod Calls
 pub mod Outcomes
 pub mod Paths
-pub mod Steps

@@ -5,7 +5,7 @@ ghost use Rattle.bx_clean.specs.Tidying.{IsClean, OnTidyPath};
 ghost use Rattle.bx_model.specs.declared.tree.Tree.{Tree};
 ghost use Rattle.bx_views.specs.Attempts.{IsFair, Tidies};
 ghost use Rattle.bx_views.specs.Truths.{IsTruth, Truth};
-ghost use Rattle.bx_engine.specs.Steps.{StandsWith};
+ghost use Rattle.bx_steps.specs.Steps.{StandsWith};
 
 use crate::engine::BoxFs;
 use bx_attempts::tidy;

@@ -1,6 +1,6 @@
 //! The engine of a volume.
 
-ghost use Rattle.std.specs.Prelude.{◌≡◌, ◌≤◌, ℕ, List, IfOk, IfNone, IfSome};
+ghost use Rattle.std.specs.Prelude.{◌≡◌, ◌≤◌, ℕ, List, true, false, IfOk, IfNone, IfSome};
 ghost use Rattle.bx_base.specs.declared.names.Mode.TheVariants.{Shared};
 ghost use Rattle.bx_chunks.specs.Counting.{free_slots};
 ghost use Rattle.bx_inodes.specs.Stands.{Stands};
@@ -8,18 +8,20 @@ ghost use Rattle.bx_inodes.specs.Stops.{OnInode};
 ghost use Rattle.bx_model.specs.declared.tree.Tree.{Tree};
 ghost use Rattle.bx_model.specs.declared.call.Args.TheVariants.{Handle as HandleArgs};
 ghost use Rattle.bx_model.specs.Reading.{getattr as getattr_of, readlink as readlink_of, statfs as statfs_of};
+ghost use Rattle.bx_nfs.specs.Asked.{IsAsked};
 ghost use Rattle.bx_nfs.specs.Wire.{ReadsAs};
 ghost use Rattle.bx_reads.specs.Space.{OnSpace};
+ghost use Rattle.bx_rpc.specs.Message.{is_message};
 ghost use Rattle.bx_views.specs.Attempts.{Gives, IsAnswer, IsFair};
 ghost use Rattle.bx_views.specs.Truths.{IsTruth, Truth};
-ghost use Rattle.bx_engine.specs.Calls.{AsksSpace, IsAboutFile, IsAtOnce, IsAtOnceCall, IsBuilt, IsBuiltCall, IsReadCall, IsReading, IsSpaceCall};
+ghost use Rattle.bx_engine.specs.Calls.{AsksSpace, IsAboutFile, IsAtOnce, IsAtOnceCall, IsReadCall, IsReading, IsSpaceCall};
 ghost use Rattle.bx_engine.specs.Outcomes.{ChangesNothing, Comes, ComesSpace, TellsFree, TellsNothing, told_free};
 ghost use Rattle.bx_engine.specs.Paths.{IsOnPath, PathOf, ReadPathOf};
-ghost use Rattle.bx_engine.specs.Steps.{StandsWith, Step};
+ghost use Rattle.bx_steps.specs.Steps.{StandsWith, Step};
 
-use crate::calls::{READLINK, STATFS, built_call};
 use crate::mounting::mounted;
 use crate::plain::plain;
+use crate::procedures::{READLINK, STATFS};
 use bx_attempts::{answered, answered_with, change, is_change, stopped};
 use bx_base::OutOfMemory;
 use bx_model::{Args, Call, Reply};
@@ -39,7 +41,7 @@ pub struct BoxFs {
 
 impl BoxFs {
     /// Attempts a call over a view, by its client's number and its bytes, at a moment in milliseconds, at most 4294967295999. `None`
-    /// exactly where the bytes are none of the calls that are built, which are those of all procedures. Bytes that are no call are none.
+    /// exactly where the bytes are no call's: there are fewer than 8, more than 9216, or the second word isn't CALL.
     ///
     /// `Need` names a block that isn't held and is on the call's path: of GETATTR, READLINK and STATFS the block of the file's inode, shared; where
     /// that is held, for STATFS the own block of the first area that isn't, for READ a page or a piece of the file, for LOOKUP a page of the directory or
@@ -69,18 +71,18 @@ impl BoxFs {
         ensures free { (at : List ℕ) (truth : Truth) (tree : Tree) → IsSpaceCall call.now at → IsTruth (V.held view.now) truth → Stands self.now.volume self.now.areas truth tree
             → IfOk result (λ found. IfSome found (TellsFree (told_free (free_slots self.now.areas truth) (statfs_of tree at (free_slots self.now.areas truth))))) }
 
-        ensures built { IfOk result (λ found. IfSome found (λ attempt. IsBuiltCall call.now)) }
-        ensures none { IfOk result (λ found. IfNone found (IsBuiltCall call.now → ⊥)) }
+        ensures message { IfOk result (λ found. IfSome found (λ attempt. is_message call.now ≡ true)) }
+        ensures no_message { IfOk result (λ found. IfNone found (is_message call.now ≡ false)) }
     {
-        let Some((xid, read)) = built_call(alloc, call)? else {
+        let Some((xid, read)) = bx_nfs::reads_as(alloc, call)? else {
             return Ok(None);
         };
-        let attempt = self.attempt_built(alloc, xid, &read, moment, view)?;
+        let attempt = self.attempt_call(alloc, xid, &read, moment, view)?;
         Ok(Some(attempt))
     }
 
     /// The same of a call that was read, with its number.
-    fn attempt_built<V: View>(
+    fn attempt_call<V: View>(
         &self,
         alloc: Global,
         xid: u32,
@@ -88,7 +90,7 @@ impl BoxFs {
         moment: u64,
         view: &V,
     ) -> Result<Attempt, OutOfMemory>
-        requires built { IsBuilt call.now }
+        requires asked { IsAsked call.now }
         requires moment { moment ≤ 4294967295999 }
         ensures gives { (client : ℕ) (bytes : List ℕ) (truth : Truth) (tree : Tree) → ReadsAs bytes xid call.now → IsTruth (V.held view.now) truth
             → StandsWith self.now.volume self.now.areas truth (V.hints view.now) tree → IfOk result (Gives (StandsWith self.now.volume self.now.areas) Step (free_slots self.now.areas truth) client bytes moment truth tree) }

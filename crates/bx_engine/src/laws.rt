@@ -15,7 +15,7 @@ ghost use Rattle.bx_views.specs.Attempts.{Deed};
 ghost use Rattle.bx_views.specs.Truths.{Held, Hints, Truth, no_hints, with_hint, without_hint};
 ghost use Rattle.bx_engine.specs.Calls.{IsReading};
 ghost use Rattle.bx_engine.specs.Paths.{HasOneBlock, IsOnPath};
-ghost use Rattle.bx_engine.specs.Steps.{Enters, StandsWith, Step};
+ghost use Rattle.bx_steps.specs.Steps.{Enters, StandsWith, Step};
 
 /// The truth of a volume that was just made stands for its tree, with no hints. Hints that fit may be forgotten and dropped, and what a
 /// block of the volume holds may be a hint of it.

@@ -1,12 +1,12 @@
 //! The engine of a volume: calls as bytes, attempted over views of its blocks.
 #![tactic(auto)]
 
-mod calls;
 mod cleaning;
 mod engine;
 mod laws;
 mod mounting;
 mod plain;
+mod procedures;
 mod reading;
 
 pub use engine::BoxFs;

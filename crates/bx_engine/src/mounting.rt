@@ -5,7 +5,7 @@ ghost use Rattle.bx_model.specs.Mounting.{mount};
 ghost use Rattle.bx_model.specs.Opening.{root_handle};
 ghost use Rattle.bx_model.specs.declared.tree.Tree.{Tree};
 
-use crate::calls::UMNT;
+use crate::procedures::UMNT;
 use bx_base::{OutOfMemory, Raw};
 use bx_handles::file_handle;
 use bx_model::{NOENT, Reply};

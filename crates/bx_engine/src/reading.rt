@@ -10,7 +10,7 @@ ghost use Rattle.bx_reads.specs.Bytes.{OnReading};
 ghost use Rattle.bx_views.specs.Attempts.{IsFair};
 ghost use Rattle.bx_views.specs.Truths.{IsTruth, Truth};
 ghost use Rattle.bx_engine.specs.Outcomes.{ChangesNothing, Comes, TellsNothing};
-ghost use Rattle.bx_engine.specs.Steps.{StandsWith};
+ghost use Rattle.bx_steps.specs.Steps.{StandsWith};
 
 use crate::engine::BoxFs;
 use bx_attempts::{answered, stopped};

@@ -1,8 +1,7 @@
 -- A node stands on when a call comes.
-use Rattle.std.proofs.Common.{◌≡◌, ⊎_elim, ℕ, List, [], ◌∷◌, ◌++◌, Contains, Option, subst}
+use Rattle.std.proofs.Common.{◌≡◌, ⊎_elim, true, ℕ, List, [], ◌∷◌, ◌++◌, Contains, Option, subst}
 use Rattle.std.proofs.lemmas.List.Elements.{Contains-push_cases}
 use Rattle.bx_disk.specs.Disks.{Disks, Image}
-use Rattle.bx_engine.specs.Calls.{IsBuiltCall}
 use Rattle.bx_facts.specs.Writes.{Asked, Made, Sent, StorePast}
 use Rattle.bx_global.specs.declared.state.GlobalState.{GlobalState}
 use Rattle.bx_lone_node.specs.Node.{NodeView}
@@ -11,6 +10,7 @@ use Rattle.bx_lone_node.specs.declared.stage.Stage.{Stage}
 use Rattle.bx_lone_node.specs.declared.stage.Stage.TheVariants.{Idle, Reads, Logs, Homes, Closes, Spent}
 use Rattle.bx_lone_node.specs.declared.stage.Waiting.{Waiting}
 use Rattle.bx_model.specs.declared.tree.Tree.{Tree}
+use Rattle.bx_rpc.specs.Message.{is_message}
 use Rattle.bx_views.specs.Truths.{Truth}
 use Rattle.bx_volume.specs.Overlay.{Logs as Records}
 use Rattle.bx_volume.specs.Records.{Logged}
@@ -49,6 +49,6 @@ module _ (Keeps : Disks → StorePast → Type 0) (Standing : Disks → StorePas
     finds = finds_on stood.past stood.session stood.before stood.logs stood.truth stood.more node.stage stood.finds;
   }
 
--- all are built
-pub built_more : (queue : List Waiting) (call : Waiting) → IsBuiltCall call.datagram → ((one : Waiting) → Contains queue one → IsBuiltCall one.datagram) → (one : Waiting) → Contains (queue ++ call ∷ []) one → IsBuiltCall one.datagram
-built_more queue call new old one there = ⊎_elim (λ (was : Contains queue one). old one was) (λ (same : call ≡ one). subst (λ (c : Waiting). IsBuiltCall c.datagram) same new) (Contains-push_cases queue call one there)
+-- all are calls
+pub messages_more : (queue : List Waiting) (call : Waiting) → is_message call.datagram ≡ true → ((one : Waiting) → Contains queue one → is_message one.datagram ≡ true) → (one : Waiting) → Contains (queue ++ call ∷ []) one → is_message one.datagram ≡ true
+messages_more queue call new old one there = ⊎_elim (λ (was : Contains queue one). old one was) (λ (same : call ≡ one). subst (λ (c : Waiting). is_message c.datagram ≡ true) same new) (Contains-push_cases queue call one there)

@@ -1,7 +1,7 @@
 -- What the engine's attempts are to a node that has no hints.
 use Rattle.std.proofs.Common.{◌≡◌, ℕ, List, sym, subst}
 use Rattle.bx_engine.specs.Paths.{IsOnPath}
-use Rattle.bx_engine.specs.Steps.{StandsWith, Step}
+use Rattle.bx_steps.specs.Steps.{StandsWith, Step}
 use Rattle.bx_hints.specs.Fitting.{HintsFitAll}
 use Rattle.bx_lone_node.specs.Bare.{StandsBare}
 use Rattle.bx_model.specs.declared.tree.Tree.{Tree}

@@ -1,10 +1,9 @@
 -- How a machine stands on the disks of its bench.
-use Rattle.std.specs.Prelude.{◌≡◌, ℕ, ◌-◌, Bool, ◌<◌, ◌≤◌, List, [], ◌∷◌, Contains, None, Option, Some}
+use Rattle.std.specs.Prelude.{◌≡◌, ℕ, ◌-◌, Bool, true, ◌<◌, ◌≤◌, List, [], ◌∷◌, Contains, None, Option, Some}
 use Rattle.bx_base.specs.declared.names.Actor.TheVariants.{Member}
 use Rattle.bx_base.specs.declared.names.Point.{Point}
 use Rattle.bx_disk.specs.Disks.{Disks}
-use Rattle.bx_engine.specs.Calls.{IsBuiltCall}
-use Rattle.bx_engine.specs.Steps.{Step}
+use Rattle.bx_steps.specs.Steps.{Step}
 use Rattle.bx_facts.specs.Chains.{last}
 use Rattle.bx_facts.specs.Disks.{HasRoom}
 use Rattle.bx_facts.specs.Writes.{IsSettled, Made, StorePast}
@@ -23,6 +22,7 @@ use Rattle.bx_lone_store.specs.Waiting.{needs_of, owes_in}
 use Rattle.bx_lone_store.specs.declared.store.PlainStore.{PlainStore}
 use Rattle.bx_model.specs.declared.tree.Tree.{Tree}
 use Rattle.bx_plain_store.specs.Out.{at, out_at}
+use Rattle.bx_rpc.specs.Message.{is_message}
 use Rattle.bx_lone_machine.specs.declared.machine.LoneMachine.{LoneMachine}
 
 -- ---- its store
@@ -99,8 +99,8 @@ member_waits machine member = owes_in machine.store.greatest machine.store.slots
 
 -- ---- how it stands
 
--- It may be used, on disks of these sizes: its node and its store go together, the disks are long enough, the calls that wait are built, and their
--- numbers rise.
+-- It may be used, on disks of these sizes: its node and its store go together, the disks are long enough, what waits are calls, and their numbers
+-- rise.
 pub record IsReady (machine : LoneMachine) (sizes : List ℕ) : Type 0 where
   pub made : store_made machine.store ≡ made_of machine.calls.engine.volume 1 1 1
   pub devices : machine.node.devices ≡ 1
@@ -111,7 +111,7 @@ pub record IsReady (machine : LoneMachine) (sizes : List ℕ) : Type 0 where
   pub joined : IsJoined machine.node (store_made machine.store) (at machine.store.owns.items 0) (out_at machine.store.slots.items 0) (asked_at machine.store.inquiries.items 0)
   pub used : IsUsed machine.node.stage
   pub room : HasRoom (store_needs machine.store) sizes
-  pub built : (call : Waiting) → Contains machine.node.queue call → IsBuiltCall call.datagram
+  pub messages : (call : Waiting) → Contains machine.node.queue call → is_message call.datagram ≡ true
   pub rising : AreRising (call_past machine.node.stage) machine.latest (calls_of machine)
 
 -- the node stands for the tree, and what is under way leads to the next one

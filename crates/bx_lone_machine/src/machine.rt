@@ -3,9 +3,9 @@
 ghost use Rattle.std.specs.Prelude.{◌≡◌, ◌≢◌, ◌↔◌, ◌⊎◌, ◌||◌, ◌==◌, IfOk, IsTrue, ◌++◌, ◌∷◌, ◌<◌, ◌≤◌, [], ℕ, List, OnOk, OnErr, true, false};
 ghost use Rattle.std.specs.List.{list_any};
 ghost use Rattle.bx_disk.specs.Disks.{Disks};
-ghost use Rattle.bx_engine.specs.Calls.{IsBuiltCall};
 ghost use Rattle.bx_lone_machine.specs.Machine.{Holds, IsReady, calls_of, floor_of, latest_of, member_waits, record_of, volume_of};
 ghost use Rattle.bx_model.specs.declared.tree.Tree.{Tree};
+ghost use Rattle.bx_rpc.specs.Message.{is_message};
 
 use crate::calls::Calls;
 use bx_base::{Actor, CallNo, OutOfMemory};
@@ -28,9 +28,9 @@ pub struct LoneMachine {
 }
 
 impl LoneMachine {
-    /// A call comes, and waits behind all others. Its number is above those that came before. Where memory runs out, nothing changes.
+    /// A call comes, as a datagram, and waits behind all others. Its number is above those that came before. Where memory runs out, nothing changes.
     pub fn arrive(&mut self, call: Waiting) -> Result<(), OutOfMemory>
-        requires built { IsBuiltCall call.datagram }
+        requires message { is_message call.datagram ≡ true }
         requires rises { latest_of self.old < call.number }
         ensures calls { OnOk result (calls_of self.new ≡ calls_of self.old ++ call ∷ []) }
         ensures record { OnOk result (record_of self.new ≡ record_of self.old) }
@@ -44,14 +44,6 @@ impl LoneMachine {
         self.node.is_whole();
         self.latest = number;
         Ok(())
-    }
-
-    /// Whether bytes are a call that is built.
-    pub fn takes(alloc: Global, call: &[u8]) -> Result<bool, OutOfMemory>
-        ensures yes { IfOk result (λ is. is ≡ true → IsBuiltCall call.now) }
-        ensures no { IfOk result (λ is. is ≡ false → IsBuiltCall call.now → ⊥) }
-    {
-        Calls::takes(alloc, call)
     }
 
     /// Whether a call waits for its reply.

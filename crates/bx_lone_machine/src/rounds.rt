@@ -1,7 +1,7 @@
 //! Rounds.
 
 ghost use Rattle.std.specs.Prelude.{◌≡◌, ◌≤◌, IfOk, Option, None, OnOk, []};
-ghost use Rattle.bx_engine.specs.Steps.{Step};
+ghost use Rattle.bx_steps.specs.Steps.{Step};
 ghost use Rattle.bx_lone_machine.specs.Machine.{Holds, IsReady, calls_of, latest_of, record_of};
 ghost use Rattle.bx_lone_machine.specs.Rounds.{IsOfRound};
 ghost use Rattle.bx_lone_node.specs.Node.{Takes};

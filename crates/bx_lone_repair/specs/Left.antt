@@ -2,7 +2,7 @@
 use Rattle.std.specs.Prelude.{◌≡◌, ◌≢◌, ◌⊎◌, ℕ, ◌<◌, ◌≤◌, List, [], Contains, Option, Some}
 use Rattle.bx_base.specs.declared.names.Point.{Point}
 use Rattle.bx_disk.specs.Disks.{Disks, Image}
-use Rattle.bx_engine.specs.Steps.{Step}
+use Rattle.bx_steps.specs.Steps.{Step}
 use Rattle.bx_facts.specs.Writes.{IsSettled}
 use Rattle.bx_global.specs.Opening.{opening_state}
 use Rattle.bx_lone_node.specs.Bare.{StandsBare}

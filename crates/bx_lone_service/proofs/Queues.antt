@@ -1,15 +1,15 @@
 -- Calls that wait in a queue.
-use Rattle.std.proofs.Common.{◌≡◌, ℕ, ◌<◌, ◌≤◌, List, [], ◌∷◌, ◌++◌, Contains, Result, Ok, Err, OnOk, refl, sym, ap, subst, ◌∙◌, arith, append_assoc}
+use Rattle.std.proofs.Common.{◌≡◌, true, ℕ, ◌<◌, ◌≤◌, List, [], ◌∷◌, ◌++◌, Contains, Result, Ok, Err, OnOk, refl, sym, ap, subst, ◌∙◌, arith, append_assoc}
 use Rattle.std.specs.Prelude.{◌≢◌, map}
 use Rattle.std.specs.List.{AllByRecursion}
 use Rattle.std.proofs.lemmas.List.{map-append}
-use Rattle.bx_engine.specs.Calls.{IsBuiltCall}
 use Rattle.bx_lone_machine.specs.Machine.{AreRising, calls_of, latest_of}
 use Rattle.bx_lone_machine.specs.declared.machine.LoneMachine.{LoneMachine}
-use Rattle.bx_lone_machine.proofs.Arrivals.{built_more}
+use Rattle.bx_lone_machine.proofs.Arrivals.{messages_more}
 use Rattle.bx_lone_machine.proofs.Rising.{rising_more}
 use Rattle.bx_facts.proofs.Lists.{behind}
 use Rattle.bx_lone_node.specs.declared.stage.Waiting.{Waiting}
+use Rattle.bx_rpc.specs.Message.{is_message}
 use Rattle.bx_lone_service.specs.Calls.{taking_of}
 use Rattle.bx_lone_service.specs.Stages.{AreQueued, latest_in}
 use Rattle.bx_lone_service.specs.declared.returning.Left.{Left}
@@ -26,16 +26,16 @@ pub latest_more : (above : ℕ) (queue : List Waiting) (call : Waiting) → late
 latest_more above [] call = refl
 latest_more above (one ∷ queue) call = latest_more one.number queue call
 
-pub queued_more : (above latest : ℕ) (queue : List Waiting) (call : Waiting) → AreQueued above queue → latest_in above queue ≡ latest → latest < call.number → IsBuiltCall call.datagram → AreQueued above (queue ++ call ∷ [])
-queued_more above latest queue call queued is later built = record {
-  built = built_more queue call built queued.built;
+pub queued_more : (above latest : ℕ) (queue : List Waiting) (call : Waiting) → AreQueued above queue → latest_in above queue ≡ latest → latest < call.number → is_message call.datagram ≡ true → AreQueued above (queue ++ call ∷ [])
+queued_more above latest queue call queued is later message = record {
+  messages = messages_more queue call message queued.messages;
   rising = subst (λ (most : ℕ). AreRising above most (queue ++ call ∷ [])) (sym (latest_more above queue call))
       (rising_more above (latest_in above queue) call.number queue call queued.rising (omega (arith, is, later)) refl);
 }
 
 -- without its first call
 pub queued_less : (above : ℕ) (call : Waiting) (queue : List Waiting) → AreQueued above (call ∷ queue) → AreQueued call.number queue
-queued_less above call queue queued = record { built = λ one there. queued.built one (there_behind one there); rising = queued.rising.1 }
+queued_less above call queue queued = record { messages = λ one there. queued.messages one (there_behind one there); rising = queued.rising.1 }
   where
     there_behind : (one : Waiting) → Contains queue one → Contains (call ∷ queue) one
     there_behind one there = behind call queue one there

@@ -4,7 +4,7 @@ use Rattle.std.specs.Prelude.{IfSome, is_some, map, true}
 use Rattle.std.specs.Option.{option_map}
 use Rattle.bx_base.specs.declared.names.Point.{Point}
 use Rattle.bx_disk.specs.Disks.{Disks}
-use Rattle.bx_engine.specs.Steps.{Step}
+use Rattle.bx_steps.specs.Steps.{Step}
 use Rattle.bx_lone_machine.specs.Machine.{AreRising, Holds, call_past, calls_of, doubt_in, doubt_of, record_of}
 use Rattle.bx_lone_machine.specs.Machine as machines
 use Rattle.bx_lone_machine.specs.Rounds.{IsOfRound}

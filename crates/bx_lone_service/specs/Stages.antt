@@ -1,7 +1,6 @@
 -- What a service is by its stage.
 use Rattle.std.specs.Prelude.{◌≡◌, ℕ, ◌≤◌, nat_lt, Bool, true, false, List, [], ◌∷◌, Contains, map, Option, Some, None, refl}
 use Rattle.bx_disk.specs.Disks.{Disks}
-use Rattle.bx_engine.specs.Calls.{IsBuiltCall}
 use Rattle.bx_history.specs.Trace.{Taking}
 use Rattle.bx_lone_machine.specs.Machine as machines
 use Rattle.bx_lone_machine.specs.Machine.{Holds, calls_of, doubt_of, floor_of, volume_of}
@@ -10,6 +9,7 @@ use Rattle.bx_lone_node.specs.declared.stage.Waiting.{Waiting}
 use Rattle.bx_lone_repair.specs.Bench.{AreLong}
 use Rattle.bx_lone_repair.specs.Left as lefts
 use Rattle.bx_model.specs.declared.tree.Tree.{Tree}
+use Rattle.bx_rpc.specs.Message.{is_message}
 use Rattle.bx_service.specs.Rounds.{Doubt}
 use Rattle.bx_lone_service.specs.Calls.{taking_of}
 use Rattle.bx_lone_service.specs.declared.returning.Left.{Left}
@@ -23,9 +23,9 @@ abbrev pub latest_in : ℕ → List Waiting → ℕ
 latest_in latest [] = latest
 latest_in latest (call ∷ calls) = latest_in call.number calls
 
--- Calls wait that are built, and their numbers rise above one.
+-- What waits are calls, and their numbers rise above one.
 pub record AreQueued (above : ℕ) (queue : List Waiting) : Type 0 where
-  pub built : (call : Waiting) → Contains queue call → IsBuiltCall call.datagram
+  pub messages : (call : Waiting) → Contains queue call → is_message call.datagram ≡ true
   pub rising : machines.AreRising above (latest_in above queue) queue
 
 abbrev pub waits_of : Stage → List Taking

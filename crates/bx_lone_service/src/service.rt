@@ -113,10 +113,6 @@ impl Service for LoneService {
         })
     }
 
-    fn takes(alloc: Global, datagram: &[u8]) -> Result<bool, OutOfMemory> {
-        LoneMachine::takes(alloc, datagram)
-    }
-
     fn is_up(&self) -> bool {
         !matches!(self.stage, Stage::Down(_))
     }

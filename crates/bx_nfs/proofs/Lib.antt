@@ -1,3 +1,4 @@
+pub mod Asking
 pub mod OneForm
 pub mod OneItem
 pub mod Reading

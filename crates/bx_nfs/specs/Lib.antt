@@ -1,4 +1,5 @@
 pub mod Arguments
+pub mod Asked
 pub mod Forms
 pub mod Items
 pub mod Limits

@@ -1,8 +1,9 @@
 //! Calls.
 
-ghost use Rattle.std.specs.Prelude.{◌≡◌, ◌≤◌, ℕ, List, IfOk, IfSome, IfNone, length, drop};
+ghost use Rattle.std.specs.Prelude.{◌≡◌, ◌≤◌, ℕ, true, false, IfOk, IfSome, IfNone, length, drop};
 ghost use Rattle.bx_model.specs.declared.call.Call.{Call};
-ghost use Rattle.bx_rpc.specs.Message.{IsCall};
+ghost use Rattle.bx_rpc.specs.Message.{is_message};
+ghost use Rattle.bx_nfs.specs.Asked.{IsAsked};
 ghost use Rattle.bx_nfs.specs.Wire.{ReadsAs, FromArguments, refused_call};
 
 use crate::arguments::read_args;
@@ -22,7 +23,9 @@ const GARBAGE: u32 = 7;
 pub fn reads_as(alloc: Global, datagram: &[u8]) -> Result<Option<(u32, Call)>, OutOfMemory>
     ensures found { IfOk result (λ found. IfSome found (λ read. ReadsAs datagram.now read.0 read.1)) }
     ensures none { IfOk result (λ found. IfNone found ((xid : ℕ) (call : Call) → ReadsAs datagram.now xid call → ⊥)) }
-    ensures no_message { IfOk result (λ found. IfNone found ((xid : ℕ) (text : List ℕ) → IsCall datagram.now xid text → ⊥)) }
+    ensures asked { IfOk result (λ found. IfSome found (λ read. IsAsked read.1)) }
+    ensures message { IfOk result (λ found. IfSome found (λ read. is_message datagram.now ≡ true)) }
+    ensures no_message { IfOk result (λ found. IfNone found (is_message datagram.now ≡ false)) }
 {
     let Some(opened) = opens(alloc, datagram)? else {
         return Ok(None);

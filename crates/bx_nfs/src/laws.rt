@@ -6,6 +6,7 @@ ghost use Rattle.bx_rpc.specs.declared.caller.Caller.{Caller};
 ghost use Rattle.bx_model.specs.declared.call.Args.{Args};
 ghost use Rattle.bx_model.specs.declared.call.Call.{Call};
 ghost use Rattle.bx_model.specs.declared.reply.Reply.{Reply};
+ghost use Rattle.bx_nfs.specs.Asked.{IsAsked};
 ghost use Rattle.bx_nfs.specs.Forms.{Arguments, form_of};
 ghost use Rattle.bx_nfs.specs.Limits.{IsLimited};
 ghost use Rattle.bx_nfs.specs.Wire.{ReadsAs, FromArguments, passed_call, reply_text};
@@ -13,6 +14,11 @@ ghost use Rattle.bx_nfs.specs.Wire.{ReadsAs, FromArguments, passed_call, reply_t
 /// A datagram is one call at most.
 pub fn one_reading()
     ensures { (bytes : List ℕ) (x y : ℕ) (a b : Call) → ReadsAs bytes x a → ReadsAs bytes y b → (x ≡ y) × (a ≡ b) }
+{}
+
+/// A call that a datagram is has the arguments of its procedure.
+pub fn own_arguments()
+    ensures { (bytes : List ℕ) (xid : ℕ) (call : Call) → ReadsAs bytes xid call → IsAsked call }
 {}
 
 /// What stands behind the arguments of a call doesn't matter to what it reads as.

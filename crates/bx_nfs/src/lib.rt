@@ -9,5 +9,5 @@ mod laws;
 mod replies;
 
 pub use calls::reads_as;
-pub use laws::{lengths, one_reading, tail_passed_over};
+pub use laws::{lengths, one_reading, own_arguments, tail_passed_over};
 pub use replies::text;

@@ -1,4 +1,4 @@
--- Lines that are done, one after the other, are the first lines of a schedule, each of them served.
+-- Lines that are done, one after the other, are the first lines of a schedule.
 use Rattle.std.proofs.Common.{◌≡◌, ◌<◌, ◌≤◌, ◌==◌, false, List, [], ◌∷◌, ◌++◌, length, arith}
 use Rattle.std.specs.Prelude.{reverse}
 use Rattle.std.specs.List.{AllByRecursion}
@@ -7,7 +7,7 @@ use Rattle.std.proofs.lemmas.List.{length-reverse, reverse-append, reverse-rever
 use Rattle.bx_script.specs.declared.line.Line.{Line}
 use Rattle.bx_script.specs.Schedule.{HasPlace, BeginsSchedule}
 use Rattle.bx_history.specs.Along.{AllowedNewest}
-use Rattle.bx_replay.specs.Headline.{IsHeard, IsInPlace, IsServedLine, is_up}
+use Rattle.bx_replay.specs.Headline.{IsHeard, IsInPlace, is_up}
 use Rattle.bx_replay.specs.Outcome.{Allows, AreDone}
 
 pub all_push : {A : Type 0} (P : A → Type 0) (xs : List A) (x : A) → AllByRecursion P xs → P x → AllByRecursion P (xs ++ x ∷ [])
@@ -37,8 +37,8 @@ pub done_few : (lines : List Line) → AreDone lines → length lines ≤ 429496
 done_few lines done = let few = few_newest (reverse lines) done in omega (arith, length-reverse lines)
 
 -- with one line more
-pub done_push : (lines : List Line) (line : Line) → 0 < length lines → length lines < 4294967295 → AreDone lines → IsInPlace false line → IsServedLine line → IsHeard (is_up (reverse lines)) line
+pub done_push : (lines : List Line) (line : Line) → 0 < length lines → length lines < 4294967295 → AreDone lines → IsInPlace false line → IsHeard (is_up (reverse lines)) line
     → AreDone (lines ++ line ∷ [])
-done_push lines line some room done place served heard =
+done_push lines line some room done place heard =
     let later : (length (reverse lines) == 0) ≡ false = ne_eqb (length (reverse lines)) 0 (λ e. omega (arith, length-reverse lines)) in
-    rw (reverse-append lines (line ∷ [])) (record { few = omega (arith, length-reverse lines); in_place = rw later place; served = served; heard = heard }, done)
+    rw (reverse-append lines (line ∷ [])) (record { few = omega (arith, length-reverse lines); in_place = rw later place; heard = heard }, done)

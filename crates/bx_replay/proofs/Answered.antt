@@ -4,7 +4,7 @@ use Rattle.std.specs.Prelude.{◌≢◌, ◌==◌, ◌⊎◌, if◌then◌else�
 use Rattle.std.specs.List.{AllByRecursion}
 use Rattle.std.proofs.lemmas.List.{reverse-append}
 use Rattle.bx_base.specs.declared.names.Point.{Point}
-use Rattle.bx_engine.specs.Steps as engine
+use Rattle.bx_steps.specs.Steps as engine
 use Rattle.bx_script.specs.declared.line.Line.{Line}
 use Rattle.bx_script.specs.declared.line.Line.TheVariants.{Heading, Call, Run, Crash, Restart, Tick}
 use Rattle.bx_script.specs.declared.trace_line.TraceLine.{TraceLine}

@@ -259,7 +259,7 @@ begins_going Holds calls text rest start up waits is_up idle begun =
         up_is = is_up;
         doubted = λ of is. absurd (none_is of is);
         headed = omega arith;
-        are_done = (record { few = omega arith; in_place = begun.in_place; served = begun.in_place.1; heard = tt }, tt);
+        are_done = (record { few = omega arith; in_place = begun.in_place; heard = tt }, tt);
         in_range = tt;
         output = sym (append-nil start);
       };

@@ -11,7 +11,7 @@ use Rattle.bx_history.specs.Trace as traces
 use Rattle.bx_replay.specs.declared.stop.Stop.{Stop}
 use Rattle.bx_replay.specs.declared.stop.Stop.TheVariants as stops
 use Rattle.bx_replay.specs.Outcome.{IsBroken}
-use Rattle.bx_replay.specs.Replay.{Begins, BreaksAfter, DoesLine, Ends, GivesLine, Going, HasBeginCause, HasFinishCause, HasLineCause, HasStepCause, IsEndedShort, IsRead, Leaves, Serves, Wrote}
+use Rattle.bx_replay.specs.Replay.{Begins, BreaksAfter, DoesLine, Ends, GivesLine, Going, HasBeginCause, HasFinishCause, HasLineCause, HasStepCause, Hears, IsEndedShort, IsRead, Leaves, Wrote}
 use Rattle.bx_replay.proofs.Goings.{begins_broken, begins_cut, begins_empty, begins_outside, finishes, stops_broken, stops_cut, stops_outside, stops_refused, stops_torn, stops_unfinished}
 use Rattle.bx_replay.proofs.ReadLines.{all_read, cut_at, cut_first, refused_empty, refused_first, refused_line, refused_outside}
 
@@ -42,19 +42,19 @@ module _ (Tells : Type 0) (Stands : Tree → Type 0) (Holds : Tree → Option Do
 
   pub step_stops : (After : Tells → Type 0) (stop : Stop) (text rest next left start old new : List ℕ) (number : ℕ) (line : Line) (before now : ℕ)
       → IsRead up text rest number → (going : Tells → Going Holds up waits calls text rest number start old) → number < 4294967295 → BeginsWith rest (spelling line) next
-      → IsInPlace ((number + 1) == 1) line → HasStepCause stop (number + 1) before now → (now_up : Bool) → Serves (Err stop) up now_up line
+      → IsInPlace ((number + 1) == 1) line → HasStepCause stop (number + 1) before now → (now_up : Bool) → Hears (Err stop) up now_up line
       → ((tells : Tells) → DoesLine (Err stop) (After tells) line (going tells).done start old new)
       → Leaves Tells Stands (Err stop) text left start new
-  step_stops After (stops.Refused n reason) text rest next left start old new number line before now so_far going few begins place cause now_up serves does =
+  step_stops After (stops.Refused n reason) text rest next left start old new number line before now so_far going few begins place cause now_up hears does =
       rw cause (
-        refused_line up text rest next number line so_far few begins place reason serves,
-        λ tells. rw (does tells) (stops_refused Holds up waits calls text rest number start old (going tells) reason line next few begins place serves),
+        refused_line up text rest next number line so_far few begins place reason hears,
+        λ tells. rw (does tells) (stops_refused Holds up waits calls text rest number start old (going tells) reason line next few begins place hears),
       )
-  step_stops After stops.ReadFault text rest next left start old new number line before now so_far going few begins place cause now_up serves does = absurd cause
-  step_stops After stops.WriteFault text rest next left start old new number line before now so_far going few begins place cause now_up serves does =
+  step_stops After stops.ReadFault text rest next left start old new number line before now so_far going few begins place cause now_up hears does = absurd cause
+  step_stops After stops.WriteFault text rest next left start old new number line before now so_far going few begins place cause now_up hears does =
       λ tells. stops_torn Holds up waits calls text rest next number line start old new (going tells) begins (does tells)
-  step_stops After stops.DiskFault text rest next left start old new number line before now so_far going few begins place cause now_up serves does = absurd cause
-  step_stops After stops.OutOfMemory text rest next left start old new number line before now so_far going few begins place cause now_up serves does =
+  step_stops After stops.DiskFault text rest next left start old new number line before now so_far going few begins place cause now_up hears does = absurd cause
+  step_stops After stops.OutOfMemory text rest next left start old new number line before now so_far going few begins place cause now_up hears does =
       λ tells. by tells (does tells)
     where
       by : (tells : Tells) → (new ≡ old) ⊎ BreaksAfter line (going tells).done start new → Wrote start new (IsBroken text)

@@ -12,8 +12,8 @@ use Rattle.bx_model.specs.declared.tree.Tree.{Tree}
 use Rattle.bx_service.specs.Rounds.{Doubt}
 use Rattle.bx_replay.specs.declared.stop.Stop.{Stop}
 use Rattle.bx_replay.specs.declared.stop.Stop.TheVariants as stops
-use Rattle.bx_replay.specs.Headline.{IsHeard, IsServedLine, up_after}
-use Rattle.bx_replay.specs.Replay.{BreaksAfter, DoesLine, HasPrintCause, Prints, Serves, Stands, UnlessMemory}
+use Rattle.bx_replay.specs.Headline.{IsHeard, up_after}
+use Rattle.bx_replay.specs.Replay.{BreaksAfter, DoesLine, HasPrintCause, Hears, Prints, Stands, UnlessMemory}
 
 module _ (tree : Tree) (up : Bool) (waits : List traces.Taking) (doubt : Option Doubt) (calls : ℕ) (line : Line) (lines : List TraceLine) (done : List Done) (start : List ℕ) where
   abbrev StandsAt : List ℕ → Type 0
@@ -67,12 +67,12 @@ module _ (tree : Tree) (up : Bool) (waits : List traces.Taking) (doubt : Option 
   unprinted InRange stops.DiskFault After first old new output text before now begun cause prints in_range stands none = absurd cause
   unprinted InRange stops.OutOfMemory After first old new output text before now begun cause prints in_range stands none = none prints
 
--- what a line is that is done, where it only prints
-pub serves_line : (r : Result (Unit {0}) Stop) (up now : Bool) (line : Line) (before after : ℕ) → IfErr r (λ stop. HasPrintCause stop before after) → IsServedLine line → IsHeard up line
-    → OnOk r (now ≡ up_after line up) → Serves r up now line
-serves_line (Ok x) up now line before after cause served heard then_is = (served, heard, then_is)
-serves_line (Err (stops.Refused number reason)) up now line before after cause served heard then_is = absurd cause
-serves_line (Err stops.ReadFault) up now line before after cause served heard then_is = tt
-serves_line (Err stops.WriteFault) up now line before after cause served heard then_is = tt
-serves_line (Err stops.DiskFault) up now line before after cause served heard then_is = tt
-serves_line (Err stops.OutOfMemory) up now line before after cause served heard then_is = tt
+-- a line that is done was heard, where it only prints
+pub hears_line : (r : Result (Unit {0}) Stop) (up now : Bool) (line : Line) (before after : ℕ) → IfErr r (λ stop. HasPrintCause stop before after) → IsHeard up line
+    → OnOk r (now ≡ up_after line up) → Hears r up now line
+hears_line (Ok x) up now line before after cause heard then_is = (heard, then_is)
+hears_line (Err (stops.Refused number reason)) up now line before after cause heard then_is = absurd cause
+hears_line (Err stops.ReadFault) up now line before after cause heard then_is = tt
+hears_line (Err stops.WriteFault) up now line before after cause heard then_is = tt
+hears_line (Err stops.DiskFault) up now line before after cause heard then_is = tt
+hears_line (Err stops.OutOfMemory) up now line before after cause heard then_is = tt

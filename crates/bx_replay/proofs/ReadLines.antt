@@ -1,4 +1,4 @@
--- What was read of a text: lines in the grammar, in their places and served, and where a replay of them stops.
+-- What was read of a text: lines in the grammar, in their places and heard, and where a replay of them stops.
 use Rattle.std.proofs.Common.{◌≡◌, ℕ, ◌+◌, ◌<◌, ◌≤◌, ◌==◌, Bool, true, false, List, [], ◌∷◌, ◌++◌, length, refl, sym, ap, subst, ◌∙◌, arith, inl, inr, append_assoc}
 use Rattle.std.specs.Prelude.{map, reverse, ◌⊎◌, ◌≢◌}
 use Rattle.std.specs.List.{AllByRecursion}
@@ -12,9 +12,9 @@ use Rattle.bx_script.specs.ScheduleLine.{spelling}
 use Rattle.bx_script.specs.Schedule.{HasPlace, BeginsSchedule}
 use Rattle.bx_script.proofs.Spelled.{spelling_lacks_feed}
 use Rattle.bx_replay.specs.declared.stop.Reason.{Reason}
-use Rattle.bx_replay.specs.declared.stop.Reason.TheVariants.{Grammar, NotBuilt, Down}
-use Rattle.bx_replay.specs.Headline.{Asks, IsHeard, IsInPlace, IsServedLine, is_up, up_after}
-use Rattle.bx_replay.specs.Outcome.{AreDone, IsCut, IsFirstRefused, IsReadTo, IsRefusedAt, IsServedSchedule}
+use Rattle.bx_replay.specs.declared.stop.Reason.TheVariants.{Grammar, Down}
+use Rattle.bx_replay.specs.Headline.{Asks, IsHeard, IsInPlace, is_up, up_after}
+use Rattle.bx_replay.specs.Outcome.{AreDone, IsCut, IsFirstRefused, IsReadTo, IsPlayable, IsRefusedAt}
 use Rattle.bx_replay.specs.Replay.{IsRead, IsRefusedLine}
 use Rattle.bx_replay.proofs.Allowed.{done_begins, done_few, done_push}
 use Rattle.bx_replay.proofs.NextLines.{IsRefusedHere}
@@ -70,22 +70,22 @@ behind : (number : ℕ) → 0 < number → ((number + 1) == 1) ≡ false
 behind number some = ne_eqb (number + 1) 1 (λ e. omega (arith, some))
 
 pub reads_on : (up now : Bool) (text rest next : List ℕ) (number : ℕ) (line : Line) → IsRead up text rest number → number < 4294967295 → BeginsWith rest (spelling line) next → IsInPlace ((number + 1) == 1) line
-    → IsServedLine line × IsHeard up line × (now ≡ up_after line up) → IsRead now text next (number + 1)
-reads_on up now text rest next number line so_far few begins place serves =
+    → IsHeard up line × (now ≡ up_after line up) → IsRead now text next (number + 1)
+reads_on up now text rest next number line so_far few begins place hears =
     let some : 0 < number = let h = so_far.headed in omega (arith, h, so_far.count) in
     record {
       done = so_far.done ++ line ∷ [];
       read = read_on text rest next so_far.done line (done_begins so_far.done so_far.are_done) so_far.read begins;
-      are_done = done_push so_far.done line so_far.headed (omega (arith, few, so_far.count)) so_far.are_done (rw (behind number some) at place) serves.0
-          (subst (λ (b : Bool). IsHeard b line) so_far.up_is serves.1);
+      are_done = done_push so_far.done line so_far.headed (omega (arith, few, so_far.count)) so_far.are_done (rw (behind number some) at place)
+          (subst (λ (b : Bool). IsHeard b line) so_far.up_is hears.0);
       headed = omega (arith, length-append so_far.done (line ∷ []));
-      up_is = serves.2 ∙ ap (up_after line) so_far.up_is ∙ sym (ap is_up (reverse-append so_far.done (line ∷ [])));
+      up_is = hears.1 ∙ ap (up_after line) so_far.up_is ∙ sym (ap is_up (reverse-append so_far.done (line ∷ [])));
       count = omega (arith, length-append so_far.done (line ∷ []), so_far.count);
     }
 
 -- ---- where a replay stops
 
-abbrev pub all_read : (up : Bool) (text : List ℕ) (number : ℕ) → IsRead up text [] number → IsServedSchedule text
+abbrev pub all_read : (up : Bool) (text : List ℕ) (number : ℕ) → IsRead up text [] number → IsPlayable text
 all_read up text number so_far = record {
   schedule = so_far.done;
   read = record {
@@ -133,52 +133,11 @@ unheard_here : (up : Bool) (done : List Line) (number : ℕ) (line : Line) (othe
 unheard_here up done number line others some count few up_is place down asks =
     (omega (arith, few, count), record { value = line; asks = asks; in_place = rw (not_first done number some count) at place; spelled = refl; down = sym up_is ∙ down })
 
-pub refused_call : (up : Bool) (done : List Line) (number reading node client : ℕ) (datagram : List ℕ) (others : List (List ℕ)) (reason : Reason) → 0 < length done → number ≡ length done → number < 4294967295 → up ≡ is_up (reverse done)
-    → IsInPlace ((number + 1) == 1) (Call reading node client datagram) → IsRefusedLine reason up (Call reading node client datagram) → IsRefusedAt done (spelling (Call reading node client datagram) ∷ others) reason
-refused_call up done number reading node client datagram others Grammar some count few up_is place why = absurd why
-refused_call up done number reading node client datagram others NotBuilt some count few up_is place why = (
-  omega (arith, few, count),
-  record {
-    reading = reading;
-    node = node;
-    client = client;
-    datagram = datagram;
-    in_place = rw (not_first done number some count) at place;
-    spelled = refl;
-    heard = sym up_is ∙ why.0;
-    message = why.1.0;
-    unserved = why.1.1;
-  },
-)
-refused_call up done number reading node client datagram others Down some count few up_is place why =
-    unheard_here up done number (Call reading node client datagram) others some count few up_is place why.0 tt
-
--- a tick is refused only where nobody hears it
-refused_tick : (up : Bool) (done : List Line) (number reading : ℕ) (others : List (List ℕ)) (reason : Reason) → 0 < length done → number ≡ length done → number < 4294967295 → up ≡ is_up (reverse done)
-    → IsInPlace ((number + 1) == 1) (Tick reading) → IsRefusedLine reason up (Tick reading) → IsRefusedAt done (spelling (Tick reading) ∷ others) reason
-refused_tick up done number reading others Grammar some count few up_is place why = absurd why
-refused_tick up done number reading others NotBuilt some count few up_is place why = absurd why.1
-refused_tick up done number reading others Down some count few up_is place why = unheard_here up done number (Tick reading) others some count few up_is place why.0 tt
-
--- only calls and ticks are refused so
-only_calls : (reason : Reason) (up : Bool) (line : Line) → (Asks line → ⊥) → IsRefusedLine reason up line → ⊥
-only_calls Grammar up line none why = why
-only_calls NotBuilt up (Heading volume nodes devices areas) none why = why.1
-only_calls NotBuilt up (Call reading node client datagram) none why = none tt
-only_calls NotBuilt up (Run reading limit) none why = why.1
-only_calls NotBuilt up (Crash noise) none why = why.1
-only_calls NotBuilt up (Restart reading) none why = why.1
-only_calls NotBuilt up (Tick reading) none why = why.1
-only_calls Down up line none why = none why.1
-
+-- only where nobody hears a line is it refused so
 pub line_refused_at : (up : Bool) (done : List Line) (number : ℕ) (line : Line) (others : List (List ℕ)) (reason : Reason) → 0 < length done → number ≡ length done → number < 4294967295 → up ≡ is_up (reverse done)
     → IsInPlace ((number + 1) == 1) line → IsRefusedLine reason up line → IsRefusedAt done (spelling line ∷ others) reason
-line_refused_at up done number (Heading volume nodes devices areas) others reason some count few up_is place why = absurd (only_calls reason up (Heading volume nodes devices areas) (λ e. e) why)
-line_refused_at up done number (Call reading node client datagram) others reason some count few up_is place why = refused_call up done number reading node client datagram others reason some count few up_is place why
-line_refused_at up done number (Run reading limit) others reason some count few up_is place why = absurd (only_calls reason up (Run reading limit) (λ e. e) why)
-line_refused_at up done number (Crash noise) others reason some count few up_is place why = absurd (only_calls reason up (Crash noise) (λ e. e) why)
-line_refused_at up done number (Restart reading) others reason some count few up_is place why = absurd (only_calls reason up (Restart reading) (λ e. e) why)
-line_refused_at up done number (Tick reading) others reason some count few up_is place why = refused_tick up done number reading others reason some count few up_is place why
+line_refused_at up done number line others Grammar some count few up_is place why = absurd why
+line_refused_at up done number line others Down some count few up_is place why = unheard_here up done number line others some count few up_is place why.0 why.1
 
 abbrev pub refused_line : (up : Bool) (text rest next : List ℕ) (number : ℕ) (line : Line) → IsRead up text rest number → number < 4294967295 → BeginsWith rest (spelling line) next
     → IsInPlace ((number + 1) == 1) line → (reason : Reason) → IsRefusedLine reason up line → IsFirstRefused text (number + 1) reason
@@ -211,7 +170,7 @@ pub heading_read : (text rest : List ℕ) (volume nodes devices areas : ℕ) →
 heading_read text rest volume nodes devices areas place begins = record {
   done = Heading volume nodes devices areas ∷ [];
   read = read_on text text rest [] (Heading volume nodes devices areas) tt (inl refl) begins;
-  are_done = (record { few = omega arith; in_place = place; served = place.1; heard = tt }, tt);
+  are_done = (record { few = omega arith; in_place = place; heard = tt }, tt);
   headed = omega arith;
   up_is = refl;
   count = refl;

@@ -5,7 +5,6 @@ use Rattle.std.specs.List.{AllByRecursion}
 use Rattle.std.proofs.lemmas.Bool.{ne_eqb}
 use Rattle.std.proofs.lemmas.List.{append-nil, length-append, length-map, length-reverse, reverse-append}
 use Rattle.bx_disk.specs.declared.noise.Noise.{Noise}
-use Rattle.bx_engine.specs.Calls.{IsBuiltCall}
 use Rattle.bx_script.specs.declared.line.Line.{Line}
 use Rattle.bx_script.specs.declared.line.Line.TheVariants.{Heading, Call, Run, Crash, Restart, Tick}
 use Rattle.bx_script.specs.declared.trace_line.TraceLine.{TraceLine}
@@ -19,8 +18,9 @@ use Rattle.bx_history.proofs.Ended.{ended_part}
 use Rattle.bx_history.proofs.Numbering.{taking_bound}
 use Rattle.bx_history.proofs.Waiting.{all_front, passed_part, quiet_part, taken_call}
 use Rattle.bx_model.specs.declared.tree.Tree.{Tree}
+use Rattle.bx_rpc.specs.Message.{is_message}
 use Rattle.bx_service.specs.Rounds.{Doubt}
-use Rattle.bx_replay.specs.Headline.{IsHeard, IsInPlace, rules, opening_of, Step, IsServedLine, is_message, is_up, up_after}
+use Rattle.bx_replay.specs.Headline.{IsHeard, IsInPlace, rules, opening_of, Step, is_up, up_after}
 use Rattle.bx_replay.specs.Replay.{IsDoubted, Stands, waits_at}
 use Rattle.bx_replay.proofs.Allowed.{done_push}
 use Rattle.bx_replay.proofs.TraceTexts.{trace_text-append}
@@ -70,14 +70,14 @@ up_more up up_then line lines done was then_is =
     then_is ∙ ap (up_after line) was ∙ sym (ap (λ (l : List Line). is_up (reverse l)) (schedule_of-cons line lines done) ∙ ap is_up (reverse-append (schedule_of done) (line ∷ [])))
 
 extended : (tree next : Tree) (up up_then : Bool) (waits waits_then : List traces.Taking) (doubt doubt_then : Option Doubt) (calls calls_then : ℕ) (line : Line) (lines : List TraceLine) (done : List Done) (start written text : List ℕ) (history : List traces.Entry)
-    → length done < 4294967295 → IsInPlace false line → IsServedLine line → IsHeard up line → up_then ≡ up_after line up → (stands : Stands tree up waits doubt calls done start written)
+    → length done < 4294967295 → IsInPlace false line → IsHeard up line → up_then ≡ up_after line up → (stands : Stands tree up waits doubt calls done start written)
     → AwaitsNewest Step rules (opening_of (schedule_of done)) (parts_of (record { line = line; lines = lines } ∷ done)) history next (waits_at waits_then)
     → calls_then ≡ traces.taken_count (lines ++ trace_of (parts_of done))
     → ((of : Doubt) → doubt_then ≡ Some of → IsDoubted (record { line = line; lines = lines } ∷ done) of)
     → AllByRecursion InTraceRange lines
     → text ≡ trace_text (reverse lines)
     → Stands next up_then waits_then doubt_then calls_then (record { line = line; lines = lines } ∷ done) start (written ++ text)
-extended tree next up up_then waits waits_then doubt doubt_then calls calls_then line lines done start written text history room place served heard then_is stands accounts counted doubted in_range text-is =
+extended tree next up up_then waits waits_then doubt doubt_then calls calls_then line lines done start written text history room place heard then_is stands accounts counted doubted in_range text-is =
     let more : schedule_of (record { line = line; lines = lines } ∷ done) ≡ schedule_of done ++ line ∷ [] = schedule_of-cons line lines done in
     let long : length (schedule_of done) ≡ length done = length_schedule done in
     let first : opening_of (schedule_of (record { line = line; lines = lines } ∷ done)) ≡ opening_of (schedule_of done) =
@@ -90,7 +90,7 @@ extended tree next up up_then waits waits_then doubt doubt_then calls calls_then
       up_is = up_more up up_then line lines done stands.up_is then_is;
       doubted = doubted;
       headed = rw more (omega (arith, length-append (schedule_of done) (line ∷ [])));
-      are_done = rw more (done_push (schedule_of done) line stands.headed (omega arith) stands.are_done place served hears);
+      are_done = rw more (done_push (schedule_of done) line stands.headed (omega arith) stands.are_done place hears);
       in_range = all_append InTraceRange lines (trace_of (parts_of done)) in_range stands.in_range;
       output = rw (reverse-append lines (trace_of (parts_of done)), trace_text-append (reverse (trace_of (parts_of done))) (reverse lines), ← text-is, stands.output) (append_assoc start (trace_text (reverse (trace_of (parts_of done)))) text);
     }
@@ -139,11 +139,11 @@ module _ (tree : Tree) (up : Bool) (waits : List traces.Taking) (doubt : Option 
   still_doubted : (line : Line) (of : Doubt) → doubt ≡ Some of → IsDoubted (record { line = line; lines = [] } ∷ done) of
   still_doubted line of is = let was = stands.doubted of is in record { of = was.of; lacks = was.lacks; since = inr (refl, was.since) }
 
-  pub stands_silent : (line : Line) (up_then : Bool) → IsSilent line → IsInPlace false line → IsServedLine line → IsHeard up line → up_then ≡ up_after line up
+  pub stands_silent : (line : Line) (up_then : Bool) → IsSilent line → IsInPlace false line → IsHeard up line → up_then ≡ up_after line up
       → Stands tree up_then waits doubt calls (record { line = line; lines = [] } ∷ done) start written
-  stands_silent line up_then silent place served heard then_is =
+  stands_silent line up_then silent place heard then_is =
       let accounts = silent_line (opening_of (schedule_of done)) tree done stands.history (waits_at waits) line silent stands.accounts in
-      let after = extended tree tree up up_then waits waits doubt doubt calls calls line [] done start written [] stands.history room place served heard then_is stands accounts stands.counted (still_doubted line) tt refl in
+      let after = extended tree tree up up_then waits waits doubt doubt calls calls line [] done start written [] stands.history room place heard then_is stands accounts stands.counted (still_doubted line) tt refl in
       rw append-nil at after
 
   -- ---- all machines crash
@@ -152,7 +152,7 @@ module _ (tree : Tree) (up : Bool) (waits : List traces.Taking) (doubt : Option 
   stands_crashed noise place =
       let ended = ended_part Step rules patient (opening_of (schedule_of done)) (parts_of done) stands.history tree (waits_at waits) None stands.accounts in
       let accounts = awaits_same (opening_of (schedule_of done)) (record { line = Crash noise; lines = [] } ∷ done) stands.history tree (λ _. []) (waits_at []) none_wait ended in
-      let after = extended tree tree up false waits [] doubt doubt calls calls (Crash noise) [] done start written [] stands.history room place tt tt refl stands accounts stands.counted (still_doubted (Crash noise)) tt refl in
+      let after = extended tree tree up false waits [] doubt doubt calls calls (Crash noise) [] done start written [] stands.history room place tt refl stands accounts stands.counted (still_doubted (Crash noise)) tt refl in
       rw append-nil at after
 
   -- ---- a datagram that is no call
@@ -161,22 +161,22 @@ module _ (tree : Tree) (up : Bool) (waits : List traces.Taking) (doubt : Option 
       → Stands tree up waits doubt calls (record { line = Call reading node client datagram; lines = [] } ∷ done) start written
   stands_ignored reading node client datagram heard none place =
       let accounts = passed_part Step rules patient (opening_of (schedule_of done)) (parts_of done) stands.history tree (waits_at waits) reading (record { node = node; client = client; bytes = datagram }) none stands.accounts in
-      let after = extended tree tree up up waits waits doubt doubt calls calls (Call reading node client datagram) [] done start written [] stands.history room place (place.1, inl none) heard refl stands accounts stands.counted
+      let after = extended tree tree up up waits waits doubt doubt calls calls (Call reading node client datagram) [] done start written [] stands.history room place heard refl stands accounts stands.counted
       (still_doubted (Call reading node client datagram)) tt refl in
       rw append-nil at after
 
   -- ---- a call that is taken
 
-  pub stands_taken : (reading client : ℕ) (datagram text : List ℕ) → up ≡ true → is_message datagram ≡ true → IsBuiltCall datagram → IsInPlace false (Call reading 0 client datagram)
+  pub stands_taken : (reading client : ℕ) (datagram text : List ℕ) → up ≡ true → is_message datagram ≡ true → IsInPlace false (Call reading 0 client datagram)
       → AllByRecursion InTraceRange (Took (calls + 1) 0 client datagram ∷ []) → text ≡ trace_text (Took (calls + 1) 0 client datagram ∷ [])
       → Stands tree up (waits ++ record { call = calls + 1; node = 0; client = client; bytes = datagram } ∷ []) doubt (calls + 1)
       (record { line = Call reading 0 client datagram; lines = Took (calls + 1) 0 client datagram ∷ [] } ∷ done) start (written ++ text)
-  stands_taken reading client datagram text heard message built place in_range text-is =
+  stands_taken reading client datagram text heard message place in_range text-is =
       let taking : traces.Taking = record { call = calls + 1; node = 0; client = client; bytes = datagram } in
       let number : calls + 1 ≡ traces.taken_count (trace_of (parts_of done)) + 1 = ap (λ (n : ℕ). n + 1) stands.counted in
       let taken = taken_call Step rules patient (opening_of (schedule_of done)) (parts_of done) stands.history tree (waits_at waits) reading taking message number stands.accounts in
       let accounts = awaits_same (opening_of (schedule_of done)) (record { line = Call reading 0 client datagram; lines = Took (calls + 1) 0 client datagram ∷ [] } ∷ done) stands.history tree _ _ more_wait taken in
-      extended tree tree up up waits _ doubt doubt calls (calls + 1) (Call reading 0 client datagram) _ done start written text stands.history room place (place.1, inr built) heard refl stands accounts
+      extended tree tree up up waits _ doubt doubt calls (calls + 1) (Call reading 0 client datagram) _ done start written text stands.history room place heard refl stands accounts
       (ap (λ (n : ℕ). n + 1) stands.counted ∙ omega arith) doubted_then in_range text-is
     where
       more_wait : (node : ℕ) → waits_with (record { call = calls + 1; node = 0; client = client; bytes = datagram }) (waits_at waits) node
@@ -209,7 +209,7 @@ module _ (tree : Tree) (up : Bool) (waits : List traces.Taking) (doubt : Option 
 
   -- the same at a node that is 0
   abbrev TakesAt : ℕ → Type 0
-  TakesAt node = (reading client : ℕ) (datagram text : List ℕ) → up ≡ true → is_message datagram ≡ true → IsBuiltCall datagram → IsInPlace false (Call reading node client datagram)
+  TakesAt node = (reading client : ℕ) (datagram text : List ℕ) → up ≡ true → is_message datagram ≡ true → IsInPlace false (Call reading node client datagram)
       → AllByRecursion InTraceRange (Took (calls + 1) node client datagram ∷ []) → text ≡ trace_text (Took (calls + 1) node client datagram ∷ [])
       → Stands tree up (waits ++ record { call = calls + 1; node = 0; client = client; bytes = datagram } ∷ []) doubt (calls + 1)
       (record { line = Call reading node client datagram; lines = Took (calls + 1) node client datagram ∷ [] } ∷ done) start (written ++ text)

@@ -1,13 +1,11 @@
 -- The headline: what a trace along a schedule says of the file tree.
-use Rattle.std.specs.Prelude.{◌≡◌, ◌⊎◌, ℕ, ◌&&◌, nat_le, Bool, true, false, List, [], ◌∷◌, ◌++◌, length, take, drop}
-use Rattle.std.specs.Str.{bytes_eq}
+use Rattle.std.specs.Prelude.{◌≡◌, ℕ, Bool, true, false, List, [], ◌∷◌, ◌++◌}
 use Rattle.std.specs.List.{AllByRecursion}
 use Rattle.bx_script.specs.declared.line.Line.{Line}
 use Rattle.bx_script.specs.declared.line.Line.TheVariants.{Heading, Call, Run, Crash, Restart, Tick}
 use Rattle.bx_script.specs.declared.trace_line.TraceLine.{TraceLine}
 use Rattle.bx_script.specs.Schedule.{HasPlace}
 use Rattle.bx_script.specs.TraceText.{InTraceRange}
-use Rattle.bx_engine.specs.Calls.{IsBuiltCall}
 use Rattle.bx_history.specs.Trace as traces
 use Rattle.bx_history.specs.Legal.{Leads}
 use Rattle.bx_history.specs.Placed.{Rules}
@@ -17,10 +15,7 @@ use Rattle.bx_model.specs.declared.tree.Tree.{Tree}
 use Rattle.bx_model.specs.Opening.{opening}
 use Rattle.bx_model.specs.History.{IsStep}
 use Rattle.bx_nfs.specs.Wire.{ReadsAs, reply_text}
-
--- whether a datagram is a call's (RFC 5531, section 9): it has 8 to 9216 bytes, of which the second word is CALL (0)
-abbrev pub is_message : List ℕ → Bool
-is_message datagram = nat_le (length datagram) 9216 && bytes_eq (take 4 (drop 4 datagram)) (0 ∷ 0 ∷ 0 ∷ 0 ∷ [])
+use Rattle.bx_rpc.specs.Message.{is_message}
 
 -- Every datagram that is a call is taken, and nothing is promised of when it is answered; no answer is kept for repeats.
 abbrev pub rules : Rules
@@ -84,15 +79,6 @@ IsBuilt (Tick reading) = Unit {0}
 -- such a line, in its place
 abbrev pub IsInPlace : Bool → Line → Type 0
 IsInPlace first line = HasPlace first line × IsBuilt line
-
--- such a line of which the datagram, if it has one, is no call, or one that is served
-abbrev pub IsServedLine : Line → Type 0
-IsServedLine (Heading volume nodes devices areas) = IsBuilt (Heading volume nodes devices areas)
-IsServedLine (Call reading node client datagram) = IsBuilt (Call reading node client datagram) × ((is_message datagram ≡ false) ⊎ IsBuiltCall datagram)
-IsServedLine (Run reading limit) = Unit {0}
-IsServedLine (Crash noise) = Unit {0}
-IsServedLine (Restart reading) = Unit {0}
-IsServedLine (Tick reading) = Unit {0}
 
 -- whether the machines are up after a line, by whether they were before it
 abbrev pub up_after : Line → Bool → Bool

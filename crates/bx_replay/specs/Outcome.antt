@@ -2,7 +2,6 @@
 use Rattle.std.specs.Prelude.{◌≡◌, ◌≢◌, ℕ, ◌+◌, ◌<◌, ◌≤◌, ◌==◌, Bool, true, false, List, [], ◌∷◌, ◌++◌, length, map, reverse, codes, ◌⊎◌}
 use Rattle.bx_base.specs.Text.{LacksFeed, ended, text_of, lines_of}
 use Rattle.bx_script.specs.declared.line.Line.{Line}
-use Rattle.bx_script.specs.declared.line.Line.TheVariants.{Call}
 use Rattle.bx_script.specs.declared.trace_line.TraceLine.{TraceLine}
 use Rattle.bx_script.specs.ScheduleLine.{spelling}
 use Rattle.bx_script.specs.TraceText.{trace_text}
@@ -10,17 +9,15 @@ use Rattle.bx_script.specs.Schedule.{IsSchedule}
 use Rattle.bx_history.specs.Along.{AllowedNewest}
 use Rattle.bx_model.specs.declared.tree.Tree.{Tree}
 use Rattle.bx_model.specs.Listing.{listing}
-use Rattle.bx_engine.specs.Calls.{IsBuiltCall}
 use Rattle.bx_replay.specs.declared.stop.Reason.{Reason}
-use Rattle.bx_replay.specs.declared.stop.Reason.TheVariants.{Grammar, NotBuilt, Down}
-use Rattle.bx_replay.specs.Headline.{Asks, Headline, IsHeard, IsInPlace, IsServedLine, is_message, is_up}
+use Rattle.bx_replay.specs.declared.stop.Reason.TheVariants.{Grammar, Down}
+use Rattle.bx_replay.specs.Headline.{Asks, Headline, IsHeard, IsInPlace, is_up}
 
 -- A line may be done behind these, the newest of which comes first: there is room for it, it has its place and is one of this stage,
--- and its datagram, if it has one, is no call, or one that is served, and comes while the machines are up.
+-- and if a machine has to hear it, it comes while the machines are up.
 pub record Allows (before : List Line) (line : Line) : Type 0 where
   pub few : length before < 4294967295
   pub in_place : IsInPlace (length before == 0) line
-  pub served : IsServedLine line
   pub heard : IsHeard (is_up before) line
 
 -- the lines that a replay has done, the oldest first: each was allowed behind those before it
@@ -32,14 +29,14 @@ abbrev pub closing_text : List TraceLine → Tree → List ℕ
 closing_text closing tree = ended (codes "end") ++ (trace_text closing ++ listing tree)
 
 -- The text is a schedule each line of which may be done behind those before it.
-pub record IsServedSchedule (text : List ℕ) : Type 0 where
+pub record IsPlayable (text : List ℕ) : Type 0 where
   pub schedule : List Line
   pub read : IsSchedule (lines_of text) schedule
   pub are_done : AreDone schedule
 
 -- The output is the trace of such a text, `end`, and the listing of the tree after it, which stands so.
 pub record IsReplayed (text : List ℕ) (Stands : Tree → Type 0) (output : List ℕ) : Type 0 where
-  pub input : IsServedSchedule text
+  pub input : IsPlayable text
   pub trace : List TraceLine
   pub closing : List TraceLine
   pub last : Tree
@@ -55,29 +52,15 @@ pub record IsUnheard (first : Bool) (up : Bool) (line : List ℕ) : Type 0 where
   pub spelled : line ≡ spelling value
   pub down : up ≡ false
 
--- a call that comes while they are up, and isn't served
-pub record IsUnserved (first : Bool) (up : Bool) (line : List ℕ) : Type 0 where
-  pub reading : ℕ
-  pub node : ℕ
-  pub client : ℕ
-  pub datagram : List ℕ
-  pub in_place : IsInPlace first (Call reading node client datagram)
-  pub spelled : line ≡ spelling (Call reading node client datagram)
-  pub heard : up ≡ true
-  pub message : is_message datagram ≡ true
-  pub unserved : IsBuiltCall datagram → ⊥
-
 -- A line of text is refused behind these lines, for a reason. The text decides that it is outside the grammar: no line of this stage
--- that has its place there is spelled so, or there is no room for one. A line in the grammar is refused for what it asks, or because nobody is there to hear it.
+-- that has its place there is spelled so, or there is no room for one. A line in the grammar is refused because nobody is there to hear it.
 abbrev pub Refuses : List Line → List ℕ → Reason → Type 0
 Refuses before text Grammar = (4294967295 ≤ length before) ⊎ ((value : Line) → IsInPlace (length before == 0) value → text ≢ spelling value)
-Refuses before text NotBuilt = (length before < 4294967295) × IsUnserved (length before == 0) (is_up (reverse before)) text
 Refuses before text Down = (length before < 4294967295) × IsUnheard (length before == 0) (is_up (reverse before)) text
 
 -- Behind the lines that were done, the next one is refused. An empty schedule lacks its first line.
 abbrev pub IsRefusedAt : List Line → List (List ℕ) → Reason → Type 0
 IsRefusedAt done [] Grammar = done ≡ []
-IsRefusedAt done [] NotBuilt = ⊥
 IsRefusedAt done [] Down = ⊥
 IsRefusedAt done (line ∷ lines) reason = Refuses done line reason
 

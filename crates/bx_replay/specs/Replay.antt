@@ -4,7 +4,6 @@ use Rattle.std.specs.List.{AllByRecursion}
 use Rattle.bx_base.specs.declared.names.Point.{Point}
 use Rattle.bx_base.specs.Faults.{Rose}
 use Rattle.bx_base.specs.Text.{LacksFeed, BeginsWith, lines_of}
-use Rattle.bx_engine.specs.Calls.{IsBuiltCall}
 use Rattle.bx_script.specs.declared.line.Line.{Line}
 use Rattle.bx_script.specs.declared.line.Line.TheVariants.{Heading, Call, Run, Crash, Restart, Tick}
 use Rattle.bx_script.specs.declared.trace_line.TraceLine.{TraceLine}
@@ -22,11 +21,11 @@ use Rattle.bx_service.specs.Rounds.{Doubt, Tells}
 use Rattle.bx_service.specs.declared.event.Event.{Event}
 use Rattle.bx_service.specs.declared.event.Event.TheVariants.{Answered, Found}
 use Rattle.bx_replay.specs.declared.stop.Reason.{Reason}
-use Rattle.bx_replay.specs.declared.stop.Reason.TheVariants.{Grammar, NotBuilt, Down}
+use Rattle.bx_replay.specs.declared.stop.Reason.TheVariants.{Grammar, Down}
 use Rattle.bx_replay.specs.declared.stop.Stop.{Stop}
 use Rattle.bx_replay.specs.declared.stop.Stop.TheVariants as stops
-use Rattle.bx_replay.specs.Headline.{Asks, rules, opening_of, IsHeard, IsInPlace, IsServedLine, Step, is_message, is_up, up_after}
-use Rattle.bx_replay.specs.Outcome.{AreDone, IsBroken, IsCut, IsCutOff, IsFirstRefused, IsReadTo, IsRefused, IsReplayed, IsServedSchedule, closing_text}
+use Rattle.bx_replay.specs.Headline.{Asks, rules, opening_of, IsHeard, IsInPlace, Step, is_up, up_after}
+use Rattle.bx_replay.specs.Outcome.{AreDone, IsBroken, IsCut, IsCutOff, IsFirstRefused, IsReadTo, IsRefused, IsPlayable, IsReplayed, closing_text}
 
 -- the calls that wait at each node, the newest first: all of them wait at node 0
 abbrev pub waits_at : List traces.Taking → ℕ → List traces.Taking
@@ -130,29 +129,19 @@ pub record BreaksAfter (line : Line) (done : List Done) (start written : List �
   pub added : written ≡ start ++ output
   pub after : Stands tree up waits doubt calls (record { line = line; lines = lines } ∷ done) start (written ++ more)
 
--- a line of a call that isn't served
-abbrev pub IsUnservedLine : Line → Type 0
-IsUnservedLine (Heading volume nodes devices areas) = ⊥
-IsUnservedLine (Call reading node client datagram) = (is_message datagram ≡ true) × (IsBuiltCall datagram → ⊥)
-IsUnservedLine (Run reading limit) = ⊥
-IsUnservedLine (Crash noise) = ⊥
-IsUnservedLine (Restart reading) = ⊥
-IsUnservedLine (Tick reading) = ⊥
-
 -- a line is refused for this reason where the machines are up or not
 abbrev pub IsRefusedLine : Reason → Bool → Line → Type 0
 IsRefusedLine Grammar up line = ⊥
-IsRefusedLine NotBuilt up line = (up ≡ true) × IsUnservedLine line
 IsRefusedLine Down up line = (up ≡ false) × Asks line
 
--- a line that is done is served and heard, and the machines are up or not after it; and a line that is refused isn't
-abbrev pub Serves : Result (Unit {0}) Stop → Bool → Bool → Line → Type 0
-Serves (Ok _) up now line = IsServedLine line × IsHeard up line × (now ≡ up_after line up)
-Serves (Err (stops.Refused number reason)) up now line = IsRefusedLine reason up line
-Serves (Err stops.ReadFault) up now line = Unit {0}
-Serves (Err stops.WriteFault) up now line = Unit {0}
-Serves (Err stops.DiskFault) up now line = Unit {0}
-Serves (Err stops.OutOfMemory) up now line = Unit {0}
+-- a line that is done is heard, and the machines are up or not after it; and a line that is refused isn't
+abbrev pub Hears : Result (Unit {0}) Stop → Bool → Bool → Line → Type 0
+Hears (Ok _) up now line = IsHeard up line × (now ≡ up_after line up)
+Hears (Err (stops.Refused number reason)) up now line = IsRefusedLine reason up line
+Hears (Err stops.ReadFault) up now line = Unit {0}
+Hears (Err stops.WriteFault) up now line = Unit {0}
+Hears (Err stops.DiskFault) up now line = Unit {0}
+Hears (Err stops.OutOfMemory) up now line = Unit {0}
 
 -- what doing a line leaves, by what it leaves where it is done, and by what was written before and now
 abbrev pub DoesLine : Result (Unit {0}) Stop → Type 0 → Line → List Done → List ℕ → List ℕ → List ℕ → Type 0
@@ -302,7 +291,7 @@ pub record Wrote (old new : List ℕ) (P : List ℕ → Type 0) : Type 0 where
 -- What a replay leaves, by what it was given and what is left of that; and, where the sink tells, by what that had and has. The tree
 -- that a replay to the end leaves stands on the bench so.
 abbrev pub Leaves : Type 0 → (Tree → Type 0) → Result (Unit {0}) Stop → List ℕ → List ℕ → List ℕ → List ℕ → Type 0
-Leaves Tells Stands (Ok _) text left old new = IsServedSchedule text × (left ≡ []) × (Tells → Wrote old new (IsReplayed text Stands))
+Leaves Tells Stands (Ok _) text left old new = IsPlayable text × (left ≡ []) × (Tells → Wrote old new (IsReplayed text Stands))
 Leaves Tells Stands (Err (stops.Refused number reason)) text left old new = IsFirstRefused text number reason × (Tells → Wrote old new (IsRefused text number reason))
 Leaves Tells Stands (Err stops.ReadFault) text left old new = IsCut text left × (Tells → Wrote old new (IsCutOff text left))
 Leaves Tells Stands (Err stops.WriteFault) text left old new = Tells → Wrote old new (IsBroken text)

@@ -2,12 +2,12 @@
 
 ghost use Rattle.std.specs.Prelude.{◌≡◌, ◌≤◌, ◌<◌, ◌+◌, ◌^◌, [], List, ℕ, length, IfErr, OnOk, Option, true, false};
 ghost use Rattle.bx_disk.specs.Disks.{Disks};
-ghost use Rattle.bx_engine.specs.Calls.{IsBuiltCall};
 ghost use Rattle.bx_history.specs.Along.{Done};
 ghost use Rattle.bx_model.specs.declared.tree.Tree.{Tree};
 ghost use Rattle.bx_script.specs.declared.line.Line.TheVariants.{Call as CallLine, Tick as TickLine};
-ghost use Rattle.bx_replay.specs.Headline.{IsInPlace, is_message as is_call};
-ghost use Rattle.bx_replay.specs.Replay.{DoesLine, HasPrintCause, HasStepCause, Serves, Stands, StandsAfter, UnlessWrite};
+ghost use Rattle.bx_replay.specs.Headline.{IsInPlace};
+ghost use Rattle.bx_replay.specs.Replay.{DoesLine, HasPrintCause, HasStepCause, Hears, Stands, StandsAfter, UnlessWrite};
+ghost use Rattle.bx_rpc.specs.Message.{is_message as is_call};
 ghost use Rattle.bx_service.specs.Rounds.{Doubt};
 
 use crate::print::print_lines;
@@ -16,15 +16,10 @@ use crate::stop::{Reason, Stop};
 use bx_base::Raw;
 use bx_disk::{CrashRack, Rack};
 use bx_outside::Sink;
+use bx_rpc::is_message;
 use bx_script::{Line, TraceLine};
 use bx_service::Service;
 use std::alloc::Global;
-
-/// The greatest length of a datagram that is a call's, in bytes.
-const LONGEST_DATAGRAM: usize = 9216;
-
-/// The word that makes a message a call (RFC 5531, section 9).
-const CALL: [u8; 4] = [0; 4];
 
 impl<M: Service> Replay<M> {
     /// Does a line behind the heading: a call is taken, and a datagram that is none is passed over; a run does rounds; all crash, or come back; a clock ticks.
@@ -47,7 +42,7 @@ impl<M: Service> Replay<M> {
         ensures holds { (tree : Tree) (doubt : Option Doubt) → B.tells bench.old → M.holds self.old.service (B.state bench.old) tree doubt → OnOk result ((next : Tree) × (now : Option Doubt) × M.holds self.new.service (B.state bench.new) next now) }
         ensures latest { OnOk result (M.latest self.new.service ≡ self.new.calls) }
         ensures ready { OnOk result (M.ready self.new.service (B.state bench.new).sizes) }
-        ensures serves { Serves result (M.up self.old.service) (M.up self.new.service) line }
+        ensures hears { Hears result (M.up self.old.service) (M.up self.new.service) line }
         ensures ticks { (reading : ℕ) → line ≡ TickLine reading → M.waits self.old.service ≡ [] → OnOk result (M.tidies self.new.service ≡ true) }
         ensures cause { IfErr result (λ stop. HasStepCause stop number (K.faults out.old) (K.faults out.new)) }
         ensures first { UnlessWrite result (K.faults out.new ≡ K.faults out.old) }
@@ -92,7 +87,7 @@ impl<M: Service> Replay<M> {
             → Stands tree (M.up self.old.service) (M.waits self.old.service) doubt self.old.calls done start (K.written out.old)
             → DoesLine result (StandsAfter (M.holds self.new.service x) (M.up self.new.service) (M.waits self.new.service) self.new.calls (CallLine reading node client datagram) done start (K.written out.new)) (CallLine reading node client datagram) done start (K.written out.old) (K.written out.new) }
         ensures holds { (x : Disks) (tree : Tree) (doubt : Option Doubt) → M.ready self.old.service x.sizes → M.holds self.old.service x tree doubt → OnOk result (M.holds self.new.service x tree doubt) }
-        ensures serves { (reading : ℕ) → IsInPlace false (CallLine reading node client datagram) → Serves result (M.up self.old.service) (M.up self.new.service) (CallLine reading node client datagram) }
+        ensures hears { (reading : ℕ) → Hears result (M.up self.old.service) (M.up self.new.service) (CallLine reading node client datagram) }
         ensures cause { IfErr result (λ stop. HasStepCause stop number (K.faults out.old) (K.faults out.new)) }
         ensures first { UnlessWrite result (K.faults out.new ≡ K.faults out.old) }
         ensures calls { self.new.calls ≤ self.old.calls + 1 }
@@ -104,9 +99,6 @@ impl<M: Service> Replay<M> {
         }
         if !is_message(datagram.bytes()) {
             return Ok(());
-        }
-        if !M::takes(alloc, datagram.bytes())? {
-            return Err(Stop::Refused(number, Reason::NotBuilt));
         }
         self.take(alloc, node, client, datagram, out)
     }
@@ -121,7 +113,6 @@ impl<M: Service> Replay<M> {
         out: &mut K,
     ) -> Result<(), Stop>
         requires up { M.up self.old.service ≡ true }
-        requires built { IsBuiltCall datagram }
         requires message { is_call datagram ≡ true }
         requires node { node ≡ 0 }
         requires few { self.old.calls < 2 ^ 32 }
@@ -152,15 +143,5 @@ impl<M: Service> Replay<M> {
         self.service.arrive(call, client, bytes)?;
         self.calls = call;
         Ok(())
-    }
-}
-
-/// Whether a datagram is a call's: it has at least two words, of which the second is CALL, and isn't too long.
-fn is_message(datagram: &[u8]) -> bool
-    ensures { result ≡ is_call datagram.now }
-{
-    match datagram.get(4..8) {
-        Some(word) => datagram.len() <= LONGEST_DATAGRAM && word == CALL.as_slice(),
-        None => false,
     }
 }

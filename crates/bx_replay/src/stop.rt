@@ -12,9 +12,6 @@ pub enum Reason {
     /// It is outside the grammar, or not in its place.
     #[error("grammar")]
     Grammar,
-    /// It is a call that isn't served yet.
-    #[error("not built")]
-    NotBuilt,
     /// It is a call or a tick, and its node is down.
     #[error("down")]
     Down,

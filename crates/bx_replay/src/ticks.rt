@@ -6,7 +6,7 @@ ghost use Rattle.bx_history.specs.Along.{Done};
 ghost use Rattle.bx_model.specs.declared.tree.Tree.{Tree};
 ghost use Rattle.bx_script.specs.declared.line.Line.TheVariants.{Tick as TickLine};
 ghost use Rattle.bx_replay.specs.Headline.{IsInPlace};
-ghost use Rattle.bx_replay.specs.Replay.{DoesLine, HasStepCause, Serves, Stands, StandsAfter};
+ghost use Rattle.bx_replay.specs.Replay.{DoesLine, HasStepCause, Hears, Stands, StandsAfter};
 ghost use Rattle.bx_service.specs.Rounds.{Doubt};
 
 use crate::state::Replay;
@@ -22,7 +22,7 @@ impl<M: Service> Replay<M> {
         ensures holds { (x : Disks) (tree : Tree) (doubt : Option Doubt) → M.holds self.old.service x tree doubt → M.holds self.new.service x tree doubt }
         ensures begins { M.waits self.old.service ≡ [] → OnOk result (M.tidies self.new.service ≡ true) }
         ensures busy { M.waits self.old.service ≢ [] → OnOk result (M.tidies self.new.service ≡ M.tidies self.old.service) }
-        ensures serves { (reading : ℕ) → Serves result (M.up self.old.service) (M.up self.new.service) (TickLine reading) }
+        ensures hears { (reading : ℕ) → Hears result (M.up self.old.service) (M.up self.new.service) (TickLine reading) }
         ensures cause { (before now : ℕ) → IfErr result (λ stop. HasStepCause stop number before now) }
         ensures latest { M.latest self.new.service ≡ M.latest self.old.service }
         ensures ready { (sizes : List ℕ) → M.ready self.old.service sizes → M.ready self.new.service sizes }

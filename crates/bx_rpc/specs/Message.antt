@@ -1,5 +1,6 @@
 -- Messages (RFC 5531, section 9), and what is said of a call before its arguments.
-use Rattle.std.specs.Prelude.{◌≡◌, ℕ, ◌+◌, ◌<◌, ◌≤◌, List, [], ◌∷◌, length, drop, ◌⊎◌}
+use Rattle.std.specs.Prelude.{◌≡◌, ℕ, ◌+◌, ◌<◌, ◌≤◌, ◌&&◌, nat_le, Bool, List, [], ◌∷◌, length, take, drop, ◌⊎◌}
+use Rattle.std.specs.Str.{bytes_eq}
 use Rattle.bx_xdr.specs.Items.{SpellsWords, Reads}
 use Rattle.bx_rpc.specs.declared.caller.Caller.{Caller}
 use Rattle.bx_rpc.specs.declared.opened.Opened.{Opened}
@@ -10,6 +11,10 @@ use Rattle.bx_rpc.specs.Checks.Verdict.{refused, passed}
 pub record IsCall (datagram : List ℕ) (xid : ℕ) (text : List ℕ) : Type 0 where
   pub short : length datagram ≤ 9216
   pub reads : Reads (SpellsWords 2 (xid ∷ 0 ∷ [])) datagram text
+
+-- whether bytes are such a datagram: there are 8 to 9216, of which the second word is CALL
+abbrev pub is_message : List ℕ → Bool
+is_message datagram = nat_le (length datagram) 9216 && bytes_eq (take 4 (drop 4 datagram)) (0 ∷ 0 ∷ 0 ∷ 0 ∷ [])
 
 -- The number of a refusal is 1 to 7. The reply to one of number 3 goes by the program, and no other does.
 pub record IsRefusal (number by : ℕ) : Type 0 where

@@ -9,7 +9,7 @@ mod opened;
 mod replies;
 mod stop;
 
-pub use laws::{one_opening, refusals};
+pub use laws::{messages, one_opening, passes, refusals};
 pub use numbers::{MOUNT_PROGRAM, MOUNT_VERSION, NFS_PROGRAM, NFS_VERSION, NOBODY};
-pub use opened::{Opened, opens};
+pub use opened::{Opened, is_message, opens};
 pub use replies::{accepted, refused};

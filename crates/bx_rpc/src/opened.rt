@@ -1,7 +1,7 @@
 //! Calls up to their arguments.
 
-ghost use Rattle.std.specs.Prelude.{◌≡◌, ℕ, List, [], IfOk, IfSome, IfNone};
-ghost use Rattle.bx_rpc.specs.Message.{IsCall, Opens};
+ghost use Rattle.std.specs.Prelude.{◌≡◌, ℕ, List, [], true, false, IfOk, IfSome, IfNone};
+ghost use Rattle.bx_rpc.specs.Message.{IsCall, Opens, is_message as is_call};
 
 use crate::caller::Caller;
 use crate::checks::{Header, read_header};
@@ -44,6 +44,8 @@ pub struct Opened {
 pub fn opens(alloc: Global, datagram: &[u8]) -> Result<Option<Opened>, OutOfMemory>
     ensures found { IfOk result (λ found. IfSome found (Opens datagram.now)) }
     ensures none { IfOk result (λ found. IfNone found ((xid : ℕ) (text : List ℕ) → IsCall datagram.now xid text → ⊥)) }
+    ensures message { IfOk result (λ found. IfSome found (λ opened. is_call datagram.now ≡ true)) }
+    ensures no_message { IfOk result (λ found. IfNone found (is_call datagram.now ≡ false)) }
 {
     let Some((xid, text)) = call_of(datagram) else {
         return Ok(None);
@@ -56,6 +58,16 @@ pub fn opens(alloc: Global, datagram: &[u8]) -> Result<Option<Opened>, OutOfMemo
         }
         Err(Stop::Refused(number, program)) => Ok(Some(refused(alloc, xid, number, program))),
         Err(Stop::OutOfMemory) => Err(OutOfMemory),
+    }
+}
+
+/// Whether a datagram is a call's: it has at least two words, of which the second is CALL, and isn't too long.
+pub fn is_message(datagram: &[u8]) -> bool
+    ensures { result ≡ is_call datagram.now }
+{
+    match datagram.get(4..8) {
+        Some(word) => datagram.len() <= LONGEST_DATAGRAM && word == CALL.to_be_bytes().as_slice(),
+        None => false,
     }
 }
 

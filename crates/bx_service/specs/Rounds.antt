@@ -4,7 +4,7 @@ use Rattle.std.specs.List.{AllByRecursion}
 use Rattle.bx_audit.specs.Audited.{AreOpen, StandFor}
 use Rattle.bx_base.specs.declared.names.Point.{Point}
 use Rattle.bx_disk.specs.Disks.{Disks, IsImage}
-use Rattle.bx_engine.specs.Steps.{Step}
+use Rattle.bx_steps.specs.Steps.{Step}
 use Rattle.bx_global.specs.Opening.{opening_state}
 use Rattle.bx_history.specs.Trace.{Taking}
 use Rattle.bx_model.specs.declared.tree.Tree.{Tree}

@@ -1,13 +1,13 @@
 //! Services.
 
-ghost use Rattle.std.specs.Prelude.{◌≡◌, ◌≢◌, ◌↔◌, ◌<◌, ◌≤◌, ◌++◌, ◌∷◌, [], ℕ, Bool, true, false, List, Option, None, IfOk, IsErrOf, IsTrue, OnOk};
+ghost use Rattle.std.specs.Prelude.{◌≡◌, ◌≢◌, ◌<◌, ◌≤◌, ◌++◌, ◌∷◌, [], ℕ, Bool, true, false, List, Option, None, IfOk, IsErrOf, IsTrue, OnOk};
 ghost use Rattle.bx_base.specs.Faults.{Rose};
 ghost use Rattle.bx_disk.specs.declared.fault.RackError.TheVariants.{Fault, OutOfMemory as NoMemory};
 ghost use Rattle.bx_disk.specs.Disks.{Disks};
-ghost use Rattle.bx_engine.specs.Calls.{IsBuiltCall};
 ghost use Rattle.bx_history.specs.Trace.{Taking};
 ghost use Rattle.bx_model.specs.declared.tree.Tree.{Tree};
 ghost use Rattle.bx_model.specs.Opening.{opening};
+ghost use Rattle.bx_rpc.specs.Message.{is_message};
 ghost use Rattle.bx_service.specs.Rounds.{Doubt, IsCrashed, Restarts, Rounds, Shows};
 
 use crate::event::Event;
@@ -53,18 +53,14 @@ pub trait Service: Drop {
         ensures later { B.faults bench.old ≤ B.faults bench.new }
         ensures keeps_telling { B.tells bench.old → B.tells bench.new };
 
-    /// Whether a datagram is a call that it takes.
-    fn takes(alloc: Global, datagram: &[u8]) -> Result<bool, OutOfMemory>
-        ensures { IfOk result (λ is. IsTrue is ↔ IsBuiltCall datagram.now) };
-
     /// Whether it is up.
     fn is_up(&self) -> bool
         ensures { result ≡ up self.now };
 
-    /// A call that it takes comes, with its number, and waits behind all others.
+    /// A call comes, as a datagram, with its number, and waits behind all others.
     fn arrive(&mut self, call: CallNo, client: u32, datagram: Raw) -> Result<(), OutOfMemory>
         requires up { up self.old ≡ true }
-        requires built { IsBuiltCall datagram }
+        requires message { is_message datagram ≡ true }
         requires later { latest self.old < call }
         ensures latest { OnOk result (latest self.new ≡ call) }
         ensures up { OnOk result (up self.new ≡ true) }

@@ -6,9 +6,10 @@ ghost use Rattle.bx_lone_machine.specs.Machine.{IsReady, latest_of};
 use bx_base::{CallNo, OutOfMemory, Raw};
 use bx_disk::Rack;
 use bx_lone_machine::{Acted, LoneMachine, Waiting};
+use bx_rpc::is_message;
 use std::alloc::Global;
 
-/// Client 5 sends a call. Whether it is one that is built.
+/// Client 5 sends a datagram. Whether it is a call.
 pub(crate) fn sends(
     alloc: Global,
     machine: &mut LoneMachine,
@@ -19,7 +20,7 @@ pub(crate) fn sends(
     ensures ready { (sizes : List ℕ) → IsReady machine.old sizes → OnOk result (IsReady machine.new sizes) }
     ensures latest { OnOk result (latest_of machine.new ≤ number) }
 {
-    if !LoneMachine::takes(alloc, bytes)? {
+    if !is_message(bytes) {
         return Ok(false);
     }
     let datagram = Raw::of(alloc, bytes)?;

@@ -1,7 +1,7 @@
 use Rattle.std.proofs.Common.{refl, subst, sym}
 use Rattle.std.proofs.lemmas.Result.{IfOk-weaker}
 use Rattle.bx_attempts.proofs.Fairness.{inner_fair}
-use Rattle.bx_attempts.specs.Steps.{StandsWith}
+use Rattle.bx_steps.specs.Steps.{StandsWith}
 use Rattle.bx_clean.specs.Tidying.{IsClean, NeedsFor, OnTidyPath, TidiesIn}
 use Rattle.bx_clean.specs.declared.tidying.Tidied.TheVariants.{Need, Inner, Clean}
 use Rattle.bx_inodes.specs.declared.stop.Stop.TheVariants as stops

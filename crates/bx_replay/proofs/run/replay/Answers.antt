@@ -70,7 +70,7 @@ lines-preserved g c =
       read = λ source_tells.
           let begins = rw c.in-Some.is at (c.in_ok-line.ensures.gives (c.lines.invariant.source_tells source_tells)) in
           let place = rw c.in-Some.is at c.in_ok-line.ensures.in_place in
-          reads_on _ _ _ _ _ c.lines.number c.in-Some.line (c.lines.invariant.read source_tells) (omega (arith, few)) begins place c.in_ok-step.ensures.serves;
+          reads_on _ _ _ _ _ c.lines.number c.in-Some.line (c.lines.invariant.read source_tells) (omega (arith, few)) begins place c.in_ok-step.ensures.hears;
       going = λ source_tells sink_tells bench_tells.
           let going = c.lines.invariant.going source_tells sink_tells bench_tells in
           let begins = rw c.in-Some.is at (c.in_ok-line.ensures.gives (c.lines.invariant.source_tells source_tells)) in
@@ -86,7 +86,7 @@ returns-in_err-step-clause-leaves g c = λ source_tells.
     let place = rw c.in-Some.is at c.in_ok-line.ensures.in_place in
     rw (p.1, p.2) (step_stops (g.K.Sink.tells c.args.out.now × g.B.Rack.tells c.args.bench.now) (IsHeldBy (g.B.Rack.state c.step.new.bench)) _ _ _ _ _ c.in_err-step.field-0.0 _ _ _ _ _ _ _ c.lines.number c.in-Some.line _ _
     (c.lines.invariant.read source_tells) (λ tells. c.lines.invariant.going source_tells tells.0 tells.1) (omega (arith, few)) begins place
-    c.in_err-step.ensures.cause _ c.in_err-step.ensures.serves
+    c.in_err-step.ensures.cause _ c.in_err-step.ensures.hears
     (λ tells.
     let going = c.lines.invariant.going source_tells tells.0 tells.1 in
     c.in_err-step.ensures.does going.tree going.doubt going.done _ (c.lines.invariant.sink_tells tells.0) (c.lines.invariant.bench_tells tells.1) going.holds (omega (arith, going.count, few)) going.stands))

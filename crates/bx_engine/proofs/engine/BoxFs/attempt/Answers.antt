@@ -6,31 +6,31 @@ use Rattle.bx_engine.proofs.engine.BoxFs.attempt.Goals as goal
 pub returns-clause-gives : goal.returns-clause-gives
 returns-clause-gives g c = λ truth tree same s.
     let found = rw c.in-Some.is at c.in_ok-xid.ensures.found in
-    c.in_ok-attempt.ensures.gives c.args.client c.args.call.now truth tree found.0 same s
+    c.in_ok-attempt.ensures.gives c.args.client c.args.call.now truth tree found same s
 
 pub returns-clause-fair : goal.returns-clause-fair
 returns-clause-fair g c =
     let found = rw c.in-Some.is at c.in_ok-xid.ensures.found in
     let fs = c.args.self.now in
-    fair_along (PathOf (g.V.View.held c.args.view.now) (g.V.View.hints c.args.view.now) fs.volume fs.areas c.in-Some.read.procedure c.in-Some.read.args) (IsOnPath (g.V.View.held c.args.view.now) (g.V.View.hints c.args.view.now) fs.volume fs.areas c.args.call.now) (on_path c.args.call.now c.in-Some.xid c.in-Some.read found.0 (g.V.View.held c.args.view.now) (g.V.View.hints c.args.view.now) fs.volume fs.areas)
+    fair_along (PathOf (g.V.View.held c.args.view.now) (g.V.View.hints c.args.view.now) fs.volume fs.areas c.in-Some.read.procedure c.in-Some.read.args) (IsOnPath (g.V.View.held c.args.view.now) (g.V.View.hints c.args.view.now) fs.volume fs.areas c.args.call.now) (on_path c.args.call.now c.in-Some.xid c.in-Some.read found (g.V.View.held c.args.view.now) (g.V.View.hints c.args.view.now) fs.volume fs.areas)
     fs.areas (g.V.View.held c.args.view.now) c.in_ok-attempt.attempt c.in_ok-attempt.ensures.fair
 
 pub returns-clause-at_once : goal.returns-clause-at_once
 returns-clause-at_once g c = λ once.
     let found = rw c.in-Some.is at c.in_ok-xid.ensures.found in
-    c.in_ok-attempt.ensures.at_once (at_once_as c.args.call.now c.in-Some.xid c.in-Some.read found.0 once)
+    c.in_ok-attempt.ensures.at_once (at_once_as c.args.call.now c.in-Some.xid c.in-Some.read found once)
 
 pub returns-clause-tells : goal.returns-clause-tells
 returns-clause-tells g c = λ reading other.
     let found = rw c.in-Some.is at c.in_ok-xid.ensures.found in
-    c.in_ok-attempt.ensures.tells (reading_as c.args.call.now c.in-Some.xid c.in-Some.read found.0 reading) (λ at asks. other at (space_as c.args.call.now c.in-Some.xid c.in-Some.read found.0 at asks))
+    c.in_ok-attempt.ensures.tells (reading_as c.args.call.now c.in-Some.xid c.in-Some.read found reading) (λ at asks. other at (space_as c.args.call.now c.in-Some.xid c.in-Some.read found at asks))
 
 pub returns-clause-free : goal.returns-clause-free
 returns-clause-free g c = λ at truth tree is same s.
     let found = rw c.in-Some.is at c.in_ok-xid.ensures.found in
-    c.in_ok-attempt.ensures.free at truth tree (asks_as c.args.call.now c.in-Some.xid c.in-Some.read found.0 at is) same s
+    c.in_ok-attempt.ensures.free at truth tree (asks_as c.args.call.now c.in-Some.xid c.in-Some.read found at is) same s
 
 pub returns-clause-keeps : goal.returns-clause-keeps
 returns-clause-keeps g c = λ reading.
     let found = rw c.in-Some.is at c.in_ok-xid.ensures.found in
-    c.in_ok-attempt.ensures.keeps (reading_as c.args.call.now c.in-Some.xid c.in-Some.read found.0 reading)
+    c.in_ok-attempt.ensures.keeps (reading_as c.args.call.now c.in-Some.xid c.in-Some.read found reading)

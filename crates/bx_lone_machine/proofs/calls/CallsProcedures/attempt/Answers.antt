@@ -2,7 +2,7 @@ use Rattle.std.proofs.Common.{Option, subst}
 use Rattle.std.specs.Prelude.{IfSome}
 use Rattle.bx_chunks.specs.Counting.{free_slots}
 use Rattle.bx_engine.specs.Paths.{IsOnPath}
-use Rattle.bx_engine.specs.Steps.{StandsWith, Step}
+use Rattle.bx_steps.specs.Steps.{StandsWith, Step}
 use Rattle.bx_views.specs.Attempts.{Gives, IsFair}
 use Rattle.bx_views.specs.declared.attempt.Attempt.{Attempt}
 use Rattle.bx_lone_machine.proofs.Plainly.{fair_bare, gives_bare, with_none}

@@ -1,6 +1,5 @@
-use Rattle.std.proofs.Common.{◌≡◌, refl, [], ◌∷◌, ◌++◌, Contains, sym, subst}
-use Rattle.bx_engine.specs.Calls.{IsBuiltCall}
-use Rattle.bx_engine.specs.Steps.{Step}
+use Rattle.std.proofs.Common.{◌≡◌, true, refl, [], ◌∷◌, ◌++◌, Contains, sym, subst}
+use Rattle.bx_steps.specs.Steps.{Step}
 use Rattle.bx_global.specs.Opening.{opening_state}
 use Rattle.bx_lone_node.specs.Node.{IsJoined, IsUsed, NodeView, unanswered}
 use Rattle.bx_lone_node.specs.Standing.{NodeStands, StandsFor}
@@ -8,8 +7,9 @@ use Rattle.bx_plain_store.specs.Out.{at, out_at}
 use Rattle.bx_lone_store.specs.Parts.{asked_at}
 use Rattle.bx_lone_node.specs.declared.stage.Waiting.{Waiting}
 use Rattle.bx_model.specs.declared.tree.Tree.{Tree}
+use Rattle.bx_rpc.specs.Message.{is_message}
 use Rattle.bx_lone_machine.specs.Machine.{AreRising, call_past, store_keeps, store_made, store_reads, store_stands}
-use Rattle.bx_lone_machine.proofs.Arrivals.{arrived, built_more}
+use Rattle.bx_lone_machine.proofs.Arrivals.{arrived, messages_more}
 use Rattle.bx_lone_machine.proofs.Rising.{rising_more, unanswered_more}
 use Rattle.bx_lone_machine.proofs.machine.LoneMachine.arrive.Goals as goal
 
@@ -39,7 +39,7 @@ returns-clause-ready c = λ sizes ready.
       joined = subst (λ (n : NodeView). IsJoined n (store_made now.store) (at now.store.owns.items 0) (out_at now.store.slots.items 0) (asked_at now.store.inquiries.items 0)) (sym ok) joined;
       used = subst (λ (n : NodeView). IsUsed n.stage) (sym ok) ready.used;
       room = ready.room;
-      built = subst (λ (n : NodeView). (one : Waiting) → Contains n.queue one → IsBuiltCall one.datagram) (sym ok) (built_more node.queue call c.requires.built ready.built);
+      messages = subst (λ (n : NodeView). (one : Waiting) → Contains n.queue one → is_message one.datagram ≡ true) (sym ok) (messages_more node.queue call c.requires.message ready.messages);
       rising = subst (λ (n : NodeView). AreRising (call_past n.stage) call.number (unanswered n.stage n.queue)) (sym ok) rising;
     }
 

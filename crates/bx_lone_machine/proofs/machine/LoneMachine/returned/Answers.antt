@@ -1,5 +1,5 @@
 use Rattle.std.proofs.Common.{⊎_elim, inl, [], None, ◌∙◌, ap, subst, arith}
-use Rattle.bx_engine.specs.Steps.{Step}
+use Rattle.bx_steps.specs.Steps.{Step}
 use Rattle.bx_base.specs.declared.names.Actor.TheVariants.{Node}
 use Rattle.bx_facts.specs.Chains.{any_session_of}
 use Rattle.bx_facts.specs.Writes.{opening_store, store_heard, store_with}

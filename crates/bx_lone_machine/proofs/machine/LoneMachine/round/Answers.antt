@@ -1,5 +1,5 @@
 use Rattle.std.proofs.Common.{ap, ◌≡◌, refl, ◌∙◌, subst}
-use Rattle.bx_engine.specs.Steps.{Step}
+use Rattle.bx_steps.specs.Steps.{Step}
 use Rattle.bx_global.specs.Opening.{opening_state}
 use Rattle.bx_lone_node.specs.Node.{NodeView, calls_of as node_calls, unanswered}
 use Rattle.bx_lone_node.specs.declared.stage.Stage.{Stage}
@@ -31,7 +31,7 @@ returns-clause-ready g c =
       joined = said.joined;
       used = awaits_used node.stage (out_at store.slots.items 0) _ (said.awaits ready.used);
       room = room_kept (store_needs mid.store) (store_needs store) (g.B.Rack.state c.sync_member-2.new.bench).sizes said.needs ready.room;
-      built = λ call there. ready.built call (said.queue call there);
+      messages = λ call there. ready.messages call (said.queue call there);
       rising = rising_turned c.args.moment mid.node node c.in_ok-acted.acted ready.whole said.moments said.takes mid.latest ready.rising;
     }
 

@@ -21,7 +21,7 @@ returns-clause-ready c = λ sizes ready.
       joined = said.joined;
       used = used_kept old.node node said.goes ready.used;
       room = room_kept (store_needs old.store) (store_needs store) sizes said.needs ready.room;
-      built = λ call there. ready.built call (queue_kept old.node node said.goes call there);
+      messages = λ call there. ready.messages call (queue_kept old.node node said.goes call there);
       rising = rising_kept old.node node said.goes old.latest ready.rising;
     }
 

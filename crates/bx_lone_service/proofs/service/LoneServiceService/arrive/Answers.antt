@@ -17,7 +17,7 @@ returns-in_ok-push_back-in-Returning-clause-ready c = λ sizes is_ready.
     let ready = rw c.in-Returning.is at is_ready in
     let waiting : Waiting = record { number = c.args.call; client = c.args.client; datagram = c.args.datagram } in
     rw (c.in_ok-push_back-in-Returning.ensures.items) (
-      queued_more c.in-Returning.field-0.latest c.in-Returning.latest c.in-Returning.queue.items waiting ready.0 ready.2 (rw c.in-Returning.is at c.requires.later) c.requires.built,
+      queued_more c.in-Returning.field-0.latest c.in-Returning.latest c.in-Returning.queue.items waiting ready.0 ready.2 (rw c.in-Returning.is at c.requires.later) c.requires.message,
       ready.1,
       latest_more c.in-Returning.field-0.latest c.in-Returning.queue.items waiting,
     )

@@ -1,7 +1,7 @@
-use Rattle.std.proofs.Common.{◌≡◌, [], true, false, inr, refl, sym, ◌∙◌}
+use Rattle.std.proofs.Common.{◌≡◌, [], true, false, refl, sym, ◌∙◌}
 use Rattle.bx_script.specs.declared.line.Line.TheVariants.{Call}
-use Rattle.bx_replay.specs.Headline.{is_message}
-use Rattle.bx_replay.proofs.Printing.{serves_line}
+use Rattle.bx_rpc.specs.Message.{is_message}
+use Rattle.bx_replay.proofs.Printing.{hears_line}
 use Rattle.bx_replay.proofs.Standing.{stands_ignored}
 use Rattle.bx_replay.proofs.state.Replay.call.Goals as goal
 
@@ -17,8 +17,7 @@ returns-then-not-is_message-clause-does g c = λ reading x tree doubt done start
       stands = stands_ignored tree _ _ doubt _ done start _ room stands reading c.args.node c.args.client c.args.datagram is_up none place;
     }
 
-pub returns-clause-serves : goal.returns-clause-serves
-returns-clause-serves g c = λ reading place.
+pub returns-clause-hears : goal.returns-clause-hears
+returns-clause-hears g c = λ reading.
     let is_up : g.M.Service.up c.args.self.now.service ≡ true = sym c.is_up.ensures ∙ c.if-not-is_up.false in
-    let built = rw c.bytes-2.ensures at (c.in_ok-takes.ensures.0 c.if-not-branch.false) in
-    rw is_up (serves_line c.take.result true _ (Call reading c.args.node c.args.client c.args.datagram) _ _ c.take.ensures.cause (place.1, inr built) refl c.take.ensures.up)
+    rw is_up (hears_line c.take.result true _ (Call reading c.args.node c.args.client c.args.datagram) _ _ c.take.ensures.cause refl c.take.ensures.up)

@@ -16,13 +16,13 @@ returns-then-is_up-clause-restarts g c = λ tree doubt reading done start sink_t
       doubt = doubt;
       holds = holds;
       lines = [];
-      stands = stands_silent tree _ _ doubt _ done start _ room stands (Restart reading) _ tt place tt tt is_up;
+      stands = stands_silent tree _ _ doubt _ done start _ room stands (Restart reading) _ tt place tt is_up;
     }
 
 pub returns-in_err-print_lines-clause-restarts : goal.returns-in_err-print_lines-clause-restarts
 returns-in_err-print_lines-clause-restarts g c = λ tree doubt reading done start sink_tells bench_tells holds room place stands.
     let p = err_from_is_err_and c.from_residual-in_err-print_lines.result c.from_residual-in_err-print_lines.ensures.1 in
-    let begun = stands_same tree _ _ (g.M.Service.waits c.restart.new.self) doubt _ _ start _ c.in_ok-point.ensures.waits (stands_silent tree _ _ doubt _ done start (g.K.Sink.written c.args.out.now) room stands (Restart reading) (g.M.Service.up c.restart.new.self) tt place tt tt c.in_ok-point.ensures.up) in
+    let begun = stands_same tree _ _ (g.M.Service.waits c.restart.new.self) doubt _ _ start _ c.in_ok-point.ensures.waits (stands_silent tree _ _ doubt _ done start (g.K.Sink.written c.args.out.now) room stands (Restart reading) (g.M.Service.up c.restart.new.self) tt place tt c.in_ok-point.ensures.up) in
     let finds = rw c.in-Some.is at (c.in_ok-point.ensures.restarts tree doubt bench_tells holds) in
     rw (p.1, p.2) (untold (g.M.Service.holds c.restart.new.self (g.B.Rack.state c.restart.new.bench)) _ _ _ (Restart reading) done start (g.K.Sink.written c.args.out.now) (Acted c.in-Some.point ∷ [])
     (goes_found _ (Restart reading) tt done start tree _ _ doubt _ [] _ begun c.in-Some.point finds)
@@ -31,14 +31,14 @@ returns-in_err-print_lines-clause-restarts g c = λ tree doubt reading done star
 
 pub returns-in_ok-print_lines-clause-restarts : goal.returns-in_ok-print_lines-clause-restarts
 returns-in_ok-print_lines-clause-restarts g c = λ tree doubt reading done start sink_tells bench_tells holds room place stands.
-    let begun = stands_same tree _ _ (g.M.Service.waits c.restart.new.self) doubt _ _ start _ c.in_ok-point.ensures.waits (stands_silent tree _ _ doubt _ done start (g.K.Sink.written c.args.out.now) room stands (Restart reading) (g.M.Service.up c.restart.new.self) tt place tt tt c.in_ok-point.ensures.up) in
+    let begun = stands_same tree _ _ (g.M.Service.waits c.restart.new.self) doubt _ _ start _ c.in_ok-point.ensures.waits (stands_silent tree _ _ doubt _ done start (g.K.Sink.written c.args.out.now) room stands (Restart reading) (g.M.Service.up c.restart.new.self) tt place tt c.in_ok-point.ensures.up) in
     let finds = rw c.in-Some.is at (c.in_ok-point.ensures.restarts tree doubt bench_tells holds) in
     told_after (g.M.Service.holds c.restart.new.self (g.B.Rack.state c.restart.new.bench)) _ _ _ (Restart reading) done start (g.K.Sink.written c.args.out.now) (Acted c.in-Some.point ∷ [])
     (goes_found _ (Restart reading) tt done start tree _ _ doubt _ [] _ begun c.in-Some.point finds) _ (c.in_ok-print_lines.ensures.prints sink_tells) c.in_ok-print_lines.ensures.in_range
 
 pub returns-in_default-clause-restarts : goal.returns-in_default-clause-restarts
 returns-in_default-clause-restarts g c = λ tree doubt reading done start sink_tells bench_tells holds room place stands.
-    let begun = stands_same tree _ _ (g.M.Service.waits c.restart.new.self) doubt _ _ start _ c.in_ok-point.ensures.waits (stands_silent tree _ _ doubt _ done start (g.K.Sink.written c.args.out.now) room stands (Restart reading) (g.M.Service.up c.restart.new.self) tt place tt tt c.in_ok-point.ensures.up) in
+    let begun = stands_same tree _ _ (g.M.Service.waits c.restart.new.self) doubt _ _ start _ c.in_ok-point.ensures.waits (stands_silent tree _ _ doubt _ done start (g.K.Sink.written c.args.out.now) room stands (Restart reading) (g.M.Service.up c.restart.new.self) tt place tt c.in_ok-point.ensures.up) in
     let returns = rw c.in_default.is at (c.in_ok-point.ensures.restarts tree doubt bench_tells holds) in
     record {
       tree = tree;

@@ -9,5 +9,5 @@ returns-in-Run-clause-does g c = λ tree doubt done start sink_tells bench_tells
       doubt = doubt;
       holds = holds;
       lines = [];
-      stands = stands_silent tree _ _ doubt _ done start _ room stands _ _ tt (rw c.in-Run.is at c.requires.in_place) tt tt refl;
+      stands = stands_silent tree _ _ doubt _ done start _ room stands _ _ tt (rw c.in-Run.is at c.requires.in_place) tt refl;
     }))

@@ -12,5 +12,5 @@ returns-clause-does g c = λ reading x tree doubt done start written holds room 
       holds = c.tick.ensures.holds x tree doubt holds;
       lines = [];
       stands = stands_same tree _ _ (g.M.Service.waits c.tick.new.self) doubt _ _ start _ c.tick.ensures.waits
-          (stands_silent tree _ _ doubt _ done start written room stands (Tick reading) (g.M.Service.up c.tick.new.self) tt place tt is_up (c.tick.ensures.up ∙ sym is_up));
+          (stands_silent tree _ _ doubt _ done start written room stands (Tick reading) (g.M.Service.up c.tick.new.self) tt place is_up (c.tick.ensures.up ∙ sym is_up));
     }

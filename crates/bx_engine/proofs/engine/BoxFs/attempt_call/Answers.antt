@@ -5,7 +5,7 @@ use Rattle.bx_attempts.specs.Paths.{ChangePathOf}
 use Rattle.bx_engine.proofs.Along.{fair_along}
 use Rattle.bx_engine.proofs.Apart.{changes_no_space, changes_not_at_once, changes_not_reads}
 use Rattle.bx_engine.specs.Paths.{PathOf, ReadPathOf}
-use Rattle.bx_engine.proofs.engine.BoxFs.attempt_built.Goals as goal
+use Rattle.bx_engine.proofs.engine.BoxFs.attempt_call.Goals as goal
 
 pub returns-then-is_change-clause-fair : goal.returns-then-is_change-clause-fair
 returns-then-is_change-clause-fair g c =

@@ -1,6 +1,6 @@
 -- What is to be written first before an entry comes into a directory leaves each tree; and where the directory has room for the entry.
-use Rattle.std.proofs.Common.{◌≡◌, ℕ, true, false, List, [], Option, sym, ◌∙◌, subst, arith, inl, inr}
-use Rattle.std.specs.Prelude.{Err, Ok, Result}
+use Rattle.std.proofs.Common.{◌≡◌, ℕ, true, false, List, [], Option, Some, sym, ◌∙◌, subst, arith, inl, inr}
+use Rattle.std.specs.Prelude.{Err, IfSome, Ok, Result}
 use Rattle.bx_blink.specs.declared.error.BlinkError.{BlinkError}
 use Rattle.bx_blink.specs.declared.error.BlinkError.TheVariants as tree_error
 use Rattle.bx_blink.specs.Hints.{HintsFit, Under}
@@ -15,6 +15,7 @@ use Rattle.bx_layout.specs.declared.inode.Inode.{Inode}
 use Rattle.bx_leaves.specs.Changes.{NeedsUnheld}
 use Rattle.bx_model.specs.declared.tree.Tree.{Tree}
 use Rattle.bx_records.specs.Drafts.{Changed}
+use Rattle.bx_ready.specs.Lacking.{LacksRoom}
 use Rattle.bx_ready.specs.Ready.{IsFileUnder, IsReady, OnReadyPath, ReadiesIn}
 use Rattle.bx_ready.specs.Spare.{TellsFew}
 use Rattle.bx_truth.specs.Chunks.{chunks_of}
@@ -71,6 +72,11 @@ module _ (volume areas : ℕ) (held : Held) (hints : Hints) (truth : Truth) (tre
       stands = λ number other s. record { is = (keeps truth other (file_under number other s)).stands; volume_is = s.volume_is; file_tree = s.file_tree };
       leads = (keeps truth tree (file_under volume tree d.stands)).leads;
     }
+
+    -- what is found to be written first, and so that room is lacking
+    pub lacking : (key : List ℕ) (found : Option (List Changed)) (draft : List Changed) → found ≡ Some draft
+        → ((truth : Truth) (pages : PageTree) → Under areas held hints truth [] root pages → IfSome found (λ new. LacksRoom areas truth root key)) → LacksRoom areas truth root key
+    lacking key found draft some all = subst (λ (o : Option (List Changed)). IfSome o (λ new. LacksRoom areas truth root key)) some (all truth pages.pages some_under)
 
     -- what stops it is a block, or want of blocks or of memory
     pub stopped : (key : List ℕ) (error : BlinkError) (stop : ChangeError) → ((pages : PageTree) → Under areas held hints truth [] root pages → ReadiesIn areas held hints truth root pages key (Err error))

@@ -5,3 +5,4 @@ pub mod Stopped
 pub mod First
 pub mod Entered
 pub mod Kept
+pub mod Lacks

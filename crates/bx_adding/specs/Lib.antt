@@ -2,3 +2,4 @@ pub mod Stopping
 pub mod Rooms
 pub mod Entering
 pub mod Finding
+pub mod Lacking

@@ -2,7 +2,9 @@
 use Rattle.std.proofs.Common.{◌≡◌, ℕ, ◌≤◌, Bool, true, false, List, Option, Some, None, refl, sym, ap, ◌∙◌, eqb-true}
 use Rattle.std.specs.Prelude.{nat_le, nat_lt, IfErr, Result, Ok, Err}
 use Rattle.bx_base.specs.declared.names.Mode.{Mode}
+use Rattle.bx_adding.specs.Lacking.{IfFirst}
 use Rattle.bx_changes.specs.Changes.{Changes}
+use Rattle.bx_changes.specs.First.{ComesFirst}
 use Rattle.bx_changes.specs.Growing.{IsChangeBy, NeedsBy}
 use Rattle.bx_changes.specs.declared.error.ChangeError.{ChangeError}
 use Rattle.bx_changes.specs.declared.error.ChangeError.TheVariants.{Stopped, Full}
@@ -47,7 +49,10 @@ module _ (areas : ℕ) (truth : Truth) (outcome : ℕ → Outcome) (tree : Tree)
   pub not_linked : (held : Held) (inode : Inode) (error : ChangeError) → MayLinkIn areas held truth file directory inode name (Err error) → ComesBy areas truth outcome (Err error)
   not_linked held inode (Stopped (Status status)) e = same 8 ∙ ap (then tree file directory name now) e
   not_linked held inode (Stopped (Need at mode)) e = tt
-  not_linked held inode (Stopped (Inner blocks)) e = e
+  not_linked held inode (Stopped (Inner blocks)) e = (e.0, λ status is. no_error status (sym (same 8 ∙ ap (then tree file directory name now) e.1) ∙ is))
+    where
+      no_error : (status : ℕ) → ◌≡◌ {A = Outcome} (Ok (reply.Status 0, with_link tree file directory name now)) (Err status) → ⊥
+      no_error status is = absurd cc
   not_linked held inode (Stopped OutOfMemory) e = tt
   not_linked held inode (Full spare) e = (e.0, same spare ∙ ap (then tree file directory name now) e.1)
 
@@ -130,9 +135,18 @@ module _ (tree : Tree) (call : Call) (at name : List ℕ) (now : Time) (volume :
       pub is_stopped : (error : ChangeError) → ComesBy areas truth (λ spare. linking tree call f.file name now spare (named_file tree at)) (Err error) → IsChangeBy volume areas truth (λ spare. link tree call bytes at name now spare) (Err error)
       is_stopped (Stopped (Status status)) e = comes 8 ∙ e
       is_stopped (Stopped (Need at mode)) e = tt
-      is_stopped (Stopped (Inner blocks)) e = e
+      is_stopped (Stopped (Inner blocks)) e = e.0
       is_stopped (Stopped OutOfMemory) e = tt
       is_stopped (Full spare) e = (e.0, comes spare ∙ e.1)
+
+      -- blocks are to be written first where there is no error
+      pub is_first : (Lacks : Type 0) (error : ChangeError) → ComesBy areas truth (λ spare. linking tree call f.file name now spare (named_file tree at)) (Err error) → IfFirst Lacks error
+          → ComesFirst (λ status. link tree call bytes at name now 8 ≡ Err status) Lacks error
+      is_first Lacks (Stopped (Inner blocks)) e lacks = ((λ status is. e.1 status (sym (comes 8) ∙ is)), lacks)
+      is_first Lacks (Stopped (Status status)) e lacks = tt
+      is_first Lacks (Stopped (Need at mode)) e lacks = tt
+      is_first Lacks (Stopped OutOfMemory) e lacks = tt
+      is_first Lacks (Full spare) e lacks = tt
 
       pub is_changed : (stands : Stands volume areas truth tree) (new : List Changed) → ComesSo areas truth (linking tree call f.file name now 8 (named_file tree at)) new
           → Changes volume areas truth (link tree call bytes at name now 8) new (reply.Status 0)

@@ -1,4 +1,7 @@
-use Rattle.bx_create.proofs.CreateWhole.{list, made_new, not_over, not_searched, over, without}
+use Rattle.bx_create.proofs.CreateWhole.{list, made_new, new_first, not_over, not_searched, over, over_first, without}
+use Rattle.bx_adding.specs.Lacking.{LacksEither}
+use Rattle.bx_create.specs.Lacking.{NamedGrowsOver}
+use Rattle.bx_tree_files.specs.Names.{names_of}
 use Rattle.bx_create.proofs.creating.create_in.Goals as goal
 
 pub returns-in-Err-clause-step : goal.returns-in-Err-clause-step
@@ -36,3 +39,17 @@ returns-clause-step g c = λ truth tree s.
 
 pub returns-clause-hints : goal.returns-clause-hints
 returns-clause-hints g c = λ other truth tree s fit. c.in-Ok-create_over.ensures.hints other truth tree s.directory.few s.directory.same s.directory.stands s.directory.fit fit
+
+pub returns-in-None-clause-lacks : goal.returns-in-None-clause-lacks
+returns-in-None-clause-lacks g c = λ truth tree s.
+    let l = list c.args.volume c.args.areas (g.V.View.held c.args.view.now) (g.V.View.hints c.args.view.now) truth tree c.args.directory.handle c.args.directory.inode c.args.name.now s c.args.call.now c.args.sattr.now c.args.now in
+    new_first c.args.volume c.args.areas (g.V.View.held c.args.view.now) (g.V.View.hints c.args.view.now) truth tree c.args.directory.handle c.args.directory.inode c.args.name.now s c.args.call.now c.args.sattr.now c.args.now
+    ((rw c.in-None.is at c.in-Ok.ensures.list) truth l.names l.entries) (LacksEither c.args.areas truth c.args.directory.inode.tree c.args.name.now c.args.directory.inode.next)
+    (NamedGrowsOver c.args.areas truth (names_of s.directory.at.file.body) c.args.name.now c.args.sattr.now.size) c.create_new.result (λ w. c.create_new.ensures.lacks truth tree w)
+
+pub returns-in-Err-create_over-clause-lacks : goal.returns-in-Err-create_over-clause-lacks
+returns-in-Err-create_over-clause-lacks g c = λ truth tree s.
+    let l = list c.args.volume c.args.areas (g.V.View.held c.args.view.now) (g.V.View.hints c.args.view.now) truth tree c.args.directory.handle c.args.directory.inode c.args.name.now s c.args.call.now c.args.sattr.now c.args.now in
+    over_first c.args.volume c.args.areas (g.V.View.held c.args.view.now) (g.V.View.hints c.args.view.now) truth tree c.args.directory.handle c.args.directory.inode c.args.name.now s c.args.call.now c.args.sattr.now c.args.now c.in-Some.handle
+    ((rw c.in-Some.is at c.in-Ok.ensures.list) truth l.names l.entries) (LacksEither c.args.areas truth c.args.directory.inode.tree c.args.name.now c.args.directory.inode.next) c.in-Err-create_over.stop
+    (c.in-Err-create_over.ensures.lacks truth tree s.directory.few s.directory.same s.directory.stands s.directory.fit)

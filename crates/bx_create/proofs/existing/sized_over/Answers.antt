@@ -32,3 +32,9 @@ returns-clause-hints g c = λ other truth tree few same s fit all.
     let f = subst (λ (d : List Changed). IsInodeOf c.args.areas (with_draft truth d) tree c.args.handle c.in-Ok.inode) c.new-none.ensures
     (c.in-Ok.ensures.tree truth tree same (over_none c.args.areas truth tree c.new-none.result c.new-none.ensures s.is)) in
     c.set_over.ensures.hints other truth tree few same s fit f all
+
+pub returns-clause-lacks : goal.returns-clause-lacks
+returns-clause-lacks g c = λ truth tree few same s fit.
+    let f = subst (λ (d : List Changed). IsInodeOf c.args.areas (with_draft truth d) tree c.args.handle c.in-Ok.inode) c.new-none.ensures
+    (c.in-Ok.ensures.tree truth tree same (over_none c.args.areas truth tree c.new-none.result c.new-none.ensures s.is)) in
+    c.set_over.ensures.lacks truth tree s f

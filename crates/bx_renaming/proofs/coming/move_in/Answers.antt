@@ -16,3 +16,7 @@ returns-in-Ok-clause-step g c = λ volume truth tree are passed.
     let ready = c.in-Ok.ensures.step volume truth tree (into volume c.args.areas (g.V.View.held c.args.view.now) (g.V.View.hints c.args.view.now) truth tree c.args.places.now are) in
     moves_so volume c.args.areas (g.V.View.held c.args.view.now) (g.V.View.hints c.args.view.now) truth tree c.args.places.now are c.args.name.now c.args.new_name.now c.args.now c.args.moving c.args.replaced passed (omega (arith, left)) ready c.move_file.result
     (c.move_file.ensures.step truth tree (may_move volume c.args.areas (g.V.View.held c.args.view.now) (g.V.View.hints c.args.view.now) truth tree c.args.places.now are c.args.name.now c.args.new_name.now c.args.now c.args.moving c.args.replaced passed (omega (arith, left)) ready) (counts_so volume c.args.areas (g.V.View.held c.args.view.now) (g.V.View.hints c.args.view.now) truth tree c.args.places.now are c.args.name.now c.args.new_name.now c.args.now c.args.moving c.args.replaced passed (omega (arith, left)) ready))
+
+pub returns-in-Err-clause-lacks : goal.returns-in-Err-clause-lacks
+returns-in-Err-clause-lacks g c = λ volume truth tree are.
+    c.in-Err.ensures.lacks volume truth tree (into volume c.args.areas (g.V.View.held c.args.view.now) (g.V.View.hints c.args.view.now) truth tree c.args.places.now are)

@@ -1,7 +1,6 @@
 //! CREATE.
 
-ghost use Rattle.std.specs.Prelude.{◌≡◌, ◌≤◌, ◌⊎◌, ℕ, [], length, Err, IfErr, IfOk};
-ghost use Rattle.bx_adding.specs.Lacking.{LacksEither};
+ghost use Rattle.std.specs.Prelude.{◌≡◌, ◌≤◌, ℕ, [], length, Err, IfErr, IfOk};
 ghost use Rattle.bx_base.specs.declared.names.Mode.TheVariants.{Exclusive};
 ghost use Rattle.bx_blink.specs.Walks.{reads_with};
 ghost use Rattle.bx_changes.specs.First.{ComesFirst};
@@ -16,7 +15,7 @@ ghost use Rattle.bx_tree_files.specs.Names.{names_of};
 ghost use Rattle.bx_views.specs.Attempts.{IsHeldDraft};
 ghost use Rattle.bx_views.specs.Truths.{Hints, IsTruth, Truth, with_draft};
 ghost use Rattle.bx_create.specs.Creating.{OnCreate, OnNamed};
-ghost use Rattle.bx_create.specs.Lacking.{LacksCreate, NamedGrowsOver};
+ghost use Rattle.bx_create.specs.Lacking.{LacksCreate, LacksIn};
 ghost use Rattle.bx_create.specs.Searching.{IsSearched};
 
 use crate::existing::create_over;
@@ -97,7 +96,7 @@ fn create_in<V: View>(
         → HintsFitAll areas hints truth → IfOk result (λ made. HintsFitAll areas hints (with_draft truth made.0)) }
     ensures lacks { (truth : Truth) (tree : Tree) → (is : IsSearched volume areas (V.held view.now) (V.hints view.now) truth tree directory.handle directory.inode name.now)
         → IfErr result (ComesFirst (λ status. create_at tree call.now is.directory.at.file name.now sattr.now now 8 (entry_named (names_of is.directory.at.file.body) name.now) ≡ Err status)
-        (LacksEither areas truth directory.inode.tree name.now directory.inode.next ⊎ NamedGrowsOver areas truth (names_of is.directory.at.file.body) name.now sattr.now.size)) }
+        (LacksIn areas truth directory.inode.tree directory.inode.next (names_of is.directory.at.file.body) name.now sattr.now.size)) }
     ensures need { IfErr result (NeedsBy areas (V.held view.now) (OnNamed areas (V.held view.now) (V.hints view.now) directory.handle directory.inode name.now sattr.now.size)) }
     ensures first { IfErr result (HoldsFirst (V.held view.now)) }
     ensures held { IfOk result (λ made. IsHeldDraft (V.held view.now) made.0) }

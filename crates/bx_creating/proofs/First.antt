@@ -5,6 +5,8 @@ use Rattle.bx_adding.specs.Lacking.{IfFirst}
 use Rattle.bx_changes.specs.First.{ComesFirst}
 use Rattle.bx_changes.specs.declared.error.ChangeError.{ChangeError}
 use Rattle.bx_changes.specs.declared.error.ChangeError.TheVariants.{Stopped, Full}
+use Rattle.bx_inodes.specs.Stops.{NeverInner}
+use Rattle.bx_inodes.specs.declared.stop.Stop.{Stop}
 use Rattle.bx_inodes.specs.declared.stop.Stop.TheVariants.{Need, Inner, Status, OutOfMemory}
 use Rattle.bx_model.specs.Steps.{Making, Step}
 
@@ -17,3 +19,10 @@ made_first making step comes Lacks (Stopped (Need at mode)) lacks = tt
 made_first making step comes Lacks (Stopped (Status status)) lacks = tt
 made_first making step comes Lacks (Stopped OutOfMemory) lacks = tt
 made_first making step comes Lacks (Full spare) lacks = tt
+
+-- nothing is written first where nothing ever is
+pub stop_comes : (T : Type 0) (Fails : ℕ → Type 0) (Lacks : Type 0) (stop : Stop) → NeverInner {T = T} (Err stop) → ComesFirst Fails Lacks (Stopped stop)
+stop_comes T Fails Lacks (Need at mode) never = tt
+stop_comes T Fails Lacks (Inner blocks) never = absurd never
+stop_comes T Fails Lacks (Status status) never = tt
+stop_comes T Fails Lacks OutOfMemory never = tt

@@ -7,3 +7,4 @@ pub mod Paths
 pub mod Stopping
 pub mod Spaces
 pub mod Hinting
+pub mod First

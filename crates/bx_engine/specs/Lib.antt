@@ -2,3 +2,4 @@ pub mod Calls
 pub mod Outcomes
 pub mod Paths
 pub mod Steps
+pub mod First

@@ -2,7 +2,10 @@
 use Rattle.std.proofs.Common.{◌≡◌, ℕ, ◌≤◌, Bool, true, false, List, Option, Some, None, refl, sym, ap, ◌∙◌, eqb-true}
 use Rattle.std.specs.Prelude.{nat_le, nat_lt, IfErr, Result, Ok, Err}
 use Rattle.bx_base.specs.declared.names.Mode.{Mode}
+use Rattle.bx_blink.specs.Walks.{Reads}
 use Rattle.bx_adding.specs.Lacking.{IfFirst}
+use Rattle.bx_adding.specs.Stopping.{NeverFirst}
+use Rattle.bx_adding.proofs.Lacks.{never_first}
 use Rattle.bx_changes.specs.Changes.{Changes}
 use Rattle.bx_changes.specs.First.{ComesFirst}
 use Rattle.bx_changes.specs.Growing.{IsChangeBy, NeedsBy}
@@ -12,8 +15,9 @@ use Rattle.bx_entries.specs.Finding.{DirectoryFor, MayChange, changeable}
 use Rattle.bx_entries.proofs.Found.{changes, is_a_directory}
 use Rattle.bx_handles.specs.Handles.{named}
 use Rattle.bx_hints.specs.Fitting.{HintsFitAll}
-use Rattle.bx_inodes.specs.Inodes.{FileAt, IsInodeOf}
+use Rattle.bx_inodes.specs.Inodes.{FileAt, InodeAt, IsInodeOf}
 use Rattle.bx_inodes.specs.Stands.{Stands}
+use Rattle.bx_inodes.specs.Stops.{NeverInner}
 use Rattle.bx_inodes.specs.declared.stop.Stop.{Stop}
 use Rattle.bx_inodes.specs.declared.stop.Stop.TheVariants.{Need, Inner, Status, OutOfMemory}
 use Rattle.bx_layout.specs.declared.inode.Inode.{Inode}
@@ -167,3 +171,26 @@ needs_by areas held P Q wider (Full spare) n = tt
 pub needs_if : {T : Type 0} (areas : ℕ) (held : Held) (P Q : ℕ → Mode → Type 0) → ((at : ℕ) (mode : Mode) → P at mode → Q at mode) → (result : Result T ChangeError) → IfErr result (NeedsBy areas held P) → IfErr result (NeedsBy areas held Q)
 needs_if areas held P Q wider (Ok done) n = tt
 needs_if areas held P Q wider (Err error) n = needs_by areas held P Q wider error n
+
+-- ---- nothing is written first where nothing ever is
+pub stop_comes : (T : Type 0) (Fails : ℕ → Type 0) (Lacks : Type 0) (stop : Stop) → NeverInner {T = T} (Err stop) → ComesFirst Fails Lacks (Stopped stop)
+stop_comes T Fails Lacks (Need at mode) never = tt
+stop_comes T Fails Lacks (Inner blocks) never = absurd never
+stop_comes T Fails Lacks (Status status) never = tt
+stop_comes T Fails Lacks OutOfMemory never = tt
+
+pub stop_first : (T : Type 0) (Holds : Type 0) (stop : Stop) → NeverInner {T = T} (Err stop) → IfFirst Holds (Stopped stop)
+stop_first T Holds (Need at mode) never = tt
+stop_first T Holds (Inner blocks) never = absurd never
+stop_first T Holds (Status status) never = tt
+stop_first T Holds OutOfMemory never = tt
+
+pub never_if : {X : Type 0} (Holds : Type 0) (result : Result X ChangeError) → IfErr result NeverFirst → IfErr result (IfFirst Holds)
+never_if Holds (Ok value) never = tt
+never_if Holds (Err error) never = never_first Holds error never
+
+pub inode_never : (reads : Reads) (areas handle : ℕ) (mode : Mode) (stop : Stop) → InodeAt reads areas handle mode (Err stop) → NeverInner {T = Inode} (Err stop)
+inode_never reads areas handle mode (Need at asked) is = tt
+inode_never reads areas handle mode (Inner blocks) is = absurd is
+inode_never reads areas handle mode (Status status) is = tt
+inode_never reads areas handle mode OutOfMemory is = tt

@@ -1,4 +1,4 @@
-use Rattle.std.proofs.Common.{List, ℕ, arith, ap, ◌∙◌, Err, Ok}
+use Rattle.std.proofs.Common.{◌≡◌, List, ℕ, arith, ap, ◌∙◌, Err, Ok}
 use Rattle.bx_tree_files.specs.declared.file.Body.TheVariants.{Path}
 use Rattle.bx_tree_laws.proofs.Makings.{symlink_keeps}
 use Rattle.bx_creating.specs.Inodes.{link_inode}
@@ -6,7 +6,8 @@ use Rattle.bx_creating.proofs.Created.{comes_so, last_link_is, last_symlink, mak
 use Rattle.bx_model.specs.Making.{symlink}
 use Rattle.bx_adding.specs.Lacking.{LacksPlace}
 use Rattle.bx_adding.proofs.Lacks.{first_so}
-use Rattle.bx_creating.proofs.First.{made_first}
+use Rattle.bx_creating.proofs.First.{made_first, stop_comes}
+use Rattle.bx_entries.specs.declared.taking.Known.{Known}
 use Rattle.bx_creating.proofs.links.symlink.Goals as goal
 
 pub returns-in-Err-clause-step : goal.returns-in-Err-clause-step
@@ -55,3 +56,7 @@ returns-in-Err-place_new-clause-lacks g c = λ truth tree same s fit.
     (LacksPlace c.args.volume c.args.areas truth c.args.at.now c.args.name.now) c.in-Err-place_new.error
     (first_so (λ l. record { handle = c.in-Ok.directory.handle; inode = c.in-Ok.directory.inode; is_named = c.in-Ok.ensures.live.is_named; holds = f.place.directory.at.holds; lacks = l }) c.in-Err-place_new.error
     (c.in-Err-place_new.ensures.lacks c.args.volume truth tree f.place.directory))
+
+pub returns-in-Err-clause-lacks : goal.returns-in-Err-clause-lacks
+returns-in-Err-clause-lacks g c = λ truth tree same s fit.
+    stop_comes Known (λ status. symlink tree c.args.call.now c.args.at.now c.args.name.now c.args.path.now c.args.sattr.now c.args.now 8 ≡ Err status) (LacksPlace c.args.volume c.args.areas truth c.args.at.now c.args.name.now) c.in-Err.stop c.in-Err.ensures.inner

@@ -1,6 +1,6 @@
 -- A step of clearing leaves the tree: the last piece behind the end is cleared there, and the tail falls.
 use Rattle.std.proofs.Common.{◌≡◌, ℕ, ◌+◌, ◌-◌, ◌*◌, ◌^◌, ◌<◌, ◌≤◌, arith, List, [], ◌∷◌, Option, Some, None, sym, ap, ◌∙◌, subst, refl, inl, inr, Ok, Err}
-use Rattle.std.specs.Prelude.{◌⊎◌, ◌≢◌, max, min, option_and_then, Result}
+use Rattle.std.specs.Prelude.{◌⊎◌, ◌≢◌, IfOk, max, min, option_and_then, Result}
 use Rattle.std.specs.Int.{div_ceil}
 use Rattle.std.proofs.lemmas.Bool.{cases_lt}
 use Rattle.bx_hints.specs.Fitting.{HintsFitAll}
@@ -38,10 +38,11 @@ use Rattle.bx_truth.proofs.Splits.{with_same}
 use Rattle.bx_views.specs.Truths.{Held, Hints, IsTruth, Truth, with_draft}
 use Rattle.bx_sizes.proofs.Bytes.{fallen, same_bytes}
 use Rattle.bx_sizes.proofs.Fits.{piece_fits}
-use Rattle.bx_sizes.proofs.InodePut.{bytes_were, inode_leads, inode_put}
+use Rattle.bx_sizes.proofs.InodePut.{bytes_were, inode_leads, inode_now, inode_put}
 use Rattle.bx_sizes.proofs.Stops.{not_lost}
 use Rattle.bx_sizes.specs.Answers.{Clears, LeavesTree}
 use Rattle.bx_sizes.specs.Clearing.{HasNone, IsLastPiece, end_cut, first_cut}
+use Rattle.bx_sizes.specs.Cuts.{LowersTail}
 use Rattle.bx_sizes.specs.Steps.{ClearsAt, ClearsPiece, lowered}
 
 -- the tree with a file put as it is
@@ -57,6 +58,10 @@ no_piece_zero chunks pages index place none = ap (λ (o : Option (List ℕ)). by
 -- where a tail ends, by an index
 below_end : (tail size index place : ℕ) → index < 2 ^ 32 → place < 4096 → 4096 * index + place < tail → index < min (div_ceil tail 4096) 4294967296
 below_end tail size index place fits less below = omega (arith, fits, below)
+
+-- where a piece with an index below the tail's end is cleared, the tail falls
+below_tail : (index size tail : ℕ) → size < tail → index < min (div_ceil tail 4096) 4294967296 → max size (4096 * index) < tail
+below_tail index size tail behind below = omega (arith, behind, below)
 
 module _ (areas : ℕ) (held : Held) (truth : Truth) (tree : Tree) (handle : ℕ) (file : File) (bytes : List ℕ) (inode : Inode) (few : areas ≤ 64) (same : IsTruth held truth) (is : StandsFor areas truth tree)
     (holds : HoldsInode areas truth handle inode) (there : file_at tree.files handle ≡ Some file) (body_is : file.body ≡ Bytes bytes) where
@@ -94,6 +99,13 @@ module _ (areas : ℕ) (held : Held) (truth : Truth) (tree : Tree) (handle : ℕ
           (inode_put areas held truth [] draft tree handle file file bytes bytes inode (record inode { tail = inode.size }) same is there holds puts body_is body_is refl refl
           (fallen (piece_of (chunks_of areas truth) (is.stored handle).tree) inode.size inode.tail bytes were_none inode.size zeros_none) (fields_of inode.size) handle_is);
       leads = λ hints fit. inode_leads areas held truth [] draft tree handle file file bytes bytes inode (record inode { tail = inode.size }) same is there holds puts body_is body_is refl refl hints fit;
+    }
+
+    pub none_lowers : inode.size < inode.tail → LowersTail areas truth handle inode draft
+    none_lowers behind = record {
+      tail = inode.size;
+      lower = behind;
+      holds = inode_now areas held truth [] draft tree handle file file bytes bytes inode (record inode { tail = inode.size }) same is there holds puts body_is body_is refl refl;
     }
 
   -- ---- where there is one
@@ -222,6 +234,13 @@ module _ (areas : ℕ) (held : Held) (truth : Truth) (tree : Tree) (handle : ℕ
           inode_leads areas held truth ((block_at names, c.block) ∷ []) draft tree handle file file bytes bytes inode (lowered inode index) same stands_mid there holds_mid c.puts body_is body_is refl refl hints (piece_leads hints fit);
     }
 
+    pub piece_lowers : inode.size < inode.tail → LowersTail areas truth handle inode draft
+    piece_lowers behind = record {
+      tail = max inode.size (4096 * index);
+      lower = below_tail index inode.size inode.tail behind last.below;
+      holds = inode_now areas held truth ((block_at names, c.block) ∷ []) draft tree handle file file bytes bytes inode (lowered inode index) same stands_mid there holds_mid c.puts body_is body_is refl refl;
+    }
+
 -- calls on the file's tree may rest on its pages
 pub pages_under : (areas : ℕ) (held : Held) (hints : Hints) (truth : Truth) (tree : Tree) (handle : ℕ) (file : File) (bytes : List ℕ) (inode : Inode) → areas ≤ 64 → IsTruth held truth → (is : StandsFor areas truth tree)
     → HintsFitAll areas hints truth → HoldsInode areas truth handle inode → file_at tree.files handle ≡ Some file → file.body ≡ Bytes bytes → Under areas held hints truth [] inode.tree (is.stored handle).tree
@@ -245,3 +264,12 @@ piece_clears areas held truth tree handle file bytes inode few same is holds the
     content = (regular areas held truth tree handle file bytes inode few same is holds there body_is).contents (content_key index) last.value last.is
 piece_clears areas held truth tree handle file bytes inode few same is holds there body_is index names small last (Err (Inner blocks)) c = c
 piece_clears areas held truth tree handle file bytes inode few same is holds there body_is index names small last (Err OutOfMemory) c = tt
+
+-- and that it lowers the tail
+pub clears_lower : (areas : ℕ) (held : Held) (truth : Truth) (tree : Tree) (handle : ℕ) (file : File) (bytes : List ℕ) (inode : Inode) (few : areas ≤ 64) (same : IsTruth held truth) (is : StandsFor areas truth tree)
+    (holds : HoldsInode areas truth handle inode) (there : file_at tree.files handle ≡ Some file) (body_is : file.body ≡ Bytes bytes) (index names : ℕ) (small : inode.size < 2 ^ 31)
+    (last : IsLastPiece (map_of (is.stored handle).tree) (first_cut inode) (end_cut inode) index names) (result : Result (List Changed) Stop) → ClearsAt areas held handle inode index names result
+    → inode.size < inode.tail → IfOk result (LowersTail areas truth handle inode)
+clears_lower areas held truth tree handle file bytes inode few same is holds there body_is index names small last (Ok draft) c behind =
+    piece_lowers areas held truth tree handle file bytes inode few same is holds there body_is draft index names small last c behind
+clears_lower areas held truth tree handle file bytes inode few same is holds there body_is index names small last (Err stop) c behind = tt

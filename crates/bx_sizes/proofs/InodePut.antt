@@ -68,6 +68,10 @@ module _ (areas : ℕ) (held : Held) (truth : Truth) (old_draft new_draft : List
         file_anew areas (with_draft truth old_draft) (with_draft truth new_draft) tree handle file file_now new puts.block is there same_slots anew puts.is.has tree_is same_handle fields
         (subst (HasBody (chunks_of areas (with_draft truth old_draft)) is.owner handle (record { inode = new; tree = (is.stored handle).tree })) (sym body_now) regular_now)
 
+  -- the inode is the file's then
+  pub inode_now : HoldsInode areas (with_draft truth new_draft) handle new
+  inode_now = record { block = puts.block; chunk = anew.here; has = puts.is.has }
+
   pub inode_leads : (hints : Hints) → HintsFitAll areas hints (with_draft truth old_draft) → HintsFitAll areas hints (with_draft truth new_draft)
   inode_leads hints fit =
       inode_fits areas hints (with_draft truth old_draft) (with_draft truth new_draft) handle holds.block puts.block slots holds.chunk anew no_page fit old new holds.has puts.is.has same_tree

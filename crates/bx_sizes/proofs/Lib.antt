@@ -1,4 +1,5 @@
 pub mod Bytes
+pub mod First
 pub mod Fits
 pub mod InodePut
 pub mod Cleared

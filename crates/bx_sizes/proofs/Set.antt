@@ -4,6 +4,7 @@ use Rattle.std.specs.Prelude.{◌==◌, ◌&&◌, ◌||◌, bit_and, not, nat_lt
 use Rattle.bx_base.specs.declared.names.Mode.TheVariants.{Exclusive}
 use Rattle.bx_blink.specs.Walks.{reads_with}
 use Rattle.bx_changes.specs.Changes.{Changes, IsChange}
+use Rattle.bx_changes.specs.First.{StopsFirst}
 use Rattle.bx_changes.proofs.AttributesSet.{right_is}
 use Rattle.bx_changes.proofs.FileChanged.{changed_is_put}
 use Rattle.bx_handles.specs.Handles.{named}
@@ -36,7 +37,10 @@ use Rattle.bx_truth.specs.Stands.{StandsFor}
 use Rattle.bx_truth.specs.Stored.{HasFields}
 use Rattle.bx_views.specs.Truths.{Held, Hints, Truth, with_draft}
 use Rattle.bx_sizes.specs.Answers.{IsChangeOr, PutsFile, SetsSize}
+use Rattle.bx_sizes.proofs.First.{first_wider}
 use Rattle.bx_sizes.specs.Clearing.{OnClearing}
+use Rattle.bx_sizes.specs.Cuts.{GivenGrowsOver}
+use Rattle.bx_sizes.specs.Lengths.{grows_over}
 use Rattle.bx_sizes.specs.Setting.{OnSetting}
 
 -- ---- other relations of the same answers
@@ -77,6 +81,9 @@ errors_are call size handle inode file fields = λ i. errors_by call size (field
 
 -- ---- the procedure, by the file
 
+no_error : (reply : Reply) (next : Tree) (status : ℕ) → ◌≡◌ {A = Outcome} (Ok (reply, next)) (Err status) → ⊥
+no_error reply next status is = absurd cc
+
 module _ (volume areas : ℕ) (truth : Truth) (tree : Tree) (bytes : List ℕ) (call : Call) (sattr : Sattr) (now : Time) (handle : ℕ) (inode : Inode)
     (s : Stands volume areas truth tree) (f : IsInodeOf areas truth tree handle inode) (is : named volume bytes ≡ Some handle) where
   abbrev done : Outcome
@@ -100,6 +107,15 @@ module _ (volume areas : ℕ) (truth : Truth) (tree : Tree) (bytes : List ℕ) (
 
   is_set : false ≡ is_forbidden call (head_of handle inode) sattr → resize_errors call (head_of handle inode) sattr.size ≡ Ok tt → setattr tree call bytes sattr now ≡ done
   is_set test fine = by_inode ∙ (λ i. rest (sym test i) (fine i))
+
+  -- the file grows over bytes first only where there is no error
+  pub set_first : false ≡ is_forbidden call (head_of handle inode) sattr → resize_errors call (head_of handle inode) sattr.size ≡ Ok tt → is_given sattr.size ≡ true → (stop : Stop)
+      → StopsFirst (λ status. ⊥) (grows_over inode sattr.size ≡ true) stop
+      → StopsFirst (λ status. setattr tree call bytes sattr now ≡ Err status) (GivenGrowsOver volume areas truth bytes sattr.size) stop
+  set_first test fine given stop first =
+      first_wider (λ status. ⊥) (λ status. setattr tree call bytes sattr now ≡ Err status) (grows_over inode sattr.size ≡ true) (GivenGrowsOver volume areas truth bytes sattr.size)
+      (λ status error. no_error (attributes_reply tree (with_fields now sattr f.file)) (changed tree f.file.handle (with_fields now sattr)) status (sym (is_set test fine) ∙ error))
+      (λ over. record { given = given; handle = handle; is_named = is; grows = record { inode = inode; holds = f.holds; over = over } }) stop first
 
   pub change : (draft : List Changed) (made : Inode) (words : List ℕ) → false ≡ is_forbidden call (head_of handle inode) sattr → resize_errors call (head_of handle inode) sattr.size ≡ Ok tt
       → PutsFile areas truth tree (with_fields now sattr f.file) draft made

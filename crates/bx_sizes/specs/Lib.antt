@@ -1,5 +1,6 @@
 pub mod Answers
 pub mod Clearing
+pub mod Cuts
 pub mod Lengths
 pub mod Setting
 pub mod Steps

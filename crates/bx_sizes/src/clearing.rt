@@ -18,6 +18,7 @@ ghost use Rattle.bx_views.specs.Attempts.{IsHeldDraft};
 ghost use Rattle.bx_views.specs.Truths.{Held, IsTruth, Truth};
 ghost use Rattle.bx_sizes.specs.Answers.{Clears};
 ghost use Rattle.bx_sizes.specs.Clearing.{OnClearing};
+ghost use Rattle.bx_sizes.specs.Cuts.{LowersTail};
 ghost use Rattle.bx_sizes.specs.Steps.{ClearsAt, IsCleared, PieceAt};
 
 use crate::cuts::last_piece;
@@ -39,7 +40,7 @@ const DATA: u32 = 3;
 const INDEXES: u64 = 4294967296;
 
 /// One step of clearing what is behind the end of a regular file, by its inode: the last piece with bytes between its size and its tail
-/// is cleared there, and the tail falls. The file's bytes stay.
+/// is cleared there, and the tail falls. The file's bytes stay, and what else its inode says.
 ///
 /// `Need` names a block of the volume that isn't held: one on the path of the search for such a piece, shared, or the piece's own,
 /// exclusively.
@@ -55,6 +56,9 @@ pub fn clear<V: View>(
     ensures tree { (truth : Truth) (tree : Tree) (file : File) (bytes : List ℕ) → areas ≤ 64 → IsTruth (V.held view.now) truth → StandsFor areas truth tree
         → HintsFitAll areas (V.hints view.now) truth → HoldsInode areas truth handle inode → file_at tree.files handle ≡ Some file → file.body ≡ Bytes bytes
         → Clears areas truth tree result }
+    ensures lowers { (truth : Truth) (tree : Tree) (file : File) (bytes : List ℕ) → areas ≤ 64 → IsTruth (V.held view.now) truth → StandsFor areas truth tree
+        → HintsFitAll areas (V.hints view.now) truth → HoldsInode areas truth handle inode → file_at tree.files handle ≡ Some file → file.body ≡ Bytes bytes
+        → inode.size < inode.tail → IfOk result (LowersTail areas truth handle inode) }
     ensures need { NeedsOn areas (V.held view.now) (OnClearing (V.held view.now) (V.hints view.now) inode) result }
     ensures inner { NeverInner result }
     ensures held { IsSome (V.held view.now (place_of handle) Exclusive) → IfOk result (IsHeldDraft (V.held view.now)) }

@@ -1,21 +1,24 @@
 //! SETATTR.
 
-ghost use Rattle.std.specs.Prelude.{◌≡◌, ◌≢◌, ◌≤◌, ℕ, true, List, IfOk, IsSome, Some};
+ghost use Rattle.std.specs.Prelude.{◌≡◌, ◌≢◌, ◌≤◌, ℕ, true, List, IfOk, IfErr, IsSome, Err, Some};
 ghost use Rattle.bx_base.specs.declared.names.Mode.TheVariants.{Exclusive};
 ghost use Rattle.bx_handles.specs.Handles.{named};
 ghost use Rattle.bx_hints.specs.Fitting.{HintsFitAll};
-ghost use Rattle.bx_inodes.specs.Inodes.{IsInodeOf};
+ghost use Rattle.bx_inodes.specs.Inodes.{HoldsInode, IsInodeOf};
 ghost use Rattle.bx_inodes.specs.Stands.{Stands};
 ghost use Rattle.bx_inodes.specs.Stops.{NeedsOn};
 ghost use Rattle.bx_layout.specs.Inodes.{IsInode};
+ghost use Rattle.bx_layout.specs.declared.inode.Inode.{Inode as Kept};
 ghost use Rattle.bx_model.specs.declared.tree.Tree.{Tree};
 ghost use Rattle.bx_model.specs.Writing.{setattr as setattr_of};
 ghost use Rattle.bx_tree_files.specs.Times.{is_given as is_given_word};
 ghost use Rattle.bx_truth.specs.Chunks.{block_at as place_of};
 ghost use Rattle.bx_views.specs.Attempts.{IsHeldDraft};
 ghost use Rattle.bx_views.specs.Truths.{Hints, IsTruth, Truth, with_draft};
+ghost use Rattle.bx_changes.specs.First.{StopsFirst};
 ghost use Rattle.bx_sizes.specs.Answers.{HoldsInner, IsChangeOr};
 ghost use Rattle.bx_sizes.specs.Clearing.{OnClearing};
+ghost use Rattle.bx_sizes.specs.Cuts.{GivenGrowsOver, LowersFirst};
 ghost use Rattle.bx_sizes.specs.Setting.{OnSetting};
 
 use crate::sizes::{set_size, size_error};
@@ -31,8 +34,8 @@ use bx_tree_files::is_given;
 use bx_views::View;
 use std::alloc::Global;
 
-/// SETATTR (RFC 1094, section 2.2.3): the blocks that it changes, and the attributes then. New bytes are zeros; where the file would grow over
-/// bytes that were cut, `Inner` clears some of them first.
+/// SETATTR (RFC 1094, section 2.2.3): the blocks that it changes, and the attributes then. New bytes are zeros; exactly where no error comes and the file
+/// would grow over bytes that were cut and aren't cleared, `Inner` clears some of them first, and lowers the tail that tells how far they reach.
 ///
 /// `Need` names a block that isn't held: the file's inode, exclusively; and where that is held, one on the path of such clearing. The
 /// status is the first of `STALE`, where the file handle names no file; `PERM`, where the caller may not set something that is given; and
@@ -54,6 +57,10 @@ pub fn setattr<V: View>(
     ensures need { NeedsOn areas (V.held view.now) (OnSetting (V.held view.now) (V.hints view.now) volume areas at.now) result }
     ensures held { IfOk result (λ made. IsHeldDraft (V.held view.now) made.0) }
     ensures first { HoldsInner (V.held view.now) result }
+    ensures lacks { (truth : Truth) (tree : Tree) → areas ≤ 64 → IsTruth (V.held view.now) truth → Stands volume areas truth tree → HintsFitAll areas (V.hints view.now) truth
+        → IfErr result (StopsFirst (λ status. setattr_of tree call.now at.now sattr.now now ≡ Err status) (GivenGrowsOver volume areas truth at.now sattr.now.size)) }
+    ensures lowers { (truth : Truth) (tree : Tree) (handle : ℕ) (inode : Kept) → areas ≤ 64 → IsTruth (V.held view.now) truth → Stands volume areas truth tree → HintsFitAll areas (V.hints view.now) truth
+        → named volume at.now ≡ Some handle → HoldsInode areas truth handle inode → IfErr result (LowersFirst areas truth handle inode) }
 {
     if !is_given(sattr.size) {
         return set_attributes(alloc, volume, areas, call, at, sattr, now, view);
@@ -98,6 +105,10 @@ fn set_all<V: View>(
     ensures need { NeedsOn volume.1 (V.held view.now) (OnClearing (V.held view.now) (V.hints view.now) inode) result }
     ensures held { IsSome (V.held view.now (place_of handle) Exclusive) → IfOk result (λ made. IsHeldDraft (V.held view.now) made.0) }
     ensures first { IsSome (V.held view.now (place_of handle) Exclusive) → HoldsInner (V.held view.now) result }
+    ensures lacks { (truth : Truth) (tree : Tree) (bytes : List ℕ) → Stands volume.0 volume.1 truth tree → IsInodeOf volume.1 truth tree handle inode → named volume.0 bytes ≡ Some handle
+        → IfErr result (StopsFirst (λ status. setattr_of tree call.now bytes sattr.now now ≡ Err status) (GivenGrowsOver volume.0 volume.1 truth bytes sattr.now.size)) }
+    ensures lowers { (truth : Truth) (tree : Tree) → volume.1 ≤ 64 → IsTruth (V.held view.now) truth → Stands volume.0 volume.1 truth tree → HintsFitAll volume.1 (V.hints view.now) truth
+        → IsInodeOf volume.1 truth tree handle inode → IfErr result (LowersFirst volume.1 truth handle inode) }
 {
     if is_forbidden(alloc, call, handle, &inode, sattr)? {
         return Err(Stop::Status(PERM));

@@ -5,5 +5,6 @@ pub mod Anew
 pub mod Base
 pub mod Missing
 pub mod PutStops
+pub mod First
 pub mod Laid
 pub mod Wrote

@@ -1,6 +1,6 @@
 -- A piece of a regular file that isn't there yet: what is to be written first leaves each tree; and what else stops it.
 use Rattle.std.proofs.Common.{◌≡◌, ℕ, true, false, List, [], Option, Some, None, sym, ap, ◌∙◌, subst, arith, inl, inr, Ok, Err}
-use Rattle.std.specs.Prelude.{IfOk, Result}
+use Rattle.std.specs.Prelude.{IfErr, IfOk, IfSome, Result}
 use Rattle.bx_blink.specs.declared.error.BlinkError.{BlinkError}
 use Rattle.bx_blink.specs.declared.error.BlinkError.TheVariants as tree_error
 use Rattle.bx_blink.specs.Hints.{HintsFit, Under}
@@ -18,6 +18,7 @@ use Rattle.bx_leaves.specs.Changes.{NeedsUnheld}
 use Rattle.bx_model.specs.declared.tree.Tree.{Tree}
 use Rattle.bx_page.specs.Contents.{value_of}
 use Rattle.bx_records.specs.Drafts.{Changed}
+use Rattle.bx_ready.specs.Lacking.{LacksRoom}
 use Rattle.bx_ready.specs.Ready.{IsFileUnder, IsReady, OnReadyPath, ReadiesIn}
 use Rattle.bx_ready.specs.Spare.{TellsFew}
 use Rattle.bx_truth.specs.Chunks.{block_at, chunks_of}
@@ -36,9 +37,12 @@ use Rattle.bx_sizes.proofs.Resized.{regular_bytes}
 use Rattle.bx_sizes.proofs.Stops.{not_lost}
 use Rattle.bx_sizes.specs.Steps.{HoldsPiece}
 use Rattle.bx_views.specs.Truths.{Held, Hints, Truth}
+use Rattle.bx_adding.specs.Lacking.{IfFirst}
 use Rattle.bx_adding.specs.Stopping.{StopsChange}
+use Rattle.bx_adding.proofs.Lacks.{first_if}
 use Rattle.bx_adding.proofs.Asked.{ready_block}
 use Rattle.bx_writes.specs.Bytes.{IsPayload}
+use Rattle.bx_writes.specs.Lacking.{LacksEntry}
 use Rattle.bx_writes.specs.Steps.{FoundAt, IsPrepared, IsRegularOf, MissesIn, PreparesIn}
 
 no_link : (kind : ℕ) → kind ≡ 1 → kind ≡ 5 → ⊥
@@ -80,6 +84,17 @@ module _ (volume areas : ℕ) (held : Held) (hints : Hints) (truth : Truth) (tre
     stands = λ number other s. record { is = (keeps truth other (file_under number other s)).stands; volume_is = s.volume_is; file_tree = s.file_tree };
     leads = (keeps truth tree (file_under volume tree r.stands)).leads;
   }
+
+  -- where something is to be written first, room is lacking
+  pub lacking : (index : ℕ) (key : List ℕ) (found : Option (List Changed)) (draft : List Changed) → key ≡ content_key index → found ≡ Some draft
+      → ((truth : Truth) (pages : PageTree) → Under areas held hints truth [] root pages → IfSome found (λ new. LacksRoom areas truth root key)) → LacksRoom areas truth root (content_key index)
+  lacking index key found draft key_is some all =
+      subst (LacksRoom areas truth root) key_is (subst (λ (o : Option (List Changed)). IfSome o (λ new. LacksRoom areas truth root key)) some (all truth some_pages.pages some_under))
+
+  -- so it is of a piece that isn't there
+  pub entry_lacks : {T : Type 0} (index : ℕ) → ((pages : PageTree) → Under areas held hints truth [] root pages → value_of (map_of pages) (content_key index) ≡ None)
+      → (result : Result T ChangeError) → IfErr result (IfFirst (LacksRoom areas truth root (content_key index))) → IfErr result (IfFirst (LacksEntry areas truth root index))
+  entry_lacks index none result first = first_if (λ room. record { room = room; none = none room.pages (under room.pages room.is) }) result first
 
   pub stopped : (index place : ℕ) (part : List ℕ) (error : BlinkError) (stop : ChangeError) → ((pages : PageTree) → Under areas held hints truth [] root pages → ReadiesIn areas held hints truth root pages (content_key index) (Err error))
       → NeedsUnheld {X = Option (List Changed)} held (OnReadyPath areas held hints root (content_key index)) (Err error) → StopsChange areas error stop → MissesIn areas truth root index place part (Err stop)

@@ -216,6 +216,15 @@ module _ (volume areas : ℕ) (held : Held) (hints : Hints) (truth : Truth) (tre
   pub refused : (status : ℕ) → write_errors call (head_of handle inode) offset (length written) 8 ≡ Err status → write tree call at offset written now 8 ≡ Err status
   refused status error = by_inode 8 ∙ (λ i. error i >> given f.file)
 
+  -- where nothing is refused, no error comes
+  pub accepted : write_errors call (head_of handle inode) offset (length written) 8 ≡ Ok tt → (status : ℕ) → write tree call at offset written now 8 ≡ Err status → ⊥
+  accepted fine status error = by (length written == 0) (sym (by_inode 8 ∙ (λ i. fine i >> given f.file)) ∙ error)
+    where
+      by : (none : Bool)
+          → ◌≡◌ {A = Outcome} (if none then Ok (attributes_reply tree f.file, tree) else Ok (attributes_reply tree (with_data now offset written f.file), changed tree f.file.handle (with_data now offset written))) (Err status) → ⊥
+      by true same = absurd cc
+      by false same = absurd cc
+
   pub full : (spare : ℕ) → write_errors call (head_of handle inode) offset (length written) 8 ≡ Ok tt → 0 < length written → spare < 8 → write tree call at offset written now spare ≡ Err 28
   full spare fine some few =
       by_inode spare

@@ -1,5 +1,6 @@
 pub mod Bytes
 pub mod Grown
+pub mod Lacking
 pub mod Laying
 pub mod Paths
 pub mod Steps

@@ -10,6 +10,8 @@ ghost use Rattle.bx_tree_files.specs.declared.file.File.{File};
 ghost use Rattle.bx_truth.specs.Chunks.{block_at as place_of};
 ghost use Rattle.bx_views.specs.Attempts.{IsHeldDraft};
 ghost use Rattle.bx_views.specs.Truths.{Truth};
+ghost use Rattle.bx_adding.specs.Lacking.{IfFirst};
+ghost use Rattle.bx_writes.specs.Lacking.{LacksEntries};
 ghost use Rattle.bx_writes.specs.Laying.{GrowsTo, InodeAlone, LaysIn, pieces_of};
 ghost use Rattle.bx_writes.specs.Paths.{OnWrittenPieces};
 ghost use Rattle.bx_writes.specs.Steps.{IsRegularOf};
@@ -28,7 +30,7 @@ use std::alloc::Global;
 /// A draft with the inode of a regular file with a handle, and with bytes written from a place in the piece with an index on, at most three pieces. All
 /// pieces are read before one is changed.
 ///
-/// `Inner` makes room for an entry of a piece that isn't there, and `Full` comes where too few blocks are free. `Need` names a block of the volume that
+/// `Inner` makes room for an entry of a piece that isn't there, where it is lacking, and `Full` comes where too few blocks are free. `Need` names a block of the volume that
 /// isn't held, and is on the path of such a piece. The status is `STALE` where what is held is no file: of one it never comes.
 pub(crate) fn lay<V: View>(
     alloc: Global,
@@ -47,6 +49,8 @@ pub(crate) fn lay<V: View>(
     ensures step { (volume : ℕ) (truth : Truth) (tree : Tree) (old : Kept) (file : File) (base : List ℕ)
         → (r : IsRegularOf volume areas (V.held view.now) (V.hints view.now) truth tree handle old) → GrowsTo r.at.file old inode.now file base → (0 < length written.now → 4096 * place.0 + place.1 + length written.now ≤ inode.now.size)
         → LaysIn areas (V.held view.now) truth tree handle file r.stands.is inode.now base place written.now result }
+    ensures lacks { (volume : ℕ) (truth : Truth) (tree : Tree) (old : Kept) → IsRegularOf volume areas (V.held view.now) (V.hints view.now) truth tree handle old → old.tree ≡ inode.now.tree
+        → IfErr result (IfFirst (LacksEntries areas truth inode.now.tree place.0 (place.0 + pieces_of place.1 written.now))) }
     ensures need { IfErr result (NeedsBy areas (V.held view.now) (OnWrittenPieces areas (V.held view.now) (V.hints view.now) inode.now.tree place.0 (place.0 + pieces_of place.1 written.now))) }
     ensures first { IfErr result (HoldsFirst (V.held view.now)) }
     ensures held { IsSome (V.held view.now (place_of handle) Exclusive) → IfOk result (IsHeldDraft (V.held view.now)) }

@@ -6,7 +6,10 @@ ghost use Rattle.bx_layout.specs.declared.inode.Inode.{Inode as Kept};
 ghost use Rattle.bx_model.specs.declared.tree.Tree.{Tree};
 ghost use Rattle.bx_truth.specs.Keys.{content_key as key_of_content};
 ghost use Rattle.bx_views.specs.Truths.{Truth};
+ghost use Rattle.bx_adding.specs.Lacking.{IfFirst};
+ghost use Rattle.bx_ready.specs.Lacking.{LacksRoom};
 ghost use Rattle.bx_ready.specs.Ready.{OnReadyPath};
+ghost use Rattle.bx_writes.specs.Lacking.{LacksEntry};
 ghost use Rattle.bx_writes.specs.Paths.{OnWrittenPiece};
 ghost use Rattle.bx_writes.specs.Steps.{FoundAt, HoldsPrepared, IsRegularOf, MissesIn, PreparesIn};
 
@@ -24,8 +27,8 @@ use std::alloc::Global;
 /// What a piece with an index will be once bytes are written over it from a place on, by the root of its file's tree, near an area and of so many:
 /// the number of its block's handle, if it has one, and its payload.
 ///
-/// `Inner` are the blocks that make room for the entry of a piece that isn't there yet, and are to be written first; `Full` comes where the volume has
-/// too few free blocks for them. `Need` names a block of the volume that isn't held: one on the search for the piece, shared; its block, exclusively;
+/// `Inner` are the blocks that make room for the entry of a piece that isn't there yet, and are to be written first, exactly where room is lacking; `Full`
+/// comes where the volume has too few free blocks for them. `Need` names a block of the volume that isn't held: one on the search for the piece, shared; its block, exclusively;
 /// or one that is asked for to make room. The status is `STALE` where what is held is no file: of one it never comes.
 pub(crate) fn prepare<V: View>(
     alloc: Global,
@@ -38,6 +41,8 @@ pub(crate) fn prepare<V: View>(
     requires { place.1 + length part.now ≤ 4096 }
     ensures step { (volume : ℕ) (truth : Truth) (tree : Tree) (handle : ℕ) (inode : Kept) → IsRegularOf volume near.1 (V.held view.now) (V.hints view.now) truth tree handle inode → inode.tree ≡ root
         → PreparesIn near.1 truth root place.0 place.1 part.now result }
+    ensures lacks { (volume : ℕ) (truth : Truth) (tree : Tree) (handle : ℕ) (inode : Kept) → IsRegularOf volume near.1 (V.held view.now) (V.hints view.now) truth tree handle inode → inode.tree ≡ root
+        → IfErr result (IfFirst (LacksEntry near.1 truth root place.0)) }
     ensures need { IfErr result (NeedsBy near.1 (V.held view.now) (OnWrittenPiece near.1 (V.held view.now) (V.hints view.now) root place.0)) }
     ensures first { IfErr result (HoldsFirst (V.held view.now)) }
     ensures held { IfOk result (λ made. HoldsPrepared (V.held view.now) made.0) }
@@ -84,6 +89,8 @@ fn missing<V: View>(
     requires { place.1 + length part.now ≤ 4096 }
     ensures step { (volume : ℕ) (truth : Truth) (tree : Tree) (handle : ℕ) (inode : Kept) → IsRegularOf volume near.1 (V.held view.now) (V.hints view.now) truth tree handle inode → inode.tree ≡ root
         → MissesIn near.1 truth root place.0 place.1 part.now result }
+    ensures lacks { (volume : ℕ) (truth : Truth) (tree : Tree) (handle : ℕ) (inode : Kept) → IsRegularOf volume near.1 (V.held view.now) (V.hints view.now) truth tree handle inode → inode.tree ≡ root
+        → IfErr result (IfFirst (LacksRoom near.1 truth root (key_of_content place.0))) }
     ensures need { IfErr result (NeedsBy near.1 (V.held view.now) (OnReadyPath near.1 (V.held view.now) (V.hints view.now) root (key_of_content place.0))) }
     ensures first { IfErr result (HoldsFirst (V.held view.now)) }
     ensures none { IfOk result (λ made. made.0 ≡ None) }

@@ -1,18 +1,22 @@
 //! WRITE.
 
-ghost use Rattle.std.specs.Prelude.{◌≡◌, ◌≢◌, ◌+◌, ◌≤◌, ◌<◌, ℕ, List, IfOk, IfErr, IsSome, Some, length};
+ghost use Rattle.std.specs.Prelude.{◌≡◌, ◌≢◌, ◌+◌, ◌≤◌, ◌<◌, ℕ, true, List, IfOk, IfErr, IsSome, Err, Some, length};
 ghost use Rattle.bx_base.specs.declared.names.Mode.TheVariants.{Exclusive};
+ghost use Rattle.bx_changes.specs.First.{ComesFirst};
 ghost use Rattle.bx_changes.specs.Growing.{HoldsFirst, IsChangeBy, NeedsBy};
 ghost use Rattle.bx_handles.specs.Handles.{named};
 ghost use Rattle.bx_hints.specs.Fitting.{HintsFitAll};
-ghost use Rattle.bx_inodes.specs.Inodes.{IsInodeOf};
+ghost use Rattle.bx_inodes.specs.Inodes.{HoldsInode, IsInodeOf};
 ghost use Rattle.bx_inodes.specs.Stands.{Stands};
 ghost use Rattle.bx_layout.specs.Inodes.{IsInode};
+ghost use Rattle.bx_layout.specs.declared.inode.Inode.{Inode as Kept};
 ghost use Rattle.bx_model.specs.declared.tree.Tree.{Tree};
 ghost use Rattle.bx_model.specs.Writing.{write as write_of};
+ghost use Rattle.bx_sizes.specs.Lengths.{grows_over as grows_over_to};
 ghost use Rattle.bx_truth.specs.Chunks.{block_at as place_of};
 ghost use Rattle.bx_views.specs.Attempts.{IsHeldDraft};
 ghost use Rattle.bx_views.specs.Truths.{Hints, IsTruth, Truth, with_draft};
+ghost use Rattle.bx_writes.specs.Lacking.{LacksWriting, LacksWritten, LowersBy};
 ghost use Rattle.bx_writes.specs.Paths.{OnFileWritten, OnWriting};
 ghost use Rattle.bx_writes.specs.Telling.{TellsWith};
 
@@ -35,8 +39,8 @@ use std::alloc::Global;
 /// WRITE (RFC 1094, section 2.2.9) of at most 8192 bytes from an offset on, in a volume with so many areas: the blocks that it changes, and the attributes
 /// then. No bytes change nothing, and meet no limit. A gap before the offset is zeros.
 ///
-/// `Inner` clears bytes that were cut where the file would grow over them, or makes room for the entry of a piece. `Need` names a block that isn't held: the
-/// file's inode, exclusively; and where that is held, one on the path of these, or of the pieces that the bytes are in. The status is the first of `STALE`,
+/// `Inner` comes exactly where no error does and something is lacking: it clears bytes that were cut, where the file would grow over them, and lowers the tail
+/// that tells how far they reach; or makes room for the entry of a piece. `Need` names a block that isn't held: the file's inode, exclusively; and where that is held, one on the path of these, or of the pieces that the bytes are in. The status is the first of `STALE`,
 /// `ISDIR`, `NXIO` of a link, `ACCES` and `FBIG`; `Full` comes where fewer than 8 blocks are free, and one is wanted. `now` is in seconds and microseconds.
 pub fn write<V: View>(
     alloc: Global,
@@ -53,6 +57,10 @@ pub fn write<V: View>(
         → IsChangeBy volume.0 volume.1 truth (write_of tree call.now at.now offset written.now now) result }
     ensures hints { (hints : Hints) (truth : Truth) (tree : Tree) → volume.1 ≤ 64 → IsTruth (V.held view.now) truth → Stands volume.0 volume.1 truth tree → HintsFitAll volume.1 (V.hints view.now) truth
         → HintsFitAll volume.1 hints truth → IfOk result (λ made. HintsFitAll volume.1 hints (with_draft truth made.0)) }
+    ensures lacks { (truth : Truth) (tree : Tree) → volume.1 ≤ 64 → IsTruth (V.held view.now) truth → Stands volume.0 volume.1 truth tree → HintsFitAll volume.1 (V.hints view.now) truth
+        → IfErr result (ComesFirst (λ status. write_of tree call.now at.now offset written.now now 8 ≡ Err status) (LacksWriting volume.0 volume.1 truth at.now offset written.now)) }
+    ensures lowers { (truth : Truth) (tree : Tree) (handle : ℕ) (inode : Kept) → volume.1 ≤ 64 → IsTruth (V.held view.now) truth → Stands volume.0 volume.1 truth tree → HintsFitAll volume.1 (V.hints view.now) truth
+        → named volume.0 at.now ≡ Some handle → HoldsInode volume.1 truth handle inode → grows_over_to inode (offset + length written.now) ≡ true → IfErr result (LowersBy volume.1 truth handle inode) }
     ensures need { IfErr result (NeedsBy volume.1 (V.held view.now) (OnWriting (V.held view.now) (V.hints view.now) volume.0 volume.1 at.now offset written.now)) }
     ensures first { IfErr result (HoldsFirst (V.held view.now)) }
     ensures held { IfOk result (λ made. IsHeldDraft (V.held view.now) made.0) }
@@ -94,6 +102,11 @@ fn write_file<V: View>(
         → IsInodeOf volume.1 truth tree file.0 file.1 → named volume.0 bytes ≡ Some file.0 → IsChangeBy volume.0 volume.1 truth (write_of tree call.now bytes offset written.now now) result }
     ensures hints { (hints : Hints) (truth : Truth) (tree : Tree) → volume.1 ≤ 64 → IsTruth (V.held view.now) truth → Stands volume.0 volume.1 truth tree → HintsFitAll volume.1 (V.hints view.now) truth
         → IsInodeOf volume.1 truth tree file.0 file.1 → HintsFitAll volume.1 hints truth → IfOk result (λ made. HintsFitAll volume.1 hints (with_draft truth made.0)) }
+    ensures lacks { (truth : Truth) (tree : Tree) (bytes : List ℕ) → volume.1 ≤ 64 → IsTruth (V.held view.now) truth → Stands volume.0 volume.1 truth tree → HintsFitAll volume.1 (V.hints view.now) truth
+        → IsInodeOf volume.1 truth tree file.0 file.1 → named volume.0 bytes ≡ Some file.0
+        → IfErr result (ComesFirst (λ status. write_of tree call.now bytes offset written.now now 8 ≡ Err status) (LacksWritten volume.1 truth file.0 offset written.now)) }
+    ensures lowers { (truth : Truth) (tree : Tree) → volume.1 ≤ 64 → IsTruth (V.held view.now) truth → Stands volume.0 volume.1 truth tree → HintsFitAll volume.1 (V.hints view.now) truth
+        → IsInodeOf volume.1 truth tree file.0 file.1 → grows_over_to file.1 (offset + length written.now) ≡ true → IfErr result (LowersBy volume.1 truth file.0 file.1) }
     ensures need { IfErr result (NeedsBy volume.1 (V.held view.now) (OnFileWritten volume.1 (V.held view.now) (V.hints view.now) file.1 offset written.now)) }
     ensures first { IsSome (V.held view.now (place_of file.0) Exclusive) → IfErr result (HoldsFirst (V.held view.now)) }
     ensures held { IsSome (V.held view.now (place_of file.0) Exclusive) → IfOk result (λ made. IsHeldDraft (V.held view.now) made.0) }

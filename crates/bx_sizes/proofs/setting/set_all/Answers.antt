@@ -1,7 +1,7 @@
 use Rattle.std.proofs.Common.{sym, ◌∙◌}
 use Rattle.bx_model.specs.Writing.{setattr}
 use Rattle.bx_tree_files.specs.Changes.{with_fields}
-use Rattle.bx_sizes.proofs.Set.{change, size_stops}
+use Rattle.bx_sizes.proofs.Set.{change, set_first, size_stops}
 use Rattle.bx_sizes.proofs.setting.set_all.Goals as goal
 
 pub returns-in-Err-clause-step : goal.returns-in-Err-clause-step
@@ -16,3 +16,11 @@ returns-in_ok-words-in-Ok-clause-step g c = λ truth tree bytes few same s fit f
 
 pub returns-in_ok-words-in-Ok-clause-hints : goal.returns-in_ok-words-in-Ok-clause-hints
 returns-in_ok-words-in-Ok-clause-hints g c = λ hints truth tree few same s fit f all. (c.in-Ok.ensures.step truth tree f.file few same s.is fit f.holds f.there).leads hints all
+
+pub returns-in-Err-clause-lacks : goal.returns-in-Err-clause-lacks
+returns-in-Err-clause-lacks g c = λ truth tree bytes s f is.
+    set_first c.args.volume.0 c.args.volume.1 truth tree bytes c.args.call.now c.args.sattr.now c.args.now c.args.handle c.args.inode s f is
+    (sym c.if-branch.false ∙ c.in_ok-is_forbidden.ensures) (rw c.in_default.is at c.in_ok-status.ensures) c.requires.given c.in-Err.stop c.in-Err.ensures.lacks
+
+pub returns-in-Err-clause-lowers : goal.returns-in-Err-clause-lowers
+returns-in-Err-clause-lowers g c = λ truth tree few same s fit f. c.in-Err.ensures.lowers truth tree f.file few same s.is fit f.holds f.there

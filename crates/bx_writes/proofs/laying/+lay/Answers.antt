@@ -1,8 +1,10 @@
 use Rattle.std.proofs.Common.{◌≡◌, ◌∙◌, ◌+◌, ◌-◌, ◌*◌, ◌<◌, ◌≤◌, ℕ, List, ◌++◌, length, arith, ap, subst, sym, refl}
 use Rattle.std.specs.Prelude.{min}
 use Rattle.std.proofs.lemmas.List.{take-append-drop}
+use Rattle.bx_writes.proofs.First.{alone_first, one_lacks, put_first, rest_lacks}
 use Rattle.bx_writes.proofs.Laid.{alone_laid, from_next, none_of, one_piece, prepare_stops, put_needs, reaches, rest_stops, some_of}
 use Rattle.bx_writes.proofs.Missing.{own_tree}
+use Rattle.bx_writes.specs.Lacking.{LacksEntries}
 use Rattle.bx_writes.specs.Laying.{pieces_of}
 use Rattle.bx_writes.specs.Steps.{PutsOn}
 use Rattle.bx_writes.proofs.laying.+lay.Goals as goal
@@ -76,3 +78,30 @@ pub returns-in-Ok-lay-clause-need : goal.returns-in-Ok-lay-clause-need
 returns-in-Ok-lay-clause-need g n c =
     let some = some_of (length c.args.written.now) c.if-is_empty.ensures in
     put_needs c.args.areas (g.V.View.held c.args.view.now) (g.V.View.hints c.args.view.now) c.args.inode.now.tree c.args.place.0 (pieces_of c.args.place.1 c.args.written.now) (omega (arith, some)) c.put_piece.result c.put_piece.ensures.need
+
+pub returns-then-is_empty-clause-lacks : goal.returns-then-is_empty-clause-lacks
+returns-then-is_empty-clause-lacks g n c = λ volume truth tree old r root_is.
+    alone_first (LacksEntries c.args.areas truth c.args.inode.now.tree c.args.place.0 (c.args.place.0 + pieces_of c.args.place.1 c.args.written.now)) c.args.handle c.args.inode.now c.inode_alone.result c.inode_alone.ensures
+
+pub returns-in-Err-clause-lacks : goal.returns-in-Err-clause-lacks
+returns-in-Err-clause-lacks g n c = λ volume truth tree old r root_is.
+    let some = some_of (length c.args.written.now) c.if-is_empty.ensures in
+    one_lacks c.args.areas truth c.args.inode.now.tree c.args.place.0 (pieces_of c.args.place.1 c.args.written.now) (omega (arith, some)) c.in-Err.error (c.in-Err.ensures.lacks volume truth tree c.args.handle old r root_is)
+
+pub returns-in-Err-lay-clause-lacks : goal.returns-in-Err-lay-clause-lacks
+returns-in-Err-lay-clause-lacks g n c = λ volume truth tree old r root_is.
+    let rest = c.split_at.result.1.now in
+    let written = c.args.written.now in
+    let some = some_of (length written) c.if-is_empty.ensures in
+    let front = c.split_at.ensures.front_len in
+    let back = c.split_at.ensures.back_len in
+    let mid = c.min.ensures in
+    let low = c.requires.place in
+    let part_is : length c.split_at.result.0.now ≡ min (length written) (4096 - c.args.place.1) = front ∙ mid in
+    let rest_is : length rest ≡ length written - length c.split_at.result.0.now = omega (arith, back, front) in
+    let count : pieces_of 0 rest + 1 ≡ pieces_of c.args.place.1 written = one_piece c.args.place.1 (length written) (length c.split_at.result.0.now) (length rest) low some part_is rest_is in
+    rest_lacks c.args.areas truth c.args.inode.now.tree c.args.place.0 (pieces_of 0 rest) (pieces_of c.args.place.1 written) count c.in-Err-lay.error (c.in-Err-lay.ensures.lacks volume truth tree old r root_is)
+
+pub returns-in-Ok-lay-clause-lacks : goal.returns-in-Ok-lay-clause-lacks
+returns-in-Ok-lay-clause-lacks g n c = λ volume truth tree old r root_is.
+    put_first (LacksEntries c.args.areas truth c.args.inode.now.tree c.args.place.0 (c.args.place.0 + pieces_of c.args.place.1 c.args.written.now)) c.put_piece.result c.put_piece.ensures.inner

@@ -1,9 +1,9 @@
 -- What a procedure replies that comes to no error is no error: a status is 0.
-use Rattle.std.proofs.Common.{◌≡◌, ℕ, Bool, true, false, List, Option, Some, None, ap, ◌∙◌, subst}
+use Rattle.std.proofs.Common.{◌≡◌, ℕ, Bool, true, false, List, Option, Some, None, subst}
 use Rattle.std.specs.Prelude.{◌==◌, if◌then◌else◌, length, Result, Ok, Err}
 use Rattle.bx_model.specs.declared.call.Call.{Call}
 use Rattle.bx_model.specs.declared.reply.Reply.{Reply}
-use Rattle.bx_model.specs.declared.reply.Reply.TheVariants.{Attributes, Handle, Status}
+use Rattle.bx_model.specs.declared.reply.Reply.TheVariants.{Status}
 use Rattle.bx_model.specs.declared.tree.Tree.{Tree}
 use Rattle.bx_model.specs.Making.{create, create_at, create_errors, directory_to_change, entry_errors, has_entry, link, mkdir, new_place, searched_directory, symlink}
 use Rattle.bx_model.specs.Reading.{named_file}
@@ -15,7 +15,7 @@ use Rattle.bx_tree_files.specs.declared.file.Name.{Name}
 use Rattle.bx_tree_files.specs.declared.file.File.{File}
 use Rattle.bx_tree_files.specs.declared.sattr.Sattr.{Sattr}
 use Rattle.bx_tree_files.specs.Entries.{entry_named, is_bad}
-use Rattle.bx_tree_files.specs.Files.{file_at, is_directory, is_regular}
+use Rattle.bx_tree_files.specs.Files.{file_at, is_directory}
 use Rattle.bx_tree_files.specs.Names.{names_of}
 use Rattle.bx_tree_files.specs.Times.{Time, is_given}
 

@@ -103,10 +103,13 @@ module _ (volume areas : ℕ) (truth : Truth) (tree : Tree) (call : Call) (sattr
       -- the file grows over bytes first only where there is no error
       pub sized_first : (alone : Sattr) → alone ≡ size_alone sattr.size → (stop : Stop) → StopsFirst (λ status. ⊥) (grows_over inode alone.size ≡ true) stop
           → StopsFirst (λ status. create_over tree call handle sattr now ≡ Err status) (SizeGrowsOver areas truth handle sattr.size) stop
-      sized_first alone is (Inner blocks) first = ((λ status error. no_error _ status (sym is_set ∙ error)), record {
-        given = given;
-        grows = record { inode = inode; holds = f.holds; over = subst (λ (a : Sattr). grows_over inode a.size ≡ true) is first.1 };
-      })
+      sized_first alone is (Inner blocks) first = (
+        (λ status error. no_error _ status (sym is_set ∙ error)),
+        record {
+          given = given;
+          grows = record { inode = inode; holds = f.holds; over = subst (λ (a : Sattr). grows_over inode a.size ≡ true) is first.1 };
+        },
+      )
       sized_first alone is (Need at mode) first = tt
       sized_first alone is (Status status) first = tt
       sized_first alone is OutOfMemory first = tt

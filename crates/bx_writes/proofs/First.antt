@@ -87,7 +87,7 @@ module _ (Fails : ℕ → Type 0) (Lacks : Type 0) where
 -- ---- the tail falls
 
 pub not_both : {P : Type 0} (test : Bool) → test ≡ true → test ≡ false → P
-not_both test yes no = let both : true ≡ false = sym yes ∙ no in absurd cc
+not_both test is_so is_not = let both : true ≡ false = sym is_so ∙ is_not in absurd cc
 
 pub told_lowers : (areas : ℕ) (truth : Truth) (named_as : ℕ) (was : Inode) (volume handle : ℕ) (inode : Inode) (draft : List Changed) (result : Result (List Changed × Reply) ChangeError) → TellsWith volume handle inode draft result
     → IfErr result (LowersBy areas truth named_as was)

@@ -1,11 +1,13 @@
 -- What a procedure replies that comes to no error is no error: a status is 0.
 use Rattle.std.proofs.Common.{◌≡◌, ℕ, Bool, true, false, List, Option, Some, None, subst}
-use Rattle.std.specs.Prelude.{◌==◌, if◌then◌else◌, length, Result, Ok, Err}
+use Rattle.std.specs.Prelude.{◌==◌, nat_le, not, if◌then◌else◌, length, Result, Ok, Err}
 use Rattle.bx_model.specs.declared.call.Call.{Call}
+use Rattle.bx_model.specs.declared.permissions.Want.TheVariants as want
 use Rattle.bx_model.specs.declared.reply.Reply.{Reply}
 use Rattle.bx_model.specs.declared.reply.Reply.TheVariants.{Status}
 use Rattle.bx_model.specs.declared.tree.Tree.{Tree}
 use Rattle.bx_model.specs.Making.{create, create_at, create_errors, directory_to_change, entry_errors, has_entry, link, mkdir, new_place, searched_directory, symlink}
+use Rattle.bx_model.specs.Permissions.{may}
 use Rattle.bx_model.specs.Reading.{named_file}
 use Rattle.bx_model.specs.Renaming.{file_of_entry, is_same, move_errors, rename}
 use Rattle.bx_model.specs.Steps.{Making, Outcome, Step, must, refuse, ◌>>=◌, ◌>>◌}
@@ -15,7 +17,7 @@ use Rattle.bx_tree_files.specs.declared.file.Name.{Name}
 use Rattle.bx_tree_files.specs.declared.file.File.{File}
 use Rattle.bx_tree_files.specs.declared.sattr.Sattr.{Sattr}
 use Rattle.bx_tree_files.specs.Entries.{entry_named, is_bad}
-use Rattle.bx_tree_files.specs.Files.{file_at, is_directory}
+use Rattle.bx_tree_files.specs.Files.{file_at, is_directory, is_regular}
 use Rattle.bx_tree_files.specs.Names.{names_of}
 use Rattle.bx_tree_files.specs.Times.{Time, is_given}
 
@@ -77,7 +79,7 @@ module _ (tree : Tree) (call : Call) (now : Time) (given : Reply × Tree) where
       after (directory_to_change tree call at name) _ given rest λ directory rest.
       behind (refuse (is_directory file) 1) _ given rest λ rest.
       behind (refuse (has_entry directory name) 17) _ given rest λ rest.
-      behind (refuse _ 69) _ given rest λ rest.
+      behind (refuse (nat_le 32000 file.nlink) 69) _ given rest λ rest.
       behind (entry_errors directory spare) _ given rest λ rest.
       gives_fine _ given rest zero_fine
 
@@ -85,12 +87,12 @@ module _ (tree : Tree) (call : Call) (now : Time) (given : Reply × Tree) where
   rename_fine from name to new_name spare is =
       after (must (named_file tree from) 70) _ given is λ source rest.
       after (must (named_file tree to) 70) _ given rest λ target rest.
-      behind (refuse _ 20) _ given rest λ rest.
-      behind (refuse _ 20) _ given rest λ rest.
+      behind (refuse (not (is_directory source)) 20) _ given rest λ rest.
+      behind (refuse (not (is_directory target)) 20) _ given rest λ rest.
       behind (refuse (is_bad name) 13) _ given rest λ rest.
       behind (refuse (is_bad new_name) 13) _ given rest λ rest.
-      behind (refuse _ 13) _ given rest λ rest.
-      behind (refuse _ 13) _ given rest λ rest.
+      behind (refuse (not (may call source want.Change)) 13) _ given rest λ rest.
+      behind (refuse (not (may call target want.Change)) 13) _ given rest λ rest.
       after (must (entry_named (names_of source.body) name) 2) _ given rest λ entry rest.
       after (must (file_at tree.files entry.handle) 70) _ given rest λ moved rest.
       after (file_of_entry tree (entry_named (names_of target.body) new_name)) _ given rest λ replaced rest.
@@ -110,7 +112,7 @@ module _ (tree : Tree) (call : Call) (now : Time) (step : Step) where
   create_at_fine directory name sattr spare None is = behind (create_errors call directory sattr spare) _ step is λ rest. step_fine _ step rest (λ made status never. absurd cc)
   create_at_fine directory name sattr spare (Some entry) is =
       after (must (file_at tree.files entry.handle) 70) _ step is λ file rest.
-      behind (refuse _ 17) _ step rest λ rest.
+      behind (refuse (not (is_regular file)) 17) _ step rest λ rest.
       behind (resize_errors call file sattr.size) _ step rest λ rest.
       either_step (is_given sattr.size) _ _ step rest (λ one. step_fine _ step one (λ status never. absurd cc)) (λ other. step_fine _ step other (λ status never. absurd cc))
 

@@ -1,3 +1,5 @@
 pub mod Acting
 pub mod Changing
 pub mod Fairness
+pub mod Fine
+pub mod First

@@ -1,3 +1,4 @@
 pub mod Calls
 pub mod Paths
 pub mod Replies
+pub mod First

@@ -7,6 +7,7 @@ ghost use Rattle.bx_nfs.specs.Wire.{ReadsAs};
 ghost use Rattle.bx_views.specs.Attempts.{Gives, IsFair};
 ghost use Rattle.bx_views.specs.Truths.{IsTruth, Truth};
 ghost use Rattle.bx_attempts.specs.Calls.{IsChanging, IsProcedure};
+ghost use Rattle.bx_attempts.specs.First.{IfInner, LacksFirst};
 ghost use Rattle.bx_attempts.specs.Paths.{ChangePathOf};
 ghost use Rattle.bx_steps.specs.Steps.{StandsWith, Step};
 
@@ -93,7 +94,8 @@ fn is_procedure(call: &Call, number: u32) -> bool
 }
 
 /// Attempts a call that changes the file tree of a volume, by its number and its areas, at most 64, at a moment in milliseconds, at most
-/// 4294967295999. `Need` names what its procedure does.
+/// 4294967295999. `Need` names what its procedure does. `Inner` comes exactly where the call comes to no error, with 8 blocks free, and lacks something: room
+/// for an entry or for a piece, or cleared bytes, over which a file would grow.
 pub fn change<V: View>(
     alloc: Global,
     volume: u64,
@@ -108,6 +110,8 @@ pub fn change<V: View>(
     requires moment { moment ≤ 4294967295999 }
     ensures gives { (client : ℕ) (bytes : List ℕ) (truth : Truth) (tree : Tree) → ReadsAs bytes xid call.now → IsTruth (V.held view.now) truth → StandsWith volume areas truth (V.hints view.now) tree
         → IfOk result (Gives (StandsWith volume areas) Step (free_slots areas truth) client bytes moment truth tree) }
+    ensures lacks { (truth : Truth) (tree : Tree) → IsTruth (V.held view.now) truth → StandsWith volume areas truth (V.hints view.now) tree
+        → IfOk result (IfInner (LacksFirst volume areas truth tree call.now moment)) }
     ensures fair { IfOk result (IsFair areas (V.held view.now) (ChangePathOf (V.held view.now) (V.hints view.now) volume areas call.now.procedure call.now.args)) }
 {
     match &call.args {

@@ -1,3 +1,4 @@
+pub mod First
 pub mod NamesThere
 pub mod SizeSet
 pub mod CreateWhole

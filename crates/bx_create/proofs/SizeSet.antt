@@ -1,6 +1,7 @@
 -- What CREATE comes to where a file has the name, by the size.
 use Rattle.std.proofs.Common.{◌≡◌, ℕ, ◌<◌, ◌^◌, Bool, true, false, List, [], Option, Some, sym, ap, ◌∙◌, subst}
 use Rattle.std.specs.Prelude.{◌||◌, not, if◌then◌else◌, Result, Ok, Err}
+use Rattle.bx_changes.specs.First.{StopsFirst}
 use Rattle.bx_changes.specs.Growing.{Makes}
 use Rattle.bx_changes.proofs.FileChanged.{changed_is_put}
 use Rattle.bx_inodes.specs.Heads.{head_of}
@@ -16,11 +17,12 @@ use Rattle.bx_model.specs.declared.tree.Tree.{Tree}
 use Rattle.bx_model.specs.Edits.{changed}
 use Rattle.bx_model.specs.Making.{create_over}
 use Rattle.bx_model.specs.Reading.{handle_reply}
-use Rattle.bx_model.specs.Steps.{Making, must, refuse, taken, ◌>>=◌, ◌>>◌}
+use Rattle.bx_model.specs.Steps.{Making, Step, must, refuse, taken, ◌>>=◌, ◌>>◌}
 use Rattle.bx_model.specs.Steps.Step.{Gives}
 use Rattle.bx_model.specs.Writing.{resize_errors}
 use Rattle.bx_records.specs.Drafts.{Changed}
 use Rattle.bx_sizes.specs.Answers.{PutsFile, SetsSize}
+use Rattle.bx_sizes.specs.Lengths.{grows_over}
 use Rattle.bx_tree_files.specs.declared.file.Body.{Body}
 use Rattle.bx_tree_files.specs.declared.file.File.{File}
 use Rattle.bx_tree_files.specs.declared.sattr.Sattr.{Sattr}
@@ -34,6 +36,7 @@ use Rattle.bx_truth.specs.Stored.{HasFields}
 use Rattle.bx_truth.proofs.Cases.{eq_true}
 use Rattle.bx_views.specs.Truths.{Truth, with_draft}
 use Rattle.bx_create.specs.Existing.{ComesOver, GivesIn, size_alone}
+use Rattle.bx_create.specs.Lacking.{SizeGrowsOver}
 use Rattle.bx_create.proofs.NamesThere.{of_fields}
 
 -- setting the size alone
@@ -68,6 +71,9 @@ size_stops volume areas truth tree file making OutOfMemory is = tt
 
 -- ---- the file, by its inode
 
+no_error : (step : Step) (status : ℕ) → ◌≡◌ {A = Making} (Ok step) (Err status) → ⊥
+no_error step status is = absurd cc
+
 module _ (volume areas : ℕ) (truth : Truth) (tree : Tree) (call : Call) (sattr : Sattr) (now : Time) (handle : ℕ) (inode : Inode) (s : Stands volume areas truth tree) (f : IsInodeOf areas truth tree handle inode) (one : inode.kind ≡ 1) where
   -- what comes of a file by whether it is regular, the errors of its size, and whether one is given
   abbrev rest : File → Bool → Result (Unit {0}) ℕ → Bool → Making
@@ -93,6 +99,20 @@ module _ (volume areas : ℕ) (truth : Truth) (tree : Tree) (call : Call) (sattr
     module _ (fine : resize_errors call (head_of handle inode) sattr.size ≡ Ok tt) where
       is_set : create_over tree call handle sattr now ≡ Ok (Gives (handle_reply tree sized) (changed tree f.file.handle (with_size now sattr.size)))
       is_set = over_is ∙ (λ i. rest f.file true (fine i) (given i))
+
+      -- the file grows over bytes first only where there is no error
+      pub sized_first : (alone : Sattr) → alone ≡ size_alone sattr.size → (stop : Stop) → StopsFirst (λ status. ⊥) (grows_over inode alone.size ≡ true) stop
+          → StopsFirst (λ status. create_over tree call handle sattr now ≡ Err status) (SizeGrowsOver areas truth handle sattr.size) stop
+      sized_first alone is (Inner blocks) first = (
+        (λ status error. no_error _ status (sym is_set ∙ error)),
+        record {
+          given = given;
+          grows = record { inode = inode; holds = f.holds; over = subst (λ (a : Sattr). grows_over inode a.size ≡ true) is first.1 };
+        },
+      )
+      sized_first alone is (Need at mode) first = tt
+      sized_first alone is (Status status) first = tt
+      sized_first alone is OutOfMemory first = tt
 
       fits : sattr.size < 2 ^ 31
       fits = resize_fits call f.file sattr.size (sym (errors_are call sattr.size handle inode f.file f.fields) ∙ fine) given

@@ -1,3 +1,4 @@
 pub mod Searching
 pub mod Existing
 pub mod Creating
+pub mod Lacking

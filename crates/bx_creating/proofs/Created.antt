@@ -44,6 +44,9 @@ module _ (volume areas : ℕ) (held : Held) (hints : Hints) (truth : Truth) (tre
   not_found (Inner blocks) never = absurd never
   not_found OutOfMemory e = tt
 
+  pub comes_so : (known : Known) (f : FindsPlace volume areas held hints truth tree call bytes name known) → making 8 ≡ Ok (MakesBy (last f.place.directory.at.file))
+  comes_so known f = is 8 ∙ ap steps f.enough
+
   module _ (known : Known) (f : FindsPlace volume areas held hints truth tree call bytes name known) (now : Time) (inode : Inode) (body : Body) where
     abbrev file : File
     file = f.place.directory.at.file
@@ -55,17 +58,14 @@ module _ (volume areas : ℕ) (held : Held) (hints : Hints) (truth : Truth) (tre
     not_placed (Stopped OutOfMemory) p = tt
     not_placed (Full spare) p = (p, is spare ∙ ap steps (f.full spare p.few))
 
-    comes : making 8 ≡ Ok (MakesBy (last f.place.directory.at.file))
-    comes = is 8 ∙ ap steps f.enough
-
     pub makes : (draft : List Changed) (reply : Reply) (made : ℕ) → Places areas truth tree known.handle name now inode body draft made
         → last f.place.directory.at.file made ≡ (reply, with_made tree known.handle name now (file_of inode made body)) → ((step : Step) → making 8 ≡ Ok step → StepKeeps tree step)
         → Makes volume areas truth tree (making 8) draft reply made
     makes draft reply made p same keeps =
-        let kept = keeps (MakesBy (last file)) comes made p.unused in
+        let kept = keeps (MakesBy (last file)) (comes_so known f) made p.unused in
         record {
           next = with_made tree known.handle name now (file_of inode made body);
-          comes_to = ap (taken tree made) comes ∙ ap (λ (t : Bool). if t then Some (last file made) else None) p.unused ∙ ap Some same;
+          comes_to = ap (taken tree made) (comes_so known f) ∙ ap (λ (t : Bool). if t then Some (last file made) else None) p.unused ∙ ap Some same;
           stands = record {
             is = p.stands;
             volume_is = stands.volume_is;

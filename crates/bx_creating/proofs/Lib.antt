@@ -3,3 +3,4 @@ pub mod Placed
 pub mod Found
 pub mod Created
 pub mod NewFiles
+pub mod First

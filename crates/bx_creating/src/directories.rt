@@ -1,6 +1,8 @@
 //! MKDIR.
 
-ghost use Rattle.std.specs.Prelude.{◌≡◌, ◌≤◌, ℕ, length, IfErr, IfOk};
+ghost use Rattle.std.specs.Prelude.{◌≡◌, ◌≤◌, ℕ, length, Err, IfErr, IfOk};
+ghost use Rattle.bx_adding.specs.Lacking.{LacksPlace};
+ghost use Rattle.bx_changes.specs.First.{ComesFirst};
 ghost use Rattle.bx_changes.specs.Growing.{HoldsFirst, IsMaking, NeedsBy};
 ghost use Rattle.bx_hints.specs.Fitting.{HintsFitAll};
 ghost use Rattle.bx_inodes.specs.Stands.{Stands};
@@ -26,9 +28,10 @@ use std::alloc::Global;
 ///
 /// `Need` names a block that isn't held: that of the directory's inode, exclusively, or, where that is held, one on the path of the search for the name,
 /// shared, one on the path of finding room for its entry, one that the new directory's slots want, exclusively, or one on the path of the entry,
-/// exclusively. `Inner` are blocks that make room for the entry. The status is `STALE`, exactly where the file handle names no file, else `NOTDIR`
-/// where that is no directory, `ACCES` of a bad name and where the caller may not change it, `EXIST` where an entry has the name, and `DQUOT` where it has
-/// no number left. `Full` comes behind these, where fewer than 8 blocks are free and one more is wanted. `now` is in seconds and microseconds.
+/// exclusively. The status is `STALE`, exactly where the file handle names no file, else `NOTDIR` where that is no directory, `ACCES` of a bad name and
+/// where the caller may not change it, `EXIST` where an entry has the name, and `DQUOT` where it has no number left. `Inner` are blocks that make room for
+/// the entry: they come exactly where none of these errors does and room is lacking in the directory's tree. `Full` comes behind these, where fewer than 8
+/// blocks are free and one more is wanted. `now` is in seconds and microseconds.
 pub fn mkdir<V: View>(
     alloc: Global,
     volume: u64,
@@ -46,6 +49,8 @@ pub fn mkdir<V: View>(
         → IsMaking volume areas truth tree (mkdir_of tree call.now at.now name.now sattr.now now) result }
     ensures hints { (hints : Hints) (truth : Truth) (tree : Tree) → IsTruth (V.held view.now) truth → Stands volume areas truth tree → HintsFitAll areas (V.hints view.now) truth
         → HintsFitAll areas hints truth → IfOk result (λ made. HintsFitAll areas hints (with_draft truth made.0)) }
+    ensures lacks { (truth : Truth) (tree : Tree) → IsTruth (V.held view.now) truth → Stands volume areas truth tree → HintsFitAll areas (V.hints view.now) truth
+        → IfErr result (ComesFirst (λ status. mkdir_of tree call.now at.now name.now sattr.now now 8 ≡ Err status) (LacksPlace volume areas truth at.now name.now)) }
     ensures need { IfErr result (NeedsBy areas (V.held view.now) (OnMaking (V.held view.now) (V.hints view.now) volume areas at.now name.now)) }
     ensures first { IfErr result (HoldsFirst (V.held view.now)) }
     ensures held { IfOk result (λ made. IsHeldDraft (V.held view.now) made.0) }

@@ -1,8 +1,10 @@
 //! CREATE of a name that isn't there.
 
-ghost use Rattle.std.specs.Prelude.{◌≡◌, ◌≤◌, ℕ, [], length, IfErr, IfOk};
+ghost use Rattle.std.specs.Prelude.{◌≡◌, ◌≤◌, ℕ, [], length, Err, IfErr, IfOk};
+ghost use Rattle.bx_adding.specs.Lacking.{LacksEither};
 ghost use Rattle.bx_base.specs.declared.names.Mode.TheVariants.{Exclusive};
 ghost use Rattle.bx_blink.specs.Walks.{reads_with};
+ghost use Rattle.bx_changes.specs.First.{ComesFirst};
 ghost use Rattle.bx_changes.specs.Growing.{HoldsFirst, IsMaking, NeedsBy};
 ghost use Rattle.bx_hints.specs.Fitting.{HintsFitAll};
 ghost use Rattle.bx_inodes.specs.Heads.{head_of as head_by};
@@ -34,9 +36,9 @@ const MOST_BYTES: u32 = 2147483647;
 /// handle of the file that it makes. That is regular, of zeros where a size is given, else empty, with the name in the directory.
 ///
 /// `Need` names a block that isn't held: one on the path of finding room for its entry, one that the file's slots want, exclusively, or one on the path of
-/// the entry, exclusively. `Inner` are blocks that make room for the entry. The status is `ACCES` where the caller may not change the directory, `FBIG` of a
-/// size that no file has, and `DQUOT` where the directory has no number left. `Full` comes behind these, where fewer than 8 blocks are free and one more is
-/// wanted. `now` is in seconds and microseconds.
+/// the entry, exclusively. The status is `ACCES` where the caller may not change the directory, `FBIG` of a size that no file has, and `DQUOT` where the
+/// directory has no number left. `Inner` are blocks that make room for the entry: they come exactly where none of these errors does and room is lacking in
+/// the directory's tree. `Full` comes behind these, where fewer than 8 blocks are free and one more is wanted. `now` is in seconds and microseconds.
 pub fn create_new<V: View>(
     alloc: Global,
     volume: u64,
@@ -54,6 +56,8 @@ pub fn create_new<V: View>(
         → IsMaking volume areas truth tree (create_new_of tree call.now is.directory.at.file name.now sattr.now now) result }
     ensures hints { (hints : Hints) (truth : Truth) (tree : Tree) → IsWithout volume areas (V.held view.now) (V.hints view.now) truth tree directory.handle directory.inode name.now
         → HintsFitAll areas hints truth → IfOk result (λ made. HintsFitAll areas hints (with_draft truth made.0)) }
+    ensures lacks { (truth : Truth) (tree : Tree) → (is : IsWithout volume areas (V.held view.now) (V.hints view.now) truth tree directory.handle directory.inode name.now)
+        → IfErr result (ComesFirst (λ status. create_new_of tree call.now is.directory.at.file name.now sattr.now now 8 ≡ Err status) (LacksEither areas truth directory.inode.tree name.now directory.inode.next)) }
     ensures need { IfErr result (NeedsBy areas (V.held view.now) (OnPlacing areas (V.held view.now) (V.hints view.now) directory.handle directory.inode name.now)) }
     ensures first { IfErr result (HoldsFirst (V.held view.now)) }
     ensures held { IfOk result (λ made. IsHeldDraft (V.held view.now) made.0) }

@@ -8,3 +8,4 @@ pub mod OneStep
 pub mod Paths
 pub mod Spaces
 pub mod Stopping
+pub mod First

@@ -1,3 +1,4 @@
 pub mod Calls
 pub mod Outcomes
 pub mod Paths
+pub mod First

@@ -1,6 +1,7 @@
 //! The engine of a volume.
 
 ghost use Rattle.std.specs.Prelude.{◌≡◌, ◌≤◌, ℕ, List, true, false, IfOk, IfNone, IfSome};
+ghost use Rattle.bx_attempts.specs.First.{IfInner, LacksFirst};
 ghost use Rattle.bx_base.specs.declared.names.Mode.TheVariants.{Shared};
 ghost use Rattle.bx_chunks.specs.Counting.{free_slots};
 ghost use Rattle.bx_inodes.specs.Stands.{Stands};
@@ -15,6 +16,7 @@ ghost use Rattle.bx_rpc.specs.Message.{is_message};
 ghost use Rattle.bx_views.specs.Attempts.{Gives, IsAnswer, IsFair};
 ghost use Rattle.bx_views.specs.Truths.{IsTruth, Truth};
 ghost use Rattle.bx_engine.specs.Calls.{AsksSpace, IsAboutFile, IsAtOnce, IsAtOnceCall, IsReadCall, IsReading, IsSpaceCall};
+ghost use Rattle.bx_engine.specs.First.{IsFirstCall};
 ghost use Rattle.bx_engine.specs.Outcomes.{ChangesNothing, Comes, ComesSpace, TellsFree, TellsNothing, told_free};
 ghost use Rattle.bx_engine.specs.Paths.{IsOnPath, PathOf, ReadPathOf};
 ghost use Rattle.bx_steps.specs.Steps.{StandsWith, Step};
@@ -46,8 +48,10 @@ impl BoxFs {
     /// `Need` names a block that isn't held and is on the call's path: of GETATTR, READLINK and STATFS the block of the file's inode, shared; where
     /// that is held, for STATFS the own block of the first area that isn't, for READ a page or a piece of the file, for LOOKUP a page of the directory or
     /// the inode of what the name means, and for READDIR a page of the directory, shared. Of a call that changes the tree it names what its procedure
-    /// does (`bx_attempts`). `Inner` are blocks to be written before the call is attempted again: room that is made for an entry, bytes that are cleared
-    /// before a file grows over them. A call that comes to an error is an `Answer`. On an error, which is want of memory alone, nothing is changed.
+    /// does (`bx_attempts`). `Inner` are blocks to be written before the call is attempted again. They come only of a call that comes to no error, with 8
+    /// blocks free, and lacks something: room for an entry in the directory that it names or for a piece of a file, since a leaf is full or a separator above it
+    /// is missing, or bytes that were cut are still there over which it would grow a file. A call that comes to an error is an `Answer`. On an error, which is
+    /// want of memory alone, nothing is changed.
     pub fn attempt<V: View>(
         &self,
         alloc: Global,
@@ -61,6 +65,11 @@ impl BoxFs {
         ensures gives { (truth : Truth) (tree : Tree) → IsTruth (V.held view.now) truth → StandsWith self.now.volume self.now.areas truth (V.hints view.now) tree
             → IfOk result (λ found. IfSome found (Gives (StandsWith self.now.volume self.now.areas) Step (free_slots self.now.areas truth) client call.now moment truth tree)) }
         ensures fair { IfOk result (λ found. IfSome found (IsFair self.now.areas (V.held view.now) (IsOnPath (V.held view.now) (V.hints view.now) self.now.volume self.now.areas call.now))) }
+
+        // Blocks are to be written first only where the call comes to no error, with 8 blocks free, and room or cleared bytes are lacking.
+        ensures lacks { (truth : Truth) (tree : Tree) → IsTruth (V.held view.now) truth → StandsWith self.now.volume self.now.areas truth (V.hints view.now) tree
+            → IfOk result (λ found. IfSome found (IfInner (IsFirstCall self.now.volume self.now.areas truth tree call.now moment))) }
+
         ensures at_once { IsAtOnceCall call.now → IfOk result (λ found. IfSome found IsAnswer) }
 
         // A call that reads changes nothing, and blocks need not be written before it acts.
@@ -95,6 +104,8 @@ impl BoxFs {
         ensures gives { (client : ℕ) (bytes : List ℕ) (truth : Truth) (tree : Tree) → ReadsAs bytes xid call.now → IsTruth (V.held view.now) truth
             → StandsWith self.now.volume self.now.areas truth (V.hints view.now) tree → IfOk result (Gives (StandsWith self.now.volume self.now.areas) Step (free_slots self.now.areas truth) client bytes moment truth tree) }
         ensures fair { IfOk result (IsFair self.now.areas (V.held view.now) (PathOf (V.held view.now) (V.hints view.now) self.now.volume self.now.areas call.now.procedure call.now.args)) }
+        ensures lacks { (truth : Truth) (tree : Tree) → IsTruth (V.held view.now) truth → StandsWith self.now.volume self.now.areas truth (V.hints view.now) tree
+            → IfOk result (IfInner (LacksFirst self.now.volume self.now.areas truth tree call.now moment)) }
         ensures at_once { IsAtOnce call.now → IfOk result IsAnswer }
         ensures keeps { IsReading call.now → IfOk result ChangesNothing }
         ensures tells { IsReading call.now → ((at : List ℕ) → AsksSpace call.now at → ⊥) → IfOk result TellsNothing }

@@ -2,7 +2,12 @@
 use Rattle.std.proofs.Common.{◌≡◌, ℕ, ◌≤◌, Bool, true, false, List, Option, Some, None, refl, sym, ap, ◌∙◌, eqb-true}
 use Rattle.std.specs.Prelude.{nat_le, nat_lt, IfErr, Result, Ok, Err}
 use Rattle.bx_base.specs.declared.names.Mode.{Mode}
+use Rattle.bx_blink.specs.Walks.{Reads}
+use Rattle.bx_adding.specs.Lacking.{IfFirst}
+use Rattle.bx_adding.specs.Stopping.{NeverFirst}
+use Rattle.bx_adding.proofs.Lacks.{never_first}
 use Rattle.bx_changes.specs.Changes.{Changes}
+use Rattle.bx_changes.specs.First.{ComesFirst}
 use Rattle.bx_changes.specs.Growing.{IsChangeBy, NeedsBy}
 use Rattle.bx_changes.specs.declared.error.ChangeError.{ChangeError}
 use Rattle.bx_changes.specs.declared.error.ChangeError.TheVariants.{Stopped, Full}
@@ -10,8 +15,9 @@ use Rattle.bx_entries.specs.Finding.{DirectoryFor, MayChange, changeable}
 use Rattle.bx_entries.proofs.Found.{changes, is_a_directory}
 use Rattle.bx_handles.specs.Handles.{named}
 use Rattle.bx_hints.specs.Fitting.{HintsFitAll}
-use Rattle.bx_inodes.specs.Inodes.{FileAt, IsInodeOf}
+use Rattle.bx_inodes.specs.Inodes.{FileAt, InodeAt, IsInodeOf}
 use Rattle.bx_inodes.specs.Stands.{Stands}
+use Rattle.bx_inodes.specs.Stops.{NeverInner}
 use Rattle.bx_inodes.specs.declared.stop.Stop.{Stop}
 use Rattle.bx_inodes.specs.declared.stop.Stop.TheVariants.{Need, Inner, Status, OutOfMemory}
 use Rattle.bx_layout.specs.declared.inode.Inode.{Inode}
@@ -47,7 +53,10 @@ module _ (areas : ℕ) (truth : Truth) (outcome : ℕ → Outcome) (tree : Tree)
   pub not_linked : (held : Held) (inode : Inode) (error : ChangeError) → MayLinkIn areas held truth file directory inode name (Err error) → ComesBy areas truth outcome (Err error)
   not_linked held inode (Stopped (Status status)) e = same 8 ∙ ap (then tree file directory name now) e
   not_linked held inode (Stopped (Need at mode)) e = tt
-  not_linked held inode (Stopped (Inner blocks)) e = e
+  not_linked held inode (Stopped (Inner blocks)) e = (e.0, λ status is. no_error status (sym (same 8 ∙ ap (then tree file directory name now) e.1) ∙ is))
+    where
+      no_error : (status : ℕ) → ◌≡◌ {A = Outcome} (Ok (reply.Status 0, with_link tree file directory name now)) (Err status) → ⊥
+      no_error status is = absurd cc
   not_linked held inode (Stopped OutOfMemory) e = tt
   not_linked held inode (Full spare) e = (e.0, same spare ∙ ap (then tree file directory name now) e.1)
 
@@ -130,9 +139,18 @@ module _ (tree : Tree) (call : Call) (at name : List ℕ) (now : Time) (volume :
       pub is_stopped : (error : ChangeError) → ComesBy areas truth (λ spare. linking tree call f.file name now spare (named_file tree at)) (Err error) → IsChangeBy volume areas truth (λ spare. link tree call bytes at name now spare) (Err error)
       is_stopped (Stopped (Status status)) e = comes 8 ∙ e
       is_stopped (Stopped (Need at mode)) e = tt
-      is_stopped (Stopped (Inner blocks)) e = e
+      is_stopped (Stopped (Inner blocks)) e = e.0
       is_stopped (Stopped OutOfMemory) e = tt
       is_stopped (Full spare) e = (e.0, comes spare ∙ e.1)
+
+      -- blocks are to be written first where there is no error
+      pub is_first : (Lacks : Type 0) (error : ChangeError) → ComesBy areas truth (λ spare. linking tree call f.file name now spare (named_file tree at)) (Err error) → IfFirst Lacks error
+          → ComesFirst (λ status. link tree call bytes at name now 8 ≡ Err status) Lacks error
+      is_first Lacks (Stopped (Inner blocks)) e lacks = ((λ status is. e.1 status (sym (comes 8) ∙ is)), lacks)
+      is_first Lacks (Stopped (Status status)) e lacks = tt
+      is_first Lacks (Stopped (Need at mode)) e lacks = tt
+      is_first Lacks (Stopped OutOfMemory) e lacks = tt
+      is_first Lacks (Full spare) e lacks = tt
 
       pub is_changed : (stands : Stands volume areas truth tree) (new : List Changed) → ComesSo areas truth (linking tree call f.file name now 8 (named_file tree at)) new
           → Changes volume areas truth (link tree call bytes at name now 8) new (reply.Status 0)
@@ -153,3 +171,26 @@ needs_by areas held P Q wider (Full spare) n = tt
 pub needs_if : {T : Type 0} (areas : ℕ) (held : Held) (P Q : ℕ → Mode → Type 0) → ((at : ℕ) (mode : Mode) → P at mode → Q at mode) → (result : Result T ChangeError) → IfErr result (NeedsBy areas held P) → IfErr result (NeedsBy areas held Q)
 needs_if areas held P Q wider (Ok done) n = tt
 needs_if areas held P Q wider (Err error) n = needs_by areas held P Q wider error n
+
+-- ---- nothing is written first where nothing ever is
+pub stop_comes : (T : Type 0) (Fails : ℕ → Type 0) (Lacks : Type 0) (stop : Stop) → NeverInner {T = T} (Err stop) → ComesFirst Fails Lacks (Stopped stop)
+stop_comes T Fails Lacks (Need at mode) never = tt
+stop_comes T Fails Lacks (Inner blocks) never = absurd never
+stop_comes T Fails Lacks (Status status) never = tt
+stop_comes T Fails Lacks OutOfMemory never = tt
+
+pub stop_first : (T : Type 0) (Holds : Type 0) (stop : Stop) → NeverInner {T = T} (Err stop) → IfFirst Holds (Stopped stop)
+stop_first T Holds (Need at mode) never = tt
+stop_first T Holds (Inner blocks) never = absurd never
+stop_first T Holds (Status status) never = tt
+stop_first T Holds OutOfMemory never = tt
+
+pub never_if : {X : Type 0} (Holds : Type 0) (result : Result X ChangeError) → IfErr result NeverFirst → IfErr result (IfFirst Holds)
+never_if Holds (Ok value) never = tt
+never_if Holds (Err error) never = never_first Holds error never
+
+pub inode_never : (reads : Reads) (areas handle : ℕ) (mode : Mode) (stop : Stop) → InodeAt reads areas handle mode (Err stop) → NeverInner {T = Inode} (Err stop)
+inode_never reads areas handle mode (Need at asked) is = tt
+inode_never reads areas handle mode (Inner blocks) is = absurd is
+inode_never reads areas handle mode (Status status) is = tt
+inode_never reads areas handle mode OutOfMemory is = tt

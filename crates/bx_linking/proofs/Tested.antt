@@ -200,6 +200,6 @@ pub with_room : (areas : ℕ) (held : Held) (truth : Truth) (file directory : Fi
 with_room areas held truth file directory inode name passed (Ok done) r = record { none = passed; ready = r }
 with_room areas held truth file directory inode name passed (Err (Stopped (Status status))) r = absurd r
 with_room areas held truth file directory inode name passed (Err (Stopped (Need at mode))) r = tt
-with_room areas held truth file directory inode name passed (Err (Stopped (Inner blocks))) r = r
+with_room areas held truth file directory inode name passed (Err (Stopped (Inner blocks))) r = (r, passed)
 with_room areas held truth file directory inode name passed (Err (Stopped OutOfMemory)) r = tt
 with_room areas held truth file directory inode name passed (Err (Full spare)) r = (r, is_full file directory name spare r.few passed)

@@ -24,12 +24,16 @@ pub record ComesSo (areas : ℕ) (truth : Truth) (outcome : Outcome) (new : List
   pub comes_to : outcome ≡ Ok (reply.Status 0, next)
   pub leaves : Leaves areas truth new next
 
+-- it comes to no error
+abbrev pub MeetsNone : Outcome → Type 0
+MeetsNone outcome = (status : ℕ) → outcome ≡ Err status → ⊥
+
 -- What is answered is what the procedure comes to: with 8 blocks free, which stand for enough; or NOSPC, with as many as are free, which are
--- fewer.
+-- fewer. Blocks are to be written first only where it comes to no error with 8 blocks free.
 abbrev pub ComesBy : ℕ → Truth → (ℕ → Outcome) → Result (List Changed) ChangeError → Type 0
 ComesBy areas truth outcome (Ok new) = ComesSo areas truth (outcome 8) new
 ComesBy areas truth outcome (Err (Stopped (Status status))) = outcome 8 ≡ Err status
 ComesBy areas truth outcome (Err (Stopped (Need at mode))) = Unit {0}
-ComesBy areas truth outcome (Err (Stopped (Inner blocks))) = LeavesTrees areas truth blocks
+ComesBy areas truth outcome (Err (Stopped (Inner blocks))) = LeavesTrees areas truth blocks × MeetsNone (outcome 8)
 ComesBy areas truth outcome (Err (Stopped OutOfMemory)) = Unit {0}
 ComesBy areas truth outcome (Err (Full spare)) = IsNearlyFull areas truth spare × (outcome spare ≡ Err NOSPC)

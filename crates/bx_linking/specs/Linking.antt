@@ -90,12 +90,12 @@ pub record MayLink (areas : ℕ) (held : Held) (truth : Truth) (file directory :
   pub none : link_errors file directory name 8 ≡ Ok tt
   pub ready : IsReadyFor areas held truth inode.tree name inode.next
 
--- What testing for that answers.
+-- What testing for that answers. Blocks are to be written first only where there is no error with 8 blocks free.
 abbrev pub MayLinkIn : ℕ → Held → Truth → File → File → Inode → List ℕ → Result (Unit {0}) ChangeError → Type 0
 MayLinkIn areas held truth file directory inode name (Ok done) = MayLink areas held truth file directory inode name
 MayLinkIn areas held truth file directory inode name (Err (Stopped (Status status))) = link_errors file directory name 8 ≡ Err status
 MayLinkIn areas held truth file directory inode name (Err (Stopped (Need at mode))) = Unit {0}
-MayLinkIn areas held truth file directory inode name (Err (Stopped (Inner blocks))) = LeavesTrees areas truth blocks
+MayLinkIn areas held truth file directory inode name (Err (Stopped (Inner blocks))) = LeavesTrees areas truth blocks × (link_errors file directory name 8 ≡ Ok tt)
 MayLinkIn areas held truth file directory inode name (Err (Stopped OutOfMemory)) = Unit {0}
 MayLinkIn areas held truth file directory inode name (Err (Full spare)) = IsNearlyFull areas truth spare × (link_errors file directory name spare ≡ Err NOSPC)
 

@@ -1,6 +1,8 @@
 //! LINK.
 
-ghost use Rattle.std.specs.Prelude.{◌≡◌, ◌≤◌, ℕ, length, IfErr, IfOk};
+ghost use Rattle.std.specs.Prelude.{◌≡◌, ◌≤◌, ℕ, length, Err, IfErr, IfOk};
+ghost use Rattle.bx_adding.specs.Lacking.{LacksPlace};
+ghost use Rattle.bx_changes.specs.First.{ComesFirst};
 ghost use Rattle.bx_changes.specs.Growing.{HoldsFirst, IsChangeBy, NeedsBy};
 ghost use Rattle.bx_hints.specs.Fitting.{HintsFitAll};
 ghost use Rattle.bx_inodes.specs.Stands.{Stands};
@@ -28,8 +30,8 @@ use std::alloc::Global;
 /// path of the search for the name, to room for it in the directory's tree, or of the change of that tree. The status is `STALE`, exactly where the first file
 /// handle names no file, else where the second names none, `NOTDIR` where that is no directory, `ACCES` of a bad name and where the caller may not change
 /// it, `PERM` where the file is a directory, `EXIST` where an entry has the name, and `DQUOT` where the file has 32000 names or the directory no
-/// number left. `Inner` are the blocks that make room, which are to be written first, and `Full` comes where fewer than 8 blocks are free and one is
-/// wanted for that. `now` is in seconds and microseconds.
+/// number left. `Inner` are the blocks that make room, which are to be written first: they come exactly where none of these errors does and room is lacking in
+/// the directory's tree. `Full` comes where fewer than 8 blocks are free and one is wanted for that. `now` is in seconds and microseconds.
 pub fn link<V: View>(
     alloc: Global,
     volume: u64,
@@ -47,6 +49,8 @@ pub fn link<V: View>(
         → IsChangeBy volume areas truth (λ spare. link_of tree call.now from.now at.now name.now now spare) result }
     ensures hints { (hints : Hints) (truth : Truth) (tree : Tree) → IsTruth (V.held view.now) truth → Stands volume areas truth tree → HintsFitAll areas (V.hints view.now) truth
         → HintsFitAll areas hints truth → IfOk result (λ made. HintsFitAll areas hints (with_draft truth made.0)) }
+    ensures lacks { (truth : Truth) (tree : Tree) → IsTruth (V.held view.now) truth → Stands volume areas truth tree → HintsFitAll areas (V.hints view.now) truth
+        → IfErr result (ComesFirst (λ status. link_of tree call.now from.now at.now name.now now 8 ≡ Err status) (LacksPlace volume areas truth at.now name.now)) }
     ensures need { IfErr result (NeedsBy areas (V.held view.now) (OnLink (V.held view.now) (V.hints view.now) volume areas from.now at.now name.now)) }
     ensures first { IfErr result (HoldsFirst (V.held view.now)) }
     ensures held { IfOk result (λ made. IsHeldDraft (V.held view.now) made.0) }

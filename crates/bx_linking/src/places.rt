@@ -1,6 +1,8 @@
 //! The place of a file's new name: the directory that is named, and the entry in it.
 
 ghost use Rattle.std.specs.Prelude.{◌≡◌, ◌<◌, ◌≤◌, ℕ, [], length, IfErr, IfOk, IsSome};
+ghost use Rattle.bx_adding.specs.Lacking.{IfFirst, LacksPlace};
+ghost use Rattle.bx_adding.specs.Stopping.{NeverFirst};
 ghost use Rattle.bx_base.specs.declared.names.Mode.TheVariants.{Exclusive};
 ghost use Rattle.bx_blink.specs.Walks.{reads_with};
 ghost use Rattle.bx_changes.specs.Growing.{HoldsFirst, NeedsBy};
@@ -50,6 +52,8 @@ pub(crate) fn link_into<V: View>(
     requires live { LiveAt (reads_with (V.held view.now) (V.hints view.now) []) areas file.handle Exclusive file.inode }
     ensures step { (truth : Truth) (tree : Tree) → IsTruth (V.held view.now) truth → Stands volume areas truth tree → HintsFitAll areas (V.hints view.now) truth
         → (is : IsInodeOf areas truth tree file.handle file.inode) → ComesBy areas truth (λ spare. linking tree call.now is.file name.now now spare (named_file tree at.now)) result }
+    ensures lacks { (truth : Truth) (tree : Tree) → IsTruth (V.held view.now) truth → Stands volume areas truth tree → HintsFitAll areas (V.hints view.now) truth
+        → IsInodeOf areas truth tree file.handle file.inode → IfErr result (IfFirst (LacksPlace volume areas truth at.now name.now)) }
     ensures need { IfErr result (NeedsBy areas (V.held view.now) (OnInto (V.held view.now) (V.hints view.now) volume areas file.handle at.now name.now)) }
     ensures first { IfErr result (HoldsFirst (V.held view.now)) }
     ensures held { IfOk result (IsHeldDraft (V.held view.now)) }
@@ -90,6 +94,7 @@ fn link_file<V: View>(
         → (is : IsLinking volume areas (V.held view.now) (V.hints view.now) truth tree file.handle file.inode directory.handle directory.inode)
         → MayLink areas (V.held view.now) truth is.file.file is.at.file directory.inode name.now
         → LinksIn areas truth (with_link tree is.file.file is.at.file name.now now) result }
+    ensures inner { IfErr result NeverFirst }
     ensures need { IfErr result (NeedsBy areas (V.held view.now) (OnAddPath (V.held view.now) (V.hints view.now) [] directory.inode.tree (entry_of directory.inode.next name.now file.handle))) }
     ensures first { IfErr result (HoldsFirst (V.held view.now)) }
     ensures held { IsSome (V.held view.now (block_at directory.handle) Exclusive) → IsSome (V.held view.now (block_at file.handle) Exclusive) → IfOk result (IsHeldDraft (V.held view.now)) }

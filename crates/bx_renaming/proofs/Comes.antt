@@ -2,7 +2,9 @@
 use Rattle.std.proofs.Common.{◌≡◌, ℕ, ◌≤◌, Bool, true, false, eqb-true, List, [], Option, Some, None, refl, sym, ap, ◌∙◌, subst}
 use Rattle.std.specs.Prelude.{◌≢◌, ◌==◌, ◌&&◌, not, if◌then◌else◌, Result, Ok, Err}
 use Rattle.std.proofs.lemmas.Bool.{not-false}
+use Rattle.bx_adding.specs.Lacking.{IfFirst}
 use Rattle.bx_changes.specs.Changes.{Changes}
+use Rattle.bx_changes.specs.First.{ComesFirst}
 use Rattle.bx_changes.specs.Growing.{IsChangeBy}
 use Rattle.bx_changes.specs.declared.error.ChangeError.{ChangeError}
 use Rattle.bx_changes.specs.declared.error.ChangeError.TheVariants.{Stopped, Full}
@@ -47,7 +49,7 @@ pub comes_along : (areas : ℕ) (truth : Truth) (from to : ℕ → Outcome) → 
 comes_along areas truth from to same (Ok new) c = record { next = c.next; comes_to = same 8 ∙ c.comes_to; leaves = c.leaves }
 comes_along areas truth from to same (Err (Stopped (Status status))) c = same 8 ∙ c
 comes_along areas truth from to same (Err (Stopped (Need at mode))) c = tt
-comes_along areas truth from to same (Err (Stopped (Inner blocks))) c = c
+comes_along areas truth from to same (Err (Stopped (Inner blocks))) c = (c.0, λ status is. c.1 status (sym (same 8) ∙ is))
 comes_along areas truth from to same (Err (Stopped OutOfMemory)) c = tt
 comes_along areas truth from to same (Err (Full spare)) c = (c.0, same spare ∙ c.1)
 
@@ -227,9 +229,18 @@ module _ (tree : Tree) (call : Call) (from name to new_name : List ℕ) where
           → IsChangeBy volume areas truth (λ spare. rename tree call from name to new_name now spare) (Err error)
       is_stopped (Stopped (Status status)) e = comes 8 ∙ e
       is_stopped (Stopped (Need at mode)) e = tt
-      is_stopped (Stopped (Inner blocks)) e = e
+      is_stopped (Stopped (Inner blocks)) e = e.0
       is_stopped (Stopped OutOfMemory) e = tt
       is_stopped (Full spare) e = (e.0, comes spare ∙ e.1)
+
+      -- blocks are to be written first where there is no error
+      pub is_first : (Lacks : Type 0) (error : ChangeError) → ComesBy areas truth (move_between tree p.source.file name p.target.file new_name now) (Err error) → IfFirst Lacks error
+          → ComesFirst (λ status. rename tree call from name to new_name now 8 ≡ Err status) Lacks error
+      is_first Lacks (Stopped (Inner blocks)) e lacks = ((λ status is. e.1 status (sym (comes 8) ∙ is)), lacks)
+      is_first Lacks (Stopped (Status status)) e lacks = tt
+      is_first Lacks (Stopped (Need at mode)) e lacks = tt
+      is_first Lacks (Stopped OutOfMemory) e lacks = tt
+      is_first Lacks (Full spare) e lacks = tt
 
       pub is_renamed : Stands volume areas truth tree → (new : List Changed) → ComesSo areas truth (move_between tree p.source.file name p.target.file new_name now 8) new
           → Changes volume areas truth (rename tree call from name to new_name now 8) new (reply.Status 0)

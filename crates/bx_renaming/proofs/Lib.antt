@@ -4,3 +4,4 @@ pub mod Tested
 pub mod Passed
 pub mod Rooms
 pub mod Comes
+pub mod Lacks

@@ -10,6 +10,7 @@ use Rattle.bx_entries.specs.Finding.{IsDirectoryOf}
 use Rattle.bx_inodes.specs.declared.stop.Stop.TheVariants.{Need, Inner, Status, OutOfMemory}
 use Rattle.bx_linking.specs.Drafting.{ComesBy}
 use Rattle.bx_linking.proofs.Tested.{IsPlaceOf, place}
+use Rattle.bx_model.specs.declared.reply.Reply.{Reply}
 use Rattle.bx_model.specs.declared.tree.Tree.{Tree}
 use Rattle.bx_model.specs.Renaming.{changes_parent, renamed}
 use Rattle.bx_model.specs.Steps.{Outcome, refuse, ◌>>◌}
@@ -35,6 +36,9 @@ use Rattle.bx_renaming.specs.Renaming.{AreDirectories, IsPassed, coming_in, done
 
 abbrev enters_by : Bool → Bool → Outcome → Outcome
 enters_by last few done = (refuse last 69 >> refuse few 28) >> done
+
+no_error : (given : Reply × Tree) (status : ℕ) → ◌≡◌ {A = Outcome} (Ok given) (Err status) → ⊥
+no_error given status is = absurd cc
 
 module _ (volume areas : ℕ) (held : Held) (hints : Hints) (truth : Truth) (tree : Tree) (places : Places) (are : AreDirectories volume areas held hints truth tree places) where
   abbrev pub from : IsDirectoryOf volume areas held hints truth tree places.source.handle places.source.inode
@@ -79,7 +83,7 @@ module _ (volume areas : ℕ) (held : Held) (hints : Hints) (truth : Truth) (tre
           → ComesBy areas truth (coming_in tree are.source.file name are.target.file new_name passed.moved (other_file tree are.source.file are.target.file moving name new_name replaced passed) now) (Err error)
       no_room (Stopped (Status status)) r = absurd r
       no_room (Stopped (Need at mode)) r = tt
-      no_room (Stopped (Inner blocks)) r = r
+      no_room (Stopped (Inner blocks)) r = (r, λ status is. no_error _ status (sym (by_tests false false 8 not_last refl) ∙ is))
       no_room (Stopped OutOfMemory) r = tt
       no_room (Full spare) r =
           let less = r.few in

@@ -2,3 +2,4 @@ pub mod Places
 pub mod Found
 pub mod Path
 pub mod Renaming
+pub mod Lacking

@@ -1,4 +1,4 @@
-use Rattle.std.proofs.Common.{List, subst, sym}
+use Rattle.std.proofs.Common.{◌≡◌, List, subst, sym}
 use Rattle.std.specs.Prelude.{Err}
 use Rattle.std.proofs.lemmas.Result.{IfOk-weaker}
 use Rattle.bx_attempts.proofs.Acting.{setattr_acts}
@@ -13,6 +13,10 @@ use Rattle.bx_model.specs.declared.call.Args.{Args}
 use Rattle.bx_model.specs.declared.reply.Reply.{Reply}
 use Rattle.bx_records.specs.Drafts.{Changed}
 use Rattle.bx_tree_files.specs.Times.{Time, time_of}
+use Rattle.bx_sizes.specs.Cuts.{GivenGrowsOver}
+use Rattle.bx_changes.specs.First.{StopsFirst}
+use Rattle.bx_attempts.specs.First.{LacksFirst}
+use Rattle.bx_attempts.proofs.First.{changed_first, setattr_first, stopped_first}
 use Rattle.bx_attempts.proofs.attributes.setattr.Goals as goal
 
 pub returns-in-Ok-clause-gives : goal.returns-in-Ok-clause-gives
@@ -47,3 +51,15 @@ returns-in-Err-clause-fair g c =
     IfOk-weaker c.stopped.result _ _
     (λ attempt is. fair_over a.areas held (OnSetting held hints a.volume a.areas a.at.now) (ChangePathOf held hints a.volume a.areas a.call.now.procedure a.call.now.args) (λ block mode on. subst (λ (args : Args). ChangePathOf held hints a.volume a.areas a.call.now.procedure args block mode) (sym c.requires.args) on) attempt
     (inner_fair a.xid a.areas held (OnSetting held hints a.volume a.areas a.at.now) attempt (List Changed × Reply) c.in-Err.stop c.in-Err.ensures.need c.in-Err.ensures.first is)) c.stopped.ensures
+
+pub returns-in-Ok-clause-lacks : goal.returns-in-Ok-clause-lacks
+returns-in-Ok-clause-lacks g c = λ truth tree same s.
+    let a = c.args in
+    IfOk-weaker c.changed.result _ _ (λ attempt is. changed_first (LacksFirst a.volume a.areas truth tree a.call.now a.moment) a.xid attempt c.in-Ok.draft c.in-Ok.reply 0 is) c.changed.ensures.is
+
+pub returns-in-Err-clause-lacks : goal.returns-in-Err-clause-lacks
+returns-in-Err-clause-lacks g c = λ truth tree same s.
+    let a = c.args in
+    let first = subst (λ (t : Time). StopsFirst (λ status. setattr tree a.call.now a.at.now a.sattr.now t ≡ Err status) (GivenGrowsOver a.volume a.areas truth a.at.now a.sattr.now.size) c.in-Err.stop) c.time_of-now.ensures (c.in-Err.ensures.lacks truth tree c.requires.areas same s.stands s.fit) in
+    IfOk-weaker c.stopped.result _ _
+    (λ attempt is. stopped_first (LacksFirst a.volume a.areas truth tree a.call.now a.moment) a.xid attempt c.in-Err.stop (setattr_first a.volume a.areas truth tree a.call.now a.moment a.at.now a.sattr.now c.requires.args (Stopped c.in-Err.stop) first) is) c.stopped.ensures

@@ -1,4 +1,4 @@
-use Rattle.std.proofs.Common.{ℕ, subst, sym}
+use Rattle.std.proofs.Common.{◌≡◌, ℕ, subst, sym}
 use Rattle.std.specs.Prelude.{Err}
 use Rattle.std.proofs.lemmas.Result.{IfOk-weaker}
 use Rattle.bx_attempts.proofs.Acting.{symlink_acts}
@@ -10,6 +10,10 @@ use Rattle.bx_creating.specs.Making.{OnMaking}
 use Rattle.bx_model.specs.Making.{symlink}
 use Rattle.bx_model.specs.declared.call.Args.{Args}
 use Rattle.bx_tree_files.specs.Times.{Time, time_of}
+use Rattle.bx_adding.specs.Lacking.{LacksPlace}
+use Rattle.bx_changes.specs.First.{ComesFirst}
+use Rattle.bx_attempts.specs.First.{LacksFirst}
+use Rattle.bx_attempts.proofs.First.{changed_first, symlink_first, refused_first}
 use Rattle.bx_attempts.proofs.making.symlink.Goals as goal
 
 pub returns-in-Ok-clause-gives : goal.returns-in-Ok-clause-gives
@@ -44,3 +48,15 @@ returns-in-Err-clause-fair g c =
     IfOk-weaker c.refused.result _ _
     (λ attempt is. fair_over a.areas held (OnMaking held hints a.volume a.areas a.at.now a.name.now) (ChangePathOf held hints a.volume a.areas a.call.now.procedure a.call.now.args) (λ block mode on. subst (λ (args : Args). ChangePathOf held hints a.volume a.areas a.call.now.procedure args block mode) (sym c.requires.args) on) attempt
     (refused_fair a.xid a.areas held (OnMaking held hints a.volume a.areas a.at.now a.name.now) attempt c.in-Err.error c.in-Err.ensures.need c.in-Err.ensures.first is)) c.refused.ensures
+
+pub returns-in-Ok-clause-lacks : goal.returns-in-Ok-clause-lacks
+returns-in-Ok-clause-lacks g c = λ truth tree same s.
+    let a = c.args in
+    IfOk-weaker c.changed.result _ _ (λ attempt is. changed_first (LacksFirst a.volume a.areas truth tree a.call.now a.moment) a.xid attempt c.in-Ok.draft c.in-Ok.reply c.in-Ok.made is) c.changed.ensures.is
+
+pub returns-in-Err-clause-lacks : goal.returns-in-Err-clause-lacks
+returns-in-Err-clause-lacks g c = λ truth tree same s.
+    let a = c.args in
+    let first = subst (λ (t : Time). ComesFirst (λ status. symlink tree a.call.now a.at.now a.name.now a.path.now a.sattr.now t 8 ≡ Err status) (LacksPlace a.volume a.areas truth a.at.now a.name.now) c.in-Err.error) c.time_of-now.ensures (c.in-Err.ensures.lacks truth tree same s.stands s.fit) in
+    IfOk-weaker c.refused.result _ _
+    (λ attempt is. refused_first (LacksFirst a.volume a.areas truth tree a.call.now a.moment) a.xid attempt c.in-Err.error (symlink_first a.volume a.areas truth tree a.call.now a.moment a.at.now a.name.now a.path.now a.sattr.now c.requires.args c.in-Err.error first) is) c.refused.ensures

@@ -13,6 +13,8 @@ use Rattle.bx_model.specs.declared.call.Args.{Args}
 use Rattle.bx_model.specs.declared.reply.Reply.{Reply}
 use Rattle.bx_records.specs.Drafts.{Changed}
 use Rattle.bx_tree_files.specs.Times.{Time, time_of}
+use Rattle.bx_attempts.specs.First.{LacksFirst}
+use Rattle.bx_attempts.proofs.First.{changed_first, never_first}
 use Rattle.bx_attempts.proofs.naming.rmdir.Goals as goal
 
 pub returns-in-Ok-clause-gives : goal.returns-in-Ok-clause-gives
@@ -47,3 +49,13 @@ returns-in-Err-clause-fair g c =
     IfOk-weaker c.stopped.result _ _
     (λ attempt is. fair_over a.areas held (OnRmdir held hints a.volume a.areas a.at.now a.name.now) (ChangePathOf held hints a.volume a.areas a.call.now.procedure a.call.now.args) (λ block mode on. subst (λ (args : Args). ChangePathOf held hints a.volume a.areas a.call.now.procedure args block mode) (sym c.requires.args) (inr (c.requires.procedure, on))) attempt
     (stops_fair a.xid a.areas held (OnRmdir held hints a.volume a.areas a.at.now a.name.now) attempt (List Changed × Reply) c.in-Err.stop c.in-Err.ensures.need c.in-Err.ensures.inner is)) c.stopped.ensures
+
+pub returns-in-Ok-clause-lacks : goal.returns-in-Ok-clause-lacks
+returns-in-Ok-clause-lacks g c = λ truth tree same s.
+    let a = c.args in
+    IfOk-weaker c.changed.result _ _ (λ attempt is. changed_first (LacksFirst a.volume a.areas truth tree a.call.now a.moment) a.xid attempt c.in-Ok.draft c.in-Ok.reply 0 is) c.changed.ensures.is
+
+pub returns-in-Err-clause-lacks : goal.returns-in-Err-clause-lacks
+returns-in-Err-clause-lacks g c = λ truth tree same s.
+    let a = c.args in
+    IfOk-weaker c.stopped.result _ _ (λ attempt is. never_first (LacksFirst a.volume a.areas truth tree a.call.now a.moment) a.xid attempt (List Changed × Reply) c.in-Err.stop c.in-Err.ensures.inner is) c.stopped.ensures

@@ -1,4 +1,4 @@
-use Rattle.std.proofs.Common.{ℕ, List, subst, sym, inl, inr}
+use Rattle.std.proofs.Common.{◌≡◌, ℕ, List, subst, sym, inl, inr}
 use Rattle.std.specs.Prelude.{Err, IfOk}
 use Rattle.std.proofs.lemmas.Result.{IfOk-weaker}
 use Rattle.bx_attempts.proofs.Acting.{write_acts}
@@ -12,6 +12,10 @@ use Rattle.bx_model.specs.declared.call.Args.{Args}
 use Rattle.bx_model.specs.declared.reply.Reply.{Reply}
 use Rattle.bx_records.specs.Drafts.{Changed}
 use Rattle.bx_tree_files.specs.Times.{Time, time_of}
+use Rattle.bx_writes.specs.Lacking.{LacksWriting}
+use Rattle.bx_changes.specs.First.{ComesFirst}
+use Rattle.bx_attempts.specs.First.{LacksFirst}
+use Rattle.bx_attempts.proofs.First.{changed_first, write_first, refused_first}
 use Rattle.bx_attempts.proofs.writing.write.Goals as goal
 
 pub returns-in-Ok-clause-gives : goal.returns-in-Ok-clause-gives
@@ -46,3 +50,15 @@ returns-in-Err-clause-fair g c =
     IfOk-weaker c.refused.result _ _
     (λ attempt is. fair_over a.areas held (OnWriting held hints a.volume a.areas a.at.now a.offset a.written.now) (ChangePathOf held hints a.volume a.areas a.call.now.procedure a.call.now.args) (λ block mode on. subst (λ (args : Args). ChangePathOf held hints a.volume a.areas a.call.now.procedure args block mode) (sym c.requires.args.args) on) attempt
     (refused_fair a.xid a.areas held (OnWriting held hints a.volume a.areas a.at.now a.offset a.written.now) attempt c.in-Err.error c.in-Err.ensures.need c.in-Err.ensures.first is)) c.refused.ensures
+
+pub returns-in-Ok-clause-lacks : goal.returns-in-Ok-clause-lacks
+returns-in-Ok-clause-lacks g c = λ truth tree same s.
+    let a = c.args in
+    IfOk-weaker c.changed.result _ _ (λ attempt is. changed_first (LacksFirst a.volume a.areas truth tree a.call.now a.moment) a.xid attempt c.in-Ok.draft c.in-Ok.reply 0 is) c.changed.ensures.is
+
+pub returns-in-Err-clause-lacks : goal.returns-in-Err-clause-lacks
+returns-in-Err-clause-lacks g c = λ truth tree same s.
+    let a = c.args in
+    let first = subst (λ (t : Time). ComesFirst (λ status. write tree a.call.now a.at.now a.offset a.written.now t 8 ≡ Err status) (LacksWriting a.volume a.areas truth a.at.now a.offset a.written.now) c.in-Err.error) c.time_of-now.ensures (c.in-Err.ensures.lacks truth tree c.requires.areas same s.stands s.fit) in
+    IfOk-weaker c.refused.result _ _
+    (λ attempt is. refused_first (LacksFirst a.volume a.areas truth tree a.call.now a.moment) a.xid attempt c.in-Err.error (write_first a.volume a.areas truth tree a.call.now a.moment a.at.now c.requires.args.begin a.offset c.requires.args.total a.written.now c.requires.args.args c.in-Err.error first) is) c.refused.ensures

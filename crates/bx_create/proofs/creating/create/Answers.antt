@@ -1,4 +1,10 @@
-use Rattle.bx_create.proofs.CreateWhole.{comes, no_directory, no_name, searched}
+use Rattle.bx_create.proofs.CreateWhole.{comes, comes_first, no_directory, no_name, searched}
+use Rattle.std.proofs.Common.{◌≡◌}
+use Rattle.std.specs.Prelude.{Err}
+use Rattle.bx_layout.specs.declared.inode.Inode.{Inode}
+use Rattle.bx_model.specs.Making.{create}
+use Rattle.bx_create.specs.Lacking.{LacksCreate}
+use Rattle.bx_create.proofs.First.{stop_comes}
 use Rattle.bx_create.proofs.creating.create.Goals as goal
 
 pub returns-in_default-clause-step : goal.returns-in_default-clause-step
@@ -18,3 +24,13 @@ returns-in-Ok-clause-hints g c = λ other truth tree same s fit other_fit.
     c.create_in.ensures.hints other truth tree
     (searched tree c.args.call.now c.args.at.now c.args.name.now c.args.sattr.now c.args.now c.args.volume s.volume_is c.in-Some.handle c.in-Some.ensures c.args.areas (g.V.View.held c.args.view.now) (g.V.View.hints c.args.view.now) truth
     c.in-Ok.inode (c.in-Ok.ensures.step truth tree same s.is) c.requires.areas same s fit) other_fit
+
+pub returns-in-Ok-clause-lacks : goal.returns-in-Ok-clause-lacks
+returns-in-Ok-clause-lacks g c = λ truth tree same s fit.
+    comes_first tree c.args.call.now c.args.at.now c.args.name.now c.args.sattr.now c.args.now c.args.volume s.volume_is c.in-Some.handle c.in-Some.ensures c.args.areas (g.V.View.held c.args.view.now) (g.V.View.hints c.args.view.now) truth c.in-Ok.inode
+    (c.in-Ok.ensures.step truth tree same s.is) c.requires.areas same s fit c.create_in.result (λ is. c.create_in.ensures.lacks truth tree is)
+
+pub returns-in-Err-clause-lacks : goal.returns-in-Err-clause-lacks
+returns-in-Err-clause-lacks g c = λ truth tree same s fit.
+    stop_comes Inode (λ status. create tree c.args.call.now c.args.at.now c.args.name.now c.args.sattr.now c.args.now 8 ≡ Err status)
+    (LacksCreate c.args.volume c.args.areas truth tree c.args.at.now c.args.name.now c.args.sattr.now.size) c.in-Err.stop c.in-Err.ensures.inner

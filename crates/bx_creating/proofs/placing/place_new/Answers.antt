@@ -1,4 +1,6 @@
 use Rattle.bx_creating.proofs.Placed.{enter_stops, make_stops, may_enter, places, room_stops}
+use Rattle.bx_adding.specs.Lacking.{LacksEither}
+use Rattle.bx_adding.proofs.Lacks.{never_first}
 use Rattle.bx_creating.proofs.placing.place_new.Goals as goal
 
 pub returns-in-Err-clause-step : goal.returns-in-Err-clause-step
@@ -30,3 +32,11 @@ returns-in-Ok-enter-clause-step g c = λ volume truth tree body p b.
     (c.in-Ok-enter.ensures.step truth _ p.directory.at.file
     (may_enter volume c.args.areas (g.V.View.held c.args.view.now) (g.V.View.hints c.args.view.now) truth tree c.args.directory.handle c.args.directory.inode c.args.name.now p c.args.now c.args.inode body ready c.in-Ok-make_new.draft
     c.in-Ok-make_new.made m))
+
+pub returns-in-Err-make_new-clause-lacks : goal.returns-in-Err-make_new-clause-lacks
+returns-in-Err-make_new-clause-lacks g c = λ volume truth tree d.
+    never_first (LacksEither c.args.areas truth c.args.directory.inode.tree c.args.name.now c.args.directory.inode.next) c.in-Err-make_new.error c.in-Err-make_new.ensures.inner
+
+pub returns-in-Err-enter-clause-lacks : goal.returns-in-Err-enter-clause-lacks
+returns-in-Err-enter-clause-lacks g c = λ volume truth tree d.
+    never_first (LacksEither c.args.areas truth c.args.directory.inode.tree c.args.name.now c.args.directory.inode.next) c.in-Err-enter.error c.in-Err-enter.ensures.inner

@@ -2,7 +2,10 @@ use Rattle.std.proofs.Common.{inl, inr, sym}
 use Rattle.bx_dirs.specs.Changes.{OnAddPath, entry_of}
 use Rattle.bx_model.specs.Reading.{named_file}
 use Rattle.bx_linking.specs.Linking.{OnInto, OnTest, linking}
-use Rattle.bx_linking.proofs.Comes.{both, into, is_linked, needs_by, needs_if, no_directory, no_name, not_linked}
+use Rattle.bx_linking.proofs.Comes.{both, into, is_linked, needs_by, needs_if, never_if, no_directory, no_name, not_linked, stop_first}
+use Rattle.bx_adding.proofs.Lacks.{first_so}
+use Rattle.bx_adding.specs.Lacking.{LacksPlace}
+use Rattle.bx_layout.specs.declared.inode.Inode.{Inode}
 use Rattle.bx_linking.proofs.places.link_into.Goals as goal
 
 pub returns-in_default-clause-step : goal.returns-in_default-clause-step
@@ -35,3 +38,15 @@ pub returns-in-Ok-may_link-clause-need : goal.returns-in-Ok-may_link-clause-need
 returns-in-Ok-may_link-clause-need g c =
     needs_if c.args.areas (g.V.View.held c.args.view.now) (OnAddPath (g.V.View.held c.args.view.now) (g.V.View.hints c.args.view.now) _ c.in-Ok.inode.tree (entry_of c.in-Ok.inode.next c.args.name.now c.args.file.handle)) (OnInto (g.V.View.held c.args.view.now) (g.V.View.hints c.args.view.now) c.args.volume c.args.areas c.args.file.handle c.args.at.now c.args.name.now)
     (λ at mode on. inr (record { directory = c.in-Some.handle; inode = c.in-Ok.inode; is_named = sym c.in-Some.ensures; live = c.in-Ok.ensures.live; on = inr on })) c.link_file.result c.link_file.ensures.need
+
+pub returns-in-Err-may_link-clause-lacks : goal.returns-in-Err-may_link-clause-lacks
+returns-in-Err-may_link-clause-lacks g c = λ truth tree same s fit is.
+    let m = c.in-Ok.ensures.step truth tree same s.is in
+    let b = both tree c.args.call.now is.file c.args.name.now c.args.now c.args.volume c.args.at.now s.volume_is c.in-Some.handle c.in-Some.ensures c.args.areas truth c.in-Ok.inode m (g.V.View.held c.args.view.now) (g.V.View.hints c.args.view.now) c.args.file.inode c.args.file.handle c.requires.few same s fit is in
+    first_so (λ l. record { handle = c.in-Some.handle; inode = c.in-Ok.inode; is_named = sym c.in-Some.ensures; holds = m.at.holds; lacks = l }) c.in-Err-may_link.error (c.in-Err-may_link.ensures.lacks c.args.volume truth tree b)
+
+pub returns-in-Err-clause-lacks : goal.returns-in-Err-clause-lacks
+returns-in-Err-clause-lacks g c = λ truth tree same s fit is. stop_first Inode (LacksPlace c.args.volume c.args.areas truth c.args.at.now c.args.name.now) c.in-Err.stop c.in-Err.ensures.inner
+
+pub returns-in-Ok-may_link-clause-lacks : goal.returns-in-Ok-may_link-clause-lacks
+returns-in-Ok-may_link-clause-lacks g c = λ truth tree same s fit is. never_if (LacksPlace c.args.volume c.args.areas truth c.args.at.now c.args.name.now) c.link_file.result c.link_file.ensures.inner

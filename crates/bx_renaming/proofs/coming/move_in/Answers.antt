@@ -1,5 +1,7 @@
 use Rattle.std.proofs.Common.{arith}
 use Rattle.bx_renaming.proofs.Rooms.{counts_so, into, may_move, moves_so, no_number, no_room}
+use Rattle.bx_linking.proofs.Comes.{never_if}
+use Rattle.bx_adding.specs.Lacking.{LacksEither}
 use Rattle.bx_renaming.proofs.coming.move_in.Goals as goal
 
 pub returns-then-places-ge-LAST_NUMBER-clause-step : goal.returns-then-places-ge-LAST_NUMBER-clause-step
@@ -16,3 +18,10 @@ returns-in-Ok-clause-step g c = λ volume truth tree are passed.
     let ready = c.in-Ok.ensures.step volume truth tree (into volume c.args.areas (g.V.View.held c.args.view.now) (g.V.View.hints c.args.view.now) truth tree c.args.places.now are) in
     moves_so volume c.args.areas (g.V.View.held c.args.view.now) (g.V.View.hints c.args.view.now) truth tree c.args.places.now are c.args.name.now c.args.new_name.now c.args.now c.args.moving c.args.replaced passed (omega (arith, left)) ready c.move_file.result
     (c.move_file.ensures.step truth tree (may_move volume c.args.areas (g.V.View.held c.args.view.now) (g.V.View.hints c.args.view.now) truth tree c.args.places.now are c.args.name.now c.args.new_name.now c.args.now c.args.moving c.args.replaced passed (omega (arith, left)) ready) (counts_so volume c.args.areas (g.V.View.held c.args.view.now) (g.V.View.hints c.args.view.now) truth tree c.args.places.now are c.args.name.now c.args.new_name.now c.args.now c.args.moving c.args.replaced passed (omega (arith, left)) ready))
+
+pub returns-in-Err-clause-lacks : goal.returns-in-Err-clause-lacks
+returns-in-Err-clause-lacks g c = λ volume truth tree are.
+    c.in-Err.ensures.lacks volume truth tree (into volume c.args.areas (g.V.View.held c.args.view.now) (g.V.View.hints c.args.view.now) truth tree c.args.places.now are)
+
+pub returns-in-Ok-clause-lacks : goal.returns-in-Ok-clause-lacks
+returns-in-Ok-clause-lacks g c = λ volume truth tree are. never_if (LacksEither c.args.areas truth c.args.places.now.target.inode.tree c.args.new_name.now c.args.places.now.target.inode.next) c.move_file.result c.move_file.ensures.inner

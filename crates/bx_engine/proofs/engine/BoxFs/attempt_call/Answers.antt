@@ -5,6 +5,8 @@ use Rattle.bx_attempts.specs.Paths.{ChangePathOf}
 use Rattle.bx_engine.proofs.Along.{fair_along}
 use Rattle.bx_engine.proofs.Apart.{changes_no_space, changes_not_at_once, changes_not_reads}
 use Rattle.bx_engine.specs.Paths.{PathOf, ReadPathOf}
+use Rattle.bx_attempts.specs.First.{LacksFirst}
+use Rattle.bx_engine.proofs.First.{quiet_first}
 use Rattle.bx_engine.proofs.engine.BoxFs.attempt_call.Goals as goal
 
 pub returns-then-is_change-clause-fair : goal.returns-then-is_change-clause-fair
@@ -25,3 +27,7 @@ returns-else-is_change-clause-fair g c =
 
 pub returns-else-is_change-clause-gives : goal.returns-else-is_change-clause-gives
 returns-else-is_change-clause-gives g c = λ client bytes truth tree reads same s. c.answer.ensures.gives client c.args.moment bytes truth tree c.requires.moment reads same s
+
+pub returns-else-is_change-clause-lacks : goal.returns-else-is_change-clause-lacks
+returns-else-is_change-clause-lacks g c = λ truth tree same s.
+    IfOk-weaker c.answer.result _ _ (quiet_first (LacksFirst c.args.self.now.volume c.args.self.now.areas truth tree c.args.call.now c.args.moment)) c.answer.ensures.keeps

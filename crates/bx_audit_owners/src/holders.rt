@@ -127,7 +127,7 @@ fn torn_slot(slot: &UsedSlot) -> AuditError
 }
 
 /// Whether it is a dead inode.
-fn is_dead(holder: Holder) -> bool
+pub(crate) fn is_dead(holder: Holder) -> bool
     ensures { IsTrue result ↔ (holder ≡ OfDead) }
 {
     holder == Holder::Dead

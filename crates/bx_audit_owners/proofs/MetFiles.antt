@@ -8,7 +8,6 @@ use Rattle.bx_audit_owners.specs.Walks.{HaveTree, IsWalked}
 use Rattle.bx_audit_owners.proofs.Walking.{met_there, stored_of}
 use Rattle.bx_model.specs.declared.tree.Tree.{Tree}
 use Rattle.bx_tree_files.specs.declared.file.File.{File}
-use Rattle.bx_tree_files.specs.declared.file.Name.{Name}
 use Rattle.bx_tree_files.specs.Files.{file_at, is_directory, kind_of}
 use Rattle.bx_tree_files.specs.Names.{names_of}
 use Rattle.bx_tree_laws.proofs.Links.{NamesIt, named_by}

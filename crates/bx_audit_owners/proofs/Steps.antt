@@ -9,12 +9,11 @@ use Rattle.bx_audit_owners.specs.Found.{Reading, IsReadSo, IsFound, HaveNoFiles}
 use Rattle.bx_audit_owners.specs.Holding.{Holdings, Adds, Clashes, holder_for}
 use Rattle.bx_audit_owners.proofs.Founds.{one_found}
 use Rattle.bx_audit_owners.proofs.InOrder.{with_here, with_other}
-use Rattle.bx_audit_owners.proofs.Owners.{owner_in, owner_same, found_owner, no_clash, owns_itself, stored_here}
+use Rattle.bx_audit_owners.proofs.Owners.{owner_in, owner_same, found_owner, no_clash}
 use Rattle.bx_layout.specs.declared.block.Block.{Block}
 use Rattle.bx_tree_files.specs.declared.file.File.{File}
 use Rattle.bx_tree_files.specs.Files.{file_at, with_file}
 use Rattle.bx_truth.specs.PageTrees.{Chunks}
-use Rattle.bx_truth.specs.Stored.{Owner, Stored}
 
 none_some : {X : Type 0} (o : Option X) (x : X) → o ≡ None → o ≡ Some x → ⊥
 none_some o x none some = absurd cc

@@ -13,7 +13,7 @@ use Rattle.bx_audit_owners.specs.Told.{IsTold}
 use Rattle.bx_audit_owners.specs.UsedSlots.{IsUsedSlot, AreUsed, IsFreeMarked}
 use Rattle.bx_audit_owners.specs.Walks.{HaveTree, IsTreeOf}
 use Rattle.bx_audit_owners.proofs.Steps.{clash_has_none}
-use Rattle.bx_audit_owners.proofs.Owners.{owner_in, owns_itself, found_owner, found_stored, no_file, inodes_own, stored_here, only_here, agrees, unowned}
+use Rattle.bx_audit_owners.proofs.Owners.{owner_in, owns_itself, found_owner, found_stored, no_file, stored_here, only_here, agrees, unowned}
 use Rattle.bx_audit_trees.specs.Shown.{IsOfSlot, NamesBlock, Shows}
 use Rattle.bx_homes.specs.Slots.{AreBlocks}
 use Rattle.bx_layout.specs.declared.block.Block.{Block}

@@ -42,14 +42,41 @@ pub(crate) fn read_dead<B: Blocks>(
     ensures keeps_ready { B.ready blocks.new }
 {
     for slot in slots {
-        if slot.dead {
-            read_one(alloc, blocks, areas, slot.handle, holders)?;
-        }
+        read_slot(alloc, blocks, areas, slot, holders)?;
     }
     Ok(())
 }
 
-/// The same of one slot, which is marked.
+/// The same of one slot.
+fn read_slot<B: Blocks>(
+    alloc: Global,
+    blocks: &mut B,
+    areas: u16,
+    slot: &UsedSlot,
+    holders: &mut Holders,
+) -> Result<(), AuditError>
+    requires ready { B.ready blocks.old }
+    requires areas { B.areas blocks.old ≡ areas }
+    requires most { areas ≤ 64 }
+    ensures ok { (chunks : Chunks) (files : List File) → Shows (B.tells blocks.old) areas (B.stands blocks.old) chunks → IsFound chunks (holdings_of holders.old) files
+        → OnOk result (IsFound chunks (holdings_of holders.new) files) }
+    ensures marked { slot.now.dead ≡ true → OnOk result (holdings_of holders.new slot.now.handle ≢ None) }
+    ensures still { OnOk result ((at : ℕ) → holdings_of holders.old at ≢ None → holdings_of holders.new at ≢ None) }
+    ensures torn { (chunks : Chunks) (files : List File) → Shows (B.tells blocks.old) areas (B.stands blocks.old) chunks → IsFound chunks (holdings_of holders.old) files
+        → IfTorn result (λ at found wanted. (slot.now.dead ≡ true) × IsNoDead chunks files slot.now.handle wanted) }
+    ensures shows { (chunks : Chunks) → Shows (B.tells blocks.old) areas (B.stands blocks.old) chunks → Shows (B.tells blocks.new) areas (B.stands blocks.new) chunks }
+    ensures counts { Counts result (B.faults blocks.old) (B.faults blocks.new) }
+    ensures keeps_areas { B.areas blocks.new ≡ B.areas blocks.old }
+    ensures keeps_lender { B.lender blocks.new ≡ B.lender blocks.old }
+    ensures keeps_ready { B.ready blocks.new }
+{
+    if !slot.dead {
+        return Ok(());
+    }
+    read_one(alloc, blocks, areas, slot.handle, holders)
+}
+
+/// The same of a slot that is marked.
 fn read_one<B: Blocks>(
     alloc: Global,
     blocks: &mut B,

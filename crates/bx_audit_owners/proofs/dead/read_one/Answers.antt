@@ -1,4 +1,4 @@
-use Rattle.std.proofs.Common.{◌≡◌, ℕ, inl, inr, Err, List, None, Option, Some, is_some, true, false, length, ap, sym, subst, refl, ◌∙◌}
+use Rattle.std.proofs.Common.{◌≡◌, inl, inr, Err, List, None, Option, Some, is_some, false, length, ap, sym, subst, refl, ◌∙◌}
 use Rattle.std.proofs.lemmas.Result.{err_from_is_err_and}
 use Rattle.bx_audit_bodies.specs.Reading.{IsReadAs}
 use Rattle.bx_audit_bodies.specs.declared.claims.Claim.{Claim}

@@ -40,6 +40,6 @@ returns-in_err-check_links-clause-err g c = λ tells.
     (⊎_elim (λ broke. inl broke)
     (λ torn. inr (
       inr record { tree = walked.tree; met = record { holdings = holdings_of walked.holders; walked = is_walked }; none = torn.1; names = torn.0 },
-      none_linked read.members.areas read.first.volume stands walked c.requires.few (one_over (held_by disks.reads read.members) read.members.devices read.newest) is_walked c.in_ok-walked.ensures.tree torn.1,
+      none_linked read.members.areas read.first.volume stands walked c.requires.volume.most_areas (one_over (held_by disks.reads read.members) read.members.devices read.newest) is_walked c.in_ok-walked.ensures.tree torn.1,
     ))
     why)

@@ -1,5 +1,5 @@
 -- What is read of the blocks of a volume, and of the tree that they stand for.
-use Rattle.std.proofs.Common.{◌≡◌, ℕ, ◌<◌, ◌≤◌, ◌⊎◌, inl, inr, arith, Bool, true, false, List, [], sym, ◌∙◌, subst, refl, Err}
+use Rattle.std.proofs.Common.{◌≡◌, ℕ, ◌<◌, ◌≤◌, ◌⊎◌, inl, inr, arith, Bool, true, false, [], sym, ◌∙◌, refl, Err}
 use Rattle.std.proofs.lemmas.Bool.Decides.{nat_tests}
 use Rattle.bx_audit.specs.Blocks.{IsTornBlock, error_of}
 use Rattle.bx_audit_owners.specs.Told.{IsTold}

@@ -13,9 +13,7 @@ use crate::listing::Listing;
 use crate::walks::walked_in;
 use bx_disk::Rack;
 use bx_global::GlobalState;
-use bx_overlay::{
-    AuditError, read_disks, refused_disks_show_no_tree, what_is_read_is_shown,
-};
+use bx_overlay::{AuditError, read_disks, refused_disks_show_no_tree, what_is_read_is_shown};
 use bx_volume::{one_first_label, one_tree_stands};
 use std::alloc::Global;
 

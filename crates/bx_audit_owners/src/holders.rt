@@ -50,11 +50,7 @@ pub(crate) fn put_inode(
 }
 
 /// Whether a chunk has this holder, or none yet. Torn where it has another one.
-pub(crate) fn has_holder(
-    holders: &Holders,
-    handle: u64,
-    holder: Holder,
-) -> Result<bool, AuditError>
+pub(crate) fn has_holder(holders: &Holders, handle: u64, holder: Holder) -> Result<bool, AuditError>
     ensures yes { IfOk result (λ has. IsTrue has → holdings_of holders.now handle ≡ Some holder) }
     ensures no { IfOk result (λ has. IsFalse has → holdings_of holders.now handle ≡ None) }
     ensures torn { IfTorn result (λ at found wanted. HasOther (holdings_of holders.now) handle holder × (wanted ≡ handle)) }

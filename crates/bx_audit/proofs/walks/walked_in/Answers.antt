@@ -1,7 +1,7 @@
-use Rattle.std.proofs.Common.{◌⊎◌, ⊎_elim, inl, inr, Err, ap, sym, subst, ◌∙◌}
+use Rattle.std.proofs.Common.{◌⊎◌, ⊎_elim, inl, inr, Err, ap, subst, ◌∙◌}
 use Rattle.std.proofs.lemmas.Result.{err_from_is_err_and}
 use Rattle.bx_audit.specs.Blocks.{StandForNoTree, blocks_of}
-use Rattle.bx_audit.specs.Walked.{AreHeaded, IsWrongChunk, IsWrongFromRoot, NamesFile}
+use Rattle.bx_audit.specs.Walked.{IsWrongFromRoot, NamesFile}
 use Rattle.bx_audit.proofs.Ordered.{in_order}
 use Rattle.bx_audit.proofs.Shown.{if_err}
 use Rattle.bx_audit.proofs.Walked.{none_linked}

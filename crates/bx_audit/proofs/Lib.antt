@@ -1,4 +1,4 @@
-pub mod Named
+pub mod Ordered
 pub mod Trees
 pub mod Shown
 pub mod Volumes

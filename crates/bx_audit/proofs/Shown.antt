@@ -1,6 +1,6 @@
 -- What the disks of a volume stand for, once their blocks are read.
-use Rattle.std.proofs.Common.{◌≡◌, ℕ, Bool, List, inl, inr, sym, ap, ◌∙◌, subst, refl, Some, Result, Ok, Err, IfOk}
-use Rattle.std.specs.Prelude.{Contains, IfErr}
+use Rattle.std.proofs.Common.{◌≡◌, ℕ, Bool, inl, inr, sym, ap, ◌∙◌, subst, refl, Result, Ok, Err, IfOk}
+use Rattle.std.specs.Prelude.{IfErr}
 use Rattle.bx_audit.specs.Audited.{AreOpen, IsRefusal, IsTorn, StandFor, StandForNone}
 use Rattle.bx_audit.specs.Blocks.{StandForNoTree, blocks_of}
 use Rattle.bx_disk.specs.Disks.{Disks}
@@ -13,32 +13,9 @@ use Rattle.bx_overlay.specs.declared.error.AuditError.{AuditError}
 use Rattle.bx_overlay.specs.declared.volume_disks.VolumeDisks.{VolumeDisks}
 use Rattle.bx_logs.specs.Members.{member_in}
 use Rattle.bx_overlay.specs.Reading.{HoldsTruth, IsRead, IsRefused}
-use Rattle.bx_tree_files.specs.declared.file.File.{File}
-use Rattle.bx_tree_files.specs.Files.{file_at}
 use Rattle.bx_truth.specs.Stands.{StandsFor}
-use Rattle.bx_truth.proofs.OneFiles.{one_list}
 use Rattle.bx_views.specs.Truths.{Truth}
 use Rattle.bx_volume.specs.Images.{AreReadFrom, IsFirstLabel, ShowsTree}
-use Rattle.bx_truth.specs.Chunks.{chunks_of}
-
--- a tree with the files and the root of a file tree is one, once their handles were given out
-file_tree_of : (a b : Tree) → IsFileTree a → a.files ≡ b.files → a.root ≡ b.root → ((handle : ℕ) (file : File) → file_at b.files handle ≡ Some file → Contains b.given handle) → IsFileTree b
-file_tree_of a b is files root given = subst IsFileTree same record {
-  rise = is.rise;
-  is_file = is.is_file;
-  root = is.root;
-  entries = is.entries;
-  links = is.links;
-  named = is.named;
-  once = is.once;
-  root_unnamed = is.root_unnamed;
-  depth = is.depth;
-  nearer = is.nearer;
-  was_given = λ handle file there. given handle file (ap (λ (l : List File). file_at l handle) (sym files) ∙ there);
-}
-  where
-    same : record { volume = b.volume; areas = b.areas; files = a.files; root = a.root; given = b.given } ≡ b
-    same = λ i. record { volume = b.volume; areas = b.areas; files = files i; root = root i; given = b.given }
 
 module _ (disks : Disks) (state : GlobalState) (read : VolumeDisks) (is : IsRead disks state read)
     (blocks : (second : ℕ → Bool) (tree : Tree) → IsRead disks state read → AreReadFrom state second → (shows : ShowsTree disks.sizes disks.reads state second tree)
@@ -83,17 +60,6 @@ module _ (disks : Disks) (state : GlobalState) (read : VolumeDisks) (is : IsRead
 
   pub none_stands : StandForNoTree read.members.areas (blocks_of disks read) → StandForNone disks state
   none_stands none_here = λ tree stands. let s = stood_for tree stands in none_here s.0 s.1 tree s.2 s.3
-
-  -- where the one tree with these blocks is no file tree, none stands
-  pub no_file_tree : (tree : Tree) → ((truth : Truth) → AreBlocks read.members.areas (blocks_of disks read) truth → StandsFor read.members.areas truth tree)
-      → ((handle : ℕ) (file : File) → file_at tree.files handle ≡ Some file → Contains tree.given handle) → (IsFileTree tree → ⊥) → StandForNone disks state
-  no_file_tree tree any given refuted = λ other stands.
-      let s = stood_for other stands in
-      let here = any s.0 s.1 in
-      let there = s.2 in
-      let files : other.files ≡ tree.files =
-      one_list (chunks_of read.members.areas s.0) there.owner here.owner there.stored here.stored other.files tree.files there.in_order here.in_order there.are_files here.are_files in
-      refuted (file_tree_of other tree s.3 files (there.root_is ∙ sym here.root_is) given)
 
   -- the records that are open
   pub are_open : AreOpen disks state read.doubt

@@ -1,10 +1,7 @@
 -- What is read of the blocks of a volume, and of the tree that they stand for.
-use Rattle.std.proofs.Common.{◌≡◌, ℕ, ◌<◌, ◌≤◌, ◌⊎◌, inl, inr, arith, Bool, true, false, List, [], sym, ◌∙◌, subst, refl, Err}
+use Rattle.std.proofs.Common.{◌≡◌, ℕ, ◌<◌, ◌≤◌, ◌⊎◌, inl, inr, arith, Bool, true, false, [], sym, ◌∙◌, refl, Err}
 use Rattle.std.proofs.lemmas.Bool.Decides.{nat_tests}
 use Rattle.bx_audit.specs.Blocks.{IsTornBlock, error_of}
-use Rattle.bx_audit_bodies.specs.Reading.{AreEntriesApart}
-use Rattle.bx_audit_links.specs.InOrder.{AreApart, IsInOrder}
-use Rattle.bx_audit_owners.specs.Found.{AreOrdered}
 use Rattle.bx_audit_owners.specs.Told.{IsTold}
 use Rattle.bx_audit_owners.specs.Whole.{IsTreeTorn}
 use Rattle.bx_audit_trees.specs.declared.error.AuditError.{AuditError as TreeError}
@@ -15,13 +12,8 @@ use Rattle.bx_disk.specs.declared.fault.RackError.TheVariants.{Fault, OutOfMemor
 use Rattle.bx_homes.specs.Slots.{AreBlocks, HasBlock, StaysSo}
 use Rattle.bx_homes.proofs.Kept.{are_still}
 use Rattle.bx_layout.specs.declared.block.Block.{Block}
-use Rattle.bx_model.specs.declared.tree.Tree.{Tree}
 use Rattle.bx_overlay.specs.Refusals.{IsBreak, UnlessFault, audit_error}
 use Rattle.bx_places.specs.Places.{IsBlock, is_block, block_area, block_slot}
-use Rattle.bx_tree_files.specs.declared.file.Body.TheVariants.{Names}
-use Rattle.bx_tree_files.specs.declared.file.File.{File}
-use Rattle.bx_tree_files.specs.declared.file.Name.{Name}
-use Rattle.bx_tree_laws.proofs.Rises.{at_contained}
 use Rattle.bx_truth.specs.Chunks.{IsChunked}
 use Rattle.bx_views.specs.Truths.{Truth}
 
@@ -76,15 +68,3 @@ module _ (areas : ℕ) (stands : ℕ → Block → Type 0) (there : (at : ℕ) �
 pub is_told : (told now_told : Type 0) (areas : ℕ) (before now : ℕ → Block → Type 0) (truth : Truth) → told → (told → now_told) → (told → StaysSo before now) → AreBlocks areas before truth
     → IsChunked areas truth → IsTold now_told areas now truth
 is_told told now_told areas before now truth tells keeps stays are chunked = record { told = keeps tells; blocks = are_still areas before now truth (stays tells) are; chunked = chunked }
-
--- ---- trees in order
-
-apart_of : (file : File) (parent next : ℕ) (names : List Name) → file.body ≡ Names parent next names → AreEntriesApart file.body → AreApart names
-apart_of file parent next names is apart = let pair : AreEntriesApart (Names parent next names) = subst AreEntriesApart is apart in record { rise = pair.0; apart = pair.1 }
-
-pub in_order : (tree : Tree) → AreOrdered tree.files tree.given → IsInOrder tree
-in_order tree ordered = record {
-  rise = ordered.rise;
-  apart = λ file parent next names there is. apart_of file parent next names is (ordered.apart file.handle file (at_contained tree.files file ordered.rise there));
-  given = ordered.all_given;
-}

@@ -2,24 +2,19 @@
 use Rattle.std.specs.Prelude.{◌≡◌, ◌⊎◌, ℕ, List}
 use Rattle.bx_audit.specs.declared.listing.Listing.{Listing}
 use Rattle.bx_audit.specs.Blocks.{IsTornBlock, blocks_of}
-use Rattle.bx_audit.specs.Walked.{IsRightFromRoot, IsToldOf, IsWrongFromRoot}
-use Rattle.bx_audit_links.specs.Right.{IsNamedOrRoot, IsToBlame}
+use Rattle.bx_audit.specs.Walked.{IsRightFromRoot, IsWrongFromRoot}
 use Rattle.bx_base.specs.declared.names.Point.{Point}
 use Rattle.bx_disk.specs.Disks.{Disks}
 use Rattle.bx_global.specs.declared.state.GlobalState.{GlobalState}
-use Rattle.bx_homes.specs.Slots.{AreBlocks}
 use Rattle.bx_layout.specs.declared.block.Block.{Block}
 use Rattle.bx_layout.specs.declared.label.Label.{Label}
 use Rattle.bx_model.specs.declared.tree.Tree.{Tree}
 use Rattle.bx_model.specs.Listing.{listing}
 use Rattle.bx_overlay.specs.declared.error.AuditError.{AuditError}
-use Rattle.bx_overlay.specs.declared.error.AuditError.TheVariants.{Torn}
 use Rattle.bx_logs.specs.declared.members.Members.{Members}
 use Rattle.bx_overlay.specs.declared.volume_disks.VolumeDisks.{VolumeDisks}
 use Rattle.bx_logs.specs.Logs.{AreLogs, points_in}
 use Rattle.bx_overlay.specs.Reading.{AreMembers, IsRead, IsRefused}
-use Rattle.bx_truth.specs.Stands.{StandsFor}
-use Rattle.bx_views.specs.Truths.{Truth}
 use Rattle.bx_volume.specs.Images.{ImageStandsFor, IsFirstLabel}
 use Rattle.bx_volume.specs.Records.{Logged}
 
@@ -48,31 +43,11 @@ pub record IsListed (disks : Disks) (state : GlobalState) (listed : Listing) : T
   pub text_is : listed.text ≡ listing tree
   pub doubt : AreOpen disks state listed.doubt
 
--- A file is told of that is to blame for files that are no file tree. Its handle is wanted where it is the root's or an entry names it.
-pub record NamesFile (areas : ℕ) (stands : ℕ → Block → Type 0) (tree : Tree) (error : AuditError) : Type 0 where
-  pub handle : ℕ
-  pub blame : IsToBlame tree handle
-  pub at : ℕ
-  pub found : ℕ
-  pub wanted : ℕ
-  pub error_is : error ≡ Torn at found wanted
-  pub told : IsToldOf areas stands handle at found
-  pub named : IsNamedOrRoot tree handle → wanted ≡ handle
-  pub unnamed : (IsNamedOrRoot tree handle → ⊥) → wanted ≡ 0
-
--- They stand for a tree that is no file tree, and the file that is to blame is told of.
-pub record IsWrongTree (areas : ℕ) (stands : ℕ → Block → Type 0) (error : AuditError) : Type 0 where
-  pub truth : Truth
-  pub blocks : AreBlocks areas stands truth
-  pub tree : Tree
-  pub tree_stands : StandsFor areas truth tree
-  pub names : NamesFile areas stands tree error
-
--- What the walk from the root meets is as it should be, and still a block is wrong: it is the first, slot by slot, that isn't as the slots ask;
--- or slots are right, and chunks aren't those of files; or they are, and links aren't right.
+-- Nothing that the walk from the root meets is wrong, and still a block is: it is the first, slot by slot, that isn't as the slots ask; or
+-- slots are right, and what the walk doesn't meet isn't as it should be.
 pub record IsTornElse (areas : ℕ) (stands : ℕ → Block → Type 0) (error : AuditError) : Type 0 where
   pub right : IsRightFromRoot areas stands
-  pub why : IsTornBlock areas stands error ⊎ IsWrongTree areas stands error
+  pub why : IsTornBlock areas stands error
 
 -- Why blocks are refused, and what is told of the one that is torn: the walk from the root meets it; or, where nothing that it meets is wrong,
 -- another one.

@@ -42,7 +42,7 @@ pub record IsFirstWrong (areas : ℕ) (stands : ℕ → Block → Type 0) (error
   pub wanted_is : (truth : Truth) → AreBlocks areas stands truth → wanted ≡ wanted_handle truth at
   pub first : (truth : Truth) → AreBlocks areas stands truth → IsFirstFault areas truth at
 
--- Slots are right, and files aren't as they should be.
+-- Slots are right, and what the walk from the root doesn't meet isn't as it should be.
 pub record IsWrongInside (areas : ℕ) (stands : ℕ → Block → Type 0) (error : AuditError) : Type 0 where
   pub at : ℕ
   pub found : ℕ

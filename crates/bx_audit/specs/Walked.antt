@@ -1,13 +1,15 @@
 -- What the walk from the root says of the blocks of a volume.
-use Rattle.std.specs.Prelude.{◌≡◌, ℕ, List}
+use Rattle.std.specs.Prelude.{◌≡◌, ◌⊎◌, ℕ}
+use Rattle.bx_audit_links.specs.Right.{IsToBlame}
 use Rattle.bx_audit_owners.specs.Holding.{Holdings}
 use Rattle.bx_audit_owners.specs.Walks.{IsWalked, IsWrongMet}
 use Rattle.bx_audit_trees.specs.Shown.{IsOfSlot, Shows}
 use Rattle.bx_homes.specs.Slots.{HasHandle}
 use Rattle.bx_layout.specs.declared.block.Block.{Block}
+use Rattle.bx_model.specs.declared.tree.Tree.{Tree}
+use Rattle.bx_model.specs.FileTrees.{IsFileTree}
 use Rattle.bx_overlay.specs.declared.error.AuditError.{AuditError}
 use Rattle.bx_overlay.specs.declared.error.AuditError.TheVariants.{Torn}
-use Rattle.bx_tree_files.specs.declared.file.File.{File}
 use Rattle.bx_truth.specs.Chunks.{block_at}
 use Rattle.bx_truth.specs.PageTrees.{Chunks}
 
@@ -22,7 +24,7 @@ pub record IsToldOf (areas : ℕ) (stands : ℕ → Block → Type 0) (handle at
   pub no_slot : (IsOfSlot areas handle → ⊥) → (at ≡ 0) × (found ≡ handle)
 
 -- The walk from the root meets a chunk that is wrong, or that two owners have, and that one is told of: its handle is wanted.
-pub record IsWrongFromRoot (areas : ℕ) (stands : ℕ → Block → Type 0) (error : AuditError) : Type 0 where
+pub record IsWrongChunk (areas : ℕ) (stands : ℕ → Block → Type 0) (error : AuditError) : Type 0 where
   pub at : ℕ
   pub found : ℕ
   pub wanted : ℕ
@@ -30,8 +32,33 @@ pub record IsWrongFromRoot (areas : ℕ) (stands : ℕ → Block → Type 0) (er
   pub told : IsToldOf areas stands wanted at found
   pub wrong : (chunks : Chunks) → AreHeaded areas stands chunks → IsWrongMet chunks wanted
 
--- Nothing that the walk from the root meets is wrong: where an entry names a file, one is there, and no chunk has two owners.
-pub record IsRightFromRoot (areas : ℕ) (stands : ℕ → Block → Type 0) : Type 0 where
+-- A file is to blame for files that are no file tree, and is told of: its handle is wanted.
+pub record NamesFile (areas : ℕ) (stands : ℕ → Block → Type 0) (tree : Tree) (error : AuditError) : Type 0 where
+  pub handle : ℕ
+  pub blame : IsToBlame tree handle
+  pub at : ℕ
+  pub found : ℕ
+  pub error_is : error ≡ Torn at found handle
+  pub told : IsToldOf areas stands handle at found
+
+-- The files of this tree are those that the walk from the root meets: where an entry names a file, one is there, and no chunk has two owners.
+pub record AreMet (areas : ℕ) (stands : ℕ → Block → Type 0) (tree : Tree) : Type 0 where
   pub holdings : Holdings
-  pub files : List File
-  pub walked : (chunks : Chunks) → AreHeaded areas stands chunks → IsWalked chunks holdings files
+  pub walked : (chunks : Chunks) → AreHeaded areas stands chunks → IsWalked chunks holdings tree.files
+
+-- The files that the walk from the root meets are no file tree, and one that is to blame is told of.
+pub record IsWrongLink (areas : ℕ) (stands : ℕ → Block → Type 0) (error : AuditError) : Type 0 where
+  pub tree : Tree
+  pub met : AreMet areas stands tree
+  pub none : IsFileTree tree → ⊥
+  pub names : NamesFile areas stands tree error
+
+-- Something that the walk from the root meets is wrong: a chunk, or else links or parents.
+abbrev pub IsWrongFromRoot : ℕ → (ℕ → Block → Type 0) → AuditError → Type 0
+IsWrongFromRoot areas stands error = IsWrongChunk areas stands error ⊎ IsWrongLink areas stands error
+
+-- Nothing that the walk from the root meets is wrong: the files that it meets are a file tree.
+pub record IsRightFromRoot (areas : ℕ) (stands : ℕ → Block → Type 0) : Type 0 where
+  pub tree : Tree
+  pub met : AreMet areas stands tree
+  pub is : IsFileTree tree

@@ -1,45 +1,34 @@
 //! The audit.
 
-ghost use Rattle.std.specs.Prelude.{◌≡◌, ◌≤◌, ◌⊎◌, if◌then◌else◌, IfOk, IfErr, IsErrOf};
-ghost use Rattle.bx_audit.specs.Audited.{IsListed, IsRefusal, NamesFile, StandFor};
-ghost use Rattle.bx_audit.specs.Blocks.{blocks_of};
-ghost use Rattle.bx_audit_links.specs.InOrder.{IsInOrder};
+ghost use Rattle.std.specs.Prelude.{◌≡◌, ◌≤◌, ◌⊎◌, IfOk, IfErr, IsErrOf};
+ghost use Rattle.bx_audit.specs.Audited.{IsListed, IsRefusal, StandFor};
 ghost use Rattle.bx_base.specs.Faults.{Rose};
 ghost use Rattle.bx_model.specs.declared.tree.Tree.{Tree as ModelTree};
-ghost use Rattle.bx_model.specs.FileTrees.{IsFileTree};
 ghost use Rattle.bx_model.specs.Listing.{listing};
 ghost use Rattle.bx_overlay.specs.declared.error.AuditError.TheVariants.{DiskFault};
-ghost use Rattle.bx_logs.specs.Members.{AreThere};
 ghost use Rattle.bx_overlay.specs.Refusals.{IsBreak, UnlessFault};
 
 use crate::blocks::tree_in;
-use crate::links::block_in;
 use crate::listing::Listing;
 use crate::walks::walked_in;
-use bx_audit_links::{WrongFile, wrong_file};
-use bx_base::Raw;
 use bx_disk::Rack;
 use bx_global::GlobalState;
-use bx_model::Tree;
-use bx_overlay::{
-    AuditError, VolumeDisks, read_disks, refused_disks_show_no_tree, what_is_read_is_shown,
-};
+use bx_overlay::{AuditError, read_disks, refused_disks_show_no_tree, what_is_read_is_shown};
 use bx_volume::{one_first_label, one_tree_stands};
 use std::alloc::Global;
 
 /// Reads the file tree that a volume's disks hold in a global state, and lists it. Ok says that there is a file tree that the disks stand
 /// for as they read, and that this is its listing; a refusal, that there is none. Refused are, in this order: disks without a label,
 /// without a state of theirs, without a source, or with a source that has no label; logs that aren't there or that clash; then what the
-/// walk from the root meets, over directories and files, and that isn't as it should be or has two owners; then, where nothing that it
-/// meets is so, the first block that isn't as its area's slots ask; inodes that the walk didn't meet, in the order of their handles, that
-/// aren't as they should be, or whose chunks have another owner; chunks that nothing has, and marks of dead inodes that are wrong; and at
-/// last links and parents.
+/// walk from the root meets, over directories and files, and that isn't as it should be or has two owners; links and parents of the files
+/// that it meets; then, where nothing that it meets is wrong, the first block that isn't as its area's slots ask; marked slots, in the
+/// order of their handles, whose chunks are no dead inodes, or which have what another owner has; and at last chunks that nothing has.
 ///
 /// Of a block that is torn its number is told, the handle that is `found` in its header, and the one that is `wanted`: the one by which the
 /// block is named, or that of its slot; 0 where nothing names it.
 ///
-/// The disks stay as they were. Each chunk that the walk meets is read once for it, and each block once for its slot; what the walk doesn't
-/// meet at most twice besides; a block that is torn is read once more.
+/// The disks stay as they were. Each chunk that the walk meets is read once for it, and each block once for its slot; the chunks of dead
+/// inodes once besides; a block that is torn is read once more.
 pub fn audit<R: Rack>(
     alloc: Global,
     rack: &mut R,
@@ -81,42 +70,9 @@ fn listed_by<R: Rack>(
     let read = read_disks(alloc, rack, state)?;
     let walked = walked_in(alloc, rack, &read)?;
     let tree = tree_in(alloc, rack, &read, walked)?;
-    let text = text_of(alloc, rack, &read, &tree)?;
+    let text = tree.listing()?;
     Ok(Listing {
         text,
         doubt: read.doubt,
     })
-}
-
-/// The listing of a tree that the disks of a volume stand for, if it is a file tree; torn exactly where it is none.
-fn text_of<R: Rack>(
-    alloc: Global,
-    rack: &mut R,
-    read: &VolumeDisks,
-    tree: &Tree,
-) -> Result<Raw, AuditError>
-    requires there { AreThere (R.state rack.old).sizes read.now.members }
-    requires order { IsInOrder tree.now }
-    ensures is { IfOk result (λ text. IsFileTree tree.now) }
-    ensures text { IfOk result (λ text. text ≡ listing tree.now) }
-    ensures err { R.tells rack.old → IfErr result (λ error. IsBreak error ⊎ (NamesFile read.now.members.areas (blocks_of (R.state rack.old) read.now) tree.now error × (IsFileTree tree.now → ⊥))) }
-    ensures stays { R.state rack.new ≡ R.state rack.old }
-    ensures cause { IsErrOf result DiskFault → Rose (R.faults rack.old) (R.faults rack.new) }
-    ensures later { R.faults rack.old ≤ R.faults rack.new }
-    ensures counts { UnlessFault result (R.faults rack.new ≡ R.faults rack.old) }
-    ensures keeps_telling { R.tells rack.old → R.tells rack.new }
-{
-    if let Some(wrong) = wrong_file(alloc, tree)? {
-        let (at, found) = block_in(alloc, rack, read, wrong.handle)?;
-        return Err(AuditError::Torn(at, found, wanted_for(wrong)));
-    }
-    let text = tree.listing()?;
-    Ok(text)
-}
-
-/// The handle that is wanted for a file: its own, or 0 where nothing names it.
-fn wanted_for(wrong: WrongFile) -> u64
-    ensures { result ≡ (if wrong.is_named then wrong.handle else 0) }
-{
-    if wrong.is_named { wrong.handle } else { 0 }
 }

@@ -8,4 +8,3 @@ pub mod Rests
 pub mod Stand
 pub mod Sums
 pub mod Ways
-pub mod Naming

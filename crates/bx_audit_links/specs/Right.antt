@@ -1,5 +1,5 @@
 -- What a file tree asks of each of its files.
-use Rattle.std.specs.Prelude.{◌≡◌, ◌≢◌, ℕ, ◌≤◌, ◌⊎◌, ◌||◌, ◌==◌, nat_lt, Bool, true, List, Contains, Some}
+use Rattle.std.specs.Prelude.{◌≡◌, ◌≢◌, ℕ, ◌≤◌, ◌⊎◌, true, List, Contains, Some}
 use Rattle.bx_audit_links.specs.Children.{HasChildren, IsWrongIn}
 use Rattle.bx_model.specs.FileTrees.{HasEntries, HasLinks, is_directory_at, links_to}
 use Rattle.bx_model.specs.declared.tree.Tree.{Tree}
@@ -46,15 +46,3 @@ IsWrong tree handle =
 -- What is to blame for a file that is wrong: what an entry of it names that is no child of it, or else the file itself.
 abbrev pub IsToBlame : Tree → ℕ → Type 0
 IsToBlame tree handle = ((directory : ℕ) × IsWrong tree directory × IsWrongIn tree.files directory handle) ⊎ (IsWrong tree handle × HasChildren tree.files handle)
-
--- whether the handle is the root's, or an entry names it
-abbrev pub is_named_in : List File → ℕ → ℕ → Bool
-is_named_in files root handle = (handle == root) || nat_lt 0 (links_to files handle)
-
--- the files that are named so, or aren't, are each as a file tree asks
-abbrev pub AreRight : List File → ℕ → Bool → Type 0
-AreRight files root named = (file : File) → Contains files file → is_named_in files root file.handle ≡ named → IsRight files root file
-
--- it is the root, or an entry names it
-abbrev pub IsNamedOrRoot : Tree → ℕ → Type 0
-IsNamedOrRoot tree handle = (handle ≡ tree.root) ⊎ (1 ≤ links_to tree.files handle)

@@ -1,50 +1,37 @@
 //! What makes files no file tree.
 
-ghost use Rattle.std.specs.Prelude.{◌≡◌, ◌↔◌, ◌⊎◌, true, false, IfOk, IfNone, IfSome, IsTrue, IsFalse};
+ghost use Rattle.std.specs.Prelude.{◌≡◌, ◌⊎◌, IfOk, IfNone, IfSome, IsTrue, IsFalse};
 ghost use Rattle.bx_audit_links.specs.Children.{HasChildren, IsWrongIn};
 ghost use Rattle.bx_audit_links.specs.Counted.{AreCounted};
 ghost use Rattle.bx_audit_links.specs.InOrder.{IsInOrder};
-ghost use Rattle.bx_audit_links.specs.Right.{AreRight, IsNamedOrRoot, IsOwnParent, IsToBlame, IsWrong, NamesItself, is_named_in};
+ghost use Rattle.bx_audit_links.specs.Right.{IsOwnParent, IsToBlame, IsWrong, NamesItself};
 ghost use Rattle.bx_model.specs.FileTrees.{IsFileTree};
 
 use crate::children::wrong_child;
 use crate::counts::{count_links, count_of};
 use crate::reached::lost_in;
-use crate::right::{is_named_by, wrong_in};
+use crate::right::wrong_in;
 use bx_base::OutOfMemory;
 use bx_model::Tree;
 use bx_tree_files::{Body, Files};
 use std::alloc::Global;
 use std::collections::BTreeMap;
 
-/// A file because of which files are no file tree, or what an entry names in the place of one.
-#[derive(Clone, Copy, PartialEq, Eq)]
-pub struct WrongFile {
-    /// The number of its handle.
-    pub handle: u64,
-    /// Whether it is the root's, or an entry names it.
-    pub is_named: bool,
-}
-
-/// A file because of which files are no file tree; where an entry of it names no file, or a directory with another parent, that is
-/// answered in its place; one that is the root or that an entry names comes before one that nothing names. `None` exactly where they are one: the root is a directory, its own parent, and no
+/// The handle of a file because of which files are no file tree; where an entry of that file names no file, or a directory with another
+/// parent, what it names is answered in its place. `None` exactly where they are one: the root is a directory, its own parent, and no
 /// entry names it; entries name files that are there, of which a directory has theirs as its parent; links are counted; the root
 /// leads to each directory. It is linear in the files and their entries, but for the logarithm of their count.
-pub fn wrong_file(alloc: Global, tree: &Tree) -> Result<Option<WrongFile>, OutOfMemory>
+pub fn wrong_file(alloc: Global, tree: &Tree) -> Result<Option<u64>, OutOfMemory>
     requires { IsInOrder tree.now }
     ensures none { IfOk result (λ found. IfNone found (IsFileTree tree.now)) }
-    ensures some { IfOk result (λ found. IfSome found (λ wrong. IsFileTree tree.now → ⊥)) }
-    ensures cause { IfOk result (λ found. IfSome found (λ wrong. IsToBlame tree.now wrong.handle)) }
-    ensures named { IfOk result (λ found. IfSome found (λ wrong. IsTrue wrong.is_named ↔ IsNamedOrRoot tree.now wrong.handle)) }
-    ensures first { IfOk result (λ found. IfSome found (λ wrong. IsFalse wrong.is_named → AreRight tree.now.files tree.now.root true)) }
+    ensures some { IfOk result (λ found. IfSome found (λ handle. IsFileTree tree.now → ⊥)) }
+    ensures cause { IfOk result (λ found. IfSome found (IsToBlame tree.now)) }
 {
     let counts = count_links(alloc, &tree.files)?;
     let Some(file) = wrong_handle(alloc, tree, &counts)? else {
         return Ok(None);
     };
-    let handle = blamed(&tree.files, file);
-    let is_named = is_named_by(&counts, tree.root, handle);
-    Ok(Some(WrongFile { handle, is_named }))
+    Ok(Some(blamed(&tree.files, file)))
 }
 
 /// What is to blame for a file that is wrong: what an entry of it names, that is no child of it, or else the file.
@@ -68,7 +55,6 @@ fn wrong_handle(
     ensures none { IfOk result (λ found. IfNone found (IsFileTree tree.now)) }
     ensures some { IfOk result (λ found. IfSome found (λ handle. IsFileTree tree.now → ⊥)) }
     ensures cause { IfOk result (λ found. IfSome found (IsWrong tree.now)) }
-    ensures first { IfOk result (λ found. IfSome found (λ handle. is_named_in tree.now.files tree.now.root handle ≡ false → AreRight tree.now.files tree.now.root true)) }
 {
     if !is_root(&tree.files, tree.root) || count_of(counts, tree.root) != 0 {
         return Ok(Some(tree.root));

@@ -8,4 +8,4 @@ mod file_trees;
 mod reached;
 mod right;
 
-pub use file_trees::{WrongFile, wrong_file};
+pub use file_trees::wrong_file;

@@ -1,9 +1,9 @@
 //! What a file tree asks of each file.
 
-ghost use Rattle.std.specs.Prelude.{◌≡◌, ◌≢◌, ◌≤◌, ℕ, List, All, Contains, true, false, IsTrue, IsFalse, IfNone, IfSome};
+ghost use Rattle.std.specs.Prelude.{◌≡◌, ◌≢◌, ◌≤◌, ℕ, List, All, Contains, true, IsTrue, IsFalse, IfNone, IfSome};
 ghost use Rattle.bx_audit_links.specs.Counted.{AreCounted};
 ghost use Rattle.bx_audit_links.specs.InOrder.{AreApart};
-ghost use Rattle.bx_audit_links.specs.Right.{AreRight, IsRight, IsWrongOf, is_named_in};
+ghost use Rattle.bx_audit_links.specs.Right.{IsRight, IsWrongOf};
 ghost use Rattle.bx_model.specs.FileTrees.{HasEntries, HasLinks, links_to};
 ghost use Rattle.bx_tree_files.specs.declared.file.Body.TheVariants.{Names};
 ghost use Rattle.bx_tree_files.specs.declared.file.File.{File as Kept};
@@ -15,52 +15,20 @@ use crate::entries::{are_entries, directories_in};
 use bx_tree_files::{Body, DIRECTORY, File, Files};
 use std::collections::BTreeMap;
 
-/// The handle of a file that isn't as a file tree asks, one that is named before those that aren't; `None` exactly where each file is.
+/// The handle of the first file that isn't as a file tree asks; `None` exactly where each file is.
 pub(crate) fn wrong_in(files: &Files, counts: &BTreeMap<u64, u64>, root: u64) -> Option<u64>
     requires counted { AreCounted files.now counts.now }
     requires apart { (file : Kept) (parent next : ℕ) (names : List Name) → Contains files.now file → file.body ≡ Names parent next names → AreApart names }
     ensures none { IfNone result ((file : Kept) → Contains files.now file → IsRight files.now root file) }
     ensures some { IfSome result (IsWrongOf files.now root) }
-    ensures first { IfSome result (λ handle. is_named_in files.now root handle ≡ false → AreRight files.now root true) }
-    ensures are_files { All IsFile files.now }
-{
-    match wrong_among(files, counts, root, true) {
-        Some(handle) => Some(handle),
-        None => wrong_among(files, counts, root, false),
-    }
-}
-
-/// The same among the files that are named, or among the others.
-fn wrong_among(files: &Files, counts: &BTreeMap<u64, u64>, root: u64, named: bool) -> Option<u64>
-    requires counted { AreCounted files.now counts.now }
-    requires apart { (file : Kept) (parent next : ℕ) (names : List Name) → Contains files.now file → file.body ≡ Names parent next names → AreApart names }
-    ensures none { IfNone result (AreRight files.now root named) }
-    ensures some { IfSome result (λ handle. IsWrongOf files.now root handle × (is_named_in files.now root handle ≡ named)) }
     ensures are_files { All IsFile files.now }
 {
     for file in files.iter() {
-        if is_wrong(files, counts, root, named, file) {
+        if !is_right(files, counts, root, file) {
             return Some(file.handle);
         }
     }
     None
-}
-
-/// Whether a file is named so, or isn't, and isn't as a file tree asks.
-fn is_wrong(files: &Files, counts: &BTreeMap<u64, u64>, root: u64, named: bool, file: &File) -> bool
-    requires counted { AreCounted files.now counts.now }
-    requires apart { (parent next : ℕ) (names : List Name) → file.now.body ≡ Names parent next names → AreApart names }
-    ensures yes { IsTrue result → (is_named_in files.now root file.now.handle ≡ named) × (IsRight files.now root file.now → ⊥) }
-    ensures no { IsFalse result → is_named_in files.now root file.now.handle ≡ named → IsRight files.now root file.now }
-{
-    is_named_by(counts, root, file.handle) == named && !is_right(files, counts, root, file)
-}
-
-/// Whether a handle is the root's, or an entry names it.
-pub(crate) fn is_named_by(counts: &BTreeMap<u64, u64>, root: u64, handle: u64) -> bool
-    ensures { (files : List Kept) → AreCounted files counts.now → result ≡ is_named_in files root handle }
-{
-    handle == root || count_of(counts, handle) > 0
 }
 
 fn is_right(files: &Files, counts: &BTreeMap<u64, u64>, root: u64, file: &File) -> bool

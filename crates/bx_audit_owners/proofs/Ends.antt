@@ -16,3 +16,10 @@ pub both_torn : (P Q : ℕ → ℕ → ℕ → Type 0) (error : AuditError) → 
 both_torn P Q (Torn at found wanted) holds too = (holds, too)
 both_torn P Q Fault holds too = tt
 both_torn P Q OutOfMemory holds too = tt
+
+-- what is torn for a reason is so for what follows from it
+pub torn_too : {A : Type 0} (P Q : ℕ → ℕ → ℕ → Type 0) (now : Result A AuditError) → ((at found wanted : ℕ) → P at found wanted → Q at found wanted) → IfTorn now P → IfTorn now Q
+torn_too P Q (Ok value) implies holds = tt
+torn_too P Q (Err (Torn at found wanted)) implies holds = implies at found wanted holds
+torn_too P Q (Err Fault) implies holds = tt
+torn_too P Q (Err OutOfMemory) implies holds = tt

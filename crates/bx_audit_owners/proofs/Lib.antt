@@ -8,3 +8,4 @@ pub mod Wholes
 pub mod Ends
 pub mod Told
 pub mod Walking
+pub mod MetFiles

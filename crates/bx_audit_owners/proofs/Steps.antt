@@ -9,12 +9,11 @@ use Rattle.bx_audit_owners.specs.Found.{Reading, IsReadSo, IsFound, HaveNoFiles}
 use Rattle.bx_audit_owners.specs.Holding.{Holdings, Adds, Clashes, holder_for}
 use Rattle.bx_audit_owners.proofs.Founds.{one_found}
 use Rattle.bx_audit_owners.proofs.InOrder.{with_here, with_other}
-use Rattle.bx_audit_owners.proofs.Owners.{owner_in, owner_same, found_owner, no_clash, owns_itself, stored_here}
+use Rattle.bx_audit_owners.proofs.Owners.{owner_in, owner_same, found_owner, no_clash}
 use Rattle.bx_layout.specs.declared.block.Block.{Block}
 use Rattle.bx_tree_files.specs.declared.file.File.{File}
 use Rattle.bx_tree_files.specs.Files.{file_at, with_file}
 use Rattle.bx_truth.specs.PageTrees.{Chunks}
-use Rattle.bx_truth.specs.Stored.{Owner, Stored}
 
 none_some : {X : Type 0} (o : Option X) (x : X) → o ≡ None → o ≡ Some x → ⊥
 none_some o x none some = absurd cc
@@ -71,9 +70,3 @@ module _ (chunks : Chunks) (before : Holdings) (files : List File) (handle : ℕ
   pub clash_has_none : (file : Option File) (block : Block) → IsReadAs chunks handle file claims → chunks handle ≡ Some block → block.kind ≡ 1 → Clashes before handle (holder_for file) claims → HaveNoFiles chunks
   clash_has_none file block read chunk kind clash = λ owner stored files_there have.
       no_clash chunks owner stored files_there have before files found handle file (reading_of file read) block (is_so file read) chunk kind clash
-
--- nor one that is stored in no way
-pub unread_has_none : (chunks : Chunks) (handle : ℕ) (block : Block) → chunks handle ≡ Some block → block.kind ≡ 1
-    → ((owner : ℕ → Owner) (stored : Stored) (file : Option File) → IsStored chunks owner handle stored file → ⊥) → HaveNoFiles chunks
-unread_has_none chunks handle block chunk kind never = λ owner stored files have.
-    never owner (stored handle) (file_at files handle) (stored_here chunks owner stored files have handle block chunk (owns_itself chunks owner stored files have handle block chunk kind))

@@ -2,11 +2,11 @@
 use Rattle.std.proofs.Common.{◌≡◌, ℕ, ◌≤◌, inl, inr, Bool, true, false, List, sym, ap, ◌∙◌, subst, refl, Option, Some, None}
 use Rattle.std.specs.Prelude.{◌≢◌, Contains}
 use Rattle.bx_audit_owners.specs.declared.slots.UsedSlot.{UsedSlot}
+use Rattle.bx_audit_owners.specs.Dead.{IsNoDeadOf}
 use Rattle.bx_audit_owners.specs.Found.{IsFound}
-use Rattle.bx_audit_owners.specs.Holding.{Holdings, IsHeld}
-use Rattle.bx_audit_owners.specs.Named.{IsTornSlot}
+use Rattle.bx_audit_owners.specs.Holding.{Holdings, IsHeld, IsTornSlot}
 use Rattle.bx_audit_owners.specs.UsedSlots.{AreUsed, IsHandleOf, IsUsedSlot}
-use Rattle.bx_audit_owners.specs.Whole.{IsRootUnused, IsWrongSlot}
+use Rattle.bx_audit_owners.specs.Whole.{IsRootUnused, IsWrongDead, IsWrongSlot}
 use Rattle.bx_audit_owners.proofs.Wholes.{in_block, slot_for}
 use Rattle.bx_layout.specs.declared.block.Block.{Block}
 use Rattle.bx_layout.specs.Areas.{in_use}
@@ -41,8 +41,12 @@ module _ (areas : ℕ) (truth : Truth) (few : areas ≤ 64) (slots : List UsedSl
       by None is = is
       by (Some b) some = let s = slot_for areas truth few slots are root_handle b some in absurd (none s.0 s.1 s.3)
 
+  -- a marked slot has no dead inode
+  pub wrong_dead : (files : List File) (wanted : ℕ) → IsNoDeadOf (chunks_of areas truth) files slots wanted → IsWrongDead areas truth wanted
+  wrong_dead files wanted is = let s = are.each is.slot is.there in record { files = files; block = s.0; slot = is.slot; there = s.1; marked = is.marked; wrong = is.wrong }
+
   pub wrong_slot : (holdings : Holdings) (files : List File) (slot : UsedSlot) (at found wanted : ℕ) → IsFound (chunks_of areas truth) holdings files → Contains slots slot
-      → IsTornSlot files slot at found wanted → (IsHeld holdings slot → ⊥) → IsWrongSlot areas truth at found wanted
+      → IsTornSlot slot at found wanted → (IsHeld holdings slot → ⊥) → IsWrongSlot areas truth at found wanted
   wrong_slot holdings files slot at found wanted is_found there tells wrong =
       let s = are.each slot there in
       record {

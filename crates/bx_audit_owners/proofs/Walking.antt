@@ -1,5 +1,5 @@
 -- The walk from the root, step by step.
-use Rattle.std.proofs.Common.{◌≡◌, ◌⊎◌, ⊎_elim, inl, inr, ℕ, zero, suc, ◌+◌, ◌<◌, ◌≤◌, arith, List, [], ◌∷◌, ◌++◌, length, get_or, refl, sym, ap, ◌∙◌, subst, Option, Some, None}
+use Rattle.std.proofs.Common.{◌≡◌, ◌⊎◌, ⊎_elim, inl, inr, ℕ, zero, suc, ◌+◌, ◌<◌, ◌≤◌, arith, List, [], ◌∷◌, ◌++◌, length, get_or, refl, sym, ap, ◌∙◌, subst, Option, Some, None, is_some, true}
 use Rattle.std.specs.Prelude.{◌≢◌, Contains, map}
 use Rattle.std.proofs.lemmas.List.Elements.{Contains-append_left, Contains-append_right, Contains-append_cases}
 use Rattle.bx_audit_bodies.specs.declared.claims.Claim.{Claim}
@@ -40,7 +40,7 @@ some_same x y e = cc
 
 module _ (chunks : Chunks) (holdings : Holdings) (files : List File) (found : IsFound chunks holdings files) (handle : ℕ) where
   of_claim : (inode : ℕ) (piece : Option ℕ) (kind : ℕ) → kind ≢ 1 → ((block : Block) → IsClaim chunks (found.readings inode).stored (record { handle = handle; piece = piece }) → chunks handle ≡ Some block → block.kind ≡ kind)
-      → holdings handle ≡ Some (holder_by inode piece) → (owner : ℕ → Owner) (stored : Stored) (file : File) → IsStored chunks owner handle stored (Some file) → ⊥
+      → holdings handle ≡ Some (holder_by inode piece) → (owner : ℕ → Owner) (stored : Stored) (file : Option File) → IsStored chunks owner handle stored file → ⊥
   of_claim inode piece kind other tells held owner stored file is =
       let c = found.claimed handle inode piece held in
       let claim = (found.inodes inode c.0).are_claims.each (record { handle = handle; piece = piece }) c.1 in
@@ -49,19 +49,41 @@ module _ (chunks : Chunks) (holdings : Holdings) (files : List File) (found : Is
   same_kind : (a b : Block) (kind : ℕ) → chunks handle ≡ Some a → a.kind ≡ kind → chunks handle ≡ Some b → b.kind ≡ kind
   same_kind a b kind is_a kind_a is_b = ap (λ (x : Block). x.kind) (some_same b a (sym is_b ∙ is_a)) ∙ kind_a
 
+  no_inode : (held : Holder) → holdings handle ≡ Some held → (IsInode (Some held) → ⊥) → (owner : ℕ → Owner) (stored : Stored) (file : Option File) → IsStored chunks owner handle stored file → ⊥
+  no_inode OfFile there apart owner stored file is = absurd (apart tt)
+  no_inode OfDead there apart owner stored file is = absurd (apart tt)
+  no_inode (OfPage inode) there apart owner stored file is = of_claim inode None 2 (λ e. omega (arith, e)) (λ block claim chunk. same_kind claim.block block 2 claim.chunk claim.kind chunk) there owner stored file is
+  no_inode (OfPiece inode index) there apart owner stored file is = of_claim inode (Some index) 3 (λ e. omega (arith, e)) (λ block claim chunk. same_kind claim.block block 3 claim.chunk claim.kind chunk) there owner stored file is
+
   pub other_has_none : (held : Holder) → holdings handle ≡ Some held → (held ≡ OfFile → ⊥) → (owner : ℕ → Owner) (stored : Stored) (file : File) → IsStored chunks owner handle stored (Some file) → ⊥
   other_has_none OfFile there apart owner stored file is = apart refl
   other_has_none OfDead there apart owner stored file is =
       let only = (found.inodes handle (subst IsInode (sym there) tt)).only owner stored (Some file) is in
       none_some (file_at files handle) file (no_file chunks holdings files found handle there) (sym only.same_file)
-  other_has_none (OfPage inode) there apart owner stored file is = of_claim inode None 2 (λ e. omega (arith, e)) (λ block claim chunk. same_kind claim.block block 2 claim.chunk claim.kind chunk) there owner stored file is
-  other_has_none (OfPiece inode index) there apart owner stored file is = of_claim inode (Some index) 3 (λ e. omega (arith, e)) (λ block claim chunk. same_kind claim.block block 3 claim.chunk claim.kind chunk) there owner stored file is
+  other_has_none (OfPage inode) there apart owner stored file is = no_inode (OfPage inode) there (λ is. is) owner stored (Some file) is
+  other_has_none (OfPiece inode index) there apart owner stored file is = no_inode (OfPiece inode index) there (λ is. is) owner stored (Some file) is
 
--- nor is a dead inode
+  -- nor is what is held by another one a dead inode
+  pub other_has_no_dead : (held : Holder) → holdings handle ≡ Some held → (held ≡ OfDead → ⊥) → (owner : ℕ → Owner) (stored : Stored) → IsStored chunks owner handle stored None → ⊥
+  other_has_no_dead OfDead there apart owner stored is = apart refl
+  other_has_no_dead OfFile there apart owner stored is =
+      let only = (found.inodes handle (subst IsInode (sym there) tt)).only owner stored None is in
+      found.has_file handle there (sym only.same_file)
+  other_has_no_dead (OfPage inode) there apart owner stored is = no_inode (OfPage inode) there (λ is. is) owner stored None is
+  other_has_no_dead (OfPiece inode index) there apart owner stored is = no_inode (OfPiece inode index) there (λ is. is) owner stored None is
+
+-- nor is a dead inode a file
 pub dead_has_none : (chunks : Chunks) (handle : ℕ) (claims : List Claim) → IsReadAs chunks handle None claims → (owner : ℕ → Owner) (stored : Stored) (file : File) → IsStored chunks owner handle stored (Some file) → ⊥
 dead_has_none chunks handle claims read owner stored file is =
     let only = read.only owner stored (Some file) is in
     none_some (Some file) file only.same_file refl
+
+-- nor a file a dead inode
+pub live_has_no_dead : (chunks : Chunks) (handle : ℕ) (file : Option File) (claims : List Claim) → is_some file ≡ true → IsReadAs chunks handle file claims → (owner : ℕ → Owner) (stored : Stored) → IsStored chunks owner handle stored None → ⊥
+live_has_no_dead chunks handle None claims some read owner stored is = absurd cc
+live_has_no_dead chunks handle (Some file) claims some read owner stored is =
+    let only = read.only owner stored None is in
+    none_some None file refl only.same_file
 
 -- a file that was read has its handle
 pub file_named : (chunks : Chunks) (before now : Holdings) (handle : ℕ) (file : File) (claims : List Claim) → IsReadAs chunks handle (Some file) claims → Adds before handle OfFile claims (length claims) now → file.handle ≡ handle
@@ -80,7 +102,7 @@ module _ (chunks : Chunks) (tree : Tree) (have : HaveTree chunks tree) where
   block_or (Some b) is = (b, refl)
 
   -- a file of the tree is stored
-  stored_of : (handle : ℕ) → file_at tree.files handle ≢ None → IsStored chunks have.owner handle (have.stored handle) (file_at tree.files handle)
+  pub stored_of : (handle : ℕ) → file_at tree.files handle ≢ None → IsStored chunks have.owner handle (have.stored handle) (file_at tree.files handle)
   stored_of handle some =
       let f = file_or (file_at tree.files handle) some in
       let own = have.have.are.all handle f.0 f.1 in

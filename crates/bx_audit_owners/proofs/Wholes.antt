@@ -1,16 +1,19 @@
 -- What the blocks of a volume stand for, once all is found.
-use Rattle.std.proofs.Common.{◌≡◌, ℕ, ◌+◌, ◌*◌, ◌<◌, ◌≤◌, ◌^◌, ◌%◌, ◌/◌, arith, Bool, true, false, List, sym, ap, ◌∙◌, subst, refl, Option, Some, None}
-use Rattle.std.specs.Prelude.{◌≢◌, ◌&&◌, ◌==◌, if◌then◌else◌, Contains}
+use Rattle.std.proofs.Common.{◌≡◌, ℕ, ◌+◌, ◌*◌, ◌<◌, ◌≤◌, ◌^◌, ◌%◌, ◌/◌, arith, inl, inr, Bool, true, false, List, sym, ap, ◌∙◌, subst, refl, Option, Some, None}
+use Rattle.std.specs.Prelude.{◌↔◌, ◌≢◌, ◌&&◌, ◌==◌, if◌then◌else◌, Contains}
 use Rattle.std.proofs.lemmas.Bool.Decides.{nat_tests}
 use Rattle.bx_audit_owners.specs.declared.holders.Holder.{Holder}
 use Rattle.bx_audit_owners.specs.declared.holders.Holder.TheVariants.{File as OfFile, Dead as OfDead, Page as OfPage, Piece as OfPiece}
 use Rattle.bx_audit_owners.specs.declared.slots.UsedSlot.{UsedSlot}
+use Rattle.bx_audit_bodies.specs.Reading.{IsStored}
+use Rattle.bx_audit_owners.specs.Dead.{IsNoDead}
 use Rattle.bx_audit_owners.specs.Found.{IsInode, IsFound, AreAllRead, AreOrdered, HaveFiles}
 use Rattle.bx_audit_owners.specs.Holding.{Holdings, IsHeld, owner_of}
 use Rattle.bx_audit_owners.specs.Told.{IsTold}
 use Rattle.bx_audit_owners.specs.UsedSlots.{IsUsedSlot, AreUsed, IsFreeMarked}
-use Rattle.bx_audit_owners.specs.Walks.{HaveTree}
-use Rattle.bx_audit_owners.proofs.Owners.{owner_in, found_owner, found_stored, no_file, inodes_own, stored_here, only_here, agrees, unowned}
+use Rattle.bx_audit_owners.specs.Walks.{HaveTree, IsTreeOf}
+use Rattle.bx_audit_owners.proofs.Steps.{clash_has_none}
+use Rattle.bx_audit_owners.proofs.Owners.{owner_in, owns_itself, found_owner, found_stored, no_file, stored_here, only_here, agrees, unowned}
 use Rattle.bx_audit_trees.specs.Shown.{IsOfSlot, NamesBlock, Shows}
 use Rattle.bx_homes.specs.Slots.{AreBlocks}
 use Rattle.bx_layout.specs.declared.block.Block.{Block}
@@ -23,7 +26,7 @@ use Rattle.bx_tree_files.specs.Files.{file_at}
 use Rattle.bx_tree_laws.proofs.Rises.{contains_at}
 use Rattle.bx_truth.specs.Chunks.{IsSlot, is_slot, block_at, handle_of, chunks_of, word_at, dead_at}
 use Rattle.bx_truth.specs.PageTrees.{Chunks}
-use Rattle.bx_truth.specs.Stands.{AreFiles, IsOwned, MarksTheDead, StandsFor}
+use Rattle.bx_truth.specs.Stands.{AreFiles, IsOwned, MarksTheDead, StandsFor, WasGiven}
 use Rattle.bx_truth.specs.Stored.{Owner, Inodes, PageOf, DataOf, Stored, HasInode, IsFileOr}
 use Rattle.bx_truth.proofs.Cases.{eq_true}
 use Rattle.bx_truth.proofs.Made.{chunk_given}
@@ -54,7 +57,7 @@ is_dead chunks owner handle stored (Some f) none is = absurd cc
 
 -- ---- slots in use, and chunks
 
-small : (word : ℕ) → generation_in word < 2 ^ 32
+pub small : (word : ℕ) → generation_in word < 2 ^ 32
 small word = omega arith
 
 module _ (areas : ℕ) (truth : Truth) (few : areas ≤ 64) where
@@ -93,14 +96,6 @@ module _ (areas : ℕ) (truth : Truth) (few : areas ≤ 64) where
       let c = chunk_is areas truth handle b chunk in
       let s = are.all (block_at handle) c.slot c.used in
       (s.0, s.1, s.2, s.2.handle_is ∙ sym c.is_handle)
-
-  -- all inodes are read, once those of all slots are
-  pub all_read_of : (slots : List UsedSlot) (holdings : Holdings) → AreUsed areas truth slots
-      → ((slot : UsedSlot) (block : Block) → Contains slots slot → chunks_of areas truth slot.handle ≡ Some block → block.kind ≡ 1 → holdings slot.handle ≢ None)
-      → AreAllRead (chunks_of areas truth) holdings
-  all_read_of slots holdings are each handle b chunk kind none =
-      let s = slot_for slots are handle b chunk in
-      each s.0 b s.1 (ap (chunks_of areas truth) s.3 ∙ chunk) kind (ap holdings s.3 ∙ none)
 
   -- each slot in use names a chunk
   pub all_named : (slots : List UsedSlot) → AreUsed areas truth slots → (slot : UsedSlot) → Contains slots slot → chunks_of areas truth slot.handle ≢ None
@@ -202,67 +197,95 @@ module _ (areas : ℕ) (truth : Truth) (few : areas ≤ 64) (tree : Tree) (stand
       let s = slot_for areas truth few slots are root_handle root_block.0 root_block.1 in
       (s.0, s.1, s.3)
 
-  module _ (holdings : Holdings) (found_files : List File) (found : IsFound (chunks_of areas truth) holdings found_files) (all_read : AreAllRead (chunks_of areas truth) holdings) where
-    -- and has a file
-    pub root_found : file_at found_files root_handle ≢ None
-    root_found none =
-        let chunks = chunks_of areas truth in
-        let own = (stands.are_files.all root_handle root_file.0 root_file.1).0 in
-        let s = stored_here chunks stands.owner stands.stored tree.files have_files root_handle root_block.0 root_block.1 own in
-        let x = held_or (holdings root_handle) (all_read root_handle s.block s.chunk s.inode.kind) in
-        let here = subst IsInode (sym x.1) (inodes_own x.0 (sym (agrees chunks stands.owner stands.stored tree.files have_files holdings found_files found root_handle x.0 x.1) ∙ own)) in
-        none_some (file_at tree.files root_handle) root_file.0 ((only_here chunks stands.owner stands.stored tree.files have_files holdings found_files found root_handle here).same_file ∙ none) root_file.1
-      where
-        held_or : (o : Option Holder) → o ≢ None → (x : Holder) × (o ≡ Some x)
-        held_or None is = absurd (is refl)
-        held_or (Some x) is = (x, refl)
+  -- what is marked is a dead inode
+  dead_stored : (block : ℕ) (slot : UsedSlot) → IsUsedSlot areas truth block slot → slot.dead ≡ true → IsStored (chunks_of areas truth) stands.owner slot.handle (stands.stored slot.handle) None
+  dead_stored block slot is marked =
+      let chunks = chunks_of areas truth in
+      let m = stands.marks.marked block is.there (sym is.dead_is ∙ marked) in
+      let b = some_there (chunks m.0) m.2 in
+      let s = stored_here chunks stands.owner stands.stored tree.files have_files m.0 b.0 b.1 m.3 in
+      let same = one_handle_of areas truth few block slot is m.0 b.0 b.1 m.1 in
+      subst (λ (n : ℕ). IsStored chunks stands.owner n (stands.stored n) None) same
+      (subst (IsStored chunks stands.owner m.0 (stands.stored m.0)) (no_file_at m.0 (file_at tree.files m.0) s.file m.4) s)
+    where
+      no_file_at : (handle : ℕ) (o : Option File) → IsFileOr (chunks_of areas truth) stands.owner handle (stands.stored handle) o → (stands.stored handle).inode.kind ≡ 0 → o ≡ None
+      no_file_at handle None file zero = refl
+      no_file_at handle (Some f) file zero = absurd (not_dead (chunks_of areas truth) stands.owner handle (stands.stored handle) (Some f) (λ e. none_some None f refl (sym e)) file zero)
+
+  pub no_dead_not : (files : List File) (block : ℕ) (slot : UsedSlot) (wanted : ℕ) → IsUsedSlot areas truth block slot → slot.dead ≡ true → IsNoDead (chunks_of areas truth) files slot.handle wanted → ⊥
+  no_dead_not files block slot wanted is marked (inl unread) = unread.none stands.owner (stands.stored slot.handle) (dead_stored block slot is marked)
+  no_dead_not files block slot wanted is marked (inr taken) =
+      let s = dead_stored block slot is marked in
+      clash_has_none (chunks_of areas truth) taken.holdings files slot.handle taken.claims taken.found None s.block taken.read s.chunk s.inode.kind taken.clash stands.owner stands.stored tree.files have_files
+
+  -- all inodes are found, once the files of the tree and those of the marked slots are
+  pub all_read_by : (slots : List UsedSlot) (before now : Holdings) (files : List File) → AreUsed areas truth slots → IsFound (chunks_of areas truth) before files → tree.files ≡ files
+      → ((at : ℕ) → before at ≢ None → now at ≢ None) → ((slot : UsedSlot) → Contains slots slot → slot.dead ≡ true → now slot.handle ≢ None) → AreAllRead (chunks_of areas truth) now
+  all_read_by slots before now files used found same still marked handle block chunk kind none = by (file_at tree.files handle) refl
+    where
+      own : stands.owner handle ≡ Inodes
+      own = owns_itself (chunks_of areas truth) stands.owner stands.stored tree.files have_files handle block chunk kind
+
+      by : (o : Option File) → file_at tree.files handle ≡ o → ⊥
+      by (Some f) is = still handle (λ not_before. none_some (before handle) OfFile not_before (found.is_file handle f (ap (λ (l : List File). file_at l handle) (sym same) ∙ is))) none
+      by None is =
+          let s = slot_for areas truth few slots used handle block chunk in
+          let here = stored_here (chunks_of areas truth) stands.owner stands.stored tree.files have_files handle block chunk own in
+          let dead = stands.marks.dead handle block chunk own (is_dead (chunks_of areas truth) stands.owner handle (stands.stored handle) (file_at tree.files handle) is here.file) in
+          marked s.0 s.1 (s.2.dead_is ∙ dead) (ap now s.3 ∙ none)
+
+  module _ (holdings : Holdings) (found_files : List File) (found : IsFound (chunks_of areas truth) holdings found_files) where
+    -- a slot that has a holder is marked where it is a dead inode
+    module _ (block : ℕ) (slot : UsedSlot) (is : IsUsedSlot areas truth block slot) where
+      chunk : chunks_of areas truth slot.handle ≡ Some (truth block)
+      chunk = names_block areas truth few block slot is
+
+      of_files : (x : Holder) → holdings slot.handle ≡ Some x → stands.owner slot.handle ≡ owner_of x
+      of_files x there = agrees (chunks_of areas truth) stands.owner stands.stored tree.files have_files holdings found_files found slot.handle x there
+
+      same_file : IsInode (holdings slot.handle) → file_at tree.files slot.handle ≡ file_at found_files slot.handle
+      same_file here = (only_here (chunks_of areas truth) stands.owner stands.stored tree.files have_files holdings found_files found slot.handle here).same_file
+
+      is_file_or : stands.owner slot.handle ≡ Inodes → IsFileOr (chunks_of areas truth) stands.owner slot.handle (stands.stored slot.handle) (file_at tree.files slot.handle)
+      is_file_or own = (stored_here (chunks_of areas truth) stands.owner stands.stored tree.files have_files slot.handle (truth block) chunk own).file
+
+      -- a marked slot is a dead inode's
+      dead_inode : slot.dead ≡ true → (stands.owner slot.handle ≡ Inodes) × ((stands.stored slot.handle).inode.kind ≡ 0)
+      dead_inode marked =
+          let m = stands.marks.marked block is.there (sym is.dead_is ∙ marked) in
+          let b = some_there (chunks_of areas truth m.0) m.2 in
+          let same : m.0 ≡ slot.handle = one_handle_of areas truth few block slot is m.0 b.0 b.1 m.1 in
+          (ap stands.owner (sym same) ∙ m.3, ap (λ (n : ℕ). (stands.stored n).inode.kind) (sym same) ∙ m.4)
+
+      to : (x : Holder) → holdings slot.handle ≡ Some x → slot.dead ≡ true → x ≡ OfDead
+      to OfDead there marked = refl
+      to OfFile there marked =
+          let d = dead_inode marked in
+          let some = found.has_file slot.handle there in
+          absurd (not_dead (chunks_of areas truth) stands.owner slot.handle (stands.stored slot.handle) (file_at tree.files slot.handle)
+          (λ none. some (sym (same_file (subst IsInode (sym there) tt)) ∙ none)) (is_file_or d.0) d.1)
+      to (OfPage inode) there marked = let e : PageOf inode ≡ Inodes = sym (of_files (OfPage inode) there) ∙ (dead_inode marked).0 in absurd cc
+      to (OfPiece inode index) there marked = let e : DataOf inode index ≡ Inodes = sym (of_files (OfPiece inode index) there) ∙ (dead_inode marked).0 in absurd cc
+
+      from : (x : Holder) → holdings slot.handle ≡ Some x → x ≡ OfDead → slot.dead ≡ true
+      from x there dead =
+          let held_dead : holdings slot.handle ≡ Some OfDead = there ∙ ap Some dead in
+          let own = of_files OfDead held_dead in
+          let none = same_file (subst IsInode (sym held_dead) tt) ∙ no_file (chunks_of areas truth) holdings found_files found slot.handle held_dead in
+          is.dead_is ∙ ap (dead_at truth) (sym (in_block areas truth few block slot is))
+          ∙ stands.marks.dead slot.handle (truth block) chunk own (is_dead (chunks_of areas truth) stands.owner slot.handle (stands.stored slot.handle) (file_at tree.files slot.handle) none (is_file_or own))
+
+      pub mark_of : (x : Holder) → holdings slot.handle ≡ Some x → (slot.dead ≡ true) ↔ (x ≡ OfDead)
+      mark_of x there = (to x there, from x there)
 
     -- each slot in use has a holder, and is marked where it is a dead inode
-    pub held : (block : ℕ) (slot : UsedSlot) → IsUsedSlot areas truth block slot → IsHeld holdings slot
-    held block slot is = by (holdings slot.handle) refl
+    pub held : AreAllRead (chunks_of areas truth) holdings → (block : ℕ) (slot : UsedSlot) → IsUsedSlot areas truth block slot → IsHeld holdings slot
+    held all_read block slot is = by (holdings slot.handle) refl
       where
-        chunk : chunks_of areas truth slot.handle ≡ Some (truth block)
-        chunk = names_block areas truth few block slot is
-
-        of_files : (x : Holder) → holdings slot.handle ≡ Some x → stands.owner slot.handle ≡ owner_of x
-        of_files x there = agrees (chunks_of areas truth) stands.owner stands.stored tree.files have_files holdings found_files found slot.handle x there
-
-        same_file : IsInode (holdings slot.handle) → file_at tree.files slot.handle ≡ file_at found_files slot.handle
-        same_file here = (only_here (chunks_of areas truth) stands.owner stands.stored tree.files have_files holdings found_files found slot.handle here).same_file
-
-        is_file_or : stands.owner slot.handle ≡ Inodes → IsFileOr (chunks_of areas truth) stands.owner slot.handle (stands.stored slot.handle) (file_at tree.files slot.handle)
-        is_file_or own = (stored_here (chunks_of areas truth) stands.owner stands.stored tree.files have_files slot.handle (truth block) chunk own).file
-
-        -- a marked slot is a dead inode's
-        dead_inode : slot.dead ≡ true → (stands.owner slot.handle ≡ Inodes) × ((stands.stored slot.handle).inode.kind ≡ 0)
-        dead_inode marked =
-            let m = stands.marks.marked block is.there (sym is.dead_is ∙ marked) in
-            let b = some_there (chunks_of areas truth m.0) m.2 in
-            let same : m.0 ≡ slot.handle = one_handle_of areas truth few block slot is m.0 b.0 b.1 m.1 in
-            (ap stands.owner (sym same) ∙ m.3, ap (λ (n : ℕ). (stands.stored n).inode.kind) (sym same) ∙ m.4)
-
-        to : (x : Holder) → holdings slot.handle ≡ Some x → slot.dead ≡ true → x ≡ OfDead
-        to OfDead there marked = refl
-        to OfFile there marked =
-            let d = dead_inode marked in
-            let some = found.has_file slot.handle there in
-            absurd (not_dead (chunks_of areas truth) stands.owner slot.handle (stands.stored slot.handle) (file_at tree.files slot.handle)
-            (λ none. some (sym (same_file (subst IsInode (sym there) tt)) ∙ none)) (is_file_or d.0) d.1)
-        to (OfPage inode) there marked = let e : PageOf inode ≡ Inodes = sym (of_files (OfPage inode) there) ∙ (dead_inode marked).0 in absurd cc
-        to (OfPiece inode index) there marked = let e : DataOf inode index ≡ Inodes = sym (of_files (OfPiece inode index) there) ∙ (dead_inode marked).0 in absurd cc
-
-        from : (x : Holder) → holdings slot.handle ≡ Some x → x ≡ OfDead → slot.dead ≡ true
-        from x there dead =
-            let held_dead : holdings slot.handle ≡ Some OfDead = there ∙ ap Some dead in
-            let own = of_files OfDead held_dead in
-            let none = same_file (subst IsInode (sym held_dead) tt) ∙ no_file (chunks_of areas truth) holdings found_files found slot.handle held_dead in
-            is.dead_is ∙ ap (dead_at truth) (sym (in_block areas truth few block slot is))
-            ∙ stands.marks.dead slot.handle (truth block) chunk own (is_dead (chunks_of areas truth) stands.owner slot.handle (stands.stored slot.handle) (file_at tree.files slot.handle) none (is_file_or own))
-
         by : (o : Option Holder) → holdings slot.handle ≡ o → IsHeld holdings slot
         by None none = absurd (unowned (chunks_of areas truth) stands.owner stands.stored tree.files have_files holdings found_files found all_read
-            (λ handle b some. chunk_fits areas truth handle b few some) slot.handle (truth block) chunk none)
-        by (Some x) there = record { holder = x; there = there; marked = (to x there, from x there) }
+            (λ handle b some. chunk_fits areas truth handle b few some) slot.handle (truth block) (names_block areas truth few block slot is) none)
+        by (Some x) there = record { holder = x; there = there; marked = mark_of block slot is x there }
 
 -- ---- what is found stands
 
@@ -370,21 +393,25 @@ module _ (areas : ℕ) (truth : Truth) (few : areas ≤ 64) (slots : List UsedSl
             is_dead chunks owner s.0.handle (stored s.0.handle) (file_at files s.0.handle) (no_file chunks holdings files found s.0.handle there) st.file,
           )
 
-  pub stands : (volume : ℕ) (given : List ℕ) (is_told : Type 0) (standing : ℕ → Block → Type 0) → IsTold is_told areas standing truth → AreOrdered files given
-      → file_at files root_handle ≢ None → StandsFor areas truth (record { volume = volume; areas = areas; files = files; root = root_handle; given = given })
-  stands volume given is_told standing told ordered has_root = record {
-    chunked = told.chunked;
-    owner = owner;
-    stored = stored;
-    are_files = are_files;
-    marks = marks;
-    areas_are = refl;
-    root_is = refl;
-    has_root = has_root;
-    in_order = ordered.rise;
-    given = λ handle there.
-        let f = file_or (file_at files handle) (ordered.given_is handle there) in
-        let here = subst IsInode (sym (found.is_file handle f.0 f.1)) tt in
-        let s = found_stored chunks holdings files found handle here in
-        chunk_given areas truth handle s.block s.chunk;
-  }
+  given_of : (given : List ℕ) → AreOrdered files given → (handle : ℕ) → Contains given handle → WasGiven areas truth handle
+  given_of given ordered handle there =
+      let f = file_or (file_at files handle) (ordered.given_is handle there) in
+      let here = subst IsInode (sym (found.is_file handle f.0 f.1)) tt in
+      let s = found_stored chunks holdings files found handle here in
+      chunk_given areas truth handle s.block s.chunk
+
+pub stands : (areas : ℕ) (truth : Truth) (few : areas ≤ 64) (slots : List UsedSlot) (used : AreUsed areas truth slots) (holdings : Holdings) (tree : Tree) (found : IsFound (chunks_of areas truth) holdings tree.files)
+    → ((slot : UsedSlot) → Contains slots slot → IsHeld holdings slot) → (volume : ℕ) (is_told : Type 0) (standing : ℕ → Block → Type 0) → IsTold is_told areas standing truth → IsTreeOf areas volume tree
+    → file_at tree.files root_handle ≢ None → StandsFor areas truth tree
+stands areas truth few slots used holdings tree found all_held volume is_told standing told of has_root = record {
+  chunked = told.chunked;
+  owner = found_owner holdings;
+  stored = λ handle. (found.readings handle).stored;
+  are_files = are_files areas truth few slots used holdings tree.files found all_held;
+  marks = marks areas truth few slots used holdings tree.files found all_held;
+  areas_are = of.areas_are;
+  root_is = of.root_is;
+  has_root = has_root;
+  in_order = of.ordered.rise;
+  given = given_of areas truth few slots used holdings tree.files found all_held tree.given of.ordered;
+}

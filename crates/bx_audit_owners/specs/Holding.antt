@@ -1,5 +1,5 @@
 -- What has the chunks of a volume, as it is found inode by inode.
-use Rattle.std.specs.Prelude.{◌≡◌, ◌≢◌, ◌⊎◌, ◌<◌, ℕ, true, List, Contains, length, slice_index_or, Option, Some, None, ◌↔◌}
+use Rattle.std.specs.Prelude.{◌≡◌, ◌≢◌, ◌⊎◌, ◌<◌, ℕ, true, if◌then◌else◌, List, Contains, length, slice_index_or, Option, Some, None, ◌↔◌}
 use Rattle.std.specs.BTreeMap.{BTreeMap, get}
 use Rattle.std.specs.Ordering.{nat_cmp}
 use Rattle.bx_audit_bodies.specs.declared.claims.Claim.{Claim}
@@ -7,6 +7,7 @@ use Rattle.bx_audit_owners.specs.declared.holders.Holder.{Holder}
 use Rattle.bx_audit_owners.specs.declared.holders.Holder.TheVariants.{File as OfFile, Dead as OfDead, Page as OfPage, Piece as OfPiece}
 use Rattle.bx_audit_owners.specs.declared.slots.UsedSlot.{UsedSlot}
 use Rattle.bx_tree_files.specs.declared.file.File.{File}
+use Rattle.bx_truth.specs.Chunks.{block_at}
 use Rattle.bx_truth.specs.Stored.{Owner, Inodes, PageOf, DataOf}
 
 -- what has each chunk, by its handle
@@ -75,3 +76,9 @@ pub record IsHeld (holdings : Holdings) (slot : UsedSlot) : Type 0 where
   pub holder : Holder
   pub there : holdings slot.handle ≡ Some holder
   pub marked : (slot.dead ≡ true) ↔ (holder ≡ OfDead)
+
+-- The chunk of a slot is torn: found by its handle, which is wanted where the slot is marked as a dead inode's; else nothing names it, and 0 is.
+pub record IsTornSlot (slot : UsedSlot) (at found wanted : ℕ) : Type 0 where
+  pub at_is : at ≡ block_at slot.handle
+  pub found_is : found ≡ slot.handle
+  pub wanted_is : wanted ≡ (if slot.dead then slot.handle else 0)

@@ -2,6 +2,6 @@ pub mod Told
 pub mod UsedSlots
 pub mod Holding
 pub mod Found
+pub mod Dead
 pub mod Whole
-pub mod Named
 pub mod Walks

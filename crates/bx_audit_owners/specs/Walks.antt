@@ -3,9 +3,9 @@ use Rattle.std.specs.Prelude.{◌≡◌, ◌≢◌, ◌⊎◌, ◌++◌, ℕ, Li
 use Rattle.bx_audit_bodies.specs.declared.claims.Claim.{Claim}
 use Rattle.bx_audit_bodies.specs.Parts.{IsPartOf}
 use Rattle.bx_audit_bodies.specs.Reading.{IsReadAs, IsStored}
-use Rattle.bx_audit_owners.specs.declared.found.Found.{Found}
 use Rattle.bx_audit_owners.specs.declared.holders.Holder.TheVariants.{File as OfFile}
-use Rattle.bx_audit_owners.specs.Found.{HaveFiles, IsFound}
+use Rattle.bx_audit_owners.specs.declared.walks.Walked.{Walked}
+use Rattle.bx_audit_owners.specs.Found.{AreOrdered, HaveFiles, IsFound}
 use Rattle.bx_audit_owners.specs.Holding.{Clashes, Holdings, holdings_of}
 use Rattle.bx_audit_trees.specs.Shown.{Shows}
 use Rattle.bx_layout.specs.declared.block.Block.{Block}
@@ -73,9 +73,17 @@ pub record IsWalked (chunks : Chunks) (holdings : Holdings) (files : List File) 
   pub closed : (handle : ℕ) (file : File) (entry : Name) → file_at files handle ≡ Some file → Contains (names_of file.body) entry → file_at files entry.handle ≢ None
   pub met : (handle : ℕ) (file : File) → file_at files handle ≡ Some file → IsMet chunks handle
 
--- what was found before is found by any chunks that are shown
-abbrev pub IsStarted : Type 0 → ℕ → (ℕ → Block → Type 0) → Found → Type 0
-IsStarted is_told areas stands found = (chunks : Chunks) → Shows is_told areas stands chunks → IsFound chunks (holdings_of found.holders) found.files
+-- A tree of a volume, whose root is that of every volume: its files are in order, the entries of each directory are apart, and the handles
+-- given out are those of the files.
+pub record IsTreeOf (areas volume : ℕ) (tree : Tree) : Type 0 where
+  pub volume_is : tree.volume ≡ volume
+  pub areas_are : tree.areas ≡ areas
+  pub root_is : tree.root ≡ root_handle
+  pub ordered : AreOrdered tree.files tree.given
+
+-- all that the walk meets is as it should be by any chunks that are shown
+abbrev pub IsWalkedOn : Type 0 → ℕ → (ℕ → Block → Type 0) → Walked → Type 0
+IsWalkedOn is_told areas stands walked = (chunks : Chunks) → Shows is_told areas stands chunks → IsWalked chunks (holdings_of walked.holders) walked.tree.files
 
 -- one step of the walk: the file under a handle was met before; or it is put beside the others, and what its entries name is to be met
 pub data Meets (Is : File → Type 0) (before : Holdings) (files : List File) (met : List ℕ) (handle : ℕ) (now : Holdings) (files_now : List File) (met_now : List ℕ) : Type 0 where

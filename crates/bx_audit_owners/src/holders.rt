@@ -1,18 +1,17 @@
 //! What has the chunks of a volume.
 
-ghost use Rattle.std.specs.Prelude.{◌≡◌, ◌↔◌, Contains, length, IfOk, IsErrOf, IsFalse, IsTrue, None, OnOk, Some};
+ghost use Rattle.std.specs.Prelude.{◌≡◌, ◌↔◌, Contains, length, if◌then◌else◌, IfOk, IsErrOf, IsFalse, IsTrue, None, OnOk, Some};
 ghost use Rattle.bx_audit_owners.specs.declared.slots.UsedSlot.{UsedSlot as Used};
-ghost use Rattle.bx_audit_owners.specs.declared.holders.Holder.TheVariants.{Dead as OfDead, File as OfFile};
-ghost use Rattle.bx_audit_owners.specs.Holding.{Adds, Clashes, HasOther, IsHeld, Puts, holder_by, holdings_of};
-ghost use Rattle.bx_audit_owners.specs.Named.{IsTornSlot};
-ghost use Rattle.bx_audit_trees.specs.declared.error.AuditError.TheVariants.{Fault as DiskFailed};
+ghost use Rattle.bx_audit_owners.specs.declared.holders.Holder.TheVariants.{Dead as OfDead};
+ghost use Rattle.bx_audit_owners.specs.Holding.{Adds, Clashes, HasOther, IsHeld, IsTornSlot, Puts, holder_by, holdings_of};
+ghost use Rattle.bx_audit_trees.specs.declared.error.AuditError.TheVariants.{Fault as DiskFailed, Torn};
 ghost use Rattle.bx_audit_trees.specs.Errors.{IfTorn};
+ghost use Rattle.bx_truth.specs.Chunks.{block_at};
 
-use crate::named::torn_slot;
 use crate::slots::UsedSlot;
 use bx_audit_bodies::Claim;
 use bx_audit_trees::{AuditError, torn_at};
-use bx_tree_files::Files;
+use bx_handles::ChunkHandle;
 use std::collections::BTreeMap;
 
 /// What has a chunk.
@@ -50,16 +49,16 @@ pub(crate) fn put_inode(
     Ok(())
 }
 
-/// Whether a handle is that of a file that was found. Torn where its chunk has another holder.
-pub(crate) fn is_file(holders: &Holders, handle: u64) -> Result<bool, AuditError>
-    ensures yes { IfOk result (λ is. IsTrue is → holdings_of holders.now handle ≡ Some OfFile) }
-    ensures no { IfOk result (λ is. IsFalse is → holdings_of holders.now handle ≡ None) }
-    ensures torn { IfTorn result (λ at found wanted. HasOther (holdings_of holders.now) handle OfFile × (wanted ≡ handle)) }
+/// Whether a chunk has this holder, or none yet. Torn where it has another one.
+pub(crate) fn has_holder(holders: &Holders, handle: u64, holder: Holder) -> Result<bool, AuditError>
+    ensures yes { IfOk result (λ has. IsTrue has → holdings_of holders.now handle ≡ Some holder) }
+    ensures no { IfOk result (λ has. IsFalse has → holdings_of holders.now handle ≡ None) }
+    ensures torn { IfTorn result (λ at found wanted. HasOther (holdings_of holders.now) handle holder × (wanted ≡ handle)) }
     ensures no_fault { IsErrOf result DiskFailed → ⊥ }
 {
     match holders.get(&handle) {
         None => Ok(false),
-        Some(holder) if *holder == Holder::File => Ok(true),
+        Some(other) if *other == holder => Ok(true),
         Some(_) => Err(torn_at(handle)),
     }
 }
@@ -91,36 +90,40 @@ fn put(holders: &mut Holders, handle: u64, holder: Holder) -> Result<(), AuditEr
 }
 
 /// Whether each slot's chunk has a holder, and is marked exactly where that is a dead inode. Torn exactly where not: `found` by its
-/// handle, which is wanted where anything else names the chunk.
-pub(crate) fn check_slots(
-    slots: &[UsedSlot],
-    holders: &Holders,
-    files: &Files,
-) -> Result<(), AuditError>
+/// handle, which is wanted where its slot is marked; else nothing names it.
+pub(crate) fn check_slots(slots: &[UsedSlot], holders: &Holders) -> Result<(), AuditError>
     ensures ok { OnOk result ((slot : Used) → Contains slots.now slot → IsHeld (holdings_of holders.now) slot) }
-    ensures torn { IfTorn result (λ at found wanted. (slot : Used) × Contains slots.now slot × IsTornSlot files.now slot at found wanted × (IsHeld (holdings_of holders.now) slot → ⊥)) }
+    ensures torn { IfTorn result (λ at found wanted. (slot : Used) × Contains slots.now slot × IsTornSlot slot at found wanted × (IsHeld (holdings_of holders.now) slot → ⊥)) }
     ensures no_fault { IsErrOf result DiskFailed → ⊥ }
 {
     for slot in slots {
-        check_slot(slot, holders, files)?;
+        check_slot(slot, holders)?;
     }
     Ok(())
 }
 
 /// The same of one slot.
-fn check_slot(slot: &UsedSlot, holders: &Holders, files: &Files) -> Result<(), AuditError>
+fn check_slot(slot: &UsedSlot, holders: &Holders) -> Result<(), AuditError>
     ensures ok { OnOk result (IsHeld (holdings_of holders.now) slot.now) }
-    ensures torn { IfTorn result (λ at found wanted. IsTornSlot files.now slot.now at found wanted × (IsHeld (holdings_of holders.now) slot.now → ⊥)) }
+    ensures torn { IfTorn result (λ at found wanted. IsTornSlot slot.now at found wanted × (IsHeld (holdings_of holders.now) slot.now → ⊥)) }
     ensures no_fault { IsErrOf result DiskFailed → ⊥ }
 {
     match holders.get(&slot.handle) {
         Some(holder) if slot.dead == is_dead(*holder) => Ok(()),
-        _ => Err(torn_slot(slot, files)),
+        _ => Err(torn_slot(slot)),
     }
 }
 
+/// That the chunk of a slot is torn.
+fn torn_slot(slot: &UsedSlot) -> AuditError
+    ensures { result ≡ Torn (block_at slot.now.handle) slot.now.handle (if slot.now.dead then slot.now.handle else 0) }
+{
+    let at = ChunkHandle::of(slot.handle).block();
+    AuditError::Torn(at, slot.handle, if slot.dead { slot.handle } else { 0 })
+}
+
 /// Whether it is a dead inode.
-fn is_dead(holder: Holder) -> bool
+pub(crate) fn is_dead(holder: Holder) -> bool
     ensures { IsTrue result ↔ (holder ≡ OfDead) }
 {
     holder == Holder::Dead

@@ -1,13 +1,12 @@
-//! The file tree of a volume, read off its blocks slot by slot: each chunk has one owner, each inode is read.
+//! The file tree of a volume, read off its blocks: on a walk from the root, and then slot by slot. Each chunk has one owner.
 #![tactic(auto)]
 
+mod dead;
 mod found;
 mod holders;
-mod named;
 mod slots;
 mod tree;
 mod walks;
 
-pub use found::Found;
 pub use tree::tree_on;
-pub use walks::walk;
+pub use walks::{Walked, walk};

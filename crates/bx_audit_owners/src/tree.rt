@@ -1,48 +1,48 @@
 //! The tree of a volume.
 
-ghost use Rattle.std.specs.Prelude.{◌≡◌, ◌≢◌, ◌≤◌, Contains, IfOk, IsErrOf, None, OnOk, Some};
+ghost use Rattle.std.specs.Prelude.{◌≡◌, ◌≢◌, ◌≤◌, ℕ, Contains, IfOk, IsErrOf, List, OnOk};
 ghost use Rattle.bx_audit_owners.specs.declared.slots.UsedSlot.{UsedSlot as Used};
 ghost use Rattle.bx_audit_owners.specs.Found.{AreOrdered, IsFound};
 ghost use Rattle.bx_audit_owners.specs.Holding.{holdings_of};
 ghost use Rattle.bx_audit_owners.specs.Told.{IsTold};
 ghost use Rattle.bx_audit_owners.specs.UsedSlots.{AreUsed, IsHandleOf};
-ghost use Rattle.bx_audit_owners.specs.Walks.{IsStarted};
-ghost use Rattle.bx_audit_owners.specs.Whole.{IsFilesTorn, IsTreeTorn, IsWhole, StandsForNone};
+ghost use Rattle.bx_audit_owners.specs.Walks.{IsTreeOf, IsWalked, IsWalkedOn};
+ghost use Rattle.bx_audit_owners.specs.Whole.{IsRestTorn, IsTreeTorn, IsWhole, StandsForNone};
 ghost use Rattle.bx_audit_trees.specs.declared.error.AuditError.TheVariants.{Fault as DiskFailed};
 ghost use Rattle.bx_audit_trees.specs.Errors.{Counts, IfTorn};
 ghost use Rattle.bx_model.specs.Opening.{root_handle};
-ghost use Rattle.bx_tree_files.specs.Files.{file_at};
+ghost use Rattle.bx_tree_files.specs.declared.file.File.{File};
 ghost use Rattle.bx_truth.specs.Chunks.{chunks_of};
 ghost use Rattle.bx_truth.specs.Stands.{StandsFor};
 ghost use Rattle.bx_views.specs.Truths.{Truth};
 
-use crate::found::{Found, read_inodes};
-use crate::holders::check_slots;
+use crate::dead::read_dead;
+use crate::holders::{Holders, check_slots};
 use crate::slots::{ROOT, UsedSlot, used_slots};
-use bx_audit_trees::{AuditError, torn_at};
+use crate::walks::Walked;
+use bx_audit_trees::AuditError;
 use bx_handles::ChunkHandle;
 use bx_homes::Blocks;
 use bx_model::Tree;
 use std::alloc::Global;
 
-/// The tree that the blocks of a volume stand for, once its slots are right, beside what the walk from the root found. Torn where they stand for no file tree. Whether what
-/// they stand for is a file tree isn't asked here; the handles given out are those of the files, as far as blocks tell.
+/// The tree that the blocks of a volume stand for, once its slots are right: that of the files that the walk from the root met. Torn where
+/// they stand for no file tree, since something that the walk doesn't meet is wrong. Whether the files are a file tree isn't asked here; the
+/// handles given out are those of the files, as far as blocks tell.
 pub fn tree_on<B: Blocks>(
     alloc: Global,
     blocks: &mut B,
     areas: u16,
-    volume: u64,
-    walked: Found,
+    walked: Walked,
 ) -> Result<Tree, AuditError>
     requires ready { B.ready blocks.old }
     requires areas { B.areas blocks.old ≡ areas }
     requires most { areas ≤ 64 }
-    requires walked { AreOrdered walked.files walked.given }
-    ensures ok { (truth : Truth) → IsTold (B.tells blocks.old) areas (B.stands blocks.old) truth → IsStarted (B.tells blocks.old) areas (B.stands blocks.old) walked → IfOk result (StandsFor areas truth) }
-    ensures volume { IfOk result (λ tree. tree.volume ≡ volume) }
-    ensures ordered { IfOk result (λ tree. AreOrdered tree.files tree.given) }
-    ensures torn { (truth : Truth) → IsTold (B.tells blocks.old) areas (B.stands blocks.old) truth → IsStarted (B.tells blocks.old) areas (B.stands blocks.old) walked → IfTorn result (λ at found wanted. StandsForNone areas truth) }
-    ensures tells { (truth : Truth) → IsTold (B.tells blocks.old) areas (B.stands blocks.old) truth → IsStarted (B.tells blocks.old) areas (B.stands blocks.old) walked → IfTorn result (IsTreeTorn areas truth) }
+    requires tree { IsTreeOf areas walked.tree.volume walked.tree }
+    ensures ok { (truth : Truth) → IsTold (B.tells blocks.old) areas (B.stands blocks.old) truth → IsWalkedOn (B.tells blocks.old) areas (B.stands blocks.old) walked → IfOk result (StandsFor areas truth) }
+    ensures is { IfOk result (λ tree. tree ≡ walked.tree) }
+    ensures torn { (truth : Truth) → IsTold (B.tells blocks.old) areas (B.stands blocks.old) truth → IsWalkedOn (B.tells blocks.old) areas (B.stands blocks.old) walked → IfTorn result (λ at found wanted. StandsForNone areas truth) }
+    ensures tells { (truth : Truth) → IsTold (B.tells blocks.old) areas (B.stands blocks.old) truth → IsWalkedOn (B.tells blocks.old) areas (B.stands blocks.old) walked → IfTorn result (IsTreeTorn areas truth) }
     ensures counts { Counts result (B.faults blocks.old) (B.faults blocks.new) }
     ensures keeps_telling { (truth : Truth) → IsTold (B.tells blocks.old) areas (B.stands blocks.old) truth → B.tells blocks.new }
     ensures keeps_areas { B.areas blocks.new ≡ B.areas blocks.old }
@@ -52,39 +52,39 @@ pub fn tree_on<B: Blocks>(
     let slots = used_slots(alloc, blocks, areas)?;
     let in_use = slots.as_slice();
     find_root(in_use)?;
-    let found = found_on(alloc, blocks, areas, in_use, walked)?;
-    let tree = tree_of(found, areas, volume)?;
+    let Walked { tree, mut holders } = walked;
+    check_rest(alloc, blocks, areas, in_use, &mut holders)?;
     Ok(tree)
 }
 
-/// What is found of a volume with these slots in use. Torn where its chunks are those of no file tree.
-fn found_on<B: Blocks>(
+/// Whether what the walk from the root doesn't meet is as it should be, of a volume with these slots in use: that is dead inodes alone, of
+/// the slots that are marked, with their chunks. Torn where not.
+fn check_rest<B: Blocks>(
     alloc: Global,
     blocks: &mut B,
     areas: u16,
     slots: &[UsedSlot],
-    walked: Found,
-) -> Result<Found, AuditError>
+    holders: &mut Holders,
+) -> Result<(), AuditError>
     requires ready { B.ready blocks.old }
     requires areas { B.areas blocks.old ≡ areas }
     requires most { areas ≤ 64 }
     requires root { (slot : Used) × Contains slots.now slot × (slot.handle ≡ root_handle) }
-    requires walked { AreOrdered walked.files walked.given }
-    ensures ok { (truth : Truth) → IsTold (B.tells blocks.old) areas (B.stands blocks.old) truth → AreUsed areas truth slots.now → IsFound (chunks_of areas truth) (holdings_of walked.holders) walked.files
-        → IfOk result (λ found. IsWhole areas truth slots.now (holdings_of found.holders) found.files) }
-    ensures ordered { IfOk result (λ found. AreOrdered found.files found.given) }
-    ensures torn { (truth : Truth) → IsTold (B.tells blocks.old) areas (B.stands blocks.old) truth → AreUsed areas truth slots.now → IsFound (chunks_of areas truth) (holdings_of walked.holders) walked.files
-        → IfTorn result (λ at wrong wanted. StandsForNone areas truth) }
-    ensures tells { (truth : Truth) → IsTold (B.tells blocks.old) areas (B.stands blocks.old) truth → AreUsed areas truth slots.now → IsFound (chunks_of areas truth) (holdings_of walked.holders) walked.files → IfTorn result (IsFilesTorn areas truth) }
+    ensures ok { (truth : Truth) (files : List File) → IsTold (B.tells blocks.old) areas (B.stands blocks.old) truth → AreUsed areas truth slots.now → IsFound (chunks_of areas truth) (holdings_of holders.old) files
+        → OnOk result (IsWhole areas truth slots.now (holdings_of holders.new) files) }
+    ensures torn { (truth : Truth) (files : List File) (given : List ℕ) → IsTold (B.tells blocks.old) areas (B.stands blocks.old) truth → AreUsed areas truth slots.now → IsWalked (chunks_of areas truth) (holdings_of holders.old) files
+        → AreOrdered files given → IfTorn result (λ at found wanted. StandsForNone areas truth) }
+    ensures tells { (truth : Truth) (files : List File) → IsTold (B.tells blocks.old) areas (B.stands blocks.old) truth → AreUsed areas truth slots.now → IsFound (chunks_of areas truth) (holdings_of holders.old) files
+        → IfTorn result (IsRestTorn areas truth) }
     ensures counts { Counts result (B.faults blocks.old) (B.faults blocks.new) }
     ensures keeps_telling { (truth : Truth) → IsTold (B.tells blocks.old) areas (B.stands blocks.old) truth → AreUsed areas truth slots.now → B.tells blocks.new }
     ensures keeps_areas { B.areas blocks.new ≡ B.areas blocks.old }
     ensures keeps_lender { B.lender blocks.new ≡ B.lender blocks.old }
     ensures keeps_ready { B.ready blocks.new }
 {
-    let found = read_inodes(alloc, blocks, areas, slots, walked)?;
-    check_slots(slots, &found.holders, &found.files)?;
-    Ok(found)
+    read_dead(alloc, blocks, areas, slots, holders)?;
+    check_slots(slots, holders)?;
+    Ok(())
 }
 
 /// Whether the root's handle is that of a slot. Torn exactly where not: block 0 is, found by the handle of its slot.
@@ -112,29 +112,4 @@ fn handle_of(slots: &[UsedSlot], block: u64) -> u64
         }
     }
     0
-}
-
-/// The tree of what was found, whose root has a file. Torn exactly where it has none.
-fn tree_of(found: Found, areas: u16, volume: u64) -> Result<Tree, AuditError>
-    ensures ok { IfOk result (λ tree. tree ≡ record { volume = volume; areas = areas; files = found.files; root = root_handle; given = found.given }) }
-    ensures root { OnOk result (file_at found.files root_handle ≢ None) }
-    ensures torn { IfTorn result (λ at wrong wanted. file_at found.files root_handle ≡ None) }
-    ensures tells { IfTorn result (λ at wrong wanted. (at ≡ 0) × (wrong ≡ root_handle) × (wanted ≡ root_handle)) }
-    ensures no_fault { IsErrOf result DiskFailed → ⊥ }
-{
-    if found.files.get(ROOT).is_none() {
-        return Err(torn_at(ROOT));
-    }
-    let Found {
-        holders: _,
-        files,
-        given,
-    } = found;
-    Ok(Tree {
-        volume,
-        areas,
-        files,
-        root: ROOT,
-        given,
-    })
 }

@@ -3,26 +3,75 @@
 ghost use Rattle.std.specs.Prelude.{◌≡◌, ◌≤◌, ◌++◌, map, IfOk, OnOk};
 ghost use Rattle.bx_audit_owners.specs.Found.{AreOrdered, IsFound};
 ghost use Rattle.bx_audit_owners.specs.Holding.{holdings_of};
-ghost use Rattle.bx_audit_owners.specs.Walks.{IsFileAt, IsMet, IsWalked, IsWrongMet, Meets};
+ghost use Rattle.bx_audit_owners.specs.Walks.{IsFileAt, IsMet, IsTreeOf, IsWalked, IsWrongMet, Meets};
 ghost use Rattle.bx_audit_trees.specs.Errors.{Counts, IfTorn};
 ghost use Rattle.bx_audit_trees.specs.Shown.{Shows};
 ghost use Rattle.bx_tree_files.specs.Names.{names_of};
 ghost use Rattle.bx_truth.specs.PageTrees.{Chunks};
 
 use crate::found::{Found, put_file};
-use crate::holders::{Holder, Holders, is_file, put_inode};
+use crate::holders::{Holder, Holders, has_holder, put_inode};
 use crate::slots::ROOT;
 use bx_audit_bodies::{ReadFile, file_of};
 use bx_audit_trees::{AuditError, torn_at};
 use bx_base::OutOfMemory;
 use bx_homes::Blocks;
+use bx_model::Tree;
 use bx_tree_files::{Body, Files, Handles, NameList};
 use std::alloc::Global;
+
+/// What the walk from the root found.
+#[derive(Drop)]
+pub struct Walked {
+    /// The files that it met, with their handles as those that were given out.
+    pub tree: Tree,
+    /// What has each chunk that these have.
+    pub(crate) holders: Holders,
+}
 
 /// What the walk from the root finds: it reads the root, and each file that an entry of a directory names, in the order in which they are
 /// met. Torn exactly where something that it meets is wrong: where no file is that should be, or a chunk has two owners. Links, parents and
 /// the words of slots are not looked at.
-pub fn walk<B: Blocks>(alloc: Global, blocks: &mut B, areas: u16) -> Result<Found, AuditError>
+pub fn walk<B: Blocks>(
+    alloc: Global,
+    blocks: &mut B,
+    areas: u16,
+    volume: u64,
+) -> Result<Walked, AuditError>
+    requires ready { B.ready blocks.old }
+    requires areas { B.areas blocks.old ≡ areas }
+    requires most { areas ≤ 64 }
+    ensures ok { (chunks : Chunks) → Shows (B.tells blocks.old) areas (B.stands blocks.old) chunks → IfOk result (λ walked. IsWalked chunks (holdings_of walked.holders) walked.tree.files) }
+    ensures tree { IfOk result (λ walked. IsTreeOf areas volume walked.tree) }
+    ensures torn { (chunks : Chunks) → Shows (B.tells blocks.old) areas (B.stands blocks.old) chunks → IfTorn result (λ at found wanted. IsWrongMet chunks wanted) }
+    ensures shows { (chunks : Chunks) → Shows (B.tells blocks.old) areas (B.stands blocks.old) chunks → Shows (B.tells blocks.new) areas (B.stands blocks.new) chunks }
+    ensures counts { Counts result (B.faults blocks.old) (B.faults blocks.new) }
+    ensures keeps_areas { B.areas blocks.new ≡ B.areas blocks.old }
+    ensures keeps_lender { B.lender blocks.new ≡ B.lender blocks.old }
+    ensures keeps_ready { B.ready blocks.new }
+    ensures keeps_telling { B.tells blocks.old → B.tells blocks.new }
+{
+    let Found {
+        holders,
+        files,
+        given,
+    } = found_from_root(alloc, blocks, areas)?;
+    let tree = Tree {
+        volume,
+        areas,
+        files,
+        root: ROOT,
+        given,
+    };
+    Ok(Walked { tree, holders })
+}
+
+/// The same, before it is put into a tree.
+fn found_from_root<B: Blocks>(
+    alloc: Global,
+    blocks: &mut B,
+    areas: u16,
+) -> Result<Found, AuditError>
     requires ready { B.ready blocks.old }
     requires areas { B.areas blocks.old ≡ areas }
     requires most { areas ≤ 64 }
@@ -80,7 +129,7 @@ fn meet<B: Blocks>(
     ensures keeps_ready { B.ready blocks.new }
     ensures keeps_telling { B.tells blocks.old → B.tells blocks.new }
 {
-    if is_file(&found.holders, handle)? {
+    if has_holder(&found.holders, handle, Holder::File)? {
         return Ok(());
     }
     let ReadFile { file, claims } = file_of(alloc, blocks, areas, handle)?;
@@ -89,7 +138,7 @@ fn meet<B: Blocks>(
     };
     put_inode(&mut found.holders, handle, Holder::File, claims.as_slice())?;
     put_names(&file.body, met)?;
-    put_file(found, Some(file))?;
+    put_file(found, file)?;
     Ok(())
 }
 

@@ -1,7 +1,7 @@
 use Rattle.std.proofs.Common.{◌≡◌, ◌⊎◌, Err, subst, sym}
 use Rattle.bx_audit.specs.Blocks.{IsTornBlock, StandForNoTree}
-use Rattle.bx_audit.proofs.Trees.{a_truth, all_torn, counts_of, end_of, in_order, is_told}
-use Rattle.bx_audit.proofs.Walked.{still_started}
+use Rattle.bx_audit.proofs.Trees.{a_truth, all_torn, counts_of, end_of, is_told}
+use Rattle.bx_audit.proofs.Walked.{still_walked}
 use Rattle.bx_audit_owners.specs.Whole.{StandsForNone}
 use Rattle.bx_homes.specs.Slots.{AreBlocks}
 use Rattle.bx_homes.proofs.Sectors.{of_none}
@@ -13,9 +13,6 @@ use Rattle.bx_audit.proofs.blocks.tree_of.Goals as goal
 
 pub returns-in-Ok-clause-there : goal.returns-in-Ok-clause-there
 returns-in-Ok-clause-there g c = λ tells. a_truth c.args.areas (g.B.Blocks.stands c.args.blocks.now) (of_none c.in_ok-at.field-0 c.in_default.is (c.in_ok-at.ensures.there tells))
-
-pub returns-in-Ok-clause-ordered : goal.returns-in-Ok-clause-ordered
-returns-in-Ok-clause-ordered g c = in_order c.in-Ok.tree c.in-Ok.ensures.ordered
 
 pub returns-in-Ok-clause-keeps_telling : goal.returns-in-Ok-clause-keeps_telling
 returns-in-Ok-clause-keeps_telling g c = λ tells.
@@ -33,7 +30,7 @@ returns-in-Err-clause-keeps_telling g c = λ tells.
 
 pub returns-in-Err-clause-err : goal.returns-in-Err-clause-err
 returns-in-Err-clause-err g c = λ tells started.
-    let still = still_started (g.B.Blocks.tells c.args.blocks.now) (g.B.Blocks.tells c.first_fault.new.blocks) c.args.areas (g.B.Blocks.stands c.args.blocks.now) (g.B.Blocks.stands c.first_fault.new.blocks) c.args.walked tells
+    let still = still_walked (g.B.Blocks.tells c.args.blocks.now) (g.B.Blocks.tells c.first_fault.new.blocks) c.args.areas (g.B.Blocks.stands c.args.blocks.now) (g.B.Blocks.stands c.first_fault.new.blocks) c.args.walked tells
     (c.in_ok-at.ensures.stays tells) started in
     let some = a_truth c.args.areas (g.B.Blocks.stands c.args.blocks.now) (of_none c.in_ok-at.field-0 c.in_default.is (c.in_ok-at.ensures.there tells)) in
     let right = λ (truth : Truth) (are : AreBlocks c.args.areas (g.B.Blocks.stands c.args.blocks.now) truth). of_none c.in_ok-at.field-0 c.in_default.is (c.in_ok-at.ensures.none tells) truth are in
@@ -53,5 +50,5 @@ returns-in-Ok-clause-any g c = λ tells started truth are.
     c.in-Ok.ensures.ok truth
     (is_told (g.B.Blocks.tells c.args.blocks.now) (g.B.Blocks.tells c.first_fault.new.blocks) c.args.areas (g.B.Blocks.stands c.args.blocks.now) (g.B.Blocks.stands c.first_fault.new.blocks) truth tells
     c.in_ok-at.ensures.keeps_telling c.in_ok-at.ensures.stays are (of_none c.in_ok-at.field-0 c.in_default.is (c.in_ok-at.ensures.none tells) truth are))
-    (still_started (g.B.Blocks.tells c.args.blocks.now) (g.B.Blocks.tells c.first_fault.new.blocks) c.args.areas (g.B.Blocks.stands c.args.blocks.now) (g.B.Blocks.stands c.first_fault.new.blocks) c.args.walked tells
+    (still_walked (g.B.Blocks.tells c.args.blocks.now) (g.B.Blocks.tells c.first_fault.new.blocks) c.args.areas (g.B.Blocks.stands c.args.blocks.now) (g.B.Blocks.stands c.first_fault.new.blocks) c.args.walked tells
     (c.in_ok-at.ensures.stays tells) started)

@@ -11,7 +11,7 @@ use Rattle.bx_audit.proofs.walks.walk_in.Goals as goal
 
 pub returns-clause-ok : goal.returns-clause-ok
 returns-clause-ok g c = λ tells.
-    moved g.R.Rack.state (λ (st : ℕ → Block → Type 0). (chunks : Chunks) → AreHeaded c.args.read.now.members.areas st chunks → IfOk c.walk_of.result (λ found. IsWalked chunks (holdings_of found.holders) found.files))
+    moved g.R.Rack.state (λ (st : ℕ → Block → Type 0). (chunks : Chunks) → AreHeaded c.args.read.now.members.areas st chunks → IfOk c.walk_of.result (λ walked. IsWalked chunks (holdings_of walked.holders) walked.tree.files))
     _ _ _ _ _ _ c.new-blocks.ensures.rack c.new-blocks.ensures.members (c.new-blocks.ensures.logs ∙ c.items.ensures)
     (c.walk_of.ensures.ok (subst (λ r. g.R.Rack.tells r) (sym c.new-blocks.ensures.rack) tells))
 

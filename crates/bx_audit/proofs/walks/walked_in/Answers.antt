@@ -1,22 +1,45 @@
-use Rattle.std.proofs.Common.{inr, refl, subst}
-use Rattle.bx_audit.specs.Blocks.{blocks_of}
-use Rattle.bx_audit.specs.Walked.{IsToldOf}
-use Rattle.bx_audit.proofs.Walked.{of_torn}
+use Rattle.std.proofs.Common.{◌⊎◌, ⊎_elim, inl, inr, Err, ap, subst, ◌∙◌}
+use Rattle.std.proofs.lemmas.Result.{err_from_is_err_and}
+use Rattle.bx_audit.specs.Blocks.{StandForNoTree, blocks_of}
+use Rattle.bx_audit.specs.Walked.{IsWrongFromRoot, NamesFile}
+use Rattle.bx_audit.proofs.Ordered.{in_order}
+use Rattle.bx_audit.proofs.Shown.{if_err}
+use Rattle.bx_audit.proofs.Walked.{none_linked}
+use Rattle.bx_audit_owners.specs.Holding.{holdings_of}
 use Rattle.bx_disk.specs.Disks.{Disks}
+use Rattle.bx_logs.specs.Members.{held_by}
+use Rattle.bx_model.specs.FileTrees.{IsFileTree}
+use Rattle.bx_overlay.specs.declared.error.AuditError.{AuditError}
+use Rattle.bx_overlay.specs.OneOver.{one_over}
+use Rattle.bx_overlay.specs.Refusals.{IsBreak}
 use Rattle.bx_audit.proofs.walks.walked_in.Goals as goal
 
-pub returns-in_ok-at-in-Err-Torn-clause-err : goal.returns-in_ok-at-in-Err-Torn-clause-err
-returns-in_ok-at-in-Err-Torn-clause-err g c = λ tells.
+pub check_links-requires-clause-order : goal.check_links-requires-clause-order
+check_links-requires-clause-order g c = in_order c.in_ok-walked.walked.tree c.in_ok-walked.ensures.tree.ordered
+
+pub returns-in_err-walked-clause-err : goal.returns-in_err-walked-clause-err
+returns-in_err-walked-clause-err g c = λ tells.
+    let p = err_from_is_err_and c.from_residual.result c.from_residual.ensures.1 in
     let read = c.args.read.now in
-    inr (
-      record {
-        at = c.in_ok-at-in-Err-Torn.at;
-        found = c.in_ok-at-in-Err-Torn.found;
-        wanted = c.in-Err-Torn.wanted;
-        error_is = refl;
-        told = subst (λ (d : Disks). IsToldOf read.members.areas (blocks_of d read) c.in-Err-Torn.wanted c.in_ok-at-in-Err-Torn.at c.in_ok-at-in-Err-Torn.found) c.in-Err-Torn.ensures.stays
-            (c.in_ok-at-in-Err-Torn.ensures.tells (c.in-Err-Torn.ensures.keeps_telling tells));
-        wrong = λ chunks headed. of_torn _ c.in-Err-Torn.field-0 c.in-Err-Torn.field-0-0 c.in-Err-Torn.field-0-1 c.in-Err-Torn.wanted c.in-Err-Torn.field-0-is (c.in-Err-Torn.ensures.torn tells chunks headed);
-      },
-      of_torn _ c.in-Err-Torn.field-0 c.in-Err-Torn.field-0-0 c.in-Err-Torn.field-0-1 c.in-Err-Torn.wanted c.in-Err-Torn.field-0-is (c.in-Err-Torn.ensures.none tells),
-    )
+    let stands = blocks_of (g.R.Rack.state c.args.rack.now) read in
+    if_err (λ (e : AuditError). IsBreak e ⊎ (IsWrongFromRoot read.members.areas stands e × StandForNoTree read.members.areas stands)) c.in_err-walked.field-0.0 c.from_residual.result (p.1 ∙ ap Err p.2)
+    (⊎_elim (λ broke. inl broke) (λ torn. inr (inl torn.0, torn.1)) (c.in_err-walked.ensures.err tells))
+
+pub returns-in_err-check_links-clause-err : goal.returns-in_err-check_links-clause-err
+returns-in_err-check_links-clause-err g c = λ tells.
+    let p = err_from_is_err_and c.from_residual-in_err-check_links.result c.from_residual-in_err-check_links.ensures.1 in
+    let read = c.args.read.now in
+    let disks = g.R.Rack.state c.args.rack.now in
+    let stands = blocks_of disks read in
+    let walked = c.in_ok-walked.walked in
+    let error = c.in_err-check_links.field-0.0 in
+    let is_walked = c.in_ok-walked.ensures.ok tells in
+    let why = subst (λ (d : Disks). IsBreak error ⊎ (NamesFile read.members.areas (blocks_of d read) walked.tree error × (IsFileTree walked.tree → ⊥))) c.in_ok-walked.ensures.stays
+    (c.in_err-check_links.ensures.err (c.in_ok-walked.ensures.keeps_telling tells)) in
+    if_err (λ (e : AuditError). IsBreak e ⊎ (IsWrongFromRoot read.members.areas stands e × StandForNoTree read.members.areas stands)) error c.from_residual-in_err-check_links.result (p.1 ∙ ap Err p.2)
+    (⊎_elim (λ broke. inl broke)
+    (λ torn. inr (
+      inr record { tree = walked.tree; met = record { holdings = holdings_of walked.holders; walked = is_walked }; none = torn.1; names = torn.0 },
+      none_linked read.members.areas read.first.volume stands walked c.requires.volume.most_areas (one_over (held_by disks.reads read.members) read.members.devices read.newest) is_walked c.in_ok-walked.ensures.tree torn.1,
+    ))
+    why)

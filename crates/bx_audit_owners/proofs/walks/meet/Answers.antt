@@ -15,15 +15,15 @@ use Rattle.bx_audit_trees.proofs.Ends.{if_torn}
 use Rattle.bx_tree_files.specs.declared.file.File.{File}
 use Rattle.bx_audit_owners.proofs.walks.meet.Goals as goal
 
-pub returns-in_err-is_file-clause-torn : goal.returns-in_err-is_file-clause-torn
-returns-in_err-is_file-clause-torn g c = λ chunks shows found met.
+pub returns-in_err-has_holder-clause-torn : goal.returns-in_err-has_holder-clause-torn
+returns-in_err-has_holder-clause-torn g c = λ chunks shows found met.
     let p = err_from_is_err_and c.from_residual.result c.from_residual.ensures.1 in
-    if_torn _ _ c.in_err-is_file.field-0.0 c.from_residual.result (p.1 ∙ ap Err p.2) (λ at wrong wanted has. inl record {
+    if_torn _ _ c.in_err-has_holder.field-0.0 c.from_residual.result (p.1 ∙ ap Err p.2) (λ at wrong wanted has. inl record {
       handle = c.args.handle;
       met = met;
       none = other_has_none chunks (holdings_of c.args.found.now.holders) c.args.found.now.files found c.args.handle has.0.other has.0.there has.0.apart;
       part = inl has.1;
-    }) c.in_err-is_file.ensures.torn
+    }) c.in_err-has_holder.ensures.torn
 
 pub returns-in_err-file-clause-torn : goal.returns-in_err-file-clause-torn
 returns-in_err-file-clause-torn g c = λ chunks shows found met.
@@ -70,7 +70,7 @@ returns-clause-ok g c = λ chunks shows found.
     let adds = subst (λ (l : List Claim). Adds before c.args.handle OfFile l (length l) now) c.as_slice.ensures.value c.in_ok-put_inode.ensures.ok in
     subst (λ (m : BTreeMap ℕ Holder). IsFound chunks (holdings_of m) c.put_file.new.found.files) (sym c.in_ok-put_file.ensures.holders)
     (with_inode chunks before c.args.found.now.files c.args.handle claims found now c.put_file.new.found.files (Some c.in-Some.file) read
-    (c.in_ok-is_file.ensures.no c.if-branch.false) adds c.in_ok-put_file.ensures.with c.in_ok-put_file.ensures.none)
+    (c.in_ok-has_holder.ensures.no c.if-branch.false) adds c.in_ok-put_file.ensures.with tt)
 
 pub returns-clause-step : goal.returns-clause-step
 returns-clause-step g c =

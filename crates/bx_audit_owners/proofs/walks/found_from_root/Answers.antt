@@ -10,7 +10,7 @@ use Rattle.bx_audit_owners.proofs.Walking.{IsUnderWay, all_walked, at_place, don
 use Rattle.bx_audit_trees.proofs.Ends.{if_torn}
 use Rattle.bx_model.specs.Opening.{root_handle}
 use Rattle.bx_tree_files.specs.declared.file.File.{File}
-use Rattle.bx_audit_owners.proofs.walks.walk.Goals as goal
+use Rattle.bx_audit_owners.proofs.walks.found_from_root.Goals as goal
 
 pub loop-at-init : goal.loop-at-init
 loop-at-init g c =

@@ -7,7 +7,7 @@ use Rattle.bx_audit_owners.proofs.Walking.{IsUnderWay}
 use Rattle.bx_audit_trees.specs.Shown.{Shows}
 use Rattle.bx_model.specs.Opening.{root_handle}
 use Rattle.bx_truth.specs.PageTrees.{Chunks}
-use Rattle.bx_audit_owners.proofs.walks.walk.Given as goal
+use Rattle.bx_audit_owners.proofs.walks.found_from_root.Given as goal
 
 abbrev pub invariant-loop-at : goal.invariant-loop-at
 invariant-loop-at g l = record {

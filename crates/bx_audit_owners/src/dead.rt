@@ -1,0 +1,111 @@
+//! The dead inodes of a volume.
+
+ghost use Rattle.std.specs.Prelude.{◌≡◌, ◌≢◌, ◌≤◌, ℕ, true, Contains, List, None, OnOk};
+ghost use Rattle.bx_audit_owners.specs.declared.slots.UsedSlot.{UsedSlot as Used};
+ghost use Rattle.bx_audit_owners.specs.Dead.{IsNoDead, IsNoDeadOf};
+ghost use Rattle.bx_audit_owners.specs.Found.{IsFound};
+ghost use Rattle.bx_audit_owners.specs.Holding.{holdings_of};
+ghost use Rattle.bx_audit_trees.specs.Errors.{Counts, IfTorn};
+ghost use Rattle.bx_audit_trees.specs.Shown.{Shows};
+ghost use Rattle.bx_tree_files.specs.declared.file.File.{File};
+ghost use Rattle.bx_truth.specs.PageTrees.{Chunks};
+
+use crate::holders::{Holder, Holders, has_holder, put_inode};
+use crate::slots::UsedSlot;
+use bx_audit_bodies::{ReadFile, file_of};
+use bx_audit_trees::{AuditError, torn_at};
+use bx_homes::Blocks;
+use std::alloc::Global;
+
+/// Says of the dead inodes, those of the slots that are marked, and of the chunks that they claim what has them. Torn where the chunk of
+/// such a slot is no dead inode, or one that claims what another holder has.
+pub(crate) fn read_dead<B: Blocks>(
+    alloc: Global,
+    blocks: &mut B,
+    areas: u16,
+    slots: &[UsedSlot],
+    holders: &mut Holders,
+) -> Result<(), AuditError>
+    requires ready { B.ready blocks.old }
+    requires areas { B.areas blocks.old ≡ areas }
+    requires most { areas ≤ 64 }
+    ensures ok { (chunks : Chunks) (files : List File) → Shows (B.tells blocks.old) areas (B.stands blocks.old) chunks → IsFound chunks (holdings_of holders.old) files
+        → OnOk result (IsFound chunks (holdings_of holders.new) files) }
+    ensures marked { OnOk result ((slot : Used) → Contains slots.now slot → slot.dead ≡ true → holdings_of holders.new slot.handle ≢ None) }
+    ensures still { OnOk result ((at : ℕ) → holdings_of holders.old at ≢ None → holdings_of holders.new at ≢ None) }
+    ensures torn { (chunks : Chunks) (files : List File) → Shows (B.tells blocks.old) areas (B.stands blocks.old) chunks → IsFound chunks (holdings_of holders.old) files
+        → IfTorn result (λ at found wanted. IsNoDeadOf chunks files slots.now wanted) }
+    ensures shows { (chunks : Chunks) → Shows (B.tells blocks.old) areas (B.stands blocks.old) chunks → Shows (B.tells blocks.new) areas (B.stands blocks.new) chunks }
+    ensures counts { Counts result (B.faults blocks.old) (B.faults blocks.new) }
+    ensures keeps_areas { B.areas blocks.new ≡ B.areas blocks.old }
+    ensures keeps_lender { B.lender blocks.new ≡ B.lender blocks.old }
+    ensures keeps_ready { B.ready blocks.new }
+{
+    for slot in slots {
+        read_slot(alloc, blocks, areas, slot, holders)?;
+    }
+    Ok(())
+}
+
+/// The same of one slot.
+fn read_slot<B: Blocks>(
+    alloc: Global,
+    blocks: &mut B,
+    areas: u16,
+    slot: &UsedSlot,
+    holders: &mut Holders,
+) -> Result<(), AuditError>
+    requires ready { B.ready blocks.old }
+    requires areas { B.areas blocks.old ≡ areas }
+    requires most { areas ≤ 64 }
+    ensures ok { (chunks : Chunks) (files : List File) → Shows (B.tells blocks.old) areas (B.stands blocks.old) chunks → IsFound chunks (holdings_of holders.old) files
+        → OnOk result (IsFound chunks (holdings_of holders.new) files) }
+    ensures marked { slot.now.dead ≡ true → OnOk result (holdings_of holders.new slot.now.handle ≢ None) }
+    ensures still { OnOk result ((at : ℕ) → holdings_of holders.old at ≢ None → holdings_of holders.new at ≢ None) }
+    ensures torn { (chunks : Chunks) (files : List File) → Shows (B.tells blocks.old) areas (B.stands blocks.old) chunks → IsFound chunks (holdings_of holders.old) files
+        → IfTorn result (λ at found wanted. (slot.now.dead ≡ true) × IsNoDead chunks files slot.now.handle wanted) }
+    ensures shows { (chunks : Chunks) → Shows (B.tells blocks.old) areas (B.stands blocks.old) chunks → Shows (B.tells blocks.new) areas (B.stands blocks.new) chunks }
+    ensures counts { Counts result (B.faults blocks.old) (B.faults blocks.new) }
+    ensures keeps_areas { B.areas blocks.new ≡ B.areas blocks.old }
+    ensures keeps_lender { B.lender blocks.new ≡ B.lender blocks.old }
+    ensures keeps_ready { B.ready blocks.new }
+{
+    if !slot.dead {
+        return Ok(());
+    }
+    read_one(alloc, blocks, areas, slot.handle, holders)
+}
+
+/// The same of a slot that is marked.
+fn read_one<B: Blocks>(
+    alloc: Global,
+    blocks: &mut B,
+    areas: u16,
+    handle: u64,
+    holders: &mut Holders,
+) -> Result<(), AuditError>
+    requires ready { B.ready blocks.old }
+    requires areas { B.areas blocks.old ≡ areas }
+    requires most { areas ≤ 64 }
+    ensures ok { (chunks : Chunks) (files : List File) → Shows (B.tells blocks.old) areas (B.stands blocks.old) chunks → IsFound chunks (holdings_of holders.old) files
+        → OnOk result (IsFound chunks (holdings_of holders.new) files) }
+    ensures marked { OnOk result (holdings_of holders.new handle ≢ None) }
+    ensures still { OnOk result ((at : ℕ) → holdings_of holders.old at ≢ None → holdings_of holders.new at ≢ None) }
+    ensures torn { (chunks : Chunks) (files : List File) → Shows (B.tells blocks.old) areas (B.stands blocks.old) chunks → IsFound chunks (holdings_of holders.old) files
+        → IfTorn result (λ at found wanted. IsNoDead chunks files handle wanted) }
+    ensures shows { (chunks : Chunks) → Shows (B.tells blocks.old) areas (B.stands blocks.old) chunks → Shows (B.tells blocks.new) areas (B.stands blocks.new) chunks }
+    ensures counts { Counts result (B.faults blocks.old) (B.faults blocks.new) }
+    ensures keeps_areas { B.areas blocks.new ≡ B.areas blocks.old }
+    ensures keeps_lender { B.lender blocks.new ≡ B.lender blocks.old }
+    ensures keeps_ready { B.ready blocks.new }
+{
+    if has_holder(holders, handle, Holder::Dead)? {
+        return Ok(());
+    }
+    let ReadFile { file, claims } = file_of(alloc, blocks, areas, handle)?;
+    if file.is_some() {
+        return Err(torn_at(handle));
+    }
+    put_inode(holders, handle, Holder::Dead, claims.as_slice())?;
+    Ok(())
+}

@@ -154,10 +154,9 @@ impl World {
         let Some(done) = self.acted(alloc, call, moment)? else {
             return Ok(false);
         };
-        let spare = done.spare as u32;
-        if u64::from(spare) != done.spare {
+        let Ok(spare) = u32::try_from(done.spare) else {
             return Ok(false);
-        }
+        };
         if done.made != 0 {
             self.made = done.made;
         }

@@ -64,9 +64,10 @@ fn random_calls(
         handles: [ROOT; 16],
         next: 0,
     };
+    let count = u32::try_from(procedures.len()).unwrap_or(0);
     let mut other = None;
     for turn in 0..turns {
-        let which = chance.below(procedures.len() as u32) as usize;
+        let which = chance.below(count) as usize;
         let procedure = procedures.get(which).copied().unwrap_or(0);
         let about = About {
             directory: files.any(&mut chance),

@@ -15,7 +15,7 @@ use crate::entries::{are_entries, directories_in};
 use bx_tree_files::{Body, DIRECTORY, File, Files};
 use std::collections::BTreeMap;
 
-/// The handle of the first file that isn't as a file tree asks; `None` exactly where each file is.
+/// The handle of a file that isn't as a file tree asks; `None` exactly where each file is.
 pub(crate) fn wrong_in(files: &Files, counts: &BTreeMap<u64, u64>, root: u64) -> Option<u64>
     requires counted { AreCounted files.now counts.now }
     requires apart { (file : Kept) (parent next : ℕ) (names : List Name) → Contains files.now file → file.body ≡ Names parent next names → AreApart names }

@@ -157,6 +157,10 @@ pub record IsAboveBoots (s : GlobalState) (boot : ℕ) : Type 0 where
   pub sessions : (session : ℕ) → IfSome (row_in s.sessions session) (λ row. row.boot < boot)
   pub devices : (device : ℕ) → IfSome (slice_get s.devices device) (λ row. (row.boot_a < boot) × (row.boot_b < boot))
 
+-- the greatest boot that disks may have where they are opened: as many are left above it
+abbrev pub most_boot : ℕ
+most_boot = 4611686018427387903
+
 -- a machine that found its volume has a boot above those that it found
 abbrev pub HasOwnBoot : Chain → ℕ → Type 0
 HasOwnBoot chain boot = (chain.found ≡ 0) ⊎ IsAboveBoots chain.first boot

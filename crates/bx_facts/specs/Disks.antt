@@ -1,8 +1,9 @@
 -- What calls and crashes leave of the disks of a cluster: those of replicas are the first three, and members' stand behind them.
-use Rattle.std.specs.Prelude.{◌≡◌, ◌≢◌, ℕ, ◌<◌, ◌≤◌, ◌==◌, max, Bool, true, false, List, slice_index, Option, Some, None}
+use Rattle.std.specs.Prelude.{◌≡◌, ◌≢◌, ℕ, ◌+◌, ◌^◌, ◌<◌, ◌≤◌, ◌⊎◌, ◌==◌, max, Bool, true, false, List, slice_index, Option, Some, None}
 use Rattle.bx_base.specs.declared.names.Actor.{Actor}
 use Rattle.bx_disk.specs.Disks.{Image, Disks, IsSector, Stays}
 use Rattle.bx_global.specs.declared.state.GlobalState.{GlobalState}
+use Rattle.bx_places.specs.Places.{replica_sectors}
 use Rattle.bx_facts.specs.Machines.{disk_of}
 
 -- A sector reads as it did, and is sure if it was.
@@ -40,6 +41,17 @@ pub record ReadsOnly (reads_as : Image → GlobalState → Type 0) (old : Disks)
   pub members : (d s : ℕ) → 3 ≤ d → old.unsure d s ≡ false → image d s ≡ old.reads d s
   pub labels : (d : ℕ) → d < 3 → old.unsure d 0 ≡ false → image d 0 ≡ old.reads d 0
   pub read : (s : GlobalState) → reads_as image s → May s
+
+-- The disk of a replica isn't there, or isn't as long as it must be.
+pub record LackReplica (sizes : List ℕ) : Type 0 where
+  pub replica : ℕ
+  pub low : replica < 3
+  pub short : slice_index sizes replica < replica_sectors
+
+-- Disks tell no state that another may follow: the disk of a replica isn't there, they are read as none, or as one whose index is the greatest
+-- that a number can be.
+abbrev pub TellNoState : (Image → GlobalState → Type 0) → Disks → Type 0
+TellNoState reads_as x = LackReplica x.sizes ⊎ (((s : GlobalState) → reads_as x.reads s → ⊥) ⊎ ((s : GlobalState) × reads_as x.reads s × (2 ^ 64 ≤ s.index + 1)))
 
 -- A rack has as many sectors of each disk as are needed.
 pub record HasRoom (needs : ℕ → ℕ) (sizes : List ℕ) : Type 0 where

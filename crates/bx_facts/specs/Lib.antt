@@ -2,6 +2,7 @@ pub mod Chains
 pub mod Disks
 pub mod Holds
 pub mod Inputs
+pub mod Labelled
 pub mod Machines
 pub mod Pasts
 pub mod Sessions

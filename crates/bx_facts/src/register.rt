@@ -11,16 +11,15 @@ ghost use Rattle.bx_global.specs.Allowed.{IsAllowed};
 ghost use Rattle.bx_global.specs.Table.{IsLegal};
 ghost use Rattle.bx_global.specs.declared.change.Change.{Change};
 ghost use Rattle.bx_global.specs.declared.state.GlobalState.{GlobalState};
-ghost use Rattle.bx_layout.specs.Labels.{SpellsLabel};
-ghost use Rattle.bx_layout.specs.declared.label.Label.{Label};
 ghost use Rattle.bx_places.specs.Places.{replica_sectors};
 ghost use Rattle.bx_post.specs.declared.packets.Letter.{Letter};
 ghost use Rattle.bx_facts.specs.declared.input.FactError.TheVariants.{Disk as DiskFails};
-ghost use Rattle.bx_facts.specs.declared.input.OpenError.TheVariants.{Disk as OpenFails};
+ghost use Rattle.bx_facts.specs.declared.input.OpenError.TheVariants.{Disk as OpenFails, NoLabel, NoMajority, Spent};
 ghost use Rattle.bx_facts.specs.declared.input.ProposeError.TheVariants.{NotLegal, Busy};
-ghost use Rattle.bx_facts.specs.Chains.{last, AreLegal, IsAboveBoots, IsNext, IsPlace};
-ghost use Rattle.bx_facts.specs.Disks.{Crashes, HasRoom, NeedsAt, NeedsNoMore, OnlyDiskOf, ReadsOnly, SameDisks, SameLabels, SameMembers, SameReplicas, wanted_by};
+ghost use Rattle.bx_facts.specs.Chains.{last, AreLegal, IsAboveBoots, IsNext, IsPlace, most_boot};
+ghost use Rattle.bx_facts.specs.Disks.{Crashes, HasRoom, NeedsAt, NeedsNoMore, OnlyDiskOf, ReadsOnly, SameDisks, SameLabels, SameMembers, SameReplicas, TellNoState, wanted_by};
 ghost use Rattle.bx_facts.specs.Inputs.{AreAmong, IsRegisters, SendsOnly};
+ghost use Rattle.bx_facts.specs.Labelled.{IsLabelled};
 ghost use Rattle.bx_facts.specs.Machines.{IsMachine, OnlyAt, OnlyFactsAt, SameFacts, disk_of};
 ghost use Rattle.bx_facts.specs.Pasts.{Decides, MayHear, RegisterPast, found_register, opening_register, proposing, register_crashed, register_failed, register_restarted, register_with};
 
@@ -155,10 +154,15 @@ pub trait Register: Drop {
         ensures keeps_telling { R.tells rack.old → R.tells rack.new };
 
     /// Begins with the state that the disks are read as, which every machine knows then; each is to start again before it does anything. The
-    /// answer is the greatest boot on the disks.
+    /// answer is the greatest boot on the disks. `NoMajority` only where they tell no state that another may follow, `Spent` only with a boot
+    /// above 4611686018427387903, `NoLabel` never.
     fn open<R: Rack>(&mut self, rack: &mut R) -> Result<u64, OpenError>
         ensures keeps { R.tells rack.old → is_new self.old → IfOk result (λ boot. keeps self.new (R.state rack.new) (found_register (knows self.new (Replica 0)) boot)) }
         ensures found { R.tells rack.old → is_new self.old → OnOk result (reads_as (made self.old) (R.state rack.old).reads (knows self.new (Replica 0))) }
+        ensures few { IfOk result (λ boot. boot ≤ most_boot) }
+        ensures no_label { (disk : ℕ) → IsErrOf result (NoLabel disk) → ⊥ }
+        ensures no_majority { R.tells rack.old → is_new self.old → IsErrOf result NoMajority → TellNoState (reads_as (made self.old)) (R.state rack.old) }
+        ensures spent { (boot : ℕ) → IsErrOf result (Spent boot) → most_boot < boot }
         ensures boots { is_new self.old → IfOk result (λ boot. ∥ IsAboveBoots (knows self.new (Replica 0)) (boot + 1) ∥₁) }
         ensures knows { is_new self.old → (who : Actor) → OnOk result (knows self.new who ≡ knows self.new (Replica 0)) }
         ensures idle { is_new self.old → (who : Actor) → OnOk result (is_busy self.new who → ⊥) }
@@ -181,8 +185,8 @@ pub trait Register: Drop {
     /// An image is read as the last state, or as one that a proposed change makes of it.
     ghost reads_next: { (g : Self) (x : Disks) (past : RegisterPast) (image : Image) (s : GlobalState) → keeps g x past → IsImage x image → reads_as (made g) image s → IsNext past.proposed (last past.chain) s };
 
-    /// An image in which two replicas have a label is read as some state.
-    ghost reads_some: { (g : Self) (x : Disks) (past : RegisterPast) (image : Image) (n m : ℕ) (one other : Label) → keeps g x past → IsImage x image → n < 3 → m < 3 → n ≢ m → SpellsLabel one (image n 0) → SpellsLabel other (image m 0) → (s : GlobalState) × reads_as (made g) image s };
+    /// An image in which two replicas are labelled, for a volume of as many devices, is read as some state.
+    ghost reads_some: { (g : Self) (x : Disks) (past : RegisterPast) (image : Image) (n m : ℕ) → keeps g x past → IsImage x image → n ≢ m → IsLabelled (length (made g).devices) image n → IsLabelled (length (made g).devices) image m → (s : GlobalState) × reads_as (made g) image s };
 
     /// Other disks don't matter.
     ghost elsewhere: { (g : Self) (x y : Disks) (past : RegisterPast) → keeps g x past → SameReplicas x y → SameLabels x y → keeps g y past };

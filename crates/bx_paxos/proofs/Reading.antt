@@ -15,10 +15,9 @@ use Rattle.bx_cell.specs.Halves.{Found}
 use Rattle.bx_cell.specs.Images.{HasAllSure}
 use Rattle.bx_disk.specs.Disks.{Disks, Image}
 use Rattle.bx_facts.specs.Chains.{Chain, IsNext, last}
+use Rattle.bx_facts.specs.Labelled.{IsLabelled}
 use Rattle.bx_facts.specs.Pasts.{RegisterPast}
 use Rattle.bx_global.specs.Bytes.{IsHeld, held_text}
-use Rattle.bx_layout.specs.Labels.{SpellsLabel}
-use Rattle.bx_layout.specs.declared.label.Label.{Label}
 use Rattle.bx_packets.specs.declared.message.Message.{Message}
 use Rattle.bx_post.specs.declared.packets.Letter.{Letter}
 use Rattle.bx_global.specs.declared.change.Change.{Change}
@@ -52,7 +51,7 @@ made_counts first origin sectors found held made is = subst (λ (o : Origin). Is
 sound_made : (first : GlobalState) (origins : ℕ → Origin) (h : History) (image : Image) (s : GlobalState) → AreMade origins → IsHeldSound first origins h image → ReadsState first image s → IsNext h.proposed (last h.chain) s
 sound_made first origins h image s made was reads =
     reads_next h was.cells was.sound reads.seen
-    (λ n held e. let k = reads.are.some n held e in the_cell first origins image n held was.cells k.0 was.are (made_counts first (origins n) (image n) k.2.0 held (made n k.0) k.2.1))
+    (λ n held e. let k = reads.are.some n held e in the_cell first origins image n held was.cells k.0.low was.are (made_counts first (origins n) (image n) k.1.0 held (made n k.0.low) k.1.1))
     reads.tells.one reads.tells.other reads.tells.one_held reads.tells.other_held reads.tells.two s (reads_as reads.seen s reads.tells.reads)
 
 -- ---- cells that were found
@@ -63,11 +62,11 @@ module _ (first : GlobalState) (origins : ℕ → Origin) (was : ℕ → Option 
 
   -- a cell that is seen was found, and stands so or was put
   stood_at : (cells : ℕ → Option Held) → AreCounted first origins image cells → IsSound h cells → h.chain.first ≡ first → (n : ℕ) (held : Held) → seen n ≡ Some held → Stood first was cells n held
-  stood_at cells counted sound first_is n held e = let k = are.some n held e in by (origins n) refl k.0 k.1.0 k.1.1 k.2.0 k.2.1 (shown.each n k.0)
+  stood_at cells counted sound first_is n held e = let k = are.some n held e in by (origins n) refl k.0 k.1.0 k.1.1 (shown.each n k.0.low)
     where
-      by : (o : Origin) → origins n ≡ o → n < 3 → (label : Label) → SpellsLabel label (image n 0) → (found : Found) → IsFound devices (image n) found held → ShowsOne devices o (was n) (image n) → Stood first was cells n held
-      by Made at low label spells found is shows = absurd (begun.none_made n low at)
-      by (FoundAs number) at low label spells found is (old, e, known) = record { old = old; was_old = e; kind = kinds (eqb_tells found.number number) }
+      by : (o : Origin) → origins n ≡ o → IsLabelled devices image n → (found : Found) → IsFound devices (image n) found held → ShowsOne devices o (was n) image n → Stood first was cells n held
+      by Made at label found is shows = absurd (begun.none_made n label.low at)
+      by (FoundAs number) at label found is (old, e, known) = record { old = old; was_old = e; kind = kinds (eqb_tells found.number number) }
         where
           one : (found ≡ known.found) × (held ≡ known.held)
           one = one_found devices (image n) found known.found held known.held is known.is
@@ -76,7 +75,7 @@ module _ (first : GlobalState) (origins : ℕ → Origin) (was : ℕ → Option 
           later = subst (λ (f : Found). number ≤ f.number) (sym one.0) known.later
 
           here : (k : Held) → IsCounted first (FoundAs number) (image n) k → cells n ≡ Some k
-          here k counts = the_cell first origins image n k cells low counted (subst (λ (o : Origin). IsCounted first o (image n) k) (sym at) counts)
+          here k counts = the_cell first origins image n k cells label.low counted (subst (λ (o : Origin). IsCounted first o (image n) k) (sym at) counts)
 
           kinds : (((found.number == number) ≡ true) × (found.number ≡ number)) ⊎ (((found.number == number) ≡ false) × (found.number ≡ number → ⊥))
               → ((cells n ≡ Some held) × (first.index ≤ held.decided.index)) ⊎ ((held ≡ old) × (cells n ≡ Some (caught_up first held)))
@@ -88,18 +87,18 @@ module _ (first : GlobalState) (origins : ℕ → Origin) (was : ℕ → Option 
               let cell = here held (record { found = found; raw = held; part = later; is = is; catches = record { as_found = λ k. absurd (apart.1 k); as_put = λ put. refl } }) in
               let place = not_below h.chain.first h.chain.changes held.decided (sound.cell n held cell).place in
               inl (cell, subst (λ (s : GlobalState). s.index ≤ held.decided.index) first_is place)
-      by Apart at low label spells found is shows = absurd (shows.1.none label found held spells is)
+      by Apart at label found is shows = absurd (shows.1.none found held label is)
 
   -- and each that was found is seen
   covers_at : (n : ℕ) (held : Held) → was n ≡ Some held → (now : Held) × (seen n ≡ Some now)
   covers_at n held e = by (origins n) refl (begun.low n held e) (shown.each n (begun.low n held e))
     where
-      by : (o : Origin) → origins n ≡ o → n < 3 → ShowsOne devices o (was n) (image n) → (now : Held) × (seen n ≡ Some now)
+      by : (o : Origin) → origins n ≡ o → n < 3 → ShowsOne devices o (was n) image n → (now : Held) × (seen n ≡ Some now)
       by Made at low shows = absurd (begun.none_made n low at)
       by (FoundAs number) at low (old, same, known) = seen_so (seen n) refl
         where
           seen_so : (o : Option Held) → seen n ≡ o → (now : Held) × (seen n ≡ Some now)
-          seen_so None none = absurd (are.none n known.label.0 known.found known.held low none known.label.1 known.is)
+          seen_so None none = absurd (are.none n known.found known.held none known.label known.is)
           seen_so (Some now) some = (now, some)
       by Apart at low shows = let bad : None ≡ Some held = sym shows.0 ∙ e in absurd cc
 

@@ -14,51 +14,69 @@ use Rattle.bx_cell.specs.Images.{EachSure, HasAllSure}
 use Rattle.bx_cell.proofs.Words.{cell_sectors}
 use Rattle.bx_disk.specs.Disks.{Disks, Image}
 use Rattle.bx_facts.specs.Disks.{SameLabels, SameReplicas}
+use Rattle.bx_facts.specs.Labelled.{IsFirstLabel, IsLabelled, IsOwnLabel, label_on}
 use Rattle.bx_global.specs.Bytes.{IsHeld, SpellsHeld, held_text}
 use Rattle.bx_global.specs.declared.held.Held.{Held}
 use Rattle.bx_global.specs.declared.state.GlobalState.{GlobalState}
 use Rattle.bx_layout.specs.Labels.{SpellsLabel}
+use Rattle.bx_layout.specs.declared.label.Label.{Label}
 use Rattle.bx_paxos.specs.Fits.{IsPutOn, KnowsCell, Voters}
-use Rattle.bx_paxos.specs.Shown.{HasLabel, IsAsItWas, IsUnread, Shows, ShowsOne, StandsAsFound}
+use Rattle.bx_paxos.specs.Shown.{IsAsItWas, IsUnread, Shows, ShowsOne, StandsAsFound}
 
 -- ---- one disk
 
 pub found_alike : (devices : ℕ) (sectors other : ℕ → List ℕ) (found : Found) (held : Held) → ((s : ℕ) → other s ≡ sectors s) → IsFound devices sectors found held → IsFound devices other found held
 found_alike devices sectors other found held same is = record { in_cell = cell_sectors sectors other 1 (λ s low high. same s) ∙ is.in_cell; spells = is.spells }
 
-pub label_alike : (one other : List ℕ) → other ≡ one → HasLabel one → HasLabel other
-label_alike one other same has = (has.0, subst (SpellsLabel has.0) (sym same) has.1)
+-- labels go by the first sectors of replicas' disks
+own_alike : (image other : Image) (n : ℕ) (label : Label) → ((d : ℕ) → d < 3 → other d 0 ≡ image d 0) → IsOwnLabel image n label → IsOwnLabel other n label
+own_alike image other n label same own = record { low = own.low; spells = subst (SpellsLabel label) (sym (same n own.low)) own.spells; names = own.names }
 
-pub unread_alike : (devices : ℕ) (sectors other : ℕ → List ℕ) → ((s : ℕ) → other s ≡ sectors s) → IsUnread devices sectors → IsUnread devices other
-unread_alike devices sectors other same is = record {
-  none = λ label found held spells there. is.none label found held (subst (SpellsLabel label) (same 0) spells) (found_alike devices other sectors found held (λ s. sym (same s)) there);
+pub first_alike : (image other : Image) (first : Label) → ((d : ℕ) → d < 3 → other d 0 ≡ image d 0) → IsFirstLabel image first → IsFirstLabel other first
+first_alike image other first same is = record {
+  own = own_alike image other first.disk first same is.own;
+  least = λ n label before own. is.least n label before (own_alike other image n label (λ d low. sym (same d low)) own);
 }
 
-shows_alike : (devices : ℕ) (origin : Origin) (was : Option Held) (sectors other : ℕ → List ℕ) → ((s : ℕ) → other s ≡ sectors s) → ShowsOne devices origin was sectors → ShowsOne devices origin was other
-shows_alike devices Made was sectors other same (found, held, is) = (found, held, found_alike devices sectors other found held same is)
-shows_alike devices (FoundAs number) was sectors other same (held, e, is) = (
+pub label_alike : (devices : ℕ) (image other : Image) (n : ℕ) → ((d : ℕ) → d < 3 → other d 0 ≡ image d 0) → IsLabelled devices image n → IsLabelled devices other n
+label_alike devices image other n same is = record {
+  low = is.low;
+  first = is.first;
+  is_first = first_alike image other is.first same is.is_first;
+  devices_are = is.devices_are;
+  spells = subst (SpellsLabel (label_on is.first n)) (sym (same n is.low)) is.spells;
+}
+
+pub unread_alike : (devices : ℕ) (image other : Image) (n : ℕ) → ((d : ℕ) → d < 3 → other d 0 ≡ image d 0) → ((s : ℕ) → other n s ≡ image n s) → IsUnread devices image n → IsUnread devices other n
+unread_alike devices image other n labels same is = record {
+  none = λ found held label there. is.none found held (label_alike devices other image n (λ d low. sym (labels d low)) label) (found_alike devices (other n) (image n) found held (λ s. sym (same s)) there);
+}
+
+shows_alike : (devices : ℕ) (origin : Origin) (was : Option Held) (image other : Image) (n : ℕ) → ((d : ℕ) → d < 3 → other d 0 ≡ image d 0) → ((s : ℕ) → other n s ≡ image n s) → ShowsOne devices origin was image n → ShowsOne devices origin was other n
+shows_alike devices Made was image other n labels same (found, held, is) = (found, held, found_alike devices (image n) (other n) found held same is)
+shows_alike devices (FoundAs number) was image other n labels same (held, e, is) = (
   held,
   e,
   record {
-    label = label_alike (sectors 0) (other 0) (same 0) is.label;
+    label = label_alike devices image other n labels is.label;
     found = is.found;
     held = is.held;
-    is = found_alike devices sectors other is.found is.held same is.is;
+    is = found_alike devices (image n) (other n) is.found is.held same is.is;
     later = is.later;
     as_found = is.as_found;
   },
 )
-shows_alike devices Apart was sectors other same (none, is) = (none, unread_alike devices sectors other same is)
+shows_alike devices Apart was image other n labels same (none, is) = (none, unread_alike devices image other n labels same is)
 
--- the cell stands as it did, or was put, and its label is as it was
-shows_put : (devices : ℕ) (origin : Origin) (was : Option Held) (sectors other : ℕ → List ℕ) (before after : Found) (raw : Held) → other 0 ≡ sectors 0 → cell_in sectors 1 ≡ Some before → TakesPart origin before.number
-    → cell_in other 1 ≡ Some after → SpellsHeld raw after.value devices → IsPutOn before after → ShowsOne devices origin was sectors → ShowsOne devices origin was other
-shows_put devices Made was sectors other before after raw label at part stands spells put is = (after, raw, record { in_cell = stands; spells = spells })
-shows_put devices (FoundAs number) was sectors other before after raw label at part stands spells put (held, e, is) = (
+-- the cell stands as it did, or was put, and labels are as they were
+shows_put : (devices : ℕ) (origin : Origin) (was : Option Held) (image other : Image) (n : ℕ) (before after : Found) (raw : Held) → ((d : ℕ) → d < 3 → other d 0 ≡ image d 0) → cell_in (image n) 1 ≡ Some before → TakesPart origin before.number
+    → cell_in (other n) 1 ≡ Some after → SpellsHeld raw after.value devices → IsPutOn before after → ShowsOne devices origin was image n → ShowsOne devices origin was other n
+shows_put devices Made was image other n before after raw labels at part stands spells put is = (after, raw, record { in_cell = stands; spells = spells })
+shows_put devices (FoundAs number) was image other n before after raw labels at part stands spells put (held, e, is) = (
   held,
   e,
   record {
-    label = label_alike (sectors 0) (other 0) label is.label;
+    label = label_alike devices image other n labels is.label;
     found = after;
     held = raw;
     is = record { in_cell = stands; spells = spells };
@@ -73,11 +91,11 @@ shows_put devices (FoundAs number) was sectors other before after raw label at p
 
     same : after.number ≡ number → IsPutOn before after → raw ≡ held
     same number_is (inl stays) =
-        let there : IsFound devices sectors after raw = record { in_cell = at ∙ ap (λ (f : Found). Some f) (sym stays); spells = spells } in
-        let one = one_found devices sectors after is.found raw is.held there is.is in
+        let there : IsFound devices (image n) after raw = record { in_cell = at ∙ ap (λ (f : Found). Some f) (sym stays); spells = spells } in
+        let one = one_found devices (image n) after is.found raw is.held there is.is in
         one.1 ∙ is.as_found (ap (λ (f : Found). f.number) (sym one.0) ∙ number_is)
     same number_is (inr more) = absurd (omega (arith, part, more, number_is))
-shows_put devices Apart was sectors other before after raw label at part stands spells put is = absurd part
+shows_put devices Apart was image other n before after raw labels at part stands spells put is = absurd part
 
 -- ---- an image with the cell of one disk put back
 
@@ -110,6 +128,12 @@ outer_label old n image = by (n == n)
     by true = refl
     by false = refl
 
+outer_labels : (old : Disks) (n : ℕ) (image : Image) (d : ℕ) → d < 3 → image d 0 ≡ outer old n image d 0
+outer_labels old n image d low = elim (eqb_tells d n) [
+  | inl same ↦ subst (λ (k : ℕ). image k 0 ≡ outer old n image k 0) (sym same.1) (outer_label old n image)
+  | inr apart ↦ outer_other old n image d 0 apart.1
+]
+
 outside_of : (old new : Disks) (n : ℕ) (image : Image) → KeepsSure old new n 1 20 → HasAllSure new image → EachOutside n 1 20 (λ d s. old.unsure d s ≡ false → image d s ≡ old.reads d s)
 outside_of old new n image keeps is = record {
   elsewhere = λ d s apart sure. is.sure d s (keeps.sure.elsewhere d s apart sure) ∙ keeps.reads.elsewhere d s apart;
@@ -125,9 +149,9 @@ module _ (v : Voters) (was : ℕ → Option Held) where
       → EachSure old (λ i. cell_in (i n) 1 ≡ Some before) → TakesPart (v.origins n) before.number → cell_in (image n) 1 ≡ Some after → SpellsHeld raw after.value (length v.first.devices) → IsPutOn before after → Shows v.first v.origins was image
   shows_at old n image before after raw shown out had part stands spells put = record {
     each = λ m low. elim (eqb_tells m n) [
-      | inl same ↦ subst (λ (k : ℕ). ShowsOne (length v.first.devices) (v.origins k) (was k) (image k)) (sym same.1)
-          (shows_put (length v.first.devices) (v.origins n) (was n) (outer old n image n) (image n) before after raw (outer_label old n image) (had.each (outer old n image) sure) part stands spells put (here.each n (subst (λ (k : ℕ). k < 3) same.1 low)))
-      | inr apart ↦ shows_alike (length v.first.devices) (v.origins m) (was m) (outer old n image m) (image m) (λ s. outer_other old n image m s apart.1) (here.each m low)
+      | inl same ↦ subst (λ (k : ℕ). ShowsOne (length v.first.devices) (v.origins k) (was k) image k) (sym same.1)
+          (shows_put (length v.first.devices) (v.origins n) (was n) (outer old n image) image n before after raw (outer_labels old n image) (had.each (outer old n image) sure) part stands spells put (here.each n (subst (λ (k : ℕ). k < 3) same.1 low)))
+      | inr apart ↦ shows_alike (length v.first.devices) (v.origins m) (was m) (outer old n image) image m (outer_labels old n image) (λ s. outer_other old n image m s apart.1) (here.each m low)
     ];
   }
     where
@@ -178,16 +202,16 @@ module _ (v : Voters) (was : ℕ → Option Held) where
   shown_elsewhere x y same labels each = record {
     each = λ image has.
         let here = each.each (near x image) (near_has x y image same labels has) in
-        record { each = λ n low. shows_alike (length v.first.devices) (v.origins n) (was n) (near x image n) (image n) (λ s. near_at x image n s low) (here.each n low) };
+        record { each = λ n low. shows_alike (length v.first.devices) (v.origins n) (was n) (near x image) image n (λ d less. near_at x image d 0 less) (λ s. near_at x image n s low) (here.each n low) };
   }
 
 -- ---- the beginning
 
-shows_so : (devices : ℕ) (origin : Origin) (was : Option Held) (sectors : ℕ → List ℕ) → IsAsItWas devices origin was sectors → ShowsOne devices origin was sectors
-shows_so devices Made was sectors is = absurd is
-shows_so devices (FoundAs number) was sectors (held, e, label, (found, number_is, is)) =
+shows_so : (devices : ℕ) (origin : Origin) (was : Option Held) (image : Image) (n : ℕ) → IsAsItWas devices origin was image n → ShowsOne devices origin was image n
+shows_so devices Made was image n is = absurd is
+shows_so devices (FoundAs number) was image n (held, e, label, (found, number_is, is)) =
     (held, e, record { label = label; found = found; held = held; is = is; later = omega (arith, number_is); as_found = λ k. refl })
-shows_so devices Apart was sectors is = is
+shows_so devices Apart was image n is = is
 
 pub shows_found : (first : GlobalState) (origins : ℕ → Origin) (was : ℕ → Option Held) (image : Image) → StandsAsFound first origins was image → Shows first origins was image
-shows_found first origins was image is = record { each = λ n low. shows_so (length first.devices) (origins n) (was n) (image n) (is.each n low) }
+shows_found first origins was image is = record { each = λ n low. shows_so (length first.devices) (origins n) (was n) image n (is.each n low) }

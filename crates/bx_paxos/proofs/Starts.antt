@@ -257,7 +257,7 @@ begun v x is made each courses = record {
   begun = inl made;
   shown = record {
     each = λ image sure. record {
-      each = λ n low. let k = each.each image sure n low in subst (λ (o : Origin). ShowsOne (devices_of v) o None (image n)) (sym (made n low)) (k.found, k.raw, k.is);
+      each = λ n low. let k = each.each image sure n low in subst (λ (o : Origin). ShowsOne (devices_of v) o None image n) (sym (made n low)) (k.found, k.raw, k.is);
     };
   };
   proposing = λ me. subst (IsProposing (opening 0 v.first) me) (sym (courses me)) (record {
@@ -336,7 +336,7 @@ found_begun v x was boot is found each courses = record {
       none = λ n held low e counted. none n held (v.origins n) e (has.each n low) counted;
     }
       where
-        some : (n : ℕ) (raw : Held) (o : Origin) → was n ≡ Some raw → IsAsItWas (devices_of v) o (was n) (image n) → IsCounted v.first o (image n) (caught_up v.first raw)
+        some : (n : ℕ) (raw : Held) (o : Origin) → was n ≡ Some raw → IsAsItWas (devices_of v) o (was n) image n → IsCounted v.first o (image n) (caught_up v.first raw)
         some n raw Made at is = absurd is
         some n raw (FoundAs number) at (old, same, label, (it, number_is, is)) = record {
           found = it;
@@ -347,7 +347,7 @@ found_begun v x was boot is found each courses = record {
         }
         some n raw Apart at is = let bad : None ≡ Some raw = sym is.0 ∙ at in absurd cc
 
-        none : (n : ℕ) (held : Held) (o : Origin) → cells n ≡ None → IsAsItWas (devices_of v) o (was n) (image n) → IsCounted v.first o (image n) held → ⊥
+        none : (n : ℕ) (held : Held) (o : Origin) → cells n ≡ None → IsAsItWas (devices_of v) o (was n) image n → IsCounted v.first o (image n) held → ⊥
         none n held Made e is counted = is
         none n held (FoundAs number) e (old, same, label, rest) counted = let bad : Some (caught_up v.first old) ≡ None = sym (ap caught same) ∙ e in absurd cc
         none n held Apart e is counted = counted.part

@@ -7,16 +7,15 @@ use Rattle.bx_agreement.specs.Sound.{HasTwo, IsAhead, IsLevel}
 use Rattle.bx_cell.specs.Halves.{Found}
 use Rattle.bx_disk.specs.Disks.{Image}
 use Rattle.bx_facts.specs.Chains.{IsNext, last}
+use Rattle.bx_facts.specs.Labelled.{IsLabelled}
 use Rattle.bx_facts.specs.Pasts.{RegisterPast}
 use Rattle.bx_global.specs.declared.held.Held.{Held}
 use Rattle.bx_global.specs.declared.state.GlobalState.{GlobalState}
-use Rattle.bx_layout.specs.Labels.{SpellsLabel}
-use Rattle.bx_layout.specs.declared.label.Label.{Label}
 
--- These are the cells that can be read on the disks of replicas that have a label.
+-- These are the cells that can be read on the disks of replicas that are labelled.
 pub record AreSeen (devices : ℕ) (image : Image) (seen : ℕ → Option Held) : Type 0 where
-  pub some : (n : ℕ) (held : Held) → seen n ≡ Some held → (n < 3) × ((label : Label) × SpellsLabel label (image n 0)) × ((found : Found) × IsFound devices (image n) found held)
-  pub none : (n : ℕ) (label : Label) (found : Found) (held : Held) → n < 3 → seen n ≡ None → SpellsLabel label (image n 0) → IsFound devices (image n) found held → ⊥
+  pub some : (n : ℕ) (held : Held) → seen n ≡ Some held → IsLabelled devices image n × ((found : Found) × IsFound devices (image n) found held)
+  pub none : (n : ℕ) (found : Found) (held : Held) → seen n ≡ None → IsLabelled devices image n → IsFound devices (image n) found held → ⊥
 
 -- The accepted state of a replica is read, or where none is above each decided one, the decided state of a replica. Among equals the lowest
 -- replica's counts.
@@ -41,7 +40,7 @@ pub record Tells (cells : ℕ → Option Held) (s : GlobalState) : Type 0 where
   pub reads : ReadsFirst cells s
 
 -- The image is read as a state: the accepted one of the highest ballot at the greatest index above each decided one, or where there is none,
--- the decided one of the greatest index, of the cells of replicas that have a label.
+-- the decided one of the greatest index, of the cells of replicas that are labelled.
 pub record ReadsState (made : GlobalState) (image : Image) (s : GlobalState) : Type 0 where
   pub seen : ℕ → Option Held
   pub are : AreSeen (length made.devices) image seen

@@ -1,16 +1,15 @@
 -- The laws of a register of three replicas.
-use Rattle.std.specs.Prelude.{◌≡◌, ◌≢◌, ℕ, ◌<◌, ◌≤◌, true, List}
+use Rattle.std.specs.Prelude.{◌≡◌, ◌≢◌, ℕ, ◌≤◌, true, List, length}
 use Rattle.bx_base.specs.declared.names.Actor.{Actor}
 use Rattle.bx_base.specs.declared.names.Actor.TheVariants.{Replica}
 use Rattle.bx_disk.specs.Disks.{Disks, Image, IsImage}
 use Rattle.bx_facts.specs.Chains.{AreLegal, IsNext, IsPlace, last}
 use Rattle.bx_facts.specs.Disks.{Crashes, SameLabels, SameReplicas}
 use Rattle.bx_facts.specs.Inputs.{AreAmong, IsRegisters}
+use Rattle.bx_facts.specs.Labelled.{IsLabelled}
 use Rattle.bx_facts.specs.Pasts.{RegisterPast}
 use Rattle.bx_global.specs.Allowed.{IsAllowed}
 use Rattle.bx_global.specs.declared.state.GlobalState.{GlobalState}
-use Rattle.bx_layout.specs.Labels.{SpellsLabel}
-use Rattle.bx_layout.specs.declared.label.Label.{Label}
 use Rattle.bx_paxos.proofs.Events.{is_legal}
 use Rattle.bx_paxos.specs.Reading.{ReadsState}
 use Rattle.bx_post.specs.declared.packets.Letter.{Letter}
@@ -30,7 +29,7 @@ begins_allowed g x past keeps = ∣ first_allowed g x past keeps ∣₁
 pub reads_next : (g : Cluster) (x : Disks) (past : RegisterPast) (image : Image) (s : GlobalState) → Keeps g x past → IsImage x image → ReadsState g.made image s → IsNext past.proposed (last past.chain) s
 reads_next = reads_on
 
-pub reads_some : (g : Cluster) (x : Disks) (past : RegisterPast) (image : Image) (n m : ℕ) (one other : Label) → Keeps g x past → IsImage x image → n < 3 → m < 3 → n ≢ m → SpellsLabel one (image n 0) → SpellsLabel other (image m 0) → (s : GlobalState) × ReadsState g.made image s
+pub reads_some : (g : Cluster) (x : Disks) (past : RegisterPast) (image : Image) (n m : ℕ) → Keeps g x past → IsImage x image → n ≢ m → IsLabelled (length g.made.devices) image n → IsLabelled (length g.made.devices) image m → (s : GlobalState) × ReadsState g.made image s
 reads_some = some_on
 
 pub elsewhere : (g : Cluster) (x y : Disks) (past : RegisterPast) → Keeps g x past → SameReplicas x y → SameLabels x y → Keeps g y past

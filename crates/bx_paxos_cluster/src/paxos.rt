@@ -1,23 +1,24 @@
 //! The register.
 
-ghost use Rattle.std.specs.Prelude.{◌≡◌, ◌≢◌, ℕ, ◌+◌, ◌^◌, ◌<◌, ◌≤◌, ◌⊎◌, ◌↔◌, false, true, IfOk, IsErrOf, IsTrue, OnErr, OnOk};
+ghost use Rattle.std.specs.Prelude.{◌≡◌, ◌≢◌, ℕ, ◌+◌, ◌^◌, ◌<◌, ◌≤◌, ◌⊎◌, ◌↔◌, false, true, length, IfOk, IsErrOf, IsTrue, OnErr, OnOk};
 ghost use Rattle.bx_base.specs.Faults.{Rose};
 ghost use Rattle.bx_base.specs.declared.names.Actor.{Actor};
 ghost use Rattle.bx_base.specs.declared.names.Actor.TheVariants.{Replica};
 ghost use Rattle.bx_calls.specs.Calls.{LeavesOnly};
 ghost use Rattle.bx_disk.specs.Counts.{NoneFalls};
 ghost use Rattle.bx_disk.specs.Disks.{Disks};
-ghost use Rattle.bx_facts.specs.Chains.{IsAboveBoots, IsNext, last};
+ghost use Rattle.bx_facts.specs.Chains.{IsAboveBoots, IsNext, last, most_boot};
 ghost use Rattle.bx_facts.specs.Disks.{HasRoom, NeedsAt, NeedsNoMore, OnlyDiskOf, ReadsOnly, SameDisks, SameLabels, SameMembers, wanted_by};
 ghost use Rattle.bx_facts.specs.Inputs.{IsRegisters, SendsOnly};
 ghost use Rattle.bx_facts.specs.Machines.{IsMachine, OnlyAt, OnlyFactsAt, disk_of};
 ghost use Rattle.bx_facts.specs.Pasts.{Decides, MayHear, RegisterPast, found_register, opening_register, proposing, register_crashed, register_failed, register_restarted, register_with};
 ghost use Rattle.bx_facts.specs.declared.input.FactError.TheVariants.{Disk as DiskFails};
-ghost use Rattle.bx_facts.specs.declared.input.OpenError.TheVariants.{Disk as OpenFails};
+ghost use Rattle.bx_facts.specs.declared.input.OpenError.TheVariants.{Disk as OpenFails, NoLabel, NoMajority, Spent};
 ghost use Rattle.bx_facts.specs.declared.input.ProposeError.TheVariants.{NotLegal, Busy};
 ghost use Rattle.bx_global.specs.Allowed.{IsAllowed};
 ghost use Rattle.bx_global.specs.Table.{IsLegal};
 ghost use Rattle.bx_paxos.specs.Reading.{ReadsState};
+ghost use Rattle.bx_paxos_found.specs.Finding.{AreAtTheEnd, IsGreatestBoot, LackMajority};
 ghost use Rattle.bx_places.specs.Places.{replica_sectors};
 ghost use Rattle.bx_paxos_machines.specs.Beginning.{AreNew};
 ghost use Rattle.bx_paxos_machines.specs.Cluster.{is_busy, knows, needs};
@@ -103,11 +104,20 @@ impl Paxos {
     }
 
     /// Begins with the state that the disks are read as, which every machine knows then; each is to start again before it does anything. The
-    /// answer is the greatest boot in a cell that is read. `NoMajority` where fewer than two replicas have a label and a cell that can be read;
-    /// `Spent` where no boot is left. After an error all is as it was.
+    /// answer is the greatest boot in the cells of replicas that are labelled. `NoMajority` exactly where the disk of a replica isn't there, fewer
+    /// than two are labelled and have a cell that can be read, or no index is left behind the state; else `Spent` exactly where the greatest boot is
+    /// that one, and is above 4611686018427387903. After an error all is as it was.
     pub fn open<R: Rack>(&mut self, rack: &mut R) -> Result<u64, OpenError>
         ensures keeps { R.tells rack.old → IfOk result (λ boot. Keeps self.new (R.state rack.new) (found_register (knows self.new (Replica 0)) boot)) }
         ensures found { R.tells rack.old → OnOk result (ReadsState self.old.made (R.state rack.old).reads (knows self.new (Replica 0))) }
+        ensures index { OnOk result ((knows self.new (Replica 0)).index + 1 < 2 ^ 64) }
+        ensures no_majority { R.tells rack.old → IsErrOf result NoMajority → LackMajority (length self.old.made.devices) (R.state rack.old) ⊎ AreAtTheEnd (length self.old.made.devices) (R.state rack.old).reads }
+        ensures majority { R.tells rack.old → OnOk result (LackMajority (length self.old.made.devices) (R.state rack.old) → ⊥) }
+        ensures spent { (boot : ℕ) → R.tells rack.old → IsErrOf result (Spent boot) → IsGreatestBoot (length self.old.made.devices) (R.state rack.old).reads boot × (LackMajority (length self.old.made.devices) (R.state rack.old) → ⊥) }
+        ensures above { (boot : ℕ) → IsErrOf result (Spent boot) → most_boot < boot }
+        ensures greatest { R.tells rack.old → IfOk result (λ boot. IsGreatestBoot (length self.old.made.devices) (R.state rack.old).reads boot) }
+        ensures few { IfOk result (λ boot. boot ≤ most_boot) }
+        ensures no_label { (disk : ℕ) → IsErrOf result (NoLabel disk) → ⊥ }
         ensures boots { IfOk result (λ boot. IsAboveBoots (knows self.new (Replica 0)) (boot + 1)) }
         ensures knows { (who : Actor) → OnOk result (knows self.new who ≡ knows self.new (Replica 0)) }
         ensures idle { (who : Actor) → OnOk result (is_busy self.new who → ⊥) }

@@ -1,4 +1,5 @@
 pub mod Chosen
+pub mod Labelling
 pub mod Refusals
 pub mod Sectors
 pub mod Threes

@@ -1,22 +1,28 @@
 -- Why disks are read as nothing: too few replicas count, no index is left, or no boot.
-use Rattle.std.proofs.Common.{◌≡◌, ◌≢◌, ℕ, zero, suc, ◌+◌, ◌<◌, ◌≤◌, ◌⊎◌, inl, inr, Bool, true, false, List, Option, Some, None, Result, Ok, Err, refl, sym, ap, subst, ◌∙◌, arith}
-use Rattle.std.specs.Prelude.{IfOk, OnOk, max, slice_index}
+use Rattle.std.proofs.Common.{◌≡◌, ◌≢◌, ℕ, zero, suc, ◌+◌, ◌<◌, ◌≤◌, ◌⊎◌, inl, inr, Bool, true, false, List, length, Option, Some, None, Result, Ok, Err, refl, sym, ap, subst, ◌∙◌, arith}
+use Rattle.std.specs.Prelude.{IfOk, IsErrOf, OnOk, max, slice_index}
 use Rattle.std.proofs.lemmas.Bool.{cases_lt}
 use Rattle.bx_acceptor.proofs.Taking.{one_found}
 use Rattle.bx_agreement.proofs.Order.{in_common}
 use Rattle.bx_agreement.specs.History.{AreTwo}
-use Rattle.bx_disk.specs.Disks.{Disks}
+use Rattle.bx_disk.specs.Disks.{Disks, Image}
+use Rattle.bx_facts.specs.Disks.{LackReplica, TellNoState}
+use Rattle.bx_facts.specs.Labelled.{IsLabelled}
+use Rattle.bx_facts.specs.declared.input.OpenError.{OpenError}
+use Rattle.bx_facts.specs.declared.input.OpenError.TheVariants.{Disk as OpenFails, OutOfMemory as WantsMemory, Spent}
 use Rattle.bx_global.specs.declared.held.Held.{Held}
+use Rattle.bx_global.specs.declared.state.GlobalState.{GlobalState}
+use Rattle.bx_paxos.specs.Reading.{ReadsState, Tells}
 use Rattle.bx_paxos.specs.Shown.{IsUnread}
 use Rattle.bx_paxos_found.specs.declared.looking.Seen.{Seen}
 use Rattle.bx_paxos_found.specs.Boots.{boot_of_held}
 use Rattle.bx_paxos_found.specs.Choosing.{three}
-use Rattle.bx_paxos_found.specs.Finding.{AreAtTheEnd, AreTooFew, Counts, IsGreatestBoot, IsSeen, IsSpentAt, LackMajority, LackTwo, boot_of, count_of, held_of, most_boot}
+use Rattle.bx_paxos_found.specs.Finding.{AreAtTheEnd, AreTooFew, Counts, IsGreatestBoot, IsSeen, IsSpentAt, LackMajority, LackTwo, boot_of, count_of, held_of}
 use Rattle.bx_paxos_found.proofs.Threes.{Two, seen_held, three_each, three_held, two_of}
 use Rattle.bx_paxos_found.proofs.Views.{reads_so_chosen, some_chosen, view_seen}
 
 -- a disk that isn't there
-pub lacks_disk : (sizes : List ℕ) → (((n : ℕ) → n < 3 → 21 ≤ slice_index sizes n) → ⊥) → (n : ℕ) × (n < 3) × (slice_index sizes n < 21)
+pub lacks_disk : (sizes : List ℕ) → (((n : ℕ) → n < 3 → 21 ≤ slice_index sizes n) → ⊥) → LackReplica sizes
 lacks_disk sizes never = by (cases_lt (slice_index sizes 0) 21) (cases_lt (slice_index sizes 1) 21) (cases_lt (slice_index sizes 2) 21)
   where
     all : (21 ≤ slice_index sizes 0) → (21 ≤ slice_index sizes 1) → (21 ≤ slice_index sizes 2) → (n : ℕ) → n < 3 → 21 ≤ slice_index sizes n
@@ -25,10 +31,10 @@ lacks_disk sizes never = by (cases_lt (slice_index sizes 0) 21) (cases_lt (slice
     all a b c (suc (suc zero)) low = c
     all a b c (suc (suc (suc n))) low = absurd (omega (arith, low))
 
-    by : (slice_index sizes 0 < 21) ⊎ (21 ≤ slice_index sizes 0) → (slice_index sizes 1 < 21) ⊎ (21 ≤ slice_index sizes 1) → (slice_index sizes 2 < 21) ⊎ (21 ≤ slice_index sizes 2) → (n : ℕ) × (n < 3) × (slice_index sizes n < 21)
-    by (inl a) b c = (0, omega arith, a)
-    by (inr a) (inl b) c = (1, omega arith, b)
-    by (inr a) (inr b) (inl c) = (2, omega arith, c)
+    by : (slice_index sizes 0 < 21) ⊎ (21 ≤ slice_index sizes 0) → (slice_index sizes 1 < 21) ⊎ (21 ≤ slice_index sizes 1) → (slice_index sizes 2 < 21) ⊎ (21 ≤ slice_index sizes 2) → LackReplica sizes
+    by (inl a) b c = record { replica = 0; low = omega arith; short = a }
+    by (inr a) (inl b) c = record { replica = 1; low = omega arith; short = b }
+    by (inr a) (inr b) (inl c) = record { replica = 2; low = omega arith; short = c }
     by (inr a) (inr b) (inr c) = absurd (never (all a b c))
 
 none_is : (x : Seen) → None ≡ Some x → ⊥
@@ -40,30 +46,30 @@ some_seen x y e = cc
 apart : (n m : ℕ) → n < 3 → m < 3 → n ≢ m → AreTwo n m
 apart n m one other differ = record { one = one; other = other; differ = differ }
 
-module _ (devices : ℕ) (x : Disks) (a b c : Option Seen) (seen_a : IsSeen devices (x.reads 0) a) (seen_b : IsSeen devices (x.reads 1) b) (seen_c : IsSeen devices (x.reads 2) c) where
-  at : (n : ℕ) → n < 3 → IsSeen devices (x.reads n) (three a b c n)
-  at = three_each (λ n o. IsSeen devices (x.reads n) o) a b c seen_a seen_b seen_c
+module _ (devices : ℕ) (x : Disks) (a b c : Option Seen) (seen_a : IsSeen devices x.reads 0 a) (seen_b : IsSeen devices x.reads 1 b) (seen_c : IsSeen devices x.reads 2 c) where
+  at : (n : ℕ) → n < 3 → IsSeen devices x.reads n (three a b c n)
+  at = three_each (λ n o. IsSeen devices x.reads n o) a b c seen_a seen_b seen_c
 
   -- ---- two that don't count
 
-  unread : (n : ℕ) → n < 3 → three a b c n ≡ None → IsUnread devices (x.reads n)
-  unread n low e = subst (IsSeen devices (x.reads n)) e (at n low)
+  unread : (n : ℕ) → n < 3 → three a b c n ≡ None → IsUnread devices x.reads n
+  unread n low e = subst (IsSeen devices x.reads n) e (at n low)
 
   lack : (n m : ℕ) → n < 3 → m < 3 → n ≢ m → three a b c n ≡ None → three a b c m ≡ None → LackTwo devices x.reads
   lack n m one other differ e f = record { one = n; other = m; two = apart n m one other differ; one_unread = unread n one e; other_unread = unread m other f }
 
   -- one that counts is seen, and has that
   counted : (n : ℕ) (held : Held) → Counts devices x.reads n held → (s : Seen) × (three a b c n ≡ Some s) × (s.held ≡ held)
-  counted n held (low, label, (found, is)) = by (three a b c n) refl (at n low)
+  counted n held (label, (found, is)) = by (three a b c n) refl (at n label.low)
     where
-      by : (o : Option Seen) → three a b c n ≡ o → IsSeen devices (x.reads n) o → (s : Seen) × (three a b c n ≡ Some s) × (s.held ≡ held)
-      by None e gone = absurd (gone.none label.0 found held label.1 is)
+      by : (o : Option Seen) → three a b c n ≡ o → IsSeen devices x.reads n o → (s : Seen) × (three a b c n ≡ Some s) × (s.held ≡ held)
+      by None e gone = absurd (gone.none found held label is)
       by (Some s) e (has, (other, number, also)) = (s, e, (one_found devices (x.reads n) other found s.held held also is).1)
 
   counts : (n : ℕ) (s : Seen) → n < 3 → three a b c n ≡ Some s → Counts devices x.reads n s.held
   counts n s low e =
-      let k : IsSeen devices (x.reads n) (Some s) = subst (IsSeen devices (x.reads n)) e (at n low) in
-      (low, k.0, (k.1.0, k.1.2))
+      let k : IsSeen devices x.reads n (Some s) = subst (IsSeen devices x.reads n) e (at n low) in
+      (k.0, (k.1.0, k.1.2))
 
   -- ---- two that count
 
@@ -73,8 +79,8 @@ module _ (devices : ℕ) (x : Disks) (a b c : Option Seen) (seen_a : IsSeen devi
   counts_at : (n : ℕ) (held : Held) → n < 3 → cells n ≡ Some held → Counts devices x.reads n held
   counts_at n held low e = let k = seen_held (three a b c n) held e in subst (Counts devices x.reads n) k.2 (counts n k.0 low k.1)
 
-  never_unread : (n : ℕ) (held : Held) → Counts devices x.reads n held → IsUnread devices (x.reads n) → ⊥
-  never_unread n held is gone = gone.none is.1.0 is.2.0 held is.1.1 is.2.1
+  never_unread : (n : ℕ) (held : Held) → Counts devices x.reads n held → IsUnread devices x.reads n → ⊥
+  never_unread n held is gone = gone.none is.1.0 held is.0 is.1.1
 
   two_count : 2 ≤ count_of a + (count_of b + count_of c) → LackTwo devices x.reads → ⊥
   two_count least lack = by (in_common t.one t.other lack.one lack.other t.two.two lack.two)
@@ -82,20 +88,20 @@ module _ (devices : ℕ) (x : Disks) (a b c : Option Seen) (seen_a : IsSeen devi
       t : Two cells
       t = two_of a b c least
 
-      one : IsUnread devices (x.reads t.one) → ⊥
+      one : IsUnread devices x.reads t.one → ⊥
       one = never_unread t.one t.one_held (counts_at t.one t.one_held t.two.two.one t.two.is_one)
 
-      other : IsUnread devices (x.reads t.other) → ⊥
+      other : IsUnread devices x.reads t.other → ⊥
       other = never_unread t.other t.other_held (counts_at t.other t.other_held t.two.two.other t.two.is_other)
 
       by : ((t.one ≡ lack.one) ⊎ (t.one ≡ lack.other)) ⊎ ((t.other ≡ lack.one) ⊎ (t.other ≡ lack.other)) → ⊥
-      by (inl (inl e)) = one (subst (λ (k : ℕ). IsUnread devices (x.reads k)) (sym e) lack.one_unread)
-      by (inl (inr e)) = one (subst (λ (k : ℕ). IsUnread devices (x.reads k)) (sym e) lack.other_unread)
-      by (inr (inl e)) = other (subst (λ (k : ℕ). IsUnread devices (x.reads k)) (sym e) lack.one_unread)
-      by (inr (inr e)) = other (subst (λ (k : ℕ). IsUnread devices (x.reads k)) (sym e) lack.other_unread)
+      by (inl (inl e)) = one (subst (λ (k : ℕ). IsUnread devices x.reads k) (sym e) lack.one_unread)
+      by (inl (inr e)) = one (subst (λ (k : ℕ). IsUnread devices x.reads k) (sym e) lack.other_unread)
+      by (inr (inl e)) = other (subst (λ (k : ℕ). IsUnread devices x.reads k) (sym e) lack.one_unread)
+      by (inr (inr e)) = other (subst (λ (k : ℕ). IsUnread devices x.reads k) (sym e) lack.other_unread)
 
   pub no_lack : ((n : ℕ) → n < 3 → 21 ≤ slice_index x.sizes n) → 2 ≤ count_of a + (count_of b + count_of c) → LackMajority devices x → ⊥
-  no_lack room least (inl (n, low, short)) = let k = room n low in omega (arith, k, short)
+  no_lack room least (inl lack) = let k = room lack.replica lack.low in let short = lack.short in omega (arith, k, short)
   no_lack room least (inr lack) = two_count least lack
 
   -- ---- the greatest boot
@@ -119,7 +125,7 @@ module _ (devices : ℕ) (x : Disks) (a b c : Option Seen) (seen_a : IsSeen devi
       most : (n : ℕ) (held : Held) → Counts devices x.reads n held → boot_of_held held ≤ boot
       most n held is =
           let k = counted n held is in
-          let less : boot_of (Some k.0) ≤ max (boot_of a) (max (boot_of b) (boot_of c)) = subst (λ (o : Option Seen). boot_of o ≤ max (boot_of a) (max (boot_of b) (boot_of c))) k.1 (below n is.0) in
+          let less : boot_of (Some k.0) ≤ max (boot_of a) (max (boot_of b) (boot_of c)) = subst (λ (o : Option Seen). boot_of o ≤ max (boot_of a) (max (boot_of b) (boot_of c))) k.1 (below n is.0.low) in
           let low : boot_of_held k.0.held ≤ boot = subst (λ (m : ℕ). boot_of_held k.0.held ≤ m) (sym e) less in
           subst (λ (h : Held). boot_of_held h ≤ boot) k.2 low
 
@@ -169,15 +175,58 @@ module _ (devices : ℕ) (x : Disks) (a b c : Option Seen) (seen_a : IsSeen devi
       let one = three_held a b c t.one ∙ t.two.is_one in
       let other = three_held a b c t.other ∙ t.two.is_other in (
         s,
-        reads_so_chosen devices x.reads (held_of a) (held_of b) (held_of c) (view_seen devices a (x.reads 0) seen_a) (view_seen devices b (x.reads 1) seen_b) (view_seen devices c (x.reads 2) seen_c)
+        reads_so_chosen devices x.reads (held_of a) (held_of b) (held_of c) (view_seen devices x.reads 0 a seen_a) (view_seen devices x.reads 1 b seen_b) (view_seen devices x.reads 2 c seen_c)
             made s t.one t.other t.one_held t.other_held same (record { two = t.two.two; is_one = one; is_other = other }) is,
         end,
       ))
 
-  pub spent_at : (boot : ℕ) → ((n : ℕ) → n < 3 → 21 ≤ slice_index x.sizes n) → IsSpentAt a b c boot → IsGreatestBoot devices x.reads boot × (most_boot < boot) × (LackMajority devices x → ⊥)
-  spent_at boot room is = (is_greatest boot is.two is.greatest, is.above, no_lack room is.two)
+  pub spent_at : (boot : ℕ) → ((n : ℕ) → n < 3 → 21 ≤ slice_index x.sizes n) → IsSpentAt a b c boot → IsGreatestBoot devices x.reads boot × (LackMajority devices x → ⊥)
+  spent_at boot room is = (is_greatest boot is.two is.greatest, no_lack room is.two)
+
+-- ---- disks that tell no state
+
+-- no replica is labelled
+pub no_volume : (devices : ℕ) (x : Disks) → ((n : ℕ) → IsLabelled devices x.reads n → ⊥) → LackMajority devices x
+no_volume devices x none = inr (record {
+  one = 0;
+  other = 1;
+  two = apart 0 1 (omega arith) (omega arith) (λ e. omega (arith, e));
+  one_unread = record { none = λ found held label is. none 0 label };
+  other_unread = record { none = λ found held label is. none 1 label };
+})
+
+lack_reads : (made : GlobalState) (image : Image) (s : GlobalState) → LackTwo (length made.devices) image → ReadsState made image s → ⊥
+lack_reads made image s lack read = by (in_common t.one t.other lack.one lack.other t.two.two lack.two)
+  where
+    t : Tells read.seen s
+    t = read.tells
+
+    at : (n : ℕ) (held : Held) → read.seen n ≡ Some held → IsUnread (length made.devices) image n → ⊥
+    at n held e gone = let k = read.are.some n held e in gone.none k.1.0 held k.0 k.1.1
+
+    by : ((t.one ≡ lack.one) ⊎ (t.one ≡ lack.other)) ⊎ ((t.other ≡ lack.one) ⊎ (t.other ≡ lack.other)) → ⊥
+    by (inl (inl e)) = at t.one t.one_held t.two.is_one (subst (IsUnread (length made.devices) image) (sym e) lack.one_unread)
+    by (inl (inr e)) = at t.one t.one_held t.two.is_one (subst (IsUnread (length made.devices) image) (sym e) lack.other_unread)
+    by (inr (inl e)) = at t.other t.other_held t.two.is_other (subst (IsUnread (length made.devices) image) (sym e) lack.one_unread)
+    by (inr (inr e)) = at t.other t.other_held t.two.is_other (subst (IsUnread (length made.devices) image) (sym e) lack.other_unread)
+
+pub tell_none : (made : GlobalState) (x : Disks) → LackMajority (length made.devices) x ⊎ AreAtTheEnd (length made.devices) x.reads → TellNoState (ReadsState made) x
+tell_none made x (inl (inl lack)) = inl lack
+tell_none made x (inl (inr lack)) = inr (inl (λ s read. lack_reads made x.reads s lack read))
+tell_none made x (inr end) = inr (inr (end made refl))
 
 -- ---- results
+
+-- a look ends in other errors
+never_spent : (e : OpenError) (boot : ℕ) → (e ≡ OpenFails) ⊎ (e ≡ WantsMemory) → e ≡ Spent boot → ⊥
+never_spent e boot (inl one) is = let bad : OpenFails ≡ Spent boot = sym one ∙ is in absurd cc
+never_spent e boot (inr one) is = let bad : WantsMemory ≡ Spent boot = sym one ∙ is in absurd cc
+
+err_same : {A : Type 0} (r s : Result A OpenError) (e f : OpenError) → r ≡ Err e → s ≡ Err f → r ≡ s → e ≡ f
+err_same r s e f one other same = cc
+
+pub looked_never : {A : Type 0} (r : Result A OpenError) (e : OpenError) (boot : ℕ) → r ≡ Err e → (e ≡ OpenFails) ⊎ (e ≡ WantsMemory) → IsErrOf r (Spent boot) → ⊥
+looked_never r e boot same errors is = never_spent e boot errors (err_same r r e (Spent boot) same is refl)
 
 pub not_both : (b : Bool) → b ≡ true → b ≡ false → ⊥
 not_both b one other = let bad : true ≡ false = sym one ∙ other in absurd cc

@@ -8,15 +8,17 @@ use Rattle.bx_acceptor.specs.declared.origin.Origin.TheVariants.{Made}
 use Rattle.bx_agreement.specs.Sound.{HasTwo}
 use Rattle.bx_calls.specs.Regions.{IsSynced}
 use Rattle.bx_cell.specs.Images.{EachSure}
-use Rattle.bx_disk.specs.Disks.{Disks}
+use Rattle.bx_disk.specs.Disks.{Disks, Image}
 use Rattle.bx_facts.specs.Chains.{IsAboveBoots}
 use Rattle.bx_facts.specs.Disks.{SameDisks}
+use Rattle.bx_facts.specs.Labelled.{IsFirstLabel}
 use Rattle.bx_global.specs.Allowed.{IsAllowed}
 use Rattle.bx_global.specs.Bytes.{IsHeld}
 use Rattle.bx_global.specs.declared.held.Held.{Held}
 use Rattle.bx_global.specs.declared.state.GlobalState.{GlobalState}
+use Rattle.bx_layout.specs.declared.label.Label.{Label}
 use Rattle.bx_paxos.proofs.Founds.{reads_so}
-use Rattle.bx_paxos.proofs.Shown.{found_alike, label_alike, unread_alike}
+use Rattle.bx_paxos.proofs.Shown.{first_alike, found_alike, label_alike, unread_alike}
 use Rattle.bx_paxos.specs.Reading.{AreMade, AreSeen, ReadsFirst, ReadsState, Tells}
 use Rattle.bx_paxos.specs.Shown.{HasFound, IsAsItWas, StandsAsFound}
 use Rattle.bx_rows.specs.declared.device.DeviceRow.{DeviceRow}
@@ -127,13 +129,13 @@ two_of None None None least = absurd (omega (arith, least))
 
 -- ---- one disk
 
-seen_alike : (devices : ℕ) (sectors other : ℕ → List ℕ) (o : Option Seen) → ((s : ℕ) → other s ≡ sectors s) → IsSeen devices sectors o → IsSeen devices other o
-seen_alike devices sectors other None same is = unread_alike devices sectors other same is
-seen_alike devices sectors other (Some x) same (label, (found, number, is)) = (label_alike (sectors 0) (other 0) (same 0) label, (found, number, found_alike devices sectors other found x.held same is))
+seen_alike : (devices : ℕ) (image other : Image) (n : ℕ) (o : Option Seen) → ((d : ℕ) → d < 3 → other d 0 ≡ image d 0) → ((s : ℕ) → other n s ≡ image n s) → IsSeen devices image n o → IsSeen devices other n o
+seen_alike devices image other n None labels same is = unread_alike devices image other n labels same is
+seen_alike devices image other n (Some x) labels same (label, (found, number, is)) = (label_alike devices image other n labels label, (found, number, found_alike devices (image n) (other n) found x.held same is))
 
-as_it_was : (devices : ℕ) (sectors : ℕ → List ℕ) (o : Option Seen) → IsSeen devices sectors o → IsAsItWas devices (origin_of o) (held_of o) sectors
-as_it_was devices sectors None is = (refl, is)
-as_it_was devices sectors (Some x) (label, (found, number, is)) = (x.held, refl, label, (found, number, is))
+as_it_was : (devices : ℕ) (image : Image) (n : ℕ) (o : Option Seen) → IsSeen devices image n o → IsAsItWas devices (origin_of o) (held_of o) image n
+as_it_was devices image n None is = (refl, is)
+as_it_was devices image n (Some x) (label, (found, number, is)) = (x.held, refl, label, (found, number, is))
 
 not_made : (o : Option Seen) → origin_of o ≡ Made → ⊥
 not_made None e = absurd cc
@@ -206,18 +208,17 @@ module _ (a b c : Option Seen) (f : FoundState) (made : IsMadeOf a b c f) where
         by (held, is, inl e) = (subst IsAllowed (sym e) is.accepted, ap (λ (s : GlobalState). length s.devices) e ∙ is.accepted_devices)
         by (held, is, inr e) = (subst IsAllowed (sym e) is.decided, ap (λ (s : GlobalState). length s.devices) e ∙ is.decided_devices)
 
-    module _ (x : Disks) (seen_a : IsSeen devices (x.reads 0) a) (seen_b : IsSeen devices (x.reads 1) b) (seen_c : IsSeen devices (x.reads 2) c) where
-      seen_at : (n : ℕ) → n < 3 → IsSeen devices (x.reads n) (seen n)
-      seen_at = three_each (λ n o. IsSeen devices (x.reads n) o) a b c seen_a seen_b seen_c
+    module _ (x : Disks) (seen_a : IsSeen devices x.reads 0 a) (seen_b : IsSeen devices x.reads 1 b) (seen_c : IsSeen devices x.reads 2 c) where
+      seen_at : (n : ℕ) → n < 3 → IsSeen devices x.reads n (seen n)
+      seen_at = three_each (λ n o. IsSeen devices x.reads n o) a b c seen_a seen_b seen_c
 
       are_seen : AreSeen devices x.reads was
       are_seen = record {
         some = λ n held e.
-            let low = three_low a b c n held e in
             let k = seen_held (three a b c n) held e in
-            let s : IsSeen devices (x.reads n) (Some k.0) = subst (IsSeen devices (x.reads n)) k.1 (seen_at n low) in
-            (low, (s.0.0, s.0.1), (s.1.0, subst (IsFound devices (x.reads n) s.1.0) k.2 s.1.2));
-        none = λ n label found held low e spells is. (subst (IsSeen devices (x.reads n)) (unseen (three a b c n) e) (seen_at n low)).none label found held spells is;
+            let s : IsSeen devices x.reads n (Some k.0) = subst (IsSeen devices x.reads n) k.1 (seen_at n (three_low a b c n held e)) in
+            (s.0, (s.1.0, subst (IsFound devices (x.reads n) s.1.0) k.2 s.1.2));
+        none = λ n found held e label is. (subst (IsSeen devices x.reads n) (unseen (three a b c n) e) (seen_at n label.low)).none found held label is;
       }
 
       pub reads_found : (state : GlobalState) → length state.devices ≡ devices → ReadsState state x.reads f.state
@@ -228,9 +229,9 @@ module _ (a b c : Option Seen) (f : FoundState) (made : IsMadeOf a b c f) where
       stands_found y same synced = record {
         each = λ image sure. record {
           each = λ n low.
-              let alike : (s : ℕ) → image n s ≡ x.reads n s = λ s. sure.sure n s ((synced n low).each s) ∙ (same.each n s).reads in
-              let at = as_it_was devices (image n) (three a b c n) (seen_alike devices (x.reads n) (image n) (three a b c n) alike (seen_at n low)) in
-              subst (λ (k : ℕ). IsAsItWas k (origin_in f.origins n) (held_of (three a b c n)) (image n)) (sym state_is.1) (subst (λ (o : Origin). IsAsItWas devices o (held_of (three a b c n)) (image n)) (sym (origin_at n low)) at);
+              let alike : (d : ℕ) → d < 3 → (s : ℕ) → image d s ≡ x.reads d s = λ d less s. sure.sure d s ((synced d less).each s) ∙ (same.each d s).reads in
+              let at = as_it_was devices image n (three a b c n) (seen_alike devices x.reads image n (three a b c n) (λ d less. alike d less 0) (alike n low) (seen_at n low)) in
+              subst (λ (k : ℕ). IsAsItWas k (origin_in f.origins n) (held_of (three a b c n)) image n) (sym state_is.1) (subst (λ (o : Origin). IsAsItWas devices o (held_of (three a b c n)) image n) (sym (origin_at n low)) at);
         };
       }
 
@@ -246,8 +247,14 @@ made_origins origins one two last = λ n low. by (n == 0) (n == 1)
 
 -- ---- one disk after the other
 
-pub seen_before : (devices n : ℕ) (x y : Disks) (o : Option Seen) → SameDisks x y → IsSeen devices (y.reads n) o → IsSeen devices (x.reads n) o
-seen_before devices n x y o same is = seen_alike devices (y.reads n) (x.reads n) o (λ s. sym (same.each n s).reads) is
+pub seen_before : (devices n : ℕ) (x y : Disks) (o : Option Seen) → SameDisks x y → IsSeen devices y.reads n o → IsSeen devices x.reads n o
+seen_before devices n x y o same is = seen_alike devices y.reads x.reads n o (λ d low. sym (same.each d 0).reads) (λ s. sym (same.each n s).reads) is
+
+same_self : (x : Disks) → SameDisks x x
+same_self x = record { each = λ d s. record { reads = refl; sure = λ e. e } }
+
+pub same_of : (x y : Disks) → y ≡ x → SameDisks x y
+same_of x y e = subst (λ (d : Disks). SameDisks x d) (sym e) (same_self x)
 
 pub same_twice : (x y z : Disks) → SameDisks x y → SameDisks y z → SameDisks x z
 same_twice x y z one other = record { each = λ d s. let k = one.each d s in let j = other.each d s in record { reads = j.reads ∙ k.reads; sure = λ e. j.sure (k.sure e) } }
@@ -260,6 +267,27 @@ synced_all y z w one other first second third zero low = synced_on z w 0 other (
 synced_all y z w one other first second third (suc zero) low = synced_on z w 1 other second
 synced_all y z w one other first second third (suc (suc zero)) low = third
 synced_all y z w one other first second third (suc (suc (suc k))) low = absurd (omega (arith, low))
+
+first_same : (x y : Disks) (label : Label) → SameDisks x y → IsFirstLabel x.reads label → IsFirstLabel y.reads label
+first_same x y label same is = first_alike x.reads y.reads label (λ d low. (same.each d 0).reads) is
+
+-- each of three is seen, after the first label was read
+pub all_seen : (devices : ℕ) (x v y z : Disks) (label : Label) (a b c : Option Seen) → v ≡ x → SameDisks v y → SameDisks y z → IsFirstLabel x.reads label × (label.devices ≡ devices)
+    → (IsFirstLabel v.reads label → label.devices ≡ devices → IsSeen devices v.reads 0 a) → (IsFirstLabel y.reads label → label.devices ≡ devices → IsSeen devices y.reads 1 b) → (IsFirstLabel z.reads label → label.devices ≡ devices → IsSeen devices z.reads 2 c)
+    → IsSeen devices x.reads 0 a × (IsSeen devices x.reads 1 b × IsSeen devices x.reads 2 c)
+all_seen devices x v y z label a b c read one other (first, same) see_a see_b see_c = (
+  seen_before devices 0 x v a to_v (see_a (first_same x v label to_v first) same),
+  (seen_before devices 1 x y b to_y (see_b (first_same x y label to_y first) same), seen_before devices 2 x z c to_z (see_c (first_same x z label to_z first) same)),
+)
+  where
+    to_v : SameDisks x v
+    to_v = same_of x v read
+
+    to_y : SameDisks x y
+    to_y = same_twice x v y to_v one
+
+    to_z : SameDisks x z
+    to_z = same_twice x y z to_y other
 
 pub ok_map : {T E : Type 0} (r : Result T E) (P Q : T → Type 0) → ((v : T) → P v → Q v) → IfOk r P → IfOk r Q
 ok_map (Ok v) P Q map is = map v is

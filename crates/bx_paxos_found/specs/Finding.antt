@@ -1,24 +1,27 @@
 -- What is seen of the disks of replicas, and what is made of it.
-use Rattle.std.specs.Prelude.{◌≡◌, ℕ, ◌+◌, ◌^◌, ◌<◌, ◌≤◌, ◌⊎◌, max, List, length, Option, Some, None, slice_index}
+use Rattle.std.specs.Prelude.{◌≡◌, ℕ, ◌+◌, ◌^◌, ◌<◌, ◌≤◌, ◌⊎◌, max, length, Option, Some, None}
 use Rattle.bx_acceptor.specs.Standing.{IsFound}
 use Rattle.bx_acceptor.specs.declared.origin.Origin.{Origin}
 use Rattle.bx_acceptor.specs.declared.origin.Origin.TheVariants.{Found as FoundAs, Apart}
 use Rattle.bx_agreement.specs.History.{AreTwo}
 use Rattle.bx_cell.specs.Halves.{Found}
 use Rattle.bx_disk.specs.Disks.{Disks, Image}
+use Rattle.bx_facts.specs.Chains.{most_boot}
+use Rattle.bx_facts.specs.Disks.{LackReplica}
+use Rattle.bx_facts.specs.Labelled.{IsLabelled}
 use Rattle.bx_global.specs.declared.held.Held.{Held}
 use Rattle.bx_global.specs.declared.state.GlobalState.{GlobalState}
 use Rattle.bx_paxos.specs.Reading.{ReadsState}
-use Rattle.bx_paxos.specs.Shown.{HasLabel, IsUnread}
+use Rattle.bx_paxos.specs.Shown.{IsUnread}
 use Rattle.bx_paxos_found.specs.declared.looking.Seen.{Seen}
 use Rattle.bx_paxos_found.specs.declared.making.FoundState.{FoundState}
 use Rattle.bx_paxos_found.specs.Boots.{boot_of_held}
 use Rattle.bx_paxos_found.specs.Choosing.{chosen_of}
 
--- this is seen of a disk: nothing, where it isn't read; else what its cell has, and under which number
-abbrev pub IsSeen : ℕ → (ℕ → List ℕ) → Option Seen → Type 0
-IsSeen devices sectors None = IsUnread devices sectors
-IsSeen devices sectors (Some x) = HasLabel (sectors 0) × ((found : Found) × (found.number ≡ x.number) × IsFound devices sectors found x.held)
+-- this is seen of a replica: nothing, where its disk isn't read; else what its cell has, and under which number
+abbrev pub IsSeen : ℕ → Image → ℕ → Option Seen → Type 0
+IsSeen devices image n None = IsUnread devices image n
+IsSeen devices image n (Some x) = IsLabelled devices image n × ((found : Found) × (found.number ≡ x.number) × IsFound devices (image n) found x.held)
 
 -- what a cell has, how it came to be, its greatest boot, and that it counts
 abbrev pub held_of : Option Seen → Option Held
@@ -36,10 +39,6 @@ boot_of (Some x) = boot_of_held x.held
 abbrev pub count_of : Option Seen → ℕ
 count_of None = 0
 count_of (Some x) = 1
-
--- the greatest boot that may be found
-abbrev pub most_boot : ℕ
-most_boot = 4611686018427387903
 
 -- What is made of what is seen of three replicas: at least two count.
 pub record IsMadeOf (a b c : Option Seen) (f : FoundState) : Type 0 where
@@ -65,20 +64,20 @@ pub record IsSpentAt (a b c : Option Seen) (boot : ℕ) : Type 0 where
 
 -- ---- what disks tell
 
--- The replica has a label, and a cell that can be read, which has this.
+-- The replica is labelled, and its disk has a cell that can be read, which has this.
 abbrev pub Counts : ℕ → Image → ℕ → Held → Type 0
-Counts devices image n held = (n < 3) × HasLabel (image n 0) × ((found : Found) × IsFound devices (image n) found held)
+Counts devices image n held = IsLabelled devices image n × ((found : Found) × IsFound devices (image n) found held)
 
--- Two replicas have no label, or no cell that can be read; or the disk of a replica isn't there.
+-- Two replicas aren't labelled, or have no cell that can be read; or the disk of a replica isn't there.
 pub record LackTwo (devices : ℕ) (image : Image) : Type 0 where
   pub one : ℕ
   pub other : ℕ
   pub two : AreTwo one other
-  pub one_unread : IsUnread devices (image one)
-  pub other_unread : IsUnread devices (image other)
+  pub one_unread : IsUnread devices image one
+  pub other_unread : IsUnread devices image other
 
 abbrev pub LackMajority : ℕ → Disks → Type 0
-LackMajority devices x = ((n : ℕ) × (n < 3) × (slice_index x.sizes n < 21)) ⊎ LackTwo devices x.reads
+LackMajority devices x = LackReplica x.sizes ⊎ LackTwo devices x.reads
 
 -- They are read as a state that no other may follow, since its index is the greatest that a number can be.
 abbrev pub AreAtTheEnd : ℕ → Image → Type 0

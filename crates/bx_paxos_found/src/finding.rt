@@ -4,7 +4,7 @@ ghost use Rattle.std.specs.Prelude.{◌≡◌, ℕ, ◌+◌, ◌^◌, ◌<◌, �
 ghost use Rattle.bx_base.specs.Faults.{Rose};
 ghost use Rattle.bx_cell.specs.Images.{EachSure};
 ghost use Rattle.bx_disk.specs.Counts.{NoneFalls};
-ghost use Rattle.bx_facts.specs.Chains.{IsAboveBoots};
+ghost use Rattle.bx_facts.specs.Chains.{IsAboveBoots, most_boot};
 ghost use Rattle.bx_facts.specs.Disks.{SameDisks};
 ghost use Rattle.bx_facts.specs.declared.input.OpenError.TheVariants.{Disk as OpenFails, NoLabel, NoMajority, Spent};
 ghost use Rattle.bx_global.specs.Allowed.{IsAllowed};
@@ -12,9 +12,10 @@ ghost use Rattle.bx_global.specs.declared.held.Held.{Held};
 ghost use Rattle.bx_global.specs.declared.state.GlobalState.{GlobalState};
 ghost use Rattle.bx_paxos.specs.Reading.{ReadsState};
 ghost use Rattle.bx_paxos.specs.Shown.{HasFound, StandsAsFound};
-ghost use Rattle.bx_paxos_found.specs.Finding.{AreAtTheEnd, IsGreatestBoot, LackMajority, most_boot};
+ghost use Rattle.bx_paxos_found.specs.Finding.{AreAtTheEnd, IsGreatestBoot, LackMajority};
 ghost use Rattle.bx_paxos_found.specs.Origins.{origin_in};
 
+use crate::labels::volume_label;
 use crate::looking::look;
 use crate::making::{FoundState, make};
 use bx_disk::Rack;
@@ -35,8 +36,8 @@ fn has_replicas<R: Rack>(rack: &R) -> bool
 }
 
 /// Makes the disks of replicas sure, and reads the cluster's state off them, for a volume of so many devices. `NoMajority` exactly where the disk of
-/// one isn't there, fewer than two have a label and a cell that can be read, or no index is left behind the state; else `Spent` exactly where the
-/// greatest boot in these cells is that one, and is above 4611686018427387903.
+/// one isn't there, fewer than two are labelled and have a cell that can be read, or no index is left behind the state; else `Spent` exactly where
+/// the greatest boot in these cells is that one, and is above 4611686018427387903.
 pub fn find<R: Rack>(alloc: Global, rack: &mut R, devices: u32) -> Result<FoundState, OpenError>
     ensures reads { (made : GlobalState) → length made.devices ≡ devices → R.tells rack.old → IfOk result (λ f. ReadsState made (R.state rack.old).reads f.state) }
     ensures found { R.tells rack.old → IfOk result (λ f. (was : ℕ → Option Held) × HasFound f.state (origin_in f.origins) was × EachSure (R.state rack.new) (StandsAsFound f.state (origin_in f.origins) was)) }
@@ -46,8 +47,10 @@ pub fn find<R: Rack>(alloc: Global, rack: &mut R, devices: u32) -> Result<FoundS
     ensures boots { IfOk result (λ f. IsAboveBoots f.state (f.boot + 1)) }
     ensures no_majority { R.tells rack.old → IsErrOf result NoMajority → LackMajority devices (R.state rack.old) ⊎ AreAtTheEnd devices (R.state rack.old).reads }
     ensures majority { R.tells rack.old → OnOk result (LackMajority devices (R.state rack.old) → ⊥) }
-    ensures spent { (boot : ℕ) → R.tells rack.old → IsErrOf result (Spent boot) → IsGreatestBoot devices (R.state rack.old).reads boot × (most_boot < boot) × (LackMajority devices (R.state rack.old) → ⊥) }
-    ensures greatest { R.tells rack.old → IfOk result (λ f. IsGreatestBoot devices (R.state rack.old).reads f.boot × (f.boot ≤ most_boot)) }
+    ensures spent { (boot : ℕ) → R.tells rack.old → IsErrOf result (Spent boot) → IsGreatestBoot devices (R.state rack.old).reads boot × (LackMajority devices (R.state rack.old) → ⊥) }
+    ensures above { (boot : ℕ) → IsErrOf result (Spent boot) → most_boot < boot }
+    ensures greatest { R.tells rack.old → IfOk result (λ f. IsGreatestBoot devices (R.state rack.old).reads f.boot) }
+    ensures few { IfOk result (λ f. f.boot ≤ most_boot) }
     ensures no_label { (disk : ℕ) → IsErrOf result (NoLabel disk) → ⊥ }
     ensures disks { R.tells rack.old → SameDisks (R.state rack.old) (R.state rack.new) }
     ensures cause { IsErrOf result OpenFails → Rose (R.faults rack.old) (R.faults rack.new) }
@@ -58,8 +61,14 @@ pub fn find<R: Rack>(alloc: Global, rack: &mut R, devices: u32) -> Result<FoundS
     if !has_replicas(rack) {
         return Err(OpenError::NoMajority);
     }
-    let first = look(alloc, rack, 0, devices)?;
-    let second = look(alloc, rack, 1, devices)?;
-    let third = look(alloc, rack, 2, devices)?;
+    let Ok(found) = volume_label(rack, devices) else {
+        return Err(OpenError::Disk);
+    };
+    let Some(label) = found else {
+        return Err(OpenError::NoMajority);
+    };
+    let first = look(alloc, rack, &label, 0, devices)?;
+    let second = look(alloc, rack, &label, 1, devices)?;
+    let third = look(alloc, rack, &label, 2, devices)?;
     make(first, second, third)
 }

@@ -4,6 +4,7 @@
 mod boots;
 mod choosing;
 mod finding;
+mod labels;
 mod looking;
 mod making;
 mod origins;

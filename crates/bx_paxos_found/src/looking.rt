@@ -1,20 +1,18 @@
 //! The disk of a replica, looked at.
 
-ghost use Rattle.std.specs.Prelude.{◌≡◌, ℕ, ◌≤◌, ◌⊎◌, ◌↔◌, IfOk, IfErr, IfSome, IfNone, IsErrOf, IsTrue, OnErr, OnOk, slice_index};
+ghost use Rattle.std.specs.Prelude.{◌≡◌, ◌<◌, ◌≤◌, ◌⊎◌, IfOk, IfErr, IfSome, IfNone, IsErrOf, OnOk, slice_index};
 ghost use Rattle.bx_acceptor.specs.Standing.{IsFound, IsNotFound};
 ghost use Rattle.bx_base.specs.Faults.{Rose};
 ghost use Rattle.bx_calls.specs.Regions.{IsSynced};
 ghost use Rattle.bx_cell.specs.Halves.{Found};
 ghost use Rattle.bx_disk.specs.Counts.{NoneFalls};
 ghost use Rattle.bx_facts.specs.Disks.{SameDisks};
+ghost use Rattle.bx_facts.specs.Labelled.{IsFirstLabel};
 ghost use Rattle.bx_facts.specs.declared.input.OpenError.TheVariants.{Disk as OpenFails, OutOfMemory as WantsMemory};
 ghost use Rattle.bx_global.specs.Bytes.{IsHeld};
-ghost use Rattle.bx_layout.specs.Labels.{SpellsLabel};
-ghost use Rattle.bx_layout.specs.declared.label.Label.{Label};
-ghost use Rattle.bx_paxos.specs.Shown.{HasLabel};
 ghost use Rattle.bx_paxos_found.specs.Finding.{IsSeen};
 
-use bx_calls::read_sectors;
+use crate::labels::is_of_volume;
 use bx_cell::{Cell, CellError};
 use bx_disk::{DiskFault, Rack};
 use bx_facts::OpenError;
@@ -69,32 +67,18 @@ fn cell_on<R: Rack>(
     }
 }
 
-/// Whether a disk has a label.
-fn is_labelled<R: Rack>(rack: &mut R, disk: u32) -> Result<bool, DiskFault>
-    requires { 21 ≤ slice_index (R.state rack.old).sizes disk }
-    ensures is { R.tells rack.old → IfOk result (λ answer. IsTrue answer ↔ HasLabel ((R.state rack.old).reads disk 0)) }
-    ensures stays { R.state rack.new ≡ R.state rack.old }
-    ensures cause { OnErr result (Rose (R.faults rack.old) (R.faults rack.new)) }
-    ensures later { NoneFalls (R.faults rack.old) (R.faults rack.new) (R.faults_of rack.old) (R.faults_of rack.new) }
-    ensures keeps_telling { R.tells rack.old → R.tells rack.new }
-{
-    let mut sector = [0; 512];
-    read_sectors(rack, disk, 0, &mut sector)?;
-    match Label::read(&sector) {
-        Some(_label) => Ok(true),
-        None => Ok(false),
-    }
-}
-
-/// Makes the disk of a replica sure, and looks at it: `None` exactly where it has no label, or no cell that can be read.
+/// Makes the disk of a replica sure, and looks at it, where the first label is known: `None` exactly where the replica isn't labelled, or its
+/// disk has no cell that can be read.
 pub(crate) fn look<R: Rack>(
     alloc: Global,
     rack: &mut R,
+    first: &Label,
     replica: u32,
     devices: u32,
 ) -> Result<Option<Seen>, OpenError>
-    requires { 21 ≤ slice_index (R.state rack.old).sizes replica }
-    ensures seen { R.tells rack.old → IfOk result (IsSeen devices ((R.state rack.old).reads replica)) }
+    requires low { replica < 3 }
+    requires room { 21 ≤ slice_index (R.state rack.old).sizes replica }
+    ensures seen { R.tells rack.old → IsFirstLabel (R.state rack.old).reads first.now → first.now.devices ≡ devices → IfOk result (IsSeen devices (R.state rack.old).reads replica) }
     ensures held { IfOk result (λ seen. IfSome seen (λ x. IsHeld devices x.held)) }
     ensures sure { R.tells rack.old → OnOk result (IsSynced (R.state rack.new) replica) }
     ensures disks { R.tells rack.old → SameDisks (R.state rack.old) (R.state rack.new) }
@@ -107,7 +91,7 @@ pub(crate) fn look<R: Rack>(
     let Some(seen) = cell_on(alloc, rack, replica, devices)? else {
         return Ok(None);
     };
-    match is_labelled(rack, replica) {
+    match is_of_volume(rack, first, replica) {
         Ok(true) => Ok(Some(seen)),
         Ok(false) => Ok(None),
         Err(DiskFault) => Err(OpenError::Disk),

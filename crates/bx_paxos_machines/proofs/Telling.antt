@@ -10,6 +10,7 @@ use Rattle.bx_disk.specs.Disks.{Disks, Image, IsImage}
 use Rattle.bx_facts.specs.Chains.{Chain, IsNext, IsPlace, last}
 use Rattle.bx_facts.specs.Disks.{Crashes, HasRoom, ReadsOnly, SameLabels, SameReplicas}
 use Rattle.bx_facts.specs.Inputs.{AreAmong, IsRegisters}
+use Rattle.bx_facts.specs.Labelled.{IsLabelled}
 use Rattle.bx_facts.specs.Machines.{IsMachine}
 use Rattle.bx_facts.specs.Pasts.{RegisterPast}
 use Rattle.bx_global.specs.Allowed.{IsAllowed}
@@ -18,8 +19,6 @@ use Rattle.bx_paxos.proofs.Events.{is_place, loses, other_disks, survives}
 use Rattle.bx_paxos.proofs.Reading.{reads}
 use Rattle.bx_paxos.proofs.Starts.{first_place}
 use Rattle.bx_paxos.specs.Reading.{AreSeen, ReadsState}
-use Rattle.bx_layout.specs.Labels.{SpellsLabel}
-use Rattle.bx_layout.specs.declared.label.Label.{Label}
 use Rattle.bx_paxos_found.proofs.Views.{reads_some}
 use Rattle.bx_post.specs.declared.packets.Letter.{Letter}
 use Rattle.bx_proposer.specs.Names.{number_of}
@@ -54,9 +53,10 @@ read_alike one other image s same read = record { seen = read.seen; are = subst 
 pub reads_on : (g : Cluster) (x : Disks) (past : RegisterPast) (image : Image) (s : GlobalState) → Keeps g x past → IsImage x image → ReadsState g.made image s → IsNext past.proposed (last past.chain) s
 reads_on g x past image s keeps is read = reads (voters_of g) x past image s keeps.fits (record { sure = is.sure }) (read_alike g.made g.first image s (sym keeps.is.devices) read)
 
-pub some_on : (g : Cluster) (x : Disks) (past : RegisterPast) (image : Image) (n m : ℕ) (one other : Label) → Keeps g x past → IsImage x image → n < 3 → m < 3 → n ≢ m → SpellsLabel one (image n 0) → SpellsLabel other (image m 0) → (s : GlobalState) × ReadsState g.made image s
-some_on g x past image n m one other keeps is low low_m apart spells spells_m =
-    let k = reads_some (voters_of g) x past image n m one other keeps.fits (record { sure = is.sure }) low low_m apart spells spells_m in
+pub some_on : (g : Cluster) (x : Disks) (past : RegisterPast) (image : Image) (n m : ℕ) → Keeps g x past → IsImage x image → n ≢ m → IsLabelled (length g.made.devices) image n → IsLabelled (length g.made.devices) image m → (s : GlobalState) × ReadsState g.made image s
+some_on g x past image n m keeps is apart label label_m =
+    let at = λ (k : ℕ) (l : IsLabelled (length g.made.devices) image k). subst (λ (d : ℕ). IsLabelled d image k) (sym keeps.is.devices) l in
+    let k = reads_some (voters_of g) x past image n m keeps.fits (record { sure = is.sure }) apart (at n label) (at m label_m) in
     (k.0, read_alike g.first g.made image k.0 keeps.is.devices k.1)
 
 pub moments_made : (g : Cluster) (x : Disks) (before now : ℕ) (left since : ℕ → Image → Type 0) (May : GlobalState → Type 0) → IsCluster g → LeavesOnly before now left since (ReadsOnly (ReadsState g.first) x May) → LeavesOnly before now left since (ReadsOnly (ReadsState g.made) x May)

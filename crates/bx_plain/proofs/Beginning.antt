@@ -1,19 +1,16 @@
 -- The state that the one-machine forms are made with is one that they may be made with.
-use Rattle.std.proofs.Common.{◌≡◌, ◌≢◌, ◌⊎◌, inl, inr, ⊎_elim, ℕ, zero, suc, ◌+◌, ◌-◌, ◌<◌, ◌≤◌, ◌==◌, ◌&&◌, Bool, true, false, List, [], ◌∷◌, ◌++◌, Option, Some, None, length, refl, sym, ap, subst, ◌∙◌, arith, ne_eqb, length-append, slice_get}
+use Rattle.std.proofs.Common.{◌≡◌, ◌≢◌, ℕ, zero, suc, ◌+◌, ◌<◌, ◌≤◌, ◌==◌, ◌&&◌, Bool, true, false, List, [], ◌∷◌, ◌++◌, Some, None, length, refl, sym, ap, ◌∙◌, arith, ne_eqb, length-append, slice_get}
 use Rattle.std.specs.Prelude.{IfSome, find, if◌then◌else◌, nat_lt, replicate}
 use Rattle.std.specs.List.{AllByRecursion}
 use Rattle.std.proofs.lemmas.Bool.Decides.{nat_tests}
 use Rattle.bx_global.specs.Allowed.{IsAllowed}
-use Rattle.bx_global.specs.Opening.{first_device, opening_state}
-use Rattle.bx_global.specs.declared.state.GlobalState.{GlobalState}
+use Rattle.bx_global.specs.Opening.{first_device}
 use Rattle.bx_global.proofs.Begins.{opening_allowed}
 use Rattle.bx_global.proofs.Kept.{all-push, all_is, rising-push, slots-push}
 use Rattle.bx_rows.specs.Conditions.{AreRising, HaveOwnSlots, IsSession}
 use Rattle.bx_rows.specs.Words.{is_taken, row_in}
-use Rattle.bx_rows.specs.declared.device.DeviceRow.{DeviceRow}
 use Rattle.bx_rows.specs.declared.session.SessionRow.{SessionRow}
 use Rattle.bx_facts.specs.Chains.{IsAboveBoots, any_session_of, number_in}
-use Rattle.bx_facts.specs.Holds.{IsSessionIn}
 use Rattle.bx_plain.specs.Begin.{plain_row, plain_rows, plain_state}
 use Rattle.bx_plain.specs.Fits.{IsPlainState, own_in}
 

@@ -1,6 +1,6 @@
 //! A register on one machine.
 
-ghost use Rattle.std.specs.Prelude.{◌≡◌, ◌+◌, ◌≤◌, ℕ, [], Contains};
+ghost use Rattle.std.specs.Prelude.{◌≡◌, ◌+◌, ◌<◌, ◌≤◌, ℕ, [], Contains};
 ghost use Rattle.bx_global.specs.Allowed.{IsAllowed};
 ghost use Rattle.bx_facts.specs.Chains.{IsAboveBoots};
 
@@ -44,8 +44,9 @@ impl Register for PlainRegister {
     ghost use Rattle.bx_base.specs.Faults.{Rose};
     ghost use Rattle.bx_base.specs.declared.names.Actor.{Actor};
     ghost use Rattle.bx_disk.specs.Counts.{NoneFalls};
-    ghost use Rattle.bx_facts.specs.Disks.{SameDisks};
-    ghost use Rattle.bx_facts.specs.declared.input.OpenError.TheVariants.{Disk as OpenFails};
+    ghost use Rattle.bx_facts.specs.Chains.{most_boot};
+    ghost use Rattle.bx_facts.specs.Disks.{SameDisks, TellNoState};
+    ghost use Rattle.bx_facts.specs.declared.input.OpenError.TheVariants.{Disk as OpenFails, NoLabel, NoMajority, Spent};
     ghost use Rattle.std.proofs.Common.{inl};
     ghost use Rattle.bx_disk.specs.Disks.{Image, Disks};
     ghost use Rattle.bx_facts.specs.Pasts.{RegisterPast, found_register};
@@ -117,6 +118,10 @@ impl Register for PlainRegister {
     fn open<R: Rack>(&mut self, _rack: &mut R) -> Result<u64, OpenError>
         ensures keeps { R.tells _rack.old → self.old.busy.items ≡ [] → IfOk result (λ boot. IsUnchanged self.new.state (found_register self.new.state boot)) }
         ensures found { R.tells _rack.old → self.old.busy.items ≡ [] → OnOk result (self.new.state ≡ self.old.state) }
+        ensures few { IfOk result (λ boot. boot ≤ most_boot) }
+        ensures no_label { (disk : ℕ) → IsErrOf result (NoLabel disk) → ⊥ }
+        ensures no_majority { R.tells _rack.old → self.old.busy.items ≡ [] → IsErrOf result NoMajority → TellNoState (λ image s. s ≡ self.old.state) (R.state _rack.old) }
+        ensures spent { (boot : ℕ) → IsErrOf result (Spent boot) → most_boot < boot }
         ensures boots { self.old.busy.items ≡ [] → IfOk result (λ boot. ∥ IsAboveBoots self.new.state (boot + 1) ∥₁) }
         ensures knows { self.old.busy.items ≡ [] → (who : Actor) → OnOk result (self.new.state ≡ self.new.state) }
         ensures idle { self.old.busy.items ≡ [] → (who : Actor) → OnOk result (Contains self.new.busy.items who → ⊥) }
@@ -139,7 +144,7 @@ impl Register for PlainRegister {
 
     ghost reads_next = { λ g x past image s keeps is reads. is_next g.state past s keeps reads };
 
-    ghost reads_some = { λ g x past image n m one other keeps is first second apart left right. (g.state, refl) };
+    ghost reads_some = { λ g x past image n m keeps is apart left right. (g.state, refl) };
 
     ghost elsewhere = { λ g x y past keeps same labels. keeps };
 

@@ -1,13 +1,17 @@
-use Rattle.std.proofs.Common.{◌+◌, length, sym, ap, subst, ◌∙◌}
+use Rattle.std.proofs.Common.{ℕ, ◌+◌, ◌^◌, ◌<◌, ◌⊎◌, length, Err, refl, sym, ap, subst, ◌∙◌}
+use Rattle.std.proofs.lemmas.Result.{err_from_is_err_and}
 use Rattle.bx_base.specs.declared.names.Actor.TheVariants.{Replica}
 use Rattle.bx_facts.specs.Chains.{IsAboveBoots}
 use Rattle.bx_facts.specs.Pasts.{found_register}
+use Rattle.bx_facts.specs.declared.input.OpenError.TheVariants.{NoMajority, Spent}
 use Rattle.bx_global.specs.declared.state.GlobalState.{GlobalState}
 use Rattle.bx_paxos.specs.Reading.{ReadsState}
+use Rattle.bx_paxos_found.specs.Finding.{AreAtTheEnd, IsGreatestBoot, LackMajority}
 use Rattle.bx_proposer.specs.declared.course.Course.{Course}
 use Rattle.bx_paxos_machines.specs.Cluster.{Cluster}
 use Rattle.bx_paxos_machines.specs.Keeps.{Keeps}
 use Rattle.bx_paxos_machines.proofs.Beginnings.{cluster_of, finds_keeping, idle_at, new_idle, not_busy}
+use Rattle.bx_paxos_cluster.proofs.Errors.{handed_on}
 use Rattle.bx_paxos_cluster.proofs.paxos.Paxos.open.Goals as goal
 
 pub returns-clause-keeps : goal.returns-clause-keeps
@@ -52,3 +56,38 @@ returns-clause-idle r c = λ who busy.
     let first = c.in_ok-found.found.state in
     let machines = c.in-Ok.machines.items in
     not_busy first machines who (new_idle first machines c.in-Ok.ensures.new) busy
+
+pub returns-clause-index : goal.returns-clause-index
+returns-clause-index r c =
+    let first = c.in_ok-found.found.state in
+    let machines = c.in-Ok.machines.items in
+    let known = ap (λ (k : Course). k.known) (idle_at first machines (Replica 0) (new_idle first machines c.in-Ok.ensures.new)) in
+    subst (λ (s : GlobalState). s.index + 1 < 2 ^ 64) (sym known) c.in_ok-found.ensures.index
+
+-- ---- causes
+
+pub returns-in_err-found-clause-no_majority : goal.returns-in_err-found-clause-no_majority
+returns-in_err-found-clause-no_majority r c = λ tells is.
+    let p = err_from_is_err_and c.from_residual.result c.from_residual.ensures.1 in
+    let x = r.R.Rack.state c.args.rack.now in
+    let devices = ap (λ (k : Cluster). length k.made.devices) (sym c.self.view_is) ∙ sym c.len-devices.ensures in
+    subst (λ (n : ℕ). LackMajority n x ⊎ AreAtTheEnd n x.reads) (sym devices) (c.in_err-found.ensures.no_majority tells (handed_on (Err c.in_err-found.field-0.0) c.from_residual.result c.in_err-found.field-0.0 NoMajority refl (p.1 ∙ ap Err p.2) is))
+
+pub returns-clause-majority : goal.returns-clause-majority
+returns-clause-majority r c = λ tells.
+    let x = r.R.Rack.state c.args.rack.now in
+    let devices = ap (λ (k : Cluster). length k.made.devices) (sym c.self.view_is) ∙ sym c.len-devices.ensures in
+    subst (λ (n : ℕ). LackMajority n x → ⊥) (sym devices) (c.in_ok-found.ensures.majority tells)
+
+pub returns-in_err-found-clause-spent : goal.returns-in_err-found-clause-spent
+returns-in_err-found-clause-spent r c = λ boot tells is.
+    let p = err_from_is_err_and c.from_residual.result c.from_residual.ensures.1 in
+    let x = r.R.Rack.state c.args.rack.now in
+    let devices = ap (λ (k : Cluster). length k.made.devices) (sym c.self.view_is) ∙ sym c.len-devices.ensures in
+    subst (λ (n : ℕ). IsGreatestBoot n x.reads boot × (LackMajority n x → ⊥)) (sym devices) (c.in_err-found.ensures.spent boot tells (handed_on (Err c.in_err-found.field-0.0) c.from_residual.result c.in_err-found.field-0.0 (Spent boot) refl (p.1 ∙ ap Err p.2) is))
+
+pub returns-clause-greatest : goal.returns-clause-greatest
+returns-clause-greatest r c = λ tells.
+    let x = r.R.Rack.state c.args.rack.now in
+    let devices = ap (λ (k : Cluster). length k.made.devices) (sym c.self.view_is) ∙ sym c.len-devices.ensures in
+    subst (λ (n : ℕ). IsGreatestBoot n x.reads c.in_ok-found.found.boot) (sym devices) (c.in_ok-found.ensures.greatest tells)

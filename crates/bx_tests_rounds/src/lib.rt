@@ -11,5 +11,3 @@ mod orders;
 mod rounds;
 #[cfg(test)]
 mod states;
-#[cfg(test)]
-mod whole;

@@ -34,7 +34,7 @@ use bx_tree_files::is_given;
 use bx_views::View;
 use std::alloc::Global;
 
-/// SETATTR (RFC 1094, section 2.2.3): the blocks that it changes, and the attributes then. New bytes are zeros; only where no error comes and the file
+/// SETATTR (RFC 1094, section 2.2.3): the blocks that it changes, and the attributes then. New bytes are zeros; exactly where no error comes and the file
 /// would grow over bytes that were cut and aren't cleared, `Inner` clears some of them first, and lowers the tail that tells how far they reach.
 ///
 /// `Need` names a block that isn't held: the file's inode, exclusively; and where that is held, one on the path of such clearing. The

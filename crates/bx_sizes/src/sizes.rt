@@ -39,7 +39,7 @@ use std::alloc::Global;
 const MOST_BYTES: u32 = 2147483647;
 
 /// Sets the size of the regular file with a handle, by its inode, and what else is given: the block that it changes, and the inode then.
-/// New bytes are zeros. Cut bytes stay in their pieces, behind the end, and the tail tells how far; only where the file would grow over them,
+/// New bytes are zeros. Cut bytes stay in their pieces, behind the end, and the tail tells how far; exactly where the file would grow over them,
 /// `Inner` clears some of them first, and the tail falls. `now` is in seconds and microseconds.
 ///
 /// `Need` names a block of the volume that isn't held, on the path of such clearing.

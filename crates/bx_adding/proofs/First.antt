@@ -1,6 +1,6 @@
 -- What is to be written first before an entry comes into a directory leaves each tree; and where the directory has room for the entry.
 use Rattle.std.proofs.Common.{◌≡◌, ℕ, true, false, List, [], Option, Some, sym, ◌∙◌, subst, arith, inl, inr}
-use Rattle.std.specs.Prelude.{Err, IfSome, Ok, Result}
+use Rattle.std.specs.Prelude.{Err, IfOk, IfSome, Ok, Result}
 use Rattle.bx_blink.specs.declared.error.BlinkError.{BlinkError}
 use Rattle.bx_blink.specs.declared.error.BlinkError.TheVariants as tree_error
 use Rattle.bx_blink.specs.Hints.{HintsFit, Under}
@@ -15,8 +15,8 @@ use Rattle.bx_layout.specs.declared.inode.Inode.{Inode}
 use Rattle.bx_leaves.specs.Changes.{NeedsUnheld}
 use Rattle.bx_model.specs.declared.tree.Tree.{Tree}
 use Rattle.bx_records.specs.Drafts.{Changed}
-use Rattle.bx_ready.specs.Lacking.{LacksRoom}
-use Rattle.bx_ready.specs.Ready.{IsFileUnder, IsReady, OnReadyPath, ReadiesIn}
+use Rattle.bx_ready.specs.Lacking.{FindsRoom, MakesRoom}
+use Rattle.bx_ready.specs.Ready.{IsFileUnder, OnReadyPath, ReadiesIn}
 use Rattle.bx_ready.specs.Spare.{TellsFew}
 use Rattle.bx_truth.specs.Chunks.{chunks_of}
 use Rattle.bx_truth.specs.Keys.{entry_key, name_key}
@@ -26,6 +26,7 @@ use Rattle.bx_hints.specs.Pages.{HasPages}
 use Rattle.bx_hints.proofs.Pages.{has_pages}
 use Rattle.bx_views.specs.Truths.{Held, Hints, Truth}
 use Rattle.bx_adding.specs.Finding.{IsReadyFor, ReadyIn, RoomIn}
+use Rattle.bx_adding.specs.Lacking.{FindsBoth}
 use Rattle.bx_adding.specs.Stopping.{StopsChange}
 use Rattle.bx_adding.proofs.Asked.{ready_block}
 use Rattle.bx_adding.proofs.Spaces.{space_of}
@@ -73,10 +74,10 @@ module _ (volume areas : ℕ) (held : Held) (hints : Hints) (truth : Truth) (tre
       leads = (keeps truth tree (file_under volume tree d.stands)).leads;
     }
 
-    -- what is found to be written first, and so that room is lacking
+    -- what is found to be written first makes room that is lacking
     pub lacking : (key : List ℕ) (found : Option (List Changed)) (draft : List Changed) → found ≡ Some draft
-        → ((truth : Truth) (pages : PageTree) → Under areas held hints truth [] root pages → IfSome found (λ new. LacksRoom areas truth root key)) → LacksRoom areas truth root key
-    lacking key found draft some all = subst (λ (o : Option (List Changed)). IfSome o (λ new. LacksRoom areas truth root key)) some (all truth pages.pages some_under)
+        → ((truth : Truth) (pages : PageTree) → Under areas held hints truth [] root pages → IfSome found (MakesRoom areas held hints truth root key)) → MakesRoom areas held hints truth root key draft
+    lacking key found draft some all = subst (λ (o : Option (List Changed)). IfSome o (MakesRoom areas held hints truth root key)) some (all truth pages.pages some_under)
 
     -- what stops it is a block, or want of blocks or of memory
     pub stopped : (key : List ℕ) (error : BlinkError) (stop : ChangeError) → ((pages : PageTree) → Under areas held hints truth [] root pages → ReadiesIn areas held hints truth root pages key (Err error))
@@ -96,8 +97,7 @@ module _ (volume areas : ℕ) (held : Held) (hints : Hints) (truth : Truth) (tre
     stopped key tree_error.Crowded stop r n s = absurd (r pages.pages some_under)
 
   -- room is found for both keys
-  pub found : (name : List ℕ) (number : ℕ) → ((pages : PageTree) → IsTree (chunks_of areas truth) inode.tree pages → IsReady pages (name_key name)) → ((pages : PageTree) → IsTree (chunks_of areas truth) inode.tree pages → IsReady pages (entry_key number))
-      → IsReadyFor areas held truth inode.tree name number
+  pub found : (name : List ℕ) (number : ℕ) → FindsRoom areas truth inode.tree (name_key name) → FindsRoom areas truth inode.tree (entry_key number) → IsReadyFor areas held truth inode.tree name number
   found name number by_name by_number =
       let u = pages.under in
       let n = by_name pages.pages u.is in
@@ -126,3 +126,9 @@ pub either : (volume areas : ℕ) (held : Held) (hints : Hints) (truth : Truth) 
     → ReadyIn areas truth inode.tree (name_key name) (Ok tt) → (result : Result (Unit {0}) ChangeError) → ReadyIn areas truth inode.tree (entry_key number) result → RoomIn areas held truth inode.tree name number result
 either volume areas held hints truth tree handle inode d name number first (Ok done) r = found volume areas held hints truth tree handle inode d name number first r
 either volume areas held hints truth tree handle inode d name number first (Err stop) r = stops_both areas held truth inode.tree name number (entry_key number) stop r
+
+-- where it goes on, both find it
+pub finds_both : (areas : ℕ) (truth : Truth) (root : ℕ) (name : List ℕ) (number : ℕ) → ReadyIn areas truth root (name_key name) (Ok tt) → (result : Result (Unit {0}) ChangeError) → ReadyIn areas truth root (entry_key number) result
+    → IfOk result (λ made. FindsBoth areas truth root name number)
+finds_both areas truth root name number first (Ok done) r = (first, r)
+finds_both areas truth root name number first (Err stop) r = tt

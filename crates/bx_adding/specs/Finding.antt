@@ -5,10 +5,9 @@ use Rattle.bx_changes.specs.Growing.{IsNearlyFull, LeavesTrees}
 use Rattle.bx_changes.specs.declared.error.ChangeError.{ChangeError}
 use Rattle.bx_changes.specs.declared.error.ChangeError.TheVariants.{Stopped, Full}
 use Rattle.bx_inodes.specs.declared.stop.Stop.TheVariants.{Need, Inner, Status, OutOfMemory}
+use Rattle.bx_ready.specs.Lacking.{FindsRoom}
 use Rattle.bx_ready.specs.Ready.{IsReady, OnReadyPath}
-use Rattle.bx_truth.specs.Chunks.{chunks_of}
 use Rattle.bx_truth.specs.Keys.{entry_key, name_key}
-use Rattle.bx_truth.specs.PageTrees.{IsTree, PageTree}
 use Rattle.bx_views.specs.Truths.{Truth, Held, Hints}
 use Rattle.bx_adding.specs.Rooms.{HasRooms}
 
@@ -20,7 +19,7 @@ pub record IsReadyFor (areas : ℕ) (held : Held) (truth : Truth) (root : ℕ) (
 
 -- The same of one key, under the root of the tree of an inode that a truth has.
 abbrev pub ReadyIn : ℕ → Truth → ℕ → List ℕ → Result (Unit {0}) ChangeError → Type 0
-ReadyIn areas truth root key (Ok done) = (pages : PageTree) → IsTree (chunks_of areas truth) root pages → IsReady pages key
+ReadyIn areas truth root key (Ok done) = FindsRoom areas truth root key
 ReadyIn areas truth root key (Err (Stopped (Inner blocks))) = LeavesTrees areas truth blocks
 ReadyIn areas truth root key (Err (Full spare)) = IsNearlyFull areas truth spare
 ReadyIn areas truth root key (Err (Stopped (Need at mode))) = Unit {0}

@@ -1,4 +1,4 @@
--- Where a directory lacks room for an entry, so that blocks are to be written first.
+-- Where a directory has room for an entry, and what makes room where it hasn't, which is to be written first.
 use Rattle.std.specs.Prelude.{◌≡◌, ℕ, ◌⊎◌, List, Some}
 use Rattle.bx_changes.specs.declared.error.ChangeError.{ChangeError}
 use Rattle.bx_changes.specs.declared.error.ChangeError.TheVariants.{Stopped, Full}
@@ -6,25 +6,35 @@ use Rattle.bx_handles.specs.Handles.{named}
 use Rattle.bx_inodes.specs.Inodes.{HoldsInode}
 use Rattle.bx_inodes.specs.declared.stop.Stop.TheVariants.{Need, Inner, Status, OutOfMemory}
 use Rattle.bx_layout.specs.declared.inode.Inode.{Inode}
-use Rattle.bx_ready.specs.Lacking.{LacksRoom}
+use Rattle.bx_ready.specs.Lacking.{FindsRoom, MakesRoom}
+use Rattle.bx_records.specs.Drafts.{Changed}
 use Rattle.bx_truth.specs.Keys.{entry_key, name_key}
-use Rattle.bx_views.specs.Truths.{Truth}
+use Rattle.bx_views.specs.Truths.{Truth, Held, Hints}
 
--- The page tree of a root lacks room for an entry under the key of a name, or under that of a number: its leaf is full, or a separator above it is missing.
-abbrev pub LacksEither : ℕ → Truth → ℕ → List ℕ → ℕ → Type 0
-LacksEither areas truth root name number = LacksRoom areas truth root (name_key name) ⊎ LacksRoom areas truth root (entry_key number)
+-- An entry finds room in the page tree of a root, under the key of a name and under that of a number.
+abbrev pub FindsBoth : ℕ → Truth → ℕ → List ℕ → ℕ → Type 0
+FindsBoth areas truth root name number = FindsRoom areas truth root (name_key name) × FindsRoom areas truth root (entry_key number)
 
--- The directory that a file handle names lacks room for its next entry, under a name.
-pub record LacksPlace (volume areas : ℕ) (truth : Truth) (bytes name : List ℕ) : Type 0 where
+-- A draft makes room under one of the two, where there is none.
+abbrev pub MakesEither : ℕ → Held → Hints → Truth → ℕ → List ℕ → ℕ → List Changed → Type 0
+MakesEither areas held hints truth root name number new = MakesRoom areas held hints truth root (name_key name) new ⊎ MakesRoom areas held hints truth root (entry_key number) new
+
+-- The directory that a file handle names has room for its next entry, under a name.
+abbrev pub ReadyToEnter : ℕ → ℕ → Truth → List ℕ → List ℕ → Type 0
+ReadyToEnter volume areas truth bytes name =
+    (handle : ℕ) (inode : Inode) → named volume bytes ≡ Some handle → HoldsInode areas truth handle inode → FindsBoth areas truth inode.tree name inode.next
+
+-- It has none, and a draft makes it.
+pub record MakesPlace (volume areas : ℕ) (held : Held) (hints : Hints) (truth : Truth) (bytes name : List ℕ) (new : List Changed) : Type 0 where
   pub handle : ℕ
   pub inode : Inode
   pub is_named : named volume bytes ≡ Some handle
   pub holds : HoldsInode areas truth handle inode
-  pub lacks : LacksEither areas truth inode.tree name inode.next
+  pub makes : MakesEither areas held hints truth inode.tree name inode.next new
 
--- what holds where blocks are to be written first
-abbrev pub IfFirst : Type 0 → ChangeError → Type 0
-IfFirst Holds (Stopped (Inner blocks)) = Holds
+-- what holds of the blocks that are to be written first
+abbrev pub IfFirst : (List Changed → Type 0) → ChangeError → Type 0
+IfFirst Holds (Stopped (Inner blocks)) = Holds blocks
 IfFirst Holds (Stopped (Need at mode)) = Unit {0}
 IfFirst Holds (Stopped (Status status)) = Unit {0}
 IfFirst Holds (Stopped OutOfMemory) = Unit {0}

@@ -1,16 +1,16 @@
 //! Room for entries in directories.
 
-ghost use Rattle.std.specs.Prelude.{◌≡◌, ℕ, List, IfErr};
+ghost use Rattle.std.specs.Prelude.{◌≡◌, ℕ, List, IfErr, IfOk};
 ghost use Rattle.bx_changes.specs.Growing.{HoldsFirst, NeedsBy};
 ghost use Rattle.bx_entries.specs.Finding.{IsDirectoryOf};
 ghost use Rattle.bx_layout.specs.declared.inode.Inode.{Inode as Kept};
 ghost use Rattle.bx_model.specs.declared.tree.Tree.{Tree};
-ghost use Rattle.bx_ready.specs.Lacking.{LacksRoom};
+ghost use Rattle.bx_ready.specs.Lacking.{MakesRoom};
 ghost use Rattle.bx_ready.specs.Ready.{OnReadyPath};
 ghost use Rattle.bx_truth.specs.Keys.{entry_key, name_key};
 ghost use Rattle.bx_views.specs.Truths.{Truth};
 ghost use Rattle.bx_adding.specs.Finding.{OnRoomPath, ReadyIn, RoomIn};
-ghost use Rattle.bx_adding.specs.Lacking.{IfFirst, LacksEither};
+ghost use Rattle.bx_adding.specs.Lacking.{FindsBoth, IfFirst, MakesEither};
 
 use crate::keys::{key_by_name, key_by_number};
 use crate::stops::change_error;
@@ -26,8 +26,8 @@ use std::alloc::Global;
 /// the directory's area first.
 ///
 /// `Inner` are the blocks that post a separator that is missing above one of the two keys, or split a leaf that has less than 544 bytes left, which
-/// are to be written first. They come exactly where one of the two is so. `Need` names a block of the volume that isn't held in that mode, and is on the path of these. `Full` comes where the
-/// volume has too few free blocks for them. The status is `STALE` where what is held is no tree: of a directory it never comes.
+/// are to be written first. They come exactly where one of the two is so: where it goes on, both keys find room. `Need` names a block of the
+/// volume that isn't held in that mode, and is on the path of these. `Full` comes where the volume has too few free blocks for them. The status is `STALE` where what is held is no tree: of a directory it never comes.
 pub fn room_for<V: View>(
     alloc: Global,
     view: &V,
@@ -38,7 +38,9 @@ pub fn room_for<V: View>(
     ensures step { (volume : ℕ) (truth : Truth) (tree : Tree) → IsDirectoryOf volume areas (V.held view.now) (V.hints view.now) truth tree directory.now.handle directory.now.inode
         → RoomIn areas (V.held view.now) truth directory.now.inode.tree name.now directory.now.inode.next result }
     ensures lacks { (volume : ℕ) (truth : Truth) (tree : Tree) → IsDirectoryOf volume areas (V.held view.now) (V.hints view.now) truth tree directory.now.handle directory.now.inode
-        → IfErr result (IfFirst (LacksEither areas truth directory.now.inode.tree name.now directory.now.inode.next)) }
+        → IfErr result (IfFirst (MakesEither areas (V.held view.now) (V.hints view.now) truth directory.now.inode.tree name.now directory.now.inode.next)) }
+    ensures finds { (volume : ℕ) (truth : Truth) (tree : Tree) → IsDirectoryOf volume areas (V.held view.now) (V.hints view.now) truth tree directory.now.handle directory.now.inode
+        → IfOk result (λ made. FindsBoth areas truth directory.now.inode.tree name.now directory.now.inode.next) }
     ensures need { IfErr result (NeedsBy areas (V.held view.now) (OnRoomPath areas (V.held view.now) (V.hints view.now) directory.now.inode.tree name.now directory.now.inode.next)) }
     ensures first { IfErr result (HoldsFirst (V.held view.now)) }
 {
@@ -61,7 +63,7 @@ fn room_by_name<V: View>(
     ensures step { (volume : ℕ) (truth : Truth) (tree : Tree) (handle : ℕ) (inode : Kept) → IsDirectoryOf volume near.1 (V.held view.now) (V.hints view.now) truth tree handle inode → inode.tree ≡ root
         → ReadyIn near.1 truth root (name_key name.now) result }
     ensures lacks { (volume : ℕ) (truth : Truth) (tree : Tree) (handle : ℕ) (inode : Kept) → IsDirectoryOf volume near.1 (V.held view.now) (V.hints view.now) truth tree handle inode → inode.tree ≡ root
-        → IfErr result (IfFirst (LacksRoom near.1 truth root (name_key name.now))) }
+        → IfErr result (IfFirst (MakesRoom near.1 (V.held view.now) (V.hints view.now) truth root (name_key name.now))) }
     ensures need { IfErr result (NeedsBy near.1 (V.held view.now) (OnReadyPath near.1 (V.held view.now) (V.hints view.now) root (name_key name.now))) }
     ensures first { IfErr result (HoldsFirst (V.held view.now)) }
 {
@@ -82,7 +84,7 @@ fn room_by_number<V: View>(
     ensures step { (volume : ℕ) (truth : Truth) (tree : Tree) (handle : ℕ) (inode : Kept) → IsDirectoryOf volume near.1 (V.held view.now) (V.hints view.now) truth tree handle inode → inode.tree ≡ root
         → ReadyIn near.1 truth root (entry_key number) result }
     ensures lacks { (volume : ℕ) (truth : Truth) (tree : Tree) (handle : ℕ) (inode : Kept) → IsDirectoryOf volume near.1 (V.held view.now) (V.hints view.now) truth tree handle inode → inode.tree ≡ root
-        → IfErr result (IfFirst (LacksRoom near.1 truth root (entry_key number))) }
+        → IfErr result (IfFirst (MakesRoom near.1 (V.held view.now) (V.hints view.now) truth root (entry_key number))) }
     ensures need { IfErr result (NeedsBy near.1 (V.held view.now) (OnReadyPath near.1 (V.held view.now) (V.hints view.now) root (entry_key number))) }
     ensures first { IfErr result (HoldsFirst (V.held view.now)) }
 {
@@ -103,7 +105,7 @@ fn room_at<V: View>(
     ensures step { (volume : ℕ) (truth : Truth) (tree : Tree) (handle : ℕ) (inode : Kept) → IsDirectoryOf volume near.1 (V.held view.now) (V.hints view.now) truth tree handle inode → inode.tree ≡ root
         → ReadyIn near.1 truth root key.now result }
     ensures lacks { (volume : ℕ) (truth : Truth) (tree : Tree) (handle : ℕ) (inode : Kept) → IsDirectoryOf volume near.1 (V.held view.now) (V.hints view.now) truth tree handle inode → inode.tree ≡ root
-        → IfErr result (IfFirst (LacksRoom near.1 truth root key.now)) }
+        → IfErr result (IfFirst (MakesRoom near.1 (V.held view.now) (V.hints view.now) truth root key.now)) }
     ensures need { IfErr result (NeedsBy near.1 (V.held view.now) (OnReadyPath near.1 (V.held view.now) (V.hints view.now) root key.now)) }
     ensures first { IfErr result (HoldsFirst (V.held view.now)) }
 {

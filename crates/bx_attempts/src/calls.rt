@@ -7,7 +7,7 @@ ghost use Rattle.bx_nfs.specs.Wire.{ReadsAs};
 ghost use Rattle.bx_views.specs.Attempts.{Gives, IsFair};
 ghost use Rattle.bx_views.specs.Truths.{IsTruth, Truth};
 ghost use Rattle.bx_attempts.specs.Calls.{IsChanging, IsProcedure};
-ghost use Rattle.bx_attempts.specs.First.{IfInner, LacksFirst};
+ghost use Rattle.bx_attempts.specs.First.{IfChange, IfInner, PreparesFirst, ReadyBy};
 ghost use Rattle.bx_attempts.specs.Paths.{ChangePathOf};
 ghost use Rattle.bx_steps.specs.Steps.{StandsWith, Step};
 
@@ -111,7 +111,9 @@ pub fn change<V: View>(
     ensures gives { (client : ℕ) (bytes : List ℕ) (truth : Truth) (tree : Tree) → ReadsAs bytes xid call.now → IsTruth (V.held view.now) truth → StandsWith volume areas truth (V.hints view.now) tree
         → IfOk result (Gives (StandsWith volume areas) Step (free_slots areas truth) client bytes moment truth tree) }
     ensures lacks { (truth : Truth) (tree : Tree) → IsTruth (V.held view.now) truth → StandsWith volume areas truth (V.hints view.now) tree
-        → IfOk result (IfInner (LacksFirst volume areas truth tree call.now moment)) }
+        → IfOk result (IfInner (PreparesFirst volume areas (V.held view.now) (V.hints view.now) truth tree call.now moment)) }
+    ensures ready { (truth : Truth) (tree : Tree) → IsTruth (V.held view.now) truth → StandsWith volume areas truth (V.hints view.now) tree
+        → IfOk result (IfChange (ReadyBy volume areas truth tree call.now.procedure call.now.args)) }
     ensures fair { IfOk result (IsFair areas (V.held view.now) (ChangePathOf (V.held view.now) (V.hints view.now) volume areas call.now.procedure call.now.args)) }
 {
     match &call.args {

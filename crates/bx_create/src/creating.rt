@@ -15,7 +15,7 @@ ghost use Rattle.bx_tree_files.specs.Names.{names_of};
 ghost use Rattle.bx_views.specs.Attempts.{IsHeldDraft};
 ghost use Rattle.bx_views.specs.Truths.{Hints, IsTruth, Truth, with_draft};
 ghost use Rattle.bx_create.specs.Creating.{OnCreate, OnNamed};
-ghost use Rattle.bx_create.specs.Lacking.{LacksCreate, LacksIn};
+ghost use Rattle.bx_create.specs.Lacking.{PreparesCreate, PreparesIn, ReadyIn, ReadyToCreate};
 ghost use Rattle.bx_create.specs.Searching.{IsSearched};
 
 use crate::existing::create_over;
@@ -37,8 +37,8 @@ use std::alloc::Global;
 /// shared; where that finds an entry, the block of the inode that it names, exclusively where a size is given, else shared, and then with a size one on the
 /// path of clearing bytes that were cut; where it finds none, one that `create_new` needs. The status is `STALE`, exactly where the file handle names no
 /// file, else `NOTDIR` where that is no directory, `ACCES` of a bad name and where the caller may not search it; where the name is there `EXIST`, if the file
-/// isn't regular, and with a size `ACCES` and `FBIG`; else as it does of `create_new`. `Inner` comes only where none of these errors does: it clears such
-/// bytes, where the file would grow over them, or makes room as of `create_new`, as `Full` comes. `now` is in seconds and microseconds.
+/// isn't regular, and with a size `ACCES` and `FBIG`; else as it does of `create_new`. `Inner` comes exactly where none of these errors does and
+/// something is wanted first: it clears such bytes, where the file would grow over them, or makes room as of `create_new`, as `Full` comes. `now` is in seconds and microseconds.
 pub fn create<V: View>(
     alloc: Global,
     volume: u64,
@@ -57,7 +57,9 @@ pub fn create<V: View>(
     ensures hints { (hints : Hints) (truth : Truth) (tree : Tree) → IsTruth (V.held view.now) truth → Stands volume areas truth tree → HintsFitAll areas (V.hints view.now) truth
         → HintsFitAll areas hints truth → IfOk result (λ made. HintsFitAll areas hints (with_draft truth made.0)) }
     ensures lacks { (truth : Truth) (tree : Tree) → IsTruth (V.held view.now) truth → Stands volume areas truth tree → HintsFitAll areas (V.hints view.now) truth
-        → IfErr result (ComesFirst (λ status. create_of tree call.now at.now name.now sattr.now now 8 ≡ Err status) (LacksCreate volume areas truth tree at.now name.now sattr.now.size)) }
+        → IfErr result (ComesFirst (λ status. create_of tree call.now at.now name.now sattr.now now 8 ≡ Err status) (PreparesCreate volume areas (V.held view.now) (V.hints view.now) truth tree at.now name.now sattr.now.size)) }
+    ensures ready { (truth : Truth) (tree : Tree) → IsTruth (V.held view.now) truth → Stands volume areas truth tree → HintsFitAll areas (V.hints view.now) truth
+        → IfOk result (λ made. ReadyToCreate volume areas truth tree at.now name.now sattr.now.size) }
     ensures need { IfErr result (NeedsBy areas (V.held view.now) (OnCreate (V.held view.now) (V.hints view.now) volume areas at.now name.now sattr.now.size)) }
     ensures first { IfErr result (HoldsFirst (V.held view.now)) }
     ensures held { IfOk result (λ made. IsHeldDraft (V.held view.now) made.0) }
@@ -96,7 +98,9 @@ fn create_in<V: View>(
         → HintsFitAll areas hints truth → IfOk result (λ made. HintsFitAll areas hints (with_draft truth made.0)) }
     ensures lacks { (truth : Truth) (tree : Tree) → (is : IsSearched volume areas (V.held view.now) (V.hints view.now) truth tree directory.handle directory.inode name.now)
         → IfErr result (ComesFirst (λ status. create_at tree call.now is.directory.at.file name.now sattr.now now 8 (entry_named (names_of is.directory.at.file.body) name.now) ≡ Err status)
-        (LacksIn areas truth directory.inode.tree directory.inode.next (names_of is.directory.at.file.body) name.now sattr.now.size)) }
+        (PreparesIn areas (V.held view.now) (V.hints view.now) truth directory.inode.tree directory.inode.next (names_of is.directory.at.file.body) name.now sattr.now.size)) }
+    ensures ready { (truth : Truth) (tree : Tree) → (is : IsSearched volume areas (V.held view.now) (V.hints view.now) truth tree directory.handle directory.inode name.now)
+        → IfOk result (λ made. ReadyIn areas truth directory.inode.tree directory.inode.next name.now sattr.now.size (entry_named (names_of is.directory.at.file.body) name.now)) }
     ensures need { IfErr result (NeedsBy areas (V.held view.now) (OnNamed areas (V.held view.now) (V.hints view.now) directory.handle directory.inode name.now sattr.now.size)) }
     ensures first { IfErr result (HoldsFirst (V.held view.now)) }
     ensures held { IfOk result (λ made. IsHeldDraft (V.held view.now) made.0) }

@@ -20,7 +20,7 @@ ghost use Rattle.bx_truth.specs.Chunks.{block_at as place_of};
 ghost use Rattle.bx_views.specs.Attempts.{IsHeldDraft};
 ghost use Rattle.bx_views.specs.Truths.{Hints, IsTruth, Truth, with_draft};
 ghost use Rattle.bx_create.specs.Existing.{ComesOver, GivesIn, OnFile, size_alone as size_alone_of};
-ghost use Rattle.bx_create.specs.Lacking.{SizeGrowsOver};
+ghost use Rattle.bx_create.specs.Lacking.{ClearsGiven, ReadyToResize};
 
 use bx_base::Mode;
 use bx_creating::told_of;
@@ -41,8 +41,8 @@ const NOT_GIVEN: u32 = 4294967295;
 ///
 /// `Need` names a block that isn't held: that of the file's inode, exclusively where a size is given, else shared; and where that is held, with a size, one on
 /// the path of clearing bytes that were cut. The status is `STALE`, exactly where there is no such file, else `EXIST` where it isn't regular, and with a size
-/// `ACCES` and `FBIG`. `Inner` clears some of those bytes, only where none of these errors comes and the file would grow over them. `now` is in seconds
-/// and microseconds.
+/// `ACCES` and `FBIG`. `Inner` clears some of those bytes, exactly where none of these errors comes and the file would grow over them. `now` is in
+/// seconds and microseconds.
 pub(crate) fn create_over<V: View>(
     alloc: Global,
     volume: u64,
@@ -58,7 +58,9 @@ pub(crate) fn create_over<V: View>(
     ensures hints { (hints : Hints) (truth : Truth) (tree : Tree) → areas ≤ 64 → IsTruth (V.held view.now) truth → Stands volume areas truth tree → HintsFitAll areas (V.hints view.now) truth
         → HintsFitAll areas hints truth → IfOk result (λ made. HintsFitAll areas hints (with_draft truth made.0)) }
     ensures lacks { (truth : Truth) (tree : Tree) → areas ≤ 64 → IsTruth (V.held view.now) truth → Stands volume areas truth tree → HintsFitAll areas (V.hints view.now) truth
-        → IfErr result (StopsFirst (λ status. create_over_of tree call.now handle sattr.now now ≡ Err status) (SizeGrowsOver areas truth handle sattr.now.size)) }
+        → IfErr result (StopsFirst (λ status. create_over_of tree call.now handle sattr.now now ≡ Err status) (ClearsGiven areas truth handle sattr.now.size)) }
+    ensures ready { (truth : Truth) (tree : Tree) → areas ≤ 64 → IsTruth (V.held view.now) truth → Stands volume areas truth tree → HintsFitAll areas (V.hints view.now) truth
+        → IfOk result (λ made. ReadyToResize areas truth handle sattr.now.size) }
     ensures need { NeedsOn areas (V.held view.now) (OnFile (V.held view.now) (V.hints view.now) areas sattr.now.size handle) result }
     ensures held { IfOk result (λ made. IsHeldDraft (V.held view.now) made.0) }
     ensures first { HoldsInner (V.held view.now) result }
@@ -122,7 +124,9 @@ fn sized_over<V: View>(
     ensures hints { (hints : Hints) (truth : Truth) (tree : Tree) → areas ≤ 64 → IsTruth (V.held view.now) truth → Stands volume areas truth tree → HintsFitAll areas (V.hints view.now) truth
         → HintsFitAll areas hints truth → IfOk result (λ made. HintsFitAll areas hints (with_draft truth made.0)) }
     ensures lacks { (truth : Truth) (tree : Tree) → areas ≤ 64 → IsTruth (V.held view.now) truth → Stands volume areas truth tree → HintsFitAll areas (V.hints view.now) truth
-        → IfErr result (StopsFirst (λ status. create_over_of tree call.now handle sattr.now now ≡ Err status) (SizeGrowsOver areas truth handle sattr.now.size)) }
+        → IfErr result (StopsFirst (λ status. create_over_of tree call.now handle sattr.now now ≡ Err status) (ClearsGiven areas truth handle sattr.now.size)) }
+    ensures ready { (truth : Truth) (tree : Tree) → areas ≤ 64 → IsTruth (V.held view.now) truth → Stands volume areas truth tree → HintsFitAll areas (V.hints view.now) truth
+        → IfOk result (λ made. ReadyToResize areas truth handle sattr.now.size) }
     ensures need { NeedsOn areas (V.held view.now) (OnFile (V.held view.now) (V.hints view.now) areas sattr.now.size handle) result }
     ensures held { IfOk result (λ made. IsHeldDraft (V.held view.now) made.0) }
     ensures first { HoldsInner (V.held view.now) result }
@@ -158,8 +162,12 @@ fn set_over<V: View>(
         → IsInodeOf volume.1 truth tree handle inode → ComesOver volume.0 volume.1 truth tree (create_over_of tree call.now handle sattr.now now) result }
     ensures hints { (hints : Hints) (truth : Truth) (tree : Tree) → volume.1 ≤ 64 → IsTruth (V.held view.now) truth → Stands volume.0 volume.1 truth tree → HintsFitAll volume.1 (V.hints view.now) truth
         → IsInodeOf volume.1 truth tree handle inode → HintsFitAll volume.1 hints truth → IfOk result (λ made. HintsFitAll volume.1 hints (with_draft truth made.0)) }
-    ensures lacks { (truth : Truth) (tree : Tree) → Stands volume.0 volume.1 truth tree → IsInodeOf volume.1 truth tree handle inode
-        → IfErr result (StopsFirst (λ status. create_over_of tree call.now handle sattr.now now ≡ Err status) (SizeGrowsOver volume.1 truth handle sattr.now.size)) }
+    ensures lacks { (truth : Truth) (tree : Tree) → volume.1 ≤ 64 → IsTruth (V.held view.now) truth → Stands volume.0 volume.1 truth tree → HintsFitAll volume.1 (V.hints view.now) truth
+        → IsInodeOf volume.1 truth tree handle inode
+        → IfErr result (StopsFirst (λ status. create_over_of tree call.now handle sattr.now now ≡ Err status) (ClearsGiven volume.1 truth handle sattr.now.size)) }
+    ensures ready { (truth : Truth) (tree : Tree) → volume.1 ≤ 64 → IsTruth (V.held view.now) truth → Stands volume.0 volume.1 truth tree → HintsFitAll volume.1 (V.hints view.now) truth
+        → IsInodeOf volume.1 truth tree handle inode
+        → IfOk result (λ made. ReadyToResize volume.1 truth handle sattr.now.size) }
     ensures need { NeedsOn volume.1 (V.held view.now) (OnClearing (V.held view.now) (V.hints view.now) inode) result }
     ensures held { IsSome (V.held view.now (place_of handle) Exclusive) → IfOk result (λ made. IsHeldDraft (V.held view.now) made.0) }
     ensures first { IsSome (V.held view.now (place_of handle) Exclusive) → HoldsInner (V.held view.now) result }

@@ -1,7 +1,7 @@
 //! MKDIR.
 
 ghost use Rattle.std.specs.Prelude.{◌≡◌, ◌≤◌, ℕ, length, Err, IfErr, IfOk};
-ghost use Rattle.bx_adding.specs.Lacking.{LacksPlace};
+ghost use Rattle.bx_adding.specs.Lacking.{MakesPlace, ReadyToEnter};
 ghost use Rattle.bx_changes.specs.First.{ComesFirst};
 ghost use Rattle.bx_changes.specs.Growing.{HoldsFirst, IsMaking, NeedsBy};
 ghost use Rattle.bx_hints.specs.Fitting.{HintsFitAll};
@@ -30,7 +30,7 @@ use std::alloc::Global;
 /// shared, one on the path of finding room for its entry, one that the new directory's slots want, exclusively, or one on the path of the entry,
 /// exclusively. The status is `STALE`, exactly where the file handle names no file, else `NOTDIR` where that is no directory, `ACCES` of a bad name and
 /// where the caller may not change it, `EXIST` where an entry has the name, and `DQUOT` where it has no number left. `Inner` are blocks that make room for
-/// the entry: they come only where none of these errors does and room is lacking in the directory's tree. `Full` comes behind these, where fewer than 8
+/// the entry: they come exactly where none of these errors does and room is lacking in the directory's tree. `Full` comes behind these, where fewer than 8
 /// blocks are free and one more is wanted. `now` is in seconds and microseconds.
 pub fn mkdir<V: View>(
     alloc: Global,
@@ -50,7 +50,9 @@ pub fn mkdir<V: View>(
     ensures hints { (hints : Hints) (truth : Truth) (tree : Tree) → IsTruth (V.held view.now) truth → Stands volume areas truth tree → HintsFitAll areas (V.hints view.now) truth
         → HintsFitAll areas hints truth → IfOk result (λ made. HintsFitAll areas hints (with_draft truth made.0)) }
     ensures lacks { (truth : Truth) (tree : Tree) → IsTruth (V.held view.now) truth → Stands volume areas truth tree → HintsFitAll areas (V.hints view.now) truth
-        → IfErr result (ComesFirst (λ status. mkdir_of tree call.now at.now name.now sattr.now now 8 ≡ Err status) (LacksPlace volume areas truth at.now name.now)) }
+        → IfErr result (ComesFirst (λ status. mkdir_of tree call.now at.now name.now sattr.now now 8 ≡ Err status) (MakesPlace volume areas (V.held view.now) (V.hints view.now) truth at.now name.now)) }
+    ensures ready { (truth : Truth) (tree : Tree) → IsTruth (V.held view.now) truth → Stands volume areas truth tree → HintsFitAll areas (V.hints view.now) truth
+        → IfOk result (λ made. ReadyToEnter volume areas truth at.now name.now) }
     ensures need { IfErr result (NeedsBy areas (V.held view.now) (OnMaking (V.held view.now) (V.hints view.now) volume areas at.now name.now)) }
     ensures first { IfErr result (HoldsFirst (V.held view.now)) }
     ensures held { IfOk result (λ made. IsHeldDraft (V.held view.now) made.0) }

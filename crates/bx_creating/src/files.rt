@@ -1,7 +1,7 @@
 //! CREATE of a name that isn't there.
 
 ghost use Rattle.std.specs.Prelude.{◌≡◌, ◌≤◌, ℕ, [], length, Err, IfErr, IfOk};
-ghost use Rattle.bx_adding.specs.Lacking.{LacksEither};
+ghost use Rattle.bx_adding.specs.Lacking.{FindsBoth, MakesEither};
 ghost use Rattle.bx_base.specs.declared.names.Mode.TheVariants.{Exclusive};
 ghost use Rattle.bx_blink.specs.Walks.{reads_with};
 ghost use Rattle.bx_changes.specs.First.{ComesFirst};
@@ -37,8 +37,8 @@ const MOST_BYTES: u32 = 2147483647;
 ///
 /// `Need` names a block that isn't held: one on the path of finding room for its entry, one that the file's slots want, exclusively, or one on the path of
 /// the entry, exclusively. The status is `ACCES` where the caller may not change the directory, `FBIG` of a size that no file has, and `DQUOT` where the
-/// directory has no number left. `Inner` are blocks that make room for the entry: they come only where none of these errors does and room is lacking in
-/// the directory's tree. `Full` comes behind these, where fewer than 8 blocks are free and one more is wanted. `now` is in seconds and microseconds.
+/// directory has no number left. `Inner` are blocks that make room for the entry: they come exactly where none of these errors does and room is lacking
+/// in the directory's tree. `Full` comes behind these, where fewer than 8 blocks are free and one more is wanted. `now` is in seconds and microseconds.
 pub fn create_new<V: View>(
     alloc: Global,
     volume: u64,
@@ -57,7 +57,9 @@ pub fn create_new<V: View>(
     ensures hints { (hints : Hints) (truth : Truth) (tree : Tree) → IsWithout volume areas (V.held view.now) (V.hints view.now) truth tree directory.handle directory.inode name.now
         → HintsFitAll areas hints truth → IfOk result (λ made. HintsFitAll areas hints (with_draft truth made.0)) }
     ensures lacks { (truth : Truth) (tree : Tree) → (is : IsWithout volume areas (V.held view.now) (V.hints view.now) truth tree directory.handle directory.inode name.now)
-        → IfErr result (ComesFirst (λ status. create_new_of tree call.now is.directory.at.file name.now sattr.now now 8 ≡ Err status) (LacksEither areas truth directory.inode.tree name.now directory.inode.next)) }
+        → IfErr result (ComesFirst (λ status. create_new_of tree call.now is.directory.at.file name.now sattr.now now 8 ≡ Err status) (MakesEither areas (V.held view.now) (V.hints view.now) truth directory.inode.tree name.now directory.inode.next)) }
+    ensures finds { (truth : Truth) (tree : Tree) → (is : IsWithout volume areas (V.held view.now) (V.hints view.now) truth tree directory.handle directory.inode name.now)
+        → IfOk result (λ made. FindsBoth areas truth directory.inode.tree name.now directory.inode.next) }
     ensures need { IfErr result (NeedsBy areas (V.held view.now) (OnPlacing areas (V.held view.now) (V.hints view.now) directory.handle directory.inode name.now)) }
     ensures first { IfErr result (HoldsFirst (V.held view.now)) }
     ensures held { IfOk result (λ made. IsHeldDraft (V.held view.now) made.0) }

@@ -1,7 +1,7 @@
 //! SYMLINK.
 
 ghost use Rattle.std.specs.Prelude.{◌≡◌, ◌≤◌, ℕ, length, Err, IfErr, IfOk};
-ghost use Rattle.bx_adding.specs.Lacking.{LacksPlace};
+ghost use Rattle.bx_adding.specs.Lacking.{MakesPlace, ReadyToEnter};
 ghost use Rattle.bx_changes.specs.First.{ComesFirst};
 ghost use Rattle.bx_changes.specs.Growing.{HoldsFirst, IsMaking, NeedsBy};
 ghost use Rattle.bx_hints.specs.Fitting.{HintsFitAll};
@@ -47,7 +47,9 @@ pub fn symlink<V: View>(
     ensures hints { (hints : Hints) (truth : Truth) (tree : Tree) → IsTruth (V.held view.now) truth → Stands volume areas truth tree → HintsFitAll areas (V.hints view.now) truth
         → HintsFitAll areas hints truth → IfOk result (λ made. HintsFitAll areas hints (with_draft truth made.0)) }
     ensures lacks { (truth : Truth) (tree : Tree) → IsTruth (V.held view.now) truth → Stands volume areas truth tree → HintsFitAll areas (V.hints view.now) truth
-        → IfErr result (ComesFirst (λ status. symlink_of tree call.now at.now name.now path.now sattr.now now 8 ≡ Err status) (LacksPlace volume areas truth at.now name.now)) }
+        → IfErr result (ComesFirst (λ status. symlink_of tree call.now at.now name.now path.now sattr.now now 8 ≡ Err status) (MakesPlace volume areas (V.held view.now) (V.hints view.now) truth at.now name.now)) }
+    ensures ready { (truth : Truth) (tree : Tree) → IsTruth (V.held view.now) truth → Stands volume areas truth tree → HintsFitAll areas (V.hints view.now) truth
+        → IfOk result (λ made. ReadyToEnter volume areas truth at.now name.now) }
     ensures need { IfErr result (NeedsBy areas (V.held view.now) (OnMaking (V.held view.now) (V.hints view.now) volume areas at.now name.now)) }
     ensures first { IfErr result (HoldsFirst (V.held view.now)) }
     ensures held { IfOk result (λ made. IsHeldDraft (V.held view.now) made.0) }

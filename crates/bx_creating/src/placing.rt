@@ -2,7 +2,7 @@
 
 ghost use Rattle.std.specs.Prelude.{◌≡◌, ◌≤◌, ℕ, length, IfErr, IfOk, IsSome};
 ghost use Rattle.bx_base.specs.declared.names.Mode.TheVariants.{Exclusive};
-ghost use Rattle.bx_adding.specs.Lacking.{IfFirst, LacksEither};
+ghost use Rattle.bx_adding.specs.Lacking.{FindsBoth, IfFirst, MakesEither};
 ghost use Rattle.bx_changes.specs.Growing.{HoldsFirst, NeedsBy};
 ghost use Rattle.bx_entries.specs.Finding.{IsDirectoryOf};
 ghost use Rattle.bx_layout.specs.Inodes.{IsInode};
@@ -53,7 +53,9 @@ pub(crate) fn place_new<V: View>(
     ensures step { (volume : ℕ) (truth : Truth) (tree : Tree) (body : Body) → IsPlaceFor volume areas (V.held view.now) (V.hints view.now) truth tree directory.handle directory.inode name.now → IsNewBody inode body
         → PlacesIn areas truth tree directory.handle name.now now inode body result }
     ensures lacks { (volume : ℕ) (truth : Truth) (tree : Tree) → IsDirectoryOf volume areas (V.held view.now) (V.hints view.now) truth tree directory.handle directory.inode
-        → IfErr result (IfFirst (LacksEither areas truth directory.inode.tree name.now directory.inode.next)) }
+        → IfErr result (IfFirst (MakesEither areas (V.held view.now) (V.hints view.now) truth directory.inode.tree name.now directory.inode.next)) }
+    ensures finds { (volume : ℕ) (truth : Truth) (tree : Tree) → IsDirectoryOf volume areas (V.held view.now) (V.hints view.now) truth tree directory.handle directory.inode
+        → IfOk result (λ made. FindsBoth areas truth directory.inode.tree name.now directory.inode.next) }
     ensures need { IfErr result (NeedsBy areas (V.held view.now) (OnPlacing areas (V.held view.now) (V.hints view.now) directory.handle directory.inode name.now)) }
     ensures first { IfErr result (HoldsFirst (V.held view.now)) }
     ensures held { IsSome (V.held view.now (block_at directory.handle) Exclusive) → IfOk result (λ made. IsHeldDraft (V.held view.now) made.0) }

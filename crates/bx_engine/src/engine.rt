@@ -1,7 +1,7 @@
 //! The engine of a volume.
 
 ghost use Rattle.std.specs.Prelude.{◌≡◌, ◌≤◌, ℕ, List, true, false, IfOk, IfNone, IfSome};
-ghost use Rattle.bx_attempts.specs.First.{IfInner, LacksFirst};
+ghost use Rattle.bx_attempts.specs.First.{IfChange, IfInner, PreparesFirst, ReadyBy};
 ghost use Rattle.bx_base.specs.declared.names.Mode.TheVariants.{Shared};
 ghost use Rattle.bx_chunks.specs.Counting.{free_slots};
 ghost use Rattle.bx_inodes.specs.Stands.{Stands};
@@ -16,7 +16,7 @@ ghost use Rattle.bx_rpc.specs.Message.{is_message};
 ghost use Rattle.bx_views.specs.Attempts.{Gives, IsAnswer, IsFair};
 ghost use Rattle.bx_views.specs.Truths.{IsTruth, Truth};
 ghost use Rattle.bx_engine.specs.Calls.{AsksSpace, IsAboutFile, IsAtOnce, IsAtOnceCall, IsReadCall, IsReading, IsSpaceCall};
-ghost use Rattle.bx_engine.specs.First.{IsFirstCall};
+ghost use Rattle.bx_engine.specs.First.{IsFirstCall, IsReadyCall};
 ghost use Rattle.bx_engine.specs.Outcomes.{ChangesNothing, Comes, ComesSpace, TellsFree, TellsNothing, told_free};
 ghost use Rattle.bx_engine.specs.Paths.{IsOnPath, PathOf, ReadPathOf};
 ghost use Rattle.bx_steps.specs.Steps.{StandsWith, Step};
@@ -68,7 +68,9 @@ impl BoxFs {
 
         // Blocks are to be written first only where the call comes to no error, with 8 blocks free, and room or cleared bytes are lacking.
         ensures lacks { (truth : Truth) (tree : Tree) → IsTruth (V.held view.now) truth → StandsWith self.now.volume self.now.areas truth (V.hints view.now) tree
-            → IfOk result (λ found. IfSome found (IfInner (IsFirstCall self.now.volume self.now.areas truth tree call.now moment))) }
+            → IfOk result (λ found. IfSome found (IfInner (IsFirstCall self.now.volume self.now.areas (V.held view.now) (V.hints view.now) truth tree call.now moment))) }
+        ensures ready { (truth : Truth) (tree : Tree) → IsTruth (V.held view.now) truth → StandsWith self.now.volume self.now.areas truth (V.hints view.now) tree
+            → IfOk result (λ found. IfSome found (IfChange (IsReadyCall self.now.volume self.now.areas truth tree call.now))) }
 
         ensures at_once { IsAtOnceCall call.now → IfOk result (λ found. IfSome found IsAnswer) }
 
@@ -105,7 +107,9 @@ impl BoxFs {
             → StandsWith self.now.volume self.now.areas truth (V.hints view.now) tree → IfOk result (Gives (StandsWith self.now.volume self.now.areas) Step (free_slots self.now.areas truth) client bytes moment truth tree) }
         ensures fair { IfOk result (IsFair self.now.areas (V.held view.now) (PathOf (V.held view.now) (V.hints view.now) self.now.volume self.now.areas call.now.procedure call.now.args)) }
         ensures lacks { (truth : Truth) (tree : Tree) → IsTruth (V.held view.now) truth → StandsWith self.now.volume self.now.areas truth (V.hints view.now) tree
-            → IfOk result (IfInner (LacksFirst self.now.volume self.now.areas truth tree call.now moment)) }
+            → IfOk result (IfInner (PreparesFirst self.now.volume self.now.areas (V.held view.now) (V.hints view.now) truth tree call.now moment)) }
+        ensures ready { (truth : Truth) (tree : Tree) → IsTruth (V.held view.now) truth → StandsWith self.now.volume self.now.areas truth (V.hints view.now) tree
+            → IfOk result (IfChange (ReadyBy self.now.volume self.now.areas truth tree call.now.procedure call.now.args)) }
         ensures at_once { IsAtOnce call.now → IfOk result IsAnswer }
         ensures keeps { IsReading call.now → IfOk result ChangesNothing }
         ensures tells { IsReading call.now → ((at : List ℕ) → AsksSpace call.now at → ⊥) → IfOk result TellsNothing }

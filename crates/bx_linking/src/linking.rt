@@ -1,7 +1,7 @@
 //! LINK.
 
 ghost use Rattle.std.specs.Prelude.{◌≡◌, ◌≤◌, ℕ, length, Err, IfErr, IfOk};
-ghost use Rattle.bx_adding.specs.Lacking.{LacksPlace};
+ghost use Rattle.bx_adding.specs.Lacking.{MakesPlace, ReadyToEnter};
 ghost use Rattle.bx_changes.specs.First.{ComesFirst};
 ghost use Rattle.bx_changes.specs.Growing.{HoldsFirst, IsChangeBy, NeedsBy};
 ghost use Rattle.bx_hints.specs.Fitting.{HintsFitAll};
@@ -30,8 +30,8 @@ use std::alloc::Global;
 /// path of the search for the name, to room for it in the directory's tree, or of the change of that tree. The status is `STALE`, exactly where the first file
 /// handle names no file, else where the second names none, `NOTDIR` where that is no directory, `ACCES` of a bad name and where the caller may not change
 /// it, `PERM` where the file is a directory, `EXIST` where an entry has the name, and `DQUOT` where the file has 32000 names or the directory no
-/// number left. `Inner` are the blocks that make room, which are to be written first: they come only where none of these errors does and room is lacking in
-/// the directory's tree. `Full` comes where fewer than 8 blocks are free and one is wanted for that. `now` is in seconds and microseconds.
+/// number left. `Inner` are the blocks that make room, which are to be written first: they come exactly where none of these errors does and room is lacking
+/// in the directory's tree. `Full` comes where fewer than 8 blocks are free and one is wanted for that. `now` is in seconds and microseconds.
 pub fn link<V: View>(
     alloc: Global,
     volume: u64,
@@ -50,7 +50,9 @@ pub fn link<V: View>(
     ensures hints { (hints : Hints) (truth : Truth) (tree : Tree) → IsTruth (V.held view.now) truth → Stands volume areas truth tree → HintsFitAll areas (V.hints view.now) truth
         → HintsFitAll areas hints truth → IfOk result (λ made. HintsFitAll areas hints (with_draft truth made.0)) }
     ensures lacks { (truth : Truth) (tree : Tree) → IsTruth (V.held view.now) truth → Stands volume areas truth tree → HintsFitAll areas (V.hints view.now) truth
-        → IfErr result (ComesFirst (λ status. link_of tree call.now from.now at.now name.now now 8 ≡ Err status) (LacksPlace volume areas truth at.now name.now)) }
+        → IfErr result (ComesFirst (λ status. link_of tree call.now from.now at.now name.now now 8 ≡ Err status) (MakesPlace volume areas (V.held view.now) (V.hints view.now) truth at.now name.now)) }
+    ensures ready { (truth : Truth) (tree : Tree) → IsTruth (V.held view.now) truth → Stands volume areas truth tree → HintsFitAll areas (V.hints view.now) truth
+        → IfOk result (λ made. ReadyToEnter volume areas truth at.now name.now) }
     ensures need { IfErr result (NeedsBy areas (V.held view.now) (OnLink (V.held view.now) (V.hints view.now) volume areas from.now at.now name.now)) }
     ensures first { IfErr result (HoldsFirst (V.held view.now)) }
     ensures held { IfOk result (λ made. IsHeldDraft (V.held view.now) made.0) }

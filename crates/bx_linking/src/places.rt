@@ -1,7 +1,7 @@
 //! The place of a file's new name: the directory that is named, and the entry in it.
 
 ghost use Rattle.std.specs.Prelude.{◌≡◌, ◌<◌, ◌≤◌, ℕ, [], length, IfErr, IfOk, IsSome};
-ghost use Rattle.bx_adding.specs.Lacking.{IfFirst, LacksPlace};
+ghost use Rattle.bx_adding.specs.Lacking.{IfFirst, MakesPlace, ReadyToEnter};
 ghost use Rattle.bx_adding.specs.Stopping.{NeverFirst};
 ghost use Rattle.bx_base.specs.declared.names.Mode.TheVariants.{Exclusive};
 ghost use Rattle.bx_blink.specs.Walks.{reads_with};
@@ -53,7 +53,9 @@ pub(crate) fn link_into<V: View>(
     ensures step { (truth : Truth) (tree : Tree) → IsTruth (V.held view.now) truth → Stands volume areas truth tree → HintsFitAll areas (V.hints view.now) truth
         → (is : IsInodeOf areas truth tree file.handle file.inode) → ComesBy areas truth (λ spare. linking tree call.now is.file name.now now spare (named_file tree at.now)) result }
     ensures lacks { (truth : Truth) (tree : Tree) → IsTruth (V.held view.now) truth → Stands volume areas truth tree → HintsFitAll areas (V.hints view.now) truth
-        → IsInodeOf areas truth tree file.handle file.inode → IfErr result (IfFirst (LacksPlace volume areas truth at.now name.now)) }
+        → IsInodeOf areas truth tree file.handle file.inode → IfErr result (IfFirst (MakesPlace volume areas (V.held view.now) (V.hints view.now) truth at.now name.now)) }
+    ensures ready { (truth : Truth) (tree : Tree) → IsTruth (V.held view.now) truth → Stands volume areas truth tree → HintsFitAll areas (V.hints view.now) truth
+        → IsInodeOf areas truth tree file.handle file.inode → IfOk result (λ made. ReadyToEnter volume areas truth at.now name.now) }
     ensures need { IfErr result (NeedsBy areas (V.held view.now) (OnInto (V.held view.now) (V.hints view.now) volume areas file.handle at.now name.now)) }
     ensures first { IfErr result (HoldsFirst (V.held view.now)) }
     ensures held { IfOk result (IsHeldDraft (V.held view.now)) }

@@ -1,7 +1,7 @@
 //! Whether a file may have one more name.
 
 ghost use Rattle.std.specs.Prelude.{◌≡◌, ◌<◌, ℕ, None, IfErr, IfOk};
-ghost use Rattle.bx_adding.specs.Lacking.{IfFirst, LacksEither};
+ghost use Rattle.bx_adding.specs.Lacking.{FindsBoth, IfFirst, MakesEither};
 ghost use Rattle.bx_changes.specs.Growing.{HoldsFirst, NeedsBy};
 ghost use Rattle.bx_files.specs.Paths.{OnSearch};
 ghost use Rattle.bx_inodes.specs.Stops.{NeedsOn, NeverInner};
@@ -43,7 +43,9 @@ pub(crate) fn may_link<V: View>(
         → (is : IsLinking volume areas (V.held view.now) (V.hints view.now) truth tree file.now.handle file.now.inode directory.now.handle directory.now.inode)
         → MayLinkIn areas (V.held view.now) truth is.file.file is.at.file directory.now.inode name.now result }
     ensures lacks { (volume : ℕ) (truth : Truth) (tree : Tree) → IsLinking volume areas (V.held view.now) (V.hints view.now) truth tree file.now.handle file.now.inode directory.now.handle directory.now.inode
-        → IfErr result (IfFirst (LacksEither areas truth directory.now.inode.tree name.now directory.now.inode.next)) }
+        → IfErr result (IfFirst (MakesEither areas (V.held view.now) (V.hints view.now) truth directory.now.inode.tree name.now directory.now.inode.next)) }
+    ensures finds { (volume : ℕ) (truth : Truth) (tree : Tree) → IsLinking volume areas (V.held view.now) (V.hints view.now) truth tree file.now.handle file.now.inode directory.now.handle directory.now.inode
+        → IfOk result (λ made. FindsBoth areas truth directory.now.inode.tree name.now directory.now.inode.next) }
     ensures few { IfOk result (λ done. file.now.inode.nlink < 32000) }
     ensures need { IfErr result (NeedsBy areas (V.held view.now) (OnTest areas (V.held view.now) (V.hints view.now) directory.now.inode name.now)) }
     ensures first { IfErr result (HoldsFirst (V.held view.now)) }

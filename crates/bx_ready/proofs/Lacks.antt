@@ -1,6 +1,6 @@
--- Where something is to be written first, the entry isn't ready: it lacks room.
+-- Where something is to be written first, the entry isn't ready, and that makes it so; where nothing is, it is ready.
 use Rattle.std.proofs.Common.{◌≡◌, ℕ, ◌≤◌, true, false, List, [], Option, Some, None, sym, ap, ◌∙◌, subst, arith, inl, inr}
-use Rattle.std.specs.Prelude.{◌⊎◌, ◌+◌, IfOk, IfSome, Result, Ok, Err}
+use Rattle.std.specs.Prelude.{◌⊎◌, ◌+◌, IfOk, IfSome, IfNone, Result, Ok, Err}
 use Rattle.bx_blink.specs.Hints.{Under}
 use Rattle.bx_blink.specs.Walks.{child_of}
 use Rattle.bx_blink.specs.declared.error.BlinkError.{BlinkError}
@@ -12,11 +12,11 @@ use Rattle.bx_records.specs.Drafts.{Changed}
 use Rattle.bx_truth.specs.Chunks.{chunks_of}
 use Rattle.bx_truth.specs.PageTrees.{HasPage, IsIn, Node, PageTree}
 use Rattle.bx_views.specs.Truths.{Held, Hints, Truth, with_draft}
-use Rattle.bx_ready.specs.Lacking.{LacksRoom}
+use Rattle.bx_ready.specs.Lacking.{FindsRoom, MakesRoom}
 use Rattle.bx_ready.specs.Ready.{IsReady, ReadiesIn, SplitsReady}
 use Rattle.bx_ready.specs.Rooms.{HasRoom, SplitsLeaf}
 use Rattle.bx_ready.specs.Separators.{HasSeparators, LacksSeparator, PostsMissing}
-use Rattle.bx_ready.proofs.Places.{one_place}
+use Rattle.bx_ready.proofs.Places.{one_place, ready_in}
 
 some_same : (a b : Block) → Some a ≡ Some b → a ≡ b
 some_same a b e = cc
@@ -57,7 +57,12 @@ module _ (areas : ℕ) (held : Held) (hints : Hints) (truth : Truth) (root : ℕ
   lacking new (inl p) ready = no_separator p.node p.lacks ready.posted
   lacking new (inr s) ready = no_room new s.splits ready.room
 
-  pub lacks : (result : Result (Option (List Changed)) BlinkError) → ReadiesIn areas held hints truth root tree key result → IfOk result (λ found. IfSome found (λ new. LacksRoom areas truth root key))
+  pub lacks : (result : Result (Option (List Changed)) BlinkError) → ReadiesIn areas held hints truth root tree key result → IfOk result (λ found. IfSome found (MakesRoom areas held hints truth root key))
   lacks (Err error) r = tt
   lacks (Ok None) r = tt
-  lacks (Ok (Some new)) r = record { pages = tree; is = u.is; lacks = lacking new r }
+  lacks (Ok (Some new)) r = record { pages = tree; is = u.is; lacks = lacking new r; makes = r }
+
+  pub finds : (result : Result (Option (List Changed)) BlinkError) → ReadiesIn areas held hints truth root tree key result → IfOk result (λ found. IfNone found (FindsRoom areas truth root key))
+  finds (Err error) r = tt
+  finds (Ok (Some new)) r = tt
+  finds (Ok None) r = λ pages is. ready_in (chunks_of areas truth) root tree pages key u.is is r

@@ -1,6 +1,6 @@
 -- A key is in the range of one page of a level.
 use Rattle.std.proofs.Common.{◌≡◌, ℕ, true, false, List, [], ◌∷◌, ◌++◌, sym, ap, ◌∙◌, subst, arith, inl, inr}
-use Rattle.std.specs.Prelude.{IfSome}
+use Rattle.std.specs.Prelude.{◌+◌, ◌-◌, IfSome}
 use Rattle.std.specs.List.{AllByRecursion}
 use Rattle.std.proofs.lemmas.List.{append_assoc}
 use Rattle.bx_blink.specs.Places.{IsPlaceOf}
@@ -11,7 +11,9 @@ use Rattle.bx_page.proofs.Order.{below_trans}
 use Rattle.bx_page.specs.Contents.{Contents}
 use Rattle.bx_page.specs.Keys.{IsBelow, is_below}
 use Rattle.bx_truth.specs.PageTrees.{Chunks, IsChain, IsIn, IsTree, Leads, Node, PageTree}
-use Rattle.bx_truth.proofs.OneTree.{same_levels}
+use Rattle.bx_truth.proofs.OneTree.{same_height, same_levels}
+use Rattle.bx_ready.specs.Ready.{IsReady}
+use Rattle.bx_ready.specs.Separators.{HasSeparators}
 
 -- a key in the range of a page is below where the range of each later one begins
 below_later : (x : Node) (between : List Node) (node : Node) (behind : List Node) (key : List ℕ) → Leads x (between ++ node ∷ behind) → AllByRecursion IsRange (x ∷ (between ++ node ∷ behind))
@@ -47,14 +49,44 @@ module _ (chunks : Chunks) (root : ℕ) where
       let same = one_node (tree.level level) a.node b.node key l.chain ranges a.there b.there (record { from = a.from; to = a.to }) (record { from = b.from; to = b.to }) in
       (sym b.handle_is ∙ ap (λ (n : Node). n.handle) same ∙ a.handle_is, sym b.page_is ∙ ap (λ (n : Node). n.page) same ∙ a.page_is)
 
-  -- a place in one tree is one in each other that the same chunks hold
+  -- What holds in one tree holds in each other that the same chunks hold: where a key is on a level,
+  pub place_on : (tree other : PageTree) (level : ℕ) (key : List ℕ) (handle : ℕ) (page : Contents) → IsTree chunks root tree → IsTree chunks root other → IsPlaceOf tree level key handle page → IsPlaceOf other level key handle page
+  place_on tree other level key handle page is_tree is_other p =
+      let within = p.within in
+      record {
+        node = p.node;
+        within = omega (arith, within, same_height chunks root tree other is_tree is_other);
+        there = subst (IsIn p.node) (same_levels chunks root tree other is_tree is_other (tree.height - level) level (omega (arith, within))) p.there;
+        handle_is = p.handle_is;
+        page_is = p.page_is;
+        from = p.from;
+        to = p.to;
+      }
+
   pub place_in : (tree other : PageTree) (key : List ℕ) (handle : ℕ) (page : Contents) → IsTree chunks root tree → IsTree chunks root other → IsPlaceOf tree 0 key handle page → IsPlaceOf other 0 key handle page
-  place_in tree other key handle page is_tree is_other p = record {
-    node = p.node;
-    within = omega arith;
-    there = subst (IsIn p.node) (same_levels chunks root tree other is_tree is_other tree.height 0 (omega arith)) p.there;
-    handle_is = p.handle_is;
-    page_is = p.page_is;
-    from = p.from;
-    to = p.to;
-  }
+  place_in tree other key handle page is_tree is_other p = place_on tree other 0 key handle page is_tree is_other p
+
+  -- that no separator above it is missing,
+  has_in : (tree other : PageTree) (key : List ℕ) → IsTree chunks root tree → IsTree chunks root other → HasSeparators tree key → HasSeparators other key
+  has_in tree other key is_tree is_other has = λ level below.
+      let s = has level (omega (arith, below, same_height chunks root tree other is_tree is_other)) in
+      record {
+        handle = s.handle;
+        page = s.page;
+        named = record {
+          parent = s.named.parent;
+          page = s.named.page;
+          above = place_on tree other (level + 1) key s.named.parent s.named.page is_tree is_other s.named.above;
+          names = s.named.names;
+        };
+        place = place_on tree other level key s.handle s.page is_tree is_other s.place;
+      }
+
+  -- and that an entry finds room there.
+  pub ready_in : (tree other : PageTree) (key : List ℕ) → IsTree chunks root tree → IsTree chunks root other → IsReady tree key → IsReady other key
+  ready_in tree other key is_tree is_other ready =
+      let r = ready.room in
+      record {
+        posted = has_in tree other key is_tree is_other ready.posted;
+        room = record { handle = r.handle; page = r.page; place = place_in tree other key r.handle r.page is_tree is_other r.place; room = r.room };
+      }

@@ -1,6 +1,6 @@
 //! The one answer of what is to be written first.
 
-ghost use Rattle.std.specs.Prelude.{[], IfOk, IfSome};
+ghost use Rattle.std.specs.Prelude.{[], IfOk, IfSome, IfNone};
 ghost use Rattle.bx_blink.specs.Hints.{Under};
 ghost use Rattle.bx_file_laws.specs.Keeping.{KeepsFiles};
 ghost use Rattle.bx_leaves.specs.Changes.{NeedsUnheld};
@@ -8,7 +8,7 @@ ghost use Rattle.bx_model.specs.declared.tree.Tree.{Tree};
 ghost use Rattle.bx_truth.specs.PageTrees.{PageTree};
 ghost use Rattle.bx_views.specs.Attempts.{IsHeldDraft};
 ghost use Rattle.bx_views.specs.Truths.{Truth};
-ghost use Rattle.bx_ready.specs.Lacking.{LacksRoom};
+ghost use Rattle.bx_ready.specs.Lacking.{FindsRoom, MakesRoom};
 ghost use Rattle.bx_ready.specs.Ready.{IsFileUnder, OnReadyPath, ReadiesIn};
 
 use crate::rooms::split_for;
@@ -32,7 +32,8 @@ pub fn ready<V: View>(
     areas: u16,
 ) -> Result<Option<Draft>, BlinkError>
     ensures map { (truth : Truth) (tree : PageTree) → Under areas (V.held view.now) (V.hints view.now) truth [] root tree → ReadiesIn areas (V.held view.now) (V.hints view.now) truth root tree key.now result }
-    ensures lacks { (truth : Truth) (tree : PageTree) → Under areas (V.held view.now) (V.hints view.now) truth [] root tree → IfOk result (λ found. IfSome found (λ new. LacksRoom areas truth root key.now)) }
+    ensures lacks { (truth : Truth) (tree : PageTree) → Under areas (V.held view.now) (V.hints view.now) truth [] root tree → IfOk result (λ found. IfSome found (MakesRoom areas (V.held view.now) (V.hints view.now) truth root key.now)) }
+    ensures finds { (truth : Truth) (tree : PageTree) → Under areas (V.held view.now) (V.hints view.now) truth [] root tree → IfOk result (λ found. IfNone found (FindsRoom areas truth root key.now)) }
     ensures files { (truth : Truth) (tree : Tree) → IsFileUnder areas (V.held view.now) (V.hints view.now) truth root tree → IfOk result (λ found. IfSome found (λ new. KeepsFiles areas truth [] new tree)) }
     ensures fair { NeedsUnheld (V.held view.now) (OnReadyPath areas (V.held view.now) (V.hints view.now) root key.now) result }
     ensures held { IfOk result (λ found. IfSome found (IsHeldDraft (V.held view.now))) }

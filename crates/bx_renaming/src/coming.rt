@@ -1,7 +1,7 @@
 //! Moves that have been tested, into directories with room for them.
 
 ghost use Rattle.std.specs.Prelude.{◌≡◌, ◌==◌, ◌&&◌, ◌<◌, ◌≤◌, ℕ, not, length, IfErr, IfOk, IfSome};
-ghost use Rattle.bx_adding.specs.Lacking.{IfFirst, LacksEither};
+ghost use Rattle.bx_adding.specs.Lacking.{FindsBoth, IfFirst, MakesEither};
 ghost use Rattle.bx_changes.specs.Growing.{HoldsFirst, NeedsBy};
 ghost use Rattle.bx_handles.specs.Handles.{parts_of};
 ghost use Rattle.bx_linking.specs.Drafting.{ComesBy};
@@ -47,7 +47,9 @@ pub(crate) fn move_in<V: View>(
         → (passed : IsPassed tree are.source.file are.target.file moving name.now new_name.now replaced)
         → ComesBy areas truth (coming_in tree are.source.file name.now are.target.file new_name.now passed.moved (other_file tree are.source.file are.target.file moving name.now new_name.now replaced passed) now) result }
     ensures lacks { (volume : ℕ) (truth : Truth) (tree : Tree) → AreDirectories volume areas (V.held view.now) (V.hints view.now) truth tree places.now
-        → IfErr result (IfFirst (LacksEither areas truth places.now.target.inode.tree new_name.now places.now.target.inode.next)) }
+        → IfErr result (IfFirst (MakesEither areas (V.held view.now) (V.hints view.now) truth places.now.target.inode.tree new_name.now places.now.target.inode.next)) }
+    ensures finds { (volume : ℕ) (truth : Truth) (tree : Tree) → AreDirectories volume areas (V.held view.now) (V.hints view.now) truth tree places.now
+        → IfOk result (λ made. FindsBoth areas truth places.now.target.inode.tree new_name.now places.now.target.inode.next) }
     ensures need { IfErr result (NeedsBy areas (V.held view.now) (OnMove (V.held view.now) (V.hints view.now) areas places.now.target.inode moving name.now new_name.now replaced)) }
     ensures first { IfErr result (HoldsFirst (V.held view.now)) }
     ensures held { IfOk result (IsHeldDraft (V.held view.now)) }

@@ -1,7 +1,7 @@
 //! Moves to a name, by what has it.
 
 ghost use Rattle.std.specs.Prelude.{◌≡◌, ◌<◌, ◌≤◌, ◌≢◌, ℕ, None, Some, length, IfErr, IfOk};
-ghost use Rattle.bx_adding.specs.Lacking.{IfFirst, LacksEither};
+ghost use Rattle.bx_adding.specs.Lacking.{FindsBoth, IfFirst, MakesEither};
 ghost use Rattle.bx_changes.specs.Growing.{HoldsFirst, NeedsBy};
 ghost use Rattle.bx_handles.specs.Handles.{parts_of};
 ghost use Rattle.bx_linking.specs.Drafting.{ComesBy};
@@ -12,7 +12,7 @@ ghost use Rattle.bx_tree_files.specs.Names.{names_of};
 ghost use Rattle.bx_views.specs.Attempts.{IsHeldDraft};
 ghost use Rattle.bx_views.specs.Truths.{Truth};
 ghost use Rattle.bx_renaming.specs.Found.{IsMoved};
-ghost use Rattle.bx_renaming.specs.Lacking.{LacksRoomFor};
+ghost use Rattle.bx_renaming.specs.Lacking.{MakesRoomFor, ReadyFor};
 ghost use Rattle.bx_renaming.specs.Path.{OnOnto, OnReplacing, OnTested};
 ghost use Rattle.bx_renaming.specs.Renaming.{AreDirectories, moving_onto, moving_so};
 
@@ -49,7 +49,10 @@ pub(crate) fn move_onto<V: View>(
         → ComesBy areas truth (λ spare. moving_onto tree are.source.file name.now are.target.file new_name.now is.at.file now spare (file_of_entry tree (entry_named (names_of are.target.file.body) new_name.now))) result }
     ensures lacks { (volume : ℕ) (truth : Truth) (tree : Tree) → (are : AreDirectories volume areas (V.held view.now) (V.hints view.now) truth tree places.now)
         → IsMoved areas truth tree (names_of are.source.file.body) name.now number moved.now
-        → IfErr result (IfFirst (LacksRoomFor areas truth places.now.target.inode.tree places.now.target.inode.next (names_of are.source.file.body) name.now (names_of are.target.file.body) new_name.now)) }
+        → IfErr result (IfFirst (MakesRoomFor areas (V.held view.now) (V.hints view.now) truth places.now.target.inode.tree places.now.target.inode.next (names_of are.source.file.body) name.now (names_of are.target.file.body) new_name.now)) }
+    ensures ready { (volume : ℕ) (truth : Truth) (tree : Tree) → (are : AreDirectories volume areas (V.held view.now) (V.hints view.now) truth tree places.now)
+        → IsMoved areas truth tree (names_of are.source.file.body) name.now number moved.now
+        → IfOk result (λ made. ReadyFor areas truth places.now.target.inode.tree places.now.target.inode.next (names_of are.source.file.body) name.now (names_of are.target.file.body) new_name.now) }
     ensures need { IfErr result (NeedsBy areas (V.held view.now) (OnOnto (V.held view.now) (V.hints view.now) areas places.now.source.handle places.now.target.handle places.now.target.inode name.now new_name.now)) }
     ensures first { IfErr result (HoldsFirst (V.held view.now)) }
     ensures held { IfOk result (IsHeldDraft (V.held view.now)) }
@@ -87,7 +90,9 @@ fn move_free<V: View>(
         → (is : IsMoved areas truth tree (names_of are.source.file.body) name.now number moved.now) → entry_named (names_of are.target.file.body) new_name.now ≡ None
         → ComesBy areas truth (moving_so tree are.source.file name.now are.target.file new_name.now is.at.file None now) result }
     ensures lacks { (volume : ℕ) (truth : Truth) (tree : Tree) → AreDirectories volume areas (V.held view.now) (V.hints view.now) truth tree places.now
-        → IfErr result (IfFirst (LacksEither areas truth places.now.target.inode.tree new_name.now places.now.target.inode.next)) }
+        → IfErr result (IfFirst (MakesEither areas (V.held view.now) (V.hints view.now) truth places.now.target.inode.tree new_name.now places.now.target.inode.next)) }
+    ensures finds { (volume : ℕ) (truth : Truth) (tree : Tree) → AreDirectories volume areas (V.held view.now) (V.hints view.now) truth tree places.now
+        → IfOk result (λ made. FindsBoth areas truth places.now.target.inode.tree new_name.now places.now.target.inode.next) }
     ensures need { IfErr result (NeedsBy areas (V.held view.now) (OnTested (V.held view.now) (V.hints view.now) areas places.now.source.handle places.now.target.handle places.now.target.inode name.now new_name.now)) }
     ensures first { IfErr result (HoldsFirst (V.held view.now)) }
     ensures held { IfOk result (IsHeldDraft (V.held view.now)) }
@@ -128,7 +133,9 @@ fn move_over<V: View>(
         → (is : IsMoved areas truth tree (names_of are.source.file.body) name.now number moved.now) → (had : IsMoved areas truth tree (names_of are.target.file.body) new_name.now second other.now)
         → other.now.handle ≢ moved.now.handle → ComesBy areas truth (moving_so tree are.source.file name.now are.target.file new_name.now is.at.file (Some had.at.file) now) result }
     ensures lacks { (volume : ℕ) (truth : Truth) (tree : Tree) → AreDirectories volume areas (V.held view.now) (V.hints view.now) truth tree places.now
-        → IfErr result (IfFirst (LacksEither areas truth places.now.target.inode.tree new_name.now places.now.target.inode.next)) }
+        → IfErr result (IfFirst (MakesEither areas (V.held view.now) (V.hints view.now) truth places.now.target.inode.tree new_name.now places.now.target.inode.next)) }
+    ensures finds { (volume : ℕ) (truth : Truth) (tree : Tree) → AreDirectories volume areas (V.held view.now) (V.hints view.now) truth tree places.now
+        → IfOk result (λ made. FindsBoth areas truth places.now.target.inode.tree new_name.now places.now.target.inode.next) }
     ensures need { IfErr result (NeedsBy areas (V.held view.now) (OnReplacing (V.held view.now) (V.hints view.now) areas places.now.source.handle places.now.target.handle places.now.target.inode other.now.inode.tree name.now new_name.now)) }
     ensures first { IfErr result (HoldsFirst (V.held view.now)) }
     ensures held { IfOk result (IsHeldDraft (V.held view.now)) }

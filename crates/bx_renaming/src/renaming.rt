@@ -13,7 +13,7 @@ ghost use Rattle.bx_model.specs.Renaming.{rename as rename_of};
 ghost use Rattle.bx_tree_files.specs.Names.{names_of};
 ghost use Rattle.bx_views.specs.Attempts.{IsHeldDraft};
 ghost use Rattle.bx_views.specs.Truths.{Hints, IsTruth, Truth, with_draft};
-ghost use Rattle.bx_renaming.specs.Lacking.{LacksMove, LacksRoomFor};
+ghost use Rattle.bx_renaming.specs.Lacking.{MakesRoomFor, PreparesMove, ReadyFor, ReadyToMove};
 ghost use Rattle.bx_renaming.specs.Path.{OnPlaces, OnRename};
 ghost use Rattle.bx_renaming.specs.Renaming.{AreDirectories};
 
@@ -35,8 +35,8 @@ use std::alloc::Global;
 /// file, `NOTDIR` where a file handle names no directory, `ACCES` of a bad name and where the caller may not change a directory, `NOENT` where no entry
 /// has the name, `PERM` where a directory would come below itself, `NAMETOOLONG` where 512 moves to a parent don't lead from the second directory to
 /// the root, `NOTDIR` of a directory in the place of another file, `ISDIR` of a file in that of a directory, `NOTEMPTY` where that has entries, and
-/// `DQUOT` where the second directory has no number left. `Inner` are the blocks that make room, which are to be written first: they come only where none
-/// of these errors does, the two names aren't one file, and room for the new one is lacking in the second directory's tree. `Full` comes where fewer than 8
+/// `DQUOT` where the second directory has no number left. `Inner` are the blocks that make room, which are to be written first: they come exactly where
+/// none of these errors does, the two names aren't one file, and room for the new one is lacking in the second directory's tree. `Full` comes where fewer than 8
 /// blocks are free and one is wanted for that. `now` is in seconds and microseconds.
 pub fn rename<V: View>(
     alloc: Global,
@@ -57,7 +57,9 @@ pub fn rename<V: View>(
     ensures hints { (hints : Hints) (truth : Truth) (tree : Tree) → IsTruth (V.held view.now) truth → Stands volume areas truth tree → HintsFitAll areas (V.hints view.now) truth
         → HintsFitAll areas hints truth → IfOk result (λ made. HintsFitAll areas hints (with_draft truth made.0)) }
     ensures lacks { (truth : Truth) (tree : Tree) → IsTruth (V.held view.now) truth → Stands volume areas truth tree → HintsFitAll areas (V.hints view.now) truth
-        → IfErr result (ComesFirst (λ status. rename_of tree call.now from.now name.now to.now new_name.now now 8 ≡ Err status) (LacksMove volume areas truth tree from.now name.now to.now new_name.now)) }
+        → IfErr result (ComesFirst (λ status. rename_of tree call.now from.now name.now to.now new_name.now now 8 ≡ Err status) (PreparesMove volume areas (V.held view.now) (V.hints view.now) truth tree from.now name.now to.now new_name.now)) }
+    ensures ready { (truth : Truth) (tree : Tree) → IsTruth (V.held view.now) truth → Stands volume areas truth tree → HintsFitAll areas (V.hints view.now) truth
+        → IfOk result (λ made. ReadyToMove volume areas truth tree from.now name.now to.now new_name.now) }
     ensures need { IfErr result (NeedsBy areas (V.held view.now) (OnRename (V.held view.now) (V.hints view.now) volume areas from.now name.now to.now new_name.now)) }
     ensures first { IfErr result (HoldsFirst (V.held view.now)) }
     ensures held { IfOk result (λ made. IsHeldDraft (V.held view.now) made.0) }
@@ -85,7 +87,9 @@ fn move_between<V: View>(
     ensures step { (volume : ℕ) (truth : Truth) (tree : Tree) → (are : AreDirectories volume areas (V.held view.now) (V.hints view.now) truth tree places.now)
         → ComesBy areas truth (between_of tree are.source.file name.now are.target.file new_name.now now) result }
     ensures lacks { (volume : ℕ) (truth : Truth) (tree : Tree) → (are : AreDirectories volume areas (V.held view.now) (V.hints view.now) truth tree places.now)
-        → IfErr result (IfFirst (LacksRoomFor areas truth places.now.target.inode.tree places.now.target.inode.next (names_of are.source.file.body) name.now (names_of are.target.file.body) new_name.now)) }
+        → IfErr result (IfFirst (MakesRoomFor areas (V.held view.now) (V.hints view.now) truth places.now.target.inode.tree places.now.target.inode.next (names_of are.source.file.body) name.now (names_of are.target.file.body) new_name.now)) }
+    ensures ready { (volume : ℕ) (truth : Truth) (tree : Tree) → (are : AreDirectories volume areas (V.held view.now) (V.hints view.now) truth tree places.now)
+        → IfOk result (λ made. ReadyFor areas truth places.now.target.inode.tree places.now.target.inode.next (names_of are.source.file.body) name.now (names_of are.target.file.body) new_name.now) }
     ensures need { IfErr result (NeedsBy areas (V.held view.now) (OnPlaces (V.held view.now) (V.hints view.now) areas places.now.source.handle places.now.target.handle places.now.source.inode places.now.target.inode name.now new_name.now)) }
     ensures first { IfErr result (HoldsFirst (V.held view.now)) }
     ensures held { IfOk result (IsHeldDraft (V.held view.now)) }

@@ -39,8 +39,7 @@ use Rattle.bx_views.specs.Truths.{Held, Hints, Truth, with_draft}
 use Rattle.bx_sizes.specs.Answers.{IsChangeOr, PutsFile, SetsSize}
 use Rattle.bx_sizes.proofs.First.{first_wider}
 use Rattle.bx_sizes.specs.Clearing.{OnClearing}
-use Rattle.bx_sizes.specs.Cuts.{GivenGrowsOver}
-use Rattle.bx_sizes.specs.Lengths.{grows_over}
+use Rattle.bx_sizes.specs.Cuts.{ClearsFirst, PreparesSetting}
 use Rattle.bx_sizes.specs.Setting.{OnSetting}
 
 -- ---- other relations of the same answers
@@ -108,14 +107,14 @@ module _ (volume areas : ℕ) (truth : Truth) (tree : Tree) (bytes : List ℕ) (
   is_set : false ≡ is_forbidden call (head_of handle inode) sattr → resize_errors call (head_of handle inode) sattr.size ≡ Ok tt → setattr tree call bytes sattr now ≡ done
   is_set test fine = by_inode ∙ (λ i. rest (sym test i) (fine i))
 
-  -- the file grows over bytes first only where there is no error
+  -- bytes are cleared first only where there is no error
   pub set_first : false ≡ is_forbidden call (head_of handle inode) sattr → resize_errors call (head_of handle inode) sattr.size ≡ Ok tt → is_given sattr.size ≡ true → (stop : Stop)
-      → StopsFirst (λ status. ⊥) (grows_over inode sattr.size ≡ true) stop
-      → StopsFirst (λ status. setattr tree call bytes sattr now ≡ Err status) (GivenGrowsOver volume areas truth bytes sattr.size) stop
+      → StopsFirst (λ status. ⊥) (ClearsFirst areas truth handle sattr.size) stop
+      → StopsFirst (λ status. setattr tree call bytes sattr now ≡ Err status) (PreparesSetting volume areas truth bytes sattr.size) stop
   set_first test fine given stop first =
-      first_wider (λ status. ⊥) (λ status. setattr tree call bytes sattr now ≡ Err status) (grows_over inode sattr.size ≡ true) (GivenGrowsOver volume areas truth bytes sattr.size)
+      first_wider (λ status. ⊥) (λ status. setattr tree call bytes sattr now ≡ Err status) (ClearsFirst areas truth handle sattr.size) (PreparesSetting volume areas truth bytes sattr.size)
       (λ status error. no_error (attributes_reply tree (with_fields now sattr f.file)) (changed tree f.file.handle (with_fields now sattr)) status (sym (is_set test fine) ∙ error))
-      (λ over. record { given = given; handle = handle; is_named = is; grows = record { inode = inode; holds = f.holds; over = over } }) stop first
+      (λ new clears. record { given = given; handle = handle; is_named = is; clears = clears }) stop first
 
   pub change : (draft : List Changed) (made : Inode) (words : List ℕ) → false ≡ is_forbidden call (head_of handle inode) sattr → resize_errors call (head_of handle inode) sattr.size ≡ Ok tt
       → PutsFile areas truth tree (with_fields now sattr f.file) draft made

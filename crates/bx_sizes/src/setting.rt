@@ -18,7 +18,7 @@ ghost use Rattle.bx_views.specs.Truths.{Hints, IsTruth, Truth, with_draft};
 ghost use Rattle.bx_changes.specs.First.{StopsFirst};
 ghost use Rattle.bx_sizes.specs.Answers.{HoldsInner, IsChangeOr};
 ghost use Rattle.bx_sizes.specs.Clearing.{OnClearing};
-ghost use Rattle.bx_sizes.specs.Cuts.{GivenGrowsOver, LowersFirst};
+ghost use Rattle.bx_sizes.specs.Cuts.{PreparesSetting, ReadyToSet};
 ghost use Rattle.bx_sizes.specs.Setting.{OnSetting};
 
 use crate::sizes::{set_size, size_error};
@@ -34,7 +34,7 @@ use bx_tree_files::is_given;
 use bx_views::View;
 use std::alloc::Global;
 
-/// SETATTR (RFC 1094, section 2.2.3): the blocks that it changes, and the attributes then. New bytes are zeros; only where no error comes and the file
+/// SETATTR (RFC 1094, section 2.2.3): the blocks that it changes, and the attributes then. New bytes are zeros; exactly where no error comes and the file
 /// would grow over bytes that were cut and aren't cleared, `Inner` clears some of them first, and lowers the tail that tells how far they reach.
 ///
 /// `Need` names a block that isn't held: the file's inode, exclusively; and where that is held, one on the path of such clearing. The
@@ -58,9 +58,9 @@ pub fn setattr<V: View>(
     ensures held { IfOk result (λ made. IsHeldDraft (V.held view.now) made.0) }
     ensures first { HoldsInner (V.held view.now) result }
     ensures lacks { (truth : Truth) (tree : Tree) → areas ≤ 64 → IsTruth (V.held view.now) truth → Stands volume areas truth tree → HintsFitAll areas (V.hints view.now) truth
-        → IfErr result (StopsFirst (λ status. setattr_of tree call.now at.now sattr.now now ≡ Err status) (GivenGrowsOver volume areas truth at.now sattr.now.size)) }
-    ensures lowers { (truth : Truth) (tree : Tree) (handle : ℕ) (inode : Kept) → areas ≤ 64 → IsTruth (V.held view.now) truth → Stands volume areas truth tree → HintsFitAll areas (V.hints view.now) truth
-        → named volume at.now ≡ Some handle → HoldsInode areas truth handle inode → IfErr result (LowersFirst areas truth handle inode) }
+        → IfErr result (StopsFirst (λ status. setattr_of tree call.now at.now sattr.now now ≡ Err status) (PreparesSetting volume areas truth at.now sattr.now.size)) }
+    ensures ready { (truth : Truth) (tree : Tree) → areas ≤ 64 → IsTruth (V.held view.now) truth → Stands volume areas truth tree → HintsFitAll areas (V.hints view.now) truth
+        → IfOk result (λ made. ReadyToSet volume areas truth at.now sattr.now.size) }
 {
     if !is_given(sattr.size) {
         return set_attributes(alloc, volume, areas, call, at, sattr, now, view);
@@ -105,10 +105,12 @@ fn set_all<V: View>(
     ensures need { NeedsOn volume.1 (V.held view.now) (OnClearing (V.held view.now) (V.hints view.now) inode) result }
     ensures held { IsSome (V.held view.now (place_of handle) Exclusive) → IfOk result (λ made. IsHeldDraft (V.held view.now) made.0) }
     ensures first { IsSome (V.held view.now (place_of handle) Exclusive) → HoldsInner (V.held view.now) result }
-    ensures lacks { (truth : Truth) (tree : Tree) (bytes : List ℕ) → Stands volume.0 volume.1 truth tree → IsInodeOf volume.1 truth tree handle inode → named volume.0 bytes ≡ Some handle
-        → IfErr result (StopsFirst (λ status. setattr_of tree call.now bytes sattr.now now ≡ Err status) (GivenGrowsOver volume.0 volume.1 truth bytes sattr.now.size)) }
-    ensures lowers { (truth : Truth) (tree : Tree) → volume.1 ≤ 64 → IsTruth (V.held view.now) truth → Stands volume.0 volume.1 truth tree → HintsFitAll volume.1 (V.hints view.now) truth
-        → IsInodeOf volume.1 truth tree handle inode → IfErr result (LowersFirst volume.1 truth handle inode) }
+    ensures lacks { (truth : Truth) (tree : Tree) (bytes : List ℕ) → volume.1 ≤ 64 → IsTruth (V.held view.now) truth → Stands volume.0 volume.1 truth tree → HintsFitAll volume.1 (V.hints view.now) truth
+        → IsInodeOf volume.1 truth tree handle inode → named volume.0 bytes ≡ Some handle
+        → IfErr result (StopsFirst (λ status. setattr_of tree call.now bytes sattr.now now ≡ Err status) (PreparesSetting volume.0 volume.1 truth bytes sattr.now.size)) }
+    ensures ready { (truth : Truth) (tree : Tree) (bytes : List ℕ) → volume.1 ≤ 64 → IsTruth (V.held view.now) truth → Stands volume.0 volume.1 truth tree → HintsFitAll volume.1 (V.hints view.now) truth
+        → IsInodeOf volume.1 truth tree handle inode → named volume.0 bytes ≡ Some handle
+        → IfOk result (λ made. ReadyToSet volume.0 volume.1 truth bytes sattr.now.size) }
 {
     if is_forbidden(alloc, call, handle, &inode, sattr)? {
         return Err(Stop::Status(PERM));

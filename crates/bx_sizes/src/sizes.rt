@@ -1,6 +1,6 @@
 //! The size of a regular file, set.
 
-ghost use Rattle.std.specs.Prelude.{◌≡◌, ◌≤◌, ◌<◌, ℕ, true, List, IfOk, IfErr, IsSome, MatchOption, Ok, Err, Some};
+ghost use Rattle.std.specs.Prelude.{◌≡◌, ◌≤◌, ◌<◌, ℕ, true, List, IfOk, IfErr, IsSome, MatchOption, Ok, Err, Some, false};
 ghost use Rattle.bx_base.specs.declared.names.Mode.TheVariants.{Exclusive};
 ghost use Rattle.bx_hints.specs.Fitting.{HintsFitAll};
 ghost use Rattle.bx_inodes.specs.Heads.{head_of as head_by};
@@ -21,7 +21,7 @@ ghost use Rattle.bx_changes.specs.First.{StopsFirst};
 ghost use Rattle.bx_changes.specs.Given.{with_given as with_those_given};
 ghost use Rattle.bx_sizes.specs.Answers.{HoldsInner, SetsSize};
 ghost use Rattle.bx_sizes.specs.Clearing.{OnClearing};
-ghost use Rattle.bx_sizes.specs.Cuts.{LowersFirst};
+ghost use Rattle.bx_sizes.specs.Cuts.{ClearsFirst};
 ghost use Rattle.bx_sizes.specs.Lengths.{grows_over as grows_over_to, with_length};
 
 use crate::clearing::clear;
@@ -39,7 +39,7 @@ use std::alloc::Global;
 const MOST_BYTES: u32 = 2147483647;
 
 /// Sets the size of the regular file with a handle, by its inode, and what else is given: the block that it changes, and the inode then.
-/// New bytes are zeros. Cut bytes stay in their pieces, behind the end, and the tail tells how far; only where the file would grow over them,
+/// New bytes are zeros. Cut bytes stay in their pieces, behind the end, and the tail tells how far; exactly where the file would grow over them,
 /// `Inner` clears some of them first, and the tail falls. `now` is in seconds and microseconds.
 ///
 /// `Need` names a block of the volume that isn't held, on the path of such clearing.
@@ -62,10 +62,10 @@ pub fn set_size<V: View>(
     ensures need { NeedsOn areas (V.held view.now) (OnClearing (V.held view.now) (V.hints view.now) inode) result }
     ensures held { IsSome (V.held view.now (place_of handle) Exclusive) → IfOk result (λ made. IsHeldDraft (V.held view.now) made.0) }
     ensures first { IsSome (V.held view.now (place_of handle) Exclusive) → HoldsInner (V.held view.now) result }
-    ensures lacks { IfErr result (StopsFirst (λ status. ⊥) (grows_over_to inode sattr.now.size ≡ true)) }
-    ensures lowers { (truth : Truth) (tree : Tree) (file : File) → areas ≤ 64 → IsTruth (V.held view.now) truth → StandsFor areas truth tree
+    ensures lacks { (truth : Truth) (tree : Tree) (file : File) → areas ≤ 64 → IsTruth (V.held view.now) truth → StandsFor areas truth tree
         → HintsFitAll areas (V.hints view.now) truth → HoldsInode areas truth handle inode → file_at tree.files handle ≡ Some file
-        → IfErr result (LowersFirst areas truth handle inode) }
+        → IfErr result (StopsFirst (λ status. ⊥) (ClearsFirst areas truth handle sattr.now.size)) }
+    ensures ready { IfOk result (λ made. grows_over_to inode sattr.now.size ≡ false) }
 {
     let size = u64::from(sattr.size);
     if grows_over(&inode, size) {

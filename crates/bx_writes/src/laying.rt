@@ -11,7 +11,7 @@ ghost use Rattle.bx_truth.specs.Chunks.{block_at as place_of};
 ghost use Rattle.bx_views.specs.Attempts.{IsHeldDraft};
 ghost use Rattle.bx_views.specs.Truths.{Truth};
 ghost use Rattle.bx_adding.specs.Lacking.{IfFirst};
-ghost use Rattle.bx_writes.specs.Lacking.{LacksEntries};
+ghost use Rattle.bx_writes.specs.Lacking.{FindEntries, MakesEntries};
 ghost use Rattle.bx_writes.specs.Laying.{GrowsTo, InodeAlone, LaysIn, pieces_of};
 ghost use Rattle.bx_writes.specs.Paths.{OnWrittenPieces};
 ghost use Rattle.bx_writes.specs.Steps.{IsRegularOf};
@@ -50,7 +50,9 @@ pub(crate) fn lay<V: View>(
         → (r : IsRegularOf volume areas (V.held view.now) (V.hints view.now) truth tree handle old) → GrowsTo r.at.file old inode.now file base → (0 < length written.now → 4096 * place.0 + place.1 + length written.now ≤ inode.now.size)
         → LaysIn areas (V.held view.now) truth tree handle file r.stands.is inode.now base place written.now result }
     ensures lacks { (volume : ℕ) (truth : Truth) (tree : Tree) (old : Kept) → IsRegularOf volume areas (V.held view.now) (V.hints view.now) truth tree handle old → old.tree ≡ inode.now.tree
-        → IfErr result (IfFirst (LacksEntries areas truth inode.now.tree place.0 (place.0 + pieces_of place.1 written.now))) }
+        → IfErr result (IfFirst (MakesEntries areas (V.held view.now) (V.hints view.now) truth inode.now.tree place.0 (place.0 + pieces_of place.1 written.now))) }
+    ensures finds { (volume : ℕ) (truth : Truth) (tree : Tree) (old : Kept) → IsRegularOf volume areas (V.held view.now) (V.hints view.now) truth tree handle old → old.tree ≡ inode.now.tree
+        → IfOk result (λ made. FindEntries areas truth inode.now.tree place.0 (place.0 + pieces_of place.1 written.now)) }
     ensures need { IfErr result (NeedsBy areas (V.held view.now) (OnWrittenPieces areas (V.held view.now) (V.hints view.now) inode.now.tree place.0 (place.0 + pieces_of place.1 written.now))) }
     ensures first { IfErr result (HoldsFirst (V.held view.now)) }
     ensures held { IsSome (V.held view.now (place_of handle) Exclusive) → IfOk result (IsHeldDraft (V.held view.now)) }

@@ -7,9 +7,9 @@ ghost use Rattle.bx_model.specs.declared.tree.Tree.{Tree};
 ghost use Rattle.bx_truth.specs.Keys.{content_key as key_of_content};
 ghost use Rattle.bx_views.specs.Truths.{Truth};
 ghost use Rattle.bx_adding.specs.Lacking.{IfFirst};
-ghost use Rattle.bx_ready.specs.Lacking.{LacksRoom};
+ghost use Rattle.bx_ready.specs.Lacking.{FindsRoom, MakesRoom};
 ghost use Rattle.bx_ready.specs.Ready.{OnReadyPath};
-ghost use Rattle.bx_writes.specs.Lacking.{LacksEntry};
+ghost use Rattle.bx_writes.specs.Lacking.{FindsEntry, MakesEntry};
 ghost use Rattle.bx_writes.specs.Paths.{OnWrittenPiece};
 ghost use Rattle.bx_writes.specs.Steps.{FoundAt, HoldsPrepared, IsRegularOf, MissesIn, PreparesIn};
 
@@ -42,7 +42,9 @@ pub(crate) fn prepare<V: View>(
     ensures step { (volume : ℕ) (truth : Truth) (tree : Tree) (handle : ℕ) (inode : Kept) → IsRegularOf volume near.1 (V.held view.now) (V.hints view.now) truth tree handle inode → inode.tree ≡ root
         → PreparesIn near.1 truth root place.0 place.1 part.now result }
     ensures lacks { (volume : ℕ) (truth : Truth) (tree : Tree) (handle : ℕ) (inode : Kept) → IsRegularOf volume near.1 (V.held view.now) (V.hints view.now) truth tree handle inode → inode.tree ≡ root
-        → IfErr result (IfFirst (LacksEntry near.1 truth root place.0)) }
+        → IfErr result (IfFirst (MakesEntry near.1 (V.held view.now) (V.hints view.now) truth root place.0)) }
+    ensures finds { (volume : ℕ) (truth : Truth) (tree : Tree) (handle : ℕ) (inode : Kept) → IsRegularOf volume near.1 (V.held view.now) (V.hints view.now) truth tree handle inode → inode.tree ≡ root
+        → IfOk result (λ made. FindsEntry near.1 truth root place.0) }
     ensures need { IfErr result (NeedsBy near.1 (V.held view.now) (OnWrittenPiece near.1 (V.held view.now) (V.hints view.now) root place.0)) }
     ensures first { IfErr result (HoldsFirst (V.held view.now)) }
     ensures held { IfOk result (λ made. HoldsPrepared (V.held view.now) made.0) }
@@ -90,7 +92,9 @@ fn missing<V: View>(
     ensures step { (volume : ℕ) (truth : Truth) (tree : Tree) (handle : ℕ) (inode : Kept) → IsRegularOf volume near.1 (V.held view.now) (V.hints view.now) truth tree handle inode → inode.tree ≡ root
         → MissesIn near.1 truth root place.0 place.1 part.now result }
     ensures lacks { (volume : ℕ) (truth : Truth) (tree : Tree) (handle : ℕ) (inode : Kept) → IsRegularOf volume near.1 (V.held view.now) (V.hints view.now) truth tree handle inode → inode.tree ≡ root
-        → IfErr result (IfFirst (LacksRoom near.1 truth root (key_of_content place.0))) }
+        → IfErr result (IfFirst (MakesRoom near.1 (V.held view.now) (V.hints view.now) truth root (key_of_content place.0))) }
+    ensures finds { (volume : ℕ) (truth : Truth) (tree : Tree) (handle : ℕ) (inode : Kept) → IsRegularOf volume near.1 (V.held view.now) (V.hints view.now) truth tree handle inode → inode.tree ≡ root
+        → IfOk result (λ made. FindsRoom near.1 truth root (key_of_content place.0)) }
     ensures need { IfErr result (NeedsBy near.1 (V.held view.now) (OnReadyPath near.1 (V.held view.now) (V.hints view.now) root (key_of_content place.0))) }
     ensures first { IfErr result (HoldsFirst (V.held view.now)) }
     ensures none { IfOk result (λ made. made.0 ≡ None) }

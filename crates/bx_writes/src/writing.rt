@@ -16,7 +16,7 @@ ghost use Rattle.bx_sizes.specs.Lengths.{grows_over as grows_over_to};
 ghost use Rattle.bx_truth.specs.Chunks.{block_at as place_of};
 ghost use Rattle.bx_views.specs.Attempts.{IsHeldDraft};
 ghost use Rattle.bx_views.specs.Truths.{Hints, IsTruth, Truth, with_draft};
-ghost use Rattle.bx_writes.specs.Lacking.{LacksWriting, LacksWritten, LowersBy};
+ghost use Rattle.bx_writes.specs.Lacking.{PreparesWriting, PreparesWritten, ReadyToLay, ReadyToWrite};
 ghost use Rattle.bx_writes.specs.Paths.{OnFileWritten, OnWriting};
 ghost use Rattle.bx_writes.specs.Telling.{TellsWith};
 
@@ -58,9 +58,9 @@ pub fn write<V: View>(
     ensures hints { (hints : Hints) (truth : Truth) (tree : Tree) → volume.1 ≤ 64 → IsTruth (V.held view.now) truth → Stands volume.0 volume.1 truth tree → HintsFitAll volume.1 (V.hints view.now) truth
         → HintsFitAll volume.1 hints truth → IfOk result (λ made. HintsFitAll volume.1 hints (with_draft truth made.0)) }
     ensures lacks { (truth : Truth) (tree : Tree) → volume.1 ≤ 64 → IsTruth (V.held view.now) truth → Stands volume.0 volume.1 truth tree → HintsFitAll volume.1 (V.hints view.now) truth
-        → IfErr result (ComesFirst (λ status. write_of tree call.now at.now offset written.now now 8 ≡ Err status) (LacksWriting volume.0 volume.1 truth at.now offset written.now)) }
-    ensures lowers { (truth : Truth) (tree : Tree) (handle : ℕ) (inode : Kept) → volume.1 ≤ 64 → IsTruth (V.held view.now) truth → Stands volume.0 volume.1 truth tree → HintsFitAll volume.1 (V.hints view.now) truth
-        → named volume.0 at.now ≡ Some handle → HoldsInode volume.1 truth handle inode → grows_over_to inode (offset + length written.now) ≡ true → IfErr result (LowersBy volume.1 truth handle inode) }
+        → IfErr result (ComesFirst (λ status. write_of tree call.now at.now offset written.now now 8 ≡ Err status) (PreparesWriting volume.0 volume.1 (V.held view.now) (V.hints view.now) truth at.now offset written.now)) }
+    ensures ready { (truth : Truth) (tree : Tree) → volume.1 ≤ 64 → IsTruth (V.held view.now) truth → Stands volume.0 volume.1 truth tree → HintsFitAll volume.1 (V.hints view.now) truth
+        → IfOk result (λ made. ReadyToWrite volume.0 volume.1 truth at.now offset written.now) }
     ensures need { IfErr result (NeedsBy volume.1 (V.held view.now) (OnWriting (V.held view.now) (V.hints view.now) volume.0 volume.1 at.now offset written.now)) }
     ensures first { IfErr result (HoldsFirst (V.held view.now)) }
     ensures held { IfOk result (λ made. IsHeldDraft (V.held view.now) made.0) }
@@ -104,9 +104,10 @@ fn write_file<V: View>(
         → IsInodeOf volume.1 truth tree file.0 file.1 → HintsFitAll volume.1 hints truth → IfOk result (λ made. HintsFitAll volume.1 hints (with_draft truth made.0)) }
     ensures lacks { (truth : Truth) (tree : Tree) (bytes : List ℕ) → volume.1 ≤ 64 → IsTruth (V.held view.now) truth → Stands volume.0 volume.1 truth tree → HintsFitAll volume.1 (V.hints view.now) truth
         → IsInodeOf volume.1 truth tree file.0 file.1 → named volume.0 bytes ≡ Some file.0
-        → IfErr result (ComesFirst (λ status. write_of tree call.now bytes offset written.now now 8 ≡ Err status) (LacksWritten volume.1 truth file.0 offset written.now)) }
-    ensures lowers { (truth : Truth) (tree : Tree) → volume.1 ≤ 64 → IsTruth (V.held view.now) truth → Stands volume.0 volume.1 truth tree → HintsFitAll volume.1 (V.hints view.now) truth
-        → IsInodeOf volume.1 truth tree file.0 file.1 → grows_over_to file.1 (offset + length written.now) ≡ true → IfErr result (LowersBy volume.1 truth file.0 file.1) }
+        → IfErr result (ComesFirst (λ status. write_of tree call.now bytes offset written.now now 8 ≡ Err status) (PreparesWritten volume.1 (V.held view.now) (V.hints view.now) truth file.0 offset written.now)) }
+    ensures ready { (truth : Truth) (tree : Tree) (bytes : List ℕ) → volume.1 ≤ 64 → IsTruth (V.held view.now) truth → Stands volume.0 volume.1 truth tree → HintsFitAll volume.1 (V.hints view.now) truth
+        → IsInodeOf volume.1 truth tree file.0 file.1 → named volume.0 bytes ≡ Some file.0
+        → IfOk result (λ made. 0 < length written.now → ReadyToLay volume.1 truth file.0 offset written.now) }
     ensures need { IfErr result (NeedsBy volume.1 (V.held view.now) (OnFileWritten volume.1 (V.held view.now) (V.hints view.now) file.1 offset written.now)) }
     ensures first { IsSome (V.held view.now (place_of file.0) Exclusive) → IfErr result (HoldsFirst (V.held view.now)) }
     ensures held { IsSome (V.held view.now (place_of file.0) Exclusive) → IfOk result (λ made. IsHeldDraft (V.held view.now) made.0) }

@@ -1,5 +1,5 @@
 use Rattle.bx_adding.proofs.First.{lacking, leaves, stopped, under}
-use Rattle.bx_ready.specs.Lacking.{LacksRoom}
+use Rattle.bx_ready.specs.Lacking.{MakesRoom}
 use Rattle.bx_adding.proofs.Lacks.{not_first}
 use Rattle.bx_adding.proofs.rooms.room_at.Goals as goal
 
@@ -20,9 +20,10 @@ returns-in-Ok-None-clause-step g c = λ volume truth tree handle inode d root_is
 
 pub returns-in-Err-clause-lacks : goal.returns-in-Err-clause-lacks
 returns-in-Err-clause-lacks g c = λ volume truth tree handle inode d root_is.
-    not_first c.args.near.1 (LacksRoom c.args.near.1 truth c.args.root c.args.key.now) c.in-Err.error c.change_error.result c.change_error.ensures
+    not_first c.args.near.1 (MakesRoom c.args.near.1 (g.V.View.held c.args.view.now) (g.V.View.hints c.args.view.now) truth c.args.root c.args.key.now) c.in-Err.error c.change_error.result c.change_error.ensures
 
 pub returns-in-Ok-Some-clause-lacks : goal.returns-in-Ok-Some-clause-lacks
 returns-in-Ok-Some-clause-lacks g c = λ volume truth tree handle inode d root_is.
-    lacking volume c.args.near.1 (g.V.View.held c.args.view.now) (g.V.View.hints c.args.view.now) truth tree handle inode d c.args.root root_is c.args.key.now c.in-Ok-Some.field-0 c.in-Ok-Some.draft c.in-Ok-Some.field-0-is
-    c.in-Ok-Some.ensures.lacks
+    rw c.in-Ok-Some.field-0-is
+    (lacking volume c.args.near.1 (g.V.View.held c.args.view.now) (g.V.View.hints c.args.view.now) truth tree handle inode d c.args.root root_is c.args.key.now c.in-Ok-Some.field-0 c.in-Ok-Some.draft c.in-Ok-Some.field-0-is
+    c.in-Ok-Some.ensures.lacks)

@@ -1,5 +1,5 @@
 use Rattle.bx_ready.proofs.Files.{keeps}
-use Rattle.bx_ready.proofs.Lacks.{lacks}
+use Rattle.bx_ready.proofs.Lacks.{finds, lacks}
 use Rattle.bx_ready.proofs.readying.ready.Goals as goal
 
 pub returns-clause-files : goal.returns-clause-files
@@ -9,3 +9,7 @@ returns-clause-files g c = λ truth tree f.
 pub returns-clause-lacks : goal.returns-clause-lacks
 returns-clause-lacks g c = λ truth tree u.
     lacks c.args.areas (g.V.View.held c.args.view.now) (g.V.View.hints c.args.view.now) truth c.args.root tree c.args.key.now u c.first_of.result (c.first_of.ensures.map truth tree u)
+
+pub returns-clause-finds : goal.returns-clause-finds
+returns-clause-finds g c = λ truth tree u.
+    finds c.args.areas (g.V.View.held c.args.view.now) (g.V.View.hints c.args.view.now) truth c.args.root tree c.args.key.now u c.first_of.result (c.first_of.ensures.map truth tree u)

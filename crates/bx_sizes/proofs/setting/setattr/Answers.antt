@@ -1,4 +1,4 @@
-use Rattle.std.proofs.Common.{◌≡◌, List, subst, sym}
+use Rattle.std.proofs.Common.{◌≡◌, ◌∙◌, List, subst, sym}
 use Rattle.std.specs.Prelude.{Err}
 use Rattle.bx_base.specs.declared.names.Mode.TheVariants.{Exclusive}
 use Rattle.bx_blink.specs.Walks.{reads_with}
@@ -8,9 +8,9 @@ use Rattle.bx_model.specs.Writing.{setattr}
 use Rattle.bx_reads.proofs.Told.{over_none}
 use Rattle.bx_records.specs.Drafts.{Changed}
 use Rattle.bx_views.specs.Truths.{with_draft}
-use Rattle.bx_sizes.proofs.First.{lowers_there, never_first, never_lowering, no_inode_lowers, no_inode_stops, one_file}
+use Rattle.bx_sizes.proofs.First.{never_first, no_inode_stops, not_given}
 use Rattle.bx_sizes.proofs.Set.{change_or, on_setting}
-use Rattle.bx_sizes.specs.Cuts.{GivenGrowsOver}
+use Rattle.bx_sizes.specs.Cuts.{PreparesSetting}
 use Rattle.bx_sizes.proofs.setting.setattr.Goals as goal
 
 pub returns-then-not-is_given-clause-step : goal.returns-then-not-is_given-clause-step
@@ -49,29 +49,24 @@ returns-clause-need g c =
 
 pub returns-then-not-is_given-clause-lacks : goal.returns-then-not-is_given-clause-lacks
 returns-then-not-is_given-clause-lacks g c = λ truth tree few same s fit.
-    never_first (λ status. setattr tree c.args.call.now c.args.at.now c.args.sattr.now c.args.now ≡ Err status) (GivenGrowsOver c.args.volume c.args.areas truth c.args.at.now c.args.sattr.now.size)
+    never_first (λ status. setattr tree c.args.call.now c.args.at.now c.args.sattr.now c.args.now ≡ Err status) (PreparesSetting c.args.volume c.args.areas truth c.args.at.now c.args.sattr.now.size)
     c.set_attributes.result c.set_attributes.ensures.inner
 
 pub returns-in-Err-clause-lacks : goal.returns-in-Err-clause-lacks
 returns-in-Err-clause-lacks g c = λ truth tree few same s fit.
-    no_inode_stops (λ status. setattr tree c.args.call.now c.args.at.now c.args.sattr.now c.args.now ≡ Err status) (GivenGrowsOver c.args.volume c.args.areas truth c.args.at.now c.args.sattr.now.size)
+    no_inode_stops (λ status. setattr tree c.args.call.now c.args.at.now c.args.sattr.now c.args.now ≡ Err status) (PreparesSetting c.args.volume c.args.areas truth c.args.at.now c.args.sattr.now.size)
     (reads_with (g.V.View.held c.args.view.now) (g.V.View.hints c.args.view.now) c.new-none.result) c.args.areas c.in-Some.handle Exclusive c.in-Err.stop c.in-Err.ensures.at
 
 pub returns-clause-lacks : goal.returns-clause-lacks
 returns-clause-lacks g c = λ truth tree few same s fit.
     let f = c.in-Ok.ensures.tree truth tree same (over_none c.args.areas truth tree c.new-none.result c.new-none.ensures s.is) in
-    c.set_all.ensures.lacks truth tree c.args.at.now s (subst (λ (d : List Changed). IsInodeOf c.args.areas (with_draft truth d) tree c.in-Some.handle c.in-Ok.inode) c.new-none.ensures f) (sym c.in-Some.ensures)
+    c.set_all.ensures.lacks truth tree c.args.at.now few same s fit (subst (λ (d : List Changed). IsInodeOf c.args.areas (with_draft truth d) tree c.in-Some.handle c.in-Ok.inode) c.new-none.ensures f) (sym c.in-Some.ensures)
 
-pub returns-then-not-is_given-clause-lowers : goal.returns-then-not-is_given-clause-lowers
-returns-then-not-is_given-clause-lowers g c = λ truth tree handle inode few same s fit is holds. never_lowering c.args.areas truth handle inode c.set_attributes.result c.set_attributes.ensures.inner
+pub returns-then-not-is_given-clause-ready : goal.returns-then-not-is_given-clause-ready
+returns-then-not-is_given-clause-ready g c = λ truth tree few same s fit.
+    not_given c.args.volume c.args.areas truth c.args.at.now c.args.sattr.now.size (sym c.is_given.ensures ∙ c.if-not-is_given.true) c.set_attributes.result
 
-pub returns-in-Err-clause-lowers : goal.returns-in-Err-clause-lowers
-returns-in-Err-clause-lowers g c = λ truth tree handle inode few same s fit is holds.
-    no_inode_lowers truth handle inode (reads_with (g.V.View.held c.args.view.now) (g.V.View.hints c.args.view.now) c.new-none.result) c.args.areas c.in-Some.handle Exclusive c.in-Err.stop c.in-Err.ensures.at
-
-pub returns-clause-lowers : goal.returns-clause-lowers
-returns-clause-lowers g c = λ truth tree handle inode few same s fit is holds.
-    let f = subst (λ (d : List Changed). IsInodeOf c.args.areas (with_draft truth d) tree c.in-Some.handle c.in-Ok.inode) c.new-none.ensures
-    (c.in-Ok.ensures.tree truth tree same (over_none c.args.areas truth tree c.new-none.result c.new-none.ensures s.is)) in
-    lowers_there c.args.areas truth c.in-Some.handle handle c.in-Ok.inode inode
-    (one_file c.args.volume c.args.areas truth tree c.args.at.now c.in-Some.handle handle c.in-Ok.inode inode s.is c.in-Some.ensures is f.holds holds) c.set_all.result (c.set_all.ensures.lowers truth tree few same s fit f)
+pub returns-clause-ready : goal.returns-clause-ready
+returns-clause-ready g c = λ truth tree few same s fit.
+    let f = c.in-Ok.ensures.tree truth tree same (over_none c.args.areas truth tree c.new-none.result c.new-none.ensures s.is) in
+    c.set_all.ensures.ready truth tree c.args.at.now few same s fit (subst (λ (d : List Changed). IsInodeOf c.args.areas (with_draft truth d) tree c.in-Some.handle c.in-Ok.inode) c.new-none.ensures f) (sym c.in-Some.ensures)

@@ -1,9 +1,10 @@
-use Rattle.std.proofs.Common.{◌≡◌, List, true, subst, sym, ap, ◌∙◌}
+use Rattle.std.proofs.Common.{List, subst, sym, ap, ◌∙◌}
 use Rattle.bx_inodes.specs.Writing.{PutsInode}
 use Rattle.bx_records.specs.Drafts.{Changed}
 use Rattle.bx_tree_files.specs.Changes.{with_fields}
-use Rattle.bx_sizes.proofs.First.{behind_end, never_lowers, never_stops}
+use Rattle.bx_sizes.proofs.First.{behind_end, never_stops}
 use Rattle.bx_sizes.proofs.Resized.{clear_stops, leaves_trees, regular_bytes, size_put}
+use Rattle.bx_sizes.specs.Cuts.{ClearsFirst}
 use Rattle.bx_sizes.specs.Lengths.{grows_over, with_length}
 use Rattle.bx_sizes.proofs.sizes.set_size.Goals as goal
 
@@ -26,15 +27,20 @@ returns-clause-step g c = λ truth tree file few same is fit holds there.
     (subst (λ (d : List Changed). PutsInode d c.put_inode.new.draft c.args.handle c.sized-changed.result) c.new-draft.ensures c.in_ok-put_inode.ensures.puts) b.0 b.1
 
 pub returns-in-Err-clause-lacks : goal.returns-in-Err-clause-lacks
-returns-in-Err-clause-lacks g c = never_stops (List Changed) (λ status. ⊥) (grows_over c.args.inode c.args.sattr.now.size ≡ true) c.in-Err.stop c.in-Err.ensures.inner
+returns-in-Err-clause-lacks g c = λ truth tree file few same is fit holds there.
+    never_stops (List Changed) (λ status. ⊥) (ClearsFirst c.args.areas truth c.args.handle c.args.sattr.now.size) c.in-Err.stop c.in-Err.ensures.inner
 
 pub returns-in-Ok-clause-lacks : goal.returns-in-Ok-clause-lacks
-returns-in-Ok-clause-lacks g c = ((λ status never. never), ap (grows_over c.args.inode) (sym c.from-size.ensures) ∙ sym c.grows_over.ensures ∙ c.if-grows_over.true)
+returns-in-Ok-clause-lacks g c = λ truth tree file few same is fit holds there.
+    let b = regular_bytes c.args.areas truth tree c.args.handle file c.args.inode is holds there c.requires.regular in (
+      (λ status never. never),
+      record {
+        inode = c.args.inode;
+        holds = holds;
+        over = ap (grows_over c.args.inode) (sym c.from-size.ensures) ∙ sym c.grows_over.ensures ∙ c.if-grows_over.true;
+        lowers = c.in-Ok.ensures.lowers truth tree file b.0 few same is fit holds there b.1 (behind_end c.args.inode c.from-size.result (sym c.grows_over.ensures ∙ c.if-grows_over.true));
+      },
+    )
 
-pub returns-in-Err-clause-lowers : goal.returns-in-Err-clause-lowers
-returns-in-Err-clause-lowers g c = λ truth tree file few same is fit holds there. never_lowers (List Changed) c.args.areas truth c.args.handle c.args.inode c.in-Err.stop c.in-Err.ensures.inner
-
-pub returns-in-Ok-clause-lowers : goal.returns-in-Ok-clause-lowers
-returns-in-Ok-clause-lowers g c = λ truth tree file few same is fit holds there.
-    let b = regular_bytes c.args.areas truth tree c.args.handle file c.args.inode is holds there c.requires.regular in
-    c.in-Ok.ensures.lowers truth tree file b.0 few same is fit holds there b.1 (behind_end c.args.inode c.from-size.result (sym c.grows_over.ensures ∙ c.if-grows_over.true))
+pub returns-clause-ready : goal.returns-clause-ready
+returns-clause-ready g c = ap (grows_over c.args.inode) (sym c.from-size.ensures) ∙ sym c.grows_over.ensures ∙ c.if-grows_over.false

@@ -1,7 +1,8 @@
 -- What a file tree asks of each of its files.
 use Rattle.std.specs.Prelude.{◌≡◌, ◌≢◌, ℕ, ◌<◌, ◌≤◌, ◌⊎◌, true, List, Contains, Some}
 use Rattle.bx_audit_links.specs.Children.{HasChildren, IsWrongIn}
-use Rattle.bx_model.specs.FileTrees.{HasEntries, HasLinks, is_directory_at, links_to}
+use Rattle.bx_audit_links.specs.Reached.{IsFirstLost}
+use Rattle.bx_model.specs.FileTrees.{HasEntries, HasLinks, links_to}
 use Rattle.bx_model.specs.declared.tree.Tree.{Tree}
 use Rattle.bx_tree_files.specs.declared.file.Body.{Body}
 use Rattle.bx_tree_files.specs.declared.file.Body.TheVariants.{Names}
@@ -41,13 +42,13 @@ pub record IsWrongOf (files : List File) (root handle : ℕ) : Type 0 where
   pub first : (earlier : File) → Contains files earlier → earlier.handle < handle → IsRight files root earlier
 
 -- What is wrong with the file that a handle is of: it is the root, and isn't a directory that is its own parent, or is named; or the root is
--- right, and it is the first that isn't as a file tree asks; or all files are, each for itself, and it is a directory to which no way from
--- the root leads.
+-- right, and it is the first that isn't as a file tree asks; or all files are, each for itself, and it is the first directory to which no
+-- way from the root leads.
 abbrev pub IsWrong : Tree → ℕ → Type 0
 IsWrong tree handle =
     ((handle ≡ tree.root) × (IsOwnParent tree.files tree.root → links_to tree.files tree.root ≡ 0 → ⊥))
     ⊎ (IsRootRight tree × (IsWrongOf tree.files tree.root handle
-    ⊎ ((is_directory_at tree.files handle ≡ true) × (handle ≢ tree.root) × ((file : File) → Contains tree.files file → IsRight tree.files tree.root file))))
+    ⊎ (IsFirstLost tree.files tree.root handle × ((file : File) → Contains tree.files file → IsRight tree.files tree.root file))))
 
 -- What is to blame for a file that is wrong: what an entry of it names that is no child of it, or else the file itself.
 abbrev pub IsToBlame : Tree → ℕ → Type 0

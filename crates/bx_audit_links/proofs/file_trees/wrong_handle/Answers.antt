@@ -26,4 +26,4 @@ returns-in-Some-clause-cause c = inr (
 pub returns-clause-cause : goal.returns-clause-cause
 returns-clause-cause c =
     let none = kept_is _ 0 (omega arith) (sym (c.requires.counted c.args.tree.now.root) ∙ sym c.count_of.ensures ∙ c.if-count_of-ne0.false) in
-    some_weaker _ _ _ (λ handle is. inr ((c.is_root.ensures.yes c.if-not-is_root.false, none), inr (is.0, is.1, c.in_default.ensures.none))) c.in_ok-lost.ensures.is
+    some_weaker _ _ _ (λ handle is. inr ((c.is_root.ensures.yes c.if-not-is_root.false, none), inr (is, c.in_default.ensures.none))) c.in_ok-lost.ensures.is

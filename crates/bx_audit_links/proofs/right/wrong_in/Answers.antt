@@ -1,7 +1,6 @@
-use Rattle.std.proofs.Common.{⊎_elim, ◌∙◌, ◌⊎◌, inl, inr, refl, sym, subst}
+use Rattle.std.proofs.Common.{⊎_elim, ◌∙◌, inl, inr, refl, sym, subst}
 use Rattle.bx_audit_links.specs.Right.{IsRight}
 use Rattle.bx_audit_links.proofs.Rests.{contains_same, front_or_rest, front_there, later_above, later_rise, none_there, rest_there}
-use Rattle.bx_tree_files.specs.declared.file.File.{File}
 use Rattle.bx_tree_laws.proofs.Rises.{Rise}
 use Rattle.bx_audit_links.proofs.right.wrong_in.Goals as goal
 

@@ -2,10 +2,11 @@
 use Rattle.std.proofs.Common.{◌≡◌, ℕ, ◌≤◌, List, Some, sym, ap, ◌∙◌, subst, Result, Ok, Err}
 use Rattle.std.specs.Prelude.{Contains}
 use Rattle.bx_audit.specs.Blocks.{StandForNoTree}
-use Rattle.bx_audit.specs.Walked.{AreHeaded}
+use Rattle.bx_audit.specs.Walked.{AreHeaded, IsWrongSlot, TellsSlot}
 use Rattle.bx_audit_owners.specs.declared.walks.Walked.{Walked}
 use Rattle.bx_audit_owners.specs.Holding.{holdings_of}
 use Rattle.bx_audit_owners.specs.Walks.{IsTreeOf, IsWalkedOn, IsWrongMet}
+use Rattle.bx_audit_owners.specs.Words.{IsFirstWrongAt}
 use Rattle.bx_model.specs.declared.tree.Tree.{Tree}
 use Rattle.bx_model.specs.FileTrees.{IsFileTree}
 use Rattle.bx_tree_files.specs.declared.file.File.{File}
@@ -13,12 +14,14 @@ use Rattle.bx_tree_files.specs.Files.{file_at}
 use Rattle.bx_audit_owners.proofs.MetFiles.{same_files}
 use Rattle.bx_audit_owners.proofs.Walking.{wrong_met}
 use Rattle.bx_audit_owners.proofs.Wholes.{have_tree, tree_shows}
+use Rattle.bx_audit_owners.proofs.Worded.{met_chunk, worded}
 use Rattle.bx_audit_trees.specs.declared.error.AuditError.{AuditError as TreeError}
 use Rattle.bx_audit_trees.specs.declared.error.AuditError.TheVariants.{Torn as TornTree, Fault as TreeFault, OutOfMemory as OutOfTreeMemory}
 use Rattle.bx_audit_trees.specs.Errors.{IfTorn, IfTornError}
 use Rattle.bx_audit_trees.specs.Shown.{Shows}
 use Rattle.bx_homes.specs.Slots.{StaysSo}
 use Rattle.bx_layout.specs.declared.block.Block.{Block}
+use Rattle.bx_overlay.specs.declared.error.AuditError.{AuditError}
 use Rattle.bx_truth.specs.Chunks.{block_at, chunks_of}
 use Rattle.bx_truth.specs.PageTrees.{Chunks}
 
@@ -47,6 +50,24 @@ none_met told areas stands few (Err (TornTree at found wanted)) tells one torn =
     wrong_met (chunks_of areas truth) wanted (torn (chunks_of areas truth) (tree_shows areas truth few tree stand is told stands tells are one)) tree (have_tree areas truth few tree stand is)
 none_met told areas stands few (Err TreeFault) tells one torn = tt
 none_met told areas stands few (Err OutOfTreeMemory) tells one torn = tt
+
+-- nor does one where the slot of a chunk that it met isn't as that asks
+pub none_worded : (areas : ℕ) (stands : ℕ → Block → Type 0) (walked : Walked) → areas ≤ 64 → ((at : ℕ) (a b : Block) → stands at a → stands at b → a ≡ b) → IsWalkedOn (Unit {0}) areas stands walked
+    → (at found wanted : ℕ) → IsFirstWrongAt areas stands (holdings_of walked.holders) at found wanted → StandForNoTree areas stands
+none_worded areas stands walked few one is_walked at found wanted torn = λ truth are tree stand is.
+    let chunks = chunks_of areas truth in
+    let shows = tree_shows areas truth few tree stand is (Unit {0}) stands tt are (λ at a b told. one at a b) in
+    torn.wrong.wrong (worded areas truth few tree stand is (holdings_of walked.holders) walked.tree.files (is_walked chunks shows) stands are torn.handle torn.held)
+
+-- which is told of a chunk that the walk met
+pub wrong_slot : (areas : ℕ) (stands : ℕ → Block → Type 0) (walked : Walked) (error : AuditError) → IsWalkedOn (Unit {0}) areas stands walked → TellsSlot areas stands (holdings_of walked.holders) error
+    → IsWrongSlot areas stands error
+wrong_slot areas stands walked error is_walked tells = record {
+  tree = walked.tree;
+  met = record { holdings = holdings_of walked.holders; walked = is_walked };
+  tells = tells;
+  is_met = λ chunks headed. met_chunk chunks (holdings_of walked.holders) walked.tree.files (is_walked chunks headed) tells.torn.handle tells.torn.held;
+}
 
 -- a tree with the files and the root of a file tree is one, once their handles were given out
 file_tree_of : (a b : Tree) → IsFileTree a → a.files ≡ b.files → a.root ≡ b.root → ((handle : ℕ) (file : File) → file_at b.files handle ≡ Some file → Contains b.given handle) → IsFileTree b

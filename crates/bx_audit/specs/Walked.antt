@@ -3,6 +3,7 @@ use Rattle.std.specs.Prelude.{◌≡◌, ◌⊎◌, ℕ}
 use Rattle.bx_audit_links.specs.Right.{IsToBlame}
 use Rattle.bx_audit_owners.specs.Holding.{Holdings}
 use Rattle.bx_audit_owners.specs.Walks.{IsWalked, IsWrongMet}
+use Rattle.bx_audit_owners.specs.Words.{AreWorded, IsFirstWrongAt, IsMetChunk}
 use Rattle.bx_audit_trees.specs.Shown.{IsOfSlot, Shows}
 use Rattle.bx_homes.specs.Slots.{HasHandle}
 use Rattle.bx_layout.specs.declared.block.Block.{Block}
@@ -46,19 +47,37 @@ pub record AreMet (areas : ℕ) (stands : ℕ → Block → Type 0) (tree : Tree
   pub holdings : Holdings
   pub walked : (chunks : Chunks) → AreHeaded areas stands chunks → IsWalked chunks holdings tree.files
 
--- The files that the walk from the root meets are no file tree, and one that is to blame is told of.
+-- The slot of a chunk that has a holder isn't as that chunk asks, and this is told: the first such chunk, in the order of their handles, by its
+-- own handle; or the own block of its area, where that is none.
+pub record TellsSlot (areas : ℕ) (stands : ℕ → Block → Type 0) (holdings : Holdings) (error : AuditError) : Type 0 where
+  pub at : ℕ
+  pub found : ℕ
+  pub wanted : ℕ
+  pub error_is : error ≡ Torn at found wanted
+  pub torn : IsFirstWrongAt areas stands holdings at found wanted
+
+-- The chunks that the walk from the root meets are as they should be, and the slot of one isn't as that asks: its word, or its mark.
+pub record IsWrongSlot (areas : ℕ) (stands : ℕ → Block → Type 0) (error : AuditError) : Type 0 where
+  pub tree : Tree
+  pub met : AreMet areas stands tree
+  pub tells : TellsSlot areas stands met.holdings error
+  pub is_met : (chunks : Chunks) → AreHeaded areas stands chunks → IsMetChunk chunks tells.torn.handle
+
+-- These chunks and their slots are as they should be, but the files are no file tree, and one that is to blame is told of.
 pub record IsWrongLink (areas : ℕ) (stands : ℕ → Block → Type 0) (error : AuditError) : Type 0 where
   pub tree : Tree
   pub met : AreMet areas stands tree
+  pub words : AreWorded areas stands met.holdings
   pub none : IsFileTree tree → ⊥
   pub names : NamesFile areas stands tree error
 
--- Something that the walk from the root meets is wrong: a chunk, or else links or parents.
+-- Something that the walk from the root meets is wrong: a chunk, or else a chunk's slot, or else links or parents.
 abbrev pub IsWrongFromRoot : ℕ → (ℕ → Block → Type 0) → AuditError → Type 0
-IsWrongFromRoot areas stands error = IsWrongChunk areas stands error ⊎ IsWrongLink areas stands error
+IsWrongFromRoot areas stands error = IsWrongChunk areas stands error ⊎ (IsWrongSlot areas stands error ⊎ IsWrongLink areas stands error)
 
--- Nothing that the walk from the root meets is wrong: the files that it meets are a file tree.
+-- Nothing that the walk from the root meets is wrong: the files that it meets are a file tree, and the slots of its chunks are as these ask.
 pub record IsRightFromRoot (areas : ℕ) (stands : ℕ → Block → Type 0) : Type 0 where
   pub tree : Tree
   pub met : AreMet areas stands tree
+  pub words : AreWorded areas stands met.holdings
   pub is : IsFileTree tree

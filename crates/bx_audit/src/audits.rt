@@ -20,15 +20,16 @@ use std::alloc::Global;
 /// Reads the file tree that a volume's disks hold in a global state, and lists it. Ok says that there is a file tree that the disks stand
 /// for as they read, and that this is its listing; a refusal, that there is none. Refused are, in this order: disks without a label,
 /// without a state of theirs, without a source, or with a source that has no label; logs that aren't there or that clash; then what the
-/// walk from the root meets, over directories and files, and that isn't as it should be or has two owners; links and parents of the files
-/// that it meets; then, where nothing that it meets is wrong, the first block that isn't as its area's slots ask; marked slots, in the
-/// order of their handles, whose chunks are no dead inodes, or which have what another owner has; and at last chunks that nothing has.
+/// walk from the root meets, over directories and files, and that isn't as it should be or has two owners; the first of these chunks, in the
+/// order of their handles, whose slot has another word, or is marked; links and parents of the files that it meets; then, where nothing
+/// that it meets is wrong, the first block that isn't as its area's slots ask; marked slots, in the order of their handles, whose chunks
+/// are no dead inodes, or which have what another owner has; and at last chunks that nothing has.
 ///
 /// Of a block that is torn its number is told, the handle that is `found` in its header, and the one that is `wanted`: the one by which the
 /// block is named, or that of its slot; 0 where nothing names it.
 ///
 /// The disks stay as they were. Each chunk that the walk meets is read once for it, and each block once for its slot; the chunks of dead
-/// inodes once besides; a block that is torn is read once more.
+/// inodes once besides, and so are the own blocks of areas; a block that is torn is read once more.
 pub fn audit<R: Rack>(
     alloc: Global,
     rack: &mut R,

@@ -50,7 +50,7 @@ fn tree_of<B: Blocks>(
 }
 
 /// Why an audit fails, where what is read of its trees does.
-fn audit_error(error: bx_audit_trees::AuditError) -> AuditError
+pub(crate) fn audit_error(error: bx_audit_trees::AuditError) -> AuditError
     ensures { result ≡ error_of error }
 {
     match error {

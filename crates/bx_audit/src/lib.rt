@@ -7,6 +7,7 @@ mod laws;
 mod links;
 mod listing;
 mod walks;
+mod words;
 
 pub use audits::audit;
 pub use laws::a_volume_is_listed;

@@ -6,6 +6,7 @@ ghost use Rattle.bx_audit.specs.Walked.{AreHeaded, IsWrongChunk, IsWrongFromRoot
 ghost use Rattle.bx_audit_links.specs.InOrder.{IsInOrder};
 ghost use Rattle.bx_audit_owners.specs.Holding.{holdings_of};
 ghost use Rattle.bx_audit_owners.specs.Walks.{IsTreeOf, IsWalked, IsWrongMet};
+ghost use Rattle.bx_audit_owners.specs.Words.{AreWorded};
 ghost use Rattle.bx_audit_trees.specs.Errors.{Counts, IfTorn};
 ghost use Rattle.bx_base.specs.Faults.{Rose};
 ghost use Rattle.bx_logs.specs.Members.{AreThere};
@@ -15,6 +16,7 @@ ghost use Rattle.bx_overlay.specs.Refusals.{IsBreak, UnlessFault};
 ghost use Rattle.bx_truth.specs.PageTrees.{Chunks};
 
 use crate::links::block_in;
+use crate::words::check_words_in;
 use bx_audit_links::wrong_file;
 use bx_audit_owners::{Walked, walk};
 use bx_audit_trees::AuditError as TreeError;
@@ -111,7 +113,7 @@ fn check_links<R: Rack>(
 }
 
 /// What the walk from the root finds on the disks of a volume, which is a file tree. Torn where something that it meets is wrong: a chunk, or
-/// else links or parents.
+/// else a chunk's slot, or else links or parents.
 pub(crate) fn walked_in<R: Rack>(
     alloc: Global,
     rack: &mut R,
@@ -120,6 +122,7 @@ pub(crate) fn walked_in<R: Rack>(
     requires { AreThere (R.state rack.old).sizes read.now.members }
     ensures ok { R.tells rack.old → (chunks : Chunks) → AreHeaded read.now.members.areas (blocks_of (R.state rack.old) read.now) chunks → IfOk result (λ walked. IsWalked chunks (holdings_of walked.holders) walked.tree.files) }
     ensures tree { IfOk result (λ walked. IsTreeOf read.now.members.areas read.now.first.volume walked.tree) }
+    ensures words { R.tells rack.old → IfOk result (λ walked. AreWorded read.now.members.areas (blocks_of (R.state rack.old) read.now) (holdings_of walked.holders)) }
     ensures is { IfOk result (λ walked. IsFileTree walked.tree) }
     ensures err { R.tells rack.old → IfErr result (λ error. IsBreak error ⊎ (IsWrongFromRoot read.now.members.areas (blocks_of (R.state rack.old) read.now) error × StandForNoTree read.now.members.areas (blocks_of (R.state rack.old) read.now))) }
     ensures stays { R.state rack.new ≡ R.state rack.old }
@@ -129,6 +132,7 @@ pub(crate) fn walked_in<R: Rack>(
     ensures keeps_telling { R.tells rack.old → R.tells rack.new }
 {
     let walked = met_in(alloc, rack, read)?;
+    check_words_in(alloc, rack, read, &walked)?;
     check_links(alloc, rack, read, &walked.tree)?;
     Ok(walked)
 }

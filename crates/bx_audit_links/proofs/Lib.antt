@@ -8,3 +8,4 @@ pub mod Rests
 pub mod Stand
 pub mod Sums
 pub mod Ways
+pub mod Lost

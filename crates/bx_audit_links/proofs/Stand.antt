@@ -97,7 +97,7 @@ module _ (files : List File) (root : ℕ) (reached : List ℕ) (set : BTreeSet �
       by handle (inl within) = within
       by handle (inr left) = let both : true ≡ false = sym left ∙ none_has set none handle in absurd cc
 
-  closed : length reached ≤ at → (directory : ℕ) → Contains reached directory → (handle : ℕ) → IsIn files directory handle → has set handle ≡ false
+  pub closed : length reached ≤ at → (directory : ℕ) → Contains reached directory → (handle : ℕ) → IsIn files directory handle → has set handle ≡ false
   closed all directory (place, within, is) handle into = stand.done place (omega (arith, within, all)) handle (subst (λ (d : ℕ). IsIn files d handle) (sym is ∙ same_default reached place directory 0 within) into)
 
   pub reaches_all : length reached ≤ at → (tree : Tree) → tree.files ≡ files → tree.root ≡ root → IsFileTree tree → btree_set_len set ≡ 0

@@ -5,7 +5,7 @@ use Rattle.std.specs.Ordering.{nat_cmp}
 use Rattle.bx_model.specs.FileTrees.{is_directory_at}
 use Rattle.bx_tree_files.specs.declared.file.File.{File}
 use Rattle.bx_tree_files.specs.declared.file.Name.{Name}
-use Rattle.bx_tree_laws.specs.Ways.{IsIn}
+use Rattle.bx_tree_laws.specs.Ways.{IsIn, LeadsDown}
 
 abbrev pub has : BTreeSet ℕ → ℕ → Bool
 has set handle = contains nat_cmp set handle
@@ -25,6 +25,17 @@ pub record IsNamedFrom (files : List File) (depth : ℕ → ℕ) (handle : ℕ) 
 pub record AreBelow (files : List File) (root : ℕ) : Type 0 where
   pub depth : ℕ → ℕ
   pub each : (handle : ℕ) → is_directory_at files handle ≡ true → handle ≢ root → IsNamedFrom files depth handle
+
+-- a way from the root leads to the handle
+abbrev pub IsLedTo : List File → ℕ → ℕ → Type 0
+IsLedTo files root handle = (way : List ℕ) × LeadsDown files root way handle
+
+-- The handle is that of a directory to which no way from the root leads, and is the least such handle.
+pub record IsFirstLost (files : List File) (root handle : ℕ) : Type 0 where
+  pub directory : is_directory_at files handle ≡ true
+  pub other : handle ≢ root
+  pub lost : IsLedTo files root handle → ⊥
+  pub first : (earlier : ℕ) → is_directory_at files earlier ≡ true → earlier ≢ root → earlier < handle → IsLedTo files root earlier
 
 -- an entry of some names a handle
 abbrev pub IsNamed : List Name → ℕ → Type 0

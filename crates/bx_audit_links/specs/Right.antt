@@ -1,7 +1,8 @@
 -- What a file tree asks of each of its files.
-use Rattle.std.specs.Prelude.{◌≡◌, ◌≢◌, ℕ, ◌≤◌, ◌⊎◌, true, List, Contains, Some}
+use Rattle.std.specs.Prelude.{◌≡◌, ◌≢◌, ℕ, ◌<◌, ◌≤◌, ◌⊎◌, true, List, Contains, Some}
 use Rattle.bx_audit_links.specs.Children.{HasChildren, IsWrongIn}
-use Rattle.bx_model.specs.FileTrees.{HasEntries, HasLinks, is_directory_at, links_to}
+use Rattle.bx_audit_links.specs.Reached.{IsFirstLost}
+use Rattle.bx_model.specs.FileTrees.{HasEntries, HasLinks, links_to}
 use Rattle.bx_model.specs.declared.tree.Tree.{Tree}
 use Rattle.bx_tree_files.specs.declared.file.Body.{Body}
 use Rattle.bx_tree_files.specs.declared.file.Body.TheVariants.{Names}
@@ -28,20 +29,26 @@ pub record IsOwnParent (files : List File) (root : ℕ) : Type 0 where
   pub there : file_at files root ≡ Some file
   pub itself : NamesItself file.body root
 
--- a file with the handle isn't as a file tree asks
+-- the root is a directory that is its own parent, and no entry names it
+abbrev pub IsRootRight : Tree → Type 0
+IsRootRight tree = IsOwnParent tree.files tree.root × (links_to tree.files tree.root ≡ 0)
+
+-- a file with the handle isn't as a file tree asks, and is the first such file in the order of their handles
 pub record IsWrongOf (files : List File) (root handle : ℕ) : Type 0 where
   pub file : File
   pub there : Contains files file
   pub handle_is : file.handle ≡ handle
   pub wrong : IsRight files root file → ⊥
+  pub first : (earlier : File) → Contains files earlier → earlier.handle < handle → IsRight files root earlier
 
--- What is wrong with the file that a handle is of: it is the root, and isn't a directory that is its own parent, or is named; or it isn't
--- as a file tree asks; or all files are, each for itself, and it is a directory to which no way from the root leads.
+-- What is wrong with the file that a handle is of: it is the root, and isn't a directory that is its own parent, or is named; or the root is
+-- right, and it is the first that isn't as a file tree asks; or all files are, each for itself, and it is the first directory to which no
+-- way from the root leads.
 abbrev pub IsWrong : Tree → ℕ → Type 0
 IsWrong tree handle =
     ((handle ≡ tree.root) × (IsOwnParent tree.files tree.root → links_to tree.files tree.root ≡ 0 → ⊥))
-    ⊎ (IsWrongOf tree.files tree.root handle
-    ⊎ ((is_directory_at tree.files handle ≡ true) × (handle ≢ tree.root) × ((file : File) → Contains tree.files file → IsRight tree.files tree.root file)))
+    ⊎ (IsRootRight tree × (IsWrongOf tree.files tree.root handle
+    ⊎ (IsFirstLost tree.files tree.root handle × ((file : File) → Contains tree.files file → IsRight tree.files tree.root file))))
 
 -- What is to blame for a file that is wrong: what an entry of it names that is no child of it, or else the file itself.
 abbrev pub IsToBlame : Tree → ℕ → Type 0

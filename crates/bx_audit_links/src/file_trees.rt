@@ -17,8 +17,9 @@ use bx_tree_files::{Body, Files};
 use std::alloc::Global;
 use std::collections::BTreeMap;
 
-/// The handle of a file because of which files are no file tree; where an entry of that file names no file, or a directory with another
-/// parent, what it names is answered in its place. `None` exactly where they are one: the root is a directory, its own parent, and no
+/// The handle of a file because of which files are no file tree: the root, or else the first in the order of handles, or else the first
+/// directory to which the root doesn't lead; where an entry of that file names no file, or a directory with another parent, what it names is answered in its
+/// place. `None` exactly where they are one: the root is a directory, its own parent, and no
 /// entry names it; entries name files that are there, of which a directory has theirs as its parent; links are counted; the root
 /// leads to each directory. It is linear in the files and their entries, but for the logarithm of their count.
 pub fn wrong_file(alloc: Global, tree: &Tree) -> Result<Option<u64>, OutOfMemory>

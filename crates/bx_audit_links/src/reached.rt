@@ -1,11 +1,12 @@
 //! That the root leads to each directory.
 
-ghost use Rattle.std.specs.Prelude.{◌≡◌, ◌≢◌, ◌+◌, ◌⊎◌, ◌++◌, ℕ, List, length, AllPairs, ◌<◌, Contains, true, false, IfOk, OnOk, IfNone, IfSome};
+ghost use Rattle.std.specs.Prelude.{◌≡◌, ◌≢◌, ◌+◌, ◌⊎◌, ◌++◌, ℕ, List, length, All, AllPairs, ◌<◌, Contains, true, false, IfOk, OnOk, IfNone, IfSome};
 ghost use Rattle.std.specs.BTreeSet.{btree_set_len};
-ghost use Rattle.bx_audit_links.specs.Reached.{AreBelow, AreDirectories, IsNamed, Reaches};
+ghost use Rattle.bx_audit_links.specs.Reached.{AreBelow, AreDirectories, IsFirstLost, IsNamed, Reaches};
+ghost use Rattle.bx_tree_files.specs.Files.{IsFile};
 ghost use Rattle.bx_tree_files.specs.Names.{names_of};
 ghost use Rattle.bx_model.specs.declared.tree.Tree.{Tree};
-ghost use Rattle.bx_model.specs.FileTrees.{IsFileTree, is_directory_at};
+ghost use Rattle.bx_model.specs.FileTrees.{IsFileTree};
 ghost use Rattle.bx_tree_laws.specs.Ways.{IsIn};
 
 use bx_base::OutOfMemory;
@@ -13,12 +14,13 @@ use bx_tree_files::{Body, DIRECTORY, Files, NameList};
 use std::alloc::Global;
 use std::collections::BTreeSet;
 
-/// The handle of a directory to which no way from the root leads; `None` exactly where there is none.
+/// The least handle of a directory to which no way from the root leads; `None` exactly where there is none.
 pub(crate) fn lost_in(alloc: Global, files: &Files, root: u64) -> Result<Option<u64>, OutOfMemory>
-    requires { AllPairs (λ file later. file.handle < later.handle) files.now }
+    requires rise { AllPairs (λ file later. file.handle < later.handle) files.now }
+    requires are { All IsFile files.now }
     ensures none { IfOk result (λ found. IfNone found (AreBelow files.now root)) }
     ensures some { (tree : Tree) → tree.files ≡ files.now → tree.root ≡ root → IfOk result (λ found. IfSome found (λ handle. IsFileTree tree → ⊥)) }
-    ensures is { IfOk result (λ found. IfSome found (λ handle. (is_directory_at files.now handle ≡ true) × (handle ≢ root))) }
+    ensures is { IfOk result (λ found. IfSome found (IsFirstLost files.now root)) }
 {
     let mut unreached = directories_but(alloc, files, root)?;
     let mut reached = Vec::new(alloc);

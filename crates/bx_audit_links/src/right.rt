@@ -1,6 +1,6 @@
 //! What a file tree asks of each file.
 
-ghost use Rattle.std.specs.Prelude.{◌≡◌, ◌≢◌, ◌≤◌, ℕ, List, All, Contains, true, IsTrue, IsFalse, IfNone, IfSome};
+ghost use Rattle.std.specs.Prelude.{◌≡◌, ◌≢◌, ◌<◌, ◌≤◌, ℕ, List, All, AllPairs, Contains, true, IsTrue, IsFalse, IfNone, IfSome};
 ghost use Rattle.bx_audit_links.specs.Counted.{AreCounted};
 ghost use Rattle.bx_audit_links.specs.InOrder.{AreApart};
 ghost use Rattle.bx_audit_links.specs.Right.{IsRight, IsWrongOf};
@@ -15,9 +15,10 @@ use crate::entries::{are_entries, directories_in};
 use bx_tree_files::{Body, DIRECTORY, File, Files};
 use std::collections::BTreeMap;
 
-/// The handle of a file that isn't as a file tree asks; `None` exactly where each file is.
+/// The handle of the first file, in the order of handles, that isn't as a file tree asks; `None` exactly where each file is.
 pub(crate) fn wrong_in(files: &Files, counts: &BTreeMap<u64, u64>, root: u64) -> Option<u64>
     requires counted { AreCounted files.now counts.now }
+    requires rise { AllPairs (λ file later. file.handle < later.handle) files.now }
     requires apart { (file : Kept) (parent next : ℕ) (names : List Name) → Contains files.now file → file.body ≡ Names parent next names → AreApart names }
     ensures none { IfNone result ((file : Kept) → Contains files.now file → IsRight files.now root file) }
     ensures some { IfSome result (IsWrongOf files.now root) }

@@ -11,10 +11,10 @@ use Rattle.bx_truth.specs.Chunks.{IsSlot, own_block, word_in, dead_in, word_at, 
 use Rattle.bx_truth.proofs.Words.{word_is, dead_is}
 use Rattle.bx_views.specs.Truths.{Truth}
 
-area_is : (area slot : ℕ) → slot < 960 → block_area (1024 * area + slot) ≡ area
+pub area_is : (area slot : ℕ) → slot < 960 → block_area (1024 * area + slot) ≡ area
 area_is area slot less = omega (arith, less)
 
-slot_is : (area slot : ℕ) → slot < 960 → block_slot (1024 * area + slot) ≡ slot
+pub slot_is : (area slot : ℕ) → slot < 960 → block_slot (1024 * area + slot) ≡ slot
 slot_is area slot less = omega (arith, less)
 
 below_or : (n m : ℕ) → n < m + 1 → (n < m) ⊎ (n ≡ m)

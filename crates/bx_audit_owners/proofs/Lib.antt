@@ -9,3 +9,6 @@ pub mod Ends
 pub mod Told
 pub mod Walking
 pub mod MetFiles
+pub mod Worded
+pub mod OwnBlocks
+pub mod KeysLeft

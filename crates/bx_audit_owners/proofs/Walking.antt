@@ -9,7 +9,7 @@ use Rattle.bx_audit_bodies.proofs.Members.{contains_map, from_map}
 use Rattle.bx_audit_owners.specs.declared.holders.Holder.{Holder}
 use Rattle.bx_audit_owners.specs.declared.holders.Holder.TheVariants.{File as OfFile, Dead as OfDead, Page as OfPage, Piece as OfPiece}
 use Rattle.bx_audit_owners.specs.Found.{IsFound, IsInode}
-use Rattle.bx_audit_owners.specs.Holding.{Adds, Holdings, holder_by}
+use Rattle.bx_audit_owners.specs.Holding.{Adds, Holdings, IsHeldAfter, holder_by}
 use Rattle.bx_audit_owners.specs.Walks.{HaveNoTree, HaveTree, IsFileAt, IsMet, IsTaken, IsUnread, IsWalked, IsWrongMet, Meets, Again, New, Root, Named}
 use Rattle.bx_audit_owners.proofs.Founds.{none_found}
 use Rattle.bx_audit_owners.proofs.Holding.{one_there}
@@ -89,6 +89,19 @@ live_has_no_dead chunks handle (Some file) claims some read owner stored is =
 pub file_named : (chunks : Chunks) (before now : Holdings) (handle : ℕ) (file : File) (claims : List Claim) → IsReadAs chunks handle (Some file) claims → Adds before handle OfFile claims (length claims) now → file.handle ≡ handle
 file_named chunks before now handle file claims read adds =
     (read.is (found_owner now) (λ claim there. ap owner_in (adds.each claim there) ∙ owner_same handle claim.piece)).file.0
+
+-- the inode of a file and its claims bring no dead one
+pub none_dead : (before now : Holdings) (handle : ℕ) (claims : List Claim) (count : ℕ) → Adds before handle OfFile claims count now → (at : ℕ) → now at ≡ Some OfDead → before at ≡ Some OfDead
+none_dead before now handle claims count adds at dead = by (adds.only at OfDead dead)
+  where
+    no_claim : (piece : Option ℕ) → OfDead ≡ holder_by handle piece → ⊥
+    no_claim None e = absurd cc
+    no_claim (Some index) e = absurd cc
+
+    by : IsHeldAfter before handle OfFile claims count at OfDead → before at ≡ Some OfDead
+    by (inl was) = was
+    by (inr (inl itself)) = let e : OfDead ≡ OfFile = itself.1 in absurd cc
+    by (inr (inr claim)) = absurd (no_claim claim.0.piece claim.3)
 
 -- ---- what is met, in a file tree
 
@@ -171,11 +184,13 @@ pub record IsUnderWay (chunks : Chunks) (holdings : Holdings) (files : List File
   pub all_met : (handle : ℕ) → Contains met handle → IsMet chunks handle
   pub files_met : (handle : ℕ) (file : File) → file_at files handle ≡ Some file → IsMet chunks handle
   pub entries : (handle : ℕ) (file : File) (entry : Name) → file_at files handle ≡ Some file → Contains (names_of file.body) entry → Contains met entry.handle
+  pub live : (handle : ℕ) → holdings handle ≡ Some OfDead → ⊥
 
 module _ (chunks : Chunks) (before : Holdings) (files : List File) (met : List ℕ) (handle : ℕ) (now : Holdings) (files_now : List File) (met_now : List ℕ)
     (under : IsUnderWay chunks before files met) (is_met : IsMet chunks handle) (found : IsFound chunks now files_now) where
-  one_more : (file : File) → IsFileAt chunks handle file → files_now ≡ with_file files file → met_now ≡ met ++ map (λ (entry : Name). entry.handle) (names_of file.body) → IsUnderWay chunks now files_now met_now
-  one_more file is with more = record {
+  one_more : (file : File) → IsFileAt chunks handle file → files_now ≡ with_file files file → met_now ≡ met ++ map (λ (entry : Name). entry.handle) (names_of file.body)
+      → ((at : ℕ) → now at ≡ Some OfDead → before at ≡ Some OfDead) → IsUnderWay chunks now files_now met_now
+  one_more file is with more live = record {
     found = found;
     all_met = λ h there. ⊎_elim
         (λ was. under.all_met h was)
@@ -192,6 +207,7 @@ module _ (chunks : Chunks) (before : Holdings) (files : List File) (met : List �
         (contains_map (λ (x : Name). x.handle) (names_of file.body) entry (subst (λ (g : File). Contains (names_of g.body) entry) (sym one) there)))
         (λ apart. Contains-append_left met (map (λ (x : Name). x.handle) (names_of file.body)) entry.handle (under.entries h f entry (sym (other h apart) ∙ at) there))
         (same_or h file.handle));
+    live = λ at dead. under.live at (live at dead);
   }
     where
       here : file_at files_now file.handle ≡ Some file
@@ -207,8 +223,9 @@ module _ (chunks : Chunks) (before : Holdings) (files : List File) (met : List �
     all_met = λ h there. under.all_met h (subst (λ (l : List ℕ). Contains l h) same_met there);
     files_met = λ h f at. under.files_met h f (sym (ap (λ (l : List File). file_at l h) same_files) ∙ at);
     entries = λ h f entry at there. subst (λ (l : List ℕ). Contains l entry.handle) (sym same_met) (under.entries h f entry (sym (ap (λ (l : List File). file_at l h) same_files) ∙ at) there);
+    live = λ at dead. under.live at (sym (ap (λ (f : Holdings). f at) same_now) ∙ dead);
   }
-  goes_on (New file is with more held still) = one_more file is with more
+  goes_on (New file is with more held still live) = one_more file is with more live
 
 -- once all that was met is done
 pub all_walked : (chunks : Chunks) (holdings : Holdings) (files : List File) (met : List ℕ) → IsUnderWay chunks holdings files met → Contains met root_handle
@@ -218,6 +235,7 @@ all_walked chunks holdings files met under root done = record {
   root = under.found.has_file root_handle (done root_handle root);
   closed = λ handle file entry at there. under.found.has_file entry.handle (done entry.handle (under.entries handle file entry at there));
   met = under.files_met;
+  live = under.live;
 }
 
 -- before the first step
@@ -227,6 +245,7 @@ nothing_yet chunks = record {
   all_met = λ handle there. subst (IsMet chunks) (only handle there) Root;
   files_met = λ handle file is. absurd (none_some None file refl is);
   entries = λ handle file entry is. absurd (none_some None file refl is);
+  live = λ handle is. absurd (none_some None OfDead refl is);
 }
   where
     only : (handle : ℕ) → Contains (root_handle ∷ []) handle → root_handle ≡ handle
@@ -244,7 +263,7 @@ module _ (Is : File → Type 0) where
   pub for_one : (P : File → Type 0) (before : Holdings) (files : List File) (met : List ℕ) (handle : ℕ) (now : Holdings) (files_now : List File) (met_now : List ℕ) → ((file : File) → Is file → P file)
       → Meets Is before files met handle now files_now met_now → Meets P before files met handle now files_now met_now
   for_one P before files met handle now files_now met_now implies (Again held same_now same_files same_met) = Again held same_now same_files same_met
-  for_one P before files met handle now files_now met_now implies (New file is with more held still) = New file (implies file is) with more held still
+  for_one P before files met handle now files_now met_now implies (New file is with more held still live) = New file (implies file is) with more held still live
 
   module _ (before : Holdings) (files : List File) (met : List ℕ) (handle : ℕ) (now : Holdings) (files_now : List File) (met_now : List ℕ) (step : Meets Is before files met handle now files_now met_now) where
     -- what is to be met is still there
@@ -253,7 +272,7 @@ module _ (Is : File → Type 0) where
       where
         by : Meets Is before files met handle now files_now met_now → (more : List ℕ) × (met_now ≡ met ++ more)
         by (Again held same_now same_files same_met) = ([], same_met ∙ sym (append_nil met))
-        by (New file is with more held still) = (map (λ (entry : Name). entry.handle) (names_of file.body), more)
+        by (New file is with more held still live) = (map (λ (entry : Name). entry.handle) (names_of file.body), more)
 
     pub still_there : (h : ℕ) → Contains met h → Contains met_now h
     still_there h there = subst (λ (l : List ℕ). Contains l h) (sym behind.1) (Contains-append_left met behind.0 h there)
@@ -269,14 +288,14 @@ module _ (Is : File → Type 0) where
       where
         by : Meets Is before files met handle now files_now met_now → now h ≡ Some OfFile
         by (Again held same_now same_files same_met) = ap (λ (f : Holdings). f h) same_now ∙ was
-        by (New file is with more held still) = still h was
+        by (New file is with more held still live) = still h was
 
     held_now : now handle ≡ Some OfFile
     held_now = by step
       where
         by : Meets Is before files met handle now files_now met_now → now handle ≡ Some OfFile
         by (Again held same_now same_files same_met) = ap (λ (f : Holdings). f handle) same_now ∙ held
-        by (New file is with more held still) = held
+        by (New file is with more held still live) = held
 
     same_place : (k : ℕ) → k < length met → get_or met_now k 0 ≡ get_or met k 0
     same_place k less = ap (λ (l : List ℕ). get_or l k 0) behind.1 ∙ get_or_left met behind.0 k less

@@ -104,7 +104,7 @@ module _ (areas : ℕ) (truth : Truth) (few : areas ≤ 64) where
       none_some (chunks_of areas truth slot.handle) (truth s.0) none (names_block s.0 slot s.1)
 
   -- the handle of a slot's block is of that slot
-  of_slot : (handle : ℕ) → IsSlot areas (block_at handle) → handle ≡ handle_of (block_at handle) (generation_in (word_at truth (block_at handle))) → IsOfSlot areas handle
+  pub of_slot : (handle : ℕ) → IsSlot areas (block_at handle) → handle ≡ handle_of (block_at handle) (generation_in (word_at truth (block_at handle))) → IsOfSlot areas handle
   of_slot handle is same = by (block_at handle / 1024) (block_at handle % 1024) (generation_in (word_at truth (block_at handle))) is.area is.slot (small (word_at truth (block_at handle))) same
     where
       by : (area slot generation : ℕ) → area < areas → slot < 960 → generation < 2 ^ 32 → handle ≡ area * 2 ^ 48 + slot * 2 ^ 32 + generation → IsOfSlot areas handle

@@ -5,3 +5,4 @@ pub mod Found
 pub mod Dead
 pub mod Whole
 pub mod Walks
+pub mod Words

@@ -3,7 +3,7 @@ use Rattle.std.specs.Prelude.{◌≡◌, ◌≢◌, ◌⊎◌, ◌++◌, ℕ, Li
 use Rattle.bx_audit_bodies.specs.declared.claims.Claim.{Claim}
 use Rattle.bx_audit_bodies.specs.Parts.{IsPartOf}
 use Rattle.bx_audit_bodies.specs.Reading.{IsReadAs, IsStored}
-use Rattle.bx_audit_owners.specs.declared.holders.Holder.TheVariants.{File as OfFile}
+use Rattle.bx_audit_owners.specs.declared.holders.Holder.TheVariants.{File as OfFile, Dead as OfDead}
 use Rattle.bx_audit_owners.specs.declared.walks.Walked.{Walked}
 use Rattle.bx_audit_owners.specs.Found.{AreOrdered, HaveFiles, IsFound}
 use Rattle.bx_audit_owners.specs.Holding.{Clashes, Holdings, holdings_of}
@@ -66,12 +66,14 @@ pub record IsTaken (chunks : Chunks) (wanted : ℕ) : Type 0 where
 abbrev pub IsWrongMet : Chunks → ℕ → Type 0
 IsWrongMet chunks wanted = IsUnread chunks wanted ⊎ IsTaken chunks wanted
 
--- All that the walk meets is as it should be: the root is there, and what entries of files name; all these files are met.
+-- All that the walk meets is as it should be: the root is there, and what entries of files name; all these files are met, and chunks have
+-- no other holders.
 pub record IsWalked (chunks : Chunks) (holdings : Holdings) (files : List File) : Type 0 where
   pub found : IsFound chunks holdings files
   pub root : file_at files root_handle ≢ None
   pub closed : (handle : ℕ) (file : File) (entry : Name) → file_at files handle ≡ Some file → Contains (names_of file.body) entry → file_at files entry.handle ≢ None
   pub met : (handle : ℕ) (file : File) → file_at files handle ≡ Some file → IsMet chunks handle
+  pub live : (handle : ℕ) → holdings handle ≡ Some OfDead → ⊥
 
 -- A tree of a volume, whose root is that of every volume: its files are in order, the entries of each directory are apart, and the handles
 -- given out are those of the files.
@@ -89,4 +91,4 @@ IsWalkedOn is_told areas stands walked = (chunks : Chunks) → Shows is_told are
 pub data Meets (Is : File → Type 0) (before : Holdings) (files : List File) (met : List ℕ) (handle : ℕ) (now : Holdings) (files_now : List File) (met_now : List ℕ) : Type 0 where
   Again : before handle ≡ Some OfFile → now ≡ before → files_now ≡ files → met_now ≡ met → Meets Is before files met handle now files_now met_now
   New : (file : File) → Is file → files_now ≡ with_file files file → met_now ≡ met ++ map (λ entry. entry.handle) (names_of file.body) → now handle ≡ Some OfFile
-      → ((at : ℕ) → before at ≡ Some OfFile → now at ≡ Some OfFile) → Meets Is before files met handle now files_now met_now
+      → ((at : ℕ) → before at ≡ Some OfFile → now at ≡ Some OfFile) → ((at : ℕ) → now at ≡ Some OfDead → before at ≡ Some OfDead) → Meets Is before files met handle now files_now met_now

@@ -123,7 +123,7 @@ fn torn_slot(slot: &UsedSlot) -> AuditError
 }
 
 /// Whether it is a dead inode.
-pub(crate) fn is_dead(holder: Holder) -> bool
+fn is_dead(holder: Holder) -> bool
     ensures { IsTrue result ↔ (holder ≡ OfDead) }
 {
     holder == Holder::Dead

@@ -4,9 +4,12 @@
 mod dead;
 mod found;
 mod holders;
+mod own_blocks;
 mod slots;
 mod tree;
 mod walks;
+mod words;
 
 pub use tree::tree_on;
 pub use walks::{Walked, walk};
+pub use words::check_words;

@@ -9,6 +9,7 @@ ghost use Rattle.bx_layout.specs.Areas.{IsArea, SpellsArea};
 ghost use Rattle.bx_truth.specs.Chunks.{own_block};
 ghost use Rattle.bx_views.specs.Truths.{Truth};
 
+use crate::own_blocks::{OwnBlock, own_block};
 use bx_audit_trees::AuditError;
 use bx_handles::ChunkHandle;
 use bx_homes::Blocks;
@@ -67,13 +68,9 @@ fn slots_of<B: Blocks>(alloc: Global, blocks: &mut B, area: u16) -> Result<AreaB
     ensures keeps_lender { B.lender blocks.new ≡ B.lender blocks.old }
     ensures keeps_ready { B.ready blocks.new }
 {
-    let at = 1024 * u64::from(area) + u64::from(SLOTS);
-    let Some(block) = blocks.block(at)? else {
-        return Err(AuditError::Torn(at, 0, 0));
-    };
-    match AreaBlock::read(alloc, block.payload.bytes())? {
-        Some(slots) => Ok(slots),
-        None => Err(AuditError::Torn(at, block.handle, 0)),
+    match own_block(alloc, blocks, area)? {
+        OwnBlock::Slots(slots) => Ok(slots),
+        OwnBlock::Wrong(found) => Err(AuditError::Torn(ChunkHandle::own(area).block(), found, 0)),
     }
 }
 

@@ -6,6 +6,7 @@ use Rattle.bx_audit.proofs.Shown.{are_open, if_err, none_stands, refused, stand_
 use Rattle.bx_audit.specs.Walked.{AreHeaded, AreMet, IsRightFromRoot, IsWrongFromRoot}
 use Rattle.bx_audit_owners.specs.Holding.{holdings_of}
 use Rattle.bx_audit_owners.specs.Walks.{IsWalkedOn}
+use Rattle.bx_audit_owners.specs.Words.{AreWorded}
 use Rattle.bx_disk.specs.Disks.{Disks}
 use Rattle.bx_homes.specs.Slots.{AreBlocks}
 use Rattle.bx_model.specs.declared.tree.Tree.{Tree}
@@ -40,7 +41,8 @@ returns-in_err-tree-clause-err g c = λ tells.
       holdings = holdings_of c.in_ok-walked.walked.holders;
       walked = λ chunks headed. c.in_ok-walked.ensures.ok keeps chunks (subst (λ (d : Disks). AreHeaded read.members.areas (blocks_of d read) chunks) (sym c.in_ok-read.ensures.stays) headed);
     } in
-    let right : IsRightFromRoot read.members.areas (blocks_of disks read) = record { tree = c.in_ok-walked.walked.tree; met = met; is = c.in_ok-walked.ensures.is } in
+    let words = subst (λ (d : Disks). AreWorded read.members.areas (blocks_of d read) (holdings_of c.in_ok-walked.walked.holders)) c.in_ok-read.ensures.stays (c.in_ok-walked.ensures.words keeps) in
+    let right : IsRightFromRoot read.members.areas (blocks_of disks read) = record { tree = c.in_ok-walked.walked.tree; met = met; words = words; is = c.in_ok-walked.ensures.is } in
     let started = subst (λ (d : Disks). IsWalkedOn (Unit {0}) read.members.areas (blocks_of d read) c.in_ok-walked.walked) (sym c.in_ok-walked.ensures.stays) (c.in_ok-walked.ensures.ok keeps) in
     let keeps_then = c.in_ok-walked.ensures.keeps_telling keeps in
     let same_then = c.in_ok-walked.ensures.stays ∙ c.in_ok-read.ensures.stays in

@@ -1,6 +1,7 @@
 use Rattle.std.proofs.Common.{◌≡◌, true, false, sym, ◌∙◌, arith, ap, ℕ, List, ◌++◌, ◌∷◌, []}
 use Rattle.bx_audit_links.proofs.Emptied.{none_has}
 use Rattle.bx_audit_links.proofs.Found.{none_found}
+use Rattle.bx_audit_links.proofs.Lost.{first_lost, least_of}
 use Rattle.bx_audit_links.proofs.Stand.{all_reached, reaches_all, same_default, stand_begins, stand_goes_on}
 use Rattle.bx_audit_links.proofs.reached.lost_in.Goals as goal
 
@@ -18,3 +19,6 @@ pub returns-clause-some : goal.returns-clause-some
 returns-clause-some c = λ tree files_are root_is was.
     let none = reaches_all _ _ _ _ _ c.loop-at.invariant (omega (arith, c.loop-at-test.false, c.len.ensures)) tree files_are root_is was in
     let both : true ≡ false = sym c.in-Some.ensures.member ∙ none_has c.loop-at.unreached none c.in-Some.handle.now in absurd cc
+
+pub returns-clause-is : goal.returns-clause-is
+returns-clause-is c = first_lost _ _ _ _ _ c.loop-at.invariant (omega (arith, c.loop-at-test.false, c.len.ensures)) c.requires.are c.in-Some.handle.now c.in-Some.ensures.member (least_of c.loop-at.unreached c.in-Some.handle.now c.in-Some.ensures.all_from)

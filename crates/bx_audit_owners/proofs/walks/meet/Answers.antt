@@ -10,7 +10,7 @@ use Rattle.bx_audit_owners.specs.Holding.{Adds, Clashes, holdings_of}
 use Rattle.bx_audit_owners.specs.Walks.{New}
 use Rattle.bx_audit_owners.proofs.Ends.{both_torn}
 use Rattle.bx_audit_owners.proofs.Steps.{with_inode}
-use Rattle.bx_audit_owners.proofs.Walking.{dead_has_none, file_named, other_has_none}
+use Rattle.bx_audit_owners.proofs.Walking.{dead_has_none, file_named, none_dead, other_has_none}
 use Rattle.bx_audit_trees.proofs.Ends.{if_torn}
 use Rattle.bx_tree_files.specs.declared.file.File.{File}
 use Rattle.bx_audit_owners.proofs.walks.meet.Goals as goal
@@ -85,3 +85,4 @@ returns-clause-step g c =
     record { claims = claims; is = read; handle_is = file_named chunks before now c.args.handle c.in-Some.file claims read adds })
     c.in_ok-put_file.ensures.with c.in_ok-put_names.ensures
     (ap (λ h. h c.args.handle) same ∙ adds.itself) (λ at was. ap (λ h. h at) same ∙ adds.still at OfFile was)
+    (λ at dead. none_dead before now c.args.handle claims (length claims) adds at (sym (ap (λ h. h at) same) ∙ dead))

@@ -30,7 +30,7 @@ use std::alloc::Global;
 /// shared, one on the path of finding room for its entry, one that the new directory's slots want, exclusively, or one on the path of the entry,
 /// exclusively. The status is `STALE`, exactly where the file handle names no file, else `NOTDIR` where that is no directory, `ACCES` of a bad name and
 /// where the caller may not change it, `EXIST` where an entry has the name, and `DQUOT` where it has no number left. `Inner` are blocks that make room for
-/// the entry: they come only where none of these errors does and room is lacking in the directory's tree. `Full` comes behind these, where fewer than 8
+/// the entry: they come exactly where none of these errors does and room is lacking in the directory's tree. `Full` comes behind these, where fewer than 8
 /// blocks are free and one more is wanted. `now` is in seconds and microseconds.
 pub fn mkdir<V: View>(
     alloc: Global,

@@ -37,8 +37,8 @@ const MOST_BYTES: u32 = 2147483647;
 ///
 /// `Need` names a block that isn't held: one on the path of finding room for its entry, one that the file's slots want, exclusively, or one on the path of
 /// the entry, exclusively. The status is `ACCES` where the caller may not change the directory, `FBIG` of a size that no file has, and `DQUOT` where the
-/// directory has no number left. `Inner` are blocks that make room for the entry: they come only where none of these errors does and room is lacking in
-/// the directory's tree. `Full` comes behind these, where fewer than 8 blocks are free and one more is wanted. `now` is in seconds and microseconds.
+/// directory has no number left. `Inner` are blocks that make room for the entry: they come exactly where none of these errors does and room is lacking
+/// in the directory's tree. `Full` comes behind these, where fewer than 8 blocks are free and one more is wanted. `now` is in seconds and microseconds.
 pub fn create_new<V: View>(
     alloc: Global,
     volume: u64,

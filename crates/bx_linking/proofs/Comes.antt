@@ -144,13 +144,13 @@ module _ (tree : Tree) (call : Call) (at name : List ℕ) (now : Time) (volume :
       is_stopped (Full spare) e = (e.0, comes spare ∙ e.1)
 
       -- blocks are to be written first where there is no error
-      pub is_first : (Lacks : Type 0) (error : ChangeError) → ComesBy areas truth (λ spare. linking tree call f.file name now spare (named_file tree at)) (Err error) → IfFirst Lacks error
-          → ComesFirst (λ status. link tree call bytes at name now 8 ≡ Err status) Lacks error
-      is_first Lacks (Stopped (Inner blocks)) e lacks = ((λ status is. e.1 status (sym (comes 8) ∙ is)), lacks)
-      is_first Lacks (Stopped (Status status)) e lacks = tt
-      is_first Lacks (Stopped (Need at mode)) e lacks = tt
-      is_first Lacks (Stopped OutOfMemory) e lacks = tt
-      is_first Lacks (Full spare) e lacks = tt
+      pub is_first : (Prepares : List Changed → Type 0) (error : ChangeError) → ComesBy areas truth (λ spare. linking tree call f.file name now spare (named_file tree at)) (Err error) → IfFirst Prepares error
+          → ComesFirst (λ status. link tree call bytes at name now 8 ≡ Err status) Prepares error
+      is_first Prepares (Stopped (Inner blocks)) e prepares = ((λ status is. e.1 status (sym (comes 8) ∙ is)), prepares)
+      is_first Prepares (Stopped (Status status)) e prepares = tt
+      is_first Prepares (Stopped (Need at mode)) e prepares = tt
+      is_first Prepares (Stopped OutOfMemory) e prepares = tt
+      is_first Prepares (Full spare) e prepares = tt
 
       pub is_changed : (stands : Stands volume areas truth tree) (new : List Changed) → ComesSo areas truth (linking tree call f.file name now 8 (named_file tree at)) new
           → Changes volume areas truth (link tree call bytes at name now 8) new (reply.Status 0)
@@ -173,19 +173,19 @@ needs_if areas held P Q wider (Ok done) n = tt
 needs_if areas held P Q wider (Err error) n = needs_by areas held P Q wider error n
 
 -- ---- nothing is written first where nothing ever is
-pub stop_comes : (T : Type 0) (Fails : ℕ → Type 0) (Lacks : Type 0) (stop : Stop) → NeverInner {T = T} (Err stop) → ComesFirst Fails Lacks (Stopped stop)
-stop_comes T Fails Lacks (Need at mode) never = tt
-stop_comes T Fails Lacks (Inner blocks) never = absurd never
-stop_comes T Fails Lacks (Status status) never = tt
-stop_comes T Fails Lacks OutOfMemory never = tt
+pub stop_comes : (T : Type 0) (Fails : ℕ → Type 0) (Prepares : List Changed → Type 0) (stop : Stop) → NeverInner {T = T} (Err stop) → ComesFirst Fails Prepares (Stopped stop)
+stop_comes T Fails Prepares (Need at mode) never = tt
+stop_comes T Fails Prepares (Inner blocks) never = absurd never
+stop_comes T Fails Prepares (Status status) never = tt
+stop_comes T Fails Prepares OutOfMemory never = tt
 
-pub stop_first : (T : Type 0) (Holds : Type 0) (stop : Stop) → NeverInner {T = T} (Err stop) → IfFirst Holds (Stopped stop)
+pub stop_first : (T : Type 0) (Holds : List Changed → Type 0) (stop : Stop) → NeverInner {T = T} (Err stop) → IfFirst Holds (Stopped stop)
 stop_first T Holds (Need at mode) never = tt
 stop_first T Holds (Inner blocks) never = absurd never
 stop_first T Holds (Status status) never = tt
 stop_first T Holds OutOfMemory never = tt
 
-pub never_if : {X : Type 0} (Holds : Type 0) (result : Result X ChangeError) → IfErr result NeverFirst → IfErr result (IfFirst Holds)
+pub never_if : {X : Type 0} (Holds : List Changed → Type 0) (result : Result X ChangeError) → IfErr result NeverFirst → IfErr result (IfFirst Holds)
 never_if Holds (Ok value) never = tt
 never_if Holds (Err error) never = never_first Holds error never
 

@@ -30,8 +30,8 @@ use std::alloc::Global;
 /// path of the search for the name, to room for it in the directory's tree, or of the change of that tree. The status is `STALE`, exactly where the first file
 /// handle names no file, else where the second names none, `NOTDIR` where that is no directory, `ACCES` of a bad name and where the caller may not change
 /// it, `PERM` where the file is a directory, `EXIST` where an entry has the name, and `DQUOT` where the file has 32000 names or the directory no
-/// number left. `Inner` are the blocks that make room, which are to be written first: they come only where none of these errors does and room is lacking in
-/// the directory's tree. `Full` comes where fewer than 8 blocks are free and one is wanted for that. `now` is in seconds and microseconds.
+/// number left. `Inner` are the blocks that make room, which are to be written first: they come exactly where none of these errors does and room is lacking
+/// in the directory's tree. `Full` comes where fewer than 8 blocks are free and one is wanted for that. `now` is in seconds and microseconds.
 pub fn link<V: View>(
     alloc: Global,
     volume: u64,

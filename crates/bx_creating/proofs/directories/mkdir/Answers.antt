@@ -1,11 +1,11 @@
-use Rattle.std.proofs.Common.{◌≡◌, [], Err, Ok}
+use Rattle.std.proofs.Common.{◌≡◌, [], Err, Ok, sym}
 use Rattle.bx_tree_files.specs.declared.file.Body.TheVariants.{Names}
 use Rattle.bx_tree_laws.proofs.Makings.{mkdir_keeps}
 use Rattle.bx_creating.specs.Inodes.{directory_inode}
 use Rattle.bx_creating.proofs.Created.{comes_so, last_is, last_mkdir, makes, mkdir_is, not_found, not_placed, placed, told}
 use Rattle.bx_model.specs.Making.{mkdir}
-use Rattle.bx_adding.specs.Lacking.{LacksPlace}
-use Rattle.bx_adding.proofs.Lacks.{first_so}
+use Rattle.bx_adding.specs.Lacking.{MakesPlace}
+use Rattle.bx_adding.proofs.Lacks.{enters, first_so}
 use Rattle.bx_creating.proofs.First.{made_first, stop_comes}
 use Rattle.bx_entries.specs.declared.taking.Known.{Known}
 use Rattle.bx_creating.proofs.directories.mkdir.Goals as goal
@@ -51,10 +51,15 @@ returns-in-Err-place_new-clause-lacks g c = λ truth tree same s fit.
     made_first (mkdir tree c.args.call.now c.args.at.now c.args.name.now c.args.sattr.now c.args.now 8) _
     (comes_so c.args.volume c.args.areas (g.V.View.held c.args.view.now) (g.V.View.hints c.args.view.now) truth tree c.args.call.now c.args.at.now c.args.name.now s _ (last_mkdir tree c.args.call.now c.args.at.now c.args.name.now c.args.sattr.now c.args.now)
     (mkdir_is tree c.args.call.now c.args.at.now c.args.name.now c.args.sattr.now c.args.now) c.in-Ok.directory f)
-    (LacksPlace c.args.volume c.args.areas truth c.args.at.now c.args.name.now) c.in-Err-place_new.error
-    (first_so (λ l. record { handle = c.in-Ok.directory.handle; inode = c.in-Ok.directory.inode; is_named = c.in-Ok.ensures.live.is_named; holds = f.place.directory.at.holds; lacks = l }) c.in-Err-place_new.error
+    (MakesPlace c.args.volume c.args.areas (g.V.View.held c.args.view.now) (g.V.View.hints c.args.view.now) truth c.args.at.now c.args.name.now) c.in-Err-place_new.error
+    (first_so (λ blocks made. record { handle = c.in-Ok.directory.handle; inode = c.in-Ok.directory.inode; is_named = c.in-Ok.ensures.live.is_named; holds = f.place.directory.at.holds; makes = made }) c.in-Err-place_new.error
     (c.in-Err-place_new.ensures.lacks c.args.volume truth tree f.place.directory))
 
 pub returns-in-Err-clause-lacks : goal.returns-in-Err-clause-lacks
 returns-in-Err-clause-lacks g c = λ truth tree same s fit.
-    stop_comes Known (λ status. mkdir tree c.args.call.now c.args.at.now c.args.name.now c.args.sattr.now c.args.now 8 ≡ Err status) (LacksPlace c.args.volume c.args.areas truth c.args.at.now c.args.name.now) c.in-Err.stop c.in-Err.ensures.inner
+    stop_comes Known (λ status. mkdir tree c.args.call.now c.args.at.now c.args.name.now c.args.sattr.now c.args.now 8 ≡ Err status) (MakesPlace c.args.volume c.args.areas (g.V.View.held c.args.view.now) (g.V.View.hints c.args.view.now) truth c.args.at.now c.args.name.now) c.in-Err.stop c.in-Err.ensures.inner
+
+pub returns-in-Ok-told_of-clause-ready : goal.returns-in-Ok-told_of-clause-ready
+returns-in-Ok-told_of-clause-ready g c = λ truth tree same s fit.
+    let f = c.in-Ok.ensures.step truth tree same s fit in
+    enters c.args.volume c.args.areas truth c.args.at.now c.args.name.now c.in-Ok.directory.handle c.in-Ok.directory.inode (sym c.in-Ok.ensures.live.is_named) f.place.directory.at.holds (c.in-Ok-place_new.ensures.finds c.args.volume truth tree f.place.directory)

@@ -4,7 +4,7 @@ use Rattle.bx_tree_files.specs.declared.file.Body.TheVariants.{Bytes}
 use Rattle.bx_tree_files.specs.Times.{is_given}
 use Rattle.bx_creating.specs.Inodes.{file_inode}
 use Rattle.bx_creating.proofs.NewFiles.{enough, full, keeps, last, last_told, makes_it, not_made, place, placed_file, refused_so}
-use Rattle.bx_adding.specs.Lacking.{LacksEither}
+use Rattle.bx_adding.specs.Lacking.{MakesEither}
 use Rattle.bx_creating.proofs.First.{made_first}
 use Rattle.bx_model.specs.Making.{create_new}
 use Rattle.bx_creating.proofs.files.create_new.Goals as goal
@@ -63,5 +63,8 @@ returns-in-Err-place_new-clause-lacks g c = λ truth tree w.
     let none = sym (rw c.in-Ok-None.field-0-is at c.in-Ok-None.ensures) in
     made_first (create_new tree c.args.call.now w.directory.at.file c.args.name.now c.args.sattr.now c.args.now 8) _
     (enough c.args.volume c.args.areas (g.V.View.held c.args.view.now) (g.V.View.hints c.args.view.now) truth tree c.args.directory.handle c.args.directory.inode c.args.name.now w c.args.call.now c.args.sattr.now c.args.now fits none)
-    (LacksEither c.args.areas truth c.args.directory.inode.tree c.args.name.now c.args.directory.inode.next) c.in-Err-place_new.error
+    (MakesEither c.args.areas (g.V.View.held c.args.view.now) (g.V.View.hints c.args.view.now) truth c.args.directory.inode.tree c.args.name.now c.args.directory.inode.next) c.in-Err-place_new.error
     (c.in-Err-place_new.ensures.lacks c.args.volume truth tree w.directory)
+
+pub returns-in-Ok-told_of-clause-finds : goal.returns-in-Ok-told_of-clause-finds
+returns-in-Ok-told_of-clause-finds g c = λ truth tree w. c.in-Ok.ensures.finds c.args.volume truth tree w.directory

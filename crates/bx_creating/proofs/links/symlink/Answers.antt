@@ -1,11 +1,11 @@
-use Rattle.std.proofs.Common.{◌≡◌, List, ℕ, arith, ap, ◌∙◌, Err, Ok}
+use Rattle.std.proofs.Common.{◌≡◌, List, ℕ, arith, ap, ◌∙◌, Err, Ok, sym}
 use Rattle.bx_tree_files.specs.declared.file.Body.TheVariants.{Path}
 use Rattle.bx_tree_laws.proofs.Makings.{symlink_keeps}
 use Rattle.bx_creating.specs.Inodes.{link_inode}
 use Rattle.bx_creating.proofs.Created.{comes_so, last_link_is, last_symlink, makes, not_found, not_placed, placed_link, symlink_is}
 use Rattle.bx_model.specs.Making.{symlink}
-use Rattle.bx_adding.specs.Lacking.{LacksPlace}
-use Rattle.bx_adding.proofs.Lacks.{first_so}
+use Rattle.bx_adding.specs.Lacking.{MakesPlace}
+use Rattle.bx_adding.proofs.Lacks.{enters, first_so}
 use Rattle.bx_creating.proofs.First.{made_first, stop_comes}
 use Rattle.bx_entries.specs.declared.taking.Known.{Known}
 use Rattle.bx_creating.proofs.links.symlink.Goals as goal
@@ -53,10 +53,15 @@ returns-in-Err-place_new-clause-lacks g c = λ truth tree same s fit.
     (comes_so c.args.volume c.args.areas (g.V.View.held c.args.view.now) (g.V.View.hints c.args.view.now) truth tree c.args.call.now c.args.at.now c.args.name.now s _
     (last_symlink tree c.args.call.now c.args.at.now c.args.name.now c.args.path.now c.args.sattr.now c.args.now)
     (symlink_is tree c.args.call.now c.args.at.now c.args.name.now c.args.path.now c.args.sattr.now c.args.now) c.in-Ok.directory f)
-    (LacksPlace c.args.volume c.args.areas truth c.args.at.now c.args.name.now) c.in-Err-place_new.error
-    (first_so (λ l. record { handle = c.in-Ok.directory.handle; inode = c.in-Ok.directory.inode; is_named = c.in-Ok.ensures.live.is_named; holds = f.place.directory.at.holds; lacks = l }) c.in-Err-place_new.error
+    (MakesPlace c.args.volume c.args.areas (g.V.View.held c.args.view.now) (g.V.View.hints c.args.view.now) truth c.args.at.now c.args.name.now) c.in-Err-place_new.error
+    (first_so (λ blocks made. record { handle = c.in-Ok.directory.handle; inode = c.in-Ok.directory.inode; is_named = c.in-Ok.ensures.live.is_named; holds = f.place.directory.at.holds; makes = made }) c.in-Err-place_new.error
     (c.in-Err-place_new.ensures.lacks c.args.volume truth tree f.place.directory))
 
 pub returns-in-Err-clause-lacks : goal.returns-in-Err-clause-lacks
 returns-in-Err-clause-lacks g c = λ truth tree same s fit.
-    stop_comes Known (λ status. symlink tree c.args.call.now c.args.at.now c.args.name.now c.args.path.now c.args.sattr.now c.args.now 8 ≡ Err status) (LacksPlace c.args.volume c.args.areas truth c.args.at.now c.args.name.now) c.in-Err.stop c.in-Err.ensures.inner
+    stop_comes Known (λ status. symlink tree c.args.call.now c.args.at.now c.args.name.now c.args.path.now c.args.sattr.now c.args.now 8 ≡ Err status) (MakesPlace c.args.volume c.args.areas (g.V.View.held c.args.view.now) (g.V.View.hints c.args.view.now) truth c.args.at.now c.args.name.now) c.in-Err.stop c.in-Err.ensures.inner
+
+pub returns-in-Ok-place_new-clause-ready : goal.returns-in-Ok-place_new-clause-ready
+returns-in-Ok-place_new-clause-ready g c = λ truth tree same s fit.
+    let f = c.in-Ok.ensures.step truth tree same s fit in
+    enters c.args.volume c.args.areas truth c.args.at.now c.args.name.now c.in-Ok.directory.handle c.in-Ok.directory.inode (sym c.in-Ok.ensures.live.is_named) f.place.directory.at.holds (c.in-Ok-place_new.ensures.finds c.args.volume truth tree f.place.directory)

@@ -1,5 +1,5 @@
 use Rattle.bx_creating.proofs.Placed.{enter_stops, make_stops, may_enter, places, room_stops}
-use Rattle.bx_adding.specs.Lacking.{LacksEither}
+use Rattle.bx_adding.specs.Lacking.{MakesEither}
 use Rattle.bx_adding.proofs.Lacks.{never_first}
 use Rattle.bx_creating.proofs.placing.place_new.Goals as goal
 
@@ -35,8 +35,11 @@ returns-in-Ok-enter-clause-step g c = λ volume truth tree body p b.
 
 pub returns-in-Err-make_new-clause-lacks : goal.returns-in-Err-make_new-clause-lacks
 returns-in-Err-make_new-clause-lacks g c = λ volume truth tree d.
-    never_first (LacksEither c.args.areas truth c.args.directory.inode.tree c.args.name.now c.args.directory.inode.next) c.in-Err-make_new.error c.in-Err-make_new.ensures.inner
+    never_first (MakesEither c.args.areas (g.V.View.held c.args.view.now) (g.V.View.hints c.args.view.now) truth c.args.directory.inode.tree c.args.name.now c.args.directory.inode.next) c.in-Err-make_new.error c.in-Err-make_new.ensures.inner
 
 pub returns-in-Err-enter-clause-lacks : goal.returns-in-Err-enter-clause-lacks
 returns-in-Err-enter-clause-lacks g c = λ volume truth tree d.
-    never_first (LacksEither c.args.areas truth c.args.directory.inode.tree c.args.name.now c.args.directory.inode.next) c.in-Err-enter.error c.in-Err-enter.ensures.inner
+    never_first (MakesEither c.args.areas (g.V.View.held c.args.view.now) (g.V.View.hints c.args.view.now) truth c.args.directory.inode.tree c.args.name.now c.args.directory.inode.next) c.in-Err-enter.error c.in-Err-enter.ensures.inner
+
+pub returns-in-Ok-enter-clause-finds : goal.returns-in-Ok-enter-clause-finds
+returns-in-Ok-enter-clause-finds g c = λ volume truth tree d. c.in-Ok.ensures.finds volume truth tree d

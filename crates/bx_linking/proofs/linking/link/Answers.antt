@@ -5,7 +5,7 @@ use Rattle.bx_reads.proofs.Told.{over_none}
 use Rattle.bx_records.specs.Drafts.{Changed}
 use Rattle.bx_views.specs.Truths.{with_draft}
 use Rattle.bx_linking.proofs.Comes.{inode_never, is_changed, is_first, is_stopped, no_file, no_file_named, stop_comes}
-use Rattle.bx_adding.specs.Lacking.{LacksPlace}
+use Rattle.bx_adding.specs.Lacking.{MakesPlace}
 use Rattle.bx_base.specs.declared.names.Mode.TheVariants.{Exclusive}
 use Rattle.bx_layout.specs.declared.inode.Inode.{Inode}
 use Rattle.bx_model.specs.Making.{link}
@@ -43,9 +43,15 @@ returns-in-Err-link_into-clause-lacks g c = λ truth tree same s fit.
     let f = (subst (λ (d : List Changed). IsInodeOf c.args.areas (with_draft truth d) tree c.in-Some.handle c.in-Ok.inode) c.new-none.ensures
     (c.in-Ok.ensures.tree truth tree same (over_none c.args.areas truth tree c.new-none.result c.new-none.ensures s.is))) in
     is_first tree c.args.call.now c.args.at.now c.args.name.now c.args.now c.args.volume c.args.from.now s.volume_is c.in-Some.handle c.in-Some.ensures c.args.areas truth c.in-Ok.inode f
-    (LacksPlace c.args.volume c.args.areas truth c.args.at.now c.args.name.now) c.in-Err-link_into.error (c.in-Err-link_into.ensures.step truth tree same s fit f) (c.in-Err-link_into.ensures.lacks truth tree same s fit f)
+    (MakesPlace c.args.volume c.args.areas (g.V.View.held c.args.view.now) (g.V.View.hints c.args.view.now) truth c.args.at.now c.args.name.now) c.in-Err-link_into.error (c.in-Err-link_into.ensures.step truth tree same s fit f) (c.in-Err-link_into.ensures.lacks truth tree same s fit f)
 
 pub returns-in-Err-clause-lacks : goal.returns-in-Err-clause-lacks
 returns-in-Err-clause-lacks g c = λ truth tree same s fit.
-    stop_comes Inode (λ status. link tree c.args.call.now c.args.from.now c.args.at.now c.args.name.now c.args.now 8 ≡ Err status) (LacksPlace c.args.volume c.args.areas truth c.args.at.now c.args.name.now) c.in-Err.stop
+    stop_comes Inode (λ status. link tree c.args.call.now c.args.from.now c.args.at.now c.args.name.now c.args.now 8 ≡ Err status) (MakesPlace c.args.volume c.args.areas (g.V.View.held c.args.view.now) (g.V.View.hints c.args.view.now) truth c.args.at.now c.args.name.now) c.in-Err.stop
     (inode_never _ c.args.areas c.in-Some.handle Exclusive c.in-Err.stop c.in-Err.ensures.at)
+
+pub returns-clause-ready : goal.returns-clause-ready
+returns-clause-ready g c = λ truth tree same s fit.
+    let f = (subst (λ (d : List Changed). IsInodeOf c.args.areas (with_draft truth d) tree c.in-Some.handle c.in-Ok.inode) c.new-none.ensures
+    (c.in-Ok.ensures.tree truth tree same (over_none c.args.areas truth tree c.new-none.result c.new-none.ensures s.is))) in
+    c.in-Ok-link_into.ensures.ready truth tree same s fit f

@@ -3,8 +3,8 @@ use Rattle.bx_dirs.specs.Changes.{OnAddPath, entry_of}
 use Rattle.bx_model.specs.Reading.{named_file}
 use Rattle.bx_linking.specs.Linking.{OnInto, OnTest, linking}
 use Rattle.bx_linking.proofs.Comes.{both, into, is_linked, needs_by, needs_if, never_if, no_directory, no_name, not_linked, stop_first}
-use Rattle.bx_adding.proofs.Lacks.{first_so}
-use Rattle.bx_adding.specs.Lacking.{LacksPlace}
+use Rattle.bx_adding.proofs.Lacks.{enters, first_so, so_ok}
+use Rattle.bx_adding.specs.Lacking.{MakesPlace, ReadyToEnter}
 use Rattle.bx_layout.specs.declared.inode.Inode.{Inode}
 use Rattle.bx_linking.proofs.places.link_into.Goals as goal
 
@@ -43,10 +43,17 @@ pub returns-in-Err-may_link-clause-lacks : goal.returns-in-Err-may_link-clause-l
 returns-in-Err-may_link-clause-lacks g c = λ truth tree same s fit is.
     let m = c.in-Ok.ensures.step truth tree same s.is in
     let b = both tree c.args.call.now is.file c.args.name.now c.args.now c.args.volume c.args.at.now s.volume_is c.in-Some.handle c.in-Some.ensures c.args.areas truth c.in-Ok.inode m (g.V.View.held c.args.view.now) (g.V.View.hints c.args.view.now) c.args.file.inode c.args.file.handle c.requires.few same s fit is in
-    first_so (λ l. record { handle = c.in-Some.handle; inode = c.in-Ok.inode; is_named = sym c.in-Some.ensures; holds = m.at.holds; lacks = l }) c.in-Err-may_link.error (c.in-Err-may_link.ensures.lacks c.args.volume truth tree b)
+    first_so (λ blocks make. record { handle = c.in-Some.handle; inode = c.in-Ok.inode; is_named = sym c.in-Some.ensures; holds = m.at.holds; makes = make }) c.in-Err-may_link.error (c.in-Err-may_link.ensures.lacks c.args.volume truth tree b)
 
 pub returns-in-Err-clause-lacks : goal.returns-in-Err-clause-lacks
-returns-in-Err-clause-lacks g c = λ truth tree same s fit is. stop_first Inode (LacksPlace c.args.volume c.args.areas truth c.args.at.now c.args.name.now) c.in-Err.stop c.in-Err.ensures.inner
+returns-in-Err-clause-lacks g c = λ truth tree same s fit is. stop_first Inode (MakesPlace c.args.volume c.args.areas (g.V.View.held c.args.view.now) (g.V.View.hints c.args.view.now) truth c.args.at.now c.args.name.now) c.in-Err.stop c.in-Err.ensures.inner
 
 pub returns-in-Ok-may_link-clause-lacks : goal.returns-in-Ok-may_link-clause-lacks
-returns-in-Ok-may_link-clause-lacks g c = λ truth tree same s fit is. never_if (LacksPlace c.args.volume c.args.areas truth c.args.at.now c.args.name.now) c.link_file.result c.link_file.ensures.inner
+returns-in-Ok-may_link-clause-lacks g c = λ truth tree same s fit is. never_if (MakesPlace c.args.volume c.args.areas (g.V.View.held c.args.view.now) (g.V.View.hints c.args.view.now) truth c.args.at.now c.args.name.now) c.link_file.result c.link_file.ensures.inner
+
+pub returns-in-Ok-may_link-clause-ready : goal.returns-in-Ok-may_link-clause-ready
+returns-in-Ok-may_link-clause-ready g c = λ truth tree same s fit is.
+    let m = c.in-Ok.ensures.step truth tree same s.is in
+    let b = both tree c.args.call.now is.file c.args.name.now c.args.now c.args.volume c.args.at.now s.volume_is c.in-Some.handle c.in-Some.ensures c.args.areas truth c.in-Ok.inode m (g.V.View.held c.args.view.now) (g.V.View.hints c.args.view.now) c.args.file.inode c.args.file.handle c.requires.few same s fit is in
+    so_ok (ReadyToEnter c.args.volume c.args.areas truth c.args.at.now c.args.name.now)
+    (enters c.args.volume c.args.areas truth c.args.at.now c.args.name.now c.in-Some.handle c.in-Ok.inode c.in-Some.ensures m.at.holds (c.in-Ok-may_link.ensures.finds c.args.volume truth tree b)) c.link_file.result

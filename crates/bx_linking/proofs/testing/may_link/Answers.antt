@@ -21,3 +21,7 @@ returns-in-Ok-None-clause-step g c = λ volume truth tree is.
 pub returns-in-Ok-None-clause-lacks : goal.returns-in-Ok-None-clause-lacks
 returns-in-Ok-None-clause-lacks g c = λ volume truth tree is.
     c.room_for.ensures.lacks volume truth tree (into volume c.args.areas (g.V.View.held c.args.view.now) (g.V.View.hints c.args.view.now) truth tree c.args.file.now.handle c.args.file.now.inode c.args.directory.now.handle c.args.directory.now.inode c.args.name.now is)
+
+pub returns-in-Ok-None-clause-finds : goal.returns-in-Ok-None-clause-finds
+returns-in-Ok-None-clause-finds g c = λ volume truth tree is.
+    c.room_for.ensures.finds volume truth tree (into volume c.args.areas (g.V.View.held c.args.view.now) (g.V.View.hints c.args.view.now) truth tree c.args.file.now.handle c.args.file.now.inode c.args.directory.now.handle c.args.directory.now.inode c.args.name.now is)

@@ -1,6 +1,6 @@
 -- What RENAME comes to by what it finds.
 use Rattle.std.proofs.Common.{◌≡◌, ℕ, ◌≤◌, Bool, true, false, eqb-true, List, [], Option, Some, None, refl, sym, ap, ◌∙◌, subst}
-use Rattle.std.specs.Prelude.{◌≢◌, ◌==◌, ◌&&◌, not, if◌then◌else◌, Result, Ok, Err}
+use Rattle.std.specs.Prelude.{◌≢◌, ◌&&◌, not, if◌then◌else◌, Result, Ok, Err}
 use Rattle.std.proofs.lemmas.Bool.{not-false}
 use Rattle.bx_adding.specs.Lacking.{IfFirst}
 use Rattle.bx_changes.specs.Changes.{Changes}
@@ -39,7 +39,7 @@ use Rattle.bx_truth.proofs.Cases.{eq_false, eq_true}
 use Rattle.bx_views.specs.Truths.{Held, Hints, IsTruth, Truth, with_draft}
 use Rattle.bx_ways.specs.Ways.{TellsError}
 use Rattle.bx_renaming.specs.declared.places.Places.{Places}
-use Rattle.bx_renaming.specs.Found.{IsMoved, MovedFor, OtherFor, moved_in}
+use Rattle.bx_renaming.specs.Found.{IsMoved, MovedFor, OtherFor}
 use Rattle.bx_renaming.specs.Places.{ArePlaces, PlacesFor}
 use Rattle.bx_renaming.specs.Renaming.{AreDirectories, coming_in, depth_errors, done_so, moving_onto, moving_so, onto_errors}
 
@@ -234,13 +234,13 @@ module _ (tree : Tree) (call : Call) (from name to new_name : List ℕ) where
       is_stopped (Full spare) e = (e.0, comes spare ∙ e.1)
 
       -- blocks are to be written first where there is no error
-      pub is_first : (Lacks : Type 0) (error : ChangeError) → ComesBy areas truth (move_between tree p.source.file name p.target.file new_name now) (Err error) → IfFirst Lacks error
-          → ComesFirst (λ status. rename tree call from name to new_name now 8 ≡ Err status) Lacks error
-      is_first Lacks (Stopped (Inner blocks)) e lacks = ((λ status is. e.1 status (sym (comes 8) ∙ is)), lacks)
-      is_first Lacks (Stopped (Status status)) e lacks = tt
-      is_first Lacks (Stopped (Need at mode)) e lacks = tt
-      is_first Lacks (Stopped OutOfMemory) e lacks = tt
-      is_first Lacks (Full spare) e lacks = tt
+      pub is_first : (Prepares : List Changed → Type 0) (error : ChangeError) → ComesBy areas truth (move_between tree p.source.file name p.target.file new_name now) (Err error) → IfFirst Prepares error
+          → ComesFirst (λ status. rename tree call from name to new_name now 8 ≡ Err status) Prepares error
+      is_first Prepares (Stopped (Inner blocks)) e prepares = ((λ status is. e.1 status (sym (comes 8) ∙ is)), prepares)
+      is_first Prepares (Stopped (Status status)) e prepares = tt
+      is_first Prepares (Stopped (Need at mode)) e prepares = tt
+      is_first Prepares (Stopped OutOfMemory) e prepares = tt
+      is_first Prepares (Full spare) e prepares = tt
 
       pub is_renamed : Stands volume areas truth tree → (new : List Changed) → ComesSo areas truth (move_between tree p.source.file name p.target.file new_name now 8) new
           → Changes volume areas truth (rename tree call from name to new_name now 8) new (reply.Status 0)

@@ -1,18 +1,15 @@
 -- A file may move where the tests found nothing against it.
-use Rattle.std.proofs.Common.{◌≡◌, ℕ, Bool, true, false, List, [], ◌∷◌, Option, Some, None, refl, sym, ap, ◌∙◌, subst, arith, inl, inr}
+use Rattle.std.proofs.Common.{◌≡◌, ℕ, Bool, true, false, List, [], ◌∷◌, Option, Some, None, refl, sym, ap, ◌∙◌, arith, inl, inr}
 use Rattle.std.specs.Prelude.{◌≢◌, ◌⊎◌, ◌==◌, ◌&&◌, not, nat_lt, length, Contains, Result, Ok}
-use Rattle.std.proofs.lemmas.Bool.{not-false}
 use Rattle.std.proofs.lemmas.Bool.Decides.{nat_tests}
 use Rattle.bx_changes.specs.declared.error.ChangeError.{ChangeError}
 use Rattle.bx_entries.specs.declared.taking.Known.{Known}
-use Rattle.bx_inodes.specs.Inodes.{IsInodeOf}
 use Rattle.bx_linking.specs.Drafting.{ComesBy}
 use Rattle.bx_model.specs.declared.tree.Tree.{Tree}
 use Rattle.bx_model.specs.FileTrees.{links_to}
 use Rattle.bx_model.specs.Opening.{root_handle}
 use Rattle.bx_model.specs.Removing.{has_entries}
 use Rattle.bx_model.specs.Renaming.{changes_parent, leads_by, replace_errors}
-use Rattle.bx_model.specs.Steps.{refuse, ◌>>◌}
 use Rattle.bx_moving.specs.declared.moves.Moving.{Moving}
 use Rattle.bx_moving.specs.declared.moves.Replaced.{Replaced}
 use Rattle.bx_moving.specs.Moves.{IsReplaced}
@@ -28,7 +25,7 @@ use Rattle.bx_tree_laws.proofs.Counts.{none_contained}
 use Rattle.bx_tree_laws.proofs.Entries.{entry_found}
 use Rattle.bx_tree_laws.proofs.Links.{names_count}
 use Rattle.bx_tree_laws.proofs.Lookups.{some_same}
-use Rattle.bx_tree_laws.proofs.Steps.{after, after_refuse, refused_not}
+use Rattle.bx_tree_laws.proofs.Steps.{after_refuse, refused_not}
 use Rattle.bx_tree_laws.proofs.Walks.{Cut, cut_of}
 use Rattle.bx_truth.proofs.Cases.{eq_true, same_or}
 use Rattle.bx_views.specs.Truths.{Held, Hints, Truth}

@@ -35,4 +35,4 @@ ReadyFor areas truth root number names name others new_name = AreTwo names name 
 abbrev pub ReadyToMove : ℕ → ℕ → Truth → Tree → List ℕ → List ℕ → List ℕ → List ℕ → Type 0
 ReadyToMove volume areas truth tree from name to new_name =
     (source target : File) → named_file tree from ≡ Some source → named_file tree to ≡ Some target → AreTwo (names_of source.body) name (names_of target.body) new_name
-        → ReadyToEnter volume areas truth to new_name
+    → ReadyToEnter volume areas truth to new_name

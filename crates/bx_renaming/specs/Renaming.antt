@@ -1,6 +1,5 @@
 -- The move of RENAME from the two directories on: what it comes to by what is found, and what stops it.
-use Rattle.std.specs.Prelude.{◌≡◌, ◌≢◌, ℕ, ◌≤◌, ◌&&◌, not, if◌then◌else◌, List, Option, Some, None, Result, Ok, Err}
-use Rattle.bx_entries.specs.declared.taking.Known.{Known}
+use Rattle.std.specs.Prelude.{◌≡◌, ◌≢◌, ℕ, ◌≤◌, ◌&&◌, not, if◌then◌else◌, List, Option, Some, Result, Ok}
 use Rattle.bx_hints.specs.Fitting.{HintsFitAll}
 use Rattle.bx_inodes.specs.Inodes.{IsInodeOf}
 use Rattle.bx_inodes.specs.Stands.{Stands}

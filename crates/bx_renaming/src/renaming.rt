@@ -35,8 +35,8 @@ use std::alloc::Global;
 /// file, `NOTDIR` where a file handle names no directory, `ACCES` of a bad name and where the caller may not change a directory, `NOENT` where no entry
 /// has the name, `PERM` where a directory would come below itself, `NAMETOOLONG` where 512 moves to a parent don't lead from the second directory to
 /// the root, `NOTDIR` of a directory in the place of another file, `ISDIR` of a file in that of a directory, `NOTEMPTY` where that has entries, and
-/// `DQUOT` where the second directory has no number left. `Inner` are the blocks that make room, which are to be written first: they come only where none
-/// of these errors does, the two names aren't one file, and room for the new one is lacking in the second directory's tree. `Full` comes where fewer than 8
+/// `DQUOT` where the second directory has no number left. `Inner` are the blocks that make room, which are to be written first: they come exactly where
+/// none of these errors does, the two names aren't one file, and room for the new one is lacking in the second directory's tree. `Full` comes where fewer than 8
 /// blocks are free and one is wanted for that. `now` is in seconds and microseconds.
 pub fn rename<V: View>(
     alloc: Global,

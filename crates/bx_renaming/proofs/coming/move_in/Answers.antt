@@ -1,7 +1,8 @@
 use Rattle.std.proofs.Common.{arith}
 use Rattle.bx_renaming.proofs.Rooms.{counts_so, into, may_move, moves_so, no_number, no_room}
+use Rattle.bx_adding.proofs.Lacks.{so_ok}
 use Rattle.bx_linking.proofs.Comes.{never_if}
-use Rattle.bx_adding.specs.Lacking.{LacksEither}
+use Rattle.bx_adding.specs.Lacking.{FindsBoth, MakesEither}
 use Rattle.bx_renaming.proofs.coming.move_in.Goals as goal
 
 pub returns-then-places-ge-LAST_NUMBER-clause-step : goal.returns-then-places-ge-LAST_NUMBER-clause-step
@@ -24,4 +25,9 @@ returns-in-Err-clause-lacks g c = λ volume truth tree are.
     c.in-Err.ensures.lacks volume truth tree (into volume c.args.areas (g.V.View.held c.args.view.now) (g.V.View.hints c.args.view.now) truth tree c.args.places.now are)
 
 pub returns-in-Ok-clause-lacks : goal.returns-in-Ok-clause-lacks
-returns-in-Ok-clause-lacks g c = λ volume truth tree are. never_if (LacksEither c.args.areas truth c.args.places.now.target.inode.tree c.args.new_name.now c.args.places.now.target.inode.next) c.move_file.result c.move_file.ensures.inner
+returns-in-Ok-clause-lacks g c = λ volume truth tree are. never_if (MakesEither c.args.areas (g.V.View.held c.args.view.now) (g.V.View.hints c.args.view.now) truth c.args.places.now.target.inode.tree c.args.new_name.now c.args.places.now.target.inode.next) c.move_file.result c.move_file.ensures.inner
+
+pub returns-in-Ok-clause-finds : goal.returns-in-Ok-clause-finds
+returns-in-Ok-clause-finds g c = λ volume truth tree are.
+    so_ok (FindsBoth c.args.areas truth c.args.places.now.target.inode.tree c.args.new_name.now c.args.places.now.target.inode.next)
+    (c.in-Ok.ensures.finds volume truth tree (into volume c.args.areas (g.V.View.held c.args.view.now) (g.V.View.hints c.args.view.now) truth tree c.args.places.now are)) c.move_file.result

@@ -1,14 +1,15 @@
 use Rattle.std.proofs.Common.{ℕ, Option, subst}
 use Rattle.std.specs.Prelude.{Ok}
+use Rattle.std.proofs.lemmas.Result.{IfOk-weaker}
 use Rattle.bx_entries.specs.declared.taking.Known.{Known}
 use Rattle.bx_tree_files.specs.Names.{names_of}
 use Rattle.bx_renaming.specs.Found.{OtherFor}
 use Rattle.bx_renaming.proofs.Comes.{itself_has, nobody_has, not_had, other_has}
 use Rattle.bx_renaming.proofs.Rooms.{into}
 use Rattle.bx_adding.proofs.Lacks.{first_if}
-use Rattle.bx_renaming.proofs.Lacks.{another, nobody}
+use Rattle.bx_renaming.proofs.Lacks.{another, nobody, one_file}
 use Rattle.bx_linking.proofs.Comes.{stop_first}
-use Rattle.bx_renaming.specs.Lacking.{LacksRoomFor}
+use Rattle.bx_renaming.specs.Lacking.{MakesRoomFor}
 use Rattle.bx_renaming.proofs.onto.move_onto.Goals as goal
 
 pub returns-in-Err-clause-step : goal.returns-in-Err-clause-step
@@ -34,16 +35,27 @@ returns-else-other-moved-clause-step g c = λ volume truth tree are is.
 pub returns-in-Ok-None-clause-lacks : goal.returns-in-Ok-None-clause-lacks
 returns-in-Ok-None-clause-lacks g c = λ volume truth tree are is.
     let none = subst (λ (o : Option (ℕ × Known)). OtherFor c.args.areas truth tree (names_of are.target.file.body) c.args.new_name.now (Ok o)) c.in-Ok-None.field-0-is (c.in-Ok-None.ensures.step volume truth tree (into volume c.args.areas (g.V.View.held c.args.view.now) (g.V.View.hints c.args.view.now) truth tree c.args.places.now are)) in
-    first_if (λ l. (nobody (names_of are.source.file.body) (names_of are.target.file.body) c.args.name.now c.args.new_name.now none, l)) c.move_free.result (c.move_free.ensures.lacks volume truth tree are)
+    first_if (λ blocks made. (nobody (names_of are.source.file.body) (names_of are.target.file.body) c.args.name.now c.args.new_name.now none, made)) c.move_free.result (c.move_free.ensures.lacks volume truth tree are)
 
 pub returns-else-other-moved-clause-lacks : goal.returns-else-other-moved-clause-lacks
 returns-else-other-moved-clause-lacks g c = λ volume truth tree are is.
     let had = subst (λ (o : Option (ℕ × Known)). OtherFor c.args.areas truth tree (names_of are.target.file.body) c.args.new_name.now (Ok o)) c.in-Ok-Some.field-0-is (c.in-Ok-Some.ensures.step volume truth tree (into volume c.args.areas (g.V.View.held c.args.view.now) (g.V.View.hints c.args.view.now) truth tree c.args.places.now are)) in
     first_if
-    (λ l. (another c.args.areas truth tree (names_of are.source.file.body) (names_of are.target.file.body) c.args.name.now c.args.new_name.now c.args.number c.in-Ok-Some.second c.args.moved.now c.in-Ok-Some.other is had c.if-other-moved.false, l))
+    (λ blocks made. (another c.args.areas truth tree (names_of are.source.file.body) (names_of are.target.file.body) c.args.name.now c.args.new_name.now c.args.number c.in-Ok-Some.second c.args.moved.now c.in-Ok-Some.other is had c.if-other-moved.false, made))
     c.move_over.result (c.move_over.ensures.lacks volume truth tree are)
 
 pub returns-in-Err-clause-lacks : goal.returns-in-Err-clause-lacks
 returns-in-Err-clause-lacks g c = λ volume truth tree are is.
-    stop_first (Option (ℕ × Known)) (LacksRoomFor c.args.areas truth c.args.places.now.target.inode.tree c.args.places.now.target.inode.next (names_of are.source.file.body) c.args.name.now (names_of are.target.file.body) c.args.new_name.now)
+    stop_first (Option (ℕ × Known)) (MakesRoomFor c.args.areas (g.V.View.held c.args.view.now) (g.V.View.hints c.args.view.now) truth c.args.places.now.target.inode.tree c.args.places.now.target.inode.next (names_of are.source.file.body) c.args.name.now (names_of are.target.file.body) c.args.new_name.now)
     c.in-Err.stop c.in-Err.ensures.inner
+
+pub returns-in-Ok-None-clause-ready : goal.returns-in-Ok-None-clause-ready
+returns-in-Ok-None-clause-ready g c = λ volume truth tree are is. IfOk-weaker c.move_free.result _ _ (λ made found two. found) (c.move_free.ensures.finds volume truth tree are)
+
+pub returns-then-other-moved-clause-ready : goal.returns-then-other-moved-clause-ready
+returns-then-other-moved-clause-ready g c = λ volume truth tree are is two.
+    let had = subst (λ (o : Option (ℕ × Known)). OtherFor c.args.areas truth tree (names_of are.target.file.body) c.args.new_name.now (Ok o)) c.in-Ok-Some.field-0-is (c.in-Ok-Some.ensures.step volume truth tree (into volume c.args.areas (g.V.View.held c.args.view.now) (g.V.View.hints c.args.view.now) truth tree c.args.places.now are)) in
+    absurd (one_file c.args.areas truth tree (names_of are.source.file.body) (names_of are.target.file.body) c.args.name.now c.args.new_name.now c.args.number c.in-Ok-Some.second c.args.moved.now c.in-Ok-Some.other is had c.if-other-moved.true two)
+
+pub returns-else-other-moved-clause-ready : goal.returns-else-other-moved-clause-ready
+returns-else-other-moved-clause-ready g c = λ volume truth tree are is. IfOk-weaker c.move_over.result _ _ (λ made found two. found) (c.move_over.ensures.finds volume truth tree are)

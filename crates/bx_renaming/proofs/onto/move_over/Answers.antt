@@ -5,7 +5,7 @@ use Rattle.bx_renaming.specs.Renaming.{moving_so, onto_errors}
 use Rattle.bx_renaming.proofs.Comes.{both_passed, over_fails, over_passes, stopped_so}
 use Rattle.bx_renaming.proofs.Passed.{over, over_comes}
 use Rattle.bx_linking.proofs.Comes.{stop_first}
-use Rattle.bx_adding.specs.Lacking.{LacksEither}
+use Rattle.bx_adding.specs.Lacking.{MakesEither}
 use Rattle.bx_renaming.proofs.onto.move_over.Goals as goal
 
 pub returns-in-Err-clause-step : goal.returns-in-Err-clause-step
@@ -26,7 +26,10 @@ returns-in-Ok-None-clause-step g c = λ volume truth tree are is had apart.
     (c.move_in.ensures.step volume truth tree are (over volume c.args.areas (g.V.View.held c.args.view.now) (g.V.View.hints c.args.view.now) truth tree c.args.places.now are c.args.name.now c.args.number c.args.moved.now is both.0 c.moving_of-moving.result c.moving_of-moving.ensures c.args.new_name.now c.args.second c.args.other.now had apart both.1 c.replaced_of-replaced.result c.replaced_of-replaced.ensures)))
 
 pub returns-in-Err-clause-lacks : goal.returns-in-Err-clause-lacks
-returns-in-Err-clause-lacks g c = λ volume truth tree are. stop_first (Option ℕ) (LacksEither c.args.areas truth c.args.places.now.target.inode.tree c.args.new_name.now c.args.places.now.target.inode.next) c.in-Err.stop c.in-Err.ensures.inner
+returns-in-Err-clause-lacks g c = λ volume truth tree are. stop_first (Option ℕ) (MakesEither c.args.areas (g.V.View.held c.args.view.now) (g.V.View.hints c.args.view.now) truth c.args.places.now.target.inode.tree c.args.new_name.now c.args.places.now.target.inode.next) c.in-Err.stop c.in-Err.ensures.inner
 
 pub returns-in-Ok-None-clause-lacks : goal.returns-in-Ok-None-clause-lacks
 returns-in-Ok-None-clause-lacks g c = λ volume truth tree are. c.move_in.ensures.lacks volume truth tree are
+
+pub returns-in-Ok-None-clause-finds : goal.returns-in-Ok-None-clause-finds
+returns-in-Ok-None-clause-finds g c = λ volume truth tree are. c.move_in.ensures.finds volume truth tree are

@@ -4,7 +4,7 @@ use Rattle.bx_linking.proofs.Comes.{stop_first}
 use Rattle.std.proofs.Common.{ℕ}
 use Rattle.bx_entries.specs.declared.taking.Known.{Known}
 use Rattle.bx_tree_files.specs.Names.{names_of}
-use Rattle.bx_renaming.specs.Lacking.{LacksRoomFor}
+use Rattle.bx_renaming.specs.Lacking.{MakesRoomFor}
 use Rattle.bx_renaming.proofs.renaming.move_between.Goals as goal
 
 pub returns-in-Err-clause-step : goal.returns-in-Err-clause-step
@@ -24,5 +24,9 @@ returns-in-Ok-clause-lacks g c = λ volume truth tree are.
 
 pub returns-in-Err-clause-lacks : goal.returns-in-Err-clause-lacks
 returns-in-Err-clause-lacks g c = λ volume truth tree are.
-    stop_first (ℕ × Known) (LacksRoomFor c.args.areas truth c.args.places.now.target.inode.tree c.args.places.now.target.inode.next (names_of are.source.file.body) c.args.name.now (names_of are.target.file.body) c.args.new_name.now)
+    stop_first (ℕ × Known) (MakesRoomFor c.args.areas (g.V.View.held c.args.view.now) (g.V.View.hints c.args.view.now) truth c.args.places.now.target.inode.tree c.args.places.now.target.inode.next (names_of are.source.file.body) c.args.name.now (names_of are.target.file.body) c.args.new_name.now)
     c.in-Err.stop c.in-Err.ensures.inner
+
+pub returns-in-Ok-clause-ready : goal.returns-in-Ok-clause-ready
+returns-in-Ok-clause-ready g c = λ volume truth tree are.
+    c.move_onto.ensures.ready volume truth tree are (c.in-Ok.ensures.step volume truth tree (from volume c.args.areas (g.V.View.held c.args.view.now) (g.V.View.hints c.args.view.now) truth tree c.args.places.now are))

@@ -1,7 +1,7 @@
 use Rattle.bx_renaming.proofs.Comes.{between, is_first, is_renamed, is_stopped, no_places}
 use Rattle.bx_adding.proofs.Lacks.{first_so}
-use Rattle.bx_renaming.proofs.Lacks.{lacks_move}
-use Rattle.bx_renaming.specs.Lacking.{LacksMove}
+use Rattle.bx_renaming.proofs.Lacks.{prepares_move, ready_move}
+use Rattle.bx_renaming.specs.Lacking.{PreparesMove}
 use Rattle.bx_linking.proofs.Comes.{stop_comes}
 use Rattle.std.proofs.Common.{◌≡◌}
 use Rattle.std.specs.Prelude.{Err}
@@ -34,12 +34,19 @@ returns-in-Err-move_between-clause-lacks g c = λ truth tree same s fit.
     let p = c.in-Ok.ensures.step truth tree same s in
     let are = between tree c.args.call.now c.args.from.now c.args.name.now c.args.to.now c.args.new_name.now c.args.now c.args.volume c.args.areas truth c.in-Ok.places p (g.V.View.held c.args.view.now) (g.V.View.hints c.args.view.now) c.requires.few same s fit in
     is_first tree c.args.call.now c.args.from.now c.args.name.now c.args.to.now c.args.new_name.now c.args.now c.args.volume c.args.areas truth c.in-Ok.places p
-    (LacksMove c.args.volume c.args.areas truth tree c.args.from.now c.args.name.now c.args.to.now c.args.new_name.now) c.in-Err-move_between.error (c.in-Err-move_between.ensures.step c.args.volume truth tree are)
+    (PreparesMove c.args.volume c.args.areas (g.V.View.held c.args.view.now) (g.V.View.hints c.args.view.now) truth tree c.args.from.now c.args.name.now c.args.to.now c.args.new_name.now) c.in-Err-move_between.error (c.in-Err-move_between.ensures.step c.args.volume truth tree are)
     (first_so
-    (lacks_move c.args.volume c.args.areas (g.V.View.held c.args.view.now) (g.V.View.hints c.args.view.now) truth tree c.args.from.now c.args.name.now c.args.to.now c.args.new_name.now c.in-Ok.places s.volume_is c.in-Ok.ensures.live p.source p.target)
+    (prepares_move c.args.volume c.args.areas (g.V.View.held c.args.view.now) (g.V.View.hints c.args.view.now) truth tree c.args.from.now c.args.name.now c.args.to.now c.args.new_name.now c.in-Ok.places s.volume_is c.in-Ok.ensures.live p.source p.target)
     c.in-Err-move_between.error (c.in-Err-move_between.ensures.lacks c.args.volume truth tree are))
 
 pub returns-in-Err-clause-lacks : goal.returns-in-Err-clause-lacks
 returns-in-Err-clause-lacks g c = λ truth tree same s fit.
     stop_comes Places (λ status. rename tree c.args.call.now c.args.from.now c.args.name.now c.args.to.now c.args.new_name.now c.args.now 8 ≡ Err status)
-    (LacksMove c.args.volume c.args.areas truth tree c.args.from.now c.args.name.now c.args.to.now c.args.new_name.now) c.in-Err.stop c.in-Err.ensures.inner
+    (PreparesMove c.args.volume c.args.areas (g.V.View.held c.args.view.now) (g.V.View.hints c.args.view.now) truth tree c.args.from.now c.args.name.now c.args.to.now c.args.new_name.now) c.in-Err.stop c.in-Err.ensures.inner
+
+pub returns-clause-ready : goal.returns-clause-ready
+returns-clause-ready g c = λ truth tree same s fit.
+    let p = c.in-Ok.ensures.step truth tree same s in
+    let are = between tree c.args.call.now c.args.from.now c.args.name.now c.args.to.now c.args.new_name.now c.args.now c.args.volume c.args.areas truth c.in-Ok.places p (g.V.View.held c.args.view.now) (g.V.View.hints c.args.view.now) c.requires.few same s fit in
+    ready_move c.args.volume c.args.areas (g.V.View.held c.args.view.now) (g.V.View.hints c.args.view.now) truth tree c.args.from.now c.args.name.now c.args.to.now c.args.new_name.now c.in-Ok.places s.volume_is c.in-Ok.ensures.live p.source p.target
+    (c.in-Ok-move_between.ensures.ready c.args.volume truth tree are)

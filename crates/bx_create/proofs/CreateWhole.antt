@@ -1,7 +1,9 @@
 -- What CREATE comes to, from the directory on.
 use Rattle.std.proofs.Common.{◌≡◌, ℕ, ◌≤◌, eqb-true, List, Option, Some, None, refl, sym, ap, ◌∙◌, subst, inl, inr}
-use Rattle.std.specs.Prelude.{IfErr, Result, Ok, Err}
-use Rattle.bx_adding.specs.Lacking.{LacksEither}
+use Rattle.std.specs.Prelude.{IfErr, IfOk, Result, Ok, Err}
+use Rattle.std.proofs.lemmas.Result.{IfOk-weaker}
+use Rattle.bx_adding.proofs.Lacks.{enters}
+use Rattle.bx_adding.specs.Lacking.{FindsBoth, MakesEither}
 use Rattle.bx_changes.specs.First.{ComesFirst, StopsFirst}
 use Rattle.bx_changes.specs.Growing.{IsMaking, Makes}
 use Rattle.bx_changes.specs.declared.error.ChangeError.{ChangeError}
@@ -33,13 +35,16 @@ use Rattle.bx_tree_files.specs.Times.{Time}
 use Rattle.bx_views.specs.Truths.{Held, Hints, IsTruth, Truth}
 use Rattle.bx_creating.specs.Creating.{IsWithout}
 use Rattle.bx_create.specs.Existing.{ComesOver}
-use Rattle.bx_create.specs.Lacking.{LacksCreate, LacksIn, SizeGrowsOver}
+use Rattle.bx_create.specs.Lacking.{ClearsGiven, PreparesCreate, PreparesIn, ReadyByEntry, ReadyIn, ReadyToCreate, ReadyToResize}
 use Rattle.bx_create.specs.Searching.{FoundIn, IsSearched, MaySearch, SearchedFor, searchable}
 use Rattle.bx_create.proofs.First.{first_if, first_so}
 use Rattle.bx_create.proofs.NamesThere.{is_a_directory, is_good, searches}
 
 abbrev Made : Type 0
 Made = Result (List Changed × Reply × ℕ) ChangeError
+
+one_file : (a b : File) → Some a ≡ Some b → a ≡ b
+one_file a b e = cc
 
 -- ---- from the directory on
 
@@ -71,17 +76,23 @@ module _ (volume areas : ℕ) (held : Held) (hints : Hints) (truth : Truth) (tre
     unfolding without
     made_new result step = subst (λ (o : Option Name). IsMaking volume areas truth tree (by_entry o) result) (sym (same_names ∙ absent)) (step without)
 
-    -- room is lacking where there is no error
+    -- room is made first where there is no error
     pub new_first : (result : Result (List Changed × Reply × ℕ) ChangeError)
         → ((w : IsWithout volume areas held hints truth tree handle inode name)
-        → IfErr result (ComesFirst (λ status. create_new tree call w.directory.at.file name sattr now 8 ≡ Err status) (LacksEither areas truth inode.tree name inode.next)))
+        → IfErr result (ComesFirst (λ status. create_new tree call w.directory.at.file name sattr now 8 ≡ Err status) (MakesEither areas held hints truth inode.tree name inode.next)))
         → IfErr result (ComesFirst (λ status. create_at tree call s.directory.at.file name sattr now 8 (entry_named (names_of s.directory.at.file.body) name) ≡ Err status)
-        (LacksIn areas truth inode.tree inode.next (names_of s.directory.at.file.body) name sattr.size))
+        (PreparesIn areas held hints truth inode.tree inode.next (names_of s.directory.at.file.body) name sattr.size))
     unfolding without
     new_first result first =
         first_if (λ (status : ℕ). create_new tree call s.directory.at.file name sattr now 8 ≡ Err status) (λ (status : ℕ). by_entry (entry_named (names_of s.directory.at.file.body) name) 8 ≡ Err status)
-        (LacksEither areas truth inode.tree name inode.next) (LacksIn areas truth inode.tree inode.next (names_of s.directory.at.file.body) name sattr.size)
-        (λ status e. sym (ap (λ (o : Option Name). by_entry o 8) (same_names ∙ absent)) ∙ e) (λ l. inl (same_names ∙ absent, l)) result (first without)
+        (MakesEither areas held hints truth inode.tree name inode.next) (PreparesIn areas held hints truth inode.tree inode.next (names_of s.directory.at.file.body) name sattr.size)
+        (λ status e. sym (ap (λ (o : Option Name). by_entry o 8) (same_names ∙ absent)) ∙ e) (λ blocks makes. inl (same_names ∙ absent, makes)) result (first without)
+
+    -- and found where it goes on
+    pub new_ready : (result : Result (List Changed × Reply × ℕ) ChangeError) → ((w : IsWithout volume areas held hints truth tree handle inode name) → IfOk result (λ made. FindsBoth areas truth inode.tree name inode.next))
+        → IfOk result (λ made. ReadyIn areas truth inode.tree inode.next name sattr.size (entry_named (names_of s.directory.at.file.body) name))
+    new_ready result finds =
+        subst (λ (o : Option Name). IfOk result (λ made. ReadyIn areas truth inode.tree inode.next name sattr.size o)) (sym (same_names ∙ absent)) (finds without)
 
   module _ (found : ℕ) (there : FoundIn list.names name (Ok (Some found))) where
     found_is : entry_named (names_of s.directory.at.file.body) name ≡ Some (record { number = there.number; name = name; handle = found })
@@ -94,14 +105,18 @@ module _ (volume areas : ℕ) (held : Held) (hints : Hints) (truth : Truth) (tre
     not_over (Inner blocks) leaves = leaves
     not_over OutOfMemory e = tt
 
-    -- bytes are to be cleared where there is no error
-    pub over_first : (stop : Stop) → StopsFirst (λ status. create_over tree call found sattr now ≡ Err status) (SizeGrowsOver areas truth found sattr.size) stop
+    -- bytes are cleared first where there is no error
+    pub over_first : (stop : Stop) → StopsFirst (λ status. create_over tree call found sattr now ≡ Err status) (ClearsGiven areas truth found sattr.size) stop
         → ComesFirst (λ status. create_at tree call s.directory.at.file name sattr now 8 (entry_named (names_of s.directory.at.file.body) name) ≡ Err status)
-        (LacksIn areas truth inode.tree inode.next (names_of s.directory.at.file.body) name sattr.size) (Stopped stop)
+        (PreparesIn areas held hints truth inode.tree inode.next (names_of s.directory.at.file.body) name sattr.size) (Stopped stop)
     over_first stop first =
-        first_so (λ (status : ℕ). create_over tree call found sattr now ≡ Err status) (λ (status : ℕ). by_entry (entry_named (names_of s.directory.at.file.body) name) 8 ≡ Err status) (SizeGrowsOver areas truth found sattr.size)
-        (LacksIn areas truth inode.tree inode.next (names_of s.directory.at.file.body) name sattr.size) (λ status e. sym (ap (λ (o : Option Name). by_entry o 8) found_is) ∙ e)
-        (λ g. inr (record { handle = found; found = record { number = there.number; is = found_is }; over = g })) (Stopped stop) first
+        first_so (λ (status : ℕ). create_over tree call found sattr now ≡ Err status) (λ (status : ℕ). by_entry (entry_named (names_of s.directory.at.file.body) name) 8 ≡ Err status) (ClearsGiven areas truth found sattr.size)
+        (PreparesIn areas held hints truth inode.tree inode.next (names_of s.directory.at.file.body) name sattr.size) (λ status e. sym (ap (λ (o : Option Name). by_entry o 8) found_is) ∙ e)
+        (λ blocks clears. inr (record { handle = found; found = record { number = there.number; is = found_is }; clears = clears })) (Stopped stop) first
+
+    -- and none are where it goes on
+    pub over_ready : ReadyToResize areas truth found sattr.size → ReadyIn areas truth inode.tree inode.next name sattr.size (entry_named (names_of s.directory.at.file.body) name)
+    over_ready ready = subst (λ (o : Option Name). ReadyIn areas truth inode.tree inode.next name sattr.size o) (sym found_is) ready
 
     pub over : (draft : List Changed) (reply : Reply) → Makes volume areas truth tree (create_over tree call found sattr now) draft reply 0
         → Makes volume areas truth tree (create_at tree call s.directory.at.file name sattr now 8 (entry_named (names_of s.directory.at.file.body) name)) draft reply 0
@@ -153,21 +168,38 @@ module _ (tree : Tree) (call : Call) (bytes name : List ℕ) (sattr : Sattr) (no
       unfolding searched
       comes result step = subst (λ (f : ℕ → Making). IsMaking volume areas truth tree f result) (λ i spare. sym (at_file spare) i) (step searched)
 
-      -- something is lacking where there is no error
+      -- what prepares it comes first where there is no error
       pub comes_first : (result : Result (List Changed × Reply × ℕ) ChangeError)
           → ((s : IsSearched volume areas held hints truth tree handle inode name)
           → IfErr result (ComesFirst (λ status. create_at tree call s.directory.at.file name sattr now 8 (entry_named (names_of s.directory.at.file.body) name) ≡ Err status)
-          (LacksIn areas truth inode.tree inode.next (names_of s.directory.at.file.body) name sattr.size)))
-          → IfErr result (ComesFirst (λ status. create tree call bytes name sattr now 8 ≡ Err status) (LacksCreate volume areas truth tree bytes name sattr.size))
+          (PreparesIn areas held hints truth inode.tree inode.next (names_of s.directory.at.file.body) name sattr.size)))
+          → IfErr result (ComesFirst (λ status. create tree call bytes name sattr now 8 ≡ Err status) (PreparesCreate volume areas held hints truth tree bytes name sattr.size))
       unfolding searched
       comes_first result first =
           first_if (λ (status : ℕ). create_at tree call m.at.file name sattr now 8 (entry_named (names_of m.at.file.body) name) ≡ Err status) (λ (status : ℕ). create tree call bytes name sattr now 8 ≡ Err status)
-          (LacksIn areas truth inode.tree inode.next (names_of m.at.file.body) name sattr.size) (LacksCreate volume areas truth tree bytes name sattr.size)
-          (λ status e. sym (at_file 8) ∙ e) lacking result (first searched)
+          (PreparesIn areas held hints truth inode.tree inode.next (names_of m.at.file.body) name sattr.size) (PreparesCreate volume areas held hints truth tree bytes name sattr.size)
+          (λ status e. sym (at_file 8) ∙ e) prepares result (first searched)
         where
           named_so : named_file tree bytes ≡ Some m.at.file
           named_so = named_as tree volume bytes (Some handle) same is ∙ m.at.there
 
-          lacking : LacksIn areas truth inode.tree inode.next (names_of m.at.file.body) name sattr.size → LacksCreate volume areas truth tree bytes name sattr.size
-          lacking (inl l) = inl (record { directory = m.at.file; is_named = named_so; absent = l.0; place = record { handle = handle; inode = inode; is_named = sym is; holds = m.at.holds; lacks = l.1 } })
-          lacking (inr g) = inr (record { directory = m.at.file; is_named = named_so; over = g })
+          prepares : (blocks : List Changed) → PreparesIn areas held hints truth inode.tree inode.next (names_of m.at.file.body) name sattr.size blocks → PreparesCreate volume areas held hints truth tree bytes name sattr.size blocks
+          prepares blocks (inl new) = inl (record { directory = m.at.file; is_named = named_so; absent = new.0; place = record { handle = handle; inode = inode; is_named = sym is; holds = m.at.holds; makes = new.1 } })
+          prepares blocks (inr clears) = inr (record { directory = m.at.file; is_named = named_so; clears = clears })
+
+      -- nothing is wanted where it goes on
+      pub comes_ready : (result : Result (List Changed × Reply × ℕ) ChangeError)
+          → ((s : IsSearched volume areas held hints truth tree handle inode name) → IfOk result (λ made. ReadyIn areas truth inode.tree inode.next name sattr.size (entry_named (names_of s.directory.at.file.body) name)))
+          → IfOk result (λ made. ReadyToCreate volume areas truth tree bytes name sattr.size)
+      unfolding searched
+      comes_ready result ready = IfOk-weaker result _ _ (λ made in_it other other_is. by other other_is (entry_named (names_of m.at.file.body) name) refl in_it) (ready searched)
+        where
+          by : (other : File) → named_file tree bytes ≡ Some other → (found : Option Name) → entry_named (names_of m.at.file.body) name ≡ found → ReadyIn areas truth inode.tree inode.next name sattr.size found
+              → ReadyByEntry volume areas truth bytes name sattr.size (entry_named (names_of other.body) name)
+          by other other_is found found_is in_it =
+              let same_file : m.at.file ≡ other = one_file m.at.file other (sym (named_as tree volume bytes (Some handle) same is ∙ m.at.there) ∙ other_is) in
+              subst (λ (o : Option Name). ReadyByEntry volume areas truth bytes name sattr.size o) (sym found_is ∙ ap (λ (f : File). entry_named (names_of f.body) name) same_file) (of_entry found in_it)
+            where
+              of_entry : (found : Option Name) → ReadyIn areas truth inode.tree inode.next name sattr.size found → ReadyByEntry volume areas truth bytes name sattr.size found
+              of_entry None finds = enters volume areas truth bytes name handle inode is m.at.holds finds
+              of_entry (Some entry) resizes = resizes

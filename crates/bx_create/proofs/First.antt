@@ -1,5 +1,5 @@
 -- Where blocks are to be written first of one outcome, they are of another that fails no more often.
-use Rattle.std.proofs.Common.{ℕ}
+use Rattle.std.proofs.Common.{ℕ, List}
 use Rattle.std.specs.Prelude.{IfErr, Result, Ok, Err}
 use Rattle.bx_base.specs.declared.names.Mode.{Mode}
 use Rattle.bx_blink.specs.Walks.{Reads}
@@ -11,25 +11,26 @@ use Rattle.bx_inodes.specs.Stops.{NeverInner}
 use Rattle.bx_inodes.specs.declared.stop.Stop.{Stop}
 use Rattle.bx_inodes.specs.declared.stop.Stop.TheVariants.{Need, Inner, Status, OutOfMemory}
 use Rattle.bx_layout.specs.declared.inode.Inode.{Inode}
+use Rattle.bx_records.specs.Drafts.{Changed}
 
-module _ (Fails Fails_so : ℕ → Type 0) (Lacks Lacks_so : Type 0) (fails : (status : ℕ) → Fails_so status → Fails status) (lacks : Lacks → Lacks_so) where
-  pub first_so : (error : ChangeError) → ComesFirst Fails Lacks error → ComesFirst Fails_so Lacks_so error
-  first_so (Stopped (Inner blocks)) first = ((λ status f. first.0 status (fails status f)), lacks first.1)
+module _ (Fails Fails_so : ℕ → Type 0) (Prepares Prepares_so : List Changed → Type 0) (fails : (status : ℕ) → Fails_so status → Fails status) (prepares : (blocks : List Changed) → Prepares blocks → Prepares_so blocks) where
+  pub first_so : (error : ChangeError) → ComesFirst Fails Prepares error → ComesFirst Fails_so Prepares_so error
+  first_so (Stopped (Inner blocks)) first = ((λ status f. first.0 status (fails status f)), prepares blocks first.1)
   first_so (Stopped (Need at mode)) first = tt
   first_so (Stopped (Status status)) first = tt
   first_so (Stopped OutOfMemory) first = tt
   first_so (Full spare) first = tt
 
-  pub first_if : {X : Type 0} (result : Result X ChangeError) → IfErr result (ComesFirst Fails Lacks) → IfErr result (ComesFirst Fails_so Lacks_so)
+  pub first_if : {X : Type 0} (result : Result X ChangeError) → IfErr result (ComesFirst Fails Prepares) → IfErr result (ComesFirst Fails_so Prepares_so)
   first_if (Ok value) first = tt
   first_if (Err error) first = first_so error first
 
 -- nothing is written first where nothing ever is
-pub stop_comes : (T : Type 0) (Fails : ℕ → Type 0) (Lacks : Type 0) (stop : Stop) → NeverInner {T = T} (Err stop) → ComesFirst Fails Lacks (Stopped stop)
-stop_comes T Fails Lacks (Need at mode) never = tt
-stop_comes T Fails Lacks (Inner blocks) never = absurd never
-stop_comes T Fails Lacks (Status status) never = tt
-stop_comes T Fails Lacks OutOfMemory never = tt
+pub stop_comes : (T : Type 0) (Fails : ℕ → Type 0) (Prepares : List Changed → Type 0) (stop : Stop) → NeverInner {T = T} (Err stop) → ComesFirst Fails Prepares (Stopped stop)
+stop_comes T Fails Prepares (Need at mode) never = tt
+stop_comes T Fails Prepares (Inner blocks) never = absurd never
+stop_comes T Fails Prepares (Status status) never = tt
+stop_comes T Fails Prepares OutOfMemory never = tt
 
 pub inode_never : (reads : Reads) (areas handle : ℕ) (mode : Mode) (stop : Stop) → InodeAt reads areas handle mode (Err stop) → NeverInner {T = Inode} (Err stop)
 inode_never reads areas handle mode (Need at asked) is = tt

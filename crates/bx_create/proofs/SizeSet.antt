@@ -22,6 +22,7 @@ use Rattle.bx_model.specs.Steps.Step.{Gives}
 use Rattle.bx_model.specs.Writing.{resize_errors}
 use Rattle.bx_records.specs.Drafts.{Changed}
 use Rattle.bx_sizes.specs.Answers.{PutsFile, SetsSize}
+use Rattle.bx_sizes.specs.Cuts.{ClearsFirst}
 use Rattle.bx_sizes.specs.Lengths.{grows_over}
 use Rattle.bx_tree_files.specs.declared.file.Body.{Body}
 use Rattle.bx_tree_files.specs.declared.file.File.{File}
@@ -36,7 +37,8 @@ use Rattle.bx_truth.specs.Stored.{HasFields}
 use Rattle.bx_truth.proofs.Cases.{eq_true}
 use Rattle.bx_views.specs.Truths.{Truth, with_draft}
 use Rattle.bx_create.specs.Existing.{ComesOver, GivesIn, size_alone}
-use Rattle.bx_create.specs.Lacking.{SizeGrowsOver}
+use Rattle.bx_create.specs.Lacking.{ClearsGiven, ReadyToResize}
+use Rattle.bx_adding.proofs.Lacks.{inode_there}
 use Rattle.bx_create.proofs.NamesThere.{of_fields}
 
 -- setting the size alone
@@ -69,6 +71,10 @@ size_stops volume areas truth tree file making (Inner blocks) is = is
 size_stops volume areas truth tree file making (Status status) is = absurd is
 size_stops volume areas truth tree file making OutOfMemory is = tt
 
+-- without a size nothing is wanted
+pub not_given : (areas : ℕ) (truth : Truth) (handle size : ℕ) → is_given size ≡ false → ReadyToResize areas truth handle size
+not_given areas truth handle size none given = let both : true ≡ false = sym given ∙ none in absurd cc
+
 -- ---- the file, by its inode
 
 no_error : (step : Step) (status : ℕ) → ◌≡◌ {A = Making} (Ok step) (Err status) → ⊥
@@ -90,6 +96,11 @@ module _ (volume areas : ℕ) (truth : Truth) (tree : Tree) (call : Call) (sattr
   refused status error = over_is ∙ ap (λ (errors : Result (Unit {0}) ℕ). rest f.file true errors (is_given sattr.size)) error
 
   module _ (given : is_given sattr.size ≡ true) where
+    -- it grows over nothing that was cut
+    pub resizes : (alone : Sattr) → alone ≡ size_alone sattr.size → grows_over inode alone.size ≡ false → ReadyToResize areas truth handle sattr.size
+    resizes alone is over again other holds =
+        subst (λ (i : Inode). grows_over i sattr.size ≡ false) (inode_there areas truth handle inode other f.holds holds) (subst (λ (a : Sattr). grows_over inode a.size ≡ false) is over)
+
     abbrev sized : File
     sized = with_size now sattr.size f.file
 
@@ -100,15 +111,12 @@ module _ (volume areas : ℕ) (truth : Truth) (tree : Tree) (call : Call) (sattr
       is_set : create_over tree call handle sattr now ≡ Ok (Gives (handle_reply tree sized) (changed tree f.file.handle (with_size now sattr.size)))
       is_set = over_is ∙ (λ i. rest f.file true (fine i) (given i))
 
-      -- the file grows over bytes first only where there is no error
-      pub sized_first : (alone : Sattr) → alone ≡ size_alone sattr.size → (stop : Stop) → StopsFirst (λ status. ⊥) (grows_over inode alone.size ≡ true) stop
-          → StopsFirst (λ status. create_over tree call handle sattr now ≡ Err status) (SizeGrowsOver areas truth handle sattr.size) stop
+      -- bytes are cleared first only where there is no error
+      pub sized_first : (alone : Sattr) → alone ≡ size_alone sattr.size → (stop : Stop) → StopsFirst (λ status. ⊥) (ClearsFirst areas truth handle alone.size) stop
+          → StopsFirst (λ status. create_over tree call handle sattr now ≡ Err status) (ClearsGiven areas truth handle sattr.size) stop
       sized_first alone is (Inner blocks) first = (
         (λ status error. no_error _ status (sym is_set ∙ error)),
-        record {
-          given = given;
-          grows = record { inode = inode; holds = f.holds; over = subst (λ (a : Sattr). grows_over inode a.size ≡ true) is first.1 };
-        },
+        record { given = given; clears = subst (λ (a : Sattr). ClearsFirst areas truth handle a.size blocks) is first.1 },
       )
       sized_first alone is (Need at mode) first = tt
       sized_first alone is (Status status) first = tt

@@ -37,8 +37,8 @@ use std::alloc::Global;
 /// shared; where that finds an entry, the block of the inode that it names, exclusively where a size is given, else shared, and then with a size one on the
 /// path of clearing bytes that were cut; where it finds none, one that `create_new` needs. The status is `STALE`, exactly where the file handle names no
 /// file, else `NOTDIR` where that is no directory, `ACCES` of a bad name and where the caller may not search it; where the name is there `EXIST`, if the file
-/// isn't regular, and with a size `ACCES` and `FBIG`; else as it does of `create_new`. `Inner` comes only where none of these errors does: it clears such
-/// bytes, where the file would grow over them, or makes room as of `create_new`, as `Full` comes. `now` is in seconds and microseconds.
+/// isn't regular, and with a size `ACCES` and `FBIG`; else as it does of `create_new`. `Inner` comes exactly where none of these errors does and
+/// something is wanted first: it clears such bytes, where the file would grow over them, or makes room as of `create_new`, as `Full` comes. `now` is in seconds and microseconds.
 pub fn create<V: View>(
     alloc: Global,
     volume: u64,

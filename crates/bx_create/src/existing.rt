@@ -41,8 +41,8 @@ const NOT_GIVEN: u32 = 4294967295;
 ///
 /// `Need` names a block that isn't held: that of the file's inode, exclusively where a size is given, else shared; and where that is held, with a size, one on
 /// the path of clearing bytes that were cut. The status is `STALE`, exactly where there is no such file, else `EXIST` where it isn't regular, and with a size
-/// `ACCES` and `FBIG`. `Inner` clears some of those bytes, only where none of these errors comes and the file would grow over them. `now` is in seconds
-/// and microseconds.
+/// `ACCES` and `FBIG`. `Inner` clears some of those bytes, exactly where none of these errors comes and the file would grow over them. `now` is in
+/// seconds and microseconds.
 pub(crate) fn create_over<V: View>(
     alloc: Global,
     volume: u64,

@@ -1,9 +1,9 @@
-use Rattle.bx_create.proofs.CreateWhole.{comes, comes_first, no_directory, no_name, searched}
+use Rattle.bx_create.proofs.CreateWhole.{comes, comes_first, comes_ready, no_directory, no_name, searched}
 use Rattle.std.proofs.Common.{◌≡◌}
 use Rattle.std.specs.Prelude.{Err}
 use Rattle.bx_layout.specs.declared.inode.Inode.{Inode}
 use Rattle.bx_model.specs.Making.{create}
-use Rattle.bx_create.specs.Lacking.{LacksCreate}
+use Rattle.bx_create.specs.Lacking.{PreparesCreate}
 use Rattle.bx_create.proofs.First.{stop_comes}
 use Rattle.bx_create.proofs.creating.create.Goals as goal
 
@@ -33,4 +33,9 @@ returns-in-Ok-clause-lacks g c = λ truth tree same s fit.
 pub returns-in-Err-clause-lacks : goal.returns-in-Err-clause-lacks
 returns-in-Err-clause-lacks g c = λ truth tree same s fit.
     stop_comes Inode (λ status. create tree c.args.call.now c.args.at.now c.args.name.now c.args.sattr.now c.args.now 8 ≡ Err status)
-    (LacksCreate c.args.volume c.args.areas truth tree c.args.at.now c.args.name.now c.args.sattr.now.size) c.in-Err.stop c.in-Err.ensures.inner
+    (PreparesCreate c.args.volume c.args.areas (g.V.View.held c.args.view.now) (g.V.View.hints c.args.view.now) truth tree c.args.at.now c.args.name.now c.args.sattr.now.size) c.in-Err.stop c.in-Err.ensures.inner
+
+pub returns-in-Ok-clause-ready : goal.returns-in-Ok-clause-ready
+returns-in-Ok-clause-ready g c = λ truth tree same s fit.
+    comes_ready tree c.args.call.now c.args.at.now c.args.name.now c.args.sattr.now c.args.now c.args.volume s.volume_is c.in-Some.handle c.in-Some.ensures c.args.areas (g.V.View.held c.args.view.now) (g.V.View.hints c.args.view.now) truth c.in-Ok.inode
+    (c.in-Ok.ensures.step truth tree same s.is) c.requires.areas same s fit c.create_in.result (λ is. c.create_in.ensures.ready truth tree is)

@@ -1,10 +1,10 @@
-use Rattle.bx_create.proofs.CreateWhole.{list, made_new, new_first, not_over, not_searched, over, over_first, without}
+use Rattle.bx_create.proofs.CreateWhole.{list, made_new, new_first, new_ready, not_over, not_searched, over, over_first, over_ready, without}
 use Rattle.std.proofs.Common.{◌≡◌, ℕ, Option}
 use Rattle.std.specs.Prelude.{Err}
 use Rattle.bx_model.specs.Making.{create_at}
 use Rattle.bx_tree_files.specs.Entries.{entry_named}
 use Rattle.bx_tree_files.specs.Names.{names_of}
-use Rattle.bx_create.specs.Lacking.{LacksIn}
+use Rattle.bx_create.specs.Lacking.{PreparesIn}
 use Rattle.bx_create.proofs.First.{stop_comes}
 use Rattle.bx_create.proofs.creating.create_in.Goals as goal
 
@@ -60,4 +60,16 @@ returns-in-Err-create_over-clause-lacks g c = λ truth tree s.
 pub returns-in-Err-clause-lacks : goal.returns-in-Err-clause-lacks
 returns-in-Err-clause-lacks g c = λ truth tree s.
     stop_comes (Option ℕ) (λ status. create_at tree c.args.call.now s.directory.at.file c.args.name.now c.args.sattr.now c.args.now 8 (entry_named (names_of s.directory.at.file.body) c.args.name.now) ≡ Err status)
-    (LacksIn c.args.areas truth c.args.directory.inode.tree c.args.directory.inode.next (names_of s.directory.at.file.body) c.args.name.now c.args.sattr.now.size) c.in-Err.stop c.in-Err.ensures.inner
+    (PreparesIn c.args.areas (g.V.View.held c.args.view.now) (g.V.View.hints c.args.view.now) truth c.args.directory.inode.tree c.args.directory.inode.next (names_of s.directory.at.file.body) c.args.name.now c.args.sattr.now.size) c.in-Err.stop c.in-Err.ensures.inner
+
+pub returns-in-None-clause-ready : goal.returns-in-None-clause-ready
+returns-in-None-clause-ready g c = λ truth tree s.
+    let l = list c.args.volume c.args.areas (g.V.View.held c.args.view.now) (g.V.View.hints c.args.view.now) truth tree c.args.directory.handle c.args.directory.inode c.args.name.now s c.args.call.now c.args.sattr.now c.args.now in
+    new_ready c.args.volume c.args.areas (g.V.View.held c.args.view.now) (g.V.View.hints c.args.view.now) truth tree c.args.directory.handle c.args.directory.inode c.args.name.now s c.args.call.now c.args.sattr.now c.args.now
+    ((rw c.in-None.is at c.in-Ok.ensures.list) truth l.names l.entries) c.create_new.result (λ w. c.create_new.ensures.finds truth tree w)
+
+pub returns-clause-ready : goal.returns-clause-ready
+returns-clause-ready g c = λ truth tree s.
+    let l = list c.args.volume c.args.areas (g.V.View.held c.args.view.now) (g.V.View.hints c.args.view.now) truth tree c.args.directory.handle c.args.directory.inode c.args.name.now s c.args.call.now c.args.sattr.now c.args.now in
+    over_ready c.args.volume c.args.areas (g.V.View.held c.args.view.now) (g.V.View.hints c.args.view.now) truth tree c.args.directory.handle c.args.directory.inode c.args.name.now s c.args.call.now c.args.sattr.now c.args.now c.in-Some.handle
+    ((rw c.in-Some.is at c.in-Ok.ensures.list) truth l.names l.entries) (c.in-Ok-create_over.ensures.ready truth tree s.directory.few s.directory.same s.directory.stands s.directory.fit)

@@ -3,10 +3,10 @@ use Rattle.bx_hints.specs.Fitting.{HintsFitAll}
 use Rattle.bx_model.specs.Making.{create_over}
 use Rattle.bx_records.specs.Drafts.{Changed}
 use Rattle.bx_views.specs.Truths.{with_draft}
-use Rattle.bx_create.proofs.SizeSet.{stops_over, tells_over}
+use Rattle.bx_create.proofs.SizeSet.{not_given, stops_over, tells_over}
 use Rattle.std.specs.Prelude.{Err}
 use Rattle.bx_model.specs.declared.reply.Reply.{Reply}
-use Rattle.bx_create.specs.Lacking.{SizeGrowsOver}
+use Rattle.bx_create.specs.Lacking.{ClearsGiven}
 use Rattle.bx_create.proofs.First.{stop_comes}
 use Rattle.bx_create.proofs.existing.create_over.Goals as goal
 
@@ -25,5 +25,8 @@ returns-in-Ok-clause-hints g c = λ other truth tree few same s fit all. subst (
 
 pub returns-in-Err-clause-lacks : goal.returns-in-Err-clause-lacks
 returns-in-Err-clause-lacks g c = λ truth tree few same s fit.
-    stop_comes Reply (λ status. create_over tree c.args.call.now c.args.handle c.args.sattr.now c.args.now ≡ Err status) (SizeGrowsOver c.args.areas truth c.args.handle c.args.sattr.now.size) c.in-Err.stop
+    stop_comes Reply (λ status. create_over tree c.args.call.now c.args.handle c.args.sattr.now c.args.now ≡ Err status) (ClearsGiven c.args.areas truth c.args.handle c.args.sattr.now.size) c.in-Err.stop
     c.in-Err.ensures.inner
+
+pub returns-in-Ok-clause-ready : goal.returns-in-Ok-clause-ready
+returns-in-Ok-clause-ready g c = λ truth tree few same s fit. not_given c.args.areas truth c.args.handle c.args.sattr.now.size (sym c.is_given.ensures ∙ c.if-is_given.false)

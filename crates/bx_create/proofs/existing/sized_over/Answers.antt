@@ -8,7 +8,7 @@ use Rattle.bx_create.proofs.NamesThere.{irregular, not_there}
 use Rattle.bx_create.proofs.SizeSet.{stops_over}
 use Rattle.bx_base.specs.declared.names.Mode.TheVariants.{Exclusive}
 use Rattle.bx_layout.specs.declared.inode.Inode.{Inode}
-use Rattle.bx_create.specs.Lacking.{SizeGrowsOver}
+use Rattle.bx_create.specs.Lacking.{ClearsGiven}
 use Rattle.bx_create.proofs.First.{inode_never, stop_comes}
 use Rattle.bx_create.proofs.existing.sized_over.Goals as goal
 
@@ -41,9 +41,15 @@ pub returns-clause-lacks : goal.returns-clause-lacks
 returns-clause-lacks g c = λ truth tree few same s fit.
     let f = subst (λ (d : List Changed). IsInodeOf c.args.areas (with_draft truth d) tree c.args.handle c.in-Ok.inode) c.new-none.ensures
     (c.in-Ok.ensures.tree truth tree same (over_none c.args.areas truth tree c.new-none.result c.new-none.ensures s.is)) in
-    c.set_over.ensures.lacks truth tree s f
+    c.set_over.ensures.lacks truth tree few same s fit f
 
 pub returns-in-Err-clause-lacks : goal.returns-in-Err-clause-lacks
 returns-in-Err-clause-lacks g c = λ truth tree few same s fit.
-    stop_comes Inode (λ status. create_over tree c.args.call.now c.args.handle c.args.sattr.now c.args.now ≡ Err status) (SizeGrowsOver c.args.areas truth c.args.handle c.args.sattr.now.size) c.in-Err.stop
+    stop_comes Inode (λ status. create_over tree c.args.call.now c.args.handle c.args.sattr.now c.args.now ≡ Err status) (ClearsGiven c.args.areas truth c.args.handle c.args.sattr.now.size) c.in-Err.stop
     (inode_never _ c.args.areas c.args.handle Exclusive c.in-Err.stop c.in-Err.ensures.at)
+
+pub returns-clause-ready : goal.returns-clause-ready
+returns-clause-ready g c = λ truth tree few same s fit.
+    let f = subst (λ (d : List Changed). IsInodeOf c.args.areas (with_draft truth d) tree c.args.handle c.in-Ok.inode) c.new-none.ensures
+    (c.in-Ok.ensures.tree truth tree same (over_none c.args.areas truth tree c.new-none.result c.new-none.ensures s.is)) in
+    c.set_over.ensures.ready truth tree few same s fit f

@@ -3,7 +3,7 @@ use Rattle.std.specs.Prelude.{◌≡◌, ℕ, ◌⊎◌, List, Some}
 use Rattle.bx_adding.specs.Lacking.{MakesPlace, ReadyToEnter}
 use Rattle.bx_create.specs.Lacking.{PreparesCreate, ReadyToCreate}
 use Rattle.bx_model.specs.declared.call.Args.{Args}
-use Rattle.bx_model.specs.declared.call.Args.TheVariants.{Link, Make, Name, Rename, Set, Symlink, Write}
+use Rattle.bx_model.specs.declared.call.Args.TheVariants.{Link, Make, Rename, Set, Symlink, Write}
 use Rattle.bx_model.specs.declared.call.Call.{Call}
 use Rattle.bx_model.specs.declared.reply.Reply.TheVariants.{Status}
 use Rattle.bx_model.specs.declared.status.TheConstants.{NFS_OK}

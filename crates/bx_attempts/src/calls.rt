@@ -94,8 +94,9 @@ fn is_procedure(call: &Call, number: u32) -> bool
 }
 
 /// Attempts a call that changes the file tree of a volume, by its number and its areas, at most 64, at a moment in milliseconds, at most
-/// 4294967295999. `Need` names what its procedure does. `Inner` comes only where the call comes to no error, with 8 blocks free, and lacks something: room
-/// for an entry or for a piece, or cleared bytes, over which a file would grow.
+/// 4294967295999. `Need` names what its procedure does. `Inner` comes exactly where the call comes to no error, with 8 blocks free, and lacks something:
+/// room for an entry or for a piece, or cleared bytes, over which a file would grow. It makes that room, or clears some of them, and a change comes only where
+/// nothing is lacking.
 pub fn change<V: View>(
     alloc: Global,
     volume: u64,

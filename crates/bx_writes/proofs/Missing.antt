@@ -1,6 +1,6 @@
 -- A piece of a regular file that isn't there yet: what is to be written first leaves each tree; and what else stops it.
 use Rattle.std.proofs.Common.{◌≡◌, ℕ, true, false, List, [], Option, Some, None, sym, ap, ◌∙◌, subst, arith, inl, inr, Ok, Err}
-use Rattle.std.specs.Prelude.{IfErr, IfOk, IfSome, Result}
+use Rattle.std.specs.Prelude.{IfErr, IfNone, IfOk, IfSome, Result}
 use Rattle.bx_blink.specs.declared.error.BlinkError.{BlinkError}
 use Rattle.bx_blink.specs.declared.error.BlinkError.TheVariants as tree_error
 use Rattle.bx_blink.specs.Hints.{HintsFit, Under}
@@ -18,7 +18,7 @@ use Rattle.bx_leaves.specs.Changes.{NeedsUnheld}
 use Rattle.bx_model.specs.declared.tree.Tree.{Tree}
 use Rattle.bx_page.specs.Contents.{value_of}
 use Rattle.bx_records.specs.Drafts.{Changed}
-use Rattle.bx_ready.specs.Lacking.{LacksRoom}
+use Rattle.bx_ready.specs.Lacking.{FindsRoom, MakesRoom}
 use Rattle.bx_ready.specs.Ready.{IsFileUnder, OnReadyPath, ReadiesIn}
 use Rattle.bx_ready.specs.Spare.{TellsFew}
 use Rattle.bx_truth.specs.Chunks.{block_at, chunks_of}
@@ -39,7 +39,7 @@ use Rattle.bx_adding.specs.Lacking.{IfFirst}
 use Rattle.bx_adding.specs.Stopping.{StopsChange}
 use Rattle.bx_adding.proofs.Lacks.{first_if}
 use Rattle.bx_adding.proofs.Asked.{ready_block}
-use Rattle.bx_writes.specs.Lacking.{LacksEntry}
+use Rattle.bx_writes.specs.Lacking.{FindsEntry, MakesEntry}
 use Rattle.bx_writes.specs.Steps.{FoundAt, IsPrepared, IsRegularOf, MissesIn, PreparesIn}
 
 no_link : (kind : ℕ) → kind ≡ 1 → kind ≡ 5 → ⊥
@@ -82,16 +82,32 @@ module _ (volume areas : ℕ) (held : Held) (hints : Hints) (truth : Truth) (tre
     leads = (keeps truth tree (file_under volume tree r.stands)).leads;
   }
 
-  -- where something is to be written first, room is lacking
-  pub lacking : (index : ℕ) (key : List ℕ) (found : Option (List Changed)) (draft : List Changed) → key ≡ content_key index → found ≡ Some draft
-      → ((truth : Truth) (pages : PageTree) → Under areas held hints truth [] root pages → IfSome found (λ new. LacksRoom areas truth root key)) → LacksRoom areas truth root (content_key index)
-  lacking index key found draft key_is some all =
-      subst (LacksRoom areas truth root) key_is (subst (λ (o : Option (List Changed)). IfSome o (λ new. LacksRoom areas truth root key)) some (all truth some_pages.pages some_under))
+  -- what is to be written first makes room
+  pub making : (index : ℕ) (key : List ℕ) (found : Option (List Changed)) (draft : List Changed) → key ≡ content_key index → found ≡ Some draft
+      → ((truth : Truth) (pages : PageTree) → Under areas held hints truth [] root pages → IfSome found (MakesRoom areas held hints truth root key)) → MakesRoom areas held hints truth root (content_key index) draft
+  making index key found draft key_is some all =
+      subst (λ (k : List ℕ). MakesRoom areas held hints truth root k draft) key_is (subst (λ (o : Option (List Changed)). IfSome o (MakesRoom areas held hints truth root key)) some (all truth some_pages.pages some_under))
 
   -- so it is of a piece that isn't there
-  pub entry_lacks : {T : Type 0} (index : ℕ) → ((pages : PageTree) → Under areas held hints truth [] root pages → value_of (map_of pages) (content_key index) ≡ None)
-      → (result : Result T ChangeError) → IfErr result (IfFirst (LacksRoom areas truth root (content_key index))) → IfErr result (IfFirst (LacksEntry areas truth root index))
-  entry_lacks index none result first = first_if (λ room. record { room = room; none = none room.pages (under room.pages room.is) }) result first
+  pub entry_makes : {T : Type 0} (index : ℕ) → ((pages : PageTree) → Under areas held hints truth [] root pages → value_of (map_of pages) (content_key index) ≡ None)
+      → (result : Result T ChangeError) → IfErr result (IfFirst (MakesRoom areas held hints truth root (content_key index))) → IfErr result (IfFirst (MakesEntry areas held hints truth root index))
+  entry_makes index none result first = first_if (λ new room. record { room = room; none = none room.pages (under room.pages room.is) }) result first
+
+  -- where nothing is, there is room
+  pub finding : (index : ℕ) (key : List ℕ) (found : Option (List Changed)) → key ≡ content_key index → found ≡ None
+      → ((truth : Truth) (pages : PageTree) → Under areas held hints truth [] root pages → IfNone found (FindsRoom areas truth root key)) → FindsRoom areas truth root (content_key index)
+  finding index key found key_is none all =
+      subst (FindsRoom areas truth root) key_is (subst (λ (o : Option (List Changed)). IfNone o (FindsRoom areas truth root key)) none (all truth some_pages.pages some_under))
+
+  -- a piece that isn't there finds room, and of one that is nothing is asked
+  pub entry_found : {T : Type 0} (index : ℕ) (result : Result T ChangeError) → IfOk result (λ made. FindsRoom areas truth root (content_key index)) → IfOk result (λ made. FindsEntry areas truth root index)
+  entry_found index (Ok made) finds = λ pages is none. finds pages is
+  entry_found index (Err error) finds = tt
+
+  pub entry_there : {T : Type 0} (index : ℕ) (value : List ℕ) → ((pages : PageTree) → Under areas held hints truth [] root pages → value_of (map_of pages) (content_key index) ≡ Some value)
+      → (result : Result T ChangeError) → IfOk result (λ made. FindsEntry areas truth root index)
+  entry_there index value found (Ok made) = λ pages is none. let both : ◌≡◌ {A = Option (List ℕ)} None (Some value) = sym none ∙ found pages (under pages is) in absurd cc
+  entry_there index value found (Err error) = tt
 
   pub stopped : (index place : ℕ) (part : List ℕ) (error : BlinkError) (stop : ChangeError) → ((pages : PageTree) → Under areas held hints truth [] root pages → ReadiesIn areas held hints truth root pages (content_key index) (Err error))
       → NeedsUnheld {X = Option (List Changed)} held (OnReadyPath areas held hints root (content_key index)) (Err error) → StopsChange areas error stop → MissesIn areas truth root index place part (Err stop)

@@ -30,7 +30,7 @@ use std::alloc::Global;
 /// A draft with the inode of a regular file with a handle, and with bytes written from a place in the piece with an index on, at most three pieces. All
 /// pieces are read before one is changed.
 ///
-/// `Inner` makes room for an entry of a piece that isn't there, where it is lacking, and `Full` comes where too few blocks are free. `Need` names a block of the volume that
+/// `Inner` makes room for an entry of a piece that isn't there, exactly where it is lacking, and `Full` comes where too few blocks are free. `Need` names a block of the volume that
 /// isn't held, and is on the path of such a piece. The status is `STALE` where what is held is no file: of one it never comes.
 pub(crate) fn lay<V: View>(
     alloc: Global,
@@ -52,7 +52,7 @@ pub(crate) fn lay<V: View>(
     ensures lacks { (volume : ℕ) (truth : Truth) (tree : Tree) (old : Kept) → IsRegularOf volume areas (V.held view.now) (V.hints view.now) truth tree handle old → old.tree ≡ inode.now.tree
         → IfErr result (IfFirst (MakesEntries areas (V.held view.now) (V.hints view.now) truth inode.now.tree place.0 (place.0 + pieces_of place.1 written.now))) }
     ensures finds { (volume : ℕ) (truth : Truth) (tree : Tree) (old : Kept) → IsRegularOf volume areas (V.held view.now) (V.hints view.now) truth tree handle old → old.tree ≡ inode.now.tree
-        → IfOk result (λ made. FindEntries areas truth inode.now.tree place.0 (place.0 + pieces_of place.1 written.now)) }
+        → IfOk result (λ made. 0 < length written.now → FindEntries areas truth inode.now.tree place.0 (place.0 + pieces_of place.1 written.now)) }
     ensures need { IfErr result (NeedsBy areas (V.held view.now) (OnWrittenPieces areas (V.held view.now) (V.hints view.now) inode.now.tree place.0 (place.0 + pieces_of place.1 written.now))) }
     ensures first { IfErr result (HoldsFirst (V.held view.now)) }
     ensures held { IsSome (V.held view.now (place_of handle) Exclusive) → IfOk result (IsHeldDraft (V.held view.now)) }

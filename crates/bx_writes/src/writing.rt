@@ -39,8 +39,8 @@ use std::alloc::Global;
 /// WRITE (RFC 1094, section 2.2.9) of at most 8192 bytes from an offset on, in a volume with so many areas: the blocks that it changes, and the attributes
 /// then. No bytes change nothing, and meet no limit. A gap before the offset is zeros.
 ///
-/// `Inner` comes only where no error does and something is lacking: it clears bytes that were cut, where the file would grow over them, and lowers the tail
-/// that tells how far they reach; or makes room for the entry of a piece. `Need` names a block that isn't held: the file's inode, exclusively; and where that is held, one on the path of these, or of the pieces that the bytes are in. The status is the first of `STALE`,
+/// `Inner` comes exactly where no error does and something is wanted first: it clears bytes that were cut, where the file would grow over them, and lowers the
+/// tail that tells how far they reach; else it makes room for the entry of a piece that isn't there and has none. `Need` names a block that isn't held: the file's inode, exclusively; and where that is held, one on the path of these, or of the pieces that the bytes are in. The status is the first of `STALE`,
 /// `ISDIR`, `NXIO` of a link, `ACCES` and `FBIG`; `Full` comes where fewer than 8 blocks are free, and one is wanted. `now` is in seconds and microseconds.
 pub fn write<V: View>(
     alloc: Global,

@@ -13,10 +13,10 @@ use Rattle.bx_model.specs.declared.call.Args.{Args}
 use Rattle.bx_model.specs.declared.reply.Reply.{Reply}
 use Rattle.bx_records.specs.Drafts.{Changed}
 use Rattle.bx_tree_files.specs.Times.{Time, time_of}
-use Rattle.bx_sizes.specs.Cuts.{GivenGrowsOver}
+use Rattle.bx_sizes.specs.Cuts.{PreparesSetting}
 use Rattle.bx_changes.specs.First.{StopsFirst}
-use Rattle.bx_attempts.specs.First.{LacksFirst}
-use Rattle.bx_attempts.proofs.First.{changed_first, setattr_first, stopped_first}
+use Rattle.bx_attempts.specs.First.{PreparesFirst, ReadyBy}
+use Rattle.bx_attempts.proofs.First.{changed_first, changed_ready, setattr_first, stopped_first, stopped_ready}
 use Rattle.bx_attempts.proofs.attributes.setattr.Goals as goal
 
 pub returns-in-Ok-clause-gives : goal.returns-in-Ok-clause-gives
@@ -55,11 +55,23 @@ returns-in-Err-clause-fair g c =
 pub returns-in-Ok-clause-lacks : goal.returns-in-Ok-clause-lacks
 returns-in-Ok-clause-lacks g c = λ truth tree same s.
     let a = c.args in
-    IfOk-weaker c.changed.result _ _ (λ attempt is. changed_first (LacksFirst a.volume a.areas truth tree a.call.now a.moment) a.xid attempt c.in-Ok.draft c.in-Ok.reply 0 is) c.changed.ensures.is
+    IfOk-weaker c.changed.result _ _ (λ attempt is. changed_first (PreparesFirst a.volume a.areas (g.V.View.held a.view.now) (g.V.View.hints a.view.now) truth tree a.call.now a.moment) a.xid attempt c.in-Ok.draft c.in-Ok.reply 0 is) c.changed.ensures.is
 
 pub returns-in-Err-clause-lacks : goal.returns-in-Err-clause-lacks
 returns-in-Err-clause-lacks g c = λ truth tree same s.
     let a = c.args in
-    let first = subst (λ (t : Time). StopsFirst (λ status. setattr tree a.call.now a.at.now a.sattr.now t ≡ Err status) (GivenGrowsOver a.volume a.areas truth a.at.now a.sattr.now.size) c.in-Err.stop) c.time_of-now.ensures (c.in-Err.ensures.lacks truth tree c.requires.areas same s.stands s.fit) in
+    let first = subst (λ (t : Time). StopsFirst (λ status. setattr tree a.call.now a.at.now a.sattr.now t ≡ Err status) (PreparesSetting a.volume a.areas truth a.at.now a.sattr.now.size) c.in-Err.stop) c.time_of-now.ensures (c.in-Err.ensures.lacks truth tree c.requires.areas same s.stands s.fit) in
     IfOk-weaker c.stopped.result _ _
-    (λ attempt is. stopped_first (LacksFirst a.volume a.areas truth tree a.call.now a.moment) a.xid attempt c.in-Err.stop (setattr_first a.volume a.areas truth tree a.call.now a.moment a.at.now a.sattr.now c.requires.args (Stopped c.in-Err.stop) first) is) c.stopped.ensures
+    (λ attempt is. stopped_first (PreparesFirst a.volume a.areas (g.V.View.held a.view.now) (g.V.View.hints a.view.now) truth tree a.call.now a.moment) a.xid attempt c.in-Err.stop (setattr_first a.volume a.areas (g.V.View.held a.view.now) (g.V.View.hints a.view.now) truth tree a.call.now a.moment a.at.now a.sattr.now c.requires.args (Stopped c.in-Err.stop) first) is) c.stopped.ensures
+
+pub returns-in-Ok-clause-ready : goal.returns-in-Ok-clause-ready
+returns-in-Ok-clause-ready g c = λ truth tree same s.
+    let a = c.args in
+    let ready : ReadyBy a.volume a.areas truth tree a.call.now.procedure a.call.now.args =
+    subst (ReadyBy a.volume a.areas truth tree a.call.now.procedure) (sym c.requires.args) (c.in-Ok.ensures.ready truth tree c.requires.areas same s.stands s.fit) in
+    IfOk-weaker c.changed.result _ _ (λ attempt is. changed_ready (ReadyBy a.volume a.areas truth tree a.call.now.procedure a.call.now.args) a.xid attempt c.in-Ok.draft c.in-Ok.reply 0 ready is) c.changed.ensures.is
+
+pub returns-in-Err-clause-ready : goal.returns-in-Err-clause-ready
+returns-in-Err-clause-ready g c = λ truth tree same s.
+    let a = c.args in
+    IfOk-weaker c.stopped.result _ _ (λ attempt is. stopped_ready (ReadyBy a.volume a.areas truth tree a.call.now.procedure a.call.now.args) a.xid attempt c.in-Err.stop is) c.stopped.ensures

@@ -10,10 +10,10 @@ use Rattle.bx_creating.specs.Making.{OnMaking}
 use Rattle.bx_model.specs.Making.{symlink}
 use Rattle.bx_model.specs.declared.call.Args.{Args}
 use Rattle.bx_tree_files.specs.Times.{Time, time_of}
-use Rattle.bx_adding.specs.Lacking.{LacksPlace}
+use Rattle.bx_adding.specs.Lacking.{MakesPlace}
 use Rattle.bx_changes.specs.First.{ComesFirst}
-use Rattle.bx_attempts.specs.First.{LacksFirst}
-use Rattle.bx_attempts.proofs.First.{changed_first, symlink_first, refused_first}
+use Rattle.bx_attempts.specs.First.{PreparesFirst, ReadyBy}
+use Rattle.bx_attempts.proofs.First.{changed_first, changed_ready, refused_first, refused_ready, symlink_first}
 use Rattle.bx_attempts.proofs.making.symlink.Goals as goal
 
 pub returns-in-Ok-clause-gives : goal.returns-in-Ok-clause-gives
@@ -52,11 +52,23 @@ returns-in-Err-clause-fair g c =
 pub returns-in-Ok-clause-lacks : goal.returns-in-Ok-clause-lacks
 returns-in-Ok-clause-lacks g c = λ truth tree same s.
     let a = c.args in
-    IfOk-weaker c.changed.result _ _ (λ attempt is. changed_first (LacksFirst a.volume a.areas truth tree a.call.now a.moment) a.xid attempt c.in-Ok.draft c.in-Ok.reply c.in-Ok.made is) c.changed.ensures.is
+    IfOk-weaker c.changed.result _ _ (λ attempt is. changed_first (PreparesFirst a.volume a.areas (g.V.View.held a.view.now) (g.V.View.hints a.view.now) truth tree a.call.now a.moment) a.xid attempt c.in-Ok.draft c.in-Ok.reply c.in-Ok.made is) c.changed.ensures.is
 
 pub returns-in-Err-clause-lacks : goal.returns-in-Err-clause-lacks
 returns-in-Err-clause-lacks g c = λ truth tree same s.
     let a = c.args in
-    let first = subst (λ (t : Time). ComesFirst (λ status. symlink tree a.call.now a.at.now a.name.now a.path.now a.sattr.now t 8 ≡ Err status) (LacksPlace a.volume a.areas truth a.at.now a.name.now) c.in-Err.error) c.time_of-now.ensures (c.in-Err.ensures.lacks truth tree same s.stands s.fit) in
+    let first = subst (λ (t : Time). ComesFirst (λ status. symlink tree a.call.now a.at.now a.name.now a.path.now a.sattr.now t 8 ≡ Err status) (MakesPlace a.volume a.areas (g.V.View.held a.view.now) (g.V.View.hints a.view.now) truth a.at.now a.name.now) c.in-Err.error) c.time_of-now.ensures (c.in-Err.ensures.lacks truth tree same s.stands s.fit) in
     IfOk-weaker c.refused.result _ _
-    (λ attempt is. refused_first (LacksFirst a.volume a.areas truth tree a.call.now a.moment) a.xid attempt c.in-Err.error (symlink_first a.volume a.areas truth tree a.call.now a.moment a.at.now a.name.now a.path.now a.sattr.now c.requires.args c.in-Err.error first) is) c.refused.ensures
+    (λ attempt is. refused_first (PreparesFirst a.volume a.areas (g.V.View.held a.view.now) (g.V.View.hints a.view.now) truth tree a.call.now a.moment) a.xid attempt c.in-Err.error (symlink_first a.volume a.areas (g.V.View.held a.view.now) (g.V.View.hints a.view.now) truth tree a.call.now a.moment a.at.now a.name.now a.path.now a.sattr.now c.requires.args c.in-Err.error first) is) c.refused.ensures
+
+pub returns-in-Ok-clause-ready : goal.returns-in-Ok-clause-ready
+returns-in-Ok-clause-ready g c = λ truth tree same s.
+    let a = c.args in
+    let ready : ReadyBy a.volume a.areas truth tree a.call.now.procedure a.call.now.args =
+    subst (ReadyBy a.volume a.areas truth tree a.call.now.procedure) (sym c.requires.args) (c.in-Ok.ensures.ready truth tree same s.stands s.fit) in
+    IfOk-weaker c.changed.result _ _ (λ attempt is. changed_ready (ReadyBy a.volume a.areas truth tree a.call.now.procedure a.call.now.args) a.xid attempt c.in-Ok.draft c.in-Ok.reply c.in-Ok.made ready is) c.changed.ensures.is
+
+pub returns-in-Err-clause-ready : goal.returns-in-Err-clause-ready
+returns-in-Err-clause-ready g c = λ truth tree same s.
+    let a = c.args in
+    IfOk-weaker c.refused.result _ _ (λ attempt is. refused_ready (ReadyBy a.volume a.areas truth tree a.call.now.procedure a.call.now.args) a.xid attempt c.in-Err.error is) c.refused.ensures

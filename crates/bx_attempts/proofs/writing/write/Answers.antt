@@ -1,5 +1,5 @@
-use Rattle.std.proofs.Common.{◌≡◌, ℕ, List, subst, sym, inl, inr}
-use Rattle.std.specs.Prelude.{Err, IfOk}
+use Rattle.std.proofs.Common.{◌≡◌, ℕ, subst, sym}
+use Rattle.std.specs.Prelude.{Err}
 use Rattle.std.proofs.lemmas.Result.{IfOk-weaker}
 use Rattle.bx_attempts.proofs.Acting.{write_acts}
 use Rattle.bx_attempts.proofs.Changing.{change_by_acts, changed_gives, error_refuses, refused_gives}
@@ -9,13 +9,11 @@ use Rattle.bx_changes.specs.Growing.{IsChangeBy}
 use Rattle.bx_writes.specs.Paths.{OnWriting}
 use Rattle.bx_model.specs.Writing.{write}
 use Rattle.bx_model.specs.declared.call.Args.{Args}
-use Rattle.bx_model.specs.declared.reply.Reply.{Reply}
-use Rattle.bx_records.specs.Drafts.{Changed}
 use Rattle.bx_tree_files.specs.Times.{Time, time_of}
-use Rattle.bx_writes.specs.Lacking.{LacksWriting}
+use Rattle.bx_writes.specs.Lacking.{PreparesWriting}
 use Rattle.bx_changes.specs.First.{ComesFirst}
-use Rattle.bx_attempts.specs.First.{LacksFirst}
-use Rattle.bx_attempts.proofs.First.{changed_first, write_first, refused_first}
+use Rattle.bx_attempts.specs.First.{PreparesFirst, ReadyBy}
+use Rattle.bx_attempts.proofs.First.{changed_first, changed_ready, refused_first, refused_ready, write_first}
 use Rattle.bx_attempts.proofs.writing.write.Goals as goal
 
 pub returns-in-Ok-clause-gives : goal.returns-in-Ok-clause-gives
@@ -54,11 +52,23 @@ returns-in-Err-clause-fair g c =
 pub returns-in-Ok-clause-lacks : goal.returns-in-Ok-clause-lacks
 returns-in-Ok-clause-lacks g c = λ truth tree same s.
     let a = c.args in
-    IfOk-weaker c.changed.result _ _ (λ attempt is. changed_first (LacksFirst a.volume a.areas truth tree a.call.now a.moment) a.xid attempt c.in-Ok.draft c.in-Ok.reply 0 is) c.changed.ensures.is
+    IfOk-weaker c.changed.result _ _ (λ attempt is. changed_first (PreparesFirst a.volume a.areas (g.V.View.held a.view.now) (g.V.View.hints a.view.now) truth tree a.call.now a.moment) a.xid attempt c.in-Ok.draft c.in-Ok.reply 0 is) c.changed.ensures.is
 
 pub returns-in-Err-clause-lacks : goal.returns-in-Err-clause-lacks
 returns-in-Err-clause-lacks g c = λ truth tree same s.
     let a = c.args in
-    let first = subst (λ (t : Time). ComesFirst (λ status. write tree a.call.now a.at.now a.offset a.written.now t 8 ≡ Err status) (LacksWriting a.volume a.areas truth a.at.now a.offset a.written.now) c.in-Err.error) c.time_of-now.ensures (c.in-Err.ensures.lacks truth tree c.requires.areas same s.stands s.fit) in
+    let first = subst (λ (t : Time). ComesFirst (λ status. write tree a.call.now a.at.now a.offset a.written.now t 8 ≡ Err status) (PreparesWriting a.volume a.areas (g.V.View.held a.view.now) (g.V.View.hints a.view.now) truth a.at.now a.offset a.written.now) c.in-Err.error) c.time_of-now.ensures (c.in-Err.ensures.lacks truth tree c.requires.areas same s.stands s.fit) in
     IfOk-weaker c.refused.result _ _
-    (λ attempt is. refused_first (LacksFirst a.volume a.areas truth tree a.call.now a.moment) a.xid attempt c.in-Err.error (write_first a.volume a.areas truth tree a.call.now a.moment a.at.now c.requires.args.begin a.offset c.requires.args.total a.written.now c.requires.args.args c.in-Err.error first) is) c.refused.ensures
+    (λ attempt is. refused_first (PreparesFirst a.volume a.areas (g.V.View.held a.view.now) (g.V.View.hints a.view.now) truth tree a.call.now a.moment) a.xid attempt c.in-Err.error (write_first a.volume a.areas (g.V.View.held a.view.now) (g.V.View.hints a.view.now) truth tree a.call.now a.moment a.at.now c.requires.args.begin a.offset c.requires.args.total a.written.now c.requires.args.args c.in-Err.error first) is) c.refused.ensures
+
+pub returns-in-Ok-clause-ready : goal.returns-in-Ok-clause-ready
+returns-in-Ok-clause-ready g c = λ truth tree same s.
+    let a = c.args in
+    let ready : ReadyBy a.volume a.areas truth tree a.call.now.procedure a.call.now.args =
+    subst (ReadyBy a.volume a.areas truth tree a.call.now.procedure) (sym c.requires.args.args) (c.in-Ok.ensures.ready truth tree c.requires.areas same s.stands s.fit) in
+    IfOk-weaker c.changed.result _ _ (λ attempt is. changed_ready (ReadyBy a.volume a.areas truth tree a.call.now.procedure a.call.now.args) a.xid attempt c.in-Ok.draft c.in-Ok.reply 0 ready is) c.changed.ensures.is
+
+pub returns-in-Err-clause-ready : goal.returns-in-Err-clause-ready
+returns-in-Err-clause-ready g c = λ truth tree same s.
+    let a = c.args in
+    IfOk-weaker c.refused.result _ _ (λ attempt is. refused_ready (ReadyBy a.volume a.areas truth tree a.call.now.procedure a.call.now.args) a.xid attempt c.in-Err.error is) c.refused.ensures

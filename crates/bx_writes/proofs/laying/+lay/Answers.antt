@@ -1,10 +1,11 @@
-use Rattle.std.proofs.Common.{◌≡◌, ◌∙◌, ◌+◌, ◌-◌, ◌*◌, ℕ, List, ◌++◌, length, arith, subst, sym, refl}
+use Rattle.std.proofs.Common.{◌≡◌, ◌∙◌, ◌+◌, ◌-◌, ◌*◌, ◌<◌, ℕ, List, ◌++◌, length, arith, subst, sym, refl}
 use Rattle.std.specs.Prelude.{min}
 use Rattle.std.proofs.lemmas.List.{take-append-drop}
-use Rattle.bx_writes.proofs.First.{alone_first, one_lacks, put_first, rest_lacks}
+use Rattle.bx_adding.proofs.Lacks.{so_ok}
+use Rattle.bx_writes.proofs.First.{alone_first, find_all, find_behind, one_makes, put_first, rest_makes}
 use Rattle.bx_writes.proofs.Laid.{alone_laid, from_next, none_of, one_piece, prepare_stops, put_needs, reaches, rest_stops, some_of}
 use Rattle.bx_writes.proofs.Missing.{own_tree}
-use Rattle.bx_writes.specs.Lacking.{LacksEntries}
+use Rattle.bx_writes.specs.Lacking.{FindEntries, MakesEntries}
 use Rattle.bx_writes.specs.Laying.{pieces_of}
 use Rattle.bx_writes.specs.Steps.{PutsOn}
 use Rattle.bx_writes.proofs.laying.+lay.Goals as goal
@@ -81,12 +82,12 @@ returns-in-Ok-lay-clause-need g n c =
 
 pub returns-then-is_empty-clause-lacks : goal.returns-then-is_empty-clause-lacks
 returns-then-is_empty-clause-lacks g n c = λ volume truth tree old r root_is.
-    alone_first (LacksEntries c.args.areas truth c.args.inode.now.tree c.args.place.0 (c.args.place.0 + pieces_of c.args.place.1 c.args.written.now)) c.args.handle c.args.inode.now c.inode_alone.result c.inode_alone.ensures
+    alone_first (MakesEntries c.args.areas (g.V.View.held c.args.view.now) (g.V.View.hints c.args.view.now) truth c.args.inode.now.tree c.args.place.0 (c.args.place.0 + pieces_of c.args.place.1 c.args.written.now)) c.args.handle c.args.inode.now c.inode_alone.result c.inode_alone.ensures
 
 pub returns-in-Err-clause-lacks : goal.returns-in-Err-clause-lacks
 returns-in-Err-clause-lacks g n c = λ volume truth tree old r root_is.
     let some = some_of (length c.args.written.now) c.if-is_empty.ensures in
-    one_lacks c.args.areas truth c.args.inode.now.tree c.args.place.0 (pieces_of c.args.place.1 c.args.written.now) (omega (arith, some)) c.in-Err.error (c.in-Err.ensures.lacks volume truth tree c.args.handle old r root_is)
+    one_makes c.args.areas (g.V.View.held c.args.view.now) (g.V.View.hints c.args.view.now) truth c.args.inode.now.tree c.args.place.0 (pieces_of c.args.place.1 c.args.written.now) (omega (arith, some)) c.in-Err.error (c.in-Err.ensures.lacks volume truth tree c.args.handle old r root_is)
 
 pub returns-in-Err-lay-clause-lacks : goal.returns-in-Err-lay-clause-lacks
 returns-in-Err-lay-clause-lacks g n c = λ volume truth tree old r root_is.
@@ -100,8 +101,30 @@ returns-in-Err-lay-clause-lacks g n c = λ volume truth tree old r root_is.
     let part_is : length c.split_at.result.0.now ≡ min (length written) (4096 - c.args.place.1) = front ∙ mid in
     let rest_is : length rest ≡ length written - length c.split_at.result.0.now = omega (arith, back, front) in
     let count : pieces_of 0 rest + 1 ≡ pieces_of c.args.place.1 written = one_piece c.args.place.1 (length written) (length c.split_at.result.0.now) (length rest) low some part_is rest_is in
-    rest_lacks c.args.areas truth c.args.inode.now.tree c.args.place.0 (pieces_of 0 rest) (pieces_of c.args.place.1 written) count c.in-Err-lay.error (c.in-Err-lay.ensures.lacks volume truth tree old r root_is)
+    rest_makes c.args.areas (g.V.View.held c.args.view.now) (g.V.View.hints c.args.view.now) truth c.args.inode.now.tree c.args.place.0 (pieces_of 0 rest) (pieces_of c.args.place.1 written) count c.in-Err-lay.error (c.in-Err-lay.ensures.lacks volume truth tree old r root_is)
 
 pub returns-in-Ok-lay-clause-lacks : goal.returns-in-Ok-lay-clause-lacks
 returns-in-Ok-lay-clause-lacks g n c = λ volume truth tree old r root_is.
-    put_first (LacksEntries c.args.areas truth c.args.inode.now.tree c.args.place.0 (c.args.place.0 + pieces_of c.args.place.1 c.args.written.now)) c.put_piece.result c.put_piece.ensures.inner
+    put_first (MakesEntries c.args.areas (g.V.View.held c.args.view.now) (g.V.View.hints c.args.view.now) truth c.args.inode.now.tree c.args.place.0 (c.args.place.0 + pieces_of c.args.place.1 c.args.written.now)) c.put_piece.result c.put_piece.ensures.inner
+
+pub returns-then-is_empty-clause-finds : goal.returns-then-is_empty-clause-finds
+returns-then-is_empty-clause-finds g n c = λ volume truth tree old r root_is.
+    so_ok (0 < length c.args.written.now → FindEntries c.args.areas truth c.args.inode.now.tree c.args.place.0 (c.args.place.0 + pieces_of c.args.place.1 c.args.written.now))
+    (λ some. let none = none_of (length c.args.written.now) c.if-is_empty.ensures in absurd (omega (arith, some, none))) c.inode_alone.result
+
+pub returns-in-Ok-lay-clause-finds : goal.returns-in-Ok-lay-clause-finds
+returns-in-Ok-lay-clause-finds g n c = λ volume truth tree old r root_is.
+    let rest = c.split_at.result.1.now in
+    let written = c.args.written.now in
+    let root = c.args.inode.now.tree in
+    let some = some_of (length written) c.if-is_empty.ensures in
+    let front = c.split_at.ensures.front_len in
+    let back = c.split_at.ensures.back_len in
+    let mid = c.min.ensures in
+    let low = c.requires.place in
+    let part_is : length c.split_at.result.0.now ≡ min (length written) (4096 - c.args.place.1) = front ∙ mid in
+    let rest_is : length rest ≡ length written - length c.split_at.result.0.now = omega (arith, back, front) in
+    let count : pieces_of 0 rest + 1 ≡ pieces_of c.args.place.1 written = one_piece c.args.place.1 (length written) (length c.split_at.result.0.now) (length rest) low some part_is rest_is in
+    so_ok (0 < length written → FindEntries c.args.areas truth root c.args.place.0 (c.args.place.0 + pieces_of c.args.place.1 written))
+    (λ more. find_all c.args.areas truth root c.args.place.0 (pieces_of 0 rest) (pieces_of c.args.place.1 written) count (c.in-Ok.ensures.finds volume truth tree c.args.handle old r root_is)
+    (find_behind c.args.areas truth root (c.args.place.0 + 1) rest (c.in-Ok-lay.ensures.finds volume truth tree old r root_is))) c.put_piece.result

@@ -3,9 +3,9 @@ use Rattle.bx_leaves.specs.Changes.{NeedsUnheld}
 use Rattle.bx_ready.specs.Ready.{OnReadyPath, ReadiesIn}
 use Rattle.bx_records.specs.Drafts.{Changed}
 use Rattle.bx_adding.proofs.Lacks.{not_first}
-use Rattle.bx_ready.specs.Lacking.{LacksRoom}
+use Rattle.bx_ready.specs.Lacking.{MakesRoom}
 use Rattle.bx_truth.specs.Keys.{content_key}
-use Rattle.bx_writes.proofs.Missing.{lacking, leaves, stopped, under}
+use Rattle.bx_writes.proofs.Missing.{finding, leaves, making, stopped, under}
 use Rattle.bx_writes.proofs.preparing.missing.Goals as goal
 
 pub returns-in-Err-clause-step : goal.returns-in-Err-clause-step
@@ -28,9 +28,16 @@ returns-in-Ok-clause-step g c = λ volume truth tree handle inode r root_is. (
 )
 
 pub returns-in-Err-clause-lacks : goal.returns-in-Err-clause-lacks
-returns-in-Err-clause-lacks g c = λ volume truth tree handle inode r root_is. not_first c.args.near.1 (LacksRoom c.args.near.1 truth c.args.root (content_key c.args.place.0)) c.in-Err.error c.of_tree.result c.of_tree.ensures
+returns-in-Err-clause-lacks g c = λ volume truth tree handle inode r root_is.
+    not_first c.args.near.1 (MakesRoom c.args.near.1 (g.V.View.held c.args.view.now) (g.V.View.hints c.args.view.now) truth c.args.root (content_key c.args.place.0)) c.in-Err.error c.of_tree.result c.of_tree.ensures
 
 pub returns-in-Ok-Some-clause-lacks : goal.returns-in-Ok-Some-clause-lacks
 returns-in-Ok-Some-clause-lacks g c = λ volume truth tree handle inode r root_is.
-    lacking volume c.args.near.1 (g.V.View.held c.args.view.now) (g.V.View.hints c.args.view.now) truth tree handle inode r c.args.root root_is c.args.place.0 c.content_key.result c.in-Ok-Some.field-0 c.in-Ok-Some.draft
-    c.content_key.ensures c.in-Ok-Some.field-0-is c.in-Ok-Some.ensures.lacks
+    rw c.in-Ok-Some.field-0-is
+    (making volume c.args.near.1 (g.V.View.held c.args.view.now) (g.V.View.hints c.args.view.now) truth tree handle inode r c.args.root root_is c.args.place.0 c.content_key.result c.in-Ok-Some.field-0 c.in-Ok-Some.draft
+    c.content_key.ensures c.in-Ok-Some.field-0-is c.in-Ok-Some.ensures.lacks)
+
+pub returns-in-Ok-clause-finds : goal.returns-in-Ok-clause-finds
+returns-in-Ok-clause-finds g c = λ volume truth tree handle inode r root_is.
+    finding volume c.args.near.1 (g.V.View.held c.args.view.now) (g.V.View.hints c.args.view.now) truth tree handle inode r c.args.root root_is c.args.place.0 c.content_key.result c.in-Ok-None.field-0
+    c.content_key.ensures c.in-Ok-None.field-0-is c.in-Ok-None.ensures.finds

@@ -3,8 +3,8 @@ use Rattle.bx_files.specs.Reads.{Tells}
 use Rattle.bx_page.specs.Contents.{value_of}
 use Rattle.bx_truth.specs.PageTrees.{handle_in, map_of}
 use Rattle.bx_writes.proofs.First.{found_first, value_first}
-use Rattle.bx_writes.proofs.Missing.{entry_lacks, found_in, misses_in, value_stops}
-use Rattle.bx_writes.specs.Lacking.{LacksEntry}
+use Rattle.bx_writes.proofs.Missing.{entry_found, entry_makes, entry_there, found_in, misses_in, value_stops}
+use Rattle.bx_writes.specs.Lacking.{MakesEntry}
 use Rattle.bx_writes.proofs.preparing.prepare.Goals as goal
 
 pub returns-in-Err-clause-step : goal.returns-in-Err-clause-step
@@ -24,13 +24,25 @@ returns-in-Ok-None-clause-step g c = λ volume truth tree handle inode r root_is
     (λ pages u. sym (rw (c.in-Ok-None.field-0-is, c.content_key.ensures) at (c.in-Ok-None.ensures.map truth pages u))) c.missing.result c.missing.ensures.none (c.missing.ensures.step volume truth tree handle inode r root_is)
 
 pub returns-in-Err-clause-lacks : goal.returns-in-Err-clause-lacks
-returns-in-Err-clause-lacks g c = λ volume truth tree handle inode r root_is. value_first (Option (List ℕ)) (LacksEntry c.args.near.1 truth c.args.root c.args.place.0) c.in-Err.stop c.in-Err.ensures.inner
+returns-in-Err-clause-lacks g c = λ volume truth tree handle inode r root_is.
+    value_first (Option (List ℕ)) (MakesEntry c.args.near.1 (g.V.View.held c.args.view.now) (g.V.View.hints c.args.view.now) truth c.args.root c.args.place.0) c.in-Err.stop c.in-Err.ensures.inner
 
 pub returns-in-Ok-Some-clause-lacks : goal.returns-in-Ok-Some-clause-lacks
 returns-in-Ok-Some-clause-lacks g c = λ volume truth tree handle inode r root_is.
-    found_first (LacksEntry c.args.near.1 truth c.args.root c.args.place.0) c.args.near.1 (g.V.View.held c.args.view.now) c.handle_in.result c.args.place.1 c.args.part.now c.found.result c.found.ensures.at
+    found_first (MakesEntry c.args.near.1 (g.V.View.held c.args.view.now) (g.V.View.hints c.args.view.now) truth c.args.root c.args.place.0) c.args.near.1 (g.V.View.held c.args.view.now) c.handle_in.result c.args.place.1
+    c.args.part.now c.found.result c.found.ensures.at
 
 pub returns-in-Ok-None-clause-lacks : goal.returns-in-Ok-None-clause-lacks
 returns-in-Ok-None-clause-lacks g c = λ volume truth tree handle inode r root_is.
-    entry_lacks volume c.args.near.1 (g.V.View.held c.args.view.now) (g.V.View.hints c.args.view.now) truth tree handle inode r c.args.root root_is c.args.place.0
+    entry_makes volume c.args.near.1 (g.V.View.held c.args.view.now) (g.V.View.hints c.args.view.now) truth tree handle inode r c.args.root root_is c.args.place.0
     (λ pages u. sym (rw (c.in-Ok-None.field-0-is, c.content_key.ensures) at (c.in-Ok-None.ensures.map truth pages u))) c.missing.result (c.missing.ensures.lacks volume truth tree handle inode r root_is)
+
+pub returns-in-Ok-Some-clause-finds : goal.returns-in-Ok-Some-clause-finds
+returns-in-Ok-Some-clause-finds g c = λ volume truth tree handle inode r root_is.
+    entry_there volume c.args.near.1 (g.V.View.held c.args.view.now) (g.V.View.hints c.args.view.now) truth tree handle inode r c.args.root root_is c.args.place.0 c.in-Ok-Some.value
+    (λ pages u. sym (rw (c.in-Ok-Some.field-0-is, c.content_key.ensures) at (c.in-Ok-Some.ensures.map truth pages u))) c.found.result
+
+pub returns-in-Ok-None-clause-finds : goal.returns-in-Ok-None-clause-finds
+returns-in-Ok-None-clause-finds g c = λ volume truth tree handle inode r root_is.
+    entry_found volume c.args.near.1 (g.V.View.held c.args.view.now) (g.V.View.hints c.args.view.now) truth tree handle inode r c.args.root root_is c.args.place.0 c.missing.result
+    (c.missing.ensures.finds volume truth tree handle inode r root_is)

@@ -1,4 +1,4 @@
-use Rattle.std.proofs.Common.{◌≡◌, ◌+◌, List, length, subst, sym}
+use Rattle.std.proofs.Common.{◌≡◌, List, subst, sym}
 use Rattle.std.specs.Prelude.{Err}
 use Rattle.bx_base.specs.declared.names.Mode.TheVariants.{Exclusive}
 use Rattle.bx_blink.specs.Walks.{reads_with}
@@ -7,9 +7,9 @@ use Rattle.bx_reads.proofs.Told.{over_none}
 use Rattle.bx_records.specs.Drafts.{Changed}
 use Rattle.bx_views.specs.Truths.{with_draft}
 use Rattle.bx_model.specs.Writing.{write}
-use Rattle.bx_sizes.proofs.First.{no_inode_lowers, no_inode_stops, one_file}
-use Rattle.bx_writes.proofs.First.{lowers_there, named_first}
-use Rattle.bx_writes.specs.Lacking.{LacksWriting, LacksWritten}
+use Rattle.bx_sizes.proofs.First.{no_inode_stops}
+use Rattle.bx_writes.proofs.First.{named_first, named_ready}
+use Rattle.bx_writes.specs.Lacking.{PreparesWriting, PreparesWritten}
 use Rattle.bx_writes.proofs.Wrote.{no_name, on_writing, stopped}
 use Rattle.bx_writes.proofs.writing.write.Goals as goal
 
@@ -41,25 +41,23 @@ returns-clause-need g c =
 
 pub returns-in-Err-clause-lacks : goal.returns-in-Err-clause-lacks
 returns-in-Err-clause-lacks g c = λ truth tree few same s fit.
-    no_inode_stops (λ status. write tree c.args.call.now c.args.at.now c.args.offset c.args.written.now c.args.now 8 ≡ Err status) (LacksWriting c.args.volume.0 c.args.volume.1 truth c.args.at.now c.args.offset c.args.written.now)
+    no_inode_stops (λ status. write tree c.args.call.now c.args.at.now c.args.offset c.args.written.now c.args.now 8 ≡ Err status)
+    (PreparesWriting c.args.volume.0 c.args.volume.1 (g.V.View.held c.args.view.now) (g.V.View.hints c.args.view.now) truth c.args.at.now c.args.offset c.args.written.now)
     (reads_with (g.V.View.held c.args.view.now) (g.V.View.hints c.args.view.now) c.new-none.result) c.args.volume.1 c.in-Some.handle Exclusive c.in-Err.stop c.in-Err.ensures.at
 
 pub returns-clause-lacks : goal.returns-clause-lacks
 returns-clause-lacks g c = λ truth tree few same s fit.
     let f = subst (λ (d : List Changed). IsInodeOf c.args.volume.1 (with_draft truth d) tree c.in-Some.handle c.in-Ok.inode) c.new-none.ensures
     (c.in-Ok.ensures.tree truth tree same (over_none c.args.volume.1 truth tree c.new-none.result c.new-none.ensures s.is)) in
-    named_first (λ status. write tree c.args.call.now c.args.at.now c.args.offset c.args.written.now c.args.now 8 ≡ Err status) (LacksWritten c.args.volume.1 truth c.in-Some.handle c.args.offset c.args.written.now)
-    (LacksWriting c.args.volume.0 c.args.volume.1 truth c.args.at.now c.args.offset c.args.written.now) (λ lacks. record { handle = c.in-Some.handle; is_named = sym c.in-Some.ensures; lacks = lacks }) c.write_file.result
+    named_first (λ status. write tree c.args.call.now c.args.at.now c.args.offset c.args.written.now c.args.now 8 ≡ Err status)
+    (PreparesWritten c.args.volume.1 (g.V.View.held c.args.view.now) (g.V.View.hints c.args.view.now) truth c.in-Some.handle c.args.offset c.args.written.now)
+    (PreparesWriting c.args.volume.0 c.args.volume.1 (g.V.View.held c.args.view.now) (g.V.View.hints c.args.view.now) truth c.args.at.now c.args.offset c.args.written.now)
+    (λ new prepares. record { handle = c.in-Some.handle; is_named = sym c.in-Some.ensures; prepares = prepares }) c.write_file.result
     (c.write_file.ensures.lacks truth tree c.args.at.now few same s fit f (sym c.in-Some.ensures))
 
-pub returns-in-Err-clause-lowers : goal.returns-in-Err-clause-lowers
-returns-in-Err-clause-lowers g c = λ truth tree handle inode few same s fit is holds grows.
-    no_inode_lowers truth handle inode (reads_with (g.V.View.held c.args.view.now) (g.V.View.hints c.args.view.now) c.new-none.result) c.args.volume.1 c.in-Some.handle Exclusive c.in-Err.stop c.in-Err.ensures.at
-
-pub returns-clause-lowers : goal.returns-clause-lowers
-returns-clause-lowers g c = λ truth tree handle inode few same s fit is holds grows.
+pub returns-clause-ready : goal.returns-clause-ready
+returns-clause-ready g c = λ truth tree few same s fit.
     let f = subst (λ (d : List Changed). IsInodeOf c.args.volume.1 (with_draft truth d) tree c.in-Some.handle c.in-Ok.inode) c.new-none.ensures
     (c.in-Ok.ensures.tree truth tree same (over_none c.args.volume.1 truth tree c.new-none.result c.new-none.ensures s.is)) in
-    lowers_there c.args.volume.1 truth c.in-Some.handle handle c.in-Ok.inode inode (c.args.offset + length c.args.written.now)
-    (one_file c.args.volume.0 c.args.volume.1 truth tree c.args.at.now c.in-Some.handle handle c.in-Ok.inode inode s.is c.in-Some.ensures is f.holds holds) c.write_file.result
-    (λ over. c.write_file.ensures.lowers truth tree few same s fit f over) grows
+    named_ready c.args.volume.0 c.args.volume.1 truth c.args.at.now c.in-Some.handle c.args.offset c.args.written.now (sym c.in-Some.ensures) c.write_file.result
+    (c.write_file.ensures.ready truth tree c.args.at.now few same s fit f (sym c.in-Some.ensures))

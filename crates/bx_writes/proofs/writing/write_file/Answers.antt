@@ -11,18 +11,19 @@ use Rattle.bx_writes.specs.Steps.{IsRegularOf}
 use Rattle.bx_writes.specs.Written.{IsWritten}
 use Rattle.bx_writes.specs.Grown.{grown}
 use Rattle.bx_writes.specs.Laying.{GrowsTo, pieces_of}
-use Rattle.std.proofs.Common.{◌≡◌, ◌∙◌, ◌+◌, ◌*◌, ◌/◌, ◌%◌, ◌<◌, ◌^◌, ℕ, List, Err, length, arith, ap, subst, sym, inl, inr}
+use Rattle.std.proofs.Common.{◌≡◌, ◌∙◌, ◌+◌, ◌*◌, ◌/◌, ◌%◌, ◌<◌, ◌^◌, ℕ, List, true, Err, length, arith, ap, subst, sym, inl, inr}
 use Rattle.bx_changes.specs.Changes.{Changes}
 use Rattle.bx_hints.specs.Fitting.{HintsFitAll}
 use Rattle.bx_model.specs.Writing.{write}
 use Rattle.bx_records.specs.Drafts.{Changed}
-use Rattle.bx_sizes.proofs.First.{behind_end, never_lowers, never_stops}
+use Rattle.bx_sizes.proofs.First.{behind_end, never_stops}
 use Rattle.bx_sizes.proofs.Resized.{leaves_trees, regular_bytes}
 use Rattle.bx_sizes.specs.Lengths.{grows_over}
 use Rattle.bx_views.specs.Truths.{with_draft}
-use Rattle.bx_writes.proofs.First.{first_by, not_both, told_first, told_lowers}
+use Rattle.bx_adding.proofs.Lacks.{so_ok}
+use Rattle.bx_writes.proofs.First.{first_by, ready_to_lay, told_first}
 use Rattle.bx_writes.proofs.Laid.{none_of, some_of}
-use Rattle.bx_writes.specs.Lacking.{LacksEntries, LacksWritten}
+use Rattle.bx_writes.specs.Lacking.{FindEntries, MakesEntries, PreparesWritten, ReadyToLay}
 use Rattle.bx_writes.proofs.Wrote.{accepted, bytes as file_bytes, clear_stops, full, grows, kind_is, lay_stops, nothing, told_changes, told_hints, wrote}
 use Rattle.bx_writes.proofs.writing.write_file.Goals as goal
 
@@ -128,24 +129,33 @@ returns-clause-hints g c = λ all_hints truth tree few same s fit f all.
 
 pub returns-then-is_empty-clause-lacks : goal.returns-then-is_empty-clause-lacks
 returns-then-is_empty-clause-lacks g c = λ truth tree bytes few same s fit f is.
-    told_first (λ status. write tree c.args.call.now bytes c.args.offset c.args.written.now c.args.now 8 ≡ Err status) (LacksWritten c.args.volume.1 truth c.args.file.0 c.args.offset c.args.written.now)
+    told_first (λ status. write tree c.args.call.now bytes c.args.offset c.args.written.now c.args.now 8 ≡ Err status)
+    (PreparesWritten c.args.volume.1 (g.V.View.held c.args.view.now) (g.V.View.hints c.args.view.now) truth c.args.file.0 c.args.offset c.args.written.now)
     c.args.volume.0 c.args.file.0 c.args.file.1 c.new.result c.told.result c.told.ensures
 
 pub returns-in-Err-clear-clause-lacks : goal.returns-in-Err-clear-clause-lacks
 returns-in-Err-clear-clause-lacks g c = λ truth tree bytes few same s fit f is.
-    never_stops (List Changed) (λ status. write tree c.args.call.now bytes c.args.offset c.args.written.now c.args.now 8 ≡ Err status) (LacksWritten c.args.volume.1 truth c.args.file.0 c.args.offset c.args.written.now)
+    never_stops (List Changed) (λ status. write tree c.args.call.now bytes c.args.offset c.args.written.now c.args.now 8 ≡ Err status)
+    (PreparesWritten c.args.volume.1 (g.V.View.held c.args.view.now) (g.V.View.hints c.args.view.now) truth c.args.file.0 c.args.offset c.args.written.now)
     c.in-Err-clear.stop c.in-Err-clear.ensures.inner
 
 pub returns-in-Ok-clause-lacks : goal.returns-in-Ok-clause-lacks
 returns-in-Ok-clause-lacks g c = λ truth tree bytes few same s fit f is.
     let written = c.args.written.now in
-    let fine = rw c.in-Ok-None.field-0-is at c.in-Ok-None.ensures.error in (
+    let fine = rw c.in-Ok-None.field-0-is at c.in-Ok-None.ensures.error in
+    let kind = kind_is c.args.call.now c.args.offset (length written) c.args.file.0 c.args.file.1 c.requires.inode.kind c.requires.live fine in
+    let b = regular_bytes c.args.volume.1 truth tree c.args.file.0 f.file c.args.file.1 s.is f.holds f.there kind in
+    let over : grows_over c.args.file.1 (c.args.offset + length written) ≡ true =
+    ap (λ (n : ℕ). grows_over c.args.file.1 (n + length written)) (sym c.from.ensures) ∙ sym c.grows_over.ensures ∙ c.if-grows_over.true in (
       accepted c.args.volume.0 c.args.volume.1 (g.V.View.held c.args.view.now) (g.V.View.hints c.args.view.now) truth tree bytes c.args.call.now c.args.offset written c.args.now c.args.file.0 c.args.file.1 s f is fine,
       record {
         some = some_of (length written) c.if-is_empty.ensures;
-        inode = c.args.file.1;
-        holds = f.holds;
-        lacks = inl (ap (λ (n : ℕ). grows_over c.args.file.1 (n + length written)) (sym c.from.ensures) ∙ sym c.grows_over.ensures ∙ c.if-grows_over.true);
+        prepares = inl (record {
+          inode = c.args.file.1;
+          holds = f.holds;
+          over = over;
+          lowers = c.in-Ok.ensures.lowers truth tree f.file b.0 few same s.is fit f.holds f.there b.1 (behind_end c.args.file.1 (c.args.offset + length written) over);
+        });
       },
     )
 
@@ -161,41 +171,41 @@ returns-in-Err-lay-clause-lacks g c = λ truth tree bytes few same s fit f is.
     let kind = kind_is c.args.call.now offset (length written) handle inode c.requires.inode.kind c.requires.live fine in
     let some = some_of (length written) c.if-is_empty.ensures in
     let root_is : c.grown-changed.result.tree ≡ inode.tree = ap (λ (i : Inode). i.tree) c.grown-changed.ensures.is in
-    first_by (λ status. write tree c.args.call.now bytes offset written c.args.now 8 ≡ Err status) (LacksWritten c.args.volume.1 truth handle offset written)
-    (LacksEntries c.args.volume.1 truth c.grown-changed.result.tree (offset / 4096) (offset / 4096 + pieces_of (offset % 4096) written))
+    first_by (λ status. write tree c.args.call.now bytes c.args.offset c.args.written.now c.args.now 8 ≡ Err status) (PreparesWritten c.args.volume.1 (g.V.View.held c.args.view.now) (g.V.View.hints c.args.view.now) truth c.args.file.0 c.args.offset c.args.written.now)
+    (MakesEntries c.args.volume.1 held hints truth c.grown-changed.result.tree (offset / 4096) (offset / 4096 + pieces_of (offset % 4096) written))
     (accepted c.args.volume.0 c.args.volume.1 held hints truth tree bytes c.args.call.now offset written c.args.now handle inode s f is fine)
-    (λ entries. record {
+    (λ new entries. record {
       some = some;
-      inode = inode;
-      holds = f.holds;
-      lacks = inr (subst (λ (r : ℕ). LacksEntries c.args.volume.1 truth r (offset / 4096) (offset / 4096 + pieces_of (offset % 4096) written)) root_is entries);
+      prepares = inr (record {
+        inode = inode;
+        holds = f.holds;
+        cleared = ap (λ (n : ℕ). grows_over inode (n + length written)) (sym c.from.ensures) ∙ sym c.grows_over.ensures ∙ c.if-grows_over.false;
+        makes = subst (λ (r : ℕ). MakesEntries c.args.volume.1 held hints truth r (offset / 4096) (offset / 4096 + pieces_of (offset % 4096) written) new) root_is entries;
+      });
     }) c.in-Err-lay.error
     (c.in-Err-lay.ensures.lacks c.args.volume.0 truth tree inode (record { few = few; same = same; stands = s; fit = fit; at = f; kind = kind }) (sym root_is))
 
 pub returns-clause-lacks : goal.returns-clause-lacks
 returns-clause-lacks g c = λ truth tree bytes few same s fit f is.
-    told_first (λ status. write tree c.args.call.now bytes c.args.offset c.args.written.now c.args.now 8 ≡ Err status) (LacksWritten c.args.volume.1 truth c.args.file.0 c.args.offset c.args.written.now)
+    told_first (λ status. write tree c.args.call.now bytes c.args.offset c.args.written.now c.args.now 8 ≡ Err status)
+    (PreparesWritten c.args.volume.1 (g.V.View.held c.args.view.now) (g.V.View.hints c.args.view.now) truth c.args.file.0 c.args.offset c.args.written.now)
     c.args.volume.0 c.args.file.0 c.grown-changed.result c.in-Ok-lay.draft c.told-in-Ok-lay.result c.told-in-Ok-lay.ensures
 
-pub returns-then-is_empty-clause-lowers : goal.returns-then-is_empty-clause-lowers
-returns-then-is_empty-clause-lowers g c = λ truth tree few same s fit f grows.
-    told_lowers c.args.volume.1 truth c.args.file.0 c.args.file.1 c.args.volume.0 c.args.file.0 c.args.file.1 c.new.result c.told.result c.told.ensures
+pub returns-then-is_empty-clause-ready : goal.returns-then-is_empty-clause-ready
+returns-then-is_empty-clause-ready g c = λ truth tree bytes few same s fit f is.
+    so_ok (0 < length c.args.written.now → ReadyToLay c.args.volume.1 truth c.args.file.0 c.args.offset c.args.written.now)
+    (λ some. let none = none_of (length c.args.written.now) c.if-is_empty.ensures in absurd (omega (arith, some, none))) c.told.result
 
-pub returns-in-Err-clear-clause-lowers : goal.returns-in-Err-clear-clause-lowers
-returns-in-Err-clear-clause-lowers g c = λ truth tree few same s fit f grows. never_lowers (List Changed) c.args.volume.1 truth c.args.file.0 c.args.file.1 c.in-Err-clear.stop c.in-Err-clear.ensures.inner
-
-pub returns-in-Ok-clause-lowers : goal.returns-in-Ok-clause-lowers
-returns-in-Ok-clause-lowers g c = λ truth tree few same s fit f grows.
+pub returns-clause-ready : goal.returns-clause-ready
+returns-clause-ready g c = λ truth tree bytes few same s fit f is.
+    let written = c.args.written.now in
+    let offset = c.args.offset in
+    let inode = c.args.file.1 in
     let fine = rw c.in-Ok-None.field-0-is at c.in-Ok-None.ensures.error in
-    let kind = kind_is c.args.call.now c.args.offset (length c.args.written.now) c.args.file.0 c.args.file.1 c.requires.inode.kind c.requires.live fine in
-    let b = regular_bytes c.args.volume.1 truth tree c.args.file.0 f.file c.args.file.1 s.is f.holds f.there kind in
-    c.in-Ok.ensures.lowers truth tree f.file b.0 few same s.is fit f.holds f.there b.1 (behind_end c.args.file.1 (c.args.offset + length c.args.written.now) grows)
-
-pub returns-in-Err-lay-clause-lowers : goal.returns-in-Err-lay-clause-lowers
-returns-in-Err-lay-clause-lowers g c = λ truth tree few same s fit f grows.
-    not_both (grows_over c.args.file.1 (c.args.offset + length c.args.written.now)) grows
-    (ap (λ (n : ℕ). grows_over c.args.file.1 (n + length c.args.written.now)) (sym c.from.ensures) ∙ sym c.grows_over.ensures ∙ c.if-grows_over.false)
-
-pub returns-clause-lowers : goal.returns-clause-lowers
-returns-clause-lowers g c = λ truth tree few same s fit f grows.
-    told_lowers c.args.volume.1 truth c.args.file.0 c.args.file.1 c.args.volume.0 c.args.file.0 c.grown-changed.result c.in-Ok-lay.draft c.told-in-Ok-lay.result c.told-in-Ok-lay.ensures
+    let kind = kind_is c.args.call.now offset (length written) c.args.file.0 inode c.requires.inode.kind c.requires.live fine in
+    let root_is : c.grown-changed.result.tree ≡ inode.tree = ap (λ (i : Inode). i.tree) c.grown-changed.ensures.is in
+    so_ok (0 < length written → ReadyToLay c.args.volume.1 truth c.args.file.0 offset written)
+    (λ some. ready_to_lay c.args.volume.1 truth tree c.args.file.0 offset written inode s.is f.holds
+    (ap (λ (n : ℕ). grows_over inode (n + length written)) (sym c.from.ensures) ∙ sym c.grows_over.ensures ∙ c.if-grows_over.false)
+    (subst (λ (r : ℕ). FindEntries c.args.volume.1 truth r (offset / 4096) (offset / 4096 + pieces_of (offset % 4096) written)) root_is
+    (c.in-Ok-lay.ensures.finds c.args.volume.0 truth tree inode (record { few = few; same = same; stands = s; fit = fit; at = f; kind = kind }) (sym root_is) some))) c.told-in-Ok-lay.result

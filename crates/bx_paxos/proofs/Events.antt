@@ -1,8 +1,8 @@
 -- Each event keeps what fits.
 use Rattle.std.proofs.Common.{◌≡◌, ℕ, ◌^◌, ◌<◌, ◌≤◌, ◌⊎◌, List, [], ◌∷◌, ◌++◌, Contains, Option, Some, None, IfSome, refl, sym, ap, subst, ◌∙◌, inl, inr, arith}
 use Rattle.std.proofs.lemmas.Bool.Decides.{eqb_tells}
-use Rattle.bx_acceptor.specs.Handling.{Handles, Promises, caught_up, promise_of, raised}
-use Rattle.bx_acceptor.specs.Standing.{letters_of as answers_of}
+use Rattle.bx_answers.specs.Handling.{Handles, Promises, caught_up, promise_of, raised}
+use Rattle.bx_answers.specs.Replies.{letters_of as answers_of}
 use Rattle.bx_agreement.specs.Events.{Stands, Turns}
 use Rattle.bx_agreement.specs.History.{ComesNext, History}
 use Rattle.bx_agreement.specs.Passing.{MayCome, MayPass, answered}

@@ -1,7 +1,7 @@
 -- The two halves of a replica's machine stay together, and what the acceptor knows stays a place of the chain.
 use Rattle.std.proofs.Common.{◌≡◌, ℕ, ◌<◌, List, ◌++◌, length, Option, refl, sym, ap, subst, ◌∙◌, inl, inr, arith}
 use Rattle.std.proofs.lemmas.Bool.{false≢true}
-use Rattle.bx_acceptor.specs.Handling.{Handles, MayBecome, Promises, Votes, caught_up}
+use Rattle.bx_answers.specs.Handling.{Handles, MayBecome, Promises, Votes, caught_up}
 use Rattle.bx_acceptor.specs.Standing.{BecomesBy, IsStanding as IsAcceptor, Standing as Acceptor}
 use Rattle.bx_agreement.specs.History.{History}
 use Rattle.bx_agreement.specs.Passing.{MayCome}

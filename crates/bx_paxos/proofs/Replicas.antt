@@ -2,8 +2,9 @@
 use Rattle.std.proofs.Common.{◌≡◌, ℕ, ◌^◌, ◌<◌, ◌≤◌, ◌⊎◌, ◌==◌, Bool, true, false, List, [], ◌++◌, length, Contains, Option, Some, None, IfSome, IsSomeAnd, if◌then◌else◌, refl, sym, ap, subst, ◌∙◌, append_assoc, append-nil, inl, inr, arith}
 use Rattle.std.proofs.lemmas.Bool.Decides.{eqb_tells}
 use Rattle.std.proofs.lemmas.List.Elements.{Contains-append_left}
-use Rattle.bx_acceptor.specs.Handling.{Handles}
-use Rattle.bx_acceptor.specs.Standing.{BecomesBy, HasCell, HasContent, IsCellOf, IsStanding, IsTaken, Standing as Acceptor, Takes as TakesMessage, TakesIn, letters_of as answers_of, cell_with}
+use Rattle.bx_answers.specs.Handling.{Handles}
+use Rattle.bx_acceptor.specs.Standing.{BecomesBy, HasCell, HasContent, IsCellOf, IsStanding, IsTaken, Standing as Acceptor, Takes as TakesMessage, TakesIn, cell_with}
+use Rattle.bx_answers.specs.Replies.{letters_of as answers_of}
 use Rattle.bx_acceptor.specs.Starting.{StartsWith}
 use Rattle.bx_acceptor.specs.declared.origin.Origin.{Origin}
 use Rattle.bx_agreement.specs.Passing.{MayCome}

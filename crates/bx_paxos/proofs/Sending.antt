@@ -1,7 +1,8 @@
 -- All that a register sends is of the register's kinds.
 use Rattle.std.proofs.Common.{◌≡◌, ℕ, List, [], ◌∷◌, ◌++◌, Option, Some, None, Contains, refl, sym, subst, inl, inr, lit≤}
 use Rattle.std.proofs.lemmas.List.Elements.{Contains-append_cases, Contains-append_left}
-use Rattle.bx_acceptor.specs.Standing.{Standing as Acceptor, TakesIn, letters_of as answers_of}
+use Rattle.bx_acceptor.specs.Standing.{Standing as Acceptor, TakesIn}
+use Rattle.bx_answers.specs.Replies.{letters_of as answers_of}
 use Rattle.bx_base.specs.declared.names.Actor.{Actor}
 use Rattle.bx_base.specs.declared.names.Actor.TheVariants.{Node, Replica, Server, Member}
 use Rattle.bx_facts.proofs.Lists.{front_or_behind, nothing}

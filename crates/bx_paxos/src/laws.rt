@@ -1,8 +1,8 @@
 //! The laws, one for each event.
 
 ghost use Rattle.std.specs.Prelude.{◌≡◌, ℕ, ◌+◌, ◌^◌, ◌<◌, ◌≤◌, ◌⊎◌, List, ◌++◌, Option};
-ghost use Rattle.bx_acceptor.specs.Handling.{Handles, first_held};
-ghost use Rattle.bx_acceptor.specs.Standing.{letters_of};
+ghost use Rattle.bx_answers.specs.Handling.{Handles, first_held};
+ghost use Rattle.bx_answers.specs.Replies.{letters_of};
 ghost use Rattle.bx_base.specs.declared.names.Actor.{Actor};
 ghost use Rattle.bx_calls.specs.Calls.{KeepsAll, KeepsSure};
 ghost use Rattle.bx_cell.specs.Cells.{HasEither, next};

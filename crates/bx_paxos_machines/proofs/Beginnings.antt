@@ -4,7 +4,7 @@ use Rattle.std.specs.Prelude.{IsSome, IsSomeAnd, nat_lt, if◌then◌else◌}
 use Rattle.std.proofs.lemmas.Bool.{false≢true}
 use Rattle.std.proofs.lemmas.Bool.Decides.{nat_tests}
 use Rattle.bx_acceptor.proofs.Taking.{first_is_held}
-use Rattle.bx_acceptor.specs.Handling.{first_held}
+use Rattle.bx_answers.specs.Handling.{first_held}
 use Rattle.bx_acceptor.specs.Standing.{HasCell, IsFound}
 use Rattle.bx_acceptor.specs.Starting.{StartsWith}
 use Rattle.bx_acceptor.specs.declared.origin.Origin.{Origin}

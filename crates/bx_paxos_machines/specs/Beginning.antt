@@ -1,6 +1,6 @@
 -- Machines that begin: in which order they stand, and what each has and knows.
 use Rattle.std.specs.Prelude.{◌≡◌, ℕ, ◌-◌, ◌<◌, nat_lt, false, List, [], ◌∷◌, Some, None, IfSome, IsSome, if◌then◌else◌}
-use Rattle.bx_acceptor.specs.Handling.{first_held}
+use Rattle.bx_answers.specs.Handling.{first_held}
 use Rattle.bx_base.specs.declared.names.Actor.{Actor}
 use Rattle.bx_base.specs.declared.names.Actor.TheVariants.{Node, Replica, Server, Member}
 use Rattle.bx_cell.specs.Formats.{first}

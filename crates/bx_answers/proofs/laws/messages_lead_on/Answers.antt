@@ -1,5 +1,5 @@
-use Rattle.bx_acceptor.proofs.Leading.{leads_on}
-use Rattle.bx_acceptor.proofs.laws.messages_lead_on.Goals as goal
+use Rattle.bx_answers.proofs.Leading.{leads_on}
+use Rattle.bx_answers.proofs.laws.messages_lead_on.Goals as goal
 
 pub returns-clause-known : goal.returns-clause-known
 returns-clause-known c = λ held new message answer h. (leads_on held new message answer h).known

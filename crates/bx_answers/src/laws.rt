@@ -3,7 +3,7 @@
 ghost use Rattle.std.specs.Prelude.{◌≡◌, ℕ, ◌+◌, ◌≤◌, Option};
 ghost use Rattle.bx_global.specs.declared.held.Held.{Held};
 ghost use Rattle.bx_packets.specs.declared.message.Message.{Message};
-ghost use Rattle.bx_acceptor.specs.Handling.{AtMost, Handles};
+ghost use Rattle.bx_answers.specs.Handling.{AtMost, Handles};
 
 /// No message makes an acceptor forget: what it knows to be decided doesn't go back, nor does the ballot that it promised;
 /// and where the index that is voted on was the one behind the last decided state, it is so again.

@@ -2,9 +2,8 @@
 
 ghost use Rattle.std.specs.Prelude.{◌≡◌, ◌++◌, IfOk, OnOk, OnErr};
 ghost use Rattle.bx_global.specs.Bytes.{HasCounts};
-ghost use Rattle.bx_acceptor.specs.Handling.{promise_of};
-ghost use Rattle.bx_acceptor.specs.Replies.{answer_of};
-ghost use Rattle.bx_acceptor.specs.Standing.{letters_of};
+ghost use Rattle.bx_answers.specs.Handling.{promise_of};
+ghost use Rattle.bx_answers.specs.Replies.{answer_of, letters_of};
 
 use bx_base::{Actor, OutOfMemory};
 use bx_global::Held;
@@ -14,7 +13,7 @@ use std::alloc::Global;
 
 /// What an acceptor answers, by what it holds then.
 #[derive(Clone, Copy)]
-pub(crate) enum Reply {
+pub enum Reply {
     /// Nothing.
     Nothing,
     /// The last decided state.
@@ -28,7 +27,7 @@ pub(crate) enum Reply {
 }
 
 /// Puts what is answered into the box. Where memory runs out, nothing changes.
-pub(crate) fn tell(
+pub fn tell(
     alloc: Global,
     replica: u32,
     to: Actor,

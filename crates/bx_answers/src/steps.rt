@@ -1,13 +1,12 @@
-//! What an acceptor decides on a message: what it holds then, and what it answers. No disk is asked.
+//! What an acceptor holds to begin with, and what it decides on a message: what it holds then, and what it answers.
 
 ghost use Rattle.std.specs.Prelude.{◌≡◌, ℕ, ◌+◌, ◌^◌, ◌<◌, false, true, IfOk, OnOk, OnErr};
 ghost use Rattle.bx_global.specs.Bytes.{IsHeld};
 ghost use Rattle.bx_packets.specs.Messages.{IsMessage, IsStateOf};
 ghost use Rattle.bx_rows.specs.Ballots.{ComesBefore};
 ghost use Rattle.bx_rows.specs.Conditions.{IsBallot};
-ghost use Rattle.bx_acceptor.specs.Handling.{Changes, Handles, HasRoomAbove, IsAcceptable, IsNews, IsNewsOrAbove, Learns, Prepares, Promises, Votes, caught_up};
-ghost use Rattle.bx_acceptor.specs.Replies.{answer_of};
-ghost use Rattle.bx_acceptor.specs.Standing.{IsTaken};
+ghost use Rattle.bx_answers.specs.Handling.{Changes, Handles, HasRoomAbove, IsAcceptable, IsNews, IsNewsOrAbove, Learns, Prepares, Promises, Votes, caught_up, first_held};
+ghost use Rattle.bx_answers.specs.Replies.{answer_of};
 
 use crate::replies::Reply;
 use bx_base::OutOfMemory;
@@ -16,7 +15,7 @@ use bx_packets::Message;
 use std::alloc::Global;
 
 /// No ballot.
-pub(crate) const NO_BALLOT: Ballot = Ballot {
+const NO_BALLOT: Ballot = Ballot {
     round: 0,
     actor: 0,
     boot: 0,
@@ -24,9 +23,26 @@ pub(crate) const NO_BALLOT: Ballot = Ballot {
 
 /// What is answered, and whether what is held has changed.
 #[derive(Clone, Copy)]
-pub(crate) struct Step {
-    pub(crate) reply: Reply,
-    pub(crate) changed: bool,
+pub struct Step {
+    /// What is answered.
+    pub reply: Reply,
+    /// Whether what is held has changed.
+    pub changed: bool,
+}
+
+/// What an acceptor holds that begins with a state.
+pub fn first_held(alloc: Global, state: &GlobalState) -> Result<Held, OutOfMemory>
+    requires { state.now.index + 1 < 2 ^ 64 }
+    ensures { IfOk result (λ held. held ≡ first_held state.now) }
+{
+    Ok(Held {
+        index: state.index + 1,
+        promise: NO_BALLOT,
+        ballot: NO_BALLOT,
+        flag: 0,
+        accepted: state.copy(alloc)?,
+        decided: state.copy(alloc)?,
+    })
 }
 
 /// A step that changes nothing.
@@ -50,12 +66,11 @@ fn changed(reply: Reply) -> Step
 }
 
 /// Takes a message. Where memory runs out, nothing changes.
-pub(crate) fn handle(alloc: Global, held: &mut Held, message: Message) -> Result<Step, OutOfMemory>
+pub fn handle(alloc: Global, held: &mut Held, message: Message) -> Result<Step, OutOfMemory>
     requires { HasRoomAbove message }
     ensures handles { IfOk result (λ step. Handles held.old message held.new (answer_of held.new step.reply)) }
     ensures same { IfOk result (λ step. step.changed ≡ false → held.new ≡ held.old) }
     ensures spare { IfOk result (λ step. step.changed ≡ true → Changes held.old message) }
-    ensures counts { IfOk result (λ step. (number : ℕ) → IsTaken number message → step.changed ≡ true → number + 1 < 2 ^ 64) }
     ensures kept { (devices : ℕ) → IsHeld devices held.old → IsMessage devices message → IsHeld devices held.new }
     ensures err { OnErr result (held.new ≡ held.old) }
 {
@@ -127,7 +142,7 @@ fn promise(held: &mut Held, ballot: Ballot) -> Step
 }
 
 /// Takes a decided state that is newer. Where memory runs out, nothing changes.
-pub(crate) fn catch_up(
+pub fn catch_up(
     alloc: Global,
     held: &mut Held,
     state: GlobalState,

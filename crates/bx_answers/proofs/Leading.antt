@@ -5,7 +5,7 @@ use Rattle.bx_global.specs.declared.state.GlobalState.{GlobalState}
 use Rattle.bx_rows.specs.declared.ballot.Ballot.{Ballot}
 use Rattle.bx_packets.specs.declared.message.Message.{Message}
 use Rattle.bx_packets.specs.declared.message.Message.TheVariants.{Ask, Decided, Prepare, Promise as Promising, Accept, Accepted, Refused}
-use Rattle.bx_acceptor.specs.Handling.{AtMost, Handles, Learns, Prepares, Promises, Votes, caught_up}
+use Rattle.bx_answers.specs.Handling.{AtMost, Handles, Learns, Prepares, Promises, Votes, caught_up}
 
 -- what is held leads on
 pub record LeadsOn (held new : Held) : Type 0 where

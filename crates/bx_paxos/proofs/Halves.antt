@@ -19,9 +19,10 @@ use Rattle.bx_packets.specs.declared.message.Message.{Message}
 use Rattle.bx_packets.specs.declared.message.Message.TheVariants.{Ask, Decided, Prepare, Promise as Promising, Accept, Accepted, Refused}
 use Rattle.bx_post.specs.Posts.{letter_of}
 use Rattle.bx_post.specs.declared.packets.Letter.{Letter}
-use Rattle.bx_proposer.specs.Standing.{IsStanding as IsProposer, LeadsOn, Standing as Proposer, going_on}
-use Rattle.bx_proposer.specs.Steps.{Learns}
-use Rattle.bx_proposer.specs.declared.course.Course.{Course}
+use Rattle.bx_rounds.specs.Courses.{LeadsOn}
+use Rattle.bx_proposer.specs.Standing.{IsStanding as IsProposer, Standing as Proposer, going_on}
+use Rattle.bx_rounds.specs.Steps.{Learns}
+use Rattle.bx_rounds.specs.declared.course.Course.{Course}
 use Rattle.bx_rows.specs.declared.ballot.Ballot.{Ballot}
 use Rattle.bx_paxos.specs.Fits.{Fits, Voters, devices_of}
 use Rattle.bx_paxos.specs.Machines.{AreHalves, IsSame}

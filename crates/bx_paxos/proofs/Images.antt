@@ -25,7 +25,7 @@ use Rattle.bx_global.specs.Bytes.{IsHeld, held_text}
 use Rattle.bx_global.specs.declared.held.Held.{Held}
 use Rattle.bx_global.specs.declared.state.GlobalState.{GlobalState}
 use Rattle.bx_packets.specs.declared.message.Message.{Message}
-use Rattle.bx_proposer.specs.Agreement.{GoesOn}
+use Rattle.bx_rounds.specs.Agreement.{GoesOn}
 use Rattle.bx_paxos.specs.Counted.{AreCounted, IsCounted, IsHeldSound}
 
 -- ---- one replica

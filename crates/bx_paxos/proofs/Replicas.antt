@@ -34,14 +34,15 @@ use Rattle.bx_packets.specs.declared.message.Message.{Message}
 use Rattle.bx_packets.specs.declared.message.Message.TheVariants.{Ask}
 use Rattle.bx_post.specs.Posts.{letter_of}
 use Rattle.bx_post.specs.declared.packets.Letter.{Letter}
-use Rattle.bx_proposer.specs.Agreement.{IsProposing}
+use Rattle.bx_rounds.specs.Agreement.{IsProposing}
 use Rattle.bx_proposer.specs.Letters.{asks_at, asks_of, letters_of}
 use Rattle.bx_proposer.specs.Names.{number_of}
-use Rattle.bx_proposer.specs.Standing.{IsCourse, PacketStep, ProposesTo, Standing as Proposer, Steps, Takes, going_on, started}
-use Rattle.bx_proposer.specs.Steps.{Hears, Learns, Proposes, Ticks, reading_now}
-use Rattle.bx_proposer.specs.declared.course.Course.{Course}
-use Rattle.bx_proposer.specs.declared.course.Move.{Move}
-use Rattle.bx_proposer.specs.declared.course.Move.TheVariants.{Nothing}
+use Rattle.bx_rounds.specs.Courses.{IsCourse, PacketStep, Steps, started}
+use Rattle.bx_proposer.specs.Standing.{ProposesTo, Standing as Proposer, Takes, going_on}
+use Rattle.bx_rounds.specs.Steps.{Hears, Learns, Proposes, Ticks, reading_now}
+use Rattle.bx_rounds.specs.declared.course.Course.{Course}
+use Rattle.bx_rounds.specs.declared.course.Move.{Move}
+use Rattle.bx_rounds.specs.declared.course.Move.TheVariants.{Nothing}
 use Rattle.bx_paxos.specs.Counted.{IsCounted, IsHeldSound}
 use Rattle.bx_paxos.specs.Fits.{AllPass, Fits, Goes, IsPutOn, KnowsCell, Turned, Voters, devices_of, going}
 use Rattle.bx_paxos.specs.Reading.{ReadsNext}

@@ -18,10 +18,10 @@ use Rattle.bx_post.specs.declared.packets.Letter.{Letter}
 use Rattle.bx_proposer.specs.Letters.{accept_in, accept_letters, asks_at, asks_of, letters_of, letters_to, prepare_in, prepare_letters}
 use Rattle.bx_proposer.specs.Names.{replicas}
 use Rattle.bx_proposer.specs.Standing.{ProposesTo, Standing as Proposer, Takes}
-use Rattle.bx_proposer.specs.declared.course.Course.{Course}
-use Rattle.bx_proposer.specs.declared.course.Move.{Move}
-use Rattle.bx_proposer.specs.declared.course.Move.TheVariants.{Nothing, Prepare as Prepares, Accept as Accepts, Decided as Decides}
-use Rattle.bx_proposer.specs.declared.course.Proposal.{Proposal}
+use Rattle.bx_rounds.specs.declared.course.Course.{Course}
+use Rattle.bx_rounds.specs.declared.course.Move.{Move}
+use Rattle.bx_rounds.specs.declared.course.Move.TheVariants.{Nothing, Prepare as Prepares, Accept as Accepts, Decided as Decides}
+use Rattle.bx_rounds.specs.declared.course.Proposal.{Proposal}
 use Rattle.bx_rows.specs.declared.ballot.Ballot.{Ballot}
 
 -- each letter is of the register's kinds

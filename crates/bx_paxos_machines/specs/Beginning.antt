@@ -10,7 +10,7 @@ use Rattle.bx_facts.specs.Machines.{IsMachine}
 use Rattle.bx_global.specs.Bytes.{held_text}
 use Rattle.bx_global.specs.declared.state.GlobalState.{GlobalState}
 use Rattle.bx_paxos_found.specs.declared.origins.Origins.{Origins}
-use Rattle.bx_proposer.specs.Standing.{started}
+use Rattle.bx_rounds.specs.Courses.{started}
 use Rattle.bx_paxos_machines.specs.declared.machine.Machine.{Machine}
 use Rattle.bx_paxos_machines.specs.Parts.{AreParts, HasCells, acceptor_of, cell_of, course_of, machine_at}
 

@@ -11,11 +11,11 @@ use Rattle.bx_packets.specs.declared.message.Message.{Message}
 use Rattle.bx_packets.specs.declared.message.Message.TheVariants.{Ask, Decided, Prepare, Promise as Promising, Accept, Accepted, Refused}
 use Rattle.bx_packets.specs.declared.message.Promise.{Promise}
 use Rattle.bx_rows.specs.declared.ballot.Ballot.{Ballot}
-use Rattle.bx_proposer.specs.declared.course.Course.{Course}
-use Rattle.bx_proposer.specs.declared.course.Move.{Move}
-use Rattle.bx_proposer.specs.declared.course.Proposal.{Proposal}
-use Rattle.bx_proposer.specs.Standing.{IsCourse, IsProposal, IsSentState, IsStanding, LeadsOn, Standing, Steps, devices_of}
-use Rattle.bx_proposer.specs.Steps.{FromReplica, Gathers, Hears, HearsPromise, HearsRefusal, HearsVote, PromiseAt, Proposes, RefusedAt, TickAt, Ticks, VoteAt, learned, noting, preparing, reading_now, with_out}
+use Rattle.bx_rounds.specs.declared.course.Course.{Course}
+use Rattle.bx_rounds.specs.declared.course.Move.{Move}
+use Rattle.bx_rounds.specs.declared.course.Proposal.{Proposal}
+use Rattle.bx_rounds.specs.Courses.{IsCourse, IsProposal, IsSentState, LeadsOn, Steps}
+use Rattle.bx_rounds.specs.Steps.{FromReplica, Gathers, Hears, HearsPromise, HearsRefusal, HearsVote, PromiseAt, Proposes, RefusedAt, TickAt, Ticks, VoteAt, learned, noting, preparing, reading_now, with_out}
 
 same : (c new : Course) → new ≡ c → LeadsOn c new
 same c new e = subst (LeadsOn c) (sym e) (record { boot = refl; rises = omega arith; still = λ busy k. busy; was = λ busy. (busy, refl) })
@@ -104,10 +104,6 @@ step_on devices me c new (Packet packet reading) move is (inl (message, spells, 
 step_on devices me c new (Packet packet reading) move is (inr (none, e, silent)) = clocked c new reading (same (reading_now reading c) new e)
 step_on devices me c new (Tick reading) move is does = clocked c new reading (ticks_on me (reading_now reading c) new move does)
 step_on devices me c new Synced move is (e, silent) = same c new e
-
--- .. of the devices that a proposer has
-pub steps_on : (s : Standing) (count : ℕ) (new : Course) (input : Input) (move : Move) → count ≡ devices_of s → IsStanding s → Steps s.actor count s.course input new move → LeadsOn s.course new
-steps_on s count new input move devices is steps = step_on (devices_of s) s.actor s.course new input move is.course (subst (λ (k : ℕ). Steps s.actor k s.course input new move) devices steps)
 
 -- a change that is proposed is out, and what is known stays
 pub proposes_on : (me : ℕ) (c new : Course) (change : Change) (move : Move) → Proposes me c change new move → IsSome new.out × (new.known ≡ c.known)

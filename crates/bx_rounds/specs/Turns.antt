@@ -2,10 +2,10 @@
 use Rattle.std.specs.Prelude.{◌≡◌, ◌≢◌, ℕ, ◌⊎◌, Some, None, IsSomeAnd}
 use Rattle.bx_packets.specs.declared.message.Promise.{Promise}
 use Rattle.bx_rows.specs.declared.ballot.Ballot.{Ballot}
-use Rattle.bx_proposer.specs.declared.course.Proposal.{Proposal}
-use Rattle.bx_proposer.specs.declared.votes.Turn.{Turn}
-use Rattle.bx_proposer.specs.declared.votes.Turn.TheVariants.{Passed, First, Second}
-use Rattle.bx_proposer.specs.Steps.{Counts, IsFirstOf, IsOfAnother, IsVote}
+use Rattle.bx_rounds.specs.declared.course.Proposal.{Proposal}
+use Rattle.bx_rounds.specs.declared.votes.Turn.{Turn}
+use Rattle.bx_rounds.specs.declared.votes.Turn.TheVariants.{Passed, First, Second}
+use Rattle.bx_rounds.specs.Steps.{Counts, IsFirstOf, IsOfAnother, IsVote}
 
 abbrev pub PromiseTurn : Proposal → ℕ → Promise → Turn → Type 0
 PromiseTurn p n q Passed = (Counts p q → ⊥) ⊎ IsFirstOf n p.promise

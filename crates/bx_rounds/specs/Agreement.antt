@@ -8,9 +8,9 @@ use Rattle.bx_facts.specs.Chains.{GrowsBy, IsPlace}
 use Rattle.bx_global.specs.declared.held.Held.{Held}
 use Rattle.bx_rows.specs.declared.ballot.Ballot.{Ballot}
 use Rattle.bx_global.specs.declared.state.GlobalState.{GlobalState}
-use Rattle.bx_proposer.specs.declared.course.Course.{Course}
-use Rattle.bx_proposer.specs.declared.course.Proposal.{Proposal}
-use Rattle.bx_proposer.specs.Steps.{promised_in}
+use Rattle.bx_rounds.specs.declared.course.Course.{Course}
+use Rattle.bx_rounds.specs.declared.course.Proposal.{Proposal}
+use Rattle.bx_rounds.specs.Steps.{promised_in}
 
 -- the round of a proposal in a ballot
 abbrev pub round_in : Ballot → Proposal → Round

@@ -20,12 +20,12 @@ use Rattle.bx_packets.specs.declared.message.Message.{Message}
 use Rattle.bx_packets.specs.declared.message.Message.TheVariants.{Ask, Decided, Prepare, Promise as Promising, Accept, Accepted, Refused}
 use Rattle.bx_packets.specs.declared.message.Promise.{Promise}
 use Rattle.bx_rows.specs.declared.ballot.Ballot.{Ballot}
-use Rattle.bx_proposer.specs.declared.course.Course.{Course}
-use Rattle.bx_proposer.specs.declared.course.Move.{Move}
-use Rattle.bx_proposer.specs.declared.course.Proposal.{Proposal}
-use Rattle.bx_proposer.specs.declared.course.Vouched.{Vouched}
-use Rattle.bx_proposer.specs.Standing.{GivesUp, IsCourse, IsKeptPromise, IsProposal, IsSentState, IsStanding, PacketStep, Standing, Steps, devices_of, going_on}
-use Rattle.bx_proposer.specs.Steps.{FromReplica, Gathers, Hears, HearsPromise, HearsRefusal, HearsVote, Learns, PromiseAt, Proposes, RefusedAt, TickAt, Ticks, VoteAt, fresh, learned, noting, preparing, promised_in, reading_now, with_out}
+use Rattle.bx_rounds.specs.declared.course.Course.{Course}
+use Rattle.bx_rounds.specs.declared.course.Move.{Move}
+use Rattle.bx_rounds.specs.declared.course.Proposal.{Proposal}
+use Rattle.bx_rounds.specs.declared.course.Vouched.{Vouched}
+use Rattle.bx_rounds.specs.Courses.{GivesUp, IsCourse, IsKeptPromise, IsProposal, IsSentState, PacketStep, Steps}
+use Rattle.bx_rounds.specs.Steps.{FromReplica, Gathers, Hears, HearsPromise, HearsRefusal, HearsVote, Learns, PromiseAt, Proposes, RefusedAt, TickAt, Ticks, VoteAt, fresh, learned, noting, preparing, promised_in, reading_now, with_out}
 
 -- ---- parts
 
@@ -206,15 +206,3 @@ gives_up_kept devices c new is gives = record {
     | inr none ↦ subst (λ (o : Option Proposal). IfSome o (IsProposal devices new.known)) (sym none) tt
   ];
 }
-
--- a proposer whose course goes on
-pub stands_with : (s : Standing) (new : Course) → IsStanding s → IsCourse (devices_of s) new → IsStanding (going_on s new)
-stands_with s new is course = record { machine = is.machine; actor = is.actor; actor_fits = is.actor_fits; others = is.others; first = is.first; course = course }
-
-pub takes_kept : (s : Standing) (count : ℕ) (new : Course) (input : Input) (move : Move) → count ≡ devices_of s → IsStanding s → Steps s.actor count s.course input new move → IsStanding (going_on s new)
-takes_kept s count new input move same is steps =
-    stands_with s new is (steps_kept (devices_of s) s.actor s.course new input move is.actor_fits is.course (subst (λ (k : ℕ). Steps s.actor k s.course input new move) same steps))
-
-pub change_kept : (s : Standing) (new : Course) (change : Change) (move : Move) → IsStanding s → IsLegal s.course.known change → IsChange change → Proposes s.actor s.course change new move → IsStanding (going_on s new)
-change_kept s new change move is legal numbers proposes =
-    stands_with s new is (proposes_kept (devices_of s) s.actor s.course new change move is.actor_fits is.course legal numbers proposes)

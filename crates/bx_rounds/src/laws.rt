@@ -12,11 +12,11 @@ ghost use Rattle.bx_global.specs.declared.change.Change.{Change};
 ghost use Rattle.bx_global.specs.declared.held.Held.{Held};
 ghost use Rattle.bx_global.specs.declared.state.GlobalState.{GlobalState};
 ghost use Rattle.bx_packets.specs.declared.message.Message.{Message};
-ghost use Rattle.bx_proposer.specs.Agreement.{Agrees, IsProposing, MayTell, machine_of};
-ghost use Rattle.bx_proposer.specs.Standing.{IsCourse, LeadsOn, started, stopped};
-ghost use Rattle.bx_proposer.specs.Steps.{Hears, Proposes, Ticks};
-ghost use Rattle.bx_proposer.specs.declared.course.Course.{Course};
-ghost use Rattle.bx_proposer.specs.declared.course.Move.{Move};
+ghost use Rattle.bx_rounds.specs.Agreement.{Agrees, IsProposing, MayTell, machine_of};
+ghost use Rattle.bx_rounds.specs.Courses.{IsCourse, LeadsOn, started, stopped};
+ghost use Rattle.bx_rounds.specs.Steps.{Hears, Proposes, Ticks};
+ghost use Rattle.bx_rounds.specs.declared.course.Course.{Course};
+ghost use Rattle.bx_rounds.specs.declared.course.Move.{Move};
 
 /// A proposer that takes a message which may be under way, or a tick, keeps all sound: at most one accept was sent, or one change that was
 /// handed in came into the chain.

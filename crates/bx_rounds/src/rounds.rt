@@ -4,7 +4,7 @@ ghost use Rattle.std.specs.Prelude.{◌≡◌, ◌+◌, ◌^◌, ◌<◌, ◌↔
 ghost use Rattle.bx_facts.specs.declared.input.ProposeError.TheVariants.{NotLegal, Busy};
 ghost use Rattle.bx_global.specs.Allowed.{IsChange};
 ghost use Rattle.bx_global.specs.Table.{IsLegal};
-ghost use Rattle.bx_proposer.specs.Steps.{HasRound, HearsRefusal, IsLate, IsOvertaken, Proposes, Ticks, fresh, preparing};
+ghost use Rattle.bx_rounds.specs.Steps.{HasRound, HearsRefusal, IsLate, IsOvertaken, Proposes, Ticks, fresh, preparing};
 
 use crate::course::{Course, Move, Proposal};
 use bx_facts::ProposeError;
@@ -17,8 +17,8 @@ const TRIES: u32 = 8;
 /// How long a proposal is out before a tick has it prepared anew, in milliseconds.
 const PATIENCE: u64 = 1_000;
 
-/// Proposes a change.
-pub(crate) fn propose(
+/// Proposes a change. `NotLegal` exactly where it isn't legal on what the machine knows; else `Busy` exactly where a proposal is out.
+pub fn propose(
     alloc: Global,
     me: u32,
     course: &mut Course,

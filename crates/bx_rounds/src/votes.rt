@@ -3,10 +3,10 @@
 ghost use Rattle.std.specs.Prelude.{◌≡◌, ℕ, None, IsSome, IsSomeAnd, IfOk, OnErr};
 ghost use Rattle.bx_agreement.specs.Passing.{promised_by};
 ghost use Rattle.bx_agreement.specs.Sound.{Picks};
-ghost use Rattle.bx_proposer.specs.Standing.{GivesUp};
-ghost use Rattle.bx_proposer.specs.Steps.{Gathers, HearsPromise, HearsVote, SendsPicked, learned};
-ghost use Rattle.bx_proposer.specs.declared.course.Move.TheVariants.{Accept as Accepts, Decided as Decides};
-ghost use Rattle.bx_proposer.specs.Turns.{PromiseTurn, VoteTurn};
+ghost use Rattle.bx_rounds.specs.Courses.{GivesUp};
+ghost use Rattle.bx_rounds.specs.Steps.{Gathers, HearsPromise, HearsVote, SendsPicked, learned};
+ghost use Rattle.bx_rounds.specs.declared.course.Move.TheVariants.{Accept as Accepts, Decided as Decides};
+ghost use Rattle.bx_rounds.specs.Turns.{PromiseTurn, VoteTurn};
 
 use crate::course::{Course, Move, Proposal, Vouched};
 use bx_base::OutOfMemory;

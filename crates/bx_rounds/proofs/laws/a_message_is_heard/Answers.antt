@@ -1,5 +1,5 @@
-use Rattle.bx_proposer.proofs.Agreeing.{heard, ticks}
-use Rattle.bx_proposer.proofs.laws.a_message_is_heard.Goals as goal
+use Rattle.bx_rounds.proofs.Agreeing.{heard, ticks}
+use Rattle.bx_rounds.proofs.laws.a_message_is_heard.Goals as goal
 
 pub returns-clause-hears : goal.returns-clause-hears
 returns-clause-hears c = λ h cells old new me course to from message move stands is may does turns. heard h cells old new me stands to turns course from message move is may does

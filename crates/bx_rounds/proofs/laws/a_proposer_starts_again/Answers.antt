@@ -1,5 +1,5 @@
-use Rattle.bx_proposer.proofs.Agreeing.{starts, stops}
-use Rattle.bx_proposer.proofs.laws.a_proposer_starts_again.Goals as goal
+use Rattle.bx_rounds.proofs.Agreeing.{starts, stops}
+use Rattle.bx_rounds.proofs.laws.a_proposer_starts_again.Goals as goal
 
 pub returns-clause-stops : goal.returns-clause-stops
 returns-clause-stops c = λ h cells old new me course to stands is e turns. stops h cells old new me stands to turns course is e

@@ -1,9 +1,9 @@
 //! Taking what a packet says.
 
 ghost use Rattle.std.specs.Prelude.{◌≡◌, IfOk, OnErr};
-ghost use Rattle.bx_proposer.specs.Standing.{GivesUp, PacketStep, Steps};
-ghost use Rattle.bx_proposer.specs.Steps.{Hears, Learns};
-ghost use Rattle.bx_proposer.specs.declared.course.Move.TheVariants.{Nothing};
+ghost use Rattle.bx_rounds.specs.Courses.{GivesUp, PacketStep, Steps};
+ghost use Rattle.bx_rounds.specs.Steps.{Hears, Learns};
+ghost use Rattle.bx_rounds.specs.declared.course.Move.TheVariants.{Nothing};
 
 use crate::course::{Course, Move};
 use crate::rounds::{hear_refusal, tick};
@@ -16,7 +16,7 @@ use bx_post::Packet;
 use std::alloc::Global;
 
 /// Takes what comes.
-pub(crate) fn step(
+pub fn step(
     alloc: Global,
     me: u32,
     devices: u32,
@@ -86,7 +86,7 @@ fn hear(
 }
 
 /// Takes a decided state, where it is newer than the last one.
-pub(crate) fn learn(course: &mut Course, state: GlobalState) -> Move
+pub fn learn(course: &mut Course, state: GlobalState) -> Move
     ensures learns { Learns course.old state course.new }
     ensures silent { result ≡ Nothing }
 {

@@ -20,13 +20,13 @@ use Rattle.bx_packets.specs.declared.message.Message.{Message}
 use Rattle.bx_packets.specs.declared.message.Message.TheVariants.{Ask, Decided, Prepare, Promise as Promising, Accept, Accepted, Refused}
 use Rattle.bx_packets.specs.declared.message.Promise.{Promise}
 use Rattle.bx_rows.specs.declared.ballot.Ballot.{Ballot}
-use Rattle.bx_proposer.specs.Agreement.{Agrees, GoesOn, IsProposing, MayTell, machine_of, round_by, round_in, round_of}
-use Rattle.bx_proposer.specs.Standing.{started, stopped}
-use Rattle.bx_proposer.specs.Steps.{Counts, FromReplica, Gathers, Hears, HearsPromise, HearsRefusal, HearsVote, IsVote, Learns, PromiseAt, Proposes, RefusedAt, TickAt, Ticks, VoteAt, fresh, learned, noting, preparing, promised_in, with_out}
-use Rattle.bx_proposer.specs.declared.course.Course.{Course}
-use Rattle.bx_proposer.specs.declared.course.Move.{Move}
-use Rattle.bx_proposer.specs.declared.course.Proposal.{Proposal}
-use Rattle.bx_proposer.specs.declared.course.Vouched.{Vouched}
+use Rattle.bx_rounds.specs.Agreement.{Agrees, GoesOn, IsProposing, MayTell, machine_of, round_by, round_in, round_of}
+use Rattle.bx_rounds.specs.Courses.{started, stopped}
+use Rattle.bx_rounds.specs.Steps.{Counts, FromReplica, Gathers, Hears, HearsPromise, HearsRefusal, HearsVote, IsVote, Learns, PromiseAt, Proposes, RefusedAt, TickAt, Ticks, VoteAt, fresh, learned, noting, preparing, promised_in, with_out}
+use Rattle.bx_rounds.specs.declared.course.Course.{Course}
+use Rattle.bx_rounds.specs.declared.course.Move.{Move}
+use Rattle.bx_rounds.specs.declared.course.Proposal.{Proposal}
+use Rattle.bx_rounds.specs.declared.course.Vouched.{Vouched}
 
 -- ---- what a step may change of a proposer without sending
 

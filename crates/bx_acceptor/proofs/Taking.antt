@@ -15,13 +15,14 @@ use Rattle.bx_global.specs.Allowed.{IsAllowed}
 use Rattle.bx_global.specs.Bytes.{HasCounts, IsHeld, SpellsHeld, held_text}
 use Rattle.bx_global.proofs.HeldText.{one_held}
 use Rattle.bx_packets.specs.declared.message.Message.{Message}
+use Rattle.bx_packets.specs.declared.message.Message.TheVariants.{Ask, Decided, Prepare, Promise as Promising, Accept, Accepted, Refused}
 use Rattle.bx_packets.specs.Messages.{IsMessage}
 use Rattle.bx_packets.proofs.Spelled.{one_message}
 use Rattle.bx_post.specs.declared.packets.Letter.{Letter}
 use Rattle.bx_acceptor.specs.declared.origin.Origin.{Origin}
 use Rattle.bx_acceptor.specs.declared.origin.Origin.TheVariants.{Made, Found as FoundAs, Apart}
-use Rattle.bx_acceptor.specs.Handling.{Changes, MayBecome, caught_up, first_held}
-use Rattle.bx_acceptor.specs.Standing.{Answers, BecomesBy, Brings, CatchesUp, HasCell, HasContent, IsAsFound, IsCellOf, IsFound, IsNotFound, IsStanding, Standing, Takes, TakesPart, cell_with, devices_of}
+use Rattle.bx_answers.specs.Handling.{Changes, MayBecome, caught_up, first_held}
+use Rattle.bx_acceptor.specs.Standing.{Answers, BecomesBy, Brings, CatchesUp, HasCell, HasContent, IsAsFound, IsCellOf, IsFound, IsNotFound, IsStanding, IsTaken, Standing, Takes, TakesPart, cell_with, devices_of}
 use Rattle.bx_acceptor.specs.Starting.{HoldsOf, IsCellAt, StandsSo, StartsWith}
 
 -- ---- what comes
@@ -79,6 +80,16 @@ changes_not a b others input m n f t same count p q spare changes =
     let here : Brings (devices_of b) input m f = subst (λ (k : ℕ). Brings k input m f) (count ∙ ap devices_of same) p in
     let one = one_brought (devices_of b) input m n f t here q in
     spare (subst (λ (s : Standing). Changes s.held n) same (subst (λ (x : Message). Changes a.held x) one.0 changes))
+
+-- where a message that is taken changes what is held, a number is left for the cell
+pub changed_rises : (held : Held) (m : Message) (number : ℕ) → IsTaken number m → Changes held m → number + 1 < 2 ^ 64
+changed_rises held Ask number taken changes = absurd changes
+changed_rises held (Decided s) number taken changes = taken.0
+changed_rises held (Prepare b s) number taken changes = taken.0
+changed_rises held (Promising promise) number taken changes = absurd changes
+changed_rises held (Accept b s) number taken changes = taken
+changed_rises held (Accepted b index) number taken changes = absurd changes
+changed_rises held (Refused index b) number taken changes = absurd changes
 
 -- ---- how it stands
 

@@ -1,7 +1,6 @@
 -- How an acceptor stands, and what it takes in.
-use Rattle.std.specs.Prelude.{◌≡◌, ℕ, ◌+◌, ◌^◌, ◌<◌, ◌≤◌, ◌⊎◌, true, List, [], ◌∷◌, ◌++◌, length, Option, Some, None, IfSome, IsSomeAnd}
+use Rattle.std.specs.Prelude.{◌≡◌, ℕ, ◌+◌, ◌^◌, ◌<◌, ◌≤◌, ◌⊎◌, true, List, ◌++◌, length, Option, Some, None, IfSome, IsSomeAnd}
 use Rattle.bx_base.specs.declared.names.Actor.{Actor}
-use Rattle.bx_base.specs.declared.names.Actor.TheVariants.{Replica}
 use Rattle.bx_cell.specs.Cells.{Holds, Known}
 use Rattle.bx_disk.specs.Disks.{Image}
 use Rattle.bx_facts.specs.declared.input.Input.{Input}
@@ -13,11 +12,12 @@ use Rattle.bx_global.specs.Bytes.{IsHeld, SpellsHeld}
 use Rattle.bx_cell.specs.Halves.{Found, cell_in}
 use Rattle.bx_packets.specs.declared.message.Message.{Message}
 use Rattle.bx_packets.specs.declared.message.Message.TheVariants.{Ask, Decided, Prepare, Promise as Promising, Accept, Accepted, Refused}
-use Rattle.bx_packets.specs.Messages.{Spells, letter_with}
+use Rattle.bx_packets.specs.Messages.{Spells}
 use Rattle.bx_post.specs.declared.packets.Letter.{Letter}
 use Rattle.bx_acceptor.specs.declared.origin.Origin.{Origin}
 use Rattle.bx_acceptor.specs.declared.origin.Origin.TheVariants.{Made, Found as FoundAs, Apart}
-use Rattle.bx_acceptor.specs.Handling.{Handles, MayBecome, caught_up, first_held}
+use Rattle.bx_answers.specs.Handling.{Handles, MayBecome, caught_up, first_held}
+use Rattle.bx_answers.specs.Replies.{letters_of}
 
 -- An acceptor: the number of its replica, which is that of its disk; the first state; how its cell came to be; what it holds; and its
 -- cell, where it has one.
@@ -93,11 +93,6 @@ IsTakenBy cell message = IsSomeAnd cell (λ c. IsTaken c.found.number message)
 -- the acceptor takes the message
 abbrev pub Takes : Standing → Message → Type 0
 Takes a message = IsTakenBy a.cell message
-
--- the letters of an answer
-abbrev pub letters_of : ℕ → Actor → Option Message → List Letter
-letters_of replica to None = []
-letters_of replica to (Some message) = letter_with (Replica replica) to message ∷ []
 
 -- A message is taken, and its answer put into the box.
 abbrev pub Answers : ℕ → Held → Message → Actor → Held → List Letter → List Letter → Type 0

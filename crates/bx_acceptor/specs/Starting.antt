@@ -6,7 +6,7 @@ use Rattle.bx_global.specs.declared.held.Held.{Held}
 use Rattle.bx_global.specs.declared.state.GlobalState.{GlobalState}
 use Rattle.bx_global.specs.Bytes.{IsHeld, held_text}
 use Rattle.bx_acceptor.specs.declared.origin.Origin.{Origin}
-use Rattle.bx_acceptor.specs.Handling.{first_held}
+use Rattle.bx_answers.specs.Handling.{first_held}
 use Rattle.bx_acceptor.specs.Standing.{CatchesUp, IsCellOf, IsFound, TakesPart, cell_with}
 
 -- the cell is on the disk of the replica, behind its label, may be put, and has this

@@ -13,14 +13,15 @@ ghost use Rattle.bx_global.specs.Bytes.{held_text};
 ghost use Rattle.bx_packets.specs.declared.message.Message.{Message};
 ghost use Rattle.bx_places.specs.Places.{replica_sectors};
 ghost use Rattle.bx_acceptor.specs.Disks.{Counts, Syncs, Writes};
-ghost use Rattle.bx_acceptor.specs.Handling.{Changes, MayBecome};
+ghost use Rattle.bx_answers.specs.Handling.{Changes, MayBecome};
 ghost use Rattle.bx_acceptor.specs.Standing.{Answers, BecomesBy, Brings, HasCell, IsStanding, Takes, TakesIn, devices_of, stopped, without_cell};
 ghost use Rattle.bx_acceptor.specs.Starting.{StartsWith};
 
 use crate::hearing::heard;
 use crate::origin::Origin;
 use crate::serving::serve;
-use crate::starting::{begin, make_held};
+use crate::starting::begin;
+use bx_answers::first_held;
 use bx_base::OutOfMemory;
 use bx_cell::Cell;
 use bx_disk::Rack;
@@ -77,7 +78,7 @@ impl Acceptor {
             replica,
             first: state.copy(alloc)?,
             origin,
-            held: make_held(alloc, state)?,
+            held: first_held(alloc, state)?,
             cell: None,
         })
     }

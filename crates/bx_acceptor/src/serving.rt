@@ -10,12 +10,11 @@ ghost use Rattle.bx_facts.specs.declared.input.FactError.TheVariants.{Disk as Di
 ghost use Rattle.bx_global.specs.Bytes.{IsHeld, held_text};
 ghost use Rattle.bx_packets.specs.Messages.{IsMessage};
 ghost use Rattle.bx_acceptor.specs.Disks.{Counts, Writes};
-ghost use Rattle.bx_acceptor.specs.Handling.{Changes, MayBecome};
+ghost use Rattle.bx_answers.specs.Handling.{Changes, MayBecome};
 ghost use Rattle.bx_acceptor.specs.Standing.{Answers, IsTaken};
 
-use crate::replies::tell;
 use crate::saving::save;
-use crate::steps::handle;
+use bx_answers::{handle, tell};
 use bx_base::Actor;
 use bx_cell::Cell;
 use bx_disk::Rack;

@@ -9,12 +9,12 @@ ghost use Rattle.bx_facts.specs.declared.input.FactError.TheVariants.{Disk as Di
 ghost use Rattle.bx_global.specs.Allowed.{IsAllowed};
 ghost use Rattle.bx_global.specs.Bytes.{IsHeld, held_text};
 ghost use Rattle.bx_acceptor.specs.Disks.{Counts, Syncs};
-ghost use Rattle.bx_acceptor.specs.Handling.{first_held};
+ghost use Rattle.bx_answers.specs.Handling.{first_held};
 ghost use Rattle.bx_acceptor.specs.Standing.{CatchesUp, IsAsFound, IsFound, IsNotFound, TakesPart};
 ghost use Rattle.bx_acceptor.specs.Starting.{HoldsOf, IsCellAt, StandsSo, StartsWith};
 
 use crate::origin::Origin;
-use crate::steps::{NO_BALLOT, catch_up};
+use bx_answers::{catch_up, first_held};
 use bx_base::{OutOfMemory, Raw};
 use bx_cell::{Cell, CellError};
 use bx_disk::Rack;
@@ -31,23 +31,8 @@ pub fn first_value(alloc: Global, state: &GlobalState) -> Result<Raw, OutOfMemor
     requires index { state.now.index + 1 < 2 ^ 64 }
     ensures { IfOk result (λ value. value ≡ held_text (first_held state.now)) }
 {
-    let held = make_held(alloc, state)?;
+    let held = first_held(alloc, state)?;
     held.write(alloc)
-}
-
-/// What an acceptor holds that begins with a state.
-pub(crate) fn make_held(alloc: Global, state: &GlobalState) -> Result<Held, OutOfMemory>
-    requires { state.now.index + 1 < 2 ^ 64 }
-    ensures { IfOk result (λ held. held ≡ first_held state.now) }
-{
-    Ok(Held {
-        index: state.index + 1,
-        promise: NO_BALLOT,
-        ballot: NO_BALLOT,
-        flag: 0,
-        accepted: state.copy(alloc)?,
-        decided: state.copy(alloc)?,
-    })
 }
 
 /// What an acceptor begins with that starts: what it holds, and its cell, where it takes part and one can be read.
@@ -86,10 +71,10 @@ fn hold(
     ensures { IfOk result (HoldsOf first.now origin found) }
 {
     let Some((cell, raw)) = found else {
-        return Ok((make_held(alloc, first)?, None));
+        return Ok((first_held(alloc, first)?, None));
     };
     if !takes_part(origin, cell.number()) {
-        return Ok((make_held(alloc, first)?, None));
+        return Ok((first_held(alloc, first)?, None));
     }
     let held = caught_up(alloc, first, origin, cell.number(), raw)?;
     Ok((held, Some(cell)))

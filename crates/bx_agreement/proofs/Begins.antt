@@ -1,7 +1,7 @@
 -- The cells to begin with.
 use Rattle.std.proofs.Common.{◌≡◌, ℕ, ◌+◌, refl, sym, ap, ◌∙◌, inl, arith}
 use Rattle.std.specs.Prelude.{Option, Some}
-use Rattle.bx_acceptor.specs.Handling.{caught_up}
+use Rattle.bx_answers.specs.Handling.{caught_up}
 use Rattle.bx_global.specs.declared.held.Held.{Held}
 use Rattle.bx_global.specs.declared.state.GlobalState.{GlobalState}
 use Rattle.bx_agreement.specs.Cells.{KnowsFirst, opening}

@@ -2,7 +2,7 @@
 use Rattle.std.proofs.Common.{◌≡◌, ℕ, ◌<◌, refl, sym, subst, ◌∙◌, inl, inr, arith}
 use Rattle.std.specs.Prelude.{Option, Some}
 use Rattle.std.proofs.lemmas.Bool.Decides.{eqb_tells}
-use Rattle.bx_acceptor.specs.Handling.{AtMost, accepting, caught_up, raised}
+use Rattle.bx_answers.specs.Handling.{AtMost, accepting, caught_up, raised}
 use Rattle.bx_rows.specs.declared.ballot.Ballot.{Ballot}
 use Rattle.bx_global.specs.declared.held.Held.{Held}
 use Rattle.bx_global.specs.declared.state.GlobalState.{GlobalState}

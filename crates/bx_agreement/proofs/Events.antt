@@ -11,7 +11,7 @@ use Rattle.bx_agreement.specs.History.{History, Promised, IsChosen, ComesNext, C
 use Rattle.bx_agreement.specs.Sound.{Puts, Picks, with_proposal, with_state, with_change, with_promise, with_vote}
 use Rattle.bx_packets.specs.declared.message.Message.{Message}
 use Rattle.bx_packets.specs.declared.message.Message.TheVariants.{Ask, Decided, Prepare, Promise as Promising, Accept, Accepted, Refused}
-use Rattle.bx_acceptor.specs.Handling.{Handles}
+use Rattle.bx_answers.specs.Handling.{Handles}
 use Rattle.bx_agreement.specs.Passing.{MayCome, answered, promised_by}
 use Rattle.bx_agreement.specs.Events.{Decides, Is, Machine, Stands, Turns}
 use Rattle.bx_agreement.specs.Round.{Round, IsRound, IsProposer, IsLater, Counts, prepared, sending}

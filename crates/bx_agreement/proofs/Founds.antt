@@ -1,7 +1,7 @@
 -- Cells of a volume that was found: some are still as they were found, and behind the first state.
 use Rattle.std.proofs.Common.{◌≡◌, ℕ, ◌<◌, ◌≤◌, sym, ap, subst, ◌∙◌, inl, inr, arith}
 use Rattle.std.specs.Prelude.{Option, Some}
-use Rattle.bx_acceptor.specs.Handling.{AtMost}
+use Rattle.bx_answers.specs.Handling.{AtMost}
 use Rattle.bx_global.specs.declared.held.Held.{Held}
 use Rattle.bx_facts.specs.Chains.{last, IsNext}
 use Rattle.bx_agreement.specs.Cells.{CatchUp}

@@ -1,6 +1,6 @@
 -- Ballots in order, and two of three.
 use Rattle.std.proofs.Common.{◌≡◌, ℕ, ◌⊎◌, sym, subst, inl, inr, arith}
-use Rattle.bx_acceptor.specs.Handling.{AtMost}
+use Rattle.bx_answers.specs.Handling.{AtMost}
 use Rattle.bx_rows.specs.declared.ballot.Ballot.{Ballot}
 use Rattle.bx_rows.specs.Ballots.{ComesBefore}
 use Rattle.bx_rows.proofs.Ballots.{before_not_itself, before_then}

@@ -1,7 +1,7 @@
 -- An accept is sent, after two promises.
 use Rattle.std.proofs.Common.{◌≡◌, ◌≢◌, ℕ, ◌⊎◌, ◌∷◌, refl, sym, ap, subst, ◌∙◌, inl, inr}
 use Rattle.std.specs.Prelude.{Option}
-use Rattle.bx_acceptor.specs.Handling.{AtMost}
+use Rattle.bx_answers.specs.Handling.{AtMost}
 use Rattle.bx_rows.specs.declared.ballot.Ballot.{Ballot}
 use Rattle.bx_global.specs.declared.change.Change.{Change}
 use Rattle.bx_global.specs.declared.held.Held.{Held}

@@ -1,7 +1,7 @@
 -- A replica handles a message.
 use Rattle.std.proofs.Common.{◌≡◌, ℕ, ◌<◌, refl, sym, ap, subst, ◌∙◌, inl, inr}
 use Rattle.std.specs.Prelude.{Option, Some, None}
-use Rattle.bx_acceptor.specs.Handling.{Handles, Learns, Prepares, Promises, Votes, accepting, caught_up, promise_of, raised}
+use Rattle.bx_answers.specs.Handling.{Handles, Learns, Prepares, Promises, Votes, accepting, caught_up, promise_of, raised}
 use Rattle.bx_rows.specs.declared.ballot.Ballot.{Ballot}
 use Rattle.bx_global.specs.declared.held.Held.{Held}
 use Rattle.bx_global.specs.declared.state.GlobalState.{GlobalState}

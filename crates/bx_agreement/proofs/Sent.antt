@@ -1,7 +1,7 @@
 -- Steps of the history: a promise is sent, a vote, an accept.
 use Rattle.std.proofs.Common.{◌≡◌, ℕ, ◌<◌, List, ◌∷◌, sym, ap, subst, ◌∙◌, inl, inr, arith}
 use Rattle.std.specs.Prelude.{Option, Some}
-use Rattle.bx_acceptor.specs.Handling.{AtMost}
+use Rattle.bx_answers.specs.Handling.{AtMost}
 use Rattle.bx_rows.specs.declared.ballot.Ballot.{Ballot}
 use Rattle.bx_global.specs.declared.held.Held.{Held}
 use Rattle.bx_global.specs.declared.state.GlobalState.{GlobalState}

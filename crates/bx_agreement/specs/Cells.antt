@@ -1,6 +1,6 @@
 -- The cells of three replicas: as they are to begin with, as they were found, and as an image has them.
 use Rattle.std.specs.Prelude.{◌≡◌, ℕ, ◌+◌, ◌≤◌, ◌⊎◌, ◌==◌, List, [], Option, Some, None, if◌then◌else◌}
-use Rattle.bx_acceptor.specs.Handling.{caught_up}
+use Rattle.bx_answers.specs.Handling.{caught_up}
 use Rattle.bx_global.specs.Bytes.{SpellsHeld}
 use Rattle.bx_global.specs.declared.held.Held.{Held}
 use Rattle.bx_global.specs.declared.state.GlobalState.{GlobalState}

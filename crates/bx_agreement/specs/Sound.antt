@@ -1,6 +1,6 @@
 -- What holds of the cells of three replicas, and of what was sent.
 use Rattle.std.specs.Prelude.{◌≡◌, ◌≢◌, ℕ, ◌+◌, ◌<◌, ◌≤◌, ◌⊎◌, List, ◌∷◌, Option, Some}
-use Rattle.bx_acceptor.specs.Handling.{AtMost}
+use Rattle.bx_answers.specs.Handling.{AtMost}
 use Rattle.bx_rows.specs.declared.ballot.Ballot.{Ballot}
 use Rattle.bx_global.specs.declared.change.Change.{Change}
 use Rattle.bx_global.specs.declared.held.Held.{Held}

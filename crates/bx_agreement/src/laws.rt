@@ -1,7 +1,7 @@
 //! The laws, one for each event.
 
 ghost use Rattle.std.specs.Prelude.{◌≡◌, ◌≢◌, ℕ, ◌+◌, ◌<◌, ◌≤◌, ◌⊎◌, Bool, IsTrue, None, Option, Some};
-ghost use Rattle.bx_acceptor.specs.Handling.{Handles, caught_up};
+ghost use Rattle.bx_answers.specs.Handling.{Handles, caught_up};
 ghost use Rattle.bx_facts.specs.Chains.{IsNext, IsPlace, last};
 ghost use Rattle.bx_global.specs.declared.change.Change.{Change};
 ghost use Rattle.bx_global.specs.declared.held.Held.{Held};

@@ -1,8 +1,8 @@
 -- Each event keeps what fits.
 use Rattle.std.proofs.Common.{◌≡◌, ℕ, ◌^◌, ◌<◌, ◌≤◌, ◌⊎◌, List, [], ◌∷◌, ◌++◌, Contains, Option, Some, None, IfSome, refl, sym, ap, subst, ◌∙◌, inl, inr, arith}
 use Rattle.std.proofs.lemmas.Bool.Decides.{eqb_tells}
-use Rattle.bx_acceptor.specs.Handling.{Handles, Promises, caught_up, promise_of, raised}
-use Rattle.bx_acceptor.specs.Standing.{letters_of as answers_of}
+use Rattle.bx_answers.specs.Handling.{Handles, Promises, caught_up, promise_of, raised}
+use Rattle.bx_answers.specs.Replies.{letters_of as answers_of}
 use Rattle.bx_agreement.specs.Events.{Stands, Turns}
 use Rattle.bx_agreement.specs.History.{ComesNext, History}
 use Rattle.bx_agreement.specs.Passing.{MayCome, MayPass, answered}
@@ -30,17 +30,17 @@ use Rattle.bx_packets.specs.declared.message.Message.{Message}
 use Rattle.bx_packets.specs.declared.message.Message.TheVariants.{Ask, Decided, Prepare, Promise as Promising, Accept, Accepted, Refused}
 use Rattle.bx_post.specs.declared.packets.Letter.{Letter}
 use Rattle.bx_rows.specs.declared.ballot.Ballot.{Ballot}
-use Rattle.bx_proposer.specs.Agreement.{Agrees, machine_of, round_of}
+use Rattle.bx_rounds.specs.Agreement.{Agrees, machine_of, round_of}
 use Rattle.bx_proposer.specs.Letters.{letters_of}
 use Rattle.bx_proposer.specs.Names.{number_of}
-use Rattle.bx_proposer.specs.Standing.{IsCourse}
-use Rattle.bx_proposer.specs.Steps.{Hears, Ticks}
-use Rattle.bx_proposer.proofs.Agreeing.{heard, may_tell, ticks}
-use Rattle.bx_proposer.proofs.Kept.{hears_kept, ticks_kept}
-use Rattle.bx_proposer.proofs.Leading.{hears_on, ticks_on}
-use Rattle.bx_proposer.specs.declared.course.Course.{Course}
-use Rattle.bx_proposer.specs.declared.course.Move.{Move}
-use Rattle.bx_proposer.specs.declared.course.Proposal.{Proposal}
+use Rattle.bx_rounds.specs.Courses.{IsCourse}
+use Rattle.bx_rounds.specs.Steps.{Hears, Ticks}
+use Rattle.bx_rounds.proofs.Agreeing.{heard, may_tell, ticks}
+use Rattle.bx_rounds.proofs.Kept.{hears_kept, ticks_kept}
+use Rattle.bx_rounds.proofs.Leading.{hears_on, ticks_on}
+use Rattle.bx_rounds.specs.declared.course.Course.{Course}
+use Rattle.bx_rounds.specs.declared.course.Move.{Move}
+use Rattle.bx_rounds.specs.declared.course.Proposal.{Proposal}
 use Rattle.bx_paxos.specs.Counted.{IsCounted, IsHeldSound}
 use Rattle.bx_paxos.specs.Fits.{AllPass, Fits, Goes, IsPutOn, KnowsCell, Turned, Voters, devices_of, going, machines_of}
 use Rattle.bx_paxos.proofs.Shown.{shown_either, shown_elsewhere, shown_fewer, shown_then}

@@ -1,7 +1,7 @@
 -- What the images of a volume that was found are read as.
 use Rattle.std.proofs.Common.{◌≡◌, ℕ, ◌<◌, ◌≤◌, ◌⊎◌, Option, Some, None, refl, sym, ap, subst, ◌∙◌, inl, inr, arith}
 use Rattle.std.proofs.lemmas.Bool.{cases_lt}
-use Rattle.bx_acceptor.specs.Handling.{caught_up}
+use Rattle.bx_answers.specs.Handling.{caught_up}
 use Rattle.bx_agreement.proofs.Founds.{found_ahead, found_level}
 use Rattle.bx_agreement.proofs.Readings.{level}
 use Rattle.bx_agreement.specs.Cells.{CatchUp, WasFound}

@@ -1,7 +1,7 @@
 -- The two halves of a replica's machine stay together, and what the acceptor knows stays a place of the chain.
 use Rattle.std.proofs.Common.{◌≡◌, ℕ, ◌<◌, List, ◌++◌, length, Option, refl, sym, ap, subst, ◌∙◌, inl, inr, arith}
 use Rattle.std.proofs.lemmas.Bool.{false≢true}
-use Rattle.bx_acceptor.specs.Handling.{Handles, MayBecome, Promises, Votes, caught_up}
+use Rattle.bx_answers.specs.Handling.{Handles, MayBecome, Promises, Votes, caught_up}
 use Rattle.bx_acceptor.specs.Standing.{BecomesBy, IsStanding as IsAcceptor, Standing as Acceptor}
 use Rattle.bx_agreement.specs.History.{History}
 use Rattle.bx_agreement.specs.Passing.{MayCome}
@@ -19,9 +19,10 @@ use Rattle.bx_packets.specs.declared.message.Message.{Message}
 use Rattle.bx_packets.specs.declared.message.Message.TheVariants.{Ask, Decided, Prepare, Promise as Promising, Accept, Accepted, Refused}
 use Rattle.bx_post.specs.Posts.{letter_of}
 use Rattle.bx_post.specs.declared.packets.Letter.{Letter}
-use Rattle.bx_proposer.specs.Standing.{IsStanding as IsProposer, LeadsOn, Standing as Proposer, going_on}
-use Rattle.bx_proposer.specs.Steps.{Learns}
-use Rattle.bx_proposer.specs.declared.course.Course.{Course}
+use Rattle.bx_rounds.specs.Courses.{LeadsOn}
+use Rattle.bx_proposer.specs.Standing.{IsStanding as IsProposer, Standing as Proposer, going_on}
+use Rattle.bx_rounds.specs.Steps.{Learns}
+use Rattle.bx_rounds.specs.declared.course.Course.{Course}
 use Rattle.bx_rows.specs.declared.ballot.Ballot.{Ballot}
 use Rattle.bx_paxos.specs.Fits.{Fits, Voters, devices_of}
 use Rattle.bx_paxos.specs.Machines.{AreHalves, IsSame}

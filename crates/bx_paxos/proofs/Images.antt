@@ -2,7 +2,7 @@
 use Rattle.std.proofs.Common.{◌≡◌, ◌≢◌, ℕ, zero, suc, ◌<◌, ◌≤◌, ◌⊎◌, ◌==◌, Bool, true, false, ltb, List, length, Option, Some, None, if◌then◌else◌, refl, sym, ap, subst, ◌∙◌, inl, inr, arith}
 use Rattle.std.proofs.lemmas.Bool.{lt-ltb, ltb-true}
 use Rattle.std.proofs.lemmas.Bool.Decides.{eqb_tells}
-use Rattle.bx_acceptor.specs.Handling.{Handles}
+use Rattle.bx_answers.specs.Handling.{Handles}
 use Rattle.bx_acceptor.specs.Standing.{CatchesUp, HasContent}
 use Rattle.bx_acceptor.specs.declared.origin.Origin.{Origin}
 use Rattle.bx_acceptor.proofs.Taking.{is_as_found, one_found, put_content}
@@ -25,7 +25,7 @@ use Rattle.bx_global.specs.Bytes.{IsHeld, held_text}
 use Rattle.bx_global.specs.declared.held.Held.{Held}
 use Rattle.bx_global.specs.declared.state.GlobalState.{GlobalState}
 use Rattle.bx_packets.specs.declared.message.Message.{Message}
-use Rattle.bx_proposer.specs.Agreement.{GoesOn}
+use Rattle.bx_rounds.specs.Agreement.{GoesOn}
 use Rattle.bx_paxos.specs.Counted.{AreCounted, IsCounted, IsHeldSound}
 
 -- ---- one replica

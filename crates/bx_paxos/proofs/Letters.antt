@@ -16,14 +16,14 @@ use Rattle.bx_packets.specs.declared.message.Message.{Message}
 use Rattle.bx_packets.specs.declared.message.Message.TheVariants.{Ask, Decided, Prepare, Promise as Promising, Accept, Accepted, Refused}
 use Rattle.bx_post.specs.declared.packets.Letter.{Letter}
 use Rattle.bx_rows.specs.declared.ballot.Ballot.{Ballot}
-use Rattle.bx_proposer.specs.Agreement.{GoesOn, MayTell}
+use Rattle.bx_rounds.specs.Agreement.{GoesOn, MayTell}
 use Rattle.bx_proposer.specs.Letters.{accept_in, accept_letters, asks_of, letters_of, letters_to, prepare_in, prepare_letters}
 use Rattle.bx_proposer.specs.Names.{replicas}
-use Rattle.bx_proposer.specs.Standing.{IsCourse, IsProposal}
-use Rattle.bx_proposer.specs.declared.course.Course.{Course}
-use Rattle.bx_proposer.specs.declared.course.Move.{Move}
-use Rattle.bx_proposer.specs.declared.course.Move.TheVariants.{Nothing, Prepare as Prepares, Accept as Accepts, Decided as Decides}
-use Rattle.bx_proposer.specs.declared.course.Proposal.{Proposal as Proposed}
+use Rattle.bx_rounds.specs.Courses.{IsCourse, IsProposal}
+use Rattle.bx_rounds.specs.declared.course.Course.{Course}
+use Rattle.bx_rounds.specs.declared.course.Move.{Move}
+use Rattle.bx_rounds.specs.declared.course.Move.TheVariants.{Nothing, Prepare as Prepares, Accept as Accepts, Decided as Decides}
+use Rattle.bx_rounds.specs.declared.course.Proposal.{Proposal as Proposed}
 use Rattle.bx_paxos.specs.Fits.{AllPass, Passes}
 
 -- ---- a longer history

@@ -2,7 +2,7 @@
 use Rattle.std.proofs.Common.{◌≡◌, ℕ, ◌<◌, ◌≤◌, ◌⊎◌, ◌==◌, true, false, List, length, Option, Some, None, refl, sym, ap, subst, ◌∙◌, inl, inr}
 use Rattle.std.proofs.lemmas.Bool.Decides.{eqb_tells}
 use Rattle.bx_acceptor.proofs.Taking.{one_found}
-use Rattle.bx_acceptor.specs.Handling.{Handles, caught_up}
+use Rattle.bx_answers.specs.Handling.{Handles, caught_up}
 use Rattle.bx_acceptor.specs.Standing.{IsFound}
 use Rattle.bx_acceptor.specs.declared.origin.Origin.{Origin}
 use Rattle.bx_acceptor.specs.declared.origin.Origin.TheVariants.{Made, Found as FoundAs, Apart}

@@ -2,8 +2,9 @@
 use Rattle.std.proofs.Common.{◌≡◌, ℕ, ◌^◌, ◌<◌, ◌≤◌, ◌⊎◌, ◌==◌, Bool, true, false, List, [], ◌++◌, length, Contains, Option, Some, None, IfSome, IsSomeAnd, if◌then◌else◌, refl, sym, ap, subst, ◌∙◌, append_assoc, append-nil, inl, inr, arith}
 use Rattle.std.proofs.lemmas.Bool.Decides.{eqb_tells}
 use Rattle.std.proofs.lemmas.List.Elements.{Contains-append_left}
-use Rattle.bx_acceptor.specs.Handling.{Handles}
-use Rattle.bx_acceptor.specs.Standing.{BecomesBy, HasCell, HasContent, IsCellOf, IsStanding, IsTaken, Standing as Acceptor, Takes as TakesMessage, TakesIn, letters_of as answers_of, cell_with}
+use Rattle.bx_answers.specs.Handling.{Handles}
+use Rattle.bx_acceptor.specs.Standing.{BecomesBy, HasCell, HasContent, IsCellOf, IsStanding, IsTaken, Standing as Acceptor, Takes as TakesMessage, TakesIn, cell_with}
+use Rattle.bx_answers.specs.Replies.{letters_of as answers_of}
 use Rattle.bx_acceptor.specs.Starting.{StartsWith}
 use Rattle.bx_acceptor.specs.declared.origin.Origin.{Origin}
 use Rattle.bx_agreement.specs.Passing.{MayCome}
@@ -33,14 +34,15 @@ use Rattle.bx_packets.specs.declared.message.Message.{Message}
 use Rattle.bx_packets.specs.declared.message.Message.TheVariants.{Ask}
 use Rattle.bx_post.specs.Posts.{letter_of}
 use Rattle.bx_post.specs.declared.packets.Letter.{Letter}
-use Rattle.bx_proposer.specs.Agreement.{IsProposing}
+use Rattle.bx_rounds.specs.Agreement.{IsProposing}
 use Rattle.bx_proposer.specs.Letters.{asks_at, asks_of, letters_of}
 use Rattle.bx_proposer.specs.Names.{number_of}
-use Rattle.bx_proposer.specs.Standing.{IsCourse, PacketStep, ProposesTo, Standing as Proposer, Steps, Takes, going_on, started}
-use Rattle.bx_proposer.specs.Steps.{Hears, Learns, Proposes, Ticks, reading_now}
-use Rattle.bx_proposer.specs.declared.course.Course.{Course}
-use Rattle.bx_proposer.specs.declared.course.Move.{Move}
-use Rattle.bx_proposer.specs.declared.course.Move.TheVariants.{Nothing}
+use Rattle.bx_rounds.specs.Courses.{IsCourse, PacketStep, Steps, started}
+use Rattle.bx_proposer.specs.Standing.{ProposesTo, Standing as Proposer, Takes, going_on}
+use Rattle.bx_rounds.specs.Steps.{Hears, Learns, Proposes, Ticks, reading_now}
+use Rattle.bx_rounds.specs.declared.course.Course.{Course}
+use Rattle.bx_rounds.specs.declared.course.Move.{Move}
+use Rattle.bx_rounds.specs.declared.course.Move.TheVariants.{Nothing}
 use Rattle.bx_paxos.specs.Counted.{IsCounted, IsHeldSound}
 use Rattle.bx_paxos.specs.Fits.{AllPass, Fits, Goes, IsPutOn, KnowsCell, Turned, Voters, devices_of, going}
 use Rattle.bx_paxos.specs.Reading.{ReadsNext}

@@ -1,7 +1,8 @@
 -- All that a register sends is of the register's kinds.
 use Rattle.std.proofs.Common.{◌≡◌, ℕ, List, [], ◌∷◌, ◌++◌, Option, Some, None, Contains, refl, sym, subst, inl, inr, lit≤}
 use Rattle.std.proofs.lemmas.List.Elements.{Contains-append_cases, Contains-append_left}
-use Rattle.bx_acceptor.specs.Standing.{Standing as Acceptor, TakesIn, letters_of as answers_of}
+use Rattle.bx_acceptor.specs.Standing.{Standing as Acceptor, TakesIn}
+use Rattle.bx_answers.specs.Replies.{letters_of as answers_of}
 use Rattle.bx_base.specs.declared.names.Actor.{Actor}
 use Rattle.bx_base.specs.declared.names.Actor.TheVariants.{Node, Replica, Server, Member}
 use Rattle.bx_facts.proofs.Lists.{front_or_behind, nothing}
@@ -17,10 +18,10 @@ use Rattle.bx_post.specs.declared.packets.Letter.{Letter}
 use Rattle.bx_proposer.specs.Letters.{accept_in, accept_letters, asks_at, asks_of, letters_of, letters_to, prepare_in, prepare_letters}
 use Rattle.bx_proposer.specs.Names.{replicas}
 use Rattle.bx_proposer.specs.Standing.{ProposesTo, Standing as Proposer, Takes}
-use Rattle.bx_proposer.specs.declared.course.Course.{Course}
-use Rattle.bx_proposer.specs.declared.course.Move.{Move}
-use Rattle.bx_proposer.specs.declared.course.Move.TheVariants.{Nothing, Prepare as Prepares, Accept as Accepts, Decided as Decides}
-use Rattle.bx_proposer.specs.declared.course.Proposal.{Proposal}
+use Rattle.bx_rounds.specs.declared.course.Course.{Course}
+use Rattle.bx_rounds.specs.declared.course.Move.{Move}
+use Rattle.bx_rounds.specs.declared.course.Move.TheVariants.{Nothing, Prepare as Prepares, Accept as Accepts, Decided as Decides}
+use Rattle.bx_rounds.specs.declared.course.Proposal.{Proposal}
 use Rattle.bx_rows.specs.declared.ballot.Ballot.{Ballot}
 
 -- each letter is of the register's kinds

@@ -3,7 +3,7 @@ use Rattle.std.proofs.Common.{◌≡◌, ℕ, ◌^◌, ◌<◌, ◌≤◌, Bool,
 use Rattle.std.proofs.lemmas.Bool.{false≢true, lt-ltb, ltb-true}
 use Rattle.std.proofs.lemmas.Bool.Decides.{eqb_tells}
 use Rattle.std.specs.Prelude.{if◌then◌else◌}
-use Rattle.bx_acceptor.specs.Handling.{caught_up, first_held}
+use Rattle.bx_answers.specs.Handling.{caught_up, first_held}
 use Rattle.bx_acceptor.specs.Standing.{IsFound}
 use Rattle.bx_acceptor.specs.declared.origin.Origin.{Origin}
 use Rattle.bx_acceptor.specs.declared.origin.Origin.TheVariants.{Made, Found as FoundAs, Apart}
@@ -29,16 +29,16 @@ use Rattle.bx_global.specs.declared.held.Held.{Held}
 use Rattle.bx_global.specs.declared.state.GlobalState.{GlobalState}
 use Rattle.bx_packets.specs.Messages.{IsStateOf}
 use Rattle.bx_post.specs.declared.packets.Letter.{Letter}
-use Rattle.bx_proposer.specs.Agreement.{IsProposing, machine_of}
+use Rattle.bx_rounds.specs.Agreement.{IsProposing, machine_of}
 use Rattle.bx_proposer.specs.Letters.{asks_of, letters_of}
 use Rattle.bx_proposer.specs.Names.{number_of}
-use Rattle.bx_proposer.specs.Standing.{IsCourse, started, stopped}
-use Rattle.bx_proposer.specs.Steps.{Learns, Proposes}
-use Rattle.bx_proposer.proofs.Agreeing.{may_tell, proposes, starts, stops}
-use Rattle.bx_proposer.proofs.Kept.{proposes_kept}
-use Rattle.bx_proposer.specs.declared.course.Course.{Course}
-use Rattle.bx_proposer.specs.declared.course.Move.{Move}
-use Rattle.bx_proposer.specs.declared.course.Proposal.{Proposal}
+use Rattle.bx_rounds.specs.Courses.{IsCourse, started, stopped}
+use Rattle.bx_rounds.specs.Steps.{Learns, Proposes}
+use Rattle.bx_rounds.proofs.Agreeing.{may_tell, proposes, starts, stops}
+use Rattle.bx_rounds.proofs.Kept.{proposes_kept}
+use Rattle.bx_rounds.specs.declared.course.Course.{Course}
+use Rattle.bx_rounds.specs.declared.course.Move.{Move}
+use Rattle.bx_rounds.specs.declared.course.Proposal.{Proposal}
 use Rattle.bx_paxos.specs.Counted.{AreCounted, IsCounted}
 use Rattle.bx_paxos.specs.Fits.{AllPass, Fits, Turned, Voters, devices_of, going, machines_of}
 use Rattle.bx_paxos.specs.Reading.{AreMade}

@@ -19,10 +19,10 @@ use Rattle.bx_global.specs.declared.state.GlobalState.{GlobalState}
 use Rattle.bx_packets.specs.Messages.{Spells}
 use Rattle.bx_packets.specs.declared.message.Message.{Message}
 use Rattle.bx_post.specs.declared.packets.Letter.{Letter}
-use Rattle.bx_proposer.specs.Agreement.{IsProposing, machine_of}
+use Rattle.bx_rounds.specs.Agreement.{IsProposing, machine_of}
 use Rattle.bx_proposer.specs.Names.{number_of}
-use Rattle.bx_proposer.specs.Standing.{IsCourse}
-use Rattle.bx_proposer.specs.declared.course.Course.{Course}
+use Rattle.bx_rounds.specs.Courses.{IsCourse}
+use Rattle.bx_rounds.specs.declared.course.Course.{Course}
 use Rattle.bx_paxos.specs.Counted.{IsHeldSound}
 use Rattle.bx_paxos.specs.Shown.{HasBegun, Shows}
 

@@ -1,8 +1,8 @@
 //! The laws, one for each event.
 
 ghost use Rattle.std.specs.Prelude.{◌≡◌, ℕ, ◌+◌, ◌^◌, ◌<◌, ◌≤◌, ◌⊎◌, List, ◌++◌, Option};
-ghost use Rattle.bx_acceptor.specs.Handling.{Handles, first_held};
-ghost use Rattle.bx_acceptor.specs.Standing.{letters_of};
+ghost use Rattle.bx_answers.specs.Handling.{Handles, first_held};
+ghost use Rattle.bx_answers.specs.Replies.{letters_of};
 ghost use Rattle.bx_base.specs.declared.names.Actor.{Actor};
 ghost use Rattle.bx_calls.specs.Calls.{KeepsAll, KeepsSure};
 ghost use Rattle.bx_cell.specs.Cells.{HasEither, next};
@@ -25,10 +25,10 @@ ghost use Rattle.bx_packets.specs.declared.message.Message.{Message};
 ghost use Rattle.bx_post.specs.declared.packets.Letter.{Letter};
 ghost use Rattle.bx_proposer.specs.Letters.{asks_of, letters_of as sent_of};
 ghost use Rattle.bx_proposer.specs.Names.{number_of};
-ghost use Rattle.bx_proposer.specs.Standing.{started, stopped};
-ghost use Rattle.bx_proposer.specs.Steps.{Hears, Learns, Proposes, Ticks};
-ghost use Rattle.bx_proposer.specs.declared.course.Course.{Course};
-ghost use Rattle.bx_proposer.specs.declared.course.Move.{Move};
+ghost use Rattle.bx_rounds.specs.Courses.{started, stopped};
+ghost use Rattle.bx_rounds.specs.Steps.{Hears, Learns, Proposes, Ticks};
+ghost use Rattle.bx_rounds.specs.declared.course.Course.{Course};
+ghost use Rattle.bx_rounds.specs.declared.course.Move.{Move};
 ghost use Rattle.bx_paxos.specs.Counted.{IsCounted};
 ghost use Rattle.bx_paxos.specs.Fits.{Comes, Fits, Goes, IsPutOn, KnowsCell, Turned, Voters, devices_of, going};
 ghost use Rattle.bx_paxos.specs.Reading.{AreMade, ReadsState};

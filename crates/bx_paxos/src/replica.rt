@@ -15,8 +15,9 @@ ghost use Rattle.bx_facts.specs.declared.input.FactError.TheVariants.{Disk as Di
 ghost use Rattle.bx_facts.specs.declared.input.ProposeError.TheVariants.{NotLegal, Busy};
 ghost use Rattle.bx_global.specs.Table.{IsLegal};
 ghost use Rattle.bx_places.specs.Places.{replica_sectors};
-ghost use Rattle.bx_proposer.specs.Standing.{IsBusy, LeadsOn, going_on, stopped};
-ghost use Rattle.bx_proposer.specs.declared.course.Course.{Course};
+ghost use Rattle.bx_rounds.specs.Courses.{LeadsOn, stopped};
+ghost use Rattle.bx_proposer.specs.Standing.{IsBusy, going_on};
+ghost use Rattle.bx_rounds.specs.declared.course.Course.{Course};
 ghost use Rattle.bx_paxos.specs.Fits.{Fits, Turned, Voters, going};
 ghost use Rattle.bx_paxos.specs.Machines.{AreHalves, AreOf, IsSame};
 ghost use Rattle.bx_paxos.specs.Reading.{ReadsNext};

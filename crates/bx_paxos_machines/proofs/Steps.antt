@@ -18,9 +18,9 @@ use Rattle.bx_paxos.proofs.Starts.{crashed}
 use Rattle.bx_paxos.specs.Fits.{Fits, Turned, going}
 use Rattle.bx_post.specs.declared.packets.Letter.{Letter}
 use Rattle.bx_proposer.specs.Names.{number_of}
-use Rattle.bx_proposer.specs.Agreement.{IsProposing}
-use Rattle.bx_proposer.specs.Standing.{IsCourse, stopped}
-use Rattle.bx_proposer.specs.declared.course.Course.{Course}
+use Rattle.bx_rounds.specs.Agreement.{IsProposing}
+use Rattle.bx_rounds.specs.Courses.{IsCourse, stopped}
+use Rattle.bx_rounds.specs.declared.course.Course.{Course}
 use Rattle.bx_paxos_found.specs.declared.origins.Origins.{Origins}
 use Rattle.bx_paxos_machines.specs.declared.machine.Machine.{Machine}
 use Rattle.bx_paxos_machines.specs.Cluster.{Cluster, IsCluster, course_at, is_busy, knows, named, voters_of}

@@ -22,7 +22,7 @@ use Rattle.bx_paxos.specs.Reading.{AreSeen, ReadsState}
 use Rattle.bx_paxos_found.proofs.Views.{reads_some}
 use Rattle.bx_post.specs.declared.packets.Letter.{Letter}
 use Rattle.bx_proposer.specs.Names.{number_of}
-use Rattle.bx_proposer.specs.declared.course.Course.{Course}
+use Rattle.bx_rounds.specs.declared.course.Course.{Course}
 use Rattle.bx_paxos_machines.specs.declared.machine.Machine.{Machine}
 use Rattle.bx_paxos_machines.specs.Cluster.{Cluster, IsCluster, knows, needs, needs_in, voters_of}
 use Rattle.bx_paxos_machines.specs.Keeps.{Keeps}

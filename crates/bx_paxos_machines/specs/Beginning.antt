@@ -1,6 +1,6 @@
 -- Machines that begin: in which order they stand, and what each has and knows.
 use Rattle.std.specs.Prelude.{◌≡◌, ℕ, ◌-◌, ◌<◌, nat_lt, false, List, [], ◌∷◌, Some, None, IfSome, IsSome, if◌then◌else◌}
-use Rattle.bx_acceptor.specs.Handling.{first_held}
+use Rattle.bx_answers.specs.Handling.{first_held}
 use Rattle.bx_base.specs.declared.names.Actor.{Actor}
 use Rattle.bx_base.specs.declared.names.Actor.TheVariants.{Node, Replica, Server, Member}
 use Rattle.bx_cell.specs.Formats.{first}
@@ -10,7 +10,7 @@ use Rattle.bx_facts.specs.Machines.{IsMachine}
 use Rattle.bx_global.specs.Bytes.{held_text}
 use Rattle.bx_global.specs.declared.state.GlobalState.{GlobalState}
 use Rattle.bx_paxos_found.specs.declared.origins.Origins.{Origins}
-use Rattle.bx_proposer.specs.Standing.{started}
+use Rattle.bx_rounds.specs.Courses.{started}
 use Rattle.bx_paxos_machines.specs.declared.machine.Machine.{Machine}
 use Rattle.bx_paxos_machines.specs.Parts.{AreParts, HasCells, acceptor_of, cell_of, course_of, machine_at}
 

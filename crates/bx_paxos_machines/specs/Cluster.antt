@@ -8,7 +8,7 @@ use Rattle.bx_global.specs.declared.state.GlobalState.{GlobalState}
 use Rattle.bx_paxos.specs.Fits.{Voters}
 use Rattle.bx_paxos_found.specs.Origins.{origin_in}
 use Rattle.bx_paxos_found.specs.declared.origins.Origins.{Origins}
-use Rattle.bx_proposer.specs.declared.course.Course.{Course}
+use Rattle.bx_rounds.specs.declared.course.Course.{Course}
 use Rattle.bx_paxos_machines.specs.declared.machine.Machine.{Machine}
 use Rattle.bx_paxos_machines.specs.Parts.{AreParts, IsOut, cell_of, course_in, machine_at, sectors_for}
 

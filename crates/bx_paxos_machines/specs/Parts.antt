@@ -11,8 +11,9 @@ use Rattle.bx_global.specs.declared.state.GlobalState.{GlobalState}
 use Rattle.bx_paxos.specs.Fits.{Voters}
 use Rattle.bx_paxos.specs.Machines.{AreHalves, AreOf}
 use Rattle.bx_places.specs.Places.{replica_sectors}
-use Rattle.bx_proposer.specs.Standing.{IsStanding as IsProposer, Standing as Proposer, started}
-use Rattle.bx_proposer.specs.declared.course.Course.{Course}
+use Rattle.bx_rounds.specs.Courses.{started}
+use Rattle.bx_proposer.specs.Standing.{IsStanding as IsProposer, Standing as Proposer}
+use Rattle.bx_rounds.specs.declared.course.Course.{Course}
 use Rattle.bx_paxos_found.specs.Origins.{origin_in}
 use Rattle.bx_paxos_found.specs.declared.origins.Origins.{Origins}
 use Rattle.bx_paxos_machines.specs.declared.machine.Machine.{Machine}

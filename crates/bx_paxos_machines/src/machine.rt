@@ -18,8 +18,8 @@ ghost use Rattle.bx_paxos.specs.Fits.{Fits, Turned, Voters, going};
 ghost use Rattle.bx_paxos.specs.Reading.{AreMade, ReadsState};
 ghost use Rattle.bx_paxos_found.specs.Origins.{origin_in};
 ghost use Rattle.bx_paxos_found.specs.declared.origins.Origins.{Origins};
-ghost use Rattle.bx_proposer.specs.Standing.{LeadsOn, stopped};
-ghost use Rattle.bx_proposer.specs.declared.course.Course.{Course};
+ghost use Rattle.bx_rounds.specs.Courses.{LeadsOn, stopped};
+ghost use Rattle.bx_rounds.specs.declared.course.Course.{Course};
 ghost use Rattle.bx_paxos_machines.specs.Beginning.{HasFirst, IsBegun, IsCalm, IsNew};
 ghost use Rattle.bx_paxos_machines.specs.Parts.{HasCellDisk, HasCells, HasDisk, IsOf, IsOut, IsPart, IsWhole, KnowsPlace, acceptor_of, cell_of, course_of, name_of, proposer_of};
 

@@ -1,3 +1,1 @@
-pub mod Agreeing
-pub mod Kept
-pub mod Leading
+pub mod Standing

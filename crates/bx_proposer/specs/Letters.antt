@@ -10,10 +10,10 @@ use Rattle.bx_packets.specs.declared.message.Message.TheVariants.{Ask, Decided, 
 use Rattle.bx_packets.specs.Messages.{letter_with}
 use Rattle.bx_post.specs.declared.packets.Letter.{Letter}
 use Rattle.bx_rows.specs.declared.ballot.Ballot.{Ballot}
-use Rattle.bx_proposer.specs.declared.course.Course.{Course}
-use Rattle.bx_proposer.specs.declared.course.Move.{Move}
-use Rattle.bx_proposer.specs.declared.course.Move.TheVariants.{Nothing, Prepare as Prepares, Accept as Accepts, Decided as Decides}
-use Rattle.bx_proposer.specs.declared.course.Proposal.{Proposal}
+use Rattle.bx_rounds.specs.declared.course.Course.{Course}
+use Rattle.bx_rounds.specs.declared.course.Move.{Move}
+use Rattle.bx_rounds.specs.declared.course.Move.TheVariants.{Nothing, Prepare as Prepares, Accept as Accepts, Decided as Decides}
+use Rattle.bx_rounds.specs.declared.course.Proposal.{Proposal}
 use Rattle.bx_proposer.specs.Names.{replicas}
 
 -- the same to each of these machines

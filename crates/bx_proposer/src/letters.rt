@@ -5,12 +5,12 @@ ghost use Rattle.bx_global.specs.Bytes.{HasCounts};
 ghost use Rattle.bx_packets.specs.Messages.{HasCountsIn};
 ghost use Rattle.bx_proposer.specs.Letters.{accept_letters, asks_at, asks_of, letters_of, letters_to, prepare_letters};
 
-use crate::course::{Course, Move};
 use crate::names::REPLICAS;
 use bx_base::{Actor, OutOfMemory};
 use bx_facts::Input;
 use bx_packets::{Message, send};
 use bx_post::Outbox;
+use bx_rounds::{Course, Move};
 use std::alloc::Global;
 
 /// Puts the same letter for each of these machines into the box.

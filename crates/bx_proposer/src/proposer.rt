@@ -7,17 +7,16 @@ ghost use Rattle.bx_global.specs.Allowed.{IsAllowed, IsChange};
 ghost use Rattle.bx_global.specs.Table.{IsLegal};
 ghost use Rattle.bx_packets.specs.Messages.{IsStateOf};
 ghost use Rattle.bx_proposer.specs.Letters.{asks_of};
-ghost use Rattle.bx_proposer.specs.Standing.{IsBusy, IsStanding, LeadsOn, ProposesTo, Takes, devices_of, going_on, started, stopped};
-ghost use Rattle.bx_proposer.specs.Steps.{Learns};
+ghost use Rattle.bx_rounds.specs.Courses.{LeadsOn, started, stopped};
+ghost use Rattle.bx_proposer.specs.Standing.{IsBusy, IsStanding, ProposesTo, Takes, devices_of, going_on};
+ghost use Rattle.bx_rounds.specs.Steps.{Learns};
 
-use crate::course::Course;
-use crate::hearing::{learn, step};
 use crate::letters::{ask, ask_at, tell};
 use crate::names::{actor_number, others_of};
-use crate::rounds::propose;
 use bx_base::{Actor, List, OutOfMemory};
 use bx_facts::{Input, Outbox, ProposeError};
 use bx_global::{Change, GlobalState};
+use bx_rounds::{Course, learn, propose, step};
 use std::alloc::Global;
 use std::marker::Model;
 

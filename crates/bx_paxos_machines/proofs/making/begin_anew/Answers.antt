@@ -1,6 +1,6 @@
 use Rattle.std.proofs.Common.{◌≡◌, ℕ, ◌≤◌, List, length, Some, sym, subst, ◌∙◌, arith}
 use Rattle.bx_acceptor.proofs.Taking.{first_is_held}
-use Rattle.bx_acceptor.specs.Handling.{first_held}
+use Rattle.bx_answers.specs.Handling.{first_held}
 use Rattle.bx_cell.specs.Formats.{first}
 use Rattle.bx_cell.specs.Halves.{cell_in}
 use Rattle.bx_global.proofs.Lengths.{length-held}

@@ -6,7 +6,7 @@ use Rattle.bx_global.specs.declared.state.GlobalState.{GlobalState}
 use Rattle.bx_paxos.specs.Fits.{Fits, going}
 use Rattle.bx_post.specs.declared.packets.Letter.{Letter}
 use Rattle.bx_proposer.specs.Letters.{asks_of}
-use Rattle.bx_proposer.specs.Steps.{Learns}
+use Rattle.bx_rounds.specs.Steps.{Learns}
 use Rattle.bx_paxos.proofs.Events.{syncs}
 use Rattle.bx_paxos.proofs.Replicas.{knows_first, replica_start_fails, replica_starts, start_moments, started_place}
 use Rattle.bx_paxos.proofs.replica.Replica.restart.Goals as goal

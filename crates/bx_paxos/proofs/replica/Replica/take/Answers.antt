@@ -3,7 +3,7 @@ use Rattle.bx_calls.specs.Calls.{LeavesOnly}
 use Rattle.bx_disk.specs.Disks.{IsImage}
 use Rattle.bx_global.specs.Bytes.{IsHeld}
 use Rattle.bx_global.specs.declared.state.GlobalState.{GlobalState}
-use Rattle.bx_proposer.specs.Steps.{Learns}
+use Rattle.bx_rounds.specs.Steps.{Learns}
 use Rattle.bx_paxos.proofs.Halves.{became_place}
 use Rattle.bx_paxos.proofs.Replicas.{comes_more, leaves_none, no_cell_takes, replica_faults, replica_moments, replica_takes}
 use Rattle.bx_paxos.proofs.Sending.{acceptor_sends, proposer_sends, sends_both}

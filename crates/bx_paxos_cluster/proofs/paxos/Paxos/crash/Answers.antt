@@ -4,7 +4,7 @@ use Rattle.std.proofs.Common.{◌≡◌, sym, ap, subst, ◌∙◌, arith}
 use Rattle.std.specs.Prelude.{IsSome, slice_set}
 use Rattle.bx_facts.specs.Disks.{NeedsNoMore}
 use Rattle.bx_facts.specs.Machines.{IsMachine, OnlyFactsAt}
-use Rattle.bx_proposer.specs.declared.course.Course.{Course}
+use Rattle.bx_rounds.specs.declared.course.Course.{Course}
 use Rattle.bx_paxos_machines.specs.Cluster.{Cluster, is_busy, knows, needs}
 use Rattle.bx_paxos_machines.specs.Keeps.{Keeps}
 use Rattle.bx_paxos_machines.specs.Parts.{course_of}

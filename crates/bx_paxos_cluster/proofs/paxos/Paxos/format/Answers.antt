@@ -2,7 +2,7 @@ use Rattle.std.proofs.Common.{◌+◌, ◌^◌, ◌<◌, length, sym, ap, subst,
 use Rattle.bx_facts.specs.Pasts.{opening_register}
 use Rattle.bx_global.specs.Allowed.{IsAllowed}
 use Rattle.bx_global.specs.declared.state.GlobalState.{GlobalState}
-use Rattle.bx_proposer.specs.declared.course.Course.{Course}
+use Rattle.bx_rounds.specs.declared.course.Course.{Course}
 use Rattle.bx_paxos_machines.specs.Cluster.{Cluster}
 use Rattle.bx_paxos_machines.specs.Keeps.{Keeps}
 use Rattle.bx_paxos_machines.proofs.Beginnings.{begins_keeping, cluster_of, idle_at, not_busy}

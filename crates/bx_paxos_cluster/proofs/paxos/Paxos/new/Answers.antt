@@ -1,5 +1,5 @@
 use Rattle.std.proofs.Common.{ap, ◌∙◌}
-use Rattle.bx_proposer.specs.declared.course.Course.{Course}
+use Rattle.bx_rounds.specs.declared.course.Course.{Course}
 use Rattle.bx_paxos_machines.specs.Cluster.{Cluster}
 use Rattle.bx_paxos_machines.proofs.Beginnings.{idle_at, new_idle, new_needs_none, not_busy}
 use Rattle.bx_paxos_cluster.proofs.paxos.Paxos.new.Goals as goal

@@ -7,7 +7,7 @@ use Rattle.bx_facts.specs.declared.input.OpenError.TheVariants.{NoMajority, Spen
 use Rattle.bx_global.specs.declared.state.GlobalState.{GlobalState}
 use Rattle.bx_paxos.specs.Reading.{ReadsState}
 use Rattle.bx_paxos_found.specs.Finding.{AreAtTheEnd, IsGreatestBoot, LackMajority}
-use Rattle.bx_proposer.specs.declared.course.Course.{Course}
+use Rattle.bx_rounds.specs.declared.course.Course.{Course}
 use Rattle.bx_paxos_machines.specs.Cluster.{Cluster}
 use Rattle.bx_paxos_machines.specs.Keeps.{Keeps}
 use Rattle.bx_paxos_machines.proofs.Beginnings.{cluster_of, finds_keeping, idle_at, new_idle, not_busy}

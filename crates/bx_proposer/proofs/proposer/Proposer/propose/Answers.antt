@@ -1,4 +1,4 @@
-use Rattle.bx_proposer.proofs.Kept.{change_kept}
+use Rattle.bx_proposer.proofs.Standing.{change_kept}
 use Rattle.bx_proposer.proofs.proposer.Proposer.propose.Goals as goal
 
 pub invariant_of-self-in_err-tell : goal.invariant_of-self-in_err-tell

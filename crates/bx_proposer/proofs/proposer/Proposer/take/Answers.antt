@@ -1,4 +1,4 @@
-use Rattle.bx_proposer.proofs.Kept.{takes_kept}
+use Rattle.bx_proposer.proofs.Standing.{takes_kept}
 use Rattle.bx_proposer.proofs.proposer.Proposer.take.Goals as goal
 
 pub invariant_of-self-in_err-ask_at : goal.invariant_of-self-in_err-ask_at

@@ -1,5 +1,0 @@
-use Rattle.bx_proposer.proofs.Agreeing.{proposes}
-use Rattle.bx_proposer.proofs.laws.a_change_is_proposed.Goals as goal
-
-pub returns : goal.returns
-returns c = proposes

@@ -1,5 +1,0 @@
-use Rattle.bx_proposer.proofs.Agreeing.{may_tell}
-use Rattle.bx_proposer.proofs.laws.what_is_sent_may_pass.Goals as goal
-
-pub returns : goal.returns
-returns c = may_tell

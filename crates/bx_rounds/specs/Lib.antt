@@ -1,0 +1,4 @@
+pub mod Agreement
+pub mod Steps
+pub mod Turns
+pub mod Courses

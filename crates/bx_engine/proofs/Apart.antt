@@ -1,9 +1,9 @@
 -- A call that changes a tree is none of those that read.
-use Rattle.std.proofs.Common.{◌≡◌, ◌∙◌, ℕ, List, refl, subst, sym, arith, inl, inr}
+use Rattle.std.proofs.Common.{ℕ, List, subst, arith, inl, inr}
 use Rattle.bx_attempts.specs.Calls.{HasChangeArgs, IsChanging}
 use Rattle.bx_engine.specs.Calls.{AsksSpace, HasNoFile, HasReadArgs, IsAtOnce, IsReading}
 use Rattle.bx_model.specs.declared.call.Args.{Args}
-use Rattle.bx_model.specs.declared.call.Args.TheVariants.{Refused, Nothing, Handle, List as Listing, Link, Make, Name, Read, Rename, Set, Path, Symlink, Write}
+use Rattle.bx_model.specs.declared.call.Args.TheVariants.{Link, Make, Name, Rename, Set, Symlink, Write}
 use Rattle.bx_model.specs.declared.call.Call.{Call}
 
 module _ (call : Call) where

@@ -48,9 +48,10 @@ impl BoxFs {
     /// `Need` names a block that isn't held and is on the call's path: of GETATTR, READLINK and STATFS the block of the file's inode, shared; where
     /// that is held, for STATFS the own block of the first area that isn't, for READ a page or a piece of the file, for LOOKUP a page of the directory or
     /// the inode of what the name means, and for READDIR a page of the directory, shared. Of a call that changes the tree it names what its procedure
-    /// does (`bx_attempts`). `Inner` are blocks to be written before the call is attempted again. They come only of a call that comes to no error, with 8
-    /// blocks free, and lacks something: room for an entry in the directory that it names or for a piece of a file, since a leaf is full or a separator above it
-    /// is missing, or bytes that were cut are still there over which it would grow a file. A call that comes to an error is an `Answer`. On an error, which is
+    /// does (`bx_attempts`). `Inner` are blocks to be written before the call is attempted again. They come exactly of a call that comes to no error, with
+    /// 8 blocks free, and lacks something: room for an entry in the directory that it names or for a piece of a file, since a leaf is full or a separator above it
+    /// is missing, or bytes that were cut are still there over which it would grow a file. They split that leaf, post that separator, or clear such bytes; a
+    /// `Change` comes only where nothing is lacking. A call that comes to an error is an `Answer`. On an error, which is
     /// want of memory alone, nothing is changed.
     pub fn attempt<V: View>(
         &self,
@@ -66,7 +67,8 @@ impl BoxFs {
             → IfOk result (λ found. IfSome found (Gives (StandsWith self.now.volume self.now.areas) Step (free_slots self.now.areas truth) client call.now moment truth tree)) }
         ensures fair { IfOk result (λ found. IfSome found (IsFair self.now.areas (V.held view.now) (IsOnPath (V.held view.now) (V.hints view.now) self.now.volume self.now.areas call.now))) }
 
-        // Blocks are to be written first only where the call comes to no error, with 8 blocks free, and room or cleared bytes are lacking.
+        // Blocks are to be written first exactly where the call comes to no error, with 8 blocks free, and room or cleared bytes are lacking; they make that
+        // room, or clear such bytes.
         ensures lacks { (truth : Truth) (tree : Tree) → IsTruth (V.held view.now) truth → StandsWith self.now.volume self.now.areas truth (V.hints view.now) tree
             → IfOk result (λ found. IfSome found (IfInner (IsFirstCall self.now.volume self.now.areas (V.held view.now) (V.hints view.now) truth tree call.now moment))) }
         ensures ready { (truth : Truth) (tree : Tree) → IsTruth (V.held view.now) truth → StandsWith self.now.volume self.now.areas truth (V.hints view.now) tree

@@ -1,7 +1,7 @@
 use Rattle.bx_engine.proofs.Along.{fair_along}
 use Rattle.bx_engine.proofs.Datagrams.{asks_as, at_once_as, on_path, reading_as, space_as}
 use Rattle.bx_engine.specs.Paths.{IsOnPath, PathOf}
-use Rattle.bx_engine.proofs.First.{first_call}
+use Rattle.bx_engine.proofs.First.{first_call, ready_call}
 use Rattle.bx_engine.proofs.engine.BoxFs.attempt.Goals as goal
 
 pub returns-clause-gives : goal.returns-clause-gives
@@ -39,4 +39,10 @@ returns-clause-keeps g c = λ reading.
 pub returns-clause-lacks : goal.returns-clause-lacks
 returns-clause-lacks g c = λ truth tree same s.
     let found = rw c.in-Some.is at c.in_ok-xid.ensures.found in
-    first_call c.args.self.now.volume c.args.self.now.areas truth tree c.args.call.now c.args.moment c.in-Some.xid c.in-Some.read found c.in_ok-attempt.attempt (c.in_ok-attempt.ensures.lacks truth tree same s)
+    first_call c.args.self.now.volume c.args.self.now.areas (g.V.View.held c.args.view.now) (g.V.View.hints c.args.view.now) truth tree c.args.call.now c.args.moment c.in-Some.xid c.in-Some.read found c.in_ok-attempt.attempt
+    (c.in_ok-attempt.ensures.lacks truth tree same s)
+
+pub returns-clause-ready : goal.returns-clause-ready
+returns-clause-ready g c = λ truth tree same s.
+    let found = rw c.in-Some.is at c.in_ok-xid.ensures.found in
+    ready_call c.args.self.now.volume c.args.self.now.areas truth tree c.args.call.now c.in-Some.xid c.in-Some.read found c.in_ok-attempt.attempt (c.in_ok-attempt.ensures.ready truth tree same s)

@@ -1,12 +1,10 @@
-use Rattle.std.proofs.Common.{ℕ, inl, inr}
-use Rattle.std.specs.Prelude.{IfOk}
+use Rattle.std.proofs.Common.{inl, inr}
 use Rattle.std.proofs.lemmas.Result.{IfOk-weaker}
 use Rattle.bx_attempts.specs.Paths.{ChangePathOf}
 use Rattle.bx_engine.proofs.Along.{fair_along}
-use Rattle.bx_engine.proofs.Apart.{changes_no_space, changes_not_at_once, changes_not_reads}
 use Rattle.bx_engine.specs.Paths.{PathOf, ReadPathOf}
-use Rattle.bx_attempts.specs.First.{LacksFirst}
-use Rattle.bx_engine.proofs.First.{quiet_first}
+use Rattle.bx_attempts.specs.First.{PreparesFirst, ReadyBy}
+use Rattle.bx_engine.proofs.First.{quiet_first, quiet_ready}
 use Rattle.bx_engine.proofs.engine.BoxFs.attempt_call.Goals as goal
 
 pub returns-then-is_change-clause-fair : goal.returns-then-is_change-clause-fair
@@ -30,4 +28,10 @@ returns-else-is_change-clause-gives g c = λ client bytes truth tree reads same 
 
 pub returns-else-is_change-clause-lacks : goal.returns-else-is_change-clause-lacks
 returns-else-is_change-clause-lacks g c = λ truth tree same s.
-    IfOk-weaker c.answer.result _ _ (quiet_first (LacksFirst c.args.self.now.volume c.args.self.now.areas truth tree c.args.call.now c.args.moment)) c.answer.ensures.keeps
+    let fs = c.args.self.now in
+    IfOk-weaker c.answer.result _ _ (quiet_first (PreparesFirst fs.volume fs.areas (g.V.View.held c.args.view.now) (g.V.View.hints c.args.view.now) truth tree c.args.call.now c.args.moment)) c.answer.ensures.keeps
+
+pub returns-else-is_change-clause-ready : goal.returns-else-is_change-clause-ready
+returns-else-is_change-clause-ready g c = λ truth tree same s.
+    let fs = c.args.self.now in
+    IfOk-weaker c.answer.result _ _ (quiet_ready (ReadyBy fs.volume fs.areas truth tree c.args.call.now.procedure c.args.call.now.args)) c.answer.ensures.keeps

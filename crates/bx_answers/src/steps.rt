@@ -142,11 +142,7 @@ fn promise(held: &mut Held, ballot: Ballot) -> Step
 }
 
 /// Takes a decided state that is newer. Where memory runs out, nothing changes.
-pub fn catch_up(
-    alloc: Global,
-    held: &mut Held,
-    state: GlobalState,
-) -> Result<(), OutOfMemory>
+pub fn catch_up(alloc: Global, held: &mut Held, state: GlobalState) -> Result<(), OutOfMemory>
     requires { state.index + 1 < 2 ^ 64 }
     ensures caught_up { OnOk result (held.new ≡ caught_up state held.old) }
     ensures kept { (devices : ℕ) → IsHeld devices held.old → IsStateOf devices state → IsHeld devices held.new }

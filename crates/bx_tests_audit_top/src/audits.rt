@@ -5,7 +5,7 @@ use bx_audit::{Listing, audit};
 use bx_calls::write_some;
 use bx_disk::{MemRack, Rack};
 use bx_format::format;
-use bx_global::opening;
+use bx_global_laws::opening;
 use bx_overlay::AuditError;
 use std::alloc::Global;
 use std::test::Fail;

@@ -1,5 +1,5 @@
 use Rattle.bx_global.proofs.Rising.{closed_goes, row_stays, stays_gone}
-use Rattle.bx_global.proofs.laws.sessions_end.Goals as goal
+use Rattle.bx_global_laws.proofs.laws.sessions_end.Goals as goal
 
 pub returns-clause-stays : goal.returns-clause-stays
 returns-clause-stays c = row_stays

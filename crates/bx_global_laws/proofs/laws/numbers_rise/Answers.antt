@@ -1,5 +1,5 @@
 use Rattle.bx_global.proofs.Rising.{epoch_rises, index_rises, next_rises, term_end_rises, term_rises}
-use Rattle.bx_global.proofs.laws.numbers_rise.Goals as goal
+use Rattle.bx_global_laws.proofs.laws.numbers_rise.Goals as goal
 
 pub returns-clause-index : goal.returns-clause-index
 returns-clause-index c = index_rises

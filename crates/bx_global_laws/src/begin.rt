@@ -3,8 +3,8 @@
 ghost use Rattle.std.specs.Prelude.{◌≡◌, IfOk, replicate};
 ghost use Rattle.bx_global.specs.Opening.{first_device, formatted_state, node_rows, opening_state};
 
-use crate::state::GlobalState;
 use bx_base::{List, OutOfMemory};
+use bx_global::GlobalState;
 use bx_rows::{DeviceRow, SessionRow};
 use std::alloc::Global;
 

@@ -1,5 +1,5 @@
 use Rattle.std.proofs.Common.{refl}
-use Rattle.bx_global.proofs.byte_laws.written_reads.Goals as goal
+use Rattle.bx_global_laws.proofs.byte_laws.written_reads.Goals as goal
 
 pub returns-clause-state : goal.returns-clause-state
 returns-clause-state c = λ state is. record { is = is; parts = refl }

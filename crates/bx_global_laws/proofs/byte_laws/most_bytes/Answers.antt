@@ -1,5 +1,5 @@
 use Rattle.bx_global.proofs.Lengths.{length-state, length-allowed, length-held}
-use Rattle.bx_global.proofs.byte_laws.most_bytes.Goals as goal
+use Rattle.bx_global_laws.proofs.byte_laws.most_bytes.Goals as goal
 
 pub returns-clause-rows : goal.returns-clause-rows
 returns-clause-rows c = length-state

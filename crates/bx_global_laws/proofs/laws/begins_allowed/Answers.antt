@@ -1,5 +1,5 @@
 use Rattle.bx_global.proofs.Begins.{formatted_allowed, opening_allowed}
-use Rattle.bx_global.proofs.laws.begins_allowed.Goals as goal
+use Rattle.bx_global_laws.proofs.laws.begins_allowed.Goals as goal
 
 pub returns-clause-opening : goal.returns-clause-opening
 returns-clause-opening c = opening_allowed

@@ -1,5 +1,5 @@
 use Rattle.bx_global.proofs.Rising.{devices_stay, master_stays, sessions_stay}
-use Rattle.bx_global.proofs.laws.others_stay.Goals as goal
+use Rattle.bx_global_laws.proofs.laws.others_stay.Goals as goal
 
 pub returns-clause-sessions : goal.returns-clause-sessions
 returns-clause-sessions c = sessions_stay

@@ -2,7 +2,7 @@
 
 ghost use Rattle.std.specs.Prelude.{◌≡◌};
 ghost use Rattle.bx_fields.specs.Reading.{Gives};
-ghost use Rattle.bx_layout.specs.InodeReading.{is_kind, owner_at, pair_at, pairs_at, path_at, sizes_at, tree_at};
+ghost use Rattle.bx_inode_parts.specs.Reading.{is_kind, owner_at, pair_at, pairs_at, path_at, sizes_at, tree_at};
 
 use bx_base::Raw;
 use bx_fields::{ReadError, front_at, u32_at, u64_at};
@@ -18,31 +18,45 @@ const MODES: u32 = 4096;
 
 /// What an inode begins with.
 #[derive(Clone, Copy)]
-pub(crate) struct OwnerPart {
-    pub(crate) kind: u32,
-    pub(crate) mode: u32,
-    pub(crate) nlink: u32,
-    pub(crate) uid: u32,
-    pub(crate) gid: u32,
+pub struct OwnerPart {
+    /// The type of the file.
+    pub kind: u32,
+    /// The mode's 12 bits.
+    pub mode: u32,
+    /// How many names it has.
+    pub nlink: u32,
+    /// The owner.
+    pub uid: u32,
+    /// The group.
+    pub gid: u32,
 }
 
 /// How long a file is, and when it changed.
 #[derive(Clone, Copy)]
-pub(crate) struct SizePart {
-    pub(crate) size: u64,
-    pub(crate) tail: u64,
-    pub(crate) atime: Pair,
-    pub(crate) mtime: Pair,
-    pub(crate) ctime: Pair,
+pub struct SizePart {
+    /// The size in bytes.
+    pub size: u64,
+    /// Where the bytes end that may be old.
+    pub tail: u64,
+    /// When it was last read.
+    pub atime: (u32, u32),
+    /// When it was last written.
+    pub mtime: (u32, u32),
+    /// When its inode last changed.
+    pub ctime: (u32, u32),
 }
 
 /// Where its pages are, and a link's path.
 #[derive(Drop)]
-pub(crate) struct TreePart {
-    pub(crate) tree: u64,
-    pub(crate) parent: u64,
-    pub(crate) next: u32,
-    pub(crate) path: Raw,
+pub struct TreePart {
+    /// The number of the handle of the root page of its tree.
+    pub tree: u64,
+    /// The number of the handle of a directory's parent.
+    pub parent: u64,
+    /// A directory's next entry number.
+    pub next: u32,
+    /// A link's path.
+    pub path: Raw,
 }
 
 /// Whether a number is that of a type of files.
@@ -53,7 +67,7 @@ fn is_kind(kind: u32) -> bool
 }
 
 /// Two numbers of 32 bits at the front, and the bytes behind them.
-#[tactic(auto, unfolding(crate::specs::InodeReading::pair_at))]
+#[tactic(auto, unfolding(crate::specs::Reading::pair_at))]
 fn pair_of(bytes: &[u8]) -> Result<(Pair, &[u8]), ReadError>
     ensures { Gives (λ x. (x.0, x.1.now)) result (pair_at bytes.now) }
 {
@@ -63,7 +77,7 @@ fn pair_of(bytes: &[u8]) -> Result<(Pair, &[u8]), ReadError>
 }
 
 /// Three such pairs at the front, and the bytes behind them.
-#[tactic(auto, unfolding(crate::specs::InodeReading::pairs_at))]
+#[tactic(auto, unfolding(crate::specs::Reading::pairs_at))]
 fn pairs_of(bytes: &[u8]) -> Result<(Pairs, &[u8]), ReadError>
     ensures { Gives (λ x. (x.0, x.1.now)) result (pairs_at bytes.now) }
 {
@@ -74,8 +88,8 @@ fn pairs_of(bytes: &[u8]) -> Result<(Pairs, &[u8]), ReadError>
 }
 
 /// The type, the mode, the links, the owner, the group and four zeros at the front, and the bytes behind them.
-#[tactic(auto, unfolding(crate::specs::InodeReading::owner_at))]
-pub(crate) fn owner_of(bytes: &[u8]) -> Result<(OwnerPart, &[u8]), ReadError>
+#[tactic(auto, unfolding(crate::specs::Reading::owner_at))]
+pub fn owner_of(bytes: &[u8]) -> Result<(OwnerPart, &[u8]), ReadError>
     ensures { Gives (λ x. (x.0, x.1.now)) result (owner_at bytes.now) }
 {
     let (((kind, mode), ((nlink, uid), (gid, zeros))), rest) = pairs_of(bytes)?;
@@ -93,8 +107,8 @@ pub(crate) fn owner_of(bytes: &[u8]) -> Result<(OwnerPart, &[u8]), ReadError>
 }
 
 /// The size, the tail and the times at the front, and the bytes behind them.
-#[tactic(auto, unfolding(crate::specs::InodeReading::sizes_at))]
-pub(crate) fn sizes_of(bytes: &[u8]) -> Result<(SizePart, &[u8]), ReadError>
+#[tactic(auto, unfolding(crate::specs::Reading::sizes_at))]
+pub fn sizes_of(bytes: &[u8]) -> Result<(SizePart, &[u8]), ReadError>
     ensures { Gives (λ x. (x.0, x.1.now)) result (sizes_at bytes.now) }
 {
     let (size, rest) = u64_at(bytes)?;
@@ -111,8 +125,8 @@ pub(crate) fn sizes_of(bytes: &[u8]) -> Result<(SizePart, &[u8]), ReadError>
 }
 
 /// The tree, the parent, the next entry number and the path at the front, and the bytes behind them.
-#[tactic(auto, unfolding(crate::specs::InodeReading::tree_at))]
-pub(crate) fn tree_of(alloc: Global, bytes: &[u8]) -> Result<(TreePart, &[u8]), ReadError>
+#[tactic(auto, unfolding(crate::specs::Reading::tree_at))]
+pub fn tree_of(alloc: Global, bytes: &[u8]) -> Result<(TreePart, &[u8]), ReadError>
     ensures { Gives (λ x. (x.0, x.1.now)) result (tree_at bytes.now) }
 {
     let (tree, rest) = u64_at(bytes)?;
@@ -129,7 +143,7 @@ pub(crate) fn tree_of(alloc: Global, bytes: &[u8]) -> Result<(TreePart, &[u8]), 
 }
 
 /// The length of a path and the path at the front, and the bytes behind them.
-#[tactic(auto, unfolding(crate::specs::InodeReading::path_at))]
+#[tactic(auto, unfolding(crate::specs::Reading::path_at))]
 fn path_of(alloc: Global, bytes: &[u8]) -> Result<(Raw, &[u8]), ReadError>
     ensures { Gives (λ x. (x.0, x.1.now)) result (path_at bytes.now) }
 {

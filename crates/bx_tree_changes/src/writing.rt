@@ -9,7 +9,7 @@ ghost use Rattle.bx_tree_files.specs.Files.{IsFile, file_at};
 ghost use Rattle.bx_model.specs.Steps.{done};
 ghost use Rattle.bx_tree_files.specs.Times.{is_given as is_given_word};
 ghost use Rattle.bx_tree_files.specs.Changes.{most_bytes};
-ghost use Rattle.bx_model.specs.Writing.{is_forbidden as is_forbidden_to, is_full as is_full_at, resize_errors, setattr, write, write_errors};
+ghost use Rattle.bx_model.specs.Writing.{is_forbidden as is_forbidden_to, is_full as is_full_at, resize_errors, setattr as setattr_of, write as write_of, write_errors};
 
 use crate::call::Call;
 use crate::permissions::{Want, may};
@@ -27,83 +27,81 @@ pub(crate) const MOST_BYTES: u32 = 2147483647;
 /// How many free blocks are enough for every procedure.
 const ENOUGH: u32 = 8;
 
-impl Tree {
-    /// SETATTR: sets attributes of a file, and tells them.
-    pub(crate) fn setattr(
-        &mut self,
-        call: &Call,
-        at: &[u8],
-        sattr: &Sattr,
-        now: (u32, u32),
-    ) -> Result<Reply, OutOfMemory>
-        ensures ok { IfOk result (λ reply. done self.old (setattr self.old call.now at.now sattr.now now) ≡ (reply, self.new)) }
-        ensures err { OnErr result (self.new ≡ self.old) }
-    {
-        let Some(file) = self.named(at) else {
-            return Ok(Reply::Status(STALE));
-        };
-        if is_forbidden(call, file, sattr) {
-            return Ok(Reply::Status(PERM));
-        }
-        if let Some(status) = resize_error(call, file, sattr.size) {
-            return Ok(Reply::Status(status));
-        }
-        let handle = file.handle;
-        let words = self.edit_and_tell(handle, &Edit::Fields(sattr), now)?;
-        Ok(Reply::Attributes(words))
+/// SETATTR: sets attributes of a file, and tells them.
+pub(crate) fn setattr(
+    tree: &mut Tree,
+    call: &Call,
+    at: &[u8],
+    sattr: &Sattr,
+    now: (u32, u32),
+) -> Result<Reply, OutOfMemory>
+    ensures ok { IfOk result (λ reply. done tree.old (setattr_of tree.old call.now at.now sattr.now now) ≡ (reply, tree.new)) }
+    ensures err { OnErr result (tree.new ≡ tree.old) }
+{
+    let Some(file) = named(tree, at) else {
+        return Ok(Reply::Status(STALE));
+    };
+    if is_forbidden(call, file, sattr) {
+        return Ok(Reply::Status(PERM));
     }
+    if let Some(status) = resize_error(call, file, sattr.size) {
+        return Ok(Reply::Status(status));
+    }
+    let handle = file.handle;
+    let words = edit_and_tell(tree, handle, &Edit::Fields(sattr), now)?;
+    Ok(Reply::Attributes(words))
+}
 
-    /// WRITE: writes bytes into a regular file, and tells its attributes. No bytes change nothing.
-    pub(crate) fn write(
-        &mut self,
-        call: &Call,
-        at: &[u8],
-        offset: u32,
-        written: &[u8],
-        now: (u32, u32),
-        spare: u32,
-    ) -> Result<Reply, OutOfMemory>
-        ensures ok { IfOk result (λ reply. done self.old (write self.old call.now at.now offset written.now now spare) ≡ (reply, self.new)) }
-        ensures err { OnErr result (self.new ≡ self.old) }
-    {
-        let Some(file) = self.named(at) else {
-            return Ok(Reply::Status(STALE));
-        };
-        if let Some(status) = write_error(call, file, offset, written.len(), spare) {
-            return Ok(Reply::Status(status));
-        }
-        if written.is_empty() {
-            return self.attributes_reply(file);
-        }
-        let handle = file.handle;
-        let words = self.edit_and_tell(handle, &Edit::Data(offset, written), now)?;
-        Ok(Reply::Attributes(words))
+/// WRITE: writes bytes into a regular file, and tells its attributes. No bytes change nothing.
+pub(crate) fn write(
+    tree: &mut Tree,
+    call: &Call,
+    at: &[u8],
+    offset: u32,
+    written: &[u8],
+    now: (u32, u32),
+    spare: u32,
+) -> Result<Reply, OutOfMemory>
+    ensures ok { IfOk result (λ reply. done tree.old (write_of tree.old call.now at.now offset written.now now spare) ≡ (reply, tree.new)) }
+    ensures err { OnErr result (tree.new ≡ tree.old) }
+{
+    let Some(file) = named(tree, at) else {
+        return Ok(Reply::Status(STALE));
+    };
+    if let Some(status) = write_error(call, file, offset, written.len(), spare) {
+        return Ok(Reply::Status(status));
     }
+    if written.is_empty() {
+        return attributes_reply(tree, file);
+    }
+    let handle = file.handle;
+    let words = edit_and_tell(tree, handle, &Edit::Data(offset, written), now)?;
+    Ok(Reply::Attributes(words))
+}
 
-    /// Makes an edit of a file that is there, and tells its attributes then.
-    pub(crate) fn edit_and_tell(
-        &mut self,
-        handle: u64,
-        edit: &Edit<'_>,
-        now: (u32, u32),
-    ) -> Result<Words, OutOfMemory>
-        requires there { IsSome (file_at self.old.files handle) }
-        requires can { IfSome (file_at self.old.files handle) (CanEdit edit.now) }
-        ensures tells { IfOk result (λ words. IfSome (file_at self.old.files handle) (λ file. words ≡ attributes_of self.old.volume (edited now edit.now file))) }
-        ensures changes { OnOk result (self.new ≡ changed self.old handle (edited now edit.now)) }
-        ensures err { OnErr result (self.new ≡ self.old) }
-    {
-        let Some(file) = self.files.get(handle) else {
-            unreachable!();
-        };
-        let mut words = attributes(self.files.allocator(), self.volume, file)?;
-        self.files.edit(handle, edit, now)?;
-        let Some(file) = self.files.get(handle) else {
-            unreachable!();
-        };
-        put_words(&mut words, &attribute_words(self.volume, file));
-        Ok(words)
-    }
+/// Makes an edit of a file that is there, and tells its attributes then.
+pub(crate) fn edit_and_tell(
+    tree: &mut Tree,
+    handle: u64,
+    edit: &Edit<'_>,
+    now: (u32, u32),
+) -> Result<Words, OutOfMemory>
+    requires there { IsSome (file_at tree.old.files handle) }
+    requires can { IfSome (file_at tree.old.files handle) (CanEdit edit.now) }
+    ensures tells { IfOk result (λ words. IfSome (file_at tree.old.files handle) (λ file. words ≡ attributes_of tree.old.volume (edited now edit.now file))) }
+    ensures changes { OnOk result (tree.new ≡ changed tree.old handle (edited now edit.now)) }
+    ensures err { OnErr result (tree.new ≡ tree.old) }
+{
+    let Some(file) = tree.files.get(handle) else {
+        unreachable!();
+    };
+    let mut words = attributes(tree.files.allocator(), tree.volume, file)?;
+    tree.files.edit(handle, edit, now)?;
+    let Some(file) = tree.files.get(handle) else {
+        unreachable!();
+    };
+    put_words(&mut words, &attribute_words(tree.volume, file));
+    Ok(words)
 }
 
 /// Whether one wants to set something that one may not set.

@@ -5,7 +5,7 @@ ghost use Rattle.std.specs.List.{list_any};
 ghost use Rattle.std.specs.String.{string_bytes};
 ghost use Rattle.hex.specs.Hex.{encode_lower};
 ghost use Rattle.bx_base.specs.Text.{spaced, sixteen_digits, ended, text_of};
-ghost use Rattle.bx_model.specs.Listing.{listing, body_lines, data_lines, file_line as line_of_file, dir_line as line_of_dir, name_line as line_of_name, time_text as text_of_time};
+ghost use Rattle.bx_model.specs.Listing.{listing as listing_of, body_lines, data_lines, file_line as line_of_file, dir_line as line_of_dir, name_line as line_of_name, time_text as text_of_time};
 ghost use Rattle.bx_tree_files.specs.Files.{IsFile, size_of as body_size};
 ghost use Rattle.bx_tree_files.specs.Attributes.{mode_word as mode_word_of};
 ghost use Rattle.std.specs.Fmt.{decimal, digits};
@@ -18,19 +18,17 @@ use std::alloc::Global;
 /// How many bytes of a file have a line.
 const PIECE: usize = 4096;
 
-impl Tree {
-    /// The listing: a line for each file, in the order of their handles, and behind it the lines of what the file
-    /// contains.
-    pub fn listing(&self) -> Result<Raw, OutOfMemory>
-        ensures { IfOk result (λ text. text ≡ listing self.now) }
-    {
-        let alloc = self.files.allocator();
-        let mut text = Vec::new(alloc);
-        for file in self.files.iter() {
-            put_file(&mut text, alloc, file)?;
-        }
-        Ok(Raw::from(text))
+/// The listing: a line for each file, in the order of their handles, and behind it the lines of what the file
+/// contains.
+pub fn listing(tree: &Tree) -> Result<Raw, OutOfMemory>
+    ensures { IfOk result (λ text. text ≡ listing_of tree.now) }
+{
+    let alloc = tree.files.allocator();
+    let mut text = Vec::new(alloc);
+    for file in tree.files.iter() {
+        put_file(&mut text, alloc, file)?;
     }
+    Ok(Raw::from(text))
 }
 
 /// Puts the lines of a file at the end of a text.

@@ -1,7 +1,7 @@
 //! READDIR.
 
 ghost use Rattle.std.specs.Prelude.{◌≡◌, ◌∷◌, ◌++◌, [], IfOk, if◌then◌else◌, map};
-ghost use Rattle.bx_model.specs.Directories.{behind, end_of, listed as listed_of, numbered, page as page_of, readdir};
+ghost use Rattle.bx_model.specs.Directories.{behind, end_of, listed as listed_of, numbered, page as page_of, readdir as readdir_of};
 ghost use Rattle.bx_tree_files.specs.Names.{names_of, parent_of};
 ghost use Rattle.bx_model.specs.Pages.{dots, filled, spent};
 ghost use Rattle.bx_model.specs.Steps.{done};
@@ -33,35 +33,33 @@ struct Page {
     room: usize,
 }
 
-impl Tree {
-    /// READDIR: the entries of a directory behind a cookie that fit into so many bytes.
-    pub(crate) fn readdir(
-        &self,
-        call: &Call,
-        at: &[u8],
-        cookie: u32,
-        count: u32,
-    ) -> Result<Reply, OutOfMemory>
-        ensures { IfOk result (λ reply. done self.now (readdir self.now call.now at.now cookie count) ≡ (reply, self.now)) }
-    {
-        let Some(directory) = self.named(at) else {
-            return Ok(Reply::Status(STALE));
-        };
-        let Body::Names(parent, _, names) = &directory.body else {
-            return Ok(Reply::Status(NOTDIR));
-        };
-        if !may(call, directory, Want::List) {
-            return Ok(Reply::Status(ACCES));
-        }
-        page_behind(
-            self.files.allocator(),
-            directory,
-            *parent,
-            names,
-            cookie,
-            count,
-        )
+/// READDIR: the entries of a directory behind a cookie that fit into so many bytes.
+pub(crate) fn readdir(
+    tree: &Tree,
+    call: &Call,
+    at: &[u8],
+    cookie: u32,
+    count: u32,
+) -> Result<Reply, OutOfMemory>
+    ensures { IfOk result (λ reply. done tree.now (readdir_of tree.now call.now at.now cookie count) ≡ (reply, tree.now)) }
+{
+    let Some(directory) = named(tree, at) else {
+        return Ok(Reply::Status(STALE));
+    };
+    let Body::Names(parent, _, names) = &directory.body else {
+        return Ok(Reply::Status(NOTDIR));
+    };
+    if !may(call, directory, Want::List) {
+        return Ok(Reply::Status(ACCES));
     }
+    page_behind(
+        tree.files.allocator(),
+        directory,
+        *parent,
+        names,
+        cookie,
+        count,
+    )
 }
 
 /// The page of a directory behind a cookie.
@@ -88,7 +86,7 @@ fn page_behind(
 impl Page {
     /// Puts what a directory lists behind a cookie on the page until something doesn't fit; whether all fits.
     fn fill(
-        &mut self,
+        tree: &mut Tree,
         alloc: Global,
         directory: u64,
         parent: u64,
@@ -107,7 +105,7 @@ impl Page {
     /// Puts the directory itself and its parent on the page, as far as they are behind the cookie, until one doesn't
     /// fit; whether both fit.
     fn put_dots(
-        &mut self,
+        tree: &mut Tree,
         alloc: Global,
         directory: u64,
         parent: u64,
@@ -130,7 +128,7 @@ impl Page {
 
     /// Puts the entries behind the cookie on the page until one doesn't fit; whether all fit.
     fn put_names(
-        &mut self,
+        tree: &mut Tree,
         alloc: Global,
         names: &NameList,
         cookie: u32,
@@ -148,7 +146,7 @@ impl Page {
 
     /// Puts an entry on the page, if it fits; whether it does.
     fn put(
-        &mut self,
+        tree: &mut Tree,
         alloc: Global,
         number: u32,
         name: &[u8],

@@ -1,4 +1,4 @@
-//! The listing of a tree.
+//! The listing, line by line.
 
 ghost use Rattle.std.specs.Prelude.{◌≡◌, ◌<◌, ◌+◌, ◌/◌, ◌^◌, ◌++◌, ◌∷◌, [], codes, nat_lt, false, if◌then◌else◌, length, map, IfOk, OnOk};
 ghost use Rattle.std.specs.List.{list_any};
@@ -10,8 +10,8 @@ ghost use Rattle.bx_tree_files.specs.Files.{IsFile, size_of as body_size};
 ghost use Rattle.bx_tree_files.specs.Attributes.{mode_word as mode_word_of};
 ghost use Rattle.std.specs.Fmt.{decimal, digits};
 
-use crate::tree::Tree;
 use bx_base::{OutOfMemory, Raw};
+use bx_model::Tree;
 use bx_tree_files::{Body, File, Name, NameList, mode_word, size_of};
 use std::alloc::Global;
 

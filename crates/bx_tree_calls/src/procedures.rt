@@ -5,12 +5,13 @@ ghost use Rattle.bx_model.specs.Act.{IsPlain, about_file as about_file_of, about
 ghost use Rattle.bx_model.specs.Steps.{done, taken};
 ghost use Rattle.bx_tree_files.specs.Times.{time_of as time_of_moment};
 
-use crate::call::{Args, Call};
-use crate::reading::plain;
-use crate::reply::Reply;
-use crate::tree::Tree;
 use bx_base::OutOfMemory;
+use bx_model::{Args, Call, Reply, Tree};
+use bx_tree_changes::{remove, rmdir, setattr, write};
 use bx_tree_files::Sattr;
+use bx_tree_making::{create, link, mkdir, symlink};
+use bx_tree_moves::rename;
+use bx_tree_reads::{getattr, lookup, mount, plain, read, readdir, readlink, statfs};
 
 /// The procedure READLINK.
 const READLINK: u32 = 5;
@@ -47,7 +48,16 @@ pub fn act(
     let (now, spare) = (time_of(moment), spare as u32);
     match &call.args {
         Args::Make(at, name, sattr) => {
-            about_new(tree, call, at.bytes(), name.bytes(), sattr, now, spare, made)
+            about_new(
+                tree,
+                call,
+                at.bytes(),
+                name.bytes(),
+                sattr,
+                now,
+                spare,
+                made,
+            )
         }
         Args::Symlink(at, name, path, sattr) => {
             let (at, name, path) = (at.bytes(), name.bytes(), path.bytes());
@@ -120,7 +130,15 @@ fn answer(tree: &mut Tree, call: &Call, now: (u32, u32), spare: u32) -> Result<R
             write(tree, call, at.bytes(), *offset, written.bytes(), now, spare)
         }
         Args::Link(from, at, name) => {
-            link(tree, call, from.bytes(), at.bytes(), name.bytes(), now, spare)
+            link(
+                tree,
+                call,
+                from.bytes(),
+                at.bytes(),
+                name.bytes(),
+                now,
+                spare,
+            )
         }
         Args::Rename(from, name, to, new_name) => {
             let (from, name) = (from.bytes(), name.bytes());

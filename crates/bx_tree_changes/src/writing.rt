@@ -11,24 +11,21 @@ ghost use Rattle.bx_tree_files.specs.Times.{is_given as is_given_word};
 ghost use Rattle.bx_tree_files.specs.Changes.{most_bytes};
 ghost use Rattle.bx_model.specs.Writing.{is_forbidden as is_forbidden_to, is_full as is_full_at, resize_errors, setattr as setattr_of, write as write_of, write_errors};
 
-use crate::call::Call;
-use crate::permissions::{Want, may};
-use crate::reply::Reply;
-use crate::status::{ACCES, FBIG, ISDIR, NOSPC, NXIO, PERM, STALE};
-use crate::tree::Tree;
 use bx_base::{OutOfMemory, Words};
+use bx_model::{ACCES, Call, FBIG, ISDIR, NOSPC, NXIO, PERM, Reply, STALE, Tree, Want, may};
 use bx_tree_files::{
     DIRECTORY, Edit, File, LINK, Sattr, attribute_words, attributes, is_given, put_words,
 };
+use bx_tree_reads::{attributes_reply, named};
 
 /// The most bytes that a file has.
-pub(crate) const MOST_BYTES: u32 = 2147483647;
+pub const MOST_BYTES: u32 = 2147483647;
 
 /// How many free blocks are enough for every procedure.
 const ENOUGH: u32 = 8;
 
 /// SETATTR: sets attributes of a file, and tells them.
-pub(crate) fn setattr(
+pub fn setattr(
     tree: &mut Tree,
     call: &Call,
     at: &[u8],
@@ -53,7 +50,7 @@ pub(crate) fn setattr(
 }
 
 /// WRITE: writes bytes into a regular file, and tells its attributes. No bytes change nothing.
-pub(crate) fn write(
+pub fn write(
     tree: &mut Tree,
     call: &Call,
     at: &[u8],
@@ -80,7 +77,7 @@ pub(crate) fn write(
 }
 
 /// Makes an edit of a file that is there, and tells its attributes then.
-pub(crate) fn edit_and_tell(
+pub fn edit_and_tell(
     tree: &mut Tree,
     handle: u64,
     edit: &Edit<'_>,
@@ -121,7 +118,7 @@ fn sets_mode_or_times(sattr: &Sattr) -> bool
 }
 
 /// The first error of setting a size, where one is given.
-pub(crate) fn resize_error(call: &Call, file: &File, size: u32) -> Option<u32>
+pub fn resize_error(call: &Call, file: &File, size: u32) -> Option<u32>
     ensures { MatchOption result (resize_errors call.now file.now size ≡ Ok tt) (λ status. resize_errors call.now file.now size ≡ Err status) }
 {
     if !is_given(size) {
@@ -166,7 +163,7 @@ fn write_error(call: &Call, file: &File, offset: u32, count: usize, spare: u32) 
 }
 
 /// Whether there are too few free blocks for a procedure that may take some.
-pub(crate) fn is_full(spare: u32) -> bool
+pub fn is_full(spare: u32) -> bool
     ensures { result ≡ is_full_at spare }
 {
     spare < ENOUGH

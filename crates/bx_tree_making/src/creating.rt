@@ -11,19 +11,20 @@ ghost use Rattle.bx_model.specs.Steps.{taken};
 ghost use Rattle.bx_tree_files.specs.Times.{is_given as is_given_word};
 ghost use Rattle.bx_tree_files.specs.Changes.{most_bytes};
 
-use crate::call::Call;
-use crate::permissions::{Want, may};
-use crate::removing::entry_of;
-use crate::reply::Reply;
-use crate::status::{ACCES, DQUOT, EXIST, FBIG, NFS_OK, NOSPC, NOTDIR, STALE};
-use crate::tree::Tree;
-use crate::writing::{MOST_BYTES, is_full, resize_error};
+use crate::making::{is_unused, make};
 use bx_base::{OutOfMemory, Raw};
 use bx_handles::file_handle;
+use bx_model::{
+    ACCES, Call, DQUOT, EXIST, FBIG, NFS_OK, NOSPC, NOTDIR, Reply, STALE, Tree, Want, may,
+};
+use bx_tree_changes::{
+    MOST_BYTES, directory_to_change, edit_and_tell, entry_of, has_number, is_full, resize_error,
+};
 use bx_tree_files::{
     Body, Content, DIRECTORY, Edit, File, LINK, MODES, NameList, REGULAR, Sattr, given_or, is_bad,
     is_given, time_or,
 };
+use bx_tree_reads::{handle_reply, named};
 
 /// The mode of a new regular file whose mode isn't given.
 const FILE_MODE: u32 = 0o644;
@@ -35,7 +36,7 @@ const LINK_MODE: u32 = 0o777;
 const DIRECTORY_MODE: u32 = 0o755;
 
 /// MKDIR: makes a directory without entries. `None` exactly where `made` breaks its rule.
-pub(crate) fn mkdir(
+pub fn mkdir(
     tree: &mut Tree,
     call: &Call,
     at: &[u8],
@@ -67,7 +68,7 @@ pub(crate) fn mkdir(
 }
 
 /// SYMLINK: makes a link with a path. `None` exactly where `made` breaks its rule.
-pub(crate) fn symlink(
+pub fn symlink(
     tree: &mut Tree,
     call: &Call,
     at: &[u8],
@@ -102,7 +103,7 @@ pub(crate) fn symlink(
 
 /// CREATE: makes a regular file, or finds the one that is there, of which it sets a size that is given. `None`
 /// exactly where `made` breaks its rule.
-pub(crate) fn create(
+pub fn create(
     tree: &mut Tree,
     call: &Call,
     at: &[u8],
@@ -198,7 +199,12 @@ fn create_over(
 }
 
 /// The directory that a call searches for a name that it may make; else the first error.
-fn directory_to_search(tree: &Tree, call: &Call, at: &[u8], name: &[u8]) -> Result<&File, u32>
+fn directory_to_search<'a>(
+    tree: &'a Tree,
+    call: &Call,
+    at: &[u8],
+    name: &[u8],
+) -> Result<&'a File, u32>
     ensures found { MatchResult result
         (λ directory. searched_directory tree.now call.now at.now name.now ≡ Ok directory.now)
         (λ status. searched_directory tree.now call.now at.now name.now ≡ Err status) }
@@ -222,7 +228,13 @@ fn directory_to_search(tree: &Tree, call: &Call, at: &[u8], name: &[u8]) -> Resu
 }
 
 /// The directory that a new entry of this name may come into; else the first error.
-fn place_for(tree: &Tree, call: &Call, at: &[u8], name: &[u8], spare: u32) -> Result<&File, u32>
+fn place_for<'a>(
+    tree: &'a Tree,
+    call: &Call,
+    at: &[u8],
+    name: &[u8],
+    spare: u32,
+) -> Result<&'a File, u32>
     ensures found { MatchResult result
         (λ directory. new_place tree.now call.now at.now name.now spare ≡ Ok directory.now)
         (λ status. new_place tree.now call.now at.now name.now spare ≡ Err status) }
@@ -275,16 +287,6 @@ fn refused(status: u32, made: u64) -> Option<Reply>
         Some(Reply::Status(status))
     } else {
         None
-    }
-}
-
-/// Whether a directory has a number left for an entry.
-pub(crate) fn has_number(directory: &File) -> bool
-    ensures { result ≡ nat_lt (next_of directory.now.body) 4294967295 }
-{
-    match &directory.body {
-        Body::Names(_, next, _) => *next < u32::MAX,
-        _ => true,
     }
 }
 

@@ -7,21 +7,17 @@ ghost use Rattle.bx_tree_files.specs.Changes.{entered, linked};
 ghost use Rattle.bx_model.specs.Making.{link as link_of};
 ghost use Rattle.bx_model.specs.Steps.{done};
 
-use crate::call::Call;
-use crate::creating::has_number;
-use crate::removing::entry_of;
-use crate::reply::Reply;
-use crate::status::{DQUOT, EXIST, NFS_OK, NOSPC, PERM, STALE};
-use crate::tree::Tree;
-use crate::writing::is_full;
 use bx_base::OutOfMemory;
+use bx_model::{Call, DQUOT, EXIST, NFS_OK, NOSPC, PERM, Reply, STALE, Tree};
+use bx_tree_changes::{directory_to_change, entry_of, has_number, is_full};
 use bx_tree_files::{DIRECTORY, Edit, Files};
+use bx_tree_reads::named;
 
 /// The most names of a file.
 const MOST_LINKS: u32 = 32000;
 
 /// LINK: one more name for a file.
-pub(crate) fn link(
+pub fn link(
     tree: &mut Tree,
     call: &Call,
     from: &[u8],

@@ -8,8 +8,8 @@ ghost use Rattle.bx_tree_files.specs.FileEdits.{CanEnter};
 ghost use Rattle.bx_tree_files.specs.Files.{IsFile, file_at};
 ghost use Rattle.bx_model.specs.Making.{with_made};
 
-use crate::tree::Tree;
 use bx_base::OutOfMemory;
+use bx_model::Tree;
 use bx_tree_files::{DIRECTORY, Edit, File};
 
 /// Whether a file may be made under a handle: it isn't 0, it was never given out, and its fileid is no file's.

@@ -15,7 +15,7 @@ use Rattle.bx_tree_files.specs.Names.{names_of}
 use Rattle.bx_model.specs.Renaming.{file_of_entry, is_same, move_errors, renamed}
 use Rattle.bx_tree_files.specs.Times.{Time}
 use Rattle.bx_tree_files.proofs.Changed.{handles_apart}
-use Rattle.bx_model.proofs.Moved.{IsMove}
+use Rattle.bx_tree_moves.proofs.Moved.{IsMove}
 
 same_number : (n : ℕ) → eqb n n ≡ true
 same_number n = grind (arith, nat_tests)

@@ -6,14 +6,14 @@ use Rattle.bx_tree_files.specs.declared.file.Body.{Body}
 use Rattle.bx_tree_files.specs.declared.file.Body.TheVariants.{Bytes, Path, Names}
 use Rattle.bx_tree_files.specs.declared.file.File.{File}
 use Rattle.bx_tree_files.specs.declared.file.Name.{Name}
-use Rattle.bx_model.specs.declared.renaming.Displaced.{Displaced}
-use Rattle.bx_model.specs.declared.renaming.Move.{Move}
+use Rattle.bx_tree_moves.specs.declared.renaming.Displaced.{Displaced}
+use Rattle.bx_tree_moves.specs.declared.renaming.Move.{Move}
 use Rattle.bx_model.specs.declared.tree.Tree.{Tree}
 use Rattle.bx_model.specs.Edits.{changed, without}
 use Rattle.bx_tree_files.specs.Entries.{without_name}
 use Rattle.bx_tree_files.specs.Files.{is_directory}
 use Rattle.bx_tree_files.specs.Changes.{entered, taken_out, unlinked, moved_to}
-use Rattle.bx_model.specs.Moves.{after_move, displaced_of, without_displaced}
+use Rattle.bx_tree_moves.specs.Moving.{after_move, displaced_of, without_displaced}
 use Rattle.bx_tree_files.specs.Names.{with_entry, without_entry}
 use Rattle.bx_model.specs.Renaming.{changes_parent, renamed}
 use Rattle.bx_tree_files.specs.Times.{Time}

@@ -6,11 +6,8 @@ ghost use Rattle.bx_model.specs.Moves.{way_errors};
 ghost use Rattle.bx_tree_files.specs.Names.{next_of, parent_of as parent_of_body};
 ghost use Rattle.bx_model.specs.Renaming.{changes_parent as changes_parent_of, move_errors, parent_at as parent_of_handle, replace_errors};
 
-use crate::creating::has_number;
-use crate::removing::has_entries;
-use crate::status::{DQUOT, ISDIR, NAMETOOLONG, NOSPC, NOTDIR, NOTEMPTY, PERM};
-use crate::tree::Tree;
-use crate::writing::is_full;
+use bx_model::{DQUOT, ISDIR, NAMETOOLONG, NOSPC, NOTDIR, NOTEMPTY, PERM, Tree};
+use bx_tree_changes::{has_entries, has_number, is_full};
 use bx_tree_files::{Body, DIRECTORY, File};
 
 /// The most moves to a parent on the way from a directory to the root.

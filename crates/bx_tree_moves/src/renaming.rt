@@ -5,19 +5,17 @@ ghost use Rattle.std.specs.Option.{option_copied};
 ghost use Rattle.bx_model.specs.declared.reply.Reply.TheVariants.{Status as ReplyStatus};
 ghost use Rattle.bx_model.specs.Edits.{changed};
 ghost use Rattle.bx_tree_files.specs.Files.{IsFile, file_at};
-ghost use Rattle.bx_model.specs.Moves.{CanMoveIn, IsPlace, after_move, after_moves, displaced_of, move_between as move_between_of, move_places as move_places_of, with_moved_in, without_displaced};
+ghost use Rattle.bx_model.specs.Moves.{IsPlace, move_between as move_between_of, move_places as move_places_of};
+ghost use Rattle.bx_tree_moves.specs.Moving.{CanMoveIn, after_move, after_moves, displaced_of, with_moved_in, without_displaced};
 ghost use Rattle.bx_model.specs.Renaming.{file_of_entry, is_same as is_same_file, rename as rename_of};
 ghost use Rattle.bx_model.specs.Steps.{done};
 
-use crate::call::Call;
-use crate::move_errors::changes_parent;
-use crate::permissions::{Want, may};
-use crate::removing::entry_of;
-use crate::reply::Reply;
-use crate::status::{ACCES, NFS_OK, NOENT, NOTDIR, STALE};
-use crate::tree::Tree;
+use crate::move_errors::{changes_parent, move_error};
 use bx_base::OutOfMemory;
+use bx_model::{ACCES, Call, NFS_OK, NOENT, NOTDIR, Reply, STALE, Tree, Want, may};
+use bx_tree_changes::{entry_of, unlink};
 use bx_tree_files::{DIRECTORY, Edit, File, Name, is_bad};
+use bx_tree_reads::named;
 
 /// A file whose name another one takes.
 #[derive(Clone, Copy)]
@@ -52,7 +50,7 @@ pub(crate) struct Move<'a> {
 }
 
 /// RENAME: gives a file another name, which may be another file's until then.
-pub(crate) fn rename(
+pub fn rename(
     tree: &mut Tree,
     call: &Call,
     from: &[u8],
@@ -99,14 +97,14 @@ fn move_of<'a>(
 }
 
 /// The directories between which a call moves a file; else the first error.
-fn move_places(
-    tree: &Tree,
+fn move_places<'a>(
+    tree: &'a Tree,
     call: &Call,
     from: &[u8],
     name: &[u8],
     to: &[u8],
     new_name: &[u8],
-) -> Result<(&File, &File), u32>
+) -> Result<(&'a File, &'a File), u32>
     ensures found { MatchResult result
         (λ found. move_places_of tree.now call.now from.now name.now to.now new_name.now ≡ Ok (found.0.now, found.1.now))
         (λ status. move_places_of tree.now call.now from.now name.now to.now new_name.now ≡ Err status) }
@@ -177,7 +175,7 @@ fn move_between<'a>(
 }
 
 /// The file that an entry names; `STALE` where it isn't there.
-fn file_of(tree: &Tree, entry: Option<&Name>) -> Result<Option<&File>, u32>
+fn file_of<'a>(tree: &'a Tree, entry: Option<&Name>) -> Result<Option<&'a File>, u32>
     ensures found { MatchResult result
         (λ found. file_of_entry tree.now (option_copied entry.entry) ≡ Ok (option_copied found))
         (λ status. file_of_entry tree.now (option_copied entry.entry) ≡ Err status) }

@@ -2,12 +2,12 @@
 use Rattle.std.proofs.Common.{◌≡◌, ℕ, ◌-◌, eqb, leb, Bool, true, false, cond, suc, List, [], ◌∷◌, ◌++◌, length, map, min, refl, sym, ap, ◌∙◌, append_assoc, arith}
 use Rattle.std.proofs.lemmas.List.{append-nil}
 use Rattle.std.proofs.lemmas.Bool.Decides.{nat_tests}
-use Rattle.bx_model.specs.declared.directories.Page.{Page}
+use Rattle.bx_tree_reads.specs.declared.directories.Page.{Page}
 use Rattle.bx_tree_files.specs.declared.file.Name.{Name}
 use Rattle.bx_model.specs.declared.reply.Listed.{Listed}
 use Rattle.bx_model.specs.declared.reply.Reply.TheVariants as Reply
 use Rattle.bx_model.specs.Directories.{cost, end_of, listed, that_fit, page as page_of}
-use Rattle.bx_model.specs.Pages.{filled, with_listed}
+use Rattle.bx_tree_reads.specs.Pages.{filled, with_listed}
 use Rattle.bx_model.specs.Reading.{most_data}
 
 same_answer : (a b : Bool) (x y : Page) → ◌≡◌ {A = Bool × Page} (a, x) (b, y) → a ≡ b

@@ -3,16 +3,12 @@
 ghost use Rattle.std.specs.Prelude.{◌≡◌, ◌∷◌, ◌++◌, [], IfOk, if◌then◌else◌, map};
 ghost use Rattle.bx_model.specs.Directories.{behind, end_of, listed as listed_of, numbered, page as page_of, readdir as readdir_of};
 ghost use Rattle.bx_tree_files.specs.Names.{names_of, parent_of};
-ghost use Rattle.bx_model.specs.Pages.{dots, filled, spent};
+ghost use Rattle.bx_tree_reads.specs.Pages.{dots, filled, spent};
 ghost use Rattle.bx_model.specs.Steps.{done};
 
-use crate::call::Call;
-use crate::permissions::{Want, may};
-use crate::reading::MOST_DATA;
-use crate::reply::{Listed, ListedList, Reply};
-use crate::status::{ACCES, NOTDIR, STALE};
-use crate::tree::Tree;
+use crate::reading::{MOST_DATA, named};
 use bx_base::{OutOfMemory, Raw};
+use bx_model::{ACCES, Call, Listed, ListedList, NOTDIR, Reply, STALE, Tree, Want, may};
 use bx_tree_files::{Body, File, NameList, fileid};
 use std::alloc::Global;
 
@@ -34,7 +30,7 @@ struct Page {
 }
 
 /// READDIR: the entries of a directory behind a cookie that fit into so many bytes.
-pub(crate) fn readdir(
+pub fn readdir(
     tree: &Tree,
     call: &Call,
     at: &[u8],

@@ -8,13 +8,9 @@ ghost use Rattle.bx_tree_files.specs.Names.{names_of, parent_of};
 ghost use Rattle.bx_model.specs.Reading.{named_file, attributes_reply as reply_of_attributes, handle_reply as reply_of_handle, getattr as getattr_of, lookup as lookup_of, meant as file_meant, readlink as readlink_of, read as read_of, statfs as statfs_of, most_data};
 ghost use Rattle.bx_model.specs.Steps.{done};
 
-use crate::call::Call;
-use crate::permissions::{Want, may};
-use crate::reply::Reply;
-use crate::status::{ACCES, ISDIR, NOENT, NOTDIR, NXIO, STALE};
-use crate::tree::Tree;
 use bx_base::{OutOfMemory, Raw};
 use bx_handles::{file_handle, named_handle};
+use bx_model::{ACCES, Call, ISDIR, NOENT, NOTDIR, NXIO, Reply, STALE, Tree, Want, may};
 use bx_tree_files::{BLOCK_LEN, Body, File, NameList, attributes, words_of};
 
 /// The most bytes that a READ or a READDIR gives (RFC 1094, section 2.3.9).
@@ -36,7 +32,7 @@ const UMNT: u32 = 3;
 const EXPORT: u32 = 5;
 
 /// GETATTR: the attributes of a file.
-pub(crate) fn getattr(tree: &Tree, at: &[u8]) -> Result<Reply, OutOfMemory>
+pub fn getattr(tree: &Tree, at: &[u8]) -> Result<Reply, OutOfMemory>
     ensures { IfOk result (λ reply. done tree.now (getattr_of tree.now at.now) ≡ (reply, tree.now)) }
 {
     let Some(file) = named(tree, at) else {
@@ -46,7 +42,7 @@ pub(crate) fn getattr(tree: &Tree, at: &[u8]) -> Result<Reply, OutOfMemory>
 }
 
 /// LOOKUP: the file that a name means in a directory.
-pub(crate) fn lookup(tree: &Tree, call: &Call, at: &[u8], name: &[u8]) -> Result<Reply, OutOfMemory>
+pub fn lookup(tree: &Tree, call: &Call, at: &[u8], name: &[u8]) -> Result<Reply, OutOfMemory>
     ensures { IfOk result (λ reply. done tree.now (lookup_of tree.now call.now at.now name.now) ≡ (reply, tree.now)) }
 {
     let Some(directory) = named(tree, at) else {
@@ -65,7 +61,7 @@ pub(crate) fn lookup(tree: &Tree, call: &Call, at: &[u8], name: &[u8]) -> Result
 }
 
 /// READLINK: a link's path.
-pub(crate) fn readlink(tree: &Tree, at: &[u8]) -> Result<Reply, OutOfMemory>
+pub fn readlink(tree: &Tree, at: &[u8]) -> Result<Reply, OutOfMemory>
     ensures { IfOk result (λ reply. done tree.now (readlink_of tree.now at.now) ≡ (reply, tree.now)) }
 {
     let Some(file) = named(tree, at) else {
@@ -79,7 +75,7 @@ pub(crate) fn readlink(tree: &Tree, at: &[u8]) -> Result<Reply, OutOfMemory>
 }
 
 /// READ: the bytes of a regular file from an offset on.
-pub(crate) fn read(
+pub fn read(
     tree: &Tree,
     call: &Call,
     at: &[u8],
@@ -106,7 +102,7 @@ pub(crate) fn read(
 }
 
 /// STATFS: the sizes of a transfer and of a block, and how many blocks there are, and are free.
-pub(crate) fn statfs(tree: &Tree, at: &[u8], spare: u32) -> Result<Reply, OutOfMemory>
+pub fn statfs(tree: &Tree, at: &[u8], spare: u32) -> Result<Reply, OutOfMemory>
     ensures { IfOk result (λ reply. done tree.now (statfs_of tree.now at.now spare) ≡ (reply, tree.now)) }
 {
     if named(tree, at).is_none() {
@@ -119,7 +115,7 @@ pub(crate) fn statfs(tree: &Tree, at: &[u8], spare: u32) -> Result<Reply, OutOfM
 }
 
 /// MNT and UMNT: the root's file handle, of the path `/`; nothing.
-pub(crate) fn mount(tree: &Tree, procedure: u32, path: &[u8]) -> Result<Reply, OutOfMemory>
+pub fn mount(tree: &Tree, procedure: u32, path: &[u8]) -> Result<Reply, OutOfMemory>
     ensures { IfOk result (λ reply. reply ≡ mount_of tree.now procedure path.now) }
 {
     if procedure == UMNT {
@@ -158,7 +154,7 @@ fn meant<'a>(
 }
 
 /// A reply with a file's attributes.
-pub(crate) fn attributes_reply(tree: &Tree, file: &File) -> Result<Reply, OutOfMemory>
+pub fn attributes_reply(tree: &Tree, file: &File) -> Result<Reply, OutOfMemory>
     requires { IsFile file.now }
     ensures { IfOk result (λ reply. reply ≡ reply_of_attributes tree.now file.now) }
 {
@@ -167,7 +163,7 @@ pub(crate) fn attributes_reply(tree: &Tree, file: &File) -> Result<Reply, OutOfM
 }
 
 /// A reply with a file's file handle and attributes.
-pub(crate) fn handle_reply(tree: &Tree, file: &File) -> Result<Reply, OutOfMemory>
+pub fn handle_reply(tree: &Tree, file: &File) -> Result<Reply, OutOfMemory>
     requires { IsFile file.now }
     ensures { IfOk result (λ reply. reply ≡ reply_of_handle tree.now file.now) }
 {
@@ -178,7 +174,7 @@ pub(crate) fn handle_reply(tree: &Tree, file: &File) -> Result<Reply, OutOfMemor
 }
 
 /// The file that a file handle names.
-pub(crate) fn named(tree: &Tree, bytes: &[u8]) -> Option<&File>
+pub fn named<'a>(tree: &'a Tree, bytes: &[u8]) -> Option<&'a File>
     ensures found { option_copied result ≡ named_file tree.now bytes.now }
     ensures is_file { IfSome (option_copied result) IsFile }
     ensures there { IfSome (option_copied result) (λ file. file_at tree.now.files file.handle ≡ Some file) }
@@ -189,7 +185,7 @@ pub(crate) fn named(tree: &Tree, bytes: &[u8]) -> Option<&File>
 }
 
 /// What a procedure without arguments answers.
-pub(crate) fn plain(program: u32, procedure: u32) -> Reply
+pub fn plain(program: u32, procedure: u32) -> Reply
     ensures { result ≡ plain_reply program procedure }
 {
     match (program, procedure) {

@@ -1,5 +1,5 @@
-use Rattle.bx_model.proofs.Pieces.{one_piece_more}
-use Rattle.bx_model.proofs.listing.put_data.Goals as goal
+use Rattle.bx_listing.proofs.Pieces.{one_piece_more}
+use Rattle.bx_listing.proofs.listings.put_data.Goals as goal
 
 pub loop-offset-preserved : goal.loop-offset-preserved
 loop-offset-preserved c =

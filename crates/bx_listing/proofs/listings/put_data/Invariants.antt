@@ -1,7 +1,7 @@
 use Rattle.std.proofs.Common.{◌≡◌, ◌-◌, ◌++◌, drop, length}
 use Rattle.bx_base.specs.Text.{text_of}
-use Rattle.bx_model.proofs.Pieces.{all_pieces}
-use Rattle.bx_model.proofs.listing.put_data.Given as goal
+use Rattle.bx_listing.proofs.Pieces.{all_pieces}
+use Rattle.bx_listing.proofs.listings.put_data.Given as goal
 
 abbrev pub invariant-loop-offset : goal.invariant-loop-offset
 invariant-loop-offset l =

@@ -1,13 +1,13 @@
 use Rattle.std.proofs.Common.{◌≡◌, ◌-◌, ℕ, List, ◌++◌, min, ap, ◌∙◌}
-use Rattle.bx_model.specs.declared.directories.Page.{Page}
+use Rattle.bx_tree_reads.specs.declared.directories.Page.{Page}
 use Rattle.bx_tree_files.specs.declared.file.Name.{Name}
 use Rattle.bx_model.specs.declared.reply.Reply.TheVariants as Reply
 use Rattle.bx_model.specs.Directories.{behind, numbered}
 use Rattle.bx_tree_files.specs.Names.{names_of}
-use Rattle.bx_model.specs.Pages.{dots, filled}
+use Rattle.bx_tree_reads.specs.Pages.{dots, filled}
 use Rattle.bx_model.specs.Reading.{most_data}
-use Rattle.bx_model.proofs.Filled.{page_listed}
-use Rattle.bx_model.proofs.directories.page_behind.Goals as goal
+use Rattle.bx_tree_reads.proofs.Filled.{page_listed}
+use Rattle.bx_tree_reads.proofs.directories.page_behind.Goals as goal
 
 pub returns : goal.returns
 returns c =

@@ -82,7 +82,7 @@ fn page_behind(
 impl Page {
     /// Puts what a directory lists behind a cookie on the page until something doesn't fit; whether all fits.
     fn fill(
-        tree: &mut Tree,
+        &mut self,
         alloc: Global,
         directory: u64,
         parent: u64,
@@ -101,7 +101,7 @@ impl Page {
     /// Puts the directory itself and its parent on the page, as far as they are behind the cookie, until one doesn't
     /// fit; whether both fit.
     fn put_dots(
-        tree: &mut Tree,
+        &mut self,
         alloc: Global,
         directory: u64,
         parent: u64,
@@ -124,7 +124,7 @@ impl Page {
 
     /// Puts the entries behind the cookie on the page until one doesn't fit; whether all fit.
     fn put_names(
-        tree: &mut Tree,
+        &mut self,
         alloc: Global,
         names: &NameList,
         cookie: u32,
@@ -142,7 +142,7 @@ impl Page {
 
     /// Puts an entry on the page, if it fits; whether it does.
     fn put(
-        tree: &mut Tree,
+        &mut self,
         alloc: Global,
         number: u32,
         name: &[u8],

@@ -1,4 +1,4 @@
-//! The procedures that make files: CREATE, SYMLINK and MKDIR; and LINK.
+//! The procedures that make files: CREATE, SYMLINK and MKDIR.
 
 ghost use Rattle.std.specs.Prelude.{◌≡◌, ◌<◌, ◌^◌, ◌==◌, ◌&&◌, nat_lt, true, false, if◌then◌else◌, IfOk, IfSome, IsSome, MatchOption, MatchResult, OnErr, None, Some, Ok, Err};
 ghost use Rattle.bx_model.specs.declared.reply.Reply.TheVariants.{Status as ReplyStatus};

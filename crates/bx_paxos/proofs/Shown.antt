@@ -33,6 +33,9 @@ found_alike devices sectors other found held same is = record { in_cell = cell_s
 abbrev pub AreAsLong : List ℕ → List ℕ → Type 0
 AreAsLong sizes more = (d : ℕ) → d < 3 → slice_index more d ≡ slice_index sizes d
 
+back : (sizes more : List ℕ) → AreAsLong sizes more → AreAsLong more sizes
+back sizes more lengths d low = sym (lengths d low)
+
 pub as_long : (sizes more : List ℕ) → more ≡ sizes → AreAsLong sizes more
 as_long sizes more same d low = ap (λ (l : List ℕ). slice_index l d) same
 
@@ -41,30 +44,33 @@ module _ (sizes more : List ℕ) (lengths : (d : ℕ) → d < 3 → slice_index 
   whole_alike : (n : ℕ) → IsWhole sizes n → IsWhole more n
   whole_alike n is = record { low = is.low; long_enough = subst (λ (k : ℕ). replica_sectors ≤ k) (sym (lengths n is.low)) is.long_enough }
 
-  own_alike : (image other : Image) (n : ℕ) (label : Label) → ((d : ℕ) → d < 3 → other d 0 ≡ image d 0) → IsOwnLabel sizes image n label → IsOwnLabel more other n label
-  own_alike image other n label same own = record { whole = whole_alike n own.whole; spells = subst (SpellsLabel label) (sym (same n own.whole.low)) own.spells; names = own.names }
+  own_alike : (image other : Image) (n : ℕ) (label : Label) → ((d : ℕ) → IsWhole sizes d → other d 0 ≡ image d 0) → IsOwnLabel sizes image n label → IsOwnLabel more other n label
+  own_alike image other n label same own = record { whole = whole_alike n own.whole; spells = subst (SpellsLabel label) (sym (same n own.whole)) own.spells; names = own.names }
 
-first_alike : (sizes more : List ℕ) (image other : Image) (first : Label) → AreAsLong sizes more → ((d : ℕ) → d < 3 → other d 0 ≡ image d 0) → IsFirstLabel sizes image first → IsFirstLabel more other first
+pub first_alike : (sizes more : List ℕ) (image other : Image) (first : Label) → AreAsLong sizes more → ((d : ℕ) → IsWhole sizes d → other d 0 ≡ image d 0) → IsFirstLabel sizes image first → IsFirstLabel more other first
 first_alike sizes more image other first lengths same is = record {
   own = own_alike sizes more lengths image other first.disk first same is.own;
-  least = λ n label before own. is.least n label before (own_alike more sizes (λ d low. sym (lengths d low)) other image n label (λ d low. sym (same d low)) own);
+  least = λ n label before own. is.least n label before (own_alike more sizes (back sizes more lengths) other image n label (λ d whole. sym (same d (whole_alike more sizes (back sizes more lengths) d whole))) own);
 }
 
-label_alike : (devices : ℕ) (sizes more : List ℕ) (image other : Image) (n : ℕ) → AreAsLong sizes more → ((d : ℕ) → d < 3 → other d 0 ≡ image d 0) → IsLabelled devices sizes image n → IsLabelled devices more other n
+pub label_alike : (devices : ℕ) (sizes more : List ℕ) (image other : Image) (n : ℕ) → AreAsLong sizes more → ((d : ℕ) → IsWhole sizes d → other d 0 ≡ image d 0) → IsLabelled devices sizes image n → IsLabelled devices more other n
 label_alike devices sizes more image other n lengths same is = record {
   whole = whole_alike sizes more lengths n is.whole;
   first = is.first;
   is_first = first_alike sizes more image other is.first lengths same is.is_first;
   devices_are = is.devices_are;
-  spells = subst (SpellsLabel (label_on is.first n)) (sym (same n is.whole.low)) is.spells;
+  spells = subst (SpellsLabel (label_on is.first n)) (sym (same n is.whole)) is.spells;
 }
 
-unread_alike : (devices : ℕ) (sizes more : List ℕ) (image other : Image) (n : ℕ) → AreAsLong sizes more → ((d : ℕ) → d < 3 → other d 0 ≡ image d 0) → ((s : ℕ) → other n s ≡ image n s) → IsUnread devices sizes image n → IsUnread devices more other n
+pub unread_alike : (devices : ℕ) (sizes more : List ℕ) (image other : Image) (n : ℕ) → AreAsLong sizes more → ((d : ℕ) → IsWhole sizes d → other d 0 ≡ image d 0) → (IsWhole sizes n → (s : ℕ) → other n s ≡ image n s) → IsUnread devices sizes image n → IsUnread devices more other n
 unread_alike devices sizes more image other n lengths labels same is = record {
-  none = λ found held label there. is.none found held (label_alike devices more sizes other image n (λ d low. sym (lengths d low)) (λ d low. sym (labels d low)) label) (found_alike devices (other n) (image n) found held (λ s. sym (same s)) there);
+  none = λ found held label there.
+      let to_whole = whole_alike more sizes (back sizes more lengths) in
+      is.none found held (label_alike devices more sizes other image n (back sizes more lengths) (λ d whole. sym (labels d (to_whole d whole))) label)
+      (found_alike devices (other n) (image n) found held (λ s. sym (same (to_whole n label.whole) s)) there);
 }
 
-shows_alike : (devices : ℕ) (origin : Origin) (was : Option Held) (sizes more : List ℕ) (image other : Image) (n : ℕ) → AreAsLong sizes more → ((d : ℕ) → d < 3 → other d 0 ≡ image d 0) → ((s : ℕ) → other n s ≡ image n s) → ShowsOne devices origin was sizes image n → ShowsOne devices origin was more other n
+shows_alike : (devices : ℕ) (origin : Origin) (was : Option Held) (sizes more : List ℕ) (image other : Image) (n : ℕ) → AreAsLong sizes more → ((d : ℕ) → IsWhole sizes d → other d 0 ≡ image d 0) → ((s : ℕ) → other n s ≡ image n s) → ShowsOne devices origin was sizes image n → ShowsOne devices origin was more other n
 shows_alike devices Made was sizes more image other n lengths labels same (found, held, is) = (found, held, found_alike devices (image n) (other n) found held same is)
 shows_alike devices (FoundAs number) was sizes more image other n lengths labels same (held, e, is) = (
   held,
@@ -78,10 +84,10 @@ shows_alike devices (FoundAs number) was sizes more image other n lengths labels
     as_found = is.as_found;
   },
 )
-shows_alike devices Apart was sizes more image other n lengths labels same (none, is) = (none, unread_alike devices sizes more image other n lengths labels same is)
+shows_alike devices Apart was sizes more image other n lengths labels same (none, is) = (none, unread_alike devices sizes more image other n lengths labels (λ whole. same) is)
 
 -- the cell stands as it did, or was put, and labels are as they were
-shows_put : (devices : ℕ) (origin : Origin) (was : Option Held) (sizes more : List ℕ) (image other : Image) (n : ℕ) (before after : Found) (raw : Held) → AreAsLong sizes more → ((d : ℕ) → d < 3 → other d 0 ≡ image d 0) → cell_in (image n) 1 ≡ Some before → TakesPart origin before.number
+shows_put : (devices : ℕ) (origin : Origin) (was : Option Held) (sizes more : List ℕ) (image other : Image) (n : ℕ) (before after : Found) (raw : Held) → AreAsLong sizes more → ((d : ℕ) → IsWhole sizes d → other d 0 ≡ image d 0) → cell_in (image n) 1 ≡ Some before → TakesPart origin before.number
     → cell_in (other n) 1 ≡ Some after → SpellsHeld raw after.value devices → IsPutOn before after → ShowsOne devices origin was sizes image n → ShowsOne devices origin was more other n
 shows_put devices Made was sizes more image other n before after raw lengths labels at part stands spells put is = (after, raw, record { in_cell = stands; spells = spells })
 shows_put devices (FoundAs number) was sizes more image other n before after raw lengths labels at part stands spells put (held, e, is) = (
@@ -162,8 +168,8 @@ module _ (v : Voters) (was : ℕ → Option Held) where
   shows_at old more n image before after raw lengths shown out had part stands spells put = record {
     each = λ m low. elim (eqb_tells m n) [
       | inl same ↦ subst (λ (k : ℕ). ShowsOne (length v.first.devices) (v.origins k) (was k) more image k) (sym same.1)
-          (shows_put (length v.first.devices) (v.origins n) (was n) old.sizes more (outer old n image) image n before after raw lengths (outer_labels old n image) (had.each (outer old n image) sure) part stands spells put (here.each n (subst (λ (k : ℕ). k < 3) same.1 low)))
-      | inr apart ↦ shows_alike (length v.first.devices) (v.origins m) (was m) old.sizes more (outer old n image) image m lengths (outer_labels old n image) (λ s. outer_other old n image m s apart.1) (here.each m low)
+          (shows_put (length v.first.devices) (v.origins n) (was n) old.sizes more (outer old n image) image n before after raw lengths (λ d whole. outer_labels old n image d whole.low) (had.each (outer old n image) sure) part stands spells put (here.each n (subst (λ (k : ℕ). k < 3) same.1 low)))
+      | inr apart ↦ shows_alike (length v.first.devices) (v.origins m) (was m) old.sizes more (outer old n image) image m lengths (λ d whole. outer_labels old n image d whole.low) (λ s. outer_other old n image m s apart.1) (here.each m low)
     ];
   }
     where
@@ -191,7 +197,7 @@ module _ (v : Voters) (was : ℕ → Option Held) where
   shown_fewer old new lengths implies each = record {
     each = λ image has.
         let here = each.each image (implies image has) in
-        record { each = λ n low. shows_alike (length v.first.devices) (v.origins n) (was n) old.sizes new.sizes image image n lengths (λ d less. refl) (λ s. refl) (here.each n low) };
+        record { each = λ n low. shows_alike (length v.first.devices) (v.origins n) (was n) old.sizes new.sizes image image n lengths (λ d whole. refl) (λ s. refl) (here.each n low) };
   }
 
   -- other disks don't matter
@@ -218,7 +224,7 @@ module _ (v : Voters) (was : ℕ → Option Held) where
   shown_elsewhere x y lengths same labels each = record {
     each = λ image has.
         let here = each.each (near x image) (near_has x y image same labels has) in
-        record { each = λ n low. shows_alike (length v.first.devices) (v.origins n) (was n) x.sizes y.sizes (near x image) image n lengths.each (λ d less. near_at x image d 0 less) (λ s. near_at x image n s low) (here.each n low) };
+        record { each = λ n low. shows_alike (length v.first.devices) (v.origins n) (was n) x.sizes y.sizes (near x image) image n lengths.each (λ d whole. near_at x image d 0 whole.low) (λ s. near_at x image n s low) (here.each n low) };
   }
 
 -- ---- the beginning

@@ -104,9 +104,9 @@ impl Paxos {
     }
 
     /// Begins with the state that the disks are read as, which every machine knows then; each is to start again before it does anything. The
-    /// answer is the greatest boot in the cells of replicas that are labelled. `NoMajority` exactly where the disk of a replica isn't there, fewer
-    /// than two are labelled and have a cell that can be read, or no index is left behind the state; else `Spent` exactly where the greatest boot is
-    /// that one, and is above 4611686018427387903. After an error all is as it was.
+    /// answer is the greatest boot in the cells of replicas that are labelled; one whose disk isn't there, or lacks sectors, has no label.
+    /// `NoMajority` exactly where fewer than two are labelled and have a cell that can be read, or no index is left behind the state; else `Spent`
+    /// exactly where the greatest boot is that one, and is above 4611686018427387903. After an error all is as it was.
     pub fn open<R: Rack>(&mut self, rack: &mut R) -> Result<u64, OpenError>
         ensures keeps { R.tells rack.old → IfOk result (λ boot. Keeps self.new (R.state rack.new) (found_register (knows self.new (Replica 0)) boot)) }
         ensures found { R.tells rack.old → OnOk result (ReadsState self.old.made (R.state rack.old).sizes (R.state rack.old).reads (knows self.new (Replica 0))) }

@@ -1,6 +1,6 @@
 -- Why disks are read as nothing: too few replicas count, no index is left, or no boot.
-use Rattle.std.proofs.Common.{◌≡◌, ◌≢◌, ℕ, zero, suc, ◌+◌, ◌<◌, ◌≤◌, ◌⊎◌, inl, inr, Bool, true, false, List, length, Option, Some, None, Result, Ok, Err, refl, sym, ap, subst, ◌∙◌, arith}
-use Rattle.std.specs.Prelude.{IfOk, IsErrOf, OnOk, max, slice_index}
+use Rattle.std.proofs.Common.{◌≡◌, ◌≢◌, ℕ, ◌+◌, ◌<◌, ◌≤◌, ◌⊎◌, inl, inr, List, length, Option, Some, None, Result, Ok, Err, refl, sym, ap, subst, ◌∙◌, arith}
+use Rattle.std.specs.Prelude.{IfOk, IsErrOf, OnOk, max}
 use Rattle.std.proofs.lemmas.Bool.{cases_lt}
 use Rattle.bx_acceptor.proofs.Taking.{one_found}
 use Rattle.bx_agreement.proofs.Order.{in_common}

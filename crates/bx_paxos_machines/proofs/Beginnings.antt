@@ -281,7 +281,7 @@ found_place : (made : GlobalState) (m : Machine) → IsNew made m → KnowsPlace
 found_place made (IsReplica r) is = is.knows
 found_place made (Other p) is = tt
 
-pub finds_keeping : (g : Cluster) (x : Disks) (was : ℕ → Option Held) (boot : ℕ) → IsCluster g → AreNew g.first g.machines → HasFound g.first (origin_in g.origins) was → EachSure x (StandsAsFound g.first (origin_in g.origins) was) → Keeps g x (found_register g.first boot)
+pub finds_keeping : (g : Cluster) (x : Disks) (was : ℕ → Option Held) (boot : ℕ) → IsCluster g → AreNew g.first g.machines → HasFound g.first (origin_in g.origins) was → EachSure x (StandsAsFound g.first (origin_in g.origins) was x.sizes) → Keeps g x (found_register g.first boot)
 finds_keeping g x was boot is are found stands = record {
   is = is;
   fits = found_begun (voters_of g) x was boot is.first_allowed found stands (λ me. idle_at g.first g.machines (named me) (new_idle g.first g.machines are));

@@ -52,11 +52,11 @@ leaves_both before now left since P Q one other = record {
 }
 
 -- .. while a replica's cell was put
-pub put_moments : (v : Voters) (x : Disks) (past : RegisterPast) (n before now : ℕ) (left since : ℕ → Image → Type 0) → n < 3 → LeavesOnly before now left since (ReadsNext v.first past) → LeavesOnly before now left since (HasSure x n 1 20)
+pub put_moments : (v : Voters) (x : Disks) (past : RegisterPast) (n before now : ℕ) (left since : ℕ → Image → Type 0) → n < 3 → LeavesOnly before now left since (ReadsNext v.first past x.sizes) → LeavesOnly before now left since (HasSure x n 1 20)
     → LeavesOnly before now left since (ReadsOnly (ReadsState v.first) x (IsNext past.proposed (last past.chain)))
 put_moments v x past n before now left since low reads beside =
-    leaves_implies before now left since (λ image. ReadsNext v.first past image × HasSure x n 1 20 image) (ReadsOnly (ReadsState v.first) x (IsNext past.proposed (last past.chain)))
-    (leaves_both before now left since (ReadsNext v.first past) (HasSure x n 1 20) reads beside) (λ image both. record {
+    leaves_implies before now left since (λ image. ReadsNext v.first past x.sizes image × HasSure x n 1 20 image) (ReadsOnly (ReadsState v.first) x (IsNext past.proposed (last past.chain)))
+    (leaves_both before now left since (ReadsNext v.first past x.sizes) (HasSure x n 1 20) reads beside) (λ image both. record {
       members = λ d s far sure. both.1.outside.elsewhere d s (λ same. absurd (omega (arith, far, low, same))) sure;
       labels = λ d below. label image both.1 d;
       read = both.0;

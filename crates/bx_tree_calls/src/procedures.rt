@@ -7,9 +7,9 @@ ghost use Rattle.bx_tree_files.specs.Times.{time_of as time_of_moment};
 
 use bx_base::OutOfMemory;
 use bx_model::{Args, Call, Reply, Tree};
-use bx_tree_changes::{remove, rmdir, setattr, write};
+use bx_tree_changes::{link, remove, rmdir, setattr, write};
 use bx_tree_files::Sattr;
-use bx_tree_making::{create, link, mkdir, symlink};
+use bx_tree_making::{create, mkdir, symlink};
 use bx_tree_moves::rename;
 use bx_tree_reads::{getattr, lookup, mount, plain, read, readdir, readlink, statfs};
 

@@ -1,14 +1,15 @@
 //! Directories whose entries calls change.
 
-ghost use Rattle.std.specs.Prelude.{◌≡◌, MatchResult, IfOk, Ok, Err, Some, nat_lt};
+ghost use Rattle.std.specs.Prelude.{◌≡◌, ◌<◌, MatchResult, MatchOption, IfOk, Ok, Err, Some, None, nat_lt};
 ghost use Rattle.std.specs.Option.{option_copied};
 ghost use Rattle.bx_tree_files.specs.Entries.{entry_named};
 ghost use Rattle.bx_tree_files.specs.Files.{IsFile, file_at};
-ghost use Rattle.bx_model.specs.Making.{directory_to_change as directory_of_call};
+ghost use Rattle.bx_model.specs.Making.{directory_to_change as directory_of_call, entry_errors};
 ghost use Rattle.bx_tree_files.specs.Names.{names_of, next_of};
 ghost use Rattle.bx_model.specs.Removing.{has_entries as has_any};
 
-use bx_model::{ACCES, Call, NOTDIR, STALE, Tree, Want, may};
+use crate::writing::is_full;
+use bx_model::{ACCES, Call, DQUOT, NOSPC, NOTDIR, STALE, Tree, Want, may};
 use bx_tree_files::{Body, DIRECTORY, File, Name, is_bad};
 use bx_tree_reads::named;
 
@@ -60,8 +61,22 @@ pub fn has_entries(directory: &File) -> bool
     }
 }
 
+/// The last errors of a procedure that makes an entry: no number is left for it, or no space.
+pub fn entry_error(directory: &File, spare: u32) -> Option<u32>
+    ensures found { MatchOption result (entry_errors directory.now spare ≡ Ok tt) (λ status. entry_errors directory.now spare ≡ Err status) }
+    ensures number { result ≡ None → next_of directory.now.body < 4294967295 }
+{
+    if !has_number(directory) {
+        return Some(DQUOT);
+    }
+    if is_full(spare) {
+        return Some(NOSPC);
+    }
+    None
+}
+
 /// Whether a directory has a number left for an entry.
-pub fn has_number(directory: &File) -> bool
+fn has_number(directory: &File) -> bool
     ensures { result ≡ nat_lt (next_of directory.now.body) 4294967295 }
 {
     match &directory.body {

@@ -163,7 +163,7 @@ fn write_error(call: &Call, file: &File, offset: u32, count: usize, spare: u32) 
 }
 
 /// Whether there are too few free blocks for a procedure that may take some.
-pub fn is_full(spare: u32) -> bool
+pub(crate) fn is_full(spare: u32) -> bool
     ensures { result ≡ is_full_at spare }
 {
     spare < ENOUGH

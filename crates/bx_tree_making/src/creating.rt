@@ -14,11 +14,9 @@ ghost use Rattle.bx_tree_files.specs.Changes.{most_bytes};
 use crate::making::{is_unused, make};
 use bx_base::{OutOfMemory, Raw};
 use bx_handles::file_handle;
-use bx_model::{
-    ACCES, Call, DQUOT, EXIST, FBIG, NFS_OK, NOSPC, NOTDIR, Reply, STALE, Tree, Want, may,
-};
+use bx_model::{ACCES, Call, EXIST, FBIG, NFS_OK, NOTDIR, Reply, STALE, Tree, Want, may};
 use bx_tree_changes::{
-    MOST_BYTES, directory_to_change, edit_and_tell, entry_of, has_number, is_full, resize_error,
+    MOST_BYTES, directory_to_change, edit_and_tell, entry_error, entry_of, resize_error,
 };
 use bx_tree_files::{
     Body, Content, DIRECTORY, Edit, File, LINK, MODES, NameList, REGULAR, Sattr, given_or, is_bad,
@@ -249,11 +247,8 @@ fn place_for<'a>(
     if entry_of(directory, name).is_some() {
         return Err(EXIST);
     }
-    if !has_number(directory) {
-        return Err(DQUOT);
-    }
-    if is_full(spare) {
-        return Err(NOSPC);
+    if let Some(status) = entry_error(directory, spare) {
+        return Err(status);
     }
     Ok(directory)
 }
@@ -270,13 +265,7 @@ fn create_error(call: &Call, directory: &File, sattr: &Sattr, spare: u32) -> Opt
     if is_given(sattr.size) && sattr.size > MOST_BYTES {
         return Some(FBIG);
     }
-    if !has_number(directory) {
-        return Some(DQUOT);
-    }
-    if is_full(spare) {
-        return Some(NOSPC);
-    }
-    None
+    entry_error(directory, spare)
 }
 
 /// A status where no file is made.

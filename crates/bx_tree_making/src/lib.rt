@@ -1,9 +1,7 @@
-//! The procedures that put entries into a file tree: CREATE, SYMLINK and MKDIR with the files that they make, and LINK.
+//! The procedures that make files in a file tree, with the entries that name them: CREATE, SYMLINK and MKDIR.
 #![tactic(auto)]
 
 mod creating;
-mod linking;
 mod making;
 
 pub use creating::{create, mkdir, symlink};
-pub use linking::link;

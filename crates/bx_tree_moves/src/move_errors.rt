@@ -6,8 +6,8 @@ ghost use Rattle.bx_model.specs.Moves.{way_errors};
 ghost use Rattle.bx_tree_files.specs.Names.{next_of, parent_of as parent_of_body};
 ghost use Rattle.bx_model.specs.Renaming.{changes_parent as changes_parent_of, move_errors, parent_at as parent_of_handle, replace_errors};
 
-use bx_model::{DQUOT, ISDIR, NAMETOOLONG, NOSPC, NOTDIR, NOTEMPTY, PERM, Tree};
-use bx_tree_changes::{has_entries, has_number, is_full};
+use bx_model::{ISDIR, NAMETOOLONG, NOTDIR, NOTEMPTY, PERM, Tree};
+use bx_tree_changes::{entry_error, has_entries};
 use bx_tree_files::{Body, DIRECTORY, File};
 
 /// The most moves to a parent on the way from a directory to the root.
@@ -37,13 +37,7 @@ pub(crate) fn move_error(
     if found.is_some() {
         return found;
     }
-    if !has_number(target) {
-        return Some(DQUOT);
-    }
-    if is_full(spare) {
-        return Some(NOSPC);
-    }
-    None
+    entry_error(target, spare)
 }
 
 /// The first error of a directory's move into another: that one is below it, or too deep.

@@ -7,9 +7,9 @@ ghost use Rattle.bx_tree_files.specs.Changes.{entered, linked};
 ghost use Rattle.bx_model.specs.Making.{link as link_of};
 ghost use Rattle.bx_model.specs.Steps.{done};
 
+use crate::places::{directory_to_change, entry_error, entry_of};
 use bx_base::OutOfMemory;
-use bx_model::{Call, DQUOT, EXIST, NFS_OK, NOSPC, PERM, Reply, STALE, Tree};
-use bx_tree_changes::{directory_to_change, entry_of, has_number, is_full};
+use bx_model::{Call, DQUOT, EXIST, NFS_OK, PERM, Reply, STALE, Tree};
 use bx_tree_files::{DIRECTORY, Edit, Files};
 use bx_tree_reads::named;
 
@@ -42,11 +42,11 @@ pub fn link(
     if entry_of(directory, name).is_some() {
         return Ok(Reply::Status(EXIST));
     }
-    if file.nlink >= MOST_LINKS || !has_number(directory) {
+    if file.nlink >= MOST_LINKS {
         return Ok(Reply::Status(DQUOT));
     }
-    if is_full(spare) {
-        return Ok(Reply::Status(NOSPC));
+    if let Some(status) = entry_error(directory, spare) {
+        return Ok(Reply::Status(status));
     }
     let (parent, handle) = (directory.handle, file.handle);
     tree.files.link(parent, name, handle, now)?;

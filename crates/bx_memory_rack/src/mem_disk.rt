@@ -5,6 +5,7 @@ ghost use Rattle.std.specs.Ordering.{nat_cmp};
 ghost use Rattle.std.specs.BTreeMap.{get};
 ghost use Rattle.bx_disk.specs.Disks.{is_among, sector_of, zeros, AreSectors};
 ghost use Rattle.bx_memory_rack.specs.Cells.{cell_at, blank_cell, crashed_cell, written_cell};
+ghost use Rattle.bx_memory_rack.specs.Memory.{IsBlank};
 
 use crate::cells::{self, Cells};
 use bx_base::OutOfMemory;
@@ -23,8 +24,6 @@ pub struct MemDisk {
 }
 
 impl MemDisk {
-    ghost use Rattle.bx_memory_rack.specs.Memory.{IsBlank};
-
     /// A disk of zeros, when the record is so long.
     pub fn blank(alloc: Global, size: u64, synced: usize) -> MemDisk
         ensures { IsBlank result size synced }
@@ -46,8 +45,7 @@ impl MemDisk {
         ensures same { (s : ℕ) → cell_at self.new.cells s ≡ cell_at self.old.cells s }
         ensures there { OnOk result ((s : ℕ) → sector ≤ s → s < sector + count → IsSome (get nat_cmp self.new.cells s)) }
     {
-        cells::make_room(alloc, &mut self.cells, sector, count)?;
-        Ok(())
+        cells::make_room(alloc, &mut self.cells, sector, count)
     }
 
     /// Writes sectors, once the record is so long.

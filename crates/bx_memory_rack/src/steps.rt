@@ -143,8 +143,7 @@ pub fn crash_disk(
 {
     entries.reserve(disks.len() + 1)?;
     entries.push_reserved(Entry::Crashed(disk, how));
-    let place = &mut disks[disk as usize];
-    place.crash(how, entries.len());
+    disks[disk as usize].crash(how, entries.len());
     Ok(())
 }
 
@@ -163,7 +162,6 @@ pub fn blank_disk(
 {
     entries.reserve(disks.len() + 1)?;
     entries.push_reserved(Entry::Blanked(disk));
-    let place = &mut disks[disk as usize];
-    place.clear(entries.len());
+    disks[disk as usize].clear(entries.len());
     Ok(())
 }

@@ -9,13 +9,13 @@ use Rattle.bx_memory_rack.proofs.steps.crash_disk.Goals as goal
 
 pub returns-clause-kept : goal.returns-clause-kept
 returns-clause-kept c = λ before kept.
-    let got : slice_get c.args.disks.now.items c.args.disk ≡ Some c.index_mut-place.result.now = slice_get_read _ _ _ _ refl c.requires c.index_mut-place.ensures.value in
+    let got : slice_get c.args.disks.now.items c.args.disk ≡ Some c.index_mut.result.now = slice_get_read _ _ _ _ refl c.requires c.index_mut.ensures.value in
     let long : c.len-2.result ≡ length c.args.entries.now.items + 1 =
     let items = ap (λ (l : List Entry). length l) c.push_reserved.ensures.items in
     let sum = length-append c.reserve.new.self.items (Crashed c.args.disk c.args.how ∷ []) in
     let was = ap (λ (l : List Entry). length l) c.in_ok-reserve.ensures.items in
     omega arith in
-    kept_crashed before c.args.disks.now.items c.args.disk c.args.how c.index_mut-place.result.now c.crash.new.self (length c.args.entries.now.items) c.len-2.result got
+    kept_crashed before c.args.disks.now.items c.args.disk c.args.how c.index_mut.result.now c.crash.new.self (length c.args.entries.now.items) c.len-2.result got
     c.crash.ensures.size c.crash.ensures.cells c.crash.ensures.synced c.crash.ensures.dirty long kept
 
 pub returns-clause-room : goal.returns-clause-room

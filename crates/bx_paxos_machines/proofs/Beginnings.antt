@@ -1,6 +1,6 @@
 -- Machines that are put into a list one behind the other, and disks that are only synced.
 use Rattle.std.proofs.Common.{◌≡◌, ℕ, ◌+◌, ◌-◌, ◌^◌, ◌<◌, ◌≤◌, ◌⊎◌, inl, inr, ◌==◌, Bool, true, false, List, [], ◌∷◌, ◌++◌, length, Option, Some, None, Result, Ok, Err, OnOk, refl, sym, ap, subst, ◌∙◌, arith}
-use Rattle.std.specs.Prelude.{IsSome, IsSomeAnd, nat_lt, if◌then◌else◌}
+use Rattle.std.specs.Prelude.{IsSome, IsSomeAnd, nat_lt, if◌then◌else◌, slice_index}
 use Rattle.std.proofs.lemmas.Bool.{false≢true}
 use Rattle.std.proofs.lemmas.Bool.Decides.{nat_tests}
 use Rattle.bx_acceptor.proofs.Taking.{first_is_held}
@@ -15,6 +15,7 @@ use Rattle.bx_cell.specs.Cells.{Known}
 use Rattle.bx_cell.specs.Formats.{first}
 use Rattle.bx_cell.specs.Halves.{cell_in}
 use Rattle.bx_cell.specs.Images.{EachSure, HasAllSure}
+use Rattle.bx_disk.specs.Counts.{NoneFalls}
 use Rattle.bx_disk.specs.Disks.{Disks, Image}
 use Rattle.bx_facts.proofs.Machines.{is_itself}
 use Rattle.bx_facts.specs.Machines.{IsMachine, is_same}
@@ -39,7 +40,7 @@ use Rattle.bx_paxos_machines.specs.declared.machine.Machine.TheVariants.{Replica
 use Rattle.bx_paxos_machines.specs.Beginning.{AreBegun, AreIdle, AreMachines, AreNew, HasFirst, IsBegun, IsCalm, IsNew, name_in}
 use Rattle.bx_paxos_machines.specs.Cluster.{Cluster, IsCluster, named, needs, needs_in, voters_of}
 use Rattle.bx_paxos_machines.specs.Keeps.{Keeps}
-use Rattle.bx_paxos_machines.specs.Parts.{AreParts, HasCells, IsOut, IsPart, KnowsPlace, course_in, course_of, machine_at, name_of, sectors_for}
+use Rattle.bx_paxos_machines.specs.Parts.{AreParts, HasCells, HasDisk, IsOut, IsPart, IsWhole, KnowsPlace, course_in, course_of, machine_at, name_of, sectors_for}
 
 -- ---- disks
 
@@ -65,6 +66,14 @@ calm_cells x y (Other p) calm has = tt
 pub calm_begun : (made : GlobalState) (x y : Disks) (ms : List Machine) → IsCalm x y → AreBegun made x ms → AreBegun made y ms
 calm_begun made x y [] calm are = tt
 calm_begun made x y (m ∷ ms) calm are = (record { course = are.0.course; cells = calm_cells x y m calm are.0.cells; knows = are.0.knows }, calm_begun made x y ms calm are.1)
+
+pub none_twice : {a b c : ℕ} {f g h : ℕ → ℕ} → NoneFalls a b f g → NoneFalls b c g h → NoneFalls a c f h
+none_twice one other = record { all = let low = one.all in let high = other.all in omega (arith, low, high); each = λ d. let low = one.each d in let high = other.each d in omega (arith, low, high) }
+
+-- a rack with the disks of three replicas has that of the machine
+pub has_disk : (sizes : List ℕ) (m : Machine) → IsWhole m → ((n : ℕ) → n < 3 → 21 ≤ slice_index sizes n) → HasDisk sizes m
+has_disk sizes (IsReplica r) whole room = room r.acceptor.replica whole.low
+has_disk sizes (Other p) whole room = tt
 
 -- ---- a cell with the first state
 

@@ -1,6 +1,6 @@
 use Rattle.bx_chunks.proofs.Marks.{marks_in}
 use Rattle.bx_chunks.proofs.HeldDrafts.{marks_held}
-use Rattle.bx_chunks.proofs.marking.mark_dead.Goals as goal
+use Rattle.bx_marks.proofs.marking.mark_dead.Goals as goal
 
 pub returns-clause-map : goal.returns-clause-map
 returns-clause-map g c = λ areas truth within same is.

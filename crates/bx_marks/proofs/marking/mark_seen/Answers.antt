@@ -5,7 +5,7 @@ use Rattle.bx_records.specs.Drafts.{with_block}
 use Rattle.bx_truth.specs.Chunks.{own_block}
 use Rattle.bx_chunks.specs.Putting.{PutsAs, own_of}
 use Rattle.bx_chunks.proofs.Marks.{marks_at}
-use Rattle.bx_chunks.proofs.marking.mark_seen.Goals as goal
+use Rattle.bx_marks.proofs.marking.mark_seen.Goals as goal
 
 pub returns-clause-at : goal.returns-clause-at
 returns-clause-at g c =

@@ -16,8 +16,8 @@ ghost use Rattle.bx_facts.specs.Inputs.{AreAmong, IsOwners, SendsOnly};
 ghost use Rattle.bx_facts.specs.Machines.{IsMachine};
 ghost use Rattle.bx_facts.specs.Pasts.{MayRestart, MayTake};
 
-use crate::input::Input;
 use bx_base::{Actor, Mode, OutOfMemory};
+use bx_facts::Input;
 use bx_global::{Change, GlobalState};
 use bx_post::Outbox;
 

@@ -9,11 +9,8 @@ ghost use Rattle.bx_views.specs.Truths.{IsTruth, Truth, with_draft};
 ghost use Rattle.bx_chunks.specs.Allocating.{NeedsFairly};
 ghost use Rattle.bx_chunks.specs.Marking.{FindsDeadAt, FindsDeadIn, IsLowestDead, MarksAt, MarksIn};
 
-use crate::areas::{own_block, slots_of};
-use crate::error::ChunkError;
-use crate::freeing::slots_of_given;
-use crate::putting::put_area;
 use bx_base::Mode;
+use bx_chunks::{ChunkError, own_block, put_area, slots_of, slots_of_given};
 use bx_handles::ChunkHandle;
 use bx_layout::AreaBlock;
 use bx_places::SLOTS;

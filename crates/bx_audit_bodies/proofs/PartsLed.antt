@@ -1,16 +1,19 @@
 -- What the root of a tree leads to.
-use Rattle.std.proofs.Common.{◌≡◌, ⊎_elim, ℕ, ◌<◌, arith, List, [], ◌∷◌, length, get_or, refl, sym, ap, ◌∙◌, subst}
-use Rattle.std.specs.Prelude.{Contains, slice_index_or}
+use Rattle.std.proofs.Common.{◌≡◌, ⊎_elim, ℕ, ◌<◌, arith, List, [], ◌∷◌, length, get_or, take, refl, sym, ap, ◌∙◌, subst}
+use Rattle.std.specs.Prelude.{All, Contains, slice_index_or}
 use Rattle.std.specs.Int.{w64, to_be_bytes}
+use Rattle.std.proofs.lemmas.List.{get_or_default}
 use Rattle.std.proofs.lemmas.List.Elements.{Contains-append_cases}
 use Rattle.bx_page.specs.declared.entry.Entry.{Entry}
 use Rattle.bx_truth.specs.PageTrees.{Chunks, Node, IsIn, IsTree, entries_of, map_of}
+use Rattle.bx_audit_files.specs.Inodes.{IsBlockAt}
+use Rattle.bx_layout.specs.declared.block.Block.{Block}
 use Rattle.bx_audit_files.proofs.PairedEntries.{of_all}
 use Rattle.bx_audit_trees.specs.Leading.{AreLedTo, IsLedTo, Below}
 use Rattle.bx_audit_trees.specs.Trees.{tree_of}
 use Rattle.bx_audit_trees.proofs.NodeLists.{all_in, at_place}
-use Rattle.bx_audit_bodies.specs.Parts.{IsOfOne}
-use Rattle.bx_audit_bodies.specs.Pieces.{ArePieces, IsPieceEntry, piece_in}
+use Rattle.bx_audit_bodies.specs.Parts.{IsFirstPiece, IsOfOne}
+use Rattle.bx_audit_bodies.specs.Pieces.{ArePieces, HasPiece, IsPieceEntry, piece_in}
 use Rattle.bx_audit_bodies.specs.declared.pieces.Piece.{Piece}
 use Rattle.bx_audit_bodies.proofs.Members.{from_map, in_contains}
 
@@ -50,3 +53,16 @@ one_led chunks root wanted pieces led one = subst (IsLedTo chunks root) (sym one
 -- the one at a place
 pub one_at : (pieces : List Piece) (k : ℕ) (d : Piece) (wanted : ℕ) → k < length pieces → wanted ≡ (get_or pieces k d).handle → IsOfOne pieces wanted
 one_at pieces k d wanted less is = record { piece = get_or pieces k d; there = in_contains (get_or pieces k d) pieces (at_place pieces k d less); is = is }
+
+-- the first one without a block
+pub first_piece : (chunks : Chunks) (pieces : List Piece) (k : ℕ) (d : Piece) (wanted : ℕ) → k < length pieces → All (HasPiece chunks) (take k pieces)
+    → ((block : Block) → IsBlockAt chunks (get_or pieces k d).handle 3 block → ⊥) → wanted ≡ (get_or pieces k d).handle → IsFirstPiece chunks pieces wanted
+first_piece chunks pieces k d wanted less before never is = record {
+  place = k;
+  piece = get_or pieces k d;
+  there = less;
+  is = get_or_default pieces k (get_or pieces k d) d less;
+  before = before;
+  none = λ has. never has.block has.at;
+  wanted_is = is;
+}

@@ -38,6 +38,10 @@ module _ (chunks : Chunks) (handle : ℕ) (inode : Inode) (at : IsInodeAt chunks
   same owner stored found is =
       one_inode stored.inode inode is.block.payload is.inode.spells (subst (λ (b : Block). HasInode inode b) (some_same at.block is.block (sym at.chunk ∙ is.chunk)) at.has).spells
 
+  -- nor does it name another inode
+  pub same_at : (other : Inode) → IsInodeAt chunks handle other → other ≡ inode
+  same_at other is = one_inode other inode is.block.payload is.has.spells (subst (λ (b : Block). HasInode inode b) (some_same at.block is.block (sym at.chunk ∙ is.chunk)) at.has).spells
+
   body_of : (owner : ℕ → Owner) (stored : Stored) (found : Option File) → IsStored chunks owner handle stored found → IsBodyOf chunks owner handle inode stored.tree found
   body_of owner stored found is = record {
     file = subst (λ (i : Inode). IsFileOr chunks owner handle (record { inode = i; tree = stored.tree }) found) (same owner stored found is) is.file;

@@ -1,10 +1,11 @@
 -- The chunks that a walk over a file meets.
-use Rattle.std.specs.Prelude.{◌≡◌, ◌⊎◌, ℕ, List, Contains}
+use Rattle.std.specs.Prelude.{◌≡◌, ◌⊎◌, ◌<◌, ℕ, List, All, Contains, length, slice_index_or, take}
 use Rattle.bx_audit_bodies.specs.declared.pieces.Piece.{Piece}
+use Rattle.bx_audit_bodies.specs.Pieces.{ArePieces, HasPiece, IsPieceEntry}
 use Rattle.bx_audit_files.specs.Inodes.{IsInodeAt}
 use Rattle.bx_audit_trees.specs.Leading.{IsLedTo}
 use Rattle.bx_layout.specs.declared.inode.Inode.{Inode}
-use Rattle.bx_truth.specs.PageTrees.{Chunks}
+use Rattle.bx_truth.specs.PageTrees.{Chunks, PageTree, IsTree, map_of}
 
 -- the handle is the inode's own, or the root of its tree leads to it
 abbrev pub IsPartWith : Chunks → ℕ → ℕ → ℕ → Type 0
@@ -19,3 +20,24 @@ pub record IsOfOne (pieces : List Piece) (part : ℕ) : Type 0 where
   pub piece : Piece
   pub there : Contains pieces piece
   pub is : part ≡ piece.handle
+
+-- Of some pieces this is the first whose handle names no block of a piece: that handle is wanted.
+pub record IsFirstPiece (chunks : Chunks) (pieces : List Piece) (wanted : ℕ) : Type 0 where
+  pub place : ℕ
+  pub piece : Piece
+  pub there : place < length pieces
+  pub is : slice_index_or pieces place piece ≡ piece
+  pub before : All (HasPiece chunks) (take place pieces)
+  pub none : HasPiece chunks piece → ⊥
+  pub wanted_is : wanted ≡ piece.handle
+
+-- Under a root is no tree of pieces. What is wanted is a page to which the root leads, where no tree is there; or the root, where an entry of the
+-- tree that is there names no piece.
+pub data IsTornTree (chunks : Chunks) (root wanted : ℕ) : Type 0 where
+  Page : ((tree : PageTree) → IsTree chunks root tree → ⊥) → IsLedTo chunks root wanted → IsTornTree chunks root wanted
+  Entry : (tree : PageTree) → IsTree chunks root tree → (All IsPieceEntry (map_of tree) → ⊥) → wanted ≡ root → IsTornTree chunks root wanted
+
+-- Which part of a dead inode is wanted, whose tree has this root: its tree is read first, and then piece by piece, in the order of its entries.
+pub data IsTornDead (chunks : Chunks) (root wanted : ℕ) : Type 0 where
+  Tree : IsTornTree chunks root wanted → IsTornDead chunks root wanted
+  Block : (tree : PageTree) (pieces : List Piece) → IsTree chunks root tree → ArePieces (map_of tree) pieces → IsFirstPiece chunks pieces wanted → IsTornDead chunks root wanted

@@ -2,7 +2,7 @@
 
 ghost use Rattle.std.specs.Prelude.{◌≡◌, ◌≤◌, ◌<◌, ◌^◌, ℕ, All, Contains, Option, IfOk, IfSome, IsErrOf};
 ghost use Rattle.bx_audit_bodies.specs.Bodies.{HasBodyOf, HasPieces, IsBodyOf, file_with as file_with_body};
-ghost use Rattle.bx_audit_bodies.specs.Parts.{IsPartWith};
+ghost use Rattle.bx_audit_bodies.specs.Parts.{IsPartWith, IsTornDead, IsTornTree};
 ghost use Rattle.bx_audit_bodies.specs.Pieces.{IsPieceEntry};
 ghost use Rattle.bx_audit_bodies.specs.declared.pieces.Piece.{Piece as Part};
 ghost use Rattle.bx_audit_bodies.specs.Reading.{AreEntriesApart};
@@ -47,6 +47,7 @@ fn pieces_under<B: Blocks>(
         → IfTorn result (λ at found wanted. (tree : PageTree) → IsTree chunks root tree → All IsPieceEntry (map_of tree) → ⊥) }
     ensures led { (chunks : Chunks) → Shows (B.tells blocks.old) areas (B.stands blocks.old) chunks → IfOk result (λ x. (piece : Part) → Contains x.0.items piece → IsLedTo chunks root piece.handle) }
     ensures leads { (chunks : Chunks) → Shows (B.tells blocks.old) areas (B.stands blocks.old) chunks → IfTorn result (λ at found wanted. IsLedTo chunks root wanted) }
+    ensures first { (chunks : Chunks) → Shows (B.tells blocks.old) areas (B.stands blocks.old) chunks → IfTorn result (λ at found wanted. IsTornTree chunks root wanted) }
     ensures shows { (chunks : Chunks) → Shows (B.tells blocks.old) areas (B.stands blocks.old) chunks → Shows (B.tells blocks.new) areas (B.stands blocks.new) chunks }
     ensures counts { Counts result (B.faults blocks.old) (B.faults blocks.new) }
     ensures keeps_areas { B.areas blocks.new ≡ B.areas blocks.old }
@@ -179,6 +180,7 @@ pub(crate) fn dead_of<B: Blocks>(
     ensures torn { (chunks : Chunks) → Shows (B.tells blocks.old) areas (B.stands blocks.old) chunks
         → IfTorn result (λ at found wanted. (owner : ℕ → Owner) (tree : PageTree) (file : Option Kept) → IsBodyOf chunks owner handle inode.now tree file → ⊥) }
     ensures part { (chunks : Chunks) → Shows (B.tells blocks.old) areas (B.stands blocks.old) chunks → IfTorn result (λ at found wanted. IsPartWith chunks handle inode.now.tree wanted) }
+    ensures first { (chunks : Chunks) → Shows (B.tells blocks.old) areas (B.stands blocks.old) chunks → IfTorn result (λ at found wanted. IsTornDead chunks inode.now.tree wanted) }
     ensures shows { (chunks : Chunks) → Shows (B.tells blocks.old) areas (B.stands blocks.old) chunks → Shows (B.tells blocks.new) areas (B.stands blocks.new) chunks }
     ensures counts { Counts result (B.faults blocks.old) (B.faults blocks.new) }
     ensures keeps_areas { B.areas blocks.new ≡ B.areas blocks.old }

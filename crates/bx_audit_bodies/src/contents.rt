@@ -2,7 +2,7 @@
 
 ghost use Rattle.std.specs.Prelude.{◌≡◌, ◌+◌, ◌*◌, ◌^◌, ◌<◌, ◌≤◌, ◌↔◌, ℕ, List, All, take, slice_index, IfOk, OnOk, IsTrue, length};
 ghost use Rattle.bx_audit_bodies.specs.Contents.{IsClear, PutsPiece, with_piece};
-ghost use Rattle.bx_audit_bodies.specs.Parts.{IsOfOne};
+ghost use Rattle.bx_audit_bodies.specs.Parts.{IsFirstPiece, IsOfOne};
 ghost use Rattle.bx_audit_bodies.specs.Pieces.{AreApart, HasPiece, piece_among};
 ghost use Rattle.bx_audit_files.specs.Inodes.{IsBlockAt};
 ghost use Rattle.bx_audit_trees.specs.Errors.{IfTorn, Counts};
@@ -61,7 +61,7 @@ pub(crate) fn bytes_of<B: Blocks>(
     Ok(content)
 }
 
-/// Reads the block of each piece. Torn exactly where one has none.
+/// Reads the block of each piece. Torn exactly where one has none: of the first that hasn't.
 pub(crate) fn read_pieces<B: Blocks>(
     blocks: &mut B,
     areas: u16,
@@ -73,6 +73,7 @@ pub(crate) fn read_pieces<B: Blocks>(
     ensures ok { (chunks : Chunks) → Shows (B.tells blocks.old) areas (B.stands blocks.old) chunks → OnOk result (All (HasPiece chunks) pieces.now) }
     ensures torn { (chunks : Chunks) → Shows (B.tells blocks.old) areas (B.stands blocks.old) chunks → IfTorn result (λ at found wanted. All (HasPiece chunks) pieces.now → ⊥) }
     ensures names { IfTorn result (λ at found wanted. IsOfOne pieces.now wanted) }
+    ensures first { (chunks : Chunks) → Shows (B.tells blocks.old) areas (B.stands blocks.old) chunks → IfTorn result (λ at found wanted. IsFirstPiece chunks pieces.now wanted) }
     ensures shows { (chunks : Chunks) → Shows (B.tells blocks.old) areas (B.stands blocks.old) chunks → Shows (B.tells blocks.new) areas (B.stands blocks.new) chunks }
     ensures counts { Counts result (B.faults blocks.old) (B.faults blocks.new) }
     ensures keeps_areas { B.areas blocks.new ≡ B.areas blocks.old }

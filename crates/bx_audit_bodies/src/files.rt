@@ -1,10 +1,12 @@
 //! The file of an inode.
 
 ghost use Rattle.std.specs.Prelude.{◌≡◌, ◌≤◌, ℕ, None, Option, IfOk, IfSome};
-ghost use Rattle.bx_audit_bodies.specs.Parts.{IsPartOf};
+ghost use Rattle.bx_audit_bodies.specs.Parts.{IsPartOf, IsTornDead};
 ghost use Rattle.bx_audit_bodies.specs.Reading.{AreEntriesApart, IsReadAs, IsStored};
 ghost use Rattle.bx_audit_trees.specs.Errors.{IfTorn, Counts};
 ghost use Rattle.bx_audit_trees.specs.Shown.{Shows};
+ghost use Rattle.bx_audit_files.specs.Inodes.{IsInodeAt};
+ghost use Rattle.bx_layout.specs.declared.inode.Inode.{Inode};
 ghost use Rattle.bx_tree_files.specs.declared.file.File.{File as Kept};
 ghost use Rattle.bx_tree_files.specs.Files.{IsFile};
 ghost use Rattle.bx_truth.specs.PageTrees.{Chunks};
@@ -45,6 +47,7 @@ pub fn file_of<B: Blocks>(
         → IfTorn result (λ at found wanted. (owner : ℕ → Owner) (stored : Stored) (file : Option Kept) → IsStored chunks owner handle stored file → ⊥) }
     ensures names { (chunks : Chunks) → Shows (B.tells blocks.old) areas (B.stands blocks.old) chunks → chunks handle ≡ None → IfTorn result (λ at found wanted. wanted ≡ handle) }
     ensures part { (chunks : Chunks) → Shows (B.tells blocks.old) areas (B.stands blocks.old) chunks → IfTorn result (λ at found wanted. IsPartOf chunks handle wanted) }
+    ensures dead { (chunks : Chunks) → Shows (B.tells blocks.old) areas (B.stands blocks.old) chunks → (inode : Inode) → IsInodeAt chunks handle inode → inode.kind ≡ 0 → IfTorn result (λ at found wanted. IsTornDead chunks inode.tree wanted) }
     ensures shows { (chunks : Chunks) → Shows (B.tells blocks.old) areas (B.stands blocks.old) chunks → Shows (B.tells blocks.new) areas (B.stands blocks.new) chunks }
     ensures counts { Counts result (B.faults blocks.old) (B.faults blocks.new) }
     ensures keeps_areas { B.areas blocks.new ≡ B.areas blocks.old }

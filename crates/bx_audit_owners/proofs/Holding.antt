@@ -78,9 +78,13 @@ module _ (before : Holdings) (inode : ℕ) (holder : Holder) (claims : List Clai
       → HasOther mid last.handle (holder_by inode last.piece) → Clashes before inode holder claims
   one_clash count last mid is within adds has = record {
     claim = last;
-    there = (count, within, is);
+    place = count;
+    there = within;
+    is = is;
+    earlier = mid;
+    put = adds;
     other = has.other;
-    held = held_wider count (length claims) last.handle has.other (omega (arith, within)) (adds.only last.handle has.other has.there);
+    held = has.there;
     apart = has.apart;
   }
 

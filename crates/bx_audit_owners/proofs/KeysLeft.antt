@@ -9,7 +9,7 @@ use Rattle.std.proofs.lemmas.Map.Keys.{below_from_sorted, sorted_tail}
 use Rattle.std.proofs.lemmas.Map.Lookups.{exact_unsigned}
 use Rattle.std.proofs.lemmas.Map.Views.{btree_map_contains_key_iff}
 use Rattle.bx_audit_owners.specs.declared.holders.Holder.{Holder}
-use Rattle.bx_audit_owners.specs.declared.own_blocks.OwnBlock.{OwnBlock}
+use Rattle.bx_audit_slots.specs.declared.own_blocks.OwnBlock.{OwnBlock}
 use Rattle.bx_audit_owners.specs.Holding.{Holdings, holdings_of}
 use Rattle.bx_audit_owners.specs.Words.{IsFirstTornIn, IsInOwn, IsTornIn}
 

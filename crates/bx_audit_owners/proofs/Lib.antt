@@ -1,10 +1,10 @@
-pub mod InUse
 pub mod InOrder
 pub mod Holding
 pub mod Founds
 pub mod Owners
 pub mod Steps
 pub mod Wholes
+pub mod Headed
 pub mod Ends
 pub mod Told
 pub mod Walking

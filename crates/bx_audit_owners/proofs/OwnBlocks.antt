@@ -2,10 +2,11 @@
 use Rattle.std.proofs.Common.{◌≡◌, ℕ, ◌<◌, ◌≤◌, ◌⊎◌, ⊎_elim, inl, inr, arith, List, sym, ap, ◌∙◌, subst, Some, None}
 use Rattle.std.specs.Prelude.{◌≢◌, slice_get}
 use Rattle.std.proofs.lemmas.Option.{slice_get_cases, slice_get_within}
-use Rattle.bx_audit_owners.specs.declared.own_blocks.OwnBlock.{OwnBlock}
-use Rattle.bx_audit_owners.specs.declared.own_blocks.OwnBlock.TheVariants.{Slots, Wrong}
+use Rattle.bx_audit_slots.specs.declared.own_blocks.OwnBlock.{OwnBlock}
+use Rattle.bx_audit_slots.specs.declared.own_blocks.OwnBlock.TheVariants.{Slots, Wrong}
 use Rattle.bx_audit_owners.specs.Holding.{Holdings}
-use Rattle.bx_audit_owners.specs.Words.{AreOwn, AreWorded, HasWord, IsFirstTornIn, IsFirstWrongAt, IsInOwn, IsRightOwn, IsTornIn, IsTornOwn, IsWrongAt, IsWrongOwn, IsWrongWord}
+use Rattle.bx_audit_slots.specs.OwnBlocks.{AreOwn}
+use Rattle.bx_audit_owners.specs.Words.{AreWorded, HasWord, IsFirstTornIn, IsFirstWrongAt, IsInOwn, IsRightOwn, IsTornIn, IsTornOwn, IsWrongAt, IsWrongOwn, IsWrongWord}
 use Rattle.bx_audit_trees.specs.Shown.{IsOfSlot}
 use Rattle.bx_handles.specs.Handles.{parts_of}
 use Rattle.bx_homes.specs.Slots.{HasHandle}

@@ -119,7 +119,7 @@ module _ (chunks : Chunks) (owner : ℕ → Owner) (stored : ℕ → Stored) (fi
     pub no_clash : (handle : ℕ) (file : Option File) (reading : Reading) (block : Block) → IsReadSo chunks handle file reading → chunks handle ≡ Some block → block.kind ≡ 1
         → Clashes holdings handle (holder_for file) reading.claims → ⊥
     no_clash handle file reading block read chunk kind clash = clash.apart (one_holder clash.other handle clash.claim.piece
-        (sym (owned clash.claim.handle clash.other clash.held) ∙ only.agrees clash.claim clash.there))
+        (sym (owned clash.claim.handle clash.other (clash.put.only clash.claim.handle clash.other clash.held)) ∙ only.agrees clash.claim (clash.place, clash.there, clash.is)))
       where
         own : owner handle ≡ Inodes
         own = owns_itself handle block chunk kind
@@ -131,10 +131,13 @@ module _ (chunks : Chunks) (owner : ℕ → Owner) (stored : ℕ → Stored) (fi
         of_inode None = refl
         of_inode (Some f) = refl
 
-        owned : (at : ℕ) (held : Holder) → IsHeldAfter holdings handle (holder_for file) reading.claims (length reading.claims) at held → owner at ≡ owner_of held
+        owned : (at : ℕ) (held : Holder) → IsHeldAfter holdings handle (holder_for file) reading.claims clash.place at held → owner at ≡ owner_of held
         owned at held (inl was) = agrees at held was
         owned at held (inr (inl here)) = ap owner here.0 ∙ own ∙ of_inode file ∙ ap owner_of (sym here.1)
-        owned at held (inr (inr claim)) = ap owner claim.2 ∙ only.agrees claim.0 claim.1 ∙ sym (owner_same handle claim.0.piece) ∙ ap owner_of (sym claim.3)
+        owned at held (inr (inr claim)) =
+            let less = claim.1.1 in
+            let within = clash.there in
+            ap owner claim.2 ∙ only.agrees claim.0 (claim.1.0, omega (arith, less, within), claim.1.2) ∙ sym (owner_same handle claim.0.piece) ∙ ap owner_of (sym claim.3)
 
     -- ---- a chunk that nothing has
 

@@ -1,49 +1,70 @@
 -- What is told of a block that is torn, once slots are right.
-use Rattle.std.proofs.Common.{◌≡◌, ℕ, ◌≤◌, inl, inr, Bool, true, false, List, sym, ap, ◌∙◌, subst, refl, Option, Some, None}
-use Rattle.std.specs.Prelude.{◌≢◌, Contains}
-use Rattle.bx_audit_owners.specs.declared.slots.UsedSlot.{UsedSlot}
+use Rattle.std.proofs.Common.{◌≡◌, ℕ, ◌<◌, ◌≤◌, ◌⊎◌, ⊎_elim, inl, inr, arith, true, List, length, sym, ap, ◌∙◌, subst, Some}
+use Rattle.std.specs.Prelude.{Contains, slice_index_or}
+use Rattle.bx_audit_owners.specs.declared.holders.Holder.TheVariants.{Dead as OfDead}
 use Rattle.bx_audit_owners.specs.Dead.{IsNoDeadOf}
 use Rattle.bx_audit_owners.specs.Found.{IsFound}
 use Rattle.bx_audit_owners.specs.Holding.{Holdings, IsHeld, IsTornSlot}
-use Rattle.bx_audit_owners.specs.UsedSlots.{AreUsed, IsHandleOf, IsUsedSlot}
-use Rattle.bx_audit_owners.specs.Whole.{IsRootUnused, IsWrongDead, IsWrongSlot}
-use Rattle.bx_audit_owners.proofs.Wholes.{in_block, slot_for}
-use Rattle.bx_layout.specs.declared.block.Block.{Block}
-use Rattle.bx_layout.specs.Areas.{in_use}
-use Rattle.bx_model.specs.Opening.{root_handle}
+use Rattle.bx_audit_owners.specs.Whole.{IsWrongDead, IsWrongSlot}
+use Rattle.bx_audit_owners.proofs.Holding.{one_there}
+use Rattle.bx_audit_slots.specs.declared.slots.UsedSlot.{UsedSlot}
+use Rattle.bx_audit_slots.specs.Numbers.{IsBlockOf, IsToldOf}
+use Rattle.bx_audit_slots.specs.UsedSlots.{AreInOrder, AreUsed, IsUsedSlot}
+use Rattle.bx_audit_slots.proofs.InUse.{in_block}
 use Rattle.bx_tree_files.specs.declared.file.File.{File}
-use Rattle.bx_truth.specs.Chunks.{IsChunked, IsSlot, chunks_of, word_at}
+use Rattle.bx_truth.specs.Chunks.{block_at, chunks_of}
 use Rattle.bx_views.specs.Truths.{Truth}
 
-module _ (areas : ℕ) (truth : Truth) (few : areas ≤ 64) (slots : List UsedSlot) (are : AreUsed areas truth slots) where
-  -- the header of a block names the handle of its slot, or none where that isn't in use
-  header_is : IsChunked areas truth → (block handle : ℕ) → IsSlot areas block → IsHandleOf slots block handle → handle ≡ (truth block).handle
-  header_is chunked block handle is (inl (slot, there, at, same)) =
-      let s = are.each slot there in
-      let here : s.0 ≡ block = sym (in_block areas truth few s.0 slot s.1) ∙ at in
-      sym same ∙ s.1.handle_is ∙ sym (chunked.used s.0 s.1.there s.1.used) ∙ ap (λ (n : ℕ). (truth n).handle) here
-  header_is chunked block handle is (inr (none, zero)) = by (in_use (word_at truth block)) refl
-    where
-      by : (t : Bool) → in_use (word_at truth block) ≡ t → handle ≡ (truth block).handle
-      by true used = let s = are.all block is used in absurd (none s.0 s.1 (in_block areas truth few block s.0 s.2))
-      by false unused = zero ∙ sym (chunked.unused block is unused)
+three : (i j : ℕ) → (i < j) ⊎ ((i ≡ j) ⊎ (j < i))
+three i j = grind arith
 
-  pub root_unused : (at found wanted : ℕ) → IsChunked areas truth → ((slot : UsedSlot) → Contains slots slot → slot.handle ≢ root_handle) → (at ≡ 0) × IsHandleOf slots 0 found × (wanted ≡ root_handle)
-      → IsRootUnused areas truth at found wanted
-  root_unused at found wanted chunked none tells = record {
-    unused = by (chunks_of areas truth root_handle) refl;
-    at_is = tells.0;
-    found_is = λ is. header_is chunked 0 found is tells.1;
-    wanted_is = tells.2;
+-- of slots in order, the one with the lower block comes first
+comes_first : (slots : List UsedSlot) (i j : ℕ) (a b : UsedSlot) → AreInOrder slots → i < length slots → j < length slots → slice_index_or slots i a ≡ a → slice_index_or slots j b ≡ b
+    → block_at a.handle < block_at b.handle → i < j
+comes_first slots i j a b rise in_i in_j is_a is_b less = ⊎_elim (λ before. before) (λ rest. absurd (⊎_elim same behind rest)) (three i j)
+  where
+    at_b : slice_index_or slots j a ≡ b
+    at_b = one_there slots j a b in_j ∙ is_b
+
+    same : i ≡ j → ⊥
+    same e =
+        let equal : block_at a.handle ≡ block_at b.handle = ap (λ (s : UsedSlot). block_at s.handle) (sym is_a ∙ ap (λ (n : ℕ). slice_index_or slots n a) e ∙ at_b) in
+        omega (arith, equal, less)
+
+    behind : j < i → ⊥
+    behind after =
+        let more : block_at (slice_index_or slots j a).handle < block_at (slice_index_or slots i a).handle = rise j i a after in_i in
+        let here : block_at (slice_index_or slots j a).handle ≡ block_at b.handle = ap (λ (s : UsedSlot). block_at s.handle) at_b in
+        let there : block_at (slice_index_or slots i a).handle ≡ block_at a.handle = ap (λ (s : UsedSlot). block_at s.handle) is_a in
+        omega (arith, more, here, there, less)
+
+module _ (areas : ℕ) (truth : Truth) (few : areas ≤ 64) (slots : List UsedSlot) (are : AreUsed areas truth slots) where
+  -- a marked slot has no dead inode
+  pub wrong_dead : (files : List File) (at found wanted : ℕ) → IsNoDeadOf (chunks_of areas truth) files slots wanted → IsToldOf areas (IsBlockOf truth) wanted at found → IsWrongDead areas truth at found wanted
+  wrong_dead files at found wanted is told = record {
+    holdings = is.holdings;
+    files = files;
+    is_found = is.found;
+    block = itself.0;
+    slot = is.slot;
+    there = itself.1;
+    marked = is.marked;
+    before = earlier;
+    wrong = is.wrong;
+    told = told;
   }
     where
-      by : (o : Option Block) → chunks_of areas truth root_handle ≡ o → chunks_of areas truth root_handle ≡ None
-      by None is = is
-      by (Some b) some = let s = slot_for areas truth few slots are root_handle b some in absurd (none s.0 s.1 s.3)
+      itself : (block : ℕ) × IsUsedSlot areas truth block is.slot
+      itself = are.each is.slot (is.place, is.there, is.is)
 
-  -- a marked slot has no dead inode
-  pub wrong_dead : (files : List File) (wanted : ℕ) → IsNoDeadOf (chunks_of areas truth) files slots wanted → IsWrongDead areas truth wanted
-  wrong_dead files wanted is = let s = are.each is.slot is.there in record { files = files; block = s.0; slot = is.slot; there = s.1; marked = is.marked; wrong = is.wrong }
+      earlier : (block : ℕ) (other : UsedSlot) → block < itself.0 → IsUsedSlot areas truth block other → other.dead ≡ true → is.holdings other.handle ≡ Some OfDead
+      earlier block other less here dead =
+          let o = are.all block here.there here.used in
+          let same : o.0.handle ≡ other.handle = o.2.handle_is ∙ sym here.handle_is in
+          let of_o = in_block areas truth few block o.0 o.2 in
+          let of_slot = in_block areas truth few itself.0 is.slot itself.1 in
+          let first = comes_first slots o.1.0 is.place o.0 is.slot are.rise o.1.1 is.there o.1.2 is.is (omega (arith, of_o, of_slot, less)) in
+          ap is.holdings (sym same) ∙ is.before o.1.0 o.0 first o.1.2 (o.2.dead_is ∙ sym here.dead_is ∙ dead)
 
   pub wrong_slot : (holdings : Holdings) (files : List File) (slot : UsedSlot) (at found wanted : ℕ) → IsFound (chunks_of areas truth) holdings files → Contains slots slot
       → IsTornSlot slot at found wanted → (IsHeld holdings slot → ⊥) → IsWrongSlot areas truth at found wanted

@@ -4,15 +4,18 @@ use Rattle.std.specs.Prelude.{◌↔◌, ◌≢◌, ◌&&◌, ◌==◌, if◌the
 use Rattle.std.proofs.lemmas.Bool.Decides.{nat_tests}
 use Rattle.bx_audit_owners.specs.declared.holders.Holder.{Holder}
 use Rattle.bx_audit_owners.specs.declared.holders.Holder.TheVariants.{File as OfFile, Dead as OfDead, Page as OfPage, Piece as OfPiece}
-use Rattle.bx_audit_owners.specs.declared.slots.UsedSlot.{UsedSlot}
+use Rattle.bx_audit_slots.specs.declared.slots.UsedSlot.{UsedSlot}
 use Rattle.bx_audit_bodies.specs.Reading.{IsStored}
-use Rattle.bx_audit_owners.specs.Dead.{IsNoDead}
+use Rattle.bx_audit_owners.specs.Dead.{IsNoDead, Held, Live, Taken, Unread}
 use Rattle.bx_audit_owners.specs.Found.{IsInode, IsFound, AreAllRead, AreOrdered, HaveFiles}
 use Rattle.bx_audit_owners.specs.Holding.{Holdings, IsHeld, owner_of}
-use Rattle.bx_audit_owners.specs.Told.{IsTold}
-use Rattle.bx_audit_owners.specs.UsedSlots.{IsUsedSlot, AreUsed, IsFreeMarked}
-use Rattle.bx_audit_owners.specs.Walks.{HaveTree, IsTreeOf}
+use Rattle.bx_audit_slots.specs.Told.{IsTold}
+use Rattle.bx_audit_slots.specs.UsedSlots.{IsUsedSlot, AreUsed, IsFreeMarked}
+use Rattle.bx_audit_owners.specs.Walks.{HaveTree, IsTreeOf, IsWalked}
+use Rattle.bx_audit_slots.proofs.InUse.{in_block, small}
+use Rattle.bx_audit_slots.proofs.Numbers.{slot_of}
 use Rattle.bx_audit_owners.proofs.Steps.{clash_has_none}
+use Rattle.bx_audit_owners.proofs.Walking.{live_has_no_dead, other_has_no_dead}
 use Rattle.bx_audit_owners.proofs.Owners.{owner_in, owns_itself, found_owner, found_stored, no_file, stored_here, only_here, agrees, unowned}
 use Rattle.bx_audit_trees.specs.Shown.{IsOfSlot, NamesBlock, Shows}
 use Rattle.bx_homes.specs.Slots.{AreBlocks}
@@ -57,9 +60,6 @@ is_dead chunks owner handle stored (Some f) none is = absurd cc
 
 -- ---- slots in use, and chunks
 
-pub small : (word : ℕ) → generation_in word < 2 ^ 32
-small word = omega arith
-
 module _ (areas : ℕ) (truth : Truth) (few : areas ≤ 64) where
   all_true : (t u e : Bool) (b : Block) → t ≡ true → u ≡ true → e ≡ true → (if (t && (u && e)) then Some b else None) ≡ Some b
   all_true true true true b is_t is_u is_e = refl
@@ -74,14 +74,10 @@ module _ (areas : ℕ) (truth : Truth) (few : areas ≤ 64) where
       by area slot = grind (arith, nat_tests, area, slot)
 
   module _ (block : ℕ) (slot : UsedSlot) (is : IsUsedSlot areas truth block slot) where
-    -- the handle of a slot is of its block
-    pub in_block : block_at slot.handle ≡ block
-    in_block = ap block_at is.handle_is ∙ block_back areas block (generation_in (word_at truth block)) few is.there (small (word_at truth block))
-
-    -- and names it
+    -- the handle of a slot names its block
     pub names_block : chunks_of areas truth slot.handle ≡ Some (truth block)
     names_block =
-        subst (λ (n : ℕ). (if (is_slot areas n && (in_use (word_at truth n) && (slot.handle == handle_of n (generation_in (word_at truth n))))) then Some (truth n) else None) ≡ Some (truth block)) (sym in_block)
+        subst (λ (n : ℕ). (if (is_slot areas n && (in_use (word_at truth n) && (slot.handle == handle_of n (generation_in (word_at truth n))))) then Some (truth n) else None) ≡ Some (truth block)) (sym (in_block areas truth few block slot is))
         (all_true (is_slot areas block) (in_use (word_at truth block)) (slot.handle == handle_of block (generation_in (word_at truth block))) (truth block) (slot_true block is.there) is.used
         (eq_true slot.handle (handle_of block (generation_in (word_at truth block))) is.handle_is))
 
@@ -110,16 +106,25 @@ module _ (areas : ℕ) (truth : Truth) (few : areas ≤ 64) where
       by : (area slot generation : ℕ) → area < areas → slot < 960 → generation < 2 ^ 32 → handle ≡ area * 2 ^ 48 + slot * 2 ^ 32 + generation → IsOfSlot areas handle
       by area slot generation is_area is_slot fits e = (omega (arith, is_area, is_slot, fits, e), omega (arith, is_area, is_slot, fits, e))
 
-  slot_of : (handle : ℕ) → IsOfSlot areas handle → IsSlot areas (block_at handle)
-  slot_of handle is = by (handle / 281474976710656) (handle / 4294967296 % 65536) is.0 is.1
+  -- where slots are right, a block is the chunk of the handle in its header
+  pub named_chunk : (is_told : Type 0) (stands : ℕ → Block → Type 0) → IsTold is_told areas stands truth → ((at : ℕ) (x y : Block) → is_told → stands at x → stands at y → x ≡ y)
+      → (handle : ℕ) (block : Block) → NamesBlock areas stands handle block → chunks_of areas truth handle ≡ Some block
+  named_chunk is_told stands told one handle block names =
+      let at_slot = slot_of areas handle names.slot in
+      let same = one (block_at handle) (truth (block_at handle)) block told.told (told.blocks (block_at handle) (slot_block areas (block_at handle) at_slot)) names.there in
+      by at_slot (ap (λ (b : Block). b.handle) same ∙ names.header) (in_use (word_at truth (block_at handle))) refl ∙ ap Some same
     where
-      by : (area slot : ℕ) → area < areas → slot < 960 → IsSlot areas (1024 * area + slot)
-      by area slot is_area is_slot = record { area = omega (arith, is_area, is_slot); slot = omega (arith, is_area, is_slot) }
+      by : IsSlot areas (block_at handle) → (truth (block_at handle)).handle ≡ handle → (t : Bool) → in_use (word_at truth (block_at handle)) ≡ t → chunks_of areas truth handle ≡ Some (truth (block_at handle))
+      by at_slot header true used =
+          all_true (is_slot areas (block_at handle)) (in_use (word_at truth (block_at handle))) (handle == handle_of (block_at handle) (generation_in (word_at truth (block_at handle)))) (truth (block_at handle))
+          (slot_true (block_at handle) at_slot) used
+          (eq_true handle (handle_of (block_at handle) (generation_in (word_at truth (block_at handle)))) (sym header ∙ told.chunked.used (block_at handle) at_slot used))
+      by at_slot header false unused = absurd (names.some (sym header ∙ told.chunked.unused (block_at handle) at_slot unused))
 
   -- where slots are right, and the root is in use, chunks are those by the headers of blocks
   pub shows_at : (is_told : Type 0) (stands : ℕ → Block → Type 0) (b : Block) → IsTold is_told areas stands truth → ((at : ℕ) (x y : Block) → is_told → stands at x → stands at y → x ≡ y)
       → chunks_of areas truth root_handle ≡ Some b → Shows is_told areas stands (chunks_of areas truth)
-  shows_at is_told stands b told one root = record { told = told.told; each = each; all = all; none = zero }
+  shows_at is_told stands b told one root = record { told = told.told; each = each; all = named_chunk is_told stands told one; none = zero }
     where
       zero : chunks_of areas truth 0 ≡ None
       zero = by (chunks_of areas truth 0) refl
@@ -140,25 +145,19 @@ module _ (areas : ℕ) (truth : Truth) (few : areas ≤ 64) where
             header = ap (λ (b : Block). b.handle) (sym c.is_block) ∙ told.chunked.used (block_at handle) c.slot c.used ∙ sym c.is_handle;
           }
 
-      all : (handle : ℕ) (block : Block) → NamesBlock areas stands handle block → chunks_of areas truth handle ≡ Some block
-      all handle block names =
-          let at_slot = slot_of handle names.slot in
-          let same = one (block_at handle) (truth (block_at handle)) block told.told (told.blocks (block_at handle) (slot_block areas (block_at handle) at_slot)) names.there in
-          by at_slot (ap (λ (b : Block). b.handle) same ∙ names.header) (in_use (word_at truth (block_at handle))) refl ∙ ap Some same
-        where
-          by : IsSlot areas (block_at handle) → (truth (block_at handle)).handle ≡ handle → (t : Bool) → in_use (word_at truth (block_at handle)) ≡ t → chunks_of areas truth handle ≡ Some (truth (block_at handle))
-          by at_slot header true used =
-              all_true (is_slot areas (block_at handle)) (in_use (word_at truth (block_at handle))) (handle == handle_of (block_at handle) (generation_in (word_at truth (block_at handle)))) (truth (block_at handle))
-              (slot_true (block_at handle) at_slot) used
-              (eq_true handle (handle_of (block_at handle) (generation_in (word_at truth (block_at handle)))) (sym header ∙ told.chunked.used (block_at handle) at_slot used))
-          by at_slot header false unused = absurd (names.some (sym header ∙ told.chunked.unused (block_at handle) at_slot unused))
+  -- the root of what is found is in use
+  pub root_chunk : (chunks : Chunks) (holdings : Holdings) (files : List File) → IsWalked chunks holdings files → (b : Block) × (chunks root_handle ≡ Some b)
+  root_chunk chunks holdings files walked =
+      let f = file_or (file_at files root_handle) walked.root in
+      let s = found_stored chunks holdings files walked.found root_handle (subst IsInode (sym (walked.found.is_file root_handle f.0 f.1)) tt) in
+      (s.block, s.chunk)
 
-  pub root_shows : (is_told : Type 0) (stands : ℕ → Block → Type 0) (slots : List UsedSlot) (slot : UsedSlot) → IsTold is_told areas stands truth
-      → ((at : ℕ) (a b : Block) → is_told → stands at a → stands at b → a ≡ b) → AreUsed areas truth slots → Contains slots slot
-      → slot.handle ≡ root_handle → Shows is_told areas stands (chunks_of areas truth)
-  root_shows is_told stands slots slot told one are there root =
-      let s = are.each slot there in
-      shows_at is_told stands (truth s.0) told one (ap (chunks_of areas truth) (sym root) ∙ names_block s.0 slot s.1)
+  -- so chunks are those by the headers of blocks, where the walk found what it met
+  pub walked_shows : (is_told : Type 0) (stands : ℕ → Block → Type 0) (holdings : Holdings) (files : List File) → IsTold is_told areas stands truth → ((at : ℕ) (x y : Block) → is_told → stands at x → stands at y → x ≡ y)
+      → IsWalked (chunks_of areas truth) holdings files → Shows is_told areas stands (chunks_of areas truth)
+  walked_shows is_told stands holdings files told one walked =
+      let root = root_chunk (chunks_of areas truth) holdings files walked in
+      shows_at is_told stands root.0 told one root.1
 
 -- ---- where files stand
 
@@ -191,12 +190,6 @@ module _ (areas : ℕ) (truth : Truth) (few : areas ≤ 64) (tree : Tree) (stand
       → Shows is_told areas at_stand (chunks_of areas truth)
   tree_shows is_told at_stand told are one = shows_at areas truth few is_told at_stand root_block.0 record { told = told; blocks = are; chunked = stands.chunked } one root_block.1
 
-  -- the root is in use
-  pub root_used : (slots : List UsedSlot) → AreUsed areas truth slots → (slot : UsedSlot) × Contains slots slot × (slot.handle ≡ root_handle)
-  root_used slots are =
-      let s = slot_for areas truth few slots are root_handle root_block.0 root_block.1 in
-      (s.0, s.1, s.3)
-
   -- what is marked is a dead inode
   dead_stored : (block : ℕ) (slot : UsedSlot) → IsUsedSlot areas truth block slot → slot.dead ≡ true → IsStored (chunks_of areas truth) stands.owner slot.handle (stands.stored slot.handle) None
   dead_stored block slot is marked =
@@ -212,27 +205,32 @@ module _ (areas : ℕ) (truth : Truth) (few : areas ≤ 64) (tree : Tree) (stand
       no_file_at handle None file zero = refl
       no_file_at handle (Some f) file zero = absurd (not_dead (chunks_of areas truth) stands.owner handle (stands.stored handle) (Some f) (λ e. none_some None f refl (sym e)) file zero)
 
-  pub no_dead_not : (files : List File) (block : ℕ) (slot : UsedSlot) (wanted : ℕ) → IsUsedSlot areas truth block slot → slot.dead ≡ true → IsNoDead (chunks_of areas truth) files slot.handle wanted → ⊥
-  no_dead_not files block slot wanted is marked (inl unread) = unread.none stands.owner (stands.stored slot.handle) (dead_stored block slot is marked)
-  no_dead_not files block slot wanted is marked (inr taken) =
+  pub no_dead_not : (holdings : Holdings) (files : List File) (block : ℕ) (slot : UsedSlot) (wanted : ℕ) → IsFound (chunks_of areas truth) holdings files → IsUsedSlot areas truth block slot → slot.dead ≡ true
+      → IsNoDead (chunks_of areas truth) holdings slot.handle wanted → ⊥
+  no_dead_not holdings files block slot wanted found is marked (Held other there apart same) =
+      other_has_no_dead (chunks_of areas truth) holdings files found slot.handle other there apart stands.owner (stands.stored slot.handle) (dead_stored block slot is marked)
+  no_dead_not holdings files block slot wanted found is marked (Live file claims read same) =
+      live_has_no_dead (chunks_of areas truth) slot.handle (Some file) claims refl read stands.owner (stands.stored slot.handle) (dead_stored block slot is marked)
+  no_dead_not holdings files block slot wanted found is marked (Unread unread) = unread.none stands.owner (stands.stored slot.handle) (dead_stored block slot is marked)
+  no_dead_not holdings files block slot wanted found is marked (Taken taken) =
       let s = dead_stored block slot is marked in
-      clash_has_none (chunks_of areas truth) taken.holdings files slot.handle taken.claims taken.found None s.block taken.read s.chunk s.inode.kind taken.clash stands.owner stands.stored tree.files have_files
+      clash_has_none (chunks_of areas truth) holdings files slot.handle taken.claims found None s.block taken.read s.chunk s.inode.kind taken.clash stands.owner stands.stored tree.files have_files
 
   -- all inodes are found, once the files of the tree and those of the marked slots are
   pub all_read_by : (slots : List UsedSlot) (before now : Holdings) (files : List File) → AreUsed areas truth slots → IsFound (chunks_of areas truth) before files → tree.files ≡ files
-      → ((at : ℕ) → before at ≢ None → now at ≢ None) → ((slot : UsedSlot) → Contains slots slot → slot.dead ≡ true → now slot.handle ≢ None) → AreAllRead (chunks_of areas truth) now
+      → ((at : ℕ) (held : Holder) → before at ≡ Some held → now at ≡ Some held) → ((slot : UsedSlot) → Contains slots slot → slot.dead ≡ true → now slot.handle ≡ Some OfDead) → AreAllRead (chunks_of areas truth) now
   all_read_by slots before now files used found same still marked handle block chunk kind none = by (file_at tree.files handle) refl
     where
       own : stands.owner handle ≡ Inodes
       own = owns_itself (chunks_of areas truth) stands.owner stands.stored tree.files have_files handle block chunk kind
 
       by : (o : Option File) → file_at tree.files handle ≡ o → ⊥
-      by (Some f) is = still handle (λ not_before. none_some (before handle) OfFile not_before (found.is_file handle f (ap (λ (l : List File). file_at l handle) (sym same) ∙ is))) none
+      by (Some f) is = none_some (now handle) OfFile none (still handle OfFile (found.is_file handle f (ap (λ (l : List File). file_at l handle) (sym same) ∙ is)))
       by None is =
           let s = slot_for areas truth few slots used handle block chunk in
           let here = stored_here (chunks_of areas truth) stands.owner stands.stored tree.files have_files handle block chunk own in
           let dead = stands.marks.dead handle block chunk own (is_dead (chunks_of areas truth) stands.owner handle (stands.stored handle) (file_at tree.files handle) is here.file) in
-          marked s.0 s.1 (s.2.dead_is ∙ dead) (ap now s.3 ∙ none)
+          none_some (now s.0.handle) OfDead (ap now s.3 ∙ none) (marked s.0 s.1 (s.2.dead_is ∙ dead))
 
   module _ (holdings : Holdings) (found_files : List File) (found : IsFound (chunks_of areas truth) holdings found_files) where
     -- a slot that has a holder is marked where it is a dead inode

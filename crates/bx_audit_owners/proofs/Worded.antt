@@ -4,15 +4,15 @@ use Rattle.std.specs.Prelude.{◌≢◌}
 use Rattle.bx_audit_bodies.specs.Reading.{IsReadAs}
 use Rattle.bx_audit_owners.specs.declared.holders.Holder.{Holder}
 use Rattle.bx_audit_owners.specs.declared.holders.Holder.TheVariants.{File as OfFile, Dead as OfDead, Page as OfPage, Piece as OfPiece}
-use Rattle.bx_audit_owners.specs.declared.slots.UsedSlot.{UsedSlot}
+use Rattle.bx_audit_slots.specs.declared.slots.UsedSlot.{UsedSlot}
 use Rattle.bx_audit_owners.specs.Found.{IsInode}
 use Rattle.bx_audit_owners.specs.Holding.{Holdings, holder_by}
-use Rattle.bx_audit_owners.specs.UsedSlots.{IsUsedSlot}
+use Rattle.bx_audit_slots.specs.UsedSlots.{IsUsedSlot}
 use Rattle.bx_audit_owners.specs.Walks.{IsWalked}
 use Rattle.bx_audit_owners.specs.Words.{HasWord, IsMetChunk}
-use Rattle.bx_audit_owners.proofs.InUse.{area_is, slot_is}
+use Rattle.bx_audit_slots.proofs.InUse.{area_is, slot_is, small}
 use Rattle.bx_audit_owners.proofs.Owners.{found_stored}
-use Rattle.bx_audit_owners.proofs.Wholes.{mark_of, of_slot, small}
+use Rattle.bx_audit_owners.proofs.Wholes.{mark_of, of_slot}
 use Rattle.bx_handles.specs.Handles.{parts_of}
 use Rattle.bx_homes.specs.Slots.{AreBlocks}
 use Rattle.bx_layout.specs.declared.block.Block.{Block}

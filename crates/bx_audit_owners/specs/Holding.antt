@@ -5,7 +5,7 @@ use Rattle.std.specs.Ordering.{nat_cmp}
 use Rattle.bx_audit_bodies.specs.declared.claims.Claim.{Claim}
 use Rattle.bx_audit_owners.specs.declared.holders.Holder.{Holder}
 use Rattle.bx_audit_owners.specs.declared.holders.Holder.TheVariants.{File as OfFile, Dead as OfDead, Page as OfPage, Piece as OfPiece}
-use Rattle.bx_audit_owners.specs.declared.slots.UsedSlot.{UsedSlot}
+use Rattle.bx_audit_slots.specs.declared.slots.UsedSlot.{UsedSlot}
 use Rattle.bx_tree_files.specs.declared.file.File.{File}
 use Rattle.bx_truth.specs.Chunks.{block_at}
 use Rattle.bx_truth.specs.Stored.{Owner, Inodes, PageOf, DataOf}
@@ -63,12 +63,16 @@ pub record Adds (before : Holdings) (inode : ℕ) (holder : Holder) (claims : Li
   pub still : (at : ℕ) (held : Holder) → before at ≡ Some held → now at ≡ Some held
   pub only : (at : ℕ) (held : Holder) → now at ≡ Some held → IsHeldAfter before inode holder claims count at held
 
--- a claim is of a chunk that has another holder
+-- A claim is of a chunk that has another holder: the first such one, since those before it could be put beside what was found.
 pub record Clashes (before : Holdings) (inode : ℕ) (holder : Holder) (claims : List Claim) : Type 0 where
   pub claim : Claim
-  pub there : Contains claims claim
+  pub place : ℕ
+  pub there : place < length claims
+  pub is : slice_index_or claims place claim ≡ claim
+  pub earlier : Holdings
+  pub put : Adds before inode holder claims place earlier
   pub other : Holder
-  pub held : IsHeldAfter before inode holder claims (length claims) claim.handle other
+  pub held : earlier claim.handle ≡ Some other
   pub apart : other ≡ holder_by inode claim.piece → ⊥
 
 -- the chunk of a slot has a holder, and the slot is marked exactly where that is a dead inode

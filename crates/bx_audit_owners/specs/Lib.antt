@@ -1,5 +1,3 @@
-pub mod Told
-pub mod UsedSlots
 pub mod Holding
 pub mod Found
 pub mod Dead

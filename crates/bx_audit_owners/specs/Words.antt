@@ -1,9 +1,9 @@
 -- The words of the slots of chunks that the walk from the root meets.
-use Rattle.std.specs.Prelude.{◌≡◌, ◌≢◌, ◌⊎◌, ◌<◌, ◌≤◌, ℕ, true, false, List, length, slice_get, slice_index, Contains, Some, None}
+use Rattle.std.specs.Prelude.{◌≡◌, ◌≢◌, ◌⊎◌, ◌<◌, ◌≤◌, ℕ, true, false, List, slice_get, slice_index, Contains, Some, None}
 use Rattle.bx_audit_bodies.specs.declared.claims.Claim.{Claim}
 use Rattle.bx_audit_bodies.specs.Reading.{IsReadAs}
-use Rattle.bx_audit_owners.specs.declared.own_blocks.OwnBlock.{OwnBlock}
-use Rattle.bx_audit_owners.specs.declared.own_blocks.OwnBlock.TheVariants.{Slots, Wrong}
+use Rattle.bx_audit_slots.specs.declared.own_blocks.OwnBlock.{OwnBlock}
+use Rattle.bx_audit_slots.specs.declared.own_blocks.OwnBlock.TheVariants.{Slots, Wrong}
 use Rattle.bx_audit_owners.specs.Holding.{Holdings}
 use Rattle.bx_audit_owners.specs.Walks.{IsMet}
 use Rattle.bx_audit_trees.specs.Shown.{IsOfSlot}
@@ -12,7 +12,7 @@ use Rattle.bx_handles.specs.Handles.{number_of, own_handle, parts_of}
 use Rattle.bx_homes.specs.Slots.{HasHandle}
 use Rattle.bx_layout.specs.declared.area.AreaBlock.{AreaBlock}
 use Rattle.bx_layout.specs.declared.block.Block.{Block}
-use Rattle.bx_layout.specs.Areas.{IsArea, SpellsArea, generation_in, in_use, is_dead}
+use Rattle.bx_layout.specs.Areas.{generation_in, in_use, is_dead}
 use Rattle.bx_tree_files.specs.declared.file.File.{File}
 use Rattle.bx_truth.specs.Chunks.{IsAreaBlock, block_at, dead_in, own_block, word_in}
 use Rattle.bx_truth.specs.PageTrees.{Chunks}
@@ -71,21 +71,7 @@ pub record IsFirstWrongAt (areas : ℕ) (stands : ℕ → Block → Type 0) (hol
 abbrev pub AreWorded : ℕ → (ℕ → Block → Type 0) → Holdings → Type 0
 AreWorded areas stands holdings = (handle : ℕ) → holdings handle ≢ None → HasWord areas stands handle
 
--- ---- own blocks that were read
-
--- an area's own block is told: it is one, with these slots; or it is none, and this is the handle in its header
-abbrev pub TellsOwn : (ℕ → Block → Type 0) → ℕ → OwnBlock → Type 0
-TellsOwn stands area (Slots slots) = (own : Block) × stands (own_block area) own × IsAreaBlock area own × SpellsArea slots own.payload
-TellsOwn stands area (Wrong found) = HasHandle stands (own_block area) found × ((own : Block) → stands (own_block area) own → IsAreaBlock area own → ⊥)
-
--- those of so many areas are told
-pub record AreOwn (stands : ℕ → Block → Type 0) (areas : ℕ) (owns : List OwnBlock) : Type 0 where
-  pub count : length owns ≡ areas
-  pub tells : (area : ℕ) (own : OwnBlock) → slice_get owns area ≡ Some own → TellsOwn stands area own
-
-abbrev pub HasArea : OwnBlock → Type 0
-HasArea (Slots slots) = IsArea slots
-HasArea (Wrong found) = Unit {0}
+-- ---- by own blocks that were read
 
 -- by these slots a handle's slot is in use in its generation, and isn't marked
 pub record IsIn (slots : AreaBlock) (name : ChunkHandle) : Type 0 where

@@ -1,7 +1,9 @@
 //! The dead inodes of a volume.
 
-ghost use Rattle.std.specs.Prelude.{◌≡◌, ◌≢◌, ◌≤◌, ℕ, true, Contains, List, None, OnOk};
-ghost use Rattle.bx_audit_owners.specs.declared.slots.UsedSlot.{UsedSlot as Used};
+ghost use Rattle.std.specs.Prelude.{◌≡◌, ◌≤◌, ℕ, true, Contains, List, OnOk, Some};
+ghost use Rattle.bx_audit_slots.specs.declared.slots.UsedSlot.{UsedSlot as Used};
+ghost use Rattle.bx_audit_owners.specs.declared.holders.Holder.{Holder as Has};
+ghost use Rattle.bx_audit_owners.specs.declared.holders.Holder.TheVariants.{Dead as OfDead};
 ghost use Rattle.bx_audit_owners.specs.Dead.{IsNoDead, IsNoDeadOf};
 ghost use Rattle.bx_audit_owners.specs.Found.{IsFound};
 ghost use Rattle.bx_audit_owners.specs.Holding.{holdings_of};
@@ -11,14 +13,14 @@ ghost use Rattle.bx_tree_files.specs.declared.file.File.{File};
 ghost use Rattle.bx_truth.specs.PageTrees.{Chunks};
 
 use crate::holders::{Holder, Holders, has_holder, put_inode};
-use crate::slots::UsedSlot;
 use bx_audit_bodies::{ReadFile, file_of};
+use bx_audit_slots::UsedSlot;
 use bx_audit_trees::{AuditError, torn_at};
 use bx_homes::Blocks;
 use std::alloc::Global;
 
 /// Says of the dead inodes, those of the slots that are marked, and of the chunks that they claim what has them. Torn where the chunk of
-/// such a slot is no dead inode, or one that claims what another holder has.
+/// such a slot is no dead inode, or one that claims what another holder has: of the first such slot.
 pub(crate) fn read_dead<B: Blocks>(
     alloc: Global,
     blocks: &mut B,
@@ -31,8 +33,8 @@ pub(crate) fn read_dead<B: Blocks>(
     requires most { areas ≤ 64 }
     ensures ok { (chunks : Chunks) (files : List File) → Shows (B.tells blocks.old) areas (B.stands blocks.old) chunks → IsFound chunks (holdings_of holders.old) files
         → OnOk result (IsFound chunks (holdings_of holders.new) files) }
-    ensures marked { OnOk result ((slot : Used) → Contains slots.now slot → slot.dead ≡ true → holdings_of holders.new slot.handle ≢ None) }
-    ensures still { OnOk result ((at : ℕ) → holdings_of holders.old at ≢ None → holdings_of holders.new at ≢ None) }
+    ensures marked { OnOk result ((slot : Used) → Contains slots.now slot → slot.dead ≡ true → holdings_of holders.new slot.handle ≡ Some OfDead) }
+    ensures still { OnOk result ((at : ℕ) (held : Has) → holdings_of holders.old at ≡ Some held → holdings_of holders.new at ≡ Some held) }
     ensures torn { (chunks : Chunks) (files : List File) → Shows (B.tells blocks.old) areas (B.stands blocks.old) chunks → IsFound chunks (holdings_of holders.old) files
         → IfTorn result (λ at found wanted. IsNoDeadOf chunks files slots.now wanted) }
     ensures shows { (chunks : Chunks) → Shows (B.tells blocks.old) areas (B.stands blocks.old) chunks → Shows (B.tells blocks.new) areas (B.stands blocks.new) chunks }
@@ -40,6 +42,7 @@ pub(crate) fn read_dead<B: Blocks>(
     ensures keeps_areas { B.areas blocks.new ≡ B.areas blocks.old }
     ensures keeps_lender { B.lender blocks.new ≡ B.lender blocks.old }
     ensures keeps_ready { B.ready blocks.new }
+    ensures keeps_telling { B.tells blocks.old → B.tells blocks.new }
 {
     for slot in slots {
         read_slot(alloc, blocks, areas, slot, holders)?;
@@ -60,15 +63,16 @@ fn read_slot<B: Blocks>(
     requires most { areas ≤ 64 }
     ensures ok { (chunks : Chunks) (files : List File) → Shows (B.tells blocks.old) areas (B.stands blocks.old) chunks → IsFound chunks (holdings_of holders.old) files
         → OnOk result (IsFound chunks (holdings_of holders.new) files) }
-    ensures marked { slot.now.dead ≡ true → OnOk result (holdings_of holders.new slot.now.handle ≢ None) }
-    ensures still { OnOk result ((at : ℕ) → holdings_of holders.old at ≢ None → holdings_of holders.new at ≢ None) }
+    ensures marked { slot.now.dead ≡ true → OnOk result (holdings_of holders.new slot.now.handle ≡ Some OfDead) }
+    ensures still { OnOk result ((at : ℕ) (held : Has) → holdings_of holders.old at ≡ Some held → holdings_of holders.new at ≡ Some held) }
     ensures torn { (chunks : Chunks) (files : List File) → Shows (B.tells blocks.old) areas (B.stands blocks.old) chunks → IsFound chunks (holdings_of holders.old) files
-        → IfTorn result (λ at found wanted. (slot.now.dead ≡ true) × IsNoDead chunks files slot.now.handle wanted) }
+        → IfTorn result (λ at found wanted. (slot.now.dead ≡ true) × IsNoDead chunks (holdings_of holders.old) slot.now.handle wanted) }
     ensures shows { (chunks : Chunks) → Shows (B.tells blocks.old) areas (B.stands blocks.old) chunks → Shows (B.tells blocks.new) areas (B.stands blocks.new) chunks }
     ensures counts { Counts result (B.faults blocks.old) (B.faults blocks.new) }
     ensures keeps_areas { B.areas blocks.new ≡ B.areas blocks.old }
     ensures keeps_lender { B.lender blocks.new ≡ B.lender blocks.old }
     ensures keeps_ready { B.ready blocks.new }
+    ensures keeps_telling { B.tells blocks.old → B.tells blocks.new }
 {
     if !slot.dead {
         return Ok(());
@@ -89,15 +93,16 @@ fn read_one<B: Blocks>(
     requires most { areas ≤ 64 }
     ensures ok { (chunks : Chunks) (files : List File) → Shows (B.tells blocks.old) areas (B.stands blocks.old) chunks → IsFound chunks (holdings_of holders.old) files
         → OnOk result (IsFound chunks (holdings_of holders.new) files) }
-    ensures marked { OnOk result (holdings_of holders.new handle ≢ None) }
-    ensures still { OnOk result ((at : ℕ) → holdings_of holders.old at ≢ None → holdings_of holders.new at ≢ None) }
+    ensures marked { OnOk result (holdings_of holders.new handle ≡ Some OfDead) }
+    ensures still { OnOk result ((at : ℕ) (held : Has) → holdings_of holders.old at ≡ Some held → holdings_of holders.new at ≡ Some held) }
     ensures torn { (chunks : Chunks) (files : List File) → Shows (B.tells blocks.old) areas (B.stands blocks.old) chunks → IsFound chunks (holdings_of holders.old) files
-        → IfTorn result (λ at found wanted. IsNoDead chunks files handle wanted) }
+        → IfTorn result (λ at found wanted. IsNoDead chunks (holdings_of holders.old) handle wanted) }
     ensures shows { (chunks : Chunks) → Shows (B.tells blocks.old) areas (B.stands blocks.old) chunks → Shows (B.tells blocks.new) areas (B.stands blocks.new) chunks }
     ensures counts { Counts result (B.faults blocks.old) (B.faults blocks.new) }
     ensures keeps_areas { B.areas blocks.new ≡ B.areas blocks.old }
     ensures keeps_lender { B.lender blocks.new ≡ B.lender blocks.old }
     ensures keeps_ready { B.ready blocks.new }
+    ensures keeps_telling { B.tells blocks.old → B.tells blocks.new }
 {
     if has_holder(holders, handle, Holder::Dead)? {
         return Ok(());

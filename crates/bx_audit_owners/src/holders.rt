@@ -1,15 +1,15 @@
 //! What has the chunks of a volume.
 
 ghost use Rattle.std.specs.Prelude.{◌≡◌, ◌↔◌, Contains, length, if◌then◌else◌, IfOk, IsErrOf, IsFalse, IsTrue, None, OnOk, Some};
-ghost use Rattle.bx_audit_owners.specs.declared.slots.UsedSlot.{UsedSlot as Used};
+ghost use Rattle.bx_audit_slots.specs.declared.slots.UsedSlot.{UsedSlot as Used};
 ghost use Rattle.bx_audit_owners.specs.declared.holders.Holder.TheVariants.{Dead as OfDead};
 ghost use Rattle.bx_audit_owners.specs.Holding.{Adds, Clashes, HasOther, IsHeld, IsTornSlot, Puts, holder_by, holdings_of};
 ghost use Rattle.bx_audit_trees.specs.declared.error.AuditError.TheVariants.{Fault as DiskFailed, Torn};
 ghost use Rattle.bx_audit_trees.specs.Errors.{IfTorn};
 ghost use Rattle.bx_truth.specs.Chunks.{block_at};
 
-use crate::slots::UsedSlot;
 use bx_audit_bodies::Claim;
+use bx_audit_slots::UsedSlot;
 use bx_audit_trees::{AuditError, torn_at};
 use bx_handles::ChunkHandle;
 use std::collections::BTreeMap;

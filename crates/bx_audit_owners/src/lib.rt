@@ -4,8 +4,6 @@
 mod dead;
 mod found;
 mod holders;
-mod own_blocks;
-mod slots;
 mod tree;
 mod walks;
 mod words;

@@ -11,7 +11,6 @@ ghost use Rattle.bx_truth.specs.PageTrees.{Chunks};
 
 use crate::found::{Found, put_file};
 use crate::holders::{Holder, Holders, has_holder, put_inode};
-use crate::slots::ROOT;
 use bx_audit_bodies::{ReadFile, file_of};
 use bx_audit_trees::{AuditError, torn_at};
 use bx_base::OutOfMemory;
@@ -19,6 +18,9 @@ use bx_homes::Blocks;
 use bx_model::Tree;
 use bx_tree_files::{Body, Files, Handles, NameList};
 use std::alloc::Global;
+
+/// The root's handle: area 0, slot 0, generation 1.
+const ROOT: u64 = 1;
 
 /// What the walk from the root found.
 #[derive(Drop)]

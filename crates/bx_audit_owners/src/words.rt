@@ -2,15 +2,16 @@
 
 ghost use Rattle.std.specs.Prelude.{◌≡◌, ◌≢◌, ◌<◌, ◌≤◌, ℕ, All, IsTrue, IsFalse, None, OnOk, IsErrOf};
 ghost use Rattle.bx_audit_owners.specs.Holding.{holdings_of};
-ghost use Rattle.bx_audit_owners.specs.Words.{AreWorded, HasArea, IsFirstTornIn, IsFirstWrongAt, IsIn, IsInOwn, IsRightOwn, IsTornIn, IsTornOwn};
+ghost use Rattle.bx_audit_owners.specs.Words.{AreWorded, IsFirstTornIn, IsFirstWrongAt, IsIn, IsInOwn, IsRightOwn, IsTornIn, IsTornOwn};
+ghost use Rattle.bx_audit_slots.specs.OwnBlocks.{HasArea};
 ghost use Rattle.bx_handles.specs.Handles.{parts_of};
 ghost use Rattle.bx_audit_trees.specs.declared.error.AuditError.TheVariants.{Fault as DiskFailed};
 ghost use Rattle.bx_audit_trees.specs.Errors.{Counts, IfTorn};
 ghost use Rattle.bx_layout.specs.Areas.{IsArea};
 
 use crate::holders::Holders;
-use crate::own_blocks::{OwnBlock, own_blocks};
 use crate::walks::Walked;
+use bx_audit_slots::{OwnBlock, read_own_blocks};
 use bx_audit_trees::{AuditError, torn_at};
 use bx_handles::ChunkHandle;
 use bx_homes::Blocks;
@@ -37,7 +38,7 @@ pub fn check_words<B: Blocks>(
     ensures keeps_ready { B.ready blocks.new }
     ensures keeps_telling { B.tells blocks.old → B.tells blocks.new }
 {
-    let owns = own_blocks(alloc, blocks, areas)?;
+    let owns = read_own_blocks(alloc, blocks, areas)?;
     check_held(owns.as_slice(), &walked.holders)
 }
 

@@ -1,5 +1,6 @@
 //! Audits of racks in memory.
 
+use crate::dead::DEAD_DAMAGES;
 use crate::volume::{BLOCKS, DAMAGES, Damage, LISTING, Put};
 use bx_audit::{Listing, audit};
 use bx_calls::write_some;
@@ -94,6 +95,14 @@ fn files_are_listed(rt: HostRuntime) -> Result<(), Fail> {
 #[test]
 fn damages_are_told(rt: HostRuntime) -> Result<(), Fail> {
     for damage in &DAMAGES {
+        assert!(rt; tells(rt.alloc(), damage)?, "block {}", damage.1.0);
+    }
+    Ok(())
+}
+
+#[test]
+fn damages_of_a_dead_file_are_told(rt: HostRuntime) -> Result<(), Fail> {
+    for damage in &DEAD_DAMAGES {
         assert!(rt; tells(rt.alloc(), damage)?, "block {}", damage.1.0);
     }
     Ok(())

@@ -4,4 +4,6 @@
 #[cfg(test)]
 mod audits;
 #[cfg(test)]
+mod dead;
+#[cfg(test)]
 mod volume;

@@ -93,8 +93,9 @@ type Damage = (&'static [u8], Put, (u64, u64, u64));
 
 /// The third piece with a byte behind the tail, of another kind (also where the inode is dead), and under another handle. The right leaf with
 /// a value of seven bytes, with a key of six, with a key of another kind. The inode with a size of 2 ^ 31, without a tree, with a tail
-/// before the last byte. A link with a tree, and a directory with pieces.
-const DAMAGES: [Damage; 12] = [
+/// before the last byte. A link with a tree, and a directory with pieces. Of a dead inode, the root of its tree under another handle, its left
+/// leaf of another kind, and its first piece of another generation.
+const DAMAGES: [Damage; 15] = [
     (REGULAR, (7, THIRD, 3, b"end!"), (7, THIRD, THIRD)),
     (REGULAR, (7, THIRD, 2, b"end"), (7, THIRD, THIRD)),
     (DEAD, (7, THIRD, 2, b"end"), (7, THIRD, THIRD)),
@@ -170,6 +171,9 @@ const DAMAGES: [Damage; 12] = [
         (4, FILE, FILE),
     ),
     (REGULAR, (4, FILE, 1, DIRECTORY), (4, FILE, FILE)),
+    (DEAD, (5, THIRD, 2, TREE[0].3), (5, THIRD, ROOT)),
+    (DEAD, (8, LEFT, 3, TREE[1].3), (8, LEFT, LEFT)),
+    (DEAD, (6, FIRST + 1, 3, b"first"), (6, FIRST + 1, FIRST)),
 ];
 
 /// The blocks of an inode with the tree and its pieces, and a block in the place of one of them.

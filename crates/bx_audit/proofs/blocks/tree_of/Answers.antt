@@ -14,20 +14,6 @@ use Rattle.bx_audit.proofs.blocks.tree_of.Goals as goal
 pub returns-in-Ok-clause-there : goal.returns-in-Ok-clause-there
 returns-in-Ok-clause-there g c = λ tells. a_truth c.args.areas (g.B.Blocks.stands c.args.blocks.now) (of_none c.in_ok-at.field-0 c.in_default.is (c.in_ok-at.ensures.there tells))
 
-pub returns-in-Ok-clause-keeps_telling : goal.returns-in-Ok-clause-keeps_telling
-returns-in-Ok-clause-keeps_telling g c = λ tells.
-    let some = a_truth c.args.areas (g.B.Blocks.stands c.args.blocks.now) (of_none c.in_ok-at.field-0 c.in_default.is (c.in_ok-at.ensures.there tells)) in
-    c.in-Ok.ensures.keeps_telling some.0
-    (is_told (g.B.Blocks.tells c.args.blocks.now) (g.B.Blocks.tells c.first_fault.new.blocks) c.args.areas (g.B.Blocks.stands c.args.blocks.now) (g.B.Blocks.stands c.first_fault.new.blocks) some.0 tells
-    c.in_ok-at.ensures.keeps_telling c.in_ok-at.ensures.stays some.1 (of_none c.in_ok-at.field-0 c.in_default.is (c.in_ok-at.ensures.none tells) some.0 some.1))
-
-pub returns-in-Err-clause-keeps_telling : goal.returns-in-Err-clause-keeps_telling
-returns-in-Err-clause-keeps_telling g c = λ tells.
-    let some = a_truth c.args.areas (g.B.Blocks.stands c.args.blocks.now) (of_none c.in_ok-at.field-0 c.in_default.is (c.in_ok-at.ensures.there tells)) in
-    c.in-Err.ensures.keeps_telling some.0
-    (is_told (g.B.Blocks.tells c.args.blocks.now) (g.B.Blocks.tells c.first_fault.new.blocks) c.args.areas (g.B.Blocks.stands c.args.blocks.now) (g.B.Blocks.stands c.first_fault.new.blocks) some.0 tells
-    c.in_ok-at.ensures.keeps_telling c.in_ok-at.ensures.stays some.1 (of_none c.in_ok-at.field-0 c.in_default.is (c.in_ok-at.ensures.none tells) some.0 some.1))
-
 pub returns-in-Err-clause-err : goal.returns-in-Err-clause-err
 returns-in-Err-clause-err g c = λ tells started.
     let still = still_walked (g.B.Blocks.tells c.args.blocks.now) (g.B.Blocks.tells c.first_fault.new.blocks) c.args.areas (g.B.Blocks.stands c.args.blocks.now) (g.B.Blocks.stands c.first_fault.new.blocks) c.args.walked tells

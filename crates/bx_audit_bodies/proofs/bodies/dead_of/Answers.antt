@@ -4,7 +4,8 @@ use Rattle.std.proofs.lemmas.Result.{err_from_is_err_and}
 use Rattle.bx_audit_trees.proofs.Ends.{if_torn}
 use Rattle.bx_audit_bodies.specs.Pieces.{HasPiece}
 use Rattle.bx_audit_bodies.proofs.BodiesOfTrees.{dead_pieces, dead_blocks, dead_alone, dead_read}
-use Rattle.bx_audit_bodies.specs.Parts.{IsOfOne}
+use Rattle.bx_audit_bodies.specs.Parts.{IsFirstPiece, IsOfOne, Block, Tree}
+use Rattle.bx_audit_trees.specs.Trees.{tree_of}
 use Rattle.bx_audit_bodies.specs.declared.pieces.Piece.{Piece}
 use Rattle.bx_audit_bodies.proofs.PartsLed.{one_led}
 use Rattle.bx_audit_bodies.proofs.bodies.dead_of.Goals as goal
@@ -50,3 +51,16 @@ returns-in_err-read_pieces-clause-shows g c = λ chunks shows. c.in_err-read_pie
 
 pub returns-clause-shows : goal.returns-clause-shows
 returns-clause-shows g c = λ chunks shows. c.in_ok-read_pieces.ensures.shows chunks (c.in_ok-pieces.ensures.shows chunks shows)
+
+pub returns-in_err-pieces-clause-first : goal.returns-in_err-pieces-clause-first
+returns-in_err-pieces-clause-first g c = λ chunks shows.
+    let p = err_from_is_err_and c.from_residual.result c.from_residual.ensures.1 in
+    if_torn _ _ c.in_err-pieces.field-0.0 c.from_residual.result (p.1 ∙ ap Err p.2) (λ at found wanted torn. Tree torn) (c.in_err-pieces.ensures.first chunks shows)
+
+pub returns-in_err-read_pieces-clause-first : goal.returns-in_err-read_pieces-clause-first
+returns-in_err-read_pieces-clause-first g c = λ chunks shows.
+    let p = err_from_is_err_and c.from_residual-in_err-read_pieces.result c.from_residual-in_err-read_pieces.ensures.1 in
+    let has = c.in_ok-pieces.ensures.ok chunks shows in
+    if_torn _ _ c.in_err-read_pieces.field-0.0 c.from_residual-in_err-read_pieces.result (p.1 ∙ ap Err p.2)
+    (λ at found wanted first. Block (tree_of has.levels) c.in_ok-pieces.pieces.items has.is has.are_pieces (subst (λ (l : List Piece). IsFirstPiece chunks l wanted) c.deref.ensures.value first))
+    (c.in_err-read_pieces.ensures.first chunks (c.in_ok-pieces.ensures.shows chunks shows))

@@ -5,7 +5,8 @@ use Rattle.std.proofs.lemmas.List.{take_all}
 use Rattle.bx_audit_trees.proofs.Ends.{if_torn}
 use Rattle.bx_audit_bodies.specs.Pieces.{HasPiece}
 use Rattle.bx_audit_bodies.proofs.PiecesRead.{read_more, no_piece_of}
-use Rattle.bx_audit_bodies.proofs.PartsLed.{one_at}
+use Rattle.bx_audit_bodies.proofs.Cases.{both_torn}
+use Rattle.bx_audit_bodies.proofs.PartsLed.{first_piece, one_at}
 use Rattle.bx_audit_bodies.proofs.contents.read_pieces.Goals as goal
 
 pub returns-in_err-block_at-clause-torn : goal.returns-in_err-block_at-clause-torn
@@ -39,3 +40,11 @@ returns-in_err-block_at-clause-names g c =
 
 pub returns-in_err-block_at-clause-shows : goal.returns-in_err-block_at-clause-shows
 returns-in_err-block_at-clause-shows g c = λ chunks shows. c.in_err-block_at.ensures.shows chunks (c.loop-piece.invariant.shows chunks shows)
+
+pub returns-in_err-block_at-clause-first : goal.returns-in_err-block_at-clause-first
+returns-in_err-block_at-clause-first g c = λ chunks shows.
+    let p = err_from_is_err_and c.from_residual.result c.from_residual.ensures.1 in
+    let still = c.loop-piece.invariant.shows chunks shows in
+    if_torn _ _ c.in_err-block_at.field-0.0 c.from_residual.result (p.1 ∙ ap Err p.2)
+    (λ at found wanted both. first_piece chunks c.args.pieces.now c.loop-piece.piece-index _ wanted c.loop-piece-test.true (c.loop-piece.invariant.read chunks shows) both.0 both.1)
+    (both_torn _ _ c.in_err-block_at.field-0.0 (c.in_err-block_at.ensures.torn chunks still) c.in_err-block_at.ensures.names)

@@ -1,10 +1,13 @@
-use Rattle.std.proofs.Common.{◌≡◌, ⊎_elim, inl, inr, Option, Some, None, ap, ◌∙◌, Err}
+use Rattle.std.proofs.Common.{arith, ◌≡◌, ⊎_elim, inl, inr, Option, Some, None, sym, ap, subst, ◌∙◌, Err}
 use Rattle.std.proofs.lemmas.Result.{err_from_is_err_and}
 use Rattle.bx_audit_trees.proofs.Ends.{if_torn}
 use Rattle.bx_audit_files.proofs.NamesOfTrees.{if_ok}
 use Rattle.bx_audit_bodies.proofs.Cases.{torn_too}
-use Rattle.bx_audit_bodies.proofs.ReadFiles.{not_stored, read_as}
+use Rattle.bx_audit_bodies.proofs.ReadFiles.{not_stored, read_as, same_at}
 use Rattle.bx_layout.specs.declared.block.Block.{Block}
+use Rattle.bx_audit_bodies.specs.Parts.{IsTornDead}
+use Rattle.bx_audit_trees.specs.Errors.{IfTorn}
+use Rattle.bx_layout.specs.declared.inode.Inode.{Inode}
 use Rattle.bx_audit_bodies.proofs.files.file_of.Goals as goal
 
 not_both : (found : Option Block) (block : Block) → found ≡ Some block → found ≡ None → ⊥
@@ -92,3 +95,31 @@ returns-in-2-clause-shows g c = λ chunks shows. c.directory_of.ensures.shows ch
 
 pub returns-clause-shows : goal.returns-clause-shows
 returns-clause-shows g c = λ chunks shows. c.dead_of.ensures.shows chunks (c.in_ok-inode.ensures.shows chunks shows)
+
+pub returns-in_err-inode-clause-dead : goal.returns-in_err-inode-clause-dead
+returns-in_err-inode-clause-dead g c = λ chunks shows inode is zero.
+    let p = err_from_is_err_and c.from_residual.result c.from_residual.ensures.1 in
+    if_torn _ _ c.in_err-inode.field-0.0 c.from_residual.result (p.1 ∙ ap Err p.2) (λ at found wanted never. absurd (never inode is)) (c.in_err-inode.ensures.torn chunks shows)
+
+pub returns-clause-dead : goal.returns-clause-dead
+returns-clause-dead g c = λ chunks shows inode is zero.
+    subst (λ (i : Inode). IfTorn c.dead_of.result (λ at found wanted. IsTornDead chunks i.tree wanted)) (sym (same_at chunks c.args.handle c.in_ok-inode.inode (c.in_ok-inode.ensures.ok chunks shows) inode is))
+    (c.dead_of.ensures.first chunks (c.in_ok-inode.ensures.shows chunks shows))
+
+pub returns-in-1-clause-dead : goal.returns-in-1-clause-dead
+returns-in-1-clause-dead g c = λ chunks shows inode is zero.
+    let same = same_at chunks c.args.handle c.in_ok-inode.inode (c.in_ok-inode.ensures.ok chunks shows) inode is in
+    let e : 0 ≡ 1 = sym zero ∙ ap (λ (i : Inode). i.kind) same ∙ c.in-1.is in
+    absurd (omega (arith, e))
+
+pub returns-in-2-clause-dead : goal.returns-in-2-clause-dead
+returns-in-2-clause-dead g c = λ chunks shows inode is zero.
+    let same = same_at chunks c.args.handle c.in_ok-inode.inode (c.in_ok-inode.ensures.ok chunks shows) inode is in
+    let e : 0 ≡ 2 = sym zero ∙ ap (λ (i : Inode). i.kind) same ∙ c.in-2.is in
+    absurd (omega (arith, e))
+
+pub returns-in-5-clause-dead : goal.returns-in-5-clause-dead
+returns-in-5-clause-dead g c = λ chunks shows inode is zero.
+    let same = same_at chunks c.args.handle c.in_ok-inode.inode (c.in_ok-inode.ensures.ok chunks shows) inode is in
+    let e : 0 ≡ 5 = sym zero ∙ ap (λ (i : Inode). i.kind) same ∙ c.in-5.is in
+    absurd (omega (arith, e))

@@ -1,7 +1,8 @@
-use Rattle.std.proofs.Common.{Err, ◌≡◌, ℕ, ◌+◌, ◌<◌, ◌⊎◌, ⊎_elim, false, None, arith, length, refl, sym, ap, subst, ◌∙◌}
-use Rattle.std.specs.Prelude.{◌≢◌, slice_index_or}
+use Rattle.std.proofs.Common.{Err, ◌≡◌, ℕ, ◌+◌, ◌<◌, ◌⊎◌, ⊎_elim, false, Some, arith, length, refl, sym, ap, subst, ◌∙◌}
+use Rattle.std.specs.Prelude.{slice_index_or}
 use Rattle.std.proofs.lemmas.Result.{err_from_is_err_and}
-use Rattle.bx_audit_owners.specs.declared.slots.UsedSlot.{UsedSlot}
+use Rattle.bx_audit_slots.specs.declared.slots.UsedSlot.{UsedSlot}
+use Rattle.bx_audit_owners.specs.declared.holders.Holder.TheVariants.{Dead as OfDead}
 use Rattle.bx_audit_owners.specs.Holding.{holdings_of}
 use Rattle.bx_audit_owners.proofs.Holding.{one_there}
 use Rattle.bx_audit_trees.proofs.Ends.{if_torn}
@@ -22,7 +23,8 @@ loop-slot-init g c = record {
   shows = λ chunks shows. shows;
   found = λ chunks files shows started. started;
   marked = λ k slot less. absurd (omega (arith, less));
-  still = λ at some. some;
+  still = λ at held some. some;
+  telling = λ tells. tells;
 }
 
 pub returns-in_err-read_slot-clause-torn : goal.returns-in_err-read_slot-clause-torn
@@ -32,7 +34,17 @@ returns-in_err-read_slot-clause-torn g c = λ chunks files shows started.
     let within : c.loop-slot.slot-index < length c.args.slots.now = omega arith in
     let slot = slice_index_or c.args.slots.now c.loop-slot.slot-index no_slot in
     if_torn _ _ c.in_err-read_slot.field-0.0 c.from_residual.result (p.1 ∙ ap Err p.2)
-    (λ at found wanted wrong. record { slot = slot; there = (c.loop-slot.slot-index, within, one_there c.args.slots.now c.loop-slot.slot-index slot no_slot within); marked = wrong.0; wrong = wrong.1 })
+    (λ at found wanted wrong. record {
+      place = c.loop-slot.slot-index;
+      slot = slot;
+      there = within;
+      is = one_there c.args.slots.now c.loop-slot.slot-index slot no_slot within;
+      marked = wrong.0;
+      holdings = holdings_of c.loop-slot.holders;
+      found = c.loop-slot.invariant.found chunks files shows started;
+      before = c.loop-slot.invariant.marked;
+      wrong = wrong.1;
+    })
     (c.in_err-read_slot.ensures.torn chunks files (c.loop-slot.invariant.shows chunks shows) (c.loop-slot.invariant.found chunks files shows started))
 
 pub returns-in_err-read_slot-clause-shows : goal.returns-in_err-read_slot-clause-shows
@@ -50,13 +62,14 @@ loop-slot-preserved g c =
       shows = λ chunks shows. c.in_ok-read_slot.ensures.shows chunks (c.loop-slot.invariant.shows chunks shows);
       found = λ chunks files shows started. c.in_ok-read_slot.ensures.ok chunks files (c.loop-slot.invariant.shows chunks shows) (c.loop-slot.invariant.found chunks files shows started);
       marked = λ k slot less is dead. ⊎_elim
-          (λ before. c.in_ok-read_slot.ensures.still slot.handle (c.loop-slot.invariant.marked k slot before is dead))
+          (λ before. c.in_ok-read_slot.ensures.still slot.handle OfDead (c.loop-slot.invariant.marked k slot before is dead))
           (λ same.
           let one : slot ≡ slice_index_or c.args.slots.now c.loop-slot.slot-index no_slot =
           sym is ∙ ap (λ (n : ℕ). slice_index_or c.args.slots.now n slot) same ∙ one_there c.args.slots.now c.loop-slot.slot-index slot no_slot within in
-          subst (λ (s : UsedSlot). holdings_of c.read_slot.new.holders s.handle ≢ None) (sym one) (c.in_ok-read_slot.ensures.marked (ap (λ (s : UsedSlot). s.dead) (sym one) ∙ dead)))
+          subst (λ (s : UsedSlot). holdings_of c.read_slot.new.holders s.handle ≡ Some OfDead) (sym one) (c.in_ok-read_slot.ensures.marked (ap (λ (s : UsedSlot). s.dead) (sym one) ∙ dead)))
           (below_or k c.loop-slot.slot-index less);
-      still = λ at some. c.in_ok-read_slot.ensures.still at (c.loop-slot.invariant.still at some);
+      still = λ at held some. c.in_ok-read_slot.ensures.still at held (c.loop-slot.invariant.still at held some);
+      telling = λ tells. c.in_ok-read_slot.ensures.keeps_telling (c.loop-slot.invariant.telling tells);
     }
 
 pub returns-clause-marked : goal.returns-clause-marked

@@ -1,15 +1,22 @@
-use Rattle.std.proofs.Common.{◌≡◌, inl, inr, Err, List, None, Option, Some, is_some, false, length, ap, sym, subst, refl, ◌∙◌}
+use Rattle.std.proofs.Common.{◌≡◌, Err, List, None, Option, Some, is_some, true, false, length, ap, sym, subst, refl, ◌∙◌}
 use Rattle.std.proofs.lemmas.Result.{err_from_is_err_and}
+use Rattle.bx_audit_bodies.specs.Parts.{IsTornDead}
 use Rattle.bx_audit_bodies.specs.Reading.{IsReadAs}
+use Rattle.bx_audit_files.specs.Inodes.{IsInodeAt}
+use Rattle.bx_layout.specs.declared.inode.Inode.{Inode}
+use Rattle.bx_audit_owners.specs.Dead.{Held, Live, Taken, Unread}
 use Rattle.bx_audit_bodies.specs.declared.claims.Claim.{Claim}
 use Rattle.bx_audit_owners.specs.declared.holders.Holder.TheVariants.{Dead as OfDead}
 use Rattle.bx_audit_owners.specs.Holding.{Adds, Clashes, holdings_of}
-use Rattle.bx_audit_owners.proofs.Ends.{both_torn}
+use Rattle.bx_audit_owners.proofs.Ends.{both_torn, each_torn}
 use Rattle.bx_audit_owners.proofs.Steps.{with_inode}
-use Rattle.bx_audit_owners.proofs.Walking.{live_has_no_dead, other_has_no_dead}
 use Rattle.bx_audit_trees.proofs.Ends.{if_torn}
 use Rattle.bx_tree_files.specs.declared.file.File.{File}
 use Rattle.bx_audit_owners.proofs.dead.read_one.Goals as goal
+
+some_of : (o : Option File) → is_some o ≡ true → (f : File) × (o ≡ Some f)
+some_of None is = absurd cc
+some_of (Some f) is = (f, refl)
 
 not_some : (o : Option File) → is_some o ≡ false → o ≡ None
 not_some None is = refl
@@ -18,23 +25,23 @@ not_some (Some x) is = absurd cc
 pub returns-in_err-has_holder-clause-torn : goal.returns-in_err-has_holder-clause-torn
 returns-in_err-has_holder-clause-torn g c = λ chunks files shows found.
     let p = err_from_is_err_and c.from_residual.result c.from_residual.ensures.1 in
-    if_torn _ _ c.in_err-has_holder.field-0.0 c.from_residual.result (p.1 ∙ ap Err p.2) (λ at wrong wanted has. inl record {
-      none = other_has_no_dead chunks (holdings_of c.args.holders.now) files found c.args.handle has.0.other has.0.there has.0.apart;
-      part = inl has.1;
-    }) c.in_err-has_holder.ensures.torn
+    if_torn _ _ c.in_err-has_holder.field-0.0 c.from_residual.result (p.1 ∙ ap Err p.2) (λ at wrong wanted has. Held has.0.other has.0.there has.0.apart has.1) c.in_err-has_holder.ensures.torn
 
 pub returns-in_err-file-clause-torn : goal.returns-in_err-file-clause-torn
 returns-in_err-file-clause-torn g c = λ chunks files shows found.
     let p = err_from_is_err_and c.from_residual-in_err-file.result c.from_residual-in_err-file.ensures.1 in
     if_torn _ _ c.in_err-file.field-0.0 c.from_residual-in_err-file.result (p.1 ∙ ap Err p.2)
-    (λ at wrong wanted both. inl record { none = λ owner stored. both.0 owner stored None; part = both.1 })
-    (both_torn _ _ c.in_err-file.field-0.0 (c.in_err-file.ensures.torn chunks shows) (c.in_err-file.ensures.part chunks shows))
+    (λ at wrong wanted both. Unread record { none = λ owner stored. both.0 owner stored None; part = both.1.0; first = λ inode is zero. both.1.1 inode (is, zero) })
+    (both_torn _ _ c.in_err-file.field-0.0 (c.in_err-file.ensures.torn chunks shows) (both_torn _ _ c.in_err-file.field-0.0 (c.in_err-file.ensures.part chunks shows)
+    (each_torn c.in_err-file.field-0.0 Inode (λ inode. IsInodeAt chunks c.args.handle inode × (inode.kind ≡ 0)) (λ inode wanted. IsTornDead chunks inode.tree wanted)
+    (λ inode is. c.in_err-file.ensures.dead chunks shows inode is.0 is.1))))
 
 pub returns-then-is_some-clause-torn : goal.returns-then-is_some-clause-torn
 returns-then-is_some-clause-torn g c = λ chunks files shows found.
     let claims = c.in_ok-file.field-0.claims.items in
-    let read : IsReadAs chunks c.args.handle c.in_ok-file.field-0.file claims = c.in_ok-file.ensures.ok chunks shows in
-    rw c.torn_at.ensures (inl record { none = live_has_no_dead chunks c.args.handle c.in_ok-file.field-0.file claims (sym c.is_some.ensures ∙ c.if-is_some.true) read; part = inl refl })
+    let f = some_of c.in_ok-file.field-0.file (sym c.is_some.ensures ∙ c.if-is_some.true) in
+    let read : IsReadAs chunks c.args.handle (Some f.0) claims = subst (λ (o : Option File). IsReadAs chunks c.args.handle o claims) f.1 (c.in_ok-file.ensures.ok chunks shows) in
+    rw c.torn_at.ensures (Live f.0 claims read refl)
 
 pub returns-in_err-put_inode-clause-torn : goal.returns-in_err-put_inode-clause-torn
 returns-in_err-put_inode-clause-torn g c = λ chunks files shows found.
@@ -46,7 +53,7 @@ returns-in_err-put_inode-clause-torn g c = λ chunks files shows found.
     if_torn _ _ c.in_err-put_inode.field-0.0 c.from_residual-in_err-put_inode.result (p.1 ∙ ap Err p.2)
     (λ at wrong wanted both.
     let clash = subst (λ (l : List Claim). (clash : Clashes before c.args.handle OfDead l) × (wanted ≡ clash.claim.handle)) c.as_slice.ensures.value both in
-    inr record { claims = claims; read = read; holdings = before; found = found; clash = clash.0; wanted_is = clash.1 })
+    Taken record { claims = claims; read = read; clash = clash.0; wanted_is = clash.1 })
     c.in_err-put_inode.ensures.torn
 
 pub returns-clause-ok : goal.returns-clause-ok

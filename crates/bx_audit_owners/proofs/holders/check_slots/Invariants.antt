@@ -1,6 +1,6 @@
 use Rattle.std.proofs.Common.{◌≡◌, ℕ, ◌<◌}
 use Rattle.std.specs.Prelude.{slice_index_or}
-use Rattle.bx_audit_owners.specs.declared.slots.UsedSlot.{UsedSlot}
+use Rattle.bx_audit_slots.specs.declared.slots.UsedSlot.{UsedSlot}
 use Rattle.bx_audit_owners.specs.Holding.{IsHeld, holdings_of}
 use Rattle.bx_audit_owners.proofs.holders.check_slots.Given as goal
 

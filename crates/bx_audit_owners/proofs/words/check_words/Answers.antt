@@ -1,14 +1,9 @@
-use Rattle.std.proofs.Common.{Result, Ok, Err, sym, subst}
-use Rattle.std.specs.Prelude.{OnOk}
+use Rattle.std.proofs.Common.{sym, subst}
 use Rattle.bx_audit_owners.specs.Holding.{holdings_of}
-use Rattle.bx_audit_owners.specs.Words.{AreOwn}
-use Rattle.bx_audit_owners.proofs.Ends.{torn_too}
+use Rattle.bx_audit_slots.specs.OwnBlocks.{AreOwn}
+use Rattle.bx_audit_owners.proofs.Ends.{ok_too, torn_too}
 use Rattle.bx_audit_owners.proofs.OwnBlocks.{all_worded, first_wrong}
 use Rattle.bx_audit_owners.proofs.words.check_words.Goals as goal
-
-ok_too : {A E : Type 0} (P Q : Type 0) (now : Result A E) → (P → Q) → OnOk now P → OnOk now Q
-ok_too P Q (Ok value) implies holds = implies holds
-ok_too P Q (Err error) implies holds = tt
 
 pub returns-clause-ok : goal.returns-clause-ok
 returns-clause-ok g c = λ tells.

@@ -1,7 +1,7 @@
 use Rattle.std.proofs.Common.{◌≡◌, ◌+◌, ◌*◌, ℕ, arith, subst}
-use Rattle.bx_audit_owners.specs.UsedSlots.{AreUsedBelow}
-use Rattle.bx_audit_owners.proofs.InUse.{area_done}
-use Rattle.bx_audit_owners.proofs.slots.put_area.Goals as goal
+use Rattle.bx_audit_slots.specs.UsedSlots.{AreUsedBelow}
+use Rattle.bx_audit_slots.proofs.InUse.{area_done}
+use Rattle.bx_audit_slots.proofs.slots.put_area.Goals as goal
 
 none_more : (n : ℕ) → n ≡ n + 0
 none_more n = omega arith

@@ -1,8 +1,8 @@
 use Rattle.std.proofs.Common.{subst}
-use Rattle.bx_audit_owners.specs.Words.{TellsOwn}
+use Rattle.bx_audit_slots.specs.OwnBlocks.{TellsOwn}
 use Rattle.bx_truth.specs.Chunks.{own_block}
 use Rattle.bx_truth.proofs.Same.{own_is_block}
-use Rattle.bx_audit_owners.proofs.slots.slots_of.Goals as goal
+use Rattle.bx_audit_slots.proofs.slots.slots_of.Goals as goal
 
 pub returns-in-Wrong-clause-never : goal.returns-in-Wrong-clause-never
 returns-in-Wrong-clause-never g c = λ truth told.

@@ -1,9 +1,9 @@
 use Rattle.std.proofs.Common.{◌+◌, ◌*◌, ◌<◌, ℕ}
-use Rattle.bx_audit_owners.specs.UsedSlots.{AreUsedBelow}
+use Rattle.bx_audit_slots.specs.UsedSlots.{AreUsedBelow}
 use Rattle.bx_layout.specs.Areas.{SpellsArea}
 use Rattle.bx_truth.specs.Chunks.{own_block}
 use Rattle.bx_views.specs.Truths.{Truth}
-use Rattle.bx_audit_owners.proofs.slots.put_area.Given as goal
+use Rattle.bx_audit_slots.proofs.slots.put_area.Given as goal
 
 abbrev pub invariant-loop-slot : goal.invariant-loop-slot
 invariant-loop-slot l = record {

@@ -1,8 +1,8 @@
 use Rattle.std.proofs.Common.{◌≡◌}
 use Rattle.std.specs.Prelude.{All}
-use Rattle.bx_audit_owners.specs.Words.{AreOwn, HasArea}
+use Rattle.bx_audit_slots.specs.OwnBlocks.{AreOwn, HasArea}
 use Rattle.bx_homes.specs.Slots.{StaysSo}
-use Rattle.bx_audit_owners.proofs.own_blocks.own_blocks.Given as goal
+use Rattle.bx_audit_slots.proofs.own_blocks.read_own_blocks.Given as goal
 
 abbrev pub invariant-loop-area : goal.invariant-loop-area
 invariant-loop-area g l = record {

@@ -1,9 +1,9 @@
 use Rattle.std.proofs.Common.{◌≡◌, ◌+◌, ◌*◌, ℕ, sym, ap, subst, ◌∙◌}
-use Rattle.bx_audit_owners.specs.declared.slots.UsedSlot.{UsedSlot}
-use Rattle.bx_audit_owners.specs.UsedSlots.{AreUsedBelow, IsFreeMarked}
-use Rattle.bx_audit_owners.proofs.InUse.{free_marked, pass_unused, push_used}
+use Rattle.bx_audit_slots.specs.declared.slots.UsedSlot.{UsedSlot}
+use Rattle.bx_audit_slots.specs.UsedSlots.{AreUsedBelow, IsFreeMarked}
+use Rattle.bx_audit_slots.proofs.InUse.{free_marked, pass_unused, push_used}
 use Rattle.bx_handles.specs.Handles.{number_of}
-use Rattle.bx_audit_owners.proofs.slots.put_slot.Goals as goal
+use Rattle.bx_audit_slots.proofs.slots.put_slot.Goals as goal
 
 pub returns-then-dead-clause-torn : goal.returns-then-dead-clause-torn
 returns-then-dead-clause-torn c = λ areas truth there spells.

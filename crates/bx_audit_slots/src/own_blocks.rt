@@ -1,7 +1,7 @@
 //! The own blocks of areas.
 
 ghost use Rattle.std.specs.Prelude.{◌≡◌, ◌<◌, ◌≤◌, All, IfOk, IfSome, IfNone};
-ghost use Rattle.bx_audit_owners.specs.Words.{AreOwn, HasArea, TellsOwn};
+ghost use Rattle.bx_audit_slots.specs.OwnBlocks.{AreOwn, HasArea, TellsOwn};
 ghost use Rattle.bx_audit_trees.specs.Errors.{Counts, IfTorn};
 ghost use Rattle.bx_homes.specs.Slots.{StaysSo};
 ghost use Rattle.bx_layout.specs.Areas.{SpellsArea};
@@ -19,7 +19,7 @@ const AREA: u32 = 4;
 
 /// What stands in the place of an area's own block.
 #[derive(Drop)]
-pub(crate) enum OwnBlock {
+pub enum OwnBlock {
     /// The area's own block, with these slots.
     Slots(AreaBlock),
     /// Another block, with this handle in its header, or none, and 0.
@@ -27,7 +27,7 @@ pub(crate) enum OwnBlock {
 }
 
 /// The own blocks of all areas of a volume.
-pub(crate) fn own_blocks<B: Blocks>(
+pub fn read_own_blocks<B: Blocks>(
     alloc: Global,
     blocks: &mut B,
     areas: u16,

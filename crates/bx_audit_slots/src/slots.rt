@@ -1,8 +1,8 @@
 //! The slots of a volume that are in use.
 
 ghost use Rattle.std.specs.Prelude.{◌≡◌, ◌+◌, ◌*◌, ◌<◌, ◌≤◌, ℕ, Contains, IfOk, OnOk, IsErrOf};
-ghost use Rattle.bx_audit_owners.specs.Told.{IsTold};
-ghost use Rattle.bx_audit_owners.specs.UsedSlots.{AreUsed, AreUsedBelow, IsFreeMarked};
+ghost use Rattle.bx_audit_slots.specs.Told.{IsTold};
+ghost use Rattle.bx_audit_slots.specs.UsedSlots.{AreUsed, AreUsedBelow, IsFreeMarked};
 ghost use Rattle.bx_audit_trees.specs.declared.error.AuditError.TheVariants.{Fault as DiskFailed};
 ghost use Rattle.bx_audit_trees.specs.Errors.{Counts, IfTorn};
 ghost use Rattle.bx_layout.specs.Areas.{IsArea, SpellsArea};
@@ -17,20 +17,17 @@ use bx_layout::AreaBlock;
 use bx_places::SLOTS;
 use std::alloc::Global;
 
-/// The root's handle: area 0, slot 0, generation 1.
-pub(crate) const ROOT: u64 = 1;
-
 /// A slot that is in use.
 #[derive(Clone, Copy)]
-pub(crate) struct UsedSlot {
+pub struct UsedSlot {
     /// The handle of the chunk in it.
-    pub(crate) handle: u64,
+    pub handle: u64,
     /// Whether it is marked as that of a dead inode.
-    pub(crate) dead: bool,
+    pub dead: bool,
 }
 
 /// The slots of a volume that are in use, in the order of their blocks. Torn exactly where one that isn't in use is marked.
-pub(crate) fn used_slots<B: Blocks>(
+pub fn used_slots<B: Blocks>(
     alloc: Global,
     blocks: &mut B,
     areas: u16,
@@ -45,6 +42,7 @@ pub(crate) fn used_slots<B: Blocks>(
     ensures keeps_areas { B.areas blocks.new ≡ B.areas blocks.old }
     ensures keeps_lender { B.lender blocks.new ≡ B.lender blocks.old }
     ensures keeps_ready { B.ready blocks.new }
+    ensures keeps_telling { B.tells blocks.old → B.tells blocks.new }
 {
     let mut used = Vec::new(alloc);
     for area in 0..areas {
@@ -67,6 +65,7 @@ fn slots_of<B: Blocks>(alloc: Global, blocks: &mut B, area: u16) -> Result<AreaB
     ensures keeps_areas { B.areas blocks.new ≡ B.areas blocks.old }
     ensures keeps_lender { B.lender blocks.new ≡ B.lender blocks.old }
     ensures keeps_ready { B.ready blocks.new }
+    ensures keeps_telling { B.tells blocks.old → B.tells blocks.new }
 {
     match own_block(alloc, blocks, area)? {
         OwnBlock::Slots(slots) => Ok(slots),

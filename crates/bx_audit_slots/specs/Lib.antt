@@ -1,0 +1,4 @@
+pub mod OwnBlocks
+pub mod UsedSlots
+pub mod Told
+pub mod Numbers

@@ -1,7 +1,7 @@
 use Rattle.std.proofs.Common.{◌≡◌}
 use Rattle.bx_disk.specs.Counts.{NoneFalls}
 use Rattle.bx_paxos_machines.specs.Beginning.{AreBegun, AreIdle, HasFirst, IsCalm}
-use Rattle.bx_paxos_making.proofs.Making.{AreMadeTo}
+use Rattle.bx_paxos_making.proofs.Lists.{AreMadeTo}
 use Rattle.bx_paxos_making.proofs.making.begin_all.Given as goal
 
 abbrev pub invariant-loop-place : goal.invariant-loop-place

@@ -1,5 +1,5 @@
 use Rattle.bx_paxos_machines.specs.Beginning.{AreNew}
-use Rattle.bx_paxos_making.proofs.Making.{AreMadeTo}
+use Rattle.bx_paxos_making.proofs.Lists.{AreMadeTo}
 use Rattle.bx_paxos_making.proofs.making.make_all.Given as goal
 
 abbrev pub invariant-loop-place : goal.invariant-loop-place

@@ -1,5 +1,5 @@
 use Rattle.std.proofs.Common.{refl, ◌∙◌}
-use Rattle.bx_paxos_making.proofs.Making.{calm_none, has_disk, none_none}
+use Rattle.bx_paxos_making.proofs.Lists.{calm_none, has_disk, none_none}
 use Rattle.bx_paxos_making.proofs.making.make_begun.Goals as goal
 
 pub begin-requires-clause-whole : goal.begin-requires-clause-whole

@@ -29,7 +29,8 @@ use bx_disk::Rack;
 use bx_facts::{FactError, Input, OpenError, Outbox, ProposeError};
 use bx_global::{Change, GlobalState};
 use bx_paxos_found::{Origins, find};
-use bx_paxos_machines::{Machine, begin_anew, make_all, place_of};
+use bx_paxos_machines::{Machine, place_of};
+use bx_paxos_making::{begin_anew, make_all};
 use std::alloc::Global;
 use std::marker::Model;
 

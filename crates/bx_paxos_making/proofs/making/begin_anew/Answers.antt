@@ -6,8 +6,8 @@ use Rattle.bx_cell.specs.Formats.{first}
 use Rattle.bx_cell.specs.Halves.{cell_in}
 use Rattle.bx_global.proofs.Lengths.{length-held}
 use Rattle.bx_global.specs.Bytes.{held_text}
-use Rattle.bx_paxos_machines.proofs.Beginnings.{any_ok, beside_labels, beside_members, calm_image, calm_labels, calm_members, none_none, none_twice, rose_on, same_labels, same_members}
-use Rattle.bx_paxos_machines.proofs.making.begin_anew.Goals as goal
+use Rattle.bx_paxos_making.proofs.Lists.{any_ok, beside_labels, beside_members, calm_image, calm_labels, calm_members, none_none, none_twice, rose_on, same_labels, same_members}
+use Rattle.bx_paxos_making.proofs.making.begin_anew.Goals as goal
 
 pub format_each-requires-clause-short : goal.format_each-requires-clause-short
 format_each-requires-clause-short r c =

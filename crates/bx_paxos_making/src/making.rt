@@ -14,7 +14,6 @@ ghost use Rattle.bx_rounds.specs.Courses.{started};
 ghost use Rattle.bx_paxos_machines.specs.Beginning.{AreBegun, AreIdle, AreMachines, AreNew, HasFirst, IsBegun, IsCalm, IsNew, name_in};
 ghost use Rattle.bx_paxos_machines.specs.Parts.{IsPart, course_of, name_of};
 
-use crate::machine::Machine;
 use bx_acceptor::{Acceptor, first_value};
 use bx_base::{Actor, OutOfMemory};
 use bx_cell::format_each;
@@ -23,6 +22,7 @@ use bx_facts::FactError;
 use bx_global::GlobalState;
 use bx_paxos::Replica;
 use bx_paxos_found::Origins;
+use bx_paxos_machines::Machine;
 use bx_proposer::Proposer;
 use std::alloc::Global;
 

@@ -1,6 +1,6 @@
 use Rattle.std.proofs.Common.{refl, ◌∙◌}
-use Rattle.bx_paxos_machines.proofs.Beginnings.{calm_none, has_disk, none_none}
-use Rattle.bx_paxos_machines.proofs.making.make_begun.Goals as goal
+use Rattle.bx_paxos_making.proofs.Lists.{calm_none, has_disk, none_none}
+use Rattle.bx_paxos_making.proofs.making.make_begun.Goals as goal
 
 pub begin-requires-clause-whole : goal.begin-requires-clause-whole
 begin-requires-clause-whole r c = c.in_ok-machine.ensures.part.whole

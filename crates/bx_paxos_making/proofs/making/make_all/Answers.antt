@@ -1,8 +1,8 @@
 use Rattle.std.proofs.Common.{◌+◌, List, sym, subst, ◌∙◌, arith}
 use Rattle.bx_paxos_machines.specs.Beginning.{AreNew}
 use Rattle.bx_paxos_machines.specs.declared.machine.Machine.{Machine}
-use Rattle.bx_paxos_machines.proofs.Beginnings.{AreMadeTo, made_all, made_more, new_push}
-use Rattle.bx_paxos_machines.proofs.making.make_all.Goals as goal
+use Rattle.bx_paxos_making.proofs.Lists.{AreMadeTo, made_all, made_more, new_push}
+use Rattle.bx_paxos_making.proofs.making.make_all.Goals as goal
 
 pub loop-place-preserved : goal.loop-place-preserved
 loop-place-preserved c =

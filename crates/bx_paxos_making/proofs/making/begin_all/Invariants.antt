@@ -1,8 +1,8 @@
 use Rattle.std.proofs.Common.{◌≡◌}
 use Rattle.bx_disk.specs.Counts.{NoneFalls}
 use Rattle.bx_paxos_machines.specs.Beginning.{AreBegun, AreIdle, HasFirst, IsCalm}
-use Rattle.bx_paxos_machines.proofs.Beginnings.{AreMadeTo}
-use Rattle.bx_paxos_machines.proofs.making.begin_all.Given as goal
+use Rattle.bx_paxos_making.proofs.Lists.{AreMadeTo}
+use Rattle.bx_paxos_making.proofs.making.begin_all.Given as goal
 
 abbrev pub invariant-loop-place : goal.invariant-loop-place
 invariant-loop-place r l = record {

@@ -4,8 +4,8 @@ use Rattle.bx_base.specs.declared.names.Actor.{Actor}
 use Rattle.bx_facts.specs.Machines.{IsMachine}
 use Rattle.bx_paxos_machines.specs.Beginning.{AreBegun, AreIdle}
 use Rattle.bx_paxos_machines.specs.declared.machine.Machine.{Machine}
-use Rattle.bx_paxos_machines.proofs.Beginnings.{AreMadeTo, begun_push, calm_begun, calm_first, calm_twice, idle_push, machine_in, made_all, made_more, none_twice, rose_on}
-use Rattle.bx_paxos_machines.proofs.making.begin_all.Goals as goal
+use Rattle.bx_paxos_making.proofs.Lists.{AreMadeTo, begun_push, calm_begun, calm_first, calm_twice, idle_push, machine_in, made_all, made_more, none_twice, rose_on}
+use Rattle.bx_paxos_making.proofs.making.begin_all.Goals as goal
 
 pub loop-place-preserved : goal.loop-place-preserved
 loop-place-preserved r c =

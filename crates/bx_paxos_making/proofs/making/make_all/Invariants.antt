@@ -1,6 +1,6 @@
 use Rattle.bx_paxos_machines.specs.Beginning.{AreNew}
-use Rattle.bx_paxos_machines.proofs.Beginnings.{AreMadeTo}
-use Rattle.bx_paxos_machines.proofs.making.make_all.Given as goal
+use Rattle.bx_paxos_making.proofs.Lists.{AreMadeTo}
+use Rattle.bx_paxos_making.proofs.making.make_all.Given as goal
 
 abbrev pub invariant-loop-place : goal.invariant-loop-place
 invariant-loop-place l = record {

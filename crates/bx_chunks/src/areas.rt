@@ -26,7 +26,7 @@ pub(crate) fn block_at(handle: u64) -> u64
 }
 
 /// The number of the own block of an area.
-pub(crate) fn own_block(area: u16) -> u64
+pub fn own_block(area: u16) -> u64
     ensures { result ≡ own_block area }
 {
     ChunkHandle::own(area).block()
@@ -51,11 +51,7 @@ pub(crate) fn seen<'a, V: View>(
 }
 
 /// The slots that a block has as the own block of an area; `None` exactly where it is no such block.
-pub(crate) fn slots_of(
-    alloc: Global,
-    area: u16,
-    block: &Block,
-) -> Result<Option<AreaBlock>, OutOfMemory>
+pub fn slots_of(alloc: Global, area: u16, block: &Block) -> Result<Option<AreaBlock>, OutOfMemory>
     ensures some { IfOk result (λ found. IfSome found (λ slots. HasSlots area slots block.now)) }
     ensures none { IfOk result (λ found. IfNone found ((slots : AreaBlock) → HasSlots area slots block.now → ⊥)) }
 {

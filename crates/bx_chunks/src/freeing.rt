@@ -86,7 +86,7 @@ fn slots_of_used<V: View>(
 }
 
 /// The slots of the area of a handle, where its slot's word gives it.
-pub(crate) fn slots_of_given<V: View>(
+pub fn slots_of_given<V: View>(
     alloc: Global,
     draft: &Draft,
     view: &V,

@@ -43,7 +43,7 @@ pub(crate) fn put_slot(
 }
 
 /// Puts the own block of an area with these slots. On an error nothing changes.
-pub(crate) fn put_area(
+pub fn put_area(
     alloc: Global,
     draft: &mut Draft,
     area: u16,

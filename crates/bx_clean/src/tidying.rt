@@ -9,7 +9,8 @@ ghost use Rattle.bx_clean.specs.Tidying.{HoldsDraft, NeedsFor, Stops, TidiesAt, 
 
 use crate::files::clean_file;
 use bx_base::{Mode, OutOfMemory};
-use bx_chunks::{ChunkError, first_dead};
+use bx_chunks::ChunkError;
+use bx_marks::first_dead;
 use bx_records::Draft;
 use bx_views::View;
 use std::alloc::Global;

@@ -5,11 +5,12 @@ use Rattle.std.proofs.lemmas.Bool.{and_parts, and_from, ltb-true, lt-ltb}
 use Rattle.std.proofs.lemmas.List.{length-append}
 use Rattle.bx_fields.proofs.Fields.{IsField, as_field, then_field, fits_field, sized_bytes_field, field32, field64}
 use Rattle.bx_layout.specs.declared.inode.Inode.{Inode}
-use Rattle.bx_layout.specs.declared.inode_parts.OwnerPart.{OwnerPart}
-use Rattle.bx_layout.specs.declared.inode_parts.SizePart.{SizePart}
-use Rattle.bx_layout.specs.declared.inode_parts.TreePart.{TreePart}
+use Rattle.bx_inode_parts.specs.declared.parts.OwnerPart.{OwnerPart}
+use Rattle.bx_inode_parts.specs.declared.parts.SizePart.{SizePart}
+use Rattle.bx_inode_parts.specs.declared.parts.TreePart.{TreePart}
 use Rattle.bx_layout.specs.Inodes.{IsKind, IsTime, IsInode, time_text, owner_text, size_text, tree_text, inode_text}
-use Rattle.bx_layout.specs.InodeReading.{Pairs, pair_at, pairs_at, owner_with, owner_fields, is_kind, is_owner, owner_at, size_with, size_fields, sizes_at, tree_with, tree_fields, path_at, tree_at, inode_with, inode_parts, inode_at}
+use Rattle.bx_inode_parts.specs.Reading.{Pairs, pair_at, pairs_at, owner_with, owner_fields, is_kind, is_owner, owner_at, size_with, size_fields, sizes_at, tree_with, tree_fields, path_at, tree_at}
+use Rattle.bx_layout.specs.InodeReading.{inode_with, inode_parts, inode_at}
 use Rattle.bx_layout.proofs.Rows.{IsRow, row_field}
 
 -- ---- what the parts have

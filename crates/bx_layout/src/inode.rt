@@ -7,9 +7,9 @@ ghost use Rattle.bx_layout.specs.Inodes.{IsInode, SpellsInode, inode_text, owner
 ghost use Rattle.bx_layout.specs.InodeReading.{inode_at};
 ghost use Rattle.bx_layout.specs.declared.inode.Inode.{Inode};
 
-use crate::inode_parts::{owner_of, sizes_of, tree_of};
 use bx_base::{OutOfMemory, Raw};
 use bx_fields::{ReadError, are_zeros, clear_from, put, put_u32, put_u64};
+use bx_inode_parts::{owner_of, sizes_of, tree_of};
 use bx_places::PAYLOAD;
 use std::alloc::Global;
 

@@ -6,7 +6,6 @@ mod area;
 mod block;
 mod gate;
 mod inode;
-mod inode_parts;
 mod label;
 mod readings;
 mod slots;

@@ -16,7 +16,7 @@ use bx_base::{CallNo, OutOfMemory};
 use bx_disk::{Rack, RackError};
 use bx_engine::BoxFs;
 use bx_format::{format, what_is_formatted_is_at_rest};
-use bx_global::{begins_allowed, opening};
+use bx_global_laws::{begins_allowed, opening};
 use bx_lone_node::LoneNode;
 use bx_lone_store::PlainStore;
 use bx_redo::a_log_begins;

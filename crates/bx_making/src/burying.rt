@@ -17,9 +17,10 @@ ghost use Rattle.bx_views.specs.Attempts.{IsHeldDraft};
 ghost use Rattle.bx_views.specs.Truths.{IsTruth, Truth, with_draft};
 ghost use Rattle.bx_making.specs.Burying.{BuriesAt, BuriesIn, BuriesTo, IsBare};
 
-use bx_chunks::{ChunkError, copy_of, mark_dead};
+use bx_chunks::{ChunkError, copy_of};
 use bx_inodes::put_inode;
 use bx_layout::Inode;
+use bx_marks::mark_dead;
 use bx_places::MOST_BLOCKS;
 use bx_records::Draft;
 use bx_views::View;

@@ -7,7 +7,8 @@ ghost use Rattle.bx_plain.specs.Begin.{plain_rows, plain_state};
 ghost use Rattle.bx_plain.specs.Fits.{IsPlainState};
 
 use bx_base::{List, OutOfMemory};
-use bx_global::{GlobalState, opening};
+use bx_global::GlobalState;
+use bx_global_laws::opening;
 use bx_rows::SessionRow;
 use std::alloc::Global;
 

@@ -10,8 +10,9 @@ ghost use Rattle.bx_plain.specs.Rows.{floor_in, hold_in, want_in};
 use crate::asks::first_asked;
 use crate::rows::{Row, floor_of, given_after, hold_at, is_free, put, row_of, session_at, want_at};
 use bx_base::{Actor, List, Mode, OutOfMemory};
-use bx_facts::{Input, Outbox, Owners};
+use bx_facts::{Input, Outbox};
 use bx_global::{Change, GlobalState};
+use bx_owners::Owners;
 use std::alloc::Global;
 
 /// When a session ends, in milliseconds.

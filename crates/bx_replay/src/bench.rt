@@ -40,7 +40,7 @@ pub(crate) fn read_back<B: CrashRack>(alloc: Global, bench: &mut B) -> Result<Li
     ensures keeps_telling { B.tells bench.old → B.tells bench.new }
 {
     crash_all(bench, Noise::Drop)?;
-    let state = bx_global::opening(alloc, 1, 1)?;
+    let state = bx_global_laws::opening(alloc, 1, 1)?;
     let listed = audit(alloc, bench, &state)?;
     Ok(listed)
 }

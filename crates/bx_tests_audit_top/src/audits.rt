@@ -5,7 +5,7 @@ use bx_audit::{Listing, audit};
 use bx_calls::write_some;
 use bx_disk::Rack;
 use bx_format::format;
-use bx_global::opening;
+use bx_global_laws::opening;
 use bx_memory_rack::MemRack;
 use bx_overlay::AuditError;
 use std::alloc::Global;

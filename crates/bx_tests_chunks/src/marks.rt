@@ -1,7 +1,8 @@
 //! Marks of dead inodes.
 
 use crate::shelf::{AREAS, Shelf};
-use bx_chunks::{ChunkError, allocate, first_dead, mark_dead};
+use bx_chunks::{ChunkError, allocate};
+use bx_marks::{first_dead, mark_dead};
 use bx_records::Draft;
 use std::alloc::Global;
 use std::test::Fail;

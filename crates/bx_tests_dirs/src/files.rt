@@ -5,9 +5,10 @@ ghost use Rattle.bx_layout.specs.Inodes.{IsInode};
 
 use crate::desk::{Desk, block_of};
 use bx_base::Raw;
-use bx_chunks::{ChunkError, first_dead};
+use bx_chunks::ChunkError;
 use bx_layout::Inode;
 use bx_making::{bury, make, make_link};
+use bx_marks::first_dead;
 use bx_records::Draft;
 use std::alloc::Global;
 use std::test::Fail;

@@ -9,8 +9,9 @@ ghost use Rattle.bx_tests_facts.specs.Together.{Followed, MayStep, Together};
 
 use bx_base::Actor;
 use bx_disk::Rack;
-use bx_facts::{FactError, Input, Outbox, Owners, Register};
+use bx_facts::{FactError, Input, Outbox, Register};
 use bx_global::Change;
+use bx_owners::Owners;
 
 /// One event of a machine, at the register and then at the owners.
 pub fn hear<G: Register, O: Owners, R: Rack>(

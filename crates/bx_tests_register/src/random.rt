@@ -68,7 +68,7 @@ fn labels(rack: &mut MemRack) -> bool {
 }
 
 /// A register on three new disks, and these.
-fn register(alloc: Global) -> Option<(Paxos, MemRack)> {
+pub(crate) fn register(alloc: Global) -> Option<(Paxos, MemRack)> {
     let state = first_state(alloc)?;
     let Ok(mut rack) = MemRack::new(alloc, &[21, 21, 21], &[]) else {
         return None;

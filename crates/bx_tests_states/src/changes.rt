@@ -2,7 +2,8 @@
 
 use crate::numbers::numbers;
 use bx_base::OutOfMemory;
-use bx_global::{Change, GlobalState, formatted, opening};
+use bx_global::{Change, GlobalState};
+use bx_global_laws::{formatted, opening};
 use std::alloc::Global;
 use std::test::Fail;
 

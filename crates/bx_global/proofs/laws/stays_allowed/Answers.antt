@@ -1,5 +1,0 @@
-use Rattle.bx_global.proofs.StaysAllowed.{stays_allowed}
-use Rattle.bx_global.proofs.laws.stays_allowed.Goals as goal
-
-pub returns : goal.returns
-returns c = stays_allowed

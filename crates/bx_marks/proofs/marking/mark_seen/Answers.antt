@@ -1,0 +1,21 @@
+use Rattle.std.proofs.Common.{◌<◌, subst}
+use Rattle.bx_handles.specs.declared.chunk_handle.ChunkHandle.{ChunkHandle}
+use Rattle.bx_layout.specs.Areas.{MarksDead}
+use Rattle.bx_records.specs.Drafts.{with_block}
+use Rattle.bx_truth.specs.Chunks.{own_block}
+use Rattle.bx_chunks.specs.Putting.{PutsAs, own_of}
+use Rattle.bx_chunks.proofs.Marks.{marks_at}
+use Rattle.bx_marks.proofs.marking.mark_seen.Goals as goal
+
+pub returns-clause-at : goal.returns-clause-at
+returns-clause-at g c =
+    marks_at (g.V.View.held c.args.view.now) c.args.draft.now c.put_area.new.draft c.args.handle c.args.dead
+    (record {
+      slot = subst (λ (h : ChunkHandle). h.slot < 960) c.of-parts.ensures c.if-parts-ge-SLOTS.false;
+      slots = c.in_ok-slots.slots;
+      given = c.in_ok-slots.ensures;
+      slots_now = c.mark_dead.new.self;
+      marks = subst (λ (h : ChunkHandle). MarksDead c.in_ok-slots.slots c.mark_dead.new.self h.slot c.args.dead) c.of-parts.ensures c.mark_dead.ensures.marked;
+    })
+    c.put_area.result
+    (subst (λ (h : ChunkHandle). PutsAs c.put_area.new.draft (with_block c.args.draft.now (own_block h.area) (own_of h.area c.mark_dead.new.self)) c.put_area.result) c.of-parts.ensures c.put_area.ensures.puts)

@@ -3,8 +3,9 @@
 use crate::random::register;
 use crate::states::first_state;
 use bx_calls::{read_sectors, write_through};
-use bx_disk::{MemRack, Rack};
+use bx_disk::Rack;
 use bx_facts::OpenError;
+use bx_memory_rack::MemRack;
 use bx_paxos_cluster::Paxos;
 use std::alloc::Global;
 

@@ -4,7 +4,7 @@ ghost use Rattle.std.specs.Prelude.{◌≡◌, ◌+◌, ◌<◌, ◌≤◌, ◌&
 ghost use Rattle.bx_tree_files.specs.FileEdits.{CanEdit, CanEnter, CanReplace, edited, is_sure as is_sure_edit, replaced};
 ghost use Rattle.bx_tree_files.specs.Files.{IsFile};
 ghost use Rattle.bx_tree_files.specs.Changes.{entered, taken_out, moved_to, most_bytes, resized, sets_field as sets_a_field, with_data, with_fields, with_size};
-ghost use Rattle.bx_tree_parts.specs.Times.{is_given as is_given_word, stored as stored_time};
+ghost use Rattle.bx_tree_parts.specs.Times.{is_given as is_given_word};
 
 use crate::file::{Body, File};
 use crate::sattr::Sattr;

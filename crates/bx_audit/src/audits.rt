@@ -71,7 +71,7 @@ fn listed_by<R: Rack>(
     let read = read_disks(alloc, rack, state)?;
     let walked = walked_in(alloc, rack, &read)?;
     let tree = tree_in(alloc, rack, &read, walked)?;
-    let text = tree.listing()?;
+    let text = bx_listing::listing(&tree)?;
     Ok(Listing {
         text,
         doubt: read.doubt,

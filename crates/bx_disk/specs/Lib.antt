@@ -2,10 +2,5 @@ pub mod Disks
 pub mod Moments
 pub mod Counts
 pub mod Crash
-pub mod Cells
 pub mod Past
-pub mod Bytes
-pub mod Drawn
-pub mod Laws
-pub mod Memory
 pub mod Stops

@@ -3,7 +3,6 @@ use Rattle.std.specs.Prelude.{◌≡◌, ◌≢◌, ℕ, ◌+◌, ◌^◌, ◌<�
 use Rattle.bx_base.specs.declared.names.Actor.{Actor}
 use Rattle.bx_disk.specs.Disks.{Image, Disks, IsSector, Stays}
 use Rattle.bx_global.specs.declared.state.GlobalState.{GlobalState}
-use Rattle.bx_places.specs.Places.{replica_sectors}
 use Rattle.bx_facts.specs.Machines.{disk_of}
 
 -- A sector reads as it did, and is sure if it was.
@@ -24,6 +23,10 @@ pub record SameLabels (old new : Disks) : Type 0 where
 pub record SameDisks (old new : Disks) : Type 0 where
   pub each : (d s : ℕ) → IsKept old new d s
 
+-- The disks of replicas are as long as they were.
+pub record SameLengths (old new : Disks) : Type 0 where
+  pub each : (d : ℕ) → d < 3 → slice_index new.sizes d ≡ slice_index old.sizes d
+
 -- Disks other than a machine's own are as they were.
 pub record OnlyDiskOf (who : Actor) (old new : Disks) : Type 0 where
   pub others : (d s : ℕ) → disk_of who ≢ Some d → Stays old new d s
@@ -37,21 +40,14 @@ pub record Crashes (disk : ℕ) (old new : Disks) : Type 0 where
   pub others : (d s : ℕ) → d ≢ disk → Stays old new d s
 
 -- An image has what was sure on the disks of members and in the labels of replicas, and is read as one of these states.
-pub record ReadsOnly (reads_as : Image → GlobalState → Type 0) (old : Disks) (May : GlobalState → Type 0) (image : Image) : Type 0 where
+pub record ReadsOnly (reads_as : List ℕ → Image → GlobalState → Type 0) (old : Disks) (May : GlobalState → Type 0) (image : Image) : Type 0 where
   pub members : (d s : ℕ) → 3 ≤ d → old.unsure d s ≡ false → image d s ≡ old.reads d s
   pub labels : (d : ℕ) → d < 3 → old.unsure d 0 ≡ false → image d 0 ≡ old.reads d 0
-  pub read : (s : GlobalState) → reads_as image s → May s
+  pub read : (s : GlobalState) → reads_as old.sizes image s → May s
 
--- The disk of a replica isn't there, or isn't as long as it must be.
-pub record LackReplica (sizes : List ℕ) : Type 0 where
-  pub replica : ℕ
-  pub low : replica < 3
-  pub short : slice_index sizes replica < replica_sectors
-
--- Disks tell no state that another may follow: the disk of a replica isn't there, they are read as none, or as one whose index is the greatest
--- that a number can be.
-abbrev pub TellNoState : (Image → GlobalState → Type 0) → Disks → Type 0
-TellNoState reads_as x = LackReplica x.sizes ⊎ (((s : GlobalState) → reads_as x.reads s → ⊥) ⊎ ((s : GlobalState) × reads_as x.reads s × (2 ^ 64 ≤ s.index + 1)))
+-- Disks tell no state that another may follow: they are read as none, or as one whose index is the greatest that a number can be.
+abbrev pub TellNoState : (List ℕ → Image → GlobalState → Type 0) → Disks → Type 0
+TellNoState reads_as x = ((s : GlobalState) → reads_as x.sizes x.reads s → ⊥) ⊎ ((s : GlobalState) × reads_as x.sizes x.reads s × (2 ^ 64 ≤ s.index + 1))
 
 -- A rack has as many sectors of each disk as are needed.
 pub record HasRoom (needs : ℕ → ℕ) (sizes : List ℕ) : Type 0 where

@@ -17,7 +17,7 @@ ghost use Rattle.bx_facts.specs.declared.input.FactError.TheVariants.{Disk as Di
 ghost use Rattle.bx_facts.specs.declared.input.OpenError.TheVariants.{Disk as OpenFails, NoLabel, NoMajority, Spent};
 ghost use Rattle.bx_facts.specs.declared.input.ProposeError.TheVariants.{NotLegal, Busy};
 ghost use Rattle.bx_facts.specs.Chains.{last, AreLegal, IsAboveBoots, IsNext, IsPlace, most_boot};
-ghost use Rattle.bx_facts.specs.Disks.{Crashes, HasRoom, NeedsAt, NeedsNoMore, OnlyDiskOf, ReadsOnly, SameDisks, SameLabels, SameMembers, SameReplicas, TellNoState, wanted_by};
+ghost use Rattle.bx_facts.specs.Disks.{Crashes, HasRoom, NeedsAt, NeedsNoMore, OnlyDiskOf, ReadsOnly, SameDisks, SameLabels, SameLengths, SameMembers, SameReplicas, TellNoState, wanted_by};
 ghost use Rattle.bx_facts.specs.Inputs.{AreAmong, IsRegisters, SendsOnly};
 ghost use Rattle.bx_facts.specs.Labelled.{IsLabelled};
 ghost use Rattle.bx_facts.specs.Machines.{IsMachine, OnlyAt, OnlyFactsAt, SameFacts, disk_of};
@@ -53,8 +53,8 @@ pub trait Register: Drop {
     /// This past is one that led to it, and the disks hold what its calls left on them.
     ghost keeps: { Self → Disks → RegisterPast → Type 0 };
 
-    /// An image is read as this state, for a register that was made with the first one.
-    ghost reads_as: { GlobalState → Image → GlobalState → Type 0 };
+    /// An image of disks of these sizes is read as this state, for a register that was made with the first one.
+    ghost reads_as: { GlobalState → List ℕ → Image → GlobalState → Type 0 };
 
     /// The state that a machine knows. It takes no memory.
     fn known(&self, who: Actor) -> &GlobalState
@@ -158,7 +158,7 @@ pub trait Register: Drop {
     /// above 4611686018427387903, `NoLabel` never.
     fn open<R: Rack>(&mut self, rack: &mut R) -> Result<u64, OpenError>
         ensures keeps { R.tells rack.old → is_new self.old → IfOk result (λ boot. keeps self.new (R.state rack.new) (found_register (knows self.new (Replica 0)) boot)) }
-        ensures found { R.tells rack.old → is_new self.old → OnOk result (reads_as (made self.old) (R.state rack.old).reads (knows self.new (Replica 0))) }
+        ensures found { R.tells rack.old → is_new self.old → OnOk result (reads_as (made self.old) (R.state rack.old).sizes (R.state rack.old).reads (knows self.new (Replica 0))) }
         ensures few { IfOk result (λ boot. boot ≤ most_boot) }
         ensures no_label { (disk : ℕ) → IsErrOf result (NoLabel disk) → ⊥ }
         ensures no_majority { R.tells rack.old → is_new self.old → IsErrOf result NoMajority → TellNoState (reads_as (made self.old)) (R.state rack.old) }
@@ -183,16 +183,16 @@ pub trait Register: Drop {
     ghost begins_allowed: { (g : Self) (x : Disks) (past : RegisterPast) → keeps g x past → ∥ IsAllowed past.chain.first ∥₁ };
 
     /// An image is read as the last state, or as one that a proposed change makes of it.
-    ghost reads_next: { (g : Self) (x : Disks) (past : RegisterPast) (image : Image) (s : GlobalState) → keeps g x past → IsImage x image → reads_as (made g) image s → IsNext past.proposed (last past.chain) s };
+    ghost reads_next: { (g : Self) (x : Disks) (past : RegisterPast) (image : Image) (s : GlobalState) → keeps g x past → IsImage x image → reads_as (made g) x.sizes image s → IsNext past.proposed (last past.chain) s };
 
     /// An image in which two replicas are labelled, for a volume of as many devices, is read as some state.
-    ghost reads_some: { (g : Self) (x : Disks) (past : RegisterPast) (image : Image) (n m : ℕ) → keeps g x past → IsImage x image → n ≢ m → IsLabelled (length (made g).devices) image n → IsLabelled (length (made g).devices) image m → (s : GlobalState) × reads_as (made g) image s };
+    ghost reads_some: { (g : Self) (x : Disks) (past : RegisterPast) (image : Image) (n m : ℕ) → keeps g x past → IsImage x image → n ≢ m → IsLabelled (length (made g).devices) x.sizes image n → IsLabelled (length (made g).devices) x.sizes image m → (s : GlobalState) × reads_as (made g) x.sizes image s };
 
-    /// Other disks don't matter.
-    ghost elsewhere: { (g : Self) (x y : Disks) (past : RegisterPast) → keeps g x past → SameReplicas x y → SameLabels x y → keeps g y past };
+    /// Other disks don't matter, of whatever length.
+    ghost elsewhere: { (g : Self) (x y : Disks) (past : RegisterPast) → keeps g x past → SameLengths x y → SameReplicas x y → SameLabels x y → keeps g y past };
 
     /// The disk of a machine that is down may crash.
-    ghost survives: { (g : Self) (x y : Disks) (past : RegisterPast) (n : ℕ) → keeps g x past → past.down (Replica n) ≡ true → Crashes n x y → keeps g y past };
+    ghost survives: { (g : Self) (x y : Disks) (past : RegisterPast) (n : ℕ) → keeps g x past → past.down (Replica n) ≡ true → SameLengths x y → Crashes n x y → keeps g y past };
 
     /// Letters may be lost, and come in any order and number; those of other layers don't matter.
     ghost loses: { (g : Self) (x : Disks) (past : RegisterPast) (letters : List Letter) → keeps g x past → AreAmong IsRegisters letters past.letters → keeps g x (record past { letters = letters }) };

@@ -4,7 +4,6 @@ pub mod Edits
 pub mod Steps
 pub mod Reading
 pub mod Directories
-pub mod Pages
 pub mod Mounting
 pub mod Writing
 pub mod Making

@@ -1,5 +1,5 @@
 -- The procedures that make files and entries: CREATE, SYMLINK, MKDIR and LINK.
-use Rattle.std.specs.Prelude.{ℕ, ◌+◌, ◌%◌, ◌==◌, nat_lt, nat_le, Bool, false, not, ◌&&◌, if◌then◌else◌, List, [], replicate, is_some, Option, Some, None, Result, Ok}
+use Rattle.std.specs.Prelude.{ℕ, ◌%◌, ◌==◌, nat_lt, nat_le, Bool, false, not, ◌&&◌, if◌then◌else◌, List, [], replicate, is_some, Option, Some, None, Result, Ok}
 use Rattle.bx_model.specs.declared.call.Call.{Call}
 use Rattle.bx_tree_files.specs.declared.sattr.Sattr.{Sattr}
 use Rattle.bx_tree_files.specs.declared.file.Body.{Body}
@@ -14,7 +14,7 @@ use Rattle.bx_model.specs.declared.tree.Tree.{Tree}
 use Rattle.bx_model.specs.Edits.{changed, with_new}
 use Rattle.bx_tree_files.specs.Files.{file_at, is_directory, is_regular, kind_of}
 use Rattle.bx_tree_files.specs.Entries.{is_bad, entry_named}
-use Rattle.bx_tree_files.specs.Names.{names_of, next_of, with_entry}
+use Rattle.bx_tree_files.specs.Names.{names_of, next_of}
 use Rattle.bx_model.specs.Permissions.{may}
 use Rattle.bx_model.specs.Reading.{named_file, handle_reply}
 use Rattle.bx_model.specs.Steps.{Outcome, Making, must, refuse, ◌>>=◌, ◌>>◌}

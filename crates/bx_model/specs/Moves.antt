@@ -1,23 +1,17 @@
--- RENAME in steps: the two directories, the move between them, and what is done of a move that may be made.
-use Rattle.std.specs.Prelude.{◌≡◌, ℕ, ◌==◌, true, not, if◌then◌else◌, List, Option, Some, None, Result, Ok}
+-- RENAME in steps: the two directories, the move between them, and the errors of the way up.
+use Rattle.std.specs.Prelude.{◌≡◌, ℕ, ◌==◌, true, not, if◌then◌else◌, List, Some, Result, Ok}
 use Rattle.std.specs.List.{list_any}
 use Rattle.bx_model.specs.declared.call.Call.{Call}
 use Rattle.bx_tree_files.specs.declared.file.File.{File}
 use Rattle.bx_model.specs.declared.permissions.Want.TheVariants as want
-use Rattle.bx_model.specs.declared.renaming.Displaced.{Displaced}
-use Rattle.bx_model.specs.declared.renaming.Move.{Move}
 use Rattle.bx_model.specs.declared.reply.Reply.TheVariants as reply
 use Rattle.bx_model.specs.declared.status.TheConstants.{ACCES, NAMETOOLONG, NFS_OK, NOENT, NOTDIR, PERM, STALE}
 use Rattle.bx_model.specs.declared.tree.Tree.{Tree}
-use Rattle.bx_model.specs.Edits.{changed, without}
 use Rattle.bx_tree_files.specs.Entries.{is_bad, entry_named}
-use Rattle.bx_tree_files.specs.FileEdits.{CanEnter, CanReplace, replaced}
 use Rattle.bx_tree_files.specs.Files.{file_at, is_directory}
-use Rattle.bx_tree_files.specs.Changes.{entered, taken_out, moved_to}
 use Rattle.bx_tree_files.specs.Names.{names_of}
 use Rattle.bx_model.specs.Permissions.{may}
 use Rattle.bx_model.specs.Reading.{named_file}
-use Rattle.bx_model.specs.Removing.{without_link}
 use Rattle.bx_model.specs.Renaming.{file_of_entry, is_same, move_errors, renamed, way_up}
 use Rattle.bx_model.specs.Steps.{Outcome, must, refuse, ◌>>=◌, ◌>>◌}
 use Rattle.bx_tree_files.specs.Times.{Time}
@@ -56,37 +50,3 @@ way_errors tree moves directory handle = do
 pub record IsPlace (tree : Tree) (directory : File) : Type 0 where
   pub there : file_at tree.files directory.handle ≡ Some directory
   pub kind : is_directory directory ≡ true
-
--- what a move needs of the file whose name is taken
-abbrev pub displaced_of : Option File → Option Displaced
-displaced_of None = None
-displaced_of (Some file) = Some (record { handle = file.handle; nlink = file.nlink; is_directory = is_directory file })
-
--- the directories that the file may come into
-abbrev pub CanMoveIn : Move → Option Displaced → File → Type 0
-CanMoveIn move None directory = CanEnter move.new_name.now directory
-CanMoveIn move (Some displaced) directory = CanReplace directory
-
--- the directory that the file comes into, with its new entry
-abbrev pub with_moved_in : Move → Option Displaced → File → File
-with_moved_in move None directory = entered move.time move.new_name.now move.handle move.counts directory
-with_moved_in move (Some displaced) directory = replaced move.time move.new_name.now move.handle displaced.is_directory move.counts directory
-
--- the tree without a file that another one took the name of
-abbrev pub without_displaced : Time → Tree → Option Displaced → Tree
-without_displaced now tree None = tree
-without_displaced now tree (Some displaced) =
-    if displaced.is_directory then without tree displaced.handle else without_link now tree displaced.handle displaced.nlink
-
--- the tree after a move: the new entry comes first
-abbrev pub after_move : Tree → Move → Tree
-after_move tree move =
-    let come : Tree = changed tree move.target (with_moved_in move move.displaced) in
-    let left : Tree = without_displaced move.time come move.displaced in
-    let gone : Tree = changed left move.source (taken_out move.time move.name.now move.counts) in
-    changed gone move.handle (moved_to move.time move.target)
-
--- the same where there is a move to make
-abbrev pub after_moves : Tree → Option Move → Tree
-after_moves tree None = tree
-after_moves tree (Some move) = after_move tree move

@@ -1,5 +1,5 @@
 -- REMOVE and RMDIR.
-use Rattle.std.specs.Prelude.{ℕ, ◌-◌, nat_le, nat_lt, Bool, true, false, not, if◌then◌else◌, List, length, Ok, Result}
+use Rattle.std.specs.Prelude.{ℕ, nat_le, nat_lt, Bool, true, false, not, if◌then◌else◌, List, length, Ok, Result}
 use Rattle.bx_model.specs.declared.call.Call.{Call}
 use Rattle.bx_tree_files.specs.declared.file.File.{File}
 use Rattle.bx_model.specs.declared.reply.Reply.TheVariants as reply
@@ -9,7 +9,7 @@ use Rattle.bx_model.specs.Edits.{changed, without}
 use Rattle.bx_tree_files.specs.Files.{file_at, is_directory}
 use Rattle.bx_model.specs.Making.{directory_to_change}
 use Rattle.bx_tree_files.specs.Entries.{entry_named}
-use Rattle.bx_tree_files.specs.Names.{names_of, without_entry}
+use Rattle.bx_tree_files.specs.Names.{names_of}
 use Rattle.bx_model.specs.Steps.{Outcome, must, refuse, ◌>>=◌, ◌>>◌}
 use Rattle.bx_tree_files.specs.Times.{Time}
 use Rattle.bx_tree_files.specs.Changes.{taken_out, unlinked}

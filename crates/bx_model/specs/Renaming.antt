@@ -13,7 +13,7 @@ use Rattle.bx_tree_files.specs.Files.{file_at, is_directory}
 use Rattle.bx_tree_files.specs.Changes.{entered, taken_out, moved_to}
 use Rattle.bx_model.specs.Making.{entry_errors}
 use Rattle.bx_tree_files.specs.Entries.{is_bad, entry_named}
-use Rattle.bx_tree_files.specs.Names.{names_of, parent_of, with_parent}
+use Rattle.bx_tree_files.specs.Names.{names_of, parent_of}
 use Rattle.bx_model.specs.Permissions.{may}
 use Rattle.bx_model.specs.Reading.{named_file}
 use Rattle.bx_model.specs.Removing.{has_entries, without_link}

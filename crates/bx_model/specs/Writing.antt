@@ -1,20 +1,17 @@
 -- SETATTR and WRITE.
-use Rattle.std.specs.Prelude.{ℕ, ◌+◌, ◌%◌, ◌==◌, nat_lt, Bool, not, ◌&&◌, ◌||◌, if◌then◌else◌, List, length, Result, Ok}
+use Rattle.std.specs.Prelude.{ℕ, ◌+◌, ◌==◌, nat_lt, Bool, not, ◌&&◌, ◌||◌, if◌then◌else◌, List, length, Result, Ok}
 use Rattle.bx_model.specs.declared.call.Call.{Call}
 use Rattle.bx_tree_files.specs.declared.sattr.Sattr.{Sattr}
-use Rattle.bx_tree_files.specs.declared.file.Body.{Body}
-use Rattle.bx_tree_files.specs.declared.file.Body.TheVariants.{Bytes, Path, Names}
 use Rattle.bx_tree_files.specs.declared.file.File.{File}
 use Rattle.bx_model.specs.declared.permissions.Want.TheVariants as want
 use Rattle.bx_model.specs.declared.status.TheConstants.{ACCES, FBIG, ISDIR, NOSPC, NXIO, PERM, STALE}
 use Rattle.bx_model.specs.declared.tree.Tree.{Tree}
-use Rattle.bx_tree_files.specs.Contents.{sized, written_over}
 use Rattle.bx_model.specs.Edits.{changed}
 use Rattle.bx_tree_files.specs.Files.{is_directory, is_link}
 use Rattle.bx_model.specs.Permissions.{may}
 use Rattle.bx_model.specs.Reading.{named_file, attributes_reply}
 use Rattle.bx_model.specs.Steps.{Outcome, must, refuse, ◌>>=◌, ◌>>◌}
-use Rattle.bx_tree_files.specs.Times.{Time, is_given, stored}
+use Rattle.bx_tree_files.specs.Times.{Time, is_given}
 use Rattle.bx_tree_files.specs.Changes.{most_bytes, with_fields, with_data}
 
 -- whether there are too few free blocks for a procedure that may take some

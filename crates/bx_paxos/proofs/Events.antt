@@ -17,7 +17,7 @@ use Rattle.bx_cell.specs.Halves.{Found}
 use Rattle.bx_cell.specs.Images.{EachSure, HasAllSure}
 use Rattle.bx_disk.specs.Disks.{Disks, Image}
 use Rattle.bx_facts.specs.Chains.{AreLegal, Chain, GrowsBy, IsPlace}
-use Rattle.bx_facts.specs.Disks.{Crashes, SameLabels, SameReplicas}
+use Rattle.bx_facts.specs.Disks.{Crashes, SameLabels, SameLengths, SameReplicas}
 use Rattle.bx_paxos.specs.Shown.{Shows}
 use Rattle.bx_facts.specs.Inputs.{AreAmong, IsRegisters}
 use Rattle.bx_facts.specs.Pasts.{RegisterPast}
@@ -43,7 +43,7 @@ use Rattle.bx_rounds.specs.declared.course.Move.{Move}
 use Rattle.bx_rounds.specs.declared.course.Proposal.{Proposal}
 use Rattle.bx_paxos.specs.Counted.{IsCounted, IsHeldSound}
 use Rattle.bx_paxos.specs.Fits.{AllPass, Fits, Goes, IsPutOn, KnowsCell, Turned, Voters, devices_of, going, machines_of}
-use Rattle.bx_paxos.proofs.Shown.{shown_either, shown_elsewhere, shown_fewer, shown_then}
+use Rattle.bx_paxos.proofs.Shown.{AreAsLong, as_long, shown_either, shown_elsewhere, shown_fewer, shown_then}
 use Rattle.bx_paxos.proofs.Images.{at_moment, at_replica, counted_either, counted_of, crash_has, elsewhere, fewer, sound_with, synced_has, the_cell}
 use Rattle.bx_paxos.proofs.Letters.{all_more, all_none, all_on, all_to, first_stays, longer_later, longer_on, places_on, sent_pass}
 
@@ -111,7 +111,7 @@ pub loses : (v : Voters) (x : Disks) (past : RegisterPast) (letters : List Lette
 loses v x past letters f among = fewer_letters v x past letters f (λ letter has own. among.each letter own has)
 
 -- other images, by all that is sure
-pub with_images : (v : Voters) (x y : Disks) (past : RegisterPast) (f : Fits v x past) → EachSure y (IsHeldSound v.first v.origins f.history) → EachSure y (Shows v.first v.origins f.was) → Fits v y past
+pub with_images : (v : Voters) (x y : Disks) (past : RegisterPast) (f : Fits v x past) → EachSure y (IsHeldSound v.first v.origins f.history) → EachSure y (Shows v.first v.origins f.was y.sizes) → Fits v y past
 with_images v x y past f images shown = record {
   history = f.history;
   chain = f.chain;
@@ -129,17 +129,17 @@ with_images v x y past f images shown = record {
 }
 
 -- what has all that is sure has all that was sure before
-fewer_images : (v : Voters) (x y : Disks) (past : RegisterPast) → Fits v x past → ((image : Image) → HasAllSure y image → HasAllSure x image) → Fits v y past
-fewer_images v x y past f implies = with_images v x y past f (fewer v.first v.origins f.history x y implies f.images) (shown_fewer v f.was x y implies f.shown)
+fewer_images : (v : Voters) (x y : Disks) (past : RegisterPast) → Fits v x past → AreAsLong x.sizes y.sizes → ((image : Image) → HasAllSure y image → HasAllSure x image) → Fits v y past
+fewer_images v x y past f lengths implies = with_images v x y past f (fewer v.first v.origins f.history x y implies f.images) (shown_fewer v f.was x y lengths implies f.shown)
 
-pub other_disks : (v : Voters) (x y : Disks) (past : RegisterPast) → Fits v x past → SameReplicas x y → SameLabels x y → Fits v y past
-other_disks v x y past f same labels = with_images v x y past f (elsewhere v.first v.origins f.history x y same f.images) (shown_elsewhere v f.was x y same labels f.shown)
+pub other_disks : (v : Voters) (x y : Disks) (past : RegisterPast) → Fits v x past → SameLengths x y → SameReplicas x y → SameLabels x y → Fits v y past
+other_disks v x y past f lengths same labels = with_images v x y past f (elsewhere v.first v.origins f.history x y same f.images) (shown_elsewhere v f.was x y lengths same labels f.shown)
 
-pub survives : (v : Voters) (x y : Disks) (past : RegisterPast) (n : ℕ) → Fits v x past → Crashes n x y → Fits v y past
-survives v x y past n f crash = fewer_images v x y past f (crash_has v.first v.origins x y n crash)
+pub survives : (v : Voters) (x y : Disks) (past : RegisterPast) (n : ℕ) → Fits v x past → SameLengths x y → Crashes n x y → Fits v y past
+survives v x y past n f lengths crash = fewer_images v x y past f lengths.each (crash_has v.first v.origins x y n crash)
 
 pub syncs : (v : Voters) (x y : Disks) (past : RegisterPast) (n : ℕ) → Fits v x past → KeepsAll x y n → Fits v y past
-syncs v x y past n f keeps = fewer_images v x y past f (synced_has v.first v.origins x y n keeps)
+syncs v x y past n f keeps = fewer_images v x y past f (as_long x.sizes y.sizes keeps.sizes) (synced_has v.first v.origins x y n keeps)
 
 -- ---- a packet at a replica
 
@@ -270,10 +270,10 @@ moment v x past n held now found letter message image f three knows is_now has s
 
 pub faults : (v : Voters) (x y : Disks) (past : RegisterPast) (n : ℕ) (held now : Held) (found : Found) (letter : Letter) (message : Message) → Fits v x past → n < 3 → KnowsCell v x n held found → IsHeld (devices_of v) now
     → Contains past.letters letter → Spells (devices_of v) message letter.kind letter.body → (now ≡ held) ⊎ ((answer : Option Message) × Handles held message now answer)
-    → EachSure y (HasEither x n 1 found (next found (held_text now))) → Fits v y past
-faults v x y past n held now found letter message f three knows is_now has spells does either =
+    → SameLengths x y → EachSure y (HasEither x n 1 found (next found (held_text now))) → Fits v y past
+faults v x y past n held now found letter message f three knows is_now has spells does lengths either =
     with_images v x y past f (record { each = λ image sure. moment v x past n held now found letter message image f three knows is_now has spells does (either.each image sure) })
-    (record { each = λ image sure. shown_either v f.was x n held now found image f.shown knows is_now (either.each image sure) })
+    (record { each = λ image sure. shown_either v f.was x y.sizes n held now found image lengths.each f.shown knows is_now (either.each image sure) })
 
 -- ---- a step of a proposer
 

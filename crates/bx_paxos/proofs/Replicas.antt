@@ -51,7 +51,7 @@ use Rattle.bx_paxos.specs.Machines.{AreHalves, AreOf}
 use Rattle.bx_paxos.proofs.Events.{answers, counted, hears, holds_place, may_come, ticks_at, syncs, to_replica, with_images}
 use Rattle.bx_paxos.proofs.Images.{at_moment, counted_either}
 use Rattle.bx_paxos.proofs.Reading.{next_read, reads}
-use Rattle.bx_paxos.proofs.Shown.{shown_either}
+use Rattle.bx_paxos.proofs.Shown.{AreAsLong, as_long, shown_either}
 use Rattle.bx_paxos.proofs.Letters.{all_more, asks_pass}
 use Rattle.bx_paxos.proofs.Starts.{boots_stay, first_place, proposed, restarted, told, turned_each}
 
@@ -305,24 +305,24 @@ sound_at v x past a c now input out image f first origin low is at has is_now co
     by Synced coming (inr (message, from, brings, becomes)) = absurd brings
 
 -- and it has the cells with which replicas take part
-shows_now : (v : Voters) (x : Disks) (past : RegisterPast) (a : Acceptor) (c : Known) (now : Held) (out : List Letter) (image : Image) (f : Fits v x (register_with past out)) → v.first ≡ a.first → v.origins a.replica ≡ a.origin → IsStanding a
-    → a.cell ≡ Some c → EachSure x (HasCell a) → IsHeld (length a.first.devices) now → HasEither x a.replica 1 c.found (next c.found (held_text now)) image → Shows v.first v.origins f.was image
-shows_now v x past a c now out image f first origin is at has is_now either =
-    shown_either v f.was x a.replica a.held now c.found image f.shown (knows_of v x a c first origin is at has) (subst (λ (s : GlobalState). IsHeld (length s.devices) now) (sym first) is_now) either
+shows_now : (v : Voters) (x : Disks) (sizes : List ℕ) (past : RegisterPast) (a : Acceptor) (c : Known) (now : Held) (out : List Letter) (image : Image) (f : Fits v x (register_with past out)) → AreAsLong x.sizes sizes → v.first ≡ a.first → v.origins a.replica ≡ a.origin → IsStanding a
+    → a.cell ≡ Some c → EachSure x (HasCell a) → IsHeld (length a.first.devices) now → HasEither x a.replica 1 c.found (next c.found (held_text now)) image → Shows v.first v.origins f.was sizes image
+shows_now v x sizes past a c now out image f lengths first origin is at has is_now either =
+    shown_either v f.was x sizes a.replica a.held now c.found image lengths f.shown (knows_of v x a c first origin is at has) (subst (λ (s : GlobalState). IsHeld (length s.devices) now) (sym first) is_now) either
 
 -- after a fault
 pub replica_faults : (v : Voters) (x y : Disks) (past : RegisterPast) (a b : Acceptor) (input : Input) (out : List Letter) (f : Fits v x (register_with past out)) → v.first ≡ a.first → v.origins a.replica ≡ a.origin → a.replica < 3 → IsStanding a → EachSure x (HasCell a)
     → IsHeld (length a.first.devices) b.held → IsComing (past.letters ++ out) input → BecomesBy a input b.held → (T : Type 0) → T → IfSome a.cell (λ cell. T → EachSure x (HasCell a) → EachSure y (HasEither x a.replica 1 cell.found (next cell.found (held_text b.held)))) → (a.cell ≡ None → y ≡ x)
-    → Fits v y (register_with past out)
-replica_faults v x y past a b input out f first origin low is has is_now comes became T t either unmoved = by a.cell refl either
+    → y.sizes ≡ x.sizes → Fits v y (register_with past out)
+replica_faults v x y past a b input out f first origin low is has is_now comes became T t either unmoved sizes = by a.cell refl either
   where
     by : (o : Option Known) → a.cell ≡ o → IfSome o (λ cell. T → EachSure x (HasCell a) → EachSure y (HasEither x a.replica 1 cell.found (next cell.found (held_text b.held)))) → Fits v y (register_with past out)
     by None at each = subst (λ (d : Disks). Fits v d (register_with past out)) (sym (unmoved at)) f
     by (Some c) at each = with_images v x y (register_with past out) f (record { each = λ image sure. sound_at v x past a c b.held input out image f first origin low is at has is_now comes became ((each t has).each image sure) })
-        (record { each = λ image sure. shows_now v x past a c b.held out image f first origin is at has is_now ((each t has).each image sure) })
+        (record { each = λ image sure. shows_now v x y.sizes past a c b.held out image f (as_long x.sizes y.sizes sizes) first origin is at has is_now ((each t has).each image sure) })
 
 -- an image that has all that is sure is read as the last state, or as one change ahead
-image_next : (v : Voters) (x : Disks) (past : RegisterPast) (out : List Letter) → Fits v x (register_with past out) → (image : Image) → IsImage x image → ReadsNext v.first past image
+image_next : (v : Voters) (x : Disks) (past : RegisterPast) (out : List Letter) → Fits v x (register_with past out) → (image : Image) → IsImage x image → ReadsNext v.first past x.sizes image
 image_next v x past out f image is s read = reads v x (register_with past out) image s f (record { sure = is.sure }) read
 
 -- without a cell it takes no message
@@ -341,13 +341,13 @@ leaves_none x moment since only = record {
 -- each moment
 pub replica_moments : (v : Voters) (x : Disks) (past : RegisterPast) (a b : Acceptor) (input : Input) (out : List Letter) (before now : ℕ) (left since : ℕ → Image → Type 0) (f : Fits v x (register_with past out)) → v.first ≡ a.first → v.origins a.replica ≡ a.origin → a.replica < 3 → IsStanding a → EachSure x (HasCell a)
     → IsHeld (length a.first.devices) b.held → IsComing (past.letters ++ out) input → BecomesBy a input b.held → (T : Type 0) → T → IfSome a.cell (λ cell. T → EachSure x (HasCell a) → LeavesOnly before now left since (HasEither x a.replica 1 cell.found (next cell.found (held_text b.held))))
-    → (a.cell ≡ None → LeavesOnly before now left since (IsImage x)) → LeavesOnly before now left since (ReadsNext v.first past)
+    → (a.cell ≡ None → LeavesOnly before now left since (IsImage x)) → LeavesOnly before now left since (ReadsNext v.first past x.sizes)
 replica_moments v x past a b input out before now left since f first origin low is has is_now comes became T t leaves unmoved = by a.cell refl leaves
   where
-    by : (o : Option Known) → a.cell ≡ o → IfSome o (λ cell. T → EachSure x (HasCell a) → LeavesOnly before now left since (HasEither x a.replica 1 cell.found (next cell.found (held_text b.held)))) → LeavesOnly before now left since (ReadsNext v.first past)
-    by None at each = leaves_implies before now left since (IsImage x) (ReadsNext v.first past) (unmoved at) (image_next v x past out f)
-    by (Some c) at each = leaves_implies before now left since (HasEither x a.replica 1 c.found (next c.found (held_text b.held))) (ReadsNext v.first past) (each t has)
-        (λ image either s read. next_read v x (register_with past out) image s f (sound_at v x past a c b.held input out image f first origin low is at has is_now comes became either) (shows_now v x past a c b.held out image f first origin is at has is_now either) read)
+    by : (o : Option Known) → a.cell ≡ o → IfSome o (λ cell. T → EachSure x (HasCell a) → LeavesOnly before now left since (HasEither x a.replica 1 cell.found (next cell.found (held_text b.held)))) → LeavesOnly before now left since (ReadsNext v.first past x.sizes)
+    by None at each = leaves_implies before now left since (IsImage x) (ReadsNext v.first past x.sizes) (unmoved at) (image_next v x past out f)
+    by (Some c) at each = leaves_implies before now left since (HasEither x a.replica 1 c.found (next c.found (held_text b.held))) (ReadsNext v.first past x.sizes) (each t has)
+        (λ image either s read. next_read v x (register_with past out) image s f (sound_at v x past a c b.held input out image f first origin low is at has is_now comes became either) (shows_now v x x.sizes past a c b.held out image f (λ d short. refl) first origin is at has is_now either) read)
 
 -- ---- a start
 
@@ -404,9 +404,9 @@ replica_start_fails v x y past n boot out keeps above f = let synced = syncs v x
     more who false e least = least
 
 -- each moment of a start
-pub start_moments : (v : Voters) (x : Disks) (past : RegisterPast) (out : List Letter) (before now : ℕ) (left since : ℕ → Image → Type 0) (f : Fits v x (register_with past out)) → LeavesOnly before now left since (IsImage x) → LeavesOnly before now left since (ReadsNext v.first past)
+pub start_moments : (v : Voters) (x : Disks) (past : RegisterPast) (out : List Letter) (before now : ℕ) (left since : ℕ → Image → Type 0) (f : Fits v x (register_with past out)) → LeavesOnly before now left since (IsImage x) → LeavesOnly before now left since (ReadsNext v.first past x.sizes)
 start_moments v x past out before now left since f leaves =
-    leaves_implies before now left since (IsImage x) (ReadsNext v.first past) leaves (image_next v x past out f)
+    leaves_implies before now left since (IsImage x) (ReadsNext v.first past x.sizes) leaves (image_next v x past out f)
 
 -- without a cell it knows the first state
 pub knows_first : (replica : ℕ) (first : GlobalState) (origin : Origin) (sectors : ℕ → List ℕ) (held : Held) (cell : Option Known) → StartsWith replica first origin sectors held cell → cell ≡ None → held.decided ≡ first

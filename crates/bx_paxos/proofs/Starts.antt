@@ -257,7 +257,7 @@ begun v x is made each courses = record {
   begun = inl made;
   shown = record {
     each = λ image sure. record {
-      each = λ n low. let k = each.each image sure n low in subst (λ (o : Origin). ShowsOne (devices_of v) o None image n) (sym (made n low)) (k.found, k.raw, k.is);
+      each = λ n low. let k = each.each image sure n low in subst (λ (o : Origin). ShowsOne (devices_of v) o None x.sizes image n) (sym (made n low)) (k.found, k.raw, k.is);
     };
   };
   proposing = λ me. subst (IsProposing (opening 0 v.first) me) (sym (courses me)) (record {
@@ -290,7 +290,7 @@ begun v x is made each courses = record {
         by n held false high k = absurd cc
 
 -- Each cell stands as it was found, and these told the first state; nothing was done.
-pub found_begun : (v : Voters) (x : Disks) (was : ℕ → Option Held) (boot : ℕ) → IsAllowed v.first → HasFound v.first v.origins was → EachSure x (StandsAsFound v.first v.origins was) → ((me : ℕ) → v.courses me ≡ started 0 0 v.first) → Fits v x (found_register v.first boot)
+pub found_begun : (v : Voters) (x : Disks) (was : ℕ → Option Held) (boot : ℕ) → IsAllowed v.first → HasFound v.first v.origins was → EachSure x (StandsAsFound v.first v.origins was x.sizes) → ((me : ℕ) → v.courses me ≡ started 0 0 v.first) → Fits v x (found_register v.first boot)
 found_begun v x was boot is found each courses = record {
   history = new;
   chain = refl;
@@ -300,7 +300,7 @@ found_begun v x was boot is found each courses = record {
   images = record { each = λ image sure. record { cells = cells; are = are_counted image (each.each image sure); sound = begins v.first.next_session v.first cells knows } };
   was = was;
   begun = inr found;
-  shown = record { each = λ image sure. shows_found v.first v.origins was image (each.each image sure) };
+  shown = record { each = λ image sure. shows_found v.first v.origins was x.sizes image (each.each image sure) };
   proposing = λ me. subst (IsProposing new me) (sym (courses me)) (record {
     is = record { place = refl; before = record { each = λ b s proposed. absurd proposed.is }; round = λ r e. absurd cc };
     own = tt;
@@ -330,13 +330,13 @@ found_begun v x was boot is found each courses = record {
     knows : (n : ℕ) (held : Held) → cells n ≡ Some held → KnowsFirst v.first held
     knows n held e = let k = was_some n held e in subst (KnowsFirst v.first) k.2 (found_knows v.first k.0)
 
-    are_counted : (image : Image) → StandsAsFound v.first v.origins was image → AreCounted v.first v.origins image cells
+    are_counted : (image : Image) → StandsAsFound v.first v.origins was x.sizes image → AreCounted v.first v.origins image cells
     are_counted image has = record {
       some = λ n held e. let k = was_some n held e in let low = found.low n k.0 k.1 in (low, subst (IsCounted v.first (v.origins n) (image n)) k.2 (some n k.0 (v.origins n) k.1 (has.each n low)));
       none = λ n held low e counted. none n held (v.origins n) e (has.each n low) counted;
     }
       where
-        some : (n : ℕ) (raw : Held) (o : Origin) → was n ≡ Some raw → IsAsItWas (devices_of v) o (was n) image n → IsCounted v.first o (image n) (caught_up v.first raw)
+        some : (n : ℕ) (raw : Held) (o : Origin) → was n ≡ Some raw → IsAsItWas (devices_of v) o (was n) x.sizes image n → IsCounted v.first o (image n) (caught_up v.first raw)
         some n raw Made at is = absurd is
         some n raw (FoundAs number) at (old, same, label, (it, number_is, is)) = record {
           found = it;
@@ -347,7 +347,7 @@ found_begun v x was boot is found each courses = record {
         }
         some n raw Apart at is = let bad : None ≡ Some raw = sym is.0 ∙ at in absurd cc
 
-        none : (n : ℕ) (held : Held) (o : Origin) → cells n ≡ None → IsAsItWas (devices_of v) o (was n) image n → IsCounted v.first o (image n) held → ⊥
+        none : (n : ℕ) (held : Held) (o : Origin) → cells n ≡ None → IsAsItWas (devices_of v) o (was n) x.sizes image n → IsCounted v.first o (image n) held → ⊥
         none n held Made e is counted = is
         none n held (FoundAs number) e (old, same, label, rest) counted = let bad : Some (caught_up v.first old) ≡ None = sym (ap caught same) ∙ e in absurd cc
         none n held Apart e is counted = counted.part

@@ -68,7 +68,7 @@ pub record Fits (v : Voters) (x : Disks) (past : RegisterPast) : Type 0 where
   pub images : EachSure x (IsHeldSound v.first v.origins history)
   pub was : ℕ → Option Held
   pub begun : HasBegun v.first v.origins was
-  pub shown : EachSure x (Shows v.first v.origins was)
+  pub shown : EachSure x (Shows v.first v.origins was x.sizes)
   pub proposing : (me : ℕ) → IsProposing history me (v.courses me)
   pub courses : (me : ℕ) → IsCourse (devices_of v) (v.courses me)
   pub boots : (who : Actor) → IsMachine v.nodes who → (v.courses (number_of who)).boot ≤ past.boots who

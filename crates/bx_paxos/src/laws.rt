@@ -10,7 +10,7 @@ ghost use Rattle.bx_cell.specs.Halves.{Found};
 ghost use Rattle.bx_cell.specs.Images.{EachSure, HasAllSure};
 ghost use Rattle.bx_disk.specs.Disks.{Disks, Image};
 ghost use Rattle.bx_facts.specs.Chains.{AreLegal, IsNext, IsPlace, last};
-ghost use Rattle.bx_facts.specs.Disks.{Crashes, SameLabels, SameReplicas};
+ghost use Rattle.bx_facts.specs.Disks.{Crashes, SameLabels, SameLengths, SameReplicas};
 ghost use Rattle.bx_facts.specs.Inputs.{AreAmong, IsRegisters};
 ghost use Rattle.bx_facts.specs.Machines.{IsMachine};
 ghost use Rattle.bx_facts.specs.Pasts.{RegisterPast, found_register, opening_register, proposing, register_crashed, register_restarted};
@@ -39,15 +39,15 @@ ghost use Rattle.bx_paxos.specs.Shown.{HasFound, StandsAsFound};
 pub fn a_past_tells()
     ensures place { (v : Voters) (x : Disks) (past : RegisterPast) (me : ℕ) → Fits v x past → IsPlace past.chain (v.courses me).known }
     ensures legal { (v : Voters) (x : Disks) (past : RegisterPast) → Fits v x past → AreLegal past.chain.first past.chain.changes }
-    ensures reads { (v : Voters) (x : Disks) (past : RegisterPast) (image : Image) (s : GlobalState) → Fits v x past → HasAllSure x image → ReadsState v.first image s → IsNext past.proposed (last past.chain) s }
+    ensures reads { (v : Voters) (x : Disks) (past : RegisterPast) (image : Image) (s : GlobalState) → Fits v x past → HasAllSure x image → ReadsState v.first x.sizes image s → IsNext past.proposed (last past.chain) s }
 {}
 
-/// Letters may be lost, come again and in any order, and those of other layers don't matter. Other disks don't matter. A disk may crash, and
+/// Letters may be lost, come again and in any order, and those of other layers don't matter. Other disks don't matter, of whatever length. A disk may crash, and
 /// be synced.
 pub fn disks_and_letters_may_change()
     ensures loses { (v : Voters) (x : Disks) (past : RegisterPast) (letters : List Letter) → Fits v x past → AreAmong IsRegisters letters past.letters → Fits v x (record past { letters = letters }) }
-    ensures elsewhere { (v : Voters) (x y : Disks) (past : RegisterPast) → Fits v x past → SameReplicas x y → SameLabels x y → Fits v y past }
-    ensures survives { (v : Voters) (x y : Disks) (past : RegisterPast) (n : ℕ) → Fits v x past → Crashes n x y → Fits v y past }
+    ensures elsewhere { (v : Voters) (x y : Disks) (past : RegisterPast) → Fits v x past → SameLengths x y → SameReplicas x y → SameLabels x y → Fits v y past }
+    ensures survives { (v : Voters) (x y : Disks) (past : RegisterPast) (n : ℕ) → Fits v x past → SameLengths x y → Crashes n x y → Fits v y past }
     ensures syncs { (v : Voters) (x y : Disks) (past : RegisterPast) (n : ℕ) → Fits v x past → KeepsAll x y n → Fits v y past }
 {}
 
@@ -61,9 +61,9 @@ pub fn a_replica_answers()
 /// A replica is stopped inside its put, or a fault stops it: what images have is sound by what was sent before.
 pub fn a_replica_is_stopped()
     ensures faults { (v : Voters) (x y : Disks) (past : RegisterPast) (n : ℕ) (held now : Held) (found : Found) (letter : Letter) (message : Message) → Fits v x past → n < 3 → KnowsCell v x n held found → IsHeld (devices_of v) now
-        → Comes v past letter message → (now ≡ held) ⊎ ((answer : Option Message) × Handles held message now answer) → EachSure y (HasEither x n 1 found (next found (held_text now))) → Fits v y past }
+        → Comes v past letter message → (now ≡ held) ⊎ ((answer : Option Message) × Handles held message now answer) → SameLengths x y → EachSure y (HasEither x n 1 found (next found (held_text now))) → Fits v y past }
     ensures moment { (v : Voters) (x : Disks) (past : RegisterPast) (n : ℕ) (held now : Held) (found : Found) (letter : Letter) (message : Message) (image : Image) (s : GlobalState) → Fits v x past → n < 3 → KnowsCell v x n held found → IsHeld (devices_of v) now
-        → Comes v past letter message → (now ≡ held) ⊎ ((answer : Option Message) × Handles held message now answer) → HasEither x n 1 found (next found (held_text now)) image → ReadsState v.first image s → IsNext past.proposed (last past.chain) s }
+        → Comes v past letter message → (now ≡ held) ⊎ ((answer : Option Message) × Handles held message now answer) → HasEither x n 1 found (next found (held_text now)) image → ReadsState v.first x.sizes image s → IsNext past.proposed (last past.chain) s }
 {}
 
 /// A proposer takes a letter that may be under way, or a tick: the chain has one change more that was handed in, or none, and what it sends is
@@ -108,6 +108,6 @@ pub fn the_beginning_fits()
 /// Where the cells of replicas stand as they were found, which told the first state, and nothing was done, the past of a volume that was found
 /// fits: no machine has a boot above the one found.
 pub fn a_found_volume_fits()
-    ensures { (v : Voters) (x : Disks) (was : ℕ → Option Held) (boot : ℕ) → IsAllowed v.first → HasFound v.first v.origins was → EachSure x (StandsAsFound v.first v.origins was) → ((me : ℕ) → v.courses me ≡ started 0 0 v.first)
+    ensures { (v : Voters) (x : Disks) (was : ℕ → Option Held) (boot : ℕ) → IsAllowed v.first → HasFound v.first v.origins was → EachSure x (StandsAsFound v.first v.origins was x.sizes) → ((me : ℕ) → v.courses me ≡ started 0 0 v.first)
         → Fits v x (found_register v.first boot) }
 {}

@@ -64,7 +64,7 @@ impl Replica {
             → IsErrOf result DiskFails → Fits v (R.state rack.new) (register_with past out.old) × (self.new.proposer ≡ self.old.proposer) }
         ensures any_moment { (v : Voters) (past : RegisterPast) → R.tells rack.old → AreOf v self.old.acceptor self.old.proposer → EachSure (R.state rack.old) (HasCell self.old.acceptor)
             → IsComing (past.letters ++ out.old) input.now → Fits v (R.state rack.old) (register_with past out.old)
-            → LeavesOnly (R.moment rack.old) (R.moment rack.new) (R.left_since rack.old) (R.left_since rack.new) (ReadsNext v.first past) }
+            → LeavesOnly (R.moment rack.old) (R.moment rack.new) (R.left_since rack.old) (R.left_since rack.new) (ReadsNext v.first past (R.state rack.old).sizes) }
         ensures known { (v : Voters) (past : RegisterPast) → R.tells rack.old → AreOf v self.old.acceptor self.old.proposer → EachSure (R.state rack.old) (HasCell self.old.acceptor) → IsPlace past.chain self.old.acceptor.held.decided
             → IsComing (past.letters ++ out.old) input.now → Fits v (R.state rack.old) (register_with past out.old) → IsPlace past.chain self.new.acceptor.held.decided }
         ensures holds { R.tells rack.old → EachSure (R.state rack.old) (HasCell self.old.acceptor) → OnOk result (EachSure (R.state rack.new) (HasCell self.new.acceptor)) }
@@ -132,7 +132,7 @@ impl Replica {
         ensures keeps_faulted { (v : Voters) (past : RegisterPast) → R.tells rack.old → past.boots (OfReplica self.old.acceptor.replica) < boot → Fits v (R.state rack.old) (register_with past out.old)
             → IsErrOf result DiskFails → Fits v (R.state rack.new) (register_with (register_failed past (OfReplica self.old.acceptor.replica) boot) out.old) }
         ensures any_moment { (v : Voters) (past : RegisterPast) → R.tells rack.old → Fits v (R.state rack.old) (register_with past out.old)
-            → LeavesOnly (R.moment rack.old) (R.moment rack.new) (R.left_since rack.old) (R.left_since rack.new) (ReadsNext v.first past) }
+            → LeavesOnly (R.moment rack.old) (R.moment rack.new) (R.left_since rack.old) (R.left_since rack.new) (ReadsNext v.first past (R.state rack.old).sizes) }
         ensures known { (v : Voters) (past : RegisterPast) → R.tells rack.old → AreOf v self.old.acceptor self.old.proposer → Fits v (R.state rack.old) (register_with past out.old) → OnOk result (IsPlace past.chain self.new.acceptor.held.decided) }
         ensures holds { R.tells rack.old → OnOk result (EachSure (R.state rack.new) (HasCell self.new.acceptor)) }
         ensures idle { OnOk result (IsBusy self.new.proposer → ⊥) }

@@ -4,7 +4,7 @@ use Rattle.bx_base.specs.declared.names.Actor.{Actor}
 use Rattle.bx_base.specs.declared.names.Actor.TheVariants.{Replica}
 use Rattle.bx_disk.specs.Disks.{Disks, Image, IsImage}
 use Rattle.bx_facts.specs.Chains.{AreLegal, IsNext, IsPlace, last}
-use Rattle.bx_facts.specs.Disks.{Crashes, SameLabels, SameReplicas}
+use Rattle.bx_facts.specs.Disks.{Crashes, SameLabels, SameLengths, SameReplicas}
 use Rattle.bx_facts.specs.Inputs.{AreAmong, IsRegisters}
 use Rattle.bx_facts.specs.Labelled.{IsLabelled}
 use Rattle.bx_facts.specs.Pasts.{RegisterPast}
@@ -26,16 +26,16 @@ legal g x past keeps = is_legal (voters_of g) x past keeps.fits
 pub begins_allowed : (g : Cluster) (x : Disks) (past : RegisterPast) → Keeps g x past → ∥ IsAllowed past.chain.first ∥₁
 begins_allowed g x past keeps = ∣ first_allowed g x past keeps ∣₁
 
-pub reads_next : (g : Cluster) (x : Disks) (past : RegisterPast) (image : Image) (s : GlobalState) → Keeps g x past → IsImage x image → ReadsState g.made image s → IsNext past.proposed (last past.chain) s
+pub reads_next : (g : Cluster) (x : Disks) (past : RegisterPast) (image : Image) (s : GlobalState) → Keeps g x past → IsImage x image → ReadsState g.made x.sizes image s → IsNext past.proposed (last past.chain) s
 reads_next = reads_on
 
-pub reads_some : (g : Cluster) (x : Disks) (past : RegisterPast) (image : Image) (n m : ℕ) → Keeps g x past → IsImage x image → n ≢ m → IsLabelled (length g.made.devices) image n → IsLabelled (length g.made.devices) image m → (s : GlobalState) × ReadsState g.made image s
+pub reads_some : (g : Cluster) (x : Disks) (past : RegisterPast) (image : Image) (n m : ℕ) → Keeps g x past → IsImage x image → n ≢ m → IsLabelled (length g.made.devices) x.sizes image n → IsLabelled (length g.made.devices) x.sizes image m → (s : GlobalState) × ReadsState g.made x.sizes image s
 reads_some = some_on
 
-pub elsewhere : (g : Cluster) (x y : Disks) (past : RegisterPast) → Keeps g x past → SameReplicas x y → SameLabels x y → Keeps g y past
+pub elsewhere : (g : Cluster) (x y : Disks) (past : RegisterPast) → Keeps g x past → SameLengths x y → SameReplicas x y → SameLabels x y → Keeps g y past
 elsewhere = elsewhere_keeps
 
-pub survives : (g : Cluster) (x y : Disks) (past : RegisterPast) (n : ℕ) → Keeps g x past → past.down (Replica n) ≡ true → Crashes n x y → Keeps g y past
+pub survives : (g : Cluster) (x y : Disks) (past : RegisterPast) (n : ℕ) → Keeps g x past → past.down (Replica n) ≡ true → SameLengths x y → Crashes n x y → Keeps g y past
 survives = crash_survives
 
 pub loses : (g : Cluster) (x : Disks) (past : RegisterPast) (letters : List Letter) → Keeps g x past → AreAmong IsRegisters letters past.letters → Keeps g x (record past { letters = letters })

@@ -104,18 +104,18 @@ impl Paxos {
     }
 
     /// Begins with the state that the disks are read as, which every machine knows then; each is to start again before it does anything. The
-    /// answer is the greatest boot in the cells of replicas that are labelled. `NoMajority` exactly where the disk of a replica isn't there, fewer
-    /// than two are labelled and have a cell that can be read, or no index is left behind the state; else `Spent` exactly where the greatest boot is
-    /// that one, and is above 4611686018427387903. After an error all is as it was.
+    /// answer is the greatest boot in the cells of replicas that are labelled; one whose disk isn't there, or lacks sectors, has no label.
+    /// `NoMajority` exactly where fewer than two are labelled and have a cell that can be read, or no index is left behind the state; else `Spent`
+    /// exactly where the greatest boot is that one, and is above 4611686018427387903. After an error all is as it was.
     pub fn open<R: Rack>(&mut self, rack: &mut R) -> Result<u64, OpenError>
         ensures keeps { R.tells rack.old → IfOk result (λ boot. Keeps self.new (R.state rack.new) (found_register (knows self.new (Replica 0)) boot)) }
-        ensures found { R.tells rack.old → OnOk result (ReadsState self.old.made (R.state rack.old).reads (knows self.new (Replica 0))) }
+        ensures found { R.tells rack.old → OnOk result (ReadsState self.old.made (R.state rack.old).sizes (R.state rack.old).reads (knows self.new (Replica 0))) }
         ensures index { OnOk result ((knows self.new (Replica 0)).index + 1 < 2 ^ 64) }
-        ensures no_majority { R.tells rack.old → IsErrOf result NoMajority → LackMajority (length self.old.made.devices) (R.state rack.old) ⊎ AreAtTheEnd (length self.old.made.devices) (R.state rack.old).reads }
-        ensures majority { R.tells rack.old → OnOk result (LackMajority (length self.old.made.devices) (R.state rack.old) → ⊥) }
-        ensures spent { (boot : ℕ) → R.tells rack.old → IsErrOf result (Spent boot) → IsGreatestBoot (length self.old.made.devices) (R.state rack.old).reads boot × (LackMajority (length self.old.made.devices) (R.state rack.old) → ⊥) }
+        ensures no_majority { R.tells rack.old → IsErrOf result NoMajority → LackMajority (length self.old.made.devices) (R.state rack.old).sizes (R.state rack.old).reads ⊎ AreAtTheEnd (length self.old.made.devices) (R.state rack.old).sizes (R.state rack.old).reads }
+        ensures majority { R.tells rack.old → OnOk result (LackMajority (length self.old.made.devices) (R.state rack.old).sizes (R.state rack.old).reads → ⊥) }
+        ensures spent { (boot : ℕ) → R.tells rack.old → IsErrOf result (Spent boot) → IsGreatestBoot (length self.old.made.devices) (R.state rack.old).sizes (R.state rack.old).reads boot × (LackMajority (length self.old.made.devices) (R.state rack.old).sizes (R.state rack.old).reads → ⊥) }
         ensures above { (boot : ℕ) → IsErrOf result (Spent boot) → most_boot < boot }
-        ensures greatest { R.tells rack.old → IfOk result (λ boot. IsGreatestBoot (length self.old.made.devices) (R.state rack.old).reads boot) }
+        ensures greatest { R.tells rack.old → IfOk result (λ boot. IsGreatestBoot (length self.old.made.devices) (R.state rack.old).sizes (R.state rack.old).reads boot) }
         ensures few { IfOk result (λ boot. boot ≤ most_boot) }
         ensures no_label { (disk : ℕ) → IsErrOf result (NoLabel disk) → ⊥ }
         ensures boots { IfOk result (λ boot. IsAboveBoots (knows self.new (Replica 0)) (boot + 1)) }

@@ -27,7 +27,7 @@ impl Register for Paxos {
 
     ghost keeps = { λ g x past. Keeps g x past };
 
-    ghost reads_as = { λ made image s. ReadsState made image s };
+    ghost reads_as = { λ made sizes image s. ReadsState made sizes image s };
 
     fn known(&self, who: Actor) -> &GlobalState {
         Paxos::known(self, who)

@@ -1,17 +1,18 @@
 -- The label of a sector; and which replica's label is the first, and which replicas are labelled, told one way or the other.
 use Rattle.std.proofs.Common.{◌≡◌, ℕ, ◌+◌, ◌-◌, ◌^◌, ◌<◌, ◌≤◌, ◌⊎◌, inl, inr, ◌==◌, Bool, true, false, List, length, take, drop, Option, Some, None, refl, sym, ap, subst, ◌∙◌, arith}
 use Rattle.std.specs.Int.{w32, w64, from_be_bytes}
-use Rattle.std.specs.Prelude.{bytes_eq, IfNone, IfSome}
+use Rattle.std.specs.Prelude.{bytes_eq, IfNone, IfSome, slice_index}
 use Rattle.std.proofs.lemmas.Bool.{cases_lt}
 use Rattle.std.proofs.lemmas.Bool.Decides.{eqb_tells}
 use Rattle.std.proofs.lemmas.Slice.Eq.{bytes_eq-Decides}
 use Rattle.bx_disk.specs.Disks.{Disks, Image}
 use Rattle.bx_facts.specs.Disks.{SameDisks}
-use Rattle.bx_facts.specs.Labelled.{IsFirstLabel, IsLabelled, IsOwnLabel, label_on}
+use Rattle.bx_facts.specs.Labelled.{IsFirstLabel, IsLabelled, IsOwnLabel, IsWhole, label_on}
 use Rattle.bx_fields.specs.Writing.{padded}
 use Rattle.bx_layout.proofs.LabelFields.{areas_in, devices_in, disk_in, same_label, volume_in}
 use Rattle.bx_layout.specs.Labels.{IsLabel, SpellsLabel, label_text}
 use Rattle.bx_layout.specs.declared.label.Label.{Label}
+use Rattle.bx_places.specs.Places.{replica_sectors}
 use Rattle.bx_paxos.specs.Shown.{IsUnread}
 
 -- ---- one sector
@@ -56,14 +57,14 @@ pub one_label : (a b : Label) (sector : List ℕ) → SpellsLabel a sector → S
 one_label a b sector one other = sym (read_is a sector one) ∙ read_is b sector other
 
 -- a sector that was read
-module _ (image : Image) (n : ℕ) (bytes : List ℕ) (here : image n 0 ≡ bytes) where
-  pub none_there : ((label : Label) → SpellsLabel label bytes → ⊥) → (label : Label) → IsOwnLabel image n label → ⊥
+module _ (sizes : List ℕ) (image : Image) (n : ℕ) (bytes : List ℕ) (here : image n 0 ≡ bytes) where
+  pub none_there : ((label : Label) → SpellsLabel label bytes → ⊥) → (label : Label) → IsOwnLabel sizes image n label → ⊥
   none_there none label own = none label (subst (SpellsLabel label) here own.spells)
 
-  pub own_there : (label : Label) → n < 3 → SpellsLabel label bytes → label.disk ≡ n → IsOwnLabel image n label
-  own_there label low spells names = record { low = low; spells = subst (SpellsLabel label) (sym here) spells; names = names }
+  pub own_there : (label : Label) → IsWhole sizes n → SpellsLabel label bytes → label.disk ≡ n → IsOwnLabel sizes image n label
+  own_there label whole spells names = record { whole = whole; spells = subst (SpellsLabel label) (sym here) spells; names = names }
 
-  pub other_there : (label : Label) → SpellsLabel label bytes → (label.disk ≡ n → ⊥) → (other : Label) → IsOwnLabel image n other → ⊥
+  pub other_there : (label : Label) → SpellsLabel label bytes → (label.disk ≡ n → ⊥) → (other : Label) → IsOwnLabel sizes image n other → ⊥
   other_there label spells differ other own = differ (ap (λ (l : Label). l.disk) (one_label label other bytes spells (subst (SpellsLabel other) here own.spells)) ∙ own.names)
 
   pub on_so : (label first : Label) → SpellsLabel label bytes → (label.disk ≡ n) × (label.volume ≡ first.volume) × (label.devices ≡ first.devices) × (label.areas ≡ first.areas) → SpellsLabel (label_on first n) (image n 0)
@@ -80,52 +81,60 @@ module _ (image : Image) (n : ℕ) (bytes : List ℕ) (here : image n 0 ≡ byte
 -- ---- the first
 
 -- no replica before this one has a label of its own
-abbrev pub NoneBefore : Image → ℕ → Type 0
-NoneBefore image k = (n : ℕ) (label : Label) → n < k → IsOwnLabel image n label → ⊥
+abbrev pub NoneBefore : List ℕ → Image → ℕ → Type 0
+NoneBefore sizes image k = (n : ℕ) (label : Label) → n < k → IsOwnLabel sizes image n label → ⊥
 
-pub none_yet : (image : Image) → NoneBefore image 0
-none_yet image n label less own = absurd (omega (arith, less))
+pub none_yet : (sizes : List ℕ) (image : Image) → NoneBefore sizes image 0
+none_yet sizes image n label less own = absurd (omega (arith, less))
 
-pub one_more : (image : Image) (k : ℕ) → NoneBefore image k → ((label : Label) → IsOwnLabel image k label → ⊥) → NoneBefore image (k + 1)
-one_more image k before none n label less own = by (cases_lt n k)
+pub one_more : (sizes : List ℕ) (image : Image) (k : ℕ) → NoneBefore sizes image k → ((label : Label) → IsOwnLabel sizes image k label → ⊥) → NoneBefore sizes image (k + 1)
+one_more sizes image k before none n label less own = by (cases_lt n k)
   where
     by : (n < k) ⊎ (k ≤ n) → ⊥
     by (inl below) = before n label below own
-    by (inr above) = none label (subst (λ (m : ℕ). IsOwnLabel image m label) (omega (arith, less, above)) own)
+    by (inr above) = none label (subst (λ (m : ℕ). IsOwnLabel sizes image m label) (omega (arith, less, above)) own)
 
-pub first_at : (image : Image) (k : ℕ) (label : Label) → NoneBefore image k → IsOwnLabel image k label → IsFirstLabel image label
-first_at image k label before own = record {
-  own = subst (λ (d : ℕ). IsOwnLabel image d label) (sym own.names) own;
+pub first_at : (sizes : List ℕ) (image : Image) (k : ℕ) (label : Label) → NoneBefore sizes image k → IsOwnLabel sizes image k label → IsFirstLabel sizes image label
+first_at sizes image k label before own = record {
+  own = subst (λ (d : ℕ). IsOwnLabel sizes image d label) (sym own.names) own;
   least = λ n other less has. before n other (subst (λ (d : ℕ). n < d) own.names less) has;
 }
 
-pub none_own : (image : Image) → NoneBefore image 3 → (n : ℕ) (label : Label) → IsOwnLabel image n label → ⊥
-none_own image before n label own = before n label own.low own
+pub none_own : (sizes : List ℕ) (image : Image) → NoneBefore sizes image 3 → (n : ℕ) (label : Label) → IsOwnLabel sizes image n label → ⊥
+none_own sizes image before n label own = before n label own.whole.low own
 
-own_or : (image : Image) (n : ℕ) → n < 3 → ((label : Label) × IsOwnLabel image n label) ⊎ ((label : Label) → IsOwnLabel image n label → ⊥)
-own_or image n low = by (spells_or (read_label (image n 0)) (image n 0)) (eqb_tells (read_label (image n 0)).disk n)
+whole_or : (sizes : List ℕ) (n : ℕ) → n < 3 → IsWhole sizes n ⊎ (IsWhole sizes n → ⊥)
+whole_or sizes n low = by (cases_lt (slice_index sizes n) replica_sectors)
   where
-    by : SpellsLabel (read_label (image n 0)) (image n 0) ⊎ (SpellsLabel (read_label (image n 0)) (image n 0) → ⊥)
-        → ((((read_label (image n 0)).disk == n) ≡ true) × ((read_label (image n 0)).disk ≡ n)) ⊎ ((((read_label (image n 0)).disk == n) ≡ false) × ((read_label (image n 0)).disk ≡ n → ⊥))
-        → ((label : Label) × IsOwnLabel image n label) ⊎ ((label : Label) → IsOwnLabel image n label → ⊥)
-    by (inl spells) (inl same) = inl (read_label (image n 0), record { low = low; spells = spells; names = same.1 })
-    by (inl spells) (inr apart) = inr (λ label own. apart.1 (ap (λ (l : Label). l.disk) (read_is label (image n 0) own.spells) ∙ own.names))
-    by (inr never) names = inr (λ label own. never (subst (λ (l : Label). SpellsLabel l (image n 0)) (sym (read_is label (image n 0) own.spells)) own.spells))
+    by : (slice_index sizes n < replica_sectors) ⊎ (replica_sectors ≤ slice_index sizes n) → IsWhole sizes n ⊎ (IsWhole sizes n → ⊥)
+    by (inl short) = inr (λ whole. let long = whole.long_enough in omega (arith, short, long))
+    by (inr long) = inl (record { low = low; long_enough = long })
 
-first_or : (image : Image) → ((first : Label) × IsFirstLabel image first) ⊎ ((n : ℕ) (label : Label) → IsOwnLabel image n label → ⊥)
-first_or image = by (own_or image 0 (omega arith)) (own_or image 1 (omega arith)) (own_or image 2 (omega arith))
+own_or : (sizes : List ℕ) (image : Image) (n : ℕ) → n < 3 → ((label : Label) × IsOwnLabel sizes image n label) ⊎ ((label : Label) → IsOwnLabel sizes image n label → ⊥)
+own_or sizes image n low = by (whole_or sizes n low) (spells_or (read_label (image n 0)) (image n 0)) (eqb_tells (read_label (image n 0)).disk n)
+  where
+    by : IsWhole sizes n ⊎ (IsWhole sizes n → ⊥) → SpellsLabel (read_label (image n 0)) (image n 0) ⊎ (SpellsLabel (read_label (image n 0)) (image n 0) → ⊥)
+        → ((((read_label (image n 0)).disk == n) ≡ true) × ((read_label (image n 0)).disk ≡ n)) ⊎ ((((read_label (image n 0)).disk == n) ≡ false) × ((read_label (image n 0)).disk ≡ n → ⊥))
+        → ((label : Label) × IsOwnLabel sizes image n label) ⊎ ((label : Label) → IsOwnLabel sizes image n label → ⊥)
+    by (inr short) spells names = inr (λ label own. short own.whole)
+    by (inl whole) (inl spells) (inl same) = inl (read_label (image n 0), record { whole = whole; spells = spells; names = same.1 })
+    by (inl whole) (inl spells) (inr apart) = inr (λ label own. apart.1 (ap (λ (l : Label). l.disk) (read_is label (image n 0) own.spells) ∙ own.names))
+    by (inl whole) (inr never) names = inr (λ label own. never (subst (λ (l : Label). SpellsLabel l (image n 0)) (sym (read_is label (image n 0) own.spells)) own.spells))
+
+first_or : (sizes : List ℕ) (image : Image) → ((first : Label) × IsFirstLabel sizes image first) ⊎ ((n : ℕ) (label : Label) → IsOwnLabel sizes image n label → ⊥)
+first_or sizes image = by (own_or sizes image 0 (omega arith)) (own_or sizes image 1 (omega arith)) (own_or sizes image 2 (omega arith))
   where
     Own : ℕ → Type 0
-    Own n = ((label : Label) × IsOwnLabel image n label) ⊎ ((label : Label) → IsOwnLabel image n label → ⊥)
+    Own n = ((label : Label) × IsOwnLabel sizes image n label) ⊎ ((label : Label) → IsOwnLabel sizes image n label → ⊥)
 
-    by : Own 0 → Own 1 → Own 2 → ((first : Label) × IsFirstLabel image first) ⊎ ((n : ℕ) (label : Label) → IsOwnLabel image n label → ⊥)
-    by (inl a) b c = inl (a.0, first_at image 0 a.0 (none_yet image) a.1)
-    by (inr a) (inl b) c = inl (b.0, first_at image 1 b.0 (one_more image 0 (none_yet image) a) b.1)
-    by (inr a) (inr b) (inl c) = inl (c.0, first_at image 2 c.0 (one_more image 1 (one_more image 0 (none_yet image) a) b) c.1)
-    by (inr a) (inr b) (inr c) = inr (none_own image (one_more image 2 (one_more image 1 (one_more image 0 (none_yet image) a) b) c))
+    by : Own 0 → Own 1 → Own 2 → ((first : Label) × IsFirstLabel sizes image first) ⊎ ((n : ℕ) (label : Label) → IsOwnLabel sizes image n label → ⊥)
+    by (inl a) b c = inl (a.0, first_at sizes image 0 a.0 (none_yet sizes image) a.1)
+    by (inr a) (inl b) c = inl (b.0, first_at sizes image 1 b.0 (one_more sizes image 0 (none_yet sizes image) a) b.1)
+    by (inr a) (inr b) (inl c) = inl (c.0, first_at sizes image 2 c.0 (one_more sizes image 1 (one_more sizes image 0 (none_yet sizes image) a) b) c.1)
+    by (inr a) (inr b) (inr c) = inr (none_own sizes image (one_more sizes image 2 (one_more sizes image 1 (one_more sizes image 0 (none_yet sizes image) a) b) c))
 
-one_first : (image : Image) (a b : Label) → IsFirstLabel image a → IsFirstLabel image b → a ≡ b
-one_first image a b one other = by (cases_lt a.disk b.disk) (cases_lt b.disk a.disk)
+one_first : (sizes : List ℕ) (image : Image) (a b : Label) → IsFirstLabel sizes image a → IsFirstLabel sizes image b → a ≡ b
+one_first sizes image a b one other = by (cases_lt a.disk b.disk) (cases_lt b.disk a.disk)
   where
     by : (a.disk < b.disk) ⊎ (b.disk ≤ a.disk) → (b.disk < a.disk) ⊎ (a.disk ≤ b.disk) → a ≡ b
     by (inl less) rest = absurd (other.least a.disk a less one.own)
@@ -149,34 +158,39 @@ of_some P None x same is = absurd cc
 
 -- ---- replicas that are labelled
 
-module _ (devices : ℕ) (image : Image) where
+module _ (devices : ℕ) (sizes : List ℕ) (image : Image) where
   -- by the first label
-  pub spells_so : (n : ℕ) (first : Label) → IsFirstLabel image first → IsLabelled devices image n → SpellsLabel (label_on first n) (image n 0)
-  spells_so n first is label = subst (λ (l : Label). SpellsLabel (label_on l n) (image n 0)) (one_first image label.first first label.is_first is) label.spells
+  pub spells_so : (n : ℕ) (first : Label) → IsFirstLabel sizes image first → IsLabelled devices sizes image n → SpellsLabel (label_on first n) (image n 0)
+  spells_so n first is label = subst (λ (l : Label). SpellsLabel (label_on l n) (image n 0)) (one_first sizes image label.first first label.is_first is) label.spells
 
-  pub devices_so : (n : ℕ) (first : Label) → IsFirstLabel image first → IsLabelled devices image n → first.devices ≡ devices
-  devices_so n first is label = ap (λ (l : Label). l.devices) (one_first image first label.first is label.is_first) ∙ label.devices_are
+  pub devices_so : (n : ℕ) (first : Label) → IsFirstLabel sizes image first → IsLabelled devices sizes image n → first.devices ≡ devices
+  devices_so n first is label = ap (λ (l : Label). l.devices) (one_first sizes image first label.first is label.is_first) ∙ label.devices_are
 
   -- a volume of other devices, or none at all
-  pub apart_devices : (first : Label) → IsFirstLabel image first → (first.devices ≡ devices → ⊥) → (n : ℕ) → IsLabelled devices image n → ⊥
+  pub apart_devices : (first : Label) → IsFirstLabel sizes image first → (first.devices ≡ devices → ⊥) → (n : ℕ) → IsLabelled devices sizes image n → ⊥
   apart_devices first is differ n label = differ (devices_so n first is label)
 
-  pub none_labelled : ((n : ℕ) (label : Label) → IsOwnLabel image n label → ⊥) → (n : ℕ) → IsLabelled devices image n → ⊥
+  pub none_labelled : ((n : ℕ) (label : Label) → IsOwnLabel sizes image n label → ⊥) → (n : ℕ) → IsLabelled devices sizes image n → ⊥
   none_labelled none n label = none label.first.disk label.first label.is_first.own
 
-  pub labelled_or : (n : ℕ) → n < 3 → IsLabelled devices image n ⊎ (IsLabelled devices image n → ⊥)
-  labelled_or n low = by (first_or image)
+  pub labelled_or : (n : ℕ) → n < 3 → IsLabelled devices sizes image n ⊎ (IsLabelled devices sizes image n → ⊥)
+  labelled_or n low = by (whole_or sizes n low) (first_or sizes image)
     where
-      at : (first : Label) → IsFirstLabel image first → (((first.devices == devices) ≡ true) × (first.devices ≡ devices)) ⊎ (((first.devices == devices) ≡ false) × (first.devices ≡ devices → ⊥))
-          → SpellsLabel (label_on first n) (image n 0) ⊎ (SpellsLabel (label_on first n) (image n 0) → ⊥) → IsLabelled devices image n ⊎ (IsLabelled devices image n → ⊥)
-      at first is (inl same) (inl spells) = inl (record { low = low; first = first; is_first = is; devices_are = same.1; spells = spells })
-      at first is (inl same) (inr never) = inr (λ label. never (spells_so n first is label))
-      at first is (inr apart) spells = inr (λ label. apart.1 (devices_so n first is label))
+      at : IsWhole sizes n → (first : Label) → IsFirstLabel sizes image first → (((first.devices == devices) ≡ true) × (first.devices ≡ devices)) ⊎ (((first.devices == devices) ≡ false) × (first.devices ≡ devices → ⊥))
+          → SpellsLabel (label_on first n) (image n 0) ⊎ (SpellsLabel (label_on first n) (image n 0) → ⊥) → IsLabelled devices sizes image n ⊎ (IsLabelled devices sizes image n → ⊥)
+      at whole first is (inl same) (inl spells) = inl (record { whole = whole; first = first; is_first = is; devices_are = same.1; spells = spells })
+      at whole first is (inl same) (inr never) = inr (λ label. never (spells_so n first is label))
+      at whole first is (inr apart) spells = inr (λ label. apart.1 (devices_so n first is label))
 
-      by : ((first : Label) × IsFirstLabel image first) ⊎ ((k : ℕ) (label : Label) → IsOwnLabel image k label → ⊥) → IsLabelled devices image n ⊎ (IsLabelled devices image n → ⊥)
-      by (inl (first, is)) = at first is (eqb_tells first.devices devices) (spells_or (label_on first n) (image n 0))
-      by (inr none) = inr (λ label. none label.first.disk label.first label.is_first.own)
+      by : IsWhole sizes n ⊎ (IsWhole sizes n → ⊥) → ((first : Label) × IsFirstLabel sizes image first) ⊎ ((k : ℕ) (label : Label) → IsOwnLabel sizes image k label → ⊥) → IsLabelled devices sizes image n ⊎ (IsLabelled devices sizes image n → ⊥)
+      by (inr short) rest = inr (λ label. short label.whole)
+      by (inl whole) (inl (first, is)) = at whole first is (eqb_tells first.devices devices) (spells_or (label_on first n) (image n 0))
+      by (inl whole) (inr none) = inr (λ label. none label.first.disk label.first label.is_first.own)
 
 -- a replica whose disk has no label of the volume that the first label is of
-pub unread_off : (devices : ℕ) (x y : Disks) (n : ℕ) (first : Label) → SameDisks x y → IsFirstLabel x.reads first → (SpellsLabel (label_on first n) (y.reads n 0) → ⊥) → IsUnread devices x.reads n
-unread_off devices x y n first same is never = record { none = λ found held label there. never (subst (SpellsLabel (label_on first n)) (sym (same.each n 0).reads) (spells_so devices x.reads n first is label)) }
+pub unread_off : (devices : ℕ) (x y : Disks) (n : ℕ) (first : Label) → SameDisks x y → IsFirstLabel x.sizes x.reads first → (SpellsLabel (label_on first n) (y.reads n 0) → ⊥) → IsUnread devices x.sizes x.reads n
+unread_off devices x y n first same is never = record { none = λ found held label there. never (subst (SpellsLabel (label_on first n)) (sym (same.each n 0).reads) (spells_so devices x.sizes x.reads n first is label)) }
+
+-- a replica whose disk isn't whole
+pub unread_short : (devices : ℕ) (sizes : List ℕ) (image : Image) (n : ℕ) → (IsWhole sizes n → ⊥) → IsUnread devices sizes image n
+unread_short devices sizes image n short = record { none = λ found held label there. short label.whole }

@@ -11,14 +11,14 @@ use Rattle.bx_cell.specs.Images.{EachSure}
 use Rattle.bx_disk.specs.Disks.{Disks, Image}
 use Rattle.bx_facts.specs.Chains.{IsAboveBoots}
 use Rattle.bx_facts.specs.Disks.{SameDisks}
-use Rattle.bx_facts.specs.Labelled.{IsFirstLabel}
+use Rattle.bx_facts.specs.Labelled.{IsFirstLabel, IsWhole}
 use Rattle.bx_global.specs.Allowed.{IsAllowed}
 use Rattle.bx_global.specs.Bytes.{IsHeld}
 use Rattle.bx_global.specs.declared.held.Held.{Held}
 use Rattle.bx_global.specs.declared.state.GlobalState.{GlobalState}
 use Rattle.bx_layout.specs.declared.label.Label.{Label}
 use Rattle.bx_paxos.proofs.Founds.{reads_so}
-use Rattle.bx_paxos.proofs.Shown.{first_alike, found_alike, label_alike, unread_alike}
+use Rattle.bx_paxos.proofs.Shown.{as_long, first_alike, found_alike, label_alike, unread_alike}
 use Rattle.bx_paxos.specs.Reading.{AreMade, AreSeen, ReadsFirst, ReadsState, Tells}
 use Rattle.bx_paxos.specs.Shown.{HasFound, IsAsItWas, StandsAsFound}
 use Rattle.bx_rows.specs.declared.device.DeviceRow.{DeviceRow}
@@ -129,13 +129,16 @@ two_of None None None least = absurd (omega (arith, least))
 
 -- ---- one disk
 
-seen_alike : (devices : ℕ) (image other : Image) (n : ℕ) (o : Option Seen) → ((d : ℕ) → d < 3 → other d 0 ≡ image d 0) → ((s : ℕ) → other n s ≡ image n s) → IsSeen devices image n o → IsSeen devices other n o
-seen_alike devices image other n None labels same is = unread_alike devices image other n labels same is
-seen_alike devices image other n (Some x) labels same (label, (found, number, is)) = (label_alike devices image other n labels label, (found, number, found_alike devices (image n) (other n) found x.held same is))
+seen_alike : (devices : ℕ) (sizes more : List ℕ) (image other : Image) (n : ℕ) (o : Option Seen) → more ≡ sizes → ((d : ℕ) → IsWhole sizes d → (s : ℕ) → other d s ≡ image d s) → IsSeen devices sizes image n o → IsSeen devices more other n o
+seen_alike devices sizes more image other n None lengths same is = unread_alike devices sizes more image other n (as_long sizes more lengths) (λ d whole. same d whole 0) (same n) is
+seen_alike devices sizes more image other n (Some x) lengths same (label, (found, number, is)) = (
+  label_alike devices sizes more image other n (as_long sizes more lengths) (λ d whole. same d whole 0) label,
+  (found, number, found_alike devices (image n) (other n) found x.held (same n label.whole) is),
+)
 
-as_it_was : (devices : ℕ) (image : Image) (n : ℕ) (o : Option Seen) → IsSeen devices image n o → IsAsItWas devices (origin_of o) (held_of o) image n
-as_it_was devices image n None is = (refl, is)
-as_it_was devices image n (Some x) (label, (found, number, is)) = (x.held, refl, label, (found, number, is))
+as_it_was : (devices : ℕ) (sizes : List ℕ) (image : Image) (n : ℕ) (o : Option Seen) → IsSeen devices sizes image n o → IsAsItWas devices (origin_of o) (held_of o) sizes image n
+as_it_was devices sizes image n None is = (refl, is)
+as_it_was devices sizes image n (Some x) (label, (found, number, is)) = (x.held, refl, label, (found, number, is))
 
 not_made : (o : Option Seen) → origin_of o ≡ Made → ⊥
 not_made None e = absurd cc
@@ -208,30 +211,30 @@ module _ (a b c : Option Seen) (f : FoundState) (made : IsMadeOf a b c f) where
         by (held, is, inl e) = (subst IsAllowed (sym e) is.accepted, ap (λ (s : GlobalState). length s.devices) e ∙ is.accepted_devices)
         by (held, is, inr e) = (subst IsAllowed (sym e) is.decided, ap (λ (s : GlobalState). length s.devices) e ∙ is.decided_devices)
 
-    module _ (x : Disks) (seen_a : IsSeen devices x.reads 0 a) (seen_b : IsSeen devices x.reads 1 b) (seen_c : IsSeen devices x.reads 2 c) where
-      seen_at : (n : ℕ) → n < 3 → IsSeen devices x.reads n (seen n)
-      seen_at = three_each (λ n o. IsSeen devices x.reads n o) a b c seen_a seen_b seen_c
+    module _ (x : Disks) (seen_a : IsSeen devices x.sizes x.reads 0 a) (seen_b : IsSeen devices x.sizes x.reads 1 b) (seen_c : IsSeen devices x.sizes x.reads 2 c) where
+      seen_at : (n : ℕ) → n < 3 → IsSeen devices x.sizes x.reads n (seen n)
+      seen_at = three_each (λ n o. IsSeen devices x.sizes x.reads n o) a b c seen_a seen_b seen_c
 
-      are_seen : AreSeen devices x.reads was
+      are_seen : AreSeen devices x.sizes x.reads was
       are_seen = record {
         some = λ n held e.
             let k = seen_held (three a b c n) held e in
-            let s : IsSeen devices x.reads n (Some k.0) = subst (IsSeen devices x.reads n) k.1 (seen_at n (three_low a b c n held e)) in
+            let s : IsSeen devices x.sizes x.reads n (Some k.0) = subst (IsSeen devices x.sizes x.reads n) k.1 (seen_at n (three_low a b c n held e)) in
             (s.0, (s.1.0, subst (IsFound devices (x.reads n) s.1.0) k.2 s.1.2));
-        none = λ n found held e label is. (subst (IsSeen devices x.reads n) (unseen (three a b c n) e) (seen_at n label.low)).none found held label is;
+        none = λ n found held e label is. (subst (IsSeen devices x.sizes x.reads n) (unseen (three a b c n) e) (seen_at n label.whole.low)).none found held label is;
       }
 
-      pub reads_found : (state : GlobalState) → length state.devices ≡ devices → ReadsState state x.reads f.state
-      reads_found state same = record { seen = was; are = subst (λ (n : ℕ). AreSeen n x.reads was) (sym same) are_seen; tells = told }
+      pub reads_found : (state : GlobalState) → length state.devices ≡ devices → ReadsState state x.sizes x.reads f.state
+      reads_found state same = record { seen = was; are = subst (λ (n : ℕ). AreSeen n x.sizes x.reads was) (sym same) are_seen; tells = told }
 
       -- each image of the disks once they were synced
-      pub stands_found : (y : Disks) → SameDisks x y → ((n : ℕ) → n < 3 → IsSynced y n) → EachSure y (StandsAsFound f.state (origin_in f.origins) was)
-      stands_found y same synced = record {
+      pub stands_found : (y : Disks) → SameDisks x y → y.sizes ≡ x.sizes → ((n : ℕ) → IsWhole x.sizes n → IsSynced y n) → EachSure y (StandsAsFound f.state (origin_in f.origins) was y.sizes)
+      stands_found y same sizes synced = record {
         each = λ image sure. record {
           each = λ n low.
-              let alike : (d : ℕ) → d < 3 → (s : ℕ) → image d s ≡ x.reads d s = λ d less s. sure.sure d s ((synced d less).each s) ∙ (same.each d s).reads in
-              let at = as_it_was devices image n (three a b c n) (seen_alike devices x.reads image n (three a b c n) (λ d less. alike d less 0) (alike n low) (seen_at n low)) in
-              subst (λ (k : ℕ). IsAsItWas k (origin_in f.origins n) (held_of (three a b c n)) image n) (sym state_is.1) (subst (λ (o : Origin). IsAsItWas devices o (held_of (three a b c n)) image n) (sym (origin_at n low)) at);
+              let alike : (d : ℕ) → IsWhole x.sizes d → (s : ℕ) → image d s ≡ x.reads d s = λ d whole s. sure.sure d s ((synced d whole).each s) ∙ (same.each d s).reads in
+              let at = as_it_was devices y.sizes image n (three a b c n) (seen_alike devices x.sizes y.sizes x.reads image n (three a b c n) sizes alike (seen_at n low)) in
+              subst (λ (k : ℕ). IsAsItWas k (origin_in f.origins n) (held_of (three a b c n)) y.sizes image n) (sym state_is.1) (subst (λ (o : Origin). IsAsItWas devices o (held_of (three a b c n)) y.sizes image n) (sym (origin_at n low)) at);
         };
       }
 
@@ -247,8 +250,8 @@ made_origins origins one two last = λ n low. by (n == 0) (n == 1)
 
 -- ---- one disk after the other
 
-pub seen_before : (devices n : ℕ) (x y : Disks) (o : Option Seen) → SameDisks x y → IsSeen devices y.reads n o → IsSeen devices x.reads n o
-seen_before devices n x y o same is = seen_alike devices y.reads x.reads n o (λ d low. sym (same.each d 0).reads) (λ s. sym (same.each n s).reads) is
+pub seen_before : (devices n : ℕ) (x y : Disks) (o : Option Seen) → y.sizes ≡ x.sizes → SameDisks x y → IsSeen devices y.sizes y.reads n o → IsSeen devices x.sizes x.reads n o
+seen_before devices n x y o sizes same is = seen_alike devices y.sizes x.sizes y.reads x.reads n o (sym sizes) (λ d whole s. sym (same.each d s).reads) is
 
 same_self : (x : Disks) → SameDisks x x
 same_self x = record { each = λ d s. record { reads = refl; sure = λ e. e } }
@@ -262,24 +265,48 @@ same_twice x y z one other = record { each = λ d s. let k = one.each d s in let
 synced_on : (y z : Disks) (n : ℕ) → SameDisks y z → IsSynced y n → IsSynced z n
 synced_on y z n same is = record { each = λ s. (same.each n s).sure (is.each s) }
 
-pub synced_all : (y z w : Disks) → SameDisks y z → SameDisks z w → IsSynced y 0 → IsSynced z 1 → IsSynced w 2 → (n : ℕ) → n < 3 → IsSynced w n
-synced_all y z w one other first second third zero low = synced_on z w 0 other (synced_on y z 0 one first)
-synced_all y z w one other first second third (suc zero) low = synced_on z w 1 other second
-synced_all y z w one other first second third (suc (suc zero)) low = third
-synced_all y z w one other first second third (suc (suc (suc k))) low = absurd (omega (arith, low))
+-- those that are whole
+pub synced_all : (x v y z w : Disks) → v ≡ x → y.sizes ≡ v.sizes → z.sizes ≡ y.sizes → SameDisks y z → SameDisks z w → (IsWhole v.sizes 0 → IsSynced y 0) → (IsWhole y.sizes 1 → IsSynced z 1) → (IsWhole z.sizes 2 → IsSynced w 2)
+    → (n : ℕ) → IsWhole x.sizes n → IsSynced w n
+synced_all x v y z w read to_y to_z one other first second third n whole = by n whole.low whole
+  where
+    v_is : x.sizes ≡ v.sizes
+    v_is = ap (λ (d : Disks). d.sizes) (sym read)
 
-first_same : (x y : Disks) (label : Label) → SameDisks x y → IsFirstLabel x.reads label → IsFirstLabel y.reads label
-first_same x y label same is = first_alike x.reads y.reads label (λ d low. (same.each d 0).reads) is
+    y_is : x.sizes ≡ y.sizes
+    y_is = v_is ∙ sym to_y
+
+    z_is : x.sizes ≡ z.sizes
+    z_is = y_is ∙ sym to_z
+
+    by : (k : ℕ) → k < 3 → IsWhole x.sizes k → IsSynced w k
+    by zero low is = synced_on z w 0 other (synced_on y z 0 one (first (subst (λ (l : List ℕ). IsWhole l 0) v_is is)))
+    by (suc zero) low is = synced_on z w 1 other (second (subst (λ (l : List ℕ). IsWhole l 1) y_is is))
+    by (suc (suc zero)) low is = third (subst (λ (l : List ℕ). IsWhole l 2) z_is is)
+    by (suc (suc (suc k))) low is = absurd (omega (arith, low))
+
+first_same : (x y : Disks) (label : Label) → y.sizes ≡ x.sizes → SameDisks x y → IsFirstLabel x.sizes x.reads label → IsFirstLabel y.sizes y.reads label
+first_same x y label sizes same is = first_alike x.sizes y.sizes x.reads y.reads label (as_long x.sizes y.sizes sizes) (λ d whole. (same.each d 0).reads) is
 
 -- each of three is seen, after the first label was read
-pub all_seen : (devices : ℕ) (x v y z : Disks) (label : Label) (a b c : Option Seen) → v ≡ x → SameDisks v y → SameDisks y z → IsFirstLabel x.reads label × (label.devices ≡ devices)
-    → (IsFirstLabel v.reads label → label.devices ≡ devices → IsSeen devices v.reads 0 a) → (IsFirstLabel y.reads label → label.devices ≡ devices → IsSeen devices y.reads 1 b) → (IsFirstLabel z.reads label → label.devices ≡ devices → IsSeen devices z.reads 2 c)
-    → IsSeen devices x.reads 0 a × (IsSeen devices x.reads 1 b × IsSeen devices x.reads 2 c)
-all_seen devices x v y z label a b c read one other (first, same) see_a see_b see_c = (
-  seen_before devices 0 x v a to_v (see_a (first_same x v label to_v first) same),
-  (seen_before devices 1 x y b to_y (see_b (first_same x y label to_y first) same), seen_before devices 2 x z c to_z (see_c (first_same x z label to_z first) same)),
+pub all_seen : (devices : ℕ) (x v y z : Disks) (label : Label) (a b c : Option Seen) → v ≡ x → y.sizes ≡ v.sizes → z.sizes ≡ y.sizes → SameDisks v y → SameDisks y z → IsFirstLabel x.sizes x.reads label × (label.devices ≡ devices)
+    → (IsFirstLabel v.sizes v.reads label → label.devices ≡ devices → IsSeen devices v.sizes v.reads 0 a) → (IsFirstLabel y.sizes y.reads label → label.devices ≡ devices → IsSeen devices y.sizes y.reads 1 b)
+    → (IsFirstLabel z.sizes z.reads label → label.devices ≡ devices → IsSeen devices z.sizes z.reads 2 c)
+    → IsSeen devices x.sizes x.reads 0 a × (IsSeen devices x.sizes x.reads 1 b × IsSeen devices x.sizes x.reads 2 c)
+all_seen devices x v y z label a b c read sizes_y sizes_z one other (first, same) see_a see_b see_c = (
+  seen_before devices 0 x v a v_is to_v (see_a (first_same x v label v_is to_v first) same),
+  (seen_before devices 1 x y b y_is to_y (see_b (first_same x y label y_is to_y first) same), seen_before devices 2 x z c z_is to_z (see_c (first_same x z label z_is to_z first) same)),
 )
   where
+    v_is : v.sizes ≡ x.sizes
+    v_is = ap (λ (d : Disks). d.sizes) read
+
+    y_is : y.sizes ≡ x.sizes
+    y_is = sizes_y ∙ v_is
+
+    z_is : z.sizes ≡ x.sizes
+    z_is = sizes_z ∙ y_is
+
     to_v : SameDisks x v
     to_v = same_of x v read
 

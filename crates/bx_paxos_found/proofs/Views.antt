@@ -1,5 +1,5 @@
 -- An image in which two replicas are labelled is read as some state.
-use Rattle.std.proofs.Common.{◌≡◌, ◌≢◌, ℕ, ◌<◌, inl, inr, ◌==◌, Bool, true, false, length, Option, Some, None, refl, sym, ap, subst, ◌∙◌, arith}
+use Rattle.std.proofs.Common.{◌≡◌, ◌≢◌, ℕ, ◌<◌, inl, inr, ◌==◌, Bool, true, false, List, length, Option, Some, None, refl, sym, ap, subst, ◌∙◌, arith}
 use Rattle.std.specs.Prelude.{nat_lt, if◌then◌else◌}
 use Rattle.bx_acceptor.specs.Standing.{IsFound}
 use Rattle.bx_acceptor.specs.declared.origin.Origin.{Origin}
@@ -26,28 +26,28 @@ use Rattle.bx_paxos_found.proofs.Threes.{three_each, three_within}
 -- ---- one replica
 
 -- what is seen of a replica: its cell, where it is labelled and has a cell that can be read
-pub IsView : ℕ → Image → ℕ → Option Held → Type 0
-IsView devices image n None = IsUnread devices image n
-IsView devices image n (Some held) = IsLabelled devices image n × ((found : Found) × IsFound devices (image n) found held)
+pub IsView : ℕ → List ℕ → Image → ℕ → Option Held → Type 0
+IsView devices sizes image n None = IsUnread devices sizes image n
+IsView devices sizes image n (Some held) = IsLabelled devices sizes image n × ((found : Found) × IsFound devices (image n) found held)
 
-record View (devices : ℕ) (image : Image) (n : ℕ) : Type 0 where
+record View (devices : ℕ) (sizes : List ℕ) (image : Image) (n : ℕ) : Type 0 where
   pub cell : Option Held
-  pub is : IsView devices image n cell
+  pub is : IsView devices sizes image n cell
 
-view_of : (devices : ℕ) (origin : Origin) (was : Option Held) (image : Image) (n : ℕ) → n < 3 → ShowsOne devices origin was image n → View devices image n
+view_of : (devices : ℕ) (origin : Origin) (was : Option Held) (sizes : List ℕ) (image : Image) (n : ℕ) → n < 3 → ShowsOne devices origin was sizes image n → View devices sizes image n
 unfolding IsView
-view_of devices Made was image n low (found, held, is) =
-    elim (labelled_or devices image n low) [
+view_of devices Made was sizes image n low (found, held, is) =
+    elim (labelled_or devices sizes image n low) [
       | inl label ↦ record { cell = Some held; is = (label, (found, is)) }
       | inr none ↦ record { cell = None; is = record { none = λ f h label there. none label } }
     ]
-view_of devices (FoundAs number) was image n low (held, e, known) = record { cell = Some known.held; is = (known.label, (known.found, known.is)) }
-view_of devices Apart was image n low (e, unread) = record { cell = None; is = unread }
+view_of devices (FoundAs number) was sizes image n low (held, e, known) = record { cell = Some known.held; is = (known.label, (known.found, known.is)) }
+view_of devices Apart was sizes image n low (e, unread) = record { cell = None; is = unread }
 
-pub view_seen : (devices : ℕ) (image : Image) (n : ℕ) (o : Option Seen) → IsSeen devices image n o → IsView devices image n (held_of o)
+pub view_seen : (devices : ℕ) (sizes : List ℕ) (image : Image) (n : ℕ) (o : Option Seen) → IsSeen devices sizes image n o → IsView devices sizes image n (held_of o)
 unfolding IsView
-view_seen devices image n None is = is
-view_seen devices image n (Some s) (label, (found, number, is)) = (label, (found, is))
+view_seen devices sizes image n None is = is
+view_seen devices sizes image n (Some s) (label, (found, number, is)) = (label, (found, is))
 
 -- ---- three
 
@@ -94,68 +94,68 @@ some_chosen a b c n held e =
     let t = told_some (higher_of (higher_of (accepted_of a) (accepted_of b)) (accepted_of c)) d.0 in
     (t.0, ap (λ (o : Option GlobalState). told_of (higher_of (higher_of (accepted_of a) (accepted_of b)) (accepted_of c)) o) d.1 ∙ t.1)
 
-module _ (devices : ℕ) (image : Image) (a b c : Option Held) (view_a : IsView devices image 0 a) (view_b : IsView devices image 1 b) (view_c : IsView devices image 2 c) where
-  at : (n : ℕ) → n < 3 → IsView devices image n (three a b c n)
-  at = three_each (λ n o. IsView devices image n o) a b c view_a view_b view_c
+module _ (devices : ℕ) (sizes : List ℕ) (image : Image) (a b c : Option Held) (view_a : IsView devices sizes image 0 a) (view_b : IsView devices sizes image 1 b) (view_c : IsView devices sizes image 2 c) where
+  at : (n : ℕ) → n < 3 → IsView devices sizes image n (three a b c n)
+  at = three_each (λ n o. IsView devices sizes image n o) a b c view_a view_b view_c
 
-  are : AreSeen devices image (three a b c)
+  are : AreSeen devices sizes image (three a b c)
   unfolding IsView
   are = record {
-    some = λ n held e. subst (IsView devices image n) e (at n (three_within a b c n held e));
-    none = λ n found held e label is. let gone : IsView devices image n None = subst (IsView devices image n) e (at n label.low) in gone.none found held label is;
+    some = λ n held e. subst (IsView devices sizes image n) e (at n (three_within a b c n held e));
+    none = λ n found held e label is. let gone : IsView devices sizes image n None = subst (IsView devices sizes image n) e (at n label.whole.low) in gone.none found held label is;
   }
 
   -- a cell that can be read, of a replica that is labelled, is seen
-  there : (n : ℕ) (found : Found) (held : Held) → IsLabelled devices image n → IsFound devices (image n) found held → (k : Held) × (three a b c n ≡ Some k)
+  there : (n : ℕ) (found : Found) (held : Held) → IsLabelled devices sizes image n → IsFound devices (image n) found held → (k : Held) × (three a b c n ≡ Some k)
   unfolding IsView
   there n found held label is = by (three a b c n) refl
     where
       by : (o : Option Held) → three a b c n ≡ o → (k : Held) × (three a b c n ≡ Some k)
-      by None e = let gone : IsView devices image n None = subst (IsView devices image n) e (at n label.low) in absurd (gone.none found held label is)
+      by None e = let gone : IsView devices sizes image n None = subst (IsView devices sizes image n) e (at n label.whole.low) in absurd (gone.none found held label is)
       by (Some k) e = (k, e)
 
-  pub reads_so_chosen : (state s : GlobalState) (n m : ℕ) (one other : Held) → length state.devices ≡ devices → HasTwo (three a b c) n m one other → chosen_of a b c ≡ Some s → ReadsState state image s
+  pub reads_so_chosen : (state s : GlobalState) (n m : ℕ) (one other : Held) → length state.devices ≡ devices → HasTwo (three a b c) n m one other → chosen_of a b c ≡ Some s → ReadsState state sizes image s
   reads_so_chosen state s n m one other same two chosen = record {
     seen = three a b c;
-    are = subst (λ (k : ℕ). AreSeen k image (three a b c)) (sym same) are;
+    are = subst (λ (k : ℕ). AreSeen k sizes image (three a b c)) (sym same) are;
     tells = record { one = n; other = m; one_held = one; other_held = other; two = two; reads = chosen_reads a b c s chosen };
   }
 
-  reads_two : (state : GlobalState) (n m : ℕ) (one other : Held) → length state.devices ≡ devices → HasTwo (three a b c) n m one other → (s : GlobalState) × ReadsState state image s
+  reads_two : (state : GlobalState) (n m : ℕ) (one other : Held) → length state.devices ≡ devices → HasTwo (three a b c) n m one other → (s : GlobalState) × ReadsState state sizes image s
   reads_two state n m one other same two =
       let s = some_chosen a b c n one two.is_one in
       (s.0, reads_so_chosen state s.0 n m one other same two s.1)
 
 -- ---- an image of a register
 
-some_read : (v : Voters) (image : Image) (n m : ℕ) (was : ℕ → Option Held) → Shows v.first v.origins was image → HasBegun v.first v.origins was → n ≢ m → IsLabelled (devices_of v) image n → IsLabelled (devices_of v) image m → (s : GlobalState) × ReadsState v.first image s
-some_read v image n m was shown begun apart label label_m = by begun
+some_read : (v : Voters) (sizes : List ℕ) (image : Image) (n m : ℕ) (was : ℕ → Option Held) → Shows v.first v.origins was sizes image → HasBegun v.first v.origins was → n ≢ m → IsLabelled (devices_of v) sizes image n → IsLabelled (devices_of v) sizes image m → (s : GlobalState) × ReadsState v.first sizes image s
+some_read v sizes image n m was shown begun apart label label_m = by begun
   where
     devices : ℕ
     devices = devices_of v
 
-    view : (k : ℕ) → k < 3 → View devices image k
-    view k less = view_of devices (v.origins k) (was k) image k less (shown.each k less)
+    view : (k : ℕ) → k < 3 → View devices sizes image k
+    view k less = view_of devices (v.origins k) (was k) sizes image k less (shown.each k less)
 
-    a : View devices image 0
+    a : View devices sizes image 0
     a = view 0 (omega arith)
 
-    b : View devices image 1
+    b : View devices sizes image 1
     b = view 1 (omega arith)
 
-    c : View devices image 2
+    c : View devices sizes image 2
     c = view 2 (omega arith)
 
-    with : (k l : ℕ) (f g : Found) (one other : Held) → k ≢ l → IsLabelled devices image k → IsLabelled devices image l → IsFound devices (image k) f one → IsFound devices (image l) g other → (s : GlobalState) × ReadsState v.first image s
+    with : (k l : ℕ) (f g : Found) (one other : Held) → k ≢ l → IsLabelled devices sizes image k → IsLabelled devices sizes image l → IsFound devices (image k) f one → IsFound devices (image l) g other → (s : GlobalState) × ReadsState v.first sizes image s
     with k l f g one other differ has has_l is is_l =
-        let x = there devices image a.cell b.cell c.cell a.is b.is c.is k f one has is in
-        let y = there devices image a.cell b.cell c.cell a.is b.is c.is l g other has_l is_l in
-        reads_two devices image a.cell b.cell c.cell a.is b.is c.is v.first k l x.0 y.0 refl (record { two = record { one = has.low; other = has_l.low; differ = differ }; is_one = x.1; is_other = y.1 })
+        let x = there devices sizes image a.cell b.cell c.cell a.is b.is c.is k f one has is in
+        let y = there devices sizes image a.cell b.cell c.cell a.is b.is c.is l g other has_l is_l in
+        reads_two devices sizes image a.cell b.cell c.cell a.is b.is c.is v.first k l x.0 y.0 refl (record { two = record { one = has.whole.low; other = has_l.whole.low; differ = differ }; is_one = x.1; is_other = y.1 })
 
-    by : HasBegun v.first v.origins was → (s : GlobalState) × ReadsState v.first image s
+    by : HasBegun v.first v.origins was → (s : GlobalState) × ReadsState v.first sizes image s
     by (inl made) =
-        let one = subst (λ (o : Origin). ShowsOne devices o (was n) image n) (made n label.low) (shown.each n label.low) in
-        let other = subst (λ (o : Origin). ShowsOne devices o (was m) image m) (made m label_m.low) (shown.each m label_m.low) in
+        let one = subst (λ (o : Origin). ShowsOne devices o (was n) sizes image n) (made n label.whole.low) (shown.each n label.whole.low) in
+        let other = subst (λ (o : Origin). ShowsOne devices o (was m) sizes image m) (made m label_m.whole.low) (shown.each m label_m.whole.low) in
         with n m one.0 other.0 one.1 other.1 apart label label_m one.2 other.2
     by (inr found) =
         let t = found.tells.two in
@@ -163,11 +163,11 @@ some_read v image n m was shown begun apart label label_m = by begun
         let y = of t.two.other t.is_other (v.origins found.tells.other) refl (shown.each found.tells.other t.two.other) in
         with found.tells.one found.tells.other x.0 y.0 x.1 y.1 t.two.differ x.2 y.2 x.3 y.3
       where
-        of : {k : ℕ} {h : Held} → k < 3 → was k ≡ Some h → (o : Origin) → v.origins k ≡ o → ShowsOne devices o (was k) image k → (f : Found) × (held : Held) × IsLabelled devices image k × IsFound devices (image k) f held
+        of : {k : ℕ} {h : Held} → k < 3 → was k ≡ Some h → (o : Origin) → v.origins k ≡ o → ShowsOne devices o (was k) sizes image k → (f : Found) × (held : Held) × IsLabelled devices sizes image k × IsFound devices (image k) f held
         of {k} {h} less e Made at shows = absurd (found.none_made k less at)
         of {k} {h} less e (FoundAs number) at shows = (shows.2.found, shows.2.held, shows.2.label, shows.2.is)
         of {k} {h} less e Apart at shows = absurd (none_some h (sym shows.0 ∙ e))
 
 -- an image that has all that is sure
-pub reads_some : (v : Voters) (x : Disks) (past : RegisterPast) (image : Image) (n m : ℕ) → Fits v x past → HasAllSure x image → n ≢ m → IsLabelled (devices_of v) image n → IsLabelled (devices_of v) image m → (s : GlobalState) × ReadsState v.first image s
-reads_some v x past image n m f sure apart label label_m = some_read v image n m f.was (f.shown.each image sure) f.begun apart label label_m
+pub reads_some : (v : Voters) (x : Disks) (past : RegisterPast) (image : Image) (n m : ℕ) → Fits v x past → HasAllSure x image → n ≢ m → IsLabelled (devices_of v) x.sizes image n → IsLabelled (devices_of v) x.sizes image m → (s : GlobalState) × ReadsState v.first x.sizes image s
+reads_some v x past image n m f sure apart label label_m = some_read v x.sizes image n m f.was (f.shown.each image sure) f.begun apart label label_m

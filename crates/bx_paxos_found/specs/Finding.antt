@@ -1,13 +1,12 @@
 -- What is seen of the disks of replicas, and what is made of it.
-use Rattle.std.specs.Prelude.{◌≡◌, ℕ, ◌+◌, ◌^◌, ◌<◌, ◌≤◌, ◌⊎◌, max, length, Option, Some, None}
+use Rattle.std.specs.Prelude.{◌≡◌, ℕ, ◌+◌, ◌^◌, ◌<◌, ◌≤◌, ◌⊎◌, max, List, length, Option, Some, None}
 use Rattle.bx_acceptor.specs.Standing.{IsFound}
 use Rattle.bx_acceptor.specs.declared.origin.Origin.{Origin}
 use Rattle.bx_acceptor.specs.declared.origin.Origin.TheVariants.{Found as FoundAs, Apart}
 use Rattle.bx_agreement.specs.History.{AreTwo}
 use Rattle.bx_cell.specs.Halves.{Found}
-use Rattle.bx_disk.specs.Disks.{Disks, Image}
+use Rattle.bx_disk.specs.Disks.{Image}
 use Rattle.bx_facts.specs.Chains.{most_boot}
-use Rattle.bx_facts.specs.Disks.{LackReplica}
 use Rattle.bx_facts.specs.Labelled.{IsLabelled}
 use Rattle.bx_global.specs.declared.held.Held.{Held}
 use Rattle.bx_global.specs.declared.state.GlobalState.{GlobalState}
@@ -19,9 +18,9 @@ use Rattle.bx_paxos_found.specs.Boots.{boot_of_held}
 use Rattle.bx_paxos_found.specs.Choosing.{chosen_of}
 
 -- this is seen of a replica: nothing, where its disk isn't read; else what its cell has, and under which number
-abbrev pub IsSeen : ℕ → Image → ℕ → Option Seen → Type 0
-IsSeen devices image n None = IsUnread devices image n
-IsSeen devices image n (Some x) = IsLabelled devices image n × ((found : Found) × (found.number ≡ x.number) × IsFound devices (image n) found x.held)
+abbrev pub IsSeen : ℕ → List ℕ → Image → ℕ → Option Seen → Type 0
+IsSeen devices sizes image n None = IsUnread devices sizes image n
+IsSeen devices sizes image n (Some x) = IsLabelled devices sizes image n × ((found : Found) × (found.number ≡ x.number) × IsFound devices (image n) found x.held)
 
 -- what a cell has, how it came to be, its greatest boot, and that it counts
 abbrev pub held_of : Option Seen → Option Held
@@ -65,25 +64,22 @@ pub record IsSpentAt (a b c : Option Seen) (boot : ℕ) : Type 0 where
 -- ---- what disks tell
 
 -- The replica is labelled, and its disk has a cell that can be read, which has this.
-abbrev pub Counts : ℕ → Image → ℕ → Held → Type 0
-Counts devices image n held = IsLabelled devices image n × ((found : Found) × IsFound devices (image n) found held)
+abbrev pub Counts : ℕ → List ℕ → Image → ℕ → Held → Type 0
+Counts devices sizes image n held = IsLabelled devices sizes image n × ((found : Found) × IsFound devices (image n) found held)
 
--- Two replicas aren't labelled, or have no cell that can be read; or the disk of a replica isn't there.
-pub record LackTwo (devices : ℕ) (image : Image) : Type 0 where
+-- Two replicas aren't labelled, or have no cell that can be read.
+pub record LackMajority (devices : ℕ) (sizes : List ℕ) (image : Image) : Type 0 where
   pub one : ℕ
   pub other : ℕ
   pub two : AreTwo one other
-  pub one_unread : IsUnread devices image one
-  pub other_unread : IsUnread devices image other
-
-abbrev pub LackMajority : ℕ → Disks → Type 0
-LackMajority devices x = LackReplica x.sizes ⊎ LackTwo devices x.reads
+  pub one_unread : IsUnread devices sizes image one
+  pub other_unread : IsUnread devices sizes image other
 
 -- They are read as a state that no other may follow, since its index is the greatest that a number can be.
-abbrev pub AreAtTheEnd : ℕ → Image → Type 0
-AreAtTheEnd devices image = (made : GlobalState) → length made.devices ≡ devices → (s : GlobalState) × ReadsState made image s × (2 ^ 64 ≤ s.index + 1)
+abbrev pub AreAtTheEnd : ℕ → List ℕ → Image → Type 0
+AreAtTheEnd devices sizes image = (made : GlobalState) → length made.devices ≡ devices → (s : GlobalState) × ReadsState made sizes image s × (2 ^ 64 ≤ s.index + 1)
 
 -- This is the greatest boot in the cells of replicas that count.
-pub record IsGreatestBoot (devices : ℕ) (image : Image) (boot : ℕ) : Type 0 where
-  pub most : (n : ℕ) (held : Held) → Counts devices image n held → boot_of_held held ≤ boot
-  pub is : (n : ℕ) × (held : Held) × Counts devices image n held × (boot_of_held held ≡ boot)
+pub record IsGreatestBoot (devices : ℕ) (sizes : List ℕ) (image : Image) (boot : ℕ) : Type 0 where
+  pub most : (n : ℕ) (held : Held) → Counts devices sizes image n held → boot_of_held held ≤ boot
+  pub is : (n : ℕ) × (held : Held) × Counts devices sizes image n held × (boot_of_held held ≡ boot)

@@ -22,34 +22,21 @@ use bx_disk::Rack;
 use bx_facts::OpenError;
 use std::alloc::Global;
 
-/// How many sectors a replica's disk has: its label, and its cell.
-const SECTORS: u64 = 21;
-
-/// Whether a rack has the disks of three replicas.
-fn has_replicas<R: Rack>(rack: &R) -> bool
-    ensures { IsTrue result ↔ ((n : ℕ) → n < 3 → 21 ≤ slice_index (R.state rack.now).sizes n) }
-{
-    if rack.disks() < 3 {
-        return false;
-    }
-    rack.sectors(0) >= SECTORS && rack.sectors(1) >= SECTORS && rack.sectors(2) >= SECTORS
-}
-
-/// Makes the disks of replicas sure, and reads the cluster's state off them, for a volume of so many devices. `NoMajority` exactly where the disk of
-/// one isn't there, fewer than two are labelled and have a cell that can be read, or no index is left behind the state; else `Spent` exactly where
-/// the greatest boot in these cells is that one, and is above 4611686018427387903.
+/// Makes the whole disks of replicas sure, and reads the cluster's state off them, for a volume of so many devices. A disk that isn't there or lacks
+/// sectors counts as one without a label. `NoMajority` exactly where fewer than two are labelled and have a cell that can be read, or no index is left
+/// behind the state; else `Spent` exactly where the greatest boot in these cells is that one, and is above 4611686018427387903.
 pub fn find<R: Rack>(alloc: Global, rack: &mut R, devices: u32) -> Result<FoundState, OpenError>
-    ensures reads { (made : GlobalState) → length made.devices ≡ devices → R.tells rack.old → IfOk result (λ f. ReadsState made (R.state rack.old).reads f.state) }
-    ensures found { R.tells rack.old → IfOk result (λ f. (was : ℕ → Option Held) × HasFound f.state (origin_in f.origins) was × EachSure (R.state rack.new) (StandsAsFound f.state (origin_in f.origins) was)) }
+    ensures reads { (made : GlobalState) → length made.devices ≡ devices → R.tells rack.old → IfOk result (λ f. ReadsState made (R.state rack.old).sizes (R.state rack.old).reads f.state) }
+    ensures found { R.tells rack.old → IfOk result (λ f. (was : ℕ → Option Held) × HasFound f.state (origin_in f.origins) was × EachSure (R.state rack.new) (StandsAsFound f.state (origin_in f.origins) was (R.state rack.new).sizes)) }
     ensures allowed { IfOk result (λ f. IsAllowed f.state) }
     ensures devices { IfOk result (λ f. length f.state.devices ≡ devices) }
     ensures index { IfOk result (λ f. f.state.index + 1 < 2 ^ 64) }
     ensures boots { IfOk result (λ f. IsAboveBoots f.state (f.boot + 1)) }
-    ensures no_majority { R.tells rack.old → IsErrOf result NoMajority → LackMajority devices (R.state rack.old) ⊎ AreAtTheEnd devices (R.state rack.old).reads }
-    ensures majority { R.tells rack.old → OnOk result (LackMajority devices (R.state rack.old) → ⊥) }
-    ensures spent { (boot : ℕ) → R.tells rack.old → IsErrOf result (Spent boot) → IsGreatestBoot devices (R.state rack.old).reads boot × (LackMajority devices (R.state rack.old) → ⊥) }
+    ensures no_majority { R.tells rack.old → IsErrOf result NoMajority → LackMajority devices (R.state rack.old).sizes (R.state rack.old).reads ⊎ AreAtTheEnd devices (R.state rack.old).sizes (R.state rack.old).reads }
+    ensures majority { R.tells rack.old → OnOk result (LackMajority devices (R.state rack.old).sizes (R.state rack.old).reads → ⊥) }
+    ensures spent { (boot : ℕ) → R.tells rack.old → IsErrOf result (Spent boot) → IsGreatestBoot devices (R.state rack.old).sizes (R.state rack.old).reads boot × (LackMajority devices (R.state rack.old).sizes (R.state rack.old).reads → ⊥) }
     ensures above { (boot : ℕ) → IsErrOf result (Spent boot) → most_boot < boot }
-    ensures greatest { R.tells rack.old → IfOk result (λ f. IsGreatestBoot devices (R.state rack.old).reads f.boot) }
+    ensures greatest { R.tells rack.old → IfOk result (λ f. IsGreatestBoot devices (R.state rack.old).sizes (R.state rack.old).reads f.boot) }
     ensures few { IfOk result (λ f. f.boot ≤ most_boot) }
     ensures no_label { (disk : ℕ) → IsErrOf result (NoLabel disk) → ⊥ }
     ensures disks { R.tells rack.old → SameDisks (R.state rack.old) (R.state rack.new) }
@@ -58,9 +45,6 @@ pub fn find<R: Rack>(alloc: Global, rack: &mut R, devices: u32) -> Result<FoundS
     ensures sizes { (R.state rack.new).sizes ≡ (R.state rack.old).sizes }
     ensures keeps_telling { R.tells rack.old → R.tells rack.new }
 {
-    if !has_replicas(rack) {
-        return Err(OpenError::NoMajority);
-    }
     let Ok(found) = volume_label(rack, devices) else {
         return Err(OpenError::Disk);
     };

@@ -3,7 +3,7 @@
 ghost use Rattle.std.specs.Prelude.{◌≡◌, ℕ, ◌<◌, ◌≤◌, ◌↔◌, IfNone, IfOk, IfSome, IsTrue, OnErr, slice_index};
 ghost use Rattle.bx_base.specs.Faults.{Rose};
 ghost use Rattle.bx_disk.specs.Counts.{NoneFalls};
-ghost use Rattle.bx_facts.specs.Labelled.{IsFirstLabel, IsLabelled, IsOwnLabel, label_on};
+ghost use Rattle.bx_facts.specs.Labelled.{IsFirstLabel, IsLabelled, IsOwnLabel, IsWhole, label_on};
 ghost use Rattle.bx_layout.specs.Labels.{SpellsLabel};
 ghost use Rattle.bx_layout.specs.declared.label.Label.{Label};
 
@@ -11,17 +11,30 @@ use bx_calls::read_sectors;
 use bx_disk::{DiskFault, Rack};
 use bx_layout::Label;
 
-/// The label of a replica's disk, if it names this very disk.
+/// How many sectors a replica's disk has: its label, and its cell.
+const SECTORS: u64 = 21;
+
+/// Whether the disk of a replica is there, with all of its sectors.
+pub(crate) fn is_whole<R: Rack>(rack: &R, replica: u32) -> bool
+    requires { replica < 3 }
+    ensures { IsTrue result ↔ IsWhole (R.state rack.now).sizes replica }
+{
+    replica < rack.disks() && rack.sectors(replica) >= SECTORS
+}
+
+/// The label of a replica's disk, if that is whole and the label names this very disk.
 fn own_label<R: Rack>(rack: &mut R, replica: u32) -> Result<Option<Label>, DiskFault>
     requires low { replica < 3 }
-    requires room { 21 ≤ slice_index (R.state rack.old).sizes replica }
-    ensures some { R.tells rack.old → IfOk result (λ found. IfSome found (IsOwnLabel (R.state rack.old).reads replica)) }
-    ensures none { R.tells rack.old → IfOk result (λ found. IfNone found ((label : Label) → IsOwnLabel (R.state rack.old).reads replica label → ⊥)) }
+    ensures some { R.tells rack.old → IfOk result (λ found. IfSome found (IsOwnLabel (R.state rack.old).sizes (R.state rack.old).reads replica)) }
+    ensures none { R.tells rack.old → IfOk result (λ found. IfNone found ((label : Label) → IsOwnLabel (R.state rack.old).sizes (R.state rack.old).reads replica label → ⊥)) }
     ensures stays { R.state rack.new ≡ R.state rack.old }
     ensures cause { OnErr result (Rose (R.faults rack.old) (R.faults rack.new)) }
     ensures later { NoneFalls (R.faults rack.old) (R.faults rack.new) (R.faults_of rack.old) (R.faults_of rack.new) }
     ensures keeps_telling { R.tells rack.old → R.tells rack.new }
 {
+    if !is_whole(rack, replica) {
+        return Ok(None);
+    }
     let mut sector = [0; 512];
     read_sectors(rack, replica, 0, &mut sector)?;
     let Some(label) = Label::read(&sector) else {
@@ -36,9 +49,8 @@ fn own_label<R: Rack>(rack: &mut R, replica: u32) -> Result<Option<Label>, DiskF
 
 /// The label of the least replica that has one of its own. `None` exactly where none has.
 fn first_label<R: Rack>(rack: &mut R) -> Result<Option<Label>, DiskFault>
-    requires room { (n : ℕ) → n < 3 → 21 ≤ slice_index (R.state rack.old).sizes n }
-    ensures some { R.tells rack.old → IfOk result (λ found. IfSome found (IsFirstLabel (R.state rack.old).reads)) }
-    ensures none { R.tells rack.old → IfOk result (λ found. IfNone found ((n : ℕ) (label : Label) → IsOwnLabel (R.state rack.old).reads n label → ⊥)) }
+    ensures some { R.tells rack.old → IfOk result (λ found. IfSome found (IsFirstLabel (R.state rack.old).sizes (R.state rack.old).reads)) }
+    ensures none { R.tells rack.old → IfOk result (λ found. IfNone found ((n : ℕ) (label : Label) → IsOwnLabel (R.state rack.old).sizes (R.state rack.old).reads n label → ⊥)) }
     ensures stays { R.state rack.new ≡ R.state rack.old }
     ensures cause { OnErr result (Rose (R.faults rack.old) (R.faults rack.new)) }
     ensures later { NoneFalls (R.faults rack.old) (R.faults rack.new) (R.faults_of rack.old) (R.faults_of rack.new) }
@@ -54,9 +66,8 @@ fn first_label<R: Rack>(rack: &mut R) -> Result<Option<Label>, DiskFault>
 
 /// The first label, if its volume has so many devices. `None` exactly where no replica is labelled for as many.
 pub(crate) fn volume_label<R: Rack>(rack: &mut R, devices: u32) -> Result<Option<Label>, DiskFault>
-    requires room { (n : ℕ) → n < 3 → 21 ≤ slice_index (R.state rack.old).sizes n }
-    ensures some { R.tells rack.old → IfOk result (λ found. IfSome found (λ first. IsFirstLabel (R.state rack.old).reads first × (first.devices ≡ devices))) }
-    ensures none { R.tells rack.old → IfOk result (λ found. IfNone found ((n : ℕ) → IsLabelled devices (R.state rack.old).reads n → ⊥)) }
+    ensures some { R.tells rack.old → IfOk result (λ found. IfSome found (λ first. IsFirstLabel (R.state rack.old).sizes (R.state rack.old).reads first × (first.devices ≡ devices))) }
+    ensures none { R.tells rack.old → IfOk result (λ found. IfNone found ((n : ℕ) → IsLabelled devices (R.state rack.old).sizes (R.state rack.old).reads n → ⊥)) }
     ensures stays { R.state rack.new ≡ R.state rack.old }
     ensures cause { OnErr result (Rose (R.faults rack.old) (R.faults rack.new)) }
     ensures later { NoneFalls (R.faults rack.old) (R.faults rack.new) (R.faults_of rack.old) (R.faults_of rack.new) }

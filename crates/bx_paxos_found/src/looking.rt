@@ -7,12 +7,12 @@ ghost use Rattle.bx_calls.specs.Regions.{IsSynced};
 ghost use Rattle.bx_cell.specs.Halves.{Found};
 ghost use Rattle.bx_disk.specs.Counts.{NoneFalls};
 ghost use Rattle.bx_facts.specs.Disks.{SameDisks};
-ghost use Rattle.bx_facts.specs.Labelled.{IsFirstLabel};
+ghost use Rattle.bx_facts.specs.Labelled.{IsFirstLabel, IsWhole};
 ghost use Rattle.bx_facts.specs.declared.input.OpenError.TheVariants.{Disk as OpenFails, OutOfMemory as WantsMemory};
 ghost use Rattle.bx_global.specs.Bytes.{IsHeld};
 ghost use Rattle.bx_paxos_found.specs.Finding.{IsSeen};
 
-use crate::labels::is_of_volume;
+use crate::labels::{is_of_volume, is_whole};
 use bx_cell::{Cell, CellError};
 use bx_disk::{DiskFault, Rack};
 use bx_facts::OpenError;
@@ -67,8 +67,8 @@ fn cell_on<R: Rack>(
     }
 }
 
-/// Makes the disk of a replica sure, and looks at it, where the first label is known: `None` exactly where the replica isn't labelled, or its
-/// disk has no cell that can be read.
+/// Makes the disk of a replica sure if it is whole, and looks at it, where the first label is known: `None` exactly where the replica isn't
+/// labelled, or its disk has no cell that can be read. A disk that isn't whole has no label, and isn't touched.
 pub(crate) fn look<R: Rack>(
     alloc: Global,
     rack: &mut R,
@@ -77,10 +77,9 @@ pub(crate) fn look<R: Rack>(
     devices: u32,
 ) -> Result<Option<Seen>, OpenError>
     requires low { replica < 3 }
-    requires room { 21 ≤ slice_index (R.state rack.old).sizes replica }
-    ensures seen { R.tells rack.old → IsFirstLabel (R.state rack.old).reads first.now → first.now.devices ≡ devices → IfOk result (IsSeen devices (R.state rack.old).reads replica) }
+    ensures seen { R.tells rack.old → IsFirstLabel (R.state rack.old).sizes (R.state rack.old).reads first.now → first.now.devices ≡ devices → IfOk result (IsSeen devices (R.state rack.old).sizes (R.state rack.old).reads replica) }
     ensures held { IfOk result (λ seen. IfSome seen (λ x. IsHeld devices x.held)) }
-    ensures sure { R.tells rack.old → OnOk result (IsSynced (R.state rack.new) replica) }
+    ensures sure { R.tells rack.old → OnOk result (IsWhole (R.state rack.old).sizes replica → IsSynced (R.state rack.new) replica) }
     ensures disks { R.tells rack.old → SameDisks (R.state rack.old) (R.state rack.new) }
     ensures errors { IfErr result (λ e. (e ≡ OpenFails) ⊎ (e ≡ WantsMemory)) }
     ensures cause { IsErrOf result OpenFails → Rose (R.faults rack.old) (R.faults rack.new) }
@@ -88,6 +87,9 @@ pub(crate) fn look<R: Rack>(
     ensures sizes { (R.state rack.new).sizes ≡ (R.state rack.old).sizes }
     ensures keeps_telling { R.tells rack.old → R.tells rack.new }
 {
+    if !is_whole(rack, replica) {
+        return Ok(None);
+    }
     let Some(seen) = cell_on(alloc, rack, replica, devices)? else {
         return Ok(None);
     };

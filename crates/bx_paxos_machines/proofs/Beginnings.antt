@@ -1,6 +1,6 @@
 -- Machines that are put into a list one behind the other, and disks that are only synced.
 use Rattle.std.proofs.Common.{◌≡◌, ℕ, ◌+◌, ◌-◌, ◌^◌, ◌<◌, ◌≤◌, ◌⊎◌, inl, inr, ◌==◌, Bool, true, false, List, [], ◌∷◌, ◌++◌, length, Option, Some, None, Result, Ok, Err, OnOk, refl, sym, ap, subst, ◌∙◌, arith}
-use Rattle.std.specs.Prelude.{IsSome, IsSomeAnd, nat_lt, if◌then◌else◌}
+use Rattle.std.specs.Prelude.{IsSome, IsSomeAnd, nat_lt, if◌then◌else◌, slice_index}
 use Rattle.std.proofs.lemmas.Bool.{false≢true}
 use Rattle.std.proofs.lemmas.Bool.Decides.{nat_tests}
 use Rattle.bx_acceptor.proofs.Taking.{first_is_held}
@@ -9,14 +9,17 @@ use Rattle.bx_acceptor.specs.Standing.{HasCell, IsFound}
 use Rattle.bx_acceptor.specs.Starting.{StartsWith}
 use Rattle.bx_acceptor.specs.declared.origin.Origin.{Origin}
 use Rattle.bx_acceptor.specs.declared.origin.Origin.TheVariants.{Made}
+use Rattle.bx_base.specs.Faults.{Rose}
 use Rattle.bx_base.specs.declared.names.Actor.{Actor}
 use Rattle.bx_base.specs.declared.names.Actor.TheVariants.{Node, Replica, Server, Member}
 use Rattle.bx_cell.specs.Cells.{Known}
-use Rattle.bx_cell.specs.Formats.{first}
+use Rattle.bx_cell.specs.Formats.{KeepsBeside, first}
 use Rattle.bx_cell.specs.Halves.{cell_in}
 use Rattle.bx_cell.specs.Images.{EachSure, HasAllSure}
+use Rattle.bx_disk.specs.Counts.{NoneFalls}
 use Rattle.bx_disk.specs.Disks.{Disks, Image}
 use Rattle.bx_facts.proofs.Machines.{is_itself}
+use Rattle.bx_facts.specs.Disks.{IsKept, SameLabels, SameMembers}
 use Rattle.bx_facts.specs.Machines.{IsMachine, is_same}
 use Rattle.bx_facts.specs.Chains.{found_chain}
 use Rattle.bx_facts.specs.Pasts.{found_register, opening_register}
@@ -30,7 +33,7 @@ use Rattle.bx_paxos.specs.Reading.{AreMade}
 use Rattle.bx_paxos.specs.Shown.{HasFound, StandsAsFound}
 use Rattle.bx_paxos_found.specs.Origins.{origin_in}
 use Rattle.bx_paxos_found.specs.declared.origins.Origins.{Origins}
-use Rattle.bx_paxos_machines.proofs.Keeping.{none_has}
+use Rattle.bx_paxos_machines.proofs.Keeping.{none_has, stays_kept}
 use Rattle.bx_paxos.specs.Counted.{IsCounted}
 use Rattle.bx_rounds.specs.Courses.{started}
 use Rattle.bx_rounds.specs.declared.course.Course.{Course}
@@ -39,7 +42,7 @@ use Rattle.bx_paxos_machines.specs.declared.machine.Machine.TheVariants.{Replica
 use Rattle.bx_paxos_machines.specs.Beginning.{AreBegun, AreIdle, AreMachines, AreNew, HasFirst, IsBegun, IsCalm, IsNew, name_in}
 use Rattle.bx_paxos_machines.specs.Cluster.{Cluster, IsCluster, named, needs, needs_in, voters_of}
 use Rattle.bx_paxos_machines.specs.Keeps.{Keeps}
-use Rattle.bx_paxos_machines.specs.Parts.{AreParts, HasCells, IsOut, IsPart, KnowsPlace, course_in, course_of, machine_at, name_of, sectors_for}
+use Rattle.bx_paxos_machines.specs.Parts.{AreParts, HasCells, HasDisk, IsOut, IsPart, IsWhole, KnowsPlace, course_in, course_of, machine_at, name_of, sectors_for}
 
 -- ---- disks
 
@@ -65,6 +68,44 @@ calm_cells x y (Other p) calm has = tt
 pub calm_begun : (made : GlobalState) (x y : Disks) (ms : List Machine) → IsCalm x y → AreBegun made x ms → AreBegun made y ms
 calm_begun made x y [] calm are = tt
 calm_begun made x y (m ∷ ms) calm are = (record { course = are.0.course; cells = calm_cells x y m calm are.0.cells; knows = are.0.knows }, calm_begun made x y ms calm are.1)
+
+pub none_none : (a : ℕ) (f : ℕ → ℕ) → NoneFalls a a f f
+none_none a f = record { all = omega arith; each = λ d. omega arith }
+
+pub none_twice : {a b c : ℕ} {f g h : ℕ → ℕ} → NoneFalls a b f g → NoneFalls b c g h → NoneFalls a c f h
+none_twice one other = record { all = let low = one.all in let high = other.all in omega (arith, low, high); each = λ d. let low = one.each d in let high = other.each d in omega (arith, low, high) }
+
+pub rose_on : {a b c : ℕ} → a ≤ b → Rose b c → Rose a c
+rose_on low (inl less) = inl (omega (arith, low, less))
+rose_on low (inr most) = inr most
+
+-- a rack with the disks of three replicas has that of the machine
+pub has_disk : (sizes : List ℕ) (m : Machine) → IsWhole m → ((n : ℕ) → n < 3 → 21 ≤ slice_index sizes n) → HasDisk sizes m
+has_disk sizes (IsReplica r) whole room = room r.acceptor.replica whole.low
+has_disk sizes (Other p) whole room = tt
+
+-- ---- disks of which cells were written anew, and that were only synced then
+
+pub beside_members : (x y : Disks) → KeepsBeside x y 3 1 → SameMembers x y
+beside_members x y keeps = record { each = λ d s far. stays_kept x y d s (keeps.others d s far) }
+
+pub beside_labels : (x y : Disks) → KeepsBeside x y 3 1 → SameLabels x y
+beside_labels x y keeps = record { each = λ d low. record { reads = keeps.reads d 0 (inr (inl (omega arith))); sure = keeps.sure d 0 (inr (inl (omega arith))) } }
+
+calm_kept : (x y z : Disks) (d s : ℕ) → IsKept x y d s → IsCalm y z → IsKept x z d s
+calm_kept x y z d s kept calm = record { reads = ap (λ (r : Image). r d s) calm.reads ∙ kept.reads; sure = λ e. calm.sure d s (kept.sure e) }
+
+pub calm_members : (x y z : Disks) → SameMembers x y → IsCalm y z → SameMembers x z
+calm_members x y z same calm = record { each = λ d s far. calm_kept x y z d s (same.each d s far) calm }
+
+pub calm_labels : (x y z : Disks) → SameLabels x y → IsCalm y z → SameLabels x z
+calm_labels x y z same calm = record { each = λ d low. calm_kept x y z d 0 (same.each d low) calm }
+
+pub same_members : (x : Disks) → SameMembers x x
+same_members x = record { each = λ d s far. record { reads = refl; sure = λ e. e } }
+
+pub same_labels : (x : Disks) → SameLabels x x
+same_labels x = record { each = λ d low. record { reads = refl; sure = λ e. e } }
 
 -- ---- a cell with the first state
 
@@ -281,7 +322,7 @@ found_place : (made : GlobalState) (m : Machine) → IsNew made m → KnowsPlace
 found_place made (IsReplica r) is = is.knows
 found_place made (Other p) is = tt
 
-pub finds_keeping : (g : Cluster) (x : Disks) (was : ℕ → Option Held) (boot : ℕ) → IsCluster g → AreNew g.first g.machines → HasFound g.first (origin_in g.origins) was → EachSure x (StandsAsFound g.first (origin_in g.origins) was) → Keeps g x (found_register g.first boot)
+pub finds_keeping : (g : Cluster) (x : Disks) (was : ℕ → Option Held) (boot : ℕ) → IsCluster g → AreNew g.first g.machines → HasFound g.first (origin_in g.origins) was → EachSure x (StandsAsFound g.first (origin_in g.origins) was x.sizes) → Keeps g x (found_register g.first boot)
 finds_keeping g x was boot is are found stands = record {
   is = is;
   fits = found_begun (voters_of g) x was boot is.first_allowed found stands (λ me. idle_at g.first g.machines (named me) (new_idle g.first g.machines are));

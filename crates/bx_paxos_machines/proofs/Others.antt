@@ -1,12 +1,14 @@
 -- What comes to a machine that is no replica, and what images are read as at each moment.
-use Rattle.std.proofs.Common.{◌≡◌, ℕ, ◌^◌, ◌<◌, ◌≤◌, inl, inr, ⊎_elim, false, List, ◌++◌, Result, Ok, Err, OnOk, append_assoc, sym, ap, subst, ◌∙◌, arith}
+use Rattle.std.proofs.Common.{◌≡◌, ℕ, ◌^◌, ◌<◌, ◌≤◌, inl, inr, ⊎_elim, false, List, ◌++◌, Some, None, Result, Ok, Err, OnOk, append_assoc, sym, ap, subst, ◌∙◌, arith}
 use Rattle.std.proofs.lemmas.Bool.Decides.{eqb_tells}
-use Rattle.bx_calls.specs.Calls.{HasSure, LeavesOnly}
+use Rattle.bx_base.specs.declared.names.Actor.{Actor}
+use Rattle.bx_base.specs.declared.names.Actor.TheVariants.{Replica as OfReplica}
+use Rattle.bx_calls.specs.Calls.{HasSure, KeepsAll, KeepsSure, LeavesOnly}
 use Rattle.bx_calls.specs.Laws.{leaves_implies}
 use Rattle.bx_disk.specs.Disks.{Disks, Image, IsImage}
 use Rattle.bx_facts.specs.Chains.{IsNext, last}
-use Rattle.bx_facts.specs.Disks.{ReadsOnly}
-use Rattle.bx_facts.specs.Machines.{IsMachine}
+use Rattle.bx_facts.specs.Disks.{OnlyDiskOf, ReadsOnly, SameLabels, SameMembers}
+use Rattle.bx_facts.specs.Machines.{IsMachine, disk_of}
 use Rattle.bx_facts.specs.Pasts.{RegisterPast, register_restarted, register_with}
 use Rattle.bx_global.specs.declared.state.GlobalState.{GlobalState}
 use Rattle.bx_post.specs.declared.packets.Letter.{Letter}
@@ -19,7 +21,14 @@ use Rattle.bx_paxos.proofs.Replicas.{leaves_none}
 use Rattle.bx_paxos.proofs.Starts.{restarted}
 use Rattle.bx_paxos.specs.Fits.{Fits, Turned, Voters, going}
 use Rattle.bx_paxos.proofs.Reading.{reads}
+use Rattle.bx_paxos.specs.Machines.{AreHalves, IsSame}
 use Rattle.bx_paxos.specs.Reading.{ReadsNext, ReadsState}
+use Rattle.bx_paxos.specs.declared.replica.Replica.{Replica}
+use Rattle.bx_paxos_found.specs.Origins.{origin_in}
+use Rattle.bx_paxos_found.specs.declared.origins.Origins.{Origins}
+use Rattle.bx_paxos_machines.specs.declared.machine.Machine.TheVariants.{Replica as IsReplica, Other}
+use Rattle.bx_paxos_machines.specs.Parts.{IsPart}
+use Rattle.bx_paxos_machines.proofs.Keeping.{stays_kept}
 
 -- ---- images
 
@@ -52,11 +61,11 @@ leaves_both before now left since P Q one other = record {
 }
 
 -- .. while a replica's cell was put
-pub put_moments : (v : Voters) (x : Disks) (past : RegisterPast) (n before now : ℕ) (left since : ℕ → Image → Type 0) → n < 3 → LeavesOnly before now left since (ReadsNext v.first past) → LeavesOnly before now left since (HasSure x n 1 20)
+pub put_moments : (v : Voters) (x : Disks) (past : RegisterPast) (n before now : ℕ) (left since : ℕ → Image → Type 0) → n < 3 → LeavesOnly before now left since (ReadsNext v.first past x.sizes) → LeavesOnly before now left since (HasSure x n 1 20)
     → LeavesOnly before now left since (ReadsOnly (ReadsState v.first) x (IsNext past.proposed (last past.chain)))
 put_moments v x past n before now left since low reads beside =
-    leaves_implies before now left since (λ image. ReadsNext v.first past image × HasSure x n 1 20 image) (ReadsOnly (ReadsState v.first) x (IsNext past.proposed (last past.chain)))
-    (leaves_both before now left since (ReadsNext v.first past) (HasSure x n 1 20) reads beside) (λ image both. record {
+    leaves_implies before now left since (λ image. ReadsNext v.first past x.sizes image × HasSure x n 1 20 image) (ReadsOnly (ReadsState v.first) x (IsNext past.proposed (last past.chain)))
+    (leaves_both before now left since (ReadsNext v.first past x.sizes) (HasSure x n 1 20) reads beside) (λ image both. record {
       members = λ d s far sure. both.1.outside.elsewhere d s (λ same. absurd (omega (arith, far, low, same))) sure;
       labels = λ d below. label image both.1 d;
       read = both.0;
@@ -83,3 +92,56 @@ other_starts v x past p q boot courses out after first is few nodes above fits k
 pub all_ok : {T E : Type 0} (r : Result T E) (A B C D : Type 0) → OnOk r A → OnOk r B → OnOk r C → (A → B → C → D) → OnOk r D
 all_ok (Ok v) A B C D a b c f = f a b c
 all_ok (Err e) A B C D a b c f = tt
+
+-- ---- the same machine
+
+pub replica_part : (nodes : ℕ) (made : GlobalState) (origins : Origins) (r s : Replica) → AreHalves s.acceptor s.proposer → IsSame r.acceptor s.acceptor r.proposer s.proposer → IsPart nodes made origins (IsReplica r) → IsPart nodes made origins (IsReplica s)
+replica_part nodes made origins r s halves same part = record {
+  whole = halves;
+  nodes_are = ap (λ (p : Proposer). p.nodes) same.proposer ∙ part.nodes_are;
+  first = ap (λ (p : Proposer). p.first) same.proposer ∙ part.first;
+  origin = same.origin ∙ part.origin ∙ ap (origin_in origins) (sym same.replica);
+}
+
+pub other_part : (nodes : ℕ) (made : GlobalState) (origins : Origins) (p q : Proposer) → IsProposer q → q ≡ going_on p q.course → IsPart nodes made origins (Other p) → IsPart nodes made origins (Other q)
+other_part nodes made origins p q is same part = record {
+  whole = is;
+  nodes_are = ap (λ (k : Proposer). k.nodes) same ∙ part.nodes_are;
+  first = ap (λ (k : Proposer). k.first) same ∙ part.first;
+  origin = part.origin;
+}
+
+-- ---- the disk of a replica
+
+own_disk : (who : Actor) (n d : ℕ) → who ≡ OfReplica n → d ≡ n → disk_of who ≡ Some d
+own_disk who n d named same = ap disk_of named ∙ ap (λ (k : ℕ). Some k) (sym same)
+
+pub put_only : (x y : Disks) (who : Actor) (n : ℕ) → who ≡ OfReplica n → KeepsSure x y n 1 20 → OnlyDiskOf who x y
+put_only x y who n named keeps = record { others = λ d s apart. keeps.others d s (λ same. apart (own_disk who n d named same)) }
+
+pub put_members : (x y : Disks) (n : ℕ) → n < 3 → KeepsSure x y n 1 20 → SameMembers x y
+put_members x y n low keeps = record { each = λ d s far. stays_kept x y d s (keeps.others d s (λ same. omega (arith, far, low, same))) }
+
+pub put_labels : (x y : Disks) (n : ℕ) → KeepsSure x y n 1 20 → SameLabels x y
+put_labels x y n keeps = record { each = λ d below. record { reads = read d; sure = sure d } }
+  where
+    read : (d : ℕ) → y.reads d 0 ≡ x.reads d 0
+    read d = elim (eqb_tells d n) [
+      | inl same ↦ subst (λ (k : ℕ). y.reads k 0 ≡ x.reads k 0) (sym same.1) (keeps.reads.before 0 (omega arith))
+      | inr apart ↦ keeps.reads.elsewhere d 0 apart.1
+    ]
+
+    sure : (d : ℕ) → x.unsure d 0 ≡ false → y.unsure d 0 ≡ false
+    sure d = elim (eqb_tells d n) [
+      | inl same ↦ subst (λ (k : ℕ). x.unsure k 0 ≡ false → y.unsure k 0 ≡ false) (sym same.1) (keeps.sure.before 0 (omega arith))
+      | inr apart ↦ keeps.sure.elsewhere d 0 apart.1
+    ]
+
+pub sync_only : (x y : Disks) (who : Actor) (n : ℕ) → who ≡ OfReplica n → KeepsAll x y n → OnlyDiskOf who x y
+sync_only x y who n named keeps = record { others = λ d s apart. keeps.others d s (λ same. apart (own_disk who n d named same)) }
+
+pub sync_members : (x y : Disks) (n : ℕ) → KeepsAll x y n → SameMembers x y
+sync_members x y n keeps = record { each = λ d s far. record { reads = ap (λ (r : Image). r d s) keeps.reads; sure = keeps.sure d s } }
+
+pub sync_labels : (x y : Disks) (n : ℕ) → KeepsAll x y n → SameLabels x y
+sync_labels x y n keeps = record { each = λ d low. record { reads = ap (λ (r : Image). r d 0) keeps.reads; sure = keeps.sure d 0 } }

@@ -8,7 +8,7 @@ use Rattle.bx_calls.specs.Calls.{LeavesOnly}
 use Rattle.bx_calls.specs.Laws.{leaves_implies}
 use Rattle.bx_disk.specs.Disks.{Disks, Image, IsImage}
 use Rattle.bx_facts.specs.Chains.{Chain, IsNext, IsPlace, last}
-use Rattle.bx_facts.specs.Disks.{Crashes, HasRoom, ReadsOnly, SameLabels, SameReplicas}
+use Rattle.bx_facts.specs.Disks.{Crashes, HasRoom, ReadsOnly, SameLabels, SameLengths, SameReplicas}
 use Rattle.bx_facts.specs.Inputs.{AreAmong, IsRegisters}
 use Rattle.bx_facts.specs.Labelled.{IsLabelled}
 use Rattle.bx_facts.specs.Machines.{IsMachine}
@@ -47,36 +47,36 @@ pub first_allowed : (g : Cluster) (x : Disks) (past : RegisterPast) → Keeps g 
 first_allowed g x past keeps = subst (λ (c : Chain). IsAllowed c.first) keeps.fits.chain (subst IsAllowed (sym keeps.fits.first) keeps.fits.allowed)
 
 -- what an image is read as goes by the number of devices alone
-pub read_alike : (one other : GlobalState) (image : Image) (s : GlobalState) → length one.devices ≡ length other.devices → ReadsState one image s → ReadsState other image s
-read_alike one other image s same read = record { seen = read.seen; are = subst (λ (n : ℕ). AreSeen n image read.seen) same read.are; tells = read.tells }
+pub read_alike : (one other : GlobalState) (sizes : List ℕ) (image : Image) (s : GlobalState) → length one.devices ≡ length other.devices → ReadsState one sizes image s → ReadsState other sizes image s
+read_alike one other sizes image s same read = record { seen = read.seen; are = subst (λ (n : ℕ). AreSeen n sizes image read.seen) same read.are; tells = read.tells }
 
-pub reads_on : (g : Cluster) (x : Disks) (past : RegisterPast) (image : Image) (s : GlobalState) → Keeps g x past → IsImage x image → ReadsState g.made image s → IsNext past.proposed (last past.chain) s
-reads_on g x past image s keeps is read = reads (voters_of g) x past image s keeps.fits (record { sure = is.sure }) (read_alike g.made g.first image s (sym keeps.is.devices) read)
+pub reads_on : (g : Cluster) (x : Disks) (past : RegisterPast) (image : Image) (s : GlobalState) → Keeps g x past → IsImage x image → ReadsState g.made x.sizes image s → IsNext past.proposed (last past.chain) s
+reads_on g x past image s keeps is read = reads (voters_of g) x past image s keeps.fits (record { sure = is.sure }) (read_alike g.made g.first x.sizes image s (sym keeps.is.devices) read)
 
-pub some_on : (g : Cluster) (x : Disks) (past : RegisterPast) (image : Image) (n m : ℕ) → Keeps g x past → IsImage x image → n ≢ m → IsLabelled (length g.made.devices) image n → IsLabelled (length g.made.devices) image m → (s : GlobalState) × ReadsState g.made image s
+pub some_on : (g : Cluster) (x : Disks) (past : RegisterPast) (image : Image) (n m : ℕ) → Keeps g x past → IsImage x image → n ≢ m → IsLabelled (length g.made.devices) x.sizes image n → IsLabelled (length g.made.devices) x.sizes image m → (s : GlobalState) × ReadsState g.made x.sizes image s
 some_on g x past image n m keeps is apart label label_m =
-    let at = λ (k : ℕ) (l : IsLabelled (length g.made.devices) image k). subst (λ (d : ℕ). IsLabelled d image k) (sym keeps.is.devices) l in
+    let at = λ (k : ℕ) (l : IsLabelled (length g.made.devices) x.sizes image k). subst (λ (d : ℕ). IsLabelled d x.sizes image k) (sym keeps.is.devices) l in
     let k = reads_some (voters_of g) x past image n m keeps.fits (record { sure = is.sure }) apart (at n label) (at m label_m) in
-    (k.0, read_alike g.first g.made image k.0 keeps.is.devices k.1)
+    (k.0, read_alike g.first g.made x.sizes image k.0 keeps.is.devices k.1)
 
 pub moments_made : (g : Cluster) (x : Disks) (before now : ℕ) (left since : ℕ → Image → Type 0) (May : GlobalState → Type 0) → IsCluster g → LeavesOnly before now left since (ReadsOnly (ReadsState g.first) x May) → LeavesOnly before now left since (ReadsOnly (ReadsState g.made) x May)
 moments_made g x before now left since May is leaves =
     leaves_implies before now left since (ReadsOnly (ReadsState g.first) x May) (ReadsOnly (ReadsState g.made) x May) leaves
-    (λ image only. record { members = only.members; labels = only.labels; read = λ s read. only.read s (read_alike g.made g.first image s (sym is.devices) read) })
+    (λ image only. record { members = only.members; labels = only.labels; read = λ s read. only.read s (read_alike g.made g.first x.sizes image s (sym is.devices) read) })
 
-pub elsewhere_keeps : (g : Cluster) (x y : Disks) (past : RegisterPast) → Keeps g x past → SameReplicas x y → SameLabels x y → Keeps g y past
-elsewhere_keeps g x y past keeps same labels = record {
+pub elsewhere_keeps : (g : Cluster) (x y : Disks) (past : RegisterPast) → Keeps g x past → SameLengths x y → SameReplicas x y → SameLabels x y → Keeps g y past
+elsewhere_keeps g x y past keeps lengths same labels = record {
   is = keeps.is;
-  fits = other_disks (voters_of g) x y past keeps.fits same labels;
+  fits = other_disks (voters_of g) x y past keeps.fits lengths same labels;
   cells = λ who m at. has_kept x y m (part_at g.nodes g.first g.origins g.machines who m keeps.is.parts at).whole (λ n s named low behind. same.each n s low behind) (keeps.cells who m at);
   places = keeps.places;
   down = keeps.down;
 }
 
-pub crash_survives : (g : Cluster) (x y : Disks) (past : RegisterPast) (n : ℕ) → Keeps g x past → past.down (Replica n) ≡ true → Crashes n x y → Keeps g y past
-crash_survives g x y past n keeps down crash = record {
+pub crash_survives : (g : Cluster) (x y : Disks) (past : RegisterPast) (n : ℕ) → Keeps g x past → past.down (Replica n) ≡ true → SameLengths x y → Crashes n x y → Keeps g y past
+crash_survives g x y past n keeps down lengths crash = record {
   is = keeps.is;
-  fits = survives (voters_of g) x y past n keeps.fits crash;
+  fits = survives (voters_of g) x y past n keeps.fits lengths crash;
   cells = λ who m at. elim (tells who (Replica n)) [
     | inl same ↦ none_has y m (keeps.down who m at (subst (λ (a : Actor). past.down a ≡ true) (sym same) down))
     | inr apart ↦ has_kept x y m (part_at g.nodes g.first g.origins g.machines who m keeps.is.parts at).whole

@@ -5,7 +5,7 @@ ghost use Rattle.bx_base.specs.declared.names.Actor.{Actor};
 ghost use Rattle.bx_base.specs.declared.names.Actor.TheVariants.{Replica};
 ghost use Rattle.bx_disk.specs.Disks.{Disks, Image, IsImage};
 ghost use Rattle.bx_facts.specs.Chains.{AreLegal, IsNext, IsPlace, last};
-ghost use Rattle.bx_facts.specs.Disks.{Crashes, HasRoom, SameLabels, SameReplicas};
+ghost use Rattle.bx_facts.specs.Disks.{Crashes, HasRoom, SameLabels, SameLengths, SameReplicas};
 ghost use Rattle.bx_facts.specs.Inputs.{AreAmong, IsRegisters};
 ghost use Rattle.bx_facts.specs.Pasts.{RegisterPast};
 ghost use Rattle.bx_global.specs.Allowed.{IsAllowed};
@@ -22,14 +22,14 @@ pub fn what_a_register_tells()
     ensures places { (g : Cluster) (x : Disks) (past : RegisterPast) (who : Actor) → Keeps g x past → IsPlace past.chain (knows g who) }
     ensures legal { (g : Cluster) (x : Disks) (past : RegisterPast) → Keeps g x past → AreLegal past.chain.first past.chain.changes }
     ensures begins_allowed { (g : Cluster) (x : Disks) (past : RegisterPast) → Keeps g x past → IsAllowed past.chain.first }
-    ensures reads_next { (g : Cluster) (x : Disks) (past : RegisterPast) (image : Image) (s : GlobalState) → Keeps g x past → IsImage x image → ReadsState g.made image s → IsNext past.proposed (last past.chain) s }
+    ensures reads_next { (g : Cluster) (x : Disks) (past : RegisterPast) (image : Image) (s : GlobalState) → Keeps g x past → IsImage x image → ReadsState g.made x.sizes image s → IsNext past.proposed (last past.chain) s }
 {}
 
-/// Other disks don't matter; the disk of a machine that is down may crash; letters may be lost, and come in any order and number;
+/// Other disks don't matter, of whatever length; the disk of a machine that is down may crash; letters may be lost, and come in any order and number;
 /// never more than a replica's sectors of a disk are needed, and nothing of the disks of members.
 pub fn other_disks_and_letters()
-    ensures elsewhere { (g : Cluster) (x y : Disks) (past : RegisterPast) → Keeps g x past → SameReplicas x y → SameLabels x y → Keeps g y past }
-    ensures survives { (g : Cluster) (x y : Disks) (past : RegisterPast) (n : ℕ) → Keeps g x past → past.down (Replica n) ≡ true → Crashes n x y → Keeps g y past }
+    ensures elsewhere { (g : Cluster) (x y : Disks) (past : RegisterPast) → Keeps g x past → SameLengths x y → SameReplicas x y → SameLabels x y → Keeps g y past }
+    ensures survives { (g : Cluster) (x y : Disks) (past : RegisterPast) (n : ℕ) → Keeps g x past → past.down (Replica n) ≡ true → SameLengths x y → Crashes n x y → Keeps g y past }
     ensures loses { (g : Cluster) (x : Disks) (past : RegisterPast) (letters : List Letter) → Keeps g x past → AreAmong IsRegisters letters past.letters → Keeps g x (record past { letters = letters }) }
     ensures needs_little { (g : Cluster) (disk : ℕ) → needs g disk ≤ replica_sectors }
     ensures room { (g : Cluster) (sizes : List ℕ) → ((n : ℕ) → n < 3 → replica_sectors ≤ slice_index sizes n) → HasRoom (needs g) sizes }

@@ -66,7 +66,7 @@ impl Register for PlainRegister {
 
     ghost keeps = { λ g x past. IsUnchanged g.state past };
 
-    ghost reads_as = { λ made image s. s ≡ made };
+    ghost reads_as = { λ made sizes image s. s ≡ made };
 
     fn known(&self, _who: Actor) -> &GlobalState {
         &self.state
@@ -120,7 +120,7 @@ impl Register for PlainRegister {
         ensures found { R.tells _rack.old → self.old.busy.items ≡ [] → OnOk result (self.new.state ≡ self.old.state) }
         ensures few { IfOk result (λ boot. boot ≤ most_boot) }
         ensures no_label { (disk : ℕ) → IsErrOf result (NoLabel disk) → ⊥ }
-        ensures no_majority { R.tells _rack.old → self.old.busy.items ≡ [] → IsErrOf result NoMajority → TellNoState (λ image s. s ≡ self.old.state) (R.state _rack.old) }
+        ensures no_majority { R.tells _rack.old → self.old.busy.items ≡ [] → IsErrOf result NoMajority → TellNoState (λ sizes image s. s ≡ self.old.state) (R.state _rack.old) }
         ensures spent { (boot : ℕ) → IsErrOf result (Spent boot) → most_boot < boot }
         ensures boots { self.old.busy.items ≡ [] → IfOk result (λ boot. ∥ IsAboveBoots self.new.state (boot + 1) ∥₁) }
         ensures knows { self.old.busy.items ≡ [] → (who : Actor) → OnOk result (self.new.state ≡ self.new.state) }
@@ -146,9 +146,9 @@ impl Register for PlainRegister {
 
     ghost reads_some = { λ g x past image n m keeps is apart left right. (g.state, refl) };
 
-    ghost elsewhere = { λ g x y past keeps same labels. keeps };
+    ghost elsewhere = { λ g x y past keeps lengths same labels. keeps };
 
-    ghost survives = { λ g x y past n keeps down crash. keeps };
+    ghost survives = { λ g x y past n keeps down lengths crash. keeps };
 
     ghost loses = { λ g x past letters keeps fewer. record { changes = keeps.changes; first = keeps.first; allowed = keeps.allowed } };
 

@@ -3,9 +3,10 @@
 use crate::volume::{BLOCKS, DAMAGES, Damage, LISTING, Put};
 use bx_audit::{Listing, audit};
 use bx_calls::write_some;
-use bx_disk::{MemRack, Rack};
+use bx_disk::Rack;
 use bx_format::format;
 use bx_global_laws::opening;
+use bx_memory_rack::MemRack;
 use bx_overlay::AuditError;
 use std::alloc::Global;
 use std::test::Fail;

@@ -3,7 +3,8 @@
 use crate::bench::SIZES;
 use crate::drafts::{Bytes, go_home};
 use bx_base::OutOfMemory;
-use bx_disk::{CrashRack, MemRack, Noise, Rack};
+use bx_disk::{CrashRack, Noise, Rack};
+use bx_memory_rack::MemRack;
 use std::alloc::Global;
 
 /// What two blocks are filled with before any record.

@@ -2,7 +2,9 @@
 
 use crate::steps::{fill, formats, looks, puts_two};
 use bx_base::OutOfMemory;
-use bx_disk::{CrashRack, MemRack, Noise, Rack, StopRack};
+use bx_disk::{CrashRack, Noise, Rack};
+use bx_memory_rack::MemRack;
+use bx_stop_rack::StopRack;
 use std::alloc::Global;
 use std::test::Fail;
 

@@ -2,7 +2,8 @@
 
 use crate::steps::looks;
 use bx_base::OutOfMemory;
-use bx_disk::{MemRack, Rack};
+use bx_disk::Rack;
+use bx_memory_rack::MemRack;
 use std::alloc::Global;
 use std::test::Fail;
 

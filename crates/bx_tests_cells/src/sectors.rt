@@ -2,7 +2,8 @@
 
 use crate::steps::{fill, formats, puts_one, puts_two};
 use bx_cell::format_each;
-use bx_disk::{MemRack, Rack};
+use bx_disk::Rack;
+use bx_memory_rack::MemRack;
 use std::test::Fail;
 
 /// A sector: its place, its first bytes, and the sum of all of them.

@@ -179,7 +179,8 @@ impl World {
             return Ok(false);
         };
         let (moment, spare) = (u64::from(moment), u64::from(spare));
-        let Some(reply) = self.tree.act(&read, moment, spare, done.made)? else {
+        let Some(reply) = bx_tree_calls::act(&mut self.tree, &read, moment, spare, done.made)?
+        else {
             return Ok(false);
         };
         let text = bx_nfs::text(alloc, xid, &reply)?;

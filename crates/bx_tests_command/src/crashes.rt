@@ -1,8 +1,8 @@
 //! A change that crashes at each of its rounds.
 
 use bx_base::OutOfMemory;
-use bx_disk::MemRack;
 use bx_lone_service::LoneService;
+use bx_memory_rack::MemRack;
 use bx_outside::{MemSink, MemSource};
 use bx_replay::replay;
 use std::alloc::Global;

@@ -1,8 +1,8 @@
 //! What a replay answers and writes.
 
 use bx_base::OutOfMemory;
-use bx_disk::MemRack;
 use bx_lone_service::LoneService;
+use bx_memory_rack::MemRack;
 use bx_outside::{MemSink, MemSource};
 use bx_replay::{Reason, Stop, replay};
 use std::alloc::Global;

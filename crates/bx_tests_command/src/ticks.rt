@@ -3,8 +3,9 @@
 ghost use Rattle.std.specs.Prelude.{◌≡◌, OnOk};
 
 use bx_base::OutOfMemory;
-use bx_disk::{MemRack, Rack};
+use bx_disk::Rack;
 use bx_lone_service::LoneService;
+use bx_memory_rack::MemRack;
 use bx_service::Service;
 use std::test::Fail;
 

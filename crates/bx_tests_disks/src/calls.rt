@@ -7,7 +7,9 @@ use crate::steps::{crashes, fills, has, syncs};
 use crate::torn_rack::TornRack;
 use bx_base::OutOfMemory;
 use bx_calls::{read_sectors, sync_disk, write_some, write_through, zero_sectors};
-use bx_disk::{MemRack, Noise, Rack, StopRack};
+use bx_disk::{Noise, Rack};
+use bx_memory_rack::MemRack;
+use bx_stop_rack::StopRack;
 use std::alloc::Global;
 use std::test::Fail;
 

@@ -2,7 +2,9 @@
 
 use crate::steps::{crashes, fills, syncs};
 use bx_base::OutOfMemory;
-use bx_disk::{MemRack, Noise, Rack, StopRack};
+use bx_disk::{Noise, Rack};
+use bx_memory_rack::MemRack;
+use bx_stop_rack::StopRack;
 use std::alloc::Global;
 use std::test::Fail;
 

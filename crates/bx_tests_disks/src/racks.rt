@@ -2,7 +2,9 @@
 
 use crate::steps::Step::{Blanks, Crashes, FailsToFill, FailsToSync, Fills, Has, Syncs};
 use crate::steps::{Step, fills, goes, has, syncs};
-use bx_disk::{MemRack, Noise, Rack, StopRack};
+use bx_disk::{Noise, Rack};
+use bx_memory_rack::MemRack;
+use bx_stop_rack::StopRack;
 use std::test::Fail;
 
 /// On two disks of nine sectors, of which the second call fails.

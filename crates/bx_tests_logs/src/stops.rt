@@ -8,11 +8,13 @@ use crate::cases::{CASES, Case, MOMENTS, Seen};
 use crate::life::{Writer, go_home, lives};
 use crate::looks::sees;
 use bx_base::OutOfMemory;
-use bx_disk::{CrashRack, MemRack, Noise, Rack, StopRack};
+use bx_disk::{CrashRack, Noise, Rack};
 use bx_lone_store::PlainStore;
+use bx_memory_rack::MemRack;
 use bx_plain::endless;
 use bx_records::DraftError;
 use bx_redo::Log;
+use bx_stop_rack::StopRack;
 use std::alloc::Global;
 use std::test::Fail;
 

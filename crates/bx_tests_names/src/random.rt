@@ -43,7 +43,7 @@ fn reply_of(alloc: Global, tree: &mut Tree, call: &[u8], made: u64) -> Result<Op
     let Some((xid, read)) = bx_nfs::reads_as(alloc, call)? else {
         return Ok(None);
     };
-    let Some(reply) = tree.act(&read, 0, 8, made)? else {
+    let Some(reply) = bx_tree_calls::act(tree, &read, 0, 8, made)? else {
         return Ok(None);
     };
     Ok(Some(bx_nfs::text(alloc, xid, &reply)?))

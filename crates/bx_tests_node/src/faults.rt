@@ -2,8 +2,8 @@
 
 use crate::bench::{next_answer, sends};
 use crate::words::{bytes_of, is_reply, set_mode};
-use bx_disk::MemRack;
 use bx_lone_machine::{Acted, LoneMachine};
+use bx_memory_rack::MemRack;
 use std::test::Fail;
 
 /// The number of the first call of the rack behind the making of the volume.

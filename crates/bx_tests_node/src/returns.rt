@@ -2,8 +2,8 @@
 
 use crate::bench::{next_answer, sends};
 use crate::words::{bytes_of, get, is_reply};
-use bx_disk::MemRack;
 use bx_lone_machine::LoneMachine;
+use bx_memory_rack::MemRack;
 use std::test::Fail;
 
 #[test]

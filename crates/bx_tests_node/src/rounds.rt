@@ -5,8 +5,9 @@ ghost use Rattle.bx_lone_machine.specs.Machine.{IsReady, latest_of};
 
 use crate::bench::{next_answer, rounds_left, sends};
 use crate::words::{bytes_of, get, is_reply, set_mode};
-use bx_disk::{MemRack, Rack};
+use bx_disk::Rack;
 use bx_lone_machine::{Acted, LoneMachine};
+use bx_memory_rack::MemRack;
 use std::alloc::Global;
 use std::test::Fail;
 

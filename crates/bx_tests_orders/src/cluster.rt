@@ -2,9 +2,10 @@
 
 use crate::states::first_state;
 use bx_base::Actor;
-use bx_disk::{CrashRack, MemRack, Noise, Rack};
+use bx_disk::{CrashRack, Noise, Rack};
 use bx_facts::{Input, Outbox, ProposeError};
 use bx_global::Change;
+use bx_memory_rack::MemRack;
 use bx_paxos_cluster::{Paxos, has_disks};
 use bx_post::Post;
 use std::alloc::Global;

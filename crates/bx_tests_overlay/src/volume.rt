@@ -1,7 +1,8 @@
 //! A volume of two devices and three areas, with records in two logs: what stands on its disks.
 
 use bx_calls::write_some;
-use bx_disk::{MemRack, Rack, RackError};
+use bx_disk::{Rack, RackError};
+use bx_memory_rack::MemRack;
 use std::alloc::Global;
 
 /// The bytes at the front of a sector, before zeros: the disk, the sector and the bytes.

@@ -7,9 +7,10 @@ ghost use Rattle.bx_places.specs.Places.{replica_sectors};
 use bx_acceptor::{Acceptor, Origin, first_value};
 use bx_base::{Actor, Raw};
 use bx_cell::format;
-use bx_disk::{MemRack, Rack};
+use bx_disk::Rack;
 use bx_facts::{FactError, Input, Letter, Outbox, Packet};
 use bx_global::GlobalState;
+use bx_memory_rack::MemRack;
 use bx_packets::Message;
 use std::alloc::{AllocError, Global};
 

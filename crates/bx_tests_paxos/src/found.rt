@@ -2,7 +2,8 @@
 
 use crate::bench::{Sent, Told, answer, disk, replica, replica_of, starts};
 use bx_acceptor::{Acceptor, Origin};
-use bx_disk::{MemRack, Rack};
+use bx_disk::Rack;
+use bx_memory_rack::MemRack;
 use std::alloc::Global;
 
 /// A disk on which a replica promised ballot 3 of server 0 and accepted a state of index 2 in it. Its cell has number 3.

@@ -1,7 +1,9 @@
 //! Replicas that say nothing.
 
 use crate::bench::{Sent, Told, answer, blank_disk, disk, replica, starts, value};
-use bx_disk::{MemRack, Rack, StopRack};
+use bx_disk::Rack;
+use bx_memory_rack::MemRack;
+use bx_stop_rack::StopRack;
 use std::alloc::Global;
 
 /// A packet of each kind, and of kinds that aren't for an acceptor, or are no message.

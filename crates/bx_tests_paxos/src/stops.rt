@@ -1,7 +1,9 @@
 //! A promise and an acceptance that are stopped at each call of the rack, and then the disk crashes in each way.
 
 use crate::bench::{Sent, Told, answer, disk, replica, starts};
-use bx_disk::{CrashRack, MemRack, Noise, Rack, StopRack};
+use bx_disk::{CrashRack, Noise, Rack};
+use bx_memory_rack::MemRack;
+use bx_stop_rack::StopRack;
 use std::alloc::Global;
 
 /// How many calls a start, a promise and an acceptance make.

@@ -1,9 +1,11 @@
 //! Two records' lives that are stopped at each call of the rack, and then the members crash in each way.
 
 use bx_base::OutOfMemory;
-use bx_disk::{MemRack, Noise, Rack, StopRack};
+use bx_disk::{Noise, Rack};
+use bx_memory_rack::MemRack;
 use bx_records::DraftError;
 use bx_redo::Log;
+use bx_stop_rack::StopRack;
 use bx_tests_bench::{Bytes, Reached, Ways, crash, formatted, gates, lives, recovers, sees};
 use std::alloc::Global;
 use std::test::Fail;

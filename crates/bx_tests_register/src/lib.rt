@@ -1,4 +1,4 @@
-//! Tests of the register over random runs.
+//! Tests of the register: over random runs, and opened on disks that aren't whole.
 #![tactic(auto)]
 
 #[cfg(test)]
@@ -7,3 +7,5 @@ mod chain;
 mod random;
 #[cfg(test)]
 mod states;
+#[cfg(test)]
+mod whole;

@@ -5,10 +5,11 @@ use crate::chain::Known;
 use crate::states::first_state;
 use bx_base::Actor;
 use bx_calls::write_through;
-use bx_disk::{CrashRack, MemRack, Noise, Rack};
+use bx_disk::{CrashRack, Noise, Rack};
 use bx_facts::{Input, Outbox, ProposeError};
 use bx_global::Change;
 use bx_layout::Label;
+use bx_memory_rack::MemRack;
 use bx_paxos_cluster::{Paxos, has_disks};
 use bx_post::Post;
 use rand_core::utils::NextWord;
@@ -67,7 +68,7 @@ fn labels(rack: &mut MemRack) -> bool {
 }
 
 /// A register on three new disks, and these.
-fn register(alloc: Global) -> Option<(Paxos, MemRack)> {
+pub(crate) fn register(alloc: Global) -> Option<(Paxos, MemRack)> {
     let state = first_state(alloc)?;
     let Ok(mut rack) = MemRack::new(alloc, &[21, 21, 21], &[]) else {
         return None;

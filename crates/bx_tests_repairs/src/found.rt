@@ -2,7 +2,8 @@
 
 use bx_base::{OutOfMemory, Raw};
 use bx_calls::write_some;
-use bx_disk::{MemRack, Rack};
+use bx_disk::Rack;
+use bx_memory_rack::MemRack;
 use bx_records::{DraftError, Run, Runs};
 use bx_redo::{Log, Move};
 use bx_tests_bench::{

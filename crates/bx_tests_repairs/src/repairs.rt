@@ -5,10 +5,12 @@ ghost use Rattle.std.specs.Prelude.{IsTrue};
 ghost use Rattle.bx_lone_repair.specs.Bench.{AreLong};
 
 use bx_base::{CallNo, OutOfMemory};
-use bx_disk::{MemRack, Noise, Rack, RackError, StopRack};
+use bx_disk::{Noise, Rack, RackError};
 use bx_lone_repair::{Recovery, recover};
+use bx_memory_rack::MemRack;
 use bx_records::DraftError;
 use bx_redo::Log;
+use bx_stop_rack::StopRack;
 use bx_tests_bench::{Bytes, Reached, Ways, crash, formatted, gates, lives, sees};
 use std::alloc::Global;
 use std::test::Fail;

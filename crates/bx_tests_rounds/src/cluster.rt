@@ -8,9 +8,10 @@ use crate::states::first_state;
 use bx_acceptor::{Acceptor, Origin, first_value};
 use bx_base::{Actor, Raw};
 use bx_cell::format;
-use bx_disk::{CrashRack, MemRack, Noise, Rack};
+use bx_disk::{CrashRack, Noise, Rack};
 use bx_facts::{Input, Outbox, Packet};
 use bx_global::GlobalState;
+use bx_memory_rack::MemRack;
 use bx_proposer::Proposer;
 use std::alloc::Global;
 

@@ -8,10 +8,11 @@ ghost use Rattle.bx_facts.specs.Writes.{AreRuns};
 ghost use Rattle.bx_tests_stores.specs.Benches.{IsBench, made};
 
 use bx_base::{Actor, OutOfMemory, Raw};
-use bx_disk::{MemRack, Rack};
+use bx_disk::Rack;
 use bx_facts::{Input, Outbox, Store};
 use bx_global::GlobalState;
 use bx_lone_store::PlainStore;
+use bx_memory_rack::MemRack;
 use bx_plain::endless;
 use bx_records::{Run, Runs};
 use std::alloc::Global;

@@ -83,5 +83,5 @@ fn act(tree: &mut Tree, line: &Line<'_>) -> Result<Option<Reply>, OutOfMemory> {
 /// What the tree answers.
 fn answered(tree: &mut Tree, call: &Call, line: &Line<'_>) -> Result<Option<Reply>, OutOfMemory> {
     let moment = line.number(1).min(LAST_MOMENT);
-    tree.act(call, moment, line.word(2) as u64, line.handle(3))
+    bx_tree_calls::act(tree, call, moment, line.word(2) as u64, line.handle(3))
 }

@@ -61,7 +61,7 @@ fn put(rt: &(impl Print + Alloc), kind: &str, words: &[u32], bytes: &[u8]) -> io
 
 /// Writes a tree's listing.
 pub(crate) fn tell_listing(rt: &(impl Print + Alloc), tree: &Tree) -> io::Result<()> {
-    let Ok(listing) = tree.listing() else {
+    let Ok(listing) = bx_listing::listing(tree) else {
         return println!(rt; "out of memory");
     };
     match str::from_utf8(listing.bytes()) {

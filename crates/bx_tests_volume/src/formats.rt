@@ -3,8 +3,10 @@
 ghost use Rattle.std.specs.Prelude.{◌≡◌, ◌<◌, ◌≤◌, IsTrue, length, slice_index};
 
 use bx_calls::read_sectors;
-use bx_disk::{MemRack, Rack, RackError, StopRack};
+use bx_disk::{Rack, RackError};
 use bx_format::format;
+use bx_memory_rack::MemRack;
+use bx_stop_rack::StopRack;
 use std::alloc::Global;
 
 /// What a volume of 2 devices and 3 areas, with the number 7, holds that isn't zero: the disk, the sector, and its bytes before its

@@ -12,7 +12,7 @@ use Rattle.bx_tree_files.specs.FileEdits.{CanEdit, edited, is_free, is_sure, rep
 use Rattle.bx_tree_files.specs.Files.{IsFile, IsNumbered, kind_of, size_of}
 use Rattle.bx_tree_files.specs.Changes.{entered, taken_out}
 use Rattle.bx_tree_files.specs.Names.{with_entry, without_entry}
-use Rattle.bx_tree_files.specs.Times.{Time}
+use Rattle.bx_tree_parts.specs.Times.{Time}
 
 below_more : (next : ℕ) (names : List Name) → AreBelow next names → AreBelow (next + 1) names
 below_more next [] below = tt

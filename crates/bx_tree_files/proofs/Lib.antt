@@ -7,7 +7,4 @@ pub mod KeptKeys
 pub mod KeptNumbers
 pub mod Named
 pub mod Replacing
-pub mod Over
-pub mod Indexed
 pub mod Numbered
-pub mod Paired

@@ -4,9 +4,9 @@ use Rattle.bx_tree_files.specs.declared.sattr.Sattr.{Sattr}
 use Rattle.bx_tree_files.specs.declared.file.Body.{Body}
 use Rattle.bx_tree_files.specs.declared.file.Body.TheVariants.{Bytes, Path, Names}
 use Rattle.bx_tree_files.specs.declared.file.File.{File}
-use Rattle.bx_tree_files.specs.Contents.{sized, written_over}
+use Rattle.bx_tree_parts.specs.Contents.{sized, written_over}
 use Rattle.bx_tree_files.specs.Names.{with_entry, without_entry, with_parent}
-use Rattle.bx_tree_files.specs.Times.{Time, is_given, stored}
+use Rattle.bx_tree_parts.specs.Times.{Time, is_given, stored}
 
 -- the most bytes that a file has
 abbrev pub most_bytes : ℕ

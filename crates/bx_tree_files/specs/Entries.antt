@@ -6,8 +6,8 @@ use Rattle.std.specs.Map.{keys_of, values_of}
 use Rattle.std.specs.Ordering.{nat_cmp}
 use Rattle.std.specs.Str.{bytes_eq}
 use Rattle.bx_tree_files.specs.declared.file.Name.{Name}
-use Rattle.bx_tree_files.specs.declared.name_index.NameIndex.{NameIndex}
-use Rattle.bx_tree_files.specs.NameIndex.{number_in}
+use Rattle.bx_tree_parts.specs.declared.name_index.NameIndex.{NameIndex}
+use Rattle.bx_tree_parts.specs.NameIndex.{number_in}
 
 -- a name that no entry may have: it is empty, `.` or `..`, or has a byte `/` or 0
 abbrev pub is_bad : List ℕ → Bool

@@ -7,7 +7,7 @@ use Rattle.bx_tree_files.specs.Entries.{entry_named}
 use Rattle.bx_tree_files.specs.Files.{is_directory}
 use Rattle.bx_tree_files.specs.Changes.{entered, linked, taken_out, unlinked, moved_to, most_bytes, with_data, with_fields, with_size}
 use Rattle.bx_tree_files.specs.Names.{names_of, next_of}
-use Rattle.bx_tree_files.specs.Times.{Time, is_given}
+use Rattle.bx_tree_parts.specs.Times.{Time, is_given}
 
 -- A directory with a new entry in the place of the one with its name, changed now. A directory that goes counts no more
 -- among its links, and one that comes into it does.

@@ -6,8 +6,8 @@ use Rattle.std.specs.Map.{keys_of}
 use Rattle.std.specs.Ordering.{nat_cmp}
 use Rattle.bx_handles.specs.Handles.{fileid, parts_of}
 use Rattle.bx_tree_files.specs.declared.file.File.{File}
-use Rattle.bx_tree_files.specs.declared.fileids.Fileids.{Fileids}
-use Rattle.bx_tree_files.specs.Fileids.{has_pair}
+use Rattle.bx_tree_parts.specs.declared.fileids.Fileids.{Fileids}
+use Rattle.bx_tree_parts.specs.Fileids.{has_pair}
 use Rattle.bx_tree_files.specs.declared.file.Body.{Body}
 use Rattle.bx_tree_files.specs.declared.file.Body.TheVariants.{Bytes, Path, Names}
 use Rattle.bx_tree_files.specs.Entries.{AreBelow}

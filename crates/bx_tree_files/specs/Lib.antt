@@ -2,8 +2,6 @@ pub mod Contents
 pub mod Files
 pub mod Attributes
 pub mod Times
-pub mod NameIndex
-pub mod Fileids
 pub mod Entries
 pub mod Names
 pub mod Given

@@ -4,11 +4,12 @@ ghost use Rattle.std.specs.Prelude.{◌≡◌, ◌+◌, ◌<◌, ◌≤◌, ◌&
 ghost use Rattle.bx_tree_files.specs.FileEdits.{CanEdit, CanEnter, CanReplace, edited, is_sure as is_sure_edit, replaced};
 ghost use Rattle.bx_tree_files.specs.Files.{IsFile};
 ghost use Rattle.bx_tree_files.specs.Changes.{entered, taken_out, moved_to, most_bytes, resized, sets_field as sets_a_field, with_data, with_fields, with_size};
-ghost use Rattle.bx_tree_files.specs.Times.{is_given as is_given_word, stored as stored_time};
+ghost use Rattle.bx_tree_parts.specs.Times.{is_given as is_given_word, stored as stored_time};
 
 use crate::file::{Body, File};
 use crate::sattr::Sattr;
 use bx_base::OutOfMemory;
+use bx_tree_parts::{given_or, is_given, time_or};
 
 /// An edit of a file, which changes its times besides.
 #[derive(Drop)]
@@ -34,32 +35,8 @@ pub enum Edit<'a> {
     MovedTo(u64),
 }
 
-/// A word of the attributes to set that leaves a field alone.
-const LEFT_ALONE: u32 = 4294967295;
-
 /// How many modes there are: 12 bits.
 pub const MODES: u32 = 4096;
-
-/// The most microseconds.
-const MOST_MICROSECONDS: u32 = 999999;
-
-/// Whether a word of the attributes to set is given.
-pub fn is_given(word: u32) -> bool
-    ensures { result ≡ is_given_word word }
-{
-    word != LEFT_ALONE
-}
-
-/// What is stored of a time that is given.
-pub fn stored(time: (u32, u32)) -> (u32, u32)
-    ensures { result ≡ stored_time time }
-{
-    if time.1 <= MOST_MICROSECONDS {
-        time
-    } else {
-        (time.0, 0)
-    }
-}
 
 /// Whether any field is given.
 fn sets_field(sattr: &Sattr) -> bool
@@ -71,20 +48,6 @@ fn sets_field(sattr: &Sattr) -> bool
         || is_given(sattr.size)
         || is_given(sattr.atime.0)
         || is_given(sattr.mtime.0)
-}
-
-/// The new value where a word is given, else the old one.
-pub fn given_or(word: u32, new: u32, old: u32) -> u32
-    ensures { result ≡ (if is_given_word word then new else old) }
-{
-    if is_given(word) { new } else { old }
-}
-
-/// The time that is stored where one is given, else the old one.
-pub fn time_or(time: (u32, u32), old: (u32, u32)) -> (u32, u32)
-    ensures { result ≡ (if is_given_word time.0 then stored_time time else old) }
-{
-    if is_given(time.0) { stored(time) } else { old }
 }
 
 /// Now where something was set, else the old time.

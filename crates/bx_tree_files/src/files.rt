@@ -10,9 +10,9 @@ ghost use Rattle.bx_tree_files.specs.FileEdits.{CanEdit, CanEnter, CanLink, edit
 
 use crate::edits::Edit;
 use crate::file::File;
-use crate::fileids::Fileids;
 use crate::metadata::fileid;
 use bx_base::OutOfMemory;
+use bx_tree_parts::Fileids;
 use std::alloc::Global;
 use std::collections::BTreeMap;
 use std::collections::btree_map::Values;

@@ -1,22 +1,17 @@
 //! The files of a tree: what they contain, how they are kept, and how a procedure edits one.
 #![tactic(auto)]
 
-mod content;
 mod edits;
 mod file;
-mod fileids;
 mod files;
-mod handles;
 mod metadata;
-mod name_index;
 mod names;
 mod sattr;
 
-pub use content::Content;
-pub use edits::{Edit, MODES, given_or, is_given, stored, time_or};
+pub use bx_tree_parts::{Content, Handles, given_or, is_given, stored, time_or};
+pub use edits::{Edit, MODES};
 pub use file::{Body, DIRECTORY, File, LINK, Name, REGULAR};
 pub use files::Files;
-pub use handles::Handles;
 pub use metadata::{
     BLOCK_LEN, attribute_words, attributes, fileid, mode_word, put_words, size_of, words_of,
 };

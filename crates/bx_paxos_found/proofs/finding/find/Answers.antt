@@ -1,9 +1,10 @@
 use Rattle.std.proofs.Common.{◌≡◌, inl, Err, ap, ◌∙◌}
 use Rattle.std.proofs.lemmas.Result.{err_from_is_err_and}
+use Rattle.bx_disk.specs.Disks.{Disks}
 use Rattle.bx_facts.specs.Labelled.{IsFirstLabel}
 use Rattle.bx_layout.specs.declared.label.Label.{Label}
 use Rattle.bx_paxos_found.proofs.Labelling.{of_none, of_some}
-use Rattle.bx_paxos_found.proofs.Refusals.{is_greatest, lacks_disk, looked_never, no_lack, no_volume, not_both, on_ok, spent_at, too_few}
+use Rattle.bx_paxos_found.proofs.Refusals.{is_greatest, looked_never, no_lack, no_volume, on_ok, spent_at, too_few}
 use Rattle.bx_paxos_found.proofs.Threes.{all_seen, boots_below, has_found, ok_map, reads_found, same_of, same_twice, stands_found, state_is, synced_all}
 use Rattle.bx_paxos_found.proofs.finding.find.Goals as goal
 
@@ -20,8 +21,8 @@ returns-clause-reads g c = λ made same tells.
     let before = c.in-Ok.ensures.keeps_telling tells in
     let told = one.keeps_telling before in
     let again = two.keeps_telling told in
-    let label = of_some (λ (l : Label). IsFirstLabel x.reads l × (l.devices ≡ c.args.devices)) c.in-Ok.found c.in-Some.label c.in-Some.is (c.in-Ok.ensures.some tells) in
-    let seen = all_seen c.args.devices x v y z c.in-Some.label c.in_ok-first.first c.in_ok-second.second c.in_ok-third.third read (one.disks before) (two.disks told) label (one.seen before) (two.seen told) (last.seen again) in
+    let label = of_some (λ (l : Label). IsFirstLabel x.sizes x.reads l × (l.devices ≡ c.args.devices)) c.in-Ok.found c.in-Some.label c.in-Some.is (c.in-Ok.ensures.some tells) in
+    let seen = all_seen c.args.devices x v y z c.in-Some.label c.in_ok-first.first c.in_ok-second.second c.in_ok-third.third read one.sizes two.sizes (one.disks before) (two.disks told) label (one.seen before) (two.seen told) (last.seen again) in
     ok_map c.make.result _ _ (λ f is. reads_found c.in_ok-first.first c.in_ok-second.second c.in_ok-third.third f is c.args.devices one.held two.held last.held x seen.0 seen.1.0 seen.1.1 made same) c.make.ensures.made
 
 pub returns-clause-found : goal.returns-clause-found
@@ -38,15 +39,15 @@ returns-clause-found g c = λ tells.
     let before = c.in-Ok.ensures.keeps_telling tells in
     let told = one.keeps_telling before in
     let again = two.keeps_telling told in
-    let label = of_some (λ (l : Label). IsFirstLabel x.reads l × (l.devices ≡ c.args.devices)) c.in-Ok.found c.in-Some.label c.in-Some.is (c.in-Ok.ensures.some tells) in
-    let seen = all_seen c.args.devices x v y z c.in-Some.label c.in_ok-first.first c.in_ok-second.second c.in_ok-third.third read (one.disks before) (two.disks told) label (one.seen before) (two.seen told) (last.seen again) in
+    let label = of_some (λ (l : Label). IsFirstLabel x.sizes x.reads l × (l.devices ≡ c.args.devices)) c.in-Ok.found c.in-Some.label c.in-Some.is (c.in-Ok.ensures.some tells) in
+    let seen = all_seen c.args.devices x v y z c.in-Some.label c.in_ok-first.first c.in_ok-second.second c.in_ok-third.third read one.sizes two.sizes (one.disks before) (two.disks told) label (one.seen before) (two.seen told) (last.seen again) in
     let to_z = same_twice x y z (same_twice x v y (same_of x v read) (one.disks before)) (two.disks told) in
     ok_map c.make.result _ _
     (λ f is. (
       _,
       has_found c.in_ok-first.first c.in_ok-second.second c.in_ok-third.third f is,
-      stands_found c.in_ok-first.first c.in_ok-second.second c.in_ok-third.third f is c.args.devices one.held two.held last.held x seen.0 seen.1.0 seen.1.1 w (same_twice x z w to_z (last.disks again))
-          (synced_all y z w (two.disks told) (last.disks again) (one.sure before) (two.sure told) (last.sure again)),
+      stands_found c.in_ok-first.first c.in_ok-second.second c.in_ok-third.third f is c.args.devices one.held two.held last.held x seen.0 seen.1.0 seen.1.1 w (same_twice x z w to_z (last.disks again)) (last.sizes ∙ two.sizes ∙ one.sizes ∙ ap (λ (d : Disks). d.sizes) read)
+          (synced_all x v y z w read one.sizes two.sizes (two.disks told) (last.disks again) (one.sure before) (two.sure told) (last.sure again)),
     )) c.make.ensures.made
 
 pub returns-clause-allowed : goal.returns-clause-allowed
@@ -62,10 +63,6 @@ returns-clause-boots g c = ok_map c.make.result _ _ (λ f is. boots_below c.in_o
 
 pub returns-clause-few : goal.returns-clause-few
 returns-clause-few g c = ok_map c.make.result _ _ (λ f is. is.most) c.make.ensures.made
-
-pub returns-then-not-has_replicas-clause-no_majority : goal.returns-then-not-has_replicas-clause-no_majority
-returns-then-not-has_replicas-clause-no_majority g c = λ tells is.
-    inl (inl (lacks_disk (g.R.Rack.state c.args.rack.now).sizes (λ room. not_both c.has_replicas.result (c.has_replicas.ensures.1 room) c.if-not-has_replicas.true)))
 
 pub returns-in_default-found-clause-no_majority : goal.returns-in_default-found-clause-no_majority
 returns-in_default-found-clause-no_majority g c = λ tells is.
@@ -84,8 +81,8 @@ returns-clause-no_majority g c = λ tells is.
     let before = c.in-Ok.ensures.keeps_telling tells in
     let told = one.keeps_telling before in
     let again = two.keeps_telling told in
-    let label = of_some (λ (l : Label). IsFirstLabel x.reads l × (l.devices ≡ c.args.devices)) c.in-Ok.found c.in-Some.label c.in-Some.is (c.in-Ok.ensures.some tells) in
-    let seen = all_seen c.args.devices x v y z c.in-Some.label c.in_ok-first.first c.in_ok-second.second c.in_ok-third.third read (one.disks before) (two.disks told) label (one.seen before) (two.seen told) (last.seen again) in
+    let label = of_some (λ (l : Label). IsFirstLabel x.sizes x.reads l × (l.devices ≡ c.args.devices)) c.in-Ok.found c.in-Some.label c.in-Some.is (c.in-Ok.ensures.some tells) in
+    let seen = all_seen c.args.devices x v y z c.in-Some.label c.in_ok-first.first c.in_ok-second.second c.in_ok-third.third read one.sizes two.sizes (one.disks before) (two.disks told) label (one.seen before) (two.seen told) (last.seen again) in
     too_few c.args.devices x c.in_ok-first.first c.in_ok-second.second c.in_ok-third.third seen.0 seen.1.0 seen.1.1 (c.make.ensures.few is)
 
 pub returns-clause-majority : goal.returns-clause-majority
@@ -101,9 +98,9 @@ returns-clause-majority g c = λ tells.
     let before = c.in-Ok.ensures.keeps_telling tells in
     let told = one.keeps_telling before in
     let again = two.keeps_telling told in
-    let label = of_some (λ (l : Label). IsFirstLabel x.reads l × (l.devices ≡ c.args.devices)) c.in-Ok.found c.in-Some.label c.in-Some.is (c.in-Ok.ensures.some tells) in
-    let seen = all_seen c.args.devices x v y z c.in-Some.label c.in_ok-first.first c.in_ok-second.second c.in_ok-third.third read (one.disks before) (two.disks told) label (one.seen before) (two.seen told) (last.seen again) in
-    on_ok c.make.result _ _ (λ f is. no_lack c.args.devices x c.in_ok-first.first c.in_ok-second.second c.in_ok-third.third seen.0 seen.1.0 seen.1.1 (c.has_replicas.ensures.0 c.if-not-has_replicas.false) is.two) c.make.ensures.made
+    let label = of_some (λ (l : Label). IsFirstLabel x.sizes x.reads l × (l.devices ≡ c.args.devices)) c.in-Ok.found c.in-Some.label c.in-Some.is (c.in-Ok.ensures.some tells) in
+    let seen = all_seen c.args.devices x v y z c.in-Some.label c.in_ok-first.first c.in_ok-second.second c.in_ok-third.third read one.sizes two.sizes (one.disks before) (two.disks told) label (one.seen before) (two.seen told) (last.seen again) in
+    on_ok c.make.result _ _ (λ f is. no_lack c.args.devices x c.in_ok-first.first c.in_ok-second.second c.in_ok-third.third seen.0 seen.1.0 seen.1.1 is.two) c.make.ensures.made
 
 pub returns-clause-spent : goal.returns-clause-spent
 returns-clause-spent g c = λ boot tells is.
@@ -118,9 +115,9 @@ returns-clause-spent g c = λ boot tells is.
     let before = c.in-Ok.ensures.keeps_telling tells in
     let told = one.keeps_telling before in
     let again = two.keeps_telling told in
-    let label = of_some (λ (l : Label). IsFirstLabel x.reads l × (l.devices ≡ c.args.devices)) c.in-Ok.found c.in-Some.label c.in-Some.is (c.in-Ok.ensures.some tells) in
-    let seen = all_seen c.args.devices x v y z c.in-Some.label c.in_ok-first.first c.in_ok-second.second c.in_ok-third.third read (one.disks before) (two.disks told) label (one.seen before) (two.seen told) (last.seen again) in
-    spent_at c.args.devices x c.in_ok-first.first c.in_ok-second.second c.in_ok-third.third seen.0 seen.1.0 seen.1.1 boot (c.has_replicas.ensures.0 c.if-not-has_replicas.false) (c.make.ensures.spent boot is)
+    let label = of_some (λ (l : Label). IsFirstLabel x.sizes x.reads l × (l.devices ≡ c.args.devices)) c.in-Ok.found c.in-Some.label c.in-Some.is (c.in-Ok.ensures.some tells) in
+    let seen = all_seen c.args.devices x v y z c.in-Some.label c.in_ok-first.first c.in_ok-second.second c.in_ok-third.third read one.sizes two.sizes (one.disks before) (two.disks told) label (one.seen before) (two.seen told) (last.seen again) in
+    spent_at c.args.devices x c.in_ok-first.first c.in_ok-second.second c.in_ok-third.third seen.0 seen.1.0 seen.1.1 boot (c.make.ensures.spent boot is)
 
 pub returns-in_err-third-clause-spent : goal.returns-in_err-third-clause-spent
 returns-in_err-third-clause-spent g c = λ boot tells is.
@@ -143,6 +140,6 @@ returns-clause-greatest g c = λ tells.
     let before = c.in-Ok.ensures.keeps_telling tells in
     let told = one.keeps_telling before in
     let again = two.keeps_telling told in
-    let label = of_some (λ (l : Label). IsFirstLabel x.reads l × (l.devices ≡ c.args.devices)) c.in-Ok.found c.in-Some.label c.in-Some.is (c.in-Ok.ensures.some tells) in
-    let seen = all_seen c.args.devices x v y z c.in-Some.label c.in_ok-first.first c.in_ok-second.second c.in_ok-third.third read (one.disks before) (two.disks told) label (one.seen before) (two.seen told) (last.seen again) in
+    let label = of_some (λ (l : Label). IsFirstLabel x.sizes x.reads l × (l.devices ≡ c.args.devices)) c.in-Ok.found c.in-Some.label c.in-Some.is (c.in-Ok.ensures.some tells) in
+    let seen = all_seen c.args.devices x v y z c.in-Some.label c.in_ok-first.first c.in_ok-second.second c.in_ok-third.third read one.sizes two.sizes (one.disks before) (two.disks told) label (one.seen before) (two.seen told) (last.seen again) in
     ok_map c.make.result _ _ (λ f is. is_greatest c.args.devices x c.in_ok-first.first c.in_ok-second.second c.in_ok-third.third seen.0 seen.1.0 seen.1.1 f.boot is.two is.boot) c.make.ensures.made

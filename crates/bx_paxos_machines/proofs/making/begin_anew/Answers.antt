@@ -1,11 +1,12 @@
-use Rattle.std.proofs.Common.{◌≡◌, ℕ, ◌≤◌, List, length, Some, sym, subst, ◌∙◌, arith}
+use Rattle.std.proofs.Common.{◌≡◌, ℕ, ◌<◌, ◌≤◌, List, length, Some, refl, sym, subst, ◌∙◌, arith}
+use Rattle.std.specs.Prelude.{slice_index}
 use Rattle.bx_acceptor.proofs.Taking.{first_is_held}
 use Rattle.bx_answers.specs.Handling.{first_held}
 use Rattle.bx_cell.specs.Formats.{first}
 use Rattle.bx_cell.specs.Halves.{cell_in}
 use Rattle.bx_global.proofs.Lengths.{length-held}
 use Rattle.bx_global.specs.Bytes.{held_text}
-use Rattle.bx_paxos_machines.proofs.Beginnings.{any_ok, calm_image}
+use Rattle.bx_paxos_machines.proofs.Beginnings.{any_ok, beside_labels, beside_members, calm_image, calm_labels, calm_members, none_none, none_twice, rose_on, same_labels, same_members}
 use Rattle.bx_paxos_machines.proofs.making.begin_anew.Goals as goal
 
 pub format_each-requires-clause-short : goal.format_each-requires-clause-short
@@ -27,3 +28,61 @@ returns-clause-cells r c = λ tells.
         each = λ n low. subst (λ (bytes : List ℕ). cell_in (image n) 1 ≡ Some (first bytes)) same ((written n low).each image (calm_image (r.R.Rack.state c.format_each.new.rack) (r.R.Rack.state c.begin_all.new.rack) image calm sure));
       };
     })
+
+pub begin_all-requires-clause-room : goal.begin_all-requires-clause-room
+begin_all-requires-clause-room r c = subst (λ (sizes : List ℕ). (n : ℕ) → n < 3 → 21 ≤ slice_index sizes n) (sym c.format_each.ensures.sizes) c.requires.room
+
+pub returns-clause-begun : goal.returns-clause-begun
+returns-clause-begun r c = λ tells.
+    let made = c.args.state.now in
+    let same : c.bytes.result.now ≡ held_text (first_held made) = c.bytes.ensures ∙ c.in_ok-value.ensures in
+    let formatted = c.in_ok-format_each.ensures.formatted tells in
+    c.begin_all.ensures.begun (c.format_each.ensures.keeps_telling tells) (record {
+      each = λ n low. subst (λ (bytes : List ℕ). cell_in ((r.R.Rack.state c.format_each.new.rack).reads n) 1 ≡ Some (first bytes)) same (formatted.cell n low);
+    })
+
+pub returns-in_err-value-clause-members : goal.returns-in_err-value-clause-members
+returns-in_err-value-clause-members r c = λ tells. (same_members (r.R.Rack.state c.args.rack.now), same_labels (r.R.Rack.state c.args.rack.now))
+
+pub returns-in_err-value-clause-later : goal.returns-in_err-value-clause-later
+returns-in_err-value-clause-later r c = none_none (r.R.Rack.faults c.args.rack.now) (r.R.Rack.faults_of c.args.rack.now)
+
+pub returns-in_err-value-clause-sizes : goal.returns-in_err-value-clause-sizes
+returns-in_err-value-clause-sizes r c = refl
+
+pub returns-in_err-format_each-clause-members : goal.returns-in_err-format_each-clause-members
+returns-in_err-format_each-clause-members r c = λ tells.
+    let x = r.R.Rack.state c.args.rack.now in
+    let y = r.R.Rack.state c.format_each.new.rack in
+    let keeps = c.format_each.ensures.keeps tells in
+    (beside_members x y keeps, beside_labels x y keeps)
+
+pub returns-clause-members : goal.returns-clause-members
+returns-clause-members r c = λ tells.
+    let x = r.R.Rack.state c.args.rack.now in
+    let y = r.R.Rack.state c.format_each.new.rack in
+    let z = r.R.Rack.state c.begin_all.new.rack in
+    let keeps = c.format_each.ensures.keeps tells in
+    let calm = c.begin_all.ensures.calm (c.format_each.ensures.keeps_telling tells) in
+    (calm_members x y z (beside_members x y keeps) calm, calm_labels x y z (beside_labels x y keeps) calm)
+
+pub returns-clause-cause : goal.returns-clause-cause
+returns-clause-cause r c = λ fault. rose_on c.format_each.ensures.later.all (c.begin_all.ensures.cause fault)
+
+pub returns-clause-later : goal.returns-clause-later
+returns-clause-later r c = none_twice c.format_each.ensures.later c.begin_all.ensures.later
+
+pub returns-clause-sizes : goal.returns-clause-sizes
+returns-clause-sizes r c = c.begin_all.ensures.sizes ∙ c.format_each.ensures.sizes
+
+pub returns-clause-keeps_telling : goal.returns-clause-keeps_telling
+returns-clause-keeps_telling r c = λ tells. c.begin_all.ensures.keeps_telling (c.format_each.ensures.keeps_telling tells)
+
+pub returns-in_err-format_each-clause-later : goal.returns-in_err-format_each-clause-later
+returns-in_err-format_each-clause-later r c = c.format_each.ensures.later
+
+pub returns-in_err-format_each-clause-sizes : goal.returns-in_err-format_each-clause-sizes
+returns-in_err-format_each-clause-sizes r c = c.format_each.ensures.sizes
+
+pub returns-in_err-format_each-clause-keeps_telling : goal.returns-in_err-format_each-clause-keeps_telling
+returns-in_err-format_each-clause-keeps_telling r c = c.format_each.ensures.keeps_telling

@@ -35,7 +35,7 @@ returns-clause-found r c = λ tells.
     let machines = c.in-Ok.machines.items in
     let made = c.args.self.now.made in
     let known = ap (λ (k : Course). k.known) (idle_at first machines (Replica 0) (new_idle first machines c.in-Ok.ensures.new)) in
-    subst (ReadsState made (r.R.Rack.state c.args.rack.now).reads) (sym known) (c.in_ok-found.ensures.reads made (ap (λ (k : Cluster). length k.made.devices) (sym c.self.view_is) ∙ sym c.len-devices.ensures) tells)
+    subst (ReadsState made (r.R.Rack.state c.args.rack.now).sizes (r.R.Rack.state c.args.rack.now).reads) (sym known) (c.in_ok-found.ensures.reads made (ap (λ (k : Cluster). length k.made.devices) (sym c.self.view_is) ∙ sym c.len-devices.ensures) tells)
 
 pub returns-clause-boots : goal.returns-clause-boots
 returns-clause-boots r c =
@@ -71,23 +71,23 @@ returns-in_err-found-clause-no_majority r c = λ tells is.
     let p = err_from_is_err_and c.from_residual.result c.from_residual.ensures.1 in
     let x = r.R.Rack.state c.args.rack.now in
     let devices = ap (λ (k : Cluster). length k.made.devices) (sym c.self.view_is) ∙ sym c.len-devices.ensures in
-    subst (λ (n : ℕ). LackMajority n x ⊎ AreAtTheEnd n x.reads) (sym devices) (c.in_err-found.ensures.no_majority tells (handed_on (Err c.in_err-found.field-0.0) c.from_residual.result c.in_err-found.field-0.0 NoMajority refl (p.1 ∙ ap Err p.2) is))
+    subst (λ (n : ℕ). LackMajority n x.sizes x.reads ⊎ AreAtTheEnd n x.sizes x.reads) (sym devices) (c.in_err-found.ensures.no_majority tells (handed_on (Err c.in_err-found.field-0.0) c.from_residual.result c.in_err-found.field-0.0 NoMajority refl (p.1 ∙ ap Err p.2) is))
 
 pub returns-clause-majority : goal.returns-clause-majority
 returns-clause-majority r c = λ tells.
     let x = r.R.Rack.state c.args.rack.now in
     let devices = ap (λ (k : Cluster). length k.made.devices) (sym c.self.view_is) ∙ sym c.len-devices.ensures in
-    subst (λ (n : ℕ). LackMajority n x → ⊥) (sym devices) (c.in_ok-found.ensures.majority tells)
+    subst (λ (n : ℕ). LackMajority n x.sizes x.reads → ⊥) (sym devices) (c.in_ok-found.ensures.majority tells)
 
 pub returns-in_err-found-clause-spent : goal.returns-in_err-found-clause-spent
 returns-in_err-found-clause-spent r c = λ boot tells is.
     let p = err_from_is_err_and c.from_residual.result c.from_residual.ensures.1 in
     let x = r.R.Rack.state c.args.rack.now in
     let devices = ap (λ (k : Cluster). length k.made.devices) (sym c.self.view_is) ∙ sym c.len-devices.ensures in
-    subst (λ (n : ℕ). IsGreatestBoot n x.reads boot × (LackMajority n x → ⊥)) (sym devices) (c.in_err-found.ensures.spent boot tells (handed_on (Err c.in_err-found.field-0.0) c.from_residual.result c.in_err-found.field-0.0 (Spent boot) refl (p.1 ∙ ap Err p.2) is))
+    subst (λ (n : ℕ). IsGreatestBoot n x.sizes x.reads boot × (LackMajority n x.sizes x.reads → ⊥)) (sym devices) (c.in_err-found.ensures.spent boot tells (handed_on (Err c.in_err-found.field-0.0) c.from_residual.result c.in_err-found.field-0.0 (Spent boot) refl (p.1 ∙ ap Err p.2) is))
 
 pub returns-clause-greatest : goal.returns-clause-greatest
 returns-clause-greatest r c = λ tells.
     let x = r.R.Rack.state c.args.rack.now in
     let devices = ap (λ (k : Cluster). length k.made.devices) (sym c.self.view_is) ∙ sym c.len-devices.ensures in
-    subst (λ (n : ℕ). IsGreatestBoot n x.reads c.in_ok-found.found.boot) (sym devices) (c.in_ok-found.ensures.greatest tells)
+    subst (λ (n : ℕ). IsGreatestBoot n x.sizes x.reads c.in_ok-found.found.boot) (sym devices) (c.in_ok-found.ensures.greatest tells)

@@ -1,7 +1,7 @@
 use Rattle.std.proofs.Common.{ℕ, List, ◌∙◌, sym, ap}
 use Rattle.std.specs.Map.{values_of}
 use Rattle.bx_tree_files.specs.declared.file.File.{File}
-use Rattle.bx_tree_files.specs.Fileids.{has_pair}
+use Rattle.bx_tree_parts.specs.Fileids.{has_pair}
 use Rattle.bx_tree_files.specs.Files.{with_file}
 use Rattle.bx_tree_files.proofs.Kept.{with_file-insert, AreAtHandles-insert}
 use Rattle.bx_tree_files.proofs.KeptNumbers.{is_kept, kept_back, kept_put}

@@ -5,7 +5,7 @@ use Rattle.bx_tree_files.specs.declared.file.File.{File}
 use Rattle.bx_tree_files.specs.Files.{with_changed, file_at}
 use Rattle.bx_tree_files.specs.FileEdits.{CanEnter, CanLink}
 use Rattle.bx_tree_files.specs.Changes.{entered}
-use Rattle.bx_tree_files.specs.Times.{Time}
+use Rattle.bx_tree_parts.specs.Times.{Time}
 use Rattle.bx_tree_files.proofs.Changed.{file_at-changed, file_at-unchanged}
 use Rattle.bx_tree_files.proofs.files.Files.link.Goals as goal
 

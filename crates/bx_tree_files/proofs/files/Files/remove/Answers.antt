@@ -2,7 +2,7 @@ use Rattle.std.proofs.Common.{ℕ, List, ◌∙◌, sym, ap}
 use Rattle.std.specs.Map.{values_of}
 use Rattle.bx_tree_files.specs.declared.file.File.{File}
 use Rattle.bx_tree_files.specs.Files.{without_file}
-use Rattle.bx_tree_files.specs.Fileids.{has_pair}
+use Rattle.bx_tree_parts.specs.Fileids.{has_pair}
 use Rattle.bx_tree_files.proofs.Kept.{at_without, seen_without}
 use Rattle.bx_tree_files.proofs.KeptNumbers.{is_kept, kept_taken}
 use Rattle.bx_tree_files.proofs.files.Files.remove.Goals as goal

@@ -4,7 +4,7 @@ use Rattle.std.specs.Map.{remove_entry, values_of}
 use Rattle.std.specs.Ordering.{nat_cmp}
 use Rattle.bx_tree_files.specs.declared.file.Name.{Name}
 use Rattle.bx_tree_files.specs.Entries.{entry_named, with_name, without_name}
-use Rattle.bx_tree_files.specs.NameIndex.{number_in}
+use Rattle.bx_tree_parts.specs.NameIndex.{number_in}
 use Rattle.bx_tree_files.proofs.Numbered.{exchanged, num}
 use Rattle.bx_tree_files.proofs.Replacing.{apart_replaced, seen_replaced}
 use Rattle.bx_tree_files.proofs.names.NameList.exchange.Goals as goal

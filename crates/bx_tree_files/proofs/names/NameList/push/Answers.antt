@@ -2,7 +2,7 @@ use Rattle.std.proofs.Common.{◌≡◌, ℕ, List, [], ◌∷◌, ◌++◌, Non
 use Rattle.std.specs.Map.{values_of}
 use Rattle.bx_tree_files.specs.declared.file.Name.{Name}
 use Rattle.bx_tree_files.specs.Entries.{entry_named, with_name}
-use Rattle.bx_tree_files.specs.NameIndex.{number_in}
+use Rattle.bx_tree_parts.specs.NameIndex.{number_in}
 use Rattle.bx_tree_files.proofs.Named.{apart_inserted, seen_last}
 use Rattle.bx_tree_files.proofs.Numbered.{num, pushed}
 use Rattle.bx_tree_files.proofs.names.NameList.push.Goals as goal

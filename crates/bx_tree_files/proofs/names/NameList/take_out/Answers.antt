@@ -2,7 +2,7 @@ use Rattle.std.proofs.Common.{◌≡◌, ℕ, List, Some, ◌∙◌, sym, ap}
 use Rattle.std.specs.Map.{values_of}
 use Rattle.bx_tree_files.specs.declared.file.Name.{Name}
 use Rattle.bx_tree_files.specs.Entries.{entry_named, without_name}
-use Rattle.bx_tree_files.specs.NameIndex.{number_in}
+use Rattle.bx_tree_parts.specs.NameIndex.{number_in}
 use Rattle.bx_tree_files.proofs.Named.{apart_taken, not_found, seen_taken, without_none}
 use Rattle.bx_tree_files.proofs.Numbered.{num, taken}
 use Rattle.bx_tree_files.proofs.names.NameList.take_out.Goals as goal

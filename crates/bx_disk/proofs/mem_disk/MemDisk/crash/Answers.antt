@@ -1,5 +1,0 @@
-use Rattle.std.proofs.Common.{rules}
-use Rattle.bx_disk.proofs.mem_disk.MemDisk.crash.Goals as goal
-
-pub returns-clause-synced : goal.returns-clause-synced
-returns-clause-synced c = search rules

@@ -1,0 +1,6 @@
+//! The listing of a file tree.
+#![tactic(auto)]
+
+mod listings;
+
+pub use listings::listing;

@@ -1,0 +1,4 @@
+pub mod GivenOut
+pub mod Over
+pub mod Indexed
+pub mod Paired

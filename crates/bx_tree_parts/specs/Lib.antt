@@ -1,0 +1,5 @@
+pub mod Contents
+pub mod Times
+pub mod NameIndex
+pub mod Fileids
+pub mod Given

@@ -13,12 +13,12 @@ use Rattle.bx_script.specs.ScheduleLine.{InRange, spelling}
 use Rattle.bx_script.specs.Schedule.{BeginsSchedule, HasPlace, IsSchedule}
 use Rattle.bx_script.proofs.Spelled.{spelling_injective}
 use Rattle.bx_model.specs.declared.tree.Tree.{Tree}
-use Rattle.bx_replay.specs.declared.stop.Reason.{Reason}
-use Rattle.bx_replay.specs.declared.stop.Reason.TheVariants.{Grammar, Down}
+use Rattle.bx_stops.specs.declared.stop.Reason.{Reason}
+use Rattle.bx_stops.specs.declared.stop.Reason.TheVariants.{Grammar, Down}
 use Rattle.bx_history.specs.Along.{AllowedNewest}
 use Rattle.bx_replay.specs.Headline.{Asks, IsHeard, is_up}
-use Rattle.bx_replay.specs.declared.stop.Stop.{Stop}
-use Rattle.bx_replay.specs.declared.stop.Stop.TheVariants as stops
+use Rattle.bx_stops.specs.declared.stop.Stop.{Stop}
+use Rattle.bx_stops.specs.declared.stop.Stop.TheVariants as stops
 use Rattle.bx_replay.specs.Outcome.{Allows, AreDone, IsBroken, IsFirstRefused, IsPlayable, IsRefused, IsRefusedAt, Refuses}
 use Rattle.bx_replay.proofs.Allowed.{done_begins}
 use Rattle.bx_replay.specs.Replay.{HasCause, IsDiskCause, Leaves, Wrote}

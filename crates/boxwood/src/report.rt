@@ -1,7 +1,7 @@
 //! The line that tells why a command stopped short, and its exit status.
 
 ghost use Rattle.std.specs.Prelude.{◌≡◌, ◌≤◌, ◌==◌, ◌⊎◌, IfOk, if◌then◌else◌, string_bytes};
-ghost use Rattle.bx_replay.specs.declared.stop.Stop.TheVariants as stops;
+ghost use Rattle.bx_stops.specs.declared.stop.Stop.TheVariants as stops;
 ghost use Rattle.boxwood.specs.Report.{IsTold, message, status_of, usage_line};
 
 use bx_outside::{Sink, write_all};

@@ -16,8 +16,8 @@ use Rattle.bx_service.specs.Rounds.{Doubt}
 use Rattle.bx_history.specs.Trace as traces
 use Rattle.bx_history.proofs.Waiting.{quiet_part}
 use Rattle.bx_model.specs.Opening.{opening}
-use Rattle.bx_replay.specs.declared.stop.Reason.{Reason}
-use Rattle.bx_replay.specs.declared.stop.Reason.TheVariants.{Grammar}
+use Rattle.bx_stops.specs.declared.stop.Reason.{Reason}
+use Rattle.bx_stops.specs.declared.stop.Reason.TheVariants.{Grammar}
 use Rattle.bx_replay.specs.Headline.{Headline, IsInPlace, rules, Step}
 use Rattle.bx_replay.specs.Outcome.{AreDone, IsBroken, IsCutOff, IsReadTo, IsRefused, IsReplayed, closing_text}
 use Rattle.bx_replay.specs.Replay.{Going, IsRead, StandsAfter, BreaksAfter, IsBegun, IsEnded, IsEndedShort, IsRefusedLine, Wrote, waits_at}

@@ -16,7 +16,7 @@ use Rattle.bx_overlay.specs.declared.error.AuditError.TheVariants as audits
 use Rattle.bx_overlay.specs.Refusals.{IsBreak}
 use Rattle.bx_volume.specs.Images.{ImageStandsFor}
 use Rattle.bx_replay.specs.Bench.{IsHeldBy}
-use Rattle.bx_replay.specs.FromLine.{stop_of_audit}
+use Rattle.bx_stops.specs.FromLine.{stop_of_audit}
 use Rattle.bx_replay.specs.Replay.{HasBenchCause}
 
 decided : (b : Bool) → (b ≡ true) ⊎ (b ≡ false)

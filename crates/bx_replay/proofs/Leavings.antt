@@ -8,8 +8,8 @@ use Rattle.bx_script.specs.ScheduleLine.{spelling}
 use Rattle.bx_replay.specs.Headline.{IsInPlace}
 use Rattle.bx_service.specs.Rounds.{Doubt}
 use Rattle.bx_history.specs.Trace as traces
-use Rattle.bx_replay.specs.declared.stop.Stop.{Stop}
-use Rattle.bx_replay.specs.declared.stop.Stop.TheVariants as stops
+use Rattle.bx_stops.specs.declared.stop.Stop.{Stop}
+use Rattle.bx_stops.specs.declared.stop.Stop.TheVariants as stops
 use Rattle.bx_replay.specs.Outcome.{IsBroken}
 use Rattle.bx_replay.specs.Replay.{Begins, BreaksAfter, DoesLine, Ends, GivesLine, Going, HasBeginCause, HasFinishCause, HasLineCause, HasStepCause, Hears, IsEndedShort, IsRead, Leaves, Wrote}
 use Rattle.bx_replay.proofs.Goings.{begins_broken, begins_cut, begins_empty, begins_outside, finishes, stops_broken, stops_cut, stops_outside, stops_refused, stops_torn, stops_unfinished}

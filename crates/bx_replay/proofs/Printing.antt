@@ -10,8 +10,8 @@ use Rattle.bx_history.specs.Parts.{trace_of}
 use Rattle.bx_history.specs.Along.{Done, parts_of}
 use Rattle.bx_model.specs.declared.tree.Tree.{Tree}
 use Rattle.bx_service.specs.Rounds.{Doubt}
-use Rattle.bx_replay.specs.declared.stop.Stop.{Stop}
-use Rattle.bx_replay.specs.declared.stop.Stop.TheVariants as stops
+use Rattle.bx_stops.specs.declared.stop.Stop.{Stop}
+use Rattle.bx_stops.specs.declared.stop.Stop.TheVariants as stops
 use Rattle.bx_replay.specs.Headline.{IsHeard, up_after}
 use Rattle.bx_replay.specs.Replay.{BreaksAfter, DoesLine, HasPrintCause, Hears, Prints, Stands, UnlessMemory}
 

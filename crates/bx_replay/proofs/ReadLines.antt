@@ -11,8 +11,8 @@ use Rattle.bx_script.specs.declared.line.Line.TheVariants.{Heading}
 use Rattle.bx_script.specs.ScheduleLine.{spelling}
 use Rattle.bx_script.specs.Schedule.{HasPlace, BeginsSchedule}
 use Rattle.bx_script.proofs.Spelled.{spelling_lacks_feed}
-use Rattle.bx_replay.specs.declared.stop.Reason.{Reason}
-use Rattle.bx_replay.specs.declared.stop.Reason.TheVariants.{Grammar, Down}
+use Rattle.bx_stops.specs.declared.stop.Reason.{Reason}
+use Rattle.bx_stops.specs.declared.stop.Reason.TheVariants.{Grammar, Down}
 use Rattle.bx_replay.specs.Headline.{Asks, IsHeard, IsInPlace, is_up, up_after}
 use Rattle.bx_replay.specs.Outcome.{AreDone, IsCut, IsFirstRefused, IsReadTo, IsPlayable, IsRefusedAt}
 use Rattle.bx_replay.specs.Replay.{IsRead, IsRefusedLine}

@@ -13,7 +13,7 @@ use Rattle.bx_model.specs.declared.tree.Tree.{Tree}
 use Rattle.bx_service.specs.declared.event.Event.{Event}
 use Rattle.bx_service.specs.declared.event.Event.TheVariants.{Answered, Found}
 use Rattle.bx_service.specs.Rounds.{Doubt, Finds, Rounds}
-use Rattle.bx_replay.specs.declared.stop.Stop.{Stop}
+use Rattle.bx_stops.specs.declared.stop.Stop.{Stop}
 use Rattle.bx_replay.specs.Replay.{BreaksAfter, DoesLine, HasPrintCause, Prints, Stands, StandsAfter, UnlessMemory, told_at}
 use Rattle.bx_replay.proofs.Answered.{MayFind, at_line, stands_answered, stands_found, stands_waiting}
 use Rattle.bx_replay.proofs.Printing.{breaks_here, unprinted}

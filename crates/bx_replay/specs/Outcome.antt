@@ -9,8 +9,8 @@ use Rattle.bx_script.specs.Schedule.{IsSchedule}
 use Rattle.bx_history.specs.Along.{AllowedNewest}
 use Rattle.bx_model.specs.declared.tree.Tree.{Tree}
 use Rattle.bx_model.specs.Listing.{listing}
-use Rattle.bx_replay.specs.declared.stop.Reason.{Reason}
-use Rattle.bx_replay.specs.declared.stop.Reason.TheVariants.{Grammar, Down}
+use Rattle.bx_stops.specs.declared.stop.Reason.{Reason}
+use Rattle.bx_stops.specs.declared.stop.Reason.TheVariants.{Grammar, Down}
 use Rattle.bx_replay.specs.Headline.{Asks, Headline, IsHeard, IsInPlace, is_up}
 
 -- A line may be done behind these, the newest of which comes first: there is room for it, it has its place and is one of this stage,

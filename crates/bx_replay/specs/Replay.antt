@@ -20,10 +20,10 @@ use Rattle.bx_model.specs.declared.tree.Tree.{Tree}
 use Rattle.bx_service.specs.Rounds.{Doubt, Tells}
 use Rattle.bx_service.specs.declared.event.Event.{Event}
 use Rattle.bx_service.specs.declared.event.Event.TheVariants.{Answered, Found}
-use Rattle.bx_replay.specs.declared.stop.Reason.{Reason}
-use Rattle.bx_replay.specs.declared.stop.Reason.TheVariants.{Grammar, Down}
-use Rattle.bx_replay.specs.declared.stop.Stop.{Stop}
-use Rattle.bx_replay.specs.declared.stop.Stop.TheVariants as stops
+use Rattle.bx_stops.specs.declared.stop.Reason.{Reason}
+use Rattle.bx_stops.specs.declared.stop.Reason.TheVariants.{Grammar, Down}
+use Rattle.bx_stops.specs.declared.stop.Stop.{Stop}
+use Rattle.bx_stops.specs.declared.stop.Stop.TheVariants as stops
 use Rattle.bx_replay.specs.Headline.{Asks, rules, opening_of, IsHeard, IsInPlace, Step, is_up, up_after}
 use Rattle.bx_replay.specs.Outcome.{AreDone, IsBroken, IsCut, IsCutOff, IsFirstRefused, IsReadTo, IsRefused, IsPlayable, IsReplayed, closing_text}
 

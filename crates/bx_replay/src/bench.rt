@@ -9,10 +9,10 @@ ghost use Rattle.bx_replay.specs.Bench.{HoldsAny};
 ghost use Rattle.bx_service.specs.Rounds.{IsCrashed};
 ghost use Rattle.bx_replay.specs.Replay.{HasBenchCause, UnlessDisk};
 
-use crate::stop::Stop;
 use bx_audit::{Listing, audit};
 use bx_base::OutOfMemory;
 use bx_disk::{CrashRack, Noise, Rack};
+use bx_stops::Stop;
 use std::alloc::Global;
 
 /// Crashes all disks of the bench: then nothing on them is unsure.

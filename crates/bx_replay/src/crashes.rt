@@ -12,12 +12,12 @@ ghost use Rattle.bx_service.specs.Rounds.{Doubt};
 use crate::bench::crash_all;
 use crate::print::print_lines;
 use crate::state::Replay;
-use crate::stop::Stop;
 use bx_base::OutOfMemory;
 use bx_disk::{CrashRack, Noise, Rack};
 use bx_outside::Sink;
 use bx_script::TraceLine;
 use bx_service::Service;
+use bx_stops::Stop;
 
 impl<M: Service> Replay<M> {
     /// All machines that are up crash, and their disks with them.

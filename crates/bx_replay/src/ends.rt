@@ -12,12 +12,12 @@ use crate::bench::read_back;
 use crate::print::print_end;
 use crate::schedule::next_line;
 use crate::state::Replay;
-use crate::stop::{Reason, Stop};
 use bx_base::{OutOfMemory, Point};
 use bx_disk::{CrashRack, Rack};
 use bx_outside::{LineReader, Sink, Source, write_all};
 use bx_script::{Line, TraceLine};
 use bx_service::Service;
+use bx_stops::{Reason, Stop};
 use std::alloc::Global;
 
 impl<M: Service> Replay<M> {

@@ -11,9 +11,8 @@ mod run;
 mod schedule;
 mod state;
 mod steps;
-mod stop;
 mod ticks;
 
+pub use bx_stops::{Reason, Stop};
 pub use laws::one_output;
 pub use run::replay;
-pub use stop::{Reason, Stop};

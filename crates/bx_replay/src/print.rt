@@ -6,10 +6,10 @@ ghost use Rattle.bx_base.specs.Text.{ended};
 ghost use Rattle.bx_script.specs.TraceText.{InTraceRange, trace_text};
 ghost use Rattle.bx_replay.specs.Replay.{HasPrintCause, Prints, UnlessMemory, UnlessWrite};
 
-use crate::stop::Stop;
 use bx_base::OutOfMemory;
 use bx_outside::{Sink, write_all};
 use bx_script::TraceLine;
+use bx_stops::Stop;
 
 /// Writes lines, each with its line feed, as one piece. The text has room for them, and what it had goes.
 pub fn print_lines<K: Sink>(

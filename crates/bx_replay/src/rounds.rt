@@ -11,11 +11,11 @@ ghost use Rattle.bx_service.specs.Rounds.{Doubt};
 
 use crate::print::print_lines;
 use crate::state::Replay;
-use crate::stop::Stop;
 use bx_disk::Rack;
 use bx_outside::Sink;
 use bx_script::TraceLine;
 use bx_service::{Event, Service};
+use bx_stops::Stop;
 
 impl<M: Service> Replay<M> {
     /// Does rounds at a reading, until nothing is left to do, but at most so many.

@@ -6,11 +6,11 @@ ghost use Rattle.bx_replay.specs.Replay.{HasCause, Leaves, UnlessRead, UnlessWri
 
 use crate::schedule::next_line;
 use crate::state::Replay;
-use crate::stop::Stop;
 use bx_disk::CrashRack;
 use bx_outside::{LineReader, Sink, Source};
 use bx_script::MAX_LINE;
 use bx_service::Service;
+use bx_stops::Stop;
 use std::alloc::Global;
 
 /// Replays the schedule of `input` on a service over `bench`, and writes its trace to `out` as it goes; then the word `end`, the points of

@@ -6,10 +6,10 @@ ghost use Rattle.bx_script.specs.ScheduleLine.{spelling};
 ghost use Rattle.bx_replay.specs.Headline.{IsBuilt, IsInPlace};
 ghost use Rattle.bx_replay.specs.Replay.{GivesLine, HasLineCause, UnlessRead};
 
-use crate::stop::{Reason, Stop};
 use bx_base::OutOfMemory;
 use bx_outside::{LineReader, Next, Source};
 use bx_script::{Line, MAX_LINES};
+use bx_stops::{Reason, Stop};
 use std::alloc::Global;
 
 /// The line with this number, counted from 1; `None` at the end of the input. It is refused where it is

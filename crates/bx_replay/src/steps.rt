@@ -12,13 +12,13 @@ ghost use Rattle.bx_service.specs.Rounds.{Doubt};
 
 use crate::print::print_lines;
 use crate::state::Replay;
-use crate::stop::{Reason, Stop};
 use bx_base::Raw;
 use bx_disk::{CrashRack, Rack};
 use bx_outside::Sink;
 use bx_rpc::is_message;
 use bx_script::{Line, TraceLine};
 use bx_service::Service;
+use bx_stops::{Reason, Stop};
 use std::alloc::Global;
 
 impl<M: Service> Replay<M> {

@@ -10,8 +10,8 @@ ghost use Rattle.bx_replay.specs.Replay.{DoesLine, HasStepCause, Hears, Stands, 
 ghost use Rattle.bx_service.specs.Rounds.{Doubt};
 
 use crate::state::Replay;
-use crate::stop::{Reason, Stop};
 use bx_service::Service;
+use bx_stops::{Reason, Stop};
 
 impl<M: Service> Replay<M> {
     /// The node's clock ticks. Nothing is told of it.

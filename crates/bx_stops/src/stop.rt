@@ -40,7 +40,7 @@ pub enum Stop {
 
 impl From<OutOfMemory> for Stop {
     ghost use Rattle.std.specs.Prelude.{◌≡◌};
-    ghost use Rattle.bx_replay.specs.declared.stop.Stop.TheVariants as stops;
+    ghost use Rattle.bx_stops.specs.declared.stop.Stop.TheVariants as stops;
 
     ghost from_gives = { λ _ stop. stop ≡ stops.OutOfMemory };
 
@@ -51,7 +51,7 @@ impl From<OutOfMemory> for Stop {
 
 impl From<WriteFault> for Stop {
     ghost use Rattle.std.specs.Prelude.{◌≡◌};
-    ghost use Rattle.bx_replay.specs.declared.stop.Stop.TheVariants as stops;
+    ghost use Rattle.bx_stops.specs.declared.stop.Stop.TheVariants as stops;
 
     ghost from_gives = { λ _ stop. stop ≡ stops.WriteFault };
 
@@ -61,7 +61,7 @@ impl From<WriteFault> for Stop {
 }
 
 impl From<LineError> for Stop {
-    ghost use Rattle.bx_replay.specs.FromLine.{stop_of};
+    ghost use Rattle.bx_stops.specs.FromLine.{stop_of};
     ghost use Rattle.std.specs.Prelude.{◌≡◌};
 
     ghost from_gives = { λ error stop. stop ≡ stop_of error };
@@ -75,7 +75,7 @@ impl From<LineError> for Stop {
 }
 
 impl From<RackError> for Stop {
-    ghost use Rattle.bx_replay.specs.FromLine.{stop_of_rack};
+    ghost use Rattle.bx_stops.specs.FromLine.{stop_of_rack};
     ghost use Rattle.std.specs.Prelude.{◌≡◌};
 
     ghost from_gives = { λ error stop. stop ≡ stop_of_rack error };
@@ -89,7 +89,7 @@ impl From<RackError> for Stop {
 }
 
 impl From<AuditError> for Stop {
-    ghost use Rattle.bx_replay.specs.FromLine.{stop_of_audit};
+    ghost use Rattle.bx_stops.specs.FromLine.{stop_of_audit};
     ghost use Rattle.std.specs.Prelude.{◌≡◌};
 
     ghost from_gives = { λ error stop. stop ≡ stop_of_audit error };

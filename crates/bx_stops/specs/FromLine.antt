@@ -5,8 +5,8 @@ use Rattle.bx_outside.specs.declared.line_reader.LineError.{LineError}
 use Rattle.bx_outside.specs.declared.line_reader.LineError.TheVariants.{Fault, OutOfMemory}
 use Rattle.bx_overlay.specs.declared.error.AuditError.{AuditError}
 use Rattle.bx_overlay.specs.declared.error.AuditError.TheVariants as audits
-use Rattle.bx_replay.specs.declared.stop.Stop.{Stop}
-use Rattle.bx_replay.specs.declared.stop.Stop.TheVariants as stops
+use Rattle.bx_stops.specs.declared.stop.Stop.{Stop}
+use Rattle.bx_stops.specs.declared.stop.Stop.TheVariants as stops
 
 abbrev pub stop_of : LineError → Stop
 stop_of Fault = stops.ReadFault

@@ -1,9 +1,6 @@
 //! The procedure that gives a file one more name: LINK.
 
-ghost use Rattle.std.specs.Prelude.{◌≡◌, IfOk, IfSome, OnErr, OnOk, false};
-ghost use Rattle.bx_tree_files.specs.Files.{with_changed, file_at};
-ghost use Rattle.bx_tree_files.specs.FileEdits.{CanEnter, CanLink};
-ghost use Rattle.bx_tree_files.specs.Changes.{entered, linked};
+ghost use Rattle.std.specs.Prelude.{◌≡◌, IfOk, OnErr};
 ghost use Rattle.bx_model.specs.Making.{link as link_of};
 ghost use Rattle.bx_model.specs.Steps.{done};
 

@@ -1,14 +1,12 @@
 //! The procedures that change a file: SETATTR and WRITE.
 
-ghost use Rattle.std.specs.Prelude.{◌≡◌, ◌+◌, ◌&&◌, ◌||◌, ◌<◌, ◌^◌, nat_lt, length, IfOk, IfSome, IsSome, MatchOption, OnErr, OnOk, Ok, Err, Some};
+ghost use Rattle.std.specs.Prelude.{◌≡◌, ◌+◌, ◌&&◌, ◌||◌, ◌<◌, ◌^◌, IfOk, IfSome, IsSome, MatchOption, OnErr, OnOk, Ok, Err, Some};
 ghost use Rattle.bx_tree_files.specs.Attributes.{attributes_of};
-ghost use Rattle.bx_tree_files.specs.declared.file.File.{File as FileValue};
 ghost use Rattle.bx_model.specs.Edits.{changed};
 ghost use Rattle.bx_tree_files.specs.FileEdits.{CanEdit, edited};
-ghost use Rattle.bx_tree_files.specs.Files.{IsFile, file_at};
+ghost use Rattle.bx_tree_files.specs.Files.{file_at};
 ghost use Rattle.bx_model.specs.Steps.{done};
 ghost use Rattle.bx_tree_files.specs.Times.{is_given as is_given_word};
-ghost use Rattle.bx_tree_files.specs.Changes.{most_bytes};
 ghost use Rattle.bx_model.specs.Writing.{is_forbidden as is_forbidden_to, is_full as is_full_at, resize_errors, setattr as setattr_of, write as write_of, write_errors};
 
 use bx_base::{OutOfMemory, Words};

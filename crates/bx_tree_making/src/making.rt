@@ -1,8 +1,6 @@
 //! New files, and the entries that name them.
 
-ghost use Rattle.std.specs.Prelude.{◌≡◌, ◌<◌, ◌≤◌, ◌^◌, ◌==◌, true, false, length, if◌then◌else◌, IfSome, IsSome, OnOk, OnErr};
-ghost use Rattle.std.specs.List.{list_any};
-ghost use Rattle.bx_tree_files.specs.Attributes.{fileid as fileid_of};
+ghost use Rattle.std.specs.Prelude.{◌≡◌, ◌<◌, ◌==◌, true, IfSome, IsSome, OnOk, OnErr};
 ghost use Rattle.bx_model.specs.Edits.{is_unused as is_unused_handle, with_new, without_new};
 ghost use Rattle.bx_tree_files.specs.FileEdits.{CanEnter};
 ghost use Rattle.bx_tree_files.specs.Files.{IsFile, file_at};

@@ -171,8 +171,26 @@ const DAMAGES: [Damage; 15] = [
         (4, FILE, FILE),
     ),
     (REGULAR, (4, FILE, 1, DIRECTORY), (4, FILE, FILE)),
-    (DEAD, (5, THIRD, 2, TREE[0].3), (5, THIRD, ROOT)),
-    (DEAD, (8, LEFT, 3, TREE[1].3), (8, LEFT, LEFT)),
+    (
+        DEAD,
+        (
+            5,
+            THIRD,
+            2,
+            b"\0\x01\0\x02\0\0\0\0\0\0\0\0\xff\xff\0\0\0\0\0\x08\0\0\0\x08\0\0\0\x01\0\x05\0\x08\x03\0\0\0\x02\0\0\0\x09\0\0\0\x01",
+        ),
+        (5, THIRD, ROOT),
+    ),
+    (
+        DEAD,
+        (
+            8,
+            LEFT,
+            3,
+            b"\0\0\0\x01\0\0\0\x09\0\0\0\x01\0\x05\0\0\x03\0\0\0\x02\0\x05\0\x08\x03\0\0\0\0\0\0\0\x06\0\0\0\x01",
+        ),
+        (8, LEFT, LEFT),
+    ),
     (DEAD, (6, FIRST + 1, 3, b"first"), (6, FIRST + 1, FIRST)),
 ];
 

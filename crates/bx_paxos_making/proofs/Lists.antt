@@ -1,6 +1,8 @@
 -- Machines that are put into a list one behind the other, and disks that are only synced.
-use Rattle.std.proofs.Common.{◌≡◌, ℕ, ◌+◌, ◌-◌, ◌<◌, ◌≤◌, ◌⊎◌, inl, inr, Bool, true, false, List, [], ◌∷◌, ◌++◌, Option, Some, Result, Ok, Err, OnOk, refl, sym, ap, subst, ◌∙◌, arith}
-use Rattle.std.specs.Prelude.{IsSome, nat_lt, if◌then◌else◌, slice_index}
+use Rattle.std.proofs.Common.{◌≡◌, ℕ, ◌+◌, ◌-◌, ◌<◌, ◌≤◌, ◌⊎◌, inl, inr, Bool, true, false, List, [], ◌∷◌, ◌++◌, length, Option, Some, Result, Ok, Err, OnOk, refl, sym, ap, subst, ◌∙◌, arith}
+use Rattle.std.specs.Prelude.{IsSome, nat_lt, if◌then◌else◌, slice_index, slice_index_or, slice_set}
+use Rattle.std.proofs.Math.Seq.{get_or-append_seam, set-append_seam}
+use Rattle.std.proofs.lemmas.List.{length-append}
 use Rattle.std.proofs.lemmas.Bool.{false≢true}
 use Rattle.std.proofs.lemmas.Bool.Decides.{nat_tests}
 use Rattle.bx_answers.specs.Handling.{first_held}
@@ -91,6 +93,15 @@ pub same_labels : (x : Disks) → SameLabels x x
 same_labels x = record { each = λ d low. record { reads = refl; sure = λ e. e } }
 
 -- ---- one more in the list
+
+pub end_within : (ms xs : List Machine) (m : Machine) (end : ℕ) → xs ≡ ms ++ m ∷ [] → end ≡ length ms → end < length xs
+end_within ms xs m end all at = subst (λ (l : List Machine). end < length l) (sym all) (let long = length-append ms (m ∷ []) in omega (arith, long, at))
+
+pub read_end : (ms xs : List Machine) (m k : Machine) (end : ℕ) → xs ≡ ms ++ m ∷ [] → end ≡ length ms → k ≡ slice_index_or xs end k → k ≡ m
+read_end ms xs m k end all at value = value ∙ subst (λ (l : List Machine). slice_index_or l end k ≡ m) (sym all) (subst (λ (n : ℕ). slice_index_or (ms ++ m ∷ []) n k ≡ m) (sym at) (get_or-append_seam ms m [] k))
+
+pub put_end : (ms xs : List Machine) (m v : Machine) (end : ℕ) → xs ≡ ms ++ m ∷ [] → end ≡ length ms → slice_set xs end v ≡ ms ++ v ∷ []
+put_end ms xs m v end all at = subst (λ (l : List Machine). slice_set l end v ≡ ms ++ v ∷ []) (sym all) (subst (λ (n : ℕ). slice_set (ms ++ m ∷ []) n v ≡ ms ++ v ∷ []) (sym at) (set-append_seam ms m [] v))
 
 pub parts_push : (nodes : ℕ) (made : GlobalState) (origins : Origins) (ms : List Machine) (m : Machine) → AreParts nodes made origins ms → IsPart nodes made origins m → AreParts nodes made origins (ms ++ m ∷ [])
 parts_push nodes made origins [] m are is = (is, tt)

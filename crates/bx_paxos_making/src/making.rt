@@ -10,9 +10,8 @@ ghost use Rattle.bx_facts.specs.declared.input.FactError.TheVariants.{Disk as Di
 ghost use Rattle.bx_global.specs.Allowed.{IsAllowed};
 ghost use Rattle.bx_paxos.specs.Reading.{AreMade};
 ghost use Rattle.bx_paxos_found.specs.Origins.{origin_in};
-ghost use Rattle.bx_rounds.specs.Courses.{started};
-ghost use Rattle.bx_paxos_machines.specs.Beginning.{AreBegun, AreIdle, AreMachines, AreNew, HasFirst, IsBegun, IsCalm, IsNew, name_in};
-ghost use Rattle.bx_paxos_machines.specs.Parts.{IsPart, course_of, name_of};
+ghost use Rattle.bx_paxos_machines.specs.Beginning.{AreBegun, AreIdle, AreMachines, AreNew, HasFirst, IsCalm, IsNew, name_in};
+ghost use Rattle.bx_paxos_machines.specs.Parts.{IsPart, name_of};
 
 use bx_acceptor::{Acceptor, first_value};
 use bx_base::{Actor, OutOfMemory};
@@ -70,35 +69,6 @@ fn make(
     }
 }
 
-/// The same machine, which has begun over disks that have the first state in each cell.
-fn make_begun<R: Rack>(
-    alloc: Global,
-    rack: &mut R,
-    at: Actor,
-    nodes: u32,
-    state: &GlobalState,
-    origins: &Origins,
-) -> Result<Machine, FactError>
-    requires machine { IsMachine nodes at }
-    requires state { IsAllowed state.now }
-    requires made { AreMade (origin_in origins.now) }
-    requires index { state.now.index + 1 < 2 ^ 64 }
-    requires room { (n : ℕ) → n < 3 → 21 ≤ slice_index (R.state rack.old).sizes n }
-    ensures name { IfOk result (λ m. name_of m ≡ at) }
-    ensures part { IfOk result (IsPart nodes state.now origins.now) }
-    ensures begun { R.tells rack.old → HasFirst state.now (R.state rack.old).reads → IfOk result (IsBegun state.now (R.state rack.new)) }
-    ensures idle { IfOk result (λ m. course_of m ≡ started 0 0 state.now) }
-    ensures calm { R.tells rack.old → IsCalm (R.state rack.old) (R.state rack.new) }
-    ensures cause { IsErrOf result DiskFails → Rose (R.faults rack.old) (R.faults rack.new) }
-    ensures later { NoneFalls (R.faults rack.old) (R.faults rack.new) (R.faults_of rack.old) (R.faults_of rack.new) }
-    ensures sizes { (R.state rack.new).sizes ≡ (R.state rack.old).sizes }
-    ensures keeps_telling { R.tells rack.old → R.tells rack.new }
-{
-    let mut machine = make(alloc, at, nodes, state, origins)?;
-    machine.begin(rack)?;
-    Ok(machine)
-}
-
 /// Puts a machine at the end.
 fn put_last(all: &mut Vec<Machine>, machine: Machine) -> Result<(), OutOfMemory>
     ensures { OnOk result (all.new.items ≡ all.old.items ++ machine ∷ []) }
@@ -152,8 +122,10 @@ pub fn begin_all<R: Rack>(
 {
     let mut all = Vec::new(alloc);
     for place in 0..FIXED + nodes {
-        let machine = make_begun(alloc, rack, name_at(place), nodes, state, origins)?;
+        let machine = make(alloc, name_at(place), nodes, state, origins)?;
+        let end = all.len();
         put_last(&mut all, machine)?;
+        all[end].begin(rack)?;
     }
     Ok(all)
 }

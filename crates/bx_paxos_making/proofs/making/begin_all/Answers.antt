@@ -1,30 +1,59 @@
-use Rattle.std.proofs.Common.{ℕ, ◌+◌, ◌<◌, ◌≤◌, List, sym, subst, ◌∙◌, arith}
-use Rattle.std.specs.Prelude.{slice_index}
-use Rattle.bx_base.specs.declared.names.Actor.{Actor}
+use Rattle.std.proofs.Common.{◌≡◌, ℕ, ◌+◌, ◌<◌, ◌≤◌, ◌++◌, ◌∷◌, [], List, length, sym, subst, ◌∙◌, arith}
+use Rattle.std.specs.Prelude.{slice_index, slice_set}
 use Rattle.bx_facts.specs.Machines.{IsMachine}
-use Rattle.bx_paxos_machines.specs.Beginning.{AreBegun, AreIdle}
+use Rattle.bx_paxos_machines.specs.Beginning.{AreBegun, AreIdle, IsNew}
+use Rattle.bx_paxos_machines.specs.Parts.{IsPart, IsWhole, name_of}
 use Rattle.bx_paxos_machines.specs.declared.machine.Machine.{Machine}
-use Rattle.bx_paxos_making.proofs.Lists.{AreMadeTo, begun_push, calm_begun, calm_first, calm_twice, idle_push, machine_in, made_all, made_more, none_twice, rose_on}
+use Rattle.bx_paxos_making.proofs.Lists.{AreMadeTo, begun_push, calm_begun, calm_first, calm_twice, end_within, has_disk, idle_push, machine_in, made_all, made_more, none_twice, put_end, read_end}
 use Rattle.bx_paxos_making.proofs.making.begin_all.Goals as goal
+
+pub make-requires-clause-machine : goal.make-requires-clause-machine
+make-requires-clause-machine r c = subst (IsMachine c.args.nodes) (sym c.name_at.ensures) (machine_in c.args.nodes c.loop-place.place (omega arith))
+
+pub index_mut-requires : goal.index_mut-requires
+index_mut-requires r c =
+    let at : c.len-end.result ≡ length c.loop-place.all.items = (let len = c.loop-place.all.ok.0 in let is = c.len-end.ensures in omega (arith, len, is)) in
+    let less = end_within c.loop-place.all.items c.put_last.new.all.items c.in_ok-machine.machine c.len-end.result c.in_ok-put_last.ensures at in
+    omega (arith, less)
+
+pub begin-requires-clause-whole : goal.begin-requires-clause-whole
+begin-requires-clause-whole r c =
+    let at : c.len-end.result ≡ length c.loop-place.all.items = (let len = c.loop-place.all.ok.0 in let is = c.len-end.ensures in omega (arith, len, is)) in
+    let one = read_end c.loop-place.all.items c.put_last.new.all.items c.in_ok-machine.machine c.index_mut.result.now c.len-end.result c.in_ok-put_last.ensures at c.index_mut.ensures.value in
+    subst IsWhole (sym one) c.in_ok-machine.ensures.part.whole
+
+pub begin-requires-clause-room : goal.begin-requires-clause-room
+begin-requires-clause-room r c =
+    let at : c.len-end.result ≡ length c.loop-place.all.items = (let len = c.loop-place.all.ok.0 in let is = c.len-end.ensures in omega (arith, len, is)) in
+    let one = read_end c.loop-place.all.items c.put_last.new.all.items c.in_ok-machine.machine c.index_mut.result.now c.len-end.result c.in_ok-put_last.ensures at c.index_mut.ensures.value in
+    has_disk (r.R.Rack.state c.loop-place.rack).sizes c.index_mut.result.now (subst IsWhole (sym one) c.in_ok-machine.ensures.part.whole)
+    (subst (λ (sizes : List ℕ). (n : ℕ) → n < 3 → 21 ≤ slice_index sizes n) (sym c.loop-place.invariant.sizes) c.requires.room)
 
 pub loop-place-preserved : goal.loop-place-preserved
 loop-place-preserved r c =
+    let at : c.len-end.result ≡ length c.loop-place.all.items = (let len = c.loop-place.all.ok.0 in let is = c.len-end.ensures in omega (arith, len, is)) in
     let made = c.args.state.now in
-    let m = c.in_ok-machine.machine in
+    let k = c.index_mut.result.now in
+    let v = c.begin.new.self in
+    let ms = c.loop-place.all.items in
+    let one : k ≡ c.in_ok-machine.machine = read_end ms c.put_last.new.all.items c.in_ok-machine.machine k c.len-end.result c.in_ok-put_last.ensures at c.index_mut.ensures.value in
+    let same : slice_set c.put_last.new.all.items c.len-end.result v ≡ ms ++ v ∷ [] = put_end ms c.put_last.new.all.items c.in_ok-machine.machine v c.len-end.result c.in_ok-put_last.ensures at in
     let did = c.in_ok-machine.ensures in
-    let then = c.make_begun.ensures in
+    let part = subst (IsPart c.args.nodes made c.args.origins.now) (sym one) did.part in
+    let new = subst (IsNew made) (sym one) did.new in
+    let then = c.begin.ensures in
     let x = r.R.Rack.state c.args.rack.now in
     let y = r.R.Rack.state c.loop-place.rack in
-    let z = r.R.Rack.state c.make_begun.new.rack in
+    let z = r.R.Rack.state c.begin.new.rack in
     let was = c.loop-place.invariant in
     record {
-      made = subst (λ (ms : List Machine). AreMadeTo c.args.nodes made c.args.origins.now (c.loop-place.place + 1) ms) (sym c.in_ok-put_last.ensures)
-          (made_more c.args.nodes made c.args.origins.now c.loop-place.place c.loop-place.all.items m was.made (did.name ∙ c.name_at.ensures) did.part);
+      made = subst (λ (l : List Machine). AreMadeTo c.args.nodes made c.args.origins.now (c.loop-place.place + 1) l) (sym same)
+          (made_more c.args.nodes made c.args.origins.now c.loop-place.place ms v was.made (then.name ∙ subst (λ (m : Machine). name_of m ≡ c.name_at.result) (sym one) did.name ∙ c.name_at.ensures) (then.part c.args.nodes made c.args.origins.now part));
       begun = λ tells first.
           let told = was.tells tells in
-          subst (λ (ms : List Machine). AreBegun made z ms) (sym c.in_ok-put_last.ensures)
-          (begun_push made z c.loop-place.all.items m (calm_begun made y z c.loop-place.all.items (then.calm told) (was.begun tells first)) (did.begun told (calm_first made x y (was.calm tells) first)));
-      idle = subst (λ (ms : List Machine). AreIdle made ms) (sym c.in_ok-put_last.ensures) (idle_push made c.loop-place.all.items m was.idle did.idle);
+          subst (λ (l : List Machine). AreBegun made z l) (sym same)
+          (begun_push made z ms v (calm_begun made y z ms (then.calm told) (was.begun tells first)) (c.in_ok-begin.ensures.begun c.args.nodes made c.args.origins.now told part c.requires.made new (calm_first made x y (was.calm tells) first)));
+      idle = subst (λ (l : List Machine). AreIdle made l) (sym same) (idle_push made ms v was.idle (then.course ∙ new.course));
       calm = λ tells. calm_twice x y z (was.calm tells) (then.calm (was.tells tells));
       later = none_twice was.later then.later;
       sizes = then.sizes ∙ was.sizes;
@@ -36,38 +65,20 @@ returns-clause-machines r c =
     let over = c.loop-place-test.false in
     made_all c.args.nodes c.args.state.now c.args.origins.now c.loop-place.place c.loop-place.all.items (omega (arith, over)) c.loop-place.invariant.made
 
-pub make_begun-requires-clause-machine : goal.make_begun-requires-clause-machine
-make_begun-requires-clause-machine r c = subst (IsMachine c.args.nodes) (sym c.name_at.ensures) (machine_in c.args.nodes c.loop-place.place (omega arith))
-
-pub make_begun-requires-clause-room : goal.make_begun-requires-clause-room
-make_begun-requires-clause-room r c = subst (λ (sizes : List ℕ). (n : ℕ) → n < 3 → 21 ≤ slice_index sizes n) (sym c.loop-place.invariant.sizes) c.requires.room
-
-pub returns-in_err-machine-clause-calm : goal.returns-in_err-machine-clause-calm
-returns-in_err-machine-clause-calm r c = λ tells. calm_twice (r.R.Rack.state c.args.rack.now) (r.R.Rack.state c.loop-place.rack) (r.R.Rack.state c.make_begun.new.rack) (c.loop-place.invariant.calm tells) (c.make_begun.ensures.calm (c.loop-place.invariant.tells tells))
-
-pub returns-in_err-machine-clause-later : goal.returns-in_err-machine-clause-later
-returns-in_err-machine-clause-later r c = none_twice c.loop-place.invariant.later c.make_begun.ensures.later
-
-pub returns-in_err-machine-clause-sizes : goal.returns-in_err-machine-clause-sizes
-returns-in_err-machine-clause-sizes r c = c.make_begun.ensures.sizes ∙ c.loop-place.invariant.sizes
-
-pub returns-in_err-machine-clause-keeps_telling : goal.returns-in_err-machine-clause-keeps_telling
-returns-in_err-machine-clause-keeps_telling r c = λ tells. c.make_begun.ensures.keeps_telling (c.loop-place.invariant.tells tells)
-
-pub returns-in_err-put_last-clause-calm : goal.returns-in_err-put_last-clause-calm
-returns-in_err-put_last-clause-calm r c = λ tells. calm_twice (r.R.Rack.state c.args.rack.now) (r.R.Rack.state c.loop-place.rack) (r.R.Rack.state c.make_begun.new.rack) (c.loop-place.invariant.calm tells) (c.make_begun.ensures.calm (c.loop-place.invariant.tells tells))
-
-pub returns-in_err-put_last-clause-later : goal.returns-in_err-put_last-clause-later
-returns-in_err-put_last-clause-later r c = none_twice c.loop-place.invariant.later c.make_begun.ensures.later
-
-pub returns-in_err-put_last-clause-sizes : goal.returns-in_err-put_last-clause-sizes
-returns-in_err-put_last-clause-sizes r c = c.make_begun.ensures.sizes ∙ c.loop-place.invariant.sizes
-
-pub returns-in_err-put_last-clause-keeps_telling : goal.returns-in_err-put_last-clause-keeps_telling
-returns-in_err-put_last-clause-keeps_telling r c = λ tells. c.make_begun.ensures.keeps_telling (c.loop-place.invariant.tells tells)
-
 pub returns-clause-begun : goal.returns-clause-begun
 returns-clause-begun r c = λ tells first. c.loop-place.invariant.begun tells first
+
+pub returns-in_err-begin-clause-calm : goal.returns-in_err-begin-clause-calm
+returns-in_err-begin-clause-calm r c = λ tells. calm_twice (r.R.Rack.state c.args.rack.now) (r.R.Rack.state c.loop-place.rack) (r.R.Rack.state c.begin.new.rack) (c.loop-place.invariant.calm tells) (c.begin.ensures.calm (c.loop-place.invariant.tells tells))
+
+pub returns-in_err-begin-clause-later : goal.returns-in_err-begin-clause-later
+returns-in_err-begin-clause-later r c = none_twice c.loop-place.invariant.later c.begin.ensures.later
+
+pub returns-in_err-begin-clause-sizes : goal.returns-in_err-begin-clause-sizes
+returns-in_err-begin-clause-sizes r c = c.begin.ensures.sizes ∙ c.loop-place.invariant.sizes
+
+pub returns-in_err-begin-clause-keeps_telling : goal.returns-in_err-begin-clause-keeps_telling
+returns-in_err-begin-clause-keeps_telling r c = λ tells. c.begin.ensures.keeps_telling (c.loop-place.invariant.tells tells)
 
 pub returns-clause-courses : goal.returns-clause-courses
 returns-clause-courses r c = c.loop-place.invariant.idle
@@ -83,3 +94,27 @@ returns-clause-sizes r c = c.loop-place.invariant.sizes
 
 pub returns-clause-keeps_telling : goal.returns-clause-keeps_telling
 returns-clause-keeps_telling r c = c.loop-place.invariant.tells
+
+pub returns-in_err-machine-clause-calm : goal.returns-in_err-machine-clause-calm
+returns-in_err-machine-clause-calm r c = c.loop-place.invariant.calm
+
+pub returns-in_err-machine-clause-later : goal.returns-in_err-machine-clause-later
+returns-in_err-machine-clause-later r c = c.loop-place.invariant.later
+
+pub returns-in_err-machine-clause-sizes : goal.returns-in_err-machine-clause-sizes
+returns-in_err-machine-clause-sizes r c = c.loop-place.invariant.sizes
+
+pub returns-in_err-machine-clause-keeps_telling : goal.returns-in_err-machine-clause-keeps_telling
+returns-in_err-machine-clause-keeps_telling r c = c.loop-place.invariant.tells
+
+pub returns-in_err-put_last-clause-calm : goal.returns-in_err-put_last-clause-calm
+returns-in_err-put_last-clause-calm r c = c.loop-place.invariant.calm
+
+pub returns-in_err-put_last-clause-later : goal.returns-in_err-put_last-clause-later
+returns-in_err-put_last-clause-later r c = c.loop-place.invariant.later
+
+pub returns-in_err-put_last-clause-sizes : goal.returns-in_err-put_last-clause-sizes
+returns-in_err-put_last-clause-sizes r c = c.loop-place.invariant.sizes
+
+pub returns-in_err-put_last-clause-keeps_telling : goal.returns-in_err-put_last-clause-keeps_telling
+returns-in_err-put_last-clause-keeps_telling r c = c.loop-place.invariant.tells

@@ -5,7 +5,7 @@ use Rattle.bx_facts.specs.Pasts.{register_failed, register_restarted, register_w
 use Rattle.bx_paxos.proofs.Sending.{start_sends}
 use Rattle.bx_paxos.specs.Fits.{Fits, Turned, going}
 use Rattle.bx_proposer.specs.Standing.{Standing as Proposer}
-use Rattle.bx_paxos_machines.specs.Parts.{IsOf, IsPart, IsWhole, KnowsPlace, course_of, name_of, proposer_of}
+use Rattle.bx_paxos_machines.specs.Parts.{IsOf, IsPart, IsWhole, name_of, proposer_of}
 use Rattle.bx_paxos_machines.specs.declared.machine.Machine.{Machine}
 use Rattle.bx_paxos_machines.proofs.Others.{other_part, other_starts, quiet_moments, replica_part, sync_labels, sync_members, sync_moments, sync_only}
 use Rattle.bx_paxos_machines.proofs.machine.Machine.restart.Goals as goal

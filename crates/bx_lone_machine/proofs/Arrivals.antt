@@ -4,11 +4,11 @@ use Rattle.std.proofs.lemmas.List.Elements.{Contains-push_cases}
 use Rattle.bx_disk.specs.Disks.{Disks, Image}
 use Rattle.bx_facts.specs.Writes.{Asked, Made, Sent, StorePast}
 use Rattle.bx_global.specs.declared.state.GlobalState.{GlobalState}
-use Rattle.bx_lone_node.specs.Node.{NodeView}
-use Rattle.bx_lone_node.specs.Standing.{Finds, NodeStands}
-use Rattle.bx_lone_node.specs.declared.stage.Stage.{Stage}
-use Rattle.bx_lone_node.specs.declared.stage.Stage.TheVariants.{Idle, Reads, Logs, Homes, Closes, Spent}
-use Rattle.bx_lone_node.specs.declared.stage.Waiting.{Waiting}
+use Rattle.bx_lone_standing.specs.Node.{NodeView}
+use Rattle.bx_lone_standing.specs.Standing.{Finds, NodeStands}
+use Rattle.bx_lone_standing.specs.declared.stage.Stage.{Stage}
+use Rattle.bx_lone_standing.specs.declared.stage.Stage.TheVariants.{Idle, Reads, Logs, Homes, Closes, Spent}
+use Rattle.bx_lone_standing.specs.declared.stage.Waiting.{Waiting}
 use Rattle.bx_model.specs.declared.tree.Tree.{Tree}
 use Rattle.bx_rpc.specs.Message.{is_message}
 use Rattle.bx_views.specs.Truths.{Truth}

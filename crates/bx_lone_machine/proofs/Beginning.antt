@@ -13,10 +13,10 @@ use Rattle.bx_format.specs.Formats.{HasSizes, IsFormatted}
 use Rattle.bx_global.specs.Opening.{opening_state}
 use Rattle.bx_layout.specs.Labels.{SpellsLabel}
 use Rattle.bx_layout.specs.declared.label.Label.{Label}
-use Rattle.bx_lone_node.specs.Bare.{StandsBare}
-use Rattle.bx_lone_node.specs.Node.{NodeView}
-use Rattle.bx_lone_node.specs.Standing.{Finds, NodeStands}
-use Rattle.bx_lone_node.specs.declared.stage.Stage.TheVariants.{Idle}
+use Rattle.bx_lone_standing.specs.Bare.{StandsBare}
+use Rattle.bx_lone_standing.specs.Node.{NodeView}
+use Rattle.bx_lone_standing.specs.Standing.{Finds, NodeStands}
+use Rattle.bx_lone_standing.specs.declared.stage.Stage.TheVariants.{Idle}
 use Rattle.bx_lone_repair.proofs.Images.{only_first}
 use Rattle.bx_lone_repair.specs.Bench.{AreLong, IsLabelled, first_label, made_for}
 use Rattle.bx_lone_repair.specs.Left.{IsClosed}

@@ -6,13 +6,13 @@ use Rattle.bx_disk.specs.Disks.{Disks}
 use Rattle.bx_facts.specs.Disks.{HasRoom, NeedsNoMore, SameLabels}
 use Rattle.bx_facts.specs.Writes.{Sent}
 use Rattle.bx_layout.specs.Labels.{SpellsLabel}
-use Rattle.bx_lone_node.specs.Node.{IsUsed, NodeView}
-use Rattle.bx_lone_node.specs.Standing.{Turns}
-use Rattle.bx_lone_node.specs.Turning.{Awaits, IsOfMoment, record_of}
-use Rattle.bx_lone_node.specs.declared.stage.Acted.{Acted}
-use Rattle.bx_lone_node.specs.declared.stage.Stage.{Stage}
-use Rattle.bx_lone_node.specs.declared.stage.Stage.TheVariants.{Idle, Reads, Logs, Homes, Closes, Spent}
-use Rattle.bx_lone_node.specs.declared.stage.Waiting.{Waiting}
+use Rattle.bx_lone_standing.specs.Node.{IsUsed, NodeView}
+use Rattle.bx_lone_standing.specs.Standing.{Turns}
+use Rattle.bx_lone_standing.specs.Turning.{Awaits, IsOfMoment, record_of}
+use Rattle.bx_lone_standing.specs.declared.stage.Acted.{Acted}
+use Rattle.bx_lone_standing.specs.declared.stage.Stage.{Stage}
+use Rattle.bx_lone_standing.specs.declared.stage.Stage.TheVariants.{Idle, Reads, Logs, Homes, Closes, Spent}
+use Rattle.bx_lone_standing.specs.declared.stage.Waiting.{Waiting}
 use Rattle.bx_lone_repair.specs.Bench.{AreLong, IsBench, first_label}
 use Rattle.bx_model.specs.declared.tree.Tree.{Tree}
 use Rattle.bx_views.specs.Attempts.{Deed}

@@ -3,7 +3,7 @@ use Rattle.std.proofs.Common.{◌≡◌, ℕ, List, sym, subst}
 use Rattle.bx_engine.specs.Paths.{IsOnPath}
 use Rattle.bx_steps.specs.Steps.{StandsWith, Step}
 use Rattle.bx_hints.specs.Fitting.{HintsFitAll}
-use Rattle.bx_lone_node.specs.Bare.{StandsBare}
+use Rattle.bx_lone_standing.specs.Bare.{StandsBare}
 use Rattle.bx_model.specs.declared.tree.Tree.{Tree}
 use Rattle.bx_records.specs.Drafts.{Changed}
 use Rattle.bx_views.specs.Attempts.{Acts, Deed, Gives, IsFair, Leads, Tidies}

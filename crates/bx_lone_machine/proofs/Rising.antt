@@ -2,15 +2,15 @@
 use Rattle.std.proofs.Common.{◌≡◌, ◌⊎◌, ⊎_elim, inl, inr, refl, ℕ, ◌<◌, ◌≤◌, arith, List, [], ◌∷◌, ◌++◌, Contains, Option, Some, None, sym, ◌∙◌, ap, subst}
 use Rattle.bx_base.specs.declared.names.Point.{Point}
 use Rattle.bx_facts.proofs.Lists.{front_or_behind, nothing}
-use Rattle.bx_lone_node.specs.Node.{IsInStage, IsNode, IsRecording, IsPointOf, NodeView, Takes, calls_of, unanswered}
-use Rattle.bx_lone_node.specs.Standing.{IsAt, IsPast, told}
-use Rattle.bx_lone_node.specs.Turning.{IsOfMoment, WasOpened}
-use Rattle.bx_lone_node.specs.declared.stage.Acted.{Acted}
-use Rattle.bx_lone_node.specs.declared.stage.Recorded.{Recorded}
-use Rattle.bx_lone_node.specs.declared.stage.Recorded.TheVariants.{Call, Inner}
-use Rattle.bx_lone_node.specs.declared.stage.Stage.{Stage}
-use Rattle.bx_lone_node.specs.declared.stage.Stage.TheVariants.{Idle, Reads, Logs, Homes, Closes, Spent}
-use Rattle.bx_lone_node.specs.declared.stage.Waiting.{Waiting}
+use Rattle.bx_lone_standing.specs.Node.{IsInStage, IsNode, IsRecording, IsPointOf, NodeView, Takes, calls_of, unanswered}
+use Rattle.bx_lone_standing.specs.Standing.{IsAt, IsPast, told}
+use Rattle.bx_lone_standing.specs.Turning.{IsOfMoment, WasOpened}
+use Rattle.bx_lone_standing.specs.declared.stage.Acted.{Acted}
+use Rattle.bx_lone_standing.specs.declared.stage.Recorded.{Recorded}
+use Rattle.bx_lone_standing.specs.declared.stage.Recorded.TheVariants.{Call, Inner}
+use Rattle.bx_lone_standing.specs.declared.stage.Stage.{Stage}
+use Rattle.bx_lone_standing.specs.declared.stage.Stage.TheVariants.{Idle, Reads, Logs, Homes, Closes, Spent}
+use Rattle.bx_lone_standing.specs.declared.stage.Waiting.{Waiting}
 use Rattle.bx_redo.specs.declared.work.Work.{Work}
 use Rattle.bx_redo.specs.declared.work.Work.TheVariants as works
 use Rattle.bx_records.specs.Drafts.{Changed}

@@ -7,15 +7,15 @@ use Rattle.bx_facts.specs.Chains.{Chain, last}
 use Rattle.bx_facts.specs.Writes.{Asked, HasLabels, IsSettled, Made, Sent, StorePast}
 use Rattle.bx_global.specs.Opening.{opening_state}
 use Rattle.bx_global.specs.declared.state.GlobalState.{GlobalState}
-use Rattle.bx_lone_node.specs.Bare.{StandsBare}
-use Rattle.bx_lone_node.specs.Node.{IsClosing, IsInStage, IsNode, IsRecording, IsUsed, NodeView, unanswered}
-use Rattle.bx_lone_node.specs.Standing.{AreOf, Finds, IsAt, NodeStands, Promises, point_in}
-use Rattle.bx_lone_node.specs.Turning.{point_at, recorded_in}
-use Rattle.bx_lone_node.specs.declared.stage.Recorded.{Recorded}
-use Rattle.bx_lone_node.specs.declared.stage.Recorded.TheVariants.{Call, Inner}
-use Rattle.bx_lone_node.specs.declared.stage.Stage.{Stage}
-use Rattle.bx_lone_node.specs.declared.stage.Stage.TheVariants.{Idle, Reads, Logs, Homes, Closes, Spent}
-use Rattle.bx_lone_node.specs.declared.stage.Waiting.{Waiting}
+use Rattle.bx_lone_standing.specs.Bare.{StandsBare}
+use Rattle.bx_lone_standing.specs.Node.{IsClosing, IsInStage, IsNode, IsRecording, IsUsed, NodeView, unanswered}
+use Rattle.bx_lone_standing.specs.Standing.{AreOf, Finds, IsAt, NodeStands, Promises, point_in}
+use Rattle.bx_lone_standing.specs.Turning.{point_at, recorded_in}
+use Rattle.bx_lone_standing.specs.declared.stage.Recorded.{Recorded}
+use Rattle.bx_lone_standing.specs.declared.stage.Recorded.TheVariants.{Call, Inner}
+use Rattle.bx_lone_standing.specs.declared.stage.Stage.{Stage}
+use Rattle.bx_lone_standing.specs.declared.stage.Stage.TheVariants.{Idle, Reads, Logs, Homes, Closes, Spent}
+use Rattle.bx_lone_standing.specs.declared.stage.Waiting.{Waiting}
 use Rattle.bx_lone_machine.specs.Machine.{AreRising, Holds, IsReady, call_past, calls_of, doubt_in, doubt_of, floor_in, floor_of, record_of, store_keeps, store_made, store_reads, store_stands, volume_of}
 use Rattle.bx_lone_machine.specs.declared.machine.LoneMachine.{LoneMachine}
 use Rattle.bx_lone_machine.proofs.Rising.{point_of}

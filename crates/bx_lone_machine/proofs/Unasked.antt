@@ -1,12 +1,12 @@
 -- What a tidy keeps.
 use Rattle.std.proofs.Common.{◌≡◌, ◌⊎◌, ⊎_elim, refl, ℕ, ◌≤◌, arith, List, [], Contains, None, sym, ◌∙◌, ap, subst}
-use Rattle.bx_lone_node.specs.Node.{IsUsed, NodeView, calls_of, unanswered}
-use Rattle.bx_lone_node.specs.Tidying.{BeginsUnasked, GoesUnasked, IsUnasked}
-use Rattle.bx_lone_node.specs.Turning.{record_of, recorded_in}
-use Rattle.bx_lone_node.specs.declared.stage.Recorded.TheVariants.{Call, Inner}
-use Rattle.bx_lone_node.specs.declared.stage.Stage.{Stage}
-use Rattle.bx_lone_node.specs.declared.stage.Stage.TheVariants.{Idle, Reads, Logs, Homes, Closes, Spent}
-use Rattle.bx_lone_node.specs.declared.stage.Waiting.{Waiting}
+use Rattle.bx_lone_standing.specs.Node.{IsUsed, NodeView, calls_of, unanswered}
+use Rattle.bx_lone_turns.specs.Tidying.{BeginsUnasked, GoesUnasked, IsUnasked}
+use Rattle.bx_lone_standing.specs.Turning.{record_of, recorded_in}
+use Rattle.bx_lone_standing.specs.declared.stage.Recorded.TheVariants.{Call, Inner}
+use Rattle.bx_lone_standing.specs.declared.stage.Stage.{Stage}
+use Rattle.bx_lone_standing.specs.declared.stage.Stage.TheVariants.{Idle, Reads, Logs, Homes, Closes, Spent}
+use Rattle.bx_lone_standing.specs.declared.stage.Waiting.{Waiting}
 use Rattle.bx_redo.specs.declared.work.Work.{Work}
 use Rattle.bx_lone_machine.specs.Machine.{AreRising, call_past}
 

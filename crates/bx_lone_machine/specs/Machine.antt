@@ -8,12 +8,12 @@ use Rattle.bx_facts.specs.Chains.{last}
 use Rattle.bx_facts.specs.Disks.{HasRoom}
 use Rattle.bx_facts.specs.Writes.{IsSettled, Made, StorePast}
 use Rattle.bx_global.specs.Opening.{opening_state}
-use Rattle.bx_lone_node.specs.Node.{IsJoined, IsNode, IsUsed, calls_of as node_calls}
-use Rattle.bx_lone_node.specs.Standing.{NodeStands, StandsFor}
-use Rattle.bx_lone_node.specs.Turning.{record_of as node_record}
-use Rattle.bx_lone_node.specs.declared.stage.Stage.{Stage}
-use Rattle.bx_lone_node.specs.declared.stage.Stage.TheVariants.{Idle, Reads, Logs, Homes, Closes, Spent}
-use Rattle.bx_lone_node.specs.declared.stage.Waiting.{Waiting}
+use Rattle.bx_lone_standing.specs.Node.{IsJoined, IsNode, IsUsed, calls_of as node_calls}
+use Rattle.bx_lone_standing.specs.Standing.{NodeStands, StandsFor}
+use Rattle.bx_lone_standing.specs.Turning.{record_of as node_record}
+use Rattle.bx_lone_standing.specs.declared.stage.Stage.{Stage}
+use Rattle.bx_lone_standing.specs.declared.stage.Stage.TheVariants.{Idle, Reads, Logs, Homes, Closes, Spent}
+use Rattle.bx_lone_standing.specs.declared.stage.Waiting.{Waiting}
 use Rattle.bx_lone_repair.specs.Bench.{IsBench}
 use Rattle.bx_lone_repair.specs.Left.{Doubt}
 use Rattle.bx_lone_store.specs.Fits.{Keeps, WillRead}

@@ -5,7 +5,7 @@ ghost use Rattle.std.specs.Option.{option_map};
 ghost use Rattle.bx_disk.specs.Disks.{Disks};
 ghost use Rattle.bx_lone_machine.specs.Machine.{AreRising, Holds, IsReady, calls_of, doubt_of, floor_of, latest_of, record_of, volume_of};
 ghost use Rattle.bx_lone_machine.specs.declared.machine.LoneMachine.{LoneMachine};
-ghost use Rattle.bx_lone_node.specs.declared.stage.Waiting.{Waiting};
+ghost use Rattle.bx_lone_standing.specs.declared.stage.Waiting.{Waiting};
 ghost use Rattle.bx_lone_repair.specs.Left.{Doubt, IsLeft};
 ghost use Rattle.bx_model.specs.declared.tree.Tree.{Tree};
 

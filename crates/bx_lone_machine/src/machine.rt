@@ -11,7 +11,8 @@ use crate::calls::Calls;
 use bx_base::{Actor, CallNo, OutOfMemory};
 use bx_facts::Store;
 use bx_global::GlobalState;
-use bx_lone_node::{LoneNode, Waiting};
+use bx_lone_node::LoneNode;
+use bx_lone_standing::Waiting;
 use bx_lone_store::PlainStore;
 use std::alloc::Global;
 

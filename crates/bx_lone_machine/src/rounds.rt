@@ -4,16 +4,17 @@ ghost use Rattle.std.specs.Prelude.{◌≡◌, ◌≤◌, IfOk, Option, None, On
 ghost use Rattle.bx_steps.specs.Steps.{Step};
 ghost use Rattle.bx_lone_machine.specs.Machine.{Holds, IsReady, calls_of, latest_of, record_of};
 ghost use Rattle.bx_lone_machine.specs.Rounds.{IsOfRound};
-ghost use Rattle.bx_lone_node.specs.Node.{Takes};
-ghost use Rattle.bx_lone_node.specs.Standing.{Turns};
-ghost use Rattle.bx_lone_node.specs.declared.stage.Stage.TheVariants.{Idle};
+ghost use Rattle.bx_lone_standing.specs.Node.{Takes};
+ghost use Rattle.bx_lone_standing.specs.Standing.{Turns};
+ghost use Rattle.bx_lone_standing.specs.declared.stage.Stage.TheVariants.{Idle};
 ghost use Rattle.bx_model.specs.declared.tree.Tree.{Tree};
 
 use crate::machine::LoneMachine;
 use bx_base::{Actor, OutOfMemory};
 use bx_disk::Rack;
 use bx_facts::{FactError, Store};
-use bx_lone_node::{Acted, sync};
+use bx_lone_standing::{Acted, sync};
+use bx_lone_turns::turn;
 
 impl LoneMachine {
     /// One round at a moment in milliseconds: the disk of each member that waits finishes a sync, and then the node has its turn, in which
@@ -39,7 +40,7 @@ impl LoneMachine {
     {
         self.sync_member(bench, 0)?;
         self.sync_member(bench, 1)?;
-        let acted = self.node.turn(&mut self.store, &self.calls, moment)?;
+        let acted = turn(&mut self.node, &mut self.store, &self.calls, moment)?;
         self.node.is_whole();
         Ok(acted)
     }

@@ -4,11 +4,12 @@ ghost use Rattle.std.specs.Prelude.{◌≡◌, ◌≢◌, [], ℕ, List, IfOk, O
 ghost use Rattle.bx_disk.specs.Disks.{Disks};
 ghost use Rattle.bx_lone_machine.specs.Machine.{Holds, IsReady, calls_of, latest_of, record_of, volume_of};
 ghost use Rattle.bx_clean.specs.Tidying.{IsClean};
-ghost use Rattle.bx_lone_node.specs.declared.stage.Stage.TheVariants.{Idle};
+ghost use Rattle.bx_lone_standing.specs.declared.stage.Stage.TheVariants.{Idle};
 ghost use Rattle.bx_model.specs.declared.tree.Tree.{Tree};
 
 use crate::machine::LoneMachine;
 use bx_base::OutOfMemory;
+use bx_lone_turns::tidy;
 
 /// The one area.
 const AREA: u16 = 0;
@@ -30,7 +31,7 @@ impl LoneMachine {
         ensures holds { (disks : Disks) (tree : Tree) → Holds self.old disks tree → OnOk result (Holds self.new disks tree) }
         ensures clean { (disks : Disks) (tree : Tree) (held : Holds self.old disks tree) → IfOk result (λ is_clean. is_clean ≡ true → IsClean held.stands.stands.truth AREA) }
     {
-        let is_clean = self.node.tidy(&mut self.store, &self.calls, AREA, moment)?;
+        let is_clean = tidy(&mut self.node, &mut self.store, &self.calls, AREA, moment)?;
         self.node.is_whole();
         Ok(is_clean)
     }

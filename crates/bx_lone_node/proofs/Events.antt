@@ -7,7 +7,7 @@ use Rattle.bx_disk.specs.Disks.{Image, Disks}
 use Rattle.bx_facts.specs.Writes.{AreRuns, Asked, IsOnly, IsOver, Made, MayWrite, Sent, StorePast, store_with, writing}
 use Rattle.bx_facts.proofs.Lists.{front_or_behind, nothing}
 use Rattle.bx_global.specs.declared.state.GlobalState.{GlobalState}
-use Rattle.bx_lone_node.specs.Bare.{StandsBare}
+use Rattle.bx_lone_standing.specs.Bare.{StandsBare}
 use Rattle.bx_layout.specs.declared.block.Block.{Block}
 use Rattle.bx_model.specs.declared.tree.Tree.{Tree}
 use Rattle.bx_records.specs.Drafts.{Changed, block_in}
@@ -28,23 +28,19 @@ use Rattle.bx_views.specs.Truths.{Truth, with_draft}
 use Rattle.bx_volume.specs.Overlay.{Logs as Records, with_log}
 use Rattle.bx_volume.specs.Records.{Logged, IsLogged, logged_text, newest_in, or_older}
 use Rattle.bx_volume.proofs.Overlay.{log_here, log_there}
-use Rattle.bx_lone_node.specs.declared.stage.Recorded.{Recorded}
-use Rattle.bx_lone_node.specs.declared.stage.Stage.{Stage}
-use Rattle.bx_lone_node.specs.declared.stage.Stage.TheVariants.{Idle, Logs, Homes, Closes}
-use Rattle.bx_lone_node.specs.Node.{NodeView}
-use Rattle.bx_lone_node.specs.Runs.{IsSent, sent_by}
-use Rattle.bx_lone_node.specs.Standing.{AreOf, Finds, IsAt, IsLone, IsWriting, NodeStands, point_in}
-use Rattle.bx_lone_node.proofs.Phases.{homes_go, is_acked, landed, log_out}
+use Rattle.bx_lone_standing.specs.declared.stage.Recorded.{Recorded}
+use Rattle.bx_lone_standing.specs.declared.stage.Stage.{Stage}
+use Rattle.bx_lone_standing.specs.declared.stage.Stage.TheVariants.{Idle, Logs, Homes, Closes}
+use Rattle.bx_lone_standing.specs.Node.{NodeView}
+use Rattle.bx_lone_standing.specs.Runs.{IsSent, sent_by}
+use Rattle.bx_lone_standing.specs.Standing.{AreOf, Finds, IsAt, IsLone, IsWriting, NodeStands, point_in}
+use Rattle.bx_lone_standing.proofs.Phases.{at_rest, homes_go, is_acked, landed, log_out}
 
 -- a write may be sent while members take none
 pub may_write : (sent : List Sent) (greatest : ℕ) (s : GlobalState) (new : Sent) → sent ≡ [] → MayWrite sent greatest s new
 may_write sent greatest s new none = record {
   each = λ write d sector content other there brings also. absurd (nothing write (subst (λ (all : List Sent). Contains all write) none there));
 }
-
--- a log with nothing under way
-pub at_rest : (log : LogView) → log.work ≡ works.Idle → log.out ≡ false → log ≡ resting log
-at_rest log idle quiet = λ i. record log { work = idle i; out = quiet i }
 
 module _ (Keeps Keeps_then : Disks → StorePast → Type 0) (Standing Standing_then : Disks → StorePast → ℕ → ℕ → List ℕ → ℕ → Type 0) (Reading Reading_then : Disks → StorePast → ℕ → ℕ → List ℕ → Type 0)
     (made made_then : Made) (own own_then : Option ℕ) (out out_then : Option Sent) (asked asked_then : Option Asked) (volume : ℕ) (state : GlobalState) (x : Disks) where

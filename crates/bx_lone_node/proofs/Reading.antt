@@ -22,11 +22,11 @@ use Rattle.bx_volume.specs.Overlay.{IsHome, Home}
 use Rattle.bx_volume.specs.Records.{Logged, newest_in}
 use Rattle.bx_volume.proofs.OneTruth.{one_home}
 use Rattle.bx_volume.proofs.Sizes.{length-block_text}
-use Rattle.bx_lone_node.specs.declared.stage.Stage.TheVariants.{Idle, Reads}
-use Rattle.bx_lone_node.specs.Node.{NodeView}
-use Rattle.bx_lone_node.specs.Runs.{home_of}
-use Rattle.bx_lone_node.specs.Standing.{Finds, NodeStands}
-use Rattle.bx_lone_node.proofs.Phases.{none_only}
+use Rattle.bx_lone_standing.specs.declared.stage.Stage.TheVariants.{Idle, Reads}
+use Rattle.bx_lone_standing.specs.Node.{NodeView}
+use Rattle.bx_lone_standing.specs.Runs.{home_of}
+use Rattle.bx_lone_standing.specs.Standing.{Finds, NodeStands}
+use Rattle.bx_lone_standing.proofs.Phases.{none_only}
 
 module _ (Keeps : Disks → StorePast → Type 0) (Standing : Disks → StorePast → ℕ → ℕ → List ℕ → ℕ → Type 0) (Reading : Disks → StorePast → ℕ → ℕ → List ℕ → Type 0)
     (made : Made) (own : Option ℕ) (out : Option Sent) (asked : Option Asked) (volume : ℕ) (state : GlobalState) (x : Disks) (node : NodeView) (tree next : Tree)

@@ -1,9 +1,3 @@
-pub mod Attempts
-pub mod Node
-pub mod Runs
-pub mod Showing
-pub mod Standing
-pub mod Turning
-pub mod Bare
+pub mod Laid
 pub mod Oldest
-pub mod Tidying
+pub mod Tries

@@ -4,33 +4,29 @@ ghost use Rattle.std.specs.Prelude.{◌≡◌, ◌⊎◌, ℕ, IfOk, OnOk, None}
 ghost use Rattle.bx_disk.specs.Disks.{Disks};
 ghost use Rattle.bx_facts.specs.Disks.{NeedsNoMore};
 ghost use Rattle.bx_global.specs.declared.state.GlobalState.{GlobalState};
-ghost use Rattle.bx_cache.specs.Cached.{block_at, or_older};
-ghost use Rattle.bx_lone_node.specs.Bare.{StandsBare};
+ghost use Rattle.bx_lone_standing.specs.Bare.{StandsBare};
 ghost use Rattle.bx_model.specs.declared.tree.Tree.{Tree};
-ghost use Rattle.bx_records.specs.Drafts.{IsDraft, block_in};
 ghost use Rattle.bx_views.specs.Truths.{with_draft};
 ghost use Rattle.bx_redo.specs.Stands.{doing};
 ghost use Rattle.bx_redo.specs.Steps.{record_of};
 ghost use Rattle.bx_redo.specs.declared.work.Work.TheVariants.{Body};
 ghost use Rattle.bx_volume.specs.Records.{logged_text};
-ghost use Rattle.bx_lone_node.specs.Node.{IsJoined, IsNode, IsOfSame, IsPointOf, Takes, calls_of, unanswered};
-ghost use Rattle.bx_lone_node.specs.Runs.{AreBlocks, homes_of};
-ghost use Rattle.bx_lone_node.specs.Standing.{Goes, GoesTo, NodeStands, told as told_of};
-ghost use Rattle.bx_lone_node.specs.Turning.{Awaits};
-ghost use Rattle.bx_lone_node.specs.declared.stage.Stage.TheVariants.{Idle, Logs, Homes, Closes, Spent};
+ghost use Rattle.bx_lone_standing.specs.Node.{IsJoined, IsNode, IsOfSame, IsPointOf, Takes, calls_of, unanswered};
+ghost use Rattle.bx_lone_standing.specs.Runs.{AreBlocks, homes_of};
+ghost use Rattle.bx_lone_standing.specs.Standing.{Goes, GoesTo, NodeStands, told as told_of};
+ghost use Rattle.bx_lone_standing.specs.Turning.{Awaits};
+ghost use Rattle.bx_lone_standing.specs.declared.stage.Stage.TheVariants.{Idle, Logs, Homes, Closes, Spent};
 
-use crate::homes::home_runs;
+use crate::homes::record_on;
 use crate::node::LoneNode;
-use crate::stage::{Acted, Recorded, Stage};
-use crate::stores::send;
 use bx_base::{OutOfMemory, Point};
 use bx_facts::Store;
-use bx_records::{Draft, Runs};
-use bx_redo::Move;
+use bx_lone_standing::{Acted, Recorded, Stage, send_body, send_closing, shut_on};
+use bx_records::Draft;
 
 impl LoneNode {
     /// Begins the record of what a call changed at a point: its body goes out.
-    pub(crate) fn begin<S: Store>(
+    pub fn begin<S: Store>(
         &mut self,
         store: &mut S,
         recorded: Recorded,
@@ -50,11 +46,7 @@ impl LoneNode {
         ensures stands { (volume : ℕ) (state : GlobalState) (x : Disks) (tree next : Tree) (any : Tree) (stood : NodeStands (S.keeps store.old) (S.stands store.old) (S.will_read store.old) (S.made store.old) (S.own store.old 0) (S.out_of store.old 0) (S.asked store.old 0) volume state x self.old tree any) → StandsBare volume self.old.areas (with_draft stood.truth draft) next → OnOk result (NodeStands (S.keeps store.new) (S.stands store.new) (S.will_read store.new) (S.made store.new) (S.own store.new 0) (S.out_of store.new 0) (S.asked store.new 0) volume state x self.new tree next) }
     {
         self.stage = Stage::Spent;
-        self.log.append(point, &draft)?;
-        let Move::Write(runs) = self.log.next(None, false)? else {
-            unreachable!();
-        };
-        send(store, self.alloc, &runs)?;
+        send_body(store, self.alloc, &mut self.log, point, &draft)?;
         self.stage = Stage::Logs(recorded, draft);
         Ok(())
     }
@@ -82,36 +74,21 @@ impl LoneNode {
         ensures stands { (volume : ℕ) (state : GlobalState) (x : Disks) (tree next : Tree) → NodeStands (S.keeps store.old) (S.stands store.old) (S.will_read store.old) (S.made store.old) (S.own store.old 0) (S.out_of store.old 0) (S.asked store.old 0) volume state x (record self.old { stage = Logs recorded draft }) tree next
             → IfOk result (GoesTo (NodeStands (S.keeps store.new) (S.stands store.new) (S.will_read store.new) (S.made store.new) (S.own store.new 0) (S.out_of store.new 0) (S.asked store.new 0) volume state x self.new) (record self.old { stage = Logs recorded draft }) self.new tree next) }
     {
-        match self.log.next(None, true)? {
-            Move::Write(runs) => {
-                send(store, self.alloc, &runs)?;
-                self.stage = Stage::Logs(recorded, draft);
-                Ok(None)
-            }
-            Move::Acked(point) => {
-                let runs = self.lay(&draft)?;
-                send(store, self.alloc, &runs)?;
-                self.stage = Stage::Homes(point);
-                Ok(told(recorded, point))
-            }
-            Move::Read(_, _, _) | Move::Closed | Move::Wait => unreachable!(),
-        }
-    }
-
-    /// The blocks of a record that is open are what the volume has: they are laid over what was read. The runs write them home.
-    fn lay(&mut self, draft: &Draft) -> Result<Runs, OutOfMemory>
-        requires blocks { AreBlocks self.old.areas draft.now }
-        requires spent { self.old.stage ≡ Spent }
-        ensures runs { IfOk result (λ runs. runs ≡ (16, homes_of self.old.devices draft.now)) }
-        ensures blocks { OnOk result ((at : ℕ) → block_at self.new.cache at ≡ or_older (block_in draft.now at) (block_at self.old.cache at)) }
-        ensures same { IsOfSame self.old self.new }
-        ensures node { OnOk result (self.new ≡ record self.old { cache = self.new.cache }) }
-        ensures queue { self.new.queue ≡ self.old.queue }
-        ensures draft { OnOk result (IsDraft draft.now) }
-    {
-        let runs = home_runs(self.alloc, self.devices, self.areas, draft.blocks())?;
-        self.cache.lay_over(self.alloc, draft.blocks())?;
-        Ok(runs)
+        let opened = record_on(
+            store,
+            self.alloc,
+            self.devices,
+            self.areas,
+            &mut self.log,
+            &mut self.cache,
+            &draft,
+        )?;
+        let Some(point) = opened else {
+            self.stage = Stage::Logs(recorded, draft);
+            return Ok(None);
+        };
+        self.stage = Stage::Homes(point);
+        Ok(told(recorded, point))
     }
 
     /// The blocks of the record are home: the log is closed, gate 0 first.
@@ -133,11 +110,7 @@ impl LoneNode {
         ensures awaits { OnOk result (Awaits self.new.stage (S.out_of store.new 0) (S.answer store.new 0)) }
         ensures stands { (volume : ℕ) (state : GlobalState) (x : Disks) (tree next : Tree) → NodeStands (S.keeps store.old) (S.stands store.old) (S.will_read store.old) (S.made store.old) (S.own store.old 0) (S.out_of store.old 0) (S.asked store.old 0) volume state x (record self.old { stage = Homes point }) tree next → OnOk result (NodeStands (S.keeps store.new) (S.stands store.new) (S.will_read store.new) (S.made store.new) (S.own store.new 0) (S.out_of store.new 0) (S.asked store.new 0) volume state x self.new tree next) }
     {
-        self.log.close();
-        let Move::Write(runs) = self.log.next(None, false)? else {
-            unreachable!();
-        };
-        send(store, self.alloc, &runs)?;
+        send_closing(store, self.alloc, &mut self.log)?;
         self.stage = Stage::Closes(point);
         Ok(())
     }
@@ -161,18 +134,13 @@ impl LoneNode {
         ensures awaits { OnOk result (Awaits self.new.stage (S.out_of store.new 0) (S.answer store.new 0)) }
         ensures stands { (volume : ℕ) (state : GlobalState) (x : Disks) (tree next : Tree) → NodeStands (S.keeps store.old) (S.stands store.old) (S.will_read store.old) (S.made store.old) (S.own store.old 0) (S.out_of store.old 0) (S.asked store.old 0) volume state x (record self.old { stage = Closes point }) tree next → OnOk result (NodeStands (S.keeps store.new) (S.stands store.new) (S.will_read store.new) (S.made store.new) (S.own store.new 0) (S.out_of store.new 0) (S.asked store.new 0) volume state x self.new tree next) }
     {
-        match self.log.next(None, true)? {
-            Move::Write(runs) => {
-                send(store, self.alloc, &runs)?;
-                self.stage = Stage::Closes(point);
-                Ok(())
-            }
-            Move::Closed => {
-                self.stage = Stage::Idle;
-                Ok(())
-            }
-            Move::Read(_, _, _) | Move::Acked(_) | Move::Wait => unreachable!(),
+        let is_closed = shut_on(store, self.alloc, &mut self.log)?;
+        if is_closed {
+            self.stage = Stage::Idle;
+            return Ok(());
         }
+        self.stage = Stage::Closes(point);
+        Ok(())
     }
 }
 

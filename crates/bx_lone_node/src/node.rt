@@ -1,6 +1,6 @@
 //! The node.
 
-ghost use Rattle.std.specs.Prelude.{◌≡◌, ◌≢◌, ◌==◌, ◌++◌, ◌∷◌, [], ℕ, IfOk, OnOk, OnErr, IsTrue, ◌↔◌, ◌≤◌, Contains, None};
+ghost use Rattle.std.specs.Prelude.{◌≡◌, ◌≢◌, ◌==◌, ◌++◌, ◌∷◌, [], ℕ, IfOk, OnOk, OnErr, IsTrue, ◌↔◌, None};
 ghost use Rattle.std.specs.List.{list_any};
 ghost use Rattle.bx_disk.specs.Disks.{Disks};
 ghost use Rattle.bx_facts.specs.Disks.{NeedsNoMore};
@@ -8,12 +8,10 @@ ghost use Rattle.bx_global.specs.declared.state.GlobalState.{GlobalState};
 ghost use Rattle.bx_model.specs.declared.tree.Tree.{Tree};
 ghost use Rattle.bx_places.specs.Places.{IsVolume};
 
-use crate::procedures::Procedures;
-use crate::stage::{Acted, Recorded, Stage, Waiting};
-use crate::stores::NODE;
 use bx_base::{CallNo, OutOfMemory};
 use bx_cache::Cache;
 use bx_facts::Store;
+use bx_lone_standing::{Acted, NODE, Recorded, Stage, Waiting};
 use bx_redo::Log;
 use std::alloc::Global;
 use std::collections::VecDeque;
@@ -34,7 +32,7 @@ pub struct LoneNode {
 }
 
 impl Model for LoneNode {
-    ghost use Rattle.bx_lone_node.specs.Node.{IsNode, NodeView};
+    ghost use Rattle.bx_lone_standing.specs.Node.{IsNode, NodeView};
 
     ghost Value = { NodeView };
 
@@ -46,12 +44,12 @@ impl Model for LoneNode {
 impl LoneNode {
     ghost use Rattle.bx_cache.specs.Cached.{block_at};
     ghost use Rattle.bx_redo.specs.Steps.{closed_log};
-    ghost use Rattle.bx_lone_node.specs.Node.{IsJoined, IsNode, IsOfSame, IsUsed, Takes, calls_of, is_of_call};
+    ghost use Rattle.bx_lone_standing.specs.Node.{IsJoined, IsNode, IsOfSame, IsUsed, Takes, calls_of, is_of_call};
     ghost use Rattle.bx_lone_node.specs.Oldest.{oldest_of};
-    ghost use Rattle.bx_lone_node.specs.Standing.{Goes, GoesTo, NodeStands, StandsFor, Turns};
-    ghost use Rattle.bx_lone_node.specs.Turning.{Awaits, IsOfMoment};
-    ghost use Rattle.bx_lone_node.specs.declared.stage.Waiting.{Waiting};
-    ghost use Rattle.bx_lone_node.specs.declared.stage.Stage.TheVariants.{Idle, Reads};
+    ghost use Rattle.bx_lone_standing.specs.Standing.{Goes, GoesTo, NodeStands};
+    ghost use Rattle.bx_lone_standing.specs.Turning.{Awaits};
+    ghost use Rattle.bx_lone_standing.specs.declared.stage.Waiting.{Waiting};
+    ghost use Rattle.bx_lone_standing.specs.declared.stage.Stage.TheVariants.{Idle, Reads};
 
     /// A node of a volume of so many devices (1 to 4) and areas (1 to 64), whose logs are closed. No call waits, and nothing was
     /// read yet. It takes no memory.
@@ -160,48 +158,34 @@ impl LoneNode {
         Some(call.number)
     }
 
-    /// Does what can be done without the disks, at a moment in milliseconds: goes on with what the store has done, and attempts the
-    /// call at the head where nothing is under way. At most one call is answered, the oldest; `None` where none is. For want of memory neither
-    /// the node nor the store is used again.
-    pub fn turn<S: Store, E: Procedures>(
-        &mut self,
-        store: &mut S,
-        engine: &E,
-        moment: u64,
-    ) -> Result<Option<Acted>, OutOfMemory>
-        requires joined { IsJoined self.old (S.made store.old) (S.own store.old 0) (S.out_of store.old 0) (S.asked store.old 0) }
-        requires areas { E.areas engine.now ≡ self.old.areas }
-        requires taken { (call : Waiting) → Contains self.old.queue call → E.takes engine.now call.datagram }
-        requires moment { moment ≤ 4294967295999 }
-        ensures takes { IfOk result (λ acted. Takes acted (calls_of self.old) (calls_of self.new)) }
-        ensures queue { OnOk result ((call : Waiting) → Contains self.new.queue call → Contains self.old.queue call) }
-        ensures same { IsOfSame self.old self.new }
-        ensures joined { OnOk result (IsJoined self.new (S.made store.new) (S.own store.new 0) (S.out_of store.new 0) (S.asked store.new 0)) }
-        ensures needs { NeedsNoMore (S.needs store.old) (S.needs store.new) }
-        ensures made { S.made store.new ≡ S.made store.old }
-        ensures moments { IfOk result (λ acted. IsOfMoment moment self.old self.new acted) }
-        ensures awaits { IsUsed self.old.stage → OnOk result (Awaits self.new.stage (S.out_of store.new 0) (S.answer store.new 0)) }
-        ensures tries { IsUsed self.old.stage → IfOk result (λ acted. self.new.stage ≡ Idle → acted ≡ None → self.new.queue ≡ []) }
-        ensures stands { (state : GlobalState) (x : Disks) (tree : Tree) (volume : ℕ) → volume ≡ E.volume engine.now
-            → StandsFor (E.step engine.now) (NodeStands (S.keeps store.old) (S.stands store.old) (S.will_read store.old) (S.made store.old) (S.own store.old 0) (S.out_of store.old 0) (S.asked store.old 0) volume state x self.old) self.old tree
-            → IfOk result (Turns (E.step engine.now) (StandsFor (E.step engine.now) (NodeStands (S.keeps store.new) (S.stands store.new) (S.will_read store.new) (S.made store.new) (S.own store.new 0) (S.out_of store.new 0) (S.asked store.new 0) volume state x self.new) self.new) (calls_of self.old) (calls_of self.new) tree) }
+    /// Takes the call at the head off those that weren't begun.
+    pub fn take_first(&mut self) -> Waiting
+        requires waits { self.old.queue ≢ [] }
+        ensures oldest { self.old.queue ≡ result ∷ self.new.queue }
+        ensures node { self.new ≡ record self.old { queue = self.new.queue } }
     {
-        let acted = self.go_on(store)?;
-        if acted.is_some() || !self.is_idle() {
-            return Ok(acted);
-        }
-        self.attempt(store, engine, moment)
+        let Some(call) = self.queue.pop_front() else {
+            unreachable!();
+        };
+        call
+    }
+
+    /// Whether nothing is under way and no call waits.
+    pub fn is_free(&self) -> bool
+        ensures { IsTrue result ↔ ((self.now.stage ≡ Idle) × (self.now.queue ≡ [])) }
+    {
+        self.is_idle() && self.queue.is_empty()
     }
 
     /// Whether nothing is under way.
-    pub(crate) fn is_idle(&self) -> bool
+    pub fn is_idle(&self) -> bool
         ensures { IsTrue result ↔ (self.now.stage ≡ Idle) }
     {
         matches!(self.stage, Stage::Idle)
     }
 
     /// Goes on with what is under way, where the store has done what it was asked for.
-    fn go_on<S: Store>(&mut self, store: &mut S) -> Result<Option<Acted>, OutOfMemory>
+    pub fn go_on<S: Store>(&mut self, store: &mut S) -> Result<Option<Acted>, OutOfMemory>
         requires joined { IsJoined self.old (S.made store.old) (S.own store.old 0) (S.out_of store.old 0) (S.asked store.old 0) }
         ensures takes { IfOk result (λ acted. Takes acted (calls_of self.old) (calls_of self.new)) }
         ensures queue { self.new.queue ≡ self.old.queue }

@@ -2,7 +2,7 @@
 
 ghost use Rattle.std.specs.Prelude.{◌≡◌, ℕ, ◌<◌, ◌≤◌, List, IfOk};
 ghost use Rattle.bx_base.specs.declared.names.Mode.{Mode};
-ghost use Rattle.bx_lone_node.specs.Bare.{StandsBare};
+ghost use Rattle.bx_lone_standing.specs.Bare.{StandsBare};
 ghost use Rattle.bx_model.specs.declared.tree.Tree.{Tree};
 ghost use Rattle.bx_views.specs.Attempts.{Deed, Gives, IsFair, Tidies};
 ghost use Rattle.bx_views.specs.Truths.{Held, IsTruth, Truth, no_hints};

@@ -9,22 +9,23 @@ ghost use Rattle.bx_layout.specs.Blocks.{SpellsBlock};
 ghost use Rattle.bx_layout.specs.declared.block.Block.{Block};
 ghost use Rattle.bx_model.specs.declared.tree.Tree.{Tree};
 ghost use Rattle.bx_places.specs.Places.{IsBlock};
-ghost use Rattle.bx_lone_node.specs.Node.{IsJoined, IsNode, IsOfSame};
-ghost use Rattle.bx_lone_node.specs.Standing.{NodeStands};
-ghost use Rattle.bx_lone_node.specs.Turning.{Awaits};
-ghost use Rattle.bx_lone_node.specs.declared.stage.Stage.TheVariants.{Idle, Reads};
+ghost use Rattle.bx_lone_standing.specs.Node.{IsJoined, IsNode, IsOfSame};
+ghost use Rattle.bx_lone_standing.specs.Standing.{NodeStands};
+ghost use Rattle.bx_lone_standing.specs.Turning.{Awaits};
+ghost use Rattle.bx_lone_standing.specs.declared.stage.Stage.TheVariants.{Idle, Reads};
 
 use crate::node::LoneNode;
-use crate::stage::Stage;
-use crate::stores::NODE;
 use bx_base::{OutOfMemory, Raw};
+use bx_cache::Cache;
 use bx_facts::{Outbox, Store};
 use bx_layout::Block;
+use bx_lone_standing::{NODE, Stage};
 use bx_places::{BLOCK_SECTORS, place};
+use std::alloc::Global;
 
 impl LoneNode {
     /// Asks for the home of a block.
-    pub(crate) fn ask<S: Store>(&mut self, store: &mut S, at: u64) -> Result<(), OutOfMemory>
+    pub fn ask<S: Store>(&mut self, store: &mut S, at: u64) -> Result<(), OutOfMemory>
         requires joined { IsJoined self.old (S.made store.old) (S.own store.old 0) (S.out_of store.old 0) (S.asked store.old 0) }
         requires idle { self.old.stage ≡ Idle }
         requires block { IsBlock self.old.areas at }
@@ -72,13 +73,19 @@ impl LoneNode {
         ensures same { IsOfSame self.old self.new }
         ensures cache { (other : ℕ) (block : Block) → block_at self.new.cache other ≡ Some block → OnOk result ((block_at self.old.cache other ≡ Some block) ⊎ ((other ≡ at) × SpellsBlock block bytes.now)) }
     {
-        let Some(block) = Block::read(self.alloc, bytes.bytes())? else {
-            self.stage = Stage::Idle;
-            return Ok(());
-        };
         self.stage = Stage::Spent;
-        self.cache.put(at, block)?;
+        take_in(self.alloc, &mut self.cache, at, bytes)?;
         self.stage = Stage::Idle;
         Ok(())
     }
+}
+
+/// Puts the block that bytes spell into a cache. Bytes that are no block are let go.
+fn take_in(alloc: Global, cache: &mut Cache, at: u64, bytes: &Raw) -> Result<(), OutOfMemory>
+    ensures { (other : ℕ) (block : Block) → block_at cache.new other ≡ Some block → OnOk result ((block_at cache.old other ≡ Some block) ⊎ ((other ≡ at) × SpellsBlock block bytes.now)) }
+{
+    if let Some(block) = Block::read(alloc, bytes.bytes())? {
+        cache.put(at, block)?;
+    }
+    Ok(())
 }

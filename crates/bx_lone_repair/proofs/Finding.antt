@@ -7,7 +7,7 @@ use Rattle.bx_disk.specs.Disks.{Disks, Image}
 use Rattle.bx_facts.specs.Writes.{IsSettled}
 use Rattle.bx_facts.proofs.Lists.{behind, front, front_or_behind, nothing}
 use Rattle.bx_global.specs.Opening.{opening_state}
-use Rattle.bx_lone_node.specs.Standing.{point_in}
+use Rattle.bx_lone_standing.specs.Standing.{point_in}
 use Rattle.bx_model.specs.declared.tree.Tree.{Tree}
 use Rattle.bx_redo.specs.Stands.{IsFound}
 use Rattle.bx_views.specs.Truths.{Truth}

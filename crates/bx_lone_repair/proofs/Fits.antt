@@ -6,7 +6,7 @@ use Rattle.bx_plain_store.specs.Out.{IsFitting}
 use Rattle.bx_records.specs.declared.runs.Run.{Run}
 use Rattle.bx_redo.specs.Steps.{writes}
 use Rattle.bx_redo.specs.declared.work.Work.TheVariants.{Closes, Shuts}
-use Rattle.bx_lone_node.proofs.Fitting.{log_fits}
+use Rattle.bx_lone_standing.proofs.Fitting.{log_fits}
 use Rattle.bx_lone_repair.specs.Bench.{AreLong, made_for}
 use Rattle.bx_lone_repair.specs.Resting.{closes_log, shuts_log}
 use Rattle.bx_lone_repair.proofs.OpenLogs.{many_disks}

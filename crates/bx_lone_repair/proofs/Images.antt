@@ -5,7 +5,7 @@ use Rattle.bx_disk.specs.Disks.{Disks, Image, IsImage}
 use Rattle.bx_facts.specs.Writes.{IsSourceIn, IsSourceRow, label_on, member_disk}
 use Rattle.bx_global.specs.Opening.{opening_state}
 use Rattle.bx_layout.specs.Labels.{SpellsLabel}
-use Rattle.bx_lone_node.specs.Bare.{StandsBare}
+use Rattle.bx_lone_standing.specs.Bare.{StandsBare}
 use Rattle.bx_lone_repair.specs.Bench.{IsLabelled as AreLabelled, first_label, made_for}
 use Rattle.bx_model.specs.declared.tree.Tree.{Tree}
 use Rattle.bx_redo.proofs.Settled.{one_disk}

@@ -5,7 +5,7 @@ use Rattle.bx_base.specs.declared.names.Point.{Point}
 use Rattle.bx_disk.specs.Disks.{Disks}
 use Rattle.bx_facts.specs.Writes.{IsSettled}
 use Rattle.bx_global.specs.Opening.{opening_state}
-use Rattle.bx_lone_node.specs.Standing.{IsAt}
+use Rattle.bx_lone_standing.specs.Standing.{IsAt}
 use Rattle.bx_model.specs.declared.tree.Tree.{Tree}
 use Rattle.bx_redo.specs.Steps.{found_log}
 use Rattle.bx_redo.specs.View.{LogView}

@@ -7,8 +7,8 @@ use Rattle.bx_facts.specs.Writes.{IsSettled}
 use Rattle.bx_global.specs.Opening.{opening_state}
 use Rattle.bx_layout.specs.declared.block.Block.{Block}
 use Rattle.bx_layout.specs.Blocks.{HasParts}
-use Rattle.bx_lone_node.specs.Standing.{point_in}
-use Rattle.bx_lone_node.proofs.Fitting.{of_areas}
+use Rattle.bx_lone_standing.specs.Standing.{point_in}
+use Rattle.bx_lone_standing.proofs.Fitting.{of_areas}
 use Rattle.bx_logs.specs.Logs.{AreLogs, HaveNoLogs, log_in, points_in}
 use Rattle.bx_logs.specs.Members.{AreThere, disk_of, held_by}
 use Rattle.bx_logs.specs.Newest.{AreNewest, Newest}

@@ -7,8 +7,8 @@ use Rattle.bx_facts.specs.Writes.{IsDone, IsOnly, IsSettled, IsSourceIn, Sent, m
 use Rattle.bx_facts.proofs.Lists.{front_or_behind, nothing}
 use Rattle.bx_global.specs.Opening.{opening_state}
 use Rattle.bx_layout.specs.Labels.{IsOpenGate}
-use Rattle.bx_lone_node.specs.Bare.{StandsBare}
-use Rattle.bx_lone_node.specs.Standing.{IsAt}
+use Rattle.bx_lone_standing.specs.Bare.{StandsBare}
+use Rattle.bx_lone_standing.specs.Standing.{IsAt}
 use Rattle.bx_model.specs.declared.tree.Tree.{Tree}
 use Rattle.bx_places.specs.Places.{block_place, log_device, log_start}
 use Rattle.bx_rows.specs.Words.{is_taken}

@@ -6,8 +6,8 @@ use Rattle.bx_base.specs.declared.names.Point.{Point}
 use Rattle.bx_disk.specs.Disks.{Disks, Image, IsImage}
 use Rattle.bx_facts.proofs.Lists.{behind, front}
 use Rattle.bx_global.specs.Opening.{opening_state}
-use Rattle.bx_lone_node.specs.Bare.{StandsBare}
-use Rattle.bx_lone_node.specs.Standing.{IsAt, point_in}
+use Rattle.bx_lone_standing.specs.Bare.{StandsBare}
+use Rattle.bx_lone_standing.specs.Standing.{IsAt, point_in}
 use Rattle.bx_lone_repair.specs.Left.{Doubt, IsLeft, IsOfDoubt}
 use Rattle.bx_lone_repair.specs.Shown.{Shows}
 use Rattle.bx_lone_repair.proofs.Images.{shows_tree}

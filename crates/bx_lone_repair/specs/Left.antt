@@ -5,10 +5,10 @@ use Rattle.bx_disk.specs.Disks.{Disks, Image}
 use Rattle.bx_steps.specs.Steps.{Step}
 use Rattle.bx_facts.specs.Writes.{IsSettled}
 use Rattle.bx_global.specs.Opening.{opening_state}
-use Rattle.bx_lone_node.specs.Bare.{StandsBare}
-use Rattle.bx_lone_node.specs.Node.{deed_of}
-use Rattle.bx_lone_node.specs.Standing.{IsAt, point_in}
-use Rattle.bx_lone_node.specs.declared.stage.Waiting.{Waiting}
+use Rattle.bx_lone_standing.specs.Bare.{StandsBare}
+use Rattle.bx_lone_standing.specs.Node.{deed_of}
+use Rattle.bx_lone_standing.specs.Standing.{IsAt, point_in}
+use Rattle.bx_lone_standing.specs.declared.stage.Waiting.{Waiting}
 use Rattle.bx_model.specs.declared.tree.Tree.{Tree}
 use Rattle.bx_redo.specs.Stands.{LogStands}
 use Rattle.bx_redo.specs.Steps.{closed_log}

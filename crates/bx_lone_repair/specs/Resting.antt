@@ -4,8 +4,8 @@ use Rattle.bx_base.specs.declared.names.Point.{Point}
 use Rattle.bx_disk.specs.Disks.{Disks, Image}
 use Rattle.bx_facts.specs.Writes.{IsSettled}
 use Rattle.bx_global.specs.Opening.{opening_state}
-use Rattle.bx_lone_node.specs.Bare.{StandsBare}
-use Rattle.bx_lone_node.specs.Standing.{point_in}
+use Rattle.bx_lone_standing.specs.Bare.{StandsBare}
+use Rattle.bx_lone_standing.specs.Standing.{point_in}
 use Rattle.bx_logs.specs.Newest.{Newest, newest_at}
 use Rattle.bx_model.specs.declared.tree.Tree.{Tree}
 use Rattle.bx_redo.specs.Stands.{AreClosed, AreHome, IsFound, LogStands}

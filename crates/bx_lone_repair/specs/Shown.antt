@@ -3,7 +3,7 @@ use Rattle.std.specs.Prelude.{◌≡◌, ◌≢◌, ◌⊎◌, ℕ, ◌<◌, nat
 use Rattle.bx_base.specs.declared.names.Point.{Point}
 use Rattle.bx_disk.specs.Disks.{Image}
 use Rattle.bx_global.specs.Opening.{opening_state}
-use Rattle.bx_lone_node.specs.Standing.{point_in}
+use Rattle.bx_lone_standing.specs.Standing.{point_in}
 use Rattle.bx_model.specs.declared.tree.Tree.{Tree}
 use Rattle.bx_volume.specs.Images.{ShowsTree, devices_of}
 use Rattle.bx_volume.specs.Overlay.{Logs as Records}

@@ -8,7 +8,7 @@ use Rattle.bx_lone_machine.specs.declared.machine.LoneMachine.{LoneMachine}
 use Rattle.bx_lone_machine.proofs.Arrivals.{messages_more}
 use Rattle.bx_lone_machine.proofs.Rising.{rising_more}
 use Rattle.bx_facts.proofs.Lists.{behind}
-use Rattle.bx_lone_node.specs.declared.stage.Waiting.{Waiting}
+use Rattle.bx_lone_standing.specs.declared.stage.Waiting.{Waiting}
 use Rattle.bx_rpc.specs.Message.{is_message}
 use Rattle.bx_lone_service.specs.Calls.{taking_of}
 use Rattle.bx_lone_service.specs.Stages.{AreQueued, latest_in}

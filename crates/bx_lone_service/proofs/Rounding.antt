@@ -10,10 +10,10 @@ use Rattle.bx_lone_machine.specs.Machine as machines
 use Rattle.bx_lone_machine.specs.Rounds.{IsOfRound}
 use Rattle.bx_lone_machine.specs.declared.machine.LoneMachine.{LoneMachine}
 use Rattle.bx_lone_machine.proofs.Stopping.{doubted, oldest_in}
-use Rattle.bx_lone_node.specs.Node.{Takes}
-use Rattle.bx_lone_node.specs.Standing.{HasActed}
-use Rattle.bx_lone_node.specs.declared.stage.Acted as nodes
-use Rattle.bx_lone_node.specs.declared.stage.Waiting.{Waiting}
+use Rattle.bx_lone_standing.specs.Node.{Takes}
+use Rattle.bx_lone_standing.specs.Standing.{HasActed}
+use Rattle.bx_lone_standing.specs.declared.stage.Acted as nodes
+use Rattle.bx_lone_standing.specs.declared.stage.Waiting.{Waiting}
 use Rattle.bx_lone_repair.specs.Left as lefts
 use Rattle.bx_lone_repair.specs.Recovering.{IsFoundOpen}
 use Rattle.bx_model.specs.declared.tree.Tree.{Tree}

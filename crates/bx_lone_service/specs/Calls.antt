@@ -1,6 +1,6 @@
 -- The calls that wait at the node, as calls of a history.
 use Rattle.bx_history.specs.Trace.{Taking}
-use Rattle.bx_lone_node.specs.declared.stage.Waiting.{Waiting}
+use Rattle.bx_lone_standing.specs.declared.stage.Waiting.{Waiting}
 
 -- a call that waits, as one that was taken
 abbrev pub taking_of : Waiting → Taking

@@ -6,7 +6,7 @@ use Rattle.bx_history.specs.Trace.{Taking}
 use Rattle.bx_lone_machine.specs.Machine as machines
 use Rattle.bx_lone_machine.specs.Machine.{Holds, calls_of, doubt_of, floor_of, volume_of}
 use Rattle.bx_lone_machine.specs.declared.machine.LoneMachine.{LoneMachine}
-use Rattle.bx_lone_node.specs.declared.stage.Waiting.{Waiting}
+use Rattle.bx_lone_standing.specs.declared.stage.Waiting.{Waiting}
 use Rattle.bx_lone_repair.specs.Bench.{AreLong}
 use Rattle.bx_lone_repair.specs.Left as lefts
 use Rattle.bx_model.specs.declared.tree.Tree.{Tree}

@@ -1,6 +1,6 @@
 use Rattle.std.proofs.Common.{List, [], ◌∷◌, ◌++◌, ◌∙◌, ap, sym, arith, ◌<◌, length}
 use Rattle.bx_records.specs.declared.runs.Run.{Run}
-use Rattle.bx_lone_node.proofs.Fitting.{one_home_more}
+use Rattle.bx_lone_standing.proofs.Fitting.{one_home_more}
 use Rattle.bx_lone_node.proofs.homes.home_runs.Goals as goal
 
 pub loop-at-preserved : goal.loop-at-preserved

@@ -1,5 +1,5 @@
 use Rattle.std.proofs.Common.{◌≡◌, take}
-use Rattle.bx_lone_node.specs.Runs.{homes_of}
+use Rattle.bx_lone_standing.specs.Runs.{homes_of}
 use Rattle.bx_lone_node.proofs.homes.home_runs.Given as goal
 
 abbrev pub invariant-loop-at : goal.invariant-loop-at

@@ -1,7 +1,7 @@
 use Rattle.std.proofs.Common.{◌≡◌, refl, ℕ, arith, List, [], ◌∷◌, length, reverse, ap, ◌∙◌, subst}
 use Rattle.std.proofs.lemmas.List.{length-map, length-reverse}
 use Rattle.bx_disk.specs.Disks.{Disks}
-use Rattle.bx_lone_node.specs.Standing.{point_in}
+use Rattle.bx_lone_standing.specs.Standing.{point_in}
 use Rattle.bx_model.specs.declared.tree.Tree.{Tree}
 use Rattle.bx_volume.specs.Records.{Logged}
 use Rattle.bx_lone_repair.specs.Left.{IsLeft}

@@ -2,7 +2,7 @@ use Rattle.std.proofs.Common.{◌≡◌, ⊎_elim, inl, inr, refl, ℕ, ◌<◌,
 use Rattle.std.specs.Prelude.{slice_get}
 use Rattle.std.proofs.lemmas.List.{length-map, length-reverse}
 use Rattle.bx_disk.specs.declared.fault.RackError.TheVariants.{Fault}
-use Rattle.bx_lone_node.specs.Standing.{point_in}
+use Rattle.bx_lone_standing.specs.Standing.{point_in}
 use Rattle.bx_logs.specs.Newest.{Newest, newest_at}
 use Rattle.bx_volume.specs.Records.{Logged, newest_in}
 use Rattle.bx_lone_repair.specs.HomesOf.{HasNone}

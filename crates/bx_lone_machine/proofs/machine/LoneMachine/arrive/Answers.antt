@@ -1,11 +1,11 @@
 use Rattle.std.proofs.Common.{◌≡◌, true, refl, [], ◌∷◌, ◌++◌, Contains, sym, subst}
 use Rattle.bx_steps.specs.Steps.{Step}
 use Rattle.bx_global.specs.Opening.{opening_state}
-use Rattle.bx_lone_node.specs.Node.{IsJoined, IsUsed, NodeView, unanswered}
-use Rattle.bx_lone_node.specs.Standing.{NodeStands, StandsFor}
+use Rattle.bx_lone_standing.specs.Node.{IsJoined, IsUsed, NodeView, unanswered}
+use Rattle.bx_lone_standing.specs.Standing.{NodeStands, StandsFor}
 use Rattle.bx_plain_store.specs.Out.{at, out_at}
 use Rattle.bx_lone_store.specs.Parts.{asked_at}
-use Rattle.bx_lone_node.specs.declared.stage.Waiting.{Waiting}
+use Rattle.bx_lone_standing.specs.declared.stage.Waiting.{Waiting}
 use Rattle.bx_model.specs.declared.tree.Tree.{Tree}
 use Rattle.bx_rpc.specs.Message.{is_message}
 use Rattle.bx_lone_machine.specs.Machine.{AreRising, call_past, store_keeps, store_made, store_reads, store_stands}

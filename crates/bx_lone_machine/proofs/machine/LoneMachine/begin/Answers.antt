@@ -1,7 +1,7 @@
 use Rattle.std.proofs.Common.{refl, arith}
 use Rattle.bx_engine.proofs.Hinting.{opening_fit}
 use Rattle.bx_global.specs.Opening.{opening_state}
-use Rattle.bx_lone_node.specs.Bare.{StandsBare}
+use Rattle.bx_lone_standing.specs.Bare.{StandsBare}
 use Rattle.bx_layout.specs.Labels.{IsLabel}
 use Rattle.bx_model.specs.Opening.{opening}
 use Rattle.bx_truth.specs.Opening.{opening_truth}

@@ -1,6 +1,6 @@
 use Rattle.std.proofs.Common.{◌≡◌, ◌≢◌, refl, ℕ, zero, suc, ◌≤◌, arith, Bool, true, false, List, [], ◌∷◌, IsTrue, subst}
 use Rattle.std.specs.Prelude.{not, ◌||◌}
-use Rattle.bx_lone_node.specs.declared.stage.Waiting.{Waiting}
+use Rattle.bx_lone_standing.specs.declared.stage.Waiting.{Waiting}
 use Rattle.bx_lone_machine.specs.Machine.{calls_of, member_waits}
 use Rattle.bx_lone_machine.specs.declared.machine.LoneMachine.{LoneMachine}
 use Rattle.bx_lone_machine.proofs.machine.LoneMachine.is_quiet.Goals as goal

@@ -6,7 +6,7 @@ use Rattle.bx_facts.specs.Writes.{opening_store, store_heard, store_with}
 use Rattle.bx_facts.specs.declared.input.Input.TheVariants.{Tick}
 use Rattle.bx_global.specs.Opening.{opening_state}
 use Rattle.bx_global.specs.declared.state.GlobalState.{GlobalState}
-use Rattle.bx_lone_node.proofs.Tried.{none_doing}
+use Rattle.bx_lone_turns.proofs.Tried.{none_doing}
 use Rattle.bx_lone_store.specs.Growing.{keeps_new}
 use Rattle.bx_plain_store.specs.Out.{at, out_in}
 use Rattle.bx_lone_machine.specs.Machine.{store_keeps, store_made, store_reads}

@@ -1,10 +1,10 @@
 use Rattle.std.proofs.Common.{ap, ◌≡◌, refl, ◌∙◌, subst}
 use Rattle.bx_steps.specs.Steps.{Step}
 use Rattle.bx_global.specs.Opening.{opening_state}
-use Rattle.bx_lone_node.specs.Node.{NodeView, calls_of as node_calls, unanswered}
-use Rattle.bx_lone_node.specs.declared.stage.Stage.{Stage}
-use Rattle.bx_lone_node.specs.Standing.{NodeStands, StandsFor, Turns}
-use Rattle.bx_lone_node.specs.Turning.{IsOfMoment}
+use Rattle.bx_lone_standing.specs.Node.{NodeView, calls_of as node_calls, unanswered}
+use Rattle.bx_lone_standing.specs.declared.stage.Stage.{Stage}
+use Rattle.bx_lone_standing.specs.Standing.{NodeStands, StandsFor, Turns}
+use Rattle.bx_lone_standing.specs.Turning.{IsOfMoment}
 use Rattle.bx_lone_store.specs.Parts.{asked_at}
 use Rattle.bx_model.specs.declared.tree.Tree.{Tree}
 use Rattle.bx_plain_store.specs.Out.{at, out_at}
@@ -17,7 +17,7 @@ use Rattle.bx_lone_machine.proofs.machine.LoneMachine.round.Goals as goal
 pub returns-clause-ready : goal.returns-clause-ready
 returns-clause-ready g c =
     let mid = c.sync_member-2.new.self in
-    let node = c.turn.new.self in
+    let node = c.turn.new.node in
     let store = c.turn.new.store in
     let ready = c.in_ok-sync_member-2.ensures.ready in
     let said = c.in_ok-acted.ensures in
@@ -39,14 +39,14 @@ pub returns-clause-moments : goal.returns-clause-moments
 returns-clause-moments g c =
     let mid = c.sync_member-2.new.self in
     let same : mid.node ≡ c.args.self.now.node = c.in_ok-sync_member-2.ensures.node ∙ c.in_ok-sync_member.ensures.node in
-    of_round c.args.moment c.args.self.now.node c.turn.new.self c.in_ok-acted.acted
-    (subst (λ (n : NodeView). IsOfMoment c.args.moment n c.turn.new.self c.in_ok-acted.acted) same c.in_ok-acted.ensures.moments)
+    of_round c.args.moment c.args.self.now.node c.turn.new.node c.in_ok-acted.acted
+    (subst (λ (n : NodeView). IsOfMoment c.args.moment n c.turn.new.node c.in_ok-acted.acted) same c.in_ok-acted.ensures.moments)
 
 pub returns-clause-holds : goal.returns-clause-holds
 returns-clause-holds g c = λ tree tells holds.
     let one = c.sync_member.new.self in
     let mid = c.sync_member-2.new.self in
-    let node = c.turn.new.self in
+    let node = c.turn.new.node in
     let store = c.turn.new.store in
     let y = g.B.Rack.state c.sync_member-2.new.bench in
     let first = c.in_ok-sync_member.ensures.holds tree tells holds in
@@ -61,6 +61,6 @@ returns-clause-holds g c = λ tree tells holds.
 
 pub returns-clause-tries : goal.returns-clause-tries
 returns-clause-tries g c = λ idle none.
-    let node = c.turn.new.self in
+    let node = c.turn.new.node in
     let ready = c.in_ok-sync_member-2.ensures.ready in
     ap (λ (s : Stage). unanswered s node.queue) idle ∙ c.in_ok-acted.ensures.tries ready.used idle none

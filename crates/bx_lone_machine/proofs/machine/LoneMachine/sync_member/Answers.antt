@@ -1,6 +1,6 @@
 use Rattle.std.proofs.Common.{Err, sym, ap, subst}
 use Rattle.bx_global.specs.declared.state.GlobalState.{GlobalState}
-use Rattle.bx_lone_node.specs.Standing.{NodeStands}
+use Rattle.bx_lone_standing.specs.Standing.{NodeStands}
 use Rattle.bx_lone_store.specs.Parts.{asked_at}
 use Rattle.bx_lone_store.specs.declared.store.PlainStore.{PlainStore}
 use Rattle.bx_disk.specs.Disks.{Disks}

@@ -8,7 +8,7 @@ use Rattle.bx_lone_machine.proofs.machine.LoneMachine.tidy.Goals as goal
 pub returns-clause-ready : goal.returns-clause-ready
 returns-clause-ready c = λ sizes ready.
     let old = c.args.self.now in
-    let node = c.tidy.new.self in
+    let node = c.tidy.new.node in
     let store = c.tidy.new.store in
     let said = c.in_ok-is_clean.ensures in
     record {
@@ -26,10 +26,10 @@ returns-clause-ready c = λ sizes ready.
     }
 
 pub returns-clause-calls : goal.returns-clause-calls
-returns-clause-calls c = calls_kept c.args.self.now.node c.tidy.new.self c.in_ok-is_clean.ensures.goes
+returns-clause-calls c = calls_kept c.args.self.now.node c.tidy.new.node c.in_ok-is_clean.ensures.goes
 
 pub returns-clause-record : goal.returns-clause-record
-returns-clause-record c = record_kept c.args.self.now.node c.tidy.new.self c.in_ok-is_clean.ensures.goes
+returns-clause-record c = record_kept c.args.self.now.node c.tidy.new.node c.in_ok-is_clean.ensures.goes
 
 pub returns-clause-holds : goal.returns-clause-holds
 returns-clause-holds c = λ disks tree holds. record {

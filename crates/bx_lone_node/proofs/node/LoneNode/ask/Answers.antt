@@ -3,11 +3,11 @@ use Rattle.std.proofs.Common.{Some}
 use Rattle.bx_base.specs.declared.names.Actor.TheVariants.{Node}
 use Rattle.bx_places.specs.Places.{IsBlock, block_place}
 use Rattle.bx_facts.specs.Writes.{Asked, IsOnly, StorePast, store_with}
-use Rattle.bx_lone_node.specs.Node.{NodeView, IsInStage, IsUsed}
-use Rattle.bx_lone_node.specs.Runs.{home_of}
-use Rattle.bx_lone_node.specs.Standing.{NodeStands}
-use Rattle.bx_lone_node.specs.declared.stage.Stage.TheVariants.{Idle}
-use Rattle.bx_lone_node.proofs.Letters.{with_none}
+use Rattle.bx_lone_standing.specs.Node.{NodeView, IsInStage, IsUsed}
+use Rattle.bx_lone_standing.specs.Runs.{home_of}
+use Rattle.bx_lone_standing.specs.Standing.{NodeStands}
+use Rattle.bx_lone_standing.specs.declared.stage.Stage.TheVariants.{Idle}
+use Rattle.bx_lone_standing.proofs.Letters.{with_none}
 use Rattle.bx_lone_node.proofs.Reading.{asked_for, home_sure}
 use Rattle.bx_lone_node.proofs.node.LoneNode.ask.Goals as goal
 

@@ -2,11 +2,11 @@ use Rattle.std.proofs.Common.{◌≡◌, ⊎_elim, refl, inl, sym, ◌∙◌, ap
 use Rattle.std.specs.Prelude.{ℕ, List, ◌⊎◌}
 use Rattle.bx_records.specs.Drafts.{Changed}
 use Rattle.bx_base.specs.declared.names.Point.{Point}
-use Rattle.bx_lone_node.specs.Node.{NodeView}
-use Rattle.bx_lone_node.specs.Standing.{IsPast, KeepsRecord}
-use Rattle.bx_lone_node.specs.declared.stage.Recorded.{Recorded}
-use Rattle.bx_lone_node.specs.declared.stage.Stage.{Stage}
-use Rattle.bx_lone_node.specs.declared.stage.Stage.TheVariants.{Idle, Reads, Logs}
+use Rattle.bx_lone_standing.specs.Node.{NodeView}
+use Rattle.bx_lone_standing.specs.Standing.{IsPast, KeepsRecord}
+use Rattle.bx_lone_standing.specs.declared.stage.Recorded.{Recorded}
+use Rattle.bx_lone_standing.specs.declared.stage.Stage.{Stage}
+use Rattle.bx_lone_standing.specs.declared.stage.Stage.TheVariants.{Idle, Reads, Logs}
 use Rattle.bx_lone_node.proofs.node.LoneNode.go_on.Goals as goal
 
 -- what is read is no record

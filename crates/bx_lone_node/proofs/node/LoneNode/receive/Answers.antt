@@ -2,11 +2,11 @@ use Rattle.std.proofs.Common.{◌≡◌, ⊎_elim, inr, ◌+◌, ◌-◌, arith,
 use Rattle.bx_disk.specs.Disks.{sector_of}
 use Rattle.bx_layout.specs.Blocks.{SpellsBlock}
 use Rattle.bx_places.specs.Places.{block_place}
-use Rattle.bx_lone_node.specs.Node.{IsInStage, NodeView}
-use Rattle.bx_lone_node.specs.Runs.{home_of}
-use Rattle.bx_lone_node.specs.Standing.{Finds, IsRead, NodeStands}
+use Rattle.bx_lone_standing.specs.Node.{IsInStage, NodeView}
+use Rattle.bx_lone_standing.specs.Runs.{home_of}
+use Rattle.bx_lone_standing.specs.Standing.{Finds, IsRead, NodeStands}
 use Rattle.bx_lone_node.proofs.Reading.{block_is, received}
-use Rattle.bx_lone_node.proofs.Staying.{flies_on, read_on}
+use Rattle.bx_lone_standing.proofs.Staying.{flies_on, read_on}
 use Rattle.bx_lone_node.proofs.node.LoneNode.receive.Goals as goal
 
 pub returns-in_default-clause-stands : goal.returns-in_default-clause-stands

@@ -1,12 +1,12 @@
 use Rattle.std.proofs.Common.{◌≡◌, ℕ, ◌<◌, List, [], ◌∷◌, length, sym, subst, ap, arith}
 use Rattle.std.specs.Prelude.{slice_index_or}
 use Rattle.bx_cache.specs.Cached.{block_at}
-use Rattle.bx_lone_node.specs.Bare.{StandsBare}
+use Rattle.bx_lone_standing.specs.Bare.{StandsBare}
 use Rattle.bx_model.specs.declared.tree.Tree.{Tree}
 use Rattle.bx_views.specs.Attempts.{Gives, IsFair}
 use Rattle.bx_views.specs.Truths.{Hints, IsTruth, Truth}
-use Rattle.bx_lone_node.specs.Node.{NodeView}
-use Rattle.bx_lone_node.specs.declared.stage.Waiting.{Waiting}
+use Rattle.bx_lone_standing.specs.Node.{NodeView}
+use Rattle.bx_lone_standing.specs.declared.stage.Waiting.{Waiting}
 use Rattle.bx_lone_node.proofs.node.LoneNode.try_head.Goals as goal
 
 -- the first of a list that has one

@@ -1,7 +1,7 @@
 use Rattle.std.proofs.Common.{sym, subst}
 use Rattle.std.specs.Prelude.{IfOk}
 use Rattle.bx_cache.specs.Cached.{block_at}
-use Rattle.bx_lone_node.specs.Node.{NodeView}
+use Rattle.bx_lone_standing.specs.Node.{NodeView}
 use Rattle.bx_views.specs.Attempts.{IsFair}
 use Rattle.bx_views.specs.Truths.{IsTruth}
 use Rattle.bx_lone_node.proofs.node.LoneNode.try_tidy.Goals as goal

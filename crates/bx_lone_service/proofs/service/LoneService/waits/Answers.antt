@@ -1,7 +1,7 @@
 use Rattle.std.proofs.Common.{◌≡◌, ◌≢◌, refl, Bool, true, false, List, [], ◌∷◌, IsTrue}
 use Rattle.std.specs.Prelude.{map}
 use Rattle.bx_lone_machine.specs.Machine.{calls_of}
-use Rattle.bx_lone_node.specs.declared.stage.Waiting.{Waiting}
+use Rattle.bx_lone_standing.specs.declared.stage.Waiting.{Waiting}
 use Rattle.bx_lone_service.specs.Calls.{taking_of}
 use Rattle.bx_lone_service.proofs.service.LoneService.waits.Goals as goal
 

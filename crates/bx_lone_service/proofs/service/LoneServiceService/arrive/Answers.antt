@@ -1,4 +1,4 @@
-use Rattle.bx_lone_node.specs.declared.stage.Waiting.{Waiting}
+use Rattle.bx_lone_standing.specs.declared.stage.Waiting.{Waiting}
 use Rattle.bx_lone_service.proofs.Queues.{latest_more, ok_then, one_more, queued_more}
 use Rattle.bx_lone_service.proofs.Rounding.{arrives}
 use Rattle.bx_lone_service.proofs.service.LoneServiceService.arrive.Goals as goal

@@ -1,0 +1,4 @@
+pub mod Drafts
+pub mod Calls
+pub mod Tried
+pub mod Turned

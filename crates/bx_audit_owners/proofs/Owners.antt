@@ -1,5 +1,5 @@
 -- What is found, and whatever files there are.
-use Rattle.std.proofs.Common.{◌≡◌, ℕ, ◌<◌, ◌^◌, ⊎_elim, inl, inr, arith, List, length, get_or, sym, ap, ◌∙◌, subst, refl, Option, Some, None}
+use Rattle.std.proofs.Common.{◌≡◌, ℕ, ◌<◌, ◌^◌, ⊎_elim, inl, inr, arith, List, get_or, sym, ap, ◌∙◌, subst, refl, Option, Some, None}
 use Rattle.std.specs.Prelude.{◌≢◌, Contains, IfSome}
 use Rattle.bx_audit_bodies.specs.Claims.{AgreesWith, owner_by}
 use Rattle.bx_audit_bodies.specs.Reading.{IsStored, IsOnly}

@@ -1,5 +1,5 @@
 -- What is told of a block that is torn, once slots are right.
-use Rattle.std.proofs.Common.{◌≡◌, ℕ, ◌<◌, ◌≤◌, ◌⊎◌, ⊎_elim, inl, inr, arith, true, List, length, sym, ap, ◌∙◌, subst, Some}
+use Rattle.std.proofs.Common.{◌≡◌, ℕ, ◌<◌, ◌≤◌, ◌⊎◌, ⊎_elim, arith, true, List, length, sym, ap, ◌∙◌, subst, Some}
 use Rattle.std.specs.Prelude.{Contains, slice_index_or}
 use Rattle.bx_audit_owners.specs.declared.holders.Holder.TheVariants.{Dead as OfDead}
 use Rattle.bx_audit_owners.specs.Dead.{IsNoDeadOf}

@@ -1,5 +1,5 @@
 -- What the blocks of a volume stand for, once all is found.
-use Rattle.std.proofs.Common.{◌≡◌, ℕ, ◌+◌, ◌*◌, ◌<◌, ◌≤◌, ◌^◌, ◌%◌, ◌/◌, arith, inl, inr, Bool, true, false, List, sym, ap, ◌∙◌, subst, refl, Option, Some, None}
+use Rattle.std.proofs.Common.{◌≡◌, ℕ, ◌+◌, ◌*◌, ◌<◌, ◌≤◌, ◌^◌, ◌%◌, ◌/◌, arith, Bool, true, false, List, sym, ap, ◌∙◌, subst, refl, Option, Some, None}
 use Rattle.std.specs.Prelude.{◌↔◌, ◌≢◌, ◌&&◌, ◌==◌, if◌then◌else◌, Contains}
 use Rattle.std.proofs.lemmas.Bool.Decides.{nat_tests}
 use Rattle.bx_audit_owners.specs.declared.holders.Holder.{Holder}
@@ -36,7 +36,6 @@ use Rattle.bx_truth.proofs.Made.{chunk_given}
 use Rattle.bx_truth.proofs.PieceKeys.{chunk_fits}
 use Rattle.bx_truth.proofs.Put.{is_live, some_there}
 use Rattle.bx_truth.proofs.Same.{chunk_is, slot_block}
-use Rattle.bx_truth.proofs.SlotWords.{block_back}
 use Rattle.bx_views.specs.Truths.{Truth}
 
 some_same : {X : Type 0} (x y : X) → Some x ≡ Some y → x ≡ y

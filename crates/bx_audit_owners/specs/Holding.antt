@@ -1,5 +1,5 @@
 -- What has the chunks of a volume, as it is found inode by inode.
-use Rattle.std.specs.Prelude.{◌≡◌, ◌≢◌, ◌⊎◌, ◌<◌, ℕ, true, if◌then◌else◌, List, Contains, length, slice_index_or, Option, Some, None, ◌↔◌}
+use Rattle.std.specs.Prelude.{◌≡◌, ◌≢◌, ◌⊎◌, ◌<◌, ℕ, true, if◌then◌else◌, List, length, slice_index_or, Option, Some, None, ◌↔◌}
 use Rattle.std.specs.BTreeMap.{BTreeMap, get}
 use Rattle.std.specs.Ordering.{nat_cmp}
 use Rattle.bx_audit_bodies.specs.declared.claims.Claim.{Claim}

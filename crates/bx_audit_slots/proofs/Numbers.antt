@@ -1,5 +1,5 @@
 -- The numbers that are told of a handle, once slots are right.
-use Rattle.std.proofs.Common.{◌≡◌, ℕ, ◌<◌, ◌≤◌, ◌^◌, ◌%◌, ◌/◌, ◌*◌, ◌+◌, arith, List, sym, ap, ◌∙◌, subst, refl}
+use Rattle.std.proofs.Common.{◌≡◌, ℕ, ◌<◌, ◌≤◌, ◌%◌, ◌/◌, ◌*◌, ◌+◌, arith, List, sym, ap, ◌∙◌, subst, refl}
 use Rattle.bx_audit_slots.specs.declared.slots.UsedSlot.{UsedSlot}
 use Rattle.bx_audit_slots.specs.Numbers.{IsBlockOf, IsToldOf}
 use Rattle.bx_audit_slots.specs.UsedSlots.{AreUsed, IsHandleOf}

@@ -6,7 +6,7 @@ use Rattle.bx_layout.specs.Blocks.{HasParts}
 use Rattle.bx_places.specs.Places.{IsBlock}
 use Rattle.bx_records.specs.Runs.{KindAndRuns}
 use Rattle.bx_redo.specs.Stands.{doing}
-use Rattle.bx_redo.specs.Steps.{Asks, Ends, Goes, Steps, with_work, writes}
+use Rattle.bx_redo.specs.Steps.{Asks, Ends, Goes, Steps, writes}
 use Rattle.bx_redo.specs.View.{LogView}
 use Rattle.bx_redo.specs.declared.work.Move.{Move}
 use Rattle.bx_redo.specs.declared.work.Move.TheVariants.{Acked, Closed, Write}
@@ -40,14 +40,6 @@ spent node is = record { volume = is.volume; slot = is.slot; device = is.device;
 -- a node in another stage
 pub at_stage : (node : NodeView) (log : LogView) (stage : Stage) → IsNode node → IsUsed node.stage → log.slot ≡ 0 → log.device ≡ 0 → IsInStage node.areas log stage → IsNode (record node { stage = stage; log = log })
 at_stage node log stage is used slot device in_stage = record { volume = is.volume; slot = slot; device = device; stage = in_stage; blocks = λ still. is.blocks used }
-
--- what a log asks for that was just given a work
-pub asks_first : (before given after : LogView) (work : Work) (move : Move) (runs : KindAndRuns) → given ≡ with_work before work → Steps given.out false given after move → move ≡ Write runs
-    → (after ≡ doing before work) × (runs ≡ writes (doing before work) work)
-asks_first before given after work move runs is steps writes_it =
-    let P : LogView → Type 0 = λ l. Steps l.out false l after move in
-    let asks = subst P is steps in
-    (asks.now, (let e : Write runs ≡ Write (writes (doing before work) work) = sym writes_it ∙ asks.asks in (let f : runs ≡ writes (doing before work) work = cc in f)))
 
 -- what a log asks for that has a work, and nothing out
 pub asks_own : (before after : LogView) (move : Move) (runs : KindAndRuns) → before.out ≡ false → Steps before.out false before after move → move ≡ Write runs

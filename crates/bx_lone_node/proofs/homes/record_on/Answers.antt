@@ -1,9 +1,6 @@
-use Rattle.std.proofs.Common.{◌≡◌, None, Some, Option, sym, ◌∙◌, ap, subst, refl, arith}
+use Rattle.std.proofs.Common.{arith}
 use Rattle.bx_base.specs.declared.names.Point.{Point}
-use Rattle.bx_facts.specs.Writes.{AreRuns}
 use Rattle.bx_redo.specs.declared.work.Work.TheVariants as works
-use Rattle.bx_lone_standing.specs.Runs.{homes_of}
-use Rattle.bx_lone_standing.specs.Sends.{HasSent, RecordGoes, gate_runs}
 use Rattle.bx_lone_standing.proofs.Fitting.{log_fits}
 use Rattle.bx_lone_node.proofs.homes.record_on.Goals as goal
 

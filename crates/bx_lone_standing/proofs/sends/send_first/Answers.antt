@@ -1,10 +1,6 @@
-use Rattle.std.proofs.Common.{◌≡◌, OnOk, Bool, false, sym, ◌∙◌, subst}
+use Rattle.std.proofs.Common.{OnOk, sym, subst}
 use Rattle.bx_facts.specs.Writes.{AreRuns}
 use Rattle.bx_records.specs.Runs.{KindAndRuns}
-use Rattle.bx_redo.specs.Steps.{Asks, Steps, writes}
-use Rattle.bx_redo.specs.View.{LogView}
-use Rattle.bx_redo.specs.declared.work.Move.{Move}
-use Rattle.bx_redo.specs.declared.work.Move.TheVariants.{Write}
 use Rattle.bx_lone_standing.specs.Sends.{HasSent}
 use Rattle.bx_lone_standing.proofs.Shapes.{asks_own}
 use Rattle.bx_lone_standing.proofs.sends.send_first.Goals as goal

@@ -1,4 +1,4 @@
-use Rattle.std.proofs.Common.{◌≡◌, refl, sym, subst}
+use Rattle.std.proofs.Common.{refl, sym, subst}
 use Rattle.bx_facts.specs.Writes.{AreRuns}
 use Rattle.bx_records.specs.Runs.{KindAndRuns}
 use Rattle.bx_lone_standing.specs.Sends.{HasSent}

@@ -1,4 +1,4 @@
-use Rattle.std.proofs.Common.{◌≡◌, ℕ, OnOk, sym, subst, ap}
+use Rattle.std.proofs.Common.{OnOk, sym, subst}
 use Rattle.bx_lone_standing.specs.Bare.{StandsBare}
 use Rattle.bx_views.specs.Truths.{with_draft}
 use Rattle.bx_lone_standing.specs.Node.{IsUsed, NodeView}

@@ -27,6 +27,9 @@ fn copies(from: &mut MemRack, to: &mut MemRack, disk: u32, at: u64) -> bool {
 /// Whether a register is opened on a formatted volume whose disks were cut to these sizes; nothing, where it is refused for another cause than
 /// `NoMajority`.
 fn opens(alloc: Global, sizes: &[u64]) -> Option<bool> {
+    if sizes.len() > 8 {
+        return None;
+    }
     let (_, mut whole) = register(alloc)?;
     let Ok(mut rack) = MemRack::new(alloc, sizes, &[]) else {
         return None;

@@ -4,10 +4,6 @@
 #[cfg(test)]
 mod bench;
 #[cfg(test)]
-mod faults;
-#[cfg(test)]
-mod returns;
-#[cfg(test)]
 mod rounds;
 #[cfg(test)]
 mod words;

@@ -1,81 +1,88 @@
-//! Rounds of a node.
+//! Rounds of a node, also of one that returns, and of one under which disks fail.
 
-ghost use Rattle.std.specs.Prelude.{◌≡◌};
-ghost use Rattle.bx_lone_machine.specs.Machine.{IsReady, latest_of};
+use crate::bench::{Answer, Step, good_steps_of_new, good_steps_of_returned};
 
-use crate::bench::{next_answer, rounds_left, sends};
-use crate::words::{bytes_of, get, is_reply, set_mode};
-use bx_disk::Rack;
-use bx_lone_machine::{Acted, LoneMachine};
-use bx_memory_rack::MemRack;
-use std::alloc::Global;
-use std::test::Fail;
+/// The number of the first call of the rack behind the making of the volume.
+const FIRST: u64 = 32;
+
+/// The call with a number is answered within twenty rounds at a moment of so many seconds, with the root's mode as it was set at 1 s.
+fn answered(number: u32, mode: u32, seconds: u16) -> Step {
+    Step::Answered(Answer {
+        number,
+        mode: 0o40000 | mode,
+        changed: 1,
+        first: 0,
+        last: 19,
+        seconds,
+    })
+}
+
+/// The first call is answered in one of these rounds, and the mode 0o755 is set.
+fn set_in(first: u32, last: u32) -> Step {
+    Step::Answered(Answer {
+        number: 1,
+        mode: 0o40755,
+        changed: 1,
+        first,
+        last,
+        seconds: 1,
+    })
+}
 
 #[test]
-fn a_mode_is_set_in_the_sixth_round(rt: HostRuntime) -> Result<(), Fail> {
-    let alloc = rt.alloc();
-    let mut bench = MemRack::new(alloc, &[], &[])?;
-    let mut machine = LoneMachine::begin(alloc, &mut bench, 7)?;
-    let set = bytes_of(alloc, &set_mode(1, 0o755))?;
-    assert!(rt; sends(alloc, &mut machine, 1, set.as_slice())?);
-    let answer = next_answer(&mut machine, &mut bench, 1000, 20)?;
-    assert!(rt; matches!(&answer, Some((5, acted)) if is_reply(acted, 1, 0o40755, 1)));
+fn a_mode_is_set_in_the_sixth_round(rt: HostRuntime) {
     // the homes, gate 0 and the other gates: two rounds each, and one in which the node sees the last
-    assert!(rt; rounds_left(&mut machine, &mut bench, 1000, 20)? == 6);
-    Ok(())
+    let steps = [Step::Set(1, 0o755), set_in(5, 5), Step::Rests(6)];
+    assert_eq!(rt; good_steps_of_new(rt.alloc(), &[], &steps), steps.len());
 }
 
 #[test]
-fn a_mode_that_was_set_is_read(rt: HostRuntime) -> Result<(), Fail> {
-    let alloc = rt.alloc();
-    let mut bench = MemRack::new(alloc, &[], &[])?;
-    let mut machine = LoneMachine::begin(alloc, &mut bench, 7)?;
-    let set = bytes_of(alloc, &set_mode(1, 0o700))?;
-    let get = bytes_of(alloc, &get(2))?;
-    let one = sends(alloc, &mut machine, 1, set.as_slice())?;
-    let two = sends(alloc, &mut machine, 2, get.as_slice())?;
-    assert!(rt; one && two);
-    let first = next_answer(&mut machine, &mut bench, 1000, 20)?;
-    let second = next_answer(&mut machine, &mut bench, 2000, 20)?;
-    assert!(rt; matches!(&first, Some((_, acted)) if is_reply(acted, 1, 0o40700, 1)));
-    assert!(rt; matches!(&second, Some((_, acted)) if is_reply(acted, 2, 0o40700, 1)));
-    Ok(())
-}
-
-/// Whether this many calls, one after the other, each set the mode that is their number.
-fn are_set<B: Rack>(
-    alloc: Global,
-    machine: &mut LoneMachine,
-    bench: &mut B,
-    count: u32,
-) -> Result<bool, Fail>
-    requires ready { IsReady machine.old (B.state bench.old).sizes }
-    requires none { latest_of machine.old ≡ 0 }
-{
-    for i in 0..count {
-        let set = bytes_of(alloc, &set_mode(i + 1, i))?;
-        let sent = sends(alloc, machine, u64::from(i + 1), set.as_slice())?;
-        let answer = next_answer(machine, bench, 1000, 20)?;
-        if !sent || !is_set(&answer, i + 1, i) {
-            return Ok(false);
-        }
-    }
-    Ok(true)
-}
-
-/// Whether the call with a number was answered, and this mode was set.
-fn is_set(answer: &Option<(u32, Acted)>, number: u32, mode: u32) -> bool {
-    match answer {
-        Some((_, acted)) => is_reply(acted, number, 0o40000 | mode, 1),
-        None => false,
-    }
+fn a_mode_that_was_set_is_read(rt: HostRuntime) {
+    let steps = [
+        Step::Set(1, 0o700),
+        Step::Get(2),
+        answered(1, 0o700, 1),
+        answered(2, 0o700, 2),
+    ];
+    assert_eq!(rt; good_steps_of_new(rt.alloc(), &[], &steps), steps.len());
 }
 
 #[test]
-fn two_hundred_modes_are_set_one_after_the_other(rt: HostRuntime) -> Result<(), Fail> {
-    let alloc = rt.alloc();
-    let mut bench = MemRack::new(alloc, &[], &[])?;
-    let mut machine = LoneMachine::begin(alloc, &mut bench, 7)?;
-    assert!(rt; are_set(alloc, &mut machine, &mut bench, 200)?);
-    Ok(())
+fn two_hundred_modes_are_set_one_after_the_other(rt: HostRuntime) {
+    let mut steps = [Step::Rests(0); 400];
+    for i in 0..200_u16 {
+        let at = 2 * usize::from(i);
+        let number = u32::from(i) + 1;
+        steps[at] = Step::Set(number, number - 1);
+        steps[at + 1] = answered(number, number - 1, 1);
+    }
+    assert_eq!(rt; good_steps_of_new(rt.alloc(), &[], &steps), steps.len());
+}
+
+#[test]
+fn a_machine_returns_above_the_latest_call(rt: HostRuntime) {
+    let told = Step::Answered(Answer {
+        number: 12,
+        mode: 0o40777,
+        changed: 0,
+        first: 0,
+        last: 19,
+        seconds: 2,
+    });
+    let steps = [
+        Step::Get(12),
+        Step::Knows(11, 12),
+        told,
+        Step::Knows(12, 12),
+    ];
+    assert_eq!(rt; good_steps_of_returned(rt.alloc(), 9, &steps), steps.len());
+}
+
+#[test]
+fn a_fault_only_delays_an_answer(rt: HostRuntime) {
+    let steps = [Step::Set(1, 0o755), set_in(6, 19)];
+    for later in 0..30 {
+        let good = good_steps_of_new(rt.alloc(), &[FIRST + later], &steps);
+        assert_eq!(rt; good, steps.len(), "{later}");
+    }
 }

@@ -1,7 +1,6 @@
 //! Calls in words.
 
 use bx_lone_machine::Acted;
-use std::alloc::{AllocError, Global};
 
 /// The file handle of the root of volume 7.
 pub(crate) const ROOT: [u32; 8] = [0x424f_5857, 0x4f4f_4431, 0, 7, 0, 1, 0, 0];
@@ -9,32 +8,34 @@ pub(crate) const ROOT: [u32; 8] = [0x424f_5857, 0x4f4f_4431, 0, 7, 0, 1, 0, 0];
 /// A word that leaves an attribute alone.
 const ALONE: u32 = 0xffff_ffff;
 
-/// SETATTR of the root's mode, 0o755, by user 0.
-pub(crate) fn set_mode(number: u32, mode: u32) -> [u32; 31] {
+/// SETATTR of the root's mode by user 0.
+pub(crate) fn set_mode(number: u32, mode: u32) -> [u8; 124] {
     let mut words = [ALONE; 31];
     let front = [number, 0, 2, 100003, 2, 2, 1, 20, 0, 0, 0, 0, 0, 0, 0];
     words[..15].copy_from_slice(&front);
     words[15..23].copy_from_slice(&ROOT);
     words[23] = mode;
-    words
+    let mut bytes = [0; 124];
+    put_words(&mut bytes, &words);
+    bytes
 }
 
 /// GETATTR of the root, by nobody.
-pub(crate) fn get(number: u32) -> [u32; 18] {
+pub(crate) fn get(number: u32) -> [u8; 72] {
     let mut words = [0; 18];
     let front = [number, 0, 2, 100003, 2, 1, 0, 0, 0, 0];
     words[..10].copy_from_slice(&front);
     words[10..].copy_from_slice(&ROOT);
-    words
+    let mut bytes = [0; 72];
+    put_words(&mut bytes, &words);
+    bytes
 }
 
-/// The bytes of words.
-pub(crate) fn bytes_of(alloc: Global, words: &[u32]) -> Result<Vec<u8>, AllocError> {
-    let mut bytes = Vec::new(alloc);
-    for word in words {
-        bytes.extend_from_slice(&word.to_be_bytes())?;
+/// Puts words into bytes, four for each.
+fn put_words(bytes: &mut [u8], words: &[u32]) {
+    for (place, word) in bytes.chunks_exact_mut(4).zip(words) {
+        place.copy_from_slice(&word.to_be_bytes());
     }
-    Ok(bytes)
 }
 
 /// Whether a call was answered with the root's attributes: this number, mode, and time of its last change in seconds.

@@ -10,16 +10,14 @@ ghost use Rattle.bx_layout.specs.declared.label.Label.{Label};
 use bx_calls::read_sectors;
 use bx_disk::{DiskFault, Rack};
 use bx_layout::Label;
-
-/// How many sectors a replica's disk has: its label, and its cell.
-const SECTORS: u64 = 21;
+use bx_places::REPLICA_SECTORS;
 
 /// Whether the disk of a replica is there, with all of its sectors.
 pub(crate) fn is_whole<R: Rack>(rack: &R, replica: u32) -> bool
     requires { replica < 3 }
     ensures { IsTrue result ↔ IsWhole (R.state rack.now).sizes replica }
 {
-    replica < rack.disks() && rack.sectors(replica) >= SECTORS
+    replica < rack.disks() && rack.sectors(replica) >= REPLICA_SECTORS
 }
 
 /// The label of a replica's disk, if that is whole and the label names this very disk.

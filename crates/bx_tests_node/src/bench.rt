@@ -1,6 +1,6 @@
 //! A machine that is sent calls, and goes on round after round.
 
-ghost use Rattle.std.specs.Prelude.{◌≡◌, ◌≤◌, ◌<◌, ℕ, List};
+ghost use Rattle.std.specs.Prelude.{◌<◌, ℕ, List};
 ghost use Rattle.std.specs.Bool.{OnTrue};
 ghost use Rattle.bx_lone_machine.specs.Machine.{IsReady, latest_of};
 ghost use Rattle.bx_lone_repair.specs.Bench.{AreLong};

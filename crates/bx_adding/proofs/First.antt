@@ -8,7 +8,7 @@ use Rattle.bx_changes.specs.Growing.{LeavesTrees}
 use Rattle.bx_changes.specs.declared.error.ChangeError.{ChangeError}
 use Rattle.bx_changes.specs.declared.error.ChangeError.TheVariants.{Stopped, Full}
 use Rattle.bx_entries.specs.Finding.{IsDirectoryOf}
-use Rattle.bx_file_laws.specs.Keeping.{KeepsFiles}
+use Rattle.bx_ready.specs.Keeping.{KeepsFiles}
 use Rattle.bx_inodes.specs.Stands.{Stands}
 use Rattle.bx_inodes.specs.declared.stop.Stop.TheVariants.{Need, Inner, Status, OutOfMemory}
 use Rattle.bx_layout.specs.declared.inode.Inode.{Inode}

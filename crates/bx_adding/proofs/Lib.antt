@@ -6,3 +6,5 @@ pub mod First
 pub mod Entered
 pub mod Kept
 pub mod Lacks
+pub use Rattle.bx_entries.proofs.Leaves
+pub use Rattle.bx_entries.proofs.Twice

@@ -1,7 +1,7 @@
 -- Blocks are to be written first only where the call comes to no error and they prepare it, and a change comes only where nothing is wanted.
 use Rattle.std.proofs.Common.{◌≡◌, ℕ, arith, Bool, true, false, List, [], ◌∷◌, Some, None, refl, sym, ap, ◌∙◌, subst, inl, inr}
 use Rattle.std.specs.Prelude.{◌==◌, if◌then◌else◌, Ok, Err}
-use Rattle.bx_adding.specs.Lacking.{IfFirst, MakesPlace, ReadyToEnter}
+use Rattle.bx_create.specs.Lacking.{IfFirst, MakesPlace, ReadyToEnter}
 use Rattle.bx_changes.specs.First.{ComesFirst}
 use Rattle.bx_changes.specs.declared.error.ChangeError.{ChangeError}
 use Rattle.bx_changes.specs.declared.error.ChangeError.TheVariants.{Stopped, Full}

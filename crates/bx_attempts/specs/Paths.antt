@@ -2,9 +2,9 @@
 use Rattle.std.specs.Prelude.{◌≡◌, ◌⊎◌, ℕ}
 use Rattle.bx_base.specs.declared.names.Mode.{Mode}
 use Rattle.bx_create.specs.Creating.{OnCreate}
-use Rattle.bx_creating.specs.Making.{OnMaking}
+use Rattle.bx_create.specs.Making.{OnMaking}
 use Rattle.bx_entries.specs.Finding.{OnRemove, OnRmdir}
-use Rattle.bx_linking.specs.Linking.{OnLink}
+use Rattle.bx_renaming.specs.Linking.{OnLink}
 use Rattle.bx_model.specs.declared.call.Args.{Args}
 use Rattle.bx_model.specs.declared.call.Args.TheVariants.{Link, Make, Name, Rename, Set, Symlink, Write}
 use Rattle.bx_renaming.specs.Path.{OnRename}

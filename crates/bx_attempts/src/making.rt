@@ -19,7 +19,7 @@ use bx_views::{Attempt, View};
 use std::alloc::Global;
 
 /// Attempts MKDIR of a name of at most 255 bytes in the directory that a file handle names, of a volume by its number and its areas, at most 64, at
-/// a moment in milliseconds: `bx_creating::mkdir`, as an attempt.
+/// a moment in milliseconds: `bx_create::mkdir`, as an attempt.
 pub(crate) fn mkdir<V: View>(
     alloc: Global,
     volume: u64,
@@ -46,7 +46,7 @@ pub(crate) fn mkdir<V: View>(
     ensures fair { IfOk result (IsFair areas (V.held view.now) (ChangePathOf (V.held view.now) (V.hints view.now) volume areas call.now.procedure call.now.args)) }
 {
     let now = time_of(moment);
-    match bx_creating::mkdir(alloc, volume, areas, call, at, name, sattr, now, view) {
+    match bx_create::mkdir(alloc, volume, areas, call, at, name, sattr, now, view) {
         Ok((draft, reply, made)) => changed(alloc, xid, draft, reply, made),
         Err(error) => refused(alloc, xid, error),
     }
@@ -86,7 +86,7 @@ pub(crate) fn create<V: View>(
 }
 
 /// Attempts SYMLINK of a path of at most 1024 bytes under a name of at most 255 in the directory that a file handle names, as `mkdir` does:
-/// `bx_creating::symlink`, as an attempt.
+/// `bx_create::symlink`, as an attempt.
 pub(crate) fn symlink<V: View>(
     alloc: Global,
     volume: u64,
@@ -114,7 +114,7 @@ pub(crate) fn symlink<V: View>(
     ensures fair { IfOk result (IsFair areas (V.held view.now) (ChangePathOf (V.held view.now) (V.hints view.now) volume areas call.now.procedure call.now.args)) }
 {
     let now = time_of(moment);
-    match bx_creating::symlink(alloc, volume, areas, call, at, name, path, sattr, now, view) {
+    match bx_create::symlink(alloc, volume, areas, call, at, name, path, sattr, now, view) {
         Ok((draft, reply, made)) => changed(alloc, xid, draft, reply, made),
         Err(error) => refused(alloc, xid, error),
     }

@@ -83,7 +83,7 @@ pub(crate) fn rmdir<V: View>(
 }
 
 /// Attempts LINK of the file that one file handle names, to a name of at most 255 bytes in the directory that another names, of a volume by its number and its areas, at most 64, at a moment in
-/// milliseconds: `bx_linking::link`, as an attempt.
+/// milliseconds: `bx_renaming::link`, as an attempt.
 pub(crate) fn link<V: View>(
     alloc: Global,
     volume: u64,
@@ -109,7 +109,7 @@ pub(crate) fn link<V: View>(
     ensures fair { IfOk result (IsFair areas (V.held view.now) (ChangePathOf (V.held view.now) (V.hints view.now) volume areas call.now.procedure call.now.args)) }
 {
     let now = time_of(moment);
-    match bx_linking::link(alloc, volume, areas, call, from, at, name, now, view) {
+    match bx_renaming::link(alloc, volume, areas, call, from, at, name, now, view) {
         Ok((draft, reply)) => changed(alloc, xid, draft, reply, 0),
         Err(error) => refused(alloc, xid, error),
     }

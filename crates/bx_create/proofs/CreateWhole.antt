@@ -2,8 +2,8 @@
 use Rattle.std.proofs.Common.{◌≡◌, ℕ, ◌≤◌, eqb-true, List, Option, Some, None, refl, sym, ap, ◌∙◌, subst, inl, inr}
 use Rattle.std.specs.Prelude.{IfErr, IfOk, Result, Ok, Err}
 use Rattle.std.proofs.lemmas.Result.{IfOk-weaker}
-use Rattle.bx_adding.proofs.Lacks.{enters}
-use Rattle.bx_adding.specs.Lacking.{FindsBoth, MakesEither}
+use Rattle.bx_creating.proofs.Lacks.{enters}
+use Rattle.bx_creating.specs.Lacking.{FindsBoth, MakesEither}
 use Rattle.bx_changes.specs.First.{ComesFirst, StopsFirst}
 use Rattle.bx_changes.specs.Growing.{IsMaking, Makes}
 use Rattle.bx_changes.specs.declared.error.ChangeError.{ChangeError}

@@ -38,7 +38,7 @@ use Rattle.bx_truth.proofs.Cases.{eq_true}
 use Rattle.bx_views.specs.Truths.{Truth, with_draft}
 use Rattle.bx_create.specs.Existing.{ComesOver, GivesIn, size_alone}
 use Rattle.bx_create.specs.Lacking.{ClearsGiven, ReadyToResize}
-use Rattle.bx_adding.proofs.Lacks.{inode_there}
+use Rattle.bx_creating.proofs.Lacks.{inode_there}
 use Rattle.bx_create.proofs.NamesThere.{of_fields}
 
 -- setting the size alone

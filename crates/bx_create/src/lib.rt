@@ -5,4 +5,5 @@ mod creating;
 mod existing;
 mod searching;
 
+pub use bx_creating::{mkdir, symlink};
 pub use creating::create;

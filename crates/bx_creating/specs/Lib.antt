@@ -3,3 +3,4 @@ pub mod Finding
 pub mod Placing
 pub mod Making
 pub mod Creating
+pub use Rattle.bx_adding.specs.Lacking

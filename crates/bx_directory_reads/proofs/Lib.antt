@@ -5,3 +5,4 @@ pub mod Followed
 pub mod LookedUp
 pub mod RunSlots
 pub mod Wider
+pub use Rattle.bx_reads.proofs.Told

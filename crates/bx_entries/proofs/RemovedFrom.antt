@@ -21,7 +21,7 @@ use Rattle.bx_model.specs.Edits.{changed, without}
 use Rattle.bx_model.specs.FileTrees.{IsFileTree}
 use Rattle.bx_model.specs.Removing.{has_entries, without_link}
 use Rattle.bx_model.specs.Steps.{Outcome, must, refuse, ◌>>=◌, ◌>>◌}
-use Rattle.bx_reads.proofs.Told.{named_as}
+use Rattle.bx_directory_reads.proofs.Told.{named_as}
 use Rattle.bx_records.specs.Drafts.{Changed}
 use Rattle.bx_tree_files.specs.declared.file.Body.{Body}
 use Rattle.bx_tree_files.specs.declared.file.Body.TheVariants as bodies

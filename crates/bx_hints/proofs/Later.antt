@@ -11,7 +11,7 @@ use Rattle.bx_truth.specs.Stored.{PageOf}
 use Rattle.bx_truth.proofs.Cases.{same_or}
 use Rattle.bx_truth.proofs.Frames.{tree_kept}
 use Rattle.bx_views.specs.Truths.{Truth, Hints}
-use Rattle.bx_blink.specs.Hints.{HintsFit}
+use Rattle.bx_inodes.specs.Hints.{HintsFit}
 use Rattle.bx_inodes.specs.Inodes.{HoldsInode}
 use Rattle.bx_hints.specs.Fitting.{HintsFitAll, Continues, ChangesOne, IsPageUnder}
 use Rattle.bx_hints.proofs.Pages.{one_block, pages_own}

@@ -7,7 +7,7 @@ use Rattle.bx_truth.specs.Chunks.{IsSlot, chunks_of, word_at}
 use Rattle.bx_truth.specs.PageTrees.{Node, PageTree, IsTree, IsPageOf}
 use Rattle.bx_truth.specs.Stands.{WasGiven}
 use Rattle.bx_views.specs.Truths.{Truth, Hints}
-use Rattle.bx_blink.specs.Hints.{HintsFit}
+use Rattle.bx_inodes.specs.Hints.{HintsFit}
 use Rattle.bx_inodes.specs.Inodes.{HoldsInode}
 
 -- The hints fit the page tree of each inode of a truth that has one.

@@ -9,7 +9,7 @@ use Rattle.bx_truth.specs.PageTrees.{PageTree}
 use Rattle.bx_truth.specs.Stands.{StandsFor}
 use Rattle.bx_truth.specs.Stored.{HasBody}
 use Rattle.bx_views.specs.Truths.{Truth, Held, Hints, with_draft}
-use Rattle.bx_blink.specs.Hints.{Under}
+use Rattle.bx_inodes.specs.Hints.{Under}
 
 -- The file with a handle has these pages under its inode's root: calls on a tree may rest on them, and its body is what they have.
 pub record HasPages (areas : ℕ) (held : Held) (hints : Hints) (truth : Truth) (draft : List Changed) (tree : Tree) (is : StandsFor areas (with_draft truth draft) tree) (handle : ℕ) (inode : Inode) (file : File) : Type 0 where

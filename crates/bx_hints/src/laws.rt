@@ -10,7 +10,7 @@ ghost use Rattle.bx_truth.specs.Chunks.{chunks_of};
 ghost use Rattle.bx_truth.specs.PageTrees.{PageTree, IsTree};
 ghost use Rattle.bx_truth.specs.Stands.{StandsFor};
 ghost use Rattle.bx_views.specs.Truths.{Truth, Held, Hints, IsTruth, with_draft};
-ghost use Rattle.bx_blink.specs.Hints.{HintsFit};
+ghost use Rattle.bx_inodes.specs.Hints.{HintsFit};
 ghost use Rattle.bx_inodes.specs.Inodes.{HoldsInode};
 ghost use Rattle.bx_hints.specs.Fitting.{HintsFitAll, Continues, ChangesOne};
 ghost use Rattle.bx_hints.specs.Pages.{HasPages};

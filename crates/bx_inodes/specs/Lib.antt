@@ -3,3 +3,4 @@ pub mod Inodes
 pub mod Stands
 pub mod Stops
 pub mod Writing
+pub use Rattle.bx_blink.specs.Hints

@@ -1,3 +1,4 @@
 pub mod Tested
 pub mod Linked
 pub mod Comes
+pub use Rattle.bx_adding.proofs.Lacks

@@ -4,3 +4,4 @@ pub mod Separators
 pub mod Rooms
 pub mod Lacking
 pub mod Ready
+pub use Rattle.bx_file_laws.specs.Keeping

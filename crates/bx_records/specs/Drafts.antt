@@ -1,7 +1,7 @@
 -- Drafts: the blocks that a call changes, in the order in which they were first put, each with its number.
 use Rattle.std.specs.Prelude.{ℕ, suc, ◌≤◌, Bool, ◌==◌, if◌then◌else◌, List, [], ◌∷◌, length, Option, Some, None, option_map}
 use Rattle.std.specs.List.{IsDistinct}
-use Rattle.bx_layout.specs.declared.block.Block.{Block}
+pub use Rattle.bx_layout.specs.declared.block.Block.{Block}
 
 -- a block with its number
 abbrev pub Changed : Type 0

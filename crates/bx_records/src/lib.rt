@@ -8,6 +8,7 @@ mod record_head;
 mod runs;
 mod wants;
 
+pub use bx_layout::Block;
 pub use draft::{Draft, DraftError};
 pub use readings::{one_reading, written_reads};
 pub use record_head::RecordHead;

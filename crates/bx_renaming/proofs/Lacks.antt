@@ -1,7 +1,7 @@
 -- Room is wanted only for a name that isn't the file's already.
 use Rattle.std.proofs.Common.{◌≡◌, ℕ, List, Some, None, sym, ap, ◌∙◌}
 use Rattle.std.specs.Prelude.{◌≢◌}
-use Rattle.bx_adding.proofs.Lacks.{enters}
+use Rattle.bx_linking.proofs.Lacks.{enters}
 use Rattle.bx_entries.specs.declared.taking.Known.{Known}
 use Rattle.bx_inodes.specs.Inodes.{IsInodeOf}
 use Rattle.bx_model.specs.declared.tree.Tree.{Tree}

@@ -1,6 +1,6 @@
 -- What RENAME has written first, and where nothing is wanted: room for the new name, where that isn't a name of the file already.
 use Rattle.std.specs.Prelude.{◌≡◌, ◌≢◌, ℕ, List, Some}
-use Rattle.bx_adding.specs.Lacking.{FindsBoth, MakesEither, MakesPlace, ReadyToEnter}
+use Rattle.bx_linking.specs.Lacking.{FindsBoth, MakesEither, MakesPlace, ReadyToEnter}
 use Rattle.bx_model.specs.declared.tree.Tree.{Tree}
 use Rattle.bx_model.specs.Reading.{named_file}
 use Rattle.bx_records.specs.Drafts.{Changed}

@@ -3,3 +3,4 @@ pub mod Found
 pub mod Path
 pub mod Renaming
 pub mod Lacking
+pub use Rattle.bx_linking.specs.Linking

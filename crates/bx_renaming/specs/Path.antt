@@ -1,6 +1,6 @@
 -- The path of RENAME.
 use Rattle.std.specs.Prelude.{◌≡◌, ℕ, ◌⊎◌, List, [], Option, Some}
-use Rattle.bx_adding.specs.Finding.{OnRoomPath}
+use Rattle.bx_linking.specs.Finding.{OnRoomPath}
 use Rattle.bx_base.specs.declared.names.Mode.{Mode}
 use Rattle.bx_base.specs.declared.names.Mode.TheVariants.{Exclusive}
 use Rattle.bx_blink.specs.Walks.{reads_with}

@@ -1,7 +1,7 @@
 //! Moves that have been tested, into directories with room for them.
 
 ghost use Rattle.std.specs.Prelude.{◌≡◌, ◌==◌, ◌&&◌, ◌<◌, ◌≤◌, ℕ, not, length, IfErr, IfOk, IfSome};
-ghost use Rattle.bx_adding.specs.Lacking.{FindsBoth, IfFirst, MakesEither};
+ghost use Rattle.bx_linking.specs.Lacking.{FindsBoth, IfFirst, MakesEither};
 ghost use Rattle.bx_changes.specs.Growing.{HoldsFirst, NeedsBy};
 ghost use Rattle.bx_handles.specs.Handles.{parts_of};
 ghost use Rattle.bx_linking.specs.Drafting.{ComesBy};
@@ -12,7 +12,7 @@ ghost use Rattle.bx_renaming.specs.Path.{OnMove};
 ghost use Rattle.bx_renaming.specs.Renaming.{AreDirectories, IsPassed, coming_in, other_file};
 
 use crate::places::Places;
-use bx_adding::room_for;
+use bx_linking::room_for;
 use bx_changes::ChangeError;
 use bx_entries::Known;
 use bx_inodes::Stop;

@@ -8,6 +8,7 @@ mod places;
 mod renaming;
 mod testing;
 
+pub use bx_linking::link;
 pub use finding::{moved_for, other_for};
 pub use places::{Places, places_for};
 pub use renaming::rename;

@@ -1,7 +1,7 @@
 //! Moves to a name, by what has it.
 
 ghost use Rattle.std.specs.Prelude.{◌≡◌, ◌<◌, ◌≤◌, ◌≢◌, ℕ, None, Some, length, IfErr, IfOk};
-ghost use Rattle.bx_adding.specs.Lacking.{FindsBoth, IfFirst, MakesEither};
+ghost use Rattle.bx_linking.specs.Lacking.{FindsBoth, IfFirst, MakesEither};
 ghost use Rattle.bx_changes.specs.Growing.{HoldsFirst, NeedsBy};
 ghost use Rattle.bx_handles.specs.Handles.{parts_of};
 ghost use Rattle.bx_linking.specs.Drafting.{ComesBy};

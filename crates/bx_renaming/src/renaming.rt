@@ -1,7 +1,7 @@
 //! RENAME.
 
 ghost use Rattle.std.specs.Prelude.{◌≡◌, ◌≤◌, ℕ, length, Err, IfErr, IfOk};
-ghost use Rattle.bx_adding.specs.Lacking.{IfFirst};
+ghost use Rattle.bx_linking.specs.Lacking.{IfFirst};
 ghost use Rattle.bx_changes.specs.First.{ComesFirst};
 ghost use Rattle.bx_changes.specs.Growing.{HoldsFirst, IsChangeBy, NeedsBy};
 ghost use Rattle.bx_hints.specs.Fitting.{HintsFitAll};

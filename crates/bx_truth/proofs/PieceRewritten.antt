@@ -4,7 +4,7 @@ use Rattle.std.specs.Prelude.{◌≢◌, if◌then◌else◌, bytes_eq, unwrap_o
 use Rattle.std.proofs.lemmas.Slice.Eq.{bytes_eq-Decides}
 use Rattle.bx_layout.specs.declared.block.Block.{Block}
 use Rattle.bx_layout.specs.Areas.{generation_in}
-use Rattle.bx_records.specs.Drafts.{block_in}
+use Rattle.bx_views.specs.Truths.{block_in}
 use Rattle.bx_tree_files.specs.declared.file.Body.TheVariants.{Bytes}
 use Rattle.bx_tree_files.specs.declared.file.File.{File}
 use Rattle.bx_model.specs.declared.tree.Tree.{Tree}

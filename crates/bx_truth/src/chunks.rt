@@ -1,7 +1,7 @@
 //! Laws of chunks: the slots of areas, and what a draft or a slot that is taken makes of them.
 
 ghost use Rattle.bx_layout.specs.Areas.{SpellsArea, is_dead};
-ghost use Rattle.bx_records.specs.Drafts.{Changed, block_in};
+ghost use Rattle.bx_views.specs.Truths.{Changed, block_in};
 ghost use Rattle.bx_layout.specs.declared.area.AreaBlock.{AreaBlock};
 ghost use Rattle.bx_layout.specs.declared.block.Block.{Block};
 ghost use Rattle.bx_tree_files.specs.Files.{file_at};

@@ -2,8 +2,8 @@
 use Rattle.std.specs.Prelude.{◌≡◌, ◌≢◌, ℕ, ◌⊎◌, List, [], Contains, None, Some, IsSome, true}
 use Rattle.bx_base.specs.declared.names.Mode.{Mode}
 use Rattle.bx_base.specs.declared.names.Mode.TheVariants.{Exclusive}
-use Rattle.bx_layout.specs.declared.block.Block.{Block}
-use Rattle.bx_layout.specs.Blocks.{HasParts}
+use Rattle.bx_records.specs.Drafts.{Block}
+use Rattle.bx_records.specs.Blocks.{HasParts}
 use Rattle.bx_places.specs.Places.{is_block}
 use Rattle.bx_records.specs.Drafts.{Changed, block_in}
 use Rattle.bx_views.specs.declared.attempt.Attempt.{Attempt}

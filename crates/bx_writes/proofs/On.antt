@@ -4,7 +4,7 @@ use Rattle.std.specs.Prelude.{◌≢◌, if◌then◌else◌}
 use Rattle.bx_adding.specs.Rooms.{HasSpace}
 use Rattle.bx_chunks.proofs.Sums.{sum_same}
 use Rattle.bx_chunks.specs.Counting.{free_in, free_slots}
-use Rattle.bx_entries.proofs.Twice.{twice}
+use Rattle.bx_adding.proofs.Twice.{twice}
 use Rattle.bx_hints.proofs.Pages.{inode_is}
 use Rattle.bx_layout.specs.declared.block.Block.{Block}
 use Rattle.bx_layout.specs.declared.inode.Inode.{Inode}

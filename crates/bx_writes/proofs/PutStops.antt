@@ -13,7 +13,7 @@ use Rattle.bx_changes.specs.declared.error.ChangeError.{ChangeError}
 use Rattle.bx_chunks.specs.Allocating.{AllocatesAt}
 use Rattle.bx_chunks.specs.declared.error.ChunkError.{ChunkError}
 use Rattle.bx_chunks.specs.declared.error.ChunkError.TheVariants.{Need, Stale, Full, OutOfMemory, Crowded}
-use Rattle.bx_entries.proofs.Leaves.{leaf_block}
+use Rattle.bx_adding.proofs.Leaves.{leaf_block}
 use Rattle.bx_layout.specs.declared.inode.Inode.{Inode}
 use Rattle.bx_leaves.specs.Changes.{InsertsIn, NeedsUnheld}
 use Rattle.bx_leaves.specs.Leaves.{InsertsAt, OnLeafPath}

@@ -6,11 +6,11 @@ use Rattle.bx_attempts.proofs.Changing.{changed_gives, making_acts, making_refus
 use Rattle.bx_attempts.proofs.Fairness.{changed_fair, fair_over, refused_fair}
 use Rattle.bx_attempts.specs.Paths.{ChangePathOf}
 use Rattle.bx_changes.specs.Growing.{IsMaking}
-use Rattle.bx_creating.specs.Making.{OnMaking}
+use Rattle.bx_create.specs.Making.{OnMaking}
 use Rattle.bx_model.specs.Making.{symlink}
 use Rattle.bx_model.specs.declared.call.Args.{Args}
 use Rattle.bx_tree_files.specs.Times.{Time, time_of}
-use Rattle.bx_adding.specs.Lacking.{MakesPlace}
+use Rattle.bx_create.specs.Lacking.{MakesPlace}
 use Rattle.bx_changes.specs.First.{ComesFirst}
 use Rattle.bx_attempts.specs.First.{PreparesFirst, ReadyBy}
 use Rattle.bx_attempts.proofs.First.{changed_first, changed_ready, refused_first, refused_ready, symlink_first}

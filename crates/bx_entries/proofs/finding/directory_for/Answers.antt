@@ -1,6 +1,6 @@
 use Rattle.std.proofs.Common.{List, sym, subst, ◌∙◌, Err}
 use Rattle.bx_inodes.specs.Inodes.{FileAt, IsInodeOf}
-use Rattle.bx_reads.proofs.Told.{over_none}
+use Rattle.bx_directory_reads.proofs.Told.{over_none}
 use Rattle.bx_records.specs.Drafts.{Changed}
 use Rattle.bx_views.specs.Truths.{with_draft}
 use Rattle.bx_entries.proofs.Found.{allowed, no_directory, refused}

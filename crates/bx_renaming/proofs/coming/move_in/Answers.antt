@@ -1,8 +1,8 @@
 use Rattle.std.proofs.Common.{arith}
 use Rattle.bx_renaming.proofs.Rooms.{counts_so, into, may_move, moves_so, no_number, no_room}
-use Rattle.bx_adding.proofs.Lacks.{so_ok}
+use Rattle.bx_linking.proofs.Lacks.{so_ok}
 use Rattle.bx_linking.proofs.Comes.{never_if}
-use Rattle.bx_adding.specs.Lacking.{FindsBoth, MakesEither}
+use Rattle.bx_linking.specs.Lacking.{FindsBoth, MakesEither}
 use Rattle.bx_renaming.proofs.coming.move_in.Goals as goal
 
 pub returns-then-places-ge-LAST_NUMBER-clause-step : goal.returns-then-places-ge-LAST_NUMBER-clause-step

@@ -5,7 +5,7 @@ use Rattle.bx_renaming.specs.Renaming.{depth_errors, moving_so}
 use Rattle.bx_renaming.proofs.Comes.{free_fails, free_passes, stopped_so}
 use Rattle.bx_renaming.proofs.Passed.{free, free_comes}
 use Rattle.bx_linking.proofs.Comes.{stop_first}
-use Rattle.bx_adding.specs.Lacking.{MakesEither}
+use Rattle.bx_linking.specs.Lacking.{MakesEither}
 use Rattle.bx_renaming.proofs.onto.move_free.Goals as goal
 
 pub returns-in-Err-clause-step : goal.returns-in-Err-clause-step

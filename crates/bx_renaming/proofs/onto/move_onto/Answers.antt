@@ -6,7 +6,7 @@ use Rattle.bx_tree_files.specs.Names.{names_of}
 use Rattle.bx_renaming.specs.Found.{OtherFor}
 use Rattle.bx_renaming.proofs.Comes.{itself_has, nobody_has, not_had, other_has}
 use Rattle.bx_renaming.proofs.Rooms.{into}
-use Rattle.bx_adding.proofs.Lacks.{first_if}
+use Rattle.bx_linking.proofs.Lacks.{first_if}
 use Rattle.bx_renaming.proofs.Lacks.{another, nobody, one_file}
 use Rattle.bx_linking.proofs.Comes.{stop_first}
 use Rattle.bx_renaming.specs.Lacking.{MakesRoomFor}

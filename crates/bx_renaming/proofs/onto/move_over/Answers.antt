@@ -5,7 +5,7 @@ use Rattle.bx_renaming.specs.Renaming.{moving_so, onto_errors}
 use Rattle.bx_renaming.proofs.Comes.{both_passed, over_fails, over_passes, stopped_so}
 use Rattle.bx_renaming.proofs.Passed.{over, over_comes}
 use Rattle.bx_linking.proofs.Comes.{stop_first}
-use Rattle.bx_adding.specs.Lacking.{MakesEither}
+use Rattle.bx_linking.specs.Lacking.{MakesEither}
 use Rattle.bx_renaming.proofs.onto.move_over.Goals as goal
 
 pub returns-in-Err-clause-step : goal.returns-in-Err-clause-step

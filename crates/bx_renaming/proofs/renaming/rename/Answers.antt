@@ -1,5 +1,5 @@
 use Rattle.bx_renaming.proofs.Comes.{between, is_first, is_renamed, is_stopped, no_places}
-use Rattle.bx_adding.proofs.Lacks.{first_so}
+use Rattle.bx_linking.proofs.Lacks.{first_so}
 use Rattle.bx_renaming.proofs.Lacks.{prepares_move, ready_move}
 use Rattle.bx_renaming.specs.Lacking.{PreparesMove}
 use Rattle.bx_linking.proofs.Comes.{stop_comes}

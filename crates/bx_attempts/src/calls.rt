@@ -3,10 +3,11 @@
 ghost use Rattle.std.specs.Prelude.{◌≡◌, ◌≤◌, ◌↔◌, ℕ, List, IfOk, IsTrue};
 ghost use Rattle.bx_chunks.specs.Counting.{free_slots};
 ghost use Rattle.bx_model.specs.declared.tree.Tree.{Tree};
+ghost use Rattle.bx_nfs.specs.Asked.{IsNfs};
 ghost use Rattle.bx_nfs.specs.Wire.{ReadsAs};
 ghost use Rattle.bx_views.specs.Attempts.{Gives, IsFair};
 ghost use Rattle.bx_views.specs.Truths.{IsTruth, Truth};
-ghost use Rattle.bx_attempts.specs.Calls.{IsChanging, IsProcedure};
+ghost use Rattle.bx_attempts.specs.Calls.{IsChanging};
 ghost use Rattle.bx_attempts.specs.First.{IfChange, IfInner, PreparesFirst, ReadyBy};
 ghost use Rattle.bx_attempts.specs.Paths.{ChangePathOf};
 ghost use Rattle.bx_steps.specs.Steps.{StandsWith, Step};
@@ -88,7 +89,7 @@ pub fn is_change(call: &Call) -> bool
 
 /// Whether a call is a procedure of NFS.
 fn is_procedure(call: &Call, number: u32) -> bool
-    ensures { IsTrue result ↔ IsProcedure number call.now }
+    ensures { IsTrue result ↔ IsNfs number call.now }
 {
     call.program == NFS_PROGRAM && call.procedure == number
 }

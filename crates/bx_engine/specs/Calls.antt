@@ -1,9 +1,9 @@
 -- The calls that read, by their bytes.
 use Rattle.std.specs.Prelude.{◌≡◌, ℕ, ◌⊎◌, List}
-use Rattle.bx_attempts.specs.Calls.{IsProcedure}
 use Rattle.bx_model.specs.declared.call.Args.{Args}
 use Rattle.bx_model.specs.declared.call.Args.TheVariants.{Refused, Nothing, Handle, List as Listing, Name, Read, Path}
 use Rattle.bx_model.specs.declared.call.Call.{Call}
+use Rattle.bx_nfs.specs.Asked.{IsNfs}
 use Rattle.bx_nfs.specs.Wire.{ReadsAs}
 
 -- the procedures about a file alone: GETATTR (1), READLINK (5) and STATFS (17)
@@ -28,7 +28,7 @@ HasReadArgs call (Refused number) = Unit {0}
 HasReadArgs call Nothing = Unit {0}
 HasReadArgs call (Path path) = IsOfMount call
 HasReadArgs call (Handle handle) = AsksAboutFile call
-HasReadArgs call (Name handle name) = IsProcedure 4 call
+HasReadArgs call (Name handle name) = IsNfs 4 call
 HasReadArgs call (Read handle offset count total) = Unit {0}
 HasReadArgs call (Listing handle cookie count) = Unit {0}
 HasReadArgs call _ = ⊥

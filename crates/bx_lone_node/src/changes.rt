@@ -1,6 +1,6 @@
 //! What calls change: a record, its homes, and the closing of the log.
 
-ghost use Rattle.std.specs.Prelude.{◌≡◌, ◌⊎◌, ℕ, IfOk, OnOk, None};
+ghost use Rattle.std.specs.Prelude.{◌≡◌, ℕ, IfOk, OnOk, None, Some};
 ghost use Rattle.bx_disk.specs.Disks.{Disks};
 ghost use Rattle.bx_facts.specs.Disks.{NeedsNoMore};
 ghost use Rattle.bx_global.specs.declared.state.GlobalState.{GlobalState};
@@ -83,64 +83,80 @@ impl LoneNode {
             &mut self.cache,
             &draft,
         )?;
-        let Some(point) = opened else {
-            self.stage = Stage::Logs(recorded, draft);
-            return Ok(None);
-        };
-        self.stage = Stage::Homes(point);
-        Ok(told(recorded, point))
+        let (stage, acted) = stage_behind(recorded, draft, opened);
+        self.stage = stage;
+        Ok(acted)
     }
 
-    /// The blocks of the record are home: the log is closed, gate 0 first.
+    /// The blocks of the record are home: the log is closed, gate 0 first. Nothing is said of it.
     pub(crate) fn begin_closing<S: Store>(
         &mut self,
         store: &mut S,
         point: Point,
-    ) -> Result<(), OutOfMemory>
+    ) -> Result<Option<Acted>, OutOfMemory>
         requires spent { self.old.stage ≡ Spent }
         requires node { IsNode (record self.old { stage = Homes point }) }
         requires joined { IsJoined (record self.old { stage = Homes point }) (S.made store.old) (S.own store.old 0) (S.out_of store.old 0) (S.asked store.old 0) }
         requires none_out { S.out_of store.old 0 ≡ None }
+        ensures takes { IfOk result (λ acted. Takes acted (unanswered (Homes point) self.old.queue) (calls_of self.new)) }
         ensures queue { self.new.queue ≡ self.old.queue }
         ensures same { IsOfSame self.old self.new }
-        ensures stage { OnOk result (self.new.stage ≡ Closes point) }
         ensures joined { OnOk result (IsJoined self.new (S.made store.new) (S.own store.new 0) (S.out_of store.new 0) (S.asked store.new 0)) }
         ensures needs { NeedsNoMore (S.needs store.old) (S.needs store.new) }
         ensures made { S.made store.new ≡ S.made store.old }
+        ensures goes { IfOk result (λ acted. Goes (record self.old { stage = Homes point }) self.new acted) }
         ensures awaits { OnOk result (Awaits self.new.stage (S.out_of store.new 0) (S.answer store.new 0)) }
-        ensures stands { (volume : ℕ) (state : GlobalState) (x : Disks) (tree next : Tree) → NodeStands (S.keeps store.old) (S.stands store.old) (S.will_read store.old) (S.made store.old) (S.own store.old 0) (S.out_of store.old 0) (S.asked store.old 0) volume state x (record self.old { stage = Homes point }) tree next → OnOk result (NodeStands (S.keeps store.new) (S.stands store.new) (S.will_read store.new) (S.made store.new) (S.own store.new 0) (S.out_of store.new 0) (S.asked store.new 0) volume state x self.new tree next) }
+        ensures stands { (volume : ℕ) (state : GlobalState) (x : Disks) (tree next : Tree) → NodeStands (S.keeps store.old) (S.stands store.old) (S.will_read store.old) (S.made store.old) (S.own store.old 0) (S.out_of store.old 0) (S.asked store.old 0) volume state x (record self.old { stage = Homes point }) tree next
+            → IfOk result (GoesTo (NodeStands (S.keeps store.new) (S.stands store.new) (S.will_read store.new) (S.made store.new) (S.own store.new 0) (S.out_of store.new 0) (S.asked store.new 0) volume state x self.new) (record self.old { stage = Homes point }) self.new tree next) }
     {
         send_closing(store, self.alloc, &mut self.log)?;
         self.stage = Stage::Closes(point);
-        Ok(())
+        Ok(None)
     }
 
-    /// Goes on with the closing: behind gate 0 come the other gates.
+    /// Goes on with the closing: behind gate 0 come the other gates. Nothing is said of it.
     pub(crate) fn close_on<S: Store>(
         &mut self,
         store: &mut S,
         point: Point,
-    ) -> Result<(), OutOfMemory>
+    ) -> Result<Option<Acted>, OutOfMemory>
         requires spent { self.old.stage ≡ Spent }
         requires node { IsNode (record self.old { stage = Closes point }) }
         requires joined { IsJoined (record self.old { stage = Closes point }) (S.made store.old) (S.own store.old 0) (S.out_of store.old 0) (S.asked store.old 0) }
         requires none_out { S.out_of store.old 0 ≡ None }
+        ensures takes { IfOk result (λ acted. Takes acted (unanswered (Closes point) self.old.queue) (calls_of self.new)) }
         ensures queue { self.new.queue ≡ self.old.queue }
         ensures same { IsOfSame self.old self.new }
-        ensures stage { OnOk result ((self.new.stage ≡ Closes point) ⊎ (self.new.stage ≡ Idle)) }
         ensures joined { OnOk result (IsJoined self.new (S.made store.new) (S.own store.new 0) (S.out_of store.new 0) (S.asked store.new 0)) }
         ensures needs { NeedsNoMore (S.needs store.old) (S.needs store.new) }
         ensures made { S.made store.new ≡ S.made store.old }
+        ensures goes { IfOk result (λ acted. Goes (record self.old { stage = Closes point }) self.new acted) }
         ensures awaits { OnOk result (Awaits self.new.stage (S.out_of store.new 0) (S.answer store.new 0)) }
-        ensures stands { (volume : ℕ) (state : GlobalState) (x : Disks) (tree next : Tree) → NodeStands (S.keeps store.old) (S.stands store.old) (S.will_read store.old) (S.made store.old) (S.own store.old 0) (S.out_of store.old 0) (S.asked store.old 0) volume state x (record self.old { stage = Closes point }) tree next → OnOk result (NodeStands (S.keeps store.new) (S.stands store.new) (S.will_read store.new) (S.made store.new) (S.own store.new 0) (S.out_of store.new 0) (S.asked store.new 0) volume state x self.new tree next) }
+        ensures stands { (volume : ℕ) (state : GlobalState) (x : Disks) (tree next : Tree) → NodeStands (S.keeps store.old) (S.stands store.old) (S.will_read store.old) (S.made store.old) (S.own store.old 0) (S.out_of store.old 0) (S.asked store.old 0) volume state x (record self.old { stage = Closes point }) tree next
+            → IfOk result (GoesTo (NodeStands (S.keeps store.new) (S.stands store.new) (S.will_read store.new) (S.made store.new) (S.own store.new 0) (S.out_of store.new 0) (S.asked store.new 0) volume state x self.new) (record self.old { stage = Closes point }) self.new tree next) }
     {
         let is_closed = shut_on(store, self.alloc, &mut self.log)?;
         if is_closed {
             self.stage = Stage::Idle;
-            return Ok(());
+            return Ok(None);
         }
         self.stage = Stage::Closes(point);
-        Ok(())
+        Ok(None)
+    }
+}
+
+/// The stage behind a record's write, and what is said: a record that isn't open yet is still written; one that is open goes home.
+fn stage_behind(
+    recorded: Recorded,
+    draft: Draft,
+    opened: Option<Point>,
+) -> (Stage, Option<Acted>)
+    ensures written { opened ≡ None → result ≡ (Logs recorded draft, None) }
+    ensures home { (point : Point) → opened ≡ Some point → result ≡ (Homes point, told_of recorded point) }
+{
+    match opened {
+        None => (Stage::Logs(recorded, draft), None),
+        Some(point) => (Stage::Homes(point), told(recorded, point)),
     }
 }
 

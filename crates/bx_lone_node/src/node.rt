@@ -49,7 +49,7 @@ impl LoneNode {
     ghost use Rattle.bx_lone_standing.specs.Standing.{Goes, GoesTo, NodeStands};
     ghost use Rattle.bx_lone_standing.specs.Turning.{Awaits};
     ghost use Rattle.bx_lone_standing.specs.declared.stage.Waiting.{Waiting};
-    ghost use Rattle.bx_lone_standing.specs.declared.stage.Stage.TheVariants.{Idle, Reads};
+    ghost use Rattle.bx_lone_standing.specs.declared.stage.Stage.TheVariants.{Idle, Reads, Spent};
 
     /// A node of a volume of so many devices (1 to 4) and areas (1 to 64), whose logs are closed. No call waits, and nothing was
     /// read yet. It takes no memory.
@@ -210,6 +210,8 @@ impl LoneNode {
 
     /// Goes on once the write that was out is acknowledged.
     fn acknowledged<S: Store>(&mut self, store: &mut S) -> Result<Option<Acted>, OutOfMemory>
+        requires used { self.old.stage ≢ Spent }
+        requires not_idle { self.old.stage ≢ Idle }
         requires no_read { (at : ℕ) → self.old.stage ≢ Reads at }
         requires joined { IsJoined self.old (S.made store.old) (S.own store.old 0) (S.out_of store.old 0) (S.asked store.old 0) }
         requires none_out { S.out_of store.old 0 ≡ None }
@@ -220,26 +222,15 @@ impl LoneNode {
         ensures needs { NeedsNoMore (S.needs store.old) (S.needs store.new) }
         ensures made { S.made store.new ≡ S.made store.old }
         ensures goes { IfOk result (λ acted. Goes self.old self.new acted) }
-        ensures awaits { IsUsed self.old.stage → OnOk result (Awaits self.new.stage (S.out_of store.new 0) (S.answer store.new 0)) }
+        ensures awaits { OnOk result (Awaits self.new.stage (S.out_of store.new 0) (S.answer store.new 0)) }
         ensures stands { (volume : ℕ) (state : GlobalState) (x : Disks) (tree next : Tree) → NodeStands (S.keeps store.old) (S.stands store.old) (S.will_read store.old) (S.made store.old) (S.own store.old 0) (S.out_of store.old 0) (S.asked store.old 0) volume state x self.old tree next
             → IfOk result (GoesTo (NodeStands (S.keeps store.new) (S.stands store.new) (S.will_read store.new) (S.made store.new) (S.own store.new 0) (S.out_of store.new 0) (S.asked store.new 0) volume state x self.new) self.old self.new tree next) }
     {
         match mem::replace(&mut self.stage, Stage::Spent) {
             Stage::Logs(recorded, draft) => self.log_on(store, recorded, draft),
-            Stage::Homes(point) => {
-                self.begin_closing(store, point)?;
-                Ok(None)
-            }
-            Stage::Closes(point) => {
-                self.close_on(store, point)?;
-                Ok(None)
-            }
-            Stage::Idle => {
-                self.stage = Stage::Idle;
-                Ok(None)
-            }
-            Stage::Reads(_) => unreachable!(),
-            Stage::Spent => Ok(None),
+            Stage::Homes(point) => self.begin_closing(store, point),
+            Stage::Closes(point) => self.close_on(store, point),
+            Stage::Idle | Stage::Reads(_) | Stage::Spent => unreachable!(),
         }
     }
 }

@@ -1,4 +1,4 @@
-use Rattle.std.proofs.Common.{◌≡◌, List, refl, sym, ◌∙◌, ap, subst, arith, ◌≤◌}
+use Rattle.std.proofs.Common.{◌≡◌, inl, List, refl, sym, ◌∙◌, ap, subst, arith, ◌≤◌}
 use Rattle.bx_base.specs.declared.names.Actor.TheVariants.{Node}
 use Rattle.bx_facts.specs.Chains.{last}
 use Rattle.bx_facts.specs.Writes.{Made}
@@ -13,6 +13,7 @@ use Rattle.bx_lone_standing.specs.Runs.{sent_by}
 use Rattle.bx_lone_standing.specs.Standing.{NodeStands}
 use Rattle.bx_lone_standing.specs.declared.stage.Stage.TheVariants.{Homes, Closes}
 use Rattle.bx_lone_node.proofs.Events.{may_write, shutting}
+use Rattle.bx_lone_node.proofs.Steps.{is_out, kept_closing}
 use Rattle.bx_lone_standing.proofs.Fitting.{log_fits}
 use Rattle.bx_lone_standing.proofs.Phases.{landed}
 use Rattle.bx_lone_standing.proofs.Shapes.{at_stage}
@@ -53,4 +54,13 @@ returns-clause-stands g c = λ volume state x tree next stood.
     ap (λ (l : LogView). let n : NodeView = record node { stage = Closes c.args.point; log = l } in n) went
     ∙ ap (λ (n : NodeView). let m : NodeView = record n { stage = Closes c.args.point; log = doing n.log works.Closes } in m) c.self.view_is in
     let P : NodeView → Type 0 = λ n. NodeStands (st.keeps new) (st.stands new) (st.will_read new) (st.made new) (st.own new 0) (st.out_of new 0) (st.asked new 0) volume state x n tree next in
-    subst P (sym here) stands
+    inl (refl, kept_closing _ _ c.args.point refl refl, subst P (sym here) stands)
+
+pub returns-clause-takes : goal.returns-clause-takes
+returns-clause-takes g c = ap (λ (n : NodeView). n.queue) c.self.view_is
+
+pub returns-clause-goes : goal.returns-clause-goes
+returns-clause-goes g c = inl (refl, kept_closing _ _ c.args.point refl refl)
+
+pub returns-clause-awaits : goal.returns-clause-awaits
+returns-clause-awaits g c = is_out _ _ _ c.requires.joined.session c.in_ok-send_closing.ensures.sent.is_out

@@ -1,4 +1,4 @@
-use Rattle.std.proofs.Common.{◌≡◌, refl, sym, ◌∙◌, ap, subst, arith, ◌≤◌}
+use Rattle.std.proofs.Common.{◌≡◌, inl, refl, sym, ◌∙◌, ap, subst, arith, ◌≤◌}
 use Rattle.bx_base.specs.declared.names.Actor.TheVariants.{Node}
 use Rattle.bx_facts.specs.Chains.{last}
 use Rattle.bx_facts.specs.Writes.{Made}
@@ -12,6 +12,7 @@ use Rattle.bx_lone_standing.specs.Standing.{NodeStands}
 use Rattle.bx_lone_standing.specs.declared.stage.Stage.TheVariants.{Idle, Closes}
 use Rattle.bx_lone_standing.specs.Sends.{HasSent, shut_runs}
 use Rattle.bx_lone_node.proofs.Events.{may_write, rested, shut_more}
+use Rattle.bx_lone_node.proofs.Steps.{is_out, kept_closing, kept_idle}
 use Rattle.bx_lone_standing.proofs.Fitting.{log_fits}
 use Rattle.bx_lone_standing.proofs.Phases.{landed}
 use Rattle.bx_lone_standing.proofs.Shapes.{at_stage}
@@ -68,7 +69,7 @@ returns-clause-stands g c = λ volume state x tree next stood.
     ap (λ (l : LogView). let n : NodeView = record node { log = l } in n) goes.1
     ∙ ap (λ (n : NodeView). let l : LogView = record n.log { count = 0 } in let m : NodeView = record n { stage = Closes c.args.point; log = doing l works.Shuts } in m) c.self.view_is in
     let P : NodeView → Type 0 = λ n. NodeStands (st.keeps new) (st.stands new) (st.will_read new) (st.made new) (st.own new 0) (st.out_of new 0) (st.asked new 0) volume state x n tree next in
-    subst P (sym here) stands
+    inl (refl, kept_closing _ _ c.args.point refl refl, subst P (sym here) stands)
 
 pub returns-then-is_closed-clause-stands : goal.returns-then-is_closed-clause-stands
 returns-then-is_closed-clause-stands g c = λ volume state x tree next stood.
@@ -84,5 +85,22 @@ returns-then-is_closed-clause-stands g c = λ volume state x tree next stood.
     let here : (let n : NodeView = record node { stage = Idle; log = c.shut_on.new.log } in n) ≡ record now { stage = Idle; log = resting now.log } =
     ap (λ (l : LogView). let n : NodeView = record node { stage = Idle; log = l } in n) goes.1
     ∙ ap (λ (n : NodeView). let m : NodeView = record n { stage = Idle; log = resting n.log } in m) c.self.view_is in
-    subst (λ s. NodeStands (st.keeps s) (st.stands s) (st.will_read s) (st.made s) (st.own s 0) (st.out_of s 0) (st.asked s 0) volume state x (record node { stage = Idle; log = c.shut_on.new.log }) tree next) (sym goes.3)
-    (subst (λ (n : NodeView). NodeStands (st.keeps old) (st.stands old) (st.will_read old) (st.made old) (st.own old 0) (st.out_of old 0) (st.asked old 0) volume state x n tree next) (sym here) stands)
+    inl (refl, kept_idle _ _ refl, subst (λ s. NodeStands (st.keeps s) (st.stands s) (st.will_read s) (st.made s) (st.own s 0) (st.out_of s 0) (st.asked s 0) volume state x (record node { stage = Idle; log = c.shut_on.new.log }) tree next) (sym goes.3)
+    (subst (λ (n : NodeView). NodeStands (st.keeps old) (st.stands old) (st.will_read old) (st.made old) (st.own old 0) (st.out_of old 0) (st.asked old 0) volume state x n tree next) (sym here) stands))
+
+pub returns-clause-takes : goal.returns-clause-takes
+returns-clause-takes g c = ap (λ (n : NodeView). n.queue) c.self.view_is
+
+pub returns-then-is_closed-clause-takes : goal.returns-then-is_closed-clause-takes
+returns-then-is_closed-clause-takes g c = ap (λ (n : NodeView). n.queue) c.self.view_is
+
+pub returns-clause-goes : goal.returns-clause-goes
+returns-clause-goes g c = inl (refl, kept_closing _ _ c.args.point refl refl)
+
+pub returns-then-is_closed-clause-goes : goal.returns-then-is_closed-clause-goes
+returns-then-is_closed-clause-goes g c = inl (refl, kept_idle _ _ refl)
+
+pub returns-clause-awaits : goal.returns-clause-awaits
+returns-clause-awaits g c =
+    let goes = rw c.if-is_closed.false at c.in_ok-is_closed.ensures.goes in
+    is_out _ _ _ c.requires.joined.session goes.2.is_out

@@ -13,3 +13,4 @@ pub mod Goings
 pub mod Leavings
 pub mod Running
 pub mod Held
+pub mod Causes

@@ -12,7 +12,6 @@ ghost use Rattle.bx_service.specs.Rounds.{Doubt};
 use crate::bench::crash_all;
 use crate::print::print_lines;
 use crate::state::Replay;
-use bx_base::OutOfMemory;
 use bx_disk::{CrashRack, Noise, Rack};
 use bx_outside::Sink;
 use bx_script::TraceLine;
@@ -21,19 +20,16 @@ use bx_stops::Stop;
 
 impl<M: Service> Replay<M> {
     /// All machines that are up crash, and their disks with them.
-    pub(crate) fn crash<B: CrashRack>(
-        &mut self,
-        noise: Noise,
-        bench: &mut B,
-    ) -> Result<(), OutOfMemory>
+    pub(crate) fn crash<B: CrashRack>(&mut self, noise: Noise, bench: &mut B) -> Result<(), Stop>
         requires ready { M.ready self.old.service (B.state bench.old).sizes }
         ensures crashes { (tree : Tree) (doubt : Option Doubt) (done : List Done) (start written : List ℕ) (how : Noise) → B.tells bench.old → M.holds self.old.service (B.state bench.old) tree doubt → length done < 4294967295
             → IsInPlace false (CrashLine how) → Stands tree (M.up self.old.service) (M.waits self.old.service) doubt self.old.calls done start written
-            → OnOk result (StandsAfter (M.holds self.new.service (B.state bench.new)) (M.up self.new.service) (M.waits self.new.service) self.new.calls (CrashLine how) done start written) }
+            → DoesLine result (StandsAfter (M.holds self.new.service (B.state bench.new)) (M.up self.new.service) (M.waits self.new.service) self.new.calls (CrashLine how) done start written) (CrashLine how) done start written written }
         ensures holds { (tree : Tree) (doubt : Option Doubt) → B.tells bench.old → M.holds self.old.service (B.state bench.old) tree doubt → OnOk result (M.holds self.new.service (B.state bench.new) tree doubt) }
         ensures up { OnOk result (M.up self.new.service ≡ false) }
         ensures latest { OnOk result (M.latest self.new.service ≡ M.latest self.old.service) }
         ensures ready { OnOk result (M.ready self.new.service (B.state bench.new).sizes) }
+        ensures cause { (before now : ℕ) → IfErr result (λ stop. HasPrintCause stop before now) }
         ensures calls { self.new.calls ≡ self.old.calls }
         ensures bench_later { B.faults bench.old ≤ B.faults bench.new }
         ensures bench_tells { B.tells bench.old → B.tells bench.new }

@@ -1,17 +1,22 @@
 //! How a replay begins, and how it ends.
 
 ghost use Rattle.std.specs.Prelude.{◌≡◌, ◌≤◌, ℕ, Option, true, false, [], ◌++◌, IfOk, IfErr, filter, map, OnOk};
+ghost use Rattle.bx_audit.specs.Audited.{AreOpen};
 ghost use Rattle.bx_base.specs.declared.names.Point.{Point};
+ghost use Rattle.bx_disk.specs.Disks.{Disks};
+ghost use Rattle.bx_global.specs.Opening.{opening_state};
 ghost use Rattle.bx_model.specs.declared.tree.Tree.{Tree};
+ghost use Rattle.bx_model.specs.Listing.{listing};
 ghost use Rattle.bx_replay.specs.Bench.{IsHeldBy};
-ghost use Rattle.bx_replay.specs.Replay.{Begins, Ends, HasBeginCause, HasFinishCause, UnlessDisk, UnlessRead, UnlessWrite};
+ghost use Rattle.bx_replay.specs.Replay.{Begins, Ends, HasBeginCause, HasFinishCause, HasPrintCause, UnlessDisk, UnlessRead, UnlessWrite};
 ghost use Rattle.bx_script.specs.declared.trace_line.TraceLine.TheVariants.{Acted};
-ghost use Rattle.bx_service.specs.Rounds.{Doubt};
+ghost use Rattle.bx_service.specs.Rounds.{Doubt, Shows};
 
 use crate::bench::read_back;
 use crate::print::print_end;
 use crate::schedule::next_line;
 use crate::state::Replay;
+use bx_audit::Listing;
 use bx_base::{OutOfMemory, Point};
 use bx_disk::{CrashRack, Rack};
 use bx_outside::{LineReader, Sink, Source, write_all};
@@ -82,6 +87,23 @@ impl<M: Service> Replay<M> {
         ensures keeps_telling { K.tells out.old → K.tells out.new }
     {
         let listed = read_back(alloc, bench)?;
+        self.write_closing(alloc, &listed, out)
+    }
+
+    /// Writes what comes after the trace, where this is listed: the word `end`, the points of calls that lack one, and the listing.
+    fn write_closing<K: Sink>(
+        &mut self,
+        alloc: Global,
+        listed: &Listing,
+        out: &mut K,
+    ) -> Result<(), Stop>
+        ensures ends { (disks : Disks) (tree : Tree) (doubt : Option Doubt) (shows : Shows (M.lacks self.old.service) disks tree doubt) → K.tells out.old → AreOpen disks (opening_state 1 1) listed.now.doubt → listed.now.text ≡ listing shows.next
+            → IsHeldBy disks shows.next → Ends result tree doubt (IsHeldBy disks) (K.written out.old) (K.written out.new) }
+        ensures cause { IfErr result (λ stop. HasPrintCause stop (K.faults out.old) (K.faults out.new)) }
+        ensures first { UnlessWrite result (K.faults out.new ≡ K.faults out.old) }
+        ensures later { K.faults out.old ≤ K.faults out.new }
+        ensures keeps_telling { K.tells out.old → K.tells out.new }
+    {
         let mut doubt = Vec::new(alloc);
         self.put_doubt(listed.doubt.items(), &mut doubt)?;
         print_end(&mut self.text, &doubt, out)?;

@@ -60,7 +60,7 @@ impl<M: Service> Replay<M> {
                 datagram,
             } => self.call(alloc, number, node, client, datagram, out),
             Line::Run { reading, limit } => self.run(reading, limit, bench, out),
-            Line::Crash { noise } => Ok(self.crash(noise, bench)?),
+            Line::Crash { noise } => self.crash(noise, bench),
             Line::Restart { reading: _ } => self.restart(bench, out),
             Line::Tick { reading: _ } => self.tick(number),
             Line::Heading { .. } => Ok(()),

@@ -1,4 +1,5 @@
-use Rattle.std.proofs.Common.{◌≡◌, [], false, sym, ◌∙◌}
+use Rattle.std.proofs.Common.{◌≡◌, [], false, inl, refl, sym, ◌∙◌}
+use Rattle.std.proofs.lemmas.Result.{err_from_is_err_and}
 use Rattle.bx_replay.proofs.Standing.{stands_crashed}
 use Rattle.bx_replay.proofs.state.Replay.crash.Goals as goal
 
@@ -21,3 +22,13 @@ returns-else-is_up-clause-crashes g c = λ tree doubt done start written how tel
       lines = [];
       stands = rw (down, g.met.M.Service.idle c.args.self.now.service down) (stands_crashed tree _ _ doubt _ done start written room stands how place);
     }
+
+pub returns-in_err-crash_all-clause-crashes : goal.returns-in_err-crash_all-clause-crashes
+returns-in_err-crash_all-clause-crashes g c = λ tree doubt done start written how tells holds room place stands.
+    let p = err_from_is_err_and c.from_residual.result c.from_residual.ensures.1 in
+    rw (p.1, p.2) (inl refl)
+
+pub returns-in_err-crash_all-clause-cause : goal.returns-in_err-crash_all-clause-cause
+returns-in_err-crash_all-clause-cause g c = λ before now.
+    let p = err_from_is_err_and c.from_residual.result c.from_residual.ensures.1 in
+    rw (p.1, p.2) tt

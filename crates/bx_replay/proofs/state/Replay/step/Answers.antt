@@ -1,13 +1,117 @@
-use Rattle.std.proofs.Common.{[], refl}
+use Rattle.std.proofs.Common.{[], refl, sym, ◌∙◌, arith}
+use Rattle.std.proofs.lemmas.Result.{IfErr-weaker, on_ok_weaker}
+use Rattle.bx_replay.proofs.Causes.{on_ok, step_printed, unless_write}
+use Rattle.bx_replay.proofs.Printing.{hears_line}
 use Rattle.bx_replay.proofs.Standing.{stands_silent}
 use Rattle.bx_replay.proofs.state.Replay.step.Goals as goal
 
-pub returns-in-Run-clause-does : goal.returns-in-Run-clause-does
-returns-in-Run-clause-does g c = λ tree doubt done start sink_tells bench_tells holds room stands.
-    rw c.in-Run.is (c.run.ensures.runs done start sink_tells bench_tells (record {
-      tree = tree;
-      doubt = doubt;
-      holds = holds;
-      lines = [];
-      stands = stands_silent tree _ _ doubt _ done start _ room stands _ _ tt (rw c.in-Run.is at c.requires.in_place) tt refl;
-    }))
+pub returns-in-Call : goal.returns-in-Call
+returns-in-Call g c =
+    let done = c.call.ensures in
+    record {
+      does = λ tree doubt past start sink_tells bench_tells holds room stands.
+          rw c.in-Call.is (done.does _ (g.B.Rack.state c.args.bench.now) tree doubt past start sink_tells c.requires.ready holds room (rw c.in-Call.is at c.requires.in_place) stands);
+      holds = λ tree doubt bench_tells holds. on_ok_weaker c.call.result (λ held. (tree, doubt, held)) (done.holds (g.B.Rack.state c.args.bench.now) tree doubt c.requires.ready holds);
+      latest = done.latest;
+      ready = done.ready _ c.requires.ready;
+      hears = rw c.in-Call.is (done.hears _);
+      ticks = λ reading is idle. let line = c.in-Call.is in cc;
+      cause = done.cause;
+      first = done.first;
+      calls = done.calls;
+      later = done.later;
+      keeps_telling = done.keeps_telling;
+      bench_later = omega arith;
+      bench_tells = λ tells. tells;
+    }
+
+pub returns-in-Run : goal.returns-in-Run
+returns-in-Run g c =
+    let done = c.run.ensures in
+    record {
+      does = λ tree doubt past start sink_tells bench_tells holds room stands.
+          rw c.in-Run.is (done.runs past start sink_tells bench_tells (record {
+            tree = tree;
+            doubt = doubt;
+            holds = holds;
+            lines = [];
+            stands = stands_silent tree _ _ doubt _ past start _ room stands _ _ tt (rw c.in-Run.is at c.requires.in_place) tt refl;
+          }));
+      holds = done.holds;
+      latest = on_ok_weaker c.run.result (λ latest. latest ∙ c.requires.latest ∙ sym done.calls) done.latest;
+      ready = done.ready;
+      hears = rw c.in-Run.is (hears_line c.run.result _ _ _ _ _ done.cause tt done.up);
+      ticks = λ reading is idle. let line = c.in-Run.is in cc;
+      cause = IfErr-weaker c.run.result _ _ (λ stop cause. step_printed stop c.args.number _ _ cause) done.cause;
+      first = done.first;
+      calls = omega (arith, done.calls);
+      later = done.later;
+      keeps_telling = done.keeps_telling;
+      bench_later = done.bench_later;
+      bench_tells = done.bench_tells;
+    }
+
+pub returns-in-Crash : goal.returns-in-Crash
+returns-in-Crash g c =
+    let done = c.crash.ensures in
+    record {
+      does = λ tree doubt past start sink_tells bench_tells holds room stands.
+          rw c.in-Crash.is (done.crashes tree doubt past start _ _ bench_tells holds room (rw c.in-Crash.is at c.requires.in_place) stands);
+      holds = λ tree doubt bench_tells holds. on_ok_weaker c.crash.result (λ held. (tree, doubt, held)) (done.holds tree doubt bench_tells holds);
+      latest = on_ok_weaker c.crash.result (λ latest. latest ∙ c.requires.latest ∙ sym done.calls) done.latest;
+      ready = done.ready;
+      hears = rw c.in-Crash.is (hears_line c.crash.result _ _ _ 0 0 (done.cause 0 0) tt done.up);
+      ticks = λ reading is idle. let line = c.in-Crash.is in cc;
+      cause = IfErr-weaker c.crash.result _ _ (λ stop cause. step_printed stop c.args.number _ _ cause) (done.cause _ _);
+      first = unless_write c.crash.result refl;
+      calls = omega (arith, done.calls);
+      later = omega arith;
+      keeps_telling = λ tells. tells;
+      bench_later = done.bench_later;
+      bench_tells = done.bench_tells;
+    }
+
+pub returns-in-Restart : goal.returns-in-Restart
+returns-in-Restart g c =
+    let done = c.restart.ensures in
+    record {
+      does = λ tree doubt past start sink_tells bench_tells holds room stands.
+          rw c.in-Restart.is (done.restarts tree doubt _ past start sink_tells bench_tells holds room (rw c.in-Restart.is at c.requires.in_place) stands);
+      holds = done.holds;
+      latest = on_ok_weaker c.restart.result (λ latest. latest ∙ c.requires.latest ∙ sym done.calls) done.latest;
+      ready = done.ready;
+      hears = rw c.in-Restart.is (hears_line c.restart.result _ _ _ _ _ done.cause tt done.up);
+      ticks = λ reading is idle. let line = c.in-Restart.is in cc;
+      cause = IfErr-weaker c.restart.result _ _ (λ stop cause. step_printed stop c.args.number _ _ cause) done.cause;
+      first = done.first;
+      calls = omega (arith, done.calls);
+      later = done.later;
+      keeps_telling = done.keeps_telling;
+      bench_later = done.bench_later;
+      bench_tells = done.bench_tells;
+    }
+
+pub returns-in-Tick : goal.returns-in-Tick
+returns-in-Tick g c =
+    let done = c.tick.ensures in
+    record {
+      does = λ tree doubt past start sink_tells bench_tells holds room stands.
+          rw c.in-Tick.is (done.does _ (g.B.Rack.state c.args.bench.now) tree doubt past start _ holds room (rw c.in-Tick.is at c.requires.in_place) stands);
+      holds = λ tree doubt bench_tells holds. on_ok c.tick.result (tree, doubt, done.holds (g.B.Rack.state c.args.bench.now) tree doubt holds);
+      latest = on_ok c.tick.result (done.latest ∙ c.requires.latest ∙ sym done.calls);
+      ready = on_ok c.tick.result (done.ready _ c.requires.ready);
+      hears = rw c.in-Tick.is (done.hears _);
+      ticks = λ reading is idle. done.begins idle;
+      cause = done.cause _ _;
+      first = unless_write c.tick.result refl;
+      calls = omega (arith, done.calls);
+      later = omega arith;
+      keeps_telling = λ tells. tells;
+      bench_later = omega arith;
+      bench_tells = λ tells. tells;
+    }
+
+pub returns-in-Heading : goal.returns-in-Heading
+returns-in-Heading g c =
+    let place = (rw c.in-Heading.is at c.requires.in_place).0.1 in
+    absurd (cc place)

@@ -59,3 +59,7 @@ behind recorded draft opened came is_written is_home P written home = by opened 
     by : (o : Option Point) → opened ≡ o → P came.0 came.1
     by None e = subst (λ (c : Stage × Option Acted). P c.0 c.1) (sym (is_written e)) (written e)
     by (Some point) e = subst (λ (c : Stage × Option Acted). P c.0 c.1) (sym (is_home point e)) (home point e)
+
+-- a node in the stage that it is in
+pub in_stage : (node now : NodeView) (stage : Stage) → stage ≡ node.stage → node ≡ now → record node { stage = stage } ≡ now
+in_stage node now stage is view = (λ i. record node { stage = is i }) ∙ view

@@ -1,14 +1,48 @@
 -- What holds whichever way a call ended, and why it stopped short.
-use Rattle.std.proofs.Common.{ℕ, Result, Ok, Err, inl}
+use Rattle.std.proofs.Common.{◌≡◌, ◌≤◌, ◌+◌, ℕ, List, Result, Ok, Err, inl, inr, arith}
 use Rattle.std.specs.Prelude.{OnOk}
+use Rattle.bx_script.specs.declared.line.Line.{Line}
+use Rattle.bx_script.specs.declared.line.Line.TheVariants.{Call, Run, Crash, Restart, Tick}
+use Rattle.bx_disk.specs.declared.noise.Noise.{Noise}
 use Rattle.bx_stops.specs.declared.stop.Stop.{Stop}
 use Rattle.bx_stops.specs.declared.stop.Stop.TheVariants as stops
-use Rattle.bx_replay.specs.Replay.{HasBeginCause, HasCause, HasLineCause, HasPrintCause, HasStepCause, UnlessDisk, UnlessWrite}
+use Rattle.bx_replay.specs.Replay.{HasBeginCause, HasCause, HasFinishCause, HasLineCause, HasPrintCause, HasStepCause, UnlessDisk, UnlessRead, UnlessWrite}
+
+-- counts that stay, or that rise twice
+pub same_least : (old new : ℕ) → new ≡ old → old ≤ new
+same_least old new same = omega arith
+
+pub same_most : (old new : ℕ) → new ≡ old → new ≤ old + 1
+same_most old new same = omega arith
+
+pub rises : (a b c : ℕ) → a ≤ b → b ≤ c → a ≤ c
+rises a b c first then_on = omega arith
+
+-- lines that aren't ticks
+pub call_no_tick : (line : Line) (reading moment node client : ℕ) (datagram : List ℕ) → line ≡ Call moment node client datagram → line ≡ Tick reading → ⊥
+call_no_tick line reading moment node client datagram call tick = cc
+
+pub run_no_tick : (line : Line) (reading moment limit : ℕ) → line ≡ Run moment limit → line ≡ Tick reading → ⊥
+run_no_tick line reading moment limit run tick = cc
+
+pub crash_no_tick : (line : Line) (reading : ℕ) (noise : Noise) → line ≡ Crash noise → line ≡ Tick reading → ⊥
+crash_no_tick line reading noise crash tick = cc
+
+pub restart_no_tick : (line : Line) (reading moment : ℕ) → line ≡ Restart moment → line ≡ Tick reading → ⊥
+restart_no_tick line reading moment restart tick = cc
 
 module _ {A P : Type 0} where
   pub on_ok : (r : Result A Stop) → P → OnOk r P
   on_ok (Ok x) p = p
   on_ok (Err stop) p = tt
+
+  pub unless_read : (r : Result A Stop) → P → UnlessRead r P
+  unless_read (Ok x) p = p
+  unless_read (Err (stops.Refused line reason)) p = p
+  unless_read (Err stops.ReadFault) p = tt
+  unless_read (Err stops.WriteFault) p = p
+  unless_read (Err stops.DiskFault) p = p
+  unless_read (Err stops.OutOfMemory) p = p
 
   pub unless_write : (r : Result A Stop) → P → UnlessWrite r P
   unless_write (Ok x) p = p
@@ -59,3 +93,13 @@ module _ (Tells : Type 0) where
   begin_cause stops.WriteFault source source_now sink sink_now bench bench_now cause = absurd cause
   begin_cause stops.DiskFault source source_now sink sink_now bench bench_now cause = inl cause
   begin_cause stops.OutOfMemory source source_now sink sink_now bench bench_now cause = tt
+
+  pub finish_cause : (Held : Type 0) (stop : Stop) (source source_now sink sink_now bench bench_then bench_now : ℕ) → bench ≤ bench_then → (Tells → Held) → HasFinishCause stop sink sink_now Held bench_then bench_now
+      → HasCause stop source source_now sink sink_now Tells bench bench_now
+  finish_cause Held (stops.Refused line reason) source source_now sink sink_now bench bench_then bench_now later gives cause = tt
+  finish_cause Held stops.ReadFault source source_now sink sink_now bench bench_then bench_now later gives cause = absurd cause
+  finish_cause Held stops.WriteFault source source_now sink sink_now bench bench_then bench_now later gives cause = cause
+  finish_cause Held stops.DiskFault source source_now sink sink_now bench bench_then bench_now later gives (inl (inl rose)) = inl (inl (omega (arith, later, rose)))
+  finish_cause Held stops.DiskFault source source_now sink sink_now bench bench_then bench_now later gives (inl (inr most)) = inl (inr most)
+  finish_cause Held stops.DiskFault source source_now sink sink_now bench bench_then bench_now later gives (inr none) = inr (λ tells. none (gives tells))
+  finish_cause Held stops.OutOfMemory source source_now sink sink_now bench bench_then bench_now later gives cause = tt

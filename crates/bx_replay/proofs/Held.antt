@@ -1,5 +1,5 @@
 -- What the bench holds once what is unsure on it was dropped.
-use Rattle.std.proofs.Common.{◌≡◌, ℕ, ◌+◌, ◌<◌, ◌⊎◌, inl, inr, Bool, true, false, arith, sym, ◌∙◌, subst, refl}
+use Rattle.std.proofs.Common.{◌≡◌, ℕ, ◌+◌, ◌<◌, ◌⊎◌, inl, inr, Err, Bool, true, false, arith, sym, ◌∙◌, subst, refl}
 use Rattle.std.specs.Prelude.{not, ◌&&◌, ◌==◌}
 use mathlib.Core.Path.{fun_ext}
 use Rattle.std.proofs.lemmas.Bool.{eq-eqb}
@@ -13,11 +13,11 @@ use Rattle.bx_global.specs.Opening.{opening_state}
 use Rattle.bx_model.specs.declared.tree.Tree.{Tree}
 use Rattle.bx_overlay.specs.declared.error.AuditError.{AuditError}
 use Rattle.bx_overlay.specs.declared.error.AuditError.TheVariants as audits
-use Rattle.bx_overlay.specs.Refusals.{IsBreak}
+use Rattle.bx_overlay.specs.Refusals.{IsBreak, UnlessFault}
 use Rattle.bx_volume.specs.Images.{ImageStandsFor}
 use Rattle.bx_replay.specs.Bench.{IsHeldBy}
 use Rattle.bx_stops.specs.FromLine.{stop_of_audit}
-use Rattle.bx_replay.specs.Replay.{HasBenchCause}
+use Rattle.bx_replay.specs.Replay.{HasBenchCause, UnlessDisk}
 
 decided : (b : Bool) → (b ≡ true) ⊎ (b ≡ false)
 decided true = inl refl
@@ -73,3 +73,12 @@ audit_cause audits.NoMajority Held before now rose breaks = inr (λ held. elim (
 audit_cause (audits.NoSource device) Held before now rose breaks = inr (λ held. elim (breaks held) [ inl e ↦ cc | inr e ↦ cc ])
 audit_cause (audits.Torn block found wanted) Held before now rose breaks = inr (λ held. elim (breaks held) [ inl e ↦ cc | inr e ↦ cc ])
 audit_cause audits.OutOfMemory Held before now rose breaks = tt
+
+-- and unless a disk failed, no count rose
+pub audit_counts : (error : AuditError) (P : Type 0) → UnlessFault {A = Unit {0}} (Err error) P → UnlessDisk {A = Unit {0}} (Err (stop_of_audit error)) P
+audit_counts audits.DiskFault P counts = tt
+audit_counts (audits.NoLabel disk) P counts = tt
+audit_counts audits.NoMajority P counts = tt
+audit_counts (audits.NoSource device) P counts = tt
+audit_counts (audits.Torn block found wanted) P counts = tt
+audit_counts audits.OutOfMemory P counts = counts

@@ -14,3 +14,4 @@ pub mod Leavings
 pub mod Running
 pub mod Held
 pub mod Causes
+pub mod Beginning

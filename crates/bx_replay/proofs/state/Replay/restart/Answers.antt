@@ -1,33 +1,81 @@
-use Rattle.std.proofs.Common.{◌≡◌, ◌∷◌, [], true, sym, ◌∙◌}
+use Rattle.std.proofs.Common.{◌≡◌, ◌∷◌, [], true, inl, refl, sym, ◌∙◌}
 use Rattle.std.proofs.lemmas.Result.{err_from_is_err_and}
 use Rattle.bx_script.specs.declared.line.Line.TheVariants.{Restart}
 use Rattle.bx_script.specs.declared.trace_line.TraceLine.TheVariants.{Acted}
 use Rattle.bx_replay.proofs.Answered.{stands_but}
+use Rattle.bx_replay.proofs.Causes.{same_least}
 use Rattle.bx_replay.proofs.Printing.{breaks_here}
 use Rattle.bx_replay.proofs.Rounding.{goes_found, told_after, untold}
 use Rattle.bx_replay.proofs.Standing.{stands_same, stands_silent}
 use Rattle.bx_replay.proofs.state.Replay.restart.Goals as goal
 
-pub returns-then-is_up-clause-restarts : goal.returns-then-is_up-clause-restarts
-returns-then-is_up-clause-restarts g c = λ tree doubt reading done start sink_tells bench_tells holds room place stands.
-    let is_up : g.M.Service.up c.args.self.now.service ≡ true = sym c.is_up.ensures ∙ c.if-is_up.true in
+pub returns-then-is_up : goal.returns-then-is_up
+returns-then-is_up g c = record {
+  restarts = λ tree doubt reading done start sink_tells bench_tells holds room place stands.
+      let is_up : g.M.Service.up c.args.self.now.service ≡ true = sym c.is_up.ensures ∙ c.if-is_up.true in
+      record {
+        tree = tree;
+        doubt = doubt;
+        holds = holds;
+        lines = [];
+        stands = stands_silent tree _ _ doubt _ done start _ room stands (Restart reading) _ tt place tt is_up;
+      };
+  holds = λ tree doubt bench_tells holds. (tree, doubt, holds);
+  up = sym c.is_up.ensures ∙ c.if-is_up.true;
+  latest = refl;
+  ready = c.requires.ready;
+  cause = tt;
+  first = refl;
+  calls = refl;
+  later = same_least _ _ refl;
+  keeps_telling = λ tells. tells;
+  bench_later = same_least _ _ refl;
+  bench_tells = λ tells. tells;
+}
+
+pub returns-in_err-point : goal.returns-in_err-point
+returns-in_err-point g c =
+    let p = err_from_is_err_and c.from_residual.result c.from_residual.ensures.1 in
     record {
-      tree = tree;
-      doubt = doubt;
-      holds = holds;
-      lines = [];
-      stands = stands_silent tree _ _ doubt _ done start _ room stands (Restart reading) _ tt place tt is_up;
+      restarts = λ tree doubt reading done start sink_tells bench_tells holds room place stands. rw (p.1, p.2) (inl refl);
+      holds = λ tree doubt bench_tells holds. rw p.1 tt;
+      up = rw p.1 tt;
+      latest = rw p.1 tt;
+      ready = rw p.1 tt;
+      cause = rw (p.1, p.2) tt;
+      first = rw (p.1, p.2) refl;
+      calls = refl;
+      later = same_least _ _ refl;
+      keeps_telling = λ tells. tells;
+      bench_later = c.restart.ensures.later;
+      bench_tells = c.restart.ensures.keeps_telling;
     }
 
-pub returns-in_err-print_lines-clause-restarts : goal.returns-in_err-print_lines-clause-restarts
-returns-in_err-print_lines-clause-restarts g c = λ tree doubt reading done start sink_tells bench_tells holds room place stands.
+pub returns-in_err-print_lines : goal.returns-in_err-print_lines
+returns-in_err-print_lines g c =
     let p = err_from_is_err_and c.from_residual-in_err-print_lines.result c.from_residual-in_err-print_lines.ensures.1 in
-    let begun = stands_same tree _ _ (g.M.Service.waits c.restart.new.self) doubt _ _ start _ c.in_ok-point.ensures.waits (stands_silent tree _ _ doubt _ done start (g.K.Sink.written c.args.out.now) room stands (Restart reading) (g.M.Service.up c.restart.new.self) tt place tt c.in_ok-point.ensures.up) in
-    let finds = rw c.in-Some.is at (c.in_ok-point.ensures.restarts tree doubt bench_tells holds) in
-    rw (p.1, p.2) (untold (g.M.Service.holds c.restart.new.self (g.B.Rack.state c.restart.new.bench)) _ _ _ (Restart reading) done start (g.K.Sink.written c.args.out.now) (Acted c.in-Some.point ∷ [])
-    (goes_found _ (Restart reading) tt done start tree _ _ doubt _ [] _ begun c.in-Some.point finds)
-    c.in_err-print_lines.field-0.0 _ _ _ _ _ _ stands.output c.in_err-print_lines.ensures.cause (c.in_err-print_lines.ensures.prints sink_tells) c.in_err-print_lines.ensures.in_range
-    (breaks_here tree _ _ doubt _ (Restart reading) [] done start _ begun))
+    let why = c.in_err-print_lines.ensures in
+    record {
+      restarts = λ tree doubt reading done start sink_tells bench_tells holds room place stands.
+          let p = err_from_is_err_and c.from_residual-in_err-print_lines.result c.from_residual-in_err-print_lines.ensures.1 in
+          let begun = stands_same tree _ _ (g.M.Service.waits c.restart.new.self) doubt _ _ start _ c.in_ok-point.ensures.waits (stands_silent tree _ _ doubt _ done start (g.K.Sink.written c.args.out.now) room stands (Restart reading) (g.M.Service.up c.restart.new.self) tt place tt c.in_ok-point.ensures.up) in
+          let finds = rw c.in-Some.is at (c.in_ok-point.ensures.restarts tree doubt bench_tells holds) in
+          rw (p.1, p.2) (untold (g.M.Service.holds c.restart.new.self (g.B.Rack.state c.restart.new.bench)) _ _ _ (Restart reading) done start (g.K.Sink.written c.args.out.now) (Acted c.in-Some.point ∷ [])
+          (goes_found _ (Restart reading) tt done start tree _ _ doubt _ [] _ begun c.in-Some.point finds)
+          c.in_err-print_lines.field-0.0 _ _ _ _ _ _ stands.output c.in_err-print_lines.ensures.cause (c.in_err-print_lines.ensures.prints sink_tells) c.in_err-print_lines.ensures.in_range
+          (breaks_here tree _ _ doubt _ (Restart reading) [] done start _ begun));
+      holds = λ tree doubt bench_tells holds. rw p.1 tt;
+      up = rw p.1 tt;
+      latest = rw p.1 tt;
+      ready = rw p.1 tt;
+      cause = rw (p.1, p.2) why.cause;
+      first = rw (p.1, p.2) why.first;
+      calls = refl;
+      later = why.later;
+      keeps_telling = why.keeps_telling;
+      bench_later = c.restart.ensures.later;
+      bench_tells = c.restart.ensures.keeps_telling;
+    }
 
 pub returns-in_ok-print_lines-clause-restarts : goal.returns-in_ok-print_lines-clause-restarts
 returns-in_ok-print_lines-clause-restarts g c = λ tree doubt reading done start sink_tells bench_tells holds room place stands.

@@ -1,6 +1,6 @@
-use Rattle.std.proofs.Common.{[], refl, sym, ◌∙◌, arith}
+use Rattle.std.proofs.Common.{[], refl, sym, ◌∙◌}
 use Rattle.std.proofs.lemmas.Result.{IfErr-weaker, on_ok_weaker}
-use Rattle.bx_replay.proofs.Causes.{on_ok, step_printed, unless_write}
+use Rattle.bx_replay.proofs.Causes.{call_no_tick, crash_no_tick, on_ok, restart_no_tick, run_no_tick, same_least, same_most, step_printed, unless_write}
 use Rattle.bx_replay.proofs.Printing.{hears_line}
 use Rattle.bx_replay.proofs.Standing.{stands_silent}
 use Rattle.bx_replay.proofs.state.Replay.step.Goals as goal
@@ -15,13 +15,13 @@ returns-in-Call g c =
       latest = done.latest;
       ready = done.ready _ c.requires.ready;
       hears = rw c.in-Call.is (done.hears _);
-      ticks = λ reading is idle. let line = c.in-Call.is in cc;
+      ticks = λ reading is idle. absurd (call_no_tick _ reading _ _ _ _ c.in-Call.is is);
       cause = done.cause;
       first = done.first;
       calls = done.calls;
       later = done.later;
       keeps_telling = done.keeps_telling;
-      bench_later = omega arith;
+      bench_later = same_least _ _ refl;
       bench_tells = λ tells. tells;
     }
 
@@ -41,10 +41,10 @@ returns-in-Run g c =
       latest = on_ok_weaker c.run.result (λ latest. latest ∙ c.requires.latest ∙ sym done.calls) done.latest;
       ready = done.ready;
       hears = rw c.in-Run.is (hears_line c.run.result _ _ _ _ _ done.cause tt done.up);
-      ticks = λ reading is idle. let line = c.in-Run.is in cc;
+      ticks = λ reading is idle. absurd (run_no_tick _ reading _ _ c.in-Run.is is);
       cause = IfErr-weaker c.run.result _ _ (λ stop cause. step_printed stop c.args.number _ _ cause) done.cause;
       first = done.first;
-      calls = omega (arith, done.calls);
+      calls = same_most _ _ done.calls;
       later = done.later;
       keeps_telling = done.keeps_telling;
       bench_later = done.bench_later;
@@ -61,11 +61,11 @@ returns-in-Crash g c =
       latest = on_ok_weaker c.crash.result (λ latest. latest ∙ c.requires.latest ∙ sym done.calls) done.latest;
       ready = done.ready;
       hears = rw c.in-Crash.is (hears_line c.crash.result _ _ _ 0 0 (done.cause 0 0) tt done.up);
-      ticks = λ reading is idle. let line = c.in-Crash.is in cc;
+      ticks = λ reading is idle. absurd (crash_no_tick _ reading _ c.in-Crash.is is);
       cause = IfErr-weaker c.crash.result _ _ (λ stop cause. step_printed stop c.args.number _ _ cause) (done.cause _ _);
       first = unless_write c.crash.result refl;
-      calls = omega (arith, done.calls);
-      later = omega arith;
+      calls = same_most _ _ done.calls;
+      later = same_least _ _ refl;
       keeps_telling = λ tells. tells;
       bench_later = done.bench_later;
       bench_tells = done.bench_tells;
@@ -81,10 +81,10 @@ returns-in-Restart g c =
       latest = on_ok_weaker c.restart.result (λ latest. latest ∙ c.requires.latest ∙ sym done.calls) done.latest;
       ready = done.ready;
       hears = rw c.in-Restart.is (hears_line c.restart.result _ _ _ _ _ done.cause tt done.up);
-      ticks = λ reading is idle. let line = c.in-Restart.is in cc;
+      ticks = λ reading is idle. absurd (restart_no_tick _ reading _ c.in-Restart.is is);
       cause = IfErr-weaker c.restart.result _ _ (λ stop cause. step_printed stop c.args.number _ _ cause) done.cause;
       first = done.first;
-      calls = omega (arith, done.calls);
+      calls = same_most _ _ done.calls;
       later = done.later;
       keeps_telling = done.keeps_telling;
       bench_later = done.bench_later;
@@ -104,10 +104,10 @@ returns-in-Tick g c =
       ticks = λ reading is idle. done.begins idle;
       cause = done.cause _ _;
       first = unless_write c.tick.result refl;
-      calls = omega (arith, done.calls);
-      later = omega arith;
+      calls = same_most _ _ done.calls;
+      later = same_least _ _ refl;
       keeps_telling = λ tells. tells;
-      bench_later = omega arith;
+      bench_later = same_least _ _ refl;
       bench_tells = λ tells. tells;
     }
 

@@ -3,31 +3,90 @@ use Rattle.std.proofs.lemmas.Result.{err_from_is_err_and}
 use Rattle.bx_script.specs.declared.line.Line.TheVariants.{Call}
 use Rattle.bx_script.specs.declared.trace_line.TraceLine.TheVariants.{Took}
 use Rattle.bx_script.specs.TraceText.{trace_text}
+use Rattle.bx_replay.proofs.Causes.{same_least, same_most}
 use Rattle.bx_replay.proofs.Printing.{breaks_behind, unprinted}
 use Rattle.bx_replay.proofs.Standing.{stands_taken_at}
 use Rattle.bx_replay.proofs.state.Replay.take.Goals as goal
 
-pub returns-in_err-print_lines-clause-takes : goal.returns-in_err-print_lines-clause-takes
-returns-in_err-print_lines-clause-takes g c = λ reading x tree doubt done start tells ready holds room place stands.
+pub returns-in_err-bytes : goal.returns-in_err-bytes
+returns-in_err-bytes g c =
+    let p = err_from_is_err_and c.from_residual.result c.from_residual.ensures.1 in
+    record {
+      latest = rw p.1 tt;
+      ready = λ sizes ready. rw p.1 tt;
+      up = rw p.1 tt;
+      takes = λ reading x tree doubt done start tells ready holds room place stands. rw (p.1, p.2) (inl refl);
+      holds = λ x tree doubt ready holds. rw p.1 tt;
+      cause = rw (p.1, p.2) tt;
+      first = rw (p.1, p.2) refl;
+      calls = same_most _ _ refl;
+      later = same_least _ _ refl;
+      keeps_telling = λ tells. tells;
+    }
+
+pub returns-in_err-print_lines : goal.returns-in_err-print_lines
+returns-in_err-print_lines g c =
     let p = err_from_is_err_and c.from_residual-in_err-print_lines.result c.from_residual-in_err-print_lines.ensures.1 in
-    rw (p.1, p.2) (unprinted tree _ _ doubt _ (Call reading c.args.node c.args.client c.args.datagram) (Took _ c.args.node c.args.client c.args.datagram ∷ []) done start _ c.in_err-print_lines.field-0.0 _ _ _ _ _ _ _ _ stands.output
-    c.in_err-print_lines.ensures.cause (c.in_err-print_lines.ensures.prints tells) c.in_err-print_lines.ensures.in_range
-    (λ in_range. stands_taken_at tree _ _ doubt _ done start _ room stands c.args.node c.requires.node reading c.args.client c.args.datagram _ c.requires.up c.requires.message place in_range refl)
-    (λ same. inl same))
+    let why = c.in_err-print_lines.ensures in
+    record {
+      latest = rw p.1 tt;
+      ready = λ sizes ready. rw p.1 tt;
+      up = rw p.1 tt;
+      takes = λ reading x tree doubt done start tells ready holds room place stands.
+          let p = err_from_is_err_and c.from_residual-in_err-print_lines.result c.from_residual-in_err-print_lines.ensures.1 in
+          rw (p.1, p.2) (unprinted tree _ _ doubt _ (Call reading c.args.node c.args.client c.args.datagram) (Took _ c.args.node c.args.client c.args.datagram ∷ []) done start _ c.in_err-print_lines.field-0.0 _ _ _ _ _ _ _ _ stands.output
+          c.in_err-print_lines.ensures.cause (c.in_err-print_lines.ensures.prints tells) c.in_err-print_lines.ensures.in_range
+          (λ in_range. stands_taken_at tree _ _ doubt _ done start _ room stands c.args.node c.requires.node reading c.args.client c.args.datagram _ c.requires.up c.requires.message place in_range refl)
+          (λ same. inl same));
+      holds = λ x tree doubt ready holds. rw p.1 tt;
+      cause = rw (p.1, p.2) why.cause;
+      first = rw (p.1, p.2) why.first;
+      calls = same_most _ _ refl;
+      later = why.later;
+      keeps_telling = why.keeps_telling;
+    }
 
-pub returns-in_err-arrive-clause-takes : goal.returns-in_err-arrive-clause-takes
-returns-in_err-arrive-clause-takes g c = λ reading x tree doubt done start tells ready holds room place stands.
+pub returns-in_err-arrive : goal.returns-in_err-arrive
+returns-in_err-arrive g c =
     let p = err_from_is_err_and c.from_residual-in_err-arrive.result c.from_residual-in_err-arrive.ensures.1 in
-    rw (p.1, p.2) (inr (breaks_behind tree _ _ doubt _ (Call reading c.args.node c.args.client c.args.datagram) (Took _ c.args.node c.args.client c.args.datagram ∷ []) done start (g.K.Sink.written c.args.out.now) (trace_text (Took (c.args.self.now.calls + 1) c.args.node c.args.client c.args.datagram ∷ [])) (g.K.Sink.written c.print_lines.new.out)
-    (c.in_ok-print_lines.ensures.prints tells)
-    (stands_taken_at tree _ _ doubt _ done start _ room stands c.args.node c.requires.node reading c.args.client c.args.datagram _ c.requires.up c.requires.message place c.in_ok-print_lines.ensures.in_range refl)))
+    let printed = c.in_ok-print_lines.ensures in
+    record {
+      latest = rw p.1 tt;
+      ready = λ sizes ready. rw p.1 tt;
+      up = rw p.1 tt;
+      takes = λ reading x tree doubt done start tells ready holds room place stands.
+          let p = err_from_is_err_and c.from_residual-in_err-arrive.result c.from_residual-in_err-arrive.ensures.1 in
+          rw (p.1, p.2) (inr (breaks_behind tree _ _ doubt _ (Call reading c.args.node c.args.client c.args.datagram) (Took _ c.args.node c.args.client c.args.datagram ∷ []) done start (g.K.Sink.written c.args.out.now) (trace_text (Took (c.args.self.now.calls + 1) c.args.node c.args.client c.args.datagram ∷ [])) (g.K.Sink.written c.print_lines.new.out)
+          (c.in_ok-print_lines.ensures.prints tells)
+          (stands_taken_at tree _ _ doubt _ done start _ room stands c.args.node c.requires.node reading c.args.client c.args.datagram _ c.requires.up c.requires.message place c.in_ok-print_lines.ensures.in_range refl)));
+      holds = λ x tree doubt ready holds. rw p.1 tt;
+      cause = rw (p.1, p.2) tt;
+      first = rw (p.1, p.2) printed.first;
+      calls = same_most _ _ refl;
+      later = printed.later;
+      keeps_telling = printed.keeps_telling;
+    }
 
-pub returns-clause-takes : goal.returns-clause-takes
-returns-clause-takes g c = λ reading x tree doubt done start tells ready holds room place stands. record {
-  tree = tree;
-  doubt = doubt;
-  holds = c.in_ok-arrive.ensures.holds x tree doubt ready holds;
-  lines = Took (c.args.self.now.calls + 1) c.args.node c.args.client c.args.datagram ∷ [];
-  stands = rw (c.in_ok-arrive.ensures.up, ← c.requires.up, c.in_ok-arrive.ensures.waits, c.in_ok-bytes.ensures, c.bytes.ensures, c.in_ok-print_lines.ensures.prints tells)
-      (stands_taken_at tree _ _ doubt _ done start _ room stands c.args.node c.requires.node reading c.args.client c.args.datagram _ c.requires.up c.requires.message place c.in_ok-print_lines.ensures.in_range refl);
-}
+pub returns : goal.returns
+returns g c =
+    let printed = c.in_ok-print_lines.ensures in
+    let came = c.in_ok-arrive.ensures in
+    record {
+      latest = came.latest;
+      ready = came.ready;
+      up = came.up;
+      takes = λ reading x tree doubt done start tells ready holds room place stands. record {
+        tree = tree;
+        doubt = doubt;
+        holds = c.in_ok-arrive.ensures.holds x tree doubt ready holds;
+        lines = Took (c.args.self.now.calls + 1) c.args.node c.args.client c.args.datagram ∷ [];
+        stands = rw (c.in_ok-arrive.ensures.up, ← c.requires.up, c.in_ok-arrive.ensures.waits, c.in_ok-bytes.ensures, c.bytes.ensures, c.in_ok-print_lines.ensures.prints tells)
+            (stands_taken_at tree _ _ doubt _ done start _ room stands c.args.node c.requires.node reading c.args.client c.args.datagram _ c.requires.up c.requires.message place c.in_ok-print_lines.ensures.in_range refl);
+      };
+      holds = came.holds;
+      cause = tt;
+      first = printed.first;
+      calls = same_least _ _ refl;
+      later = printed.later;
+      keeps_telling = printed.keeps_telling;
+    }

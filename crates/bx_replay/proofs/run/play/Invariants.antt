@@ -3,7 +3,7 @@ use Rattle.bx_service.specs.Rounds.{Doubt}
 use Rattle.bx_model.specs.declared.tree.Tree.{Tree}
 use Rattle.bx_replay.specs.Replay.{Going, IsRead}
 use Rattle.bx_replay.proofs.Running.{IsRunning}
-use Rattle.bx_replay.proofs.run.replay.Given as goal
+use Rattle.bx_replay.proofs.run.play.Given as goal
 
 abbrev pub invariant-lines : goal.invariant-lines
 invariant-lines g l = record {

@@ -1,0 +1,159 @@
+use Rattle.std.proofs.Common.{◌+◌, refl, ◌∙◌, arith}
+use Rattle.std.proofs.lemmas.Result.{IfErr-weaker, err_from_is_err_and}
+use Rattle.bx_replay.specs.Bench.{IsHeldBy}
+use Rattle.bx_replay.proofs.Causes.{begin_cause, finish_cause, line_cause, rises, same_least, step_cause, unless_read, unless_write}
+use Rattle.bx_replay.proofs.Goings.{begins_going, going_on}
+use Rattle.bx_replay.proofs.Leavings.{begin_stops, finish_leaves, line_stops, step_stops}
+use Rattle.bx_replay.proofs.ReadLines.{heading_read, reads_on}
+use Rattle.bx_replay.proofs.run.play.Goals as goal
+
+pub returns-in_err-replay : goal.returns-in_err-replay
+returns-in_err-replay g c =
+    let p = err_from_is_err_and c.from_residual.result c.from_residual.ensures.1 in
+    let why = c.in_err-replay.ensures in
+    record {
+      leaves = λ source_tells.
+          rw (p.1, p.2) (begin_stops {A = Unit {0}} (λ _ _ _. Unit {0}) (λ _. 0) (g.K.Sink.tells c.args.out.now × g.B.Rack.tells c.args.bench.now) (IsHeldBy (g.B.Rack.state c.begin.new.bench)) c.in_err-replay.field-0.0 _ _ _ (g.K.Sink.written c.args.out.now) _ _ _ _ why.cause
+          (rw c.requires.none at (why.reads source_tells)));
+      dropped = λ disk sector tells. rw p.1 tt;
+      cause = rw (p.1, p.2) (begin_cause (g.B.Rack.tells c.args.bench.now) c.in_err-replay.field-0.0 _ _ _ _ _ _ why.cause);
+      bench_later = why.bench_later;
+      bench_tells = why.bench_tells;
+      source_first = rw (p.1, p.2) why.first;
+      sink_first = unless_write c.from_residual.result refl;
+      source_later = why.later;
+      sink_later = same_least _ _ refl;
+      source_tells = why.keeps_telling;
+      sink_tells = λ tells. tells;
+    }
+
+pub lines-init : goal.lines-init
+lines-init g c =
+    let began = c.in_ok-replay.ensures in
+    record {
+      running = record {
+        calls_below = omega (arith, began.calls);
+        few = omega arith;
+        most = began.most ∙ c.requires.most;
+      };
+      latest = began.latest;
+      ready = began.ready;
+      source_same = began.first;
+      sink_same = refl;
+      bench_later = c.begin.ensures.bench_later;
+      source_tells = began.keeps_telling;
+      sink_tells = λ tells. tells;
+      bench_tells = c.begin.ensures.bench_tells;
+      holds = began.holds;
+      read = λ source_tells.
+          let begun = rw c.requires.none at (began.reads source_tells) in
+          rw (began.up) (heading_read _ _ begun.volume begun.nodes begun.devices begun.areas begun.in_place begun.begins);
+      going = λ source_tells sink_tells bench_tells.
+          begins_going _ _ _ _ _ _ _ began.up began.none_wait (rw c.requires.none at (began.begins source_tells bench_tells));
+    }
+
+pub returns-in_err-line : goal.returns-in_err-line
+returns-in_err-line g c =
+    let p = err_from_is_err_and c.from_residual-in_err-line.result c.from_residual-in_err-line.ensures.1 in
+    let was = c.lines.invariant in
+    let why = c.in_err-line.ensures in
+    record {
+      leaves = λ source_tells.
+          rw (p.1, p.2) (line_stops (g.K.Sink.tells c.args.out.now × g.B.Rack.tells c.args.bench.now) (IsHeldBy (g.B.Rack.state c.lines.bench)) _ _ _ _ c.in_err-line.field-0.0 _ _ _ _ _ _ c.lines.number _ _
+          (was.read source_tells) (λ tells. was.going source_tells tells.0 tells.1) why.cause (why.gives (was.source_tells source_tells)));
+      dropped = λ disk sector tells. rw p.1 tt;
+      cause = rw (p.1, p.2) (line_cause (g.B.Rack.tells c.args.bench.now) c.in_err-line.field-0.0 (c.lines.number + 1) _ _ _ _ _ _ (rw was.source_same at why.cause));
+      bench_later = was.bench_later;
+      bench_tells = was.bench_tells;
+      source_first = rw (p.1, p.2) (rw was.source_same at why.first);
+      sink_first = unless_write c.from_residual-in_err-line.result was.sink_same;
+      source_later = rises _ _ _ (same_least _ _ was.source_same) why.later;
+      sink_later = same_least _ _ was.sink_same;
+      source_tells = λ tells. why.keeps_telling (was.source_tells tells);
+      sink_tells = was.sink_tells;
+    }
+
+pub lines-preserved : goal.lines-preserved
+lines-preserved g c =
+    let few = rw c.in-Some.is at c.in_ok-line.ensures.few in
+    record {
+      running = record {
+        calls_below = omega (arith, c.in_ok-step.ensures.calls, c.lines.invariant.running.calls_below);
+        few = few;
+        most = c.in_ok-line.ensures.most ∙ c.lines.invariant.running.most;
+      };
+      latest = c.in_ok-step.ensures.latest;
+      ready = c.in_ok-step.ensures.ready;
+      source_same = c.in_ok-line.ensures.first ∙ c.lines.invariant.source_same;
+      sink_same = c.in_ok-step.ensures.first ∙ c.lines.invariant.sink_same;
+      bench_later = omega (arith, c.lines.invariant.bench_later, c.step.ensures.bench_later);
+      source_tells = λ tells. c.in_ok-line.ensures.keeps_telling (c.lines.invariant.source_tells tells);
+      sink_tells = λ tells. c.in_ok-step.ensures.keeps_telling (c.lines.invariant.sink_tells tells);
+      bench_tells = λ tells. c.in_ok-step.ensures.bench_tells (c.lines.invariant.bench_tells tells);
+      holds = λ tells.
+          let held = c.lines.invariant.holds tells in
+          c.in_ok-step.ensures.holds held.0 held.1 (c.lines.invariant.bench_tells tells) held.2;
+      read = λ source_tells.
+          let begins = rw c.in-Some.is at (c.in_ok-line.ensures.gives (c.lines.invariant.source_tells source_tells)) in
+          let place = rw c.in-Some.is at c.in_ok-line.ensures.in_place in
+          reads_on _ _ _ _ _ c.lines.number c.in-Some.line (c.lines.invariant.read source_tells) (omega (arith, few)) begins place c.in_ok-step.ensures.hears;
+      going = λ source_tells sink_tells bench_tells.
+          let going = c.lines.invariant.going source_tells sink_tells bench_tells in
+          let begins = rw c.in-Some.is at (c.in_ok-line.ensures.gives (c.lines.invariant.source_tells source_tells)) in
+          going_on _ _ _ _ _ _ _ _ _ _ _ c.lines.number c.in-Some.line _ _ _ going begins
+          (c.in_ok-step.ensures.does going.tree going.doubt going.done _ (c.lines.invariant.sink_tells sink_tells) (c.lines.invariant.bench_tells bench_tells) going.holds (omega (arith, going.count, few)) going.stands);
+    }
+
+pub returns-in_err-step : goal.returns-in_err-step
+returns-in_err-step g c =
+    let p = err_from_is_err_and c.from_residual-in_err-step.result c.from_residual-in_err-step.ensures.1 in
+    let was = c.lines.invariant in
+    let read = c.in_ok-line.ensures in
+    let why = c.in_err-step.ensures in
+    record {
+      leaves = λ source_tells.
+          let few = rw c.in-Some.is at read.few in
+          let begins = rw c.in-Some.is at (read.gives (was.source_tells source_tells)) in
+          let place = rw c.in-Some.is at read.in_place in
+          rw (p.1, p.2) (step_stops (g.K.Sink.tells c.args.out.now × g.B.Rack.tells c.args.bench.now) (IsHeldBy (g.B.Rack.state c.step.new.bench)) _ _ _ _ _ c.in_err-step.field-0.0 _ _ _ _ _ _ _ c.lines.number c.in-Some.line _ _
+          (was.read source_tells) (λ tells. was.going source_tells tells.0 tells.1) (omega (arith, few)) begins place why.cause _ why.hears
+          (λ tells.
+          let going = was.going source_tells tells.0 tells.1 in
+          why.does going.tree going.doubt going.done _ (was.sink_tells tells.0) (was.bench_tells tells.1) going.holds (omega (arith, going.count, few)) going.stands));
+      dropped = λ disk sector tells. rw p.1 tt;
+      cause = rw (p.1, p.2) (step_cause (g.B.Rack.tells c.args.bench.now) c.in_err-step.field-0.0 (c.lines.number + 1) _ _ _ _ _ _ (rw was.sink_same at why.cause));
+      bench_later = rises _ _ _ was.bench_later why.bench_later;
+      bench_tells = λ tells. why.bench_tells (was.bench_tells tells);
+      source_first = unless_read c.from_residual-in_err-step.result (read.first ∙ was.source_same);
+      sink_first = rw (p.1, p.2) (rw was.sink_same at why.first);
+      source_later = rises _ _ _ (same_least _ _ was.source_same) read.later;
+      sink_later = rises _ _ _ (same_least _ _ was.sink_same) why.later;
+      source_tells = λ tells. read.keeps_telling (was.source_tells tells);
+      sink_tells = λ tells. why.keeps_telling (was.sink_tells tells);
+    }
+
+pub returns : goal.returns
+returns g c =
+    let was = c.lines.invariant in
+    let read = c.in_ok-line.ensures in
+    let ended = c.finish.ensures in
+    record {
+      leaves = λ source_tells.
+          let ends = rw c.in_default.is at (read.gives (was.source_tells source_tells)) in
+          finish_leaves (g.K.Sink.tells c.args.out.now × g.B.Rack.tells c.args.bench.now) (IsHeldBy (g.B.Rack.state c.finish.new.bench)) _ _ _ _ c.finish.result _ _ _ _ _ c.lines.number _ _ _ _ _
+          (rw ends.0 at (was.read source_tells)) ends.1 (λ tells. rw ends.0 at (was.going source_tells tells.0 tells.1)) ended.cause
+          (λ tells.
+          let going = rw ends.0 at (was.going source_tells tells.0 tells.1) in
+          ended.ends going.tree going.doubt (was.sink_tells tells.0) (was.bench_tells tells.1) going.holds);
+      dropped = λ disk sector tells. ended.dropped disk sector (was.bench_tells tells);
+      cause = IfErr-weaker c.finish.result _ _
+          (λ stop cause. finish_cause (g.B.Rack.tells c.args.bench.now) _ stop _ _ _ _ _ _ _ was.bench_later (λ tells. (was.bench_tells tells, was.holds tells)) cause) (rw was.sink_same at ended.cause);
+      bench_later = rises _ _ _ was.bench_later ended.bench_later;
+      bench_tells = λ tells. ended.bench_tells (was.bench_tells tells);
+      source_first = unless_read c.finish.result (read.first ∙ was.source_same);
+      sink_first = rw was.sink_same at ended.first;
+      source_later = rises _ _ _ (same_least _ _ was.source_same) read.later;
+      sink_later = rises _ _ _ (same_least _ _ was.sink_same) ended.later;
+      source_tells = λ tells. read.keeps_telling (was.source_tells tells);
+      sink_tells = λ tells. ended.keeps_telling (was.sink_tells tells);
+    }

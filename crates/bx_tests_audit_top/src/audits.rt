@@ -1,10 +1,11 @@
 //! Audits of racks in memory.
 
+use crate::damages::{DAMAGES, Damage};
 use crate::dead::DEAD_DAMAGES;
-use crate::volume::{BLOCKS, DAMAGES, Damage, LISTING, Put};
+use crate::volume::{BLOCKS, LISTING, Put};
 use bx_audit::{Listing, audit};
-use bx_calls::write_some;
-use bx_disk::Rack;
+use bx_calls::{read_sectors, write_some};
+use bx_disk::{Rack, RackError};
 use bx_format::format;
 use bx_global_laws::opening;
 use bx_memory_rack::MemRack;
@@ -16,29 +17,26 @@ use std::test::Fail;
 const OPENING: &[u8] =
     b"file 0000000000000001 2 40777 2 0 0 4096 0.000000 0.000000 0.000000\ndir 0000000000000001 3\n";
 
+/// What is written over a volume that was just made, and the listing then.
+const VOLUMES: [(&[Put], &[u8]); 2] = [(&[], OPENING), (&BLOCKS, LISTING)];
+
 /// Member A of device 0.
 const MEMBER: u32 = 3;
 
 /// Where the area begins on its device.
 const AREA: u64 = 9345;
 
-/// A block of one area on member A.
-fn put(rack: &mut MemRack, put: &Put) -> Result<(), Fail> {
-    let (at, handle, kind, front, (place, byte)) = *put;
-    let mut bytes = [0; 4608];
-    bytes[..8].copy_from_slice(&handle.to_be_bytes());
-    bytes[8..12].copy_from_slice(&kind.to_be_bytes());
-    let end = front.len().min(4000);
-    bytes[512..512 + end].copy_from_slice(&front[..end]);
-    bytes[512 + usize::from(place).min(4095)] = byte;
-    let sector = AREA
-        + if at == 960 {
-            0
-        } else {
-            9 * (u64::from(at) + 1)
-        };
+/// Writes over a block of one area on member A.
+fn put(rack: &mut MemRack, put: &Put) -> Result<(), RackError> {
+    let sector = match put.block() {
+        960 => AREA,
+        slot => AREA + 9 * (u64::from(slot) + 1),
+    };
     if MEMBER < rack.disks() && sector + 9 <= rack.sectors(MEMBER) {
-        write_some(rack, MEMBER, sector, &bytes)?;
+        let mut block = [0; 4608];
+        read_sectors(rack, MEMBER, sector, &mut block)?;
+        put.lay(&mut block);
+        write_some(rack, MEMBER, sector, &block)?;
     }
     Ok(())
 }
@@ -79,16 +77,11 @@ fn tells(alloc: Global, damage: &Damage) -> Result<bool, Fail> {
 }
 
 #[test]
-fn a_new_volume_is_listed(rt: HostRuntime) -> Result<(), Fail> {
-    let mut rack = rack_with(rt.alloc(), &[], &[])?;
-    assert!(rt; lists(&audit_of(rt.alloc(), &mut rack), OPENING));
-    Ok(())
-}
-
-#[test]
-fn files_are_listed(rt: HostRuntime) -> Result<(), Fail> {
-    let mut rack = rack_with(rt.alloc(), &BLOCKS, &[])?;
-    assert!(rt; lists(&audit_of(rt.alloc(), &mut rack), LISTING));
+fn volumes_are_listed(rt: HostRuntime) -> Result<(), Fail> {
+    for (blocks, text) in VOLUMES {
+        let mut rack = rack_with(rt.alloc(), blocks, &[])?;
+        assert!(rt; lists(&audit_of(rt.alloc(), &mut rack), text));
+    }
     Ok(())
 }
 

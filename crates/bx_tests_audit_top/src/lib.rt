@@ -4,6 +4,8 @@
 #[cfg(test)]
 mod audits;
 #[cfg(test)]
+mod damages;
+#[cfg(test)]
 mod dead;
 #[cfg(test)]
 mod volume;

@@ -1,11 +1,10 @@
 //! Files of inodes, and what they claim: a regular file with a hole over a tree of three pages, dead inodes, a link, a directory.
 
-use crate::memory::Memory;
+use crate::memory::{Damage, Memory, Put, Torn, is_torn};
 use bx_audit_bodies::{ReadFile, file_of};
 use bx_audit_trees::AuditError;
 use bx_tree_files::{Body, File};
 use std::alloc::Global;
-use std::test::Fail;
 
 /// What one slot more adds to a handle's number.
 const SLOT: u64 = 1 << 32;
@@ -45,41 +44,36 @@ const DIRECTORY: &[u8] =
 const NAMES: &[u8] =
     b"\0\0\0\x02\0\0\0\0\0\0\0\0\xff\xff\0\0\0\x02\0\x0c\x01f\0\0\0\x03\0\0\0\x0a\0\0\0\x01\0\x05\0\x09\x02\0\0\0\x03\0\0\0\x0a\0\0\0\x01f";
 
-/// Directories' inodes whose next number is that of the name, and whose links are as many as the next number.
-const BAD_DIRECTORIES: [&[u8]; 2] = [
-    b"\0\0\0\x02\0\0\x01\xed\0\0\0\x02\0\0\0\x07\0\0\0\x08\0\0\0\0\0\0\0\0\0\0\0\0\0\0\0\0\0\0\0\0\0\0\0\x01\0\0\0\x02\0\0\0\x03\0\0\0\x04\0\0\0\x05\0\0\0\x06\0\0\0\x05\0\0\0\x01\0\0\0\x02\0\0\0\x01\0\0\0\x03\0\0\0\0",
-    b"\0\0\0\x02\0\0\x01\xed\0\0\0\x04\0\0\0\x07\0\0\0\x08\0\0\0\0\0\0\0\0\0\0\0\0\0\0\0\0\0\0\0\0\0\0\0\x01\0\0\0\x02\0\0\0\x03\0\0\0\x04\0\0\0\x05\0\0\0\x06\0\0\0\x05\0\0\0\x01\0\0\0\x02\0\0\0\x01\0\0\0\x04\0\0\0\0",
-];
+/// A directory's inode whose next number is that of the name, and one whose links are as many as the next number.
+const NO_NUMBER: &[u8] =
+    b"\0\0\0\x02\0\0\x01\xed\0\0\0\x02\0\0\0\x07\0\0\0\x08\0\0\0\0\0\0\0\0\0\0\0\0\0\0\0\0\0\0\0\0\0\0\0\x01\0\0\0\x02\0\0\0\x03\0\0\0\x04\0\0\0\x05\0\0\0\x06\0\0\0\x05\0\0\0\x01\0\0\0\x02\0\0\0\x01\0\0\0\x03\0\0\0\0";
 
-/// A block: its number, its handle, its kind, and how its payload begins.
-type Put = (u16, u64, u32, &'static [u8]);
+const MANY_LINKS: &[u8] =
+    b"\0\0\0\x02\0\0\x01\xed\0\0\0\x04\0\0\0\x07\0\0\0\x08\0\0\0\0\0\0\0\0\0\0\0\0\0\0\0\0\0\0\0\0\0\0\0\x01\0\0\0\x02\0\0\0\x03\0\0\0\x04\0\0\0\x05\0\0\0\x06\0\0\0\x05\0\0\0\x01\0\0\0\x02\0\0\0\x01\0\0\0\x04\0\0\0\0";
 
 /// The tree: a root over two leaves, which name the first piece and the third; and the two pieces.
+const ROOT_PAGE: &[u8] =
+    b"\0\x01\0\x02\0\0\0\0\0\0\0\0\xff\xff\0\0\0\0\0\x08\0\0\0\x08\0\0\0\x01\0\x05\0\x08\x03\0\0\0\x02\0\0\0\x09\0\0\0\x01";
+
+const LEFT_PAGE: &[u8] =
+    b"\0\0\0\x01\0\0\0\x09\0\0\0\x01\0\x05\0\0\x03\0\0\0\x02\0\x05\0\x08\x03\0\0\0\0\0\0\0\x06\0\0\0\x01";
+
+const RIGHT_PAGE: &[u8] =
+    b"\0\0\0\x01\0\0\0\0\0\0\0\0\xff\xff\0\0\0\x05\0\x08\x03\0\0\0\x02\0\0\0\x07\0\0\0\x01";
+
 const TREE: [Put; 5] = [
-    (
-        5,
-        ROOT,
-        2,
-        b"\0\x01\0\x02\0\0\0\0\0\0\0\0\xff\xff\0\0\0\0\0\x08\0\0\0\x08\0\0\0\x01\0\x05\0\x08\x03\0\0\0\x02\0\0\0\x09\0\0\0\x01",
-    ),
-    (
-        8,
-        LEFT,
-        2,
-        b"\0\0\0\x01\0\0\0\x09\0\0\0\x01\0\x05\0\0\x03\0\0\0\x02\0\x05\0\x08\x03\0\0\0\0\0\0\0\x06\0\0\0\x01",
-    ),
-    (
-        9,
-        RIGHT,
-        2,
-        b"\0\0\0\x01\0\0\0\0\0\0\0\0\xff\xff\0\0\0\x05\0\x08\x03\0\0\0\x02\0\0\0\x07\0\0\0\x01",
-    ),
+    (5, ROOT, 2, ROOT_PAGE),
+    (8, LEFT, 2, LEFT_PAGE),
+    (9, RIGHT, 2, RIGHT_PAGE),
     (6, FIRST, 3, b"first"),
     (7, THIRD, 3, b"end"),
 ];
 
+/// What an inode claims: handles, each with the number of a piece or as a page.
+type Claims = &'static [(u64, Option<u32>)];
+
 /// What an inode with that tree claims.
-const CLAIMS: [(u64, Option<u32>); 5] = [
+const CLAIMS: Claims = &[
     (LEFT, None),
     (RIGHT, None),
     (ROOT, None),
@@ -87,141 +81,81 @@ const CLAIMS: [(u64, Option<u32>); 5] = [
     (THIRD, Some(2)),
 ];
 
-/// An inode, a block in the place of one of the others, and what is torn then: the number, the handle in the header and the one that is
-/// wanted.
-type Damage = (&'static [u8], Put, (u64, u64, u64));
+/// What an inode is.
+#[derive(Clone, Copy)]
+enum Kind {
+    Regular,
+    Dead,
+    Link,
+    Directory,
+}
 
-/// The third piece with a byte behind the tail, of another kind (also where the inode is dead), and under another handle. The right leaf with
-/// a value of seven bytes, with a key of six, with a key of another kind. The inode with a size of 2 ^ 31, without a tree, with a tail
-/// before the last byte. A link with a tree, and a directory with pieces. Of a dead inode, the root of its tree under another handle, its left
-/// leaf of another kind, and its first piece of another generation.
-const DAMAGES: [Damage; 15] = [
-    (REGULAR, (7, THIRD, 3, b"end!"), (7, THIRD, THIRD)),
-    (REGULAR, (7, THIRD, 2, b"end"), (7, THIRD, THIRD)),
-    (DEAD, (7, THIRD, 2, b"end"), (7, THIRD, THIRD)),
-    (REGULAR, (7, FIRST, 3, b"end"), (7, FIRST, THIRD)),
-    (
-        REGULAR,
-        (
-            9,
-            RIGHT,
-            2,
-            b"\0\0\0\x01\0\0\0\0\0\0\0\0\xff\xff\0\0\0\x05\0\x07\x03\0\0\0\x02\0\0\0\x07\0\0\0",
-        ),
-        (5, ROOT, ROOT),
-    ),
-    (
-        DEAD,
-        (
-            9,
-            RIGHT,
-            2,
-            b"\0\0\0\x01\0\0\0\0\0\0\0\0\xff\xff\0\0\0\x06\0\x08\x03\0\0\0\x02\0\0\0\0\x07\0\0\0\x01",
-        ),
-        (5, ROOT, ROOT),
-    ),
-    (
-        REGULAR,
-        (
-            9,
-            RIGHT,
-            2,
-            b"\0\0\0\x01\0\0\0\0\0\0\0\0\xff\xff\0\0\0\x05\0\x08\x04\0\0\0\x02\0\0\0\x07\0\0\0\x01",
-        ),
-        (5, ROOT, ROOT),
-    ),
-    (
-        REGULAR,
-        (
-            4,
-            FILE,
-            1,
-            b"\0\0\0\x01\0\0\x01\xa4\0\0\0\x01\0\0\0\x07\0\0\0\x08\0\0\0\0\0\0\0\0\x80\0\0\0\0\0\0\0\x80\0\0\0\0\0\0\x01\0\0\0\x02\0\0\0\x03\0\0\0\x04\0\0\0\x05\0\0\0\x06\0\0\0\x05\0\0\0\x01\0\0\0\0\0\0\0\0\0\0\0\0\0\0\0\0",
-        ),
-        (4, FILE, FILE),
-    ),
-    (
-        REGULAR,
-        (
-            4,
-            FILE,
-            1,
-            b"\0\0\0\x01\0\0\x01\xa4\0\0\0\x01\0\0\0\x07\0\0\0\x08\0\0\0\0\0\0\0\0\0\0 \x03\0\0\0\0\0\0 \x03\0\0\0\x01\0\0\0\x02\0\0\0\x03\0\0\0\x04\0\0\0\x05\0\0\0\x06\0\0\0\0\0\0\0\0\0\0\0\0\0\0\0\0\0\0\0\0\0\0\0\0",
-        ),
-        (0, 0, 0),
-    ),
-    (
-        REGULAR,
-        (
-            4,
-            FILE,
-            1,
-            b"\0\0\0\x01\0\0\x01\xa4\0\0\0\x01\0\0\0\x07\0\0\0\x08\0\0\0\0\0\0\0\0\0\0 \x03\0\0\0\0\0\0 \x02\0\0\0\x01\0\0\0\x02\0\0\0\x03\0\0\0\x04\0\0\0\x05\0\0\0\x06\0\0\0\x05\0\0\0\x01\0\0\0\0\0\0\0\0\0\0\0\0\0\0\0\0",
-        ),
-        (7, THIRD, THIRD),
-    ),
-    (
-        REGULAR,
-        (
-            4,
-            FILE,
-            1,
-            b"\0\0\0\x05\0\0\x01\xff\0\0\0\x01\0\0\0\x07\0\0\0\x08\0\0\0\0\0\0\0\0\0\0\0\0\0\0\0\0\0\0\0\0\0\0\0\x01\0\0\0\x02\0\0\0\x03\0\0\0\x04\0\0\0\x05\0\0\0\x06\0\0\0\x05\0\0\0\x01\0\0\0\0\0\0\0\0\0\0\0\0\0\0\0\x08to/there",
-        ),
-        (4, FILE, FILE),
-    ),
-    (REGULAR, (4, FILE, 1, DIRECTORY), (4, FILE, FILE)),
-    (
-        DEAD,
-        (
-            5,
-            THIRD,
-            2,
-            b"\0\x01\0\x02\0\0\0\0\0\0\0\0\xff\xff\0\0\0\0\0\x08\0\0\0\x08\0\0\0\x01\0\x05\0\x08\x03\0\0\0\x02\0\0\0\x09\0\0\0\x01",
-        ),
-        (5, THIRD, ROOT),
-    ),
-    (
-        DEAD,
-        (
-            8,
-            LEFT,
-            3,
-            b"\0\0\0\x01\0\0\0\x09\0\0\0\x01\0\x05\0\0\x03\0\0\0\x02\0\x05\0\x08\x03\0\0\0\0\0\0\0\x06\0\0\0\x01",
-        ),
-        (8, LEFT, LEFT),
-    ),
-    (DEAD, (6, FIRST + 1, 3, b"first"), (6, FIRST + 1, FIRST)),
+/// The tree and its pieces as they are, and the page of names in the place of its root.
+const WHOLE: Damage = (5, ROOT, 2, 0, b"");
+
+const NAMED: Damage = (5, ROOT, 2, 0, NAMES);
+
+/// Inodes over the tree or the names, and what they are and claim.
+const FILES: [(&[u8], Damage, Kind, Claims); 5] = [
+    (REGULAR, WHOLE, Kind::Regular, CLAIMS),
+    (DEAD, WHOLE, Kind::Dead, CLAIMS),
+    (DEAD_ALONE, WHOLE, Kind::Dead, &[]),
+    (LINK, WHOLE, Kind::Link, &[]),
+    (DIRECTORY, NAMED, Kind::Directory, &[(ROOT, None)]),
 ];
 
-/// The blocks of an inode with the tree and its pieces, and a block in the place of one of them.
-fn volume(alloc: Global, inode: &[u8], put: &Put) -> Result<Memory, Fail> {
-    let mut memory = Memory::new(alloc);
-    memory.put(4, FILE, 1, inode)?;
-    for block in &TREE {
-        memory.put(block.0, block.1, block.2, block.3)?;
-    }
-    memory.put(put.0, put.1, put.2, put.3)?;
-    Ok(memory)
-}
+/// The right leaf from the length of its key on, where that has six bytes.
+const LONG_KEY: &[u8] = b"\x06\0\x08\x03\0\0\0\x02\0\0\0\0\x07\0\0\0\x01";
 
-/// What the inode is, over a page in the place of its tree's root.
-fn read_over(alloc: Global, inode: &[u8], root: &'static [u8]) -> Result<Option<ReadFile>, Fail> {
-    let mut memory = volume(alloc, inode, &(5, ROOT, 2, root))?;
-    Ok(file_of(alloc, &mut memory, 1, FILE).ok())
-}
+/// An inode, what is damaged of it or of the other blocks, and what is torn then. The third piece with a byte behind the tail, of another
+/// kind (also where the inode is dead), and under another handle. The right leaf with a value of seven bytes, with a key of six, with a key
+/// of another kind. The inode with a size of 2 ^ 31, without a tree, with a tail before the last byte. A link with a tree, and a directory
+/// with pieces. Of a dead inode, the root of its tree under another handle, its left leaf of another kind, and its first piece of another
+/// generation. A directory without room for the number of its name, and one with as many links as its next number.
+const DAMAGES: [(&[u8], Damage, Torn); 17] = [
+    (REGULAR, (7, THIRD, 3, 3, b"!"), (7, THIRD, THIRD)),
+    (REGULAR, (7, THIRD, 2, 0, b""), (7, THIRD, THIRD)),
+    (DEAD, (7, THIRD, 2, 0, b""), (7, THIRD, THIRD)),
+    (REGULAR, (7, FIRST, 3, 0, b""), (7, FIRST, THIRD)),
+    (
+        REGULAR,
+        (9, RIGHT, 2, 19, b"\x07\x03\0\0\0\x02\0\0\0\x07\0\0\0\0"),
+        (5, ROOT, ROOT),
+    ),
+    (DEAD, (9, RIGHT, 2, 17, LONG_KEY), (5, ROOT, ROOT)),
+    (REGULAR, (9, RIGHT, 2, 20, b"\x04"), (5, ROOT, ROOT)),
+    (
+        REGULAR,
+        (4, FILE, 1, 24, b"\0\0\0\0\x80\0\0\0\0\0\0\0\x80\0\0\0"),
+        (4, FILE, FILE),
+    ),
+    (REGULAR, (4, FILE, 1, 64, b"\0\0\0\0\0\0\0\0"), (0, 0, 0)),
+    (REGULAR, (4, FILE, 1, 39, b"\x02"), (7, THIRD, THIRD)),
+    (LINK, (4, FILE, 1, 67, b"\x05\0\0\0\x01"), (4, FILE, FILE)),
+    (DIRECTORY, WHOLE, (4, FILE, FILE)),
+    (DEAD, (5, THIRD, 2, 0, b""), (5, THIRD, ROOT)),
+    (DEAD, (8, LEFT, 3, 0, b""), (8, LEFT, LEFT)),
+    (DEAD, (6, FIRST + 1, 3, 0, b""), (6, FIRST + 1, FIRST)),
+    (NO_NUMBER, NAMED, (4, FILE, FILE)),
+    (MANY_LINKS, NAMED, (4, FILE, FILE)),
+];
 
-/// What is torn after a damage.
-fn torn_by(alloc: Global, damage: &Damage) -> Result<(u64, u64, u64), Fail> {
-    let mut memory = volume(alloc, damage.0, &damage.1)?;
-    match file_of(alloc, &mut memory, 1, FILE) {
-        Err(AuditError::Torn(block, found, wanted)) => Ok((block, found, wanted)),
-        _ => Ok((1, 1, 1)),
-    }
+/// The file of an inode with the tree and its pieces, one of these blocks damaged.
+fn file(alloc: Global, inode: &'static [u8], damage: &Damage) -> Result<ReadFile, AuditError> {
+    let blocks = [
+        (4, FILE, 1, inode),
+        TREE[0],
+        TREE[1],
+        TREE[2],
+        TREE[3],
+        TREE[4],
+    ];
+    let mut memory = Memory::of(alloc, &blocks, damage)?;
+    file_of(alloc, &mut memory, 1, FILE)
 }
 
 /// Whether these are the claims.
-fn claims(read: &ReadFile, claims: &[(u64, Option<u32>)]) -> bool {
+fn claims(read: &ReadFile, claims: Claims) -> bool {
     if read.claims.len() != claims.len() {
         return false;
     }
@@ -247,37 +181,13 @@ fn has_fields(file: &File) -> bool {
     file.handle == FILE && file.nlink < 3 && file.uid == 7 && file.ctime == (5, 6)
 }
 
-/// Whether it is the regular file.
-fn is_regular(read: &ReadFile) -> bool {
-    let Some(file) = &read.file else {
-        return false;
-    };
-    match &file.body {
-        Body::Bytes(content) => has_fields(file) && has_hole(content.bytes()),
-        _ => false,
-    }
-}
-
-/// Whether it is the link.
-fn is_link(read: &ReadFile) -> bool {
-    let Some(file) = &read.file else {
-        return false;
-    };
-    match &file.body {
-        Body::Path(path) => has_fields(file) && path.bytes() == b"to/there".as_slice(),
-        _ => false,
-    }
-}
-
-/// Whether it is the directory.
-fn is_directory(read: &ReadFile) -> bool {
-    let Some(file) = &read.file else {
-        return false;
-    };
-    match &file.body {
-        Body::Names(parent, next, names) => {
-            has_fields(file)
-                && *parent == 2 * SLOT + 1
+/// Whether a body is that of the regular file, of the link or of the directory.
+fn is_body(body: &Body, kind: Kind) -> bool {
+    match (body, kind) {
+        (Body::Bytes(content), Kind::Regular) => has_hole(content.bytes()),
+        (Body::Path(path), Kind::Link) => path.bytes() == b"to/there".as_slice(),
+        (Body::Names(parent, next, names), Kind::Directory) => {
+            *parent == 2 * SLOT + 1
                 && *next == 4
                 && names
                     .named(b"f")
@@ -287,47 +197,30 @@ fn is_directory(read: &ReadFile) -> bool {
     }
 }
 
-#[test]
-fn files_have_holes(rt: HostRuntime) -> Result<(), Fail> {
-    let file = read_over(rt.alloc(), REGULAR, TREE[0].3)?;
-    assert!(rt; file.is_some_and(|read| is_regular(&read) && claims(&read, &CLAIMS)));
-    Ok(())
+/// Whether an inode was read as what it is, with these claims.
+fn is_read(read: &Result<ReadFile, AuditError>, kind: Kind, claimed: Claims) -> bool {
+    let Ok(read) = read else {
+        return false;
+    };
+    let stands = match &read.file {
+        None => matches!(kind, Kind::Dead),
+        Some(file) => has_fields(file) && is_body(&file.body, kind),
+    };
+    stands && claims(read, claimed)
 }
 
 #[test]
-fn dead_inodes_have_pieces_or_no_tree(rt: HostRuntime) -> Result<(), Fail> {
-    let left = read_over(rt.alloc(), DEAD, TREE[0].3)?;
-    assert!(rt; left.is_some_and(|read| read.file.is_none() && claims(&read, &CLAIMS)));
-    let alone = read_over(rt.alloc(), DEAD_ALONE, TREE[0].3)?;
-    assert!(rt; alone.is_some_and(|read| read.file.is_none() && claims(&read, &[])));
-    Ok(())
-}
-
-#[test]
-fn links_and_directories_are_read(rt: HostRuntime) -> Result<(), Fail> {
-    let link = read_over(rt.alloc(), LINK, TREE[0].3)?;
-    assert!(rt; link.is_some_and(|read| is_link(&read) && claims(&read, &[])));
-    let directory = read_over(rt.alloc(), DIRECTORY, NAMES)?;
-    assert!(rt;
-        directory.is_some_and(|read| is_directory(&read) && claims(&read, &[(ROOT, None)]))
-    );
-    Ok(())
-}
-
-#[test]
-fn damages_of_bodies_are_named(rt: HostRuntime) -> Result<(), Fail> {
-    for damage in &DAMAGES {
-        let torn = torn_by(rt.alloc(), damage)?;
-        assert!(rt; torn == damage.2, "block {}", damage.1.0);
+fn inodes_are_read_with_their_bodies(rt: HostRuntime) {
+    for (number, (inode, damage, kind, claimed)) in FILES.iter().enumerate() {
+        let read = file(rt.alloc(), *inode, damage);
+        assert!(rt; is_read(&read, *kind, *claimed), "inode {number}");
     }
-    Ok(())
 }
 
 #[test]
-fn directories_have_room_for_their_numbers(rt: HostRuntime) -> Result<(), Fail> {
-    for inode in BAD_DIRECTORIES {
-        let torn = torn_by(rt.alloc(), &(inode, (5, ROOT, 2, NAMES), (4, FILE, FILE)))?;
-        assert!(rt; torn == (4, FILE, FILE));
+fn damages_of_bodies_are_named(rt: HostRuntime) {
+    for (number, (inode, damage, torn)) in DAMAGES.iter().enumerate() {
+        let read = file(rt.alloc(), *inode, damage);
+        assert!(rt; is_torn(read.err(), *torn), "damage {number}");
     }
-    Ok(())
 }

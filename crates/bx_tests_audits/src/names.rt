@@ -1,16 +1,18 @@
 //! The entries of a directory, off a tree of one page.
 
-use crate::memory::Memory;
+use crate::memory::{Damage, Memory};
 use bx_audit_files::names_of;
-use bx_audit_trees::tree_under;
+use bx_audit_trees::{AuditError, tree_under};
 use std::alloc::Global;
-use std::test::Fail;
 
 /// The handle of the page.
 const LEAF: u64 = (5 << 32) + 1;
 
 /// The handle of the file that is named.
 const FILE: u64 = (4 << 32) + 1;
+
+/// The page as it is.
+const WHOLE: Damage = (5, LEAF, 2, 0, b"");
 
 /// `f` by its name and by its number, 3.
 const GOOD: &[u8] =
@@ -30,9 +32,8 @@ const BAD: [&[u8]; 8] = [
 ];
 
 /// The number and the handle of the first name, if the page is that of a directory's tree.
-fn first_name(alloc: Global, page: &[u8]) -> Result<Option<(u32, u64)>, Fail> {
-    let mut memory = Memory::new(alloc);
-    memory.put(5, LEAF, 2, page)?;
+fn first_name(alloc: Global, page: &'static [u8]) -> Result<Option<(u32, u64)>, AuditError> {
+    let mut memory = Memory::of(alloc, &[(5, LEAF, 2, page)], &WHOLE)?;
     let Ok(tree) = tree_under(alloc, &mut memory, 1, LEAF) else {
         return Ok(None);
     };
@@ -46,10 +47,9 @@ fn first_name(alloc: Global, page: &[u8]) -> Result<Option<(u32, u64)>, Fail> {
 }
 
 #[test]
-fn names_are_there_both_ways(rt: HostRuntime) -> Result<(), Fail> {
-    assert!(rt; first_name(rt.alloc(), GOOD)? == Some((3, FILE)));
+fn names_are_there_both_ways(rt: HostRuntime) {
+    assert!(rt; first_name(rt.alloc(), GOOD) == Ok(Some((3, FILE))));
     for page in BAD {
-        assert!(rt; first_name(rt.alloc(), page)? == None);
+        assert!(rt; first_name(rt.alloc(), page) == Ok(None));
     }
-    Ok(())
 }

@@ -5,11 +5,12 @@ ghost use Rattle.std.specs.Prelude.{◌≡◌};
 use crate::accepted::Read;
 use crate::faulty::Faulty;
 use crate::refused::Refused;
-use crate::volume::{HELD, Held, SIZES, rack_with};
+use crate::volume::{HELD, Held, Setting, Write, rack_with};
 use bx_base::{List, Points};
 use bx_disk::RackError;
 use bx_global::GlobalState;
 use bx_homes::Blocks;
+use bx_memory_rack::MemRack;
 use bx_overlay::{Overlaid, first_wrong, read_disks};
 use bx_places::is_block;
 use bx_rows::{DeviceRow, SessionRow};
@@ -50,45 +51,51 @@ fn state_with(alloc: Global, modes: &[u32], slots: &[u32]) -> Result<GlobalState
     })
 }
 
+/// The rack of a setting with some writes over it, and its state.
+fn prepared(
+    alloc: Global,
+    setting: Setting,
+    writes: &[Write],
+) -> Result<(MemRack, GlobalState), RackError> {
+    let (sizes, modes, slots) = setting;
+    let rack = rack_with(alloc, sizes, writes)?;
+    let state = state_with(alloc, modes, slots)?;
+    Ok((rack, state))
+}
+
 /// Whether a rack is refused for its cause.
 pub(crate) fn refuses(alloc: Global, case: &Refused) -> bool {
-    let (Ok(mut rack), Ok(state)) = (
-        rack_with(alloc, case.sizes, case.writes),
-        state_with(alloc, case.modes, case.slots),
-    ) else {
+    let (setting, writes, cause) = *case;
+    let Ok((mut rack, state)) = prepared(alloc, setting, writes) else {
         return false;
     };
     match read_disks(alloc, &mut rack, &state) {
         Ok(_) => false,
-        Err(error) => error == case.error,
+        Err(error) => error == cause,
     }
 }
 
 /// Whether a rack is read, and as it is wanted.
 pub(crate) fn reads(alloc: Global, case: &Read) -> bool {
-    let (Ok(mut rack), Ok(state)) = (
-        rack_with(alloc, case.sizes, case.writes),
-        state_with(alloc, case.modes, case.slots),
-    ) else {
+    let (setting, writes, points, others) = *case;
+    let Ok((mut rack, state)) = prepared(alloc, setting, writes) else {
         return false;
     };
     let Ok(read) = read_disks(alloc, &mut rack, &state) else {
         return false;
     };
-    if !are_calls(&read.doubt, case.points) {
+    if !are_calls(&read.doubt, points) {
         return false;
     }
     let areas = read.members.areas;
     let mut blocks = Overlaid::new(alloc, &mut rack, read.members, read.newest.items());
-    has_all(&mut blocks, areas, case.others)
+    has_all(&mut blocks, areas, others)
 }
 
 /// Whether the first block of a rack that isn't as the slots ask is this one.
 pub(crate) fn finds(alloc: Global, case: &Faulty) -> bool {
-    let (Ok(mut rack), Ok(state)) = (
-        rack_with(alloc, &SIZES, case.writes),
-        state_with(alloc, &[0, 0], case.slots),
-    ) else {
+    let (setting, writes, fault) = *case;
+    let Ok((mut rack, state)) = prepared(alloc, setting, writes) else {
         return false;
     };
     let Ok(read) = read_disks(alloc, &mut rack, &state) else {
@@ -97,7 +104,7 @@ pub(crate) fn finds(alloc: Global, case: &Faulty) -> bool {
     let Ok(found) = first_wrong(alloc, &mut rack, read.members, read.newest.items()) else {
         return false;
     };
-    match (found, case.fault) {
+    match (found, fault) {
         (None, None) => true,
         (Some(wrong), Some(fault)) => (wrong.at, wrong.found, wrong.wanted) == fault,
         _ => false,

@@ -3,7 +3,7 @@
 ghost use Rattle.std.specs.Prelude.{◌≡◌, IsTrue, length, slice_index};
 
 use crate::chains::{eight_calls, put_beside, two_disks, two_parts};
-use crate::steps::{crashes, fills, has, syncs};
+use crate::steps::{crashes, fills, has, syncs, wrong};
 use crate::torn_rack::TornRack;
 use bx_base::OutOfMemory;
 use bx_calls::{read_sectors, sync_disk, write_some, write_through, zero_sectors};
@@ -21,7 +21,7 @@ fn has_one<R: Rack>(rack: &R, sectors: u64) -> bool
     rack.disks() == 1 && rack.sectors(0) == sectors
 }
 
-/// Makes each call on a rack of two disks, of nine and three sectors.
+/// Makes each call, and then the chains of them, on a rack of two disks, of nine and three sectors.
 fn makes_each_call(rack: &mut MemRack) -> bool {
     let mut into = [1; 512];
     rack.disks() == 2
@@ -32,40 +32,23 @@ fn makes_each_call(rack: &mut MemRack) -> bool {
         && write_through(rack, 1, 2, &[9; 512]).is_ok()
         && read_sectors(rack, 1, 2, &mut into).is_ok()
         && into == [9; 512]
-}
-
-/// Makes the chains of calls on it.
-fn makes_each_chain(rack: &mut MemRack) -> bool {
-    rack.disks() == 2
-        && rack.sectors(0) == 9
-        && rack.sectors(1) == 3
         && two_parts(rack, 0, 0, &[1; 512], &[2; 1024]).is_ok()
         && two_disks(rack, 1, 0, &[3; 512]).is_ok()
         && put_beside(rack, 1, &[4; 512]).is_ok()
 }
 
-/// What the sectors hold then: a disk, a sector, and the byte that fills it.
-const HELD: [(u32, u64, u8); 9] = [
-    (0, 0, 1),
-    (0, 1, 2),
-    (0, 2, 2),
-    (0, 3, 0),
-    (0, 7, 0),
-    (0, 8, 7),
-    (1, 0, 3),
-    (1, 1, 4),
-    (1, 2, 9),
+/// What the sectors of each disk hold then: the byte that fills one.
+const HELD: [(u32, &[(u64, u8)]); 2] = [
+    (0, &[(0, 1), (1, 2), (2, 2), (3, 0), (7, 0), (8, 7)]),
+    (1, &[(0, 3), (1, 4), (2, 9)]),
 ];
 
 #[test]
 fn each_call_does_its_work(rt: HostRuntime) -> Result<(), Fail> {
     let mut rack = MemRack::new(rt.alloc(), &[9, 3], &[])?;
-    assert!(rt; makes_each_call(&mut rack) && makes_each_chain(&mut rack));
-    for (disk, sector, byte) in HELD {
-        assert!(rt;
-            has(&mut rack, disk, sector, byte),
-            "disk {disk}, sector {sector}"
-        );
+    assert!(rt; makes_each_call(&mut rack));
+    for (disk, held) in HELD {
+        assert_eq!(rt; wrong(&mut rack, disk, held), None);
     }
     Ok(())
 }
@@ -83,60 +66,49 @@ fn make_filled(alloc: Global, sectors: u64) -> Result<MemRack, OutOfMemory> {
 #[test]
 fn a_region_of_three_pieces_is_zeroed(rt: HostRuntime) -> Result<(), Fail> {
     let mut rack = make_filled(rt.alloc(), 140)?;
+    let held = [(3, 5), (4, 0), (67, 0), (68, 0), (133, 0), (134, 5)];
     assert!(rt; has_one(&rack, 140) && zero_sectors(&mut rack, 0, 4, 130).is_ok());
-    for (sector, byte) in [(3, 5), (4, 0), (67, 0), (68, 0), (133, 0), (134, 5)] {
-        assert!(rt; has(&mut rack, 0, sector, byte), "sector {sector}");
-    }
+    assert_eq!(rt; wrong(&mut rack, 0, &held), None);
     Ok(())
 }
 
-/// Zeroes 130 of 140 sectors by three writes, of which the second is torn, and lets the disk crash.
-fn zeroes_in_part(alloc: Global, how: Noise) -> Result<MemRack, OutOfMemory> {
-    let mut rack = TornRack::new(make_filled(alloc, 140)?, 1);
-    let failed = has_one(&rack, 140) && zero_sectors(&mut rack, 0, 4, 130).is_err();
-    let mut inner = rack.into_inner();
-    crashes(&mut inner, 0, how);
-    if failed { Ok(inner) } else { Err(OutOfMemory) }
+/// A disk of so many sectors, over which so many writes go well and the others are torn; how it crashes then; and which of its
+/// sectors are filled with which bytes.
+type Torn = (u64, u64, Noise, &'static [(u64, u8)]);
+
+/// Of 140 sectors 130 are zeroed by three writes, of which the second is torn.
+const ZEROED: [(u64, u8); 6] = [(3, 5), (4, 0), (67, 0), (99, 0), (100, 5), (134, 5)];
+
+/// Of nine sectors the second half of two isn't written, and the first is unsure.
+const TORN: [Torn; 4] = [
+    (140, 1, Noise::Keep, &ZEROED),
+    (9, 0, Noise::Keep, &[(2, 5), (3, 8), (4, 5), (5, 5)]),
+    (9, 0, Noise::Drop, &[(2, 5), (3, 5), (4, 5), (5, 5)]),
+    (9, 0, Noise::Seed(7), &[(2, 5), (4, 5), (5, 5)]),
+];
+
+/// Whether the call on the disk tells its fault.
+fn fails(rack: &mut TornRack<MemRack>, sectors: u64) -> bool {
+    match sectors {
+        9 => has_one(rack, 9) && write_through(rack, 0, 3, &[8; 1024]).is_err(),
+        _ => has_one(rack, 140) && zero_sectors(rack, 0, 4, 130).is_err(),
+    }
 }
 
-/// What a crash leaves of it that keeps what reads: a sector, and the byte that fills it.
-const IN_PART: [(u64, u8); 6] = [(3, 5), (4, 0), (67, 0), (99, 0), (100, 5), (134, 5)];
-
-#[test]
-fn a_region_that_is_zeroed_in_part_is_zero_or_as_it_was(rt: HostRuntime) -> Result<(), Fail> {
-    let mut rack = zeroes_in_part(rt.alloc(), Noise::Keep)?;
-    for (sector, byte) in IN_PART {
-        assert!(rt; has(&mut rack, 0, sector, byte), "sector {sector}");
-    }
-    Ok(())
-}
-
-/// Writes sectors 3 and 4 of nine by a write that is torn, lets the disk crash, and says whether the fault was told and
-/// the sectors from 2 to 5 are then filled with these bytes. Noise is no byte.
-fn tears(alloc: Global, how: Noise, left: [Option<u8>; 4]) -> Result<bool, OutOfMemory> {
-    let mut rack = TornRack::new(make_filled(alloc, 9)?, 0);
-    let failed = has_one(&rack, 9) && write_through(&mut rack, 0, 3, &[8; 1024]).is_err();
-    let mut inner = rack.into_inner();
-    let mut as_said = failed && crashes(&mut inner, 0, how);
-    for (sector, byte) in (2..6u64).zip(left) {
-        as_said = as_said
-            && match byte {
-                Some(byte) => has(&mut inner, 0, sector, byte),
-                None => !has(&mut inner, 0, sector, 5) && !has(&mut inner, 0, sector, 8),
-            };
-    }
-    Ok(as_said)
+/// Whether the fault is told, and a crash leaves what is said, and noise, which is no byte, in sector 3 where it makes noise.
+fn tears(alloc: Global, (sectors, writes, how, held): Torn) -> Result<bool, OutOfMemory> {
+    let mut rack = TornRack::new(make_filled(alloc, sectors)?, writes);
+    let failed = fails(&mut rack, sectors);
+    let mut inner = rack.inner;
+    let crashed = crashes(&mut inner, 0, how) && wrong(&mut inner, 0, held).is_none();
+    let is_noise = !has(&mut inner, 0, 3, 5) && !has(&mut inner, 0, 3, 8);
+    Ok(failed && crashed && is_noise == (how == Noise::Seed(7)))
 }
 
 #[test]
 fn a_torn_write_leaves_its_sectors_unsure_or_as_they_were(rt: HostRuntime) -> Result<(), Fail> {
-    let cases = [
-        (Noise::Keep, [Some(5), Some(8), Some(5), Some(5)]),
-        (Noise::Drop, [Some(5), Some(5), Some(5), Some(5)]),
-        (Noise::Seed(7), [Some(5), None, Some(5), Some(5)]),
-    ];
-    for (number, (how, left)) in cases.into_iter().enumerate() {
-        assert!(rt; tears(rt.alloc(), how, left)?, "case {number}");
+    for (number, torn) in TORN.into_iter().enumerate() {
+        assert!(rt; tears(rt.alloc(), torn)?, "case {number}");
     }
     Ok(())
 }
@@ -147,12 +119,9 @@ fn stops_apart(alloc: Global, calls: u64) -> Result<bool, OutOfMemory> {
     let mut rack = StopRack::new(make_filled(alloc, 9)?, calls);
     let ended = has_one(&rack, 9) && eight_calls(&mut rack, 0, 1, &[8; 512]).is_ok();
     let mut inner = rack.into_inner();
-    Ok(
-        ended == (calls >= 10)
-            && crashes(&mut inner, 0, Noise::Seed(7))
-            && has(&mut inner, 0, 0, 5)
-            && has(&mut inner, 0, 7, 5),
-    )
+    let crashed = crashes(&mut inner, 0, Noise::Seed(7));
+    let is_same = wrong(&mut inner, 0, &[(0, 5), (7, 5)]).is_none();
+    Ok(crashed && is_same && ended == (calls >= 10))
 }
 
 #[test]

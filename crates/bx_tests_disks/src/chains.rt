@@ -10,13 +10,11 @@ ghost use Rattle.bx_calls.specs.Calls.{KeepsSure, HasSure, LeavesOnly};
 use bx_calls::{sync_disk, write_some, write_through};
 use bx_disk::{Rack, RackError};
 
+/// What a call of a rack answers that gives nothing else.
+pub type CallResult = Result<(), RackError>;
+
 /// Eight calls in a row, which are ten of the rack.
-pub fn eight_calls<R: Rack>(
-    rack: &mut R,
-    disk: u32,
-    sector: u64,
-    bytes: &[u8],
-) -> Result<(), RackError>
+pub fn eight_calls<R: Rack>(rack: &mut R, disk: u32, sector: u64, bytes: &[u8]) -> CallResult
     requires disk { disk < length (R.state rack.old).sizes }
     requires whole { length bytes.now ≡ 512 }
     requires range { sector + 6 ≤ slice_index (R.state rack.old).sizes disk }
@@ -51,7 +49,7 @@ pub fn two_parts<R: Rack>(
     sector: u64,
     first: &[u8],
     second: &[u8],
-) -> Result<(), RackError>
+) -> CallResult
     requires disk { disk < length (R.state rack.old).sizes }
     requires first { length first.now ≡ 512 }
     requires second { length second.now ≡ 1024 }
@@ -69,12 +67,7 @@ pub fn two_parts<R: Rack>(
 }
 
 /// A write on one disk, and a sync of another whose fault is passed over. Third disks are as they were.
-pub fn two_disks<R: Rack>(
-    rack: &mut R,
-    disk: u32,
-    other: u32,
-    bytes: &[u8],
-) -> Result<(), RackError>
+pub fn two_disks<R: Rack>(rack: &mut R, disk: u32, other: u32, bytes: &[u8]) -> CallResult
     requires disk { disk < length (R.state rack.old).sizes }
     requires other { other < length (R.state rack.old).sizes }
     requires whole { length bytes.now ≡ 512 }
@@ -86,14 +79,12 @@ pub fn two_disks<R: Rack>(
     ensures sizes { (R.state rack.new).sizes ≡ (R.state rack.old).sizes }
 {
     write_some(rack, disk, 0, bytes)?;
-    if sync_disk(rack, other).is_err() {
-        return Ok(());
-    }
+    let _passed_over = sync_disk(rack, other);
     Ok(())
 }
 
 /// Writes the second sector of a disk. Whatever the first one surely holds, each image has it, at any moment.
-pub fn put_beside<R: Rack>(rack: &mut R, disk: u32, bytes: &[u8]) -> Result<(), RackError>
+pub fn put_beside<R: Rack>(rack: &mut R, disk: u32, bytes: &[u8]) -> CallResult
     requires disk { disk < length (R.state rack.old).sizes }
     requires whole { length bytes.now ≡ 512 }
     requires range { 2 ≤ slice_index (R.state rack.old).sizes disk }

@@ -13,8 +13,8 @@ pub enum Step {
     Syncs(u32),
     /// A fault: the disk isn't synced.
     FailsToSync(u32),
-    /// All bytes of a sector are this byte.
-    Has(u32, u64, u8),
+    /// Each of these sectors of a disk is filled with its byte.
+    Holds(u32, &'static [(u64, u8)]),
     /// A disk crashes.
     Crashes(u32, Noise),
     /// A disk is made blank.
@@ -33,13 +33,28 @@ pub(crate) fn syncs<R: Rack>(rack: &mut R, disk: u32) -> bool {
     disk < rack.disks() && rack.sync(disk).is_ok()
 }
 
+/// A sector, if it is there and can be read: over bytes that are this one, so that it shows where a read leaves any.
+pub(crate) fn content<R: Rack>(rack: &mut R, disk: u32, at: u64, blank: u8) -> Option<[u8; 512]> {
+    let mut into = [blank; 512];
+    let is_read = disk < rack.disks()
+        && at < rack.sectors(disk)
+        && rack.read(disk, at, &mut into).is_ok();
+    is_read.then_some(into)
+}
+
 /// Whether a sector is there and can be read, and all of its bytes are this one.
 pub(crate) fn has<R: Rack>(rack: &mut R, disk: u32, sector: u64, byte: u8) -> bool {
-    let mut into = [!byte; 512];
-    disk < rack.disks()
-        && sector < rack.sectors(disk)
-        && rack.read(disk, sector, &mut into).is_ok()
-        && into.iter().all(|got| *got == byte)
+    content(rack, disk, sector, !byte) == Some([byte; 512])
+}
+
+/// The first sector of a disk that isn't filled with its byte.
+pub(crate) fn wrong<R: Rack>(rack: &mut R, disk: u32, held: &[(u64, u8)]) -> Option<u64> {
+    for (sector, byte) in held {
+        if !has(rack, disk, *sector, *byte) {
+            return Some(*sector);
+        }
+    }
+    None
 }
 
 /// Crashes a disk, if it is there, and says whether that went well.
@@ -54,7 +69,7 @@ pub(crate) fn goes<R: CrashRack>(rack: &mut R, step: Step) -> bool {
         Step::FailsToFill(disk, sector, byte) => !fills(rack, disk, sector, byte),
         Step::Syncs(disk) => syncs(rack, disk),
         Step::FailsToSync(disk) => !syncs(rack, disk),
-        Step::Has(disk, sector, byte) => has(rack, disk, sector, byte),
+        Step::Holds(disk, held) => wrong(rack, disk, held).is_none(),
         Step::Crashes(disk, how) => crashes(rack, disk, how),
         Step::Blanks(disk) => disk < rack.disks() && rack.blank(disk).is_ok(),
     }

@@ -90,7 +90,7 @@ impl<M: Service> Replay<M> {
         self.write_closing(alloc, &listed, out)
     }
 
-    /// Writes what comes after the trace, where this is listed: the word `end`, the points of calls that lack one, and the listing.
+    /// Writes what comes after the trace: the word `end`, the points of calls that lack one among those listed, and the listing.
     fn write_closing<K: Sink>(
         &mut self,
         alloc: Global,

@@ -39,7 +39,7 @@ pub fn replay<M: Service, S: Source, K: Sink, B: CrashRack>(
     play::<M, S, K, B>(alloc, &mut reader, input, out, bench)
 }
 
-/// Replays so, by a reader that hasn't read anything.
+/// Replays as `replay` does, by a reader that hasn't read anything.
 fn play<M: Service, S: Source, K: Sink, B: CrashRack>(
     alloc: Global,
     reader: &mut LineReader,

@@ -1,12 +1,10 @@
 //! Random calls in words.
 
+use bx_tests_desk::{ALONE, bytes_of};
 use std::alloc::{AllocError, Global};
 
-/// A word that leaves an attribute alone.
-const ALONE: u32 = 0xffff_ffff;
-
 /// Pseudo-random numbers.
-#[derive(Drop)]
+#[derive(Clone, Copy)]
 pub(crate) struct Chance {
     state: u32,
 }
@@ -76,7 +74,7 @@ fn sattr_words(chance: &mut Chance) -> [u32; 8] {
 }
 
 /// What a random call is about: files by their handles, and how many names there are.
-#[derive(Drop)]
+#[derive(Clone, Copy)]
 pub(crate) struct About {
     /// A directory.
     pub(crate) directory: u64,
@@ -86,23 +84,12 @@ pub(crate) struct About {
     pub(crate) names: u32,
 }
 
-/// The bytes of words.
-fn bytes_of(alloc: Global, parts: &[&[u32]]) -> Result<Vec<u8>, AllocError> {
-    let mut bytes = Vec::new(alloc);
-    for part in parts {
-        for word in *part {
-            bytes.extend_from_slice(&word.to_be_bytes())?;
-        }
-    }
-    Ok(bytes)
-}
-
 /// A call of a procedure, with random arguments.
 pub(crate) fn random_call(
     alloc: Global,
     chance: &mut Chance,
     procedure: u32,
-    about: &About,
+    about: About,
 ) -> Result<Vec<u8>, AllocError> {
     let head = head(procedure, chance.below(4) / 3);
     let at = handle_words(about.directory);

@@ -6,4 +6,4 @@ mod calls;
 #[cfg(test)]
 mod random;
 #[cfg(test)]
-mod world;
+mod volume;

@@ -1,75 +1,68 @@
 //! Which words are a command line.
 
+use bx_base::OutOfMemory;
 use bx_command_line::CommandLine;
-use std::alloc::Global;
-use std::test::Fail;
+use std::alloc::{AllocError, Global};
 
-/// What these words are read as.
-fn reads_as(alloc: Global, words: &[&str]) -> Result<Option<CommandLine>, Fail> {
+/// Words that are no command line. `clap` itself would take the second.
+const OTHERS: [&'static [&'static str]; 24] = [
+    &[],
+    &["replay", "--"],
+    &["--", "replay"],
+    &["replay", "replay"],
+    &["replay", ""],
+    &["replay", "-h"],
+    &["replay", "--help"],
+    &["help", "replay"],
+    &[""],
+    &["-"],
+    &["--"],
+    &["help"],
+    &["-h"],
+    &["--help"],
+    &["-V"],
+    &["--version"],
+    &["repl"],
+    &["Replay"],
+    &["replay "],
+    &["replay="],
+    &["--replay"],
+    &["boxwood"],
+    &["format"],
+    &["check"],
+];
+
+/// Words that are owned.
+fn owned(alloc: Global, words: &[&str]) -> Result<Vec<String>, AllocError> {
     let mut owned = Vec::new(alloc);
     for word in words {
         owned.push(String::from_str(alloc, word)?)?;
     }
-    Ok(CommandLine::read(alloc, owned.as_slice())?)
+    Ok(owned)
 }
 
-#[test]
-fn replay_is_the_one_command_line(rt: HostRuntime) -> Result<(), Fail> {
-    let read = reads_as(rt.alloc(), ["replay"].as_slice())?;
-    assert!(rt; read == Some(CommandLine::Replay));
-    Ok(())
+/// What these words are read as.
+fn reads_as(alloc: Global, words: &[&str]) -> Result<Option<CommandLine>, OutOfMemory> {
+    let owned = owned(alloc, words)?;
+    CommandLine::read(alloc, owned.as_slice())
 }
 
-#[test]
-fn no_words_are_no_command_line(rt: HostRuntime) -> Result<(), Fail> {
-    assert!(rt; reads_as(rt.alloc(), [].as_slice())?.is_none());
-    Ok(())
-}
-
-/// `clap` itself would take the first.
-#[test]
-fn other_words_than_replay_are_no_command_line(rt: HostRuntime) -> Result<(), Fail> {
-    for words in [
-        ["replay", "--"],
-        ["--", "replay"],
-        ["replay", "replay"],
-        ["replay", ""],
-        ["replay", "-h"],
-        ["replay", "--help"],
-        ["help", "replay"],
-    ] {
-        assert!(rt;
-            reads_as(rt.alloc(), words.as_slice())?.is_none(),
-            "{words:?}"
-        );
+/// Whether words are read so.
+fn is_read(alloc: Global, words: &[&str], want: Option<CommandLine>) -> bool {
+    match reads_as(alloc, words) {
+        Ok(read) => read == want,
+        Err(_) => false,
     }
-    Ok(())
 }
 
 #[test]
-fn another_word_than_replay_is_no_command_line(rt: HostRuntime) -> Result<(), Fail> {
-    for word in [
-        "",
-        "-",
-        "--",
-        "help",
-        "-h",
-        "--help",
-        "-V",
-        "--version",
-        "repl",
-        "Replay",
-        "replay ",
-        "replay=",
-        "--replay",
-        "boxwood",
-        "format",
-        "check",
-    ] {
-        assert!(rt;
-            reads_as(rt.alloc(), [word].as_slice())?.is_none(),
-            "{word}"
-        );
+fn replay_is_the_one_command_line(rt: HostRuntime) {
+    assert!(rt; is_read(rt.alloc(), &["replay"], Some(CommandLine::Replay)));
+}
+
+#[test]
+fn other_words_are_no_command_line(rt: HostRuntime) {
+    for words in &OTHERS {
+        assert!(rt; is_read(rt.alloc(), *words, None), "{words:?}");
     }
-    Ok(())
 }

@@ -2,10 +2,14 @@
 #![tactic(auto)]
 
 #[cfg(test)]
+mod bench;
+#[cfg(test)]
 mod command_lines;
 #[cfg(test)]
 mod crashes;
 #[cfg(test)]
 mod replays;
+#[cfg(test)]
+mod texts;
 #[cfg(test)]
 mod ticks;

@@ -7,6 +7,7 @@ ghost use Rattle.bx_tests_desk.specs.Desks.{held_on};
 
 use crate::files::{file_block, names_block};
 use crate::links::link_block;
+use crate::turns::{Holder, hold_all};
 use bx_base::{Mode, Raw};
 use bx_format::opening_block;
 use bx_layout::Block;
@@ -141,15 +142,12 @@ impl Desk {
 
     /// Holds what a draft has.
     pub fn take_in(&mut self, alloc: Global, draft: &Draft) -> Result<(), DraftError> {
-        for (at, block) in draft.blocks() {
-            let payload = Raw::of(alloc, block.payload.bytes())?;
-            let copy = Block {
-                handle: block.handle,
-                kind: block.kind,
-                payload,
-            };
-            self.held.put(*at, copy)?;
-        }
-        Ok(())
+        hold_all(alloc, self, draft)
+    }
+}
+
+impl Holder for Desk {
+    fn put(&mut self, at: u64, block: Block) -> Result<(), DraftError> {
+        self.held.put(at, block)
     }
 }

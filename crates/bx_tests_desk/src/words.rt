@@ -3,7 +3,7 @@
 use crate::desk::Desk;
 use bx_base::{Mode, OutOfMemory};
 use bx_engine::BoxFs;
-use bx_views::Attempt;
+use bx_views::{Attempt, View};
 use std::alloc::{AllocError, Global};
 
 /// The engine of volume 7 with one area.
@@ -55,13 +55,13 @@ pub fn are_words(alloc: Global, bytes: &[u8], words: &[u32]) -> bool {
 }
 
 /// Attempts a call of client 5 at a moment.
-pub fn attempt(
+pub fn attempt<V: View>(
     alloc: Global,
-    desk: &Desk,
+    view: &V,
     call: &[u8],
     moment: u32,
 ) -> Result<Option<Attempt>, OutOfMemory> {
-    ENGINE.attempt(alloc, 5, call, u64::from(moment), desk)
+    ENGINE.attempt(alloc, 5, call, u64::from(moment), view)
 }
 
 /// Whether the bytes of a call are answered so, without a change, and no free blocks are told.

@@ -2,10 +2,8 @@
 #![tactic(auto)]
 
 #[cfg(test)]
-mod creations;
+mod calls;
 #[cfg(test)]
-mod directories;
+mod cases;
 #[cfg(test)]
-mod random;
-#[cfg(test)]
-mod removals;
+mod steps;

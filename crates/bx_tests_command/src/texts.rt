@@ -1,0 +1,58 @@
+//! The worked examples of the schedule's language, in parts.
+
+/// The first line: a volume with number 7.
+pub(crate) const HEADING: &str = "boxwood 1 7 1 1 1\n";
+
+/// What stands before a call at the beginning, and before one at 1 second.
+pub(crate) const CALL: &str = "call 0 0 5 ";
+
+pub(crate) const CALL_LATER: &str = "call 1000 0 5 ";
+
+/// What stands before a call that was taken.
+pub(crate) const TOOK: &str = "took 1 0 5 ";
+
+/// What stands between a call that acted and its reply.
+pub(crate) const ACTED: &str = "\npoint 1 0 8 0000000000000000\nreply 1 ";
+
+/// That the call at 1 second acted.
+pub(crate) const POINT_LATER: &str = "point 1 1000 8 0000000000000000\n";
+
+/// What comes after the trace: the listing of the opening tree of volume 7.
+pub(crate) const CLOSING: &str =
+    "end\nfile 0000000000000001 2 40777 2 0 0 4096 0.000000 0.000000 0.000000\ndir 0000000000000001 3\n";
+
+/// The listing once the mode is set.
+pub(crate) const SET_LISTING: &str =
+    "file 0000000000000001 2 40755 2 0 0 4096 0.000000 0.000000 1.000000\ndir 0000000000000001 3\n";
+
+/// NULL, and its reply.
+pub(crate) const NULL: &str =
+    "000000010000000000000002000186a3000000020000000000000000000000000000000000000000";
+
+pub(crate) const NULL_TOLD: &str = "000000010000000100000000000000000000000000000000";
+
+/// GETATTR of the root, and its reply.
+pub(crate) const ROOT: &str =
+    "000000010000000000000002000186a3000000020000000100000000000000000000000000000000424f58574f4f4431000000000000000700000000000000010000000000000000";
+
+pub(crate) const ROOT_TOLD: &str =
+    "0000000100000001000000000000000000000000000000000000000000000002000041ff000000020000000000000000000010000000100000000000000000080000000700000002000000000000000000000000000000000000000000000000";
+
+/// GETATTR of a file handle that names nothing, and its reply.
+pub(crate) const NOTHING: &str =
+    "000000010000000000000002000186a3000000020000000100000000000000000000000000000000424f58574f4f4431000000000000000700000000000000020000000000000000";
+
+pub(crate) const NOTHING_TOLD: &str = "00000001000000010000000000000000000000000000000000000046";
+
+/// Procedure 17 without its file handle, which is refused as a message, and the reply.
+pub(crate) const GARBAGE: &str =
+    "000000010000000000000002000186a3000000020000001100000000000000000000000000000000";
+
+pub(crate) const GARBAGE_TOLD: &str = "000000010000000100000000000000000000000000000004";
+
+/// SETATTR of the root's mode by its owner, and its reply.
+pub(crate) const SET: &str =
+    "000000010000000000000002000186a30000000200000002000000010000001400000000000000000000000000000000000000000000000000000000424f58574f4f4431000000000000000700000000000000010000000000000000000001edffffffffffffffffffffffffffffffffffffffffffffffffffffffff";
+
+pub(crate) const SET_TOLD: &str =
+    "0000000100000001000000000000000000000000000000000000000000000002000041ed000000020000000000000000000010000000100000000000000000080000000700000002000000000000000000000000000000000000000100000000";

@@ -1,18 +1,18 @@
-//! A replica on a disk, and what it answers, for tests.
+//! Replicas on disks, and steps that they take, for tables of cases.
 
-ghost use Rattle.std.specs.Prelude.{◌≡◌, ◌+◌, ◌^◌, ◌<◌, ◌≤◌, IfSome, IsTrue, slice_index};
+ghost use Rattle.std.specs.Prelude.{◌+◌, ◌^◌, ◌<◌, ◌≤◌, IfSome, IsTrue, slice_index};
 ghost use Rattle.bx_global.specs.Allowed.{IsAllowed};
 ghost use Rattle.bx_places.specs.Places.{replica_sectors};
 
 use bx_acceptor::{Acceptor, Origin, first_value};
-use bx_base::{Actor, Raw};
+use bx_base::{Actor, OutOfMemory, Raw};
 use bx_cell::format;
 use bx_disk::Rack;
 use bx_facts::{FactError, Input, Letter, Outbox, Packet};
 use bx_global::GlobalState;
 use bx_memory_rack::MemRack;
 use bx_packets::Message;
-use std::alloc::{AllocError, Global};
+use std::alloc::Global;
 
 /// A state with a device and no session, as another model writes it. Its index stands in front.
 pub(crate) const STATE: [u8; 80] = [
@@ -44,78 +44,88 @@ pub(crate) struct Sent(
     pub(crate) u64,
 );
 
-/// The state with this index, if memory doesn't run out.
-pub(crate) fn state_at(alloc: Global, index: u64) -> Option<GlobalState>
-    ensures { IfSome result IsAllowed }
-{
-    let mut bytes = STATE;
-    bytes[..8].copy_from_slice(&index.to_be_bytes());
-    match GlobalState::read(alloc, &bytes) {
-        Ok(found) => found,
-        Err(_) => None,
-    }
+/// What a replica does, and the outcome.
+#[derive(Clone, Copy)]
+pub(crate) enum Step {
+    /// It starts.
+    Starts,
+    /// A packet comes, and it answers this.
+    Answers(Sent, Told),
+    /// It knows the state of this index.
+    Knows(u64),
 }
 
-/// The first state, of index 1.
+/// What replica 0 does, with a cell that came to be so.
+#[derive(Clone, Copy)]
+pub(crate) struct Life(pub(crate) Origin, pub(crate) &'static [Step]);
+
+/// What a disk has: nothing, the cell of a new volume, or such a cell whose number is the greatest.
+#[derive(Clone, Copy)]
+pub(crate) enum Disk {
+    Blank,
+    Made,
+    Last,
+}
+
+/// The first state of the volume.
 fn first_state(alloc: Global) -> Option<GlobalState>
     ensures state { IfSome result IsAllowed }
     ensures index { IfSome result (λ state. state.index + 1 < 2 ^ 64) }
 {
-    let state = state_at(alloc, 1)?;
+    let Ok(Some(state)) = GlobalState::read(alloc, &STATE) else {
+        return None;
+    };
     if state.index == u64::MAX {
         return None;
     }
     Some(state)
 }
 
-/// The acceptor of replica 0 of a volume that begins with the first state.
-pub(crate) fn replica(alloc: Global) -> Option<Acceptor> {
-    replica_of(alloc, Origin::Made)
-}
-
-/// The same of a volume whose cell came to be so.
-pub(crate) fn replica_of(alloc: Global, origin: Origin) -> Option<Acceptor> {
+/// The acceptor of replica 0, whose cell came to be so.
+pub(crate) fn replica(alloc: Global, origin: Origin) -> Option<Acceptor> {
     let state = first_state(alloc)?;
-    match Acceptor::new(alloc, 0, &state, origin) {
-        Ok(acceptor) => Some(acceptor),
-        Err(_) => None,
-    }
+    Acceptor::new(alloc, 0, &state, origin).ok()
 }
 
 /// The value of its cell to begin with.
-pub(crate) fn value(alloc: Global) -> Option<Raw> {
+fn value(alloc: Global) -> Option<Raw> {
     let state = first_state(alloc)?;
-    match first_value(alloc, &state) {
-        Ok(value) => Some(value),
-        Err(_) => None,
+    first_value(alloc, &state).ok()
+}
+
+/// Writes a half of a cell whose number is the greatest, and says whether that went well.
+fn writes_last(rack: &mut MemRack, value: &[u8]) -> bool {
+    let mut half = [0; 5120];
+    if value.len() > 4096 || rack.disks() != 1 || rack.sectors(0) != 21 {
+        return false;
+    }
+    half[..8].copy_from_slice(b"BXGATE01");
+    half[512..520].copy_from_slice(&u64::MAX.to_be_bytes());
+    half[520..524].copy_from_slice(&(value.len() as u32).to_be_bytes());
+    half[1024..1024 + value.len()].copy_from_slice(value);
+    rack.write(0, 1, &half).is_ok()
+}
+
+/// Writes what a disk is to have, and says whether that went well.
+fn writes(rack: &mut MemRack, disk: Disk, value: &[u8]) -> bool {
+    match disk {
+        Disk::Blank => true,
+        Disk::Made => {
+            rack.disks() == 1
+                && rack.sectors(0) == 21
+                && value.len() <= 4096
+                && format(rack, 0, 1, value).is_ok()
+        }
+        Disk::Last => writes_last(rack, value),
     }
 }
 
-/// Writes its cell to begin with, and says whether that went well.
-fn writes_cell(rack: &mut MemRack, value: &Raw) -> bool {
-    let bytes = value.bytes();
-    rack.disks() == 1
-        && rack.sectors(0) == 21
-        && bytes.len() <= 4096
-        && format(rack, 0, 1, bytes).is_ok()
-}
-
-/// An empty disk of a replica.
-pub(crate) fn blank_disk(alloc: Global) -> Option<MemRack> {
-    match MemRack::new(alloc, &[21], &[]) {
-        Ok(rack) => Some(rack),
-        Err(_) => None,
-    }
-}
-
-/// A disk with the replica's cell to begin with.
-pub(crate) fn disk(alloc: Global) -> Option<MemRack> {
+/// A rack with the disk of replica 0.
+pub(crate) fn rack_of(alloc: Global, disk: Disk) -> Option<MemRack> {
     let value = value(alloc)?;
-    let mut rack = blank_disk(alloc)?;
-    if !writes_cell(&mut rack, &value) {
-        return None;
-    }
-    Some(rack)
+    let mut rack = MemRack::new(alloc, &[21], &[]).ok()?;
+    let written = writes(&mut rack, disk, value.bytes());
+    if written { Some(rack) } else { None }
 }
 
 /// Whether a rack has the disk of a replica.
@@ -131,52 +141,52 @@ pub(crate) fn starts<R: Rack>(rack: &mut R, acceptor: &mut Acceptor) -> bool {
     has_room(rack, acceptor) && acceptor.restart(rack).is_ok()
 }
 
-/// Puts the ballot with this round and actor at the end.
-fn push_ballot(bytes: &mut Vec<u8>, round: u64, actor: u32) -> Result<(), AllocError> {
-    bytes.extend_from_slice(&round.to_be_bytes())?;
-    bytes.extend_from_slice(&actor.to_be_bytes())?;
-    bytes.extend_from_slice(&[0; 8])
-}
-
-/// Puts the state with this index at the end.
-fn push_state(bytes: &mut Vec<u8>, index: u64) -> Result<(), AllocError> {
-    bytes.extend_from_slice(&index.to_be_bytes())?;
-    bytes.extend_from_slice(&STATE[8..])
+/// The bytes of a ballot and a state.
+fn proposal_text(round: u64, actor: u32, index: u64) -> [u8; 100] {
+    let mut bytes = [0; 100];
+    bytes[..8].copy_from_slice(&round.to_be_bytes());
+    bytes[8..12].copy_from_slice(&actor.to_be_bytes());
+    bytes[20..].copy_from_slice(&STATE);
+    bytes[20..28].copy_from_slice(&index.to_be_bytes());
+    bytes
 }
 
 /// The body of a packet: its ballot, and its state.
-fn body_of(alloc: Global, sent: Sent) -> Result<Raw, AllocError> {
+fn body_of(alloc: Global, sent: Sent) -> Result<Raw, OutOfMemory> {
     let Sent(kind, round, actor, index) = sent;
-    let mut bytes = Vec::new(alloc);
-    if kind == 3 || kind == 5 {
-        push_ballot(&mut bytes, round, actor)?;
+    let bytes = proposal_text(round, actor, index);
+    match kind {
+        1 => Raw::of(alloc, &[]),
+        3 | 5 => Raw::of(alloc, &bytes),
+        _ => Raw::of(alloc, &bytes[20..]),
     }
-    if kind != 1 {
-        push_state(&mut bytes, index)?;
-    }
-    Ok(Raw::from(bytes))
 }
 
-/// What an acceptor answers to a packet of server 0.
+/// The packet from server 0 to replica 0.
+fn packet_of(alloc: Global, sent: Sent) -> Option<Packet> {
+    let body = body_of(alloc, sent).ok()?;
+    Some(Packet {
+        number: 1,
+        from: Actor::Server(0),
+        to: Actor::Replica(0),
+        kind: sent.0,
+        body,
+    })
+}
+
+/// What an acceptor answers to a packet.
 pub(crate) fn answer<R: Rack>(
     alloc: Global,
     rack: &mut R,
     acceptor: &mut Acceptor,
     sent: Sent,
 ) -> Told {
-    let Ok(body) = body_of(alloc, sent) else {
-        return Told::NoMemory;
-    };
-    let packet = Packet {
-        number: 1,
-        from: Actor::Server(0),
-        to: Actor::Replica(0),
-        kind: sent.0,
-        body,
-    };
     if !has_room(rack, acceptor) {
         return Told::Fault;
     }
+    let Some(packet) = packet_of(alloc, sent) else {
+        return Told::NoMemory;
+    };
     let mut out = Outbox::new(alloc);
     match acceptor.take(rack, &Input::Packet(&packet, 0), &mut out) {
         Ok(()) => in_letters(alloc, out.letters()),
@@ -210,4 +220,26 @@ fn said(message: &Message) -> Told {
         Message::Refused(index, ballot) => Told::Refused(*index, ballot.round, ballot.actor),
         Message::Ask | Message::Prepare(_, _) | Message::Accept(_, _) => Told::Malformed,
     }
+}
+
+/// Whether a step of a replica comes out so.
+fn does<R: Rack>(alloc: Global, rack: &mut R, acceptor: &mut Acceptor, step: Step) -> bool {
+    match step {
+        Step::Starts => starts(rack, acceptor),
+        Step::Answers(sent, told) => answer(alloc, rack, acceptor, sent) == told,
+        Step::Knows(index) => acceptor.known().index == index,
+    }
+}
+
+/// Whether each step of a life comes out so.
+pub(crate) fn lives<R: Rack>(alloc: Global, rack: &mut R, life: Life) -> bool {
+    let Life(origin, steps) = life;
+    let Some(mut acceptor) = replica(alloc, origin) else {
+        return false;
+    };
+    let mut right = true;
+    for step in steps {
+        right = right && does(alloc, rack, &mut acceptor, *step);
+    }
+    right
 }

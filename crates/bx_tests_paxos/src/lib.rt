@@ -2,14 +2,10 @@
 #![tactic(auto)]
 
 #[cfg(test)]
-mod answers;
-#[cfg(test)]
 mod bench;
 #[cfg(test)]
 mod bodies;
 #[cfg(test)]
-mod found;
-#[cfg(test)]
-mod silent;
+mod cases;
 #[cfg(test)]
 mod stops;

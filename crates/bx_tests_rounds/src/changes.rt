@@ -1,29 +1,21 @@
 //! Changes that are handed to a proposer.
 
-use crate::states::first_state;
+use crate::states::proposer_of;
 use bx_base::Actor;
 use bx_facts::{Outbox, ProposeError};
 use bx_global::Change;
-use bx_proposer::Proposer;
 use std::alloc::Global;
 
-/// The proposer of node 0 of a cluster of one node that begins with the first state.
-pub(crate) fn node(alloc: Global) -> Option<Proposer> {
-    let state = first_state(alloc)?;
-    match Proposer::new(alloc, Actor::Node(0), 1, &state) {
-        Ok(proposer) => Some(proposer),
-        Err(_) => None,
+/// Device 0 gets this mode.
+pub(crate) fn shift(mode: u32, boot: u64) -> Change {
+    Change::Shift {
+        device: 0,
+        epoch: 1,
+        mode,
+        second: false,
+        boot,
     }
 }
-
-/// Device 0 gets mode OnlyA.
-pub(crate) const SHIFT: Change = Change::Shift {
-    device: 0,
-    epoch: 1,
-    mode: 1,
-    second: false,
-    boot: 0,
-};
 
 /// The master of another boot prolongs its term.
 const RENEW: Change = Change::Renew {
@@ -32,28 +24,32 @@ const RENEW: Change = Change::Renew {
     reading: 0,
 };
 
-/// What comes of two changes that are proposed one after the other.
-fn proposes_two(alloc: Global, one: &Change, other: &Change) -> [Result<(), ProposeError>; 2] {
+/// Two changes that are proposed one after the other, and what comes of each.
+type Case = [(Change, Result<(), ProposeError>); 2];
+
+/// Whether this comes of two changes that the proposer of node 0 is handed.
+fn is_told(alloc: Global, case: &Case) -> bool {
+    let Some(mut proposer) = proposer_of(alloc, Actor::Node(0)) else {
+        return false;
+    };
     let mut out = Outbox::new(alloc);
-    match node(alloc) {
-        Some(mut proposer) => {
-            let first = proposer.propose(one, &mut out);
-            [first, proposer.propose(other, &mut out)]
-        }
-        None => [Err(ProposeError::OutOfMemory); 2],
+    let [(first, first_told), (other, other_told)] = case;
+    let first_is = proposer.propose(first, &mut out);
+    let other_is = proposer.propose(other, &mut out);
+    [first_is, other_is] == [*first_told, *other_told]
+}
+
+#[test]
+fn one_legal_change_is_out_at_a_time(rt: HostRuntime) {
+    let only_a = shift(1, 0);
+    let cases: [Case; 3] = [
+        // one that is not legal is refused, and none is out then
+        [(RENEW, Err(ProposeError::NotLegal)), (only_a, Ok(()))],
+        // one is out at a time, and one that is not legal is refused then too
+        [(only_a, Ok(())), (only_a, Err(ProposeError::Busy))],
+        [(only_a, Ok(())), (RENEW, Err(ProposeError::NotLegal))],
+    ];
+    for (number, case) in cases.iter().enumerate() {
+        assert!(rt; is_told(rt.alloc(), case), "case {number}");
     }
-}
-
-#[test]
-fn a_change_that_is_not_legal_is_refused(rt: HostRuntime) {
-    let told = proposes_two(rt.alloc(), &RENEW, &SHIFT);
-    assert!(rt; told == [Err(ProposeError::NotLegal), Ok(())]);
-}
-
-#[test]
-fn one_change_is_out_at_a_time(rt: HostRuntime) {
-    let told = proposes_two(rt.alloc(), &SHIFT, &SHIFT);
-    assert!(rt; told == [Ok(()), Err(ProposeError::Busy)]);
-    let told = proposes_two(rt.alloc(), &SHIFT, &RENEW);
-    assert!(rt; told == [Ok(()), Err(ProposeError::NotLegal)]);
 }

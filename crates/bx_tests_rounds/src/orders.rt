@@ -1,9 +1,9 @@
 //! Two machines propose at the same index, the packets come in six orders, and a replica stops and starts again between.
 
+use crate::changes::shift;
 use crate::cluster::Cluster;
-use bx_base::List;
-use bx_facts::{Input, Outbox};
-use bx_global::{Change, GlobalState};
+use bx_facts::Outbox;
+use bx_global::GlobalState;
 use bx_post::Post;
 use std::alloc::Global;
 
@@ -19,47 +19,34 @@ const TURN: u64 = 25;
 /// The same of the later ones.
 const LATER: u64 = 150;
 
-/// Device 0 gets this mode.
-fn shift(mode: u32, boot: u64) -> Change {
-    Change::Shift {
-        device: 0,
-        epoch: 1,
-        mode,
-        second: false,
-        boot,
-    }
-}
-
-/// The numbers of the packets that are pending.
-fn pending(alloc: Global, post: &Post) -> Option<List<u64>> {
-    let mut numbers = List::new(alloc);
+/// How many packets are pending, which are never so many as 4096.
+fn count_pending(post: &Post) -> u64 {
     let mut after = 0;
-    for _ in 0..4096 {
-        let Some(number) = post.pending(after) else {
-            return Some(numbers);
-        };
-        if numbers.push(number).is_err() {
-            return None;
+    for count in 0..4096 {
+        match post.pending(after) {
+            Some(number) => after = number,
+            None => return count,
         }
-        after = number;
     }
-    None
+    4096
 }
 
 /// The number of the packet that comes next: in order 0 the oldest, and in each other one that stands further behind.
-fn picked(alloc: Global, post: &Post, step: u64, order: u64) -> Option<u64> {
-    let numbers = pending(alloc, post)?;
-    let count = numbers.len() as u64;
+fn picked(post: &Post, step: u64, order: u64) -> Option<u64> {
+    let count = count_pending(post);
     if count == 0 {
         return None;
     }
-    let place = step.wrapping_mul(order) % count;
-    numbers.get(place as usize).copied()
+    let mut number = post.pending(0)?;
+    for _ in 0..step.wrapping_mul(order) % count {
+        number = post.pending(number)?;
+    }
+    Some(number)
 }
 
 /// One packet comes, where one is pending. Says whether that went well.
 fn comes(alloc: Global, cluster: &mut Cluster, post: &mut Post, step: u64, order: u64) -> bool {
-    let Some(number) = picked(alloc, post, step, order) else {
+    let Some(number) = picked(post, step, order) else {
         return true;
     };
     let mut out = Outbox::new(alloc);
@@ -74,26 +61,26 @@ fn comes(alloc: Global, cluster: &mut Cluster, post: &mut Post, step: u64, order
 /// A replica stops and starts again, and the clocks tick. Says whether that went well.
 fn turns(alloc: Global, cluster: &mut Cluster, post: &mut Post, step: u64) -> bool {
     let replica = ((step / TURN) % 3) as u32;
-    let reading = step.wrapping_mul(1_100);
     let mut out = Outbox::new(alloc);
-    let started = cluster.starts_again(replica);
-    let ticked = cluster.node.take(&Input::Tick(reading), &mut out).is_ok()
-        && cluster.server.take(&Input::Tick(reading), &mut out).is_ok();
-    started && ticked && post.send(alloc, out).is_ok()
+    let turned = cluster.replicas.starts_again(replica)
+        && cluster.ticks(step.wrapping_mul(1_100), &mut out);
+    turned && post.send(alloc, out).is_ok()
 }
 
 /// What a state of a chain is known by: the mode of device 0, and the boot that its row names.
 #[derive(Clone, Copy, PartialEq, Eq)]
 struct Mark(u32, u64);
 
+/// The mark of the first state that was seen at each index.
+type Seen = [Option<Mark>; 8];
+
 /// The mark of a state.
 fn mark_of(state: &GlobalState) -> Option<Mark> {
-    let row = state.devices.get(0)?;
-    Some(Mark(row.mode, row.boot_a))
+    state.devices.get(0).map(|row| Mark(row.mode, row.boot_a))
 }
 
 /// Whether a state is the one of its index that was seen before, or the first one seen.
-fn agrees(seen: &mut [Option<Mark>; 8], state: &GlobalState) -> bool {
+fn agrees(seen: &mut Seen, state: &GlobalState) -> bool {
     if state.index >= 8 {
         return false;
     }
@@ -106,11 +93,8 @@ fn agrees(seen: &mut [Option<Mark>; 8], state: &GlobalState) -> bool {
 }
 
 /// Whether all known states are places of one chain.
-fn all_agree(seen: &mut [Option<Mark>; 8], cluster: &Cluster) -> bool {
-    for place in 0..3 {
-        let Some(acceptor) = cluster.replica(place) else {
-            return false;
-        };
+fn all_agree(seen: &mut Seen, cluster: &Cluster) -> bool {
+    for acceptor in &cluster.replicas.acceptors {
         if !agrees(seen, acceptor.known()) {
             return false;
         }
@@ -126,24 +110,33 @@ fn proposes(alloc: Global, cluster: &mut Cluster, post: &mut Post) -> bool {
     both && post.send(alloc, out).is_ok()
 }
 
+/// One step in an order, and whether it went well.
+fn goes_on(alloc: Global, cluster: &mut Cluster, post: &mut Post, step: u64, order: u64) -> bool {
+    let now = if step < TRIED { order } else { 0 };
+    let turn = if step < TRIED { TURN } else { LATER };
+    let is_turn = step % turn == turn - 1;
+    comes(alloc, cluster, post, step, now) && (!is_turn || turns(alloc, cluster, post, step))
+}
+
 /// Whether in this order all known states are places of one chain at any time, and a change is decided.
-fn decides(alloc: Global, order: u64) -> bool {
-    let Some(mut cluster) = Cluster::new(alloc) else {
-        return false;
-    };
+fn is_decided(alloc: Global, cluster: &mut Cluster, order: u64) -> bool {
     let mut post = Post::new(alloc);
     let mut seen = [None; 8];
-    let mut right = proposes(alloc, &mut cluster, &mut post);
+    let mut right = cluster.replicas.start() && proposes(alloc, cluster, &mut post);
     for step in 0..STEPS {
-        let now = if step < TRIED { order } else { 0 };
-        right = right && comes(alloc, &mut cluster, &mut post, step, now);
-        let turn = if step < TRIED { TURN } else { LATER };
-        if step % turn == turn - 1 {
-            right = right && turns(alloc, &mut cluster, &mut post, step);
-        }
-        right = right && all_agree(&mut seen, &cluster);
+        right = right
+            && goes_on(alloc, cluster, &mut post, step, order)
+            && all_agree(&mut seen, cluster);
     }
     right && cluster.node.known().index >= 2 && cluster.server.known().index >= 2
+}
+
+/// The same in a cluster of a new volume.
+fn decides(alloc: Global, order: u64) -> bool {
+    match Cluster::new(alloc) {
+        Some(mut cluster) => is_decided(alloc, &mut cluster, order),
+        None => false,
+    }
 }
 
 #[test]

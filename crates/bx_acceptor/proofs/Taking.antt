@@ -22,7 +22,7 @@ use Rattle.bx_post.specs.declared.packets.Letter.{Letter}
 use Rattle.bx_acceptor.specs.declared.origin.Origin.{Origin}
 use Rattle.bx_acceptor.specs.declared.origin.Origin.TheVariants.{Made, Found as FoundAs, Apart}
 use Rattle.bx_answers.specs.Handling.{Changes, MayBecome, caught_up, first_held}
-use Rattle.bx_acceptor.specs.Standing.{Answers, BecomesBy, Brings, CatchesUp, HasCell, HasContent, IsAsFound, IsCellOf, IsFound, IsNotFound, IsStanding, IsTaken, Standing, Takes, TakesPart, cell_with, devices_of}
+use Rattle.bx_acceptor.specs.Standing.{Answers, BecomesBy, Brings, CatchesUp, HasCell, HasContent, IsAsFound, IsCellOf, IsFound, IsNotFound, IsStanding, IsTaken, IsTakenBy, Standing, Takes, TakesPart, cell_with, devices_of}
 use Rattle.bx_acceptor.specs.Starting.{HoldsOf, IsCellAt, StandsSo, StartsWith}
 
 -- ---- what comes
@@ -90,6 +90,14 @@ changed_rises held (Promising promise) number taken changes = absurd changes
 changed_rises held (Accept b s) number taken changes = taken
 changed_rises held (Accepted b index) number taken changes = absurd changes
 changed_rises held (Refused index b) number taken changes = absurd changes
+
+none_is_some : (c : Known) → ◌≡◌ {A = Option Known} None (Some c) → ⊥
+none_is_some c e = cc
+
+-- where there is no cell no message is taken
+pub untaken : (cell : Option Known) (m : Message) → cell ≡ None → IsTakenBy cell m → ⊥
+untaken None m none taken = taken
+untaken (Some c) m none taken = none_is_some c (sym none)
 
 -- ---- how it stands
 
@@ -193,9 +201,6 @@ cell_is c replica raw at = same_cell c replica 1 true at.disk at.base at.ready
     same_cell : (c : Known) (disk base : ℕ) (ready : Bool) → c.disk ≡ disk → c.base ≡ base → c.ready ≡ ready → c ≡ record { disk = disk; base = base; found = c.found; ready = ready }
     same_cell c disk base ready p q r = rw (sym p, sym q, sym r) refl
 
-none_is_some : (c : Known) → ◌≡◌ {A = Option Known} None (Some c) → ⊥
-none_is_some c e = cc
-
 -- what an acceptor starts with
 pub starts_with : (replica : ℕ) (first : GlobalState) (origin : Origin) (sectors : ℕ → List ℕ) (found : Option (Known × Held)) (x : Held × Option Known)
     → IfSome found (λ y. IsFound (length first.devices) sectors y.0.found y.1) → IfNone found (IsNotFound (length first.devices) sectors) → IfSome found (λ y. IsCellAt replica y.1 y.0 × IsHeld (length first.devices) y.1)
@@ -216,6 +221,15 @@ starts_with replica first origin sectors (Some y) x some none at (inr (apart, he
   found = λ f raw part also. let one = one_found (length first.devices) sectors y.0.found f y.1 raw some also in absurd (apart (subst (λ (k : Found). TakesPart origin k.number) (sym one.0) part));
   none = λ never. (held, cell);
 }
+
+-- what is held where the replica takes no part with what was found, or nothing was found
+pub holds_first : (first : GlobalState) (origin : Origin) (found : Option (Known × Held)) (x : Held × Option Known) → IfSome found (λ y. TakesPart origin y.0.found.number → ⊥) → x.0 ≡ first_held first → x.1 ≡ None → HoldsOf first origin found x
+holds_first first origin None x apart held cell = (held, cell)
+holds_first first origin (Some y) x apart held cell = inr (apart, held, cell)
+
+-- .. and where it takes part
+pub holds_part : (first : GlobalState) (origin : Origin) (found : Option (Known × Held)) (y : Known × Held) (x : Held × Option Known) → found ≡ Some y → TakesPart origin y.0.found.number → CatchesUp origin first y.0.found.number y.1 x.0 → x.1 ≡ Some y.0 → HoldsOf first origin found x
+holds_part first origin found y x is part catches cell = subst (λ (o : Option (Known × Held)). HoldsOf first origin o x) (sym is) (inl (part, catches, cell))
 
 -- what is held where a cell stands as it was found
 caught_is_held : (first : GlobalState) (raw : Held) → IsAllowed first → first.index + 1 < 2 ^ 64 → IsHeld (length first.devices) raw → IsHeld (length first.devices) (caught_up first raw)

@@ -1,6 +1,6 @@
 //! What an acceptor begins with.
 
-ghost use Rattle.std.specs.Prelude.{◌≡◌, ℕ, ◌+◌, ◌^◌, ◌<◌, ◌≤◌, ◌↔◌, IfNone, IfOk, IfSome, IsErrOf, IsTrue, OnOk, slice_index};
+ghost use Rattle.std.specs.Prelude.{◌≡◌, ℕ, ◌+◌, ◌^◌, ◌<◌, ◌≤◌, ◌↔◌, IfNone, IfOk, IfSome, IsErrOf, IsTrue, OnOk, Some, slice_index};
 ghost use Rattle.bx_disk.specs.Counts.{NoneRose, BothRose};
 ghost use Rattle.bx_calls.specs.Regions.{IsSynced};
 ghost use Rattle.bx_cell.specs.Cells.{Holds};
@@ -70,14 +70,23 @@ fn hold(
     requires { first.now.index + 1 < 2 ^ 64 }
     ensures { IfOk result (HoldsOf first.now origin found) }
 {
-    let Some((cell, raw)) = found else {
+    let Some((cell, raw)) = part_of(origin, found) else {
         return Ok((first_held(alloc, first)?, None));
     };
-    if !takes_part(origin, cell.number()) {
-        return Ok((first_held(alloc, first)?, None));
-    }
     let held = caught_up(alloc, first, origin, cell.number(), raw)?;
     Ok((held, Some(cell)))
+}
+
+/// What was found, where the replica takes part with it.
+fn part_of(origin: Origin, found: Option<(Cell, Held)>) -> Option<(Cell, Held)>
+    ensures some { IfSome result (λ x. (found ≡ Some x) × TakesPart origin x.0.found.number) }
+    ensures none { IfNone result (IfSome found (λ x. TakesPart origin x.0.found.number → ⊥)) }
+{
+    let (cell, held) = found?;
+    if !takes_part(origin, cell.number()) {
+        return None;
+    }
+    Some((cell, held))
 }
 
 /// What is held of a cell with this number, which has that.

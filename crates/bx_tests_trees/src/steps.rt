@@ -6,6 +6,9 @@ use bx_leaves::{insert, remove};
 use bx_records::Draft;
 use std::alloc::Global;
 
+/// Why a change is refused; nothing where it goes well.
+pub(crate) type Refusal = Option<BlinkError>;
+
 /// What happens, and what is wanted of it. A change is made in a draft of its own, which is let go.
 #[derive(Clone, Copy)]
 pub(crate) enum Step<'a> {
@@ -83,7 +86,7 @@ pub(crate) fn changes(
 }
 
 /// The same in a draft of its own, which has one block then, or none where the change is refused.
-pub(crate) fn changes_alone(desk: &Desk, key: &[u8], value: Option<&[u8]>, want: Option<BlinkError>) -> bool {
+pub(crate) fn changes_alone(desk: &Desk, key: &[u8], value: Option<&[u8]>, want: Refusal) -> bool {
     let mut draft = Draft::new(desk.alloc);
     let changed = if want.is_none() { 1 } else { 0 };
     changes(desk, &mut draft, key, value, want) && draft.blocks().len() == changed

@@ -6,7 +6,7 @@ ghost use Rattle.bx_tests_dirs.specs.Desks.{in_buckets};
 
 use bx_base::{Mode, Raw};
 use bx_layout::Block;
-use bx_records::Draft;
+use bx_records::{Draft, DraftError};
 use bx_views::View;
 use std::alloc::Global;
 use std::test::Fail;
@@ -23,9 +23,13 @@ const BUCKETS: u64 = 61;
 /// The handle of the root, in slot 1 in its first generation.
 pub(crate) const ROOT: u64 = (1 << 32) + 1;
 
+/// The handle and the kind in the header of a block.
+type Head = (u64, u32);
+
 /// Blocks that are held.
 #[derive(Drop)]
 pub(crate) struct Desk {
+    pub(crate) alloc: Global,
     blocks: Vec<Draft>,
 }
 
@@ -55,19 +59,6 @@ impl View for Desk {
     ghost shares = { λ desk at block is. is };
 }
 
-/// A block of these bytes, with zeros behind them.
-pub(crate) fn block_of(alloc: Global, handle: u64, kind: u32, front: &[u8]) -> Result<Block, Fail> {
-    let mut bytes = [0; 4096];
-    let end = front.len().min(4096);
-    bytes[..end].copy_from_slice(&front[..end]);
-    let payload = Raw::of(alloc, &bytes)?;
-    Ok(Block {
-        handle,
-        kind,
-        payload,
-    })
-}
-
 impl Desk {
     /// The area's own block is held, with its first two slots in use, and the blocks of its slots: in slot 1 the root, a leaf without
     /// entries, and zeros in the others.
@@ -76,37 +67,37 @@ impl Desk {
         for _ in 0..BUCKETS {
             blocks.push(Draft::new(alloc))?;
         }
-        let mut desk = Desk { blocks };
-        let own = block_of(alloc, OWN << 32, 4, &[128, 0, 0, 1, 128, 0, 0, 1])?;
-        desk.hold(alloc, OWN, own)?;
+        let mut desk = Desk { alloc, blocks };
+        desk.hold(OWN, (OWN << 32, 4), &[128, 0, 0, 1, 128, 0, 0, 1])?;
         for slot in 0..SLOTS {
-            let block = block_of(alloc, 0, 0, &[])?;
-            desk.hold(alloc, u64::from(slot), block)?;
+            desk.hold(u64::from(slot), (0, 0), &[])?;
         }
-        let leaf = block_of(
-            alloc,
-            ROOT,
-            2,
-            &[0, 0, 0, 0, 0, 0, 0, 0, 0, 0, 0, 0, 255, 255],
-        )?;
-        desk.hold(alloc, 1, leaf)?;
+        let leaf = [0, 0, 0, 0, 0, 0, 0, 0, 0, 0, 0, 0, 255, 255];
+        desk.hold(1, (ROOT, 2), &leaf)?;
         Ok(desk)
     }
 
-    /// Holds a block under its number.
-    pub(crate) fn hold(&mut self, _alloc: Global, at: u64, block: Block) -> Result<(), Fail> {
+    /// Holds a block with this header under a number, its payload of these bytes with zeros behind them.
+    pub(crate) fn hold(&mut self, at: u64, header: Head, front: &[u8]) -> Result<(), DraftError> {
+        let mut bytes = [0; 4096];
+        let end = front.len().min(4096);
+        bytes[..end].copy_from_slice(&front[..end]);
+        let block = Block {
+            handle: header.0,
+            kind: header.1,
+            payload: Raw::of(self.alloc, &bytes)?,
+        };
         match self.blocks.get_mut((at / 16) as usize) {
-            None => {}
-            Some(bucket) => bucket.put(at, block)?,
+            None => Ok(()),
+            Some(bucket) => bucket.put(at, block),
         }
-        Ok(())
     }
 
     /// Holds what a draft has.
-    pub(crate) fn take_in(&mut self, alloc: Global, draft: &Draft) -> Result<(), Fail> {
+    pub(crate) fn take_in(&mut self, draft: &Draft) -> Result<(), DraftError> {
         for (at, block) in draft.blocks() {
-            let copy = block_of(alloc, block.handle, block.kind, block.payload.bytes())?;
-            self.hold(alloc, *at, copy)?;
+            let header = (block.handle, block.kind);
+            self.hold(*at, header, block.payload.bytes())?;
         }
         Ok(())
     }
@@ -115,10 +106,7 @@ impl Desk {
     pub(crate) fn height(&self) -> u8 {
         match find_in(self.blocks.as_slice(), 1) {
             None => 0,
-            Some(block) => match block.payload.bytes() {
-                [0, level, ..] => *level,
-                _ => 0,
-            },
+            Some(block) => block.payload.bytes().get(1).copied().unwrap_or(0),
         }
     }
 }

@@ -1,4 +1,4 @@
-//! Tests of directories over views.
+//! Tests of directories over views, and of the room that is made for their entries.
 #![tactic(auto)]
 
 #[cfg(test)]
@@ -6,10 +6,10 @@ mod desk;
 #[cfg(test)]
 mod edges;
 #[cfg(test)]
-mod files;
-#[cfg(test)]
 mod model;
 #[cfg(test)]
 mod ready;
 #[cfg(test)]
 mod room;
+#[cfg(test)]
+mod splits;

@@ -4,6 +4,8 @@
 #[cfg(test)]
 mod fields;
 #[cfg(test)]
+mod page_bytes;
+#[cfg(test)]
 mod pages;
 #[cfg(test)]
 mod random_pages;

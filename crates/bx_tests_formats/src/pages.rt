@@ -21,7 +21,7 @@ const INTERIOR: [u8; 41] = [
 ];
 
 /// Bytes with zeros behind them, 4096 in all.
-fn padded(front: &[u8]) -> [u8; 4096] {
+pub(crate) fn padded(front: &[u8]) -> [u8; 4096] {
     let mut bytes = [0; 4096];
     let end = front.len().min(4096);
     bytes[..end].copy_from_slice(&front[..end]);

@@ -4,16 +4,18 @@ ghost use Rattle.std.specs.Prelude.{◌≡◌};
 ghost use Rattle.std.specs.Option.{option_copied};
 ghost use Rattle.bx_tests_posts.specs.Desks.{held_on, in_buckets, is_marked};
 
-use crate::pages::{own_block, page_block};
-use bx_base::{Mode, Raw};
+use bx_base::{Mode, OutOfMemory, Raw};
+use bx_blink::BlinkError;
 use bx_layout::Block;
-use bx_records::Draft;
+use bx_records::{Draft, DraftError};
 use bx_views::View;
 use std::alloc::Global;
-use std::test::Fail;
 
 /// How many blocks of slots there are.
 pub(crate) const SLOTS: u16 = 240;
+
+/// The handle of the root, in slot 1 in its first generation.
+pub(crate) const ROOT: u64 = (1 << 32) + 1;
 
 /// The number of the area's own block.
 const OWN: u64 = 960;
@@ -26,9 +28,13 @@ pub(crate) fn handle_of(slot: u16) -> u64 {
     (u64::from(slot) << 32) + 1
 }
 
+/// The handle and the kind in the header of a block.
+pub(crate) type Head = (u64, u32);
+
 /// Blocks that are held, and hints of others.
 #[derive(Drop)]
 pub(crate) struct Desk {
+    pub(crate) alloc: Global,
     /// Blocks that are held.
     blocks: Vec<Draft>,
     /// Which of them are pages above the leaves.
@@ -59,23 +65,28 @@ fn is_marked(marks: &[bool], at: u64) -> bool
     }
 }
 
-/// Puts a copy of a block under its number.
-fn put_in(alloc: Global, buckets: &mut [Draft], at: u64, block: &Block) -> Result<(), Fail> {
-    let payload = Raw::of(alloc, block.payload.bytes())?;
-    let copy = Block {
-        handle: block.handle,
-        kind: block.kind,
-        payload,
-    };
+/// A block with this header, and a payload of these bytes with zeros behind them.
+pub(crate) fn block_of(alloc: Global, header: Head, front: &[u8]) -> Result<Block, OutOfMemory> {
+    let mut bytes = [0; 4096];
+    let end = front.len().min(4096);
+    bytes[..end].copy_from_slice(&front[..end]);
+    Ok(Block {
+        handle: header.0,
+        kind: header.1,
+        payload: Raw::of(alloc, &bytes)?,
+    })
+}
+
+/// Puts a block under a number.
+fn put_in(buckets: &mut [Draft], at: u64, block: Block) -> Result<(), DraftError> {
     match buckets.get_mut((at / 16) as usize) {
-        None => {}
-        Some(bucket) => bucket.put(at, copy)?,
+        None => Ok(()),
+        Some(bucket) => bucket.put(at, block),
     }
-    Ok(())
 }
 
 /// Empty buckets.
-fn empty(alloc: Global) -> Result<Vec<Draft>, Fail> {
+fn empty(alloc: Global) -> Result<Vec<Draft>, OutOfMemory> {
     let mut buckets = Vec::new(alloc);
     for _ in 0..BUCKETS {
         buckets.push(Draft::new(alloc))?;
@@ -83,12 +94,14 @@ fn empty(alloc: Global) -> Result<Vec<Draft>, Fail> {
     Ok(buckets)
 }
 
-/// Whether a block is a page above the leaves.
-fn is_upper(block: &Block) -> bool {
-    match block.payload.bytes() {
-        [0, 0, ..] => false,
-        _ => block.kind == 2,
+/// The words of so many slots in use in their first generation.
+fn words_of(used: u16) -> [u8; 3840] {
+    let mut words = [0; 3840];
+    for slot in 0..(used.min(960) as usize) {
+        words[4 * slot] = 128;
+        words[4 * slot + 3] = 1;
     }
+    words
 }
 
 impl View for Desk {
@@ -111,87 +124,63 @@ impl View for Desk {
 }
 
 impl Desk {
-    /// The area's own block is held, with so many of its first slots in use, and the blocks of its slots, with zeros.
-    pub(crate) fn new(alloc: Global, used: u16) -> Result<Desk, Fail> {
-        let mut upper = Vec::new(alloc);
-        for _ in 0..SLOTS {
-            upper.push(false)?;
-        }
-        let mut desk = Desk {
+    /// No blocks.
+    fn bare(alloc: Global) -> Result<Desk, OutOfMemory> {
+        Ok(Desk {
+            alloc,
             blocks: empty(alloc)?,
-            upper,
+            upper: vec![in alloc; false; 240]?,
             hinted: empty(alloc)?,
             shown: true,
-        };
-        let own = own_block(alloc, used)?;
-        desk.hold(alloc, OWN, &own)?;
-        let payload = Raw::of(alloc, &[0; 4096])?;
-        let blank = Block {
-            handle: 0,
-            kind: 0,
-            payload,
-        };
+        })
+    }
+
+    /// The area's own block is held, with so many of its first slots in use, and the blocks of its other slots, with zeros.
+    pub(crate) fn new(alloc: Global, used: u16) -> Result<Desk, BlinkError> {
+        let mut desk = Desk::bare(alloc)?;
+        desk.hold(OWN, (OWN << 32, 4), &words_of(used))?;
         for slot in used..SLOTS {
-            desk.hold(alloc, u64::from(slot), &blank)?;
+            desk.hold(u64::from(slot), (0, 0), &[])?;
         }
         Ok(desk)
     }
 
-    /// Holds a block under its number.
-    pub(crate) fn hold(&mut self, alloc: Global, at: u64, block: &Block) -> Result<(), Fail> {
-        match self.upper.get_mut(at as usize) {
-            None => {}
-            Some(mark) => *mark = is_upper(block),
+    /// Holds a block with this header under a number, its payload of these bytes with zeros behind them.
+    pub(crate) fn hold(&mut self, at: u64, header: Head, front: &[u8]) -> Result<(), DraftError> {
+        if let Some(mark) = self.upper.get_mut(at as usize) {
+            *mark = header.1 == 2 && !matches!(front, [0, 0, ..]);
         }
-        put_in(alloc, &mut self.blocks, at, block)
-    }
-
-    /// Holds a page of these bytes, with zeros behind them, in the block of a slot, under its handle.
-    pub(crate) fn hold_page(
-        &mut self,
-        alloc: Global,
-        slot: u16,
-        bytes: &Vec<u8>,
-    ) -> Result<(), Fail> {
-        let block = page_block(alloc, slot, bytes.as_slice())?;
-        self.hold(alloc, u64::from(slot), &block)
+        let block = block_of(self.alloc, header, front)?;
+        put_in(&mut self.blocks, at, block)
     }
 
     /// Holds what a draft has.
-    pub(crate) fn take_in(&mut self, alloc: Global, draft: &Draft) -> Result<(), Fail> {
+    pub(crate) fn take_in(&mut self, draft: &Draft) -> Result<(), DraftError> {
         for (at, block) in draft.blocks() {
-            self.hold(alloc, *at, block)?;
+            let header = (block.handle, block.kind);
+            self.hold(*at, header, block.payload.bytes())?;
         }
         Ok(())
     }
 
-    /// The block with a number, whether its page is shown or not.
-    pub(crate) fn find(&self, at: u64) -> Option<&Block> {
-        find_in(self.blocks.as_slice(), at)
-    }
-
     /// Gives a hint of a page above the leaves as it is now. Whether there is one.
-    pub(crate) fn give_hint(&mut self, alloc: Global, at: u64) -> Result<bool, Fail> {
-        if !is_marked(self.upper.as_slice(), at) {
-            return Ok(false);
-        }
+    pub(crate) fn give_hint(&mut self, at: u64) -> Result<bool, DraftError> {
         match find_in(self.blocks.as_slice(), at) {
-            None => Ok(false),
-            Some(block) => {
-                put_in(alloc, &mut self.hinted, at, block)?;
+            Some(block) if is_marked(self.upper.as_slice(), at) => {
+                let header = (block.handle, block.kind);
+                let copy = block_of(self.alloc, header, block.payload.bytes())?;
+                put_in(&mut self.hinted, at, copy)?;
                 Ok(true)
             }
+            _ => Ok(false),
         }
     }
 
     /// The level of the page in the block of a slot.
     pub(crate) fn level(&self, slot: u16) -> u8 {
-        match self.find(u64::from(slot)) {
+        match find_in(self.blocks.as_slice(), u64::from(slot)) {
             None => 0,
-            Some(block) => match block.payload.bytes() {
-                [0, level, ..] => *level,
-                _ => 0,
-            },
+            Some(block) => block.payload.bytes().get(1).copied().unwrap_or(0),
         }
     }
 }

@@ -4,15 +4,15 @@
 
 ghost use Rattle.std.specs.Prelude.{◌≡◌, []};
 
-use crate::desk::{Desk, SLOTS, handle_of};
+use crate::desk::{Desk, ROOT, SLOTS, handle_of};
 use crate::pages::{front, put_child};
-use crate::posts::{count_missing, post_missing};
-use bx_base::{Mode, Raw};
+use crate::posts::post_missing;
+use bx_base::{Mode, OutOfMemory};
 use bx_blink::{BlinkError, find};
 use bx_leaves::{insert, remove};
 use bx_records::Draft;
 use bx_splits::split;
-use std::alloc::{AllocError, Global};
+use std::alloc::Global;
 use std::collections::BTreeMap;
 use std::test::Fail;
 
@@ -32,10 +32,8 @@ fn after(seed: u32) -> u32 {
 
 /// The key of a number, of 200 bytes.
 fn key_of(number: u16) -> [u8; 200] {
-    let [high, low] = number.to_be_bytes();
     let mut key = [0; 200];
-    key[0] = high;
-    key[1] = low;
+    key[..2].copy_from_slice(&number.to_be_bytes());
     key
 }
 
@@ -49,61 +47,35 @@ struct Run {
     hints: u32,
 }
 
-/// What came of a change.
-#[derive(Clone, Copy, PartialEq, Eq)]
-enum Step {
-    Done,
-    Refused,
-    Needs(u64),
-    Split,
-    Failed,
-}
-
-/// Puts an entry in a draft; where its leaf has no room, splits the leaf.
+/// Puts an entry in a draft, or splits its leaf where that has no room. Whether the entry was put.
 fn put_or_split(
-    alloc: Global,
     desk: &Desk,
     draft: &mut Draft,
     key: &[u8; 200],
     value: &[u8; 60],
-) -> Step
+) -> Result<bool, BlinkError>
     requires { draft.old ≡ [] }
 {
-    match insert(alloc, draft, desk, handle_of(1), key, value) {
-        Ok(()) => Step::Done,
-        Err(BlinkError::Present) => Step::Refused,
-        Err(BlinkError::Need(at, _)) => Step::Needs(at),
+    match insert(desk.alloc, draft, desk, ROOT, key, value) {
+        Ok(()) => Ok(true),
         Err(BlinkError::NoRoom(leaf)) => {
-            match split(alloc, draft, desk, handle_of(1), leaf, 0, 1) {
-                Ok(()) => Step::Split,
-                Err(_) => Step::Failed,
-            }
+            split(desk.alloc, draft, desk, ROOT, leaf, 0, 1)?;
+            Ok(false)
         }
-        Err(_) => Step::Failed,
-    }
-}
-
-/// Takes an entry out in a draft.
-fn take_out(alloc: Global, desk: &Desk, draft: &mut Draft, key: &[u8; 200]) -> Step {
-    match remove(alloc, draft, desk, handle_of(1), key) {
-        Ok(()) => Step::Done,
-        Err(BlinkError::Absent) => Step::Refused,
-        Err(BlinkError::Need(at, _)) => Step::Needs(at),
-        Err(_) => Step::Failed,
+        Err(error) => Err(error),
     }
 }
 
 impl Run {
     /// A tree of two levels with no entries.
-    fn new(alloc: Global) -> Result<Run, Fail> {
+    fn new(alloc: Global) -> Result<Run, BlinkError> {
         let mut desk = Desk::new(alloc, 3)?;
-        let mut root = front(alloc, 1, 1, 0, &[])?;
+        let mut root = front(alloc, [1, 1, 0], &[])?;
         put_child(&mut root, &[], 2)?;
-        desk.hold_page(alloc, 1, &root)?;
-        let leaf = front(alloc, 0, 0, 0, &[])?;
-        desk.hold_page(alloc, 2, &leaf)?;
-        let hinted = desk.give_hint(alloc, 1)?;
-        desk.shown = !hinted;
+        desk.hold(1, (ROOT, 2), root.as_slice())?;
+        let leaf = front(alloc, [0, 0, 0], &[])?;
+        desk.hold(2, (handle_of(2), 2), leaf.as_slice())?;
+        desk.shown = !desk.give_hint(1)?;
         Ok(Run {
             desk,
             map: BTreeMap::new(alloc),
@@ -113,157 +85,129 @@ impl Run {
         })
     }
 
-    /// One change, in a draft of its own that the desk then holds.
-    fn change(&mut self, alloc: Global, number: u16, value: Option<u8>) -> Result<Step, Fail> {
+    /// One change, in a draft of its own that the desk then holds: puts a value for a number, or takes the number out where there is none.
+    /// Whether that was done, and no leaf was split instead.
+    fn change(&mut self, number: u16, value: Option<u8>) -> Result<bool, BlinkError> {
+        let (alloc, key) = (self.desk.alloc, key_of(number));
         let mut draft = Draft::new(alloc);
-        let key = key_of(number);
-        let step = match value {
-            None => take_out(alloc, &self.desk, &mut draft, &key),
-            Some(byte) => put_or_split(alloc, &self.desk, &mut draft, &key, &[byte; 60]),
+        let done = match value {
+            Some(byte) => put_or_split(&self.desk, &mut draft, &key, &[byte; 60])?,
+            None => remove(alloc, &mut draft, &self.desk, ROOT, &key).map(|_| true)?,
         };
-        self.desk.take_in(alloc, &draft)?;
-        Ok(step)
+        self.desk.take_in(&draft)?;
+        Ok(done)
     }
 
-    /// Posts what is missing, with all pages held.
-    fn settle(&mut self, alloc: Global) -> Result<bool, Fail> {
+    /// Posts what is missing once a leaf was split, with all pages held.
+    fn settle(&mut self) -> Result<(), BlinkError> {
         self.splits = self.splits.saturating_add(1);
         self.desk.shown = true;
-        let (posts, _) = post_missing(alloc, &mut self.desk)?;
+        let posts = post_missing(&mut self.desk)?;
         self.desk.shown = false;
         self.posts = self.posts.saturating_add(posts);
-        Ok(posts < 1000)
+        Ok(())
     }
 
-    /// Gives the hint that a walk asks for.
-    fn hint(&mut self, alloc: Global, at: u64) -> Result<bool, Fail> {
+    /// Gives the hint that a walk asks for. `Stale` where there is none.
+    fn hint(&mut self, at: u64) -> Result<(), BlinkError> {
         self.hints = self.hints.saturating_add(1);
-        self.desk.give_hint(alloc, at)
+        if !self.desk.give_hint(at)? {
+            return Err(BlinkError::Stale);
+        }
+        Ok(())
     }
 
     /// A change, with what it asks for. Whether the tree and the map answer alike.
-    fn changes_alike(
-        &mut self,
-        alloc: Global,
-        number: u16,
-        value: Option<u8>,
-    ) -> Result<bool, Fail> {
+    fn changes_alike(&mut self, number: u16, value: Option<u8>) -> Result<bool, BlinkError> {
         for _ in 0..12 {
-            let fine = match self.change(alloc, number, value)? {
-                Step::Done => return Ok(self.put_in_map(number, value, true)?),
-                Step::Refused => return Ok(self.put_in_map(number, value, false)?),
-                Step::Needs(at) => self.hint(alloc, at)?,
-                Step::Split => self.settle(alloc)?,
-                Step::Failed => false,
-            };
-            if !fine {
-                return Ok(false);
+            match (self.change(number, value), value) {
+                (Ok(true), _) => return Ok(self.change_map(number, value)?),
+                (Ok(false), _) => self.settle()?,
+                (Err(BlinkError::Present), Some(_)) | (Err(BlinkError::Absent), None) => {
+                    return Ok(!self.change_map(number, value)?);
+                }
+                (Err(BlinkError::Need(at, _)), _) => self.hint(at)?,
+                (Err(error), _) => return Err(error),
             }
         }
         Ok(false)
     }
 
-    /// Changes the map, where the tree was changed. Whether the map changes just then.
-    fn put_in_map(
-        &mut self,
-        number: u16,
-        value: Option<u8>,
-        done: bool,
-    ) -> Result<bool, AllocError> {
-        let there = self.map.contains_key(&number);
-        match value {
-            None => {
-                self.map.remove(&number);
-                Ok(there == done)
-            }
-            Some(byte) => {
-                if !there {
-                    self.map.insert(number, byte)?;
-                }
-                Ok(there != done)
-            }
+    /// The same change of the map. Whether it can be made.
+    fn change_map(&mut self, number: u16, value: Option<u8>) -> Result<bool, OutOfMemory> {
+        let Some(byte) = value else {
+            return Ok(self.map.remove(&number).is_some());
+        };
+        let free = !self.map.contains_key(&number);
+        if free {
+            self.map.insert(number, byte)?;
         }
+        Ok(free)
     }
 
     /// A search, with the hints that it asks for. Whether it finds what the map has.
-    fn finds_alike(&mut self, alloc: Global, number: u16) -> Result<bool, Fail> {
+    fn finds_alike(&mut self, number: u16) -> Result<bool, BlinkError> {
         for _ in 0..12 {
-            match find(alloc, &self.desk, handle_of(1), &key_of(number)) {
+            match find(self.desk.alloc, &self.desk, ROOT, &key_of(number)) {
                 Ok(value) => {
                     let first = value.bytes().first().copied();
                     return Ok(self.map.get(&number).copied() == first);
                 }
                 Err(BlinkError::Absent) => return Ok(!self.map.contains_key(&number)),
-                Err(BlinkError::Need(at, Mode::Shared)) => {
-                    if !self.hint(alloc, at)? {
-                        return Ok(false);
-                    }
-                }
-                Err(_) => return Ok(false),
+                Err(BlinkError::Need(at, Mode::Shared)) => self.hint(at)?,
+                Err(error) => return Err(error),
             }
         }
         Ok(false)
     }
 
     /// A random call. Whether the tree and the map answer alike.
-    fn calls_alike(&mut self, alloc: Global, seed: u32) -> Result<bool, Fail> {
+    fn calls_alike(&mut self, seed: u32) -> Result<bool, BlinkError> {
         let number = ((seed >> 12) % KEYS) as u16;
         match seed >> 29 {
-            0 => self.finds_alike(alloc, number),
-            1 => self.changes_alike(alloc, number, None),
-            _ => self.changes_alike(alloc, number, Some((seed >> 4 & 255) as u8)),
+            0 => self.finds_alike(number),
+            1 => self.changes_alike(number, None),
+            _ => self.changes_alike(number, Some((seed >> 4 & 255) as u8)),
         }
     }
 
     /// Gives hints of two thirds of the pages above the leaves as they are now.
-    fn refresh(&mut self, alloc: Global, turn: u32) -> Result<(), Fail> {
+    fn refresh(&mut self, turn: u32) -> Result<(), BlinkError> {
         for slot in 1..SLOTS {
             if (turn / TURN).wrapping_add(u32::from(slot)) % 3 > 0 {
-                let _given = self.desk.give_hint(alloc, u64::from(slot))?;
+                let _given = self.desk.give_hint(u64::from(slot))?;
             }
         }
         Ok(())
     }
 
-    /// Makes all the calls. Whether all are answered alike.
-    fn goes_well(&mut self, alloc: Global) -> Result<bool, Fail> {
+    /// Makes all the calls, and looks all keys up then. Whether the tree and the map answer alike, no separator is missing in the end, and the
+    /// tree has three levels.
+    fn goes_well(&mut self) -> Result<bool, BlinkError> {
         let mut seed = 1;
         let mut fine = true;
         for turn in 0..CALLS {
             if turn % TURN == 0 {
-                self.refresh(alloc, turn)?;
+                self.refresh(turn)?;
             }
             seed = after(seed);
-            fine = self.calls_alike(alloc, seed)? && fine;
+            fine = self.calls_alike(seed)? && fine;
         }
-        Ok(fine)
-    }
-
-    /// How many keys are found as the map has them, of all.
-    fn count_alike(&mut self, alloc: Global) -> Result<u32, Fail> {
-        let mut count = 0_u32;
         for number in 0..KEYS {
-            if self.finds_alike(alloc, number as u16)? {
-                count = count.saturating_add(1);
-            }
+            fine = self.finds_alike(number as u16)? && fine;
         }
-        Ok(count)
+        self.desk.shown = true;
+        Ok(fine && post_missing(&mut self.desk)? == 0 && self.desk.level(1) == 2)
     }
 }
 
 #[test]
 fn a_tree_of_three_levels_is_a_map(rt: HostRuntime) -> Result<(), Fail> {
-    let alloc = rt.alloc();
-    let mut run = Run::new(alloc)?;
-    assert!(rt; run.goes_well(alloc)?);
-    let alike = run.count_alike(alloc)?;
-    run.desk.shown = true;
-    let missing = count_missing(alloc, &run.desk)?;
-    let level = run.desk.level(1);
+    let mut run = Run::new(rt.alloc())?;
+    let fine = run.goes_well()?;
     let (splits, posts, hints) = (run.splits, run.posts, run.hints);
-    assert!(rt; alike == KEYS && missing == 0 && level == 2);
     assert!(rt;
-        splits > 40 && posts > splits && hints > 0,
+        fine && splits > 40 && posts > splits && hints > 0,
         "{splits} splits, {posts} posts, {hints} hints"
     );
     Ok(())

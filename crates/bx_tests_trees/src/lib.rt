@@ -2,16 +2,12 @@
 #![tactic(auto)]
 
 #[cfg(test)]
-mod desk;
+mod calls;
 #[cfg(test)]
-mod entries;
+mod desk;
 #[cfg(test)]
 mod levels;
 #[cfg(test)]
 mod model;
 #[cfg(test)]
-mod pages;
-#[cfg(test)]
-mod searches;
-#[cfg(test)]
-mod splits;
+mod steps;

@@ -1,11 +1,10 @@
 //! Random calls on a tree of three levels, beside an ordered map of std. Its interior pages are held, or hinted as they are or as they
 //! once were.
 
-use crate::desk::{Desk, handle_of};
-use crate::levels::{FIRST, SPAN, hint_first_pages, hint_old_pages, hold_leaves, show_pages};
-use bx_base::Raw;
-use bx_blink::{BlinkError, find, next};
-use bx_leaves::{insert, remove};
+use crate::desk::{Among, Desk, handle_of};
+use crate::levels::{FIRST, LEAVES, ROUNDS, SPAN, Shape, put_pages};
+use crate::steps::{changes, fails, has, is_next};
+use bx_blink::BlinkError;
 use bx_records::Draft;
 use std::alloc::{AllocError, Global};
 use std::collections::BTreeMap;
@@ -39,136 +38,110 @@ fn count_near(map: &BTreeMap<u8, u8>, number: u8) -> usize {
         .count()
 }
 
-/// What is known of the tree: its map as the view has it, and as the draft leaves it.
+/// The tree beside its entries, as they are held, and as a draft leaves them.
 #[derive(Drop)]
-struct Known {
+struct Run {
+    desk: Desk,
     held: BTreeMap<u8, u8>,
     drafted: BTreeMap<u8, u8>,
 }
 
-impl Known {
-    /// Whether the value that is put for a number is answered as the maps say.
-    fn fits_insert(
-        &mut self,
-        number: u8,
-        value: u8,
-        answer: Result<(), BlinkError>,
-    ) -> Result<bool, Fail> {
+impl Run {
+    /// No entries.
+    fn new(alloc: Global) -> Result<Run, Fail> {
+        let mut desk = Desk::new(alloc);
+        put_pages(&mut desk, Among::Held, &LEAVES)?;
+        Ok(Run {
+            desk,
+            held: BTreeMap::new(alloc),
+            drafted: BTreeMap::new(alloc),
+        })
+    }
+
+    /// Puts a value for a number into the map, or says why the tree is to refuse it.
+    fn put(&mut self, number: u8, value: u8) -> Result<Option<BlinkError>, AllocError> {
         if self.drafted.contains_key(&number) {
-            return Ok(matches!(answer, Err(BlinkError::Present)));
+            return Ok(Some(BlinkError::Present));
         }
         if count_near(&self.held, number) >= FULL || count_near(&self.drafted, number) >= MOST {
             let leaf = handle_of(u16::from(FIRST + number / SPAN));
-            return Ok(match answer {
-                Err(BlinkError::NoRoom(handle)) => handle == leaf,
-                _ => false,
-            });
+            return Ok(Some(BlinkError::NoRoom(leaf)));
         }
         self.drafted.insert(number, value)?;
-        Ok(answer.is_ok())
+        Ok(None)
     }
 
-    /// Whether a number that is taken out is answered as the maps say.
-    fn fits_remove(&mut self, number: u8, answer: Result<(), BlinkError>) -> bool {
+    /// Takes a number out of the map, or says why the tree is to refuse that.
+    fn take(&mut self, number: u8) -> Option<BlinkError> {
         match self.drafted.remove(&number) {
-            None => matches!(answer, Err(BlinkError::Absent)),
-            Some(_) => answer.is_ok(),
+            None => Some(BlinkError::Absent),
+            Some(_) => None,
         }
     }
 
-    /// Whether a search for a number found what the map has.
-    fn fits_find(&self, number: u8, found: Result<Raw, BlinkError>) -> bool {
-        match found {
-            Ok(value) => self.held.get(&number).copied() == value.bytes().first().copied(),
-            Err(BlinkError::Absent) => !self.held.contains_key(&number),
-            Err(_) => false,
+    /// Whether a search for a number finds the value that is held.
+    fn finds_alike(&self, number: u8) -> bool {
+        match self.held.get(&number) {
+            Some(value) => has(&self.desk, &key_of(number), &[*value; 60]),
+            None => fails(&self.desk, &key_of(number), BlinkError::Absent),
         }
     }
 
-    /// Whether a search for the first key from a number's on found what the map has.
-    fn fits_next(&self, number: u8, found: Result<Option<(Raw, Raw)>, BlinkError>) -> bool {
-        let first = self.first_from(number);
-        match found {
-            Ok(Some((key, _value))) => first == key.bytes().first().copied(),
-            Ok(None) => first.is_none(),
-            Err(_) => false,
-        }
-    }
-
-    /// The first number of the map from one on.
-    fn first_from(&self, number: u8) -> Option<u8> {
+    /// Whether a search for the first number from one on finds the one that is held.
+    fn goes_on_alike(&self, number: u8) -> bool {
         match self.held.range(number..).next() {
-            Some((first, _)) => Some(*first),
-            None => None,
+            Some((first, _)) => is_next(&self.desk, &key_of(number), &key_of(*first)),
+            None => is_next(&self.desk, &key_of(number), &[]),
         }
     }
-}
 
-/// Whether searches for a number and for the first from it on find what is known.
-fn finds(alloc: Global, desk: &Desk, known: &Known, number: u8) -> bool {
-    let key = key_of(number);
-    known.fits_find(number, find(alloc, desk, handle_of(1), &key))
-        && known.fits_next(number, next(alloc, desk, handle_of(1), &key))
-}
-
-/// Makes searches over what is held, and four changes in a draft, which is then held. Whether all is answered as the maps say.
-fn goes_well(alloc: Global, desk: &mut Desk, known: &mut Known, seed: u32) -> Result<bool, Fail> {
-    let mut draft = Draft::new(alloc);
-    let mut seed = seed;
-    let mut fine = finds(alloc, desk, known, ((seed >> 8) % 252) as u8);
-    for _ in 0..4 {
-        seed = after(seed);
+    /// Makes a random change in a draft. Whether the tree and the map answer alike.
+    fn changes_alike(&mut self, draft: &mut Draft, seed: u32) -> Result<bool, AllocError> {
         let number = ((seed >> 16) % 252) as u8;
         let key = key_of(number);
         if seed >> 30 == 0 {
-            let answer = remove(alloc, &mut draft, desk, handle_of(1), &key);
-            fine = known.fits_remove(number, answer) && fine;
-        } else {
-            let value = ((seed >> 8) % 256) as u8;
-            let answer = insert(alloc, &mut draft, desk, handle_of(1), &key, &[value; 60]);
-            fine = known.fits_insert(number, value, answer)? && fine;
+            let want = self.take(number);
+            return Ok(changes(&self.desk, draft, &key, None, want));
         }
+        let value = ((seed >> 8) % 256) as u8;
+        let want = self.put(number, value)?;
+        Ok(changes(&self.desk, draft, &key, Some(&[value; 60]), want))
     }
-    desk.take_in(alloc, &draft)?;
-    known.held = known.drafted.clone()?;
-    Ok(fine)
-}
 
-/// Makes random drafts. Whether all is answered as the maps say.
-fn all_go_well(
-    alloc: Global,
-    desk: &mut Desk,
-    known: &mut Known,
-    first: u32,
-) -> Result<bool, Fail> {
-    let mut seed = first;
-    let mut fine = true;
-    for _ in 0..DRAFTS {
-        seed = after(seed);
-        fine = goes_well(alloc, desk, known, seed)? && fine;
+    /// Makes searches, and four changes in a draft, which is then held. Whether the tree and the map answer alike.
+    fn drafts_alike(&mut self, seed: u32) -> Result<bool, Fail> {
+        let number = ((seed >> 8) % 252) as u8;
+        let mut fine = self.finds_alike(number) && self.goes_on_alike(number);
+        let mut draft = Draft::new(self.desk.alloc);
+        let mut seed = seed;
+        for _ in 0..4 {
+            seed = after(seed);
+            fine = self.changes_alike(&mut draft, seed)? && fine;
+        }
+        self.desk.take_in(&draft)?;
+        self.held = self.drafted.clone()?;
+        Ok(fine)
     }
-    Ok(fine)
+
+    /// Puts pages among these, and makes random drafts over them. Whether the tree and the map answer alike.
+    fn goes_well(&mut self, among: Among, shapes: &[Shape], first: u32) -> Result<bool, Fail> {
+        put_pages(&mut self.desk, among, shapes)?;
+        let mut seed = first;
+        let mut fine = true;
+        for _ in 0..DRAFTS {
+            seed = after(seed);
+            fine = self.drafts_alike(seed)? && fine;
+        }
+        Ok(fine)
+    }
 }
 
 #[test]
 fn a_tree_is_a_map(rt: HostRuntime) -> Result<(), Fail> {
-    let alloc = rt.alloc();
-    let mut desk = Desk::new(alloc);
-    let mut known = Known {
-        held: BTreeMap::new(alloc),
-        drafted: BTreeMap::new(alloc),
-    };
-    hold_leaves(alloc, &mut desk)?;
-    for round in 0..4_u32 {
-        match round {
-            0 => hint_first_pages(alloc, &mut desk)?,
-            1 => hint_old_pages(alloc, &mut desk)?,
-            _ => show_pages(alloc, &mut desk, round == 3)?,
-        }
-        assert!(rt;
-            all_go_well(alloc, &mut desk, &mut known, round)?,
-            "round {round}"
-        );
+    let mut run = Run::new(rt.alloc())?;
+    for (round, (among, shapes)) in ROUNDS.iter().enumerate() {
+        let fine = run.goes_well(*among, shapes, round as u32)?;
+        assert!(rt; fine, "round {round}");
     }
     Ok(())
 }

@@ -71,16 +71,13 @@ fn turns(alloc: Global, cluster: &mut Cluster, post: &mut Post, step: u64) -> bo
 #[derive(Clone, Copy, PartialEq, Eq)]
 struct Mark(u32, u64);
 
-/// The mark of the first state that was seen at each index.
-type Seen = [Option<Mark>; 8];
-
 /// The mark of a state.
 fn mark_of(state: &GlobalState) -> Option<Mark> {
     state.devices.get(0).map(|row| Mark(row.mode, row.boot_a))
 }
 
-/// Whether a state is the one of its index that was seen before, or the first one seen.
-fn agrees(seen: &mut Seen, state: &GlobalState) -> bool {
+/// Whether a state is the one of its index that was seen before, by the mark of the first one that was seen, or is that one.
+fn agrees(seen: &mut [Option<Mark>; 8], state: &GlobalState) -> bool {
     if state.index >= 8 {
         return false;
     }
@@ -93,7 +90,7 @@ fn agrees(seen: &mut Seen, state: &GlobalState) -> bool {
 }
 
 /// Whether all known states are places of one chain.
-fn all_agree(seen: &mut Seen, cluster: &Cluster) -> bool {
+fn all_agree(seen: &mut [Option<Mark>; 8], cluster: &Cluster) -> bool {
     for acceptor in &cluster.replicas.acceptors {
         if !agrees(seen, acceptor.known()) {
             return false;

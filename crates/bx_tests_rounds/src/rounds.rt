@@ -80,12 +80,8 @@ fn packet_of(alloc: Global, come: Come) -> Option<Packet> {
     match come {
         Come::Promise(from, round, index, flag, server, mode) => {
             let marks = marks_text(round, index, flag, server);
-            packet(
-                alloc,
-                from,
-                4,
-                &promise_text(&marks, &state_text(index, mode)),
-            )
+            let body = promise_text(&marks, &state_text(index, mode));
+            packet(alloc, from, 4, &body)
         }
         Come::Accepted(from, round, index) => packet(alloc, from, 6, &vote_text(round, index)),
         Come::Refused(index, round) => packet(alloc, 0, 7, &refusal_text(index, round)),
@@ -100,12 +96,11 @@ fn mode_of(state: &GlobalState) -> u32 {
 
 /// What the letters say.
 fn said(alloc: Global, letters: &[Letter]) -> Sent {
-    let count = letters.len();
     let Some(letter) = letters.last() else {
         return Sent::Nothing;
     };
     match Message::read(alloc, letter.kind, letter.body.bytes(), 1) {
-        Ok(Some(message)) => last(count, &message),
+        Ok(Some(message)) => last(letters.len(), &message),
         _ => Sent::Wrong,
     }
 }

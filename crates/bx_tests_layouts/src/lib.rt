@@ -2,14 +2,16 @@
 #![tactic(auto)]
 
 #[cfg(test)]
-mod fronts;
-#[cfg(test)]
 mod handles;
+#[cfg(test)]
+mod limits;
 #[cfg(test)]
 mod payloads;
 #[cfg(test)]
 mod places;
 #[cfg(test)]
 mod records;
+#[cfg(test)]
+mod samples;
 #[cfg(test)]
 mod sectors;

@@ -2,73 +2,22 @@
 
 use bx_places::{body_place, disk_sectors, gate_place, is_block, member_sectors, place};
 
+/// Volumes: how many devices and areas one has, how many sectors the disk of a member, and blocks with their places.
+const VOLUMES: [(u32, u16, u64, &[(u64, u32, u64)]); 6] = [
+    (1, 1, 17994, &[(0, 0, 9354), (960, 0, 9345)]),
+    (1, 64, 562_881, &[(65471, 0, 562_872)]),
+    (2, 3, 26643, &[(1024, 1, 9354), (3008, 0, 17994)]),
+    (3, 7, 35292, &[(5220, 2, 18903)]),
+    (4, 64, 147_729, &[(65471, 3, 147_720), (61440, 0, 139_089)]),
+    (4, 1, 17994, &[(959, 0, 17985)]),
+];
+
 /// Whether a block of a volume has this place.
-fn has_place(block: u64, devices: u32, areas: u16, device: u32, sector: u64) -> bool {
+fn has_place(devices: u32, areas: u16, (block, device, sector): (u64, u32, u64)) -> bool {
     (1..=4).contains(&devices)
         && (1..=64).contains(&areas)
         && is_block(block, areas)
         && place(block, devices, areas) == (device, sector)
-}
-
-#[test]
-fn blocks_have_their_places(rt: HostRuntime) {
-    for (block, devices, areas, device, sector) in [
-        (0, 1, 1, 0, 9354),
-        (960, 1, 1, 0, 9345),
-        (65471, 1, 64, 0, 562_872),
-        (1024, 2, 3, 1, 9354),
-        (3008, 2, 3, 0, 17994),
-        (5220, 3, 7, 2, 18903),
-        (65471, 4, 64, 3, 147_720),
-        (61440, 4, 64, 0, 139_089),
-        (959, 4, 1, 0, 17985),
-    ] {
-        assert!(rt;
-            has_place(block, devices, areas, device, sector),
-            "block {block}"
-        );
-    }
-}
-
-#[test]
-fn other_numbers_are_no_blocks(rt: HostRuntime) {
-    for (block, areas, want) in [
-        (0, 0, false),
-        (960, 1, true),
-        (961, 1, false),
-        (1024, 1, false),
-        (1024, 2, true),
-        (65472, 64, true),
-        (65536, 64, false),
-        (u64::MAX, 64, false),
-    ] {
-        assert!(rt; is_block(block, areas) == want, "block {block}");
-    }
-}
-
-/// Whether the gate and the body with a number in a log slot begin at these sectors of this device.
-fn has_record(slot: u32, number: u32, gate: u64, body: u64, devices: u32, device: u32) -> bool {
-    slot < 8
-        && number < 8
-        && 0 < devices
-        && gate_place(slot, number, devices) == (device, gate)
-        && body_place(slot, number, devices) == (device, body)
-}
-
-#[test]
-fn records_have_their_places(rt: HostRuntime) {
-    for (slot, number, gate, body, devices, device) in [
-        (0, 0, 1, 9, 1, 0),
-        (0, 7, 8, 1024, 2, 0),
-        (7, 7, 8184, 9200, 2, 1),
-        (7, 7, 8184, 9200, 4, 3),
-        (3, 4, 3509, 4093, 3, 0),
-    ] {
-        assert!(rt;
-            has_record(slot, number, gate, body, devices, device),
-            "slot {slot}"
-        );
-    }
 }
 
 /// Whether the disk with a number has so many sectors.
@@ -91,18 +40,42 @@ fn has_sizes(devices: u32, areas: u16, member: u64) -> bool {
 }
 
 #[test]
-fn disks_have_their_sizes(rt: HostRuntime) {
-    for (devices, areas, member) in [
-        (1, 1, 17994),
-        (1, 64, 562_881),
-        (2, 3, 26643),
-        (3, 7, 35292),
-        (4, 64, 147_729),
-        (4, 1, 17994),
-    ] {
-        assert!(rt;
-            has_sizes(devices, areas, member),
-            "{devices} devices, {areas} areas"
-        );
+fn disks_and_blocks_have_their_places(rt: HostRuntime) {
+    for (devices, areas, member, places) in VOLUMES {
+        assert!(rt; has_sizes(devices, areas, member), "{devices}, {areas}");
+        for place in places {
+            assert!(rt; has_place(devices, areas, *place), "{place:?}");
+        }
+    }
+}
+
+#[test]
+fn other_numbers_are_no_blocks(rt: HostRuntime) {
+    for (block, areas) in [(960, 1), (1024, 2), (65472, 64)] {
+        assert!(rt; is_block(block, areas), "block {block}");
+    }
+    for (block, areas) in [(0, 0), (961, 1), (1024, 1), (65536, 64), (u64::MAX, 64)] {
+        assert!(rt; !is_block(block, areas), "block {block}");
+    }
+}
+
+/// In a log slot a number, and on how many devices; on which of them its gate and its body are, and at which sectors these begin.
+const RECORDS: [(u32, u32, u32, u32, u64, u64); 5] = [
+    (0, 0, 1, 0, 1, 9),
+    (0, 7, 2, 0, 8, 1024),
+    (7, 7, 2, 1, 8184, 9200),
+    (7, 7, 4, 3, 8184, 9200),
+    (3, 4, 3, 0, 3509, 4093),
+];
+
+#[test]
+fn records_have_their_places(rt: HostRuntime) {
+    for (slot, number, devices, device, gate, body) in RECORDS {
+        let is_right = slot < 8
+            && number < 8
+            && 0 < devices
+            && gate_place(slot, number, devices) == (device, gate)
+            && body_place(slot, number, devices) == (device, body);
+        assert!(rt; is_right, "slot {slot}");
     }
 }

@@ -5,68 +5,62 @@ use bx_replies::Replies;
 use std::alloc::Global;
 use std::test::Fail;
 
+/// A client, its call, and the reply to it.
+type Answer = (u32, &'static [u8], &'static [u8]);
+
 /// Keeps an answer.
-fn keep(
-    replies: &mut Replies,
-    alloc: Global,
-    client: u32,
-    call: &[u8],
-    reply: &[u8],
-) -> Result<(), OutOfMemory> {
+fn keep(alloc: Global, replies: &mut Replies, answer: Answer) -> Result<(), OutOfMemory> {
+    let (client, call, reply) = answer;
     replies.keep(client, Raw::of(alloc, call)?, Raw::of(alloc, reply)?)
 }
 
 /// Whether this reply is kept; none where it is empty.
-fn has(replies: &Replies, client: u32, call: &[u8], reply: &[u8]) -> bool {
+fn has(replies: &Replies, (client, call, reply): Answer) -> bool {
     match replies.find(client, call) {
         Some(found) => found.bytes() == reply,
         None => reply.is_empty(),
     }
 }
 
-/// Whether each answer of three is found, and no other, and how many there are.
-fn has_three(replies: &Replies) -> bool {
-    has(replies, 1, b"read", b"new")
-        && has(replies, 2, b"read", b"two")
-        && has(replies, 1, b"write", b"three")
-        && has(replies, 2, b"write", b"")
-        && has(replies, 1, b"rea", b"")
-        && has(replies, 3, b"read", b"")
-        && replies.len() == 3
-}
+/// Answers in the order in which they are kept.
+const KEPT: [Answer; 4] = [
+    (1, b"read", b"old"),
+    (2, b"read", b"two"),
+    (1, b"write", b"three"),
+    (1, b"read", b"new"),
+];
+
+/// What is found then, and what isn't.
+const FOUND: [Answer; 6] = [
+    (1, b"read", b"new"),
+    (2, b"read", b"two"),
+    (1, b"write", b"three"),
+    (2, b"write", b""),
+    (1, b"rea", b""),
+    (3, b"read", b""),
+];
 
 #[test]
 fn each_reply_is_found(rt: HostRuntime) -> Result<(), Fail> {
     let mut replies = Replies::new(rt.alloc())?;
-    for (client, call, reply) in [
-        (1, b"read".as_slice(), b"old".as_slice()),
-        (2, b"read".as_slice(), b"two".as_slice()),
-        (1, b"write".as_slice(), b"three".as_slice()),
-        (1, b"read".as_slice(), b"new".as_slice()),
-    ] {
-        keep(&mut replies, rt.alloc(), client, call, reply)?;
+    for answer in KEPT {
+        keep(rt.alloc(), &mut replies, answer)?;
     }
-    assert!(rt; has_three(&replies));
+    for (number, answer) in FOUND.into_iter().enumerate() {
+        assert!(rt; has(&replies, answer) && replies.len() == 3, "{number}");
+    }
     Ok(())
-}
-
-/// Whether of 257 answers all but the oldest are there.
-fn lacks_first(replies: &Replies) -> bool {
-    has(replies, 0, b"read", b"")
-        && has(replies, 1, b"read", b"x")
-        && has(replies, 256, b"read", b"x")
-        && replies.len() == 256
 }
 
 #[test]
 fn the_oldest_of_257_is_dropped(rt: HostRuntime) -> Result<(), Fail> {
     let mut replies = Replies::new(rt.alloc())?;
-    for client in 0..256 {
-        keep(&mut replies, rt.alloc(), client, b"read", b"x")?;
+    for client in 0..257 {
+        // To be found doesn't save an answer.
+        assert!(rt; client < 256 || has(&replies, (0, b"read", b"x")));
+        keep(rt.alloc(), &mut replies, (client, b"read", b"x"))?;
     }
-    // To be found doesn't save an answer.
-    assert!(rt; has(&replies, 0, b"read", b"x"));
-    keep(&mut replies, rt.alloc(), 256, b"read", b"x")?;
-    assert!(rt; lacks_first(&replies));
+    let are_rest = has(&replies, (1, b"read", b"x")) && has(&replies, (256, b"read", b"x"));
+    assert!(rt; are_rest && has(&replies, (0, b"read", b"")) && replies.len() == 256);
     Ok(())
 }

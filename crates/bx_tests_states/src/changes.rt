@@ -1,5 +1,6 @@
 //! Changes one after the other, against what another model of the state answers.
 
+use crate::changes::Step::{Claim, Close, Expire, Open, Renew, Shift, Take};
 use crate::numbers::numbers;
 use bx_base::OutOfMemory;
 use bx_global::{Change, GlobalState};
@@ -7,188 +8,152 @@ use bx_global_laws::{formatted, opening};
 use std::alloc::Global;
 use std::test::Fail;
 
-const RENEW: u8 = 0;
+/// A change by its numbers in their order.
+#[derive(Clone, Copy)]
+enum Step {
+    Renew(u32, u64, u64),
+    Take(u32, u64, u64),
+    Open(u32, u64, u64),
+    Expire(u64, u64, u64),
+    Claim(u64, u64),
+    Close(u64, u64),
+    Shift(u32, u64, u32, bool, u64),
+}
 
-const TAKE: u8 = 1;
-
-const OPEN: u8 = 2;
-
-const EXPIRE: u8 = 3;
-
-const CLAIM: u8 = 4;
-
-const CLOSE: u8 = 5;
-
-const SHIFT: u8 = 6;
-
-/// Changes one after the other, each with its numbers in their order, and the numbers of the state that it makes: none
-/// where it isn't legal.
-const STEPS: [(u8, [u32; 5], &[u64]); 33] = [
-    (RENEW, [1, 0, 8000, 0, 0], &[]),
-    (RENEW, [0, 1, 8000, 0, 0], &[]),
-    (RENEW, [0, 0, 8001, 0, 0], &[]),
-    (
-        RENEW,
-        [0, 0, 8000, 0, 0],
-        &[
-            2, 0, 0, 1, 16000, 3, 1, 0, 0, 0, 4000, 0, 0, 2, 1, 0, 1, 4000, 0, 0, 0, 1, 0, 0,
-        ],
-    ),
-    (OPEN, [4, 7, 16000, 0, 0], &[]),
-    (OPEN, [2, 7, 16001, 0, 0], &[]),
-    (OPEN, [0, 0, 16000, 0, 0], &[]),
-    (
-        OPEN,
-        [2, 7, 16000, 0, 0],
-        &[
-            3, 0, 0, 1, 16000, 4, 1, 0, 0, 0, 4000, 0, 0, 2, 1, 0, 1, 4000, 0, 0, 3, 2, 7, 2,
-            16000, 0, 0, 0, 1, 0, 0,
-        ],
-    ),
-    (EXPIRE, [1, 2, 4501, 0, 0], &[]),
-    (EXPIRE, [4, 1, 4501, 0, 0], &[]),
-    (EXPIRE, [1, 1, 4500, 0, 0], &[]),
-    (
-        EXPIRE,
-        [1, 1, 4501, 0, 0],
-        &[
-            4, 0, 0, 1, 16000, 4, 1, 0, 0, 0, 4000, 1, 0, 2, 1, 0, 1, 4000, 0, 0, 3, 2, 7, 2,
-            16000, 0, 0, 0, 1, 0, 0,
-        ],
-    ),
-    (EXPIRE, [1, 1, 4501, 0, 0], &[]),
-    (CLAIM, [3, 2, 0, 0, 0], &[]),
-    (CLAIM, [1, 1, 0, 0, 0], &[]),
-    (CLAIM, [1, 4, 0, 0, 0], &[]),
-    (
-        CLAIM,
-        [1, 2, 0, 0, 0],
-        &[
-            5, 0, 0, 1, 16000, 4, 1, 0, 0, 0, 4000, 1, 2, 2, 1, 0, 1, 4000, 0, 0, 3, 2, 7, 2,
-            16000, 0, 0, 0, 1, 0, 0,
-        ],
-    ),
-    (CLAIM, [1, 3, 0, 0, 0], &[]),
-    (CLOSE, [1, 3, 0, 0, 0], &[]),
-    (CLOSE, [3, 2, 0, 0, 0], &[]),
-    (
-        CLOSE,
-        [1, 2, 0, 0, 0],
-        &[
-            6, 0, 0, 1, 16000, 4, 2, 1, 0, 1, 4000, 0, 0, 3, 2, 7, 2, 16000, 0, 0, 0, 1, 0, 0,
-        ],
-    ),
-    (SHIFT, [1, 1, 1, 1, 9], &[]),
-    (SHIFT, [0, 2, 1, 1, 9], &[]),
-    (SHIFT, [0, 1, 3, 1, 9], &[]),
-    (
-        SHIFT,
-        [0, 1, 1, 1, 9],
-        &[
-            7, 0, 0, 1, 16000, 4, 2, 1, 0, 1, 4000, 0, 0, 3, 2, 7, 2, 16000, 0, 0, 1, 2, 0, 9,
-        ],
-    ),
-    (SHIFT, [0, 2, 0, 0, 9], &[]),
-    (
-        SHIFT,
-        [0, 2, 3, 0, 6],
-        &[
-            8, 0, 0, 1, 16000, 4, 2, 1, 0, 1, 4000, 0, 0, 3, 2, 7, 2, 16000, 0, 0, 3, 3, 6, 9,
-        ],
-    ),
-    (
-        OPEN,
-        [3, 1, 12000, 0, 0],
-        &[
-            9, 0, 0, 1, 16000, 5, 2, 1, 0, 1, 4000, 0, 0, 3, 2, 7, 2, 16000, 0, 0, 4, 3, 1, 0,
-            16000, 0, 0, 3, 3, 6, 9,
-        ],
-    ),
-    (TAKE, [2, 5, 16501, 0, 0], &[]),
-    (TAKE, [1, 5, 16500, 0, 0], &[]),
-    (
-        TAKE,
-        [1, 5, 16501, 0, 0],
-        &[
-            10, 1, 5, 2, 24501, 5, 2, 1, 0, 1, 4000, 1, 0, 3, 2, 7, 2, 16000, 1, 0, 4, 3, 1, 0,
-            16000, 1, 0, 3, 3, 6, 9,
-        ],
-    ),
-    (CLAIM, [2, 4, 0, 0, 0], &[]),
-    (CLOSE, [2, 4, 0, 0, 0], &[]),
+/// Changes one after the other, and the number of the state after each: that of the one before, where it isn't legal.
+const STEPS: [(Step, usize); 33] = [
+    (Renew(1, 0, 8000), 0),
+    (Renew(0, 1, 8000), 0),
+    (Renew(0, 0, 8001), 0),
+    (Renew(0, 0, 8000), 1),
+    (Open(4, 7, 16000), 1),
+    (Open(2, 7, 16001), 1),
+    (Open(0, 0, 16000), 1),
+    (Open(2, 7, 16000), 2),
+    (Expire(1, 2, 4501), 2),
+    (Expire(4, 1, 4501), 2),
+    (Expire(1, 1, 4500), 2),
+    (Expire(1, 1, 4501), 3),
+    (Expire(1, 1, 4501), 3),
+    (Claim(3, 2), 3),
+    (Claim(1, 1), 3),
+    (Claim(1, 4), 3),
+    (Claim(1, 2), 4),
+    (Claim(1, 3), 4),
+    (Close(1, 3), 4),
+    (Close(3, 2), 4),
+    (Close(1, 2), 5),
+    (Shift(1, 1, 1, true, 9), 5),
+    (Shift(0, 2, 1, true, 9), 5),
+    (Shift(0, 1, 3, true, 9), 5),
+    (Shift(0, 1, 1, true, 9), 6),
+    (Shift(0, 2, 0, false, 9), 6),
+    (Shift(0, 2, 3, false, 6), 7),
+    (Open(3, 1, 12000), 8),
+    (Take(2, 5, 16501), 8),
+    (Take(1, 5, 16500), 8),
+    (Take(1, 5, 16501), 9),
+    (Claim(2, 4), 9),
+    (Close(2, 4), 9),
 ];
 
-/// The change of a kind with these numbers.
-fn change_of(kind: u8, [a, b, c, d, e]: [u32; 5]) -> Change {
-    let (second, third) = (u64::from(b), u64::from(c));
-    match kind {
-        RENEW => Change::Renew {
-            by: a,
-            boot: second,
-            reading: third,
+/// The numbers of the states: of the opening one of two nodes and those after it, and of the formatted one.
+const STATES: [&[u64]; 11] = [
+    &[
+        1, 0, 0, 1, 8000, 3, 1, 0, 0, 0, 4000, 0, 0, 2, 1, 0, 1, 4000, 0, 0, 0, 1, 0, 0,
+    ],
+    &[
+        2, 0, 0, 1, 16000, 3, 1, 0, 0, 0, 4000, 0, 0, 2, 1, 0, 1, 4000, 0, 0, 0, 1, 0, 0,
+    ],
+    &[
+        3, 0, 0, 1, 16000, 4, 1, 0, 0, 0, 4000, 0, 0, 2, 1, 0, 1, 4000, 0, 0, 3, 2, 7, 2, 16000, 0,
+        0, 0, 1, 0, 0,
+    ],
+    &[
+        4, 0, 0, 1, 16000, 4, 1, 0, 0, 0, 4000, 1, 0, 2, 1, 0, 1, 4000, 0, 0, 3, 2, 7, 2, 16000, 0,
+        0, 0, 1, 0, 0,
+    ],
+    &[
+        5, 0, 0, 1, 16000, 4, 1, 0, 0, 0, 4000, 1, 2, 2, 1, 0, 1, 4000, 0, 0, 3, 2, 7, 2, 16000, 0,
+        0, 0, 1, 0, 0,
+    ],
+    &[
+        6, 0, 0, 1, 16000, 4, 2, 1, 0, 1, 4000, 0, 0, 3, 2, 7, 2, 16000, 0, 0, 0, 1, 0, 0,
+    ],
+    &[
+        7, 0, 0, 1, 16000, 4, 2, 1, 0, 1, 4000, 0, 0, 3, 2, 7, 2, 16000, 0, 0, 1, 2, 0, 9,
+    ],
+    &[
+        8, 0, 0, 1, 16000, 4, 2, 1, 0, 1, 4000, 0, 0, 3, 2, 7, 2, 16000, 0, 0, 3, 3, 6, 9,
+    ],
+    &[
+        9, 0, 0, 1, 16000, 5, 2, 1, 0, 1, 4000, 0, 0, 3, 2, 7, 2, 16000, 0, 0, 4, 3, 1, 0, 16000,
+        0, 0, 3, 3, 6, 9,
+    ],
+    &[
+        10, 1, 5, 2, 24501, 5, 2, 1, 0, 1, 4000, 1, 0, 3, 2, 7, 2, 16000, 1, 0, 4, 3, 1, 0, 16000,
+        1, 0, 3, 3, 6, 9,
+    ],
+    &[1, 0, 0, 1, 0, 1, 0, 1, 0, 0, 0, 1, 0, 0],
+];
+
+/// The change of a step.
+fn change_of(step: Step) -> Change {
+    match step {
+        Renew(by, boot, reading) => Change::Renew { by, boot, reading },
+        Take(by, boot, reading) => Change::Take { by, boot, reading },
+        Open(node, boot, reading) => Change::Open {
+            node,
+            boot,
+            reading,
         },
-        TAKE => Change::Take {
-            by: a,
-            boot: second,
-            reading: third,
+        Expire(session, term, reading) => Change::Expire {
+            session,
+            term,
+            reading,
         },
-        OPEN => Change::Open {
-            node: a,
-            boot: second,
-            reading: third,
-        },
-        EXPIRE => Change::Expire {
-            session: u64::from(a),
-            term: second,
-            reading: third,
-        },
-        CLAIM => Change::Claim {
-            dead: u64::from(a),
-            by: second,
-        },
-        CLOSE => Change::Close {
-            dead: u64::from(a),
-            by: second,
-        },
-        _ => Change::Shift {
-            device: a,
-            epoch: second,
-            mode: c,
-            second: d == 1,
-            boot: u64::from(e),
+        Claim(dead, by) => Change::Claim { dead, by },
+        Close(dead, by) => Change::Close { dead, by },
+        Shift(device, epoch, mode, second, boot) => Change::Shift {
+            device,
+            epoch,
+            mode,
+            second,
+            boot,
         },
     }
 }
 
-/// Whether a change answers these numbers, none where it isn't legal; and the state after it, or as it was.
-fn answers(
-    alloc: Global,
-    state: &GlobalState,
-    change: &Change,
-    wanted: &[u64],
-) -> Result<(bool, GlobalState), OutOfMemory> {
-    match state.changed(alloc, change)? {
-        Some(new) => Ok((numbers(alloc, &new)?.as_slice() == wanted, new)),
-        None => Ok((wanted.is_empty(), state.copy(alloc)?)),
+/// Whether a state is the one with this number.
+fn is_state(alloc: Global, state: &GlobalState, number: usize) -> Result<bool, OutOfMemory> {
+    Ok(number < 11 && numbers(alloc, state)?.as_slice() == STATES[number])
+}
+
+/// Makes the change of a step where it is legal, and says whether it is.
+fn is_made(alloc: Global, state: &mut GlobalState, step: Step) -> Result<bool, OutOfMemory> {
+    match state.changed(alloc, &change_of(step))? {
+        Some(new) => *state = new,
+        None => return Ok(false),
     }
+    Ok(true)
 }
 
 #[test]
 fn the_first_states_are_these(rt: HostRuntime) -> Result<(), Fail> {
     let state = formatted(rt.alloc(), 2)?;
-    let wanted = [1_u64, 0, 0, 1, 0, 1, 0, 1, 0, 0, 0, 1, 0, 0];
-    assert!(rt; numbers(rt.alloc(), &state)?.as_slice() == wanted.as_slice());
+    assert!(rt; is_state(rt.alloc(), &state, 10)?);
     Ok(())
 }
 
 #[test]
 fn each_change_is_made_where_it_is_legal(rt: HostRuntime) -> Result<(), Fail> {
     let mut state = opening(rt.alloc(), 2, 1)?;
-    for (kind, fields, wanted) in STEPS {
-        let change = change_of(kind, fields);
-        let (is_right, new) = answers(rt.alloc(), &state, &change, wanted)?;
-        state = new;
-        assert!(rt; is_right, "{kind} {fields:?}");
+    let mut before = 0;
+    for (number, (step, after)) in STEPS.into_iter().enumerate() {
+        let is_legal = is_made(rt.alloc(), &mut state, step)? == (before < after);
+        let is_right = is_state(rt.alloc(), &state, after)?;
+        assert!(rt; is_legal && is_right, "step {number}");
+        before = after;
     }
     Ok(())
 }
@@ -205,10 +170,6 @@ fn are_read_off(state: &GlobalState) -> bool {
 #[test]
 fn what_is_read_off(rt: HostRuntime) -> Result<(), Fail> {
     let state = opening(rt.alloc(), 2, 1)?;
-    let wanted = [
-        1_u64, 0, 0, 1, 8000, 3, 1, 0, 0, 0, 4000, 0, 0, 2, 1, 0, 1, 4000, 0, 0, 0, 1, 0, 0,
-    ];
-    assert!(rt; are_read_off(&state));
-    assert!(rt; numbers(rt.alloc(), &state)?.as_slice() == wanted.as_slice());
+    assert!(rt; are_read_off(&state) && is_state(rt.alloc(), &state, 0)?);
     Ok(())
 }

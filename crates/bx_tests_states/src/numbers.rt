@@ -1,7 +1,7 @@
 //! The numbers of a state.
 
 use bx_base::OutOfMemory;
-use bx_global::{DeviceRow, GlobalState, SessionRow};
+use bx_global::{GlobalState, SessionRow};
 use std::alloc::Global;
 
 /// The fields of a state in their order.
@@ -11,7 +11,7 @@ pub(crate) fn numbers(alloc: Global, state: &GlobalState) -> Result<Vec<u64>, Ou
         all.extend_from_slice(&session(row))?;
     }
     for row in state.devices.items() {
-        all.extend_from_slice(&device(row))?;
+        all.extend_from_slice(&[u64::from(row.mode), row.epoch, row.boot_a, row.boot_b])?;
     }
     Ok(all)
 }
@@ -37,8 +37,4 @@ fn session(row: &SessionRow) -> [u64; 7] {
         u64::from(row.dead),
         row.by,
     ]
-}
-
-fn device(row: &DeviceRow) -> [u64; 4] {
-    [u64::from(row.mode), row.epoch, row.boot_a, row.boot_b]
 }

@@ -7,26 +7,18 @@ ghost use Rattle.bx_rows.specs.Ballots as ballots;
 use bx_base::Actor;
 use bx_global::Ballot;
 
-/// All machines of the greatest cluster, in the order in which a schedule means all of them.
-const MACHINES: [Actor; 17] = [
-    Actor::Node(0),
-    Actor::Node(1),
-    Actor::Node(2),
-    Actor::Node(3),
-    Actor::Replica(0),
-    Actor::Replica(1),
-    Actor::Replica(2),
-    Actor::Server(0),
-    Actor::Server(1),
-    Actor::Member(0),
-    Actor::Member(2),
-    Actor::Member(4),
-    Actor::Member(6),
-    Actor::Member(1),
-    Actor::Member(3),
-    Actor::Member(5),
-    Actor::Member(7),
-];
+/// The machines of the greatest cluster, in the order in which a schedule means all of them: 4 nodes, 3 replicas, 2 servers, and
+/// each device's first member and then each device's second.
+fn machine(place: u8) -> Actor {
+    let number = u32::from(place);
+    match place {
+        0..=3 => Actor::Node(number),
+        4..=6 => Actor::Replica(number - 4),
+        7..=8 => Actor::Server(number - 7),
+        9..=12 => Actor::Member(2 * (number - 9)),
+        _ => Actor::Member(2 * number.saturating_sub(13) + 1),
+    }
+}
 
 /// Ballots, each before the next: a round counts for more than an actor, and that for more than a boot.
 const BALLOTS: [(u64, u32, u64); 6] = [
@@ -57,7 +49,7 @@ fn latest(a: Ballot, b: Ballot) -> Ballot
     a.max(b)
 }
 
-fn ballot((round, actor, boot): (u64, u32, u64)) -> Ballot {
+pub(crate) fn ballot((round, actor, boot): (u64, u32, u64)) -> Ballot {
     Ballot { round, actor, boot }
 }
 
@@ -65,7 +57,7 @@ fn ballot((round, actor, boot): (u64, u32, u64)) -> Ballot {
 fn machines_go_by_kind_and_number(rt: HostRuntime) {
     for i in 0..17 {
         for j in 0..17 {
-            assert!(rt; is_less(&MACHINES[i], &MACHINES[j]) == (i < j), "{i} {j}");
+            assert!(rt; is_less(&machine(i), &machine(j)) == (i < j), "{i} {j}");
         }
     }
 }

@@ -4,9 +4,7 @@
 #[cfg(test)]
 mod bench;
 #[cfg(test)]
-mod sharing;
-#[cfg(test)]
-mod stores;
+mod cases;
 mod toy;
 
 pub use toy::hear;

@@ -146,11 +146,7 @@ impl LoneNode {
 }
 
 /// The stage behind a record's write, and what is said: a record that isn't open yet is still written; one that is open goes home.
-fn stage_behind(
-    recorded: Recorded,
-    draft: Draft,
-    opened: Option<Point>,
-) -> (Stage, Option<Acted>)
+fn stage_behind(recorded: Recorded, draft: Draft, opened: Option<Point>) -> (Stage, Option<Acted>)
     ensures written { opened ≡ None → result ≡ (Logs recorded draft, None) }
     ensures home { (point : Point) → opened ≡ Some point → result ≡ (Homes point, told_of recorded point) }
 {

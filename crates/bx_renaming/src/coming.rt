@@ -12,10 +12,10 @@ ghost use Rattle.bx_renaming.specs.Path.{OnMove};
 ghost use Rattle.bx_renaming.specs.Renaming.{AreDirectories, IsPassed, coming_in, other_file};
 
 use crate::places::Places;
-use bx_linking::room_for;
 use bx_changes::ChangeError;
 use bx_entries::Known;
 use bx_inodes::Stop;
+use bx_linking::room_for;
 use bx_model::DQUOT;
 use bx_moving::{Moving, Replaced, move_file};
 use bx_records::Draft;

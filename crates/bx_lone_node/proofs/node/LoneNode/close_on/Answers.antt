@@ -85,8 +85,12 @@ returns-then-is_closed-clause-stands g c = λ volume state x tree next stood.
     let here : (let n : NodeView = record node { stage = Idle; log = c.shut_on.new.log } in n) ≡ record now { stage = Idle; log = resting now.log } =
     ap (λ (l : LogView). let n : NodeView = record node { stage = Idle; log = l } in n) goes.1
     ∙ ap (λ (n : NodeView). let m : NodeView = record n { stage = Idle; log = resting n.log } in m) c.self.view_is in
-    inl (refl, kept_idle _ _ refl, subst (λ s. NodeStands (st.keeps s) (st.stands s) (st.will_read s) (st.made s) (st.own s 0) (st.out_of s 0) (st.asked s 0) volume state x (record node { stage = Idle; log = c.shut_on.new.log }) tree next) (sym goes.3)
-    (subst (λ (n : NodeView). NodeStands (st.keeps old) (st.stands old) (st.will_read old) (st.made old) (st.own old 0) (st.out_of old 0) (st.asked old 0) volume state x n tree next) (sym here) stands))
+    inl (
+      refl,
+      kept_idle _ _ refl,
+      subst (λ s. NodeStands (st.keeps s) (st.stands s) (st.will_read s) (st.made s) (st.own s 0) (st.out_of s 0) (st.asked s 0) volume state x (record node { stage = Idle; log = c.shut_on.new.log }) tree next) (sym goes.3)
+          (subst (λ (n : NodeView). NodeStands (st.keeps old) (st.stands old) (st.will_read old) (st.made old) (st.own old 0) (st.out_of old 0) (st.asked old 0) volume state x n tree next) (sym here) stands),
+    )
 
 pub returns-clause-takes : goal.returns-clause-takes
 returns-clause-takes g c = ap (λ (n : NodeView). n.queue) c.self.view_is

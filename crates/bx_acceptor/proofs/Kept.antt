@@ -1,5 +1,5 @@
 -- What stands after a call that wrote nothing, and what is passed on of a call that wrote.
-use Rattle.std.proofs.Common.{◌≡◌, ℕ, ◌+◌, ◌≤◌, List, Option, Some, None, IfSome, Bool, true, false, ◌⊎◌, refl, sym, ap, subst, ◌∙◌, arith, inl, inr}
+use Rattle.std.proofs.Common.{◌≡◌, ℕ, List, Option, Some, None, IfSome, Bool, true, false, ◌⊎◌, refl, sym, ap, subst, ◌∙◌, arith, inl, inr}
 use Rattle.bx_calls.specs.Calls.{HasSure, KeepsSure, LeavesOnly}
 use Rattle.bx_cell.specs.Cells.{HasEither, Holds, Known, next, with_value}
 use Rattle.bx_cell.specs.Halves.{cell_in}

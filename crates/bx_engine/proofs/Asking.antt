@@ -1,11 +1,11 @@
 -- A call that a datagram is reads, or changes the tree.
-use Rattle.std.proofs.Common.{ℕ, ◌⊎◌, inl, inr}
+use Rattle.std.proofs.Common.{◌⊎◌, inl, inr}
 use Rattle.bx_attempts.specs.Calls.{HasChangeArgs, IsChanging}
 use Rattle.bx_engine.specs.Calls.{AsksAboutFile, HasReadArgs, IsOfMount, IsReading}
 use Rattle.bx_model.specs.declared.call.Args.{Args}
 use Rattle.bx_model.specs.declared.call.Args.TheVariants.{Refused, Nothing, Handle, List as Listing, Link, Make, Name, Read, Rename, Set, Path, Symlink, Write}
 use Rattle.bx_model.specs.declared.call.Call.{Call}
-use Rattle.bx_nfs.specs.Asked.{AsksFile, AsksName, AsksNew, AsksPath, HasOwnArgs, IsAsked, IsNfs}
+use Rattle.bx_nfs.specs.Asked.{AsksFile, AsksNew, AsksPath, HasOwnArgs, IsAsked, IsNfs}
 
 module _ (call : Call) where
   about_file : AsksFile call → AsksAboutFile call

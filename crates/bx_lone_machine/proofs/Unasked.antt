@@ -1,5 +1,5 @@
 -- What a tidy keeps.
-use Rattle.std.proofs.Common.{◌≡◌, ◌⊎◌, ⊎_elim, refl, ℕ, ◌≤◌, arith, List, [], Contains, None, sym, ◌∙◌, ap, subst}
+use Rattle.std.proofs.Common.{◌≡◌, ⊎_elim, refl, ℕ, ◌≤◌, arith, List, [], Contains, None, sym, ◌∙◌, ap, subst}
 use Rattle.bx_lone_standing.specs.Node.{IsUsed, NodeView, calls_of, unanswered}
 use Rattle.bx_lone_turns.specs.Tidying.{BeginsUnasked, GoesUnasked, IsUnasked}
 use Rattle.bx_lone_standing.specs.Turning.{record_of, recorded_in}

@@ -1,5 +1,5 @@
 -- What a step of a record keeps, takes and waits for.
-use Rattle.std.proofs.Common.{◌≡◌, ℕ, true, List, Option, None, Some, refl, sym, ◌∙◌, ap, subst}
+use Rattle.std.proofs.Common.{◌≡◌, ℕ, List, Option, None, Some, refl, sym, ◌∙◌, ap, subst}
 use Rattle.std.specs.Prelude.{IsSome, is_some}
 use Rattle.bx_base.specs.declared.names.Point.{Point}
 use Rattle.bx_facts.specs.Writes.{Sent}

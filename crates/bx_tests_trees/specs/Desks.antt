@@ -1,7 +1,6 @@
 -- What is held of blocks of which some are held exclusively, and others shared alone.
 use Rattle.std.specs.Prelude.{List}
 use Rattle.std.specs.Option.{option_or}
-use Rattle.bx_base.specs.declared.names.Mode.{Mode}
 use Rattle.bx_base.specs.declared.names.Mode.TheVariants.{Shared, Exclusive}
 use Rattle.bx_records.specs.Drafts.{Changed, block_in}
 use Rattle.bx_views.specs.Truths.{Held}

@@ -1,4 +1,4 @@
-use Rattle.std.proofs.Common.{◌≡◌, sym, ◌∙◌, subst}
+use Rattle.std.proofs.Common.{sym, ◌∙◌, subst}
 use Rattle.std.specs.Prelude.{IfOk}
 use Rattle.bx_lone_node.proofs.Steps.{in_stage}
 use Rattle.bx_lone_standing.specs.Node.{IsJoined, IsNode, NodeView, Takes, calls_of}

@@ -1,4 +1,4 @@
-use Rattle.std.proofs.Common.{◌<◌, ◌^◌, length, arith}
+use Rattle.std.proofs.Common.{arith}
 use Rattle.bx_tests_register.proofs.chain.Known.has.Goals as goal
 
 pub write-requires : goal.write-requires

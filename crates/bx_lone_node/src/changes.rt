@@ -1,6 +1,6 @@
 //! What calls change: a record, its homes, and the closing of the log.
 
-ghost use Rattle.std.specs.Prelude.{◌≡◌, ℕ, IfOk, OnOk, None, Some};
+ghost use Rattle.std.specs.Prelude.{◌≡◌, ◌⊎◌, ℕ, IfOk, OnOk, None, Some};
 ghost use Rattle.bx_disk.specs.Disks.{Disks};
 ghost use Rattle.bx_facts.specs.Disks.{NeedsNoMore};
 ghost use Rattle.bx_global.specs.declared.state.GlobalState.{GlobalState};
@@ -101,6 +101,7 @@ impl LoneNode {
         ensures takes { IfOk result (λ acted. Takes acted (unanswered (Homes point) self.old.queue) (calls_of self.new)) }
         ensures queue { self.new.queue ≡ self.old.queue }
         ensures same { IsOfSame self.old self.new }
+        ensures stage { OnOk result (self.new.stage ≡ Closes point) }
         ensures joined { OnOk result (IsJoined self.new (S.made store.new) (S.own store.new 0) (S.out_of store.new 0) (S.asked store.new 0)) }
         ensures needs { NeedsNoMore (S.needs store.old) (S.needs store.new) }
         ensures made { S.made store.new ≡ S.made store.old }
@@ -127,6 +128,7 @@ impl LoneNode {
         ensures takes { IfOk result (λ acted. Takes acted (unanswered (Closes point) self.old.queue) (calls_of self.new)) }
         ensures queue { self.new.queue ≡ self.old.queue }
         ensures same { IsOfSame self.old self.new }
+        ensures stage { OnOk result ((self.new.stage ≡ Closes point) ⊎ (self.new.stage ≡ Idle)) }
         ensures joined { OnOk result (IsJoined self.new (S.made store.new) (S.own store.new 0) (S.out_of store.new 0) (S.asked store.new 0)) }
         ensures needs { NeedsNoMore (S.needs store.old) (S.needs store.new) }
         ensures made { S.made store.new ≡ S.made store.old }

@@ -1,9 +1,9 @@
 //! Reads, writes and syncs.
 
 ghost use Rattle.std.specs.Prelude.{◌≡◌, ℕ, ◌+◌, ◌/◌, ◌%◌, ◌<◌, ◌≤◌, length, slice_index, OnOk, OnErr, IsErrOf};
-ghost use Rattle.bx_disk.specs.declared.fault.RackError.TheVariants.{Fault, OutOfMemory};
+ghost use Rattle.bx_disk.specs.Kept.{FaultsOn, FailsOn};
+ghost use Rattle.bx_disk.specs.declared.fault.RackError.TheVariants.{OutOfMemory};
 ghost use Rattle.bx_disk.specs.Disks.{IsImage, MayBeWritten};
-ghost use Rattle.bx_disk.specs.Counts.{NoneFalls, NoneRose, BothRose};
 ghost use Rattle.bx_calls.specs.Regions.{ReadsAs, IsSynced};
 ghost use Rattle.bx_calls.specs.Calls.{KeepsSure, KeepsAll, WritesOnly, HasSure, LeavesOnly};
 
@@ -27,12 +27,7 @@ pub fn write_some<R: Rack>(
     ensures only { R.tells rack.old → WritesOnly (R.state rack.old) (R.state rack.new) disk sector (length bytes.now / 512) }
     ensures torn { R.tells rack.old → OnErr result (MayBeWritten (R.state rack.old) (R.state rack.new) disk sector (length bytes.now / 512)) }
     ensures memory { R.tells rack.old → IsErrOf result OutOfMemory → R.state rack.new ≡ R.state rack.old }
-    ensures cause { IsErrOf result Fault → BothRose (R.faults rack.old) (R.faults rack.new) (R.faults_of rack.old) (R.faults_of rack.new) disk }
-    ensures later { NoneFalls (R.faults rack.old) (R.faults rack.new) (R.faults_of rack.old) (R.faults_of rack.new) }
-    ensures memory_counts { IsErrOf result OutOfMemory → NoneRose (R.faults rack.old) (R.faults rack.new) (R.faults_of rack.old) (R.faults_of rack.new) }
-    ensures no_fault { OnOk result (NoneRose (R.faults rack.old) (R.faults rack.new) (R.faults_of rack.old) (R.faults_of rack.new)) }
-    ensures sizes { (R.state rack.new).sizes ≡ (R.state rack.old).sizes }
-    ensures keeps_telling { R.tells rack.old → R.tells rack.new }
+    ensures rack { FailsOn R.Rack rack.old rack.new disk result }
 {
     rack.write(disk, sector, bytes)?;
     Ok(())
@@ -45,11 +40,7 @@ pub fn sync_disk<R: Rack>(rack: &mut R, disk: u32) -> Result<(), DiskFault>
     ensures stays { R.tells rack.old → OnErr result (R.state rack.new ≡ R.state rack.old) }
     ensures keeps { R.tells rack.old → KeepsAll (R.state rack.old) (R.state rack.new) disk }
     ensures any_moment { R.tells rack.old → LeavesOnly (R.moment rack.old) (R.moment rack.new) (R.left_since rack.old) (R.left_since rack.new) (IsImage (R.state rack.old)) }
-    ensures cause { OnErr result (BothRose (R.faults rack.old) (R.faults rack.new) (R.faults_of rack.old) (R.faults_of rack.new) disk) }
-    ensures later { NoneFalls (R.faults rack.old) (R.faults rack.new) (R.faults_of rack.old) (R.faults_of rack.new) }
-    ensures no_fault { OnOk result (NoneRose (R.faults rack.old) (R.faults rack.new) (R.faults_of rack.old) (R.faults_of rack.new)) }
-    ensures sizes { (R.state rack.new).sizes ≡ (R.state rack.old).sizes }
-    ensures keeps_telling { R.tells rack.old → R.tells rack.new }
+    ensures rack { FaultsOn R.Rack rack.old rack.new disk result }
 {
     rack.sync(disk)?;
     Ok(())
@@ -73,12 +64,7 @@ pub fn write_through<R: Rack>(
     ensures any_moment { R.tells rack.old → LeavesOnly (R.moment rack.old) (R.moment rack.new) (R.left_since rack.old) (R.left_since rack.new) (HasSure (R.state rack.old) disk sector (length bytes.now / 512)) }
     ensures torn { R.tells rack.old → OnErr result (MayBeWritten (R.state rack.old) (R.state rack.new) disk sector (length bytes.now / 512)) }
     ensures memory { R.tells rack.old → IsErrOf result OutOfMemory → R.state rack.new ≡ R.state rack.old }
-    ensures cause { IsErrOf result Fault → BothRose (R.faults rack.old) (R.faults rack.new) (R.faults_of rack.old) (R.faults_of rack.new) disk }
-    ensures later { NoneFalls (R.faults rack.old) (R.faults rack.new) (R.faults_of rack.old) (R.faults_of rack.new) }
-    ensures memory_counts { IsErrOf result OutOfMemory → NoneRose (R.faults rack.old) (R.faults rack.new) (R.faults_of rack.old) (R.faults_of rack.new) }
-    ensures no_fault { OnOk result (NoneRose (R.faults rack.old) (R.faults rack.new) (R.faults_of rack.old) (R.faults_of rack.new)) }
-    ensures sizes { (R.state rack.new).sizes ≡ (R.state rack.old).sizes }
-    ensures keeps_telling { R.tells rack.old → R.tells rack.new }
+    ensures rack { FailsOn R.Rack rack.old rack.new disk result }
 {
     write_some(rack, disk, sector, bytes)?;
     sync_disk(rack, disk)?;
@@ -98,11 +84,7 @@ pub fn read_sectors<R: Rack>(
     ensures bytes { R.tells rack.old → OnOk result (ReadsAs (R.state rack.old).reads disk sector into.new) }
     ensures stays { R.state rack.new ≡ R.state rack.old }
     ensures any_moment { R.tells rack.old → LeavesOnly (R.moment rack.old) (R.moment rack.new) (R.left_since rack.old) (R.left_since rack.new) (IsImage (R.state rack.old)) }
-    ensures cause { OnErr result (BothRose (R.faults rack.old) (R.faults rack.new) (R.faults_of rack.old) (R.faults_of rack.new) disk) }
-    ensures later { NoneFalls (R.faults rack.old) (R.faults rack.new) (R.faults_of rack.old) (R.faults_of rack.new) }
-    ensures no_fault { OnOk result (NoneRose (R.faults rack.old) (R.faults rack.new) (R.faults_of rack.old) (R.faults_of rack.new)) }
-    ensures sizes { (R.state rack.new).sizes ≡ (R.state rack.old).sizes }
-    ensures keeps_telling { R.tells rack.old → R.tells rack.new }
+    ensures rack { FaultsOn R.Rack rack.old rack.new disk result }
 {
     rack.read(disk, sector, into)?;
     Ok(())

@@ -1,9 +1,8 @@
 //! Regions of zeros.
 
-ghost use Rattle.std.specs.Prelude.{◌≡◌, ℕ, ◌+◌, ◌*◌, ◌/◌, ◌%◌, ◌<◌, ◌≤◌, length, replicate, slice_index, OnOk, OnErr, IsErrOf};
-ghost use Rattle.bx_disk.specs.declared.fault.RackError.TheVariants.{Fault, OutOfMemory};
+ghost use Rattle.std.specs.Prelude.{◌≡◌, ℕ, ◌+◌, ◌*◌, ◌/◌, ◌%◌, ◌<◌, ◌≤◌, length, replicate, slice_index, OnOk, OnErr};
+ghost use Rattle.bx_disk.specs.Kept.{FailsOn};
 ghost use Rattle.bx_disk.specs.Disks.{MayBeWritten};
-ghost use Rattle.bx_disk.specs.Counts.{NoneFalls, NoneRose, BothRose};
 ghost use Rattle.bx_calls.specs.Regions.{IsZero};
 ghost use Rattle.bx_calls.specs.Calls.{KeepsSure, WritesOnly, HasSure, LeavesOnly};
 
@@ -24,12 +23,7 @@ fn write_zeros<R: Rack>(rack: &mut R, disk: u32, sector: u64, zeros: &[u8]) -> R
     ensures keeps { R.tells rack.old → KeepsSure (R.state rack.old) (R.state rack.new) disk sector (length zeros.now / 512) }
     ensures any_moment { R.tells rack.old → LeavesOnly (R.moment rack.old) (R.moment rack.new) (R.left_since rack.old) (R.left_since rack.new) (HasSure (R.state rack.old) disk sector (length zeros.now / 512)) }
     ensures torn { R.tells rack.old → MayBeWritten (R.state rack.old) (R.state rack.new) disk sector (length zeros.now / 512) }
-    ensures cause { IsErrOf result Fault → BothRose (R.faults rack.old) (R.faults rack.new) (R.faults_of rack.old) (R.faults_of rack.new) disk }
-    ensures later { NoneFalls (R.faults rack.old) (R.faults rack.new) (R.faults_of rack.old) (R.faults_of rack.new) }
-    ensures memory_counts { IsErrOf result OutOfMemory → NoneRose (R.faults rack.old) (R.faults rack.new) (R.faults_of rack.old) (R.faults_of rack.new) }
-    ensures no_fault { OnOk result (NoneRose (R.faults rack.old) (R.faults rack.new) (R.faults_of rack.old) (R.faults_of rack.new)) }
-    ensures sizes { (R.state rack.new).sizes ≡ (R.state rack.old).sizes }
-    ensures keeps_telling { R.tells rack.old → R.tells rack.new }
+    ensures rack { FailsOn R.Rack rack.old rack.new disk result }
 {
     write_some(rack, disk, sector, zeros)?;
     Ok(())
@@ -51,12 +45,7 @@ fn zero_pieces<R: Rack>(
     ensures keeps { R.tells rack.old → KeepsSure (R.state rack.old) (R.state rack.new) disk sector count }
     ensures any_moment { R.tells rack.old → LeavesOnly (R.moment rack.old) (R.moment rack.new) (R.left_since rack.old) (R.left_since rack.new) (HasSure (R.state rack.old) disk sector count) }
     ensures torn { R.tells rack.old → MayBeWritten (R.state rack.old) (R.state rack.new) disk sector count }
-    ensures cause { IsErrOf result Fault → BothRose (R.faults rack.old) (R.faults rack.new) (R.faults_of rack.old) (R.faults_of rack.new) disk }
-    ensures later { NoneFalls (R.faults rack.old) (R.faults rack.new) (R.faults_of rack.old) (R.faults_of rack.new) }
-    ensures memory_counts { IsErrOf result OutOfMemory → NoneRose (R.faults rack.old) (R.faults rack.new) (R.faults_of rack.old) (R.faults_of rack.new) }
-    ensures no_fault { OnOk result (NoneRose (R.faults rack.old) (R.faults rack.new) (R.faults_of rack.old) (R.faults_of rack.new)) }
-    ensures sizes { (R.state rack.new).sizes ≡ (R.state rack.old).sizes }
-    ensures keeps_telling { R.tells rack.old → R.tells rack.new }
+    ensures rack { FailsOn R.Rack rack.old rack.new disk result }
 {
     let _sectors = rack.sectors(disk);
     let mut done = 0;
@@ -84,12 +73,7 @@ pub fn zero_sectors<R: Rack>(
     ensures any_moment { R.tells rack.old → LeavesOnly (R.moment rack.old) (R.moment rack.new) (R.left_since rack.old) (R.left_since rack.new) (HasSure (R.state rack.old) disk sector count) }
     ensures only { R.tells rack.old → WritesOnly (R.state rack.old) (R.state rack.new) disk sector count }
     ensures torn { R.tells rack.old → OnErr result (MayBeWritten (R.state rack.old) (R.state rack.new) disk sector count) }
-    ensures cause { IsErrOf result Fault → BothRose (R.faults rack.old) (R.faults rack.new) (R.faults_of rack.old) (R.faults_of rack.new) disk }
-    ensures later { NoneFalls (R.faults rack.old) (R.faults rack.new) (R.faults_of rack.old) (R.faults_of rack.new) }
-    ensures memory_counts { IsErrOf result OutOfMemory → NoneRose (R.faults rack.old) (R.faults rack.new) (R.faults_of rack.old) (R.faults_of rack.new) }
-    ensures no_fault { OnOk result (NoneRose (R.faults rack.old) (R.faults rack.new) (R.faults_of rack.old) (R.faults_of rack.new)) }
-    ensures sizes { (R.state rack.new).sizes ≡ (R.state rack.old).sizes }
-    ensures keeps_telling { R.tells rack.old → R.tells rack.new }
+    ensures rack { FailsOn R.Rack rack.old rack.new disk result }
 {
     let zeros = [0u8; 512 * 64];
     zero_pieces(rack, disk, sector, count, &zeros)?;

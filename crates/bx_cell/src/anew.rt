@@ -1,9 +1,10 @@
 //! Cells that are written anew.
 
 ghost use Rattle.std.specs.Prelude.{◌≡◌, ℕ, ◌+◌, ◌<◌, ◌≤◌, length, slice_index, Some, OnOk, OnErr, IsErrOf};
+ghost use Rattle.bx_disk.specs.Kept.{FailsOn, Fails};
 ghost use Rattle.bx_disk.specs.declared.fault.RackError.TheVariants.{Fault, OutOfMemory};
 ghost use Rattle.bx_disk.specs.Disks.{MayBeWritten};
-ghost use Rattle.bx_disk.specs.Counts.{NoneFalls, NoneRose, BothRose};
+ghost use Rattle.bx_disk.specs.Counts.{BothRose};
 ghost use Rattle.bx_calls.specs.Regions.{IsSynced};
 ghost use Rattle.bx_calls.specs.Calls.{KeepsSure, HasSure, LeavesOnly};
 ghost use Rattle.bx_cell.specs.Halves.{cell_in};
@@ -27,12 +28,7 @@ pub fn format<R: Rack>(rack: &mut R, disk: u32, base: u64, value: &[u8]) -> Resu
     ensures any_moment { R.tells rack.old → LeavesOnly (R.moment rack.old) (R.moment rack.new) (R.left_since rack.old) (R.left_since rack.new) (HasSure (R.state rack.old) disk base 11) }
     ensures torn { R.tells rack.old → OnErr result (MayBeWritten (R.state rack.old) (R.state rack.new) disk base 11) }
     ensures memory { R.tells rack.old → IsErrOf result OutOfMemory → R.state rack.new ≡ R.state rack.old }
-    ensures cause { IsErrOf result Fault → BothRose (R.faults rack.old) (R.faults rack.new) (R.faults_of rack.old) (R.faults_of rack.new) disk }
-    ensures later { NoneFalls (R.faults rack.old) (R.faults rack.new) (R.faults_of rack.old) (R.faults_of rack.new) }
-    ensures memory_counts { IsErrOf result OutOfMemory → NoneRose (R.faults rack.old) (R.faults rack.new) (R.faults_of rack.old) (R.faults_of rack.new) }
-    ensures no_fault { OnOk result (NoneRose (R.faults rack.old) (R.faults rack.new) (R.faults_of rack.old) (R.faults_of rack.new)) }
-    ensures sizes { (R.state rack.new).sizes ≡ (R.state rack.old).sizes }
-    ensures keeps_telling { R.tells rack.old → R.tells rack.new }
+    ensures rack { FailsOn R.Rack rack.old rack.new disk result }
 {
     let mut bytes = [0; FORMAT];
     write_format(&mut bytes, value);
@@ -56,11 +52,7 @@ pub fn format_each<R: Rack>(
     ensures keeps { R.tells rack.old → KeepsBeside (R.state rack.old) (R.state rack.new) count base }
     ensures any_moment { R.tells rack.old → LeavesOnly (R.moment rack.old) (R.moment rack.new) (R.left_since rack.old) (R.left_since rack.new) (HasBeside (R.state rack.old) count base) }
     ensures cause { IsErrOf result Fault → (d : ℕ) × (d < count) × BothRose (R.faults rack.old) (R.faults rack.new) (R.faults_of rack.old) (R.faults_of rack.new) d }
-    ensures later { NoneFalls (R.faults rack.old) (R.faults rack.new) (R.faults_of rack.old) (R.faults_of rack.new) }
-    ensures memory_counts { IsErrOf result OutOfMemory → NoneRose (R.faults rack.old) (R.faults rack.new) (R.faults_of rack.old) (R.faults_of rack.new) }
-    ensures no_fault { OnOk result (NoneRose (R.faults rack.old) (R.faults rack.new) (R.faults_of rack.old) (R.faults_of rack.new)) }
-    ensures sizes { (R.state rack.new).sizes ≡ (R.state rack.old).sizes }
-    ensures keeps_telling { R.tells rack.old → R.tells rack.new }
+    ensures rack { Fails R.Rack rack.old rack.new result }
 {
     for disk in 0..count {
         format(rack, disk, base, value)?;

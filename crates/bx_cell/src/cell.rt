@@ -1,8 +1,9 @@
 //! Cells.
 
-ghost use Rattle.std.specs.Prelude.{◌≡◌, ℕ, ◌+◌, ◌^◌, ◌<◌, ◌≤◌, ◌⊎◌, true, length, slice_index, Some, None, OnOk, OnErr, IfOk, IsErrOf};
+ghost use Rattle.std.specs.Prelude.{◌≡◌, ℕ, ◌+◌, ◌^◌, ◌<◌, ◌≤◌, ◌⊎◌, true, length, slice_index, Some, None, OnOk, IfOk, IsErrOf};
+ghost use Rattle.bx_disk.specs.Kept.{CountedOn};
 ghost use Rattle.bx_disk.specs.Disks.{IsImage};
-ghost use Rattle.bx_disk.specs.Counts.{NoneFalls, NoneRose, BothRose};
+ghost use Rattle.bx_disk.specs.Counts.{NoneRose};
 ghost use Rattle.bx_calls.specs.Regions.{IsSynced};
 ghost use Rattle.bx_calls.specs.Calls.{KeepsSure, KeepsAll, HasSure, LeavesOnly};
 ghost use Rattle.bx_cell.specs.declared.error.CellError.TheVariants.{DiskFault, NoCell, OutOfMemory as WantsMemory};
@@ -63,13 +64,9 @@ impl Cell {
         ensures sure_none { R.tells rack.old → IsErrOf result NoCell → IsSynced (R.state rack.new) disk }
         ensures keeps { R.tells rack.old → KeepsAll (R.state rack.old) (R.state rack.new) disk }
         ensures any_moment { R.tells rack.old → LeavesOnly (R.moment rack.old) (R.moment rack.new) (R.left_since rack.old) (R.left_since rack.new) (IsImage (R.state rack.old)) }
-        ensures cause { IsErrOf result DiskFault → BothRose (R.faults rack.old) (R.faults rack.new) (R.faults_of rack.old) (R.faults_of rack.new) disk }
-        ensures later { NoneFalls (R.faults rack.old) (R.faults rack.new) (R.faults_of rack.old) (R.faults_of rack.new) }
+        ensures rack { CountedOn R.Rack rack.old rack.new disk result DiskFault }
         ensures memory_counts { IsErrOf result WantsMemory → NoneRose (R.faults rack.old) (R.faults rack.new) (R.faults_of rack.old) (R.faults_of rack.new) }
         ensures none_counts { IsErrOf result NoCell → NoneRose (R.faults rack.old) (R.faults rack.new) (R.faults_of rack.old) (R.faults_of rack.new) }
-        ensures no_fault { OnOk result (NoneRose (R.faults rack.old) (R.faults rack.new) (R.faults_of rack.old) (R.faults_of rack.new)) }
-        ensures sizes { (R.state rack.new).sizes ≡ (R.state rack.old).sizes }
-        ensures keeps_telling { R.tells rack.old → R.tells rack.new }
     {
         let mut bytes = [0; CELL];
         sync_and_read(rack, disk, base, &mut bytes)?;
@@ -131,12 +128,8 @@ impl Cell {
         ensures sure { R.tells rack.old → OnOk result (IsSynced (R.state rack.new) self.old.disk) }
         ensures keeps { R.tells rack.old → KeepsSure (R.state rack.old) (R.state rack.new) self.old.disk self.old.base 20 }
         ensures beside { R.tells rack.old → LeavesOnly (R.moment rack.old) (R.moment rack.new) (R.left_since rack.old) (R.left_since rack.new) (HasSure (R.state rack.old) self.old.disk self.old.base 20) }
-        ensures cause { IsErrOf result DiskFault → BothRose (R.faults rack.old) (R.faults rack.new) (R.faults_of rack.old) (R.faults_of rack.new) self.old.disk }
-        ensures later { NoneFalls (R.faults rack.old) (R.faults rack.new) (R.faults_of rack.old) (R.faults_of rack.new) }
+        ensures rack { CountedOn R.Rack rack.old rack.new self.old.disk result DiskFault }
         ensures memory_counts { IsErrOf result WantsMemory → NoneRose (R.faults rack.old) (R.faults rack.new) (R.faults_of rack.old) (R.faults_of rack.new) }
-        ensures no_fault { OnOk result (NoneRose (R.faults rack.old) (R.faults rack.new) (R.faults_of rack.old) (R.faults_of rack.new)) }
-        ensures sizes { (R.state rack.new).sizes ≡ (R.state rack.old).sizes }
-        ensures keeps_telling { R.tells rack.old → R.tells rack.new }
     {
         let copy = Raw::of(self.alloc, value)?;
         let half = 1 - self.half;

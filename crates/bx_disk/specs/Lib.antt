@@ -4,3 +4,4 @@ pub mod Counts
 pub mod Crash
 pub mod Past
 pub mod Stops
+pub mod Kept

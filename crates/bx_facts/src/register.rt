@@ -1,11 +1,10 @@
 //! Registers: what the cluster has decided.
 
 ghost use Rattle.std.specs.Prelude.{◌≡◌, ◌≢◌, ℕ, ◌+◌, ◌<◌, ◌≤◌, ◌⊎◌, Bool, true, false, List, OnOk, IfOk, IsErrOf, length};
-ghost use Rattle.bx_base.specs.Faults.{Rose};
 ghost use Rattle.bx_base.specs.declared.names.Actor.{Actor};
 ghost use Rattle.bx_base.specs.declared.names.Actor.TheVariants.{Replica};
 ghost use Rattle.bx_disk.specs.Disks.{Image, Disks, IsImage};
-ghost use Rattle.bx_disk.specs.Counts.{NoneFalls};
+ghost use Rattle.bx_disk.specs.Kept.{Kept};
 ghost use Rattle.bx_calls.specs.Calls.{LeavesOnly};
 ghost use Rattle.bx_global.specs.Allowed.{IsAllowed};
 ghost use Rattle.bx_global.specs.Table.{IsLegal};
@@ -100,10 +99,7 @@ pub trait Register: Drop {
         ensures made { (made self.new ≡ made self.old) × (nodes self.new ≡ nodes self.old) }
         ensures members { R.tells rack.old → SameMembers (R.state rack.old) (R.state rack.new) × SameLabels (R.state rack.old) (R.state rack.new) }
         ensures disks { R.tells rack.old → OnlyDiskOf at (R.state rack.old) (R.state rack.new) }
-        ensures cause { IsErrOf result DiskFails → Rose (R.faults rack.old) (R.faults rack.new) }
-        ensures later { NoneFalls (R.faults rack.old) (R.faults rack.new) (R.faults_of rack.old) (R.faults_of rack.new) }
-        ensures sizes { (R.state rack.new).sizes ≡ (R.state rack.old).sizes }
-        ensures keeps_telling { R.tells rack.old → R.tells rack.new };
+        ensures rack { Kept R.Rack rack.old rack.new result DiskFails };
 
     /// A machine stops. It takes no memory.
     fn crash(&mut self, who: Actor)
@@ -135,10 +131,7 @@ pub trait Register: Drop {
         ensures made { (made self.new ≡ made self.old) × (nodes self.new ≡ nodes self.old) }
         ensures members { R.tells rack.old → SameMembers (R.state rack.old) (R.state rack.new) × SameLabels (R.state rack.old) (R.state rack.new) }
         ensures disks { R.tells rack.old → OnlyDiskOf who (R.state rack.old) (R.state rack.new) }
-        ensures cause { IsErrOf result DiskFails → Rose (R.faults rack.old) (R.faults rack.new) }
-        ensures later { NoneFalls (R.faults rack.old) (R.faults rack.new) (R.faults_of rack.old) (R.faults_of rack.new) }
-        ensures sizes { (R.state rack.new).sizes ≡ (R.state rack.old).sizes }
-        ensures keeps_telling { R.tells rack.old → R.tells rack.new };
+        ensures rack { Kept R.Rack rack.old rack.new result DiskFails };
 
     /// Writes what the replicas' disks hold of the state that it was made with. Every machine knows it then.
     fn format<R: Rack>(&mut self, rack: &mut R) -> Result<(), FactError>
@@ -148,10 +141,7 @@ pub trait Register: Drop {
         ensures idle { is_new self.old → (who : Actor) → OnOk result (is_busy self.new who → ⊥) }
         ensures made { (made self.new ≡ made self.old) × (nodes self.new ≡ nodes self.old) }
         ensures members { R.tells rack.old → SameMembers (R.state rack.old) (R.state rack.new) × SameLabels (R.state rack.old) (R.state rack.new) }
-        ensures cause { IsErrOf result DiskFails → Rose (R.faults rack.old) (R.faults rack.new) }
-        ensures later { NoneFalls (R.faults rack.old) (R.faults rack.new) (R.faults_of rack.old) (R.faults_of rack.new) }
-        ensures sizes { (R.state rack.new).sizes ≡ (R.state rack.old).sizes }
-        ensures keeps_telling { R.tells rack.old → R.tells rack.new };
+        ensures rack { Kept R.Rack rack.old rack.new result DiskFails };
 
     /// Begins with the state that the disks are read as, which every machine knows then; each is to start again before it does anything. The
     /// answer is the greatest boot on the disks. `NoMajority` only where they tell no state that another may follow, `Spent` only with a boot
@@ -168,10 +158,7 @@ pub trait Register: Drop {
         ensures idle { is_new self.old → (who : Actor) → OnOk result (is_busy self.new who → ⊥) }
         ensures made { (made self.new ≡ made self.old) × (nodes self.new ≡ nodes self.old) }
         ensures disks { R.tells rack.old → SameDisks (R.state rack.old) (R.state rack.new) }
-        ensures cause { IsErrOf result OpenFails → Rose (R.faults rack.old) (R.faults rack.new) }
-        ensures later { NoneFalls (R.faults rack.old) (R.faults rack.new) (R.faults_of rack.old) (R.faults_of rack.new) }
-        ensures sizes { (R.state rack.new).sizes ≡ (R.state rack.old).sizes }
-        ensures keeps_telling { R.tells rack.old → R.tells rack.new };
+        ensures rack { Kept R.Rack rack.old rack.new result OpenFails };
 
     /// Each known state is a place of the chain.
     ghost places: { (g : Self) (x : Disks) (past : RegisterPast) (who : Actor) → keeps g x past → IsPlace past.chain (knows g who) };

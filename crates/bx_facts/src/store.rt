@@ -1,11 +1,10 @@
 //! Stores: mirrored devices.
 
 ghost use Rattle.std.specs.Prelude.{◌≡◌, ◌≢◌, ℕ, ◌+◌, ◌-◌, ◌<◌, ◌≤◌, ◌⊎◌, Bool, true, false, List, OnOk, IfOk, IfSome, IsErrOf, Option, Some, None, IsNone, IsSome};
-ghost use Rattle.bx_base.specs.Faults.{Rose};
 ghost use Rattle.bx_base.specs.declared.names.Actor.{Actor};
 ghost use Rattle.bx_base.specs.declared.names.Actor.TheVariants.{Node, Member};
 ghost use Rattle.bx_disk.specs.Disks.{Disks, blanked, sector_of};
-ghost use Rattle.bx_disk.specs.Counts.{NoneFalls, NoneRose};
+ghost use Rattle.bx_disk.specs.Kept.{Counted};
 ghost use Rattle.bx_calls.specs.Calls.{LeavesOnly};
 ghost use Rattle.bx_global.specs.Allowed.{IsAllowed};
 ghost use Rattle.bx_global.specs.Table.{IsLegal};
@@ -180,11 +179,7 @@ pub trait Store: Drop {
         ensures sent { OnOk result (SendsOnly IsStores out.old out.new) }
         ensures made { made self.new ≡ made self.old }
         ensures replicas { R.tells rack.old → SameReplicas (R.state rack.old) (R.state rack.new) × SameLabels (R.state rack.old) (R.state rack.new) }
-        ensures cause { IsErrOf result DiskFails → Rose (R.faults rack.old) (R.faults rack.new) }
-        ensures no_fault { OnOk result (NoneRose (R.faults rack.old) (R.faults rack.new) (R.faults_of rack.old) (R.faults_of rack.new)) }
-        ensures later { NoneFalls (R.faults rack.old) (R.faults rack.new) (R.faults_of rack.old) (R.faults_of rack.new) }
-        ensures sizes { (R.state rack.new).sizes ≡ (R.state rack.old).sizes }
-        ensures keeps_telling { R.tells rack.old → R.tells rack.new };
+        ensures rack { Counted R.Rack rack.old rack.new result DiskFails };
 
     /// A machine stops. A write of it that was out may still be taken. It takes no memory.
     fn crash(&mut self, who: Actor)
@@ -226,11 +221,7 @@ pub trait Store: Drop {
         ensures needs { NeedsAt who (store_room (made self.old)) (needs self.old) (needs self.new) }
         ensures made { made self.new ≡ made self.old }
         ensures replicas { R.tells rack.old → SameReplicas (R.state rack.old) (R.state rack.new) × SameLabels (R.state rack.old) (R.state rack.new) }
-        ensures cause { IsErrOf result DiskFails → Rose (R.faults rack.old) (R.faults rack.new) }
-        ensures no_fault { OnOk result (NoneRose (R.faults rack.old) (R.faults rack.new) (R.faults_of rack.old) (R.faults_of rack.new)) }
-        ensures later { NoneFalls (R.faults rack.old) (R.faults rack.new) (R.faults_of rack.old) (R.faults_of rack.new) }
-        ensures sizes { (R.state rack.new).sizes ≡ (R.state rack.old).sizes }
-        ensures keeps_telling { R.tells rack.old → R.tells rack.new };
+        ensures rack { Counted R.Rack rack.old rack.new result DiskFails };
 
     /// A sector that stands so is settled so.
     ghost settles: { (st : Self) (x : Disks) (past : StorePast) (device sector : ℕ) (content : List ℕ) (index : ℕ) → keeps st x past → stands st x past device sector content index → settled st x past device sector content };

@@ -1,8 +1,7 @@
 //! Reads that are out, or whose answers weren't taken yet.
 
-ghost use Rattle.std.specs.Prelude.{◌≡◌, ℕ, ◌<◌, length, None, Some, OnOk, IsErrOf, IsNone, IsSome};
-ghost use Rattle.bx_base.specs.Faults.{Rose};
-ghost use Rattle.bx_disk.specs.Counts.{NoneFalls, NoneRose};
+ghost use Rattle.std.specs.Prelude.{◌≡◌, ℕ, ◌<◌, length, None, Some, OnOk, IsNone, IsSome};
+ghost use Rattle.bx_disk.specs.Kept.{Counted};
 ghost use Rattle.bx_disk.specs.Disks.{IsImage};
 ghost use Rattle.bx_calls.specs.Calls.{LeavesOnly};
 ghost use Rattle.bx_facts.specs.Writes.{Asked};
@@ -40,11 +39,7 @@ fn answer_one<R: Rack>(
     ensures there { (asks : Asked) → asked_in slot.old ≡ Some asks → asks.device < length known.now.devices → OnOk result (IsSome (answer_in slot.new)) }
     ensures stays { R.tells rack.old → R.state rack.new ≡ R.state rack.old }
     ensures any_moment { R.tells rack.old → LeavesOnly (R.moment rack.old) (R.moment rack.new) (R.left_since rack.old) (R.left_since rack.new) (IsImage (R.state rack.old)) }
-    ensures cause { IsErrOf result DiskFails → Rose (R.faults rack.old) (R.faults rack.new) }
-    ensures later { NoneFalls (R.faults rack.old) (R.faults rack.new) (R.faults_of rack.old) (R.faults_of rack.new) }
-    ensures no_fault { OnOk result (NoneRose (R.faults rack.old) (R.faults rack.new) (R.faults_of rack.old) (R.faults_of rack.new)) }
-    ensures sizes { (R.state rack.new).sizes ≡ (R.state rack.old).sizes }
-    ensures keeps_telling { R.tells rack.old → R.tells rack.new }
+    ensures rack { Counted R.Rack rack.old rack.new result DiskFails }
 {
     let Some(inquiry) = slot else {
         return Ok(());
@@ -70,11 +65,7 @@ pub(crate) fn answer_all<R: Rack>(
     ensures long { length inquiries.new.items ≡ length inquiries.old.items }
     ensures stays { R.tells rack.old → R.state rack.new ≡ R.state rack.old }
     ensures any_moment { R.tells rack.old → LeavesOnly (R.moment rack.old) (R.moment rack.new) (R.left_since rack.old) (R.left_since rack.new) (IsImage (R.state rack.old)) }
-    ensures cause { IsErrOf result DiskFails → Rose (R.faults rack.old) (R.faults rack.new) }
-    ensures later { NoneFalls (R.faults rack.old) (R.faults rack.new) (R.faults_of rack.old) (R.faults_of rack.new) }
-    ensures no_fault { OnOk result (NoneRose (R.faults rack.old) (R.faults rack.new) (R.faults_of rack.old) (R.faults_of rack.new)) }
-    ensures sizes { (R.state rack.new).sizes ≡ (R.state rack.old).sizes }
-    ensures keeps_telling { R.tells rack.old → R.tells rack.new }
+    ensures rack { Counted R.Rack rack.old rack.new result DiskFails }
 {
     for i in 0..inquiries.len() {
         answer_one(alloc, rack, known, &mut inquiries[i])?;

@@ -1,8 +1,7 @@
 //! Syncs of members.
 
-ghost use Rattle.std.specs.Prelude.{◌≡◌, ℕ, ◌+◌, ◌*◌, ◌<◌, ◌≤◌, ◌⊎◌, Contains, length, Some, None, OnOk, IsErrOf, IsSome, false, true};
-ghost use Rattle.bx_base.specs.Faults.{Rose};
-ghost use Rattle.bx_disk.specs.Counts.{NoneFalls, NoneRose};
+ghost use Rattle.bx_disk.specs.Kept.{Counted};
+ghost use Rattle.std.specs.Prelude.{◌≡◌, ℕ, ◌+◌, ◌*◌, ◌<◌, ◌≤◌, ◌⊎◌, Contains, length, Some, None, OnOk, IsSome, false, true};
 ghost use Rattle.bx_calls.specs.Calls.{LeavesOnly};
 ghost use Rattle.bx_global.specs.declared.state.GlobalState.{GlobalState};
 ghost use Rattle.bx_records.specs.declared.runs.Run.{Run};
@@ -45,11 +44,7 @@ pub(crate) fn sync_all<R: Rack>(
     ensures there { (node : ℕ) (asks : Asked) → asked_at inquiries.old.items node ≡ Some asks → asks.device < length known.now.devices → OnOk result (IsSome (answer_at inquiries.new.items node)) }
     ensures long { (length slots.new.items ≡ length slots.old.items) × (length inquiries.new.items ≡ length inquiries.old.items) }
     ensures replicas { R.tells rack.old → KeepsReplicas (R.state rack.old) (R.state rack.new) }
-    ensures cause { IsErrOf result DiskFails → Rose (R.faults rack.old) (R.faults rack.new) }
-    ensures later { NoneFalls (R.faults rack.old) (R.faults rack.new) (R.faults_of rack.old) (R.faults_of rack.new) }
-    ensures no_fault { OnOk result (NoneRose (R.faults rack.old) (R.faults rack.new) (R.faults_of rack.old) (R.faults_of rack.new)) }
-    ensures sizes { (R.state rack.new).sizes ≡ (R.state rack.old).sizes }
-    ensures keeps_telling { R.tells rack.old → R.tells rack.new }
+    ensures rack { Counted R.Rack rack.old rack.new result DiskFails }
 {
     answer_all(alloc, rack, known, inquiries)?;
     serve_all(rack, devices, greatest, slots)?;

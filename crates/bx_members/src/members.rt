@@ -1,10 +1,8 @@
 //! Sectors and runs of members.
 
-ghost use Rattle.std.specs.Prelude.{◌≡◌, ◌≢◌, ℕ, ◌+◌, ◌*◌, ◌/◌, ◌%◌, ◌<◌, ◌≤◌, Bool, true, false, List, length, slice_index, OnOk, OnErr, IfOk, IsErrOf};
-ghost use Rattle.bx_base.specs.Faults.{Rose};
-ghost use Rattle.bx_disk.specs.declared.fault.RackError.TheVariants.{Fault};
+ghost use Rattle.std.specs.Prelude.{◌≡◌, ◌≢◌, ℕ, ◌+◌, ◌*◌, ◌/◌, ◌%◌, ◌<◌, ◌≤◌, Bool, true, false, List, length, slice_index, OnOk, IfOk};
+ghost use Rattle.bx_disk.specs.Kept.{Faults, Fails};
 ghost use Rattle.bx_disk.specs.Disks.{IsImage, sector_of};
-ghost use Rattle.bx_disk.specs.Counts.{NoneFalls, NoneRose, BothRose};
 ghost use Rattle.bx_calls.specs.Regions.{ReadsAs};
 ghost use Rattle.bx_calls.specs.Calls.{KeepsSure, LeavesOnly};
 ghost use Rattle.bx_facts.specs.Disks.{SameDisks};
@@ -29,11 +27,7 @@ pub fn has_bytes<R: Rack>(
     ensures other { R.tells rack.old → IfOk result (λ same. same ≡ false → (R.state rack.old).reads disk sector ≢ bytes.now) }
     ensures stays { R.tells rack.old → R.state rack.new ≡ R.state rack.old }
     ensures any_moment { R.tells rack.old → LeavesOnly (R.moment rack.old) (R.moment rack.new) (R.left_since rack.old) (R.left_since rack.new) (IsImage (R.state rack.old)) }
-    ensures cause { OnErr result (Rose (R.faults rack.old) (R.faults rack.new)) }
-    ensures later { NoneFalls (R.faults rack.old) (R.faults rack.new) (R.faults_of rack.old) (R.faults_of rack.new) }
-    ensures no_fault { OnOk result (NoneRose (R.faults rack.old) (R.faults rack.new) (R.faults_of rack.old) (R.faults_of rack.new)) }
-    ensures sizes { (R.state rack.new).sizes ≡ (R.state rack.old).sizes }
-    ensures keeps_telling { R.tells rack.old → R.tells rack.new }
+    ensures rack { Faults R.Rack rack.old rack.new result }
 {
     let mut into = [0; 512];
     read_sectors(rack, disk, sector, &mut into)?;
@@ -54,11 +48,7 @@ pub fn put_sector<R: Rack>(
     ensures elsewhere { R.tells rack.old → KeepsSure (R.state rack.old) (R.state rack.new) disk sector 1 }
     ensures keeps { (writes : List Sent) (greatest device : ℕ) (second : Bool) → R.tells rack.old → disk ≡ member_disk device second → IsBrought writes greatest device sector bytes.now → KeepsMembers writes greatest (R.state rack.old) (R.state rack.new) }
     ensures any_moment { (writes : List Sent) (greatest device : ℕ) (second : Bool) → R.tells rack.old → disk ≡ member_disk device second → IsBrought writes greatest device sector bytes.now → LeavesOnly (R.moment rack.old) (R.moment rack.new) (R.left_since rack.old) (R.left_since rack.new) (HasMembers writes greatest (R.state rack.old)) }
-    ensures cause { IsErrOf result Fault → Rose (R.faults rack.old) (R.faults rack.new) }
-    ensures later { NoneFalls (R.faults rack.old) (R.faults rack.new) (R.faults_of rack.old) (R.faults_of rack.new) }
-    ensures no_fault { OnOk result (NoneRose (R.faults rack.old) (R.faults rack.new) (R.faults_of rack.old) (R.faults_of rack.new)) }
-    ensures sizes { (R.state rack.new).sizes ≡ (R.state rack.old).sizes }
-    ensures keeps_telling { R.tells rack.old → R.tells rack.new }
+    ensures rack { Fails R.Rack rack.old rack.new result }
 {
     if has_bytes(rack, disk, sector, bytes)? {
         return Ok(());
@@ -76,11 +66,7 @@ pub fn put_run<R: Rack>(rack: &mut R, disk: u32, run: &Run) -> Result<(), RackEr
     ensures elsewhere { R.tells rack.old → KeepsSure (R.state rack.old) (R.state rack.new) disk run.now.place (length run.now.bytes / 512) }
     ensures keeps { (writes : List Sent) (greatest : ℕ) (second : Bool) → R.tells rack.old → disk ≡ member_disk run.now.device second → IsTaken writes greatest run.now → KeepsMembers writes greatest (R.state rack.old) (R.state rack.new) }
     ensures any_moment { (writes : List Sent) (greatest : ℕ) (second : Bool) → R.tells rack.old → disk ≡ member_disk run.now.device second → IsTaken writes greatest run.now → LeavesOnly (R.moment rack.old) (R.moment rack.new) (R.left_since rack.old) (R.left_since rack.new) (HasMembers writes greatest (R.state rack.old)) }
-    ensures cause { IsErrOf result Fault → Rose (R.faults rack.old) (R.faults rack.new) }
-    ensures later { NoneFalls (R.faults rack.old) (R.faults rack.new) (R.faults_of rack.old) (R.faults_of rack.new) }
-    ensures no_fault { OnOk result (NoneRose (R.faults rack.old) (R.faults rack.new) (R.faults_of rack.old) (R.faults_of rack.new)) }
-    ensures sizes { (R.state rack.new).sizes ≡ (R.state rack.old).sizes }
-    ensures keeps_telling { R.tells rack.old → R.tells rack.new }
+    ensures rack { Fails R.Rack rack.old rack.new result }
 {
     let _sectors = rack.sectors(disk);
     let bytes = run.bytes.bytes();
@@ -99,11 +85,7 @@ pub fn put_both<R: Rack>(rack: &mut R, run: &Run) -> Result<(), RackError>
     ensures written { (second : Bool) → R.tells rack.old → OnOk result (ReadsAs (R.state rack.new).reads (member_disk run.now.device second) run.now.place run.now.bytes) }
     ensures keeps { (writes : List Sent) (greatest : ℕ) → R.tells rack.old → IsTaken writes greatest run.now → KeepsMembers writes greatest (R.state rack.old) (R.state rack.new) }
     ensures any_moment { (writes : List Sent) (greatest : ℕ) → R.tells rack.old → IsTaken writes greatest run.now → LeavesOnly (R.moment rack.old) (R.moment rack.new) (R.left_since rack.old) (R.left_since rack.new) (HasMembers writes greatest (R.state rack.old)) }
-    ensures cause { IsErrOf result Fault → Rose (R.faults rack.old) (R.faults rack.new) }
-    ensures later { NoneFalls (R.faults rack.old) (R.faults rack.new) (R.faults_of rack.old) (R.faults_of rack.new) }
-    ensures no_fault { OnOk result (NoneRose (R.faults rack.old) (R.faults rack.new) (R.faults_of rack.old) (R.faults_of rack.new)) }
-    ensures sizes { (R.state rack.new).sizes ≡ (R.state rack.old).sizes }
-    ensures keeps_telling { R.tells rack.old → R.tells rack.new }
+    ensures rack { Fails R.Rack rack.old rack.new result }
 {
     let _disks = rack.disks();
     put_run(rack, 3 + 2 * run.device, run)?;
@@ -117,11 +99,7 @@ pub fn sync_both<R: Rack>(rack: &mut R, device: u32) -> Result<(), DiskFault>
     ensures sure { (second : Bool) (sector : ℕ) → R.tells rack.old → OnOk result ((R.state rack.new).unsure (member_disk device second) sector ≡ false) }
     ensures keeps { R.tells rack.old → SameDisks (R.state rack.old) (R.state rack.new) }
     ensures any_moment { (writes : List Sent) (greatest : ℕ) → R.tells rack.old → LeavesOnly (R.moment rack.old) (R.moment rack.new) (R.left_since rack.old) (R.left_since rack.new) (HasMembers writes greatest (R.state rack.old)) }
-    ensures cause { OnErr result (Rose (R.faults rack.old) (R.faults rack.new)) }
-    ensures later { NoneFalls (R.faults rack.old) (R.faults rack.new) (R.faults_of rack.old) (R.faults_of rack.new) }
-    ensures no_fault { OnOk result (NoneRose (R.faults rack.old) (R.faults rack.new) (R.faults_of rack.old) (R.faults_of rack.new)) }
-    ensures sizes { (R.state rack.new).sizes ≡ (R.state rack.old).sizes }
-    ensures keeps_telling { R.tells rack.old → R.tells rack.new }
+    ensures rack { Faults R.Rack rack.old rack.new result }
 {
     let _disks = rack.disks();
     sync_disk(rack, 3 + 2 * device)?;

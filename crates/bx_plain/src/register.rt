@@ -41,9 +41,8 @@ impl PlainRegister {
 
 impl Register for PlainRegister {
     ghost use Rattle.std.specs.Prelude.{⊤, [], ◌∷◌, refl, IfOk, IsErrOf, OnOk};
-    ghost use Rattle.bx_base.specs.Faults.{Rose};
     ghost use Rattle.bx_base.specs.declared.names.Actor.{Actor};
-    ghost use Rattle.bx_disk.specs.Counts.{NoneFalls};
+    ghost use Rattle.bx_disk.specs.Kept.{Kept};
     ghost use Rattle.bx_facts.specs.Chains.{most_boot};
     ghost use Rattle.bx_facts.specs.Disks.{SameDisks, TellNoState};
     ghost use Rattle.bx_facts.specs.declared.input.OpenError.TheVariants.{Disk as OpenFails, NoLabel, NoMajority, Spent};
@@ -127,10 +126,7 @@ impl Register for PlainRegister {
         ensures idle { self.old.busy.items ≡ [] → (who : Actor) → OnOk result (Contains self.new.busy.items who → ⊥) }
         ensures made { (self.new.state ≡ self.old.state) × (self.new.nodes ≡ self.old.nodes) }
         ensures disks { R.tells _rack.old → SameDisks (R.state _rack.old) (R.state _rack.new) }
-        ensures cause { IsErrOf result OpenFails → Rose (R.faults _rack.old) (R.faults _rack.new) }
-        ensures later { NoneFalls (R.faults _rack.old) (R.faults _rack.new) (R.faults_of _rack.old) (R.faults_of _rack.new) }
-        ensures sizes { (R.state _rack.new).sizes ≡ (R.state _rack.old).sizes }
-        ensures keeps_telling { R.tells _rack.old → R.tells _rack.new }
+        ensures rack { Kept R.Rack _rack.old _rack.new result OpenFails }
         ensures opens { result ≡ Ok 0 }
     {
         Ok(0)

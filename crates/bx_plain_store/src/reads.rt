@@ -1,8 +1,7 @@
 //! Reads that are out.
 
-ghost use Rattle.std.specs.Prelude.{◌≡◌, ℕ, ◌+◌, ◌-◌, ◌*◌, ◌^◌, ◌<◌, ◌≤◌, List, length, slice_index, IfOk, IfSome, IsSome, IsErrOf, OnOk};
-ghost use Rattle.bx_base.specs.Faults.{Rose};
-ghost use Rattle.bx_disk.specs.Counts.{NoneFalls, NoneRose};
+ghost use Rattle.std.specs.Prelude.{◌≡◌, ℕ, ◌+◌, ◌-◌, ◌*◌, ◌^◌, ◌<◌, ◌≤◌, List, length, slice_index, IfOk, IfSome, IsSome};
+ghost use Rattle.bx_disk.specs.Kept.{Counted};
 ghost use Rattle.bx_disk.specs.Disks.{IsImage, sector_of};
 ghost use Rattle.bx_calls.specs.Calls.{LeavesOnly};
 ghost use Rattle.bx_calls.specs.Regions.{ReadsAs};
@@ -43,11 +42,7 @@ pub fn answer<R: Rack>(
     ensures there { ask.device < length known.now.devices → IfOk result (λ found. IsSome found) }
     ensures stays { R.tells rack.old → R.state rack.new ≡ R.state rack.old }
     ensures any_moment { R.tells rack.old → LeavesOnly (R.moment rack.old) (R.moment rack.new) (R.left_since rack.old) (R.left_since rack.new) (IsImage (R.state rack.old)) }
-    ensures cause { IsErrOf result DiskFails → Rose (R.faults rack.old) (R.faults rack.new) }
-    ensures later { NoneFalls (R.faults rack.old) (R.faults rack.new) (R.faults_of rack.old) (R.faults_of rack.new) }
-    ensures no_fault { OnOk result (NoneRose (R.faults rack.old) (R.faults rack.new) (R.faults_of rack.old) (R.faults_of rack.new)) }
-    ensures sizes { (R.state rack.new).sizes ≡ (R.state rack.old).sizes }
-    ensures keeps_telling { R.tells rack.old → R.tells rack.new }
+    ensures rack { Counted R.Rack rack.old rack.new result DiskFails }
 {
     let Some(row) = known.devices.get(ask.device as usize) else {
         return Ok(None);
@@ -84,11 +79,7 @@ fn read_raw<R: Rack>(
     ensures long { IfOk result (λ bytes. length bytes ≡ 512 * count) }
     ensures stays { R.tells rack.old → R.state rack.new ≡ R.state rack.old }
     ensures any_moment { R.tells rack.old → LeavesOnly (R.moment rack.old) (R.moment rack.new) (R.left_since rack.old) (R.left_since rack.new) (IsImage (R.state rack.old)) }
-    ensures cause { IsErrOf result DiskFails → Rose (R.faults rack.old) (R.faults rack.new) }
-    ensures later { NoneFalls (R.faults rack.old) (R.faults rack.new) (R.faults_of rack.old) (R.faults_of rack.new) }
-    ensures no_fault { OnOk result (NoneRose (R.faults rack.old) (R.faults rack.new) (R.faults_of rack.old) (R.faults_of rack.new)) }
-    ensures sizes { (R.state rack.new).sizes ≡ (R.state rack.old).sizes }
-    ensures keeps_telling { R.tells rack.old → R.tells rack.new }
+    ensures rack { Counted R.Rack rack.old rack.new result DiskFails }
 {
     let size = 512 * count as usize;
     let mut bytes = vec![in alloc; 0; size].map_err(OutOfMemory::from)?;

@@ -1,9 +1,7 @@
 //! Runs on both members, and syncs of all members.
 
-ghost use Rattle.std.specs.Prelude.{◌≡◌, ℕ, ◌+◌, ◌*◌, ◌<◌, ◌≤◌, Bool, false, List, Contains, length, OnOk, OnErr, IsErrOf};
-ghost use Rattle.bx_base.specs.Faults.{Rose};
-ghost use Rattle.bx_disk.specs.declared.fault.RackError.TheVariants.{Fault};
-ghost use Rattle.bx_disk.specs.Counts.{NoneFalls, NoneRose};
+ghost use Rattle.bx_disk.specs.Kept.{Faults, Fails};
+ghost use Rattle.std.specs.Prelude.{◌≡◌, ℕ, ◌+◌, ◌*◌, ◌<◌, ◌≤◌, Bool, false, List, Contains, length, OnOk};
 ghost use Rattle.bx_calls.specs.Calls.{LeavesOnly};
 ghost use Rattle.bx_facts.specs.Disks.{SameDisks};
 ghost use Rattle.bx_facts.specs.Writes.{Sent, member_disk};
@@ -27,11 +25,7 @@ pub(crate) fn put_runs<R: Rack>(
     ensures keeps { (writes : List Sent) (greatest : ℕ) (write : Sent) → R.tells rack.old → IsAlone writes greatest write → write.runs ≡ runs.now → KeepsMembers writes greatest (R.state rack.old) (R.state rack.new) }
     ensures any_moment { (writes : List Sent) (greatest : ℕ) (write : Sent) → R.tells rack.old → IsAlone writes greatest write → write.runs ≡ runs.now → LeavesOnly (R.moment rack.old) (R.moment rack.new) (R.left_since rack.old) (R.left_since rack.new) (HasMembers writes greatest (R.state rack.old)) }
     ensures replicas { R.tells rack.old → KeepsReplicas (R.state rack.old) (R.state rack.new) }
-    ensures cause { IsErrOf result Fault → Rose (R.faults rack.old) (R.faults rack.new) }
-    ensures later { NoneFalls (R.faults rack.old) (R.faults rack.new) (R.faults_of rack.old) (R.faults_of rack.new) }
-    ensures no_fault { OnOk result (NoneRose (R.faults rack.old) (R.faults rack.new) (R.faults_of rack.old) (R.faults_of rack.new)) }
-    ensures sizes { (R.state rack.new).sizes ≡ (R.state rack.old).sizes }
-    ensures keeps_telling { R.tells rack.old → R.tells rack.new }
+    ensures rack { Fails R.Rack rack.old rack.new result }
 {
     for i in 0..runs.len() {
         let Some(run) = runs.get(i) else {
@@ -48,11 +42,7 @@ pub(crate) fn sync_members<R: Rack>(rack: &mut R, devices: u32) -> Result<(), Di
     ensures sure { (device sector : ℕ) (second : Bool) → R.tells rack.old → device < devices → OnOk result ((R.state rack.new).unsure (member_disk device second) sector ≡ false) }
     ensures keeps { R.tells rack.old → SameDisks (R.state rack.old) (R.state rack.new) }
     ensures any_moment { (writes : List Sent) (greatest : ℕ) → R.tells rack.old → LeavesOnly (R.moment rack.old) (R.moment rack.new) (R.left_since rack.old) (R.left_since rack.new) (HasMembers writes greatest (R.state rack.old)) }
-    ensures cause { OnErr result (Rose (R.faults rack.old) (R.faults rack.new)) }
-    ensures later { NoneFalls (R.faults rack.old) (R.faults rack.new) (R.faults_of rack.old) (R.faults_of rack.new) }
-    ensures no_fault { OnOk result (NoneRose (R.faults rack.old) (R.faults rack.new) (R.faults_of rack.old) (R.faults_of rack.new)) }
-    ensures sizes { (R.state rack.new).sizes ≡ (R.state rack.old).sizes }
-    ensures keeps_telling { R.tells rack.old → R.tells rack.new }
+    ensures rack { Faults R.Rack rack.old rack.new result }
 {
     for device in 0..devices {
         sync_both(rack, device)?;

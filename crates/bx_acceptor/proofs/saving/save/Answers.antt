@@ -80,7 +80,7 @@ returns-in-Ok-clause-disks g c =
 
 pub returns-in-Ok-clause-counts : goal.returns-in-Ok-clause-counts
 returns-in-Ok-clause-counts g c =
-    record { sizes_are = c.in-Ok.ensures.sizes; later = c.in-Ok.ensures.later }
+    record { sizes_are = c.in-Ok.ensures.rack.sizes; later = c.in-Ok.ensures.rack.later }
 
 pub returns-in-Err-OutOfMemory-clause-any_moment : goal.returns-in-Err-OutOfMemory-clause-any_moment
 returns-in-Err-OutOfMemory-clause-any_moment g c =
@@ -96,4 +96,4 @@ returns-in-Err-OutOfMemory-clause-disks g c =
 
 pub returns-in-Err-OutOfMemory-clause-counts : goal.returns-in-Err-OutOfMemory-clause-counts
 returns-in-Err-OutOfMemory-clause-counts g c =
-    record { sizes_are = c.in-Err-OutOfMemory.ensures.sizes; later = c.in-Err-OutOfMemory.ensures.later }
+    record { sizes_are = c.in-Err-OutOfMemory.ensures.rack.sizes; later = c.in-Err-OutOfMemory.ensures.rack.later }

@@ -17,8 +17,5 @@ returns-clause-sure g c = λ tells. is_synced _ _ _ (c.in_ok-sync.ensures.synced
 pub returns-clause-keeps : goal.returns-clause-keeps
 returns-clause-keeps g c = λ tells. keeps_synced _ _ _ (c.in_ok-sync.ensures.synced tells)
 
-pub returns-clause-no_fault : goal.returns-clause-no_fault
-returns-clause-no_fault g c = c.in_ok-sync.ensures.no_fault
-
 pub returns-in_err-sync-clause-stays : goal.returns-in_err-sync-clause-stays
 returns-in_err-sync-clause-stays g c = search rules

@@ -1,4 +1,4 @@
-use Rattle.std.proofs.Common.{◌≡◌, ◌+◌, ◌*◌, ◌/◌, length, take, refl, arith, ◌∙◌}
+use Rattle.std.proofs.Common.{◌≡◌, ◌+◌, ◌*◌, ◌/◌, length, take, refl, arith}
 use Rattle.bx_calls.specs.Regions.{IsInside}
 use Rattle.bx_calls.specs.Laws.{zero_more, keeps_part, leaves_part, may_part, inside_by, blank_front, front_count}
 use Rattle.bx_calls.proofs.zero.zero_pieces.Goals as goal
@@ -20,22 +20,16 @@ loop-done-preserved g c =
     record {
       over = omega arith;
       zero = λ tells.
-          let told = c.loop-done.invariant.tells tells in
+          let told = c.loop-done.invariant.rack.keeps_telling tells in
           zero_more _ _ _ _ _ _ (c.loop-done.invariant.zero tells) (rw count at (c.write_zeros.ensures.keeps told)) (rw count at (c.in_ok-write_zeros.ensures.zero told));
       keeps = λ tells.
-          let told = c.loop-done.invariant.tells tells in
+          let told = c.loop-done.invariant.rack.keeps_telling tells in
           keeps_part _ _ _ _ _ _ _ _ _ (c.loop-done.invariant.keeps tells) (rw count at (c.write_zeros.ensures.keeps told)) inside;
       any_moment = λ tells.
-          let told = c.loop-done.invariant.tells tells in
+          let told = c.loop-done.invariant.rack.keeps_telling tells in
           leaves_part _ _ _ _ _ _ _ _ _ _ _ _ _ _ (c.loop-done.invariant.any_moment tells) (c.loop-done.invariant.keeps tells) (rw count at (c.write_zeros.ensures.any_moment told)) inside;
       torn = λ tells.
-          let told = c.loop-done.invariant.tells tells in
+          let told = c.loop-done.invariant.rack.keeps_telling tells in
           may_part _ _ _ _ _ _ _ _ _ (c.loop-done.invariant.torn tells) (rw count at (c.write_zeros.ensures.torn told)) inside;
-      later = grind arith;
-      no_fault =
-          let before = c.loop-done.invariant.no_fault in
-          let piece_too = c.in_ok-write_zeros.ensures.no_fault in
-          record { all = piece_too.all ∙ before.all; each = λ d. piece_too.each d ∙ before.each d };
-      sizes = grind arith;
-      tells = λ tells. c.write_zeros.ensures.keeps_telling (c.loop-done.invariant.tells tells);
+      rack = grind arith;
     }

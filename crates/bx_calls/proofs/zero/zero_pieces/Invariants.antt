@@ -1,6 +1,6 @@
-use Rattle.std.proofs.Common.{◌≡◌, ◌≤◌, ◌-◌}
+use Rattle.std.proofs.Common.{◌≤◌, ◌-◌, Ok}
 use Rattle.bx_disk.specs.Disks.{MayBeWritten}
-use Rattle.bx_disk.specs.Counts.{NoneFalls, NoneRose}
+use Rattle.bx_disk.specs.Kept.{FailsOn}
 use Rattle.bx_calls.specs.Regions.{IsZero}
 use Rattle.bx_calls.specs.Calls.{KeepsSure, HasSure, LeavesOnly}
 use Rattle.bx_calls.proofs.zero.zero_pieces.Given as goal
@@ -12,10 +12,7 @@ invariant-loop-done g l = record {
   keeps : g.R.Rack.tells l.fn.rack → KeepsSure (g.R.Rack.state l.fn.rack) (g.R.Rack.state l.rack) l.disk l.sector l.count;
   any_moment : g.R.Rack.tells l.fn.rack → LeavesOnly (g.R.Rack.moment l.fn.rack) (g.R.Rack.moment l.rack) (g.R.Rack.left_since l.fn.rack) (g.R.Rack.left_since l.rack) (HasSure (g.R.Rack.state l.fn.rack) l.disk l.sector l.count);
   torn : g.R.Rack.tells l.fn.rack → MayBeWritten (g.R.Rack.state l.fn.rack) (g.R.Rack.state l.rack) l.disk l.sector l.count;
-  later : NoneFalls (g.R.Rack.faults l.fn.rack) (g.R.Rack.faults l.rack) (g.R.Rack.faults_of l.fn.rack) (g.R.Rack.faults_of l.rack);
-  no_fault : NoneRose (g.R.Rack.faults l.fn.rack) (g.R.Rack.faults l.rack) (g.R.Rack.faults_of l.fn.rack) (g.R.Rack.faults_of l.rack);
-  sizes : (g.R.Rack.state l.rack).sizes ≡ (g.R.Rack.state l.fn.rack).sizes;
-  tells : g.R.Rack.tells l.fn.rack → g.R.Rack.tells l.rack;
+  rack : FailsOn {A = Unit {0}} g.R.Rack l.fn.rack l.rack l.disk (Ok tt);
 }
 
 abbrev pub decreases-loop-done : goal.decreases-loop-done

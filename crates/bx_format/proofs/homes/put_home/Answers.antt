@@ -5,12 +5,12 @@ use Rattle.bx_format.proofs.homes.put_home.Goals as goal
 
 pub write_some-requires-2-clause-range : goal.write_some-requires-2-clause-range
 write_some-requires-2-clause-range g c =
-    room _ _ c.args.devices c.args.areas c.args.at _ _ c.write_some.ensures.sizes c.requires.sizes c.requires.volume c.requires.there c.place-device.ensures
+    room _ _ c.args.devices c.args.areas c.args.at _ _ c.write_some.ensures.rack.sizes c.requires.sizes c.requires.volume c.requires.there c.place-device.ensures
     (ap (λ (l : _). length l / 512) c.write.ensures ∙ length-block_text c.args.block.now c.requires.parts)
 
 pub returns-clause-puts : goal.returns-clause-puts
 returns-clause-puts g c = λ truth tells holds.
-    let told = c.write_some.ensures.keeps_telling tells in
+    let told = c.write_some.ensures.rack.keeps_telling tells in
     holds_more (g.R.Rack.state c.args.rack.now) (g.R.Rack.state c.write_some-2.new.rack) c.args.devices c.args.areas c.args.at c.args.block.now truth c.requires.volume c.requires.there c.requires.parts
     (writes_at _ _ _ _ _ c.args.block.now _ _ c.requires.parts c.place-device.ensures c.write.ensures (c.write_some.ensures.keeps tells) (c.write_some-2.ensures.keeps told))
     (reads_at _ _ _ _ c.args.block.now _ _ c.place-device.ensures c.write.ensures (c.in_ok-write_some.ensures.written tells) (c.write_some-2.ensures.keeps told) (c.in_ok-write_some-2.ensures.written told)) holds

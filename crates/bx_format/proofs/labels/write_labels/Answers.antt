@@ -23,6 +23,6 @@ loop-disk-preserved g c =
       sector = long;
       later = grind arith;
       no_fault = record { all = this.all ∙ before.all; each = λ d. this.each d ∙ before.each d };
-      sizes = c.write_some.ensures.sizes ∙ c.loop-disk.invariant.sizes;
-      tells = λ tells. c.write_some.ensures.keeps_telling (c.loop-disk.invariant.tells tells);
+      sizes = c.write_some.ensures.rack.sizes ∙ c.loop-disk.invariant.sizes;
+      tells = λ tells. c.write_some.ensures.rack.keeps_telling (c.loop-disk.invariant.tells tells);
     }

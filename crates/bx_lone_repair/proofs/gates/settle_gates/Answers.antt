@@ -35,7 +35,7 @@ write_through-requires-clause-fit g c = λ run there.
       first = (let room = c.requires.first in omega (arith, long, room));
       second = (let room = c.requires.second in omega (arith, long, room));
     } in
-    subst (IsFitting 1 (g.R.Rack.state c.read_sectors.new.rack).sizes) same (subst (λ (sizes : List ℕ). IsFitting 1 sizes gates) (sym c.read_sectors.ensures.sizes) fits)
+    subst (IsFitting 1 (g.R.Rack.state c.read_sectors.new.rack).sizes) same (subst (λ (sizes : List ℕ). IsFitting 1 sizes gates) (sym c.read_sectors.ensures.rack.sizes) fits)
 
 pub write_through-requires-clause-once : goal.write_through-requires-clause-once
 write_through-requires-clause-once g c = λ device sector content other one two.
@@ -59,9 +59,9 @@ returns-in_err-write_through-clause-left g c = λ volume floor tree doubt tells 
     let mid : Disks = g.R.Rack.state c.read_sectors.new.rack in
     let z : Disks = g.R.Rack.state c.write_through.new.rack in
     let runs = c.in_ok-runs.runs in
-    let told = c.read_sectors.ensures.keeps_telling tells in
+    let told = c.read_sectors.ensures.rack.keeps_telling tells in
     let there = subst (λ (y : Disks). IsLabelled y volume) (sym c.read_sectors.ensures.stays) left.labelled in
-    let labelled = labelled_kept mid z volume runs there c.write_through.ensures.sizes (c.write_through.ensures.members told) (behind_label c.read_sectors.new.into runs c.in_ok-runs.ensures) in
+    let labelled = labelled_kept mid z volume runs there c.write_through.ensures.rack.sizes (c.write_through.ensures.members told) (behind_label c.read_sectors.new.into runs c.in_ok-runs.ensures) in
     still_left x z volume floor tree doubt c.read_sectors.new.into runs (omega arith) (c.in_ok-read_sectors.ensures.bytes tells) c.in_ok-runs.ensures
     (λ d s content only was. c.write_through.ensures.keeps (opening_state 1 1) d s content told only (subst (λ (y : Disks). IsSettled y (opening_state 1 1) d s content) (sym c.read_sectors.ensures.stays) was))
     labelled left
@@ -72,9 +72,9 @@ returns-clause-left g c = λ volume floor tree doubt tells left.
     let mid : Disks = g.R.Rack.state c.read_sectors.new.rack in
     let z : Disks = g.R.Rack.state c.write_through.new.rack in
     let runs = c.in_ok-runs.runs in
-    let told = c.read_sectors.ensures.keeps_telling tells in
+    let told = c.read_sectors.ensures.rack.keeps_telling tells in
     let there = subst (λ (y : Disks). IsLabelled y volume) (sym c.read_sectors.ensures.stays) left.labelled in
-    let labelled = labelled_kept mid z volume runs there c.write_through.ensures.sizes (c.write_through.ensures.members told) (behind_label c.read_sectors.new.into runs c.in_ok-runs.ensures) in
+    let labelled = labelled_kept mid z volume runs there c.write_through.ensures.rack.sizes (c.write_through.ensures.members told) (behind_label c.read_sectors.new.into runs c.in_ok-runs.ensures) in
     still_left x z volume floor tree doubt c.read_sectors.new.into runs (omega arith) (c.in_ok-read_sectors.ensures.bytes tells) c.in_ok-runs.ensures
     (λ d s content only was. c.write_through.ensures.keeps (opening_state 1 1) d s content told only (subst (λ (y : Disks). IsSettled y (opening_state 1 1) d s content) (sym c.read_sectors.ensures.stays) was))
     labelled left
@@ -85,9 +85,9 @@ returns-clause-comes g c = λ volume floor tree doubt tells left.
     let mid : Disks = g.R.Rack.state c.read_sectors.new.rack in
     let z : Disks = g.R.Rack.state c.write_through.new.rack in
     let runs = c.in_ok-runs.runs in
-    let told = c.read_sectors.ensures.keeps_telling tells in
+    let told = c.read_sectors.ensures.rack.keeps_telling tells in
     let there = subst (λ (y : Disks). IsLabelled y volume) (sym c.read_sectors.ensures.stays) left.labelled in
-    let labelled = labelled_kept mid z volume runs there c.write_through.ensures.sizes (c.write_through.ensures.members told) (behind_label c.read_sectors.new.into runs c.in_ok-runs.ensures) in
+    let labelled = labelled_kept mid z volume runs there c.write_through.ensures.rack.sizes (c.write_through.ensures.members told) (behind_label c.read_sectors.new.into runs c.in_ok-runs.ensures) in
     then_comes x z volume floor tree doubt c.read_sectors.new.into runs (omega arith) (c.in_ok-read_sectors.ensures.bytes tells) c.in_ok-runs.ensures
     (λ d s content only was. c.write_through.ensures.keeps (opening_state 1 1) d s content told only (subst (λ (y : Disks). IsSettled y (opening_state 1 1) d s content) (sym c.read_sectors.ensures.stays) was))
     labelled left (c.in_ok-write_through.ensures.done (opening_state 1 1) told refl)
@@ -98,7 +98,7 @@ returns-clause-settles g c = λ state areas before logs truth more log tells man
     let x : Disks = g.R.Rack.state c.args.rack.now in
     let mid : Disks = g.R.Rack.state c.read_sectors.new.rack in
     let z : Disks = g.R.Rack.state c.write_through.new.rack in
-    let told = c.read_sectors.ensures.keeps_telling tells in
+    let told = c.read_sectors.ensures.rack.keeps_telling tells in
     let long : length bytes ≡ 4096 = omega arith in
     let run : Run = record { device = 0; place = 1; bytes = bytes } in
     let mine : run ≡ gates_run log bytes = λ i. record { device = sym device i; place = log_start (sym slot i); bytes = bytes } in

@@ -17,7 +17,7 @@ answer_one-requires g c = record {
       let less : c.loop-i.i < length c.loop-i.inquiries.items = omega (arith, c.loop-i-test.true, c.len-i-end.ensures, inv.long) in
       let got = at_got c.loop-i.inquiries.items c.loop-i.i c.index_mut.result.now less c.index_mut.ensures.value in
       let before = got ∙ inv.rest c.loop-i.i (omega arith) in
-      subst (λ (sizes : List ℕ). IsReadable sizes inquiry.ask) (sym inv.sizes) (c.requires.fit c.loop-i.i inquiry (sym before ∙ here));
+      subst (λ (sizes : List ℕ). IsReadable sizes inquiry.ask) (sym inv.rack.sizes) (c.requires.fit c.loop-i.i inquiry (sym before ∙ here));
 }
 
 pub returns-in_err-answer_one-clause-answered : goal.returns-in_err-answer_one-clause-answered
@@ -28,7 +28,7 @@ returns-in_err-answer_one-clause-answered g c = λ node tells.
     let before = got ∙ inv.rest c.loop-i.i (omega arith) in
     let x : Disks = g.R.Rack.state c.args.rack.now in
     let P : ℕ → Option Inquiry → Type 0 = λ n slot. IsAnswered x c.args.known.now (at c.args.inquiries.now.items n) slot in
-    let here = answered_then x c.args.known.now _ c.index_mut.result.now c.answer_one.new.slot (sym before) (subst (λ (y : Disks). IsAnswered y c.args.known.now c.index_mut.result.now c.answer_one.new.slot) (inv.stays tells) (c.answer_one.ensures.answered (inv.tells tells))) in
+    let here = answered_then x c.args.known.now _ c.index_mut.result.now c.answer_one.new.slot (sym before) (subst (λ (y : Disks). IsAnswered y c.args.known.now c.index_mut.result.now c.answer_one.new.slot) (inv.stays tells) (c.answer_one.ensures.answered (inv.rack.keeps_telling tells))) in
     set_each P c.loop-i.inquiries.items c.loop-i.i c.answer_one.new.slot less here (λ n other. inv.each n tells) node
 
 pub returns-in_err-answer_one-clause-asks : goal.returns-in_err-answer_one-clause-asks
@@ -52,7 +52,7 @@ loop-i-preserved g c =
       long = length-set c.loop-i.inquiries.items c.loop-i.i c.answer_one.new.slot ∙ inv.long;
       each = λ node tells.
           let P : ℕ → Option Inquiry → Type 0 = λ n slot. IsAnswered x c.args.known.now (at c.args.inquiries.now.items n) slot in
-          let here = answered_then x c.args.known.now _ c.index_mut.result.now c.answer_one.new.slot (sym before) (subst (λ (y : Disks). IsAnswered y c.args.known.now c.index_mut.result.now c.answer_one.new.slot) (inv.stays tells) (c.answer_one.ensures.answered (inv.tells tells))) in
+          let here = answered_then x c.args.known.now _ c.index_mut.result.now c.answer_one.new.slot (sym before) (subst (λ (y : Disks). IsAnswered y c.args.known.now c.index_mut.result.now c.answer_one.new.slot) (inv.stays tells) (c.answer_one.ensures.answered (inv.rack.keeps_telling tells))) in
           set_each P c.loop-i.inquiries.items c.loop-i.i c.answer_one.new.slot less here (λ n other. inv.each n tells) node;
       asks = λ node.
           let P : ℕ → Option Inquiry → Type 0 = λ n slot. asked_in slot ≡ asked_at c.args.inquiries.now.items n in
@@ -63,15 +63,12 @@ loop-i-preserved g c =
           (λ low here. c.in_ok-answer_one.ensures.there asks (ap asked_in before ∙ here) within)
           (λ n other low here. inv.there n asks (omega (arith, low, other)) here within)
           node below asked;
-      stays = λ tells. c.answer_one.ensures.stays (inv.tells tells) ∙ inv.stays tells;
+      stays = λ tells. c.answer_one.ensures.stays (inv.rack.keeps_telling tells) ∙ inv.stays tells;
       any_moment = λ tells.
           leaves_then _ _ _ _ _ _ (IsImage x) (IsImage x) (inv.any_moment tells)
-          (subst (λ (y : Disks). LeavesOnly (g.R.Rack.moment c.loop-i.rack) (g.R.Rack.moment c.answer_one.new.rack) (g.R.Rack.left_since c.loop-i.rack) (g.R.Rack.left_since c.answer_one.new.rack) (IsImage y)) (inv.stays tells) (c.answer_one.ensures.any_moment (inv.tells tells)))
+          (subst (λ (y : Disks). LeavesOnly (g.R.Rack.moment c.loop-i.rack) (g.R.Rack.moment c.answer_one.new.rack) (g.R.Rack.left_since c.loop-i.rack) (g.R.Rack.left_since c.answer_one.new.rack) (IsImage y)) (inv.stays tells) (c.answer_one.ensures.any_moment (inv.rack.keeps_telling tells)))
           (λ image is. is);
-      later = grind arith;
-      no_fault = grind arith;
-      sizes = grind arith;
-      tells = λ tells. c.answer_one.ensures.keeps_telling (inv.tells tells);
+      rack = grind arith;
     }
 
 pub returns-clause-there : goal.returns-clause-there

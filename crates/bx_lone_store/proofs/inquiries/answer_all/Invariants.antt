@@ -1,5 +1,6 @@
-use Rattle.std.proofs.Common.{◌≡◌, ℕ, ◌<◌, ◌≤◌, length, Some, IsSome}
-use Rattle.bx_disk.specs.Counts.{NoneFalls, NoneRose}
+use Rattle.std.proofs.Common.{◌≡◌, ℕ, ◌<◌, ◌≤◌, length, Some, IsSome, Ok}
+use Rattle.bx_disk.specs.Kept.{Counted}
+use Rattle.bx_facts.specs.declared.input.FactError.TheVariants.{Disk as DiskFails}
 use Rattle.bx_disk.specs.Disks.{IsImage}
 use Rattle.bx_calls.specs.Calls.{LeavesOnly}
 use Rattle.bx_facts.specs.Writes.{Asked}
@@ -16,8 +17,5 @@ invariant-loop-i g l = record {
   there : (node : ℕ) (asks : Asked) → node < l.i → asked_at l.fn.inquiries.items node ≡ Some asks → asks.device < length l.known.devices → IsSome (answer_at l.inquiries.items node);
   stays : g.R.Rack.tells l.fn.rack → g.R.Rack.state l.rack ≡ g.R.Rack.state l.fn.rack;
   any_moment : g.R.Rack.tells l.fn.rack → LeavesOnly (g.R.Rack.moment l.fn.rack) (g.R.Rack.moment l.rack) (g.R.Rack.left_since l.fn.rack) (g.R.Rack.left_since l.rack) (IsImage (g.R.Rack.state l.fn.rack));
-  later : NoneFalls (g.R.Rack.faults l.fn.rack) (g.R.Rack.faults l.rack) (g.R.Rack.faults_of l.fn.rack) (g.R.Rack.faults_of l.rack);
-  no_fault : NoneRose (g.R.Rack.faults l.fn.rack) (g.R.Rack.faults l.rack) (g.R.Rack.faults_of l.fn.rack) (g.R.Rack.faults_of l.rack);
-  sizes : (g.R.Rack.state l.rack).sizes ≡ (g.R.Rack.state l.fn.rack).sizes;
-  tells : g.R.Rack.tells l.fn.rack → g.R.Rack.tells l.rack;
+  rack : Counted {A = Unit {0}} g.R.Rack l.fn.rack l.rack (Ok tt) DiskFails;
 }

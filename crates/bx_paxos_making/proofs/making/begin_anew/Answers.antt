@@ -20,7 +20,7 @@ pub returns-clause-cells : goal.returns-clause-cells
 returns-clause-cells r c = λ tells.
     let made = c.args.state.now in
     let same : c.bytes.result.now ≡ held_text (first_held made) = c.bytes.ensures ∙ c.in_ok-value.ensures in
-    let told = c.format_each.ensures.keeps_telling tells in
+    let told = c.format_each.ensures.rack.keeps_telling tells in
     let calm = c.begin_all.ensures.calm told in
     let written = c.in_ok-format_each.ensures.holds tells in
     any_ok c.begin_all.result _ (record {
@@ -30,14 +30,14 @@ returns-clause-cells r c = λ tells.
     })
 
 pub begin_all-requires-clause-room : goal.begin_all-requires-clause-room
-begin_all-requires-clause-room r c = subst (λ (sizes : List ℕ). (n : ℕ) → n < 3 → 21 ≤ slice_index sizes n) (sym c.format_each.ensures.sizes) c.requires.room
+begin_all-requires-clause-room r c = subst (λ (sizes : List ℕ). (n : ℕ) → n < 3 → 21 ≤ slice_index sizes n) (sym c.format_each.ensures.rack.sizes) c.requires.room
 
 pub returns-clause-begun : goal.returns-clause-begun
 returns-clause-begun r c = λ tells.
     let made = c.args.state.now in
     let same : c.bytes.result.now ≡ held_text (first_held made) = c.bytes.ensures ∙ c.in_ok-value.ensures in
     let formatted = c.in_ok-format_each.ensures.formatted tells in
-    c.begin_all.ensures.begun (c.format_each.ensures.keeps_telling tells) (record {
+    c.begin_all.ensures.begun (c.format_each.ensures.rack.keeps_telling tells) (record {
       each = λ n low. subst (λ (bytes : List ℕ). cell_in ((r.R.Rack.state c.format_each.new.rack).reads n) 1 ≡ Some (first bytes)) same (formatted.cell n low);
     })
 
@@ -63,26 +63,26 @@ returns-clause-members r c = λ tells.
     let y = r.R.Rack.state c.format_each.new.rack in
     let z = r.R.Rack.state c.begin_all.new.rack in
     let keeps = c.format_each.ensures.keeps tells in
-    let calm = c.begin_all.ensures.calm (c.format_each.ensures.keeps_telling tells) in
+    let calm = c.begin_all.ensures.calm (c.format_each.ensures.rack.keeps_telling tells) in
     (calm_members x y z (beside_members x y keeps) calm, calm_labels x y z (beside_labels x y keeps) calm)
 
 pub returns-clause-cause : goal.returns-clause-cause
-returns-clause-cause r c = λ fault. rose_on c.format_each.ensures.later.all (c.begin_all.ensures.cause fault)
+returns-clause-cause r c = λ fault. rose_on c.format_each.ensures.rack.later.all (c.begin_all.ensures.cause fault)
 
 pub returns-clause-later : goal.returns-clause-later
-returns-clause-later r c = none_twice c.format_each.ensures.later c.begin_all.ensures.later
+returns-clause-later r c = none_twice c.format_each.ensures.rack.later c.begin_all.ensures.later
 
 pub returns-clause-sizes : goal.returns-clause-sizes
-returns-clause-sizes r c = c.begin_all.ensures.sizes ∙ c.format_each.ensures.sizes
+returns-clause-sizes r c = c.begin_all.ensures.sizes ∙ c.format_each.ensures.rack.sizes
 
 pub returns-clause-keeps_telling : goal.returns-clause-keeps_telling
-returns-clause-keeps_telling r c = λ tells. c.begin_all.ensures.keeps_telling (c.format_each.ensures.keeps_telling tells)
+returns-clause-keeps_telling r c = λ tells. c.begin_all.ensures.keeps_telling (c.format_each.ensures.rack.keeps_telling tells)
 
 pub returns-in_err-format_each-clause-later : goal.returns-in_err-format_each-clause-later
-returns-in_err-format_each-clause-later r c = c.format_each.ensures.later
+returns-in_err-format_each-clause-later r c = c.format_each.ensures.rack.later
 
 pub returns-in_err-format_each-clause-sizes : goal.returns-in_err-format_each-clause-sizes
-returns-in_err-format_each-clause-sizes r c = c.format_each.ensures.sizes
+returns-in_err-format_each-clause-sizes r c = c.format_each.ensures.rack.sizes
 
 pub returns-in_err-format_each-clause-keeps_telling : goal.returns-in_err-format_each-clause-keeps_telling
-returns-in_err-format_each-clause-keeps_telling r c = c.format_each.ensures.keeps_telling
+returns-in_err-format_each-clause-keeps_telling r c = c.format_each.ensures.rack.keeps_telling

@@ -16,14 +16,14 @@ pub returns-in_err-write_through-clause-keeps : goal.returns-in_err-write_throug
 returns-in_err-write_through-clause-keeps g c = λ made s tells labels.
     let x : Disks = g.R.Rack.state c.args.rack.now in
     let y : Disks = g.R.Rack.state c.write_through.new.rack in
-    let told = c.read_sectors.ensures.keeps_telling tells in
+    let told = c.read_sectors.ensures.rack.keeps_telling tells in
     let without = no_label x c.args.disk c.read_sectors.new.into (omega arith) (c.in_ok-read_sectors.ensures.bytes tells) c.in_default.ensures.none in
     keeps_written made s x y c.args.disk _ c.requires.member labels without (subst (λ (z : Disks). KeepsSure z y c.args.disk 0 (length c.write.new.into / 512)) c.read_sectors.ensures.stays (c.write_through.ensures.keeps told))
 
 pub returns-in_err-write_through-clause-any_moment : goal.returns-in_err-write_through-clause-any_moment
 returns-in_err-write_through-clause-any_moment g c = λ made s tells labels.
     let x : Disks = g.R.Rack.state c.args.rack.now in
-    let told = c.read_sectors.ensures.keeps_telling tells in
+    let told = c.read_sectors.ensures.rack.keeps_telling tells in
     let without = no_label x c.args.disk c.read_sectors.new.into (omega arith) (c.in_ok-read_sectors.ensures.bytes tells) c.in_default.ensures.none in
     leaves_next _ _ _ _ _ _ s x x (leaves_image _ _ _ _ s x (c.read_sectors.ensures.any_moment tells)) (same_state s x x refl)
     (leaves_written _ _ _ _ made s x c.args.disk _ c.requires.member labels without
@@ -31,12 +31,12 @@ returns-in_err-write_through-clause-any_moment g c = λ made s tells labels.
 
 pub returns-in_err-write_through-clause-replicas : goal.returns-in_err-write_through-clause-replicas
 returns-in_err-write_through-clause-replicas g c = λ tells.
-    let told = c.read_sectors.ensures.keeps_telling tells in
+    let told = c.read_sectors.ensures.rack.keeps_telling tells in
     replicas_then _ _ _ (replicas_state _ _ c.read_sectors.ensures.stays) (replicas_sure _ _ c.args.disk 0 _ c.requires.member (c.write_through.ensures.keeps told))
 
 pub returns-clause-label : goal.returns-clause-label
 returns-clause-label g c = λ tells none.
-    let told = c.read_sectors.ensures.keeps_telling tells in
+    let told = c.read_sectors.ensures.rack.keeps_telling tells in
     let y : Disks = g.R.Rack.state c.write_through.new.rack in
     record { is = c.requires.label; parts = first_sector y.reads c.args.disk 0 c.write.new.into (omega arith) (c.in_ok-write_through.ensures.written told) ∙ c.write.ensures }
 
@@ -50,14 +50,14 @@ pub returns-clause-keeps : goal.returns-clause-keeps
 returns-clause-keeps g c = λ made s tells labels.
     let x : Disks = g.R.Rack.state c.args.rack.now in
     let y : Disks = g.R.Rack.state c.write_through.new.rack in
-    let told = c.read_sectors.ensures.keeps_telling tells in
+    let told = c.read_sectors.ensures.rack.keeps_telling tells in
     let without = no_label x c.args.disk c.read_sectors.new.into (omega arith) (c.in_ok-read_sectors.ensures.bytes tells) c.in_default.ensures.none in
     keeps_written made s x y c.args.disk _ c.requires.member labels without (subst (λ (z : Disks). KeepsSure z y c.args.disk 0 (length c.write.new.into / 512)) c.read_sectors.ensures.stays (c.write_through.ensures.keeps told))
 
 pub returns-clause-any_moment : goal.returns-clause-any_moment
 returns-clause-any_moment g c = λ made s tells labels.
     let x : Disks = g.R.Rack.state c.args.rack.now in
-    let told = c.read_sectors.ensures.keeps_telling tells in
+    let told = c.read_sectors.ensures.rack.keeps_telling tells in
     let without = no_label x c.args.disk c.read_sectors.new.into (omega arith) (c.in_ok-read_sectors.ensures.bytes tells) c.in_default.ensures.none in
     leaves_next _ _ _ _ _ _ s x x (leaves_image _ _ _ _ s x (c.read_sectors.ensures.any_moment tells)) (same_state s x x refl)
     (leaves_written _ _ _ _ made s x c.args.disk _ c.requires.member labels without
@@ -65,5 +65,5 @@ returns-clause-any_moment g c = λ made s tells labels.
 
 pub returns-clause-replicas : goal.returns-clause-replicas
 returns-clause-replicas g c = λ tells.
-    let told = c.read_sectors.ensures.keeps_telling tells in
+    let told = c.read_sectors.ensures.rack.keeps_telling tells in
     replicas_then _ _ _ (replicas_state _ _ c.read_sectors.ensures.stays) (replicas_sure _ _ c.args.disk 0 _ c.requires.member (c.write_through.ensures.keeps told))

@@ -5,28 +5,28 @@ use Rattle.bx_plain_store.proofs.Standing.{is_taken, none_past, there_at, writte
 use Rattle.bx_plain_store.proofs.runs.put_runs.Goals as goal
 
 pub put_both-requires-clause-disk : goal.put_both-requires-clause-disk
-put_both-requires-clause-disk g c = let fit = c.requires.fit c.in-Some.run'.now (there_at c.args.runs.now c.loop-i.i c.in-Some.run'.now (sym c.in-Some.ensures)) in rw c.loop-i.invariant.sizes fit.disk
+put_both-requires-clause-disk g c = let fit = c.requires.fit c.in-Some.run'.now (there_at c.args.runs.now c.loop-i.i c.in-Some.run'.now (sym c.in-Some.ensures)) in rw c.loop-i.invariant.rack.sizes fit.disk
 
 pub put_both-requires-clause-whole : goal.put_both-requires-clause-whole
 put_both-requires-clause-whole g c = let fit = c.requires.fit c.in-Some.run'.now (there_at c.args.runs.now c.loop-i.i c.in-Some.run'.now (sym c.in-Some.ensures)) in fit.whole
 
 pub put_both-requires-clause-first : goal.put_both-requires-clause-first
-put_both-requires-clause-first g c = let fit = c.requires.fit c.in-Some.run'.now (there_at c.args.runs.now c.loop-i.i c.in-Some.run'.now (sym c.in-Some.ensures)) in rw c.loop-i.invariant.sizes fit.first
+put_both-requires-clause-first g c = let fit = c.requires.fit c.in-Some.run'.now (there_at c.args.runs.now c.loop-i.i c.in-Some.run'.now (sym c.in-Some.ensures)) in rw c.loop-i.invariant.rack.sizes fit.first
 
 pub put_both-requires-clause-second : goal.put_both-requires-clause-second
-put_both-requires-clause-second g c = let fit = c.requires.fit c.in-Some.run'.now (there_at c.args.runs.now c.loop-i.i c.in-Some.run'.now (sym c.in-Some.ensures)) in rw c.loop-i.invariant.sizes fit.second
+put_both-requires-clause-second g c = let fit = c.requires.fit c.in-Some.run'.now (there_at c.args.runs.now c.loop-i.i c.in-Some.run'.now (sym c.in-Some.ensures)) in rw c.loop-i.invariant.rack.sizes fit.second
 
 pub returns-in_err-put_both-clause-keeps : goal.returns-in_err-put_both-clause-keeps
 returns-in_err-put_both-clause-keeps g c = λ writes greatest write tells alone same.
     let inv = c.loop-i.invariant in
     let taken = is_taken writes greatest write c.args.runs.now c.loop-i.i c.in-Some.run'.now alone same (sym c.in-Some.ensures) in
-    keeps_then _ _ _ _ _ (inv.keeps writes greatest write tells alone same) (c.put_both.ensures.keeps writes greatest (inv.tells tells) taken)
+    keeps_then _ _ _ _ _ (inv.keeps writes greatest write tells alone same) (c.put_both.ensures.keeps writes greatest (inv.rack.keeps_telling tells) taken)
 
 pub returns-in_err-put_both-clause-any_moment : goal.returns-in_err-put_both-clause-any_moment
 returns-in_err-put_both-clause-any_moment g c = λ writes greatest write tells alone same.
     let inv = c.loop-i.invariant in
     let taken = is_taken writes greatest write c.args.runs.now c.loop-i.i c.in-Some.run'.now alone same (sym c.in-Some.ensures) in
-    leaves_next _ _ _ _ _ _ _ _ _ _ (inv.any_moment writes greatest write tells alone same) (inv.keeps writes greatest write tells alone same) (c.put_both.ensures.any_moment writes greatest (inv.tells tells) taken)
+    leaves_next _ _ _ _ _ _ _ _ _ _ (inv.any_moment writes greatest write tells alone same) (inv.keeps writes greatest write tells alone same) (c.put_both.ensures.any_moment writes greatest (inv.rack.keeps_telling tells) taken)
 
 pub loop-i-preserved : goal.loop-i-preserved
 loop-i-preserved g c =
@@ -36,20 +36,17 @@ loop-i-preserved g c =
       written = λ writes greatest write tells alone same.
           let taken = is_taken writes greatest write c.args.runs.now c.loop-i.i c.in-Some.run'.now alone same at in
           written_more writes greatest write c.args.runs.now c.loop-i.i c.in-Some.run'.now (g.R.Rack.state c.loop-i.rack) (g.R.Rack.state c.put_both.new.rack) alone same at
-          (c.put_both.ensures.keeps writes greatest (inv.tells tells) taken)
-          (λ second. c.in_ok-put_both.ensures.written second (inv.tells tells))
+          (c.put_both.ensures.keeps writes greatest (inv.rack.keeps_telling tells) taken)
+          (λ second. c.in_ok-put_both.ensures.written second (inv.rack.keeps_telling tells))
           (inv.written writes greatest write tells alone same);
       keeps = λ writes greatest write tells alone same.
           let taken = is_taken writes greatest write c.args.runs.now c.loop-i.i c.in-Some.run'.now alone same at in
-          keeps_then _ _ _ _ _ (inv.keeps writes greatest write tells alone same) (c.put_both.ensures.keeps writes greatest (inv.tells tells) taken);
+          keeps_then _ _ _ _ _ (inv.keeps writes greatest write tells alone same) (c.put_both.ensures.keeps writes greatest (inv.rack.keeps_telling tells) taken);
       any_moment = λ writes greatest write tells alone same.
           let taken = is_taken writes greatest write c.args.runs.now c.loop-i.i c.in-Some.run'.now alone same at in
-          leaves_next _ _ _ _ _ _ _ _ _ _ (inv.any_moment writes greatest write tells alone same) (inv.keeps writes greatest write tells alone same) (c.put_both.ensures.any_moment writes greatest (inv.tells tells) taken);
-      replicas = λ tells. replicas_then _ _ _ (inv.replicas tells) (replicas_put _ _ c.in-Some.run'.now (λ taken. c.put_both.ensures.keeps (lone c.in-Some.run'.now ∷ []) 0 (inv.tells tells) taken));
-      later = grind arith;
-      no_fault = grind arith;
-      sizes = grind arith;
-      tells = λ tells. c.put_both.ensures.keeps_telling (inv.tells tells);
+          leaves_next _ _ _ _ _ _ _ _ _ _ (inv.any_moment writes greatest write tells alone same) (inv.keeps writes greatest write tells alone same) (c.put_both.ensures.any_moment writes greatest (inv.rack.keeps_telling tells) taken);
+      replicas = λ tells. replicas_then _ _ _ (inv.replicas tells) (replicas_put _ _ c.in-Some.run'.now (λ taken. c.put_both.ensures.keeps (lone c.in-Some.run'.now ∷ []) 0 (inv.rack.keeps_telling tells) taken));
+      rack = grind arith;
     }
 
 pub returns-clause-written : goal.returns-clause-written
@@ -66,4 +63,4 @@ returns-in_default-clause-written g c = λ writes greatest write tells alone sam
 pub returns-in_err-put_both-clause-replicas : goal.returns-in_err-put_both-clause-replicas
 returns-in_err-put_both-clause-replicas g c = λ tells.
     let inv = c.loop-i.invariant in
-    replicas_then _ _ _ (inv.replicas tells) (replicas_put _ _ c.in-Some.run'.now (λ taken. c.put_both.ensures.keeps (lone c.in-Some.run'.now ∷ []) 0 (inv.tells tells) taken))
+    replicas_then _ _ _ (inv.replicas tells) (replicas_put _ _ c.in-Some.run'.now (λ taken. c.put_both.ensures.keeps (lone c.in-Some.run'.now ∷ []) 0 (inv.rack.keeps_telling tells) taken))

@@ -1,5 +1,5 @@
-use Rattle.std.proofs.Common.{◌≡◌, ℕ, List}
-use Rattle.bx_disk.specs.Counts.{NoneFalls, NoneRose}
+use Rattle.std.proofs.Common.{◌≡◌, ℕ, List, Ok}
+use Rattle.bx_disk.specs.Kept.{Fails}
 use Rattle.bx_calls.specs.Calls.{LeavesOnly}
 use Rattle.bx_facts.specs.Writes.{Sent}
 use Rattle.bx_members.specs.Members.{KeepsMembers, HasMembers}
@@ -12,8 +12,5 @@ invariant-loop-i g l = record {
   keeps : (writes : List Sent) (greatest : ℕ) (write : Sent) → g.R.Rack.tells l.fn.rack → IsAlone writes greatest write → write.runs ≡ l.runs → KeepsMembers writes greatest (g.R.Rack.state l.fn.rack) (g.R.Rack.state l.rack);
   any_moment : (writes : List Sent) (greatest : ℕ) (write : Sent) → g.R.Rack.tells l.fn.rack → IsAlone writes greatest write → write.runs ≡ l.runs → LeavesOnly (g.R.Rack.moment l.fn.rack) (g.R.Rack.moment l.rack) (g.R.Rack.left_since l.fn.rack) (g.R.Rack.left_since l.rack) (HasMembers writes greatest (g.R.Rack.state l.fn.rack));
   replicas : g.R.Rack.tells l.fn.rack → KeepsReplicas (g.R.Rack.state l.fn.rack) (g.R.Rack.state l.rack);
-  later : NoneFalls (g.R.Rack.faults l.fn.rack) (g.R.Rack.faults l.rack) (g.R.Rack.faults_of l.fn.rack) (g.R.Rack.faults_of l.rack);
-  no_fault : NoneRose (g.R.Rack.faults l.fn.rack) (g.R.Rack.faults l.rack) (g.R.Rack.faults_of l.fn.rack) (g.R.Rack.faults_of l.rack);
-  sizes : (g.R.Rack.state l.rack).sizes ≡ (g.R.Rack.state l.fn.rack).sizes;
-  tells : g.R.Rack.tells l.fn.rack → g.R.Rack.tells l.rack;
+  rack : Fails {A = Unit {0}} g.R.Rack l.fn.rack l.rack (Ok tt);
 }

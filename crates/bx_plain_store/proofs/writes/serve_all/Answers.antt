@@ -16,7 +16,7 @@ serve-requires-clause-fit g c = λ write run here has.
     let less : c.loop-i.i < length c.loop-i.slots.items = omega (arith, c.loop-i-test.true, c.len-i-end.ensures, inv.long) in
     let got = at_got c.loop-i.slots.items c.loop-i.i c.index_mut.result.now less c.index_mut.ensures.value in
     let before = got ∙ inv.rest c.loop-i.i (omega arith) in
-    subst (λ (sizes : List ℕ). IsFitting c.args.devices sizes run) (sym inv.sizes) (c.requires.fit c.loop-i.i write run (sym before ∙ here) has)
+    subst (λ (sizes : List ℕ). IsFitting c.args.devices sizes run) (sym inv.rack.sizes) (c.requires.fit c.loop-i.i write run (sym before ∙ here) has)
 
 pub returns-in_err-serve-clause-keeps : goal.returns-in_err-serve-clause-keeps
 returns-in_err-serve-clause-keeps g c = λ tells apart.
@@ -24,7 +24,7 @@ returns-in_err-serve-clause-keeps g c = λ tells apart.
     let less : c.loop-i.i < length c.loop-i.slots.items = omega (arith, c.loop-i-test.true, c.len-i-end.ensures, inv.long) in
     let got = at_got c.loop-i.slots.items c.loop-i.i c.index_mut.result.now less c.index_mut.ensures.value in
     let free = free_of c.args.slots.now.items c.args.greatest c.loop-i.i c.index_mut.result.now apart (got ∙ inv.rest c.loop-i.i (omega arith)) in
-    keeps_then _ _ _ _ _ (inv.keeps tells apart) (c.serve.ensures.keeps (outs c.args.slots.now.items) (inv.tells tells) free)
+    keeps_then _ _ _ _ _ (inv.keeps tells apart) (c.serve.ensures.keeps (outs c.args.slots.now.items) (inv.rack.keeps_telling tells) free)
 
 pub returns-in_err-serve-clause-any_moment : goal.returns-in_err-serve-clause-any_moment
 returns-in_err-serve-clause-any_moment g c = λ tells apart.
@@ -32,7 +32,7 @@ returns-in_err-serve-clause-any_moment g c = λ tells apart.
     let less : c.loop-i.i < length c.loop-i.slots.items = omega (arith, c.loop-i-test.true, c.len-i-end.ensures, inv.long) in
     let got = at_got c.loop-i.slots.items c.loop-i.i c.index_mut.result.now less c.index_mut.ensures.value in
     let free = free_of c.args.slots.now.items c.args.greatest c.loop-i.i c.index_mut.result.now apart (got ∙ inv.rest c.loop-i.i (omega arith)) in
-    leaves_next _ _ _ _ _ _ _ _ _ _ (inv.any_moment tells apart) (inv.keeps tells apart) (c.serve.ensures.any_moment (outs c.args.slots.now.items) (inv.tells tells) free)
+    leaves_next _ _ _ _ _ _ _ _ _ _ (inv.any_moment tells apart) (inv.keeps tells apart) (c.serve.ensures.any_moment (outs c.args.slots.now.items) (inv.rack.keeps_telling tells) free)
 
 pub returns-in_err-serve-clause-done : goal.returns-in_err-serve-clause-done
 returns-in_err-serve-clause-done g c = λ node sent s tells apart out none long.
@@ -45,7 +45,7 @@ returns-in_err-serve-clause-done g c = λ node sent s tells apart out none long.
     (λ sent. IsDone (λ device sector content index. IsSettled x s device sector content) 0 sent)
     (λ sent here gone. absurd (let e = sym here ∙ sym c.in_err-serve.ensures.stays_out ∙ gone in cc))
     (λ at sent was_out gone.
-    done_kept (outs c.args.slots.now.items) c.args.greatest s _ x sent (c.serve.ensures.keeps (outs c.args.slots.now.items) (inv.tells tells) free)
+    done_kept (outs c.args.slots.now.items) c.args.greatest s _ x sent (c.serve.ensures.keeps (outs c.args.slots.now.items) (inv.rack.keeps_telling tells) free)
     (alone_of c.args.slots.now.items c.args.greatest at sent apart was_out (inv.not_over at sent was_out gone))
     (inv.done at sent s tells apart was_out gone long))
     node sent out none
@@ -70,19 +70,19 @@ loop-i-preserved g c =
       long = length-set c.loop-i.slots.items c.loop-i.i c.serve.new.slot ∙ inv.long;
       keeps = λ tells apart.
           let free = free_of c.args.slots.now.items c.args.greatest c.loop-i.i c.index_mut.result.now apart before in
-          keeps_then _ _ _ _ _ (inv.keeps tells apart) (c.serve.ensures.keeps ws (inv.tells tells) free);
+          keeps_then _ _ _ _ _ (inv.keeps tells apart) (c.serve.ensures.keeps ws (inv.rack.keeps_telling tells) free);
       any_moment = λ tells apart.
           let free = free_of c.args.slots.now.items c.args.greatest c.loop-i.i c.index_mut.result.now apart before in
-          leaves_next _ _ _ _ _ _ _ _ _ _ (inv.any_moment tells apart) (inv.keeps tells apart) (c.serve.ensures.any_moment ws (inv.tells tells) free);
+          leaves_next _ _ _ _ _ _ _ _ _ _ (inv.any_moment tells apart) (inv.keeps tells apart) (c.serve.ensures.any_moment ws (inv.rack.keeps_telling tells) free);
       not_over = new_fact c.args.slots.now.items c.loop-i.slots.items c.loop-i.i c.index_mut.result.now c.serve.new.slot less got inv.rest
           (λ sent. IsOver c.args.greatest sent → ⊥) (λ sent here gone. c.serve.ensures.not_over sent here gone) inv.not_over;
       done = λ node sent s tells apart out none long.
           let free = free_of c.args.slots.now.items c.args.greatest c.loop-i.i c.index_mut.result.now apart before in
           new_fact c.args.slots.now.items c.loop-i.slots.items c.loop-i.i c.index_mut.result.now c.serve.new.slot less got inv.rest
           (λ sent. IsDone (λ device sector content index. IsSettled x s device sector content) 0 sent)
-          (λ sent here gone. c.in_ok-serve.ensures.done ws sent s (inv.tells tells) free here gone long)
+          (λ sent here gone. c.in_ok-serve.ensures.done ws sent s (inv.rack.keeps_telling tells) free here gone long)
           (λ at sent was_out gone.
-          done_kept ws c.args.greatest s _ x sent (c.serve.ensures.keeps ws (inv.tells tells) free)
+          done_kept ws c.args.greatest s _ x sent (c.serve.ensures.keeps ws (inv.rack.keeps_telling tells) free)
           (alone_of c.args.slots.now.items c.args.greatest at sent apart was_out (inv.not_over at sent was_out gone))
           (inv.done at sent s tells apart was_out gone long))
           node sent out none;
@@ -101,15 +101,12 @@ loop-i-preserved g c =
           node low here;
       written = λ node write low tells apart here not_over.
           let free = free_of c.args.slots.now.items c.args.greatest c.loop-i.i c.index_mut.result.now apart before in
-          let kept = c.serve.ensures.keeps ws (inv.tells tells) free in
+          let kept = c.serve.ensures.keeps ws (inv.rack.keeps_telling tells) free in
           by_place node c.loop-i.i low
-          (λ same. c.in_ok-serve.ensures.written ws write (inv.tells tells) free (before ∙ ap (at c.args.slots.now.items) (sym same) ∙ here) not_over)
+          (λ same. c.in_ok-serve.ensures.written ws write (inv.rack.keeps_telling tells) free (before ∙ ap (at c.args.slots.now.items) (sym same) ∙ here) not_over)
           (λ below. written_kept ws c.args.greatest (sent_of write) _ x (alone_of c.args.slots.now.items c.args.greatest node (sent_of write) apart (ap out_in here) not_over) kept (inv.written node write below tells apart here not_over));
-      replicas = λ tells. replicas_then _ _ _ (inv.replicas tells) (c.serve.ensures.replicas (inv.tells tells));
-      later = grind arith;
-      no_fault = grind arith;
-      sizes = grind arith;
-      tells = λ tells. c.serve.ensures.keeps_telling (inv.tells tells);
+      replicas = λ tells. replicas_then _ _ _ (inv.replicas tells) (c.serve.ensures.replicas (inv.rack.keeps_telling tells));
+      rack = grind arith;
     }
 
 pub returns-clause-first : goal.returns-clause-first
@@ -128,4 +125,4 @@ returns-clause-written g c = λ node write tells apart here.
     c.loop-i.invariant.written node write (omega (arith, less, c.loop-i-test.false, c.len-i-end.ensures)) tells apart here
 
 pub returns-in_err-serve-clause-replicas : goal.returns-in_err-serve-clause-replicas
-returns-in_err-serve-clause-replicas g c = λ tells. replicas_then _ _ _ (c.loop-i.invariant.replicas tells) (c.serve.ensures.replicas (c.loop-i.invariant.tells tells))
+returns-in_err-serve-clause-replicas g c = λ tells. replicas_then _ _ _ (c.loop-i.invariant.replicas tells) (c.serve.ensures.replicas (c.loop-i.invariant.rack.keeps_telling tells))

@@ -1,5 +1,5 @@
-use Rattle.std.proofs.Common.{◌≡◌, ℕ, ◌<◌, ◌≤◌, ◌⊎◌, false, true, length, Some, None}
-use Rattle.bx_disk.specs.Counts.{NoneFalls, NoneRose}
+use Rattle.std.proofs.Common.{◌≡◌, ℕ, ◌<◌, ◌≤◌, ◌⊎◌, false, true, length, Some, None, Ok}
+use Rattle.bx_disk.specs.Kept.{Fails}
 use Rattle.bx_calls.specs.Calls.{LeavesOnly}
 use Rattle.bx_facts.specs.Writes.{IsDone, IsOver, IsSettled, Sent}
 use Rattle.bx_global.specs.declared.state.GlobalState.{GlobalState}
@@ -21,8 +21,5 @@ invariant-loop-i g l = record {
   written : (node : ℕ) (write : Write) → node < l.i → g.R.Rack.tells l.fn.rack → AreApart l.greatest l.fn.slots.items → at l.fn.slots.items node ≡ Some write → (IsOver l.greatest (sent_of write) → ⊥) → AreWritten (g.R.Rack.state l.rack) write.runs (length write.runs);
   out : (node : ℕ) → (out_at l.slots.items node ≡ None) ⊎ (out_at l.slots.items node ≡ out_at l.fn.slots.items node);
   replicas : g.R.Rack.tells l.fn.rack → KeepsReplicas (g.R.Rack.state l.fn.rack) (g.R.Rack.state l.rack);
-  later : NoneFalls (g.R.Rack.faults l.fn.rack) (g.R.Rack.faults l.rack) (g.R.Rack.faults_of l.fn.rack) (g.R.Rack.faults_of l.rack);
-  no_fault : NoneRose (g.R.Rack.faults l.fn.rack) (g.R.Rack.faults l.rack) (g.R.Rack.faults_of l.fn.rack) (g.R.Rack.faults_of l.rack);
-  sizes : (g.R.Rack.state l.rack).sizes ≡ (g.R.Rack.state l.fn.rack).sizes;
-  tells : g.R.Rack.tells l.fn.rack → g.R.Rack.tells l.rack;
+  rack : Fails {A = Unit {0}} g.R.Rack l.fn.rack l.rack (Ok tt);
 }

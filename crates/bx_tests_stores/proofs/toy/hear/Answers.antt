@@ -49,7 +49,7 @@ returns-clause-keeps g c = λ past tells all may.
     (λ change there legal. let more = g.met.S.Store.grows st y (of_store (with_letters past old)) change same.0 legal (all.store_own change there) in (more.0, both same.1 more.1)) same heard.grows in
     let to_store = g.met.S.Store.loses st y (of_store (with_letters decided old)) (past.letters ++ second) grown.0
     (among_both (none_new IsStores IsOwners (λ letter one other. not_owners letter other one) past.letters first second owners) (none_new IsStores IsRegisters (λ letter one other. not_registers letter other one) past.letters old first registers)) in
-    let still_tells = c.take.ensures.keeps_telling tells in
+    let still_tells = c.take.ensures.rack.keeps_telling tells in
     let may_store : MayTake (store_with (of_store decided) second).told known c.args.at input = record { up = may.up; place = place; rises = rises; own_boot = boots; steady = may.steady; comes = still_comes past.letters second input may.comes } in
     let kept = c.in_ok-by_store.ensures.keeps (of_store decided) still_tells to_store.0 may_store in
     let goes = c.in_ok-by_store.ensures.goes_on (of_store decided) still_tells to_store.0 may_store in

@@ -22,7 +22,7 @@ abbrev pub Holds : Type 0
 Holds = ℕ → ℕ → Option Hold
 
 -- What was done with owners, beside what they were told: the ends of sessions that `lease` gave; what each session holds; for each block
--- the index that each later hold of it reaches.
+-- the index that each later hold of it reaches, to begin with that of the first state.
 pub record OwnersPast : Type 0 where
   pub told : Told
   pub leases : List (ℕ × ℕ)
@@ -30,7 +30,7 @@ pub record OwnersPast : Type 0 where
   pub floor : ℕ → ℕ
 
 abbrev pub nothing_held : Told → OwnersPast
-nothing_held told = record { told = told; leases = []; holding = λ session block. None; floor = λ block. 0 }
+nothing_held told = record { told = told; leases = []; holding = λ session block. None; floor = λ block. told.chain.first.index }
 
 abbrev pub opening_owners : GlobalState → OwnersPast
 opening_owners s = nothing_held (opening_told s)

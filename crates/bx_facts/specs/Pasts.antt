@@ -68,7 +68,7 @@ pub record Told : Type 0 where
   pub down : Actor → Bool
 
 abbrev pub opening_told : GlobalState → Told
-opening_told s = record { chain = opening_chain s; handed = []; letters = []; greatest = 0; knew = λ who. 0; boots = λ who. 0; down = λ who. false }
+opening_told s = record { chain = opening_chain s; handed = []; letters = []; greatest = 0; knew = λ who. s.index; boots = λ who. 0; down = λ who. false }
 
 abbrev pub found_told : GlobalState → ℕ → Told
 found_told s boot = record { chain = found_chain s; handed = []; letters = []; greatest = 0; knew = λ who. 0; boots = λ who. boot; down = λ who. true }

@@ -118,7 +118,7 @@ module _ (disks : Disks) (state : GlobalState) (first : Label) (truth : Truth) (
   settled_here d s (Gate slot gate less place few) there = gate_settled slot gate less place there
   settled_here d s (Body slot body sector less few within fills) there = absurd (omega (arith, few))
   settled_here d s (Home at sector is unlogged within) there = settled_at d s there
-      (let a = rest.homes (λ device. true) at is in
+      (let a = rest.homes (λ device sector. true) at is in
       let b = rest.homes (λ device sector. false) at is in
       let long = block_bytes (truth at) b.is in
       ap (λ (n : ℕ). disks.reads n s) (sym (one_disk d true)) ∙ a.reads.each sector (omega (arith, within, long))

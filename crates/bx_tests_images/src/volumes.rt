@@ -23,7 +23,7 @@ pub(crate) fn tell(
         return Ok(());
     };
     match makes(alloc, &mut made, volume, devices, areas) {
-        Ok(()) => tell_first(line, image, &mut made),
+        Ok(()) => tell_first(line, image, &mut made.into_inner()),
         Err(RackError::Fault) => line.text("fault"),
         Err(RackError::OutOfMemory) => line.text("out of memory"),
     }

@@ -1,0 +1,62 @@
+//! Runs the command on rows, and prints of each whether the command answers what the row says, or else what it answers.
+//!
+//! Standard input names files of rows, one a line. In a file paragraphs stand with one empty line between two. A paragraph is a row, or
+//! lines `let NAME TEXT`: in all lines behind it, `{NAME}` stands for the text. The lines of a row are, in this order,
+//!
+//! - `row NAME`, its name;
+//! - `word TEXT` for each word of the command line;
+//! - `reads`, `writes`, `tells`, `calls` with numbers: which reads of the input fail, which writes of the output and of the errors, and
+//!   which calls of the disks, each counted from 1. Without such a line none fails;
+//! - `< TEXT` for each line of the input, and `<. TEXT` for one without its line feed;
+//! - `= STATUS`, the exit status that the command answers;
+//! - `> TEXT` for each line of the output, and then `! TEXT` for each line of the errors.
+#![tactic(auto)]
+
+mod row;
+mod running;
+mod shorthand;
+
+use anyhow::{Error, anyhow};
+use row::Row;
+use running::answer;
+use shorthand::Shorthand;
+use std::alloc::Global;
+use std::fs;
+
+fn main(rt: HostRuntime) -> Result<(), Error> {
+    for name in rt.lines(rt.alloc()) {
+        let name = name?;
+        let text = fs::read_to_string(&rt, name.as_str())?;
+        run_all(&rt, rt.alloc(), text.as_str())?;
+    }
+    Ok(())
+}
+
+/// Runs the rows of a file.
+fn run_all(rt: &impl Print, alloc: Global, file: &str) -> Result<(), Error> {
+    let mut shorthand = Shorthand::new(alloc);
+    for paragraph in file.split("\n\n") {
+        if paragraph.starts_with("let ") {
+            shorthand.learn(alloc, paragraph)?;
+        } else {
+            let text = shorthand.written_out(alloc, paragraph)?;
+            run(rt, alloc, text.as_str())?;
+        }
+    }
+    Ok(())
+}
+
+/// Runs a row.
+fn run(rt: &impl Print, alloc: Global, text: &str) -> Result<(), Error> {
+    let Some((given, wanted)) = text.split_once("\n= ") else {
+        return Err(anyhow!("a row without a status"));
+    };
+    let row = Row::read(alloc, given)?;
+    let answer = answer(alloc, &row)?;
+    if answer.as_str().strip_suffix('\n') == Some(wanted.trim_end()) {
+        println!(rt; "{}: holds", row.name)?;
+    } else {
+        print!(rt; "{}: = {answer}", row.name)?;
+    }
+    Ok(())
+}

@@ -94,7 +94,7 @@ fn left_after(
         written: 0,
     };
     let mut rack = MemRack::new(alloc, &SIZES, &[])?;
-    let mut store = PlainStore::new(alloc, 7, 2, 2, 2)?;
+    let mut store = PlainStore::new(alloc, 7, 2, 2, 2, &writer.known)?;
     if !formats(&mut store, &mut rack, &writer, case)? {
         return Ok((rack, MOMENTS, false));
     }

@@ -25,7 +25,7 @@ abbrev pub Holds : Type 0
 Holds = ℕ → ℕ → Option Hold
 
 -- What was done with owners, beside what they were told: the ends of sessions that `lease` gave; what each session holds; for each block
--- the index that each later hold of it reaches.
+-- the index that each later hold of it reaches, to begin with that of the first state.
 pub record OwnersPast : Type 0 where
   pub told : Told
   pub leases : List (ℕ × ℕ)

@@ -1,11 +1,12 @@
 -- Wants that are granted, and wants that wait.
 use Rattle.std.proofs.Common.{◌≡◌, ◌≢◌, ◌⊎◌, inl, inr, ⊎_elim, ℕ, zero, suc, ◌+◌, ◌<◌, ◌≤◌, Bool, true, false, List, [], ◌∷◌, length, Option, Some, None, refl, sym, ◌∙◌, ap, subst, arith}
-use Rattle.std.specs.Prelude.{IsSomeAnd, if◌then◌else◌, not, ◌||◌}
+use Rattle.std.specs.Prelude.{IfSome, IsSome, IsSomeAnd, if◌then◌else◌, nat_lt, not, ◌||◌}
 use Rattle.bx_base.specs.declared.names.Mode.{Mode}
-use Rattle.bx_facts.specs.Holds.{Hold}
+use Rattle.bx_facts.specs.Holds.{Hold, hold_of}
 use Rattle.bx_plain.specs.declared.rows.Row.{Row}
 use Rattle.bx_plain.specs.Asks.{AlikeBut}
-use Rattle.bx_plain.specs.Grants.{Grants, IsAlike, IsAnswered, IsGone, IsGranted, IsLeft, Passes, session_in}
+use Rattle.bx_plain.specs.Fits.{own_in}
+use Rattle.bx_plain.specs.Grants.{Grants, IsAlike, IsAnswered, IsGone, IsGranted, IsLeft, NoneLeft, Passes, session_in}
 use Rattle.bx_plain.specs.Rows.{AllLet, Lets, floor_in, hold_in, is_row, row_in, want_in, want_of_row, with_row}
 use Rattle.bx_plain.proofs.Puts.{held_beside, not_row, row_is}
 use Rattle.bx_plain.proofs.Stands.{asked, decide, grant_floors, granted}
@@ -152,10 +153,6 @@ same_sessions block (row ∷ rows) [] place alike less = absurd alike
 same_sessions block (row ∷ rows) (other ∷ others) zero alike less = alike.0
 same_sessions block (row ∷ rows) (other ∷ others) (suc place) alike less = same_sessions block rows others place alike.3 (omega (arith, less))
 
--- no want is left of the sessions in the first so many places
-pub record NoneLeft (block : ℕ) (rows new : List Row) (count : ℕ) : Type 0 where
-  pub each : (place : ℕ) → place < count → IsLeft new (session_in rows place) block → ⊥
-
 pub none_yet : (block : ℕ) (rows new : List Row) → NoneLeft block rows new 0
 none_yet block rows new = record { each = λ place less. absurd (omega (arith, less)) }
 
@@ -169,7 +166,7 @@ one_more block rows mid new count session none alike less is passes here = recor
         here (subst (λ (n : ℕ). IsLeft new n block) its left)
     by_place place below left (inr apart) = none.each place (let ne = apart in omega (arith, below, ne)) (left_before block mid new (session_in rows place) passes left)
 
-pub all_places : (block : ℕ) (rows new : List Row) (count session : ℕ) → NoneLeft block rows new count → length rows ≡ count → Passes block rows new → IsLeft new session block → ⊥
+pub all_places : (block : ℕ) (rows new : List Row) (count session : ℕ) → NoneLeft block rows new count → length rows ≤ count → Passes block rows new → IsLeft new session block → ⊥
 all_places block rows new count session none long passes left =
     let before = left_before block rows new session passes left in
     let found = has_place rows session block before.mode before.wanted in
@@ -239,3 +236,17 @@ module _ (session block : ℕ) (rows mid new : List Row) (others : (other at : �
         (λ waits. let same : g.1.mode ≡ mode = (let h = sym g.1.wanted ∙ waits in cc) in inr (subst (λ (o : Option Hold). IsSomeAnd o (λ h. h.0 ≡ mode)) (sym g.1.held) same))
         (λ held. absurd (let h = subst (λ (o : Option Hold). IsSomeAnd o (λ h. h.0 ≡ mode)) g.1.not_held held in h)) is)
       (passes.each session block)
+
+-- ---- what a node holds, by its session
+
+pub held_by_own : (nodes node block : ℕ) (rows : List Row) → IsSome (own_in nodes node) → hold_of (own_in nodes node) (hold_in rows) block ≡ hold_in rows (node + 1) block
+held_by_own nodes node block rows some = by_test (nat_lt node nodes) refl
+  where
+    by_test : (b : Bool) → nat_lt node nodes ≡ b → hold_of (own_in nodes node) (hold_in rows) block ≡ hold_in rows (node + 1) block
+    by_test true is = ap (λ t. hold_of (if t then Some (node + 1) else None) (hold_in rows) block) is
+    by_test false no = absurd (let h = subst (λ (o : Option ℕ). IsSome o) (ap (λ t. if t then Some (node + 1) else None) no) some in h)
+
+-- an end that stays doesn't fall
+pub end_stays : (end : Option ℕ) → IfSome end (λ before. IfSome end (λ now. before ≤ now))
+end_stays None = tt
+end_stays (Some end) = omega arith

@@ -1,5 +1,5 @@
 -- Which wants are granted.
-use Rattle.std.specs.Prelude.{◌≡◌, ◌≢◌, ◌⊎◌, ℕ, zero, suc, List, [], ◌∷◌, Option, Some, None}
+use Rattle.std.specs.Prelude.{◌≡◌, ◌≢◌, ◌⊎◌, ◌<◌, ℕ, zero, suc, List, [], ◌∷◌, Option, Some, None}
 use Rattle.bx_base.specs.declared.names.Mode.{Mode}
 use Rattle.bx_plain.specs.declared.rows.Row.{Row}
 use Rattle.bx_plain.specs.Rows.{AllLet, floor_in, hold_in, want_in}
@@ -52,3 +52,7 @@ abbrev pub session_in : List Row → ℕ → ℕ
 session_in [] place = 0
 session_in (row ∷ rows) zero = row.session
 session_in (row ∷ rows) (suc place) = session_in rows place
+
+-- no want is left of the sessions in the first so many places
+pub record NoneLeft (block : ℕ) (rows new : List Row) (count : ℕ) : Type 0 where
+  pub each : (place : ℕ) → place < count → IsLeft new (session_in rows place) block → ⊥

@@ -84,25 +84,26 @@ pub held_apart : (nodes : ℕ) (rows : List Row) (past : OwnersPast) (session ot
     → past.holding session block ≡ Some hold → past.holding other block ≡ Some other_hold → (hold.0 ≡ Shared) × (other_hold.0 ≡ Shared)
 held_apart nodes rows past session other block hold other_hold fits ne held other_held = fits.stand.apart session other block hold other_hold ne (sym (fits.holds session block) ∙ held) (sym (fits.holds other block) ∙ other_held)
 
--- indices rise from the first state's on
-after_first : (first : GlobalState) (changes : List Change) → first.index ≤ (state_after first changes).index
-after_first first [] = omega arith
-after_first first (change ∷ older) = let before = after_first first older in let rises = index_rises (state_after first older) change in omega (arith, before, rises)
+-- no state's index is below that of the first
+first_least : (first : GlobalState) (changes : List Change) → first.index ≤ (state_after first changes).index
+first_least first [] = omega arith
+first_least first (change ∷ older) = let low = first_least first older in let rise = index_rises (state_after first older) change in omega (arith, low, rise)
 
-opened_late : (first : GlobalState) (changes : List Change) (session : ℕ) → first.index ≤ first_index first changes session
-opened_late first [] session = omega arith
-opened_late first (change ∷ older) session = by_test (is_ever first older session) refl
+-- nor that of the state in which a session's row first stood
+opened_least : (first : GlobalState) (changes : List Change) (session : ℕ) → first.index ≤ first_index first changes session
+opened_least first [] session = omega arith
+opened_least first (change ∷ older) session = by_test (is_ever first older session)
   where
-    by_test : (b : Bool) → is_ever first older session ≡ b → first.index ≤ first_index first (change ∷ older) session
-    by_test true was = subst (λ (n : ℕ). first.index ≤ n) (sym (ap (λ t. if t then first_index first older session else (state_after first (change ∷ older)).index) was)) (opened_late first older session)
-    by_test false not_yet = subst (λ (n : ℕ). first.index ≤ n) (sym (ap (λ t. if t then first_index first older session else (state_after first (change ∷ older)).index) not_yet)) (after_first first (change ∷ older))
+    by_test : (b : Bool) → first.index ≤ (if b then first_index first older session else (state_after first (change ∷ older)).index)
+    by_test true = opened_least first older session
+    by_test false = first_least first (change ∷ older)
 
 pub held_reaches : (nodes : ℕ) (rows : List Row) (past : OwnersPast) (session block : ℕ) (hold : Hold) → Fits nodes rows past → past.holding session block ≡ Some hold → past.floor block ≤ max hold.1 (opened_at past.told.chain session)
 held_reaches nodes rows past session block hold fits held =
     let least = fits.floors block in
     let most = fits.stand.reaches session block hold (sym (fits.holds session block) ∙ held) in
-    let late = opened_late past.told.chain.first past.told.chain.changes session in
-    omega (arith, least, most, late)
+    let first = opened_least past.told.chain.first past.told.chain.changes session in
+    omega (arith, least, most, first)
 
 -- a session's row ends no later than its node knows
 pub begins_end : (nodes node session : ℕ) (s : GlobalState) → IsPlainState nodes s → own_in nodes node ≡ Some session → IsSomeAnd (row_in s.sessions session) (λ row. IfSome (end_in nodes node) (λ end. row.until ≤ end))

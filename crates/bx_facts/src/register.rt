@@ -4,7 +4,7 @@ ghost use Rattle.std.specs.Prelude.{◌≡◌, ◌≢◌, ℕ, ◌+◌, ◌<◌,
 ghost use Rattle.bx_base.specs.declared.names.Actor.{Actor};
 ghost use Rattle.bx_base.specs.declared.names.Actor.TheVariants.{Replica};
 ghost use Rattle.bx_disk.specs.Disks.{Image, Disks, IsImage};
-ghost use Rattle.bx_disk.specs.Kept.{Kept};
+ghost use Rattle.bx_disk.specs.Kept.{Counted};
 ghost use Rattle.bx_calls.specs.Calls.{LeavesOnly};
 ghost use Rattle.bx_global.specs.Allowed.{IsAllowed};
 ghost use Rattle.bx_global.specs.Table.{IsLegal};
@@ -102,7 +102,7 @@ pub trait Register: Drop {
         ensures made { (made self.new ≡ made self.old) × (nodes self.new ≡ nodes self.old) }
         ensures members { R.tells rack.old → SameMembers (R.state rack.old) (R.state rack.new) × SameLabels (R.state rack.old) (R.state rack.new) }
         ensures disks { R.tells rack.old → OnlyDiskOf at (R.state rack.old) (R.state rack.new) }
-        ensures rack { Kept R.Rack rack.old rack.new result DiskFails };
+        ensures rack { Counted R.Rack rack.old rack.new result DiskFails };
 
     /// A machine stops, and needs no disk then. It takes no memory.
     fn crash(&mut self, who: Actor)
@@ -135,7 +135,7 @@ pub trait Register: Drop {
         ensures made { (made self.new ≡ made self.old) × (nodes self.new ≡ nodes self.old) }
         ensures members { R.tells rack.old → SameMembers (R.state rack.old) (R.state rack.new) × SameLabels (R.state rack.old) (R.state rack.new) }
         ensures disks { R.tells rack.old → OnlyDiskOf who (R.state rack.old) (R.state rack.new) }
-        ensures rack { Kept R.Rack rack.old rack.new result DiskFails };
+        ensures rack { Counted R.Rack rack.old rack.new result DiskFails };
 
     /// Writes what the replicas' disks hold of the state that it was made with. Every machine knows it then.
     fn format<R: Rack>(&mut self, rack: &mut R) -> Result<(), FactError>
@@ -145,7 +145,7 @@ pub trait Register: Drop {
         ensures idle { is_new self.old → (who : Actor) → OnOk result (is_busy self.new who → ⊥) }
         ensures made { (made self.new ≡ made self.old) × (nodes self.new ≡ nodes self.old) }
         ensures members { R.tells rack.old → SameMembers (R.state rack.old) (R.state rack.new) × SameLabels (R.state rack.old) (R.state rack.new) }
-        ensures rack { Kept R.Rack rack.old rack.new result DiskFails };
+        ensures rack { Counted R.Rack rack.old rack.new result DiskFails };
 
     /// Begins with the state that the disks are read as, which every machine knows then; each is to start again before it does anything, and
     /// needs no disk until then. The answer is the greatest boot on the disks. `NoMajority` exactly where they tell no state that another may
@@ -166,7 +166,7 @@ pub trait Register: Drop {
         ensures needs { is_new self.old → (disk : ℕ) → OnOk result (needs self.new disk ≡ 0) }
         ensures made { (made self.new ≡ made self.old) × (nodes self.new ≡ nodes self.old) }
         ensures disks { R.tells rack.old → SameDisks (R.state rack.old) (R.state rack.new) }
-        ensures rack { Kept R.Rack rack.old rack.new result OpenFails };
+        ensures rack { Counted R.Rack rack.old rack.new result OpenFails };
 
     /// A new one knows what it was made with.
     ghost begins_knows: { (g : Self) (who : Actor) → is_new g → knows g who ≡ made g };

@@ -1,27 +1,22 @@
 -- Labels are written where no member is that an audit reads.
-use Rattle.std.proofs.Common.{◌≡◌, ◌≢◌, ℕ, ◌<◌, ◌≤◌, Bool, List, length, refl, sym, ◌∙◌, subst, arith}
+use Rattle.std.proofs.Common.{◌≡◌, ◌≢◌, ℕ, ◌<◌, ◌≤◌, Bool, List, refl, sym, ◌∙◌, subst, arith}
 use Rattle.bx_disk.specs.Disks.{Disks, Image, IsImage}
 use Rattle.bx_calls.specs.Calls.{HasSure, KeepsAll, KeepsSure, LeavesOnly}
 use Rattle.bx_calls.specs.Laws.{leaves_implies, leaves_then}
-use Rattle.bx_calls.specs.Regions.{ReadsAs}
 use Rattle.bx_global.specs.declared.state.GlobalState.{GlobalState}
 use Rattle.bx_layout.specs.Labels.{SpellsLabel}
 use Rattle.bx_layout.specs.declared.label.Label.{Label}
 use Rattle.bx_facts.specs.Disks.{SameDisks}
 use Rattle.bx_facts.specs.Writes.{HasLabels, IsSourceIn, Made, label_on, member_disk}
-use Rattle.bx_members.proofs.Kept.{first_sector, same_disks}
+use Rattle.bx_members.proofs.Kept.{same_disks}
 use Rattle.bx_plain_store.specs.Sources.{HasSources, KeepsSources}
 
 pub record LacksLabel (x : Disks) (disk : ℕ) (label : Label) : Type 0 where
   pub none : SpellsLabel label (x.reads disk 0) → ⊥
 
 -- what is read isn't the label's text
-pub lacks_label : (x : Disks) (disk : ℕ) (label : Label) (bytes text : List ℕ) → length bytes ≡ 512 → ReadsAs x.reads disk 0 bytes → SpellsLabel label text → bytes ≢ text → LacksLabel x disk label
-lacks_label x disk label bytes text long reads is apart = record { none = λ spelled. apart (sym (first_sector x.reads disk 0 bytes long reads) ∙ spelled.parts ∙ sym is.parts) }
-
--- or it is
-pub has_label : (x : Disks) (disk : ℕ) (label : Label) (bytes text : List ℕ) → length bytes ≡ 512 → ReadsAs x.reads disk 0 bytes → SpellsLabel label text → bytes ≡ text → SpellsLabel label (x.reads disk 0)
-has_label x disk label bytes text long reads is same = record { is = is.is; parts = first_sector x.reads disk 0 bytes long reads ∙ same ∙ is.parts }
+pub lacks_label : (x : Disks) (disk : ℕ) (label : Label) (text : List ℕ) → SpellsLabel label text → x.reads disk 0 ≢ text → LacksLabel x disk label
+lacks_label x disk label text is apart = record { none = λ spelled. apart (spelled.parts ∙ sym is.parts) }
 
 apart : (made : Made) (s : GlobalState) (x : Disks) (disk device : ℕ) (second : Bool) → HasLabels made x s → LacksLabel x disk (label_on made disk) → IsSourceIn s device second → member_disk device second ≢ disk
 apart made s x disk device second labels without source same = without.none (subst (λ (d : ℕ). SpellsLabel (label_on made d) (x.reads d 0)) same (labels.reads device second source))

@@ -9,9 +9,10 @@ ghost use Rattle.bx_facts.specs.Writes.{HasLabels, Made, label_on};
 ghost use Rattle.bx_plain_store.specs.Out.{KeepsReplicas};
 ghost use Rattle.bx_plain_store.specs.Sources.{HasSources, KeepsSources};
 
-use bx_calls::{read_sectors, sync_disk, write_through};
+use bx_calls::{sync_disk, write_through};
 use bx_disk::{Rack, RackError};
 use bx_layout::Label;
+use bx_members::has_bytes;
 
 /// Makes a member's disk sure, and labels it where it has another label or none.
 pub fn label_member<R: Rack>(rack: &mut R, disk: u32, label: &Label) -> Result<(), RackError>
@@ -29,9 +30,7 @@ pub fn label_member<R: Rack>(rack: &mut R, disk: u32, label: &Label) -> Result<(
 {
     let mut text = [0; 512];
     label.write(&mut text);
-    let mut sector = [0; 512];
-    read_sectors(rack, disk, 0, &mut sector)?;
-    if sector.as_slice() == text.as_slice() {
+    if has_bytes(rack, disk, 0, &text)? {
         sync_disk(rack, disk)?;
         return Ok(());
     }

@@ -1,4 +1,3 @@
-use Rattle.bx_lone_store.specs.Fits.{HasSessionsOf}
 use Rattle.bx_lone_store.proofs.Places.{sessions_pushed}
 use Rattle.bx_lone_store.proofs.sessions.sessions_of.Goals as goal
 

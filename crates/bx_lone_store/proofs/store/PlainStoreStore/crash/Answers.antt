@@ -46,7 +46,7 @@ returns-in-Member-clause-needs c =
     needs_fewer made st.down.items c.put_down.new.down.items c.in-Member.member (record { here = c.put_down.ensures.here; others = c.put_down.ensures.others; long = c.put_down.ensures.long })
 
 pub returns-in-Node-clause-still : goal.returns-in-Node-clause-still
-returns-in-Node-clause-still c = ap (owes_in _ _ _ _) c.in-Node.is
+returns-in-Node-clause-still c = ap (owes_in c.args.self.now.greatest c.put_session.new.slots.items c.put_session.new.inquiries.items c.args.self.now.down.items) c.in-Node.is
 
 pub returns-in-Member-clause-still : goal.returns-in-Member-clause-still
 returns-in-Member-clause-still c =

@@ -1,5 +1,5 @@
 use Rattle.std.specs.Prelude.{◌&&◌}
-use Rattle.std.proofs.Common.{◌≡◌, ◌≤◌, inr, ⊎_elim, true, ℕ, refl, sym, ◌∙◌, ap, subst}
+use Rattle.std.proofs.Common.{◌≡◌, ◌≤◌, inr, ⊎_elim, Bool, List, true, ℕ, refl, sym, ◌∙◌, ap, subst}
 use Rattle.bx_base.specs.declared.names.Actor.TheVariants.{Node}
 use Rattle.bx_disk.specs.Disks.{Disks}
 use Rattle.bx_facts.specs.Chains.{any_session_of, last}
@@ -288,14 +288,14 @@ returns-in-Node-clause-steps g c =
 
 pub returns-then-not-is_time-clause-steps : goal.returns-then-not-is_time-clause-steps
 returns-then-not-is_time-clause-steps g c =
-    let no = ap (λ (downs : _). is_sync c.args.at c.args.input.now && all_up downs) (sym c.deref.ensures.value) ∙ sym c.is_time.ensures ∙ c.if-not-is_time.true in
-    step_still c.args.known.now c.args.at c.args.input.now _ c.args.self.now.down.items _ _ _ _ _ _ (λ node is. c.in_default.not-Node node is) no refl refl refl
+    let left = ap (λ (downs : List Bool). is_sync c.args.at c.args.input.now && all_up downs) (sym c.deref.ensures.value) ∙ sym c.is_time.ensures ∙ c.if-not-is_time.true in
+    step_still c.args.known.now c.args.at c.args.input.now _ c.args.self.now.down.items _ _ _ _ _ _ (λ node is. c.in_default.not-Node node is) left refl refl refl
 
 pub returns-clause-steps : goal.returns-clause-steps
 returns-clause-steps g c =
-    let yes = ap (λ (downs : _). is_sync c.args.at c.args.input.now && all_up downs) (sym c.deref.ensures.value) ∙ sym c.is_time.ensures ∙ c.if-not-is_time.false in
+    let served_now = ap (λ (downs : List Bool). is_sync c.args.at c.args.input.now && all_up downs) (sym c.deref.ensures.value) ∙ sym c.is_time.ensures ∙ c.if-not-is_time.false in
     let e = c.heard-self.ensures in
-    step_served c.args.known.now c.args.at c.args.input.now _ c.args.self.now.down.items _ _ _ _ _ _ (λ node is. c.in_default.not-Node node is) yes refl (record {
+    step_served c.args.known.now c.args.at c.args.input.now _ c.args.self.now.down.items _ _ _ _ _ _ (λ node is. c.in_default.not-Node node is) served_now refl (record {
       first = λ node write here not_over fresh. c.in_ok-sync_all.ensures.first node write here (λ over. not_over (subst (λ (n : ℕ). IsOver n (sent_of write)) e over)) fresh;
       second = λ node write here not_over old. c.in_ok-sync_all.ensures.second node write here (λ over. not_over (subst (λ (n : ℕ). IsOver n (sent_of write)) e over)) old;
       over = λ node write here over. c.in_ok-sync_all.ensures.over node write here (subst (λ (n : ℕ). IsOver n (sent_of write)) (sym e) over);

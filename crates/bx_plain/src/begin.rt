@@ -21,9 +21,9 @@ pub fn endless(alloc: Global, nodes: u32, devices: u32) -> Result<GlobalState, O
     requires least { 1 ≤ devices }
     requires most { devices ≤ 4 }
     ensures state { IfOk result (λ state. state ≡ plain_state nodes devices) }
-    ensures allowed { IfOk result (λ state. ∥ IsAllowed state ∥₁) }
+    ensures allowed { IfOk result IsAllowed }
     ensures plain { IfOk result (IsPlainState nodes) }
-    ensures boots { IfOk result (λ state. ∥ IsAboveBoots state 1 ∥₁) }
+    ensures boots { IfOk result (λ state. IsAboveBoots state 1) }
 {
     let first = opening(alloc, nodes, devices)?;
     Ok(GlobalState {

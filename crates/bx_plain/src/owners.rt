@@ -140,7 +140,7 @@ impl PlainOwners {
 impl Owners for PlainOwners {
     ghost use Rattle.std.specs.Prelude.{⊤, false, None};
     ghost use Rattle.std.proofs.Common.{sym, subst};
-    ghost use Rattle.bx_facts.specs.Chains.{last, opened_at};
+    ghost use Rattle.bx_facts.specs.Chains.{last};
     ghost use Rattle.bx_facts.specs.Holds.{hold_of};
     ghost use Rattle.bx_plain.specs.Asks.{asks_of};
     ghost use Rattle.bx_plain.specs.Fits.{Fits, end_in, own_in};
@@ -249,7 +249,7 @@ impl Owners for PlainOwners {
 
     ghost alone = { λ o past session other block hold fits live row held. subst (λ (n : ℕ). n ≤ other) (sym fits.oldest_is) (zero_least other) };
 
-    ghost reaches = { λ o past session block hold fits live held. held_reaches o.nodes o.rows past session block hold (opened_at past.told.chain session) fits held };
+    ghost reaches = { λ o past session block hold fits live held. held_reaches o.nodes o.rows past session block hold fits held };
 
     ghost was_opened = { λ o past node session fits is. opened o.nodes node session (last past.told.chain) (fits.states (last past.told.chain) (last_place past.told.chain)) is };
 

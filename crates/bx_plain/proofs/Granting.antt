@@ -243,7 +243,10 @@ held_by_own nodes node block rows some = by_test (nat_lt node nodes) refl
   where
     by_test : (b : Bool) → nat_lt node nodes ≡ b → hold_of (own_in nodes node) (hold_in rows) block ≡ hold_in rows (node + 1) block
     by_test true is = ap (λ t. hold_of (if t then Some (node + 1) else None) (hold_in rows) block) is
-    by_test false past = absurd (let h = subst (λ (o : Option ℕ). IsSome o) (ap (λ t. if t then Some (node + 1) else None) past) some in h)
+    by_test false past =
+        let none : own_in nodes node ≡ None = ap (λ t. if t then Some (node + 1) else None) past in
+        let wrong = subst (λ (o : Option ℕ). IsSome o) none some in
+        absurd cc
 
 -- an end that stays doesn't fall
 pub end_stays : (end : Option ℕ) → IfSome end (λ before. IfSome end (λ now. before ≤ now))

@@ -87,7 +87,7 @@ pub at_choice : (h : History) (cells : ℕ → Option Held) (machines : ℕ → 
     → Decides h h cells machines s ⊎ Decides h (with_state change h) cells machines s
 at_choice h cells machines s change stands chosen by =
     elim (decides h cells s change stands.sound chosen by) [
-      | inl place ↦ inl (record { stands = stands; place = place; grows = inl refl })
+      | inl place ↦ inl (record { stands = stands; place = place; grows = inl refl; told = inl refl })
       | inr k ↦ inr (record {
         stands = record {
           sound = grows h cells change stands.sound k.1 (subst (λ (x : GlobalState). IsChosen h.proposals h.votes x) k.2 chosen);
@@ -95,6 +95,7 @@ at_choice h cells machines s change stands chosen by =
         };
         place = inl k.2;
         grows = inr (change, k.0, k.1, refl);
+        told = inr k.2;
       })
     ]
 

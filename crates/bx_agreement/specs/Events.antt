@@ -1,8 +1,8 @@
 -- Three cells and all proposers at once.
-use Rattle.std.specs.Prelude.{◌≡◌, ◌≢◌, ℕ, Option}
+use Rattle.std.specs.Prelude.{◌≡◌, ◌≢◌, ℕ, ◌⊎◌, Option}
 use Rattle.bx_global.specs.declared.held.Held.{Held}
 use Rattle.bx_global.specs.declared.state.GlobalState.{GlobalState}
-use Rattle.bx_facts.specs.Chains.{GrowsBy, IsPlace}
+use Rattle.bx_facts.specs.Chains.{GrowsBy, IsPlace, last}
 use Rattle.bx_agreement.specs.History.{History}
 use Rattle.bx_agreement.specs.Round.{IsProposer, Round}
 use Rattle.bx_agreement.specs.Sound.{IsSound}
@@ -26,8 +26,9 @@ pub record Turns (me : ℕ) (machine : Machine) (old new : ℕ → Machine) : Ty
 abbrev pub Is : History → ℕ → Machine → Type 0
 Is h me x = IsProposer h me x.boot x.seen x.known x.out
 
--- A state is known: the chain has it, as it was or grown by one change.
+-- A state is known: the chain has it, as it was or grown by one change, which makes it.
 pub record Decides (h new : History) (cells : ℕ → Option Held) (machines : ℕ → Machine) (s : GlobalState) : Type 0 where
   pub stands : Stands new cells machines
   pub place : IsPlace new.chain s
   pub grows : GrowsBy h.proposed h.chain new.chain
+  pub told : (new.chain ≡ h.chain) ⊎ (s ≡ last new.chain)

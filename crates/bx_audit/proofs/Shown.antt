@@ -15,10 +15,10 @@ use Rattle.bx_logs.specs.Members.{member_in}
 use Rattle.bx_overlay.specs.Reading.{HoldsTruth, IsRead, IsRefused}
 use Rattle.bx_truth.specs.Stands.{StandsFor}
 use Rattle.bx_views.specs.Truths.{Truth}
-use Rattle.bx_volume.specs.Images.{AreReadFrom, IsFirstLabel, ShowsTree}
+use Rattle.bx_volume.specs.Images.{AreReadFrom, IsFirstLabel, ShowsTree, by_device}
 
 module _ (disks : Disks) (state : GlobalState) (read : VolumeDisks) (is : IsRead disks state read)
-    (blocks : (second : ℕ → Bool) (tree : Tree) → IsRead disks state read → AreReadFrom state second → (shows : ShowsTree disks.sizes disks.reads state second tree)
+    (blocks : (second : ℕ → Bool) (tree : Tree) → IsRead disks state read → AreReadFrom state second → (shows : ShowsTree disks.sizes disks.reads state (by_device second) tree)
     → AreBlocks read.members.areas (blocks_of disks read) shows.truth)
     (truth_of : (truth : Truth) → IsRead disks state read → AreBlocks read.members.areas (blocks_of disks read) truth → HoldsTruth disks.reads state read truth)
     (one_first : (a b : Label) → IsFirstLabel disks.sizes disks.reads a → IsFirstLabel disks.sizes disks.reads b → a ≡ b) where
@@ -34,13 +34,15 @@ module _ (disks : Disks) (state : GlobalState) (read : VolumeDisks) (is : IsRead
         reads = λ device row there. is.members.sources device row there;
         shows = record {
           first = read.first;
-          is_first = is.is_first;
-          devices = is.accepted.count;
-          labelled = λ device row member there source. is.accepted.labelled device row there member source;
-          volume = volume;
           logs = holds.logs;
           truth = truth;
-          is_truth = holds.is_truth;
+          shows = record {
+            is_first = is.is_first;
+            devices = is.accepted.count;
+            labelled = λ device row member there source. is.accepted.labelled device row there member source;
+            is_truth = holds.is_truth;
+          };
+          volume = volume;
           stands = subst (λ (n : ℕ). StandsFor n truth tree) is.members.areas stands;
           is = file_tree;
         };
@@ -49,9 +51,9 @@ module _ (disks : Disks) (state : GlobalState) (read : VolumeDisks) (is : IsRead
   -- a tree that the disks stand for is one that a truth with these blocks stands for
   stood_for : (tree : Tree) → StandFor disks state tree → (truth : Truth) × AreBlocks read.members.areas (blocks_of disks read) truth × StandsFor read.members.areas truth tree × IsFileTree tree
   stood_for tree stands =
-      let shows : ShowsTree disks.sizes disks.reads state stands.second tree = subst (λ (s : GlobalState). ShowsTree disks.sizes disks.reads s stands.second tree) stands.is_state stands.shows in
+      let shows : ShowsTree disks.sizes disks.reads state (by_device stands.second) tree = subst (λ (s : GlobalState). ShowsTree disks.sizes disks.reads s (by_device stands.second) tree) stands.is_state stands.shows in
       let from : AreReadFrom state stands.second = subst (λ (s : GlobalState). AreReadFrom s stands.second) stands.is_state stands.reads in
-      let first = one_first shows.first read.first shows.is_first is.is_first in (
+      let first = one_first shows.first read.first shows.shows.is_first is.is_first in (
         shows.truth,
         blocks stands.second tree is from shows,
         subst (λ (n : ℕ). StandsFor n shows.truth tree) (ap (λ (l : Label). l.areas) first ∙ sym is.members.areas) shows.stands,
@@ -78,12 +80,12 @@ module _ (disks : Disks) (state : GlobalState) (read : VolumeDisks) (is : IsRead
   wrong_blocks error torn none = record { why = inr record { read = read; is = is; torn = torn }; none = none }
 
 -- disks whose labels, members or logs are refused
-pub refused : (disks : Disks) (state : GlobalState) (error : AuditError) → ((second : ℕ → Bool) (tree : Tree) → IsRefused disks state error → AreReadFrom state second → ShowsTree disks.sizes disks.reads state second tree → ⊥)
+pub refused : (disks : Disks) (state : GlobalState) (error : AuditError) → ((second : ℕ → Bool) (tree : Tree) → IsRefused disks state error → AreReadFrom state second → ShowsTree disks.sizes disks.reads state (by_device second) tree → ⊥)
     → IsRefused disks state error → IsRefusal disks state error
 refused disks state error never why = record {
   why = inl why;
   none = λ tree stands. never stands.second tree why (subst (λ (s : GlobalState). AreReadFrom s stands.second) stands.is_state stands.reads)
-      (subst (λ (s : GlobalState). ShowsTree disks.sizes disks.reads s stands.second tree) stands.is_state stands.shows);
+      (subst (λ (s : GlobalState). ShowsTree disks.sizes disks.reads s (by_device stands.second) tree) stands.is_state stands.shows);
 }
 
 pub if_err : {A : Type 0} (Q : AuditError → Type 0) (error : AuditError) (now : Result A AuditError) → now ≡ Err error → Q error → IfErr now Q

@@ -8,7 +8,7 @@ use Rattle.bx_model.specs.declared.tree.Tree.{Tree}
 use Rattle.bx_overlay.proofs.There.{is_source}
 use Rattle.bx_rows.specs.declared.device.DeviceRow.{DeviceRow}
 use Rattle.bx_rows.specs.Modes.{IsReadAtA}
-use Rattle.bx_volume.specs.Images.{ShowsTree}
+use Rattle.bx_volume.specs.Images.{ShowsTree, by_device}
 use Rattle.bx_volume.specs.Volumes.{IsVolumeFor}
 
 -- whether reads go to member B in a mode
@@ -45,13 +45,13 @@ stands disks state devices areas tree volume image =
       is_image = image;
       state = state;
       is_state = refl;
-      second = second state;
-      sources = λ device row there. is_source row.mode (second state device) (read_from state device row there);
+      second = by_device (second state);
+      sources = λ device sector row there. is_source row.mode (second state device) (read_from state device row there);
     } in
     record {
       state = state;
       is_state = refl;
       second = second state;
       reads = read_from state;
-      shows = subst (ShowsTree disks.sizes disks.reads state (second state)) (sym shown.1) shown.2;
+      shows = subst (ShowsTree disks.sizes disks.reads state (by_device (second state))) (sym shown.1) shown.2;
     }

@@ -27,6 +27,10 @@ pub record SameDisks (old new : Disks) : Type 0 where
 pub record SameLengths (old new : Disks) : Type 0 where
   pub each : (d : ℕ) → d < 3 → slice_index new.sizes d ≡ slice_index old.sizes d
 
+-- The disks of members are.
+pub record SameMemberLengths (old new : Disks) : Type 0 where
+  pub each : (d : ℕ) → 3 ≤ d → slice_index new.sizes d ≡ slice_index old.sizes d
+
 -- Disks other than a machine's own are as they were.
 pub record OnlyDiskOf (who : Actor) (old new : Disks) : Type 0 where
   pub others : (d s : ℕ) → disk_of who ≢ Some d → Stays old new d s

@@ -1,6 +1,7 @@
 -- Holds of blocks, leases, and floors.
 use Rattle.std.specs.Prelude.{◌≡◌, ◌≢◌, ℕ, ltb, ◌==◌, ◌||◌, not, max, Bool, true, false, List, [], ◌∷◌, filter, Option, Some, None, IsSomeAnd, if◌then◌else◌}
 use Rattle.bx_base.specs.declared.names.Actor.{Actor}
+use Rattle.bx_base.specs.declared.names.Actor.TheVariants.{Node}
 use Rattle.bx_base.specs.declared.names.Mode.{Mode}
 use Rattle.bx_base.specs.declared.names.Mode.TheVariants.{Shared, Exclusive}
 use Rattle.bx_global.specs.declared.change.Change.{Change}
@@ -10,6 +11,8 @@ use Rattle.bx_global.specs.Table.{effect}
 use Rattle.bx_rows.specs.Words.{row_in}
 use Rattle.bx_post.specs.declared.packets.Letter.{Letter}
 use Rattle.bx_facts.specs.declared.input.Input.{Input}
+use Rattle.bx_facts.specs.declared.input.Input.TheVariants.{Packet, Tick, Synced}
+use Rattle.bx_post.specs.Posts.{letter_of}
 use Rattle.bx_facts.specs.Chains.{last, oldest}
 use Rattle.bx_facts.specs.Pasts.{Told, found_told, heard, opening_told, told_crashed, told_grown, told_restarted, told_with}
 
@@ -22,7 +25,7 @@ abbrev pub Holds : Type 0
 Holds = ℕ → ℕ → Option Hold
 
 -- What was done with owners, beside what they were told: the ends of sessions that `lease` gave; what each session holds; for each block
--- the index that each later hold of it reaches.
+-- the index that each later hold of it reaches, to begin with that of the first state.
 pub record OwnersPast : Type 0 where
   pub told : Told
   pub leases : List (ℕ × ℕ)
@@ -30,7 +33,7 @@ pub record OwnersPast : Type 0 where
   pub floor : ℕ → ℕ
 
 abbrev pub nothing_held : Told → OwnersPast
-nothing_held told = record { told = told; leases = []; holding = λ session block. None; floor = λ block. 0 }
+nothing_held told = record { told = told; leases = []; holding = λ session block. None; floor = λ block. told.chain.first.index }
 
 abbrev pub opening_owners : GlobalState → OwnersPast
 opening_owners s = nothing_held (opening_told s)
@@ -109,6 +112,12 @@ pub record Holding (May : Holds → Type 0) (Stands : OwnersPast → Type 0) (pa
   pub holding : Holds
   pub may : May holding
   pub stands : Stands (record past { holding = holding })
+
+-- what comes is a revoke, to this node
+abbrev pub IsRevoke : Input → ℕ → Type 0
+IsRevoke (Packet packet reading) node = ((letter_of packet.now).kind ≡ 10) × ((letter_of packet.now).to ≡ Node node)
+IsRevoke (Tick reading) node = ⊥
+IsRevoke Synced node = ⊥
 
 -- the list without a block
 abbrev pub without_block : ℕ → List (ℕ × ℕ) → List (ℕ × ℕ)

@@ -1,12 +1,12 @@
 -- What was done with a part of a cluster: what it was handed, what it handed back, and what came of it. No part stores any of this: whoever
 -- makes the calls knows it, and each part says of it only that it fits.
-use Rattle.std.specs.Prelude.{◌≡◌, ℕ, ◌+◌, ◌≤◌, ◌<◌, max, Bool, true, false, List, [], ◌∷◌, ◌++◌, Option}
+use Rattle.std.specs.Prelude.{◌≡◌, ℕ, ◌+◌, ◌≤◌, ◌<◌, ◌⊎◌, max, Bool, true, false, List, [], ◌∷◌, ◌++◌, Option}
 use Rattle.bx_base.specs.declared.names.Actor.{Actor}
 use Rattle.bx_global.specs.declared.change.Change.{Change}
 use Rattle.bx_global.specs.declared.state.GlobalState.{GlobalState}
 use Rattle.bx_post.specs.declared.packets.Letter.{Letter}
 use Rattle.bx_facts.specs.declared.input.Input.{Input}
-use Rattle.bx_facts.specs.Chains.{Chain, GrowsBy, HasOwnBoot, IsPlace, found_chain, grown, opening_chain, with_change}
+use Rattle.bx_facts.specs.Chains.{Chain, GrowsBy, HasOwnBoot, IsPlace, found_chain, grown, last, opening_chain, with_change}
 use Rattle.bx_facts.specs.Inputs.{IsComing, IsSteady, greatest_with}
 use Rattle.bx_facts.specs.Machines.{put_at}
 
@@ -49,15 +49,17 @@ pub record MayHear (past : RegisterPast) (at : Actor) (input : Input) : Type 0 w
   pub up : past.down at ≡ false
   pub comes : IsComing past.letters input
 
--- What holds of a past holds of it, or of it with a change more in its chain, one that was proposed.
-pub record Decides (Holds : RegisterPast → Type 0) (past : RegisterPast) : Type 0 where
+-- What holds of a past holds of it, or of it with a change more in its chain, one that was proposed: only where the state that is known then is what
+-- the change makes.
+pub record Decides (Holds : RegisterPast → Type 0) (known : GlobalState) (past : RegisterPast) : Type 0 where
   pub chain : Chain
   pub grows : GrowsBy past.proposed past.chain chain
+  pub told : (chain ≡ past.chain) ⊎ (known ≡ last chain)
   pub holds : Holds (record past { chain = chain })
 
 -- Of owners, or of a store: the chain of states; the changes that were handed back, the newest first; the letters that may be under way; the
--- greatest reading handed in; the index of the state that a machine was handed last, or 0 since its start; its boot, or the greatest that was
--- found; which machines are down.
+-- greatest reading handed in; the index of the state that a machine was handed last, with a new volume that of its first state, or 0 since its
+-- start; its boot, or the greatest that was found; which machines are down.
 pub record Told : Type 0 where
   pub chain : Chain
   pub handed : List Change
@@ -68,7 +70,7 @@ pub record Told : Type 0 where
   pub down : Actor → Bool
 
 abbrev pub opening_told : GlobalState → Told
-opening_told s = record { chain = opening_chain s; handed = []; letters = []; greatest = 0; knew = λ who. 0; boots = λ who. 0; down = λ who. false }
+opening_told s = record { chain = opening_chain s; handed = []; letters = []; greatest = 0; knew = λ who. s.index; boots = λ who. 0; down = λ who. false }
 
 abbrev pub found_told : GlobalState → ℕ → Told
 found_told s boot = record { chain = found_chain s; handed = []; letters = []; greatest = 0; knew = λ who. 0; boots = λ who. boot; down = λ who. true }

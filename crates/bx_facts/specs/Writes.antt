@@ -1,5 +1,5 @@
 -- Writes to devices, and what sectors hold.
-use Rattle.std.specs.Prelude.{◌≡◌, ℕ, ◌+◌, ◌-◌, ◌*◌, ◌/◌, ◌%◌, ◌<◌, ◌≤◌, ◌==◌, ◌⊎◌, not, Bool, true, false, List, [], ◌∷◌, filter, length, Contains, Option, Some, None, slice_get}
+use Rattle.std.specs.Prelude.{◌≡◌, ℕ, ◌+◌, ◌-◌, ◌*◌, ◌/◌, ◌%◌, ◌<◌, ◌≤◌, ◌==◌, ◌⊎◌, not, Bool, true, false, List, [], ◌∷◌, filter, length, Contains, Option, Some, None, IfSome, slice_get, slice_index}
 use Rattle.bx_base.specs.declared.names.Actor.{Actor}
 use Rattle.bx_disk.specs.Disks.{Image, Disks, sector_of}
 use Rattle.bx_global.specs.declared.change.Change.{Change}
@@ -169,12 +169,17 @@ IsOnlyOther s device second = IsOnlyOtherRow (slice_get s.devices device) second
 abbrev pub label_on : Made → ℕ → Label
 label_on made disk = record { volume = made.volume; disk = disk; devices = made.devices; areas = made.areas }
 
--- Each member that an audit would read has its label, and surely.
+-- Each member that an audit would read has its label, and surely, and its disk has all sectors of a member.
 pub record HasLabels (made : Made) (disks : Disks) (s : GlobalState) : Type 0 where
   pub reads : (device : ℕ) (second : Bool) → IsSourceIn s device second → SpellsLabel (label_on made (member_disk device second)) (disks.reads (member_disk device second) 0)
   pub sure : (device : ℕ) (second : Bool) → IsSourceIn s device second → disks.unsure (member_disk device second) 0 ≡ false
+  pub long : (device : ℕ) (second : Bool) → IsSourceIn s device second → store_room made ≤ slice_index disks.sizes (member_disk device second)
 
 -- The state is one of as many devices as the store is made for, and its members are labelled.
 pub record IsOfStore (made : Made) (disks : Disks) (s : GlobalState) : Type 0 where
   pub devices : length s.devices ≡ made.devices
   pub labels : HasLabels made disks s
+
+-- No device's row names a boot above this one.
+pub record NamesUpTo (boot : ℕ) (s : GlobalState) : Type 0 where
+  pub each : (device : ℕ) → IfSome (slice_get s.devices device) (λ row. (row.boot_a ≤ boot) × (row.boot_b ≤ boot))

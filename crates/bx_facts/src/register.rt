@@ -4,7 +4,7 @@ ghost use Rattle.std.specs.Prelude.{◌≡◌, ◌≢◌, ℕ, ◌+◌, ◌<◌,
 ghost use Rattle.bx_base.specs.declared.names.Actor.{Actor};
 ghost use Rattle.bx_base.specs.declared.names.Actor.TheVariants.{Replica};
 ghost use Rattle.bx_disk.specs.Disks.{Image, Disks, IsImage};
-ghost use Rattle.bx_disk.specs.Kept.{Kept};
+ghost use Rattle.bx_disk.specs.Kept.{Counted};
 ghost use Rattle.bx_calls.specs.Calls.{LeavesOnly};
 ghost use Rattle.bx_global.specs.Allowed.{IsAllowed};
 ghost use Rattle.bx_global.specs.Table.{IsLegal};
@@ -55,6 +55,9 @@ pub trait Register: Drop {
     /// An image of disks of these sizes is read as this state, for a register that was made with the first one.
     ghost reads_as: { GlobalState → List ℕ → Image → GlobalState → Type 0 };
 
+    /// This is the greatest boot in an image of disks of these sizes, for a register that was made with the state.
+    ghost boot_in: { GlobalState → List ℕ → Image → ℕ → Type 0 };
+
     /// The state that a machine knows. It takes no memory.
     fn known(&self, who: Actor) -> &GlobalState
         requires there { IsMachine (nodes self.now) who }
@@ -86,8 +89,8 @@ pub trait Register: Drop {
     ) -> Result<(), FactError>
         requires there { IsMachine (nodes self.old) at }
         requires room { HasRoom (needs self.old) (R.state rack.old).sizes }
-        ensures keeps { (past : RegisterPast) → R.tells rack.old → keeps self.old (R.state rack.old) (register_with past out.old) → MayHear (register_with past out.old) at input.now → OnOk result (Decides (keeps self.new (R.state rack.new)) (register_with past out.new)) }
-        ensures keeps_faulted { (past : RegisterPast) → R.tells rack.old → keeps self.old (R.state rack.old) (register_with past out.old) → MayHear (register_with past out.old) at input.now → IsErrOf result DiskFails → Decides (keeps self.new (R.state rack.new)) (register_with past out.old) }
+        ensures keeps { (past : RegisterPast) → R.tells rack.old → keeps self.old (R.state rack.old) (register_with past out.old) → MayHear (register_with past out.old) at input.now → OnOk result (Decides (keeps self.new (R.state rack.new)) (knows self.new at) (register_with past out.new)) }
+        ensures keeps_faulted { (past : RegisterPast) → R.tells rack.old → keeps self.old (R.state rack.old) (register_with past out.old) → MayHear (register_with past out.old) at input.now → IsErrOf result DiskFails → Decides (keeps self.new (R.state rack.new)) (knows self.new at) (register_with past out.old) }
         ensures any_moment { (past : RegisterPast) → R.tells rack.old → keeps self.old (R.state rack.old) (register_with past out.old) → MayHear (register_with past out.old) at input.now → LeavesOnly (R.moment rack.old) (R.moment rack.new) (R.left_since rack.old) (R.left_since rack.new) (ReadsOnly (reads_as (made self.old)) (R.state rack.old) (IsNext past.proposed (last past.chain))) }
         ensures rises { (who : Actor) → (knows self.old who).index ≤ (knows self.new who).index }
         ensures knows { OnlyAt at (knows self.old) (knows self.new) }
@@ -99,14 +102,15 @@ pub trait Register: Drop {
         ensures made { (made self.new ≡ made self.old) × (nodes self.new ≡ nodes self.old) }
         ensures members { R.tells rack.old → SameMembers (R.state rack.old) (R.state rack.new) × SameLabels (R.state rack.old) (R.state rack.new) }
         ensures disks { R.tells rack.old → OnlyDiskOf at (R.state rack.old) (R.state rack.new) }
-        ensures rack { Kept R.Rack rack.old rack.new result DiskFails };
+        ensures rack { Counted R.Rack rack.old rack.new result DiskFails };
 
-    /// A machine stops. It takes no memory.
+    /// A machine stops, and needs no disk then. It takes no memory.
     fn crash(&mut self, who: Actor)
         ensures keeps { (x : Disks) (past : RegisterPast) → keeps self.old x past → keeps self.new x (register_crashed past who) }
         ensures others { OnlyFactsAt who (is_busy self.old) (is_busy self.new) }
         ensures knows { (other : Actor) → knows self.new other ≡ knows self.old other }
         ensures needs { NeedsNoMore (needs self.old) (needs self.new) }
+        ensures down { (n : ℕ) → who ≡ Replica n → needs self.new n ≡ 0 }
         ensures made { (made self.new ≡ made self.old) × (nodes self.new ≡ nodes self.old) };
 
     /// A machine that is down starts again, with a boot above those that it had or that were found. It has no proposal out then.
@@ -131,7 +135,7 @@ pub trait Register: Drop {
         ensures made { (made self.new ≡ made self.old) × (nodes self.new ≡ nodes self.old) }
         ensures members { R.tells rack.old → SameMembers (R.state rack.old) (R.state rack.new) × SameLabels (R.state rack.old) (R.state rack.new) }
         ensures disks { R.tells rack.old → OnlyDiskOf who (R.state rack.old) (R.state rack.new) }
-        ensures rack { Kept R.Rack rack.old rack.new result DiskFails };
+        ensures rack { Counted R.Rack rack.old rack.new result DiskFails };
 
     /// Writes what the replicas' disks hold of the state that it was made with. Every machine knows it then.
     fn format<R: Rack>(&mut self, rack: &mut R) -> Result<(), FactError>
@@ -141,24 +145,31 @@ pub trait Register: Drop {
         ensures idle { is_new self.old → (who : Actor) → OnOk result (is_busy self.new who → ⊥) }
         ensures made { (made self.new ≡ made self.old) × (nodes self.new ≡ nodes self.old) }
         ensures members { R.tells rack.old → SameMembers (R.state rack.old) (R.state rack.new) × SameLabels (R.state rack.old) (R.state rack.new) }
-        ensures rack { Kept R.Rack rack.old rack.new result DiskFails };
+        ensures rack { Counted R.Rack rack.old rack.new result DiskFails };
 
-    /// Begins with the state that the disks are read as, which every machine knows then; each is to start again before it does anything. The
-    /// answer is the greatest boot on the disks. `NoMajority` only where they tell no state that another may follow, `Spent` only with a boot
-    /// above 4611686018427387903, `NoLabel` never.
+    /// Begins with the state that the disks are read as, which every machine knows then; each is to start again before it does anything, and
+    /// needs no disk until then. The answer is the greatest boot on the disks. `NoMajority` exactly where they tell no state that another may
+    /// follow; else `Spent` exactly where the greatest boot is that one, and is above 4611686018427387903; `NoLabel` never.
     fn open<R: Rack>(&mut self, rack: &mut R) -> Result<u64, OpenError>
         ensures keeps { R.tells rack.old → is_new self.old → IfOk result (λ boot. keeps self.new (R.state rack.new) (found_register (knows self.new (Replica 0)) boot)) }
         ensures found { R.tells rack.old → is_new self.old → OnOk result (reads_as (made self.old) (R.state rack.old).sizes (R.state rack.old).reads (knows self.new (Replica 0))) }
         ensures few { IfOk result (λ boot. boot ≤ most_boot) }
         ensures no_label { (disk : ℕ) → IsErrOf result (NoLabel disk) → ⊥ }
         ensures no_majority { R.tells rack.old → is_new self.old → IsErrOf result NoMajority → TellNoState (reads_as (made self.old)) (R.state rack.old) }
-        ensures spent { (boot : ℕ) → IsErrOf result (Spent boot) → most_boot < boot }
+        ensures majority { R.tells rack.old → is_new self.old → OnOk result (TellNoState (reads_as (made self.old)) (R.state rack.old) → ⊥) }
+        ensures greatest { R.tells rack.old → is_new self.old → IfOk result (boot_in (made self.old) (R.state rack.old).sizes (R.state rack.old).reads) }
+        ensures spent { (boot : ℕ) → R.tells rack.old → is_new self.old → IsErrOf result (Spent boot) → boot_in (made self.old) (R.state rack.old).sizes (R.state rack.old).reads boot × (TellNoState (reads_as (made self.old)) (R.state rack.old) → ⊥) }
+        ensures above { (boot : ℕ) → IsErrOf result (Spent boot) → most_boot < boot }
         ensures boots { is_new self.old → IfOk result (λ boot. ∥ IsAboveBoots (knows self.new (Replica 0)) (boot + 1) ∥₁) }
         ensures knows { is_new self.old → (who : Actor) → OnOk result (knows self.new who ≡ knows self.new (Replica 0)) }
         ensures idle { is_new self.old → (who : Actor) → OnOk result (is_busy self.new who → ⊥) }
+        ensures needs { is_new self.old → (disk : ℕ) → OnOk result (needs self.new disk ≡ 0) }
         ensures made { (made self.new ≡ made self.old) × (nodes self.new ≡ nodes self.old) }
         ensures disks { R.tells rack.old → SameDisks (R.state rack.old) (R.state rack.new) }
-        ensures rack { Kept R.Rack rack.old rack.new result OpenFails };
+        ensures rack { Counted R.Rack rack.old rack.new result OpenFails };
+
+    /// A new one knows what it was made with.
+    ghost begins_knows: { (g : Self) (who : Actor) → is_new g → knows g who ≡ made g };
 
     /// Each known state is a place of the chain.
     ghost places: { (g : Self) (x : Disks) (past : RegisterPast) (who : Actor) → keeps g x past → IsPlace past.chain (knows g who) };
@@ -166,11 +177,16 @@ pub trait Register: Drop {
     /// Each change of the chain was legal.
     ghost legal: { (g : Self) (x : Disks) (past : RegisterPast) → keeps g x past → AreLegal past.chain.first past.chain.changes };
 
-    /// The first state of the chain meets the conditions on states.
-    ghost begins_allowed: { (g : Self) (x : Disks) (past : RegisterPast) → keeps g x past → ∥ IsAllowed past.chain.first ∥₁ };
+    /// Each state of the chain meets the conditions on states.
+    ghost allowed: { (g : Self) (x : Disks) (past : RegisterPast) (s : GlobalState) → keeps g x past → IsPlace past.chain s → IsAllowed s };
 
     /// An image is read as the last state, or as one that a proposed change makes of it.
     ghost reads_next: { (g : Self) (x : Disks) (past : RegisterPast) (image : Image) (s : GlobalState) → keeps g x past → IsImage x image → reads_as (made g) x.sizes image s → IsNext past.proposed (last past.chain) s };
+
+    /// An image is read as one state at most, and one boot is the greatest in it.
+    ghost reads_one: { (made : GlobalState) (sizes : List ℕ) (image : Image) (s other : GlobalState) → reads_as made sizes image s → reads_as made sizes image other → other ≡ s };
+
+    ghost one_boot: { (made : GlobalState) (sizes : List ℕ) (image : Image) (boot other : ℕ) → boot_in made sizes image boot → boot_in made sizes image other → other ≡ boot };
 
     /// An image in which two replicas are labelled, for a volume of as many devices, is read as some state.
     ghost reads_some: { (g : Self) (x : Disks) (past : RegisterPast) (image : Image) (n m : ℕ) → keeps g x past → IsImage x image → n ≢ m → IsLabelled (length (made g).devices) x.sizes image n → IsLabelled (length (made g).devices) x.sizes image m → (s : GlobalState) × reads_as (made g) x.sizes image s };
@@ -186,6 +202,9 @@ pub trait Register: Drop {
 
     /// It never needs more than a replica's sectors of a disk.
     ghost needs_little: { (g : Self) (disk : ℕ) → needs g disk ≤ replica_sectors };
+
+    /// A replica that is down needs nothing of its disk.
+    ghost needs_up: { (g : Self) (x : Disks) (past : RegisterPast) (n : ℕ) → keeps g x past → past.down (Replica n) ≡ true → needs g n ≡ 0 };
 
     /// It needs nothing of the disks of members.
     ghost needs_none: { (g : Self) (disk : ℕ) → 3 ≤ disk → needs g disk ≡ 0 };

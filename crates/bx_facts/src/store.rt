@@ -1,6 +1,6 @@
 //! Stores: mirrored devices.
 
-ghost use Rattle.std.specs.Prelude.{◌≡◌, ◌≢◌, ℕ, ◌+◌, ◌-◌, ◌<◌, ◌≤◌, ◌⊎◌, Bool, true, false, List, OnOk, IfOk, IfSome, IsErrOf, Option, Some, None, IsNone, IsSome};
+ghost use Rattle.std.specs.Prelude.{◌≡◌, ◌≢◌, ℕ, ◌+◌, ◌-◌, ◌*◌, ◌<◌, ◌≤◌, ◌⊎◌, Bool, true, false, List, [], OnOk, IfOk, IfSome, IsErrOf, Option, Some, None, IsNone, IsSome};
 ghost use Rattle.bx_base.specs.declared.names.Actor.{Actor};
 ghost use Rattle.bx_base.specs.declared.names.Actor.TheVariants.{Node, Member};
 ghost use Rattle.bx_disk.specs.Disks.{Disks, blanked, sector_of};
@@ -11,15 +11,15 @@ ghost use Rattle.bx_global.specs.Table.{IsLegal};
 ghost use Rattle.bx_global.specs.declared.change.Change.{Change};
 ghost use Rattle.bx_global.specs.declared.state.GlobalState.{GlobalState};
 ghost use Rattle.bx_layout.specs.Labels.{SpellsLabel};
-ghost use Rattle.bx_layout.specs.declared.label.Label.{Label};
 ghost use Rattle.bx_post.specs.declared.packets.Letter.{Letter};
 ghost use Rattle.bx_facts.specs.declared.input.FactError.TheVariants.{Disk as DiskFails};
+ghost use Rattle.bx_facts.specs.declared.input.Input.{Input};
 ghost use Rattle.bx_facts.specs.Chains.{IsStoresKind, IsStoresOwn, LivesIn, last, session_by};
-ghost use Rattle.bx_facts.specs.Disks.{Crashes, HasRoom, NeedsAt, NeedsNoMore, OnlyDiskOf, SameLabels, SameMembers, SameReplicas, wanted_by};
+ghost use Rattle.bx_facts.specs.Disks.{Crashes, HasRoom, NeedsAt, NeedsNoMore, OnlyDiskOf, SameLabels, SameMemberLengths, SameMembers, SameReplicas, wanted_by};
 ghost use Rattle.bx_facts.specs.Inputs.{AreAmong, IsStores, SendsOnly};
 ghost use Rattle.bx_facts.specs.Machines.{IsMachine, OnlyAt, disk_of};
 ghost use Rattle.bx_facts.specs.Pasts.{MayRestart, MayTake};
-ghost use Rattle.bx_facts.specs.Writes.{AreRuns, Asked, GoesOn, HasSettled, IsDone, IsOfStore, HasLabels, IsOnly, IsOnlyOther, IsSettled, Made, MayWrite, Sent, StorePast, found_store, label_on, member_disk, opening_store, store_crashed, store_failed, store_grown, store_heard, store_restarted, store_room, store_with, without_session, writing};
+ghost use Rattle.bx_facts.specs.Writes.{AreRuns, Asked, GoesOn, HasSettled, IsDone, IsOfStore, IsOnly, IsOnlyOther, IsSettled, Made, MayWrite, NamesUpTo, Sent, StorePast, found_store, label_on, member_disk, opening_store, store_crashed, store_failed, store_grown, store_heard, store_restarted, store_room, store_with, without_session, writing};
 
 use crate::input::{FactError, Input};
 use bx_base::{Actor, OutOfMemory, Raw};
@@ -40,6 +40,9 @@ pub trait Store: Drop {
 
     /// What it is made for.
     ghost made: { Self → Made };
+
+    /// Whether it is made for this state: a new one has the sessions of it.
+    ghost is_for: { Self → GlobalState → Type 0 };
 
     /// Whether nothing was done with it yet.
     ghost is_new: { Self → Type 0 };
@@ -73,6 +76,12 @@ pub trait Store: Drop {
 
     /// Each answer to a node's read that may come has this in a sector.
     ghost will_read: { Self → Disks → StorePast → ℕ → ℕ → List ℕ → Type 0 };
+
+    /// What a machine must propose after an input.
+    ghost hands: { Self → GlobalState → Actor → Input → Option Change → Type 0 };
+
+    /// What an event of a machine makes of it, exactly.
+    ghost steps: { Self → GlobalState → Actor → Input → Self → Type 0 };
 
     /// Sends a write, of the node's session.
     fn write(
@@ -167,11 +176,15 @@ pub trait Store: Drop {
         ensures session { (past : StorePast) (node : ℕ) → R.tells rack.old → keeps self.old (R.state rack.old) (store_with past out.old) → MayTake (store_with past out.old).told known.now at input.now → at ≡ Node node → OnOk result (own self.new node ≡ session_by by_boot known.now node (past.told.boots at)) }
         ensures session_faulted { (past : StorePast) (node : ℕ) → R.tells rack.old → keeps self.old (R.state rack.old) (store_with past out.old) → MayTake (store_with past out.old).told known.now at input.now → at ≡ Node node → IsErrOf result DiskFails → own self.new node ≡ session_by by_boot known.now node (past.told.boots at) }
         ensures others { (node : ℕ) → at ≢ Node node → own self.new node ≡ own self.old node }
+        ensures new_session { (node : ℕ) → OnOk result (own self.new node ≢ own self.old node → asked self.new node ≡ None) }
+        ensures new_session_faulted { (node : ℕ) → IsErrOf result DiskFails → own self.new node ≢ own self.old node → asked self.new node ≡ None }
         ensures out { (node : ℕ) → OnOk result ((out_of self.new node ≡ None) ⊎ (out_of self.new node ≡ out_of self.old node)) }
         ensures out_faulted { (node : ℕ) → IsErrOf result DiskFails → (out_of self.new node ≡ None) ⊎ (out_of self.new node ≡ out_of self.old node) }
         ensures asked { (reader : ℕ) → OnOk result ((asked self.new reader ≡ None) ⊎ (asked self.new reader ≡ asked self.old reader)) }
         ensures asked_faulted { (reader : ℕ) → IsErrOf result DiskFails → (asked self.new reader ≡ None) ⊎ (asked self.new reader ≡ asked self.old reader) }
         ensures kind { IfOk result (λ change. IfSome change IsStoresKind) }
+        ensures hands { IfOk result (hands self.old known.now at input.now) }
+        ensures steps { OnOk result (steps self.old known.now at input.now self.new) }
         ensures apart { is_separate → (node : ℕ) → at ≢ Node node → (out_of self.new node ≡ out_of self.old node) × (asked self.new node ≡ asked self.old node) × (answer self.new node ≡ answer self.old node) }
         ensures owes { is_separate → OnlyAt at (owes self.old) (owes self.new) }
         ensures disks { R.tells rack.old → is_separate → OnlyDiskOf at (R.state rack.old) (R.state rack.new) }
@@ -189,12 +202,14 @@ pub trait Store: Drop {
         ensures reads { (x : Disks) (past : StorePast) (reader sector : ℕ) (content : List ℕ) → who ≢ Node reader → keeps self.old x past → will_read self.old x past reader sector content → will_read self.new x (store_crashed past who) reader sector content }
         ensures others { (node : ℕ) → who ≢ Node node → (own self.new node ≡ own self.old node) × (out_of self.new node ≡ out_of self.old node) × (asked self.new node ≡ asked self.old node) × (answer self.new node ≡ answer self.old node) }
         ensures needs { NeedsNoMore (needs self.old) (needs self.new) }
+        ensures owes { is_separate → OnlyAt who (owes self.old) (owes self.new) }
+        ensures still { owes self.new who ≡ false }
         ensures ended { (node : ℕ) → who ≡ Node node → (own self.new node ≡ None) × (out_of self.new node ≡ None) × (asked self.new node ≡ None) }
         ensures down { (member : ℕ) → who ≡ Member member → needs self.new (3 + member) ≡ 0 }
         ensures made { made self.new ≡ made self.old };
 
-    /// A machine that is down starts again, with a boot above those that it had or that were found. A member's disk has a label then, and
-    /// nothing unsure.
+    /// A machine that is down starts again, with a boot above those that it had or that were found. A member's disk has its own label
+    /// then, written only where it had another or none, and nothing unsure.
     fn restart<R: Rack>(
         &mut self,
         rack: &mut R,
@@ -212,10 +227,11 @@ pub trait Store: Drop {
         ensures reads { (past : StorePast) (reader sector : ℕ) (content : List ℕ) (asks : Asked) → R.tells rack.old → keeps self.old (R.state rack.old) past → MayRestart past.told who boot reading → who ≢ Node reader → asked self.old reader ≡ Some asks → IsOnly past.writes past.told.greatest asks.device sector content → will_read self.old (R.state rack.old) past reader sector content → OnOk result (will_read self.new (R.state rack.new) (store_restarted past who boot reading) reader sector content) × (IsErrOf result DiskFails → will_read self.new (R.state rack.new) (store_failed past who boot reading) reader sector content) }
         ensures any_moment { (past : StorePast) → R.tells rack.old → keeps self.old (R.state rack.old) past → MayRestart past.told who boot reading → LeavesOnly (R.moment rack.old) (R.moment rack.new) (R.left_since rack.old) (R.left_since rack.new) (HasSettled past.writes past.told.greatest (settled self.old (R.state rack.old) past) (R.state rack.old) (last past.told.chain)) }
         ensures synced { (n sector : ℕ) → who ≡ Member n → R.tells rack.old → OnOk result ((R.state rack.new).unsure (3 + n) sector ≡ false) }
-        ensures label { (n : ℕ) → who ≡ Member n → R.tells rack.old → ((label : Label) → SpellsLabel label ((R.state rack.old).reads (3 + n) 0) → ⊥) → OnOk result (SpellsLabel (label_on (made self.old) (3 + n)) ((R.state rack.new).reads (3 + n) 0)) }
-        ensures old_label { (n : ℕ) (label : Label) → who ≡ Member n → R.tells rack.old → SpellsLabel label ((R.state rack.old).reads (3 + n) 0) → OnOk result (SpellsLabel label ((R.state rack.new).reads (3 + n) 0)) }
+        ensures label { (n : ℕ) → who ≡ Member n → R.tells rack.old → OnOk result (SpellsLabel (label_on (made self.old) (3 + n)) ((R.state rack.new).reads (3 + n) 0)) }
+        ensures old_label { (n : ℕ) → who ≡ Member n → R.tells rack.old → SpellsLabel (label_on (made self.old) (3 + n)) ((R.state rack.old).reads (3 + n) 0) → (R.state rack.new).reads (3 + n) 0 ≡ (R.state rack.old).reads (3 + n) 0 }
         ensures owes { is_separate → OnlyAt who (owes self.old) (owes self.new) }
         ensures disks { R.tells rack.old → is_separate → OnlyDiskOf who (R.state rack.old) (R.state rack.new) }
+        ensures new_session { (node : ℕ) → OnOk result (own self.new node ≢ own self.old node → asked self.new node ≡ None) }
         ensures own { is_separate → (node : ℕ) → who ≡ Node node → OnOk result ((own self.new node ≡ None) × (out_of self.new node ≡ None) × (asked self.new node ≡ None)) }
         ensures others { (node : ℕ) → who ≢ Node node → (own self.new node ≡ own self.old node) × (out_of self.new node ≡ out_of self.old node) × (asked self.new node ≡ asked self.old node) × (answer self.new node ≡ answer self.old node) }
         ensures needs { NeedsAt who (store_room (made self.old)) (needs self.old) (needs self.new) }
@@ -232,6 +248,9 @@ pub trait Store: Drop {
     /// What is settled stands there.
     ghost settled_is: { (st : Self) (x : Disks) (past : StorePast) (device sector : ℕ) (content : List ℕ) → keeps st x past → settled st x past device sector content → IsSettled x (last past.told.chain) device sector content };
 
+    /// A write that is out is of the node's own session.
+    ghost own_out: { (st : Self) (x : Disks) (past : StorePast) (node : ℕ) (write : Sent) → keeps st x past → out_of st node ≡ Some write → own st node ≡ Some write.session };
+
     /// Of a node's session none of the writes may be taken any more, where the node has none out.
     ghost nothing_out: { (st : Self) (x : Disks) (past : StorePast) (node session : ℕ) → keeps st x past → own st node ≡ Some session → out_of st node ≡ None
         → keeps st x (without_session past session) × GoesOn past.writes past.told.greatest (asked st) (settled st x past) (settled st x (without_session past session)) (will_read st x past) (will_read st x (without_session past session)) (stands st x past) (stands st x (without_session past session)) };
@@ -240,8 +259,8 @@ pub trait Store: Drop {
     ghost grows: { (st : Self) (x : Disks) (past : StorePast) (change : Change) → keeps st x past → IsLegal (last past.told.chain) change → IsStoresOwn past.told.handed change
         → keeps st x (store_grown past change) × GoesOn past.writes past.told.greatest (asked st) (settled st x past) (settled st x (store_grown past change)) (will_read st x past) (will_read st x (store_grown past change)) (stands st x past) (stands st x (store_grown past change)) };
 
-    /// The disk of a member that is down may crash.
-    ghost survives: { (st : Self) (x y : Disks) (past : StorePast) (n : ℕ) → keeps st x past → past.told.down (Member n) ≡ true → Crashes (3 + n) x y
+    /// The disk of a member that is down may crash, and stays as long as it was.
+    ghost survives: { (st : Self) (x y : Disks) (past : StorePast) (n : ℕ) → keeps st x past → past.told.down (Member n) ≡ true → SameMemberLengths x y → Crashes (3 + n) x y
         → keeps st y past × GoesOn past.writes past.told.greatest (asked st) (settled st x past) (settled st y past) (will_read st x past) (will_read st y past) (stands st x past) (stands st y past) };
 
     /// Or be replaced by a blank one, where the device needs the other member alone.
@@ -249,25 +268,33 @@ pub trait Store: Drop {
         → keeps st (blanked x (member_disk device second)) past × GoesOn past.writes past.told.greatest (asked st) (settled st x past) (settled st (blanked x (member_disk device second)) past) (will_read st x past) (will_read st (blanked x (member_disk device second)) past) (stands st x past) (stands st (blanked x (member_disk device second)) past) };
 
     /// Other disks don't matter.
-    ghost elsewhere: { (st : Self) (x y : Disks) (past : StorePast) → keeps st x past → SameMembers x y
+    ghost elsewhere: { (st : Self) (x y : Disks) (past : StorePast) → keeps st x past → SameMemberLengths x y → SameMembers x y
         → keeps st y past × GoesOn past.writes past.told.greatest (asked st) (settled st x past) (settled st y past) (will_read st x past) (will_read st y past) (stands st x past) (stands st y past) };
 
     /// Letters may be lost, and come in any order and number; those of other layers don't matter.
     ghost loses: { (st : Self) (x : Disks) (past : StorePast) (letters : List Letter) → keeps st x past → AreAmong IsStores letters past.told.letters
         → keeps st x (record past { told = record past.told { letters = letters } }) × GoesOn past.writes past.told.greatest (asked st) (settled st x past) (settled st x (record past { told = record past.told { letters = letters } })) (will_read st x past) (will_read st x (record past { told = record past.told { letters = letters } })) (stands st x past) (stands st x (record past { told = record past.told { letters = letters } })) };
 
-    /// Each member that an audit would read has its label, and surely.
-    ghost labelled: { (st : Self) (x : Disks) (past : StorePast) → keeps st x past → HasLabels (made st) x (last past.told.chain) };
+    /// The last state has the devices that it is made for, and each member that an audit would read has its label, surely, and all its sectors.
+    ghost labelled: { (st : Self) (x : Disks) (past : StorePast) → keeps st x past → IsOfStore (made st) x (last past.told.chain) };
 
-    /// A new one fits each disks that have their labels, and the state that it is made for or that is found on them.
-    ghost begins: { (st : Self) (x : Disks) (s : GlobalState) → is_new st → IsAllowed s → IsOfStore (made st) x s → keeps st x (opening_store s) };
+    /// In a new one each node has the session of the state that it is made for, and nothing is out.
+    ghost begins_own: { (st : Self) (s : GlobalState) (node : ℕ) → is_new st → is_for st s → node < (made st).nodes → own st node ≡ session_by by_boot s node 0 };
 
-    ghost finds: { (st : Self) (x : Disks) (s : GlobalState) (boot : ℕ) → is_new st → is_separate → IsAllowed s → IsOfStore (made st) x s → keeps st x (found_store s boot) };
+    ghost begins_idle: { (st : Self) (node : ℕ) → is_new st → (out_of st node ≡ None) × (asked st node ≡ None) };
 
-    /// Of a new one all that stands surely on the disks stands so for each reader that knows the state.
-    ghost begins_standing: { (st : Self) (x : Disks) (s : GlobalState) (device sector : ℕ) (content : List ℕ) → is_new st → IsSettled x s device sector content → stands st x (opening_store s) device sector content s.index };
+    /// A new one fits each disks that have their labels, and the state that it is made for, whose devices name no boot yet; or, where each
+    /// machine's part is its own and it is made for a state without sessions, the state that is found on them, whose devices name none above this one.
+    ghost begins: { (st : Self) (x : Disks) (s : GlobalState) → is_new st → is_for st s → IsAllowed s → IsOfStore (made st) x s → NamesUpTo 0 s → keeps st x (opening_store s) };
 
-    ghost finds_standing: { (st : Self) (x : Disks) (s : GlobalState) (boot device sector : ℕ) (content : List ℕ) → is_new st → is_separate → IsSettled x s device sector content → stands st x (found_store s boot) device sector content s.index };
+    ghost finds: { (st : Self) (x : Disks) (first s : GlobalState) (boot : ℕ) → is_new st → is_separate → is_for st first → first.sessions ≡ [] → IsAllowed s → IsOfStore (made st) x s → NamesUpTo boot s → keeps st x (found_store s boot) };
+
+    /// Of a new one all that stands surely behind the labels stands so for each reader that knows the state.
+    ghost begins_standing: { (st : Self) (x : Disks) (s : GlobalState) (device sector : ℕ) (content : List ℕ) → is_new st → device < (made st).devices → 1 ≤ sector → sector < store_room (made st)
+        → IsSettled x s device sector content → stands st x (opening_store s) device sector content s.index };
+
+    ghost finds_standing: { (st : Self) (x : Disks) (s : GlobalState) (boot device sector : ℕ) (content : List ℕ) → is_new st → is_separate → device < (made st).devices → 1 ≤ sector → sector < store_room (made st)
+        → IsSettled x s device sector content → stands st x (found_store s boot) device sector content s.index };
 
     /// There is no answer without a read.
     ghost only_asked: { (st : Self) (node : ℕ) → asked st node ≡ None → answer st node ≡ None };
@@ -277,4 +304,7 @@ pub trait Store: Drop {
 
     /// It needs nothing of the disks of replicas.
     ghost needs_none: { (st : Self) (disk : ℕ) → disk < 3 → needs st disk ≡ 0 };
+
+    /// And nothing of disks that the volume hasn't got.
+    ghost needs_of_volume: { (st : Self) (disk : ℕ) → 3 + 2 * (made st).devices ≤ disk → needs st disk ≡ 0 };
 }

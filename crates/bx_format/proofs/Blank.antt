@@ -40,7 +40,7 @@ none_in_use at = by (same_or (block_slot at) 960)
 pub blank_holds : (sizes : List ℕ) (devices areas : ℕ) → IsVolume devices areas → HasSizes sizes devices areas → HoldsBlocks (blank_image sizes) devices areas (areas_truth 0)
 blank_holds sizes devices areas volume has = record {
   home = λ member at is.
-      subst (IsHome (devices_of (blank_image sizes) (λ device. member)) devices at) (sym (none_in_use at)) (record {
+      subst (IsHome (devices_of (blank_image sizes) (λ device sector. member)) devices at) (sym (none_in_use at)) (record {
         is = free_parts;
         reads = record {
           each = λ i less.

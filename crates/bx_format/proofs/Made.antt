@@ -38,7 +38,7 @@ own_parts areas area few less =
 pub same_blocks : (image : Image) (devices areas : ℕ) (truth other : Truth) → HoldsBlocks image devices areas truth
     → ((at : ℕ) → IsBlock areas at → truth at ≡ other at) → HoldsBlocks image devices areas other
 same_blocks image devices areas truth other holds same = record {
-  home = λ member at is. subst (IsHome (devices_of image (λ device. member)) devices at) (same at is) (holds.home member at is);
+  home = λ member at is. subst (IsHome (devices_of image (λ device sector. member)) devices at) (same at is) (holds.home member at is);
 }
 
 -- one more area has its own block

@@ -19,7 +19,7 @@ use Rattle.bx_format.specs.Formats.{HasSizes, HoldsBlocks, with_block}
 
 -- what one member of each device has
 abbrev pub on_member : Image → Bool → Image
-on_member image member = devices_of image (λ device. member)
+on_member image member = devices_of image (λ device sector. member)
 
 -- a sector that isn't among those of two writes at one place of two disks
 pub both_kept : (old mid new : Disks) (one two sector count d s : ℕ) → KeepsSure old mid one sector count → KeepsSure mid new two sector count

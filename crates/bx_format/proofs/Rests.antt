@@ -1,6 +1,6 @@
 -- A volume that was just made is at rest.
 use Rattle.std.proofs.Common.{◌≡◌, ℕ, ◌<◌, ◌≤◌, arith, Bool, true, false, List, length, take, sym, ap, ◌∙◌, subst, refl}
-use Rattle.std.specs.Prelude.{slice_index}
+use Rattle.std.specs.Prelude.{◌+◌, slice_index}
 use Rattle.std.proofs.lemmas.Bool.Decides.{nat_tests}
 use Rattle.bx_disk.specs.Disks.{Disks, zeros}
 use Rattle.bx_global.specs.declared.state.GlobalState.{GlobalState}
@@ -45,14 +45,17 @@ module _ (disks : Disks) (first : Label) (is : IsLabel first) (made : IsFormatte
   labelled : (device : ℕ) (member : Bool) → device < first.devices → IsLabelled disks.sizes disks.reads first (member_disk device member)
   labelled device member less = record { label = label_of first (member_disk device member); own = own (member_disk device member) (low device member less); volume = refl; devices = refl; areas = refl }
 
-  home : (second : ℕ → Bool) (at : ℕ) → IsBlock first.areas at → IsHome (devices_of disks.reads second) first.devices at (opening_truth at)
-  home second at is_block = let held = made.blocks.home (second (block_place at first.devices).0) at is_block in record { is = held.is; reads = record { each = λ i less. held.reads.each i less } }
+  home : (second : ℕ → ℕ → Bool) (at : ℕ) → IsBlock first.areas at → IsHome (devices_of disks.reads second) first.devices at (opening_truth at)
+  home second at is_block = record {
+    is = (made.blocks.home false at is_block).is;
+    reads = record { each = λ i less. (made.blocks.home (second (block_place at first.devices).0 ((block_place at first.devices).1 + i)) at is_block).reads.each i less };
+  }
 
-  shut : (second : ℕ → Bool) (slot gate : ℕ) → slot < 8 → gate < 8 → IsOpenGate (gate_of (devices_of disks.reads second) first.devices slot gate) → ⊥
+  shut : (second : ℕ → ℕ → Bool) (slot gate : ℕ) → slot < 8 → gate < 8 → IsOpenGate (gate_of (devices_of disks.reads second) first.devices slot gate) → ⊥
   shut second slot gate in_slots in_gates =
       closed (gate_of (devices_of disks.reads second) first.devices slot gate)
-      (made.none.zero (member_disk (gate_place slot gate first.devices).0 (second (gate_place slot gate first.devices).0)) (gate_place slot gate first.devices).1 (omega arith) (omega (arith, in_slots, in_gates))
-      (fits (second (gate_place slot gate first.devices).0)))
+      (made.none.zero (member_disk (gate_place slot gate first.devices).0 (second (gate_place slot gate first.devices).0 (gate_place slot gate first.devices).1)) (gate_place slot gate first.devices).1 (omega arith) (omega (arith, in_slots, in_gates))
+      (fits (second (gate_place slot gate first.devices).0 (gate_place slot gate first.devices).1)))
     where
       there : (gate_place slot gate first.devices).0 < first.devices
       there = let some = is.least_devices in grind arith

@@ -13,7 +13,7 @@ use Rattle.bx_volume.specs.Overlay.{IsHome}
 
 -- Both members of each device have each block of the truth in its home.
 pub record HoldsBlocks (image : Image) (devices areas : ℕ) (truth : Truth) : Type 0 where
-  pub home : (member : Bool) (at : ℕ) → IsBlock areas at → IsHome (devices_of image (λ device. member)) devices at (truth at)
+  pub home : (member : Bool) (at : ℕ) → IsBlock areas at → IsHome (devices_of image (λ device sector. member)) devices at (truth at)
 
 -- a truth with another block in a place
 abbrev pub with_block : Truth → ℕ → Block → Truth

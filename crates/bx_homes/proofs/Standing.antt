@@ -28,8 +28,8 @@ module _ (image : Image) (second : Bool) (devices at disk sector : ℕ) (block :
   there : (i : ℕ) → image disk (sector + i) ≡ image (member_disk (block_place at devices).0 second) ((block_place at devices).1 + i)
   there i = ap (λ (d : ℕ). image d (sector + i)) same_disk ∙ ap (λ (s : ℕ). image (member_disk (block_place at devices).0 second) (s + i)) same_sector
 
-  pub home_there : IsHome (devices_of image (λ device. second)) devices at block → StandsAt image disk sector block
+  pub home_there : IsHome (devices_of image (λ device sector. second)) devices at block → StandsAt image disk sector block
   home_there home = record { is = home.is; reads = record { each = λ i less. there i ∙ home.reads.each i less } }
 
-  pub there_home : StandsAt image disk sector block → IsHome (devices_of image (λ device. second)) devices at block
+  pub there_home : StandsAt image disk sector block → IsHome (devices_of image (λ device sector. second)) devices at block
   there_home stands = record { is = stands.is; reads = record { each = λ i less. sym (there i) ∙ stands.reads.each i less } }

@@ -30,9 +30,9 @@ pub fn open_gates<R: Rack>(
     requires disk { member_disk (log_device slot devices) second < length (R.state rack.old).sizes }
     requires room { 9345 ≤ slice_index (R.state rack.old).sizes (member_disk (log_device slot devices) second) }
     ensures most { IfOk result (λ count. count ≤ 8) }
-    ensures opened { R.tells rack.old → IfOk result (λ count. (gate : ℕ) → gate < count → IsOpenGate (gate_of (devices_of (R.state rack.old).reads (λ device. second)) devices slot gate)) }
-    ensures end { R.tells rack.old → IfOk result (λ count. count < 8 → IsOpenGate (gate_of (devices_of (R.state rack.old).reads (λ device. second)) devices slot count) → ⊥) }
-    ensures records { R.tells rack.old → IfOk result (λ count. (areas : ℕ) (records : List Logged) → IsLog (devices_of (R.state rack.old).reads (λ device. second)) devices areas slot records → length records ≡ count) }
+    ensures opened { R.tells rack.old → IfOk result (λ count. (gate : ℕ) → gate < count → IsOpenGate (gate_of (devices_of (R.state rack.old).reads (λ device sector. second)) devices slot gate)) }
+    ensures end { R.tells rack.old → IfOk result (λ count. count < 8 → IsOpenGate (gate_of (devices_of (R.state rack.old).reads (λ device sector. second)) devices slot count) → ⊥) }
+    ensures records { R.tells rack.old → IfOk result (λ count. (areas : ℕ) (records : List Logged) → IsLog (devices_of (R.state rack.old).reads (λ device sector. second)) devices areas slot records → length records ≡ count) }
     ensures stays { R.state rack.new ≡ R.state rack.old }
     ensures cause { OnErr result (BothRose (R.faults rack.old) (R.faults rack.new) (R.faults_of rack.old) (R.faults_of rack.new) (member_disk (log_device slot devices) second)) }
     ensures later { NoneFalls (R.faults rack.old) (R.faults rack.new) (R.faults_of rack.old) (R.faults_of rack.new) }
@@ -62,7 +62,7 @@ fn is_open<R: Rack>(
     requires gate { gate < 8 }
     requires disk { member_disk (log_device slot devices) second < length (R.state rack.old).sizes }
     requires room { 9345 ≤ slice_index (R.state rack.old).sizes (member_disk (log_device slot devices) second) }
-    ensures answer { R.tells rack.old → IfOk result (λ is. IsTrue is ↔ IsOpenGate (gate_of (devices_of (R.state rack.old).reads (λ device. second)) devices slot gate)) }
+    ensures answer { R.tells rack.old → IfOk result (λ is. IsTrue is ↔ IsOpenGate (gate_of (devices_of (R.state rack.old).reads (λ device sector. second)) devices slot gate)) }
     ensures stays { R.state rack.new ≡ R.state rack.old }
     ensures cause { OnErr result (BothRose (R.faults rack.old) (R.faults rack.new) (R.faults_of rack.old) (R.faults_of rack.new) (member_disk (log_device slot devices) second)) }
     ensures later { NoneFalls (R.faults rack.old) (R.faults rack.new) (R.faults_of rack.old) (R.faults_of rack.new) }

@@ -28,8 +28,8 @@ pub fn read_home<R: Rack>(
     requires block { IsBlock areas at }
     requires disk { member_disk (block_place at devices).0 second < length (R.state rack.old).sizes }
     requires room { member_sectors devices areas ≤ slice_index (R.state rack.old).sizes (member_disk (block_place at devices).0 second) }
-    ensures some { R.tells rack.old → IfOk result (λ found. IfSome found (IsHome (devices_of (R.state rack.old).reads (λ device. second)) devices at)) }
-    ensures none { R.tells rack.old → IfOk result (λ found. IfNone found ((block : Block) → IsHome (devices_of (R.state rack.old).reads (λ device. second)) devices at block → ⊥)) }
+    ensures some { R.tells rack.old → IfOk result (λ found. IfSome found (IsHome (devices_of (R.state rack.old).reads (λ device sector. second)) devices at)) }
+    ensures none { R.tells rack.old → IfOk result (λ found. IfNone found ((block : Block) → IsHome (devices_of (R.state rack.old).reads (λ device sector. second)) devices at block → ⊥)) }
     ensures stays { R.state rack.new ≡ R.state rack.old }
     ensures cause { IsErrOf result Fault → BothRose (R.faults rack.old) (R.faults rack.new) (R.faults_of rack.old) (R.faults_of rack.new) (member_disk (block_place at devices).0 second) }
     ensures later { NoneFalls (R.faults rack.old) (R.faults rack.new) (R.faults_of rack.old) (R.faults_of rack.new) }

@@ -4,7 +4,7 @@ use Rattle.std.proofs.lemmas.List.{reverse-append, length-reverse}
 use Rattle.bx_disk.specs.Disks.{Image}
 use Rattle.bx_layout.specs.Labels.{IsOpenGate}
 use Rattle.bx_places.specs.Places.{log_device, body_place}
-use Rattle.bx_volume.specs.Images.{devices_of, member_disk}
+use Rattle.bx_volume.specs.Images.{by_device, devices_of, member_disk}
 use Rattle.bx_volume.specs.Records.{Logged, IsInBody, StandOpen, IsLog, gate_of}
 use Rattle.bx_logs.specs.Bodies.{IsRecordAt}
 
@@ -33,13 +33,13 @@ module _ (held now : Image) (devices areas slot : ℕ) (same : (s : ℕ) → now
 
 module _ (image : Image) (second : ℕ → Bool) (devices areas slot body disk sector : ℕ) (logged : Logged)
     (same_disk : disk ≡ member_disk (body_place slot body devices).0 (second (body_place slot body devices).0)) (same_sector : sector ≡ (body_place slot body devices).1) where
-  there : (i : ℕ) → image disk (sector + i) ≡ devices_of image second (body_place slot body devices).0 ((body_place slot body devices).1 + i)
-  there i = ap (λ (d : ℕ). image d (sector + i)) same_disk ∙ ap (λ (s : ℕ). devices_of image second (body_place slot body devices).0 (s + i)) same_sector
+  there : (i : ℕ) → image disk (sector + i) ≡ devices_of image (by_device second) (body_place slot body devices).0 ((body_place slot body devices).1 + i)
+  there i = ap (λ (d : ℕ). image d (sector + i)) same_disk ∙ ap (λ (s : ℕ). devices_of image (by_device second) (body_place slot body devices).0 (s + i)) same_sector
 
-  pub in_body : IsRecordAt image disk sector areas logged → IsInBody (devices_of image second) devices areas slot body logged
+  pub in_body : IsRecordAt image disk sector areas logged → IsInBody (devices_of image (by_device second)) devices areas slot body logged
   in_body at = record { is = at.is; reads = record { each = λ i less. sym (there i) ∙ at.reads.each i less } }
 
-  pub at_body : IsInBody (devices_of image second) devices areas slot body logged → IsRecordAt image disk sector areas logged
+  pub at_body : IsInBody (devices_of image (by_device second)) devices areas slot body logged → IsRecordAt image disk sector areas logged
   at_body is = record { is = is.is; reads = record { each = λ i less. there i ∙ is.reads.each i less } }
 
 -- ---- runs

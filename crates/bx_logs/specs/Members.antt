@@ -2,7 +2,7 @@
 use Rattle.std.specs.Prelude.{◌≡◌, ℕ, ◌<◌, ◌≤◌, Bool, false, List, length, slice_index, slice_get, unwrap_or}
 use Rattle.bx_disk.specs.Disks.{Image}
 use Rattle.bx_places.specs.Places.{IsVolume, member_sectors}
-use Rattle.bx_volume.specs.Images.{devices_of, member_disk}
+use Rattle.bx_volume.specs.Images.{by_device, devices_of, member_disk}
 use Rattle.bx_logs.specs.declared.members.Members.{Members}
 
 -- the member of a device: A (false) or B (true)
@@ -11,7 +11,7 @@ member_in seconds device = unwrap_or (slice_get seconds device) false
 
 -- what the devices hold, read off these members
 abbrev pub held_by : Image → Members → Image
-held_by image members = devices_of image (member_in members.seconds)
+held_by image members = devices_of image (by_device (member_in members.seconds))
 
 -- the disk of a device's member
 abbrev pub disk_of : Members → ℕ → ℕ

@@ -108,10 +108,10 @@ module _ (disks : Disks) (volume : ℕ) (is : IsFormatted disks (first_label vol
   }
 
   pub formatted_closed : (tree : Tree) → StandsBare volume 1 opening_truth tree
-      → ((more : Logged) → LogStands (IsSettled disks (opening_state 1 1)) 1 1 (opening_state 1 1).sessions (devices_of disks.reads (λ device. false)) (λ slot. []) opening_truth more (closed_log 0 0))
+      → ((more : Logged) → LogStands (IsSettled disks (opening_state 1 1)) 1 1 (opening_state 1 1).sessions (devices_of disks.reads (λ device sector. false)) (λ slot. []) opening_truth more (closed_log 0 0))
       → IsClosed volume tree disks
   formatted_closed tree bare stands = record {
-    before = devices_of disks.reads (λ device. false);
+    before = devices_of disks.reads (λ device sector. false);
     truth = opening_truth;
     more = none_logged;
     stands = stands none_logged;

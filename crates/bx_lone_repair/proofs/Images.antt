@@ -55,17 +55,14 @@ module _ (disks : Disks) (volume : ℕ) (image : Image) (are : AreLabelled disks
       subst (IsLabelled disks.sizes image (first_label volume)) (sym (one_disk device member)) mine
 
   -- what a truth shows
-  pub shows_tree : (second : ℕ → Bool) (logs : Logs) (truth : Truth) (tree : Tree) → IsTruth (devices_of image second) 1 1 (opening_state 1 1).sessions logs truth → StandsBare volume 1 truth tree
+  pub shows_tree : (second : ℕ → ℕ → Bool) (logs : Logs) (truth : Truth) (tree : Tree) → IsTruth (devices_of image second) 1 1 (opening_state 1 1).sessions logs truth → StandsBare volume 1 truth tree
       → ShowsTree disks.sizes image (opening_state 1 1) second tree
   shows_tree second logs truth tree is_truth bare = record {
     first = first_label volume;
-    is_first = first_is;
-    devices = refl;
-    labelled = labelled;
-    volume = bare.stands.volume_is;
     logs = logs;
     truth = truth;
-    is_truth = is_truth;
+    shows = record { is_first = first_is; devices = refl; labelled = labelled; is_truth = is_truth };
+    volume = bare.stands.volume_is;
     stands = bare.stands.is;
     is = bare.stands.file_tree;
   }

@@ -43,7 +43,7 @@ none_above floor (logged ∷ records) told =
 
 -- ---- what images show
 
-module _ (volume floor : ℕ) (tree : Tree) (doubt : Option Doubt) (disks : Disks) (image : Image) (second : ℕ → Bool) (left : IsLeft volume floor tree doubt disks) (is : IsImage disks image) where
+module _ (volume floor : ℕ) (tree : Tree) (doubt : Option Doubt) (disks : Disks) (image : Image) (second : ℕ → ℕ → Bool) (left : IsLeft volume floor tree doubt disks) (is : IsImage disks image) where
   abbrev Truly : Logs → Truth → Type 0
   Truly logs truth = IsTruth (devices_of image second) 1 1 (opening_state 1 1).sessions logs truth
 

@@ -12,7 +12,7 @@ use Rattle.bx_lone_repair.specs.Left.{Doubt, IsOfDoubt}
 
 -- An image, read off these members of the devices, shows a tree. Of the records that are open in its logs those of calls above the floor weren't told: there is
 -- none, and the tree is the one that the disks hold; or there is one, that of the call in doubt, and the tree is the one after it.
-pub record Shows (floor : ℕ) (tree : Tree) (doubt : Option Doubt) (sizes : List ℕ) (image : Image) (second : ℕ → Bool) : Type 0 where
+pub record Shows (floor : ℕ) (tree : Tree) (doubt : Option Doubt) (sizes : List ℕ) (image : Image) (second : ℕ → ℕ → Bool) : Type 0 where
   pub shown : Tree
   pub shows : ShowsTree sizes image (opening_state 1 1) second shown
   pub logs : Records

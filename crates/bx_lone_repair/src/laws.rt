@@ -21,7 +21,7 @@ pub fn what_crashes_is_left()
 
 /// Each image that a crash may leave of disks that hold a tree shows it, or the one after the call in doubt, whose record is open then.
 pub fn what_is_left_is_shown()
-    ensures { (volume floor : ℕ) (tree : Tree) (doubt : Option Doubt) (disks : Disks) (image : Image) (second : ℕ → Bool) → IsLeft volume floor tree doubt disks
+    ensures { (volume floor : ℕ) (tree : Tree) (doubt : Option Doubt) (disks : Disks) (image : Image) (second : ℕ → ℕ → Bool) → IsLeft volume floor tree doubt disks
         → IsImage disks image → AreSources (opening_state 1 1) second → Shows floor tree doubt disks.sizes image second }
 {
     what_images_have();

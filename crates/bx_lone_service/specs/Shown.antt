@@ -26,7 +26,7 @@ use Rattle.bx_rows.specs.declared.device.DeviceRow.{DeviceRow}
 use Rattle.bx_rows.specs.Modes.{both}
 use Rattle.bx_rows.specs.Words.{is_taken}
 use Rattle.bx_service.specs.Rounds.{Doubt, IsCrashed, IsInDoubt, Shows}
-use Rattle.bx_volume.specs.Images.{AreReadFrom, AreSources, IsOwnLabel, ShowsTree, devices_of, member_disk}
+use Rattle.bx_volume.specs.Images.{AreReadFrom, AreSources, IsOwnLabel, ShowsTree, by_device, devices_of, member_disk}
 use Rattle.bx_volume.specs.Records.{HasLog, LogWhere, Logged}
 use Rattle.bx_volume.proofs.OneLog.{one_log}
 use Rattle.bx_layout.proofs.LabelFields.{areas_in, devices_in}
@@ -40,12 +40,16 @@ use Rattle.bx_lone_service.specs.declared.service.Stage.TheVariants.{Up, Down, R
 abbrev all_first : ℕ → Bool
 all_first device = false
 
+-- so is each of its sectors
+abbrev each_first : ℕ → ℕ → Bool
+each_first = by_device all_first
+
 row_is : (device : ℕ) (row : DeviceRow) → slice_get (opening_state 1 1).devices device ≡ Some row → row.mode ≡ both
 row_is zero row is = cc
 row_is (suc device) row is = absurd (cc)
 
-are_sources : AreSources (opening_state 1 1) all_first
-are_sources device row is = inl (row_is device row is)
+are_sources : AreSources (opening_state 1 1) each_first
+are_sources device sector row is = inl (row_is device row is)
 
 are_read : AreReadFrom (opening_state 1 1) all_first
 are_read device row is = ((λ first. inl (row_is device row is)), (λ at_a. refl))
@@ -62,10 +66,10 @@ map_reverse f (x ∷ xs) =
 -- ---- what a node left
 
 module _ (volume floor : ℕ) (tree : Tree) (of : Option lefts.Doubt) (x y : Disks) (left : IsLeft volume floor tree of x) (crashed : IsCrashed x y) where
-  shown : lefts_shown.Shows floor tree of x.sizes y.reads all_first
-  shown = left_shows volume floor tree of x y.reads all_first left crashed.left
-      (log_shown (IsSettled x (opening_state 1 1)) 1 1 (opening_state 1 1).sessions left.before (devices_of y.reads all_first) left.logs left.truth left.more left.log left.log.work
-      (λ d s apart. settled_has x (opening_state 1 1) y.reads all_first crashed.left are_sources d s (left.before d s)) left.stands)
+  shown : lefts_shown.Shows floor tree of x.sizes y.reads each_first
+  shown = left_shows volume floor tree of x y.reads each_first left crashed.left
+      (log_shown (IsSettled x (opening_state 1 1)) 1 1 (opening_state 1 1).sessions left.before (devices_of y.reads each_first) left.logs left.truth left.more left.log left.log.work
+      (λ d s apart. settled_has x (opening_state 1 1) y.reads each_first crashed.left are_sources d s (left.before d s)) left.stands)
 
   spells : SpellsLabel (first_label volume) (y.reads 0 0)
   spells = subst (SpellsLabel (first_label volume)) (sym (crashed.left.sure 0 0 left.labelled.bench.sure)) left.labelled.bench.reads
@@ -97,11 +101,11 @@ module _ (volume floor : ℕ) (tree : Tree) (of : Option lefts.Doubt) (x y : Dis
         subst (λ (n : ℕ). HasLog (opening_state 1 1).sessions (held_by y.reads opened.members) 1 n slot (reverse (log_in opened.logs slot))) one_area
         (subst (λ (n : ℕ). HasLog (opening_state 1 1).sessions (held_by y.reads opened.members) n opened.members.areas slot (reverse (log_in opened.logs slot))) one_device (opened.are_logs.each slot less))
 
-    alike : held_by y.reads opened.members 0 ≡ devices_of y.reads all_first 0
+    alike : held_by y.reads opened.members 0 ≡ devices_of y.reads each_first 0
     alike = ap (λ (second : Bool). λ (sector : ℕ). y.reads (member_disk 0 second) sector) ((opened.are_members.sources 0 _ refl).1 (inl refl))
 
     first_log : reverse (log_in opened.logs 0) ≡ shown.logs 0
-    first_log = one_log (devices_of y.reads all_first) 1 1 0 (reverse (log_in opened.logs 0)) (shown.logs 0) (is_log (held_by y.reads opened.members) (devices_of y.reads all_first) alike _ (logs_at 0 (omega arith))) (shown.are_logs 0 (omega arith))
+    first_log = one_log (devices_of y.reads each_first) 1 1 0 (reverse (log_in opened.logs 0)) (shown.logs 0) (is_log (held_by y.reads opened.members) (devices_of y.reads each_first) alike _ (logs_at 0 (omega arith))) (shown.are_logs 0 (omega arith))
 
     others : (slot : ℕ) → 0 < slot → slot < length opened.logs → log_in opened.logs slot ≡ []
     others slot some less = reverse_none (log_in opened.logs slot) (none_there slot some (logs_at slot (omega (arith, less, opened.are_logs.count))))
@@ -121,7 +125,7 @@ module _ (volume floor : ℕ) (tree : Tree) (of : Option lefts.Doubt) (x y : Dis
   pub left_is_shown : Shows (λ number. nat_lt floor number) y tree (maybe_doubt of)
   left_is_shown = record {
     next = shown.shown;
-    stands = record { state = opening_state 1 1; is_state = refl; second = all_first; reads = are_read; shows = subst (λ (s : List ℕ). ShowsTree s y.reads (opening_state 1 1) all_first shown.shown) (sym crashed.sizes) shown.shows };
+    stands = record { state = opening_state 1 1; is_state = refl; second = all_first; reads = are_read; shows = subst (λ (s : List ℕ). ShowsTree s y.reads (opening_state 1 1) each_first shown.shown) (sym crashed.sizes) shown.shows };
     opened = reverse shown.untold;
     open_is = told;
     tells = by shown.comes;

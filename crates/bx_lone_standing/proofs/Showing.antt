@@ -132,7 +132,7 @@ module _ (Keeps : Disks → StorePast → Type 0) (Standing : Disks → StorePas
     (made : Made) (own : Option ℕ) (out : Option Sent) (asked : Option Asked) (volume : ℕ) (state : GlobalState) (x : Disks) (node : NodeView) (tree next : Tree)
     (stood : NodeStands Keeps Standing Reading made own out asked volume state x node tree next) (is : IsNode node) where
   pub image_shows : ((d s : ℕ) (content : List ℕ) → Standing x stood.past d s content state.index → IsSettled x state d s content)
-      → (image : Image) (second : ℕ → Bool) → IsImage x image → AreSources state second → NodeShows volume node.devices node.areas state.sessions (devices_of image second) node tree next
+      → (image : Image) (second : ℕ → ℕ → Bool) → IsImage x image → AreSources state second → NodeShows volume node.devices node.areas state.sessions (devices_of image second) node tree next
   image_shows settled image second is_image sources =
       in_stage Keeps Standing Reading made own out asked volume state x node tree next stood is.slot (devices_of image second) node.stage is.stage stood.finds
       (shown (λ d s content. Standing x stood.past d s content state.index) node.devices node.areas state.sessions stood.before (devices_of image second) stood.logs stood.truth stood.more node.log node.log.work
@@ -141,7 +141,7 @@ module _ (Keeps : Disks → StorePast → Type 0) (Standing : Disks → StorePas
   -- an image at any moment of a store's calls
   module _ (Settled : ℕ → ℕ → List ℕ → Type 0) (settles : (d s : ℕ) (content : List ℕ) → Standing x stood.past d s content state.index → Settled d s content)
       (there : (d s : ℕ) (content : List ℕ) → Settled d s content → d < length state.devices)
-      (greatest : ℕ) (image : Image) (second : ℕ → Bool) (sources : AreSources state second) (has : HasSettled stood.past.writes greatest Settled x state image) where
+      (greatest : ℕ) (image : Image) (second : ℕ → ℕ → Bool) (sources : AreSources state second) (has : HasSettled stood.past.writes greatest Settled x state image) where
     log_settled : LogStands Settled node.devices node.areas state.sessions stood.before stood.logs stood.truth stood.more node.log
     log_settled = stays (λ d s content. Standing x stood.past d s content state.index) Settled node.devices node.areas state.sessions stood.before stood.logs stood.truth stood.more node.log node.log.out stood.log
         (λ d s content apart was. settles d s content was)

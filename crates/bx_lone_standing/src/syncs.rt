@@ -51,7 +51,7 @@ pub fn sync<S: Store, R: Rack>(
     ensures any_moment { (volume : ℕ) (node : NodeView) (tree next : Tree) → R.tells rack.old → IsNode node
         → NodeStands (S.keeps store.old) (S.stands store.old) (S.will_read store.old) (S.made store.old) (S.own store.old 0) (S.out_of store.old 0) (S.asked store.old 0) volume known.now (R.state rack.old) node tree next
         → LeavesOnly (R.moment rack.old) (R.moment rack.new) (R.left_since rack.old) (R.left_since rack.new)
-        (λ image. (second : ℕ → Bool) → AreSources known.now second → NodeShows volume node.devices node.areas known.now.sessions (devices_of image second) node tree next) }
+        (λ image. (second : ℕ → ℕ → Bool) → AreSources known.now second → NodeShows volume node.devices node.areas known.now.sessions (devices_of image second) node tree next) }
     ensures replicas { R.tells rack.old → SameReplicas (R.state rack.old) (R.state rack.new) × SameLabels (R.state rack.old) (R.state rack.new) }
 {
     let mut out = Outbox::new(alloc);

@@ -5,7 +5,7 @@ use Rattle.bx_disk.specs.Disks.{Disks}
 use Rattle.bx_global.specs.declared.state.GlobalState.{GlobalState}
 use Rattle.bx_layout.specs.declared.label.Label.{Label}
 use Rattle.bx_model.specs.declared.tree.Tree.{Tree}
-use Rattle.bx_volume.specs.Images.{IsFirstLabel, AreReadFrom, ShowsTree}
+use Rattle.bx_volume.specs.Images.{IsFirstLabel, AreReadFrom, ShowsTree, by_device}
 use Rattle.bx_volume.specs.Overlay.{IsTruth}
 use Rattle.bx_overlay.specs.declared.error.AuditError.{AuditError}
 use Rattle.bx_overlay.specs.declared.error.AuditError.TheVariants.{DiskFault, NoLabel, NoMajority, NoSource, Torn, OutOfMemory}
@@ -15,7 +15,7 @@ use Rattle.bx_overlay.specs.Refusals.{IsLogClash, IsLogGap, RefusesLogs, Refuses
 use Rattle.bx_overlay.proofs.Over.{are_agreed}
 use Rattle.bx_overlay.proofs.Shown.{count, not_absent, not_unlabelled, shown_truth}
 
-module _ (disks : Disks) (state : GlobalState) (second : ℕ → Bool) (tree : Tree) (from : AreReadFrom state second) (shows : ShowsTree disks.sizes disks.reads state second tree) where
+module _ (disks : Disks) (state : GlobalState) (second : ℕ → Bool) (tree : Tree) (from : AreReadFrom state second) (shows : ShowsTree disks.sizes disks.reads state (by_device second) tree) where
   by_members : (error : AuditError) (first : Label) → shows.first ≡ first → RefusesMembers disks first state.devices error → ⊥
   by_members DiskFault first same never = never
   by_members (NoLabel disk) first same lacks = not_unlabelled disks state second tree from shows first same disk lacks.2
@@ -48,9 +48,9 @@ module _ (disks : Disks) (state : GlobalState) (second : ℕ → Bool) (tree : T
 
   pub no_tree : ((a b : Label) → IsFirstLabel disks.sizes disks.reads a → IsFirstLabel disks.sizes disks.reads b → a ≡ b) → (error : AuditError) → IsRefused disks state error → ⊥
   no_tree one error refused = ⊎_elim
-      (λ none. none.1 shows.first.disk shows.first shows.is_first.own)
+      (λ none. none.1 shows.first.disk shows.first shows.shows.is_first.own)
       (λ why. ⊎_elim
-      (λ (is : IsRefusedAs disks state error). by_members error is.first (one shows.first is.first shows.is_first is.is_first) is.members)
-      (λ (wrong : HasWrongLogs disks state error). by_logs error wrong (one shows.first wrong.first shows.is_first wrong.is_first) error wrong.logs)
+      (λ (is : IsRefusedAs disks state error). by_members error is.first (one shows.first is.first shows.shows.is_first is.is_first) is.members)
+      (λ (wrong : HasWrongLogs disks state error). by_logs error wrong (one shows.first wrong.first shows.shows.is_first wrong.is_first) error wrong.logs)
       why)
       refused

@@ -12,7 +12,7 @@ use Rattle.bx_layout.specs.declared.label.Label.{Label}
 use Rattle.bx_places.specs.Places.{block_place, log_device}
 use Rattle.bx_model.specs.declared.tree.Tree.{Tree}
 use Rattle.bx_views.specs.Truths.{Truth}
-use Rattle.bx_volume.specs.Images.{IsLabelled, AreReadFrom, ShowsTree, devices_of, member_disk}
+use Rattle.bx_volume.specs.Images.{IsLabelled, AreReadFrom, ShowsTree, by_device, devices_of, member_disk}
 use Rattle.bx_volume.specs.Overlay.{Logs, IsTruth}
 use Rattle.bx_volume.proofs.Kept.{has_log}
 use Rattle.bx_homes.specs.Sources.{HasSource, IsFirstAbsent, IsFirstUnlabelled}
@@ -44,13 +44,13 @@ same_member mode true true of_a of_b = refl
 same_member mode false true of_a of_b = let no = of_b.1 (of_a.0 refl) in absurd (cc)
 same_member mode true false of_a of_b = let no = of_a.1 (of_b.0 refl) in absurd (cc)
 
-module _ (disks : Disks) (state : GlobalState) (second : ℕ → Bool) (tree : Tree) (from : AreReadFrom state second) (shows : ShowsTree disks.sizes disks.reads state second tree)
+module _ (disks : Disks) (state : GlobalState) (second : ℕ → Bool) (tree : Tree) (from : AreReadFrom state second) (shows : ShowsTree disks.sizes disks.reads state (by_device second) tree)
     (first : Label) (same_first : shows.first ≡ first) where
   pub count : length state.devices ≡ first.devices
-  count = shows.devices ∙ ap (λ (l : Label). l.devices) same_first
+  count = shows.shows.devices ∙ ap (λ (l : Label). l.devices) same_first
 
   pub labelled : (device : ℕ) (row : DeviceRow) (member : Bool) → slice_get state.devices device ≡ Some row → IsSource row.mode member → IsLabelled disks.sizes disks.reads first (member_disk device member)
-  labelled device row member there source = subst (λ (l : Label). IsLabelled disks.sizes disks.reads l (member_disk device member)) same_first (shows.labelled device row member there source)
+  labelled device row member there source = subst (λ (l : Label). IsLabelled disks.sizes disks.reads l (member_disk device member)) same_first (shows.shows.labelled device row member there source)
 
   -- no source is absent
   pub has_source : (device : ℕ) (row : DeviceRow) → slice_get state.devices device ≡ Some row → HasSource disks.sizes device row
@@ -74,16 +74,16 @@ module _ (disks : Disks) (state : GlobalState) (second : ℕ → Bool) (tree : T
 
   module _ (members : Members) (are : AreMembers first state.devices members) (some : 1 ≤ members.devices) where
     pub shown_truth : IsTruth (held_by disks.reads members) members.devices members.areas state.sessions shows.logs shows.truth
-    shown_truth = truth_same (devices_of disks.reads second) (held_by disks.reads members) members.devices members.areas state.sessions shows.logs shows.truth some same here
+    shown_truth = truth_same (devices_of disks.reads (by_device second)) (held_by disks.reads members) members.devices members.areas state.sessions shows.logs shows.truth some same here
       where
-        here : IsTruth (devices_of disks.reads second) members.devices members.areas state.sessions shows.logs shows.truth
+        here : IsTruth (devices_of disks.reads (by_device second)) members.devices members.areas state.sessions shows.logs shows.truth
         here =
             let devices : shows.first.devices ≡ members.devices = ap (λ (l : Label). l.devices) same_first ∙ sym are.devices in
             let areas : shows.first.areas ≡ members.areas = ap (λ (l : Label). l.areas) same_first ∙ sym are.areas in
-            subst (λ (n : ℕ). IsTruth (devices_of disks.reads second) members.devices n state.sessions shows.logs shows.truth) areas
-            (subst (λ (n : ℕ). IsTruth (devices_of disks.reads second) n shows.first.areas state.sessions shows.logs shows.truth) devices shows.is_truth)
+            subst (λ (n : ℕ). IsTruth (devices_of disks.reads (by_device second)) members.devices n state.sessions shows.logs shows.truth) areas
+            (subst (λ (n : ℕ). IsTruth (devices_of disks.reads (by_device second)) n shows.first.areas state.sessions shows.logs shows.truth) devices shows.shows.is_truth)
 
-        same : (d s : ℕ) → d < members.devices → held_by disks.reads members d s ≡ devices_of disks.reads second d s
+        same : (d s : ℕ) → d < members.devices → held_by disks.reads members d s ≡ devices_of disks.reads (by_device second) d s
         same d s less =
             let at = row_of state.devices members d (count ∙ sym are.devices) less in
             ap (λ (b : Bool). disks.reads (member_disk d b) s) (same_member at.row.mode (member_in members.seconds d) (second d) (are.sources d at.row at.there) (from d at.row at.there))

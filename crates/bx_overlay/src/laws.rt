@@ -6,7 +6,7 @@ ghost use Rattle.bx_global.specs.declared.state.GlobalState.{GlobalState};
 ghost use Rattle.bx_model.specs.declared.tree.Tree.{Tree};
 ghost use Rattle.bx_rows.specs.declared.session.SessionRow.{SessionRow};
 ghost use Rattle.bx_views.specs.Truths.{Truth};
-ghost use Rattle.bx_volume.specs.Images.{AreReadFrom, ShowsTree};
+ghost use Rattle.bx_volume.specs.Images.{AreReadFrom, ShowsTree, by_device};
 ghost use Rattle.bx_volume.specs.Overlay.{Logs, IsTruth};
 ghost use Rattle.bx_volume.specs.Records.{Logged};
 ghost use Rattle.bx_homes.specs.Slots.{AreBlocks};
@@ -39,7 +39,7 @@ pub fn what_stands_is_the_truth()
 /// truth with these blocks is one that the members hold.
 pub fn what_is_read_is_shown()
     ensures blocks { (disks : Disks) (state : GlobalState) (read : VolumeDisks) (second : ℕ → Bool) (tree : Tree) → IsRead disks state read → AreReadFrom state second
-        → (shows : ShowsTree disks.sizes disks.reads state second tree) → AreBlocks read.members.areas (StandsOver (held_by disks.reads read.members) read.members.devices read.newest) shows.truth }
+        → (shows : ShowsTree disks.sizes disks.reads state (by_device second) tree) → AreBlocks read.members.areas (StandsOver (held_by disks.reads read.members) read.members.devices read.newest) shows.truth }
     ensures truth { (disks : Disks) (state : GlobalState) (read : VolumeDisks) (truth : Truth) → IsRead disks state read
         → AreBlocks read.members.areas (StandsOver (held_by disks.reads read.members) read.members.devices read.newest) truth
         → HoldsTruth disks.reads state read truth }
@@ -50,7 +50,7 @@ pub fn what_is_read_is_shown()
 /// Disks that are refused show no tree, read off the members that reads go to.
 pub fn refused_disks_show_no_tree()
     ensures { (disks : Disks) (state : GlobalState) (error : AuditError) (second : ℕ → Bool) (tree : Tree) → IsRefused disks state error → AreReadFrom state second
-        → ShowsTree disks.sizes disks.reads state second tree → ⊥ }
+        → ShowsTree disks.sizes disks.reads state (by_device second) tree → ⊥ }
 {
     one_first_label();
 }

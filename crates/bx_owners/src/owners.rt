@@ -10,8 +10,10 @@ ghost use Rattle.bx_global.specs.Table.{IsLegal};
 ghost use Rattle.bx_global.specs.declared.change.Change.{Change};
 ghost use Rattle.bx_global.specs.declared.state.GlobalState.{GlobalState};
 ghost use Rattle.bx_post.specs.declared.packets.Letter.{Letter};
+ghost use Rattle.bx_rows.specs.Words.{row_in};
+ghost use Rattle.bx_facts.specs.declared.input.Input.{Input};
 ghost use Rattle.bx_facts.specs.Chains.{HasRow, IsOwnersKind, IsOwnersOwn, IsPlace, LivesIn, last, oldest, opened_at, session_by};
-ghost use Rattle.bx_facts.specs.Holds.{Hold, Holding, KeepsHolds, KeepsOthers, OwnersPast, first_of, found_owners, given, hold_of, leased, opening_owners, owners_crashed, owners_grown, owners_heard, owners_restarted, owners_with, without_block};
+ghost use Rattle.bx_facts.specs.Holds.{Hold, Holding, IsRevoke, KeepsHolds, KeepsOthers, OwnersPast, first_of, found_owners, given, hold_of, leased, opening_owners, owners_crashed, owners_grown, owners_heard, owners_restarted, owners_with, without_block};
 ghost use Rattle.bx_facts.specs.Inputs.{AreAmong, IsOwners, SendsOnly};
 ghost use Rattle.bx_facts.specs.Machines.{IsMachine};
 ghost use Rattle.bx_facts.specs.Pasts.{MayRestart, MayTake};
@@ -54,8 +56,20 @@ pub trait Owners: Drop {
     /// The blocks that a node is asked to give back, each with a session that asks, in the order of those sessions.
     ghost asks: { Self → ℕ → List (ℕ × ℕ) };
 
+    /// Whether a node has no number left for a request.
+    ghost is_spent: { Self → ℕ → Type 0 };
+
     /// This past is one that led to them.
     ghost keeps: { Self → OwnersPast → Type 0 };
+
+    /// What a machine must propose after an input.
+    ghost hands: { Self → GlobalState → Actor → Input → Option Change → Type 0 };
+
+    /// What a node's want of a block in a mode makes of what is held and wanted, exactly.
+    ghost grants: { Self → ℕ → ℕ → Mode → Self → Type 0 };
+
+    /// What a block that a node gives up makes of it, exactly.
+    ghost passes_on: { Self → ℕ → ℕ → Self → Type 0 };
 
     /// The node's session; `None` exactly where it has no live session that it knows. It takes no memory.
     fn session(&self, node: u32) -> Option<u64>
@@ -77,7 +91,8 @@ pub trait Owners: Drop {
     fn asked(&self, node: u32) -> Option<(u64, u64)>
         ensures { result ≡ first_of (asks self.now node) };
 
-    /// Wants a block, in another mode than it is held in now. That hold ends.
+    /// Wants a block, in another mode than it is held in now. That hold ends. Where the node has no number left, nothing is sent, and no request is
+    /// out.
     fn want(
         &mut self,
         node: u32,
@@ -88,7 +103,8 @@ pub trait Owners: Drop {
         requires session { IsSome (own self.old node) }
         requires none_out { request self.old node block ≡ None }
         ensures keeps { (past : OwnersPast) (session : ℕ) → keeps self.old (owners_with past out.old) → past.told.down (Node node) ≡ false → own self.old node ≡ Some session → OnOk result (Holding (KeepsOthers session block past.holding) (keeps self.new) (owners_with past out.new)) }
-        ensures wants { OnOk result ((request self.new node block ≡ Some mode) ⊎ IsSomeAnd (hold self.new node block) (λ held. held.0 ≡ mode)) }
+        ensures wants { OnOk result (((request self.new node block ≡ Some mode) ⊎ IsSomeAnd (hold self.new node block) (λ held. held.0 ≡ mode)) ⊎ (is_spent self.old node × (request self.new node block ≡ None) × (hold self.new node block ≡ None) × (out.new ≡ out.old))) }
+        ensures grants { OnOk result (grants self.old node block mode self.new) }
         ensures requests { (other at : ℕ) → (other ≢ node) ⊎ (at ≢ block) → OnOk result ((request self.new other at ≡ None) ⊎ (request self.new other at ≡ request self.old other at)) }
         ensures asks { OnOk result (without_block block (asks self.new node) ≡ without_block block (asks self.old node)) }
         ensures own { (other : ℕ) → (own self.new other ≡ own self.old other) × (end_of self.new other ≡ end_of self.old other) }
@@ -108,6 +124,7 @@ pub trait Owners: Drop {
         requires held { IsSome (hold self.old node block) }
         ensures keeps { (past : OwnersPast) (session : ℕ) (s : GlobalState) → keeps self.old (owners_with past out.old) → past.told.down (Node node) ≡ false → own self.old node ≡ Some session → IsPlace past.told.chain s → s.index ≡ index → LivesIn s session → OnOk result (Holding (KeepsOthers session block past.holding) (keeps self.new) (owners_with (given past (hold self.old node block) block index) out.new)) }
         ensures gone { OnOk result (hold self.new node block ≡ None) }
+        ensures passes_on { OnOk result (passes_on self.old node block self.new) }
         ensures requests { (other at : ℕ) → OnOk result ((request self.new other at ≡ None) ⊎ (request self.new other at ≡ request self.old other at)) }
         ensures asks { OnOk result (asks self.new node ≡ without_block block (asks self.old node)) }
         ensures own { (other : ℕ) → (own self.new other ≡ own self.old other) × (end_of self.new other ≡ end_of self.old other) }
@@ -115,7 +132,8 @@ pub trait Owners: Drop {
         ensures sent { OnOk result (SendsOnly IsOwners out.old out.new) }
         ensures nodes { nodes self.new ≡ nodes self.old };
 
-    /// Does one event of a machine, which knows this state. The change is one that it must propose. All that is held stays held.
+    /// Does one event of a machine, which knows this state. The change is one that it must propose. All that is held stays held, and the end of a
+    /// session that stays doesn't fall. A request that goes was granted, revoked, or of another session than the node has now.
     fn take(
         &mut self,
         known: &GlobalState,
@@ -128,7 +146,9 @@ pub trait Owners: Drop {
         ensures keeps { (past : OwnersPast) → keeps self.old (owners_with past out.old) → MayTake (owners_with past out.old).told known.now at input.now → IfOk result (λ change. Holding (KeepsHolds past.holding) (keeps self.new) (owners_with (owners_heard past at known.now.index input.now change) out.new)) }
         ensures session { (past : OwnersPast) (node : ℕ) → keeps self.old (owners_with past out.old) → MayTake (owners_with past out.old).told known.now at input.now → at ≡ Node node → OnOk result (own self.new node ≡ session_by by_boot known.now node (past.told.boots at)) }
         ensures others { (node : ℕ) → at ≢ Node node → own self.new node ≡ own self.old node }
-        ensures requests { (node block : ℕ) → OnOk result ((request self.new node block ≡ None) ⊎ (request self.new node block ≡ request self.old node block)) }
+        ensures ends { (node session : ℕ) → own self.old node ≡ Some session → OnOk result (own self.new node ≡ Some session → IfSome (end_of self.old node) (λ before. IfSome (end_of self.new node) (λ now. before ≤ now))) }
+        ensures requests { (node block : ℕ) → OnOk result (((request self.new node block ≡ None) × (IsSome (hold self.new node block) ⊎ (own self.new node ≢ own self.old node) ⊎ IsRevoke input.now node)) ⊎ (request self.new node block ≡ request self.old node block)) }
+        ensures hands { IfOk result (hands self.old known.now at input.now) }
         ensures kind { IfOk result (λ change. IfSome change IsOwnersKind) }
         ensures apart { is_separate → (other block : ℕ) → at ≢ Node other → (end_of self.new other ≡ end_of self.old other) × (hold self.new other block ≡ hold self.old other block) × (request self.new other block ≡ request self.old other block) × (asks self.new other ≡ asks self.old other) }
         ensures sent { OnOk result (SendsOnly IsOwners out.old out.new) }
@@ -137,6 +157,7 @@ pub trait Owners: Drop {
     /// A machine stops. What its session holds stays held. It takes no memory.
     fn crash(&mut self, who: Actor)
         ensures keeps { (past : OwnersPast) → keeps self.old past → keeps self.new (owners_crashed past who) }
+        ensures ended { (node : ℕ) → who ≡ Node node → (own self.new node ≡ None) ⊎ (own self.new node ≡ own self.old node) }
         ensures others { (node : ℕ) → who ≢ Node node → (own self.new node ≡ own self.old node) × (end_of self.new node ≡ end_of self.old node) }
         ensures apart { (node block : ℕ) → who ≢ Node node → (hold self.new node block ≡ hold self.old node block) × (request self.new node block ≡ request self.old node block) × (is_separate → asks self.new node ≡ asks self.old node) }
         ensures nodes { nodes self.new ≡ nodes self.old };
@@ -183,11 +204,16 @@ pub trait Owners: Drop {
     /// Letters may be lost, and come in any order and number; those of other layers don't matter.
     ghost loses: { (o : Self) (past : OwnersPast) (letters : List Letter) → keeps o past → AreAmong IsOwners letters past.told.letters → keeps o (record past { told = record past.told { letters = letters } }) };
 
+    /// In new ones each node has the session of the state that they are made for, and an end no earlier than its row says.
+    ghost begins_own: { (o : Self) (nodes_of : ℕ) (s : GlobalState) (node : ℕ) → is_new o → is_for o nodes_of s → node < nodes_of → own o node ≡ session_by by_boot s node 0 };
+
+    ghost begins_end: { (o : Self) (nodes_of : ℕ) (s : GlobalState) (node session : ℕ) → is_new o → is_for o nodes_of s → own o node ≡ Some session → IsSomeAnd (row_in s.sessions session) (λ row. IfSome (end_of o node) (λ end. row.until ≤ end)) };
+
     /// New ones fit the state that they are made for.
     ghost begins: { (o : Self) (nodes : ℕ) (s : GlobalState) → is_new o → is_for o nodes s → IsAllowed s → keeps o (opening_owners s) };
 
-    /// They fit each state that is found on disks, too, where each machine's part is its own.
-    ghost finds: { (o : Self) (s : GlobalState) (boot : ℕ) → is_new o → is_separate → IsAllowed s → keeps o (found_owners s boot) };
+    /// They fit each state that is found on disks, too, where each machine's part is its own and they are made for a state without sessions.
+    ghost finds: { (o : Self) (nodes_of : ℕ) (made s : GlobalState) (boot : ℕ) → is_new o → is_separate → is_for o nodes_of made → made.sessions ≡ [] → IsAllowed s → keeps o (found_owners s boot) };
 
     /// They are for as many nodes as they are made for.
     ghost has_nodes: { (o : Self) (nodes_of : ℕ) (s : GlobalState) → is_for o nodes_of s → nodes o ≡ nodes_of };

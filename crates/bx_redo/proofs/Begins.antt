@@ -93,7 +93,7 @@ module _ (disks : Disks) (state : GlobalState) (first : Label) (truth : Truth) (
     → disks.reads (member_disk (log_device slot first.devices) true) (log_start slot + gate) ≡ disks.reads (member_disk (log_device slot first.devices) false) (log_start slot + gate)) where
   -- what devices hold, read off their first members
   abbrev content : Image
-  content = devices_of disks.reads (λ device. false)
+  content = devices_of disks.reads (λ device sector. false)
 
   -- a sector that both members have alike is settled
   settled_at : (d s : ℕ) → d < first.devices → disks.reads (member_disk d true) s ≡ disks.reads (member_disk d false) s → IsSettled disks state d s (content d s)
@@ -118,8 +118,8 @@ module _ (disks : Disks) (state : GlobalState) (first : Label) (truth : Truth) (
   settled_here d s (Gate slot gate less place few) there = gate_settled slot gate less place there
   settled_here d s (Body slot body sector less few within fills) there = absurd (omega (arith, few))
   settled_here d s (Home at sector is unlogged within) there = settled_at d s there
-      (let a = rest.homes (λ device. true) at is in
-      let b = rest.homes (λ device. false) at is in
+      (let a = rest.homes (λ device sector. true) at is in
+      let b = rest.homes (λ device sector. false) at is in
       let long = block_bytes (truth at) b.is in
       ap (λ (n : ℕ). disks.reads n s) (sym (one_disk d true)) ∙ a.reads.each sector (omega (arith, within, long))
       ∙ sym (b.reads.each sector (omega (arith, within, long))) ∙ ap (λ (n : ℕ). disks.reads n s) (one_disk d false))
@@ -136,7 +136,7 @@ module _ (disks : Disks) (state : GlobalState) (first : Label) (truth : Truth) (
     is_slot = less;
     on_device = refl;
     taken = taken;
-    is_truth = homes_truth content first.devices first.areas state.sessions truth (rest.homes (λ device. false)) (λ other there. rest.gates (λ device. false) other 0 there (omega arith));
+    is_truth = homes_truth content first.devices first.areas state.sessions truth (rest.homes (λ device sector. false)) (λ other there. rest.gates (λ device sector. false) other 0 there (omega arith));
     run = refl;
     sure = λ d s matters apart. settled_here d s matters (on_device first.devices first.areas (λ slot. []) volume_is.least_devices d s matters);
     own = λ d s gate apart.
@@ -144,5 +144,5 @@ module _ (disks : Disks) (state : GlobalState) (first : Label) (truth : Truth) (
         let which : (n : ℕ) × (s ≡ log_start slot + n) × (n < 8) = part (log_start slot) s w.begins w.ends in
         subst (λ (x : ℕ × ℕ). IsSettled disks state x.0 x.1 (content x.0 x.1)) (λ i. (sym w.on i, sym which.1 i))
         (gate_settled slot which.0 less which.2 (on_device first.devices first.areas (λ slot. []) volume_is.least_devices (gate_place slot 0 first.devices).0 (gate_place slot 0 first.devices).1 (Gate slot 0 less (omega arith) (omega arith))));
-    finds = λ gate le place. rest.gates (λ device. false) slot gate less place;
+    finds = λ gate le place. rest.gates (λ device sector. false) slot gate less place;
   }

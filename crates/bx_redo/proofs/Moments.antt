@@ -18,14 +18,14 @@ use Rattle.bx_redo.proofs.Settled.{one_disk, there_is}
 use Rattle.bx_redo.proofs.Shown.{shown}
 
 module _ (Sure : ℕ → ℕ → List ℕ → Type 0)
-    (disks : Disks) (state : GlobalState) (there : (d s : ℕ) (content : List ℕ) → Sure d s content → d < length state.devices) (image : Image) (second : ℕ → Bool) (sources : AreSources state second) (sent : List Sent) (greatest : ℕ)
+    (disks : Disks) (state : GlobalState) (there : (d s : ℕ) (content : List ℕ) → Sure d s content → d < length state.devices) (image : Image) (second : ℕ → ℕ → Bool) (sources : AreSources state second) (sent : List Sent) (greatest : ℕ)
     (has : HasSettled sent greatest Sure disks state image) where
   -- what is sure, and what members write nothing else to
   image_has : (d s : ℕ) (content : List ℕ) → IsOnly sent greatest d s content → Sure d s content → devices_of image second d s ≡ content
   image_has d s content only sure =
       let row = there_is state.devices d (there d s content sure) in
-      let source : IsSourceIn state d (second d) = subst (λ (o : Option DeviceRow). IsSourceRow o (second d)) (sym row.1) (sources d row.0 row.1) in
-      ap (λ (n : ℕ). image n s) (one_disk d (second d)) ∙ has.has d s content (second d) only sure source
+      let source : IsSourceIn state d (second d s) = subst (λ (o : Option DeviceRow). IsSourceRow o (second d s)) (sym row.1) (sources d s row.0 row.1) in
+      ap (λ (n : ℕ). image n s) (one_disk d (second d s)) ∙ has.has d s content (second d s) only sure source
 
   module _ (devices areas : ℕ) (rows : List SessionRow) (before : Image) (logs : Logs) (truth : Truth) (more : Logged) where
     pub moment_shows : (log : LogView)

@@ -19,9 +19,9 @@ there_is rows n less = ⊎_elim
     (λ z. let le = z.0 in absurd (omega (arith, less, le)))
     (slice_get_cases rows n).1
 
-pub settled_has : (disks : Disks) (state : GlobalState) (image : Image) (second : ℕ → Bool) → IsImage disks image → AreSources state second
+pub settled_has : (disks : Disks) (state : GlobalState) (image : Image) (second : ℕ → ℕ → Bool) → IsImage disks image → AreSources state second
     → HasSure (IsSettled disks state) (devices_of image second)
 settled_has disks state image second is sources d s content settled =
     let row = there_is state.devices d settled.there in
-    let source : IsSourceIn state d (second d) = subst (λ (o : Option DeviceRow). IsSourceRow o (second d)) (sym row.1) (sources d row.0 row.1) in
-    ap (λ (n : ℕ). image n s) (one_disk d (second d)) ∙ is.sure (member_disk d (second d)) s (settled.sure (second d) source) ∙ settled.reads (second d) source
+    let source : IsSourceIn state d (second d s) = subst (λ (o : Option DeviceRow). IsSourceRow o (second d s)) (sym row.1) (sources d s row.0 row.1) in
+    ap (λ (n : ℕ). image n s) (one_disk d (second d s)) ∙ is.sure (member_disk d (second d s)) s (settled.sure (second d s) source) ∙ settled.reads (second d s) source

@@ -28,7 +28,7 @@ pub fn what_is_asked_for_is_written()
 /// records: the acknowledged ones. While a gate is opened, it has that or the truth with the record in doubt; and while gate 0
 /// is closed, the same truth, by the whole run or by none.
 pub fn what_images_have()
-    ensures { (disks : Disks) (state : GlobalState) (image : Image) (second : ℕ → Bool) (devices areas : ℕ) (before : Image) (logs : Logs) (truth : Truth) (more : Logged) (log : LogView)
+    ensures { (disks : Disks) (state : GlobalState) (image : Image) (second : ℕ → ℕ → Bool) (devices areas : ℕ) (before : Image) (logs : Logs) (truth : Truth) (more : Logged) (log : LogView)
         → IsImage disks image → AreSources state second
         → LogStands (IsSettled disks state) devices areas state.sessions before logs truth more log
         → Shows devices areas state.sessions logs truth more (devices_of image second) log.slot log.work }

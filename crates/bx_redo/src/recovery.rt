@@ -27,7 +27,7 @@ pub fn a_log_begins()
         → ((other gate : ℕ) → other < 8 → gate < 8
         → disks.reads (member_disk (log_device other first.devices) true) (log_start other + gate) ≡ disks.reads (member_disk (log_device other first.devices) false) (log_start other + gate))
         → slot < 8 → is_taken state.sessions slot ≡ true
-        → LogStands (IsSettled disks state) first.devices first.areas state.sessions (devices_of disks.reads (λ device. false)) (λ slot. []) truth more (closed_log slot (log_device slot first.devices)) }
+        → LogStands (IsSettled disks state) first.devices first.areas state.sessions (devices_of disks.reads (λ device sector. false)) (λ slot. []) truth more (closed_log slot (log_device slot first.devices)) }
 {}
 
 /// A crash of disks, or whatever else keeps what is sure, moves nothing: the log stands as it did when its session stopped.

@@ -74,13 +74,13 @@ pub fn a_store_writes_homes()
 /// the log asks for, of what is settled there anyhow, as a recovery's of the gates, or none that counts any more. And while they take only homes of blocks that
 /// logs have, it has the truth.
 pub fn what_images_have_at_any_moment()
-    ensures log { (disks : Disks) (state : GlobalState) (image : Image) (second : ℕ → Bool) (devices areas : ℕ) (before : Image) (logs : Logs) (truth : Truth) (more : Logged) (log : LogView) (sent : List Sent) (greatest : ℕ)
+    ensures log { (disks : Disks) (state : GlobalState) (image : Image) (second : ℕ → ℕ → Bool) (devices areas : ℕ) (before : Image) (logs : Logs) (truth : Truth) (more : Logged) (log : LogView) (sent : List Sent) (greatest : ℕ)
         → AreSources state second → HasSettled sent greatest (IsSettled disks state) disks state image
         → ((write : Sent) (d s : ℕ) (other : List ℕ) → Contains sent write → WritesTo write d s other
         → (is_written log d s ≡ true) ⊎ (((content : List ℕ) → IsSettled disks state d s content → other ≡ content) ⊎ IsOver greatest write))
         → LogStands (IsSettled disks state) devices areas state.sessions before logs truth more log
         → Shows devices areas state.sessions logs truth more (devices_of image second) log.slot log.work }
-    ensures homes { (disks : Disks) (state : GlobalState) (image : Image) (second : ℕ → Bool) (devices areas : ℕ) (before : Image) (logs : Logs) (truth : Truth) (more : Logged) (slot : ℕ) (sent : List Sent) (greatest : ℕ)
+    ensures homes { (disks : Disks) (state : GlobalState) (image : Image) (second : ℕ → ℕ → Bool) (devices areas : ℕ) (before : Image) (logs : Logs) (truth : Truth) (more : Logged) (slot : ℕ) (sent : List Sent) (greatest : ℕ)
         → AreSources state second → HasSettled sent greatest (IsSettled disks state) disks state image
         → ((write : Sent) (d s : ℕ) (other : List ℕ) → Contains sent write → WritesTo write d s other → IsOfLogged devices areas logs d s ⊎ IsOver greatest write)
         → IsFound (IsSettled disks state) devices areas state.sessions before logs truth more slot

@@ -98,7 +98,7 @@ module _ (h : History) (cells : ℕ → Option Held) (old new : ℕ → Machine)
       (record { sound = stands.sound; each = turned h old new me (machine_of to) turns here.is (λ m apart. stands.each m) }, here)
 
   quiet : (x : Course) → to ≡ x → IsProposing h me x → Agrees h cells new me to
-  quiet x e is = let both = stays x e is in record { history = h; goes_on = same h; stands = both.0; proposing = both.1 }
+  quiet x e is = let both = stays x e is in record { history = h; goes_on = same h; told = inl refl; stands = both.0; proposing = both.1 }
 
   -- a round is begun anew, for a proposal that makes the next state
   begins_anew : (c : Course) (p : Proposal) → IsProposing h me c → ComesNext h.chain h.proposed p.own → to ≡ preparing me p c → Agrees h cells new me to
@@ -114,6 +114,7 @@ module _ (h : History) (cells : ℕ → Option Held) (old new : ℕ → Machine)
             record {
               history = h;
               goes_on = same h;
+              told = inl refl;
               stands = record { sound = d.stands.sound; each = turned h old new me (machine_of to) turns here.is (λ m apart. d.stands.each m) };
               proposing = here;
             }
@@ -123,6 +124,7 @@ module _ (h : History) (cells : ℕ → Option Held) (old new : ℕ → Machine)
             record {
               history = grown_h;
               goes_on = record { grows = d.grows; proposed = refl; proposals = λ a t k. k; promises = refl; votes = refl };
+              told = elim d.told [ inl stays ↦ inl stays | inr is ↦ inr (ap (λ (x : Course). x.known) e ∙ is) ];
               stands = record { sound = d.stands.sound; each = turned grown_h old new me (machine_of to) turns here.is (λ m apart. d.stands.each m) };
               proposing = here;
             }
@@ -175,6 +177,7 @@ module _ (h : History) (cells : ℕ → Option Held) (old new : ℕ → Machine)
       record {
         history = sent_h;
         goes_on = record { grows = inl refl; proposed = refl; proposals = λ a t k. record { is = inr k.is }; promises = refl; votes = refl };
+        told = inl refl;
         stands = record {
           sound = sends_proposal h cells stands.sound q.ballot p.own s change (promised_in v) (promised_by n q)
               (may_send h me c.boot c.seen (round_in q.ballot p) (promised_in v) (promised_by n q) s change by it counts.unsent first_is two differ picks);

@@ -1,10 +1,10 @@
 -- A proposer among the voters: the round that it has out, and what holds of it by what was sent.
-use Rattle.std.specs.Prelude.{◌≡◌, ℕ, Option, Some, None, IfSome}
+use Rattle.std.specs.Prelude.{◌≡◌, ℕ, ◌⊎◌, Option, Some, None, IfSome}
 use Rattle.std.specs.Option.{option_map}
 use Rattle.bx_agreement.specs.Events.{Is, Machine, Stands}
 use Rattle.bx_agreement.specs.History.{ComesNext, History, IsProposed}
 use Rattle.bx_agreement.specs.Round.{Round}
-use Rattle.bx_facts.specs.Chains.{GrowsBy, IsPlace}
+use Rattle.bx_facts.specs.Chains.{GrowsBy, IsPlace, last}
 use Rattle.bx_global.specs.declared.held.Held.{Held}
 use Rattle.bx_rows.specs.declared.ballot.Ballot.{Ballot}
 use Rattle.bx_global.specs.declared.state.GlobalState.{GlobalState}
@@ -41,10 +41,11 @@ pub record GoesOn (h new : History) : Type 0 where
   pub promises : new.promises ≡ h.promises
   pub votes : new.votes ≡ h.votes
 
--- A proposer goes on: so does the history, and all stands with it.
+-- A proposer goes on: so does the history, and all stands with it. The chain grows only by what the proposer knows then.
 pub record Agrees (h : History) (cells : ℕ → Option Held) (new : ℕ → Machine) (me : ℕ) (c : Course) : Type 0 where
   pub history : History
   pub goes_on : GoesOn h history
+  pub told : (history.chain ≡ h.chain) ⊎ (c.known ≡ last history.chain)
   pub stands : Stands history cells new
   pub proposing : IsProposing history me c
 

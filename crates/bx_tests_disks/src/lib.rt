@@ -1,8 +1,12 @@
-//! Tests of racks and of their calls.
+//! Tests of racks, of their calls, and of cells.
 #![tactic(auto)]
 
 #[cfg(test)]
 mod calls;
+#[cfg(test)]
+mod cell_crashes;
+#[cfg(test)]
+mod cells;
 #[cfg(test)]
 mod chains;
 #[cfg(test)]

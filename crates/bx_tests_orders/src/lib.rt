@@ -1,11 +1,16 @@
-//! Tests of the register of a cluster: which changes it refuses, and two machines that propose changes of which only one can be made.
+//! Tests of the register of a cluster: what one replica answers, which changes are refused, and two machines that propose changes of which only
+//! one can be made.
 #![tactic(auto)]
 
+#[cfg(test)]
+mod answers;
 #[cfg(test)]
 mod cluster;
 #[cfg(test)]
 mod orders;
 #[cfg(test)]
 mod refusals;
+#[cfg(test)]
+mod replicas;
 #[cfg(test)]
 mod states;

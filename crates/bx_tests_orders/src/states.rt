@@ -7,7 +7,7 @@ use bx_global::GlobalState;
 use std::alloc::Global;
 
 /// A state with a device and no session, as another model writes it. Its index stands in front.
-const STATE: [u8; 80] = [
+pub(crate) const STATE: [u8; 80] = [
     0, 0, 0, 0, 0, 0, 0, 1, 0, 0, 0, 0, 0, 0, 0, 0, 0, 0, 0, 0, 0, 0, 0, 0, 0, 0, 0, 1, 0, 0, 0, 0,
     0, 0, 0, 0, 0, 0, 0, 0, 0, 0, 0, 1, 0, 0, 0, 0, 0, 0, 0, 1, 0, 0, 0, 0, 0, 0, 0, 0, 0, 0, 0, 1,
     0, 0, 0, 0, 0, 0, 0, 0, 0, 0, 0, 0, 0, 0, 0, 0,

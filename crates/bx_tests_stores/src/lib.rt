@@ -4,6 +4,8 @@
 #[cfg(test)]
 mod bench;
 #[cfg(test)]
+mod blocks;
+#[cfg(test)]
 mod cases;
 mod toy;
 

@@ -64,14 +64,14 @@ module _ (devices areas : ℕ) (logs : Logs) (slot : ℕ) (more : Logged) where
 
 -- The disks while the gate is out: all else that matters is sure and is as it was in a content without the record. Whether the gate reads as
 -- closed or as open says nothing.
-pub gate_out : (held : Image) (disks : Disks) (image : Image) (second : ℕ → Bool) (devices areas : ℕ) (rows : List SessionRow) (logs : Logs) (truth : Truth) (slot : ℕ) (more : Logged)
+pub gate_out : (held : Image) (disks : Disks) (image : Image) (second : ℕ → ℕ → Bool) (devices areas : ℕ) (rows : List SessionRow) (logs : Logs) (truth : Truth) (slot : ℕ) (more : Logged)
     → IsImage disks image → slot < 8 → is_taken rows slot ≡ true → length (logs slot) < 8
     → IsTruth held devices areas rows logs truth
     → IsInBody held devices areas slot (length (logs slot)) more
     → (length (logs slot) + 1 < 8 → IsOpenGate (gate_of held devices slot (length (logs slot) + 1)) → ⊥)
     → ((s at : ℕ) (block : Block) → s < 8 → s ≢ slot → block_in more.changed at ≡ Some block → newest_in (logs s) at ≡ None)
     → ((d s : ℕ) → MattersMore devices areas logs slot more d s → (d ≢ (gate_place slot (length (logs slot)) devices).0) ⊎ (s ≢ (gate_place slot (length (logs slot)) devices).1)
-    → IsSureAs disks (member_disk d (second d)) s (held d s))
+    → IsSureAs disks (member_disk d (second d s)) s (held d s))
     → IsTruth (devices_of image second) devices areas rows logs truth ⊎ IsTruth (devices_of image second) devices areas rows (with_log logs slot (more ∷ logs slot)) (with_draft truth more.changed)
 gate_out held disks image second devices areas rows logs truth slot more is less taken place was body next alone sure =
     gate_in_doubt held (devices_of image second) devices areas rows logs truth slot more less taken place body next alone
@@ -79,16 +79,16 @@ gate_out held disks image second devices areas rows logs truth slot more is less
     (λ d s matters apart. at d s (sure d s (matters_more devices areas logs slot more less d s matters) apart))
     was
   where
-    at : (d s : ℕ) → IsSureAs disks (member_disk d (second d)) s (held d s) → image (member_disk d (second d)) s ≡ held d s
-    at d s is_sure = is.sure (member_disk d (second d)) s is_sure.sure ∙ is_sure.reads
+    at : (d s : ℕ) → IsSureAs disks (member_disk d (second d s)) s (held d s) → image (member_disk d (second d s)) s ≡ held d s
+    at d s is_sure = is.sure (member_disk d (second d s)) s is_sure.sure ∙ is_sure.reads
 
 -- the same while gate 0 is closed: whether it reads as open or as closed says nothing
-pub closing_out : (held : Image) (disks : Disks) (image : Image) (second : ℕ → Bool) (devices areas : ℕ) (rows : List SessionRow) (logs : Logs) (truth : Truth) (slot : ℕ)
+pub closing_out : (held : Image) (disks : Disks) (image : Image) (second : ℕ → ℕ → Bool) (devices areas : ℕ) (rows : List SessionRow) (logs : Logs) (truth : Truth) (slot : ℕ)
     → IsImage disks image → slot < 8 → is_taken rows slot ≡ true → 0 < length (logs slot)
     → IsTruth held devices areas rows logs truth
     → ((at : ℕ) (block : Block) → IsBlock areas at → newest_in (logs slot) at ≡ Some block → IsHome held devices at block)
     → ((d s : ℕ) → Matters devices areas logs d s ⊎ Matters devices areas (with_log logs slot []) d s → (d ≢ (gate_place slot 0 devices).0) ⊎ (s ≢ (gate_place slot 0 devices).1)
-    → IsSureAs disks (member_disk d (second d)) s (held d s))
+    → IsSureAs disks (member_disk d (second d s)) s (held d s))
     → IsTruth (devices_of image second) devices areas rows logs truth ⊎ IsTruth (devices_of image second) devices areas rows (with_log logs slot []) truth
 closing_out held disks image second devices areas rows logs truth slot is less taken some was homes sure =
     closing_in_doubt held (devices_of image second) devices areas rows logs truth slot less taken some homes
@@ -96,5 +96,5 @@ closing_out held disks image second devices areas rows logs truth slot is less t
     (λ d s matters apart. at d s (sure d s (inr matters) apart))
     was
   where
-    at : (d s : ℕ) → IsSureAs disks (member_disk d (second d)) s (held d s) → image (member_disk d (second d)) s ≡ held d s
-    at d s is_sure = is.sure (member_disk d (second d)) s is_sure.sure ∙ is_sure.reads
+    at : (d s : ℕ) → IsSureAs disks (member_disk d (second d s)) s (held d s) → image (member_disk d (second d s)) s ≡ held d s
+    at d s is_sure = is.sure (member_disk d (second d s)) s is_sure.sure ∙ is_sure.reads

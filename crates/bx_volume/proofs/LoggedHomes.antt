@@ -48,8 +48,8 @@ module _ (devices areas : ℕ) (logs : Logs) (volume : IsVolume devices areas) w
       (λ d s matters. ⊎_elim (λ same. same) (λ logged. absurd (matters_not (most_of held rows truth was) d s matters logged)) (each d s)) was
 
   -- and what a crash leaves of them
-  pub homes_out : (disks : Disks) (image : Image) (second : ℕ → Bool) (rows : List SessionRow) (truth : Truth) → IsImage disks image
-      → ((d s : ℕ) → (disks.unsure (member_disk d (second d)) s ≡ false) ⊎ IsOfLogged devices areas logs d s)
+  pub homes_out : (disks : Disks) (image : Image) (second : ℕ → ℕ → Bool) (rows : List SessionRow) (truth : Truth) → IsImage disks image
+      → ((d s : ℕ) → (disks.unsure (member_disk d (second d s)) s ≡ false) ⊎ IsOfLogged devices areas logs d s)
       → IsTruth (devices_of disks.reads second) devices areas rows logs truth → IsTruth (devices_of image second) devices areas rows logs truth
   homes_out disks image second rows truth is each = homes_written (devices_of disks.reads second) (devices_of image second) rows truth
-      (λ d s. ⊎_elim (λ sure. inl (is.sure (member_disk d (second d)) s sure)) (λ logged. inr logged) (each d s))
+      (λ d s. ⊎_elim (λ sure. inl (is.sure (member_disk d (second d s)) s sure)) (λ logged. inr logged) (each d s))

@@ -55,11 +55,11 @@ module _ (held now : Image) (devices areas : ℕ) (rows : List SessionRow) (logs
   }
 
 -- what a crash leaves is the same truth, where all that matters is sure
-pub image_truth : (disks : Disks) (image : Image) (second : ℕ → Bool) (devices areas : ℕ) (rows : List SessionRow) (logs : Logs) (truth : Truth)
-    → IsImage disks image → ((d s : ℕ) → Matters devices areas logs d s → disks.unsure (member_disk d (second d)) s ≡ false)
+pub image_truth : (disks : Disks) (image : Image) (second : ℕ → ℕ → Bool) (devices areas : ℕ) (rows : List SessionRow) (logs : Logs) (truth : Truth)
+    → IsImage disks image → ((d s : ℕ) → Matters devices areas logs d s → disks.unsure (member_disk d (second d s)) s ≡ false)
     → IsTruth (devices_of disks.reads second) devices areas rows logs truth → IsTruth (devices_of image second) devices areas rows logs truth
 image_truth disks image second devices areas rows logs truth is sure =
-    truth_same (devices_of disks.reads second) (devices_of image second) devices areas rows logs truth (λ d s matters. is.sure (member_disk d (second d)) s (sure d s matters))
+    truth_same (devices_of disks.reads second) (devices_of image second) devices areas rows logs truth (λ d s matters. is.sure (member_disk d (second d s)) s (sure d s matters))
 
 -- where the first gates are closed, the truth is what stands in the homes
 pub homes_truth : (held : Image) (devices areas : ℕ) (rows : List SessionRow) (truth : Truth) → ((at : ℕ) → IsBlock areas at → IsHome held devices at (truth at))

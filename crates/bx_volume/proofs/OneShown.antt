@@ -32,13 +32,13 @@ any_truth held devices areas rows logs other a b is_a is_b =
     one_truth held devices areas rows logs a b is_a
     (by_other_logs held devices areas rows other logs b is_b (λ slot less. one_has_log rows held devices areas slot (other slot) (logs slot) (is_b.has_logs slot less) (is_a.has_logs slot less)))
 
-pub one_shown : (sizes : List ℕ) (image : Image) (state : GlobalState) (second : ℕ → Bool) (a b : Tree) → ((x y : Label) → IsFirstLabel sizes image x → IsFirstLabel sizes image y → x ≡ y)
+pub one_shown : (sizes : List ℕ) (image : Image) (state : GlobalState) (second : ℕ → ℕ → Bool) (a b : Tree) → ((x y : Label) → IsFirstLabel sizes image x → IsFirstLabel sizes image y → x ≡ y)
     → ShowsTree sizes image state second a → ShowsTree sizes image state second b → (a.files ≡ b.files) × (a.volume ≡ b.volume) × (a.areas ≡ b.areas) × (a.root ≡ b.root)
 one_shown sizes image state second a b one_label x y =
-    let labels = one_label x.first y.first x.is_first y.is_first in
+    let labels = one_label x.first y.first x.shows.is_first y.shows.is_first in
     let is_y : IsTruth (devices_of image second) x.first.devices x.first.areas state.sessions y.logs y.truth =
-    subst (λ (l : Label). IsTruth (devices_of image second) l.devices l.areas state.sessions y.logs y.truth) (sym labels) y.is_truth in
-    let same = any_truth (devices_of image second) x.first.devices x.first.areas state.sessions y.logs x.logs y.truth x.truth is_y x.is_truth in
+    subst (λ (l : Label). IsTruth (devices_of image second) l.devices l.areas state.sessions y.logs y.truth) (sym labels) y.shows.is_truth in
+    let same = any_truth (devices_of image second) x.first.devices x.first.areas state.sessions y.logs x.logs y.truth x.truth is_y x.shows.is_truth in
     let other : StandsFor x.first.areas x.truth b = stands_same x.first.areas y.truth x.truth same b (subst (λ (l : Label). StandsFor l.areas y.truth b) (sym labels) y.stands) in
     let this = x.stands in (
       one_list (chunks_of x.first.areas x.truth) this.owner other.owner this.stored other.stored a.files b.files this.in_order other.in_order this.are_files other.are_files,

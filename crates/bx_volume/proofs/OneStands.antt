@@ -9,7 +9,7 @@ use Rattle.bx_rows.specs.Modes.{IsReadAtA}
 use Rattle.bx_global.specs.declared.state.GlobalState.{GlobalState}
 use Rattle.bx_layout.specs.declared.label.Label.{Label}
 use Rattle.bx_model.specs.declared.tree.Tree.{Tree}
-use Rattle.bx_volume.specs.Images.{IsFirstLabel, AreReadFrom, ShowsTree, ImageStandsFor, devices_of, member_disk}
+use Rattle.bx_volume.specs.Images.{IsFirstLabel, AreReadFrom, ShowsTree, ImageStandsFor, by_device, devices_of, member_disk}
 use Rattle.bx_volume.specs.Overlay.{Logs, Matters, Gate, Body, Home}
 use Rattle.bx_volume.proofs.Matters.{truth_same}
 use Rattle.bx_volume.proofs.OneShown.{one_shown}
@@ -22,17 +22,20 @@ on_device devices areas logs some d s (Home at sector is unlogged within) = mod-
 
 -- two choices of members that agree on the devices of the state show the same
 other_members : (sizes : List ℕ) (image : Image) (state : GlobalState) (second other : ℕ → Bool) (tree : Tree)
-    → ((device : ℕ) → device < length state.devices → other device ≡ second device) → ShowsTree sizes image state second tree → ShowsTree sizes image state other tree
+    → ((device : ℕ) → device < length state.devices → other device ≡ second device) → ShowsTree sizes image state (by_device second) tree
+    → ShowsTree sizes image state (by_device other) tree
 other_members sizes image state second other tree agree x = record {
   first = x.first;
-  is_first = x.is_first;
-  devices = x.devices;
-  labelled = x.labelled;
-  volume = x.volume;
   logs = x.logs;
   truth = x.truth;
-  is_truth = truth_same (devices_of image second) (devices_of image other) x.first.devices x.first.areas state.sessions x.logs x.truth
-      (λ d s matters. ap (λ (b : Bool). image (member_disk d b) s) (agree d (subst (λ (n : ℕ). d < n) (sym x.devices) (on_device x.first.devices x.first.areas x.logs x.is_first.own.spells.is.least_devices d s matters)))) x.is_truth;
+  shows = record {
+    is_first = x.shows.is_first;
+    devices = x.shows.devices;
+    labelled = x.shows.labelled;
+    is_truth = truth_same (devices_of image (by_device second)) (devices_of image (by_device other)) x.first.devices x.first.areas state.sessions x.logs x.truth
+        (λ d s matters. ap (λ (b : Bool). image (member_disk d b) s) (agree d (subst (λ (n : ℕ). d < n) (sym x.shows.devices) (on_device x.first.devices x.first.areas x.logs x.shows.is_first.own.spells.is.least_devices d s matters)))) x.shows.is_truth;
+  };
+  volume = x.volume;
   stands = x.stands;
   is = x.is;
 }
@@ -56,8 +59,8 @@ pub one_stands : (sizes : List ℕ) (image : Image) (state : GlobalState) (a b :
     → ImageStandsFor sizes (λ image told. told ≡ state) image a → ImageStandsFor sizes (λ image told. told ≡ state) image b
     → (a.files ≡ b.files) × (a.volume ≡ b.volume) × (a.areas ≡ b.areas) × (a.root ≡ b.root)
 one_stands sizes image state a b one_label x y =
-    let shows_a : ShowsTree sizes image state x.second a = subst (λ (s : GlobalState). ShowsTree sizes image s x.second a) x.is_state x.shows in
-    let shows_b : ShowsTree sizes image state y.second b = subst (λ (s : GlobalState). ShowsTree sizes image s y.second b) y.is_state y.shows in
+    let shows_a : ShowsTree sizes image state (by_device x.second) a = subst (λ (s : GlobalState). ShowsTree sizes image s (by_device x.second) a) x.is_state x.shows in
+    let shows_b : ShowsTree sizes image state (by_device y.second) b = subst (λ (s : GlobalState). ShowsTree sizes image s (by_device y.second) b) y.is_state y.shows in
     let reads_a : AreReadFrom state x.second = subst (λ (s : GlobalState). AreReadFrom s x.second) x.is_state x.reads in
     let reads_b : AreReadFrom state y.second = subst (λ (s : GlobalState). AreReadFrom s y.second) y.is_state y.reads in
-    one_shown sizes image state x.second a b one_label shows_a (other_members sizes image state y.second x.second b (one_member state y.second x.second reads_b reads_a) shows_b)
+    one_shown sizes image state (by_device x.second) a b one_label shows_a (other_members sizes image state y.second x.second b (one_member state y.second x.second reads_b reads_a) shows_b)

@@ -12,7 +12,7 @@ use Rattle.bx_rows.specs.declared.session.SessionRow.{SessionRow}
 use Rattle.bx_layout.specs.declared.block.Block.{Block}
 use Rattle.bx_layout.specs.Blocks.{HasParts, SpellsBlock, block_text}
 use Rattle.bx_places.specs.Places.{block_place}
-use Rattle.bx_volume.specs.Images.{devices_of, member_disk}
+use Rattle.bx_volume.specs.Images.{by_device, devices_of, member_disk}
 use Rattle.bx_volume.specs.Records.{newest_in}
 use Rattle.bx_truth.specs.Truth.{AreSame}
 use Rattle.bx_views.specs.Truths.{Truth}
@@ -99,7 +99,7 @@ one_truth held devices areas rows logs a b is_a is_b at is_block = by (logged_or
     by (inr (slot, block, less, some)) = is_a.logged slot at block less some ∙ sym (is_b.logged slot at block less some)
 
 -- bytes that are read of a home spell the block that is in it
-pub spelled_home : (image : Image) (second : ℕ → Bool) (devices at disk sector : ℕ) (bytes : List ℕ) (block : Block) → IsHome (devices_of image second) devices at block
+pub spelled_home : (image : Image) (second : ℕ → Bool) (devices at disk sector : ℕ) (bytes : List ℕ) (block : Block) → IsHome (devices_of image (by_device second)) devices at block
     → length bytes ≡ 4608 → disk ≡ member_disk (block_place at devices).0 (second (block_place at devices).0) → sector ≡ (block_place at devices).1 → ReadsAs image disk sector bytes → SpellsBlock block bytes
 spelled_home image second devices at disk sector bytes block home long same_disk same_sector reads = record {
   is = home.is;

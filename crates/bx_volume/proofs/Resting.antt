@@ -28,21 +28,23 @@ module _ (disks : Disks) (IsState : Image → GlobalState → Type 0) (first : L
   image_is : (image : Image) → IsImage disks image → image ≡ disks.reads
   image_is image left = fun_ext (λ d. fun_ext (λ s. left.sure d s (is.sure d s)))
 
-  shows : (state : GlobalState) (second : ℕ → Bool) → IsState disks.reads state → ShowsTree disks.sizes disks.reads state second tree
+  shows : (state : GlobalState) (second : ℕ → ℕ → Bool) → IsState disks.reads state → ShowsTree disks.sizes disks.reads state second tree
   shows state second told = record {
     first = first;
-    is_first = is.is_first;
-    devices = is.state state told;
-    labelled = λ device row member row_is source. is.labelled device member (let within = slice_get_within state.devices device row row_is in omega (arith, within, is.state state told));
-    volume = same_volume;
     logs = λ slot. [];
     truth = truth;
-    is_truth = homes_truth (devices_of disks.reads second) first.devices first.areas state.sessions truth (is.homes second) (λ slot less. is.gates second slot 0 less (omega arith));
+    shows = record {
+      is_first = is.is_first;
+      devices = is.state state told;
+      labelled = λ device row member row_is source. is.labelled device member (let within = slice_get_within state.devices device row row_is in omega (arith, within, is.state state told));
+      is_truth = homes_truth (devices_of disks.reads second) first.devices first.areas state.sessions truth (is.homes second) (λ slot less. is.gates second slot 0 less (omega arith));
+    };
+    volume = same_volume;
     stands = stands_for;
     is = is_tree;
   }
 
-  no_run : (rows : List SessionRow) (second : ℕ → Bool) (slot : ℕ) → slot < 8 → HasLog rows (devices_of disks.reads second) first.devices first.areas slot []
+  no_run : (rows : List SessionRow) (second : ℕ → ℕ → Bool) (slot : ℕ) → slot < 8 → HasLog rows (devices_of disks.reads second) first.devices first.areas slot []
   no_run rows second slot less = by (is_taken rows slot)
     where
       by : (taken : Bool) → LogWhere taken (devices_of disks.reads second) first.devices first.areas slot []

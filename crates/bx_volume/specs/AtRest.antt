@@ -16,6 +16,6 @@ pub record IsAtRest (disks : Disks) (IsState : Image → GlobalState → Type 0)
   pub sure : (d s : ℕ) → disks.unsure d s ≡ false
   pub is_first : IsFirstLabel disks.sizes disks.reads first
   pub labelled : (device : ℕ) (member : Bool) → device < first.devices → IsLabelled disks.sizes disks.reads first (member_disk device member)
-  pub homes : (second : ℕ → Bool) (at : ℕ) → IsBlock first.areas at → IsHome (devices_of disks.reads second) first.devices at (truth at)
-  pub gates : (second : ℕ → Bool) (slot gate : ℕ) → slot < 8 → gate < 8 → IsOpenGate (gate_of (devices_of disks.reads second) first.devices slot gate) → ⊥
+  pub homes : (second : ℕ → ℕ → Bool) (at : ℕ) → IsBlock first.areas at → IsHome (devices_of disks.reads second) first.devices at (truth at)
+  pub gates : (second : ℕ → ℕ → Bool) (slot gate : ℕ) → slot < 8 → gate < 8 → IsOpenGate (gate_of (devices_of disks.reads second) first.devices slot gate) → ⊥
   pub state : (told : GlobalState) → IsState disks.reads told → length told.devices ≡ first.devices

@@ -17,9 +17,13 @@ use Rattle.bx_volume.specs.Overlay.{Logs, IsTruth}
 abbrev pub member_disk : ℕ → Bool → ℕ
 member_disk device second = 3 + 2 * device + (if second then 1 else 0)
 
--- what the devices hold, each read off one of its members
-abbrev pub devices_of : Image → (ℕ → Bool) → Image
-devices_of image second device sector = image (member_disk device (second device)) sector
+-- what the devices hold, each sector read off one of the members of its device
+abbrev pub devices_of : Image → (ℕ → ℕ → Bool) → Image
+devices_of image second device sector = image (member_disk device (second device sector)) sector
+
+-- all sectors of a device read off the same member
+abbrev pub by_device : (ℕ → Bool) → ℕ → ℕ → Bool
+by_device second device sector = second device
 
 -- a label of this very disk, which is as long as the label says
 pub record IsOwnLabel (sizes : List ℕ) (image : Image) (disk : ℕ) (label : Label) : Type 0 where
@@ -41,25 +45,30 @@ pub record IsLabelled (sizes : List ℕ) (image : Image) (first : Label) (disk :
   pub devices : label.devices ≡ first.devices
   pub areas : label.areas ≡ first.areas
 
--- Each device is read from a member that is a source in its mode.
-abbrev pub AreSources : GlobalState → (ℕ → Bool) → Type 0
-AreSources state second = (device : ℕ) (row : DeviceRow) → slice_get state.devices device ≡ Some row → IsSource row.mode (second device)
+-- Each sector is read from a member that is a source in its device's mode.
+abbrev pub AreSources : GlobalState → (ℕ → ℕ → Bool) → Type 0
+AreSources state second = (device sector : ℕ) (row : DeviceRow) → slice_get state.devices device ≡ Some row → IsSource row.mode (second device sector)
 
 -- Each device is read from the member that reads go to in its mode.
 abbrev pub AreReadFrom : GlobalState → (ℕ → Bool) → Type 0
 AreReadFrom state second = (device : ℕ) (row : DeviceRow) → slice_get state.devices device ≡ Some row → (second device ≡ false) ↔ IsReadAtA row.mode
 
--- The image, in this global state and with each device read from this member, stands for the tree, which is a file tree.
-pub record ShowsTree (sizes : List ℕ) (image : Image) (state : GlobalState) (second : ℕ → Bool) (tree : Tree) : Type 0 where
-  pub first : Label
+-- The image, in this global state and with each sector read from this member, has the labels of a volume, of which the first is this one, and a truth,
+-- whatever that stands for.
+pub record ShowsTruth (sizes : List ℕ) (image : Image) (state : GlobalState) (second : ℕ → ℕ → Bool) (first : Label) (logs : Logs) (truth : Truth) : Type 0 where
   pub is_first : IsFirstLabel sizes image first
   pub devices : length state.devices ≡ first.devices
   pub labelled : (device : ℕ) (row : DeviceRow) (member : Bool) → slice_get state.devices device ≡ Some row → IsSource row.mode member
       → IsLabelled sizes image first (member_disk device member)
-  pub volume : tree.volume ≡ first.volume
+  pub is_truth : IsTruth (devices_of image second) first.devices first.areas state.sessions logs truth
+
+-- It has a truth that stands for the tree, which is a file tree.
+pub record ShowsTree (sizes : List ℕ) (image : Image) (state : GlobalState) (second : ℕ → ℕ → Bool) (tree : Tree) : Type 0 where
+  pub first : Label
   pub logs : Logs
   pub truth : Truth
-  pub is_truth : IsTruth (devices_of image second) first.devices first.areas state.sessions logs truth
+  pub shows : ShowsTruth sizes image state second first logs truth
+  pub volume : tree.volume ≡ first.volume
   pub stands : StandsFor first.areas truth tree
   pub is : IsFileTree tree
 
@@ -69,4 +78,4 @@ pub record ImageStandsFor (sizes : List ℕ) (IsState : Image → GlobalState �
   pub is_state : IsState image state
   pub second : ℕ → Bool
   pub reads : AreReadFrom state second
-  pub shows : ShowsTree sizes image state second tree
+  pub shows : ShowsTree sizes image state (by_device second) tree

@@ -12,13 +12,13 @@ use Rattle.bx_volume.specs.Images.{devices_of, AreSources, ShowsTree}
 use Rattle.bx_volume.specs.Records.{Logged, HasLog, gate_of, newest_in}
 use Rattle.bx_volume.specs.Overlay.{IsHome, filled_of}
 
--- one way to read a rack: an image that a crash may leave, the global state that it tells, and a source member of each device
+-- one way to read a rack: an image that a crash may leave, the global state that it tells, and a source member of the device for each sector
 pub record Reading (disks : Disks) (IsState : Image → GlobalState → Type 0) : Type 0 where
   pub image : Image
   pub is_image : IsImage disks image
   pub state : GlobalState
   pub is_state : IsState image state
-  pub second : ℕ → Bool
+  pub second : ℕ → ℕ → Bool
   pub sources : AreSources state second
 
 module _ (disks : Disks) (IsState : Image → GlobalState → Type 0) (devices areas : ℕ) where

@@ -18,8 +18,8 @@ pub fn what_matters()
     ensures same { (held now : Image) (devices areas : ℕ) (rows : List SessionRow) (logs : Logs) (truth : Truth)
         → ((d s : ℕ) → Matters devices areas logs d s → now d s ≡ held d s)
         → IsTruth held devices areas rows logs truth → IsTruth now devices areas rows logs truth }
-    ensures image { (disks : Disks) (image : Image) (second : ℕ → Bool) (devices areas : ℕ) (rows : List SessionRow) (logs : Logs) (truth : Truth)
-        → IsImage disks image → ((d s : ℕ) → Matters devices areas logs d s → disks.unsure (member_disk d (second d)) s ≡ false)
+    ensures image { (disks : Disks) (image : Image) (second : ℕ → ℕ → Bool) (devices areas : ℕ) (rows : List SessionRow) (logs : Logs) (truth : Truth)
+        → IsImage disks image → ((d s : ℕ) → Matters devices areas logs d s → disks.unsure (member_disk d (second d s)) s ≡ false)
         → IsTruth (devices_of disks.reads second) devices areas rows logs truth → IsTruth (devices_of image second) devices areas rows logs truth }
 {}
 
@@ -48,21 +48,21 @@ pub fn a_record_in_doubt()
 /// has the truth without the record, or with it; and while gate 0 of a log whose blocks are home is closed, the same truth, by its run or by none. What
 /// the gate itself reads as doesn't matter.
 pub fn a_gate_is_out()
-    ensures opening { (held : Image) (disks : Disks) (image : Image) (second : ℕ → Bool) (devices areas : ℕ) (rows : List SessionRow) (logs : Logs) (truth : Truth) (slot : ℕ) (more : Logged)
+    ensures opening { (held : Image) (disks : Disks) (image : Image) (second : ℕ → ℕ → Bool) (devices areas : ℕ) (rows : List SessionRow) (logs : Logs) (truth : Truth) (slot : ℕ) (more : Logged)
         → IsImage disks image → slot < 8 → is_taken rows slot ≡ true → length (logs slot) < 8
         → IsTruth held devices areas rows logs truth
         → IsInBody held devices areas slot (length (logs slot)) more
         → (length (logs slot) + 1 < 8 → IsOpenGate (gate_of held devices slot (length (logs slot) + 1)) → ⊥)
         → ((s at : ℕ) (block : Block) → s < 8 → s ≢ slot → block_in more.changed at ≡ Some block → newest_in (logs s) at ≡ None)
         → ((d s : ℕ) → MattersMore devices areas logs slot more d s → (d ≢ (gate_place slot (length (logs slot)) devices).0) ⊎ (s ≢ (gate_place slot (length (logs slot)) devices).1)
-        → IsSureAs disks (member_disk d (second d)) s (held d s))
+        → IsSureAs disks (member_disk d (second d s)) s (held d s))
         → IsTruth (devices_of image second) devices areas rows logs truth
         ⊎ IsTruth (devices_of image second) devices areas rows (with_log logs slot (more ∷ logs slot)) (with_draft truth more.changed) }
-    ensures closing { (held : Image) (disks : Disks) (image : Image) (second : ℕ → Bool) (devices areas : ℕ) (rows : List SessionRow) (logs : Logs) (truth : Truth) (slot : ℕ)
+    ensures closing { (held : Image) (disks : Disks) (image : Image) (second : ℕ → ℕ → Bool) (devices areas : ℕ) (rows : List SessionRow) (logs : Logs) (truth : Truth) (slot : ℕ)
         → IsImage disks image → slot < 8 → is_taken rows slot ≡ true → 0 < length (logs slot)
         → IsTruth held devices areas rows logs truth
         → ((at : ℕ) (block : Block) → IsBlock areas at → newest_in (logs slot) at ≡ Some block → IsHome held devices at block)
         → ((d s : ℕ) → Matters devices areas logs d s ⊎ Matters devices areas (with_log logs slot []) d s → (d ≢ (gate_place slot 0 devices).0) ⊎ (s ≢ (gate_place slot 0 devices).1)
-        → IsSureAs disks (member_disk d (second d)) s (held d s))
+        → IsSureAs disks (member_disk d (second d s)) s (held d s))
         → IsTruth (devices_of image second) devices areas rows logs truth ⊎ IsTruth (devices_of image second) devices areas rows (with_log logs slot []) truth }
 {}

@@ -29,11 +29,11 @@ pub fn one_state()
 
 /// An image in a global state, read off the same members, shows one tree, but for the handles that were given out once.
 pub fn one_tree_is_shown()
-    ensures files { (sizes : List ℕ) (image : Image) (state : GlobalState) (second : ℕ → Bool) (a b : Tree)
+    ensures files { (sizes : List ℕ) (image : Image) (state : GlobalState) (second : ℕ → ℕ → Bool) (a b : Tree)
         → ShowsTree sizes image state second a → ShowsTree sizes image state second b → a.files ≡ b.files }
-    ensures listing { (sizes : List ℕ) (image : Image) (state : GlobalState) (second : ℕ → Bool) (a b : Tree)
+    ensures listing { (sizes : List ℕ) (image : Image) (state : GlobalState) (second : ℕ → ℕ → Bool) (a b : Tree)
         → ShowsTree sizes image state second a → ShowsTree sizes image state second b → listing a ≡ listing b }
-    ensures volume { (sizes : List ℕ) (image : Image) (state : GlobalState) (second : ℕ → Bool) (a b : Tree)
+    ensures volume { (sizes : List ℕ) (image : Image) (state : GlobalState) (second : ℕ → ℕ → Bool) (a b : Tree)
         → ShowsTree sizes image state second a → ShowsTree sizes image state second b → (a.volume ≡ b.volume) × (a.areas ≡ b.areas) × (a.root ≡ b.root) }
 {
     one_first_label();

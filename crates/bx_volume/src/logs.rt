@@ -27,9 +27,9 @@ pub fn several_logged_homes_do_not_matter()
     ensures written { (held now : Image) (devices areas : ℕ) (rows : List SessionRow) (logs : Logs) (truth : Truth)
         → IsVolume devices areas → ((d s : ℕ) → (now d s ≡ held d s) ⊎ IsOfLogged devices areas logs d s)
         → IsTruth held devices areas rows logs truth → IsTruth now devices areas rows logs truth }
-    ensures image { (disks : Disks) (image : Image) (second : ℕ → Bool) (devices areas : ℕ) (rows : List SessionRow) (logs : Logs) (truth : Truth)
+    ensures image { (disks : Disks) (image : Image) (second : ℕ → ℕ → Bool) (devices areas : ℕ) (rows : List SessionRow) (logs : Logs) (truth : Truth)
         → IsVolume devices areas → IsImage disks image
-        → ((d s : ℕ) → (disks.unsure (member_disk d (second d)) s ≡ false) ⊎ IsOfLogged devices areas logs d s)
+        → ((d s : ℕ) → (disks.unsure (member_disk d (second d s)) s ≡ false) ⊎ IsOfLogged devices areas logs d s)
         → IsTruth (devices_of disks.reads second) devices areas rows logs truth → IsTruth (devices_of image second) devices areas rows logs truth }
 {}
 

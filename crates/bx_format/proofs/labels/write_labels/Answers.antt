@@ -7,7 +7,7 @@ use Rattle.bx_format.proofs.labels.write_labels.Goals as goal
 pub loop-disk-preserved : goal.loop-disk-preserved
 loop-disk-preserved g c =
     let before = c.loop-disk.invariant.no_fault in
-    let this = c.in_ok-write_some.ensures.no_fault in
+    let this = c.in_ok-write_some.ensures.rack.no_fault in
     let long : length c.write.new.into ≡ 512 = c.write.auto.into ∙ c.loop-disk.invariant.sector in
     record {
       labels = λ tells.

@@ -11,5 +11,5 @@ invariant-loop-gate g l = record {
   stays : g.R.Rack.state l.rack ≡ g.R.Rack.state l.fn.rack;
   tells : g.R.Rack.tells l.fn.rack → g.R.Rack.tells l.rack;
   none_rose : NoneRose (g.R.Rack.faults l.fn.rack) (g.R.Rack.faults l.rack) (g.R.Rack.faults_of l.fn.rack) (g.R.Rack.faults_of l.rack);
-  opened : g.R.Rack.tells l.fn.rack → (gate : ℕ) → gate < l.gate → IsOpenGate (gate_of (devices_of (g.R.Rack.state l.fn.rack).reads (λ device. l.second)) l.devices l.slot gate);
+  opened : g.R.Rack.tells l.fn.rack → (gate : ℕ) → gate < l.gate → IsOpenGate (gate_of (devices_of (g.R.Rack.state l.fn.rack).reads (λ device sector. l.second)) l.devices l.slot gate);
 }

@@ -13,7 +13,7 @@ use Rattle.bx_logs.proofs.log.read_log.Goals as goal
 
 -- the member that a slot's device is read off
 here : (image : Image) (members : Members) (slot : ℕ) (second : Bool) → second ≡ member_in members.seconds (slot % members.devices)
-    → (s : ℕ) → devices_of image (λ device. second) (log_device slot members.devices) s ≡ held_by image members (log_device slot members.devices) s
+    → (s : ℕ) → devices_of image (λ device sector. second) (log_device slot members.devices) s ≡ held_by image members (log_device slot members.devices) s
 here image members slot second same s = ap (λ (b : Bool). image (member_disk (log_device slot members.devices) b) s) same
 
 pub returns-in_default-clause-none : goal.returns-in_default-clause-none
@@ -23,7 +23,7 @@ returns-in_default-clause-none g c = λ tells records log.
     let held = held_by image members in
     let told = c.loop-body.invariant.tells tells in
     let none = of_none c.in_ok-record.field-0 c.in_default.is (c.in_ok-record.ensures.none told) in
-    let as_read = log_same held (devices_of image (λ device. c.reads_second-second.result)) members.devices members.areas c.args.slot (here image members c.args.slot c.reads_second-second.result c.reads_second-second.ensures) records log in
+    let as_read = log_same held (devices_of image (λ device sector. c.reads_second-second.result)) members.devices members.areas c.args.slot (here image members c.args.slot c.reads_second-second.result c.reads_second-second.ensures) records log in
     let many = c.in_ok-count.ensures.records tells members.areas records as_read in
     none_missing held members.devices members.areas c.args.slot records c.loop-body.body (omega (arith, many, c.loop-body-test.true)) log.stand
     (subst (λ (s : Disks). (logged : Logged) → IsInBody (held_by s.reads members) members.devices members.areas c.args.slot c.loop-body.body logged → ⊥) c.loop-body.invariant.stays none)

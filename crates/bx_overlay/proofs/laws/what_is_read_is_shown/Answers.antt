@@ -9,7 +9,7 @@ use Rattle.bx_overlay.proofs.laws.what_is_read_is_shown.Goals as goal
 pub returns-clause-blocks : goal.returns-clause-blocks
 returns-clause-blocks c = λ disks state read second tree is from shows.
     let over = is.overlay in
-    let one = c.one_first_label.ensures disks.sizes disks.reads shows.first read.first shows.is_first is.is_first in
+    let one = c.one_first_label.ensures disks.sizes disks.reads shows.first read.first shows.shows.is_first is.is_first in
     are_blocks disks.reads read.members state.sessions over.logs read.newest over.are over.of shows.truth shows.logs
     (shown_truth disks state second tree from shows read.first one read.members is.members is.there.volume.least_devices)
 

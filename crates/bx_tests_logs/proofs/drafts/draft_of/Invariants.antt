@@ -1,5 +1,0 @@
-use Rattle.bx_redo.specs.Steps.{AreBlocksOf}
-use Rattle.bx_tests_logs.proofs.drafts.draft_of.Given as goal
-
-abbrev pub invariant-loop-at : goal.invariant-loop-at
-invariant-loop-at l = AreBlocksOf 64 l.draft

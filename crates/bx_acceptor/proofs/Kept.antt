@@ -4,11 +4,10 @@ use Rattle.bx_calls.specs.Calls.{HasSure, KeepsSure, LeavesOnly}
 use Rattle.bx_cell.specs.Cells.{HasEither, Holds, Known, next, with_value}
 use Rattle.bx_cell.specs.Halves.{cell_in}
 use Rattle.bx_cell.specs.Images.{EachImage, EachSure}
-use Rattle.bx_disk.specs.Counts.{NoneRose}
 use Rattle.bx_disk.specs.Disks.{Disks, Image, IsImage}
 use Rattle.bx_global.specs.declared.held.Held.{Held}
 use Rattle.bx_global.specs.Bytes.{held_text}
-use Rattle.bx_acceptor.specs.Disks.{Counts, Writes}
+use Rattle.bx_acceptor.specs.Disks.{Writes}
 use Rattle.bx_acceptor.specs.Saving.{IsSaved}
 use Rattle.bx_acceptor.specs.Standing.{HasCell, IsCellOf, IsStanding, Standing}
 
@@ -54,12 +53,6 @@ writes_nothing disks moment since disk only = record {
   };
   beside = leaves_itself moment since (HasSure disks disk 1 20) (λ image left. record { outside = record { elsewhere = λ d s differ is. (only image left).sure d s is; before = λ s below is. (only image left).sure disk s is; behind = λ s above is. (only image left).sure disk s is } });
 }
-
-pub counts_stay : (sizes : List ℕ) (faults : ℕ) (faults_of : ℕ → ℕ) → Counts sizes sizes faults faults faults_of faults_of
-counts_stay sizes faults faults_of = record { sizes_are = refl; later = record { all = omega arith; each = λ d. omega arith } }
-
-pub none_rose : (faults : ℕ) (faults_of : ℕ → ℕ) → NoneRose faults faults faults_of faults_of
-none_rose faults faults_of = record { all = refl; each = λ d. refl }
 
 -- ---- where a cell was put
 

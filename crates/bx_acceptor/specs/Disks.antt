@@ -1,7 +1,6 @@
 -- What a start and a put do to the disks of a rack, at every outcome.
-use Rattle.std.specs.Prelude.{◌≡◌, ℕ, List}
+use Rattle.std.specs.Prelude.{ℕ}
 use Rattle.bx_calls.specs.Calls.{HasSure, KeepsAll, KeepsSure, LeavesOnly}
-use Rattle.bx_disk.specs.Counts.{NoneFalls}
 use Rattle.bx_disk.specs.Disks.{Disks, Image, IsImage}
 
 -- A start syncs one disk.
@@ -13,8 +12,3 @@ pub record Syncs (old new : Disks) (before now : ℕ) (past since : ℕ → Imag
 pub record Writes (old new : Disks) (before now : ℕ) (past since : ℕ → Image → Type 0) (disk : ℕ) : Type 0 where
   pub keeps : KeepsSure old new disk 1 20
   pub beside : LeavesOnly before now past since (HasSure old disk 1 20)
-
--- The sizes stay, and no count of faults falls.
-pub record Counts (sizes now_sizes : List ℕ) (before now : ℕ) (before_of now_of : ℕ → ℕ) : Type 0 where
-  pub sizes_are : now_sizes ≡ sizes
-  pub later : NoneFalls before now before_of now_of

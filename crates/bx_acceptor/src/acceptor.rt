@@ -2,7 +2,7 @@
 
 ghost use Rattle.std.specs.Prelude.{◌≡◌, ℕ, ◌+◌, ◌^◌, ◌<◌, ◌≤◌, ◌⊎◌, None, Some, IfOk, IfSome, IsErrOf, OnErr, OnOk, slice_index};
 ghost use Rattle.bx_base.specs.declared.names.Actor.{Actor};
-ghost use Rattle.bx_disk.specs.Counts.{NoneRose, BothRose};
+ghost use Rattle.bx_disk.specs.Kept.{CountedOn};
 ghost use Rattle.bx_calls.specs.Calls.{LeavesOnly};
 ghost use Rattle.bx_calls.specs.Regions.{IsSynced};
 ghost use Rattle.bx_cell.specs.Images.{EachSure};
@@ -12,7 +12,7 @@ ghost use Rattle.bx_global.specs.Allowed.{IsAllowed};
 ghost use Rattle.bx_global.specs.Bytes.{held_text};
 ghost use Rattle.bx_packets.specs.declared.message.Message.{Message};
 ghost use Rattle.bx_places.specs.Places.{replica_sectors};
-ghost use Rattle.bx_acceptor.specs.Disks.{Counts, Syncs, Writes};
+ghost use Rattle.bx_acceptor.specs.Disks.{Syncs, Writes};
 ghost use Rattle.bx_answers.specs.Handling.{Changes, MayBecome};
 ghost use Rattle.bx_acceptor.specs.Standing.{Answers, BecomesBy, Brings, HasCell, IsStanding, Takes, TakesIn, devices_of, stopped, without_cell};
 ghost use Rattle.bx_acceptor.specs.Starting.{StartsWith};
@@ -101,10 +101,7 @@ impl Acceptor {
         ensures holds { R.tells rack.old → OnOk result (EachSure (R.state rack.new) (HasCell self.new)) }
         ensures sure { R.tells rack.old → OnOk result (IsSynced (R.state rack.new) self.old.replica) }
         ensures disks { R.tells rack.old → Syncs (R.state rack.old) (R.state rack.new) (R.moment rack.old) (R.moment rack.new) (R.left_since rack.old) (R.left_since rack.new) self.old.replica }
-        ensures counts { Counts (R.state rack.old).sizes (R.state rack.new).sizes (R.faults rack.old) (R.faults rack.new) (R.faults_of rack.old) (R.faults_of rack.new) }
-        ensures cause { IsErrOf result DiskFails → BothRose (R.faults rack.old) (R.faults rack.new) (R.faults_of rack.old) (R.faults_of rack.new) self.old.replica }
-        ensures no_fault { OnOk result (NoneRose (R.faults rack.old) (R.faults rack.new) (R.faults_of rack.old) (R.faults_of rack.new)) }
-        ensures keeps_telling { R.tells rack.old → R.tells rack.new }
+        ensures rack { CountedOn R.Rack rack.old rack.new self.old.replica result DiskFails }
     {
         self.cell = None;
         let (held, cell) = begin(self.alloc, rack, self.replica, &self.first, self.origin)?;
@@ -141,10 +138,7 @@ impl Acceptor {
         ensures either { IfSome self.old.cell (λ cell. R.tells rack.old → EachSure (R.state rack.old) (HasCell self.old)
             → EachSure (R.state rack.new) (HasEither (R.state rack.old) self.old.replica 1 cell.found (next cell.found (held_text self.new.held)))) }
         ensures disks { R.tells rack.old → Writes (R.state rack.old) (R.state rack.new) (R.moment rack.old) (R.moment rack.new) (R.left_since rack.old) (R.left_since rack.new) self.old.replica }
-        ensures cause { IsErrOf result DiskFails → BothRose (R.faults rack.old) (R.faults rack.new) (R.faults_of rack.old) (R.faults_of rack.new) self.old.replica }
-        ensures counts { Counts (R.state rack.old).sizes (R.state rack.new).sizes (R.faults rack.old) (R.faults rack.new) (R.faults_of rack.old) (R.faults_of rack.new) }
-        ensures no_fault { OnOk result (NoneRose (R.faults rack.old) (R.faults rack.new) (R.faults_of rack.old) (R.faults_of rack.new)) }
-        ensures keeps_telling { R.tells rack.old → R.tells rack.new }
+        ensures rack { CountedOn R.Rack rack.old rack.new self.old.replica result DiskFails }
     {
         let devices = self.first.devices.len() as u32;
         let Some((from, message)) = heard(self.alloc, &self.cell, input, devices)? else {

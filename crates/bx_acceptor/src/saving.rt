@@ -1,13 +1,13 @@
 //! Writing what an acceptor holds into its cell.
 
 ghost use Rattle.std.specs.Prelude.{◌≡◌, ℕ, ◌+◌, ◌^◌, ◌<◌, ◌≤◌, ◌⊎◌, false, true, slice_index, OnOk, IsErrOf};
-ghost use Rattle.bx_disk.specs.Counts.{NoneRose, BothRose};
+ghost use Rattle.bx_disk.specs.Kept.{CountedOn};
 ghost use Rattle.bx_calls.specs.Calls.{LeavesOnly};
 ghost use Rattle.bx_cell.specs.Images.{EachSure};
 ghost use Rattle.bx_cell.specs.Cells.{HasEither, Holds, next, shut, with_value};
 ghost use Rattle.bx_facts.specs.declared.input.FactError.TheVariants.{Disk as DiskFails, OutOfMemory as WantsMemory};
 ghost use Rattle.bx_global.specs.Bytes.{IsHeld, held_text};
-ghost use Rattle.bx_acceptor.specs.Disks.{Counts, Writes};
+ghost use Rattle.bx_acceptor.specs.Disks.{Writes};
 ghost use Rattle.bx_acceptor.specs.Saving.{IsSaved};
 
 use bx_cell::{Cell, CellError};
@@ -39,10 +39,7 @@ pub(crate) fn save<R: Rack>(
     ensures either { R.tells rack.old → EachSure (R.state rack.old) (Holds cell.old)
         → EachSure (R.state rack.new) (HasEither (R.state rack.old) cell.old.disk 1 cell.old.found (next cell.old.found (held_text held.now))) }
     ensures disks { R.tells rack.old → Writes (R.state rack.old) (R.state rack.new) (R.moment rack.old) (R.moment rack.new) (R.left_since rack.old) (R.left_since rack.new) cell.old.disk }
-    ensures cause { IsErrOf result DiskFails → BothRose (R.faults rack.old) (R.faults rack.new) (R.faults_of rack.old) (R.faults_of rack.new) cell.old.disk }
-    ensures counts { Counts (R.state rack.old).sizes (R.state rack.new).sizes (R.faults rack.old) (R.faults rack.new) (R.faults_of rack.old) (R.faults_of rack.new) }
-    ensures no_fault { OnOk result (NoneRose (R.faults rack.old) (R.faults rack.new) (R.faults_of rack.old) (R.faults_of rack.new)) }
-    ensures keeps_telling { R.tells rack.old → R.tells rack.new }
+    ensures rack { CountedOn R.Rack rack.old rack.new cell.old.disk result DiskFails }
 {
     if !changed {
         return Ok(());

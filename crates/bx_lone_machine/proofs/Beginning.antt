@@ -1,14 +1,10 @@
 -- How a node begins on a bench whose log is closed.
 use Rattle.std.proofs.Common.{◌≡◌, refl, ℕ, ◌+◌, ◌<◌, ◌≤◌, arith, Bool, true, false, List, [], Option, Some, None, sym, ◌∙◌, subst}
-use Rattle.std.specs.Prelude.{if◌then◌else◌}
-use Rattle.bx_base.specs.declared.names.Actor.{Actor}
-use Rattle.bx_base.specs.declared.names.Actor.TheVariants.{Node}
+use Rattle.std.specs.Prelude.{slice_index}
 use Rattle.bx_cache.specs.Cached.{block_at}
 use Rattle.bx_disk.specs.Disks.{Disks}
 use Rattle.bx_facts.specs.Chains.{last}
-use Rattle.bx_facts.specs.Machines.{is_same, put_at}
-use Rattle.bx_facts.specs.Writes.{Asked, IsOfStore, IsSettled, IsSourceIn, Made, Sent, StorePast, label_on, member_disk, opening_store, store_heard, store_with}
-use Rattle.bx_facts.specs.declared.input.Input.TheVariants.{Tick}
+use Rattle.bx_facts.specs.Writes.{Asked, IsOfStore, IsSettled, IsSourceIn, Made, Sent, StorePast, label_on, member_disk, opening_store, store_room}
 use Rattle.bx_format.specs.Formats.{HasSizes, IsFormatted}
 use Rattle.bx_global.specs.Opening.{opening_state}
 use Rattle.bx_layout.specs.Labels.{SpellsLabel}
@@ -33,14 +29,7 @@ use Rattle.bx_volume.specs.Records.{Logged}
 
 -- what was done with the store
 abbrev pub begun : StorePast
-begun = store_with (store_heard (opening_store (opening_state 1 1)) (Node 0) 1 (Tick 0) None) []
-
-knew_little : (who : Actor) → put_at (Node 0) 1 (λ (a : Actor). 0) who ≤ 1
-knew_little who = by (is_same (Node 0) who)
-  where
-    by : (b : Bool) → (if b then 1 else 0) ≤ 1
-    by true = omega arith
-    by false = omega arith
+begun = opening_store (opening_state 1 1)
 
 module _ (Keeps : Disks → StorePast → Type 0) (Reading : Disks → StorePast → ℕ → ℕ → List ℕ → Type 0) (made : Made) (own : Option ℕ) (out : Option Sent) (asked : Option Asked)
     (volume : ℕ) (disks : Disks) (node : NodeView) (tree : Tree) where
@@ -55,7 +44,7 @@ module _ (Keeps : Disks → StorePast → Type 0) (Reading : Disks → StorePast
       record {
         past = begun;
         keeps = keeps;
-        lone = record { chain = refl; up = λ who. refl; knew = knew_little; own_knew = refl };
+        lone = record { chain = refl; up = λ who. refl; knew = λ who. omega arith; own_knew = refl };
         session = 1;
         own_is = own_is;
         lives = refl;
@@ -97,6 +86,16 @@ module _ (disks : Disks) (volume : ℕ) (is : IsFormatted disks (first_label vol
       subst (λ (d : ℕ). SpellsLabel (label_on (made_for volume) d) (disks.reads d 0)) (one_disk device second)
       (subst (λ (l : Label). SpellsLabel l (disks.reads (disk_of device second) 0)) same labelled.own.spells)
 
+  -- and their lengths
+  long : (device : ℕ) (second : Bool) → IsSourceIn (opening_state 1 1) device second → store_room (made_for volume) ≤ slice_index disks.sizes (member_disk device second)
+  long device second source =
+      let first : device ≡ 0 = (let less = only_first device second source in omega (arith, less)) in
+      subst (λ (d : ℕ). store_room (made_for volume) ≤ slice_index disks.sizes (member_disk d second)) (sym first) (of_member second)
+    where
+      of_member : (b : Bool) → store_room (made_for volume) ≤ slice_index disks.sizes (member_disk 0 b)
+      of_member false = let same = is.sizes.each 3 (omega arith) in omega (arith, same)
+      of_member true = let same = is.sizes.each 4 (omega arith) in omega (arith, same)
+
   formatted_labelled : IsLabelled disks volume
   formatted_labelled = record {
     bench = record {
@@ -104,7 +103,7 @@ module _ (disks : Disks) (volume : ℕ) (is : IsFormatted disks (first_label vol
       reads = rest.is_first.own.spells;
       sure = rest.sure 0 0;
     };
-    members = record { devices = refl; labels = record { reads = reads; sure = λ device second source. rest.sure (member_disk device second) 0 } };
+    members = record { devices = refl; labels = record { reads = reads; sure = λ device second source. rest.sure (member_disk device second) 0; long = long } };
   }
 
   pub formatted_closed : (tree : Tree) → StandsBare volume 1 opening_truth tree

@@ -24,9 +24,6 @@ use bx_tree_laws::the_opening_tree_is_one;
 use bx_truth::a_new_volume;
 use std::alloc::Global;
 
-/// The number of the node.
-const NODE: u32 = 0;
-
 impl LoneMachine {
     /// Makes the bench anew a volume of this number, of one device and one area, and begins on it. After an error, which is a disk's fault
     /// or want of memory, there is no machine.
@@ -66,8 +63,7 @@ impl LoneMachine {
         ensures holds { (disks : Disks) (tree : Tree) → IsClosed volume tree disks → IfOk result (λ machine. Holds machine disks tree) }
     {
         let state = opening(alloc, 1, 1)?;
-        let mut store = PlainStore::new(alloc, volume, 1, 1, 1)?;
-        store.join(&state, NODE);
+        let store = PlainStore::new(alloc, volume, 1, 1, 1, &state)?;
         begins_allowed();
         let node = LoneNode::new(alloc, 1, 1);
         node.is_whole();

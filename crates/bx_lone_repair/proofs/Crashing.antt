@@ -1,9 +1,10 @@
 -- What a crash leaves of what was left.
-use Rattle.std.proofs.Common.{◌≡◌, ℕ, false, [], Option, None, refl, sym, subst}
+use Rattle.std.proofs.Common.{◌≡◌, ℕ, ◌≤◌, false, List, [], Option, None, refl, sym, subst}
+use Rattle.std.specs.Prelude.{slice_index}
 use Rattle.bx_disk.specs.Disks.{Disks}
 use Rattle.bx_facts.proofs.Lists.{nothing}
 use Rattle.bx_facts.specs.Disks.{IsKept}
-use Rattle.bx_facts.specs.Writes.{IsSettled, label_on, member_disk}
+use Rattle.bx_facts.specs.Writes.{IsSettled, label_on, member_disk, store_room}
 use Rattle.bx_global.specs.Opening.{opening_state}
 use Rattle.bx_layout.specs.Labels.{SpellsLabel}
 use Rattle.bx_lone_repair.specs.Bench.{AreLong, IsLabelled, first_label, made_for}
@@ -31,6 +32,7 @@ module _ (x y : Disks) (sizes : y.sizes ≡ x.sizes) (kept : (d s : ℕ) → x.u
         sure = λ device second source.
             let was = is.members.labels.sure device second source in
             (kept (member_disk device second) 0 was).sure was;
+        long = λ device second source. subst (λ (all : List ℕ). store_room (made_for volume) ≤ slice_index all (member_disk device second)) (sym sizes) (is.members.labels.long device second source);
       };
     };
   }

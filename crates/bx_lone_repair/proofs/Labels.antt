@@ -1,7 +1,8 @@
 -- Labels stay where nothing is written in their sectors.
 use Rattle.std.proofs.Common.{◌≡◌, ⊎_elim, refl, ℕ, ◌≤◌, arith, List, [], ◌∷◌, Contains, sym, subst}
+use Rattle.std.specs.Prelude.{slice_index}
 use Rattle.bx_disk.specs.Disks.{Disks}
-use Rattle.bx_facts.specs.Writes.{IsOnly, Sent, WritesIn, label_on, member_disk}
+use Rattle.bx_facts.specs.Writes.{IsOnly, Sent, WritesIn, label_on, member_disk, store_room}
 use Rattle.bx_facts.proofs.Lists.{front_or_behind, nothing}
 use Rattle.bx_layout.specs.Labels.{SpellsLabel}
 use Rattle.bx_members.specs.Members.{KeepsMembers}
@@ -25,6 +26,7 @@ labelled_kept x z volume runs is sizes keeps behind_label = record {
           (is.members.labels.reads device second source);
       sure = λ device second source. keeps.sure device 0 second (x.reads (member_disk device second) 0) (only device (x.reads (member_disk device second) 0)) refl
           (is.members.labels.sure device second source);
+      long = λ device second source. subst (λ (all : List ℕ). store_room (made_for volume) ≤ slice_index all (member_disk device second)) (sym sizes) (is.members.labels.long device second source);
     };
   };
 }

@@ -1,9 +1,7 @@
 //! Runs that are written on both members, and made sure.
 
-ghost use Rattle.std.specs.Prelude.{◌≡◌, ◌≤◌, ℕ, List, [], ◌∷◌, Contains, length, OnOk, IsErrOf};
-ghost use Rattle.bx_base.specs.Faults.{Rose};
-ghost use Rattle.bx_disk.specs.declared.fault.RackError.TheVariants.{Fault};
-ghost use Rattle.bx_disk.specs.Counts.{NoneFalls, NoneRose};
+ghost use Rattle.std.specs.Prelude.{◌≡◌, ◌≤◌, ℕ, List, [], ◌∷◌, Contains, length, OnOk};
+ghost use Rattle.bx_disk.specs.Kept.{Fails};
 ghost use Rattle.bx_facts.specs.Writes.{IsDone, IsOnly, IsSettled, WritesIn};
 ghost use Rattle.bx_global.specs.declared.state.GlobalState.{GlobalState};
 ghost use Rattle.bx_lone_repair.specs.Through.{one_write};
@@ -26,11 +24,7 @@ pub fn write_through<R: Rack>(rack: &mut R, runs: List<Run>) -> Result<(), RackE
     ensures members { R.tells rack.old → KeepsMembers (one_write runs ∷ []) 0 (R.state rack.old) (R.state rack.new) }
     ensures done { (s : GlobalState) → R.tells rack.old → length s.devices ≡ 1 → OnOk result (IsDone (λ device sector content index. IsSettled (R.state rack.new) s device sector content) 0 (one_write runs)) }
     ensures replicas { R.tells rack.old → KeepsReplicas (R.state rack.old) (R.state rack.new) }
-    ensures cause { IsErrOf result Fault → Rose (R.faults rack.old) (R.faults rack.new) }
-    ensures later { NoneFalls (R.faults rack.old) (R.faults rack.new) (R.faults_of rack.old) (R.faults_of rack.new) }
-    ensures no_fault { OnOk result (NoneRose (R.faults rack.old) (R.faults rack.new) (R.faults_of rack.old) (R.faults_of rack.new)) }
-    ensures sizes { (R.state rack.new).sizes ≡ (R.state rack.old).sizes }
-    ensures keeps_telling { R.tells rack.old → R.tells rack.new }
+    ensures rack { Fails R.Rack rack.old rack.new result }
 {
     let mut slot = Some(Write {
         session: 0,

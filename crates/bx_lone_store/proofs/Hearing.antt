@@ -21,6 +21,7 @@ use Rattle.bx_lone_store.specs.declared.inquiries.Inquiry.{Inquiry}
 use Rattle.bx_lone_store.specs.Events.{Reads, Went, fits_went, goes_on, image_settled, labels_members, settles_members}
 use Rattle.bx_lone_store.specs.Fits.{Fits, Keeps, WillRead}
 use Rattle.bx_lone_store.specs.Parts.{IsAnswered, answer_at, asked_at, asked_in}
+use Rattle.bx_lone_store.specs.Steps.{Meets}
 use Rattle.bx_lone_store.proofs.Answering.{answered_same}
 use Rattle.bx_lone_store.proofs.Places.{option_apart, option_same}
 
@@ -80,8 +81,8 @@ module _ (made : Made) (g : ℕ) (owns : List (Option ℕ)) (slots : List (Optio
 
   -- and what a sync leaves, which keeps members
   module _ (y : Disks) (members : KeepsMembers (outs slots) later x y) where
-    pub labels_synced : HasLabels made y (last past.told.chain)
-    labels_synced = labels_members made g later owns slots x y past.told.chain past.writes fits members
+    pub labels_synced : y.sizes ≡ x.sizes → HasLabels made y (last past.told.chain)
+    labels_synced sizes = labels_members made g later owns slots x y past.told.chain past.writes fits sizes members
 
     pub goes_synced : (inquiries_then : List (Option Inquiry)) → ((node : ℕ) → IsAnswered x known (at inquiries node) (at inquiries_then node))
         → GoesOn past.writes past.told.greatest (asked_at inquiries) (IsSettled x (last past.told.chain)) (IsSettled y (last past.told.chain))
@@ -101,14 +102,8 @@ done_at y s w index done = record { each = done.each }
 
 -- ---- a node meets its session
 
-pub record Met (s : GlobalState) (node : ℕ) (owns owns_then : List (Option ℕ)) (slots slots_then : List (Option Write)) (inquiries inquiries_then : List (Option Inquiry)) : Type 0 where
-  pub own : at owns_then node ≡ any_session_of s node
-  pub another : at owns node ≢ any_session_of s node → (at slots_then node ≡ None) × (at inquiries_then node ≡ None)
-  pub same : at owns node ≡ any_session_of s node → (at slots_then node ≡ at slots node) × (at inquiries_then node ≡ at inquiries node)
-  pub others : (other : ℕ) → other ≢ node → (at owns_then other ≡ at owns other) × (at slots_then other ≡ at slots other) × (at inquiries_then other ≡ at inquiries other)
-
 module _ (s : GlobalState) (node : ℕ) (owns owns_then : List (Option ℕ)) (slots slots_then : List (Option Write)) (inquiries inquiries_then : List (Option Inquiry))
-    (met : Met s node owns owns_then slots slots_then inquiries inquiries_then) where
+    (met : Meets s node owns owns_then slots slots_then inquiries inquiries_then) where
   -- its parts are as they were, or it has another session, and nothing is out
   pub record Part (n : ℕ) : Type 0 where
     pub case : ((at owns_then n ≡ at owns n) × (at slots_then n ≡ at slots n) × (at inquiries_then n ≡ at inquiries n))
@@ -147,6 +142,9 @@ module _ (s : GlobalState) (node : ℕ) (owns owns_then : List (Option ℕ)) (sl
 
   pub out_met : (n : ℕ) → (out_at slots_then n ≡ None) ⊎ (out_at slots_then n ≡ out_at slots n)
   out_met n = ⊎_elim (λ same. inr (ap out_in same.1)) (λ new. inl (ap out_in new.2)) (part n).case
+
+  pub asked_new : (n : ℕ) → at owns_then n ≢ at owns n → asked_at inquiries_then n ≡ None
+  asked_new n changed = ⊎_elim (λ same. absurd (changed same.0)) (λ new. ap asked_in new.3) (part n).case
 
   pub asked_met : (n : ℕ) → (asked_at inquiries_then n ≡ None) ⊎ (asked_at inquiries_then n ≡ asked_at inquiries n)
   asked_met n = ⊎_elim (λ same. inr (ap asked_in same.2)) (λ new. inl (ap asked_in new.3)) (part n).case

@@ -5,4 +5,5 @@ pub mod Restarting
 pub mod Rooms
 pub mod Sending
 pub mod Shapes
+mod Stepping
 pub mod Taking

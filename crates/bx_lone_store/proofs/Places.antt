@@ -1,9 +1,13 @@
 -- What a list has for each node.
-use Rattle.std.proofs.Common.{◌≡◌, ℕ, zero, suc, ◌<◌, ◌≤◌, List, [], ◌∷◌, ◌++◌, true, false, eqb, Option, Some, None, length, refl, ap, arith, slice_get}
-use Rattle.std.specs.Prelude.{IsSome, slice_index_or}
+use Rattle.std.proofs.Common.{◌≡◌, ℕ, zero, suc, ◌+◌, ◌<◌, ◌≤◌, Bool, List, [], ◌∷◌, ◌++◌, true, false, eqb, Option, Some, None, length, refl, sym, ◌∙◌, ap, arith, slice_get}
+use Rattle.std.specs.Prelude.{◌==◌, IsSome, slice_index_or}
 use Rattle.std.specs.Option.{option_eq}
 use Rattle.std.proofs.lemmas.Bool.Decides.{nat_tests}
+use Rattle.std.proofs.lemmas.List.{length_push}
+use Rattle.bx_global.specs.declared.state.GlobalState.{GlobalState}
+use Rattle.bx_facts.specs.Chains.{any_session_of}
 use Rattle.bx_plain_store.specs.Out.{at}
+use Rattle.bx_lone_store.specs.Fits.{HasSessionsOf}
 
 -- what is read at a place
 pub at_read : {X : Type 0} → (xs : List (Option X)) (i : ℕ) (d : Option X) → i < length xs → slice_index_or xs i d ≡ at xs i
@@ -53,3 +57,31 @@ pub at_slice_none : {X : Type 0} → (xs : List (Option X)) (i : ℕ) → slice_
 at_slice_none [] i is = refl
 at_slice_none (y ∷ xs) zero is = absurd cc
 at_slice_none (y ∷ xs) (suc i) is = at_slice_none xs i is
+
+-- the sessions of one node more
+pub sessions_pushed : (s : GlobalState) (nodes : ℕ) (owns : List (Option ℕ)) (own : Option ℕ) → HasSessionsOf s nodes owns → own ≡ any_session_of s nodes → HasSessionsOf s (nodes + 1) (owns ++ own ∷ [])
+sessions_pushed s nodes owns own has is = record {
+  long = (let long = has.long in let more = length_push owns own in omega (arith, long, more));
+  each = λ node less. by_test node less (node == nodes) refl;
+}
+  where
+    at_pushed : {X : Type 0} (xs : List (Option X)) (x : Option X) (n : ℕ) → n ≡ length xs → at (xs ++ x ∷ []) n ≡ x
+    at_pushed [] x zero is = refl
+    at_pushed [] x (suc n) is = absurd cc
+    at_pushed (y ∷ xs) x zero is = absurd cc
+    at_pushed (y ∷ xs) x (suc n) is = at_pushed xs x n (omega (arith, is))
+
+    at_before : {X : Type 0} (xs : List (Option X)) (x : Option X) (n : ℕ) → n < length xs → at (xs ++ x ∷ []) n ≡ at xs n
+    at_before [] x n less = absurd (omega (arith, less))
+    at_before (y ∷ xs) x zero less = refl
+    at_before (y ∷ xs) x (suc n) less = at_before xs x n (omega (arith, less))
+
+    by_test : (node : ℕ) → node < nodes + 1 → (b : Bool) → (node == nodes) ≡ b → at (owns ++ own ∷ []) node ≡ any_session_of s node
+    by_test node less true same =
+        let e : node ≡ nodes = grind (arith, nat_tests, same) in
+        let long = has.long in
+        at_pushed owns own node (omega (arith, e, long)) ∙ is ∙ ap (any_session_of s) (sym e)
+    by_test node less false apart =
+        let before : node < nodes = grind (arith, nat_tests, apart, less) in
+        let long = has.long in
+        at_before owns own node (omega (arith, before, long)) ∙ has.each node before

@@ -1,6 +1,7 @@
 -- What a crash and a restart leave.
-use Rattle.std.proofs.Common.{◌≡◌, ◌≢◌, inl, inr, ℕ, ◌+◌, ◌-◌, ◌<◌, ◌≤◌, max, Bool, true, false, List, length, Option, Some, None, refl, sym, ◌∙◌, ap, subst, arith, slice_get}
-use Rattle.std.specs.Prelude.{◌==◌, nat_lt}
+use Rattle.std.proofs.Common.{◌≡◌, ◌≢◌, inl, inr, ℕ, ◌+◌, ◌-◌, ◌<◌, ◌≤◌, max, Bool, true, false, List, [], ◌∷◌, zero, suc, length, Option, Some, None, refl, sym, ◌∙◌, ap, subst, arith, slice_get}
+use Rattle.std.specs.Prelude.{◌==◌, nat_lt, slice_index, ◌&&◌, ◌||◌}
+use Rattle.std.specs.List.{list_any}
 use Rattle.std.proofs.lemmas.Bool.Decides.{nat_tests}
 use Rattle.std.proofs.lemmas.Option.{slice_get_past}
 use Rattle.bx_base.specs.declared.names.Actor.{Actor}
@@ -11,7 +12,7 @@ use Rattle.bx_calls.specs.Laws.{leaves_implies}
 use Rattle.bx_global.specs.declared.state.GlobalState.{GlobalState}
 use Rattle.bx_facts.specs.Chains.{last}
 use Rattle.bx_facts.specs.Disks.{NeedsAt, NeedsNoMore, SameLabels, SameReplicas, wanted_by}
-use Rattle.bx_facts.specs.Writes.{HasLabels, HasSettled, IsSettled, Made, Sent, StorePast, store_crashed, store_failed, store_restarted, store_room}
+use Rattle.bx_facts.specs.Writes.{HasLabels, HasSettled, IsSettled, Made, Sent, StorePast, member_disk, store_crashed, store_failed, store_restarted, store_room}
 use Rattle.bx_plain_store.specs.Out.{KeepsReplicas, at, out_at, out_in}
 use Rattle.bx_plain_store.specs.Sources.{HasSources, KeepsSources}
 use Rattle.bx_plain_store.specs.declared.writes.Write.{Write}
@@ -22,7 +23,7 @@ use Rattle.bx_lone_store.specs.Growing.{last_place}
 use Rattle.bx_lone_store.specs.Laws.{KeepsSure}
 use Rattle.bx_lone_store.specs.Needs.{needs_little, needs_member, needs_none}
 use Rattle.bx_lone_store.specs.Parts.{asked_at, asked_in}
-use Rattle.bx_lone_store.specs.Waiting.{if_up, needs_of}
+use Rattle.bx_lone_store.specs.Waiting.{all_up, if_up, is_due, is_unanswered, needs_of, owes_in}
 
 pub replicas_both : (x y : Disks) → KeepsReplicas x y → SameReplicas x y × SameLabels x y
 replicas_both x y keeps = (record { each = λ d sector less from. keeps.each d sector less }, record { each = λ d less. keeps.each d 0 less })
@@ -77,8 +78,11 @@ module _ (made : Made) (g later : ℕ) (owns : List (Option ℕ)) (slots : List 
   pub keeps_failed : Keeps made later owns slots y (store_failed past who boot reading)
   keeps_failed = record { handed = keeps.handed; greatest_is = ap (λ n. max n reading) keeps.greatest_is ∙ sym greatest; fits = fits }
 
-pub sure_sources : (s : GlobalState) (x y : Disks) → KeepsSources s x y → KeepsSure s x y
-sure_sources s x y keeps = record { each = λ device sector second source sure. let kept = keeps.members device second sector source in (kept.reads, kept.sure sure) }
+pub sure_sources : (s : GlobalState) (x y : Disks) → y.sizes ≡ x.sizes → KeepsSources s x y → KeepsSure s x y
+sure_sources s x y sizes keeps = record {
+  each = λ device sector second source sure. let kept = keeps.members device second sector source in (kept.reads, kept.sure sure);
+  long = λ device second. ap (λ (all : List ℕ). slice_index all (member_disk device second)) sizes;
+}
 
 pub leaves_sources : (before now : ℕ) (past_since since : ℕ → Image → Type 0) (writes : List Sent) (greatest : ℕ) (s : GlobalState) (x : Disks)
     → LeavesOnly before now past_since since (HasSources s x) → LeavesOnly before now past_since since (HasSettled writes greatest (IsSettled x s) x s)
@@ -103,6 +107,26 @@ not_up down down_then member sectors puts = by_test (nat_lt member (length down)
     by_test : (b : Bool) → nat_lt member (length down) ≡ b → if_up (slice_get down_then member) sectors ≡ 0
     by_test true is = ap (λ (o : Option Bool). if_up o sectors) (puts.here (grind (arith, nat_tests, is)))
     by_test false not_is = ap (λ (o : Option Bool). if_up o sectors) (slice_get_past down_then member (grind (arith, nat_tests, not_is, puts.long)))
+
+-- a member that is put down owes nothing
+pub is_still : (greatest : ℕ) (slots : List (Option Write)) (inquiries : List (Option Inquiry)) (down down_then : List Bool) (member : ℕ) → Puts down down_then member true → owes_in greatest slots inquiries down_then (Member member) ≡ false
+is_still greatest slots inquiries down down_then member puts = by_test (nat_lt member (length down_then)) refl
+  where
+    none_up : (downs : List Bool) (n : ℕ) → slice_get downs n ≡ Some true → all_up downs ≡ false
+    none_up [] n is = absurd cc
+    none_up (true ∷ downs) n is = refl
+    none_up (false ∷ downs) zero is = absurd cc
+    none_up (false ∷ downs) (suc n) is = none_up downs n is
+
+    waits : Bool
+    waits = list_any (is_due greatest member) slots || list_any (is_unanswered member) inquiries
+
+    by_test : (b : Bool) → nat_lt member (length down_then) ≡ b → owes_in greatest slots inquiries down_then (Member member) ≡ false
+    by_test false past = ap (λ t. t && all_up down_then && waits) past
+    by_test true there =
+        let less : member < length down = grind (arith, nat_tests, there, puts.long) in
+        let up = none_up down_then member (puts.here less) in
+        ap (λ t. t && all_up down_then && waits) there ∙ ap (λ t. t && waits) up
 
 -- a disk is that of a replica, or of a member
 by_disk : (P : ℕ → Type 0) → ((disk : ℕ) → disk < 3 → P disk) → ((member : ℕ) → P (3 + member)) → (disk : ℕ) → P disk

@@ -1,6 +1,6 @@
 -- Why a store on one machine goes on fitting after its calls, and what is promised goes on.
 use Rattle.std.proofs.Common.{◌≡◌, ◌⊎◌, inl, inr, ⊎_elim, ℕ, ◌+◌, ◌-◌, ◌<◌, ◌≤◌, true, false, List, [], ◌∷◌, find, Option, Some, None, refl, sym, ◌∙◌, ap, subst, arith}
-use Rattle.std.specs.Prelude.{◌==◌, ◌&&◌}
+use Rattle.std.specs.Prelude.{◌==◌, ◌&&◌, slice_index}
 use Rattle.std.specs.List.{AllByRecursion}
 use Rattle.std.proofs.lemmas.Bool.Decides.{nat_tests}
 use Rattle.bx_disk.specs.Disks.{Disks, Image, sector_of}
@@ -10,7 +10,7 @@ use Rattle.bx_rows.specs.declared.session.SessionRow.{SessionRow}
 use Rattle.bx_members.specs.Members.{HasMembers, KeepsMembers}
 use Rattle.bx_facts.specs.Chains.{Chain, IsPlace, any_session_of, last, number_in}
 use Rattle.bx_facts.specs.Sessions.{IsRowOf}
-use Rattle.bx_facts.specs.Writes.{Asked, GoesOn, HasLabels, HasSettled, IsOnly, IsOver, IsSettled, Made, Sent, label_on, member_disk}
+use Rattle.bx_facts.specs.Writes.{Asked, GoesOn, HasLabels, HasSettled, IsOnly, IsOver, IsSettled, Made, Sent, label_on, member_disk, store_room}
 use Rattle.bx_plain_store.specs.declared.writes.Write.{Write}
 use Rattle.bx_plain_store.specs.Out.{at, out_at, outs}
 use Rattle.bx_plain_store.proofs.Serving.{in_outs, settled_kept}
@@ -20,7 +20,7 @@ use Rattle.bx_lone_store.specs.Laws.{settled_by}
 use Rattle.bx_lone_store.specs.Parts.{IsAnswered, answer_at, answer_in, asked_at, asked_in}
 
 -- the session that is found is of the node
-session_row : (rows : List SessionRow) (node_of : ℕ → ℕ) (next node session : ℕ) → AllByRecursion (IsRowOf node_of next) rows
+pub session_row : (rows : List SessionRow) (node_of : ℕ → ℕ) (next node session : ℕ) → AllByRecursion (IsRowOf node_of next) rows
     → number_in (find (λ row. row.node == node && row.dead == 0) rows) ≡ Some session → (node_of session ≡ node) × (session < next)
 session_row [] node_of next node session all is = absurd cc
 session_row (row ∷ rows) node_of next node session all is = (elim (row.node == node && row.dead == 0) as (λ b. (row.node == node && row.dead == 0) ≡ b → (node_of session ≡ node) × (session < next)) [
@@ -95,14 +95,15 @@ only_label made g later owns slots x chain writes device content fits = record {
 }
 
 pub labels_members : (made : Made) (g later : ℕ) (owns : List (Option ℕ)) (slots : List (Option Write)) (x y : Disks) (chain : Chain) (writes : List Sent)
-    → Fits made g owns slots x chain writes → KeepsMembers (outs slots) later x y → HasLabels made y (last chain)
-labels_members made g later owns slots x y chain writes fits keeps = record {
+    → Fits made g owns slots x chain writes → y.sizes ≡ x.sizes → KeepsMembers (outs slots) later x y → HasLabels made y (last chain)
+labels_members made g later owns slots x y chain writes fits sizes keeps = record {
   reads = λ device second source.
       let only = only_label made g later owns slots x chain writes device (x.reads (member_disk device second) 0) fits in
       subst (SpellsLabel (label_on made (member_disk device second))) (sym (keeps.reads device 0 second _ only refl)) (fits.labels.reads device second source);
   sure = λ device second source.
       let only = only_label made g later owns slots x chain writes device (x.reads (member_disk device second) 0) fits in
       keeps.sure device 0 second _ only refl (fits.labels.sure device second source);
+  long = λ device second source. subst (λ (all : List ℕ). store_room made ≤ slice_index all (member_disk device second)) (sym sizes) (fits.labels.long device second source);
 }
 
 -- what is settled stays so while members are kept

@@ -2,7 +2,7 @@
 use Rattle.std.specs.Prelude.{◌≡◌, ℕ, ◌+◌, ◌-◌, ◌<◌, ◌≤◌, List, [], Contains, length, Option, Some, None}
 use Rattle.bx_disk.specs.Disks.{Disks, sector_of}
 use Rattle.bx_global.specs.declared.state.GlobalState.{GlobalState}
-use Rattle.bx_facts.specs.Chains.{Chain, IsPlace, last}
+use Rattle.bx_facts.specs.Chains.{Chain, IsPlace, any_session_of, last}
 use Rattle.bx_facts.specs.Sessions.{AreRows}
 use Rattle.bx_facts.specs.Writes.{Asked, HasLabels, IsSettled, Made, Sent, StorePast, WritesTo}
 use Rattle.bx_plain_store.specs.declared.writes.Write.{Write}
@@ -37,6 +37,11 @@ WillRead (Some asks) None x s sector content = IsSettled x s asks.device sector 
 WillRead (Some asks) (Some bytes) x s sector content = asks.place ≤ sector → sector < asks.place + asks.count → sector_of bytes (sector - asks.place) ≡ content
 
 -- Nothing was done yet.
-pub record IsNew (greatest : ℕ) (owns : List (Option ℕ)) (slots : List (Option Write)) (inquiries : List (Option Inquiry)) : Type 0 where
+pub record IsNew (greatest : ℕ) (slots : List (Option Write)) (inquiries : List (Option Inquiry)) : Type 0 where
   pub no_reading : greatest ≡ 0
-  pub none : (node : ℕ) → (at owns node ≡ None) × (at slots node ≡ None) × (at inquiries node ≡ None)
+  pub none : (node : ℕ) → (at slots node ≡ None) × (at inquiries node ≡ None)
+
+-- Each node has the session that it has in this state.
+pub record HasSessionsOf (s : GlobalState) (nodes : ℕ) (owns : List (Option ℕ)) : Type 0 where
+  pub long : length owns ≡ nodes
+  pub each : (node : ℕ) → node < nodes → at owns node ≡ any_session_of s node

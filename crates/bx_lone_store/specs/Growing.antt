@@ -1,5 +1,5 @@
 -- Why a store on one machine goes on fitting where the chain grows, disks change outside its calls, or writes may be taken no more.
-use Rattle.std.proofs.Common.{◌≡◌, inl, ⊎_elim, ℕ, Bool, true, false, List, [], ◌∷◌, Contains, length, filter, Option, Some, None, refl, sym, ◌∙◌, ap, subst, arith}
+use Rattle.std.proofs.Common.{◌≡◌, inl, ⊎_elim, ℕ, ◌<◌, Bool, true, false, List, [], ◌∷◌, Contains, length, filter, Option, Some, None, refl, sym, ◌∙◌, ap, subst, arith}
 use Rattle.std.specs.Prelude.{◌==◌, not}
 use Rattle.std.proofs.lemmas.Bool.Decides.{nat_tests}
 use Rattle.bx_disk.specs.Disks.{Disks}
@@ -16,8 +16,11 @@ use Rattle.bx_plain_store.specs.declared.writes.Write.{Write}
 use Rattle.bx_plain_store.specs.Out.{at, out_at, out_in}
 use Rattle.bx_post.specs.declared.packets.Letter.{Letter}
 use Rattle.bx_lone_store.specs.declared.inquiries.Inquiry.{Inquiry}
-use Rattle.bx_lone_store.specs.Fits.{Fits, IsNew, Keeps}
+use Rattle.bx_plain_store.proofs.Serving.{at_within}
+use Rattle.bx_lone_store.specs.Events.{session_row}
+use Rattle.bx_lone_store.specs.Fits.{Fits, HasSessionsOf, IsNew, Keeps}
 use Rattle.bx_lone_store.specs.Laws.{KeepsSure, labels_by, labels_kept, own_none, same_devices}
+use Rattle.bx_lone_store.specs.Parts.{asked_at, asked_in}
 
 -- the last state is a place
 pub last_place : (chain : Chain) → IsPlace chain (last chain)
@@ -90,8 +93,8 @@ keeps_grown made greatest owns slots x past change own keeps = record {
 
 -- a new store
 pub keeps_new : (made : Made) (greatest : ℕ) (owns : List (Option ℕ)) (slots : List (Option Write)) (inquiries : List (Option Inquiry)) (x : Disks) (s : GlobalState)
-    → IsNew greatest owns slots inquiries → IsAllowed s → IsOfStore made x s → Keeps made greatest owns slots x (opening_store s)
-keeps_new made greatest owns slots inquiries x s new allowed of_store = record {
+    → IsNew greatest slots inquiries → HasSessionsOf s made.nodes owns → IsAllowed s → IsOfStore made x s → Keeps made greatest owns slots x (opening_store s)
+keeps_new made greatest owns slots inquiries x s new sessions allowed of_store = record {
   handed = refl;
   greatest_is = sym new.no_reading;
   fits = record {
@@ -107,15 +110,21 @@ keeps_new made greatest owns slots inquiries x s new allowed of_store = record {
     mine = λ node w out. absurd (no_out node w out);
     node_of = nodes.0;
     rows = nodes.1;
-    owned = λ node session is. absurd (let e = sym (new.none node).0 ∙ is in cc);
+    owned = λ node session is.
+        let less = at_within owns node session is in
+        session_row s.sessions nodes.0 s.next_session node session (nodes.1.each s refl) (sym (sessions.each node (subst (λ (n : ℕ). node < n) sessions.long less)) ∙ is);
   };
 }
   where
     no_out : (node : ℕ) (w : Sent) → out_at slots node ≡ Some w → ⊥
-    no_out node w out = let e : None ≡ Some w = ap out_in (sym (new.none node).1) ∙ out in absurd cc
+    no_out node w out = let e : None ≡ Some w = ap out_in (sym (new.none node).0) ∙ out in absurd cc
 
     nodes : (node_of : ℕ → ℕ) × AreRows node_of s []
     nodes = sessions_have_nodes s [] allowed.rising
+
+-- of which nothing is out
+pub idle_new : (greatest : ℕ) (slots : List (Option Write)) (inquiries : List (Option Inquiry)) (node : ℕ) → IsNew greatest slots inquiries → (out_at slots node ≡ None) × (asked_at inquiries node ≡ None)
+idle_new greatest slots inquiries node new = (ap out_in (new.none node).0, ap asked_in (new.none node).1)
 
 -- what a test lets through is left
 filter_has : (test : Sent → Bool) (writes : List Sent) (w : Sent) → test w ≡ true → Contains writes w → Contains (filter test writes) w

@@ -1,6 +1,6 @@
 -- Why what is settled stays so.
 use Rattle.std.proofs.Common.{◌≡◌, ℕ, ◌<◌, Bool, true, false, List, [], Contains, length, Option, Some, None, refl, sym, ◌∙◌, ap, subst, arith, slice_get}
-use Rattle.std.specs.Prelude.{◌==◌}
+use Rattle.std.specs.Prelude.{◌==◌, ◌≤◌, slice_index}
 use Rattle.std.proofs.lemmas.Bool.Decides.{nat_tests}
 use Rattle.bx_disk.specs.Disks.{Disks, blanked}
 use Rattle.bx_global.specs.declared.change.Change.{Change}
@@ -10,8 +10,8 @@ use Rattle.bx_global.specs.Table.{effect}
 use Rattle.bx_rows.specs.Modes.{IsSource}
 use Rattle.bx_rows.specs.declared.device.DeviceRow.{DeviceRow}
 use Rattle.bx_facts.specs.Chains.{IsStoresOwn, last}
-use Rattle.bx_facts.specs.Disks.{Crashes, SameMembers}
-use Rattle.bx_facts.specs.Writes.{Asked, GoesOn, HasLabels, IsOnly, IsOnlyOther, IsSettled, IsSourceIn, Made, Sent, StorePast, label_on, member_disk, only_other}
+use Rattle.bx_facts.specs.Disks.{Crashes, SameMemberLengths, SameMembers}
+use Rattle.bx_facts.specs.Writes.{Asked, GoesOn, HasLabels, IsOnly, IsOnlyOther, IsSettled, IsSourceIn, Made, Sent, StorePast, label_on, member_disk, only_other, store_room}
 use Rattle.bx_layout.specs.Labels.{SpellsLabel}
 use Rattle.bx_members.proofs.Kept.{past_replicas, same_member}
 use Rattle.bx_plain_store.specs.Out.{at}
@@ -49,12 +49,14 @@ pub labels_by : (made : Made) (x : Disks) (s t : GlobalState) → t.devices ≡ 
 labels_by made x s t same labels = record {
   reads = λ device second source. labels.reads device second (source_of s t device second same source);
   sure = λ device second source. labels.sure device second (source_of s t device second same source);
+  long = λ device second source. labels.long device second (source_of s t device second same source);
 }
 
--- Sources are kept where they were sure.
+-- Sources are kept where they were sure, and are as long.
 pub record KeepsSure (s : GlobalState) (x y : Disks) : Type 0 where
   pub each : (device sector : ℕ) (second : Bool) → IsSourceIn s device second → x.unsure (member_disk device second) sector ≡ false
       → (y.reads (member_disk device second) sector ≡ x.reads (member_disk device second) sector) × (y.unsure (member_disk device second) sector ≡ false)
+  pub long : (device : ℕ) (second : Bool) → slice_index y.sizes (member_disk device second) ≡ slice_index x.sizes (member_disk device second)
 
 pub settled_kept : (x y : Disks) (s : GlobalState) (device sector : ℕ) (content : List ℕ) → KeepsSure s x y → IsSettled x s device sector content → IsSettled y s device sector content
 settled_kept x y s device sector content keeps is = record {
@@ -67,11 +69,15 @@ pub labels_kept : (made : Made) (x y : Disks) (s : GlobalState) → KeepsSure s 
 labels_kept made x y s keeps labels = record {
   reads = λ device second source. subst (SpellsLabel (label_on made (member_disk device second))) (sym (keeps.each device 0 second source (labels.sure device second source)).0) (labels.reads device second source);
   sure = λ device second source. (keeps.each device 0 second source (labels.sure device second source)).1;
+  long = λ device second source. subst (λ (n : ℕ). store_room made ≤ n) (sym (keeps.long device second)) (labels.long device second source);
 }
 
 -- so they are at a crash of one disk
-pub sure_survives : (x y : Disks) (s : GlobalState) (disk : ℕ) → Crashes disk x y → KeepsSure s x y
-sure_survives x y s disk crash = record { each = λ device sector second source sure. by_test (member_disk device second) sector sure (member_disk device second == disk) refl }
+pub sure_survives : (x y : Disks) (s : GlobalState) (disk : ℕ) → SameMemberLengths x y → Crashes disk x y → KeepsSure s x y
+sure_survives x y s disk lengths crash = record {
+  each = λ device sector second source sure. by_test (member_disk device second) sector sure (member_disk device second == disk) refl;
+  long = λ device second. lengths.each (member_disk device second) (past_replicas device second);
+}
   where
     by_test : (d sector : ℕ) → x.unsure d sector ≡ false → (b : Bool) → (d == disk) ≡ b → (y.reads d sector ≡ x.reads d sector) × (y.unsure d sector ≡ false)
     by_test d sector sure true is =
@@ -83,11 +89,12 @@ sure_survives x y s disk crash = record { each = λ device sector second source 
         (stays.reads, stays.unsure ∙ sure)
 
 -- and where members stay
-pub sure_elsewhere : (x y : Disks) (s : GlobalState) → SameMembers x y → KeepsSure s x y
-sure_elsewhere x y s same = record {
+pub sure_elsewhere : (x y : Disks) (s : GlobalState) → SameMemberLengths x y → SameMembers x y → KeepsSure s x y
+sure_elsewhere x y s lengths same = record {
   each = λ device sector second source sure.
       let kept = same.each (member_disk device second) sector (past_replicas device second) in
       (kept.reads, kept.sure sure);
+  long = λ device second. lengths.each (member_disk device second) (past_replicas device second);
 }
 
 -- the member that the mode leaves out is no source
@@ -118,6 +125,7 @@ sure_replaced x s device second only = record {
   each = λ at sector third source sure.
       let apart = apart_from s device at second third only source in
       (rw apart refl, rw apart sure);
+  long = λ at third. refl;
 }
 
 -- what will be read stays so

@@ -4,4 +4,5 @@ pub mod Growing
 pub mod Laws
 pub mod Needs
 pub mod Parts
+pub mod Steps
 pub mod Waiting

@@ -1,5 +1,5 @@
 -- What members wait for, and what is needed of their disks.
-use Rattle.std.specs.Prelude.{ℕ, ◌+◌, ◌-◌, ◌*◌, Bool, true, false, not, ◌&&◌, ◌||◌, ◌==◌, nat_lt, List, [], ◌∷◌, Option, Some, None, is_some, if◌then◌else◌, slice_get}
+use Rattle.std.specs.Prelude.{ℕ, ◌+◌, ◌-◌, ◌*◌, Bool, true, false, not, ◌&&◌, ◌||◌, ◌==◌, nat_lt, List, [], ◌∷◌, Option, Some, None, is_some, length, if◌then◌else◌, slice_get}
 use Rattle.std.specs.List.{list_all, list_any}
 use Rattle.bx_base.specs.declared.names.Actor.{Actor}
 use Rattle.bx_base.specs.declared.names.Actor.TheVariants.{Node, Replica, Server, Member}
@@ -28,12 +28,12 @@ abbrev pub is_unanswered : ℕ → Option Inquiry → Bool
 is_unanswered member None = false
 is_unanswered member (Some inquiry) = not (is_some inquiry.answer) && (2 * inquiry.ask.device == member)
 
--- a machine owes an answer to a sync: a member for which something waits, while all members are up
+-- a machine owes an answer to a sync: a member of the store for which something waits, while all members are up
 abbrev pub owes_in : ℕ → List (Option Write) → List (Option Inquiry) → List Bool → Actor → Bool
 owes_in greatest slots inquiries down (Node n) = false
 owes_in greatest slots inquiries down (Replica n) = false
 owes_in greatest slots inquiries down (Server n) = false
-owes_in greatest slots inquiries down (Member n) = all_up down && (list_any (is_due greatest n) slots || list_any (is_unanswered n) inquiries)
+owes_in greatest slots inquiries down (Member n) = nat_lt n (length down) && all_up down && (list_any (is_due greatest n) slots || list_any (is_unanswered n) inquiries)
 
 -- a disk of a member has finished a sync
 abbrev pub is_sync : Actor → Input → Bool

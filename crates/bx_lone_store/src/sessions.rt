@@ -1,12 +1,15 @@
 //! Nodes' sessions.
 
-ghost use Rattle.std.specs.Prelude.{◌≡◌, ◌≢◌, ◌⊎◌, ℕ, ◌<◌, None, length};
+ghost use Rattle.std.specs.Prelude.{◌≡◌, ◌≢◌, ◌⊎◌, ℕ, ◌<◌, None, IfOk, length};
 ghost use Rattle.bx_facts.specs.Chains.{any_session_of};
 ghost use Rattle.bx_plain_store.specs.Out.{at};
+ghost use Rattle.bx_lone_store.specs.Fits.{HasSessionsOf};
 
 use crate::inquiries::Inquiry;
+use bx_base::OutOfMemory;
 use bx_global::GlobalState;
 use bx_plain_store::Write;
+use std::alloc::Global;
 
 /// The live session of a node, whatever its boot.
 pub(crate) fn any_session(known: &GlobalState, node: u32) -> Option<u64>
@@ -18,6 +21,21 @@ pub(crate) fn any_session(known: &GlobalState, node: u32) -> Option<u64>
         .iter()
         .find(|row| row.node == node && row.dead == 0)?;
     Some(row.number)
+}
+
+/// The sessions of so many nodes.
+pub(crate) fn sessions_of(
+    alloc: Global,
+    known: &GlobalState,
+    nodes: u32,
+) -> Result<Vec<Option<u64>>, OutOfMemory>
+    ensures { IfOk result (λ owns. HasSessionsOf known.now nodes owns.items) }
+{
+    let mut owns = Vec::new(alloc);
+    for node in 0..nodes {
+        owns.push(any_session(known, node))?;
+    }
+    Ok(owns)
 }
 
 /// Gives a node another session, or none. What it had out is forgotten.

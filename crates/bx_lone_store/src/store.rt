@@ -7,14 +7,14 @@ ghost use Rattle.bx_facts.specs.Chains.{IsPlace, any_session_of};
 ghost use Rattle.bx_facts.specs.declared.input.Input.TheVariants.{Tick};
 ghost use Rattle.bx_post.specs.declared.packets.Letter.{Letter};
 ghost use Rattle.bx_facts.specs.Writes.{Made, StorePast, store_heard, store_with};
-ghost use Rattle.bx_lone_store.specs.Fits.{IsNew, Keeps};
+ghost use Rattle.bx_lone_store.specs.Fits.{HasSessionsOf, IsNew};
 ghost use Rattle.bx_plain_store.specs.Out.{at};
 ghost use Rattle.bx_lone_store.specs.Parts.{IsShape, asked_at, made_of};
 
 use crate::greatest::{heard, later};
 use crate::inquiries::{Inquiry, take_answer};
 use crate::parts::{copied, find_session, is_there, nothing, put_down, session_at};
-use crate::sessions::{any_session, meet_session, put_session};
+use crate::sessions::{any_session, meet_session, put_session, sessions_of};
 use crate::syncs::sync_all;
 use crate::waiting::{is_all_up, is_any_due, is_any_unanswered, is_time};
 use bx_base::{Actor, OutOfMemory, Raw};
@@ -45,20 +45,23 @@ pub struct PlainStore {
 }
 
 impl PlainStore {
-    /// A store for a volume of so many nodes, devices (1 to 4) and areas (1 to 64), of which nothing is asked yet, and whose members are up.
+    /// A store for a volume of so many nodes, devices (1 to 4) and areas (1 to 64), of which nothing is asked yet, and whose members are up. Each
+    /// node has the session that it has in the state to begin with.
     pub fn new(
         alloc: Global,
         volume: u64,
         nodes: u32,
         devices: u32,
         areas: u32,
+        first: &GlobalState,
     ) -> Result<PlainStore, OutOfMemory>
         requires least_devices { 1 ≤ devices }
         requires most_devices { devices ≤ 4 }
         requires least_areas { 1 ≤ areas }
         requires most_areas { areas ≤ 64 }
         ensures made { IfOk result (λ store. made_of store.volume store.nodes store.devices store.areas ≡ made_of volume nodes devices areas) }
-        ensures new { IfOk result (λ store. IsNew store.greatest store.owns.items store.slots.items store.inquiries.items) }
+        ensures new { IfOk result (λ store. IsNew store.greatest store.slots.items store.inquiries.items) }
+        ensures sessions { IfOk result (λ store. HasSessionsOf first.now nodes store.owns.items) }
         ensures up { (member : ℕ) → member < 2 * devices → IfOk result (λ store. slice_get store.down.items member ≡ Some false) }
         ensures no_more { (member : ℕ) → 2 * devices ≤ member → IfOk result (λ store. slice_get store.down.items member ≡ None) }
     {
@@ -70,7 +73,7 @@ impl PlainStore {
             devices,
             areas,
             greatest: 0,
-            owns: nothing(alloc, nodes)?,
+            owns: sessions_of(alloc, first, nodes)?,
             slots: nothing(alloc, nodes)?,
             inquiries: nothing(alloc, nodes)?,
             down: vec![in alloc; false; members].map_err(OutOfMemory::from)?,
@@ -82,28 +85,6 @@ impl PlainStore {
         ensures { result ≡ at self.now.owns.items node }
     {
         find_session(&self.owns, node as usize)
-    }
-
-    /// A node, which knows this state, learns which session it has there. What it had out of another session is forgotten. It takes
-    /// no memory.
-    pub fn join(&mut self, known: &GlobalState, node: u32)
-        requires there { node < self.old.nodes }
-        ensures own { at self.new.owns.items node ≡ any_session_of known.now node }
-        ensures out { (at self.new.slots.items node ≡ None) ⊎ (at self.new.slots.items node ≡ at self.old.slots.items node) }
-        ensures asked { (at self.new.inquiries.items node ≡ None) ⊎ (at self.new.inquiries.items node ≡ at self.old.inquiries.items node) }
-        ensures others { (other : ℕ) → other ≢ node → (at self.new.owns.items other ≡ at self.old.owns.items other) × (at self.new.slots.items other ≡ at self.old.slots.items other) × (at self.new.inquiries.items other ≡ at self.old.inquiries.items other) }
-        ensures keeps { (x : Disks) (past : StorePast) (letters : List Letter) → Keeps (made_of self.old.volume self.old.nodes self.old.devices self.old.areas) self.old.greatest self.old.owns.items self.old.slots.items x (store_with past letters) → IsPlace past.told.chain known.now
-            → Keeps (made_of self.new.volume self.new.nodes self.new.devices self.new.areas) self.new.greatest self.new.owns.items self.new.slots.items x (store_with (store_heard past (Node node) known.now.index (Tick 0) None) letters) }
-        ensures made { made_of self.new.volume self.new.nodes self.new.devices self.new.areas ≡ made_of self.old.volume self.old.nodes self.old.devices self.old.areas }
-        ensures down { self.new.down.items ≡ self.old.down.items }
-    {
-        meet_session(
-            node as usize,
-            any_session(known, node),
-            &mut self.owns,
-            &mut self.slots,
-            &mut self.inquiries,
-        );
     }
 
     /// Whether a node's read is out, or its answer wasn't taken yet. It takes no memory.
@@ -125,11 +106,13 @@ impl Store for PlainStore {
     ghost use Rattle.bx_facts.specs.Writes.{IsSettled, StorePast, member_disk, store_crashed};
     ghost use Rattle.bx_plain_store.specs.Out.{out_at};
     ghost use Rattle.bx_lone_store.specs.Fits.{Keeps, WillRead};
-    ghost use Rattle.bx_lone_store.specs.Growing.{keeps_grown, keeps_letters, keeps_new, keeps_sure, keeps_without};
+    ghost use Rattle.bx_lone_store.specs.Growing.{idle_new, keeps_grown, keeps_letters, keeps_new, keeps_sure, keeps_without};
     ghost use Rattle.bx_lone_store.specs.Laws.{goes_grown, goes_same, goes_sure, only_asked, sure_elsewhere, sure_replaced, sure_survives};
-    ghost use Rattle.bx_lone_store.specs.Needs.{needs_little, needs_none};
+    ghost use Rattle.bx_lone_store.specs.Needs.{needs_little, needs_none, needs_of_volume};
     ghost use Rattle.bx_lone_store.specs.Parts.{answer_at};
+    ghost use Rattle.bx_lone_store.specs.Steps.{IsStep};
     ghost use Rattle.bx_lone_store.specs.Waiting.{needs_of, owes_in};
+    ghost use Rattle.bx_facts.specs.Inputs.{greatest_with};
 
     ghost is_separate = { ⊥ };
 
@@ -137,7 +120,9 @@ impl Store for PlainStore {
 
     ghost made = { λ st. made_of st.volume st.nodes st.devices st.areas };
 
-    ghost is_new = { λ st. IsNew st.greatest st.owns.items st.slots.items st.inquiries.items };
+    ghost is_for = { λ st s. HasSessionsOf s st.nodes st.owns.items };
+
+    ghost is_new = { λ st. IsNew st.greatest st.slots.items st.inquiries.items };
 
     ghost own = { λ st node. at st.owns.items node };
 
@@ -158,6 +143,10 @@ impl Store for PlainStore {
     ghost stands = { λ st x past device sector content index. IsSettled x (last past.told.chain) device sector content };
 
     ghost will_read = { λ st x past node sector content. WillRead (asked_at st.inquiries.items node) (answer_at st.inquiries.items node) x (last past.told.chain) sector content };
+
+    ghost hands = { λ st known who input change. change ≡ None };
+
+    ghost steps = { λ st known who input new. IsStep known who input (greatest_with st.greatest input) st.down.items st.owns.items new.owns.items st.slots.items new.slots.items st.inquiries.items new.inquiries.items };
 
     fn write(
         &mut self,
@@ -212,7 +201,8 @@ impl Store for PlainStore {
     fn waiting(&self, at: Actor) -> bool {
         match at {
             Actor::Member(member) => {
-                is_all_up(&self.down)
+                (member as usize) < self.down.len()
+                    && is_all_up(&self.down)
                     && (is_any_due(self.greatest, member, &self.slots)
                         || is_any_unanswered(member, &self.inquiries))
             }
@@ -298,31 +288,39 @@ impl Store for PlainStore {
 
     ghost settled_is = { λ st x past device sector content keeps is. is };
 
+    ghost own_out = { λ st x past node write keeps out. keeps.fits.mine node write out };
+
     ghost nothing_out = { λ st x past node session keeps own none. (keeps_without (made_of st.volume st.nodes st.devices st.areas) st.greatest st.owns.items st.slots.items x past node session keeps own none, goes_same past.writes past.told.greatest st.inquiries.items x x (last past.told.chain) (last past.told.chain) (λ device sector content only is. is)) };
 
     ghost grows = { λ st x past change keeps legal own. (keeps_grown (made_of st.volume st.nodes st.devices st.areas) st.greatest st.owns.items st.slots.items x past change own keeps, goes_grown past change st.inquiries.items x keeps.handed own) };
 
-    ghost survives = { λ st x y past n keeps down crash. (keeps_sure (made_of st.volume st.nodes st.devices st.areas) st.greatest st.owns.items st.slots.items x y past (sure_survives x y (last past.told.chain) (3 + n) crash) keeps, goes_sure past.writes past.told.greatest st.inquiries.items x y (last past.told.chain) (sure_survives x y (last past.told.chain) (3 + n) crash)) };
+    ghost survives = { λ st x y past n keeps down lengths crash. (keeps_sure (made_of st.volume st.nodes st.devices st.areas) st.greatest st.owns.items st.slots.items x y past (sure_survives x y (last past.told.chain) (3 + n) lengths crash) keeps, goes_sure past.writes past.told.greatest st.inquiries.items x y (last past.told.chain) (sure_survives x y (last past.told.chain) (3 + n) lengths crash)) };
 
     ghost replaced = { λ st x past device second keeps down only. (keeps_sure (made_of st.volume st.nodes st.devices st.areas) st.greatest st.owns.items st.slots.items x (blanked x (member_disk device second)) past (sure_replaced x (last past.told.chain) device second only) keeps, goes_sure past.writes past.told.greatest st.inquiries.items x (blanked x (member_disk device second)) (last past.told.chain) (sure_replaced x (last past.told.chain) device second only)) };
 
-    ghost elsewhere = { λ st x y past keeps same. (keeps_sure (made_of st.volume st.nodes st.devices st.areas) st.greatest st.owns.items st.slots.items x y past (sure_elsewhere x y (last past.told.chain) same) keeps, goes_sure past.writes past.told.greatest st.inquiries.items x y (last past.told.chain) (sure_elsewhere x y (last past.told.chain) same)) };
+    ghost elsewhere = { λ st x y past keeps lengths same. (keeps_sure (made_of st.volume st.nodes st.devices st.areas) st.greatest st.owns.items st.slots.items x y past (sure_elsewhere x y (last past.told.chain) lengths same) keeps, goes_sure past.writes past.told.greatest st.inquiries.items x y (last past.told.chain) (sure_elsewhere x y (last past.told.chain) lengths same)) };
 
     ghost loses = { λ st x past letters keeps fewer. (keeps_letters (made_of st.volume st.nodes st.devices st.areas) st.greatest st.owns.items st.slots.items x past letters keeps, goes_same past.writes past.told.greatest st.inquiries.items x x (last past.told.chain) (last past.told.chain) (λ device sector content only is. is)) };
 
-    ghost labelled = { λ st x past keeps. keeps.fits.labels };
+    ghost labelled = { λ st x past keeps. record { devices = keeps.fits.count; labels = keeps.fits.labels } };
 
-    ghost begins = { λ st x s new allowed of_store. keeps_new (made_of st.volume st.nodes st.devices st.areas) st.greatest st.owns.items st.slots.items st.inquiries.items x s new allowed of_store };
+    ghost begins_own = { λ st s node new is less. is.each node less };
 
-    ghost finds = { λ st x s boot new separate allowed of_store. absurd separate };
+    ghost begins_idle = { λ st node new. idle_new st.greatest st.slots.items st.inquiries.items node new };
 
-    ghost begins_standing = { λ st x s device sector content new is. is };
+    ghost begins = { λ st x s new is allowed of_store names. keeps_new (made_of st.volume st.nodes st.devices st.areas) st.greatest st.owns.items st.slots.items st.inquiries.items x s new is allowed of_store };
 
-    ghost finds_standing = { λ st x s boot device sector content new separate is. absurd separate };
+    ghost finds = { λ st x first s boot new separate is none allowed of_store names. absurd separate };
+
+    ghost begins_standing = { λ st x s device sector content new there low high is. is };
+
+    ghost finds_standing = { λ st x s boot device sector content new separate there low high is. absurd separate };
 
     ghost only_asked = { λ st node none. only_asked st.inquiries.items node none };
 
     ghost needs_little = { λ st disk. needs_little (made_of st.volume st.nodes st.devices st.areas) st.down.items disk };
 
     ghost needs_none = { λ st disk replica. needs_none (made_of st.volume st.nodes st.devices st.areas) st.down.items disk replica };
+
+    ghost needs_of_volume = { λ st disk past. needs_of_volume (made_of st.volume st.nodes st.devices st.areas) st.down.items disk st.shape.down_long past };
 }

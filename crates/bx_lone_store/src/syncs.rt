@@ -39,6 +39,7 @@ pub(crate) fn sync_all<R: Rack>(
     ensures out { (node : ℕ) → (out_at slots.new.items node ≡ None) ⊎ (out_at slots.new.items node ≡ out_at slots.old.items node) }
     ensures first { (node : ℕ) (write : Write) → at slots.old.items node ≡ Some write → (IsOver greatest (sent_of write) → ⊥) → write.is_written ≡ false → OnOk result (at slots.new.items node ≡ Some (record write { is_written = true })) }
     ensures second { (node : ℕ) (write : Write) → at slots.old.items node ≡ Some write → (IsOver greatest (sent_of write) → ⊥) → write.is_written ≡ true → OnOk result (at slots.new.items node ≡ None) }
+    ensures over { (node : ℕ) (write : Write) → at slots.old.items node ≡ Some write → IsOver greatest (sent_of write) → OnOk result (at slots.new.items node ≡ Some write) }
     ensures answered { (node : ℕ) → R.tells rack.old → IsAnswered (R.state rack.old) known.now (at inquiries.old.items node) (at inquiries.new.items node) }
     ensures asks { (node : ℕ) → asked_at inquiries.new.items node ≡ asked_at inquiries.old.items node }
     ensures there { (node : ℕ) (asks : Asked) → asked_at inquiries.old.items node ≡ Some asks → asks.device < length known.now.devices → OnOk result (IsSome (answer_at inquiries.new.items node)) }

@@ -8,6 +8,7 @@ use Rattle.bx_agreement.specs.History.{ComesNext, History}
 use Rattle.bx_agreement.specs.Passing.{MayCome, MayPass, answered}
 use Rattle.bx_agreement.specs.Round.{IsLater}
 use Rattle.bx_agreement.proofs.Events.{later_answer}
+use Rattle.bx_agreement.proofs.Places.{last_among}
 use Rattle.bx_agreement.proofs.Rounds.{goes_on}
 use Rattle.bx_base.specs.declared.names.Actor.{Actor}
 use Rattle.bx_base.specs.declared.names.Actor.TheVariants.{Replica}
@@ -16,12 +17,15 @@ use Rattle.bx_cell.specs.Cells.{HasEither, next}
 use Rattle.bx_cell.specs.Halves.{Found}
 use Rattle.bx_cell.specs.Images.{EachSure, HasAllSure}
 use Rattle.bx_disk.specs.Disks.{Disks, Image}
-use Rattle.bx_facts.specs.Chains.{AreLegal, Chain, GrowsBy, IsPlace}
+use Rattle.bx_facts.specs.Chains.{AreLegal, Chain, GrowsBy, IsPlace, grown, last}
 use Rattle.bx_facts.specs.Disks.{Crashes, SameLabels, SameLengths, SameReplicas}
 use Rattle.bx_paxos.specs.Shown.{Shows}
 use Rattle.bx_facts.specs.Inputs.{AreAmong, IsRegisters}
 use Rattle.bx_facts.specs.Pasts.{RegisterPast}
+use Rattle.bx_global.proofs.StaysAllowed.{stays_allowed}
+use Rattle.bx_global.specs.Allowed.{IsAllowed, IsChange}
 use Rattle.bx_global.specs.Bytes.{IsHeld, held_text}
+use Rattle.bx_global.specs.Table.{effect}
 use Rattle.bx_global.specs.declared.change.Change.{Change}
 use Rattle.bx_global.specs.declared.held.Held.{Held}
 use Rattle.bx_global.specs.declared.state.GlobalState.{GlobalState}
@@ -92,6 +96,7 @@ fewer_letters v x past letters f among = record {
   proposing = f.proposing;
   courses = f.courses;
   boots = f.boots;
+  numbers = f.numbers;
   allowed = f.allowed;
 }
   where
@@ -125,6 +130,7 @@ with_images v x y past f images shown = record {
   proposing = f.proposing;
   courses = f.courses;
   boots = f.boots;
+  numbers = f.numbers;
   allowed = f.allowed;
 }
 
@@ -244,6 +250,7 @@ answers v x y past n held now found after letter message answer f three knows kn
   };
   courses = f.courses;
   boots = f.boots;
+  numbers = f.numbers;
   allowed = f.allowed;
 }
   where
@@ -277,12 +284,23 @@ faults v x y past n held now found letter message f three knows is_now has spell
 
 -- ---- a step of a proposer
 
+-- where each state of a chain meets the conditions, each of the one that it grows to does
+allowed_on : (changes : List Change) (old new : Chain) → GrowsBy changes old new → ((change : Change) → Contains changes change → IsChange change) → ((s : GlobalState) → IsPlace old s → IsAllowed s)
+    → (s : GlobalState) → IsPlace new s → IsAllowed s
+allowed_on changes old new (inl same) numbers allowed s place = allowed s (subst (λ (c : Chain). IsPlace c s) same place)
+allowed_on changes old new (inr (change, has, legal, is)) numbers allowed s place = by (subst (λ (c : Chain). IsPlace c s) is place)
+  where
+    by : IsPlace (grown old change) s → IsAllowed s
+    by (inl made) = subst IsAllowed (sym made) (stays_allowed (last old) change (allowed (last old) (last_among old.first old.changes)) (numbers change has) legal)
+    by (inr before) = allowed s before
+
 -- an event of voting: all else stays
 pub goes : (v : Voters) (x : Disks) (past : RegisterPast) (f : Fits v x past) (me : ℕ) (course : Course) (courses : ℕ → Course) (sent : List Letter) → Turned me course v.courses courses
-    → (a : Agrees f.history (here v x past f).cells (machines_of courses) me course) → IsCourse (devices_of v) course → course.boot ≡ (v.courses me).boot → AllPass (devices_of v) a.history sent → Goes (going v courses) x past sent
+    → (a : Agrees f.history (here v x past f).cells (machines_of courses) me course) → IsCourse (devices_of v) course → course.boot ≡ (v.courses me).boot → AllPass (devices_of v) a.history sent → Goes (going v courses) x past course.known sent
 goes v x past f me course courses sent turned a is boot pass = record {
   chain = a.history.chain;
-  grows = subst (λ (c : Chain). GrowsBy past.proposed c a.history.chain) f.chain (subst (λ (cs : List Change). GrowsBy cs f.history.chain a.history.chain) f.proposed a.goes_on.grows);
+  grows = grew;
+  told = subst (λ (c : Chain). (a.history.chain ≡ c) ⊎ (course.known ≡ last a.history.chain)) f.chain a.told;
   fits = record {
     history = a.history;
     chain = refl;
@@ -311,10 +329,14 @@ goes v x past f me course courses sent turned a is boot pass = record {
       | inr apart ↦ subst (IsCourse (devices_of v)) (sym (turned.others m apart.1)) (f.courses m)
     ];
     boots = λ who there. subst (λ (k : ℕ). k ≤ past.boots who) (sym (boot_of (number_of who))) (f.boots who there);
-    allowed = f.allowed;
+    numbers = f.numbers;
+    allowed = allowed_on past.proposed past.chain a.history.chain grew f.numbers f.allowed;
   };
 }
   where
+    grew : GrowsBy past.proposed past.chain a.history.chain
+    grew = subst (λ (c : Chain). GrowsBy past.proposed c a.history.chain) f.chain (subst (λ (cs : List Change). GrowsBy cs f.history.chain a.history.chain) f.proposed a.goes_on.grows)
+
     boot_of : (m : ℕ) → (courses m).boot ≡ (v.courses m).boot
     boot_of m = elim (eqb_tells m me) [
       | inl same ↦ subst (λ (k : ℕ). (courses k).boot ≡ (v.courses k).boot) (sym same.1) (ap (λ (c : Course). c.boot) turned.at ∙ boot)
@@ -343,7 +365,7 @@ turns_of me course old new turned = record { at = ap machine_of turned.at; other
 -- a packet comes to it
 pub hears : (v : Voters) (x : Disks) (past : RegisterPast) (at : Actor) (others : List Actor) (letter : Letter) (message : Message) (course : Course) (courses : ℕ → Course) (move : Move) → Fits v x past → number_of at < 2 ^ 32
     → Contains past.letters letter → Spells (devices_of v) message letter.kind letter.body → Hears (number_of at) (v.courses (number_of at)) letter.from message course move → Turned (number_of at) course v.courses courses
-    → Goes (going v courses) x past (letters_of at others course move)
+    → Goes (going v courses) x past course.known (letters_of at others course move)
 hears v x past at others letter message course courses move f fits has spells does turned =
     let me : ℕ = number_of at in
     let a = heard f.history (here v x past f).cells (machines_of v.courses) (machines_of courses) me (stands v x past f) course (turns_of me course v.courses courses turned) (v.courses me) letter.from message move
@@ -354,7 +376,7 @@ hears v x past at others letter message course courses move f fits has spells do
 
 -- the clock ticks
 pub ticks_at : (v : Voters) (x : Disks) (past : RegisterPast) (at : Actor) (others : List Actor) (course : Course) (courses : ℕ → Course) (move : Move) → Fits v x past → number_of at < 2 ^ 32
-    → Ticks (number_of at) (v.courses (number_of at)) course move → Turned (number_of at) course v.courses courses → Goes (going v courses) x past (letters_of at others course move)
+    → Ticks (number_of at) (v.courses (number_of at)) course move → Turned (number_of at) course v.courses courses → Goes (going v courses) x past course.known (letters_of at others course move)
 ticks_at v x past at others course courses move f fits does turned =
     let me : ℕ = number_of at in
     let a = ticks f.history (here v x past f).cells (machines_of v.courses) (machines_of courses) me (stands v x past f) course (turns_of me course v.courses courses turned) (v.courses me) move (f.proposing me) does in

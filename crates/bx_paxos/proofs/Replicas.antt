@@ -90,6 +90,7 @@ more_letters v x past sent f pass = record {
   proposing = f.proposing;
   courses = f.courses;
   boots = f.boots;
+  numbers = f.numbers;
   allowed = f.allowed;
 }
 
@@ -108,6 +109,7 @@ reads_clock v x past me reading courses f turned = record {
   proposing = turned_each (λ c m. IsProposing f.history m c) me (reading_now reading (v.courses me)) v.courses courses turned (record { is = (f.proposing me).is; own = (f.proposing me).own }) f.proposing;
   courses = turned_each (λ c m. IsCourse (devices_of v) c) me (reading_now reading (v.courses me)) v.courses courses turned (record { known = (f.courses me).known; boot = (f.courses me).boot; out = (f.courses me).out }) f.courses;
   boots = boots_stay v x past f me (reading_now reading (v.courses me)) courses turned refl;
+  numbers = f.numbers;
   allowed = f.allowed;
 }
 
@@ -165,32 +167,34 @@ acceptor_takes v x y past a b Synced out after Same first origin low is_a is_b r
 
 -- ---- the proposer's half
 
-decides_as : (v : Voters) (y : Disks) (past : RegisterPast) (out sent after : List Letter) → past.letters ++ after ≡ (past.letters ++ out) ++ sent → Goes v y (register_with past out) sent → Decides (Fits v y) (register_with past after)
-decides_as v y past out sent after same goes = record {
+decides_as : (v : Voters) (y : Disks) (past : RegisterPast) (known : GlobalState) (out sent after : List Letter) → past.letters ++ after ≡ (past.letters ++ out) ++ sent → Goes v y (register_with past out) known sent
+    → Decides (Fits v y) known (register_with past after)
+decides_as v y past known out sent after same goes = record {
   chain = goes.chain;
   grows = goes.grows;
+  told = goes.told;
   holds = subst (λ (l : List Letter). Fits v y (record past { chain = goes.chain; letters = l })) (sym same) goes.fits;
 }
 
-still : (v : Voters) (y : Disks) (past : RegisterPast) (out : List Letter) → Fits v y (register_with past out) → Goes v y (register_with past out) []
-still v y past out f = record { chain = past.chain; grows = inl refl; fits = subst (λ (l : List Letter). Fits v y (record past { letters = l })) (sym (append-nil (past.letters ++ out))) f }
+still : (v : Voters) (y : Disks) (past : RegisterPast) (known : GlobalState) (out : List Letter) → Fits v y (register_with past out) → Goes v y (register_with past out) known []
+still v y past known out f = record { chain = past.chain; grows = inl refl; told = inl refl; fits = subst (λ (l : List Letter). Fits v y (record past { letters = l })) (sym (append-nil (past.letters ++ out))) f }
 
 -- the laws of a proposer, by its number
 hears_me : (v : Voters) (x : Disks) (past : RegisterPast) (at : Actor) (me : ℕ) (others : List Actor) (letter : Letter) (message : Message) (course : Course) (courses : ℕ → Course) (move : Move) → Fits v x past → me ≡ number_of at → me < 2 ^ 32
-    → Contains past.letters letter → Spells (devices_of v) message letter.kind letter.body → Hears me (v.courses me) letter.from message course move → Turned me course v.courses courses → Goes (going v courses) x past (letters_of at others course move)
+    → Contains past.letters letter → Spells (devices_of v) message letter.kind letter.body → Hears me (v.courses me) letter.from message course move → Turned me course v.courses courses → Goes (going v courses) x past course.known (letters_of at others course move)
 hears_me v x past at me others letter message course courses move f number fits has spells =
-    subst (λ (n : ℕ). Hears n (v.courses n) letter.from message course move → Turned n course v.courses courses → Goes (going v courses) x past (letters_of at others course move)) (sym number)
+    subst (λ (n : ℕ). Hears n (v.courses n) letter.from message course move → Turned n course v.courses courses → Goes (going v courses) x past course.known (letters_of at others course move)) (sym number)
     (λ does turned. hears v x past at others letter message course courses move f (subst (λ (n : ℕ). n < 2 ^ 32) number fits) has spells does turned)
 
 ticks_me : (v : Voters) (x : Disks) (past : RegisterPast) (at : Actor) (me : ℕ) (others : List Actor) (course : Course) (courses : ℕ → Course) (move : Move) → Fits v x past → me ≡ number_of at → me < 2 ^ 32
-    → Ticks me (v.courses me) course move → Turned me course v.courses courses → Goes (going v courses) x past (letters_of at others course move)
+    → Ticks me (v.courses me) course move → Turned me course v.courses courses → Goes (going v courses) x past course.known (letters_of at others course move)
 ticks_me v x past at me others course courses move f number fits =
-    subst (λ (n : ℕ). Ticks n (v.courses n) course move → Turned n course v.courses courses → Goes (going v courses) x past (letters_of at others course move)) (sym number)
+    subst (λ (n : ℕ). Ticks n (v.courses n) course move → Turned n course v.courses courses → Goes (going v courses) x past course.known (letters_of at others course move)) (sym number)
     (λ does turned. ticks_at v x past at others course courses move f (subst (λ (n : ℕ). n < 2 ^ 32) number fits) does turned)
 
 -- it takes what comes, of voters among which it has this course
 pub proposer_takes : (v : Voters) (y : Disks) (past : RegisterPast) (p q : Proposer) (input : Input) (courses : ℕ → Course) (out after : List Letter) → v.first ≡ p.first → p.actor ≡ number_of p.at → p.actor < 2 ^ 32 → v.courses p.actor ≡ p.course
-    → IsComing (past.letters ++ out) input → Takes p input q out after → Turned p.actor q.course v.courses courses → Fits v y (register_with past out) → Decides (Fits (going v courses) y) (register_with past after)
+    → IsComing (past.letters ++ out) input → Takes p input q out after → Turned p.actor q.course v.courses courses → Fits v y (register_with past out) → Decides (Fits (going v courses) y) q.course.known (register_with past after)
 proposer_takes v y past p q input courses out after first actor fits course comes takes turned f = by input comes takes.steps takes.sends
   where
     me : ℕ
@@ -224,26 +228,26 @@ proposer_takes v y past p q input courses out after first actor fits course come
     without_asks e = ap (λ (l : List Letter). past.letters ++ l) (e ∙ ap (λ (l : List Letter). l ++ sent) (append-nil out)) ∙ sym (append_assoc past.letters out sent)
 
     -- nothing is sent
-    quiet_as : takes.move ≡ Nothing → after ≡ (out ++ []) ++ sent → Fits (going v courses) y (register_with past out) → Decides (Fits (going v courses) y) (register_with past after)
-    quiet_as quiet e g = decides_as (going v courses) y past out [] after (without_asks e ∙ ap (λ (l : List Letter). (past.letters ++ out) ++ l) (silent_letters quiet)) (still (going v courses) y past out g)
+    quiet_as : takes.move ≡ Nothing → after ≡ (out ++ []) ++ sent → Fits (going v courses) y (register_with past out) → Decides (Fits (going v courses) y) q.course.known (register_with past after)
+    quiet_as quiet e g = decides_as (going v courses) y past q.course.known out [] after (without_asks e ∙ ap (λ (l : List Letter). (past.letters ++ out) ++ l) (silent_letters quiet)) (still (going v courses) y past q.course.known out g)
 
     packet : (reading : ℕ) (letter : Letter) → Contains (past.letters ++ out) letter → PacketStep me (length p.first.devices) (reading_now reading p.course) letter.from letter.kind letter.body q.course takes.move → after ≡ (out ++ []) ++ sent
-        → Decides (Fits (going v courses) y) (register_with past after)
+        → Decides (Fits (going v courses) y) q.course.known (register_with past after)
     packet reading letter has (inl (message, spells, does)) e =
         let fits_clock = reads_clock v y (register_with past out) me reading (clock reading) f (clock_turned reading) in
         let says : Spells (devices_of v) message letter.kind letter.body = subst (λ (s : GlobalState). Spells (length s.devices) message letter.kind letter.body) (sym first) spells in
         let hears_so : Hears me (clock reading me) letter.from message q.course takes.move = subst (λ (c : Course). Hears me c letter.from message q.course takes.move) (sym (clock_at reading)) does in
-        decides_as (going v courses) y past out sent after (without_asks e)
+        decides_as (going v courses) y past q.course.known out sent after (without_asks e)
         (hears_me (going v (clock reading)) y (register_with past out) p.at me p.others letter message q.course courses takes.move fits_clock actor fits has says hears_so (after_clock reading))
     packet reading letter has (inr (none, e, quiet)) f_sent = quiet_as quiet f_sent (only_clock reading e)
 
-    by : (i : Input) → IsComing (past.letters ++ out) i → Steps me (length p.first.devices) p.course i q.course takes.move → after ≡ (out ++ asks_at p.at i) ++ sent → Decides (Fits (going v courses) y) (register_with past after)
+    by : (i : Input) → IsComing (past.letters ++ out) i → Steps me (length p.first.devices) p.course i q.course takes.move → after ≡ (out ++ asks_at p.at i) ++ sent → Decides (Fits (going v courses) y) q.course.known (register_with past after)
     by (Packet letter reading) has steps e = packet reading (letter_of letter.now) has steps e
     by (Tick reading) has steps e =
         let asked = letters_as v y past ((past.letters ++ out) ++ asks_of p.at) (past.letters ++ (out ++ asks_of p.at)) (append_assoc past.letters out (asks_of p.at)) (more_letters v y (register_with past out) (asks_of p.at) f (asks_pass (devices_of v) f.history p.at)) in
         let fits_clock = reads_clock v y (register_with past (out ++ asks_of p.at)) me reading (clock reading) asked (clock_turned reading) in
         let ticks_so : Ticks me (clock reading me) q.course takes.move = subst (λ (c : Course). Ticks me c q.course takes.move) (sym (clock_at reading)) steps in
-        decides_as (going v courses) y past (out ++ asks_of p.at) sent after (ap (λ (l : List Letter). past.letters ++ l) e ∙ sym (append_assoc past.letters (out ++ asks_of p.at) sent))
+        decides_as (going v courses) y past q.course.known (out ++ asks_of p.at) sent after (ap (λ (l : List Letter). past.letters ++ l) e ∙ sym (append_assoc past.letters (out ++ asks_of p.at) sent))
         (ticks_me (going v (clock reading)) y (register_with past (out ++ asks_of p.at)) p.at me p.others q.course courses takes.move fits_clock actor fits ticks_so (after_clock reading))
     by Synced has (same, quiet) e = quiet_as quiet e (only_clock p.course.reading same)
 
@@ -254,7 +258,7 @@ pub replica_takes : (v : Voters) (x y : Disks) (past : RegisterPast) (a b : Acce
     → b.replica ≡ a.replica → b.first ≡ a.first → b.origin ≡ a.origin → (Same → y ≡ x) → KeepsSure x y a.replica 1 20 → EachSure x (HasCell a) → EachSure y (HasCell b)
     → IfSome a.cell (λ cell. (b.cell ≡ Some (with_value cell (held_text b.held))) ⊎ ((b ≡ a) × Same)) → IsComing (past.letters ++ out) input → IsPlace past.chain a.held.decided → TakesIn a input b out mid Same
     → p.actor ≡ number_of p.at → p.actor < 2 ^ 32 → Learns p.course b.held.decided m.course → m ≡ going_on p m.course → IsComing (past.letters ++ mid) input → Takes m input q mid after → Turned p.actor q.course v.courses courses
-    → Fits v x (register_with past out) → Decides (Fits (going v courses) y) (register_with past after)
+    → Fits v x (register_with past out) → Decides (Fits (going v courses) y) q.course.known (register_with past after)
 replica_takes v x y past a b p m q input courses out mid after Same of halves is_a is_b replica firsts origins back keeps has has_b stored comes place took actor fits learns kept comes_then takes turned f =
     let first = acceptor_takes v x y past a b input out mid Same of.first of.origin halves.low is_a is_b replica firsts origins back keeps has has_b stored comes place took f in
     let state : IsStateOf (devices_of v) b.held.decided = subst (λ (s : GlobalState). IsStateOf (length s.devices) b.held.decided) (firsts ∙ sym of.first) (record { is = is_b.held.decided; devices_are = is_b.held.decided_devices }) in
@@ -396,6 +400,7 @@ replica_start_fails v x y past n boot out keeps above f = let synced = syncs v x
   proposing = synced.proposing;
   courses = synced.courses;
   boots = λ who there. more who (is_same (Replica n) who) refl (synced.boots who there);
+  numbers = synced.numbers;
   allowed = synced.allowed;
 }
   where

@@ -18,6 +18,7 @@ use Rattle.bx_base.specs.declared.names.Actor.{Actor}
 use Rattle.bx_base.specs.declared.names.Actor.TheVariants.{Node, Replica, Server, Member}
 use Rattle.bx_cell.specs.Images.{EachSure}
 use Rattle.bx_disk.specs.Disks.{Disks, Image}
+use Rattle.bx_facts.proofs.Lists.{front_or_behind, nothing}
 use Rattle.bx_facts.proofs.Machines.{is_itself, is_one}
 use Rattle.bx_facts.specs.Chains.{Chain, IsAmong, IsPlace}
 use Rattle.bx_facts.specs.Machines.{IsMachine, is_same, put_at}
@@ -100,6 +101,7 @@ same_history v x past boots down f me course courses sent turned is as_course le
   proposing = turned_each (λ c m. IsProposing f.history m c) me course v.courses courses turned is f.proposing;
   courses = turned_each (λ c m. IsCourse (devices_of v) c) me course v.courses courses turned as_course f.courses;
   boots = least;
+  numbers = f.numbers;
   allowed = f.allowed;
 }
 
@@ -130,6 +132,7 @@ proposed v x past at others change course courses move f fits numbers legal does
   };
   courses = turned_each (λ c m. IsCourse (devices_of v) c) me course v.courses courses turned as_course f.courses;
   boots = boots_stay v x past f me course courses turned (boot_of does);
+  numbers = λ other has. elim (front_or_behind change past.proposed other has) [ inl one ↦ subst IsChange one numbers | inr older ↦ f.numbers other older ];
   allowed = f.allowed;
 }
   where
@@ -173,6 +176,7 @@ crashed v x past who courses f turned =
       proposing = turned_each (λ c m. IsProposing f.history m c) me (stopped (v.courses me)) v.courses courses turned both.1 f.proposing;
       courses = turned_each (λ c m. IsCourse (devices_of v) c) me (stopped (v.courses me)) v.courses courses turned (record { known = is.known; boot = is.boot; out = tt }) f.courses;
       boots = boots_stay v x past f me (stopped (v.courses me)) courses turned refl;
+      numbers = f.numbers;
       allowed = f.allowed;
     }
 
@@ -193,7 +197,7 @@ restarted v x past who boot reading courses f few there above fits turned =
     let both = starts f.history (here v x past f).cells (machines_of v.courses) (machines_of courses) me (stands v x past f) now (turns_of me now v.courses courses turned) (v.courses me) boot reading v.first (f.proposing me)
     (omega (arith, f.boots who there, above)) first_place refl in
     same_history v x past (put_at who boot past.boots) (put_at who false past.down) f me now courses (asks_of who) turned both.1
-    (record { known = record { is = f.allowed; devices_are = refl }; boot = fits; out = tt }) least (asks_pass (devices_of v) f.history who)
+    (record { known = record { is = f.allowed v.first (subst (λ (c : Chain). IsPlace c v.first) f.chain first_place); devices_are = refl }; boot = fits; out = tt }) least (asks_pass (devices_of v) f.history who)
   where
     by_test : (other : Actor) (t : Bool) → IsMachine v.nodes other → is_same who other ≡ t → (courses (number_of other)).boot ≤ (if t then boot else past.boots other)
     by_test other true is e =
@@ -227,6 +231,7 @@ told v x past me s course courses f place state learns turned = record {
   proposing = turned_each (λ c m. IsProposing f.history m c) me course v.courses courses turned (proposing_now learns) f.proposing;
   courses = turned_each (λ c m. IsCourse (devices_of v) c) me course v.courses courses turned (course_now learns) f.courses;
   boots = boots_stay v x past f me course courses turned (boot_now learns);
+  numbers = f.numbers;
   allowed = f.allowed;
 }
   where
@@ -266,7 +271,8 @@ begun v x is made each courses = record {
   });
   courses = λ me. subst (IsCourse (devices_of v)) (sym (courses me)) (record { known = record { is = is; devices_are = refl }; boot = omega arith; out = tt });
   boots = λ who there. subst (λ (c : Course). c.boot ≤ 0) (sym (courses (number_of who))) (omega arith);
-  allowed = is;
+  numbers = λ change has. absurd (nothing change has);
+  allowed = λ s place. subst IsAllowed (sym place) is;
 }
   where
     cells : ℕ → Option Held
@@ -307,7 +313,8 @@ found_begun v x was boot is found each courses = record {
   });
   courses = λ me. subst (IsCourse (devices_of v)) (sym (courses me)) (record { known = record { is = is; devices_are = refl }; boot = omega arith; out = tt });
   boots = λ who there. subst (λ (c : Course). c.boot ≤ boot) (sym (courses (number_of who))) (omega arith);
-  allowed = is;
+  numbers = λ change has. absurd (nothing change has);
+  allowed = λ s place. subst IsAllowed (sym place) is;
 }
   where
     new : History

@@ -9,11 +9,12 @@ use Rattle.bx_base.specs.declared.names.Actor.{Actor}
 use Rattle.bx_cell.specs.Halves.{Found, cell_in}
 use Rattle.bx_cell.specs.Images.{EachSure}
 use Rattle.bx_disk.specs.Disks.{Disks}
-use Rattle.bx_facts.specs.Chains.{Chain, GrowsBy}
+use Rattle.bx_facts.specs.Chains.{Chain, GrowsBy, IsPlace, last}
 use Rattle.bx_facts.specs.Machines.{IsMachine}
 use Rattle.bx_facts.specs.Pasts.{RegisterPast}
-use Rattle.bx_global.specs.Allowed.{IsAllowed}
+use Rattle.bx_global.specs.Allowed.{IsAllowed, IsChange}
 use Rattle.bx_global.specs.Bytes.{IsHeld}
+use Rattle.bx_global.specs.declared.change.Change.{Change}
 use Rattle.bx_global.specs.declared.held.Held.{Held}
 use Rattle.bx_global.specs.declared.state.GlobalState.{GlobalState}
 use Rattle.bx_packets.specs.Messages.{Spells}
@@ -58,7 +59,8 @@ pub record AllPass (devices : ℕ) (h : History) (letters : List Letter) : Type 
 
 -- This past is one that led to these machines and disks: there is a history of votes of which the chain and the changes that were handed in are
 -- a part, by which each letter may be under way, each image that has all that is sure is sound, and each machine proposes; and each such image
--- has the cells with which replicas take part, of which those that still stand as they were found told the first state.
+-- has the cells with which replicas take part, of which those that still stand as they were found told the first state. The numbers of changes
+-- that were handed in fit, and each state of the chain meets the conditions.
 pub record Fits (v : Voters) (x : Disks) (past : RegisterPast) : Type 0 where
   pub history : History
   pub chain : history.chain ≡ past.chain
@@ -72,12 +74,15 @@ pub record Fits (v : Voters) (x : Disks) (past : RegisterPast) : Type 0 where
   pub proposing : (me : ℕ) → IsProposing history me (v.courses me)
   pub courses : (me : ℕ) → IsCourse (devices_of v) (v.courses me)
   pub boots : (who : Actor) → IsMachine v.nodes who → (v.courses (number_of who)).boot ≤ past.boots who
-  pub allowed : IsAllowed v.first
+  pub numbers : (change : Change) → Contains past.proposed change → IsChange change
+  pub allowed : (s : GlobalState) → IsPlace past.chain s → IsAllowed s
 
--- These machines and disks fit the past with these letters more, in which the chain has one change more that was handed in, or none.
-pub record Goes (v : Voters) (x : Disks) (past : RegisterPast) (sent : List Letter) : Type 0 where
+-- These machines and disks fit the past with these letters more, in which the chain has one change more that was handed in, or none: one only where
+-- the state that is known then is what it makes.
+pub record Goes (v : Voters) (x : Disks) (past : RegisterPast) (known : GlobalState) (sent : List Letter) : Type 0 where
   pub chain : Chain
   pub grows : GrowsBy past.proposed past.chain chain
+  pub told : (chain ≡ past.chain) ⊎ (known ≡ last chain)
   pub fits : Fits v x (record past { chain = chain; letters = past.letters ++ sent })
 
 -- A cell stands as it did, or was put.

@@ -34,11 +34,13 @@ ghost use Rattle.bx_paxos.specs.Fits.{Comes, Fits, Goes, IsPutOn, KnowsCell, Tur
 ghost use Rattle.bx_paxos.specs.Reading.{AreMade, ReadsState};
 ghost use Rattle.bx_paxos.specs.Shown.{HasFound, StandsAsFound};
 
-/// What each machine knows is a place of the chain, whose changes were legal; and each image is read as the last state, or as what a change
-/// that was handed in makes of it.
+/// What each machine knows is a place of the chain, whose changes were legal, and each state of which meets the conditions; and each image is
+/// read as the last state, or as what a change that was handed in makes of it, and as one state alone.
 pub fn a_past_tells()
     ensures place { (v : Voters) (x : Disks) (past : RegisterPast) (me : ℕ) → Fits v x past → IsPlace past.chain (v.courses me).known }
     ensures legal { (v : Voters) (x : Disks) (past : RegisterPast) → Fits v x past → AreLegal past.chain.first past.chain.changes }
+    ensures allowed { (v : Voters) (x : Disks) (past : RegisterPast) (s : GlobalState) → Fits v x past → IsPlace past.chain s → IsAllowed s }
+    ensures one { (made : GlobalState) (sizes : List ℕ) (image : Image) (s other : GlobalState) → ReadsState made sizes image s → ReadsState made sizes image other → other ≡ s }
     ensures reads { (v : Voters) (x : Disks) (past : RegisterPast) (image : Image) (s : GlobalState) → Fits v x past → HasAllSure x image → ReadsState v.first x.sizes image s → IsNext past.proposed (last past.chain) s }
 {}
 
@@ -67,12 +69,12 @@ pub fn a_replica_is_stopped()
 {}
 
 /// A proposer takes a letter that may be under way, or a tick: the chain has one change more that was handed in, or none, and what it sends is
-/// under way.
+/// under way. A change more only where the proposer knows what it makes then.
 pub fn a_proposer_takes()
     ensures hears { (v : Voters) (x : Disks) (past : RegisterPast) (at : Actor) (others : List Actor) (letter : Letter) (message : Message) (course : Course) (courses : ℕ → Course) (move : Move) → Fits v x past → number_of at < 2 ^ 32
-        → Comes v past letter message → Hears (number_of at) (v.courses (number_of at)) letter.from message course move → Turned (number_of at) course v.courses courses → Goes (going v courses) x past (sent_of at others course move) }
+        → Comes v past letter message → Hears (number_of at) (v.courses (number_of at)) letter.from message course move → Turned (number_of at) course v.courses courses → Goes (going v courses) x past course.known (sent_of at others course move) }
     ensures ticks { (v : Voters) (x : Disks) (past : RegisterPast) (at : Actor) (others : List Actor) (course : Course) (courses : ℕ → Course) (move : Move) → Fits v x past → number_of at < 2 ^ 32
-        → Ticks (number_of at) (v.courses (number_of at)) course move → Turned (number_of at) course v.courses courses → Goes (going v courses) x past (sent_of at others course move) }
+        → Ticks (number_of at) (v.courses (number_of at)) course move → Turned (number_of at) course v.courses courses → Goes (going v courses) x past course.known (sent_of at others course move) }
 {}
 
 /// A legal change is handed in and proposed.

@@ -1,12 +1,12 @@
 //! The register.
 
-ghost use Rattle.std.specs.Prelude.{◌≡◌, ◌≢◌, ℕ, ◌+◌, ◌^◌, ◌<◌, ◌≤◌, ◌⊎◌, ◌↔◌, false, true, length, IfOk, IsErrOf, IsTrue, OnErr, OnOk};
-ghost use Rattle.bx_base.specs.Faults.{Rose};
+ghost use Rattle.std.specs.Prelude.{◌≡◌, ◌≢◌, ℕ, ◌+◌, ◌^◌, ◌<◌, ◌≤◌, ◌⊎◌, ◌↔◌, false, true, length, IfOk, IfSome, IsErrOf, IsTrue, OnErr, OnOk};
+ghost use Rattle.bx_acceptor.specs.Starting.{StartsWith};
 ghost use Rattle.bx_base.specs.declared.names.Actor.{Actor};
 ghost use Rattle.bx_base.specs.declared.names.Actor.TheVariants.{Replica};
 ghost use Rattle.bx_calls.specs.Calls.{LeavesOnly};
-ghost use Rattle.bx_disk.specs.Counts.{NoneFalls};
 ghost use Rattle.bx_disk.specs.Disks.{Disks};
+ghost use Rattle.bx_disk.specs.Kept.{Counted};
 ghost use Rattle.bx_facts.specs.Chains.{IsAboveBoots, IsNext, last, most_boot};
 ghost use Rattle.bx_facts.specs.Disks.{HasRoom, NeedsAt, NeedsNoMore, OnlyDiskOf, ReadsOnly, SameDisks, SameLabels, SameMembers, wanted_by};
 ghost use Rattle.bx_facts.specs.Inputs.{IsRegisters, SendsOnly};
@@ -18,11 +18,13 @@ ghost use Rattle.bx_facts.specs.declared.input.ProposeError.TheVariants.{NotLega
 ghost use Rattle.bx_global.specs.Allowed.{IsAllowed};
 ghost use Rattle.bx_global.specs.Table.{IsLegal};
 ghost use Rattle.bx_paxos.specs.Reading.{ReadsState};
-ghost use Rattle.bx_paxos_found.specs.Finding.{AreAtTheEnd, IsGreatestBoot, LackMajority};
+ghost use Rattle.bx_paxos_found.specs.Finding.{AreAtTheEnd, AreFollowed, IsGreatestBoot, LackMajority};
 ghost use Rattle.bx_places.specs.Places.{replica_sectors};
 ghost use Rattle.bx_paxos_machines.specs.Beginning.{AreNew};
-ghost use Rattle.bx_paxos_machines.specs.Cluster.{is_busy, knows, needs};
+ghost use Rattle.bx_paxos_machines.specs.Cluster.{Moves, OnlyMachine, is_busy, knows, needs};
 ghost use Rattle.bx_paxos_machines.specs.Keeps.{Keeps};
+ghost use Rattle.bx_paxos_machines.specs.Parts.{KnowsNoLess, MachineStarts, MachineTakes, acceptor_of, proposer_of};
+ghost use Rattle.bx_proposer.specs.Standing.{ProposesTo};
 
 use bx_base::{Actor, OutOfMemory};
 use bx_disk::Rack;
@@ -66,7 +68,7 @@ impl Paxos {
         ensures knows { IfOk result (λ g. (who : Actor) → knows g who ≡ state) }
         ensures idle { IfOk result (λ g. (who : Actor) → is_busy g who → ⊥) }
         ensures needs { IfOk result (λ g. (disk : ℕ) → needs g disk ≡ 0) }
-        ensures new { IfOk result (λ g. (g.first ≡ state) × AreNew g.first g.machines) }
+        ensures new { IfOk result (λ g. (g.first ≡ g.made) × AreNew g.first g.machines) }
     {
         let origins = Origins::made();
         let first = state.copy(alloc)?;
@@ -90,10 +92,7 @@ impl Paxos {
         ensures failed { OnErr result (self.new ≡ self.old) }
         ensures made { (self.new.made ≡ self.old.made) × (self.new.nodes ≡ self.old.nodes) }
         ensures members { R.tells rack.old → SameMembers (R.state rack.old) (R.state rack.new) × SameLabels (R.state rack.old) (R.state rack.new) }
-        ensures cause { IsErrOf result DiskFails → Rose (R.faults rack.old) (R.faults rack.new) }
-        ensures later { NoneFalls (R.faults rack.old) (R.faults rack.new) (R.faults_of rack.old) (R.faults_of rack.new) }
-        ensures sizes { (R.state rack.new).sizes ≡ (R.state rack.old).sizes }
-        ensures keeps_telling { R.tells rack.old → R.tells rack.new }
+        ensures rack { Counted R.Rack rack.old rack.new result DiskFails }
     {
         let origins = Origins::made();
         let first = self.made.copy(self.alloc)?;
@@ -104,9 +103,9 @@ impl Paxos {
         Ok(())
     }
 
-    /// Begins with the state that the disks are read as, which every machine knows then; each is to start again before it does anything. The
-    /// answer is the greatest boot in the cells of replicas that are labelled; one whose disk isn't there, or lacks sectors, has no label.
-    /// `NoMajority` exactly where fewer than two are labelled and have a cell that can be read, or no index is left behind the state; else `Spent`
+    /// Begins with the state that the disks are read as, which every machine knows then; each is to start again before it does anything, and
+    /// needs no disk until then. The answer is the greatest boot in the cells of replicas that are labelled; one whose disk isn't there, or
+    /// lacks sectors, has no label. `NoMajority` exactly where fewer than two are labelled and have a cell that can be read, or no index is left behind the state; else `Spent`
     /// exactly where the greatest boot is that one, and is above 4611686018427387903. After an error all is as it was.
     pub fn open<R: Rack>(&mut self, rack: &mut R) -> Result<u64, OpenError>
         ensures keeps { R.tells rack.old → IfOk result (λ boot. Keeps self.new (R.state rack.new) (found_register (knows self.new (Replica 0)) boot)) }
@@ -114,7 +113,7 @@ impl Paxos {
         ensures index { OnOk result ((knows self.new (Replica 0)).index + 1 < 2 ^ 64) }
         ensures no_majority { R.tells rack.old → IsErrOf result NoMajority → LackMajority (length self.old.made.devices) (R.state rack.old).sizes (R.state rack.old).reads ⊎ AreAtTheEnd (length self.old.made.devices) (R.state rack.old).sizes (R.state rack.old).reads }
         ensures majority { R.tells rack.old → OnOk result (LackMajority (length self.old.made.devices) (R.state rack.old).sizes (R.state rack.old).reads → ⊥) }
-        ensures spent { (boot : ℕ) → R.tells rack.old → IsErrOf result (Spent boot) → IsGreatestBoot (length self.old.made.devices) (R.state rack.old).sizes (R.state rack.old).reads boot × (LackMajority (length self.old.made.devices) (R.state rack.old).sizes (R.state rack.old).reads → ⊥) }
+        ensures spent { (boot : ℕ) → R.tells rack.old → IsErrOf result (Spent boot) → IsGreatestBoot (length self.old.made.devices) (R.state rack.old).sizes (R.state rack.old).reads boot × AreFollowed (length self.old.made.devices) (R.state rack.old).sizes (R.state rack.old).reads }
         ensures above { (boot : ℕ) → IsErrOf result (Spent boot) → most_boot < boot }
         ensures greatest { R.tells rack.old → IfOk result (λ boot. IsGreatestBoot (length self.old.made.devices) (R.state rack.old).sizes (R.state rack.old).reads boot) }
         ensures few { IfOk result (λ boot. boot ≤ most_boot) }
@@ -122,13 +121,11 @@ impl Paxos {
         ensures boots { IfOk result (λ boot. IsAboveBoots (knows self.new (Replica 0)) (boot + 1)) }
         ensures knows { (who : Actor) → OnOk result (knows self.new who ≡ knows self.new (Replica 0)) }
         ensures idle { (who : Actor) → OnOk result (is_busy self.new who → ⊥) }
+        ensures needs { (disk : ℕ) → OnOk result (needs self.new disk ≡ 0) }
         ensures failed { OnErr result (self.new ≡ self.old) }
         ensures made { (self.new.made ≡ self.old.made) × (self.new.nodes ≡ self.old.nodes) }
         ensures disks { R.tells rack.old → SameDisks (R.state rack.old) (R.state rack.new) }
-        ensures cause { IsErrOf result OpenFails → Rose (R.faults rack.old) (R.faults rack.new) }
-        ensures later { NoneFalls (R.faults rack.old) (R.faults rack.new) (R.faults_of rack.old) (R.faults_of rack.new) }
-        ensures sizes { (R.state rack.new).sizes ≡ (R.state rack.old).sizes }
-        ensures keeps_telling { R.tells rack.old → R.tells rack.new }
+        ensures rack { Counted R.Rack rack.old rack.new result OpenFails }
     {
         let devices = self.made.devices.len() as u32;
         let found = find(self.alloc, rack, devices)?;
@@ -179,6 +176,8 @@ impl Paxos {
         ensures busy { IsErrOf result Busy → IsLegal (knows self.old who) change.now × is_busy self.old who }
         ensures others { OnlyFactsAt who (is_busy self.old) (is_busy self.new) }
         ensures knows { (other : Actor) → knows self.new other ≡ knows self.old other }
+        ensures proposes { OnOk result (Moves who (λ m new. ProposesTo (proposer_of m) change.now (proposer_of new) out.old out.new × (acceptor_of new ≡ acceptor_of m)) self.old self.new) }
+        ensures only { OnlyMachine who self.old self.new }
         ensures needs { NeedsNoMore (needs self.old) (needs self.new) }
         ensures sent { OnOk result (SendsOnly IsRegisters out.old out.new) }
         ensures made { (self.new.made ≡ self.old.made) × (self.new.nodes ≡ self.old.nodes) }
@@ -187,13 +186,15 @@ impl Paxos {
         self.machines[place].propose(change, out)
     }
 
-    /// A machine stops. It takes no memory.
+    /// A machine stops, and needs no disk then. It takes no memory.
     pub fn crash(&mut self, who: Actor)
         ensures keeps { (x : Disks) (past : RegisterPast) → Keeps self.old x past → Keeps self.new x (register_crashed past who) }
         ensures others { OnlyFactsAt who (is_busy self.old) (is_busy self.new) }
         ensures idle { is_busy self.new who → ⊥ }
         ensures knows { (other : Actor) → knows self.new other ≡ knows self.old other }
+        ensures only { OnlyMachine who self.old self.new }
         ensures needs { NeedsNoMore (needs self.old) (needs self.new) }
+        ensures down { (n : ℕ) → who ≡ Replica n → needs self.new n ≡ 0 }
         ensures made { (self.new.made ≡ self.old.made) × (self.new.nodes ≡ self.old.nodes) }
     {
         if !self.has(who) {
@@ -213,9 +214,11 @@ impl Paxos {
     ) -> Result<(), FactError>
         requires there { IsMachine self.old.nodes at }
         requires room { HasRoom (needs self.old) (R.state rack.old).sizes }
-        ensures keeps { (past : RegisterPast) → R.tells rack.old → Keeps self.old (R.state rack.old) (register_with past out.old) → MayHear (register_with past out.old) at input.now → OnOk result (Decides (Keeps self.new (R.state rack.new)) (register_with past out.new)) }
+        ensures keeps { (past : RegisterPast) → R.tells rack.old → Keeps self.old (R.state rack.old) (register_with past out.old) → MayHear (register_with past out.old) at input.now → OnOk result (Decides (Keeps self.new (R.state rack.new)) (knows self.new at) (register_with past out.new)) }
         ensures keeps_faulted { (past : RegisterPast) → R.tells rack.old → Keeps self.old (R.state rack.old) (register_with past out.old) → MayHear (register_with past out.old) at input.now → IsErrOf result DiskFails → Keeps self.new (R.state rack.new) (register_with past out.old) }
         ensures any_moment { (past : RegisterPast) → R.tells rack.old → Keeps self.old (R.state rack.old) (register_with past out.old) → MayHear (register_with past out.old) at input.now → LeavesOnly (R.moment rack.old) (R.moment rack.new) (R.left_since rack.old) (R.left_since rack.new) (ReadsOnly (ReadsState self.old.made) (R.state rack.old) (IsNext past.proposed (last past.chain))) }
+        ensures steps { OnOk result (Moves at (λ m new. MachineTakes m input.now new out.old out.new (rack.new ≡ rack.old) × KnowsNoLess new) self.old self.new) }
+        ensures only { OnlyMachine at self.old self.new }
         ensures rises { (who : Actor) → (knows self.old who).index ≤ (knows self.new who).index }
         ensures knows { OnlyAt at (knows self.old) (knows self.new) }
         ensures others { OnlyFactsAt at (is_busy self.old) (is_busy self.new) }
@@ -226,10 +229,7 @@ impl Paxos {
         ensures made { (self.new.made ≡ self.old.made) × (self.new.nodes ≡ self.old.nodes) }
         ensures members { R.tells rack.old → SameMembers (R.state rack.old) (R.state rack.new) × SameLabels (R.state rack.old) (R.state rack.new) }
         ensures disks { R.tells rack.old → OnlyDiskOf at (R.state rack.old) (R.state rack.new) }
-        ensures cause { IsErrOf result DiskFails → Rose (R.faults rack.old) (R.faults rack.new) }
-        ensures later { NoneFalls (R.faults rack.old) (R.faults rack.new) (R.faults_of rack.old) (R.faults_of rack.new) }
-        ensures sizes { (R.state rack.new).sizes ≡ (R.state rack.old).sizes }
-        ensures keeps_telling { R.tells rack.old → R.tells rack.new }
+        ensures rack { Counted R.Rack rack.old rack.new result DiskFails }
     {
         let place = place_of(&self.machines, &at);
         self.machines[place].take(rack, input, out)
@@ -248,6 +248,9 @@ impl Paxos {
         ensures keeps { (past : RegisterPast) → R.tells rack.old → Keeps self.old (R.state rack.old) (register_with past out.old) → past.boots who < boot → OnOk result (Keeps self.new (R.state rack.new) (register_with (register_restarted past who boot) out.new)) }
         ensures keeps_faulted { (past : RegisterPast) → R.tells rack.old → Keeps self.old (R.state rack.old) (register_with past out.old) → past.boots who < boot → IsErrOf result DiskFails → Keeps self.new (R.state rack.new) (register_with (register_failed past who boot) out.old) }
         ensures any_moment { (past : RegisterPast) → R.tells rack.old → Keeps self.old (R.state rack.old) (register_with past out.old) → LeavesOnly (R.moment rack.old) (R.moment rack.new) (R.left_since rack.old) (R.left_since rack.new) (ReadsOnly (ReadsState self.old.made) (R.state rack.old) (IsNext past.proposed (last past.chain))) }
+        ensures starts { R.tells rack.old → OnOk result (Moves who (λ _ new. IfSome (acceptor_of new) (λ a. StartsWith a.replica a.first a.origin ((R.state rack.old).reads a.replica) a.held a.cell)) self.old self.new) }
+        ensures restarts { OnOk result (Moves who (λ m new. MachineStarts m boot new out.old out.new × KnowsNoLess new) self.old self.new) }
+        ensures only { OnlyMachine who self.old self.new }
         ensures knows { OnlyAt who (knows self.old) (knows self.new) }
         ensures others { OnlyFactsAt who (is_busy self.old) (is_busy self.new) }
         ensures idle { OnOk result (is_busy self.new who → ⊥) }
@@ -256,10 +259,7 @@ impl Paxos {
         ensures made { (self.new.made ≡ self.old.made) × (self.new.nodes ≡ self.old.nodes) }
         ensures members { R.tells rack.old → SameMembers (R.state rack.old) (R.state rack.new) × SameLabels (R.state rack.old) (R.state rack.new) }
         ensures disks { R.tells rack.old → OnlyDiskOf who (R.state rack.old) (R.state rack.new) }
-        ensures cause { IsErrOf result DiskFails → Rose (R.faults rack.old) (R.faults rack.new) }
-        ensures later { NoneFalls (R.faults rack.old) (R.faults rack.new) (R.faults_of rack.old) (R.faults_of rack.new) }
-        ensures sizes { (R.state rack.new).sizes ≡ (R.state rack.old).sizes }
-        ensures keeps_telling { R.tells rack.old → R.tells rack.new }
+        ensures rack { Counted R.Rack rack.old rack.new result DiskFails }
     {
         let place = place_of(&self.machines, &who);
         self.machines[place].restart(rack, boot, out)

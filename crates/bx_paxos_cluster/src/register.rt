@@ -7,17 +7,19 @@ use bx_facts::{FactError, Input, OpenError, Outbox, ProposeError, Register};
 use bx_global::{Change, GlobalState};
 
 impl Register for Paxos {
+    ghost use Rattle.std.specs.Prelude.{◌≡◌, length};
     ghost use Rattle.bx_paxos.specs.Reading.{ReadsState};
+    ghost use Rattle.bx_paxos_found.specs.Finding.{IsGreatestBoot};
     ghost use Rattle.bx_paxos_machines.specs.Beginning.{AreNew};
     ghost use Rattle.bx_paxos_machines.specs.Cluster.{is_busy as busy_in, knows as known_in, needs as needed_in};
     ghost use Rattle.bx_paxos_machines.specs.Keeps.{Keeps};
-    ghost use Rattle.bx_paxos_cluster.specs.Laws.{begins_allowed, elsewhere, legal, loses, needs_little, needs_none, places, reads_next, reads_some, survives};
+    ghost use Rattle.bx_paxos_cluster.specs.Laws.{allowed, begins_knows, elsewhere, legal, loses, needs_little, needs_none, needs_up, one_boot, places, reads_next, reads_one, reads_some, survives};
 
     ghost made = { λ g. g.made };
 
     ghost nodes = { λ g. g.nodes };
 
-    ghost is_new = { λ g. AreNew g.first g.machines };
+    ghost is_new = { λ g. (g.first ≡ g.made) × AreNew g.first g.machines };
 
     ghost knows = { λ g who. known_in g who };
 
@@ -28,6 +30,8 @@ impl Register for Paxos {
     ghost keeps = { λ g x past. Keeps g x past };
 
     ghost reads_as = { λ made sizes image s. ReadsState made sizes image s };
+
+    ghost boot_in = { λ made sizes image boot. IsGreatestBoot (length made.devices) sizes image boot };
 
     fn known(&self, who: Actor) -> &GlobalState {
         Paxos::known(self, who)
@@ -74,13 +78,19 @@ impl Register for Paxos {
         Paxos::open(self, rack)
     }
 
+    ghost begins_knows = { begins_knows };
+
     ghost places = { places };
 
     ghost legal = { legal };
 
-    ghost begins_allowed = { begins_allowed };
+    ghost allowed = { allowed };
 
     ghost reads_next = { reads_next };
+
+    ghost reads_one = { reads_one };
+
+    ghost one_boot = { one_boot };
 
     ghost reads_some = { reads_some };
 
@@ -91,6 +101,8 @@ impl Register for Paxos {
     ghost loses = { loses };
 
     ghost needs_little = { needs_little };
+
+    ghost needs_up = { needs_up };
 
     ghost needs_none = { needs_none };
 }

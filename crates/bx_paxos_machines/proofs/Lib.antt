@@ -1,5 +1,6 @@
 pub mod Beginnings
 pub mod Keeping
+pub mod Needs
 pub mod Others
 pub mod Places
 pub mod Steps

@@ -1,9 +1,10 @@
 -- A step of one machine of a cluster, which stands at a place of the list.
-use Rattle.std.proofs.lemmas.Bool.{false≢true}
-use Rattle.std.proofs.Common.{◌≡◌, ◌≢◌, ℕ, ◌<◌, ◌≤◌, true, false, List, length, Option, Some, None, IfSome, refl, sym, ap, subst, ◌∙◌, arith}
+use Rattle.std.proofs.lemmas.Bool.{cases_lt, false≢true}
+use Rattle.std.proofs.Common.{◌≡◌, ◌≢◌, ℕ, ◌<◌, ◌≤◌, true, false, List, length, Option, Some, None, IfSome, refl, sym, ap, subst, ◌∙◌, arith, inl, inr}
 use Rattle.std.specs.Prelude.{IsSome, IsSomeAnd, slice_index_or, slice_set}
 use Rattle.bx_acceptor.specs.Standing.{HasCell, Standing as Acceptor}
 use Rattle.bx_base.specs.declared.names.Actor.{Actor}
+use Rattle.bx_base.specs.declared.names.Actor.TheVariants.{Replica}
 use Rattle.bx_cell.specs.Images.{EachSure}
 use Rattle.bx_disk.specs.Disks.{Disks}
 use Rattle.bx_facts.proofs.Machines.{elsewhere, here as put_at_here}
@@ -23,10 +24,11 @@ use Rattle.bx_rounds.specs.Courses.{IsCourse, stopped}
 use Rattle.bx_rounds.specs.declared.course.Course.{Course}
 use Rattle.bx_paxos_found.specs.declared.origins.Origins.{Origins}
 use Rattle.bx_paxos_machines.specs.declared.machine.Machine.{Machine}
-use Rattle.bx_paxos_machines.specs.Cluster.{Cluster, IsCluster, course_at, is_busy, knows, named, voters_of}
+use Rattle.bx_paxos_machines.specs.Cluster.{Cluster, IsCluster, Moves, OnlyMachine, course_at, is_busy, knows, named, needs, voters_of}
 use Rattle.bx_paxos_machines.specs.Keeps.{Keeps}
 use Rattle.bx_paxos_machines.specs.Parts.{HasCells, IsOut, IsPart, KnowsPlace, acceptor_of, cell_held, cell_of, course_in, course_of, machine_at, name_of, place_in}
 use Rattle.bx_paxos_machines.proofs.Keeping.{busy_at, each_machine, keeps_put, known_at, none_has, place_on}
+use Rattle.bx_paxos_machines.proofs.Needs.{needs_far}
 use Rattle.bx_paxos_machines.proofs.Places.{found, got, name_at, part_at, parts_put, put_beside, put_here}
 use Rattle.bx_paxos_machines.proofs.Voting.{named_number, proposer_is, turned_at}
 
@@ -85,6 +87,12 @@ steps g who place m v is there same value name part = subst (λ (n : ℕ). IsSte
     beside : (other : Actor) → other ≢ who → machine_at (slice_set g.machines (place_in g.machines who) v) other ≡ machine_at g.machines other
     beside other apart = put_beside g.machines who other v named apart
 
+pub moves : (g : Cluster) (who : Actor) (m v : Machine) (ms : List Machine) (Goes : Machine → Machine → Type 0) → IsStep g who m v ms → Goes m v → Moves who Goes g (with_machines g ms)
+moves g who m v ms Goes step goes = record { was = m; is = v; there = step.at; here = step.here; goes = goes }
+
+pub only_one : (g : Cluster) (who : Actor) (m v : Machine) (ms : List Machine) → IsStep g who m v ms → OnlyMachine who g (with_machines g ms)
+only_one g who m v ms step = record { others = step.beside }
+
 -- ---- what is known and out
 
 pub knows_it : (g : Cluster) (who : Actor) (m : Machine) → machine_at g.machines who ≡ Some m → (course_of m).known ≡ knows g who
@@ -134,6 +142,7 @@ same_voters g who m v ms y past step course fits = record {
   proposing = λ me. subst (IsProposing fits.history me) (sym (same (named me))) (fits.proposing me);
   courses = λ me. subst (IsCourse (length g.first.devices)) (sym (same (named me))) (fits.courses me);
   boots = λ a there. subst (λ (c : Course). c.boot ≤ past.boots a) (sym (same (named (number_of a)))) (fits.boots a there);
+  numbers = fits.numbers;
   allowed = fits.allowed;
 }
   where
@@ -173,10 +182,11 @@ crash_keeps g who m v ms x past step course none has place keeps =
 
 -- it took what comes
 pub takes_keeps : (g : Cluster) (who : Actor) (m v : Machine) (ms : List Machine) (x y : Disks) (past : RegisterPast) (out after : List Letter) → IsStep g who m v ms → OnlyDiskOf who x y → past.down who ≡ false → Keeps g x (register_with past out)
-    → HasCells v y → KnowsPlace past.chain v → Decides (Fits (going (voters_of g) (voters_of (with_machines g ms)).courses) y) (register_with past after) → Decides (Keeps (with_machines g ms) y) (register_with past after)
+    → HasCells v y → KnowsPlace past.chain v → Decides (Fits (going (voters_of g) (voters_of (with_machines g ms)).courses) y) (course_of v).known (register_with past after) → Decides (Keeps (with_machines g ms) y) (knows (with_machines g ms) who) (register_with past after)
 takes_keeps g who m v ms x y past out after step only up keeps has place decides = record {
   chain = decides.chain;
   grows = decides.grows;
+  told = elim decides.told [ inl stays ↦ inl stays | inr is ↦ inr (sym (knows_it (with_machines g ms) who v step.here) ∙ is) ];
   holds = keeps_put g ms who v x y (register_with past out) (record (register_with past after) { chain = decides.chain }) step.is step.cluster step.here step.beside only (places_on past.proposed past.chain decides.chain decides.grows) (λ other apart down. down) keeps
       has (place_on past.chain decides.chain v (places_on past.proposed past.chain decides.chain decides.grows) place) (λ down. absurd (true_not (sym down ∙ up))) decides.holds;
 }
@@ -216,6 +226,9 @@ nobody_busy g who is nobody busy = by (machine_at g.machines who) refl busy
     by None at out = absurd out
     by (Some m) at out = nobody (is_there g who m is at)
 
+pub nobody_needs : (g : Cluster) (who : Actor) (n : ℕ) → (IsMachine g.nodes who → ⊥) → who ≡ Replica n → needs g n ≡ 0
+nobody_needs g who n nobody named = elim (cases_lt n 3) [ inl low ↦ absurd (nobody (subst (IsMachine g.nodes) (sym named) low)) | inr far ↦ needs_far g n far ]
+
 pub nobody_keeps : (g : Cluster) (who : Actor) (x : Disks) (past : RegisterPast) → IsCluster g → (IsMachine g.nodes who → ⊥) → Keeps g x past → Keeps g x (register_crashed past who)
 nobody_keeps g who x past is nobody keeps = record {
   is = is;
@@ -232,6 +245,7 @@ nobody_keeps g who x past is nobody keeps = record {
     proposing = keeps.fits.proposing;
     courses = keeps.fits.courses;
     boots = keeps.fits.boots;
+    numbers = keeps.fits.numbers;
     allowed = keeps.fits.allowed;
   };
   cells = keeps.cells;

@@ -1,19 +1,16 @@
 -- Laws of a register and the past that it keeps.
-use Rattle.std.proofs.Common.{◌≡◌, ◌≢◌, ℕ, ◌<◌, ◌≤◌, inl, inr, Bool, true, false, List, length, Option, Some, None, refl, sym, ap, subst, ◌∙◌, arith}
-use Rattle.std.specs.Prelude.{nat_lt, if◌then◌else◌, slice_index}
-use Rattle.std.proofs.lemmas.Bool.Decides.{nat_tests}
+use Rattle.std.proofs.Common.{◌≡◌, ◌≢◌, ℕ, inl, inr, true, List, length, Option, Some, None, refl, sym, ap, subst, ◌∙◌}
 use Rattle.bx_base.specs.declared.names.Actor.{Actor}
 use Rattle.bx_base.specs.declared.names.Actor.TheVariants.{Replica}
 use Rattle.bx_calls.specs.Calls.{LeavesOnly}
 use Rattle.bx_calls.specs.Laws.{leaves_implies}
 use Rattle.bx_disk.specs.Disks.{Disks, Image, IsImage}
-use Rattle.bx_facts.specs.Chains.{Chain, IsNext, IsPlace, last}
-use Rattle.bx_facts.specs.Disks.{Crashes, HasRoom, ReadsOnly, SameLabels, SameLengths, SameReplicas}
+use Rattle.bx_facts.specs.Chains.{IsNext, IsPlace, last}
+use Rattle.bx_facts.specs.Disks.{Crashes, ReadsOnly, SameLabels, SameLengths, SameReplicas}
 use Rattle.bx_facts.specs.Inputs.{AreAmong, IsRegisters}
 use Rattle.bx_facts.specs.Labelled.{IsLabelled}
 use Rattle.bx_facts.specs.Machines.{IsMachine}
 use Rattle.bx_facts.specs.Pasts.{RegisterPast}
-use Rattle.bx_global.specs.Allowed.{IsAllowed}
 use Rattle.bx_global.specs.declared.state.GlobalState.{GlobalState}
 use Rattle.bx_paxos.proofs.Events.{is_place, loses, other_disks, survives}
 use Rattle.bx_paxos.proofs.Reading.{reads}
@@ -24,10 +21,10 @@ use Rattle.bx_post.specs.declared.packets.Letter.{Letter}
 use Rattle.bx_proposer.specs.Names.{number_of}
 use Rattle.bx_rounds.specs.declared.course.Course.{Course}
 use Rattle.bx_paxos_machines.specs.declared.machine.Machine.{Machine}
-use Rattle.bx_paxos_machines.specs.Cluster.{Cluster, IsCluster, knows, needs, needs_in, voters_of}
+use Rattle.bx_paxos_machines.specs.Cluster.{Cluster, IsCluster, knows, voters_of}
 use Rattle.bx_paxos_machines.specs.Keeps.{Keeps}
 use Rattle.bx_paxos_machines.specs.Parts.{cell_of, course_in, course_of, machine_at, name_of}
-use Rattle.bx_paxos_machines.proofs.Keeping.{has_kept, most, none_has, stays_kept, tells}
+use Rattle.bx_paxos_machines.proofs.Keeping.{has_kept, none_has, stays_kept, tells}
 use Rattle.bx_paxos_machines.proofs.Places.{name_at, part_at}
 use Rattle.bx_paxos_machines.proofs.Voting.{named_number, proposer_is}
 
@@ -42,9 +39,6 @@ places_at g x past who keeps = by (machine_at g.machines who) refl
         let there : IsMachine g.nodes who = subst (IsMachine g.nodes) (name_at g.machines who m at) (subst (λ (n : ℕ). IsMachine n (name_of m)) part.nodes_are p.machine) in
         let course : (voters_of g).courses (number_of who) ≡ course_of m = ap (λ (a : Actor). course_in g.first (machine_at g.machines a)) (named_number g.nodes who keeps.is.few there) ∙ ap (course_in g.first) at in
         subst (λ (c : Course). IsPlace past.chain c.known) course (is_place (voters_of g) x past (number_of who) keeps.fits)
-
-pub first_allowed : (g : Cluster) (x : Disks) (past : RegisterPast) → Keeps g x past → IsAllowed past.chain.first
-first_allowed g x past keeps = subst (λ (c : Chain). IsAllowed c.first) keeps.fits.chain (subst IsAllowed (sym keeps.fits.first) keeps.fits.allowed)
 
 -- what an image is read as goes by the number of devices alone
 pub read_alike : (one other : GlobalState) (sizes : List ℕ) (image : Image) (s : GlobalState) → length one.devices ≡ length other.devices → ReadsState one sizes image s → ReadsState other sizes image s
@@ -88,26 +82,3 @@ crash_survives g x y past n keeps down lengths crash = record {
 
 pub loses_keeps : (g : Cluster) (x : Disks) (past : RegisterPast) (letters : List Letter) → Keeps g x past → AreAmong IsRegisters letters past.letters → Keeps g x (record past { letters = letters })
 loses_keeps g x past letters keeps among = record { is = keeps.is; fits = loses (voters_of g) x past letters keeps.fits among; cells = keeps.cells; places = keeps.places; down = keeps.down }
-
-most_in : (o : Option Machine) → needs_in o ≤ 21
-most_in None = omega arith
-most_in (Some m) = most (cell_of m)
-
-pub needs_most : (g : Cluster) (disk : ℕ) → needs g disk ≤ 21
-needs_most g disk = by (nat_lt disk 3)
-  where
-    by : (t : Bool) → (if t then needs_in (machine_at g.machines (Replica disk)) else 0) ≤ 21
-    by true = most_in (machine_at g.machines (Replica disk))
-    by false = omega arith
-
-pub needs_far : (g : Cluster) (disk : ℕ) → 3 ≤ disk → needs g disk ≡ 0
-needs_far g disk far =
-    let t : nat_lt disk 3 ≡ false = grind (arith, nat_tests, far) in
-    ap (λ (b : Bool). if b then needs_in (machine_at g.machines (Replica disk)) else 0) t
-
-pub room_of : (g : Cluster) (sizes : List ℕ) → ((n : ℕ) → n < 3 → 21 ≤ slice_index sizes n) → HasRoom (needs g) sizes
-room_of g sizes long = record { each = λ disk. by disk (nat_lt disk 3) refl }
-  where
-    by : (disk : ℕ) (t : Bool) → nat_lt disk 3 ≡ t → (if t then needs_in (machine_at g.machines (Replica disk)) else 0) ≤ slice_index sizes disk
-    by disk true e = let low : disk < 3 = grind (arith, nat_tests, e) in let some = long disk low in let few = most_in (machine_at g.machines (Replica disk)) in omega (arith, some, few)
-    by disk false e = omega arith

@@ -1,5 +1,5 @@
 -- The register of a cluster: its machines, and what each knows, has out and needs.
-use Rattle.std.specs.Prelude.{◌≡◌, ℕ, ◌+◌, ◌-◌, ◌^◌, ◌<◌, ◌≤◌, nat_lt, List, length, Option, Some, None, IsSome, IsSomeAnd, if◌then◌else◌}
+use Rattle.std.specs.Prelude.{◌≡◌, ◌≢◌, ℕ, ◌+◌, ◌-◌, ◌^◌, ◌<◌, ◌≤◌, nat_lt, List, length, Option, Some, None, IsSome, IsSomeAnd, if◌then◌else◌}
 use Rattle.bx_base.specs.declared.names.Actor.{Actor}
 use Rattle.bx_base.specs.declared.names.Actor.TheVariants.{Node, Replica, Server, Member}
 use Rattle.bx_facts.specs.Machines.{IsMachine}
@@ -58,3 +58,15 @@ needs g disk = if nat_lt disk 3 then needs_in (machine_at g.machines (Replica di
 -- its machines as voters
 abbrev pub voters_of : Cluster → Voters
 voters_of g = record { nodes = g.nodes; first = g.first; origins = origin_in g.origins; courses = λ me. course_at g (named me) }
+
+-- Every other machine is as it was.
+pub record OnlyMachine (who : Actor) (old new : Cluster) : Type 0 where
+  pub others : (other : Actor) → other ≢ who → machine_at new.machines other ≡ machine_at old.machines other
+
+-- The machine is there, and goes so from what it was to what it is.
+pub record Moves (who : Actor) (Goes : Machine → Machine → Type 0) (old new : Cluster) : Type 0 where
+  pub was : Machine
+  pub is : Machine
+  pub there : machine_at old.machines who ≡ Some was
+  pub here : machine_at new.machines who ≡ Some is
+  pub goes : Goes was is

@@ -1,5 +1,5 @@
 -- The machines of a register: what each has, and what is said of it among voters and over disks.
-use Rattle.std.specs.Prelude.{◌≡◌, ℕ, ◌+◌, ◌≤◌, List, [], ◌∷◌, Option, Some, None, IfSome, IsSome, if◌then◌else◌, slice_index}
+use Rattle.std.specs.Prelude.{◌≡◌, ℕ, ◌+◌, ◌≤◌, List, [], ◌∷◌, ◌++◌, Option, Some, None, IfSome, IsSome, if◌then◌else◌, slice_index}
 use Rattle.bx_acceptor.specs.Standing.{HasCell, Standing as Acceptor}
 use Rattle.bx_base.specs.declared.names.Actor.{Actor}
 use Rattle.bx_cell.specs.Cells.{Known}
@@ -7,12 +7,15 @@ use Rattle.bx_cell.specs.Images.{EachSure}
 use Rattle.bx_disk.specs.Disks.{Disks}
 use Rattle.bx_facts.specs.Chains.{Chain, IsPlace}
 use Rattle.bx_facts.specs.Machines.{is_same}
+use Rattle.bx_facts.specs.declared.input.Input.{Input}
 use Rattle.bx_global.specs.declared.state.GlobalState.{GlobalState}
 use Rattle.bx_paxos.specs.Fits.{Voters}
-use Rattle.bx_paxos.specs.Machines.{AreHalves, AreOf}
+use Rattle.bx_paxos.specs.Machines.{AreHalves, AreOf, KnowsAll, StartsBoth, TakesBoth}
 use Rattle.bx_places.specs.Places.{replica_sectors}
+use Rattle.bx_post.specs.declared.packets.Letter.{Letter}
 use Rattle.bx_rounds.specs.Courses.{started}
-use Rattle.bx_proposer.specs.Standing.{IsStanding as IsProposer, Standing as Proposer}
+use Rattle.bx_proposer.specs.Letters.{asks_of}
+use Rattle.bx_proposer.specs.Standing.{IsStanding as IsProposer, Standing as Proposer, Takes, going_on}
 use Rattle.bx_rounds.specs.declared.course.Course.{Course}
 use Rattle.bx_paxos_found.specs.Origins.{origin_in}
 use Rattle.bx_paxos_found.specs.declared.origins.Origins.{Origins}
@@ -99,3 +102,21 @@ course_in made (Some m) = course_of m
 abbrev pub AreParts : ℕ → GlobalState → Origins → List Machine → Type 0
 AreParts nodes made origins [] = Unit {0}
 AreParts nodes made origins (m ∷ ms) = IsPart nodes made origins m × AreParts nodes made origins ms
+
+-- A machine takes what comes: a replica by both its parts, any other by its proposer.
+abbrev pub MachineTakes : Machine → Input → Machine → List Letter → List Letter → Type 0 → Type 0
+MachineTakes (Replica r) input (Replica new) before after Same = TakesBoth r.acceptor r.proposer input new.acceptor new.proposer before after Same
+MachineTakes (Replica r) input (Other p) before after Same = ⊥
+MachineTakes (Other p) input (Replica new) before after Same = ⊥
+MachineTakes (Other p) input (Other new) before after Same = Takes p input new before after
+
+-- It starts again in a boot: a replica by both its parts; any other knows the first state, has nothing out, and asks for what was decided.
+abbrev pub MachineStarts : Machine → ℕ → Machine → List Letter → List Letter → Type 0
+MachineStarts (Replica r) boot (Replica new) before after = StartsBoth r.proposer boot new.acceptor new.proposer before after
+MachineStarts (Replica r) boot (Other p) before after = ⊥
+MachineStarts (Other p) boot (Replica new) before after = ⊥
+MachineStarts (Other p) boot (Other new) before after = (new ≡ going_on p (started boot p.course.reading p.first)) × (after ≡ before ++ asks_of p.at)
+
+-- It knows no less than its acceptor.
+abbrev pub KnowsNoLess : Machine → Type 0
+KnowsNoLess m = IfSome (acceptor_of m) (λ a. KnowsAll a (proposer_of m))

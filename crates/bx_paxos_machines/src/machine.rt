@@ -1,11 +1,11 @@
 //! One machine of a register.
 
-ghost use Rattle.std.specs.Prelude.{◌≡◌, ◌≢◌, ℕ, ◌<◌, ◌≤◌, ◌⊎◌, ◌++◌, None, IsErrOf, OnOk};
+ghost use Rattle.std.specs.Prelude.{◌≡◌, ◌≢◌, ℕ, ◌<◌, ◌≤◌, ◌⊎◌, ◌++◌, None, IfSome, IsErrOf, IsSome, OnOk};
+ghost use Rattle.bx_acceptor.specs.Starting.{StartsWith};
 ghost use Rattle.bx_acceptor.specs.declared.origin.Origin.TheVariants.{Made};
-ghost use Rattle.bx_base.specs.Faults.{Rose};
 ghost use Rattle.bx_calls.specs.Calls.{KeepsAll, LeavesOnly};
-ghost use Rattle.bx_disk.specs.Counts.{NoneFalls};
 ghost use Rattle.bx_disk.specs.Disks.{Disks};
+ghost use Rattle.bx_disk.specs.Kept.{Counted};
 ghost use Rattle.bx_facts.specs.Chains.{IsNext, last};
 ghost use Rattle.bx_facts.specs.Disks.{OnlyDiskOf, ReadsOnly, SameDisks, SameLabels, SameMembers};
 ghost use Rattle.bx_facts.specs.Inputs.{IsComing, IsRegisters, SendsOnly};
@@ -18,10 +18,11 @@ ghost use Rattle.bx_paxos.specs.Fits.{Fits, Turned, Voters, going};
 ghost use Rattle.bx_paxos.specs.Reading.{AreMade, ReadsState};
 ghost use Rattle.bx_paxos_found.specs.Origins.{origin_in};
 ghost use Rattle.bx_paxos_found.specs.declared.origins.Origins.{Origins};
+ghost use Rattle.bx_proposer.specs.Standing.{ProposesTo};
 ghost use Rattle.bx_rounds.specs.Courses.{LeadsOn, stopped};
 ghost use Rattle.bx_rounds.specs.declared.course.Course.{Course};
 ghost use Rattle.bx_paxos_machines.specs.Beginning.{HasFirst, IsBegun, IsCalm, IsNew};
-ghost use Rattle.bx_paxos_machines.specs.Parts.{HasCellDisk, HasCells, HasDisk, IsOf, IsOut, IsPart, IsWhole, KnowsPlace, acceptor_of, cell_of, course_of, name_of, proposer_of};
+ghost use Rattle.bx_paxos_machines.specs.Parts.{HasCellDisk, HasCells, HasDisk, IsOf, IsOut, IsPart, IsWhole, KnowsNoLess, KnowsPlace, MachineStarts, MachineTakes, acceptor_of, cell_of, course_of, name_of, proposer_of};
 
 use bx_base::Actor;
 use bx_disk::Rack;
@@ -65,6 +66,7 @@ impl Machine {
         requires whole { IsWhole self.old }
         ensures keeps { (v : Voters) (x : Disks) (past : RegisterPast) (courses : ℕ → Course) → IsOf v self.old → Fits v x (register_with past out.old)
             → OnOk result (Turned (proposer_of self.old).actor (course_of self.new) v.courses courses → Fits (going v courses) x (register_with (proposing past change.now) out.new)) }
+        ensures proposes { OnOk result (ProposesTo (proposer_of self.old) change.now (proposer_of self.new) out.old out.new) }
         ensures legal { OnOk result (IsLegal (course_of self.old).known change.now × (IsOut self.old → ⊥)) }
         ensures not_legal { IsErrOf result NotLegal → IsLegal (course_of self.old).known change.now → ⊥ }
         ensures busy { IsErrOf result Busy → IsLegal (course_of self.old).known change.now × IsOut self.old }
@@ -93,7 +95,7 @@ impl Machine {
         requires room { HasCellDisk (R.state rack.old).sizes self.old }
         ensures keeps { (v : Voters) (past : RegisterPast) (courses : ℕ → Course) → R.tells rack.old → IsOf v self.old → HasCells self.old (R.state rack.old) → KnowsPlace past.chain self.old
             → IsComing (past.letters ++ out.old) input.now → Fits v (R.state rack.old) (register_with past out.old)
-            → OnOk result (Turned (proposer_of self.old).actor (course_of self.new) v.courses courses → Decides (Fits (going v courses) (R.state rack.new)) (register_with past out.new)) }
+            → OnOk result (Turned (proposer_of self.old).actor (course_of self.new) v.courses courses → Decides (Fits (going v courses) (R.state rack.new)) (course_of self.new).known (register_with past out.new)) }
         ensures keeps_faulted { (v : Voters) (past : RegisterPast) → R.tells rack.old → IsOf v self.old → HasCells self.old (R.state rack.old)
             → IsComing (past.letters ++ out.old) input.now → Fits v (R.state rack.old) (register_with past out.old) → IsErrOf result DiskFails → Fits v (R.state rack.new) (register_with past out.old) }
         ensures any_moment { (v : Voters) (past : RegisterPast) → R.tells rack.old → IsOf v self.old → HasCells self.old (R.state rack.old)
@@ -104,6 +106,9 @@ impl Machine {
         ensures cells { R.tells rack.old → HasCells self.old (R.state rack.old) → OnOk result (HasCells self.new (R.state rack.new)) }
         ensures fault { IsErrOf result DiskFails → (cell_of self.new ≡ None) × (course_of self.new ≡ course_of self.old) }
         ensures leads { OnOk result (LeadsOn (course_of self.old) (course_of self.new)) }
+        ensures steps { OnOk result (MachineTakes self.old input.now self.new out.old out.new (rack.new ≡ rack.old)) }
+        ensures knows_all { OnOk result (KnowsNoLess self.new) }
+        ensures stays_up { OnOk result (IfSome (cell_of self.old) (λ _. IsSome (cell_of self.new))) }
         ensures rises { (course_of self.old).known.index ≤ (course_of self.new).known.index }
         ensures down { cell_of self.old ≡ None → cell_of self.new ≡ None }
         ensures sent { OnOk result (SendsOnly IsRegisters out.old out.new) }
@@ -111,10 +116,7 @@ impl Machine {
         ensures name { name_of self.new ≡ name_of self.old }
         ensures disks { R.tells rack.old → OnlyDiskOf (name_of self.old) (R.state rack.old) (R.state rack.new) }
         ensures members { R.tells rack.old → SameMembers (R.state rack.old) (R.state rack.new) × SameLabels (R.state rack.old) (R.state rack.new) }
-        ensures cause { IsErrOf result DiskFails → Rose (R.faults rack.old) (R.faults rack.new) }
-        ensures later { NoneFalls (R.faults rack.old) (R.faults rack.new) (R.faults_of rack.old) (R.faults_of rack.new) }
-        ensures sizes { (R.state rack.new).sizes ≡ (R.state rack.old).sizes }
-        ensures keeps_telling { R.tells rack.old → R.tells rack.new }
+        ensures rack { Counted R.Rack rack.old rack.new result DiskFails }
     {
         match self {
             Machine::Replica(replica) => replica.take(rack, input, out),
@@ -157,16 +159,16 @@ impl Machine {
         ensures cells { R.tells rack.old → OnOk result (HasCells self.new (R.state rack.new)) }
         ensures fault { IsErrOf result DiskFails → (cell_of self.new ≡ None) × (course_of self.new ≡ course_of self.old) }
         ensures places_faulted { (past : RegisterPast) → IsErrOf result DiskFails → KnowsPlace past.chain self.old → KnowsPlace past.chain self.new }
+        ensures starts { R.tells rack.old → OnOk result (IfSome (acceptor_of self.new) (λ a. StartsWith a.replica a.first a.origin ((R.state rack.old).reads a.replica) a.held a.cell)) }
+        ensures restarts { OnOk result (MachineStarts self.old boot self.new out.old out.new) }
+        ensures knows_all { OnOk result (KnowsNoLess self.new) }
         ensures idle { OnOk result (IsOut self.new → ⊥) }
         ensures sent { OnOk result (SendsOnly IsRegisters out.old out.new) }
         ensures part { (nodes : ℕ) (made : GlobalState) (origins : Origins) → IsPart nodes made origins self.old → IsPart nodes made origins self.new }
         ensures name { name_of self.new ≡ name_of self.old }
         ensures disks { R.tells rack.old → OnlyDiskOf (name_of self.old) (R.state rack.old) (R.state rack.new) }
         ensures members { R.tells rack.old → SameMembers (R.state rack.old) (R.state rack.new) × SameLabels (R.state rack.old) (R.state rack.new) }
-        ensures cause { IsErrOf result DiskFails → Rose (R.faults rack.old) (R.faults rack.new) }
-        ensures later { NoneFalls (R.faults rack.old) (R.faults rack.new) (R.faults_of rack.old) (R.faults_of rack.new) }
-        ensures sizes { (R.state rack.new).sizes ≡ (R.state rack.old).sizes }
-        ensures keeps_telling { R.tells rack.old → R.tells rack.new }
+        ensures rack { Counted R.Rack rack.old rack.new result DiskFails }
     {
         match self {
             Machine::Replica(replica) => replica.restart(rack, boot, out),
@@ -183,10 +185,7 @@ impl Machine {
         ensures name { name_of self.new ≡ name_of self.old }
         ensures course { course_of self.new ≡ course_of self.old }
         ensures calm { R.tells rack.old → IsCalm (R.state rack.old) (R.state rack.new) }
-        ensures cause { IsErrOf result DiskFails → Rose (R.faults rack.old) (R.faults rack.new) }
-        ensures later { NoneFalls (R.faults rack.old) (R.faults rack.new) (R.faults_of rack.old) (R.faults_of rack.new) }
-        ensures sizes { (R.state rack.new).sizes ≡ (R.state rack.old).sizes }
-        ensures keeps_telling { R.tells rack.old → R.tells rack.new }
+        ensures rack { Counted R.Rack rack.old rack.new result DiskFails }
     {
         match self {
             Machine::Replica(replica) => replica.acceptor.restart(rack),

@@ -7,13 +7,11 @@ use Rattle.std.proofs.lemmas.Bool.{false≢true}
 use Rattle.std.proofs.lemmas.Bool.Decides.{nat_tests}
 use Rattle.bx_answers.specs.Handling.{first_held}
 use Rattle.bx_acceptor.specs.Standing.{HasCell}
-use Rattle.bx_base.specs.Faults.{Rose}
 use Rattle.bx_base.specs.declared.names.Actor.{Actor}
 use Rattle.bx_base.specs.declared.names.Actor.TheVariants.{Node, Replica, Server, Member}
 use Rattle.bx_cell.specs.Formats.{KeepsBeside, first}
 use Rattle.bx_cell.specs.Halves.{cell_in}
 use Rattle.bx_cell.specs.Images.{EachSure, HasAllSure}
-use Rattle.bx_disk.specs.Counts.{NoneFalls}
 use Rattle.bx_disk.specs.Disks.{Disks, Image}
 use Rattle.bx_facts.proofs.Machines.{is_itself}
 use Rattle.bx_facts.specs.Disks.{IsKept, SameLabels, SameMembers}
@@ -53,16 +51,6 @@ calm_cells x y (Other p) calm has = tt
 pub calm_begun : (made : GlobalState) (x y : Disks) (ms : List Machine) → IsCalm x y → AreBegun made x ms → AreBegun made y ms
 calm_begun made x y [] calm are = tt
 calm_begun made x y (m ∷ ms) calm are = (record { course = are.0.course; cells = calm_cells x y m calm are.0.cells; knows = are.0.knows }, calm_begun made x y ms calm are.1)
-
-pub none_none : (a : ℕ) (f : ℕ → ℕ) → NoneFalls a a f f
-none_none a f = record { all = omega arith; each = λ d. omega arith }
-
-pub none_twice : {a b c : ℕ} {f g h : ℕ → ℕ} → NoneFalls a b f g → NoneFalls b c g h → NoneFalls a c f h
-none_twice one other = record { all = let low = one.all in let high = other.all in omega (arith, low, high); each = λ d. let low = one.each d in let high = other.each d in omega (arith, low, high) }
-
-pub rose_on : {a b c : ℕ} → a ≤ b → Rose b c → Rose a c
-rose_on low (inl less) = inl (omega (arith, low, less))
-rose_on low (inr most) = inr most
 
 -- a rack with the disks of three replicas has that of the machine
 pub has_disk : (sizes : List ℕ) (m : Machine) → IsWhole m → ((n : ℕ) → n < 3 → 21 ≤ slice_index sizes n) → HasDisk sizes m

@@ -120,6 +120,10 @@ pub dead_none : (n : ℕ) → AllByRecursion (λ row. row.dead ≡ 0) (plain_row
 dead_none zero = tt
 dead_none (suc n) = all-push (λ row. row.dead ≡ 0) (plain_rows n) (plain_row n) (dead_none n) refl
 
+ends_known : (n : ℕ) → AllByRecursion (λ row. row.until ≤ 4294967295999) (plain_rows n)
+ends_known zero = tt
+ends_known (suc n) = all-push (λ row. row.until ≤ 4294967295999) (plain_rows n) (plain_row n) (ends_known n) (omega arith)
+
 boots_none : (n : ℕ) → AllByRecursion (λ row. row.boot < 1) (plain_rows n)
 boots_none zero = tt
 boots_none (suc n) = all-push (λ row. row.boot < 1) (plain_rows n) (plain_row n) (boots_none n) (omega arith)
@@ -144,6 +148,7 @@ pub plain_is : (nodes devices : ℕ) → IsPlainState nodes (plain_state nodes d
 plain_is nodes devices = record {
   sessions = λ node less. rw (session_row nodes node less) (refl, refl);
   alive = λ session. found_has (λ row. row.dead ≡ 0) (λ row. row.number == session) (plain_rows nodes) (dead_none nodes);
+  ends = λ session. found_has (λ row. row.until ≤ 4294967295999) (λ row. row.number == session) (plain_rows nodes) (ends_known nodes);
   below = omega arith;
   found = λ node. found_session nodes devices node;
 }

@@ -24,7 +24,7 @@ fits_taken nodes rows past out later at index input fits = record {
 
 -- all is kept but one block of one session, and the floors reach what they must
 refit : (nodes : ℕ) (rows new : List Row) (past : OwnersPast) (out later : List Letter) (session block : ℕ) (floor : ℕ → ℕ) → Fits nodes rows (owners_with past out) → RowsStand new → KeepsOthers session block (hold_in rows) (hold_in new)
-    → ((at : ℕ) → floor at ≤ floor_in new at) → Holding (KeepsOthers session block past.holding) (Fits nodes new) (owners_with (record past { floor = floor }) later)
+    → ((at : ℕ) → floor at ≤ max (floor_in new at) past.told.chain.first.index) → Holding (KeepsOthers session block past.holding) (Fits nodes new) (owners_with (record past { floor = floor }) later)
 refit nodes rows new past out later session block floor fits stand keeps reach = record {
   holding = hold_in new;
   may = record {
@@ -60,9 +60,9 @@ pub fits_given : (nodes : ℕ) (rows new : List Row) (past : OwnersPast) (out la
     → Holding (KeepsOthers session block past.holding) (Fits nodes new) (owners_with (given past (hold_of own (hold_in rows) block) block index) later)
 fits_given nodes rows new past out later session block index own is fits stand keeps rise reach =
     refit nodes rows new past out later session block (given_floor (hold_of own (hold_in rows) block) past.floor block index) fits stand keeps
-    (λ at. floor_given (hold_of own (hold_in rows) block) past.floor (floor_in new) block index at
+    (λ at. floor_given (hold_of own (hold_in rows) block) past.floor (λ b. max (floor_in new b) past.told.chain.first.index) block index at
     (let low = fits.floors at in let more = rise at in omega (arith, low, more))
-    (λ from held. reach from (sym (ap (λ (o : Option ℕ). hold_of o (hold_in rows) block) is) ∙ held)))
+    (λ from held. let least = reach from (sym (ap (λ (o : Option ℕ). hold_of o (hold_in rows) block) is) ∙ held) in omega (arith, least)))
 
 -- what a node is asked for but a block
 pub asks_wanted : (own : Option ℕ) (rows new : List Row) (block nodes : ℕ) → AlikeBut block rows new → without_block block (asks_of own new nodes) ≡ without_block block (asks_of own rows nodes)

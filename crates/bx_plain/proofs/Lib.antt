@@ -1,5 +1,6 @@
 mod Asking
 mod Beginning
+mod Granting
 mod Keeping
 mod Machines
 mod Puts

@@ -10,8 +10,9 @@ use Rattle.bx_global.specs.declared.change.Change.TheVariants.{Renew, Take, Open
 use Rattle.bx_rows.specs.declared.session.SessionRow.{SessionRow}
 use Rattle.bx_global.specs.declared.state.GlobalState.{GlobalState}
 use Rattle.bx_global.specs.Table.{IsLegal}
+use Rattle.bx_global.proofs.Rising.{index_rises}
 use Rattle.bx_rows.specs.Words.{row_in, IsLive}
-use Rattle.bx_facts.specs.Chains.{Chain, IsOwnersOwn, IsPlace, LivesIn, last}
+use Rattle.bx_facts.specs.Chains.{Chain, IsOwnersOwn, IsPlace, LivesIn, first_index, is_ever, last, opened_at, state_after}
 use Rattle.bx_facts.specs.Holds.{Hold, Holds, IsSessionIn, OwnersPast, hold_of, leased, opening_owners, owners_grown}
 use Rattle.bx_plain.specs.declared.rows.Row.{Row}
 use Rattle.bx_plain.specs.Fits.{Fits, IsOwn, IsPlainState, RowsStand, end_in, own_in}
@@ -59,7 +60,7 @@ fits_grown nodes rows past (Shift device epoch mode second boot) fits legal own 
   floors = fits.floors;
   leases = fits.leases;
   states = λ s place. ⊎_elim
-      (λ new. let old = fits.states (last past.told.chain) (last_place past.told.chain) in subst (IsPlainState nodes) (sym new) (record { sessions = old.sessions; alive = old.alive; below = old.below; found = old.found }))
+      (λ new. let old = fits.states (last past.told.chain) (last_place past.told.chain) in subst (IsPlainState nodes) (sym new) (record { sessions = old.sessions; alive = old.alive; ends = old.ends; below = old.below; found = old.found }))
       (λ old. fits.states s old)
       place;
   oldest_is = fits.oldest_is;
@@ -83,11 +84,38 @@ pub held_apart : (nodes : ℕ) (rows : List Row) (past : OwnersPast) (session ot
     → past.holding session block ≡ Some hold → past.holding other block ≡ Some other_hold → (hold.0 ≡ Shared) × (other_hold.0 ≡ Shared)
 held_apart nodes rows past session other block hold other_hold fits ne held other_held = fits.stand.apart session other block hold other_hold ne (sym (fits.holds session block) ∙ held) (sym (fits.holds other block) ∙ other_held)
 
-pub held_reaches : (nodes : ℕ) (rows : List Row) (past : OwnersPast) (session block : ℕ) (hold : Hold) (opened : ℕ) → Fits nodes rows past → past.holding session block ≡ Some hold → past.floor block ≤ max hold.1 opened
-held_reaches nodes rows past session block hold opened fits held =
+-- no state's index is below that of the first
+first_least : (first : GlobalState) (changes : List Change) → first.index ≤ (state_after first changes).index
+first_least first [] = omega arith
+first_least first (change ∷ older) = let low = first_least first older in let rise = index_rises (state_after first older) change in omega (arith, low, rise)
+
+-- nor that of the state in which a session's row first stood
+opened_least : (first : GlobalState) (changes : List Change) (session : ℕ) → first.index ≤ first_index first changes session
+opened_least first [] session = omega arith
+opened_least first (change ∷ older) session = by_test (is_ever first older session)
+  where
+    by_test : (b : Bool) → first.index ≤ (if b then first_index first older session else (state_after first (change ∷ older)).index)
+    by_test true = opened_least first older session
+    by_test false = first_least first (change ∷ older)
+
+pub held_reaches : (nodes : ℕ) (rows : List Row) (past : OwnersPast) (session block : ℕ) (hold : Hold) → Fits nodes rows past → past.holding session block ≡ Some hold → past.floor block ≤ max hold.1 (opened_at past.told.chain session)
+held_reaches nodes rows past session block hold fits held =
     let least = fits.floors block in
     let most = fits.stand.reaches session block hold (sym (fits.holds session block) ∙ held) in
-    omega (arith, least, most)
+    let first = opened_least past.told.chain.first past.told.chain.changes session in
+    omega (arith, least, most, first)
+
+-- a session's row ends no later than its node knows
+pub begins_end : (nodes node session : ℕ) (s : GlobalState) → IsPlainState nodes s → own_in nodes node ≡ Some session → IsSomeAnd (row_in s.sessions session) (λ row. IfSome (end_in nodes node) (λ end. row.until ≤ end))
+begins_end nodes node session s is own =
+    let o = own_is nodes node session own in
+    let so : nat_lt node nodes ≡ true = let less = o.0 in grind (arith, nat_tests, less) in
+    let ends : end_in nodes node ≡ Some 4294967295999 = let never : ℕ = 4294967295999 in ap (λ t. if t then Some never else None) so in
+    by_row (row_in s.sessions session) (subst (λ (n : ℕ). IsSessionIn s node (Some n)) (sym o.1) (is.sessions node o.0)) (is.ends session) ends
+  where
+    by_row : (o : Option SessionRow) → IsSomeAnd o (λ row. (row.dead ≡ 0) × (row.node ≡ node)) → IfSome o (λ row. row.until ≤ 4294967295999) → end_in nodes node ≡ Some 4294967295999 → IsSomeAnd o (λ row. IfSome (end_in nodes node) (λ end. row.until ≤ end))
+    by_row None there ends is_end = there
+    by_row (Some row) there ends is_end = subst (λ (e : Option ℕ). IfSome e (λ end. row.until ≤ end)) (sym is_end) ends
 
 pub fits_fewer : (nodes : ℕ) (rows : List Row) (past : OwnersPast) (letters : List Letter) → Fits nodes rows past → Fits nodes rows (record past { told = record past.told { letters = letters } })
 fits_fewer nodes rows past letters fits = record { stand = fits.stand; holds = fits.holds; floors = fits.floors; leases = fits.leases; states = fits.states; oldest_is = fits.oldest_is; handed = fits.handed }

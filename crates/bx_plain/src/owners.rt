@@ -5,7 +5,8 @@ ghost use Rattle.bx_base.specs.declared.names.Mode.TheVariants.{Shared, Exclusiv
 ghost use Rattle.bx_facts.specs.Holds.{KeepsHolds, KeepsOthers};
 ghost use Rattle.bx_plain.specs.Asks.{AlikeBut};
 ghost use Rattle.bx_plain.specs.Fits.{IsPlainState, RowsStand};
-ghost use Rattle.bx_plain.specs.Rows.{floor_in, hold_in, want_in};
+ghost use Rattle.bx_plain.specs.Grants.{Grants, IsAlike, IsAnswered, IsGone, IsLeft, Passes};
+ghost use Rattle.bx_plain.specs.Rows.{AllLet, floor_in, hold_in, want_in};
 
 use crate::asks::first_asked;
 use crate::rows::{Row, floor_of, given_after, hold_at, is_free, put, row_of, session_at, want_at};
@@ -18,8 +19,8 @@ use std::alloc::Global;
 /// When a session ends, in milliseconds.
 const NEVER: u64 = 4294967295999;
 
-/// Who holds which block. A want is granted at once, or when no other hold stands against it any more. Node n has session
-/// n + 1, at every boot, which doesn't end.
+/// Who holds which block. A want is granted at once where no other node's hold stands against it, and else when none does any more. Node n has
+/// session n + 1, at every boot, which doesn't end.
 #[derive(Drop)]
 pub struct PlainOwners {
     nodes: u32,
@@ -45,6 +46,8 @@ impl PlainOwners {
         ensures wants { (other at : ℕ) → OnOk result ((want_in self.new.rows other at ≡ None) ⊎ (want_in self.new.rows other at ≡ want_in self.old.rows other at)) }
         ensures quiet { (other : ℕ) → want_in self.old.rows other block ≡ None → OnOk result ((want_in self.new.rows other block ≡ None) × (hold_in self.new.rows other block ≡ hold_in self.old.rows other block)) }
         ensures alike { OnOk result (AlikeBut block self.old.rows self.new.rows) }
+        ensures passes { OnOk result (Passes block self.old.rows self.new.rows) }
+        ensures none_left { OnOk result (IsLeft self.new.rows session block → ⊥) }
         ensures nodes { self.new.nodes ≡ self.old.nodes }
     {
         let row = row_of(&self.rows, session, block);
@@ -75,6 +78,8 @@ impl PlainOwners {
         ensures wants { (other at : ℕ) → OnOk result ((want_in self.new.rows other at ≡ None) ⊎ (want_in self.new.rows other at ≡ want_in self.old.rows other at)) }
         ensures quiet { (other : ℕ) → want_in self.old.rows other block ≡ None → OnOk result ((want_in self.new.rows other block ≡ None) × (hold_in self.new.rows other block ≡ hold_in self.old.rows other block)) }
         ensures alike { OnOk result (AlikeBut block self.old.rows self.new.rows) }
+        ensures passes { OnOk result (Passes block self.old.rows self.new.rows) }
+        ensures none_left { (other : ℕ) → OnOk result (IsLeft self.new.rows other block → ⊥) }
         ensures nodes { self.new.nodes ≡ self.old.nodes }
     {
         for place in 0..self.rows.len() {
@@ -91,6 +96,9 @@ impl PlainOwners {
         ensures floor { (at : ℕ) → OnOk result (floor_in self.new.rows at ≡ floor_in self.old.rows at) }
         ensures here { OnOk result ((want_in self.new.rows session block ≡ Some mode) ⊎ IsSomeAnd (hold_in self.new.rows session block) (λ held. held.0 ≡ mode)) }
         ensures wants { (other at : ℕ) → (other ≢ session) ⊎ (at ≢ block) → OnOk result (want_in self.new.rows other at ≡ want_in self.old.rows other at) }
+        ensures answered { OnOk result (IsAnswered session block mode self.old.rows self.new.rows) }
+        ensures others { (other at : ℕ) → (other ≢ session) ⊎ (at ≢ block) → OnOk result (IsAlike self.old.rows self.new.rows other at) }
+        ensures lets { (other : Mode) → OnOk result (AllLet session block other self.new.rows → AllLet session block other self.old.rows) }
         ensures alike { OnOk result (AlikeBut block self.old.rows self.new.rows) }
         ensures nodes { self.new.nodes ≡ self.old.nodes }
     {
@@ -118,6 +126,7 @@ impl PlainOwners {
         ensures floor { (at : ℕ) → OnOk result (floor_in self.old.rows at ≤ floor_in self.new.rows at) }
         ensures given { (at : ℕ) → hold_in self.old.rows session block ≡ Some (Exclusive, at) → OnOk result (index ≤ floor_in self.new.rows block) }
         ensures here { OnOk result ((want_in self.new.rows session block ≡ None) × (hold_in self.new.rows session block ≡ None)) }
+        ensures others { (other at : ℕ) → (other ≢ session) ⊎ (at ≢ block) → OnOk result (IsAlike self.old.rows self.new.rows other at) }
         ensures wants { (other at : ℕ) → OnOk result ((want_in self.new.rows other at ≡ None) ⊎ (want_in self.new.rows other at ≡ want_in self.old.rows other at)) }
         ensures alike { OnOk result (AlikeBut block self.old.rows self.new.rows) }
         ensures nodes { self.new.nodes ≡ self.old.nodes }
@@ -140,11 +149,11 @@ impl PlainOwners {
 impl Owners for PlainOwners {
     ghost use Rattle.std.specs.Prelude.{⊤, false, None};
     ghost use Rattle.std.proofs.Common.{sym, subst};
-    ghost use Rattle.bx_facts.specs.Chains.{last, opened_at};
+    ghost use Rattle.bx_facts.specs.Chains.{last};
     ghost use Rattle.bx_facts.specs.Holds.{hold_of};
     ghost use Rattle.bx_plain.specs.Asks.{asks_of};
     ghost use Rattle.bx_plain.specs.Fits.{Fits, end_in, own_in};
-    ghost use Rattle.bx_plain.specs.Laws.{fits_fewer, fits_grown, fits_leased, fits_new, has_end, has_none, held_apart, held_reaches, last_place, lives, opened, same_hold, zero_least};
+    ghost use Rattle.bx_plain.specs.Laws.{begins_end, fits_fewer, fits_grown, fits_leased, fits_new, has_end, has_none, held_apart, held_reaches, last_place, lives, opened, same_hold, zero_least};
 
     ghost is_separate = { ⊥ };
 
@@ -166,7 +175,15 @@ impl Owners for PlainOwners {
 
     ghost asks = { λ o node. asks_of (own_in o.nodes node) o.rows o.nodes };
 
+    ghost is_spent = { λ o node. ⊥ };
+
     ghost keeps = { λ o past. Fits o.nodes o.rows past };
+
+    ghost hands = { λ o known at input change. change ≡ None };
+
+    ghost grants = { λ o node block mode new. Grants (node + 1) block o.rows new.rows × IsAnswered (node + 1) block mode o.rows new.rows };
+
+    ghost passes_on = { λ o node block new. Grants (node + 1) block o.rows new.rows × IsGone new.rows (node + 1) block };
 
     fn session(&self, node: u32) -> Option<u64> {
         if node < self.nodes {
@@ -206,6 +223,7 @@ impl Owners for PlainOwners {
         _out: &mut Outbox,
     ) -> Result<(), OutOfMemory> {
         self.ask(u64::from(node) + 1, block, mode)?;
+        self.grant_waiting(block)?;
         Ok(())
     }
 
@@ -249,7 +267,7 @@ impl Owners for PlainOwners {
 
     ghost alone = { λ o past session other block hold fits live row held. subst (λ (n : ℕ). n ≤ other) (sym fits.oldest_is) (zero_least other) };
 
-    ghost reaches = { λ o past session block hold fits live held. held_reaches o.nodes o.rows past session block hold (opened_at past.told.chain session) fits held };
+    ghost reaches = { λ o past session block hold fits live held. held_reaches o.nodes o.rows past session block hold fits held };
 
     ghost was_opened = { λ o past node session fits is. opened o.nodes node session (last past.told.chain) (fits.states (last past.told.chain) (last_place past.told.chain)) is };
 
@@ -257,9 +275,13 @@ impl Owners for PlainOwners {
 
     ghost loses = { λ o past letters fits fewer. fits_fewer o.nodes o.rows past letters fits };
 
+    ghost begins_own = { λ o nodes s node new is there. sym (is.1.found node) };
+
+    ghost begins_end = { λ o nodes s node session new is own. begins_end o.nodes node session s is.1 own };
+
     ghost begins = { λ o nodes s new is allowed. fits_new o.nodes nodes o.rows s new is };
 
-    ghost finds = { λ o s boot new separate allowed. absurd separate };
+    ghost finds = { λ o nodes made s boot new separate is none allowed. absurd separate };
 
     ghost has_nodes = { λ o nodes_of s is. sym is.0 };
 }

@@ -2,6 +2,7 @@
 
 ghost use Rattle.std.specs.Prelude.{◌≡◌, ◌+◌, ◌<◌, ◌≤◌, ◌↔◌, List, [], ◌++◌, ◌∷◌, length, IsTrue, Option, Some, None, IsSome, OnOk, IfOk};
 ghost use Rattle.bx_base.specs.declared.names.Mode.TheVariants.{Shared, Exclusive};
+ghost use Rattle.bx_plain.specs.Grants.{session_in};
 ghost use Rattle.bx_plain.specs.Rows.{AllLet, floor_in, hold_in, place_in, row_in, want_in, with_row};
 
 use bx_base::{List, Mode, OutOfMemory};
@@ -86,7 +87,9 @@ pub(crate) fn row_of(rows: &List<Row>, session: u64, block: u64) -> Row
 }
 
 /// The session of the row at a place, counted from 0; 0 where there is none.
-pub(crate) fn session_at(rows: &List<Row>, place: usize) -> u64 {
+pub(crate) fn session_at(rows: &List<Row>, place: usize) -> u64
+    ensures { result ≡ session_in rows.now place }
+{
     match rows.get(place) {
         Some(row) => row.session,
         None => 0,

@@ -52,6 +52,7 @@ pub fn serve<R: Rack>(
     ensures done { (writes : List Sent) (sent : Sent) (s : GlobalState) → R.tells rack.old → IsFree writes greatest slot.old → out_in slot.old ≡ Some sent → out_in slot.new ≡ None → length s.devices ≡ devices → OnOk result (IsDone (λ device sector content index. IsSettled (R.state rack.new) s device sector content) 0 sent) }
     ensures first { (write : Write) → slot.old ≡ Some write → (IsOver greatest (sent_of write) → ⊥) → write.is_written ≡ false → OnOk result (slot.new ≡ Some (record write { is_written = true })) }
     ensures second { (write : Write) → slot.old ≡ Some write → (IsOver greatest (sent_of write) → ⊥) → write.is_written ≡ true → OnOk result (slot.new ≡ None) }
+    ensures over { (write : Write) → slot.old ≡ Some write → IsOver greatest (sent_of write) → slot.new ≡ Some write }
     ensures written { (writes : List Sent) (write : Write) → R.tells rack.old → IsFree writes greatest slot.old → slot.old ≡ Some write → (IsOver greatest (sent_of write) → ⊥) → OnOk result (AreWritten (R.state rack.new) write.runs (length write.runs)) }
     ensures out { (out_in slot.new ≡ None) ⊎ (out_in slot.new ≡ out_in slot.old) }
     ensures stays_out { OnErr result (out_in slot.new ≡ out_in slot.old) }
@@ -88,6 +89,7 @@ pub fn serve_all<R: Rack>(
     ensures done { (node : ℕ) (sent : Sent) (s : GlobalState) → R.tells rack.old → AreApart greatest slots.old.items → out_at slots.old.items node ≡ Some sent → out_at slots.new.items node ≡ None → length s.devices ≡ devices → IsDone (λ device sector content index. IsSettled (R.state rack.new) s device sector content) 0 sent }
     ensures first { (node : ℕ) (write : Write) → at slots.old.items node ≡ Some write → (IsOver greatest (sent_of write) → ⊥) → write.is_written ≡ false → OnOk result (at slots.new.items node ≡ Some (record write { is_written = true })) }
     ensures second { (node : ℕ) (write : Write) → at slots.old.items node ≡ Some write → (IsOver greatest (sent_of write) → ⊥) → write.is_written ≡ true → OnOk result (at slots.new.items node ≡ None) }
+    ensures over { (node : ℕ) (write : Write) → at slots.old.items node ≡ Some write → IsOver greatest (sent_of write) → OnOk result (at slots.new.items node ≡ Some write) }
     ensures written { (node : ℕ) (write : Write) → R.tells rack.old → AreApart greatest slots.old.items → at slots.old.items node ≡ Some write → (IsOver greatest (sent_of write) → ⊥) → OnOk result (AreWritten (R.state rack.new) write.runs (length write.runs)) }
     ensures out { (node : ℕ) → (out_at slots.new.items node ≡ None) ⊎ (out_at slots.new.items node ≡ out_at slots.old.items node) }
     ensures long { length slots.new.items ≡ length slots.old.items }

@@ -12,6 +12,8 @@ mod chains;
 #[cfg(test)]
 mod crashes;
 #[cfg(test)]
+mod folders;
+#[cfg(test)]
 mod racks;
 #[cfg(test)]
 mod steps;

@@ -294,7 +294,7 @@ pub(crate) fn runs(
 ) -> Result<bool, OutOfMemory> {
     let known = endless(alloc, 2, 1)?;
     let rack = MemRack::new(alloc, &[1, 1, 1, 17994, 17994], faults)?;
-    let store = PlainStore::new(alloc, 7, 2, 1, 1)?;
+    let store = PlainStore::new(alloc, 7, 2, 1, 1, &known)?;
     let mut desk = Desk {
         alloc,
         register: PlainRegister::new(alloc, 2, known),

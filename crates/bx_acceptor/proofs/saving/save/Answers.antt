@@ -5,7 +5,7 @@ use Rattle.bx_cell.specs.Cells.{HasEither, Holds, next}
 use Rattle.bx_cell.specs.Images.{EachSure}
 use Rattle.bx_global.specs.Bytes.{held_text}
 use Rattle.bx_global.proofs.Lengths.{length-held}
-use Rattle.bx_acceptor.proofs.Kept.{at_one, counts_stay, each_image, either_stays, moment_stays, none_rose, writes_cell, writes_nothing}
+use Rattle.bx_acceptor.proofs.Kept.{at_one, each_image, either_stays, moment_stays, writes_cell, writes_nothing}
 use Rattle.bx_acceptor.proofs.saving.save.Goals as goal
 
 pub put-requires-clause-short : goal.put-requires-clause-short
@@ -25,14 +25,6 @@ returns-then-not-changed-clause-either g c =
 pub returns-then-not-changed-clause-disks : goal.returns-then-not-changed-clause-disks
 returns-then-not-changed-clause-disks g c =
     λ tells. writes_nothing (g.R.Rack.state c.args.rack.now) (g.R.Rack.moment c.args.rack.now) (g.R.Rack.left_since c.args.rack.now) c.args.cell.now.disk (λ image left. g.met.R.Rack.only_now c.args.rack.now image tells left)
-
-pub returns-then-not-changed-clause-counts : goal.returns-then-not-changed-clause-counts
-returns-then-not-changed-clause-counts g c =
-    counts_stay (g.R.Rack.state c.args.rack.now).sizes (g.R.Rack.faults c.args.rack.now) (g.R.Rack.faults_of c.args.rack.now)
-
-pub returns-then-not-changed-clause-no_fault : goal.returns-then-not-changed-clause-no_fault
-returns-then-not-changed-clause-no_fault g c =
-    none_rose (g.R.Rack.faults c.args.rack.now) (g.R.Rack.faults_of c.args.rack.now)
 
 pub returns-in_err-bytes-clause-saved : goal.returns-in_err-bytes-clause-saved
 returns-in_err-bytes-clause-saved g c =
@@ -54,14 +46,6 @@ pub returns-in_err-bytes-clause-disks : goal.returns-in_err-bytes-clause-disks
 returns-in_err-bytes-clause-disks g c =
     λ tells. writes_nothing (g.R.Rack.state c.args.rack.now) (g.R.Rack.moment c.args.rack.now) (g.R.Rack.left_since c.args.rack.now) c.args.cell.now.disk (λ image left. g.met.R.Rack.only_now c.args.rack.now image tells left)
 
-pub returns-in_err-bytes-clause-counts : goal.returns-in_err-bytes-clause-counts
-returns-in_err-bytes-clause-counts g c =
-    counts_stay (g.R.Rack.state c.args.rack.now).sizes (g.R.Rack.faults c.args.rack.now) (g.R.Rack.faults_of c.args.rack.now)
-
-pub returns-in_err-bytes-clause-no_fault : goal.returns-in_err-bytes-clause-no_fault
-returns-in_err-bytes-clause-no_fault g c =
-    IfOk-from_err c.from_residual.result _ c.from_residual.ensures.0
-
 pub returns-in-Ok-clause-holds : goal.returns-in-Ok-clause-holds
 returns-in-Ok-clause-holds g c =
     λ tells each. c.in-Ok.ensures.holds tells (each_image (g.R.Rack.state c.args.rack.now) (Holds c.args.cell.now) each)
@@ -78,10 +62,6 @@ pub returns-in-Ok-clause-disks : goal.returns-in-Ok-clause-disks
 returns-in-Ok-clause-disks g c =
     λ tells. writes_cell (g.R.Rack.state c.args.rack.now) (g.R.Rack.state c.put.new.rack) (g.R.Rack.moment c.args.rack.now) (g.R.Rack.moment c.put.new.rack) (g.R.Rack.left_since c.args.rack.now) (g.R.Rack.left_since c.put.new.rack) c.args.cell.now.disk c.args.cell.now.base c.requires.base (c.in-Ok.ensures.keeps tells) (c.in-Ok.ensures.beside tells)
 
-pub returns-in-Ok-clause-counts : goal.returns-in-Ok-clause-counts
-returns-in-Ok-clause-counts g c =
-    record { sizes_are = c.in-Ok.ensures.rack.sizes; later = c.in-Ok.ensures.rack.later }
-
 pub returns-in-Err-OutOfMemory-clause-any_moment : goal.returns-in-Err-OutOfMemory-clause-any_moment
 returns-in-Err-OutOfMemory-clause-any_moment g c =
     λ tells each. at_one (λ base value. LeavesOnly (g.R.Rack.moment c.args.rack.now) (g.R.Rack.moment c.put.new.rack) (g.R.Rack.left_since c.args.rack.now) (g.R.Rack.left_since c.put.new.rack) (HasEither (g.R.Rack.state c.args.rack.now) c.args.cell.now.disk base c.args.cell.now.found (next c.args.cell.now.found value))) c.args.cell.now.base c.bytes-2.result.now (held_text c.args.held.now) c.requires.base (c.bytes-2.ensures ∙ c.in_ok-bytes.ensures) (c.in-Err-OutOfMemory.ensures.any_moment tells (each_image (g.R.Rack.state c.args.rack.now) (Holds c.args.cell.now) each))
@@ -93,7 +73,3 @@ returns-in-Err-OutOfMemory-clause-either g c =
 pub returns-in-Err-OutOfMemory-clause-disks : goal.returns-in-Err-OutOfMemory-clause-disks
 returns-in-Err-OutOfMemory-clause-disks g c =
     λ tells. writes_cell (g.R.Rack.state c.args.rack.now) (g.R.Rack.state c.put.new.rack) (g.R.Rack.moment c.args.rack.now) (g.R.Rack.moment c.put.new.rack) (g.R.Rack.left_since c.args.rack.now) (g.R.Rack.left_since c.put.new.rack) c.args.cell.now.disk c.args.cell.now.base c.requires.base (c.in-Err-OutOfMemory.ensures.keeps tells) (c.in-Err-OutOfMemory.ensures.beside tells)
-
-pub returns-in-Err-OutOfMemory-clause-counts : goal.returns-in-Err-OutOfMemory-clause-counts
-returns-in-Err-OutOfMemory-clause-counts g c =
-    record { sizes_are = c.in-Err-OutOfMemory.ensures.rack.sizes; later = c.in-Err-OutOfMemory.ensures.rack.later }

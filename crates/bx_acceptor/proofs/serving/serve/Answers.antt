@@ -5,7 +5,7 @@ use Rattle.bx_cell.specs.Cells.{HasEither, next}
 use Rattle.bx_cell.specs.Images.{EachSure}
 use Rattle.bx_global.specs.Bytes.{held_text}
 use Rattle.bx_acceptor.specs.Disks.{Writes}
-use Rattle.bx_acceptor.proofs.Kept.{counts_stay, either_stays, moment_stays, quiet_unless, stored_or_same, writes_nothing}
+use Rattle.bx_acceptor.proofs.Kept.{either_stays, moment_stays, quiet_unless, stored_or_same, writes_nothing}
 use Rattle.bx_acceptor.proofs.Taking.{changed_rises}
 use Rattle.bx_acceptor.proofs.serving.serve.Goals as goal
 
@@ -21,10 +21,6 @@ returns-in_err-step-clause-answers g c =
 
 pub returns-in_err-step-clause-stored : goal.returns-in_err-step-clause-stored
 returns-in_err-step-clause-stored g c =
-    IfOk-from_err c.from_residual.result _ c.from_residual.ensures.0
-
-pub returns-in_err-step-clause-no_fault : goal.returns-in_err-step-clause-no_fault
-returns-in_err-step-clause-no_fault g c =
     IfOk-from_err c.from_residual.result _ c.from_residual.ensures.0
 
 pub returns-in_err-step-clause-held : goal.returns-in_err-step-clause-held
@@ -47,20 +43,12 @@ pub returns-in_err-step-clause-disks : goal.returns-in_err-step-clause-disks
 returns-in_err-step-clause-disks g c =
     λ tells. writes_nothing (g.R.Rack.state c.args.rack.now) (g.R.Rack.moment c.args.rack.now) (g.R.Rack.left_since c.args.rack.now) c.args.replica (λ image left. g.met.R.Rack.only_now c.args.rack.now image tells left)
 
-pub returns-in_err-step-clause-counts : goal.returns-in_err-step-clause-counts
-returns-in_err-step-clause-counts g c =
-    counts_stay (g.R.Rack.state c.args.rack.now).sizes (g.R.Rack.faults c.args.rack.now) (g.R.Rack.faults_of c.args.rack.now)
-
 pub returns-in_err-save-clause-answers : goal.returns-in_err-save-clause-answers
 returns-in_err-save-clause-answers g c =
     IfOk-from_err c.from_residual-in_err-save.result _ c.from_residual-in_err-save.ensures.0
 
 pub returns-in_err-save-clause-stored : goal.returns-in_err-save-clause-stored
 returns-in_err-save-clause-stored g c =
-    IfOk-from_err c.from_residual-in_err-save.result _ c.from_residual-in_err-save.ensures.0
-
-pub returns-in_err-save-clause-no_fault : goal.returns-in_err-save-clause-no_fault
-returns-in_err-save-clause-no_fault g c =
     IfOk-from_err c.from_residual-in_err-save.result _ c.from_residual-in_err-save.ensures.0
 
 pub returns-in_err-save-clause-holds : goal.returns-in_err-save-clause-holds
@@ -87,20 +75,12 @@ pub returns-in_err-save-clause-disks : goal.returns-in_err-save-clause-disks
 returns-in_err-save-clause-disks g c =
     λ tells. subst (λ (disk : ℕ). Writes (g.R.Rack.state c.args.rack.now) (g.R.Rack.state c.save.new.rack) (g.R.Rack.moment c.args.rack.now) (g.R.Rack.moment c.save.new.rack) (g.R.Rack.left_since c.args.rack.now) (g.R.Rack.left_since c.save.new.rack) disk) c.requires.cell.0 (c.in_err-save.ensures.disks tells)
 
-pub returns-in_err-save-clause-counts : goal.returns-in_err-save-clause-counts
-returns-in_err-save-clause-counts g c =
-    c.in_err-save.ensures.counts
-
 pub returns-in_err-tell-clause-answers : goal.returns-in_err-tell-clause-answers
 returns-in_err-tell-clause-answers g c =
     IfOk-from_err c.from_residual-in_err-tell.result _ c.from_residual-in_err-tell.ensures.0
 
 pub returns-in_err-tell-clause-stored : goal.returns-in_err-tell-clause-stored
 returns-in_err-tell-clause-stored g c =
-    IfOk-from_err c.from_residual-in_err-tell.result _ c.from_residual-in_err-tell.ensures.0
-
-pub returns-in_err-tell-clause-no_fault : goal.returns-in_err-tell-clause-no_fault
-returns-in_err-tell-clause-no_fault g c =
     IfOk-from_err c.from_residual-in_err-tell.result _ c.from_residual-in_err-tell.ensures.0
 
 pub returns-in_err-tell-clause-holds : goal.returns-in_err-tell-clause-holds
@@ -127,10 +107,6 @@ pub returns-in_err-tell-clause-disks : goal.returns-in_err-tell-clause-disks
 returns-in_err-tell-clause-disks g c =
     λ tells. subst (λ (disk : ℕ). Writes (g.R.Rack.state c.args.rack.now) (g.R.Rack.state c.save.new.rack) (g.R.Rack.moment c.args.rack.now) (g.R.Rack.moment c.save.new.rack) (g.R.Rack.left_since c.args.rack.now) (g.R.Rack.left_since c.save.new.rack) disk) c.requires.cell.0 (c.in_ok-save.ensures.disks tells)
 
-pub returns-in_err-tell-clause-counts : goal.returns-in_err-tell-clause-counts
-returns-in_err-tell-clause-counts g c =
-    c.in_ok-save.ensures.counts
-
 pub returns-clause-stored : goal.returns-clause-stored
 returns-clause-stored g c =
     stored_or_same c.in_ok-step.step.changed c.args.cell.now c.save.new.cell c.args.held.now c.handle.new.held _ c.in_ok-save.ensures.saved c.in_ok-step.ensures.same c.in_ok-save.ensures.quiet
@@ -138,10 +114,6 @@ returns-clause-stored g c =
 pub returns-clause-holds : goal.returns-clause-holds
 returns-clause-holds g c =
     c.in_ok-save.ensures.holds
-
-pub returns-clause-no_fault : goal.returns-clause-no_fault
-returns-clause-no_fault g c =
-    c.in_ok-save.ensures.no_fault
 
 pub returns-clause-held : goal.returns-clause-held
 returns-clause-held g c =
@@ -162,7 +134,3 @@ returns-clause-either g c =
 pub returns-clause-disks : goal.returns-clause-disks
 returns-clause-disks g c =
     λ tells. subst (λ (disk : ℕ). Writes (g.R.Rack.state c.args.rack.now) (g.R.Rack.state c.save.new.rack) (g.R.Rack.moment c.args.rack.now) (g.R.Rack.moment c.save.new.rack) (g.R.Rack.left_since c.args.rack.now) (g.R.Rack.left_since c.save.new.rack) disk) c.requires.cell.0 (c.in_ok-save.ensures.disks tells)
-
-pub returns-clause-counts : goal.returns-clause-counts
-returns-clause-counts g c =
-    c.in_ok-save.ensures.counts

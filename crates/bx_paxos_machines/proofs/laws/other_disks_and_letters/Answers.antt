@@ -1,4 +1,5 @@
-use Rattle.bx_paxos_machines.proofs.Telling.{crash_survives, elsewhere_keeps, loses_keeps, needs_far, needs_most, room_of}
+use Rattle.bx_paxos_machines.proofs.Needs.{needs_far, needs_most, needs_up, room_of}
+use Rattle.bx_paxos_machines.proofs.Telling.{crash_survives, elsewhere_keeps, loses_keeps}
 use Rattle.bx_paxos_machines.proofs.laws.other_disks_and_letters.Goals as goal
 
 pub returns-clause-elsewhere : goal.returns-clause-elsewhere
@@ -15,6 +16,9 @@ returns-clause-needs_little c = needs_most
 
 pub returns-clause-needs_none : goal.returns-clause-needs_none
 returns-clause-needs_none c = needs_far
+
+pub returns-clause-needs_up : goal.returns-clause-needs_up
+returns-clause-needs_up c = needs_up
 
 pub returns-clause-room : goal.returns-clause-room
 returns-clause-room c = room_of

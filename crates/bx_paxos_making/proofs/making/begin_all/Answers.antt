@@ -4,7 +4,7 @@ use Rattle.bx_facts.specs.Machines.{IsMachine}
 use Rattle.bx_paxos_machines.specs.Beginning.{AreBegun, AreIdle, IsNew}
 use Rattle.bx_paxos_machines.specs.Parts.{IsPart, IsWhole, name_of}
 use Rattle.bx_paxos_machines.specs.declared.machine.Machine.{Machine}
-use Rattle.bx_paxos_making.proofs.Lists.{AreMadeTo, begun_push, calm_begun, calm_first, calm_twice, end_within, has_disk, idle_push, machine_in, made_all, made_more, none_twice, put_end, read_end}
+use Rattle.bx_paxos_making.proofs.Lists.{AreMadeTo, begun_push, calm_begun, calm_first, calm_twice, end_within, has_disk, idle_push, machine_in, made_all, made_more, put_end, read_end}
 use Rattle.bx_paxos_making.proofs.making.begin_all.Goals as goal
 
 pub make-requires-clause-machine : goal.make-requires-clause-machine
@@ -27,7 +27,7 @@ begin-requires-clause-room r c =
     let at : c.len-end.result ≡ length c.loop-place.all.items = (let len = c.loop-place.all.ok.0 in let is = c.len-end.ensures in omega (arith, len, is)) in
     let one = read_end c.loop-place.all.items c.put_last.new.all.items c.in_ok-machine.machine c.index_mut.result.now c.len-end.result c.in_ok-put_last.ensures at c.index_mut.ensures.value in
     has_disk (r.R.Rack.state c.loop-place.rack).sizes c.index_mut.result.now (subst IsWhole (sym one) c.in_ok-machine.ensures.part.whole)
-    (subst (λ (sizes : List ℕ). (n : ℕ) → n < 3 → 21 ≤ slice_index sizes n) (sym c.loop-place.invariant.sizes) c.requires.room)
+    (subst (λ (sizes : List ℕ). (n : ℕ) → n < 3 → 21 ≤ slice_index sizes n) (sym c.loop-place.invariant.rack.sizes) c.requires.room)
 
 pub loop-place-preserved : goal.loop-place-preserved
 loop-place-preserved r c =
@@ -50,14 +50,12 @@ loop-place-preserved r c =
       made = subst (λ (l : List Machine). AreMadeTo c.args.nodes made c.args.origins.now (c.loop-place.place + 1) l) (sym same)
           (made_more c.args.nodes made c.args.origins.now c.loop-place.place ms v was.made (then.name ∙ subst (λ (m : Machine). name_of m ≡ c.name_at.result) (sym one) did.name ∙ c.name_at.ensures) (then.part c.args.nodes made c.args.origins.now part));
       begun = λ tells first.
-          let told = was.tells tells in
+          let told = was.rack.keeps_telling tells in
           subst (λ (l : List Machine). AreBegun made z l) (sym same)
           (begun_push made z ms v (calm_begun made y z ms (then.calm told) (was.begun tells first)) (c.in_ok-begin.ensures.begun c.args.nodes made c.args.origins.now told part c.requires.made new (calm_first made x y (was.calm tells) first)));
       idle = subst (λ (l : List Machine). AreIdle made l) (sym same) (idle_push made ms v was.idle (then.course ∙ new.course));
-      calm = λ tells. calm_twice x y z (was.calm tells) (then.calm (was.tells tells));
-      later = none_twice was.later then.later;
-      sizes = then.sizes ∙ was.sizes;
-      tells = λ tells. then.keeps_telling (was.tells tells);
+      calm = λ tells. calm_twice x y z (was.calm tells) (then.calm (was.rack.keeps_telling tells));
+      rack = grind arith;
     }
 
 pub returns-clause-machines : goal.returns-clause-machines
@@ -69,16 +67,7 @@ pub returns-clause-begun : goal.returns-clause-begun
 returns-clause-begun r c = λ tells first. c.loop-place.invariant.begun tells first
 
 pub returns-in_err-begin-clause-calm : goal.returns-in_err-begin-clause-calm
-returns-in_err-begin-clause-calm r c = λ tells. calm_twice (r.R.Rack.state c.args.rack.now) (r.R.Rack.state c.loop-place.rack) (r.R.Rack.state c.begin.new.rack) (c.loop-place.invariant.calm tells) (c.begin.ensures.calm (c.loop-place.invariant.tells tells))
-
-pub returns-in_err-begin-clause-later : goal.returns-in_err-begin-clause-later
-returns-in_err-begin-clause-later r c = none_twice c.loop-place.invariant.later c.begin.ensures.later
-
-pub returns-in_err-begin-clause-sizes : goal.returns-in_err-begin-clause-sizes
-returns-in_err-begin-clause-sizes r c = c.begin.ensures.sizes ∙ c.loop-place.invariant.sizes
-
-pub returns-in_err-begin-clause-keeps_telling : goal.returns-in_err-begin-clause-keeps_telling
-returns-in_err-begin-clause-keeps_telling r c = λ tells. c.begin.ensures.keeps_telling (c.loop-place.invariant.tells tells)
+returns-in_err-begin-clause-calm r c = λ tells. calm_twice (r.R.Rack.state c.args.rack.now) (r.R.Rack.state c.loop-place.rack) (r.R.Rack.state c.begin.new.rack) (c.loop-place.invariant.calm tells) (c.begin.ensures.calm (c.loop-place.invariant.rack.keeps_telling tells))
 
 pub returns-clause-courses : goal.returns-clause-courses
 returns-clause-courses r c = c.loop-place.invariant.idle
@@ -86,35 +75,8 @@ returns-clause-courses r c = c.loop-place.invariant.idle
 pub returns-clause-calm : goal.returns-clause-calm
 returns-clause-calm r c = c.loop-place.invariant.calm
 
-pub returns-clause-later : goal.returns-clause-later
-returns-clause-later r c = c.loop-place.invariant.later
-
-pub returns-clause-sizes : goal.returns-clause-sizes
-returns-clause-sizes r c = c.loop-place.invariant.sizes
-
-pub returns-clause-keeps_telling : goal.returns-clause-keeps_telling
-returns-clause-keeps_telling r c = c.loop-place.invariant.tells
-
 pub returns-in_err-machine-clause-calm : goal.returns-in_err-machine-clause-calm
 returns-in_err-machine-clause-calm r c = c.loop-place.invariant.calm
 
-pub returns-in_err-machine-clause-later : goal.returns-in_err-machine-clause-later
-returns-in_err-machine-clause-later r c = c.loop-place.invariant.later
-
-pub returns-in_err-machine-clause-sizes : goal.returns-in_err-machine-clause-sizes
-returns-in_err-machine-clause-sizes r c = c.loop-place.invariant.sizes
-
-pub returns-in_err-machine-clause-keeps_telling : goal.returns-in_err-machine-clause-keeps_telling
-returns-in_err-machine-clause-keeps_telling r c = c.loop-place.invariant.tells
-
 pub returns-in_err-put_last-clause-calm : goal.returns-in_err-put_last-clause-calm
 returns-in_err-put_last-clause-calm r c = c.loop-place.invariant.calm
-
-pub returns-in_err-put_last-clause-later : goal.returns-in_err-put_last-clause-later
-returns-in_err-put_last-clause-later r c = c.loop-place.invariant.later
-
-pub returns-in_err-put_last-clause-sizes : goal.returns-in_err-put_last-clause-sizes
-returns-in_err-put_last-clause-sizes r c = c.loop-place.invariant.sizes
-
-pub returns-in_err-put_last-clause-keeps_telling : goal.returns-in_err-put_last-clause-keeps_telling
-returns-in_err-put_last-clause-keeps_telling r c = c.loop-place.invariant.tells

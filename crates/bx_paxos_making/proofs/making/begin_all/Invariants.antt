@@ -1,5 +1,6 @@
-use Rattle.std.proofs.Common.{◌≡◌}
-use Rattle.bx_disk.specs.Counts.{NoneFalls}
+use Rattle.std.proofs.Common.{Ok}
+use Rattle.bx_disk.specs.Kept.{Counted}
+use Rattle.bx_facts.specs.declared.input.FactError.TheVariants.{Disk as DiskFails}
 use Rattle.bx_paxos_machines.specs.Beginning.{AreBegun, AreIdle, HasFirst, IsCalm}
 use Rattle.bx_paxos_making.proofs.Lists.{AreMadeTo}
 use Rattle.bx_paxos_making.proofs.making.begin_all.Given as goal
@@ -10,7 +11,5 @@ invariant-loop-place r l = record {
   begun : r.R.Rack.tells l.fn.rack → HasFirst l.state (r.R.Rack.state l.fn.rack).reads → AreBegun l.state (r.R.Rack.state l.rack) l.all.items;
   idle : AreIdle l.state l.all.items;
   calm : r.R.Rack.tells l.fn.rack → IsCalm (r.R.Rack.state l.fn.rack) (r.R.Rack.state l.rack);
-  later : NoneFalls (r.R.Rack.faults l.fn.rack) (r.R.Rack.faults l.rack) (r.R.Rack.faults_of l.fn.rack) (r.R.Rack.faults_of l.rack);
-  sizes : (r.R.Rack.state l.rack).sizes ≡ (r.R.Rack.state l.fn.rack).sizes;
-  tells : r.R.Rack.tells l.fn.rack → r.R.Rack.tells l.rack;
+  rack : Counted {A = Unit {0}} r.R.Rack l.fn.rack l.rack (Ok tt) DiskFails;
 }

@@ -6,7 +6,7 @@ use Rattle.bx_cell.specs.Formats.{first}
 use Rattle.bx_cell.specs.Halves.{cell_in}
 use Rattle.bx_global.proofs.Lengths.{length-held}
 use Rattle.bx_global.specs.Bytes.{held_text}
-use Rattle.bx_paxos_making.proofs.Lists.{any_ok, beside_labels, beside_members, calm_image, calm_labels, calm_members, none_none, none_twice, rose_on, same_labels, same_members}
+use Rattle.bx_paxos_making.proofs.Lists.{any_ok, beside_labels, beside_members, calm_image, calm_labels, calm_members, same_labels, same_members}
 use Rattle.bx_paxos_making.proofs.making.begin_anew.Goals as goal
 
 pub format_each-requires-clause-short : goal.format_each-requires-clause-short
@@ -44,12 +44,6 @@ returns-clause-begun r c = λ tells.
 pub returns-in_err-value-clause-members : goal.returns-in_err-value-clause-members
 returns-in_err-value-clause-members r c = λ tells. (same_members (r.R.Rack.state c.args.rack.now), same_labels (r.R.Rack.state c.args.rack.now))
 
-pub returns-in_err-value-clause-later : goal.returns-in_err-value-clause-later
-returns-in_err-value-clause-later r c = none_none (r.R.Rack.faults c.args.rack.now) (r.R.Rack.faults_of c.args.rack.now)
-
-pub returns-in_err-value-clause-sizes : goal.returns-in_err-value-clause-sizes
-returns-in_err-value-clause-sizes r c = refl
-
 pub returns-in_err-format_each-clause-members : goal.returns-in_err-format_each-clause-members
 returns-in_err-format_each-clause-members r c = λ tells.
     let x = r.R.Rack.state c.args.rack.now in
@@ -65,24 +59,3 @@ returns-clause-members r c = λ tells.
     let keeps = c.format_each.ensures.keeps tells in
     let calm = c.begin_all.ensures.calm (c.format_each.ensures.rack.keeps_telling tells) in
     (calm_members x y z (beside_members x y keeps) calm, calm_labels x y z (beside_labels x y keeps) calm)
-
-pub returns-clause-cause : goal.returns-clause-cause
-returns-clause-cause r c = λ fault. rose_on c.format_each.ensures.rack.later.all (c.begin_all.ensures.cause fault)
-
-pub returns-clause-later : goal.returns-clause-later
-returns-clause-later r c = none_twice c.format_each.ensures.rack.later c.begin_all.ensures.later
-
-pub returns-clause-sizes : goal.returns-clause-sizes
-returns-clause-sizes r c = c.begin_all.ensures.sizes ∙ c.format_each.ensures.rack.sizes
-
-pub returns-clause-keeps_telling : goal.returns-clause-keeps_telling
-returns-clause-keeps_telling r c = λ tells. c.begin_all.ensures.keeps_telling (c.format_each.ensures.rack.keeps_telling tells)
-
-pub returns-in_err-format_each-clause-later : goal.returns-in_err-format_each-clause-later
-returns-in_err-format_each-clause-later r c = c.format_each.ensures.rack.later
-
-pub returns-in_err-format_each-clause-sizes : goal.returns-in_err-format_each-clause-sizes
-returns-in_err-format_each-clause-sizes r c = c.format_each.ensures.rack.sizes
-
-pub returns-in_err-format_each-clause-keeps_telling : goal.returns-in_err-format_each-clause-keeps_telling
-returns-in_err-format_each-clause-keeps_telling r c = c.format_each.ensures.rack.keeps_telling

@@ -1,5 +1,4 @@
-use Rattle.std.proofs.Common.{◌≡◌, ℕ, List, arith, sym, ap, subst, ◌∙◌}
-use Rattle.std.proofs.lemmas.Grind.{common_steps}
+use Rattle.std.proofs.Common.{◌≡◌, ℕ, List, sym, ap, subst, ◌∙◌}
 use Rattle.bx_global.specs.Allowed.{IsAllowed}
 use Rattle.bx_global.specs.Opening.{opening_state}
 use Rattle.bx_global.specs.declared.state.GlobalState.{GlobalState}
@@ -19,10 +18,8 @@ returns-clause-plain c = subst (IsPlainState c.args.nodes) (sym (made c.in_ok-fi
 pub returns-clause-allowed : goal.returns-clause-allowed
 returns-clause-allowed c =
     let allowed = plain_allowed c.args.nodes c.args.devices c.requires.few c.requires.least c.requires.most in
-    let there = subst IsAllowed (sym (made c.in_ok-first.first c.in_ok-endless_sessions.field-0 c.args.nodes c.args.devices c.in_ok-first.ensures c.in_ok-endless_sessions.ensures)) allowed in
-    grind (arith, common_steps, there)
+    subst IsAllowed (sym (made c.in_ok-first.first c.in_ok-endless_sessions.field-0 c.args.nodes c.args.devices c.in_ok-first.ensures c.in_ok-endless_sessions.ensures)) allowed
 
 pub returns-clause-boots : goal.returns-clause-boots
 returns-clause-boots c =
-    let there = subst (λ (s : GlobalState). IsAboveBoots s 1) (sym (made c.in_ok-first.first c.in_ok-endless_sessions.field-0 c.args.nodes c.args.devices c.in_ok-first.ensures c.in_ok-endless_sessions.ensures)) (plain_boots c.args.nodes c.args.devices) in
-    grind (arith, common_steps, there)
+    subst (λ (s : GlobalState). IsAboveBoots s 1) (sym (made c.in_ok-first.first c.in_ok-endless_sessions.field-0 c.args.nodes c.args.devices c.in_ok-first.ensures c.in_ok-endless_sessions.ensures)) (plain_boots c.args.nodes c.args.devices)

@@ -99,6 +99,12 @@ loop-i-preserved g c =
           (λ below was. c.in_ok-serve.ensures.second write (before ∙ was) not_over old)
           (λ n other below was. inv.second n write (omega (arith, below, other)) was not_over old)
           node low here;
+      over = λ node write low here is_over.
+          let P : ℕ → Option Write → Type 0 = λ n slot. n < c.loop-i.i + 1 → at c.args.slots.now.items n ≡ Some write → slot ≡ Some write in
+          set_each P c.loop-i.slots.items c.loop-i.i c.serve.new.slot less
+          (λ below was. c.serve.ensures.over write (before ∙ was) is_over)
+          (λ n other below was. inv.over n write (omega (arith, below, other)) was is_over)
+          node low here;
       written = λ node write low tells apart here not_over.
           let free = free_of c.args.slots.now.items c.args.greatest c.loop-i.i c.index_mut.result.now apart before in
           let kept = c.serve.ensures.keeps ws (inv.rack.keeps_telling tells) free in
@@ -118,6 +124,11 @@ pub returns-clause-second : goal.returns-clause-second
 returns-clause-second g c = λ node write here.
     let less = at_within c.args.slots.now.items node write here in
     c.loop-i.invariant.second node write (omega (arith, less, c.loop-i-test.false, c.len-i-end.ensures)) here
+
+pub returns-clause-over : goal.returns-clause-over
+returns-clause-over g c = λ node write here.
+    let less = at_within c.args.slots.now.items node write here in
+    c.loop-i.invariant.over node write (omega (arith, less, c.loop-i-test.false, c.len-i-end.ensures)) here
 
 pub returns-clause-written : goal.returns-clause-written
 returns-clause-written g c = λ node write tells apart here.

@@ -18,6 +18,7 @@ invariant-loop-i g l = record {
   done : (node : ℕ) (sent : Sent) (s : GlobalState) → g.R.Rack.tells l.fn.rack → AreApart l.greatest l.fn.slots.items → out_at l.fn.slots.items node ≡ Some sent → out_at l.slots.items node ≡ None → length s.devices ≡ l.devices → IsDone (λ device sector content index. IsSettled (g.R.Rack.state l.rack) s device sector content) 0 sent;
   first : (node : ℕ) (write : Write) → node < l.i → at l.fn.slots.items node ≡ Some write → (IsOver l.greatest (sent_of write) → ⊥) → write.is_written ≡ false → at l.slots.items node ≡ Some (record write { is_written = true });
   second : (node : ℕ) (write : Write) → node < l.i → at l.fn.slots.items node ≡ Some write → (IsOver l.greatest (sent_of write) → ⊥) → write.is_written ≡ true → at l.slots.items node ≡ None;
+  over : (node : ℕ) (write : Write) → node < l.i → at l.fn.slots.items node ≡ Some write → IsOver l.greatest (sent_of write) → at l.slots.items node ≡ Some write;
   written : (node : ℕ) (write : Write) → node < l.i → g.R.Rack.tells l.fn.rack → AreApart l.greatest l.fn.slots.items → at l.fn.slots.items node ≡ Some write → (IsOver l.greatest (sent_of write) → ⊥) → AreWritten (g.R.Rack.state l.rack) write.runs (length write.runs);
   out : (node : ℕ) → (out_at l.slots.items node ≡ None) ⊎ (out_at l.slots.items node ≡ out_at l.fn.slots.items node);
   replicas : g.R.Rack.tells l.fn.rack → KeepsReplicas (g.R.Rack.state l.fn.rack) (g.R.Rack.state l.rack);

@@ -42,7 +42,7 @@ returns-clause-keeps g c = λ past tells all may.
     let boots = followed.boots (past.boots c.args.at) may.own_boot in
     let to_owners = g.met.O.Owners.loses c.args.owners.now _ (past.letters ++ first) followed.fits (none_new IsOwners IsRegisters not_both past.letters old first registers) in
     let taken = c.in_ok-by_owners.ensures.keeps (of_owners decided) to_owners (record { up = may.up; place = place; rises = rises; own_boot = boots; steady = may.steady; comes = still_comes past.letters first input may.comes }) in
-    let same = g.met.S.Store.elsewhere st x y (of_store (with_letters past old)) all.store (c.take.ensures.members tells).0 in
+    let same = g.met.S.Store.elsewhere st x y (of_store (with_letters past old)) all.store (record { each = λ d past. ap (λ (l : List ℕ). slice_index l d) c.take.ensures.rack.sizes }) (c.take.ensures.members tells).0 in
     let Fits : Chain → Type 0 = λ chain. g.S.Store.keeps st y (of_store (with_letters (record past { chain = chain }) old))
     × Stays (g.S.Store.asked st) (g.S.Store.settled st) (g.S.Store.settled st) (g.S.Store.will_read st) (g.S.Store.will_read st) (g.S.Store.stands st) (g.S.Store.stands st) x (with_letters past old) y (with_letters (record past { chain = chain }) old) in
     let grown = goes_along Fits past.proposed past.chain heard.chain
@@ -56,7 +56,7 @@ returns-clause-keeps g c = λ past tells all may.
     let register = g.met.G.Register.elsewhere c.take.new.self y z _
     (g.met.G.Register.loses c.take.new.self y _ (past.letters ++ third) heard.holds
     (among_both (none_new IsRegisters IsStores not_registers past.letters second third stores) (none_new IsRegisters IsOwners (λ letter one other. not_both letter other one) past.letters first second owners)))
-    (record { each = λ d low. ap (λ (l : List ℕ). slice_index l d) c.take-3.ensures.sizes }) (c.take-3.ensures.replicas still_tells).0 (c.take-3.ensures.replicas still_tells).1 in
+    (record { each = λ d low. ap (λ (l : List ℕ). slice_index l d) c.take-3.ensures.rack.sizes }) (c.take-3.ensures.replicas still_tells).0 (c.take-3.ensures.replicas still_tells).1 in
     let offered = c.in_ok-propose.ensures.keeps z (of_register decided) register may.up in
     let proposes = c.in_ok-propose.ensures.sent z (of_register decided) register in
     let each = as_asked c.or.result (option_or by_owners by_store) past.proposed offered.proposed c.or.ensures offered.each in

@@ -6,7 +6,7 @@ use Rattle.bx_cell.specs.Images.{EachSure}
 use Rattle.bx_global.specs.Bytes.{held_text}
 use Rattle.bx_acceptor.specs.Disks.{Writes}
 use Rattle.bx_acceptor.specs.Standing.{IsStanding, Standing}
-use Rattle.bx_acceptor.proofs.Kept.{counts_stay, held_by, none_rose, stored_before, stored_so, unmoved_either, with_cell, writes_nothing}
+use Rattle.bx_acceptor.proofs.Kept.{held_by, stored_before, stored_so, unmoved_either, with_cell, writes_nothing}
 use Rattle.bx_acceptor.proofs.Taking.{answered, became, brought_here, brought_is, cell_after, changes_not, became_so, no_cell, stands_with, takes_here, took_so, unmoved, untaken}
 use Rattle.bx_acceptor.proofs.acceptor.Acceptor.take.Goals as goal
 
@@ -142,14 +142,6 @@ pub returns-in_err-from-clause-disks : goal.returns-in_err-from-clause-disks
 returns-in_err-from-clause-disks g c =
     λ tells. writes_nothing (g.R.Rack.state c.args.rack.now) (g.R.Rack.moment c.args.rack.now) (g.R.Rack.left_since c.args.rack.now) c.args.self.now.replica (λ image left. g.met.R.Rack.only_now c.args.rack.now image tells left)
 
-pub returns-in_err-from-clause-counts : goal.returns-in_err-from-clause-counts
-returns-in_err-from-clause-counts g c =
-    counts_stay (g.R.Rack.state c.args.rack.now).sizes (g.R.Rack.faults c.args.rack.now) (g.R.Rack.faults_of c.args.rack.now)
-
-pub returns-in_err-from-clause-no_fault : goal.returns-in_err-from-clause-no_fault
-returns-in_err-from-clause-no_fault g c =
-    IfOk-from_err c.from_residual.result _ c.from_residual.ensures.0
-
 pub returns-in_default-clause-ignores : goal.returns-in_default-clause-ignores
 returns-in_default-clause-ignores g c =
     λ none. (refl, refl, refl)
@@ -190,24 +182,12 @@ pub returns-in_default-clause-disks : goal.returns-in_default-clause-disks
 returns-in_default-clause-disks g c =
     λ tells. writes_nothing (g.R.Rack.state c.args.rack.now) (g.R.Rack.moment c.args.rack.now) (g.R.Rack.left_since c.args.rack.now) c.args.self.now.replica (λ image left. g.met.R.Rack.only_now c.args.rack.now image tells left)
 
-pub returns-in_default-clause-counts : goal.returns-in_default-clause-counts
-returns-in_default-clause-counts g c =
-    counts_stay (g.R.Rack.state c.args.rack.now).sizes (g.R.Rack.faults c.args.rack.now) (g.R.Rack.faults_of c.args.rack.now)
-
-pub returns-in_default-clause-no_fault : goal.returns-in_default-clause-no_fault
-returns-in_default-clause-no_fault g c =
-    none_rose (g.R.Rack.faults c.args.rack.now) (g.R.Rack.faults_of c.args.rack.now)
-
 pub returns-in_err-serve-clause-took : goal.returns-in_err-serve-clause-took
 returns-in_err-serve-clause-took g c =
     IfOk-from_err c.from_residual-in_err-serve.result _ c.from_residual-in_err-serve.ensures.0
 
 pub returns-in_err-serve-clause-stored : goal.returns-in_err-serve-clause-stored
 returns-in_err-serve-clause-stored g c =
-    IfOk-from_err c.from_residual-in_err-serve.result _ c.from_residual-in_err-serve.ensures.0
-
-pub returns-in_err-serve-clause-no_fault : goal.returns-in_err-serve-clause-no_fault
-returns-in_err-serve-clause-no_fault g c =
     IfOk-from_err c.from_residual-in_err-serve.result _ c.from_residual-in_err-serve.ensures.0
 
 pub returns-in_err-serve-clause-answers : goal.returns-in_err-serve-clause-answers
@@ -230,10 +210,6 @@ pub returns-in_err-serve-clause-disks : goal.returns-in_err-serve-clause-disks
 returns-in_err-serve-clause-disks g c =
     λ tells. subst (λ (a : Standing). Writes (g.R.Rack.state c.args.rack.now) (g.R.Rack.state c.serve.new.rack) (g.R.Rack.moment c.args.rack.now) (g.R.Rack.moment c.serve.new.rack) (g.R.Rack.left_since c.args.rack.now) (g.R.Rack.left_since c.serve.new.rack) a.replica) c.self.view_is (c.in_err-serve.ensures.disks tells)
 
-pub returns-in_err-serve-clause-counts : goal.returns-in_err-serve-clause-counts
-returns-in_err-serve-clause-counts g c =
-    c.in_err-serve.ensures.counts
-
 pub returns-clause-stored : goal.returns-clause-stored
 returns-clause-stored g c =
     stored_so _ c.args.self.now c.in-Some-take.cell c.serve.new.cell c.serve.new.held (held_text c.serve.new.held) _ c.self.view_is (sym c.in-Some-take.ensures.value) c.in_ok-serve.ensures.stored
@@ -241,10 +217,6 @@ returns-clause-stored g c =
 pub returns-clause-holds : goal.returns-clause-holds
 returns-clause-holds g c =
     λ tells. held_by _ _ c.args.self.now c.in-Some-take.cell (g.R.Rack.state c.args.rack.now) c.self.view_is (sym c.in-Some-take.ensures.value) (c.in_ok-serve.ensures.holds tells)
-
-pub returns-clause-no_fault : goal.returns-clause-no_fault
-returns-clause-no_fault g c =
-    c.in_ok-serve.ensures.no_fault
 
 pub returns-clause-any_moment : goal.returns-clause-any_moment
 returns-clause-any_moment g c =
@@ -257,10 +229,6 @@ returns-clause-either g c =
 pub returns-clause-disks : goal.returns-clause-disks
 returns-clause-disks g c =
     λ tells. subst (λ (a : Standing). Writes (g.R.Rack.state c.args.rack.now) (g.R.Rack.state c.serve.new.rack) (g.R.Rack.moment c.args.rack.now) (g.R.Rack.moment c.serve.new.rack) (g.R.Rack.left_since c.args.rack.now) (g.R.Rack.left_since c.serve.new.rack) a.replica) c.self.view_is (c.in_ok-serve.ensures.disks tells)
-
-pub returns-clause-counts : goal.returns-clause-counts
-returns-clause-counts g c =
-    c.in_ok-serve.ensures.counts
 
 pub invariant_of-self : goal.invariant_of-self
 invariant_of-self g c =
@@ -327,22 +295,12 @@ returns-in_default-take-clause-disks g c =
     let found = rw c.in-Some.is at c.in_ok-from.ensures.some in
     absurd (untaken c.self.inside.cell c.in-Some.message (sym c.take.ensures.value ∙ c.in_default-take.is) found.1)
 
-pub returns-in_default-take-clause-cause : goal.returns-in_default-take-clause-cause
-returns-in_default-take-clause-cause g c =
-    let found = rw c.in-Some.is at c.in_ok-from.ensures.some in
-    absurd (untaken c.self.inside.cell c.in-Some.message (sym c.take.ensures.value ∙ c.in_default-take.is) found.1)
-
-pub returns-in_default-take-clause-counts : goal.returns-in_default-take-clause-counts
-returns-in_default-take-clause-counts g c =
-    let found = rw c.in-Some.is at c.in_ok-from.ensures.some in
-    absurd (untaken c.self.inside.cell c.in-Some.message (sym c.take.ensures.value ∙ c.in_default-take.is) found.1)
-
-pub returns-in_default-take-clause-no_fault : goal.returns-in_default-take-clause-no_fault
-returns-in_default-take-clause-no_fault g c =
-    let found = rw c.in-Some.is at c.in_ok-from.ensures.some in
-    absurd (untaken c.self.inside.cell c.in-Some.message (sym c.take.ensures.value ∙ c.in_default-take.is) found.1)
-
 pub returns-in_default-take-clause-stays : goal.returns-in_default-take-clause-stays
 returns-in_default-take-clause-stays g c =
+    let found = rw c.in-Some.is at c.in_ok-from.ensures.some in
+    absurd (untaken c.self.inside.cell c.in-Some.message (sym c.take.ensures.value ∙ c.in_default-take.is) found.1)
+
+pub returns-in_default-take-clause-rack : goal.returns-in_default-take-clause-rack
+returns-in_default-take-clause-rack g c =
     let found = rw c.in-Some.is at c.in_ok-from.ensures.some in
     absurd (untaken c.self.inside.cell c.in-Some.message (sym c.take.ensures.value ∙ c.in_default-take.is) found.1)

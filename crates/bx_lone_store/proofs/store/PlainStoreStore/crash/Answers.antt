@@ -1,9 +1,10 @@
-use Rattle.std.proofs.Common.{⊎_elim, refl}
+use Rattle.std.proofs.Common.{⊎_elim, refl, ◌∙◌, ap}
 use Rattle.bx_facts.specs.Chains.{last}
 use Rattle.bx_facts.specs.Writes.{Made}
 use Rattle.bx_lone_store.specs.Events.{went_none}
 use Rattle.bx_lone_store.specs.Parts.{made_of}
-use Rattle.bx_lone_store.proofs.Restarting.{Ended, asked_ended, keeps_crashed, needs_fewer, out_ended, went_ended}
+use Rattle.bx_lone_store.specs.Waiting.{owes_in}
+use Rattle.bx_lone_store.proofs.Restarting.{Ended, asked_ended, is_still, keeps_crashed, needs_fewer, out_ended, went_ended}
 use Rattle.bx_lone_store.proofs.Shapes.{shape_then}
 use Rattle.bx_lone_store.proofs.store.PlainStoreStore.crash.Goals as goal
 
@@ -43,3 +44,12 @@ returns-in-Member-clause-needs c =
     let st = c.args.self.now in
     let made : Made = made_of st.volume st.nodes st.devices st.areas in
     needs_fewer made st.down.items c.put_down.new.down.items c.in-Member.member (record { here = c.put_down.ensures.here; others = c.put_down.ensures.others; long = c.put_down.ensures.long })
+
+pub returns-in-Node-clause-still : goal.returns-in-Node-clause-still
+returns-in-Node-clause-still c = ap (owes_in c.args.self.now.greatest c.put_session.new.slots.items c.put_session.new.inquiries.items c.args.self.now.down.items) c.in-Node.is
+
+pub returns-in-Member-clause-still : goal.returns-in-Member-clause-still
+returns-in-Member-clause-still c =
+    let st = c.args.self.now in
+    ap (owes_in st.greatest st.slots.items st.inquiries.items c.put_down.new.down.items) c.in-Member.is
+    ∙ is_still st.greatest st.slots.items st.inquiries.items st.down.items c.put_down.new.down.items c.in-Member.member (record { here = c.put_down.ensures.here; others = c.put_down.ensures.others; long = c.put_down.ensures.long })

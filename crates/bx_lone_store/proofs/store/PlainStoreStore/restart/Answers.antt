@@ -1,4 +1,4 @@
-use Rattle.std.proofs.Common.{◌≡◌, ℕ, ◌+◌, sym, ◌∙◌, subst, arith}
+use Rattle.std.proofs.Common.{◌≡◌, ℕ, ◌+◌, refl, sym, ◌∙◌, subst, arith}
 use Rattle.bx_base.specs.declared.names.Actor.{Actor}
 use Rattle.bx_disk.specs.Disks.{Disks}
 use Rattle.bx_facts.specs.Chains.{last}
@@ -6,7 +6,6 @@ use Rattle.bx_facts.specs.Disks.{HasRoom, NeedsAt, wanted_by}
 use Rattle.bx_facts.specs.Machines.{disk_of}
 use Rattle.bx_facts.specs.Writes.{Made, label_on, store_room}
 use Rattle.bx_layout.specs.Labels.{SpellsLabel}
-use Rattle.bx_layout.specs.declared.label.Label.{Label}
 use Rattle.bx_lone_store.specs.Laws.{labels_kept, settled_kept, will_keep}
 use Rattle.bx_lone_store.specs.Parts.{made_of}
 use Rattle.bx_lone_store.specs.Waiting.{needs_of}
@@ -36,7 +35,7 @@ pub returns-in_default-clause-label : goal.returns-in_default-clause-label
 returns-in_default-clause-label g c = λ n is. absurd (c.in_default.not-Member n is)
 
 pub returns-in_default-clause-old_label : goal.returns-in_default-clause-old_label
-returns-in_default-clause-old_label g c = λ n label is. absurd (c.in_default.not-Member n is)
+returns-in_default-clause-old_label g c = λ n is. absurd (c.in_default.not-Member n is)
 
 pub label_member-requires-clause-disk : goal.label_member-requires-clause-disk
 label_member-requires-clause-disk g c =
@@ -55,7 +54,7 @@ returns-in_err-label_member-clause-keeps_faulted g c = λ past tells keeps may f
     let made : Made = made_of st.volume st.nodes st.devices st.areas in
     let x : Disks = g.R.Rack.state c.args.rack.now in
     let y : Disks = g.R.Rack.state c.label_member.new.rack in
-    let sure = sure_sources (last past.told.chain) x y (c.label_member.ensures.keeps made (last past.told.chain) tells keeps.fits.labels) in
+    let sure = sure_sources (last past.told.chain) x y c.label_member.ensures.rack.sizes (c.label_member.ensures.keeps made (last past.told.chain) tells refl keeps.fits.labels) in
     keeps_failed made st.greatest c.later-self.result st.owns.items st.slots.items x y past c.args.who c.args._boot c.args.reading keeps c.later-self.ensures (labels_kept made x y (last past.told.chain) sure keeps.fits.labels)
 
 pub returns-in_err-label_member-clause-any_moment : goal.returns-in_err-label_member-clause-any_moment
@@ -63,7 +62,7 @@ returns-in_err-label_member-clause-any_moment g c = λ past tells keeps may.
     let st = c.args.self.now in
     let made : Made = made_of st.volume st.nodes st.devices st.areas in
     let x : Disks = g.R.Rack.state c.args.rack.now in
-    leaves_sources _ _ _ _ past.writes past.told.greatest (last past.told.chain) x (c.label_member.ensures.any_moment made (last past.told.chain) tells keeps.fits.labels)
+    leaves_sources _ _ _ _ past.writes past.told.greatest (last past.told.chain) x (c.label_member.ensures.any_moment made (last past.told.chain) tells refl keeps.fits.labels)
 
 pub returns-in_err-label_member-clause-replicas : goal.returns-in_err-label_member-clause-replicas
 returns-in_err-label_member-clause-replicas g c = λ tells. replicas_both _ _ (c.label_member.ensures.replicas tells)
@@ -74,7 +73,7 @@ returns-clause-keeps g c = λ past tells keeps may.
     let made : Made = made_of st.volume st.nodes st.devices st.areas in
     let x : Disks = g.R.Rack.state c.args.rack.now in
     let y : Disks = g.R.Rack.state c.label_member.new.rack in
-    let sure = sure_sources (last past.told.chain) x y (c.label_member.ensures.keeps made (last past.told.chain) tells keeps.fits.labels) in
+    let sure = sure_sources (last past.told.chain) x y c.label_member.ensures.rack.sizes (c.label_member.ensures.keeps made (last past.told.chain) tells refl keeps.fits.labels) in
     keeps_restarted made st.greatest c.later-self.result st.owns.items st.slots.items x y past c.args.who c.args._boot c.args.reading keeps c.later-self.ensures (labels_kept made x y (last past.told.chain) sure keeps.fits.labels)
 
 pub returns-clause-any_moment : goal.returns-clause-any_moment
@@ -82,7 +81,7 @@ returns-clause-any_moment g c = λ past tells keeps may.
     let st = c.args.self.now in
     let made : Made = made_of st.volume st.nodes st.devices st.areas in
     let x : Disks = g.R.Rack.state c.args.rack.now in
-    leaves_sources _ _ _ _ past.writes past.told.greatest (last past.told.chain) x (c.label_member.ensures.any_moment made (last past.told.chain) tells keeps.fits.labels)
+    leaves_sources _ _ _ _ past.writes past.told.greatest (last past.told.chain) x (c.label_member.ensures.any_moment made (last past.told.chain) tells refl keeps.fits.labels)
 
 pub returns-clause-replicas : goal.returns-clause-replicas
 returns-clause-replicas g c = λ tells. replicas_both _ _ (c.label_member.ensures.replicas tells)
@@ -93,7 +92,7 @@ returns-clause-settled g c = λ past device sector content tells keeps may only 
     let made : Made = made_of st.volume st.nodes st.devices st.areas in
     let x : Disks = g.R.Rack.state c.args.rack.now in
     let y : Disks = g.R.Rack.state c.label_member.new.rack in
-    let sure = sure_sources (last past.told.chain) x y (c.label_member.ensures.keeps made (last past.told.chain) tells keeps.fits.labels) in
+    let sure = sure_sources (last past.told.chain) x y c.label_member.ensures.rack.sizes (c.label_member.ensures.keeps made (last past.told.chain) tells refl keeps.fits.labels) in
     (settled_kept x y (last past.told.chain) device sector content sure is, λ fault. absurd (let h = fault in cc))
 
 pub returns-clause-stands : goal.returns-clause-stands
@@ -102,7 +101,7 @@ returns-clause-stands g c = λ past device sector content index tells keeps may 
     let made : Made = made_of st.volume st.nodes st.devices st.areas in
     let x : Disks = g.R.Rack.state c.args.rack.now in
     let y : Disks = g.R.Rack.state c.label_member.new.rack in
-    let sure = sure_sources (last past.told.chain) x y (c.label_member.ensures.keeps made (last past.told.chain) tells keeps.fits.labels) in
+    let sure = sure_sources (last past.told.chain) x y c.label_member.ensures.rack.sizes (c.label_member.ensures.keeps made (last past.told.chain) tells refl keeps.fits.labels) in
     (settled_kept x y (last past.told.chain) device sector content sure is, λ fault. absurd (let h = fault in cc))
 
 pub returns-clause-reads : goal.returns-clause-reads
@@ -111,24 +110,36 @@ returns-clause-reads g c = λ past reader sector content asks tells keeps may ap
     let made : Made = made_of st.volume st.nodes st.devices st.areas in
     let x : Disks = g.R.Rack.state c.args.rack.now in
     let y : Disks = g.R.Rack.state c.label_member.new.rack in
-    let sure = sure_sources (last past.told.chain) x y (c.label_member.ensures.keeps made (last past.told.chain) tells keeps.fits.labels) in
+    let sure = sure_sources (last past.told.chain) x y c.label_member.ensures.rack.sizes (c.label_member.ensures.keeps made (last past.told.chain) tells refl keeps.fits.labels) in
     (will_keep _ _ x y (last past.told.chain) (last past.told.chain) sector content (λ a is settled. settled_kept x y (last past.told.chain) a.device sector content sure settled) reads, λ fault. absurd (let h = fault in cc))
 
 pub returns-clause-label : goal.returns-clause-label
-returns-clause-label g c = λ n is tells none.
+returns-clause-label g c = λ n is tells.
     let same : c.in-Member.member ≡ n = (let h = sym c.in-Member.is ∙ is in cc) in
     let y : Disks = g.R.Rack.state c.label_member.new.rack in
     let st = c.args.self.now in
     let made : Made = made_of st.volume st.nodes st.devices st.areas in
-    subst (λ (m : ℕ). SpellsLabel (label_on made (3 + m)) (y.reads (3 + m) 0)) same
-    (c.in_ok-label_member.ensures.label tells (subst (λ (m : ℕ). (label : Label) → SpellsLabel label ((g.R.Rack.state c.args.rack.now).reads (3 + m) 0) → ⊥) (sym same) none))
+    subst (λ (m : ℕ). SpellsLabel (label_on made (3 + m)) (y.reads (3 + m) 0)) same (c.in_ok-label_member.ensures.label tells)
+
+pub returns-in_err-label_member-clause-old_label : goal.returns-in_err-label_member-clause-old_label
+returns-in_err-label_member-clause-old_label g c = λ n is tells spelled.
+    let same : c.in-Member.member ≡ n = (let h = sym c.in-Member.is ∙ is in cc) in
+    let x : Disks = g.R.Rack.state c.args.rack.now in
+    let y : Disks = g.R.Rack.state c.label_member.new.rack in
+    let st = c.args.self.now in
+    let made : Made = made_of st.volume st.nodes st.devices st.areas in
+    subst (λ (m : ℕ). y.reads (3 + m) 0 ≡ x.reads (3 + m) 0) same
+    (c.label_member.ensures.old_label tells (subst (λ (m : ℕ). SpellsLabel (label_on made (3 + m)) (x.reads (3 + m) 0)) (sym same) spelled))
 
 pub returns-clause-old_label : goal.returns-clause-old_label
-returns-clause-old_label g c = λ n label is tells spelled.
+returns-clause-old_label g c = λ n is tells spelled.
     let same : c.in-Member.member ≡ n = (let h = sym c.in-Member.is ∙ is in cc) in
+    let x : Disks = g.R.Rack.state c.args.rack.now in
     let y : Disks = g.R.Rack.state c.label_member.new.rack in
-    subst (λ (m : ℕ). SpellsLabel label (y.reads (3 + m) 0)) same
-    (c.in_ok-label_member.ensures.old_label label tells (subst (λ (m : ℕ). SpellsLabel label ((g.R.Rack.state c.args.rack.now).reads (3 + m) 0)) (sym same) spelled))
+    let st = c.args.self.now in
+    let made : Made = made_of st.volume st.nodes st.devices st.areas in
+    subst (λ (m : ℕ). y.reads (3 + m) 0 ≡ x.reads (3 + m) 0) same
+    (c.label_member.ensures.old_label tells (subst (λ (m : ℕ). SpellsLabel (label_on made (3 + m)) (x.reads (3 + m) 0)) (sym same) spelled))
 
 pub returns-clause-needs : goal.returns-clause-needs
 returns-clause-needs g c =

@@ -1,24 +1,27 @@
-use Rattle.std.proofs.Common.{◌≡◌, ◌≤◌, inr, ⊎_elim, true, ℕ, refl, sym, ◌∙◌, ap, subst}
+use Rattle.std.specs.Prelude.{◌&&◌}
+use Rattle.std.proofs.Common.{◌≡◌, ◌≤◌, inr, ⊎_elim, Bool, List, true, ℕ, refl, sym, ◌∙◌, ap, subst}
 use Rattle.bx_base.specs.declared.names.Actor.TheVariants.{Node}
 use Rattle.bx_disk.specs.Disks.{Disks}
 use Rattle.bx_facts.specs.Chains.{any_session_of, last}
-use Rattle.bx_facts.specs.Writes.{Made}
-use Rattle.bx_plain_store.specs.Out.{at}
+use Rattle.bx_facts.specs.Writes.{IsOver, Made}
+use Rattle.bx_plain_store.specs.Out.{at, sent_of}
 use Rattle.bx_lone_store.specs.Events.{went_none, went_out}
 use Rattle.bx_lone_store.specs.Parts.{made_of}
+use Rattle.bx_lone_store.specs.Steps.{Meets}
 use Rattle.bx_lone_store.specs.Waiting.{all_up, is_sync}
 use Rattle.bx_lone_store.proofs.Answering.{answered_same}
-use Rattle.bx_lone_store.proofs.Hearing.{Met, and_right, apart_later, asked_met, done_at, goes_heard, goes_synced, keeps_heard, labels_synced, leaves_none, leaves_synced, not_done, out_met, reads_met, rises_with, still_asked, still_out, went_met}
+use Rattle.bx_lone_store.proofs.Hearing.{and_right, apart_later, asked_met, asked_new, done_at, goes_heard, goes_synced, keeps_heard, labels_synced, leaves_none, leaves_synced, not_done, out_met, reads_met, rises_with, still_asked, still_out, went_met}
 use Rattle.bx_lone_store.proofs.Restarting.{replicas_both}
 use Rattle.bx_lone_store.proofs.Rooms.{disks_there, reads_fit, writes_fit}
 use Rattle.bx_lone_store.proofs.Shapes.{shape_then}
+use Rattle.bx_lone_store.proofs.Stepping.{step_met, step_served, step_still}
 use Rattle.bx_lone_store.proofs.store.PlainStoreStore.take.Goals as goal
 
 pub invariant_of-self : goal.invariant_of-self
 invariant_of-self g c =
     let st = c.args.self.now in
     let made : Made = made_of st.volume st.nodes st.devices st.areas in
-    let met : Met c.args.known.now c.in-Node.node st.owns.items c.meet_session.new.owns.items st.slots.items c.meet_session.new.slots.items st.inquiries.items c.meet_session.new.inquiries.items = record {
+    let met : Meets c.args.known.now c.in-Node.node st.owns.items c.meet_session.new.owns.items st.slots.items c.meet_session.new.slots.items st.inquiries.items c.meet_session.new.inquiries.items = record {
       own = c.meet_session.ensures.own ∙ c.any_session.ensures;
       another = λ apart. c.meet_session.ensures.another (λ is. apart (is ∙ c.any_session.ensures));
       same = λ is. c.meet_session.ensures.same (is ∙ sym c.any_session.ensures);
@@ -33,7 +36,7 @@ returns-in-Node-clause-keeps g c = λ past tells keeps may.
     let made : Made = made_of st.volume st.nodes st.devices st.areas in
     let x : Disks = g.R.Rack.state c.args.rack.now in
     let rises : st.greatest ≤ c.heard-self.result = subst (λ (n : ℕ). st.greatest ≤ n) (sym c.heard-self.ensures) (rises_with st.greatest c.args.input.now) in
-    let met : Met c.args.known.now c.in-Node.node st.owns.items c.meet_session.new.owns.items st.slots.items c.meet_session.new.slots.items st.inquiries.items c.meet_session.new.inquiries.items = record {
+    let met : Meets c.args.known.now c.in-Node.node st.owns.items c.meet_session.new.owns.items st.slots.items c.meet_session.new.slots.items st.inquiries.items c.meet_session.new.inquiries.items = record {
       own = c.meet_session.ensures.own ∙ c.any_session.ensures;
       another = λ apart. c.meet_session.ensures.another (λ is. apart (is ∙ c.any_session.ensures));
       same = λ is. c.meet_session.ensures.same (is ∙ sym c.any_session.ensures);
@@ -47,7 +50,7 @@ returns-in-Node-clause-goes_on g c = λ past tells keeps may.
     let made : Made = made_of st.volume st.nodes st.devices st.areas in
     let x : Disks = g.R.Rack.state c.args.rack.now in
     let rises : st.greatest ≤ c.heard-self.result = subst (λ (n : ℕ). st.greatest ≤ n) (sym c.heard-self.ensures) (rises_with st.greatest c.args.input.now) in
-    let met : Met c.args.known.now c.in-Node.node st.owns.items c.meet_session.new.owns.items st.slots.items c.meet_session.new.slots.items st.inquiries.items c.meet_session.new.inquiries.items = record {
+    let met : Meets c.args.known.now c.in-Node.node st.owns.items c.meet_session.new.owns.items st.slots.items c.meet_session.new.slots.items st.inquiries.items c.meet_session.new.inquiries.items = record {
       own = c.meet_session.ensures.own ∙ c.any_session.ensures;
       another = λ apart. c.meet_session.ensures.another (λ is. apart (is ∙ c.any_session.ensures));
       same = λ is. c.meet_session.ensures.same (is ∙ sym c.any_session.ensures);
@@ -59,7 +62,7 @@ pub returns-in-Node-clause-done : goal.returns-in-Node-clause-done
 returns-in-Node-clause-done g c = λ past node write tells keeps may out none own lives.
     let st = c.args.self.now in
     let made : Made = made_of st.volume st.nodes st.devices st.areas in
-    let met : Met c.args.known.now c.in-Node.node st.owns.items c.meet_session.new.owns.items st.slots.items c.meet_session.new.slots.items st.inquiries.items c.meet_session.new.inquiries.items = record {
+    let met : Meets c.args.known.now c.in-Node.node st.owns.items c.meet_session.new.owns.items st.slots.items c.meet_session.new.slots.items st.inquiries.items c.meet_session.new.inquiries.items = record {
       own = c.meet_session.ensures.own ∙ c.any_session.ensures;
       another = λ apart. c.meet_session.ensures.another (λ is. apart (is ∙ c.any_session.ensures));
       same = λ is. c.meet_session.ensures.same (is ∙ sym c.any_session.ensures);
@@ -87,7 +90,7 @@ pub returns-in-Node-clause-out : goal.returns-in-Node-clause-out
 returns-in-Node-clause-out g c = λ node.
     let st = c.args.self.now in
     let made : Made = made_of st.volume st.nodes st.devices st.areas in
-    let met : Met c.args.known.now c.in-Node.node st.owns.items c.meet_session.new.owns.items st.slots.items c.meet_session.new.slots.items st.inquiries.items c.meet_session.new.inquiries.items = record {
+    let met : Meets c.args.known.now c.in-Node.node st.owns.items c.meet_session.new.owns.items st.slots.items c.meet_session.new.slots.items st.inquiries.items c.meet_session.new.inquiries.items = record {
       own = c.meet_session.ensures.own ∙ c.any_session.ensures;
       another = λ apart. c.meet_session.ensures.another (λ is. apart (is ∙ c.any_session.ensures));
       same = λ is. c.meet_session.ensures.same (is ∙ sym c.any_session.ensures);
@@ -99,7 +102,7 @@ pub returns-in-Node-clause-asked : goal.returns-in-Node-clause-asked
 returns-in-Node-clause-asked g c = λ reader.
     let st = c.args.self.now in
     let made : Made = made_of st.volume st.nodes st.devices st.areas in
-    let met : Met c.args.known.now c.in-Node.node st.owns.items c.meet_session.new.owns.items st.slots.items c.meet_session.new.slots.items st.inquiries.items c.meet_session.new.inquiries.items = record {
+    let met : Meets c.args.known.now c.in-Node.node st.owns.items c.meet_session.new.owns.items st.slots.items c.meet_session.new.slots.items st.inquiries.items c.meet_session.new.inquiries.items = record {
       own = c.meet_session.ensures.own ∙ c.any_session.ensures;
       another = λ apart. c.meet_session.ensures.another (λ is. apart (is ∙ c.any_session.ensures));
       same = λ is. c.meet_session.ensures.same (is ∙ sym c.any_session.ensures);
@@ -168,7 +171,7 @@ returns-in_err-sync_all-clause-keeps_faulted g c = λ past tells keeps may fault
     let rises : st.greatest ≤ c.heard-self.result = subst (λ (n : ℕ). st.greatest ≤ n) (sym c.heard-self.ensures) (rises_with st.greatest c.args.input.now) in
     let apart = (apart_later made st.greatest st.owns.items st.slots.items st.inquiries.items x past c.args._out.now c.args.known.now c.heard-self.result keeps may.place rises (went_none c.args.known.now st.owns.items st.slots.items)).apart in
     let members = c.sync_all.ensures.keeps tells apart in
-    keeps_heard made st.greatest st.owns.items st.slots.items st.inquiries.items x past c.args._out.now c.args.known.now c.heard-self.result keeps may.place rises _ _ y c.args._out.now c.args.at c.args.input.now c.heard-self.ensures (went_out c.args.known.now st.owns.items st.slots.items c.sync_all.new.slots.items c.sync_all.ensures.out) (labels_synced made st.greatest st.owns.items st.slots.items st.inquiries.items x past c.args._out.now c.args.known.now c.heard-self.result keeps may.place rises y members)
+    keeps_heard made st.greatest st.owns.items st.slots.items st.inquiries.items x past c.args._out.now c.args.known.now c.heard-self.result keeps may.place rises _ _ y c.args._out.now c.args.at c.args.input.now c.heard-self.ensures (went_out c.args.known.now st.owns.items st.slots.items c.sync_all.new.slots.items c.sync_all.ensures.out) (labels_synced made st.greatest st.owns.items st.slots.items st.inquiries.items x past c.args._out.now c.args.known.now c.heard-self.result keeps may.place rises y members c.sync_all.ensures.rack.sizes)
 
 pub returns-in_err-sync_all-clause-goes_on_faulted : goal.returns-in_err-sync_all-clause-goes_on_faulted
 returns-in_err-sync_all-clause-goes_on_faulted g c = λ past tells keeps may fault.
@@ -219,7 +222,7 @@ returns-clause-keeps g c = λ past tells keeps may.
     let rises : st.greatest ≤ c.heard-self.result = subst (λ (n : ℕ). st.greatest ≤ n) (sym c.heard-self.ensures) (rises_with st.greatest c.args.input.now) in
     let apart = (apart_later made st.greatest st.owns.items st.slots.items st.inquiries.items x past c.args._out.now c.args.known.now c.heard-self.result keeps may.place rises (went_none c.args.known.now st.owns.items st.slots.items)).apart in
     let members = c.sync_all.ensures.keeps tells apart in
-    keeps_heard made st.greatest st.owns.items st.slots.items st.inquiries.items x past c.args._out.now c.args.known.now c.heard-self.result keeps may.place rises _ _ y c.args._out.now c.args.at c.args.input.now c.heard-self.ensures (went_out c.args.known.now st.owns.items st.slots.items c.sync_all.new.slots.items c.sync_all.ensures.out) (labels_synced made st.greatest st.owns.items st.slots.items st.inquiries.items x past c.args._out.now c.args.known.now c.heard-self.result keeps may.place rises y members)
+    keeps_heard made st.greatest st.owns.items st.slots.items st.inquiries.items x past c.args._out.now c.args.known.now c.heard-self.result keeps may.place rises _ _ y c.args._out.now c.args.at c.args.input.now c.heard-self.ensures (went_out c.args.known.now st.owns.items st.slots.items c.sync_all.new.slots.items c.sync_all.ensures.out) (labels_synced made st.greatest st.owns.items st.slots.items st.inquiries.items x past c.args._out.now c.args.known.now c.heard-self.result keeps may.place rises y members c.sync_all.ensures.rack.sizes)
 
 pub returns-clause-goes_on : goal.returns-clause-goes_on
 returns-clause-goes_on g c = λ past tells keeps may.
@@ -260,3 +263,42 @@ returns-clause-replicas g c = λ tells. replicas_both _ _ (c.sync_all.ensures.re
 
 pub returns-clause-asked : goal.returns-clause-asked
 returns-clause-asked g c = λ reader. inr (c.sync_all.ensures.asks reader)
+
+pub returns-in-Node-clause-new_session : goal.returns-in-Node-clause-new_session
+returns-in-Node-clause-new_session g c = λ node changed.
+    let st = c.args.self.now in
+    let met : Meets c.args.known.now c.in-Node.node st.owns.items c.meet_session.new.owns.items st.slots.items c.meet_session.new.slots.items st.inquiries.items c.meet_session.new.inquiries.items = record {
+      own = c.meet_session.ensures.own ∙ c.any_session.ensures;
+      another = λ apart. c.meet_session.ensures.another (λ is. apart (is ∙ c.any_session.ensures));
+      same = λ is. c.meet_session.ensures.same (is ∙ sym c.any_session.ensures);
+      others = c.meet_session.ensures.others;
+    } in
+    asked_new c.args.known.now c.in-Node.node st.owns.items c.meet_session.new.owns.items st.slots.items c.meet_session.new.slots.items st.inquiries.items c.meet_session.new.inquiries.items met node changed
+
+pub returns-in-Node-clause-steps : goal.returns-in-Node-clause-steps
+returns-in-Node-clause-steps g c =
+    let st = c.args.self.now in
+    let met : Meets c.args.known.now c.in-Node.node st.owns.items c.meet_session.new.owns.items st.slots.items c.meet_session.new.slots.items st.inquiries.items c.meet_session.new.inquiries.items = record {
+      own = c.meet_session.ensures.own ∙ c.any_session.ensures;
+      another = λ apart. c.meet_session.ensures.another (λ is. apart (is ∙ c.any_session.ensures));
+      same = λ is. c.meet_session.ensures.same (is ∙ sym c.any_session.ensures);
+      others = c.meet_session.ensures.others;
+    } in
+    step_met c.args.known.now c.args.at c.args.input.now _ st.down.items _ _ _ _ _ _ c.in-Node.node c.in-Node.is met
+
+pub returns-then-not-is_time-clause-steps : goal.returns-then-not-is_time-clause-steps
+returns-then-not-is_time-clause-steps g c =
+    let left = ap (λ (downs : List Bool). is_sync c.args.at c.args.input.now && all_up downs) (sym c.deref.ensures.value) ∙ sym c.is_time.ensures ∙ c.if-not-is_time.true in
+    step_still c.args.known.now c.args.at c.args.input.now _ c.args.self.now.down.items _ _ _ _ _ _ (λ node is. c.in_default.not-Node node is) left refl refl refl
+
+pub returns-clause-steps : goal.returns-clause-steps
+returns-clause-steps g c =
+    let served_now = ap (λ (downs : List Bool). is_sync c.args.at c.args.input.now && all_up downs) (sym c.deref.ensures.value) ∙ sym c.is_time.ensures ∙ c.if-not-is_time.false in
+    let e = c.heard-self.ensures in
+    step_served c.args.known.now c.args.at c.args.input.now _ c.args.self.now.down.items _ _ _ _ _ _ (λ node is. c.in_default.not-Node node is) served_now refl (record {
+      first = λ node write here not_over fresh. c.in_ok-sync_all.ensures.first node write here (λ over. not_over (subst (λ (n : ℕ). IsOver n (sent_of write)) e over)) fresh;
+      second = λ node write here not_over old. c.in_ok-sync_all.ensures.second node write here (λ over. not_over (subst (λ (n : ℕ). IsOver n (sent_of write)) e over)) old;
+      over = λ node write here over. c.in_ok-sync_all.ensures.over node write here (subst (λ (n : ℕ). IsOver n (sent_of write)) (sym e) over);
+      asks = λ node. c.sync_all.ensures.asks node;
+      answered = λ node asks asked there. c.in_ok-sync_all.ensures.there node asks asked there;
+    })

@@ -30,7 +30,7 @@ returns-in_err-take-clause-keeps_faulted g c = λ v past tells of has comes fits
     let halves = c.requires.halves in
     let is_now : IsHeld (length a.first.devices) b.held = subst (λ (s : GlobalState). IsHeld (length s.devices) b.held) did.stays.1 did.standing.held in (
       replica_faults v (g.R.Rack.state c.args.rack.now) (g.R.Rack.state c.take.new.rack) past a b c.args.input.now c.args.out.now fits of.first of.origin halves.low halves.acceptor has is_now comes did.became
-          (g.R.Rack.tells c.args.rack.now) tells did.either (λ none. ap (λ r. g.R.Rack.state r) (did.ignores (λ m f brings takes. no_cell_takes a m none takes)).2) did.counts.sizes_are,
+          (g.R.Rack.tells c.args.rack.now) tells did.either (λ none. ap (λ r. g.R.Rack.state r) (did.ignores (λ m f brings takes. no_cell_takes a m none takes)).2) did.rack.sizes,
       refl,
     )
 

@@ -1,15 +1,17 @@
 use Rattle.std.proofs.lemmas.Bool.{false≢true}
 use Rattle.bx_facts.specs.Pasts.{register_crashed}
-use Rattle.std.proofs.Common.{◌≡◌, sym, ap, subst, ◌∙◌, arith}
+use Rattle.std.proofs.Common.{◌≡◌, Some, sym, ap, subst, ◌∙◌, arith}
 use Rattle.std.specs.Prelude.{IsSome, slice_set}
+use Rattle.bx_base.specs.declared.names.Actor.{Actor}
 use Rattle.bx_facts.specs.Disks.{NeedsNoMore}
 use Rattle.bx_facts.specs.Machines.{IsMachine, OnlyFactsAt}
 use Rattle.bx_rounds.specs.declared.course.Course.{Course}
-use Rattle.bx_paxos_machines.specs.Cluster.{Cluster, is_busy, knows, needs}
+use Rattle.bx_paxos_machines.specs.Cluster.{Cluster, OnlyMachine, is_busy, knows, needs}
 use Rattle.bx_paxos_machines.specs.Keeps.{Keeps}
-use Rattle.bx_paxos_machines.specs.Parts.{course_of}
+use Rattle.bx_paxos_machines.specs.Parts.{course_of, machine_at}
+use Rattle.bx_paxos_machines.proofs.Needs.{needs_down}
 use Rattle.bx_paxos_machines.proofs.Keeping.{needs_less, none_has}
-use Rattle.bx_paxos_machines.proofs.Steps.{busy_only, crash_keeps, is_out, is_part, known_stays, nobody_busy, nobody_keeps, not_out, stands_at, steps, with_machines, within}
+use Rattle.bx_paxos_machines.proofs.Steps.{busy_only, crash_keeps, is_out, is_part, known_stays, nobody_busy, nobody_keeps, nobody_needs, not_out, only_one, stands_at, steps, with_machines, within}
 use Rattle.bx_paxos_cluster.proofs.paxos.Paxos.crash.Goals as goal
 
 pub index_mut-requires : goal.index_mut-requires
@@ -107,3 +109,31 @@ returns-then-not-has-clause-idle c = λ busy.
     let g : Cluster = record { nodes = c.self.inside.nodes; made = c.self.inside.made; first = c.self.inside.first; origins = c.self.inside.origins; machines = c.self.inside.machines.items } in
     let nobody : IsMachine g.nodes c.args.who → ⊥ = λ there. false≢true (sym c.if-not-has.true ∙ c.has.ensures.1 (subst (λ (k : Cluster). IsMachine k.nodes c.args.who) c.self.view_is there)) in
     nobody_busy g c.args.who c.self.invariant nobody (subst (λ (k : Cluster). is_busy k c.args.who) (sym c.self.view_is) busy)
+
+pub returns-clause-only : goal.returns-clause-only
+returns-clause-only c =
+    let g : Cluster = record { nodes = c.self.inside.nodes; made = c.self.inside.made; first = c.self.inside.first; origins = c.self.inside.origins; machines = c.self.inside.machines.items } in
+    let there : IsMachine g.nodes c.args.who = subst (λ (k : Cluster). IsMachine k.nodes c.args.who) (sym c.self.view_is) (c.has.ensures.0 c.if-not-has.false) in
+    let m = c.index_mut.result.now in
+    let v = c.crash.new.self in
+    let did = c.crash.ensures in
+    let ms = slice_set g.machines c.place_of-place.result v in
+    let step = steps g c.args.who c.place_of-place.result m v c.self.invariant there c.place_of-place.ensures c.index_mut.ensures.value did.name did.part in
+    subst (λ (k : Cluster). OnlyMachine c.args.who k (with_machines g ms)) c.self.view_is (only_one g c.args.who m v ms step)
+
+pub returns-clause-down : goal.returns-clause-down
+returns-clause-down c = λ n named.
+    let g : Cluster = record { nodes = c.self.inside.nodes; made = c.self.inside.made; first = c.self.inside.first; origins = c.self.inside.origins; machines = c.self.inside.machines.items } in
+    let there : IsMachine g.nodes c.args.who = subst (λ (k : Cluster). IsMachine k.nodes c.args.who) (sym c.self.view_is) (c.has.ensures.0 c.if-not-has.false) in
+    let m = c.index_mut.result.now in
+    let v = c.crash.new.self in
+    let did = c.crash.ensures in
+    let ms = slice_set g.machines c.place_of-place.result v in
+    let step = steps g c.args.who c.place_of-place.result m v c.self.invariant there c.place_of-place.ensures c.index_mut.ensures.value did.name did.part in
+    needs_down (with_machines g ms) n v (subst (λ (a : Actor). machine_at ms a ≡ Some v) named step.here) did.down
+
+pub returns-then-not-has-clause-down : goal.returns-then-not-has-clause-down
+returns-then-not-has-clause-down c = λ n named.
+    let g : Cluster = record { nodes = c.self.inside.nodes; made = c.self.inside.made; first = c.self.inside.first; origins = c.self.inside.origins; machines = c.self.inside.machines.items } in
+    let nobody : IsMachine g.nodes c.args.who → ⊥ = λ there. false≢true (sym c.if-not-has.true ∙ c.has.ensures.1 (subst (λ (k : Cluster). IsMachine k.nodes c.args.who) c.self.view_is there)) in
+    subst (λ (k : Cluster). needs k n ≡ 0) c.self.view_is (nobody_needs g c.args.who n nobody named)

@@ -6,11 +6,11 @@ use Rattle.bx_facts.specs.Pasts.{found_register}
 use Rattle.bx_facts.specs.declared.input.OpenError.TheVariants.{NoMajority, Spent}
 use Rattle.bx_global.specs.declared.state.GlobalState.{GlobalState}
 use Rattle.bx_paxos.specs.Reading.{ReadsState}
-use Rattle.bx_paxos_found.specs.Finding.{AreAtTheEnd, IsGreatestBoot, LackMajority}
+use Rattle.bx_paxos_found.specs.Finding.{AreAtTheEnd, AreFollowed, IsGreatestBoot, LackMajority}
 use Rattle.bx_rounds.specs.declared.course.Course.{Course}
 use Rattle.bx_paxos_machines.specs.Cluster.{Cluster}
 use Rattle.bx_paxos_machines.specs.Keeps.{Keeps}
-use Rattle.bx_paxos_machines.proofs.Beginnings.{cluster_of, finds_keeping, idle_at, new_idle, not_busy}
+use Rattle.bx_paxos_machines.proofs.Beginnings.{cluster_of, finds_keeping, idle_at, new_idle, new_needs_none, not_busy}
 use Rattle.bx_paxos_cluster.proofs.Errors.{handed_on}
 use Rattle.bx_paxos_cluster.proofs.paxos.Paxos.open.Goals as goal
 
@@ -57,6 +57,11 @@ returns-clause-idle r c = λ who busy.
     let machines = c.in-Ok.machines.items in
     not_busy first machines who (new_idle first machines c.in-Ok.ensures.new) busy
 
+pub returns-clause-needs : goal.returns-clause-needs
+returns-clause-needs r c = λ disk.
+    let g : Cluster = record { nodes = c.self.inside.nodes; made = c.self.inside.made; first = c.in_ok-found.found.state; origins = c.in_ok-found.found.origins; machines = c.in-Ok.machines.items } in
+    new_needs_none g disk c.in-Ok.ensures.new
+
 pub returns-clause-index : goal.returns-clause-index
 returns-clause-index r c =
     let first = c.in_ok-found.found.state in
@@ -84,7 +89,7 @@ returns-in_err-found-clause-spent r c = λ boot tells is.
     let p = err_from_is_err_and c.from_residual.result c.from_residual.ensures.1 in
     let x = r.R.Rack.state c.args.rack.now in
     let devices = ap (λ (k : Cluster). length k.made.devices) (sym c.self.view_is) ∙ sym c.len-devices.ensures in
-    subst (λ (n : ℕ). IsGreatestBoot n x.sizes x.reads boot × (LackMajority n x.sizes x.reads → ⊥)) (sym devices) (c.in_err-found.ensures.spent boot tells (handed_on (Err c.in_err-found.field-0.0) c.from_residual.result c.in_err-found.field-0.0 (Spent boot) refl (p.1 ∙ ap Err p.2) is))
+    subst (λ (n : ℕ). IsGreatestBoot n x.sizes x.reads boot × AreFollowed n x.sizes x.reads) (sym devices) (c.in_err-found.ensures.spent boot tells (handed_on (Err c.in_err-found.field-0.0) c.from_residual.result c.in_err-found.field-0.0 (Spent boot) refl (p.1 ∙ ap Err p.2) is))
 
 pub returns-clause-greatest : goal.returns-clause-greatest
 returns-clause-greatest r c = λ tells.

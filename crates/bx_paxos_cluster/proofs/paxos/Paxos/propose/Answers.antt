@@ -1,4 +1,4 @@
-use Rattle.std.proofs.Common.{◌≡◌, sym, ap, subst, ◌∙◌, arith}
+use Rattle.std.proofs.Common.{◌≡◌, OnOk, sym, ap, subst, ◌∙◌, arith}
 use Rattle.std.specs.Prelude.{slice_set}
 use Rattle.std.proofs.lemmas.Result.{on_ok_weaker}
 use Rattle.bx_facts.specs.Disks.{NeedsNoMore}
@@ -6,12 +6,14 @@ use Rattle.bx_facts.specs.Machines.{IsMachine, OnlyFactsAt}
 use Rattle.bx_facts.specs.Pasts.{register_with}
 use Rattle.bx_global.specs.Table.{IsLegal}
 use Rattle.bx_global.specs.declared.state.GlobalState.{GlobalState}
-use Rattle.bx_paxos_machines.specs.Cluster.{Cluster, is_busy, knows, needs, voters_of}
+use Rattle.bx_paxos_machines.specs.Cluster.{Cluster, Moves, OnlyMachine, is_busy, knows, needs, voters_of}
 use Rattle.bx_paxos_machines.specs.Keeps.{Keeps}
-use Rattle.bx_paxos_machines.specs.Parts.{cell_held}
+use Rattle.bx_paxos_machines.specs.Parts.{acceptor_of, cell_held, proposer_of}
+use Rattle.bx_paxos_machines.specs.declared.machine.Machine.{Machine}
+use Rattle.bx_proposer.specs.Standing.{ProposesTo}
 use Rattle.bx_paxos_machines.proofs.Keeping.{needs_less}
 use Rattle.bx_paxos_machines.proofs.Others.{all_ok}
-use Rattle.bx_paxos_machines.proofs.Steps.{busy_is, busy_only, is_out, is_part, known_stays, knows_it, proposes_keeps, steps, with_machines, within}
+use Rattle.bx_paxos_machines.proofs.Steps.{busy_is, busy_only, is_out, is_part, known_stays, knows_it, moves, only_one, proposes_keeps, steps, with_machines, within}
 use Rattle.bx_paxos_machines.proofs.Voting.{part_of, turned_part}
 use Rattle.bx_paxos_cluster.proofs.paxos.Paxos.propose.Goals as goal
 
@@ -122,3 +124,27 @@ returns-clause-needs c =
     let step = steps g c.args.who c.place_of-place.result m v c.self.invariant there c.place_of-place.ensures c.index_mut.ensures.value did.name did.part in
     subst (λ (k : Cluster). NeedsNoMore (needs k) (needs (with_machines g ms))) c.self.view_is
     (needs_less g ms c.args.who m v step.at step.here step.beside (λ none. ap cell_held did.acceptor ∙ none))
+
+pub returns-clause-only : goal.returns-clause-only
+returns-clause-only c =
+    let g : Cluster = record { nodes = c.self.inside.nodes; made = c.self.inside.made; first = c.self.inside.first; origins = c.self.inside.origins; machines = c.self.inside.machines.items } in
+    let there : IsMachine g.nodes c.args.who = subst (λ (k : Cluster). IsMachine k.nodes c.args.who) (sym c.self.view_is) c.requires.there in
+    let m = c.index_mut.result.now in
+    let v = c.propose.new.self in
+    let did = c.propose.ensures in
+    let ms = slice_set g.machines c.place_of-place.result v in
+    let step = steps g c.args.who c.place_of-place.result m v c.self.invariant there c.place_of-place.ensures c.index_mut.ensures.value did.name did.part in
+    subst (λ (k : Cluster). OnlyMachine c.args.who k (with_machines g ms)) c.self.view_is (only_one g c.args.who m v ms step)
+
+pub returns-clause-proposes : goal.returns-clause-proposes
+returns-clause-proposes c =
+    let g : Cluster = record { nodes = c.self.inside.nodes; made = c.self.inside.made; first = c.self.inside.first; origins = c.self.inside.origins; machines = c.self.inside.machines.items } in
+    let there : IsMachine g.nodes c.args.who = subst (λ (k : Cluster). IsMachine k.nodes c.args.who) (sym c.self.view_is) c.requires.there in
+    let m = c.index_mut.result.now in
+    let v = c.propose.new.self in
+    let did = c.propose.ensures in
+    let ms = slice_set g.machines c.place_of-place.result v in
+    let step = steps g c.args.who c.place_of-place.result m v c.self.invariant there c.place_of-place.ensures c.index_mut.ensures.value did.name did.part in
+    let Goes : Machine → Machine → Type 0 = λ m new. ProposesTo (proposer_of m) c.args.change.now (proposer_of new) c.args.out.now c.propose.new.out × (acceptor_of new ≡ acceptor_of m) in
+    subst (λ (k : Cluster). OnOk c.propose.result (Moves c.args.who Goes k (with_machines g ms))) c.self.view_is
+    (on_ok_weaker c.propose.result (λ does. moves g c.args.who m v ms Goes step (does, did.acceptor)) did.proposes)

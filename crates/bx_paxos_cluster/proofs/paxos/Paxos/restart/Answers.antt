@@ -1,6 +1,7 @@
-use Rattle.std.proofs.Common.{◌<◌, OnOk, sym, subst, arith}
+use Rattle.std.proofs.Common.{◌<◌, IfSome, OnOk, sym, subst, arith}
 use Rattle.std.specs.Prelude.{slice_set}
 use Rattle.std.proofs.lemmas.Result.{on_ok_weaker}
+use Rattle.bx_acceptor.specs.Starting.{StartsWith}
 use Rattle.bx_base.specs.declared.names.Actor.{Actor}
 use Rattle.bx_calls.specs.Calls.{LeavesOnly}
 use Rattle.bx_facts.specs.Chains.{IsNext, last}
@@ -9,13 +10,14 @@ use Rattle.bx_facts.specs.Machines.{IsMachine, OnlyAt, OnlyFactsAt}
 use Rattle.bx_facts.specs.Pasts.{register_failed, register_restarted, register_with}
 use Rattle.bx_paxos.specs.Fits.{Fits, Turned, going}
 use Rattle.bx_paxos.specs.Reading.{ReadsState}
-use Rattle.bx_paxos_machines.specs.Cluster.{Cluster, is_busy, knows, needs, voters_of}
+use Rattle.bx_paxos_machines.specs.Cluster.{Cluster, Moves, OnlyMachine, is_busy, knows, needs, voters_of}
 use Rattle.bx_paxos_machines.specs.Keeps.{Keeps}
-use Rattle.bx_paxos_machines.specs.Parts.{course_of, proposer_of}
+use Rattle.bx_paxos_machines.specs.Parts.{KnowsNoLess, MachineStarts, acceptor_of, course_of, proposer_of}
+use Rattle.bx_paxos_machines.specs.declared.machine.Machine.{Machine}
 use Rattle.bx_paxos_machines.proofs.Keeping.{disk_for, needs_own}
 use Rattle.bx_paxos_machines.proofs.Others.{all_ok}
 use Rattle.bx_paxos_machines.proofs.Places.{name_at}
-use Rattle.bx_paxos_machines.proofs.Steps.{busy_only, is_out, is_part, known_only, stands_at, start_fails, starts_keeps, steps, with_machines, within}
+use Rattle.bx_paxos_machines.proofs.Steps.{busy_only, is_out, is_part, known_only, moves, only_one, stands_at, start_fails, starts_keeps, steps, with_machines, within}
 use Rattle.bx_paxos_machines.proofs.Telling.{moments_made}
 use Rattle.bx_paxos_machines.proofs.Voting.{part_of, turned_part}
 use Rattle.bx_paxos_cluster.proofs.paxos.Paxos.restart.Goals as goal
@@ -154,3 +156,41 @@ returns-clause-disks r c = λ tells.
     let ms = slice_set g.machines c.place_of-place.result v in
     let step = steps g c.args.who c.place_of-place.result m v c.self.invariant there c.place_of-place.ensures c.index_mut.ensures.value did.name did.part in
     subst (λ (a : Actor). OnlyDiskOf a (r.R.Rack.state c.args.rack.now) (r.R.Rack.state c.restart.new.rack)) (name_at g.machines c.args.who m step.at) (did.disks tells)
+
+pub returns-clause-only : goal.returns-clause-only
+returns-clause-only r c =
+    let g : Cluster = record { nodes = c.self.inside.nodes; made = c.self.inside.made; first = c.self.inside.first; origins = c.self.inside.origins; machines = c.self.inside.machines.items } in
+    let there : IsMachine g.nodes c.args.who = subst (λ (k : Cluster). IsMachine k.nodes c.args.who) (sym c.self.view_is) c.requires.there in
+    let m = c.index_mut.result.now in
+    let v = c.restart.new.self in
+    let did = c.restart.ensures in
+    let ms = slice_set g.machines c.place_of-place.result v in
+    let step = steps g c.args.who c.place_of-place.result m v c.self.invariant there c.place_of-place.ensures c.index_mut.ensures.value did.name did.part in
+    subst (λ (k : Cluster). OnlyMachine c.args.who k (with_machines g ms)) c.self.view_is (only_one g c.args.who m v ms step)
+
+pub returns-clause-restarts : goal.returns-clause-restarts
+returns-clause-restarts r c =
+    let g : Cluster = record { nodes = c.self.inside.nodes; made = c.self.inside.made; first = c.self.inside.first; origins = c.self.inside.origins; machines = c.self.inside.machines.items } in
+    let there : IsMachine g.nodes c.args.who = subst (λ (k : Cluster). IsMachine k.nodes c.args.who) (sym c.self.view_is) c.requires.there in
+    let m = c.index_mut.result.now in
+    let v = c.restart.new.self in
+    let did = c.restart.ensures in
+    let ms = slice_set g.machines c.place_of-place.result v in
+    let step = steps g c.args.who c.place_of-place.result m v c.self.invariant there c.place_of-place.ensures c.index_mut.ensures.value did.name did.part in
+    let Goes : Machine → Machine → Type 0 = λ m new. MachineStarts m c.args.boot new c.args.out.now c.restart.new.out × KnowsNoLess new in
+    subst (λ (k : Cluster). OnOk c.restart.result (Moves c.args.who Goes k (with_machines g ms))) c.self.view_is
+    (all_ok c.restart.result _ _ _ _ did.restarts did.knows_all did.knows_all (λ does knows again. moves g c.args.who m v ms Goes step (does, knows)))
+
+pub returns-clause-starts : goal.returns-clause-starts
+returns-clause-starts r c = λ tells.
+    let g : Cluster = record { nodes = c.self.inside.nodes; made = c.self.inside.made; first = c.self.inside.first; origins = c.self.inside.origins; machines = c.self.inside.machines.items } in
+    let there : IsMachine g.nodes c.args.who = subst (λ (k : Cluster). IsMachine k.nodes c.args.who) (sym c.self.view_is) c.requires.there in
+    let m = c.index_mut.result.now in
+    let v = c.restart.new.self in
+    let did = c.restart.ensures in
+    let ms = slice_set g.machines c.place_of-place.result v in
+    let step = steps g c.args.who c.place_of-place.result m v c.self.invariant there c.place_of-place.ensures c.index_mut.ensures.value did.name did.part in
+    let x = r.R.Rack.state c.args.rack.now in
+    let Goes : Machine → Machine → Type 0 = λ _ new. IfSome (acceptor_of new) (λ a. StartsWith a.replica a.first a.origin (x.reads a.replica) a.held a.cell) in
+    subst (λ (k : Cluster). OnOk c.restart.result (Moves c.args.who Goes k (with_machines g ms))) c.self.view_is
+    (on_ok_weaker c.restart.result (λ starts. moves g c.args.who m v ms Goes step starts) (did.starts tells))

@@ -9,12 +9,14 @@ use Rattle.bx_facts.specs.Machines.{IsMachine, OnlyAt, OnlyFactsAt}
 use Rattle.bx_facts.specs.Pasts.{register_with}
 use Rattle.bx_global.specs.declared.state.GlobalState.{GlobalState}
 use Rattle.bx_paxos.specs.Reading.{ReadsState}
-use Rattle.bx_paxos_machines.specs.Cluster.{Cluster, is_busy, knows, needs, voters_of}
+use Rattle.bx_paxos_machines.specs.Cluster.{Cluster, Moves, OnlyMachine, is_busy, knows, needs, voters_of}
 use Rattle.bx_paxos_machines.specs.Keeps.{Keeps}
+use Rattle.bx_paxos_machines.specs.Parts.{KnowsNoLess, MachineTakes}
+use Rattle.bx_paxos_machines.specs.declared.machine.Machine.{Machine}
 use Rattle.bx_paxos_machines.proofs.Keeping.{needs_less, room_for}
 use Rattle.bx_paxos_machines.proofs.Others.{all_ok}
 use Rattle.bx_paxos_machines.proofs.Places.{name_at}
-use Rattle.bx_paxos_machines.proofs.Steps.{busy_is, busy_only, faults_keep, is_out, is_part, known_only, known_rises, knows_it, stands_at, steps, takes_keeps, with_machines, within}
+use Rattle.bx_paxos_machines.proofs.Steps.{busy_is, busy_only, faults_keep, is_out, is_part, known_only, known_rises, knows_it, moves, only_one, stands_at, steps, takes_keeps, with_machines, within}
 use Rattle.bx_paxos_machines.proofs.Telling.{moments_made}
 use Rattle.bx_paxos_machines.proofs.Voting.{part_of, turned_part}
 use Rattle.bx_paxos_cluster.proofs.paxos.Paxos.take.Goals as goal
@@ -178,3 +180,27 @@ returns-clause-disks r c = λ tells.
     let ms = slice_set g.machines c.place_of-place.result v in
     let step = steps g c.args.at c.place_of-place.result m v c.self.invariant there c.place_of-place.ensures c.index_mut.ensures.value did.name did.part in
     subst (λ (a : Actor). OnlyDiskOf a (r.R.Rack.state c.args.rack.now) (r.R.Rack.state c.take.new.rack)) (name_at g.machines c.args.at m step.at) (did.disks tells)
+
+pub returns-clause-only : goal.returns-clause-only
+returns-clause-only r c =
+    let g : Cluster = record { nodes = c.self.inside.nodes; made = c.self.inside.made; first = c.self.inside.first; origins = c.self.inside.origins; machines = c.self.inside.machines.items } in
+    let there : IsMachine g.nodes c.args.at = subst (λ (k : Cluster). IsMachine k.nodes c.args.at) (sym c.self.view_is) c.requires.there in
+    let m = c.index_mut.result.now in
+    let v = c.take.new.self in
+    let did = c.take.ensures in
+    let ms = slice_set g.machines c.place_of-place.result v in
+    let step = steps g c.args.at c.place_of-place.result m v c.self.invariant there c.place_of-place.ensures c.index_mut.ensures.value did.name did.part in
+    subst (λ (k : Cluster). OnlyMachine c.args.at k (with_machines g ms)) c.self.view_is (only_one g c.args.at m v ms step)
+
+pub returns-clause-steps : goal.returns-clause-steps
+returns-clause-steps r c =
+    let g : Cluster = record { nodes = c.self.inside.nodes; made = c.self.inside.made; first = c.self.inside.first; origins = c.self.inside.origins; machines = c.self.inside.machines.items } in
+    let there : IsMachine g.nodes c.args.at = subst (λ (k : Cluster). IsMachine k.nodes c.args.at) (sym c.self.view_is) c.requires.there in
+    let m = c.index_mut.result.now in
+    let v = c.take.new.self in
+    let did = c.take.ensures in
+    let ms = slice_set g.machines c.place_of-place.result v in
+    let step = steps g c.args.at c.place_of-place.result m v c.self.invariant there c.place_of-place.ensures c.index_mut.ensures.value did.name did.part in
+    let Goes : Machine → Machine → Type 0 = λ m new. MachineTakes m c.args.input.now new c.args.out.now c.take.new.out (c.take.new.rack ≡ c.args.rack.now) × KnowsNoLess new in
+    subst (λ (k : Cluster). OnOk c.take.result (Moves c.args.at Goes k (with_machines g ms))) c.self.view_is
+    (all_ok c.take.result _ _ _ _ did.steps did.knows_all did.knows_all (λ does knows again. moves g c.args.at m v ms Goes step (does, knows)))

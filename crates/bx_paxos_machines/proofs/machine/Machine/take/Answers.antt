@@ -54,7 +54,7 @@ returns-in_ok-take-in-Other-clause-sent g c = proposer_sends c.in-Other.proposer
 pub returns-in-Replica-clause-keeps : goal.returns-in-Replica-clause-keeps
 returns-in-Replica-clause-keeps g c = λ v past courses tells of has place comes fits.
     let rack = c.args.rack.now in
-    subst (λ (m : Machine). OnOk c.take.result (Turned (proposer_of m).actor c.take.new.self.proposer.course v.courses courses → Decides (Fits (going v courses) (g.R.Rack.state c.take.new.rack)) (register_with past c.take.new.out))) (sym c.in-Replica.is)
+    subst (λ (m : Machine). OnOk c.take.result (Turned (proposer_of m).actor c.take.new.self.proposer.course v.courses courses → Decides (Fits (going v courses) (g.R.Rack.state c.take.new.rack)) c.take.new.self.proposer.course.known (register_with past c.take.new.out))) (sym c.in-Replica.is)
     (c.take.ensures.keeps v past courses tells (subst (IsOf v) c.in-Replica.is of) (subst (λ (m : Machine). HasCells m (g.R.Rack.state rack)) c.in-Replica.is has) (subst (KnowsPlace past.chain) c.in-Replica.is place) comes fits)
 
 pub returns-in-Replica-clause-keeps_faulted : goal.returns-in-Replica-clause-keeps_faulted

@@ -6,7 +6,9 @@ use Rattle.bx_plain.specs.Rows.{hold_in, floor_in}
 use Rattle.bx_plain.proofs.Stands.{want_stands, want_keeps, want_floors}
 use Rattle.std.specs.Prelude.{IsSomeAnd}
 use Rattle.bx_plain.specs.Asks.{AlikeBut}
-use Rattle.bx_plain.specs.Rows.{want_in}
+use Rattle.bx_plain.specs.Grants.{IsAlike, IsAnswered}
+use Rattle.bx_plain.specs.Rows.{AllLet, want_in}
+use Rattle.bx_plain.proofs.Granting.{alike_beside, answered, lets_put}
 use Rattle.bx_plain.proofs.Wants.{alike_its, asked_or_granted, its_block, its_session, put_beside}
 use Rattle.bx_plain.proofs.owners.PlainOwners.ask.Goals as goal
 
@@ -40,3 +42,18 @@ pub returns-clause-alike : goal.returns-clause-alike
 returns-clause-alike c =
     subst (λ (rows : List Row). AlikeBut c.args.block c.args.self.now.rows rows) (sym c.in_ok-put.ensures)
     (alike_its c.args.self.now.rows c.args.session c.args.block c.row_of-row.result c.row_of-row.ensures _ refl)
+
+pub returns-clause-answered : goal.returns-clause-answered
+returns-clause-answered c =
+    subst (λ (rows : List Row). IsAnswered c.args.session c.args.block c.args.mode c.args.self.now.rows rows) (sym c.in_ok-put.ensures)
+    (answered c.args.self.now.rows c.args.session c.args.block c.floor_of-index.result c.args.mode c.row_of-row.result c.is_free-free.result c.row_of-row.ensures c.floor_of-index.ensures c.is_free-free.ensures.0 c.is_free-free.ensures.1)
+
+pub returns-clause-others : goal.returns-clause-others
+returns-clause-others c = λ other at apart.
+    subst (λ (rows : List Row). IsAlike c.args.self.now.rows rows other at) (sym c.in_ok-put.ensures)
+    (alike_beside c.args.self.now.rows c.args.session c.args.block c.row_of-row.result c.row_of-row.ensures _ refl refl other at apart)
+
+pub returns-clause-lets : goal.returns-clause-lets
+returns-clause-lets c = λ other lets.
+    lets_put c.args.self.now.rows _ c.args.session c.args.block other (inr (its_session c.args.self.now.rows c.args.session c.args.block c.row_of-row.result c.row_of-row.ensures))
+    (subst (λ (rows : List Row). AllLet c.args.session c.args.block other rows) c.in_ok-put.ensures lets)

@@ -6,7 +6,9 @@ use Rattle.bx_plain.specs.Rows.{hold_in, floor_in}
 use Rattle.bx_plain.proofs.Stands.{grant_stands, grant_keeps, grant_floors}
 use Rattle.bx_plain.specs.Asks.{AlikeBut}
 use Rattle.bx_plain.specs.Rows.{want_in}
+use Rattle.bx_plain.specs.Grants.{IsLeft, Passes}
 use Rattle.bx_plain.proofs.Asking.{alike_self}
+use Rattle.bx_plain.proofs.Granting.{grant_none_left, grant_passes, none_free, none_wanted, passes_none}
 use Rattle.bx_plain.proofs.Wants.{alike_its, left_alone, wants_go, was_true}
 use Rattle.bx_plain.proofs.owners.PlainOwners.grant.Goals as goal
 
@@ -45,3 +47,25 @@ pub returns-clause-alike : goal.returns-clause-alike
 returns-clause-alike c =
     subst (λ (rows : List Row). AlikeBut c.args.block c.args.self.now.rows rows) (sym c.in_ok-put.ensures)
     (alike_its c.args.self.now.rows c.args.session c.args.block c.row_of-row.result c.row_of-row.ensures _ refl)
+
+pub returns-then-not-row-clause-passes : goal.returns-then-not-row-clause-passes
+returns-then-not-row-clause-passes c = passes_none c.args.block c.args.self.now.rows
+
+pub returns-then-not-row-clause-none_left : goal.returns-then-not-row-clause-none_left
+returns-then-not-row-clause-none_left c = none_wanted c.args.self.now.rows c.args.session c.args.block c.row_of-row.result c.row_of-row.ensures c.if-not-row.true
+
+pub returns-then-not-is_free-clause-passes : goal.returns-then-not-is_free-clause-passes
+returns-then-not-is_free-clause-passes c = passes_none c.args.block c.args.self.now.rows
+
+pub returns-then-not-is_free-clause-none_left : goal.returns-then-not-is_free-clause-none_left
+returns-then-not-is_free-clause-none_left c = none_free c.args.self.now.rows c.args.session c.args.block c.row_of-row.result c.row_of-row.ensures c.if-not-row.false (λ lets. let h = c.if-not-is_free.ensures.1 lets in absurd cc)
+
+pub returns-clause-passes : goal.returns-clause-passes
+returns-clause-passes c =
+    subst (λ (rows : List Row). Passes c.args.block c.args.self.now.rows rows) (sym c.in_ok-put.ensures)
+    (grant_passes c.args.self.now.rows c.args.session c.args.block c.floor_of-index.result c.row_of-row.result c.row_of-row.ensures (c.if-not-is_free.ensures.0 refl) c.if-row.false c.floor_of-index.ensures (was_true c.row_of-row.result.is_wanted c.if-not-row.false))
+
+pub returns-clause-none_left : goal.returns-clause-none_left
+returns-clause-none_left c = λ left.
+    grant_none_left c.args.self.now.rows c.args.session c.args.block c.floor_of-index.result c.row_of-row.result c.row_of-row.ensures (c.if-not-is_free.ensures.0 refl) c.if-row.false c.floor_of-index.ensures (was_true c.row_of-row.result.is_wanted c.if-not-row.false)
+    (subst (λ (rows : List Row). IsLeft rows c.args.session c.args.block) c.in_ok-put.ensures left)

@@ -1,12 +1,13 @@
-use Rattle.std.proofs.Common.{◌≡◌, ◌⊎◌, inl, inr, ⊎_elim, ◌∙◌, Option, None, refl}
+use Rattle.std.proofs.Common.{◌≡◌, ◌⊎◌, inl, inr, ⊎_elim, ◌∙◌, Option, None, refl, arith}
 use Rattle.bx_base.specs.declared.names.Mode.{Mode}
 use Rattle.bx_plain.specs.Rows.{hold_in, want_in}
 use Rattle.bx_plain.proofs.Asking.{alike_self, alike_then}
+use Rattle.bx_plain.proofs.Granting.{all_places, none_yet, one_more, passes_none, passes_then}
 use Rattle.bx_plain.proofs.Stands.{keeps_none, keeps_then}
 use Rattle.bx_plain.proofs.owners.PlainOwners.grant_waiting.Goals as goal
 
 pub loop-place-init : goal.loop-place-init
-loop-place-init c = ((λ stand. stand), keeps_none (hold_in c.args.self.now.rows), (λ at. refl), (λ other at. inr refl), (λ other none. (none, refl)), alike_self c.args.block c.args.self.now.rows, refl)
+loop-place-init c = ((λ stand. stand), keeps_none (hold_in c.args.self.now.rows), (λ at. refl), (λ other at. inr refl), (λ other none. (none, refl)), alike_self c.args.block c.args.self.now.rows, refl, passes_none c.args.block c.args.self.now.rows, none_yet c.args.block c.args.self.now.rows c.args.self.now.rows)
 
 then_wants : (a b c : Option Mode) → (b ≡ None) ⊎ (b ≡ a) → (c ≡ None) ⊎ (c ≡ b) → (c ≡ None) ⊎ (c ≡ a)
 then_wants a b c one two = ⊎_elim (λ none. inl none) (λ same. ⊎_elim (λ none. inl (same ∙ none)) (λ as_before. inr (same ∙ as_before)) one) two
@@ -20,4 +21,11 @@ loop-place-preserved c = (
   (λ other none. let before = c.loop-place.invariant.4 other none in let after = c.in_ok-grant.ensures.quiet other before.0 in (after.0, after.1 ∙ before.1)),
   alike_then c.args.block c.args.self.now.rows c.loop-place.self.rows c.grant.new.self.rows c.loop-place.invariant.5 c.in_ok-grant.ensures.alike,
   c.grant.ensures.nodes ∙ c.loop-place.invariant.6,
+  passes_then c.args.block c.args.self.now.rows c.loop-place.self.rows c.grant.new.self.rows c.loop-place.invariant.7 c.in_ok-grant.ensures.passes,
+  one_more c.args.block c.args.self.now.rows c.loop-place.self.rows c.grant.new.self.rows c.loop-place.place c.session_at-session.result c.loop-place.invariant.8 c.loop-place.invariant.5 (omega (arith, c.loop-place-test.true, c.len-place-end.ensures)) c.session_at-session.ensures
+    c.in_ok-grant.ensures.passes c.in_ok-grant.ensures.none_left,
 )
+
+pub returns-clause-none_left : goal.returns-clause-none_left
+returns-clause-none_left c = λ other left.
+    all_places c.args.block c.args.self.now.rows c.loop-place.self.rows c.loop-place.place other c.loop-place.invariant.8 (omega (arith, c.loop-place-test.false, c.len-place-end.ensures)) c.loop-place.invariant.7 left

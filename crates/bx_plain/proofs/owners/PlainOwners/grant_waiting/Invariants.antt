@@ -2,6 +2,7 @@ use Rattle.std.proofs.Common.{◌≡◌, ◌⊎◌, ℕ, None}
 use Rattle.bx_facts.specs.Holds.{KeepsHolds}
 use Rattle.bx_plain.specs.Asks.{AlikeBut}
 use Rattle.bx_plain.specs.Fits.{RowsStand}
+use Rattle.bx_plain.specs.Grants.{NoneLeft, Passes}
 use Rattle.bx_plain.specs.Rows.{floor_in, hold_in, want_in}
 use Rattle.bx_plain.proofs.owners.PlainOwners.grant_waiting.Given as goal
 
@@ -12,3 +13,5 @@ invariant-loop-place l =
     × ((other : ℕ) → want_in l.fn.self.rows other l.block ≡ None → (want_in l.self.rows other l.block ≡ None) × (hold_in l.self.rows other l.block ≡ hold_in l.fn.self.rows other l.block))
     × AlikeBut l.block l.fn.self.rows l.self.rows
     × (l.self.nodes ≡ l.fn.self.nodes)
+    × Passes l.block l.fn.self.rows l.self.rows
+    × NoneLeft l.block l.fn.self.rows l.self.rows l.place

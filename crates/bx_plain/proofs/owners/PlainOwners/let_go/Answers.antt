@@ -6,7 +6,9 @@ use Rattle.bx_plain.specs.Fits.{RowsStand}
 use Rattle.bx_plain.specs.Rows.{hold_in, floor_in}
 use Rattle.bx_plain.proofs.Stands.{is_held_row, mode_of_hold, go_stands, go_keeps, go_rises, go_has}
 use Rattle.bx_plain.specs.Asks.{AlikeBut}
+use Rattle.bx_plain.specs.Grants.{IsAlike}
 use Rattle.bx_plain.specs.Rows.{want_in}
+use Rattle.bx_plain.proofs.Granting.{alike_beside}
 use Rattle.bx_plain.proofs.Wants.{alike_its, hold_of_new, want_of_new, wants_go}
 use Rattle.bx_plain.proofs.owners.PlainOwners.let_go.Goals as goal
 
@@ -55,3 +57,8 @@ pub returns-clause-alike : goal.returns-clause-alike
 returns-clause-alike c =
     subst (λ (rows : List Row). AlikeBut c.args.block c.args.self.now.rows rows) (sym c.in_ok-put.ensures)
     (alike_its c.args.self.now.rows c.args.session c.args.block c.row_of-row.result c.row_of-row.ensures _ refl)
+
+pub returns-clause-others : goal.returns-clause-others
+returns-clause-others c = λ other at apart.
+    subst (λ (rows : List Row). IsAlike c.args.self.now.rows rows other at) (sym c.in_ok-put.ensures)
+    (alike_beside c.args.self.now.rows c.args.session c.args.block c.row_of-row.result c.row_of-row.ensures _ refl refl other at apart)

@@ -3,9 +3,11 @@ use Rattle.bx_base.specs.declared.names.Mode.TheVariants.{Exclusive}
 use Rattle.bx_facts.specs.Holds.{Holding, KeepsOthers, given, hold_of, owners_with, without_block}
 use Rattle.bx_plain.specs.Asks.{asks_of}
 use Rattle.bx_plain.specs.Fits.{Fits, own_in}
+use Rattle.bx_plain.specs.Grants.{Grants, IsGone}
 use Rattle.bx_plain.specs.Laws.{own_is}
 use Rattle.bx_plain.specs.Rows.{floor_in, hold_in}
 use Rattle.bx_plain.proofs.Asking.{alike_then}
+use Rattle.bx_plain.proofs.Granting.{gone_then, grants}
 use Rattle.bx_plain.proofs.Keeping.{asks_given, fits_given}
 use Rattle.bx_plain.proofs.Stands.{others_then}
 use Rattle.bx_plain.proofs.owners.PlainOwnersOwners.give_up.Goals as goal
@@ -42,3 +44,14 @@ returns-clause-asks c =
     let P : ℕ → Type 0 = λ n. asks_of (own_in n c.args.node) c.grant_waiting.new.self.rows n ≡ without_block c.args.block (asks_of (own_in c.args.self.now.nodes c.args.node) c.args.self.now.rows c.args.self.now.nodes) in
     subst P (sym (c.grant_waiting.ensures.nodes ∙ c.let_go.ensures.nodes))
     (asks_given (own_in c.args.self.now.nodes c.args.node) rows new c.args.block c.args.self.now.nodes alike none)
+
+pub returns-clause-passes_on : goal.returns-clause-passes_on
+returns-clause-passes_on c =
+    let rows = c.args.self.now.rows in
+    let new = c.grant_waiting.new.self.rows in
+    let same : c.from.result + 1 ≡ c.args.node + 1 = omega (arith, c.from.ensures) in
+    let all = grants (c.from.result + 1) c.args.block rows c.let_go.new.self.rows new c.in_ok-let_go.ensures.others c.in_ok-grant_waiting.ensures.passes c.in_ok-grant_waiting.ensures.none_left in
+    let gone = gone_then (c.from.result + 1) c.args.block rows c.let_go.new.self.rows new c.in_ok-let_go.ensures.others c.in_ok-grant_waiting.ensures.passes c.in_ok-grant_waiting.ensures.none_left c.in_ok-let_go.ensures.here in
+    let G : ℕ → Type 0 = λ n. Grants n c.args.block c.args.self.now.rows c.grant_waiting.new.self.rows in
+    let I : ℕ → Type 0 = λ n. IsGone c.grant_waiting.new.self.rows n c.args.block in
+    (subst G same all, subst I same gone)

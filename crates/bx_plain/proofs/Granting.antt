@@ -1,0 +1,252 @@
+-- Wants that are granted, and wants that wait.
+use Rattle.std.proofs.Common.{◌≡◌, ◌≢◌, ◌⊎◌, inl, inr, ⊎_elim, ℕ, zero, suc, ◌+◌, ◌<◌, ◌≤◌, Bool, true, false, List, [], ◌∷◌, length, Option, Some, None, refl, sym, ◌∙◌, ap, subst, arith}
+use Rattle.std.specs.Prelude.{IfSome, IsSome, IsSomeAnd, if◌then◌else◌, nat_lt, not, ◌||◌}
+use Rattle.bx_base.specs.declared.names.Mode.{Mode}
+use Rattle.bx_facts.specs.Holds.{Hold, hold_of}
+use Rattle.bx_plain.specs.declared.rows.Row.{Row}
+use Rattle.bx_plain.specs.Asks.{AlikeBut}
+use Rattle.bx_plain.specs.Fits.{own_in}
+use Rattle.bx_plain.specs.Grants.{Grants, IsAlike, IsAnswered, IsGone, IsGranted, IsLeft, NoneLeft, Passes, session_in}
+use Rattle.bx_plain.specs.Rows.{AllLet, Lets, floor_in, hold_in, is_row, row_in, want_in, want_of_row, with_row}
+use Rattle.bx_plain.proofs.Puts.{held_beside, not_row, row_is}
+use Rattle.bx_plain.proofs.Stands.{asked, decide, grant_floors, granted}
+use Rattle.bx_plain.proofs.Wants.{held_as, hold_of_new, its_block, its_session, not_held, not_wanted, want_beside, want_of_new, wanted_as, was_true}
+
+-- ---- what others hold
+
+-- where a row is put in the place of one that held nothing, or of the session itself, what lets a session hold a block let it before
+pub lets_put : (rows : List Row) (new : Row) (session block : ℕ) (mode : Mode) → ((row_in rows new.session new.block).is_held ≡ false) ⊎ (new.session ≡ session) → AllLet session block mode (with_row rows new) → AllLet session block mode rows
+lets_put [] new session block mode free lets = tt
+lets_put (row ∷ rows) new session block mode free lets = (elim (is_row new.session new.block row) as (λ b. is_row new.session new.block row ≡ b → AllLet session block mode (row ∷ rows)) [
+  | true ↦ λ t. (
+    ⊎_elim (λ none. inl (let h = rw t at none in h)) (λ own. inr (inl ((row_is new.session new.block row t).0 ∙ own))) free,
+    (let h = rw t at lets in h).1,
+  )
+  | false ↦ λ t. let h = rw t at lets in let f = rw t at free in (h.0, lets_put rows new session block mode f h.1)
+]) refl
+
+-- ---- a want is granted
+
+module _ (rows : List Row) (session block index : ℕ) (row : Row) (its : row ≡ row_in rows session block) (free : AllLet session block row.mode rows) (unheld : row.is_held ≡ false) (is : index ≡ floor_in rows block) (wanted : row.is_wanted ≡ true) where
+  put : Row
+  put = granted rows session block index row its free unheld is
+
+  new : List Row
+  new = with_row rows put
+
+  key : (put.session ≡ session) × (put.block ≡ block)
+  key = (its_session rows session block row its, its_block rows session block row its)
+
+  its_unheld : (row_in rows put.session put.block).is_held ≡ false
+  its_unheld =
+      let P : ℕ → Type 0 = λ n. (row_in rows n put.block).is_held ≡ false in
+      let Q : ℕ → Type 0 = λ n. (row_in rows session n).is_held ≡ false in
+      subst P (sym key.0) (subst Q (sym key.1) (ap (λ (r : Row). r.is_held) (sym its) ∙ unheld))
+
+  here : IsGranted rows new session block
+  here = record {
+    mode = row.mode;
+    wanted = sym (wanted_as rows session block row its wanted);
+    not_held = not_held rows session block row its unheld;
+    held = hold_of_new rows session block row its put refl refl ∙ ap (λ (n : ℕ). Some (row.mode, n)) (is ∙ sym (grant_floors rows session block index row its free unheld is block));
+    over = want_of_new rows session block row its put refl refl;
+  }
+
+  pub grant_passes : Passes block rows new
+  grant_passes = record {
+    each = λ other at. by_row other at (is_row other at put) refl;
+    floors = grant_floors rows session block index row its free unheld is;
+    fewer = λ other mode. lets_put rows put other block mode (inl its_unheld);
+    free = λ other mode want none. of_free other mode want none (is_row other block put) refl;
+  }
+    where
+      by_row : (other at : ℕ) (t : Bool) → is_row other at put ≡ t → IsAlike rows new other at ⊎ ((at ≡ block) × IsGranted rows new other at)
+      by_row other at true same =
+          let keys = row_is other at put same in
+          let session_is : session ≡ other = sym key.0 ∙ keys.0 in
+          let block_is : block ≡ at = sym key.1 ∙ keys.1 in
+          let P : ℕ → Type 0 = λ n. IsGranted rows new n at in
+          let Q : ℕ → Type 0 = λ n. IsGranted rows new session n in
+          inr (sym block_is, subst P session_is (subst Q block_is here))
+      by_row other at false apart = inl (record { hold = held_beside rows put other at apart; want = want_beside rows put other at apart })
+
+      of_free : (other : ℕ) (mode : Mode) → want_in rows other block ≡ Some mode → want_in new other block ≡ None → (t : Bool) → is_row other block put ≡ t → AllLet other block mode rows
+      of_free other mode want none true same =
+          let session_is : session ≡ other = sym key.0 ∙ (row_is other block put same).0 in
+          let W : ℕ → Type 0 = λ n. want_in rows n block ≡ Some mode in
+          let mode_is : row.mode ≡ mode = (let h = wanted_as rows session block row its wanted ∙ subst W (sym session_is) want in cc) in
+          let P : ℕ → Type 0 = λ n. AllLet n block mode rows in
+          subst P session_is (subst (λ (m : Mode). AllLet session block m rows) mode_is free)
+      of_free other mode want none false apart = absurd (let h = sym want ∙ sym (want_beside rows put other block apart) ∙ none in cc)
+
+  pub grant_none_left : IsLeft new session block → ⊥
+  grant_none_left left = let h = sym here.over ∙ left.wanted in absurd cc
+
+-- a want that isn't one, or that isn't free, isn't left
+pub none_wanted : (rows : List Row) (session block : ℕ) (row : Row) → row ≡ row_in rows session block → (not row.is_wanted || row.is_held) ≡ true → IsLeft rows session block → ⊥
+none_wanted rows session block row its is left = by_test row.is_wanted refl row.is_held refl
+  where
+    by_test : (w : Bool) → row.is_wanted ≡ w → (h : Bool) → row.is_held ≡ h → ⊥
+    by_test false no h held = let none : want_in rows session block ≡ None = want_none no in let e = sym none ∙ left.wanted in absurd cc
+      where
+        want_none : row.is_wanted ≡ false → want_in rows session block ≡ None
+        want_none free = not_wanted rows session block row its free
+    by_test true wanted true held = let some = held_as rows session block row its held in let e = some ∙ left.not_held in absurd cc
+    by_test true wanted false free = let e = sym (ap (λ b. not b || row.is_held) wanted ∙ free) ∙ is in absurd cc
+
+pub none_free : (rows : List Row) (session block : ℕ) (row : Row) → row ≡ row_in rows session block → (not row.is_wanted) ≡ false → (AllLet session block row.mode rows → ⊥) → IsLeft rows session block → ⊥
+none_free rows session block row its wanted blocked left =
+    let is : row.is_wanted ≡ true = was_true row.is_wanted wanted in
+    let mode_is : left.mode ≡ row.mode = (let h = sym left.wanted ∙ sym (wanted_as rows session block row its is) in cc) in
+    blocked (subst (λ (m : Mode). AllLet session block m rows) mode_is left.free)
+
+-- ---- one call and the next
+
+pub passes_none : (block : ℕ) (rows : List Row) → Passes block rows rows
+passes_none block rows = record {
+  each = λ other at. inl (record { hold = refl; want = refl });
+  floors = λ at. refl;
+  fewer = λ other mode lets. lets;
+  free = λ other mode want none. absurd (let h = sym want ∙ none in cc);
+}
+
+module _ (block : ℕ) (a b c : List Row) (one : Passes block a b) (two : Passes block b c) where
+  each_then : (other at : ℕ) → IsAlike a b other at ⊎ ((at ≡ block) × IsGranted a b other at) → IsAlike b c other at ⊎ ((at ≡ block) × IsGranted b c other at) → IsAlike a c other at ⊎ ((at ≡ block) × IsGranted a c other at)
+  each_then other at (inl first) (inl next) = inl (record { hold = next.hold ∙ first.hold; want = next.want ∙ first.want })
+  each_then other at (inl first) (inr (same, g)) = inr (same, record { mode = g.mode; wanted = sym first.want ∙ g.wanted; not_held = sym first.hold ∙ g.not_held; held = g.held; over = g.over })
+  each_then other at (inr (same, g)) (inl next) = inr (same, record { mode = g.mode; wanted = g.wanted; not_held = g.not_held; held = next.hold ∙ g.held ∙ ap (λ (n : ℕ). Some (g.mode, n)) (sym (two.floors at)); over = next.want ∙ g.over })
+  each_then other at (inr (same, g)) (inr (too, k)) = absurd (let h = sym g.over ∙ k.wanted in cc)
+
+  free_then : (other : ℕ) (mode : Mode) → want_in a other block ≡ Some mode → want_in c other block ≡ None → AllLet other block mode a
+  free_then other mode want none = ⊎_elim
+      (λ alike. one.fewer other mode (two.free other mode (alike.want ∙ want) none))
+      (λ g. one.free other mode want g.1.over)
+      (one.each other block)
+
+  pub passes_then : Passes block a c
+  passes_then = record {
+    each = λ other at. each_then other at (one.each other at) (two.each other at);
+    floors = λ at. two.floors at ∙ one.floors at;
+    fewer = λ other mode lets. one.fewer other mode (two.fewer other mode lets);
+    free = free_then;
+  }
+
+-- a want that is left was left before
+pub left_before : (block : ℕ) (a b : List Row) (session : ℕ) → Passes block a b → IsLeft b session block → IsLeft a session block
+left_before block a b session passes left = ⊎_elim
+    (λ alike. record { mode = left.mode; wanted = sym alike.want ∙ left.wanted; not_held = sym alike.hold ∙ left.not_held; free = passes.fewer session left.mode left.free })
+    (λ g. absurd (let h = sym g.1.over ∙ left.wanted in cc))
+    (passes.each session block)
+
+-- who wants something has a row
+pub has_place : (rows : List Row) (session block : ℕ) (mode : Mode) → want_in rows session block ≡ Some mode → (place : ℕ) × (place < length rows) × (session_in rows place ≡ session)
+has_place [] session block mode is = absurd cc
+has_place (row ∷ rows) session block mode is = (elim (is_row session block row) as (λ b. is_row session block row ≡ b → (place : ℕ) × (place < length (row ∷ rows)) × (session_in (row ∷ rows) place ≡ session)) [
+  | true ↦ λ t. (0, omega arith, (row_is session block row t).0)
+  | false ↦ λ t. let found = has_place rows session block mode (let h = rw t at is in h) in (suc found.0, (let less = found.1 in omega (arith, less)), found.2)
+]) refl
+
+-- rows keep their sessions in their places
+pub same_sessions : (block : ℕ) (rows new : List Row) (place : ℕ) → AlikeBut block rows new → place < length rows → session_in new place ≡ session_in rows place
+same_sessions block [] new place alike less = absurd (omega (arith, less))
+same_sessions block (row ∷ rows) [] place alike less = absurd alike
+same_sessions block (row ∷ rows) (other ∷ others) zero alike less = alike.0
+same_sessions block (row ∷ rows) (other ∷ others) (suc place) alike less = same_sessions block rows others place alike.3 (omega (arith, less))
+
+pub none_yet : (block : ℕ) (rows new : List Row) → NoneLeft block rows new 0
+none_yet block rows new = record { each = λ place less. absurd (omega (arith, less)) }
+
+pub one_more : (block : ℕ) (rows mid new : List Row) (count session : ℕ) → NoneLeft block rows mid count → AlikeBut block rows mid → count < length rows → session ≡ session_in mid count → Passes block mid new → (IsLeft new session block → ⊥)
+    → NoneLeft block rows new (count + 1)
+one_more block rows mid new count session none alike less is passes here = record { each = λ place below left. by_place place below left (decide place count) }
+  where
+    by_place : (place : ℕ) → place < count + 1 → IsLeft new (session_in rows place) block → (place ≡ count) ⊎ (place ≢ count) → ⊥
+    by_place place below left (inl same) =
+        let its : session_in rows place ≡ session = ap (session_in rows) same ∙ sym (same_sessions block rows mid count alike less) ∙ sym is in
+        here (subst (λ (n : ℕ). IsLeft new n block) its left)
+    by_place place below left (inr apart) = none.each place (let ne = apart in omega (arith, below, ne)) (left_before block mid new (session_in rows place) passes left)
+
+pub all_places : (block : ℕ) (rows new : List Row) (count session : ℕ) → NoneLeft block rows new count → length rows ≤ count → Passes block rows new → IsLeft new session block → ⊥
+all_places block rows new count session none long passes left =
+    let before = left_before block rows new session passes left in
+    let found = has_place rows session block before.mode before.wanted in
+    none.each found.0 (let less = found.1 in omega (arith, less, long)) (subst (λ (n : ℕ). IsLeft new n block) (sym found.2) left)
+
+-- ---- a want is put
+
+module _ (rows : List Row) (session block index : ℕ) (mode : Mode) (row : Row) (free : Bool) (its : row ≡ row_in rows session block) (is : index ≡ floor_in rows block) (may : free ≡ true → AllLet session block mode rows) (must : AllLet session block mode rows → free ≡ true) where
+  want : Row
+  want = asked rows session block index mode row free (not free) its is may
+
+  pub answered : IsAnswered session block mode rows (with_row rows want)
+  answered = record { granted = λ lets. at_once (must lets); waits = λ blocked. waiting free refl blocked }
+    where
+      at_once : free ≡ true → (hold_in (with_row rows want) session block ≡ Some (mode, floor_in rows block)) × (want_in (with_row rows want) session block ≡ None)
+      at_once yes = (
+        hold_of_new rows session block row its want refl refl ∙ ap (λ t. if t then Some (mode, index) else None) yes ∙ ap (λ (n : ℕ). Some (mode, n)) is,
+        want_of_new rows session block row its want refl refl ∙ ap (λ t. if not t then Some mode else None) yes,
+      )
+
+      waiting : (b : Bool) → free ≡ b → (AllLet session block mode rows → ⊥) → (hold_in (with_row rows want) session block ≡ None) × (want_in (with_row rows want) session block ≡ Some mode)
+      waiting true yes blocked = absurd (blocked (may yes))
+      waiting false no blocked = (
+        hold_of_new rows session block row its want refl refl ∙ ap (λ t. if t then Some (mode, index) else None) no,
+        want_of_new rows session block row its want refl refl ∙ ap (λ t. if not t then Some mode else None) no,
+      )
+
+-- what others hold and want stays where a row is put
+pub alike_beside : (rows : List Row) (session block : ℕ) (row : Row) → row ≡ row_in rows session block → (new : Row) → new.session ≡ row.session → new.block ≡ row.block → (other at : ℕ) → (other ≢ session) ⊎ (at ≢ block) → IsAlike rows (with_row rows new) other at
+alike_beside rows session block row its new same_session same_block other at apart =
+    let unlike : is_row other at new ≡ false = not_row other at new (⊎_elim
+        (λ one. inl (λ same. one (sym same ∙ same_session ∙ its_session rows session block row its)))
+        (λ one. inr (λ same. one (sym same ∙ same_block ∙ its_block rows session block row its))) apart) in
+    record { hold = held_beside rows new other at unlike; want = want_beside rows new other at unlike }
+
+-- ---- a call and then what is granted
+
+module _ (session block : ℕ) (rows mid new : List Row) (others : (other at : ℕ) → (other ≢ session) ⊎ (at ≢ block) → IsAlike rows mid other at) (passes : Passes block mid new) (none_left : (other : ℕ) → IsLeft new other block → ⊥) where
+  alike_then : (other at : ℕ) → IsAlike rows mid other at → IsAlike mid new other at → IsAlike rows new other at
+  alike_then other at first next = record { hold = next.hold ∙ first.hold; want = next.want ∙ first.want }
+
+  pub grants : Grants session block rows new
+  grants = record {
+    others = λ other apart.
+        let first = others other block (inl apart) in
+        ⊎_elim (λ next. inl (alike_then other block first next))
+        (λ g. inr (record { mode = g.1.mode; wanted = sym first.want ∙ g.1.wanted; not_held = sym first.hold ∙ g.1.not_held; held = g.1.held; over = g.1.over })) (passes.each other block);
+    elsewhere = λ other at apart. ⊎_elim (λ next. alike_then other at (others other at (inr apart)) next) (λ g. absurd (apart g.0)) (passes.each other at);
+    none_left = none_left;
+  }
+
+  -- what was granted at once stays, and what waits goes on waiting
+  pub answered_then : (mode : Mode) → (AllLet session block mode mid → AllLet session block mode rows) → IsAnswered session block mode rows mid → IsAnswered session block mode rows new
+  answered_then mode lets is = record {
+    granted = λ free. let was = is.granted free in ⊎_elim (λ next. (next.hold ∙ was.0, next.want ∙ was.1)) (λ g. absurd (let h = sym g.1.not_held ∙ was.0 in cc)) (passes.each session block);
+    waits = λ blocked. let was = is.waits blocked in ⊎_elim (λ next. (next.hold ∙ was.0, next.want ∙ was.1)) (λ g. absurd (blocked (lets (passes.free session mode was.1 g.1.over)))) (passes.each session block);
+  }
+
+  pub gone_then : (want_in mid session block ≡ None) × (hold_in mid session block ≡ None) → IsGone new session block
+  gone_then was = ⊎_elim (λ next. record { hold = next.hold ∙ was.1; want = next.want ∙ was.0 }) (λ g. absurd (let h = sym g.1.wanted ∙ was.0 in cc)) (passes.each session block)
+
+  -- a want is out or granted afterwards, where it was before
+  pub wants_then : (mode : Mode) → (want_in mid session block ≡ Some mode) ⊎ IsSomeAnd (hold_in mid session block) (λ held. held.0 ≡ mode) → (want_in new session block ≡ Some mode) ⊎ IsSomeAnd (hold_in new session block) (λ held. held.0 ≡ mode)
+  wants_then mode is = ⊎_elim
+      (λ next. ⊎_elim (λ waits. inl (next.want ∙ waits)) (λ held. inr (subst (λ (o : Option Hold). IsSomeAnd o (λ h. h.0 ≡ mode)) (sym next.hold) held)) is)
+      (λ g. ⊎_elim
+        (λ waits. let same : g.1.mode ≡ mode = (let h = sym g.1.wanted ∙ waits in cc) in inr (subst (λ (o : Option Hold). IsSomeAnd o (λ h. h.0 ≡ mode)) (sym g.1.held) same))
+        (λ held. absurd (let h = subst (λ (o : Option Hold). IsSomeAnd o (λ h. h.0 ≡ mode)) g.1.not_held held in h)) is)
+      (passes.each session block)
+
+-- ---- what a node holds, by its session
+
+pub held_by_own : (nodes node block : ℕ) (rows : List Row) → IsSome (own_in nodes node) → hold_of (own_in nodes node) (hold_in rows) block ≡ hold_in rows (node + 1) block
+held_by_own nodes node block rows some = by_test (nat_lt node nodes) refl
+  where
+    by_test : (b : Bool) → nat_lt node nodes ≡ b → hold_of (own_in nodes node) (hold_in rows) block ≡ hold_in rows (node + 1) block
+    by_test true is = ap (λ t. hold_of (if t then Some (node + 1) else None) (hold_in rows) block) is
+    by_test false no = absurd (let h = subst (λ (o : Option ℕ). IsSome o) (ap (λ t. if t then Some (node + 1) else None) no) some in h)
+
+-- an end that stays doesn't fall
+pub end_stays : (end : Option ℕ) → IfSome end (λ before. IfSome end (λ now. before ≤ now))
+end_stays None = tt
+end_stays (Some end) = omega arith

@@ -35,10 +35,10 @@ use Rattle.bx_volume.specs.Records.{Logged}
 abbrev pub begun : StorePast
 begun = store_with (store_heard (opening_store (opening_state 1 1)) (Node 0) 1 (Tick 0) None) []
 
-knew_little : (who : Actor) → put_at (Node 0) 1 (λ (a : Actor). 0) who ≤ 1
+knew_little : (who : Actor) → put_at (Node 0) 1 (λ (a : Actor). 1) who ≤ 1
 knew_little who = by (is_same (Node 0) who)
   where
-    by : (b : Bool) → (if b then 1 else 0) ≤ 1
+    by : (b : Bool) → (if b then 1 else 1) ≤ 1
     by true = omega arith
     by false = omega arith
 

@@ -56,7 +56,7 @@ returns-clause-keeps g c = λ past tells all may.
     let register = g.met.G.Register.elsewhere c.take.new.self y z _
     (g.met.G.Register.loses c.take.new.self y _ (past.letters ++ third) heard.holds
     (among_both (none_new IsRegisters IsStores not_registers past.letters second third stores) (none_new IsRegisters IsOwners (λ letter one other. not_both letter other one) past.letters first second owners)))
-    (record { each = λ d low. ap (λ (l : List ℕ). slice_index l d) c.take-3.ensures.sizes }) (c.take-3.ensures.replicas still_tells).0 (c.take-3.ensures.replicas still_tells).1 in
+    (record { each = λ d low. ap (λ (l : List ℕ). slice_index l d) c.take-3.ensures.rack.sizes }) (c.take-3.ensures.replicas still_tells).0 (c.take-3.ensures.replicas still_tells).1 in
     let offered = c.in_ok-propose.ensures.keeps z (of_register decided) register may.up in
     let proposes = c.in_ok-propose.ensures.sent z (of_register decided) register in
     let each = as_asked c.or.result (option_or by_owners by_store) past.proposed offered.proposed c.or.ensures offered.each in

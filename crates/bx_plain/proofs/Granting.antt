@@ -7,7 +7,7 @@ use Rattle.bx_plain.specs.declared.rows.Row.{Row}
 use Rattle.bx_plain.specs.Asks.{AlikeBut}
 use Rattle.bx_plain.specs.Fits.{own_in}
 use Rattle.bx_plain.specs.Grants.{Grants, IsAlike, IsAnswered, IsGone, IsGranted, IsLeft, NoneLeft, Passes, session_in}
-use Rattle.bx_plain.specs.Rows.{AllLet, Lets, floor_in, hold_in, is_row, row_in, want_in, want_of_row, with_row}
+use Rattle.bx_plain.specs.Rows.{AllLet, floor_in, hold_in, is_row, row_in, want_in, with_row}
 use Rattle.bx_plain.proofs.Puts.{held_beside, not_row, row_is}
 use Rattle.bx_plain.proofs.Stands.{asked, decide, grant_floors, granted}
 use Rattle.bx_plain.proofs.Wants.{held_as, hold_of_new, its_block, its_session, not_held, not_wanted, want_beside, want_of_new, wanted_as, was_true}

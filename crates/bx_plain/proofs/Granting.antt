@@ -7,7 +7,7 @@ use Rattle.bx_plain.specs.declared.rows.Row.{Row}
 use Rattle.bx_plain.specs.Asks.{AlikeBut}
 use Rattle.bx_plain.specs.Fits.{own_in}
 use Rattle.bx_plain.specs.Grants.{Grants, IsAlike, IsAnswered, IsGone, IsGranted, IsLeft, NoneLeft, Passes, session_in}
-use Rattle.bx_plain.specs.Rows.{AllLet, Lets, floor_in, hold_in, is_row, row_in, want_in, want_of_row, with_row}
+use Rattle.bx_plain.specs.Rows.{AllLet, floor_in, hold_in, is_row, row_in, want_in, with_row}
 use Rattle.bx_plain.proofs.Puts.{held_beside, not_row, row_is}
 use Rattle.bx_plain.proofs.Stands.{asked, decide, grant_floors, granted}
 use Rattle.bx_plain.proofs.Wants.{held_as, hold_of_new, its_block, its_session, not_held, not_wanted, want_beside, want_of_new, wanted_as, was_true}
@@ -197,8 +197,8 @@ module _ (rows : List Row) (session block index : ℕ) (mode : Mode) (row : Row)
 pub alike_beside : (rows : List Row) (session block : ℕ) (row : Row) → row ≡ row_in rows session block → (new : Row) → new.session ≡ row.session → new.block ≡ row.block → (other at : ℕ) → (other ≢ session) ⊎ (at ≢ block) → IsAlike rows (with_row rows new) other at
 alike_beside rows session block row its new same_session same_block other at apart =
     let unlike : is_row other at new ≡ false = not_row other at new (⊎_elim
-        (λ one. inl (λ same. one (sym same ∙ same_session ∙ its_session rows session block row its)))
-        (λ one. inr (λ same. one (sym same ∙ same_block ∙ its_block rows session block row its))) apart) in
+    (λ one. inl (λ same. one (sym same ∙ same_session ∙ its_session rows session block row its)))
+    (λ one. inr (λ same. one (sym same ∙ same_block ∙ its_block rows session block row its))) apart) in
     record { hold = held_beside rows new other at unlike; want = want_beside rows new other at unlike }
 
 -- ---- a call and then what is granted
@@ -232,8 +232,8 @@ module _ (session block : ℕ) (rows mid new : List Row) (others : (other at : �
   wants_then mode is = ⊎_elim
       (λ next. ⊎_elim (λ waits. inl (next.want ∙ waits)) (λ held. inr (subst (λ (o : Option Hold). IsSomeAnd o (λ h. h.0 ≡ mode)) (sym next.hold) held)) is)
       (λ g. ⊎_elim
-        (λ waits. let same : g.1.mode ≡ mode = (let h = sym g.1.wanted ∙ waits in cc) in inr (subst (λ (o : Option Hold). IsSomeAnd o (λ h. h.0 ≡ mode)) (sym g.1.held) same))
-        (λ held. absurd (let h = subst (λ (o : Option Hold). IsSomeAnd o (λ h. h.0 ≡ mode)) g.1.not_held held in h)) is)
+      (λ waits. let same : g.1.mode ≡ mode = (let h = sym g.1.wanted ∙ waits in cc) in inr (subst (λ (o : Option Hold). IsSomeAnd o (λ h. h.0 ≡ mode)) (sym g.1.held) same))
+      (λ held. absurd (let h = subst (λ (o : Option Hold). IsSomeAnd o (λ h. h.0 ≡ mode)) g.1.not_held held in h)) is)
       (passes.each session block)
 
 -- ---- what a node holds, by its session

@@ -1,5 +1,5 @@
 -- Which wants are granted.
-use Rattle.std.specs.Prelude.{◌≡◌, ◌≢◌, ◌⊎◌, ◌<◌, ℕ, zero, suc, List, [], ◌∷◌, Option, Some, None}
+use Rattle.std.specs.Prelude.{◌≡◌, ◌≢◌, ◌⊎◌, ◌<◌, ℕ, zero, suc, List, [], ◌∷◌, Some, None}
 use Rattle.bx_base.specs.declared.names.Mode.{Mode}
 use Rattle.bx_plain.specs.declared.rows.Row.{Row}
 use Rattle.bx_plain.specs.Rows.{AllLet, floor_in, hold_in, want_in}

@@ -23,7 +23,7 @@ loop-place-preserved c = (
   c.grant.ensures.nodes ∙ c.loop-place.invariant.6,
   passes_then c.args.block c.args.self.now.rows c.loop-place.self.rows c.grant.new.self.rows c.loop-place.invariant.7 c.in_ok-grant.ensures.passes,
   one_more c.args.block c.args.self.now.rows c.loop-place.self.rows c.grant.new.self.rows c.loop-place.place c.session_at-session.result c.loop-place.invariant.8 c.loop-place.invariant.5 (omega (arith, c.loop-place-test.true, c.len-place-end.ensures)) c.session_at-session.ensures
-    c.in_ok-grant.ensures.passes c.in_ok-grant.ensures.none_left,
+      c.in_ok-grant.ensures.passes c.in_ok-grant.ensures.none_left,
 )
 
 pub returns-clause-none_left : goal.returns-clause-none_left

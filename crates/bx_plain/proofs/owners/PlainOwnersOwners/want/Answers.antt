@@ -1,7 +1,6 @@
-use Rattle.std.proofs.Common.{◌≡◌, ◌≢◌, ◌⊎◌, inl, inr, ⊎_elim, ◌+◌, ◌∙◌, ℕ, List, Option, Some, IsSome, sym, subst, arith}
+use Rattle.std.proofs.Common.{◌≡◌, ◌≢◌, ◌⊎◌, inl, inr, ⊎_elim, ◌+◌, ◌∙◌, ℕ, Option, Some, IsSome, sym, subst, arith}
 use Rattle.std.specs.Prelude.{IsSomeAnd}
 use Rattle.bx_facts.specs.Holds.{Hold, Holding, KeepsOthers, owners_with, without_block}
-use Rattle.bx_plain.specs.declared.rows.Row.{Row}
 use Rattle.bx_plain.specs.Asks.{asks_of}
 use Rattle.bx_plain.specs.Fits.{Fits, own_in}
 use Rattle.bx_plain.specs.Grants.{Grants, IsAnswered}

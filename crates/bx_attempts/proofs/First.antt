@@ -28,9 +28,10 @@ use Rattle.bx_sizes.specs.Cuts.{PreparesSetting}
 use Rattle.bx_tree_files.specs.declared.sattr.Sattr.{Sattr}
 use Rattle.bx_tree_files.specs.Times.{Time, time_of}
 use Rattle.bx_views.specs.declared.attempt.Attempt.{Attempt}
+use Rattle.bx_views.specs.Attempts.{IfChange, IfInner}
 use Rattle.bx_views.specs.Truths.{Held, Hints, Truth}
 use Rattle.bx_writes.specs.Lacking.{PreparesWriting}
-use Rattle.bx_attempts.specs.First.{IfChange, IfInner, MeetsNoError, PreparesBy, PreparesFirst, ReadyBy}
+use Rattle.bx_attempts.specs.First.{MeetsNoError, PreparesBy, PreparesFirst, ReadyBy}
 use Rattle.bx_attempts.specs.Replies.{IsChanged, IsRefused, IsStopped}
 use Rattle.bx_attempts.proofs.Acting.{create_acts, mkdir_acts, symlink_acts}
 use Rattle.bx_attempts.proofs.Fine.{IsFine, IsFineStep, create_fine, link_fine, mkdir_fine, rename_fine, setattr_fine, symlink_fine, write_fine}

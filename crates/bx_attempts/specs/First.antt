@@ -12,8 +12,6 @@ use Rattle.bx_model.specs.Act.{act}
 use Rattle.bx_records.specs.Drafts.{Changed}
 use Rattle.bx_renaming.specs.Lacking.{PreparesMove, ReadyToMove}
 use Rattle.bx_sizes.specs.Cuts.{PreparesSetting, ReadyToSet}
-use Rattle.bx_views.specs.declared.attempt.Attempt.{Attempt}
-use Rattle.bx_views.specs.declared.attempt.Attempt.TheVariants.{Need, Change, Inner, Answer}
 use Rattle.bx_views.specs.Truths.{Truth, Held, Hints}
 use Rattle.bx_writes.specs.Lacking.{PreparesWriting, ReadyToWrite}
 
@@ -48,17 +46,3 @@ ReadyBy volume areas truth tree procedure (Make handle name sattr) =
     (procedure ≡ 14 → ReadyToEnter volume areas truth handle name) × (procedure ≡ 9 → ReadyToCreate volume areas truth tree handle name sattr.size)
 ReadyBy volume areas truth tree procedure (Rename from name to new_name) = ReadyToMove volume areas truth tree from name to new_name
 ReadyBy volume areas truth tree procedure _ = Unit {0}
-
--- what holds of the blocks that an attempt answers to be written first
-abbrev pub IfInner : (List Changed → Type 0) → Attempt → Type 0
-IfInner Holds (Need wants) = Unit {0}
-IfInner Holds (Change draft acted) = Unit {0}
-IfInner Holds (Inner draft) = Holds draft
-IfInner Holds (Answer acted) = Unit {0}
-
--- what holds where an attempt answers a change
-abbrev pub IfChange : Type 0 → Attempt → Type 0
-IfChange Holds (Need wants) = Unit {0}
-IfChange Holds (Change draft acted) = Holds
-IfChange Holds (Inner draft) = Unit {0}
-IfChange Holds (Answer acted) = Unit {0}

@@ -5,9 +5,9 @@ ghost use Rattle.bx_chunks.specs.Counting.{free_slots};
 ghost use Rattle.bx_model.specs.declared.call.Args.TheVariants.{Set};
 ghost use Rattle.bx_model.specs.declared.tree.Tree.{Tree};
 ghost use Rattle.bx_nfs.specs.Wire.{ReadsAs};
-ghost use Rattle.bx_views.specs.Attempts.{Gives, IsFair};
+ghost use Rattle.bx_views.specs.Attempts.{Gives, IfChange, IfInner, IsFair};
 ghost use Rattle.bx_views.specs.Truths.{IsTruth, Truth};
-ghost use Rattle.bx_attempts.specs.First.{IfChange, IfInner, PreparesFirst, ReadyBy};
+ghost use Rattle.bx_attempts.specs.First.{PreparesFirst, ReadyBy};
 ghost use Rattle.bx_attempts.specs.Paths.{ChangePathOf};
 ghost use Rattle.bx_steps.specs.Steps.{StandsWith, Step};
 

@@ -1,15 +1,15 @@
 -- Blocks to be written first are those of the datagram's call, and a change is its change; neither comes of a call that changes nothing.
 use Rattle.std.proofs.Common.{ℕ, List}
-use Rattle.bx_attempts.specs.First.{IfChange, IfInner, PreparesFirst, ReadyBy}
+use Rattle.bx_attempts.specs.First.{PreparesFirst, ReadyBy}
 use Rattle.bx_model.specs.declared.call.Call.{Call}
 use Rattle.bx_model.specs.declared.tree.Tree.{Tree}
 use Rattle.bx_nfs.specs.Wire.{ReadsAs}
 use Rattle.bx_records.specs.Drafts.{Changed}
 use Rattle.bx_views.specs.declared.attempt.Attempt.{Attempt}
 use Rattle.bx_views.specs.declared.attempt.Attempt.TheVariants.{Need, Change, Inner, Answer}
+use Rattle.bx_views.specs.Attempts.{ChangesNothing, IfChange, IfInner}
 use Rattle.bx_views.specs.Truths.{Held, Hints, Truth}
 use Rattle.bx_engine.specs.First.{IsFirstCall, IsReadyCall}
-use Rattle.bx_engine.specs.Outcomes.{ChangesNothing}
 
 pub quiet_first : (Holds : List Changed → Type 0) (attempt : Attempt) → ChangesNothing attempt → IfInner Holds attempt
 quiet_first Holds (Need wants) quiet = tt

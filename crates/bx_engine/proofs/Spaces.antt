@@ -2,7 +2,7 @@
 use Rattle.std.proofs.Common.{◌≡◌, ℕ, ◌*◌, ◌≤◌, List, [], ◌∷◌, Option, Some, None, true, false, refl, sym, ap, ◌∙◌, subst, inl, inr, arith}
 use Rattle.std.specs.Prelude.{◌⊎◌, Ok, Err}
 use Rattle.bx_base.specs.declared.names.Mode.{Mode}
-use Rattle.bx_engine.specs.Outcomes.{ComesSpace, ComesToSpace, TellsFree, told_free}
+use Rattle.bx_engine.specs.Outcomes.{ComesSpace, ComesToSpace, told_free}
 use Rattle.bx_engine.specs.Paths.{ReadPathOf}
 use Rattle.bx_attempts.specs.Replies.{IsStopped, done_with}
 use Rattle.bx_steps.specs.Steps.{StandsWith, Step}
@@ -23,13 +23,13 @@ use Rattle.bx_tree_files.specs.declared.file.File.{File}
 use Rattle.bx_views.specs.declared.attempt.Attempt.{Attempt}
 use Rattle.bx_views.specs.declared.attempt.Attempt.TheVariants.{Need, Change, Inner, Answer}
 use Rattle.bx_views.specs.declared.attempt.Done.{Done}
-use Rattle.bx_views.specs.Attempts.{Gives, deed_of}
+use Rattle.bx_views.specs.Attempts.{Gives, IfActed, deed_of}
 use Rattle.bx_views.specs.Truths.{Held, Hints, Truth}
 
 -- ---- an error doesn't depend on the free blocks, and else these are told
 
 module _ (tree : Tree) (free : ℕ) where
-  abbrev by_file : Option File → ℕ → Outcome
+  abbrev pub by_file : Option File → ℕ → Outcome
   by_file found spare = must found 70 >>= (λ file. Ok (replies.Space (8192 ∷ 4096 ∷ 960 * tree.areas ∷ spare ∷ spare ∷ []), tree))
 
   told_again : (found : Option File) → done tree (by_file found (told_free free (by_file found free))) ≡ done tree (by_file found free)
@@ -68,11 +68,11 @@ module _ (tree : Tree) (free : ℕ) (at : List ℕ) (xid : ℕ) (attempt : Attem
   space_stops stops.OutOfMemory comes is = absurd is
 
 -- what it tells
-pub space_tells : (tree : Tree) (free : ℕ) (at : List ℕ) (xid : ℕ) (attempt : Attempt) → ComesSpace tree free at xid attempt → TellsFree (told_free free (statfs tree at free)) attempt
+pub space_tells : (tree : Tree) (free : ℕ) (at : List ℕ) (xid : ℕ) (attempt : Attempt) → ComesSpace tree free at xid attempt → IfActed (λ done. done.spare ≡ told_free free (statfs tree at free)) attempt
 space_tells tree free at xid (Need wants) comes = tt
-space_tells tree free at xid (Change draft acted) comes = comes
-space_tells tree free at xid (Inner draft) comes = comes
-space_tells tree free at xid (Answer acted) comes = record { spare_is = ap (λ (d : Done). d.spare) comes.told; made = ap (λ (d : Done). d.made) comes.told }
+space_tells tree free at xid (Change draft acted) comes = absurd comes
+space_tells tree free at xid (Inner draft) comes = tt
+space_tells tree free at xid (Answer acted) comes = ap (λ (d : Done). d.spare) comes.told
 
 -- ---- the step
 

@@ -4,7 +4,9 @@ use Rattle.bx_model.specs.declared.call.Args.{Args}
 use Rattle.bx_model.specs.declared.call.Args.TheVariants.{Refused, Nothing, Handle, List as Listing, Name, Read, Path}
 use Rattle.bx_model.specs.declared.call.Call.{Call}
 use Rattle.bx_nfs.specs.Asked.{IsNfs}
-use Rattle.bx_nfs.specs.Wire.{ReadsAs}
+use Rattle.bx_model.specs.declared.reply.Reply.TheVariants.{Status, Space}
+use Rattle.bx_model.specs.declared.status.TheConstants.{NOSPC}
+use Rattle.bx_nfs.specs.Wire.{ReadsAs, reply_text}
 
 -- the procedures about a file alone: GETATTR (1), READLINK (5) and STATFS (17)
 abbrev pub IsAboutFile : ℕ → Type 0
@@ -54,6 +56,20 @@ pub record IsSpaceCall (bytes at : List ℕ) : Type 0 where
   pub call : Call
   pub reads : ReadsAs bytes xid call
   pub asks : AsksSpace call at
+
+-- these bytes are a reply to it that comes to no error
+pub record IsSpaceReply (xid : ℕ) (call : Call) (replied : List ℕ) : Type 0 where
+  pub at : List ℕ
+  pub asks : AsksSpace call at
+  pub numbers : List ℕ
+  pub text : replied ≡ reply_text xid (Space numbers)
+
+-- A call's reply tells how many blocks are free, by the bytes of both: it is NOSPC, or what STATFS answers where it comes to no error.
+pub record TellsSpace (bytes replied : List ℕ) : Type 0 where
+  pub xid : ℕ
+  pub call : Call
+  pub reads : ReadsAs bytes xid call
+  pub tells : (replied ≡ reply_text xid (Status NOSPC)) ⊎ IsSpaceReply xid call replied
 
 -- The calls that are answered whatever is held: those that are refused, those without arguments, MNT and UMNT.
 abbrev pub HasNoFile : Call → Args → Type 0

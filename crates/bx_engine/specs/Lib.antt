@@ -1,4 +1,9 @@
 pub mod Calls
+pub mod Datagrams
+pub mod Elsewhere
+pub mod Falling
+pub mod First
+pub mod Hinting
 pub mod Outcomes
 pub mod Paths
-pub mod First
+pub mod Sharing

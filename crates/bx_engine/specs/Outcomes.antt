@@ -22,40 +22,10 @@ Comes tree xid outcome (Change draft acted) = ⊥
 Comes tree xid outcome (Inner draft) = ⊥
 Comes tree xid outcome (Answer acted) = ComesTo tree outcome xid acted tree
 
--- no block is changed, nor to be written first
-abbrev pub ChangesNothing : Attempt → Type 0
-ChangesNothing (Need wants) = Unit {0}
-ChangesNothing (Change draft acted) = ⊥
-ChangesNothing (Inner draft) = ⊥
-ChangesNothing (Answer acted) = Unit {0}
-
--- what acts tells no free blocks, and made no file
-pub record IsPlainly (acted : Done) : Type 0 where
-  pub spare : acted.spare ≡ 8
-  pub made : acted.made ≡ 0
-
-abbrev pub TellsNothing : Attempt → Type 0
-TellsNothing (Need wants) = Unit {0}
-TellsNothing (Change draft acted) = IsPlainly acted
-TellsNothing (Inner draft) = Unit {0}
-TellsNothing (Answer acted) = IsPlainly acted
-
 -- The free blocks that STATFS tells: how many there are, or 8 where it comes to an error.
 abbrev pub told_free : ℕ → Outcome → ℕ
 told_free free (Ok given) = free
 told_free free (Err status) = 8
-
--- what acts tells so many free blocks, and made no file
-pub record TellsThem (spare : ℕ) (acted : Done) : Type 0 where
-  pub spare_is : acted.spare ≡ spare
-  pub made : acted.made ≡ 0
-
--- it does so without a change
-abbrev pub TellsFree : ℕ → Attempt → Type 0
-TellsFree spare (Need wants) = Unit {0}
-TellsFree spare (Change draft acted) = ⊥
-TellsFree spare (Inner draft) = ⊥
-TellsFree spare (Answer acted) = TellsThem spare acted
 
 -- STATFS by a file handle comes to this reply over a tree with so many blocks free, and tells them.
 pub record ComesToSpace (tree : Tree) (free : ℕ) (at : List ℕ) (xid : ℕ) (acted : Done) : Type 0 where

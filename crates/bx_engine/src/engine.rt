@@ -1,33 +1,10 @@
 //! The engine of a volume.
 
-ghost use Rattle.std.specs.Prelude.{◌≡◌, ◌≤◌, ℕ, List, true, false, IfOk, IfNone, IfSome};
-ghost use Rattle.bx_attempts.specs.First.{IfChange, IfInner, PreparesFirst, ReadyBy};
-ghost use Rattle.bx_base.specs.declared.names.Mode.TheVariants.{Shared};
-ghost use Rattle.bx_chunks.specs.Counting.{free_slots};
-ghost use Rattle.bx_inodes.specs.Stands.{Stands};
-ghost use Rattle.bx_inodes.specs.Stops.{OnInode};
-ghost use Rattle.bx_model.specs.declared.tree.Tree.{Tree};
-ghost use Rattle.bx_model.specs.declared.call.Args.TheVariants.{Handle as HandleArgs};
-ghost use Rattle.bx_model.specs.Reading.{getattr as getattr_of, readlink as readlink_of, statfs as statfs_of};
-ghost use Rattle.bx_nfs.specs.Asked.{IsAsked};
-ghost use Rattle.bx_nfs.specs.Wire.{ReadsAs};
-ghost use Rattle.bx_reads.specs.Space.{OnSpace};
-ghost use Rattle.bx_rpc.specs.Message.{is_message};
-ghost use Rattle.bx_views.specs.Attempts.{Gives, IsAnswer, IsFair};
-ghost use Rattle.bx_views.specs.Truths.{IsTruth, Truth};
-ghost use Rattle.bx_engine.specs.Calls.{AsksSpace, IsAboutFile, IsAtOnce, IsAtOnceCall, IsReadCall, IsReading, IsSpaceCall};
-ghost use Rattle.bx_engine.specs.First.{IsFirstCall, IsReadyCall};
-ghost use Rattle.bx_engine.specs.Outcomes.{ChangesNothing, Comes, ComesSpace, TellsFree, TellsNothing, told_free};
-ghost use Rattle.bx_engine.specs.Paths.{IsOnPath, PathOf, ReadPathOf};
-ghost use Rattle.bx_steps.specs.Steps.{StandsWith, Step};
+ghost use Rattle.std.specs.Prelude.{◌≤◌};
 
-use crate::mounting::mounted;
-use crate::plain::plain;
-use crate::procedures::{READLINK, STATFS};
-use bx_attempts::{answered, answered_with, change, is_change, stopped};
 use bx_base::OutOfMemory;
-use bx_model::{Args, Call, Reply};
-use bx_views::{Attempt, View};
+use bx_model::Tree;
+use bx_views::{Attempt, Engine, View};
 use std::alloc::Global;
 
 /// The engine of a volume: what calls do to the file tree that its blocks stand for.
@@ -41,52 +18,69 @@ pub struct BoxFs {
     ghost most: { areas ≤ 64 },
 }
 
-impl BoxFs {
-    /// Attempts a call over a view, by its client's number and its bytes, at a moment in milliseconds, at most 4294967295999. `None`
-    /// exactly where the bytes are no call's: there are fewer than 8, more than 9216, or the second word isn't CALL.
-    ///
+impl Engine for BoxFs {
+    ghost use Rattle.bx_chunks.specs.Counting.{free_slots};
+    ghost use Rattle.bx_clean.specs.Falling.{Falls};
+    ghost use Rattle.bx_clean.specs.Tidying.{IsClean, OnTidyPath};
+    ghost use Rattle.bx_engine.specs.Calls.{IsAtOnceCall, IsReadCall, TellsSpace};
+    ghost use Rattle.bx_engine.specs.Elsewhere.{stands_elsewhere};
+    ghost use Rattle.bx_engine.specs.Falling.{falls_not};
+    ghost use Rattle.bx_engine.specs.First.{IsFirstCall, IsReadyCall};
+    ghost use Rattle.bx_engine.specs.Hinting.{had_as_hint, new_stands, without_all, without_one};
+    ghost use Rattle.bx_engine.specs.Paths.{IsOnPath};
+    ghost use Rattle.bx_engine.specs.Sharing.{shared_on};
+    ghost use Rattle.bx_model.specs.Opening.{opening as opening_of};
+    ghost use Rattle.bx_steps.specs.Steps.{StandsWith, Step};
+    ghost use Rattle.bx_truth.specs.Opening.{opening_truth};
+
+    type Tree = Tree;
+
+    ghost areas = { λ engine. engine.areas };
+
+    ghost opening = { λ engine. record (opening_of engine.volume) { areas = engine.areas } };
+
+    ghost opening_truth = { λ engine. opening_truth };
+
+    ghost stands = { λ engine. StandsWith engine.volume engine.areas };
+
+    ghost step = { λ engine. Step };
+
+    ghost path = { λ engine client bytes held hints. IsOnPath held hints engine.volume engine.areas bytes };
+
+    ghost tidy_path = { λ engine area held hints. OnTidyPath held engine.areas area };
+
+    ghost free = { λ engine truth. free_slots engine.areas truth };
+
+    ghost tells_free = { λ engine bytes reply. TellsSpace bytes reply };
+
+    ghost at_once = { λ engine bytes. IsAtOnceCall bytes };
+
+    ghost only_reads = { λ engine bytes. IsReadCall bytes };
+
+    ghost prepares = { λ engine held hints truth tree bytes moment. IsFirstCall engine.volume engine.areas held hints truth tree bytes moment };
+
+    ghost is_ready = { λ engine truth tree bytes. IsReadyCall engine.volume engine.areas truth tree bytes };
+
+    ghost is_clean = { λ engine truth area. IsClean truth area };
+
+    ghost less = { λ engine truth now. Falls engine.areas truth now };
+
     /// `Need` names a block that isn't held and is on the call's path: of GETATTR, READLINK and STATFS the block of the file's inode, shared; where
     /// that is held, for STATFS the own block of the first area that isn't, for READ a page or a piece of the file, for LOOKUP a page of the directory or
     /// the inode of what the name means, and for READDIR a page of the directory, shared. Of a call that changes the tree it names what its procedure
     /// does (`bx_attempts`). `Inner` are blocks to be written before the call is attempted again. They come exactly of a call that comes to no error, with
     /// 8 blocks free, and lacks something: room for an entry in the directory that it names or for a piece of a file, since a leaf is full or a separator above it
     /// is missing, or bytes that were cut are still there over which it would grow a file. They split that leaf, post that separator, or clear such bytes; a
-    /// `Change` comes only where nothing is lacking. A call that comes to an error is an `Answer`. On an error, which is
-    /// want of memory alone, nothing is changed.
-    pub fn attempt<V: View>(
+    /// `Change` comes only where nothing is lacking. A call that comes to an error is an `Answer`. `None` comes where there are fewer than 8 bytes, more
+    /// than 9216, or the second word isn't CALL.
+    fn attempt<V: View>(
         &self,
         alloc: Global,
         client: u32,
         call: &[u8],
         moment: u64,
         view: &V,
-    ) -> Result<Option<Attempt>, OutOfMemory>
-        requires { moment ≤ 4294967295999 }
-
-        ensures gives { (truth : Truth) (tree : Tree) → IsTruth (V.held view.now) truth → StandsWith self.now.volume self.now.areas truth (V.hints view.now) tree
-            → IfOk result (λ found. IfSome found (Gives (StandsWith self.now.volume self.now.areas) Step (free_slots self.now.areas truth) client call.now moment truth tree)) }
-        ensures fair { IfOk result (λ found. IfSome found (IsFair self.now.areas (V.held view.now) (IsOnPath (V.held view.now) (V.hints view.now) self.now.volume self.now.areas call.now))) }
-
-        // Blocks are to be written first exactly where the call comes to no error, with 8 blocks free, and room or cleared bytes are lacking; they make that
-        // room, or clear such bytes.
-        ensures lacks { (truth : Truth) (tree : Tree) → IsTruth (V.held view.now) truth → StandsWith self.now.volume self.now.areas truth (V.hints view.now) tree
-            → IfOk result (λ found. IfSome found (IfInner (IsFirstCall self.now.volume self.now.areas (V.held view.now) (V.hints view.now) truth tree call.now moment))) }
-        ensures ready { (truth : Truth) (tree : Tree) → IsTruth (V.held view.now) truth → StandsWith self.now.volume self.now.areas truth (V.hints view.now) tree
-            → IfOk result (λ found. IfSome found (IfChange (IsReadyCall self.now.volume self.now.areas truth tree call.now))) }
-
-        ensures at_once { IsAtOnceCall call.now → IfOk result (λ found. IfSome found IsAnswer) }
-
-        // A call that reads changes nothing, and blocks need not be written before it acts.
-        ensures keeps { IsReadCall call.now → IfOk result (λ found. IfSome found ChangesNothing) }
-
-        // Of these STATFS alone tells how many blocks are free, unless it comes to an error.
-        ensures tells { IsReadCall call.now → ((at : List ℕ) → IsSpaceCall call.now at → ⊥) → IfOk result (λ found. IfSome found TellsNothing) }
-        ensures free { (at : List ℕ) (truth : Truth) (tree : Tree) → IsSpaceCall call.now at → IsTruth (V.held view.now) truth → Stands self.now.volume self.now.areas truth tree
-            → IfOk result (λ found. IfSome found (TellsFree (told_free (free_slots self.now.areas truth) (statfs_of tree at (free_slots self.now.areas truth))))) }
-
-        ensures message { IfOk result (λ found. IfSome found (λ attempt. is_message call.now ≡ true)) }
-        ensures no_message { IfOk result (λ found. IfNone found (is_message call.now ≡ false)) }
-    {
+    ) -> Result<Option<Attempt>, OutOfMemory> {
         let Some((xid, read)) = bx_nfs::reads_as(alloc, call)? else {
             return Ok(None);
         };
@@ -94,158 +88,25 @@ impl BoxFs {
         Ok(Some(attempt))
     }
 
-    /// The same of a call that was read, with its number.
-    fn attempt_call<V: View>(
-        &self,
-        alloc: Global,
-        xid: u32,
-        call: &Call,
-        moment: u64,
-        view: &V,
-    ) -> Result<Attempt, OutOfMemory>
-        requires asked { IsAsked call.now }
-        requires moment { moment ≤ 4294967295999 }
-        ensures gives { (client : ℕ) (bytes : List ℕ) (truth : Truth) (tree : Tree) → ReadsAs bytes xid call.now → IsTruth (V.held view.now) truth
-            → StandsWith self.now.volume self.now.areas truth (V.hints view.now) tree → IfOk result (Gives (StandsWith self.now.volume self.now.areas) Step (free_slots self.now.areas truth) client bytes moment truth tree) }
-        ensures fair { IfOk result (IsFair self.now.areas (V.held view.now) (PathOf (V.held view.now) (V.hints view.now) self.now.volume self.now.areas call.now.procedure call.now.args)) }
-        ensures lacks { (truth : Truth) (tree : Tree) → IsTruth (V.held view.now) truth → StandsWith self.now.volume self.now.areas truth (V.hints view.now) tree
-            → IfOk result (IfInner (PreparesFirst self.now.volume self.now.areas (V.held view.now) (V.hints view.now) truth tree call.now moment)) }
-        ensures ready { (truth : Truth) (tree : Tree) → IsTruth (V.held view.now) truth → StandsWith self.now.volume self.now.areas truth (V.hints view.now) tree
-            → IfOk result (IfChange (ReadyBy self.now.volume self.now.areas truth tree call.now.procedure call.now.args)) }
-        ensures at_once { IsAtOnce call.now → IfOk result IsAnswer }
-        ensures keeps { IsReading call.now → IfOk result ChangesNothing }
-        ensures tells { IsReading call.now → ((at : List ℕ) → AsksSpace call.now at → ⊥) → IfOk result TellsNothing }
-        ensures free { (at : List ℕ) (truth : Truth) (tree : Tree) → AsksSpace call.now at → IsTruth (V.held view.now) truth → Stands self.now.volume self.now.areas truth tree
-            → IfOk result (TellsFree (told_free (free_slots self.now.areas truth) (statfs_of tree at (free_slots self.now.areas truth)))) }
-    {
-        if is_change(call) {
-            change(alloc, self.volume, self.areas, xid, call, moment, view)
-        } else {
-            self.answer(alloc, xid, call, view)
-        }
+    /// One of the files of an area that have died loses a block, or the last that it has.
+    ///
+    /// `Inner` are the blocks that do so, where the area has a dead file; where it has none it is an answer without bytes. `Need` names a
+    /// block of the dead file, or the own block of an area, that isn't held.
+    fn tidy<V: View>(&self, alloc: Global, area: u16, view: &V) -> Result<Attempt, OutOfMemory> {
+        bx_attempts::tidy(alloc, self.areas, area, view)
     }
 
-    /// The same of a call that changes nothing, whenever it comes.
-    fn answer<V: View>(
-        &self,
-        alloc: Global,
-        xid: u32,
-        call: &Call,
-        view: &V,
-    ) -> Result<Attempt, OutOfMemory>
-        requires reading { IsReading call.now }
-        ensures gives { (client moment : ℕ) (bytes : List ℕ) (truth : Truth) (tree : Tree) → moment ≤ 4294967295999 → ReadsAs bytes xid call.now → IsTruth (V.held view.now) truth
-            → StandsWith self.now.volume self.now.areas truth (V.hints view.now) tree → IfOk result (Gives (StandsWith self.now.volume self.now.areas) Step (free_slots self.now.areas truth) client bytes moment truth tree) }
-        ensures fair { IfOk result (IsFair self.now.areas (V.held view.now) (ReadPathOf (V.held view.now) (V.hints view.now) self.now.volume self.now.areas call.now.procedure call.now.args)) }
-        ensures at_once { IsAtOnce call.now → IfOk result IsAnswer }
-        ensures keeps { IfOk result ChangesNothing }
-        ensures tells { ((at : List ℕ) → AsksSpace call.now at → ⊥) → IfOk result TellsNothing }
-        ensures free { (at : List ℕ) (truth : Truth) (tree : Tree) → AsksSpace call.now at → IsTruth (V.held view.now) truth → Stands self.now.volume self.now.areas truth tree
-            → IfOk result (TellsFree (told_free (free_slots self.now.areas truth) (statfs_of tree at (free_slots self.now.areas truth)))) }
-    {
-        match &call.args {
-            Args::Refused(number) => answered(alloc, xid, Reply::Refused(*number, call.program)),
-            Args::Nothing => answered(alloc, xid, plain(call.program, call.procedure)),
-            Args::Path(path) => {
-                let reply = mounted(alloc, self.volume, call.procedure, path.bytes())?;
-                answered(alloc, xid, reply)
-            }
-            Args::Handle(at) => self.about_file(alloc, xid, call, at.bytes(), view),
-            Args::Read(at, offset, count, _) => {
-                self.read(alloc, xid, call, at.bytes(), (*offset, *count), view)
-            }
-            Args::Name(at, name) => self.lookup(alloc, xid, call, at.bytes(), name.bytes(), view),
-            Args::List(at, cookie, count) => {
-                self.readdir(alloc, xid, call, at.bytes(), (*cookie, *count), view)
-            }
-            _ => unreachable!(),
-        }
-    }
+    ghost opens = { λ engine. new_stands engine.volume engine.areas engine.least };
 
-    /// The procedures about the file that a file handle names.
-    fn about_file<V: View>(
-        &self,
-        alloc: Global,
-        xid: u32,
-        call: &Call,
-        at: &[u8],
-        view: &V,
-    ) -> Result<Attempt, OutOfMemory>
-        requires handle { call.now.args ≡ HandleArgs at.now }
-        requires procedure { IsAboutFile call.now.procedure }
-        ensures gives { (client moment : ℕ) (bytes : List ℕ) (truth : Truth) (tree : Tree) → moment ≤ 4294967295999 → ReadsAs bytes xid call.now → IsTruth (V.held view.now) truth
-            → Stands self.now.volume self.now.areas truth tree → IfOk result (Gives (StandsWith self.now.volume self.now.areas) Step (free_slots self.now.areas truth) client bytes moment truth tree) }
-        ensures fair { IfOk result (IsFair self.now.areas (V.held view.now) (ReadPathOf (V.held view.now) (V.hints view.now) self.now.volume self.now.areas call.now.procedure (HandleArgs at.now))) }
-        ensures keeps { IfOk result ChangesNothing }
-        ensures tells { (call.now.procedure ≡ 17 → ⊥) → IfOk result TellsNothing }
-        ensures free { (truth : Truth) (tree : Tree) → call.now.procedure ≡ 17 → IsTruth (V.held view.now) truth → Stands self.now.volume self.now.areas truth tree
-            → IfOk result (TellsFree (told_free (free_slots self.now.areas truth) (statfs_of tree at.now (free_slots self.now.areas truth)))) }
-    {
-        if call.procedure == READLINK {
-            self.readlink(alloc, xid, at, view)
-        } else if call.procedure == STATFS {
-            self.statfs(alloc, xid, at, view)
-        } else {
-            self.getattr(alloc, xid, at, view)
-        }
-    }
+    ghost extends = { λ engine truth other hints tree same stands. stands_elsewhere engine.volume engine.areas truth other hints tree same stands };
 
-    /// STATFS by the file that a file handle names.
-    fn statfs<V: View>(
-        &self,
-        alloc: Global,
-        xid: u32,
-        at: &[u8],
-        view: &V,
-    ) -> Result<Attempt, OutOfMemory>
-        ensures comes { (truth : Truth) (tree : Tree) → IsTruth (V.held view.now) truth → Stands self.now.volume self.now.areas truth tree
-            → IfOk result (ComesSpace tree (free_slots self.now.areas truth) at.now xid) }
-        ensures fair { IfOk result (IsFair self.now.areas (V.held view.now) (OnSpace self.now.volume self.now.areas at.now)) }
-        ensures keeps { IfOk result ChangesNothing }
-    {
-        match bx_reads::statfs(alloc, self.volume, self.areas, at, view) {
-            Ok((reply, free)) => answered_with(alloc, xid, reply, u64::from(free)),
-            Err(stop) => stopped(alloc, xid, stop),
-        }
-    }
+    ghost forgets = { λ engine truth hints tree stands. without_all engine.volume engine.areas truth hints tree stands };
 
-    /// READLINK of the link that a file handle names.
-    fn readlink<V: View>(
-        &self,
-        alloc: Global,
-        xid: u32,
-        at: &[u8],
-        view: &V,
-    ) -> Result<Attempt, OutOfMemory>
-        ensures comes { (truth : Truth) (tree : Tree) → IsTruth (V.held view.now) truth → Stands self.now.volume self.now.areas truth tree
-            → IfOk result (Comes tree xid (readlink_of tree at.now)) }
-        ensures fair { IfOk result (IsFair self.now.areas (V.held view.now) (OnInode self.now.volume at.now Shared)) }
-        ensures keeps { IfOk result ChangesNothing }
-        ensures tells { IfOk result TellsNothing }
-    {
-        match bx_reads::readlink(alloc, self.volume, self.areas, at, view) {
-            Ok(reply) => answered(alloc, xid, reply),
-            Err(stop) => stopped(alloc, xid, stop),
-        }
-    }
+    ghost drops = { λ engine truth hints tree at stands. without_one engine.volume engine.areas truth hints tree at stands };
 
-    /// GETATTR of the file that a file handle names.
-    fn getattr<V: View>(
-        &self,
-        alloc: Global,
-        xid: u32,
-        at: &[u8],
-        view: &V,
-    ) -> Result<Attempt, OutOfMemory>
-        ensures comes { (truth : Truth) (tree : Tree) → IsTruth (V.held view.now) truth → Stands self.now.volume self.now.areas truth tree
-            → IfOk result (Comes tree xid (getattr_of tree at.now)) }
-        ensures fair { IfOk result (IsFair self.now.areas (V.held view.now) (OnInode self.now.volume at.now Shared)) }
-        ensures keeps { IfOk result ChangesNothing }
-        ensures tells { IfOk result TellsNothing }
-    {
-        match bx_reads::getattr(alloc, self.volume, self.areas, at, view) {
-            Ok(reply) => answered(alloc, xid, reply),
-            Err(stop) => stopped(alloc, xid, stop),
-        }
-    }
+    ghost hints_at = { λ engine truth hints tree at stands block. had_as_hint engine.volume engine.areas truth hints tree at stands };
+
+    ghost shares = { λ engine client bytes held hints at mode reading on. shared_on held hints engine.volume engine.areas bytes at mode reading on };
+
+    ghost advances = { λ engine truth less. falls_not engine.areas truth less };
 }

@@ -1,7 +1,7 @@
 //! The engine of a volume: calls as bytes, attempted over views of its blocks.
 #![tactic(auto)]
 
-mod cleaning;
+mod calls;
 mod engine;
 mod laws;
 mod mounting;
@@ -10,4 +10,4 @@ mod procedures;
 mod reading;
 
 pub use engine::BoxFs;
-pub use laws::{hints_come_and_go, paths_are_of_files, steps_are_of_histories};
+pub use laws::{paths_are_of_files, steps_are_of_histories};

@@ -58,7 +58,7 @@ record_of machine = node_record machine.node
 
 -- the number of the volume
 abbrev pub volume_of : LoneMachine → ℕ
-volume_of machine = machine.calls.engine.volume
+volume_of machine = machine.engine.volume
 
 -- one less than the number of the oldest call that waits; where none waits, the greatest number of a call that came
 abbrev pub floor_in : List Waiting → ℕ → ℕ
@@ -102,10 +102,10 @@ member_waits machine member = owes_in machine.store.greatest machine.store.slots
 -- It may be used, on disks of these sizes: its node and its store go together, the disks are long enough, what waits are calls, and their numbers
 -- rise.
 pub record IsReady (machine : LoneMachine) (sizes : List ℕ) : Type 0 where
-  pub made : store_made machine.store ≡ made_of machine.calls.engine.volume 1 1 1
+  pub made : store_made machine.store ≡ made_of machine.engine.volume 1 1 1
   pub devices : machine.node.devices ≡ 1
   pub areas : machine.node.areas ≡ 1
-  pub engine : machine.calls.engine.areas ≡ 1
+  pub engine : machine.engine.areas ≡ 1
   pub knows : machine.state ≡ opening_state 1 1
   pub whole : IsNode machine.node
   pub joined : IsJoined machine.node (store_made machine.store) (at machine.store.owns.items 0) (out_at machine.store.slots.items 0) (asked_at machine.store.inquiries.items 0)
@@ -118,9 +118,9 @@ pub record IsReady (machine : LoneMachine) (sizes : List ℕ) : Type 0 where
 abbrev pub MachineStands : LoneMachine → Disks → Tree → Tree → Type 0
 MachineStands machine disks tree next =
     NodeStands (store_keeps machine.store) (store_stands machine.store) (store_reads machine.store) (store_made machine.store) (at machine.store.owns.items 0) (out_at machine.store.slots.items 0)
-    (asked_at machine.store.inquiries.items 0) machine.calls.engine.volume (opening_state 1 1) disks machine.node tree next
+    (asked_at machine.store.inquiries.items 0) machine.engine.volume (opening_state 1 1) disks machine.node tree next
 
 -- The machine stands on these disks for the tree.
 pub record Holds (machine : LoneMachine) (disks : Disks) (tree : Tree) : Type 0 where
   pub stands : StandsFor Step (MachineStands machine disks) machine.node tree
-  pub bench : IsBench disks machine.calls.engine.volume
+  pub bench : IsBench disks machine.engine.volume

@@ -10,7 +10,6 @@ ghost use Rattle.bx_lone_repair.specs.Left.{IsClosed};
 ghost use Rattle.bx_model.specs.Opening.{opening};
 ghost use Rattle.bx_model.specs.declared.tree.Tree.{Tree};
 
-use crate::calls::Calls;
 use crate::machine::LoneMachine;
 use bx_base::{CallNo, OutOfMemory};
 use bx_disk::{Rack, RackError};
@@ -71,9 +70,7 @@ impl LoneMachine {
             alloc,
             node,
             store,
-            calls: Calls {
-                engine: BoxFs { volume, areas: 1 },
-            },
+            engine: BoxFs { volume, areas: 1 },
             state,
             latest,
         })

@@ -2,13 +2,11 @@
 #![tactic(auto)]
 
 mod begin;
-mod calls;
 mod laws;
 mod machine;
 mod rounds;
 mod tidying;
 
 pub use bx_lone_standing::{Acted, Waiting};
-pub use calls::Calls;
 pub use laws::{what_is_in_doubt_is_the_oldest, what_stops_is_left, what_waits_is_above_the_floor};
 pub use machine::LoneMachine;

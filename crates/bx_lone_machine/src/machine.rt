@@ -7,8 +7,8 @@ ghost use Rattle.bx_lone_machine.specs.Machine.{Holds, IsReady, calls_of, floor_
 ghost use Rattle.bx_model.specs.declared.tree.Tree.{Tree};
 ghost use Rattle.bx_rpc.specs.Message.{is_message};
 
-use crate::calls::Calls;
 use bx_base::{Actor, CallNo, OutOfMemory};
+use bx_engine::BoxFs;
 use bx_facts::Store;
 use bx_global::GlobalState;
 use bx_lone_node::LoneNode;
@@ -23,7 +23,7 @@ pub struct LoneMachine {
     pub(crate) alloc: Global,
     pub(crate) node: LoneNode,
     pub(crate) store: PlainStore,
-    pub(crate) calls: Calls,
+    pub(crate) engine: BoxFs,
     pub(crate) state: GlobalState,
     pub(crate) latest: CallNo,
 }
@@ -65,7 +65,7 @@ impl LoneMachine {
     pub fn volume(&self) -> u64
         ensures { result ≡ volume_of self.now }
     {
-        self.calls.engine.volume
+        self.engine.volume
     }
 
     /// The greatest number of a call that came, or what it returned with.

@@ -40,7 +40,7 @@ impl LoneMachine {
     {
         self.sync_member(bench, 0)?;
         self.sync_member(bench, 1)?;
-        let acted = turn(&mut self.node, &mut self.store, &self.calls, moment)?;
+        let acted = turn(&mut self.node, &mut self.store, &self.engine, moment)?;
         self.node.is_whole();
         Ok(acted)
     }

@@ -31,7 +31,7 @@ impl LoneMachine {
         ensures holds { (disks : Disks) (tree : Tree) → Holds self.old disks tree → OnOk result (Holds self.new disks tree) }
         ensures clean { (disks : Disks) (tree : Tree) (held : Holds self.old disks tree) → IfOk result (λ is_clean. is_clean ≡ true → IsClean held.stands.stands.truth AREA) }
     {
-        let is_clean = tidy(&mut self.node, &mut self.store, &self.calls, AREA, moment)?;
+        let is_clean = tidy(&mut self.node, &mut self.store, &self.engine, AREA, moment)?;
         self.node.is_whole();
         Ok(is_clean)
     }

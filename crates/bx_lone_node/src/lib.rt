@@ -5,9 +5,7 @@
 mod changes;
 mod homes;
 mod node;
-mod procedures;
 mod reads;
 mod tries;
 
 pub use node::LoneNode;
-pub use procedures::Procedures;

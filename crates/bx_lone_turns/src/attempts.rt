@@ -15,23 +15,26 @@ ghost use Rattle.bx_lone_standing.specs.declared.stage.Recorded.TheVariants.{Inn
 ghost use Rattle.bx_lone_standing.specs.declared.stage.Stage.TheVariants.{Idle, Logs, Reads};
 ghost use Rattle.bx_lone_standing.specs.declared.stage.Waiting.{Waiting as Call};
 ghost use Rattle.bx_lone_turns.specs.Attempts.{IsAnswered, IsBegun, point_for};
+ghost use Rattle.bx_lone_turns.specs.Engines.{IsOver};
 ghost use Rattle.bx_model.specs.declared.tree.Tree.{Tree};
 ghost use Rattle.bx_places.specs.Places.{is_block};
+ghost use Rattle.bx_rpc.specs.Message.{is_message};
 ghost use Rattle.bx_views.specs.Attempts.{IsHeldDraft};
 ghost use Rattle.bx_views.specs.Truths.{with_draft};
 
 use bx_base::{OutOfMemory, Point};
 use bx_facts::Store;
-use bx_lone_node::{LoneNode, Procedures};
+use bx_lone_node::LoneNode;
 use bx_lone_standing::{Acted, Recorded, Waiting};
+use bx_model::Tree;
 use bx_records::{Draft, Wants};
-use bx_views::{Attempt, Done};
+use bx_views::{Attempt, Done, Engine};
 
 /// The count of free blocks that a point tells where it doesn't matter: enough.
 const ENOUGH: u64 = 8;
 
 /// Attempts the call at the head, where one waits.
-pub(crate) fn attempt<S: Store, E: Procedures>(
+pub(crate) fn attempt<S: Store, E: Engine<Tree = Tree>>(
     node: &mut LoneNode,
     store: &mut S,
     engine: &E,
@@ -40,7 +43,7 @@ pub(crate) fn attempt<S: Store, E: Procedures>(
     requires joined { IsJoined node.old (S.made store.old) (S.own store.old 0) (S.out_of store.old 0) (S.asked store.old 0) }
     requires idle { node.old.stage ≡ Idle }
     requires areas { E.areas engine.now ≡ node.old.areas }
-    requires taken { (call : Call) → Contains node.old.queue call → E.takes engine.now call.datagram }
+    requires messages { (call : Call) → Contains node.old.queue call → is_message call.datagram ≡ true }
     requires moment { moment ≤ 4294967295999 }
     ensures takes { IfOk result (λ acted. Takes acted (calls_of node.old) (calls_of node.new)) }
     ensures queue { OnOk result ((call : Call) → Contains node.new.queue call → Contains node.old.queue call) }
@@ -51,7 +54,7 @@ pub(crate) fn attempt<S: Store, E: Procedures>(
     ensures moments { IfOk result (λ acted. IsBegunAt moment node.new acted) }
     ensures awaits { OnOk result (Awaits node.new.stage (S.out_of store.new 0) (S.answer store.new 0)) }
     ensures tries { IfOk result (λ acted. node.new.stage ≡ Idle → acted ≡ None → node.new.queue ≡ []) }
-    ensures stands { (volume : ℕ) (state : GlobalState) (x : Disks) (tree next : Tree) → volume ≡ E.volume engine.now → NodeStands (S.keeps store.old) (S.stands store.old) (S.will_read store.old) (S.made store.old) (S.own store.old 0) (S.out_of store.old 0) (S.asked store.old 0) volume state x node.old tree next
+    ensures stands { (volume : ℕ) (state : GlobalState) (x : Disks) (tree next : Tree) → IsOver (E.stands engine.now) volume (E.areas engine.now) → NodeStands (S.keeps store.old) (S.stands store.old) (S.will_read store.old) (S.made store.old) (S.own store.old 0) (S.out_of store.old 0) (S.asked store.old 0) volume state x node.old tree next
         → IfOk result (Turns (E.step engine.now) (StandsFor (E.step engine.now) (NodeStands (S.keeps store.new) (S.stands store.new) (S.will_read store.new) (S.made store.new) (S.own store.new 0) (S.out_of store.new 0) (S.asked store.new 0) volume state x node.new) node.new) (calls_of node.old) (calls_of node.new) tree) }
 {
     let Some(attempt) = node.try_head(engine, moment)? else {

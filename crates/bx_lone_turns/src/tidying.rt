@@ -8,19 +8,21 @@ ghost use Rattle.bx_lone_standing.specs.Node.{IsJoined, IsOfSame};
 ghost use Rattle.bx_lone_standing.specs.Standing.{NodeStands, StandsFor};
 ghost use Rattle.bx_lone_standing.specs.Turning.{Awaits};
 ghost use Rattle.bx_lone_standing.specs.declared.stage.Stage.TheVariants.{Idle};
+ghost use Rattle.bx_lone_turns.specs.Engines.{IsOver};
 ghost use Rattle.bx_lone_turns.specs.Tidying.{GoesUnasked};
 ghost use Rattle.bx_model.specs.declared.tree.Tree.{Tree};
 
 use crate::attempts::{begin_inner, need};
 use bx_base::OutOfMemory;
 use bx_facts::Store;
-use bx_lone_node::{LoneNode, Procedures};
-use bx_views::Attempt;
+use bx_lone_node::LoneNode;
+use bx_model::Tree;
+use bx_views::{Attempt, Engine};
 
 /// Where nothing is under way and no call waits, cleans an area a little at a moment in milliseconds: it asks for a block that this
 /// wants, or begins the record of a change that the tree doesn't show. Says whether the area was found to be clean. For want of memory
 /// neither the node nor the store is used again.
-pub fn tidy<S: Store, E: Procedures>(
+pub fn tidy<S: Store, E: Engine<Tree = Tree>>(
     node: &mut LoneNode,
     store: &mut S,
     engine: &E,
@@ -40,10 +42,10 @@ pub fn tidy<S: Store, E: Procedures>(
     ensures needs { NeedsNoMore (S.needs store.old) (S.needs store.new) }
     ensures made { S.made store.new ≡ S.made store.old }
     ensures awaits { Awaits node.old.stage (S.out_of store.old 0) (S.answer store.old 0) → OnOk result (Awaits node.new.stage (S.out_of store.new 0) (S.answer store.new 0)) }
-    ensures stands { (volume : ℕ) (state : GlobalState) (x : Disks) (tree : Tree) → volume ≡ E.volume engine.now
+    ensures stands { (volume : ℕ) (state : GlobalState) (x : Disks) (tree : Tree) → IsOver (E.stands engine.now) volume (E.areas engine.now)
         → StandsFor (E.step engine.now) (NodeStands (S.keeps store.old) (S.stands store.old) (S.will_read store.old) (S.made store.old) (S.own store.old 0) (S.out_of store.old 0) (S.asked store.old 0) volume state x node.old) node.old tree
         → OnOk result (StandsFor (E.step engine.now) (NodeStands (S.keeps store.new) (S.stands store.new) (S.will_read store.new) (S.made store.new) (S.own store.new 0) (S.out_of store.new 0) (S.asked store.new 0) volume state x node.new) node.new tree) }
-    ensures clean { (volume : ℕ) (state : GlobalState) (x : Disks) (tree next : Tree) → volume ≡ E.volume engine.now
+    ensures clean { (volume : ℕ) (state : GlobalState) (x : Disks) (tree next : Tree) → IsOver (E.stands engine.now) volume (E.areas engine.now)
         → (stood : NodeStands (S.keeps store.old) (S.stands store.old) (S.will_read store.old) (S.made store.old) (S.own store.old 0) (S.out_of store.old 0) (S.asked store.old 0) volume state x node.old tree next)
         → IfOk result (λ is_clean. is_clean ≡ true → E.is_clean engine.now stood.truth area) }
 {

@@ -1,6 +1,6 @@
 //! The turn of a node.
 
-ghost use Rattle.std.specs.Prelude.{◌≡◌, ◌≤◌, [], ℕ, Contains, IfOk, None, OnOk};
+ghost use Rattle.std.specs.Prelude.{◌≡◌, ◌≤◌, [], ℕ, Contains, IfOk, None, OnOk, true};
 ghost use Rattle.bx_disk.specs.Disks.{Disks};
 ghost use Rattle.bx_facts.specs.Disks.{NeedsNoMore};
 ghost use Rattle.bx_global.specs.declared.state.GlobalState.{GlobalState};
@@ -9,18 +9,22 @@ ghost use Rattle.bx_lone_standing.specs.Standing.{NodeStands, StandsFor, Turns};
 ghost use Rattle.bx_lone_standing.specs.Turning.{Awaits, IsOfMoment};
 ghost use Rattle.bx_lone_standing.specs.declared.stage.Stage.TheVariants.{Idle};
 ghost use Rattle.bx_lone_standing.specs.declared.stage.Waiting.{Waiting};
+ghost use Rattle.bx_lone_turns.specs.Engines.{IsOver};
 ghost use Rattle.bx_model.specs.declared.tree.Tree.{Tree};
+ghost use Rattle.bx_rpc.specs.Message.{is_message};
 
 use crate::attempts::attempt;
 use bx_base::OutOfMemory;
 use bx_facts::Store;
-use bx_lone_node::{LoneNode, Procedures};
+use bx_lone_node::LoneNode;
 use bx_lone_standing::Acted;
+use bx_model::Tree;
+use bx_views::Engine;
 
 /// Does what can be done without the disks, at a moment in milliseconds: goes on with what the store has done, and attempts the
 /// call at the head where nothing is under way. At most one call is answered, the oldest; `None` where none is. For want of memory neither
 /// the node nor the store is used again.
-pub fn turn<S: Store, E: Procedures>(
+pub fn turn<S: Store, E: Engine<Tree = Tree>>(
     node: &mut LoneNode,
     store: &mut S,
     engine: &E,
@@ -28,7 +32,7 @@ pub fn turn<S: Store, E: Procedures>(
 ) -> Result<Option<Acted>, OutOfMemory>
     requires joined { IsJoined node.old (S.made store.old) (S.own store.old 0) (S.out_of store.old 0) (S.asked store.old 0) }
     requires areas { E.areas engine.now ≡ node.old.areas }
-    requires taken { (call : Waiting) → Contains node.old.queue call → E.takes engine.now call.datagram }
+    requires messages { (call : Waiting) → Contains node.old.queue call → is_message call.datagram ≡ true }
     requires moment { moment ≤ 4294967295999 }
     ensures takes { IfOk result (λ acted. Takes acted (calls_of node.old) (calls_of node.new)) }
     ensures queue { OnOk result ((call : Waiting) → Contains node.new.queue call → Contains node.old.queue call) }
@@ -39,7 +43,7 @@ pub fn turn<S: Store, E: Procedures>(
     ensures moments { IfOk result (λ acted. IsOfMoment moment node.old node.new acted) }
     ensures awaits { IsUsed node.old.stage → OnOk result (Awaits node.new.stage (S.out_of store.new 0) (S.answer store.new 0)) }
     ensures tries { IsUsed node.old.stage → IfOk result (λ acted. node.new.stage ≡ Idle → acted ≡ None → node.new.queue ≡ []) }
-    ensures stands { (state : GlobalState) (x : Disks) (tree : Tree) (volume : ℕ) → volume ≡ E.volume engine.now
+    ensures stands { (state : GlobalState) (x : Disks) (tree : Tree) (volume : ℕ) → IsOver (E.stands engine.now) volume (E.areas engine.now)
         → StandsFor (E.step engine.now) (NodeStands (S.keeps store.old) (S.stands store.old) (S.will_read store.old) (S.made store.old) (S.own store.old 0) (S.out_of store.old 0) (S.asked store.old 0) volume state x node.old) node.old tree
         → IfOk result (Turns (E.step engine.now) (StandsFor (E.step engine.now) (NodeStands (S.keeps store.new) (S.stands store.new) (S.will_read store.new) (S.made store.new) (S.own store.new 0) (S.out_of store.new 0) (S.asked store.new 0) volume state x node.new) node.new) (calls_of node.old) (calls_of node.new) tree) }
 {

@@ -45,12 +45,16 @@ Gives Stands Step free client call moment truth tree (Change draft done) = Acts 
 Gives Stands Step free client call moment truth tree (Inner draft) = Leads Stands truth draft tree tree
 Gives Stands Step free client call moment truth tree (Answer done) = Acts Stands Step free (deed_of client call moment done) done truth [] tree
 
--- What a tidy of an area gives: an Inner where it isn't clean, an Answer with no reply where it is, and never a Change.
+-- what the answer says that nothing is left to clean: it has no bytes
+abbrev pub all_clean : Done
+all_clean = record { reply = []; spare = 8; made = 0 }
+
+-- What a tidy of an area gives: an Inner where it isn't clean, that Answer where it is, and never a Change.
 abbrev pub Tidies : {T : Type 0} → (Truth → Hints → T → Type 0) → Type 0 → Truth → T → Attempt → Type 0
 Tidies Stands IsClean truth tree (Need wants) = Unit {0}
 Tidies Stands IsClean truth tree (Change draft done) = ⊥
 Tidies Stands IsClean truth tree (Inner draft) = (IsClean → ⊥) × Leads Stands truth draft tree tree
-Tidies Stands IsClean truth tree (Answer done) = IsClean × (done.reply ≡ [])
+Tidies Stands IsClean truth tree (Answer done) = IsClean × (done ≡ all_clean)
 
 -- A Need names at least one block; each is one of the volume that isn't held so, and is on the path.
 pub record IsFairNeed (areas : ℕ) (held : Held) (Path : ℕ → Mode → Type 0) (wants : List (ℕ × Mode)) : Type 0 where
@@ -79,3 +83,36 @@ IsAnswer (Need wants) = ⊥
 IsAnswer (Change draft done) = ⊥
 IsAnswer (Inner draft) = ⊥
 IsAnswer (Answer done) = Unit {0}
+
+-- neither blocks to be written first nor a change
+abbrev pub ChangesNothing : Attempt → Type 0
+ChangesNothing (Need wants) = Unit {0}
+ChangesNothing (Change draft done) = ⊥
+ChangesNothing (Inner draft) = ⊥
+ChangesNothing (Answer done) = Unit {0}
+
+-- what holds of the blocks that are to be written first
+abbrev pub IfInner : (List Changed → Type 0) → Attempt → Type 0
+IfInner Holds (Need wants) = Unit {0}
+IfInner Holds (Change draft done) = Unit {0}
+IfInner Holds (Inner draft) = Holds draft
+IfInner Holds (Answer done) = Unit {0}
+
+-- what holds where a change is answered
+abbrev pub IfChange : Type 0 → Attempt → Type 0
+IfChange Holds (Need wants) = Unit {0}
+IfChange Holds (Change draft done) = Holds
+IfChange Holds (Inner draft) = Unit {0}
+IfChange Holds (Answer done) = Unit {0}
+
+-- what holds of a call that acted
+abbrev pub IfActed : (Done → Type 0) → Attempt → Type 0
+IfActed Holds (Need wants) = Unit {0}
+IfActed Holds (Change draft done) = Holds done
+IfActed Holds (Inner draft) = Unit {0}
+IfActed Holds (Answer done) = Holds done
+
+-- How many blocks are free is told exactly where the reply tells it; else it is 8.
+pub record TellsFree (Tells : List ℕ → Type 0) (free : ℕ) (done : Done) : Type 0 where
+  pub told : Tells done.reply → done.spare ≡ free
+  pub enough : (Tells done.reply → ⊥) → done.spare ≡ 8

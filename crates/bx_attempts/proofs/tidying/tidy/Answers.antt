@@ -22,6 +22,11 @@ returns-in-Ok-Inner-clause-gives g c = λ volume truth tree same s.
     let tidies : TidiesIn c.args.areas truth c.args.area (Inner c.in-Ok-Inner.draft) = rw c.in-Ok-Inner.field-0-is at (c.in-Ok-Inner.ensures.gives volume truth tree same s.stands s.fit) in
     (tidies.0, record { each = λ hints was. record { stands = tidies.1.stands volume tree was.stands; fit = tidies.1.leads hints was.fit } })
 
+pub returns-in-Ok-Inner-clause-gains : goal.returns-in-Ok-Inner-clause-gains
+returns-in-Ok-Inner-clause-gains g c = λ volume truth tree same s.
+    let tidies : TidiesIn c.args.areas truth c.args.area (Inner c.in-Ok-Inner.draft) = rw c.in-Ok-Inner.field-0-is at (c.in-Ok-Inner.ensures.gives volume truth tree same s.stands s.fit) in
+    tidies.2
+
 pub returns-in-Ok-Clean-clause-gives : goal.returns-in-Ok-Clean-clause-gives
 returns-in-Ok-Clean-clause-gives g c = λ volume truth tree same s.
     let clean : TidiesIn c.args.areas truth c.args.area Clean = rw c.in-Ok-Clean.field-0-is at (c.in-Ok-Clean.ensures.gives volume truth tree same s.stands s.fit) in

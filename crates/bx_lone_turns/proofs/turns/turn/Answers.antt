@@ -13,11 +13,11 @@ none_said None e = refl
 none_said (Some acted) e = absurd cc
 
 pub returns-then-is_some-clause-stands : goal.returns-then-is_some-clause-stands
-returns-then-is_some-clause-stands g c = λ state x tree volume same stood.
+returns-then-is_some-clause-stands g c = λ state x tree volume over stood.
     let st = g.S.Store in
     let old = c.args.store.now in
     let mid = c.go_on.new.store in
-    goes_turns (g.E.Procedures.step c.args.engine.now)
+    goes_turns (g.E.Engine.step c.args.engine.now)
     (NodeStands (st.keeps old) (st.stands old) (st.will_read old) (st.made old) (st.own old 0) (st.out_of old 0) (st.asked old 0) volume state x c.args.node.now)
     (NodeStands (st.keeps mid) (st.stands mid) (st.will_read mid) (st.made mid) (st.own mid 0) (st.out_of mid 0) (st.asked mid 0) volume state x c.go_on.new.self)
     c.args.node.now c.go_on.new.self tree c.in_ok-acted.acted c.in_ok-acted.ensures.queue stood (c.in_ok-acted.ensures.stands volume state x tree stood.next stood.stands)
@@ -27,12 +27,12 @@ returns-clause-queue g c =
     subst (λ (q : List Waiting). OnOk c.attempt.result ((call : Waiting) → Contains c.attempt.new.node.queue call → Contains q call)) c.in_ok-acted.ensures.queue c.attempt.ensures.queue
 
 pub returns-clause-stands : goal.returns-clause-stands
-returns-clause-stands g c = λ state x tree volume same stood.
+returns-clause-stands g c = λ state x tree volume over stood.
     let st = g.S.Store in
     let old = c.args.store.now in
     let mid = c.go_on.new.store in
     let new = c.attempt.new.store in
-    let Step = g.E.Procedures.step c.args.engine.now in
+    let Step = g.E.Engine.step c.args.engine.now in
     let now = c.args.node.now in
     let then = c.go_on.new.self in
     let none = none_said c.in_ok-acted.acted (sym c.is_some.ensures ∙ c.if-is_some.false) in
@@ -43,7 +43,7 @@ returns-clause-stands g c = λ state x tree volume same stood.
     let stands : StandsFor Step Stands_mid then tree = subst (Turns Step (StandsFor Step Stands_mid then) (calls_of now) (calls_of then) tree) none turns in
     let calls : calls_of then ≡ calls_of now = subst (λ (a : Option Acted). Takes a (calls_of now) (calls_of then)) none c.in_ok-acted.ensures.takes in
     subst (λ (q : List Waiting). IfOk c.attempt.result (Turns Step (StandsFor Step Stands_new c.attempt.new.node) q (calls_of c.attempt.new.node) tree)) calls
-    (c.attempt.ensures.stands volume state x tree stands.next same stands.stands)
+    (c.attempt.ensures.stands volume state x tree stands.next over stands.stands)
 
 pub returns-then-is_some-clause-moments : goal.returns-then-is_some-clause-moments
 returns-then-is_some-clause-moments g c = goes_moment c.args.moment c.args.node.now c.go_on.new.self c.in_ok-acted.acted c.in_ok-acted.ensures.goes

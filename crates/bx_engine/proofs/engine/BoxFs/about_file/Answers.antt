@@ -40,9 +40,6 @@ returns-then-call-eq-STATFS-clause-fair g c =
     let fs = c.args.self.now in
     IfOk-weaker c.statfs.result _ _ (fair_along (OnSpace fs.volume fs.areas c.args.at.now) (ReadPathOf (g.V.View.held c.args.view.now) (g.V.View.hints c.args.view.now) fs.volume fs.areas c.args.call.now.procedure (Handle c.args.at.now)) (space_on (g.V.View.held c.args.view.now) (g.V.View.hints c.args.view.now) fs.volume fs.areas c.args.at.now c.args.call.now.procedure c.if-call-eq-STATFS.true) fs.areas (g.V.View.held c.args.view.now)) c.statfs.ensures.fair
 
-pub returns-then-call-eq-STATFS-clause-tells : goal.returns-then-call-eq-STATFS-clause-tells
-returns-then-call-eq-STATFS-clause-tells g c = λ other. absurd (other c.if-call-eq-STATFS.true)
-
 pub returns-then-call-eq-STATFS-clause-free : goal.returns-then-call-eq-STATFS-clause-free
 returns-then-call-eq-STATFS-clause-free g c = λ truth tree asks same s.
     IfOk-weaker c.statfs.result _ _ (space_tells tree (free_slots c.args.self.now.areas truth) c.args.at.now c.args.xid) (c.statfs.ensures.comes truth tree same s)

@@ -7,7 +7,7 @@ use Rattle.bx_engine.proofs.Along.{fair_along}
 use Rattle.bx_engine.proofs.Acting.{gives_by, lookup_acts, mount_acts, nothing_acts, read_acts, readdir_acts, refused_acts}
 use Rattle.bx_engine.proofs.Stopping.{answered_comes}
 use Rattle.bx_engine.specs.Calls.{HasReadArgs}
-use Rattle.bx_engine.specs.Outcomes.{TellsFree, told_free}
+use Rattle.bx_engine.specs.Outcomes.{told_free}
 use Rattle.bx_engine.specs.Paths.{ReadPathOf}
 use Rattle.bx_model.specs.declared.call.Args.{Args}
 use Rattle.bx_model.specs.declared.call.Args.TheVariants.{Handle, List as Listing, Name, Path, Read}
@@ -16,7 +16,7 @@ use Rattle.bx_model.specs.Directories.{readdir}
 use Rattle.bx_model.specs.Mounting.{mount, plain}
 use Rattle.bx_model.specs.Reading.{lookup, read, statfs}
 use Rattle.bx_model.specs.Steps.{Outcome}
-use Rattle.bx_views.specs.Attempts.{IsFair}
+use Rattle.bx_views.specs.Attempts.{IfActed, IsFair}
 use Rattle.bx_engine.proofs.engine.BoxFs.answer.Goals as goal
 
 pub returns-in-Refused-clause-gives : goal.returns-in-Refused-clause-gives
@@ -67,11 +67,6 @@ returns-in-Handle-clause-fair g c =
     let is : c.args.call.now.args ≡ Handle c.bytes-in-Handle.result.now = c.in-Handle.is ∙ ap (λ (b : List ℕ). Handle b) (sym c.bytes-in-Handle.ensures) in
     subst (λ (args : Args). IfOk c.about_file.result (IsFair fs.areas (g.V.View.held c.args.view.now) (ReadPathOf (g.V.View.held c.args.view.now) (g.V.View.hints c.args.view.now) fs.volume fs.areas c.args.call.now.procedure args))) (sym is) c.about_file.ensures.fair
 
-pub returns-in-Handle-clause-tells : goal.returns-in-Handle-clause-tells
-returns-in-Handle-clause-tells g c = λ other.
-    let is : c.args.call.now.args ≡ Handle c.bytes-in-Handle.result.now = c.in-Handle.is ∙ ap (λ (b : List ℕ). Handle b) (sym c.bytes-in-Handle.ensures) in
-    c.about_file.ensures.tells (λ asks. other c.bytes-in-Handle.result.now (record { args = is; procedure = asks }))
-
 pub returns-in-Handle-clause-free : goal.returns-in-Handle-clause-free
 returns-in-Handle-clause-free g c = λ at truth tree asks same s.
     let fs = c.args.self.now in
@@ -79,7 +74,7 @@ returns-in-Handle-clause-free g c = λ at truth tree asks same s.
     let is : c.args.call.now.args ≡ Handle c.bytes-in-Handle.result.now = c.in-Handle.is ∙ ap (λ (b : List ℕ). Handle b) (sym c.bytes-in-Handle.ensures) in
     let here : Handle c.bytes-in-Handle.result.now ≡ Handle at = sym is ∙ asks.args in
     let one : c.bytes-in-Handle.result.now ≡ at = cc in
-    subst (λ (bytes : List ℕ). IfOk c.about_file.result (TellsFree (told_free free (statfs tree bytes free)))) one (c.about_file.ensures.free truth tree asks.procedure same s)
+    subst (λ (bytes : List ℕ). IfOk c.about_file.result (IfActed (λ done. done.spare ≡ told_free free (statfs tree bytes free)))) one (c.about_file.ensures.free truth tree asks.procedure same s)
 
 pub returns-in-Refused-clause-free : goal.returns-in-Refused-clause-free
 returns-in-Refused-clause-free g c = λ at truth tree asks same s. let never = sym c.in-Refused.is ∙ asks.args in absurd cc

@@ -50,10 +50,10 @@ returns-clause-holds c = λ disks tree holds.
     let st = now.store in
     let stood = holds.stands in
     let after : NodeView = record node { queue = node.queue ++ c.args.call ∷ [] } in
-    let Stood : NodeView → Tree → Tree → Type 0 = λ n t u. NodeStands (store_keeps st) (store_stands st) (store_reads st) (store_made st) (at st.owns.items 0) (out_at st.slots.items 0) (asked_at st.inquiries.items 0) now.calls.engine.volume (opening_state 1 1) disks n t u in
+    let Stood : NodeView → Tree → Tree → Type 0 = λ n t u. NodeStands (store_keeps st) (store_stands st) (store_reads st) (store_made st) (at st.owns.items 0) (out_at st.slots.items 0) (asked_at st.inquiries.items 0) now.engine.volume (opening_state 1 1) disks n t u in
     let stands : StandsFor Step (Stood after) after tree = record {
       next = stood.next;
-      stands = arrived (store_keeps st) (store_stands st) (store_reads st) (store_made st) (at st.owns.items 0) (out_at st.slots.items 0) (asked_at st.inquiries.items 0) now.calls.engine.volume (opening_state 1 1) disks node (node.queue ++ c.args.call ∷ []) tree stood.next stood.stands;
+      stands = arrived (store_keeps st) (store_stands st) (store_reads st) (store_made st) (at st.owns.items 0) (out_at st.slots.items 0) (asked_at st.inquiries.items 0) now.engine.volume (opening_state 1 1) disks node (node.queue ++ c.args.call ∷ []) tree stood.next stood.stands;
       doing = stood.doing;
     } in
     record {

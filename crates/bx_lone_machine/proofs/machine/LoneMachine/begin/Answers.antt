@@ -1,5 +1,5 @@
 use Rattle.std.proofs.Common.{refl, arith}
-use Rattle.bx_engine.proofs.Hinting.{opening_fit}
+use Rattle.bx_engine.specs.Hinting.{opening_fit}
 use Rattle.bx_global.specs.Opening.{opening_state}
 use Rattle.bx_lone_standing.specs.Bare.{StandsBare}
 use Rattle.bx_layout.specs.Labels.{IsLabel}

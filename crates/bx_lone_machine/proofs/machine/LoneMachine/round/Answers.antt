@@ -1,4 +1,4 @@
-use Rattle.std.proofs.Common.{ap, ◌≡◌, refl, ◌∙◌, subst}
+use Rattle.std.proofs.Common.{ap, ◌≡◌, ◌∙◌, subst}
 use Rattle.bx_steps.specs.Steps.{Step}
 use Rattle.bx_global.specs.Opening.{opening_state}
 use Rattle.bx_lone_standing.specs.Node.{NodeView, calls_of as node_calls, unanswered}
@@ -11,6 +11,7 @@ use Rattle.bx_plain_store.specs.Out.{at, out_at}
 use Rattle.bx_lone_machine.specs.Machine.{Holds, calls_of, store_keeps, store_made, store_needs, store_reads, store_stands}
 use Rattle.bx_lone_machine.specs.declared.machine.LoneMachine.{LoneMachine}
 use Rattle.bx_lone_machine.proofs.Rising.{rising_turned}
+use Rattle.bx_lone_machine.proofs.Plainly.{is_over}
 use Rattle.bx_lone_machine.proofs.Leaving.{awaits_used, of_round, room_kept, turns_on}
 use Rattle.bx_lone_machine.proofs.machine.LoneMachine.round.Goals as goal
 
@@ -52,10 +53,10 @@ returns-clause-holds g c = λ tree tells holds.
     let first = c.in_ok-sync_member.ensures.holds tree tells holds in
     let second = c.in_ok-sync_member-2.ensures.holds tree (c.sync_member.ensures.keeps_telling tells) first in
     let same : mid.node ≡ c.args.self.now.node = c.in_ok-sync_member-2.ensures.node ∙ c.in_ok-sync_member.ensures.node in
-    let volume = mid.calls.engine.volume in
+    let volume = mid.engine.volume in
     let Stood : Tree → Type 0 = StandsFor Step (NodeStands (store_keeps store) (store_stands store) (store_reads store) (store_made store) (at store.owns.items 0) (out_at store.slots.items 0) (asked_at store.inquiries.items 0) volume (opening_state 1 1) y node) node in
-    let turns = c.in_ok-acted.ensures.stands (opening_state 1 1) y tree volume refl second.stands in
-    let machine : LoneMachine = record { alloc = mid.alloc; node = node; store = store; calls = mid.calls; state = mid.state; latest = mid.latest } in
+    let turns = c.in_ok-acted.ensures.stands (opening_state 1 1) y tree volume (is_over volume mid.engine.areas) second.stands in
+    let machine : LoneMachine = record { alloc = mid.alloc; node = node; store = store; engine = mid.engine; state = mid.state; latest = mid.latest } in
     let here = turns_on Step Stood (λ t. Holds machine y t) (calls_of mid) (node_calls node) tree c.in_ok-acted.acted (λ t stood. record { stands = stood; bench = second.bench }) turns in
     subst (λ (n : NodeView). Turns Step (λ t. Holds machine y t) (node_calls n) (node_calls node) tree c.in_ok-acted.acted) same here
 

@@ -1,6 +1,7 @@
-use Rattle.std.proofs.Common.{refl, ◌∙◌}
+use Rattle.std.proofs.Common.{◌∙◌}
 use Rattle.bx_global.specs.Opening.{opening_state}
 use Rattle.bx_lone_machine.specs.Machine.{store_needs}
+use Rattle.bx_lone_machine.proofs.Plainly.{is_over}
 use Rattle.bx_lone_machine.proofs.Leaving.{room_kept}
 use Rattle.bx_lone_machine.proofs.Unasked.{calls_kept, queue_kept, record_kept, rising_kept, used_kept}
 use Rattle.bx_lone_machine.proofs.machine.LoneMachine.tidy.Goals as goal
@@ -33,10 +34,10 @@ returns-clause-record c = record_kept c.args.self.now.node c.tidy.new.node c.in_
 
 pub returns-clause-holds : goal.returns-clause-holds
 returns-clause-holds c = λ disks tree holds. record {
-  stands = c.in_ok-is_clean.ensures.stands (c.args.self.now.calls.engine.volume) (opening_state 1 1) disks tree refl holds.stands;
+  stands = c.in_ok-is_clean.ensures.stands c.args.self.now.engine.volume (opening_state 1 1) disks tree (is_over c.args.self.now.engine.volume c.args.self.now.engine.areas) holds.stands;
   bench = holds.bench;
 }
 
 pub returns-clause-clean : goal.returns-clause-clean
 returns-clause-clean c = λ disks tree held clean.
-    c.in_ok-is_clean.ensures.clean c.args.self.now.calls.engine.volume (opening_state 1 1) disks tree held.stands.next refl held.stands.stands clean
+    c.in_ok-is_clean.ensures.clean c.args.self.now.engine.volume (opening_state 1 1) disks tree held.stands.next (is_over c.args.self.now.engine.volume c.args.self.now.engine.areas) held.stands.stands clean

@@ -1,13 +1,23 @@
+use Rattle.bx_chunks.specs.Counting.{free_slots}
 use Rattle.bx_engine.proofs.Along.{fair_along}
-use Rattle.bx_engine.proofs.Datagrams.{asks_as, at_once_as, on_path, reading_as, space_as}
+use Rattle.bx_engine.proofs.Spare.{attempt_tells}
+use Rattle.bx_engine.specs.Datagrams.{asks_as, at_once_as, on_path, reading_as}
 use Rattle.bx_engine.specs.Paths.{IsOnPath, PathOf}
 use Rattle.bx_engine.proofs.First.{first_call, ready_call}
-use Rattle.bx_engine.proofs.engine.BoxFs.attempt.Goals as goal
+use Rattle.bx_engine.proofs.engine.BoxFsEngine.attempt.Goals as goal
 
 pub returns-clause-gives : goal.returns-clause-gives
 returns-clause-gives g c = λ truth tree same s.
     let found = rw c.in-Some.is at c.in_ok-xid.ensures.found in
     c.in_ok-attempt.ensures.gives c.args.client c.args.call.now truth tree found same s
+
+pub returns-clause-spare : goal.returns-clause-spare
+returns-clause-spare g c = λ truth tree same s.
+    let found = rw c.in-Some.is at c.in_ok-xid.ensures.found in
+    let fs = c.args.self.now in
+    attempt_tells fs.volume fs.areas (free_slots fs.areas truth) c.args.client c.args.call.now c.args.moment truth tree c.in_ok-attempt.attempt
+    (c.in_ok-attempt.ensures.gives c.args.client c.args.call.now truth tree found same s)
+    (λ at is. c.in_ok-attempt.ensures.free at truth tree (asks_as c.args.call.now c.in-Some.xid c.in-Some.read found at is) same s.stands)
 
 pub returns-clause-fair : goal.returns-clause-fair
 returns-clause-fair g c =
@@ -20,16 +30,6 @@ pub returns-clause-at_once : goal.returns-clause-at_once
 returns-clause-at_once g c = λ once.
     let found = rw c.in-Some.is at c.in_ok-xid.ensures.found in
     c.in_ok-attempt.ensures.at_once (at_once_as c.args.call.now c.in-Some.xid c.in-Some.read found once)
-
-pub returns-clause-tells : goal.returns-clause-tells
-returns-clause-tells g c = λ reading other.
-    let found = rw c.in-Some.is at c.in_ok-xid.ensures.found in
-    c.in_ok-attempt.ensures.tells (reading_as c.args.call.now c.in-Some.xid c.in-Some.read found reading) (λ at asks. other at (space_as c.args.call.now c.in-Some.xid c.in-Some.read found at asks))
-
-pub returns-clause-free : goal.returns-clause-free
-returns-clause-free g c = λ at truth tree is same s.
-    let found = rw c.in-Some.is at c.in_ok-xid.ensures.found in
-    c.in_ok-attempt.ensures.free at truth tree (asks_as c.args.call.now c.in-Some.xid c.in-Some.read found at is) same s
 
 pub returns-clause-keeps : goal.returns-clause-keeps
 returns-clause-keeps g c = λ reading.

@@ -6,8 +6,8 @@ use Rattle.bx_base.specs.declared.names.Mode.{Mode}
 use Rattle.bx_base.specs.declared.names.Mode.TheVariants.{Shared}
 use Rattle.bx_directory_reads.specs.Listings.{OnListing}
 use Rattle.bx_directory_reads.specs.Lookups.{IsMeantBlock, OnLooking}
-use Rattle.bx_engine.proofs.Datagrams.{path_of}
-use Rattle.bx_engine.specs.Calls.{HasReadArgs, IsReading}
+use Rattle.bx_engine.specs.Datagrams.{path_of}
+use Rattle.bx_engine.specs.Calls.{HasReadArgs, IsReadCall, IsReading}
 use Rattle.bx_engine.specs.Paths.{HasOneBlock, IsOnPath, PathOf, ReadPathOf}
 use Rattle.bx_files.specs.Paths.{OnPiece, OnSearch}
 use Rattle.bx_inodes.specs.Stops.{OnInode}
@@ -64,9 +64,12 @@ module _ (held : Held) (hints : Hints) (volume areas : ℕ) where
   not_changing call at mode (Set handle sattr) reads on = reads
   not_changing call at mode _ reads on = absurd on
 
-  pub shared_of : (call : Call) (at : ℕ) (mode : Mode) → IsReading call → PathOf held hints volume areas call.procedure call.args at mode → mode ≡ Shared
+  shared_of : (call : Call) (at : ℕ) (mode : Mode) → IsReading call → PathOf held hints volume areas call.procedure call.args at mode → mode ≡ Shared
   shared_of call at mode reads (inl on) = read_shared call.procedure at mode call.args on
   shared_of call at mode reads (inr on) = absurd (not_changing call at mode call.args reads on)
+
+  pub shared_on : (bytes : List ℕ) (at : ℕ) (mode : Mode) → IsReadCall bytes → IsOnPath held hints volume areas bytes at mode → mode ≡ Shared
+  shared_on bytes at mode is on = shared_of is.call at mode is.reading (path_of bytes is.xid is.call is.reads held hints volume areas at mode on)
 
   pub refused_none : (procedure at number : ℕ) (mode : Mode) (args : Args) → args ≡ Refused number → PathOf held hints volume areas procedure args at mode → ⊥
   refused_none procedure at number mode args is on = by (subst (λ (a : Args). PathOf held hints volume areas procedure a at mode) is on)

@@ -11,11 +11,15 @@ use Rattle.bx_blink.proofs.LonePage.{lone_fit}
 use Rattle.bx_hints.specs.Fitting.{HintsFitAll}
 use Rattle.bx_layout.specs.Areas.{in_use}
 use Rattle.bx_layout.specs.declared.block.Block.{Block}
+use Rattle.bx_model.specs.declared.tree.Tree.{Tree}
+use Rattle.bx_model.specs.Opening.{opening}
 use Rattle.bx_page.specs.Contents.{Contents}
 use Rattle.bx_page.specs.Keys.{is_below}
 use Rattle.bx_page.specs.Spelling.{Spells}
 use Rattle.bx_page.proofs.Whole.{one_page, page_written}
 use Rattle.bx_page.proofs.Order.{not_below_itself}
+use Rattle.bx_steps.specs.Steps.{StandsWith}
+use Rattle.bx_tree_laws.proofs.Opening.{opening_is}
 use Rattle.bx_truth.specs.Chunks.{IsChunked, IsName, block_at, chunks_of, word_at}
 use Rattle.bx_truth.specs.Opening.{empty_page, opening_truth, page_block, page_handle, root_block}
 use Rattle.bx_truth.specs.PageTrees.{Chunks, HasPage, IsIn, IsLast, IsNode, IsTree, Leads, NamesChild, Node, PageTree}
@@ -23,7 +27,7 @@ use Rattle.bx_truth.specs.Stands.{WasGiven}
 use Rattle.bx_truth.proofs.Cases.{eq_false, eq_true, same_or}
 use Rattle.bx_blink.proofs.Sees.{chunk_from, chunk_is}
 use Rattle.bx_truth.proofs.Made.{chunk_given}
-use Rattle.bx_truth.proofs.OpeningTree.{chunk_cases, empty_is}
+use Rattle.bx_truth.proofs.OpeningTree.{chunk_cases, empty_is, opening_stands}
 use Rattle.bx_views.specs.Truths.{Hints, Truth, no_hints, with_hint, without_hint}
 
 -- ---- fewer hints
@@ -48,13 +52,13 @@ fewer_fit areas hints fewer truth root tree are fit = record {
   given = record { homes = fit.given.homes; hints = λ handle block hint. fit.given.hints handle block (are (block_at handle) block hint) };
 }
 
-pub fewer_fit_all : (areas : ℕ) (hints fewer : Hints) (truth : Truth) → AreOf fewer hints → HintsFitAll areas hints truth → HintsFitAll areas fewer truth
+fewer_fit_all : (areas : ℕ) (hints fewer : Hints) (truth : Truth) → AreOf fewer hints → HintsFitAll areas hints truth → HintsFitAll areas fewer truth
 fewer_fit_all areas hints fewer truth are fit = record { each = λ handle inode tree holds is. fewer_fit areas hints fewer truth inode.tree tree are (fit.each handle inode tree holds is) }
 
-pub none_are : (hints : Hints) → AreOf no_hints hints
+none_are : (hints : Hints) → AreOf no_hints hints
 none_are hints at block none = absurd cc
 
-pub without_are : (dropped : ℕ) (hints : Hints) → AreOf (without_hint dropped hints) hints
+without_are : (dropped : ℕ) (hints : Hints) → AreOf (without_hint dropped hints) hints
 without_are dropped hints at block some = by (at == dropped) some
   where
     by : (t : Bool) → (if t then None else hints at) ≡ Some block → hints at ≡ Some block
@@ -201,7 +205,7 @@ module _ (areas : ℕ) (hints : Hints) (truth : Truth) (at : ℕ) (chunked : IsC
         by_given handle block header name (inl old) = fit.given.hints handle block old header name
         by_given handle block header name (inr here) = chunk_given areas truth handle block (named_chunk handle block name here header)
 
-  pub more_fit_all : HintsFitAll areas hints truth → HintsFitAll areas (with_hint at (truth at) hints) truth
+  more_fit_all : HintsFitAll areas hints truth → HintsFitAll areas (with_hint at (truth at) hints) truth
   more_fit_all fit = record { each = λ handle inode tree holds is. more_fit inode.tree tree is (fit.each handle inode tree holds is) }
 
 -- ---- a volume that was just made
@@ -228,3 +232,21 @@ opening_fit areas some = record { each = λ handle inode tree holds is. lone_fit
         by block has level (inr page_is) =
             let one : is.top.page ≡ empty_page = one_page is.top.page empty_page page_block.payload (subst (λ (b : Block). HasPage is.top.page b) page_is.1 has).spells opening_page in
             sym level ∙ ap (λ (p : Contents). p.level) one
+
+-- ---- what stands with them
+
+pub new_stands : (volume areas : ℕ) → 1 ≤ areas → StandsWith volume areas opening_truth no_hints (record (opening volume) { areas = areas })
+new_stands volume areas some = record {
+  stands = record { is = opening_stands areas some volume; volume_is = refl; file_tree = opening_is volume areas };
+  fit = opening_fit areas some;
+}
+
+module _ (volume areas : ℕ) (truth : Truth) (hints : Hints) (tree : Tree) where
+  pub without_all : StandsWith volume areas truth hints tree → StandsWith volume areas truth no_hints tree
+  without_all s = record { stands = s.stands; fit = fewer_fit_all areas hints no_hints truth (none_are hints) s.fit }
+
+  pub without_one : (at : ℕ) → StandsWith volume areas truth hints tree → StandsWith volume areas truth (without_hint at hints) tree
+  without_one at s = record { stands = s.stands; fit = fewer_fit_all areas hints (without_hint at hints) truth (without_are at hints) s.fit }
+
+  pub had_as_hint : (at : ℕ) → StandsWith volume areas truth hints tree → StandsWith volume areas truth (with_hint at (truth at) hints) tree
+  had_as_hint at s = record { stands = s.stands; fit = more_fit_all areas hints truth at s.stands.is.chunked s.fit }

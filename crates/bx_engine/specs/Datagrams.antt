@@ -21,10 +21,7 @@ module _ (bytes : List ℕ) (xid : ℕ) (call : Call) (reads : ReadsAs bytes xid
   pub path_of : (held : Held) (hints : Hints) (volume areas at : ℕ) (mode : Mode) → IsOnPath held hints volume areas bytes at mode → PathOf held hints volume areas call.procedure call.args at mode
   path_of held hints volume areas at mode is = subst (λ (c : Call). PathOf held hints volume areas c.procedure c.args at mode) (reads_once bytes is.xid xid is.call call is.reads reads).1 is.on
 
--- a datagram that is a STATFS is this call, and the other way round
+-- a datagram that is a STATFS is this call
 module _ (bytes : List ℕ) (xid : ℕ) (call : Call) (reads : ReadsAs bytes xid call) where
   pub asks_as : (at : List ℕ) → IsSpaceCall bytes at → AsksSpace call at
   asks_as at is = subst (λ (c : Call). AsksSpace c at) (reads_once bytes is.xid xid is.call call is.reads reads).1 is.asks
-
-  pub space_as : (at : List ℕ) → AsksSpace call at → IsSpaceCall bytes at
-  space_as at asks = record { xid = xid; call = call; reads = reads; asks = asks }

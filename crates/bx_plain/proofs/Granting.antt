@@ -1,6 +1,6 @@
 -- Wants that are granted, and wants that wait.
-use Rattle.std.proofs.Common.{◌≡◌, ◌≢◌, ◌⊎◌, inl, inr, ⊎_elim, ℕ, zero, suc, ◌+◌, ◌<◌, ◌≤◌, Bool, true, false, List, [], ◌∷◌, length, Option, Some, None, refl, sym, ◌∙◌, ap, subst, arith}
-use Rattle.std.specs.Prelude.{IfSome, IsSome, IsSomeAnd, if◌then◌else◌, nat_lt, not, ◌||◌}
+use Rattle.std.proofs.Common.{◌≡◌, ◌≢◌, ◌⊎◌, inl, inr, ⊎_elim, ℕ, zero, suc, ◌+◌, ◌<◌, ◌≤◌, Bool, true, false, List, [], ◌∷◌, length, Option, Some, None, refl, sym, ◌∙◌, ap, subst, arith, slice_get}
+use Rattle.std.specs.Prelude.{IfSome, IsSome, IsSomeAnd, if◌then◌else◌, nat_lt, not}
 use Rattle.bx_base.specs.declared.names.Mode.{Mode}
 use Rattle.bx_facts.specs.Holds.{Hold, hold_of}
 use Rattle.bx_plain.specs.declared.rows.Row.{Row}
@@ -28,10 +28,10 @@ lets_put (row ∷ rows) new session block mode free lets = (elim (is_row new.ses
 -- ---- a want is granted
 
 module _ (rows : List Row) (session block index : ℕ) (row : Row) (its : row ≡ row_in rows session block) (free : AllLet session block row.mode rows) (unheld : row.is_held ≡ false) (is : index ≡ floor_in rows block) (wanted : row.is_wanted ≡ true) where
-  put : Row
+  abbrev put : Row
   put = granted rows session block index row its free unheld is
 
-  new : List Row
+  abbrev pub new : List Row
   new = with_row rows put
 
   key : (put.session ≡ session) × (put.block ≡ block)
@@ -82,17 +82,16 @@ module _ (rows : List Row) (session block index : ℕ) (row : Row) (its : row �
   pub grant_none_left : IsLeft new session block → ⊥
   grant_none_left left = let h = sym here.over ∙ left.wanted in absurd cc
 
+pub was_false : (b : Bool) → not b ≡ true → b ≡ false
+was_false false is = refl
+was_false true is = absurd cc
+
 -- a want that isn't one, or that isn't free, isn't left
-pub none_wanted : (rows : List Row) (session block : ℕ) (row : Row) → row ≡ row_in rows session block → (not row.is_wanted || row.is_held) ≡ true → IsLeft rows session block → ⊥
-none_wanted rows session block row its is left = by_test row.is_wanted refl row.is_held refl
-  where
-    by_test : (w : Bool) → row.is_wanted ≡ w → (h : Bool) → row.is_held ≡ h → ⊥
-    by_test false no h held = let none : want_in rows session block ≡ None = want_none no in let e = sym none ∙ left.wanted in absurd cc
-      where
-        want_none : row.is_wanted ≡ false → want_in rows session block ≡ None
-        want_none free = not_wanted rows session block row its free
-    by_test true wanted true held = let some = held_as rows session block row its held in let e = some ∙ left.not_held in absurd cc
-    by_test true wanted false free = let e = sym (ap (λ b. not b || row.is_held) wanted ∙ free) ∙ is in absurd cc
+pub none_wanted : (rows : List Row) (session block : ℕ) (row : Row) → row ≡ row_in rows session block → row.is_wanted ≡ false → IsLeft rows session block → ⊥
+none_wanted rows session block row its idle left = let h = sym (not_wanted rows session block row its idle) ∙ left.wanted in absurd cc
+
+pub none_unheld : (rows : List Row) (session block : ℕ) (row : Row) → row ≡ row_in rows session block → row.is_held ≡ true → IsLeft rows session block → ⊥
+none_unheld rows session block row its held left = let h = held_as rows session block row its held ∙ left.not_held in absurd cc
 
 pub none_free : (rows : List Row) (session block : ℕ) (row : Row) → row ≡ row_in rows session block → (not row.is_wanted) ≡ false → (AllLet session block row.mode rows → ⊥) → IsLeft rows session block → ⊥
 none_free rows session block row its wanted blocked left =
@@ -175,23 +174,23 @@ all_places block rows new count session none long passes left =
 -- ---- a want is put
 
 module _ (rows : List Row) (session block index : ℕ) (mode : Mode) (row : Row) (free : Bool) (its : row ≡ row_in rows session block) (is : index ≡ floor_in rows block) (may : free ≡ true → AllLet session block mode rows) (must : AllLet session block mode rows → free ≡ true) where
-  want : Row
+  abbrev pub want : Row
   want = asked rows session block index mode row free (not free) its is may
 
   pub answered : IsAnswered session block mode rows (with_row rows want)
   answered = record { granted = λ lets. at_once (must lets); waits = λ blocked. waiting free refl blocked }
     where
       at_once : free ≡ true → (hold_in (with_row rows want) session block ≡ Some (mode, floor_in rows block)) × (want_in (with_row rows want) session block ≡ None)
-      at_once yes = (
-        hold_of_new rows session block row its want refl refl ∙ ap (λ t. if t then Some (mode, index) else None) yes ∙ ap (λ (n : ℕ). Some (mode, n)) is,
-        want_of_new rows session block row its want refl refl ∙ ap (λ t. if not t then Some mode else None) yes,
+      at_once free_now = (
+        hold_of_new rows session block row its want refl refl ∙ ap (λ t. if t then Some (mode, index) else None) free_now ∙ ap (λ (n : ℕ). Some (mode, n)) is,
+        want_of_new rows session block row its want refl refl ∙ ap (λ t. if not t then Some mode else None) free_now,
       )
 
       waiting : (b : Bool) → free ≡ b → (AllLet session block mode rows → ⊥) → (hold_in (with_row rows want) session block ≡ None) × (want_in (with_row rows want) session block ≡ Some mode)
-      waiting true yes blocked = absurd (blocked (may yes))
-      waiting false no blocked = (
-        hold_of_new rows session block row its want refl refl ∙ ap (λ t. if t then Some (mode, index) else None) no,
-        want_of_new rows session block row its want refl refl ∙ ap (λ t. if not t then Some mode else None) no,
+      waiting true free_now blocked = absurd (blocked (may free_now))
+      waiting false taken blocked = (
+        hold_of_new rows session block row its want refl refl ∙ ap (λ t. if t then Some (mode, index) else None) taken,
+        want_of_new rows session block row its want refl refl ∙ ap (λ t. if not t then Some mode else None) taken,
       )
 
 -- what others hold and want stays where a row is put
@@ -244,9 +243,23 @@ held_by_own nodes node block rows some = by_test (nat_lt node nodes) refl
   where
     by_test : (b : Bool) → nat_lt node nodes ≡ b → hold_of (own_in nodes node) (hold_in rows) block ≡ hold_in rows (node + 1) block
     by_test true is = ap (λ t. hold_of (if t then Some (node + 1) else None) (hold_in rows) block) is
-    by_test false no = absurd (let h = subst (λ (o : Option ℕ). IsSome o) (ap (λ t. if t then Some (node + 1) else None) no) some in h)
+    by_test false past =
+        let none : own_in nodes node ≡ None = ap (λ t. if t then Some (node + 1) else None) past in
+        let wrong = subst (λ (o : Option ℕ). IsSome o) none some in
+        absurd cc
 
 -- an end that stays doesn't fall
 pub end_stays : (end : Option ℕ) → IfSome end (λ before. IfSome end (λ now. before ≤ now))
 end_stays None = tt
 end_stays (Some end) = omega arith
+
+-- the session of a row that is there
+pub session_there : (rows : List Row) (place : ℕ) (row : Row) → slice_get rows place ≡ Some row → row.session ≡ session_in rows place
+session_there [] place row is = absurd cc
+session_there (one ∷ rows) zero row is = let same : one ≡ row = (let h = is in cc) in ap (λ (r : Row). r.session) (sym same)
+session_there (one ∷ rows) (suc place) row is = session_there rows place row is
+
+pub session_past : (rows : List Row) (place : ℕ) → slice_get rows place ≡ None → 0 ≡ session_in rows place
+session_past [] place is = refl
+session_past (one ∷ rows) zero is = absurd cc
+session_past (one ∷ rows) (suc place) is = session_past rows place is

@@ -92,11 +92,11 @@ first_least first (change ∷ older) = let low = first_least first older in let 
 -- nor that of the state in which a session's row first stood
 opened_least : (first : GlobalState) (changes : List Change) (session : ℕ) → first.index ≤ first_index first changes session
 opened_least first [] session = omega arith
-opened_least first (change ∷ older) session = by_test (is_ever first older session)
+opened_least first (change ∷ older) session = by_test (is_ever first older session) (opened_least first older session)
   where
-    by_test : (b : Bool) → first.index ≤ (if b then first_index first older session else (state_after first (change ∷ older)).index)
-    by_test true = opened_least first older session
-    by_test false = first_least first (change ∷ older)
+    by_test : (b : Bool) → first.index ≤ first_index first older session → first.index ≤ (if b then first_index first older session else (state_after first (change ∷ older)).index)
+    by_test true before = before
+    by_test false before = first_least first (change ∷ older)
 
 pub held_reaches : (nodes : ℕ) (rows : List Row) (past : OwnersPast) (session block : ℕ) (hold : Hold) → Fits nodes rows past → past.holding session block ≡ Some hold → past.floor block ≤ max hold.1 (opened_at past.told.chain session)
 held_reaches nodes rows past session block hold fits held =

@@ -1,6 +1,6 @@
 //! The state that the one-machine forms are made with.
 
-ghost use Rattle.std.specs.Prelude.{◌≡◌, ◌+◌, ◌^◌, ◌<◌, ◌≤◌, IfOk};
+ghost use Rattle.std.specs.Prelude.{◌≡◌, ◌≤◌, IfOk};
 ghost use Rattle.bx_global.specs.Allowed.{IsAllowed};
 ghost use Rattle.bx_facts.specs.Chains.{IsAboveBoots};
 ghost use Rattle.bx_plain.specs.Begin.{plain_rows, plain_state};
@@ -23,7 +23,6 @@ pub fn endless(alloc: Global, nodes: u32, devices: u32) -> Result<GlobalState, O
     ensures state { IfOk result (λ state. state ≡ plain_state nodes devices) }
     ensures allowed { IfOk result IsAllowed }
     ensures plain { IfOk result (IsPlainState nodes) }
-    ensures index { IfOk result (λ state. state.index + 1 < 2 ^ 64) }
     ensures boots { IfOk result (λ state. IsAboveBoots state 1) }
 {
     let first = opening(alloc, nodes, devices)?;

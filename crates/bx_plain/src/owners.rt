@@ -51,7 +51,10 @@ impl PlainOwners {
         ensures nodes { self.new.nodes ≡ self.old.nodes }
     {
         let row = row_of(&self.rows, session, block);
-        if !row.is_wanted || row.is_held {
+        if !row.is_wanted {
+            return Ok(());
+        }
+        if row.is_held {
             return Ok(());
         }
         if !is_free(&self.rows, session, block, row.mode) {

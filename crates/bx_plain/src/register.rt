@@ -32,10 +32,9 @@ impl Model for PlainRegister {
 }
 
 impl PlainRegister {
-    /// A register of so many nodes that knows this state, in which no boot is above 0, and which another may follow. It takes no memory.
+    /// A register of so many nodes that knows this state, in which no boot is above 0. It takes no memory.
     pub fn new(alloc: Global, nodes: u32, state: GlobalState) -> PlainRegister
         requires allowed { IsAllowed state }
-        requires index { state.index + 1 < 2 ^ 64 }
         requires boots { IsAboveBoots state 1 }
         ensures made { (result.state ≡ state) × (result.nodes ≡ nodes) }
         ensures new { result.busy ≡ [] }
@@ -133,6 +132,7 @@ impl Register for PlainRegister {
         ensures quiet { _rack.new ≡ _rack.old }
         ensures formats { OnErr result ⊥ }
     {
+        let _state = &self.state;
         Ok(())
     }
 
@@ -153,8 +153,11 @@ impl Register for PlainRegister {
         ensures made { (self.new.state ≡ self.old.state) × (self.new.nodes ≡ self.old.nodes) }
         ensures disks { R.tells _rack.old → SameDisks (R.state _rack.old) (R.state _rack.new) }
         ensures rack { Counted R.Rack _rack.old _rack.new result OpenFails }
-        ensures opens { result ≡ Ok 0 }
+        ensures opens { self.old.state.index + 1 < 2 ^ 64 → result ≡ Ok 0 }
     {
+        if self.state.index == u64::MAX {
+            return Err(OpenError::NoMajority);
+        }
         Ok(0)
     }
 

@@ -28,7 +28,6 @@ fn tell_args(line: &mut Line, args: &Args) {
             tell_bytes(line, " set", &[handle.bytes()]);
             tell_sattr(line, sattr);
         }
-        Args::Name(handle, name) => tell_bytes(line, " name", &[handle.bytes(), name.bytes()]),
         Args::Read(handle, offset, count, total) => {
             tell_bytes(line, " read", &[handle.bytes()]);
             tell_words(line, "", &[*offset, *count, *total]);
@@ -38,6 +37,19 @@ fn tell_args(line: &mut Line, args: &Args) {
             tell_words(line, "", &[*begin, *offset, *total]);
             line.bytes(content.bytes());
         }
+        Args::List(handle, cookie, count) => {
+            tell_bytes(line, " list", &[handle.bytes()]);
+            tell_words(line, "", &[*cookie, *count]);
+        }
+        Args::Path(path) => tell_bytes(line, " path", &[path.bytes()]),
+        _ => tell_names(line, args),
+    }
+}
+
+/// Tells arguments with a name in a directory.
+fn tell_names(line: &mut Line, args: &Args) {
+    match args {
+        Args::Name(handle, name) => tell_bytes(line, " name", &[handle.bytes(), name.bytes()]),
         Args::Make(handle, name, sattr) => {
             tell_bytes(line, " make", &[handle.bytes(), name.bytes()]);
             tell_sattr(line, sattr);
@@ -50,18 +62,11 @@ fn tell_args(line: &mut Line, args: &Args) {
             tell_bytes(line, " link", &[file.bytes(), handle.bytes(), name.bytes()]);
         }
         Args::Symlink(handle, name, path, sattr) => {
-            tell_bytes(
-                line,
-                " symlink",
-                &[handle.bytes(), name.bytes(), path.bytes()],
-            );
+            let items = [handle.bytes(), name.bytes(), path.bytes()];
+            tell_bytes(line, " symlink", &items);
             tell_sattr(line, sattr);
         }
-        Args::List(handle, cookie, count) => {
-            tell_bytes(line, " list", &[handle.bytes()]);
-            tell_words(line, "", &[*cookie, *count]);
-        }
-        Args::Path(path) => tell_bytes(line, " path", &[path.bytes()]),
+        _ => {}
     }
 }
 

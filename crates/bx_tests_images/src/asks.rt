@@ -6,6 +6,7 @@ use crate::{audits, blocks, cells, volumes};
 use anyhow::{Error, anyhow};
 use bx_disk::Rack;
 use bx_global::GlobalState;
+use bx_memory_rack::MemRack;
 use bx_stop_rack::StopRack;
 use bx_tests_lines::{Line, bytes_of};
 use std::alloc::Global;
@@ -49,26 +50,32 @@ impl Ask {
 /// The answer to a row: the lines of its file, and its own.
 pub(crate) fn answer(alloc: Global, shared: &str, lines: &str) -> Result<String, Error> {
     let setting = Setting::of(shared, lines);
-    let (word, text) = setting.ask.split_once(' ').unwrap_or((setting.ask, ""));
-    let Some(ask) = Ask::of(word) else {
-        return Err(anyhow!("nothing is asked"));
-    };
-    let numbers = numbers_of(alloc, text)?;
     let rack = rack_of(alloc, &setting, shared, lines)?;
-    let calls = number_of(setting.stop)?;
     let mut line = Line::new(alloc);
-    match ask {
-        Ask::Volume => {
-            let mut rack = rack;
-            volumes::tell(alloc, &mut line, &mut rack, numbers.as_slice(), calls)?;
-        }
-        _ => {
+    put_answer(alloc, &mut line, &setting, rack)?;
+    line.into_text()
+}
+
+/// Tells what a setting asks of these disks.
+fn put_answer(
+    alloc: Global,
+    line: &mut Line,
+    setting: &Setting<'_>,
+    rack: MemRack,
+) -> Result<(), Error> {
+    let (word, text) = setting.ask.split_once(' ').unwrap_or((setting.ask, ""));
+    let numbers = numbers_of(alloc, text)?;
+    let calls = number_of(setting.stop)?;
+    match Ask::of(word) {
+        None => Err(anyhow!("nothing is asked")),
+        Some(Ask::Volume) => volumes::tell(alloc, line, rack, numbers.as_slice(), calls),
+        Some(ask) => {
+            let state = state_of(alloc, setting)?;
             let mut rack = StopRack::new(rack, calls);
-            let state = state_of(alloc, &setting)?;
-            tell(alloc, &mut line, &mut rack, ask, &state, numbers.as_slice());
+            tell(alloc, line, &mut rack, ask, &state, numbers.as_slice());
+            Ok(())
         }
     }
-    line.into_text()
 }
 
 /// The state of a setting.

@@ -8,7 +8,7 @@ use bx_global::GlobalState;
 use bx_homes::Blocks;
 use bx_layout::Block;
 use bx_overlay::{AuditError, Overlaid, first_wrong, read_disks};
-use bx_places::is_block;
+use bx_places::{PAYLOAD, is_block};
 use bx_tests_lines::Line;
 use std::alloc::Global;
 
@@ -36,15 +36,26 @@ fn tell_blocks<B: Blocks>(line: &mut Line, blocks: &mut B, areas: u16, numbers: 
     requires areas { B.areas blocks.old ≡ areas }
 {
     for number in numbers {
-        line.text(" block");
-        line.number(*number);
-        if is_block(*number, areas) {
-            match blocks.block(*number) {
-                Ok(Some(block)) => tell_block(line, &block),
-                Ok(None) => line.text(" none"),
-                Err(_) => line.text(" fault"),
-            }
-        }
+        tell_at(line, blocks, areas, *number);
+    }
+}
+
+/// Tells the block with a number, where there is one.
+fn tell_at<B: Blocks>(line: &mut Line, blocks: &mut B, areas: u16, number: u64)
+    requires ready { B.ready blocks.old }
+    requires areas { B.areas blocks.old ≡ areas }
+    ensures ready { B.ready blocks.new }
+    ensures areas { B.areas blocks.new ≡ areas }
+{
+    line.text(" block");
+    line.number(number);
+    if !is_block(number, areas) {
+        return;
+    }
+    match blocks.block(number) {
+        Ok(Some(block)) => tell_block(line, &block),
+        Ok(None) => line.text(" none"),
+        Err(_) => line.text(" fault"),
     }
 }
 
@@ -52,7 +63,10 @@ fn tell_blocks<B: Blocks>(line: &mut Line, blocks: &mut B, areas: u16, numbers: 
 fn tell_block(line: &mut Line, block: &Block) {
     line.numbers(&[block.handle, u64::from(block.kind)]);
     let mut payload = block.payload.bytes();
-    while let Some((0, front)) = payload.split_last() {
+    for _ in 0..PAYLOAD {
+        let Some((0, front)) = payload.split_last() else {
+            break;
+        };
         payload = front;
     }
     line.bytes(payload);

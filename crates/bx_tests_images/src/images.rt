@@ -7,6 +7,9 @@ use bx_memory_rack::MemRack;
 use bx_tests_lines::bytes_of;
 use std::alloc::Global;
 
+/// The most disks of a setting.
+const MOST_DISKS: usize = 16;
+
 /// The disks of a setting, with what stands on them by the lines of a file, and then by those of a row.
 pub(crate) fn rack_of(
     alloc: Global,
@@ -15,6 +18,9 @@ pub(crate) fn rack_of(
     lines: &str,
 ) -> Result<MemRack, Error> {
     let sizes = numbers_of(alloc, setting.disks)?;
+    if sizes.len() > MOST_DISKS {
+        return Err(anyhow!("too many disks"));
+    }
     let mut rack = MemRack::new(alloc, sizes.as_slice(), &[])?;
     put_all(alloc, &mut rack, shared)?;
     put_all(alloc, &mut rack, lines)?;
@@ -51,7 +57,8 @@ fn put_on(rack: &mut MemRack, disk: u64, first: u64, bytes: &[u8]) -> Result<(),
     let mut at = first;
     for piece in bytes.chunks(512) {
         let mut sector = [0; 512];
-        sector[..piece.len()].copy_from_slice(piece);
+        let count = piece.len().min(512);
+        sector[..count].copy_from_slice(&piece[..count]);
         if disk < rack.disks() && at < rack.sectors(disk) {
             rack.write(disk, at, &sector)?;
         }

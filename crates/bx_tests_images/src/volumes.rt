@@ -12,7 +12,7 @@ use std::alloc::Global;
 pub(crate) fn tell(
     alloc: Global,
     line: &mut Line,
-    image: &mut MemRack,
+    mut image: MemRack,
     numbers: &[u64],
     calls: u64,
 ) -> Result<(), Error> {
@@ -23,7 +23,7 @@ pub(crate) fn tell(
         return Ok(());
     };
     match makes(alloc, &mut made, volume, devices, areas) {
-        Ok(()) => tell_first(line, image, &mut made.into_inner()),
+        Ok(()) => tell_first(line, &mut image, &mut made.into_inner()),
         Err(RackError::Fault) => line.text("fault"),
         Err(RackError::OutOfMemory) => line.text("out of memory"),
     }

@@ -8,7 +8,7 @@ use Rattle.bx_plain.specs.Asks.{AlikeBut}
 use Rattle.bx_plain.specs.Rows.{want_in}
 use Rattle.bx_plain.specs.Grants.{IsLeft, Passes}
 use Rattle.bx_plain.proofs.Asking.{alike_self}
-use Rattle.bx_plain.proofs.Granting.{grant_none_left, grant_passes, none_free, none_wanted, passes_none}
+use Rattle.bx_plain.proofs.Granting.{grant_none_left, grant_passes, none_free, none_unheld, none_wanted, passes_none, was_false}
 use Rattle.bx_plain.proofs.Wants.{alike_its, left_alone, wants_go, was_true}
 use Rattle.bx_plain.proofs.owners.PlainOwners.grant.Goals as goal
 
@@ -52,7 +52,16 @@ pub returns-then-not-row-clause-passes : goal.returns-then-not-row-clause-passes
 returns-then-not-row-clause-passes c = passes_none c.args.block c.args.self.now.rows
 
 pub returns-then-not-row-clause-none_left : goal.returns-then-not-row-clause-none_left
-returns-then-not-row-clause-none_left c = none_wanted c.args.self.now.rows c.args.session c.args.block c.row_of-row.result c.row_of-row.ensures c.if-not-row.true
+returns-then-not-row-clause-none_left c = none_wanted c.args.self.now.rows c.args.session c.args.block c.row_of-row.result c.row_of-row.ensures (was_false c.row_of-row.result.is_wanted c.if-not-row.true)
+
+pub returns-then-row-clause-alike : goal.returns-then-row-clause-alike
+returns-then-row-clause-alike c = alike_self c.args.block c.args.self.now.rows
+
+pub returns-then-row-clause-passes : goal.returns-then-row-clause-passes
+returns-then-row-clause-passes c = passes_none c.args.block c.args.self.now.rows
+
+pub returns-then-row-clause-none_left : goal.returns-then-row-clause-none_left
+returns-then-row-clause-none_left c = none_unheld c.args.self.now.rows c.args.session c.args.block c.row_of-row.result c.row_of-row.ensures c.if-row.true
 
 pub returns-then-not-is_free-clause-passes : goal.returns-then-not-is_free-clause-passes
 returns-then-not-is_free-clause-passes c = passes_none c.args.block c.args.self.now.rows

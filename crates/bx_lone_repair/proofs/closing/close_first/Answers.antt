@@ -26,7 +26,7 @@ returns-in_err-write_through-clause-stands g c = λ volume floor count tree reco
     let runs = c.in_ok-runs.runs in
     on_err (StandsAs volume floor tree records (closes_log count) z) c.from_residual-in_err-write_through.result
     (log_stays x z volume floor tree
-    (labelled_kept x z volume runs st.labelled c.write_through.ensures.sizes (c.write_through.ensures.members tells)
+    (labelled_kept x z volume runs st.labelled c.write_through.ensures.rack.sizes (c.write_through.ensures.members tells)
     (λ run there. (closes_fits.each run (subst (λ (all : List Run). Contains all run) c.in_ok-runs.ensures there)).behind_label))
     records (closes_log count)
     (is_out x z (closes_log count) runs not_idle_closes c.in_ok-runs.ensures (λ d s content only was. c.write_through.ensures.keeps (opening_state 1 1) d s content tells only was)) st)
@@ -37,7 +37,7 @@ returns-clause-closes g c = λ volume floor count tree records tells some st.
     let z = g.R.Rack.state c.write_through.new.rack in
     let runs = c.in_ok-runs.runs in
     first_closed x z volume floor tree
-    (labelled_kept x z volume runs st.labelled c.write_through.ensures.sizes (c.write_through.ensures.members tells)
+    (labelled_kept x z volume runs st.labelled c.write_through.ensures.rack.sizes (c.write_through.ensures.members tells)
     (λ run there. (closes_fits.each run (subst (λ (all : List Run). Contains all run) c.in_ok-runs.ensures there)).behind_label))
     count records st
     (is_done x z (record (closes_log count) { out = true }) runs not_idle_closes c.in_ok-runs.ensures (λ d s content only was. c.write_through.ensures.keeps (opening_state 1 1) d s content tells only was)

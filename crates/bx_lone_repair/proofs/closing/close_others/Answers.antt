@@ -26,7 +26,7 @@ returns-in_err-write_through-clause-stands g c = λ volume floor tree tells st.
     let runs = c.in_ok-runs.runs in
     on_err (StandsAs volume floor tree [] shuts_log z) c.from_residual-in_err-write_through.result
     (log_stays x z volume floor tree
-    (labelled_kept x z volume runs st.labelled c.write_through.ensures.sizes (c.write_through.ensures.members tells)
+    (labelled_kept x z volume runs st.labelled c.write_through.ensures.rack.sizes (c.write_through.ensures.members tells)
     (λ run there. (shuts_fits.each run (subst (λ (all : List Run). Contains all run) c.in_ok-runs.ensures there)).behind_label))
     [] shuts_log
     (is_out x z shuts_log runs not_idle_shuts c.in_ok-runs.ensures (λ d s content only was. c.write_through.ensures.keeps (opening_state 1 1) d s content tells only was)) st)
@@ -37,7 +37,7 @@ returns-clause-closes g c = λ volume floor tree tells st.
     let z = g.R.Rack.state c.write_through.new.rack in
     let runs = c.in_ok-runs.runs in
     all_closed x z volume floor tree
-    (labelled_kept x z volume runs st.labelled c.write_through.ensures.sizes (c.write_through.ensures.members tells)
+    (labelled_kept x z volume runs st.labelled c.write_through.ensures.rack.sizes (c.write_through.ensures.members tells)
     (λ run there. (shuts_fits.each run (subst (λ (all : List Run). Contains all run) c.in_ok-runs.ensures there)).behind_label))
     st
     (is_done x z (record shuts_log { out = true }) runs not_idle_shuts c.in_ok-runs.ensures (λ d s content only was. c.write_through.ensures.keeps (opening_state 1 1) d s content tells only was)

@@ -61,7 +61,7 @@ returns-in_err-write_through-clause-left g c = λ volume floor tree doubt tells 
     let runs = c.in_ok-runs.runs in
     let told = c.read_sectors.ensures.rack.keeps_telling tells in
     let there = subst (λ (y : Disks). IsLabelled y volume) (sym c.read_sectors.ensures.stays) left.labelled in
-    let labelled = labelled_kept mid z volume runs there c.write_through.ensures.sizes (c.write_through.ensures.members told) (behind_label c.read_sectors.new.into runs c.in_ok-runs.ensures) in
+    let labelled = labelled_kept mid z volume runs there c.write_through.ensures.rack.sizes (c.write_through.ensures.members told) (behind_label c.read_sectors.new.into runs c.in_ok-runs.ensures) in
     still_left x z volume floor tree doubt c.read_sectors.new.into runs (omega arith) (c.in_ok-read_sectors.ensures.bytes tells) c.in_ok-runs.ensures
     (λ d s content only was. c.write_through.ensures.keeps (opening_state 1 1) d s content told only (subst (λ (y : Disks). IsSettled y (opening_state 1 1) d s content) (sym c.read_sectors.ensures.stays) was))
     labelled left
@@ -74,7 +74,7 @@ returns-clause-left g c = λ volume floor tree doubt tells left.
     let runs = c.in_ok-runs.runs in
     let told = c.read_sectors.ensures.rack.keeps_telling tells in
     let there = subst (λ (y : Disks). IsLabelled y volume) (sym c.read_sectors.ensures.stays) left.labelled in
-    let labelled = labelled_kept mid z volume runs there c.write_through.ensures.sizes (c.write_through.ensures.members told) (behind_label c.read_sectors.new.into runs c.in_ok-runs.ensures) in
+    let labelled = labelled_kept mid z volume runs there c.write_through.ensures.rack.sizes (c.write_through.ensures.members told) (behind_label c.read_sectors.new.into runs c.in_ok-runs.ensures) in
     still_left x z volume floor tree doubt c.read_sectors.new.into runs (omega arith) (c.in_ok-read_sectors.ensures.bytes tells) c.in_ok-runs.ensures
     (λ d s content only was. c.write_through.ensures.keeps (opening_state 1 1) d s content told only (subst (λ (y : Disks). IsSettled y (opening_state 1 1) d s content) (sym c.read_sectors.ensures.stays) was))
     labelled left
@@ -87,7 +87,7 @@ returns-clause-comes g c = λ volume floor tree doubt tells left.
     let runs = c.in_ok-runs.runs in
     let told = c.read_sectors.ensures.rack.keeps_telling tells in
     let there = subst (λ (y : Disks). IsLabelled y volume) (sym c.read_sectors.ensures.stays) left.labelled in
-    let labelled = labelled_kept mid z volume runs there c.write_through.ensures.sizes (c.write_through.ensures.members told) (behind_label c.read_sectors.new.into runs c.in_ok-runs.ensures) in
+    let labelled = labelled_kept mid z volume runs there c.write_through.ensures.rack.sizes (c.write_through.ensures.members told) (behind_label c.read_sectors.new.into runs c.in_ok-runs.ensures) in
     then_comes x z volume floor tree doubt c.read_sectors.new.into runs (omega arith) (c.in_ok-read_sectors.ensures.bytes tells) c.in_ok-runs.ensures
     (λ d s content only was. c.write_through.ensures.keeps (opening_state 1 1) d s content told only (subst (λ (y : Disks). IsSettled y (opening_state 1 1) d s content) (sym c.read_sectors.ensures.stays) was))
     labelled left (c.in_ok-write_through.ensures.done (opening_state 1 1) told refl)

@@ -27,7 +27,7 @@ returns-in_err-write_through-clause-rests g c = λ volume floor tree records tel
     on_err (Rests volume floor tree records z) c.from_residual-in_err-write_through.result
     (rests_still x z runs (λ d s content only was. c.write_through.ensures.keeps (opening_state 1 1) d s content tells only was) volume floor tree records rests
     (its_homes c.args.newest.now records runs are newest)
-    (labelled_kept x z volume runs rests.labelled c.write_through.ensures.sizes (c.write_through.ensures.members tells) (behind_label c.args.newest.now runs are)))
+    (labelled_kept x z volume runs rests.labelled c.write_through.ensures.rack.sizes (c.write_through.ensures.members tells) (behind_label c.args.newest.now runs are)))
 
 pub returns-clause-homed : goal.returns-clause-homed
 returns-clause-homed g c = λ volume floor tree records tells rests newest some.
@@ -38,5 +38,5 @@ returns-clause-homed g c = λ volume floor tree records tells rests newest some.
     subst (λ (log : LogView). StandsAs volume floor tree records log z) (closes_with (length records) some)
     (homes_stand x z runs (λ d s content only was. c.write_through.ensures.keeps (opening_state 1 1) d s content tells only was) volume floor tree records rests
     (its_homes c.args.newest.now records runs are newest)
-    (labelled_kept x z volume runs rests.labelled c.write_through.ensures.sizes (c.write_through.ensures.members tells) (behind_label c.args.newest.now runs are))
+    (labelled_kept x z volume runs rests.labelled c.write_through.ensures.rack.sizes (c.write_through.ensures.members tells) (behind_label c.args.newest.now runs are))
     (c.in_ok-write_through.ensures.done (opening_state 1 1) tells refl))

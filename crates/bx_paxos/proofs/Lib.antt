@@ -2,6 +2,7 @@ pub mod Events
 pub mod Halves
 pub mod Images
 pub mod Letters
+pub mod OneReading
 pub mod Reading
 pub mod Replicas
 pub mod Sending

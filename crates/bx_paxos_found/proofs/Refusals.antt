@@ -1,5 +1,5 @@
 -- Why disks are read as nothing: too few replicas count, no index is left, or no boot.
-use Rattle.std.proofs.Common.{◌≡◌, ◌≢◌, ℕ, ◌+◌, ◌<◌, ◌≤◌, ◌⊎◌, inl, inr, List, length, Option, Some, None, Result, Ok, Err, refl, sym, ap, subst, ◌∙◌, arith}
+use Rattle.std.proofs.Common.{◌≡◌, ◌≢◌, ℕ, ◌+◌, ◌^◌, ◌<◌, ◌≤◌, ◌⊎◌, inl, inr, List, length, Option, Some, None, Result, Ok, Err, refl, sym, ap, subst, ◌∙◌, arith}
 use Rattle.std.specs.Prelude.{IfOk, IsErrOf, OnOk, max}
 use Rattle.std.proofs.lemmas.Bool.{cases_lt}
 use Rattle.bx_acceptor.proofs.Taking.{one_found}
@@ -12,12 +12,13 @@ use Rattle.bx_facts.specs.declared.input.OpenError.{OpenError}
 use Rattle.bx_facts.specs.declared.input.OpenError.TheVariants.{Disk as OpenFails, OutOfMemory as WantsMemory, Spent}
 use Rattle.bx_global.specs.declared.held.Held.{Held}
 use Rattle.bx_global.specs.declared.state.GlobalState.{GlobalState}
+use Rattle.bx_paxos.proofs.OneReading.{one_reading}
 use Rattle.bx_paxos.specs.Reading.{ReadsState, Tells}
 use Rattle.bx_paxos.specs.Shown.{IsUnread}
 use Rattle.bx_paxos_found.specs.declared.looking.Seen.{Seen}
 use Rattle.bx_paxos_found.specs.Boots.{boot_of_held}
-use Rattle.bx_paxos_found.specs.Choosing.{three}
-use Rattle.bx_paxos_found.specs.Finding.{AreAtTheEnd, AreTooFew, Counts, IsGreatestBoot, IsSeen, IsSpentAt, LackMajority, boot_of, count_of, held_of}
+use Rattle.bx_paxos_found.specs.Choosing.{chosen_of, three}
+use Rattle.bx_paxos_found.specs.Finding.{AreAtTheEnd, AreFollowed, AreTooFew, Counts, IsGreatestBoot, IsSeen, IsSpentAt, LackMajority, boot_of, count_of, held_of}
 use Rattle.bx_paxos_found.proofs.Threes.{Two, seen_held, three_each, three_held, two_of}
 use Rattle.bx_paxos_found.proofs.Views.{reads_so_chosen, some_chosen, view_seen}
 
@@ -131,8 +132,17 @@ module _ (devices : ℕ) (x : Disks) (a b c : Option Seen) (seen_a : IsSeen devi
 
   -- ---- what is made of them
 
-  pub too_few : AreTooFew a b c → LackMajority devices x.sizes x.reads ⊎ AreAtTheEnd devices x.sizes x.reads
-  too_few (inl few) = inl (by a b c refl refl refl few)
+  -- what they are read as, two at least
+  pub read_so : (made s : GlobalState) → length made.devices ≡ devices → 2 ≤ count_of a + (count_of b + count_of c) → chosen_of (held_of a) (held_of b) (held_of c) ≡ Some s → ReadsState made x.sizes x.reads s
+  read_so made s same least is =
+      let t = two_of a b c least in
+      let one = three_held a b c t.one ∙ t.two.is_one in
+      let other = three_held a b c t.other ∙ t.two.is_other in
+      reads_so_chosen devices x.sizes x.reads (held_of a) (held_of b) (held_of c) (view_seen devices x.sizes x.reads 0 a seen_a) (view_seen devices x.sizes x.reads 1 b seen_b) (view_seen devices x.sizes x.reads 2 c seen_c)
+      made s t.one t.other t.one_held t.other_held same (record { two = t.two.two; is_one = one; is_other = other }) is
+
+  pub few_lack : count_of a + (count_of b + count_of c) < 2 → LackMajority devices x.sizes x.reads
+  few_lack few = by a b c refl refl refl few
     where
       by : (p q r : Option Seen) → a ≡ p → b ≡ q → c ≡ r → count_of p + (count_of q + count_of r) < 2 → LackMajority devices x.sizes x.reads
       by None None r e f g few = lack 0 1 (omega arith) (omega arith) (λ k. omega (arith, k)) e f
@@ -141,7 +151,9 @@ module _ (devices : ℕ) (x : Disks) (a b c : Option Seen) (seen_a : IsSeen devi
       by None (Some y) (Some z) e f g few = absurd (omega (arith, few))
       by (Some y) None (Some z) e f g few = absurd (omega (arith, few))
       by (Some y) (Some z) r e f g few = absurd (omega (arith, few))
-  too_few (inr (inl none)) = inl (by a b c refl refl refl)
+
+  pub none_lack : chosen_of (held_of a) (held_of b) (held_of c) ≡ None → LackMajority devices x.sizes x.reads
+  none_lack none = by a b c refl refl refl
     where
       never : (n : ℕ) (held : Held) → three (held_of a) (held_of b) (held_of c) n ≡ Some held → ⊥
       never n held e = let k = some_chosen (held_of a) (held_of b) (held_of c) n held e in let bad = sym none ∙ k.1 in absurd cc
@@ -150,18 +162,23 @@ module _ (devices : ℕ) (x : Disks) (a b c : Option Seen) (seen_a : IsSeen devi
       by None None r e f g = lack 0 1 (omega arith) (omega arith) (λ k. omega (arith, k)) e f
       by (Some y) q r e f g = absurd (never 0 y.held (ap held_of e))
       by None (Some y) r e f g = absurd (never 1 y.held (ap held_of f))
-  too_few (inr (inr (s, is, least, end))) = inr (λ made same.
-      let t = two_of a b c least in
-      let one = three_held a b c t.one ∙ t.two.is_one in
-      let other = three_held a b c t.other ∙ t.two.is_other in (
-        s,
-        reads_so_chosen devices x.sizes x.reads (held_of a) (held_of b) (held_of c) (view_seen devices x.sizes x.reads 0 a seen_a) (view_seen devices x.sizes x.reads 1 b seen_b) (view_seen devices x.sizes x.reads 2 c seen_c)
-            made s t.one t.other t.one_held t.other_held same (record { two = t.two.two; is_one = one; is_other = other }) is,
-        end,
-      ))
 
-  pub spent_at : (boot : ℕ) → IsSpentAt a b c boot → IsGreatestBoot devices x.sizes x.reads boot × (LackMajority devices x.sizes x.reads → ⊥)
-  spent_at boot is = (is_greatest boot is.two is.greatest, no_lack is.two)
+  pub too_few : AreTooFew a b c → LackMajority devices x.sizes x.reads ⊎ AreAtTheEnd devices x.sizes x.reads
+  too_few (inl few) = inl (few_lack few)
+  too_few (inr (inl none)) = inl (none_lack none)
+  too_few (inr (inr (s, is, least, end))) = inr (λ made same. (s, read_so made s same least is, end))
+
+  pub spent_at : (boot : ℕ) → IsSpentAt a b c boot → IsGreatestBoot devices x.sizes x.reads boot × AreFollowed devices x.sizes x.reads
+  spent_at boot is = (is_greatest boot is.two is.greatest, λ made same. (is.state.0, read_so made is.state.0 same is.two is.state.1, is.state.2))
+
+-- one boot is the greatest
+pub one_greatest : (devices : ℕ) (sizes : List ℕ) (image : Image) (boot other : ℕ) → IsGreatestBoot devices sizes image boot → IsGreatestBoot devices sizes image other → other ≡ boot
+one_greatest devices sizes image boot other is also =
+    let one = is.is in
+    let two = also.is in
+    let least = also.most one.0 one.1 one.2 in
+    let most = is.most two.0 two.1 two.2 in
+    omega (arith, least, most, one.3, two.3)
 
 -- ---- disks that tell no state
 
@@ -175,7 +192,7 @@ no_volume devices x none = record {
   other_unread = record { none = λ found held label is. none 1 label };
 }
 
-lack_reads : (made : GlobalState) (sizes : List ℕ) (image : Image) (s : GlobalState) → LackMajority (length made.devices) sizes image → ReadsState made sizes image s → ⊥
+pub lack_reads : (made : GlobalState) (sizes : List ℕ) (image : Image) (s : GlobalState) → LackMajority (length made.devices) sizes image → ReadsState made sizes image s → ⊥
 lack_reads made sizes image s lack read = by (in_common t.one t.other lack.one lack.other t.two.two lack.two)
   where
     t : Tells read.seen s
@@ -193,6 +210,11 @@ lack_reads made sizes image s lack read = by (in_common t.one t.other lack.one l
 pub tell_none : (made : GlobalState) (x : Disks) → LackMajority (length made.devices) x.sizes x.reads ⊎ AreAtTheEnd (length made.devices) x.sizes x.reads → TellNoState (ReadsState made) x
 tell_none made x (inl lack) = inl (λ s read. lack_reads made x.sizes x.reads s lack read)
 tell_none made x (inr end) = inr (end made refl)
+
+-- and those that tell one which another may follow
+pub tell_one : (made : GlobalState) (x : Disks) (s : GlobalState) → ReadsState made x.sizes x.reads s → s.index + 1 < 2 ^ 64 → TellNoState (ReadsState made) x → ⊥
+tell_one made x s read less (inl none) = none s read
+tell_one made x s read less (inr (t, also, end)) = let same = ap (λ (k : GlobalState). k.index) (one_reading made x.sizes x.reads s t read also) in omega (arith, less, end, same)
 
 -- ---- results
 

@@ -55,9 +55,10 @@ abbrev pub AreTooFew : Option Seen → Option Seen → Option Seen → Type 0
 AreTooFew a b c = (count_of a + (count_of b + count_of c) < 2) ⊎ ((chosen_of (held_of a) (held_of b) (held_of c) ≡ None)
     ⊎ ((s : GlobalState) × (chosen_of (held_of a) (held_of b) (held_of c) ≡ Some s) × (2 ≤ count_of a + (count_of b + count_of c)) × (2 ^ 64 ≤ s.index + 1)))
 
--- .. of cells whose greatest boot is that
+-- .. of cells that are read as a state that another may follow, and whose greatest boot is that
 pub record IsSpentAt (a b c : Option Seen) (boot : ℕ) : Type 0 where
   pub two : 2 ≤ count_of a + (count_of b + count_of c)
+  pub state : (s : GlobalState) × (chosen_of (held_of a) (held_of b) (held_of c) ≡ Some s) × (s.index + 1 < 2 ^ 64)
   pub greatest : boot ≡ max (boot_of a) (max (boot_of b) (boot_of c))
   pub above : most_boot < boot
 
@@ -78,6 +79,10 @@ pub record LackMajority (devices : ℕ) (sizes : List ℕ) (image : Image) : Typ
 -- They are read as a state that no other may follow, since its index is the greatest that a number can be.
 abbrev pub AreAtTheEnd : ℕ → List ℕ → Image → Type 0
 AreAtTheEnd devices sizes image = (made : GlobalState) → length made.devices ≡ devices → (s : GlobalState) × ReadsState made sizes image s × (2 ^ 64 ≤ s.index + 1)
+
+-- They are read as a state that another may follow.
+abbrev pub AreFollowed : ℕ → List ℕ → Image → Type 0
+AreFollowed devices sizes image = (made : GlobalState) → length made.devices ≡ devices → (s : GlobalState) × ReadsState made sizes image s × (s.index + 1 < 2 ^ 64)
 
 -- This is the greatest boot in the cells of replicas that count.
 pub record IsGreatestBoot (devices : ℕ) (sizes : List ℕ) (image : Image) (boot : ℕ) : Type 0 where

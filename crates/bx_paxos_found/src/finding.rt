@@ -1,9 +1,8 @@
 //! The state of the cluster, read off the disks of replicas.
 
 ghost use Rattle.std.specs.Prelude.{◌≡◌, ℕ, ◌+◌, ◌^◌, ◌<◌, ◌≤◌, ◌⊎◌, ◌↔◌, length, Option, IfOk, IsErrOf, OnOk, IsTrue, slice_index};
-ghost use Rattle.bx_base.specs.Faults.{Rose};
 ghost use Rattle.bx_cell.specs.Images.{EachSure};
-ghost use Rattle.bx_disk.specs.Counts.{NoneFalls};
+ghost use Rattle.bx_disk.specs.Kept.{Counted};
 ghost use Rattle.bx_facts.specs.Chains.{IsAboveBoots, most_boot};
 ghost use Rattle.bx_facts.specs.Disks.{SameDisks};
 ghost use Rattle.bx_facts.specs.declared.input.OpenError.TheVariants.{Disk as OpenFails, NoLabel, NoMajority, Spent};
@@ -12,7 +11,7 @@ ghost use Rattle.bx_global.specs.declared.held.Held.{Held};
 ghost use Rattle.bx_global.specs.declared.state.GlobalState.{GlobalState};
 ghost use Rattle.bx_paxos.specs.Reading.{ReadsState};
 ghost use Rattle.bx_paxos.specs.Shown.{HasFound, StandsAsFound};
-ghost use Rattle.bx_paxos_found.specs.Finding.{AreAtTheEnd, IsGreatestBoot, LackMajority};
+ghost use Rattle.bx_paxos_found.specs.Finding.{AreAtTheEnd, AreFollowed, IsGreatestBoot, LackMajority};
 ghost use Rattle.bx_paxos_found.specs.Origins.{origin_in};
 
 use crate::labels::volume_label;
@@ -34,16 +33,13 @@ pub fn find<R: Rack>(alloc: Global, rack: &mut R, devices: u32) -> Result<FoundS
     ensures boots { IfOk result (λ f. IsAboveBoots f.state (f.boot + 1)) }
     ensures no_majority { R.tells rack.old → IsErrOf result NoMajority → LackMajority devices (R.state rack.old).sizes (R.state rack.old).reads ⊎ AreAtTheEnd devices (R.state rack.old).sizes (R.state rack.old).reads }
     ensures majority { R.tells rack.old → OnOk result (LackMajority devices (R.state rack.old).sizes (R.state rack.old).reads → ⊥) }
-    ensures spent { (boot : ℕ) → R.tells rack.old → IsErrOf result (Spent boot) → IsGreatestBoot devices (R.state rack.old).sizes (R.state rack.old).reads boot × (LackMajority devices (R.state rack.old).sizes (R.state rack.old).reads → ⊥) }
+    ensures spent { (boot : ℕ) → R.tells rack.old → IsErrOf result (Spent boot) → IsGreatestBoot devices (R.state rack.old).sizes (R.state rack.old).reads boot × AreFollowed devices (R.state rack.old).sizes (R.state rack.old).reads }
     ensures above { (boot : ℕ) → IsErrOf result (Spent boot) → most_boot < boot }
     ensures greatest { R.tells rack.old → IfOk result (λ f. IsGreatestBoot devices (R.state rack.old).sizes (R.state rack.old).reads f.boot) }
     ensures few { IfOk result (λ f. f.boot ≤ most_boot) }
     ensures no_label { (disk : ℕ) → IsErrOf result (NoLabel disk) → ⊥ }
     ensures disks { R.tells rack.old → SameDisks (R.state rack.old) (R.state rack.new) }
-    ensures cause { IsErrOf result OpenFails → Rose (R.faults rack.old) (R.faults rack.new) }
-    ensures later { NoneFalls (R.faults rack.old) (R.faults rack.new) (R.faults_of rack.old) (R.faults_of rack.new) }
-    ensures sizes { (R.state rack.new).sizes ≡ (R.state rack.old).sizes }
-    ensures keeps_telling { R.tells rack.old → R.tells rack.new }
+    ensures rack { Counted R.Rack rack.old rack.new result OpenFails }
 {
     let Ok(found) = volume_label(rack, devices) else {
         return Err(OpenError::Disk);

@@ -1,8 +1,7 @@
 //! Which replicas are labelled.
 
-ghost use Rattle.std.specs.Prelude.{◌≡◌, ℕ, ◌<◌, ◌≤◌, ◌↔◌, IfNone, IfOk, IfSome, IsTrue, OnErr, slice_index};
-ghost use Rattle.bx_base.specs.Faults.{Rose};
-ghost use Rattle.bx_disk.specs.Counts.{NoneFalls};
+ghost use Rattle.std.specs.Prelude.{◌≡◌, ℕ, ◌<◌, ◌≤◌, ◌↔◌, IfNone, IfOk, IfSome, IsTrue, slice_index};
+ghost use Rattle.bx_disk.specs.Kept.{Faults, FaultsOn};
 ghost use Rattle.bx_facts.specs.Labelled.{IsFirstLabel, IsLabelled, IsOwnLabel, IsWhole, label_on};
 ghost use Rattle.bx_layout.specs.Labels.{SpellsLabel};
 ghost use Rattle.bx_layout.specs.declared.label.Label.{Label};
@@ -26,9 +25,7 @@ fn own_label<R: Rack>(rack: &mut R, replica: u32) -> Result<Option<Label>, DiskF
     ensures some { R.tells rack.old → IfOk result (λ found. IfSome found (IsOwnLabel (R.state rack.old).sizes (R.state rack.old).reads replica)) }
     ensures none { R.tells rack.old → IfOk result (λ found. IfNone found ((label : Label) → IsOwnLabel (R.state rack.old).sizes (R.state rack.old).reads replica label → ⊥)) }
     ensures stays { R.state rack.new ≡ R.state rack.old }
-    ensures cause { OnErr result (Rose (R.faults rack.old) (R.faults rack.new)) }
-    ensures later { NoneFalls (R.faults rack.old) (R.faults rack.new) (R.faults_of rack.old) (R.faults_of rack.new) }
-    ensures keeps_telling { R.tells rack.old → R.tells rack.new }
+    ensures rack { FaultsOn R.Rack rack.old rack.new replica result }
 {
     if !is_whole(rack, replica) {
         return Ok(None);
@@ -50,9 +47,7 @@ fn first_label<R: Rack>(rack: &mut R) -> Result<Option<Label>, DiskFault>
     ensures some { R.tells rack.old → IfOk result (λ found. IfSome found (IsFirstLabel (R.state rack.old).sizes (R.state rack.old).reads)) }
     ensures none { R.tells rack.old → IfOk result (λ found. IfNone found ((n : ℕ) (label : Label) → IsOwnLabel (R.state rack.old).sizes (R.state rack.old).reads n label → ⊥)) }
     ensures stays { R.state rack.new ≡ R.state rack.old }
-    ensures cause { OnErr result (Rose (R.faults rack.old) (R.faults rack.new)) }
-    ensures later { NoneFalls (R.faults rack.old) (R.faults rack.new) (R.faults_of rack.old) (R.faults_of rack.new) }
-    ensures keeps_telling { R.tells rack.old → R.tells rack.new }
+    ensures rack { Faults R.Rack rack.old rack.new result }
 {
     for replica in 0..3 {
         if let Some(label) = own_label(rack, replica)? {
@@ -67,9 +62,7 @@ pub(crate) fn volume_label<R: Rack>(rack: &mut R, devices: u32) -> Result<Option
     ensures some { R.tells rack.old → IfOk result (λ found. IfSome found (λ first. IsFirstLabel (R.state rack.old).sizes (R.state rack.old).reads first × (first.devices ≡ devices))) }
     ensures none { R.tells rack.old → IfOk result (λ found. IfNone found ((n : ℕ) → IsLabelled devices (R.state rack.old).sizes (R.state rack.old).reads n → ⊥)) }
     ensures stays { R.state rack.new ≡ R.state rack.old }
-    ensures cause { OnErr result (Rose (R.faults rack.old) (R.faults rack.new)) }
-    ensures later { NoneFalls (R.faults rack.old) (R.faults rack.new) (R.faults_of rack.old) (R.faults_of rack.new) }
-    ensures keeps_telling { R.tells rack.old → R.tells rack.new }
+    ensures rack { Faults R.Rack rack.old rack.new result }
 {
     let Some(first) = first_label(rack)? else {
         return Ok(None);
@@ -90,9 +83,7 @@ pub(crate) fn is_of_volume<R: Rack>(
     requires room { 21 ≤ slice_index (R.state rack.old).sizes replica }
     ensures is { R.tells rack.old → IfOk result (λ answer. IsTrue answer ↔ SpellsLabel (label_on first.now replica) ((R.state rack.old).reads replica 0)) }
     ensures stays { R.state rack.new ≡ R.state rack.old }
-    ensures cause { OnErr result (Rose (R.faults rack.old) (R.faults rack.new)) }
-    ensures later { NoneFalls (R.faults rack.old) (R.faults rack.new) (R.faults_of rack.old) (R.faults_of rack.new) }
-    ensures keeps_telling { R.tells rack.old → R.tells rack.new }
+    ensures rack { FaultsOn R.Rack rack.old rack.new replica result }
 {
     let mut sector = [0; 512];
     read_sectors(rack, replica, 0, &mut sector)?;

@@ -1,11 +1,10 @@
 //! The disk of a replica, looked at.
 
-ghost use Rattle.std.specs.Prelude.{◌≡◌, ◌<◌, ◌≤◌, ◌⊎◌, IfOk, IfErr, IfSome, IfNone, IsErrOf, OnOk, slice_index};
+ghost use Rattle.std.specs.Prelude.{◌≡◌, ◌<◌, ◌≤◌, ◌⊎◌, IfOk, IfErr, IfSome, IfNone, OnOk, slice_index};
 ghost use Rattle.bx_acceptor.specs.Standing.{IsFound, IsNotFound};
-ghost use Rattle.bx_base.specs.Faults.{Rose};
 ghost use Rattle.bx_calls.specs.Regions.{IsSynced};
 ghost use Rattle.bx_cell.specs.Halves.{Found};
-ghost use Rattle.bx_disk.specs.Counts.{NoneFalls};
+ghost use Rattle.bx_disk.specs.Kept.{CountedOn};
 ghost use Rattle.bx_facts.specs.Disks.{SameDisks};
 ghost use Rattle.bx_facts.specs.Labelled.{IsFirstLabel, IsWhole};
 ghost use Rattle.bx_facts.specs.declared.input.OpenError.TheVariants.{Disk as OpenFails, OutOfMemory as WantsMemory};
@@ -21,7 +20,7 @@ use bx_layout::Label;
 use std::alloc::Global;
 
 /// The first sector of the cell, behind the label.
-const CELL: u64 = 1;
+pub(crate) const CELL: u64 = 1;
 
 /// What is seen of a replica that counts.
 #[derive(Drop)]
@@ -46,10 +45,7 @@ fn cell_on<R: Rack>(
     ensures sure { R.tells rack.old → OnOk result (IsSynced (R.state rack.new) replica) }
     ensures disks { R.tells rack.old → SameDisks (R.state rack.old) (R.state rack.new) }
     ensures errors { IfErr result (λ e. (e ≡ OpenFails) ⊎ (e ≡ WantsMemory)) }
-    ensures cause { IsErrOf result OpenFails → Rose (R.faults rack.old) (R.faults rack.new) }
-    ensures later { NoneFalls (R.faults rack.old) (R.faults rack.new) (R.faults_of rack.old) (R.faults_of rack.new) }
-    ensures sizes { (R.state rack.new).sizes ≡ (R.state rack.old).sizes }
-    ensures keeps_telling { R.tells rack.old → R.tells rack.new }
+    ensures rack { CountedOn R.Rack rack.old rack.new replica result OpenFails }
 {
     let cell = match Cell::open(alloc, rack, replica, CELL) {
         Ok(cell) => cell,
@@ -82,10 +78,7 @@ pub(crate) fn look<R: Rack>(
     ensures sure { R.tells rack.old → OnOk result (IsWhole (R.state rack.old).sizes replica → IsSynced (R.state rack.new) replica) }
     ensures disks { R.tells rack.old → SameDisks (R.state rack.old) (R.state rack.new) }
     ensures errors { IfErr result (λ e. (e ≡ OpenFails) ⊎ (e ≡ WantsMemory)) }
-    ensures cause { IsErrOf result OpenFails → Rose (R.faults rack.old) (R.faults rack.new) }
-    ensures later { NoneFalls (R.faults rack.old) (R.faults rack.new) (R.faults_of rack.old) (R.faults_of rack.new) }
-    ensures sizes { (R.state rack.new).sizes ≡ (R.state rack.old).sizes }
-    ensures keeps_telling { R.tells rack.old → R.tells rack.new }
+    ensures rack { CountedOn R.Rack rack.old rack.new replica result OpenFails }
 {
     if !is_whole(rack, replica) {
         return Ok(None);

@@ -18,11 +18,11 @@ returns-clause-reads g c = λ made same tells.
     let one = c.in_ok-first.ensures in
     let two = c.in_ok-second.ensures in
     let last = c.in_ok-third.ensures in
-    let before = c.in-Ok.ensures.keeps_telling tells in
-    let told = one.keeps_telling before in
-    let again = two.keeps_telling told in
+    let before = c.in-Ok.ensures.rack.keeps_telling tells in
+    let told = one.rack.keeps_telling before in
+    let again = two.rack.keeps_telling told in
     let label = of_some (λ (l : Label). IsFirstLabel x.sizes x.reads l × (l.devices ≡ c.args.devices)) c.in-Ok.found c.in-Some.label c.in-Some.is (c.in-Ok.ensures.some tells) in
-    let seen = all_seen c.args.devices x v y z c.in-Some.label c.in_ok-first.first c.in_ok-second.second c.in_ok-third.third read one.sizes two.sizes (one.disks before) (two.disks told) label (one.seen before) (two.seen told) (last.seen again) in
+    let seen = all_seen c.args.devices x v y z c.in-Some.label c.in_ok-first.first c.in_ok-second.second c.in_ok-third.third read one.rack.sizes two.rack.sizes (one.disks before) (two.disks told) label (one.seen before) (two.seen told) (last.seen again) in
     ok_map c.make.result _ _ (λ f is. reads_found c.in_ok-first.first c.in_ok-second.second c.in_ok-third.third f is c.args.devices one.held two.held last.held x seen.0 seen.1.0 seen.1.1 made same) c.make.ensures.made
 
 pub returns-clause-found : goal.returns-clause-found
@@ -36,18 +36,18 @@ returns-clause-found g c = λ tells.
     let one = c.in_ok-first.ensures in
     let two = c.in_ok-second.ensures in
     let last = c.in_ok-third.ensures in
-    let before = c.in-Ok.ensures.keeps_telling tells in
-    let told = one.keeps_telling before in
-    let again = two.keeps_telling told in
+    let before = c.in-Ok.ensures.rack.keeps_telling tells in
+    let told = one.rack.keeps_telling before in
+    let again = two.rack.keeps_telling told in
     let label = of_some (λ (l : Label). IsFirstLabel x.sizes x.reads l × (l.devices ≡ c.args.devices)) c.in-Ok.found c.in-Some.label c.in-Some.is (c.in-Ok.ensures.some tells) in
-    let seen = all_seen c.args.devices x v y z c.in-Some.label c.in_ok-first.first c.in_ok-second.second c.in_ok-third.third read one.sizes two.sizes (one.disks before) (two.disks told) label (one.seen before) (two.seen told) (last.seen again) in
+    let seen = all_seen c.args.devices x v y z c.in-Some.label c.in_ok-first.first c.in_ok-second.second c.in_ok-third.third read one.rack.sizes two.rack.sizes (one.disks before) (two.disks told) label (one.seen before) (two.seen told) (last.seen again) in
     let to_z = same_twice x y z (same_twice x v y (same_of x v read) (one.disks before)) (two.disks told) in
     ok_map c.make.result _ _
     (λ f is. (
       _,
       has_found c.in_ok-first.first c.in_ok-second.second c.in_ok-third.third f is,
-      stands_found c.in_ok-first.first c.in_ok-second.second c.in_ok-third.third f is c.args.devices one.held two.held last.held x seen.0 seen.1.0 seen.1.1 w (same_twice x z w to_z (last.disks again)) (last.sizes ∙ two.sizes ∙ one.sizes ∙ ap (λ (d : Disks). d.sizes) read)
-          (synced_all x v y z w read one.sizes two.sizes (two.disks told) (last.disks again) (one.sure before) (two.sure told) (last.sure again)),
+      stands_found c.in_ok-first.first c.in_ok-second.second c.in_ok-third.third f is c.args.devices one.held two.held last.held x seen.0 seen.1.0 seen.1.1 w (same_twice x z w to_z (last.disks again)) (last.rack.sizes ∙ two.rack.sizes ∙ one.rack.sizes ∙ ap (λ (d : Disks). d.sizes) read)
+          (synced_all x v y z w read one.rack.sizes two.rack.sizes (two.disks told) (last.disks again) (one.sure before) (two.sure told) (last.sure again)),
     )) c.make.ensures.made
 
 pub returns-clause-allowed : goal.returns-clause-allowed
@@ -78,11 +78,11 @@ returns-clause-no_majority g c = λ tells is.
     let one = c.in_ok-first.ensures in
     let two = c.in_ok-second.ensures in
     let last = c.in_ok-third.ensures in
-    let before = c.in-Ok.ensures.keeps_telling tells in
-    let told = one.keeps_telling before in
-    let again = two.keeps_telling told in
+    let before = c.in-Ok.ensures.rack.keeps_telling tells in
+    let told = one.rack.keeps_telling before in
+    let again = two.rack.keeps_telling told in
     let label = of_some (λ (l : Label). IsFirstLabel x.sizes x.reads l × (l.devices ≡ c.args.devices)) c.in-Ok.found c.in-Some.label c.in-Some.is (c.in-Ok.ensures.some tells) in
-    let seen = all_seen c.args.devices x v y z c.in-Some.label c.in_ok-first.first c.in_ok-second.second c.in_ok-third.third read one.sizes two.sizes (one.disks before) (two.disks told) label (one.seen before) (two.seen told) (last.seen again) in
+    let seen = all_seen c.args.devices x v y z c.in-Some.label c.in_ok-first.first c.in_ok-second.second c.in_ok-third.third read one.rack.sizes two.rack.sizes (one.disks before) (two.disks told) label (one.seen before) (two.seen told) (last.seen again) in
     too_few c.args.devices x c.in_ok-first.first c.in_ok-second.second c.in_ok-third.third seen.0 seen.1.0 seen.1.1 (c.make.ensures.few is)
 
 pub returns-clause-majority : goal.returns-clause-majority
@@ -95,11 +95,11 @@ returns-clause-majority g c = λ tells.
     let one = c.in_ok-first.ensures in
     let two = c.in_ok-second.ensures in
     let last = c.in_ok-third.ensures in
-    let before = c.in-Ok.ensures.keeps_telling tells in
-    let told = one.keeps_telling before in
-    let again = two.keeps_telling told in
+    let before = c.in-Ok.ensures.rack.keeps_telling tells in
+    let told = one.rack.keeps_telling before in
+    let again = two.rack.keeps_telling told in
     let label = of_some (λ (l : Label). IsFirstLabel x.sizes x.reads l × (l.devices ≡ c.args.devices)) c.in-Ok.found c.in-Some.label c.in-Some.is (c.in-Ok.ensures.some tells) in
-    let seen = all_seen c.args.devices x v y z c.in-Some.label c.in_ok-first.first c.in_ok-second.second c.in_ok-third.third read one.sizes two.sizes (one.disks before) (two.disks told) label (one.seen before) (two.seen told) (last.seen again) in
+    let seen = all_seen c.args.devices x v y z c.in-Some.label c.in_ok-first.first c.in_ok-second.second c.in_ok-third.third read one.rack.sizes two.rack.sizes (one.disks before) (two.disks told) label (one.seen before) (two.seen told) (last.seen again) in
     on_ok c.make.result _ _ (λ f is. no_lack c.args.devices x c.in_ok-first.first c.in_ok-second.second c.in_ok-third.third seen.0 seen.1.0 seen.1.1 is.two) c.make.ensures.made
 
 pub returns-clause-spent : goal.returns-clause-spent
@@ -112,11 +112,11 @@ returns-clause-spent g c = λ boot tells is.
     let one = c.in_ok-first.ensures in
     let two = c.in_ok-second.ensures in
     let last = c.in_ok-third.ensures in
-    let before = c.in-Ok.ensures.keeps_telling tells in
-    let told = one.keeps_telling before in
-    let again = two.keeps_telling told in
+    let before = c.in-Ok.ensures.rack.keeps_telling tells in
+    let told = one.rack.keeps_telling before in
+    let again = two.rack.keeps_telling told in
     let label = of_some (λ (l : Label). IsFirstLabel x.sizes x.reads l × (l.devices ≡ c.args.devices)) c.in-Ok.found c.in-Some.label c.in-Some.is (c.in-Ok.ensures.some tells) in
-    let seen = all_seen c.args.devices x v y z c.in-Some.label c.in_ok-first.first c.in_ok-second.second c.in_ok-third.third read one.sizes two.sizes (one.disks before) (two.disks told) label (one.seen before) (two.seen told) (last.seen again) in
+    let seen = all_seen c.args.devices x v y z c.in-Some.label c.in_ok-first.first c.in_ok-second.second c.in_ok-third.third read one.rack.sizes two.rack.sizes (one.disks before) (two.disks told) label (one.seen before) (two.seen told) (last.seen again) in
     spent_at c.args.devices x c.in_ok-first.first c.in_ok-second.second c.in_ok-third.third seen.0 seen.1.0 seen.1.1 boot (c.make.ensures.spent boot is)
 
 pub returns-in_err-third-clause-spent : goal.returns-in_err-third-clause-spent
@@ -137,9 +137,9 @@ returns-clause-greatest g c = λ tells.
     let one = c.in_ok-first.ensures in
     let two = c.in_ok-second.ensures in
     let last = c.in_ok-third.ensures in
-    let before = c.in-Ok.ensures.keeps_telling tells in
-    let told = one.keeps_telling before in
-    let again = two.keeps_telling told in
+    let before = c.in-Ok.ensures.rack.keeps_telling tells in
+    let told = one.rack.keeps_telling before in
+    let again = two.rack.keeps_telling told in
     let label = of_some (λ (l : Label). IsFirstLabel x.sizes x.reads l × (l.devices ≡ c.args.devices)) c.in-Ok.found c.in-Some.label c.in-Some.is (c.in-Ok.ensures.some tells) in
-    let seen = all_seen c.args.devices x v y z c.in-Some.label c.in_ok-first.first c.in_ok-second.second c.in_ok-third.third read one.sizes two.sizes (one.disks before) (two.disks told) label (one.seen before) (two.seen told) (last.seen again) in
+    let seen = all_seen c.args.devices x v y z c.in-Some.label c.in_ok-first.first c.in_ok-second.second c.in_ok-third.third read one.rack.sizes two.rack.sizes (one.disks before) (two.disks told) label (one.seen before) (two.seen told) (last.seen again) in
     ok_map c.make.result _ _ (λ f is. is_greatest c.args.devices x c.in_ok-first.first c.in_ok-second.second c.in_ok-third.third seen.0 seen.1.0 seen.1.1 f.boot is.two is.boot) c.make.ensures.made

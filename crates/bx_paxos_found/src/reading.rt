@@ -74,11 +74,7 @@ fn view<R: Rack>(
 }
 
 /// What three replicas are read as: `None` exactly where fewer than two are seen.
-fn read_as(
-    first: Option<Seen>,
-    second: Option<Seen>,
-    third: Option<Seen>,
-) -> Option<GlobalState>
+fn read_as(first: Option<Seen>, second: Option<Seen>, third: Option<Seen>) -> Option<GlobalState>
     ensures some { IfSome result (λ state. (2 ≤ count_of first + (count_of second + count_of third)) × (chosen_of (held_of first) (held_of second) (held_of third) ≡ Some state)) }
     ensures none { IfNone result ((count_of first + (count_of second + count_of third) < 2) ⊎ (chosen_of (held_of first) (held_of second) (held_of third) ≡ None)) }
 {

@@ -26,7 +26,7 @@ returns-clause-some g c = λ tells.
     let again = two.rack.keeps_telling told in
     let label = of_some (λ (l : Label). IsFirstLabel x.sizes x.reads l × (l.devices ≡ c.args.devices)) c.in_ok-label.field-0 c.in-Some.label c.in-Some.is (c.in_ok-label.ensures.some tells) in
     let seen = all_seen c.args.devices x v y z c.in-Some.label c.in_ok-first.first c.in_ok-second.second c.in_ok-third.third c.in_ok-label.ensures.stays one.rack.sizes two.rack.sizes (same_of v y one.stays) (same_of y z two.stays) label
-            (one.seen before) (two.seen told) (c.in_ok-third.ensures.seen again) in
+    (one.seen before) (two.seen told) (c.in_ok-third.ensures.seen again) in
     some_map c.read_as.result _ _ (read_three c.args.devices x c.in_ok-first.first c.in_ok-second.second c.in_ok-third.third seen.0 seen.1.0 seen.1.1 (formatted_state c.args.devices) (length-replicate c.args.devices first_device)) c.read_as.ensures.some
 
 pub returns-clause-none : goal.returns-clause-none
@@ -42,5 +42,5 @@ returns-clause-none g c = λ tells.
     let again = two.rack.keeps_telling told in
     let label = of_some (λ (l : Label). IsFirstLabel x.sizes x.reads l × (l.devices ≡ c.args.devices)) c.in_ok-label.field-0 c.in-Some.label c.in-Some.is (c.in_ok-label.ensures.some tells) in
     let seen = all_seen c.args.devices x v y z c.in-Some.label c.in_ok-first.first c.in_ok-second.second c.in_ok-third.third c.in_ok-label.ensures.stays one.rack.sizes two.rack.sizes (same_of v y one.stays) (same_of y z two.stays) label
-            (one.seen before) (two.seen told) (c.in_ok-third.ensures.seen again) in
+    (one.seen before) (two.seen told) (c.in_ok-third.ensures.seen again) in
     none_map c.read_as.result _ _ (lack_three c.args.devices x c.in_ok-first.first c.in_ok-second.second c.in_ok-third.third seen.0 seen.1.0 seen.1.1) c.read_as.ensures.none

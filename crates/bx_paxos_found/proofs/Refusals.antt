@@ -133,7 +133,7 @@ module _ (devices : ℕ) (x : Disks) (a b c : Option Seen) (seen_a : IsSeen devi
   -- ---- what is made of them
 
   -- what they are read as, two at least
-  read_so : (made s : GlobalState) → length made.devices ≡ devices → 2 ≤ count_of a + (count_of b + count_of c) → chosen_of (held_of a) (held_of b) (held_of c) ≡ Some s → ReadsState made x.sizes x.reads s
+  pub read_so : (made s : GlobalState) → length made.devices ≡ devices → 2 ≤ count_of a + (count_of b + count_of c) → chosen_of (held_of a) (held_of b) (held_of c) ≡ Some s → ReadsState made x.sizes x.reads s
   read_so made s same least is =
       let t = two_of a b c least in
       let one = three_held a b c t.one ∙ t.two.is_one in
@@ -141,8 +141,8 @@ module _ (devices : ℕ) (x : Disks) (a b c : Option Seen) (seen_a : IsSeen devi
       reads_so_chosen devices x.sizes x.reads (held_of a) (held_of b) (held_of c) (view_seen devices x.sizes x.reads 0 a seen_a) (view_seen devices x.sizes x.reads 1 b seen_b) (view_seen devices x.sizes x.reads 2 c seen_c)
       made s t.one t.other t.one_held t.other_held same (record { two = t.two.two; is_one = one; is_other = other }) is
 
-  pub too_few : AreTooFew a b c → LackMajority devices x.sizes x.reads ⊎ AreAtTheEnd devices x.sizes x.reads
-  too_few (inl few) = inl (by a b c refl refl refl few)
+  pub few_lack : count_of a + (count_of b + count_of c) < 2 → LackMajority devices x.sizes x.reads
+  few_lack few = by a b c refl refl refl few
     where
       by : (p q r : Option Seen) → a ≡ p → b ≡ q → c ≡ r → count_of p + (count_of q + count_of r) < 2 → LackMajority devices x.sizes x.reads
       by None None r e f g few = lack 0 1 (omega arith) (omega arith) (λ k. omega (arith, k)) e f
@@ -151,7 +151,9 @@ module _ (devices : ℕ) (x : Disks) (a b c : Option Seen) (seen_a : IsSeen devi
       by None (Some y) (Some z) e f g few = absurd (omega (arith, few))
       by (Some y) None (Some z) e f g few = absurd (omega (arith, few))
       by (Some y) (Some z) r e f g few = absurd (omega (arith, few))
-  too_few (inr (inl none)) = inl (by a b c refl refl refl)
+
+  pub none_lack : chosen_of (held_of a) (held_of b) (held_of c) ≡ None → LackMajority devices x.sizes x.reads
+  none_lack none = by a b c refl refl refl
     where
       never : (n : ℕ) (held : Held) → three (held_of a) (held_of b) (held_of c) n ≡ Some held → ⊥
       never n held e = let k = some_chosen (held_of a) (held_of b) (held_of c) n held e in let bad = sym none ∙ k.1 in absurd cc
@@ -160,6 +162,10 @@ module _ (devices : ℕ) (x : Disks) (a b c : Option Seen) (seen_a : IsSeen devi
       by None None r e f g = lack 0 1 (omega arith) (omega arith) (λ k. omega (arith, k)) e f
       by (Some y) q r e f g = absurd (never 0 y.held (ap held_of e))
       by None (Some y) r e f g = absurd (never 1 y.held (ap held_of f))
+
+  pub too_few : AreTooFew a b c → LackMajority devices x.sizes x.reads ⊎ AreAtTheEnd devices x.sizes x.reads
+  too_few (inl few) = inl (few_lack few)
+  too_few (inr (inl none)) = inl (none_lack none)
   too_few (inr (inr (s, is, least, end))) = inr (λ made same. (s, read_so made s same least is, end))
 
   pub spent_at : (boot : ℕ) → IsSpentAt a b c boot → IsGreatestBoot devices x.sizes x.reads boot × AreFollowed devices x.sizes x.reads
@@ -186,7 +192,7 @@ no_volume devices x none = record {
   other_unread = record { none = λ found held label is. none 1 label };
 }
 
-lack_reads : (made : GlobalState) (sizes : List ℕ) (image : Image) (s : GlobalState) → LackMajority (length made.devices) sizes image → ReadsState made sizes image s → ⊥
+pub lack_reads : (made : GlobalState) (sizes : List ℕ) (image : Image) (s : GlobalState) → LackMajority (length made.devices) sizes image → ReadsState made sizes image s → ⊥
 lack_reads made sizes image s lack read = by (in_common t.one t.other lack.one lack.other t.two.two lack.two)
   where
     t : Tells read.seen s

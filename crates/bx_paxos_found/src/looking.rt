@@ -20,7 +20,7 @@ use bx_layout::Label;
 use std::alloc::Global;
 
 /// The first sector of the cell, behind the label.
-const CELL: u64 = 1;
+pub(crate) const CELL: u64 = 1;
 
 /// What is seen of a replica that counts.
 #[derive(Drop)]

@@ -47,7 +47,7 @@ fn boot_of(seen: &Option<Seen>) -> u64
 }
 
 /// 1 where it counts, else 0.
-fn count_of(seen: &Option<Seen>) -> u32
+pub(crate) fn count_of(seen: &Option<Seen>) -> u32
     ensures is { result ≡ count_of seen.now }
     ensures most { result < 2 }
 {
@@ -58,7 +58,7 @@ fn count_of(seen: &Option<Seen>) -> u32
 }
 
 /// What its cell has.
-fn held_of(seen: Option<Seen>) -> Option<Held>
+pub(crate) fn held_of(seen: Option<Seen>) -> Option<Held>
     ensures { result ≡ held_of seen }
 {
     match seen {

@@ -4,10 +4,9 @@ use crate::steps::{fills, has, syncs};
 use bx_base::OutOfMemory;
 use bx_disk::{Rack, RackError};
 use bx_folder_rack::FolderRack;
-use std::fs;
-use std::process;
 use std::rt::Files;
 use std::test::Fail;
+use std::{fs, process};
 
 /// A new name for a folder of a test.
 fn folder_name(rt: &HostRuntime, what: &str) -> Result<String, OutOfMemory> {
@@ -44,7 +43,9 @@ fn a_folder_keeps_its_disks(rt: HostRuntime) -> Result<(), Fail> {
 
     let mut again = FolderRack::open(rt.alloc(), &rt, name.as_str())?;
     assert!(rt; has_sizes(&again, &[3, 9, 2100]));
-    assert!(rt; has(&mut again, 0, 2, 0) && has(&mut again, 1, 8, 7) && has(&mut again, 2, 2099, 9));
+    assert!(rt;
+        has(&mut again, 0, 2, 0) && has(&mut again, 1, 8, 7) && has(&mut again, 2, 2099, 9)
+    );
 
     again.shape(&[2, 4])?;
     assert!(rt; has_sizes(&again, &[2, 4]) && has(&mut again, 1, 3, 0));
@@ -77,7 +78,11 @@ fn a_disk_that_cannot_be_opened_fails(rt: HostRuntime) -> Result<(), Fail> {
     let mut rack = FolderRack::open(rt.alloc(), &rt, name.as_str())?;
     assert_eq!(rt; rack.disks(), 1, "a folder in the place of a file");
     assert!(rt; !has(&mut rack, 0, 0, 0));
-    assert_eq!(rt; rack.shape(&[1]), Err(RackError::Fault), "nor can it be removed as a file");
+    assert_eq!(rt;
+        rack.shape(&[1]),
+        Err(RackError::Fault),
+        "nor can it be removed as a file"
+    );
     rt.remove_dir_all(rt.alloc(), name.as_str())?;
     Ok(())
 }

@@ -1,0 +1,4 @@
+pub mod Labels
+pub mod Own
+pub mod Refused
+pub mod Telling

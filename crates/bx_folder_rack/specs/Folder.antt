@@ -1,5 +1,5 @@
 -- What a rack in a folder shows of itself.
-use Rattle.std.specs.Prelude.{ℕ, ◌<◌, ◌≤◌, ◌^◌, Bool, false, List, [], length}
+use Rattle.std.specs.Prelude.{ℕ, ◌<◌, ◌≤◌, ◌^◌, false, List, []}
 use Rattle.bx_disk.specs.Disks.{Disks}
 
 -- how many sectors each disk has, and how often calls failed, in all and on each disk

@@ -1,5 +1,9 @@
 //! A disk in a file.
 
+ghost use Rattle.std.specs.Prelude.{◌≡◌, ◌*◌, ◌^◌, ◌<◌, ◌↔◌, IfOk, IsErr, IsOk, OnErr, OnOk};
+ghost use Rattle.bx_folder_rack.specs.Waits.{after_write};
+ghost use Rattle.bx_folder_rack.specs.declared.disk_file.Writes.TheVariants.{Synced, Waiting, Lost};
+
 use std::fs::OpenFile;
 use std::io;
 use std::io::ErrorKind;
@@ -28,7 +32,9 @@ pub struct DiskFile<F: FileExt + OpenFile + Drop> {
 
 impl<F: FileExt + OpenFile + Drop> DiskFile<F> {
     /// A disk of which nothing was written yet. Without a file each of its calls fails.
-    pub fn new(file: Option<F>) -> DiskFile<F> {
+    pub fn new(file: Option<F>) -> DiskFile<F>
+        ensures { result ≡ record { file = file; writes = Synced } }
+    {
         DiskFile {
             file,
             writes: Writes::Synced,
@@ -41,7 +47,9 @@ impl<F: FileExt + OpenFile + Drop> DiskFile<F> {
     }
 
     /// Writes bytes from a sector on. Where it fails, some of them may be written.
-    pub fn write(&mut self, sector: u64, bytes: &[u8]) -> io::Result<()> {
+    pub fn write(&mut self, sector: u64, bytes: &[u8]) -> io::Result<()>
+        ensures { self.new.writes ≡ after_write self.old.writes }
+    {
         if self.writes == Writes::Synced {
             self.writes = Writes::Waiting;
         }
@@ -49,7 +57,11 @@ impl<F: FileExt + OpenFile + Drop> DiskFile<F> {
     }
 
     /// Has the system write what waits. It isn't asked where nothing does. Once it failed, each later sync fails too.
-    pub fn sync(&mut self) -> io::Result<()> {
+    pub fn sync(&mut self) -> io::Result<()>
+        ensures ok { OnOk result (self.new.writes ≡ Synced) }
+        ensures fails { self.old.writes ≡ Waiting → OnErr result (self.new.writes ≡ Lost) }
+        ensures lost { self.old.writes ≡ Lost → IsErr result × (self.new.writes ≡ Lost) }
+    {
         match self.writes {
             Writes::Synced => {
                 self.file()?;
@@ -70,8 +82,11 @@ impl<F: FileExt + OpenFile + Drop> DiskFile<F> {
     }
 }
 
-/// Where a sector begins in a file, in bytes.
-pub fn place_of(sector: u64) -> io::Result<u64> {
+/// Where a sector begins in a file, in bytes. An error of the kind `FileTooLarge` exactly where that is no number of 64 bits.
+pub fn place_of(sector: u64) -> io::Result<u64>
+    ensures place { IfOk result (λ place. place ≡ sector * 512) }
+    ensures ok { IsOk result ↔ (sector * 512 < 2 ^ 64) }
+{
     sector
         .checked_mul(SECTOR)
         .ok_or(ErrorKind::FileTooLarge.into())

@@ -1,8 +1,9 @@
 -- Where a directory has room for an entry, and what makes room where it hasn't, which is to be written first.
-use Rattle.std.specs.Prelude.{◌≡◌, ℕ, ◌⊎◌, List, Some}
+use Rattle.std.specs.Prelude.{◌≡◌, ℕ, ◌⊎◌, List, [], Some}
 use Rattle.bx_changes.specs.declared.error.ChangeError.{ChangeError}
 use Rattle.bx_changes.specs.declared.error.ChangeError.TheVariants.{Stopped, Full}
-use Rattle.bx_handles.specs.Handles.{named}
+use Rattle.bx_chunks.specs.Taking.{NoSlots}
+use Rattle.bx_handles.specs.Handles.{named, parts_of}
 use Rattle.bx_inodes.specs.Inodes.{HoldsInode}
 use Rattle.bx_inodes.specs.declared.stop.Stop.TheVariants.{Need, Inner, Status, OutOfMemory}
 use Rattle.bx_layout.specs.declared.inode.Inode.{Inode}
@@ -31,6 +32,12 @@ pub record MakesPlace (volume areas : ℕ) (held : Held) (hints : Hints) (truth 
   pub is_named : named volume bytes ≡ Some handle
   pub holds : HoldsInode areas truth handle inode
   pub makes : MakesEither areas held hints truth inode.tree name inode.next new
+
+-- Near the directory that a file handle names no slot is left.
+pub record NoSlotsNear (volume areas : ℕ) (held : Held) (bytes : List ℕ) (spare : ℕ) : Type 0 where
+  pub handle : ℕ
+  pub is_named : named volume bytes ≡ Some handle
+  pub none : NoSlots held (parts_of handle).area areas [] spare
 
 -- what holds of the blocks that are to be written first
 abbrev pub IfFirst : (List Changed → Type 0) → ChangeError → Type 0

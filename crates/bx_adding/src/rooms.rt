@@ -1,8 +1,10 @@
 //! Room for entries in directories.
 
-ghost use Rattle.std.specs.Prelude.{◌≡◌, ℕ, List, IfErr, IfOk};
-ghost use Rattle.bx_changes.specs.Growing.{HoldsFirst, NeedsBy};
+ghost use Rattle.std.specs.Prelude.{◌≡◌, ℕ, List, [], IfErr, IfOk};
+ghost use Rattle.bx_changes.specs.Growing.{HoldsFirst, IfFull, NeedsBy};
+ghost use Rattle.bx_chunks.specs.Taking.{NoSlots, TakesSlots};
 ghost use Rattle.bx_entries.specs.Finding.{IsDirectoryOf};
+ghost use Rattle.bx_handles.specs.Handles.{parts_of};
 ghost use Rattle.bx_layout.specs.declared.inode.Inode.{Inode as Kept};
 ghost use Rattle.bx_model.specs.declared.tree.Tree.{Tree};
 ghost use Rattle.bx_ready.specs.Lacking.{MakesRoom};
@@ -27,7 +29,8 @@ use std::alloc::Global;
 ///
 /// `Inner` are the blocks that post a separator that is missing above one of the two keys, or split a leaf that has less than 544 bytes left, which
 /// are to be written first. They come exactly where one of the two is so: where it goes on, both keys find room. `Need` names a block of the
-/// volume that isn't held in that mode, and is on the path of these. `Full` comes where the volume has too few free blocks for them. The status is `STALE` where what is held is no tree: of a directory it never comes.
+/// volume that isn't held in that mode, and is on the path of these. `Full` comes only where one of the two is so and
+/// no slot is left for a new page; then fewer than 8 are free. The status is `STALE` where what is held is no tree: of a directory it never comes.
 pub fn room_for<V: View>(
     alloc: Global,
     view: &V,
@@ -41,8 +44,10 @@ pub fn room_for<V: View>(
         → IfErr result (IfFirst (MakesEither areas (V.held view.now) (V.hints view.now) truth directory.now.inode.tree name.now directory.now.inode.next)) }
     ensures finds { (volume : ℕ) (truth : Truth) (tree : Tree) → IsDirectoryOf volume areas (V.held view.now) (V.hints view.now) truth tree directory.now.handle directory.now.inode
         → IfOk result (λ made. FindsBoth areas truth directory.now.inode.tree name.now directory.now.inode.next) }
-    ensures need { IfErr result (NeedsBy areas (V.held view.now) (OnRoomPath areas (V.held view.now) (V.hints view.now) directory.now.inode.tree name.now directory.now.inode.next)) }
+    ensures need { IfErr result (NeedsBy areas (V.held view.now) (OnRoomPath (parts_of directory.now.handle).area areas (V.held view.now) (V.hints view.now) directory.now.inode.tree name.now directory.now.inode.next)) }
     ensures first { IfErr result (HoldsFirst (V.held view.now)) }
+    ensures taken { IfErr result (IfFirst (TakesSlots (V.held view.now) (parts_of directory.now.handle).area areas [])) }
+    ensures full { IfErr result (IfFull (NoSlots (V.held view.now) (parts_of directory.now.handle).area areas [])) }
 {
     let near = (ChunkHandle::of(directory.handle).area, areas);
     let (root, number) = (directory.inode.tree, directory.inode.next);
@@ -64,8 +69,10 @@ fn room_by_name<V: View>(
         → ReadyIn near.1 truth root (name_key name.now) result }
     ensures lacks { (volume : ℕ) (truth : Truth) (tree : Tree) (handle : ℕ) (inode : Kept) → IsDirectoryOf volume near.1 (V.held view.now) (V.hints view.now) truth tree handle inode → inode.tree ≡ root
         → IfErr result (IfFirst (MakesRoom near.1 (V.held view.now) (V.hints view.now) truth root (name_key name.now))) }
-    ensures need { IfErr result (NeedsBy near.1 (V.held view.now) (OnReadyPath near.1 (V.held view.now) (V.hints view.now) root (name_key name.now))) }
+    ensures need { IfErr result (NeedsBy near.1 (V.held view.now) (OnReadyPath near.0 near.1 (V.held view.now) (V.hints view.now) root (name_key name.now))) }
     ensures first { IfErr result (HoldsFirst (V.held view.now)) }
+    ensures taken { IfErr result (IfFirst (TakesSlots (V.held view.now) near.0 near.1 [])) }
+    ensures full { IfErr result (IfFull (NoSlots (V.held view.now) near.0 near.1 [])) }
 {
     match key_by_name(alloc, name) {
         Err(_) => Err(ChangeError::Stopped(Stop::OutOfMemory)),
@@ -85,8 +92,10 @@ fn room_by_number<V: View>(
         → ReadyIn near.1 truth root (entry_key number) result }
     ensures lacks { (volume : ℕ) (truth : Truth) (tree : Tree) (handle : ℕ) (inode : Kept) → IsDirectoryOf volume near.1 (V.held view.now) (V.hints view.now) truth tree handle inode → inode.tree ≡ root
         → IfErr result (IfFirst (MakesRoom near.1 (V.held view.now) (V.hints view.now) truth root (entry_key number))) }
-    ensures need { IfErr result (NeedsBy near.1 (V.held view.now) (OnReadyPath near.1 (V.held view.now) (V.hints view.now) root (entry_key number))) }
+    ensures need { IfErr result (NeedsBy near.1 (V.held view.now) (OnReadyPath near.0 near.1 (V.held view.now) (V.hints view.now) root (entry_key number))) }
     ensures first { IfErr result (HoldsFirst (V.held view.now)) }
+    ensures taken { IfErr result (IfFirst (TakesSlots (V.held view.now) near.0 near.1 [])) }
+    ensures full { IfErr result (IfFull (NoSlots (V.held view.now) near.0 near.1 [])) }
 {
     match key_by_number(alloc, number) {
         Err(_) => Err(ChangeError::Stopped(Stop::OutOfMemory)),
@@ -106,8 +115,10 @@ fn room_at<V: View>(
         → ReadyIn near.1 truth root key.now result }
     ensures lacks { (volume : ℕ) (truth : Truth) (tree : Tree) (handle : ℕ) (inode : Kept) → IsDirectoryOf volume near.1 (V.held view.now) (V.hints view.now) truth tree handle inode → inode.tree ≡ root
         → IfErr result (IfFirst (MakesRoom near.1 (V.held view.now) (V.hints view.now) truth root key.now)) }
-    ensures need { IfErr result (NeedsBy near.1 (V.held view.now) (OnReadyPath near.1 (V.held view.now) (V.hints view.now) root key.now)) }
+    ensures need { IfErr result (NeedsBy near.1 (V.held view.now) (OnReadyPath near.0 near.1 (V.held view.now) (V.hints view.now) root key.now)) }
     ensures first { IfErr result (HoldsFirst (V.held view.now)) }
+    ensures taken { IfErr result (IfFirst (TakesSlots (V.held view.now) near.0 near.1 [])) }
+    ensures full { IfErr result (IfFull (NoSlots (V.held view.now) near.0 near.1 [])) }
 {
     match ready(alloc, view, root, key, near.0, near.1) {
         Err(error) => Err(change_error(near.1, error)),

@@ -26,10 +26,10 @@ not_exclusive held shares at none = by (held at Exclusive) refl
     by None e = e
     by (Some block) e = absurd (none_some (held at Shared) block none (shares at block e))
 
-own_there : (areas area : ℕ) → area < areas → is_block areas (own_block area) ≡ true
+pub own_there : (areas area : ℕ) → area < areas → is_block areas (own_block area) ≡ true
 own_there areas area less = grind (arith, nat_tests, less)
 
-slot_there : (areas area slot : ℕ) → area < areas → slot < 960 → is_block areas (slot_block area slot) ≡ true
+pub slot_there : (areas area slot : ℕ) → area < areas → slot < 960 → is_block areas (slot_block area slot) ≡ true
 slot_there areas area slot less there = grind (arith, nat_tests, less, there)
 
 lacks_one : (areas : ℕ) (held : Held) (own at x : ℕ) → is_block areas own ≡ true → is_block areas at ≡ true → LacksOneOf held own at x → (is_block areas x ≡ true) × (held x Exclusive ≡ None)

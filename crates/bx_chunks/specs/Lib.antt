@@ -7,3 +7,4 @@ pub mod Memory
 pub mod Freeing
 pub mod Marking
 pub mod Counting
+pub mod Taking

@@ -1,15 +1,15 @@
 -- What `post` does: on any content, and to a tree, for a truth.
-use Rattle.std.specs.Prelude.{◌≡◌, ◌≢◌, ℕ, ◌+◌, ◌<◌, ◌⊎◌, true, List, length, Some, None, IfSome, Result, Ok, Err}
+use Rattle.std.specs.Prelude.{◌≡◌, ◌≢◌, ℕ, ◌+◌, ◌<◌, ◌⊎◌, List, length, Some, None, IfSome, Result, Ok, Err}
 use Rattle.std.specs.Int.{w64, to_be_bytes}
 use Rattle.bx_base.specs.declared.names.Mode.{Mode}
 use Rattle.bx_base.specs.declared.names.Mode.TheVariants.{Shared}
-use Rattle.bx_places.specs.Places.{is_block}
 use Rattle.bx_records.specs.Drafts.{Changed}
 use Rattle.bx_page.specs.Contents.{Contents, value_of}
 use Rattle.bx_truth.specs.Chunks.{IsChunked, block_at}
 use Rattle.bx_truth.specs.PageTrees.{Node, PageTree, IsPageOf}
 use Rattle.bx_views.specs.Truths.{Truth, Held, Hints}
 use Rattle.bx_chunks.specs.Counting.{free_slots}
+use Rattle.bx_chunks.specs.Taking.{NoSlots, OnSlots}
 use Rattle.bx_blink.specs.declared.error.BlinkError.{BlinkError}
 use Rattle.bx_blink.specs.declared.error.BlinkError.TheVariants.{Need, Stale, Full, NoRoom, Absent, Present, OutOfMemory, Crowded}
 use Rattle.bx_blink.specs.Places.{IsPlaceOf}
@@ -52,23 +52,24 @@ abbrev pub PostsTo : Held → Hints → List Changed → ℕ → ℕ → ℕ →
 PostsTo held hints old root handle near areas (Ok done) = PostsAt held hints old done.0 root handle near areas (Ok done.1)
 PostsTo held hints old root handle near areas (Err e) = PostsAt held hints old old root handle near areas (Err e)
 
--- The path of a post: the page's block, shared; what is on the path of the walk to the parent; and blocks of the volume for new pages.
-pub data OnPostPath (areas : ℕ) (reads : Reads) (root handle : ℕ) : ℕ → Mode → Type 0 where
-  page : OnPostPath areas reads root handle (block_at handle) Shared
-  parent : (separator : Separator) (at : ℕ) (mode : Mode) → ShowsSeparator reads handle separator → OnParentPath reads root separator.level separator.key at mode → OnPostPath areas reads root handle at mode
-  slot : (at : ℕ) (mode : Mode) → is_block areas at ≡ true → OnPostPath areas reads root handle at mode
+-- The path of a post: the page's block, shared; what is on the path of the walk to the parent; and what the next slot needs for a new page.
+pub data OnPostPath (held : Held) (hints : Hints) (old : List Changed) (root handle near areas : ℕ) : ℕ → Mode → Type 0 where
+  page : OnPostPath held hints old root handle near areas (block_at handle) Shared
+  parent : (separator : Separator) (at : ℕ) (mode : Mode) → ShowsSeparator (reads_with held hints old) handle separator → OnParentPath (reads_with held hints old) root separator.level separator.key at mode
+      → OnPostPath held hints old root handle near areas at mode
+  slot : (at : ℕ) (mode : Mode) → OnSlots held near areas old at mode → OnPostPath held hints old root handle near areas at mode
 
--- What a post needs isn't held in that mode, and is on its path.
-abbrev pub NeedsForPost : ℕ → Held → Hints → List Changed → ℕ → ℕ → Result Posted BlinkError → Type 0
-NeedsForPost areas held hints old root handle (Err (Need at mode)) = (held at mode ≡ None) × OnPostPath areas (reads_with held hints old) root handle at mode
-NeedsForPost areas held hints old root handle (Err Stale) = Unit {0}
-NeedsForPost areas held hints old root handle (Err (Full spare)) = Unit {0}
-NeedsForPost areas held hints old root handle (Err (NoRoom leaf)) = Unit {0}
-NeedsForPost areas held hints old root handle (Err Absent) = Unit {0}
-NeedsForPost areas held hints old root handle (Err Present) = Unit {0}
-NeedsForPost areas held hints old root handle (Err OutOfMemory) = Unit {0}
-NeedsForPost areas held hints old root handle (Err Crowded) = Unit {0}
-NeedsForPost areas held hints old root handle (Ok posted) = Unit {0}
+-- What a post needs isn't held in that mode, and is on its path. It is full only where the next slot isn't there.
+abbrev pub NeedsForPost : Held → Hints → List Changed → ℕ → ℕ → ℕ → ℕ → Result Posted BlinkError → Type 0
+NeedsForPost held hints old root handle near areas (Err (Need at mode)) = (held at mode ≡ None) × OnPostPath held hints old root handle near areas at mode
+NeedsForPost held hints old root handle near areas (Err Stale) = Unit {0}
+NeedsForPost held hints old root handle near areas (Err (Full spare)) = NoSlots held near areas old spare
+NeedsForPost held hints old root handle near areas (Err (NoRoom leaf)) = Unit {0}
+NeedsForPost held hints old root handle near areas (Err Absent) = Unit {0}
+NeedsForPost held hints old root handle near areas (Err Present) = Unit {0}
+NeedsForPost held hints old root handle near areas (Err OutOfMemory) = Unit {0}
+NeedsForPost held hints old root handle near areas (Err Crowded) = Unit {0}
+NeedsForPost held hints old root handle near areas (Ok posted) = Unit {0}
 
 -- a page of the tree, one level above a page, names its right neighbour at its high key
 pub record HasSeparator (tree : PageTree) (node : Node) : Type 0 where

@@ -7,6 +7,7 @@ ghost use Rattle.bx_views.specs.Attempts.{IsHeldDraft};
 ghost use Rattle.bx_views.specs.Truths.{Truth};
 ghost use Rattle.bx_blink.specs.Hints.{Under};
 ghost use Rattle.bx_blink.specs.Walks.{reads_with};
+ghost use Rattle.bx_chunks.specs.Taking.{TakesSlots};
 ghost use Rattle.bx_posts.specs.Posts.{NeedsForPost, PostsAt, PostsIn, PostsTo};
 ghost use Rattle.bx_posts.specs.Separators.{MayPost};
 
@@ -33,9 +34,9 @@ pub enum Posted {
 /// wherever it can be read, which `may_post` tells.
 ///
 /// `Need` names a block that isn't held in that mode: the page's, one on the path of the walk to the parent, which is to be held
-/// exclusively, or one that a new page wants. `Stale` comes where what is held is no tree: of a page of a tree it never comes. `Full`
-/// tells how many slots are free in the view, and `Crowded` that the draft would have more than sixteen blocks. On an error the draft
-/// is as it was.
+/// exclusively, or what the next slot near the area needs for a new page. `Stale` comes where what is held is no tree: of a page of a tree
+/// it never comes. `Full` comes only where that slot isn't there, and tells how many are free in the view, and `Crowded` tells that the draft
+/// would have more than sixteen blocks. On an error the draft is as it was.
 pub fn post<V: View>(
     alloc: Global,
     draft: &mut Draft,
@@ -49,7 +50,8 @@ pub fn post<V: View>(
     ensures unchanged { OnErr result (draft.new ≡ draft.old) }
     ensures at { PostsAt (V.held view.now) (V.hints view.now) draft.old draft.new root page near areas result }
     ensures map { (truth : Truth) (tree : PageTree) (node : Node) → Under areas (V.held view.now) (V.hints view.now) truth draft.old root tree → IsPageOf tree node → node.handle ≡ page → PostsIn areas (V.held view.now) (V.hints view.now) truth draft.old draft.new root tree node result }
-    ensures fair { NeedsForPost areas (V.held view.now) (V.hints view.now) draft.old root page result }
+    ensures fair { NeedsForPost (V.held view.now) (V.hints view.now) draft.old root page near areas result }
+    ensures taken { OnOk result (TakesSlots (V.held view.now) near areas draft.old draft.new) }
     ensures held { IsHeldDraft (V.held view.now) draft.old → OnOk result (IsHeldDraft (V.held view.now) draft.new) }
 {
     post_page(alloc, draft, view, root, page, (near, areas))

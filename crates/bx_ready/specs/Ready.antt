@@ -1,7 +1,6 @@
 -- What is to be written first before an entry is put under a key: a missing separator, or a full leaf's halves.
 use Rattle.std.specs.Prelude.{◌≡◌, ◌≢◌, ℕ, ◌≤◌, ◌⊎◌, List, [], Option, Some, None, Result, Ok, Err}
 use Rattle.bx_base.specs.declared.names.Mode.{Mode}
-use Rattle.bx_blink.specs.Walks.{reads_with}
 use Rattle.bx_blink.specs.declared.error.BlinkError.{BlinkError}
 use Rattle.bx_blink.specs.declared.error.BlinkError.TheVariants.{Need, Stale, Full, NoRoom, Absent, Present, OutOfMemory, Crowded}
 use Rattle.bx_hints.specs.Fitting.{HintsFitAll}
@@ -28,11 +27,12 @@ pub record SplitsReady (areas : ℕ) (held : Held) (hints : Hints) (truth : Trut
   pub posted : HasSeparators tree key
   pub splits : SplitsLeaf areas held hints truth new root tree key
 
--- What is answered, by the tree: what is to be written first, a missing separator before a full leaf. It is never Stale there, nor Crowded, and where it is Full it tells fewer than 8.
+-- What is answered, by the tree: what is to be written first, a missing separator before a full leaf. It is never Stale there, nor Crowded, and where
+-- it is Full it tells fewer than 8, and the entry finds no room.
 abbrev pub ReadiesIn : ℕ → Held → Hints → Truth → ℕ → PageTree → List ℕ → Result (Option (List Changed)) BlinkError → Type 0
 ReadiesIn areas held hints truth root tree key (Ok (Some new)) = PostsMissing areas held hints truth new root tree key ⊎ SplitsReady areas held hints truth new root tree key
 ReadiesIn areas held hints truth root tree key (Ok None) = IsReady tree key
-ReadiesIn areas held hints truth root tree key (Err (Full spare)) = TellsFew areas truth spare
+ReadiesIn areas held hints truth root tree key (Err (Full spare)) = TellsFew areas truth spare × (IsReady tree key → ⊥)
 ReadiesIn areas held hints truth root tree key (Err (Need at mode)) = Unit {0}
 ReadiesIn areas held hints truth root tree key (Err Crowded) = ⊥
 ReadiesIn areas held hints truth root tree key (Err OutOfMemory) = Unit {0}
@@ -56,6 +56,6 @@ pub record IsFileUnder (areas : ℕ) (held : Held) (hints : Hints) (truth : Trut
   pub file : File
   pub there : file_at tree.files handle ≡ Some file
 
--- The path: that of posting, and that of splitting.
-abbrev pub OnReadyPath : ℕ → Held → Hints → ℕ → List ℕ → ℕ → Mode → Type 0
-OnReadyPath areas held hints root key at mode = OnPostForPath areas held hints root key at mode ⊎ OnSplitPath areas (reads_with held hints []) root key at mode
+-- The path, near an area: that of posting, and that of splitting.
+abbrev pub OnReadyPath : ℕ → ℕ → Held → Hints → ℕ → List ℕ → ℕ → Mode → Type 0
+OnReadyPath near areas held hints root key at mode = OnPostForPath near areas held hints root key at mode ⊎ OnSplitPath near areas held hints root key at mode

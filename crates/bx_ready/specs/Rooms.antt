@@ -1,17 +1,16 @@
 -- Room for entries in the leaves of page trees: on any content, and for a truth.
-use Rattle.std.specs.Prelude.{◌≡◌, ℕ, ◌+◌, ◌<◌, ◌≤◌, ◌⊎◌, true, List, [], Option, Some, None, Result, Ok, Err}
+use Rattle.std.specs.Prelude.{◌≡◌, ℕ, ◌+◌, ◌<◌, ◌≤◌, ◌⊎◌, List, [], Option, Some, None, Result, Ok, Err}
 use Rattle.bx_base.specs.declared.names.Mode.{Mode}
 use Rattle.bx_blink.specs.Places.{IsPlaceOf}
-use Rattle.bx_blink.specs.Walks.{Reads}
+use Rattle.bx_blink.specs.Walks.{Reads, reads_with}
 use Rattle.bx_blink.specs.declared.error.BlinkError.{BlinkError}
 use Rattle.bx_blink.specs.declared.error.BlinkError.TheVariants.{Need, Stale, Full, NoRoom, Absent, Present, OutOfMemory, Crowded}
 use Rattle.bx_blink.specs.declared.steps.End.TheVariants.{Lost}
+use Rattle.bx_chunks.specs.Taking.{OnSlots}
 use Rattle.bx_leaves.specs.Leaves.{IsLeafAt, LeafEnds, NeedsLeaf, OnLeafPath}
 use Rattle.bx_page.specs.Contents.{Contents, size}
-use Rattle.bx_places.specs.Places.{is_block}
 use Rattle.bx_records.specs.Drafts.{Changed}
 use Rattle.bx_splits.specs.Splits.{SplitsPage}
-use Rattle.bx_truth.specs.Chunks.{block_at}
 use Rattle.bx_truth.specs.PageTrees.{PageTree}
 use Rattle.bx_views.specs.Truths.{Truth, Held, Hints}
 use Rattle.bx_ready.specs.Spare.{TellsFew}
@@ -60,11 +59,12 @@ pub record HasRoom (tree : PageTree) (key : List ℕ) : Type 0 where
   pub place : IsPlaceOf tree 0 key handle page
   pub room : size page + 544 ≤ 4096
 
--- What is answered, by the tree: the draft that splits the leaf of a key, where that is full. It is never Stale there, nor Crowded, and where it is Full it tells fewer than 8.
+-- What is answered, by the tree: the draft that splits the leaf of a key, where that is full. It is never Stale there, nor Crowded, and where it is
+-- Full it tells fewer than 8, and the leaf is full.
 abbrev pub SplitsForIn : ℕ → Held → Hints → Truth → ℕ → PageTree → List ℕ → Result (Option (List Changed)) BlinkError → Type 0
 SplitsForIn areas held hints truth root tree key (Ok (Some new)) = SplitsLeaf areas held hints truth new root tree key
 SplitsForIn areas held hints truth root tree key (Ok None) = HasRoom tree key
-SplitsForIn areas held hints truth root tree key (Err (Full spare)) = TellsFew areas truth spare
+SplitsForIn areas held hints truth root tree key (Err (Full spare)) = TellsFew areas truth spare × (HasRoom tree key → ⊥)
 SplitsForIn areas held hints truth root tree key (Err (Need at mode)) = Unit {0}
 SplitsForIn areas held hints truth root tree key (Err Crowded) = ⊥
 SplitsForIn areas held hints truth root tree key (Err OutOfMemory) = Unit {0}
@@ -73,13 +73,6 @@ SplitsForIn areas held hints truth root tree key (Err (NoRoom leaf)) = ⊥
 SplitsForIn areas held hints truth root tree key (Err Absent) = ⊥
 SplitsForIn areas held hints truth root tree key (Err Present) = ⊥
 
--- the block of the leaf at which a walk lands
-pub record IsLeafBlock (reads : Reads) (root : ℕ) (key : List ℕ) (at : ℕ) : Type 0 where
-  pub handle : ℕ
-  pub page : Contents
-  pub leaf : IsLeafAt reads root key handle page
-  pub at_is : at ≡ block_at handle
-
--- The path: of the walk to the leaf; the leaf's block; and blocks of the volume for new pages.
-abbrev pub OnSplitPath : ℕ → Reads → ℕ → List ℕ → ℕ → Mode → Type 0
-OnSplitPath areas reads root key at mode = OnLeafPath reads root key at mode ⊎ (IsLeafBlock reads root key at ⊎ (is_block areas at ≡ true))
+-- The path: of the walk to the leaf, which is asked for exclusively; and what the next slot near an area needs for a new page.
+abbrev pub OnSplitPath : ℕ → ℕ → Held → Hints → ℕ → List ℕ → ℕ → Mode → Type 0
+OnSplitPath near areas held hints root key at mode = OnLeafPath (reads_with held hints []) root key at mode ⊎ OnSlots held near areas [] at mode

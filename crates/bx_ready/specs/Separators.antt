@@ -3,7 +3,7 @@ use Rattle.std.specs.Prelude.{◌≡◌, ℕ, ◌+◌, ◌<◌, ◌⊎◌, false
 use Rattle.bx_base.specs.declared.names.Mode.{Mode}
 use Rattle.bx_base.specs.declared.names.Mode.TheVariants.{Shared}
 use Rattle.bx_blink.specs.Places.{IsPlaceOf}
-use Rattle.bx_blink.specs.Walks.{child_of, reads_with}
+use Rattle.bx_blink.specs.Walks.{child_of}
 use Rattle.bx_blink.specs.declared.error.BlinkError.{BlinkError}
 use Rattle.bx_blink.specs.declared.error.BlinkError.TheVariants.{Need, Stale, Full, NoRoom, Absent, Present, OutOfMemory, Crowded}
 use Rattle.bx_page.specs.Contents.{Contents, value_of}
@@ -56,11 +56,12 @@ pub record PostsMissing (areas : ℕ) (held : Held) (hints : Hints) (truth : Tru
   pub posted : Posted
   pub posts : PostsPage areas held hints truth [] new root tree node posted
 
--- What is answered, by the tree: the draft that posts a separator that is missing above a key, where one is. It is never Stale there, nor Crowded, and where it is Full it tells fewer than 8.
+-- What is answered, by the tree: the draft that posts a separator that is missing above a key, where one is. It is never Stale there, nor Crowded,
+-- and where it is Full it tells fewer than 8, and a separator is missing.
 abbrev pub PostsForIn : ℕ → Held → Hints → Truth → ℕ → PageTree → List ℕ → Result (Option (List Changed)) BlinkError → Type 0
 PostsForIn areas held hints truth root tree key (Ok (Some new)) = PostsMissing areas held hints truth new root tree key
 PostsForIn areas held hints truth root tree key (Ok None) = HasSeparators tree key
-PostsForIn areas held hints truth root tree key (Err (Full spare)) = TellsFew areas truth spare
+PostsForIn areas held hints truth root tree key (Err (Full spare)) = TellsFew areas truth spare × (HasSeparators tree key → ⊥)
 PostsForIn areas held hints truth root tree key (Err (Need at mode)) = Unit {0}
 PostsForIn areas held hints truth root tree key (Err Crowded) = ⊥
 PostsForIn areas held hints truth root tree key (Err OutOfMemory) = Unit {0}
@@ -78,11 +79,11 @@ pub record IsLedTo (held : Held) (root : ℕ) (key : List ℕ) (at : ℕ) (mode 
   pub mode_is : mode ≡ Shared
 
 -- what is on the path of posting behind a page where a descent stops short
-pub record OnPosting (areas : ℕ) (held : Held) (hints : Hints) (root : ℕ) (key : List ℕ) (at : ℕ) (mode : Mode) : Type 0 where
+pub record OnPosting (near areas : ℕ) (held : Held) (hints : Hints) (root : ℕ) (key : List ℕ) (at : ℕ) (mode : Mode) : Type 0 where
   pub page : ℕ
   pub short : LeadsWhere held root key (Short page)
-  pub on : OnPostPath areas (reads_with held hints []) root page at mode
+  pub on : OnPostPath held hints [] root page near areas at mode
 
 -- The path: the pages that lead from the root to the key's leaf, shared; and that of the post.
-abbrev pub OnPostForPath : ℕ → Held → Hints → ℕ → List ℕ → ℕ → Mode → Type 0
-OnPostForPath areas held hints root key at mode = IsLedTo held root key at mode ⊎ OnPosting areas held hints root key at mode
+abbrev pub OnPostForPath : ℕ → ℕ → Held → Hints → ℕ → List ℕ → ℕ → Mode → Type 0
+OnPostForPath near areas held hints root key at mode = IsLedTo held root key at mode ⊎ OnPosting near areas held hints root key at mode

@@ -2,6 +2,7 @@
 
 ghost use Rattle.std.specs.Prelude.{[], IfOk, IfSome, IfNone};
 ghost use Rattle.bx_blink.specs.Hints.{Under};
+ghost use Rattle.bx_chunks.specs.Taking.{NoSlots, TakesSlots};
 ghost use Rattle.bx_file_laws.specs.Keeping.{KeepsFiles};
 ghost use Rattle.bx_leaves.specs.Changes.{NeedsUnheld};
 ghost use Rattle.bx_model.specs.declared.tree.Tree.{Tree};
@@ -10,6 +11,7 @@ ghost use Rattle.bx_views.specs.Attempts.{IsHeldDraft};
 ghost use Rattle.bx_views.specs.Truths.{Truth};
 ghost use Rattle.bx_ready.specs.Lacking.{FindsRoom, MakesRoom};
 ghost use Rattle.bx_ready.specs.Ready.{IsFileUnder, OnReadyPath, ReadiesIn};
+ghost use Rattle.bx_ready.specs.Spare.{IfFull};
 
 use crate::rooms::split_for;
 use crate::separators::post_for;
@@ -35,8 +37,10 @@ pub fn ready<V: View>(
     ensures lacks { (truth : Truth) (tree : PageTree) → Under areas (V.held view.now) (V.hints view.now) truth [] root tree → IfOk result (λ found. IfSome found (MakesRoom areas (V.held view.now) (V.hints view.now) truth root key.now)) }
     ensures finds { (truth : Truth) (tree : PageTree) → Under areas (V.held view.now) (V.hints view.now) truth [] root tree → IfOk result (λ found. IfNone found (FindsRoom areas truth root key.now)) }
     ensures files { (truth : Truth) (tree : Tree) → IsFileUnder areas (V.held view.now) (V.hints view.now) truth root tree → IfOk result (λ found. IfSome found (λ new. KeepsFiles areas truth [] new tree)) }
-    ensures fair { NeedsUnheld (V.held view.now) (OnReadyPath areas (V.held view.now) (V.hints view.now) root key.now) result }
+    ensures fair { NeedsUnheld (V.held view.now) (OnReadyPath near areas (V.held view.now) (V.hints view.now) root key.now) result }
     ensures held { IfOk result (λ found. IfSome found (IsHeldDraft (V.held view.now))) }
+    ensures full { IfFull (NoSlots (V.held view.now) near areas []) result }
+    ensures taken { IfOk result (λ found. IfSome found (TakesSlots (V.held view.now) near areas [])) }
 {
     first_of(alloc, view, root, key, (near, areas))
 }
@@ -50,8 +54,10 @@ fn first_of<V: View>(
     near: (u16, u16),
 ) -> Result<Option<Draft>, BlinkError>
     ensures map { (truth : Truth) (tree : PageTree) → Under near.1 (V.held view.now) (V.hints view.now) truth [] root tree → ReadiesIn near.1 (V.held view.now) (V.hints view.now) truth root tree key.now result }
-    ensures fair { NeedsUnheld (V.held view.now) (OnReadyPath near.1 (V.held view.now) (V.hints view.now) root key.now) result }
+    ensures fair { NeedsUnheld (V.held view.now) (OnReadyPath near.0 near.1 (V.held view.now) (V.hints view.now) root key.now) result }
     ensures held { IfOk result (λ found. IfSome found (IsHeldDraft (V.held view.now))) }
+    ensures full { IfFull (NoSlots (V.held view.now) near.0 near.1 []) result }
+    ensures taken { IfOk result (λ found. IfSome found (TakesSlots (V.held view.now) near.0 near.1 [])) }
 {
     match post_for(alloc, view, root, key, near.0, near.1) {
         Err(error) => Err(error),

@@ -3,11 +3,13 @@
 ghost use Rattle.std.specs.Prelude.{◌≡◌, [], IfOk, IfSome};
 ghost use Rattle.bx_blink.specs.Hints.{Under};
 ghost use Rattle.bx_blink.specs.Walks.{reads_with};
+ghost use Rattle.bx_chunks.specs.Taking.{NoSlots, TakesSlots};
 ghost use Rattle.bx_leaves.specs.Changes.{NeedsUnheld};
 ghost use Rattle.bx_truth.specs.PageTrees.{PageTree};
 ghost use Rattle.bx_views.specs.Attempts.{IsHeldDraft};
 ghost use Rattle.bx_views.specs.Truths.{Truth};
 ghost use Rattle.bx_ready.specs.Rooms.{FindsFull, OnSplitPath, SplitsForIn};
+ghost use Rattle.bx_ready.specs.Spare.{IfFull};
 
 use bx_base::Mode;
 use bx_blink::{BlinkError, End, block_at, seen, walk};
@@ -22,8 +24,9 @@ const ROOM: usize = 544;
 /// Splits the leaf of a key, near an area, where it has less than 544 bytes left, in the tree under a root: the draft that does so, to be
 /// written before any entry is put under the key. `None` exactly where the leaf has room.
 ///
-/// `Need` names a block that isn't held in that mode: one on the path of the walk to the leaf, which is to be held exclusively, or one that a
-/// new page wants. `Stale` comes where what is held is no tree, and `Full` tells how many slots are free in the view, which are fewer than 8.
+/// `Need` names a block that isn't held in that mode: one on the path of the walk to the leaf, which is to be held exclusively, or what the next
+/// slot needs for a new page. `Stale` comes where what is held is no tree, and `Full` only where the leaf is full and that slot isn't there: it
+/// tells how many are free in the view, which are fewer than 8.
 pub fn split_for<V: View>(
     alloc: Global,
     view: &V,
@@ -33,8 +36,10 @@ pub fn split_for<V: View>(
     areas: u16,
 ) -> Result<Option<Draft>, BlinkError>
     ensures map { (truth : Truth) (tree : PageTree) → Under areas (V.held view.now) (V.hints view.now) truth [] root tree → SplitsForIn areas (V.held view.now) (V.hints view.now) truth root tree key.now result }
-    ensures fair { NeedsUnheld (V.held view.now) (OnSplitPath areas (reads_with (V.held view.now) (V.hints view.now) []) root key.now) result }
+    ensures fair { NeedsUnheld (V.held view.now) (OnSplitPath near areas (V.held view.now) (V.hints view.now) root key.now) result }
     ensures held { IfOk result (λ found. IfSome found (IsHeldDraft (V.held view.now))) }
+    ensures full { IfFull (NoSlots (V.held view.now) near areas []) result }
+    ensures taken { IfOk result (λ found. IfSome found (TakesSlots (V.held view.now) near areas [])) }
 {
     let mut draft = Draft::new(alloc);
     match full_leaf(&draft, view, root, key) {

@@ -2,11 +2,13 @@
 
 ghost use Rattle.std.specs.Prelude.{◌≡◌, [], IfOk, IfSome};
 ghost use Rattle.bx_blink.specs.Hints.{Under};
+ghost use Rattle.bx_chunks.specs.Taking.{NoSlots, TakesSlots};
 ghost use Rattle.bx_leaves.specs.Changes.{NeedsUnheld};
 ghost use Rattle.bx_truth.specs.PageTrees.{PageTree};
 ghost use Rattle.bx_views.specs.Attempts.{IsHeldDraft};
 ghost use Rattle.bx_views.specs.Truths.{Truth};
 ghost use Rattle.bx_ready.specs.Separators.{OnPostForPath, PostsForIn};
+ghost use Rattle.bx_ready.specs.Spare.{IfFull};
 
 use crate::descents::{Descent, descend};
 use bx_base::Mode;
@@ -21,8 +23,8 @@ use std::alloc::Global;
 /// the key is.
 ///
 /// Hints don't count, since an old one may lack a separator that is there. `Need` names a block that isn't held in that mode: one of these
-/// pages', shared, or one on the path of the post. `Stale` comes where what is held is no tree, and `Full` tells how many slots are free in the
-/// view, which are fewer than 8.
+/// pages', shared, or one on the path of the post. `Stale` comes where what is held is no tree, and `Full` only where a separator is
+/// missing and the next slot for a new page isn't there: it tells how many are free in the view, which are fewer than 8.
 pub fn post_for<V: View>(
     alloc: Global,
     view: &V,
@@ -32,8 +34,10 @@ pub fn post_for<V: View>(
     areas: u16,
 ) -> Result<Option<Draft>, BlinkError>
     ensures map { (truth : Truth) (tree : PageTree) → Under areas (V.held view.now) (V.hints view.now) truth [] root tree → PostsForIn areas (V.held view.now) (V.hints view.now) truth root tree key.now result }
-    ensures fair { NeedsUnheld (V.held view.now) (OnPostForPath areas (V.held view.now) (V.hints view.now) root key.now) result }
+    ensures fair { NeedsUnheld (V.held view.now) (OnPostForPath near areas (V.held view.now) (V.hints view.now) root key.now) result }
     ensures held { IfOk result (λ found. IfSome found (IsHeldDraft (V.held view.now))) }
+    ensures full { IfFull (NoSlots (V.held view.now) near areas []) result }
+    ensures taken { IfOk result (λ found. IfSome found (TakesSlots (V.held view.now) near areas [])) }
 {
     match descend(view, root, key) {
         Descent::Needs(at) => Err(BlinkError::Need(at, Mode::Shared)),

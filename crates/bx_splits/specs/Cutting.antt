@@ -1,8 +1,7 @@
 -- What splits answer, on any content.
-use Rattle.std.specs.Prelude.{◌≡◌, ◌≢◌, ℕ, ◌⊎◌, List, None, Some, true, Result, Ok, Err}
+use Rattle.std.specs.Prelude.{◌≡◌, ◌≢◌, ℕ, ◌⊎◌, List, None, Some, Result, Ok, Err}
 use Rattle.bx_base.specs.declared.names.Mode.TheVariants.{Exclusive}
 use Rattle.bx_layout.specs.declared.block.Block.{Block}
-use Rattle.bx_places.specs.Places.{is_block}
 use Rattle.bx_records.specs.Drafts.{Changed}
 use Rattle.bx_page.specs.Contents.{Contents, first_half, other_half}
 use Rattle.bx_truth.specs.Chunks.{block_at}
@@ -11,6 +10,7 @@ use Rattle.bx_views.specs.Truths.{Held, Hints}
 use Rattle.bx_chunks.specs.declared.error.ChunkError.{ChunkError}
 use Rattle.bx_chunks.specs.declared.error.ChunkError.TheVariants.{Need as ChunkNeed, Stale as ChunkStale, Full as ChunkFull, OutOfMemory as ChunkOutOfMemory, Crowded as ChunkCrowded}
 use Rattle.bx_chunks.specs.Allocating.{AllocatesAt}
+use Rattle.bx_chunks.specs.Taking.{NoSlots, OnSlots}
 use Rattle.bx_blink.specs.declared.error.BlinkError.{BlinkError}
 use Rattle.bx_blink.specs.declared.error.BlinkError.TheVariants.{Need, Stale, Full, NoRoom, Absent, Present, OutOfMemory, Crowded}
 use Rattle.bx_blink.specs.Walks.{Reads, reads_with, IsNoPage}
@@ -171,14 +171,15 @@ abbrev pub SplitsTo : Held → Hints → List Changed → ℕ → ℕ → ℕ �
 SplitsTo held hints old root handle near areas (Ok new) = SplitsAt held hints old new root handle near areas (Ok tt)
 SplitsTo held hints old root handle near areas (Err e) = SplitsAt held hints old old root handle near areas (Err e)
 
--- What a split needs isn't held in that mode, and is the page's block, or one of the volume for a new page.
-abbrev pub NeedsForSplit : ℕ → Held → ℕ → Result Unit BlinkError → Type 0
-NeedsForSplit areas held handle (Err (Need at mode)) = (held at mode ≡ None) × ((at ≡ block_at handle) ⊎ (is_block areas at ≡ true))
-NeedsForSplit areas held handle (Err Stale) = Unit {0}
-NeedsForSplit areas held handle (Err (Full spare)) = Unit {0}
-NeedsForSplit areas held handle (Err (NoRoom leaf)) = Unit {0}
-NeedsForSplit areas held handle (Err Absent) = Unit {0}
-NeedsForSplit areas held handle (Err Present) = Unit {0}
-NeedsForSplit areas held handle (Err OutOfMemory) = Unit {0}
-NeedsForSplit areas held handle (Err Crowded) = Unit {0}
-NeedsForSplit areas held handle (Ok done) = Unit {0}
+-- What a split needs isn't held in that mode, and is the page's block, exclusively, or what the next slot needs for a new page. It is full only
+-- where that slot isn't there.
+abbrev pub NeedsForSplit : Held → ℕ → ℕ → List Changed → ℕ → Result Unit BlinkError → Type 0
+NeedsForSplit held near areas old handle (Err (Need at mode)) = (held at mode ≡ None) × (((at ≡ block_at handle) × (mode ≡ Exclusive)) ⊎ OnSlots held near areas old at mode)
+NeedsForSplit held near areas old handle (Err Stale) = Unit {0}
+NeedsForSplit held near areas old handle (Err (Full spare)) = NoSlots held near areas old spare
+NeedsForSplit held near areas old handle (Err (NoRoom leaf)) = Unit {0}
+NeedsForSplit held near areas old handle (Err Absent) = Unit {0}
+NeedsForSplit held near areas old handle (Err Present) = Unit {0}
+NeedsForSplit held near areas old handle (Err OutOfMemory) = Unit {0}
+NeedsForSplit held near areas old handle (Err Crowded) = Unit {0}
+NeedsForSplit held near areas old handle (Ok done) = Unit {0}

@@ -5,6 +5,7 @@ ghost use Rattle.bx_truth.specs.PageTrees.{Node, PageTree, IsPageOf};
 ghost use Rattle.bx_views.specs.Attempts.{IsHeldDraft};
 ghost use Rattle.bx_views.specs.Truths.{Truth};
 ghost use Rattle.bx_blink.specs.Hints.{Under};
+ghost use Rattle.bx_chunks.specs.Taking.{TakesSlots};
 ghost use Rattle.bx_splits.specs.Splits.{SplitsIn};
 ghost use Rattle.bx_records.specs.Drafts.{IsDraft};
 ghost use Rattle.bx_page.specs.Contents.{Contents, size};
@@ -23,9 +24,9 @@ use std::mem;
 /// Splits a page of the tree under a root, by their handles: half of its entries go to a new page on its right, near an area. The root
 /// keeps its handle, rises one level, and gets an entry for each of two new pages.
 ///
-/// `Need` names a block that is to be held exclusively: the page's, or one that a new page wants. `Stale` comes where the page's handle
-/// names another block, or no page: of a page of a tree it never comes. `Full` tells how many slots are free in the view. On an error
-/// the draft is as it was.
+/// `Need` names a block that is to be held exclusively: the page's, or what the next slot near the area needs for a new page. `Stale` comes
+/// where the page's handle names another block, or no page: of a page of a tree it never comes. `Full` comes only where that slot isn't there,
+/// and tells how many are free in the view. On an error the draft is as it was.
 pub fn split<V: View>(
     alloc: Global,
     draft: &mut Draft,
@@ -39,7 +40,8 @@ pub fn split<V: View>(
     ensures unchanged { OnErr result (draft.new ≡ draft.old) }
     ensures at { SplitsAt (V.held view.now) (V.hints view.now) draft.old draft.new root page near areas result }
     ensures map { (truth : Truth) (tree : PageTree) (node : Node) → Under areas (V.held view.now) (V.hints view.now) truth draft.old root tree → IsPageOf tree node → node.handle ≡ page → SplitsIn areas (V.held view.now) (V.hints view.now) truth draft.old draft.new root tree page result }
-    ensures fair { NeedsForSplit areas (V.held view.now) page result }
+    ensures fair { NeedsForSplit (V.held view.now) near areas draft.old page result }
+    ensures taken { OnOk result (TakesSlots (V.held view.now) near areas draft.old draft.new) }
     ensures held { IsHeldDraft (V.held view.now) draft.old → OnOk result (IsHeldDraft (V.held view.now) draft.new) }
 {
     split_page(alloc, draft, view, root, page, (near, areas))

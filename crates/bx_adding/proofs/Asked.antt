@@ -9,6 +9,7 @@ use Rattle.bx_blink.proofs.OnWay.{After, IsOnWay}
 use Rattle.bx_blink.proofs.Rights.{on_way, step}
 use Rattle.bx_blink.proofs.Under.{agrees}
 use Rattle.bx_blink.proofs.Visits.{slot_of_spot}
+use Rattle.bx_chunks.proofs.Taking.{slots_block}
 use Rattle.bx_dirs.specs.Changes.{OnAddPath}
 use Rattle.bx_entries.proofs.Leaves.{leaf_block}
 use Rattle.bx_files.proofs.Slots.{slot_is_block}
@@ -24,7 +25,6 @@ use Rattle.bx_ready.specs.Ready.{OnReadyPath}
 use Rattle.bx_ready.specs.Rooms.{OnSplitPath}
 use Rattle.bx_ready.specs.Separators.{IsLedTo, OnPostForPath}
 use Rattle.bx_ready.proofs.Line.{IsShortOf, line, short}
-use Rattle.bx_ready.proofs.Split.{place_of}
 use Rattle.bx_tree_files.specs.declared.file.Name.{Name}
 use Rattle.bx_truth.specs.Chunks.{IsSlot, block_at, chunks_of}
 use Rattle.bx_truth.specs.Keys.{entry_key, name_key, name_value}
@@ -91,22 +91,19 @@ module _ (areas : ℕ) (held : Held) (hints : Hints) (truth : Truth) (root : ℕ
       let up = shows.is.level in
       omega (arith, level, up, below)
 
-  post_block : (handle at : ℕ) (mode : Mode) → IsShortOf areas held hints truth root tree key u handle → OnPostPath areas (reads_with held hints []) root handle at mode → is_block areas at ≡ true
-  post_block handle _ _ s page = page_block s.level s.node handle s.within s.there s.handle_is
-  post_block handle _ _ s (parent separator at mode shows on) = level_block separator.level Exclusive separator.key at mode (separator_within handle separator s shows) on
-  post_block handle _ _ s (slot at mode is) = is
+  post_block : (near handle at : ℕ) (mode : Mode) → IsShortOf areas held hints truth root tree key u handle → OnPostPath held hints [] root handle near areas at mode → is_block areas at ≡ true
+  post_block near handle _ _ s page = page_block s.level s.node handle s.within s.there s.handle_is
+  post_block near handle _ _ s (parent separator at mode shows on) = level_block separator.level Exclusive separator.key at mode (separator_within handle separator s shows) on
+  post_block near handle _ _ s (slot at mode on) = slots_block held near areas [] at mode on
 
-  posts_block : (at : ℕ) (mode : Mode) → OnPostForPath areas held hints root key at mode → is_block areas at ≡ true
-  posts_block at mode (inl led) = led_block at mode led
-  posts_block at mode (inr p) = post_block p.page at mode (short areas held hints truth root tree key u p.page p.short) p.on
+  posts_block : (near at : ℕ) (mode : Mode) → OnPostForPath near areas held hints root key at mode → is_block areas at ≡ true
+  posts_block near at mode (inl led) = led_block at mode led
+  posts_block near at mode (inr p) = post_block near p.page at mode (short areas held hints truth root tree key u p.page p.short) p.on
 
-  splits_block : (at : ℕ) (mode : Mode) → OnSplitPath areas (reads_with held hints []) root key at mode → is_block areas at ≡ true
-  splits_block at mode (inl on) = leaf_block areas held hints truth [] root tree key at mode u on
-  splits_block at mode (inr (inl l)) =
-      let p = place_of areas held hints truth root tree key u l.handle l.page l.leaf in
-      subst (λ (n : ℕ). is_block areas n ≡ true) (sym l.at_is) (page_block 0 p.node l.handle p.within p.there p.handle_is)
-  splits_block at mode (inr (inr is)) = is
+  splits_block : (near at : ℕ) (mode : Mode) → OnSplitPath near areas held hints root key at mode → is_block areas at ≡ true
+  splits_block near at mode (inl on) = leaf_block areas held hints truth [] root tree key at mode u on
+  splits_block near at mode (inr on) = slots_block held near areas [] at mode on
 
-  pub ready_block : (at : ℕ) (mode : Mode) → OnReadyPath areas held hints root key at mode → is_block areas at ≡ true
-  ready_block at mode (inl on) = posts_block at mode on
-  ready_block at mode (inr on) = splits_block at mode on
+  pub ready_block : (near at : ℕ) (mode : Mode) → OnReadyPath near areas held hints root key at mode → is_block areas at ≡ true
+  ready_block near at mode (inl on) = posts_block near at mode on
+  ready_block near at mode (inr on) = splits_block near at mode on

@@ -81,20 +81,21 @@ module _ (volume areas : ℕ) (held : Held) (hints : Hints) (truth : Truth) (tre
 
     -- what stops it is a block, or want of blocks or of memory
     pub stopped : (key : List ℕ) (error : BlinkError) (stop : ChangeError) → ((pages : PageTree) → Under areas held hints truth [] root pages → ReadiesIn areas held hints truth root pages key (Err error))
-        → NeedsUnheld {X = Option (List Changed)} held (OnReadyPath areas held hints root key) (Err error) → StopsChange areas error stop → ReadyIn areas truth root key (Err stop)
-    stopped key (tree_error.Need at mode) stop r n (inl s) = subst (λ (x : ChangeError). ReadyIn areas truth root key (Err x)) (sym s.1) tt
-    stopped key (tree_error.Need at mode) stop r n (inr s) =
-        let block = ready_block areas held hints truth root pages.pages key some_under at mode n.1 in
+        → (near : ℕ) → NeedsUnheld {X = Option (List Changed)} held (OnReadyPath near areas held hints root key) (Err error) → StopsChange areas error stop → ReadyIn areas truth root key (Err stop)
+    stopped key (tree_error.Need at mode) stop r near n (inl s) = subst (λ (x : ChangeError). ReadyIn areas truth root key (Err x)) (sym s.1) tt
+    stopped key (tree_error.Need at mode) stop r near n (inr s) =
+        let block = ready_block areas held hints truth root pages.pages key some_under near at mode n.1 in
         let both : true ≡ false = sym block ∙ s.0 in absurd cc
-    stopped key tree_error.OutOfMemory stop r n s = subst (λ (x : ChangeError). ReadyIn areas truth root key (Err x)) (sym s) tt
-    stopped key (tree_error.Full spare) stop r n s =
-        let few : TellsFew areas truth spare = r pages.pages some_under in
-        subst (λ (x : ChangeError). ReadyIn areas truth root key (Err x)) (sym s) (record { spare_is = few.0; few = few.1 })
-    stopped key tree_error.Stale stop r n s = absurd (r pages.pages some_under)
-    stopped key tree_error.Absent stop r n s = absurd (r pages.pages some_under)
-    stopped key tree_error.Present stop r n s = absurd (r pages.pages some_under)
-    stopped key (tree_error.NoRoom leaf) stop r n s = absurd (r pages.pages some_under)
-    stopped key tree_error.Crowded stop r n s = absurd (r pages.pages some_under)
+    stopped key tree_error.OutOfMemory stop r near n s = subst (λ (x : ChangeError). ReadyIn areas truth root key (Err x)) (sym s) tt
+    stopped key (tree_error.Full spare) stop r near n s =
+        let full = r pages.pages some_under in
+        let few : TellsFew areas truth spare = full.0 in
+        subst (λ (x : ChangeError). ReadyIn areas truth root key (Err x)) (sym s) (record { spare_is = few.0; few = few.1 }, λ finds. full.1 (finds pages.pages some_under.is))
+    stopped key tree_error.Stale stop r near n s = absurd (r pages.pages some_under)
+    stopped key tree_error.Absent stop r near n s = absurd (r pages.pages some_under)
+    stopped key tree_error.Present stop r near n s = absurd (r pages.pages some_under)
+    stopped key (tree_error.NoRoom leaf) stop r near n s = absurd (r pages.pages some_under)
+    stopped key tree_error.Crowded stop r near n s = absurd (r pages.pages some_under)
 
   -- room is found for both keys
   pub found : (name : List ℕ) (number : ℕ) → FindsRoom areas truth inode.tree (name_key name) → FindsRoom areas truth inode.tree (entry_key number) → IsReadyFor areas held truth inode.tree name number
@@ -114,18 +115,18 @@ module _ (volume areas : ℕ) (held : Held) (hints : Hints) (truth : Truth) (tre
       }
 
 -- what stops one of two stops both
-pub stops_both : (areas : ℕ) (held : Held) (truth : Truth) (root : ℕ) (name : List ℕ) (number : ℕ) (key : List ℕ) (stop : ChangeError) → ReadyIn areas truth root key (Err stop) → RoomIn areas held truth root name number (Err stop)
-stops_both areas held truth root name number key (Stopped (Need at mode)) r = tt
-stops_both areas held truth root name number key (Stopped (Inner blocks)) r = r
-stops_both areas held truth root name number key (Stopped (Status status)) r = r
-stops_both areas held truth root name number key (Stopped OutOfMemory) r = tt
-stops_both areas held truth root name number key (Full spare) r = r
+pub stops_both : (areas : ℕ) (held : Held) (truth : Truth) (root : ℕ) (name : List ℕ) (number : ℕ) (key : List ℕ) → (FindsBoth areas truth root name number → FindsRoom areas truth root key) → (stop : ChangeError) → ReadyIn areas truth root key (Err stop) → RoomIn areas held truth root name number (Err stop)
+stops_both areas held truth root name number key one (Stopped (Need at mode)) r = tt
+stops_both areas held truth root name number key one (Stopped (Inner blocks)) r = r
+stops_both areas held truth root name number key one (Stopped (Status status)) r = r
+stops_both areas held truth root name number key one (Stopped OutOfMemory) r = tt
+stops_both areas held truth root name number key one (Full spare) r = (r.0, λ both. r.1 (one both))
 
 -- what is answered of the second key, where there is room for the first
 pub either : (volume areas : ℕ) (held : Held) (hints : Hints) (truth : Truth) (tree : Tree) (handle : ℕ) (inode : Inode) (d : IsDirectoryOf volume areas held hints truth tree handle inode) (name : List ℕ) (number : ℕ)
     → ReadyIn areas truth inode.tree (name_key name) (Ok tt) → (result : Result (Unit {0}) ChangeError) → ReadyIn areas truth inode.tree (entry_key number) result → RoomIn areas held truth inode.tree name number result
 either volume areas held hints truth tree handle inode d name number first (Ok done) r = found volume areas held hints truth tree handle inode d name number first r
-either volume areas held hints truth tree handle inode d name number first (Err stop) r = stops_both areas held truth inode.tree name number (entry_key number) stop r
+either volume areas held hints truth tree handle inode d name number first (Err stop) r = stops_both areas held truth inode.tree name number (entry_key number) (λ both. both.1) stop r
 
 -- where it goes on, both find it
 pub finds_both : (areas : ℕ) (truth : Truth) (root : ℕ) (name : List ℕ) (number : ℕ) → ReadyIn areas truth root (name_key name) (Ok tt) → (result : Result (Unit {0}) ChangeError) → ReadyIn areas truth root (entry_key number) result

@@ -3,6 +3,7 @@ use Rattle.std.proofs.Common.{◌≡◌, ℕ, List, Some, sym, ◌∙◌, subst,
 use Rattle.std.specs.Prelude.{IfErr, IfOk, Result, Ok, Err}
 use Rattle.bx_blink.specs.declared.error.BlinkError.{BlinkError}
 use Rattle.bx_blink.specs.declared.error.BlinkError.TheVariants as tree_error
+use Rattle.bx_changes.specs.Growing.{IfFull}
 use Rattle.bx_changes.specs.declared.error.ChangeError.{ChangeError}
 use Rattle.bx_changes.specs.declared.error.ChangeError.TheVariants.{Stopped, Full}
 use Rattle.bx_handles.specs.Handles.{named}
@@ -13,7 +14,8 @@ use Rattle.bx_layout.specs.declared.block.Block.{Block}
 use Rattle.bx_layout.specs.declared.inode.Inode.{Inode}
 use Rattle.bx_records.specs.Drafts.{Changed}
 use Rattle.bx_truth.proofs.OneFiles.{one_inode}
-use Rattle.bx_views.specs.Truths.{Truth}
+use Rattle.bx_views.specs.Truths.{Held, Truth}
+use Rattle.bx_adding.specs.Finding.{RoomIn}
 use Rattle.bx_adding.specs.Lacking.{FindsBoth, IfFirst, ReadyToEnter}
 use Rattle.bx_adding.specs.Stopping.{NeverFirst, StopsChange}
 
@@ -47,6 +49,25 @@ first_so follows (Full spare) p = tt
 pub first_if : {X : Type 0} {P Q : List Changed → Type 0} → ((blocks : List Changed) → P blocks → Q blocks) → (result : Result X ChangeError) → IfErr result (IfFirst P) → IfErr result (IfFirst Q)
 first_if follows (Ok value) p = tt
 first_if follows (Err stop) p = first_so follows stop p
+
+-- ---- where it is full
+
+pub full_so : {P Q : ℕ → Type 0} → ((spare : ℕ) → P spare → Q spare) → (stop : ChangeError) → IfFull P stop → IfFull Q stop
+full_so follows (Stopped stop) p = tt
+full_so follows (Full spare) p = follows spare p
+
+pub full_if : {X : Type 0} {P Q : ℕ → Type 0} → ((spare : ℕ) → P spare → Q spare) → (result : Result X ChangeError) → IfErr result (IfFull P) → IfErr result (IfFull Q)
+full_if follows (Ok value) p = tt
+full_if follows (Err stop) p = full_so follows stop p
+
+-- what is never full
+pub full_never : {X : Type 0} {Q : ℕ → Type 0} → (result : Result X ChangeError) → IfErr result (IfFull (λ spare. ⊥)) → IfErr result (IfFull Q)
+full_never result never = full_if (λ spare none. absurd none) result never
+
+-- room is lacking then
+pub room_wanted : (areas : ℕ) (held : Held) (truth : Truth) (root : ℕ) (name : List ℕ) (number : ℕ) (stop : ChangeError) → RoomIn areas held truth root name number (Err stop) → IfFull (λ spare. FindsBoth areas truth root name number → ⊥) stop
+room_wanted areas held truth root name number (Stopped stop) r = tt
+room_wanted areas held truth root name number (Full spare) r = r.1
 
 -- ---- where nothing is
 

@@ -4,7 +4,7 @@ use Rattle.std.specs.Prelude.{Err, Ok}
 use Rattle.bx_base.specs.declared.names.Mode.{Mode}
 use Rattle.bx_blink.specs.declared.error.BlinkError.{BlinkError}
 use Rattle.bx_blink.specs.declared.error.BlinkError.TheVariants as tree_error
-use Rattle.bx_changes.specs.Growing.{HoldsFirst, NeedsBy}
+use Rattle.bx_changes.specs.Growing.{HoldsFirst, IfFull, NeedsBy}
 use Rattle.bx_changes.specs.declared.error.ChangeError.{ChangeError}
 use Rattle.bx_changes.specs.declared.error.ChangeError.TheVariants.{Stopped, Full}
 use Rattle.bx_dirs.specs.Changes.{AddsAt}
@@ -13,6 +13,7 @@ use Rattle.bx_inodes.specs.declared.stop.Stop.TheVariants.{Need, Inner, Status, 
 use Rattle.bx_layout.specs.declared.inode.Inode.{Inode}
 use Rattle.bx_leaves.specs.Changes.{NeedsUnheld}
 use Rattle.bx_ready.proofs.Lengths.{one_more, put_more}
+use Rattle.bx_ready.specs.Spare.{IfFull as IfTreeFull}
 use Rattle.bx_records.specs.Drafts.{Changed}
 use Rattle.bx_tree_files.specs.declared.file.Name.{Name}
 use Rattle.bx_truth.specs.Chunks.{block_at}
@@ -37,6 +38,30 @@ wider areas held Path Wider more (Stopped (Inner blocks)) n = tt
 wider areas held Path Wider more (Stopped (Status status)) n = tt
 wider areas held Path Wider more (Stopped OutOfMemory) n = tt
 wider areas held Path Wider more (Full spare) n = tt
+
+-- what holds where a call on a tree finds no slot holds where the change that it stops is full
+pub full_stops : (X : Type 0) (areas : ℕ) (Holds : ℕ → Type 0) (error : BlinkError) (stop : ChangeError) → IfTreeFull {X = X} Holds (Err error) → StopsChange areas error stop → IfFull Holds stop
+full_stops X areas Holds (tree_error.Need at mode) stop f (inl s) = subst (IfFull Holds) (sym s.1) tt
+full_stops X areas Holds (tree_error.Need at mode) stop f (inr s) = subst (IfFull Holds) (sym s.1) tt
+full_stops X areas Holds (tree_error.Full spare) stop f s = subst (IfFull Holds) (sym s) f
+full_stops X areas Holds tree_error.OutOfMemory stop f s = subst (IfFull Holds) (sym s) tt
+full_stops X areas Holds tree_error.Stale stop f s = subst (IfFull Holds) (sym s) tt
+full_stops X areas Holds tree_error.Absent stop f s = subst (IfFull Holds) (sym s) tt
+full_stops X areas Holds tree_error.Present stop f s = subst (IfFull Holds) (sym s) tt
+full_stops X areas Holds (tree_error.NoRoom leaf) stop f s = subst (IfFull Holds) (sym s) tt
+full_stops X areas Holds tree_error.Crowded stop f s = subst (IfFull Holds) (sym s) tt
+
+-- an entry that is added takes no slot
+pub never_full : (held : Held) (hints : Hints) (old new : List Changed) (root : ℕ) (entry : Name) (error : BlinkError) → AddsAt held hints old new root entry (Err error) → IfTreeFull {X = Unit {0}} (λ spare. ⊥) (Err error)
+never_full held hints old new root entry (tree_error.Need at mode) a = tt
+never_full held hints old new root entry (tree_error.Full spare) (inl never) = absurd never
+never_full held hints old new root entry (tree_error.Full spare) (inr then) = absurd then.numbered
+never_full held hints old new root entry tree_error.OutOfMemory a = tt
+never_full held hints old new root entry tree_error.Stale a = tt
+never_full held hints old new root entry tree_error.Absent a = tt
+never_full held hints old new root entry tree_error.Present a = tt
+never_full held hints old new root entry (tree_error.NoRoom leaf) a = tt
+never_full held hints old new root entry tree_error.Crowded a = tt
 
 -- where no blocks are to be written first they are held
 pub never_held : (held : Held) (stop : ChangeError) → NeverFirst stop → HoldsFirst held stop

@@ -3,7 +3,7 @@
 ghost use Rattle.std.specs.Prelude.{◌≡◌, ◌+◌, ◌≤◌, ℕ, length, IfErr, IfOk, IfSome, IfNone, IsSome};
 ghost use Rattle.bx_base.specs.declared.names.Mode.TheVariants.{Exclusive};
 ghost use Rattle.bx_dirs.specs.Changes.{OnAddPath, entry_of};
-ghost use Rattle.bx_changes.specs.Growing.{HoldsFirst, NeedsBy};
+ghost use Rattle.bx_changes.specs.Growing.{HoldsFirst, IfFull, NeedsBy};
 ghost use Rattle.bx_layout.specs.Inodes.{IsInode};
 ghost use Rattle.bx_model.specs.declared.tree.Tree.{Tree};
 ghost use Rattle.bx_tree_files.specs.declared.file.File.{File};
@@ -48,6 +48,7 @@ pub fn enter<V: View>(
         → EntersIn areas truth draft tree directory.handle directory.inode name.now made counts now result }
     ensures need { IfErr result (NeedsBy areas (V.held view.now) (OnAddPath (V.held view.now) (V.hints view.now) draft directory.inode.tree (entry_of directory.inode.next name.now made))) }
     ensures inner { IfErr result NeverFirst }
+    ensures full { IfErr result (IfFull (λ spare. ⊥)) }
     ensures first { IfErr result (HoldsFirst (V.held view.now)) }
     ensures held { IsHeldDraft (V.held view.now) draft → IsSome (V.held view.now (block_at directory.handle) Exclusive) → IfOk result (IsHeldDraft (V.held view.now)) }
     ensures few { IfOk result (λ new. length new ≤ length draft + 3) }

@@ -64,10 +64,7 @@ NeedsBy areas held Path (Full spare) = Unit {0}
 -- what holds of the number that is told where no block is left
 abbrev pub IfFull : (ℕ → Type 0) → ChangeError → Type 0
 IfFull Holds (Full spare) = Holds spare
-IfFull Holds (Stopped (Need at mode)) = Unit {0}
-IfFull Holds (Stopped (Inner blocks)) = Unit {0}
-IfFull Holds (Stopped (Status status)) = Unit {0}
-IfFull Holds (Stopped OutOfMemory) = Unit {0}
+IfFull Holds (Stopped stop) = Unit {0}
 
 -- the blocks that are to be written first are held exclusively
 abbrev pub HoldsFirst : Held → ChangeError → Type 0

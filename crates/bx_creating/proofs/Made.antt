@@ -3,9 +3,10 @@ use Rattle.std.proofs.Common.{◌≡◌, ℕ, ◌≤◌, arith, List, [], length
 use Rattle.std.specs.Prelude.{Err, Ok}
 use Rattle.bx_adding.proofs.Stopped.{inode_more}
 use Rattle.bx_base.specs.declared.names.Mode.{Mode}
-use Rattle.bx_changes.specs.Growing.{NeedsBy}
+use Rattle.bx_changes.specs.Growing.{IfFull, NeedsBy}
 use Rattle.bx_changes.specs.declared.error.ChangeError.{ChangeError}
 use Rattle.bx_chunks.specs.Allocating.{AllocatesAt, NeedsFairly}
+use Rattle.bx_chunks.specs.Taking.{NoSlots, OnSlots, more, none}
 use Rattle.bx_chunks.specs.declared.error.ChunkError.{ChunkError}
 use Rattle.bx_chunks.specs.declared.error.ChunkError.TheVariants as chunk
 use Rattle.bx_layout.specs.declared.inode.Inode.{Inode}
@@ -20,7 +21,7 @@ use Rattle.bx_records.specs.Drafts.{Changed}
 use Rattle.bx_tree_files.specs.declared.file.Body.{Body}
 use Rattle.bx_truth.specs.Chunks.{IsChunked}
 use Rattle.bx_views.specs.Truths.{Held, IsTruth, Truth}
-use Rattle.bx_creating.specs.Placing.{MakesNew, OnTaking, StopsByChunks}
+use Rattle.bx_creating.specs.Placing.{IsFirstNear, IsMade, MakesNew, StopsByChunks}
 
 -- ---- room in the draft
 
@@ -60,14 +61,38 @@ module _ (held : Held) (near areas : ℕ) where
 
   -- ---- what is needed
 
-  pub make_needs : (inode : Inode) (new : List Changed) (at : ℕ) (mode : Mode) → MakesAt held [] new inode near areas (Err (chunk.Need at mode)) → OnTaking held near areas at mode
-  make_needs inode new at mode (inl needs) = record { draft = []; needs = needs }
-  make_needs inode new at mode (inr (inl m)) = record { draft = m.one; needs = m.second }
+  pub make_needs : (inode : Inode) (new : List Changed) (at : ℕ) (mode : Mode) → MakesAt held [] new inode near areas (Err (chunk.Need at mode)) → OnSlots held near areas [] at mode
+  make_needs inode new at mode (inl needs) = record { draft = []; taken = none; needs = needs }
+  make_needs inode new at mode (inr (inl m)) = record { draft = m.one; taken = more [] m.one m.handle none m.first; needs = m.second }
   make_needs inode new at mode (inr (inr m)) = absurd m.fills
 
-  pub link_needs : (inode : Inode) (new : List Changed) (at : ℕ) (mode : Mode) → LinksAt held [] new inode near areas (Err (chunk.Need at mode)) → OnTaking held near areas at mode
-  link_needs inode new at mode (inl needs) = record { draft = []; needs = needs }
+  pub link_needs : (inode : Inode) (new : List Changed) (at : ℕ) (mode : Mode) → LinksAt held [] new inode near areas (Err (chunk.Need at mode)) → OnSlots held near areas [] at mode
+  link_needs inode new at mode (inl needs) = record { draft = []; taken = none; needs = needs }
   link_needs inode new at mode (inr (other, m)) = absurd cc
+
+-- ---- where no slot is left
+
+module _ (held : Held) (near areas : ℕ) where
+  pub make_none : (inode : Inode) (new : List Changed) (spare : ℕ) → MakesAt held [] new inode near areas (Err (chunk.Full spare)) → NoSlots held near areas [] spare
+  make_none inode new spare (inl full) = record { draft = []; taken = none; full = full }
+  make_none inode new spare (inr (inl m)) = record { draft = m.one; taken = more [] m.one m.handle none m.first; full = m.second }
+  make_none inode new spare (inr (inr m)) = absurd m.fills
+
+  pub link_none : (inode : Inode) (new : List Changed) (spare : ℕ) → LinksAt held [] new inode near areas (Err (chunk.Full spare)) → NoSlots held near areas [] spare
+  link_none inode new spare (inl full) = record { draft = []; taken = none; full = full }
+  link_none inode new spare (inr (other, m)) = absurd cc
+
+  pub none_stops : (error : ChunkError) (stop : ChangeError) → ((spare : ℕ) → error ≡ chunk.Full spare → NoSlots held near areas [] spare) → StopsByChunks error stop → IfFull (NoSlots held near areas []) stop
+  none_stops (chunk.Need at mode) stop full s = subst (IfFull (NoSlots held near areas [])) (sym s) tt
+  none_stops (chunk.Full spare) stop full s = subst (IfFull (NoSlots held near areas [])) (sym s) (full spare refl)
+  none_stops chunk.OutOfMemory stop full s = subst (IfFull (NoSlots held near areas [])) (sym s) tt
+  none_stops chunk.Stale stop full s = subst (IfFull (NoSlots held near areas [])) (sym s) tt
+  none_stops chunk.Crowded stop full s = subst (IfFull (NoSlots held near areas [])) (sym s) tt
+
+  -- the file that is made has the first handle
+  pub first_near : (draft : List Changed) (made : ℕ) → IsMade held near areas draft made → IsFirstNear held near areas made
+  first_near draft made (inode, inl m) = (m.one, m.first)
+  first_near draft made (inode, inr m) = (m.one, m.first)
 
 -- ---- what stops it
 
@@ -80,10 +105,10 @@ stops areas truth tree inode body new chunk.OutOfMemory stop crowds full m s = s
 stops areas truth tree inode body new chunk.Stale stop crowds full m s = absurd m
 stops areas truth tree inode body new chunk.Crowded stop crowds full m s = absurd (crowds refl)
 
-pub needs : (areas : ℕ) (held : Held) (near : ℕ) (error : ChunkError) (stop : ChangeError) → ((at : ℕ) (mode : Mode) → error ≡ chunk.Need at mode → OnTaking held near areas at mode) → NeedsFairly {X = ℕ} areas held (Err error) → StopsByChunks error stop
-    → NeedsBy areas held (OnTaking held near areas) stop
-needs areas held near (chunk.Need at mode) stop on n s = subst (NeedsBy areas held (OnTaking held near areas)) (sym s) (n.0, n.1, on at mode refl)
-needs areas held near (chunk.Full spare) stop on n s = subst (NeedsBy areas held (OnTaking held near areas)) (sym s) tt
-needs areas held near chunk.OutOfMemory stop on n s = subst (NeedsBy areas held (OnTaking held near areas)) (sym s) tt
-needs areas held near chunk.Stale stop on n s = subst (NeedsBy areas held (OnTaking held near areas)) (sym s) tt
-needs areas held near chunk.Crowded stop on n s = subst (NeedsBy areas held (OnTaking held near areas)) (sym s) tt
+pub needs : (areas : ℕ) (held : Held) (near : ℕ) (error : ChunkError) (stop : ChangeError) → ((at : ℕ) (mode : Mode) → error ≡ chunk.Need at mode → OnSlots held near areas [] at mode) → NeedsFairly {X = ℕ} areas held (Err error) → StopsByChunks error stop
+    → NeedsBy areas held (OnSlots held near areas []) stop
+needs areas held near (chunk.Need at mode) stop on n s = subst (NeedsBy areas held (OnSlots held near areas [])) (sym s) (n.0, n.1, on at mode refl)
+needs areas held near (chunk.Full spare) stop on n s = subst (NeedsBy areas held (OnSlots held near areas [])) (sym s) tt
+needs areas held near chunk.OutOfMemory stop on n s = subst (NeedsBy areas held (OnSlots held near areas [])) (sym s) tt
+needs areas held near chunk.Stale stop on n s = subst (NeedsBy areas held (OnSlots held near areas [])) (sym s) tt
+needs areas held near chunk.Crowded stop on n s = subst (NeedsBy areas held (OnSlots held near areas [])) (sym s) tt

@@ -36,7 +36,7 @@ module _ (volume areas : ℕ) (held : Held) (hints : Hints) (truth : Truth) (tre
   room_stops (Stopped (Inner blocks)) r = r
   room_stops (Stopped (Status status)) r = r
   room_stops (Stopped OutOfMemory) r = tt
-  room_stops (Full spare) r = r
+  room_stops (Full spare) r = r.0
 
   pub make_stops : (stop : ChangeError) → MakesNew areas truth tree new body (Err stop) → PlacesIn areas truth tree handle name now new body (Err stop)
   make_stops (Stopped (Need at mode)) m = tt

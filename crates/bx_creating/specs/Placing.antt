@@ -1,19 +1,22 @@
 -- A new file, and the entry of a directory that names it.
-use Rattle.std.specs.Prelude.{◌≡◌, ℕ, ◌⊎◌, true, List, [], Result, Ok, Err}
+use Rattle.std.specs.Prelude.{◌≡◌, ℕ, ◌⊎◌, true, List, [], Some, Result, Ok, Err}
 use Rattle.bx_adding.specs.Finding.{OnRoomPath}
 use Rattle.bx_base.specs.declared.names.Mode.{Mode}
 use Rattle.bx_changes.specs.Growing.{IsNearlyFull, LeavesTrees}
 use Rattle.bx_changes.specs.declared.error.ChangeError.{ChangeError}
 use Rattle.bx_changes.specs.declared.error.ChangeError.TheVariants.{Stopped, Full}
 use Rattle.bx_chunks.specs.Allocating.{AllocatesAt}
+use Rattle.bx_chunks.specs.Taking.{OnSlots}
 use Rattle.bx_chunks.specs.declared.error.ChunkError.{ChunkError}
 use Rattle.bx_chunks.specs.declared.error.ChunkError.TheVariants as chunk
 use Rattle.bx_dirs.specs.Changes.{OnAddPath, entry_of}
-use Rattle.bx_handles.specs.Handles.{parts_of}
+use Rattle.bx_handles.specs.Handles.{named, parts_of}
 use Rattle.bx_hints.specs.Fitting.{HintsFitAll}
 use Rattle.bx_inodes.specs.declared.stop.Stop.TheVariants.{Need, Inner, Status, OutOfMemory}
 use Rattle.bx_layout.specs.declared.inode.Inode.{Inode}
+use Rattle.bx_making.specs.Links.{LinksAt}
 use Rattle.bx_making.specs.Made.{MakesFile, file_of}
+use Rattle.bx_making.specs.Making.{MakesAt}
 use Rattle.bx_model.specs.Edits.{is_unused}
 use Rattle.bx_model.specs.Making.{with_made}
 use Rattle.bx_model.specs.declared.tree.Tree.{Tree}
@@ -42,10 +45,19 @@ MakesNew areas truth tree inode body (Err (Stopped OutOfMemory)) = Unit {0}
 MakesNew areas truth tree inode body (Err (Stopped (Status status))) = ⊥
 MakesNew areas truth tree inode body (Err (Stopped (Inner blocks))) = ⊥
 
--- the path: what taking a slot near an area needs
-pub record OnTaking (held : Held) (near areas at : ℕ) (mode : Mode) : Type 0 where
-  pub draft : List Changed
-  pub needs : AllocatesAt held draft draft near areas (Err (chunk.Need at mode))
+-- a draft of its own makes a file near an area, or a link, which then has this handle
+abbrev pub IsMade : Held → ℕ → ℕ → List Changed → ℕ → Type 0
+IsMade held near areas draft made = (inode : Inode) × (MakesAt held [] draft inode near areas (Ok made) ⊎ LinksAt held [] draft inode near areas (Ok made))
+
+-- the handle is that of the first slot that is taken near an area
+abbrev pub IsFirstNear : Held → ℕ → ℕ → ℕ → Type 0
+IsFirstNear held near areas made = (draft : List Changed) × AllocatesAt held [] draft near areas (Ok made)
+
+-- near the directory that a file handle names
+pub record IsMadeNear (volume areas : ℕ) (held : Held) (bytes : List ℕ) (made : ℕ) : Type 0 where
+  pub handle : ℕ
+  pub is_named : named volume bytes ≡ Some handle
+  pub first : IsFirstNear held (parts_of handle).area areas made
 
 -- ---- and the entry that names it
 
@@ -66,12 +78,14 @@ PlacesIn areas truth tree handle name now inode body (Err (Stopped OutOfMemory))
 PlacesIn areas truth tree handle name now inode body (Err (Stopped (Status status))) = ⊥
 
 -- the path of the entry that names the file, once that is made
-pub record OnEntering (held : Held) (hints : Hints) (inode : Inode) (name : List ℕ) (at : ℕ) (mode : Mode) : Type 0 where
+pub record OnEntering (held : Held) (hints : Hints) (near areas : ℕ) (inode : Inode) (name : List ℕ) (at : ℕ) (mode : Mode) : Type 0 where
   pub draft : List Changed
   pub made : ℕ
+  pub is : IsMade held near areas draft made
   pub on : OnAddPath held hints draft inode.tree (entry_of inode.next name made) at mode
 
 -- The path, from a directory on by its inode: that of the room for the entry, the slots of the file near the directory, and the entry.
 abbrev pub OnPlacing : ℕ → Held → Hints → ℕ → Inode → List ℕ → ℕ → Mode → Type 0
 OnPlacing areas held hints handle inode name at mode =
-    OnRoomPath areas held hints inode.tree name inode.next at mode ⊎ (OnTaking held (parts_of handle).area areas at mode ⊎ OnEntering held hints inode name at mode)
+    OnRoomPath (parts_of handle).area areas held hints inode.tree name inode.next at mode
+    ⊎ (OnSlots held (parts_of handle).area areas [] at mode ⊎ OnEntering held hints (parts_of handle).area areas inode name at mode)

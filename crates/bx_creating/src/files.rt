@@ -5,7 +5,9 @@ ghost use Rattle.bx_adding.specs.Lacking.{FindsBoth, MakesEither};
 ghost use Rattle.bx_base.specs.declared.names.Mode.TheVariants.{Exclusive};
 ghost use Rattle.bx_blink.specs.Walks.{reads_with};
 ghost use Rattle.bx_changes.specs.First.{ComesFirst};
-ghost use Rattle.bx_changes.specs.Growing.{HoldsFirst, IsMaking, NeedsBy};
+ghost use Rattle.bx_changes.specs.Growing.{HoldsFirst, IfFull, IsMaking, NeedsBy};
+ghost use Rattle.bx_chunks.specs.Taking.{NoSlots};
+ghost use Rattle.bx_handles.specs.Handles.{parts_of};
 ghost use Rattle.bx_hints.specs.Fitting.{HintsFitAll};
 ghost use Rattle.bx_inodes.specs.Heads.{head_of as head_by};
 ghost use Rattle.bx_inodes.specs.Inodes.{LiveAt};
@@ -14,7 +16,7 @@ ghost use Rattle.bx_model.specs.Making.{create_new as create_new_of};
 ghost use Rattle.bx_views.specs.Attempts.{IsHeldDraft};
 ghost use Rattle.bx_views.specs.Truths.{Hints, Truth, with_draft};
 ghost use Rattle.bx_creating.specs.Creating.{IsWithout, making_error as making_error_of};
-ghost use Rattle.bx_creating.specs.Placing.{OnPlacing};
+ghost use Rattle.bx_creating.specs.Placing.{IsFirstNear, OnPlacing};
 
 use crate::inodes::file_inode;
 use crate::placing::place_new;
@@ -38,7 +40,8 @@ const MOST_BYTES: u32 = 2147483647;
 /// `Need` names a block that isn't held: one on the path of finding room for its entry, one that the file's slots want, exclusively, or one on the path of
 /// the entry, exclusively. The status is `ACCES` where the caller may not change the directory, `FBIG` of a size that no file has, and `DQUOT` where the
 /// directory has no number left. `Inner` are blocks that make room for the entry: they come exactly where none of these errors does and room is lacking
-/// in the directory's tree. `Full` comes behind these, where fewer than 8 blocks are free and one more is wanted. `now` is in seconds and microseconds.
+/// in the directory's tree. `Full` comes behind these, where no slot is left near the directory for one that is wanted; then fewer than 8 are free.
+/// `now` is in seconds and microseconds.
 pub fn create_new<V: View>(
     alloc: Global,
     volume: u64,
@@ -61,6 +64,8 @@ pub fn create_new<V: View>(
     ensures finds { (truth : Truth) (tree : Tree) → (is : IsWithout volume areas (V.held view.now) (V.hints view.now) truth tree directory.handle directory.inode name.now)
         → IfOk result (λ made. FindsBoth areas truth directory.inode.tree name.now directory.inode.next) }
     ensures need { IfErr result (NeedsBy areas (V.held view.now) (OnPlacing areas (V.held view.now) (V.hints view.now) directory.handle directory.inode name.now)) }
+    ensures full { IfErr result (IfFull (NoSlots (V.held view.now) (parts_of directory.handle).area areas [])) }
+    ensures near { IfOk result (λ made. IsFirstNear (V.held view.now) (parts_of directory.handle).area areas made.2) }
     ensures first { IfErr result (HoldsFirst (V.held view.now)) }
     ensures held { IfOk result (λ made. IsHeldDraft (V.held view.now) made.0) }
 {

@@ -1,9 +1,9 @@
 //! SYMLINK.
 
 ghost use Rattle.std.specs.Prelude.{◌≡◌, ◌≤◌, ℕ, length, Err, IfErr, IfOk};
-ghost use Rattle.bx_adding.specs.Lacking.{MakesPlace, ReadyToEnter};
+ghost use Rattle.bx_adding.specs.Lacking.{MakesPlace, NoSlotsNear, ReadyToEnter};
 ghost use Rattle.bx_changes.specs.First.{ComesFirst};
-ghost use Rattle.bx_changes.specs.Growing.{HoldsFirst, IsMaking, NeedsBy};
+ghost use Rattle.bx_changes.specs.Growing.{HoldsFirst, IfFull, IsMaking, NeedsBy};
 ghost use Rattle.bx_hints.specs.Fitting.{HintsFitAll};
 ghost use Rattle.bx_inodes.specs.Stands.{Stands};
 ghost use Rattle.bx_model.specs.declared.tree.Tree.{Tree};
@@ -11,6 +11,7 @@ ghost use Rattle.bx_model.specs.Making.{symlink as symlink_of};
 ghost use Rattle.bx_views.specs.Attempts.{IsHeldDraft};
 ghost use Rattle.bx_views.specs.Truths.{Hints, IsTruth, Truth, with_draft};
 ghost use Rattle.bx_creating.specs.Making.{OnMaking};
+ghost use Rattle.bx_creating.specs.Placing.{IsMadeNear};
 
 use crate::finding::place_for;
 use crate::inodes::link_inode;
@@ -51,6 +52,8 @@ pub fn symlink<V: View>(
     ensures ready { (truth : Truth) (tree : Tree) → IsTruth (V.held view.now) truth → Stands volume areas truth tree → HintsFitAll areas (V.hints view.now) truth
         → IfOk result (λ made. ReadyToEnter volume areas truth at.now name.now) }
     ensures need { IfErr result (NeedsBy areas (V.held view.now) (OnMaking (V.held view.now) (V.hints view.now) volume areas at.now name.now)) }
+    ensures full { IfErr result (IfFull (NoSlotsNear volume areas (V.held view.now) at.now)) }
+    ensures near { IfOk result (λ made. IsMadeNear volume areas (V.held view.now) at.now made.2) }
     ensures first { IfErr result (HoldsFirst (V.held view.now)) }
     ensures held { IfOk result (λ made. IsHeldDraft (V.held view.now) made.0) }
 {

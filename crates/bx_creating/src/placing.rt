@@ -1,10 +1,12 @@
 //! New files in directories.
 
-ghost use Rattle.std.specs.Prelude.{◌≡◌, ◌≤◌, ℕ, length, IfErr, IfOk, IsSome};
+ghost use Rattle.std.specs.Prelude.{◌≡◌, ◌≤◌, ℕ, [], length, IfErr, IfOk, IsSome};
 ghost use Rattle.bx_base.specs.declared.names.Mode.TheVariants.{Exclusive};
 ghost use Rattle.bx_adding.specs.Lacking.{FindsBoth, IfFirst, MakesEither};
-ghost use Rattle.bx_changes.specs.Growing.{HoldsFirst, NeedsBy};
+ghost use Rattle.bx_changes.specs.Growing.{HoldsFirst, IfFull, NeedsBy};
+ghost use Rattle.bx_chunks.specs.Taking.{NoSlots, OnSlots};
 ghost use Rattle.bx_entries.specs.Finding.{IsDirectoryOf};
+ghost use Rattle.bx_handles.specs.Handles.{parts_of};
 ghost use Rattle.bx_layout.specs.Inodes.{IsInode};
 ghost use Rattle.bx_model.specs.declared.tree.Tree.{Tree};
 ghost use Rattle.bx_tree_files.specs.declared.file.Body.{Body};
@@ -17,7 +19,7 @@ ghost use Rattle.bx_views.specs.Truths.{IsTruth, Truth};
 ghost use Rattle.bx_adding.specs.Stopping.{NeverFirst};
 ghost use Rattle.bx_creating.specs.Finding.{IsPlaceFor};
 ghost use Rattle.bx_creating.specs.Inodes.{IsNewBody};
-ghost use Rattle.bx_creating.specs.Placing.{MakesNew, OnPlacing, OnTaking, PlacesIn};
+ghost use Rattle.bx_creating.specs.Placing.{IsFirstNear, IsMade, MakesNew, OnPlacing, PlacesIn};
 
 use crate::stops::chunk_error;
 use bx_adding::{enter, room_for};
@@ -57,6 +59,8 @@ pub(crate) fn place_new<V: View>(
     ensures finds { (volume : ℕ) (truth : Truth) (tree : Tree) → IsDirectoryOf volume areas (V.held view.now) (V.hints view.now) truth tree directory.handle directory.inode
         → IfOk result (λ made. FindsBoth areas truth directory.inode.tree name.now directory.inode.next) }
     ensures need { IfErr result (NeedsBy areas (V.held view.now) (OnPlacing areas (V.held view.now) (V.hints view.now) directory.handle directory.inode name.now)) }
+    ensures full { IfErr result (IfFull (NoSlots (V.held view.now) (parts_of directory.handle).area areas [])) }
+    ensures near { IfOk result (λ made. IsFirstNear (V.held view.now) (parts_of directory.handle).area areas made.1) }
     ensures first { IfErr result (HoldsFirst (V.held view.now)) }
     ensures held { IsSome (V.held view.now (block_at directory.handle) Exclusive) → IfOk result (λ made. IsHeldDraft (V.held view.now) made.0) }
 {
@@ -87,7 +91,9 @@ fn make_new<V: View>(
 ) -> Result<(Draft, u64), ChangeError>
     requires { IsInode inode }
     ensures step { (truth : Truth) (tree : Tree) (body : Body) → areas ≤ 64 → IsTruth (V.held view.now) truth → StandsFor areas truth tree → IsNewBody inode body → MakesNew areas truth tree inode body result }
-    ensures need { IfErr result (NeedsBy areas (V.held view.now) (OnTaking (V.held view.now) near areas)) }
+    ensures need { IfErr result (NeedsBy areas (V.held view.now) (OnSlots (V.held view.now) near areas [])) }
+    ensures full { IfErr result (IfFull (NoSlots (V.held view.now) near areas [])) }
+    ensures made { IfOk result (λ made. IsMade (V.held view.now) near areas made.0 made.1) }
     ensures inner { IfErr result NeverFirst }
     ensures held { IfOk result (λ made. IsHeldDraft (V.held view.now) made.0) }
     ensures few { IfOk result (λ made. length made.0 ≤ 13) }
@@ -109,7 +115,9 @@ fn new_link<V: View>(
     requires { IsInode inode.now }
     ensures step { (truth : Truth) (tree : Tree) → areas ≤ 64 → IsTruth (V.held view.now) truth → StandsFor areas truth tree → inode.now.kind ≡ 5 → inode.now.tree ≡ 0
         → MakesNew areas truth tree inode.now (Path inode.now.path) result }
-    ensures need { IfErr result (NeedsBy areas (V.held view.now) (OnTaking (V.held view.now) near areas)) }
+    ensures need { IfErr result (NeedsBy areas (V.held view.now) (OnSlots (V.held view.now) near areas [])) }
+    ensures full { IfErr result (IfFull (NoSlots (V.held view.now) near areas [])) }
+    ensures made { IfOk result (λ made. IsMade (V.held view.now) near areas made.0 made.1) }
     ensures inner { IfErr result NeverFirst }
     ensures held { IfOk result (λ made. IsHeldDraft (V.held view.now) made.0) }
     ensures few { IfOk result (λ made. length made.0 ≤ 13) }
@@ -131,7 +139,9 @@ fn new_file<V: View>(
 ) -> Result<(Draft, u64), ChangeError>
     requires { IsInode inode }
     ensures step { (truth : Truth) (tree : Tree) (body : Body) → areas ≤ 64 → IsTruth (V.held view.now) truth → StandsFor areas truth tree → IsEmptyBody inode body → MakesNew areas truth tree inode body result }
-    ensures need { IfErr result (NeedsBy areas (V.held view.now) (OnTaking (V.held view.now) near areas)) }
+    ensures need { IfErr result (NeedsBy areas (V.held view.now) (OnSlots (V.held view.now) near areas [])) }
+    ensures full { IfErr result (IfFull (NoSlots (V.held view.now) near areas [])) }
+    ensures made { IfOk result (λ made. IsMade (V.held view.now) near areas made.0 made.1) }
     ensures inner { IfErr result NeverFirst }
     ensures held { IfOk result (λ made. IsHeldDraft (V.held view.now) made.0) }
     ensures few { IfOk result (λ made. length made.0 ≤ 13) }

@@ -3,12 +3,12 @@ use Rattle.std.proofs.Common.{◌≡◌, ℕ, ◌≤◌, Bool, true, false, List
 use Rattle.std.specs.Prelude.{nat_le, nat_lt, IfErr, Result, Ok, Err}
 use Rattle.bx_base.specs.declared.names.Mode.{Mode}
 use Rattle.bx_blink.specs.Walks.{Reads}
-use Rattle.bx_adding.specs.Lacking.{IfFirst}
+use Rattle.bx_adding.specs.Lacking.{FindsBoth, IfFirst}
 use Rattle.bx_adding.specs.Stopping.{NeverFirst}
 use Rattle.bx_adding.proofs.Lacks.{never_first}
 use Rattle.bx_changes.specs.Changes.{Changes}
 use Rattle.bx_changes.specs.First.{ComesFirst}
-use Rattle.bx_changes.specs.Growing.{IsChangeBy, NeedsBy}
+use Rattle.bx_changes.specs.Growing.{IfFull, IsChangeBy, NeedsBy}
 use Rattle.bx_changes.specs.declared.error.ChangeError.{ChangeError}
 use Rattle.bx_changes.specs.declared.error.ChangeError.TheVariants.{Stopped, Full}
 use Rattle.bx_entries.specs.Finding.{DirectoryFor, MayChange, changeable}
@@ -194,3 +194,10 @@ inode_never reads areas handle mode (Need at asked) is = tt
 inode_never reads areas handle mode (Inner blocks) is = absurd is
 inode_never reads areas handle mode (Status status) is = tt
 inode_never reads areas handle mode OutOfMemory is = tt
+
+-- ---- where it is full room is lacking
+
+pub lacks_room : (areas : ℕ) (held : Held) (truth : Truth) (file directory : File) (inode : Inode) (name : List ℕ) (error : ChangeError) → MayLinkIn areas held truth file directory inode name (Err error)
+    → IfFull (λ spare. FindsBoth areas truth inode.tree name inode.next → ⊥) error
+lacks_room areas held truth file directory inode name (Stopped stop) e = tt
+lacks_room areas held truth file directory inode name (Full spare) e = e.2

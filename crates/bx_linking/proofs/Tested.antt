@@ -202,4 +202,4 @@ with_room areas held truth file directory inode name passed (Err (Stopped (Statu
 with_room areas held truth file directory inode name passed (Err (Stopped (Need at mode))) r = tt
 with_room areas held truth file directory inode name passed (Err (Stopped (Inner blocks))) r = (r, passed)
 with_room areas held truth file directory inode name passed (Err (Stopped OutOfMemory)) r = tt
-with_room areas held truth file directory inode name passed (Err (Full spare)) r = (r, is_full file directory name spare r.few passed)
+with_room areas held truth file directory inode name passed (Err (Full spare)) r = (r.0, is_full file directory name spare r.0.few passed, r.1)

@@ -1,6 +1,7 @@
 -- LINK: what it comes to by what it finds, and its path.
 use Rattle.std.specs.Prelude.{◌≡◌, ℕ, ◌≤◌, ◌⊎◌, nat_le, false, List, [], Option, None, Some, Result, Ok, Err}
 use Rattle.bx_adding.specs.Finding.{IsReadyFor, OnRoomPath}
+use Rattle.bx_adding.specs.Lacking.{FindsBoth}
 use Rattle.bx_base.specs.declared.names.Mode.{Mode}
 use Rattle.bx_base.specs.declared.names.Mode.TheVariants.{Exclusive}
 use Rattle.bx_blink.specs.Walks.{reads_with}
@@ -10,7 +11,7 @@ use Rattle.bx_changes.specs.Growing.{IsNearlyFull, LeavesTrees}
 use Rattle.bx_dirs.specs.Changes.{OnAddPath, entry_of}
 use Rattle.bx_entries.specs.Finding.{changeable}
 use Rattle.bx_files.specs.Paths.{OnSearch}
-use Rattle.bx_handles.specs.Handles.{named}
+use Rattle.bx_handles.specs.Handles.{named, parts_of}
 use Rattle.bx_hints.specs.Fitting.{HintsFitAll}
 use Rattle.bx_inodes.specs.Inodes.{IsInodeOf, LiveAt}
 use Rattle.bx_inodes.specs.Stands.{Stands}
@@ -90,14 +91,16 @@ pub record MayLink (areas : ℕ) (held : Held) (truth : Truth) (file directory :
   pub none : link_errors file directory name 8 ≡ Ok tt
   pub ready : IsReadyFor areas held truth inode.tree name inode.next
 
--- What testing for that answers. Blocks are to be written first only where there is no error with 8 blocks free.
+-- What testing for that answers. Blocks are to be written first only where there is no error with 8 blocks free; and it is full only where there is
+-- none either, and room is lacking.
 abbrev pub MayLinkIn : ℕ → Held → Truth → File → File → Inode → List ℕ → Result (Unit {0}) ChangeError → Type 0
 MayLinkIn areas held truth file directory inode name (Ok done) = MayLink areas held truth file directory inode name
 MayLinkIn areas held truth file directory inode name (Err (Stopped (Status status))) = link_errors file directory name 8 ≡ Err status
 MayLinkIn areas held truth file directory inode name (Err (Stopped (Need at mode))) = Unit {0}
 MayLinkIn areas held truth file directory inode name (Err (Stopped (Inner blocks))) = LeavesTrees areas truth blocks × (link_errors file directory name 8 ≡ Ok tt)
 MayLinkIn areas held truth file directory inode name (Err (Stopped OutOfMemory)) = Unit {0}
-MayLinkIn areas held truth file directory inode name (Err (Full spare)) = IsNearlyFull areas truth spare × (link_errors file directory name spare ≡ Err NOSPC)
+MayLinkIn areas held truth file directory inode name (Err (Full spare)) =
+    IsNearlyFull areas truth spare × (link_errors file directory name spare ≡ Err NOSPC) × (FindsBoth areas truth inode.tree name inode.next → ⊥)
 
 -- What giving the name to the file answers. It is stopped for want of a block or of memory alone.
 abbrev pub LinksIn : ℕ → Truth → Tree → Result (List Changed) ChangeError → Type 0
@@ -111,12 +114,12 @@ LinksIn areas truth next (Err (Full spare)) = ⊥
 -- ---- the path
 
 -- that of testing: the search for the name, and that to room for it
-abbrev pub OnTest : ℕ → Held → Hints → Inode → List ℕ → ℕ → Mode → Type 0
-OnTest areas held hints inode name at mode = OnSearch held hints inode.tree (name_key name) at mode ⊎ OnRoomPath areas held hints inode.tree name inode.next at mode
+abbrev pub OnTest : ℕ → Held → Hints → ℕ → Inode → List ℕ → ℕ → Mode → Type 0
+OnTest areas held hints directory inode name at mode = OnSearch held hints inode.tree (name_key name) at mode ⊎ OnRoomPath (parts_of directory).area areas held hints inode.tree name inode.next at mode
 
 -- from a directory's inode on: that, and that of putting the entry
-abbrev pub OnPlace : ℕ → Held → Hints → Inode → List ℕ → ℕ → ℕ → Mode → Type 0
-OnPlace areas held hints inode name handle at mode = OnTest areas held hints inode name at mode ⊎ OnAddPath held hints [] inode.tree (entry_of inode.next name handle) at mode
+abbrev pub OnPlace : ℕ → Held → Hints → ℕ → Inode → List ℕ → ℕ → ℕ → Mode → Type 0
+OnPlace areas held hints directory inode name handle at mode = OnTest areas held hints directory inode name at mode ⊎ OnAddPath held hints [] inode.tree (entry_of inode.next name handle) at mode
 
 -- from the directory that is named, and held, on
 pub record OnDirectory (held : Held) (hints : Hints) (volume areas handle : ℕ) (bytes name : List ℕ) (at : ℕ) (mode : Mode) : Type 0 where
@@ -124,7 +127,7 @@ pub record OnDirectory (held : Held) (hints : Hints) (volume areas handle : ℕ)
   pub inode : Inode
   pub is_named : named volume bytes ≡ Some directory
   pub live : LiveAt (reads_with held hints []) areas directory Exclusive inode
-  pub on : OnPlace areas held hints inode name handle at mode
+  pub on : OnPlace areas held hints directory inode name handle at mode
 
 -- from the file that is named on: the inode of the directory that is named, exclusively, and that from there on
 abbrev pub OnInto : Held → Hints → ℕ → ℕ → ℕ → List ℕ → List ℕ → ℕ → Mode → Type 0

@@ -1,9 +1,9 @@
 //! LINK.
 
 ghost use Rattle.std.specs.Prelude.{◌≡◌, ◌≤◌, ℕ, length, Err, IfErr, IfOk};
-ghost use Rattle.bx_adding.specs.Lacking.{MakesPlace, ReadyToEnter};
+ghost use Rattle.bx_adding.specs.Lacking.{MakesPlace, NoSlotsNear, ReadyToEnter};
 ghost use Rattle.bx_changes.specs.First.{ComesFirst};
-ghost use Rattle.bx_changes.specs.Growing.{HoldsFirst, IsChangeBy, NeedsBy};
+ghost use Rattle.bx_changes.specs.Growing.{HoldsFirst, IfFull, IsChangeBy, NeedsBy};
 ghost use Rattle.bx_hints.specs.Fitting.{HintsFitAll};
 ghost use Rattle.bx_inodes.specs.Stands.{Stands};
 ghost use Rattle.bx_model.specs.declared.tree.Tree.{Tree};
@@ -31,7 +31,8 @@ use std::alloc::Global;
 /// handle names no file, else where the second names none, `NOTDIR` where that is no directory, `ACCES` of a bad name and where the caller may not change
 /// it, `PERM` where the file is a directory, `EXIST` where an entry has the name, and `DQUOT` where the file has 32000 names or the directory no
 /// number left. `Inner` are the blocks that make room, which are to be written first: they come exactly where none of these errors does and room is lacking
-/// in the directory's tree. `Full` comes where fewer than 8 blocks are free and one is wanted for that. `now` is in seconds and microseconds.
+/// in the directory's tree. `Full` comes exactly as `Inner` does, where no slot is left for that;
+/// then fewer than 8 are free. `now` is in seconds and microseconds.
 pub fn link<V: View>(
     alloc: Global,
     volume: u64,
@@ -55,6 +56,9 @@ pub fn link<V: View>(
         → IfOk result (λ made. ReadyToEnter volume areas truth at.now name.now) }
     ensures need { IfErr result (NeedsBy areas (V.held view.now) (OnLink (V.held view.now) (V.hints view.now) volume areas from.now at.now name.now)) }
     ensures first { IfErr result (HoldsFirst (V.held view.now)) }
+    ensures full { IfErr result (IfFull (NoSlotsNear volume areas (V.held view.now) at.now)) }
+    ensures wanted { (truth : Truth) (tree : Tree) → IsTruth (V.held view.now) truth → Stands volume areas truth tree → HintsFitAll areas (V.hints view.now) truth
+        → IfErr result (IfFull (λ spare. ReadyToEnter volume areas truth at.now name.now → ⊥)) }
     ensures held { IfOk result (λ made. IsHeldDraft (V.held view.now) made.0) }
 {
     let Some(handle) = named_handle(volume, from) else {

@@ -1,11 +1,11 @@
 //! The place of a file's new name: the directory that is named, and the entry in it.
 
 ghost use Rattle.std.specs.Prelude.{◌≡◌, ◌<◌, ◌≤◌, ℕ, [], length, IfErr, IfOk, IsSome};
-ghost use Rattle.bx_adding.specs.Lacking.{IfFirst, MakesPlace, ReadyToEnter};
+ghost use Rattle.bx_adding.specs.Lacking.{IfFirst, MakesPlace, NoSlotsNear, ReadyToEnter};
 ghost use Rattle.bx_adding.specs.Stopping.{NeverFirst};
 ghost use Rattle.bx_base.specs.declared.names.Mode.TheVariants.{Exclusive};
 ghost use Rattle.bx_blink.specs.Walks.{reads_with};
-ghost use Rattle.bx_changes.specs.Growing.{HoldsFirst, NeedsBy};
+ghost use Rattle.bx_changes.specs.Growing.{HoldsFirst, IfFull, NeedsBy};
 ghost use Rattle.bx_dirs.specs.Changes.{OnAddPath, entry_of};
 ghost use Rattle.bx_hints.specs.Fitting.{HintsFitAll};
 ghost use Rattle.bx_inodes.specs.Inodes.{IsInodeOf, LiveAt};
@@ -58,6 +58,9 @@ pub(crate) fn link_into<V: View>(
         → IsInodeOf areas truth tree file.handle file.inode → IfOk result (λ made. ReadyToEnter volume areas truth at.now name.now) }
     ensures need { IfErr result (NeedsBy areas (V.held view.now) (OnInto (V.held view.now) (V.hints view.now) volume areas file.handle at.now name.now)) }
     ensures first { IfErr result (HoldsFirst (V.held view.now)) }
+    ensures full { IfErr result (IfFull (NoSlotsNear volume areas (V.held view.now) at.now)) }
+    ensures wanted { (truth : Truth) (tree : Tree) → IsTruth (V.held view.now) truth → Stands volume areas truth tree → HintsFitAll areas (V.hints view.now) truth
+        → IsInodeOf areas truth tree file.handle file.inode → IfErr result (IfFull (λ spare. ReadyToEnter volume areas truth at.now name.now → ⊥)) }
     ensures held { IfOk result (IsHeldDraft (V.held view.now)) }
 {
     let Some(handle) = named_handle(volume, at) else {
@@ -97,6 +100,7 @@ fn link_file<V: View>(
         → MayLink areas (V.held view.now) truth is.file.file is.at.file directory.inode name.now
         → LinksIn areas truth (with_link tree is.file.file is.at.file name.now now) result }
     ensures inner { IfErr result NeverFirst }
+    ensures full { IfErr result (IfFull (λ spare. ⊥)) }
     ensures need { IfErr result (NeedsBy areas (V.held view.now) (OnAddPath (V.held view.now) (V.hints view.now) [] directory.inode.tree (entry_of directory.inode.next name.now file.handle))) }
     ensures first { IfErr result (HoldsFirst (V.held view.now)) }
     ensures held { IsSome (V.held view.now (block_at directory.handle) Exclusive) → IsSome (V.held view.now (block_at file.handle) Exclusive) → IfOk result (IsHeldDraft (V.held view.now)) }

@@ -1,9 +1,11 @@
 //! Whether a file may have one more name.
 
-ghost use Rattle.std.specs.Prelude.{◌≡◌, ◌<◌, ℕ, None, IfErr, IfOk};
+ghost use Rattle.std.specs.Prelude.{◌≡◌, ◌<◌, ℕ, [], None, IfErr, IfOk};
 ghost use Rattle.bx_adding.specs.Lacking.{FindsBoth, IfFirst, MakesEither};
-ghost use Rattle.bx_changes.specs.Growing.{HoldsFirst, NeedsBy};
+ghost use Rattle.bx_changes.specs.Growing.{HoldsFirst, IfFull, NeedsBy};
+ghost use Rattle.bx_chunks.specs.Taking.{NoSlots};
 ghost use Rattle.bx_files.specs.Paths.{OnSearch};
+ghost use Rattle.bx_handles.specs.Handles.{parts_of};
 ghost use Rattle.bx_inodes.specs.Stops.{NeedsOn, NeverInner};
 ghost use Rattle.bx_model.specs.declared.tree.Tree.{Tree};
 ghost use Rattle.bx_truth.specs.Keys.{name_key};
@@ -47,8 +49,9 @@ pub(crate) fn may_link<V: View>(
     ensures finds { (volume : ℕ) (truth : Truth) (tree : Tree) → IsLinking volume areas (V.held view.now) (V.hints view.now) truth tree file.now.handle file.now.inode directory.now.handle directory.now.inode
         → IfOk result (λ made. FindsBoth areas truth directory.now.inode.tree name.now directory.now.inode.next) }
     ensures few { IfOk result (λ done. file.now.inode.nlink < 32000) }
-    ensures need { IfErr result (NeedsBy areas (V.held view.now) (OnTest areas (V.held view.now) (V.hints view.now) directory.now.inode name.now)) }
+    ensures need { IfErr result (NeedsBy areas (V.held view.now) (OnTest areas (V.held view.now) (V.hints view.now) directory.now.handle directory.now.inode name.now)) }
     ensures first { IfErr result (HoldsFirst (V.held view.now)) }
+    ensures full { IfErr result (IfFull (NoSlots (V.held view.now) (parts_of directory.now.handle).area areas [])) }
 {
     match link_error(alloc, view, areas, file, directory, name) {
         Err(stop) => Err(ChangeError::Stopped(stop)),

@@ -2,7 +2,7 @@
 
 ghost use Rattle.std.specs.Prelude.{◌≡◌, ◌+◌, ◌<◌, ◌≤◌, ℕ, List, None, Some, length, IfErr, IfOk};
 ghost use Rattle.bx_adding.specs.Stopping.{NeverFirst};
-ghost use Rattle.bx_changes.specs.Growing.{HoldsFirst, NeedsBy};
+ghost use Rattle.bx_changes.specs.Growing.{HoldsFirst, IfFull, NeedsBy};
 ghost use Rattle.bx_model.specs.declared.tree.Tree.{Tree};
 ghost use Rattle.bx_model.specs.Edits.{changed};
 ghost use Rattle.bx_tree_files.specs.declared.file.Body.TheVariants.{Names};
@@ -48,6 +48,7 @@ pub fn come<V: View>(
         → GrowsTo areas truth draft (changed tree directory (entered now name.now made counts)) result }
     ensures need { IfErr result (NeedsBy areas (V.held view.now) (OnComing (V.held view.now) (V.hints view.now) areas draft directory name.now made)) }
     ensures inner { IfErr result NeverFirst }
+    ensures full { IfErr result (IfFull (λ spare. ⊥)) }
     ensures first { IfErr result (HoldsFirst (V.held view.now)) }
     ensures held { IsHeldDraft (V.held view.now) draft → IfOk result (IsHeldDraft (V.held view.now)) }
     ensures few { IfOk result (λ new. length new ≤ length draft + 3) }

@@ -2,7 +2,7 @@
 
 ghost use Rattle.std.specs.Prelude.{◌≡◌, ◌+◌, ◌<◌, ◌≤◌, ℕ, List, [], length, IfErr, IfOk, IfSome};
 ghost use Rattle.bx_adding.specs.Stopping.{NeverFirst};
-ghost use Rattle.bx_changes.specs.Growing.{HoldsFirst, NeedsBy};
+ghost use Rattle.bx_changes.specs.Growing.{HoldsFirst, IfFull, NeedsBy};
 ghost use Rattle.bx_handles.specs.Handles.{parts_of};
 ghost use Rattle.bx_inodes.specs.Stops.{NeedsOn, NeverInner};
 ghost use Rattle.bx_model.specs.declared.tree.Tree.{Tree};
@@ -70,6 +70,7 @@ pub fn move_file<V: View>(
         → GrowsTo areas truth [] (renamed now tree is.source.file name.now is.target.file new_name.now is.moved (other_of tree moving is.target.names new_name.now replaced is.other)) result }
     ensures need { IfErr result (NeedsBy areas (V.held view.now) (OnMoving (V.held view.now) (V.hints view.now) areas moving name.now new_name.now replaced)) }
     ensures inner { IfErr result NeverFirst }
+    ensures full { IfErr result (IfFull (λ spare. ⊥)) }
     ensures first { IfErr result (HoldsFirst (V.held view.now)) }
     ensures held { IfOk result (IsHeldDraft (V.held view.now)) }
 {
@@ -97,6 +98,7 @@ fn bring<V: View>(
         → GrowsTo areas truth [] (brought now tree moving name.now replaced) result }
     ensures need { IfErr result (NeedsBy areas (V.held view.now) (OnOver (V.held view.now) (OnBringing (V.held view.now) (V.hints view.now) areas moving name.now replaced))) }
     ensures inner { IfErr result NeverFirst }
+    ensures full { IfErr result (IfFull (λ spare. ⊥)) }
     ensures first { IfErr result (HoldsFirst (V.held view.now)) }
     ensures held { IfOk result (IsHeldDraft (V.held view.now)) }
     ensures few { IfOk result (λ new. length new ≤ 6) }

@@ -3,3 +3,4 @@ pub mod PostTree
 pub mod PostFair
 pub mod ParentSteps
 pub mod Neighbours
+pub mod PostTaken

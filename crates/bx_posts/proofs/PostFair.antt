@@ -10,7 +10,9 @@ use Rattle.bx_page.specs.Contents.{Contents}
 use Rattle.bx_truth.specs.Chunks.{block_at}
 use Rattle.bx_views.specs.Attempts.{IsHeldDraft}
 use Rattle.bx_views.specs.Truths.{Held, Hints}
+use Rattle.bx_chunks.specs.Taking.{NoSlots}
 use Rattle.bx_chunks.proofs.FairNeeds.{Shares}
+use Rattle.bx_chunks.proofs.Taking.{slots_unheld}
 use Rattle.bx_blink.specs.declared.error.BlinkError.{BlinkError}
 use Rattle.bx_blink.specs.declared.error.BlinkError.TheVariants.{Need, Stale, Full, NoRoom, Absent, Present, OutOfMemory, Crowded}
 use Rattle.bx_blink.specs.Walks.{Reads, reads_with, passes, most, start}
@@ -19,7 +21,7 @@ use Rattle.bx_blink.proofs.Paths.{needs, not_led}
 use Rattle.bx_leaves.proofs.Fair.{page_held, seen_held}
 use Rattle.bx_splits.specs.declared.halves.Halves.{Halves}
 use Rattle.bx_splits.specs.Halves.{half_in}
-use Rattle.bx_splits.proofs.SplitFair.{halves_fair, halves_held}
+use Rattle.bx_splits.proofs.SplitFair.{halves_full, halves_held, halves_need}
 use Rattle.bx_posts.specs.declared.posting.Posted.{Posted}
 use Rattle.bx_posts.specs.declared.posting.Posted.TheVariants.{Put, SplitAlone}
 use Rattle.bx_posts.specs.declared.separators.Separator.{Separator}
@@ -53,26 +55,41 @@ module _ (areas near : ℕ) (held : Held) (hints : Hints) (old : List Changed) (
       (subst (λ (a : ℕ). (held a Exclusive ≡ None) × OnParentPath reads root separator.level separator.key a Exclusive) (sym s.at_is)
       (none_left (block_in old (block_at s.handle)) (held (block_at s.handle) Exclusive) s.none, l.path))
 
-  put_fair : (contents : Contents) (p : ℕ) (separator : Separator) (at : ℕ) (mode : Mode) → PutsInParent held old old root p contents separator near areas (Err (Need at mode)) → (held at mode ≡ None) × OnPostPath areas (reads_with held hints old) root handle at mode
+  put_fair : (contents : Contents) (p : ℕ) (separator : Separator) (at : ℕ) (mode : Mode) → PutsInParent held old old root p contents separator near areas (Err (Need at mode)) → (held at mode ≡ None) × OnPostPath held hints old root handle near areas at mode
   put_fair contents p separator at mode s = elim s [
     | inl r ↦ absurd r.1
     | inr t ↦ elim t.1 [
-      | inl h ↦ (let f = halves_fair areas near held old old root p contents at mode shares h in (f.0, slot at mode f.1))
+      | inl h ↦ (let n = halves_need areas near held old old root p contents at mode h in (slots_unheld held near areas old at mode shares n, slot at mode n))
       | inr q ↦ absurd q.puts
     ]
   ]
 
-  pub post_fair : (new : List Changed) (result : Result Posted BlinkError) → PostsAt held hints old new root handle near areas result → NeedsForPost areas held hints old root handle result
+  put_full : (contents : Contents) (p : ℕ) (separator : Separator) (spare : ℕ) → PutsInParent held old old root p contents separator near areas (Err (Full spare)) → NoSlots held near areas old spare
+  put_full contents p separator spare s = elim s [
+    | inl r ↦ absurd r.1
+    | inr t ↦ elim t.1 [
+      | inl h ↦ halves_full areas near held old old root p contents spare h
+      | inr q ↦ absurd q.puts
+    ]
+  ]
+
+  pub post_fair : (new : List Changed) (result : Result Posted BlinkError) → PostsAt held hints old new root handle near areas result → NeedsForPost held hints old root handle near areas result
   post_fair new (Err (Need at mode)) s = elim s [
-    | inl o ↦ subst (λ (m : Mode). (held at m ≡ None) × OnPostPath areas reads root handle at m) (sym o.1)
-        (subst (λ (a : ℕ). (held a Shared ≡ None) × OnPostPath areas reads root handle a Shared) (sym o.0) (none_left (block_in old (block_at handle)) (held (block_at handle) Shared) o.2, page))
+    | inl o ↦ subst (λ (m : Mode). (held at m ≡ None) × OnPostPath held hints old root handle near areas at m) (sym o.1)
+        (subst (λ (a : ℕ). (held a Shared ≡ None) × OnPostPath held hints old root handle near areas a Shared) (sym o.0) (none_left (block_in old (block_at handle)) (held (block_at handle) Shared) o.2, page))
     | inr r ↦ elim r [
       | inl l ↦ (let f = parent_fair l.separator at mode l.fails in (f.0, parent l.separator at mode l.shows f.1))
       | inr t ↦ put_fair t.page t.parent t.separator at mode t.puts
     ]
   ]
   post_fair new (Err Stale) s = tt
-  post_fair new (Err (Full spare)) s = tt
+  post_fair new (Err (Full spare)) s = elim s [
+    | inl o ↦ absurd o
+    | inr r ↦ elim r [
+      | inl l ↦ absurd l.fails
+      | inr t ↦ put_full t.page t.parent t.separator spare t.puts
+    ]
+  ]
   post_fair new (Err (NoRoom leaf)) s = tt
   post_fair new (Err Absent) s = tt
   post_fair new (Err Present) s = tt
@@ -80,7 +97,7 @@ module _ (areas near : ℕ) (held : Held) (hints : Hints) (old : List Changed) (
   post_fair new (Err Crowded) s = tt
   post_fair new (Ok posted) s = tt
 
--- ---- what is put
+-- ---- what is put is held exclusively
 
 put_held : (held : Held) (old new : List Changed) (h : ℕ) (contents : Contents) (separator : Separator) (posted : Posted) → IsHeldDraft held old → IsSome (held (block_at h) Exclusive) → PutsAt old new h contents separator (Ok posted) → IsHeldDraft held new
 put_held held old new h contents separator Put before there s = page_held held old new h _ before there s

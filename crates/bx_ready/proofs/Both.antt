@@ -2,7 +2,6 @@
 use Rattle.std.proofs.Common.{ℕ, List, [], Option, Some, None, inl, inr}
 use Rattle.std.specs.Prelude.{Result, Ok, Err}
 use Rattle.bx_base.specs.declared.names.Mode.{Mode}
-use Rattle.bx_blink.specs.Walks.{reads_with}
 use Rattle.bx_blink.specs.declared.error.BlinkError.{BlinkError}
 use Rattle.bx_blink.specs.declared.error.BlinkError.TheVariants.{Need, Stale, Full, NoRoom, Absent, Present, OutOfMemory, Crowded}
 use Rattle.bx_leaves.specs.Changes.{NeedsUnheld}
@@ -18,7 +17,7 @@ module _ (areas : ℕ) (held : Held) (hints : Hints) (truth : Truth) (root : ℕ
   post_fails (Need at mode) p = tt
   post_fails Stale p = p
   post_fails OutOfMemory p = tt
-  post_fails (Full spare) p = p
+  post_fails (Full spare) p = (p.0, λ ready. p.1 ready.posted)
   post_fails (NoRoom leaf) p = p
   post_fails Absent p = p
   post_fails Present p = p
@@ -30,7 +29,7 @@ module _ (areas : ℕ) (held : Held) (hints : Hints) (truth : Truth) (root : ℕ
   then_splits posted (Err (Need at mode)) s = tt
   then_splits posted (Err Stale) s = s
   then_splits posted (Err OutOfMemory) s = tt
-  then_splits posted (Err (Full spare)) s = s
+  then_splits posted (Err (Full spare)) s = (s.0, λ ready. s.1 ready.room)
   then_splits posted (Err (NoRoom leaf)) s = s
   then_splits posted (Err Absent) s = s
   then_splits posted (Err Present) s = s
@@ -48,9 +47,9 @@ wider held P Q f (Err Absent) n = tt
 wider held P Q f (Err Present) n = tt
 wider held P Q f (Err Crowded) n = tt
 
-module _ (areas : ℕ) (held : Held) (hints : Hints) (root : ℕ) (key : List ℕ) where
-  pub posting_fair : (result : Result (Option (List Changed)) BlinkError) → NeedsUnheld held (OnPostForPath areas held hints root key) result → NeedsUnheld held (OnReadyPath areas held hints root key) result
-  posting_fair result n = wider held (OnPostForPath areas held hints root key) (OnReadyPath areas held hints root key) (λ at mode p. inl p) result n
+module _ (near areas : ℕ) (held : Held) (hints : Hints) (root : ℕ) (key : List ℕ) where
+  pub posting_fair : (result : Result (Option (List Changed)) BlinkError) → NeedsUnheld held (OnPostForPath near areas held hints root key) result → NeedsUnheld held (OnReadyPath near areas held hints root key) result
+  posting_fair result n = wider held (OnPostForPath near areas held hints root key) (OnReadyPath near areas held hints root key) (λ at mode p. inl p) result n
 
-  pub splitting_fair : (result : Result (Option (List Changed)) BlinkError) → NeedsUnheld held (OnSplitPath areas (reads_with held hints []) root key) result → NeedsUnheld held (OnReadyPath areas held hints root key) result
-  splitting_fair result n = wider held (OnSplitPath areas (reads_with held hints []) root key) (OnReadyPath areas held hints root key) (λ at mode p. inr p) result n
+  pub splitting_fair : (result : Result (Option (List Changed)) BlinkError) → NeedsUnheld held (OnSplitPath near areas held hints root key) result → NeedsUnheld held (OnReadyPath near areas held hints root key) result
+  splitting_fair result n = wider held (OnSplitPath near areas held hints root key) (OnReadyPath near areas held hints root key) (λ at mode p. inr p) result n

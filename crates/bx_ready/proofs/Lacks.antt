@@ -2,6 +2,7 @@
 use Rattle.std.proofs.Common.{◌≡◌, ℕ, ◌≤◌, true, false, List, [], Option, Some, None, sym, ap, ◌∙◌, subst, arith, inl, inr}
 use Rattle.std.specs.Prelude.{◌⊎◌, ◌+◌, IfOk, IfSome, IfNone, Result, Ok, Err}
 use Rattle.bx_blink.specs.Hints.{Under}
+use Rattle.bx_blink.specs.Places.{IsPlaceOf}
 use Rattle.bx_blink.specs.Walks.{child_of}
 use Rattle.bx_blink.specs.declared.error.BlinkError.{BlinkError}
 use Rattle.bx_layout.specs.declared.block.Block.{Block}
@@ -14,7 +15,7 @@ use Rattle.bx_truth.specs.PageTrees.{HasPage, IsIn, Node, PageTree}
 use Rattle.bx_views.specs.Truths.{Held, Hints, Truth, with_draft}
 use Rattle.bx_ready.specs.Lacking.{FindsRoom, MakesRoom}
 use Rattle.bx_ready.specs.Ready.{IsReady, ReadiesIn, SplitsReady}
-use Rattle.bx_ready.specs.Rooms.{HasRoom, SplitsLeaf}
+use Rattle.bx_ready.specs.Rooms.{HasRoom, IsFull}
 use Rattle.bx_ready.specs.Separators.{HasSeparators, LacksSeparator, PostsMissing}
 use Rattle.bx_ready.proofs.Places.{one_place, ready_in}
 
@@ -34,7 +35,7 @@ module _ (areas : ℕ) (held : Held) (hints : Hints) (truth : Truth) (root : ℕ
       one_page a.page b.page nb.block.payload (subst (λ (x : Block). HasPage a.page x) block na.has).spells nb.has.spells
 
   -- a separator that is missing isn't there
-  no_separator : (node : Node) → LacksSeparator tree key node → HasSeparators tree key → ⊥
+  pub no_separator : (node : Node) → LacksSeparator tree key node → HasSeparators tree key → ⊥
   no_separator node l has =
       let below = l.below in
       let s = has l.level l.below in
@@ -45,17 +46,16 @@ module _ (areas : ℕ) (held : Held) (hints : Hints) (truth : Truth) (root : ℕ
       not_below key l.high l.passed (rw l.high_is at to)
 
   -- a full leaf has no room
-  no_room : (new : List Changed) → SplitsLeaf areas held hints truth new root tree key → HasRoom tree key → ⊥
-  no_room new s r =
-      let same = one_place (chunks_of areas (with_draft truth [])) root tree 0 key s.handle r.handle s.page r.page u.is s.place r.place in
-      let sizes : size r.page ≡ size s.page = ap size same.1 in
-      let full = s.full in
+  pub no_room : (handle : ℕ) (page : Contents) → IsPlaceOf tree 0 key handle page → IsFull page → HasRoom tree key → ⊥
+  no_room handle page place full r =
+      let same = one_place (chunks_of areas (with_draft truth [])) root tree 0 key handle r.handle page r.page u.is place r.place in
+      let sizes : size r.page ≡ size page = ap size same.1 in
       let room = r.room in
       omega (arith, sizes, full, room)
 
   lacking : (new : List Changed) → PostsMissing areas held hints truth new root tree key ⊎ SplitsReady areas held hints truth new root tree key → IsReady tree key → ⊥
   lacking new (inl p) ready = no_separator p.node p.lacks ready.posted
-  lacking new (inr s) ready = no_room new s.splits ready.room
+  lacking new (inr s) ready = no_room s.splits.handle s.splits.page s.splits.place s.splits.full ready.room
 
   pub lacks : (result : Result (Option (List Changed)) BlinkError) → ReadiesIn areas held hints truth root tree key result → IfOk result (λ found. IfSome found (MakesRoom areas held hints truth root key))
   lacks (Err error) r = tt

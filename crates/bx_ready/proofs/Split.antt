@@ -1,5 +1,6 @@
 -- Full leaves that are split.
-use Rattle.std.proofs.Common.{◌≡◌, ℕ, ◌+◌, ◌<◌, ◌⊎◌, arith, true, List, [], inl, inr, sym, ap, ◌∙◌, subst, refl, Some, Err}
+use Rattle.std.proofs.Common.{◌≡◌, ℕ, ◌+◌, ◌<◌, ◌⊎◌, arith, List, [], inl, inr, sym, ap, ◌∙◌, subst, refl, Some, None, Err}
+use Rattle.bx_base.specs.declared.names.Mode.{Mode}
 use Rattle.bx_base.specs.declared.names.Mode.TheVariants.{Exclusive}
 use Rattle.bx_blink.specs.Hints.{Under}
 use Rattle.bx_blink.specs.Places.{IsPlaceOf}
@@ -11,6 +12,7 @@ use Rattle.bx_blink.proofs.Found.{place}
 use Rattle.bx_blink.proofs.Landings.{landing}
 use Rattle.bx_blink.proofs.Tired.{never_lost}
 use Rattle.bx_blink.proofs.Under.{agrees}
+use Rattle.bx_chunks.specs.Taking.{NoSlots, OnSlots}
 use Rattle.bx_layout.specs.declared.block.Block.{Block}
 use Rattle.bx_leaves.specs.Changes.{NeedsUnheld}
 use Rattle.bx_leaves.specs.Leaves.{IsLeafAt, LeafEnds}
@@ -18,14 +20,14 @@ use Rattle.bx_leaves.proofs.Fair.{Shares, removes_fair}
 use Rattle.bx_page.specs.Contents.{Contents, size}
 use Rattle.bx_page.proofs.Whole.{one_page}
 use Rattle.bx_truth.specs.Chunks.{block_at, chunks_of}
-use Rattle.bx_places.specs.Places.{is_block}
 use Rattle.bx_records.specs.Drafts.{Changed}
 use Rattle.bx_truth.specs.PageTrees.{HasPage, PageTree}
 use Rattle.bx_views.specs.Attempts.{IsHeldDraft}
 use Rattle.bx_views.specs.Truths.{Truth, Held, Hints, with_draft}
 use Rattle.bx_splits.specs.Cutting.{IsOwned, NeedsForSplit, SplitsAt}
 use Rattle.bx_splits.specs.Splits.{SplitsIn}
-use Rattle.bx_ready.specs.Rooms.{FindsFull, LandsFull, OnSplitPath, SplitsForIn}
+use Rattle.bx_ready.specs.Rooms.{FindsFull, HasRoom, LandsFull, OnSplitPath, SplitsForIn}
+use Rattle.bx_ready.specs.Spare.{IfFull}
 use Rattle.bx_ready.proofs.Bounds.{split_crowds, split_full}
 
 some_same : (a b : Block) → Some a ≡ Some b → a ≡ b
@@ -69,21 +71,21 @@ module _ (areas : ℕ) (held : Held) (hints : Hints) (truth : Truth) (root : ℕ
   walk_error Present f = f
   walk_error Crowded f = absurd f
 
-  pub split_error : (near : ℕ) (new : List Changed) (leaf : ℕ) (error : BlinkError) → SplitsAt held hints [] [] root leaf near areas (Err error) → SplitsIn areas held hints truth [] new root tree leaf (Err error)
+  pub split_error : (near : ℕ) (new : List Changed) (leaf : ℕ) (error : BlinkError) → (HasRoom tree key → ⊥) → SplitsAt held hints [] [] root leaf near areas (Err error) → SplitsIn areas held hints truth [] new root tree leaf (Err error)
       → SplitsForIn areas held hints truth root tree key (Err error)
-  split_error near new leaf (Need at mode) a s = tt
-  split_error near new leaf Stale a s = s
-  split_error near new leaf OutOfMemory a s = tt
-  split_error near new leaf (Full spare) a s = split_full areas near held truth u.few u.same u.chunked hints root leaf spare a
-  split_error near new leaf (NoRoom other) a s = s
-  split_error near new leaf Absent a s = s
-  split_error near new leaf Present a s = s
-  split_error near new leaf Crowded a s = split_crowds held near areas hints root leaf a
+  split_error near new leaf (Need at mode) no a s = tt
+  split_error near new leaf Stale no a s = s
+  split_error near new leaf OutOfMemory no a s = tt
+  split_error near new leaf (Full spare) no a s = (split_full areas near held truth u.few u.same u.chunked hints root leaf spare a, no)
+  split_error near new leaf (NoRoom other) no a s = s
+  split_error near new leaf Absent no a s = s
+  split_error near new leaf Present no a s = s
+  split_error near new leaf Crowded no a s = split_crowds held near areas hints root leaf a
 
 -- ---- what is needed
 
-module _ (areas : ℕ) (held : Held) (hints : Hints) (root : ℕ) (key : List ℕ) (shares : Shares held) where
-  pub walk_fair : (X : Type 0) (error : BlinkError) → FindsFull (reads_with held hints []) root key (Err error) → NeedsUnheld {X = X} held (OnSplitPath areas (reads_with held hints []) root key) (Err error)
+module _ (near areas : ℕ) (held : Held) (hints : Hints) (root : ℕ) (key : List ℕ) (shares : Shares held) where
+  pub walk_fair : (X : Type 0) (error : BlinkError) → FindsFull (reads_with held hints []) root key (Err error) → NeedsUnheld {X = X} held (OnSplitPath near areas held hints root key) (Err error)
   walk_fair X (Need at mode) f = let n = removes_fair held hints [] root key shares [] (Err (Need at mode)) f in (n.0, inl n.1)
   walk_fair X Stale f = tt
   walk_fair X OutOfMemory f = tt
@@ -93,12 +95,17 @@ module _ (areas : ℕ) (held : Held) (hints : Hints) (root : ℕ) (key : List �
   walk_fair X Present f = tt
   walk_fair X Crowded f = tt
 
-  pub split_fair : (X : Type 0) (leaf : ℕ) (error : BlinkError) → LandsFull (reads_with held hints []) root key leaf → NeedsForSplit areas held leaf (Err error) → NeedsUnheld {X = X} held (OnSplitPath areas (reads_with held hints []) root key) (Err error)
+  -- the leaf itself is held
+  leaf_held : (leaf at : ℕ) (mode : Mode) → LandsFull (reads_with held hints []) root key leaf → at ≡ block_at leaf → mode ≡ Exclusive → held at mode ≡ None → ⊥
+  leaf_held leaf at mode f at_is mode_is none =
+      let both : None ≡ Some f.leaf.block = sym none ∙ ap (λ (m : Mode). held at m) mode_is ∙ ap (λ (n : ℕ). held n Exclusive) at_is ∙ f.leaf.held in absurd cc
+
+  pub split_fair : (X : Type 0) (leaf : ℕ) (error : BlinkError) → LandsFull (reads_with held hints []) root key leaf → NeedsForSplit held near areas [] leaf (Err error) → NeedsUnheld {X = X} held (OnSplitPath near areas held hints root key) (Err error)
   split_fair X leaf (Need at mode) f n = (n.0, by n.1)
     where
-      by : (at ≡ block_at leaf) ⊎ (is_block areas at ≡ true) → OnSplitPath areas (reads_with held hints []) root key at mode
-      by (inl e) = inr (inl (record { handle = leaf; page = f.page; leaf = f.leaf; at_is = e }))
-      by (inr is) = inr (inr is)
+      by : ((at ≡ block_at leaf) × (mode ≡ Exclusive)) ⊎ OnSlots held near areas [] at mode → OnSplitPath near areas held hints root key at mode
+      by (inl e) = absurd (leaf_held leaf at mode f e.0 e.1 n.0)
+      by (inr on) = inr on
   split_fair X leaf Stale f n = tt
   split_fair X leaf OutOfMemory f n = tt
   split_fair X leaf (Full spare) f n = tt
@@ -106,3 +113,25 @@ module _ (areas : ℕ) (held : Held) (hints : Hints) (root : ℕ) (key : List �
   split_fair X leaf Absent f n = tt
   split_fair X leaf Present f n = tt
   split_fair X leaf Crowded f n = tt
+
+-- ---- where no slot is left
+
+pub walk_full : (Holds : ℕ → Type 0) (held : Held) (hints : Hints) (root : ℕ) (key : List ℕ) (X : Type 0) (error : BlinkError) → FindsFull (reads_with held hints []) root key (Err error) → IfFull {X = X} Holds (Err error)
+walk_full Holds held hints root key X (Need at mode) f = tt
+walk_full Holds held hints root key X Stale f = tt
+walk_full Holds held hints root key X OutOfMemory f = tt
+walk_full Holds held hints root key X (Full spare) f = absurd f
+walk_full Holds held hints root key X (NoRoom leaf) f = tt
+walk_full Holds held hints root key X Absent f = tt
+walk_full Holds held hints root key X Present f = tt
+walk_full Holds held hints root key X Crowded f = tt
+
+pub split_ends : (near areas : ℕ) (held : Held) (leaf : ℕ) (X : Type 0) (error : BlinkError) → NeedsForSplit held near areas [] leaf (Err error) → IfFull {X = X} (NoSlots held near areas []) (Err error)
+split_ends near areas held leaf X (Need at mode) n = tt
+split_ends near areas held leaf X Stale n = tt
+split_ends near areas held leaf X OutOfMemory n = tt
+split_ends near areas held leaf X (Full spare) n = n
+split_ends near areas held leaf X (NoRoom other) n = tt
+split_ends near areas held leaf X Absent n = tt
+split_ends near areas held leaf X Present n = tt
+split_ends near areas held leaf X Crowded n = tt

@@ -69,3 +69,7 @@ module _ (volume areas : ℕ) (held : Held) (hints : Hints) (truth : Truth) (tre
       let second : other ≡ target.file = some_file other target.file (sym other_is ∙ target_is) in
       enters volume areas truth to new_name places.target.handle places.target.inode (sym h.target_named) target.holds
       (ready (λ entry another found found_too. two entry another (ap (λ (f : File). entry_named (names_of f.body) name) first ∙ found) (ap (λ (f : File). entry_named (names_of f.body) new_name) second ∙ found_too)))
+
+  -- where room is ready for it, the target has it
+  pub move_ready : ReadyToMove volume areas truth tree from name to new_name → ReadyFor areas truth places.target.inode.tree places.target.inode.next (names_of source.file.body) name (names_of target.file.body) new_name
+  move_ready ready two = ready source.file target.file source_is target_is two places.target.handle places.target.inode h.target_named target.holds

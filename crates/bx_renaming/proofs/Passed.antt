@@ -31,21 +31,8 @@ use Rattle.bx_truth.proofs.Cases.{eq_true, same_or}
 use Rattle.bx_views.specs.Truths.{Held, Hints, Truth}
 use Rattle.bx_renaming.specs.declared.places.Places.{Places}
 use Rattle.bx_renaming.specs.Found.{IsMoved}
-use Rattle.bx_renaming.specs.Renaming.{AreDirectories, IsPassed, coming_in, depth_errors}
+use Rattle.bx_renaming.specs.Renaming.{AreDirectories, IsPassed, coming_in, depth_errors, move_of, replaced_by}
 use Rattle.bx_renaming.proofs.Tested.{depth_by, other_handles}
-
--- the file that a move is of, and that whose name it takes
-abbrev pub move_of : Places → ℕ → Known → Moving
-move_of places number moved = record {
-  source = places.source.handle;
-  number = number;
-  target = places.target.handle;
-  handle = moved.handle;
-  counts = (moved.inode.kind == 2) && not (places.source.handle == places.target.handle);
-}
-
-abbrev pub taken_from : ℕ → Known → Replaced
-taken_from number other = record { number = number; handle = other.handle; is_directory = other.inode.kind == 2 }
 
 passes_depth : (l r : Bool) → depth_by true false l r ≡ Ok tt → (l ≡ false) × (r ≡ true)
 passes_depth true r e = absurd cc
@@ -166,7 +153,7 @@ module _ (volume areas : ℕ) (held : Held) (hints : Hints) (truth : Truth) (tre
         not_to : other.handle ≢ places.target.handle
         not_to e = not_below_itself tree are.stands.file_tree places.target.handle [] (record { file = are.target.file; there = are.target.there; entry = entry_then; contains = listed_then; names_it = e })
 
-        module _ (replaced : Replaced) (r : replaced ≡ taken_from second other) where
+        module _ (replaced : Replaced) (r : replaced ≡ replaced_by second other) where
           replaces : IsReplaced tree moving (names_of are.target.file.body) new_name replaced
           replaces = record {
             file = had.at.file;

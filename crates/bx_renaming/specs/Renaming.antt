@@ -1,5 +1,6 @@
 -- The move of RENAME from the two directories on: what it comes to by what is found, and what stops it.
-use Rattle.std.specs.Prelude.{◌≡◌, ◌≢◌, ℕ, ◌≤◌, ◌&&◌, not, if◌then◌else◌, List, Option, Some, Result, Ok}
+use Rattle.std.specs.Prelude.{◌≡◌, ◌≢◌, ℕ, ◌≤◌, ◌==◌, ◌&&◌, not, if◌then◌else◌, List, Option, Some, Result, Ok}
+use Rattle.bx_entries.specs.declared.taking.Known.{Known}
 use Rattle.bx_hints.specs.Fitting.{HintsFitAll}
 use Rattle.bx_inodes.specs.Inodes.{IsInodeOf}
 use Rattle.bx_inodes.specs.Stands.{Stands}
@@ -30,6 +31,20 @@ pub record AreDirectories (volume areas : ℕ) (held : Held) (hints : Hints) (tr
   pub target : IsInodeOf areas truth tree places.target.handle places.target.inode
   pub source_kind : places.source.inode.kind ≡ 2
   pub target_kind : places.target.inode.kind ≡ 2
+
+-- the move of a file between two directories, by the number of its entry; a directory that comes into another one counts among that one's links
+abbrev pub move_of : Places → ℕ → Known → Moving
+move_of places number moved = record {
+  source = places.source.handle;
+  number = number;
+  target = places.target.handle;
+  handle = moved.handle;
+  counts = (moved.inode.kind == 2) && not (places.source.handle == places.target.handle);
+}
+
+-- the file whose name is taken, by the number of its entry
+abbrev pub replaced_by : ℕ → Known → Replaced
+replaced_by number other = record { number = number; handle = other.handle; is_directory = other.inode.kind == 2 }
 
 -- the first errors of a move: a directory would come below itself, or too deep
 abbrev pub depth_errors : Tree → File → File → File → Result (Unit {0}) ℕ

@@ -1,15 +1,16 @@
 //! Moves that have been tested, into directories with room for them.
 
-ghost use Rattle.std.specs.Prelude.{◌≡◌, ◌==◌, ◌&&◌, ◌<◌, ◌≤◌, ℕ, not, length, IfErr, IfOk, IfSome};
+ghost use Rattle.std.specs.Prelude.{◌≡◌, ◌<◌, ◌≤◌, ℕ, [], length, IfErr, IfOk, IfSome};
 ghost use Rattle.bx_linking.specs.Lacking.{FindsBoth, IfFirst, MakesEither};
-ghost use Rattle.bx_changes.specs.Growing.{HoldsFirst, NeedsBy};
+ghost use Rattle.bx_changes.specs.Growing.{HoldsFirst, IfFull, NeedsBy};
+ghost use Rattle.bx_chunks.specs.Taking.{NoSlots};
 ghost use Rattle.bx_handles.specs.Handles.{parts_of};
 ghost use Rattle.bx_linking.specs.Drafting.{ComesBy};
 ghost use Rattle.bx_model.specs.declared.tree.Tree.{Tree};
 ghost use Rattle.bx_views.specs.Attempts.{IsHeldDraft};
 ghost use Rattle.bx_views.specs.Truths.{Truth};
 ghost use Rattle.bx_renaming.specs.Path.{OnMove};
-ghost use Rattle.bx_renaming.specs.Renaming.{AreDirectories, IsPassed, coming_in, other_file};
+ghost use Rattle.bx_renaming.specs.Renaming.{AreDirectories, IsPassed, coming_in, move_of, other_file, replaced_by};
 
 use crate::places::Places;
 use bx_changes::ChangeError;
@@ -50,8 +51,11 @@ pub(crate) fn move_in<V: View>(
         → IfErr result (IfFirst (MakesEither areas (V.held view.now) (V.hints view.now) truth places.now.target.inode.tree new_name.now places.now.target.inode.next)) }
     ensures finds { (volume : ℕ) (truth : Truth) (tree : Tree) → AreDirectories volume areas (V.held view.now) (V.hints view.now) truth tree places.now
         → IfOk result (λ made. FindsBoth areas truth places.now.target.inode.tree new_name.now places.now.target.inode.next) }
-    ensures need { IfErr result (NeedsBy areas (V.held view.now) (OnMove (V.held view.now) (V.hints view.now) areas places.now.target.inode moving name.now new_name.now replaced)) }
+    ensures need { IfErr result (NeedsBy areas (V.held view.now) (OnMove (V.held view.now) (V.hints view.now) areas places.now.target moving name.now new_name.now replaced)) }
     ensures first { IfErr result (HoldsFirst (V.held view.now)) }
+    ensures full { IfErr result (IfFull (NoSlots (V.held view.now) (parts_of places.now.target.handle).area areas [])) }
+    ensures wanted { (volume : ℕ) (truth : Truth) (tree : Tree) → AreDirectories volume areas (V.held view.now) (V.hints view.now) truth tree places.now
+        → IfErr result (IfFull (λ spare. FindsBoth areas truth places.now.target.inode.tree new_name.now places.now.target.inode.next → ⊥)) }
     ensures held { IfOk result (IsHeldDraft (V.held view.now)) }
 {
     if places.target.inode.next >= LAST_NUMBER {
@@ -65,13 +69,7 @@ pub(crate) fn move_in<V: View>(
 
 /// The move of a file between two directories, by the number of its entry.
 pub(crate) fn moving_of(places: &Places, number: u32, moved: &Known) -> Moving
-    ensures { result ≡ record {
-      source = places.now.source.handle;
-      number = number;
-      target = places.now.target.handle;
-      handle = moved.now.handle;
-      counts = (moved.now.inode.kind == 2) && not (places.now.source.handle == places.now.target.handle);
-    } }
+    ensures { result ≡ move_of places.now number moved.now }
 {
     let from = places.source.handle;
     let to = places.target.handle;
@@ -86,7 +84,7 @@ pub(crate) fn moving_of(places: &Places, number: u32, moved: &Known) -> Moving
 
 /// The file whose name is taken, by the number of its entry.
 pub(crate) fn replaced_of(number: u32, other: &Known) -> Replaced
-    ensures { result ≡ record { number = number; handle = other.now.handle; is_directory = other.now.inode.kind == 2 } }
+    ensures { result ≡ replaced_by number other.now }
 {
     Replaced {
         number,

@@ -35,6 +35,7 @@ pub fn moved_for<V: View>(
     ensures step { (volume : ℕ) (truth : Truth) (tree : Tree) → (is : IsDirectoryOf volume areas (V.held view.now) (V.hints view.now) truth tree directory.now.handle directory.now.inode)
         → MovedFor areas truth tree (names_of is.at.file.body) name.now result }
     ensures live { IfOk result (λ found. LiveAt (reads_with (V.held view.now) (V.hints view.now) []) areas found.1.handle Exclusive found.1.inode) }
+    ensures finds { IfOk result (λ found. Finds (V.held view.now) (V.hints view.now) directory.now.inode.tree (name_key name.now) (Some (name_value found.0 found.1.handle))) }
     ensures need { NeedsOn areas (V.held view.now) (OnEntry (V.held view.now) (V.hints view.now) directory.now.inode.tree name.now) result }
     ensures inner { NeverInner result }
 {

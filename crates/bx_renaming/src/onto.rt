@@ -1,8 +1,9 @@
 //! Moves to a name, by what has it.
 
-ghost use Rattle.std.specs.Prelude.{◌≡◌, ◌<◌, ◌≤◌, ◌≢◌, ℕ, None, Some, length, IfErr, IfOk};
+ghost use Rattle.std.specs.Prelude.{◌≡◌, ◌<◌, ◌≤◌, ◌≢◌, ℕ, [], None, Some, length, IfErr, IfOk};
 ghost use Rattle.bx_linking.specs.Lacking.{FindsBoth, IfFirst, MakesEither};
-ghost use Rattle.bx_changes.specs.Growing.{HoldsFirst, NeedsBy};
+ghost use Rattle.bx_changes.specs.Growing.{HoldsFirst, IfFull, NeedsBy};
+ghost use Rattle.bx_chunks.specs.Taking.{NoSlots};
 ghost use Rattle.bx_handles.specs.Handles.{parts_of};
 ghost use Rattle.bx_linking.specs.Drafting.{ComesBy};
 ghost use Rattle.bx_model.specs.declared.tree.Tree.{Tree};
@@ -53,8 +54,12 @@ pub(crate) fn move_onto<V: View>(
     ensures ready { (volume : ℕ) (truth : Truth) (tree : Tree) → (are : AreDirectories volume areas (V.held view.now) (V.hints view.now) truth tree places.now)
         → IsMoved areas truth tree (names_of are.source.file.body) name.now number moved.now
         → IfOk result (λ made. ReadyFor areas truth places.now.target.inode.tree places.now.target.inode.next (names_of are.source.file.body) name.now (names_of are.target.file.body) new_name.now) }
-    ensures need { IfErr result (NeedsBy areas (V.held view.now) (OnOnto (V.held view.now) (V.hints view.now) areas places.now.source.handle places.now.target.handle places.now.target.inode name.now new_name.now)) }
+    ensures need { IfErr result (NeedsBy areas (V.held view.now) (OnOnto (V.held view.now) (V.hints view.now) areas places.now number moved.now name.now new_name.now)) }
     ensures first { IfErr result (HoldsFirst (V.held view.now)) }
+    ensures full { IfErr result (IfFull (NoSlots (V.held view.now) (parts_of places.now.target.handle).area areas [])) }
+    ensures wanted { (volume : ℕ) (truth : Truth) (tree : Tree) → (are : AreDirectories volume areas (V.held view.now) (V.hints view.now) truth tree places.now)
+        → IsMoved areas truth tree (names_of are.source.file.body) name.now number moved.now
+        → IfErr result (IfFull (λ spare. ReadyFor areas truth places.now.target.inode.tree places.now.target.inode.next (names_of are.source.file.body) name.now (names_of are.target.file.body) new_name.now → ⊥)) }
     ensures held { IfOk result (IsHeldDraft (V.held view.now)) }
 {
     match other_for(alloc, view, areas, &places.target, new_name) {
@@ -93,8 +98,11 @@ fn move_free<V: View>(
         → IfErr result (IfFirst (MakesEither areas (V.held view.now) (V.hints view.now) truth places.now.target.inode.tree new_name.now places.now.target.inode.next)) }
     ensures finds { (volume : ℕ) (truth : Truth) (tree : Tree) → AreDirectories volume areas (V.held view.now) (V.hints view.now) truth tree places.now
         → IfOk result (λ made. FindsBoth areas truth places.now.target.inode.tree new_name.now places.now.target.inode.next) }
-    ensures need { IfErr result (NeedsBy areas (V.held view.now) (OnTested (V.held view.now) (V.hints view.now) areas places.now.source.handle places.now.target.handle places.now.target.inode name.now new_name.now)) }
+    ensures need { IfErr result (NeedsBy areas (V.held view.now) (OnTested (V.held view.now) (V.hints view.now) areas places.now number moved.now name.now new_name.now None)) }
     ensures first { IfErr result (HoldsFirst (V.held view.now)) }
+    ensures full { IfErr result (IfFull (NoSlots (V.held view.now) (parts_of places.now.target.handle).area areas [])) }
+    ensures wanted { (volume : ℕ) (truth : Truth) (tree : Tree) → AreDirectories volume areas (V.held view.now) (V.hints view.now) truth tree places.now
+        → IfErr result (IfFull (λ spare. FindsBoth areas truth places.now.target.inode.tree new_name.now places.now.target.inode.next → ⊥)) }
     ensures held { IfOk result (IsHeldDraft (V.held view.now)) }
 {
     match depth_error(alloc, view, areas, places, moved) {
@@ -136,8 +144,11 @@ fn move_over<V: View>(
         → IfErr result (IfFirst (MakesEither areas (V.held view.now) (V.hints view.now) truth places.now.target.inode.tree new_name.now places.now.target.inode.next)) }
     ensures finds { (volume : ℕ) (truth : Truth) (tree : Tree) → AreDirectories volume areas (V.held view.now) (V.hints view.now) truth tree places.now
         → IfOk result (λ made. FindsBoth areas truth places.now.target.inode.tree new_name.now places.now.target.inode.next) }
-    ensures need { IfErr result (NeedsBy areas (V.held view.now) (OnReplacing (V.held view.now) (V.hints view.now) areas places.now.source.handle places.now.target.handle places.now.target.inode other.now.inode.tree name.now new_name.now)) }
+    ensures need { IfErr result (NeedsBy areas (V.held view.now) (OnReplacing (V.held view.now) (V.hints view.now) areas places.now number moved.now second other.now name.now new_name.now)) }
     ensures first { IfErr result (HoldsFirst (V.held view.now)) }
+    ensures full { IfErr result (IfFull (NoSlots (V.held view.now) (parts_of places.now.target.handle).area areas [])) }
+    ensures wanted { (volume : ℕ) (truth : Truth) (tree : Tree) → AreDirectories volume areas (V.held view.now) (V.hints view.now) truth tree places.now
+        → IfErr result (IfFull (λ spare. FindsBoth areas truth places.now.target.inode.tree new_name.now places.now.target.inode.next → ⊥)) }
     ensures held { IfOk result (IsHeldDraft (V.held view.now)) }
 {
     match move_error(alloc, view, areas, places, moved, other) {

@@ -1,9 +1,11 @@
 //! RENAME.
 
-ghost use Rattle.std.specs.Prelude.{◌≡◌, ◌≤◌, ℕ, length, Err, IfErr, IfOk};
-ghost use Rattle.bx_linking.specs.Lacking.{IfFirst};
+ghost use Rattle.std.specs.Prelude.{◌≡◌, ◌≤◌, ℕ, [], length, Err, IfErr, IfOk};
+ghost use Rattle.bx_linking.specs.Lacking.{IfFirst, NoSlotsNear};
 ghost use Rattle.bx_changes.specs.First.{ComesFirst};
-ghost use Rattle.bx_changes.specs.Growing.{HoldsFirst, IsChangeBy, NeedsBy};
+ghost use Rattle.bx_changes.specs.Growing.{HoldsFirst, IfFull, IsChangeBy, NeedsBy};
+ghost use Rattle.bx_chunks.specs.Taking.{NoSlots};
+ghost use Rattle.bx_handles.specs.Handles.{parts_of};
 ghost use Rattle.bx_hints.specs.Fitting.{HintsFitAll};
 ghost use Rattle.bx_inodes.specs.Stands.{Stands};
 ghost use Rattle.bx_linking.specs.Drafting.{ComesBy};
@@ -31,13 +33,13 @@ use std::alloc::Global;
 /// had that name loses it; where both names are one file, nothing changes.
 ///
 /// `Need` names a block that isn't held: that of a directory's inode or of what a name names, exclusively, or one on the path of the searches, of the way
-/// up from the second directory, to room for the new name in its tree, or of the changes. The status is `STALE` where a file handle or an entry names no
+/// up from the second directory where a directory moves into it from another one, to room for the new name in its tree, or of the changes. The status is `STALE` where a file handle or an entry names no
 /// file, `NOTDIR` where a file handle names no directory, `ACCES` of a bad name and where the caller may not change a directory, `NOENT` where no entry
 /// has the name, `PERM` where a directory would come below itself, `NAMETOOLONG` where 512 moves to a parent don't lead from the second directory to
 /// the root, `NOTDIR` of a directory in the place of another file, `ISDIR` of a file in that of a directory, `NOTEMPTY` where that has entries, and
 /// `DQUOT` where the second directory has no number left. `Inner` are the blocks that make room, which are to be written first: they come exactly where
-/// none of these errors does, the two names aren't one file, and room for the new one is lacking in the second directory's tree. `Full` comes where fewer than 8
-/// blocks are free and one is wanted for that. `now` is in seconds and microseconds.
+/// none of these errors does, the two names aren't one file, and room for the new one is lacking in the second directory's tree. `Full` comes exactly as
+/// `Inner` does, where no slot is left for that; then fewer than 8 are free. `now` is in seconds and microseconds.
 pub fn rename<V: View>(
     alloc: Global,
     volume: u64,
@@ -62,6 +64,9 @@ pub fn rename<V: View>(
         → IfOk result (λ made. ReadyToMove volume areas truth tree from.now name.now to.now new_name.now) }
     ensures need { IfErr result (NeedsBy areas (V.held view.now) (OnRename (V.held view.now) (V.hints view.now) volume areas from.now name.now to.now new_name.now)) }
     ensures first { IfErr result (HoldsFirst (V.held view.now)) }
+    ensures full { IfErr result (IfFull (NoSlotsNear volume areas (V.held view.now) to.now)) }
+    ensures wanted { (truth : Truth) (tree : Tree) → IsTruth (V.held view.now) truth → Stands volume areas truth tree → HintsFitAll areas (V.hints view.now) truth
+        → IfErr result (IfFull (λ spare. ReadyToMove volume areas truth tree from.now name.now to.now new_name.now → ⊥)) }
     ensures held { IfOk result (λ made. IsHeldDraft (V.held view.now) made.0) }
 {
     match places_for(alloc, volume, areas, call, from, name, to, new_name, view) {
@@ -90,8 +95,11 @@ fn move_between<V: View>(
         → IfErr result (IfFirst (MakesRoomFor areas (V.held view.now) (V.hints view.now) truth places.now.target.inode.tree places.now.target.inode.next (names_of are.source.file.body) name.now (names_of are.target.file.body) new_name.now)) }
     ensures ready { (volume : ℕ) (truth : Truth) (tree : Tree) → (are : AreDirectories volume areas (V.held view.now) (V.hints view.now) truth tree places.now)
         → IfOk result (λ made. ReadyFor areas truth places.now.target.inode.tree places.now.target.inode.next (names_of are.source.file.body) name.now (names_of are.target.file.body) new_name.now) }
-    ensures need { IfErr result (NeedsBy areas (V.held view.now) (OnPlaces (V.held view.now) (V.hints view.now) areas places.now.source.handle places.now.target.handle places.now.source.inode places.now.target.inode name.now new_name.now)) }
+    ensures need { IfErr result (NeedsBy areas (V.held view.now) (OnPlaces (V.held view.now) (V.hints view.now) areas places.now name.now new_name.now)) }
     ensures first { IfErr result (HoldsFirst (V.held view.now)) }
+    ensures full { IfErr result (IfFull (NoSlots (V.held view.now) (parts_of places.now.target.handle).area areas [])) }
+    ensures wanted { (volume : ℕ) (truth : Truth) (tree : Tree) → (are : AreDirectories volume areas (V.held view.now) (V.hints view.now) truth tree places.now)
+        → IfErr result (IfFull (λ spare. ReadyFor areas truth places.now.target.inode.tree places.now.target.inode.next (names_of are.source.file.body) name.now (names_of are.target.file.body) new_name.now → ⊥)) }
     ensures held { IfOk result (IsHeldDraft (V.held view.now)) }
 {
     match moved_for(alloc, view, areas, &places.source, name) {

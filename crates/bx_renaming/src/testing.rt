@@ -1,14 +1,14 @@
 //! The errors of a move.
 
 ghost use Rattle.std.specs.Prelude.{◌⊎◌, ℕ, Some};
-ghost use Rattle.bx_directory_reads.specs.Listings.{OnBehind};
 ghost use Rattle.bx_entries.specs.Finding.{IsKnownFile};
 ghost use Rattle.bx_inodes.specs.Inodes.{IsInodeOf};
 ghost use Rattle.bx_inodes.specs.Stops.{NeedsOn, NeverInner};
 ghost use Rattle.bx_model.specs.declared.tree.Tree.{Tree};
 ghost use Rattle.bx_model.specs.Renaming.{replace_errors};
 ghost use Rattle.bx_views.specs.Truths.{Truth};
-ghost use Rattle.bx_ways.specs.Ways.{OnWay, TellsError};
+ghost use Rattle.bx_ways.specs.Ways.{TellsError};
+ghost use Rattle.bx_renaming.specs.Path.{OnEmptiness, OnUp};
 ghost use Rattle.bx_renaming.specs.Renaming.{AreDirectories, depth_errors, onto_errors};
 
 use crate::places::Places;
@@ -23,7 +23,7 @@ use std::alloc::Global;
 
 /// The error of a move between directories by the way up from the one that the file comes into; `None` exactly where there is none.
 ///
-/// `Need` names the block of an inode on that way, shared, which isn't held.
+/// `Need` names the block of an inode on that way, shared, which isn't held; only of a directory that comes into another one.
 pub(crate) fn depth_error<V: View>(
     alloc: Global,
     view: &V,
@@ -33,7 +33,7 @@ pub(crate) fn depth_error<V: View>(
 ) -> Result<Option<u32>, Stop>
     ensures step { (volume : ℕ) (truth : Truth) (tree : Tree) → (are : AreDirectories volume areas (V.held view.now) (V.hints view.now) truth tree places.now)
         → (is : IsInodeOf areas truth tree moved.now.handle moved.now.inode) → TellsError (depth_errors tree are.source.file are.target.file is.file) result }
-    ensures need { NeedsOn areas (V.held view.now) (OnWay (V.held view.now) (V.hints view.now) areas places.now.target.handle) result }
+    ensures need { NeedsOn areas (V.held view.now) (OnUp (V.held view.now) (V.hints view.now) areas places.now moved.now) result }
     ensures inner { NeverInner result }
 {
     if moved.inode.kind != DIRECTORY {
@@ -59,7 +59,7 @@ pub(crate) fn move_error<V: View>(
     ensures step { (volume : ℕ) (truth : Truth) (tree : Tree) → (are : AreDirectories volume areas (V.held view.now) (V.hints view.now) truth tree places.now)
         → (is : IsInodeOf areas truth tree moved.now.handle moved.now.inode) → (at : IsInodeOf areas truth tree other.now.handle other.now.inode)
         → TellsError (onto_errors tree are.source.file are.target.file is.file at.file) result }
-    ensures need { NeedsOn areas (V.held view.now) (λ at mode. OnBehind (V.held view.now) (V.hints view.now) other.now.inode.tree 0 at mode ⊎ OnWay (V.held view.now) (V.hints view.now) areas places.now.target.handle at mode) result }
+    ensures need { NeedsOn areas (V.held view.now) (λ at mode. OnEmptiness (V.held view.now) (V.hints view.now) moved.now other.now at mode ⊎ OnUp (V.held view.now) (V.hints view.now) areas places.now moved.now at mode) result }
     ensures inner { NeverInner result }
 {
     match depth_error(alloc, view, areas, places, moved) {
@@ -81,7 +81,7 @@ fn replace_error<V: View>(
 ) -> Result<Option<u32>, Stop>
     ensures step { (volume : ℕ) (truth : Truth) (tree : Tree) → (is : IsInodeOf areas truth tree moved.now.handle moved.now.inode)
         → (known : IsKnownFile volume areas (V.held view.now) (V.hints view.now) truth tree other.now.handle other.now.inode) → TellsError (replace_errors is.file (Some known.at.file)) result }
-    ensures need { NeedsOn areas (V.held view.now) (OnBehind (V.held view.now) (V.hints view.now) other.now.inode.tree 0) result }
+    ensures need { NeedsOn areas (V.held view.now) (OnEmptiness (V.held view.now) (V.hints view.now) moved.now other.now) result }
     ensures inner { NeverInner result }
 {
     if other.inode.kind != DIRECTORY {

@@ -23,3 +23,4 @@ pub mod SplitTree
 pub mod Refused
 pub mod Posted
 pub mod SplitFair
+pub mod Taken

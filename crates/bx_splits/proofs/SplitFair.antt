@@ -1,52 +1,58 @@
 -- What a split needs isn't held, and what it puts are blocks that are held exclusively.
-use Rattle.std.proofs.Common.{◌≡◌, ℕ, ◌+◌, ◌^◌, ◌%◌, ◌<◌, true, List, Option, Some, None, get_or, sym, ap, subst, ◌∙◌, arith, inl, inr}
+use Rattle.std.proofs.Common.{◌≡◌, ℕ, ◌+◌, ◌^◌, ◌%◌, ◌<◌, List, Option, Some, None, get_or, refl, sym, ap, subst, ◌∙◌, arith, inl, inr}
 use Rattle.std.specs.Prelude.{Result, Ok, Err, IsSome, OnOk, ◌⊎◌, ◌≢◌}
 use Rattle.std.specs.Option.{option_or}
 use Rattle.bx_base.specs.declared.names.Mode.{Mode}
 use Rattle.bx_base.specs.declared.names.Mode.TheVariants.{Exclusive}
 use Rattle.bx_layout.specs.declared.area.AreaBlock.{AreaBlock}
 use Rattle.bx_layout.specs.declared.block.Block.{Block}
-use Rattle.bx_places.specs.Places.{is_block}
 use Rattle.bx_records.specs.Drafts.{Changed, block_in}
 use Rattle.bx_page.specs.Contents.{Contents}
 use Rattle.bx_truth.specs.Chunks.{block_at}
 use Rattle.bx_views.specs.Attempts.{IsHeldDraft}
 use Rattle.bx_views.specs.Truths.{Held, Hints}
-use Rattle.bx_chunks.specs.declared.error.ChunkError.TheVariants.{Need as ChunkNeed}
 use Rattle.bx_chunks.specs.Allocating.{AllocatesAt, next_handle, slot_block}
-use Rattle.bx_chunks.proofs.FairNeeds.{Shares, fair}
+use Rattle.bx_chunks.specs.Taking.{NoSlots, OnSlots, more, none}
+use Rattle.bx_chunks.proofs.FairNeeds.{Shares}
 use Rattle.bx_chunks.proofs.HeldDrafts.{allocates_held}
+use Rattle.bx_chunks.proofs.Taking.{slots_unheld}
 use Rattle.bx_blink.specs.declared.error.BlinkError.{BlinkError}
 use Rattle.bx_blink.specs.declared.error.BlinkError.TheVariants.{Need, Stale, Full, NoRoom, Absent, Present, OutOfMemory, Crowded}
 use Rattle.bx_leaves.proofs.Fair.{page_held, seen_held}
 use Rattle.bx_splits.specs.declared.halves.Halves.{Halves}
-use Rattle.bx_splits.specs.Cutting.{AllotFails, CutsAt, CutsPage, CutsRoot, RaisesAt, SplitsAt, NeedsForSplit}
+use Rattle.bx_splits.specs.Cutting.{CutsAt, CutsPage, CutsRoot, RaisesAt, SplitsAt, NeedsForSplit}
 use Rattle.bx_splits.specs.Halves.{HalvesAt}
 
 none_left : (o held : Option Block) → option_or o held ≡ None → held ≡ None
 none_left None held e = e
 none_left (Some block) held e = absurd cc
 
-allot_fair : (areas near : ℕ) (held : Held) (draft : List Changed) (at : ℕ) (mode : Mode) → Shares held → AllotFails held draft near areas (Need at mode) → (held at mode ≡ None) × (is_block areas at ≡ true)
-allot_fair areas near held draft at mode shares a = let f = fair areas near held draft draft shares (Err (ChunkNeed at mode)) a in (f.1, f.0)
+-- what the halves of a page need is what the next slot needs
+pub halves_need : (areas near : ℕ) (held : Held) (old new : List Changed) (root handle : ℕ) (page : Contents) (at : ℕ) (mode : Mode) → HalvesAt held old new root handle page near areas (Err (Need at mode)) → OnSlots held near areas old at mode
+halves_need areas near held old new root handle page at mode h = elim h [
+  | inl r ↦ elim r.1 [ inl a ↦ record { draft = old; taken = none; needs = a } | inr t ↦ record { draft = t.1; taken = more old t.1 t.0 none t.2; needs = t.3 } ]
+  | inr r ↦ record { draft = old; taken = none; needs = r.1 }
+]
 
--- what the halves of a page need
-pub halves_fair : (areas near : ℕ) (held : Held) (old new : List Changed) (root handle : ℕ) (page : Contents) (at : ℕ) (mode : Mode) → Shares held → HalvesAt held old new root handle page near areas (Err (Need at mode))
-    → (held at mode ≡ None) × (is_block areas at ≡ true)
-halves_fair areas near held old new root handle page at mode shares h = elim h [
-  | inl r ↦ elim r.1 [ inl a ↦ allot_fair areas near held old at mode shares a | inr t ↦ allot_fair areas near held t.1 at mode shares t.3 ]
-  | inr r ↦ allot_fair areas near held old at mode shares r.1
+-- and they are full where it isn't there
+pub halves_full : (areas near : ℕ) (held : Held) (old new : List Changed) (root handle : ℕ) (page : Contents) (spare : ℕ) → HalvesAt held old new root handle page near areas (Err (Full spare)) → NoSlots held near areas old spare
+halves_full areas near held old new root handle page spare h = elim h [
+  | inl r ↦ elim r.1 [ inl a ↦ record { draft = old; taken = none; full = a } | inr t ↦ record { draft = t.1; taken = more old t.1 t.0 none t.2; full = t.3 } ]
+  | inr r ↦ record { draft = old; taken = none; full = r.1 }
 ]
 
 pub split_fair : (areas near : ℕ) (held : Held) (hints : Hints) (old new : List Changed) (root handle : ℕ) → Shares held → (result : Result Unit BlinkError)
-    → SplitsAt held hints old new root handle near areas result → NeedsForSplit areas held handle result
+    → SplitsAt held hints old new root handle near areas result → NeedsForSplit held near areas old handle result
 split_fair areas near held hints old new root handle shares (Err (Need at mode)) s = elim s [
-  | inl o ↦ subst (λ (m : Mode). (held at m ≡ None) × ((at ≡ block_at handle) ⊎ (is_block areas at ≡ true))) (sym o.1)
-      (subst (λ (a : ℕ). held a Exclusive ≡ None) (sym o.0) (none_left (block_in old (block_at handle)) (held (block_at handle) Exclusive) o.2), inl o.0)
-  | inr c ↦ (let f = halves_fair areas near held old old root handle c.page at mode shares c.cuts in (f.0, inr f.1))
+  | inl o ↦ subst (λ (m : Mode). (held at m ≡ None) × (((at ≡ block_at handle) × (m ≡ Exclusive)) ⊎ OnSlots held near areas old at m)) (sym o.1)
+      (subst (λ (a : ℕ). held a Exclusive ≡ None) (sym o.0) (none_left (block_in old (block_at handle)) (held (block_at handle) Exclusive) o.2), inl (o.0, refl))
+  | inr c ↦ (let n = halves_need areas near held old old root handle c.page at mode c.cuts in (slots_unheld held near areas old at mode shares n, inr n))
 ]
 split_fair areas near held hints old new root handle shares (Err Stale) s = tt
-split_fair areas near held hints old new root handle shares (Err (Full spare)) s = tt
+split_fair areas near held hints old new root handle shares (Err (Full spare)) s = elim s [
+  | inl o ↦ absurd o
+  | inr c ↦ halves_full areas near held old old root handle c.page spare c.cuts
+]
 split_fair areas near held hints old new root handle shares (Err (NoRoom leaf)) s = tt
 split_fair areas near held hints old new root handle shares (Err Absent) s = tt
 split_fair areas near held hints old new root handle shares (Err Present) s = tt

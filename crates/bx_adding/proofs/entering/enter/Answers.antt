@@ -1,6 +1,6 @@
 use Rattle.std.proofs.Common.{arith, subst}
 use Rattle.bx_adding.proofs.Entered.{above, directory, enters, has_numbers, listed, stopped}
-use Rattle.bx_adding.proofs.Stopped.{added_more, inode_more, needs_stop}
+use Rattle.bx_adding.proofs.Stopped.{added_more, full_stops, inode_more, needs_stop, never_full}
 use Rattle.bx_dirs.specs.Changes.{OnAddPath, entry_of}
 use Rattle.bx_inodes.specs.Writing.{PutsInode}
 use Rattle.bx_layout.specs.declared.inode.Inode.{Inode}
@@ -24,6 +24,12 @@ pub returns-in-Err-clause-need : goal.returns-in-Err-clause-need
 returns-in-Err-clause-need g c =
     needs_stop (Unit {0}) c.args.areas (g.V.View.held c.args.view.now)
     (OnAddPath (g.V.View.held c.args.view.now) (g.V.View.hints c.args.view.now) c.args.draft c.args.directory.inode.tree (entry_of c.args.directory.inode.next c.args.name.now c.args.made)) c.in-Err.error c.change_error.result c.in-Err.ensures.fair
+    c.change_error.ensures
+
+pub returns-in-Err-clause-full : goal.returns-in-Err-clause-full
+returns-in-Err-clause-full g c =
+    full_stops (Unit {0}) c.args.areas (λ spare. ⊥) c.in-Err.error c.change_error.result
+    (never_full (g.V.View.held c.args.view.now) (g.V.View.hints c.args.view.now) c.args.draft c.add.new.draft c.args.directory.inode.tree (entry_of c.args.directory.inode.next c.args.name.now c.args.made) c.in-Err.error c.in-Err.ensures.ends)
     c.change_error.ensures
 
 pub put_inode-requires-clause-room : goal.put_inode-requires-clause-room

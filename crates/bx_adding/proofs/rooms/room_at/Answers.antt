@@ -1,12 +1,16 @@
+use Rattle.std.proofs.Common.{List, [], Option}
+use Rattle.bx_records.specs.Drafts.{Changed}
 use Rattle.bx_adding.proofs.First.{lacking, leaves, stopped, under}
 use Rattle.bx_ready.specs.Lacking.{MakesRoom}
+use Rattle.bx_chunks.specs.Taking.{NoSlots, TakesSlots}
 use Rattle.bx_adding.proofs.Lacks.{not_first}
+use Rattle.bx_adding.proofs.Stopped.{full_stops}
 use Rattle.bx_adding.proofs.rooms.room_at.Goals as goal
 
 pub returns-in-Err-clause-step : goal.returns-in-Err-clause-step
 returns-in-Err-clause-step g c = λ volume truth tree handle inode d root_is.
     stopped volume c.args.near.1 (g.V.View.held c.args.view.now) (g.V.View.hints c.args.view.now) truth tree handle inode d c.args.root root_is c.args.key.now c.in-Err.error c.change_error.result
-    (λ pages u. c.in-Err.ensures.map truth pages u) c.in-Err.ensures.fair c.change_error.ensures
+    (λ pages u. c.in-Err.ensures.map truth pages u) c.args.near.0 c.in-Err.ensures.fair c.change_error.ensures
 
 pub returns-in-Ok-Some-clause-step : goal.returns-in-Ok-Some-clause-step
 returns-in-Ok-Some-clause-step g c = λ volume truth tree handle inode d root_is.
@@ -27,3 +31,12 @@ returns-in-Ok-Some-clause-lacks g c = λ volume truth tree handle inode d root_i
     rw c.in-Ok-Some.field-0-is
     (lacking volume c.args.near.1 (g.V.View.held c.args.view.now) (g.V.View.hints c.args.view.now) truth tree handle inode d c.args.root root_is c.args.key.now c.in-Ok-Some.field-0 c.in-Ok-Some.draft c.in-Ok-Some.field-0-is
     c.in-Ok-Some.ensures.lacks)
+
+pub returns-in-Err-clause-taken : goal.returns-in-Err-clause-taken
+returns-in-Err-clause-taken g c = not_first c.args.near.1 (TakesSlots (g.V.View.held c.args.view.now) c.args.near.0 c.args.near.1 []) c.in-Err.error c.change_error.result c.change_error.ensures
+
+pub returns-in-Ok-Some-clause-taken : goal.returns-in-Ok-Some-clause-taken
+returns-in-Ok-Some-clause-taken g c = rw c.in-Ok-Some.field-0-is at c.in-Ok-Some.ensures.taken
+
+pub returns-in-Err-clause-full : goal.returns-in-Err-clause-full
+returns-in-Err-clause-full g c = full_stops (Option (List Changed)) c.args.near.1 (NoSlots (g.V.View.held c.args.view.now) c.args.near.0 c.args.near.1 []) c.in-Err.error c.change_error.result c.in-Err.ensures.full c.change_error.ensures

@@ -1,4 +1,4 @@
-use Rattle.std.proofs.Common.{List, Err, Ok, subst, sym}
+use Rattle.std.proofs.Common.{List, Err, Ok, subst, sym, inl, inr}
 use Rattle.bx_making.specs.Made.{MakesFile, MakesIn}
 use Rattle.bx_making.specs.Making.{MakesAt}
 use Rattle.bx_ready.proofs.Split.{none_held}
@@ -6,7 +6,7 @@ use Rattle.bx_records.specs.Drafts.{Changed}
 use Rattle.bx_truth.specs.Stands.{StandsFor}
 use Rattle.bx_views.specs.Attempts.{IsHeldDraft}
 use Rattle.bx_views.specs.Truths.{with_draft}
-use Rattle.bx_creating.proofs.Made.{make_crowds, make_full, make_long, make_needs, needs, stops}
+use Rattle.bx_creating.proofs.Made.{make_crowds, make_full, make_long, make_needs, make_none, needs, none_stops, stops}
 use Rattle.bx_creating.proofs.placing.new_file.Goals as goal
 
 pub returns-in-Err-clause-step : goal.returns-in-Err-clause-step
@@ -38,3 +38,11 @@ pub returns-in-Ok-clause-few : goal.returns-in-Ok-clause-few
 returns-in-Ok-clause-few g c =
     make_long (g.V.View.held c.args.view.now) c.args.near c.args.areas c.args.inode c.make.new.draft c.in-Ok.handle
     (subst (λ (d : List Changed). MakesAt (g.V.View.held c.args.view.now) d c.make.new.draft c.args.inode c.args.near c.args.areas (Ok c.in-Ok.handle)) c.new-draft.ensures c.in-Ok.ensures.at)
+
+pub returns-in-Err-clause-full : goal.returns-in-Err-clause-full
+returns-in-Err-clause-full g c =
+    let at = subst (λ (d : List Changed). MakesAt (g.V.View.held c.args.view.now) d c.make.new.draft c.args.inode c.args.near c.args.areas (Err c.in-Err.error)) c.new-draft.ensures c.in-Err.ensures.at in
+    none_stops (g.V.View.held c.args.view.now) c.args.near c.args.areas c.in-Err.error c.chunk_error.result (λ spare full. make_none (g.V.View.held c.args.view.now) c.args.near c.args.areas c.args.inode c.make.new.draft spare (rw full at at)) c.chunk_error.ensures
+
+pub returns-in-Ok-clause-made : goal.returns-in-Ok-clause-made
+returns-in-Ok-clause-made g c = (c.args.inode, inl (subst (λ (d : List Changed). MakesAt (g.V.View.held c.args.view.now) d c.make.new.draft c.args.inode c.args.near c.args.areas (Ok c.in-Ok.handle)) c.new-draft.ensures c.in-Ok.ensures.at))

@@ -1,4 +1,4 @@
-use Rattle.std.proofs.Common.{List, Err, Ok, subst, sym}
+use Rattle.std.proofs.Common.{List, Err, Ok, subst, sym, inl, inr}
 use Rattle.bx_making.specs.Made.{MakesFile, MakesIn}
 use Rattle.bx_making.specs.Links.{LinksAt}
 use Rattle.bx_ready.proofs.Split.{none_held}
@@ -7,7 +7,7 @@ use Rattle.bx_tree_files.specs.declared.file.Body.TheVariants.{Path}
 use Rattle.bx_truth.specs.Stands.{StandsFor}
 use Rattle.bx_views.specs.Attempts.{IsHeldDraft}
 use Rattle.bx_views.specs.Truths.{with_draft}
-use Rattle.bx_creating.proofs.Made.{link_crowds, link_full, link_long, link_needs, needs, stops}
+use Rattle.bx_creating.proofs.Made.{link_crowds, link_full, link_long, link_needs, link_none, needs, none_stops, stops}
 use Rattle.bx_creating.proofs.placing.new_link.Goals as goal
 
 pub returns-in-Err-clause-step : goal.returns-in-Err-clause-step
@@ -39,3 +39,11 @@ pub returns-in-Ok-clause-few : goal.returns-in-Ok-clause-few
 returns-in-Ok-clause-few g c =
     link_long (g.V.View.held c.args.view.now) c.args.near c.args.areas c.args.inode.now c.make_link.new.draft c.in-Ok.handle
     (subst (λ (d : List Changed). LinksAt (g.V.View.held c.args.view.now) d c.make_link.new.draft c.args.inode.now c.args.near c.args.areas (Ok c.in-Ok.handle)) c.new-draft.ensures c.in-Ok.ensures.at)
+
+pub returns-in-Err-clause-full : goal.returns-in-Err-clause-full
+returns-in-Err-clause-full g c =
+    let at = subst (λ (d : List Changed). LinksAt (g.V.View.held c.args.view.now) d c.make_link.new.draft c.args.inode.now c.args.near c.args.areas (Err c.in-Err.error)) c.new-draft.ensures c.in-Err.ensures.at in
+    none_stops (g.V.View.held c.args.view.now) c.args.near c.args.areas c.in-Err.error c.chunk_error.result (λ spare full. link_none (g.V.View.held c.args.view.now) c.args.near c.args.areas c.args.inode.now c.make_link.new.draft spare (rw full at at)) c.chunk_error.ensures
+
+pub returns-in-Ok-clause-made : goal.returns-in-Ok-clause-made
+returns-in-Ok-clause-made g c = (c.args.inode.now, inr (subst (λ (d : List Changed). LinksAt (g.V.View.held c.args.view.now) d c.make_link.new.draft c.args.inode.now c.args.near c.args.areas (Ok c.in-Ok.handle)) c.new-draft.ensures c.in-Ok.ensures.at))

@@ -1,6 +1,12 @@
+use Rattle.std.proofs.Common.{inr}
 use Rattle.bx_creating.proofs.Placed.{enter_stops, make_stops, may_enter, places, room_stops}
 use Rattle.bx_adding.specs.Lacking.{MakesEither}
-use Rattle.bx_adding.proofs.Lacks.{never_first}
+use Rattle.bx_adding.proofs.Lacks.{full_so, never_first}
+use Rattle.bx_adding.proofs.Stopped.{wider}
+use Rattle.bx_dirs.specs.Changes.{OnAddPath, entry_of}
+use Rattle.bx_handles.specs.Handles.{parts_of}
+use Rattle.bx_creating.specs.Placing.{OnPlacing}
+use Rattle.bx_creating.proofs.Made.{first_near}
 use Rattle.bx_creating.proofs.placing.place_new.Goals as goal
 
 pub returns-in-Err-clause-step : goal.returns-in-Err-clause-step
@@ -43,3 +49,14 @@ returns-in-Err-enter-clause-lacks g c = λ volume truth tree d.
 
 pub returns-in-Ok-enter-clause-finds : goal.returns-in-Ok-enter-clause-finds
 returns-in-Ok-enter-clause-finds g c = λ volume truth tree d. c.in-Ok.ensures.finds volume truth tree d
+
+pub returns-in-Err-enter-clause-need : goal.returns-in-Err-enter-clause-need
+returns-in-Err-enter-clause-need g c =
+    wider c.args.areas (g.V.View.held c.args.view.now) (OnAddPath (g.V.View.held c.args.view.now) (g.V.View.hints c.args.view.now) c.in-Ok-make_new.draft c.args.directory.inode.tree (entry_of c.args.directory.inode.next c.args.name.now c.in-Ok-make_new.made)) (OnPlacing c.args.areas (g.V.View.held c.args.view.now) (g.V.View.hints c.args.view.now) c.args.directory.handle c.args.directory.inode c.args.name.now)
+    (λ at mode on. inr (inr (record { draft = c.in-Ok-make_new.draft; made = c.in-Ok-make_new.made; is = c.in-Ok-make_new.ensures.made; on = on }))) c.in-Err-enter.error c.in-Err-enter.ensures.need
+
+pub returns-in-Err-enter-clause-full : goal.returns-in-Err-enter-clause-full
+returns-in-Err-enter-clause-full g c = full_so (λ spare never. absurd never) c.in-Err-enter.error c.in-Err-enter.ensures.full
+
+pub returns-in-Ok-enter-clause-near : goal.returns-in-Ok-enter-clause-near
+returns-in-Ok-enter-clause-near g c = first_near (g.V.View.held c.args.view.now) (parts_of c.args.directory.handle).area c.args.areas c.in-Ok-make_new.draft c.in-Ok-make_new.made c.in-Ok-make_new.ensures.made

@@ -55,3 +55,9 @@ returns-clause-ready g c = λ truth tree same s fit.
     let f = (subst (λ (d : List Changed). IsInodeOf c.args.areas (with_draft truth d) tree c.in-Some.handle c.in-Ok.inode) c.new-none.ensures
     (c.in-Ok.ensures.tree truth tree same (over_none c.args.areas truth tree c.new-none.result c.new-none.ensures s.is))) in
     c.in-Ok-link_into.ensures.ready truth tree same s fit f
+
+pub returns-in-Err-link_into-clause-wanted : goal.returns-in-Err-link_into-clause-wanted
+returns-in-Err-link_into-clause-wanted g c = λ truth tree same s fit.
+    let f = (subst (λ (d : List Changed). IsInodeOf c.args.areas (with_draft truth d) tree c.in-Some.handle c.in-Ok.inode) c.new-none.ensures
+    (c.in-Ok.ensures.tree truth tree same (over_none c.args.areas truth tree c.new-none.result c.new-none.ensures s.is))) in
+    c.in-Err-link_into.ensures.wanted truth tree same s fit f

@@ -3,8 +3,10 @@ use Rattle.std.specs.Prelude.{Err}
 use Rattle.bx_blink.specs.Hints.{Under}
 use Rattle.bx_posts.specs.Posts.{NeedsForPost, PostsAt, PostsIn, PostsPage}
 use Rattle.bx_records.specs.Drafts.{Changed}
+use Rattle.bx_chunks.specs.Taking.{TakesSlots}
+use Rattle.bx_ready.proofs.Lacks.{no_separator}
 use Rattle.bx_ready.proofs.Line.{all_posted, not_lost, short}
-use Rattle.bx_ready.proofs.Post.{post_error, post_fair}
+use Rattle.bx_ready.proofs.Post.{post_ends, post_error, post_fair}
 use Rattle.bx_ready.proofs.separators.post_for.Goals as goal
 
 pub returns-in-Lost-clause-map : goal.returns-in-Lost-clause-map
@@ -28,7 +30,7 @@ returns-in-Ok-clause-map g c = λ truth tree u.
 pub returns-in-Err-clause-map : goal.returns-in-Err-clause-map
 returns-in-Err-clause-map g c = λ truth tree u.
     let s = short c.args.areas (g.V.View.held c.args.view.now) (g.V.View.hints c.args.view.now) truth c.args.root tree c.args.key.now u c.in-Short.page c.in-Short.ensures in
-    post_error c.args.areas (g.V.View.held c.args.view.now) (g.V.View.hints c.args.view.now) truth c.args.root tree c.args.key.now u c.args.near c.in-Short.page c.post.new.draft s.node c.in-Err.error
+    post_error c.args.areas (g.V.View.held c.args.view.now) (g.V.View.hints c.args.view.now) truth c.args.root tree c.args.key.now u c.args.near c.in-Short.page c.post.new.draft s.node c.in-Err.error (no_separator c.args.areas (g.V.View.held c.args.view.now) (g.V.View.hints c.args.view.now) truth c.args.root tree c.args.key.now u s.node s.lacks)
     (subst (λ (d : List Changed). PostsAt (g.V.View.held c.args.view.now) (g.V.View.hints c.args.view.now) d d c.args.root c.in-Short.page c.args.near c.args.areas (Err c.in-Err.error)) c.new-draft.ensures c.in-Err.ensures.at)
     (subst (λ (d : List Changed). PostsIn c.args.areas (g.V.View.held c.args.view.now) (g.V.View.hints c.args.view.now) truth d c.post.new.draft c.args.root tree s.node (Err c.in-Err.error)) c.new-draft.ensures
     (c.in-Err.ensures.map truth tree s.node (subst (λ (d : List Changed). Under c.args.areas (g.V.View.held c.args.view.now) (g.V.View.hints c.args.view.now) truth d c.args.root tree) (sym c.new-draft.ensures) u)
@@ -36,5 +38,13 @@ returns-in-Err-clause-map g c = λ truth tree u.
 
 pub returns-in-Err-clause-fair : goal.returns-in-Err-clause-fair
 returns-in-Err-clause-fair g c =
-    post_fair c.args.areas (g.V.View.held c.args.view.now) (g.V.View.hints c.args.view.now) c.args.root c.args.key.now (Option (List Changed)) c.in-Short.page c.in-Err.error c.in-Short.ensures
-    (subst (λ (d : List Changed). NeedsForPost c.args.areas (g.V.View.held c.args.view.now) (g.V.View.hints c.args.view.now) d c.args.root c.in-Short.page (Err c.in-Err.error)) c.new-draft.ensures c.in-Err.ensures.fair)
+    post_fair c.args.near c.args.areas (g.V.View.held c.args.view.now) (g.V.View.hints c.args.view.now) c.args.root c.args.key.now (Option (List Changed)) c.in-Short.page c.in-Err.error c.in-Short.ensures
+    (subst (λ (d : List Changed). NeedsForPost (g.V.View.held c.args.view.now) (g.V.View.hints c.args.view.now) d c.args.root c.in-Short.page c.args.near c.args.areas (Err c.in-Err.error)) c.new-draft.ensures c.in-Err.ensures.fair)
+
+pub returns-in-Err-clause-full : goal.returns-in-Err-clause-full
+returns-in-Err-clause-full g c =
+    post_ends c.args.near c.args.areas (g.V.View.held c.args.view.now) (g.V.View.hints c.args.view.now) c.args.root c.in-Short.page (Option (List Changed)) c.in-Err.error
+    (subst (λ (d : List Changed). NeedsForPost (g.V.View.held c.args.view.now) (g.V.View.hints c.args.view.now) d c.args.root c.in-Short.page c.args.near c.args.areas (Err c.in-Err.error)) c.new-draft.ensures c.in-Err.ensures.fair)
+
+pub returns-in-Ok-clause-taken : goal.returns-in-Ok-clause-taken
+returns-in-Ok-clause-taken g c = subst (λ (d : List Changed). TakesSlots (g.V.View.held c.args.view.now) c.args.near c.args.areas d c.post.new.draft) c.new-draft.ensures c.in-Ok.ensures.taken

@@ -1,6 +1,6 @@
 use Rattle.std.proofs.Common.{arith}
 use Rattle.bx_renaming.proofs.Rooms.{counts_so, into, may_move, moves_so, no_number, no_room}
-use Rattle.bx_linking.proofs.Lacks.{so_ok}
+use Rattle.bx_linking.proofs.Lacks.{full_never, room_wanted, so_ok}
 use Rattle.bx_linking.proofs.Comes.{never_if}
 use Rattle.bx_linking.specs.Lacking.{FindsBoth, MakesEither}
 use Rattle.bx_renaming.proofs.coming.move_in.Goals as goal
@@ -31,3 +31,14 @@ pub returns-in-Ok-clause-finds : goal.returns-in-Ok-clause-finds
 returns-in-Ok-clause-finds g c = λ volume truth tree are.
     so_ok (FindsBoth c.args.areas truth c.args.places.now.target.inode.tree c.args.new_name.now c.args.places.now.target.inode.next)
     (c.in-Ok.ensures.finds volume truth tree (into volume c.args.areas (g.V.View.held c.args.view.now) (g.V.View.hints c.args.view.now) truth tree c.args.places.now are)) c.move_file.result
+
+pub returns-in-Ok-clause-full : goal.returns-in-Ok-clause-full
+returns-in-Ok-clause-full g c = full_never c.move_file.result c.move_file.ensures.full
+
+pub returns-in-Err-clause-wanted : goal.returns-in-Err-clause-wanted
+returns-in-Err-clause-wanted g c = λ volume truth tree are.
+    room_wanted c.args.areas (g.V.View.held c.args.view.now) truth c.args.places.now.target.inode.tree c.args.new_name.now c.args.places.now.target.inode.next c.in-Err.error
+    (c.in-Err.ensures.step volume truth tree (into volume c.args.areas (g.V.View.held c.args.view.now) (g.V.View.hints c.args.view.now) truth tree c.args.places.now are))
+
+pub returns-in-Ok-clause-wanted : goal.returns-in-Ok-clause-wanted
+returns-in-Ok-clause-wanted g c = λ volume truth tree are. full_never c.move_file.result c.move_file.ensures.full

@@ -6,7 +6,7 @@ use Rattle.bx_tree_files.specs.Names.{names_of}
 use Rattle.bx_renaming.specs.Found.{OtherFor}
 use Rattle.bx_renaming.proofs.Comes.{itself_has, nobody_has, not_had, other_has}
 use Rattle.bx_renaming.proofs.Rooms.{into}
-use Rattle.bx_linking.proofs.Lacks.{first_if}
+use Rattle.bx_linking.proofs.Lacks.{first_if, full_if}
 use Rattle.bx_renaming.proofs.Lacks.{another, nobody, one_file}
 use Rattle.bx_linking.proofs.Comes.{stop_first}
 use Rattle.bx_renaming.specs.Lacking.{MakesRoomFor}
@@ -59,3 +59,15 @@ returns-then-other-moved-clause-ready g c = λ volume truth tree are is two.
 
 pub returns-else-other-moved-clause-ready : goal.returns-else-other-moved-clause-ready
 returns-else-other-moved-clause-ready g c = λ volume truth tree are is. IfOk-weaker c.move_over.result _ _ (λ made found two. found) (c.move_over.ensures.finds volume truth tree are)
+
+pub returns-in-Ok-None-clause-wanted : goal.returns-in-Ok-None-clause-wanted
+returns-in-Ok-None-clause-wanted g c = λ volume truth tree are is.
+    let none = subst (λ (o : Option (ℕ × Known)). OtherFor c.args.areas truth tree (names_of are.target.file.body) c.args.new_name.now (Ok o)) c.in-Ok-None.field-0-is (c.in-Ok-None.ensures.step volume truth tree (into volume c.args.areas (g.V.View.held c.args.view.now) (g.V.View.hints c.args.view.now) truth tree c.args.places.now are)) in
+    full_if (λ spare no ready. no (ready (nobody (names_of are.source.file.body) (names_of are.target.file.body) c.args.name.now c.args.new_name.now none))) c.move_free.result (c.move_free.ensures.wanted volume truth tree are)
+
+pub returns-else-other-moved-clause-wanted : goal.returns-else-other-moved-clause-wanted
+returns-else-other-moved-clause-wanted g c = λ volume truth tree are is.
+    let had = subst (λ (o : Option (ℕ × Known)). OtherFor c.args.areas truth tree (names_of are.target.file.body) c.args.new_name.now (Ok o)) c.in-Ok-Some.field-0-is (c.in-Ok-Some.ensures.step volume truth tree (into volume c.args.areas (g.V.View.held c.args.view.now) (g.V.View.hints c.args.view.now) truth tree c.args.places.now are)) in
+    full_if
+    (λ spare no ready. no (ready (another c.args.areas truth tree (names_of are.source.file.body) (names_of are.target.file.body) c.args.name.now c.args.new_name.now c.args.number c.in-Ok-Some.second c.args.moved.now c.in-Ok-Some.other is had c.if-other-moved.false)))
+    c.move_over.result (c.move_over.ensures.wanted volume truth tree are)

@@ -33,3 +33,6 @@ returns-in-Ok-None-clause-lacks g c = λ volume truth tree are. c.move_in.ensure
 
 pub returns-in-Ok-None-clause-finds : goal.returns-in-Ok-None-clause-finds
 returns-in-Ok-None-clause-finds g c = λ volume truth tree are. c.move_in.ensures.finds volume truth tree are
+
+pub returns-in-Ok-None-clause-wanted : goal.returns-in-Ok-None-clause-wanted
+returns-in-Ok-None-clause-wanted g c = λ volume truth tree are. c.move_in.ensures.wanted volume truth tree are

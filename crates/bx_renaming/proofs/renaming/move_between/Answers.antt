@@ -30,3 +30,7 @@ returns-in-Err-clause-lacks g c = λ volume truth tree are.
 pub returns-in-Ok-clause-ready : goal.returns-in-Ok-clause-ready
 returns-in-Ok-clause-ready g c = λ volume truth tree are.
     c.move_onto.ensures.ready volume truth tree are (c.in-Ok.ensures.step volume truth tree (from volume c.args.areas (g.V.View.held c.args.view.now) (g.V.View.hints c.args.view.now) truth tree c.args.places.now are))
+
+pub returns-in-Ok-clause-wanted : goal.returns-in-Ok-clause-wanted
+returns-in-Ok-clause-wanted g c = λ volume truth tree are.
+    c.move_onto.ensures.wanted volume truth tree are (c.in-Ok.ensures.step volume truth tree (from volume c.args.areas (g.V.View.held c.args.view.now) (g.V.View.hints c.args.view.now) truth tree c.args.places.now are))

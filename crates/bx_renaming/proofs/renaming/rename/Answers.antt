@@ -1,6 +1,6 @@
 use Rattle.bx_renaming.proofs.Comes.{between, is_first, is_renamed, is_stopped, no_places}
-use Rattle.bx_linking.proofs.Lacks.{first_so}
-use Rattle.bx_renaming.proofs.Lacks.{prepares_move, ready_move}
+use Rattle.bx_linking.proofs.Lacks.{first_so, full_so}
+use Rattle.bx_renaming.proofs.Lacks.{move_ready, prepares_move, ready_move}
 use Rattle.bx_renaming.specs.Lacking.{PreparesMove}
 use Rattle.bx_linking.proofs.Comes.{stop_comes}
 use Rattle.std.proofs.Common.{◌≡◌}
@@ -50,3 +50,15 @@ returns-clause-ready g c = λ truth tree same s fit.
     let are = between tree c.args.call.now c.args.from.now c.args.name.now c.args.to.now c.args.new_name.now c.args.now c.args.volume c.args.areas truth c.in-Ok.places p (g.V.View.held c.args.view.now) (g.V.View.hints c.args.view.now) c.requires.few same s fit in
     ready_move c.args.volume c.args.areas (g.V.View.held c.args.view.now) (g.V.View.hints c.args.view.now) truth tree c.args.from.now c.args.name.now c.args.to.now c.args.new_name.now c.in-Ok.places s.volume_is c.in-Ok.ensures.live p.source p.target
     (c.in-Ok-move_between.ensures.ready c.args.volume truth tree are)
+
+pub returns-in-Err-move_between-clause-full : goal.returns-in-Err-move_between-clause-full
+returns-in-Err-move_between-clause-full g c =
+    full_so (λ spare none. record { handle = c.in-Ok.places.target.handle; is_named = c.in-Ok.ensures.live.target_named; none = none }) c.in-Err-move_between.error c.in-Err-move_between.ensures.full
+
+pub returns-in-Err-move_between-clause-wanted : goal.returns-in-Err-move_between-clause-wanted
+returns-in-Err-move_between-clause-wanted g c = λ truth tree same s fit.
+    let p = c.in-Ok.ensures.step truth tree same s in
+    let are = between tree c.args.call.now c.args.from.now c.args.name.now c.args.to.now c.args.new_name.now c.args.now c.args.volume c.args.areas truth c.in-Ok.places p (g.V.View.held c.args.view.now) (g.V.View.hints c.args.view.now) c.requires.few same s fit in
+    full_so
+    (λ spare no ready. no (move_ready c.args.volume c.args.areas (g.V.View.held c.args.view.now) (g.V.View.hints c.args.view.now) truth tree c.args.from.now c.args.name.now c.args.to.now c.args.new_name.now c.in-Ok.places s.volume_is c.in-Ok.ensures.live p.source p.target ready))
+    c.in-Err-move_between.error (c.in-Err-move_between.ensures.wanted c.args.volume truth tree are)

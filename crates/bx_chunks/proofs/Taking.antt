@@ -13,11 +13,11 @@ use Rattle.bx_truth.specs.Chunks.{block_at, own_block}
 use Rattle.bx_views.specs.Truths.{Held}
 use Rattle.bx_chunks.specs.Allocating.{AllocatesAt, LacksOneOf, first, second, next_handle, slot_block}
 use Rattle.bx_chunks.specs.Areas.{area_in_turn, seen_in}
-use Rattle.bx_chunks.specs.Taking.{LeavesSlots, NoSlots, OnSlots, ShowsSlots, TakesSlots, more, none, other}
+use Rattle.bx_chunks.specs.Taking.{IsNoArea, LeavesSlots, NoSlots, OnSlots, ShowsSlots, TakesSlots, more, none, other}
 use Rattle.bx_chunks.specs.declared.error.ChunkError.TheVariants.{Need, Full}
 use Rattle.bx_chunks.proofs.Drafts.{put_elsewhere, put_here}
 use Rattle.bx_chunks.proofs.FairNeeds.{Shares, fair, own_there, slot_there}
-use Rattle.bx_chunks.proofs.Options.{some_there}
+use Rattle.bx_chunks.proofs.Options.{some_same, some_there}
 use Rattle.bx_chunks.proofs.Turns.{turn_within}
 
 -- ---- what is seen where a block is put, and elsewhere
@@ -32,59 +32,61 @@ seen_elsewhere held xs at apart mode block ne = ap (λ (o : Option Block). optio
 
 -- ---- blocks that are no area's own
 
--- what is seen there isn't an area's own block
-abbrev pub IsNoArea : Held → List Changed → ℕ → Type 0
-IsNoArea held draft at = (block : Block) → seen_in held draft at Shared ≡ Some block → block.kind ≢ 4
+-- so it is where a block of another kind is put
+put_none : (held : Held) (xs : List Changed) (at : ℕ) (block : Block) → block.kind ≢ 4 → IsNoArea held (with_block xs at block) at
+put_none held xs at block kind area slots own shows =
+    let one = seen_here held xs at Shared block shows.block (subst (λ (n : ℕ). seen_in held (with_block xs at block) n Shared ≡ Some shows.block) own shows.there) in
+    kind (ap (λ (b : Block). b.kind) one ∙ shows.has.kind)
 
--- it stays so where such a block is put
+-- what is shown elsewhere was shown before
+shown_before : (held : Held) (xs : List Changed) (at area : ℕ) (slots : AreaBlock) (block : Block) → own_block area ≢ at → ShowsSlots held (with_block xs at block) area slots → ShowsSlots held xs area slots
+shown_before held xs at area slots block apart shows = record { block = shows.block; there = sym (seen_elsewhere held xs at (own_block area) Shared block apart) ∙ shows.there; has = shows.has }
+
+-- and it stays so
 pub still_none : (held : Held) (xs : List Changed) (at put : ℕ) (block : Block) → block.kind ≢ 4 → IsNoArea held xs at → IsNoArea held (with_block xs put block) at
-still_none held xs at put block kind is = λ seen there. by seen there (cases_eq at put)
+still_none held xs at put block kind is area slots own shows = by (cases_eq (own_block area) put)
   where
-    by : (seen : Block) → seen_in held (with_block xs put block) at Shared ≡ Some seen → ((at ≡ put) ⊎ (at ≡ put → ⊥)) → seen.kind ≢ 4
-    by seen there (inl same) =
-        let one = seen_here held xs put Shared block seen (subst (λ (n : ℕ). seen_in held (with_block xs put block) n Shared ≡ Some seen) same there) in
-        λ four. kind (ap (λ (b : Block). b.kind) one ∙ four)
-    by seen there (inr apart) = is seen (sym (seen_elsewhere held xs put at Shared block apart) ∙ there)
+    by : ((own_block area ≡ put) ⊎ (own_block area ≡ put → ⊥)) → ⊥
+    by (inl same) = put_none held xs put block kind area slots same shows
+    by (inr apart) = is area slots own (shown_before held xs put area slots block apart shows)
 
 -- such a block in the place of such a one leaves all slots
 pub leaves_slots : (held : Held) (xs : List Changed) (at : ℕ) (block : Block) → IsNoArea held xs at → block.kind ≢ 4 → LeavesSlots held xs (with_block xs at block)
-leaves_slots held xs at block is kind = λ area slots. (λ shows. ahead area slots shows (cases_eq (own_block area) at), λ shows. back area slots shows (cases_eq (own_block area) at))
+leaves_slots held xs at block is kind area slots = (λ shows. ahead shows (cases_eq (own_block area) at), λ shows. back shows (cases_eq (own_block area) at))
   where
-    ahead : (area : ℕ) (slots : AreaBlock) → ShowsSlots held xs area slots → ((own_block area ≡ at) ⊎ (own_block area ≡ at → ⊥)) → ShowsSlots held (with_block xs at block) area slots
-    ahead area slots shows (inl same) = absurd (is shows.block (subst (λ (n : ℕ). seen_in held xs n Shared ≡ Some shows.block) same shows.there) shows.has.kind)
-    ahead area slots shows (inr apart) = record { block = shows.block; there = seen_elsewhere held xs at (own_block area) Shared block apart ∙ shows.there; has = shows.has }
+    ahead : ShowsSlots held xs area slots → ((own_block area ≡ at) ⊎ (own_block area ≡ at → ⊥)) → ShowsSlots held (with_block xs at block) area slots
+    ahead shows (inl same) = absurd (is area slots same shows)
+    ahead shows (inr apart) = record { block = shows.block; there = seen_elsewhere held xs at (own_block area) Shared block apart ∙ shows.there; has = shows.has }
 
-    back : (area : ℕ) (slots : AreaBlock) → ShowsSlots held (with_block xs at block) area slots → ((own_block area ≡ at) ⊎ (own_block area ≡ at → ⊥)) → ShowsSlots held xs area slots
-    back area slots shows (inl same) =
-        let one = seen_here held xs at Shared block shows.block (subst (λ (n : ℕ). seen_in held (with_block xs at block) n Shared ≡ Some shows.block) same shows.there) in
-        absurd (kind (ap (λ (b : Block). b.kind) one ∙ shows.has.kind))
-    back area slots shows (inr apart) = record { block = shows.block; there = sym (seen_elsewhere held xs at (own_block area) Shared block apart) ∙ shows.there; has = shows.has }
+    back : ShowsSlots held (with_block xs at block) area slots → ((own_block area ≡ at) ⊎ (own_block area ≡ at → ⊥)) → ShowsSlots held xs area slots
+    back shows (inl same) = absurd (put_none held xs at block kind area slots same shows)
+    back shows (inr apart) = shown_before held xs at area slots block apart shows
 
 -- what is read is seen
 pub read_none : (held : Held) (draft : List Changed) (at : ℕ) (mode : Mode) (block : Block) → Shares held → option_or (block_in draft at) (held at mode) ≡ Some block → block.kind ≢ 4 → IsNoArea held draft at
-read_none held draft at mode block shares read kind = λ seen there. by (block_in draft at) refl seen there
+read_none held draft at mode block shares read kind area slots own shows =
+    by (block_in draft at) refl shows.block (subst (λ (n : ℕ). seen_in held draft n Shared ≡ Some shows.block) own shows.there) shows.has.kind
   where
     shared : (m : Mode) → held at m ≡ Some block → held at Shared ≡ Some block
     shared Shared e = e
     shared Exclusive e = shares at block e
 
     one : (o : Option Block) (seen : Block) → o ≡ Some block → o ≡ Some seen → block ≡ seen
-    one None seen e f = absurd cc
-    one (Some b) seen e f = cc
+    one o seen e f = some_same o block seen e f
 
-    by : (o : Option Block) → block_in draft at ≡ o → (seen : Block) → seen_in held draft at Shared ≡ Some seen → seen.kind ≢ 4
-    by None e seen there =
+    by : (o : Option Block) → block_in draft at ≡ o → (seen : Block) → seen_in held draft at Shared ≡ Some seen → seen.kind ≡ 4 → ⊥
+    by None e seen there four =
         let h = some_there (unwrap_or (block_in draft at)) (held at Shared) seen there in
         let is : held at mode ≡ Some block = sym (ap (λ (o : Option Block). option_or o (held at mode)) e) ∙ read in
         let same : block ≡ h.0 = one (held at Shared) h.0 (shared mode is) h.1 in
         let last : h.0 ≡ seen = sym (ap (λ (o : Option Block). unwrap_or o h.0) e) ∙ h.2 in
-        λ four. kind (ap (λ (b : Block). b.kind) (same ∙ last) ∙ four)
-    by (Some c) e seen there =
+        kind (ap (λ (b : Block). b.kind) (same ∙ last) ∙ four)
+    by (Some c) e seen there four =
         let h = some_there (unwrap_or (block_in draft at)) (held at Shared) seen there in
         let is : Some c ≡ Some block = sym (ap (λ (o : Option Block). option_or o (held at mode)) e) ∙ read in
         let same : c ≡ block = cc in
         let last : c ≡ seen = sym (ap (λ (o : Option Block). unwrap_or o h.0) e) ∙ h.2 in
-        λ four. kind (ap (λ (b : Block). b.kind) (sym same ∙ last) ∙ four)
+        kind (ap (λ (b : Block). b.kind) (sym same ∙ last) ∙ four)
 
 low : (word : ℕ) → word % 2 ^ 31 + 1 < 2 ^ 32
 low word = omega arith
@@ -100,23 +102,26 @@ module _ (held : Held) (old new : List Changed) (near areas handle : ℕ) (at : 
   pub taken_none : (apart : ℕ) → IsNoArea held old apart → IsNoArea held new apart
   taken_none apart is = subst (λ (d : List Changed). IsNoArea held d apart) (sym at.takes.2) (still_none held _ apart (slot_block at.area at.slot) _ not_area own)
     where
-      by : (seen : Block) → seen_in held (with_block old (own_block at.area) _) apart Shared ≡ Some seen → ((apart ≡ own_block at.area) ⊎ (apart ≡ own_block at.area → ⊥)) → seen.kind ≢ 4
-      by seen there (inl same) =
-          let free = at.next.free in
-          absurd (is free.block (subst (λ (n : ℕ). seen_in held old n Shared ≡ Some free.block) (sym same) free.there) free.has.kind)
-      by seen there (inr other) = is seen (sym (seen_elsewhere held old (own_block at.area) apart Shared _ other) ∙ there)
+      by : (area : ℕ) (slots : AreaBlock) → own_block area ≡ apart → ShowsSlots held (with_block old (own_block at.area) _) area slots → ((own_block area ≡ own_block at.area) ⊎ (own_block area ≡ own_block at.area → ⊥)) → ⊥
+      by area slots here shows (inl same) = let free = at.next.free in is at.area at.slots (sym same ∙ here) (record { block = free.block; there = free.there; has = free.has })
+      by area slots here shows (inr other) = is area slots here (shown_before held old (own_block at.area) area slots _ other shows)
 
       own : IsNoArea held (with_block old (own_block at.area) _) apart
-      own = λ seen there. by seen there (cases_eq apart (own_block at.area))
+      own area slots here shows = by area slots here shows (cases_eq (own_block area) (own_block at.area))
 
   -- the block that is taken is none
   pub new_none : IsNoArea held new (block_at handle)
   new_none =
       let place = ap block_at at.takes.1 ∙ new_block at.area at.slots at.slot at.next.free.lowest.there in
-      subst (λ (n : ℕ). IsNoArea held new n) (sym place) (subst (λ (d : List Changed). IsNoArea held d (slot_block at.area at.slot)) (sym at.takes.2)
-      (λ seen there. λ four. not_area (ap (λ (b : Block). b.kind) (seen_here held _ (slot_block at.area at.slot) Shared _ seen there) ∙ four)))
+      subst (λ (n : ℕ). IsNoArea held new n) (sym place) (subst (λ (d : List Changed). IsNoArea held d (slot_block at.area at.slot)) (sym at.takes.2) (put_none held _ (slot_block at.area at.slot) _ not_area))
 
 -- ---- drafts that go on
+
+-- what is no area's own stays so
+pub stays_none : (held : Held) (near areas : ℕ) (from mid : List Changed) (at : ℕ) → TakesSlots held near areas from mid → IsNoArea held from at → IsNoArea held mid at
+stays_none held near areas from _ at none is = is
+stays_none held near areas from _ at (more old new handle taken takes) is = taken_none held old new near areas handle takes at (stays_none held near areas from old at taken is)
+stays_none held near areas from _ at (other old new taken leaves) is area slots own shows = stays_none held near areas from old at taken is area slots own ((leaves area slots).1 shows)
 
 pub puts_other : (held : Held) (near areas : ℕ) (from xs : List Changed) (at : ℕ) (block : Block) → TakesSlots held near areas from xs → IsNoArea held xs at → block.kind ≢ 4 → TakesSlots held near areas from (with_block xs at block)
 puts_other held near areas from xs at block taken is kind = other xs (with_block xs at block) taken (leaves_slots held xs at block is kind)

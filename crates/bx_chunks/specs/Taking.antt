@@ -17,6 +17,10 @@ pub record ShowsSlots (held : Held) (draft : List Changed) (area : ℕ) (slots :
   pub there : seen_in held draft (own_block area) Shared ≡ Some block
   pub has : HasSlots area slots block
 
+-- what is seen in a block isn't an area's own one
+abbrev pub IsNoArea : Held → List Changed → ℕ → Type 0
+IsNoArea held draft at = (area : ℕ) (slots : AreaBlock) → own_block area ≡ at → ShowsSlots held draft area slots → ⊥
+
 -- two drafts leave all slots alike
 abbrev pub LeavesSlots : Held → List Changed → List Changed → Type 0
 LeavesSlots held old new = (area : ℕ) (slots : AreaBlock) → ShowsSlots held old area slots ↔ ShowsSlots held new area slots

@@ -5,7 +5,7 @@ use Rattle.bx_creating.specs.Inodes.{link_inode}
 use Rattle.bx_creating.proofs.Created.{comes_so, last_link_is, last_symlink, makes, not_found, not_placed, placed_link, symlink_is}
 use Rattle.bx_model.specs.Making.{symlink}
 use Rattle.bx_adding.specs.Lacking.{MakesPlace}
-use Rattle.bx_adding.proofs.Lacks.{enters, first_so}
+use Rattle.bx_adding.proofs.Lacks.{enters, first_so, full_so}
 use Rattle.bx_creating.proofs.First.{made_first, stop_comes}
 use Rattle.bx_entries.specs.declared.taking.Known.{Known}
 use Rattle.bx_creating.proofs.links.symlink.Goals as goal
@@ -65,3 +65,9 @@ pub returns-in-Ok-place_new-clause-ready : goal.returns-in-Ok-place_new-clause-r
 returns-in-Ok-place_new-clause-ready g c = λ truth tree same s fit.
     let f = c.in-Ok.ensures.step truth tree same s fit in
     enters c.args.volume c.args.areas truth c.args.at.now c.args.name.now c.in-Ok.directory.handle c.in-Ok.directory.inode (sym c.in-Ok.ensures.live.is_named) f.place.directory.at.holds (c.in-Ok-place_new.ensures.finds c.args.volume truth tree f.place.directory)
+
+pub returns-in-Err-place_new-clause-full : goal.returns-in-Err-place_new-clause-full
+returns-in-Err-place_new-clause-full g c = full_so (λ spare none. record { handle = c.in-Ok.directory.handle; is_named = c.in-Ok.ensures.live.is_named; none = none }) c.in-Err-place_new.error c.in-Err-place_new.ensures.full
+
+pub returns-in-Ok-place_new-clause-near : goal.returns-in-Ok-place_new-clause-near
+returns-in-Ok-place_new-clause-near g c = record { handle = c.in-Ok.directory.handle; is_named = c.in-Ok.ensures.live.is_named; first = c.in-Ok-place_new.ensures.near }

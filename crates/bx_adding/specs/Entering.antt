@@ -4,6 +4,8 @@ use Rattle.bx_hints.specs.Fitting.{HintsFitAll}
 use Rattle.bx_inodes.specs.Inodes.{HoldsInode}
 use Rattle.bx_changes.specs.declared.error.ChangeError.{ChangeError}
 use Rattle.bx_changes.specs.declared.error.ChangeError.TheVariants.{Stopped, Full}
+use Rattle.bx_dirs.specs.Changes.{AddsAt, entry_of}
+use Rattle.bx_inodes.specs.Writing.{PutsInode}
 use Rattle.bx_inodes.specs.declared.stop.Stop.TheVariants.{Need, Inner, Status, OutOfMemory}
 use Rattle.bx_layout.specs.declared.block.Block.{Block}
 use Rattle.bx_layout.specs.declared.inode.Inode.{Inode}
@@ -58,6 +60,12 @@ pub record Enters (areas : ℕ) (truth : Truth) (old new : List Changed) (tree :
   pub holds : HoldsInode areas (with_draft truth new) handle (entered_inode inode now counts)
   pub kept : (other : ℕ) (block : Block) → other ≢ handle → chunks_of areas (with_draft truth old) other ≡ Some block → block.kind ≢ 2 → chunks_of areas (with_draft truth new) other ≡ Some block
   pub leads : (hints : Hints) → HintsFitAll areas hints (with_draft truth old) → HintsFitAll areas hints (with_draft truth new)
+
+-- the entry is put under both its keys, and then the directory's inode is put
+pub record PutsInAt (held : Held) (hints : Hints) (old new : List Changed) (directory : ℕ) (inode : Inode) (name : List ℕ) (made : ℕ) (counts : Bool) (now : Time) : Type 0 where
+  pub mid : List Changed
+  pub adds : AddsAt held hints old mid inode.tree (entry_of inode.next name made) (Ok tt)
+  pub puts : PutsInode mid new directory (entered_inode inode now counts)
 
 -- What it answers, by the tree. It is stopped for want of a block or of memory alone.
 abbrev pub EntersIn : ℕ → Truth → List Changed → Tree → ℕ → Inode → List ℕ → ℕ → Bool → Time → Result (List Changed) ChangeError → Type 0

@@ -10,7 +10,7 @@ ghost use Rattle.bx_tree_files.specs.declared.file.File.{File};
 ghost use Rattle.bx_truth.specs.Chunks.{block_at};
 ghost use Rattle.bx_views.specs.Attempts.{IsHeldDraft};
 ghost use Rattle.bx_views.specs.Truths.{Truth};
-ghost use Rattle.bx_adding.specs.Entering.{EntersIn, HasNumbers, MayEnter, entered_inode};
+ghost use Rattle.bx_adding.specs.Entering.{EntersIn, HasNumbers, MayEnter, PutsInAt, entered_inode};
 ghost use Rattle.bx_adding.specs.Stopping.{NeverFirst};
 
 use crate::stops::change_error;
@@ -46,6 +46,7 @@ pub fn enter<V: View>(
     requires few { length draft ≤ 13 }
     ensures step { (truth : Truth) (tree : Tree) (file : File) → MayEnter areas (V.held view.now) (V.hints view.now) truth draft tree directory.handle directory.inode file name.now
         → EntersIn areas truth draft tree directory.handle directory.inode name.now made counts now result }
+    ensures ends { IfOk result (λ new. PutsInAt (V.held view.now) (V.hints view.now) draft new directory.handle directory.inode name.now made counts now) }
     ensures need { IfErr result (NeedsBy areas (V.held view.now) (OnAddPath (V.held view.now) (V.hints view.now) draft directory.inode.tree (entry_of directory.inode.next name.now made))) }
     ensures inner { IfErr result NeverFirst }
     ensures full { IfErr result (IfFull (λ spare. ⊥)) }

@@ -12,9 +12,8 @@ use Rattle.bx_entries.specs.Unlinking.{without_name_of}
 use Rattle.bx_model.specs.declared.tree.Tree.{Tree}
 use Rattle.bx_records.specs.Drafts.{Changed}
 use Rattle.bx_tree_files.specs.Times.{Time}
-use Rattle.bx_views.specs.Attempts.{IsHeldDraft}
 use Rattle.bx_views.specs.Truths.{Held, Hints, Truth}
-use Rattle.bx_moving.specs.Edits.{Comes, EditsTo, GrowsTo, Rests}
+use Rattle.bx_moving.specs.Edits.{Comes, EditsTo, GrowsTo, IsEdited, Rests}
 use Rattle.bx_moving.specs.declared.moves.Replaced.{Replaced}
 use Rattle.bx_moving.specs.Moves.{Dies, IsDying, OnOver, ended}
 
@@ -71,26 +70,26 @@ nothing areas held hints truth draft tree r = record { stands = r.is; leads = λ
 
 -- ---- what is needed
 
-module _ (areas : ℕ) (held : Held) (draft : List Changed) (P : ℕ → Mode → Type 0) (Path : List Changed → ℕ → Mode → Type 0) (is_held : IsHeldDraft held draft) (wider : (at : ℕ) (mode : Mode) → P at mode → Path draft at mode) where
-  pub over : (T U : Type 0) (stop : Stop) → NeedsOn areas held P {T = T} (Err stop) → NeedsOn areas held (OnOver held Path) {T = U} (Err stop)
-  over T U (Need at mode) n = (n.0, n.1, record { draft = draft; is_held = is_held; on = wider at mode n.2 })
+module _ (areas : ℕ) (held : Held) (hints : Hints) (draft : List Changed) (P : ℕ → Mode → Type 0) (Path : List Changed → ℕ → Mode → Type 0) (edited : IsEdited held hints areas draft) (wider : (at : ℕ) (mode : Mode) → P at mode → Path draft at mode) where
+  pub over : (T U : Type 0) (stop : Stop) → NeedsOn areas held P {T = T} (Err stop) → NeedsOn areas held (OnOver held hints areas Path) {T = U} (Err stop)
+  over T U (Need at mode) n = (n.0, n.1, record { draft = draft; edited = edited; on = wider at mode n.2 })
   over T U (Inner blocks) n = tt
   over T U (Status status) n = tt
   over T U OutOfMemory n = tt
 
-  pub over_result : {T : Type 0} (result : Result T Stop) → NeedsOn areas held P result → NeedsOn areas held (OnOver held Path) result
+  pub over_result : {T : Type 0} (result : Result T Stop) → NeedsOn areas held P result → NeedsOn areas held (OnOver held hints areas Path) result
   over_result (Ok done) n = tt
   over_result {T = T} (Err stop) n = over T T stop n
 
-  pub over_stopped : (T : Type 0) (stop : Stop) → NeedsOn areas held P {T = T} (Err stop) → NeedsBy areas held (OnOver held Path) (Stopped stop)
-  over_stopped T (Need at mode) n = (n.0, n.1, record { draft = draft; is_held = is_held; on = wider at mode n.2 })
+  pub over_stopped : (T : Type 0) (stop : Stop) → NeedsOn areas held P {T = T} (Err stop) → NeedsBy areas held (OnOver held hints areas Path) (Stopped stop)
+  over_stopped T (Need at mode) n = (n.0, n.1, record { draft = draft; edited = edited; on = wider at mode n.2 })
   over_stopped T (Inner blocks) n = tt
   over_stopped T (Status status) n = tt
   over_stopped T OutOfMemory n = tt
 
-  pub over_grown : {T : Type 0} (result : Result T ChangeError) → IfErr result (NeedsBy areas held P) → IfErr result (NeedsBy areas held (OnOver held Path))
+  pub over_grown : {T : Type 0} (result : Result T ChangeError) → IfErr result (NeedsBy areas held P) → IfErr result (NeedsBy areas held (OnOver held hints areas Path))
   over_grown (Ok done) n = tt
-  over_grown (Err (Stopped (Need at mode))) n = (n.0, n.1, record { draft = draft; is_held = is_held; on = wider at mode n.2 })
+  over_grown (Err (Stopped (Need at mode))) n = (n.0, n.1, record { draft = draft; edited = edited; on = wider at mode n.2 })
   over_grown (Err (Stopped (Inner blocks))) n = tt
   over_grown (Err (Stopped (Status status))) n = tt
   over_grown (Err (Stopped OutOfMemory)) n = tt

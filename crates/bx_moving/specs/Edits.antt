@@ -1,5 +1,6 @@
 -- Edits of a file tree over a draft, each of one file, whose inode is read over the draft first.
-use Rattle.std.specs.Prelude.{◌≡◌, ℕ, ◌≤◌, ◌==◌, ◌⊎◌, if◌then◌else◌, List, Result, Ok, Err}
+use Rattle.std.specs.Prelude.{◌≡◌, ℕ, ◌≤◌, ◌==◌, ◌⊎◌, Bool, if◌then◌else◌, List, [], Result, Ok, Err}
+use Rattle.bx_adding.specs.Entering.{PutsInAt}
 use Rattle.bx_adding.specs.Rooms.{HasRooms}
 use Rattle.bx_base.specs.declared.names.Mode.{Mode}
 use Rattle.bx_base.specs.declared.names.Mode.TheVariants.{Exclusive}
@@ -8,9 +9,11 @@ use Rattle.bx_changes.specs.declared.error.ChangeError.{ChangeError}
 use Rattle.bx_changes.specs.declared.error.ChangeError.TheVariants.{Stopped, Full}
 use Rattle.bx_dirs.specs.Changes.{OnAddPath, OnTakePath, entry_of}
 use Rattle.bx_entries.specs.Finding.{IsOwnBlock}
+use Rattle.bx_entries.specs.Taking.{TakesOutAt}
 use Rattle.bx_handles.specs.Handles.{parts_of}
 use Rattle.bx_hints.specs.Fitting.{HintsFitAll}
 use Rattle.bx_inodes.specs.Inodes.{HoldsInode, LiveAt}
+use Rattle.bx_inodes.specs.Writing.{PutsInode}
 use Rattle.bx_inodes.specs.declared.stop.Stop.{Stop}
 use Rattle.bx_inodes.specs.declared.stop.Stop.TheVariants.{Need, Inner, Status, OutOfMemory}
 use Rattle.bx_layout.specs.declared.inode.Inode.{Inode}
@@ -58,6 +61,17 @@ settled_inode parent now inode = record inode { ctime = now; parent = if inode.k
 abbrev pub HasRoomFor : ℕ → Held → Truth → List Changed → ℕ → List ℕ → Type 0
 HasRoomFor areas held truth draft directory name =
     (inode : Inode) → HoldsInode areas (with_draft truth draft) directory inode → HasRooms areas held truth draft inode.tree name inode.next
+
+-- A draft is made by edits alone, one after the other: an entry is taken out of a directory or put into one, or a file is told of its move; each by the
+-- inode that is seen over what the edits before changed. So no page leads elsewhere than in the view, and no file gets another tree.
+pub data IsEdited (held : Held) (hints : Hints) (areas : ℕ) : List Changed → Type 0 where
+  no_edit : IsEdited held hints areas []
+  takes_out : (old new : List Changed) (directory : ℕ) (inode : Inode) (number : ℕ) (name : List ℕ) (counts : Bool) (now : Time) → IsEdited held hints areas old → LiveAt (reads_with held hints old) areas directory Exclusive inode
+      → TakesOutAt held hints old new directory inode number name counts now → IsEdited held hints areas new
+  puts_in : (old new : List Changed) (directory : ℕ) (inode : Inode) (name : List ℕ) (made : ℕ) (counts : Bool) (now : Time) → IsEdited held hints areas old → LiveAt (reads_with held hints old) areas directory Exclusive inode
+      → PutsInAt held hints old new directory inode name made counts now → IsEdited held hints areas new
+  moves_file : (old new : List Changed) (handle : ℕ) (inode : Inode) (parent : ℕ) (now : Time) → IsEdited held hints areas old → LiveAt (reads_with held hints old) areas handle Exclusive inode
+      → PutsInode old new handle (settled_inode parent now inode) → IsEdited held hints areas new
 
 -- ---- the paths
 

@@ -17,9 +17,8 @@ use Rattle.bx_tree_files.specs.Changes.{entered, moved_to, taken_out}
 use Rattle.bx_tree_files.specs.Entries.{entry_named}
 use Rattle.bx_tree_files.specs.Files.{IsNumbered, file_at, is_directory}
 use Rattle.bx_tree_files.specs.Times.{Time}
-use Rattle.bx_views.specs.Attempts.{IsHeldDraft}
 use Rattle.bx_views.specs.Truths.{Truth, Held, Hints}
-use Rattle.bx_moving.specs.Edits.{HasRoomFor, OnComing, OnLeaving, OnLosing, Rests}
+use Rattle.bx_moving.specs.Edits.{HasRoomFor, IsEdited, OnComing, OnLeaving, OnLosing, Rests}
 
 -- a directory of a tree, with its entries
 pub record IsPlace (tree : Tree) (handle : ℕ) : Type 0 where
@@ -108,10 +107,10 @@ ended now tree (Some replaced) is = without_name_of now tree replaced.handle is.
 
 -- ---- the path
 
--- what is on a path over a draft of blocks that are held exclusively
-pub record OnOver (held : Held) (Path : List Changed → ℕ → Mode → Type 0) (at : ℕ) (mode : Mode) : Type 0 where
+-- what is on a path over a draft that edits made
+pub record OnOver (held : Held) (hints : Hints) (areas : ℕ) (Path : List Changed → ℕ → Mode → Type 0) (at : ℕ) (mode : Mode) : Type 0 where
   pub draft : List Changed
-  pub is_held : IsHeldDraft held draft
+  pub edited : IsEdited held hints areas draft
   pub on : Path draft at mode
 
 -- of the name that is cleared, and of the file that loses it
@@ -136,4 +135,4 @@ OnSending held hints areas moving name replaced draft at mode =
 -- The path of a move: of each step, over what the steps before changed.
 abbrev pub OnMoving : Held → Hints → ℕ → Moving → List ℕ → List ℕ → Option Replaced → ℕ → Mode → Type 0
 OnMoving held hints areas moving name new_name replaced at mode =
-    OnOver held (OnBringing held hints areas moving new_name replaced) at mode ⊎ OnOver held (OnSending held hints areas moving name replaced) at mode
+    OnOver held hints areas (OnBringing held hints areas moving new_name replaced) at mode ⊎ OnOver held hints areas (OnSending held hints areas moving name replaced) at mode

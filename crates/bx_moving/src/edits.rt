@@ -16,7 +16,7 @@ ghost use Rattle.bx_tree_files.specs.Files.{file_at, is_directory};
 ghost use Rattle.bx_views.specs.Attempts.{IsHeldDraft};
 ghost use Rattle.bx_views.specs.Truths.{Truth};
 ghost use Rattle.bx_entries.specs.Unlinking.{without_name_of};
-ghost use Rattle.bx_moving.specs.Edits.{EditsTo, HasRoomFor, OnLeaving, OnLosing, Rests};
+ghost use Rattle.bx_moving.specs.Edits.{EditsTo, HasRoomFor, IsEdited, OnLeaving, OnLosing, Rests};
 
 use bx_base::Mode;
 use bx_entries::{Known, take_entry, unlink};
@@ -51,6 +51,7 @@ pub fn leave<V: View>(
     ensures need { NeedsOn areas (V.held view.now) (OnLeaving (V.held view.now) (V.hints view.now) areas draft directory number name.now) result }
     ensures inner { NeverInner result }
     ensures held { IsHeldDraft (V.held view.now) draft → IfOk result (IsHeldDraft (V.held view.now)) }
+    ensures edits { IsEdited (V.held view.now) (V.hints view.now) areas draft → IfOk result (IsEdited (V.held view.now) (V.hints view.now) areas) }
     ensures few { IfOk result (λ new. length new ≤ length draft + 3) }
 {
     match inode_at(alloc, &draft, view, areas, directory, Mode::Exclusive) {

@@ -13,7 +13,7 @@ ghost use Rattle.bx_tree_files.specs.Entries.{entry_named};
 ghost use Rattle.bx_tree_files.specs.Files.{IsNumbered, file_at};
 ghost use Rattle.bx_views.specs.Attempts.{IsHeldDraft};
 ghost use Rattle.bx_views.specs.Truths.{Truth};
-ghost use Rattle.bx_moving.specs.Edits.{GrowsTo, HasRoomFor, OnComing, Rests};
+ghost use Rattle.bx_moving.specs.Edits.{GrowsTo, HasRoomFor, IsEdited, OnComing, Rests};
 
 use bx_adding::enter;
 use bx_base::Mode;
@@ -51,6 +51,7 @@ pub fn come<V: View>(
     ensures full { IfErr result (IfFull (λ spare. ⊥)) }
     ensures first { IfErr result (HoldsFirst (V.held view.now)) }
     ensures held { IsHeldDraft (V.held view.now) draft → IfOk result (IsHeldDraft (V.held view.now)) }
+    ensures edits { IsEdited (V.held view.now) (V.hints view.now) areas draft → IfOk result (IsEdited (V.held view.now) (V.hints view.now) areas) }
     ensures few { IfOk result (λ new. length new ≤ length draft + 3) }
 {
     match inode_at(alloc, &draft, view, areas, directory, Mode::Exclusive) {

@@ -10,7 +10,7 @@ ghost use Rattle.bx_model.specs.Renaming.{changes_parent, renamed};
 ghost use Rattle.bx_views.specs.Attempts.{IsHeldDraft};
 ghost use Rattle.bx_views.specs.Truths.{Truth};
 ghost use Rattle.bx_moving.specs.declared.moves.Moving.{Moving as Move};
-ghost use Rattle.bx_moving.specs.Edits.{Comes, EditsTo, GrowsTo, HasRoomFor, Rests};
+ghost use Rattle.bx_moving.specs.Edits.{Comes, EditsTo, GrowsTo, HasRoomFor, IsEdited, Rests};
 ghost use Rattle.bx_moving.specs.Moves.{IsDying, IsMoving, OnBringing, OnClearing, OnDying, OnMoving, OnOver, OnSending, brought, cleared, ended, other_of};
 
 use crate::edits::{leave, lose};
@@ -96,11 +96,12 @@ fn bring<V: View>(
     requires { length name.now ≤ 255 }
     ensures step { (truth : Truth) (tree : Tree) (old_name : List ℕ) → IsMoving areas (V.held view.now) (V.hints view.now) truth tree moving old_name name.now replaced
         → GrowsTo areas truth [] (brought now tree moving name.now replaced) result }
-    ensures need { IfErr result (NeedsBy areas (V.held view.now) (OnOver (V.held view.now) (OnBringing (V.held view.now) (V.hints view.now) areas moving name.now replaced))) }
+    ensures need { IfErr result (NeedsBy areas (V.held view.now) (OnOver (V.held view.now) (V.hints view.now) areas (OnBringing (V.held view.now) (V.hints view.now) areas moving name.now replaced))) }
     ensures inner { IfErr result NeverFirst }
     ensures full { IfErr result (IfFull (λ spare. ⊥)) }
     ensures first { IfErr result (HoldsFirst (V.held view.now)) }
     ensures held { IfOk result (IsHeldDraft (V.held view.now)) }
+    ensures edits { IfOk result (IsEdited (V.held view.now) (V.hints view.now) areas) }
     ensures few { IfOk result (λ new. length new ≤ 6) }
 {
     match clear(alloc, view, areas, moving.target, replaced, name, now) {
@@ -136,6 +137,7 @@ fn clear<V: View>(
     ensures need { NeedsOn areas (V.held view.now) (OnClearing (V.held view.now) (V.hints view.now) areas target name.now replaced []) result }
     ensures inner { NeverInner result }
     ensures held { IfOk result (IsHeldDraft (V.held view.now)) }
+    ensures edits { IfOk result (IsEdited (V.held view.now) (V.hints view.now) areas) }
     ensures few { IfOk result (λ new. length new ≤ 3) }
 {
     let none = Draft::new(alloc);
@@ -171,7 +173,7 @@ fn send<V: View>(
     ensures step { (truth : Truth) (tree : Tree) (new_name : List ℕ) → (is : IsMoving areas (V.held view.now) (V.hints view.now) truth tree moving name.now new_name replaced)
         → Comes areas truth [] draft (brought now tree moving new_name replaced) → moving.counts ≡ changes_parent is.source.file is.target.file is.moved
         → EditsTo areas truth [] (renamed now tree is.source.file name.now is.target.file new_name is.moved (other_of tree moving is.target.names new_name replaced is.other)) result }
-    ensures need { IsHeldDraft (V.held view.now) draft → NeedsOn areas (V.held view.now) (OnOver (V.held view.now) (OnSending (V.held view.now) (V.hints view.now) areas moving name.now replaced)) result }
+    ensures need { IsEdited (V.held view.now) (V.hints view.now) areas draft → NeedsOn areas (V.held view.now) (OnOver (V.held view.now) (V.hints view.now) areas (OnSending (V.held view.now) (V.hints view.now) areas moving name.now replaced)) result }
     ensures inner { NeverInner result }
     ensures held { IsHeldDraft (V.held view.now) draft → IfOk result (IsHeldDraft (V.held view.now)) }
 {

@@ -10,7 +10,7 @@ ghost use Rattle.bx_tree_files.specs.Changes.{moved_to};
 ghost use Rattle.bx_tree_files.specs.Files.{file_at};
 ghost use Rattle.bx_views.specs.Attempts.{IsHeldDraft};
 ghost use Rattle.bx_views.specs.Truths.{Truth};
-ghost use Rattle.bx_moving.specs.Edits.{EditsTo, Rests, settled_inode};
+ghost use Rattle.bx_moving.specs.Edits.{EditsTo, IsEdited, Rests, settled_inode};
 
 use bx_base::Mode;
 use bx_inodes::{Stop, inode_at, put_inode};
@@ -39,6 +39,7 @@ pub fn settle<V: View>(
     ensures need { NeedsOn areas (V.held view.now) (IsOwnBlock handle) result }
     ensures inner { NeverInner result }
     ensures held { IsHeldDraft (V.held view.now) draft → IfOk result (IsHeldDraft (V.held view.now)) }
+    ensures edits { IsEdited (V.held view.now) (V.hints view.now) areas draft → IfOk result (IsEdited (V.held view.now) (V.hints view.now) areas) }
     ensures few { IfOk result (λ new. length new ≤ length draft + 1) }
 {
     match inode_at(alloc, &draft, view, areas, handle, Mode::Exclusive) {

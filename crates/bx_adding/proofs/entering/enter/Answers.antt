@@ -52,3 +52,10 @@ returns-clause-few g c =
     let more = added_more (g.V.View.held c.args.view.now) (g.V.View.hints c.args.view.now) c.args.draft c.add.new.draft c.args.directory.inode.tree (entry_of c.args.directory.inode.next c.args.name.now c.args.made) c.in-Ok.ensures.ends in
     let one = inode_more c.add.new.draft c.put_inode.new.draft c.args.directory.handle c.in-Some.changed c.in-Ok-put_inode.ensures.puts in
     omega (arith, more, one)
+
+pub returns-clause-ends : goal.returns-clause-ends
+returns-clause-ends g c = record {
+  mid = c.add.new.draft;
+  adds = c.in-Ok.ensures.ends;
+  puts = subst (λ (i : Inode). PutsInode c.add.new.draft c.put_inode.new.draft c.args.directory.handle i) c.in-Some.ensures.some.0 c.in-Ok-put_inode.ensures.puts;
+}

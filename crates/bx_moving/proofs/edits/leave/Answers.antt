@@ -5,7 +5,8 @@ use Rattle.bx_leaves.proofs.Fair.{seen_held}
 use Rattle.bx_model.specs.Edits.{changed}
 use Rattle.bx_tree_files.specs.Changes.{taken_out}
 use Rattle.bx_truth.specs.Chunks.{block_at}
-use Rattle.bx_moving.specs.Edits.{OnLeaving}
+use Rattle.std.proofs.lemmas.Result.{IfOk-weaker}
+use Rattle.bx_moving.specs.Edits.{OnLeaving, takes_out}
 use Rattle.bx_moving.proofs.Edited.{entry_in, leaves, no_stop, rooms_if}
 use Rattle.bx_moving.proofs.edits.leave.Goals as goal
 
@@ -33,3 +34,7 @@ returns-in-Ok-clause-rooms g c = λ truth tree file parent next names entry othe
     let f = c.in-Ok.ensures.tree truth tree r.same r.is in
     rooms_if c.args.areas (g.V.View.held c.args.view.now) (g.V.View.hints c.args.view.now) truth c.args.draft tree c.args.directory c.in-Ok.inode f.file c.args.number c.args.name.now c.args.counts c.args.now
     (entry_in c.args.areas (g.V.View.held c.args.view.now) (g.V.View.hints c.args.view.now) truth c.args.draft tree c.args.directory c.in-Ok.inode r (c.in-Ok.ensures.tree truth tree r.same r.is) file there parent next names entry c.args.number c.args.name.now body two found number) f.holds other rooms c.take_entry.result c.take_entry.ensures.ends
+
+pub returns-in-Ok-clause-edits : goal.returns-in-Ok-clause-edits
+returns-in-Ok-clause-edits g c = λ edited.
+    IfOk-weaker c.take_entry.result _ _ (λ new ends. takes_out c.args.draft new c.args.directory c.in-Ok.inode c.args.number c.args.name.now c.args.counts c.args.now edited c.in-Ok.ensures.at ends) c.take_entry.ensures.ends

@@ -4,7 +4,8 @@ use Rattle.bx_leaves.proofs.Fair.{seen_held}
 use Rattle.bx_model.specs.Edits.{changed}
 use Rattle.bx_tree_files.specs.Changes.{entered}
 use Rattle.bx_truth.specs.Chunks.{block_at}
-use Rattle.bx_moving.specs.Edits.{OnComing}
+use Rattle.std.proofs.lemmas.Result.{IfOk-weaker}
+use Rattle.bx_moving.specs.Edits.{OnComing, puts_in}
 use Rattle.bx_moving.proofs.Edited.{comes, enter_in, needs_if, no_stop_by}
 use Rattle.bx_moving.proofs.entries.come.Goals as goal
 
@@ -26,3 +27,7 @@ returns-in-Ok-clause-need g c =
 pub returns-in-Ok-clause-held : goal.returns-in-Ok-clause-held
 returns-in-Ok-clause-held g c = λ held.
     c.enter.ensures.held held (seen_held (g.V.View.held c.args.view.now) c.args.draft (block_at c.args.directory) c.in-Ok.ensures.at.block held c.in-Ok.ensures.at.there)
+
+pub returns-in-Ok-clause-edits : goal.returns-in-Ok-clause-edits
+returns-in-Ok-clause-edits g c = λ edited.
+    IfOk-weaker c.enter.result _ _ (λ new ends. puts_in c.args.draft new c.args.directory c.in-Ok.inode c.args.name.now c.args.made c.args.counts c.args.now edited c.in-Ok.ensures.at ends) c.enter.ensures.ends

@@ -3,7 +3,7 @@ use Rattle.bx_records.specs.Drafts.{Changed}
 use Rattle.bx_model.specs.Edits.{changed}
 use Rattle.bx_tree_files.specs.Changes.{taken_out}
 use Rattle.bx_moving.specs.declared.moves.Replaced.{Replaced}
-use Rattle.bx_moving.specs.Edits.{EditsTo, HasRoomFor, Rests}
+use Rattle.bx_moving.specs.Edits.{EditsTo, HasRoomFor, IsEdited, Rests, no_edit}
 use Rattle.bx_moving.specs.Moves.{cleared}
 use Rattle.bx_moving.proofs.Brought.{entry_cleared}
 use Rattle.bx_moving.proofs.moves.clear.Goals as goal
@@ -21,3 +21,9 @@ returns-in-Some-clause-rooms g c = λ truth tree moving old_name m same.
     c.leave.ensures.rooms truth tree e.file e.parent e.next e.names e.entry c.args.name.now (subst (λ (d : List Changed). Rests c.args.areas (g.V.View.held c.args.view.now) (g.V.View.hints c.args.view.now) truth d tree) (sym c.new-none.ensures) m.rests) e.there e.body e.kind e.found e.number_is
     (subst (λ (d : List Changed). HasRoomFor c.args.areas (g.V.View.held c.args.view.now) truth d c.args.target c.args.name.now) (sym c.new-none.ensures)
     (subst (λ (h : ℕ). HasRoomFor c.args.areas (g.V.View.held c.args.view.now) truth [] h c.args.name.now) same m.rooms))
+
+pub returns-in-None-clause-edits : goal.returns-in-None-clause-edits
+returns-in-None-clause-edits g c = subst (λ (d : List Changed). IsEdited (g.V.View.held c.args.view.now) (g.V.View.hints c.args.view.now) c.args.areas d) (sym c.new-none.ensures) no_edit
+
+pub returns-in-Some-clause-edits : goal.returns-in-Some-clause-edits
+returns-in-Some-clause-edits g c = c.leave.ensures.edits (subst (λ (d : List Changed). IsEdited (g.V.View.held c.args.view.now) (g.V.View.hints c.args.view.now) c.args.areas d) (sym c.new-none.ensures) no_edit)

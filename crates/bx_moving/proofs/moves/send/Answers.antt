@@ -36,6 +36,6 @@ returns-in-Ok-settle-clause-step g c = λ truth tree new_name m b counts.
     (then_edits c.args.areas truth [] c.in-Ok-settle.draft (sent c.args.now tree c.args.moving c.args.name.now new_name c.args.replaced) (ended c.args.now (sent c.args.now tree c.args.moving c.args.name.now new_name c.args.replaced) c.args.replaced d) all c.end.result (c.end.ensures.step truth (sent c.args.now tree c.args.moving c.args.name.now new_name c.args.replaced) r3 d))
 
 pub returns-in-Ok-settle-clause-need : goal.returns-in-Ok-settle-clause-need
-returns-in-Ok-settle-clause-need g c = λ held.
-    over_result c.args.areas (g.V.View.held c.args.view.now) c.in-Ok-settle.draft (OnDying (g.V.View.held c.args.view.now) (g.V.View.hints c.args.view.now) c.args.areas c.args.replaced c.in-Ok-settle.draft) (OnSending (g.V.View.held c.args.view.now) (g.V.View.hints c.args.view.now) c.args.areas c.args.moving c.args.name.now c.args.replaced)
-    (c.in-Ok-settle.ensures.held (c.in-Ok.ensures.held held)) (λ at mode on. inr (inr on)) c.end.result c.end.ensures.need
+returns-in-Ok-settle-clause-need g c = λ edited.
+    over_result c.args.areas (g.V.View.held c.args.view.now) (g.V.View.hints c.args.view.now) c.in-Ok-settle.draft (OnDying (g.V.View.held c.args.view.now) (g.V.View.hints c.args.view.now) c.args.areas c.args.replaced c.in-Ok-settle.draft) (OnSending (g.V.View.held c.args.view.now) (g.V.View.hints c.args.view.now) c.args.areas c.args.moving c.args.name.now c.args.replaced)
+    (c.in-Ok-settle.ensures.edits (c.in-Ok.ensures.edits edited)) (λ at mode on. inr (inr on)) c.end.result c.end.ensures.need

@@ -6,6 +6,7 @@ use Rattle.bx_leaves.proofs.Fair.{seen_held}
 use Rattle.bx_model.specs.Edits.{changed}
 use Rattle.bx_tree_files.specs.Changes.{moved_to}
 use Rattle.bx_truth.specs.Chunks.{block_at}
+use Rattle.bx_moving.specs.Edits.{moves_file}
 use Rattle.bx_moving.proofs.Edited.{no_stop}
 use Rattle.bx_moving.proofs.Settled.{settles}
 use Rattle.bx_moving.proofs.settling.settle.Goals as goal
@@ -28,3 +29,8 @@ returns-in-Ok-put_inode-clause-few g c =
     let one = one_block_more c.args.draft (block_at c.args.handle) c.in-Ok-put_inode.ensures.puts.block in
     let same = ap length c.in-Ok-put_inode.ensures.puts.put in
     omega (arith, one, same)
+
+pub returns-in-Ok-put_inode-clause-edits : goal.returns-in-Ok-put_inode-clause-edits
+returns-in-Ok-put_inode-clause-edits g c = λ edited.
+    moves_file c.args.draft c.put_inode.new.draft c.args.handle c.in-Ok.inode c.args.parent c.args.now edited c.in-Ok.ensures.at
+    (subst (λ (i : Inode). PutsInode c.args.draft c.put_inode.new.draft c.args.handle i) c.settled-moved.ensures c.in-Ok-put_inode.ensures.puts)

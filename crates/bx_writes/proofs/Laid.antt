@@ -14,12 +14,13 @@ use Rattle.bx_model.specs.declared.tree.Tree.{Tree}
 use Rattle.bx_tree_files.specs.declared.file.File.{File}
 use Rattle.bx_truth.specs.PageTrees.{PageTree}
 use Rattle.bx_views.specs.Truths.{Held, Hints, Truth}
-use Rattle.bx_places.specs.Places.{is_block}
+use Rattle.bx_handles.specs.Handles.{parts_of}
 use Rattle.bx_records.specs.Drafts.{Changed}
 use Rattle.bx_writes.proofs.Base.{base_written}
 use Rattle.bx_writes.specs.Bytes.{IsOver}
+use Rattle.bx_writes.specs.Laid.{OnAnew}
 use Rattle.bx_writes.specs.Laying.{GrowsTo, InodeAlone}
-use Rattle.bx_writes.specs.Paths.{OnWrittenPieces}
+use Rattle.bx_writes.specs.Paths.{OnPrepared, OnWrittenPieces}
 use Rattle.bx_writes.specs.Steps.{IsRegularOf, PreparesIn, PutsOn}
 use Rattle.bx_writes.specs.Written.{IsWritten}
 
@@ -106,12 +107,25 @@ alone_laid volume areas held hints truth tree handle old inode file base r grows
 alone_laid volume areas held hints truth tree handle old inode file base r grows from first taken written none (Err (Stopped OutOfMemory)) a = tt
 alone_laid volume areas held hints truth tree handle old inode file base r grows from first taken written none (Err (Full spare)) a = absurd a
 
-pub put_needs : (areas : ℕ) (held : Held) (hints : Hints) (root index count : ℕ) → 0 < count → (result : Result (List Changed) ChangeError) → IfErr result (NeedsBy areas held (λ at mode. is_block areas at ≡ true))
-    → IfErr result (NeedsBy areas held (OnWrittenPieces areas held hints root index (index + count)))
-put_needs areas held hints root index count some (Ok draft) n = tt
-put_needs areas held hints root index count some (Err error) n =
-    needs_wider areas held (λ at mode. is_block areas at ≡ true) (OnWrittenPieces areas held hints root index (index + count))
-    (λ at mode is. record { index = index; above = omega arith; below = omega (arith, some); on = inr (inr (inr is)) }) error n
+module _ (areas : ℕ) (held : Held) (hints : Hints) (handle root index count : ℕ) (some : 0 < count) where
+  -- what a piece needs that is prepared, one that is put, and those behind it
+  pub first_needs : (error : ChangeError) → NeedsBy areas held (OnPrepared (parts_of handle).area areas held hints root index) error → NeedsBy areas held (OnWrittenPieces areas held hints handle root index (index + count)) error
+  first_needs error n =
+      needs_wider areas held (OnPrepared (parts_of handle).area areas held hints root index) (OnWrittenPieces areas held hints handle root index (index + count))
+      (λ at mode on. record { index = index; above = omega arith; below = omega (arith, some); on = inl on }) error n
+
+  pub put_needs : (result : Result (List Changed) ChangeError) → IfErr result (NeedsBy areas held (OnAnew held hints (parts_of handle).area areas handle root index))
+      → IfErr result (NeedsBy areas held (OnWrittenPieces areas held hints handle root index (index + count)))
+  put_needs (Ok draft) n = tt
+  put_needs (Err error) n =
+      needs_wider areas held (OnAnew held hints (parts_of handle).area areas handle root index) (OnWrittenPieces areas held hints handle root index (index + count))
+      (λ at mode on. record { index = index; above = omega arith; below = omega (arith, some); on = inr on }) error n
+
+  pub rest_needs : (few : ℕ) → few + 1 ≡ count → (error : ChangeError) → NeedsBy areas held (OnWrittenPieces areas held hints handle root (index + 1) (index + 1 + few)) error
+      → NeedsBy areas held (OnWrittenPieces areas held hints handle root index (index + count)) error
+  rest_needs few same error n =
+      needs_wider areas held (OnWrittenPieces areas held hints handle root (index + 1) (index + 1 + few)) (OnWrittenPieces areas held hints handle root index (index + count))
+      (λ at mode on. let above = on.above in let below = on.below in record { index = on.index; above = omega (arith, above); below = omega (arith, below, same); on = on.on }) error n
 
 pub none_of : (n : ℕ) → true ≡ (n == 0) → n ≡ 0
 none_of n test = grind (arith, nat_tests, test)

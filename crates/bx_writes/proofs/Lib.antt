@@ -8,3 +8,5 @@ pub mod PutStops
 pub mod First
 pub mod Laid
 pub mod Wrote
+pub mod Entries
+pub mod Known

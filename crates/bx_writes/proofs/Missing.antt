@@ -110,20 +110,20 @@ module _ (volume areas : ℕ) (held : Held) (hints : Hints) (truth : Truth) (tre
   entry_there index value found (Err error) = tt
 
   pub stopped : (index place : ℕ) (part : List ℕ) (error : BlinkError) (stop : ChangeError) → ((pages : PageTree) → Under areas held hints truth [] root pages → ReadiesIn areas held hints truth root pages (content_key index) (Err error))
-      → NeedsUnheld {X = Option (List Changed)} held (OnReadyPath areas held hints root (content_key index)) (Err error) → StopsChange areas error stop → MissesIn areas truth root index place part (Err stop)
-  stopped index place part (tree_error.Need at mode) stop x n (inl s) = subst (λ (e : ChangeError). MissesIn areas truth root index place part (Err e)) (sym s.1) tt
-  stopped index place part (tree_error.Need at mode) stop x n (inr s) =
-      let block = ready_block areas held hints truth root some_pages.pages (content_key index) some_under at mode n.1 in
+      → (near : ℕ) → NeedsUnheld {X = Option (List Changed)} held (OnReadyPath near areas held hints root (content_key index)) (Err error) → StopsChange areas error stop → MissesIn areas truth root index place part (Err stop)
+  stopped index place part (tree_error.Need at mode) stop x near n (inl s) = subst (λ (e : ChangeError). MissesIn areas truth root index place part (Err e)) (sym s.1) tt
+  stopped index place part (tree_error.Need at mode) stop x near n (inr s) =
+      let block = ready_block areas held hints truth root some_pages.pages (content_key index) some_under near at mode n.1 in
       let both : true ≡ false = sym block ∙ s.0 in absurd cc
-  stopped index place part tree_error.OutOfMemory stop x n s = subst (λ (e : ChangeError). MissesIn areas truth root index place part (Err e)) (sym s) tt
-  stopped index place part (tree_error.Full spare) stop x n s =
-      let few : TellsFew areas truth spare = x some_pages.pages some_under in
+  stopped index place part tree_error.OutOfMemory stop x near n s = subst (λ (e : ChangeError). MissesIn areas truth root index place part (Err e)) (sym s) tt
+  stopped index place part (tree_error.Full spare) stop x near n s =
+      let few : TellsFew areas truth spare = (x some_pages.pages some_under).0 in
       subst (λ (e : ChangeError). MissesIn areas truth root index place part (Err e)) (sym s) (record { spare_is = few.0; few = few.1 })
-  stopped index place part tree_error.Stale stop x n s = absurd (x some_pages.pages some_under)
-  stopped index place part tree_error.Absent stop x n s = absurd (x some_pages.pages some_under)
-  stopped index place part tree_error.Present stop x n s = absurd (x some_pages.pages some_under)
-  stopped index place part (tree_error.NoRoom leaf) stop x n s = absurd (x some_pages.pages some_under)
-  stopped index place part tree_error.Crowded stop x n s = absurd (x some_pages.pages some_under)
+  stopped index place part tree_error.Stale stop x near n s = absurd (x some_pages.pages some_under)
+  stopped index place part tree_error.Absent stop x near n s = absurd (x some_pages.pages some_under)
+  stopped index place part tree_error.Present stop x near n s = absurd (x some_pages.pages some_under)
+  stopped index place part (tree_error.NoRoom leaf) stop x near n s = absurd (x some_pages.pages some_under)
+  stopped index place part tree_error.Crowded stop x near n s = absurd (x some_pages.pages some_under)
 
   -- ---- preparing
 

@@ -20,7 +20,6 @@ use Rattle.bx_leaves.specs.Leaves.{InsertsAt, OnLeafPath}
 use Rattle.bx_leaves.proofs.Done.{inserts_in}
 use Rattle.bx_model.specs.declared.tree.Tree.{Tree}
 use Rattle.bx_page.specs.Contents.{value_of}
-use Rattle.bx_places.specs.Places.{is_block}
 use Rattle.bx_ready.proofs.Lengths.{crowded_many}
 use Rattle.bx_ready.proofs.Spare.{full_none, told}
 use Rattle.bx_records.specs.Drafts.{Changed}
@@ -88,18 +87,6 @@ module _ (areas near : ℕ) (held : Held) (hints : Hints) (truth : Truth) (tree 
             absurd (finds_space (chunks_of areas (with_draft truth two)) inode.tree held m.written.after (content_key index) (content_value names) (544 - 17 * taken) leaf under.is space (omega arith) (omega (arith, left)) t.1)
 
 -- ---- on any content
-
-pub needs_block : (areas : ℕ) (held : Held) (Path : ℕ → Mode → Type 0) (error : BlinkError) (stop : ChangeError) → NeedsUnheld {X = Unit {0}} held Path (Err error) → StopsChange areas error stop
-    → NeedsBy areas held (λ at mode. is_block areas at ≡ true) stop
-needs_block areas held Path (tree_error.Need at mode) stop n (inl s) = subst (NeedsBy areas held (λ at mode. is_block areas at ≡ true)) (sym s.1) (s.0, n.0, s.0)
-needs_block areas held Path (tree_error.Need at mode) stop n (inr s) = subst (NeedsBy areas held (λ at mode. is_block areas at ≡ true)) (sym s.1) tt
-needs_block areas held Path tree_error.OutOfMemory stop n s = subst (NeedsBy areas held (λ at mode. is_block areas at ≡ true)) (sym s) tt
-needs_block areas held Path (tree_error.Full spare) stop n s = subst (NeedsBy areas held (λ at mode. is_block areas at ≡ true)) (sym s) tt
-needs_block areas held Path tree_error.Stale stop n s = subst (NeedsBy areas held (λ at mode. is_block areas at ≡ true)) (sym s) tt
-needs_block areas held Path tree_error.Absent stop n s = subst (NeedsBy areas held (λ at mode. is_block areas at ≡ true)) (sym s) tt
-needs_block areas held Path tree_error.Present stop n s = subst (NeedsBy areas held (λ at mode. is_block areas at ≡ true)) (sym s) tt
-needs_block areas held Path (tree_error.NoRoom leaf) stop n s = subst (NeedsBy areas held (λ at mode. is_block areas at ≡ true)) (sym s) tt
-needs_block areas held Path tree_error.Crowded stop n s = subst (NeedsBy areas held (λ at mode. is_block areas at ≡ true)) (sym s) tt
 
 pub never_first : (areas : ℕ) (error : BlinkError) (stop : ChangeError) → StopsChange areas error stop → NeverFirst stop
 never_first areas (tree_error.Need at mode) stop (inl s) = subst NeverFirst (sym s.1) tt

@@ -7,7 +7,7 @@ use Rattle.std.proofs.lemmas.List.{append_assoc, ext_get_or, get_or_append_left,
 use Rattle.bx_changes.specs.Changes.{Changes}
 use Rattle.bx_base.specs.declared.names.Mode.TheVariants.{Exclusive}
 use Rattle.bx_blink.specs.Walks.{reads_with}
-use Rattle.bx_changes.specs.Growing.{IsChangeBy, NeedsBy}
+use Rattle.bx_changes.specs.Growing.{IfFull, IsChangeBy, NeedsBy}
 use Rattle.bx_changes.specs.declared.error.ChangeError.{ChangeError}
 use Rattle.bx_changes.specs.declared.error.ChangeError.TheVariants.{Stopped, Full}
 use Rattle.bx_changes.proofs.FileChanged.{changed_is_put}
@@ -56,7 +56,7 @@ use Rattle.bx_writes.proofs.Laid.{needs_wider}
 use Rattle.bx_writes.specs.Bytes.{IsOver}
 use Rattle.bx_writes.specs.Grown.{grown}
 use Rattle.bx_writes.specs.Laying.{GrowsTo}
-use Rattle.bx_writes.specs.Paths.{OnFileWritten, OnWriting}
+use Rattle.bx_writes.specs.Paths.{IsFullWriting, LacksSlots, OnFileWritten, OnWriting}
 use Rattle.bx_writes.specs.Steps.{IsRegularOf, PutsOn}
 use Rattle.bx_writes.specs.Telling.{TellsWith}
 use Rattle.bx_writes.specs.Written.{IsWritten}
@@ -366,8 +366,15 @@ module _ (volume : ℕ) (tree : Tree) (at : List ℕ) (call : Call) (offset : �
   stopped areas truth again handle OutOfMemory is f = tt
 
 pub on_writing : (held : Held) (hints : Hints) (volume areas : ℕ) (at : List ℕ) (offset : ℕ) (written : List ℕ) (handle : ℕ) (inode : Inode) → named volume at ≡ Some handle → LiveAt (reads_with held hints []) areas handle Exclusive inode
-    → (result : Result (List Changed × Reply) ChangeError) → IfErr result (NeedsBy areas held (OnFileWritten areas held hints inode offset written)) → IfErr result (NeedsBy areas held (OnWriting held hints volume areas at offset written))
+    → (result : Result (List Changed × Reply) ChangeError) → IfErr result (NeedsBy areas held (OnFileWritten areas held hints handle inode offset written)) → IfErr result (NeedsBy areas held (OnWriting held hints volume areas at offset written))
 on_writing held hints volume areas at offset written handle inode is live (Ok made) n = tt
 on_writing held hints volume areas at offset written handle inode is live (Err error) n =
-    needs_wider areas held (OnFileWritten areas held hints inode offset written) (OnWriting held hints volume areas at offset written)
+    needs_wider areas held (OnFileWritten areas held hints handle inode offset written) (OnWriting held hints volume areas at offset written)
     (λ block mode on. inr (record { handle = handle; inode = inode; is_named = is; live = live; on = on })) error n
+
+-- and where it is full
+pub full_writing : (held : Held) (hints : Hints) (volume areas : ℕ) (at : List ℕ) (offset : ℕ) (written : List ℕ) (handle : ℕ) (inode : Inode) → named volume at ≡ Some handle → LiveAt (reads_with held hints []) areas handle Exclusive inode
+    → (result : Result (List Changed × Reply) ChangeError) → IfErr result (IfFull (LacksSlots areas held hints handle inode offset written)) → IfErr result (IfFull (IsFullWriting held hints volume areas at offset written))
+full_writing held hints volume areas at offset written handle inode is live (Ok made) f = tt
+full_writing held hints volume areas at offset written handle inode is live (Err (Stopped stop)) f = tt
+full_writing held hints volume areas at offset written handle inode is live (Err (Full spare)) f = record { handle = handle; inode = inode; is_named = is; live = live; lacks = f }

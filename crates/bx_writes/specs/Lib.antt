@@ -7,3 +7,4 @@ pub mod Steps
 pub mod Stopping
 pub mod Telling
 pub mod Written
+pub mod Laid

@@ -2,7 +2,8 @@
 
 ghost use Rattle.std.specs.Prelude.{◌≡◌, ◌+◌, ◌*◌, ◌≤◌, ◌<◌, ◌^◌, ℕ, List, IfOk, IfErr, IsSome, length};
 ghost use Rattle.bx_base.specs.declared.names.Mode.TheVariants.{Exclusive};
-ghost use Rattle.bx_changes.specs.Growing.{HoldsFirst, NeedsBy};
+ghost use Rattle.bx_changes.specs.Growing.{HoldsFirst, IfFull, NeedsBy};
+ghost use Rattle.bx_handles.specs.Handles.{parts_of};
 ghost use Rattle.bx_layout.specs.Inodes.{IsInode};
 ghost use Rattle.bx_layout.specs.declared.inode.Inode.{Inode as Kept};
 ghost use Rattle.bx_model.specs.declared.tree.Tree.{Tree};
@@ -12,6 +13,7 @@ ghost use Rattle.bx_views.specs.Attempts.{IsHeldDraft};
 ghost use Rattle.bx_views.specs.Truths.{Truth};
 ghost use Rattle.bx_adding.specs.Lacking.{IfFirst};
 ghost use Rattle.bx_writes.specs.Lacking.{FindEntries, MakesEntries};
+ghost use Rattle.bx_writes.specs.Laid.{IsLaid, LacksSlot};
 ghost use Rattle.bx_writes.specs.Laying.{GrowsTo, InodeAlone, LaysIn, pieces_of};
 ghost use Rattle.bx_writes.specs.Paths.{OnWrittenPieces};
 ghost use Rattle.bx_writes.specs.Steps.{IsRegularOf};
@@ -30,7 +32,7 @@ use std::alloc::Global;
 /// A draft with the inode of a regular file with a handle, and with bytes written from a place in the piece with an index on, at most three pieces. All
 /// pieces are read before one is changed.
 ///
-/// `Inner` makes room for an entry of a piece that isn't there, exactly where it is lacking, and `Full` comes where too few blocks are free. `Need` names a block of the volume that
+/// `Inner` makes room for an entry of a piece that isn't there, exactly where it is lacking, and `Full` comes only of such a piece, where no slot is left near the file. `Need` names a block of the volume that
 /// isn't held, and is on the path of such a piece. The status is `STALE` where what is held is no file: of one it never comes.
 pub(crate) fn lay<V: View>(
     alloc: Global,
@@ -53,7 +55,9 @@ pub(crate) fn lay<V: View>(
         → IfErr result (IfFirst (MakesEntries areas (V.held view.now) (V.hints view.now) truth inode.now.tree place.0 (place.0 + pieces_of place.1 written.now))) }
     ensures finds { (volume : ℕ) (truth : Truth) (tree : Tree) (old : Kept) → IsRegularOf volume areas (V.held view.now) (V.hints view.now) truth tree handle old → old.tree ≡ inode.now.tree
         → IfOk result (λ made. 0 < length written.now → FindEntries areas truth inode.now.tree place.0 (place.0 + pieces_of place.1 written.now)) }
-    ensures need { IfErr result (NeedsBy areas (V.held view.now) (OnWrittenPieces areas (V.held view.now) (V.hints view.now) inode.now.tree place.0 (place.0 + pieces_of place.1 written.now))) }
+    ensures need { IfErr result (NeedsBy areas (V.held view.now) (OnWrittenPieces areas (V.held view.now) (V.hints view.now) handle inode.now.tree place.0 (place.0 + pieces_of place.1 written.now))) }
+    ensures full { IfErr result (IfFull (LacksSlot (V.held view.now) (V.hints view.now) (parts_of handle).area areas handle inode.now.tree place.0 (place.0 + pieces_of place.1 written.now))) }
+    ensures laid { IfOk result (IsLaid (V.held view.now) (V.hints view.now) (parts_of handle).area areas handle inode.now.tree) }
     ensures first { IfErr result (HoldsFirst (V.held view.now)) }
     ensures held { IsSome (V.held view.now (place_of handle) Exclusive) → IfOk result (IsHeldDraft (V.held view.now)) }
     ensures few { IfOk result (λ new. length new ≤ 1 + 4 * pieces_of place.1 written.now) }

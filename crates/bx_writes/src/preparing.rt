@@ -1,7 +1,9 @@
 //! A piece that is to be written: what is read before anything is changed.
 
-ghost use Rattle.std.specs.Prelude.{◌≡◌, ◌+◌, ◌≤◌, ◌<◌, ℕ, IfOk, IfErr, IsSome, None, length};
-ghost use Rattle.bx_changes.specs.Growing.{HoldsFirst, NeedsBy};
+ghost use Rattle.std.specs.Prelude.{◌≡◌, ◌+◌, ◌≤◌, ◌<◌, ℕ, [], IfOk, IfErr, IsSome, None, length};
+ghost use Rattle.bx_changes.specs.Growing.{HoldsFirst, IfFull, NeedsBy};
+ghost use Rattle.bx_chunks.specs.Taking.{NoSlots};
+ghost use Rattle.bx_files.specs.Paths.{Finds};
 ghost use Rattle.bx_layout.specs.declared.inode.Inode.{Inode as Kept};
 ghost use Rattle.bx_model.specs.declared.tree.Tree.{Tree};
 ghost use Rattle.bx_truth.specs.Keys.{content_key as key_of_content};
@@ -10,7 +12,8 @@ ghost use Rattle.bx_adding.specs.Lacking.{IfFirst};
 ghost use Rattle.bx_ready.specs.Lacking.{FindsRoom, MakesRoom};
 ghost use Rattle.bx_ready.specs.Ready.{OnReadyPath};
 ghost use Rattle.bx_writes.specs.Lacking.{FindsEntry, MakesEntry};
-ghost use Rattle.bx_writes.specs.Paths.{OnWrittenPiece};
+ghost use Rattle.bx_writes.specs.Laid.{FoundBy};
+ghost use Rattle.bx_writes.specs.Paths.{OnPrepared};
 ghost use Rattle.bx_writes.specs.Steps.{FoundAt, HoldsPrepared, IsRegularOf, MissesIn, PreparesIn};
 
 use crate::payloads::overwritten;
@@ -28,7 +31,7 @@ use std::alloc::Global;
 /// the number of its block's handle, if it has one, and its payload.
 ///
 /// `Inner` are the blocks that make room for the entry of a piece that isn't there yet, and are to be written first, exactly where room is lacking; `Full`
-/// comes where the volume has too few free blocks for them. `Need` names a block of the volume that isn't held: one on the search for the piece, shared; its block, exclusively;
+/// comes only where the piece isn't there, room is lacking and no slot is left for a page. `Need` names a block of the volume that isn't held: one on the search for the piece, shared; its block, exclusively;
 /// or one that is asked for to make room. The status is `STALE` where what is held is no file: of one it never comes.
 pub(crate) fn prepare<V: View>(
     alloc: Global,
@@ -45,7 +48,9 @@ pub(crate) fn prepare<V: View>(
         → IfErr result (IfFirst (MakesEntry near.1 (V.held view.now) (V.hints view.now) truth root place.0)) }
     ensures finds { (volume : ℕ) (truth : Truth) (tree : Tree) (handle : ℕ) (inode : Kept) → IsRegularOf volume near.1 (V.held view.now) (V.hints view.now) truth tree handle inode → inode.tree ≡ root
         → IfOk result (λ made. FindsEntry near.1 truth root place.0) }
-    ensures need { IfErr result (NeedsBy near.1 (V.held view.now) (OnWrittenPiece near.1 (V.held view.now) (V.hints view.now) root place.0)) }
+    ensures need { IfErr result (NeedsBy near.1 (V.held view.now) (OnPrepared near.0 near.1 (V.held view.now) (V.hints view.now) root place.0)) }
+    ensures known { IfOk result (λ made. FoundBy (V.held view.now) (V.hints view.now) root place.0 made.0) }
+    ensures full { IfErr result (IfFull (λ spare. Finds (V.held view.now) (V.hints view.now) root (key_of_content place.0) None × NoSlots (V.held view.now) near.0 near.1 [] spare)) }
     ensures first { IfErr result (HoldsFirst (V.held view.now)) }
     ensures held { IfOk result (λ made. HoldsPrepared (V.held view.now) made.0) }
     ensures long { IfOk result (λ made. length made.1 ≡ 4096) }
@@ -95,7 +100,8 @@ fn missing<V: View>(
         → IfErr result (IfFirst (MakesRoom near.1 (V.held view.now) (V.hints view.now) truth root (key_of_content place.0))) }
     ensures finds { (volume : ℕ) (truth : Truth) (tree : Tree) (handle : ℕ) (inode : Kept) → IsRegularOf volume near.1 (V.held view.now) (V.hints view.now) truth tree handle inode → inode.tree ≡ root
         → IfOk result (λ made. FindsRoom near.1 truth root (key_of_content place.0)) }
-    ensures need { IfErr result (NeedsBy near.1 (V.held view.now) (OnReadyPath near.1 (V.held view.now) (V.hints view.now) root (key_of_content place.0))) }
+    ensures need { IfErr result (NeedsBy near.1 (V.held view.now) (OnReadyPath near.0 near.1 (V.held view.now) (V.hints view.now) root (key_of_content place.0))) }
+    ensures full { IfErr result (IfFull (NoSlots (V.held view.now) near.0 near.1 [])) }
     ensures first { IfErr result (HoldsFirst (V.held view.now)) }
     ensures none { IfOk result (λ made. made.0 ≡ None) }
     ensures long { IfOk result (λ made. length made.1 ≡ 4096) }

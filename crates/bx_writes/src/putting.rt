@@ -1,15 +1,17 @@
 //! A piece that is written, over a draft that has all pieces behind it.
 
-ghost use Rattle.std.specs.Prelude.{◌≡◌, ◌+◌, ◌*◌, ◌≤◌, ◌<◌, ◌++◌, ◌^◌, ℕ, List, IfOk, IfErr, None, true, length};
-ghost use Rattle.bx_changes.specs.Growing.{NeedsBy};
+ghost use Rattle.std.specs.Prelude.{◌≡◌, ◌+◌, ◌*◌, ◌≤◌, ◌<◌, ◌++◌, ◌^◌, ℕ, List, IfOk, IfErr, None, length};
+ghost use Rattle.bx_changes.specs.Growing.{IfFull, NeedsBy};
+ghost use Rattle.bx_files.specs.Paths.{Finds};
 ghost use Rattle.bx_layout.specs.declared.inode.Inode.{Inode as Kept};
 ghost use Rattle.bx_model.specs.declared.tree.Tree.{Tree};
-ghost use Rattle.bx_places.specs.Places.{is_block as is_block_of};
 ghost use Rattle.bx_tree_files.specs.declared.file.File.{File};
+ghost use Rattle.bx_truth.specs.Keys.{content_key as content_key_of};
 ghost use Rattle.bx_truth.specs.PageTrees.{PageTree};
 ghost use Rattle.bx_views.specs.Attempts.{IsHeldDraft};
 ghost use Rattle.bx_views.specs.Truths.{Truth};
 ghost use Rattle.bx_adding.specs.Stopping.{NeverFirst};
+ghost use Rattle.bx_writes.specs.Laid.{FoundBy, IsLaid, NoneLeft, OnAnew};
 ghost use Rattle.bx_writes.specs.Steps.{HoldsPrepared, MayPut, PutsBlock, PutsOn};
 
 use crate::stops::{of_chunks, of_tree};
@@ -31,7 +33,8 @@ const DATA: u32 = 3;
 /// Puts a piece that is prepared, with an index, into a draft that has all pieces behind it, by the root of its file's tree, near an area and of so
 /// many. A piece that isn't there takes a block, and an entry in the tree. The draft gets four blocks more at most.
 ///
-/// `Need` names a block of the volume that isn't held. `Full` comes where no block is free. The status is `STALE` where what is held is no file: of one
+/// `Need` names a block of the volume that isn't held: what the next slot near the area needs, or what is on the path of the entry. `Full` comes only of a
+/// piece that isn't there, where no slot is left. The status is `STALE` where what is held is no file: of one
 /// it never comes.
 pub(crate) fn put_piece<V: View>(
     alloc: Global,
@@ -47,7 +50,9 @@ pub(crate) fn put_piece<V: View>(
     ensures step { (truth : Truth) (tree : Tree) (handle : ℕ) (file : File) (pages : PageTree) (inode : Kept) (base : List ℕ) (place : ℕ) (part rest : List ℕ) (taken : ℕ)
         → MayPut near.1 (V.held view.now) (V.hints view.now) truth tree handle file pages inode base index place part rest taken draft prepared.0 prepared.1 → inode.tree ≡ root
         → PutsOn near.1 (V.held view.now) truth tree handle file pages inode base (4096 * index + place) (part ++ rest) index (taken + 1) result }
-    ensures need { IfErr result (NeedsBy near.1 (V.held view.now) (λ at mode. is_block_of near.1 at ≡ true)) }
+    ensures need { (handle : ℕ) → IsLaid (V.held view.now) (V.hints view.now) near.0 near.1 handle root draft → IfErr result (NeedsBy near.1 (V.held view.now) (OnAnew (V.held view.now) (V.hints view.now) near.0 near.1 handle root index)) }
+    ensures full { (handle : ℕ) → FoundBy (V.held view.now) (V.hints view.now) root index prepared.0 → IsLaid (V.held view.now) (V.hints view.now) near.0 near.1 handle root draft → IfErr result (IfFull (λ spare. Finds (V.held view.now) (V.hints view.now) root (content_key_of index) None × NoneLeft (V.held view.now) (V.hints view.now) near.0 near.1 handle root spare)) }
+    ensures laid { (handle : ℕ) → FoundBy (V.held view.now) (V.hints view.now) root index prepared.0 → IsLaid (V.held view.now) (V.hints view.now) near.0 near.1 handle root draft → IfOk result (IsLaid (V.held view.now) (V.hints view.now) near.0 near.1 handle root) }
     ensures inner { IfErr result NeverFirst }
     ensures held { IsHeldDraft (V.held view.now) draft → HoldsPrepared (V.held view.now) prepared.0 → IfOk result (IsHeldDraft (V.held view.now)) }
     ensures few { IfOk result (λ new. length new ≤ length draft + 4) }
@@ -76,7 +81,9 @@ fn put_anew<V: View>(
     ensures step { (truth : Truth) (tree : Tree) (handle : ℕ) (file : File) (pages : PageTree) (inode : Kept) (base : List ℕ) (place : ℕ) (part rest : List ℕ) (taken : ℕ)
         → MayPut near.1 (V.held view.now) (V.hints view.now) truth tree handle file pages inode base index place part rest taken draft None payload → inode.tree ≡ root
         → PutsOn near.1 (V.held view.now) truth tree handle file pages inode base (4096 * index + place) (part ++ rest) index (taken + 1) result }
-    ensures need { IfErr result (NeedsBy near.1 (V.held view.now) (λ at mode. is_block_of near.1 at ≡ true)) }
+    ensures need { (handle : ℕ) → IsLaid (V.held view.now) (V.hints view.now) near.0 near.1 handle root draft → IfErr result (NeedsBy near.1 (V.held view.now) (OnAnew (V.held view.now) (V.hints view.now) near.0 near.1 handle root index)) }
+    ensures full { (handle : ℕ) → IsLaid (V.held view.now) (V.hints view.now) near.0 near.1 handle root draft → IfErr result (IfFull (λ spare. NoneLeft (V.held view.now) (V.hints view.now) near.0 near.1 handle root spare)) }
+    ensures laid { (handle : ℕ) → IsLaid (V.held view.now) (V.hints view.now) near.0 near.1 handle root draft → IfOk result (IsLaid (V.held view.now) (V.hints view.now) near.0 near.1 handle root) }
     ensures inner { IfErr result NeverFirst }
     ensures held { IsHeldDraft (V.held view.now) draft → IfOk result (IsHeldDraft (V.held view.now)) }
     ensures few { IfOk result (λ new. length new ≤ length draft + 4) }

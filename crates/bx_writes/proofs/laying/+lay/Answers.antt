@@ -3,7 +3,10 @@ use Rattle.std.specs.Prelude.{min}
 use Rattle.std.proofs.lemmas.List.{take-append-drop}
 use Rattle.bx_adding.proofs.Lacks.{so_ok}
 use Rattle.bx_writes.proofs.First.{alone_first, find_all, find_behind, one_makes, put_first, rest_makes}
-use Rattle.bx_writes.proofs.Laid.{alone_laid, from_next, none_of, one_piece, prepare_stops, put_needs, reaches, rest_stops, some_of}
+use Rattle.bx_handles.specs.Handles.{parts_of}
+use Rattle.bx_writes.specs.Laid.{LacksSlot}
+use Rattle.bx_writes.proofs.Entries.{alone_full, alone_is, first_full, put_full, rest_full}
+use Rattle.bx_writes.proofs.Laid.{alone_laid, first_needs, from_next, none_of, one_piece, prepare_stops, put_needs, reaches, rest_needs, rest_stops, some_of}
 use Rattle.bx_writes.proofs.Missing.{own_tree}
 use Rattle.bx_writes.specs.Lacking.{FindEntries, MakesEntries}
 use Rattle.bx_writes.specs.Laying.{pieces_of}
@@ -75,10 +78,63 @@ returns-in-Ok-lay-clause-step g n c = λ volume truth tree old file base r grows
     subst (λ (k : ℕ). PutsOn c.args.areas held truth tree c.args.handle file pages inode base from written c.args.place.0 k c.put_piece.result) count
     (subst (λ (l : List ℕ). PutsOn c.args.areas held truth tree c.args.handle file pages inode base from l c.args.place.0 (pieces_of 0 rest + 1) c.put_piece.result) both done)
 
+pub returns-in-Err-clause-need : goal.returns-in-Err-clause-need
+returns-in-Err-clause-need g n c =
+    let some = some_of (length c.args.written.now) c.if-is_empty.ensures in
+    first_needs c.args.areas (g.V.View.held c.args.view.now) (g.V.View.hints c.args.view.now) c.args.handle c.args.inode.now.tree c.args.place.0 (pieces_of c.args.place.1 c.args.written.now) (omega (arith, some)) c.in-Err.error (rw c.of.ensures at c.in-Err.ensures.need)
+
+pub returns-in-Err-clause-full : goal.returns-in-Err-clause-full
+returns-in-Err-clause-full g n c =
+    let some = some_of (length c.args.written.now) c.if-is_empty.ensures in
+    first_full (g.V.View.held c.args.view.now) (g.V.View.hints c.args.view.now) (parts_of c.args.handle).area c.args.areas c.args.handle c.args.inode.now.tree c.args.place.0 (pieces_of c.args.place.1 c.args.written.now) (omega (arith, some)) c.in-Err.error (rw c.of.ensures at c.in-Err.ensures.full)
+
+pub returns-in-Err-lay-clause-need : goal.returns-in-Err-lay-clause-need
+returns-in-Err-lay-clause-need g n c =
+    let rest = c.split_at.result.1.now in
+    let written = c.args.written.now in
+    let some = some_of (length written) c.if-is_empty.ensures in
+    let front = c.split_at.ensures.front_len in
+    let back = c.split_at.ensures.back_len in
+    let mid = c.min.ensures in
+    let low = c.requires.place in
+    let part_is : length c.split_at.result.0.now ≡ min (length written) (4096 - c.args.place.1) = front ∙ mid in
+    let rest_is : length rest ≡ length written - length c.split_at.result.0.now = omega (arith, back, front) in
+    let count : pieces_of 0 rest + 1 ≡ pieces_of c.args.place.1 written = one_piece c.args.place.1 (length written) (length c.split_at.result.0.now) (length rest) low some part_is rest_is in
+    rest_needs c.args.areas (g.V.View.held c.args.view.now) (g.V.View.hints c.args.view.now) c.args.handle c.args.inode.now.tree c.args.place.0 (pieces_of c.args.place.1 c.args.written.now) (omega (arith, some)) (pieces_of 0 rest) count c.in-Err-lay.error c.in-Err-lay.ensures.need
+
+pub returns-in-Err-lay-clause-full : goal.returns-in-Err-lay-clause-full
+returns-in-Err-lay-clause-full g n c =
+    let rest = c.split_at.result.1.now in
+    let written = c.args.written.now in
+    let some = some_of (length written) c.if-is_empty.ensures in
+    let front = c.split_at.ensures.front_len in
+    let back = c.split_at.ensures.back_len in
+    let mid = c.min.ensures in
+    let low = c.requires.place in
+    let part_is : length c.split_at.result.0.now ≡ min (length written) (4096 - c.args.place.1) = front ∙ mid in
+    let rest_is : length rest ≡ length written - length c.split_at.result.0.now = omega (arith, back, front) in
+    let count : pieces_of 0 rest + 1 ≡ pieces_of c.args.place.1 written = one_piece c.args.place.1 (length written) (length c.split_at.result.0.now) (length rest) low some part_is rest_is in
+    rest_full (g.V.View.held c.args.view.now) (g.V.View.hints c.args.view.now) (parts_of c.args.handle).area c.args.areas c.args.handle c.args.inode.now.tree c.args.place.0 (pieces_of c.args.place.1 c.args.written.now) (omega (arith, some)) (pieces_of 0 rest) count c.in-Err-lay.error c.in-Err-lay.ensures.full
+
 pub returns-in-Ok-lay-clause-need : goal.returns-in-Ok-lay-clause-need
 returns-in-Ok-lay-clause-need g n c =
     let some = some_of (length c.args.written.now) c.if-is_empty.ensures in
-    put_needs c.args.areas (g.V.View.held c.args.view.now) (g.V.View.hints c.args.view.now) c.args.inode.now.tree c.args.place.0 (pieces_of c.args.place.1 c.args.written.now) (omega (arith, some)) c.put_piece.result c.put_piece.ensures.need
+    put_needs c.args.areas (g.V.View.held c.args.view.now) (g.V.View.hints c.args.view.now) c.args.handle c.args.inode.now.tree c.args.place.0 (pieces_of c.args.place.1 c.args.written.now) (omega (arith, some)) c.put_piece.result ((rw c.of.ensures at c.put_piece.ensures.need) c.args.handle c.in-Ok-lay.ensures.laid)
+
+pub returns-in-Ok-lay-clause-full : goal.returns-in-Ok-lay-clause-full
+returns-in-Ok-lay-clause-full g n c =
+    let some = some_of (length c.args.written.now) c.if-is_empty.ensures in
+    put_full (g.V.View.held c.args.view.now) (g.V.View.hints c.args.view.now) (parts_of c.args.handle).area c.args.areas c.args.handle c.args.inode.now.tree c.args.place.0 (pieces_of c.args.place.1 c.args.written.now) (omega (arith, some)) c.put_piece.result ((rw c.of.ensures at c.put_piece.ensures.full) c.args.handle c.in-Ok.ensures.known c.in-Ok-lay.ensures.laid)
+
+pub returns-in-Ok-lay-clause-laid : goal.returns-in-Ok-lay-clause-laid
+returns-in-Ok-lay-clause-laid g n c = (rw c.of.ensures at c.put_piece.ensures.laid) c.args.handle c.in-Ok.ensures.known c.in-Ok-lay.ensures.laid
+
+pub returns-then-is_empty-clause-full : goal.returns-then-is_empty-clause-full
+returns-then-is_empty-clause-full g n c =
+    alone_full (LacksSlot (g.V.View.held c.args.view.now) (g.V.View.hints c.args.view.now) (parts_of c.args.handle).area c.args.areas c.args.handle c.args.inode.now.tree c.args.place.0 (c.args.place.0 + (pieces_of c.args.place.1 c.args.written.now))) c.args.handle c.args.inode.now c.inode_alone.result c.inode_alone.ensures
+
+pub returns-then-is_empty-clause-laid : goal.returns-then-is_empty-clause-laid
+returns-then-is_empty-clause-laid g n c = alone_is (g.V.View.held c.args.view.now) (g.V.View.hints c.args.view.now) (parts_of c.args.handle).area c.args.areas c.args.handle c.args.inode.now c.inode_alone.result c.inode_alone.ensures
 
 pub returns-then-is_empty-clause-lacks : goal.returns-then-is_empty-clause-lacks
 returns-then-is_empty-clause-lacks g n c = λ volume truth tree old r root_is.

@@ -10,7 +10,10 @@ use Rattle.bx_truth.specs.Chunks.{block_at}
 use Rattle.bx_truth.specs.Keys.{content_key, content_value}
 use Rattle.bx_views.specs.Attempts.{IsHeldDraft}
 use Rattle.bx_writes.proofs.Anew.{made_anew}
-use Rattle.bx_writes.proofs.PutStops.{chunks_stop, needs_block, never_first, tree_stops}
+use Rattle.bx_chunks.specs.Allocating.{AllocatesAt}
+use Rattle.bx_writes.specs.Laid.{NoneLeft, anew}
+use Rattle.bx_writes.proofs.Entries.{entry_full, entry_needs, slot_full, slot_needs}
+use Rattle.bx_writes.proofs.PutStops.{chunks_stop, never_first, tree_stops}
 use Rattle.bx_writes.specs.Bytes.{IsPayload}
 use Rattle.bx_writes.proofs.putting.put_anew.Goals as goal
 
@@ -43,9 +46,31 @@ returns-in-Err-insert-clause-step g c = λ truth tree handle file pages inode ba
     (subst (λ (k : List ℕ). NeedsUnheld {X = Unit {0}} held (OnLeafPath (reads_with held hints c.in-Ok-with_piece.new) c.args.root k) (Err c.in-Err-insert.error)) c.content_key.ensures c.in-Err-insert.ensures.fair))
     c.of_tree.ensures
 
+pub returns-in-Err-clause-need : goal.returns-in-Err-clause-need
+returns-in-Err-clause-need g c = λ handle laid.
+    slot_needs (g.V.View.held c.args.view.now) (g.V.View.hints c.args.view.now) c.args.near.0 c.args.near.1 handle c.args.root c.args.index c.args.draft laid c.in-Err.error c.of_chunks.result c.in-Err.ensures.fair
+    (subst (λ (d : List Changed). AllocatesAt (g.V.View.held c.args.view.now) c.args.draft d c.args.near.0 c.args.near.1 (Err c.in-Err.error)) c.in-Err.ensures.err c.in-Err.ensures.at) c.of_chunks.ensures
+
+pub returns-in-Err-clause-full : goal.returns-in-Err-clause-full
+returns-in-Err-clause-full g c = λ handle laid.
+    slot_full (g.V.View.held c.args.view.now) (g.V.View.hints c.args.view.now) c.args.near.0 c.args.near.1 handle c.args.root c.args.index c.args.draft laid c.in-Err.error c.of_chunks.result
+    (subst (λ (d : List Changed). AllocatesAt (g.V.View.held c.args.view.now) c.args.draft d c.args.near.0 c.args.near.1 (Err c.in-Err.error)) c.in-Err.ensures.err c.in-Err.ensures.at) c.of_chunks.ensures
+
 pub returns-in-Err-insert-clause-need : goal.returns-in-Err-insert-clause-need
-returns-in-Err-insert-clause-need g c =
-    needs_block c.args.near.1 (g.V.View.held c.args.view.now) _ c.in-Err-insert.error c.of_tree.result c.in-Err-insert.ensures.fair c.of_tree.ensures
+returns-in-Err-insert-clause-need g c = λ handle laid.
+    entry_needs (g.V.View.held c.args.view.now) (g.V.View.hints c.args.view.now) c.args.near.0 c.args.near.1 handle c.args.root c.args.index c.args.draft laid c.in-Ok-with_piece.new c.in-Ok.names c.content_key.result c.content_key.ensures
+    (record { one = c.allocate.new.draft; takes = c.in-Ok.ensures.at; payload = c.args.payload; puts = c.in-Ok-with_piece.ensures }) c.in-Err-insert.error c.of_tree.result c.in-Err-insert.ensures.fair c.of_tree.ensures
+
+pub returns-in-Err-insert-clause-full : goal.returns-in-Err-insert-clause-full
+returns-in-Err-insert-clause-full g c = λ handle laid.
+    entry_full (g.V.View.held c.args.view.now) (g.V.View.hints c.args.view.now) c.args.near.1 c.in-Ok-with_piece.new c.insert.new.draft c.args.root c.content_key.result c.to_be_bytes.result (NoneLeft (g.V.View.held c.args.view.now) (g.V.View.hints c.args.view.now) c.args.near.0 c.args.near.1 handle c.args.root) c.in-Err-insert.error c.of_tree.result
+    c.in-Err-insert.ensures.ends c.of_tree.ensures
+
+pub returns-in-Ok-insert-clause-laid : goal.returns-in-Ok-insert-clause-laid
+returns-in-Ok-insert-clause-laid g c = λ handle laid.
+    anew c.args.draft c.in-Ok-with_piece.new c.insert.new.draft c.args.index c.in-Ok.names laid
+    (record { one = c.allocate.new.draft; takes = c.in-Ok.ensures.at; payload = c.args.payload; puts = c.in-Ok-with_piece.ensures })
+    (rw (c.content_key.ensures, c.to_be_bytes.ensures) at c.in-Ok-insert.ensures.ends)
 
 pub returns-in-Err-insert-clause-inner : goal.returns-in-Err-insert-clause-inner
 returns-in-Err-insert-clause-inner g c = never_first c.args.near.1 c.in-Err-insert.error c.of_tree.result c.of_tree.ensures

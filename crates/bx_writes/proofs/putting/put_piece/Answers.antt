@@ -4,6 +4,9 @@ use Rattle.bx_ready.proofs.Lengths.{one_more}
 use Rattle.bx_records.specs.Drafts.{Changed}
 use Rattle.bx_truth.specs.Chunks.{block_at}
 use Rattle.bx_views.specs.Attempts.{IsHeldDraft}
+use Rattle.bx_adding.proofs.Lacks.{full_if}
+use Rattle.bx_writes.specs.Laid.{FoundBy}
+use Rattle.bx_writes.proofs.Entries.{over_laid}
 use Rattle.bx_writes.proofs.InPlace.{in_place}
 use Rattle.bx_writes.specs.Bytes.{IsPayload}
 use Rattle.bx_writes.specs.Steps.{HoldsPrepared, IsPrepared, MayPut}
@@ -38,3 +41,17 @@ returns-in-None-default-clause-step g c = λ truth tree handle file pages inode 
     c.put_anew.ensures.step truth tree handle file pages inode base place part rest taken
     (subst (λ (o : Option ℕ). MayPut c.args.near.1 (g.V.View.held c.args.view.now) (g.V.View.hints c.args.view.now) truth tree handle file pages inode base c.args.index place part rest taken c.args.draft o c.args.prepared.1) c.in-None-default.is-0 m)
     root_is
+
+pub returns-in-Ok-clause-laid : goal.returns-in-Ok-clause-laid
+returns-in-Ok-clause-laid g c = λ handle found laid.
+    over_laid (g.V.View.held c.args.view.now) (g.V.View.hints c.args.view.now) c.args.near.0 c.args.near.1 handle c.args.root c.args.index c.args.draft laid c.in-Ok.new c.in-Some-default.names _ c.args.prepared.0 c.in-Some-default.is-0 found c.in-Ok.ensures
+
+pub returns-in-None-default-clause-need : goal.returns-in-None-default-clause-need
+returns-in-None-default-clause-need g c = λ handle laid. c.put_anew.ensures.need handle laid
+
+pub returns-in-None-default-clause-full : goal.returns-in-None-default-clause-full
+returns-in-None-default-clause-full g c = λ handle found laid.
+    full_if (λ spare none. (subst (λ (o : Option ℕ). FoundBy (g.V.View.held c.args.view.now) (g.V.View.hints c.args.view.now) c.args.root c.args.index o) c.in-None-default.is-0 found, none)) c.put_anew.result (c.put_anew.ensures.full handle laid)
+
+pub returns-in-None-default-clause-laid : goal.returns-in-None-default-clause-laid
+returns-in-None-default-clause-laid g c = λ handle found laid. c.put_anew.ensures.laid handle laid

@@ -10,7 +10,7 @@ use Rattle.bx_model.specs.Writing.{write}
 use Rattle.bx_sizes.proofs.First.{no_inode_stops}
 use Rattle.bx_writes.proofs.First.{named_first, named_ready}
 use Rattle.bx_writes.specs.Lacking.{PreparesWriting, PreparesWritten}
-use Rattle.bx_writes.proofs.Wrote.{no_name, on_writing, stopped}
+use Rattle.bx_writes.proofs.Wrote.{full_writing, no_name, on_writing, stopped}
 use Rattle.bx_writes.proofs.writing.write.Goals as goal
 
 pub returns-in_default-clause-step : goal.returns-in_default-clause-step
@@ -61,3 +61,10 @@ returns-clause-ready g c = λ truth tree few same s fit.
     (c.in-Ok.ensures.tree truth tree same (over_none c.args.volume.1 truth tree c.new-none.result c.new-none.ensures s.is)) in
     named_ready c.args.volume.0 c.args.volume.1 truth c.args.at.now c.in-Some.handle c.args.offset c.args.written.now (sym c.in-Some.ensures) c.write_file.result
     (c.write_file.ensures.ready truth tree c.args.at.now few same s fit f (sym c.in-Some.ensures))
+
+pub returns-clause-full : goal.returns-clause-full
+returns-clause-full g c =
+    let held = g.V.View.held c.args.view.now in
+    let hints = g.V.View.hints c.args.view.now in
+    full_writing held hints c.args.volume.0 c.args.volume.1 c.args.at.now c.args.offset c.args.written.now c.in-Some.handle c.in-Ok.inode (sym c.in-Some.ensures)
+    (subst (λ (d : List Changed). LiveAt (reads_with held hints d) c.args.volume.1 c.in-Some.handle Exclusive c.in-Ok.inode) c.new-none.ensures c.in-Ok.ensures.at) c.write_file.result c.write_file.ensures.full

@@ -3,3 +3,4 @@ pub mod Changing
 pub mod Fairness
 pub mod Fine
 pub mod First
+pub mod Fullness

@@ -2,3 +2,4 @@ pub mod Calls
 pub mod Paths
 pub mod Replies
 pub mod First
+pub mod Full

@@ -8,6 +8,7 @@ ghost use Rattle.bx_nfs.specs.Wire.{ReadsAs};
 ghost use Rattle.bx_views.specs.Attempts.{Gives, IfChange, IfInner, IsFair};
 ghost use Rattle.bx_views.specs.Truths.{IsTruth, Truth};
 ghost use Rattle.bx_attempts.specs.First.{PreparesFirst, ReadyBy};
+ghost use Rattle.bx_attempts.specs.Full.{TellsFull};
 ghost use Rattle.bx_attempts.specs.Paths.{ChangePathOf};
 ghost use Rattle.bx_steps.specs.Steps.{StandsWith, Step};
 
@@ -44,6 +45,7 @@ pub(crate) fn mkdir<V: View>(
     ensures ready { (truth : Truth) (tree : Tree) → IsTruth (V.held view.now) truth → StandsWith volume areas truth (V.hints view.now) tree
         → IfOk result (IfChange (ReadyBy volume areas truth tree call.now.procedure call.now.args)) }
     ensures fair { IfOk result (IsFair areas (V.held view.now) (ChangePathOf (V.held view.now) (V.hints view.now) volume areas call.now.procedure call.now.args)) }
+    ensures full { IfOk result (TellsFull (V.held view.now) (V.hints view.now) volume areas call.now.args) }
 {
     let now = time_of(moment);
     match bx_create::mkdir(alloc, volume, areas, call, at, name, sattr, now, view) {
@@ -77,6 +79,7 @@ pub(crate) fn create<V: View>(
     ensures ready { (truth : Truth) (tree : Tree) → IsTruth (V.held view.now) truth → StandsWith volume areas truth (V.hints view.now) tree
         → IfOk result (IfChange (ReadyBy volume areas truth tree call.now.procedure call.now.args)) }
     ensures fair { IfOk result (IsFair areas (V.held view.now) (ChangePathOf (V.held view.now) (V.hints view.now) volume areas call.now.procedure call.now.args)) }
+    ensures full { IfOk result (TellsFull (V.held view.now) (V.hints view.now) volume areas call.now.args) }
 {
     let now = time_of(moment);
     match bx_create::create(alloc, volume, areas, call, at, name, sattr, now, view) {
@@ -112,6 +115,7 @@ pub(crate) fn symlink<V: View>(
     ensures ready { (truth : Truth) (tree : Tree) → IsTruth (V.held view.now) truth → StandsWith volume areas truth (V.hints view.now) tree
         → IfOk result (IfChange (ReadyBy volume areas truth tree call.now.procedure call.now.args)) }
     ensures fair { IfOk result (IsFair areas (V.held view.now) (ChangePathOf (V.held view.now) (V.hints view.now) volume areas call.now.procedure call.now.args)) }
+    ensures full { IfOk result (TellsFull (V.held view.now) (V.hints view.now) volume areas call.now.args) }
 {
     let now = time_of(moment);
     match bx_create::symlink(alloc, volume, areas, call, at, name, path, sattr, now, view) {

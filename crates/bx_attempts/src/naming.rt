@@ -8,6 +8,7 @@ ghost use Rattle.bx_nfs.specs.Wire.{ReadsAs};
 ghost use Rattle.bx_views.specs.Attempts.{Gives, IfChange, IfInner, IsFair};
 ghost use Rattle.bx_views.specs.Truths.{IsTruth, Truth};
 ghost use Rattle.bx_attempts.specs.First.{PreparesFirst, ReadyBy};
+ghost use Rattle.bx_attempts.specs.Full.{TellsFull};
 ghost use Rattle.bx_attempts.specs.Paths.{ChangePathOf};
 ghost use Rattle.bx_steps.specs.Steps.{StandsWith, Step};
 
@@ -42,6 +43,7 @@ pub(crate) fn remove<V: View>(
     ensures ready { (truth : Truth) (tree : Tree) → IsTruth (V.held view.now) truth → StandsWith volume areas truth (V.hints view.now) tree
         → IfOk result (IfChange (ReadyBy volume areas truth tree call.now.procedure call.now.args)) }
     ensures fair { IfOk result (IsFair areas (V.held view.now) (ChangePathOf (V.held view.now) (V.hints view.now) volume areas call.now.procedure call.now.args)) }
+    ensures full { IfOk result (TellsFull (V.held view.now) (V.hints view.now) volume areas call.now.args) }
 {
     let now = time_of(moment);
     match bx_entries::remove(alloc, volume, areas, call, at, name, now, view) {
@@ -74,6 +76,7 @@ pub(crate) fn rmdir<V: View>(
     ensures ready { (truth : Truth) (tree : Tree) → IsTruth (V.held view.now) truth → StandsWith volume areas truth (V.hints view.now) tree
         → IfOk result (IfChange (ReadyBy volume areas truth tree call.now.procedure call.now.args)) }
     ensures fair { IfOk result (IsFair areas (V.held view.now) (ChangePathOf (V.held view.now) (V.hints view.now) volume areas call.now.procedure call.now.args)) }
+    ensures full { IfOk result (TellsFull (V.held view.now) (V.hints view.now) volume areas call.now.args) }
 {
     let now = time_of(moment);
     match bx_entries::rmdir(alloc, volume, areas, call, at, name, now, view) {
@@ -107,6 +110,7 @@ pub(crate) fn link<V: View>(
     ensures ready { (truth : Truth) (tree : Tree) → IsTruth (V.held view.now) truth → StandsWith volume areas truth (V.hints view.now) tree
         → IfOk result (IfChange (ReadyBy volume areas truth tree call.now.procedure call.now.args)) }
     ensures fair { IfOk result (IsFair areas (V.held view.now) (ChangePathOf (V.held view.now) (V.hints view.now) volume areas call.now.procedure call.now.args)) }
+    ensures full { IfOk result (TellsFull (V.held view.now) (V.hints view.now) volume areas call.now.args) }
 {
     let now = time_of(moment);
     match bx_renaming::link(alloc, volume, areas, call, from, at, name, now, view) {

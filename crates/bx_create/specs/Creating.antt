@@ -1,9 +1,9 @@
 -- The path of CREATE.
-use Rattle.std.specs.Prelude.{ℕ, ◌⊎◌, List}
+use Rattle.std.specs.Prelude.{◌≡◌, ℕ, ◌⊎◌, List}
 use Rattle.bx_base.specs.declared.names.Mode.{Mode}
 use Rattle.bx_base.specs.declared.names.Mode.TheVariants.{Exclusive}
 use Rattle.bx_creating.specs.Finding.{IsHeldAt}
-use Rattle.bx_creating.specs.Placing.{OnPlacing}
+use Rattle.bx_creating.specs.Placing.{IsMadeNear, OnPlacing}
 use Rattle.bx_files.specs.Paths.{OnSearch}
 use Rattle.bx_inodes.specs.Stops.{OnInode}
 use Rattle.bx_layout.specs.declared.inode.Inode.{Inode}
@@ -22,6 +22,10 @@ pub record OnDirectory (held : Held) (hints : Hints) (volume areas : ℕ) (bytes
   pub inode : Inode
   pub is : IsHeldAt held hints volume areas bytes handle inode
   pub on : OnNamed areas held hints handle inode name size at mode
+
+-- CREATE made no file, or its handle is that of the first slot that is taken near the directory that the call names
+abbrev pub IsNoneOrNear : ℕ → ℕ → Held → List ℕ → ℕ → Type 0
+IsNoneOrNear volume areas held bytes made = (made ≡ 0) ⊎ IsMadeNear volume areas held bytes made
 
 -- The path of CREATE, by its size: the block of the directory's inode, exclusively, and that from there on.
 abbrev pub OnCreate : Held → Hints → ℕ → ℕ → List ℕ → List ℕ → ℕ → ℕ → Mode → Type 0

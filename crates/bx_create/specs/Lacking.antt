@@ -1,7 +1,7 @@
 -- What CREATE has written first, and where nothing is wanted: room for the entry, or bytes of the file that has the name to be cleared.
 use Rattle.std.specs.Prelude.{◌≡◌, ℕ, ◌⊎◌, true, List, Option, None, Some}
 use Rattle.bx_creating.specs.Lacking.{FindsBoth, MakesEither}
-pub use Rattle.bx_creating.specs.Lacking.{IfFirst, MakesPlace, ReadyToEnter}
+pub use Rattle.bx_creating.specs.Lacking.{IfFirst, MakesPlace, NoSlotsNear, ReadyToEnter}
 use Rattle.bx_model.specs.declared.tree.Tree.{Tree}
 use Rattle.bx_model.specs.Reading.{named_file}
 use Rattle.bx_records.specs.Drafts.{Changed}

@@ -1,10 +1,13 @@
 //! CREATE.
 
-ghost use Rattle.std.specs.Prelude.{◌≡◌, ◌≤◌, ℕ, [], length, Err, IfErr, IfOk};
+ghost use Rattle.std.specs.Prelude.{◌≡◌, ◌≤◌, ◌⊎◌, ℕ, [], length, Err, IfErr, IfOk};
 ghost use Rattle.bx_base.specs.declared.names.Mode.TheVariants.{Exclusive};
 ghost use Rattle.bx_blink.specs.Walks.{reads_with};
 ghost use Rattle.bx_changes.specs.First.{ComesFirst};
-ghost use Rattle.bx_changes.specs.Growing.{HoldsFirst, IsMaking, NeedsBy};
+ghost use Rattle.bx_changes.specs.Growing.{HoldsFirst, IfFull, IsMaking, NeedsBy};
+ghost use Rattle.bx_chunks.specs.Taking.{NoSlots};
+ghost use Rattle.bx_creating.specs.Placing.{IsFirstNear};
+ghost use Rattle.bx_handles.specs.Handles.{parts_of};
 ghost use Rattle.bx_hints.specs.Fitting.{HintsFitAll};
 ghost use Rattle.bx_inodes.specs.Inodes.{LiveAt};
 ghost use Rattle.bx_inodes.specs.Stands.{Stands};
@@ -14,8 +17,8 @@ ghost use Rattle.bx_tree_files.specs.Entries.{entry_named};
 ghost use Rattle.bx_tree_files.specs.Names.{names_of};
 ghost use Rattle.bx_views.specs.Attempts.{IsHeldDraft};
 ghost use Rattle.bx_views.specs.Truths.{Hints, IsTruth, Truth, with_draft};
-ghost use Rattle.bx_create.specs.Creating.{OnCreate, OnNamed};
-ghost use Rattle.bx_create.specs.Lacking.{PreparesCreate, PreparesIn, ReadyIn, ReadyToCreate};
+ghost use Rattle.bx_create.specs.Creating.{IsNoneOrNear, OnCreate, OnNamed};
+ghost use Rattle.bx_create.specs.Lacking.{NoSlotsNear, PreparesCreate, PreparesIn, ReadyIn, ReadyToCreate};
 ghost use Rattle.bx_create.specs.Searching.{IsSearched};
 
 use crate::existing::create_over;
@@ -61,6 +64,8 @@ pub fn create<V: View>(
     ensures ready { (truth : Truth) (tree : Tree) → IsTruth (V.held view.now) truth → Stands volume areas truth tree → HintsFitAll areas (V.hints view.now) truth
         → IfOk result (λ made. ReadyToCreate volume areas truth tree at.now name.now sattr.now.size) }
     ensures need { IfErr result (NeedsBy areas (V.held view.now) (OnCreate (V.held view.now) (V.hints view.now) volume areas at.now name.now sattr.now.size)) }
+    ensures full { IfErr result (IfFull (NoSlotsNear volume areas (V.held view.now) at.now)) }
+    ensures near { IfOk result (λ made. IsNoneOrNear volume areas (V.held view.now) at.now made.2) }
     ensures first { IfErr result (HoldsFirst (V.held view.now)) }
     ensures held { IfOk result (λ made. IsHeldDraft (V.held view.now) made.0) }
 {
@@ -102,6 +107,8 @@ fn create_in<V: View>(
     ensures ready { (truth : Truth) (tree : Tree) → (is : IsSearched volume areas (V.held view.now) (V.hints view.now) truth tree directory.handle directory.inode name.now)
         → IfOk result (λ made. ReadyIn areas truth directory.inode.tree directory.inode.next name.now sattr.now.size (entry_named (names_of is.directory.at.file.body) name.now)) }
     ensures need { IfErr result (NeedsBy areas (V.held view.now) (OnNamed areas (V.held view.now) (V.hints view.now) directory.handle directory.inode name.now sattr.now.size)) }
+    ensures full { IfErr result (IfFull (NoSlots (V.held view.now) (parts_of directory.handle).area areas [])) }
+    ensures near { IfOk result (λ made. (made.2 ≡ 0) ⊎ IsFirstNear (V.held view.now) (parts_of directory.handle).area areas made.2) }
     ensures first { IfErr result (HoldsFirst (V.held view.now)) }
     ensures held { IfOk result (λ made. IsHeldDraft (V.held view.now) made.0) }
 {

@@ -8,7 +8,6 @@ use Rattle.bx_blink.specs.Hints.{Under}
 use Rattle.bx_blink.specs.declared.error.BlinkError.{BlinkError}
 use Rattle.bx_blink.specs.declared.error.BlinkError.TheVariants as tree_error
 use Rattle.bx_blink.specs.Walks.{reads_with}
-use Rattle.bx_changes.specs.Growing.{NeedsBy}
 use Rattle.bx_changes.specs.declared.error.ChangeError.{ChangeError}
 use Rattle.bx_chunks.specs.Allocating.{AllocatesAt}
 use Rattle.bx_chunks.specs.declared.error.ChunkError.{ChunkError}

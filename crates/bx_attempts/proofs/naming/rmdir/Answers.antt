@@ -15,6 +15,8 @@ use Rattle.bx_records.specs.Drafts.{Changed}
 use Rattle.bx_tree_files.specs.Times.{Time, time_of}
 use Rattle.bx_attempts.specs.First.{PreparesFirst, ReadyBy}
 use Rattle.bx_attempts.proofs.First.{changed_first, changed_ready, never_first, stopped_ready}
+use Rattle.bx_attempts.specs.Full.{IsFullFor}
+use Rattle.bx_attempts.proofs.Fullness.{changed_full, stopped_full}
 use Rattle.bx_attempts.proofs.naming.rmdir.Goals as goal
 
 pub returns-in-Ok-clause-gives : goal.returns-in-Ok-clause-gives
@@ -71,3 +73,13 @@ pub returns-in-Err-clause-ready : goal.returns-in-Err-clause-ready
 returns-in-Err-clause-ready g c = λ truth tree same s.
     let a = c.args in
     IfOk-weaker c.stopped.result _ _ (λ attempt is. stopped_ready (ReadyBy a.volume a.areas truth tree a.call.now.procedure a.call.now.args) a.xid attempt c.in-Err.stop is) c.stopped.ensures
+
+pub returns-in-Ok-clause-full : goal.returns-in-Ok-clause-full
+returns-in-Ok-clause-full g c =
+    let a = c.args in
+    IfOk-weaker c.changed.result _ _ (λ attempt is. changed_full a.xid (IsFullFor (g.V.View.held a.view.now) (g.V.View.hints a.view.now) a.volume a.areas a.call.now.args) attempt c.in-Ok.draft c.in-Ok.reply 0 is) c.changed.ensures.is
+
+pub returns-in-Err-clause-full : goal.returns-in-Err-clause-full
+returns-in-Err-clause-full g c =
+    let a = c.args in
+    IfOk-weaker c.stopped.result _ _ (λ attempt is. stopped_full a.xid (IsFullFor (g.V.View.held a.view.now) (g.V.View.hints a.view.now) a.volume a.areas a.call.now.args) attempt c.in-Err.stop is) c.stopped.ensures

@@ -5,7 +5,7 @@ use Rattle.bx_attempts.proofs.Acting.{rename_acts}
 use Rattle.bx_attempts.proofs.Changing.{change_by_acts, changed_gives, error_refuses, refused_gives}
 use Rattle.bx_attempts.proofs.Fairness.{changed_fair, fair_over, refused_fair}
 use Rattle.bx_attempts.specs.Paths.{ChangePathOf}
-use Rattle.bx_changes.specs.Growing.{IsChangeBy}
+use Rattle.bx_changes.specs.Growing.{IfFull, IsChangeBy}
 use Rattle.bx_renaming.specs.Path.{OnRename}
 use Rattle.bx_model.specs.Renaming.{rename}
 use Rattle.bx_model.specs.declared.call.Args.{Args}
@@ -14,6 +14,8 @@ use Rattle.bx_renaming.specs.Lacking.{PreparesMove}
 use Rattle.bx_changes.specs.First.{ComesFirst}
 use Rattle.bx_attempts.specs.First.{PreparesFirst, ReadyBy}
 use Rattle.bx_attempts.proofs.First.{changed_first, changed_ready, refused_first, refused_ready, rename_first}
+use Rattle.bx_attempts.specs.Full.{IsFullFor}
+use Rattle.bx_attempts.proofs.Fullness.{changed_full, refused_full}
 use Rattle.bx_attempts.proofs.renaming.rename.Goals as goal
 
 pub returns-in-Ok-clause-gives : goal.returns-in-Ok-clause-gives
@@ -72,3 +74,17 @@ pub returns-in-Err-clause-ready : goal.returns-in-Err-clause-ready
 returns-in-Err-clause-ready g c = λ truth tree same s.
     let a = c.args in
     IfOk-weaker c.refused.result _ _ (λ attempt is. refused_ready (ReadyBy a.volume a.areas truth tree a.call.now.procedure a.call.now.args) a.xid attempt c.in-Err.error is) c.refused.ensures
+
+pub returns-in-Ok-clause-full : goal.returns-in-Ok-clause-full
+returns-in-Ok-clause-full g c =
+    let a = c.args in
+    IfOk-weaker c.changed.result _ _ (λ attempt is. changed_full a.xid (IsFullFor (g.V.View.held a.view.now) (g.V.View.hints a.view.now) a.volume a.areas a.call.now.args) attempt c.in-Ok.draft c.in-Ok.reply 0 is) c.changed.ensures.is
+
+pub returns-in-Err-clause-full : goal.returns-in-Err-clause-full
+returns-in-Err-clause-full g c =
+    let a = c.args in
+    let held = g.V.View.held a.view.now in
+    let hints = g.V.View.hints a.view.now in
+    IfOk-weaker c.refused.result _ _
+    (λ attempt is. refused_full a.xid (IsFullFor held hints a.volume a.areas a.call.now.args) attempt c.in-Err.error
+    (subst (λ (args : Args). IfFull (IsFullFor held hints a.volume a.areas args) c.in-Err.error) (sym c.requires.args) c.in-Err.ensures.full) is) c.refused.ensures

@@ -1,3 +1,6 @@
+use Rattle.std.proofs.Common.{inl, inr, sym}
+use Rattle.std.proofs.lemmas.Result.{IfOk-weaker}
+use Rattle.bx_creating.proofs.Lacks.{full_if}
 use Rattle.bx_create.proofs.CreateWhole.{comes, comes_first, comes_ready, no_directory, no_name, searched}
 use Rattle.std.proofs.Common.{◌≡◌}
 use Rattle.std.specs.Prelude.{Err}
@@ -39,3 +42,10 @@ pub returns-in-Ok-clause-ready : goal.returns-in-Ok-clause-ready
 returns-in-Ok-clause-ready g c = λ truth tree same s fit.
     comes_ready tree c.args.call.now c.args.at.now c.args.name.now c.args.sattr.now c.args.now c.args.volume s.volume_is c.in-Some.handle c.in-Some.ensures c.args.areas (g.V.View.held c.args.view.now) (g.V.View.hints c.args.view.now) truth c.in-Ok.inode
     (c.in-Ok.ensures.step truth tree same s.is) c.requires.areas same s fit c.create_in.result (λ is. c.create_in.ensures.ready truth tree is)
+
+pub returns-in-Ok-clause-full : goal.returns-in-Ok-clause-full
+returns-in-Ok-clause-full g c = full_if (λ spare none. record { handle = c.in-Some.handle; is_named = sym c.in-Some.ensures; none = none }) c.create_in.result c.create_in.ensures.full
+
+pub returns-in-Ok-clause-near : goal.returns-in-Ok-clause-near
+returns-in-Ok-clause-near g c =
+    IfOk-weaker c.create_in.result _ _ (λ made near. elim near [ inl none ↦ inl none | inr first ↦ inr (record { handle = c.in-Some.handle; is_named = sym c.in-Some.ensures; first = first }) ]) c.create_in.ensures.near

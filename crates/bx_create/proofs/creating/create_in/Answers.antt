@@ -1,5 +1,6 @@
 use Rattle.bx_create.proofs.CreateWhole.{list, made_new, new_first, new_ready, not_over, not_searched, over, over_first, over_ready, without}
-use Rattle.std.proofs.Common.{◌≡◌, ℕ, Option}
+use Rattle.std.proofs.Common.{◌≡◌, ℕ, Option, inl, inr, refl}
+use Rattle.std.proofs.lemmas.Result.{IfOk-weaker}
 use Rattle.std.specs.Prelude.{Err}
 use Rattle.bx_model.specs.Making.{create_at}
 use Rattle.bx_tree_files.specs.Entries.{entry_named}
@@ -73,3 +74,9 @@ returns-clause-ready g c = λ truth tree s.
     let l = list c.args.volume c.args.areas (g.V.View.held c.args.view.now) (g.V.View.hints c.args.view.now) truth tree c.args.directory.handle c.args.directory.inode c.args.name.now s c.args.call.now c.args.sattr.now c.args.now in
     over_ready c.args.volume c.args.areas (g.V.View.held c.args.view.now) (g.V.View.hints c.args.view.now) truth tree c.args.directory.handle c.args.directory.inode c.args.name.now s c.args.call.now c.args.sattr.now c.args.now c.in-Some.handle
     ((rw c.in-Some.is at c.in-Ok.ensures.list) truth l.names l.entries) (c.in-Ok-create_over.ensures.ready truth tree s.directory.few s.directory.same s.directory.stands s.directory.fit)
+
+pub returns-in-None-clause-near : goal.returns-in-None-clause-near
+returns-in-None-clause-near g c = IfOk-weaker c.create_new.result _ _ (λ made first. inr first) c.create_new.ensures.near
+
+pub returns-clause-near : goal.returns-clause-near
+returns-clause-near g c = inl refl

@@ -9,7 +9,7 @@ use Rattle.bx_blink.proofs.OnWay.{After, IsOnWay}
 use Rattle.bx_blink.proofs.Rights.{on_way, step}
 use Rattle.bx_blink.proofs.Under.{agrees}
 use Rattle.bx_blink.proofs.Visits.{slot_of_spot}
-use Rattle.bx_chunks.proofs.Taking.{slots_block}
+use Rattle.bx_chunks.proofs.TakenSlots.{slots_block}
 use Rattle.bx_dirs.specs.Changes.{OnAddPath}
 use Rattle.bx_entries.proofs.Leaves.{leaf_block}
 use Rattle.bx_files.proofs.Slots.{slot_is_block}

@@ -21,4 +21,4 @@ pub mod OneRead
 pub mod OneTake
 pub mod OneAllocation
 pub mod OneFreeing
-pub mod Taking
+pub mod TakenSlots

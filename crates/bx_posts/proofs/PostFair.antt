@@ -12,7 +12,7 @@ use Rattle.bx_views.specs.Attempts.{IsHeldDraft}
 use Rattle.bx_views.specs.Truths.{Held, Hints}
 use Rattle.bx_chunks.specs.Taking.{NoSlots}
 use Rattle.bx_chunks.proofs.FairNeeds.{Shares}
-use Rattle.bx_chunks.proofs.Taking.{slots_unheld}
+use Rattle.bx_chunks.proofs.TakenSlots.{slots_unheld}
 use Rattle.bx_blink.specs.declared.error.BlinkError.{BlinkError}
 use Rattle.bx_blink.specs.declared.error.BlinkError.TheVariants.{Need, Stale, Full, NoRoom, Absent, Present, OutOfMemory, Crowded}
 use Rattle.bx_blink.specs.Walks.{Reads, reads_with, passes, most, start}

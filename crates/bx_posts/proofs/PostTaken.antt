@@ -8,7 +8,7 @@ use Rattle.bx_truth.specs.Chunks.{block_at}
 use Rattle.bx_views.specs.Truths.{Held, Hints}
 use Rattle.bx_chunks.specs.Taking.{IsNoArea, TakesSlots, none}
 use Rattle.bx_chunks.proofs.FairNeeds.{Shares}
-use Rattle.bx_chunks.proofs.Taking.{read_none}
+use Rattle.bx_chunks.proofs.TakenSlots.{read_none}
 use Rattle.bx_blink.specs.declared.error.BlinkError.{BlinkError}
 use Rattle.bx_blink.specs.Walks.{Reads, reads_with, passes, most, start}
 use Rattle.bx_blink.proofs.Landings.{landing}

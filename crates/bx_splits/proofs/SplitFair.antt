@@ -15,7 +15,7 @@ use Rattle.bx_chunks.specs.Allocating.{AllocatesAt, next_handle, slot_block}
 use Rattle.bx_chunks.specs.Taking.{NoSlots, OnSlots, more, none}
 use Rattle.bx_chunks.proofs.FairNeeds.{Shares}
 use Rattle.bx_chunks.proofs.HeldDrafts.{allocates_held}
-use Rattle.bx_chunks.proofs.Taking.{slots_unheld}
+use Rattle.bx_chunks.proofs.TakenSlots.{slots_unheld}
 use Rattle.bx_blink.specs.declared.error.BlinkError.{BlinkError}
 use Rattle.bx_blink.specs.declared.error.BlinkError.TheVariants.{Need, Stale, Full, NoRoom, Absent, Present, OutOfMemory, Crowded}
 use Rattle.bx_leaves.proofs.Fair.{page_held, seen_held}

@@ -8,7 +8,7 @@ use Rattle.bx_truth.specs.Chunks.{block_at}
 use Rattle.bx_views.specs.Truths.{Held, Hints}
 use Rattle.bx_chunks.specs.Taking.{IsNoArea, TakesSlots, more, none}
 use Rattle.bx_chunks.proofs.FairNeeds.{Shares}
-use Rattle.bx_chunks.proofs.Taking.{new_none, puts_other, read_none, still_none, taken_none}
+use Rattle.bx_chunks.proofs.TakenSlots.{new_none, puts_other, read_none, still_none, taken_none}
 use Rattle.bx_blink.specs.declared.error.BlinkError.{BlinkError}
 use Rattle.bx_leaves.specs.Leaves.{PutsPage}
 use Rattle.bx_splits.specs.declared.halves.Halves.{Halves}

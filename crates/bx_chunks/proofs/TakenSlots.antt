@@ -94,26 +94,30 @@ low word = omega arith
 new_block : (area : ℕ) (slots : AreaBlock) (slot : ℕ) → slot < 960 → block_at (next_handle area slots slot) ≡ slot_block area slot
 new_block area slots slot less = let g = low (get_or slots.words slot 0) in omega (arith, less, g)
 
-not_area : 3 ≢ 4
-not_area e = omega (arith, e)
+not_area : (kind : ℕ) → kind ≡ 3 → kind ≢ 4
+not_area kind three four = omega (arith, three, four)
+
+-- an area's own block that is put anew
+own_none : (held : Held) (old : List Changed) (apart area : ℕ) (slots : AreaBlock) (block : Block) → ShowsSlots held old area slots → IsNoArea held old apart → IsNoArea held (with_block old (own_block area) block) apart
+own_none held old apart area slots block before is another found here shows = by (cases_eq (own_block another) (own_block area))
+  where
+    by : ((own_block another ≡ own_block area) ⊎ (own_block another ≡ own_block area → ⊥)) → ⊥
+    by (inl same) = is area slots (sym same ∙ here) before
+    by (inr ne) = is another found here (shown_before held old (own_block area) another found block ne shows)
 
 module _ (held : Held) (old new : List Changed) (near areas handle : ℕ) (at : AllocatesAt held old new near areas (Ok handle)) where
   -- taking a slot changes an area's own block, and one of zeros
   pub taken_none : (apart : ℕ) → IsNoArea held old apart → IsNoArea held new apart
-  taken_none apart is = subst (λ (d : List Changed). IsNoArea held d apart) (sym at.takes.2) (still_none held _ apart (slot_block at.area at.slot) _ not_area own)
-    where
-      by : (area : ℕ) (slots : AreaBlock) → own_block area ≡ apart → ShowsSlots held (with_block old (own_block at.area) _) area slots → ((own_block area ≡ own_block at.area) ⊎ (own_block area ≡ own_block at.area → ⊥)) → ⊥
-      by area slots here shows (inl same) = let free = at.next.free in is at.area at.slots (sym same ∙ here) (record { block = free.block; there = free.there; has = free.has })
-      by area slots here shows (inr other) = is area slots here (shown_before held old (own_block at.area) area slots _ other shows)
-
-      own : IsNoArea held (with_block old (own_block at.area) _) apart
-      own area slots here shows = by area slots here shows (cases_eq (own_block area) (own_block at.area))
+  taken_none apart is =
+      let free = at.next.free in
+      subst (λ (d : List Changed). IsNoArea held d apart) (sym at.takes.2)
+      (still_none held _ apart (slot_block at.area at.slot) _ (not_area _ refl) (own_none held old apart at.area at.slots _ (record { block = free.block; there = free.there; has = free.has }) is))
 
   -- the block that is taken is none
   pub new_none : IsNoArea held new (block_at handle)
   new_none =
       let place = ap block_at at.takes.1 ∙ new_block at.area at.slots at.slot at.next.free.lowest.there in
-      subst (λ (n : ℕ). IsNoArea held new n) (sym place) (subst (λ (d : List Changed). IsNoArea held d (slot_block at.area at.slot)) (sym at.takes.2) (put_none held _ (slot_block at.area at.slot) _ not_area))
+      subst (λ (n : ℕ). IsNoArea held new n) (sym place) (subst (λ (d : List Changed). IsNoArea held d (slot_block at.area at.slot)) (sym at.takes.2) (put_none held _ (slot_block at.area at.slot) _ (not_area _ refl)))
 
 -- ---- drafts that go on
 
@@ -121,7 +125,7 @@ module _ (held : Held) (old new : List Changed) (near areas handle : ℕ) (at : 
 pub stays_none : (held : Held) (near areas : ℕ) (from mid : List Changed) (at : ℕ) → TakesSlots held near areas from mid → IsNoArea held from at → IsNoArea held mid at
 stays_none held near areas from _ at none is = is
 stays_none held near areas from _ at (more old new handle taken takes) is = taken_none held old new near areas handle takes at (stays_none held near areas from old at taken is)
-stays_none held near areas from _ at (other old new taken leaves) is area slots own shows = stays_none held near areas from old at taken is area slots own ((leaves area slots).1 shows)
+stays_none held near areas from _ at (other old new taken leaves) is = λ area slots own shows. stays_none held near areas from old at taken is area slots own ((leaves area slots).1 shows)
 
 pub puts_other : (held : Held) (near areas : ℕ) (from xs : List Changed) (at : ℕ) (block : Block) → TakesSlots held near areas from xs → IsNoArea held xs at → block.kind ≢ 4 → TakesSlots held near areas from (with_block xs at block)
 puts_other held near areas from xs at block taken is kind = other xs (with_block xs at block) taken (leaves_slots held xs at block is kind)

@@ -19,14 +19,14 @@ use Rattle.bx_ready.proofs.Bounds.{post_crowds, post_full}
 module _ (areas : ℕ) (held : Held) (hints : Hints) (truth : Truth) (root : ℕ) (tree : PageTree) (key : List ℕ) (u : Under areas held hints truth [] root tree) where
   pub post_error : (near page : ℕ) (new : List Changed) (node : Node) (error : BlinkError) → (HasSeparators tree key → ⊥) → PostsAt held hints [] [] root page near areas (Err error) → PostsIn areas held hints truth [] new root tree node (Err error)
       → PostsForIn areas held hints truth root tree key (Err error)
-  post_error near page new node (Need at mode) no a p = tt
-  post_error near page new node Stale no a p = p
-  post_error near page new node OutOfMemory no a p = tt
-  post_error near page new node (Full spare) no a p = (post_full areas near held truth u.few u.same u.chunked hints root page spare a, no)
-  post_error near page new node (NoRoom other) no a p = p
-  post_error near page new node Absent no a p = p
-  post_error near page new node Present no a p = p
-  post_error near page new node Crowded no a p = post_crowds held near areas hints root page a
+  post_error near page new node (Need at mode) lacks a p = tt
+  post_error near page new node Stale lacks a p = p
+  post_error near page new node OutOfMemory lacks a p = tt
+  post_error near page new node (Full spare) lacks a p = (post_full areas near held truth u.few u.same u.chunked hints root page spare a, lacks)
+  post_error near page new node (NoRoom other) lacks a p = p
+  post_error near page new node Absent lacks a p = p
+  post_error near page new node Present lacks a p = p
+  post_error near page new node Crowded lacks a p = post_crowds held near areas hints root page a
 
 module _ (near areas : ℕ) (held : Held) (hints : Hints) (root : ℕ) (key : List ℕ) where
   pub post_fair : (X : Type 0) (page : ℕ) (error : BlinkError) → LeadsWhere held root key (Short page) → NeedsForPost held hints [] root page near areas (Err error) → NeedsUnheld {X = X} held (OnPostForPath near areas held hints root key) (Err error)

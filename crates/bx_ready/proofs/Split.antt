@@ -73,14 +73,14 @@ module _ (areas : ℕ) (held : Held) (hints : Hints) (truth : Truth) (root : ℕ
 
   pub split_error : (near : ℕ) (new : List Changed) (leaf : ℕ) (error : BlinkError) → (HasRoom tree key → ⊥) → SplitsAt held hints [] [] root leaf near areas (Err error) → SplitsIn areas held hints truth [] new root tree leaf (Err error)
       → SplitsForIn areas held hints truth root tree key (Err error)
-  split_error near new leaf (Need at mode) no a s = tt
-  split_error near new leaf Stale no a s = s
-  split_error near new leaf OutOfMemory no a s = tt
-  split_error near new leaf (Full spare) no a s = (split_full areas near held truth u.few u.same u.chunked hints root leaf spare a, no)
-  split_error near new leaf (NoRoom other) no a s = s
-  split_error near new leaf Absent no a s = s
-  split_error near new leaf Present no a s = s
-  split_error near new leaf Crowded no a s = split_crowds held near areas hints root leaf a
+  split_error near new leaf (Need at mode) lacks a s = tt
+  split_error near new leaf Stale lacks a s = s
+  split_error near new leaf OutOfMemory lacks a s = tt
+  split_error near new leaf (Full spare) lacks a s = (split_full areas near held truth u.few u.same u.chunked hints root leaf spare a, lacks)
+  split_error near new leaf (NoRoom other) lacks a s = s
+  split_error near new leaf Absent lacks a s = s
+  split_error near new leaf Present lacks a s = s
+  split_error near new leaf Crowded lacks a s = split_crowds held near areas hints root leaf a
 
 -- ---- what is needed
 

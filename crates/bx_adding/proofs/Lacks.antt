@@ -61,8 +61,8 @@ full_if follows (Ok value) p = tt
 full_if follows (Err stop) p = full_so follows stop p
 
 -- what is never full
-pub full_never : {X : Type 0} {Q : ℕ → Type 0} → (result : Result X ChangeError) → IfErr result (IfFull (λ spare. ⊥)) → IfErr result (IfFull Q)
-full_never result never = full_if (λ spare none. absurd none) result never
+pub full_never : {X : Type 0} → (Q : ℕ → Type 0) → (result : Result X ChangeError) → IfErr result (IfFull (λ spare. ⊥)) → IfErr result (IfFull Q)
+full_never Q result never = full_if (λ spare none. absurd none) result never
 
 -- room is lacking then
 pub room_wanted : (areas : ℕ) (held : Held) (truth : Truth) (root : ℕ) (name : List ℕ) (number : ℕ) (stop : ChangeError) → RoomIn areas held truth root name number (Err stop) → IfFull (λ spare. FindsBoth areas truth root name number → ⊥) stop

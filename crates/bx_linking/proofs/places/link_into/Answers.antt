@@ -62,7 +62,7 @@ pub returns-in-Err-may_link-clause-full : goal.returns-in-Err-may_link-clause-fu
 returns-in-Err-may_link-clause-full g c = full_so (λ spare none. record { handle = c.in-Some.handle; is_named = sym c.in-Some.ensures; none = none }) c.in-Err-may_link.error c.in-Err-may_link.ensures.full
 
 pub returns-in-Ok-may_link-clause-full : goal.returns-in-Ok-may_link-clause-full
-returns-in-Ok-may_link-clause-full g c = full_never c.link_file.result c.link_file.ensures.full
+returns-in-Ok-may_link-clause-full g c = full_never _ c.link_file.result c.link_file.ensures.full
 
 pub returns-in-Err-may_link-clause-wanted : goal.returns-in-Err-may_link-clause-wanted
 returns-in-Err-may_link-clause-wanted g c = λ truth tree same s fit is.
@@ -72,4 +72,4 @@ returns-in-Err-may_link-clause-wanted g c = λ truth tree same s fit is.
     (lacks_room c.args.areas (g.V.View.held c.args.view.now) truth is.file m.at.file c.in-Ok.inode c.args.name.now c.in-Err-may_link.error (c.in-Err-may_link.ensures.step c.args.volume truth tree b))
 
 pub returns-in-Ok-may_link-clause-wanted : goal.returns-in-Ok-may_link-clause-wanted
-returns-in-Ok-may_link-clause-wanted g c = λ truth tree same s fit is. full_never c.link_file.result c.link_file.ensures.full
+returns-in-Ok-may_link-clause-wanted g c = λ truth tree same s fit is. full_never _ c.link_file.result c.link_file.ensures.full

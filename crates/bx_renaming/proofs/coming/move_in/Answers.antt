@@ -33,7 +33,7 @@ returns-in-Ok-clause-finds g c = λ volume truth tree are.
     (c.in-Ok.ensures.finds volume truth tree (into volume c.args.areas (g.V.View.held c.args.view.now) (g.V.View.hints c.args.view.now) truth tree c.args.places.now are)) c.move_file.result
 
 pub returns-in-Ok-clause-full : goal.returns-in-Ok-clause-full
-returns-in-Ok-clause-full g c = full_never c.move_file.result c.move_file.ensures.full
+returns-in-Ok-clause-full g c = full_never _ c.move_file.result c.move_file.ensures.full
 
 pub returns-in-Err-clause-wanted : goal.returns-in-Err-clause-wanted
 returns-in-Err-clause-wanted g c = λ volume truth tree are.
@@ -41,4 +41,4 @@ returns-in-Err-clause-wanted g c = λ volume truth tree are.
     (c.in-Err.ensures.step volume truth tree (into volume c.args.areas (g.V.View.held c.args.view.now) (g.V.View.hints c.args.view.now) truth tree c.args.places.now are))
 
 pub returns-in-Ok-clause-wanted : goal.returns-in-Ok-clause-wanted
-returns-in-Ok-clause-wanted g c = λ volume truth tree are. full_never c.move_file.result c.move_file.ensures.full
+returns-in-Ok-clause-wanted g c = λ volume truth tree are. full_never _ c.move_file.result c.move_file.ensures.full

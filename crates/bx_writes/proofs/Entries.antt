@@ -1,8 +1,7 @@
 -- Pieces that aren't there, over drafts of pieces: what they ask for, and what they leave.
-use Rattle.std.proofs.Common.{◌≡◌, ◌∙◌, ℕ, ◌+◌, ◌<◌, ◌≤◌, arith, List, [], Option, None, Some, refl, sym, ap, subst, inl, inr}
+use Rattle.std.proofs.Common.{◌≡◌, ◌∙◌, ℕ, ◌+◌, ◌<◌, arith, List, [], Option, None, Some, refl, sym, subst, inl, inr}
 use Rattle.std.specs.Prelude.{IfErr, IfOk, Result, Ok, Err}
 use Rattle.bx_adding.specs.Stopping.{StopsChange}
-use Rattle.bx_base.specs.declared.names.Mode.{Mode}
 use Rattle.bx_blink.specs.Walks.{reads_with}
 use Rattle.bx_blink.specs.declared.error.BlinkError.{BlinkError}
 use Rattle.bx_blink.specs.declared.error.BlinkError.TheVariants as tree_error
@@ -14,7 +13,6 @@ use Rattle.bx_chunks.specs.Taking.{NoSlots}
 use Rattle.bx_chunks.specs.declared.error.ChunkError.{ChunkError}
 use Rattle.bx_chunks.specs.declared.error.ChunkError.TheVariants as chunk
 use Rattle.bx_files.specs.Paths.{Finds}
-use Rattle.bx_inodes.specs.declared.stop.Stop.TheVariants.{Need, Inner, Status, OutOfMemory}
 use Rattle.bx_layout.specs.declared.inode.Inode.{Inode}
 use Rattle.bx_leaves.specs.Changes.{NeedsUnheld}
 use Rattle.bx_leaves.specs.Leaves.{InsertsAt, OnLeafPath}
@@ -23,10 +21,8 @@ use Rattle.bx_truth.specs.Keys.{content_key}
 use Rattle.bx_views.specs.Truths.{Held, Hints}
 use Rattle.bx_writes.specs.Laid.{FoundBy, IsLaid, LacksSlot, NoneLeft, OnAnew, TakesPiece, alone, entry, over, slot}
 use Rattle.bx_writes.specs.Laying.{InodeAlone}
-use Rattle.bx_writes.specs.Paths.{OnPrepared, OnWrittenPieces}
 use Rattle.bx_writes.specs.Steps.{PutsBlock}
 use Rattle.bx_writes.specs.Stopping.{StopsByChunks}
-use Rattle.bx_writes.proofs.Laid.{needs_wider}
 
 -- ---- the slot
 

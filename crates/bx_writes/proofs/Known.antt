@@ -1,5 +1,5 @@
 -- What is known of a piece that is prepared, by the search for it.
-use Rattle.std.proofs.Common.{◌≡◌, ◌∙◌, ℕ, List, Option, None, Some, sym, subst}
+use Rattle.std.proofs.Common.{◌≡◌, ℕ, List, Option, None, Some, sym, subst}
 use Rattle.std.specs.Prelude.{IfErr, IfOk, Result, Ok, Err}
 use Rattle.bx_changes.specs.Growing.{IfFull}
 use Rattle.bx_changes.specs.declared.error.ChangeError.{ChangeError}

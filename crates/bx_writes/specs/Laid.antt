@@ -33,7 +33,8 @@ pub data IsLaid (held : Held) (hints : Hints) (near areas handle root : ℕ) : L
 
 -- what a piece that isn't there asks for over such a draft: what the next slot needs, and what putting its entry does
 pub data OnAnew (held : Held) (hints : Hints) (near areas handle root index : ℕ) : ℕ → Mode → Type 0 where
-  slot : (draft : List Changed) (at : ℕ) (mode : Mode) → IsLaid held hints near areas handle root draft → AllocatesAt held draft draft near areas (Err (Need at mode)) → OnAnew held hints near areas handle root index at mode
+  slot : (draft : List Changed) (at : ℕ) (mode : Mode) → IsLaid held hints near areas handle root draft
+      → AllocatesAt held draft draft near areas (Err (Need at mode)) → OnAnew held hints near areas handle root index at mode
   entry : (draft mid : List Changed) (names at : ℕ) (mode : Mode) → IsLaid held hints near areas handle root draft → TakesPiece held near areas draft mid names
       → OnLeafPath (reads_with held hints mid) root (content_key index) at mode → OnAnew held hints near areas handle root index at mode
 

@@ -32,8 +32,9 @@ use std::alloc::Global;
 /// A draft with the inode of a regular file with a handle, and with bytes written from a place in the piece with an index on, at most three pieces. All
 /// pieces are read before one is changed.
 ///
-/// `Inner` makes room for an entry of a piece that isn't there, exactly where it is lacking, and `Full` comes only of such a piece, where no slot is left near the file. `Need` names a block of the volume that
-/// isn't held, and is on the path of such a piece. The status is `STALE` where what is held is no file: of one it never comes.
+/// `Inner` makes room for an entry of a piece that isn't there, exactly where it is lacking, and `Full` comes only of such a piece, where no slot is left
+/// near the file. `Need` names a block of the volume that isn't held, and is on the path of a piece. The status is `STALE` where what is held is no
+/// file: of one it never comes.
 pub(crate) fn lay<V: View>(
     alloc: Global,
     areas: u16,

@@ -31,8 +31,8 @@ use std::alloc::Global;
 /// the number of its block's handle, if it has one, and its payload.
 ///
 /// `Inner` are the blocks that make room for the entry of a piece that isn't there yet, and are to be written first, exactly where room is lacking; `Full`
-/// comes only where the piece isn't there, room is lacking and no slot is left for a page. `Need` names a block of the volume that isn't held: one on the search for the piece, shared; its block, exclusively;
-/// or one that is asked for to make room. The status is `STALE` where what is held is no file: of one it never comes.
+/// comes only where the piece isn't there, and no slot is left for a page. `Need` names a block of the volume that isn't held: one on the search for the
+/// piece, shared; its block, exclusively; or one that is asked for to make room. The status is `STALE` where what is held is no file: of one it never comes.
 pub(crate) fn prepare<V: View>(
     alloc: Global,
     near: (u16, u16),

@@ -50,9 +50,12 @@ pub(crate) fn put_piece<V: View>(
     ensures step { (truth : Truth) (tree : Tree) (handle : ℕ) (file : File) (pages : PageTree) (inode : Kept) (base : List ℕ) (place : ℕ) (part rest : List ℕ) (taken : ℕ)
         → MayPut near.1 (V.held view.now) (V.hints view.now) truth tree handle file pages inode base index place part rest taken draft prepared.0 prepared.1 → inode.tree ≡ root
         → PutsOn near.1 (V.held view.now) truth tree handle file pages inode base (4096 * index + place) (part ++ rest) index (taken + 1) result }
-    ensures need { (handle : ℕ) → IsLaid (V.held view.now) (V.hints view.now) near.0 near.1 handle root draft → IfErr result (NeedsBy near.1 (V.held view.now) (OnAnew (V.held view.now) (V.hints view.now) near.0 near.1 handle root index)) }
-    ensures full { (handle : ℕ) → FoundBy (V.held view.now) (V.hints view.now) root index prepared.0 → IsLaid (V.held view.now) (V.hints view.now) near.0 near.1 handle root draft → IfErr result (IfFull (λ spare. Finds (V.held view.now) (V.hints view.now) root (content_key_of index) None × NoneLeft (V.held view.now) (V.hints view.now) near.0 near.1 handle root spare)) }
-    ensures laid { (handle : ℕ) → FoundBy (V.held view.now) (V.hints view.now) root index prepared.0 → IsLaid (V.held view.now) (V.hints view.now) near.0 near.1 handle root draft → IfOk result (IsLaid (V.held view.now) (V.hints view.now) near.0 near.1 handle root) }
+    ensures need { (handle : ℕ) → IsLaid (V.held view.now) (V.hints view.now) near.0 near.1 handle root draft
+        → IfErr result (NeedsBy near.1 (V.held view.now) (OnAnew (V.held view.now) (V.hints view.now) near.0 near.1 handle root index)) }
+    ensures full { (handle : ℕ) → FoundBy (V.held view.now) (V.hints view.now) root index prepared.0 → IsLaid (V.held view.now) (V.hints view.now) near.0 near.1 handle root draft
+        → IfErr result (IfFull (λ spare. Finds (V.held view.now) (V.hints view.now) root (content_key_of index) None × NoneLeft (V.held view.now) (V.hints view.now) near.0 near.1 handle root spare)) }
+    ensures laid { (handle : ℕ) → FoundBy (V.held view.now) (V.hints view.now) root index prepared.0 → IsLaid (V.held view.now) (V.hints view.now) near.0 near.1 handle root draft
+        → IfOk result (IsLaid (V.held view.now) (V.hints view.now) near.0 near.1 handle root) }
     ensures inner { IfErr result NeverFirst }
     ensures held { IsHeldDraft (V.held view.now) draft → HoldsPrepared (V.held view.now) prepared.0 → IfOk result (IsHeldDraft (V.held view.now)) }
     ensures few { IfOk result (λ new. length new ≤ length draft + 4) }
@@ -81,8 +84,10 @@ fn put_anew<V: View>(
     ensures step { (truth : Truth) (tree : Tree) (handle : ℕ) (file : File) (pages : PageTree) (inode : Kept) (base : List ℕ) (place : ℕ) (part rest : List ℕ) (taken : ℕ)
         → MayPut near.1 (V.held view.now) (V.hints view.now) truth tree handle file pages inode base index place part rest taken draft None payload → inode.tree ≡ root
         → PutsOn near.1 (V.held view.now) truth tree handle file pages inode base (4096 * index + place) (part ++ rest) index (taken + 1) result }
-    ensures need { (handle : ℕ) → IsLaid (V.held view.now) (V.hints view.now) near.0 near.1 handle root draft → IfErr result (NeedsBy near.1 (V.held view.now) (OnAnew (V.held view.now) (V.hints view.now) near.0 near.1 handle root index)) }
-    ensures full { (handle : ℕ) → IsLaid (V.held view.now) (V.hints view.now) near.0 near.1 handle root draft → IfErr result (IfFull (λ spare. NoneLeft (V.held view.now) (V.hints view.now) near.0 near.1 handle root spare)) }
+    ensures need { (handle : ℕ) → IsLaid (V.held view.now) (V.hints view.now) near.0 near.1 handle root draft
+        → IfErr result (NeedsBy near.1 (V.held view.now) (OnAnew (V.held view.now) (V.hints view.now) near.0 near.1 handle root index)) }
+    ensures full { (handle : ℕ) → IsLaid (V.held view.now) (V.hints view.now) near.0 near.1 handle root draft
+        → IfErr result (IfFull (λ spare. NoneLeft (V.held view.now) (V.hints view.now) near.0 near.1 handle root spare)) }
     ensures laid { (handle : ℕ) → IsLaid (V.held view.now) (V.hints view.now) near.0 near.1 handle root draft → IfOk result (IsLaid (V.held view.now) (V.hints view.now) near.0 near.1 handle root) }
     ensures inner { IfErr result NeverFirst }
     ensures held { IsHeldDraft (V.held view.now) draft → IfOk result (IsHeldDraft (V.held view.now)) }

@@ -40,7 +40,8 @@ use std::alloc::Global;
 /// then. No bytes change nothing, and meet no limit. A gap before the offset is zeros.
 ///
 /// `Inner` comes exactly where no error does and something is wanted first: it clears bytes that were cut, where the file would grow over them, and lowers the
-/// tail that tells how far they reach; else it makes room for the entry of a piece that isn't there and has none. `Need` names a block that isn't held: the file's inode, exclusively; and where that is held, one on the path of these, or of the pieces that the bytes are in. The status is the first of `STALE`,
+/// tail that tells how far they reach; else it makes room for the entry of a piece that isn't there and has none. `Need` names a block that isn't held: the
+/// file's inode, exclusively; and where that is held, one on the path of these, or of the pieces that the bytes are in. The status is the first of `STALE`,
 /// `ISDIR`, `NXIO` of a link, `ACCES` and `FBIG`; `Full` comes only where a piece that the bytes are in isn't there, and no slot is left near the file;
 /// then fewer than 8 are free. `now` is in seconds and microseconds.
 pub fn write<V: View>(

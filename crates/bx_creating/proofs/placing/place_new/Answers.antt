@@ -1,5 +1,6 @@
-use Rattle.std.proofs.Common.{inr}
+use Rattle.std.proofs.Common.{inl, inr}
 use Rattle.bx_creating.proofs.Placed.{enter_stops, make_stops, may_enter, places, room_stops}
+use Rattle.bx_adding.specs.Finding.{OnRoomPath}
 use Rattle.bx_adding.specs.Lacking.{MakesEither}
 use Rattle.bx_adding.proofs.Lacks.{full_so, never_first}
 use Rattle.bx_adding.proofs.Stopped.{wider}
@@ -50,13 +51,18 @@ returns-in-Err-enter-clause-lacks g c = λ volume truth tree d.
 pub returns-in-Ok-enter-clause-finds : goal.returns-in-Ok-enter-clause-finds
 returns-in-Ok-enter-clause-finds g c = λ volume truth tree d. c.in-Ok.ensures.finds volume truth tree d
 
+pub returns-in-Err-clause-need : goal.returns-in-Err-clause-need
+returns-in-Err-clause-need g c =
+    wider c.args.areas (g.V.View.held c.args.view.now) (OnRoomPath (parts_of c.args.directory.handle).area c.args.areas (g.V.View.held c.args.view.now) (g.V.View.hints c.args.view.now) c.args.directory.inode.tree c.args.name.now c.args.directory.inode.next)
+    (OnPlacing c.args.areas (g.V.View.held c.args.view.now) (g.V.View.hints c.args.view.now) c.args.directory.handle c.args.directory.inode c.args.name.now) (λ at mode on. inl on) c.in-Err.error c.in-Err.ensures.need
+
 pub returns-in-Err-enter-clause-need : goal.returns-in-Err-enter-clause-need
 returns-in-Err-enter-clause-need g c =
     wider c.args.areas (g.V.View.held c.args.view.now) (OnAddPath (g.V.View.held c.args.view.now) (g.V.View.hints c.args.view.now) c.in-Ok-make_new.draft c.args.directory.inode.tree (entry_of c.args.directory.inode.next c.args.name.now c.in-Ok-make_new.made)) (OnPlacing c.args.areas (g.V.View.held c.args.view.now) (g.V.View.hints c.args.view.now) c.args.directory.handle c.args.directory.inode c.args.name.now)
-    (λ at mode on. inr (inr (record { draft = c.in-Ok-make_new.draft; made = c.in-Ok-make_new.made; is = c.in-Ok-make_new.ensures.made; on = on }))) c.in-Err-enter.error c.in-Err-enter.ensures.need
+    (λ at mode on. inr (inr (record { draft = c.in-Ok-make_new.draft; made = c.in-Ok-make_new.made; is = rw c.of-near.ensures at c.in-Ok-make_new.ensures.made; on = on }))) c.in-Err-enter.error c.in-Err-enter.ensures.need
 
 pub returns-in-Err-enter-clause-full : goal.returns-in-Err-enter-clause-full
 returns-in-Err-enter-clause-full g c = full_so (λ spare never. absurd never) c.in-Err-enter.error c.in-Err-enter.ensures.full
 
 pub returns-in-Ok-enter-clause-near : goal.returns-in-Ok-enter-clause-near
-returns-in-Ok-enter-clause-near g c = first_near (g.V.View.held c.args.view.now) (parts_of c.args.directory.handle).area c.args.areas c.in-Ok-make_new.draft c.in-Ok-make_new.made c.in-Ok-make_new.ensures.made
+returns-in-Ok-enter-clause-near g c = first_near (g.V.View.held c.args.view.now) (parts_of c.args.directory.handle).area c.args.areas c.in-Ok-make_new.draft c.in-Ok-make_new.made (rw c.of-near.ensures at c.in-Ok-make_new.ensures.made)

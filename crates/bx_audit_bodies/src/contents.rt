@@ -54,7 +54,7 @@ pub(crate) fn bytes_of<B: Blocks>(
     ensures keeps_ready { B.ready blocks.new }
     ensures keeps_telling { B.tells blocks.old → B.tells blocks.new }
 {
-    let mut content = Content::zeros(alloc, size)?;
+    let mut content = Content::zeros(alloc, size);
     for piece in pieces {
         put_piece(blocks, areas, piece, size, tail, &mut content)?;
     }

@@ -12,7 +12,7 @@ ghost use Rattle.std.specs.Fmt.{decimal, digits};
 
 use bx_base::{OutOfMemory, Raw};
 use bx_model::Tree;
-use bx_tree_files::{Body, File, Name, NameList, mode_word, size_of};
+use bx_tree_files::{Body, Content, File, Name, NameList, mode_word, size_of};
 use std::alloc::Global;
 
 /// How many bytes of a file have a line.
@@ -46,7 +46,7 @@ fn put_body(text: &mut Vec<u8>, alloc: Global, body: &Body) -> Result<(), OutOfM
     ensures { OnOk result (text.new.items ≡ text.old.items ++ text_of (body_lines body.now)) }
 {
     match body {
-        Body::Bytes(content) => put_data(text, alloc, content.bytes()),
+        Body::Bytes(content) => put_data(text, alloc, content),
         Body::Path(path) => put_line(text, &path_line(alloc, path.bytes())?),
         Body::Names(parent, next, names) => {
             put_line(text, &dir_line(alloc, *parent, *next)?)?;
@@ -66,15 +66,14 @@ fn put_names(text: &mut Vec<u8>, alloc: Global, names: &NameList) -> Result<(), 
 }
 
 /// Puts a line for each piece of a file's bytes that isn't all zeros at the end of a text.
-fn put_data(text: &mut Vec<u8>, alloc: Global, bytes: &[u8]) -> Result<(), OutOfMemory>
-    ensures { OnOk result (text.new.items ≡ text.old.items ++ text_of (data_lines ((length bytes.now + 4095) / 4096) 0 bytes.now)) }
+fn put_data(text: &mut Vec<u8>, alloc: Global, content: &Content) -> Result<(), OutOfMemory>
+    requires { length content.now < 2 ^ 31 }
+    ensures { OnOk result (text.new.items ≡ text.old.items ++ text_of (data_lines ((length content.now + 4095) / 4096) 0 content.now)) }
 {
-    let mut offset = 0;
-    while offset < bytes.len() {
-        let rest = &bytes[offset..];
-        let len = PIECE.min(rest.len());
-        put_piece(text, alloc, offset, &rest[..len])?;
-        offset += PIECE;
+    let mut from = 0;
+    while let Some((index, piece)) = content.next_piece(from) {
+        put_piece(text, alloc, PIECE * index as usize, piece)?;
+        from = index + 1;
     }
     Ok(())
 }

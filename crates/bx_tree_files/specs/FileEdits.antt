@@ -56,8 +56,8 @@ CanEdit (MovedTo parent) file = Unit {0}
 
 -- the edits that take no memory
 abbrev pub is_sure : Edit → Bool
-is_sure (Fields sattr) = false
-is_sure (Size size) = false
+is_sure (Fields sattr) = true
+is_sure (Size size) = true
 is_sure (Data offset written) = false
 is_sure (Entered name handle counts) = false
 is_sure (Replaced name handle goes comes) = false

@@ -68,8 +68,14 @@ impl File {
         ensures sure { is_sure_edit edit.now ≡ true → IsOk result }
     {
         match edit {
-            Edit::Fields(sattr) => self.set_fields(sattr, now),
-            Edit::Size(size) => self.set_size(*size, now),
+            Edit::Fields(sattr) => {
+                self.set_fields(sattr, now);
+                Ok(())
+            }
+            Edit::Size(size) => {
+                self.set_size(*size, now);
+                Ok(())
+            }
             Edit::Data(offset, written) => self.write(*offset, written, now),
             Edit::Entered(name, handle, counts) => self.enter(name, *handle, *counts, now),
             Edit::Replaced(name, handle, goes, comes) => {
@@ -97,16 +103,15 @@ impl File {
     }
 
     /// Sets the attributes that are given.
-    fn set_fields(&mut self, sattr: &Sattr, now: (u32, u32)) -> Result<(), OutOfMemory>
+    fn set_fields(&mut self, sattr: &Sattr, now: (u32, u32))
         requires is { IsFile self.old }
         requires fits { (is_given_word sattr.now.size && nat_lt most_bytes sattr.now.size) ≡ false }
-        ensures ok { OnOk result (self.new ≡ with_fields now sattr.now self.old) }
-        ensures is { OnOk result (IsFile self.new) }
-        ensures err { OnErr result (self.new ≡ self.old) }
+        ensures set { self.new ≡ with_fields now sattr.now self.old }
+        ensures is { IsFile self.new }
     {
         let sized = is_given(sattr.size);
         if sized {
-            self.resize(sattr.size)?;
+            self.resize(sattr.size);
         }
         self.mode = given_or(sattr.mode, sattr.mode % MODES, self.mode);
         self.uid = given_or(sattr.uid, sattr.uid, self.uid);
@@ -114,35 +119,30 @@ impl File {
         self.atime = time_or(sattr.atime, self.atime);
         self.mtime = time_or(sattr.mtime, now_where(sized, now, self.mtime));
         self.ctime = now_where(sets_field(sattr), now, self.ctime);
-        Ok(())
     }
 
     /// Sets the size.
-    fn set_size(&mut self, size: u32, now: (u32, u32)) -> Result<(), OutOfMemory>
+    fn set_size(&mut self, size: u32, now: (u32, u32))
         requires is { IsFile self.old }
         requires fits { size ≤ most_bytes }
-        ensures ok { OnOk result (self.new ≡ with_size now size self.old) }
-        ensures is { OnOk result (IsFile self.new) }
-        ensures err { OnErr result (self.new ≡ self.old) }
+        ensures set { self.new ≡ with_size now size self.old }
+        ensures is { IsFile self.new }
     {
-        self.resize(size)?;
+        self.resize(size);
         self.mtime = now;
         self.ctime = now;
-        Ok(())
     }
 
     /// Another size of the content of a regular file.
-    fn resize(&mut self, size: u32) -> Result<(), OutOfMemory>
+    fn resize(&mut self, size: u32)
         requires is { IsFile self.old }
         requires fits { size ≤ most_bytes }
-        ensures ok { OnOk result (self.new ≡ record self.old { body = resized size self.old.body }) }
-        ensures is { OnOk result (IsFile self.new) }
-        ensures err { OnErr result (self.new ≡ self.old) }
+        ensures sized { self.new ≡ record self.old { body = resized size self.old.body } }
+        ensures is { IsFile self.new }
     {
         if let Body::Bytes(bytes) = &mut self.body {
-            bytes.resize(size)?;
+            bytes.resize(size);
         }
-        Ok(())
     }
 
     /// Writes bytes into the content of a regular file.

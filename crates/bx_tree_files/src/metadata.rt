@@ -65,7 +65,7 @@ pub fn size_of(body: &Body) -> u32
     ensures { result ≡ body_size body.now }
 {
     match body {
-        Body::Bytes(bytes) => bytes.bytes().len() as u32,
+        Body::Bytes(bytes) => bytes.len(),
         Body::Path(path) => path.bytes().len() as u32,
         Body::Names(_, _, _) => BLOCK_LEN,
     }

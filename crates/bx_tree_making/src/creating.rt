@@ -153,7 +153,7 @@ fn create_new(
     ensures err { OnErr result (tree.new ≡ tree.old) }
 {
     let size = given_or(sattr.size, sattr.size, 0);
-    let content = Content::zeros(tree.files.allocator(), size)?;
+    let content = Content::zeros(tree.files.allocator(), size);
     let file = new_file(call, sattr, now, FILE_MODE, made, Body::Bytes(content));
     let reply = handle_reply(tree, &file)?;
     make(tree, directory, name, now, file)?;

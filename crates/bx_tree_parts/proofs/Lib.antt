@@ -1,4 +1,6 @@
 pub mod GivenOut
-pub mod Over
 pub mod Indexed
 pub mod Paired
+mod Places
+mod Updated
+mod Contents

@@ -3,3 +3,6 @@ pub mod Times
 pub mod NameIndex
 pub mod Fileids
 pub mod Given
+pub mod Bytes
+pub mod Pieces
+pub mod Sparse

@@ -1,49 +1,84 @@
 //! Contents of files.
 
-ghost use Rattle.std.specs.Prelude.{◌≡◌, ◌+◌, ◌<◌, ◌≤◌, ◌^◌, ◌++◌, length, take, drop, replicate, IfOk, OnOk, OnErr};
-ghost use Rattle.bx_tree_parts.specs.Contents.{reaching, sized, written_over};
+ghost use Rattle.std.specs.Prelude.{◌≡◌, ◌+◌, ◌*◌, ◌<◌, ◌≤◌, ◌^◌, ◌++◌, length, take, drop, replicate, IfOk, MatchOption, OnOk, OnErr};
+ghost use Rattle.bx_tree_parts.specs.Contents.{sized, written_over};
+ghost use Rattle.bx_tree_parts.specs.Sparse.{AreZerosFrom, IsNext};
 
-use bx_base::OutOfMemory;
+use crate::pieces::Pieces;
+use bx_base::{OutOfMemory, Raw};
 use std::alloc::Global;
 use std::marker::Model;
 
-/// The bytes of a regular file. Contracts see them as a list.
+/// The bytes of a regular file. Contracts see them as a list; only pieces that were written take memory.
 #[derive(Drop)]
 pub struct Content {
-    bytes: Vec<u8>,
+    alloc: Global,
+    size: u32,
+    pieces: Pieces,
 }
 
 impl Model for Content {
     ghost use Rattle.std.specs.Prelude.{ℕ, List};
+    ghost use Rattle.bx_tree_parts.specs.Sparse.{IsContent, bytes_in};
 
     ghost Value = { List ℕ };
 
-    ghost view = { λ content. content.bytes.items };
+    ghost view = { λ content. bytes_in content.pieces content.size };
+
+    ghost invariant = { λ content. IsContent content.pieces content.size };
 }
 
 impl Content {
-    /// So many zeros.
-    pub fn zeros(alloc: Global, size: u32) -> Result<Content, OutOfMemory>
-        ensures { IfOk result (λ content. content ≡ replicate size 0) }
+    /// So many zeros. It takes no memory.
+    pub fn zeros(alloc: Global, size: u32) -> Content
+        ensures { result ≡ replicate size 0 }
     {
-        let bytes = vec![in alloc; 0; size as usize]?;
-        Ok(Content { bytes })
+        Content {
+            alloc,
+            size,
+            pieces: Pieces::new(alloc),
+        }
     }
 
-    /// The bytes.
-    pub fn bytes(&self) -> &[u8]
-        ensures { result.now ≡ self.now }
+    /// How many bytes there are.
+    pub fn len(&self) -> u32
+        ensures { result ≡ length self.now }
     {
-        self.bytes.as_slice()
+        self.size
     }
 
-    /// Cuts the bytes at a size, or puts zeros behind them up to it.
-    pub fn resize(&mut self, size: u32) -> Result<(), OutOfMemory>
-        ensures ok { OnOk result (self.new ≡ sized size self.old) }
-        ensures err { OnErr result (self.new ≡ self.old) }
+    /// The bytes from an offset on, at most so many.
+    pub fn part(&self, offset: u32, count: u32) -> Result<Raw, OutOfMemory>
+        ensures { IfOk result (λ bytes. bytes ≡ take count (drop offset self.now)) }
     {
-        self.bytes.resize(size as usize, 0)?;
-        Ok(())
+        let start = self.size.min(offset);
+        let len = (self.size - start).min(count);
+        let bytes = self.pieces.copy(self.alloc, start as usize, len as usize)?;
+        Ok(Raw::from(bytes))
+    }
+
+    /// The first piece with an index from one on that may have a byte that isn't zero: its index, and its bytes, as far as the file goes.
+    pub fn next_piece(&self, from: u32) -> Option<(u32, &[u8])>
+        ensures { MatchOption result (AreZerosFrom self.now (4096 * from)) (λ found. IsNext self.now from found.0 found.1.now) }
+    {
+        let (index, piece) = self.pieces.next(from)?;
+        let start = 4096 * u64::from(index);
+        let size = u64::from(self.size);
+        if start >= size {
+            return None;
+        }
+        let len = piece.len().min((size - start) as usize);
+        Some((index, &piece[..len]))
+    }
+
+    /// Cuts the bytes at a size, or puts zeros behind them up to it. It takes no memory.
+    pub fn resize(&mut self, size: u32)
+        ensures { self.new ≡ sized size self.old }
+    {
+        if size < self.size {
+            self.pieces.cut(size);
+        }
+        self.size = size;
     }
 
     /// Writes bytes over those from an offset on; a gap before it is zeros.
@@ -52,28 +87,13 @@ impl Content {
         ensures ok { OnOk result (self.new ≡ written_over offset written.now self.old) }
         ensures err { OnErr result (self.new ≡ self.old) }
     {
-        let end = offset as usize + written.len();
-        reach(&mut self.bytes, end)?;
-        put(&mut self.bytes, offset as usize, written);
+        let end = offset + written.len() as u32;
+        self.pieces
+            .hold_all(self.alloc, offset / 4096, end.div_ceil(4096))?;
+        self.pieces.put_all(offset as usize, written);
+        if self.size < end {
+            self.size = end;
+        }
         Ok(())
     }
-}
-
-/// Puts zeros behind bytes that are fewer than so many.
-fn reach(bytes: &mut Vec<u8>, end: usize) -> Result<(), OutOfMemory>
-    ensures ok { OnOk result (bytes.new.items ≡ reaching end bytes.old.items) }
-    ensures err { OnErr result (bytes.new.items ≡ bytes.old.items) }
-{
-    if bytes.as_slice().len() < end {
-        bytes.resize(end, 0)?;
-    }
-    Ok(())
-}
-
-/// Writes bytes over those from a place on.
-fn put(bytes: &mut [u8], at: usize, written: &[u8])
-    requires { at + length written.now ≤ length bytes.old }
-    ensures { bytes.new ≡ take at bytes.old ++ written.now ++ drop (at + length written.now) bytes.old }
-{
-    bytes[at..at + written.len()].copy_from_slice(written);
 }

@@ -6,6 +6,7 @@ mod content;
 mod fileids;
 mod handles;
 mod name_index;
+mod pieces;
 mod times;
 
 pub use content::Content;

@@ -87,17 +87,17 @@ pub fn read(
     let Some(file) = named(tree, at) else {
         return Ok(Reply::Status(STALE));
     };
-    let bytes = match &file.body {
+    let content = match &file.body {
         Body::Names(_, _, _) => return Ok(Reply::Status(ISDIR)),
         Body::Path(_) => return Ok(Reply::Status(NXIO)),
-        Body::Bytes(bytes) => bytes.bytes(),
+        Body::Bytes(content) => content,
     };
     if !may(call, file, Want::Read) {
         return Ok(Reply::Status(ACCES));
     }
     let alloc = tree.files.allocator();
     let words = attributes(alloc, tree.volume, file)?;
-    let bytes = Raw::of(alloc, part(bytes, offset, count))?;
+    let bytes = content.part(offset, count.min(MOST_DATA))?;
     Ok(Reply::Bytes(words, bytes))
 }
 
@@ -193,14 +193,4 @@ pub fn plain(program: u32, procedure: u32) -> Reply
         (MOUNT, EXPORT) => Reply::Exports,
         _ => Reply::Empty,
     }
-}
-
-/// The bytes from an offset on, at most so many and at most those of a transfer.
-fn part(bytes: &[u8], offset: u32, count: u32) -> &[u8]
-    ensures { result.now ≡ take (min count most_data) (drop offset bytes.now) }
-{
-    let start = bytes.len().min(offset as usize);
-    let rest = &bytes[start..];
-    let len = rest.len().min(count.min(MOST_DATA) as usize);
-    &rest[..len]
 }

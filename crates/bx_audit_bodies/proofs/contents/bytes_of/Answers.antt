@@ -12,8 +12,8 @@ use Rattle.bx_audit_bodies.proofs.contents.bytes_of.Goals as goal
 
 pub returns-in_err-put_piece-clause-torn : goal.returns-in_err-put_piece-clause-torn
 returns-in_err-put_piece-clause-torn g c = λ chunks shows apart.
-    let p = err_from_is_err_and c.from_residual-in_err-put_piece.result c.from_residual-in_err-put_piece.ensures.1 in
-    if_torn _ _ c.in_err-put_piece.field-0.0 c.from_residual-in_err-put_piece.result (p.1 ∙ ap Err p.2)
+    let p = err_from_is_err_and c.from_residual.result c.from_residual.ensures.1 in
+    if_torn _ _ c.in_err-put_piece.field-0.0 c.from_residual.result (p.1 ∙ ap Err p.2)
     (λ at found wanted never bytes all are. no_bytes_of chunks c.args.pieces.now c.loop-piece.piece-index _ c.loop-piece-test.true c.args.size c.args.tail bytes apart c.in_err-put_piece.ensures.fits never all are)
     (c.in_err-put_piece.ensures.torn chunks (c.loop-piece.invariant.shows chunks shows))
 
@@ -49,8 +49,8 @@ returns-clause-bytes g c = λ chunks shows apart.
 
 pub returns-in_err-put_piece-clause-names : goal.returns-in_err-put_piece-clause-names
 returns-in_err-put_piece-clause-names g c =
-    let p = err_from_is_err_and c.from_residual-in_err-put_piece.result c.from_residual-in_err-put_piece.ensures.1 in
-    if_torn _ _ c.in_err-put_piece.field-0.0 c.from_residual-in_err-put_piece.result (p.1 ∙ ap Err p.2) (λ at found wanted is. one_at c.args.pieces.now c.loop-piece.piece-index _ wanted c.loop-piece-test.true is) (c.in_err-put_piece.ensures.names)
+    let p = err_from_is_err_and c.from_residual.result c.from_residual.ensures.1 in
+    if_torn _ _ c.in_err-put_piece.field-0.0 c.from_residual.result (p.1 ∙ ap Err p.2) (λ at found wanted is. one_at c.args.pieces.now c.loop-piece.piece-index _ wanted c.loop-piece-test.true is) (c.in_err-put_piece.ensures.names)
 
 pub returns-in_err-put_piece-clause-shows : goal.returns-in_err-put_piece-clause-shows
 returns-in_err-put_piece-clause-shows g c = λ chunks shows. c.in_err-put_piece.ensures.shows chunks (c.loop-piece.invariant.shows chunks shows)

@@ -31,6 +31,9 @@ use Rattle.bx_audit_bodies.specs.declared.pieces.Piece.{Piece}
 use Rattle.bx_audit_bodies.proofs.ClaimsOfTrees.{all_claimed, are_claims, agree, complete, has_root, pages_own}
 use Rattle.bx_audit_bodies.proofs.EntriesOfPieces.{apart, piece_found, names_it, entry_is, named_by}
 
+some_file : (file : File) → Some file ≡ None → ⊥
+some_file file e = cc
+
 -- ---- bodies by the kinds of inodes
 
 module _ (chunks : Chunks) (owner : ℕ → Owner) (handle : ℕ) (inode : Inode) (tree : PageTree) where
@@ -185,6 +188,7 @@ module _ (chunks : Chunks) (none : chunks 0 ≡ None) (inode : Inode) (pieces : 
     pub dead_read : (handle : ℕ) → inode.kind ≡ 0 → HasBodyOf chunks handle inode None claims
     dead_read handle kind = record {
       tree = tree_of read.levels;
+      dead = (λ zero. refl, λ none. kind);
       is = λ owner agrees. record { file = record { kind = kind; tree = inr (tree_own owner handle agrees, contents_own owner handle agrees) }; is_file = tt };
       are_claims = claims_there;
       agrees = λ owner other found body. by owner other (dead_is chunks owner handle inode other found kind body);
@@ -202,6 +206,7 @@ module _ (chunks : Chunks) (none : chunks 0 ≡ None) (inode : Inode) (pieces : 
         → AreBytesOf (piece_among chunks pieces) inode.size inode.tail bytes → HasBodyOf chunks handle inode (Some (file_with handle inode (Bytes bytes))) claims
     regular_read handle bytes is_inode kind small are = record {
       tree = tree_of read.levels;
+      dead = (λ zero. absurd (omega (arith, zero, kind)), λ no_file. absurd (some_file (file_with handle inode (Bytes bytes)) no_file));
       is = λ owner agrees. record {
         file = (
           refl,
@@ -261,6 +266,7 @@ module _ (chunks : Chunks) (none : chunks 0 ≡ None) (inode : Inode) (levels : 
       → HasBodyOf chunks handle inode (Some (file_with handle inode (Names inode.parent inode.next names))) claims
   directory_read handle is_inode kind fewer below = record {
     tree = tree_of levels;
+    dead = (λ zero. absurd (omega (arith, zero, kind)), λ no_file. absurd (some_file (file_with handle inode (Names inode.parent inode.next names)) no_file));
     is = λ owner agrees. record {
       file = (
         refl,
@@ -294,6 +300,7 @@ module _ (chunks : Chunks) (handle : ℕ) (inode : Inode) (claims : List Claim) 
   pub dead_alone : inode.kind ≡ 0 → HasBodyOf chunks handle inode None claims
   dead_alone kind = record {
     tree = no_pages;
+    dead = (λ zero. refl, λ none. kind);
     is = λ owner agrees. record { file = record { kind = kind; tree = inl no_tree }; is_file = tt };
     are_claims = record { each = λ claim within. absurd (nothing claim within) };
     agrees = λ owner other found body claim within. absurd (nothing claim within);
@@ -303,6 +310,7 @@ module _ (chunks : Chunks) (handle : ℕ) (inode : Inode) (claims : List Claim) 
   pub link_read : IsInode inode → inode.kind ≡ 5 → HasBodyOf chunks handle inode (Some (file_with handle inode (Path inode.path))) claims
   link_read is_inode kind = record {
     tree = no_pages;
+    dead = (λ zero. absurd (omega (arith, zero, kind)), λ no_file. absurd (some_file (file_with handle inode (Path inode.path)) no_file));
     is = λ owner agrees. record {
       file = (refl, record { kind = refl; mode = refl; nlink = refl; uid = refl; gid = refl; atime = refl; mtime = refl; ctime = refl }, record { kind = kind; no_tree = no_tree; path_is = refl });
       is_file = record { kind = kind; mode = is_inode.mode; size = short; numbers = tt };

@@ -4,7 +4,7 @@ use Rattle.std.specs.Prelude.{IfSome, IfNone}
 use Rattle.bx_audit_trees.specs.declared.error.AuditError.{AuditError}
 use Rattle.bx_audit_trees.specs.declared.error.AuditError.TheVariants.{Torn, Fault, OutOfMemory}
 use Rattle.std.proofs.Common.{ℕ}
-use Rattle.bx_audit_trees.specs.Errors.{IfTorn, IfTornError}
+use Rattle.bx_audit_trees.specs.Errors.{IfTorn}
 
 pub if_some : {A : Type 0} (P Q : A → Type 0) (o : Option A) → ((x : A) → P x → Q x) → IfSome o P → IfSome o Q
 if_some P Q (Some x) implies is = implies x is
@@ -19,9 +19,3 @@ torn_too P Q (Ok x) implies is = is
 torn_too P Q (Err (Torn at found wanted)) implies is = implies at found wanted is
 torn_too P Q (Err Fault) implies is = is
 torn_too P Q (Err OutOfMemory) implies is = is
-
--- of what is torn two facts hold together
-pub both_torn : (P Q : ℕ → ℕ → ℕ → Type 0) (error : AuditError) → IfTornError error P → IfTornError error Q → IfTornError error (λ at found wanted. P at found wanted × Q at found wanted)
-both_torn P Q (Torn at found wanted) holds too = (holds, too)
-both_torn P Q Fault holds too = tt
-both_torn P Q OutOfMemory holds too = tt

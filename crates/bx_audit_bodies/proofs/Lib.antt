@@ -9,3 +9,4 @@ pub mod Followers
 pub mod Cases
 pub mod ReadFiles
 pub mod PartsLed
+pub mod FaultsOfParts

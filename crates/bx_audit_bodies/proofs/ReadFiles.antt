@@ -55,6 +55,8 @@ module _ (chunks : Chunks) (handle : ℕ) (inode : Inode) (at : IsInodeAt chunks
   pub read_as : (file : Option File) (claims : List Claim) → HasBodyOf chunks handle inode file claims → IsReadAs chunks handle file claims
   read_as file claims body = record {
     stored = record { inode = inode; tree = body.tree };
+    at = at;
+    dead = body.dead;
     is = λ owner agrees. let b = body.is owner agrees in record { block = at.block; chunk = at.chunk; inode = at.has; file = b.file; is_file = b.is_file };
     are_claims = body.are_claims;
     only = λ owner other found is.

@@ -1,5 +1,5 @@
 -- What an inode that was read has: its file, or that it is dead, and the chunks of its tree.
-use Rattle.std.specs.Prelude.{◌≡◌, ◌≢◌, ℕ, ◌++◌, List, Contains, Option, IfSome}
+use Rattle.std.specs.Prelude.{◌≡◌, ◌≢◌, ◌↔◌, ℕ, ◌++◌, List, Contains, Option, None, IfSome}
 use Rattle.bx_layout.specs.declared.inode.Inode.{Inode}
 use Rattle.bx_tree_files.specs.declared.file.Body.{Body}
 use Rattle.bx_tree_files.specs.declared.file.File.{File}
@@ -41,9 +41,10 @@ pub record IsBodyOf (chunks : Chunks) (owner : ℕ → Owner) (handle : ℕ) (in
   pub is_file : IfSome found IsFile
 
 -- The inode is that of this file, or a dead one, by each owner that agrees with the claims; these are those of its tree; and by any owner
--- that it has a file by, or is dead by, it is so.
+-- that it has a file by, or is dead by, it is so. By its kind it is dead exactly where there is no file.
 pub record HasBodyOf (chunks : Chunks) (handle : ℕ) (inode : Inode) (file : Option File) (claims : List Claim) : Type 0 where
   pub tree : PageTree
+  pub dead : (inode.kind ≡ 0) ↔ (file ≡ None)
   pub is : (owner : ℕ → Owner) → AgreesWith owner handle claims → IsBodyOf chunks owner handle inode tree file
   pub are_claims : AreClaims chunks (record { inode = inode; tree = tree }) claims
   pub agrees : (owner : ℕ → Owner) (other : PageTree) (found : Option File) → IsBodyOf chunks owner handle inode other found → AgreesWith owner handle claims

@@ -6,3 +6,4 @@ pub mod Lists
 pub mod Bodies
 pub mod Reading
 pub mod Parts
+pub mod Faults

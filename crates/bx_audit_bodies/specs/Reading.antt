@@ -1,5 +1,6 @@
 -- What is read of an inode: its file, or that it is dead, and the chunks that it has.
-use Rattle.std.specs.Prelude.{◌≡◌, ◌≢◌, ℕ, List, Contains, Option, Some, IfSome, ◌<◌, AllPairs}
+use Rattle.std.specs.Prelude.{◌≡◌, ◌≢◌, ◌↔◌, ℕ, List, Contains, Option, Some, None, IfSome, ◌<◌, AllPairs}
+use Rattle.bx_audit_files.specs.Inodes.{IsInodeAt}
 use Rattle.bx_layout.specs.declared.block.Block.{Block}
 use Rattle.bx_layout.specs.declared.inode.Inode.{Inode}
 use Rattle.bx_tree_files.specs.declared.file.Body.{Body}
@@ -27,10 +28,12 @@ pub record IsOnly (chunks : Chunks) (owner : ℕ → Owner) (handle : ℕ) (stor
   pub agrees : AgreesWith owner handle claims
   pub complete : stored.inode.tree ≢ 0 → (named : ℕ) (piece : Option ℕ) → IsNamedBy stored.tree named piece → Contains claims (record { handle = named; piece = piece })
 
--- The handle names an inode with this file, or a dead one, and these are its claims: with owners that agree it is stored so, and
--- nothing else is.
+-- The handle names an inode with this file, or one that is dead by its kind, where there is none, and these are its claims: with owners that agree it is
+-- stored so, and nothing else is.
 pub record IsReadAs (chunks : Chunks) (handle : ℕ) (file : Option File) (claims : List Claim) : Type 0 where
   pub stored : Stored
+  pub at : IsInodeAt chunks handle stored.inode
+  pub dead : (stored.inode.kind ≡ 0) ↔ (file ≡ None)
   pub is : (owner : ℕ → Owner) → AgreesWith owner handle claims → IsStored chunks owner handle stored file
   pub are_claims : AreClaims chunks stored claims
   pub only : (owner : ℕ → Owner) (other : Stored) (found : Option File) → IsStored chunks owner handle other found → IsOnly chunks owner handle other found stored.inode claims file

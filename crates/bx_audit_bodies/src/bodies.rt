@@ -2,6 +2,7 @@
 
 ghost use Rattle.std.specs.Prelude.{◌≡◌, ◌≤◌, ◌<◌, ◌^◌, ℕ, All, Contains, Option, IfOk, IfSome, IsErrOf};
 ghost use Rattle.bx_audit_bodies.specs.Bodies.{HasBodyOf, HasPieces, IsBodyOf, file_with as file_with_body};
+ghost use Rattle.bx_audit_bodies.specs.Faults.{HasFaultIn};
 ghost use Rattle.bx_audit_bodies.specs.Parts.{IsPartWith, IsTornDead, IsTornTree};
 ghost use Rattle.bx_audit_bodies.specs.Pieces.{IsPieceEntry};
 ghost use Rattle.bx_audit_bodies.specs.declared.pieces.Piece.{Piece as Part};
@@ -32,7 +33,7 @@ use std::alloc::Global;
 const MOST_BYTES: u64 = 2147483647;
 
 /// The pieces of a tree under a root, and the claims of its pages and of the pieces. Torn exactly where no tree is there whose entries
-/// all name pieces.
+/// all name pieces: of a page that is wrong, or the first leaf with an entry that names none.
 fn pieces_under<B: Blocks>(
     alloc: Global,
     blocks: &mut B,
@@ -56,9 +57,7 @@ fn pieces_under<B: Blocks>(
     ensures keeps_telling { B.tells blocks.old → B.tells blocks.new }
 {
     let tree = tree_under(alloc, blocks, areas, root)?;
-    let Some(pieces) = pieces_of(alloc, &tree)? else {
-        return Err(torn_at(root));
-    };
+    let pieces = pieces_of(alloc, &tree)?;
     let claims = claims_of(alloc, &tree, &pieces)?;
     Ok((pieces, claims))
 }
@@ -82,6 +81,7 @@ pub(crate) fn regular_of<B: Blocks>(
     ensures torn { (chunks : Chunks) → Shows (B.tells blocks.old) areas (B.stands blocks.old) chunks
         → IfTorn result (λ at found wanted. (owner : ℕ → Owner) (tree : PageTree) (file : Option Kept) → IsBodyOf chunks owner handle inode.now tree file → ⊥) }
     ensures part { (chunks : Chunks) → Shows (B.tells blocks.old) areas (B.stands blocks.old) chunks → IfTorn result (λ at found wanted. IsPartWith chunks handle inode.now.tree wanted) }
+    ensures fault { (chunks : Chunks) → Shows (B.tells blocks.old) areas (B.stands blocks.old) chunks → IfTorn result (λ at found wanted. HasFaultIn chunks handle inode.now wanted) }
     ensures shows { (chunks : Chunks) → Shows (B.tells blocks.old) areas (B.stands blocks.old) chunks → Shows (B.tells blocks.new) areas (B.stands blocks.new) chunks }
     ensures counts { Counts result (B.faults blocks.old) (B.faults blocks.new) }
     ensures keeps_areas { B.areas blocks.new ≡ B.areas blocks.old }
@@ -119,6 +119,7 @@ pub(crate) fn directory_of<B: Blocks>(
     ensures torn { (chunks : Chunks) → Shows (B.tells blocks.old) areas (B.stands blocks.old) chunks
         → IfTorn result (λ at found wanted. (owner : ℕ → Owner) (tree : PageTree) (file : Option Kept) → IsBodyOf chunks owner handle inode.now tree file → ⊥) }
     ensures part { (chunks : Chunks) → Shows (B.tells blocks.old) areas (B.stands blocks.old) chunks → IfTorn result (λ at found wanted. IsPartWith chunks handle inode.now.tree wanted) }
+    ensures fault { (chunks : Chunks) → Shows (B.tells blocks.old) areas (B.stands blocks.old) chunks → IfTorn result (λ at found wanted. HasFaultIn chunks handle inode.now wanted) }
     ensures shows { (chunks : Chunks) → Shows (B.tells blocks.old) areas (B.stands blocks.old) chunks → Shows (B.tells blocks.new) areas (B.stands blocks.new) chunks }
     ensures counts { Counts result (B.faults blocks.old) (B.faults blocks.new) }
     ensures keeps_areas { B.areas blocks.new ≡ B.areas blocks.old }
@@ -149,6 +150,7 @@ pub(crate) fn link_of(alloc: Global, handle: u64, inode: &Inode) -> Result<ReadF
     ensures apart { IfOk result (λ read. IfSome read.file (λ file. AreEntriesApart file.body)) }
     ensures torn { (chunks : Chunks) → IfTorn result (λ at found wanted. (owner : ℕ → Owner) (tree : PageTree) (file : Option Kept) → IsBodyOf chunks owner handle inode.now tree file → ⊥) }
     ensures part { IfTorn result (λ at found wanted. wanted ≡ handle) }
+    ensures fault { (chunks : Chunks) → IfTorn result (λ at found wanted. HasFaultIn chunks handle inode.now wanted) }
     ensures no_fault { IsErrOf result DiskFailed → ⊥ }
 {
     if inode.tree != 0 {
@@ -180,6 +182,7 @@ pub(crate) fn dead_of<B: Blocks>(
     ensures torn { (chunks : Chunks) → Shows (B.tells blocks.old) areas (B.stands blocks.old) chunks
         → IfTorn result (λ at found wanted. (owner : ℕ → Owner) (tree : PageTree) (file : Option Kept) → IsBodyOf chunks owner handle inode.now tree file → ⊥) }
     ensures part { (chunks : Chunks) → Shows (B.tells blocks.old) areas (B.stands blocks.old) chunks → IfTorn result (λ at found wanted. IsPartWith chunks handle inode.now.tree wanted) }
+    ensures fault { (chunks : Chunks) → Shows (B.tells blocks.old) areas (B.stands blocks.old) chunks → IfTorn result (λ at found wanted. HasFaultIn chunks handle inode.now wanted) }
     ensures first { (chunks : Chunks) → Shows (B.tells blocks.old) areas (B.stands blocks.old) chunks → IfTorn result (λ at found wanted. IsTornDead chunks inode.now.tree wanted) }
     ensures shows { (chunks : Chunks) → Shows (B.tells blocks.old) areas (B.stands blocks.old) chunks → Shows (B.tells blocks.new) areas (B.stands blocks.new) chunks }
     ensures counts { Counts result (B.faults blocks.old) (B.faults blocks.new) }

@@ -2,7 +2,7 @@
 
 ghost use Rattle.std.specs.Prelude.{◌≡◌, ◌+◌, ◌*◌, ◌^◌, ◌<◌, ◌≤◌, ◌↔◌, ℕ, List, All, take, slice_index, IfOk, OnOk, IsTrue, length};
 ghost use Rattle.bx_audit_bodies.specs.Contents.{IsClear, PutsPiece, with_piece};
-ghost use Rattle.bx_audit_bodies.specs.Parts.{IsFirstPiece, IsOfOne};
+ghost use Rattle.bx_audit_bodies.specs.Parts.{IsFirstPiece, IsOfOne, IsUnclearPiece};
 ghost use Rattle.bx_audit_bodies.specs.Pieces.{AreApart, HasPiece, piece_among};
 ghost use Rattle.bx_audit_files.specs.Inodes.{IsBlockAt};
 ghost use Rattle.bx_audit_trees.specs.Errors.{IfTorn, Counts};
@@ -28,7 +28,7 @@ const DATA: u32 = 3;
 const PIECE: u64 = 4096;
 
 /// The bytes of a file of a size: those of the blocks of its pieces, and zeros where there is no piece. Torn exactly where a piece
-/// has no block, or a block has a byte from the tail on that isn't zero.
+/// has no block, or a block has a byte from the tail on that isn't zero: of such a piece.
 pub(crate) fn bytes_of<B: Blocks>(
     alloc: Global,
     blocks: &mut B,
@@ -47,6 +47,7 @@ pub(crate) fn bytes_of<B: Blocks>(
         → IfTorn result (λ at found wanted. (bytes : List ℕ) → All (HasPiece chunks) pieces.now → AreBytesOf (piece_among chunks pieces.now) size tail bytes → ⊥) }
     ensures len { IfOk result (λ content. length content ≡ size) }
     ensures names { IfTorn result (λ at found wanted. IsOfOne pieces.now wanted) }
+    ensures wrong { (chunks : Chunks) → Shows (B.tells blocks.old) areas (B.stands blocks.old) chunks → IfTorn result (λ at found wanted. IsUnclearPiece chunks pieces.now tail wanted) }
     ensures shows { (chunks : Chunks) → Shows (B.tells blocks.old) areas (B.stands blocks.old) chunks → Shows (B.tells blocks.new) areas (B.stands blocks.new) chunks }
     ensures counts { Counts result (B.faults blocks.old) (B.faults blocks.new) }
     ensures keeps_areas { B.areas blocks.new ≡ B.areas blocks.old }

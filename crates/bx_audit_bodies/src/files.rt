@@ -1,6 +1,7 @@
 //! The file of an inode.
 
 ghost use Rattle.std.specs.Prelude.{◌≡◌, ◌≤◌, ℕ, None, Option, IfOk, IfSome};
+ghost use Rattle.bx_audit_bodies.specs.Faults.{HasFault};
 ghost use Rattle.bx_audit_bodies.specs.Parts.{IsPartOf, IsTornDead};
 ghost use Rattle.bx_audit_bodies.specs.Reading.{AreEntriesApart, IsReadAs, IsStored};
 ghost use Rattle.bx_audit_trees.specs.Errors.{IfTorn, Counts};
@@ -30,7 +31,7 @@ pub struct ReadFile {
 }
 
 /// The file of the inode that a handle names, or that it is dead, with the chunks that it has. Torn exactly where the handle names no
-/// such inode, whoever may have which chunks.
+/// such inode, whoever may have which chunks: of a part that is wrong.
 pub fn file_of<B: Blocks>(
     alloc: Global,
     blocks: &mut B,
@@ -47,6 +48,7 @@ pub fn file_of<B: Blocks>(
         → IfTorn result (λ at found wanted. (owner : ℕ → Owner) (stored : Stored) (file : Option Kept) → IsStored chunks owner handle stored file → ⊥) }
     ensures names { (chunks : Chunks) → Shows (B.tells blocks.old) areas (B.stands blocks.old) chunks → chunks handle ≡ None → IfTorn result (λ at found wanted. wanted ≡ handle) }
     ensures part { (chunks : Chunks) → Shows (B.tells blocks.old) areas (B.stands blocks.old) chunks → IfTorn result (λ at found wanted. IsPartOf chunks handle wanted) }
+    ensures fault { (chunks : Chunks) → Shows (B.tells blocks.old) areas (B.stands blocks.old) chunks → IfTorn result (λ at found wanted. HasFault chunks handle wanted) }
     ensures dead { (chunks : Chunks) → Shows (B.tells blocks.old) areas (B.stands blocks.old) chunks → (inode : Inode) → IsInodeAt chunks handle inode → inode.kind ≡ 0 → IfTorn result (λ at found wanted. IsTornDead chunks inode.tree wanted) }
     ensures shows { (chunks : Chunks) → Shows (B.tells blocks.old) areas (B.stands blocks.old) chunks → Shows (B.tells blocks.new) areas (B.stands blocks.new) chunks }
     ensures counts { Counts result (B.faults blocks.old) (B.faults blocks.new) }

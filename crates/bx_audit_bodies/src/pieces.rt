@@ -1,13 +1,16 @@
 //! The pieces of files, as the entries of their trees name them.
 
-ghost use Rattle.std.specs.Prelude.{◌≡◌, ◌++◌, ◌^◌, ◌<◌, ℕ, List, All, take, drop, map, IfOk, IfSome, IfNone, IsTrue, IsFalse};
+ghost use Rattle.std.specs.Prelude.{◌≡◌, ◌++◌, ◌^◌, ◌<◌, ℕ, List, [], All, take, drop, map, slice_index_or, IfOk, IfSome, IfNone, IsErrOf, IsTrue, IsFalse};
+ghost use Rattle.bx_audit_bodies.specs.Parts.{IsFirstLeaf};
 ghost use Rattle.bx_audit_bodies.specs.Pieces.{ArePieces, IsPieceEntry, IsOfPiece, piece_in};
+ghost use Rattle.bx_audit_trees.specs.declared.error.AuditError.TheVariants.{Fault as DiskFailed};
+ghost use Rattle.bx_audit_trees.specs.Errors.{IfTorn};
 ghost use Rattle.bx_audit_trees.specs.Trees.{tree_of};
 ghost use Rattle.bx_truth.specs.Keys.{content_key, content_value};
 ghost use Rattle.bx_truth.specs.PageTrees.{map_of};
 
 use bx_audit_files::{handle_in, number_in};
-use bx_audit_trees::ReadTree;
+use bx_audit_trees::{AuditError, ReadTree, torn_at};
 use bx_base::OutOfMemory;
 use bx_page::{Entry, Page};
 use std::alloc::Global;
@@ -24,19 +27,21 @@ pub struct Piece {
     pub handle: u64,
 }
 
-/// The pieces that the entries of a tree name, in the order of their indices. `None` exactly where some entry names none.
-pub(crate) fn pieces_of(alloc: Global, tree: &ReadTree) -> Result<Option<Vec<Piece>>, OutOfMemory>
-    ensures some { IfOk result (λ found. IfSome found (λ pieces. ArePieces (map_of (tree_of tree.now)) pieces.items)) }
-    ensures none { IfOk result (λ found. IfNone found (All IsPieceEntry (map_of (tree_of tree.now)) → ⊥)) }
+/// The pieces that the entries of a tree name, in the order of their indices. Torn exactly where some entry names none: of the first leaf with
+/// such an entry.
+pub(crate) fn pieces_of(alloc: Global, tree: &ReadTree) -> Result<Vec<Piece>, AuditError>
+    ensures ok { IfOk result (λ pieces. ArePieces (map_of (tree_of tree.now)) pieces.items) }
+    ensures torn { IfTorn result (λ at found wanted. IsFirstLeaf (slice_index_or tree.now 0 []) wanted) }
+    ensures no_fault { IsErrOf result DiskFailed → ⊥ }
 {
     let mut pieces = Vec::new(alloc);
     let leaves = tree.leaves();
     for leaf in leaves {
         if !put_pieces(leaf.page(), &mut pieces)? {
-            return Ok(None);
+            return Err(torn_at(leaf.handle()));
         }
     }
-    Ok(Some(pieces))
+    Ok(pieces)
 }
 
 /// Puts the pieces that the entries of a leaf name behind others, and says whether each entry names one.

@@ -12,12 +12,6 @@ never_torn Q (Err (Torn at found wanted)) never = absurd never
 never_torn Q (Err Fault) never = tt
 never_torn Q (Err OutOfMemory) never = tt
 
--- of what is torn two facts hold together
-pub both_torn : (P Q : ℕ → ℕ → ℕ → Type 0) (error : AuditError) → IfTornError error P → IfTornError error Q → IfTornError error (λ at found wanted. P at found wanted × Q at found wanted)
-both_torn P Q (Torn at found wanted) holds too = (holds, too)
-both_torn P Q Fault holds too = tt
-both_torn P Q OutOfMemory holds too = tt
-
 -- what is torn for a reason is so for what follows from it
 pub torn_too : {A : Type 0} (P Q : ℕ → ℕ → ℕ → Type 0) (now : Result A AuditError) → ((at found wanted : ℕ) → P at found wanted → Q at found wanted) → IfTorn now P → IfTorn now Q
 torn_too P Q (Ok value) implies holds = tt

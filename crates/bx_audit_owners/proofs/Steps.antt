@@ -36,7 +36,7 @@ module _ (chunks : Chunks) (before : Holdings) (files : List File) (handle : ℕ
   reading_of file read = record { stored = read.stored; claims = claims }
 
   is_so : (file : Option File) (read : IsReadAs chunks handle file claims) → IsReadSo chunks handle file (reading_of file read)
-  is_so file read = record { is = read.is; are_claims = read.are_claims; only = read.only }
+  is_so file read = record { at = read.at; dead = read.dead; is = read.is; are_claims = read.are_claims; only = read.only }
 
   no_file_yet : before handle ≡ None → file_at files handle ≡ None
   no_file_yet new = by (file_at files handle) refl

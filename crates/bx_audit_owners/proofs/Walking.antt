@@ -4,13 +4,14 @@ use Rattle.std.specs.Prelude.{◌≢◌, Contains, map}
 use Rattle.std.proofs.lemmas.List.Elements.{Contains-append_left, Contains-append_right, Contains-append_cases}
 use Rattle.bx_audit_bodies.specs.declared.claims.Claim.{Claim}
 use Rattle.bx_audit_bodies.specs.Claims.{IsClaim}
+use Rattle.bx_audit_bodies.specs.Faults.{HasFault, Missing}
 use Rattle.bx_audit_bodies.specs.Reading.{IsReadAs, IsStored}
 use Rattle.bx_audit_bodies.proofs.Members.{contains_map, from_map}
 use Rattle.bx_audit_owners.specs.declared.holders.Holder.{Holder}
 use Rattle.bx_audit_owners.specs.declared.holders.Holder.TheVariants.{File as OfFile, Dead as OfDead, Page as OfPage, Piece as OfPiece}
 use Rattle.bx_audit_owners.specs.Found.{IsFound, IsInode}
 use Rattle.bx_audit_owners.specs.Holding.{Adds, Holdings, IsHeldAfter, holder_by}
-use Rattle.bx_audit_owners.specs.Walks.{HaveNoTree, HaveTree, IsFileAt, IsMet, IsTaken, IsUnread, IsWalked, IsWrongMet, Meets, Again, New, Root, Named}
+use Rattle.bx_audit_owners.specs.Walks.{HaveNoTree, HaveTree, IsDeadMet, IsFileAt, IsMet, IsTaken, IsUnread, IsWalked, IsWrongMet, Meets, Again, New, Root, Named}
 use Rattle.bx_audit_owners.proofs.Founds.{none_found}
 use Rattle.bx_audit_owners.proofs.Holding.{one_there}
 use Rattle.bx_audit_owners.proofs.InOrder.{with_here, with_other}
@@ -40,28 +41,42 @@ some_same x y e = cc
 
 module _ (chunks : Chunks) (holdings : Holdings) (files : List File) (found : IsFound chunks holdings files) (handle : ℕ) where
   of_claim : (inode : ℕ) (piece : Option ℕ) (kind : ℕ) → kind ≢ 1 → ((block : Block) → IsClaim chunks (found.readings inode).stored (record { handle = handle; piece = piece }) → chunks handle ≡ Some block → block.kind ≡ kind)
-      → holdings handle ≡ Some (holder_by inode piece) → (owner : ℕ → Owner) (stored : Stored) (file : Option File) → IsStored chunks owner handle stored file → ⊥
-  of_claim inode piece kind other tells held owner stored file is =
+      → holdings handle ≡ Some (holder_by inode piece) → (block : Block) → chunks handle ≡ Some block → block.kind ≡ 1 → ⊥
+  of_claim inode piece kind other tells held block there is =
       let c = found.claimed handle inode piece held in
       let claim = (found.inodes inode c.0).are_claims.each (record { handle = handle; piece = piece }) c.1 in
-      other (sym (tells is.block claim is.chunk) ∙ is.inode.kind)
+      other (sym (tells block claim there) ∙ is)
 
   same_kind : (a b : Block) (kind : ℕ) → chunks handle ≡ Some a → a.kind ≡ kind → chunks handle ≡ Some b → b.kind ≡ kind
   same_kind a b kind is_a kind_a is_b = ap (λ (x : Block). x.kind) (some_same b a (sym is_b ∙ is_a)) ∙ kind_a
 
-  no_inode : (held : Holder) → holdings handle ≡ Some held → (IsInode (Some held) → ⊥) → (owner : ℕ → Owner) (stored : Stored) (file : Option File) → IsStored chunks owner handle stored file → ⊥
-  no_inode OfFile there apart owner stored file is = absurd (apart tt)
-  no_inode OfDead there apart owner stored file is = absurd (apart tt)
-  no_inode (OfPage inode) there apart owner stored file is = of_claim inode None 2 (λ e. omega (arith, e)) (λ block claim chunk. same_kind claim.block block 2 claim.chunk claim.kind chunk) there owner stored file is
-  no_inode (OfPiece inode index) there apart owner stored file is = of_claim inode (Some index) 3 (λ e. omega (arith, e)) (λ block claim chunk. same_kind claim.block block 3 claim.chunk claim.kind chunk) there owner stored file is
+  no_inode : (held : Holder) → holdings handle ≡ Some held → (IsInode (Some held) → ⊥) → (block : Block) → chunks handle ≡ Some block → block.kind ≡ 1 → ⊥
+  no_inode OfFile there apart block chunk is = absurd (apart tt)
+  no_inode OfDead there apart block chunk is = absurd (apart tt)
+  no_inode (OfPage inode) there apart block chunk is = of_claim inode None 2 (λ e. omega (arith, e)) (λ block claim chunk. same_kind claim.block block 2 claim.chunk claim.kind chunk) there block chunk is
+  no_inode (OfPiece inode index) there apart block chunk is = of_claim inode (Some index) 3 (λ e. omega (arith, e)) (λ block claim chunk. same_kind claim.block block 3 claim.chunk claim.kind chunk) there block chunk is
 
   pub other_has_none : (held : Holder) → holdings handle ≡ Some held → (held ≡ OfFile → ⊥) → (owner : ℕ → Owner) (stored : Stored) (file : File) → IsStored chunks owner handle stored (Some file) → ⊥
   other_has_none OfFile there apart owner stored file is = apart refl
   other_has_none OfDead there apart owner stored file is =
       let only = (found.inodes handle (subst IsInode (sym there) tt)).only owner stored (Some file) is in
       none_some (file_at files handle) file (no_file chunks holdings files found handle there) (sym only.same_file)
-  other_has_none (OfPage inode) there apart owner stored file is = no_inode (OfPage inode) there (λ is. is) owner stored (Some file) is
-  other_has_none (OfPiece inode index) there apart owner stored file is = no_inode (OfPiece inode index) there (λ is. is) owner stored (Some file) is
+  other_has_none (OfPage inode) there apart owner stored file is = no_inode (OfPage inode) there (λ is. is) is.block is.chunk is.inode.kind
+  other_has_none (OfPiece inode index) there apart owner stored file is = no_inode (OfPiece inode index) there (λ is. is) is.block is.chunk is.inode.kind
+
+  -- it is no inode, or a dead one
+  pub other_is_wrong : (held : Holder) (wanted : ℕ) → holdings handle ≡ Some held → (held ≡ OfFile → ⊥) → wanted ≡ handle → HasFault chunks handle wanted ⊎ IsDeadMet chunks handle wanted
+  other_is_wrong OfFile wanted there apart named = absurd (apart refl)
+  other_is_wrong OfDead wanted there apart named =
+      let r = found.inodes handle (subst IsInode (sym there) tt) in
+      inr record {
+        claims = (found.readings handle).claims;
+        read = subst (λ (o : Option File). IsReadAs chunks handle o (found.readings handle).claims) (no_file chunks holdings files found handle there)
+            record { stored = (found.readings handle).stored; at = r.at; dead = r.dead; is = r.is; are_claims = r.are_claims; only = r.only };
+        wanted_is = named;
+      }
+  other_is_wrong (OfPage inode) wanted there apart named = inl (Missing (λ other at. no_inode (OfPage inode) there (λ is. is) at.block at.chunk at.has.kind) named)
+  other_is_wrong (OfPiece inode index) wanted there apart named = inl (Missing (λ other at. no_inode (OfPiece inode index) there (λ is. is) at.block at.chunk at.has.kind) named)
 
   -- nor is what is held by another one a dead inode
   pub other_has_no_dead : (held : Holder) → holdings handle ≡ Some held → (held ≡ OfDead → ⊥) → (owner : ℕ → Owner) (stored : Stored) → IsStored chunks owner handle stored None → ⊥
@@ -69,8 +84,8 @@ module _ (chunks : Chunks) (holdings : Holdings) (files : List File) (found : Is
   other_has_no_dead OfFile there apart owner stored is =
       let only = (found.inodes handle (subst IsInode (sym there) tt)).only owner stored None is in
       found.has_file handle there (sym only.same_file)
-  other_has_no_dead (OfPage inode) there apart owner stored is = no_inode (OfPage inode) there (λ is. is) owner stored None is
-  other_has_no_dead (OfPiece inode index) there apart owner stored is = no_inode (OfPiece inode index) there (λ is. is) owner stored None is
+  other_has_no_dead (OfPage inode) there apart owner stored is = no_inode (OfPage inode) there (λ is. is) is.block is.chunk is.inode.kind
+  other_has_no_dead (OfPiece inode index) there apart owner stored is = no_inode (OfPiece inode index) there (λ is. is) is.block is.chunk is.inode.kind
 
 -- nor is a dead inode a file
 pub dead_has_none : (chunks : Chunks) (handle : ℕ) (claims : List Claim) → IsReadAs chunks handle None claims → (owner : ℕ → Owner) (stored : Stored) (file : File) → IsStored chunks owner handle stored (Some file) → ⊥

@@ -60,7 +60,7 @@ module _ (chunks : Chunks) (holdings : Holdings) (files : List File) (walked : I
     its_reading =
         let r = walked.found.inodes inode is_inode in
         subst (λ (o : Option File). IsReadAs chunks inode o (walked.found.readings inode).claims) its_file.1
-        record { stored = (walked.found.readings inode).stored; is = r.is; are_claims = r.are_claims; only = r.only }
+        record { stored = (walked.found.readings inode).stored; at = r.at; dead = r.dead; is = r.is; are_claims = r.are_claims; only = r.only }
 
   of_claim : (handle inode : ℕ) (piece : Option ℕ) → holdings handle ≡ Some (holder_by inode piece) → IsMetChunk chunks handle
   of_claim handle inode piece held =

@@ -1,6 +1,7 @@
 -- What is wrong with a chunk that should be a dead inode.
 use Rattle.std.specs.Prelude.{◌≡◌, ◌<◌, ℕ, true, List, length, slice_index_or, Some, None}
 use Rattle.bx_audit_bodies.specs.declared.claims.Claim.{Claim}
+use Rattle.bx_audit_bodies.specs.Faults.{HasFault}
 use Rattle.bx_audit_bodies.specs.Parts.{IsPartOf, IsTornDead}
 use Rattle.bx_audit_bodies.specs.Reading.{IsReadAs, IsStored}
 use Rattle.bx_audit_files.specs.Inodes.{IsInodeAt}
@@ -15,10 +16,11 @@ use Rattle.bx_truth.specs.PageTrees.{Chunks}
 use Rattle.bx_truth.specs.Stored.{Owner, Stored}
 
 -- No file and no dead inode is stored there, whoever may have which chunks. What is wanted is the handle itself, or a part of the inode that it
--- names; of a dead inode, the first part that isn't as it should be, in the order in which they are read.
+-- names, and it is wrong; of a dead inode, the first part that isn't as it should be, in the order in which they are read.
 pub record IsUnreadDead (chunks : Chunks) (handle wanted : ℕ) : Type 0 where
   pub none : (owner : ℕ → Owner) (stored : Stored) → IsStored chunks owner handle stored None → ⊥
   pub part : IsPartOf chunks handle wanted
+  pub fault : HasFault chunks handle wanted
   pub first : (inode : Inode) → IsInodeAt chunks handle inode → inode.kind ≡ 0 → IsTornDead chunks inode.tree wanted
 
 -- A dead inode has a chunk that another owner has, of those that were found before, or as an earlier part of it: that is wanted.

@@ -1,8 +1,9 @@
 -- What is found of the inodes of a volume.
-use Rattle.std.specs.Prelude.{◌≡◌, ◌≢◌, ℕ, ◌<◌, List, AllPairs, Contains, Option, Some, None}
+use Rattle.std.specs.Prelude.{◌≡◌, ◌≢◌, ◌↔◌, ℕ, ◌<◌, List, AllPairs, Contains, Option, Some, None}
 use Rattle.bx_audit_bodies.specs.Claims.{AgreesWith, AreClaims}
 use Rattle.bx_audit_bodies.specs.Reading.{AreEntriesApart, IsOnly, IsStored}
 use Rattle.bx_audit_bodies.specs.declared.claims.Claim.{Claim}
+use Rattle.bx_audit_files.specs.Inodes.{IsInodeAt}
 use Rattle.bx_audit_owners.specs.declared.holders.Holder.{Holder}
 use Rattle.bx_audit_owners.specs.declared.holders.Holder.TheVariants.{File as OfFile, Dead as OfDead, Page as OfPage, Piece as OfPiece}
 use Rattle.bx_audit_owners.specs.Holding.{Holdings, holder_by}
@@ -18,8 +19,11 @@ pub record Reading : Type 0 where
   pub stored : Stored
   pub claims : List Claim
 
--- The inode with this handle is stored so, with every owner that agrees with its claims, and nothing else is stored there.
+-- The inode with this handle, which is dead by its kind exactly where there is no file, is stored so, with every owner that agrees with its claims, and
+-- nothing else is stored there.
 pub record IsReadSo (chunks : Chunks) (handle : ℕ) (file : Option File) (reading : Reading) : Type 0 where
+  pub at : IsInodeAt chunks handle reading.stored.inode
+  pub dead : (reading.stored.inode.kind ≡ 0) ↔ (file ≡ None)
   pub is : (owner : ℕ → Owner) → AgreesWith owner handle reading.claims → IsStored chunks owner handle reading.stored file
   pub are_claims : AreClaims chunks reading.stored reading.claims
   pub only : (owner : ℕ → Owner) (other : Stored) (found : Option File) → IsStored chunks owner handle other found → IsOnly chunks owner handle other found reading.stored.inode reading.claims file

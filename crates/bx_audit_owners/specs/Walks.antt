@@ -1,6 +1,7 @@
 -- What the walk from the root meets, and what is wrong with it.
 use Rattle.std.specs.Prelude.{◌≡◌, ◌≢◌, ◌⊎◌, ◌++◌, ℕ, List, Contains, map, Some, None}
 use Rattle.bx_audit_bodies.specs.declared.claims.Claim.{Claim}
+use Rattle.bx_audit_bodies.specs.Faults.{HasFault}
 use Rattle.bx_audit_bodies.specs.Parts.{IsPartOf}
 use Rattle.bx_audit_bodies.specs.Reading.{IsReadAs, IsStored}
 use Rattle.bx_audit_owners.specs.declared.holders.Holder.TheVariants.{File as OfFile, Dead as OfDead}
@@ -42,12 +43,19 @@ pub record HaveTree (chunks : Chunks) (tree : Tree) : Type 0 where
 abbrev pub HaveNoTree : Chunks → Type 0
 HaveNoTree chunks = (tree : Tree) → HaveTree chunks tree → ⊥
 
--- No file is stored where the walk meets one, whoever may have which chunks; and what is wanted is a chunk that is met there.
+-- where a file should be a dead inode is: its handle is wanted
+pub record IsDeadMet (chunks : Chunks) (handle wanted : ℕ) : Type 0 where
+  pub claims : List Claim
+  pub read : IsReadAs chunks handle None claims
+  pub wanted_is : wanted ≡ handle
+
+-- No file is stored where the walk meets one, whoever may have which chunks; and what is wanted is a chunk that is met there and that is wrong.
 pub record IsUnread (chunks : Chunks) (wanted : ℕ) : Type 0 where
   pub handle : ℕ
   pub met : IsMet chunks handle
   pub none : (owner : ℕ → Owner) (stored : Stored) (file : File) → IsStored chunks owner handle stored (Some file) → ⊥
   pub part : IsPartOf chunks handle wanted
+  pub fault : HasFault chunks handle wanted ⊎ IsDeadMet chunks handle wanted
 
 -- The walk meets a file with a chunk that another owner has, of those that were found before, or as another part of this file.
 pub record IsTaken (chunks : Chunks) (wanted : ℕ) : Type 0 where

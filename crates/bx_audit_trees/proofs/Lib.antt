@@ -8,3 +8,4 @@ pub mod Firsts
 pub mod Lookups
 pub mod Leads
 pub mod Headers
+pub mod Torn

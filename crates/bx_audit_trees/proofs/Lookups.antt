@@ -26,7 +26,7 @@ no_true e = cc
 
 -- ---- the place that a search finds
 
-split : {X : Type 0} (xs : List X) (m : ℕ) (d : X) → m < length xs → xs ≡ take m xs ++ get_or xs m d ∷ drop (suc m) xs
+pub split : {X : Type 0} (xs : List X) (m : ℕ) (d : X) → m < length xs → xs ≡ take m xs ++ get_or xs m d ∷ drop (suc m) xs
 split [] m d less = absurd (omega (arith, less))
 split (x ∷ xs) zero d less = refl
 split (x ∷ xs) (suc m) d less = let rest = split xs m d (omega (arith, less)) in λ i. x ∷ rest i

@@ -5,3 +5,4 @@ pub mod Room
 pub mod Trees
 pub mod Leaves
 pub mod Leading
+pub mod Torn

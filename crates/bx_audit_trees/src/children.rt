@@ -8,6 +8,7 @@ ghost use Rattle.bx_audit_trees.specs.declared.error.AuditError.TheVariants.{Fau
 ghost use Rattle.bx_audit_trees.specs.Errors.{IfTorn};
 ghost use Rattle.bx_audit_trees.specs.Leading.{AreLedTo, IsLedTo};
 ghost use Rattle.bx_audit_trees.specs.Pages.{BeginningsRise};
+ghost use Rattle.bx_audit_trees.specs.Torn.{IsAstray};
 
 use crate::error::AuditError;
 use crate::pages::{TreePage, torn_at};
@@ -17,12 +18,13 @@ use byteorder::{BigEndian, ByteOrder};
 /// How many bytes the number of a handle has.
 const HANDLE: usize = 8;
 
-/// Whether the pages of a level lead down to those of the level below; torn exactly where they don't.
+/// Whether the pages of a level lead down to those of the level below; torn exactly where they don't: of one that doesn't.
 pub(crate) fn lead_down(above: &[TreePage], below: &[TreePage]) -> Result<(), AuditError>
     requires { BeginningsRise below.now }
     ensures ok { OnOk result ((node : Node) → IsIn node above.now → IsInterior below.now node) }
     ensures torn { IfTorn result (λ at found wanted. ((node : Node) → IsIn node above.now → IsInterior below.now node) → ⊥) }
     ensures led { (chunks : Chunks) (root : ℕ) → AreLedTo chunks root above.now → IfTorn result (λ at found wanted. IsLedTo chunks root wanted) }
+    ensures astray { IfTorn result (λ at found wanted. IsAstray above.now below.now wanted) }
     ensures no_fault { IsErrOf result DiskFailed → ⊥ }
 {
     for page in above {

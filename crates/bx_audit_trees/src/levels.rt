@@ -9,6 +9,7 @@ ghost use Rattle.bx_audit_trees.specs.Leading.{AreLedTo, IsLedTo};
 ghost use Rattle.bx_audit_trees.specs.Pages.{BeginningsRise, IsLevelFrom, IsPageAt, IsPlaced, LeadsTo};
 ghost use Rattle.bx_audit_trees.specs.Room.{room_above};
 ghost use Rattle.bx_audit_trees.specs.Shown.{Shows};
+ghost use Rattle.bx_audit_trees.specs.Torn.{IsTornAlong};
 
 use crate::error::AuditError;
 use crate::pages::{TreePage, page_at, way_of};
@@ -17,8 +18,9 @@ use bx_homes::Blocks;
 use bx_page::Page;
 use std::alloc::Global;
 
-/// The pages of a level, from the one with a handle on to the right. Torn exactly where this is no level's first page.
-#[tactic(auto, using(crate::proofs::Leads::itself_led, crate::proofs::Leads::none_led))]
+/// The pages of a level, from the one with a handle on to the right. Torn exactly where this is no level's first page: of the first page on the
+/// way that can't be there.
+#[tactic(auto, using(crate::proofs::Leads::itself_led, crate::proofs::Leads::none_led, crate::proofs::Torn::start_met))]
 pub fn level_from<B: Blocks>(
     alloc: Global,
     blocks: &mut B,
@@ -34,6 +36,7 @@ pub fn level_from<B: Blocks>(
     ensures rise { IfOk result (λ pages. BeginningsRise pages.items) }
     ensures led { (chunks : Chunks) → Shows (B.tells blocks.old) areas (B.stands blocks.old) chunks → IfOk result (λ pages. AreLedTo chunks first pages.items) }
     ensures leads { (chunks : Chunks) → Shows (B.tells blocks.old) areas (B.stands blocks.old) chunks → IfTorn result (λ at found wanted. IsLedTo chunks first wanted) }
+    ensures wrong { (chunks : Chunks) → Shows (B.tells blocks.old) areas (B.stands blocks.old) chunks → IfTorn result (λ at found wanted. IsTornAlong chunks level first wanted) }
     ensures shows { (chunks : Chunks) → Shows (B.tells blocks.old) areas (B.stands blocks.old) chunks → Shows (B.tells blocks.new) areas (B.stands blocks.new) chunks }
     ensures counts { Counts result (B.faults blocks.old) (B.faults blocks.new) }
     ensures keeps_areas { B.areas blocks.new ≡ B.areas blocks.old }

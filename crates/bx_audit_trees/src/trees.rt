@@ -9,6 +9,7 @@ ghost use Rattle.bx_audit_trees.specs.declared.error.AuditError.TheVariants.{Fau
 ghost use Rattle.bx_audit_trees.specs.Errors.{IfTorn, Counts};
 ghost use Rattle.bx_audit_trees.specs.Leading.{AreLedTo, IsLedTo};
 ghost use Rattle.bx_audit_trees.specs.Shown.{Shows};
+ghost use Rattle.bx_audit_trees.specs.Torn.{AreUnder, IsChildless, IsTornPage};
 ghost use Rattle.bx_audit_trees.specs.Trees.{HasFirst, IsTop, LiesBelow, NamesFirst, tree_of};
 
 use crate::children::{handle_in, lead_down};
@@ -93,7 +94,7 @@ impl ReadTree {
     }
 }
 
-/// The tree under a root; torn exactly where there is none.
+/// The tree under a root; torn exactly where there is none: of a page that is wrong.
 pub fn tree_under<B: Blocks>(
     alloc: Global,
     blocks: &mut B,
@@ -107,6 +108,7 @@ pub fn tree_under<B: Blocks>(
     ensures torn { (chunks : Chunks) → Shows (B.tells blocks.old) areas (B.stands blocks.old) chunks → IfTorn result (λ at found wanted. (tree : PageTree) → IsTree chunks root tree → ⊥) }
     ensures led { (chunks : Chunks) → Shows (B.tells blocks.old) areas (B.stands blocks.old) chunks → IfOk result (λ tree. AreLedTo chunks root (slice_index_or tree 0 [])) }
     ensures leads { (chunks : Chunks) → Shows (B.tells blocks.old) areas (B.stands blocks.old) chunks → IfTorn result (λ at found wanted. IsLedTo chunks root wanted) }
+    ensures wrong { (chunks : Chunks) → Shows (B.tells blocks.old) areas (B.stands blocks.old) chunks → IfTorn result (λ at found wanted. IsTornPage chunks root wanted) }
     ensures shows { (chunks : Chunks) → Shows (B.tells blocks.old) areas (B.stands blocks.old) chunks → Shows (B.tells blocks.new) areas (B.stands blocks.new) chunks }
     ensures counts { Counts result (B.faults blocks.old) (B.faults blocks.new) }
     ensures keeps_areas { B.areas blocks.new ≡ B.areas blocks.old }
@@ -145,6 +147,7 @@ fn root_page<B: Blocks>(
     ensures led { (chunks : Chunks) → IfOk result (λ x. AreLedTo chunks root x.0.items) }
     ensures names { IfTorn result (λ at found wanted. wanted ≡ root) }
     ensures torn { (chunks : Chunks) → Shows (B.tells blocks.old) areas (B.stands blocks.old) chunks → IfTorn result (λ at found wanted. (tree : PageTree) → IsTree chunks root tree → ⊥) }
+    ensures wrong { (chunks : Chunks) → Shows (B.tells blocks.old) areas (B.stands blocks.old) chunks → IfTorn result (λ at found wanted. IsTornPage chunks root wanted) }
     ensures shows { (chunks : Chunks) → Shows (B.tells blocks.old) areas (B.stands blocks.old) chunks → Shows (B.tells blocks.new) areas (B.stands blocks.new) chunks }
     ensures counts { Counts result (B.faults blocks.old) (B.faults blocks.new) }
     ensures keeps_areas { B.areas blocks.new ≡ B.areas blocks.old }
@@ -190,6 +193,8 @@ fn level_below<B: Blocks>(
     ensures rise { IfOk result (λ pages. BeginningsRise pages.items) }
     ensures led { (chunks : Chunks) (root : ℕ) → Shows (B.tells blocks.old) areas (B.stands blocks.old) chunks → IsLevel chunks (level + 1) above.now → AreLedTo chunks root above.now → IfOk result (λ pages. AreLedTo chunks root pages.items) }
     ensures leads { (chunks : Chunks) (root : ℕ) → Shows (B.tells blocks.old) areas (B.stands blocks.old) chunks → IsLevel chunks (level + 1) above.now → AreLedTo chunks root above.now → IfTorn result (λ at found wanted. IsLedTo chunks root wanted) }
+    ensures wrong { (chunks : Chunks) (root : ℕ) → Shows (B.tells blocks.old) areas (B.stands blocks.old) chunks → AreUnder chunks root (level + 1) above.now
+        → IfTorn result (λ at found wanted. IsTornPage chunks root wanted) }
     ensures one { (chunks : Chunks) → Shows (B.tells blocks.old) areas (B.stands blocks.old) chunks → IsLevel chunks (level + 1) above.now → IfOk result (λ pages. (nodes : List Node) → LiesBelow chunks level above.now nodes → nodes ≡ pages.items) }
     ensures torn { (chunks : Chunks) → Shows (B.tells blocks.old) areas (B.stands blocks.old) chunks → IsLevel chunks (level + 1) above.now → IfTorn result (λ at found wanted. (nodes : List Node) → LiesBelow chunks level above.now nodes → ⊥) }
     ensures shows { (chunks : Chunks) → Shows (B.tells blocks.old) areas (B.stands blocks.old) chunks → Shows (B.tells blocks.new) areas (B.stands blocks.new) chunks }
@@ -210,6 +215,7 @@ fn first_child(above: &[TreePage]) -> Result<u64, AuditError>
     ensures ok { IfOk result (NamesFirst above.now) }
     ensures torn { IfTorn result (λ at found wanted. (handle : ℕ) → NamesFirst above.now handle → ⊥) }
     ensures led { (chunks : Chunks) (root : ℕ) → 0 < length above.now → AreLedTo chunks root above.now → IfTorn result (λ at found wanted. IsLedTo chunks root wanted) }
+    ensures childless { 0 < length above.now → IfTorn result (λ at found wanted. IsChildless above.now wanted) }
     ensures no_fault { IsErrOf result DiskFailed → ⊥ }
 {
     let Some(page) = above.first() else {

@@ -4,9 +4,10 @@ use Rattle.std.proofs.lemmas.Result.{err_from_is_err_and}
 use Rattle.bx_audit_trees.proofs.Ends.{if_torn}
 use Rattle.bx_audit_bodies.specs.Pieces.{HasPiece}
 use Rattle.bx_audit_bodies.proofs.BodiesOfTrees.{dead_pieces, dead_blocks, dead_alone, dead_read}
-use Rattle.bx_audit_bodies.specs.Parts.{IsFirstPiece, IsOfOne, Block, Tree}
+use Rattle.bx_audit_bodies.specs.Parts.{IsFirstPiece, IsOfOne, Lost, Tree}
 use Rattle.bx_audit_trees.specs.Trees.{tree_of}
 use Rattle.bx_audit_bodies.specs.declared.pieces.Piece.{Piece}
+use Rattle.bx_audit_bodies.proofs.FaultsOfParts.{dead_fault}
 use Rattle.bx_audit_bodies.proofs.PartsLed.{one_led}
 use Rattle.bx_audit_bodies.proofs.bodies.dead_of.Goals as goal
 
@@ -62,5 +63,20 @@ returns-in_err-read_pieces-clause-first g c = λ chunks shows.
     let p = err_from_is_err_and c.from_residual-in_err-read_pieces.result c.from_residual-in_err-read_pieces.ensures.1 in
     let has = c.in_ok-pieces.ensures.ok chunks shows in
     if_torn _ _ c.in_err-read_pieces.field-0.0 c.from_residual-in_err-read_pieces.result (p.1 ∙ ap Err p.2)
-    (λ at found wanted first. Block (tree_of has.levels) c.in_ok-pieces.pieces.items has.is has.are_pieces (subst (λ (l : List Piece). IsFirstPiece chunks l wanted) c.deref.ensures.value first))
+    (λ at found wanted first. Lost (tree_of has.levels) c.in_ok-pieces.pieces.items has.is has.are_pieces (subst (λ (l : List Piece). IsFirstPiece chunks l wanted) c.deref.ensures.value first))
+    (c.in_err-read_pieces.ensures.first chunks (c.in_ok-pieces.ensures.shows chunks shows))
+
+pub returns-in_err-pieces-clause-fault : goal.returns-in_err-pieces-clause-fault
+returns-in_err-pieces-clause-fault g c = λ chunks shows.
+    let p = err_from_is_err_and c.from_residual.result c.from_residual.ensures.1 in
+    if_torn _ _ c.in_err-pieces.field-0.0 c.from_residual.result (p.1 ∙ ap Err p.2)
+    (λ at found wanted torn. dead_fault chunks c.args.handle c.args.inode.now wanted c.requires.kind c.if-inode-eq0.false (Tree torn)) (c.in_err-pieces.ensures.first chunks shows)
+
+pub returns-in_err-read_pieces-clause-fault : goal.returns-in_err-read_pieces-clause-fault
+returns-in_err-read_pieces-clause-fault g c = λ chunks shows.
+    let p = err_from_is_err_and c.from_residual-in_err-read_pieces.result c.from_residual-in_err-read_pieces.ensures.1 in
+    let has = c.in_ok-pieces.ensures.ok chunks shows in
+    if_torn _ _ c.in_err-read_pieces.field-0.0 c.from_residual-in_err-read_pieces.result (p.1 ∙ ap Err p.2)
+    (λ at found wanted first. dead_fault chunks c.args.handle c.args.inode.now wanted c.requires.kind c.if-inode-eq0.false
+    (Lost (tree_of has.levels) c.in_ok-pieces.pieces.items has.is has.are_pieces (subst (λ (l : List Piece). IsFirstPiece chunks l wanted) c.deref.ensures.value first)))
     (c.in_err-read_pieces.ensures.first chunks (c.in_ok-pieces.ensures.shows chunks shows))

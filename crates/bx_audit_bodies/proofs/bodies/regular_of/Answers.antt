@@ -1,14 +1,17 @@
-use Rattle.std.proofs.Common.{inr, List, Some, arith, sym, ap, ◌∙◌, Err, subst}
+use Rattle.std.proofs.Common.{inr, List, Some, arith, refl, sym, ap, ◌∙◌, Err, subst}
 use Rattle.std.specs.Prelude.{All}
 use Rattle.std.proofs.lemmas.Result.{err_from_is_err_and}
 use Rattle.bx_tree_files.specs.declared.file.File.{File}
 use Rattle.bx_truth.specs.Stored.{AreBytesOf}
 use Rattle.bx_audit_trees.proofs.Ends.{if_torn}
+use Rattle.bx_audit_trees.specs.Trees.{tree_of}
 use Rattle.bx_audit_bodies.specs.Bodies.{HasBodyOf}
 use Rattle.bx_audit_bodies.specs.Pieces.{AreApart, HasPiece, piece_among}
 use Rattle.bx_audit_bodies.specs.declared.pieces.Piece.{Piece}
 use Rattle.bx_audit_bodies.proofs.BodiesOfTrees.{all_pieces, apart_read, regular_is, regular_bytes, regular_read}
-use Rattle.bx_audit_bodies.specs.Parts.{IsOfOne}
+use Rattle.bx_audit_bodies.specs.Faults.{Itself, Size}
+use Rattle.bx_audit_bodies.specs.Parts.{IsOfOne, IsUnclearPiece}
+use Rattle.bx_audit_bodies.proofs.FaultsOfParts.{regular_piece_fault, regular_tree_fault}
 use Rattle.bx_audit_bodies.proofs.PartsLed.{one_led}
 use Rattle.bx_audit_bodies.proofs.bodies.regular_of.Goals as goal
 
@@ -63,3 +66,22 @@ returns-in_err-content-clause-shows g c = λ chunks shows. c.in_err-content.ensu
 
 pub returns-clause-shows : goal.returns-clause-shows
 returns-clause-shows g c = λ chunks shows. c.in_ok-content.ensures.shows chunks (c.in_ok-pieces.ensures.shows chunks shows)
+
+pub returns-then-inode-gt-MOST_BYTES-clause-fault : goal.returns-then-inode-gt-MOST_BYTES-clause-fault
+returns-then-inode-gt-MOST_BYTES-clause-fault g c = λ chunks shows. rw c.torn_at.ensures (Itself (Size c.requires.kind (omega (arith, c.if-inode-gt-MOST_BYTES.true))) refl)
+
+pub returns-in_err-pieces-clause-fault : goal.returns-in_err-pieces-clause-fault
+returns-in_err-pieces-clause-fault g c = λ chunks shows.
+    let p = err_from_is_err_and c.from_residual.result c.from_residual.ensures.1 in
+    if_torn _ _ c.in_err-pieces.field-0.0 c.from_residual.result (p.1 ∙ ap Err p.2)
+    (λ at found wanted torn. regular_tree_fault chunks c.args.handle c.args.inode.now wanted c.requires.kind torn) (c.in_err-pieces.ensures.first chunks shows)
+
+pub returns-in_err-content-clause-fault : goal.returns-in_err-content-clause-fault
+returns-in_err-content-clause-fault g c = λ chunks shows.
+    let p = err_from_is_err_and c.from_residual-in_err-content.result c.from_residual-in_err-content.ensures.1 in
+    let inode = c.args.inode.now in
+    let has = c.in_ok-pieces.ensures.ok chunks shows in
+    if_torn _ _ c.in_err-content.field-0.0 c.from_residual-in_err-content.result (p.1 ∙ ap Err p.2)
+    (λ at found wanted torn. regular_piece_fault chunks c.args.handle inode wanted (tree_of has.levels) c.in_ok-pieces.pieces.items c.requires.kind has.is has.are_pieces
+    (subst (λ (l : List Piece). IsUnclearPiece chunks l inode.tail wanted) c.deref.ensures.value torn))
+    (c.in_err-content.ensures.wrong chunks (c.in_ok-pieces.ensures.shows chunks shows))

@@ -3,10 +3,11 @@ use Rattle.std.specs.Prelude.{All}
 use Rattle.std.proofs.lemmas.Result.{err_from_is_err_and}
 use Rattle.std.proofs.lemmas.List.{take_all}
 use Rattle.bx_truth.specs.Stored.{AreBytesOf}
-use Rattle.bx_audit_trees.proofs.Ends.{if_torn}
+use Rattle.bx_audit_trees.proofs.Ends.{both_torn, if_torn}
 use Rattle.bx_audit_bodies.specs.Pieces.{HasPiece, piece_among}
 use Rattle.bx_audit_bodies.specs.declared.pieces.Piece.{Piece}
 use Rattle.bx_audit_bodies.proofs.PiecesRead.{read_more, bytes_step, no_bytes_of}
+use Rattle.bx_audit_bodies.proofs.FaultsOfParts.{unclear_at}
 use Rattle.bx_audit_bodies.proofs.PartsLed.{one_at}
 use Rattle.bx_audit_bodies.proofs.contents.bytes_of.Goals as goal
 
@@ -54,3 +55,10 @@ returns-in_err-put_piece-clause-names g c =
 
 pub returns-in_err-put_piece-clause-shows : goal.returns-in_err-put_piece-clause-shows
 returns-in_err-put_piece-clause-shows g c = λ chunks shows. c.in_err-put_piece.ensures.shows chunks (c.loop-piece.invariant.shows chunks shows)
+
+pub returns-in_err-put_piece-clause-wrong : goal.returns-in_err-put_piece-clause-wrong
+returns-in_err-put_piece-clause-wrong g c = λ chunks shows.
+    let p = err_from_is_err_and c.from_residual-in_err-put_piece.result c.from_residual-in_err-put_piece.ensures.1 in
+    if_torn _ _ c.in_err-put_piece.field-0.0 c.from_residual-in_err-put_piece.result (p.1 ∙ ap Err p.2)
+    (λ at found wanted both. unclear_at chunks c.args.pieces.now c.loop-piece.piece-index _ c.args.tail wanted c.loop-piece-test.true both.1 both.0)
+    (both_torn _ _ c.in_err-put_piece.field-0.0 (c.in_err-put_piece.ensures.torn chunks (c.loop-piece.invariant.shows chunks shows)) c.in_err-put_piece.ensures.names)

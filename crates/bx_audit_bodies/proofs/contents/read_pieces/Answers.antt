@@ -2,10 +2,9 @@ use Rattle.std.proofs.Common.{ap, ◌∙◌, Err, subst}
 use Rattle.std.specs.Prelude.{All}
 use Rattle.std.proofs.lemmas.Result.{err_from_is_err_and}
 use Rattle.std.proofs.lemmas.List.{take_all}
-use Rattle.bx_audit_trees.proofs.Ends.{if_torn}
+use Rattle.bx_audit_trees.proofs.Ends.{both_torn, if_torn}
 use Rattle.bx_audit_bodies.specs.Pieces.{HasPiece}
 use Rattle.bx_audit_bodies.proofs.PiecesRead.{read_more, no_piece_of}
-use Rattle.bx_audit_bodies.proofs.Cases.{both_torn}
 use Rattle.bx_audit_bodies.proofs.PartsLed.{first_piece, one_at}
 use Rattle.bx_audit_bodies.proofs.contents.read_pieces.Goals as goal
 

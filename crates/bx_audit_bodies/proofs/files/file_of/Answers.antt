@@ -1,10 +1,11 @@
 use Rattle.std.proofs.Common.{arith, ◌≡◌, ⊎_elim, inl, inr, Option, Some, None, sym, ap, subst, ◌∙◌, Err}
 use Rattle.std.proofs.lemmas.Result.{err_from_is_err_and}
-use Rattle.bx_audit_trees.proofs.Ends.{if_torn}
+use Rattle.bx_audit_trees.proofs.Ends.{both_torn, if_torn}
 use Rattle.bx_audit_files.proofs.NamesOfTrees.{if_ok}
 use Rattle.bx_audit_bodies.proofs.Cases.{torn_too}
 use Rattle.bx_audit_bodies.proofs.ReadFiles.{not_stored, read_as, same_at}
 use Rattle.bx_layout.specs.declared.block.Block.{Block}
+use Rattle.bx_audit_bodies.specs.Faults.{Missing, Within}
 use Rattle.bx_audit_bodies.specs.Parts.{IsTornDead}
 use Rattle.bx_audit_trees.specs.Errors.{IfTorn}
 use Rattle.bx_layout.specs.declared.inode.Inode.{Inode}
@@ -123,3 +124,25 @@ returns-in-5-clause-dead g c = λ chunks shows inode is zero.
     let same = same_at chunks c.args.handle c.in_ok-inode.inode (c.in_ok-inode.ensures.ok chunks shows) inode is in
     let e : 0 ≡ 5 = sym zero ∙ ap (λ (i : Inode). i.kind) same ∙ c.in-5.is in
     absurd (omega (arith, e))
+
+pub returns-in_err-inode-clause-fault : goal.returns-in_err-inode-clause-fault
+returns-in_err-inode-clause-fault g c = λ chunks shows.
+    let p = err_from_is_err_and c.from_residual.result c.from_residual.ensures.1 in
+    if_torn _ _ c.in_err-inode.field-0.0 c.from_residual.result (p.1 ∙ ap Err p.2) (λ at found wanted both. Missing both.0 both.1)
+    (both_torn _ _ c.in_err-inode.field-0.0 (c.in_err-inode.ensures.torn chunks shows) c.in_err-inode.ensures.names)
+
+pub returns-in-1-clause-fault : goal.returns-in-1-clause-fault
+returns-in-1-clause-fault g c = λ chunks shows.
+    torn_too _ _ c.regular_of.result (λ at found wanted fault. Within c.in_ok-inode.inode (c.in_ok-inode.ensures.ok chunks shows) fault) (c.regular_of.ensures.fault chunks (c.in_ok-inode.ensures.shows chunks shows))
+
+pub returns-in-2-clause-fault : goal.returns-in-2-clause-fault
+returns-in-2-clause-fault g c = λ chunks shows.
+    torn_too _ _ c.directory_of.result (λ at found wanted fault. Within c.in_ok-inode.inode (c.in_ok-inode.ensures.ok chunks shows) fault) (c.directory_of.ensures.fault chunks (c.in_ok-inode.ensures.shows chunks shows))
+
+pub returns-in-5-clause-fault : goal.returns-in-5-clause-fault
+returns-in-5-clause-fault g c = λ chunks shows.
+    torn_too _ _ c.link_of.result (λ at found wanted fault. Within c.in_ok-inode.inode (c.in_ok-inode.ensures.ok chunks shows) fault) (c.link_of.ensures.fault chunks)
+
+pub returns-clause-fault : goal.returns-clause-fault
+returns-clause-fault g c = λ chunks shows.
+    torn_too _ _ c.dead_of.result (λ at found wanted fault. Within c.in_ok-inode.inode (c.in_ok-inode.ensures.ok chunks shows) fault) (c.dead_of.ensures.fault chunks (c.in_ok-inode.ensures.shows chunks shows))

@@ -4,18 +4,19 @@ use Rattle.std.proofs.lemmas.List.{map-append}
 use Rattle.std.proofs.lemmas.List.Elements.{All-append}
 use Rattle.bx_page.specs.Contents.{Contents}
 use Rattle.bx_truth.specs.PageTrees.{Node, entries_of}
-use Rattle.bx_audit_files.proofs.Steps.{leaf_more, leaf_of_all}
+use Rattle.bx_audit_files.proofs.Steps.{leaf_more}
+use Rattle.bx_audit_bodies.specs.Parts.{IsFirstLeaf}
 use Rattle.bx_audit_bodies.specs.Pieces.{IsPieceEntry, piece_in}
 use Rattle.bx_audit_bodies.specs.declared.pieces.Piece.{Piece}
+use Rattle.bx_audit_bodies.proofs.FaultsOfParts.{first_leaf}
 use Rattle.bx_audit_bodies.proofs.pieces.pieces_of.Goals as goal
 
-pub returns-then-not-branch-clause-none : goal.returns-then-not-branch-clause-none
-returns-then-not-branch-clause-none c = λ all.
+pub returns-then-not-branch-clause-torn : goal.returns-then-not-branch-clause-torn
+returns-then-not-branch-clause-torn c =
     let leaf = c.leaf-item.result in
-    let on = subst (λ (l : List Node). All IsPieceEntry (entries_of l)) (sym c.leaves-leaves.ensures.leaves) all in
-    let page = leaf_of_all IsPieceEntry c.leaves-leaves.result.now c.loop-leaf.leaf-index leaf c.loop-leaf-test.true on in
-    c.in_ok-put_pieces.ensures.no c.if-not-branch.true
-    (subst (λ (p : Contents). All IsPieceEntry p.entries) (sym c.page.ensures) (subst (λ (n : Node). All IsPieceEntry n.page.entries) (sym c.leaf-item.is) page))
+    rw c.torn_at.ensures (subst (λ (l : List Node). IsFirstLeaf l c.handle.result) c.leaves-leaves.ensures.leaves
+    (first_leaf c.leaves-leaves.result.now c.loop-leaf.leaf-index leaf c.handle.result c.loop-leaf-test.true c.leaf-item.is c.loop-leaf.invariant.each
+    (λ all. c.in_ok-put_pieces.ensures.no c.if-not-branch.true (subst (λ (p : Contents). All IsPieceEntry p.entries) (sym c.page.ensures) all)) c.handle.ensures))
 
 pub loop-leaf-preserved : goal.loop-leaf-preserved
 loop-leaf-preserved c =

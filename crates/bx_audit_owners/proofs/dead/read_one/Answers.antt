@@ -8,9 +8,9 @@ use Rattle.bx_audit_owners.specs.Dead.{Held, Live, Taken, Unread}
 use Rattle.bx_audit_bodies.specs.declared.claims.Claim.{Claim}
 use Rattle.bx_audit_owners.specs.declared.holders.Holder.TheVariants.{Dead as OfDead}
 use Rattle.bx_audit_owners.specs.Holding.{Adds, Clashes, holdings_of}
-use Rattle.bx_audit_owners.proofs.Ends.{both_torn, each_torn}
+use Rattle.bx_audit_owners.proofs.Ends.{each_torn}
 use Rattle.bx_audit_owners.proofs.Steps.{with_inode}
-use Rattle.bx_audit_trees.proofs.Ends.{if_torn}
+use Rattle.bx_audit_trees.proofs.Ends.{both_torn, if_torn}
 use Rattle.bx_tree_files.specs.declared.file.File.{File}
 use Rattle.bx_audit_owners.proofs.dead.read_one.Goals as goal
 
@@ -31,10 +31,11 @@ pub returns-in_err-file-clause-torn : goal.returns-in_err-file-clause-torn
 returns-in_err-file-clause-torn g c = λ chunks files shows found.
     let p = err_from_is_err_and c.from_residual-in_err-file.result c.from_residual-in_err-file.ensures.1 in
     if_torn _ _ c.in_err-file.field-0.0 c.from_residual-in_err-file.result (p.1 ∙ ap Err p.2)
-    (λ at wrong wanted both. Unread record { none = λ owner stored. both.0 owner stored None; part = both.1.0; first = λ inode is zero. both.1.1 inode (is, zero) })
+    (λ at wrong wanted both. Unread record { none = λ owner stored. both.0 owner stored None; part = both.1.0; fault = both.1.1.0; first = λ inode is zero. both.1.1.1 inode (is, zero) })
     (both_torn _ _ c.in_err-file.field-0.0 (c.in_err-file.ensures.torn chunks shows) (both_torn _ _ c.in_err-file.field-0.0 (c.in_err-file.ensures.part chunks shows)
+    (both_torn _ _ c.in_err-file.field-0.0 (c.in_err-file.ensures.fault chunks shows)
     (each_torn c.in_err-file.field-0.0 Inode (λ inode. IsInodeAt chunks c.args.handle inode × (inode.kind ≡ 0)) (λ inode wanted. IsTornDead chunks inode.tree wanted)
-    (λ inode is. c.in_err-file.ensures.dead chunks shows inode is.0 is.1))))
+    (λ inode is. c.in_err-file.ensures.dead chunks shows inode is.0 is.1)))))
 
 pub returns-then-is_some-clause-torn : goal.returns-then-is_some-clause-torn
 returns-then-is_some-clause-torn g c = λ chunks files shows found.

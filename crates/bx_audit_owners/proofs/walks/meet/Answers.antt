@@ -8,10 +8,9 @@ use Rattle.bx_audit_owners.specs.declared.holders.Holder.TheVariants.{File as Of
 use Rattle.bx_audit_owners.specs.Found.{IsFound}
 use Rattle.bx_audit_owners.specs.Holding.{Adds, Clashes, holdings_of}
 use Rattle.bx_audit_owners.specs.Walks.{New}
-use Rattle.bx_audit_owners.proofs.Ends.{both_torn}
 use Rattle.bx_audit_owners.proofs.Steps.{with_inode}
-use Rattle.bx_audit_owners.proofs.Walking.{dead_has_none, file_named, none_dead, other_has_none}
-use Rattle.bx_audit_trees.proofs.Ends.{if_torn}
+use Rattle.bx_audit_owners.proofs.Walking.{dead_has_none, file_named, none_dead, other_has_none, other_is_wrong}
+use Rattle.bx_audit_trees.proofs.Ends.{both_torn, if_torn}
 use Rattle.bx_tree_files.specs.declared.file.File.{File}
 use Rattle.bx_audit_owners.proofs.walks.meet.Goals as goal
 
@@ -23,20 +22,28 @@ returns-in_err-has_holder-clause-torn g c = λ chunks shows found met.
       met = met;
       none = other_has_none chunks (holdings_of c.args.found.now.holders) c.args.found.now.files found c.args.handle has.0.other has.0.there has.0.apart;
       part = inl has.1;
+      fault = other_is_wrong chunks (holdings_of c.args.found.now.holders) c.args.found.now.files found c.args.handle has.0.other wanted has.0.there has.0.apart has.1;
     }) c.in_err-has_holder.ensures.torn
 
 pub returns-in_err-file-clause-torn : goal.returns-in_err-file-clause-torn
 returns-in_err-file-clause-torn g c = λ chunks shows found met.
     let p = err_from_is_err_and c.from_residual-in_err-file.result c.from_residual-in_err-file.ensures.1 in
     if_torn _ _ c.in_err-file.field-0.0 c.from_residual-in_err-file.result (p.1 ∙ ap Err p.2)
-    (λ at wrong wanted both. inl record { handle = c.args.handle; met = met; none = λ owner stored file. both.0 owner stored (Some file); part = both.1 })
-    (both_torn _ _ c.in_err-file.field-0.0 (c.in_err-file.ensures.torn chunks shows) (c.in_err-file.ensures.part chunks shows))
+    (λ at wrong wanted both. inl record { handle = c.args.handle; met = met; none = λ owner stored file. both.0 owner stored (Some file); part = both.1.0; fault = inl both.1.1 })
+    (both_torn _ _ c.in_err-file.field-0.0 (c.in_err-file.ensures.torn chunks shows)
+    (both_torn _ _ c.in_err-file.field-0.0 (c.in_err-file.ensures.part chunks shows) (c.in_err-file.ensures.fault chunks shows)))
 
 pub returns-in_default-clause-torn : goal.returns-in_default-clause-torn
 returns-in_default-clause-torn g c = λ chunks shows found met.
     let read : IsReadAs chunks c.args.handle None c.in_ok-file.field-0.claims.items =
     subst (λ (o : Option File). IsReadAs chunks c.args.handle o c.in_ok-file.field-0.claims.items) (c.in_default.is) (c.in_ok-file.ensures.ok chunks shows) in
-    rw c.torn_at.ensures (inl record { handle = c.args.handle; met = met; none = dead_has_none chunks c.args.handle c.in_ok-file.field-0.claims.items read; part = inl refl })
+    rw c.torn_at.ensures (inl record {
+      handle = c.args.handle;
+      met = met;
+      none = dead_has_none chunks c.args.handle c.in_ok-file.field-0.claims.items read;
+      part = inl refl;
+      fault = inr record { claims = c.in_ok-file.field-0.claims.items; read = read; wanted_is = refl };
+    })
 
 pub returns-in_err-put_inode-clause-torn : goal.returns-in_err-put_inode-clause-torn
 returns-in_err-put_inode-clause-torn g c = λ chunks shows found met.

@@ -1,4 +1,4 @@
-use Rattle.std.proofs.Common.{sym, subst, arith}
+use Rattle.std.proofs.Common.{sym, ap, subst, arith}
 use Rattle.bx_truth.specs.PageTrees.{Node, IsIn, IsInterior}
 use Rattle.bx_audit_trees.proofs.NodeLists.{at_place, all_in}
 use Rattle.bx_audit_trees.specs.Leading.{IsLedTo}
@@ -19,3 +19,14 @@ returns-then-not-is_interior-clause-led c = rw c.torn_at.ensures (λ chunks root
     let page = c.page-item.result in
     let is = subst (λ (n : Node). IsIn n c.args.above.now) (sym c.page-item.is) (at_place c.args.above.now c.loop-page.page-index page c.loop-page-test.true) in
     subst (λ (n : Node). IsLedTo chunks root n.handle) (sym c.page.view_is) (all_in (λ (n : Node). IsLedTo chunks root n.handle) c.args.above.now led page is))
+
+pub returns-then-not-is_interior-clause-astray : goal.returns-then-not-is_interior-clause-astray
+returns-then-not-is_interior-clause-astray c = rw c.torn_at.ensures (
+    let page = c.page-item.result in
+    let is = subst (λ (n : Node). IsIn n c.args.above.now) (sym c.page-item.is) (at_place c.args.above.now c.loop-page.page-index page c.loop-page-test.true) in
+    record {
+      node = page;
+      there = is;
+      wrong = λ interior. not_both c.is_interior.result (c.is_interior.ensures.1 interior) c.if-not-is_interior.true;
+      wanted_is = ap (λ (n : Node). n.handle) c.page.view_is;
+    })

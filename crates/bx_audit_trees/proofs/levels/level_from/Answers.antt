@@ -9,8 +9,9 @@ use Rattle.bx_page.specs.Keys.{IsBelow}
 use Rattle.bx_page.proofs.Order.{below_trans}
 use Rattle.bx_truth.specs.PageTrees.{Node}
 use Rattle.bx_audit_trees.specs.Leading.{AreLedTo, IsLedTo}
-use Rattle.bx_audit_trees.specs.Pages.{BeginningsRise, IsPlaced, LeadsTo, IsLevelFrom}
-use Rattle.bx_audit_trees.proofs.Ends.{if_torn}
+use Rattle.bx_audit_trees.specs.Pages.{BeginningsRise, IsPageAt, IsPlaced, LeadsTo, IsLevelFrom}
+use Rattle.bx_audit_trees.specs.Torn.{ComesTo, Next}
+use Rattle.bx_audit_trees.proofs.Ends.{both_torn, if_torn}
 use Rattle.bx_audit_trees.proofs.Walk.{Walks, first_of, rest_of, last_walks, next_walks, level_of_walk, walk_of_level}
 use Rattle.bx_audit_trees.proofs.Leads.{push_led, right_led}
 use Rattle.bx_audit_trees.proofs.levels.level_from.Goals as goal
@@ -56,6 +57,8 @@ loop-begins-preserved g c =
       below = subst (All (λ (n : Node). IsBelow n.begins c.in-Some.high)) (sym c.in_ok-push.ensures.items) (All-push (λ (n : Node). IsBelow n.begins c.in-Some.high) old node (λ k d less. below_trans (get_or old k d).begins c.loop-begins.begins c.in-Some.high (c.loop-begins.invariant.below k d less) above) above);
       here = λ chunks shows. right_led chunks c.args.first c.loop-begins.handle c.in-Some.right c.in-Some.high page (c.loop-begins.invariant.here chunks shows)
           (c.in_ok-page.ensures.at chunks (c.loop-begins.invariant.shows chunks shows)) leads;
+      met = λ chunks shows. Next c.loop-begins.begins c.in-Some.high c.loop-begins.handle c.in-Some.right page (c.loop-begins.invariant.met chunks shows)
+          (c.in_ok-page.ensures.at chunks (c.loop-begins.invariant.shows chunks shows)) placed leads;
       led = λ chunks shows. subst (AreLedTo chunks c.args.first) (sym c.in_ok-push.ensures.items) (push_led chunks c.args.first old node (c.loop-begins.invariant.led chunks shows) (c.loop-begins.invariant.here chunks shows));
       read = λ chunks shows rest walks.
           subst (Walks chunks c.args.level c.args.first []) (sym (ap (λ (l : List Node). l ++ rest) c.in_ok-push.ensures.items ∙ append_assoc old (node ∷ []) rest)) (c.loop-begins.invariant.read chunks shows (node ∷ rest)
@@ -84,3 +87,14 @@ returns-in_err-push-clause-shows g c = λ chunks shows. c.in_ok-page.ensures.sho
 
 pub returns-in_default-clause-shows : goal.returns-in_default-clause-shows
 returns-in_default-clause-shows g c = λ chunks shows. c.in_ok-page.ensures.shows chunks (c.loop-begins.invariant.shows chunks shows)
+
+pub returns-in_err-page-clause-wrong : goal.returns-in_err-page-clause-wrong
+returns-in_err-page-clause-wrong g c = λ chunks shows.
+    let p = err_from_is_err_and c.from_residual-in_err-page.result c.from_residual-in_err-page.ensures.1 in
+    if_torn _ _ c.in_err-page.field-0.0 c.from_residual-in_err-page.result (p.1 ∙ ap Err p.2) (λ at found wanted both. record {
+      begins = c.loop-begins.begins;
+      met = subst (ComesTo chunks c.args.level c.args.first c.loop-begins.begins) (sym both.1) (c.loop-begins.invariant.met chunks shows);
+      wrong = λ page next is placed leads.
+          both.0 page next (subst (λ (n : ℕ). IsPageAt chunks n page) both.1 is) (subst (λ (k : List ℕ). IsPlaced c.args.level k page) (sym c.bytes.ensures) placed) leads;
+    })
+    (both_torn _ _ c.in_err-page.field-0.0 (c.in_err-page.ensures.torn chunks (c.loop-begins.invariant.shows chunks shows)) c.in_err-page.ensures.names)

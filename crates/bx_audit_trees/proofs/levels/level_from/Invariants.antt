@@ -6,6 +6,7 @@ use Rattle.bx_audit_trees.specs.Pages.{BeginningsRise}
 use Rattle.bx_audit_trees.specs.Leading.{AreLedTo, IsLedTo}
 use Rattle.bx_audit_trees.specs.Room.{room_above}
 use Rattle.bx_audit_trees.specs.Shown.{Shows}
+use Rattle.bx_audit_trees.specs.Torn.{ComesTo}
 use Rattle.bx_audit_trees.proofs.Walk.{Walks}
 use Rattle.bx_audit_trees.proofs.levels.level_from.Given as goal
 
@@ -18,6 +19,7 @@ invariant-loop-begins g l = record {
   lender_is : g.B.Blocks.lender l.blocks ≡ g.B.Blocks.lender l.fn.blocks;
   shows : (chunks : Chunks) → Shows (g.B.Blocks.tells l.fn.blocks) l.areas (g.B.Blocks.stands l.fn.blocks) chunks → Shows (g.B.Blocks.tells l.blocks) l.areas (g.B.Blocks.stands l.blocks) chunks;
   here : (chunks : Chunks) → Shows (g.B.Blocks.tells l.fn.blocks) l.areas (g.B.Blocks.stands l.fn.blocks) chunks → IsLedTo chunks l.first l.handle;
+  met : (chunks : Chunks) → Shows (g.B.Blocks.tells l.fn.blocks) l.areas (g.B.Blocks.stands l.fn.blocks) chunks → ComesTo chunks l.level l.first l.begins l.handle;
   led : (chunks : Chunks) → Shows (g.B.Blocks.tells l.fn.blocks) l.areas (g.B.Blocks.stands l.fn.blocks) chunks → AreLedTo chunks l.first l.pages.items;
   short : length l.begins ≤ 256;
   rise : BeginningsRise l.pages.items;

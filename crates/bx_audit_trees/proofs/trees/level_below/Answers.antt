@@ -4,6 +4,8 @@ use Rattle.bx_truth.specs.PageTrees.{Node, IsIn, IsInterior}
 use Rattle.bx_audit_trees.proofs.Ends.{if_torn}
 use Rattle.bx_audit_trees.proofs.Descents.{names_first, level_first, one_level_from}
 use Rattle.bx_audit_trees.proofs.Leads.{all_led_on, first_led, led_on, level_some}
+use Rattle.bx_audit_trees.proofs.Torn.{under_level}
+use Rattle.bx_audit_trees.specs.Torn.{Along, Astray, Childless, IsAstray}
 use Rattle.bx_audit_trees.proofs.trees.level_below.Goals as goal
 
 pub returns-in_err-first-clause-torn : goal.returns-in_err-first-clause-torn
@@ -54,3 +56,22 @@ returns-in_err-lead_down-clause-leads g c = λ chunks root shows above led.
 pub returns-clause-led : goal.returns-clause-led
 returns-clause-led g c = λ chunks root shows above led.
     all_led_on chunks root c.in_ok-first.first c.in_ok-pages.pages.items (first_led chunks root (c.args.level + 1) c.in_ok-first.first c.args.above.now above led c.in_ok-first.ensures.ok) (c.in_ok-pages.ensures.led chunks shows)
+
+pub returns-in_err-first-clause-wrong : goal.returns-in_err-first-clause-wrong
+returns-in_err-first-clause-wrong g c = λ chunks root shows under.
+    let p = err_from_is_err_and c.from_residual.result c.from_residual.ensures.1 in
+    if_torn _ _ c.in_err-first.field-0.0 c.from_residual.result (p.1 ∙ ap Err p.2) (λ at found wanted childless. Childless c.args.level c.args.above.now under childless)
+    (c.in_err-first.ensures.childless (level_some chunks (c.args.level + 1) c.args.above.now (under_level chunks root (c.args.level + 1) c.args.above.now under)))
+
+pub returns-in_err-pages-clause-wrong : goal.returns-in_err-pages-clause-wrong
+returns-in_err-pages-clause-wrong g c = λ chunks root shows under.
+    let p = err_from_is_err_and c.from_residual-in_err-pages.result c.from_residual-in_err-pages.ensures.1 in
+    if_torn _ _ c.in_err-pages.field-0.0 c.from_residual-in_err-pages.result (p.1 ∙ ap Err p.2) (λ at found wanted torn.
+    Along c.args.level c.in_ok-first.first c.args.above.now under c.in_ok-first.ensures.ok torn) (c.in_err-pages.ensures.wrong chunks shows)
+
+pub returns-in_err-lead_down-clause-wrong : goal.returns-in_err-lead_down-clause-wrong
+returns-in_err-lead_down-clause-wrong g c = λ chunks root shows under.
+    let p = err_from_is_err_and c.from_residual-in_err-lead_down.result c.from_residual-in_err-lead_down.ensures.1 in
+    if_torn _ _ c.in_err-lead_down.field-0.0 c.from_residual-in_err-lead_down.result (p.1 ∙ ap Err p.2) (λ at found wanted astray.
+    Astray c.args.level c.in_ok-first.first c.args.above.now c.in_ok-pages.pages.items under c.in_ok-first.ensures.ok (c.in_ok-pages.ensures.ok chunks shows)
+    (subst (λ (l : List Node). IsAstray c.args.above.now l wanted) c.deref.ensures.value astray)) c.in_err-lead_down.ensures.astray

@@ -6,6 +6,8 @@ use Rattle.bx_audit_trees.specs.Leading.{AreLedTo, IsLedTo, Itself}
 use Rattle.bx_audit_trees.specs.Trees.{LiesBelow}
 use Rattle.bx_audit_trees.proofs.Ends.{if_torn}
 use Rattle.bx_audit_trees.proofs.Descents.{Stack, lowest_level, lies_below, one_top, tree_is}
+use Rattle.bx_audit_trees.proofs.Torn.{are_under}
+use Rattle.bx_audit_trees.specs.Torn.{AreUnder}
 use Rattle.bx_audit_trees.proofs.trees.tree_under.Goals as goal
 
 pub returns-in_err-top-clause-torn : goal.returns-in_err-top-clause-torn
@@ -114,3 +116,21 @@ returns-in_err-below-clause-shows g c = λ chunks shows. c.in_err-below.ensures.
 
 pub returns-in_err-push-clause-shows : goal.returns-in_err-push-clause-shows
 returns-in_err-push-clause-shows g c = λ chunks shows. c.in_ok-below.ensures.shows chunks (c.loop-level.invariant.shows chunks shows)
+
+pub returns-in_err-top-clause-wrong : goal.returns-in_err-top-clause-wrong
+returns-in_err-top-clause-wrong g c = λ chunks shows.
+    let p = err_from_is_err_and c.from_residual.result c.from_residual.ensures.1 in
+    if_torn _ _ c.in_err-top.field-0.0 c.from_residual.result (p.1 ∙ ap Err p.2) (λ at found wanted torn. torn) (c.in_err-top.ensures.wrong chunks shows)
+
+pub returns-in_err-below-clause-wrong : goal.returns-in_err-below-clause-wrong
+returns-in_err-below-clause-wrong g c = λ chunks shows.
+    let p = err_from_is_err_and c.from_residual-in_err-below.result c.from_residual-in_err-below.ensures.1 in
+    let level = c.loop-level.level in
+    let low = c.loop-level.lowest in
+    let up : level ≡ level - 1 + 1 = omega (arith, c.loop-level-test.true) in
+    let same : low ≡ c.deref.result.now = sym (c.deref.ensures.value ∙ c.lowest.view_is) in
+    let under : AreUnder chunks c.args.root (level - 1 + 1) c.deref.result.now =
+    subst (λ (n : ℕ). AreUnder chunks c.args.root n c.deref.result.now) up
+    (subst (AreUnder chunks c.args.root level) same (are_under chunks c.args.root level low (reverse c.loop-level.levels.items) (c.loop-level.invariant.read chunks shows))) in
+    if_torn _ _ c.in_err-below.field-0.0 c.from_residual-in_err-below.result (p.1 ∙ ap Err p.2) (λ at found wanted torn. torn)
+    (c.in_err-below.ensures.wrong chunks c.args.root (c.loop-level.invariant.shows chunks shows) under)

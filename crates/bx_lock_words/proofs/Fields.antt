@@ -12,7 +12,7 @@ use Rattle.bx_lock_words.specs.declared.words.Release.{Release}
 use Rattle.bx_lock_words.specs.declared.words.Revoke.{Revoke}
 use Rattle.bx_lock_words.specs.declared.words.Want.{Want}
 use Rattle.bx_lock_words.specs.Reading
-use Rattle.bx_lock_words.specs.Words.{grant_text, mode_number, mode_text, pair_text, release_text, revoke_text, want_text}
+use Rattle.bx_lock_words.specs.Words.{grant_text, mode_number, mode_text, numbers_text, release_text, revoke_text, want_text}
 
 -- a part as another value, where what is read fits
 fitting_field : {A B : Type 0} {a : Reader A} {text : A → List ℕ} {Fit : A → Type 0} (f : A → B) (g : B → A) → ((x : A) → Fit x → g (f x) ≡ x) → ((y : B) → f (g y) ≡ y)
@@ -29,15 +29,15 @@ fitting_field {A} {B} {a} {text} {Fit} f g back forth p = record {
 
 -- ---- parts
 
-abbrev PairFits : ℕ × ℕ → Type 0
-PairFits x = Fits x.0 × Fits x.1
+abbrev NumbersFit : ℕ × ℕ → Type 0
+NumbersFit x = Fits x.0 × Fits x.1
 
-abbrev pair_of : ℕ × ℕ → List ℕ
-pair_of x = pair_text x.0 x.1
+abbrev numbers_of : ℕ × ℕ → List ℕ
+numbers_of x = numbers_text x.0 x.1
 
-pub pair_field : IsField Reading.pair_at pair_of PairFits
-unfolding Reading.pair_at pair_text
-pair_field = then_field field64 field64
+pub numbers_field : IsField Reading.numbers_at numbers_of NumbersFit
+unfolding Reading.numbers_at numbers_text
+numbers_field = then_field field64 field64
 
 below_two : (n : ℕ) → (n < 2 ^ 32) × (n < 2) → mode_number (Reading.mode_with n) ≡ n
 below_two zero fits = refl
@@ -68,7 +68,7 @@ pub want_field : IsField Reading.want_at want_text WantFits
 unfolding Reading.want_at want_text
 want_field =
     fits_field WantFits (λ w fits. (fits.0.0, fits.0.1, fits.1.1)) (λ w fits. ((fits.0, fits.1), (tt, fits.2)))
-    (as_field Reading.want_with Reading.want_fields (λ x. refl) (λ y. refl) (then_field pair_field (then_field mode_field field64)))
+    (as_field Reading.want_with Reading.want_fields (λ x. refl) (λ y. refl) (then_field numbers_field (then_field mode_field field64)))
 
 abbrev pub GrantFits : Grant → Type 0
 GrantFits g = Fits g.session × Fits g.block × Fits g.number × Fits g.index
@@ -77,7 +77,7 @@ pub grant_field : IsField Reading.grant_at grant_text GrantFits
 unfolding Reading.grant_at grant_text
 grant_field =
     fits_field GrantFits (λ g fits. (fits.0.0, fits.0.1, fits.1.1.0, fits.1.1.1)) (λ g fits. ((fits.0, fits.1), (tt, (fits.2, fits.3))))
-    (as_field Reading.grant_with Reading.grant_fields (λ x. refl) (λ y. refl) (then_field pair_field (then_field mode_field pair_field)))
+    (as_field Reading.grant_with Reading.grant_fields (λ x. refl) (λ y. refl) (then_field numbers_field (then_field mode_field numbers_field)))
 
 abbrev pub RevokeFits : Revoke → Type 0
 RevokeFits v = Fits v.session × Fits v.block × Fits v.number × Fits v.asking
@@ -86,7 +86,7 @@ pub revoke_field : IsField Reading.revoke_at revoke_text RevokeFits
 unfolding Reading.revoke_at revoke_text
 revoke_field =
     fits_field RevokeFits (λ v fits. (fits.0.0, fits.0.1, fits.1.0, fits.1.1)) (λ v fits. ((fits.0, fits.1), (fits.2, fits.3)))
-    (as_field Reading.revoke_with Reading.revoke_fields (λ x. refl) (λ y. refl) (then_field pair_field pair_field))
+    (as_field Reading.revoke_with Reading.revoke_fields (λ x. refl) (λ y. refl) (then_field numbers_field numbers_field))
 
 abbrev pub ReleaseFits : Release → Type 0
 ReleaseFits l = Fits l.session × Fits l.block × Fits l.number × Fits l.index
@@ -95,4 +95,4 @@ pub release_field : IsField Reading.release_at release_text ReleaseFits
 unfolding Reading.release_at release_text
 release_field =
     fits_field ReleaseFits (λ l fits. (fits.0.0, fits.0.1, fits.1.0, fits.1.1)) (λ l fits. ((fits.0, fits.1), (fits.2, fits.3)))
-    (as_field Reading.release_with Reading.release_fields (λ x. refl) (λ y. refl) (then_field pair_field pair_field))
+    (as_field Reading.release_with Reading.release_fields (λ x. refl) (λ y. refl) (then_field numbers_field numbers_field))

@@ -12,7 +12,7 @@ use Rattle.bx_lock_words.specs.declared.words.Word.TheVariants.{Wants, Grants, R
 use Rattle.bx_lock_words.specs.Reading
 use Rattle.bx_lock_words.specs.Reading.{word_at}
 use Rattle.bx_lock_words.specs.Words.{IsWord, Spells, body_text, kind_of}
-use Rattle.bx_lock_words.proofs.Fields.{grant_field, pair_field, release_field, revoke_field, want_field}
+use Rattle.bx_lock_words.proofs.Fields.{grant_field, numbers_field, release_field, revoke_field, want_field}
 
 -- ---- each word is read again
 
@@ -23,7 +23,7 @@ reads_again (Grants g) rest is = rw (grant_field.again g rest is) refl
 reads_again (Revokes v) rest is = rw (revoke_field.again v rest is) refl
 reads_again (Releases l) rest is = rw (release_field.again l rest is) refl
 reads_again (Renews s) rest is = rw (field64.again s rest is) refl
-reads_again (Leases s u) rest is = rw (pair_field.again (s, u) rest is) refl
+reads_again (Leases s u) rest is = rw (numbers_field.again (s, u) rest is) refl
 
 -- ---- and what is read is a word
 
@@ -59,7 +59,7 @@ reads_word kind bytes x fits e =
             | inr e12 ↦ elim (either (eqb kind 12) _ _ x e12) [
               | inl h ↦ one_of Renews kind field64 (λ s. refl) (λ s fit. fit) (λ s. eqb-true kind 12 h.0) bytes x fits h.1
               | inr e13 ↦ elim (either (eqb kind 13) _ _ x e13) [
-                | inl h ↦ one_of Reading.leases_with kind pair_field (λ p. refl) (λ p fit. fit) (λ p. eqb-true kind 13 h.0) bytes x fits h.1
+                | inl h ↦ one_of Reading.leases_with kind numbers_field (λ p. refl) (λ p fit. fit) (λ p. eqb-true kind 13 h.0) bytes x fits h.1
                 | inr none ↦ absurd cc
               ]
             ]

@@ -12,8 +12,8 @@ use Rattle.bx_lock_words.specs.declared.words.Word.{Word}
 use Rattle.bx_lock_words.specs.declared.words.Word.TheVariants.{Wants, Grants, Revokes, Releases, Renews, Leases}
 
 -- two numbers
-unfoldable pub pair_at : Reader (ℕ × ℕ)
-pair_at bytes = then_at (number_at w64) (number_at w64) bytes
+unfoldable pub numbers_at : Reader (ℕ × ℕ)
+numbers_at bytes = then_at (number_at w64) (number_at w64) bytes
 
 -- a mode, which is 0 or 1
 abbrev pub is_mode : ℕ → Bool
@@ -37,7 +37,7 @@ abbrev pub want_fields : Want → WantFields
 want_fields w = ((w.session, w.block), (w.mode, w.number))
 
 unfoldable pub want_at : Reader Want
-want_at bytes = as_at want_with (then_at pair_at (then_at mode_at (number_at w64))) bytes
+want_at bytes = as_at want_with (then_at numbers_at (then_at mode_at (number_at w64))) bytes
 
 abbrev pub GrantFields : Type 0
 GrantFields = (ℕ × ℕ) × (Mode × (ℕ × ℕ))
@@ -49,28 +49,28 @@ abbrev pub grant_fields : Grant → GrantFields
 grant_fields g = ((g.session, g.block), (g.mode, (g.number, g.index)))
 
 unfoldable pub grant_at : Reader Grant
-grant_at bytes = as_at grant_with (then_at pair_at (then_at mode_at pair_at)) bytes
+grant_at bytes = as_at grant_with (then_at numbers_at (then_at mode_at numbers_at)) bytes
 
-abbrev pub PairsFields : Type 0
-PairsFields = (ℕ × ℕ) × (ℕ × ℕ)
+abbrev pub NumbersFields : Type 0
+NumbersFields = (ℕ × ℕ) × (ℕ × ℕ)
 
-abbrev pub revoke_with : PairsFields → Revoke
+abbrev pub revoke_with : NumbersFields → Revoke
 revoke_with x = record { session = x.0.0; block = x.0.1; number = x.1.0; asking = x.1.1 }
 
-abbrev pub revoke_fields : Revoke → PairsFields
+abbrev pub revoke_fields : Revoke → NumbersFields
 revoke_fields v = ((v.session, v.block), (v.number, v.asking))
 
 unfoldable pub revoke_at : Reader Revoke
-revoke_at bytes = as_at revoke_with (then_at pair_at pair_at) bytes
+revoke_at bytes = as_at revoke_with (then_at numbers_at numbers_at) bytes
 
-abbrev pub release_with : PairsFields → Release
+abbrev pub release_with : NumbersFields → Release
 release_with x = record { session = x.0.0; block = x.0.1; number = x.1.0; index = x.1.1 }
 
-abbrev pub release_fields : Release → PairsFields
+abbrev pub release_fields : Release → NumbersFields
 release_fields l = ((l.session, l.block), (l.number, l.index))
 
 unfoldable pub release_at : Reader Release
-release_at bytes = as_at release_with (then_at pair_at pair_at) bytes
+release_at bytes = as_at release_with (then_at numbers_at numbers_at) bytes
 
 abbrev pub leases_with : ℕ × ℕ → Word
 leases_with x = Leases x.0 x.1
@@ -83,5 +83,5 @@ word_at kind bytes =
     else if kind == 10 then as_at Revokes revoke_at bytes
     else if kind == 11 then as_at Releases release_at bytes
     else if kind == 12 then as_at Renews (number_at w64) bytes
-    else if kind == 13 then as_at leases_with pair_at bytes
+    else if kind == 13 then as_at leases_with numbers_at bytes
     else None

@@ -29,20 +29,20 @@ abbrev pub mode_text : Mode → List ℕ
 mode_text mode = to_be_bytes w32 (mode_number mode)
 
 -- two numbers
-unfoldable pub pair_text : ℕ → ℕ → List ℕ
-pair_text a b = to_be_bytes w64 a ++ to_be_bytes w64 b
+unfoldable pub numbers_text : ℕ → ℕ → List ℕ
+numbers_text a b = to_be_bytes w64 a ++ to_be_bytes w64 b
 
 unfoldable pub want_text : Want → List ℕ
-want_text w = pair_text w.session w.block ++ (mode_text w.mode ++ to_be_bytes w64 w.number)
+want_text w = numbers_text w.session w.block ++ (mode_text w.mode ++ to_be_bytes w64 w.number)
 
 unfoldable pub grant_text : Grant → List ℕ
-grant_text g = pair_text g.session g.block ++ (mode_text g.mode ++ pair_text g.number g.index)
+grant_text g = numbers_text g.session g.block ++ (mode_text g.mode ++ numbers_text g.number g.index)
 
 unfoldable pub revoke_text : Revoke → List ℕ
-revoke_text v = pair_text v.session v.block ++ pair_text v.number v.asking
+revoke_text v = numbers_text v.session v.block ++ numbers_text v.number v.asking
 
 unfoldable pub release_text : Release → List ℕ
-release_text l = pair_text l.session l.block ++ pair_text l.number l.index
+release_text l = numbers_text l.session l.block ++ numbers_text l.number l.index
 
 abbrev pub body_text : Word → List ℕ
 body_text (Wants w) = want_text w
@@ -50,7 +50,7 @@ body_text (Grants g) = grant_text g
 body_text (Revokes v) = revoke_text v
 body_text (Releases l) = release_text l
 body_text (Renews s) = to_be_bytes w64 s
-body_text (Leases s u) = pair_text s u
+body_text (Leases s u) = numbers_text s u
 
 -- its numbers have eight bytes
 abbrev pub IsWord : Word → Type 0

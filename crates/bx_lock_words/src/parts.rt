@@ -3,16 +3,16 @@
 ghost use Rattle.std.specs.Prelude.{◌≡◌, IfErr};
 ghost use Rattle.bx_fields.specs.Reading.{Gives};
 ghost use Rattle.bx_fields.specs.declared.error.ReadError.TheVariants.{Malformed};
-ghost use Rattle.bx_lock_words.specs.Reading.{grant_at, mode_at, pair_at, release_at, revoke_at, want_at};
+ghost use Rattle.bx_lock_words.specs.Reading.{grant_at, mode_at, numbers_at, release_at, revoke_at, want_at};
 
 use crate::words::{Grant, Release, Revoke, Want};
 use bx_base::Mode;
 use bx_fields::{ReadError, u32_at, u64_at};
 
 /// Two numbers, and the bytes behind them.
-#[tactic(auto, unfolding(crate::specs::Reading::pair_at))]
-pub(crate) fn pair_of(bytes: &[u8]) -> Result<((u64, u64), &[u8]), ReadError>
-    ensures value { Gives (λ x. (x.0, x.1.now)) result (pair_at bytes.now) }
+#[tactic(auto, unfolding(crate::specs::Reading::numbers_at))]
+pub(crate) fn numbers_of(bytes: &[u8]) -> Result<((u64, u64), &[u8]), ReadError>
+    ensures value { Gives (λ x. (x.0, x.1.now)) result (numbers_at bytes.now) }
     ensures cause { IfErr result (λ error. error ≡ Malformed) }
 {
     let (first, rest) = u64_at(bytes)?;
@@ -40,7 +40,7 @@ pub(crate) fn want_of(bytes: &[u8]) -> Result<(Want, &[u8]), ReadError>
     ensures value { Gives (λ x. (x.0, x.1.now)) result (want_at bytes.now) }
     ensures cause { IfErr result (λ error. error ≡ Malformed) }
 {
-    let ((session, block), rest) = pair_of(bytes)?;
+    let ((session, block), rest) = numbers_of(bytes)?;
     let (mode, rest) = mode_of(rest)?;
     let (number, rest) = u64_at(rest)?;
     let want = Want {
@@ -58,9 +58,9 @@ pub(crate) fn grant_of(bytes: &[u8]) -> Result<(Grant, &[u8]), ReadError>
     ensures value { Gives (λ x. (x.0, x.1.now)) result (grant_at bytes.now) }
     ensures cause { IfErr result (λ error. error ≡ Malformed) }
 {
-    let ((session, block), rest) = pair_of(bytes)?;
+    let ((session, block), rest) = numbers_of(bytes)?;
     let (mode, rest) = mode_of(rest)?;
-    let ((number, index), rest) = pair_of(rest)?;
+    let ((number, index), rest) = numbers_of(rest)?;
     let grant = Grant {
         session,
         block,
@@ -77,8 +77,8 @@ pub(crate) fn revoke_of(bytes: &[u8]) -> Result<(Revoke, &[u8]), ReadError>
     ensures value { Gives (λ x. (x.0, x.1.now)) result (revoke_at bytes.now) }
     ensures cause { IfErr result (λ error. error ≡ Malformed) }
 {
-    let ((session, block), rest) = pair_of(bytes)?;
-    let ((number, asking), rest) = pair_of(rest)?;
+    let ((session, block), rest) = numbers_of(bytes)?;
+    let ((number, asking), rest) = numbers_of(rest)?;
     let revoke = Revoke {
         session,
         block,
@@ -94,8 +94,8 @@ pub(crate) fn release_of(bytes: &[u8]) -> Result<(Release, &[u8]), ReadError>
     ensures value { Gives (λ x. (x.0, x.1.now)) result (release_at bytes.now) }
     ensures cause { IfErr result (λ error. error ≡ Malformed) }
 {
-    let ((session, block), rest) = pair_of(bytes)?;
-    let ((number, index), rest) = pair_of(rest)?;
+    let ((session, block), rest) = numbers_of(bytes)?;
+    let ((number, index), rest) = numbers_of(rest)?;
     let release = Release {
         session,
         block,

@@ -7,7 +7,7 @@ ghost use Rattle.bx_lock_words.specs.Reading.{word_at};
 ghost use Rattle.bx_lock_words.specs.Words.{Spells};
 ghost use Rattle.bx_lock_words.specs.declared.words.Word.{Word};
 
-use crate::parts::{grant_of, pair_of, release_of, revoke_of, want_of};
+use crate::parts::{grant_of, numbers_of, release_of, revoke_of, want_of};
 use crate::words::Word;
 use bx_fields::{ReadError, u64_at};
 
@@ -55,7 +55,7 @@ fn word_of(kind: u8, body: &[u8]) -> Result<(Word, &[u8]), ReadError>
             Ok((Word::Renews(session), rest))
         }
         13 => {
-            let ((session, until), rest) = pair_of(body)?;
+            let ((session, until), rest) = numbers_of(body)?;
             Ok((Word::Leases(session, until), rest))
         }
         _ => Err(ReadError::Malformed),

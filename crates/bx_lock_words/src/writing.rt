@@ -1,7 +1,7 @@
 //! Writing what is said.
 
 ghost use Rattle.std.specs.Prelude.{◌≡◌, ◌++◌, IfOk, OnOk};
-ghost use Rattle.bx_lock_words.specs.Words.{body_text, grant_text, mode_text, pair_text, release_text, revoke_text, want_text};
+ghost use Rattle.bx_lock_words.specs.Words.{body_text, grant_text, mode_text, numbers_text, release_text, revoke_text, want_text};
 
 use crate::words::{Grant, Release, Revoke, Want, Word};
 use bx_base::{Mode, OutOfMemory, Raw};
@@ -29,13 +29,13 @@ fn push_word(out: &mut Vec<u8>, word: &Word) -> Result<(), OutOfMemory>
         Word::Revokes(revoke) => push_revoke(out, revoke),
         Word::Releases(release) => push_release(out, release),
         Word::Renews(session) => push_u64(out, *session),
-        Word::Leases(session, until) => push_pair(out, *session, *until),
+        Word::Leases(session, until) => push_numbers(out, *session, *until),
     }
 }
 
 /// Puts two numbers at the end.
-fn push_pair(out: &mut Vec<u8>, first: u64, second: u64) -> Result<(), OutOfMemory>
-    ensures { OnOk result (out.new.items ≡ out.old.items ++ pair_text first second) }
+fn push_numbers(out: &mut Vec<u8>, first: u64, second: u64) -> Result<(), OutOfMemory>
+    ensures { OnOk result (out.new.items ≡ out.old.items ++ numbers_text first second) }
 {
     push_u64(out, first)?;
     push_u64(out, second)
@@ -55,7 +55,7 @@ fn push_mode(out: &mut Vec<u8>, mode: Mode) -> Result<(), OutOfMemory>
 fn push_want(out: &mut Vec<u8>, want: &Want) -> Result<(), OutOfMemory>
     ensures { OnOk result (out.new.items ≡ out.old.items ++ want_text want.now) }
 {
-    push_pair(out, want.session, want.block)?;
+    push_numbers(out, want.session, want.block)?;
     push_mode(out, want.mode)?;
     push_u64(out, want.number)
 }
@@ -64,23 +64,23 @@ fn push_want(out: &mut Vec<u8>, want: &Want) -> Result<(), OutOfMemory>
 fn push_grant(out: &mut Vec<u8>, grant: &Grant) -> Result<(), OutOfMemory>
     ensures { OnOk result (out.new.items ≡ out.old.items ++ grant_text grant.now) }
 {
-    push_pair(out, grant.session, grant.block)?;
+    push_numbers(out, grant.session, grant.block)?;
     push_mode(out, grant.mode)?;
-    push_pair(out, grant.number, grant.index)
+    push_numbers(out, grant.number, grant.index)
 }
 
 /// Puts a revoke at the end.
 fn push_revoke(out: &mut Vec<u8>, revoke: &Revoke) -> Result<(), OutOfMemory>
     ensures { OnOk result (out.new.items ≡ out.old.items ++ revoke_text revoke.now) }
 {
-    push_pair(out, revoke.session, revoke.block)?;
-    push_pair(out, revoke.number, revoke.asking)
+    push_numbers(out, revoke.session, revoke.block)?;
+    push_numbers(out, revoke.number, revoke.asking)
 }
 
 /// Puts a release at the end.
 fn push_release(out: &mut Vec<u8>, release: &Release) -> Result<(), OutOfMemory>
     ensures { OnOk result (out.new.items ≡ out.old.items ++ release_text release.now) }
 {
-    push_pair(out, release.session, release.block)?;
-    push_pair(out, release.number, release.index)
+    push_numbers(out, release.session, release.block)?;
+    push_numbers(out, release.number, release.index)
 }

@@ -1,0 +1,9 @@
+use Rattle.bx_rows.proofs.Pushed.{on_ok, two}
+use Rattle.bx_lock_words.specs.Words.{numbers_text, revoke_text}
+use Rattle.bx_lock_words.proofs.writing.push_revoke.Goals as goal
+
+pub returns : goal.returns
+unfolding revoke_text
+returns c =
+    let x = c.args.revoke.now in
+    on_ok c.push_numbers-2.result _ _ (two c.args.out.now.items (numbers_text x.session x.block) (numbers_text x.number x.asking) _ _ c.in_ok-push_numbers.ensures) c.push_numbers-2.ensures

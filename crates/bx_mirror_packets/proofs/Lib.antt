@@ -1,0 +1,4 @@
+pub mod Whole
+pub mod Fields
+pub mod Parted
+pub mod Spelled

@@ -1,0 +1,2 @@
+pub mod DeviceMessages
+pub mod Reading

@@ -7,6 +7,7 @@ use Rattle.bx_tree_files.specs.Entries.{entry_named}
 use Rattle.bx_tree_files.specs.Names.{names_of}
 use Rattle.bx_create.specs.Lacking.{PreparesIn}
 use Rattle.bx_create.proofs.First.{stop_comes}
+use Rattle.bx_create.proofs.Needed.{placing_needs}
 use Rattle.bx_create.proofs.creating.create_in.Goals as goal
 
 pub returns-in-Err-clause-step : goal.returns-in-Err-clause-step
@@ -80,3 +81,7 @@ returns-in-None-clause-near g c = IfOk-weaker c.create_new.result _ _ (λ made f
 
 pub returns-clause-near : goal.returns-clause-near
 returns-clause-near g c = inl refl
+
+pub returns-in-None-clause-need : goal.returns-in-None-clause-need
+returns-in-None-clause-need g c =
+    placing_needs c.args.areas (g.V.View.held c.args.view.now) (g.V.View.hints c.args.view.now) c.args.directory.handle c.args.directory.inode c.args.name.now c.args.sattr.now.size c.create_new.result c.create_new.ensures.need

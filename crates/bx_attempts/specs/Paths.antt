@@ -14,7 +14,7 @@ use Rattle.bx_views.specs.Truths.{Held, Hints}
 
 -- By the call's procedure and arguments, that of its procedure: of SETATTR, WRITE, REMOVE (10) and RMDIR (15), RENAME, LINK, SYMLINK, MKDIR (14) and CREATE (9).
 abbrev pub ChangePathOf : Held → Hints → ℕ → ℕ → ℕ → Args → ℕ → Mode → Type 0
-ChangePathOf held hints volume areas procedure (Set handle sattr) at mode = OnSetting held hints volume areas handle at mode
+ChangePathOf held hints volume areas procedure (Set handle sattr) at mode = OnSetting held hints volume areas handle sattr.size at mode
 ChangePathOf held hints volume areas procedure (Name handle name) at mode =
     ((procedure ≡ 10) × OnRemove held hints volume areas handle name at mode) ⊎ ((procedure ≡ 15) × OnRmdir held hints volume areas handle name at mode)
 ChangePathOf held hints volume areas procedure (Link from handle name) at mode = OnLink held hints volume areas from handle name at mode

@@ -39,6 +39,9 @@ enters_by last few done = (refuse last 69 >> refuse few 28) >> done
 no_error : (given : Reply × Tree) (status : ℕ) → ◌≡◌ {A = Outcome} (Ok given) (Err status) → ⊥
 no_error given status is = absurd cc
 
+few_so : (spare : ℕ) → spare < 8 → nat_lt spare 8 ≡ true
+few_so spare less = grind (arith, nat_tests, less)
+
 module _ (volume areas : ℕ) (held : Held) (hints : Hints) (truth : Truth) (tree : Tree) (places : Places) (are : AreDirectories volume areas held hints truth tree places) where
   abbrev pub from : IsDirectoryOf volume areas held hints truth tree places.source.handle places.source.inode
   from = record { few = are.few; same = are.same; stands = are.stands; fit = are.fit; at = are.source; kind = are.source_kind }
@@ -85,9 +88,7 @@ module _ (volume areas : ℕ) (held : Held) (hints : Hints) (truth : Truth) (tre
       no_room (Stopped (Inner blocks)) r = (r, λ status is. no_error _ status (sym (by_tests false false 8 not_last refl) ∙ is))
       no_room (Stopped OutOfMemory) r = tt
       no_room (Full spare) r =
-          let less = r.few in
-          let few : nat_lt spare 8 ≡ true = grind (arith, nat_tests, less) in
-          (r, by_tests false true spare not_last few)
+          (r.0, by_tests false true spare not_last (few_so spare (r.0).few))
 
       -- ---- the move may be made
 

@@ -58,13 +58,13 @@ size_stops volume areas truth tree file outcome (Status status) is = absurd is
 size_stops volume areas truth tree file outcome OutOfMemory is = tt
 
 -- what is needed along the path of clearing is on that of SETATTR
-pub on_setting : (held : Held) (hints : Hints) (volume areas : ℕ) (bytes : List ℕ) (handle : ℕ) (inode : Inode) → named volume bytes ≡ Some handle → LiveAt (reads_with held hints []) areas handle Exclusive inode
-    → (result : Result (List Changed × Reply) Stop) → NeedsOn areas held (OnClearing held hints inode) result → NeedsOn areas held (OnSetting held hints volume areas bytes) result
-on_setting held hints volume areas bytes handle inode is live (Ok made) needs = tt
-on_setting held hints volume areas bytes handle inode is live (Err (Need at mode)) needs = (needs.0, needs.1, inr (record { handle = handle; inode = inode; is_named = is; live = live; on = needs.2 }))
-on_setting held hints volume areas bytes handle inode is live (Err (Inner blocks)) needs = tt
-on_setting held hints volume areas bytes handle inode is live (Err (Status status)) needs = tt
-on_setting held hints volume areas bytes handle inode is live (Err OutOfMemory) needs = tt
+pub on_setting : (held : Held) (hints : Hints) (volume areas : ℕ) (bytes : List ℕ) (size handle : ℕ) (inode : Inode) → is_given size ≡ true → named volume bytes ≡ Some handle → LiveAt (reads_with held hints []) areas handle Exclusive inode
+    → (result : Result (List Changed × Reply) Stop) → NeedsOn areas held (OnClearing held hints inode) result → NeedsOn areas held (OnSetting held hints volume areas bytes size) result
+on_setting held hints volume areas bytes size handle inode given is live (Ok made) needs = tt
+on_setting held hints volume areas bytes size handle inode given is live (Err (Need at mode)) needs = (needs.0, needs.1, inr (record { given = given; handle = handle; inode = inode; is_named = is; live = live; on = needs.2 }))
+on_setting held hints volume areas bytes size handle inode given is live (Err (Inner blocks)) needs = tt
+on_setting held hints volume areas bytes size handle inode given is live (Err (Status status)) needs = tt
+on_setting held hints volume areas bytes size handle inode given is live (Err OutOfMemory) needs = tt
 
 -- ---- the errors of setting a size, by the inode
 

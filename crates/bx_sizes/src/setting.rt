@@ -37,7 +37,7 @@ use std::alloc::Global;
 /// SETATTR (RFC 1094, section 2.2.3): the blocks that it changes, and the attributes then. New bytes are zeros; exactly where no error comes and the file
 /// would grow over bytes that were cut and aren't cleared, `Inner` clears some of them first, and lowers the tail that tells how far they reach.
 ///
-/// `Need` names a block that isn't held: the file's inode, exclusively; and where that is held, one on the path of such clearing. The
+/// `Need` names a block that isn't held: the file's inode, exclusively; and where a size is given and that is held, one on the path of such clearing. The
 /// status is the first of `STALE`, where the file handle names no file; `PERM`, where the caller may not set something that is given; and
 /// with a size `ISDIR`, `NXIO` of a link, `ACCES` and `FBIG`. `now` is in seconds and microseconds.
 pub fn setattr<V: View>(
@@ -54,7 +54,7 @@ pub fn setattr<V: View>(
         → IsChangeOr volume areas truth (setattr_of tree call.now at.now sattr.now now) result }
     ensures hints { (hints : Hints) (truth : Truth) (tree : Tree) → areas ≤ 64 → IsTruth (V.held view.now) truth → Stands volume areas truth tree → HintsFitAll areas (V.hints view.now) truth
         → HintsFitAll areas hints truth → IfOk result (λ made. HintsFitAll areas hints (with_draft truth made.0)) }
-    ensures need { NeedsOn areas (V.held view.now) (OnSetting (V.held view.now) (V.hints view.now) volume areas at.now) result }
+    ensures need { NeedsOn areas (V.held view.now) (OnSetting (V.held view.now) (V.hints view.now) volume areas at.now sattr.now.size) result }
     ensures held { IfOk result (λ made. IsHeldDraft (V.held view.now) made.0) }
     ensures first { HoldsInner (V.held view.now) result }
     ensures lacks { (truth : Truth) (tree : Tree) → areas ≤ 64 → IsTruth (V.held view.now) truth → Stands volume areas truth tree → HintsFitAll areas (V.hints view.now) truth

@@ -51,8 +51,8 @@ returns-in-Err-clause-fair g c =
     let held = g.V.View.held a.view.now in
     let hints = g.V.View.hints a.view.now in
     IfOk-weaker c.stopped.result _ _
-    (λ attempt is. fair_over a.areas held (OnSetting held hints a.volume a.areas a.at.now) (ChangePathOf held hints a.volume a.areas a.call.now.procedure a.call.now.args) (λ block mode on. subst (λ (args : Args). ChangePathOf held hints a.volume a.areas a.call.now.procedure args block mode) (sym c.requires.args) on) attempt
-    (inner_fair a.xid a.areas held (OnSetting held hints a.volume a.areas a.at.now) attempt (List Changed × Reply) c.in-Err.stop c.in-Err.ensures.need c.in-Err.ensures.first is)) c.stopped.ensures
+    (λ attempt is. fair_over a.areas held (OnSetting held hints a.volume a.areas a.at.now a.sattr.now.size) (ChangePathOf held hints a.volume a.areas a.call.now.procedure a.call.now.args) (λ block mode on. subst (λ (args : Args). ChangePathOf held hints a.volume a.areas a.call.now.procedure args block mode) (sym c.requires.args) on) attempt
+    (inner_fair a.xid a.areas held (OnSetting held hints a.volume a.areas a.at.now a.sattr.now.size) attempt (List Changed × Reply) c.in-Err.stop c.in-Err.ensures.need c.in-Err.ensures.first is)) c.stopped.ensures
 
 pub returns-in-Ok-clause-lacks : goal.returns-in-Ok-clause-lacks
 returns-in-Ok-clause-lacks g c = λ truth tree same s.

@@ -1,6 +1,6 @@
 use Rattle.std.proofs.Common.{inl, inr, sym}
 use Rattle.std.proofs.lemmas.Result.{IfOk-weaker}
-use Rattle.bx_adding.proofs.Lacks.{full_if}
+use Rattle.bx_creating.proofs.Lacks.{full_if}
 use Rattle.bx_create.proofs.CreateWhole.{comes, comes_first, comes_ready, no_directory, no_name, searched}
 use Rattle.std.proofs.Common.{◌≡◌}
 use Rattle.std.specs.Prelude.{Err}

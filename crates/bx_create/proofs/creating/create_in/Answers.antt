@@ -1,15 +1,13 @@
 use Rattle.bx_create.proofs.CreateWhole.{list, made_new, new_first, new_ready, not_over, not_searched, over, over_first, over_ready, without}
 use Rattle.std.proofs.Common.{◌≡◌, ℕ, Option, inl, inr, refl}
-use Rattle.std.proofs.lemmas.Result.{IfErr-weaker, IfOk-weaker}
-use Rattle.bx_adding.proofs.Stopped.{wider}
-use Rattle.bx_create.specs.Creating.{OnNamed}
-use Rattle.bx_creating.specs.Placing.{OnPlacing}
+use Rattle.std.proofs.lemmas.Result.{IfOk-weaker}
 use Rattle.std.specs.Prelude.{Err}
 use Rattle.bx_model.specs.Making.{create_at}
 use Rattle.bx_tree_files.specs.Entries.{entry_named}
 use Rattle.bx_tree_files.specs.Names.{names_of}
 use Rattle.bx_create.specs.Lacking.{PreparesIn}
 use Rattle.bx_create.proofs.First.{stop_comes}
+use Rattle.bx_create.proofs.Needed.{placing_needs}
 use Rattle.bx_create.proofs.creating.create_in.Goals as goal
 
 pub returns-in-Err-clause-step : goal.returns-in-Err-clause-step
@@ -86,9 +84,4 @@ returns-clause-near g c = inl refl
 
 pub returns-in-None-clause-need : goal.returns-in-None-clause-need
 returns-in-None-clause-need g c =
-    let held = g.V.View.held c.args.view.now in
-    let hints = g.V.View.hints c.args.view.now in
-    let handle = c.args.directory.handle in
-    let inode = c.args.directory.inode in
-    IfErr-weaker c.create_new.result _ _
-    (wider c.args.areas held (OnPlacing c.args.areas held hints handle inode c.args.name.now) (OnNamed c.args.areas held hints handle inode c.args.name.now c.args.sattr.now.size) (λ at mode on. inr (inr on))) c.create_new.ensures.need
+    placing_needs c.args.areas (g.V.View.held c.args.view.now) (g.V.View.hints c.args.view.now) c.args.directory.handle c.args.directory.inode c.args.name.now c.args.sattr.now.size c.create_new.result c.create_new.ensures.need

@@ -51,6 +51,11 @@ returns-in-Err-enter-clause-lacks g c = λ volume truth tree d.
 pub returns-in-Ok-enter-clause-finds : goal.returns-in-Ok-enter-clause-finds
 returns-in-Ok-enter-clause-finds g c = λ volume truth tree d. c.in-Ok.ensures.finds volume truth tree d
 
+pub returns-in-Err-clause-need : goal.returns-in-Err-clause-need
+returns-in-Err-clause-need g c =
+    wider c.args.areas (g.V.View.held c.args.view.now) (OnRoomPath (parts_of c.args.directory.handle).area c.args.areas (g.V.View.held c.args.view.now) (g.V.View.hints c.args.view.now) c.args.directory.inode.tree c.args.name.now c.args.directory.inode.next)
+    (OnPlacing c.args.areas (g.V.View.held c.args.view.now) (g.V.View.hints c.args.view.now) c.args.directory.handle c.args.directory.inode c.args.name.now) (λ at mode on. inl on) c.in-Err.error c.in-Err.ensures.need
+
 pub returns-in-Err-enter-clause-need : goal.returns-in-Err-enter-clause-need
 returns-in-Err-enter-clause-need g c =
     wider c.args.areas (g.V.View.held c.args.view.now) (OnAddPath (g.V.View.held c.args.view.now) (g.V.View.hints c.args.view.now) c.in-Ok-make_new.draft c.args.directory.inode.tree (entry_of c.args.directory.inode.next c.args.name.now c.in-Ok-make_new.made)) (OnPlacing c.args.areas (g.V.View.held c.args.view.now) (g.V.View.hints c.args.view.now) c.args.directory.handle c.args.directory.inode c.args.name.now)
@@ -61,8 +66,3 @@ returns-in-Err-enter-clause-full g c = full_so (λ spare never. absurd never) c.
 
 pub returns-in-Ok-enter-clause-near : goal.returns-in-Ok-enter-clause-near
 returns-in-Ok-enter-clause-near g c = first_near (g.V.View.held c.args.view.now) (parts_of c.args.directory.handle).area c.args.areas c.in-Ok-make_new.draft c.in-Ok-make_new.made (rw c.of-near.ensures at c.in-Ok-make_new.ensures.made)
-
-pub returns-in-Err-clause-need : goal.returns-in-Err-clause-need
-returns-in-Err-clause-need g c =
-    wider c.args.areas (g.V.View.held c.args.view.now) (OnRoomPath (parts_of c.args.directory.handle).area c.args.areas (g.V.View.held c.args.view.now) (g.V.View.hints c.args.view.now) c.args.directory.inode.tree c.args.name.now c.args.directory.inode.next) (OnPlacing c.args.areas (g.V.View.held c.args.view.now) (g.V.View.hints c.args.view.now) c.args.directory.handle c.args.directory.inode c.args.name.now)
-    (λ at mode on. inl on) c.in-Err.error c.in-Err.ensures.need

@@ -1,9 +1,11 @@
-use Rattle.std.proofs.Common.{ℕ, Option, subst}
+use Rattle.std.proofs.Common.{ℕ, Option, None, inl, inr, subst}
 use Rattle.std.specs.Prelude.{Ok}
-use Rattle.std.proofs.lemmas.Result.{IfOk-weaker}
+use Rattle.std.proofs.lemmas.Result.{IfErr-weaker, IfOk-weaker}
 use Rattle.bx_entries.specs.declared.taking.Known.{Known}
 use Rattle.bx_tree_files.specs.Names.{names_of}
+use Rattle.bx_moving.proofs.Steps.{wider_by}
 use Rattle.bx_renaming.specs.Found.{OtherFor}
+use Rattle.bx_renaming.specs.Path.{OnOnto, OnTested}
 use Rattle.bx_renaming.proofs.Comes.{itself_has, nobody_has, not_had, other_has}
 use Rattle.bx_renaming.proofs.Rooms.{into}
 use Rattle.bx_linking.proofs.Lacks.{first_if, full_if}
@@ -71,3 +73,7 @@ returns-else-other-moved-clause-wanted g c = λ volume truth tree are is.
     full_if
     (λ spare no ready. no (ready (another c.args.areas truth tree (names_of are.source.file.body) (names_of are.target.file.body) c.args.name.now c.args.new_name.now c.args.number c.in-Ok-Some.second c.args.moved.now c.in-Ok-Some.other is had c.if-other-moved.false)))
     c.move_over.result (c.move_over.ensures.wanted volume truth tree are)
+
+pub returns-in-Ok-None-clause-need : goal.returns-in-Ok-None-clause-need
+returns-in-Ok-None-clause-need g c =
+    IfErr-weaker c.move_free.result _ _ (λ error n. wider_by c.args.areas (g.V.View.held c.args.view.now) (OnTested (g.V.View.held c.args.view.now) (g.V.View.hints c.args.view.now) c.args.areas c.args.places.now c.args.number c.args.moved.now c.args.name.now c.args.new_name.now None) (OnOnto (g.V.View.held c.args.view.now) (g.V.View.hints c.args.view.now) c.args.areas c.args.places.now c.args.number c.args.moved.now c.args.name.now c.args.new_name.now) (λ at mode on. inr (inl on)) error n) c.move_free.ensures.need

@@ -44,7 +44,7 @@ pub returns-clause-need : goal.returns-clause-need
 returns-clause-need g c =
     let held = g.V.View.held c.args.view.now in
     let hints = g.V.View.hints c.args.view.now in
-    on_setting held hints c.args.volume c.args.areas c.args.at.now c.in-Some.handle c.in-Ok.inode (sym c.in-Some.ensures)
+    on_setting held hints c.args.volume c.args.areas c.args.at.now c.args.sattr.now.size c.in-Some.handle c.in-Ok.inode (sym c.is_given.ensures ∙ c.if-not-is_given.false) (sym c.in-Some.ensures)
     (subst (λ (d : List Changed). LiveAt (reads_with held hints d) c.args.areas c.in-Some.handle Exclusive c.in-Ok.inode) c.new-none.ensures c.in-Ok.ensures.at) c.set_all.result c.set_all.ensures.need
 
 pub returns-then-not-is_given-clause-lacks : goal.returns-then-not-is_given-clause-lacks

@@ -29,3 +29,4 @@ pub mod RunLeaves
 pub mod RunPaths
 pub mod LonePage
 pub mod Landings
+pub mod LeafFound

@@ -2,12 +2,15 @@
 -- tree.
 use Rattle.std.specs.Prelude.{◌≡◌, ℕ, ◌⊎◌, List, [], ◌++◌, Option, Some, None, IfSome, Result, Ok, Err}
 use Rattle.bx_page.specs.declared.entry.Entry.{Entry}
-use Rattle.bx_page.specs.Contents.{Contents, from}
+use Rattle.bx_page.specs.Contents.{Contents, IsInOrder, from}
+use Rattle.bx_page.specs.Keys.{IsBelow}
 use Rattle.bx_truth.specs.PageTrees.{IsIn, Node, PageTree, map_of}
 use Rattle.bx_blink.specs.declared.error.BlinkError.{BlinkError}
 use Rattle.bx_blink.specs.declared.error.BlinkError.TheVariants.{Need, Stale, Full, NoRoom, Absent, Present, OutOfMemory, Crowded}
 use Rattle.bx_blink.specs.declared.runs.RunEnd.{RunEnd}
 use Rattle.bx_blink.specs.declared.runs.RunEnd.TheVariants.{Wants, Broken, First, Nothing}
+use Rattle.bx_blink.specs.declared.steps.End.{End}
+use Rattle.bx_blink.specs.declared.steps.End.TheVariants.{Needs, Lost, Lands}
 
 -- a run ends at this leaf, with this key, from which on the leaf has an entry
 pub record EndsAt (E : RunEnd → Type 0) (key : List ℕ) (page : Contents) : Type 0 where
@@ -61,3 +64,39 @@ LeafIn tree key (Err (Full spare)) = ⊥
 LeafIn tree key (Err (NoRoom leaf)) = ⊥
 LeafIn tree key (Err Present) = ⊥
 LeafIn tree key (Err Crowded) = ⊥
+
+-- a walk lands at this leaf
+pub record LandsOn (E : End → Type 0) (page : Contents) : Type 0 where
+  pub handle : ℕ
+  pub end : E (Lands handle page)
+
+-- what the search for the leaf of a key answers, by a walk's end
+abbrev pub LandsIn : (End → Type 0) → Result Contents BlinkError → Type 0
+LandsIn E (Ok page) = LandsOn E page
+LandsIn E (Err (Need at mode)) = E (Needs at mode)
+LandsIn E (Err Stale) = E Lost
+LandsIn E (Err OutOfMemory) = ⊥
+LandsIn E (Err Absent) = ⊥
+LandsIn E (Err (Full spare)) = ⊥
+LandsIn E (Err (NoRoom leaf)) = ⊥
+LandsIn E (Err Present) = ⊥
+LandsIn E (Err Crowded) = ⊥
+
+-- The leaf of a key: the entries from the key on are those of the leaf, and those behind it; the key is below its high key, and its own
+-- keys rise below that.
+pub record IsLeafFor (tree : PageTree) (key : List ℕ) (page : Contents) : Type 0 where
+  pub entries : from (map_of tree) key ≡ from page.entries key ++ behind_leaf (map_of tree) page.high
+  pub below : IfSome page.high (IsBelow key)
+  pub in_order : IsInOrder page
+
+-- What it answers, by the map. In a tree it is never lost.
+abbrev pub LeafHas : PageTree → List ℕ → Result Contents BlinkError → Type 0
+LeafHas tree key (Ok page) = IsLeafFor tree key page
+LeafHas tree key (Err (Need at mode)) = Unit {0}
+LeafHas tree key (Err Stale) = ⊥
+LeafHas tree key (Err OutOfMemory) = Unit {0}
+LeafHas tree key (Err Absent) = ⊥
+LeafHas tree key (Err (Full spare)) = ⊥
+LeafHas tree key (Err (NoRoom leaf)) = ⊥
+LeafHas tree key (Err Present) = ⊥
+LeafHas tree key (Err Crowded) = ⊥

@@ -7,13 +7,15 @@ ghost use Rattle.bx_truth.specs.PageTrees.{PageTree};
 ghost use Rattle.bx_views.specs.Truths.{Truth};
 ghost use Rattle.bx_blink.specs.Answers.{NeedsFairly};
 ghost use Rattle.bx_blink.specs.Hints.{Under};
-ghost use Rattle.bx_blink.specs.Leaves.{BeginsAt, LeafAt, LeafIn};
+ghost use Rattle.bx_blink.specs.Leaves.{BeginsAt, LandsIn, LeafAt, LeafHas, LeafIn};
 ghost use Rattle.bx_blink.specs.Runs.{Runs, OnRun};
-ghost use Rattle.bx_blink.specs.Walks.{reads_with, start, most};
+ghost use Rattle.bx_blink.specs.Walks.{reads_with, Ends, OnPath, start, most};
 
 use crate::error::BlinkError;
 use crate::runs::{RunEnd, run};
-use bx_base::Raw;
+use crate::steps::End;
+use crate::walks::walk;
+use bx_base::{Mode, Raw};
 use bx_page_bytes::PageBytes;
 use bx_records::Draft;
 use bx_views::View;
@@ -55,5 +57,38 @@ fn leaf_on<'a, V: View>(
         RunEnd::Broken => Err(BlinkError::Stale),
         RunEnd::First(key, leaf, _) => Ok(Some((key, leaf))),
         RunEnd::Nothing => Ok(None),
+    }
+}
+
+/// The leaf of a key in the tree under a root, by the root's handle.
+///
+/// `Need` names a block that isn't held and is on the path of the search for the key, and `Stale` comes where what is held is no tree: where the
+/// view agrees with a tree it never comes.
+pub fn leaf_at<'a, V: View>(
+    draft: &'a Draft,
+    view: &'a V,
+    root: u64,
+    key: &[u8],
+) -> Result<PageBytes<'a>, BlinkError>
+    ensures ends { LandsIn (Ends (reads_with (V.held view.now) (V.hints view.now) draft.now) 0 Shared key.now most (start root Shared)) result }
+    ensures map { (areas : ℕ) (truth : Truth) (tree : PageTree) → Under areas (V.held view.now) (V.hints view.now) truth draft.now root tree → LeafHas tree key.now result }
+    ensures fair { NeedsFairly (reads_with (V.held view.now) (V.hints view.now) draft.now).held (OnPath (reads_with (V.held view.now) (V.hints view.now) draft.now) 0 Shared key.now most (start root Shared)) result }
+{
+    leaf_where(draft, view, root, key)
+}
+
+/// The same, by how the walk ends.
+fn leaf_where<'a, V: View>(
+    draft: &'a Draft,
+    view: &'a V,
+    root: u64,
+    key: &[u8],
+) -> Result<PageBytes<'a>, BlinkError>
+    ensures { LandsIn (Ends (reads_with (V.held view.now) (V.hints view.now) draft.now) 0 Shared key.now most (start root Shared)) result }
+{
+    match walk(draft, view, root, key, 0, Mode::Shared) {
+        End::Needs(at, mode) => Err(BlinkError::Need(at, mode)),
+        End::Lost => Err(BlinkError::Stale),
+        End::Lands(_, page) => Ok(page),
     }
 }

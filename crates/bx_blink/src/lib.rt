@@ -10,7 +10,7 @@ mod searches;
 mod steps;
 mod walks;
 
-pub use along::leaf_from;
+pub use along::{leaf_at, leaf_from};
 pub use error::BlinkError;
 pub use laws::{a_search_has_one_end, no_hints_agree_with_a_leaf};
 pub use look::{block_at, page_in, page_of, seen};

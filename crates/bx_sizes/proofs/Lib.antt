@@ -3,7 +3,9 @@ pub mod First
 pub mod Fits
 pub mod InodePut
 pub mod Cleared
-pub mod Last
+pub mod Digits
+pub mod Halves
+pub mod Onward
 pub mod Resized
 pub mod Stops
 pub mod Set

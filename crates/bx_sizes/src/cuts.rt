@@ -7,8 +7,10 @@ ghost use Rattle.bx_truth.specs.PageTrees.{PageTree, map_of};
 ghost use Rattle.bx_views.specs.Truths.{Truth};
 ghost use Rattle.bx_sizes.specs.Clearing.{FindsLast, FoundBy, OnIndexes};
 
+use crate::first_pieces::first_piece;
 use bx_files::{content_key, handle_in, value_at};
 use bx_inodes::Stop;
+use bx_model::STALE;
 use bx_views::View;
 use std::alloc::Global;
 
@@ -30,13 +32,26 @@ pub(crate) fn last_piece<V: View>(
     ensures need { NeedsOn areas (V.held view.now) (OnIndexes (V.held view.now) (V.hints view.now) root from end) result }
     ensures inner { NeverInner result }
 {
-    for passed in from..end {
-        let index = (end - 1 - (passed - from)) as u32;
-        match value_at(alloc, areas, view, root, &content_key(index)) {
+    let mut low = from;
+    let mut high = end;
+    let mut found = None;
+    while low < high {
+        let middle = low + (high - low) / 2;
+        match first_piece(alloc, areas, view, root, middle, high) {
             Err(stop) => return Err(stop),
-            Ok(None) => {}
-            Ok(Some(value)) => return Ok(Some((index, handle_in(value.bytes())))),
+            Ok(Some(index)) => {
+                found = Some(index);
+                low = u64::from(index) + 1;
+            }
+            Ok(None) => high = middle,
         }
     }
-    Ok(None)
+    let Some(index) = found else {
+        return Ok(None);
+    };
+    match value_at(alloc, areas, view, root, &content_key(index)) {
+        Err(stop) => Err(stop),
+        Ok(None) => Err(Stop::Status(STALE)),
+        Ok(Some(value)) => Ok(Some((index, handle_in(value.bytes())))),
+    }
 }

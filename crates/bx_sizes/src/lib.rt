@@ -3,6 +3,7 @@
 
 mod clearing;
 mod cuts;
+mod first_pieces;
 mod setting;
 mod sizes;
 

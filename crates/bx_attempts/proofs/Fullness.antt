@@ -1,5 +1,5 @@
 -- A number of blocks other than 8 is told only where no slot is left.
-use Rattle.std.proofs.Common.{◌≡◌, ℕ, List, [], ◌∷◌, refl, sym, subst}
+use Rattle.std.proofs.Common.{ℕ, List, [], ◌∷◌, refl, sym, subst}
 use Rattle.std.specs.Prelude.{◌≢◌}
 use Rattle.bx_attempts.specs.Replies.{IsChanged, IsRefused, IsStopped}
 use Rattle.bx_changes.specs.Growing.{IfFull}

@@ -53,8 +53,10 @@ module _ (chunks : Chunks) (holdings : Holdings) (files : List File) (found : Is
   no_inode : (held : Holder) → holdings handle ≡ Some held → (IsInode (Some held) → ⊥) → (block : Block) → chunks handle ≡ Some block → block.kind ≡ 1 → ⊥
   no_inode OfFile there apart block chunk is = absurd (apart tt)
   no_inode OfDead there apart block chunk is = absurd (apart tt)
-  no_inode (OfPage inode) there apart block chunk is = of_claim inode None 2 (λ e. omega (arith, e)) (λ block claim chunk. same_kind claim.block block 2 claim.chunk claim.kind chunk) there block chunk is
-  no_inode (OfPiece inode index) there apart block chunk is = of_claim inode (Some index) 3 (λ e. omega (arith, e)) (λ block claim chunk. same_kind claim.block block 3 claim.chunk claim.kind chunk) there block chunk is
+  no_inode (OfPage inode) there apart block chunk is =
+      of_claim inode None 2 (λ e. omega (arith, e)) (λ block claim chunk. same_kind claim.block block 2 claim.chunk claim.kind chunk) there block chunk is
+  no_inode (OfPiece inode index) there apart block chunk is =
+      of_claim inode (Some index) 3 (λ e. omega (arith, e)) (λ block claim chunk. same_kind claim.block block 3 claim.chunk claim.kind chunk) there block chunk is
 
   pub other_has_none : (held : Holder) → holdings handle ≡ Some held → (held ≡ OfFile → ⊥) → (owner : ℕ → Owner) (stored : Stored) (file : File) → IsStored chunks owner handle stored (Some file) → ⊥
   other_has_none OfFile there apart owner stored file is = apart refl

@@ -41,7 +41,8 @@ pub returns-in_err-tree-clause-first : goal.returns-in_err-tree-clause-first
 returns-in_err-tree-clause-first g c = λ chunks shows.
     let p = err_from_is_err_and c.from_residual.result c.from_residual.ensures.1 in
     if_torn _ _ c.in_err-tree.field-0.0 c.from_residual.result (p.1 ∙ ap Err p.2) (λ at found wanted all. Page all.0 all.1.0 all.1.1)
-    (both_torn _ _ c.in_err-tree.field-0.0 (c.in_err-tree.ensures.torn chunks shows) (both_torn _ _ c.in_err-tree.field-0.0 (c.in_err-tree.ensures.leads chunks shows) (c.in_err-tree.ensures.wrong chunks shows)))
+    (both_torn _ _ c.in_err-tree.field-0.0 (c.in_err-tree.ensures.torn chunks shows)
+    (both_torn _ _ c.in_err-tree.field-0.0 (c.in_err-tree.ensures.leads chunks shows) (c.in_err-tree.ensures.wrong chunks shows)))
 
 pub returns-in_err-pieces-clause-first : goal.returns-in_err-pieces-clause-first
 returns-in_err-pieces-clause-first g c = λ chunks shows.

@@ -133,11 +133,13 @@ returns-in_err-inode-clause-fault g c = λ chunks shows.
 
 pub returns-in-1-clause-fault : goal.returns-in-1-clause-fault
 returns-in-1-clause-fault g c = λ chunks shows.
-    torn_too _ _ c.regular_of.result (λ at found wanted fault. Within c.in_ok-inode.inode (c.in_ok-inode.ensures.ok chunks shows) fault) (c.regular_of.ensures.fault chunks (c.in_ok-inode.ensures.shows chunks shows))
+    torn_too _ _ c.regular_of.result (λ at found wanted fault. Within c.in_ok-inode.inode (c.in_ok-inode.ensures.ok chunks shows) fault)
+    (c.regular_of.ensures.fault chunks (c.in_ok-inode.ensures.shows chunks shows))
 
 pub returns-in-2-clause-fault : goal.returns-in-2-clause-fault
 returns-in-2-clause-fault g c = λ chunks shows.
-    torn_too _ _ c.directory_of.result (λ at found wanted fault. Within c.in_ok-inode.inode (c.in_ok-inode.ensures.ok chunks shows) fault) (c.directory_of.ensures.fault chunks (c.in_ok-inode.ensures.shows chunks shows))
+    torn_too _ _ c.directory_of.result (λ at found wanted fault. Within c.in_ok-inode.inode (c.in_ok-inode.ensures.ok chunks shows) fault)
+    (c.directory_of.ensures.fault chunks (c.in_ok-inode.ensures.shows chunks shows))
 
 pub returns-in-5-clause-fault : goal.returns-in-5-clause-fault
 returns-in-5-clause-fault g c = λ chunks shows.
@@ -145,4 +147,5 @@ returns-in-5-clause-fault g c = λ chunks shows.
 
 pub returns-clause-fault : goal.returns-clause-fault
 returns-clause-fault g c = λ chunks shows.
-    torn_too _ _ c.dead_of.result (λ at found wanted fault. Within c.in_ok-inode.inode (c.in_ok-inode.ensures.ok chunks shows) fault) (c.dead_of.ensures.fault chunks (c.in_ok-inode.ensures.shows chunks shows))
+    torn_too _ _ c.dead_of.result (λ at found wanted fault. Within c.in_ok-inode.inode (c.in_ok-inode.ensures.ok chunks shows) fault)
+    (c.dead_of.ensures.fault chunks (c.in_ok-inode.ensures.shows chunks shows))

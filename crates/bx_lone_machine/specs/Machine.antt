@@ -1,5 +1,5 @@
 -- How a machine stands on the disks of its bench.
-use Rattle.std.specs.Prelude.{◌≡◌, ℕ, ◌-◌, Bool, true, ◌<◌, ◌≤◌, List, [], ◌∷◌, Contains, None, Option, Some}
+use Rattle.std.specs.Prelude.{◌≡◌, ℕ, ◌-◌, Bool, true, false, not, ◌&&◌, ◌||◌, ◌<◌, ◌≤◌, List, [], ◌∷◌, Contains, None, Option, Some}
 use Rattle.bx_base.specs.declared.names.Actor.TheVariants.{Member}
 use Rattle.bx_base.specs.declared.names.Point.{Point}
 use Rattle.bx_disk.specs.Disks.{Disks}
@@ -18,6 +18,7 @@ use Rattle.bx_lone_repair.specs.Bench.{IsBench}
 use Rattle.bx_lone_repair.specs.Left.{Doubt}
 use Rattle.bx_lone_store.specs.Fits.{Keeps, WillRead}
 use Rattle.bx_lone_store.specs.Parts.{answer_at, asked_at, made_of}
+use Rattle.bx_lone_store.specs.Steps.{Serves}
 use Rattle.bx_lone_store.specs.Waiting.{needs_of, owes_in}
 use Rattle.bx_lone_store.specs.declared.store.PlainStore.{PlainStore}
 use Rattle.bx_model.specs.declared.tree.Tree.{Tree}
@@ -96,6 +97,19 @@ AreRising above most (call ∷ calls) = (above < call.number) × AreRising call.
 -- whether a member owes an answer to a sync
 abbrev pub member_waits : LoneMachine → ℕ → Bool
 member_waits machine member = owes_in machine.store.greatest machine.store.slots.items machine.store.inquiries.items machine.store.down.items (Member member)
+
+-- whether no call waits
+abbrev pub none_wait : List Waiting → Bool
+none_wait [] = true
+none_wait (call ∷ calls) = false
+
+-- whether rounds have nothing left to do: no call waits, and no member
+abbrev pub rests : LoneMachine → Bool
+rests machine = none_wait (calls_of machine) && not (member_waits machine 0 || member_waits machine 1)
+
+-- What a member's sync makes of all that waits for the members: each write is written, or is out no more, and each read is answered.
+abbrev pub AreServed : LoneMachine → LoneMachine → Type 0
+AreServed old new = Serves old.state old.store.greatest old.store.slots.items new.store.slots.items old.store.inquiries.items new.store.inquiries.items
 
 -- ---- how it stands
 

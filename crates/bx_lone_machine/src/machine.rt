@@ -3,7 +3,7 @@
 ghost use Rattle.std.specs.Prelude.{◌≡◌, ◌≢◌, ◌↔◌, ◌⊎◌, ◌||◌, ◌==◌, IfOk, IsTrue, ◌++◌, ◌∷◌, ◌<◌, ◌≤◌, [], ℕ, List, OnOk, OnErr, true, false};
 ghost use Rattle.std.specs.List.{list_any};
 ghost use Rattle.bx_disk.specs.Disks.{Disks};
-ghost use Rattle.bx_lone_machine.specs.Machine.{Holds, IsReady, calls_of, floor_of, latest_of, member_waits, record_of, volume_of};
+ghost use Rattle.bx_lone_machine.specs.Machine.{Holds, IsReady, calls_of, floor_of, latest_of, member_waits, record_of, rests, volume_of};
 ghost use Rattle.bx_model.specs.declared.tree.Tree.{Tree};
 ghost use Rattle.bx_rpc.specs.Message.{is_message};
 
@@ -88,6 +88,7 @@ impl LoneMachine {
 
     /// Whether no call waits, and no member: then rounds do nothing more.
     pub fn is_quiet(&self) -> bool
+        ensures rests { result ≡ rests self.now }
         ensures calls { result ≡ true → calls_of self.now ≡ [] }
         ensures members { (member : ℕ) → member ≤ 1 → result ≡ true → member_waits self.now member ≡ false }
         ensures busy { result ≡ false → (calls_of self.now ≢ []) ⊎ ((member : ℕ) × (member ≤ 1) × (member_waits self.now member ≡ true)) }

@@ -1,8 +1,9 @@
 //! Rounds.
 
-ghost use Rattle.std.specs.Prelude.{◌≡◌, ◌≤◌, IfOk, Option, None, OnOk, []};
+ghost use Rattle.std.specs.Prelude.{◌≡◌, ◌≤◌, IfOk, Option, None, OnOk, [], true};
+ghost use Rattle.bx_base.specs.Faults.{Rose};
 ghost use Rattle.bx_steps.specs.Steps.{Step};
-ghost use Rattle.bx_lone_machine.specs.Machine.{Holds, IsReady, calls_of, latest_of, record_of};
+ghost use Rattle.bx_lone_machine.specs.Machine.{AreServed, Holds, IsReady, calls_of, latest_of, member_waits, record_of};
 ghost use Rattle.bx_lone_machine.specs.Rounds.{IsOfRound};
 ghost use Rattle.bx_lone_standing.specs.Node.{Takes};
 ghost use Rattle.bx_lone_standing.specs.Standing.{Turns};
@@ -45,11 +46,13 @@ impl LoneMachine {
         Ok(acted)
     }
 
-    /// The disk of a member finishes a sync, if it waits. The node stands as before.
+    /// The disk of a member finishes a sync, if it waits: then all that waits for the members is served, unless a disk fails. The node stands
+    /// as before.
     fn sync_member<B: Rack>(&mut self, bench: &mut B, member: u32) -> Result<(), OutOfMemory>
         requires ready { IsReady self.old (B.state bench.old).sizes }
         requires member { member ≤ 1 }
         ensures ready { OnOk result (IsReady self.new (B.state bench.new).sizes) }
+        ensures serves { member_waits self.old member ≡ true → (Rose (B.faults bench.old) (B.faults bench.new) → ⊥) → OnOk result (AreServed self.old self.new) }
         ensures node { self.new.node ≡ self.old.node }
         ensures latest { self.new.latest ≡ self.old.latest }
         ensures holds { (tree : Tree) → B.tells bench.old → Holds self.old (B.state bench.old) tree → OnOk result (Holds self.new (B.state bench.new) tree) }

@@ -1,6 +1,6 @@
 //! Blocks that are read.
 
-ghost use Rattle.std.specs.Prelude.{◌≡◌, ◌⊎◌, ℕ, OnOk, Some};
+ghost use Rattle.std.specs.Prelude.{◌≡◌, ◌⊎◌, ℕ, IsSomeAnd, List, OnOk, Some};
 ghost use Rattle.bx_cache.specs.Cached.{block_at};
 ghost use Rattle.bx_disk.specs.Disks.{Disks};
 ghost use Rattle.bx_facts.specs.Disks.{NeedsNoMore};
@@ -44,12 +44,13 @@ impl LoneNode {
         Ok(())
     }
 
-    /// Takes the home of a block, once it is read. Bytes that are no block are let go.
+    /// Takes the home of a block, once it is read, and keeps it. Bytes that are no block are let go.
     pub(crate) fn receive<S: Store>(&mut self, store: &mut S, at: u64) -> Result<(), OutOfMemory>
         requires joined { IsJoined self.old (S.made store.old) (S.own store.old 0) (S.out_of store.old 0) (S.asked store.old 0) }
         requires reads { self.old.stage ≡ Reads at }
         ensures queue { self.new.queue ≡ self.old.queue }
         ensures same { IsOfSame self.old self.new }
+        ensures keeps { (bytes : List ℕ) (block : Block) → S.answer store.old 0 ≡ Some bytes → SpellsBlock block bytes → OnOk result (IsSomeAnd (block_at self.new.cache at) (λ kept. SpellsBlock kept bytes)) }
         ensures stage { OnOk result ((self.new.stage ≡ self.old.stage) ⊎ (self.new.stage ≡ Idle)) }
         ensures joined { OnOk result (IsJoined self.new (S.made store.new) (S.own store.new 0) (S.out_of store.new 0) (S.asked store.new 0)) }
         ensures needs { NeedsNoMore (S.needs store.old) (S.needs store.new) }
@@ -71,6 +72,7 @@ impl LoneNode {
         ensures node { OnOk result (self.new ≡ record self.old { stage = Idle; cache = self.new.cache }) }
         ensures queue { self.new.queue ≡ self.old.queue }
         ensures same { IsOfSame self.old self.new }
+        ensures kept { (block : Block) → SpellsBlock block bytes.now → OnOk result (IsSomeAnd (block_at self.new.cache at) (λ kept. SpellsBlock kept bytes.now)) }
         ensures cache { (other : ℕ) (block : Block) → block_at self.new.cache other ≡ Some block → OnOk result ((block_at self.old.cache other ≡ Some block) ⊎ ((other ≡ at) × SpellsBlock block bytes.now)) }
     {
         self.stage = Stage::Spent;
@@ -82,7 +84,8 @@ impl LoneNode {
 
 /// Puts the block that bytes spell into a cache. Bytes that are no block are let go.
 fn take_in(alloc: Global, cache: &mut Cache, at: u64, bytes: &Raw) -> Result<(), OutOfMemory>
-    ensures { (other : ℕ) (block : Block) → block_at cache.new other ≡ Some block → OnOk result ((block_at cache.old other ≡ Some block) ⊎ ((other ≡ at) × SpellsBlock block bytes.now)) }
+    ensures kept { (block : Block) → SpellsBlock block bytes.now → OnOk result (IsSomeAnd (block_at cache.new at) (λ kept. SpellsBlock kept bytes.now)) }
+    ensures cache { (other : ℕ) (block : Block) → block_at cache.new other ≡ Some block → OnOk result ((block_at cache.old other ≡ Some block) ⊎ ((other ≡ at) × SpellsBlock block bytes.now)) }
 {
     if let Some(block) = Block::read(alloc, bytes.bytes())? {
         cache.put(at, block)?;

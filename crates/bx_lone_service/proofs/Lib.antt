@@ -2,3 +2,4 @@ mod Cleaning
 pub mod Queues
 pub mod Rounding
 pub mod Stopping
+pub mod Back

@@ -1,4 +1,5 @@
 pub mod Calls
 pub mod Logs
+pub mod Services
 pub mod Shown
 pub mod Stages

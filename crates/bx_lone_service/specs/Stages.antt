@@ -1,10 +1,10 @@
 -- What a service is by its stage.
-use Rattle.std.specs.Prelude.{◌≡◌, ℕ, ◌≤◌, nat_lt, Bool, true, false, List, [], ◌∷◌, Contains, map, Option, Some, None, refl}
+use Rattle.std.specs.Prelude.{◌≡◌, ℕ, ◌≤◌, nat_lt, ◌⊎◌, Bool, true, false, not, ◌&&◌, ◌||◌, List, [], ◌∷◌, Contains, map, Option, Some, None, refl}
 use Rattle.bx_clean.specs.Tidying.{IsClean}
 use Rattle.bx_disk.specs.Disks.{Disks}
 use Rattle.bx_history.specs.Trace.{Taking}
 use Rattle.bx_lone_machine.specs.Machine as machines
-use Rattle.bx_lone_machine.specs.Machine.{Holds, calls_of, doubt_of, floor_of, volume_of}
+use Rattle.bx_lone_machine.specs.Machine.{Holds, calls_of, doubt_of, floor_of, member_waits, none_wait, volume_of}
 use Rattle.bx_lone_machine.specs.declared.machine.LoneMachine.{LoneMachine}
 use Rattle.bx_lone_standing.specs.declared.stage.Waiting.{Waiting}
 use Rattle.bx_lone_repair.specs.Bench.{AreLong}
@@ -64,6 +64,36 @@ latest_of (Returning left queue latest) = latest
 -- what the node leaves where it stops
 abbrev pub left_of : Stage → Left
 left_of stage = record { volume = volume_in stage; floor = floor_in stage; latest = latest_of stage }
+
+-- whether the node is back, but the disks aren't at rest yet
+abbrev pub is_returning : Stage → Bool
+is_returning (Up machine) = false
+is_returning (Down left) = false
+is_returning (Returning left queue latest) = true
+
+-- Whether rounds have nothing left to do, by whether a tidy is under way: no call waits, no member, no tidy, and the node isn't coming back.
+abbrev pub rests_of : Stage → Bool → Bool
+rests_of (Up machine) tidies = not tidies && machines.rests machine
+rests_of (Down left) tidies = not tidies
+rests_of (Returning left queue latest) tidies = false
+
+-- then no call waits, no tidy is under way, and nothing has to be brought back
+pub at_rest : (stage : Stage) (tidies : Bool) → rests_of stage tidies ≡ true → (waits_of stage ≡ []) × (tidies ≡ false) × (is_returning stage ≡ false)
+at_rest (Up machine) true rests = absurd cc
+at_rest (Up machine) false rests = (by (calls_of machine) (not (member_waits machine 0 || member_waits machine 1)) rests, refl, refl)
+  where
+    by : (calls : List Waiting) (other : Bool) → (none_wait calls && other) ≡ true → map taking_of calls ≡ []
+    by [] other rests = refl
+    by (call ∷ calls) other rests = absurd cc
+at_rest (Down left) true rests = absurd cc
+at_rest (Down left) false rests = (refl, refl, refl)
+at_rest (Returning left queue latest) tidies rests = absurd cc
+
+-- What a round makes of a node: it is up as before, one call at most waits no more, the oldest, and where it is down nothing changes.
+pub record IsTurn (stage stage_then : Stage) (disks disks_then : Disks) : Type 0 where
+  pub up : is_up stage_then ≡ is_up stage
+  pub calls : (waits_of stage_then ≡ waits_of stage) ⊎ ((call : Taking) × (waits_of stage ≡ call ∷ waits_of stage_then))
+  pub still : is_up stage ≡ false → (stage_then ≡ stage) × (disks_then ≡ disks)
 
 -- ---- what is in doubt
 

@@ -32,8 +32,9 @@ pub(crate) enum Stage {
 }
 
 impl LoneService {
-    ghost use Rattle.std.specs.Prelude.{◌≡◌, ◌≢◌, ◌≤◌, [], Option, IfOk, OnOk, true, false};
-    ghost use Rattle.bx_lone_service.specs.Stages.{IsHolding, IsReady, is_up, latest_of, waits_of};
+    ghost use Rattle.std.specs.Prelude.{◌≡◌, ◌≢◌, ◌≤◌, [], Option, IfNone, IfOk, OnOk, true, false};
+    ghost use Rattle.bx_base.specs.Faults.{Rose};
+    ghost use Rattle.bx_lone_service.specs.Stages.{IsHolding, IsReady, IsTurn, is_returning, is_up, latest_of, waits_of};
     ghost use Rattle.bx_model.specs.declared.tree.Tree.{Tree};
     ghost use Rattle.bx_service.specs.Rounds.{Doubt, Restarts};
 
@@ -49,7 +50,8 @@ impl LoneService {
         }
     }
 
-    /// Where the node is back, tries to bring the disks to rest: then it goes on. Says at which point a call acted that was in doubt.
+    /// Where the node is back, tries to bring the disks to rest: then it goes on, unless one fails. Says at which point a call acted that was in
+    /// doubt, before anything is written home.
     fn recover<B: Rack>(&mut self, bench: &mut B) -> Result<Option<Point>, OutOfMemory>
         requires ready { IsReady self.old.stage (B.state bench.old).sizes }
         ensures ready { OnOk result (IsReady self.new.stage (B.state bench.new).sizes) }
@@ -57,6 +59,12 @@ impl LoneService {
         ensures latest { OnOk result (latest_of self.new.stage ≡ latest_of self.old.stage) }
         ensures up { OnOk result (is_up self.new.stage ≡ is_up self.old.stage) }
         ensures tidies { self.new.tidies ≡ self.old.tidies }
+        ensures turns { OnOk result (IsTurn self.old.stage self.new.stage (B.state bench.old) (B.state bench.new)) }
+        ensures down { is_up self.old.stage ≡ false → B.state bench.new ≡ B.state bench.old }
+        ensures sizes { (B.state bench.new).sizes ≡ (B.state bench.old).sizes }
+        ensures back { is_returning self.old.stage ≡ false → OnOk result (is_returning self.new.stage ≡ false) }
+        ensures returns { (tree : Tree) (doubt : Option Doubt) → B.tells bench.old → IsHolding self.old.stage (B.state bench.old) tree doubt → (Rose (B.faults bench.old) (B.faults bench.new) → ⊥)
+            → IfOk result (λ found. IfNone found (is_returning self.new.stage ≡ false)) }
         ensures restarts { (tree : Tree) (doubt : Option Doubt) → B.tells bench.old → IsHolding self.old.stage (B.state bench.old) tree doubt
             → IfOk result (Restarts (IsHolding self.new.stage (B.state bench.new)) (waits_of self.new.stage) tree doubt) }
         ensures later { B.faults bench.old ≤ B.faults bench.new }
@@ -84,7 +92,7 @@ impl LoneService {
 
 impl Service for LoneService {
     ghost use Rattle.bx_lone_service.specs.Shown.{shows};
-    ghost use Rattle.bx_lone_service.specs.Stages.{IsCleanOn, IsHolding, IsReady, is_up, lacks_of, latest_of, none_down, waits_of};
+    ghost use Rattle.bx_lone_service.specs.Stages.{IsCleanOn, IsHolding, IsReady, IsTurn, at_rest, is_returning, is_up, lacks_of, latest_of, none_down, rests_of, waits_of};
 
     ghost waits = { λ service. waits_of service.stage };
 
@@ -96,11 +104,19 @@ impl Service for LoneService {
 
     ghost tidies = { λ service. service.tidies };
 
+    ghost returns = { λ service. is_returning service.stage };
+
+    ghost rests = { λ service. rests_of service.stage service.tidies };
+
+    ghost turns = { λ moment old new. IsTurn old.service.stage new.service.stage old.disks new.disks };
+
     ghost ready = { λ service sizes. IsReady service.stage sizes };
 
     ghost holds = { λ service disks tree doubt. IsHolding service.stage disks tree doubt };
 
     ghost clean = { λ service disks. IsCleanOn service.stage disks };
+
+    ghost at_rest = { λ service rests. at_rest service.stage service.tidies rests };
 
     ghost idle = { λ service down. none_down service.stage down };
 

@@ -2,10 +2,12 @@
 
 ghost use Rattle.std.specs.Prelude.{◌≡◌, ◌<◌, ℕ, Bool, IsErrOf, OnOk};
 ghost use Rattle.bx_base.specs.Faults.{Rose};
+ghost use Rattle.bx_base.specs.declared.names.Actor.TheVariants.{Member};
 ghost use Rattle.bx_calls.specs.Calls.{LeavesOnly};
 ghost use Rattle.bx_disk.specs.Counts.{NoneFalls, NoneRose};
 ghost use Rattle.bx_facts.specs.Disks.{HasRoom, NeedsNoMore, SameLabels, SameReplicas};
 ghost use Rattle.bx_facts.specs.declared.input.FactError.TheVariants.{Disk as DiskFails};
+ghost use Rattle.bx_facts.specs.declared.input.Input.TheVariants.{Synced};
 ghost use Rattle.bx_global.specs.Allowed.{IsAllowed};
 ghost use Rattle.bx_model.specs.declared.tree.Tree.{Tree};
 ghost use Rattle.bx_lone_standing.specs.Node.{IsJoined, IsNode, NodeView};
@@ -19,7 +21,7 @@ use bx_facts::{FactError, Input, Outbox, Store};
 use bx_global::GlobalState;
 use std::alloc::Global;
 
-/// The disk of a member, from 0 to 7, has finished a sync: the store, which knows this state, works on the disks. The node stands as
+/// The disk of a member, from 0 to 7, has finished a sync: the store, which knows this state, makes its step of that, and works on the disks. The node stands as
 /// before, also after a disk's fault, and each image that a crash on the way may leave shows what it did before. For want of memory neither
 /// the node nor the store is used again.
 pub fn sync<S: Store, R: Rack>(
@@ -34,6 +36,7 @@ pub fn sync<S: Store, R: Rack>(
     requires known { ∥ IsAllowed known.now ∥₁ }
     ensures own { S.own store.new 0 ≡ S.own store.old 0 }
     ensures made { S.made store.new ≡ S.made store.old }
+    ensures steps { OnOk result (S.steps store.old known.now (Member member) Synced store.new) }
     ensures joined { (node : NodeView) → IsJoined node (S.made store.old) (S.own store.old 0) (S.out_of store.old 0) (S.asked store.old 0) → OnOk result (IsJoined node (S.made store.new) (S.own store.new 0) (S.out_of store.new 0) (S.asked store.new 0)) }
     ensures joined_faulted { (node : NodeView) → IsJoined node (S.made store.old) (S.own store.old 0) (S.out_of store.old 0) (S.asked store.old 0) → IsErrOf result DiskFails → IsJoined node (S.made store.new) (S.own store.new 0) (S.out_of store.new 0) (S.asked store.new 0) }
     ensures needs { NeedsNoMore (S.needs store.old) (S.needs store.new) }

@@ -86,7 +86,7 @@ module _ (tree : Tree) (of : Option Doubt) where
           part = append_assoc (ended (codes "end") ++ trace_text lines) (take n text) (drop n text) ∙ ap (λ (w : List ℕ). (ended (codes "end") ++ trace_text lines) ++ w) (take-append-drop n text ∙ listed) ∙ whole lines is;
         }
 
-        pub ended_whole : (Stands : Tree → Type 0) (new : List ℕ) → new ≡ middle ++ text → Stands shows.next → IsEnded tree of Stands old new
+        pub ended_whole : (Stands : Tree → List TraceLine → Type 0) (new : List ℕ) → new ≡ middle ++ text → Stands shows.next (map Acted doubt) → IsEnded tree of Stands old new
         ended_whole Stands new all stands = record {
           next = shows.next;
           doubt = doubt;

@@ -161,7 +161,7 @@ stops_unfinished Holds up waits calls text number start before after going short
     (headline_told going.tree up waits going.doubt calls going.done start before going.stands short.next short.doubt short.told short.in_range) out (inr (refl, whole))
 
 -- the end was reached, and all was written
-pub finishes : (Holds : Tree → Option Doubt → Type 0) (up : Bool) (waits : List traces.Taking) (calls : ℕ) (text : List ℕ) (Stands : Tree → Type 0) (number : ℕ) (start before after : List ℕ)
+pub finishes : (Holds : Tree → Option Doubt → Type 0) (up : Bool) (waits : List traces.Taking) (calls : ℕ) (text : List ℕ) (Stands : Tree → List TraceLine → Type 0) (number : ℕ) (start before after : List ℕ)
     → (going : Going Holds up waits calls text [] number start before) → IsEnded going.tree going.doubt Stands before after → Wrote start after (IsReplayed text Stands)
 finishes Holds up waits calls text Stands number start before after going ended =
     let trace : List ℕ = trace_text (reverse (trace_of (parts_of going.done))) in

@@ -2,6 +2,7 @@
 use Rattle.std.proofs.Common.{◌≡◌, ℕ, ◌+◌, ◌<◌, ◌⊎◌, inl, inr, Err, Bool, true, false, arith, sym, ◌∙◌, subst, refl}
 use Rattle.std.specs.Prelude.{not, ◌&&◌, ◌==◌}
 use mathlib.Core.Path.{fun_ext}
+use native.Mathlib.Numerals.{unary_clauses}
 use Rattle.std.proofs.lemmas.Bool.{eq-eqb}
 use Rattle.bx_audit.specs.Audited.{StandFor}
 use Rattle.bx_base.specs.Faults.{Rose}
@@ -16,6 +17,7 @@ use Rattle.bx_overlay.specs.declared.error.AuditError.TheVariants as audits
 use Rattle.bx_overlay.specs.Refusals.{IsBreak, UnlessFault}
 use Rattle.bx_volume.specs.Images.{ImageStandsFor}
 use Rattle.bx_replay.specs.Bench.{IsHeldBy}
+use Rattle.bx_replay.specs.Course.{after_crashes}
 use Rattle.bx_stops.specs.FromLine.{stop_of_audit}
 use Rattle.bx_replay.specs.Replay.{HasBenchCause, UnlessDisk}
 
@@ -37,6 +39,10 @@ image_before old new image left sure is = record {
     by : (d s : ℕ) → old.unsure d s ≡ true → (new.unsure d s ≡ true) ⊎ (new.unsure d s ≡ false) → IsSector (image d s)
     by d s before (inl now) = is.torn d s now
     by d s before (inr now) = subst IsSector (sym (is.sure d s now)) (left.torn d s before)
+
+-- with one crash more
+pub one_crash : (disks : Disks) (how : Noise) (n : ℕ) → after_crashes disks how (n + 1) ≡ crashed (after_crashes disks how n) n how
+one_crash disks how n = simp unary_clauses refl
 
 -- a crash of a disk leaves nothing unsure there
 pub crashed_unsure : (disks : Disks) (disk : ℕ) (how : Noise) (d s : ℕ) → (crashed disks disk how).unsure d s ≡ (not (d == disk) && disks.unsure d s)

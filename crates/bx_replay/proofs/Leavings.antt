@@ -5,6 +5,7 @@ use Rattle.bx_base.specs.Text.{BeginsWith}
 use Rattle.bx_model.specs.declared.tree.Tree.{Tree}
 use Rattle.bx_script.specs.declared.line.Line.{Line}
 use Rattle.bx_script.specs.ScheduleLine.{spelling}
+use Rattle.bx_script.specs.declared.trace_line.TraceLine.{TraceLine}
 use Rattle.bx_replay.specs.Headline.{IsInPlace}
 use Rattle.bx_service.specs.Rounds.{Doubt}
 use Rattle.bx_history.specs.Trace as traces
@@ -15,7 +16,7 @@ use Rattle.bx_replay.specs.Replay.{Begins, BreaksAfter, DoesLine, Ends, GivesLin
 use Rattle.bx_replay.proofs.Goings.{begins_broken, begins_cut, begins_empty, begins_outside, finishes, stops_broken, stops_cut, stops_outside, stops_refused, stops_torn, stops_unfinished}
 use Rattle.bx_replay.proofs.ReadLines.{all_read, cut_at, cut_first, refused_empty, refused_first, refused_line, refused_outside}
 
-pub begin_stops : {A : Type 0} (Holds : A → Tree → Option Doubt → Type 0) (calls : A → ℕ) (Tells : Type 0) (Stands : Tree → Type 0) (stop : Stop) (text rest left start : List ℕ) (before now bench_before bench_now : ℕ) → HasBeginCause stop before now bench_before bench_now
+pub begin_stops : {A : Type 0} (Holds : A → Tree → Option Doubt → Type 0) (calls : A → ℕ) (Tells : Type 0) (Stands : Tree → List TraceLine → Type 0) (stop : Stop) (text rest left start : List ℕ) (before now bench_before bench_now : ℕ) → HasBeginCause stop before now bench_before bench_now
     → Begins Holds calls (Err stop) text rest left → Leaves Tells Stands (Err stop) text left start start
 begin_stops Holds calls Tells Stands (stops.Refused line reason) text rest left start before now bench_before bench_now cause (inl e) = rw (cause.0, cause.1) (refused_empty text e, λ _. begins_empty text start e)
 begin_stops Holds calls Tells Stands (stops.Refused line reason) text rest left start before now bench_before bench_now cause (inr here) = rw (cause.0, cause.1) (refused_first text here, λ _. begins_outside text start here)
@@ -25,7 +26,7 @@ begin_stops Holds calls Tells Stands stops.WriteFault text rest left start befor
 begin_stops Holds calls Tells Stands stops.DiskFault text rest left start before now bench_before bench_now cause begins = λ _. begins_broken text start
 begin_stops Holds calls Tells Stands stops.OutOfMemory text rest left start before now bench_before bench_now cause begins = λ _. begins_broken text start
 
-module _ (Tells : Type 0) (Stands : Tree → Type 0) (Holds : Tree → Option Doubt → Type 0) (up : Bool) (waits : List traces.Taking) (calls : ℕ) where
+module _ (Tells : Type 0) (Stands : Tree → List TraceLine → Type 0) (Holds : Tree → Option Doubt → Type 0) (up : Bool) (waits : List traces.Taking) (calls : ℕ) where
   pub line_stops : (stop : Stop) (text rest next left start written : List ℕ) (number : ℕ) (before now : ℕ)
       → IsRead up text rest number → (Tells → Going Holds up waits calls text rest number start written) → HasLineCause stop (number + 1) before now → GivesLine (Err stop) (number + 1) rest next left
       → Leaves Tells Stands (Err stop) text left start written

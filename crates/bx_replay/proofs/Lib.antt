@@ -15,3 +15,4 @@ pub mod Running
 pub mod Held
 pub mod Causes
 pub mod Beginning
+pub mod Courses

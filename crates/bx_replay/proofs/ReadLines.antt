@@ -66,10 +66,10 @@ read_on text rest next done line begins (inr h) b = absurd (none_begins (spellin
 not_first : (done : List Line) (number : ℕ) → 0 < length done → number ≡ length done → ((number + 1) == 1) ≡ (length done == 0)
 not_first done number some count = ne_eqb (number + 1) 1 (λ e. omega (arith, some, count)) ∙ sym (ne_eqb (length done) 0 (λ e. omega (arith, some)))
 
-behind : (number : ℕ) → 0 < number → ((number + 1) == 1) ≡ false
+pub behind : (number : ℕ) → 0 < number → ((number + 1) == 1) ≡ false
 behind number some = ne_eqb (number + 1) 1 (λ e. omega (arith, some))
 
-pub reads_on : (up now : Bool) (text rest next : List ℕ) (number : ℕ) (line : Line) → IsRead up text rest number → number < 4294967295 → BeginsWith rest (spelling line) next → IsInPlace ((number + 1) == 1) line
+abbrev pub reads_on : (up now : Bool) (text rest next : List ℕ) (number : ℕ) (line : Line) → IsRead up text rest number → number < 4294967295 → BeginsWith rest (spelling line) next → IsInPlace ((number + 1) == 1) line
     → IsHeard up line × (now ≡ up_after line up) → IsRead now text next (number + 1)
 reads_on up now text rest next number line so_far few begins place hears =
     let some : 0 < number = let h = so_far.headed in omega (arith, h, so_far.count) in
@@ -166,7 +166,7 @@ refused_first text here = begins_refused text (here.0 ∷ here.1) here.2 (first_
 abbrev pub cut_first : (text piece left : List ℕ) → text ≡ piece ++ left → LacksFeed piece → length piece ≤ 18600 → IsCut text left
 cut_first text piece left e lacks short = record { done = []; piece = piece; read = inl e; lacks = lacks; short = short; are_done = none_done }
 
-pub heading_read : (text rest : List ℕ) (volume nodes devices areas : ℕ) → IsInPlace true (Heading volume nodes devices areas) → BeginsWith text (spelling (Heading volume nodes devices areas)) rest → IsRead true text rest 1
+abbrev pub heading_read : (text rest : List ℕ) (volume nodes devices areas : ℕ) → IsInPlace true (Heading volume nodes devices areas) → BeginsWith text (spelling (Heading volume nodes devices areas)) rest → IsRead true text rest 1
 heading_read text rest volume nodes devices areas place begins = record {
   done = Heading volume nodes devices areas ∷ [];
   read = read_on text text rest [] (Heading volume nodes devices areas) tt (inl refl) begins;

@@ -34,15 +34,15 @@ pub record IsPlayable (text : List ℕ) : Type 0 where
   pub read : IsSchedule (lines_of text) schedule
   pub are_done : AreDone schedule
 
--- The output is the trace of such a text, `end`, and the listing of the tree after it, which stands so.
-pub record IsReplayed (text : List ℕ) (Stands : Tree → Type 0) (output : List ℕ) : Type 0 where
+-- The output is the trace of such a text, `end`, closing lines, and the listing of the tree after it, which stand so.
+pub record IsReplayed (text : List ℕ) (Stands : Tree → List TraceLine → Type 0) (output : List ℕ) : Type 0 where
   pub input : IsPlayable text
   pub trace : List TraceLine
   pub closing : List TraceLine
   pub last : Tree
   pub headline : Headline input.schedule trace closing last
   pub output-is : output ≡ trace_text trace ++ closing_text closing last
-  pub stands : Stands last
+  pub stands : Stands last closing
 
 -- a call or a tick that comes while the machines are down
 pub record IsUnheard (first : Bool) (up : Bool) (line : List ℕ) : Type 0 where

@@ -217,13 +217,13 @@ HasBeginCause stops.OutOfMemory source_before source_now bench_before bench_now 
 -- ---- the end
 
 -- The end was written, or a part of it, and the points that it tells are in range.
-pub record IsEnded (tree : Tree) (of : Option Doubt) (Stands : Tree → Type 0) (old new : List ℕ) : Type 0 where
+pub record IsEnded (tree : Tree) (of : Option Doubt) (Stands : Tree → List TraceLine → Type 0) (old new : List ℕ) : Type 0 where
   pub next : Tree
   pub doubt : List Point
   pub told : Tells tree of next doubt
   pub in_range : AllByRecursion InTraceRange (map Acted doubt)
   pub written : new ≡ old ++ closing_text (map Acted doubt) next
-  pub stands : Stands next
+  pub stands : Stands next (map Acted doubt)
 
 pub record IsEndedShort (tree : Tree) (of : Option Doubt) (old new : List ℕ) : Type 0 where
   pub next : Tree
@@ -235,7 +235,7 @@ pub record IsEndedShort (tree : Tree) (of : Option Doubt) (old new : List ℕ) :
   pub written : new ≡ old ++ wrote
   pub part : wrote ++ more ≡ closing_text (map Acted doubt) next
 
-abbrev pub Ends : Result (Unit {0}) Stop → Tree → Option Doubt → (Tree → Type 0) → List ℕ → List ℕ → Type 0
+abbrev pub Ends : Result (Unit {0}) Stop → Tree → Option Doubt → (Tree → List TraceLine → Type 0) → List ℕ → List ℕ → Type 0
 Ends (Ok _) tree doubt Stands old new = IsEnded tree doubt Stands old new
 Ends (Err stop) tree doubt Stands old new = IsEndedShort tree doubt old new
 
@@ -289,8 +289,8 @@ pub record Wrote (old new : List ℕ) (P : List ℕ → Type 0) : Type 0 where
   pub holds : P output
 
 -- What a replay leaves, by what it was given and what is left of that; and, where the sink tells, by what that had and has. The tree
--- that a replay to the end leaves stands on the bench so.
-abbrev pub Leaves : Type 0 → (Tree → Type 0) → Result (Unit {0}) Stop → List ℕ → List ℕ → List ℕ → List ℕ → Type 0
+-- that a replay to the end leaves stands on the bench so, with what is told behind `end`.
+abbrev pub Leaves : Type 0 → (Tree → List TraceLine → Type 0) → Result (Unit {0}) Stop → List ℕ → List ℕ → List ℕ → List ℕ → Type 0
 Leaves Tells Stands (Ok _) text left old new = IsPlayable text × (left ≡ []) × (Tells → Wrote old new (IsReplayed text Stands))
 Leaves Tells Stands (Err (stops.Refused number reason)) text left old new = IsFirstRefused text number reason × (Tells → Wrote old new (IsRefused text number reason))
 Leaves Tells Stands (Err stops.ReadFault) text left old new = IsCut text left × (Tells → Wrote old new (IsCutOff text left))

@@ -5,7 +5,9 @@ ghost use Rattle.bx_audit.specs.Audited.{IsListed, StandFor};
 ghost use Rattle.bx_global.specs.Opening.{opening_state};
 ghost use Rattle.bx_model.specs.declared.tree.Tree.{Tree};
 ghost use Rattle.bx_model.specs.Listing.{listing};
+ghost use Rattle.bx_disk.specs.declared.noise.Noise.TheVariants.{Drop};
 ghost use Rattle.bx_replay.specs.Bench.{HoldsAny};
+ghost use Rattle.bx_replay.specs.Course.{all_crashed};
 ghost use Rattle.bx_service.specs.Rounds.{IsCrashed};
 ghost use Rattle.bx_replay.specs.Replay.{HasBenchCause, UnlessDisk};
 
@@ -15,8 +17,9 @@ use bx_disk::{CrashRack, Noise, Rack};
 use bx_stops::Stop;
 use std::alloc::Global;
 
-/// Crashes all disks of the bench: then nothing on them is unsure.
+/// Crashes all disks of the bench, one after the other: then nothing on them is unsure.
 pub(crate) fn crash_all<B: CrashRack>(bench: &mut B, noise: Noise) -> Result<(), OutOfMemory>
+    ensures noise { B.tells bench.old → OnOk result (B.state bench.new ≡ all_crashed (B.state bench.old) noise) }
     ensures crashed { B.tells bench.old → OnOk result (IsCrashed (B.state bench.old) (B.state bench.new)) }
     ensures no_fault { B.faults bench.new ≡ B.faults bench.old }
     ensures sizes { (B.state bench.new).sizes ≡ (B.state bench.old).sizes }
@@ -30,6 +33,7 @@ pub(crate) fn crash_all<B: CrashRack>(bench: &mut B, noise: Noise) -> Result<(),
 
 /// Drops what is unsure on the bench, and lists the file tree that it then holds.
 pub(crate) fn read_back<B: CrashRack>(alloc: Global, bench: &mut B) -> Result<Listing, Stop>
+    ensures dropped { B.tells bench.old → OnOk result (B.state bench.new ≡ all_crashed (B.state bench.old) Drop) }
     ensures crashed { B.tells bench.old → OnOk result (IsCrashed (B.state bench.old) (B.state bench.new)) }
     ensures listed { B.tells bench.old → IfOk result (IsListed (B.state bench.new) (opening_state 1 1)) }
     ensures one { (tree : Tree) → B.tells bench.old → IfOk result (λ listed. StandFor (B.state bench.new) (opening_state 1 1) tree → listed.text ≡ listing tree) }

@@ -1,10 +1,12 @@
 //! How a replay crashes, and comes back.
 
 ghost use Rattle.std.specs.Prelude.{◌≡◌, ◌≤◌, ◌<◌, List, ℕ, length, IfErr, OnOk, Option, true, false};
+ghost use Rattle.bx_base.specs.Faults.{Rose};
 ghost use Rattle.bx_disk.specs.declared.noise.Noise.{Noise};
 ghost use Rattle.bx_history.specs.Along.{Done};
 ghost use Rattle.bx_model.specs.declared.tree.Tree.{Tree};
 ghost use Rattle.bx_script.specs.declared.line.Line.TheVariants.{Crash as CrashLine, Restart as RestartLine};
+ghost use Rattle.bx_replay.specs.Course.{MovesDisks};
 ghost use Rattle.bx_replay.specs.Headline.{IsInPlace};
 ghost use Rattle.bx_replay.specs.Replay.{DoesLine, HasPrintCause, Stands, StandsAfter, UnlessWrite};
 ghost use Rattle.bx_service.specs.Rounds.{Doubt};
@@ -19,13 +21,14 @@ use bx_service::Service;
 use bx_stops::Stop;
 
 impl<M: Service> Replay<M> {
-    /// All machines that are up crash, and their disks with them.
+    /// All machines that are up crash, and their disks with them, with this noise.
     pub(crate) fn crash<B: CrashRack>(&mut self, noise: Noise, bench: &mut B) -> Result<(), Stop>
         requires ready { M.ready self.old.service (B.state bench.old).sizes }
         ensures crashes { (tree : Tree) (doubt : Option Doubt) (done : List Done) (start written : List ℕ) (how : Noise) → B.tells bench.old → M.holds self.old.service (B.state bench.old) tree doubt → length done < 4294967295
             → IsInPlace false (CrashLine how) → Stands tree (M.up self.old.service) (M.waits self.old.service) doubt self.old.calls done start written
             → DoesLine result (StandsAfter (M.holds self.new.service (B.state bench.new)) (M.up self.new.service) (M.waits self.new.service) self.new.calls (CrashLine how) done start written) (CrashLine how) done start written written }
         ensures holds { (tree : Tree) (doubt : Option Doubt) → B.tells bench.old → M.holds self.old.service (B.state bench.old) tree doubt → OnOk result (M.holds self.new.service (B.state bench.new) tree doubt) }
+        ensures noise { B.tells bench.old → OnOk result (MovesDisks (CrashLine noise) (M.up self.old.service) (B.state bench.old) (B.state bench.new)) }
         ensures up { OnOk result (M.up self.new.service ≡ false) }
         ensures latest { OnOk result (M.latest self.new.service ≡ M.latest self.old.service) }
         ensures ready { OnOk result (M.ready self.new.service (B.state bench.new).sizes) }
@@ -41,7 +44,8 @@ impl<M: Service> Replay<M> {
         Ok(())
     }
 
-    /// All machines that are down start again. The point of a call that turns out to have acted is told.
+    /// All machines that are down start again, and bring the disks to rest, unless one fails. The point of a call that turns out to have acted
+    /// is told.
     pub(crate) fn restart<K: Sink, B: Rack>(
         &mut self,
         bench: &mut B,
@@ -52,6 +56,9 @@ impl<M: Service> Replay<M> {
             → IsInPlace false (RestartLine reading) → Stands tree (M.up self.old.service) (M.waits self.old.service) doubt self.old.calls done start (K.written out.old)
             → DoesLine result (StandsAfter (M.holds self.new.service (B.state bench.new)) (M.up self.new.service) (M.waits self.new.service) self.new.calls (RestartLine reading) done start (K.written out.new)) (RestartLine reading) done start (K.written out.old) (K.written out.new) }
         ensures holds { (tree : Tree) (doubt : Option Doubt) → B.tells bench.old → M.holds self.old.service (B.state bench.old) tree doubt → OnOk result ((next : Tree) × (now : Option Doubt) × M.holds self.new.service (B.state bench.new) next now) }
+        ensures moves { (reading : ℕ) → MovesDisks (RestartLine reading) (M.up self.old.service) (B.state bench.old) (B.state bench.new) }
+        ensures back { (tree : Tree) (doubt : Option Doubt) → B.tells bench.old → M.holds self.old.service (B.state bench.old) tree doubt → M.up self.old.service ≡ false → (Rose (B.faults bench.old) (B.faults bench.new) → ⊥)
+            → OnOk result (M.returns self.new.service ≡ false) }
         ensures up { OnOk result (M.up self.new.service ≡ true) }
         ensures latest { OnOk result (M.latest self.new.service ≡ M.latest self.old.service) }
         ensures ready { OnOk result (M.ready self.new.service (B.state bench.new).sizes) }

@@ -7,7 +7,9 @@ ghost use Rattle.bx_disk.specs.Disks.{Disks};
 ghost use Rattle.bx_global.specs.Opening.{opening_state};
 ghost use Rattle.bx_model.specs.declared.tree.Tree.{Tree};
 ghost use Rattle.bx_model.specs.Listing.{listing};
-ghost use Rattle.bx_replay.specs.Bench.{IsHeldBy};
+ghost use Rattle.bx_disk.specs.declared.noise.Noise.TheVariants.{Drop};
+ghost use Rattle.bx_replay.specs.Bench.{IsHeldBy, IsShownBy};
+ghost use Rattle.bx_replay.specs.Course.{all_crashed};
 ghost use Rattle.bx_replay.specs.Replay.{Begins, Ends, HasBeginCause, HasFinishCause, HasPrintCause, UnlessDisk, UnlessRead, UnlessWrite};
 ghost use Rattle.bx_script.specs.declared.trace_line.TraceLine.TheVariants.{Acted};
 ghost use Rattle.bx_service.specs.Rounds.{Doubt, Shows};
@@ -76,7 +78,8 @@ impl<M: Service> Replay<M> {
     ) -> Result<(), Stop>
         requires ready { M.ready self.old.service (B.state bench.old).sizes }
         ensures ends { (tree : Tree) (doubt : Option Doubt) → K.tells out.old → B.tells bench.old → M.holds self.old.service (B.state bench.old) tree doubt
-            → Ends result tree doubt (IsHeldBy (B.state bench.new)) (K.written out.old) (K.written out.new) }
+            → Ends result tree doubt (IsShownBy (B.state bench.new)) (K.written out.old) (K.written out.new) }
+        ensures drops { B.tells bench.old → OnOk result (B.state bench.new ≡ all_crashed (B.state bench.old) Drop) }
         ensures dropped { (d s : ℕ) → B.tells bench.old → OnOk result ((B.state bench.new).unsure d s ≡ false) }
         ensures bench_first { UnlessDisk result (B.faults bench.new ≡ B.faults bench.old) }
         ensures bench_later { B.faults bench.old ≤ B.faults bench.new }
@@ -98,7 +101,7 @@ impl<M: Service> Replay<M> {
         out: &mut K,
     ) -> Result<(), Stop>
         ensures ends { (disks : Disks) (tree : Tree) (doubt : Option Doubt) (shows : Shows (M.lacks self.old.service) disks tree doubt) → K.tells out.old → AreOpen disks (opening_state 1 1) listed.now.doubt → listed.now.text ≡ listing shows.next
-            → IsHeldBy disks shows.next → Ends result tree doubt (IsHeldBy disks) (K.written out.old) (K.written out.new) }
+            → IsHeldBy disks shows.next → Ends result tree doubt (IsShownBy disks) (K.written out.old) (K.written out.new) }
         ensures cause { IfErr result (λ stop. HasPrintCause stop (K.faults out.old) (K.faults out.new)) }
         ensures first { UnlessWrite result (K.faults out.new ≡ K.faults out.old) }
         ensures later { K.faults out.old ≤ K.faults out.new }

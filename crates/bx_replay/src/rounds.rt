@@ -1,13 +1,13 @@
 //! How a replay runs.
 
-ghost use Rattle.std.specs.Prelude.{◌≡◌, ◌≤◌, List, ℕ, IfErr, OnOk, Option};
+ghost use Rattle.std.specs.Prelude.{◌≡◌, ◌≤◌, List, ℕ, IfErr, OnOk, Option, false};
 ghost use Rattle.std.specs.List.{AllByRecursion};
 ghost use Rattle.bx_history.specs.Along.{Done};
 ghost use Rattle.bx_model.specs.declared.tree.Tree.{Tree};
 ghost use Rattle.bx_script.specs.declared.line.Line.TheVariants.{Run as RunLine};
 ghost use Rattle.bx_script.specs.TraceText.{InTraceRange, trace_text};
 ghost use Rattle.bx_replay.specs.Replay.{DoesLine, HasPrintCause, Prints, StandsAfter, UnlessMemory, UnlessWrite, told_at};
-ghost use Rattle.bx_service.specs.Rounds.{Doubt};
+ghost use Rattle.bx_service.specs.Rounds.{Doubt, IsRun};
 
 use crate::print::print_lines;
 use crate::state::Replay;
@@ -31,6 +31,9 @@ impl<M: Service> Replay<M> {
         ensures latest { OnOk result (M.latest self.new.service ≡ M.latest self.old.service) }
         ensures up { OnOk result (M.up self.new.service ≡ M.up self.old.service) }
         ensures ready { OnOk result (M.ready self.new.service (B.state bench.new).sizes) }
+        ensures ends { OnOk result (IsRun M.rests (M.turns reading) limit (record { service = self.old.service; disks = B.state bench.old; faults = B.faults bench.old }) (record { service = self.new.service; disks = B.state bench.new; faults = B.faults bench.new })) }
+        ensures sizes { (B.state bench.new).sizes ≡ (B.state bench.old).sizes }
+        ensures down { M.up self.old.service ≡ false → B.state bench.new ≡ B.state bench.old }
         ensures runs { (done : List Done) (start : List ℕ) → K.tells out.old → B.tells bench.old
             → StandsAfter (M.holds self.old.service (B.state bench.old)) (M.up self.old.service) (M.waits self.old.service) self.old.calls (RunLine reading limit) done start (K.written out.old)
             → DoesLine result (StandsAfter (M.holds self.new.service (B.state bench.new)) (M.up self.new.service) (M.waits self.new.service) self.new.calls (RunLine reading limit) done start (K.written out.new)) (RunLine reading limit) done start (K.written out.old) (K.written out.new) }

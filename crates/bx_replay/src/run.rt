@@ -1,7 +1,10 @@
 //! The whole of a replay.
 
-ghost use Rattle.std.specs.Prelude.{◌≡◌, ◌≤◌, ℕ, [], false, IfErr, OnOk};
-ghost use Rattle.bx_replay.specs.Bench.{IsHeldBy};
+ghost use Rattle.std.specs.Prelude.{◌≡◌, ◌≤◌, ◌⊎◌, ℕ, [], false, IfErr, IsErrOf, OnOk};
+ghost use Rattle.bx_stops.specs.declared.stop.Stop.TheVariants as stops;
+ghost use Rattle.bx_replay.specs.Bench.{IsShownBy};
+ghost use Rattle.bx_replay.specs.Course.{IsPlayed};
+ghost use Rattle.bx_replay.specs.Outcome.{IsPlayable};
 ghost use Rattle.bx_replay.specs.Replay.{HasCause, Leaves, UnlessRead, UnlessWrite};
 
 use crate::schedule::next_line;
@@ -14,18 +17,21 @@ use bx_stops::Stop;
 use std::alloc::Global;
 
 /// Replays the schedule of `input` on a service over `bench`, and writes its trace to `out` as it goes; then the word `end`, the points of
-/// calls in doubt, and the listing of the tree, as it is read back from the bench. It keeps one line of the schedule at a time, and the
-/// calls that wait. The bench becomes a volume of the heading's number, whose images stand for the tree at the end, and nothing on it is
-/// unsure then.
+/// calls in doubt whose records are open, and the listing of the tree, as it is read back from the bench. It keeps one line of the schedule
+/// at a time, and the calls that wait. The bench becomes a volume of the heading's number. Where a line has the machines crash, each of its
+/// disks crashes with that noise; at the end what is unsure is dropped, and its images stand for the tree. It tells a disk's fault only
+/// where nothing was written yet, or where all lines are done.
 pub fn replay<M: Service, S: Source, K: Sink, B: CrashRack>(
     alloc: Global,
     input: &mut S,
     out: &mut K,
     bench: &mut B,
 ) -> Result<(), Stop>
-    ensures leaves { S.tells input.old → Leaves (K.tells out.old × B.tells bench.old) (IsHeldBy (B.state bench.new)) result (S.left input.old) (S.left input.new) (K.written out.old) (K.written out.new) }
+    ensures leaves { S.tells input.old → Leaves (K.tells out.old × B.tells bench.old) (IsShownBy (B.state bench.new)) result (S.left input.old) (S.left input.new) (K.written out.old) (K.written out.new) }
+    ensures course { S.tells input.old → B.tells bench.old → OnOk result (IsPlayed M.rests M.returns M.turns (S.left input.old) (B.state bench.new)) }
     ensures dropped { (d s : ℕ) → B.tells bench.old → OnOk result ((B.state bench.new).unsure d s ≡ false) }
     ensures cause { IfErr result (λ stop. HasCause stop (S.faults input.old) (S.faults input.new) (K.faults out.old) (K.faults out.new) (B.tells bench.old) (B.faults bench.old) (B.faults bench.new)) }
+    ensures disk_when { IsErrOf result stops.DiskFault → S.tells input.old → (out.new ≡ out.old) ⊎ (IsPlayable (S.left input.old) × (S.left input.new ≡ [])) }
     ensures bench_later { B.faults bench.old ≤ B.faults bench.new }
     ensures bench_tells { B.tells bench.old → B.tells bench.new }
     ensures source_first { UnlessRead result (S.faults input.new ≡ S.faults input.old) }
@@ -49,9 +55,11 @@ fn play<M: Service, S: Source, K: Sink, B: CrashRack>(
 ) -> Result<(), Stop>
     requires none { reader.old.ahead ≡ [] }
     requires most { reader.old.most ≡ 18600 }
-    ensures leaves { S.tells input.old → Leaves (K.tells out.old × B.tells bench.old) (IsHeldBy (B.state bench.new)) result (S.left input.old) (S.left input.new) (K.written out.old) (K.written out.new) }
+    ensures leaves { S.tells input.old → Leaves (K.tells out.old × B.tells bench.old) (IsShownBy (B.state bench.new)) result (S.left input.old) (S.left input.new) (K.written out.old) (K.written out.new) }
+    ensures course { S.tells input.old → B.tells bench.old → OnOk result (IsPlayed M.rests M.returns M.turns (S.left input.old) (B.state bench.new)) }
     ensures dropped { (d s : ℕ) → B.tells bench.old → OnOk result ((B.state bench.new).unsure d s ≡ false) }
     ensures cause { IfErr result (λ stop. HasCause stop (S.faults input.old) (S.faults input.new) (K.faults out.old) (K.faults out.new) (B.tells bench.old) (B.faults bench.old) (B.faults bench.new)) }
+    ensures disk_when { IsErrOf result stops.DiskFault → S.tells input.old → (out.new ≡ out.old) ⊎ (IsPlayable (S.left input.old) × (S.left input.new ≡ [])) }
     ensures bench_later { B.faults bench.old ≤ B.faults bench.new }
     ensures bench_tells { B.tells bench.old → B.tells bench.new }
     ensures source_first { UnlessRead result (S.faults input.new ≡ S.faults input.old) }

@@ -5,6 +5,7 @@ ghost use Rattle.bx_disk.specs.Disks.{Disks};
 ghost use Rattle.bx_history.specs.Along.{Done};
 ghost use Rattle.bx_model.specs.declared.tree.Tree.{Tree};
 ghost use Rattle.bx_script.specs.declared.line.Line.TheVariants.{Call as CallLine, Tick as TickLine};
+ghost use Rattle.bx_replay.specs.Course.{Moves};
 ghost use Rattle.bx_replay.specs.Headline.{IsInPlace};
 ghost use Rattle.bx_replay.specs.Replay.{DoesLine, HasPrintCause, HasStepCause, Hears, Stands, StandsAfter, UnlessWrite};
 ghost use Rattle.bx_rpc.specs.Message.{is_message as is_call};
@@ -43,6 +44,8 @@ impl<M: Service> Replay<M> {
         ensures latest { OnOk result (M.latest self.new.service ≡ self.new.calls) }
         ensures ready { OnOk result (M.ready self.new.service (B.state bench.new).sizes) }
         ensures hears { Hears result (M.up self.old.service) (M.up self.new.service) line }
+        ensures moves { (tree : Tree) (doubt : Option Doubt) → B.tells bench.old → M.holds self.old.service (B.state bench.old) tree doubt
+            → OnOk result (Moves M.rests M.returns M.turns line (M.up self.old.service) (record { service = self.old.service; disks = B.state bench.old; faults = B.faults bench.old }) (record { service = self.new.service; disks = B.state bench.new; faults = B.faults bench.new })) }
         ensures ticks { (reading : ℕ) → line ≡ TickLine reading → M.waits self.old.service ≡ [] → OnOk result (M.tidies self.new.service ≡ true) }
         ensures cause { IfErr result (λ stop. HasStepCause stop number (K.faults out.old) (K.faults out.new)) }
         ensures first { UnlessWrite result (K.faults out.new ≡ K.faults out.old) }

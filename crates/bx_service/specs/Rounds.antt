@@ -1,5 +1,5 @@
 -- What happens to a service, and what disks show of it.
-use Rattle.std.specs.Prelude.{◌≡◌, ◌≢◌, ◌⊎◌, ℕ, Bool, false, List, [], ◌∷◌, filter, Option, Some, None}
+use Rattle.std.specs.Prelude.{◌≡◌, ◌≢◌, ◌⊎◌, ◌≤◌, ◌+◌, ℕ, Bool, true, false, List, [], ◌∷◌, filter, Option, Some, None}
 use Rattle.std.specs.List.{AllByRecursion}
 use Rattle.bx_audit.specs.Audited.{AreOpen, StandFor}
 use Rattle.bx_base.specs.declared.names.Point.{Point}
@@ -75,6 +75,26 @@ abbrev pub Rounds : (Tree → Option Doubt → Type 0) → ℕ → List Taking �
 Rounds Holds moment old new tree doubt None = GoesOn Holds moment old new tree doubt
 Rounds Holds moment old new tree doubt (Some (Answered acted)) = Answers Holds moment old new tree doubt acted
 Rounds Holds moment old new tree doubt (Some (Found point)) = (new ≡ old) × Finds Holds new tree doubt point
+
+-- ---- runs
+
+-- a service on disks, with the faults that their bench counted so far
+pub record On (S : Type 0) : Type 0 where
+  pub service : S
+  pub disks : Disks
+  pub faults : ℕ
+
+-- so many rounds, one after the other, each where something was left to do
+pub data AreRounds {S : Type 0} (rests : S → Bool) (Turns : On S → On S → Type 0) : ℕ → On S → On S → Type 0 where
+  NoRounds : (now : On S) → AreRounds rests Turns 0 now now
+  OneMore : (count : ℕ) (old now new : On S) → AreRounds rests Turns count old now → rests now.service ≡ false → Turns now new → AreRounds rests Turns (count + 1) old new
+
+-- A run: it ends after so many rounds, or where nothing is left to do, whichever comes first.
+pub record IsRun {S : Type 0} (rests : S → Bool) (Turns : On S → On S → Type 0) (limit : ℕ) (old new : On S) : Type 0 where
+  pub count : ℕ
+  pub rounds : AreRounds rests Turns count old new
+  pub most : count ≤ limit
+  pub ends : (count ≡ limit) ⊎ (rests new.service ≡ true)
 
 -- ---- crashes
 

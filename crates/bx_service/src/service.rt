@@ -1,6 +1,6 @@
 //! Services.
 
-ghost use Rattle.std.specs.Prelude.{◌≡◌, ◌≢◌, ◌<◌, ◌≤◌, ◌++◌, ◌∷◌, [], ℕ, Bool, true, false, List, Option, None, IfOk, IsErrOf, IsTrue, OnOk};
+ghost use Rattle.std.specs.Prelude.{◌≡◌, ◌≢◌, ◌<◌, ◌≤◌, ◌++◌, ◌∷◌, [], ℕ, Bool, true, false, List, Option, None, IfNone, IfOk, IsErrOf, OnOk};
 ghost use Rattle.bx_base.specs.Faults.{Rose};
 ghost use Rattle.bx_disk.specs.declared.fault.RackError.TheVariants.{Fault, OutOfMemory as NoMemory};
 ghost use Rattle.bx_disk.specs.Disks.{Disks};
@@ -8,7 +8,7 @@ ghost use Rattle.bx_history.specs.Trace.{Taking};
 ghost use Rattle.bx_model.specs.declared.tree.Tree.{Tree};
 ghost use Rattle.bx_model.specs.Opening.{opening};
 ghost use Rattle.bx_rpc.specs.Message.{is_message};
-ghost use Rattle.bx_service.specs.Rounds.{Doubt, IsCrashed, Restarts, Rounds, Shows};
+ghost use Rattle.bx_service.specs.Rounds.{Doubt, IsCrashed, On, Restarts, Rounds, Shows};
 
 use crate::event::Event;
 use bx_base::{CallNo, OutOfMemory, Point, Raw};
@@ -33,6 +33,15 @@ pub trait Service: Drop {
     /// Whether a tidy is under way: it cleans the one area, a little in each round in which no call waits, until that has no dead file.
     ghost tidies: { Self → Bool };
 
+    /// Whether it is up, and the disks have to be brought to rest first after a crash.
+    ghost returns: { Self → Bool };
+
+    /// Whether nothing is left to do: no call waits, no tidy is under way, no disk has a sync to finish, and nothing has to be brought back.
+    ghost rests: { Self → Bool };
+
+    /// What one round at a moment may make of it and of its disks.
+    ghost turns: { ℕ → On Self → On Self → Type 0 };
+
     /// It may be used over disks of these sizes.
     ghost ready: { Self → List ℕ → Type 0 };
 
@@ -49,6 +58,7 @@ pub trait Service: Drop {
         ensures latest { IfOk result (λ service. latest service ≡ 0) }
         ensures up { IfOk result (λ service. up service ≡ true) }
         ensures tidies { IfOk result (λ service. tidies service ≡ false) }
+        ensures returns { IfOk result (λ service. returns service ≡ false) }
         ensures ready { IfOk result (λ service. ready service (B.state bench.new).sizes) }
         ensures cause { IsErrOf result Fault → Rose (B.faults bench.old) (B.faults bench.new) }
         ensures memory { IsErrOf result NoMemory → B.faults bench.new ≡ B.faults bench.old }
@@ -68,6 +78,7 @@ pub trait Service: Drop {
         ensures latest { OnOk result (latest self.new ≡ call) }
         ensures up { OnOk result (up self.new ≡ true) }
         ensures tidies { OnOk result (tidies self.new ≡ tidies self.old) }
+        ensures returns { OnOk result (returns self.new ≡ returns self.old) }
         ensures ready { (sizes : List ℕ) → ready self.old sizes → OnOk result (ready self.new sizes) }
         ensures waits { OnOk result (waits self.new ≡ waits self.old ++ record { call = call; node = 0; client = client; bytes = datagram } ∷ []) }
         ensures holds { (x : Disks) (tree : Tree) (doubt : Option Doubt) → ready self.old x.sizes → holds self.old x tree doubt → OnOk result (holds self.new x tree doubt) };
@@ -78,6 +89,7 @@ pub trait Service: Drop {
         ensures begins { waits self.old ≡ [] → tidies self.new ≡ true }
         ensures busy { waits self.old ≢ [] → tidies self.new ≡ tidies self.old }
         ensures waits { waits self.new ≡ waits self.old }
+        ensures returns { returns self.new ≡ returns self.old }
         ensures latest { latest self.new ≡ latest self.old }
         ensures up { up self.new ≡ true }
         ensures ready { (sizes : List ℕ) → ready self.old sizes → ready self.new sizes }
@@ -86,22 +98,27 @@ pub trait Service: Drop {
     /// Whether nothing is left to do: no call waits, no tidy is under way, no disk has a sync to finish, and nothing has to be brought back
     /// after a crash.
     fn is_quiet(&self) -> bool
-        ensures waits { IsTrue result → waits self.now ≡ [] }
-        ensures tidies { IsTrue result → tidies self.now ≡ false };
+        ensures { result ≡ rests self.now };
 
     /// Whether the call with a number lacks its point, where an open record is of it.
     fn lacks_point(&self, call: CallNo) -> bool
         ensures { result ≡ lacks self.now call };
 
     /// Does one round at a moment, in milliseconds: each disk that has a sync to finish does so, and then what can be done without the disks
-    /// is done. At most one call is answered, the oldest; where none waits, a tidy goes on that is under way. A fault of the bench ends nothing: what was asked of the disk is asked again. After an
-    /// error it isn't used again.
+    /// is done. At most one call is answered, the oldest; where none waits, a tidy goes on that is under way. While it is down nothing is
+    /// done. A fault of the bench ends nothing: what was asked of the disk is asked again. After an error it isn't used again.
     fn round<B: Rack>(&mut self, bench: &mut B, moment: u64) -> Result<Option<Event>, OutOfMemory>
         requires moment { moment ≤ 4294967295999 }
         requires ready { ready self.old (B.state bench.old).sizes }
         ensures ready { OnOk result (ready self.new (B.state bench.new).sizes) }
         ensures latest { OnOk result (latest self.new ≡ latest self.old) }
         ensures up { OnOk result (up self.new ≡ up self.old) }
+        ensures turns { OnOk result (turns moment (record { service = self.old; disks = B.state bench.old; faults = B.faults bench.old }) (record { service = self.new; disks = B.state bench.new; faults = B.faults bench.new })) }
+        ensures down { up self.old ≡ false → B.state bench.new ≡ B.state bench.old }
+        ensures sizes { (B.state bench.new).sizes ≡ (B.state bench.old).sizes }
+        ensures back { returns self.old ≡ false → OnOk result (returns self.new ≡ false) }
+        ensures returns { (tree : Tree) (doubt : Option Doubt) → B.tells bench.old → holds self.old (B.state bench.old) tree doubt → (Rose (B.faults bench.old) (B.faults bench.new) → ⊥)
+            → IfOk result (λ event. IfNone event (returns self.new ≡ false)) }
         ensures tidies { tidies self.old ≡ false → OnOk result (tidies self.new ≡ false) }
         ensures cleans { (tree : Tree) (doubt : Option Doubt) → B.tells bench.old → holds self.old (B.state bench.old) tree doubt → tidies self.old ≡ true
             → OnOk result (tidies self.new ≡ false → clean self.new (B.state bench.new)) }
@@ -116,12 +133,14 @@ pub trait Service: Drop {
         ensures up { up self.new ≡ false }
         ensures waits { waits self.new ≡ [] }
         ensures tidies { tidies self.new ≡ false }
+        ensures returns { returns self.new ≡ false }
         ensures latest { latest self.new ≡ latest self.old }
         ensures ready { (sizes : List ℕ) → ready self.old sizes → ready self.new sizes }
         ensures holds { (x y : Disks) (tree : Tree) (doubt : Option Doubt) → ready self.old x.sizes → holds self.old x tree doubt → IsCrashed x y → holds self.new y tree doubt };
 
     /// It comes back, and brings the disks to rest. Where the record of the call in doubt is open, it says at which point that call
-    /// acted. A fault of the bench ends nothing: what is left to do is tried again in each round. After an error it isn't used again.
+    /// acted. A fault of the bench ends nothing: what is left to do is tried again in each round, and without one nothing is left. After an
+    /// error it isn't used again.
     fn restart<B: Rack>(&mut self, bench: &mut B) -> Result<Option<Point>, OutOfMemory>
         requires down { up self.old ≡ false }
         requires ready { ready self.old (B.state bench.old).sizes }
@@ -130,10 +149,15 @@ pub trait Service: Drop {
         ensures tidies { OnOk result (tidies self.new ≡ tidies self.old) }
         ensures latest { OnOk result (latest self.new ≡ latest self.old) }
         ensures ready { OnOk result (ready self.new (B.state bench.new).sizes) }
+        ensures sizes { (B.state bench.new).sizes ≡ (B.state bench.old).sizes }
+        ensures returns { (tree : Tree) (doubt : Option Doubt) → B.tells bench.old → holds self.old (B.state bench.old) tree doubt → (Rose (B.faults bench.old) (B.faults bench.new) → ⊥) → OnOk result (returns self.new ≡ false) }
         ensures restarts { (tree : Tree) (doubt : Option Doubt) → B.tells bench.old → holds self.old (B.state bench.old) tree doubt
             → IfOk result (Restarts (holds self.new (B.state bench.new)) (waits self.new) tree doubt) }
         ensures later { B.faults bench.old ≤ B.faults bench.new }
         ensures keeps_telling { B.tells bench.old → B.tells bench.new };
+
+    /// Where nothing is left to do, no call waits, no tidy is under way, and nothing has to be brought back.
+    ghost at_rest: { (service : Self) → rests service ≡ true → (waits service ≡ []) × (tidies service ≡ false) × (returns service ≡ false) };
 
     /// While it is down no call waits.
     ghost idle: { (service : Self) → up service ≡ false → waits service ≡ [] };

@@ -1,11 +1,15 @@
-use Rattle.std.proofs.Common.{ℕ, List, refl, ◌∙◌, ap, arith, length}
+use Rattle.std.proofs.Common.{ℕ, List, refl, sym, ◌∙◌, ap, arith, length}
+use Rattle.bx_disk.specs.Crash.{crashed}
 use Rattle.bx_disk.specs.Disks.{Disks}
 use Rattle.bx_format.proofs.Sure.{all_sure}
-use Rattle.bx_replay.proofs.Held.{crashed_unsure, image_before, one_more, reads_are, stays_sure}
+use Rattle.bx_replay.specs.Course.{after_crashes}
+use Rattle.bx_replay.proofs.Held.{crashed_unsure, image_before, one_crash, one_more, reads_are, stays_sure}
 use Rattle.bx_replay.proofs.bench.crash_all.Goals as goal
 
 pub loop-disk-init : goal.loop-disk-init
 loop-disk-init g c = record {
+  within = omega arith;
+  noise = λ tells. refl;
   left = λ tells. reads_are (g.B.Rack.state c.args.bench.now) (λ d s unsure. g.met.B.Rack.whole c.args.bench.now d s tells (g.met.B.Rack.there c.args.bench.now d s tells unsure));
   mostly = λ tells d s sure. sure;
   sure = λ tells d s below. absurd (omega (arith, below));
@@ -16,6 +20,10 @@ loop-disk-init g c = record {
 
 pub loop-disk-preserved : goal.loop-disk-preserved
 loop-disk-preserved g c = record {
+  within = omega (arith, c.disks-disk-end.ensures, c.loop-disk-test.true);
+  noise = λ tells.
+      c.in_ok-crash.ensures.crashed (c.loop-disk.invariant.tells tells) ∙ ap (λ (disks : Disks). crashed disks c.loop-disk.disk c.args.noise) (c.loop-disk.invariant.noise tells)
+      ∙ sym (one_crash (g.B.Rack.state c.args.bench.now) c.args.noise c.loop-disk.disk);
   left = λ tells.
       let told = c.loop-disk.invariant.tells tells in
       image_before (g.B.Rack.state c.args.bench.now) (g.B.Rack.state c.loop-disk.bench) _ (c.loop-disk.invariant.left tells) (c.loop-disk.invariant.mostly tells) (c.in_ok-crash.ensures.image told);
@@ -28,6 +36,11 @@ loop-disk-preserved g c = record {
   sizes = c.crash.ensures.sizes ∙ c.loop-disk.invariant.sizes;
   tells = λ tells. c.crash.ensures.keeps_telling (c.loop-disk.invariant.tells tells);
 }
+
+pub returns-clause-noise : goal.returns-clause-noise
+returns-clause-noise g c = λ tells.
+    c.loop-disk.invariant.noise tells
+    ∙ ap (λ (n : ℕ). after_crashes (g.B.Rack.state c.args.bench.now) c.args.noise n) (omega (arith, c.loop-disk.invariant.within, c.disks-disk-end.ensures, c.loop-disk-test.false))
 
 pub returns-clause-crashed : goal.returns-clause-crashed
 returns-clause-crashed g c = λ tells. record {

@@ -10,6 +10,7 @@ returns-in_err-crash_all g c =
     let p = err_from_is_err_and c.from_residual.result c.from_residual.ensures.1 in
     let lost = c.crash_all.ensures in
     record {
+      dropped = λ tells. rw p.1 tt;
       crashed = λ tells. rw p.1 tt;
       listed = λ tells. rw p.1 tt;
       one = λ tree tells. rw p.1 tt;
@@ -25,6 +26,7 @@ returns-in_err-state g c =
     let p = err_from_is_err_and c.from_residual-in_err-state.result c.from_residual-in_err-state.ensures.1 in
     let lost = c.crash_all.ensures in
     record {
+      dropped = λ tells. rw p.1 tt;
       crashed = λ tells. rw p.1 tt;
       listed = λ tells. rw p.1 tt;
       one = λ tree tells. rw p.1 tt;
@@ -41,6 +43,7 @@ returns-in_err-listed g c =
     let lost = c.crash_all.ensures in
     let why = c.in_err-listed.ensures in
     record {
+      dropped = λ tells. rw p.1 tt;
       crashed = λ tells. rw p.1 tt;
       listed = λ tells. rw p.1 tt;
       one = λ tree tells. rw p.1 tt;

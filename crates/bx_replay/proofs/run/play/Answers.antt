@@ -1,10 +1,11 @@
-use Rattle.std.proofs.Common.{◌+◌, refl, ◌∙◌, arith}
-use Rattle.std.proofs.lemmas.Result.{IfErr-weaker, err_from_is_err_and}
-use Rattle.bx_replay.specs.Bench.{IsHeldBy}
+use Rattle.std.proofs.Common.{◌+◌, inl, inr, refl, ◌∙◌, arith}
+use Rattle.std.proofs.lemmas.Result.{IfErr-weaker, err_from_is_err_and, on_ok_weaker}
+use Rattle.bx_replay.specs.Bench.{IsShownBy}
 use Rattle.bx_replay.proofs.Causes.{begin_cause, finish_cause, line_cause, rises, same_least, step_cause, unless_read, unless_write}
+use Rattle.bx_replay.proofs.Courses.{all_come, comes_first, comes_on, err_is, line_no_disk, step_no_disk}
 use Rattle.bx_replay.proofs.Goings.{begins_going, going_on}
 use Rattle.bx_replay.proofs.Leavings.{begin_stops, finish_leaves, line_stops, step_stops}
-use Rattle.bx_replay.proofs.ReadLines.{heading_read, reads_on}
+use Rattle.bx_replay.proofs.ReadLines.{all_read, heading_read, reads_on}
 use Rattle.bx_replay.proofs.run.play.Goals as goal
 
 pub returns-in_err-replay : goal.returns-in_err-replay
@@ -13,9 +14,11 @@ returns-in_err-replay g c =
     let why = c.in_err-replay.ensures in
     record {
       leaves = λ source_tells.
-          rw (p.1, p.2) (begin_stops {A = Unit {0}} (λ _ _ _. Unit {0}) (λ _. 0) (g.K.Sink.tells c.args.out.now × g.B.Rack.tells c.args.bench.now) (IsHeldBy (g.B.Rack.state c.begin.new.bench)) c.in_err-replay.field-0.0 _ _ _ (g.K.Sink.written c.args.out.now) _ _ _ _ why.cause
+          rw (p.1, p.2) (begin_stops {A = Unit {0}} (λ _ _ _. Unit {0}) (λ _. 0) (g.K.Sink.tells c.args.out.now × g.B.Rack.tells c.args.bench.now) (IsShownBy (g.B.Rack.state c.begin.new.bench)) c.in_err-replay.field-0.0 _ _ _ (g.K.Sink.written c.args.out.now) _ _ _ _ why.cause
           (rw c.requires.none at (why.reads source_tells)));
+      course = λ source_tells bench_tells. rw p.1 tt;
       dropped = λ disk sector tells. rw p.1 tt;
+      disk_when = λ is source_tells. inl refl;
       cause = rw (p.1, p.2) (begin_cause (g.B.Rack.tells c.args.bench.now) c.in_err-replay.field-0.0 _ _ _ _ _ _ why.cause);
       bench_later = why.bench_later;
       bench_tells = why.bench_tells;
@@ -48,6 +51,11 @@ lines-init g c =
       read = λ source_tells.
           let begun = rw c.requires.none at (began.reads source_tells) in
           rw (began.up) (heading_read _ _ begun.volume begun.nodes begun.devices begun.areas begun.in_place begun.begins);
+      come = λ source_tells bench_tells.
+          let begun = rw c.requires.none at (began.reads source_tells) in
+          let held = began.holds bench_tells in
+          rw (began.up) (comes_first g.M.Service.rests g.M.Service.returns g.M.Service.turns _ _ begun.volume begun.nodes begun.devices begun.areas _ begun.in_place begun.begins
+          (λ left crashed. let shows = g.met.M.Service.shown _ _ left held.0 held.1 began.ready held.2 crashed in (shows.next, shows.stands)));
       going = λ source_tells sink_tells bench_tells.
           begins_going _ _ _ _ _ _ _ began.up began.none_wait (rw c.requires.none at (began.begins source_tells bench_tells));
     }
@@ -59,9 +67,11 @@ returns-in_err-line g c =
     let why = c.in_err-line.ensures in
     record {
       leaves = λ source_tells.
-          rw (p.1, p.2) (line_stops (g.K.Sink.tells c.args.out.now × g.B.Rack.tells c.args.bench.now) (IsHeldBy (g.B.Rack.state c.lines.bench)) _ _ _ _ c.in_err-line.field-0.0 _ _ _ _ _ _ c.lines.number _ _
+          rw (p.1, p.2) (line_stops (g.K.Sink.tells c.args.out.now × g.B.Rack.tells c.args.bench.now) (IsShownBy (g.B.Rack.state c.lines.bench)) _ _ _ _ c.in_err-line.field-0.0 _ _ _ _ _ _ c.lines.number _ _
           (was.read source_tells) (λ tells. was.going source_tells tells.0 tells.1) why.cause (why.gives (was.source_tells source_tells)));
+      course = λ source_tells bench_tells. rw p.1 tt;
       dropped = λ disk sector tells. rw p.1 tt;
+      disk_when = rw (p.1, p.2) (λ is source_tells. absurd (line_no_disk c.in_err-line.field-0.0 _ _ _ why.cause (err_is _ _ _ refl is)));
       cause = rw (p.1, p.2) (line_cause (g.B.Rack.tells c.args.bench.now) c.in_err-line.field-0.0 (c.lines.number + 1) _ _ _ _ _ _ (rw was.source_same at why.cause));
       bench_later = was.bench_later;
       bench_tells = was.bench_tells;
@@ -97,6 +107,15 @@ lines-preserved g c =
           let begins = rw c.in-Some.is at (c.in_ok-line.ensures.gives (c.lines.invariant.source_tells source_tells)) in
           let place = rw c.in-Some.is at c.in_ok-line.ensures.in_place in
           reads_on _ _ _ _ _ c.lines.number c.in-Some.line (c.lines.invariant.read source_tells) (omega (arith, few)) begins place c.in_ok-step.ensures.hears;
+      come = λ source_tells bench_tells.
+          let begins = rw c.in-Some.is at (c.in_ok-line.ensures.gives (c.lines.invariant.source_tells source_tells)) in
+          let place = rw c.in-Some.is at c.in_ok-line.ensures.in_place in
+          let held = c.lines.invariant.holds bench_tells in
+          let told = c.lines.invariant.bench_tells bench_tells in
+          let after = c.in_ok-step.ensures.holds held.0 held.1 told held.2 in
+          comes_on g.M.Service.rests g.M.Service.returns g.M.Service.turns _ _ _ _ _ c.lines.number c.in-Some.line _ _ (c.lines.invariant.come source_tells bench_tells) (omega (arith, few)) begins place
+          c.in_ok-step.ensures.hears (c.in_ok-step.ensures.moves held.0 held.1 told held.2)
+          (λ left crashed. let shows = g.met.M.Service.shown _ _ left after.0 after.1 c.in_ok-step.ensures.ready after.2 crashed in (shows.next, shows.stands));
       going = λ source_tells sink_tells bench_tells.
           let going = c.lines.invariant.going source_tells sink_tells bench_tells in
           let begins = rw c.in-Some.is at (c.in_ok-line.ensures.gives (c.lines.invariant.source_tells source_tells)) in
@@ -115,12 +134,14 @@ returns-in_err-step g c =
           let few = rw c.in-Some.is at read.few in
           let begins = rw c.in-Some.is at (read.gives (was.source_tells source_tells)) in
           let place = rw c.in-Some.is at read.in_place in
-          rw (p.1, p.2) (step_stops (g.K.Sink.tells c.args.out.now × g.B.Rack.tells c.args.bench.now) (IsHeldBy (g.B.Rack.state c.step.new.bench)) _ _ _ _ _ c.in_err-step.field-0.0 _ _ _ _ _ _ _ c.lines.number c.in-Some.line _ _
+          rw (p.1, p.2) (step_stops (g.K.Sink.tells c.args.out.now × g.B.Rack.tells c.args.bench.now) (IsShownBy (g.B.Rack.state c.step.new.bench)) _ _ _ _ _ c.in_err-step.field-0.0 _ _ _ _ _ _ _ c.lines.number c.in-Some.line _ _
           (was.read source_tells) (λ tells. was.going source_tells tells.0 tells.1) (omega (arith, few)) begins place why.cause _ why.hears
           (λ tells.
           let going = was.going source_tells tells.0 tells.1 in
           why.does going.tree going.doubt going.done _ (was.sink_tells tells.0) (was.bench_tells tells.1) going.holds (omega (arith, going.count, few)) going.stands));
+      course = λ source_tells bench_tells. rw p.1 tt;
       dropped = λ disk sector tells. rw p.1 tt;
+      disk_when = rw (p.1, p.2) (λ is source_tells. absurd (step_no_disk c.in_err-step.field-0.0 _ _ _ why.cause (err_is _ _ _ refl is)));
       cause = rw (p.1, p.2) (step_cause (g.B.Rack.tells c.args.bench.now) c.in_err-step.field-0.0 (c.lines.number + 1) _ _ _ _ _ _ (rw was.sink_same at why.cause));
       bench_later = rises _ _ _ was.bench_later why.bench_later;
       bench_tells = λ tells. why.bench_tells (was.bench_tells tells);
@@ -140,11 +161,18 @@ returns g c =
     record {
       leaves = λ source_tells.
           let ends = rw c.in_default.is at (read.gives (was.source_tells source_tells)) in
-          finish_leaves (g.K.Sink.tells c.args.out.now × g.B.Rack.tells c.args.bench.now) (IsHeldBy (g.B.Rack.state c.finish.new.bench)) _ _ _ _ c.finish.result _ _ _ _ _ c.lines.number _ _ _ _ _
+          finish_leaves (g.K.Sink.tells c.args.out.now × g.B.Rack.tells c.args.bench.now) (IsShownBy (g.B.Rack.state c.finish.new.bench)) _ _ _ _ c.finish.result _ _ _ _ _ c.lines.number _ _ _ _ _
           (rw ends.0 at (was.read source_tells)) ends.1 (λ tells. rw ends.0 at (was.going source_tells tells.0 tells.1)) ended.cause
           (λ tells.
           let going = rw ends.0 at (was.going source_tells tells.0 tells.1) in
           ended.ends going.tree going.doubt (was.sink_tells tells.0) (was.bench_tells tells.1) going.holds);
+      course = λ source_tells bench_tells.
+          let ends = rw c.in_default.is at (read.gives (was.source_tells source_tells)) in
+          on_ok_weaker c.finish.result (λ drops. all_come g.M.Service.rests g.M.Service.returns g.M.Service.turns _ _ c.lines.number _ _ (rw ends.0 at (was.come source_tells bench_tells)) drops)
+          (ended.drops (was.bench_tells bench_tells));
+      disk_when = λ is source_tells.
+          let ends = rw c.in_default.is at (read.gives (was.source_tells source_tells)) in
+          inr (all_read _ _ c.lines.number (rw ends.0 at (was.read source_tells)), ends.1);
       dropped = λ disk sector tells. ended.dropped disk sector (was.bench_tells tells);
       cause = IfErr-weaker c.finish.result _ _
           (λ stop cause. finish_cause (g.B.Rack.tells c.args.bench.now) _ stop _ _ _ _ _ _ _ was.bench_later (λ tells. (was.bench_tells tells, was.holds tells)) cause) (rw was.sink_same at ended.cause);

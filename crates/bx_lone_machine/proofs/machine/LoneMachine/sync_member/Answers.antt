@@ -1,4 +1,5 @@
-use Rattle.std.proofs.Common.{Err, sym, ap, subst}
+use Rattle.std.proofs.Common.{◌≡◌, Bool, true, false, Err, refl, sym, ap, subst}
+use Rattle.std.specs.Prelude.{◌&&◌}
 use Rattle.bx_global.specs.declared.state.GlobalState.{GlobalState}
 use Rattle.bx_lone_standing.specs.Standing.{NodeStands}
 use Rattle.bx_lone_store.specs.Parts.{asked_at}
@@ -41,3 +42,15 @@ returns-in-Err-Disk-clause-holds g c = λ tree tells holds.
       stands = record { next = stood.next; stands = subst (λ (s : GlobalState). Stood s store y tree stood.next) c.requires.ready.knows after; doing = stood.doing };
       bench = bench_kept x y volume c.sync.ensures.sizes (c.sync.ensures.replicas tells).1 holds.bench;
     }
+
+-- a member that waits does so while all members are up
+all_there : (there up waits : Bool) → (there && up && waits) ≡ true → (true && up) ≡ true
+all_there there true waits is = refl
+all_there true false waits is = absurd cc
+all_there false false waits is = absurd cc
+
+pub returns-in-Ok-clause-serves : goal.returns-in-Ok-clause-serves
+returns-in-Ok-clause-serves g c = λ waits none_failed. (c.in-Ok.ensures.steps.serves (all_there _ _ _ waits)).1
+
+pub returns-in-Err-Disk-clause-serves : goal.returns-in-Err-Disk-clause-serves
+returns-in-Err-Disk-clause-serves g c = λ waits none_failed. absurd (none_failed (c.in-Err-Disk.ensures.cause (ap Err c.in-Err-Disk.field-0-is)))

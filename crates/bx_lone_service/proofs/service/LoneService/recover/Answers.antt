@@ -1,4 +1,4 @@
-use Rattle.std.proofs.Common.{None}
+use Rattle.std.proofs.Common.{◌⊎◌, Err, None, ap, inl, inr}
 use Rattle.bx_lone_service.proofs.Rounding.{finds, none_doubted, none_was}
 use Rattle.bx_lone_service.proofs.service.LoneService.recover.Goals as goal
 
@@ -27,3 +27,12 @@ returns-in-Err-Fault-clause-restarts g c = λ tree doubt tells holding.
       was = λ of is. is;
       holds = record { of = holds.of; is = holds.is; left_is = c.in-Err-Fault.ensures.left c.in-Returning.left.volume tree holds.of tells holds.left_is; old = holds.old };
     }
+
+pub returns-in-Err-Fault-clause-returns : goal.returns-in-Err-Fault-clause-returns
+returns-in-Err-Fault-clause-returns g c = λ tree doubt tells holding none_rose.
+    let holds = rw c.in-Returning.is at holding in
+    absurd (by (c.in-Err-Fault.ensures.cause (ap Err c.in-Err-Fault.field-0-is)) none_rose (λ none. none c.in-Returning.left.volume tree holds.of tells holds.left_is))
+  where
+    by : {A B : Type 0} → A ⊎ B → (A → ⊥) → (B → ⊥) → ⊥
+    by (inl a) not_a not_b = not_a a
+    by (inr b) not_a not_b = not_b b

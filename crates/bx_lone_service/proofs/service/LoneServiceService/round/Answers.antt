@@ -1,7 +1,9 @@
-use Rattle.std.proofs.Common.{◌≡◌, Option, None, sym, ◌∙◌, subst}
+use Rattle.std.proofs.Common.{◌≡◌, Option, None, ap, inl, inr, refl, sym, ◌∙◌, subst}
+use Rattle.std.specs.Prelude.{map}
 use Rattle.bx_base.specs.declared.names.Point.{Point}
 use Rattle.bx_lone_machine.specs.Machine.{calls_of, record_of}
 use Rattle.bx_lone_machine.specs.Rounds.{IsOfRound}
+use Rattle.bx_lone_service.specs.Calls.{taking_of}
 use Rattle.bx_lone_service.proofs.Rounding.{answers, goes_on}
 use Rattle.bx_lone_service.proofs.service.LoneServiceService.round.Goals as goal
 
@@ -31,3 +33,13 @@ returns-in-Up-clause-rounds g c = λ tree doubt tells holding.
     let ready = rw c.in-Up.is at c.requires.ready in
     rw c.in-Up.is (answers c.in-Up.machine c.round.new.self _ _ ready.0 c.in_ok-acted.ensures.ready (g.B.Rack.state c.round.new.bench) c.args.moment tree doubt holds.1
     c.in-Some.acted (rw c.in-Some.is at c.in_ok-acted.ensures.calls) (rw c.in-Some.is at c.in_ok-acted.ensures.moments) (rw c.in-Some.is at (c.in_ok-acted.ensures.holds tree tells holds.0)))
+
+pub returns-in_default-2-clause-turns : goal.returns-in_default-2-clause-turns
+returns-in_default-2-clause-turns g c =
+    let calls : calls_of c.tidy.new.machine ≡ calls_of c.in-Up.machine = c.in_ok-tidy.ensures.calls ∙ rw c.in_default-2.is at c.in_ok-acted.ensures.calls in
+    rw c.in-Up.is (record { up = refl; calls = inl (ap (map taking_of) calls); still = λ down. absurd cc })
+
+pub returns-in-Up-clause-turns : goal.returns-in-Up-clause-turns
+returns-in-Up-clause-turns g c =
+    let takes = rw c.in-Some.is at c.in_ok-acted.ensures.calls in
+    rw c.in-Up.is (record { up = refl; calls = inr (taking_of takes.0, ap (map taking_of) takes.1); still = λ down. absurd cc })

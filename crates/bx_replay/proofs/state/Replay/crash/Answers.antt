@@ -1,4 +1,4 @@
-use Rattle.std.proofs.Common.{◌≡◌, [], false, inl, refl, sym, ◌∙◌}
+use Rattle.std.proofs.Common.{◌≡◌, [], true, false, inl, refl, sym, ◌∙◌}
 use Rattle.std.proofs.lemmas.Result.{err_from_is_err_and}
 use Rattle.bx_replay.proofs.Standing.{stands_crashed}
 use Rattle.bx_replay.proofs.state.Replay.crash.Goals as goal
@@ -32,3 +32,13 @@ pub returns-in_err-crash_all-clause-cause : goal.returns-in_err-crash_all-clause
 returns-in_err-crash_all-clause-cause g c = λ before now.
     let p = err_from_is_err_and c.from_residual.result c.from_residual.ensures.1 in
     rw (p.1, p.2) tt
+
+pub returns-in_ok-crash_all-clause-noise : goal.returns-in_ok-crash_all-clause-noise
+returns-in_ok-crash_all-clause-noise g c = λ tells.
+    let up : g.M.Service.up c.args.self.now.service ≡ true = sym c.is_up.ensures ∙ c.if-is_up.true in
+    (λ _. c.in_ok-crash_all.ensures.noise tells, λ down. absurd (let both = sym up ∙ down in cc))
+
+pub returns-else-is_up-clause-noise : goal.returns-else-is_up-clause-noise
+returns-else-is_up-clause-noise g c = λ tells.
+    let down : g.M.Service.up c.args.self.now.service ≡ false = sym c.is_up.ensures ∙ c.if-is_up.false in
+    (λ up. absurd (let both = sym up ∙ down in cc), λ _. refl)

@@ -23,6 +23,9 @@ returns-clause-ends g c = λ tree doubt sink_tells bench_tells holds.
     c.write_closing.ensures.ends (g.B.Rack.state c.read_back.new.bench) tree doubt shows sink_tells (c.in_ok-listed.ensures.listed bench_tells).doubt (c.in_ok-listed.ensures.one shows.next bench_tells shows.stands)
     (held_by (g.B.Rack.state c.read_back.new.bench) shows.next crashed.sure shows.stands)
 
+pub returns-clause-drops : goal.returns-clause-drops
+returns-clause-drops g c = λ tells. on_ok c.write_closing.result (c.in_ok-listed.ensures.dropped tells)
+
 pub returns-clause-dropped : goal.returns-clause-dropped
 returns-clause-dropped g c = λ disk sector tells. on_ok c.write_closing.result ((c.in_ok-listed.ensures.crashed tells).sure disk sector)
 

@@ -20,6 +20,8 @@ returns-then-is_up g c = record {
         lines = [];
         stands = stands_silent tree _ _ doubt _ done start _ room stands (Restart reading) _ tt place tt is_up;
       };
+  moves = λ reading. (refl, λ _. refl);
+  back = λ tree doubt bench_tells holds down. absurd (let both = sym down ∙ sym c.is_up.ensures ∙ c.if-is_up.true in cc);
   holds = λ tree doubt bench_tells holds. (tree, doubt, holds);
   up = sym c.is_up.ensures ∙ c.if-is_up.true;
   latest = refl;
@@ -38,6 +40,8 @@ returns-in_err-point g c =
     let p = err_from_is_err_and c.from_residual.result c.from_residual.ensures.1 in
     record {
       restarts = λ tree doubt reading done start sink_tells bench_tells holds room place stands. rw (p.1, p.2) (inl refl);
+      moves = λ reading. (c.restart.ensures.sizes, λ up. absurd (let both = sym up ∙ sym c.is_up.ensures ∙ c.if-is_up.false in cc));
+      back = λ tree doubt bench_tells holds down same. rw p.1 tt;
       holds = λ tree doubt bench_tells holds. rw p.1 tt;
       up = rw p.1 tt;
       latest = rw p.1 tt;
@@ -64,6 +68,8 @@ returns-in_err-print_lines g c =
           (goes_found _ (Restart reading) tt done start tree _ _ doubt _ [] _ begun c.in-Some.point finds)
           c.in_err-print_lines.field-0.0 _ _ _ _ _ _ stands.output c.in_err-print_lines.ensures.cause (c.in_err-print_lines.ensures.prints sink_tells) c.in_err-print_lines.ensures.in_range
           (breaks_here tree _ _ doubt _ (Restart reading) [] done start _ begun));
+      moves = λ reading. (c.restart.ensures.sizes, λ up. absurd (let both = sym up ∙ sym c.is_up.ensures ∙ c.if-is_up.false in cc));
+      back = λ tree doubt bench_tells holds down same. rw p.1 tt;
       holds = λ tree doubt bench_tells holds. rw p.1 tt;
       up = rw p.1 tt;
       latest = rw p.1 tt;
@@ -95,3 +101,9 @@ returns-in_default-clause-restarts g c = λ tree doubt reading done start sink_t
       lines = [];
       stands = stands_but tree _ _ doubt returns.now _ _ start _ begun returns.was;
     }
+
+pub returns-in_ok-print_lines-clause-moves : goal.returns-in_ok-print_lines-clause-moves
+returns-in_ok-print_lines-clause-moves g c = λ reading. (c.restart.ensures.sizes, λ up. absurd (let both = sym up ∙ sym c.is_up.ensures ∙ c.if-is_up.false in cc))
+
+pub returns-in_default-clause-moves : goal.returns-in_default-clause-moves
+returns-in_default-clause-moves g c = λ reading. (c.restart.ensures.sizes, λ up. absurd (let both = sym up ∙ sym c.is_up.ensures ∙ c.if-is_up.false in cc))

@@ -1,8 +1,9 @@
-use Rattle.std.proofs.Common.{inr, refl, ◌∙◌}
+use Rattle.std.proofs.Common.{arith, inl, inr, refl, sym, ◌∙◌}
 use Rattle.std.proofs.lemmas.Result.{err_from_is_err_and}
 use Rattle.bx_replay.proofs.Causes.{rises, same_least}
 use Rattle.bx_replay.proofs.Rounding.{after_waiting, breaks_before, goes_event, held_after, told_after, untold}
 use Rattle.bx_replay.specs.Replay.{told_at}
+use Rattle.bx_service.specs.Rounds.{NoRounds, OneMore}
 use Rattle.bx_replay.proofs.state.Replay.run.Goals.{in-Some+in_ok-tell, in_default}
 use Rattle.bx_replay.proofs.state.Replay.run.Goals as goal
 
@@ -10,6 +11,10 @@ pub loop-init : goal.loop-init
 loop-init g c = record {
   stands = λ done start sink_tells bench_tells before. before;
   holds = λ tree doubt bench_tells held. (tree, doubt, held);
+  within = omega arith;
+  rounds = NoRounds _;
+  sizes = refl;
+  down = λ _. refl;
   up = refl;
   ready = c.requires.ready;
   latest = refl;
@@ -27,6 +32,9 @@ returns-then-is_quiet g c =
       latest = was.latest;
       up = was.up;
       ready = was.ready;
+      ends = record { count = c.loop.counter; rounds = was.rounds; most = was.within; ends = inr (sym c.is_quiet.ensures ∙ c.if-is_quiet.true) };
+      sizes = was.sizes;
+      down = was.down;
       runs = was.stands;
       holds = was.holds;
       cause = tt;
@@ -50,6 +58,10 @@ loop-preserved g c = elim c.match-branch-2.branch [
         let so_far = c.loop.invariant.holds tree doubt bench_tells held in
         let event = rw w.in-Some.is at (c.in_ok-event.ensures.rounds so_far.0 so_far.1 (c.loop.invariant.bench_tells bench_tells) so_far.2) in
         held_after _ _ _ _ _ _ w.in-Some.event event;
+    within = omega (arith, c.loop-test.true);
+    rounds = OneMore _ _ _ _ c.loop.invariant.rounds (sym c.is_quiet.ensures ∙ c.if-is_quiet.false) c.in_ok-event.ensures.turns;
+    sizes = c.round.ensures.sizes ∙ c.loop.invariant.sizes;
+    down = λ down. c.round.ensures.down (c.loop.invariant.up ∙ down) ∙ c.loop.invariant.down down;
     up = c.in_ok-event.ensures.up ∙ c.loop.invariant.up;
     ready = c.in_ok-event.ensures.ready;
     latest = c.in_ok-event.ensures.latest ∙ c.loop.invariant.latest;
@@ -68,6 +80,10 @@ loop-preserved g c = elim c.match-branch-2.branch [
         let so_far = c.loop.invariant.holds tree doubt bench_tells held in
         let rounds = rw w.in_default.is at (c.in_ok-event.ensures.rounds so_far.0 so_far.1 (c.loop.invariant.bench_tells bench_tells) so_far.2) in
         (so_far.0, rounds.now, rounds.holds);
+    within = omega (arith, c.loop-test.true);
+    rounds = OneMore _ _ _ _ c.loop.invariant.rounds (sym c.is_quiet.ensures ∙ c.if-is_quiet.false) c.in_ok-event.ensures.turns;
+    sizes = c.round.ensures.sizes ∙ c.loop.invariant.sizes;
+    down = λ down. c.round.ensures.down (c.loop.invariant.up ∙ down) ∙ c.loop.invariant.down down;
     up = c.in_ok-event.ensures.up ∙ c.loop.invariant.up;
     ready = c.in_ok-event.ensures.ready;
     latest = c.in_ok-event.ensures.latest ∙ c.loop.invariant.latest;
@@ -87,6 +103,9 @@ returns-in_err-event g c =
       latest = rw p.1 tt;
       up = rw p.1 tt;
       ready = rw p.1 tt;
+      ends = rw p.1 tt;
+      sizes = c.round.ensures.sizes ∙ was.sizes;
+      down = λ down. c.round.ensures.down (was.up ∙ down) ∙ was.down down;
       runs = λ done start sink_tells bench_tells before.
           let p = err_from_is_err_and c.from_residual.result c.from_residual.ensures.1 in
           rw (p.1, p.2) (inr (breaks_before (g.M.Service.holds c.loop.self.service (g.B.Rack.state c.loop.bench)) (g.M.Service.holds c.loop.self.service (g.B.Rack.state c.loop.bench)) _ _ (g.M.Service.waits c.loop.self.service) _ c.args.reading c.args.limit done start _
@@ -110,6 +129,9 @@ returns-in_err-tell g c =
       latest = rw p.1 tt;
       up = rw p.1 tt;
       ready = rw p.1 tt;
+      ends = rw p.1 tt;
+      sizes = c.round.ensures.sizes ∙ was.sizes;
+      down = λ down. c.round.ensures.down (was.up ∙ down) ∙ was.down down;
       runs = λ done start sink_tells bench_tells before.
           let p = err_from_is_err_and c.from_residual-in_err-tell.result c.from_residual-in_err-tell.ensures.1 in
           let so_far = c.loop.invariant.stands done start sink_tells bench_tells before in
@@ -135,6 +157,9 @@ returns g c =
       latest = was.latest;
       up = was.up;
       ready = was.ready;
+      ends = record { count = c.loop.counter; rounds = was.rounds; most = was.within; ends = inl (omega (arith, was.within, c.loop-test.false)) };
+      sizes = was.sizes;
+      down = was.down;
       runs = was.stands;
       holds = was.holds;
       cause = tt;

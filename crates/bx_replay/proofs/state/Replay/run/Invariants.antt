@@ -1,8 +1,8 @@
-use Rattle.std.proofs.Common.{◌≡◌, ◌≤◌, ℕ, List, Option}
+use Rattle.std.proofs.Common.{◌≡◌, ◌≤◌, ℕ, false, List, Option}
 use Rattle.bx_history.specs.Along.{Done}
 use Rattle.bx_model.specs.declared.tree.Tree.{Tree}
 use Rattle.bx_script.specs.declared.line.Line.TheVariants.{Run}
-use Rattle.bx_service.specs.Rounds.{Doubt}
+use Rattle.bx_service.specs.Rounds.{AreRounds, Doubt}
 use Rattle.bx_replay.specs.Replay.{StandsAfter}
 use Rattle.bx_replay.proofs.state.Replay.run.Given as goal
 
@@ -12,6 +12,11 @@ invariant-loop g l = record {
       → StandsAfter (g.M.Service.holds l.fn.self.service (g.B.Rack.state l.fn.bench)) (g.M.Service.up l.fn.self.service) (g.M.Service.waits l.fn.self.service) l.fn.self.calls (Run l.fn.reading l.fn.limit) done start (g.K.Sink.written l.fn.out)
       → StandsAfter (g.M.Service.holds l.self.service (g.B.Rack.state l.bench)) (g.M.Service.up l.self.service) (g.M.Service.waits l.self.service) l.self.calls (Run l.fn.reading l.fn.limit) done start (g.K.Sink.written l.out);
   holds : (tree : Tree) (doubt : Option Doubt) → g.B.Rack.tells l.fn.bench → g.M.Service.holds l.fn.self.service (g.B.Rack.state l.fn.bench) tree doubt → (next : Tree) × (now : Option Doubt) × g.M.Service.holds l.self.service (g.B.Rack.state l.bench) next now;
+  within : l.counter ≤ l.fn.limit;
+  rounds : AreRounds g.M.Service.rests (g.M.Service.turns l.fn.reading) l.counter (record { service = l.fn.self.service; disks = g.B.Rack.state l.fn.bench; faults = g.B.Rack.faults l.fn.bench })
+      (record { service = l.self.service; disks = g.B.Rack.state l.bench; faults = g.B.Rack.faults l.bench });
+  sizes : (g.B.Rack.state l.bench).sizes ≡ (g.B.Rack.state l.fn.bench).sizes;
+  down : g.M.Service.up l.fn.self.service ≡ false → g.B.Rack.state l.bench ≡ g.B.Rack.state l.fn.bench;
   up : g.M.Service.up l.self.service ≡ g.M.Service.up l.fn.self.service;
   ready : g.M.Service.ready l.self.service (g.B.Rack.state l.bench).sizes;
   latest : g.M.Service.latest l.self.service ≡ g.M.Service.latest l.fn.self.service;

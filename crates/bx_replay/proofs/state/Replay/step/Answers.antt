@@ -1,6 +1,7 @@
 use Rattle.std.proofs.Common.{[], refl, sym, ◌∙◌}
 use Rattle.std.proofs.lemmas.Result.{IfErr-weaker, on_ok_weaker}
 use Rattle.bx_replay.proofs.Causes.{call_no_tick, crash_no_tick, on_ok, restart_no_tick, run_no_tick, same_least, same_most, step_printed, unless_write}
+use Rattle.bx_replay.proofs.Courses.{ok_under}
 use Rattle.bx_replay.proofs.Printing.{hears_line}
 use Rattle.bx_replay.proofs.Standing.{stands_silent}
 use Rattle.bx_replay.proofs.state.Replay.step.Goals as goal
@@ -15,6 +16,7 @@ returns-in-Call g c =
       latest = done.latest;
       ready = done.ready _ c.requires.ready;
       hears = rw c.in-Call.is (done.hears _);
+      moves = λ tree doubt bench_tells holds. rw c.in-Call.is (on_ok c.call.result (record { disks = refl; works = tt }));
       ticks = λ reading is idle. absurd (call_no_tick _ reading _ _ _ _ c.in-Call.is is);
       cause = done.cause;
       first = done.first;
@@ -41,6 +43,7 @@ returns-in-Run g c =
       latest = on_ok_weaker c.run.result (λ latest. latest ∙ c.requires.latest ∙ sym done.calls) done.latest;
       ready = done.ready;
       hears = rw c.in-Run.is (hears_line c.run.result _ _ _ _ _ done.cause tt done.up);
+      moves = λ tree doubt bench_tells holds. rw c.in-Run.is (on_ok_weaker c.run.result (λ run. record { disks = (done.sizes, done.down); works = run }) done.ends);
       ticks = λ reading is idle. absurd (run_no_tick _ reading _ _ c.in-Run.is is);
       cause = IfErr-weaker c.run.result _ _ (λ stop cause. step_printed stop c.args.number _ _ cause) done.cause;
       first = done.first;
@@ -61,6 +64,7 @@ returns-in-Crash g c =
       latest = on_ok_weaker c.crash.result (λ latest. latest ∙ c.requires.latest ∙ sym done.calls) done.latest;
       ready = done.ready;
       hears = rw c.in-Crash.is (hears_line c.crash.result _ _ _ 0 0 (done.cause 0 0) tt done.up);
+      moves = λ tree doubt bench_tells holds. rw c.in-Crash.is (on_ok_weaker c.crash.result (λ noise. record { disks = noise; works = tt }) (done.noise bench_tells));
       ticks = λ reading is idle. absurd (crash_no_tick _ reading _ c.in-Crash.is is);
       cause = IfErr-weaker c.crash.result _ _ (λ stop cause. step_printed stop c.args.number _ _ cause) (done.cause _ _);
       first = unless_write c.crash.result refl;
@@ -81,6 +85,9 @@ returns-in-Restart g c =
       latest = on_ok_weaker c.restart.result (λ latest. latest ∙ c.requires.latest ∙ sym done.calls) done.latest;
       ready = done.ready;
       hears = rw c.in-Restart.is (hears_line c.restart.result _ _ _ _ _ done.cause tt done.up);
+      moves = λ tree doubt bench_tells holds.
+          rw c.in-Restart.is (on_ok_weaker c.restart.result (λ back. record { disks = done.moves 0; works = back })
+          (ok_under _ c.restart.result (λ down. ok_under _ c.restart.result (λ same. done.back tree doubt bench_tells holds down same))));
       ticks = λ reading is idle. absurd (restart_no_tick _ reading _ c.in-Restart.is is);
       cause = IfErr-weaker c.restart.result _ _ (λ stop cause. step_printed stop c.args.number _ _ cause) done.cause;
       first = done.first;
@@ -101,6 +108,7 @@ returns-in-Tick g c =
       latest = on_ok c.tick.result (done.latest ∙ c.requires.latest ∙ sym done.calls);
       ready = on_ok c.tick.result (done.ready _ c.requires.ready);
       hears = rw c.in-Tick.is (done.hears _);
+      moves = λ tree doubt bench_tells holds. rw c.in-Tick.is (on_ok c.tick.result (record { disks = refl; works = tt }));
       ticks = λ reading is idle. done.begins idle;
       cause = done.cause _ _;
       first = unless_write c.tick.result refl;

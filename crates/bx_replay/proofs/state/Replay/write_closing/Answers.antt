@@ -1,6 +1,6 @@
-use Rattle.std.proofs.Common.{◌∙◌}
+use Rattle.std.proofs.Common.{◌∙◌, refl}
 use Rattle.std.proofs.lemmas.Result.{err_from_is_err_and}
-use Rattle.bx_replay.specs.Bench.{IsHeldBy}
+use Rattle.bx_replay.specs.Bench.{IsShownBy}
 use Rattle.bx_replay.proofs.Finishing.{ended_in_listing, ended_in_points, ended_whole, nothing_ended}
 use Rattle.bx_replay.proofs.state.Replay.write_closing.Goals as goal
 
@@ -28,4 +28,5 @@ pub returns-clause-ends : goal.returns-clause-ends
 returns-clause-ends g c = λ disks tree doubt shows tells opened listed held.
     let is = c.deref.ensures.value ∙ rw (c.new-doubt.ensures.items, c.items.ensures) at c.in_ok-put_doubt.ensures in
     ended_whole tree doubt _ disks shows c.args.listed.now.doubt opened c.deref.result.now is _ _ c.bytes.result.now c.in_ok-print_end.ensures.in_range
-    (c.in_ok-print_end.ensures.prints tells) (c.bytes.ensures ∙ listed) (IsHeldBy disks) _ (c.in_ok-write_all.ensures.ok (c.in_ok-print_end.ensures.keeps_telling tells)) held
+    (c.in_ok-print_end.ensures.prints tells) (c.bytes.ensures ∙ listed) (IsShownBy disks) _ (c.in_ok-write_all.ensures.ok (c.in_ok-print_end.ensures.keeps_telling tells))
+    (record { held = held; closing_open = record { points = c.args.listed.now.doubt; open_are = opened; of = g.M.Service.lacks c.args.self.now.service; lines_are = refl } })

@@ -1,5 +1,5 @@
 -- A volume that was laid out, and then labelled.
-use Rattle.std.proofs.Common.{◌≡◌, ℕ, ◌≤◌, arith, false, List, sym, ap, ◌∙◌, subst}
+use Rattle.std.proofs.Common.{◌≡◌, ℕ, false, List, sym, ap, ◌∙◌, subst}
 use Rattle.bx_disk.specs.Disks.{Disks, Image}
 use Rattle.bx_layout.specs.declared.label.Label.{Label}
 use Rattle.bx_places.specs.Places.{disk_count}

@@ -3,7 +3,7 @@ use Rattle.bx_layout.specs.declared.block.Block.{Block}
 use Rattle.bx_layout.specs.Blocks.{HasParts}
 use Rattle.bx_format.specs.Formats.{areas_truth, with_block}
 use Rattle.bx_format.proofs.Made.{one_area, own_parts, same_blocks}
-use Rattle.bx_format.proofs.Spared.{spares_none, spares_then}
+use Rattle.bx_format.proofs.Spared.{spares_then}
 use Rattle.bx_format.specs.Moments.{IsLabelSector}
 use Rattle.bx_format.proofs.homes.write_areas.Goals as goal
 

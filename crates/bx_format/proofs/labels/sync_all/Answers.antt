@@ -1,5 +1,5 @@
 use Rattle.std.proofs.Common.{◌∙◌, arith}
-use Rattle.bx_format.proofs.Spared.{spares_none, spares_sync, spares_then, sure_more}
+use Rattle.bx_format.proofs.Spared.{spares_sync, spares_then, sure_more}
 use Rattle.bx_format.specs.Moments.{IsAnySector}
 use Rattle.bx_format.proofs.labels.sync_all.Goals as goal
 

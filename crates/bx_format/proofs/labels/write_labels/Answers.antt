@@ -2,7 +2,7 @@ use Rattle.std.proofs.Common.{◌≡◌, ℕ, ◌∙◌, ap, length, arith}
 use Rattle.bx_fields.specs.Writing.{padded}
 use Rattle.bx_layout.specs.Labels.{label_text}
 use Rattle.bx_format.proofs.Labelled.{behind_more, labels_more}
-use Rattle.bx_format.proofs.Spared.{spares_label, spares_none, spares_then}
+use Rattle.bx_format.proofs.Spared.{spares_label, spares_then}
 use Rattle.bx_format.specs.Moments.{IsBehindLabel}
 use Rattle.bx_format.proofs.labels.write_labels.Goals as goal
 

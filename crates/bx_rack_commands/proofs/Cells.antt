@@ -1,14 +1,13 @@
 -- The cells of a new volume, and the state that they tell.
-use Rattle.std.proofs.Common.{◌≡◌, ℕ, ◌+◌, ◌<◌, ◌≤◌, ◌⊎◌, inl, inr, ◌^◌, Bool, true, false, List, length, Option, Some, None, refl, sym, ap, subst, ◌∙◌, arith}
+use Rattle.std.proofs.Common.{◌≡◌, ℕ, ◌<◌, ◌≤◌, inr, Bool, true, false, List, length, Option, Some, None, refl, sym, ap, subst, ◌∙◌, arith}
 use Rattle.std.specs.Prelude.{nat_lt, slice_index, if◌then◌else◌}
 use Rattle.std.proofs.lemmas.Bool.Decides.{nat_tests}
 use Rattle.std.proofs.lemmas.List.{length-replicate}
 use Rattle.bx_acceptor.proofs.Taking.{first_is_held}
 use Rattle.bx_acceptor.specs.Standing.{IsFound}
-use Rattle.bx_agreement.specs.History.{AreTwo}
 use Rattle.bx_answers.specs.Handling.{first_held}
 use Rattle.bx_cell.proofs.Words.{cell_sectors}
-use Rattle.bx_cell.specs.Formats.{KeepsBeside, first}
+use Rattle.bx_cell.specs.Formats.{first}
 use Rattle.bx_disk.specs.Disks.{Disks}
 use Rattle.bx_facts.specs.Labelled.{IsLabelled}
 use Rattle.bx_format.specs.Formats.{HasSizes, IsMade, KeepsBehind}
@@ -21,8 +20,8 @@ use Rattle.bx_global.specs.declared.state.GlobalState.{GlobalState}
 use Rattle.bx_global.specs.Opening.{first_device, formatted_state}
 use Rattle.bx_layout.specs.declared.label.Label.{Label}
 use Rattle.bx_layout.specs.Labels.{IsLabel}
-use Rattle.bx_paxos.specs.Reading.{AreSeen, IsLevelFirst, ReadsFirst, Tells}
-use Rattle.bx_places.specs.Places.{disk_count, disk_sectors, replica_sectors}
+use Rattle.bx_paxos.specs.Reading.{AreSeen, ReadsFirst, Tells}
+use Rattle.bx_places.specs.Places.{disk_sectors, replica_sectors}
 use Rattle.bx_rack_audit.proofs.Labels.{labelled_agrees}
 use Rattle.bx_rack_audit.specs.Alone.{IsOwnState}
 use Rattle.bx_rack_commands.specs.NewVolumes.{HaveFirstState}

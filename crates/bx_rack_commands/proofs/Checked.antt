@@ -1,5 +1,5 @@
 -- What an audit's answer is to a check.
-use Rattle.std.proofs.Common.{◌≡◌, ℕ, ◌⊎◌, inl, inr, List, Result, Err, refl}
+use Rattle.std.proofs.Common.{◌≡◌, ℕ, ◌⊎◌, inl, inr, List, Err, refl}
 use Rattle.std.specs.Prelude.{IsErrOf}
 use Rattle.bx_audit.specs.declared.listing.Listing.{Listing}
 use Rattle.bx_base.specs.Faults.{Rose}

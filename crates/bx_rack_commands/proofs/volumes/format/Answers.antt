@@ -1,4 +1,4 @@
-use Rattle.std.proofs.Common.{◌<◌, ◌≤◌, List, length, refl, sym, subst, ◌∙◌, arith, ℕ}
+use Rattle.std.proofs.Common.{List, refl, sym, subst, ◌∙◌, arith, ℕ}
 use Rattle.bx_calls.specs.Calls.{LeavesOnly}
 use Rattle.bx_format.proofs.Spared.{bare_then, leaves_bare_then, leaves_made}
 use Rattle.bx_format.specs.Formats.{HasSizes}

@@ -4,3 +4,5 @@ pub mod Blank
 pub mod Sure
 pub mod Labelled
 pub mod Rests
+pub mod Whole
+pub mod Spared

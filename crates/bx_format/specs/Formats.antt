@@ -27,6 +27,10 @@ areas_truth done at = if (block_slot at == 960) && nat_lt (block_area at) done t
 pub record HasNoRecords (sizes : List ℕ) (image : Image) : Type 0 where
   pub zero : (disk sector : ℕ) → 1 ≤ sector → sector < 9345 → sector < slice_index sizes disk → image disk sector ≡ zeros
 
+-- The first sectors of each member's disk, but for its label, are zeros: those of the logs.
+pub record HasNoLogs (sizes : List ℕ) (image : Image) : Type 0 where
+  pub zero : (disk sector : ℕ) → 3 ≤ disk → 1 ≤ sector → sector < 9345 → sector < slice_index sizes disk → image disk sector ≡ zeros
+
 -- The first sectors of each disk stay, those of labels and logs; those behind the labels stay.
 pub record KeepsFront (old new : Disks) : Type 0 where
   pub reads : (disk sector : ℕ) → sector < 9345 → new.reads disk sector ≡ old.reads disk sector
@@ -55,3 +59,11 @@ pub record IsFormatted (disks : Disks) (first : Label) : Type 0 where
   pub labels : HasLabels disks.reads first (disk_count first.devices)
   pub blocks : HoldsBlocks disks.reads first.devices first.areas opening_truth
   pub none : HasNoRecords disks.sizes disks.reads
+
+-- The same of a volume whatever stands behind the labels of its replicas.
+pub record IsMade (disks : Disks) (first : Label) : Type 0 where
+  pub sizes : HasSizes disks.sizes first.devices first.areas
+  pub sure : (d s : ℕ) → disks.unsure d s ≡ false
+  pub labels : HasLabels disks.reads first (disk_count first.devices)
+  pub blocks : HoldsBlocks disks.reads first.devices first.areas opening_truth
+  pub none : HasNoLogs disks.sizes disks.reads

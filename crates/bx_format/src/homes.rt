@@ -8,6 +8,7 @@ ghost use Rattle.bx_layout.specs.Blocks.{HasParts};
 ghost use Rattle.bx_places.specs.Places.{IsVolume, IsBlock};
 ghost use Rattle.bx_truth.specs.Opening.{page_block, root_block};
 ghost use Rattle.bx_views.specs.Truths.{Truth};
+ghost use Rattle.bx_format.specs.Moments.{IsLabelSector, Spares};
 ghost use Rattle.bx_format.specs.Formats.{areas_truth, HasSizes, HoldsBlocks, KeepsFront, with_block};
 
 use crate::blocks::{inode_block, own_block, tree_block};
@@ -30,6 +31,7 @@ fn put_home<R: Rack>(
     requires there { IsBlock areas at }
     requires parts { HasParts block.now }
     ensures puts { (truth : Truth) → R.tells rack.old → HoldsBlocks (R.state rack.old).reads devices areas truth → OnOk result (HoldsBlocks (R.state rack.new).reads devices areas (with_block truth at block.now)) }
+    ensures spares { R.tells rack.old → Spares IsLabelSector (R.state rack.old) (R.state rack.new) (R.moment rack.old) (R.moment rack.new) (R.left_since rack.old) (R.left_since rack.new) }
     ensures front { R.tells rack.old → KeepsFront (R.state rack.old) (R.state rack.new) }
     ensures cause { IsErrOf result Fault → Rose (R.faults rack.old) (R.faults rack.new) }
     ensures later { NoneFalls (R.faults rack.old) (R.faults rack.new) (R.faults_of rack.old) (R.faults_of rack.new) }
@@ -56,6 +58,7 @@ pub(crate) fn write_areas<R: Rack>(
     requires volume { IsVolume devices areas }
     requires sizes { HasSizes (R.state rack.old).sizes devices areas }
     ensures blocks { R.tells rack.old → HoldsBlocks (R.state rack.old).reads devices areas (areas_truth 0) → OnOk result (HoldsBlocks (R.state rack.new).reads devices areas (areas_truth areas)) }
+    ensures spares { R.tells rack.old → Spares IsLabelSector (R.state rack.old) (R.state rack.new) (R.moment rack.old) (R.moment rack.new) (R.left_since rack.old) (R.left_since rack.new) }
     ensures front { R.tells rack.old → KeepsFront (R.state rack.old) (R.state rack.new) }
     ensures cause { IsErrOf result Fault → Rose (R.faults rack.old) (R.faults rack.new) }
     ensures later { NoneFalls (R.faults rack.old) (R.faults rack.new) (R.faults_of rack.old) (R.faults_of rack.new) }
@@ -81,6 +84,7 @@ pub(crate) fn write_root<R: Rack>(
     requires volume { IsVolume devices areas }
     requires sizes { HasSizes (R.state rack.old).sizes devices areas }
     ensures puts { (truth : Truth) → R.tells rack.old → HoldsBlocks (R.state rack.old).reads devices areas truth → OnOk result (HoldsBlocks (R.state rack.new).reads devices areas (with_block (with_block truth 0 root_block) 1 page_block)) }
+    ensures spares { R.tells rack.old → Spares IsLabelSector (R.state rack.old) (R.state rack.new) (R.moment rack.old) (R.moment rack.new) (R.left_since rack.old) (R.left_since rack.new) }
     ensures front { R.tells rack.old → KeepsFront (R.state rack.old) (R.state rack.new) }
     ensures cause { IsErrOf result Fault → Rose (R.faults rack.old) (R.faults rack.new) }
     ensures later { NoneFalls (R.faults rack.old) (R.faults rack.new) (R.faults_of rack.old) (R.faults_of rack.new) }

@@ -5,6 +5,7 @@ ghost use Rattle.bx_base.specs.Faults.{Rose};
 ghost use Rattle.bx_disk.specs.declared.fault.RackError.TheVariants.{Fault, OutOfMemory};
 ghost use Rattle.bx_disk.specs.Counts.{NoneFalls, NoneRose};
 ghost use Rattle.bx_places.specs.Places.{IsVolume, disk_count};
+ghost use Rattle.bx_format.specs.Moments.{IsAnySector, IsBehindLabel, Spares};
 ghost use Rattle.bx_format.specs.Formats.{HasLabels, HasSizes, KeepsBehind};
 
 use bx_calls::{sync_disk, write_some};
@@ -21,6 +22,7 @@ pub(crate) fn write_labels<R: Rack>(
     requires volume { IsVolume devices areas }
     requires sizes { HasSizes (R.state rack.old).sizes devices areas }
     ensures labels { R.tells rack.old → OnOk result (HasLabels (R.state rack.new).reads (record { volume = volume; disk = 0; devices = devices; areas = areas }) (disk_count devices)) }
+    ensures spares { R.tells rack.old → Spares IsBehindLabel (R.state rack.old) (R.state rack.new) (R.moment rack.old) (R.moment rack.new) (R.left_since rack.old) (R.left_since rack.new) }
     ensures behind { R.tells rack.old → KeepsBehind (R.state rack.old) (R.state rack.new) }
     ensures cause { IsErrOf result Fault → Rose (R.faults rack.old) (R.faults rack.new) }
     ensures later { NoneFalls (R.faults rack.old) (R.faults rack.new) (R.faults_of rack.old) (R.faults_of rack.new) }
@@ -45,6 +47,7 @@ pub(crate) fn write_labels<R: Rack>(
 
 /// Makes all disks sure.
 pub(crate) fn sync_all<R: Rack>(rack: &mut R) -> Result<(), DiskFault>
+    ensures spares { R.tells rack.old → Spares IsAnySector (R.state rack.old) (R.state rack.new) (R.moment rack.old) (R.moment rack.new) (R.left_since rack.old) (R.left_since rack.new) }
     ensures sure { (d s : ℕ) → R.tells rack.old → OnOk result ((R.state rack.new).unsure d s ≡ false) }
     ensures reads { R.tells rack.old → (R.state rack.new).reads ≡ (R.state rack.old).reads }
     ensures cause { OnErr result (Rose (R.faults rack.old) (R.faults rack.new)) }

@@ -10,4 +10,4 @@ mod volumes;
 
 pub use blocks::opening_block;
 pub use laws::what_is_formatted_is_at_rest;
-pub use volumes::format;
+pub use volumes::{format, label_disks, lay_out};

@@ -5,6 +5,8 @@ ghost use Rattle.bx_base.specs.Faults.{Rose};
 ghost use Rattle.bx_disk.specs.declared.fault.RackError.TheVariants.{Fault, OutOfMemory};
 ghost use Rattle.bx_disk.specs.Counts.{NoneFalls, NoneRose};
 ghost use Rattle.bx_places.specs.Places.{IsVolume, disk_count};
+ghost use Rattle.bx_calls.specs.Calls.{LeavesOnly};
+ghost use Rattle.bx_format.specs.Moments.{AreBare, IsOldOrBare};
 ghost use Rattle.bx_format.specs.Formats.{areas_truth, HasNoRecords, HasSizes, HoldsBlocks};
 
 use bx_disk::{Rack, RackError};
@@ -18,6 +20,8 @@ pub(crate) fn shape_disks<R: Rack>(rack: &mut R, devices: u32, areas: u16) -> Re
     requires volume { IsVolume devices areas }
     ensures sizes { OnOk result (HasSizes (R.state rack.new).sizes devices areas) }
     ensures blocks { R.tells rack.old → OnOk result (HoldsBlocks (R.state rack.new).reads devices areas (areas_truth 0)) }
+    ensures bare { R.tells rack.old → OnOk result (AreBare (R.state rack.new)) }
+    ensures moments { R.tells rack.old → OnOk result (LeavesOnly (R.moment rack.old) (R.moment rack.new) (R.left_since rack.old) (R.left_since rack.new) (IsOldOrBare (R.state rack.old) (R.state rack.new).sizes)) }
     ensures none { R.tells rack.old → OnOk result (HasNoRecords (R.state rack.new).sizes (R.state rack.new).reads) }
     ensures cause { IsErrOf result Fault → Rose (R.faults rack.old) (R.faults rack.new) }
     ensures later { NoneFalls (R.faults rack.old) (R.faults rack.new) (R.faults_of rack.old) (R.faults_of rack.new) }

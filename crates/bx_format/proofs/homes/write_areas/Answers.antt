@@ -3,6 +3,8 @@ use Rattle.bx_layout.specs.declared.block.Block.{Block}
 use Rattle.bx_layout.specs.Blocks.{HasParts}
 use Rattle.bx_format.specs.Formats.{areas_truth, with_block}
 use Rattle.bx_format.proofs.Made.{one_area, own_parts, same_blocks}
+use Rattle.bx_format.proofs.Spared.{spares_then}
+use Rattle.bx_format.specs.Moments.{IsLabelSector}
 use Rattle.bx_format.proofs.homes.write_areas.Goals as goal
 
 pub put_home-requires-clause-parts : goal.put_home-requires-clause-parts
@@ -23,8 +25,18 @@ loop-area-preserved g c =
           let first = c.loop-area.invariant.front tells in
           let next = c.put_home.ensures.front (c.loop-area.invariant.tells tells) in
           record { reads = λ d s less. next.reads d s less ∙ first.reads d s less };
+      spares = λ tells. spares_then IsLabelSector _ _ _ _ _ _ _ _ _ (c.loop-area.invariant.spares tells) (c.put_home.ensures.spares (c.loop-area.invariant.tells tells));
       later = grind arith;
       no_fault = record { all = this.all ∙ before.all; each = λ d. this.each d ∙ before.each d };
       sizes = c.put_home.ensures.sizes ∙ c.loop-area.invariant.sizes;
       tells = λ tells. c.put_home.ensures.keeps_telling (c.loop-area.invariant.tells tells);
     }
+
+pub returns-in_err-put_home-clause-spares : goal.returns-in_err-put_home-clause-spares
+returns-in_err-put_home-clause-spares g c = λ tells. spares_then IsLabelSector _ _ _ _ _ _ _ _ _ (c.loop-area.invariant.spares tells) (c.put_home.ensures.spares (c.loop-area.invariant.tells tells))
+
+pub returns-in_err-block-clause-spares : goal.returns-in_err-block-clause-spares
+returns-in_err-block-clause-spares g c = c.loop-area.invariant.spares
+
+pub returns-clause-spares : goal.returns-clause-spares
+returns-clause-spares g c = c.loop-area.invariant.spares

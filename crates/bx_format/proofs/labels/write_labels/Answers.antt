@@ -2,6 +2,8 @@ use Rattle.std.proofs.Common.{◌≡◌, ℕ, ◌∙◌, ap, length, arith}
 use Rattle.bx_fields.specs.Writing.{padded}
 use Rattle.bx_layout.specs.Labels.{label_text}
 use Rattle.bx_format.proofs.Labelled.{behind_more, labels_more}
+use Rattle.bx_format.proofs.Spared.{spares_label, spares_then}
+use Rattle.bx_format.specs.Moments.{IsBehindLabel}
 use Rattle.bx_format.proofs.labels.write_labels.Goals as goal
 
 pub loop-disk-preserved : goal.loop-disk-preserved
@@ -21,8 +23,20 @@ loop-disk-preserved g c =
           behind_more (g.R.Rack.state c.args.rack.now) (g.R.Rack.state c.loop-disk.rack) (g.R.Rack.state c.write_some.new.rack) c.loop-disk.disk c.write.new.into long (c.write_some.ensures.keeps told)
           (c.loop-disk.invariant.behind tells);
       sector = long;
+      spares = λ tells.
+          let told = c.loop-disk.invariant.tells tells in
+          spares_then IsBehindLabel _ _ _ _ _ _ _ _ _ (c.loop-disk.invariant.spares tells) (spares_label _ _ c.loop-disk.disk _ _ _ _ _ (omega (arith, long)) (c.write_some.ensures.keeps told) (c.write_some.ensures.any_moment told));
       later = grind arith;
       no_fault = record { all = this.all ∙ before.all; each = λ d. this.each d ∙ before.each d };
       sizes = c.write_some.ensures.rack.sizes ∙ c.loop-disk.invariant.sizes;
       tells = λ tells. c.write_some.ensures.rack.keeps_telling (c.loop-disk.invariant.tells tells);
     }
+
+pub returns-in_err-write_some-clause-spares : goal.returns-in_err-write_some-clause-spares
+returns-in_err-write_some-clause-spares g c = λ tells.
+    let told = c.loop-disk.invariant.tells tells in
+    let long : length c.write.new.into ≡ 512 = c.write.auto.into ∙ c.loop-disk.invariant.sector in
+    spares_then IsBehindLabel _ _ _ _ _ _ _ _ _ (c.loop-disk.invariant.spares tells) (spares_label _ _ c.loop-disk.disk _ _ _ _ _ (omega (arith, long)) (c.write_some.ensures.keeps told) (c.write_some.ensures.any_moment told))
+
+pub returns-clause-spares : goal.returns-clause-spares
+returns-clause-spares g c = c.loop-disk.invariant.spares

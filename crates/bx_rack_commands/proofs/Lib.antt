@@ -1,0 +1,3 @@
+pub mod Cells
+pub mod Checked
+pub mod Made

@@ -3,6 +3,7 @@ use Rattle.std.proofs.Common.{◌≡◌, ℕ, ◌-◌, ◌<◌, ◌≤◌, Bool,
 use Rattle.std.specs.Prelude.{◌≢◌, ◌⊎◌, nat_le, nat_lt, if◌then◌else◌, length, Err}
 use Rattle.std.proofs.lemmas.Bool.{le-leb}
 use Rattle.std.proofs.lemmas.Bool.Decides.{nat_tests}
+use Rattle.bx_chunks.specs.Allocating.{NeedsFairly}
 use Rattle.bx_chunks.specs.Freeing.{own_at}
 use Rattle.bx_chunks.specs.Putting.{own_of}
 use Rattle.bx_changes.proofs.FileChanged.{changed_is_put}
@@ -10,6 +11,7 @@ use Rattle.bx_chunks.specs.declared.error.ChunkError.{ChunkError}
 use Rattle.bx_chunks.specs.declared.error.ChunkError.TheVariants as chunk
 use Rattle.bx_inodes.specs.Inodes.{HoldsInode}
 use Rattle.bx_inodes.specs.Writing.{PutsInode}
+use Rattle.bx_inodes.specs.Stops.{NeedsOn}
 use Rattle.bx_inodes.specs.declared.stop.Stop.{Stop}
 use Rattle.bx_handles.specs.Handles.{parts_of}
 use Rattle.bx_layout.specs.declared.block.Block.{Block}
@@ -35,6 +37,7 @@ use Rattle.bx_truth.specs.Stored.{HasBody, HasFields}
 use Rattle.bx_truth.proofs.Cases.{eq_false, eq_true}
 use Rattle.bx_truth.proofs.Put.{shown}
 use Rattle.bx_views.specs.Truths.{Held, Truth, with_draft}
+use Rattle.bx_entries.specs.Removing.{IsLastName, OnUnlinking}
 use Rattle.bx_entries.specs.Stopping.{StopsByChunks}
 use Rattle.bx_entries.specs.Unlinking.{IsFileOf, Unlinks, UnlinksIn}
 use Rattle.bx_entries.proofs.InodePut.{fits}
@@ -114,3 +117,12 @@ module _ (areas : ℕ) (held : Held) (truth : Truth) (old : List Changed) (tree 
             (put areas truth tree file (unlinked now file) inode f.is f.there f.holds keeps fields f.handle_is refl));
         leads = λ hints fit. fits areas held truth old new handle inode less f.same f.is.chunked f.holds puts hints refl fit;
       }
+
+-- what is needed where a file dies with its last name
+pub dying_needs : (areas : ℕ) (held : Held) (old new : List Changed) (handle : ℕ) (inode : Inode) → IsLastName inode → (error : ChunkError) (stop : Stop) → NeedsFairly {X = Unit {0}} areas held (Err error) → BuriesAt held old new handle inode (Err error)
+    → StopsByChunks error stop → NeedsOn areas held (OnUnlinking handle inode) {T = Unit {0}} (Err stop)
+dying_needs areas held old new handle inode last (chunk.Need at mode) stop n b s = subst (λ (e : Stop). NeedsOn areas held (OnUnlinking handle inode) {T = Unit {0}} (Err e)) (sym s) (n.0, n.1, (last, b.0.at_is, b.1))
+dying_needs areas held old new handle inode last (chunk.Full spare) stop n b s = absurd b
+dying_needs areas held old new handle inode last chunk.OutOfMemory stop n b s = subst (λ (e : Stop). NeedsOn areas held (OnUnlinking handle inode) {T = Unit {0}} (Err e)) (sym s) tt
+dying_needs areas held old new handle inode last chunk.Stale stop n b s = subst (λ (e : Stop). NeedsOn areas held (OnUnlinking handle inode) {T = Unit {0}} (Err e)) (sym s) tt
+dying_needs areas held old new handle inode last chunk.Crowded stop n b s = subst (λ (e : Stop). NeedsOn areas held (OnUnlinking handle inode) {T = Unit {0}} (Err e)) (sym s) tt

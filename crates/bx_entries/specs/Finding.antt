@@ -149,12 +149,18 @@ pub record OnFirst (sort : Removable) (held : Held) (hints : Hints) (areas handl
 abbrev pub OnFile : Removable → Held → Hints → ℕ → ℕ → ℕ → Mode → Type 0
 OnFile sort held hints areas handle at mode = IsOwnBlock handle at mode ⊎ OnFirst sort held hints areas handle at mode
 
+-- the path of removing the entry of the file with a handle, by the inode that is held
+pub record OnRemoved (held : Held) (hints : Hints) (areas root number : ℕ) (name : List ℕ) (handle at : ℕ) (mode : Mode) : Type 0 where
+  pub inode : Inode
+  pub live : LiveAt (reads_with held hints []) areas handle Exclusive inode
+  pub on : OnRemoving held hints root number name handle inode at mode
+
 -- from an entry that a search finds on: that of what it names, and the path of removing it
 pub record OnFound (sort : Removable) (held : Held) (hints : Hints) (areas root : ℕ) (name : List ℕ) (at : ℕ) (mode : Mode) : Type 0 where
   pub number : ℕ
   pub handle : ℕ
   pub found : Finds held hints root (name_key name) (Some (name_value number handle))
-  pub on : OnFile sort held hints areas handle at mode ⊎ OnRemoving held hints root number name handle at mode
+  pub on : OnFile sort held hints areas handle at mode ⊎ OnRemoved held hints areas root number name handle at mode
 
 -- from a directory's root on: the search for the name, and that from the entry on
 abbrev pub OnNamed : Removable → Held → Hints → ℕ → ℕ → List ℕ → ℕ → Mode → Type 0

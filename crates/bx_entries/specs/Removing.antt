@@ -66,6 +66,14 @@ RemovesIn areas truth next (Err OutOfMemory) = Unit {0}
 RemovesIn areas truth next (Err (Status status)) = ⊥
 RemovesIn areas truth next (Err (Inner blocks)) = ⊥
 
--- the path: that of taking the entry out, and the own block of the file's area, exclusively
-abbrev pub OnRemoving : Held → Hints → ℕ → ℕ → List ℕ → ℕ → ℕ → Mode → Type 0
-OnRemoving held hints root number name handle at mode = OnTakePath held hints [] root number name at mode ⊎ ((at ≡ own_block (parts_of handle).area) × (mode ≡ Exclusive))
+-- the name that a file loses is its last one: it is a directory, or has one link at most
+abbrev pub IsLastName : Inode → Type 0
+IsLastName inode = (inode.kind ≡ 2) ⊎ (inode.nlink ≤ 1)
+
+-- the path of taking a name from a file: where it is the last one, the own block of the file's area, exclusively
+abbrev pub OnUnlinking : ℕ → Inode → ℕ → Mode → Type 0
+OnUnlinking handle of at mode = IsLastName of × (at ≡ own_block (parts_of handle).area) × (mode ≡ Exclusive)
+
+-- the path: that of taking the entry out, and that of taking the name from the file
+abbrev pub OnRemoving : Held → Hints → ℕ → ℕ → List ℕ → ℕ → Inode → ℕ → Mode → Type 0
+OnRemoving held hints root number name handle of at mode = OnTakePath held hints [] root number name at mode ⊎ OnUnlinking handle of at mode

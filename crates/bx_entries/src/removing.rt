@@ -23,8 +23,8 @@ use std::alloc::Global;
 /// changed now, in seconds and microseconds; the file dies with its last name. A directory dies; it has no entries, and is one link less to
 /// the one that it was in.
 ///
-/// `Need` names a block of the volume that isn't held exclusively: one on the path of the two changes of the directory's tree, or the own block
-/// of the file's area. The status is `STALE` where what is held is no directory with that entry, or the file isn't there.
+/// `Need` names a block of the volume that isn't held exclusively: one on the path of the two changes of the directory's tree, or where the file dies
+/// the own block of its area. The status is `STALE` where what is held is no directory with that entry, or the file isn't there.
 pub fn remove_entry<V: View>(
     alloc: Global,
     view: &V,
@@ -40,7 +40,7 @@ pub fn remove_entry<V: View>(
     requires area { (parts_of file.handle).area < areas }
     ensures step { (volume : ℕ) (truth : Truth) (tree : Tree) → (is : IsRemoval volume areas (V.held view.now) (V.hints view.now) truth tree directory.handle directory.inode number name.now file.handle file.inode)
         → RemovesIn areas truth (removed tree is.at.file name.now is.file.file now) result }
-    ensures need { NeedsOn areas (V.held view.now) (OnRemoving (V.held view.now) (V.hints view.now) directory.inode.tree number name.now file.handle) result }
+    ensures need { NeedsOn areas (V.held view.now) (OnRemoving (V.held view.now) (V.hints view.now) directory.inode.tree number name.now file.handle file.inode) result }
     ensures inner { NeverInner result }
     ensures held { IsSome (V.held view.now (block_at directory.handle) Exclusive) → IsSome (V.held view.now (block_at file.handle) Exclusive) → IfOk result (IsHeldDraft (V.held view.now)) }
 {

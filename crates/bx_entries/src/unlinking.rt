@@ -7,9 +7,10 @@ ghost use Rattle.bx_inodes.specs.Stops.{NeedsOn, NeverInner};
 ghost use Rattle.bx_layout.specs.Inodes.{IsInode};
 ghost use Rattle.bx_model.specs.declared.tree.Tree.{Tree};
 ghost use Rattle.bx_tree_files.specs.declared.file.File.{File};
-ghost use Rattle.bx_truth.specs.Chunks.{block_at, own_block};
+ghost use Rattle.bx_truth.specs.Chunks.{block_at};
 ghost use Rattle.bx_views.specs.Attempts.{IsHeldDraft};
 ghost use Rattle.bx_views.specs.Truths.{Truth};
+ghost use Rattle.bx_entries.specs.Removing.{OnUnlinking};
 ghost use Rattle.bx_entries.specs.Unlinking.{IsFileOf, UnlinksIn};
 
 use crate::stops::stop_of_chunks;
@@ -24,7 +25,7 @@ use std::alloc::Global;
 /// Takes a name from the file with a handle, by its inode, which is changed now, in seconds and microseconds; the file dies with its last
 /// name. A directory, which has one name, dies; it has no entries.
 ///
-/// `Need` names the own block of the file's area, which isn't held exclusively. The status is `STALE` where the handle names no file: of a file that is
+/// `Need` names the own block of the file's area, where the file dies and that isn't held exclusively. The status is `STALE` where the handle names no file: of a file that is
 /// there it never comes. On an error the draft is as it was.
 pub fn unlink<V: View>(
     alloc: Global,
@@ -39,7 +40,7 @@ pub fn unlink<V: View>(
     ensures unchanged { OnErr result (draft.new ≡ draft.old) }
     ensures step { (areas : ℕ) (truth : Truth) (tree : Tree) (file : File) → IsFileOf areas (V.held view.now) truth draft.old tree handle inode file
         → UnlinksIn areas truth draft.old draft.new tree handle file now result }
-    ensures need { (areas : ℕ) → (parts_of handle).area < areas → NeedsOn areas (V.held view.now) (λ at mode. (at ≡ own_block (parts_of handle).area) × (mode ≡ Exclusive)) result }
+    ensures need { (areas : ℕ) → (parts_of handle).area < areas → NeedsOn areas (V.held view.now) (OnUnlinking handle inode) result }
     ensures inner { NeverInner result }
     ensures held { IsHeldDraft (V.held view.now) draft.old → IsSome (V.held view.now (block_at handle) Exclusive) → OnOk result (IsHeldDraft (V.held view.now) draft.new) }
 {

@@ -9,8 +9,8 @@ use Rattle.bx_changes.specs.declared.error.ChangeError.{ChangeError}
 use Rattle.bx_changes.specs.declared.error.ChangeError.TheVariants.{Stopped, Full}
 use Rattle.bx_dirs.specs.Changes.{OnAddPath, OnTakePath, entry_of}
 use Rattle.bx_entries.specs.Finding.{IsOwnBlock}
+use Rattle.bx_entries.specs.Removing.{OnUnlinking}
 use Rattle.bx_entries.specs.Taking.{TakesOutAt}
-use Rattle.bx_handles.specs.Handles.{parts_of}
 use Rattle.bx_hints.specs.Fitting.{HintsFitAll}
 use Rattle.bx_inodes.specs.Inodes.{HoldsInode, LiveAt}
 use Rattle.bx_inodes.specs.Writing.{PutsInode}
@@ -20,7 +20,6 @@ use Rattle.bx_layout.specs.declared.inode.Inode.{Inode}
 use Rattle.bx_model.specs.declared.tree.Tree.{Tree}
 use Rattle.bx_records.specs.Drafts.{Changed}
 use Rattle.bx_tree_files.specs.Times.{Time}
-use Rattle.bx_truth.specs.Chunks.{own_block}
 use Rattle.bx_truth.specs.Stands.{StandsFor}
 use Rattle.bx_views.specs.Truths.{Truth, Held, Hints, IsTruth, with_draft}
 
@@ -93,4 +92,4 @@ abbrev pub OnComing : Held → Hints → ℕ → List Changed → ℕ → List �
 OnComing held hints areas draft directory name made at mode = OnEdit held hints areas draft directory (λ inode. OnAddPath held hints draft inode.tree (entry_of inode.next name made)) at mode
 
 abbrev pub OnLosing : Held → Hints → ℕ → List Changed → ℕ → ℕ → Mode → Type 0
-OnLosing held hints areas draft handle at mode = OnEdit held hints areas draft handle (λ inode at mode. (at ≡ own_block (parts_of handle).area) × (mode ≡ Exclusive)) at mode
+OnLosing held hints areas draft handle at mode = OnEdit held hints areas draft handle (OnUnlinking handle) at mode

@@ -29,9 +29,9 @@ returns-in-Ok-file_for-clause-step g c = λ volume truth tree d.
 
 pub returns-in-Ok-file_for-clause-need : goal.returns-in-Ok-file_for-clause-need
 returns-in-Ok-file_for-clause-need g c =
-    needs_wider c.args.areas (g.V.View.held c.args.view.now) (OnRemoving (g.V.View.held c.args.view.now) (g.V.View.hints c.args.view.now) c.args.directory.inode.tree c.in-Ok.number c.args.name.now c.in-Ok.handle)
+    needs_wider c.args.areas (g.V.View.held c.args.view.now) (OnRemoving (g.V.View.held c.args.view.now) (g.V.View.hints c.args.view.now) c.args.directory.inode.tree c.in-Ok.number c.args.name.now c.in-Ok.handle c.in-Ok-file_for.inode)
     (OnNamed c.args.sort (g.V.View.held c.args.view.now) (g.V.View.hints c.args.view.now) c.args.areas c.args.directory.inode.tree c.args.name.now)
-    (λ at mode on. inr (record { number = c.in-Ok.number; handle = c.in-Ok.handle; found = c.in-Ok.ensures.finds; on = inr on })) c.remove_entry.result c.remove_entry.ensures.need
+    (λ at mode on. inr (record { number = c.in-Ok.number; handle = c.in-Ok.handle; found = c.in-Ok.ensures.finds; on = inr (record { inode = c.in-Ok-file_for.inode; live = c.in-Ok-file_for.ensures.live; on = on }) })) c.remove_entry.result c.remove_entry.ensures.need
 
 pub returns-in-Err-file_for-clause-need : goal.returns-in-Err-file_for-clause-need
 returns-in-Err-file_for-clause-need g c =

@@ -1,12 +1,8 @@
 use Rattle.std.proofs.Common.{◌≡◌, ℕ, List, sym, ap, subst, inr}
 use Rattle.std.specs.Prelude.{◌==◌, Ok, Err}
-use Rattle.bx_base.specs.declared.names.Mode.{Mode}
-use Rattle.bx_base.specs.declared.names.Mode.TheVariants.{Exclusive}
 use Rattle.bx_files.proofs.Needs.{needs_along}
-use Rattle.bx_handles.specs.Handles.{parts_of}
 use Rattle.bx_records.specs.Drafts.{Changed}
-use Rattle.bx_truth.specs.Chunks.{own_block}
-use Rattle.bx_entries.specs.Removing.{OnRemoving}
+use Rattle.bx_entries.specs.Removing.{OnRemoving, OnUnlinking}
 use Rattle.bx_entries.specs.Taking.{IsEntryOf, TakesEntry}
 use Rattle.bx_entries.proofs.Removed.{entry, file_of, removes, stopped_taking, stopped_unlinking}
 use Rattle.bx_entries.proofs.removing.remove_entry.Goals as goal
@@ -32,8 +28,8 @@ returns-in-Err-unlink-clause-step g c = λ volume truth tree r.
 
 pub returns-in-Err-unlink-clause-need : goal.returns-in-Err-unlink-clause-need
 returns-in-Err-unlink-clause-need g c =
-    needs_along (Unit {0}) (List Changed) c.args.areas (g.V.View.held c.args.view.now) (λ (at : ℕ) (mode : Mode). (at ≡ own_block (parts_of c.args.file.handle).area) × (mode ≡ Exclusive))
-    (OnRemoving (g.V.View.held c.args.view.now) (g.V.View.hints c.args.view.now) c.args.directory.inode.tree c.args.number c.args.name.now c.args.file.handle) (λ at mode on. inr on) c.in-Err-unlink.stop
+    needs_along (Unit {0}) (List Changed) c.args.areas (g.V.View.held c.args.view.now) (OnUnlinking c.args.file.handle c.args.file.inode)
+    (OnRemoving (g.V.View.held c.args.view.now) (g.V.View.hints c.args.view.now) c.args.directory.inode.tree c.args.number c.args.name.now c.args.file.handle c.args.file.inode) (λ at mode on. inr on) c.in-Err-unlink.stop
     (c.in-Err-unlink.ensures.need c.args.areas c.requires.area)
 
 pub returns-in-Ok-unlink-clause-step : goal.returns-in-Ok-unlink-clause-step

@@ -1,12 +1,10 @@
 use Rattle.std.proofs.Common.{◌≡◌, ℕ, List, inr}
-use Rattle.bx_base.specs.declared.names.Mode.{Mode}
-use Rattle.bx_base.specs.declared.names.Mode.TheVariants.{Exclusive}
 use Rattle.bx_entries.specs.Unlinking.{without_name_of}
 use Rattle.bx_files.proofs.Needs.{needs_along}
-use Rattle.bx_handles.specs.Handles.{parts_of}
 use Rattle.bx_leaves.proofs.Fair.{seen_held}
 use Rattle.bx_records.specs.Drafts.{Changed}
-use Rattle.bx_truth.specs.Chunks.{block_at, own_block}
+use Rattle.bx_truth.specs.Chunks.{block_at}
+use Rattle.bx_entries.specs.Removing.{OnUnlinking}
 use Rattle.bx_moving.specs.Edits.{OnLosing}
 use Rattle.bx_moving.proofs.Edited.{file_in, loses, no_stop, not_lost}
 use Rattle.bx_moving.proofs.edits.lose.Goals as goal
@@ -22,7 +20,7 @@ returns-in-Err-unlink-clause-step g c = λ truth tree file r there empty other.
 
 pub returns-in-Err-unlink-clause-need : goal.returns-in-Err-unlink-clause-need
 returns-in-Err-unlink-clause-need g c =
-    needs_along (Unit {0}) (List Changed) c.args.areas (g.V.View.held c.args.view.now) (λ (at : ℕ) (mode : Mode). (at ≡ own_block (parts_of c.args.handle).area) × (mode ≡ Exclusive))
+    needs_along (Unit {0}) (List Changed) c.args.areas (g.V.View.held c.args.view.now) (OnUnlinking c.args.handle c.in-Ok.inode)
     (OnLosing (g.V.View.held c.args.view.now) (g.V.View.hints c.args.view.now) c.args.areas c.args.draft c.args.handle) (λ at mode on. inr (record { inode = c.in-Ok.inode; live = c.in-Ok.ensures.at; on = on })) c.in-Err-unlink.stop
     (c.in-Err-unlink.ensures.need c.args.areas c.requires.area)
 

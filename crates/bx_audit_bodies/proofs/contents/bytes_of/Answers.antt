@@ -58,7 +58,7 @@ returns-in_err-put_piece-clause-shows g c = λ chunks shows. c.in_err-put_piece.
 
 pub returns-in_err-put_piece-clause-wrong : goal.returns-in_err-put_piece-clause-wrong
 returns-in_err-put_piece-clause-wrong g c = λ chunks shows.
-    let p = err_from_is_err_and c.from_residual-in_err-put_piece.result c.from_residual-in_err-put_piece.ensures.1 in
-    if_torn _ _ c.in_err-put_piece.field-0.0 c.from_residual-in_err-put_piece.result (p.1 ∙ ap Err p.2)
+    let p = err_from_is_err_and c.from_residual.result c.from_residual.ensures.1 in
+    if_torn _ _ c.in_err-put_piece.field-0.0 c.from_residual.result (p.1 ∙ ap Err p.2)
     (λ at found wanted both. unclear_at chunks c.args.pieces.now c.loop-piece.piece-index _ c.args.tail wanted c.loop-piece-test.true both.1 both.0)
     (both_torn _ _ c.in_err-put_piece.field-0.0 (c.in_err-put_piece.ensures.torn chunks (c.loop-piece.invariant.shows chunks shows)) c.in_err-put_piece.ensures.names)

@@ -1,5 +1,5 @@
 -- Reading words from the front of bytes.
-use Rattle.std.specs.Prelude.{◌≡◌, ◌==◌, ℕ, zero, suc, Bool, nat_lt, List, None, if◌then◌else◌}
+use Rattle.std.specs.Prelude.{◌==◌, ℕ, zero, suc, Bool, nat_lt, None, if◌then◌else◌}
 use Rattle.std.specs.Int.{w32, w64}
 use Rattle.bx_base.specs.declared.names.Mode.{Mode}
 use Rattle.bx_base.specs.declared.names.Mode.TheVariants.{Shared, Exclusive}

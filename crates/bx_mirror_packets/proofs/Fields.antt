@@ -1,9 +1,9 @@
 -- The parts of bodies are read again from their bytes, and no other bytes are read as such.
-use Rattle.std.proofs.Common.{◌≡◌, ℕ, ◌*◌, ◌/◌, ◌%◌, ◌^◌, ◌<◌, ◌≤◌, List, ◌++◌, length, Option, Some, refl, sym, ap, subst, ◌∙◌, arith}
+use Rattle.std.proofs.Common.{◌≡◌, ℕ, ◌*◌, ◌/◌, ◌%◌, ◌^◌, ◌<◌, ◌≤◌, List, ◌++◌, length, Some, refl, sym, ap, subst, arith}
 use Rattle.std.specs.List.{AllByRecursion}
 use Rattle.std.specs.Int.{w32, w64, to_be_bytes}
 use Rattle.std.proofs.lemmas.Bool.{lt-ltb, ltb-true}
-use Rattle.bx_fields.specs.Reading.{Reader, as_at, bytes_at}
+use Rattle.bx_fields.specs.Reading.{Reader, as_at}
 use Rattle.bx_fields.proofs.Fields.{IsField, Takes, as_field, bind_some, bytes_field, field32, field64, fits_field, list_field, sized_field, some_is, tested_field, then_field}
 use Rattle.bx_records.specs.declared.runs.Run.{Run}
 use Rattle.bx_rows.specs.Conditions.{Fits}

@@ -1,5 +1,5 @@
 -- A packet is one message at most.
-use Rattle.std.proofs.Common.{◌≡◌, ℕ, ◌^◌, ◌<◌, ◌/◌, List, [], ◌∷◌, ◌++◌, length, Option, Some, refl, sym, ap, subst, ◌∙◌, arith}
+use Rattle.std.proofs.Common.{◌≡◌, ℕ, List, [], ◌∷◌, ◌++◌, refl, sym, ap, subst, ◌∙◌, arith}
 use Rattle.std.specs.List.{AllByRecursion}
 use Rattle.bx_fields.specs.Reading.{Reader}
 use Rattle.bx_fields.proofs.Fields.{IsField}
@@ -16,8 +16,8 @@ use Rattle.bx_mirror_packets.specs.declared.message.CopiedBody.{CopiedBody}
 use Rattle.bx_mirror_packets.specs.declared.parts.Head.{Head}
 use Rattle.bx_mirror_packets.specs.declared.parts.Piece.{Piece}
 use Rattle.bx_mirror_packets.proofs.Parted
-use Rattle.bx_mirror_packets.proofs.Fields.{extent_field, head_field, piece_field, writing_field, writing_is}
-use Rattle.bx_mirror_packets.proofs.Whole.{HasFront, HasSecond, front_same}
+use Rattle.bx_mirror_packets.proofs.Fields.{extent_field, head_field, piece_field, writing_field}
+use Rattle.bx_mirror_packets.proofs.Whole.{HasFront, front_same}
 
 -- the first fields of equal bodies, and what is behind them
 one_front : {X A : Type 0} {Body : X → Type 0} {body : X → List ℕ} {read : Reader A} {text : A → List ℕ} {Fit : A → Type 0} {front : X → A} {more : X → List ℕ}
@@ -40,7 +40,7 @@ same_read : (a b : ReadBody) → IsDeviceMessage (Read a) → IsDeviceMessage (R
 same_read a b is also e =
     let heads = one_front head_field Parted.read_front a b is also e in
     let extents : Parted.extent a ≡ Parted.extent b =
-        one_field extent_field (Parted.extent a) (Parted.extent b) (Parted.read_second.fits a is) (Parted.read_second.fits b also) (sym (Parted.read_second.parts a) ∙ (heads.1 ∙ Parted.read_second.parts b)) in
+    one_field extent_field (Parted.extent a) (Parted.extent b) (Parted.read_second.fits a is) (Parted.read_second.fits b also) (sym (Parted.read_second.parts a) ∙ (heads.1 ∙ Parted.read_second.parts b)) in
     ap (λ (h : Head). Parted.read_with h (Parted.extent a)) heads.0 ∙ ap (λ (x : ℕ × ℕ). Parted.read_with (Parted.read_head b) x) extents
 
 same_data : (a b : DataBody) → IsDeviceMessage (Data a) → IsDeviceMessage (Data b) → data_text a ≡ data_text b → a ≡ b
@@ -65,9 +65,9 @@ same_write a b is also k e =
     let heads = one_front head_field (Parted.write_front kind) a b (is, refl) (also, sym k) e in
     let devices : a.device ≡ b.device = ap (λ (h : Head). h.device) heads.0 in
     let writings : Parted.writing a ≡ Parted.writing b =
-        one_field (writing_field a.device) (Parted.writing a) (Parted.writing b) ((Parted.write_second kind).fits a (is, refl))
-        (subst (λ (d : ℕ). Parted.WritingOf (record { session = b.session; device = d; epoch = b.epoch; number = b.sequence }) (Parted.writing b)) (sym devices) ((Parted.write_second kind).fits b (also, sym k)))
-        (sym ((Parted.write_second kind).parts a) ∙ (heads.1 ∙ (Parted.write_second kind).parts b)) in
+    one_field (writing_field a.device) (Parted.writing a) (Parted.writing b) ((Parted.write_second kind).fits a (is, refl))
+    (subst (λ (d : ℕ). Parted.WritingOf (record { session = b.session; device = d; epoch = b.epoch; number = b.sequence }) (Parted.writing b)) (sym devices) ((Parted.write_second kind).fits b (also, sym k)))
+    (sym ((Parted.write_second kind).parts a) ∙ (heads.1 ∙ (Parted.write_second kind).parts b)) in
     ap (λ (h : Head). made_of h (Parted.writing a) kind) heads.0 ∙ (ap (λ (x : ℕ × List Run). made_of (Parted.write_head b) x kind) writings ∙ ap (λ (n : ℕ). made_of (Parted.write_head b) (Parted.writing b) n) k)
 
 -- ---- all of them

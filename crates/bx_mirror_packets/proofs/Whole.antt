@@ -2,7 +2,6 @@
 use Rattle.std.proofs.Common.{◌≡◌, ℕ, List, [], ◌∷◌, ◌++◌, length, true, false, eqb, Option, Some, None, refl, sym, ap, subst, ◌∙◌, arith, eq-eqb}
 use Rattle.std.proofs.lemmas.Bool.{eqb-true}
 use Rattle.std.proofs.lemmas.Option.{some_pair_parts}
-use Rattle.bx_base.specs.Bytes.{IsBytes}
 use Rattle.bx_fields.specs.declared.error.ReadError.{ReadError}
 use Rattle.bx_fields.specs.declared.error.ReadError.TheVariants as errors
 use Rattle.bx_fields.specs.Reading.{Fails, Reader}
@@ -55,8 +54,8 @@ pub no_second : {X A B : Type 0} {Body : X → Type 0} {body : X → List ℕ} {
 no_second p has q also errors.OutOfMemory bytes rest a e fails = tt
 no_second {X} {A} {B} {Body} {body} {read} {text} {Fit} {front} {more} {then_read} {then_text} {Then} {second} p has q also errors.Malformed bytes rest a e fails =
     λ x is.
-        let same = has_front p has bytes rest a x e is in
-        front_none (q a) rest [] (second x) fails (same.1 ∙ also.parts x) (subst (λ (f : A). Then f (second x)) (sym same.0) (also.fits x is.is))
+    let same = has_front p has bytes rest a x e is in
+    front_none (q a) rest [] (second x) fails (same.1 ∙ also.parts x) (subst (λ (f : A). Then f (second x)) (sym same.0) (also.fits x is.is))
 
 pub has_second : {X A B : Type 0} {Body : X → Type 0} {body : X → List ℕ} {read : Reader A} {text : A → List ℕ} {Fit : A → Type 0} {front : X → A} {more : X → List ℕ}
     {then_read : A → Reader B} {then_text : B → List ℕ} {Then : A → B → Type 0} {second : X → B}

@@ -14,11 +14,7 @@ use std::alloc::Global;
 impl DeviceMessage {
     /// What a packet of this kind and body says. `None` exactly where that is nothing: the kind is none of the mirrored devices', or the
     /// body isn't the bytes of one of its messages.
-    pub fn read(
-        alloc: Global,
-        kind: u8,
-        body: &[u8],
-    ) -> Result<Option<DeviceMessage>, OutOfMemory>
+    pub fn read(alloc: Global, kind: u8, body: &[u8]) -> Result<Option<DeviceMessage>, OutOfMemory>
         ensures some { IfOk result (λ found. IfSome found (λ message. Spells message kind body.now)) }
         ensures none { IfOk result (λ found. IfNone found ((message : DeviceMessage) → Spells message kind body.now → ⊥)) }
     {

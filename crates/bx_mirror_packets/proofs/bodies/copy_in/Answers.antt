@@ -1,4 +1,4 @@
-use Rattle.std.proofs.Common.{◌≡◌, ℕ, ◌%◌, List, length, arith, sym, ap, subst, ◌∙◌}
+use Rattle.std.proofs.Common.{ℕ, ◌%◌, List, length, arith, sym, ap, subst, ◌∙◌}
 use Rattle.std.proofs.lemmas.Result.{err_from_is_err_and}
 use Rattle.bx_mirror_packets.specs.DeviceMessages.{IsCopyBody, copy_text}
 use Rattle.bx_mirror_packets.specs.Reading.{IsText}

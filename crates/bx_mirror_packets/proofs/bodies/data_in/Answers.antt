@@ -1,4 +1,4 @@
-use Rattle.std.proofs.Common.{◌≡◌, ℕ, List, arith, sym, subst}
+use Rattle.std.proofs.Common.{ℕ, List, arith, sym, subst}
 use Rattle.std.proofs.lemmas.Result.{err_from_is_err_and}
 use Rattle.bx_mirror_packets.specs.DeviceMessages.{IsDataBody, data_text}
 use Rattle.bx_mirror_packets.specs.Reading.{IsText}

@@ -1,4 +1,4 @@
-use Rattle.std.proofs.Common.{ℕ, List, ◌≡◌, ◌++◌, sym, subst}
+use Rattle.std.proofs.Common.{ℕ, List, ◌≡◌, ◌++◌, subst}
 use Rattle.bx_rows.proofs.Pushed.{on_ok, two}
 use Rattle.bx_mirror_packets.specs.DeviceMessages.{copy_text, piece_text}
 use Rattle.bx_mirror_packets.proofs.writing.push_copy.Goals as goal

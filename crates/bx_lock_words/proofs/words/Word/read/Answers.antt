@@ -1,4 +1,4 @@
-use Rattle.std.proofs.Common.{◌≡◌, arith, sym, subst, ◌∙◌}
+use Rattle.std.proofs.Common.{arith, sym, subst, ◌∙◌}
 use Rattle.bx_fields.specs.Reading.{Fails}
 use Rattle.bx_fields.specs.declared.error.ReadError.{ReadError}
 use Rattle.bx_lock_words.specs.Reading.{word_at}

@@ -135,17 +135,17 @@ fn push_read(out: &mut Vec<u8>, read: &ReadBody) -> Result<(), OutOfMemory>
 }
 
 /// Puts an answer to a read at the end.
-fn push_data(out: &mut Vec<u8>, data: &DataBody) -> Result<(), OutOfMemory>
-    ensures { OnOk result (out.new.items ≡ out.old.items ++ data_text data.now) }
+fn push_data(out: &mut Vec<u8>, answer: &DataBody) -> Result<(), OutOfMemory>
+    ensures { OnOk result (out.new.items ≡ out.old.items ++ data_text answer.now) }
 {
     let head = Head {
-        session: data.session,
-        device: data.device,
-        epoch: data.epoch,
-        number: data.tag,
+        session: answer.session,
+        device: answer.device,
+        epoch: answer.epoch,
+        number: answer.tag,
     };
     push_head(out, head)?;
-    push(out, data.bytes.bytes())
+    push(out, answer.bytes.bytes())
 }
 
 /// Puts a piece of a copy at the end.

@@ -6,5 +6,5 @@ use Rattle.bx_mirror_packets.proofs.writing.push_data.Goals as goal
 pub returns : goal.returns
 unfolding data_text
 returns c =
-    let x = c.args.data.now in
+    let x = c.args.answer.now in
     on_ok c.push.result _ _ (λ e. two c.args.out.now.items (head_text x.session x.device x.epoch x.tag) x.bytes _ _ c.in_ok-push_head.ensures (subst (λ (bytes : List ℕ). c.push.new.out.items ≡ c.push_head.new.out.items ++ bytes) c.bytes.ensures e)) c.push.ensures.ok

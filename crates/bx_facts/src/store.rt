@@ -4,6 +4,7 @@ ghost use Rattle.std.specs.Prelude.{◌≡◌, ◌≢◌, ℕ, ◌+◌, ◌-◌,
 ghost use Rattle.bx_base.specs.declared.names.Actor.{Actor};
 ghost use Rattle.bx_base.specs.declared.names.Actor.TheVariants.{Node, Member};
 ghost use Rattle.bx_disk.specs.Disks.{Disks, blanked, sector_of};
+ghost use Rattle.bx_disk.specs.Counts.{NoneRose};
 ghost use Rattle.bx_disk.specs.Kept.{Counted};
 ghost use Rattle.bx_calls.specs.Calls.{LeavesOnly};
 ghost use Rattle.bx_global.specs.Allowed.{IsAllowed};
@@ -12,7 +13,7 @@ ghost use Rattle.bx_global.specs.declared.change.Change.{Change};
 ghost use Rattle.bx_global.specs.declared.state.GlobalState.{GlobalState};
 ghost use Rattle.bx_layout.specs.Labels.{SpellsLabel};
 ghost use Rattle.bx_post.specs.declared.packets.Letter.{Letter};
-ghost use Rattle.bx_facts.specs.declared.input.FactError.TheVariants.{Disk as DiskFails};
+ghost use Rattle.bx_facts.specs.declared.input.FactError.TheVariants.{Disk as DiskFails, OutOfMemory as MemoryFails};
 ghost use Rattle.bx_facts.specs.declared.input.Input.{Input};
 ghost use Rattle.bx_facts.specs.Chains.{IsStoresKind, IsStoresOwn, LivesIn, last, session_by};
 ghost use Rattle.bx_facts.specs.Disks.{Crashes, HasRoom, NeedsAt, NeedsNoMore, OnlyDiskOf, SameLabels, SameMemberLengths, SameMembers, SameReplicas, wanted_by};
@@ -154,7 +155,7 @@ pub trait Store: Drop {
         ensures { result ≡ owes self.now at };
 
     /// Does one event of a machine, which knows this state. The change is one that it must propose. At a disk fault what is in the box isn't
-    /// sent. For want of memory it isn't used again.
+    /// sent. For want of memory it isn't used again, and no disk failed.
     fn take<R: Rack>(
         &mut self,
         rack: &mut R,
@@ -192,6 +193,7 @@ pub trait Store: Drop {
         ensures sent { OnOk result (SendsOnly IsStores out.old out.new) }
         ensures made { made self.new ≡ made self.old }
         ensures replicas { R.tells rack.old → SameReplicas (R.state rack.old) (R.state rack.new) × SameLabels (R.state rack.old) (R.state rack.new) }
+        ensures memory { IsErrOf result MemoryFails → NoneRose (R.faults rack.old) (R.faults rack.new) (R.faults_of rack.old) (R.faults_of rack.new) }
         ensures rack { Counted R.Rack rack.old rack.new result DiskFails };
 
     /// A machine stops. A write of it that was out may still be taken. It takes no memory.

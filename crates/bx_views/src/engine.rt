@@ -1,6 +1,6 @@
 //! Engines.
 
-ghost use Rattle.std.specs.Prelude.{◌≡◌, ℕ, ◌<◌, ◌≤◌, List, true, false, IfNone, IfOk, IfSome};
+ghost use Rattle.std.specs.Prelude.{◌≡◌, ◌≢◌, ℕ, ◌<◌, ◌≤◌, List, true, false, IfNone, IfOk, IfSome};
 ghost use Rattle.bx_base.specs.declared.names.Mode.{Mode};
 ghost use Rattle.bx_base.specs.declared.names.Mode.TheVariants.{Shared};
 ghost use Rattle.bx_places.specs.Places.{is_block};
@@ -45,6 +45,12 @@ pub trait Engine: Drop {
     /// A call's reply, by the bytes of both, tells how many blocks are free.
     ghost tells_free: { Self → List ℕ → List ℕ → Type 0 };
 
+    /// A call asks how many blocks are free.
+    ghost asks_free: { Self → List ℕ → Type 0 };
+
+    /// A call takes blocks, and over a view no more is left for it than so many that are free.
+    ghost lacks_room: { Self → Held → Hints → List ℕ → ℕ → Type 0 };
+
     /// A call is answered whatever is held.
     ghost at_once: { Self → List ℕ → Type 0 };
 
@@ -78,6 +84,7 @@ pub trait Engine: Drop {
             → IfOk result (λ found. IfSome found (Gives (stands self.now) (step self.now) (free self.now truth) client call.now moment truth tree)) }
         ensures spare { (truth : Truth) (tree : Self.Tree) → IsTruth (V.held view.now) truth → stands self.now truth (V.hints view.now) tree
             → IfOk result (λ found. IfSome found (IfActed (TellsFree (tells_free self.now call.now) (free self.now truth)))) }
+        ensures full { (asks_free self.now call.now → ⊥) → IfOk result (λ found. IfSome found (IfActed (λ done. done.spare ≢ 8 → lacks_room self.now (V.held view.now) (V.hints view.now) call.now done.spare))) }
         ensures lacks { (truth : Truth) (tree : Self.Tree) → IsTruth (V.held view.now) truth → stands self.now truth (V.hints view.now) tree
             → IfOk result (λ found. IfSome found (IfInner (prepares self.now (V.held view.now) (V.hints view.now) truth tree call.now moment))) }
         ensures ready { (truth : Truth) (tree : Self.Tree) → IsTruth (V.held view.now) truth → stands self.now truth (V.hints view.now) tree

@@ -56,4 +56,4 @@ pub returns-in-Err-clause-taken : goal.returns-in-Err-clause-taken
 returns-in-Err-clause-taken g c = not_first c.args.near.1 (TakesSlots (g.V.View.held c.args.view.now) c.args.near.0 c.args.near.1 []) c.in-Err.error c.of_tree.result c.of_tree.ensures
 
 pub returns-in-Ok-Some-clause-taken : goal.returns-in-Ok-Some-clause-taken
-returns-in-Ok-Some-clause-taken g c = rw c.in-Ok-Some.field-0-is at c.in-Ok-Some.ensures.taken
+returns-in-Ok-Some-clause-taken g c = rw c.in-Ok-Some.field-0-is (rw c.in-Ok-Some.field-0-is at c.in-Ok-Some.ensures.taken)

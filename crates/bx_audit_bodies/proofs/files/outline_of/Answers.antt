@@ -3,13 +3,14 @@ use Rattle.std.proofs.lemmas.Result.{err_from_is_err_and}
 use Rattle.bx_audit_trees.proofs.Ends.{both_torn, if_torn}
 use Rattle.bx_audit_files.proofs.NamesOfTrees.{if_ok}
 use Rattle.bx_audit_bodies.proofs.Cases.{torn_too}
-use Rattle.bx_audit_bodies.proofs.ReadFiles.{not_stored, read_as, same_at}
+use Rattle.bx_audit_bodies.proofs.Outlined.{outlined}
+use Rattle.bx_audit_bodies.proofs.ReadFiles.{not_stored, same_at}
 use Rattle.bx_layout.specs.declared.block.Block.{Block}
 use Rattle.bx_audit_bodies.specs.Faults.{Missing, Within}
 use Rattle.bx_audit_bodies.specs.Parts.{IsTornDead}
 use Rattle.bx_audit_trees.specs.Errors.{IfTorn}
 use Rattle.bx_layout.specs.declared.inode.Inode.{Inode}
-use Rattle.bx_audit_bodies.proofs.files.file_of.Goals as goal
+use Rattle.bx_audit_bodies.proofs.files.outline_of.Goals as goal
 
 not_both : (found : Option Block) (block : Block) → found ≡ Some block → found ≡ None → ⊥
 not_both found block some none = absurd cc
@@ -22,7 +23,7 @@ returns-in_err-inode-clause-torn g c = λ chunks shows.
 
 pub returns-in-1-clause-ok : goal.returns-in-1-clause-ok
 returns-in-1-clause-ok g c = λ chunks shows.
-    if_ok _ _ c.regular_of.result (λ read body. read_as chunks c.args.handle c.in_ok-inode.inode (c.in_ok-inode.ensures.ok chunks shows) read.file read.claims.items body)
+    if_ok _ _ c.regular_of.result (outlined chunks c.args.handle c.in_ok-inode.inode (c.in_ok-inode.ensures.ok chunks shows))
     (c.regular_of.ensures.ok chunks (c.in_ok-inode.ensures.shows chunks shows))
 
 pub returns-in-1-clause-torn : goal.returns-in-1-clause-torn
@@ -32,7 +33,7 @@ returns-in-1-clause-torn g c = λ chunks shows.
 
 pub returns-in-2-clause-ok : goal.returns-in-2-clause-ok
 returns-in-2-clause-ok g c = λ chunks shows.
-    if_ok _ _ c.directory_of.result (λ read body. read_as chunks c.args.handle c.in_ok-inode.inode (c.in_ok-inode.ensures.ok chunks shows) read.file read.claims.items body)
+    if_ok _ _ c.directory_of.result (outlined chunks c.args.handle c.in_ok-inode.inode (c.in_ok-inode.ensures.ok chunks shows))
     (c.directory_of.ensures.ok chunks (c.in_ok-inode.ensures.shows chunks shows))
 
 pub returns-in-2-clause-torn : goal.returns-in-2-clause-torn
@@ -42,7 +43,7 @@ returns-in-2-clause-torn g c = λ chunks shows.
 
 pub returns-in-5-clause-ok : goal.returns-in-5-clause-ok
 returns-in-5-clause-ok g c = λ chunks shows.
-    if_ok _ _ c.link_of.result (λ read body. read_as chunks c.args.handle c.in_ok-inode.inode (c.in_ok-inode.ensures.ok chunks shows) read.file read.claims.items body)
+    if_ok _ _ c.link_of.result (outlined chunks c.args.handle c.in_ok-inode.inode (c.in_ok-inode.ensures.ok chunks shows))
     (c.link_of.ensures.ok chunks)
 
 pub returns-in-5-clause-torn : goal.returns-in-5-clause-torn
@@ -51,7 +52,7 @@ returns-in-5-clause-torn g c = λ chunks shows.
 
 pub returns-clause-ok : goal.returns-clause-ok
 returns-clause-ok g c = λ chunks shows.
-    if_ok _ _ c.dead_of.result (λ read body. read_as chunks c.args.handle c.in_ok-inode.inode (c.in_ok-inode.ensures.ok chunks shows) read.file read.claims.items body)
+    if_ok _ _ c.dead_of.result (outlined chunks c.args.handle c.in_ok-inode.inode (c.in_ok-inode.ensures.ok chunks shows))
     (c.dead_of.ensures.ok chunks (c.in_ok-inode.ensures.shows chunks shows))
 
 pub returns-clause-torn : goal.returns-clause-torn

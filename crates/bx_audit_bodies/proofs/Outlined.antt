@@ -3,10 +3,12 @@ use Rattle.std.proofs.Common.{◌≡◌, ℕ, ◌^◌, ◌<◌, ◌⊎◌, inr, 
 use Rattle.std.specs.Prelude.{All}
 use Rattle.bx_audit_files.specs.Inodes.{IsInodeAt}
 use Rattle.bx_audit_trees.specs.Trees.{tree_of}
+use Rattle.bx_audit_bodies.specs.Bodies.{file_with}
 use Rattle.bx_audit_bodies.specs.Contents.{HasClear}
 use Rattle.bx_audit_bodies.specs.Faults.{Within}
 use Rattle.bx_audit_bodies.specs.Outlines.{ArePartsAt, ArePartsOf, HasRegular, IsOutlineAt, IsOutlineOf, IsReadable, IsUnreadFile}
 use Rattle.bx_audit_bodies.specs.Parts.{IsUnclearPiece}
+use Rattle.bx_audit_bodies.specs.Pieces.{AreApart, HasPiece, piece_among}
 use Rattle.bx_audit_bodies.specs.Reading.{IsReadAs}
 use Rattle.bx_audit_bodies.specs.declared.claims.Claim.{Claim}
 use Rattle.bx_audit_bodies.specs.declared.outlines.Outline.{Outline}
@@ -14,14 +16,16 @@ use Rattle.bx_audit_bodies.specs.declared.outlines.Outline.TheVariants.{Dead, Fi
 use Rattle.bx_audit_bodies.specs.declared.outlines.Parts.{Parts}
 use Rattle.bx_audit_bodies.specs.declared.outlines.Parts.TheVariants.{Pieces, Whole}
 use Rattle.bx_audit_bodies.specs.declared.pieces.Piece.{Piece}
-use Rattle.bx_audit_bodies.proofs.BodiesOfTrees.{clear_read, regular_read, unclear_not}
+use Rattle.bx_audit_bodies.proofs.BodiesOfTrees.{apart_read, clear_read, regular_read, unclear_not}
 use Rattle.bx_audit_bodies.proofs.FaultsOfParts.{regular_piece_fault}
 use Rattle.bx_audit_bodies.proofs.PartsLed.{one_led}
 use Rattle.bx_audit_bodies.proofs.ReadFiles.{not_stored, read_as, same_at}
 use Rattle.bx_layout.specs.declared.inode.Inode.{Inode}
 use Rattle.bx_layout.specs.Inodes.{IsInode}
+use Rattle.bx_tree_files.specs.declared.file.Body.TheVariants.{Bytes}
 use Rattle.bx_tree_files.specs.declared.file.File.{File}
 use Rattle.bx_truth.specs.PageTrees.{Chunks}
+use Rattle.bx_truth.specs.Stored.{AreBytesOf}
 
 -- ---- the outline of an inode, by its handle
 
@@ -35,10 +39,7 @@ module _ (chunks : Chunks) (handle : ℕ) (inode : Inode) (at : IsInodeAt chunks
 
   pub outlined : (outline : Outline) → IsOutlineOf chunks handle inode outline → IsOutlineAt chunks handle outline
   outlined (Dead claims) body = read_as chunks handle inode at None claims.items body
-  outlined (OfFile outline) is = (
-    is.0,
-    subst (λ (n : ℕ). ArePartsAt chunks n outline.parts outline.claims.items) (sym is.0) (parts_at outline.parts outline.claims.items is.1),
-  )
+  outlined (OfFile outline) are = parts_at outline.parts outline.claims.items are
 
 -- ---- a regular file, by its pieces
 
@@ -58,3 +59,10 @@ module _ (chunks : Chunks) (none : chunks 0 ≡ None) (handle : ℕ) (inode : In
   readable is_inode small clear =
       let r = clear_read chunks none inode pieces claims regular.has handle is_inode kind small clear in
       record { file = r.0; read = read_as chunks handle inode at (Some r.0) claims r.1 }
+
+  -- these are its bytes
+  pub filled : (bytes : List ℕ) → IsInode inode → inode.size < 2 ^ 31 → All (HasPiece chunks) pieces → (AreApart pieces → AreBytesOf (piece_among chunks pieces) inode.size inode.tail bytes)
+      → IsReadAs chunks handle (Some (file_with handle inode (Bytes bytes))) claims
+  filled bytes is_inode small blocks are =
+      read_as chunks handle inode at (Some (file_with handle inode (Bytes bytes))) claims
+      (regular_read chunks none inode pieces claims regular.has blocks handle bytes is_inode kind small (are (apart_read chunks none inode pieces claims regular.has)))

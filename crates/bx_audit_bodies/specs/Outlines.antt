@@ -25,9 +25,10 @@ abbrev pub AreRight : Parts → Type 0
 AreRight (Whole file) = IsFile file × AreEntriesApart file.body
 AreRight (Pieces inode pieces) = IsInode inode × (inode.kind ≡ 1) × (inode.size < 2 ^ 31)
 
-abbrev pub IsRight : Outline → Type 0
-IsRight (Dead claims) = Unit {0}
-IsRight (OfFile outline) = AreRight outline.parts
+-- so it is with what an outline of the inode with a handle says of a file
+abbrev pub IsRight : ℕ → Outline → Type 0
+IsRight handle (Dead claims) = Unit {0}
+IsRight handle (OfFile outline) = (outline.handle ≡ handle) × AreRight outline.parts
 
 -- The tree of a regular file's inode has these pieces, to each of which its root leads, and these are its claims.
 pub record HasRegular (chunks : Chunks) (inode : Inode) (pieces : List Piece) (claims : List Claim) : Type 0 where
@@ -44,7 +45,7 @@ ArePartsOf chunks handle inode (Pieces kept pieces) claims = (kept ≡ inode) ×
 -- the outline is that of the inode with a handle
 abbrev pub IsOutlineOf : Chunks → ℕ → Inode → Outline → Type 0
 IsOutlineOf chunks handle inode (Dead claims) = HasBodyOf chunks handle inode None claims.items
-IsOutlineOf chunks handle inode (OfFile outline) = (outline.handle ≡ handle) × ArePartsOf chunks handle inode outline.parts outline.claims.items
+IsOutlineOf chunks handle inode (OfFile outline) = ArePartsOf chunks handle inode outline.parts outline.claims.items
 
 -- ---- by a handle
 
@@ -57,10 +58,10 @@ ArePartsAt chunks handle (Pieces inode pieces) claims = IsInodeAt chunks handle 
 abbrev pub IsFileOutline : Chunks → FileOutline → Type 0
 IsFileOutline chunks outline = ArePartsAt chunks outline.handle outline.parts outline.claims.items
 
--- the handle names a dead inode with these claims, or one with this outline
+-- the handle names a dead inode with these claims, or a file's whose tree is as the outline says
 abbrev pub IsOutlineAt : Chunks → ℕ → Outline → Type 0
 IsOutlineAt chunks handle (Dead claims) = IsReadAs chunks handle None claims.items
-IsOutlineAt chunks handle (OfFile outline) = (outline.handle ≡ handle) × IsFileOutline chunks outline
+IsOutlineAt chunks handle (OfFile outline) = ArePartsAt chunks handle outline.parts outline.claims.items
 
 -- The handle names a file's inode, of which some file is read with these claims.
 pub record IsReadable (chunks : Chunks) (handle : ℕ) (claims : List Claim) : Type 0 where

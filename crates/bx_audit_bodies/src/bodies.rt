@@ -76,7 +76,7 @@ pub(crate) fn regular_of<B: Blocks>(
     requires inode { IsInode inode }
     requires kind { inode.kind ≡ 1 }
     ensures ok { (chunks : Chunks) → Shows (B.tells blocks.old) areas (B.stands blocks.old) chunks → IfOk result (IsOutlineOf chunks handle inode) }
-    ensures right { IfOk result IsRight }
+    ensures right { IfOk result (IsRight handle) }
     ensures torn { (chunks : Chunks) → Shows (B.tells blocks.old) areas (B.stands blocks.old) chunks
         → IfTorn result (λ at found wanted. (owner : ℕ → Owner) (tree : PageTree) (file : Option Kept) → IsBodyOf chunks owner handle inode tree file → ⊥) }
     ensures part { (chunks : Chunks) → Shows (B.tells blocks.old) areas (B.stands blocks.old) chunks → IfTorn result (λ at found wanted. IsPartWith chunks handle inode.tree wanted) }
@@ -113,7 +113,7 @@ pub(crate) fn directory_of<B: Blocks>(
     requires inode { IsInode inode.now }
     requires kind { inode.now.kind ≡ 2 }
     ensures ok { (chunks : Chunks) → Shows (B.tells blocks.old) areas (B.stands blocks.old) chunks → IfOk result (IsOutlineOf chunks handle inode.now) }
-    ensures right { IfOk result IsRight }
+    ensures right { IfOk result (IsRight handle) }
     ensures torn { (chunks : Chunks) → Shows (B.tells blocks.old) areas (B.stands blocks.old) chunks
         → IfTorn result (λ at found wanted. (owner : ℕ → Owner) (tree : PageTree) (file : Option Kept) → IsBodyOf chunks owner handle inode.now tree file → ⊥) }
     ensures part { (chunks : Chunks) → Shows (B.tells blocks.old) areas (B.stands blocks.old) chunks → IfTorn result (λ at found wanted. IsPartWith chunks handle inode.now.tree wanted) }
@@ -146,7 +146,7 @@ pub(crate) fn link_of(alloc: Global, handle: u64, inode: &Inode) -> Result<Outli
     requires inode { IsInode inode.now }
     requires kind { inode.now.kind ≡ 5 }
     ensures ok { (chunks : Chunks) → IfOk result (IsOutlineOf chunks handle inode.now) }
-    ensures right { IfOk result IsRight }
+    ensures right { IfOk result (IsRight handle) }
     ensures torn { (chunks : Chunks) → IfTorn result (λ at found wanted. (owner : ℕ → Owner) (tree : PageTree) (file : Option Kept) → IsBodyOf chunks owner handle inode.now tree file → ⊥) }
     ensures part { IfTorn result (λ at found wanted. wanted ≡ handle) }
     ensures fault { (chunks : Chunks) → IfTorn result (λ at found wanted. HasFaultIn chunks handle inode.now wanted) }
@@ -178,7 +178,7 @@ pub(crate) fn dead_of<B: Blocks>(
     requires inode { IsInode inode.now }
     requires kind { inode.now.kind ≡ 0 }
     ensures ok { (chunks : Chunks) → Shows (B.tells blocks.old) areas (B.stands blocks.old) chunks → IfOk result (IsOutlineOf chunks handle inode.now) }
-    ensures right { IfOk result IsRight }
+    ensures right { IfOk result (IsRight handle) }
     ensures torn { (chunks : Chunks) → Shows (B.tells blocks.old) areas (B.stands blocks.old) chunks
         → IfTorn result (λ at found wanted. (owner : ℕ → Owner) (tree : PageTree) (file : Option Kept) → IsBodyOf chunks owner handle inode.now tree file → ⊥) }
     ensures part { (chunks : Chunks) → Shows (B.tells blocks.old) areas (B.stands blocks.old) chunks → IfTorn result (λ at found wanted. IsPartWith chunks handle inode.now.tree wanted) }

@@ -36,7 +36,7 @@ pub fn outline_of<B: Blocks>(
     requires areas { B.areas blocks.old ≡ areas }
     requires most { areas ≤ 64 }
     ensures ok { (chunks : Chunks) → Shows (B.tells blocks.old) areas (B.stands blocks.old) chunks → IfOk result (IsOutlineAt chunks handle) }
-    ensures right { IfOk result IsRight }
+    ensures right { IfOk result (IsRight handle) }
     ensures torn { (chunks : Chunks) → Shows (B.tells blocks.old) areas (B.stands blocks.old) chunks
         → IfTorn result (λ at found wanted. (owner : ℕ → Owner) (stored : Stored) (file : Option Kept) → IsStored chunks owner handle stored file → ⊥) }
     ensures names { (chunks : Chunks) → Shows (B.tells blocks.old) areas (B.stands blocks.old) chunks → chunks handle ≡ None → IfTorn result (λ at found wanted. wanted ≡ handle) }
@@ -112,8 +112,8 @@ pub fn file_of<B: Blocks>(
     ensures keeps_ready { B.ready blocks.new }
     ensures keeps_telling { B.tells blocks.old → B.tells blocks.new }
 {
-    let handle = outline.handle;
-    match outline.parts {
+    let FileOutline { handle, parts, .. } = outline;
+    match parts {
         Parts::Whole(file) => Ok(file),
         Parts::Pieces(inode, pieces) => {
             let content = bytes_of(alloc, blocks, areas, &pieces, inode.size as u32, inode.tail)?;

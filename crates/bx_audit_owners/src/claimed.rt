@@ -48,9 +48,11 @@ pub(crate) fn claimed_file<B: Blocks>(
     ensures keeps_telling { B.tells blocks.old → B.tells blocks.new }
 {
     let claims = outline.claims.as_slice();
-    if let Err(error) = put_inode(holders, outline.handle, Holder::File, claims) {
-        check_file(blocks, areas, &outline)?;
-        return Err(error);
+    match put_inode(holders, outline.handle, Holder::File, claims) {
+        Ok(()) => file_of(alloc, blocks, areas, outline),
+        Err(error) => {
+            check_file(blocks, areas, &outline)?;
+            Err(error)
+        }
     }
-    file_of(alloc, blocks, areas, outline)
 }

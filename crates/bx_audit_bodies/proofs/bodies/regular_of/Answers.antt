@@ -16,7 +16,7 @@ returns-in_err-pieces-clause-torn g c = λ chunks shows.
     (c.in_err-pieces.ensures.torn chunks shows)
 
 pub returns-clause-ok : goal.returns-clause-ok
-returns-clause-ok g c = λ chunks shows. (refl, (refl, record { has = c.in_ok-pieces.ensures.ok chunks shows; led = c.in_ok-pieces.ensures.led chunks shows }))
+returns-clause-ok g c = λ chunks shows. (refl, record { has = c.in_ok-pieces.ensures.ok chunks shows; led = c.in_ok-pieces.ensures.led chunks shows })
 
 pub returns-in_err-pieces-clause-part : goal.returns-in_err-pieces-clause-part
 returns-in_err-pieces-clause-part g c = λ chunks shows.

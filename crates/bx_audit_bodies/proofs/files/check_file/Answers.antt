@@ -19,10 +19,10 @@ returns-in-Pieces-clause-ok g c = λ chunks shows is.
     let outline = c.args.outline.now in
     let right = subst AreRight c.in-Pieces.is c.requires.right in
     let at = subst (λ (p : Parts). ArePartsAt chunks outline.handle p outline.claims.items) c.in-Pieces.is is in
-    let inode = c.in-Pieces.inode.now in
-    let pieces = c.in-Pieces.pieces.now.items in
+    let inode = c.in-Pieces.inode in
+    let pieces = c.in-Pieces.pieces.items in
     ok_too _ _ c.check_pieces.result
-    (λ clear. readable chunks shows.none outline.handle inode pieces outline.claims.items at.0 at.1 right.1.0 right.0 right.1.1
+    (λ clear. readable chunks shows.none outline.handle inode pieces outline.claims.items at.0 at.1 right.1 right.0 right.2
     (subst (All (HasClear chunks inode.tail)) c.deref.ensures.value clear))
     (c.check_pieces.ensures.ok chunks shows)
 
@@ -31,9 +31,9 @@ returns-in-Pieces-clause-torn g c = λ chunks shows is.
     let outline = c.args.outline.now in
     let right = subst AreRight c.in-Pieces.is c.requires.right in
     let at = subst (λ (p : Parts). ArePartsAt chunks outline.handle p outline.claims.items) c.in-Pieces.is is in
-    let inode = c.in-Pieces.inode.now in
-    let pieces = c.in-Pieces.pieces.now.items in
+    let inode = c.in-Pieces.inode in
+    let pieces = c.in-Pieces.pieces.items in
     torn_too _ _ c.check_pieces.result
-    (λ block found wanted torn. unread chunks shows.none outline.handle inode pieces outline.claims.items at.0 at.1 right.1.0 wanted
+    (λ block found wanted torn. unread chunks shows.none outline.handle inode pieces outline.claims.items at.0 at.1 right.1 wanted
     (subst (λ (l : List Piece). IsUnclearPiece chunks l inode.tail wanted) c.deref.ensures.value torn))
     (c.check_pieces.ensures.wrong chunks shows)

@@ -50,13 +50,13 @@ pub returns-in-5-clause-torn : goal.returns-in-5-clause-torn
 returns-in-5-clause-torn g c = λ chunks shows.
     torn_too _ _ c.link_of.result (λ at found wanted never. not_stored chunks c.args.handle c.in_ok-inode.inode (c.in_ok-inode.ensures.ok chunks shows) never) (c.link_of.ensures.torn chunks)
 
-pub returns-clause-ok : goal.returns-clause-ok
-returns-clause-ok g c = λ chunks shows.
+pub returns-in_default-clause-ok : goal.returns-in_default-clause-ok
+returns-in_default-clause-ok g c = λ chunks shows.
     if_ok _ _ c.dead_of.result (outlined chunks c.args.handle c.in_ok-inode.inode (c.in_ok-inode.ensures.ok chunks shows))
     (c.dead_of.ensures.ok chunks (c.in_ok-inode.ensures.shows chunks shows))
 
-pub returns-clause-torn : goal.returns-clause-torn
-returns-clause-torn g c = λ chunks shows.
+pub returns-in_default-clause-torn : goal.returns-in_default-clause-torn
+returns-in_default-clause-torn g c = λ chunks shows.
     torn_too _ _ c.dead_of.result (λ at found wanted never. not_stored chunks c.args.handle c.in_ok-inode.inode (c.in_ok-inode.ensures.ok chunks shows) never)
     (c.dead_of.ensures.torn chunks (c.in_ok-inode.ensures.shows chunks shows))
 
@@ -69,8 +69,8 @@ returns-in-2-clause-names g c = λ chunks shows none. let is = c.in_ok-inode.ens
 pub returns-in-5-clause-names : goal.returns-in-5-clause-names
 returns-in-5-clause-names g c = λ chunks shows none. let is = c.in_ok-inode.ensures.ok chunks shows in absurd (not_both (chunks c.args.handle) is.block is.chunk none)
 
-pub returns-clause-names : goal.returns-clause-names
-returns-clause-names g c = λ chunks shows none. let is = c.in_ok-inode.ensures.ok chunks shows in absurd (not_both (chunks c.args.handle) is.block is.chunk none)
+pub returns-in_default-clause-names : goal.returns-in_default-clause-names
+returns-in_default-clause-names g c = λ chunks shows none. let is = c.in_ok-inode.ensures.ok chunks shows in absurd (not_both (chunks c.args.handle) is.block is.chunk none)
 
 pub returns-in_err-inode-clause-part : goal.returns-in_err-inode-clause-part
 returns-in_err-inode-clause-part g c = λ chunks shows.
@@ -86,8 +86,8 @@ returns-in-2-clause-part g c = λ chunks shows. torn_too _ _ c.directory_of.resu
 pub returns-in-5-clause-part : goal.returns-in-5-clause-part
 returns-in-5-clause-part g c = λ chunks shows. torn_too _ _ c.link_of.result (λ at found wanted itself. inl itself) (c.link_of.ensures.part)
 
-pub returns-clause-part : goal.returns-clause-part
-returns-clause-part g c = λ chunks shows. torn_too _ _ c.dead_of.result (λ at found wanted. ⊎_elim (λ itself. inl itself) (λ led. inr (c.in_ok-inode.inode, c.in_ok-inode.ensures.ok chunks shows, led))) (c.dead_of.ensures.part chunks (c.in_ok-inode.ensures.shows chunks shows))
+pub returns-in_default-clause-part : goal.returns-in_default-clause-part
+returns-in_default-clause-part g c = λ chunks shows. torn_too _ _ c.dead_of.result (λ at found wanted. ⊎_elim (λ itself. inl itself) (λ led. inr (c.in_ok-inode.inode, c.in_ok-inode.ensures.ok chunks shows, led))) (c.dead_of.ensures.part chunks (c.in_ok-inode.ensures.shows chunks shows))
 
 pub returns-in-1-clause-shows : goal.returns-in-1-clause-shows
 returns-in-1-clause-shows g c = λ chunks shows. c.regular_of.ensures.shows chunks (c.in_ok-inode.ensures.shows chunks shows)
@@ -95,16 +95,16 @@ returns-in-1-clause-shows g c = λ chunks shows. c.regular_of.ensures.shows chun
 pub returns-in-2-clause-shows : goal.returns-in-2-clause-shows
 returns-in-2-clause-shows g c = λ chunks shows. c.directory_of.ensures.shows chunks (c.in_ok-inode.ensures.shows chunks shows)
 
-pub returns-clause-shows : goal.returns-clause-shows
-returns-clause-shows g c = λ chunks shows. c.dead_of.ensures.shows chunks (c.in_ok-inode.ensures.shows chunks shows)
+pub returns-in_default-clause-shows : goal.returns-in_default-clause-shows
+returns-in_default-clause-shows g c = λ chunks shows. c.dead_of.ensures.shows chunks (c.in_ok-inode.ensures.shows chunks shows)
 
 pub returns-in_err-inode-clause-dead : goal.returns-in_err-inode-clause-dead
 returns-in_err-inode-clause-dead g c = λ chunks shows inode is zero.
     let p = err_from_is_err_and c.from_residual.result c.from_residual.ensures.1 in
     if_torn _ _ c.in_err-inode.field-0.0 c.from_residual.result (p.1 ∙ ap Err p.2) (λ at found wanted never. absurd (never inode is)) (c.in_err-inode.ensures.torn chunks shows)
 
-pub returns-clause-dead : goal.returns-clause-dead
-returns-clause-dead g c = λ chunks shows inode is zero.
+pub returns-in_default-clause-dead : goal.returns-in_default-clause-dead
+returns-in_default-clause-dead g c = λ chunks shows inode is zero.
     subst (λ (i : Inode). IfTorn c.dead_of.result (λ at found wanted. IsTornDead chunks i.tree wanted)) (sym (same_at chunks c.args.handle c.in_ok-inode.inode (c.in_ok-inode.ensures.ok chunks shows) inode is))
     (c.dead_of.ensures.first chunks (c.in_ok-inode.ensures.shows chunks shows))
 
@@ -146,7 +146,7 @@ pub returns-in-5-clause-fault : goal.returns-in-5-clause-fault
 returns-in-5-clause-fault g c = λ chunks shows.
     torn_too _ _ c.link_of.result (λ at found wanted fault. Within c.in_ok-inode.inode (c.in_ok-inode.ensures.ok chunks shows) fault) (c.link_of.ensures.fault chunks)
 
-pub returns-clause-fault : goal.returns-clause-fault
-returns-clause-fault g c = λ chunks shows.
+pub returns-in_default-clause-fault : goal.returns-in_default-clause-fault
+returns-in_default-clause-fault g c = λ chunks shows.
     torn_too _ _ c.dead_of.result (λ at found wanted fault. Within c.in_ok-inode.inode (c.in_ok-inode.ensures.ok chunks shows) fault)
     (c.dead_of.ensures.fault chunks (c.in_ok-inode.ensures.shows chunks shows))

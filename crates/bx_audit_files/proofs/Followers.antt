@@ -15,7 +15,7 @@ use Rattle.bx_tree_files.specs.Entries.{AreBelow, entry_named}
 use Rattle.bx_truth.specs.Keys.{name_key, name_value}
 use Rattle.bx_truth.specs.Stored.{AreNames}
 use Rattle.bx_truth.proofs.PieceKeys.{not_yes}
-use Rattle.bx_audit_bodies.specs.Lists.{AreListed, CanFollow}
+use Rattle.bx_audit_files.specs.Lists.{AreListed, CanFollow}
 
 pub all_below : (least more : ℕ) (names : List Name) → least ≤ more → AreBelow least names → AreBelow more names
 all_below least more [] le below = tt

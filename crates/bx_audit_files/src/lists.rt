@@ -1,14 +1,14 @@
 //! The entries of directories as files have them.
 
 ghost use Rattle.std.specs.Prelude.{◌≡◌, ◌++◌, ◌+◌, ◌<◌, ◌≤◌, ℕ, List, [], ◌∷◌, IfOk, IfSome, IfNone, IsTrue, IsFalse, None};
-ghost use Rattle.bx_audit_bodies.specs.Lists.{AreListed, CanFollow};
+ghost use Rattle.bx_audit_files.specs.Lists.{AreListed, CanFollow};
 ghost use Rattle.bx_audit_trees.specs.Trees.{tree_of};
 ghost use Rattle.bx_tree_files.specs.declared.file.Name.{Name as Named};
 ghost use Rattle.bx_tree_files.specs.Entries.{AreBelow, entry_named};
 ghost use Rattle.bx_truth.specs.PageTrees.{Chunks, IsTree, map_of};
 ghost use Rattle.bx_truth.specs.Stored.{AreNames};
 
-use bx_audit_files::names_of;
+use crate::names::names_of;
 use bx_audit_trees::ReadTree;
 use bx_base::OutOfMemory;
 use bx_tree_files::{Name, NameList};
@@ -16,7 +16,7 @@ use std::alloc::Global;
 
 /// The entries of a directory off its tree, whose numbers are below the next one. `None` exactly where the tree isn't one of such
 /// entries.
-pub(crate) fn entries_of(
+pub fn entries_of(
     alloc: Global,
     tree: &ReadTree,
     next: u32,

@@ -1,8 +1,8 @@
 use Rattle.std.proofs.Common.{◌≡◌, suc, ◌-◌, ◌<◌, take, get_or}
 use Rattle.bx_tree_files.specs.declared.file.Name.{Name}
 use Rattle.bx_tree_files.specs.Entries.{AreBelow}
-use Rattle.bx_audit_bodies.specs.Lists.{AreListed}
-use Rattle.bx_audit_bodies.proofs.lists.list_of.Given as goal
+use Rattle.bx_audit_files.specs.Lists.{AreListed}
+use Rattle.bx_audit_files.proofs.lists.list_of.Given as goal
 
 abbrev pub invariant-loop-name : goal.invariant-loop-name
 invariant-loop-name l = record {

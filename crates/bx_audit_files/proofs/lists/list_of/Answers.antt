@@ -2,9 +2,9 @@ use Rattle.std.proofs.Common.{◌≡◌, ℕ, ◌+◌, ◌-◌, List, [], ◌∷
 use Rattle.std.proofs.lemmas.List.{take_more, get_or_read}
 use Rattle.bx_tree_files.specs.declared.file.Name.{Name}
 use Rattle.bx_tree_files.specs.Entries.{AreBelow}
-use Rattle.bx_audit_bodies.specs.Lists.{AreListed, CanFollow}
-use Rattle.bx_audit_bodies.proofs.Followers.{all_below, below_push, follows, one_listed}
-use Rattle.bx_audit_bodies.proofs.lists.list_of.Goals as goal
+use Rattle.bx_audit_files.specs.Lists.{AreListed, CanFollow}
+use Rattle.bx_audit_files.proofs.Followers.{all_below, below_push, follows, one_listed}
+use Rattle.bx_audit_files.proofs.lists.list_of.Goals as goal
 
 pub returns-then-not-branch-clause-none : goal.returns-then-not-branch-clause-none
 returns-then-not-branch-clause-none c = λ listed.

@@ -4,11 +4,10 @@ use Rattle.bx_truth.specs.PageTrees.{map_of}
 use Rattle.bx_truth.specs.Stored.{AreNames}
 use Rattle.bx_truth.proofs.OneFile.{one_names}
 use Rattle.bx_audit_trees.specs.Trees.{tree_of}
-use Rattle.bx_audit_files.proofs.NamesOfTrees.{if_ok}
-use Rattle.bx_audit_bodies.specs.Lists.{AreListed}
-use Rattle.bx_audit_bodies.proofs.Cases.{if_some, if_none}
-use Rattle.bx_audit_bodies.proofs.Followers.{names_listed}
-use Rattle.bx_audit_bodies.proofs.lists.entries_of.Goals as goal
+use Rattle.bx_audit_files.proofs.NamesOfTrees.{if_none, if_ok, if_some}
+use Rattle.bx_audit_files.specs.Lists.{AreListed}
+use Rattle.bx_audit_files.proofs.Followers.{names_listed}
+use Rattle.bx_audit_files.proofs.lists.entries_of.Goals as goal
 
 pub returns-in_default-clause-none : goal.returns-in_default-clause-none
 returns-in_default-clause-none c = λ chunks root is names are below.

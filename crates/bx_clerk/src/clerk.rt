@@ -2,6 +2,7 @@
 
 ghost use Rattle.std.specs.Prelude.{◌≡◌, ◌++◌, max, IfOk, IsSome, OnOk};
 ghost use Rattle.bx_facts.specs.Holds.{first_of};
+ghost use Rattle.bx_facts.specs.Inputs.{IsOwners, SendsOnly};
 ghost use Rattle.bx_clerk.specs.Clerks.{asked_back, asking, asking_words, end_as, giving_up, giving_words, letters_of, made, restarted};
 ghost use Rattle.bx_clerk.specs.Events.{Hears, Takes, Ticks};
 ghost use Rattle.bx_clerk.specs.Requests.{hold_of, request_in, wish_of};
@@ -174,6 +175,7 @@ impl Clerk {
         out: &mut Outbox,
     ) -> Result<Option<Change>, OutOfMemory>
         ensures takes { IfOk result (λ change. Takes self.old known.now input.now self.new change out.old out.new) }
+        ensures sent { OnOk result (SendsOnly IsOwners out.old out.new) }
     {
         self.learn(known);
         match input {

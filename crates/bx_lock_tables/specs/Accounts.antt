@@ -1,5 +1,5 @@
 -- What a lock server keeps of each session.
-use Rattle.std.specs.Prelude.{◌≡◌, ℕ, zero, suc, ltb, ◌==◌, Bool, true, false, nat_eq, filter_map, List, [], ◌∷◌, slice_get, slice_set, Option, Some, None, if◌then◌else◌}
+use Rattle.std.specs.Prelude.{◌≡◌, ℕ, zero, suc, ltb, ◌==◌, Bool, true, false, nat_eq, filter_map, List, [], ◌∷◌, slice_index_or, slice_set, Option, Some, None, if◌then◌else◌}
 use Rattle.std.specs.Map.{lookup}
 use Rattle.indexmap.specs.IndexMap.{insert_entry}
 use Rattle.bx_global.specs.declared.state.GlobalState.{GlobalState}
@@ -50,7 +50,7 @@ is_of (Some account) session = account.session == session
 
 -- A session has an account: it is here, and whatever is put here is put in its place.
 pub record Opens (old : List Account) (session at : ℕ) (new : List Account) : Type 0 where
-  pub here : slice_get new at ≡ Some (account_for old session)
+  pub here : (default : Account) → slice_index_or new at default ≡ account_for old session
   pub puts : (account : Account) → account.session ≡ session → slice_set new at account ≡ with_account old account
 
 -- ---- what is read off them

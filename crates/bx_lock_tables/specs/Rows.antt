@@ -1,5 +1,5 @@
 -- What was granted of a block, and what becomes of a want.
-use Rattle.std.specs.Prelude.{◌≡◌, ℕ, ltb, ◌==◌, ◌&&◌, ◌||◌, not, Bool, true, false, find, List, [], ◌∷◌, Option, Some, None, if◌then◌else◌}
+use Rattle.std.specs.Prelude.{◌≡◌, ℕ, ltb, nat_le, ◌==◌, ◌&&◌, ◌||◌, not, Bool, true, false, find, List, [], ◌∷◌, Option, Some, None, if◌then◌else◌}
 use Rattle.std.specs.List.{list_any}
 use Rattle.bx_base.specs.declared.names.Mode.{Mode}
 use Rattle.bx_base.specs.declared.names.Mode.TheVariants.{Shared, Exclusive}
@@ -38,11 +38,15 @@ lives known session = is_alive (row_in known.sessions session)
 abbrev pub dead_has : GlobalState → List Row → Bool
 dead_has known rows = list_any (λ row. row.stands && not (lives known row.session)) rows
 
+-- a session up to this one has a row
+abbrev pub has_up_to : GlobalState → ℕ → Bool
+has_up_to known last = list_any (λ row. nat_le row.number last) known.sessions
+
 -- A session of an earlier term still has a row: it has every block. Those are the sessions up to the last one that was dead when the
 -- server came to know of the term.
 abbrev pub has_earlier : GlobalState → Option ℕ → Bool
 has_earlier known None = false
-has_earlier known (Some last) = list_any (λ row. not (ltb last row.number)) known.sessions
+has_earlier known (Some last) = has_up_to known last
 
 -- the number of what stands
 abbrev pub is_again : Option Row → Want → Bool

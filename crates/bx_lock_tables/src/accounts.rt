@@ -168,7 +168,8 @@ pub fn list_row(
     ensures { OnOk result (accounts.new.items ≡ listed session block row accounts.old.items) }
 {
     let at = find_or_add(alloc, accounts, session)?;
-    accounts[at].rows.put(block, row)
+    accounts[at].rows.put(block, row)?;
+    Ok(())
 }
 
 /// Whether a session has a row in a state.

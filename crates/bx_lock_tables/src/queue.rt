@@ -1,7 +1,7 @@
 //! Wants that wait, and what is asked back for them.
 
 ghost use Rattle.std.specs.Prelude.{◌≡◌, ◌++◌, filter, OnOk};
-ghost use Rattle.bx_lock_tables.specs.Queue.{has_newer, is_other, queued, revokes_for, still_waiting, without};
+ghost use Rattle.bx_lock_tables.specs.Queue.{has_newer, is_other, queued, revoke_of, revokes_for, still_waiting, without};
 
 use crate::rows::{Row, clash};
 use crate::verdict::is_live;

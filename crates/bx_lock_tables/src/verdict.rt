@@ -1,7 +1,7 @@
 //! Whether a want is granted.
 
 ghost use Rattle.std.specs.Prelude.{◌≡◌};
-ghost use Rattle.bx_lock_tables.specs.Rows.{dead_has, has_earlier, is_again, is_old, lives, verdict_of};
+ghost use Rattle.bx_lock_tables.specs.Rows.{dead_has, has_earlier, has_up_to, is_again, is_old, lives, verdict_of};
 
 use crate::rows::{Row, any_clash, find_row, mode_to};
 use bx_global::GlobalState;
@@ -29,18 +29,25 @@ pub fn is_live(known: &GlobalState, session: u64) -> bool
     }
 }
 
-/// Whether a session of an earlier term still has a row.
-fn any_earlier(known: &GlobalState, last_dead: Option<u64>) -> bool
-    ensures { result ≡ has_earlier known.now last_dead }
+/// Whether a session up to this one has a row.
+fn any_up_to(known: &GlobalState, last: u64) -> bool
+    ensures { result ≡ has_up_to known.now last }
 {
-    let Some(last) = last_dead else {
-        return false;
-    };
     known
         .sessions
         .items()
         .iter()
         .any(|row| row.number <= last)
+}
+
+/// Whether a session of an earlier term still has a row.
+fn any_earlier(known: &GlobalState, last_dead: Option<u64>) -> bool
+    ensures { result ≡ has_earlier known.now last_dead }
+{
+    match last_dead {
+        None => false,
+        Some(last) => any_up_to(known, last),
+    }
 }
 
 /// Whether a session that doesn't live has the block.

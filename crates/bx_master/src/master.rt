@@ -1,6 +1,7 @@
 //! Lock servers.
 
 ghost use Rattle.std.specs.Prelude.{◌≡◌, IfOk, OnOk};
+ghost use Rattle.bx_facts.specs.Inputs.{IsOwners, SendsOnly};
 ghost use Rattle.bx_master.specs.Events.{marking};
 ghost use Rattle.bx_master.specs.Masters.{made, restarted};
 ghost use Rattle.bx_master.specs.Steps.{Hears, Takes, Ticks};
@@ -64,6 +65,7 @@ impl Master {
         out: &mut Outbox,
     ) -> Result<Option<Change>, OutOfMemory>
         ensures takes { IfOk result (λ change. Takes self.old known.now input.now self.new change out.old out.new) }
+        ensures sent { OnOk result (SendsOnly IsOwners out.old out.new) }
     {
         match input {
             Input::Packet(packet, reading) => {

@@ -1,7 +1,6 @@
 //! Lock servers.
 
 ghost use Rattle.std.specs.Prelude.{◌≡◌, IfOk, OnOk};
-ghost use Rattle.bx_facts.specs.Inputs.{IsOwners, SendsOnly};
 ghost use Rattle.bx_master.specs.Events.{marking};
 ghost use Rattle.bx_master.specs.Masters.{made, restarted};
 ghost use Rattle.bx_master.specs.Steps.{Hears, Takes, Ticks};
@@ -57,6 +56,13 @@ impl Master {
         }
     }
 
+    /// Its number.
+    pub fn server(&self) -> u32
+        ensures { result ≡ self.now.server }
+    {
+        self.server
+    }
+
     /// Does one event, knowing this state; readings are in milliseconds. The change is one that it must propose.
     pub fn take(
         &mut self,
@@ -65,7 +71,6 @@ impl Master {
         out: &mut Outbox,
     ) -> Result<Option<Change>, OutOfMemory>
         ensures takes { IfOk result (λ change. Takes self.old known.now input.now self.new change out.old out.new) }
-        ensures sent { OnOk result (SendsOnly IsOwners out.old out.new) }
     {
         match input {
             Input::Packet(packet, reading) => {
@@ -87,12 +92,13 @@ impl Master {
     ) -> Result<(), OutOfMemory>
         ensures { OnOk result (Hears self.old known.now packet.now.kind reading packet.now.body self.new out.old out.new) }
     {
-        let server = self.server;
+        let server = self.server();
         let said = Word::read(packet.kind, packet.body.bytes());
         let mut words = Vec::new(self.alloc);
         self.catch_up(known, reading, &mut words)?;
         self.hear_as(known, reading, &said, &mut words)?;
-        send_each(self.alloc, server, known, &words, out)
+        send_each(self.alloc, server, known, words.as_slice(), out)?;
+        Ok(())
     }
 
     /// Takes a tick.
@@ -104,13 +110,13 @@ impl Master {
     ) -> Result<Option<Change>, OutOfMemory>
         ensures { IfOk result (λ change. Ticks self.old known.now reading self.new change out.old out.new) }
     {
-        let server = self.server;
+        let server = self.server();
         let mut words = Vec::new(self.alloc);
         self.catch_up(known, reading, &mut words)?;
         self.tick(known, &mut words)?;
         let change = self.change_of(known, reading);
         self.mark(&change)?;
-        send_each(self.alloc, server, known, &words, out)?;
+        send_each(self.alloc, server, known, words.as_slice(), out)?;
         Ok(change)
     }
 

@@ -29,11 +29,11 @@ none_unanswered member (Some inquiry ∷ []) one none = absurd cc
 none_unanswered member (first ∷ (second ∷ others)) one none = absurd (omega (arith, one))
 
 none_of : (there up due unanswered : Bool) → due ≡ false → unanswered ≡ false → (there && up && (due || unanswered)) ≡ true → ⊥
-none_of false up due unanswered none no waits = absurd cc
-none_of true false due unanswered none no waits = absurd cc
-none_of true true true unanswered none no waits = absurd cc
-none_of true true false true none no waits = absurd cc
-none_of true true false false none no waits = absurd cc
+none_of false up due unanswered due_none unanswered_none waits = absurd cc
+none_of true false due unanswered due_none unanswered_none waits = absurd cc
+none_of true true true unanswered due_none unanswered_none waits = absurd cc
+none_of true true false true due_none unanswered_none waits = absurd cc
+none_of true true false false due_none unanswered_none waits = absurd cc
 
 pub waits_busy : (machine : LoneMachine) (sizes : List ℕ) (member : ℕ) → IsReady machine sizes → member_waits machine member ≡ true → machine.node.stage ≢ Idle
 waits_busy machine sizes member ready waits idle =

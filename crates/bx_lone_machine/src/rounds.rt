@@ -42,10 +42,12 @@ impl LoneMachine {
         ensures keeps_telling { B.tells bench.old → B.tells bench.new }
     {
         // What is out after a fault keeps the node from going on: a turn would do nothing.
-        if !self.sync_member(bench, 0)? {
+        let first = self.sync_member(bench, 0)?;
+        if !first {
             return Ok(None);
         }
-        if !self.sync_member(bench, 1)? {
+        let second = self.sync_member(bench, 1)?;
+        if !second {
             return Ok(None);
         }
         let acted = turn(&mut self.node, &mut self.store, &self.engine, moment)?;

@@ -65,7 +65,7 @@ impl LoneService {
         ensures back { is_returning self.old.stage ≡ false → OnOk result (is_returning self.new.stage ≡ false) }
         ensures returns { (tree : Tree) (doubt : Option Doubt) → B.tells bench.old → IsHolding self.old.stage (B.state bench.old) tree doubt → (Rose (B.faults bench.old) (B.faults bench.new) → ⊥)
             → IfOk result (λ found. IfNone found (is_returning self.new.stage ≡ false)) }
-        ensures found { IfOk result (λ found. IfSome found (B.faults bench.new ≡ B.faults bench.old)) }
+        ensures found { IfOk result (λ found. IfSome found (λ point. B.faults bench.new ≡ B.faults bench.old)) }
         ensures memory { OnErr result (B.faults bench.new ≡ B.faults bench.old) }
         ensures restarts { (tree : Tree) (doubt : Option Doubt) → B.tells bench.old → IsHolding self.old.stage (B.state bench.old) tree doubt
             → IfOk result (Restarts (IsHolding self.new.stage (B.state bench.new)) (waits_of self.new.stage) tree doubt) }

@@ -1,5 +1,5 @@
 -- A disk is looked at, and then synced or written.
-use Rattle.std.proofs.Common.{◌≡◌, ℕ, List, refl, sym, ◌∙◌, ap, subst}
+use Rattle.std.proofs.Common.{◌≡◌, ℕ, subst}
 use Rattle.bx_calls.specs.Calls.{HasSure, KeepsAll, KeepsSure, LeavesOnly}
 use Rattle.bx_calls.specs.Laws.{image_has, leaves_implies, leaves_then}
 use Rattle.bx_disk.specs.Disks.{Disks, Image, IsImage}

@@ -1,4 +1,4 @@
-use Rattle.std.proofs.Common.{ℕ, List, ◌∙◌, ◌/◌, length, refl, sym, ap, subst, arith}
+use Rattle.std.proofs.Common.{ℕ, List, ◌∙◌, sym, ap, arith}
 use Rattle.bx_calls.specs.Laws.{keeps_all}
 use Rattle.bx_disk.specs.Disks.{Disks}
 use Rattle.bx_members.proofs.Kept.{first_sector}

@@ -1,4 +1,4 @@
-use Rattle.std.proofs.Common.{◌≡◌, ℕ, ◌+◌, ◌<◌, [], ◌∷◌, Bool, Contains, refl, sym, ap, ◌∙◌, subst, arith}
+use Rattle.std.proofs.Common.{ℕ, ◌<◌, [], ◌∷◌, Contains, refl, sym, ap, ◌∙◌, subst, arith}
 use Rattle.bx_calls.specs.Laws.{inside_by, keeps_part}
 use Rattle.bx_facts.specs.Writes.{member_disk}
 use Rattle.bx_members.proofs.Kept.{keeps_then, leaves_next}

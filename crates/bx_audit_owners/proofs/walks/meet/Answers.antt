@@ -90,3 +90,15 @@ returns-clause-step g c =
     c.in_ok-put_file.ensures.with c.in_ok-put_names.ensures
     (ap (λ h. h c.args.handle) same ∙ adds.itself) (λ at was. ap (λ h. h at) same ∙ adds.still at OfFile was)
     (λ at dead. none_dead before now c.args.handle claims (length claims) adds at (sym (ap (λ h. h at) same) ∙ dead))
+
+pub returns-in_err-file-clause-shows : goal.returns-in_err-file-clause-shows
+returns-in_err-file-clause-shows g c = λ chunks shows. c.in_err-file.ensures.shows chunks (c.in_ok-outline.ensures.shows chunks shows)
+
+pub returns-in_err-put_names-clause-shows : goal.returns-in_err-put_names-clause-shows
+returns-in_err-put_names-clause-shows g c = λ chunks shows. c.in_ok-file.ensures.shows chunks (c.in_ok-outline.ensures.shows chunks shows)
+
+pub returns-in_err-put_file-clause-shows : goal.returns-in_err-put_file-clause-shows
+returns-in_err-put_file-clause-shows g c = λ chunks shows. c.in_ok-file.ensures.shows chunks (c.in_ok-outline.ensures.shows chunks shows)
+
+pub returns-clause-shows : goal.returns-clause-shows
+returns-clause-shows g c = λ chunks shows. c.in_ok-file.ensures.shows chunks (c.in_ok-outline.ensures.shows chunks shows)

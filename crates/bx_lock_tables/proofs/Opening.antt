@@ -57,8 +57,8 @@ set_there (x ∷ xs) s a e same = (elim (ltb x.session s) as (λ b. ltb x.sessio
 pub opens_there : (xs : List Account) (s at : ℕ) → at ≡ place xs s → is_of (slice_get xs at) s ≡ true → Opens xs s at xs
 opens_there xs s at is e =
     subst (λ (n : ℕ). Opens xs s n xs) (sym is)
-        (let there : is_of (slice_get xs (place xs s)) s ≡ true = subst (λ (n : ℕ). is_of (slice_get xs n) s ≡ true) is e in
-         record { here = λ d. get_there xs s d there; puts = λ a same. set_there xs s a there same })
+    (let there : is_of (slice_get xs (place xs s)) s ≡ true = subst (λ (n : ℕ). is_of (slice_get xs n) s ≡ true) is e in
+    record { here = λ d. get_there xs s d there; puts = λ a same. set_there xs s a there same })
 
 -- ---- there is none yet
 
@@ -106,5 +106,5 @@ mark_put old new s at a opens is = opens.puts (record a { expiring = true }) (ap
 pub row_put : (old new : List Account) (s at block : ℕ) (row : Row) (a : Account) (rows : List (ℕ × Row)) → Opens old s at new → a ≡ account_for old s → rows ≡ insert_entry nat_eq a.rows block row → slice_set new at (record a { rows = rows }) ≡ listed s block row old
 row_put old new s at block row a rows opens is put =
     opens.puts (record a { rows = rows }) (ap (λ (x : Account). x.session) is ∙ own_session old s)
-        ∙ ap (λ (l : List (ℕ × Row)). with_account old (record a { rows = l })) put
-        ∙ ap (λ (x : Account). with_account old (record x { rows = insert_entry nat_eq x.rows block row })) is
+    ∙ ap (λ (l : List (ℕ × Row)). with_account old (record a { rows = l })) put
+    ∙ ap (λ (x : Account). with_account old (record x { rows = insert_entry nat_eq x.rows block row })) is

@@ -67,11 +67,7 @@ pub fn row_for(accounts: &[Account], session: u64, block: u64) -> Option<Row>
 }
 
 /// The rows of a block, in the order of the sessions.
-pub fn rows_at(
-    alloc: Global,
-    accounts: &[Account],
-    block: u64,
-) -> Result<Vec<Row>, OutOfMemory>
+pub fn rows_at(alloc: Global, accounts: &[Account], block: u64) -> Result<Vec<Row>, OutOfMemory>
     ensures { IfOk result (λ rows. rows.items ≡ rows_at accounts.now block) }
 {
     let mut rows = Vec::new(alloc);

@@ -8,7 +8,7 @@ mod rows;
 mod verdict;
 
 pub use accounts::{
-    Account, forget, is_expiring, list_row, mark_expiring, noted_end, note_end, row_for, rows_at,
+    Account, forget, is_expiring, list_row, mark_expiring, note_end, noted_end, row_for, rows_at,
 };
 pub use queue::{drop_request, enqueue, keep_live, push_revokes};
 pub use row_map::RowMap;

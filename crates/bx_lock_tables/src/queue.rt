@@ -20,9 +20,7 @@ fn is_other_request(want: &Want, other: &Want) -> bool
 fn is_newer_waiting(waiting: &[Want], want: &Want) -> bool
     ensures { result ≡ has_newer want.now waiting.now }
 {
-    waiting
-        .iter()
-        .any(|other| !is_other_request(want, other) && other.number >= want.number)
+    waiting.iter().any(|other| !is_other_request(want, other) && other.number >= want.number)
 }
 
 /// Drops the wants of a session and a block.

@@ -49,8 +49,7 @@ pub(crate) fn clash(mode: Mode, other: Mode) -> bool
 pub(crate) fn any_clash(rows: &[Row], session: u64, mode: Mode) -> bool
     ensures { result ≡ has_clash rows.now session mode }
 {
-    rows.iter()
-        .any(|row| row.stands && row.session != session && clash(mode, row.mode))
+    rows.iter().any(|row| row.stands && row.session != session && clash(mode, row.mode))
 }
 
 /// How a session gets a block that it wants so: exclusively, too, where it has it exclusively by an older request.

@@ -33,11 +33,7 @@ pub fn is_live(known: &GlobalState, session: u64) -> bool
 fn any_up_to(known: &GlobalState, last: u64) -> bool
     ensures { result ≡ has_up_to known.now last }
 {
-    known
-        .sessions
-        .items()
-        .iter()
-        .any(|row| row.number <= last)
+    known.sessions.items().iter().any(|row| row.number <= last)
 }
 
 /// Whether a session of an earlier term still has a row.

@@ -46,14 +46,7 @@ impl Master {
         ensures { IfOk result (λ verdict. verdict ≡ verdict_on known.now reading want.now self.now) }
     {
         let rows = rows_at(self.alloc, &self.accounts, want.block)?;
-        Ok(judge(
-            known,
-            self.last_dead,
-            self.index,
-            reading,
-            &rows,
-            want,
-        ))
+        Ok(judge(known, self.last_dead, self.index, reading, &rows, want))
     }
 
     /// Grants a want: a row is listed, and told.

@@ -1,2 +1,4 @@
 pub mod OneWord
+pub mod Numbers
+pub mod Plain
 pub mod Parses

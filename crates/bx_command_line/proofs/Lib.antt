@@ -1,4 +1,5 @@
-pub mod OneWord
+pub mod Lines
 pub mod Numbers
-pub mod Plain
+pub mod OneWord
 pub mod Parses
+pub mod Plain

@@ -1,6 +1,6 @@
 -- What `clap` makes of the words of a command line.
 use Rattle.std.proofs.Common.{◌≡◌, ℕ, ◌<◌, ◌^◌, ◌&&◌, Bool, List, [], ◌∷◌, ◌∙◌, ap, refl, sym, codes, true, false, arith}
-use Rattle.std.specs.Prelude.{Option, Some, None, decimal, option_map}
+use Rattle.std.specs.Prelude.{Option, Some, None, IfSome, decimal, option_map}
 use Rattle.clap.specs.Words.{HasMatchesOf, Row, Rule, Shape, Text, built, is_simple, subcommand_name_of, subcommand_of, takes}
 use Rattle.clap.specs.Simple.{new_shape}
 use Rattle.clap.specs.Takes.{default_passes, is_valid, level_passes, settle_passes, walk_passes}
@@ -11,7 +11,7 @@ use Rattle.clap.specs.declared.parser.matches.ArgMatches.TheViews.{out-ArgMatche
 use Rattle.clap.proofs.OnLiterals.{clap_on_literals}
 use Rattle.bx_command_line.specs.declared.command_line.CommandLine.{CommandLine}
 use Rattle.bx_command_line.specs.declared.command_line.CommandLine.TheVariants.{Replay, Format, Check}
-use Rattle.bx_command_line.specs.CommandLines.{AreInRange, Spell, grammar, words_of}
+use Rattle.bx_command_line.specs.CommandLines.{AreInRange, AreNone, AreWordsOf, Spell, grammar, words_of}
 use Rattle.bx_command_line.proofs.Plain.{IsPlain, between, both, passes, plain_decimal, steps}
 
 -- ---- `format` and three words
@@ -127,3 +127,36 @@ first_of_pair name rows (Some b) = refl
 pub names : (words : List Text) (m : ArgMatches) (line : CommandLine) → HasMatchesOf grammar words m → Spell words line → subcommand_name_of m ≡ Some (name_of line)
 names words m line matches spelled =
     sym (first_of_pair _ _ (out-ArgMatches m).subcommand) ∙ ap name_in ((matches is_simple_grammar).1 ∙ ap (subcommand_of grammar) spelled.are) ∙ enters line
+
+-- ---- what is left where the words aren't of one
+
+head_of : Text → ℕ
+head_of [] = 0
+head_of (c ∷ cs) = c
+
+module _ (words : List Text) (m : ArgMatches) (matches : HasMatchesOf grammar words m) where
+  same_name : (name : Text) (line : CommandLine) → subcommand_name_of m ≡ Some name → Spell words line → name ≡ name_of line
+  same_name name line named spelled = let found = names words m line matches spelled in let e : Some name ≡ Some (name_of line) = sym named ∙ found in cc
+
+  -- no subcommand was met
+  pub no_name : subcommand_name_of m ≡ None → AreNone words
+  no_name none line spelled = absurd (let found = names words m line matches spelled in let e : None ≡ Some (name_of line) = sym none ∙ found in cc)
+
+  -- it was none of these three, or isn't alone
+  pub others : (name : Text) → subcommand_name_of m ≡ Some name → (name ≡ codes "format" → ⊥) → (name ≡ codes "replay" → words ≡ name ∷ [] → ⊥) → (name ≡ codes "check" → words ≡ name ∷ [] → ⊥) → AreNone words
+  others name named no_format no_replay no_check Replay spelled =
+      let is = same_name name Replay named spelled in no_replay is (spelled.are ∙ ap (λ (w : Text). w ∷ []) (sym is))
+  others name named no_format no_replay no_check (Format volume devices areas) spelled = no_format (same_name name (Format volume devices areas) named spelled)
+  others name named no_format no_replay no_check Check spelled =
+      let is = same_name name Check named spelled in no_check is (spelled.are ∙ ap (λ (w : Text). w ∷ []) (sym is))
+
+  -- it was `format`
+  pub of_format : (name : Text) (found : Option CommandLine) → subcommand_name_of m ≡ Some name → name ≡ codes "format" → IfSome found (Spell words)
+      → (found ≡ None → (volume devices areas : ℕ) → Spell words (Format volume devices areas) → ⊥) → AreWordsOf words found
+  of_format name (Some line) named is some none = some
+  of_format name None named is some none = λ line spelled. by line spelled
+    where
+      by : (line : CommandLine) → Spell words line → ⊥
+      by Replay spelled = let e = ap head_of (sym is ∙ same_name name Replay named spelled) in omega (arith, e)
+      by (Format volume devices areas) spelled = none refl volume devices areas spelled
+      by Check spelled = let e = ap head_of (sym is ∙ same_name name Check named spelled) in omega (arith, e)

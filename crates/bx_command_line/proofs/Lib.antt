@@ -1,5 +1,5 @@
+pub mod Decimals
 pub mod Lines
-pub mod Numbers
-pub mod OneWord
 pub mod Parses
 pub mod Plain
+pub mod WordLists

@@ -1,5 +1,5 @@
 -- What `clap` makes of the words of a command line.
-use Rattle.std.proofs.Common.{◌≡◌, ℕ, ◌<◌, ◌^◌, ◌&&◌, Bool, List, [], ◌∷◌, ◌∙◌, ap, refl, sym, codes, true, false, arith}
+use Rattle.std.proofs.Common.{◌≡◌, ℕ, ◌&&◌, Bool, List, [], ◌∷◌, ◌∙◌, ap, refl, sym, codes, true, false, arith}
 use Rattle.std.specs.Prelude.{Option, Some, None, IfSome, decimal, option_map}
 use Rattle.clap.specs.Words.{HasMatchesOf, Row, Rule, Shape, Text, built, is_simple, subcommand_name_of, subcommand_of, takes}
 use Rattle.clap.specs.Simple.{new_shape}
@@ -12,7 +12,7 @@ use Rattle.clap.proofs.OnLiterals.{clap_on_literals}
 use Rattle.bx_command_line.specs.declared.command_line.CommandLine.{CommandLine}
 use Rattle.bx_command_line.specs.declared.command_line.CommandLine.TheVariants.{Replay, Format, Check}
 use Rattle.bx_command_line.specs.CommandLines.{AreInRange, AreNone, AreWordsOf, Spell, grammar, words_of}
-use Rattle.bx_command_line.proofs.Plain.{IsPlain, between, both, passes, plain_decimal, steps}
+use Rattle.bx_command_line.proofs.Plain.{IsPlain, both, passes, plain_decimal, steps}
 
 -- ---- `format` and three words
 
@@ -93,7 +93,7 @@ takes_words : (line : CommandLine) (words : List Text) → Spell words line → 
 takes_words Replay words spelled = takes_replay
 takes_words (Format volume devices areas) words spelled =
     let range : AreInRange volume devices areas = spelled.in_range in
-    takes_format (decimal volume) (decimal devices) (decimal areas) (plain_decimal volume range.volume)
+    takes_format (decimal volume) (decimal devices) (decimal areas) (plain_decimal volume range.most_volume)
     (plain_decimal devices (let most = range.most_devices in omega (arith, most))) (plain_decimal areas (let most = range.most_areas in omega (arith, most)))
 takes_words Check words spelled = takes_check
 
@@ -130,7 +130,7 @@ names words m line matches spelled =
 
 -- ---- what is left where the words aren't of one
 
-head_of : Text → ℕ
+abbrev head_of : Text → ℕ
 head_of [] = 0
 head_of (c ∷ cs) = c
 
@@ -157,6 +157,6 @@ module _ (words : List Text) (m : ArgMatches) (matches : HasMatchesOf grammar wo
   of_format name None named is some none = λ line spelled. by line spelled
     where
       by : (line : CommandLine) → Spell words line → ⊥
-      by Replay spelled = let e = ap head_of (sym is ∙ same_name name Replay named spelled) in omega (arith, e)
+      by Replay spelled = let e : 102 ≡ 114 = ap head_of (sym is ∙ same_name name Replay named spelled) in omega (arith, e)
       by (Format volume devices areas) spelled = none refl volume devices areas spelled
-      by Check spelled = let e = ap head_of (sym is ∙ same_name name Check named spelled) in omega (arith, e)
+      by Check spelled = let e : 102 ≡ 99 = ap head_of (sym is ∙ same_name name Check named spelled) in omega (arith, e)

@@ -12,7 +12,7 @@ words_of Check = codes "check" ∷ []
 
 -- the numbers that a volume may have: of 64 bits, 1 to 4 devices, and 1 to 64 areas
 pub record AreInRange (volume devices areas : ℕ) : Type 0 where
-  pub volume : volume < 2 ^ 64
+  pub most_volume : volume < 2 ^ 64
   pub least_devices : 1 ≤ devices
   pub most_devices : devices ≤ 4
   pub least_areas : 1 ≤ areas

@@ -1,7 +1,7 @@
 //! A command line, and the words that spell it.
 
-ghost use Rattle.std.specs.Prelude.{◌≡◌, ◌↔◌, IfOk, IsTrue, [], ◌∷◌, map, string_bytes, false};
-ghost use Rattle.clap.specs.Words.{HasMatchesOf, app_of, fields_of};
+ghost use Rattle.std.specs.Prelude.{◌≡◌, ◌↔◌, IfOk, IsTrue, [], ◌∷◌, map, string_bytes};
+ghost use Rattle.clap.specs.Words.{HasMatchesOf, app_of};
 ghost use Rattle.bx_command_line.specs.CommandLines.{AreWordsOf, format_app, grammar};
 
 use crate::numbers::format_line;
@@ -64,8 +64,7 @@ fn command<'a>(alloc: Global) -> Result<Command<'a>, AllocError>
 
 // The command `format`.
 fn format<'a>(alloc: Global) -> Result<Command<'a>, AllocError>
-    ensures app { IfOk result (λ command. app_of command ≡ format_app) }
-    ensures local { IfOk result (λ command. (fields_of command).has_globals ≡ false) }
+    ensures { IfOk result (λ command. app_of command ≡ format_app) }
 {
     Command::new(alloc, "format")
         .arg(Arg::new(alloc, "V").required(true))?

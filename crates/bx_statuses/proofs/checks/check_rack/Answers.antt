@@ -1,4 +1,3 @@
-use Rattle.std.proofs.Common.{ℕ, List, arith, inr}
 use Rattle.bx_statuses.proofs.Refused.{among, completes, disk_fault, disk_first, listed_none, not_done, nothing, part, refused, refuses, sink_first, write_fault}
 use Rattle.bx_statuses.specs.Report.{IsTold, refusal_line}
 use Rattle.bx_statuses.proofs.checks.check_rack.Goals as goal

@@ -3,6 +3,7 @@ pub mod Along
 pub mod Apart
 mod Asking
 pub mod First
+pub mod Fullness
 pub mod OneStep
 pub mod Spaces
 pub mod Stopping

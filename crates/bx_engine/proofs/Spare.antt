@@ -7,6 +7,7 @@ use Rattle.bx_engine.specs.Outcomes.{told_free}
 use Rattle.bx_engine.proofs.Spaces.{by_file}
 use Rattle.bx_engine.proofs.Telling.{IsSpaceOf, IsTold, quiet_tells, reply_tells}
 use Rattle.bx_engine.proofs.Texts.{nospc_apart, space_apart}
+use Rattle.bx_model.specs.declared.call.Args.TheVariants.{Handle}
 use Rattle.bx_model.specs.declared.call.Call.{Call}
 use Rattle.bx_model.specs.declared.reply.Reply.{Reply}
 use Rattle.bx_model.specs.declared.reply.Reply.TheVariants.{Status, Space}
@@ -15,8 +16,10 @@ use Rattle.bx_model.specs.Act.{about_file, given}
 use Rattle.bx_model.specs.Reading.{named_file, statfs}
 use Rattle.bx_model.specs.Steps.{plainly}
 use Rattle.bx_model.specs.Writing.{is_full}
+use Rattle.bx_nfs.proofs.Asking.{asked}
 use Rattle.bx_nfs.proofs.Reading.{reads_once}
-use Rattle.bx_nfs.specs.Wire.{reply_text}
+use Rattle.bx_nfs.specs.Asked.{AsksFile, HasOwnArgs}
+use Rattle.bx_nfs.specs.Wire.{ReadsAs, reply_text}
 use Rattle.bx_records.specs.Drafts.{Changed}
 use Rattle.bx_steps.specs.Steps.{StandsWith, Step}
 use Rattle.bx_tree_files.specs.declared.file.File.{File}
@@ -30,6 +33,18 @@ use Rattle.bx_views.specs.Truths.{Truth}
 few_are_not_eight : (spare free : ℕ) → is_full spare ≡ true → (spare ≡ 8) ⊎ (spare ≡ free) → spare ≡ free
 few_are_not_eight spare free full (inl eight) = grind (arith, nat_tests, full, eight)
 few_are_not_eight spare free full (inr is) = is
+
+-- a call by a file handle alone is one of NFS
+of_nfs : (call : Call) → AsksFile call → call.program ≡ 100003
+of_nfs call (inl is) = is.program
+of_nfs call (inr (inl is)) = is.program
+of_nfs call (inr (inr is)) = is.program
+
+asks_space : (bytes : List ℕ) (xid : ℕ) (call : Call) (at : List ℕ) → ReadsAs bytes xid call → call.args ≡ Handle at → call.procedure ≡ 17 → AsksSpace call at
+asks_space bytes xid call at reads args asks = record {
+  args = args;
+  is = record { program = of_nfs call (subst (HasOwnArgs call) args (asked bytes xid call reads)).0; procedure = asks };
+}
 
 some_pair : (made : ℕ) (given answer : Reply × Tree) → (if made == 0 then Some given else None) ≡ Some answer → answer ≡ given
 some_pair made given answer is = by (made == 0) is
@@ -70,11 +85,11 @@ module _ (volume areas free client : ℕ) (bytes : List ℕ) (moment : ℕ) (tru
             case : IsTold done.spare s.reply ⊎ IsSpaceOf s.call s.reply → done.spare ≡ free
             case (inl (inl quiet)) = absurd (nospc_apart s.xid s.reply quiet same)
             case (inl (inr full)) = few_are_not_eight done.spare free full.1 acts.spare
-            case (inr other) = absurd (space_apart s.xid 28 other.2 (omega arith) (omega arith) (sym same ∙ ap (reply_text s.xid) other.3))
+            case (inr other) = absurd (space_apart s.xid 28 other.3 (omega arith) (omega arith) (sym same ∙ ap (reply_text s.xid) other.4))
         by (inr reply) =
             let asks : AsksSpace s.call reply.at = subst (λ (c : Call). AsksSpace c reply.at) once.1 reply.asks in
             let is : plainly tree done.made (statfs tree reply.at done.spare) ≡ Some (s.reply, acts.next) =
-            sym (ap (given tree s.call (time_of moment) done.spare done.made) asks.args ∙ ap (λ (p : ℕ). plainly tree done.made (about_file tree p reply.at done.spare)) asks.procedure) ∙ s.acts in
+            sym (ap (given tree s.call (time_of moment) done.spare done.made) asks.args ∙ ap (λ (p : ℕ). plainly tree done.made (about_file tree p reply.at done.spare)) asks.is.procedure) ∙ s.acts in
             let text : reply_text s.xid s.reply ≡ reply_text s.xid (Space reply.numbers) = sym s.replies ∙ reply.text ∙ ap (λ (x : ℕ). reply_text x (Space reply.numbers)) once.0 in
             by_named s.xid reply.at reply.numbers (named_file tree reply.at) is text (space reply.at (record { xid = t.xid; call = t.call; reads = t.reads; asks = reply.asks }))
 
@@ -88,7 +103,7 @@ module _ (volume areas free client : ℕ) (bytes : List ℕ) (moment : ℕ) (tru
           xid = s.xid;
           call = s.call;
           reads = s.reads;
-          tells = inr (record { at = other.0; asks = other.1; numbers = other.2; text = s.replies ∙ ap (reply_text s.xid) other.3 });
+          tells = inr (record { at = other.0; asks = asks_space bytes s.xid s.call other.0 s.reads other.1 other.2; numbers = other.3; text = s.replies ∙ ap (reply_text s.xid) other.4 });
         }))
 
     pub acted_tells : TellsFree (TellsSpace bytes) free done

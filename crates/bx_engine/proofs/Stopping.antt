@@ -5,7 +5,7 @@ use Rattle.std.proofs.lemmas.Result.{IfOk-weaker}
 use Rattle.bx_attempts.proofs.Fairness as fairness
 use Rattle.bx_attempts.specs.Replies.{IsStopped, done_of}
 use Rattle.bx_base.specs.declared.names.Mode.{Mode}
-use Rattle.bx_engine.specs.Outcomes.{Comes}
+use Rattle.bx_engine.specs.Outcomes.{Comes, TellsEnough}
 use Rattle.bx_inodes.specs.declared.stop.Stop.{Stop}
 use Rattle.bx_inodes.specs.declared.stop.Stop.TheVariants as stops
 use Rattle.bx_inodes.specs.Stops.{NeedsOn, NeverInner}
@@ -24,6 +24,15 @@ module _ (xid : ℕ) (attempt : Attempt) where
       → IsStopped xid stop attempt → IsFair areas held Path attempt
   stops_fair T areas held Path stop needs never is = fairness.stops_fair xid areas held Path attempt T stop needs never is
 
+  answer_enough : (reply : Reply) → attempt ≡ Answer (done_of xid reply) → TellsEnough attempt
+  answer_enough reply is = subst TellsEnough (sym is) refl
+
+  stop_enough : (stop : Stop) → IsStopped xid stop attempt → TellsEnough attempt
+  stop_enough (stops.Need at mode) is = subst TellsEnough (sym is) tt
+  stop_enough (stops.Inner blocks) is = subst TellsEnough (sym is) tt
+  stop_enough (stops.Status status) is = answer_enough (replies.Status status) is
+  stop_enough stops.OutOfMemory is = absurd is
+
   module _ (tree : Tree) (outcome : Outcome) where
     pub stops_come : (stop : Stop) → IsOutcome tree outcome (Err stop) → IsStopped xid stop attempt → Comes tree xid outcome attempt
     stops_come (stops.Need at mode) comes is = subst (Comes tree xid outcome) (sym is) tt
@@ -37,3 +46,11 @@ module _ (xid : ℕ) (attempt : Attempt) where
 -- an answer, where there is memory for it
 pub answered_comes : {E : Type 0} (tree : Tree) (xid : ℕ) (reply : Reply) (result : Result Attempt E) → IfOk result (λ attempt. attempt ≡ Answer (done_of xid reply)) → IfOk result (Comes tree xid (Ok (reply, tree)))
 answered_comes tree xid reply result is = IfOk-weaker result _ _ (λ attempt same. answer_comes xid attempt tree (Ok (reply, tree)) reply refl same) is
+
+-- 8 free blocks are told where there is memory for the answer
+module _ {E : Type 0} (xid : ℕ) (result : Result Attempt E) where
+  pub answered_enough : (reply : Reply) → IfOk result (λ attempt. attempt ≡ Answer (done_of xid reply)) → IfOk result TellsEnough
+  answered_enough reply is = IfOk-weaker result _ _ (λ attempt same. answer_enough xid attempt reply same) is
+
+  pub stopped_enough : (stop : Stop) → IfOk result (IsStopped xid stop) → IfOk result TellsEnough
+  stopped_enough stop is = IfOk-weaker result _ _ (λ attempt so. stop_enough xid attempt stop so) is

@@ -2,7 +2,6 @@
 use Rattle.std.proofs.Common.{◌≡◌, ◌∙◌, ℕ, Bool, true, false, List, Option, Some, None, refl, sym, ap, subst, inl, inr}
 use Rattle.std.specs.Str.{bytes_eq}
 use Rattle.std.specs.Prelude.{◌⊎◌, ◌≢◌, ◌*◌, [], ◌∷◌, codes, ◌==◌, ◌&&◌, nat_le, nat_lt, not, if◌then◌else◌, length, ◌+◌, Result, Ok, Err}
-use Rattle.bx_engine.specs.Calls.{AsksSpace}
 use Rattle.bx_model.specs.declared.call.Args.{Args}
 use Rattle.bx_model.specs.declared.call.Args.TheVariants as args
 use Rattle.bx_model.specs.declared.call.Call.{Call}
@@ -58,7 +57,7 @@ IsTold spare reply = (is_quiet reply ≡ true) ⊎ ((reply ≡ Status 28) × (is
 
 -- STATFS comes to no error
 abbrev pub IsSpaceOf : Call → Reply → Type 0
-IsSpaceOf call reply = (at : List ℕ) × AsksSpace call at × (numbers : List ℕ) × (reply ≡ Space numbers)
+IsSpaceOf call reply = (at : List ℕ) × (call.args ≡ args.Handle at) × (call.procedure ≡ 17) × (numbers : List ℕ) × (reply ≡ Space numbers)
 
 module _ (spare : ℕ) where
   -- an error is a status that may be answered, and a value is right
@@ -363,4 +362,4 @@ reply_tells tree call moment spare made reply next is = case (by_args spare tree
   where
     case : IsTold spare reply ⊎ ((at : List ℕ) × (call.args ≡ args.Handle at) × (call.procedure ≡ 17) × (numbers : List ℕ) × (reply ≡ Space numbers)) → IsTold spare reply ⊎ IsSpaceOf call reply
     case (inl told) = inl told
-    case (inr space) = inr (space.0, record { args = space.1; procedure = space.2 }, space.3, space.4)
+    case (inr space) = inr space

@@ -45,17 +45,21 @@ pub record IsReadCall (bytes : List ℕ) : Type 0 where
   pub reads : ReadsAs bytes xid call
   pub reading : IsReading call
 
--- the call is STATFS (17) by this file handle
+-- the call is STATFS (17) of NFS by this file handle
 pub record AsksSpace (call : Call) (at : List ℕ) : Type 0 where
   pub args : call.args ≡ Handle at
-  pub procedure : call.procedure ≡ 17
+  pub is : IsNfs 17 call
 
--- the datagram is
+-- the datagram is a STATFS by this file handle
 pub record IsSpaceCall (bytes at : List ℕ) : Type 0 where
   pub xid : ℕ
   pub call : Call
   pub reads : ReadsAs bytes xid call
   pub asks : AsksSpace call at
+
+-- by some file handle
+abbrev pub AsksFree : List ℕ → Type 0
+AsksFree bytes = (at : List ℕ) × IsSpaceCall bytes at
 
 -- these bytes are a reply to it that comes to no error
 pub record IsSpaceReply (xid : ℕ) (call : Call) (replied : List ℕ) : Type 0 where

@@ -3,6 +3,7 @@ pub mod Datagrams
 pub mod Elsewhere
 pub mod Falling
 pub mod First
+pub mod Full
 pub mod Hinting
 pub mod Outcomes
 pub mod Paths

@@ -8,6 +8,7 @@ use Rattle.bx_model.specs.Steps.{Outcome, done}
 use Rattle.bx_views.specs.declared.attempt.Attempt.{Attempt}
 use Rattle.bx_views.specs.declared.attempt.Attempt.TheVariants.{Need, Change, Inner, Answer}
 use Rattle.bx_views.specs.declared.attempt.Done.{Done}
+use Rattle.bx_views.specs.Attempts.{IfActed}
 
 -- The procedure comes to a reply and this next tree, and of the call with this number that reply is told.
 pub record ComesTo (tree : Tree) (outcome : Outcome) (xid : ℕ) (acted : Done) (next : Tree) : Type 0 where
@@ -21,6 +22,10 @@ Comes tree xid outcome (Need wants) = Unit {0}
 Comes tree xid outcome (Change draft acted) = ⊥
 Comes tree xid outcome (Inner draft) = ⊥
 Comes tree xid outcome (Answer acted) = ComesTo tree outcome xid acted tree
+
+-- What acts tells 8 free blocks, as all do to whose reply they are nothing.
+abbrev pub TellsEnough : Attempt → Type 0
+TellsEnough = IfActed (λ done. done.spare ≡ 8)
 
 -- The free blocks that STATFS tells: how many there are, or 8 where it comes to an error.
 abbrev pub told_free : ℕ → Outcome → ℕ

@@ -1,6 +1,6 @@
 //! Attempts of calls that were read.
 
-ghost use Rattle.std.specs.Prelude.{◌≡◌, ◌≤◌, ℕ, List, IfOk};
+ghost use Rattle.std.specs.Prelude.{◌≡◌, ◌≢◌, ◌≤◌, ℕ, List, IfOk};
 ghost use Rattle.bx_attempts.specs.First.{PreparesFirst, ReadyBy};
 ghost use Rattle.bx_base.specs.declared.names.Mode.TheVariants.{Shared};
 ghost use Rattle.bx_chunks.specs.Counting.{free_slots};
@@ -15,7 +15,8 @@ ghost use Rattle.bx_reads.specs.Space.{OnSpace};
 ghost use Rattle.bx_views.specs.Attempts.{ChangesNothing, Gives, IfActed, IfChange, IfInner, IsAnswer, IsFair};
 ghost use Rattle.bx_views.specs.Truths.{IsTruth, Truth};
 ghost use Rattle.bx_engine.specs.Calls.{AsksSpace, IsAboutFile, IsAtOnce, IsReading};
-ghost use Rattle.bx_engine.specs.Outcomes.{Comes, ComesSpace, told_free};
+ghost use Rattle.bx_engine.specs.Full.{LacksRoom};
+ghost use Rattle.bx_engine.specs.Outcomes.{Comes, ComesSpace, TellsEnough, told_free};
 ghost use Rattle.bx_engine.specs.Paths.{PathOf, ReadPathOf};
 ghost use Rattle.bx_steps.specs.Steps.{StandsWith, Step};
 
@@ -52,6 +53,7 @@ impl BoxFs {
         ensures keeps { IsReading call.now → IfOk result ChangesNothing }
         ensures free { (at : List ℕ) (truth : Truth) (tree : Tree) → AsksSpace call.now at → IsTruth (V.held view.now) truth → Stands self.now.volume self.now.areas truth tree
             → IfOk result (IfActed (λ done. done.spare ≡ told_free (free_slots self.now.areas truth) (statfs_of tree at (free_slots self.now.areas truth)))) }
+        ensures full { ((at : List ℕ) → AsksSpace call.now at → ⊥) → IfOk result (IfActed (λ done. done.spare ≢ 8 → LacksRoom (V.held view.now) (V.hints view.now) self.now.volume self.now.areas call.now done.spare)) }
     {
         if is_change(call) {
             change(alloc, self.volume, self.areas, xid, call, moment, view)
@@ -76,6 +78,7 @@ impl BoxFs {
         ensures keeps { IfOk result ChangesNothing }
         ensures free { (at : List ℕ) (truth : Truth) (tree : Tree) → AsksSpace call.now at → IsTruth (V.held view.now) truth → Stands self.now.volume self.now.areas truth tree
             → IfOk result (IfActed (λ done. done.spare ≡ told_free (free_slots self.now.areas truth) (statfs_of tree at (free_slots self.now.areas truth)))) }
+        ensures enough { ((at : List ℕ) → AsksSpace call.now at → ⊥) → IfOk result TellsEnough }
     {
         match &call.args {
             Args::Refused(number) => answered(alloc, xid, Reply::Refused(*number, call.program)),
@@ -113,6 +116,7 @@ impl BoxFs {
         ensures keeps { IfOk result ChangesNothing }
         ensures free { (truth : Truth) (tree : Tree) → call.now.procedure ≡ 17 → IsTruth (V.held view.now) truth → Stands self.now.volume self.now.areas truth tree
             → IfOk result (IfActed (λ done. done.spare ≡ told_free (free_slots self.now.areas truth) (statfs_of tree at.now (free_slots self.now.areas truth)))) }
+        ensures enough { call.now.procedure ≢ 17 → IfOk result TellsEnough }
     {
         if call.procedure == READLINK {
             self.readlink(alloc, xid, at, view)
@@ -154,6 +158,7 @@ impl BoxFs {
             → IfOk result (Comes tree xid (readlink_of tree at.now)) }
         ensures fair { IfOk result (IsFair self.now.areas (V.held view.now) (OnInode self.now.volume at.now Shared)) }
         ensures keeps { IfOk result ChangesNothing }
+        ensures enough { IfOk result TellsEnough }
     {
         match bx_reads::readlink(alloc, self.volume, self.areas, at, view) {
             Ok(reply) => answered(alloc, xid, reply),
@@ -173,6 +178,7 @@ impl BoxFs {
             → IfOk result (Comes tree xid (getattr_of tree at.now)) }
         ensures fair { IfOk result (IsFair self.now.areas (V.held view.now) (OnInode self.now.volume at.now Shared)) }
         ensures keeps { IfOk result ChangesNothing }
+        ensures enough { IfOk result TellsEnough }
     {
         match bx_reads::getattr(alloc, self.volume, self.areas, at, view) {
             Ok(reply) => answered(alloc, xid, reply),

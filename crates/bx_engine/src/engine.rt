@@ -22,10 +22,11 @@ impl Engine for BoxFs {
     ghost use Rattle.bx_chunks.specs.Counting.{free_slots};
     ghost use Rattle.bx_clean.specs.Falling.{Falls};
     ghost use Rattle.bx_clean.specs.Tidying.{IsClean, OnTidyPath};
-    ghost use Rattle.bx_engine.specs.Calls.{IsAtOnceCall, IsReadCall, TellsSpace};
+    ghost use Rattle.bx_engine.specs.Calls.{AsksFree, IsAtOnceCall, IsReadCall, TellsSpace};
     ghost use Rattle.bx_engine.specs.Elsewhere.{stands_elsewhere};
     ghost use Rattle.bx_engine.specs.Falling.{falls_not};
     ghost use Rattle.bx_engine.specs.First.{IsFirstCall, IsReadyCall};
+    ghost use Rattle.bx_engine.specs.Full.{IsFullCall};
     ghost use Rattle.bx_engine.specs.Hinting.{had_as_hint, new_stands, without_all, without_one};
     ghost use Rattle.bx_engine.specs.Paths.{IsOnPath};
     ghost use Rattle.bx_engine.specs.Sharing.{shared_on};
@@ -52,6 +53,10 @@ impl Engine for BoxFs {
     ghost free = { λ engine truth. free_slots engine.areas truth };
 
     ghost tells_free = { λ engine bytes reply. TellsSpace bytes reply };
+
+    ghost asks_free = { λ engine bytes. AsksFree bytes };
+
+    ghost lacks_room = { λ engine held hints bytes spare. IsFullCall held hints engine.volume engine.areas bytes spare };
 
     ghost at_once = { λ engine bytes. IsAtOnceCall bytes };
 

@@ -9,7 +9,7 @@ ghost use Rattle.bx_model.specs.Reading.{lookup as lookup_of, read as read_of};
 ghost use Rattle.bx_reads.specs.Bytes.{OnReading};
 ghost use Rattle.bx_views.specs.Attempts.{ChangesNothing, IsFair};
 ghost use Rattle.bx_views.specs.Truths.{IsTruth, Truth};
-ghost use Rattle.bx_engine.specs.Outcomes.{Comes};
+ghost use Rattle.bx_engine.specs.Outcomes.{Comes, TellsEnough};
 ghost use Rattle.bx_steps.specs.Steps.{StandsWith};
 
 use crate::engine::BoxFs;
@@ -34,6 +34,7 @@ impl BoxFs {
             → IfOk result (Comes tree xid (read_of tree call.now at.now part.0 part.1)) }
         ensures fair { IfOk result (IsFair self.now.areas (V.held view.now) (OnReading (V.held view.now) (V.hints view.now) self.now.volume self.now.areas at.now part.0 part.1)) }
         ensures keeps { IfOk result ChangesNothing }
+        ensures enough { IfOk result TellsEnough }
     {
         let (offset, count) = part;
         match bx_reads::read(
@@ -64,6 +65,7 @@ impl BoxFs {
             → IfOk result (Comes tree xid (lookup_of tree call.now at.now name.now)) }
         ensures fair { IfOk result (IsFair self.now.areas (V.held view.now) (OnLooking (V.held view.now) (V.hints view.now) self.now.volume self.now.areas at.now name.now)) }
         ensures keeps { IfOk result ChangesNothing }
+        ensures enough { IfOk result TellsEnough }
     {
         match bx_directory_reads::lookup(alloc, self.volume, self.areas, call, at, name, view) {
             Ok(reply) => answered(alloc, xid, reply),
@@ -84,6 +86,7 @@ impl BoxFs {
             → IfOk result (Comes tree xid (readdir_of tree call.now at.now part.0 part.1)) }
         ensures fair { IfOk result (IsFair self.now.areas (V.held view.now) (OnListing (V.held view.now) (V.hints view.now) self.now.volume self.now.areas at.now part.0)) }
         ensures keeps { IfOk result ChangesNothing }
+        ensures enough { IfOk result TellsEnough }
     {
         let (cookie, count) = part;
         match bx_directory_reads::readdir(

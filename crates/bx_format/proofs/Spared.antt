@@ -80,7 +80,7 @@ sizes_long sizes devices areas has disk less = let e = has.each disk (let count 
     some : (d : ℕ) → 1 ≤ disk_sectors devices areas d
     some d = grind (arith, nat_tests)
 
-bare_image : (x : Disks) (image : Image) → AreBare x → HasSureOf IsLabelSector x image → IsBare x.sizes image
+pub bare_image : (x : Disks) (image : Image) → AreBare x → HasSureOf IsLabelSector x image → IsBare x.sizes image
 bare_image x image bare has = record { zero = λ disk less. has.each disk 0 refl (bare.sure disk) ∙ bare.zero disk less }
 
 -- the call that makes them

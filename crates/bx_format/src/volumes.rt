@@ -7,7 +7,7 @@ ghost use Rattle.bx_disk.specs.Counts.{NoneFalls, NoneRose};
 ghost use Rattle.bx_places.specs.Places.{IsVolume, disk_count};
 ghost use Rattle.bx_truth.specs.Opening.{opening_truth};
 ghost use Rattle.bx_calls.specs.Calls.{LeavesOnly};
-ghost use Rattle.bx_format.specs.Moments.{AreBare, IsBareOrBehind, IsOldOrBare};
+ghost use Rattle.bx_format.specs.Moments.{AreBare, IsBareOrBehind, IsInTheMaking, IsOldOrBare};
 ghost use Rattle.bx_format.specs.Formats.{HasLabels, HasNoRecords, HasSizes, HoldsBlocks, IsFormatted, KeepsBehind};
 
 use crate::homes::{write_areas, write_root};
@@ -17,7 +17,8 @@ use bx_disk::{Rack, RackError};
 use std::alloc::Global;
 
 /// Makes the disks of a volume of 1 to 4 devices and 1 to 64 areas anew, and formats them: what was on them is gone. The labels
-/// come last, so that a rack on which this ended early has no volume. After an error the rack isn't used again.
+/// come last, once all else is sure: a crash before the end leaves what was there before, or disks without a label, or all of the
+/// volume but labels. After an error the rack isn't used again.
 pub fn format<R: Rack>(
     alloc: Global,
     rack: &mut R,
@@ -27,6 +28,7 @@ pub fn format<R: Rack>(
 ) -> Result<(), RackError>
     requires volume { IsVolume devices areas }
     ensures formatted { R.tells rack.old → OnOk result (IsFormatted (R.state rack.new) (record { volume = volume; disk = 0; devices = devices; areas = areas })) }
+    ensures moments { R.tells rack.old → OnOk result (LeavesOnly (R.moment rack.old) (R.moment rack.new) (R.left_since rack.old) (R.left_since rack.new) (IsInTheMaking (R.state rack.old) (R.state rack.new))) }
     ensures sizes { OnOk result (HasSizes (R.state rack.new).sizes devices areas) }
     ensures cause { IsErrOf result Fault → Rose (R.faults rack.old) (R.faults rack.new) }
     ensures later { NoneFalls (R.faults rack.old) (R.faults rack.new) (R.faults_of rack.old) (R.faults_of rack.new) }

@@ -1,9 +1,7 @@
 //! The closing of the log.
 
-ghost use Rattle.std.specs.Prelude.{◌≡◌, ℕ, ◌<◌, List, [], ◌∷◌, IfOk, OnOk, OnErr, IsErrOf};
-ghost use Rattle.bx_base.specs.Faults.{Rose};
-ghost use Rattle.bx_disk.specs.Counts.{NoneFalls};
-ghost use Rattle.bx_disk.specs.declared.fault.RackError.TheVariants.{Fault};
+ghost use Rattle.std.specs.Prelude.{◌≡◌, ℕ, ◌<◌, List, [], ◌∷◌, IfOk, OnOk, OnErr};
+ghost use Rattle.bx_disk.specs.Kept.{Fails};
 ghost use Rattle.bx_lone_repair.specs.Bench.{AreLong};
 ghost use Rattle.bx_lone_repair.specs.Left.{IsClosed};
 ghost use Rattle.bx_lone_repair.specs.Resting.{StandsAs, closes_log, shuts_log};
@@ -34,10 +32,7 @@ pub(crate) fn close_first<R: Rack>(alloc: Global, rack: &mut R) -> Result<(), Ra
         → OnOk result (StandsAs volume floor tree [] shuts_log (R.state rack.new)) }
     ensures stands { (volume floor count : ℕ) (tree : Tree) (records : List Logged) → R.tells rack.old → 0 < count → StandsAs volume floor tree records (closes_log count) (R.state rack.old)
         → OnErr result (StandsAs volume floor tree records (closes_log count) (R.state rack.new)) }
-    ensures cause { IsErrOf result Fault → Rose (R.faults rack.old) (R.faults rack.new) }
-    ensures later { NoneFalls (R.faults rack.old) (R.faults rack.new) (R.faults_of rack.old) (R.faults_of rack.new) }
-    ensures sizes { (R.state rack.new).sizes ≡ (R.state rack.old).sizes }
-    ensures keeps_telling { R.tells rack.old → R.tells rack.new }
+    ensures rack { Fails R.Rack rack.old rack.new result }
 {
     let runs = first_gate(alloc)?;
     write_through(rack, runs)?;
@@ -50,10 +45,7 @@ pub(crate) fn close_others<R: Rack>(alloc: Global, rack: &mut R) -> Result<(), R
     ensures closes { (volume floor : ℕ) (tree : Tree) → R.tells rack.old → StandsAs volume floor tree [] shuts_log (R.state rack.old) → OnOk result (IsClosed volume tree (R.state rack.new)) }
     ensures stands { (volume floor : ℕ) (tree : Tree) → R.tells rack.old → StandsAs volume floor tree [] shuts_log (R.state rack.old)
         → OnErr result (StandsAs volume floor tree [] shuts_log (R.state rack.new)) }
-    ensures cause { IsErrOf result Fault → Rose (R.faults rack.old) (R.faults rack.new) }
-    ensures later { NoneFalls (R.faults rack.old) (R.faults rack.new) (R.faults_of rack.old) (R.faults_of rack.new) }
-    ensures sizes { (R.state rack.new).sizes ≡ (R.state rack.old).sizes }
-    ensures keeps_telling { R.tells rack.old → R.tells rack.new }
+    ensures rack { Fails R.Rack rack.old rack.new result }
 {
     let runs = other_gates(alloc)?;
     write_through(rack, runs)?;

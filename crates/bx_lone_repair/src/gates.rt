@@ -1,10 +1,8 @@
 //! The gates of the log.
 
-ghost use Rattle.std.specs.Prelude.{◌≡◌, ◌≤◌, [], ◌∷◌, ℕ, false, List, Option, length, slice_index, IfOk, IsErrOf, OnOk};
-ghost use Rattle.bx_base.specs.Faults.{Rose};
+ghost use Rattle.std.specs.Prelude.{◌≡◌, ◌≤◌, [], ◌∷◌, ℕ, false, List, Option, length, slice_index, IfOk, OnOk};
 ghost use Rattle.bx_disk.specs.Disks.{Image};
-ghost use Rattle.bx_disk.specs.declared.fault.RackError.TheVariants.{Fault};
-ghost use Rattle.bx_disk.specs.Counts.{NoneFalls, NoneRose};
+ghost use Rattle.bx_disk.specs.Kept.{Fails};
 ghost use Rattle.bx_facts.specs.Writes.{IsSettled, IsSourceIn};
 ghost use Rattle.bx_global.specs.declared.state.GlobalState.{GlobalState};
 ghost use Rattle.bx_lone_repair.specs.Left.{Doubt, IsLeft};
@@ -46,11 +44,7 @@ pub fn settle_gates<R: Rack>(alloc: Global, rack: &mut R) -> Result<(), RackErro
     ensures comes { (volume floor : ℕ) (tree : Tree) (doubt : Option Doubt) → R.tells rack.old → IsLeft volume floor tree doubt (R.state rack.old)
         → OnOk result ((records : List Logged) × Comes volume floor tree doubt records (R.state rack.new)) }
     ensures replicas { R.tells rack.old → KeepsReplicas (R.state rack.old) (R.state rack.new) }
-    ensures cause { IsErrOf result Fault → Rose (R.faults rack.old) (R.faults rack.new) }
-    ensures later { NoneFalls (R.faults rack.old) (R.faults rack.new) (R.faults_of rack.old) (R.faults_of rack.new) }
-    ensures no_fault { OnOk result (NoneRose (R.faults rack.old) (R.faults rack.new) (R.faults_of rack.old) (R.faults_of rack.new)) }
-    ensures sizes { (R.state rack.new).sizes ≡ (R.state rack.old).sizes }
-    ensures keeps_telling { R.tells rack.old → R.tells rack.new }
+    ensures rack { Fails R.Rack rack.old rack.new result }
 {
     let mut gates = [0; 4096];
     read_sectors(rack, FIRST_MEMBER, GATES_AT, &mut gates)?;

@@ -1,11 +1,9 @@
 //! What is read of the open records.
 
-ghost use Rattle.std.specs.Prelude.{◌≡◌, ◌⊎◌, ℕ, ◌<◌, ◌≤◌, Contains, List, IfOk, IfSome, IfNone, OnOk, IsErrOf};
-ghost use Rattle.bx_base.specs.Faults.{Rose};
+ghost use Rattle.std.specs.Prelude.{◌≡◌, ◌⊎◌, ℕ, ◌<◌, ◌≤◌, Contains, List, IfOk, IfSome, IfNone};
 ghost use Rattle.bx_base.specs.declared.names.Point.{Point};
-ghost use Rattle.bx_disk.specs.Counts.{NoneFalls, NoneRose};
 ghost use Rattle.bx_disk.specs.Disks.{Image};
-ghost use Rattle.bx_disk.specs.declared.fault.RackError.TheVariants.{Fault};
+ghost use Rattle.bx_disk.specs.Kept.{Fails};
 ghost use Rattle.bx_facts.specs.Writes.{IsSettled};
 ghost use Rattle.bx_global.specs.Opening.{opening_state};
 ghost use Rattle.bx_lone_repair.specs.Bench.{AreLong};
@@ -53,11 +51,7 @@ pub(crate) fn read_open<R: Rack>(alloc: Global, rack: &mut R) -> Result<Option<O
     ensures reads { (records : List Logged) (before : Image) (truth : Truth) (more : Logged) → R.tells rack.old
         → IsFound (IsSettled (R.state rack.old) (opening_state 1 1)) 1 1 (opening_state 1 1).sessions before (only records) truth more 0 → IfOk result (IsReadOf records) }
     ensures stays { R.state rack.new ≡ R.state rack.old }
-    ensures cause { IsErrOf result Fault → Rose (R.faults rack.old) (R.faults rack.new) }
-    ensures later { NoneFalls (R.faults rack.old) (R.faults rack.new) (R.faults_of rack.old) (R.faults_of rack.new) }
-    ensures no_fault { OnOk result (NoneRose (R.faults rack.old) (R.faults rack.new) (R.faults_of rack.old) (R.faults_of rack.new)) }
-    ensures sizes { (R.state rack.new).sizes ≡ (R.state rack.old).sizes }
-    ensures keeps_telling { R.tells rack.old → R.tells rack.new }
+    ensures rack { Fails R.Rack rack.old rack.new result }
 {
     let Some(logs) = read_logs(alloc, rack, &MEMBERS, &[SESSION])? else {
         return Ok(None);

@@ -2,8 +2,8 @@
 
 ghost use Rattle.std.specs.Prelude.{◌≡◌, ◌⊎◌, ℕ, ◌<◌, List, [], length, Option, IfOk, OnOk, OnErr, IsErrOf};
 ghost use Rattle.bx_base.specs.Faults.{Rose};
-ghost use Rattle.bx_disk.specs.Counts.{NoneFalls};
-ghost use Rattle.bx_disk.specs.declared.fault.RackError.TheVariants.{Fault};
+ghost use Rattle.bx_disk.specs.Counts.{NoneFalls, NoneRose};
+ghost use Rattle.bx_disk.specs.declared.fault.RackError.TheVariants.{Fault, OutOfMemory as NoMemory};
 ghost use Rattle.bx_lone_repair.specs.Bench.{AreLong};
 ghost use Rattle.bx_lone_repair.specs.Left.{Doubt, IsClosed, IsLeft};
 ghost use Rattle.bx_lone_repair.specs.HomesOf.{HasNone};
@@ -31,6 +31,8 @@ pub fn recover<R: Rack>(alloc: Global, rack: &mut R, floor: CallNo) -> Result<Re
     ensures left { (volume : ℕ) (tree : Tree) (doubt : Option Doubt) → R.tells rack.old → IsLeft volume floor tree doubt (R.state rack.old)
         → OnErr result (IsLeft volume floor tree doubt (R.state rack.new)) }
     ensures cause { IsErrOf result Fault → Rose (R.faults rack.old) (R.faults rack.new) ⊎ ((volume : ℕ) (tree : Tree) (doubt : Option Doubt) → R.tells rack.old → IsLeft volume floor tree doubt (R.state rack.old) → ⊥) }
+    ensures memory { IsErrOf result NoMemory → NoneRose (R.faults rack.old) (R.faults rack.new) (R.faults_of rack.old) (R.faults_of rack.new) }
+    ensures no_fault { OnOk result (NoneRose (R.faults rack.old) (R.faults rack.new) (R.faults_of rack.old) (R.faults_of rack.new)) }
     ensures later { NoneFalls (R.faults rack.old) (R.faults rack.new) (R.faults_of rack.old) (R.faults_of rack.new) }
     ensures sizes { (R.state rack.new).sizes ≡ (R.state rack.old).sizes }
     ensures keeps_telling { R.tells rack.old → R.tells rack.new }
@@ -48,6 +50,8 @@ fn go_on<R: Rack>(alloc: Global, rack: &mut R, floor: CallNo) -> Result<Recovery
         → IsLeft volume floor tree doubt (R.state rack.old) → OnErr result (IsLeft volume floor tree doubt (R.state rack.new)) }
     ensures cause { IsErrOf result Fault → Rose (R.faults rack.old) (R.faults rack.new)
         ⊎ ((volume : ℕ) (tree : Tree) (doubt : Option Doubt) (records : List Logged) → R.tells rack.old → Comes volume floor tree doubt records (R.state rack.old) → ⊥) }
+    ensures memory { IsErrOf result NoMemory → NoneRose (R.faults rack.old) (R.faults rack.new) (R.faults_of rack.old) (R.faults_of rack.new) }
+    ensures no_fault { OnOk result (NoneRose (R.faults rack.old) (R.faults rack.new) (R.faults_of rack.old) (R.faults_of rack.new)) }
     ensures later { NoneFalls (R.faults rack.old) (R.faults rack.new) (R.faults_of rack.old) (R.faults_of rack.new) }
     ensures sizes { (R.state rack.new).sizes ≡ (R.state rack.old).sizes }
     ensures keeps_telling { R.tells rack.old → R.tells rack.new }
@@ -71,6 +75,8 @@ fn answer<R: Rack>(
     ensures left { (volume : ℕ) (tree : Tree) (doubt : Option Doubt) (records : List Logged) → R.tells rack.old → Comes volume floor tree doubt records (R.state rack.old) → IsOpenLog records log.now
         → OnErr result (IsLeft volume floor tree doubt (R.state rack.new)) }
     ensures cause { IsErrOf result Fault → Rose (R.faults rack.old) (R.faults rack.new) ⊎ ((records : List Logged) → IsOpenLog records log.now → HasNone (newest_in records)) }
+    ensures memory { IsErrOf result NoMemory → NoneRose (R.faults rack.old) (R.faults rack.new) (R.faults_of rack.old) (R.faults_of rack.new) }
+    ensures no_fault { OnOk result (NoneRose (R.faults rack.old) (R.faults rack.new) (R.faults_of rack.old) (R.faults_of rack.new)) }
     ensures later { NoneFalls (R.faults rack.old) (R.faults rack.new) (R.faults_of rack.old) (R.faults_of rack.new) }
     ensures sizes { (R.state rack.new).sizes ≡ (R.state rack.old).sizes }
     ensures keeps_telling { R.tells rack.old → R.tells rack.new }
@@ -90,6 +96,8 @@ fn close_all<R: Rack>(alloc: Global, rack: &mut R, log: &OpenLog) -> Result<(), 
     ensures left { (volume floor : ℕ) (tree : Tree) (doubt : Option Doubt) (records : List Logged) → R.tells rack.old → Rests volume floor tree records (R.state rack.old) → IsOpenLog records log.now
         → OnErr result (IsLeft volume floor tree doubt (R.state rack.new)) }
     ensures cause { IsErrOf result Fault → Rose (R.faults rack.old) (R.faults rack.new) ⊎ ((records : List Logged) → IsOpenLog records log.now → HasNone (newest_in records)) }
+    ensures memory { IsErrOf result NoMemory → NoneRose (R.faults rack.old) (R.faults rack.new) (R.faults_of rack.old) (R.faults_of rack.new) }
+    ensures no_fault { OnOk result (NoneRose (R.faults rack.old) (R.faults rack.new) (R.faults_of rack.old) (R.faults_of rack.new)) }
     ensures later { NoneFalls (R.faults rack.old) (R.faults rack.new) (R.faults_of rack.old) (R.faults_of rack.new) }
     ensures sizes { (R.state rack.new).sizes ≡ (R.state rack.old).sizes }
     ensures keeps_telling { R.tells rack.old → R.tells rack.new }
@@ -112,6 +120,8 @@ fn close_open<R: Rack>(alloc: Global, rack: &mut R, log: &OpenLog) -> Result<(),
     ensures left { (volume floor : ℕ) (tree : Tree) (doubt : Option Doubt) (records : List Logged) → R.tells rack.old → Rests volume floor tree records (R.state rack.old) → IsOpenLog records log.now
         → OnErr result (IsLeft volume floor tree doubt (R.state rack.new)) }
     ensures cause { IsErrOf result Fault → Rose (R.faults rack.old) (R.faults rack.new) ⊎ ((records : List Logged) → IsOpenLog records log.now → HasNone (newest_in records)) }
+    ensures memory { IsErrOf result NoMemory → NoneRose (R.faults rack.old) (R.faults rack.new) (R.faults_of rack.old) (R.faults_of rack.new) }
+    ensures no_fault { OnOk result (NoneRose (R.faults rack.old) (R.faults rack.new) (R.faults_of rack.old) (R.faults_of rack.new)) }
     ensures later { NoneFalls (R.faults rack.old) (R.faults rack.new) (R.faults_of rack.old) (R.faults_of rack.new) }
     ensures sizes { (R.state rack.new).sizes ≡ (R.state rack.old).sizes }
     ensures keeps_telling { R.tells rack.old → R.tells rack.new }

@@ -6,7 +6,7 @@ ghost use Rattle.bx_base.specs.declared.names.Actor.TheVariants.{Member};
 ghost use Rattle.bx_calls.specs.Calls.{LeavesOnly};
 ghost use Rattle.bx_disk.specs.Counts.{NoneFalls, NoneRose};
 ghost use Rattle.bx_facts.specs.Disks.{HasRoom, NeedsNoMore, SameLabels, SameReplicas};
-ghost use Rattle.bx_facts.specs.declared.input.FactError.TheVariants.{Disk as DiskFails};
+ghost use Rattle.bx_facts.specs.declared.input.FactError.TheVariants.{Disk as DiskFails, OutOfMemory as MemoryFails};
 ghost use Rattle.bx_facts.specs.declared.input.Input.TheVariants.{Synced};
 ghost use Rattle.bx_global.specs.Allowed.{IsAllowed};
 ghost use Rattle.bx_model.specs.declared.tree.Tree.{Tree};
@@ -23,7 +23,7 @@ use std::alloc::Global;
 
 /// The disk of a member, from 0 to 7, has finished a sync: the store, which knows this state, makes its step of that, and works on the disks. The node stands as
 /// before, also after a disk's fault, and each image that a crash on the way may leave shows what it did before. For want of memory neither
-/// the node nor the store is used again.
+/// the node nor the store is used again, and no disk failed.
 pub fn sync<S: Store, R: Rack>(
     alloc: Global,
     store: &mut S,
@@ -41,6 +41,7 @@ pub fn sync<S: Store, R: Rack>(
     ensures joined_faulted { (node : NodeView) → IsJoined node (S.made store.old) (S.own store.old 0) (S.out_of store.old 0) (S.asked store.old 0) → IsErrOf result DiskFails → IsJoined node (S.made store.new) (S.own store.new 0) (S.out_of store.new 0) (S.asked store.new 0) }
     ensures needs { NeedsNoMore (S.needs store.old) (S.needs store.new) }
     ensures cause { IsErrOf result DiskFails → Rose (R.faults rack.old) (R.faults rack.new) }
+    ensures memory { IsErrOf result MemoryFails → NoneRose (R.faults rack.old) (R.faults rack.new) (R.faults_of rack.old) (R.faults_of rack.new) }
     ensures later { NoneFalls (R.faults rack.old) (R.faults rack.new) (R.faults_of rack.old) (R.faults_of rack.new) }
     ensures no_fault { OnOk result (NoneRose (R.faults rack.old) (R.faults rack.new) (R.faults_of rack.old) (R.faults_of rack.new)) }
     ensures sizes { (R.state rack.new).sizes ≡ (R.state rack.old).sizes }

@@ -1,11 +1,12 @@
 //! Reads that are out, or whose answers weren't taken yet.
 
-ghost use Rattle.std.specs.Prelude.{◌≡◌, ℕ, ◌<◌, length, None, Some, OnOk, IsNone, IsSome};
+ghost use Rattle.std.specs.Prelude.{◌≡◌, ℕ, ◌<◌, length, None, Some, OnOk, IsErrOf, IsNone, IsSome};
+ghost use Rattle.bx_disk.specs.Counts.{NoneRose};
 ghost use Rattle.bx_disk.specs.Kept.{Counted};
 ghost use Rattle.bx_disk.specs.Disks.{IsImage};
 ghost use Rattle.bx_calls.specs.Calls.{LeavesOnly};
 ghost use Rattle.bx_facts.specs.Writes.{Asked};
-ghost use Rattle.bx_facts.specs.declared.input.FactError.TheVariants.{Disk as DiskFails};
+ghost use Rattle.bx_facts.specs.declared.input.FactError.TheVariants.{Disk as DiskFails, OutOfMemory as MemoryFails};
 ghost use Rattle.bx_plain_store.specs.Out.{at};
 ghost use Rattle.bx_lone_store.specs.declared.inquiries.Inquiry.{Inquiry};
 ghost use Rattle.bx_lone_store.specs.Parts.{IsAnswered, IsReadable, answer_at, answer_in, asked_at, asked_in};
@@ -39,6 +40,7 @@ fn answer_one<R: Rack>(
     ensures there { (asks : Asked) → asked_in slot.old ≡ Some asks → asks.device < length known.now.devices → OnOk result (IsSome (answer_in slot.new)) }
     ensures stays { R.tells rack.old → R.state rack.new ≡ R.state rack.old }
     ensures any_moment { R.tells rack.old → LeavesOnly (R.moment rack.old) (R.moment rack.new) (R.left_since rack.old) (R.left_since rack.new) (IsImage (R.state rack.old)) }
+    ensures memory { IsErrOf result MemoryFails → NoneRose (R.faults rack.old) (R.faults rack.new) (R.faults_of rack.old) (R.faults_of rack.new) }
     ensures rack { Counted R.Rack rack.old rack.new result DiskFails }
 {
     let Some(inquiry) = slot else {
@@ -65,6 +67,7 @@ pub(crate) fn answer_all<R: Rack>(
     ensures long { length inquiries.new.items ≡ length inquiries.old.items }
     ensures stays { R.tells rack.old → R.state rack.new ≡ R.state rack.old }
     ensures any_moment { R.tells rack.old → LeavesOnly (R.moment rack.old) (R.moment rack.new) (R.left_since rack.old) (R.left_since rack.new) (IsImage (R.state rack.old)) }
+    ensures memory { IsErrOf result MemoryFails → NoneRose (R.faults rack.old) (R.faults rack.new) (R.faults_of rack.old) (R.faults_of rack.new) }
     ensures rack { Counted R.Rack rack.old rack.new result DiskFails }
 {
     for i in 0..inquiries.len() {

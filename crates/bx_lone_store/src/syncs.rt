@@ -1,12 +1,13 @@
 //! Syncs of members.
 
+ghost use Rattle.bx_disk.specs.Counts.{NoneRose};
 ghost use Rattle.bx_disk.specs.Kept.{Counted};
-ghost use Rattle.std.specs.Prelude.{◌≡◌, ℕ, ◌+◌, ◌*◌, ◌<◌, ◌≤◌, ◌⊎◌, Contains, length, Some, None, OnOk, IsSome, false, true};
+ghost use Rattle.std.specs.Prelude.{◌≡◌, ℕ, ◌+◌, ◌*◌, ◌<◌, ◌≤◌, ◌⊎◌, Contains, length, Some, None, OnOk, IsErrOf, IsSome, false, true};
 ghost use Rattle.bx_calls.specs.Calls.{LeavesOnly};
 ghost use Rattle.bx_global.specs.declared.state.GlobalState.{GlobalState};
 ghost use Rattle.bx_records.specs.declared.runs.Run.{Run};
 ghost use Rattle.bx_members.specs.Members.{HasMembers, KeepsMembers};
-ghost use Rattle.bx_facts.specs.declared.input.FactError.TheVariants.{Disk as DiskFails};
+ghost use Rattle.bx_facts.specs.declared.input.FactError.TheVariants.{Disk as DiskFails, OutOfMemory as MemoryFails};
 ghost use Rattle.bx_facts.specs.Writes.{Asked, IsDone, IsOver, IsSettled, Sent};
 ghost use Rattle.bx_plain_store.specs.declared.writes.Write.{Write};
 ghost use Rattle.bx_plain_store.specs.Out.{AreApart, IsFitting, KeepsReplicas, at, out_at, outs, sent_of};
@@ -45,6 +46,7 @@ pub(crate) fn sync_all<R: Rack>(
     ensures there { (node : ℕ) (asks : Asked) → asked_at inquiries.old.items node ≡ Some asks → asks.device < length known.now.devices → OnOk result (IsSome (answer_at inquiries.new.items node)) }
     ensures long { (length slots.new.items ≡ length slots.old.items) × (length inquiries.new.items ≡ length inquiries.old.items) }
     ensures replicas { R.tells rack.old → KeepsReplicas (R.state rack.old) (R.state rack.new) }
+    ensures memory { IsErrOf result MemoryFails → NoneRose (R.faults rack.old) (R.faults rack.new) (R.faults_of rack.old) (R.faults_of rack.new) }
     ensures rack { Counted R.Rack rack.old rack.new result DiskFails }
 {
     answer_all(alloc, rack, known, inquiries)?;

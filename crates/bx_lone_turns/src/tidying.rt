@@ -1,6 +1,6 @@
 //! What a node does of itself, while no call waits.
 
-ghost use Rattle.std.specs.Prelude.{◌≡◌, ◌≢◌, ◌<◌, [], ℕ, IfOk, OnOk, true, false};
+ghost use Rattle.std.specs.Prelude.{◌≡◌, ◌≢◌, ◌<◌, [], ℕ, IfOk, OnErr, OnOk, true, false};
 ghost use Rattle.bx_disk.specs.Disks.{Disks};
 ghost use Rattle.bx_facts.specs.Disks.{NeedsNoMore};
 ghost use Rattle.bx_global.specs.declared.state.GlobalState.{GlobalState};
@@ -20,8 +20,8 @@ use bx_model::Tree;
 use bx_views::{Attempt, Engine};
 
 /// Where nothing is under way and no call waits, cleans an area a little at a moment in milliseconds: it asks for a block that this
-/// wants, or begins the record of a change that the tree doesn't show. Says whether the area was found to be clean. For want of memory
-/// neither the node nor the store is used again.
+/// wants, or begins the record of a change that the tree doesn't show. Says whether the area was found to be clean. While something is
+/// under way it wants no memory. For want of memory neither the node nor the store is used again.
 pub fn tidy<S: Store, E: Engine<Tree = Tree>>(
     node: &mut LoneNode,
     store: &mut S,
@@ -34,6 +34,7 @@ pub fn tidy<S: Store, E: Engine<Tree = Tree>>(
     requires area { area < E.areas engine.now }
     ensures goes { OnOk result (GoesUnasked node.old node.new) }
     ensures busy { node.old.stage ≢ Idle → IfOk result (λ is_clean. (node.new ≡ node.old) × (is_clean ≡ false)) }
+    ensures wants { OnErr result (node.old.stage ≡ Idle) }
     ensures waits { node.old.queue ≢ [] → IfOk result (λ is_clean. (node.new ≡ node.old) × (is_clean ≡ false)) }
     ensures rests { IfOk result (λ is_clean. is_clean ≡ true → (node.new ≡ node.old) × (store.new ≡ store.old)) }
     ensures tries { IfOk result (λ is_clean. node.old.queue ≡ [] → node.new.stage ≡ Idle → is_clean ≡ true) }

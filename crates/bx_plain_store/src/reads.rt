@@ -1,11 +1,12 @@
 //! Reads that are out.
 
-ghost use Rattle.std.specs.Prelude.{◌≡◌, ℕ, ◌+◌, ◌-◌, ◌*◌, ◌^◌, ◌<◌, ◌≤◌, List, length, slice_index, IfOk, IfSome, IsSome};
+ghost use Rattle.std.specs.Prelude.{◌≡◌, ℕ, ◌+◌, ◌-◌, ◌*◌, ◌^◌, ◌<◌, ◌≤◌, List, length, slice_index, IfOk, IfSome, IsErrOf, IsSome};
+ghost use Rattle.bx_disk.specs.Counts.{NoneRose};
 ghost use Rattle.bx_disk.specs.Kept.{Counted};
 ghost use Rattle.bx_disk.specs.Disks.{IsImage, sector_of};
 ghost use Rattle.bx_calls.specs.Calls.{LeavesOnly};
 ghost use Rattle.bx_calls.specs.Regions.{ReadsAs};
-ghost use Rattle.bx_facts.specs.declared.input.FactError.TheVariants.{Disk as DiskFails};
+ghost use Rattle.bx_facts.specs.declared.input.FactError.TheVariants.{Disk as DiskFails, OutOfMemory as MemoryFails};
 ghost use Rattle.bx_facts.specs.Writes.{IsSettled};
 ghost use Rattle.bx_plain_store.specs.Sources.{IsSourceDisk};
 
@@ -42,6 +43,7 @@ pub fn answer<R: Rack>(
     ensures there { ask.device < length known.now.devices → IfOk result (λ found. IsSome found) }
     ensures stays { R.tells rack.old → R.state rack.new ≡ R.state rack.old }
     ensures any_moment { R.tells rack.old → LeavesOnly (R.moment rack.old) (R.moment rack.new) (R.left_since rack.old) (R.left_since rack.new) (IsImage (R.state rack.old)) }
+    ensures memory { IsErrOf result MemoryFails → NoneRose (R.faults rack.old) (R.faults rack.new) (R.faults_of rack.old) (R.faults_of rack.new) }
     ensures rack { Counted R.Rack rack.old rack.new result DiskFails }
 {
     let Some(row) = known.devices.get(ask.device as usize) else {
@@ -79,6 +81,7 @@ fn read_raw<R: Rack>(
     ensures long { IfOk result (λ bytes. length bytes ≡ 512 * count) }
     ensures stays { R.tells rack.old → R.state rack.new ≡ R.state rack.old }
     ensures any_moment { R.tells rack.old → LeavesOnly (R.moment rack.old) (R.moment rack.new) (R.left_since rack.old) (R.left_since rack.new) (IsImage (R.state rack.old)) }
+    ensures memory { IsErrOf result MemoryFails → NoneRose (R.faults rack.old) (R.faults rack.new) (R.faults_of rack.old) (R.faults_of rack.new) }
     ensures rack { Counted R.Rack rack.old rack.new result DiskFails }
 {
     let size = 512 * count as usize;

@@ -3,12 +3,13 @@ use Rattle.std.specs.Prelude.{slice_index}
 use Rattle.std.proofs.Common.{◌≡◌, ℕ, ◌+◌, ◌<◌, ◌≤◌, Bool, inl, inr, false, true, List, length, refl, sym, ap, subst, ◌∙◌, arith}
 use Rattle.bx_audit.proofs.Volumes.{stands}
 use Rattle.bx_calls.specs.Calls.{LeavesOnly}
-use Rattle.bx_calls.specs.Laws.{leaves_implies}
+use Rattle.bx_calls.specs.Laws.{leaves_implies, leaves_then}
 use Rattle.bx_cell.specs.Formats.{HasBeside, KeepsBeside}
 use Rattle.bx_disk.specs.Disks.{Disks, Image, IsImage}
 use Rattle.bx_format.proofs.Rests as rests
 use Rattle.bx_format.proofs.Whole.{is_made}
-use Rattle.bx_format.specs.Moments.{HasSureOf, IsLabelSector, Spares}
+use Rattle.bx_format.proofs.Spared.{bare_image, bare_then}
+use Rattle.bx_format.specs.Moments.{AreBare, HasSureOf, IsBare, IsBareOrBehind, IsInTheMaking, IsLabelSector, IsOldOrBare, Spares}
 use Rattle.bx_format.specs.Formats.{HasLabels, HasNoLogs, HasNoRecords, HasSizes, HoldsBlocks, IsMade, KeepsBehind}
 use Rattle.bx_global.specs.declared.state.GlobalState.{GlobalState}
 use Rattle.bx_global.specs.Opening.{formatted_state}
@@ -18,7 +19,7 @@ use Rattle.bx_places.specs.Places.{block_place, disk_count}
 use Rattle.bx_rack_audit.proofs.Telling.{alone_of}
 use Rattle.bx_rack_audit.specs.Alone.{IsOwnState}
 use Rattle.bx_rack_commands.proofs.Cells.{cells_stay, many, own_state}
-use Rattle.bx_rack_commands.specs.NewVolumes.{HaveFirstState, IsNewVolume, new_tree}
+use Rattle.bx_rack_commands.specs.NewVolumes.{HaveFirstState, IsBareOrWhole, IsNewVolume, new_tree}
 use Rattle.bx_tree_laws.proofs.Opening.{opening_is}
 use Rattle.bx_truth.proofs.OpeningTree.{opening_stands}
 use Rattle.bx_truth.specs.Opening.{opening_truth}
@@ -107,3 +108,35 @@ new_volume laid celled done label is zero one sizes blocks none beside cells sam
     (is_made celled done label same behind sure labels (subst (λ (long : List ℕ). HasSizes long label.devices label.areas) (sym beside.sizes) sizes)
     (beside_blocks laid celled label.devices label.areas beside blocks) (beside_logs laid celled beside none))
     (cells_stay celled done label.devices behind cells) one
+
+-- ---- what a crash leaves that comes before the end
+
+cells_before : (x y z : Disks) (devices a b : ℕ) (past since : ℕ → Image → Type 0) → z.sizes ≡ x.sizes → AreBare x → Spares IsLabelSector x y a b past since → LeavesOnly a b past since (IsBareOrWhole z devices)
+cells_before x y z devices a b past since same bare spares =
+    leaves_implies a b past since (HasSureOf IsLabelSector x) (IsBareOrWhole z devices) spares.moments
+    (λ image has. inl (subst (λ (sizes : List ℕ). IsBare sizes image) (sym same) (bare_image x image bare has)))
+
+-- while the cells are written
+pub leaves_cells : (x z : Disks) (devices a b : ℕ) (past since : ℕ → Image → Type 0) → z.sizes ≡ x.sizes → AreBare x → Spares IsLabelSector x z a b past since → LeavesOnly a b past since (IsBareOrWhole z devices)
+leaves_cells x z devices a b past since same bare spares = cells_before x z z devices a b past since same bare spares
+
+-- and while the disks are labelled then
+pub leaves_whole : (x y z : Disks) (devices a b c : ℕ) (past between since : ℕ → Image → Type 0) → y.sizes ≡ x.sizes → z.sizes ≡ y.sizes → AreBare x → Spares IsLabelSector x y a b past between
+    → HaveFirstState y devices → KeepsBehind y z → LeavesOnly b c between since (IsBareOrBehind y) → LeavesOnly a c past since (IsBareOrWhole z devices)
+leaves_whole x y z devices a b c past between since one other bare spares cells behind last =
+    leaves_then a b c past between since (IsBareOrWhole z devices) (IsBareOrBehind y) (cells_before x y z devices a b past between (other ∙ one) bare spares) last labelled
+  where
+    labelled : (image : Image) → IsBareOrBehind y image → IsBareOrWhole z devices image
+    labelled image (inl has) = inl (subst (λ (sizes : List ℕ). IsBare sizes image) (sym other) (bare_image y image (bare_then x y a b past between one bare spares) has))
+    labelled image (inr has) = inr (cells_stay y z devices behind cells, record { each = λ d s far. has.each d s far ∙ sym (behind.reads d s far) })
+
+-- of disks that were laid out before
+pub leaves_made : (old x z : Disks) (devices a b c : ℕ) (past between since : ℕ → Image → Type 0) → LeavesOnly a b past between (IsOldOrBare old x.sizes) → z.sizes ≡ x.sizes
+    → LeavesOnly b c between since (IsBareOrWhole z devices) → LeavesOnly a c past since (IsInTheMaking old z)
+leaves_made old x z devices a b c past between since first same last =
+    leaves_then a b c past between since (IsInTheMaking old z) (IsBareOrWhole z devices)
+    (leaves_implies a b past between (IsOldOrBare old x.sizes) (IsInTheMaking old z) first (λ image is. inl (subst (λ (sizes : List ℕ). IsOldOrBare old sizes image) (sym same) is))) last in_the_making
+  where
+    in_the_making : (image : Image) → IsBareOrWhole z devices image → IsInTheMaking old z image
+    in_the_making image (inl none) = inl (inr none)
+    in_the_making image (inr whole) = inr whole.1

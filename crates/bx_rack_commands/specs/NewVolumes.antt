@@ -1,9 +1,10 @@
 -- A rack whose disks are a volume that was just made.
-use Rattle.std.specs.Prelude.{◌≡◌, ℕ, ◌<◌, false, Some}
+use Rattle.std.specs.Prelude.{◌≡◌, ◌⊎◌, ℕ, ◌<◌, false, Some}
 use Rattle.bx_answers.specs.Handling.{first_held}
 use Rattle.bx_cell.specs.Formats.{first}
 use Rattle.bx_cell.specs.Halves.{cell_in}
-use Rattle.bx_disk.specs.Disks.{Disks}
+use Rattle.bx_disk.specs.Disks.{Disks, Image}
+use Rattle.bx_format.specs.Moments.{HasBehind, IsBare}
 use Rattle.bx_global.specs.Bytes.{held_text}
 use Rattle.bx_global.specs.Opening.{formatted_state}
 use Rattle.bx_layout.specs.declared.label.Label.{Label}
@@ -16,6 +17,10 @@ use Rattle.bx_volume.specs.Volumes.{InDoubt, IsVolumeFor}
 -- The cell of each replica holds the state that a volume of so many devices begins with.
 pub record HaveFirstState (disks : Disks) (devices : ℕ) : Type 0 where
   pub each : (replica : ℕ) → replica < 3 → cell_in (disks.reads replica) 1 ≡ Some (first (held_text (first_held (formatted_state devices))))
+
+-- The image has no label; or it has all that the disks have behind their labels, and the cells there hold that state.
+abbrev pub IsBareOrWhole : Disks → ℕ → Image → Type 0
+IsBareOrWhole disks devices image = IsBare disks.sizes image ⊎ (HaveFirstState disks devices × HasBehind disks image)
 
 -- the tree of a new volume: the root alone, in so many areas
 abbrev pub new_tree : Label → Tree

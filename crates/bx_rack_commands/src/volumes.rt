@@ -7,10 +7,11 @@ ghost use Rattle.bx_disk.specs.declared.fault.RackError.TheVariants.{Fault, OutO
 ghost use Rattle.bx_disk.specs.Counts.{NoneFalls, NoneRose};
 ghost use Rattle.bx_disk.specs.Kept.{Fails};
 ghost use Rattle.bx_calls.specs.Calls.{LeavesOnly};
-ghost use Rattle.bx_format.specs.Formats.{HasSizes};
-ghost use Rattle.bx_format.specs.Moments.{IsInTheMaking, IsLabelSector, Spares};
+ghost use Rattle.bx_format.specs.Formats.{HasNoRecords, HasSizes, HoldsBlocks};
+ghost use Rattle.bx_format.specs.Moments.{AreBare, IsInTheMaking, IsLabelSector, Spares};
 ghost use Rattle.bx_places.specs.Places.{IsVolume};
-ghost use Rattle.bx_rack_commands.specs.NewVolumes.{HaveFirstState, IsNewVolume};
+ghost use Rattle.bx_rack_commands.specs.NewVolumes.{HaveFirstState, IsBareOrWhole, IsNewVolume};
+ghost use Rattle.bx_truth.specs.Opening.{opening_truth};
 
 use bx_acceptor::first_value;
 use bx_cell::format_each;
@@ -47,8 +48,28 @@ pub fn format<R: Rack>(
     ensures no_fault { OnOk result (NoneRose (R.faults rack.old) (R.faults rack.new) (R.faults_of rack.old) (R.faults_of rack.new)) }
     ensures keeps_telling { R.tells rack.old → R.tells rack.new }
 {
-    one_first_label();
     lay_out(alloc, rack, devices, areas)?;
+    finish(alloc, rack, volume, devices, areas)?;
+    Ok(())
+}
+
+/// Writes the cells of the replicas of a volume that is laid out, and then its labels. While a cell lacks what it is to hold no disk has a label,
+/// also after an error.
+fn finish<R: Rack>(
+    alloc: Global,
+    rack: &mut R,
+    volume: u64,
+    devices: u32,
+    areas: u16,
+) -> Result<(), RackError>
+    requires volume { IsVolume devices areas }
+    requires sizes { HasSizes (R.state rack.old).sizes devices areas }
+    ensures made { R.tells rack.old → HoldsBlocks (R.state rack.old).reads devices areas opening_truth → HasNoRecords (R.state rack.old).sizes (R.state rack.old).reads
+        → OnOk result (IsNewVolume (R.state rack.new) (record { volume = volume; disk = 0; devices = devices; areas = areas })) }
+    ensures moments { R.tells rack.old → AreBare (R.state rack.old) → LeavesOnly (R.moment rack.old) (R.moment rack.new) (R.left_since rack.old) (R.left_since rack.new) (IsBareOrWhole (R.state rack.new) devices) }
+    ensures rack { Fails R.Rack rack.old rack.new result }
+{
+    one_first_label();
     put_cells(alloc, rack, devices)?;
     label_disks(rack, volume, devices, areas)?;
     Ok(())

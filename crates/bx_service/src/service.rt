@@ -1,6 +1,6 @@
 //! Services.
 
-ghost use Rattle.std.specs.Prelude.{◌≡◌, ◌≢◌, ◌<◌, ◌≤◌, ◌++◌, ◌∷◌, [], ℕ, Bool, true, false, List, Option, None, IfNone, IfOk, IsErrOf, OnOk};
+ghost use Rattle.std.specs.Prelude.{◌≡◌, ◌≢◌, ◌<◌, ◌≤◌, ◌++◌, ◌∷◌, [], ℕ, Bool, true, false, List, Option, None, IfNone, IfOk, IsErrOf, OnErr, OnOk};
 ghost use Rattle.bx_base.specs.Faults.{Rose};
 ghost use Rattle.bx_disk.specs.declared.fault.RackError.TheVariants.{Fault, OutOfMemory as NoMemory};
 ghost use Rattle.bx_disk.specs.Disks.{Disks};
@@ -106,7 +106,8 @@ pub trait Service: Drop {
 
     /// Does one round at a moment, in milliseconds: each disk that has a sync to finish does so, and then what can be done without the disks
     /// is done. At most one call is answered, the oldest; where none waits, a tidy goes on that is under way. While it is down nothing is
-    /// done. A fault of the bench ends nothing: what was asked of the disk is asked again. After an error it isn't used again.
+    /// done. A fault of the bench ends nothing: what was asked of the disk is asked again. After an error, with which no disk failed in this
+    /// round, it isn't used again.
     fn round<B: Rack>(&mut self, bench: &mut B, moment: u64) -> Result<Option<Event>, OutOfMemory>
         requires moment { moment ≤ 4294967295999 }
         requires ready { ready self.old (B.state bench.old).sizes }
@@ -119,6 +120,7 @@ pub trait Service: Drop {
         ensures back { returns self.old ≡ false → OnOk result (returns self.new ≡ false) }
         ensures returns { (tree : Tree) (doubt : Option Doubt) → B.tells bench.old → holds self.old (B.state bench.old) tree doubt → (Rose (B.faults bench.old) (B.faults bench.new) → ⊥)
             → IfOk result (λ event. IfNone event (returns self.new ≡ false)) }
+        ensures memory { OnErr result (B.faults bench.new ≡ B.faults bench.old) }
         ensures tidies { tidies self.old ≡ false → OnOk result (tidies self.new ≡ false) }
         ensures cleans { (tree : Tree) (doubt : Option Doubt) → B.tells bench.old → holds self.old (B.state bench.old) tree doubt → tidies self.old ≡ true
             → OnOk result (tidies self.new ≡ false → clean self.new (B.state bench.new)) }
@@ -140,7 +142,7 @@ pub trait Service: Drop {
 
     /// It comes back, and brings the disks to rest. Where the record of the call in doubt is open, it says at which point that call
     /// acted. A fault of the bench ends nothing: what is left to do is tried again in each round, and without one nothing is left. After an
-    /// error it isn't used again.
+    /// error, with which no disk failed in this call, it isn't used again.
     fn restart<B: Rack>(&mut self, bench: &mut B) -> Result<Option<Point>, OutOfMemory>
         requires down { up self.old ≡ false }
         requires ready { ready self.old (B.state bench.old).sizes }
@@ -151,6 +153,7 @@ pub trait Service: Drop {
         ensures ready { OnOk result (ready self.new (B.state bench.new).sizes) }
         ensures sizes { (B.state bench.new).sizes ≡ (B.state bench.old).sizes }
         ensures returns { (tree : Tree) (doubt : Option Doubt) → B.tells bench.old → holds self.old (B.state bench.old) tree doubt → (Rose (B.faults bench.old) (B.faults bench.new) → ⊥) → OnOk result (returns self.new ≡ false) }
+        ensures memory { OnErr result (B.faults bench.new ≡ B.faults bench.old) }
         ensures restarts { (tree : Tree) (doubt : Option Doubt) → B.tells bench.old → holds self.old (B.state bench.old) tree doubt
             → IfOk result (Restarts (holds self.new (B.state bench.new)) (waits self.new) tree doubt) }
         ensures later { B.faults bench.old ≤ B.faults bench.new }

@@ -10,3 +10,4 @@ pub mod Laid
 pub mod Wrote
 pub mod Entries
 pub mod Known
+pub mod Near

@@ -2,6 +2,7 @@ pub mod Bytes
 pub mod Grown
 pub mod Lacking
 pub mod Laying
+pub mod Near
 pub mod Paths
 pub mod Steps
 pub mod Stopping

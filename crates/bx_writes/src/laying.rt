@@ -1,8 +1,9 @@
 //! All pieces that bytes are in, the last ones first.
 
-ghost use Rattle.std.specs.Prelude.{◌≡◌, ◌+◌, ◌*◌, ◌≤◌, ◌<◌, ◌^◌, ℕ, List, IfOk, IfErr, IsSome, length};
+ghost use Rattle.std.specs.Prelude.{◌≡◌, ◌+◌, ◌*◌, ◌≤◌, ◌<◌, ◌^◌, ℕ, List, [], IfOk, IfErr, IsSome, length};
 ghost use Rattle.bx_base.specs.declared.names.Mode.TheVariants.{Exclusive};
 ghost use Rattle.bx_changes.specs.Growing.{HoldsFirst, IfFull, NeedsBy};
+ghost use Rattle.bx_chunks.specs.Taking.{TakesSlots};
 ghost use Rattle.bx_handles.specs.Handles.{parts_of};
 ghost use Rattle.bx_layout.specs.Inodes.{IsInode};
 ghost use Rattle.bx_layout.specs.declared.inode.Inode.{Inode as Kept};
@@ -59,6 +60,7 @@ pub(crate) fn lay<V: View>(
     ensures need { IfErr result (NeedsBy areas (V.held view.now) (OnWrittenPieces areas (V.held view.now) (V.hints view.now) handle inode.now.tree place.0 (place.0 + pieces_of place.1 written.now))) }
     ensures full { IfErr result (IfFull (LacksSlot (V.held view.now) (V.hints view.now) (parts_of handle).area areas handle inode.now.tree place.0 (place.0 + pieces_of place.1 written.now))) }
     ensures laid { IfOk result (IsLaid (V.held view.now) (V.hints view.now) (parts_of handle).area areas handle inode.now.tree) }
+    ensures taken { IfErr result (IfFirst (TakesSlots (V.held view.now) (parts_of handle).area areas [])) }
     ensures first { IfErr result (HoldsFirst (V.held view.now)) }
     ensures held { IsSome (V.held view.now (place_of handle) Exclusive) → IfOk result (IsHeldDraft (V.held view.now)) }
     ensures few { IfOk result (λ new. length new ≤ 1 + 4 * pieces_of place.1 written.now) }

@@ -2,7 +2,7 @@
 
 ghost use Rattle.std.specs.Prelude.{◌≡◌, ◌+◌, ◌≤◌, ◌<◌, ℕ, [], IfOk, IfErr, IsSome, None, length};
 ghost use Rattle.bx_changes.specs.Growing.{HoldsFirst, IfFull, NeedsBy};
-ghost use Rattle.bx_chunks.specs.Taking.{NoSlots};
+ghost use Rattle.bx_chunks.specs.Taking.{NoSlots, TakesSlots};
 ghost use Rattle.bx_files.specs.Paths.{Finds};
 ghost use Rattle.bx_layout.specs.declared.inode.Inode.{Inode as Kept};
 ghost use Rattle.bx_model.specs.declared.tree.Tree.{Tree};
@@ -51,6 +51,7 @@ pub(crate) fn prepare<V: View>(
     ensures need { IfErr result (NeedsBy near.1 (V.held view.now) (OnPrepared near.0 near.1 (V.held view.now) (V.hints view.now) root place.0)) }
     ensures known { IfOk result (λ made. FoundBy (V.held view.now) (V.hints view.now) root place.0 made.0) }
     ensures full { IfErr result (IfFull (λ spare. Finds (V.held view.now) (V.hints view.now) root (key_of_content place.0) None × NoSlots (V.held view.now) near.0 near.1 [] spare)) }
+    ensures taken { IfErr result (IfFirst (TakesSlots (V.held view.now) near.0 near.1 [])) }
     ensures first { IfErr result (HoldsFirst (V.held view.now)) }
     ensures held { IfOk result (λ made. HoldsPrepared (V.held view.now) made.0) }
     ensures long { IfOk result (λ made. length made.1 ≡ 4096) }
@@ -102,6 +103,7 @@ fn missing<V: View>(
         → IfOk result (λ made. FindsRoom near.1 truth root (key_of_content place.0)) }
     ensures need { IfErr result (NeedsBy near.1 (V.held view.now) (OnReadyPath near.0 near.1 (V.held view.now) (V.hints view.now) root (key_of_content place.0))) }
     ensures full { IfErr result (IfFull (NoSlots (V.held view.now) near.0 near.1 [])) }
+    ensures taken { IfErr result (IfFirst (TakesSlots (V.held view.now) near.0 near.1 [])) }
     ensures first { IfErr result (HoldsFirst (V.held view.now)) }
     ensures none { IfOk result (λ made. made.0 ≡ None) }
     ensures long { IfOk result (λ made. length made.1 ≡ 4096) }

@@ -2,6 +2,7 @@
 
 ghost use Rattle.std.specs.Prelude.{◌≡◌, ◌≢◌, ◌+◌, ◌≤◌, ◌<◌, ℕ, true, List, IfOk, IfErr, IsSome, Err, Some, length};
 ghost use Rattle.bx_base.specs.declared.names.Mode.TheVariants.{Exclusive};
+ghost use Rattle.bx_adding.specs.Lacking.{IfFirst};
 ghost use Rattle.bx_changes.specs.First.{ComesFirst};
 ghost use Rattle.bx_changes.specs.Growing.{HoldsFirst, IfFull, IsChangeBy, NeedsBy};
 ghost use Rattle.bx_handles.specs.Handles.{named};
@@ -17,6 +18,7 @@ ghost use Rattle.bx_truth.specs.Chunks.{block_at as place_of};
 ghost use Rattle.bx_views.specs.Attempts.{IsHeldDraft};
 ghost use Rattle.bx_views.specs.Truths.{Hints, IsTruth, Truth, with_draft};
 ghost use Rattle.bx_writes.specs.Lacking.{PreparesWriting, PreparesWritten, ReadyToLay, ReadyToWrite};
+ghost use Rattle.bx_writes.specs.Near.{IsLaidNear, IsReadiedNear, LaysNear, ReadiesNear};
 ghost use Rattle.bx_writes.specs.Paths.{IsFullWriting, LacksSlots, OnFileWritten, OnWriting};
 ghost use Rattle.bx_writes.specs.Telling.{TellsWith};
 
@@ -43,7 +45,8 @@ use std::alloc::Global;
 /// tail that tells how far they reach; else it makes room for the entry of a piece that isn't there and has none. `Need` names a block that isn't held: the
 /// file's inode, exclusively; and where that is held, one on the path of these, or of the pieces that the bytes are in. The status is the first of `STALE`,
 /// `ISDIR`, `NXIO` of a link, `ACCES` and `FBIG`; `Full` comes only where a piece that the bytes are in isn't there, and no slot is left near the file;
-/// then fewer than 8 are free. `now` is in seconds and microseconds.
+/// then fewer than 8 are free. A piece that isn't there takes the next slot near the file, and so does a page that makes room. `now` is in seconds and
+/// microseconds.
 pub fn write<V: View>(
     alloc: Global,
     volume: (u64, u16),
@@ -65,6 +68,8 @@ pub fn write<V: View>(
         → IfOk result (λ made. ReadyToWrite volume.0 volume.1 truth at.now offset written.now) }
     ensures need { IfErr result (NeedsBy volume.1 (V.held view.now) (OnWriting (V.held view.now) (V.hints view.now) volume.0 volume.1 at.now offset written.now)) }
     ensures full { IfErr result (IfFull (IsFullWriting (V.held view.now) (V.hints view.now) volume.0 volume.1 at.now offset written.now)) }
+    ensures laid { IfOk result (λ made. IsLaidNear (V.held view.now) (V.hints view.now) volume.0 volume.1 at.now written.now made.0) }
+    ensures taken { IfErr result (IfFirst (IsReadiedNear (V.held view.now) (V.hints view.now) volume.0 volume.1 at.now offset written.now)) }
     ensures first { IfErr result (HoldsFirst (V.held view.now)) }
     ensures held { IfOk result (λ made. IsHeldDraft (V.held view.now) made.0) }
 {
@@ -113,6 +118,8 @@ fn write_file<V: View>(
         → IfOk result (λ made. 0 < length written.now → ReadyToLay volume.1 truth file.0 offset written.now) }
     ensures need { IfErr result (NeedsBy volume.1 (V.held view.now) (OnFileWritten volume.1 (V.held view.now) (V.hints view.now) file.0 file.1 offset written.now)) }
     ensures full { IfErr result (IfFull (LacksSlots volume.1 (V.held view.now) (V.hints view.now) file.0 file.1 offset written.now)) }
+    ensures laid { IfOk result (λ made. LaysNear volume.1 (V.held view.now) (V.hints view.now) file.0 file.1 written.now made.0) }
+    ensures taken { IfErr result (IfFirst (ReadiesNear volume.1 (V.held view.now) file.0 file.1 offset written.now)) }
     ensures first { IsSome (V.held view.now (place_of file.0) Exclusive) → IfErr result (HoldsFirst (V.held view.now)) }
     ensures held { IsSome (V.held view.now (place_of file.0) Exclusive) → IfOk result (λ made. IsHeldDraft (V.held view.now) made.0) }
 {

@@ -26,17 +26,17 @@ pub returns-clause-recovers : goal.returns-clause-recovers
 returns-clause-recovers g c = λ volume tree doubt records tells came.
     let found = found_of volume c.args.floor tree doubt records (g.R.Rack.state c.args.rack.now) came in
     let read = rw c.in-Some.is at (c.in_ok-log.ensures.reads records found.before found.truth found.more tells found.is) in
-    c.answer.ensures.recovers volume tree doubt records (c.read_open.ensures.keeps_telling tells) (subst (Comes volume c.args.floor tree doubt records) (sym c.read_open.ensures.stays) came) read
+    c.answer.ensures.recovers volume tree doubt records (c.read_open.ensures.rack.keeps_telling tells) (subst (Comes volume c.args.floor tree doubt records) (sym c.read_open.ensures.stays) came) read
 
 pub returns-clause-left : goal.returns-clause-left
 returns-clause-left g c = λ volume tree doubt records tells came left.
     let found = found_of volume c.args.floor tree doubt records (g.R.Rack.state c.args.rack.now) came in
     let read = rw c.in-Some.is at (c.in_ok-log.ensures.reads records found.before found.truth found.more tells found.is) in
-    c.answer.ensures.left volume tree doubt records (c.read_open.ensures.keeps_telling tells) (subst (Comes volume c.args.floor tree doubt records) (sym c.read_open.ensures.stays) came) read
+    c.answer.ensures.left volume tree doubt records (c.read_open.ensures.rack.keeps_telling tells) (subst (Comes volume c.args.floor tree doubt records) (sym c.read_open.ensures.stays) came) read
 
 pub returns-clause-cause : goal.returns-clause-cause
 returns-clause-cause g c = λ fault. ⊎_elim
-    (λ rose. inl (rose_since (g.R.Rack.faults c.args.rack.now) (g.R.Rack.faults c.read_open.new.rack) (g.R.Rack.faults c.answer.new.rack) c.read_open.ensures.later.all rose))
+    (λ rose. inl (rose_since (g.R.Rack.faults c.args.rack.now) (g.R.Rack.faults c.read_open.new.rack) (g.R.Rack.faults c.answer.new.rack) c.read_open.ensures.rack.later.all rose))
     (λ (none : (records : List Logged) → IsOpenLog records c.in-Some.log → HasNone (newest_in records)). inr (λ volume tree doubt records tells came.
     let found = found_of volume c.args.floor tree doubt records (g.R.Rack.state c.args.rack.now) came in
     let read = rw c.in-Some.is at (c.in_ok-log.ensures.reads records found.before found.truth found.more tells found.is) in

@@ -13,18 +13,18 @@ returns-in_err-settle_gates-clause-left g c = λ volume tree doubt tells left.
 pub returns-clause-recovers : goal.returns-clause-recovers
 returns-clause-recovers g c = λ volume tree doubt tells left.
     let came = c.in_ok-settle_gates.ensures.comes volume c.args.floor tree doubt tells left in
-    c.go_on.ensures.recovers volume tree doubt came.0 (c.settle_gates.ensures.keeps_telling tells) came.1
+    c.go_on.ensures.recovers volume tree doubt came.0 (c.settle_gates.ensures.rack.keeps_telling tells) came.1
 
 pub returns-clause-left : goal.returns-clause-left
 returns-clause-left g c = λ volume tree doubt tells left.
     let came = c.in_ok-settle_gates.ensures.comes volume c.args.floor tree doubt tells left in
-    c.go_on.ensures.left volume tree doubt came.0 (c.settle_gates.ensures.keeps_telling tells) came.1 (c.settle_gates.ensures.left volume c.args.floor tree doubt tells left)
+    c.go_on.ensures.left volume tree doubt came.0 (c.settle_gates.ensures.rack.keeps_telling tells) came.1 (c.settle_gates.ensures.left volume c.args.floor tree doubt tells left)
 
 pub returns-clause-cause : goal.returns-clause-cause
 returns-clause-cause g c = λ fault. ⊎_elim
-    (λ rose. inl (rose_since (g.R.Rack.faults c.args.rack.now) (g.R.Rack.faults c.settle_gates.new.rack) (g.R.Rack.faults c.go_on.new.rack) c.settle_gates.ensures.later.all rose))
+    (λ rose. inl (rose_since (g.R.Rack.faults c.args.rack.now) (g.R.Rack.faults c.settle_gates.new.rack) (g.R.Rack.faults c.go_on.new.rack) c.settle_gates.ensures.rack.later.all rose))
     (λ (none : (volume : ℕ) (tree : Tree) (doubt : Option Doubt) (records : List Logged) → g.R.Rack.tells c.settle_gates.new.rack → Comes volume c.args.floor tree doubt records (g.R.Rack.state c.settle_gates.new.rack) → ⊥).
     inr (λ volume tree doubt tells left.
     let came = c.in_ok-settle_gates.ensures.comes volume c.args.floor tree doubt tells left in
-    none volume tree doubt came.0 (c.settle_gates.ensures.keeps_telling tells) came.1))
+    none volume tree doubt came.0 (c.settle_gates.ensures.rack.keeps_telling tells) came.1))
     (c.go_on.ensures.cause fault)

@@ -1,8 +1,9 @@
-use Rattle.std.proofs.Common.{◌≡◌, ◌∙◌, ◌+◌, ◌-◌, ◌*◌, ◌<◌, ℕ, List, ◌++◌, length, arith, subst, sym, refl}
+use Rattle.std.proofs.Common.{◌≡◌, ◌∙◌, ◌+◌, ◌-◌, ◌*◌, ◌<◌, ℕ, List, [], ◌++◌, length, arith, subst, sym, refl}
 use Rattle.std.specs.Prelude.{min}
 use Rattle.std.proofs.lemmas.List.{take-append-drop}
 use Rattle.bx_adding.proofs.Lacks.{so_ok}
 use Rattle.bx_writes.proofs.First.{alone_first, find_all, find_behind, one_makes, put_first, rest_makes}
+use Rattle.bx_chunks.specs.Taking.{TakesSlots}
 use Rattle.bx_handles.specs.Handles.{parts_of}
 use Rattle.bx_writes.specs.Laid.{LacksSlot}
 use Rattle.bx_writes.proofs.Entries.{alone_full, alone_is, first_full, put_full, rest_full}
@@ -184,3 +185,12 @@ returns-in-Ok-lay-clause-finds g n c = λ volume truth tree old r root_is.
     so_ok (0 < length written → FindEntries c.args.areas truth root c.args.place.0 (c.args.place.0 + pieces_of c.args.place.1 written))
     (λ more. find_all c.args.areas truth root c.args.place.0 (pieces_of 0 rest) (pieces_of c.args.place.1 written) count (c.in-Ok.ensures.finds volume truth tree c.args.handle old r root_is)
     (find_behind c.args.areas truth root (c.args.place.0 + 1) rest (c.in-Ok-lay.ensures.finds volume truth tree old r root_is))) c.put_piece.result
+
+pub returns-then-is_empty-clause-taken : goal.returns-then-is_empty-clause-taken
+returns-then-is_empty-clause-taken g n c = alone_first (TakesSlots (g.V.View.held c.args.view.now) (parts_of c.args.handle).area c.args.areas []) c.args.handle c.args.inode.now c.inode_alone.result c.inode_alone.ensures
+
+pub returns-in-Err-clause-taken : goal.returns-in-Err-clause-taken
+returns-in-Err-clause-taken g n c = rw c.of.ensures at c.in-Err.ensures.taken
+
+pub returns-in-Ok-lay-clause-taken : goal.returns-in-Ok-lay-clause-taken
+returns-in-Ok-lay-clause-taken g n c = put_first (TakesSlots (g.V.View.held c.args.view.now) (parts_of c.args.handle).area c.args.areas []) c.put_piece.result c.put_piece.ensures.inner

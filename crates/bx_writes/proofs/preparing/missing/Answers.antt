@@ -4,7 +4,7 @@ use Rattle.bx_ready.specs.Ready.{OnReadyPath, ReadiesIn}
 use Rattle.bx_records.specs.Drafts.{Changed}
 use Rattle.bx_adding.proofs.Lacks.{not_first}
 use Rattle.bx_adding.proofs.Stopped.{full_stops, needs_stop}
-use Rattle.bx_chunks.specs.Taking.{NoSlots}
+use Rattle.bx_chunks.specs.Taking.{NoSlots, TakesSlots}
 use Rattle.bx_ready.specs.Lacking.{MakesRoom}
 use Rattle.bx_truth.specs.Keys.{content_key}
 use Rattle.bx_writes.proofs.Missing.{finding, leaves, making, stopped, under}
@@ -51,3 +51,9 @@ returns-in-Err-clause-need g c =
 
 pub returns-in-Err-clause-full : goal.returns-in-Err-clause-full
 returns-in-Err-clause-full g c = full_stops (Option (List Changed)) c.args.near.1 (NoSlots (g.V.View.held c.args.view.now) c.args.near.0 c.args.near.1 []) c.in-Err.error c.of_tree.result c.in-Err.ensures.full c.of_tree.ensures
+
+pub returns-in-Err-clause-taken : goal.returns-in-Err-clause-taken
+returns-in-Err-clause-taken g c = not_first c.args.near.1 (TakesSlots (g.V.View.held c.args.view.now) c.args.near.0 c.args.near.1 []) c.in-Err.error c.of_tree.result c.of_tree.ensures
+
+pub returns-in-Ok-Some-clause-taken : goal.returns-in-Ok-Some-clause-taken
+returns-in-Ok-Some-clause-taken g c = rw c.in-Ok-Some.field-0-is (rw c.in-Ok-Some.field-0-is at c.in-Ok-Some.ensures.taken)

@@ -1,7 +1,8 @@
-use Rattle.std.proofs.Common.{◌∙◌, ℕ, List, Option, Err, ap, subst, sym}
+use Rattle.std.proofs.Common.{◌∙◌, ℕ, List, [], Option, Err, ap, subst, sym}
 use Rattle.bx_files.specs.Reads.{Tells}
 use Rattle.bx_page.specs.Contents.{value_of}
 use Rattle.bx_truth.specs.PageTrees.{handle_in, map_of}
+use Rattle.bx_chunks.specs.Taking.{TakesSlots}
 use Rattle.bx_writes.proofs.First.{found_first, value_first}
 use Rattle.bx_writes.proofs.Missing.{entry_found, entry_makes, entry_there, found_in, misses_in, value_stops}
 use Rattle.bx_adding.proofs.Lacks.{full_if}
@@ -62,3 +63,10 @@ returns-in-Ok-Some-clause-known g c =
 
 pub returns-in-Ok-Some-clause-full : goal.returns-in-Ok-Some-clause-full
 returns-in-Ok-Some-clause-full g c = found_full c.args.near.1 (g.V.View.held c.args.view.now) c.handle_in.result c.args.place.1 c.args.part.now _ c.found.result c.found.ensures.at
+
+pub returns-in-Err-clause-taken : goal.returns-in-Err-clause-taken
+returns-in-Err-clause-taken g c = value_first (Option (List ℕ)) (TakesSlots (g.V.View.held c.args.view.now) c.args.near.0 c.args.near.1 []) c.in-Err.stop c.in-Err.ensures.inner
+
+pub returns-in-Ok-Some-clause-taken : goal.returns-in-Ok-Some-clause-taken
+returns-in-Ok-Some-clause-taken g c =
+    found_first (TakesSlots (g.V.View.held c.args.view.now) c.args.near.0 c.args.near.1 []) c.args.near.1 (g.V.View.held c.args.view.now) c.handle_in.result c.args.place.1 c.args.part.now c.found.result c.found.ensures.at

@@ -8,6 +8,8 @@ use Rattle.bx_records.specs.Drafts.{Changed}
 use Rattle.bx_views.specs.Truths.{with_draft}
 use Rattle.bx_model.specs.Writing.{write}
 use Rattle.bx_sizes.proofs.First.{no_inode_stops}
+use Rattle.bx_writes.proofs.Near.{named_laid, named_readied, no_inode_first}
+use Rattle.bx_writes.specs.Near.{IsReadiedNear}
 use Rattle.bx_writes.proofs.First.{named_first, named_ready}
 use Rattle.bx_writes.specs.Lacking.{PreparesWriting, PreparesWritten}
 use Rattle.bx_writes.proofs.Wrote.{full_writing, no_name, on_writing, stopped}
@@ -68,3 +70,22 @@ returns-clause-full g c =
     let hints = g.V.View.hints c.args.view.now in
     full_writing held hints c.args.volume.0 c.args.volume.1 c.args.at.now c.args.offset c.args.written.now c.in-Some.handle c.in-Ok.inode (sym c.in-Some.ensures)
     (subst (λ (d : List Changed). LiveAt (reads_with held hints d) c.args.volume.1 c.in-Some.handle Exclusive c.in-Ok.inode) c.new-none.ensures c.in-Ok.ensures.at) c.write_file.result c.write_file.ensures.full
+
+pub returns-clause-laid : goal.returns-clause-laid
+returns-clause-laid g c =
+    let held = g.V.View.held c.args.view.now in
+    let hints = g.V.View.hints c.args.view.now in
+    named_laid held hints c.args.volume.0 c.args.volume.1 c.args.at.now c.args.offset c.args.written.now c.in-Some.handle c.in-Ok.inode (sym c.in-Some.ensures)
+    (subst (λ (d : List Changed). LiveAt (reads_with held hints d) c.args.volume.1 c.in-Some.handle Exclusive c.in-Ok.inode) c.new-none.ensures c.in-Ok.ensures.at) c.write_file.result c.write_file.ensures.laid
+
+pub returns-in-Err-clause-taken : goal.returns-in-Err-clause-taken
+returns-in-Err-clause-taken g c =
+    no_inode_first (IsReadiedNear (g.V.View.held c.args.view.now) (g.V.View.hints c.args.view.now) c.args.volume.0 c.args.volume.1 c.args.at.now c.args.offset c.args.written.now)
+    (reads_with (g.V.View.held c.args.view.now) (g.V.View.hints c.args.view.now) c.new-none.result) c.args.volume.1 c.in-Some.handle Exclusive c.in-Err.stop c.in-Err.ensures.at
+
+pub returns-clause-taken : goal.returns-clause-taken
+returns-clause-taken g c =
+    let held = g.V.View.held c.args.view.now in
+    let hints = g.V.View.hints c.args.view.now in
+    named_readied held hints c.args.volume.0 c.args.volume.1 c.args.at.now c.args.offset c.args.written.now c.in-Some.handle c.in-Ok.inode (sym c.in-Some.ensures)
+    (subst (λ (d : List Changed). LiveAt (reads_with held hints d) c.args.volume.1 c.in-Some.handle Exclusive c.in-Ok.inode) c.new-none.ensures c.in-Ok.ensures.at) c.write_file.result c.write_file.ensures.taken

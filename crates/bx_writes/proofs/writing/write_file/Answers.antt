@@ -20,10 +20,14 @@ use Rattle.bx_sizes.proofs.First.{behind_end, never_stops}
 use Rattle.bx_sizes.proofs.Resized.{leaves_trees, regular_bytes}
 use Rattle.bx_sizes.specs.Lengths.{grows_over}
 use Rattle.bx_views.specs.Truths.{with_draft}
-use Rattle.bx_adding.proofs.Lacks.{so_ok}
-use Rattle.bx_writes.proofs.First.{first_by, ready_to_lay, told_first}
+use Rattle.bx_adding.proofs.Lacks.{first_so, so_ok}
+use Rattle.bx_writes.proofs.First.{first_by, ready_to_lay, told_first, value_first}
 use Rattle.bx_writes.proofs.Laid.{none_of, some_of}
 use Rattle.bx_writes.specs.Lacking.{FindEntries, MakesEntries, PreparesWritten, ReadyToLay}
+use Rattle.bx_writes.proofs.Near.{lays_nothing, lays_some, told_none, told_so}
+use Rattle.bx_writes.specs.Laid.{IsLaid}
+use Rattle.bx_writes.specs.Near.{LaysNear, ReadiesNear}
+use Rattle.bx_handles.specs.Handles.{parts_of}
 use Rattle.bx_writes.proofs.Wrote.{accepted, bytes as file_bytes, clear_stops, full, grows, kind_is, lay_stops, nothing, told_changes, told_hints, wrote}
 use Rattle.bx_writes.proofs.writing.write_file.Goals as goal
 
@@ -209,3 +213,39 @@ returns-clause-ready g c = λ truth tree bytes few same s fit f is.
     (ap (λ (n : ℕ). grows_over inode (n + length written)) (sym c.from.ensures) ∙ sym c.grows_over.ensures ∙ c.if-grows_over.false)
     (subst (λ (r : ℕ). FindEntries c.args.volume.1 truth r (offset / 4096) (offset / 4096 + pieces_of (offset % 4096) written)) root_is
     (c.in-Ok-lay.ensures.finds c.args.volume.0 truth tree inode (record { few = few; same = same; stands = s; fit = fit; at = f; kind = kind }) (sym root_is) some))) c.told-in-Ok-lay.result
+
+pub returns-then-is_empty-clause-laid : goal.returns-then-is_empty-clause-laid
+returns-then-is_empty-clause-laid g c =
+    let near = LaysNear c.args.volume.1 (g.V.View.held c.args.view.now) (g.V.View.hints c.args.view.now) c.args.file.0 c.args.file.1 c.args.written.now in
+    told_so near c.args.volume.0 c.args.file.0 c.args.file.1 c.new.result c.told.result c.told.ensures
+    (lays_nothing c.args.volume.1 (g.V.View.held c.args.view.now) (g.V.View.hints c.args.view.now) c.args.file.0 c.args.file.1 c.args.written.now c.new.result (none_of (length c.args.written.now) c.if-is_empty.ensures) c.new.ensures)
+
+pub returns-clause-laid : goal.returns-clause-laid
+returns-clause-laid g c =
+    let held = g.V.View.held c.args.view.now in
+    let hints = g.V.View.hints c.args.view.now in
+    let handle = c.args.file.0 in
+    let inode = c.args.file.1 in
+    let written = c.args.written.now in
+    let root_is : c.grown-changed.result.tree ≡ inode.tree = ap (λ (i : Inode). i.tree) c.grown-changed.ensures.is in
+    told_so (LaysNear c.args.volume.1 held hints handle inode written) c.args.volume.0 handle c.grown-changed.result c.in-Ok-lay.draft c.told-in-Ok-lay.result c.told-in-Ok-lay.ensures
+    (lays_some c.args.volume.1 held hints handle inode written c.in-Ok-lay.draft (some_of (length written) c.if-is_empty.ensures)
+    (subst (λ (root : ℕ). IsLaid held hints (parts_of handle).area c.args.volume.1 handle root c.in-Ok-lay.draft) root_is c.in-Ok-lay.ensures.laid))
+
+pub returns-then-is_empty-clause-taken : goal.returns-then-is_empty-clause-taken
+returns-then-is_empty-clause-taken g c =
+    told_none (ReadiesNear c.args.volume.1 (g.V.View.held c.args.view.now) c.args.file.0 c.args.file.1 c.args.offset c.args.written.now) c.args.volume.0 c.args.file.0 c.args.file.1 c.new.result c.told.result c.told.ensures
+
+pub returns-in-Err-clear-clause-taken : goal.returns-in-Err-clear-clause-taken
+returns-in-Err-clear-clause-taken g c =
+    value_first (List Changed) (ReadiesNear c.args.volume.1 (g.V.View.held c.args.view.now) c.args.file.0 c.args.file.1 c.args.offset c.args.written.now) c.in-Err-clear.stop c.in-Err-clear.ensures.inner
+
+pub returns-in-Ok-clause-taken : goal.returns-in-Ok-clause-taken
+returns-in-Ok-clause-taken g c = inl (ap (λ (n : ℕ). grows_over c.args.file.1 (n + length c.args.written.now)) (sym c.from.ensures) ∙ sym c.grows_over.ensures ∙ c.if-grows_over.true)
+
+pub returns-in-Err-lay-clause-taken : goal.returns-in-Err-lay-clause-taken
+returns-in-Err-lay-clause-taken g c = first_so (λ new taken. inr taken) c.in-Err-lay.error c.in-Err-lay.ensures.taken
+
+pub returns-clause-taken : goal.returns-clause-taken
+returns-clause-taken g c =
+    told_none (ReadiesNear c.args.volume.1 (g.V.View.held c.args.view.now) c.args.file.0 c.args.file.1 c.args.offset c.args.written.now) c.args.volume.0 c.args.file.0 c.grown-changed.result c.in-Ok-lay.draft c.told-in-Ok-lay.result c.told-in-Ok-lay.ensures

@@ -63,3 +63,6 @@ returns-else-call-eq-STATFS-clause-fair g c =
 
 pub returns-else-call-eq-STATFS-clause-free : goal.returns-else-call-eq-STATFS-clause-free
 returns-else-call-eq-STATFS-clause-free g c = λ truth tree asks same s. absurd (c.if-call-eq-STATFS.false asks)
+
+pub returns-then-call-eq-STATFS-clause-enough : goal.returns-then-call-eq-STATFS-clause-enough
+returns-then-call-eq-STATFS-clause-enough g c = λ other. absurd (other c.if-call-eq-STATFS.true)

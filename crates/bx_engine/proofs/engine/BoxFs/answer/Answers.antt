@@ -5,7 +5,7 @@ use Rattle.bx_chunks.specs.Counting.{free_slots}
 use Rattle.bx_directory_reads.specs.Lookups.{OnLooking}
 use Rattle.bx_engine.proofs.Along.{fair_along}
 use Rattle.bx_engine.proofs.Acting.{gives_by, lookup_acts, mount_acts, nothing_acts, read_acts, readdir_acts, refused_acts}
-use Rattle.bx_engine.proofs.Stopping.{answered_comes}
+use Rattle.bx_engine.proofs.Stopping.{answered_comes, answered_enough}
 use Rattle.bx_engine.specs.Calls.{HasReadArgs}
 use Rattle.bx_engine.specs.Outcomes.{told_free}
 use Rattle.bx_engine.specs.Paths.{ReadPathOf}
@@ -74,7 +74,7 @@ returns-in-Handle-clause-free g c = λ at truth tree asks same s.
     let is : c.args.call.now.args ≡ Handle c.bytes-in-Handle.result.now = c.in-Handle.is ∙ ap (λ (b : List ℕ). Handle b) (sym c.bytes-in-Handle.ensures) in
     let here : Handle c.bytes-in-Handle.result.now ≡ Handle at = sym is ∙ asks.args in
     let one : c.bytes-in-Handle.result.now ≡ at = cc in
-    subst (λ (bytes : List ℕ). IfOk c.about_file.result (IfActed (λ done. done.spare ≡ told_free free (statfs tree bytes free)))) one (c.about_file.ensures.free truth tree asks.procedure same s)
+    subst (λ (bytes : List ℕ). IfOk c.about_file.result (IfActed (λ done. done.spare ≡ told_free free (statfs tree bytes free)))) one (c.about_file.ensures.free truth tree asks.is.procedure same s)
 
 pub returns-in-Refused-clause-free : goal.returns-in-Refused-clause-free
 returns-in-Refused-clause-free g c = λ at truth tree asks same s. let never = sym c.in-Refused.is ∙ asks.args in absurd cc
@@ -145,3 +145,18 @@ returns-in-List-clause-fair g c =
 
 pub returns-in-List-clause-free : goal.returns-in-List-clause-free
 returns-in-List-clause-free g c = λ at truth tree asks same s. let never = sym c.in-List.is ∙ asks.args in absurd cc
+
+pub returns-in-Refused-clause-enough : goal.returns-in-Refused-clause-enough
+returns-in-Refused-clause-enough g c = λ none. answered_enough c.args.xid c.answered.result (replies.Refused c.in-Refused.number c.args.call.now.program) c.answered.ensures
+
+pub returns-in-Nothing-clause-enough : goal.returns-in-Nothing-clause-enough
+returns-in-Nothing-clause-enough g c = λ none. answered_enough c.args.xid c.answered-in-Nothing.result _ c.answered-in-Nothing.ensures
+
+pub returns-in_ok-reply-in-Path-clause-enough : goal.returns-in_ok-reply-in-Path-clause-enough
+returns-in_ok-reply-in-Path-clause-enough g c = λ none. answered_enough c.args.xid c.answered-in-Path.result _ c.answered-in-Path.ensures
+
+pub returns-in-Handle-clause-enough : goal.returns-in-Handle-clause-enough
+returns-in-Handle-clause-enough g c = λ none.
+    let is : c.args.call.now.args ≡ Handle c.bytes-in-Handle.result.now = c.in-Handle.is ∙ ap (λ (b : List ℕ). Handle b) (sym c.bytes-in-Handle.ensures) in
+    let about = subst (HasReadArgs c.args.call.now) c.in-Handle.is c.requires.reading in
+    c.about_file.ensures.enough (λ asks. none c.bytes-in-Handle.result.now (record { args = is; is = record { program = about.program; procedure = asks } }))

@@ -5,6 +5,8 @@ use Rattle.bx_engine.proofs.Along.{fair_along}
 use Rattle.bx_engine.specs.Paths.{PathOf, ReadPathOf}
 use Rattle.bx_attempts.specs.First.{PreparesFirst, ReadyBy}
 use Rattle.bx_engine.proofs.First.{quiet_first, quiet_ready}
+use Rattle.bx_engine.proofs.Fullness.{change_lacks, enough_lacks}
+use Rattle.bx_engine.specs.Full.{LacksRoom}
 use Rattle.bx_engine.proofs.engine.BoxFs.attempt_call.Goals as goal
 
 pub returns-then-is_change-clause-fair : goal.returns-then-is_change-clause-fair
@@ -35,3 +37,13 @@ pub returns-else-is_change-clause-ready : goal.returns-else-is_change-clause-rea
 returns-else-is_change-clause-ready g c = λ truth tree same s.
     let fs = c.args.self.now in
     IfOk-weaker c.answer.result _ _ (quiet_ready (ReadyBy fs.volume fs.areas truth tree c.args.call.now.procedure c.args.call.now.args)) c.answer.ensures.keeps
+
+pub returns-then-is_change-clause-full : goal.returns-then-is_change-clause-full
+returns-then-is_change-clause-full g c = λ none.
+    let fs = c.args.self.now in
+    IfOk-weaker c.change.result _ _ (change_lacks (g.V.View.held c.args.view.now) (g.V.View.hints c.args.view.now) fs.volume fs.areas c.args.call.now (c.is_change.ensures.0 c.if-is_change.true)) c.change.ensures.full
+
+pub returns-else-is_change-clause-full : goal.returns-else-is_change-clause-full
+returns-else-is_change-clause-full g c = λ none.
+    let fs = c.args.self.now in
+    IfOk-weaker c.answer.result _ _ (enough_lacks (LacksRoom (g.V.View.held c.args.view.now) (g.V.View.hints c.args.view.now) fs.volume fs.areas c.args.call.now)) (c.answer.ensures.enough none)

@@ -1,6 +1,6 @@
 use Rattle.std.proofs.lemmas.Result.{IfOk-weaker}
 use Rattle.bx_base.specs.declared.names.Mode.TheVariants.{Shared}
-use Rattle.bx_engine.proofs.Stopping.{answer_comes, stops_come, stops_fair}
+use Rattle.bx_engine.proofs.Stopping.{answer_comes, answered_enough, stopped_enough, stops_come, stops_fair}
 use Rattle.bx_inodes.specs.Stops.{OnInode}
 use Rattle.bx_model.specs.declared.reply.Reply.{Reply}
 use Rattle.bx_model.specs.Reading.{getattr}
@@ -23,3 +23,9 @@ returns-in-Err-clause-fair g c =
     let fs = c.args.self.now in
     IfOk-weaker c.stopped.result _ _
     (λ attempt is. stops_fair c.args.xid attempt Reply fs.areas (g.V.View.held c.args.view.now) (OnInode fs.volume c.args.at.now Shared) c.in-Err.stop c.in-Err.ensures.need c.in-Err.ensures.inner is) c.stopped.ensures
+
+pub returns-in-Ok-clause-enough : goal.returns-in-Ok-clause-enough
+returns-in-Ok-clause-enough g c = answered_enough c.args.xid c.answered.result c.in-Ok.reply c.answered.ensures
+
+pub returns-in-Err-clause-enough : goal.returns-in-Err-clause-enough
+returns-in-Err-clause-enough g c = stopped_enough c.args.xid c.stopped.result c.in-Err.stop c.stopped.ensures

@@ -4,6 +4,7 @@ use Rattle.bx_engine.proofs.Spare.{attempt_tells}
 use Rattle.bx_engine.specs.Datagrams.{asks_as, at_once_as, on_path, reading_as}
 use Rattle.bx_engine.specs.Paths.{IsOnPath, PathOf}
 use Rattle.bx_engine.proofs.First.{first_call, ready_call}
+use Rattle.bx_engine.proofs.Fullness.{full_call}
 use Rattle.bx_engine.proofs.engine.BoxFsEngine.attempt.Goals as goal
 
 pub returns-clause-gives : goal.returns-clause-gives
@@ -46,3 +47,10 @@ pub returns-clause-ready : goal.returns-clause-ready
 returns-clause-ready g c = λ truth tree same s.
     let found = rw c.in-Some.is at c.in_ok-xid.ensures.found in
     ready_call c.args.self.now.volume c.args.self.now.areas truth tree c.args.call.now c.in-Some.xid c.in-Some.read found c.in_ok-attempt.attempt (c.in_ok-attempt.ensures.ready truth tree same s)
+
+pub returns-clause-full : goal.returns-clause-full
+returns-clause-full g c = λ other.
+    let found = rw c.in-Some.is at c.in_ok-xid.ensures.found in
+    let fs = c.args.self.now in
+    full_call (g.V.View.held c.args.view.now) (g.V.View.hints c.args.view.now) fs.volume fs.areas c.in-Some.read c.args.call.now c.in-Some.xid found c.in_ok-attempt.attempt
+    (c.in_ok-attempt.ensures.full (λ at asks. other (at, record { xid = c.in-Some.xid; call = c.in-Some.read; reads = found; asks = asks })))

@@ -1,16 +1,21 @@
 -- Which command line words spell, and how each ends where there was no memory to read them: nothing was done.
-use Rattle.std.proofs.Common.{◌≡◌, ℕ, List, [], ◌∷◌, inl, inr, refl, arith, codes}
+use Rattle.std.proofs.Common.{◌≡◌, ◌≢◌, ◌⊎◌, ◌==◌, ◌||◌, ℕ, Bool, true, false, List, [], ◌∷◌, inl, inr, refl, subst, sym, arith, codes}
+use Rattle.std.proofs.lemmas.Bool.{and_parts}
+use Rattle.std.proofs.lemmas.Bool.Decides.{nat_tests}
+use Rattle.std.specs.List.{list_all, list_any}
 use Rattle.bx_command_line.proofs.Lines.{one_line}
 use Rattle.bx_command_line.specs.declared.command_line.CommandLine.{CommandLine}
 use Rattle.bx_command_line.specs.declared.command_line.CommandLine.TheVariants.{Replay, Format, Check}
-use Rattle.bx_command_line.specs.CommandLines.{Spell}
+use Rattle.bx_command_line.specs.CommandLines.{AreInRange, AreNone, AreWordsOf, Spell}
 use Rattle.bx_disk.specs.declared.rack.Rack as racks
 use Rattle.bx_layout.specs.declared.label.Label.{Label}
 use Rattle.bx_outside.specs.declared.sink.Sink as sinks
 use Rattle.bx_outside.specs.declared.source.Source as sources
+use Rattle.bx_places.specs.Places.{IsVolume}
 use Rattle.bx_replay.proofs.Goings.{begins_broken}
 use Rattle.bx_statuses.specs.Checks.{CheckEnds}
 use Rattle.bx_statuses.specs.Formats.{FormatEnds}
+use Rattle.bx_statuses.specs.Report.{IsAmong}
 use Rattle.bx_top.specs.Replays.{ReplayEnds}
 
 -- ---- words
@@ -30,6 +35,40 @@ module _ (words : List (List ℕ)) where
 
   pub format_or_check : {A : Type 0} (volume devices areas : ℕ) → Spell words (Format volume devices areas) → Spell words Check → A
   format_or_check volume devices areas one other = absurd (let e = one_line words (Format volume devices areas) Check one other in cc)
+
+  -- the label of a volume that words ask for
+  abbrev pub label_of : (volume devices areas : ℕ) → Label
+  label_of volume devices areas = record { volume = volume; disk = 0; devices = devices; areas = areas }
+
+  pub format_as : {R : Type 0} (rack : racks.Ghosts R) (old new : R) (status v d a volume devices areas : ℕ) → Spell words (Format v d a) → Spell words (Format volume devices areas)
+      → FormatEnds rack (label_of v d a) old new status → FormatEnds rack (label_of volume devices areas) old new status
+  format_as rack old new status v d a volume devices areas one other ends =
+      let same = one_line words (Format v d a) (Format volume devices areas) one other in
+      let volumes : v ≡ volume = cc in
+      let many : d ≡ devices = cc in
+      let parts : a ≡ areas = cc in
+      rw (volumes, many, parts) at ends
+
+pub is_volume : (volume devices areas : ℕ) → AreInRange volume devices areas → IsVolume devices areas
+is_volume volume devices areas range = record { least_devices = range.least_devices; most_devices = range.most_devices; least_areas = range.least_areas; most_areas = range.most_areas }
+
+-- ---- statuses
+
+-- one of these is one of more
+pub among_more : (some more : List ℕ) (status : ℕ) → list_all (λ s. list_any (λ t. t == s) more) some ≡ true → IsAmong some status → IsAmong more status
+among_more [] more status sub is = absurd cc
+among_more (s ∷ some) more status sub is = by (s == status) refl is
+  where
+    parts : (list_any (λ t. t == s) more ≡ true) × (list_all (λ s. list_any (λ t. t == s) more) some ≡ true)
+    parts = and_parts (list_any (λ t. t == s) more) (list_all (λ s. list_any (λ t. t == s) more) some) sub
+
+    by : (b : Bool) → (s == status) ≡ b → (b || list_any (λ t. t == status) some) ≡ true → IsAmong more status
+    by true same any = subst (IsAmong more) (let e : s ≡ status = grind (arith, nat_tests, same) in e) parts.0
+    by false other any = among_more some more status parts.1 any
+
+pub is_nine : (status : ℕ) → (status ≡ 9) ⊎ ((9 ≡ 2) × (status ≡ 9)) → status ≡ 9
+is_nine status (inl nine) = nine
+is_nine status (inr both) = both.1
 
 -- ---- no memory
 

@@ -3,6 +3,7 @@ use Rattle.std.proofs.Common.{◌≡◌, ◌≢◌, ◌⊎◌, ◌==◌, ◌||�
 use Rattle.std.proofs.lemmas.Bool.{and_parts}
 use Rattle.std.proofs.lemmas.Bool.Decides.{nat_tests}
 use Rattle.std.specs.List.{list_all, list_any}
+use Rattle.std.specs.Prelude.{Option, Some, None}
 use Rattle.bx_command_line.proofs.Lines.{one_line}
 use Rattle.bx_command_line.specs.declared.command_line.CommandLine.{CommandLine}
 use Rattle.bx_command_line.specs.declared.command_line.CommandLine.TheVariants.{Replay, Format, Check}
@@ -22,6 +23,15 @@ use Rattle.bx_top.specs.Replays.{ReplayEnds}
 
 pub spell_replay : (words : List (List ℕ)) → words ≡ codes "replay" ∷ [] → Spell words Replay
 spell_replay words are = record { are = are; in_range = tt }
+
+pub spell_of : (words : List (List ℕ)) (found : Option CommandLine) (line : CommandLine) → found ≡ Some line → AreWordsOf words found → Spell words line
+spell_of words None line is are = absurd cc
+spell_of words (Some other) line is are = subst (Spell words) (let same : other ≡ line = cc in same) are
+
+-- words that were read as no command line
+pub none_of : (words : List (List ℕ)) (found : Option CommandLine) → found ≡ None → AreWordsOf words found → AreNone words
+none_of words None is are = are
+none_of words (Some line) is are = absurd cc
 
 pub spell_check : (words : List (List ℕ)) → words ≡ codes "check" ∷ [] → Spell words Check
 spell_check words are = record { are = are; in_range = tt }

@@ -1,6 +1,7 @@
 -- The bodies of inodes with trees, both ways.
-use Rattle.std.proofs.Common.{◌≡◌, ℕ, ◌/◌, ◌%◌, ◌^◌, ◌<◌, ◌⊎◌, inl, inr, arith, lit<, List, [], ◌++◌, length, get_or, refl, sym, ap, ◌∙◌, subst, Option, Some, None}
+use Rattle.std.proofs.Common.{◌≡◌, ℕ, ◌/◌, ◌%◌, ◌^◌, ◌<◌, ◌⊎◌, inl, inr, arith, lit<, List, [], ◌++◌, length, take, get_or, refl, sym, ap, ◌∙◌, subst, Option, Some, None}
 use Rattle.std.specs.Prelude.{All, Contains, ◌≢◌, option_and_then}
+use Rattle.std.proofs.lemmas.List.{take_all}
 use Rattle.std.proofs.lemmas.List.Elements.{Contains-get_or}
 use Rattle.bx_layout.specs.declared.block.Block.{Block}
 use Rattle.bx_layout.specs.declared.inode.Inode.{Inode}
@@ -21,15 +22,19 @@ use Rattle.bx_truth.proofs.PieceKeys.{one_index, one_handle}
 use Rattle.bx_truth.proofs.Put.{is_live}
 use Rattle.bx_audit_files.proofs.PairedEntries.{value_at, of_all}
 use Rattle.bx_audit_files.proofs.Rising.{map_rises}
+use Rattle.bx_audit_files.specs.Inodes.{IsBlockAt}
 use Rattle.bx_audit_trees.specs.Trees.{tree_of}
 use Rattle.bx_audit_bodies.specs.Bodies.{HasPieces, IsBodyOf, HasBodyOf, file_with}
 use Rattle.bx_audit_bodies.specs.Claiming.{page_claims, piece_claims}
 use Rattle.bx_audit_bodies.specs.Claims.{AgreesWith, AreClaims, IsNamedBy, IsPieceNamed}
+use Rattle.bx_audit_bodies.specs.Contents.{HasClear, IsClear}
+use Rattle.bx_audit_bodies.specs.Parts.{IsUnclearPiece}
 use Rattle.bx_audit_bodies.specs.Pieces.{IsPieceEntry, AreApart, HasPiece, piece_among}
 use Rattle.bx_audit_bodies.specs.declared.claims.Claim.{Claim}
 use Rattle.bx_audit_bodies.specs.declared.pieces.Piece.{Piece}
 use Rattle.bx_audit_bodies.proofs.ClaimsOfTrees.{all_claimed, are_claims, agree, complete, has_root, pages_own}
 use Rattle.bx_audit_bodies.proofs.EntriesOfPieces.{apart, piece_found, names_it, entry_is, named_by}
+use Rattle.bx_audit_bodies.proofs.PiecesRead.{bytes_there, no_bytes_of}
 
 some_file : (file : File) → Some file ≡ None → ⊥
 some_file file e = cc
@@ -246,6 +251,28 @@ module _ (chunks : Chunks) (none : chunks 0 ≡ None) (inode : Inode) (pieces : 
         bytes_as (piece_of chunks other) (piece_among chunks pieces) inode.size inode.tail r.0 (omega (arith, r.2, r.1.bytes_are.long))
             (λ index fits. sym (piece_found chunks index fits (map_of (tree_of read.levels)) pieces read.are_pieces)
             ∙ sym (ap (λ (l : List Entry). option_and_then (λ value. chunks (handle_in value)) (value_of l (content_key index))) maps)) r.1.bytes_are,
+      )
+
+  -- where a piece has no clear block, it is of none
+  pub unclear_not : (owner : ℕ → Owner) (handle : ℕ) (other : PageTree) (found : Option File) (wanted : ℕ) → inode.kind ≡ 1 → IsUnclearPiece chunks pieces inode.tail wanted
+      → IsBodyOf chunks owner handle inode other found → ⊥
+  unclear_not owner handle other found wanted kind torn body =
+      let r = regular_bytes owner handle other found kind body in
+      let p = torn.piece in
+      let k = torn.there.0 in
+      let here : get_or pieces k p ≡ p = torn.there.2 in
+      let fits : (get_or pieces k p).index < 2 ^ 32 = subst (λ (q : Piece). q.index < 2 ^ 32) (sym here) (there p torn.there).index_fits in
+      no_bytes_of chunks pieces k p torn.there.1 inode.size inode.tail r.0 apart_read fits
+      (subst (λ (q : Piece). (block : Block) → IsBlockAt chunks q.handle 3 block → IsClear inode.tail q.index block.payload → ⊥) (sym here) torn.wrong) r.1 r.2
+
+  -- where each piece has one, it is of some file
+  pub clear_read : (handle : ℕ) → IsInode inode → inode.kind ≡ 1 → inode.size < 2 ^ 31 → All (HasClear chunks inode.tail) pieces → (file : File) × HasBodyOf chunks handle inode (Some file) claims
+  clear_read handle is_inode kind small clear =
+      let blocks : All (HasPiece chunks) pieces = λ k d less. record { block = (clear k d less).block; at = (clear k d less).at } in
+      let b = bytes_there chunks pieces inode.size inode.tail apart_read clear (length pieces) (omega arith) in
+      let all : take (length pieces) pieces ≡ pieces = take_all (length pieces) pieces (omega arith) in (
+        file_with handle inode (Bytes b.0),
+        regular_read blocks handle b.0 is_inode kind small (subst (λ (l : List Piece). AreBytesOf (piece_among chunks l) inode.size inode.tail b.0) all b.1),
       )
 
 -- ---- a directory's tree, as it was read

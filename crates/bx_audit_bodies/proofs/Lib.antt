@@ -5,8 +5,8 @@ pub mod PiecesAmong
 pub mod PiecesInBytes
 pub mod BodiesOfTrees
 pub mod PiecesRead
-pub mod Followers
 pub mod Cases
 pub mod ReadFiles
 pub mod PartsLed
 pub mod FaultsOfParts
+pub mod Outlined

@@ -1,5 +1,5 @@
 -- Pieces read one by one.
-use Rattle.std.proofs.Common.{◌≡◌, ℕ, ◌+◌, ◌-◌, ◌*◌, ◌^◌, ◌<◌, ◌≤◌, ◌⊎◌, inl, inr, min, arith, List, [], ◌∷◌, ◌++◌, length, take, drop, get_or, replicate, sym, ap, ◌∙◌, subst, Option, Some}
+use Rattle.std.proofs.Common.{◌≡◌, ℕ, zero, suc, ◌+◌, ◌-◌, ◌*◌, ◌^◌, ◌<◌, ◌≤◌, ◌⊎◌, inl, inr, min, arith, List, [], ◌∷◌, ◌++◌, length, take, drop, get_or, replicate, refl, sym, ap, ◌∙◌, subst, Option, Some}
 use Rattle.std.specs.Prelude.{All, ◌≢◌}
 use Rattle.std.proofs.lemmas.List.{ext_get_or, take_more, length-take, length-drop, length-replicate, get_or-take, get_or-drop, get_or-replicate, get_or_default, get_or_past}
 use Rattle.std.proofs.lemmas.List.Elements.{All-push}
@@ -7,11 +7,11 @@ use Rattle.bx_audit_files.specs.Inodes.{IsBlockAt}
 use Rattle.bx_layout.specs.declared.block.Block.{Block}
 use Rattle.bx_truth.specs.PageTrees.{Chunks}
 use Rattle.bx_truth.specs.Stored.{AreBytesOf, byte_in}
-use Rattle.bx_audit_bodies.specs.Contents.{IsClear, PutsPiece, with_piece}
+use Rattle.bx_audit_bodies.specs.Contents.{HasClear, IsClear, PutsPiece, with_piece}
 use Rattle.bx_audit_bodies.specs.Pieces.{AreApart, HasPiece, piece_among}
 use Rattle.bx_audit_bodies.specs.declared.pieces.Piece.{Piece}
 use Rattle.bx_audit_bodies.proofs.PiecesAmong.{among_none, among_new, among_other, among_at}
-use Rattle.bx_audit_bodies.proofs.PiecesInBytes.{bytes_more}
+use Rattle.bx_audit_bodies.proofs.PiecesInBytes.{bytes_more, no_bytes}
 
 some_same : {X : Type 0} (x y : X) → Some x ≡ Some y → x ≡ y
 some_same x y e = cc
@@ -71,9 +71,12 @@ clear_too chunks handle index tail block found payload there bytes is clear =
 
 -- ---- piece after piece
 
+pub all_more : (P : Piece → Type 0) (pieces : List Piece) (k : ℕ) (d : Piece) → k < length pieces → All P (take k pieces) → P (get_or pieces k d) → All P (take (k + 1) pieces)
+all_more P pieces k d less all has = subst (All P) (sym (take_more pieces k d less)) (All-push P (take k pieces) (get_or pieces k d) all has)
+
 module _ (chunks : Chunks) (pieces : List Piece) (k : ℕ) (d : Piece) (less : k < length pieces) where
   pub read_more : All (HasPiece chunks) (take k pieces) → HasPiece chunks (get_or pieces k d) → All (HasPiece chunks) (take (k + 1) pieces)
-  read_more all has = subst (All (HasPiece chunks)) (sym (take_more pieces k d less)) (All-push (HasPiece chunks) (take k pieces) (get_or pieces k d) all has)
+  read_more all has = all_more (HasPiece chunks) pieces k d less all has
 
   -- no earlier piece has its index
   others : AreApart pieces → All (λ q. q.index ≢ (get_or pieces k d).index) (take k pieces)
@@ -104,3 +107,22 @@ module _ (chunks : Chunks) (pieces : List Piece) (k : ℕ) (d : Piece) (less : k
 pub no_piece_of : (chunks : Chunks) (pieces : List Piece) (k : ℕ) (d : Piece) → k < length pieces → ((block : Block) → IsBlockAt chunks (get_or pieces k d).handle 3 block → ⊥)
     → All (HasPiece chunks) pieces → ⊥
 no_piece_of chunks pieces k d less never all = let has = all k d less in never has.block has.at
+
+-- with clear blocks for all pieces, so many first ones have bytes
+pub bytes_there : (chunks : Chunks) (pieces : List Piece) (size tail : ℕ) → AreApart pieces → All (HasClear chunks tail) pieces → (count : ℕ) → count ≤ length pieces
+    → (bytes : List ℕ) × AreBytesOf (piece_among chunks (take count pieces)) size tail bytes
+bytes_there chunks pieces size tail apart clear zero le = (replicate size 0, no_bytes size tail (piece_among chunks (take 0 pieces)) (λ index. refl))
+bytes_there chunks pieces size tail apart clear (suc count) le =
+    let less : count < length pieces = omega (arith, le) in
+    let rest = bytes_there chunks pieces size tail apart clear count (omega (arith, le)) in
+    let p = get_or pieces count no_piece in
+    let c = clear count no_piece less in
+    let more : count + 1 ≡ suc count = omega arith in
+    let bytes = with_piece size p.index c.block.payload rest.0 in (
+      bytes,
+      subst (λ (n : ℕ). AreBytesOf (piece_among chunks (take n pieces)) size tail bytes) more
+          (bytes_step chunks pieces count no_piece less size tail rest.0 bytes apart rest.1 record { block = c.block; at = c.at; clear = c.clear; new_is = refl }),
+    )
+  where
+    no_piece : Piece
+    no_piece = record { index = 0; handle = 0 }

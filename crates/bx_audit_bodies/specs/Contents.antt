@@ -21,3 +21,9 @@ pub record PutsPiece (chunks : Chunks) (piece : Piece) (size tail : ℕ) (old ne
   pub at : IsBlockAt chunks piece.handle 3 block
   pub clear : IsClear tail piece.index block.payload
   pub new_is : new ≡ with_piece size piece.index block.payload old
+
+-- a piece has a block that is clear from the tail on
+pub record HasClear (chunks : Chunks) (tail : ℕ) (piece : Piece) : Type 0 where
+  pub block : Block
+  pub at : IsBlockAt chunks piece.handle 3 block
+  pub clear : IsClear tail piece.index block.payload

@@ -1,27 +1,26 @@
 //! What inodes of each kind have.
 
-ghost use Rattle.std.specs.Prelude.{◌≡◌, ◌≤◌, ◌<◌, ◌^◌, ℕ, All, Contains, Option, IfOk, IfSome, IsErrOf};
-ghost use Rattle.bx_audit_bodies.specs.Bodies.{HasBodyOf, HasPieces, IsBodyOf, file_with as file_with_body};
+ghost use Rattle.std.specs.Prelude.{◌≡◌, ◌≤◌, ℕ, All, Contains, Option, IfOk, IsErrOf};
+ghost use Rattle.bx_audit_bodies.specs.Bodies.{HasPieces, IsBodyOf, file_with as file_with_body};
 ghost use Rattle.bx_audit_bodies.specs.Faults.{HasFaultIn};
+ghost use Rattle.bx_audit_bodies.specs.Outlines.{IsOutlineOf, IsRight};
 ghost use Rattle.bx_audit_bodies.specs.Parts.{IsPartWith, IsTornDead, IsTornTree};
 ghost use Rattle.bx_audit_bodies.specs.Pieces.{IsPieceEntry};
 ghost use Rattle.bx_audit_bodies.specs.declared.pieces.Piece.{Piece as Part};
-ghost use Rattle.bx_audit_bodies.specs.Reading.{AreEntriesApart};
 ghost use Rattle.bx_audit_trees.specs.declared.error.AuditError.TheVariants.{Fault as DiskFailed};
 ghost use Rattle.bx_audit_trees.specs.Errors.{IfTorn, Counts};
 ghost use Rattle.bx_audit_trees.specs.Leading.{IsLedTo};
 ghost use Rattle.bx_audit_trees.specs.Shown.{Shows};
 ghost use Rattle.bx_layout.specs.Inodes.{IsInode};
 ghost use Rattle.bx_tree_files.specs.declared.file.File.{File as Kept};
-ghost use Rattle.bx_tree_files.specs.Files.{IsFile};
 ghost use Rattle.bx_truth.specs.PageTrees.{Chunks, PageTree, IsTree, map_of};
 ghost use Rattle.bx_truth.specs.Stored.{Owner};
 
 use crate::claims::{Claim, claims_of};
-use crate::contents::{bytes_of, read_pieces};
-use crate::files::ReadFile;
-use crate::lists::entries_of;
+use crate::contents::read_pieces;
+use crate::outlines::{FileOutline, Outline, Parts};
 use crate::pieces::{Piece, pieces_of};
+use bx_audit_files::entries_of;
 use bx_audit_trees::{AuditError, torn_at, tree_under};
 use bx_base::Raw;
 use bx_homes::Blocks;
@@ -62,26 +61,26 @@ fn pieces_under<B: Blocks>(
     Ok((pieces, claims))
 }
 
-/// The file of the inode of a regular file. Torn exactly where it is none, whoever may have which chunks.
+/// The outline of the inode of a regular file, before the blocks of its pieces are read. Torn only where it is no file's, whoever may have which
+/// chunks: where it has too many bytes, or no tree of pieces.
 pub(crate) fn regular_of<B: Blocks>(
     alloc: Global,
     blocks: &mut B,
     areas: u16,
     handle: u64,
-    inode: &Inode,
-) -> Result<ReadFile, AuditError>
+    inode: Inode,
+) -> Result<Outline, AuditError>
     requires ready { B.ready blocks.old }
     requires areas { B.areas blocks.old ≡ areas }
     requires most { areas ≤ 64 }
-    requires inode { IsInode inode.now }
-    requires kind { inode.now.kind ≡ 1 }
-    ensures ok { (chunks : Chunks) → Shows (B.tells blocks.old) areas (B.stands blocks.old) chunks → IfOk result (λ read. HasBodyOf chunks handle inode.now read.file read.claims.items) }
-    ensures is { IfOk result (λ read. IfSome read.file IsFile) }
-    ensures apart { IfOk result (λ read. IfSome read.file (λ file. AreEntriesApart file.body)) }
+    requires inode { IsInode inode }
+    requires kind { inode.kind ≡ 1 }
+    ensures ok { (chunks : Chunks) → Shows (B.tells blocks.old) areas (B.stands blocks.old) chunks → IfOk result (IsOutlineOf chunks handle inode) }
+    ensures right { IfOk result (IsRight handle) }
     ensures torn { (chunks : Chunks) → Shows (B.tells blocks.old) areas (B.stands blocks.old) chunks
-        → IfTorn result (λ at found wanted. (owner : ℕ → Owner) (tree : PageTree) (file : Option Kept) → IsBodyOf chunks owner handle inode.now tree file → ⊥) }
-    ensures part { (chunks : Chunks) → Shows (B.tells blocks.old) areas (B.stands blocks.old) chunks → IfTorn result (λ at found wanted. IsPartWith chunks handle inode.now.tree wanted) }
-    ensures fault { (chunks : Chunks) → Shows (B.tells blocks.old) areas (B.stands blocks.old) chunks → IfTorn result (λ at found wanted. HasFaultIn chunks handle inode.now wanted) }
+        → IfTorn result (λ at found wanted. (owner : ℕ → Owner) (tree : PageTree) (file : Option Kept) → IsBodyOf chunks owner handle inode tree file → ⊥) }
+    ensures part { (chunks : Chunks) → Shows (B.tells blocks.old) areas (B.stands blocks.old) chunks → IfTorn result (λ at found wanted. IsPartWith chunks handle inode.tree wanted) }
+    ensures fault { (chunks : Chunks) → Shows (B.tells blocks.old) areas (B.stands blocks.old) chunks → IfTorn result (λ at found wanted. HasFaultIn chunks handle inode wanted) }
     ensures shows { (chunks : Chunks) → Shows (B.tells blocks.old) areas (B.stands blocks.old) chunks → Shows (B.tells blocks.new) areas (B.stands blocks.new) chunks }
     ensures counts { Counts result (B.faults blocks.old) (B.faults blocks.new) }
     ensures keeps_areas { B.areas blocks.new ≡ B.areas blocks.old }
@@ -93,29 +92,28 @@ pub(crate) fn regular_of<B: Blocks>(
         return Err(torn_at(handle));
     }
     let (pieces, claims) = pieces_under(alloc, blocks, areas, inode.tree)?;
-    let content = bytes_of(alloc, blocks, areas, &pieces, inode.size as u32, inode.tail)?;
-    Ok(ReadFile {
-        file: Some(file_with(handle, inode, Body::Bytes(content))),
+    Ok(Outline::File(FileOutline {
+        handle,
         claims,
-    })
+        parts: Parts::Pieces(inode, pieces),
+    }))
 }
 
-/// The file of the inode of a directory. Torn exactly where it is none, whoever may have which chunks.
+/// The outline of the inode of a directory, which has all of its file. Torn exactly where it is none, whoever may have which chunks.
 pub(crate) fn directory_of<B: Blocks>(
     alloc: Global,
     blocks: &mut B,
     areas: u16,
     handle: u64,
     inode: &Inode,
-) -> Result<ReadFile, AuditError>
+) -> Result<Outline, AuditError>
     requires ready { B.ready blocks.old }
     requires areas { B.areas blocks.old ≡ areas }
     requires most { areas ≤ 64 }
     requires inode { IsInode inode.now }
     requires kind { inode.now.kind ≡ 2 }
-    ensures ok { (chunks : Chunks) → Shows (B.tells blocks.old) areas (B.stands blocks.old) chunks → IfOk result (λ read. HasBodyOf chunks handle inode.now read.file read.claims.items) }
-    ensures is { IfOk result (λ read. IfSome read.file IsFile) }
-    ensures apart { IfOk result (λ read. IfSome read.file (λ file. AreEntriesApart file.body)) }
+    ensures ok { (chunks : Chunks) → Shows (B.tells blocks.old) areas (B.stands blocks.old) chunks → IfOk result (IsOutlineOf chunks handle inode.now) }
+    ensures right { IfOk result (IsRight handle) }
     ensures torn { (chunks : Chunks) → Shows (B.tells blocks.old) areas (B.stands blocks.old) chunks
         → IfTorn result (λ at found wanted. (owner : ℕ → Owner) (tree : PageTree) (file : Option Kept) → IsBodyOf chunks owner handle inode.now tree file → ⊥) }
     ensures part { (chunks : Chunks) → Shows (B.tells blocks.old) areas (B.stands blocks.old) chunks → IfTorn result (λ at found wanted. IsPartWith chunks handle inode.now.tree wanted) }
@@ -135,19 +133,20 @@ pub(crate) fn directory_of<B: Blocks>(
         return Err(torn_at(handle));
     };
     let claims = claims_of(alloc, &tree, &[])?;
-    Ok(ReadFile {
-        file: Some(file_with(handle, inode, Body::Names(inode.parent, inode.next, names))),
+    let file = file_with(handle, inode, Body::Names(inode.parent, inode.next, names));
+    Ok(Outline::File(FileOutline {
+        handle,
         claims,
-    })
+        parts: Parts::Whole(file),
+    }))
 }
 
-/// The file of the inode of a link. Torn exactly where it has a tree.
-pub(crate) fn link_of(alloc: Global, handle: u64, inode: &Inode) -> Result<ReadFile, AuditError>
+/// The outline of the inode of a link, which has all of its file. Torn exactly where it has a tree.
+pub(crate) fn link_of(alloc: Global, handle: u64, inode: &Inode) -> Result<Outline, AuditError>
     requires inode { IsInode inode.now }
     requires kind { inode.now.kind ≡ 5 }
-    ensures ok { (chunks : Chunks) → IfOk result (λ read. HasBodyOf chunks handle inode.now read.file read.claims.items) }
-    ensures is { IfOk result (λ read. IfSome read.file IsFile) }
-    ensures apart { IfOk result (λ read. IfSome read.file (λ file. AreEntriesApart file.body)) }
+    ensures ok { (chunks : Chunks) → IfOk result (IsOutlineOf chunks handle inode.now) }
+    ensures right { IfOk result (IsRight handle) }
     ensures torn { (chunks : Chunks) → IfTorn result (λ at found wanted. (owner : ℕ → Owner) (tree : PageTree) (file : Option Kept) → IsBodyOf chunks owner handle inode.now tree file → ⊥) }
     ensures part { IfTorn result (λ at found wanted. wanted ≡ handle) }
     ensures fault { (chunks : Chunks) → IfTorn result (λ at found wanted. HasFaultIn chunks handle inode.now wanted) }
@@ -157,10 +156,12 @@ pub(crate) fn link_of(alloc: Global, handle: u64, inode: &Inode) -> Result<ReadF
         return Err(torn_at(handle));
     }
     let path = Raw::of(alloc, inode.path.bytes())?;
-    Ok(ReadFile {
-        file: Some(file_with(handle, inode, Body::Path(path))),
+    let file = file_with(handle, inode, Body::Path(path));
+    Ok(Outline::File(FileOutline {
+        handle,
         claims: Vec::new(alloc),
-    })
+        parts: Parts::Whole(file),
+    }))
 }
 
 /// That an inode is dead: it has no tree, or one of the pieces that are left. Torn exactly where it has another one.
@@ -170,15 +171,14 @@ pub(crate) fn dead_of<B: Blocks>(
     areas: u16,
     handle: u64,
     inode: &Inode,
-) -> Result<ReadFile, AuditError>
+) -> Result<Outline, AuditError>
     requires ready { B.ready blocks.old }
     requires areas { B.areas blocks.old ≡ areas }
     requires most { areas ≤ 64 }
     requires inode { IsInode inode.now }
     requires kind { inode.now.kind ≡ 0 }
-    ensures ok { (chunks : Chunks) → Shows (B.tells blocks.old) areas (B.stands blocks.old) chunks → IfOk result (λ read. HasBodyOf chunks handle inode.now read.file read.claims.items) }
-    ensures is { IfOk result (λ read. IfSome read.file IsFile) }
-    ensures apart { IfOk result (λ read. IfSome read.file (λ file. AreEntriesApart file.body)) }
+    ensures ok { (chunks : Chunks) → Shows (B.tells blocks.old) areas (B.stands blocks.old) chunks → IfOk result (IsOutlineOf chunks handle inode.now) }
+    ensures right { IfOk result (IsRight handle) }
     ensures torn { (chunks : Chunks) → Shows (B.tells blocks.old) areas (B.stands blocks.old) chunks
         → IfTorn result (λ at found wanted. (owner : ℕ → Owner) (tree : PageTree) (file : Option Kept) → IsBodyOf chunks owner handle inode.now tree file → ⊥) }
     ensures part { (chunks : Chunks) → Shows (B.tells blocks.old) areas (B.stands blocks.old) chunks → IfTorn result (λ at found wanted. IsPartWith chunks handle inode.now.tree wanted) }
@@ -192,18 +192,15 @@ pub(crate) fn dead_of<B: Blocks>(
     ensures keeps_telling { B.tells blocks.old → B.tells blocks.new }
 {
     if inode.tree == 0 {
-        return Ok(ReadFile {
-            file: None,
-            claims: Vec::new(alloc),
-        });
+        return Ok(Outline::Dead(Vec::new(alloc)));
     }
     let (pieces, claims) = pieces_under(alloc, blocks, areas, inode.tree)?;
     read_pieces(blocks, areas, &pieces)?;
-    Ok(ReadFile { file: None, claims })
+    Ok(Outline::Dead(claims))
 }
 
 /// The file with a handle and a body, whose other fields its inode has.
-fn file_with(handle: u64, inode: &Inode, body: Body) -> File
+pub(crate) fn file_with(handle: u64, inode: &Inode, body: Body) -> File
     ensures { result ≡ file_with_body handle inode.now body }
 {
     File {

@@ -1,7 +1,7 @@
 //! The bytes of regular files, off the blocks of their pieces.
 
-ghost use Rattle.std.specs.Prelude.{◌≡◌, ◌+◌, ◌*◌, ◌^◌, ◌<◌, ◌≤◌, ◌↔◌, ℕ, List, All, take, slice_index, IfOk, OnOk, IsTrue, length};
-ghost use Rattle.bx_audit_bodies.specs.Contents.{IsClear, PutsPiece, with_piece};
+ghost use Rattle.std.specs.Prelude.{◌≡◌, ◌+◌, ◌*◌, ◌^◌, ◌<◌, ◌≤◌, ◌↔◌, ℕ, All, take, slice_index, IfOk, OnOk, IsTrue, length};
+ghost use Rattle.bx_audit_bodies.specs.Contents.{HasClear, IsClear, PutsPiece, with_piece};
 ghost use Rattle.bx_audit_bodies.specs.Parts.{IsFirstPiece, IsOfOne, IsUnclearPiece};
 ghost use Rattle.bx_audit_bodies.specs.Pieces.{AreApart, HasPiece, piece_among};
 ghost use Rattle.bx_audit_files.specs.Inodes.{IsBlockAt};
@@ -17,6 +17,7 @@ use bx_audit_trees::{AuditError, torn_at};
 use bx_base::OutOfMemory;
 use bx_fields::are_zeros;
 use bx_homes::Blocks;
+use bx_layout::Block;
 use bx_places::PAYLOAD;
 use bx_tree_files::Content;
 use std::alloc::Global;
@@ -43,10 +44,7 @@ pub(crate) fn bytes_of<B: Blocks>(
     requires size { size < 2 ^ 31 }
     ensures pieces { (chunks : Chunks) → Shows (B.tells blocks.old) areas (B.stands blocks.old) chunks → IfOk result (λ content. All (HasPiece chunks) pieces.now) }
     ensures bytes { (chunks : Chunks) → Shows (B.tells blocks.old) areas (B.stands blocks.old) chunks → AreApart pieces.now → IfOk result (AreBytesOf (piece_among chunks pieces.now) size tail) }
-    ensures torn { (chunks : Chunks) → Shows (B.tells blocks.old) areas (B.stands blocks.old) chunks → AreApart pieces.now
-        → IfTorn result (λ at found wanted. (bytes : List ℕ) → All (HasPiece chunks) pieces.now → AreBytesOf (piece_among chunks pieces.now) size tail bytes → ⊥) }
     ensures len { IfOk result (λ content. length content ≡ size) }
-    ensures names { IfTorn result (λ at found wanted. IsOfOne pieces.now wanted) }
     ensures wrong { (chunks : Chunks) → Shows (B.tells blocks.old) areas (B.stands blocks.old) chunks → IfTorn result (λ at found wanted. IsUnclearPiece chunks pieces.now tail wanted) }
     ensures shows { (chunks : Chunks) → Shows (B.tells blocks.old) areas (B.stands blocks.old) chunks → Shows (B.tells blocks.new) areas (B.stands blocks.new) chunks }
     ensures counts { Counts result (B.faults blocks.old) (B.faults blocks.new) }
@@ -88,6 +86,32 @@ pub(crate) fn read_pieces<B: Blocks>(
     Ok(())
 }
 
+/// Looks at the block of each piece, and keeps none of their bytes. Torn exactly where a piece has no block, or one with a byte from the tail on
+/// that isn't zero: of such a piece.
+pub(crate) fn check_pieces<B: Blocks>(
+    blocks: &mut B,
+    areas: u16,
+    pieces: &[Piece],
+    tail: u64,
+) -> Result<(), AuditError>
+    requires ready { B.ready blocks.old }
+    requires areas { B.areas blocks.old ≡ areas }
+    requires most { areas ≤ 64 }
+    ensures ok { (chunks : Chunks) → Shows (B.tells blocks.old) areas (B.stands blocks.old) chunks → OnOk result (All (HasClear chunks tail) pieces.now) }
+    ensures wrong { (chunks : Chunks) → Shows (B.tells blocks.old) areas (B.stands blocks.old) chunks → IfTorn result (λ at found wanted. IsUnclearPiece chunks pieces.now tail wanted) }
+    ensures shows { (chunks : Chunks) → Shows (B.tells blocks.old) areas (B.stands blocks.old) chunks → Shows (B.tells blocks.new) areas (B.stands blocks.new) chunks }
+    ensures counts { Counts result (B.faults blocks.old) (B.faults blocks.new) }
+    ensures keeps_areas { B.areas blocks.new ≡ B.areas blocks.old }
+    ensures keeps_lender { B.lender blocks.new ≡ B.lender blocks.old }
+    ensures keeps_ready { B.ready blocks.new }
+    ensures keeps_telling { B.tells blocks.old → B.tells blocks.new }
+{
+    for piece in pieces {
+        clear_block(blocks, areas, piece, tail)?;
+    }
+    Ok(())
+}
+
 /// Puts the bytes of a piece's block at their place. Torn exactly where there is no block, or it has a byte from the tail on that isn't
 /// zero.
 fn put_piece<B: Blocks>(
@@ -104,7 +128,6 @@ fn put_piece<B: Blocks>(
     requires size { size < 2 ^ 31 }
     ensures ok { (chunks : Chunks) → Shows (B.tells blocks.old) areas (B.stands blocks.old) chunks → OnOk result (PutsPiece chunks piece.now size tail content.old content.new) }
     ensures len { OnOk result (length content.old ≡ size → length content.new ≡ size) }
-    ensures fits { piece.now.index < 2 ^ 32 }
     ensures torn { (chunks : Chunks) → Shows (B.tells blocks.old) areas (B.stands blocks.old) chunks
         → IfTorn result (λ at found wanted. (block : Block) → IsBlockAt chunks piece.now.handle 3 block → IsClear tail piece.now.index block.payload → ⊥) }
     ensures names { IfTorn result (λ at found wanted. wanted ≡ piece.now.handle) }
@@ -115,13 +138,38 @@ fn put_piece<B: Blocks>(
     ensures keeps_ready { B.ready blocks.new }
     ensures keeps_telling { B.tells blocks.old → B.tells blocks.new }
 {
-    let index = piece.index;
+    let block = clear_block(blocks, areas, piece, tail)?;
+    put_bytes(content, piece.index, block.payload.bytes(), size)?;
+    Ok(())
+}
+
+/// The block of a piece. Torn exactly where it has none, or one with a byte from the tail on that isn't zero.
+fn clear_block<B: Blocks>(
+    blocks: &mut B,
+    areas: u16,
+    piece: &Piece,
+    tail: u64,
+) -> Result<Block, AuditError>
+    requires ready { B.ready blocks.old }
+    requires areas { B.areas blocks.old ≡ areas }
+    requires most { areas ≤ 64 }
+    ensures ok { (chunks : Chunks) → Shows (B.tells blocks.old) areas (B.stands blocks.old) chunks
+        → IfOk result (λ block. IsBlockAt chunks piece.now.handle 3 block × IsClear tail piece.now.index block.payload) }
+    ensures torn { (chunks : Chunks) → Shows (B.tells blocks.old) areas (B.stands blocks.old) chunks
+        → IfTorn result (λ at found wanted. (block : Block) → IsBlockAt chunks piece.now.handle 3 block → IsClear tail piece.now.index block.payload → ⊥) }
+    ensures names { IfTorn result (λ at found wanted. wanted ≡ piece.now.handle) }
+    ensures shows { (chunks : Chunks) → Shows (B.tells blocks.old) areas (B.stands blocks.old) chunks → Shows (B.tells blocks.new) areas (B.stands blocks.new) chunks }
+    ensures counts { Counts result (B.faults blocks.old) (B.faults blocks.new) }
+    ensures keeps_areas { B.areas blocks.new ≡ B.areas blocks.old }
+    ensures keeps_lender { B.lender blocks.new ≡ B.lender blocks.old }
+    ensures keeps_ready { B.ready blocks.new }
+    ensures keeps_telling { B.tells blocks.old → B.tells blocks.new }
+{
     let block = block_at(blocks, areas, piece.handle, DATA)?;
-    if !is_clear(block.payload.bytes(), index, tail) {
+    if !is_clear(block.payload.bytes(), piece.index, tail) {
         return Err(torn_at(piece.handle));
     }
-    put_bytes(content, index, block.payload.bytes(), size)?;
-    Ok(())
+    Ok(block)
 }
 
 /// Whether all bytes of a piece with an index are zero from the tail on.

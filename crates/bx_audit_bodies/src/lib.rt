@@ -1,12 +1,13 @@
-//! What inodes have, read off the chunks of a volume: the file of an inode, or that it is dead, and the chunks of its tree.
+//! What inodes have, read off the chunks of a volume: the chunks of an inode's tree, or that it is dead, and then its file.
 #![tactic(auto)]
 
 mod bodies;
 mod claims;
 mod contents;
 mod files;
-mod lists;
+mod outlines;
 mod pieces;
 
 pub use claims::Claim;
-pub use files::{ReadFile, file_of};
+pub use files::{check_file, file_of, outline_of};
+pub use outlines::{FileOutline, Outline};

@@ -4,3 +4,4 @@ pub mod PairedEntries
 pub mod Rising
 pub mod NamesOfTrees
 pub mod Steps
+pub mod Followers

@@ -1,7 +1,7 @@
 -- A directory's entries are the names that its tree's entries by number tell.
-use Rattle.std.proofs.Common.{◌≡◌, ℕ, suc, ◌+◌, ◌*◌, ◌/◌, ◌%◌, ◌^◌, ◌<◌, ◌⊎◌, inl, inr, arith, Bool, true, false, List, [], ◌∷◌, length, take, drop, get_or, Result, Ok, Err, cond, refl, sym, ap, ◌∙◌, subst, Some}
+use Rattle.std.proofs.Common.{◌≡◌, ℕ, suc, ◌+◌, ◌*◌, ◌/◌, ◌%◌, ◌^◌, ◌<◌, ◌⊎◌, inl, inr, arith, Bool, true, false, List, [], ◌∷◌, length, take, drop, get_or, Result, Ok, Err, cond, refl, sym, ap, ◌∙◌, subst, Option, Some, None}
 use Rattle.std.proofs.Common.{Less, Equal, Greater}
-use Rattle.std.specs.Prelude.{All, AllPairs, IfOk, Contains, ◌==◌, nat_lt, if◌then◌else◌}
+use Rattle.std.specs.Prelude.{All, AllPairs, IfOk, IfSome, IfNone, Contains, ◌==◌, nat_lt, if◌then◌else◌}
 use Rattle.std.specs.Int.{w32, w64, to_be_bytes, from_be_bytes}
 use Rattle.std.specs.Ordering.{is_lt, nat_cmp, ordering_then}
 use Rattle.std.specs.Cmp.Lexicographic.{slice_cmp}
@@ -179,3 +179,11 @@ of_no_kind entries entry no_number no_name (ByName one fits is other) = no_name 
 pub if_ok : {A E : Type 0} (P Q : A → Type 0) (r : Result A E) → ((x : A) → P x → Q x) → IfOk r P → IfOk r Q
 if_ok P Q (Ok x) implies is = implies x is
 if_ok P Q (Err e) implies is = is
+
+pub if_some : {A : Type 0} (P Q : A → Type 0) (o : Option A) → ((x : A) → P x → Q x) → IfSome o P → IfSome o Q
+if_some P Q (Some x) implies is = implies x is
+if_some P Q None implies is = is
+
+pub if_none : {A : Type 0} (P Q : Type 0) (o : Option A) → (P → Q) → IfNone o P → IfNone o Q
+if_none P Q (Some x) implies is = is
+if_none P Q None implies is = implies is

@@ -1,2 +1,3 @@
 pub mod Inodes
 pub mod Names
+pub mod Lists

@@ -3,8 +3,9 @@
 
 mod fields;
 mod inodes;
+mod lists;
 mod names;
 
 pub use fields::{handle_in, number_in};
 pub use inodes::{block_at, inode_at};
-pub use names::names_of;
+pub use lists::entries_of;

@@ -20,7 +20,7 @@ use std::alloc::Global;
 
 /// The entries of a directory, in the order of their numbers, off its tree, which has each by its number and by its name. `None` exactly
 /// where that isn't what the tree has.
-pub fn names_of(alloc: Global, tree: &ReadTree) -> Result<Option<Vec<Name>>, OutOfMemory>
+pub(crate) fn names_of(alloc: Global, tree: &ReadTree) -> Result<Option<Vec<Name>>, OutOfMemory>
     ensures some { (chunks : Chunks) (root : ℕ) → IsTree chunks root (tree_of tree.now) → IfOk result (λ found. IfSome found (λ names. AreNames (map_of (tree_of tree.now)) names.items)) }
     ensures none { (chunks : Chunks) (root : ℕ) → IsTree chunks root (tree_of tree.now) → IfOk result (λ found. IfNone found ((names : List Name) → AreNames (map_of (tree_of tree.now)) names → ⊥)) }
 {

@@ -5,13 +5,14 @@ use Rattle.std.proofs.lemmas.List.Elements.{Contains-append_left, Contains-appen
 use Rattle.bx_audit_bodies.specs.declared.claims.Claim.{Claim}
 use Rattle.bx_audit_bodies.specs.Claims.{IsClaim}
 use Rattle.bx_audit_bodies.specs.Faults.{HasFault, Missing}
+use Rattle.bx_audit_bodies.specs.Outlines.{IsUnreadFile}
 use Rattle.bx_audit_bodies.specs.Reading.{IsReadAs, IsStored}
 use Rattle.bx_audit_bodies.proofs.Members.{contains_map, from_map}
 use Rattle.bx_audit_owners.specs.declared.holders.Holder.{Holder}
 use Rattle.bx_audit_owners.specs.declared.holders.Holder.TheVariants.{File as OfFile, Dead as OfDead, Page as OfPage, Piece as OfPiece}
 use Rattle.bx_audit_owners.specs.Found.{IsFound, IsInode}
 use Rattle.bx_audit_owners.specs.Holding.{Adds, Holdings, IsHeldAfter, holder_by}
-use Rattle.bx_audit_owners.specs.Walks.{HaveNoTree, HaveTree, IsDeadMet, IsFileAt, IsMet, IsTaken, IsUnread, IsWalked, IsWrongMet, Meets, Again, New, Root, Named}
+use Rattle.bx_audit_owners.specs.Walks.{HaveNoTree, HaveTree, IsDeadMet, IsFileAt, IsMet, IsTaken, IsTakenFile, IsUnread, IsWalked, IsWrongMet, Meets, Again, New, Root, Named}
 use Rattle.bx_audit_owners.proofs.Founds.{none_found}
 use Rattle.bx_audit_owners.proofs.Holding.{one_there}
 use Rattle.bx_audit_owners.proofs.InOrder.{with_here, with_other}
@@ -119,6 +120,29 @@ none_dead before now handle claims count adds at dead = by (adds.only at OfDead 
     by (inl was) = was
     by (inr (inl itself)) = let e : OfDead ≡ OfFile = itself.1 in absurd cc
     by (inr (inr claim)) = absurd (no_claim claim.0.piece claim.3)
+
+-- a file that is met can't be read, or has a chunk of another owner
+pub wrong_file : (chunks : Chunks) (before : Holdings) (files : List File) (handle wanted : ℕ) → IsFound chunks before files → IsMet chunks handle
+    → IsUnreadFile chunks handle wanted ⊎ IsTakenFile chunks before handle wanted → IsWrongMet chunks wanted
+wrong_file chunks before files handle wanted found met (inl unread) = inl record {
+  handle = handle;
+  met = met;
+  none = λ owner stored file. unread.none owner stored (Some file);
+  part = unread.part;
+  fault = inl unread.fault;
+}
+wrong_file chunks before files handle wanted found met (inr taken) = inr record {
+  handle = handle;
+  met = met;
+  file = taken.file;
+  claims = taken.claims;
+  read = taken.read;
+  holdings = before;
+  files = files;
+  found = found;
+  clash = taken.clash;
+  wanted_is = taken.wanted_is;
+}
 
 -- ---- what is met, in a file tree
 

@@ -70,6 +70,14 @@ pub record IsTaken (chunks : Chunks) (wanted : ℕ) : Type 0 where
   pub clash : Clashes holdings handle OfFile claims
   pub wanted_is : wanted ≡ clash.claim.handle
 
+-- A file claims a chunk that has another holder, of those that were found before, or as another part of this file: that is wanted.
+pub record IsTakenFile (chunks : Chunks) (holdings : Holdings) (handle wanted : ℕ) : Type 0 where
+  pub file : File
+  pub claims : List Claim
+  pub read : IsReadAs chunks handle (Some file) claims
+  pub clash : Clashes holdings handle OfFile claims
+  pub wanted_is : wanted ≡ clash.claim.handle
+
 -- something that the walk meets is wrong
 abbrev pub IsWrongMet : Chunks → ℕ → Type 0
 IsWrongMet chunks wanted = IsUnread chunks wanted ⊎ IsTaken chunks wanted

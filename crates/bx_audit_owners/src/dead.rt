@@ -13,7 +13,7 @@ ghost use Rattle.bx_tree_files.specs.declared.file.File.{File};
 ghost use Rattle.bx_truth.specs.PageTrees.{Chunks};
 
 use crate::holders::{Holder, Holders, has_holder, put_inode};
-use bx_audit_bodies::{ReadFile, file_of};
+use bx_audit_bodies::{Outline, check_file, outline_of};
 use bx_audit_slots::UsedSlot;
 use bx_audit_trees::{AuditError, torn_at};
 use bx_homes::Blocks;
@@ -107,10 +107,11 @@ fn read_one<B: Blocks>(
     if has_holder(holders, handle, Holder::Dead)? {
         return Ok(());
     }
-    let ReadFile { file, claims } = file_of(alloc, blocks, areas, handle)?;
-    if file.is_some() {
-        return Err(torn_at(handle));
+    match outline_of(alloc, blocks, areas, handle)? {
+        Outline::Dead(claims) => put_inode(holders, handle, Holder::Dead, claims.as_slice()),
+        Outline::File(outline) => {
+            check_file(blocks, areas, &outline)?;
+            Err(torn_at(handle))
+        }
     }
-    put_inode(holders, handle, Holder::Dead, claims.as_slice())?;
-    Ok(())
 }

@@ -1,6 +1,7 @@
 //! The file tree of a volume, read off its blocks: on a walk from the root, and then slot by slot. Each chunk has one owner.
 #![tactic(auto)]
 
+mod claimed;
 mod dead;
 mod found;
 mod holders;

@@ -9,9 +9,10 @@ ghost use Rattle.bx_audit_trees.specs.Shown.{Shows};
 ghost use Rattle.bx_tree_files.specs.Names.{names_of};
 ghost use Rattle.bx_truth.specs.PageTrees.{Chunks};
 
+use crate::claimed::claimed_file;
 use crate::found::{Found, put_file};
-use crate::holders::{Holder, Holders, has_holder, put_inode};
-use bx_audit_bodies::{ReadFile, file_of};
+use crate::holders::{Holder, Holders, has_holder};
+use bx_audit_bodies::{Outline, outline_of};
 use bx_audit_trees::{AuditError, torn_at};
 use bx_base::OutOfMemory;
 use bx_homes::Blocks;
@@ -134,11 +135,10 @@ fn meet<B: Blocks>(
     if has_holder(&found.holders, handle, Holder::File)? {
         return Ok(());
     }
-    let ReadFile { file, claims } = file_of(alloc, blocks, areas, handle)?;
-    let Some(file) = file else {
+    let Outline::File(outline) = outline_of(alloc, blocks, areas, handle)? else {
         return Err(torn_at(handle));
     };
-    put_inode(&mut found.holders, handle, Holder::File, claims.as_slice())?;
+    let file = claimed_file(alloc, blocks, areas, outline, &mut found.holders)?;
     put_names(&file.body, met)?;
     put_file(found, file)?;
     Ok(())

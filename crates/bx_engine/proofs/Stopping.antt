@@ -16,6 +16,7 @@ use Rattle.bx_model.specs.Steps.{Outcome, done}
 use Rattle.bx_reads.specs.Answers.{IsOutcome}
 use Rattle.bx_views.specs.declared.attempt.Attempt.{Attempt}
 use Rattle.bx_views.specs.declared.attempt.Attempt.TheVariants.{Answer}
+use Rattle.bx_views.specs.declared.attempt.Done.{Done}
 use Rattle.bx_views.specs.Attempts.{IsFair}
 use Rattle.bx_views.specs.Truths.{Held}
 
@@ -48,6 +49,9 @@ pub answered_comes : {E : Type 0} (tree : Tree) (xid : ℕ) (reply : Reply) (res
 answered_comes tree xid reply result is = IfOk-weaker result _ _ (λ attempt same. answer_comes xid attempt tree (Ok (reply, tree)) reply refl same) is
 
 -- 8 free blocks are told where there is memory for the answer
+pub told_enough : {E : Type 0} (told : Done) (result : Result Attempt E) → IfOk result (λ attempt. attempt ≡ Answer told) → told.spare ≡ 8 → IfOk result TellsEnough
+told_enough told result is eight = IfOk-weaker result _ _ (λ attempt same. subst TellsEnough (sym same) eight) is
+
 module _ {E : Type 0} (xid : ℕ) (result : Result Attempt E) where
   pub answered_enough : (reply : Reply) → IfOk result (λ attempt. attempt ≡ Answer (done_of xid reply)) → IfOk result TellsEnough
   answered_enough reply is = IfOk-weaker result _ _ (λ attempt same. answer_enough xid attempt reply same) is

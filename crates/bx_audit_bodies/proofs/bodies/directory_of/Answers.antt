@@ -34,7 +34,7 @@ returns-clause-ok g c = λ chunks shows.
     let is = c.in_ok-tree.ensures.ok chunks shows in
     let are = of_some _ c.in_ok-names.field-0 c.in-Some.names c.in-Some.is (c.in_ok-names.ensures.some chunks inode.tree is) in
     let below = of_some _ c.in_ok-names.field-0 c.in-Some.names c.in-Some.is c.in_ok-names.ensures.below in
-    subst (λ (f : File). HasBodyOf chunks c.args.handle inode (Some f) c.in_ok-claims.claims.items) (sym c.file_with.ensures)
+    subst (λ (f : File). HasBodyOf chunks c.args.handle inode (Some f) c.in_ok-claims.claims.items) (sym c.file_with-file.ensures)
     (directory_read chunks shows.none inode c.in_ok-tree.tree c.in_ok-claims.claims.items c.in-Some.names is c.in_ok-claims.ensures are c.args.handle c.requires.inode c.requires.kind c.if-inode.false below)
 
 pub returns-in_err-tree-clause-part : goal.returns-in_err-tree-clause-part

@@ -6,17 +6,9 @@ use Rattle.bx_truth.specs.Stored.{AreBytesOf}
 use Rattle.bx_audit_trees.proofs.Ends.{both_torn, if_torn}
 use Rattle.bx_audit_bodies.specs.Pieces.{HasPiece, piece_among}
 use Rattle.bx_audit_bodies.specs.declared.pieces.Piece.{Piece}
-use Rattle.bx_audit_bodies.proofs.PiecesRead.{read_more, bytes_step, no_bytes_of}
+use Rattle.bx_audit_bodies.proofs.PiecesRead.{read_more, bytes_step}
 use Rattle.bx_audit_bodies.proofs.FaultsOfParts.{unclear_at}
-use Rattle.bx_audit_bodies.proofs.PartsLed.{one_at}
 use Rattle.bx_audit_bodies.proofs.contents.bytes_of.Goals as goal
-
-pub returns-in_err-put_piece-clause-torn : goal.returns-in_err-put_piece-clause-torn
-returns-in_err-put_piece-clause-torn g c = λ chunks shows apart.
-    let p = err_from_is_err_and c.from_residual.result c.from_residual.ensures.1 in
-    if_torn _ _ c.in_err-put_piece.field-0.0 c.from_residual.result (p.1 ∙ ap Err p.2)
-    (λ at found wanted never bytes all are. no_bytes_of chunks c.args.pieces.now c.loop-piece.piece-index _ c.loop-piece-test.true c.args.size c.args.tail bytes apart c.in_err-put_piece.ensures.fits never all are)
-    (c.in_err-put_piece.ensures.torn chunks (c.loop-piece.invariant.shows chunks shows))
 
 pub loop-piece-preserved : goal.loop-piece-preserved
 loop-piece-preserved g c =
@@ -47,11 +39,6 @@ pub returns-clause-bytes : goal.returns-clause-bytes
 returns-clause-bytes g c = λ chunks shows apart.
     subst (λ (l : List Piece). AreBytesOf (piece_among chunks l) c.args.size c.args.tail c.loop-piece.content) (take_all c.loop-piece.piece-index c.args.pieces.now c.loop-piece-test.false)
     (c.loop-piece.invariant.bytes chunks shows apart)
-
-pub returns-in_err-put_piece-clause-names : goal.returns-in_err-put_piece-clause-names
-returns-in_err-put_piece-clause-names g c =
-    let p = err_from_is_err_and c.from_residual.result c.from_residual.ensures.1 in
-    if_torn _ _ c.in_err-put_piece.field-0.0 c.from_residual.result (p.1 ∙ ap Err p.2) (λ at found wanted is. one_at c.args.pieces.now c.loop-piece.piece-index _ wanted c.loop-piece-test.true is) (c.in_err-put_piece.ensures.names)
 
 pub returns-in_err-put_piece-clause-shows : goal.returns-in_err-put_piece-clause-shows
 returns-in_err-put_piece-clause-shows g c = λ chunks shows. c.in_err-put_piece.ensures.shows chunks (c.loop-piece.invariant.shows chunks shows)

@@ -1,30 +1,22 @@
-use Rattle.std.proofs.Common.{◌≡◌, ℕ, List, true, false, Err, length, sym, ap, ◌∙◌, subst}
+use Rattle.std.proofs.Common.{ℕ, List, Err, length, ap, ◌∙◌}
 use Rattle.std.proofs.lemmas.Result.{err_from_is_err_and}
 use Rattle.bx_audit_trees.proofs.Ends.{if_torn}
-use Rattle.bx_audit_bodies.specs.Contents.{IsClear, with_piece}
-use Rattle.bx_audit_bodies.proofs.PiecesRead.{clear_too}
+use Rattle.bx_audit_bodies.specs.Contents.{with_piece}
 use Rattle.bx_audit_bodies.proofs.PiecesInBytes.{put_long}
 use Rattle.bx_audit_bodies.proofs.contents.put_piece.Goals as goal
 
 pub returns-in_err-block-clause-torn : goal.returns-in_err-block-clause-torn
 returns-in_err-block-clause-torn g c = λ chunks shows.
     let p = err_from_is_err_and c.from_residual.result c.from_residual.ensures.1 in
-    if_torn _ _ c.in_err-block.field-0.0 c.from_residual.result (p.1 ∙ ap Err p.2) (λ at found wanted never block is clear. never block is) (c.in_err-block.ensures.torn chunks shows)
-
-pub returns-then-not-is_clear-clause-torn : goal.returns-then-not-is_clear-clause-torn
-returns-then-not-is_clear-clause-torn g c = λ chunks shows.
-    rw c.torn_at.ensures (λ block is clear.
-    let yes : c.is_clear.result ≡ true =
-    c.is_clear.ensures.1 (clear_too chunks c.args.piece.now.handle c.args.piece.now.index c.args.tail block c.in_ok-block.block c.bytes.result.now (c.in_ok-block.ensures.ok chunks shows).chunk c.bytes.ensures is clear) in
-    let e : false ≡ true = sym c.if-not-is_clear.true ∙ yes in absurd cc)
+    if_torn _ _ c.in_err-block.field-0.0 c.from_residual.result (p.1 ∙ ap Err p.2) (λ at found wanted never. never) (c.in_err-block.ensures.torn chunks shows)
 
 pub returns-clause-ok : goal.returns-clause-ok
 returns-clause-ok g c = λ chunks shows. record {
   block = c.in_ok-block.block;
-  at = c.in_ok-block.ensures.ok chunks shows;
-  clear = subst (IsClear c.args.tail c.args.piece.now.index) c.bytes.ensures (c.is_clear.ensures.0 c.if-not-is_clear.false);
-  new_is = c.in_ok-put_bytes.ensures ∙ ap (λ (l : List ℕ). with_piece c.args.size c.args.piece.now.index l c.args.content.now) c.bytes-2.ensures;
+  at = (c.in_ok-block.ensures.ok chunks shows).0;
+  clear = (c.in_ok-block.ensures.ok chunks shows).1;
+  new_is = c.in_ok-put_bytes.ensures ∙ ap (λ (l : List ℕ). with_piece c.args.size c.args.piece.now.index l c.args.content.now) c.bytes.ensures;
 }
 
 pub returns-clause-len : goal.returns-clause-len
-returns-clause-len g c = λ long. ap length c.in_ok-put_bytes.ensures ∙ put_long c.args.size c.args.piece.now.index c.bytes-2.result.now c.args.content.now long
+returns-clause-len g c = λ long. ap length c.in_ok-put_bytes.ensures ∙ put_long c.args.size c.args.piece.now.index c.bytes.result.now c.args.content.now long

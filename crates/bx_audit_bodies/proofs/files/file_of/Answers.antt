@@ -1,151 +1,51 @@
-use Rattle.std.proofs.Common.{arith, ◌≡◌, ⊎_elim, inl, inr, Option, Some, None, sym, ap, subst, ◌∙◌, Err}
+use Rattle.std.proofs.Common.{List, Some, Err, sym, ap, ◌∙◌, subst}
+use Rattle.std.specs.Prelude.{All}
 use Rattle.std.proofs.lemmas.Result.{err_from_is_err_and}
-use Rattle.bx_audit_trees.proofs.Ends.{both_torn, if_torn}
-use Rattle.bx_audit_files.proofs.NamesOfTrees.{if_ok}
-use Rattle.bx_audit_bodies.proofs.Cases.{torn_too}
-use Rattle.bx_audit_bodies.proofs.ReadFiles.{not_stored, read_as, same_at}
-use Rattle.bx_layout.specs.declared.block.Block.{Block}
-use Rattle.bx_audit_bodies.specs.Faults.{Missing, Within}
-use Rattle.bx_audit_bodies.specs.Parts.{IsTornDead}
-use Rattle.bx_audit_trees.specs.Errors.{IfTorn}
-use Rattle.bx_layout.specs.declared.inode.Inode.{Inode}
+use Rattle.bx_audit_bodies.specs.Outlines.{ArePartsAt, AreRight}
+use Rattle.bx_audit_bodies.specs.Parts.{IsUnclearPiece}
+use Rattle.bx_audit_bodies.specs.Pieces.{AreApart, HasPiece, piece_among}
+use Rattle.bx_audit_bodies.specs.Reading.{IsReadAs}
+use Rattle.bx_audit_bodies.specs.declared.outlines.Parts.{Parts}
+use Rattle.bx_audit_bodies.specs.declared.pieces.Piece.{Piece}
+use Rattle.bx_audit_bodies.proofs.Outlined.{filled, unread}
+use Rattle.bx_audit_trees.proofs.Ends.{if_torn}
+use Rattle.bx_tree_files.specs.declared.file.File.{File}
+use Rattle.bx_truth.specs.Stored.{AreBytesOf}
 use Rattle.bx_audit_bodies.proofs.files.file_of.Goals as goal
 
-not_both : (found : Option Block) (block : Block) → found ≡ Some block → found ≡ None → ⊥
-not_both found block some none = absurd cc
+pub returns-in-Whole-clause-ok : goal.returns-in-Whole-clause-ok
+returns-in-Whole-clause-ok g c = λ chunks shows is.
+    let outline = c.args.outline in
+    subst (λ (p : Parts). ArePartsAt chunks outline.handle p outline.claims.items) c.in-Whole.is is
 
-pub returns-in_err-inode-clause-torn : goal.returns-in_err-inode-clause-torn
-returns-in_err-inode-clause-torn g c = λ chunks shows.
+pub returns-in-Whole-clause-is : goal.returns-in-Whole-clause-is
+returns-in-Whole-clause-is g c = (subst AreRight c.in-Whole.is c.requires.right).0
+
+pub returns-in-Whole-clause-apart : goal.returns-in-Whole-clause-apart
+returns-in-Whole-clause-apart g c = (subst AreRight c.in-Whole.is c.requires.right).1
+
+pub returns-in_err-content-in-Pieces-clause-torn : goal.returns-in_err-content-in-Pieces-clause-torn
+returns-in_err-content-in-Pieces-clause-torn g c = λ chunks shows is.
     let p = err_from_is_err_and c.from_residual.result c.from_residual.ensures.1 in
-    if_torn _ _ c.in_err-inode.field-0.0 c.from_residual.result (p.1 ∙ ap Err p.2)
-    (λ at found wanted never owner stored file is. never stored.inode (record { block = is.block; chunk = is.chunk; has = is.inode })) (c.in_err-inode.ensures.torn chunks shows)
-
-pub returns-in-1-clause-ok : goal.returns-in-1-clause-ok
-returns-in-1-clause-ok g c = λ chunks shows.
-    if_ok _ _ c.regular_of.result (λ read body. read_as chunks c.args.handle c.in_ok-inode.inode (c.in_ok-inode.ensures.ok chunks shows) read.file read.claims.items body)
-    (c.regular_of.ensures.ok chunks (c.in_ok-inode.ensures.shows chunks shows))
-
-pub returns-in-1-clause-torn : goal.returns-in-1-clause-torn
-returns-in-1-clause-torn g c = λ chunks shows.
-    torn_too _ _ c.regular_of.result (λ at found wanted never. not_stored chunks c.args.handle c.in_ok-inode.inode (c.in_ok-inode.ensures.ok chunks shows) never)
-    (c.regular_of.ensures.torn chunks (c.in_ok-inode.ensures.shows chunks shows))
-
-pub returns-in-2-clause-ok : goal.returns-in-2-clause-ok
-returns-in-2-clause-ok g c = λ chunks shows.
-    if_ok _ _ c.directory_of.result (λ read body. read_as chunks c.args.handle c.in_ok-inode.inode (c.in_ok-inode.ensures.ok chunks shows) read.file read.claims.items body)
-    (c.directory_of.ensures.ok chunks (c.in_ok-inode.ensures.shows chunks shows))
-
-pub returns-in-2-clause-torn : goal.returns-in-2-clause-torn
-returns-in-2-clause-torn g c = λ chunks shows.
-    torn_too _ _ c.directory_of.result (λ at found wanted never. not_stored chunks c.args.handle c.in_ok-inode.inode (c.in_ok-inode.ensures.ok chunks shows) never)
-    (c.directory_of.ensures.torn chunks (c.in_ok-inode.ensures.shows chunks shows))
-
-pub returns-in-5-clause-ok : goal.returns-in-5-clause-ok
-returns-in-5-clause-ok g c = λ chunks shows.
-    if_ok _ _ c.link_of.result (λ read body. read_as chunks c.args.handle c.in_ok-inode.inode (c.in_ok-inode.ensures.ok chunks shows) read.file read.claims.items body)
-    (c.link_of.ensures.ok chunks)
-
-pub returns-in-5-clause-torn : goal.returns-in-5-clause-torn
-returns-in-5-clause-torn g c = λ chunks shows.
-    torn_too _ _ c.link_of.result (λ at found wanted never. not_stored chunks c.args.handle c.in_ok-inode.inode (c.in_ok-inode.ensures.ok chunks shows) never) (c.link_of.ensures.torn chunks)
+    let outline = c.args.outline in
+    let right = subst AreRight c.in-Pieces.is c.requires.right in
+    let at = subst (λ (p : Parts). ArePartsAt chunks outline.handle p outline.claims.items) c.in-Pieces.is is in
+    let inode = c.in-Pieces.inode in
+    if_torn _ _ c.in_err-content-in-Pieces.field-0.0 c.from_residual.result (p.1 ∙ ap Err p.2)
+    (λ block found wanted torn. unread chunks shows.none outline.handle inode c.in-Pieces.pieces.items outline.claims.items at.0 at.1 right.1 wanted
+    (subst (λ (l : List Piece). IsUnclearPiece chunks l inode.tail wanted) c.deref.ensures.value torn))
+    (c.in_err-content-in-Pieces.ensures.wrong chunks shows)
 
 pub returns-clause-ok : goal.returns-clause-ok
-returns-clause-ok g c = λ chunks shows.
-    if_ok _ _ c.dead_of.result (λ read body. read_as chunks c.args.handle c.in_ok-inode.inode (c.in_ok-inode.ensures.ok chunks shows) read.file read.claims.items body)
-    (c.dead_of.ensures.ok chunks (c.in_ok-inode.ensures.shows chunks shows))
-
-pub returns-clause-torn : goal.returns-clause-torn
-returns-clause-torn g c = λ chunks shows.
-    torn_too _ _ c.dead_of.result (λ at found wanted never. not_stored chunks c.args.handle c.in_ok-inode.inode (c.in_ok-inode.ensures.ok chunks shows) never)
-    (c.dead_of.ensures.torn chunks (c.in_ok-inode.ensures.shows chunks shows))
-
-pub returns-in-1-clause-names : goal.returns-in-1-clause-names
-returns-in-1-clause-names g c = λ chunks shows none. let is = c.in_ok-inode.ensures.ok chunks shows in absurd (not_both (chunks c.args.handle) is.block is.chunk none)
-
-pub returns-in-2-clause-names : goal.returns-in-2-clause-names
-returns-in-2-clause-names g c = λ chunks shows none. let is = c.in_ok-inode.ensures.ok chunks shows in absurd (not_both (chunks c.args.handle) is.block is.chunk none)
-
-pub returns-in-5-clause-names : goal.returns-in-5-clause-names
-returns-in-5-clause-names g c = λ chunks shows none. let is = c.in_ok-inode.ensures.ok chunks shows in absurd (not_both (chunks c.args.handle) is.block is.chunk none)
-
-pub returns-clause-names : goal.returns-clause-names
-returns-clause-names g c = λ chunks shows none. let is = c.in_ok-inode.ensures.ok chunks shows in absurd (not_both (chunks c.args.handle) is.block is.chunk none)
-
-pub returns-in_err-inode-clause-part : goal.returns-in_err-inode-clause-part
-returns-in_err-inode-clause-part g c = λ chunks shows.
-    let p = err_from_is_err_and c.from_residual.result c.from_residual.ensures.1 in
-    if_torn _ _ c.in_err-inode.field-0.0 c.from_residual.result (p.1 ∙ ap Err p.2) (λ at found wanted is. inl is) c.in_err-inode.ensures.names
-
-pub returns-in-1-clause-part : goal.returns-in-1-clause-part
-returns-in-1-clause-part g c = λ chunks shows. torn_too _ _ c.regular_of.result (λ at found wanted. ⊎_elim (λ itself. inl itself) (λ led. inr (c.in_ok-inode.inode, c.in_ok-inode.ensures.ok chunks shows, led))) (c.regular_of.ensures.part chunks (c.in_ok-inode.ensures.shows chunks shows))
-
-pub returns-in-2-clause-part : goal.returns-in-2-clause-part
-returns-in-2-clause-part g c = λ chunks shows. torn_too _ _ c.directory_of.result (λ at found wanted. ⊎_elim (λ itself. inl itself) (λ led. inr (c.in_ok-inode.inode, c.in_ok-inode.ensures.ok chunks shows, led))) (c.directory_of.ensures.part chunks (c.in_ok-inode.ensures.shows chunks shows))
-
-pub returns-in-5-clause-part : goal.returns-in-5-clause-part
-returns-in-5-clause-part g c = λ chunks shows. torn_too _ _ c.link_of.result (λ at found wanted itself. inl itself) (c.link_of.ensures.part)
-
-pub returns-clause-part : goal.returns-clause-part
-returns-clause-part g c = λ chunks shows. torn_too _ _ c.dead_of.result (λ at found wanted. ⊎_elim (λ itself. inl itself) (λ led. inr (c.in_ok-inode.inode, c.in_ok-inode.ensures.ok chunks shows, led))) (c.dead_of.ensures.part chunks (c.in_ok-inode.ensures.shows chunks shows))
-
-pub returns-in-1-clause-shows : goal.returns-in-1-clause-shows
-returns-in-1-clause-shows g c = λ chunks shows. c.regular_of.ensures.shows chunks (c.in_ok-inode.ensures.shows chunks shows)
-
-pub returns-in-2-clause-shows : goal.returns-in-2-clause-shows
-returns-in-2-clause-shows g c = λ chunks shows. c.directory_of.ensures.shows chunks (c.in_ok-inode.ensures.shows chunks shows)
-
-pub returns-clause-shows : goal.returns-clause-shows
-returns-clause-shows g c = λ chunks shows. c.dead_of.ensures.shows chunks (c.in_ok-inode.ensures.shows chunks shows)
-
-pub returns-in_err-inode-clause-dead : goal.returns-in_err-inode-clause-dead
-returns-in_err-inode-clause-dead g c = λ chunks shows inode is zero.
-    let p = err_from_is_err_and c.from_residual.result c.from_residual.ensures.1 in
-    if_torn _ _ c.in_err-inode.field-0.0 c.from_residual.result (p.1 ∙ ap Err p.2) (λ at found wanted never. absurd (never inode is)) (c.in_err-inode.ensures.torn chunks shows)
-
-pub returns-clause-dead : goal.returns-clause-dead
-returns-clause-dead g c = λ chunks shows inode is zero.
-    subst (λ (i : Inode). IfTorn c.dead_of.result (λ at found wanted. IsTornDead chunks i.tree wanted)) (sym (same_at chunks c.args.handle c.in_ok-inode.inode (c.in_ok-inode.ensures.ok chunks shows) inode is))
-    (c.dead_of.ensures.first chunks (c.in_ok-inode.ensures.shows chunks shows))
-
-pub returns-in-1-clause-dead : goal.returns-in-1-clause-dead
-returns-in-1-clause-dead g c = λ chunks shows inode is zero.
-    let same = same_at chunks c.args.handle c.in_ok-inode.inode (c.in_ok-inode.ensures.ok chunks shows) inode is in
-    let e : 0 ≡ 1 = sym zero ∙ ap (λ (i : Inode). i.kind) same ∙ c.in-1.is in
-    absurd (omega (arith, e))
-
-pub returns-in-2-clause-dead : goal.returns-in-2-clause-dead
-returns-in-2-clause-dead g c = λ chunks shows inode is zero.
-    let same = same_at chunks c.args.handle c.in_ok-inode.inode (c.in_ok-inode.ensures.ok chunks shows) inode is in
-    let e : 0 ≡ 2 = sym zero ∙ ap (λ (i : Inode). i.kind) same ∙ c.in-2.is in
-    absurd (omega (arith, e))
-
-pub returns-in-5-clause-dead : goal.returns-in-5-clause-dead
-returns-in-5-clause-dead g c = λ chunks shows inode is zero.
-    let same = same_at chunks c.args.handle c.in_ok-inode.inode (c.in_ok-inode.ensures.ok chunks shows) inode is in
-    let e : 0 ≡ 5 = sym zero ∙ ap (λ (i : Inode). i.kind) same ∙ c.in-5.is in
-    absurd (omega (arith, e))
-
-pub returns-in_err-inode-clause-fault : goal.returns-in_err-inode-clause-fault
-returns-in_err-inode-clause-fault g c = λ chunks shows.
-    let p = err_from_is_err_and c.from_residual.result c.from_residual.ensures.1 in
-    if_torn _ _ c.in_err-inode.field-0.0 c.from_residual.result (p.1 ∙ ap Err p.2) (λ at found wanted both. Missing both.0 both.1)
-    (both_torn _ _ c.in_err-inode.field-0.0 (c.in_err-inode.ensures.torn chunks shows) c.in_err-inode.ensures.names)
-
-pub returns-in-1-clause-fault : goal.returns-in-1-clause-fault
-returns-in-1-clause-fault g c = λ chunks shows.
-    torn_too _ _ c.regular_of.result (λ at found wanted fault. Within c.in_ok-inode.inode (c.in_ok-inode.ensures.ok chunks shows) fault)
-    (c.regular_of.ensures.fault chunks (c.in_ok-inode.ensures.shows chunks shows))
-
-pub returns-in-2-clause-fault : goal.returns-in-2-clause-fault
-returns-in-2-clause-fault g c = λ chunks shows.
-    torn_too _ _ c.directory_of.result (λ at found wanted fault. Within c.in_ok-inode.inode (c.in_ok-inode.ensures.ok chunks shows) fault)
-    (c.directory_of.ensures.fault chunks (c.in_ok-inode.ensures.shows chunks shows))
-
-pub returns-in-5-clause-fault : goal.returns-in-5-clause-fault
-returns-in-5-clause-fault g c = λ chunks shows.
-    torn_too _ _ c.link_of.result (λ at found wanted fault. Within c.in_ok-inode.inode (c.in_ok-inode.ensures.ok chunks shows) fault) (c.link_of.ensures.fault chunks)
-
-pub returns-clause-fault : goal.returns-clause-fault
-returns-clause-fault g c = λ chunks shows.
-    torn_too _ _ c.dead_of.result (λ at found wanted fault. Within c.in_ok-inode.inode (c.in_ok-inode.ensures.ok chunks shows) fault)
-    (c.dead_of.ensures.fault chunks (c.in_ok-inode.ensures.shows chunks shows))
+returns-clause-ok g c = λ chunks shows is.
+    let outline = c.args.outline in
+    let right = subst AreRight c.in-Pieces.is c.requires.right in
+    let at = subst (λ (p : Parts). ArePartsAt chunks outline.handle p outline.claims.items) c.in-Pieces.is is in
+    let inode = c.in-Pieces.inode in
+    let pieces = c.in-Pieces.pieces.items in
+    let content = c.in_ok-content-in-Pieces.content in
+    subst (λ (f : File). IsReadAs chunks outline.handle (Some f) outline.claims.items) (sym c.file_with.ensures)
+    (filled chunks shows.none outline.handle inode pieces outline.claims.items at.0 at.1 right.1 content right.0 right.2
+    (subst (All (HasPiece chunks)) c.deref.ensures.value (c.in_ok-content-in-Pieces.ensures.pieces chunks shows))
+    (λ apart. subst (λ (l : List Piece). AreBytesOf (piece_among chunks l) inode.size inode.tail content) c.deref.ensures.value
+    (c.in_ok-content-in-Pieces.ensures.bytes chunks shows (subst AreApart (sym c.deref.ensures.value) apart))))

@@ -1,11 +1,11 @@
-use Rattle.std.proofs.Common.{◌≡◌, ◌∙◌, ℕ, List, sym, ap, subst}
+use Rattle.std.proofs.Common.{◌≡◌, ◌∙◌, ℕ, List, refl, sym, ap, subst}
 use Rattle.std.specs.Prelude.{Ok, IfOk}
 use Rattle.std.proofs.lemmas.Result.{IfOk-weaker}
 use Rattle.bx_chunks.specs.Counting.{free_slots}
 use Rattle.bx_directory_reads.specs.Lookups.{OnLooking}
 use Rattle.bx_engine.proofs.Along.{fair_along}
 use Rattle.bx_engine.proofs.Acting.{gives_by, lookup_acts, mount_acts, nothing_acts, read_acts, readdir_acts, refused_acts}
-use Rattle.bx_engine.proofs.Stopping.{answered_comes, answered_enough}
+use Rattle.bx_engine.proofs.Stopping.{answered_comes, told_enough}
 use Rattle.bx_engine.specs.Calls.{HasReadArgs}
 use Rattle.bx_engine.specs.Outcomes.{told_free}
 use Rattle.bx_engine.specs.Paths.{ReadPathOf}
@@ -147,13 +147,13 @@ pub returns-in-List-clause-free : goal.returns-in-List-clause-free
 returns-in-List-clause-free g c = λ at truth tree asks same s. let never = sym c.in-List.is ∙ asks.args in absurd cc
 
 pub returns-in-Refused-clause-enough : goal.returns-in-Refused-clause-enough
-returns-in-Refused-clause-enough g c = λ none. answered_enough c.args.xid c.answered.result (replies.Refused c.in-Refused.number c.args.call.now.program) c.answered.ensures
+returns-in-Refused-clause-enough g c = λ none. told_enough _ c.answered.result c.answered.ensures refl
 
 pub returns-in-Nothing-clause-enough : goal.returns-in-Nothing-clause-enough
-returns-in-Nothing-clause-enough g c = λ none. answered_enough c.args.xid c.answered-in-Nothing.result _ c.answered-in-Nothing.ensures
+returns-in-Nothing-clause-enough g c = λ none. told_enough _ c.answered-in-Nothing.result c.answered-in-Nothing.ensures refl
 
 pub returns-in_ok-reply-in-Path-clause-enough : goal.returns-in_ok-reply-in-Path-clause-enough
-returns-in_ok-reply-in-Path-clause-enough g c = λ none. answered_enough c.args.xid c.answered-in-Path.result _ c.answered-in-Path.ensures
+returns-in_ok-reply-in-Path-clause-enough g c = λ none. told_enough _ c.answered-in-Path.result c.answered-in-Path.ensures refl
 
 pub returns-in-Handle-clause-enough : goal.returns-in-Handle-clause-enough
 returns-in-Handle-clause-enough g c = λ none.

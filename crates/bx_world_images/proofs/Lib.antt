@@ -1,0 +1,4 @@
+pub mod Audited
+pub mod Images
+pub mod Settling
+pub mod Volume

@@ -1,0 +1,4 @@
+pub mod Activities
+pub mod Growing
+pub mod Moving
+pub mod Regions

@@ -1,0 +1,16 @@
+-- The session of a node that is up.
+use Rattle.std.proofs.Common.{◌≡◌, ℕ, Bool, true, false, Option, Some, None, refl, sym, ◌∙◌, ap}
+use Rattle.std.specs.Prelude.{if◌then◌else◌}
+use Rattle.bx_base.specs.declared.names.Actor.{Actor}
+use Rattle.bx_base.specs.declared.names.Actor.TheVariants.{Node}
+use Rattle.bx_world_standing.specs.Standing.{own_up}
+
+pub own_of : (down : Actor → Bool) (own : ℕ → Option ℕ) (node session : ℕ) → own_up down own node ≡ Some session → (down (Node node) ≡ false) × (own node ≡ Some session)
+own_of down own node session is = by (down (Node node)) refl
+  where
+    by : (b : Bool) → down (Node node) ≡ b → (down (Node node) ≡ false) × (own node ≡ Some session)
+    by true down_is = absurd (let e : own_up down own node ≡ None = ap (λ (b : Bool). if b then None else own node) down_is in cc)
+    by false up = (up, sym (ap (λ (b : Bool). if b then None else own node) up) ∙ is)
+
+pub own_is : (down : Actor → Bool) (own : ℕ → Option ℕ) (node session : ℕ) → down (Node node) ≡ false → own node ≡ Some session → own_up down own node ≡ Some session
+own_is down own node session up is = ap (λ (b : Bool). if b then None else own node) up ∙ is

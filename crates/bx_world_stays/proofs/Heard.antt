@@ -1,0 +1,189 @@
+-- A machine that is no node was handed an input: letters come, a change may be handed back and proposed, the disk of the machine changes.
+use Rattle.std.proofs.Common.{◌≡◌, ◌≢◌, ◌⊎◌, ⊎_elim, inl, inr, ℕ, zero, suc, ◌≤◌, Bool, true, false, List, ◌∷◌, Contains, Option, Some, None, refl, sym, ◌∙◌, ap, subst, arith}
+use Rattle.std.specs.Prelude.{if◌then◌else◌}
+use Rattle.bx_base.specs.declared.names.Actor.{Actor}
+use Rattle.bx_base.specs.declared.names.Actor.TheVariants.{Member, Node, Replica, Server}
+use Rattle.bx_disk.specs.Disks.{Disks}
+use Rattle.bx_facts.specs.declared.register.Register as register
+use Rattle.bx_facts.specs.declared.store.Store as store
+use Rattle.bx_owners.specs.declared.owners.Owners as owners
+use Rattle.bx_facts.specs.Chains.{HasRow, IsOwnersOwn, IsStoresOwn, last, with_change}
+use Rattle.bx_facts.specs.Holds.{Holds, KeepsHolds, OwnersPast}
+use Rattle.bx_facts.specs.Inputs.{greatest_with}
+use Rattle.bx_facts.specs.declared.input.Input.{Input}
+use Rattle.bx_facts.specs.declared.input.Input.TheVariants.{Packet, Tick, Synced}
+use Rattle.bx_facts.specs.Machines.{is_same, put_at}
+use Rattle.bx_facts.specs.Pasts.{Told, heard}
+use Rattle.bx_facts.specs.Writes.{IsOnly}
+use Rattle.bx_facts.proofs.Machines.{is_one}
+use Rattle.bx_global.specs.declared.change.Change.{Change}
+use Rattle.bx_global.specs.declared.change.Change.TheVariants.{Claim, Close, Expire, Open, Renew, Shift, Take}
+use Rattle.bx_post.specs.declared.packets.Letter.{Letter}
+use Rattle.bx_views.specs.Attempts.{Deed}
+use Rattle.bx_views.specs.Truths.{Hints, Truth}
+use Rattle.bx_world_views.specs.Views.{AreApart}
+use Rattle.bx_world_standing.specs.Parts.{Clocks}
+use Rattle.bx_world_standing.specs.Labels.{LabelsStand}
+use Rattle.bx_world_standing.specs.Closings.{ClosingStands}
+use Rattle.bx_world_standing.specs.Standing.{Course, Known, StandsAt}
+use Rattle.bx_world_standing.proofs.Owns.{own_is, own_of}
+use Rattle.bx_world_stays.proofs.Stays.{stays}
+
+abbrev pub IsNoNode : Actor → Type 0
+IsNoNode (Node n) = ⊥
+IsNoNode (Replica n) = Unit {0}
+IsNoNode (Server n) = Unit {0}
+IsNoNode (Member n) = Unit {0}
+
+not_node : (who : Actor) → IsNoNode who → (node : ℕ) → is_same who (Node node) ≡ false
+not_node (Node n) none node = absurd none
+not_node (Replica n) none node = refl
+not_node (Server n) none node = refl
+not_node (Member n) none node = refl
+
+-- what was told then, with these letters under way
+abbrev pub told_then : Told → Actor → ℕ → Input → Option Change → List Letter → Told
+told_then told who index input change letters = record (heard told who index input change) { letters = letters }
+
+abbrev pub heard_clocks : Clocks → Input → Clocks
+heard_clocks clocks input = record clocks { greatest = greatest_with clocks.greatest input }
+
+abbrev pub heard_known : Known → Input → List Letter → Known
+heard_known known input letters = record known { letters = letters; clocks = heard_clocks known.clocks input }
+
+abbrev pub heard_course : Course → Actor → ℕ → Input → Option Change → Option Change → Option Change → List Letter → Holds → Course
+heard_course c who index input owners_change store_change proposal letters holding = record c {
+  register = record c.register { letters = letters; proposed = with_change proposal c.register.proposed };
+  owners = record c.owners { told = told_then c.owners.told who index input owners_change letters; holding = holding };
+  store = record c.store { told = told_then c.store.told who index input store_change letters };
+}
+
+rises_so : (a b : ℕ) (input : Input) → a ≤ b → greatest_with a input ≤ greatest_with b input
+rises_so a b (Packet packet reading) less = omega (arith, less)
+rises_so a b (Tick reading) less = omega (arith, less)
+rises_so a b Synced less = less
+
+rises_then : (a : ℕ) (input : Input) → a ≤ greatest_with a input
+rises_then a (Packet packet reading) = omega arith
+rises_then a (Tick reading) = omega arith
+rises_then a Synced = omega arith
+
+has_more : (change : Option Change) (handed : List Change) (one : Change) → Contains handed one → Contains (with_change change handed) one
+has_more None handed one has = has
+has_more (Some change) handed one (k, less, is) = (suc k, omega (arith, less), is)
+
+owners_more : (change : Option Change) (handed : List Change) (one : Change) → IsOwnersOwn handed one → IsOwnersOwn (with_change change handed) one
+owners_more change handed (Renew by boot reading) has = has_more change handed (Renew by boot reading) has
+owners_more change handed (Take by boot reading) has = has_more change handed (Take by boot reading) has
+owners_more change handed (Open node boot reading) has = has_more change handed (Open node boot reading) has
+owners_more change handed (Expire session term reading) has = has_more change handed (Expire session term reading) has
+owners_more change handed (Claim gone by) has = has
+owners_more change handed (Close gone by) has = has
+owners_more change handed (Shift device epoch mode second boot) has = has
+
+store_more : (change : Option Change) (handed : List Change) (one : Change) → IsStoresOwn handed one → IsStoresOwn (with_change change handed) one
+store_more change handed (Shift device epoch mode second boot) has = has_more change handed (Shift device epoch mode second boot) has
+store_more change handed (Renew by boot reading) has = has
+store_more change handed (Take by boot reading) has = has
+store_more change handed (Open node boot reading) has = has
+store_more change handed (Expire session term reading) has = has
+store_more change handed (Claim gone by) has = has
+store_more change handed (Close gone by) has = has
+
+-- what is proposed by a machine that is no node: owners or store handed it back, and it closes no session
+pub record IsProposal (owners_handed store_handed : List Change) (change : Change) : Type 0 where
+  pub owners_own : IsOwnersOwn owners_handed change
+  pub stores_own : IsStoresOwn store_handed change
+  pub no_close : (gone by : ℕ) → change ≢ Close gone by
+
+-- the newest is it, or it was there
+was_there : (new : Change) (handed : List Change) (one : Change) → Contains (new ∷ handed) one → (new ≡ one) ⊎ Contains handed one
+was_there new handed one (zero, less, is) = inl is
+was_there new handed one (suc k, less, is) = inr (k, omega (arith, less), is)
+
+module _ {G O S T : Type 0} (g : register.Ghosts G) (o : owners.Ghosts O) (st : store.Ghosts S) (Stands : Truth → Hints → T → Type 0) (Step : T → Deed → T → Type 0) where
+  pub heard_by : (register_is register_then : G) (owners_are owners_then : O) (store_is store_then : S) (x y : Disks) (known : Known) (c : Course) (tree : T)
+      (who : Actor) (index : ℕ) (input : Input) (owners_change store_change proposal : Option Change) (letters : List Letter) (holding : Holds)
+      → StandsAt g o st Stands Step register_is owners_are store_is x known c tree
+      → IsNoNode who
+      → g.keeps register_then y (record c.register { letters = letters; proposed = with_change proposal c.register.proposed })
+      → ((other : Actor) → (g.knows register_is other).index ≤ (g.knows register_then other).index)
+      → index ≤ (g.knows register_then who).index
+      → ((change : Change) → proposal ≡ Some change → IsProposal (with_change owners_change c.owners.told.handed) (with_change store_change c.store.told.handed) change)
+      → o.keeps owners_then (record c.owners { told = told_then c.owners.told who index input owners_change letters; holding = holding })
+      → KeepsHolds c.owners.holding holding
+      → ((node : ℕ) → o.own owners_then node ≡ o.own owners_are node)
+      → st.keeps store_then y (record c.store { told = told_then c.store.told who index input store_change letters })
+      → ((d s : ℕ) (content : List ℕ) (at : ℕ) → IsOnly c.store.writes c.store.told.greatest d s content → st.stands store_is x c.store d s content at
+      → st.stands store_then y (record c.store { told = told_then c.store.told who index input store_change letters }) d s content at)
+      → ((node : ℕ) → (st.own store_then node ≡ st.own store_is node) × (st.out_of store_then node ≡ st.out_of store_is node))
+      → st.made store_then ≡ st.made store_is
+      → LabelsStand (st.made store_is) y
+      → ((past : OwnersPast) → o.keeps owners_then past → AreApart past.holding (HasRow (last past.told.chain)))
+      → StandsAt g o st Stands Step register_then owners_then store_then y (heard_known known input letters) (heard_course c who index input owners_change store_change proposal letters holding) tree
+  heard_by register_is register_then owners_are owners_then store_is store_then x y known c tree who index input owners_change store_change proposal letters holding at none register_keeps rises knows proposes owners_keep keeps own store_keeps stands others made labels apart =
+      stays g o st Stands Step register_is register_then owners_are owners_then store_is store_then x y known (heard_known known input letters) c
+      (record c.register { letters = letters; proposed = with_change proposal c.register.proposed })
+      (record c.owners { told = told_then c.owners.told who index input owners_change letters; holding = holding })
+      (record c.store { told = told_then c.store.told who index input store_change letters }) tree at
+      (record {
+        owners_chain = at.pasts.owners_chain;
+        store_chain = at.pasts.store_chain;
+        letters = refl;
+        owners_letters = refl;
+        store_letters = refl;
+        down = at.pasts.down;
+        owners_down = at.pasts.owners_down;
+        store_down = at.pasts.store_down;
+        boots = at.pasts.boots;
+        owners_most = at.pasts.owners_most;
+        store_most = at.pasts.store_most;
+        owners_boots = at.pasts.owners_boots;
+        store_boots = at.pasts.store_boots;
+        own_boots = at.pasts.own_boots;
+        next_boots = at.pasts.next_boots;
+        proposed = λ change there. owned proposal refl change there;
+        owners_greatest = rises_so c.owners.told.greatest c.store.told.greatest input at.pasts.owners_greatest;
+        greatest = rises_so c.store.told.greatest known.clocks.greatest input at.pasts.greatest;
+      })
+      (record {
+        register_keeps = register_keeps;
+        owners_keep = owners_keep;
+        store_keeps = store_keeps;
+        owners_knew = λ other. knew c.owners.told.knew at.parts.owners_knew other;
+        store_knew = λ other. knew c.store.told.knew at.parts.store_knew other;
+        same_boots = at.parts.same_boots;
+        own = λ node up. own node ∙ at.parts.own node up ∙ sym (others node).0;
+      })
+      (subst (λ m. LabelsStand m y) (sym made) labels) made keeps (λ block. omega arith) (λ session end is. is) refl
+      (rises_then c.store.told.greatest input)
+      stands
+      (λ node session is.
+      let had = own_of known.clocks.down (o.own owners_then) node session is in (
+        own_is known.clocks.down (o.own owners_are) node session had.0 (sym (own node) ∙ had.1),
+        ap (λ (t : Bool). if t then index else c.store.told.knew (Node node)) (not_node who none node),
+      ))
+      (subst (λ chain. AreApart holding (HasRow (last chain))) at.pasts.owners_chain (apart (record c.owners { told = told_then c.owners.told who index input owners_change letters; holding = holding }) owners_keep))
+      (λ node session write up is quiet there. at.quiet node session write up (sym (others node).0 ∙ is) (sym (others node).1 ∙ quiet) there)
+      (λ gone by there. closing proposal refl gone by there)
+      (λ node place mode block is. is) (λ node. inl refl)
+    where
+      owned : (found : Option Change) → proposal ≡ found → (change : Change) → Contains (with_change found c.register.proposed) change
+          → IsOwnersOwn (with_change owners_change c.owners.told.handed) change × IsStoresOwn (with_change store_change c.store.told.handed) change
+      owned None is change there = let old = at.pasts.proposed change there in (owners_more owners_change c.owners.told.handed change old.0, store_more store_change c.store.told.handed change old.1)
+      owned (Some new) is change there = ⊎_elim (λ same. subst (λ (k : Change). IsOwnersOwn (with_change owners_change c.owners.told.handed) k × IsStoresOwn (with_change store_change c.store.told.handed) k) same (let p = proposes new is in (p.owners_own, p.stores_own)))
+          (λ before. let old = at.pasts.proposed change before in (owners_more owners_change c.owners.told.handed change old.0, store_more store_change c.store.told.handed change old.1))
+          (was_there new c.register.proposed change there)
+
+      closing : (found : Option Change) → proposal ≡ found → (gone by : ℕ) → Contains (with_change found c.register.proposed) (Close gone by)
+          → ClosingStands (st.made store_is).devices (last c.register.chain) c.logs c.slots c.store.writes gone by
+      closing None is gone by there = at.closings gone by there
+      closing (Some new) is gone by there = ⊎_elim (λ same. absurd ((proposes new is).no_close gone by same)) (λ before. at.closings gone by before) (was_there new c.register.proposed (Close gone by) there)
+
+      knew : (old : Actor → ℕ) → ((other : Actor) → old other ≤ (g.knows register_is other).index) → (other : Actor) → put_at who index old other ≤ (g.knows register_then other).index
+      knew old low other = by (is_same who other) refl
+        where
+          by : (t : Bool) → is_same who other ≡ t → put_at who index old other ≤ (g.knows register_then other).index
+          by true same = subst (λ (t : Bool). (if t then index else old other) ≤ (g.knows register_then other).index) (sym same)
+              (subst (λ (one : Actor). index ≤ (g.knows register_then one).index) (is_one who other same) knows)
+          by false differ = subst (λ (t : Bool). (if t then index else old other) ≤ (g.knows register_then other).index) (sym differ) (let a = low other in let b = rises other in omega (arith, a, b))

@@ -1,0 +1,5 @@
+pub mod Begins
+pub mod Drops
+pub mod Heard
+pub mod Labels
+pub mod Stays

@@ -1,0 +1,3 @@
+pub mod Crashed
+pub mod Restarted
+pub mod Stopped

@@ -1,0 +1,4 @@
+pub mod Readings
+pub mod Recovered
+pub mod Trees
+pub mod Volumes

@@ -1,7 +1,7 @@
 //! What the command answers to a row.
 
-use crate::row::Row;
 use crate::racks::prepared;
+use crate::row::Row;
 use anyhow::{Error, anyhow};
 use bx_base::OutOfMemory;
 use bx_disk::Rack;

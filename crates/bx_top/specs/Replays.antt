@@ -19,13 +19,11 @@ use Rattle.bx_stops.specs.declared.stop.Stop.TheVariants as stops
 -- The schedule of the input was to be replayed on the bench, and its trace written to the output.
 pub record ReplayEnds {S K B : Type 0} (source : sources.Ghosts S) (sink : sinks.Ghosts K) (rack : racks.Ghosts B) (input input_new : S) (out out_new err err_new : K) (bench bench_new : B) (status : ℕ) : Type 0 where
   pub among : IsAmong (0 ∷ 2 ∷ 3 ∷ 4 ∷ 5 ∷ 9 ∷ []) status
-
   -- the headline
   pub replayed : status ≡ 0 → source.tells input → IsPlayable (source.left input) × (source.left input_new ≡ [])
       × (sink.tells out × rack.tells bench → Wrote (sink.written out) (sink.written out_new) (IsReplayed (source.left input) (IsShownBy (rack.state bench_new))))
   pub course : status ≡ 0 → source.tells input → rack.tells bench → IsPlayed rests returns turns (source.left input) (rack.state bench_new)
   pub dropped : status ≡ 0 → rack.tells bench → (d s : ℕ) → (rack.state bench_new).unsure d s ≡ false
-
   -- the first line that is refused, and the trace of the lines before
   pub refused : status ≡ 2 → (number : ℕ) × (reason : Reason)
       × (source.tells input → IsFirstRefused (source.left input) number reason
@@ -34,24 +32,20 @@ pub record ReplayEnds {S K B : Type 0} (source : sources.Ghosts S) (sink : sinks
   pub refuses : source.tells input → (number : ℕ) (reason : Reason) → IsFirstRefused (source.left input) number reason
       → (Rose (source.faults input) (source.faults input_new) → ⊥) → (Rose (sink.faults out) (sink.faults out_new) → ⊥)
       → (status ≡ 2) ⊎ ((status ≡ 9) ⊎ ((status ≡ 5) × (out_new ≡ out)))
-
   -- a fault of the source, and the trace of the lines before
   pub read_fault : status ≡ 3 → Rose (source.faults input) (source.faults input_new)
   pub cut_off : status ≡ 3 → source.tells input → IsCut (source.left input) (source.left input_new)
       × (sink.tells out × rack.tells bench → Wrote (sink.written out) (sink.written out_new) (IsCutOff (source.left input) (source.left input_new)))
-
   -- a fault of the output or of the bench, or no memory: a part of a trace
   pub write_fault : status ≡ 4 → Rose (sink.faults out) (sink.faults out_new)
   pub disk_fault : status ≡ 5 → IsDiskCause (rack.tells bench) (rack.faults bench) (rack.faults bench_new)
   pub disk_when : status ≡ 5 → source.tells input → (out_new ≡ out) ⊎ (IsPlayable (source.left input) × (source.left input_new ≡ []))
   pub broken : (status ≡ 4) ⊎ ((status ≡ 5) ⊎ (status ≡ 9)) → source.tells input → sink.tells out × rack.tells bench →
       Wrote (sink.written out) (sink.written out_new) (IsBroken (source.left input))
-
   -- The first cause met decides: a fault of the source or of the sink gives its status and no other, so nothing is tried again after one. A
   -- fault of the bench gives none between the heading and the last line.
   pub source_first : status ≢ 3 → source.faults input_new ≡ source.faults input
   pub sink_first : status ≢ 4 → sink.faults out_new ≡ sink.faults out
-
   -- A schedule each line of which may be done behind those before it is done, unless memory runs out or the bench fails: status 5 says when.
   pub complete : source.tells input → (schedule : List Line) → IsSchedule (lines_of (source.left input)) schedule → AreDone schedule
       → (Rose (source.faults input) (source.faults input_new) → ⊥) → (Rose (sink.faults out) (sink.faults out_new) → ⊥)

@@ -76,6 +76,7 @@ pub enum Word {
 }
 
 impl Word {
+    ghost use Rattle.bx_lock_words.specs.Sessions.{session_in};
     ghost use Rattle.bx_lock_words.specs.Words.{kind_of};
 
     /// The kind number, 8 to 13.
@@ -89,6 +90,19 @@ impl Word {
             Word::Releases(_) => 11,
             Word::Renews(_) => 12,
             Word::Leases(_, _) => 13,
+        }
+    }
+
+    /// The session that it is of.
+    pub fn session(&self) -> u64
+        ensures { result ≡ session_in self.now }
+    {
+        match self {
+            Word::Wants(want) => want.session,
+            Word::Grants(grant) => grant.session,
+            Word::Revokes(revoke) => revoke.session,
+            Word::Releases(release) => release.session,
+            Word::Renews(session) | Word::Leases(session, _) => *session,
         }
     }
 }

@@ -1,5 +1,5 @@
 -- What a round leaves.
-use Rattle.std.proofs.Common.{◌≡◌, ◌⊎◌, refl, ℕ, arith, List, Option, Some, None, sym, subst}
+use Rattle.std.proofs.Common.{◌≡◌, ◌⊎◌, inl, refl, ℕ, arith, List, Option, Some, None, sym, subst}
 use Rattle.std.specs.Prelude.{IfSome}
 use Rattle.bx_base.specs.declared.names.Point.{Point}
 use Rattle.bx_disk.specs.Disks.{Disks}
@@ -46,6 +46,11 @@ of_round moment old new acted is = record { says = is.says; begins = by (record_
     by : (point : Option Point) → record_of new ≡ point → IfSome point (λ p. (record_of old ≡ Some p) ⊎ (p.moment ≡ moment))
     by None none = tt
     by (Some point) some = is.begins point some
+
+-- a round without a turn says and begins nothing
+pub still_round : (moment : ℕ) (old new : Option Point) → new ≡ old → IsOfRound moment old new None
+still_round moment old None same = record { says = tt; begins = tt }
+still_round moment old (Some point) same = record { says = tt; begins = inl (sym same) }
 
 -- what a turn does, of what stands
 pub turns_on : (Step : Tree → Deed → Tree → Type 0) (Stands Stands_then : Tree → Type 0) (old new : List Waiting) (tree : Tree) (acted : Option Acted) → ((t : Tree) → Stands t → Stands_then t)

@@ -32,7 +32,7 @@ pub(crate) enum Stage {
 }
 
 impl LoneService {
-    ghost use Rattle.std.specs.Prelude.{◌≡◌, ◌≢◌, ◌≤◌, [], Option, IfNone, IfOk, OnOk, true, false};
+    ghost use Rattle.std.specs.Prelude.{◌≡◌, ◌≢◌, ◌≤◌, [], Option, IfNone, IfOk, IfSome, OnErr, OnOk, true, false};
     ghost use Rattle.bx_base.specs.Faults.{Rose};
     ghost use Rattle.bx_lone_service.specs.Stages.{IsHolding, IsReady, IsTurn, is_returning, is_up, latest_of, waits_of};
     ghost use Rattle.bx_model.specs.declared.tree.Tree.{Tree};
@@ -51,7 +51,7 @@ impl LoneService {
     }
 
     /// Where the node is back, tries to bring the disks to rest: then it goes on, unless one fails. Says at which point a call acted that was in
-    /// doubt, before anything is written home.
+    /// doubt, before anything is written home; then no disk failed, and none did for want of memory.
     fn recover<B: Rack>(&mut self, bench: &mut B) -> Result<Option<Point>, OutOfMemory>
         requires ready { IsReady self.old.stage (B.state bench.old).sizes }
         ensures ready { OnOk result (IsReady self.new.stage (B.state bench.new).sizes) }
@@ -65,6 +65,8 @@ impl LoneService {
         ensures back { is_returning self.old.stage ≡ false → OnOk result (is_returning self.new.stage ≡ false) }
         ensures returns { (tree : Tree) (doubt : Option Doubt) → B.tells bench.old → IsHolding self.old.stage (B.state bench.old) tree doubt → (Rose (B.faults bench.old) (B.faults bench.new) → ⊥)
             → IfOk result (λ found. IfNone found (is_returning self.new.stage ≡ false)) }
+        ensures found { IfOk result (λ found. IfSome found (λ point. B.faults bench.new ≡ B.faults bench.old)) }
+        ensures memory { OnErr result (B.faults bench.new ≡ B.faults bench.old) }
         ensures restarts { (tree : Tree) (doubt : Option Doubt) → B.tells bench.old → IsHolding self.old.stage (B.state bench.old) tree doubt
             → IfOk result (Restarts (IsHolding self.new.stage (B.state bench.new)) (waits_of self.new.stage) tree doubt) }
         ensures later { B.faults bench.old ≤ B.faults bench.new }

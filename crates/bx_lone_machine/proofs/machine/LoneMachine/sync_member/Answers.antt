@@ -1,4 +1,4 @@
-use Rattle.std.proofs.Common.{◌≡◌, Bool, true, false, Err, refl, sym, ap, subst}
+use Rattle.std.proofs.Common.{◌≡◌, Bool, true, false, Err, refl, sym, ◌∙◌, ap, subst}
 use Rattle.std.specs.Prelude.{◌&&◌}
 use Rattle.bx_global.specs.declared.state.GlobalState.{GlobalState}
 use Rattle.bx_lone_standing.specs.Standing.{NodeStands}
@@ -9,6 +9,7 @@ use Rattle.bx_model.specs.declared.tree.Tree.{Tree}
 use Rattle.bx_plain_store.specs.Out.{at, out_at}
 use Rattle.bx_lone_machine.specs.Machine.{store_keeps, store_made, store_reads, store_stands}
 use Rattle.bx_lone_machine.proofs.Leaving.{bench_kept}
+use Rattle.bx_lone_machine.proofs.Owing.{waits_busy}
 use Rattle.bx_lone_machine.proofs.machine.LoneMachine.sync_member.Goals as goal
 
 pub returns-in-Ok-clause-holds : goal.returns-in-Ok-clause-holds
@@ -54,3 +55,6 @@ returns-in-Ok-clause-serves g c = λ waits none_failed. (c.in-Ok.ensures.steps.s
 
 pub returns-in-Err-Disk-clause-serves : goal.returns-in-Err-Disk-clause-serves
 returns-in-Err-Disk-clause-serves g c = λ waits none_failed. absurd (none_failed (c.in-Err-Disk.ensures.cause (ap Err c.in-Err-Disk.field-0-is)))
+
+pub returns-in-Err-Disk-clause-failed : goal.returns-in-Err-Disk-clause-failed
+returns-in-Err-Disk-clause-failed g c = λ failed. waits_busy c.args.self.now (g.B.Rack.state c.args.bench.now).sizes c.args.member c.requires.ready (sym c.waiting.ensures ∙ c.if-not-waiting.false)

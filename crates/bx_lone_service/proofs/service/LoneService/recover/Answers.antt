@@ -1,4 +1,5 @@
-use Rattle.std.proofs.Common.{◌⊎◌, Err, None, ap, inl, inr}
+use Rattle.std.proofs.Common.{◌≡◌, ◌⊎◌, Err, None, ap, inl, inr}
+use Rattle.bx_lone_repair.proofs.Results.{on_err}
 use Rattle.bx_lone_service.proofs.Rounding.{finds, none_doubted, none_was}
 use Rattle.bx_lone_service.proofs.service.LoneService.recover.Goals as goal
 
@@ -36,3 +37,12 @@ returns-in-Err-Fault-clause-returns g c = λ tree doubt tells holding none_rose.
     by : {A B : Type 0} → A ⊎ B → (A → ⊥) → (B → ⊥) → ⊥
     by (inl a) not_a not_b = not_a a
     by (inr b) not_a not_b = not_b b
+
+pub returns-in-Ok-Found-clause-found : goal.returns-in-Ok-Found-clause-found
+returns-in-Ok-Found-clause-found g c = c.in-Ok-Found.ensures.no_fault.all
+
+pub returns-in-Err-OutOfMemory-clause-memory : goal.returns-in-Err-OutOfMemory-clause-memory
+returns-in-Err-OutOfMemory-clause-memory g c = (c.in-Err-OutOfMemory.ensures.memory (ap Err c.in-Err-OutOfMemory.field-0-is)).all
+
+pub returns-in_err-rejoin-in-Ok-Closed-clause-memory : goal.returns-in_err-rejoin-in-Ok-Closed-clause-memory
+returns-in_err-rejoin-in-Ok-Closed-clause-memory g c = on_err (g.B.Rack.faults c.recover.new.rack ≡ g.B.Rack.faults c.args.bench.now) c.from_residual.result c.in-Ok-Closed.ensures.no_fault.all

@@ -1,4 +1,7 @@
-use Rattle.std.proofs.Common.{sym, subst, ◌∙◌}
+use Rattle.std.proofs.Common.{◌≡◌, true, false, Option, Some, None, sym, subst, ◌∙◌}
+use Rattle.std.specs.Prelude.{IfSome, is_some}
+use Rattle.bx_base.specs.declared.names.Point.{Point}
+use Rattle.bx_lone_repair.proofs.Results.{on_err}
 use Rattle.bx_lone_service.specs.Stages.{IsHolding, IsLeftBy}
 use Rattle.bx_lone_service.specs.declared.returning.Left.{Left}
 use Rattle.bx_lone_service.proofs.Back.{again_back, none_then, rose_before}
@@ -30,3 +33,13 @@ pub returns-else-is_some-clause-returns : goal.returns-else-is_some-clause-retur
 returns-else-is_some-clause-returns g c = λ tree doubt tells holding none_rose.
     let left = subst (λ (l : Left). IsLeftBy l (g.B.Rack.state c.args.bench.now) tree doubt) (sym c.left_by-left.ensures) (down_left c.args.self.now.stage (g.B.Rack.state c.args.bench.now) tree doubt c.requires.down holding) in
     none_then c.in_ok-found.found _ (sym c.is_some.ensures ∙ c.if-is_some.false) (c.in_ok-found.ensures.returns tree doubt tells left none_rose)
+
+-- what was found has what holds of it
+of_some : (P : Type 0) (found : Option Point) → is_some found ≡ true → IfSome found (λ point. P) → P
+of_some P None some holds = absurd cc
+of_some P (Some point) some holds = holds
+
+pub returns-in_err-recover-clause-memory : goal.returns-in_err-recover-clause-memory
+returns-in_err-recover-clause-memory g c =
+    on_err (g.B.Rack.faults c.recover-then-is_some.new.bench ≡ g.B.Rack.faults c.args.bench.now) c.from_residual-in_err-recover.result
+    (c.in_err-recover.ensures.memory ∙ of_some _ c.in_ok-found.found (sym c.is_some.ensures ∙ c.if-is_some.true) c.in_ok-found.ensures.found)

@@ -1,8 +1,9 @@
-use Rattle.std.proofs.Common.{◌≡◌, Option, None, ap, inl, inr, refl, sym, ◌∙◌, subst}
+use Rattle.std.proofs.Common.{◌≡◌, ⊎_elim, Option, None, ap, inl, inr, refl, sym, ◌∙◌, subst}
 use Rattle.std.specs.Prelude.{map}
 use Rattle.bx_base.specs.declared.names.Point.{Point}
 use Rattle.bx_lone_machine.specs.Machine.{calls_of, record_of}
 use Rattle.bx_lone_machine.specs.Rounds.{IsOfRound}
+use Rattle.bx_lone_repair.proofs.Results.{on_err}
 use Rattle.bx_lone_service.specs.Calls.{taking_of}
 use Rattle.bx_lone_service.proofs.Rounding.{answers, goes_on}
 use Rattle.bx_lone_service.proofs.service.LoneServiceService.round.Goals as goal
@@ -43,3 +44,9 @@ pub returns-in-Up-clause-turns : goal.returns-in-Up-clause-turns
 returns-in-Up-clause-turns g c =
     let takes = rw c.in-Some.is at c.in_ok-acted.ensures.calls in
     rw c.in-Up.is (record { up = refl; calls = inr (taking_of takes.0, ap (map taking_of) takes.1); still = λ down. absurd cc })
+
+-- a tidy wants memory only where nothing is under way, and so no disk failed
+pub returns-in_err-tidy-clause-memory : goal.returns-in_err-tidy-clause-memory
+returns-in_err-tidy-clause-memory g c =
+    on_err (g.B.Rack.faults c.round.new.bench ≡ g.B.Rack.faults c.args.bench.now) c.from_residual-in_err-tidy.result
+    (⊎_elim (λ same. same) (λ busy. absurd (busy c.in_err-tidy.ensures.wants)) c.in_ok-acted.ensures.failed)

@@ -65,18 +65,18 @@ is_volume volume devices areas range = record { least_devices = range.least_devi
 -- ---- statuses
 
 -- one of these is one of more
+among_by : (s : ℕ) (rest more : List ℕ) (status : ℕ) (b : Bool) → (s == status) ≡ b → IsAmong more s → (IsAmong rest status → IsAmong more status)
+    → (b || list_any (λ t. t == status) rest) ≡ true → IsAmong more status
+among_by s rest more status true same here later any = subst (IsAmong more) (let e : s ≡ status = grind (arith, nat_tests, same) in e) here
+among_by s rest more status false other here later any = later any
+
 pub among_more : (some more : List ℕ) (status : ℕ) → list_all (λ s. list_any (λ t. t == s) more) some ≡ true → IsAmong some status → IsAmong more status
 among_more [] more status sub is = absurd cc
-among_more (s ∷ some) more status sub is = by (s == status) refl is
-  where
-    parts : (list_any (λ t. t == s) more ≡ true) × (list_all (λ s. list_any (λ t. t == s) more) some ≡ true)
-    parts = and_parts (list_any (λ t. t == s) more) (list_all (λ s. list_any (λ t. t == s) more) some) sub
+among_more (s ∷ some) more status sub is =
+    let parts = and_parts (list_any (λ t. t == s) more) (list_all (λ s. list_any (λ t. t == s) more) some) sub in
+    among_by s some more status (s == status) refl parts.0 (λ any. among_more some more status parts.1 any) is
 
-    by : (b : Bool) → (s == status) ≡ b → (b || list_any (λ t. t == status) some) ≡ true → IsAmong more status
-    by true same any = subst (IsAmong more) (let e : s ≡ status = grind (arith, nat_tests, same) in e) parts.0
-    by false other any = among_more some more status parts.1 any
-
-pub is_nine : (status : ℕ) → (status ≡ 9) ⊎ ((9 ≡ 2) × (status ≡ 9)) → status ≡ 9
+pub is_nine : (status : ℕ) → (status ≡ 9) ⊎ (◌≡◌ {A = ℕ} 9 2 × (status ≡ 9)) → status ≡ 9
 is_nine status (inl nine) = nine
 is_nine status (inr both) = both.1
 

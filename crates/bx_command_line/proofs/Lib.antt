@@ -1,2 +1,5 @@
-pub mod OneWord
+pub mod Decimals
+pub mod Lines
 pub mod Parses
+pub mod Plain
+pub mod WordLists

@@ -2,11 +2,12 @@
 
 ghost use Rattle.std.specs.Prelude.{◌≡◌, ◌↔◌, IfOk, IsTrue, [], ◌∷◌, map, string_bytes};
 ghost use Rattle.clap.specs.Words.{HasMatchesOf, app_of};
-ghost use Rattle.bx_command_line.specs.CommandLines.{AreWordsOf, grammar};
+ghost use Rattle.bx_command_line.specs.CommandLines.{AreWordsOf, format_app, grammar};
 
+use crate::numbers::format_line;
 use bx_base::OutOfMemory;
 use clap::error::ErrorKind;
-use clap::{ArgMatches, Command};
+use clap::{Arg, ArgMatches, Command};
 use std::alloc::{AllocError, Global};
 
 /// What a command line asks for.
@@ -14,10 +15,22 @@ use std::alloc::{AllocError, Global};
 pub enum CommandLine {
     /// `replay`: a schedule is read from the input, and its trace written to the output.
     Replay,
+    /// `format V D A`: the rack is made a new volume.
+    Format {
+        /// The volume's number.
+        volume: u64,
+        /// How many devices it has, 1 to 4.
+        devices: u32,
+        /// How many areas it has, 1 to 64.
+        areas: u16,
+    },
+    /// `check`: the rack is read, and the listing of its file tree written to the output.
+    Check,
 }
 
 impl CommandLine {
-    /// The command line that these words spell, which are those after the program's name; `None` where they spell none.
+    /// The command line that these words spell, which are those after the program's name; `None` where they spell none. Its numbers are in
+    /// their ranges.
     ///
     /// Fails for want of memory alone.
     pub fn read(alloc: Global, words: &[String]) -> Result<Option<CommandLine>, OutOfMemory>
@@ -44,16 +57,32 @@ fn command<'a>(alloc: Global) -> Result<Command<'a>, AllocError>
         .subcommand_required(true)
         .disable_help_flag(true)
         .disable_help_subcommand(true)
-        .subcommand(Command::new(alloc, "replay"))
+        .subcommand(Command::new(alloc, "replay"))?
+        .subcommand(format(alloc)?)?
+        .subcommand(Command::new(alloc, "check"))
 }
 
-// The command line of words that `clap` takes. It takes `replay --` too, which is no command line, so the words are compared besides.
+// The command `format`.
+fn format<'a>(alloc: Global) -> Result<Command<'a>, AllocError>
+    ensures { IfOk result (λ command. app_of command ≡ format_app) }
+{
+    Command::new(alloc, "format")
+        .arg(Arg::new(alloc, "V").required(true))?
+        .arg(Arg::new(alloc, "D").required(true))?
+        .arg(Arg::new(alloc, "A").required(true))
+}
+
+// The command line of words that `clap` takes. It takes `replay --` too, and any texts as numbers, so the words are read besides.
 fn line_of(matches: &ArgMatches<'_>, words: &[String]) -> Option<CommandLine>
     ensures { HasMatchesOf grammar (map string_bytes words.now) matches.now → AreWordsOf (map string_bytes words.now) result }
 {
     let name = matches.subcommand_name()?;
-    if name == "replay" && are_only(words, name) {
+    if name == "format" {
+        format_line(words)
+    } else if name == "replay" && are_only(words, name) {
         Some(CommandLine::Replay)
+    } else if name == "check" && are_only(words, name) {
+        Some(CommandLine::Check)
     } else {
         None
     }

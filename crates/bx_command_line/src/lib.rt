@@ -2,5 +2,6 @@
 #![tactic(auto)]
 
 mod command_line;
+mod numbers;
 
 pub use command_line::CommandLine;

@@ -29,7 +29,8 @@ pub fn path_of(alloc: Global, folder: &str, disk: u32) -> Result<String, AllocEr
 }
 
 /// The disks of the folder, up to the first that is missing. A file that can be read and not be written is a disk whose writes fail, and
-/// one that can't be opened a disk all of whose calls fail.
+/// one that can't be opened a disk all of whose calls fail. Where not even the size of a file can be asked for, as in a folder that may not be
+/// searched, its disk is the last.
 pub fn find<R: Files>(alloc: Global, files: &R, folder: &str) -> Result<Found<R::File>, OutOfMemory>
 where
     R::File: FileExt,
@@ -44,7 +45,11 @@ where
             break;
         };
         disks.push(found)?;
-        sizes.push(size_of(files, path.as_str()))?;
+        let size = size_of(files, path.as_str());
+        sizes.push(size.unwrap_or(ALL))?;
+        if size.is_none() {
+            break;
+        }
     }
     Ok(Found { disks, sizes })
 }
@@ -73,10 +78,8 @@ fn open_file<R: Files>(files: &R, path: &str) -> io::Result<R::File> {
     }
 }
 
-/// How many whole sectors a file has.
-fn size_of<R: Files>(files: &R, path: &str) -> u64 {
-    match fs::metadata(files, path) {
-        Ok(metadata) => metadata.len() / SECTOR,
-        Err(_) => ALL,
-    }
+/// How many whole sectors a file has, where that can be asked for.
+fn size_of<R: Files>(files: &R, path: &str) -> Option<u64> {
+    let metadata = fs::metadata(files, path).ok()?;
+    Some(metadata.len() / SECTOR)
 }

@@ -86,3 +86,19 @@ fn a_disk_that_cannot_be_opened_fails(rt: HostRuntime) -> Result<(), Fail> {
     rt.remove_dir_all(rt.alloc(), name.as_str())?;
     Ok(())
 }
+
+#[test]
+fn a_file_in_the_place_of_the_folder_is_a_disk_that_fails(rt: HostRuntime) -> Result<(), Fail> {
+    let name = folder_name(&rt, "file")?;
+    fs::write(&rt, name.as_str(), &[1; 700][..])?;
+    let mut rack = FolderRack::open(rt.alloc(), &rt, name.as_str())?;
+    assert_eq!(rt;
+        rack.disks(),
+        1,
+        "of no disk can be said that it is missing"
+    );
+    assert!(rt; !has(&mut rack, 0, 0, 1));
+    assert_eq!(rt; rack.shape(&[1]), Err(RackError::Fault));
+    fs::remove_file(&rt, name.as_str())?;
+    Ok(())
+}

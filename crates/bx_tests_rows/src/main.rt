@@ -6,12 +6,14 @@
 //! - `row NAME`, its name;
 //! - `word TEXT` for each word of the command line;
 //! - `reads`, `writes`, `tells`, `calls` with numbers: which reads of the input fail, which writes of the output and of the errors, and
-//!   which calls of the disks, each counted from 1. Without such a line none fails;
+//!   which calls of the bench, each counted from 1. Without such a line none fails;
+//! - `rack` and what is done to the rack, which has no disks at first, before the command runs (`racks.rt`);
 //! - `< TEXT` for each line of the input, and `<. TEXT` for one without its line feed;
 //! - `= STATUS`, the exit status that the command answers;
 //! - `> TEXT` for each line of the output, and then `! TEXT` for each line of the errors.
 #![tactic(auto)]
 
+mod racks;
 mod row;
 mod running;
 mod shorthand;

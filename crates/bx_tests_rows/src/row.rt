@@ -16,14 +16,16 @@ pub(crate) struct Row {
     pub writes: Vec<u64>,
     /// Which writes of the errors fail.
     pub tells: Vec<u64>,
-    /// Which calls of the disks fail.
+    /// Which calls of the bench fail.
     pub calls: Vec<u64>,
+    /// What is done to the rack before the command runs, and when it stops.
+    pub rack: Vec<String>,
 }
 
 impl Row {
-    /// The row of these lines.
-    pub(crate) fn read(alloc: Global, lines: &str) -> Result<Row, Error> {
-        let mut row = Row {
+    /// A row that gives nothing.
+    pub(crate) fn new(alloc: Global) -> Row {
+        Row {
             name: String::new(alloc),
             words: Vec::new(alloc),
             input: Vec::new(alloc),
@@ -31,7 +33,13 @@ impl Row {
             writes: Vec::new(alloc),
             tells: Vec::new(alloc),
             calls: Vec::new(alloc),
-        };
+            rack: Vec::new(alloc),
+        }
+    }
+
+    /// The row of these lines.
+    pub(crate) fn read(alloc: Global, lines: &str) -> Result<Row, Error> {
+        let mut row = Row::new(alloc);
         for line in lines.split('\n') {
             row.take(alloc, line)?;
         }
@@ -46,6 +54,7 @@ impl Row {
         match mark {
             "row" => Ok(self.name.push_str(text)?),
             "word" => Ok(self.words.push(String::from_str(alloc, text)?)?),
+            "rack" => Ok(self.rack.push(String::from_str(alloc, text)?)?),
             "<" => Ok(put_line(&mut self.input, text)?),
             "<." => Ok(self.input.extend_from_slice(text.as_bytes())?),
             "reads" => put_numbers(&mut self.reads, text),

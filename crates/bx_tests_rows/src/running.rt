@@ -1,8 +1,10 @@
 //! What the command answers to a row.
 
+use crate::racks::prepared;
 use crate::row::Row;
 use anyhow::{Error, anyhow};
 use bx_base::OutOfMemory;
+use bx_disk::Rack;
 use bx_memory_rack::MemRack;
 use bx_outside::{MemSink, MemSource};
 use bx_top::boxwood;
@@ -11,7 +13,8 @@ use std::alloc::{AllocError, Global};
 /// The status, and the lines of the output and of the errors, as a row spells them, with a line feed at the end.
 pub(crate) fn answer(alloc: Global, row: &Row) -> Result<String, Error> {
     let mut bytes = Vec::new(alloc);
-    if put_answer(alloc, row, &mut bytes).is_err() {
+    let mut rack = prepared(alloc, row)?;
+    if put_answer(alloc, row, &mut rack, &mut bytes).is_err() {
         return Err(anyhow!("out of memory"));
     }
     match String::from_utf8(bytes) {
@@ -21,10 +24,15 @@ pub(crate) fn answer(alloc: Global, row: &Row) -> Result<String, Error> {
 }
 
 /// Runs the command, and spells what it answers.
-fn put_answer(alloc: Global, row: &Row, text: &mut Vec<u8>) -> Result<(), OutOfMemory> {
+fn put_answer<R: Rack>(
+    alloc: Global,
+    row: &Row,
+    rack: &mut R,
+    text: &mut Vec<u8>,
+) -> Result<(), OutOfMemory> {
     let mut out = MemSink::new(alloc, row.writes.as_slice())?;
     let mut err = MemSink::new(alloc, row.tells.as_slice())?;
-    let status = run(alloc, row, &mut out, &mut err)?;
+    let status = run(alloc, row, &mut out, &mut err, rack)?;
     text.push(b'0' + status % 10)?;
     text.push(b'\n')?;
     put_lines(text, b"> ", out.bytes())?;
@@ -33,7 +41,13 @@ fn put_answer(alloc: Global, row: &Row, text: &mut Vec<u8>) -> Result<(), OutOfM
 }
 
 /// Runs the command over disks in memory.
-fn run(alloc: Global, row: &Row, out: &mut MemSink, err: &mut MemSink) -> Result<u8, OutOfMemory> {
+pub(crate) fn run<R: Rack>(
+    alloc: Global,
+    row: &Row,
+    out: &mut MemSink,
+    err: &mut MemSink,
+    rack: &mut R,
+) -> Result<u8, OutOfMemory> {
     let mut input = MemSource::new(alloc, row.input.as_slice(), row.reads.as_slice())?;
     let mut bench = MemRack::new(alloc, &[], row.calls.as_slice())?;
     Ok(boxwood(
@@ -43,6 +57,7 @@ fn run(alloc: Global, row: &Row, out: &mut MemSink, err: &mut MemSink) -> Result
         out,
         err,
         &mut bench,
+        rack,
     ))
 }
 

@@ -1,5 +1,5 @@
 use Rattle.std.specs.Prelude.{string_bytes}
-use Rattle.bx_command_line.proofs.OneWord.{is_one_word}
+use Rattle.bx_command_line.proofs.WordLists.{is_one_word}
 use Rattle.bx_command_line.proofs.command_line.are_only.Goals as goal
 
 pub returns-in-len1 : goal.returns-in-len1

@@ -1,0 +1,4 @@
+pub mod Placing
+pub mod Ticks
+pub mod Steps
+pub mod Sending

@@ -1,0 +1,5 @@
+pub mod Clerks
+pub mod Asked
+pub mod Asking
+pub mod Taken
+pub mod Making

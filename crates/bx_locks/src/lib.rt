@@ -1,0 +1,8 @@
+//! The lock service with all its machines: two lock servers, and a clerk for each node.
+#![tactic(auto)]
+
+mod calls;
+mod events;
+mod locks;
+
+pub use locks::Locks;

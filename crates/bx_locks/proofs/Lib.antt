@@ -3,3 +3,6 @@ pub mod Asked
 pub mod Asking
 pub mod Taken
 pub mod Making
+pub mod Results
+pub mod Called
+pub mod Taking

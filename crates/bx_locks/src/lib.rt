@@ -4,5 +4,6 @@
 mod calls;
 mod events;
 mod locks;
+mod owners;
 
 pub use locks::Locks;

@@ -118,7 +118,7 @@ put_in_order drawn least (account ∷ rest) new are low owns = elim (ordered acc
   | equal at ↦ let e : (account.session == new.session) ≡ true = (⊎_elim (λ is. is.0) (λ other. absurd (other.1 at)) (eqb_tells account.session new.session)) in
       rw e (low, owns, from_less drawn (account.session + 1) (new.session + 1) rest (omega (arith, at)) are.2)
   | above over ↦ let e = not_equal account.session new.session (λ is. omega (arith, is, over)) in let l = so_less new.session account.session over in
-      rw (e, l) (low, owns, omega (arith, over), are.1, are.2)
+      rw (e, l) (low, owns, (omega (arith, over), are.1, are.2))
   | below under ↦ let e = not_equal account.session new.session (λ is. omega (arith, is, under)) in let l = not_less new.session account.session (omega (arith, under)) in
       rw (e, l) (are.0, are.1, put_in_order drawn (account.session + 1) rest new are.2 (omega (arith, under)) owns)
 ]
@@ -154,11 +154,8 @@ row_found drawn account b row owns is = (owns.each b row is).session_is
 
 pub row_is : (drawn : ℕ → ℕ) (least : ℕ) (accounts : List Account) (s b : ℕ) → AreAccounts drawn least accounts → row_of (rows_at accounts b) s ≡ row_for accounts s b
 row_is drawn least [] s b are = refl
-row_is drawn least (account ∷ rest) s b are = by_row (row_in account.rows b) refl
+row_is drawn least (account ∷ rest) s b are = by_row (row_is drawn (account.session + 1) rest s b are.2) (row_in account.rows b) refl
   where
-    later : row_of (rows_at rest b) s ≡ row_for rest s b
-    later = row_is drawn (account.session + 1) rest s b are.2
-
     here : (o : Option Row) → row_in account.rows b ≡ o → account.session ≡ s → row_for (account ∷ rest) s b ≡ o
     here o is same = ap (λ (x : Option Account). row_within x b) (at_front account rest s same) ∙ is
 
@@ -171,13 +168,13 @@ row_is drawn least (account ∷ rest) s b are = by_row (row_in account.rows b) r
       ap (λ (x : Option Account). row_within x b) (none_before drawn (account.session + 1) rest s are.2 (omega (arith, less))),
     )
 
-    by_row : (o : Option Row) → row_in account.rows b ≡ o → row_of (rows_at (account ∷ rest) b) s ≡ row_for (account ∷ rest) s b
-    by_row None is = rw is (later ∙ elim (ordered account.session s) [
+    by_row : row_of (rows_at rest b) s ≡ row_for rest s b → (o : Option Row) → row_in account.rows b ≡ o → row_of (rows_at (account ∷ rest) b) s ≡ row_for (account ∷ rest) s b
+    by_row later None is = rw is (later ∙ elim (ordered account.session s) [
       | below before ↦ sym (over before)
       | equal at ↦ ap (λ (x : Option Account). row_within x b) (none_before drawn (account.session + 1) rest s are.2 (omega (arith, at))) ∙ sym (here None is at)
       | above behind_it ↦ let u = under behind_it in u.1 ∙ sym u.0
     ])
-    by_row (Some row) is = rw is (
+    by_row later (Some row) is = rw is (
         let own : row.session ≡ account.session = row_found drawn account b row are.1 is in
         elim (ordered account.session s) [
           | below before ↦ let e = not_equal row.session s (λ same. omega (arith, own, before, same)) in rw e (later ∙ sym (over before))

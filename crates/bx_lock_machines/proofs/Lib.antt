@@ -1,2 +1,12 @@
 pub mod Accounts
 pub mod Blocks
+pub mod Clerks
+pub mod Floors
+pub mod Functions
+pub mod Granting
+pub mod Learning
+pub mod Releasing
+pub mod Renewing
+pub mod Taking
+pub mod Verdicts
+pub mod Wanting

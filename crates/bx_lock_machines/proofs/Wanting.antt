@@ -15,8 +15,8 @@ use Rattle.bx_locking.proofs.Clerks.{wanted, wants_block}
 use Rattle.bx_clerk.specs.Clerks.{Clerking}
 use Rattle.bx_clerk.specs.Requests.{request_in, with_request, without_request}
 use Rattle.bx_clerk.specs.declared.requests.Asking.{Asking}
-use Rattle.bx_lock_machines.specs.Machines.{AreUnique, FitsClerk, request_from}
-use Rattle.bx_lock_machines.proofs.Blocks.{gone_elsewhere, gone_here, gone_unique, put_elsewhere, put_here, put_unique}
+use Rattle.bx_clerk.proofs.Lookups.{out_beside, out_here, put_beside, put_here}
+use Rattle.bx_lock_machines.specs.Machines.{FitsClerk, request_from}
 use Rattle.bx_lock_machines.proofs.Clerks.{Changes, KeepsSides, changed_fits, keeps_sides}
 use Rattle.bx_lock_machines.proofs.Functions.{one_at, one_not, one_of, one_spot, spot_puts, unheld}
 
@@ -55,10 +55,9 @@ wants_on chain holding floor said side term knew boot had promised n c s block m
       (spot_puts s block None holding);
   clerk = changed_fits chain knew boot side (side_asking side c s block mode) had promised n s block (Some (wanted (want_now c s block mode))) c (asking_now block mode c) own (record {
     session = refl;
-    unique = put_unique c.requests block (new_asking c mode) fits.unique;
     requests = spot_puts s block (Some (wanted (want_now c s block mode))) side.requests;
     at = ap request_from (put_here c.requests block (new_asking c mode));
-    others = λ b differ. put_elsewhere c.requests block b (new_asking c mode) differ;
+    others = λ b differ. put_beside c.requests block b (new_asking c mode) differ;
     drawn = let e = one_at s (c.drawn + 1) side.drawn in omega (arith, e);
     given = fits.given s own;
     lease = refl;
@@ -150,10 +149,9 @@ pub gone_fits : (chain : Chain) (side more : Side) (knew boot : ℕ) (had : ℕ 
 gone_fits chain side more knew boot had promised n c new s block fits own puts requests session lease knows counts drawn given given_fits =
     changed_fits chain knew boot side more had promised n s block None c new own (record {
       session = session;
-      unique = subst AreUnique (sym requests) (gone_unique c.requests block fits.unique);
       requests = puts;
       at = ap request_from there;
-      others = λ b differ. ap (λ (x : List (ℕ × Asking)). request_in x b) requests ∙ gone_elsewhere c.requests block b differ;
+      others = λ b differ. ap (λ (x : List (ℕ × Asking)). request_in x b) requests ∙ out_beside c.requests block b differ;
       drawn = omega (arith, drawn, counts);
       given = given;
       lease = lease;
@@ -164,7 +162,7 @@ gone_fits chain side more knew boot had promised n c new s block fits own puts r
     }) fits
   where
     there : request_in new.requests block ≡ None
-    there = ap (λ (x : List (ℕ × Asking)). request_in x block) requests ∙ gone_here c.requests block fits.unique
+    there = ap (λ (x : List (ℕ × Asking)). request_in x block) requests ∙ out_here c.requests block
 
     none_some : (r : Asking) → None ≡ Some r → ⊥
     none_some r wrong = cc

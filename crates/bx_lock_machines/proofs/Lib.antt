@@ -1,9 +1,12 @@
 pub mod Accounts
 pub mod Blocks
+pub mod Chains
 pub mod Clerks
 pub mod Floors
 pub mod Functions
 pub mod Granting
+pub mod Growth
+pub mod Knowing
 pub mod Learning
 pub mod Releasing
 pub mod Renewing

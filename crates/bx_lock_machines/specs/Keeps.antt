@@ -42,7 +42,7 @@ pub record AreHad (chain : Chain) (knew boots : Actor → ℕ) (side : Side) (ha
 -- Of each node and boot at most one session of this life lives, rows have numbers that were given out in order, who lives has an end in the
 -- term, and numbers have 64 bits.
 pub record AreStates (chain : Chain) (ends : ℕ → ℕ) : Type 0 where
-  pub rising : AreRising chain.first.sessions chain.first.next_session
+  pub rising : (p : GlobalState) → IsPlace chain p → AreRising p.sessions p.next_session
   pub single : (p : GlobalState) → IsPlace chain p → AreSingle chain.found p
   pub ends_most : (p : GlobalState) (s : ℕ) → IsPlace chain p → LivesIn p s → ends s ≤ p.term_end
   pub index_fits : Fits (last chain).index

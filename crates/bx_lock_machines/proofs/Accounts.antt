@@ -1,9 +1,11 @@
 -- What a lock server's accounts say, once one is put, or those of some sessions go.
 use Rattle.std.proofs.Common.{◌≡◌, ◌≢◌, inl, inr, ⊎_elim, ◌⊎◌, ℕ, ◌+◌, ◌<◌, ◌≤◌, Bool, true, false, List, [], ◌∷◌, filter, Option, Some, None, refl, sym, ◌∙◌, ap, subst, arith}
 use Rattle.std.specs.Prelude.{find, filter_map, ltb, nat_eq, ◌==◌, if◌then◌else◌}
+use Rattle.std.specs.List.{AllByRecursion}
 use Rattle.std.proofs.lemmas.Bool.Decides.{eqb_tells, leb_tells, nat_tests}
 use Rattle.indexmap.specs.IndexMap.{insert_entry}
 use Rattle.bx_global.specs.declared.state.GlobalState.{GlobalState}
+use Rattle.bx_global.proofs.Kept.{all_is}
 use Rattle.bx_locking.specs.Tables.{Rises}
 use Rattle.bx_lock_tables.specs.Accounts.{account_for, account_in, end_in, end_of, expires_in, fresh, has_row, is_marked, listed, marked, noting, or_fresh, row_for, row_in, row_within, rows_at, with_account, with_row}
 use Rattle.bx_lock_tables.specs.Rows.{row_of}
@@ -147,6 +149,14 @@ account_is drawn least (one ∷ rest) s account are is = elim (ordered s one.ses
   | above later ↦ account_is drawn (one.session + 1) rest s account are.2 (sym (after one rest s later) ∙ is)
 ]
 
+-- a row that is found is of its session
+pub row_owned : (drawn : ℕ → ℕ) (least : ℕ) (accounts : List Account) (s b : ℕ) (row : Row) → AreAccounts drawn least accounts → row_for accounts s b ≡ Some row → IsOwnRow drawn s row
+row_owned drawn least accounts s b row are is = by_account (account_in accounts s) refl is
+  where
+    by_account : (o : Option Account) → account_in accounts s ≡ o → row_within o b ≡ Some row → IsOwnRow drawn s row
+    by_account None none has = absurd cc
+    by_account (Some account) found has = let k = account_is drawn least accounts s account are found in subst (λ (n : ℕ). IsOwnRow drawn n row) k.session (k.owns.each b row has)
+
 -- ---- the rows of a block are those of the accounts
 
 row_found : (drawn : ℕ → ℕ) (account : Account) (b : ℕ) (row : Row) → OwnsRows drawn account → row_in account.rows b ≡ Some row → row.session ≡ account.session
@@ -181,6 +191,29 @@ row_is drawn least (account ∷ rest) s b are = by_row (row_is drawn (account.se
           | equal at ↦ let e : (row.session == s) ≡ true = (⊎_elim (λ t. t.0) (λ other. absurd (other.1 (own ∙ at))) (eqb_tells row.session s)) in rw e (sym (here (Some row) is at))
           | above behind_it ↦ let u = under behind_it in let e = not_equal row.session s (λ same. omega (arith, own, behind_it, same)) in rw e (later ∙ u.1 ∙ sym u.0)
         ])
+
+-- each row of a block is that of its session
+pub rows_found : (drawn : ℕ → ℕ) (least : ℕ) (accounts : List Account) (b : ℕ) → AreAccounts drawn least accounts → AllByRecursion (λ (row : Row). row_for accounts row.session b ≡ Some row) (rows_at accounts b)
+rows_found drawn least [] b are = tt
+rows_found drawn least (account ∷ rest) b are = by_row (all_is (λ (row : Row). row_for rest row.session b ≡ Some row) (λ (row : Row). row_for (account ∷ rest) row.session b ≡ Some row) later (rows_at rest b) (rows_found drawn (account.session + 1) rest b are.2)) (row_in account.rows b) refl
+  where
+    none_some : (row : Row) → None ≡ Some row → ⊥
+    none_some row wrong = cc
+
+    later : (row : Row) → row_for rest row.session b ≡ Some row → row_for (account ∷ rest) row.session b ≡ Some row
+    later row is = elim (ordered account.session row.session) [
+      | below less ↦ ap (λ (x : Option Account). row_within x b) (after account rest row.session less) ∙ is
+      | equal same ↦ absurd (none_some row (sym (ap (λ (x : Option Account). row_within x b) (none_before drawn (account.session + 1) rest row.session are.2 (omega (arith, same)))) ∙ is))
+      | above more ↦ absurd (none_some row (sym (ap (λ (x : Option Account). row_within x b) (none_before drawn (account.session + 1) rest row.session are.2 (omega (arith, more)))) ∙ is))
+    ]
+
+    by_row : AllByRecursion (λ (row : Row). row_for (account ∷ rest) row.session b ≡ Some row) (rows_at rest b) → (o : Option Row) → row_in account.rows b ≡ o
+        → AllByRecursion (λ (row : Row). row_for (account ∷ rest) row.session b ≡ Some row) (rows_at (account ∷ rest) b)
+    by_row all None none = rw none all
+    by_row all (Some row) found =
+        let own = (are.1.each b row found).session_is in
+        let here : row_for (account ∷ rest) row.session b ≡ Some row = ap (λ (x : Option Account). row_within x b) (at_front account rest row.session (sym own)) ∙ found in
+        rw found (here, all)
 
 -- ---- the accounts of some sessions go
 

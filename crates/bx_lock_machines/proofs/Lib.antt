@@ -10,6 +10,7 @@ pub mod Knowing
 pub mod Learning
 pub mod Releasing
 pub mod Renewing
+pub mod Serving
 pub mod Taking
 pub mod Verdicts
 pub mod Wanting

@@ -88,9 +88,31 @@ listed_less (Some row) w is = by_test (ltb row.number w.number) refl is
     by_test true so no_more = grind (arith, nat_tests, so)
     by_test false not_so no_more = absurd cc
 
-listed_new : (o : Option Row) (index : ℕ) (w : Want) → is_again o w ≡ false → granted_row o index w ≡ listed_for o index w
+pub listed_new : (o : Option Row) (index : ℕ) (w : Want) → is_again o w ≡ false → granted_row o index w ≡ listed_for o index w
 listed_new None index w no_again = refl
 listed_new (Some row) index w no_again = ap (λ (b : Bool). if b then row else listed_for (Some row) index w) no_again
+
+-- the number of what stands is granted again as it stands
+pub record IsAgain (o : Option Row) (w : Want) (row : Row) : Type 0 where
+  pub is : o ≡ Some row
+  pub stands : row.stands ≡ true
+  pub number : row.number ≡ w.number
+
+pub again_row : (o : Option Row) (index : ℕ) (w : Want) (row : Row) → is_again o w ≡ true → granted_row o index w ≡ row → IsAgain o w row
+again_row None index w row again is = absurd cc
+again_row (Some old) index w row again is = by_both old.stands (old.number == w.number) refl refl again
+  where
+    same : old ≡ row
+    same = sym (ap (λ (b : Bool). if b then old else listed_for (Some old) index w) again) ∙ is
+
+    by_both : (a b : Bool) → old.stands ≡ a → (old.number == w.number) ≡ b → (a && b) ≡ true → IsAgain (Some old) w row
+    by_both true true one two both = record {
+      is = ap (λ (x : Row). Some x) same;
+      stands = sym (ap (λ (x : Row). x.stands) same) ∙ one;
+      number = sym (ap (λ (x : Row). x.number) same) ∙ (let e : old.number ≡ w.number = grind (arith, nat_tests, two) in e);
+    }
+    by_both true false one two both = absurd cc
+    by_both false b one two both = absurd cc
 
 shared_both : (mode other : Mode) → clashing mode other ≡ false → (mode ≡ Shared) × (other ≡ Shared)
 shared_both Exclusive other is = absurd cc

@@ -6,6 +6,7 @@ pub mod Floors
 pub mod Functions
 pub mod Granting
 pub mod Growth
+pub mod Hearing
 pub mod Knowing
 pub mod Learning
 pub mod Releasing

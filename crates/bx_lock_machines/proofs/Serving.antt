@@ -184,7 +184,7 @@ tied_again chain term noted drawn m known w row is are there not_later = record 
 
 module _ (x : Scene) (good : IsScene x) (first : Spoken) where
   -- one word more is said
-  says : (m new : Mastering) (words : List Word) (word : Word) (a : After x first m words) (term : Term) (promised : List (ℕ × ℕ)) (noted : ℕ → ℕ) → AreLocks x.chain x.holding x.floor (word ∷ a.now.said) x.side term
+  pub says : (m new : Mastering) (words : List Word) (word : Word) (a : After x first m words) (term : Term) (promised : List (ℕ × ℕ)) (noted : ℕ → ℕ) → AreLocks x.chain x.holding x.floor (word ∷ a.now.said) x.side term
       → AreLeases x.chain x.greatest x.handed promised noted x.ends term.expiring → Stands x first (record { said = word ∷ a.now.said; term = term; promised = promised; noted = noted }) new → Server x a.now.said new
       → ((s e : ℕ) → Leases s e ≡ word → IsPromised promised s e) → ((s e : ℕ) → IsPromised a.now.promised s e → IsPromised promised s e) → IsWord word → After x first new (words ++ word ∷ [])
   says m new words word a term promised noted locks leases stands server promises more fit = record {
@@ -202,7 +202,7 @@ module _ (x : Scene) (good : IsScene x) (first : Spoken) where
   }
 
   -- only the server is changed
-  moves : (m new : Mastering) (words : List Word) (a : After x first m words) → Stands x first a.now new → Server x a.now.said new → After x first new words
+  pub moves : (m new : Mastering) (words : List Word) (a : After x first m words) → Stands x first a.now new → Server x a.now.said new → After x first new words
   moves m new words a stands server = record {
     now = a.now;
     locks = a.locks;
@@ -217,12 +217,12 @@ module _ (x : Scene) (good : IsScene x) (first : Spoken) where
   }
 
   -- a session that lives in what an earlier term's master knows is of an earlier term
-  before_now : (term : Term) (said : List Word) (s : ℕ) → AreLocks x.chain x.holding x.floor said x.side term → x.known.term < (last x.chain).term → HasRow x.known s → s < oldest x.chain
+  pub before_now : (term : Term) (said : List Word) (s : ℕ) → AreLocks x.chain x.holding x.floor said x.side term → x.known.term < (last x.chain).term → HasRow x.known s → s < oldest x.chain
   before_now term said s locks before has =
       let k = number_given x.chain locks.chained x.known good.place s has in
       let b = before_begins x.chain.found x.chain.first x.chain.changes x.known good.place before in omega (arith, k, b)
 
-  session_fits : (term : Term) (said : List Word) (s : ℕ) → AreLocks x.chain x.holding x.floor said x.side term → HasRow x.known s → Fits x.known.next_session → Fits s
+  pub session_fits : (term : Term) (said : List Word) (s : ℕ) → AreLocks x.chain x.holding x.floor said x.side term → HasRow x.known s → Fits x.known.next_session → Fits s
   session_fits term said s locks has next = let k = number_given x.chain locks.chained x.known good.place s has in omega (arith, k, next)
 
   -- ---- a want is granted

@@ -181,7 +181,7 @@ own_given p n b s rising own = let i = session_row p n b s own in let l = row_ne
 
 -- ---- a boot of this life
 
-row_found : (rows : List SessionRow) (row : SessionRow) (next : ℕ) → AreRising rows next → IsRowIn rows row → row_in rows row.number ≡ Some row
+pub row_found : (rows : List SessionRow) (row : SessionRow) (next : ℕ) → AreRising rows next → IsRowIn rows row → row_in rows row.number ≡ Some row
 row_found [] row next rising has = absurd has
 row_found (one ∷ rest) row next rising (inl is) =
     let e : (one.number == row.number) ≡ true = (let f = ap (λ (x : SessionRow). x.number) is in grind (arith, nat_tests, f)) in rw e (ap (λ (x : SessionRow). Some x) (sym is))

@@ -9,6 +9,7 @@ pub mod Growth
 pub mod Hearing
 pub mod Knowing
 pub mod Learning
+pub mod Proposing
 pub mod Releasing
 pub mod Renewing
 pub mod Serving

@@ -49,11 +49,11 @@ use Rattle.bx_lock_machines.proofs.Serving.{After, IsScene, Scene, Server, Spoke
 
 -- ---- nothing is said
 
-no_more : (x : Scene) (first : Spoken) (m : Mastering) (words : List Word) → After x first m words → After x first m (words ++ [])
+pub no_more : (x : Scene) (first : Spoken) (m : Mastering) (words : List Word) → After x first m words → After x first m (words ++ [])
 no_more x first m words a = subst (λ (ws : List Word). After x first m ws) (sym (append-nil words)) a
 
 -- what is done and said, by an equation
-as_served : (x : Scene) (first : Spoken) (words : List Word) (s t : Served) → s ≡ t → After x first t.0 (words ++ t.1) → After x first s.0 (words ++ s.1)
+pub as_served : (x : Scene) (first : Spoken) (words : List Word) (s t : Served) → s ≡ t → After x first t.0 (words ++ t.1) → After x first s.0 (words ++ s.1)
 as_served x first words s t is a = subst (λ (r : Served). After x first r.0 (words ++ r.1)) (sym is) a
 
 -- ---- the wants that wait
@@ -103,7 +103,7 @@ rebased x first m words a = record {
   put_out = tt;
 }
 
-all_append : {A : Type 0} (P : A → Type 0) (xs ys : List A) → AllByRecursion P xs → AllByRecursion P ys → AllByRecursion P (xs ++ ys)
+pub all_append : {A : Type 0} (P : A → Type 0) (xs ys : List A) → AllByRecursion P xs → AllByRecursion P ys → AllByRecursion P (xs ++ ys)
 all_append {A} P [] ys all more = more
 all_append {A} P (one ∷ xs) ys all more = (all.0, all_append P xs ys all.1 more)
 

@@ -9,9 +9,12 @@ pub mod Growth
 pub mod Hearing
 pub mod Knowing
 pub mod Learning
+pub mod Letters
+pub mod Others
 pub mod Proposing
 pub mod Releasing
 pub mod Renewing
+pub mod ServerEvents
 pub mod Serving
 pub mod Taking
 pub mod Verdicts

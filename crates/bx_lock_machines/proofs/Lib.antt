@@ -15,6 +15,7 @@ pub mod Proposing
 pub mod Releasing
 pub mod Renewing
 pub mod ServerEvents
+pub mod ServerTakes
 pub mod Serving
 pub mod Taking
 pub mod Verdicts

@@ -62,3 +62,21 @@ clerk_promised chain knew boot side had promised more n c on is = record {
 
 pub same_drawn : (drawn : ℕ → ℕ) → Rises drawn drawn
 same_drawn drawn = record { each = λ n. omega arith }
+
+-- a server that was handed a later state, and learned nothing
+pub master_waits : (chain : Chain) (knew more boot : ℕ) (said : List Word) (drawn : ℕ → ℕ) (term : Term) (noted : ℕ → ℕ) (id : ℕ) (m : Mastering) → knew ≤ more
+    → FitsMaster chain knew boot said drawn term noted id m → FitsMaster chain more boot said drawn term noted id m
+master_waits chain knew more boot said drawn term noted id m rises is = record {
+  server = is.server;
+  boot_is = is.boot_is;
+  nothing = is.nothing;
+  index_fits = is.index_fits;
+  accounts = is.accounts;
+  waits = is.waits;
+  knows = λ t has. let k = is.knows t has in record {
+    state = k.state;
+    seen = record { place = k.seen.place; index = (let i = k.seen.index in omega (arith, i, rises)); term = k.seen.term; seen = k.seen.seen; noted = k.seen.noted };
+    tied = k.tied;
+  };
+  untied = is.untied;
+}

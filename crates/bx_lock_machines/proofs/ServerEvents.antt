@@ -63,7 +63,7 @@ pub record Outcome (p : OwnersPast) (g : Ghosts) (id : ℕ) (known : GlobalState
 module _ (nodes : ℕ) (masters others : ℕ → Mastering) (clerks same_clerks : ℕ → Clerking) (past : OwnersPast) (before after : List Letter) (id : ℕ) (known : GlobalState) (keeps : Keeps nodes masters clerks (owners_with past before))
     (clerks_same : AreSame clerks same_clerks) where
   -- all fits with it
-  outcome_keeps : (input : Input) (change : Option Change) (new : Mastering) (words : List Word) → Outcome (owners_with past before) keeps.ghosts id known (greatest_with past.told.greatest input) (with_change change past.told.handed) new words
+  pub outcome_keeps : (input : Input) (change : Option Change) (new : Mastering) (words : List Word) → Outcome (owners_with past before) keeps.ghosts id known (greatest_with past.told.greatest input) (with_change change past.told.handed) new words
       → IsPlace past.told.chain known → PutsOne id new masters others → after ≡ before ++ letters_of id known words → Keeps nodes others same_clerks (owners_with (owners_heard past (ServerOf id) known.index input change) after)
   outcome_keeps input change new words o place puts sends = record {
     ghosts = record {

@@ -8,7 +8,7 @@ use Rattle.bx_locking.specs.Tables.{Puts, Request, Side}
 use Rattle.bx_clerk.specs.Clerks.{Clerking}
 use Rattle.bx_clerk.specs.Requests.{request_in}
 use Rattle.bx_clerk.specs.declared.requests.Asking.{Asking}
-use Rattle.bx_lock_machines.specs.Machines.{FitsClerk, request_from}
+use Rattle.bx_lock_machines.specs.Machines.{AreUnique, FitsClerk, request_from}
 
 -- what is known of each other session stays
 pub record KeepsSides (s : ℕ) (old new : Side) : Type 0 where
@@ -20,6 +20,7 @@ pub record KeepsSides (s : ℕ) (old new : Side) : Type 0 where
 pub others_fit : (chain : Chain) (knew boot : ℕ) (side more : Side) (had : ℕ → Bool) (promised : List (ℕ × ℕ)) (n s : ℕ) (c : Clerking) → KeepsSides s side more → c.session ≢ Some s
     → FitsClerk chain knew boot side had promised n c → FitsClerk chain knew boot more had promised n c
 others_fit chain knew boot side more had promised n s c keeps differs is = record {
+  unique = is.unique;
   none = is.none;
   session = is.session;
   this_life = is.this_life;
@@ -40,6 +41,7 @@ others_fit chain knew boot side more had promised n s c keeps differs is = recor
 -- of its own session one block is changed: the clerk has what it had, but of that block
 pub record Changes (s block : ℕ) (value : Option Request) (side more : Side) (c new : Clerking) : Type 0 where
   pub session : new.session ≡ c.session
+  pub unique : AreUnique new.requests
   pub requests : Puts s block value side.requests more.requests
   pub at : request_from (request_in new.requests block) ≡ value
   pub others : (b : ℕ) → b ≢ block → request_in new.requests b ≡ request_in c.requests b
@@ -54,6 +56,7 @@ pub record Changes (s block : ℕ) (value : Option Request) (side more : Side) (
 pub changed_fits : (chain : Chain) (knew boot : ℕ) (side more : Side) (had : ℕ → Bool) (promised : List (ℕ × ℕ)) (n s block : ℕ) (value : Option Request) (c new : Clerking) → c.session ≡ Some s → Changes s block value side more c new
     → FitsClerk chain knew boot side had promised n c → FitsClerk chain knew boot more had promised n new
 changed_fits chain knew boot side more had promised n s block value c new own changes is = record {
+  unique = changes.unique;
   none = λ none. absurd (none_some (sym none ∙ changes.session ∙ own));
   session = λ t has. is.session t (sym changes.session ∙ has);
   this_life = λ t has. is.this_life t (sym changes.session ∙ has);

@@ -1,6 +1,7 @@
 pub mod Accounts
 pub mod Blocks
 pub mod Chains
+pub mod ClerkEvents
 pub mod Clerks
 pub mod Floors
 pub mod Functions
@@ -14,6 +15,7 @@ pub mod Others
 pub mod Proposing
 pub mod Releasing
 pub mod Renewing
+pub mod Requests
 pub mod ServerEvents
 pub mod ServerTakes
 pub mod Serving

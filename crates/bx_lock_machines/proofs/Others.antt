@@ -46,6 +46,7 @@ master_beside chain knew boot said drawn term other noted more id m no_master is
 pub clerk_promised : (chain : Chain) (knew boot : ℕ) (side : Side) (had : ℕ → Bool) (promised more : List (ℕ × ℕ)) (n : ℕ) (c : Clerking) → ((s e : ℕ) → IsPromised promised s e → IsPromised more s e)
     → FitsClerk chain knew boot side had promised n c → FitsClerk chain knew boot side had more n c
 clerk_promised chain knew boot side had promised more n c on is = record {
+  unique = is.unique;
   none = is.none;
   session = is.session;
   this_life = is.this_life;

@@ -291,7 +291,6 @@ server_takes nodes masters others clerks same_clerks past before after id known 
 server_takes nodes masters others clerks same_clerks past before after id known (Tick reading) change new keeps may less takes puts same =
     let f = keeps.fits in
     let g = keeps.ghosts in
-    let s = ticked nodes masters clerks (owners_with past before) g f id less known (handed_so past before id known (Tick reading) may) (max past.told.greatest reading) (omega arith) reading in
     let o = hears_tick nodes masters clerks (owners_with past before) g f id less known (handed_so past before id known (Tick reading) may) (max past.told.greatest reading) (omega arith) reading (omega arith) in
     outcome_keeps nodes masters others clerks same_clerks past before after id known keeps same (Tick reading) change new (both (catch_up known reading) (tick known) (masters id)).1
         (subst (λ (m : Mastering). Outcome (owners_with past before) g id known (max past.told.greatest reading) (with_change change past.told.handed) m (both (catch_up known reading) (tick known) (masters id)).1) (sym takes.is)

@@ -27,6 +27,7 @@ use Rattle.bx_clerk.proofs.Lookups.{put_beside, put_here}
 use Rattle.bx_lock_machines.specs.Machines.{FitsClerk, request_from}
 use Rattle.bx_lock_machines.proofs.Clerks.{Changes, KeepsSides, changed_fits, keeps_sides}
 use Rattle.bx_lock_machines.proofs.Floors.{gives_floor}
+use Rattle.bx_lock_machines.proofs.Requests.{put_unique}
 use Rattle.bx_lock_machines.proofs.Functions.{one_at, one_not, one_of, one_spot, spot_puts, unheld}
 use Rattle.bx_lock_machines.proofs.Wanting.{gone_fits, side_ending}
 
@@ -60,6 +61,7 @@ takes_on chain holding floor said side term knew boot had promised n c g r locks
       (spot_puts g.session g.block (Some (g.mode, max g.index c.given)) holding);
   clerk = changed_fits chain knew boot side (side_taking side c g) had promised n g.session g.block (Some (held_at g (max g.index c.given))) c (taking g c) own (record {
     session = refl;
+    unique = put_unique c.requests g.block (held_by c g) fits.unique;
     requests = spot_puts g.session g.block (Some (held_at g (max g.index c.given))) side.requests;
     at = ap request_from (put_here c.requests g.block (held_by c g));
     others = λ b differ. put_beside c.requests g.block b (held_by c g) differ;

@@ -16,8 +16,9 @@ use Rattle.bx_clerk.specs.Clerks.{Clerking}
 use Rattle.bx_clerk.specs.Requests.{request_in, with_request, without_request}
 use Rattle.bx_clerk.specs.declared.requests.Asking.{Asking}
 use Rattle.bx_clerk.proofs.Lookups.{out_beside, out_here, put_beside, put_here}
-use Rattle.bx_lock_machines.specs.Machines.{FitsClerk, request_from}
+use Rattle.bx_lock_machines.specs.Machines.{AreUnique, FitsClerk, request_from}
 use Rattle.bx_lock_machines.proofs.Clerks.{Changes, KeepsSides, changed_fits, keeps_sides}
+use Rattle.bx_lock_machines.proofs.Requests.{out_unique, put_unique}
 use Rattle.bx_lock_machines.proofs.Functions.{one_at, one_not, one_of, one_spot, spot_puts, unheld}
 
 -- ---- a number is drawn
@@ -55,6 +56,7 @@ wants_on chain holding floor said side term knew boot had promised n c s block m
       (spot_puts s block None holding);
   clerk = changed_fits chain knew boot side (side_asking side c s block mode) had promised n s block (Some (wanted (want_now c s block mode))) c (asking_now block mode c) own (record {
     session = refl;
+    unique = put_unique c.requests block (new_asking c mode) fits.unique;
     requests = spot_puts s block (Some (wanted (want_now c s block mode))) side.requests;
     at = ap request_from (put_here c.requests block (new_asking c mode));
     others = λ b differ. put_beside c.requests block b (new_asking c mode) differ;
@@ -149,6 +151,7 @@ pub gone_fits : (chain : Chain) (side more : Side) (knew boot : ℕ) (had : ℕ 
 gone_fits chain side more knew boot had promised n c new s block fits own puts requests session lease knows counts drawn given given_fits =
     changed_fits chain knew boot side more had promised n s block None c new own (record {
       session = session;
+      unique = subst AreUnique (sym requests) (out_unique c.requests block fits.unique);
       requests = puts;
       at = ap request_from there;
       others = λ b differ. ap (λ (x : List (ℕ × Asking)). request_in x b) requests ∙ out_beside c.requests block b differ;

@@ -15,7 +15,7 @@ use Rattle.bx_lock_tables.specs.declared.accounts.Account.{Account}
 use Rattle.bx_lock_tables.specs.declared.rows.Row.{Row}
 use Rattle.bx_master.specs.Masters.{Mastering}
 use Rattle.bx_clerk.specs.Clerks.{Clerking}
-use Rattle.bx_clerk.specs.Requests.{request_in}
+use Rattle.bx_clerk.specs.Requests.{Requests, request_in}
 use Rattle.bx_clerk.specs.declared.requests.Asking.{Asking}
 
 -- ---- a clerk
@@ -24,6 +24,11 @@ use Rattle.bx_clerk.specs.declared.requests.Asking.{Asking}
 abbrev pub request_from : Option Asking → Option Request
 request_from None = None
 request_from (Some r) = Some (record { mode = r.mode; number = r.number; held = r.held })
+
+-- each block has one request
+abbrev pub AreUnique : Requests → Type 0
+AreUnique [] = Unit {0}
+AreUnique (entry ∷ rest) = (request_in rest entry.0 ≡ None) × AreUnique rest
 
 -- A session is a node's own in a place of the chain that isn't newer than what the node was handed.
 pub record HasSession (chain : Chain) (knew boot n s : ℕ) : Type 0 where
@@ -34,6 +39,7 @@ pub record HasSession (chain : Chain) (knew boot n s : ℕ) : Type 0 where
 
 -- What a clerk keeps is what its session asked for. Its counters are at least the session's, and the session's end was promised.
 pub record FitsClerk (chain : Chain) (knew boot : ℕ) (side : Side) (had : ℕ → Bool) (promised : List (ℕ × ℕ)) (n : ℕ) (c : Clerking) : Type 0 where
+  pub unique : AreUnique c.requests
   pub none : c.session ≡ None → (b : ℕ) → request_in c.requests b ≡ None
   pub session : (s : ℕ) → c.session ≡ Some s → HasSession chain knew boot n s
   pub this_life : (s : ℕ) → c.session ≡ Some s → chain.found ≤ s

@@ -1,6 +1,6 @@
 -- What holds of the states of a chain: who is the master, when a term ends, and whose a session is.
 use Rattle.std.proofs.Common.{◌≡◌, ◌≢◌, inl, inr, ⊎_elim, ◌⊎◌, ℕ, ◌+◌, ◌<◌, ◌≤◌, Bool, true, false, List, [], ◌∷◌, map, Option, Some, None, refl, sym, ◌∙◌, ap, subst, arith}
-use Rattle.std.specs.Prelude.{IfSome, ◌==◌, not}
+use Rattle.std.specs.Prelude.{IfSome, IsSomeAnd, ◌==◌, not}
 use Rattle.std.specs.List.{AllByRecursion}
 use Rattle.std.proofs.lemmas.Bool.Decides.{eqb_tells, leb_tells, nat_tests}
 use Rattle.bx_global.specs.declared.change.Change.{Change}
@@ -13,7 +13,7 @@ use Rattle.bx_global.proofs.Rising.{index_rises, keeps_claimed, keeps_expired}
 use Rattle.bx_rows.specs.declared.session.SessionRow.{SessionRow}
 use Rattle.bx_rows.specs.Rows.{claimed, dead, expired}
 use Rattle.bx_rows.specs.Words.{row_in}
-use Rattle.bx_facts.specs.Chains.{Chain, HasOwnBoot, HasRow, IsAmong, IsPlace, last, session_of, state_after}
+use Rattle.bx_facts.specs.Chains.{Chain, HasOwnBoot, HasRow, IsAmong, IsPlace, LivesIn, last, session_of, state_after}
 use Rattle.bx_locking.specs.Owned.{AreSingle, CameOf, IsLiveRow, IsNewBoot, IsRowIn, RowsCame}
 use Rattle.bx_locking.specs.Terms.{HasTake, IsNoTake}
 use Rattle.bx_locking.proofs.Basics.{place_most}
@@ -193,6 +193,10 @@ below_boot : (o : Option SessionRow) (row : SessionRow) (boot : ℕ) → o ≡ S
 below_boot None row boot is less = absurd cc
 below_boot (Some other) row boot is less = let same : other ≡ row = cc in let e = ap (λ (x : SessionRow). x.boot) same in omega (arith, e, less)
 
+pub first_among : (first : GlobalState) (changes : List Change) → IsAmong first changes first
+first_among first [] = refl
+first_among first (change ∷ older) = inr (first_among first older)
+
 -- no session of an older life has it
 pub new_boot : (chain : Chain) (boot : ℕ) (p : GlobalState) → chain.found ≤ chain.first.next_session → AreRising chain.first.sessions chain.first.next_session → HasOwnBoot chain boot → IsPlace chain p → IsNewBoot chain.found boot p
 new_boot chain boot p found rising own place = record {
@@ -208,7 +212,22 @@ new_boot chain boot p found rising own place = record {
           (leb_tells chain.found row.number))
       own;
 }
+
+-- ---- the row of an own session
+
+pub record OwnRow (p : GlobalState) (s : ℕ) : Type 0 where
+  pub row : SessionRow
+  pub there : row_in p.sessions s ≡ Some row
+  pub alive : row.dead ≡ 0
+
+pub own_row : (p : GlobalState) (n b s : ℕ) → AreRising p.sessions p.next_session → session_of p n b ≡ Some s → OwnRow p s
+own_row p n b s rising own =
+    let i = session_row p n b s own in
+    record { row = i.row; there = ap (row_in p.sessions) (sym i.number) ∙ row_found p.sessions i.row p.next_session rising i.is; alive = i.live.alive }
+
+pub row_lives : (p : GlobalState) (s : ℕ) (r : OwnRow p s) → LivesIn p s
+row_lives p s r = by_row (row_in p.sessions s) r.there
   where
-    first_among : (first : GlobalState) (changes : List Change) → IsAmong first changes first
-    first_among first [] = refl
-    first_among first (change ∷ older) = inr (first_among first older)
+    by_row : (o : Option SessionRow) → o ≡ Some r.row → IsSomeAnd o (λ row. row.dead ≡ 0)
+    by_row None is = absurd cc
+    by_row (Some row) is = let same : row ≡ r.row = cc in ap (λ (x : SessionRow). x.dead) same ∙ r.alive

@@ -1,7 +1,9 @@
 pub mod Accounts
+pub mod Alike
 pub mod Blocks
 pub mod Chains
 pub mod ClerkEvents
+pub mod ClerkLearns
 pub mod Clerks
 pub mod Floors
 pub mod Functions

@@ -79,7 +79,7 @@ module _ (nodes : ℕ) (masters others : ℕ → Mastering) (clerks same_clerks 
       locks = o.locks;
       leases_are = o.leases;
       had_are = record {
-        was = f.had_are.was;
+        was = λ s had. let w = f.had_are.was s had in record { state = w.state; node = w.node; boot = w.boot; place = w.place; own = w.own; own_boot = w.own_boot; most = w.most; seen = w.seen };
         once = λ s n had. ⊎_elim (λ own. inl (ap (λ (c : Clerking). c.session) (clerks_same.each n) ∙ own)) (λ never. inr never) (f.had_are.once s n had);
         fresh = f.had_are.fresh;
       };

@@ -20,8 +20,9 @@ use Rattle.bx_lock_machines.specs.Machines.{FitsClerk, FitsMaster, IsUntied}
 
 -- ---- whose session
 
--- A session that a clerk had: in a place of the chain it was a node's own, in a boot of this life of the volume that isn't above the node's.
-pub record WasHad (chain : Chain) (boots : Actor → ℕ) (s : ℕ) : Type 0 where
+-- A session that a clerk had: in a place of the chain it was a node's own, in a boot of this life of the volume that isn't above the node's. Where it
+-- is the node's boot, the node was handed that state, or a later one.
+pub record WasHad (chain : Chain) (knew boots : Actor → ℕ) (s : ℕ) : Type 0 where
   pub state : GlobalState
   pub node : ℕ
   pub boot : ℕ
@@ -29,10 +30,11 @@ pub record WasHad (chain : Chain) (boots : Actor → ℕ) (s : ℕ) : Type 0 whe
   pub own : session_of state node boot ≡ Some s
   pub own_boot : HasOwnBoot chain boot
   pub most : boot ≤ boots (Node node)
+  pub seen : boot ≡ boots (Node node) → state.index ≤ knew (Node node)
 
 -- Which sessions clerks had: none that a clerk has no more is its again, and of one that none had nothing was asked.
 pub record AreHad (chain : Chain) (knew boots : Actor → ℕ) (side : Side) (had : ℕ → Bool) (clerks : ℕ → Clerking) : Type 0 where
-  pub was : (s : ℕ) → had s ≡ true → WasHad chain boots s
+  pub was : (s : ℕ) → had s ≡ true → WasHad chain knew boots s
   pub once : (s n : ℕ) → had s ≡ true
       → ((clerks n).session ≡ Some s) ⊎ ((p : GlobalState) → IsPlace chain p → knew (Node n) ≤ p.index → session_of p n (boots (Node n)) ≢ Some s)
   pub fresh : (s : ℕ) → had s ≡ false → ((b : ℕ) → side.requests s b ≡ None) × (side.drawn s ≡ 0) × (side.given s ≡ 0)

@@ -6,3 +6,4 @@ pub mod Making
 pub mod Results
 pub mod Called
 pub mod Taking
+pub mod Keeping

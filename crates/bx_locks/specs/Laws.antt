@@ -12,7 +12,7 @@ use Rattle.bx_rows.specs.Rows.{is_of}
 use Rattle.bx_rows.specs.Words.{live_in, row_in}
 use Rattle.bx_locks.specs.Machines.{AreMade, LockMachines, clerk_of, master_of, no_clerk, nodes_of}
 use Rattle.bx_locks.specs.Meanings.{AreNew}
-use Rattle.bx_locks.specs.Stub.{IsStart, Keeps}
+use Rattle.bx_lock_machines.specs.Keeps.{IsStart, Keeps}
 
 pub ends : (o : LockMachines) (past : OwnersPast) (node session : ℕ) → Keeps (nodes_of o) (master_of o) (clerk_of o) past → (clerk_of o node).session ≡ Some session → IsSome (end_as (clerk_of o node).session (clerk_of o node).lease)
 ends o past node session keeps own = subst (λ (k : Option ℕ). IsSome (end_as k (clerk_of o node).lease)) (sym own) refl

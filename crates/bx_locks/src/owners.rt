@@ -10,7 +10,7 @@ impl Owners for Locks {
     ghost use Rattle.std.specs.Prelude.{◌≡◌, ⊤, true};
     ghost use Rattle.bx_clerk.specs.Clerks.{asked_back, end_as};
     ghost use Rattle.bx_clerk.specs.Requests.{hold_of, request_in, wish_of};
-    ghost use Rattle.bx_locks.specs.Stub.{IsStart, Keeps};
+    ghost use Rattle.bx_lock_machines.specs.Keeps.{IsStart, Keeps};
     ghost use Rattle.bx_locks.specs.Events.{handed_at, input_for};
     ghost use Rattle.bx_locks.specs.Machines.{AreMade, clerk_of, master_of, nodes_of};
     ghost use Rattle.bx_locks.specs.Meanings.{AreNew, Asks, GivesUp, IsSpent};

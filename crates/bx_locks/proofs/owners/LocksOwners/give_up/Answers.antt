@@ -4,7 +4,8 @@ use Rattle.bx_clerk.specs.Clerks.{giving_words}
 use Rattle.bx_clerk.specs.Requests.{request_in}
 use Rattle.bx_locks.specs.Machines.{clerk_of}
 use Rattle.bx_locks.proofs.Called.{give_asked, give_beside, give_gone}
-use Rattle.bx_locks.proofs.Results.{on_ok}
+use Rattle.bx_locks.proofs.Keeping.{give_keeps}
+use Rattle.bx_locks.proofs.Results.{on_both, on_ok}
 use Rattle.bx_locks.proofs.owners.LocksOwners.give_up.Goals as goal
 
 pub returns-clause-gone : goal.returns-clause-gone
@@ -20,3 +21,6 @@ pub returns-clause-sent : goal.returns-clause-sent
 returns-clause-sent c =
     let clerk = clerk_of c.args.self.now c.args.node in
     on_ok c.give_up.result (λ sends. sends_only clerk.node clerk.server (giving_words clerk.session c.args.block (request_in clerk.requests c.args.block) (max clerk.given c.args.index)) c.args.out.now c.give_up.new.out sends) c.give_up.ensures.sends
+
+pub returns-clause-keeps : goal.returns-clause-keeps
+returns-clause-keeps c = λ past session s keeps up own place at_index live. on_both c.give_up.result (λ gives sends. give_keeps c.args.node c.args.block c.args.index c.args.self.now c.give_up.new.self past c.args.out.now c.give_up.new.out session s keeps own place at_index live c.requires.held c.give_up.ensures.only gives sends) c.give_up.ensures.gives c.give_up.ensures.sends

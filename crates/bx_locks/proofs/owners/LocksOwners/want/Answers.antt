@@ -2,6 +2,7 @@ use Rattle.bx_clerk.proofs.Sending.{sends_only}
 use Rattle.bx_clerk.specs.Clerks.{asking_words}
 use Rattle.bx_locks.specs.Machines.{clerk_of}
 use Rattle.bx_locks.proofs.Called.{want_asked, want_beside, want_wants}
+use Rattle.bx_locks.proofs.Keeping.{want_keeps}
 use Rattle.bx_locks.proofs.Results.{on_both, on_ok}
 use Rattle.bx_locks.proofs.owners.LocksOwners.want.Goals as goal
 
@@ -18,3 +19,6 @@ pub returns-clause-sent : goal.returns-clause-sent
 returns-clause-sent c =
     let clerk = clerk_of c.args.self.now c.args.node in
     on_ok c.want.result (λ sends. sends_only clerk.node clerk.server (asking_words clerk.session c.args.block c.args.mode clerk) c.args.out.now c.want.new.out sends) c.want.ensures.sends
+
+pub returns-clause-keeps : goal.returns-clause-keeps
+returns-clause-keeps c = λ past session keeps up own. on_both c.want.result (λ asks sends. want_keeps c.args.node c.args.block c.args.mode c.args.self.now c.want.new.self past c.args.out.now c.want.new.out session keeps own c.ranges.block.fits c.want.ensures.only asks sends) c.want.ensures.asks c.want.ensures.sends

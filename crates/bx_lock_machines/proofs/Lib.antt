@@ -4,6 +4,7 @@ pub mod Blocks
 pub mod Chains
 pub mod ClerkEvents
 pub mod ClerkLearns
+pub mod ClerkTakes
 pub mod Clerks
 pub mod Floors
 pub mod Functions

@@ -307,3 +307,108 @@ module _ (nodes : ℕ) (masters : ℕ → Mastering) (clerks : ℕ → Clerking)
         boot = refl;
         session = refl;
       }
+
+-- ---- all of it
+
+-- a clerk's input, once it has learned the state
+module _ (nodes : ℕ) (masters same_masters : ℕ → Mastering) (clerks others : ℕ → Clerking) (past : OwnersPast) (before after : List Letter) (n : ℕ) (keeps : Keeps nodes masters clerks (owners_with past before)) (masters_same : AreSame masters same_masters) (new : Clerking)
+    (puts : PutsOne n new clerks others) where
+  abbrev Fitting : Type 0
+  Fitting = Holding (KeepsHolds past.holding) (Keeps nodes same_masters others) (owners_with past after)
+
+  idle : new ≡ clerks n → after ≡ before ++ [] → Fitting
+  idle same sends = record {
+    holding = past.holding;
+    may = record { each = λ t b h holds. holds };
+    stands = subst (λ (ls : List Letter). Keeps nodes same_masters others (owners_with past ls)) (sym (append-nil before) ∙ sym sends)
+        (alike nodes masters same_masters clerks others (owners_with past before) masters_same
+            (record { each = λ m. ⊎_elim (λ is. ap others is.1 ∙ puts.at ∙ same ∙ ap clerks (sym is.1)) (λ other. puts.others m other.1) (eqb_tells m n) }) keeps);
+  }
+
+  heard_fits : (s : ℕ) (own : (clerks n).session ≡ Some s) (words : List Word) → Heard nodes masters clerks (owners_with past before) keeps.ghosts keeps.fits n s own new words → after ≡ before ++ letters_of (clerks n) words → Fitting
+  heard_fits s own words h sends = record {
+    holding = h.holding;
+    may = h.may;
+    stands = outcome_keeps nodes masters same_masters clerks others past before after n s keeps own masters_same new h.holding past.floor (clerks n).node (clerks n).server words h.outcome puts sends;
+  }
+
+  hears_in : (kind reading : ℕ) (body : List ℕ) → past.told.greatest ≤ reading + 500 → ((word : Word) → Spells word kind body → IsSaid keeps.ghosts.said word) → Hears (clerks n) kind reading body new before after → Fitting
+  hears_in kind reading body steady each h = by_said h.said h.says h.is h.sends
+    where
+      by_said : (said : Option Word) → SaysOr kind body said → new ≡ (hear reading said (clerks n)).0 → after ≡ before ++ letters_of (clerks n) (hear reading said (clerks n)).1 → Fitting
+      by_said None says is sends = idle is sends
+      by_said (Some word) says is sends = elim (tested (is_same (clerks n).session (Some (session_in word)))) [
+        | passes own_too ↦
+            let own = is_own (clerks n).session (session_in word) own_too in
+            let eq : hear reading (Some word) (clerks n) ≡ hear_own reading word (clerks n) = ap (λ (b : Bool). if b then hear_own reading word (clerks n) else (clerks n, [])) own_too in
+            heard_fits (session_in word) own (hear_own reading word (clerks n)).1
+                (subst (λ (c : Clerking). Heard nodes masters clerks (owners_with past before) keeps.ghosts keeps.fits n (session_in word) own c (hear_own reading word (clerks n)).1) (sym (is ∙ ap (λ (x : Said). x.0) eq))
+                    (hears_own nodes masters clerks (owners_with past before) keeps.ghosts keeps.fits n (session_in word) own reading word steady refl (each word says)))
+                (sends ∙ ap (λ (x : Said). before ++ letters_of (clerks n) x.1) eq)
+        | misses not_own ↦
+            let eq : hear reading (Some word) (clerks n) ≡ (clerks n, []) = ap (λ (b : Bool). if b then hear_own reading word (clerks n) else (clerks n, [])) not_own in
+            idle (is ∙ ap (λ (x : Said). x.0) eq) (sends ∙ ap (λ (x : Said). before ++ letters_of (clerks n) x.1) eq)
+      ]
+
+  ticks_in : new ≡ clerks n → after ≡ before ++ letters_of (clerks n) (tick_words (clerks n).session (clerks n).requests) → Fitting
+  ticks_in is sends = by_session (clerks n).session refl
+    where
+      by_session : (o : Option ℕ) → (clerks n).session ≡ o → Fitting
+      by_session None none = idle is (sends ∙ ap (λ (o : Option ℕ). before ++ letters_of (clerks n) (tick_words o (clerks n).requests)) none)
+      by_session (Some s) own = heard_fits s own (tick_words (Some s) (clerks n).requests)
+          (subst (λ (c : Clerking). Heard nodes masters clerks (owners_with past before) keeps.ghosts keeps.fits n s own c (tick_words (Some s) (clerks n).requests)) (sym is)
+              (heard_same nodes masters clerks (owners_with past before) keeps.ghosts keeps.fits n s own (clerks n) (tick_words (Some s) (clerks n).requests)
+                  (ticks nodes masters clerks (owners_with past before) keeps.ghosts keeps.fits n s own)))
+          (sends ∙ ap (λ (o : Option ℕ). before ++ letters_of (clerks n) (tick_words o (clerks n).requests)) own)
+
+-- what it hands back
+hands_change : (p : OwnersPast) (g : Ghosts) (greatest : ℕ) (o : Option ℕ) (c : Clerking) (reading : ℕ) → AreLeases p.told.chain greatest p.told.handed g.promised g.noted g.ends g.term.expiring
+    → AreLeases p.told.chain greatest (with_change (tick_change o c reading) p.told.handed) g.promised g.noted g.ends g.term.expiring
+hands_change p g greatest None c reading are = hands_open p.told.chain greatest p.told.handed g.promised g.noted g.ends g.term.expiring c.node c.boot reading are
+hands_change p g greatest (Some s) c reading are = are
+
+module _ (nodes : ℕ) (masters same_masters : ℕ → Mastering) (clerks others : ℕ → Clerking) (past : OwnersPast) (before after : List Letter) (n : ℕ) (known : GlobalState) (keeps : Keeps nodes masters clerks (owners_with past before)) (inside : n < nodes)
+    (masters_same : AreSame masters same_masters) (new : Clerking) (puts : PutsOne n new clerks others) where
+  abbrev knowing : ℕ → Clerking
+  knowing = one_of n (learned known (clerks n)) clerks
+
+  knows_here : knowing n ≡ learned known (clerks n)
+  knows_here = one_at n (learned known (clerks n)) clerks
+
+  puts_knowing : PutsOne n (learned known (clerks n)) clerks knowing
+  puts_knowing = record { at = knows_here; others = λ m differ. one_not n (learned known (clerks n)) clerks m differ }
+
+  puts_new : PutsOne n new knowing others
+  puts_new = record { at = puts.at; others = λ m differ. puts.others m differ ∙ sym (one_not n (learned known (clerks n)) clerks m differ) }
+
+  -- it has learned the state
+  knows_it : (input : Input) (change : Option Change) → MayTake (owners_with past before).told known (Node n) input
+      → AreLeases past.told.chain (greatest_with past.told.greatest input) (with_change change past.told.handed) keeps.ghosts.promised keeps.ghosts.noted keeps.ghosts.ends keeps.ghosts.term.expiring
+      → Keeps nodes masters knowing (owners_with (owners_heard past (Node n) known.index input change) before)
+  knows_it input change may leases =
+      clerk_learns nodes masters clerks knowing (owners_with past before) n known keeps inside (record { up = may.up; place = may.place; rises = may.rises; own_boot = may.own_boot }) (greatest_with past.told.greatest input)
+          (with_change change past.told.handed) leases puts_knowing
+
+  leases_read : (greatest : ℕ) → past.told.greatest ≤ greatest → AreLeases past.told.chain greatest past.told.handed keeps.ghosts.promised keeps.ghosts.noted keeps.ghosts.ends keeps.ghosts.term.expiring
+  leases_read greatest greater = reads_on past.told.chain past.told.greatest greatest past.told.handed keeps.ghosts.promised keeps.ghosts.noted keeps.ghosts.ends keeps.ghosts.term.expiring keeps.fits.leases_are greater
+
+  pub clerk_takes : (input : Input) (change : Option Change) → MayTake (owners_with past before).told known (Node n) input → Takes (clerks n) known input new change before after
+      → Holding (KeepsHolds past.holding) (Keeps nodes same_masters others) (owners_with (owners_heard past (Node n) known.index input change) after)
+  clerk_takes (Packet packet reading) change may took =
+      let k = knows_it (Packet packet reading) change may
+          (subst (λ (c : Option Change). AreLeases past.told.chain (max past.told.greatest reading) (with_change c past.told.handed) keeps.ghosts.promised keeps.ghosts.noted keeps.ghosts.ends keeps.ghosts.term.expiring) (sym took.1)
+              (leases_read (max past.told.greatest reading) (omega arith))) in
+      hears_in nodes masters same_masters knowing others (owners_heard past (Node n) known.index (Packet packet reading) change) before after n k masters_same new puts_new packet.now.kind reading packet.now.body
+          (let s = may.steady in omega (arith, s)) (λ word spells. k.fits.letters (letter_of packet.now) word may.comes spells)
+          (subst (λ (c : Clerking). Hears c packet.now.kind reading packet.now.body new before after) (sym knows_here) took.0)
+  clerk_takes (Tick reading) change may took =
+      let k = knows_it (Tick reading) change may
+          (subst (λ (c : Option Change). AreLeases past.told.chain (max past.told.greatest reading) (with_change c past.told.handed) keeps.ghosts.promised keeps.ghosts.noted keeps.ghosts.ends keeps.ghosts.term.expiring) (sym took.asks)
+              (hands_change (owners_with past before) keeps.ghosts (max past.told.greatest reading) (learned known (clerks n)).session (learned known (clerks n)) reading (leases_read (max past.told.greatest reading) (omega arith)))) in
+      ticks_in nodes masters same_masters knowing others (owners_heard past (Node n) known.index (Tick reading) change) before after n k masters_same new puts_new (took.is ∙ sym knows_here)
+          (took.sends ∙ ap (λ (c : Clerking). before ++ letters_of c (tick_words c.session c.requests)) (sym knows_here))
+  clerk_takes Synced change may took =
+      let k = knows_it Synced change may
+          (subst (λ (c : Option Change). AreLeases past.told.chain past.told.greatest (with_change c past.told.handed) keeps.ghosts.promised keeps.ghosts.noted keeps.ghosts.ends keeps.ghosts.term.expiring) (sym took.1)
+              (leases_read past.told.greatest (omega arith))) in
+      idle nodes masters same_masters knowing others (owners_heard past (Node n) known.index Synced change) before after n k masters_same new puts_new (took.0 ∙ sym knows_here) (took.2 ∙ sym (append-nil before))

@@ -22,6 +22,7 @@ pub mod Requests
 pub mod ServerEvents
 pub mod ServerTakes
 pub mod Serving
+pub mod Stopping
 pub mod Taking
 pub mod Verdicts
 pub mod Wanting

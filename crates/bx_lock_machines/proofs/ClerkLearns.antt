@@ -321,6 +321,7 @@ module _ (nodes : ℕ) (masters : ℕ → Mastering) (clerks more : ℕ → Cler
           (λ same. ap (λ (k : ℕ). (more k).boot) same.1 ∙ ap (λ (c : Clerking). c.boot) puts.at ∙ learned_boot ∙ ap (λ (k : ℕ). (clerks k).boot) (sym same.1) ∙ keeps.fits.boot m there up)
           (λ other. ap (λ (c : Clerking). c.boot) (puts.others m other.1) ∙ keeps.fits.boot m there up)
           (eqb_tells m n);
+      server = keeps.fits.server;
       master = keeps.fits.master;
       before = keeps.fits.before;
       letters = keeps.fits.letters;

@@ -23,6 +23,7 @@ alike nodes masters others clerks more past masters_same clerks_same keeps = rec
     clerk = λ n. subst (λ (c : Clerking). FitsClerk past.told.chain (past.told.knew (Node n)) (past.told.boots (Node n)) g.side g.had g.promised n c) (sym (clerks_same.each n)) (f.clerk n);
     node = λ n inside. ap (λ (c : Clerking). c.node) (clerks_same.each n) ∙ f.node n inside;
     boot = λ n inside up. ap (λ (c : Clerking). c.boot) (clerks_same.each n) ∙ f.boot n inside up;
+    server = λ id inside. ap (λ (m : Mastering). m.server) (masters_same.each id) ∙ f.server id inside;
     master = λ id inside up. subst (λ (m : Mastering). FitsMaster past.told.chain (past.told.knew (Server id)) (past.told.boots (Server id)) g.said g.side.drawn g.term g.noted id m) (sym (masters_same.each id)) (f.master id inside up);
     before = f.before;
     letters = f.letters;

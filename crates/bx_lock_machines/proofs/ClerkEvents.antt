@@ -106,6 +106,7 @@ module _ (nodes : ℕ) (masters same_masters : ℕ → Mastering) (clerks others
           (λ is. ap (λ (k : ℕ). (others k).boot) is.1 ∙ ap (λ (c : Clerking). c.boot) puts.at ∙ o.boot ∙ ap (λ (k : ℕ). (clerks k).boot) (sym is.1) ∙ f.boot m inside up)
           (λ other. ap (λ (c : Clerking). c.boot) (puts.others m other.1) ∙ f.boot m inside up)
           (eqb_tells m n);
+      server = λ id inside. ap (λ (m : Mastering). m.server) (masters_same.each id) ∙ f.server id inside;
       master = λ id inside up. subst (λ (m : Mastering). FitsMaster past.told.chain (past.told.knew (ServerOf id)) (past.told.boots (ServerOf id)) o.said o.side.drawn g.term g.noted id m) (sym (masters_same.each id))
           (master_hears past.told.chain (past.told.knew (ServerOf id)) (past.told.boots (ServerOf id)) g.said o.said g.side.drawn o.side.drawn g.term g.noted id (masters id) o.said_on o.rises (f.master id inside up));
       before = f.before;

@@ -14,7 +14,7 @@ use Rattle.bx_facts.specs.Holds.{OwnersPast, owners_heard, owners_with}
 use Rattle.bx_facts.specs.Inputs.{greatest_with}
 use Rattle.bx_facts.specs.Machines.{is_same as is_machine, put_at}
 use Rattle.bx_facts.specs.declared.input.Input.{Input}
-use Rattle.bx_facts.proofs.Machines.{elsewhere, here}
+use Rattle.bx_facts.proofs.Machines.{elsewhere, here, is_one}
 use Rattle.bx_locking.specs.Leases.{AreLeases, IsPromised}
 use Rattle.bx_locking.specs.Owned.{IsNewBoot}
 use Rattle.bx_locking.specs.Tables.{Side}
@@ -216,3 +216,143 @@ module _ (nodes : ℕ) (masters : ℕ → Mastering) (clerks more : ℕ → Cler
       by_test false is_not = ap (λ (b : Bool). (if b then record (clerks n) { lease = max (clerks n).lease (until_of known (session_of known (clerks n).node (clerks n).boot)) }
           else record (clerks n) { session = session_of known (clerks n).node (clerks n).boot; lease = until_of known (session_of known (clerks n).node (clerks n).boot); requests = []; asks = [] }).session) is_not
           ∙ own_is
+
+  -- ---- all fits
+
+  knew_rises : (who : Actor) → p.told.knew who ≤ put_at (Node n) known.index p.told.knew who
+  knew_rises who = elim (tested (is_machine (Node n) who)) [
+    | passes is ↦ subst (λ (b : Bool). p.told.knew who ≤ (if b then known.index else p.told.knew who)) (sym is)
+        (let e : Node n ≡ who = is_one (Node n) who is in let k = ap p.told.knew e in let r = handed.rises in omega (arith, k, r))
+    | misses is_not ↦ subst (λ (b : Bool). p.told.knew who ≤ (if b then known.index else p.told.knew who)) (sym is_not) (omega arith)
+  ]
+
+  -- a session that it had, and has no more, is never its again
+  never_again : (s : ℕ) → keeps.ghosts.had s ≡ true → session_of known n (p.told.boots (Node n)) ≢ Some s → (q : GlobalState) → IsPlace p.told.chain q → known.index ≤ q.index → session_of q n (p.told.boots (Node n)) ≢ Some s
+  never_again s had differs q place order is =
+      let w = keeps.fits.had_are.was s had in
+      let one = one_session p.told.chain q w.state n w.node (p.told.boots (Node n)) w.boot s keeps.fits.states.rising place w.place is w.own in
+      let seen = w.seen (sym one.1 ∙ ap (λ (k : ℕ). p.told.boots (Node k)) one.0) in
+      let e = ap (λ (k : ℕ). p.told.knew (Node k)) one.0 in
+      let r = handed.rises in
+      let next = (go p.told.chain w.state known w.place handed.place (omega (arith, seen, e, r))).next in
+      let given = own_given w.state w.node w.boot s (keeps.fits.states.rising w.state w.place) w.own in
+      differs (was_own p.told.chain known q n (p.told.boots (Node n)) s handed.place place order (keeps.fits.states.single known handed.place) is_new (omega (arith, given, next)) is)
+
+  abbrev knew_then : Actor → ℕ
+  knew_then = put_at (Node n) known.index p.told.knew
+
+  was_then : (s : ℕ) → had_with (session_of known n (p.told.boots (Node n))) keeps.ghosts.had s ≡ true → WasHad p.told.chain knew_then p.told.boots s
+  was_then s had = ⊎_elim
+      (λ is. record {
+        state = known;
+        node = n;
+        boot = p.told.boots (Node n);
+        place = handed.place;
+        own = is;
+        own_boot = handed.own_boot;
+        most = omega arith;
+        seen = λ same. let e = here (Node n) known.index p.told.knew in omega (arith, e);
+      })
+      (λ old. let w = keeps.fits.had_are.was s old.0 in record {
+        state = w.state;
+        node = w.node;
+        boot = w.boot;
+        place = w.place;
+        own = w.own;
+        own_boot = w.own_boot;
+        most = w.most;
+        seen = λ same. let i = w.seen same in let r = knew_rises (Node w.node) in omega (arith, i, r);
+      })
+      (had_now (session_of known n (p.told.boots (Node n))) keeps.ghosts.had s had)
+
+  other_node : (m : ℕ) → m ≢ n → Node m ≢ Node n
+  other_node m differ is = differ (let e : m ≡ n = cc in e)
+
+  pub clerk_learns : (greatest : ℕ) (changes : List Change) → AreLeases p.told.chain greatest changes keeps.ghosts.promised keeps.ghosts.noted keeps.ghosts.ends keeps.ghosts.term.expiring → PutsOne n (learned known (clerks n)) clerks more
+      → Keeps nodes masters more (record p { told = record p.told { handed = changes; greatest = greatest; knew = knew_then } })
+  clerk_learns greatest changes leases puts = record {
+    ghosts = record {
+      said = keeps.ghosts.said;
+      side = keeps.ghosts.side;
+      term = keeps.ghosts.term;
+      promised = keeps.ghosts.promised;
+      noted = keeps.ghosts.noted;
+      ends = keeps.ghosts.ends;
+      had = had_with (session_of known n (p.told.boots (Node n))) keeps.ghosts.had;
+    };
+    fits = record {
+      locks = keeps.fits.locks;
+      leases_are = leases;
+      had_are = record {
+        was = was_then;
+        once = λ s m had. ⊎_elim
+            (λ same. subst (Once s) (sym same.1) (⊎_elim
+                (λ is. inl (ap (λ (c : Clerking). c.session) puts.at ∙ learned_session ∙ is))
+                (λ old. inr (λ q place order. never_again s old.0 old.1 q place (let e = here (Node n) known.index p.told.knew in omega (arith, order, e))))
+                (had_now (session_of known n (p.told.boots (Node n))) keeps.ghosts.had s had)))
+            (λ other. ⊎_elim
+                (λ is. inr (λ q place order also. other.1 (one_session p.told.chain q known m n (p.told.boots (Node m)) (p.told.boots (Node n)) s keeps.fits.states.rising place handed.place also is).0))
+                (λ old. ⊎_elim
+                    (λ has. inl (ap (λ (c : Clerking). c.session) (puts.others m other.1) ∙ has))
+                    (λ never. inr (λ q place order. never q place (let e = elsewhere (Node n) (Node m) known.index p.told.knew (other_node m other.1) in omega (arith, order, e))))
+                    (keeps.fits.had_are.once s m old.0))
+                (had_now (session_of known n (p.told.boots (Node n))) keeps.ghosts.had s had))
+            (eqb_tells m n);
+        fresh = λ s none. keeps.fits.had_are.fresh s (had_none (session_of known n (p.told.boots (Node n))) keeps.ghosts.had s none);
+      };
+      states = keeps.fits.states;
+      knew_most = λ who. elim (tested (is_machine (Node n) who)) [
+        | passes is ↦ subst (λ (b : Bool). (if b then known.index else p.told.knew who) ≤ (last p.told.chain).index) (sym is) (place_most p.told.chain known handed.place)
+        | misses is_not ↦ subst (λ (b : Bool). (if b then known.index else p.told.knew who) ≤ (last p.told.chain).index) (sym is_not) (keeps.fits.knew_most who)
+      ];
+      clerk = λ m. ⊎_elim
+          (λ same. subst (λ (k : ℕ). Fit (knew_then (Node k)) (p.told.boots (Node k)) k (more k)) (sym same.1)
+              (subst (λ (i : ℕ). Fit i (p.told.boots (Node n)) n (more n)) (sym (here (Node n) known.index p.told.knew)) (subst (λ (c : Clerking). Fit known.index (p.told.boots (Node n)) n c) (sym puts.at) learned_fits)))
+          (λ other. subst (λ (i : ℕ). Fit i (p.told.boots (Node m)) m (more m)) (sym (elsewhere (Node n) (Node m) known.index p.told.knew (other_node m other.1)))
+              (subst (λ (c : Clerking). Fit (p.told.knew (Node m)) (p.told.boots (Node m)) m c) (sym (puts.others m other.1))
+                  (clerk_had p.told.chain (p.told.knew (Node m)) (p.told.boots (Node m)) keeps.ghosts.side keeps.ghosts.had (had_with (session_of known n (p.told.boots (Node n))) keeps.ghosts.had) keeps.ghosts.promised m (clerks m)
+                      (had_on (session_of known n (p.told.boots (Node n))) keeps.ghosts.had) (keeps.fits.clerk m))))
+          (eqb_tells m n);
+      node = λ m there. ⊎_elim
+          (λ same. ap (λ (k : ℕ). (more k).node) same.1 ∙ ap (λ (c : Clerking). c.node) puts.at ∙ learned_node ∙ ap (λ (k : ℕ). (clerks k).node) (sym same.1) ∙ keeps.fits.node m there)
+          (λ other. ap (λ (c : Clerking). c.node) (puts.others m other.1) ∙ keeps.fits.node m there)
+          (eqb_tells m n);
+      boot = λ m there up. ⊎_elim
+          (λ same. ap (λ (k : ℕ). (more k).boot) same.1 ∙ ap (λ (c : Clerking). c.boot) puts.at ∙ learned_boot ∙ ap (λ (k : ℕ). (clerks k).boot) (sym same.1) ∙ keeps.fits.boot m there up)
+          (λ other. ap (λ (c : Clerking). c.boot) (puts.others m other.1) ∙ keeps.fits.boot m there up)
+          (eqb_tells m n);
+      server = keeps.fits.server;
+      master = keeps.fits.master;
+      before = keeps.fits.before;
+      letters = keeps.fits.letters;
+      words = keeps.fits.words;
+      promises = keeps.fits.promises;
+      leases = keeps.fits.leases;
+    };
+  }
+    where
+      Once : ℕ → ℕ → Type 0
+      Once s m = ((more m).session ≡ Some s) ⊎ ((q : GlobalState) → IsPlace p.told.chain q → knew_then (Node m) ≤ q.index → session_of q m (p.told.boots (Node m)) ≢ Some s)
+
+      Fit : ℕ → ℕ → ℕ → Clerking → Type 0
+      Fit i b m c = FitsClerk p.told.chain i b keeps.ghosts.side (had_with (session_of known n (p.told.boots (Node n))) keeps.ghosts.had) keeps.ghosts.promised m c
+
+      stays : Clerking
+      stays = record (clerks n) { lease = max (clerks n).lease (until_of known (session_of known (clerks n).node (clerks n).boot)) }
+
+      goes : Clerking
+      goes = record (clerks n) { session = session_of known (clerks n).node (clerks n).boot; lease = until_of known (session_of known (clerks n).node (clerks n).boot); requests = []; asks = [] }
+
+      learned_node : (learned known (clerks n)).node ≡ (clerks n).node
+      learned_node = by_test (is_same (clerks n).session (session_of known (clerks n).node (clerks n).boot)) refl
+        where
+          by_test : (b : Bool) → is_same (clerks n).session (session_of known (clerks n).node (clerks n).boot) ≡ b → (learned known (clerks n)).node ≡ (clerks n).node
+          by_test true is = ap (λ (b : Bool). (if b then stays else goes).node) is
+          by_test false is_not = ap (λ (b : Bool). (if b then stays else goes).node) is_not
+
+      learned_boot : (learned known (clerks n)).boot ≡ (clerks n).boot
+      learned_boot = by_test (is_same (clerks n).session (session_of known (clerks n).node (clerks n).boot)) refl
+        where
+          by_test : (b : Bool) → is_same (clerks n).session (session_of known (clerks n).node (clerks n).boot) ≡ b → (learned known (clerks n)).boot ≡ (clerks n).boot
+          by_test true is = ap (λ (b : Bool). (if b then stays else goes).boot) is
+          by_test false is_not = ap (λ (b : Bool). (if b then stays else goes).boot) is_not

@@ -4,6 +4,7 @@ pub mod Blocks
 pub mod Chains
 pub mod ClerkEvents
 pub mod ClerkLearns
+pub mod ClerkTakes
 pub mod Clerks
 pub mod Floors
 pub mod Functions
@@ -21,6 +22,7 @@ pub mod Requests
 pub mod ServerEvents
 pub mod ServerTakes
 pub mod Serving
+pub mod Stopping
 pub mod Taking
 pub mod Verdicts
 pub mod Wanting

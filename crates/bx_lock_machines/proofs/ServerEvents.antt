@@ -92,6 +92,10 @@ module _ (nodes : ℕ) (masters others : ℕ → Mastering) (clerks same_clerks 
           (clerk_promised past.told.chain (past.told.knew (Node n)) (past.told.boots (Node n)) g.side g.had g.promised o.now.promised n (clerks n) o.promised_on (f.clerk n));
       node = λ n inside. ap (λ (c : Clerking). c.node) (clerks_same.each n) ∙ f.node n inside;
       boot = λ n inside up. ap (λ (c : Clerking). c.boot) (clerks_same.each n) ∙ f.boot n inside up;
+      server = λ j inside. ⊎_elim
+          (λ is. ap (λ (k : ℕ). (others k).server) is.1 ∙ ap (λ (m : Mastering). m.server) puts.at ∙ o.master.server ∙ sym is.1)
+          (λ other. ap (λ (m : Mastering). m.server) (puts.others j other.1) ∙ f.server j inside)
+          (eqb_tells j id);
       master = λ j inside up. ⊎_elim
           (λ is. subst (λ (k : ℕ). FitsMaster past.told.chain (put_at (ServerOf id) known.index past.told.knew (ServerOf k)) (past.told.boots (ServerOf k)) o.now.said g.side.drawn o.now.term o.now.noted k (others k)) (sym is.1)
               (subst (λ (k : ℕ). FitsMaster past.told.chain k (past.told.boots (ServerOf id)) o.now.said g.side.drawn o.now.term o.now.noted id (others id)) (sym (here (ServerOf id) known.index past.told.knew))

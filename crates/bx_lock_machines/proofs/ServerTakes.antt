@@ -269,7 +269,7 @@ handed_so : (past : OwnersPast) (before : List Letter) (id : ℕ) (known : Globa
 handed_so past before id known input may = record { up = may.up; place = may.place; rises = may.rises; own_boot = may.own_boot }
 
 -- what a packet says was said
-was_said : (said : List Word) (letters : List Letter) (letter : Letter) (word : Option Word) → ((l : Letter) (w : Word) → Contains letters l → Spells w l.kind l.body → IsSaid said w) → Contains letters letter → SaysOr letter.kind letter.body word
+pub was_said : (said : List Word) (letters : List Letter) (letter : Letter) (word : Option Word) → ((l : Letter) (w : Word) → Contains letters l → Spells w l.kind l.body → IsSaid said w) → Contains letters letter → SaysOr letter.kind letter.body word
     → MatchOption word (Unit {0}) (λ w. IsSaid said w)
 was_said said letters letter None each has says = tt
 was_said said letters letter (Some word) each has says = each letter word has says

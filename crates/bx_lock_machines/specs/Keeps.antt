@@ -78,7 +78,8 @@ pub record FitsPast (nodes : ℕ) (masters : ℕ → Mastering) (clerks : ℕ �
   -- the clerks of the cluster's nodes; there are no others
   pub node : (n : ℕ) → n < nodes → (clerks n).node ≡ n
   pub boot : (n : ℕ) → n < nodes → past.told.down (Node n) ≡ false → (clerks n).boot ≡ past.told.boots (Node n)
-  -- a server that is up
+  -- the lock servers, and what holds of one that is up
+  pub server : (id : ℕ) → id < 2 → (masters id).server ≡ id
   pub master : (id : ℕ) → id < 2 → past.told.down (Server id) ≡ false
       → FitsMaster past.told.chain (past.told.knew (Server id)) (past.told.boots (Server id)) g.said g.side.drawn g.term g.noted id (masters id)
   -- before the last state's master has started, nothing is done in its term

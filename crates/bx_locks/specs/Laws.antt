@@ -21,7 +21,7 @@ pub ends_none : (o : LockMachines) (past : OwnersPast) (node : ℕ) → Keeps (n
 ends_none o past node keeps none = ap (λ (k : Option ℕ). end_as k (clerk_of o node).lease) none
 
 -- behind the last clerk there is none
-nobody : (clerks : List Clerking) (place : ℕ) (none : Clerking) → length clerks ≤ place → slice_index_or clerks place none ≡ none
+pub nobody : (clerks : List Clerking) (place : ℕ) (none : Clerking) → length clerks ≤ place → slice_index_or clerks place none ≡ none
 nobody [] place none beyond = refl
 nobody (one ∷ clerks) zero none beyond = absurd (omega (arith, beyond))
 nobody (one ∷ clerks) (suc place) none beyond = nobody clerks place none (omega (arith, beyond))

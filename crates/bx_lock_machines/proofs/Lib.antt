@@ -24,6 +24,7 @@ pub mod Requests
 pub mod ServerEvents
 pub mod ServerTakes
 pub mod Serving
+pub mod Starting
 pub mod Stopping
 pub mod Taking
 pub mod Verdicts

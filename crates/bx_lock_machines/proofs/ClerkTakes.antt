@@ -75,7 +75,7 @@ out_so o r there is = by_index r.held refl
     by_index None none = none
     by_index (Some k) some = let e : true ≡ false = sym (ap is_held there ∙ ap is_at some) ∙ is in absurd cc
 
-is_own : (o : Option ℕ) (s : ℕ) → is_same o (Some s) ≡ true → o ≡ Some s
+pub is_own : (o : Option ℕ) (s : ℕ) → is_same o (Some s) ≡ true → o ≡ Some s
 is_own None s is = absurd cc
 is_own (Some t) s is = ap (λ (k : ℕ). Some k) (let e : t ≡ s = grind (arith, nat_tests, is) in e)
 

@@ -9,9 +9,11 @@ pub mod Clerks
 pub mod Floors
 pub mod Functions
 pub mod Granting
+pub mod Growing
 pub mod Growth
 pub mod Hearing
 pub mod Knowing
+pub mod Laws
 pub mod Learning
 pub mod Letters
 pub mod Others
@@ -22,6 +24,7 @@ pub mod Requests
 pub mod ServerEvents
 pub mod ServerTakes
 pub mod Serving
+pub mod Starting
 pub mod Stopping
 pub mod Taking
 pub mod Verdicts

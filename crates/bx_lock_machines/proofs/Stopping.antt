@@ -190,17 +190,21 @@ beside_restarts nodes masters others clerks more past who boot reading beside ma
 -- ---- a node starts again
 
 -- a clerk that has no session and asked for nothing
-pub record IsBlank (nodes n boot : ℕ) (c : Clerking) : Type 0 where
+pub record IsIdle (c : Clerking) : Type 0 where
   pub session : c.session ≡ None
   pub requests : c.requests ≡ []
   pub drawn_fits : Fits c.drawn
   pub given_fits : Fits c.given
   pub knows_fits : Fits c.knows
+
+-- that of a node, where the cluster has the node, in this boot
+pub record IsBlank (nodes n boot : ℕ) (c : Clerking) : Type 0 where
+  pub idle : IsIdle c
   pub node : n < nodes → c.node ≡ n
   pub boot_is : n < nodes → c.boot ≡ boot
 
-blank_fits : (chain : Chain) (knew at boot : ℕ) (side : Side) (had : ℕ → Bool) (promised : List (ℕ × ℕ)) (nodes n : ℕ) (c : Clerking) → IsBlank nodes n boot c → FitsClerk chain knew at side had promised n c
-blank_fits chain knew at boot side had promised nodes n c blank = record {
+pub idle_fits : (chain : Chain) (knew boot : ℕ) (side : Side) (had : ℕ → Bool) (promised : List (ℕ × ℕ)) (n : ℕ) (c : Clerking) → IsIdle c → FitsClerk chain knew boot side had promised n c
+idle_fits chain knew boot side had promised n c blank = record {
   unique = subst AreUnique (sym blank.requests) tt;
   none = λ none b. ap (λ (rs : Requests). request_in rs b) blank.requests;
   session = λ s own. absurd (none_some s (sym blank.session ∙ own));
@@ -267,7 +271,7 @@ node_restarts nodes masters others clerks more past n boot reading new masters_s
     clerk = λ m. ⊎_elim
         (λ is. subst (λ (k : ℕ). Fit (put_at (Node n) 0 past.told.knew (Node k)) (put_at (Node n) boot past.told.boots (Node k)) k (more k)) (sym is.1)
             (subst (λ (c : Clerking). Fit (put_at (Node n) 0 past.told.knew (Node n)) (put_at (Node n) boot past.told.boots (Node n)) n c) (sym puts.at)
-                (blank_fits past.told.chain (put_at (Node n) 0 past.told.knew (Node n)) (put_at (Node n) boot past.told.boots (Node n)) boot g.side g.had g.promised nodes n new blank)))
+                (idle_fits past.told.chain (put_at (Node n) 0 past.told.knew (Node n)) (put_at (Node n) boot past.told.boots (Node n)) g.side g.had g.promised n new blank.idle)))
         (λ other. subst (λ (i : ℕ). Fit i (put_at (Node n) boot past.told.boots (Node m)) m (more m)) (sym (elsewhere (Node n) (Node m) 0 past.told.knew (other_node m n other.1)))
             (subst (λ (b : ℕ). Fit (past.told.knew (Node m)) b m (more m)) (sym (elsewhere (Node n) (Node m) boot past.told.boots (other_node m n other.1)))
                 (subst (λ (c : Clerking). Fit (past.told.knew (Node m)) (past.told.boots (Node m)) m c) (sym (puts.others m other.1)) (f.clerk m))))
@@ -306,11 +310,7 @@ node_restarts nodes masters others clerks more past n boot reading new masters_s
 -- what a clerk of the cluster is then
 pub restarted_blank : (nodes : ℕ) (masters : ℕ → Mastering) (clerks : ℕ → Clerking) (past : OwnersPast) (n boot : ℕ) → Keeps nodes masters clerks past → IsBlank nodes n boot (clerks_of.restarted boot (clerks n))
 restarted_blank nodes masters clerks past n boot keeps = record {
-  session = refl;
-  requests = refl;
-  drawn_fits = omega arith;
-  given_fits = omega arith;
-  knows_fits = omega arith;
+  idle = record { session = refl; requests = refl; drawn_fits = omega arith; given_fits = omega arith; knows_fits = omega arith };
   node = λ inside. keeps.fits.node n inside;
   boot_is = λ inside. refl;
 }

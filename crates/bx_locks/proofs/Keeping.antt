@@ -26,7 +26,7 @@ use Rattle.bx_master.specs.Masters.{Mastering}
 use Rattle.bx_master.specs.Steps as master_steps
 use Rattle.bx_clerk.specs.Events as clerk_events
 use Rattle.bx_locks.specs.Events.{RestartsAt, TakesAt, input_for}
-use Rattle.bx_locks.specs.Laws.{nobody}
+use Rattle.bx_locks.specs.Laws.{no_clerk_idle, nobody}
 use Rattle.bx_locks.specs.Machines.{LockMachines, OnlyMachine, clerk_of, master_of, no_clerk, nodes_of}
 use Rattle.bx_locks.proofs.Taken.{took}
 
@@ -167,15 +167,7 @@ event_session at node known input old new past before after change keeps may the
 -- ---- a machine starts again
 
 no_clerk_blank : (nodes node boot : ℕ) → nodes ≤ node → IsBlank nodes node boot (no_clerk node)
-no_clerk_blank nodes node boot beyond = record {
-  session = refl;
-  requests = refl;
-  drawn_fits = omega arith;
-  given_fits = omega arith;
-  knows_fits = omega arith;
-  node = λ less. refl;
-  boot_is = λ less. absurd (omega (arith, less, beyond));
-}
+no_clerk_blank nodes node boot beyond = record { idle = no_clerk_idle node; node = λ less. refl; boot_is = λ less. absurd (omega (arith, less, beyond)) }
 
 pub restart_keeps : (who : Actor) (boot reading : ℕ) (old new : LockMachines) (past : OwnersPast) → Keeps (nodes_of old) (master_of old) (clerk_of old) past → MayRestart past.told who boot reading → RestartsAt who boot old new → OnlyMachine who old new
     → Keeps (nodes_of new) (master_of new) (clerk_of new) (owners_restarted past who boot reading)

@@ -10,17 +10,17 @@ impl Owners for Locks {
     ghost use Rattle.std.specs.Prelude.{◌≡◌, ⊤, true};
     ghost use Rattle.bx_clerk.specs.Clerks.{asked_back, end_as};
     ghost use Rattle.bx_clerk.specs.Requests.{hold_of, request_in, wish_of};
-    ghost use Rattle.bx_lock_machines.specs.Keeps.{IsStart, Keeps};
+    ghost use Rattle.bx_lock_machines.specs.Keeps.{Keeps};
     ghost use Rattle.bx_locks.specs.Events.{handed_at, input_for};
-    ghost use Rattle.bx_locks.specs.Machines.{AreMade, clerk_of, master_of, nodes_of};
-    ghost use Rattle.bx_locks.specs.Meanings.{AreNew, Asks, GivesUp, IsSpent};
-    ghost use Rattle.bx_locks.specs.Laws.{begins_end, begins_own, ends, ends_none};
+    ghost use Rattle.bx_locks.specs.Machines.{clerk_of, master_of, nodes_of};
+    ghost use Rattle.bx_locks.specs.Meanings.{AreNew, Asks, GivesUp, IsFor, IsSpent};
+    ghost use Rattle.bx_locks.specs.Laws.{alone, apart, begins, begins_end, begins_own, ends, ends_none, finds, grows, held, leases, lives, loses, reaches, was_opened};
 
     ghost is_separate = { ⊤ };
 
     ghost by_boot = { true };
 
-    ghost is_for = { λ o nodes s. AreMade nodes s o × IsStart s };
+    ghost is_for = { λ o nodes s. IsFor nodes s o };
 
     ghost nodes = { λ o. nodes_of o };
 
@@ -104,35 +104,35 @@ impl Owners for Locks {
         Locks::restart(self, who, boot);
     }
 
-    ghost held = { ? };
+    ghost held = { held };
 
     ghost ends = { ends };
 
     ghost ends_none = { ends_none };
 
-    ghost leases = { ? };
+    ghost leases = { leases };
 
-    ghost lives = { ? };
+    ghost lives = { lives };
 
-    ghost apart = { ? };
+    ghost apart = { apart };
 
-    ghost alone = { ? };
+    ghost alone = { alone };
 
-    ghost reaches = { ? };
+    ghost reaches = { reaches };
 
-    ghost was_opened = { ? };
+    ghost was_opened = { was_opened };
 
-    ghost grows = { ? };
+    ghost grows = { grows };
 
-    ghost loses = { ? };
+    ghost loses = { loses };
 
     ghost begins_own = { begins_own };
 
     ghost begins_end = { begins_end };
 
-    ghost begins = { ? };
+    ghost begins = { begins };
 
-    ghost finds = { ? };
+    ghost finds = { finds };
 
-    ghost has_nodes = { λ o nodes s is. is.0.nodes_are };
+    ghost has_nodes = { λ o nodes s is. is.made.nodes_are };
 }

@@ -1,6 +1,6 @@
 -- What a want, and a block that is given up, make of a clerk.
-use Rattle.std.proofs.Common.{◌≡◌, ◌≢◌, ◌⊎◌, inl, inr, ℕ, ◌+◌, ◌≤◌, Bool, true, false, List, [], ◌∷◌, ◌++◌, Option, Some, None, refl, ap, ◌∙◌, arith, append-nil}
-use Rattle.std.specs.Prelude.{IsSome, IsSomeAnd, ltb, if◌then◌else◌}
+use Rattle.std.proofs.Common.{◌≡◌, ◌≢◌, ◌⊎◌, inl, inr, ℕ, ◌+◌, ◌≤◌, Bool, true, false, List, [], ◌∷◌, ◌++◌, Some, None, refl, ap, ◌∙◌, arith, append-nil}
+use Rattle.std.specs.Prelude.{IsSomeAnd, ltb, if◌then◌else◌}
 use Rattle.std.proofs.lemmas.Bool.Decides.{nat_tests}
 use Rattle.bx_base.specs.declared.names.Mode.{Mode}
 use Rattle.bx_facts.specs.Holds.{without_block}
@@ -37,7 +37,7 @@ wanted_so session block mode c before after sends = by_test (ltb c.drawn greates
       grind (arith, nat_tests, is),
       ap wish_of (out_here c.requests block),
       ap hold_of (out_here c.requests block),
-      sends ∙ append-nil before
+      sends ∙ append-nil before,
     )
 
 -- requests for other blocks stay

@@ -5,11 +5,9 @@ use Rattle.std.proofs.lemmas.Bool.{cases_eq}
 use Rattle.bx_base.specs.declared.names.Actor.TheVariants.{Node}
 use Rattle.bx_base.specs.declared.names.Mode.{Mode}
 use Rattle.bx_facts.specs.Holds.{without_block}
-use Rattle.bx_facts.specs.Inputs.{IsOwners, SendsOnly}
 use Rattle.bx_post.specs.declared.packets.Letter.{Letter}
 use Rattle.bx_clerk.specs.Clerks.{Clerking, asked_back, asking, asking_words, giving_up, letters_of}
 use Rattle.bx_clerk.specs.Requests.{hold_of, request_in, wish_of}
-use Rattle.bx_clerk.proofs.Sending.{sends_only}
 use Rattle.bx_locks.specs.Machines.{LockMachines, OnlyMachine, clerk_of}
 use Rattle.bx_locks.proofs.Asking.{IsWanted, asking_asked, asking_beside, giving_asked, giving_beside, giving_here, wanted_so}
 

@@ -1,24 +1,20 @@
 -- What an event makes of a clerk's session, of its end, and of its requests.
-use Rattle.std.proofs.Common.{◌≡◌, ◌≢◌, ◌⊎◌, inl, inr, ⊎_elim, ℕ, ◌≤◌, max, Bool, true, false, List, [], ◌∷◌, ◌++◌, Option, Some, None, IfSome, refl, sym, ap, subst, ◌∙◌, arith}
-use Rattle.std.specs.Prelude.{IsSome, ltb, ◌&&◌, not, ◌==◌, if◌then◌else◌}
+use Rattle.std.proofs.Common.{◌≡◌, ◌≢◌, ◌⊎◌, inl, inr, ℕ, ◌≤◌, max, Bool, true, false, [], ◌∷◌, Option, Some, None, refl, sym, ap, subst, arith}
+use Rattle.std.specs.Prelude.{IsSome, not, if◌then◌else◌}
 use Rattle.std.proofs.lemmas.Bool.Decides.{nat_tests}
 use Rattle.std.proofs.lemmas.Bool.{cases_eq}
 use Rattle.bx_facts.specs.Chains.{session_of}
 use Rattle.bx_facts.specs.Holds.{without_block}
-use Rattle.bx_facts.specs.declared.input.Input.{Input}
-use Rattle.bx_facts.specs.declared.input.Input.TheVariants.{Packet, Tick, Synced}
-use Rattle.bx_global.specs.declared.change.Change.{Change}
 use Rattle.bx_global.specs.declared.state.GlobalState.{GlobalState}
-use Rattle.bx_post.specs.declared.packets.Letter.{Letter}
 use Rattle.bx_lock_words.specs.declared.words.Grant.{Grant}
 use Rattle.bx_lock_words.specs.declared.words.Revoke.{Revoke}
 use Rattle.bx_lock_words.specs.declared.words.Word.{Word}
 use Rattle.bx_lock_words.specs.declared.words.Word.TheVariants.{Wants, Grants, Revokes, Releases, Renews, Leases}
 use Rattle.bx_lock_words.specs.Sessions.{session_in}
 use Rattle.bx_clerk.specs.declared.requests.Asking.{Asking}
-use Rattle.bx_clerk.specs.Clerks.{Clerking, Said, end_as, is_same, learned, until_of, with_session}
-use Rattle.bx_clerk.specs.Events.{Takes, TakesIn, answer_of, granted, hear, hear_own, hear_revoke, held_by, takes}
-use Rattle.bx_clerk.specs.Requests.{Requests, fits, hold_of, is_held, request_in, wish_of, with_ask, with_request, without_request}
+use Rattle.bx_clerk.specs.Clerks.{Clerking, Said, is_same, learned, until_of, with_session}
+use Rattle.bx_clerk.specs.Events.{answer_of, granted, hear, hear_own, hear_revoke, held_by, takes}
+use Rattle.bx_clerk.specs.Requests.{fits, hold_of, is_held, request_in, wish_of, with_ask, with_request, without_request}
 use Rattle.bx_clerk.proofs.Lookups.{out_beside, out_here, put_beside, put_here}
 
 -- ---- it learns a state

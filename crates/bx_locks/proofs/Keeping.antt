@@ -1,5 +1,5 @@
 -- How all machines go on fitting what was done with them.
-use Rattle.std.proofs.Common.{◌≡◌, ◌≢◌, ◌⊎◌, inl, inr, ⊎_elim, ℕ, ◌<◌, ◌≤◌, ◌++◌, max, Bool, true, false, List, [], Option, Some, None, refl, sym, ap, subst, ◌∙◌, arith}
+use Rattle.std.proofs.Common.{◌≡◌, ◌⊎◌, inl, inr, ⊎_elim, ℕ, ◌<◌, ◌≤◌, ◌++◌, max, Bool, true, false, List, Option, Some, None, refl, sym, ap, subst, ◌∙◌, arith}
 use Rattle.std.specs.Prelude.{IsSome, if◌then◌else◌}
 use Rattle.bx_base.specs.declared.names.Actor.{Actor}
 use Rattle.bx_base.specs.declared.names.Actor.TheVariants.{Node, Replica, Server, Member}
@@ -65,7 +65,7 @@ pub want_keeps : (node block : ℕ) (mode : Mode) (old new : LockMachines) (past
     → Holding (KeepsOthers session block past.holding) (Keeps (nodes_of new) (master_of new) (clerk_of new)) (owners_with past after)
 want_keeps node block mode old new past before after session keeps own fits only asks sends =
     subst (λ (n : ℕ). Holding (KeepsOthers session block past.holding) (Keeps n (master_of new) (clerk_of new)) (owners_with past after)) (sym only.nodes)
-        (clerk_wants (nodes_of old) (master_of old) (master_of new) (clerk_of old) (clerk_of new) past before after node session keeps own (same_masters node old new only) block fits mode (put_clerk node (asking block mode (clerk_of old node)) old new only asks) sends)
+    (clerk_wants (nodes_of old) (master_of old) (master_of new) (clerk_of old) (clerk_of new) past before after node session keeps own (same_masters node old new only) block fits mode (put_clerk node (asking block mode (clerk_of old node)) old new only asks) sends)
 
 pub give_keeps : (node block index : ℕ) (old new : LockMachines) (past : OwnersPast) (before after : List Letter) (session : ℕ) (s : GlobalState) → Keeps (nodes_of old) (master_of old) (clerk_of old) (owners_with past before)
     → (clerk_of old node).session ≡ Some session → IsPlace past.told.chain s → s.index ≡ index → LivesIn s session → IsSome (hold_of (request_in (clerk_of old node).requests block))
@@ -74,8 +74,8 @@ pub give_keeps : (node block index : ℕ) (old new : LockMachines) (past : Owner
     → Holding (KeepsOthers session block past.holding) (Keeps (nodes_of new) (master_of new) (clerk_of new)) (owners_with (given past (hold_of (request_in (clerk_of old node).requests block)) block index) after)
 give_keeps node block index old new past before after session s keeps own place at_index live held only gives sends =
     subst (λ (n : ℕ). Holding (KeepsOthers session block past.holding) (Keeps n (master_of new) (clerk_of new)) (owners_with (given past (hold_of (request_in (clerk_of old node).requests block)) block index) after)) (sym only.nodes)
-        (clerk_gives_up (nodes_of old) (master_of old) (master_of new) (clerk_of old) (clerk_of new) past before after node session keeps own (same_masters node old new only) block index s place at_index live held
-            (put_clerk node (giving_up block index (clerk_of old node)) old new only gives) sends)
+    (clerk_gives_up (nodes_of old) (master_of old) (master_of new) (clerk_of old) (clerk_of new) past before after node session keeps own (same_masters node old new only) block index s place at_index live held
+    (put_clerk node (giving_up block index (clerk_of old node)) old new only gives) sends)
 
 -- ---- events
 
@@ -127,7 +127,7 @@ module _ (known : GlobalState) (input : Input) (old new : LockMachines) (past : 
       → Heard past (Server server) known.index given change after new (nodes_of old)
   master_keeps server given only there may takes =
       still (nodes_of old) (master_of new) (clerk_of new) past (owners_with (owners_heard past (Server server) known.index given change) after) refl
-          (server_takes (nodes_of old) (master_of old) (master_of new) (clerk_of old) (clerk_of new) past before after server known given change (master_of new server) keeps may there takes (put_master server (master_of new server) old new only refl) (same_clerks server old new only))
+      (server_takes (nodes_of old) (master_of old) (master_of new) (clerk_of old) (clerk_of new) past before after server known given change (master_of new server) keeps may there takes (put_master server (master_of new server) old new only refl) (same_clerks server old new only))
 
   server_hears : (server : ℕ) → OnlyMachine (Server server) old new → server < 2 → MayTake (owners_with past before).told known (Server server) input → master_steps.Takes (master_of old server) known (input_for (Server server) input) (master_of new server) change before after
       → Heard past (Server server) known.index input change after new (nodes_of old)
@@ -139,9 +139,9 @@ module _ (known : GlobalState) (input : Input) (old new : LockMachines) (past : 
   other_hears : (who : Actor) → IsBeside who → IsPlace past.told.chain known → new ≡ old → change ≡ None → after ≡ before → Heard past who known.index input change after new (nodes_of old)
   other_hears who beside place same none sent =
       subst (λ (letters : List Letter). Heard past who known.index input change letters new (nodes_of old)) (sym sent)
-          (subst (λ (handed : Option Change). Heard past who known.index input handed before new (nodes_of old)) (sym none)
-              (still (nodes_of old) (master_of new) (clerk_of new) past (owners_with (owners_heard past who known.index input None) before) refl
-                  (beside_hears (nodes_of old) (master_of old) (master_of new) (clerk_of old) (clerk_of new) (owners_with past before) who known input beside (all_masters old new same) (all_clerks old new same) place keeps)))
+      (subst (λ (handed : Option Change). Heard past who known.index input handed before new (nodes_of old)) (sym none)
+      (still (nodes_of old) (master_of new) (clerk_of new) past (owners_with (owners_heard past who known.index input None) before) refl
+      (beside_hears (nodes_of old) (master_of old) (master_of new) (clerk_of old) (clerk_of new) (owners_with past before) who known input beside (all_masters old new same) (all_clerks old new same) place keeps)))
 
   hears : (at : Actor) → OnlyMachine at old new → IsMachine (nodes_of old) at → MayTake (owners_with past before).told known at input → TakesAt at known (input_for at input) old new change before after → Heard past at known.index input change after new (nodes_of old)
   hears (Node node) only there may takes = node_hears node only there may takes

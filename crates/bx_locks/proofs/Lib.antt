@@ -7,3 +7,4 @@ pub mod Results
 pub mod Called
 pub mod Taking
 pub mod Keeping
+pub mod Beginning

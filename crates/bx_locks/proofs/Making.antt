@@ -1,14 +1,12 @@
 -- The machines that are made.
-use Rattle.std.proofs.Common.{◌≡◌, ℕ, zero, suc, ◌+◌, ◌<◌, List, [], ◌∷◌, ◌++◌, length, refl, sym, ap, subst, ◌∙◌, arith, length-append, inl, inr}
+use Rattle.std.proofs.Common.{◌≡◌, ℕ, zero, suc, ◌<◌, List, [], ◌∷◌, length, refl, ap, arith}
 use Rattle.std.specs.Prelude.{slice_index_or}
-use Rattle.std.proofs.lemmas.Bool.{cases_lt}
-use Rattle.std.proofs.lemmas.List.{get_or_at}
 use Rattle.bx_clerk.specs.Clerks as clerks
 use Rattle.bx_clerk.specs.Clerks.{Clerking}
 use Rattle.bx_global.specs.declared.state.GlobalState.{GlobalState}
 use Rattle.bx_master.specs.Masters as masters
 use Rattle.bx_master.specs.Masters.{Mastering}
-use Rattle.bx_locks.specs.Machines.{AreMade, LockMachines, no_clerk, no_master}
+use Rattle.bx_locks.specs.Machines.{AreMade, no_clerk, no_master}
 
 -- so many clerks are made
 pub record AreClerks (s : GlobalState) (count : ℕ) (made : List Clerking) : Type 0 where

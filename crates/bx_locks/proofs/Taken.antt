@@ -1,12 +1,10 @@
 -- What one event makes of the clerk or the lock server to which it comes.
-use Rattle.std.proofs.Common.{◌≡◌, ◌≢◌, ◌⊎◌, inl, inr, ⊎_elim, ℕ, ◌≤◌, Bool, true, false, List, [], Option, Some, None, IfSome, MatchOption, refl, sym, ap, subst, ◌∙◌, arith}
+use Rattle.std.proofs.Common.{◌≡◌, ◌≢◌, ◌⊎◌, inl, inr, ⊎_elim, ℕ, ◌≤◌, Bool, true, false, List, Option, Some, None, IfSome, refl, sym, ap, subst, ◌∙◌, arith}
 use Rattle.std.specs.Prelude.{IsSome, not, ◌&&◌, ◌+◌, ltb, if◌then◌else◌}
-use Rattle.bx_base.specs.declared.names.Actor.{Actor}
 use Rattle.bx_base.specs.declared.names.Actor.TheVariants.{Node}
 use Rattle.bx_facts.proofs.Machines.{is_one}
 use Rattle.bx_facts.specs.Chains.{IsOwnersKind, session_of}
 use Rattle.bx_facts.specs.Holds as holds
-use Rattle.bx_facts.specs.Inputs.{IsOwners, SendsOnly}
 use Rattle.bx_facts.specs.Machines.{is_same}
 use Rattle.bx_facts.specs.declared.input.Input.{Input}
 use Rattle.bx_facts.specs.declared.input.Input.TheVariants.{Packet, Tick, Synced}
@@ -14,17 +12,14 @@ use Rattle.bx_global.specs.declared.change.Change.{Change}
 use Rattle.bx_global.specs.declared.change.Change.TheVariants as changes
 use Rattle.bx_global.specs.declared.state.GlobalState.{GlobalState}
 use Rattle.bx_post.specs.declared.packets.Letter.{Letter}
-use Rattle.bx_lock_words.specs.Words.{Spells}
 use Rattle.bx_lock_words.specs.declared.words.Word.{Word}
 use Rattle.bx_lock_words.specs.declared.words.Word.TheVariants.{Wants, Grants, Revokes, Releases, Renews, Leases}
 use Rattle.bx_clerk.specs.Clerks.{Clerking, learned}
 use Rattle.bx_clerk.specs.Events.{SaysOr, Takes, TakesIn, hear, tick_change}
 use Rattle.bx_clerk.specs.Requests.{hold_of, request_in, wish_of}
-use Rattle.bx_clerk.proofs.Sending as clerk_sends
 use Rattle.bx_master.specs.Events as master_events
 use Rattle.bx_master.specs.Masters.{Mastering, both, is_master}
 use Rattle.bx_master.specs.Steps as master_steps
-use Rattle.bx_master.proofs.Sending as master_sends
 use Rattle.bx_locks.specs.Events.{clerk_hands, input_for, master_hands}
 use Rattle.bx_locks.proofs.Clerks.{IsRevoke, Learns, Stays, hear_stays, learns, unchanged}
 
@@ -82,7 +77,7 @@ took_both IsRevoked own c between new learned stays = ⊎_elim
       lease = λ same. absurd (other.0 (sym stays.session ∙ same));
       requests = λ block. inl (
         ⊎_elim (λ gone. gone.0) (λ kept. kept ∙ ap (λ requests. wish_of (request_in requests block)) other.1) (stays.requests block),
-        inr (inl (λ same. other.0 (sym stays.session ∙ same)))
+        inr (inl (λ same. other.0 (sym stays.session ∙ same))),
       );
     })
     learned.requests

@@ -1,10 +1,10 @@
 -- What an event makes of all machines.
-use Rattle.std.proofs.Common.{◌≡◌, ◌≢◌, ◌⊎◌, inl, inr, ⊎_elim, ℕ, ◌++◌, List, Option, Some, None, IfSome, sym, ap, subst, ◌∙◌}
+use Rattle.std.proofs.Common.{◌≡◌, ◌≢◌, ◌⊎◌, inl, inr, ⊎_elim, ℕ, List, Option, None, IfSome, sym, ap, subst}
 use Rattle.std.specs.Prelude.{IsSome}
 use Rattle.std.proofs.lemmas.Bool.{cases_eq}
 use Rattle.bx_base.specs.declared.names.Actor.{Actor}
 use Rattle.bx_base.specs.declared.names.Actor.TheVariants.{Node, Replica, Server, Member}
-use Rattle.bx_facts.specs.Chains.{IsOwnersKind, session_of}
+use Rattle.bx_facts.specs.Chains.{IsOwnersKind}
 use Rattle.bx_facts.specs.Holds as holds
 use Rattle.bx_facts.specs.Inputs.{IsOwners, SendsOnly}
 use Rattle.bx_facts.specs.declared.input.Input.{Input}
@@ -15,7 +15,7 @@ use Rattle.bx_clerk.specs.Clerks.{Clerking, learned}
 use Rattle.bx_clerk.specs.Requests.{hold_of, request_in, wish_of}
 use Rattle.bx_clerk.proofs.Sending as clerk_sends
 use Rattle.bx_master.proofs.Sending as master_sends
-use Rattle.bx_locks.specs.Events.{TakesAt, clerk_hands, handed_at, input_for, master_hands}
+use Rattle.bx_locks.specs.Events.{TakesAt, handed_at, input_for}
 use Rattle.bx_locks.specs.Machines.{LockMachines, OnlyMachine, clerk_of, master_of}
 use Rattle.bx_locks.proofs.Taken.{clerk_handed, clerk_kind, master_handed, master_kind, revoke_for, took}
 

@@ -3,7 +3,9 @@
 
 mod calls;
 mod events;
+mod laws;
 mod locks;
 mod owners;
 
+pub use laws::made_for;
 pub use locks::Locks;

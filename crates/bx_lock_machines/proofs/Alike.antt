@@ -1,11 +1,11 @@
 -- Machines that are alike, each of them, fit alike.
-use Rattle.std.proofs.Common.{◌≡◌, ◌≢◌, inl, inr, ⊎_elim, ◌⊎◌, ℕ, ◌<◌, Bool, true, false, List, Option, Some, refl, sym, ◌∙◌, ap, subst}
+use Rattle.std.proofs.Common.{inl, inr, ⊎_elim, ℕ, sym, ◌∙◌, ap, subst}
 use Rattle.bx_base.specs.declared.names.Actor.TheVariants.{Node, Server}
 use Rattle.bx_facts.specs.Holds.{OwnersPast}
 use Rattle.bx_master.specs.Masters.{Mastering}
 use Rattle.bx_clerk.specs.Clerks.{Clerking}
 use Rattle.bx_lock_machines.specs.Keeps.{AreSame, FitsPast, Ghosts, Keeps}
-use Rattle.bx_lock_machines.specs.Machines.{FitsClerk, FitsMaster}
+use Rattle.bx_lock_steps.specs.Machines.{FitsClerk, FitsMaster}
 
 pub alike : (nodes : ℕ) (masters others : ℕ → Mastering) (clerks more : ℕ → Clerking) (past : OwnersPast) → AreSame masters others → AreSame clerks more → Keeps nodes masters clerks past → Keeps nodes others more past
 alike nodes masters others clerks more past masters_same clerks_same keeps = record {

@@ -1,20 +1,17 @@
 -- A clerk does something for its session: all fits again.
-use Rattle.std.proofs.Common.{◌≡◌, ◌≢◌, inl, inr, ⊎_elim, ◌⊎◌, ℕ, ◌+◌, ◌<◌, ◌≤◌, Bool, true, false, List, [], ◌∷◌, ◌++◌, Contains, max, Option, Some, None, refl, sym, ◌∙◌, ap, subst, arith, append-nil}
+use Rattle.std.proofs.Common.{◌≡◌, ◌≢◌, inl, inr, ⊎_elim, ℕ, ◌+◌, ◌<◌, Bool, true, false, List, [], ◌∷◌, ◌++◌, max, Option, Some, None, refl, sym, ◌∙◌, ap, subst, arith}
 use Rattle.std.specs.Prelude.{IsSome, ltb, if◌then◌else◌}
 use Rattle.std.specs.List.{AllByRecursion}
 use Rattle.std.proofs.lemmas.Bool.Decides.{eqb_tells, nat_tests}
-use Rattle.bx_base.specs.declared.names.Actor.{Actor}
 use Rattle.bx_base.specs.declared.names.Actor.TheVariants.{Node, Server as ServerOf}
 use Rattle.bx_base.specs.declared.names.Mode.{Mode}
 use Rattle.bx_global.specs.declared.state.GlobalState.{GlobalState}
 use Rattle.bx_global.specs.Table.{greatest}
 use Rattle.bx_rows.specs.Conditions.{Fits}
 use Rattle.bx_post.specs.declared.packets.Letter.{Letter}
-use Rattle.bx_facts.specs.Chains.{Chain, IsPlace, LivesIn, last}
+use Rattle.bx_facts.specs.Chains.{IsPlace, LivesIn, last}
 use Rattle.bx_facts.specs.Holds.{Hold, Holding, Holds, KeepsOthers, OwnersPast, given, given_floor, owners_with}
 use Rattle.bx_lock_words.specs.Words.{IsWord, letter_with}
-use Rattle.bx_lock_words.specs.declared.words.Release.{Release}
-use Rattle.bx_lock_words.specs.declared.words.Want.{Want}
 use Rattle.bx_lock_words.specs.declared.words.Word.{Word}
 use Rattle.bx_lock_words.specs.declared.words.Word.TheVariants.{Wants, Releases, Leases}
 use Rattle.bx_locking.specs.Leases.{IsPromised}
@@ -26,15 +23,15 @@ use Rattle.bx_clerk.specs.Clerks.{Clerking, asking, asking_words, giving_up, giv
 use Rattle.bx_clerk.specs.Requests.{hold_as, hold_of, request_in}
 use Rattle.bx_clerk.specs.declared.requests.Asking.{Asking}
 use Rattle.bx_lock_machines.specs.Keeps.{AreSame, FitsPast, Ghosts, Keeps, PutsOne}
-use Rattle.bx_lock_machines.specs.Machines.{FitsClerk, FitsMaster, request_from}
-use Rattle.bx_lock_machines.proofs.Accounts.{Tested, misses, passes, tested}
-use Rattle.bx_lock_machines.proofs.Chains.{one_session}
-use Rattle.bx_lock_machines.proofs.Clerks.{KeepsSides, others_fit}
-use Rattle.bx_lock_machines.proofs.Functions.{keeps_others, unheld}
+use Rattle.bx_lock_steps.specs.Machines.{FitsClerk, FitsMaster, request_from}
+use Rattle.bx_lock_steps.proofs.Accounts.{misses, passes, tested}
+use Rattle.bx_lock_steps.proofs.Chains.{one_session}
+use Rattle.bx_lock_steps.proofs.Clerks.{KeepsSides, others_fit}
+use Rattle.bx_lock_steps.proofs.Functions.{keeps_others, unheld}
 use Rattle.bx_lock_machines.proofs.Letters.{letters_after, letters_said}
-use Rattle.bx_lock_machines.proofs.Others.{master_hears, same_drawn}
-use Rattle.bx_lock_machines.proofs.Taking.{Given, gives_on, release_now, side_giving}
-use Rattle.bx_lock_machines.proofs.Wanting.{Ended, Wanted, asking_now, ending_now, ends_on, side_asking, side_ending, want_now, wants_on}
+use Rattle.bx_lock_steps.proofs.Others.{master_hears, same_drawn}
+use Rattle.bx_lock_steps.proofs.Taking.{Given, gives_on, release_now, side_giving}
+use Rattle.bx_lock_steps.proofs.Wanting.{Ended, Wanted, asking_now, ending_now, ends_on, side_asking, side_ending, want_now, wants_on}
 
 -- what the clerk of a session keeps, and the data that it changed
 pub record Outcome (p : OwnersPast) (g : Ghosts) (n s : ℕ) (c new : Clerking) (holding : Holds) (floor : ℕ → ℕ) (words : List Word) : Type 0 where
@@ -81,9 +78,9 @@ module _ (nodes : ℕ) (masters same_masters : ℕ → Mastering) (clerks others
         was = f.had_are.was;
         once = λ t m had. ⊎_elim
             (λ has. inl (⊎_elim
-                (λ is. ap (λ (k : ℕ). (others k).session) is.1 ∙ ap (λ (c : Clerking). c.session) puts.at ∙ o.session ∙ ap (λ (k : ℕ). (clerks k).session) (sym is.1) ∙ has)
-                (λ other. ap (λ (c : Clerking). c.session) (puts.others m other.1) ∙ has)
-                (eqb_tells m n)))
+            (λ is. ap (λ (k : ℕ). (others k).session) is.1 ∙ ap (λ (c : Clerking). c.session) puts.at ∙ o.session ∙ ap (λ (k : ℕ). (clerks k).session) (sym is.1) ∙ has)
+            (λ other. ap (λ (c : Clerking). c.session) (puts.others m other.1) ∙ has)
+            (eqb_tells m n)))
             (λ never. inr never)
             (f.had_are.once t m had);
         fresh = λ t none.
@@ -94,9 +91,9 @@ module _ (nodes : ℕ) (masters same_masters : ℕ → Mastering) (clerks others
       knew_most = f.knew_most;
       clerk = λ m. ⊎_elim
           (λ is. subst (λ (k : ℕ). FitsClerk past.told.chain (past.told.knew (Node k)) (past.told.boots (Node k)) o.side g.had g.promised k (others k)) (sym is.1)
-              (subst (λ (c : Clerking). FitsClerk past.told.chain (past.told.knew (Node n)) (past.told.boots (Node n)) o.side g.had g.promised n c) (sym puts.at) o.clerk))
+          (subst (λ (c : Clerking). FitsClerk past.told.chain (past.told.knew (Node n)) (past.told.boots (Node n)) o.side g.had g.promised n c) (sym puts.at) o.clerk))
           (λ other. subst (λ (c : Clerking). FitsClerk past.told.chain (past.told.knew (Node m)) (past.told.boots (Node m)) o.side g.had g.promised m c) (sym (puts.others m other.1))
-              (others_fit past.told.chain (past.told.knew (Node m)) (past.told.boots (Node m)) g.side o.side g.had g.promised m s (clerks m) o.sides (λ has. other.1 (one_clerk nodes masters clerks (owners_with past before) g n m s f own has)) (f.clerk m)))
+          (others_fit past.told.chain (past.told.knew (Node m)) (past.told.boots (Node m)) g.side o.side g.had g.promised m s (clerks m) o.sides (λ has. other.1 (one_clerk nodes masters clerks (owners_with past before) g n m s f own has)) (f.clerk m)))
           (eqb_tells m n);
       node = λ m inside. ⊎_elim
           (λ is. ap (λ (k : ℕ). (others k).node) is.1 ∙ ap (λ (c : Clerking). c.node) puts.at ∙ o.node ∙ ap (λ (k : ℕ). (clerks k).node) (sym is.1) ∙ f.node m inside)
@@ -206,12 +203,12 @@ module _ (nodes : ℕ) (masters same_masters : ℕ → Mastering) (clerks others
           (Wants (want_now (clerks n) s block mode) ∷ []) (wanted_outcome mode is)
           (subst (λ (c : Clerking). PutsOne n c clerks others) (ap (λ (b : Bool). if b then asking_now block mode (clerks n) else ending_now block (clerks n)) is) puts)
           (sends ∙ ap (λ (o : Option ℕ). before ++ letters_of (clerks n) (asking_words o block mode (clerks n))) own
-              ∙ ap (λ (b : Bool). before ++ letters_of (clerks n) (if b then Wants (want_now (clerks n) s block mode) ∷ [] else [])) is)
+          ∙ ap (λ (b : Bool). before ++ letters_of (clerks n) (if b then Wants (want_now (clerks n) s block mode) ∷ [] else [])) is)
       | misses is_not ↦ outcome_keeps nodes masters same_masters clerks others past before after n s keeps own masters_same (ending_now block (clerks n)) (unheld past.holding s block) past.floor (clerks n).node (clerks n).server
           [] ended_outcome
           (subst (λ (c : Clerking). PutsOne n c clerks others) (ap (λ (b : Bool). if b then asking_now block mode (clerks n) else ending_now block (clerks n)) is_not) puts)
           (sends ∙ ap (λ (o : Option ℕ). before ++ letters_of (clerks n) (asking_words o block mode (clerks n))) own
-              ∙ ap (λ (b : Bool). before ++ letters_of (clerks n) (if b then Wants (want_now (clerks n) s block mode) ∷ [] else [])) is_not)
+          ∙ ap (λ (b : Bool). before ++ letters_of (clerks n) (if b then Wants (want_now (clerks n) s block mode) ∷ [] else [])) is_not)
     ];
   }
 
@@ -269,9 +266,9 @@ module _ (nodes : ℕ) (masters same_masters : ℕ → Mastering) (clerks others
     stands = subst (λ (h : Option Hold). Keeps nodes same_masters others (record (owners_with (given past h block index) after) { holding = unheld past.holding s block }))
         (sym (ap hold_of there ∙ ap (hold_as r.mode) held))
         (outcome_keeps nodes masters same_masters clerks others past before after n s keeps own masters_same (giving_up block index (clerks n)) (unheld past.holding s block) (given_floor (Some (r.mode, i)) past.floor block index)
-            (clerks n).node (clerks n).server (Releases (release_now (clerks n) s block r.number index) ∷ []) (given_outcome r i there held) puts
-            (sends ∙ ap (λ (o : Option ℕ). before ++ letters_of (clerks n) (giving_words o block (request_in (clerks n).requests block) (max (clerks n).given index))) own
-                ∙ ap (λ (o : Option Asking). before ++ letters_of (clerks n) (giving_words (Some s) block o (max (clerks n).given index))) there));
+        (clerks n).node (clerks n).server (Releases (release_now (clerks n) s block r.number index) ∷ []) (given_outcome r i there held) puts
+        (sends ∙ ap (λ (o : Option ℕ). before ++ letters_of (clerks n) (giving_words o block (request_in (clerks n).requests block) (max (clerks n).given index))) own
+        ∙ ap (λ (o : Option Asking). before ++ letters_of (clerks n) (giving_words (Some s) block o (max (clerks n).given index))) there));
   }
 
   pub clerk_gives_up : IsSome (hold_of (request_in (clerks n).requests block)) → PutsOne n (giving_up block index (clerks n)) clerks others

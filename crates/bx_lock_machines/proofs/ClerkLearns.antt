@@ -1,19 +1,16 @@
 -- A clerk learns a state, and so its session: all fits again.
-use Rattle.std.proofs.Common.{◌≡◌, ◌≢◌, inl, inr, ⊎_elim, ◌⊎◌, ℕ, ◌<◌, ◌≤◌, Bool, true, false, List, [], ◌∷◌, max, Option, Some, None, refl, sym, ◌∙◌, ap, subst, arith}
+use Rattle.std.proofs.Common.{◌≡◌, ◌≢◌, inl, inr, ⊎_elim, ◌⊎◌, ℕ, ◌<◌, ◌≤◌, Bool, true, false, List, [], max, Option, Some, None, refl, sym, ◌∙◌, ap, subst, arith}
 use Rattle.std.specs.Prelude.{◌==◌, if◌then◌else◌}
 use Rattle.std.proofs.lemmas.Bool.Decides.{eqb_tells, leb_tells, nat_tests}
 use Rattle.bx_base.specs.declared.names.Actor.{Actor}
-use Rattle.bx_base.specs.declared.names.Actor.TheVariants.{Node, Server}
+use Rattle.bx_base.specs.declared.names.Actor.TheVariants.{Node}
 use Rattle.bx_global.specs.declared.change.Change.{Change}
 use Rattle.bx_global.specs.declared.state.GlobalState.{GlobalState}
 use Rattle.bx_rows.specs.Conditions.{Fits}
 use Rattle.bx_rows.specs.Words.{row_in}
-use Rattle.bx_post.specs.declared.packets.Letter.{Letter}
-use Rattle.bx_facts.specs.Chains.{Chain, HasOwnBoot, IsPlace, last, session_of, with_change}
-use Rattle.bx_facts.specs.Holds.{OwnersPast, owners_heard, owners_with}
-use Rattle.bx_facts.specs.Inputs.{greatest_with}
+use Rattle.bx_facts.specs.Chains.{Chain, HasOwnBoot, IsPlace, last, session_of}
+use Rattle.bx_facts.specs.Holds.{OwnersPast}
 use Rattle.bx_facts.specs.Machines.{is_same as is_machine, put_at}
-use Rattle.bx_facts.specs.declared.input.Input.{Input}
 use Rattle.bx_facts.proofs.Machines.{elsewhere, here, is_one}
 use Rattle.bx_locking.specs.Leases.{AreLeases, IsPromised}
 use Rattle.bx_locking.specs.Owned.{IsNewBoot}
@@ -22,13 +19,12 @@ use Rattle.bx_locking.proofs.Basics.{go, place_most}
 use Rattle.bx_locking.proofs.Owned.{session_row, was_own}
 use Rattle.bx_master.specs.Masters.{Mastering}
 use Rattle.bx_clerk.specs.Clerks.{Clerking, is_same, learned, until_in, until_of, with_session}
-use Rattle.bx_clerk.specs.Requests.{request_in}
 use Rattle.bx_clerk.specs.declared.requests.Asking.{Asking}
 use Rattle.bx_lock_machines.specs.Keeps.{FitsPast, Ghosts, Keeps, PutsOne, WasHad}
-use Rattle.bx_lock_machines.specs.Machines.{FitsClerk, FitsMaster, HasSession}
-use Rattle.bx_lock_machines.proofs.Accounts.{misses, passes, tested}
-use Rattle.bx_lock_machines.proofs.Chains.{first_among, new_boot, one_session, own_given, own_row, row_lives}
-use Rattle.bx_lock_machines.proofs.Functions.{one_at, one_not, one_of}
+use Rattle.bx_lock_steps.specs.Machines.{FitsClerk}
+use Rattle.bx_lock_steps.proofs.Accounts.{misses, passes, tested}
+use Rattle.bx_lock_steps.proofs.Chains.{first_among, new_boot, one_session, own_given, own_row, row_lives}
+use Rattle.bx_lock_steps.proofs.Functions.{one_at, one_not, one_of}
 
 -- ---- one session is another
 
@@ -148,7 +144,7 @@ module _ (nodes : ℕ) (masters : ℕ → Mastering) (clerks more : ℕ → Cler
     lease = λ s has.
         let here : session_of known n (p.told.boots (Node n)) ≡ Some s = sym same ∙ has in
         subst (λ (o : Option ℕ). IsPromised keeps.ghosts.promised s (max (clerks n).lease (until_of known o))) (sym here)
-            (greater s (clerks n).lease (until_of known (Some s)) (c.lease s has) (promised_end s here));
+        (greater s (clerks n).lease (until_of known (Some s)) (c.lease s has) (promised_end s here));
     blocks = c.blocks;
     drawn_fits = c.drawn_fits;
     given_fits = c.given_fits;
@@ -287,16 +283,16 @@ module _ (nodes : ℕ) (masters : ℕ → Mastering) (clerks more : ℕ → Cler
         was = was_then;
         once = λ s m had. ⊎_elim
             (λ same. subst (Once s) (sym same.1) (⊎_elim
-                (λ is. inl (ap (λ (c : Clerking). c.session) puts.at ∙ learned_session ∙ is))
-                (λ old. inr (λ q place order. never_again s old.0 old.1 q place (let e = here (Node n) known.index p.told.knew in omega (arith, order, e))))
-                (had_now (session_of known n (p.told.boots (Node n))) keeps.ghosts.had s had)))
+            (λ is. inl (ap (λ (c : Clerking). c.session) puts.at ∙ learned_session ∙ is))
+            (λ old. inr (λ q place order. never_again s old.0 old.1 q place (let e = here (Node n) known.index p.told.knew in omega (arith, order, e))))
+            (had_now (session_of known n (p.told.boots (Node n))) keeps.ghosts.had s had)))
             (λ other. ⊎_elim
-                (λ is. inr (λ q place order also. other.1 (one_session p.told.chain q known m n (p.told.boots (Node m)) (p.told.boots (Node n)) s keeps.fits.states.rising place handed.place also is).0))
-                (λ old. ⊎_elim
-                    (λ has. inl (ap (λ (c : Clerking). c.session) (puts.others m other.1) ∙ has))
-                    (λ never. inr (λ q place order. never q place (let e = elsewhere (Node n) (Node m) known.index p.told.knew (other_node m other.1) in omega (arith, order, e))))
-                    (keeps.fits.had_are.once s m old.0))
-                (had_now (session_of known n (p.told.boots (Node n))) keeps.ghosts.had s had))
+            (λ is. inr (λ q place order also. other.1 (one_session p.told.chain q known m n (p.told.boots (Node m)) (p.told.boots (Node n)) s keeps.fits.states.rising place handed.place also is).0))
+            (λ old. ⊎_elim
+            (λ has. inl (ap (λ (c : Clerking). c.session) (puts.others m other.1) ∙ has))
+            (λ never. inr (λ q place order. never q place (let e = elsewhere (Node n) (Node m) known.index p.told.knew (other_node m other.1) in omega (arith, order, e))))
+            (keeps.fits.had_are.once s m old.0))
+            (had_now (session_of known n (p.told.boots (Node n))) keeps.ghosts.had s had))
             (eqb_tells m n);
         fresh = λ s none. keeps.fits.had_are.fresh s (had_none (session_of known n (p.told.boots (Node n))) keeps.ghosts.had s none);
       };
@@ -307,11 +303,11 @@ module _ (nodes : ℕ) (masters : ℕ → Mastering) (clerks more : ℕ → Cler
       ];
       clerk = λ m. ⊎_elim
           (λ same. subst (λ (k : ℕ). Fit (knew_then (Node k)) (p.told.boots (Node k)) k (more k)) (sym same.1)
-              (subst (λ (i : ℕ). Fit i (p.told.boots (Node n)) n (more n)) (sym (here (Node n) known.index p.told.knew)) (subst (λ (c : Clerking). Fit known.index (p.told.boots (Node n)) n c) (sym puts.at) learned_fits)))
+          (subst (λ (i : ℕ). Fit i (p.told.boots (Node n)) n (more n)) (sym (here (Node n) known.index p.told.knew)) (subst (λ (c : Clerking). Fit known.index (p.told.boots (Node n)) n c) (sym puts.at) learned_fits)))
           (λ other. subst (λ (i : ℕ). Fit i (p.told.boots (Node m)) m (more m)) (sym (elsewhere (Node n) (Node m) known.index p.told.knew (other_node m other.1)))
-              (subst (λ (c : Clerking). Fit (p.told.knew (Node m)) (p.told.boots (Node m)) m c) (sym (puts.others m other.1))
-                  (clerk_had p.told.chain (p.told.knew (Node m)) (p.told.boots (Node m)) keeps.ghosts.side keeps.ghosts.had (had_with (session_of known n (p.told.boots (Node n))) keeps.ghosts.had) keeps.ghosts.promised m (clerks m)
-                      (had_on (session_of known n (p.told.boots (Node n))) keeps.ghosts.had) (keeps.fits.clerk m))))
+          (subst (λ (c : Clerking). Fit (p.told.knew (Node m)) (p.told.boots (Node m)) m c) (sym (puts.others m other.1))
+          (clerk_had p.told.chain (p.told.knew (Node m)) (p.told.boots (Node m)) keeps.ghosts.side keeps.ghosts.had (had_with (session_of known n (p.told.boots (Node n))) keeps.ghosts.had) keeps.ghosts.promised m (clerks m)
+          (had_on (session_of known n (p.told.boots (Node n))) keeps.ghosts.had) (keeps.fits.clerk m))))
           (eqb_tells m n);
       node = λ m there. ⊎_elim
           (λ same. ap (λ (k : ℕ). (more k).node) same.1 ∙ ap (λ (c : Clerking). c.node) puts.at ∙ learned_node ∙ ap (λ (k : ℕ). (clerks k).node) (sym same.1) ∙ keeps.fits.node m there)

@@ -1,28 +1,23 @@
 -- A clerk takes an input: all fits again.
-use Rattle.std.proofs.Common.{◌≡◌, ◌≢◌, inl, inr, ⊎_elim, ◌⊎◌, ℕ, ◌+◌, ◌<◌, ◌≤◌, Bool, true, false, List, [], ◌∷◌, ◌++◌, Contains, max, Option, Some, None, refl, sym, ◌∙◌, ap, subst, arith, append-nil, append_assoc}
-use Rattle.std.specs.Prelude.{MatchOption, filter_map, ltb, ◌==◌, ◌&&◌, not, if◌then◌else◌}
+use Rattle.std.proofs.Common.{◌≡◌, ◌≢◌, ⊎_elim, ℕ, ◌+◌, ◌<◌, ◌≤◌, Bool, true, false, List, [], ◌∷◌, ◌++◌, max, Option, Some, None, refl, sym, ◌∙◌, ap, subst, arith, append-nil}
+use Rattle.std.specs.Prelude.{ltb, ◌==◌, ◌&&◌, not, if◌then◌else◌}
 use Rattle.std.specs.List.{AllByRecursion, cons_option}
 use Rattle.std.proofs.lemmas.Bool.Decides.{eqb_tells, leb_tells, nat_tests}
-use Rattle.bx_base.specs.declared.names.Actor.{Actor}
-use Rattle.bx_base.specs.declared.names.Actor.TheVariants.{Node, Server as ServerOf}
-use Rattle.bx_base.specs.declared.names.Mode.{Mode}
+use Rattle.bx_base.specs.declared.names.Actor.TheVariants.{Node}
 use Rattle.bx_global.specs.declared.change.Change.{Change}
-use Rattle.bx_global.specs.declared.change.Change.TheVariants.{Open}
 use Rattle.bx_global.specs.declared.state.GlobalState.{GlobalState}
 use Rattle.bx_rows.specs.Conditions.{Fits}
 use Rattle.bx_post.specs.declared.packets.Letter.{Letter}
 use Rattle.bx_post.specs.Posts.{letter_of}
-use Rattle.bx_facts.specs.Chains.{Chain, IsPlace, LivesIn, last, oldest, with_change}
+use Rattle.bx_facts.specs.Chains.{LivesIn, last, oldest, with_change}
 use Rattle.bx_facts.specs.Holds.{Hold, Holding, Holds, KeepsHolds, OwnersPast, owners_heard, owners_with, without_block}
 use Rattle.bx_facts.specs.Inputs.{greatest_with}
-use Rattle.bx_facts.specs.Machines.{put_at}
 use Rattle.bx_facts.specs.Pasts.{MayTake}
 use Rattle.bx_facts.specs.declared.input.Input.{Input}
 use Rattle.bx_facts.specs.declared.input.Input.TheVariants.{Packet, Tick, Synced}
 use Rattle.bx_lock_words.specs.Sessions.{session_in}
 use Rattle.bx_lock_words.specs.Words.{IsWord, Spells}
 use Rattle.bx_lock_words.specs.declared.words.Grant.{Grant}
-use Rattle.bx_lock_words.specs.declared.words.Release.{Release}
 use Rattle.bx_lock_words.specs.declared.words.Revoke.{Revoke}
 use Rattle.bx_lock_words.specs.declared.words.Want.{Want}
 use Rattle.bx_lock_words.specs.declared.words.Word.{Word}
@@ -36,23 +31,23 @@ use Rattle.bx_locking.proofs.Leases as ends
 use Rattle.bx_locking.proofs.Leases.{reads_on}
 use Rattle.bx_master.specs.Masters.{Mastering}
 use Rattle.bx_clerk.specs.Clerks.{Clerking, Said, is_same, learned, letters_of}
-use Rattle.bx_clerk.specs.Events.{Hears, SaysOr, Takes, TakesIn, Ticks, answer_of, granted, hear, hear_own, hear_revoke, held_by, takes, tick_change, tick_words, want_again, want_as, wants_again}
-use Rattle.bx_clerk.specs.Requests.{Requests, fits, is_at, is_held, request_in, with_ask, with_request, without_request}
+use Rattle.bx_clerk.specs.Events.{Hears, SaysOr, Takes, answer_of, granted, hear, hear_own, hear_revoke, takes, tick_change, tick_words, want_as, wants_again}
+use Rattle.bx_clerk.specs.Requests.{Requests, fits, is_at, is_held, request_in, with_ask}
 use Rattle.bx_clerk.specs.declared.requests.Asking.{Asking}
 use Rattle.bx_lock_machines.specs.Keeps.{AreSame, FitsPast, Ghosts, Keeps, PutsOne}
-use Rattle.bx_lock_machines.specs.Machines.{FitsClerk, request_from}
-use Rattle.bx_lock_machines.proofs.Accounts.{misses, passes, tested}
+use Rattle.bx_lock_steps.specs.Machines.{FitsClerk, request_from}
+use Rattle.bx_lock_steps.proofs.Accounts.{misses, passes, tested}
 use Rattle.bx_lock_machines.proofs.Alike.{alike}
 use Rattle.bx_lock_machines.proofs.ClerkEvents.{Outcome, outcome_keeps, own_fits}
-use Rattle.bx_lock_machines.proofs.ClerkLearns.{IsHanded, clerk_learns}
-use Rattle.bx_lock_machines.proofs.Clerks.{KeepsSides}
-use Rattle.bx_lock_machines.proofs.Functions.{one_at, one_not, one_of, spot_puts}
-use Rattle.bx_lock_machines.proofs.Others.{same_drawn}
-use Rattle.bx_lock_machines.proofs.Proposing.{hands_open}
-use Rattle.bx_lock_machines.proofs.Releasing.{both_true, not_true}
-use Rattle.bx_lock_machines.proofs.Requests.{each_found}
-use Rattle.bx_lock_machines.proofs.Taking.{Dropped, Taken, answers_on, answer_now, asks_again, dropping, drops_on, holds_now, side_taking, takes_on, taking}
-use Rattle.bx_lock_machines.proofs.Wanting.{side_ending}
+use Rattle.bx_lock_machines.proofs.ClerkLearns.{clerk_learns}
+use Rattle.bx_lock_steps.proofs.Clerks.{KeepsSides}
+use Rattle.bx_lock_steps.proofs.Functions.{one_at, one_not, one_of, spot_puts}
+use Rattle.bx_lock_steps.proofs.Others.{same_drawn}
+use Rattle.bx_lock_steps.proofs.Proposing.{hands_open}
+use Rattle.bx_lock_steps.proofs.Releasing.{both_true, not_true}
+use Rattle.bx_lock_steps.proofs.Requests.{each_found}
+use Rattle.bx_lock_steps.proofs.Taking.{answers_on, answer_now, asks_again, dropping, drops_on, holds_now, side_taking, takes_on, taking}
+use Rattle.bx_lock_steps.proofs.Wanting.{side_ending}
 
 -- ---- tests of requests
 
@@ -158,13 +153,15 @@ module _ (nodes : ℕ) (masters : ℕ → Mastering) (clerks : ℕ → Clerking)
           let has_own : (clerks n).session ≡ Some gr.session = own ∙ ap (λ (k : ℕ). Some k) (sym same) in
           let t = takes_on p.told.chain p.holding p.floor g.said g.side g.term (p.told.knew (Node n)) (p.told.boots (Node n)) g.had g.promised n (clerks n) gr r.0 f.locks (f.clerk n) has_own has (subst (λ (k : ℕ). LivesIn (last p.told.chain) k) (sym same) alive) r.1 r.2 out in
           let not_held : p.holding gr.session gr.block ≡ None = f.locks.held.is gr.session gr.block ∙ ap hold_from ((f.clerk n).requests gr.session has_own gr.block ∙ ap request_from r.1)
-              ∙ ap (λ (h : Option ℕ). hold_from (Some (record { mode = r.0.mode; number = r.0.number; held = h }))) out in
+          ∙ ap (λ (h : Option ℕ). hold_from (Some (record { mode = r.0.mode; number = r.0.number; held = h }))) out in
           record {
             holding = holds_now p.holding (clerks n) gr;
-            may = record { each = λ u b h holds. ⊎_elim
-                (λ is_here. absurd (none_some h (sym not_held ∙ ap (λ (k : ℕ). p.holding k gr.block) (sym is_here.0) ∙ ap (λ (k : ℕ). p.holding u k) (sym is_here.1) ∙ holds)))
-                (λ other. (spot_puts gr.session gr.block (Some (gr.mode, max gr.index (clerks n).given)) p.holding).others u b other ∙ holds)
-                (same_or u gr.session b gr.block) };
+            may = record {
+              each = λ u b h holds. ⊎_elim
+                  (λ is_here. absurd (none_some h (sym not_held ∙ ap (λ (k : ℕ). p.holding k gr.block) (sym is_here.0) ∙ ap (λ (k : ℕ). p.holding u k) (sym is_here.1) ∙ holds)))
+                  (λ other. (spot_puts gr.session gr.block (Some (gr.mode, max gr.index (clerks n).given)) p.holding).others u b other ∙ holds)
+                  (same_or u gr.session b gr.block);
+            };
             outcome = record {
               said = g.said;
               side = side_taking g.side (clerks n) gr;
@@ -211,25 +208,25 @@ module _ (nodes : ℕ) (masters : ℕ → Mastering) (clerks : ℕ → Clerking)
   hears_revoke : (v : Revoke) → v.session ≡ s → IsSaid g.said (Revokes v) → Heard (hear_revoke v (clerks n)).0 (hear_revoke v (clerks n)).1
   hears_revoke v same has =
       let P : Bool → Bool → Type 0 = λ b h.
-          let r : Said = (if not b then (clerks n, answer_of (clerks n) v ∷ []) else if h then (record (clerks n) { asks = with_ask (v.block, v.asking) (clerks n).asks }, [])
-              else (dropping v.block (clerks n) (without_block v.block (clerks n).asks), answer_of (clerks n) v ∷ [])) in Heard r.0 r.1 in
+      let r : Said = (if not b then (clerks n, answer_of (clerks n) v ∷ []) else if h then (record (clerks n) { asks = with_ask (v.block, v.asking) (clerks n).asks }, [])
+      else (dropping v.block (clerks n) (without_block v.block (clerks n).asks), answer_of (clerks n) v ∷ [])) in Heard r.0 r.1 in
       let F : Bool = fits (request_in (clerks n).requests v.block) v.number in
       let H : Bool = is_held (request_in (clerks n).requests v.block) in
       let has_own : (clerks n).session ≡ Some v.session = own ∙ ap (λ (k : ℕ). Some k) (sym same) in
       elim (tested F) [
         | passes fitting ↦ subst (λ (b : Bool). P b H) (sym fitting) (elim (tested H) [
-            | passes held ↦ subst (P true) (sym held) (heard_same (record (clerks n) { asks = with_ask (v.block, v.asking) (clerks n).asks }) []
-                (unchanged (record (clerks n) { asks = with_ask (v.block, v.asking) (clerks n).asks }) (clerk_like (clerks n).lease (with_ask (v.block, v.asking) (clerks n).asks) ((f.clerk n).lease s own)) refl refl refl))
-            | misses out ↦ subst (P true) (sym out)
-                (let r = fits_so (request_in (clerks n).requests v.block) v.number fitting in
-                let d = drops_on p.told.chain p.holding p.floor g.said g.side g.term (p.told.knew (Node n)) (p.told.boots (Node n)) g.had g.promised n (clerks n) v (without_block v.block (clerks n).asks) r.0 f.locks (f.clerk n) has_own has r.1
-                    (out_so (request_in (clerks n).requests v.block) r.0 r.1 out) in
-                answered v (dropping v.block (clerks n) (without_block v.block (clerks n).asks)) (side_ending g.side v.session v.block) has d.locks d.clerk (subst (λ (k : ℕ). KeepsSides k g.side (side_ending g.side v.session v.block)) same d.keeps) refl refl refl refl)
-          ])
+          | passes held ↦ subst (P true) (sym held) (heard_same (record (clerks n) { asks = with_ask (v.block, v.asking) (clerks n).asks }) []
+              (unchanged (record (clerks n) { asks = with_ask (v.block, v.asking) (clerks n).asks }) (clerk_like (clerks n).lease (with_ask (v.block, v.asking) (clerks n).asks) ((f.clerk n).lease s own)) refl refl refl))
+          | misses out ↦ subst (P true) (sym out)
+              (let r = fits_so (request_in (clerks n).requests v.block) v.number fitting in
+              let d = drops_on p.told.chain p.holding p.floor g.said g.side g.term (p.told.knew (Node n)) (p.told.boots (Node n)) g.had g.promised n (clerks n) v (without_block v.block (clerks n).asks) r.0 f.locks (f.clerk n) has_own has r.1
+              (out_so (request_in (clerks n).requests v.block) r.0 r.1 out) in
+              answered v (dropping v.block (clerks n) (without_block v.block (clerks n).asks)) (side_ending g.side v.session v.block) has d.locks d.clerk (subst (λ (k : ℕ). KeepsSides k g.side (side_ending g.side v.session v.block)) same d.keeps) refl refl refl refl)
+        ])
         | misses not_fitting ↦ subst (λ (b : Bool). P b H) (sym not_fitting)
             (answered v (clerks n) g.side has
-                (answers_on p.told.chain p.holding p.floor g.said g.side g.term (p.told.knew (Node n)) (p.told.boots (Node n)) g.had g.promised n (clerks n) v f.locks (f.clerk n) has_own has (fits_not (request_in (clerks n).requests v.block) v.number not_fitting))
-                (f.clerk n) (record { requests = λ t b differ. refl; drawn = λ t differ. refl; given = λ t differ. refl }) refl refl refl refl)
+            (answers_on p.told.chain p.holding p.floor g.said g.side g.term (p.told.knew (Node n)) (p.told.boots (Node n)) g.had g.promised n (clerks n) v f.locks (f.clerk n) has_own has (fits_not (request_in (clerks n).requests v.block) v.number not_fitting))
+            (f.clerk n) (record { requests = λ t b differ. refl; drawn = λ t differ. refl; given = λ t differ. refl }) refl refl refl refl)
       ]
 
   -- a word of its session
@@ -241,7 +238,7 @@ module _ (nodes : ℕ) (masters : ℕ → Mastering) (clerks : ℕ → Clerking)
   hears_own reading (Renews t) steady same has = nothing_heard
   hears_own reading (Leases t u) steady same has = heard_same (record (clerks n) { lease = max (clerks n).lease u }) []
       (unchanged (record (clerks n) { lease = max (clerks n).lease u })
-          (clerk_like (max (clerks n).lease u) (clerks n).asks (greater (clerks n).lease u ((f.clerk n).lease s own) (subst (λ (k : ℕ). IsPromised g.promised k u) same (f.promises t u has)))) refl refl refl)
+      (clerk_like (max (clerks n).lease u) (clerks n).asks (greater (clerks n).lease u ((f.clerk n).lease s own) (subst (λ (k : ℕ). IsPromised g.promised k u) same (f.promises t u has)))) refl refl refl)
 
   -- ---- it ticks
 
@@ -284,14 +281,14 @@ module _ (nodes : ℕ) (masters : ℕ → Mastering) (clerks : ℕ → Clerking)
       by_index : Again (wants_again s rest) → (o : Option ℕ) → entry.1.held ≡ o → Again (wants_again s (entry ∷ rest))
       by_index a None out = subst (λ (i : Option ℕ). Again (cons_option (want_as s entry.0 entry.1.mode entry.1.number i) (wants_again s rest))) (sym out)
           (more_said (wants_again s rest) (Wants w) a (asks_again p.told.chain p.holding p.floor a.said g.side g.term w (record { mode = entry.1.mode; number = entry.1.number; held = entry.1.held }) a.locks asked refl)
-              (own_fits nodes masters clerks p g n s f own, (f.clerk n).blocks entry.0 entry.1 all.0, number_fits) (λ t e is. cc))
+          (own_fits nodes masters clerks p g n s f own, (f.clerk n).blocks entry.0 entry.1 all.0, number_fits) (λ t e is. cc))
       by_index a (Some i) held = subst (λ (j : Option ℕ). Again (cons_option (want_as s entry.0 entry.1.mode entry.1.number j) (wants_again s rest))) (sym held) a
 
   ticks : Outcome p g n s (clerks n) (clerks n) p.holding p.floor (tick_words (Some s) (clerks n).requests)
   ticks =
       let a = wants_on_again (clerks n).requests (each_found (clerks n).requests (f.clerk n).unique) in
       let b = more_said (wants_again s (clerks n).requests) (Renews s) a (says_little p.told.chain p.holding p.floor a.said g.side g.term (Renews s) a.locks (renews_say_little (oldest p.told.chain) g.side.drawn s))
-          (own_fits nodes masters clerks p g n s f own) (λ t e is. cc) in
+      (own_fits nodes masters clerks p g n s f own) (λ t e is. cc) in
       record {
         said = b.said;
         side = g.side;
@@ -322,7 +319,7 @@ module _ (nodes : ℕ) (masters same_masters : ℕ → Mastering) (clerks others
     may = record { each = λ t b h holds. holds };
     stands = subst (λ (ls : List Letter). Keeps nodes same_masters others (owners_with past ls)) (sym (append-nil before) ∙ sym sends)
         (alike nodes masters same_masters clerks others (owners_with past before) masters_same
-            (record { each = λ m. ⊎_elim (λ is. ap others is.1 ∙ puts.at ∙ same ∙ ap clerks (sym is.1)) (λ other. puts.others m other.1) (eqb_tells m n) }) keeps);
+        (record { each = λ m. ⊎_elim (λ is. ap others is.1 ∙ puts.at ∙ same ∙ ap clerks (sym is.1)) (λ other. puts.others m other.1) (eqb_tells m n) }) keeps);
   }
 
   heard_fits : (s : ℕ) (own : (clerks n).session ≡ Some s) (words : List Word) → Heard nodes masters clerks (owners_with past before) keeps.ghosts keeps.fits n s own new words → after ≡ before ++ letters_of (clerks n) words → Fitting
@@ -342,9 +339,9 @@ module _ (nodes : ℕ) (masters same_masters : ℕ → Mastering) (clerks others
             let own = is_own (clerks n).session (session_in word) own_too in
             let eq : hear reading (Some word) (clerks n) ≡ hear_own reading word (clerks n) = ap (λ (b : Bool). if b then hear_own reading word (clerks n) else (clerks n, [])) own_too in
             heard_fits (session_in word) own (hear_own reading word (clerks n)).1
-                (subst (λ (c : Clerking). Heard nodes masters clerks (owners_with past before) keeps.ghosts keeps.fits n (session_in word) own c (hear_own reading word (clerks n)).1) (sym (is ∙ ap (λ (x : Said). x.0) eq))
-                    (hears_own nodes masters clerks (owners_with past before) keeps.ghosts keeps.fits n (session_in word) own reading word steady refl (each word says)))
-                (sends ∙ ap (λ (x : Said). before ++ letters_of (clerks n) x.1) eq)
+            (subst (λ (c : Clerking). Heard nodes masters clerks (owners_with past before) keeps.ghosts keeps.fits n (session_in word) own c (hear_own reading word (clerks n)).1) (sym (is ∙ ap (λ (x : Said). x.0) eq))
+            (hears_own nodes masters clerks (owners_with past before) keeps.ghosts keeps.fits n (session_in word) own reading word steady refl (each word says)))
+            (sends ∙ ap (λ (x : Said). before ++ letters_of (clerks n) x.1) eq)
         | misses not_own ↦
             let eq : hear reading (Some word) (clerks n) ≡ (clerks n, []) = ap (λ (b : Bool). if b then hear_own reading word (clerks n) else (clerks n, [])) not_own in
             idle (is ∙ ap (λ (x : Said). x.0) eq) (sends ∙ ap (λ (x : Said). before ++ letters_of (clerks n) x.1) eq)
@@ -357,8 +354,8 @@ module _ (nodes : ℕ) (masters same_masters : ℕ → Mastering) (clerks others
       by_session None none = idle is (sends ∙ ap (λ (o : Option ℕ). before ++ letters_of (clerks n) (tick_words o (clerks n).requests)) none)
       by_session (Some s) own = heard_fits s own (tick_words (Some s) (clerks n).requests)
           (subst (λ (c : Clerking). Heard nodes masters clerks (owners_with past before) keeps.ghosts keeps.fits n s own c (tick_words (Some s) (clerks n).requests)) (sym is)
-              (heard_same nodes masters clerks (owners_with past before) keeps.ghosts keeps.fits n s own (clerks n) (tick_words (Some s) (clerks n).requests)
-                  (ticks nodes masters clerks (owners_with past before) keeps.ghosts keeps.fits n s own)))
+          (heard_same nodes masters clerks (owners_with past before) keeps.ghosts keeps.fits n s own (clerks n) (tick_words (Some s) (clerks n).requests)
+          (ticks nodes masters clerks (owners_with past before) keeps.ghosts keeps.fits n s own)))
           (sends ∙ ap (λ (o : Option ℕ). before ++ letters_of (clerks n) (tick_words o (clerks n).requests)) own)
 
 -- what it hands back
@@ -387,7 +384,7 @@ module _ (nodes : ℕ) (masters same_masters : ℕ → Mastering) (clerks others
       → Keeps nodes masters knowing (owners_with (owners_heard past (Node n) known.index input change) before)
   knows_it input change may leases =
       clerk_learns nodes masters clerks knowing (owners_with past before) n known keeps inside (record { up = may.up; place = may.place; rises = may.rises; own_boot = may.own_boot }) (greatest_with past.told.greatest input)
-          (with_change change past.told.handed) leases puts_knowing
+      (with_change change past.told.handed) leases puts_knowing
 
   leases_read : (greatest : ℕ) → past.told.greatest ≤ greatest → AreLeases past.told.chain greatest past.told.handed keeps.ghosts.promised keeps.ghosts.noted keeps.ghosts.ends keeps.ghosts.term.expiring
   leases_read greatest greater = reads_on past.told.chain past.told.greatest greatest past.told.handed keeps.ghosts.promised keeps.ghosts.noted keeps.ghosts.ends keeps.ghosts.term.expiring keeps.fits.leases_are greater
@@ -396,19 +393,19 @@ module _ (nodes : ℕ) (masters same_masters : ℕ → Mastering) (clerks others
       → Holding (KeepsHolds past.holding) (Keeps nodes same_masters others) (owners_with (owners_heard past (Node n) known.index input change) after)
   clerk_takes (Packet packet reading) change may took =
       let k = knows_it (Packet packet reading) change may
-          (subst (λ (c : Option Change). AreLeases past.told.chain (max past.told.greatest reading) (with_change c past.told.handed) keeps.ghosts.promised keeps.ghosts.noted keeps.ghosts.ends keeps.ghosts.term.expiring) (sym took.1)
-              (leases_read (max past.told.greatest reading) (omega arith))) in
+      (subst (λ (c : Option Change). AreLeases past.told.chain (max past.told.greatest reading) (with_change c past.told.handed) keeps.ghosts.promised keeps.ghosts.noted keeps.ghosts.ends keeps.ghosts.term.expiring) (sym took.1)
+      (leases_read (max past.told.greatest reading) (omega arith))) in
       hears_in nodes masters same_masters knowing others (owners_heard past (Node n) known.index (Packet packet reading) change) before after n k masters_same new puts_new packet.now.kind reading packet.now.body
-          (let s = may.steady in omega (arith, s)) (λ word spells. k.fits.letters (letter_of packet.now) word may.comes spells)
-          (subst (λ (c : Clerking). Hears c packet.now.kind reading packet.now.body new before after) (sym knows_here) took.0)
+      (let s = may.steady in omega (arith, s)) (λ word spells. k.fits.letters (letter_of packet.now) word may.comes spells)
+      (subst (λ (c : Clerking). Hears c packet.now.kind reading packet.now.body new before after) (sym knows_here) took.0)
   clerk_takes (Tick reading) change may took =
       let k = knows_it (Tick reading) change may
-          (subst (λ (c : Option Change). AreLeases past.told.chain (max past.told.greatest reading) (with_change c past.told.handed) keeps.ghosts.promised keeps.ghosts.noted keeps.ghosts.ends keeps.ghosts.term.expiring) (sym took.asks)
-              (hands_change (owners_with past before) keeps.ghosts (max past.told.greatest reading) (learned known (clerks n)).session (learned known (clerks n)) reading (leases_read (max past.told.greatest reading) (omega arith)))) in
+      (subst (λ (c : Option Change). AreLeases past.told.chain (max past.told.greatest reading) (with_change c past.told.handed) keeps.ghosts.promised keeps.ghosts.noted keeps.ghosts.ends keeps.ghosts.term.expiring) (sym took.asks)
+      (hands_change (owners_with past before) keeps.ghosts (max past.told.greatest reading) (learned known (clerks n)).session (learned known (clerks n)) reading (leases_read (max past.told.greatest reading) (omega arith)))) in
       ticks_in nodes masters same_masters knowing others (owners_heard past (Node n) known.index (Tick reading) change) before after n k masters_same new puts_new (took.is ∙ sym knows_here)
-          (took.sends ∙ ap (λ (c : Clerking). before ++ letters_of c (tick_words c.session c.requests)) (sym knows_here))
+      (took.sends ∙ ap (λ (c : Clerking). before ++ letters_of c (tick_words c.session c.requests)) (sym knows_here))
   clerk_takes Synced change may took =
       let k = knows_it Synced change may
-          (subst (λ (c : Option Change). AreLeases past.told.chain past.told.greatest (with_change c past.told.handed) keeps.ghosts.promised keeps.ghosts.noted keeps.ghosts.ends keeps.ghosts.term.expiring) (sym took.1)
-              (leases_read past.told.greatest (omega arith))) in
+      (subst (λ (c : Option Change). AreLeases past.told.chain past.told.greatest (with_change c past.told.handed) keeps.ghosts.promised keeps.ghosts.noted keeps.ghosts.ends keeps.ghosts.term.expiring) (sym took.1)
+      (leases_read past.told.greatest (omega arith))) in
       idle nodes masters same_masters knowing others (owners_heard past (Node n) known.index Synced change) before after n k masters_same new puts_new (took.0 ∙ sym knows_here) (took.2 ∙ sym (append-nil before))

@@ -1,25 +1,19 @@
 -- The chain grows by a change: all fits again.
-use Rattle.std.proofs.Common.{◌≡◌, ◌≢◌, inl, inr, ⊎_elim, ◌⊎◌, ℕ, ◌+◌, ◌<◌, ◌≤◌, Bool, true, false, List, [], ◌∷◌, Contains, max, Option, Some, None, refl, sym, ◌∙◌, ap, subst, arith}
-use Rattle.std.proofs.lemmas.Bool.Decides.{eqb_tells}
-use Rattle.bx_base.specs.declared.names.Actor.{Actor}
+use Rattle.std.proofs.Common.{◌≡◌, ◌≢◌, inl, inr, ⊎_elim, ℕ, ◌<◌, Bool, true, List, ◌∷◌, Contains, Some, refl, sym, ap, subst, arith}
 use Rattle.bx_base.specs.declared.names.Actor.TheVariants.{Node, Server}
 use Rattle.bx_global.specs.declared.change.Change.{Change}
 use Rattle.bx_global.specs.declared.change.Change.TheVariants.{Renew, Take, Open, Expire, Claim, Close, Shift}
 use Rattle.bx_global.specs.declared.state.GlobalState.{GlobalState}
 use Rattle.bx_global.specs.Allowed.{AreRising, Fits}
 use Rattle.bx_global.specs.Table.{IsLegal, effect, opened}
-use Rattle.bx_global.proofs.Rising.{index_rises, next_rises}
-use Rattle.bx_rows.specs.declared.session.SessionRow.{SessionRow}
-use Rattle.bx_facts.specs.Chains.{Chain, HasOwnBoot, IsOwnersOwn, IsPlace, LivesIn, grown, last, oldest, session_of}
-use Rattle.bx_facts.specs.Holds.{Holds, OwnersPast, floor_after, owners_grown}
-use Rattle.bx_lock_words.specs.declared.words.Word.{Word}
-use Rattle.bx_lock_words.specs.declared.words.Word.TheVariants.{Leases}
+use Rattle.bx_global.proofs.Rising.{index_rises}
+use Rattle.bx_facts.specs.Chains.{Chain, HasOwnBoot, IsOwnersOwn, IsPlace, LivesIn, grown, last, session_of}
+use Rattle.bx_facts.specs.Holds.{OwnersPast, floor_after, owners_grown}
 use Rattle.bx_locking.specs.Leases.{AreLeases, IsPromised}
 use Rattle.bx_locking.specs.Owned.{AreSingle}
-use Rattle.bx_locking.specs.Tables.{AreLocks, Side, Term}
+use Rattle.bx_locking.specs.Tables.{AreLocks, Term}
 use Rattle.bx_locking.specs.Terms.{IsNoTake}
-use Rattle.bx_locking.specs.Words.{IsSaid}
-use Rattle.bx_locking.proofs.Basics.{last_place, place_most}
+use Rattle.bx_locking.proofs.Basics.{last_place}
 use Rattle.bx_locking.proofs.Beginning.{begins_term, new_term}
 use Rattle.bx_locking.proofs.Growing.{grows_on}
 use Rattle.bx_locking.proofs.Leases.{OpensNone, leases_end, leases_grow, leases_open, still_promised}
@@ -27,13 +21,13 @@ use Rattle.bx_locking.proofs.Owned.{single_grows, was_own}
 use Rattle.bx_locking.proofs.Terms.{next_most}
 use Rattle.bx_master.specs.Masters.{Mastering}
 use Rattle.bx_clerk.specs.Clerks.{Clerking}
-use Rattle.bx_lock_machines.specs.Keeps.{AreStates, FitsPast, Ghosts, Keeps}
-use Rattle.bx_lock_machines.specs.Machines.{FitsClerk, FitsMaster, IsUntied}
-use Rattle.bx_lock_machines.proofs.Chains.{first_among, new_boot, one_session, own_given, rising_grows}
-use Rattle.bx_lock_machines.proofs.Floors.{grows_floor}
-use Rattle.bx_lock_machines.proofs.Functions.{one_at, one_not, one_of}
-use Rattle.bx_lock_machines.proofs.Growth.{clerk_grows, master_begins, master_grows, same_master, untied_begins, untied_grows}
-use Rattle.bx_lock_machines.proofs.Others.{clerk_promised}
+use Rattle.bx_lock_machines.specs.Keeps.{Keeps}
+use Rattle.bx_lock_steps.specs.Machines.{AreStates, FitsMaster, IsUntied}
+use Rattle.bx_lock_steps.proofs.Chains.{first_among, new_boot, one_session, own_given, rising_grows}
+use Rattle.bx_lock_steps.proofs.Floors.{grows_floor}
+use Rattle.bx_lock_steps.proofs.Functions.{one_at, one_not, one_of}
+use Rattle.bx_lock_steps.proofs.Growth.{clerk_grows, master_begins, master_grows, same_master, untied_begins, untied_grows}
+use Rattle.bx_lock_steps.proofs.Others.{clerk_promised}
 
 -- ---- the states
 
@@ -68,7 +62,7 @@ states_grow chain change greatest handed promised noted ends more expiring legal
       place;
   ends_most = λ p s place alive. ⊎_elim
       (λ newest. let here = subst (λ (x : GlobalState). LivesIn x s) newest alive in
-          let m = leases.most s (more s) (leases.ended p place s alive) here in let e = ap (λ (x : GlobalState). x.term_end) newest in omega (arith, m, e))
+      let m = leases.most s (more s) (leases.ended p place s alive) here in let e = ap (λ (x : GlobalState). x.term_end) newest in omega (arith, m, e))
       (λ old. let m = states.ends_most p s old alive in let e = same p s old alive in omega (arith, m, e))
       place;
   index_fits = let i = index_rises (last chain) change in let l = legal.index in omega (arith, i, l);
@@ -87,9 +81,9 @@ module _ (nodes : ℕ) (masters : ℕ → Mastering) (clerks : ℕ → Clerking)
       let i = index_rises (last past.told.chain) change in
       let own_boot : HasOwnBoot past.told.chain (past.told.boots (Node n)) = subst (HasOwnBoot past.told.chain) (sym one.1) w.own_boot in
       differs (was_own (grown past.told.chain change) (last past.told.chain) (effect (last past.told.chain) change) n (past.told.boots (Node n)) s (inr (last_place past.told.chain)) (inl refl) (omega (arith, i))
-          (keeps.fits.states.single (last past.told.chain) (last_place past.told.chain))
-          (new_boot past.told.chain (past.told.boots (Node n)) (last past.told.chain) keeps.fits.locks.chained.found (keeps.fits.states.rising past.told.chain.first (first_among past.told.chain.first past.told.chain.changes)) own_boot (last_place past.told.chain))
-          (omega (arith, given, next)) own)
+      (keeps.fits.states.single (last past.told.chain) (last_place past.told.chain))
+      (new_boot past.told.chain (past.told.boots (Node n)) (last past.told.chain) keeps.fits.locks.chained.found (keeps.fits.states.rising past.told.chain.first (first_among past.told.chain.first past.told.chain.changes)) own_boot (last_place past.told.chain))
+      (omega (arith, given, next)) own)
     where
       rising : (p : GlobalState) → IsPlace (grown past.told.chain change) p → AreRising p.sessions p.next_session
       rising p place = ⊎_elim
@@ -102,7 +96,7 @@ module _ (nodes : ℕ) (masters : ℕ → Mastering) (clerks : ℕ → Clerking)
       → AreLeases (grown past.told.chain change) past.told.greatest past.told.handed promised noted ends term.expiring → ((s e : ℕ) → IsPromised keeps.ghosts.promised s e → IsPromised promised s e)
       → ((p : GlobalState) (s : ℕ) → IsPlace past.told.chain p → LivesIn p s → ends s ≡ keeps.ghosts.ends s)
       → ((id : ℕ) (m : Mastering) → FitsMaster past.told.chain (past.told.knew (Server id)) (past.told.boots (Server id)) keeps.ghosts.said keeps.ghosts.side.drawn keeps.ghosts.term keeps.ghosts.noted id m
-          → FitsMaster (grown past.told.chain change) (past.told.knew (Server id)) (past.told.boots (Server id)) keeps.ghosts.said keeps.ghosts.side.drawn term noted id m)
+      → FitsMaster (grown past.told.chain change) (past.told.knew (Server id)) (past.told.boots (Server id)) keeps.ghosts.said keeps.ghosts.side.drawn term noted id m)
       → (past.told.boots (Server (last (grown past.told.chain change)).master) < (last (grown past.told.chain change)).master_boot → IsUntied (grown past.told.chain change) term noted)
       → Keeps nodes masters clerks (owners_grown past change)
   fits_then term promised noted ends locks leases more same masters_grow before = record {
@@ -123,9 +117,9 @@ module _ (nodes : ℕ) (masters : ℕ → Mastering) (clerks : ℕ → Clerking)
         once = λ s n had. ⊎_elim
             (λ own. inl own)
             (λ never. inr (λ p place order. ⊎_elim
-                (λ newest own. never_now s n had (never (last past.told.chain) (last_place past.told.chain) (keeps.fits.knew_most (Node n))) (subst (λ (x : GlobalState). session_of x n (past.told.boots (Node n)) ≡ Some s) newest own))
-                (λ old. never p old order)
-                place))
+            (λ newest own. never_now s n had (never (last past.told.chain) (last_place past.told.chain) (keeps.fits.knew_most (Node n))) (subst (λ (x : GlobalState). session_of x n (past.told.boots (Node n)) ≡ Some s) newest own))
+            (λ old. never p old order)
+            place))
             (keeps.fits.had_are.once s n had);
         fresh = keeps.fits.had_are.fresh;
       };
@@ -149,9 +143,9 @@ module _ (nodes : ℕ) (masters : ℕ → Mastering) (clerks : ℕ → Clerking)
   calm_locks : IsNoTake change → ((n t reading : ℕ) → change ≡ Expire n t reading → Contains past.told.handed change) → AreLocks (grown past.told.chain change) past.holding (floor_after past change) keeps.ghosts.said keeps.ghosts.side keeps.ghosts.term
   calm_locks calm own = grows_on past.told.chain past.holding past.floor (floor_after past change) keeps.ghosts.said keeps.ghosts.side keeps.ghosts.term change keeps.fits.locks calm legal (grows_floor past change)
       (λ n t reading is.
-          let has = subst (λ (c : Change). Contains past.told.handed c) is (own n t reading is) in
-          let at : IsLegal (last past.told.chain) (Expire n t reading) = subst (λ (c : Change). IsLegal (last past.told.chain) c) is legal in
-          ((keeps.fits.leases_are.expires n t reading has).2 at.row.0).marked)
+      let has = subst (λ (c : Change). Contains past.told.handed c) is (own n t reading is) in
+      let at : IsLegal (last past.told.chain) (Expire n t reading) = subst (λ (c : Change). IsLegal (last past.told.chain) c) is legal in
+      ((keeps.fits.leases_are.expires n t reading has).2 at.row.0).marked)
 
   calm_before : IsNoTake change → past.told.boots (Server (last (grown past.told.chain change)).master) < (last (grown past.told.chain change)).master_boot → IsUntied (grown past.told.chain change) keeps.ghosts.term keeps.ghosts.noted
   calm_before calm ahead =
@@ -172,14 +166,14 @@ open_grows : (nodes : ℕ) (masters : ℕ → Mastering) (clerks : ℕ → Clerk
     → Keeps nodes masters clerks (owners_grown past (Open node boot reading))
 open_grows nodes masters clerks past node boot reading keeps legal =
     fits_then nodes masters clerks past (Open node boot reading) keeps legal keeps.ghosts.term (((last past.told.chain).next_session, until) ∷ keeps.ghosts.promised) keeps.ghosts.noted ends
-        (calm_locks nodes masters clerks past (Open node boot reading) keeps legal tt (λ n t r is. absurd cc))
-        (leases_open past.told.chain past.told.greatest past.told.handed keeps.ghosts.promised keeps.ghosts.noted keeps.ghosts.ends ends keeps.ghosts.term.expiring node boot reading keeps.fits.locks.chained keeps.fits.leases_are legal
-            (one_at (last past.told.chain).next_session until keeps.ghosts.ends) (λ t differ. one_not (last past.told.chain).next_session until keeps.ghosts.ends t differ))
-        (λ s e has. still_promised keeps.ghosts.promised ((last past.told.chain).next_session, until) s e has)
-        (λ p s place alive. one_not (last past.told.chain).next_session until keeps.ghosts.ends s
-            (λ same. let k = keeps.fits.leases_are.known s (keeps.ghosts.ends s) (keeps.fits.leases_are.ended p place s alive) in omega (arith, k, same)))
-        (calm_master nodes masters clerks past (Open node boot reading) keeps legal tt)
-        (calm_before nodes masters clerks past (Open node boot reading) keeps legal tt)
+    (calm_locks nodes masters clerks past (Open node boot reading) keeps legal tt (λ n t r is. absurd cc))
+    (leases_open past.told.chain past.told.greatest past.told.handed keeps.ghosts.promised keeps.ghosts.noted keeps.ghosts.ends ends keeps.ghosts.term.expiring node boot reading keeps.fits.locks.chained keeps.fits.leases_are legal
+    (one_at (last past.told.chain).next_session until keeps.ghosts.ends) (λ t differ. one_not (last past.told.chain).next_session until keeps.ghosts.ends t differ))
+    (λ s e has. still_promised keeps.ghosts.promised ((last past.told.chain).next_session, until) s e has)
+    (λ p s place alive. one_not (last past.told.chain).next_session until keeps.ghosts.ends s
+    (λ same. let k = keeps.fits.leases_are.known s (keeps.ghosts.ends s) (keeps.fits.leases_are.ended p place s alive) in omega (arith, k, same)))
+    (calm_master nodes masters clerks past (Open node boot reading) keeps legal tt)
+    (calm_before nodes masters clerks past (Open node boot reading) keeps legal tt)
   where
     until : ℕ
     until = (opened (last past.told.chain) node boot reading).until
@@ -191,11 +185,11 @@ take_grows : (nodes : ℕ) (masters : ℕ → Mastering) (clerks : ℕ → Clerk
     → Keeps nodes masters clerks (owners_grown past (Take by boot reading))
 take_grows nodes masters clerks past by boot reading keeps legal own =
     fits_then nodes masters clerks past (Take by boot reading) keeps legal (new_term (last (grown past.told.chain (Take by boot reading)))) keeps.ghosts.promised (λ session. 0) keeps.ghosts.ends
-        (begins_term past.told.chain past.holding past.floor keeps.ghosts.said keeps.ghosts.side keeps.ghosts.term by boot reading keeps.fits.locks)
-        (leases_end past.told.chain past.told.greatest past.told.handed keeps.ghosts.promised keeps.ghosts.noted keeps.ghosts.ends keeps.ghosts.term.expiring by boot reading keeps.fits.locks.chained keeps.fits.leases_are legal own)
-        (λ s e has. has) (λ p s place alive. refl)
-        (λ id m is. master_begins past.told.chain by boot reading (past.told.knew (Server id)) (past.told.boots (Server id)) keeps.ghosts.said keeps.ghosts.side.drawn keeps.ghosts.term keeps.ghosts.noted id m is)
-        (λ ahead. untied_begins past.told.chain by boot reading)
+    (begins_term past.told.chain past.holding past.floor keeps.ghosts.said keeps.ghosts.side keeps.ghosts.term by boot reading keeps.fits.locks)
+    (leases_end past.told.chain past.told.greatest past.told.handed keeps.ghosts.promised keeps.ghosts.noted keeps.ghosts.ends keeps.ghosts.term.expiring by boot reading keeps.fits.locks.chained keeps.fits.leases_are legal own)
+    (λ s e has. has) (λ p s place alive. refl)
+    (λ id m is. master_begins past.told.chain by boot reading (past.told.knew (Server id)) (past.told.boots (Server id)) keeps.ghosts.said keeps.ghosts.side.drawn keeps.ghosts.term keeps.ghosts.noted id m is)
+    (λ ahead. untied_begins past.told.chain by boot reading)
 
 -- The chain may grow by each change that is legal, and that was handed back where owners ask for such.
 pub grows : (nodes : ℕ) (masters : ℕ → Mastering) (clerks : ℕ → Clerking) (past : OwnersPast) (change : Change) → Keeps nodes masters clerks past → IsLegal (last past.told.chain) change → IsOwnersOwn past.told.handed change → Keeps nodes masters clerks (owners_grown past change)

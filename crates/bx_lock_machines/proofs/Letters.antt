@@ -1,5 +1,5 @@
 -- Letters under way say what was said.
-use Rattle.std.proofs.Common.{◌≡◌, ◌⊎◌, inl, inr, ⊎_elim, ℕ, List, [], ◌∷◌, ◌++◌, map, Contains, refl, sym, ◌∙◌, ap, subst, append_assoc}
+use Rattle.std.proofs.Common.{◌≡◌, ⊎_elim, List, [], ◌∷◌, ◌++◌, map, Contains, sym, ◌∙◌, ap, subst, append_assoc}
 use Rattle.std.specs.List.{AllByRecursion}
 use Rattle.std.proofs.lemmas.List.Elements.{Contains-append_cases}
 use Rattle.bx_post.specs.declared.packets.Letter.{Letter}
@@ -19,8 +19,8 @@ pub letters_said : (said : List Word) (f : Word → Letter) → ((w : Word) → 
 letters_said said f kinds bodies fit [] all letter word has spells = absurd (nothing letter has)
 letters_said said f kinds bodies fit (w ∷ words) all letter word has spells = ⊎_elim
     (λ newest.
-        let own : Spells w letter.kind letter.body = subst (λ (l : Letter). Spells w l.kind l.body) newest (record { is = fit w all.0; kind_is = kinds w; body_is = bodies w }) in
-        subst (λ (x : Word). IsSaid said x) (one_word w word letter.kind letter.body own spells) all.0)
+    let own : Spells w letter.kind letter.body = subst (λ (l : Letter). Spells w l.kind l.body) newest (record { is = fit w all.0; kind_is = kinds w; body_is = bodies w }) in
+    subst (λ (x : Word). IsSaid said x) (one_word w word letter.kind letter.body own spells) all.0)
     (λ old. letters_said said f kinds bodies fit words all.1 letter word old spells)
     (front_or_behind (f w) (map f words) letter has)
 
@@ -29,6 +29,6 @@ pub letters_after : (said : List Word) (letters before after out : List Letter) 
 letters_after said letters before after out old new is letter word has spells =
     let regrouped : letters ++ after ≡ (letters ++ before) ++ out = ap (λ (ls : List Letter). letters ++ ls) is ∙ sym (append_assoc letters before out) in
     ⊎_elim
-        (λ earlier. old letter word earlier spells)
-        (λ newer. new letter word newer spells)
-        (Contains-append_cases (letters ++ before) out letter (subst (λ (ls : List Letter). Contains ls letter) regrouped has))
+    (λ earlier. old letter word earlier spells)
+    (λ newer. new letter word newer spells)
+    (Contains-append_cases (letters ++ before) out letter (subst (λ (ls : List Letter). Contains ls letter) regrouped has))

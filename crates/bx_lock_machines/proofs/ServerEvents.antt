@@ -1,49 +1,35 @@
 -- A lock server does one event: all fits again.
-use Rattle.std.proofs.Common.{◌≡◌, ◌≢◌, inl, inr, ⊎_elim, ◌⊎◌, ℕ, ◌+◌, ◌<◌, ◌≤◌, Bool, true, false, List, [], ◌∷◌, ◌++◌, Contains, max, Option, Some, None, refl, sym, ◌∙◌, ap, subst, arith}
-use Rattle.std.specs.Prelude.{MatchOption, ◌==◌, ◌&&◌, not, if◌then◌else◌}
+use Rattle.std.proofs.Common.{◌≡◌, ◌≢◌, inl, inr, ⊎_elim, ◌⊎◌, ℕ, ◌<◌, ◌≤◌, Bool, false, List, ◌++◌, Option, refl, sym, ◌∙◌, ap, subst, arith}
+use Rattle.std.specs.Prelude.{if◌then◌else◌}
 use Rattle.std.specs.List.{AllByRecursion}
-use Rattle.std.proofs.lemmas.Bool.Decides.{eqb_tells, nat_tests}
-use Rattle.bx_base.specs.declared.names.Actor.{Actor}
+use Rattle.std.proofs.lemmas.Bool.Decides.{eqb_tells}
 use Rattle.bx_base.specs.declared.names.Actor.TheVariants.{Node, Server as ServerOf}
 use Rattle.bx_global.specs.declared.change.Change.{Change}
 use Rattle.bx_global.specs.declared.state.GlobalState.{GlobalState}
-use Rattle.bx_rows.specs.Conditions.{Fits}
 use Rattle.bx_post.specs.declared.packets.Letter.{Letter}
-use Rattle.bx_post.specs.Posts.{letter_of}
-use Rattle.bx_facts.specs.Chains.{Chain, HasOwnBoot, IsPlace, last, with_change}
+use Rattle.bx_facts.specs.Chains.{IsPlace, last, with_change}
 use Rattle.bx_facts.specs.Holds.{OwnersPast, owners_heard, owners_with}
 use Rattle.bx_facts.specs.Inputs.{greatest_with}
 use Rattle.bx_facts.specs.Machines.{is_same, put_at}
-use Rattle.bx_facts.specs.Pasts.{MayTake}
 use Rattle.bx_facts.specs.declared.input.Input.{Input}
-use Rattle.bx_facts.specs.declared.input.Input.TheVariants.{Packet, Tick, Synced}
 use Rattle.bx_facts.proofs.Machines.{elsewhere, here}
-use Rattle.bx_lock_words.specs.Words.{IsWord, Spells}
-use Rattle.bx_lock_words.specs.declared.words.Want.{Want}
+use Rattle.bx_lock_words.specs.Words.{IsWord}
 use Rattle.bx_lock_words.specs.declared.words.Word.{Word}
-use Rattle.bx_lock_words.specs.declared.words.Word.TheVariants.{Wants, Leases}
+use Rattle.bx_lock_words.specs.declared.words.Word.TheVariants.{Leases}
 use Rattle.bx_locking.specs.Leases.{AreLeases, IsPromised}
-use Rattle.bx_locking.specs.Tables.{AreLocks, Side, Term}
+use Rattle.bx_locking.specs.Tables.{AreLocks, Term}
 use Rattle.bx_locking.specs.Words.{IsSaid}
 use Rattle.bx_locking.proofs.Basics.{place_most}
-use Rattle.bx_locking.proofs.Leases.{reads_on}
-use Rattle.bx_locking.proofs.Terms.{next_most, term_most}
-use Rattle.bx_master.specs.Events.{catch_up, change_of, hear_as, marking, served, served_if, take_change, tick}
-use Rattle.bx_master.specs.Masters.{Mastering, Served, both, is_master, learned, shows_close}
+use Rattle.bx_master.specs.Masters.{Mastering}
 use Rattle.bx_master.specs.Steps as masters_steps
 use Rattle.bx_master.specs.Steps.{Hears, SaysOr, Ticks, letters_of}
 use Rattle.bx_clerk.specs.Clerks.{Clerking}
 use Rattle.bx_lock_machines.specs.Keeps.{AreSame, FitsPast, Ghosts, Keeps, PutsOne}
-use Rattle.bx_lock_machines.specs.Machines.{FitsClerk, FitsMaster, HasSeen, IsMaster, IsTied, IsUntied, Knows}
-use Rattle.bx_lock_machines.proofs.Accounts.{Tested, misses, passes, tested}
-use Rattle.bx_lock_machines.proofs.Chains.{is_last_master, term_began}
-use Rattle.bx_lock_machines.proofs.Hearing.{as_served, catches_up, hears, no_more, ticks}
-use Rattle.bx_lock_machines.proofs.Knowing.{Learned, learns}
-use Rattle.bx_lock_machines.proofs.Letters.{AreSaid, letters_after, letters_said}
-use Rattle.bx_lock_machines.proofs.Others.{clerk_promised, master_beside, master_hears, same_drawn}
-use Rattle.bx_lock_machines.proofs.Proposing.{asks, handing, hands_take, no_mark}
-use Rattle.bx_lock_machines.proofs.Releasing.{both_true}
-use Rattle.bx_lock_machines.proofs.Serving.{After, IsScene, Scene, Server, Spoken, Stands, late, tied}
+use Rattle.bx_lock_steps.specs.Machines.{FitsClerk, FitsMaster, IsMaster, IsUntied}
+use Rattle.bx_lock_steps.proofs.Accounts.{misses, passes, tested}
+use Rattle.bx_lock_machines.proofs.Letters.{letters_after, letters_said}
+use Rattle.bx_lock_steps.proofs.Others.{clerk_promised, master_beside, master_hears, same_drawn}
+use Rattle.bx_lock_steps.proofs.Serving.{Spoken}
 
 -- ---- what comes of an event
 
@@ -98,10 +84,10 @@ module _ (nodes : ℕ) (masters others : ℕ → Mastering) (clerks same_clerks 
           (eqb_tells j id);
       master = λ j inside up. ⊎_elim
           (λ is. subst (λ (k : ℕ). FitsMaster past.told.chain (put_at (ServerOf id) known.index past.told.knew (ServerOf k)) (past.told.boots (ServerOf k)) o.now.said g.side.drawn o.now.term o.now.noted k (others k)) (sym is.1)
-              (subst (λ (k : ℕ). FitsMaster past.told.chain k (past.told.boots (ServerOf id)) o.now.said g.side.drawn o.now.term o.now.noted id (others id)) (sym (here (ServerOf id) known.index past.told.knew))
-                  (subst (λ (m : Mastering). FitsMaster past.told.chain known.index (past.told.boots (ServerOf id)) o.now.said g.side.drawn o.now.term o.now.noted id m) (sym puts.at) o.master)))
+          (subst (λ (k : ℕ). FitsMaster past.told.chain k (past.told.boots (ServerOf id)) o.now.said g.side.drawn o.now.term o.now.noted id (others id)) (sym (here (ServerOf id) known.index past.told.knew))
+          (subst (λ (m : Mastering). FitsMaster past.told.chain known.index (past.told.boots (ServerOf id)) o.now.said g.side.drawn o.now.term o.now.noted id m) (sym puts.at) o.master)))
           (λ other. subst (λ (k : ℕ). FitsMaster past.told.chain k (past.told.boots (ServerOf j)) o.now.said g.side.drawn o.now.term o.now.noted j (others j)) (sym (elsewhere (ServerOf id) (ServerOf j) known.index past.told.knew (λ is. other.1 (one_server j id is))))
-              (subst (λ (m : Mastering). FitsMaster past.told.chain (past.told.knew (ServerOf j)) (past.told.boots (ServerOf j)) o.now.said g.side.drawn o.now.term o.now.noted j m) (sym (puts.others j other.1)) (beside j inside up other.1)))
+          (subst (λ (m : Mastering). FitsMaster past.told.chain (past.told.knew (ServerOf j)) (past.told.boots (ServerOf j)) o.now.said g.side.drawn o.now.term o.now.noted j m) (sym (puts.others j other.1)) (beside j inside up other.1)))
           (eqb_tells j id);
       before = λ ahead. ⊎_elim
           (λ kept. subst (λ (t : Term). IsUntied past.told.chain t o.now.noted) (sym kept.0) (subst (λ (n : ℕ → ℕ). IsUntied past.told.chain g.term n) (sym kept.1) (f.before ahead)))
@@ -128,8 +114,8 @@ module _ (nodes : ℕ) (masters others : ℕ → Mastering) (clerks same_clerks 
       beside : (j : ℕ) → j < 2 → past.told.down (ServerOf j) ≡ false → j ≢ id → FitsMaster past.told.chain (past.told.knew (ServerOf j)) (past.told.boots (ServerOf j)) o.now.said g.side.drawn o.now.term o.now.noted j (masters j)
       beside j inside up differ = master_hears past.told.chain (past.told.knew (ServerOf j)) (past.told.boots (ServerOf j)) g.said o.now.said g.side.drawn g.side.drawn o.now.term o.now.noted j (masters j) o.said_on (same_drawn g.side.drawn)
           (⊎_elim
-              (λ kept. subst (λ (t : Term). FitsMaster past.told.chain (past.told.knew (ServerOf j)) (past.told.boots (ServerOf j)) g.said g.side.drawn t o.now.noted j (masters j)) (sym kept.0)
-                  (subst (λ (n : ℕ → ℕ). FitsMaster past.told.chain (past.told.knew (ServerOf j)) (past.told.boots (ServerOf j)) g.said g.side.drawn g.term n j (masters j)) (sym kept.1) (f.master j inside up)))
-              (λ master. master_beside past.told.chain (past.told.knew (ServerOf j)) (past.told.boots (ServerOf j)) g.said g.side.drawn g.term o.now.term g.noted o.now.noted j (masters j)
-                  (λ also. differ (sym also.server ∙ master.server)) (f.master j inside up))
-              o.own)
+          (λ kept. subst (λ (t : Term). FitsMaster past.told.chain (past.told.knew (ServerOf j)) (past.told.boots (ServerOf j)) g.said g.side.drawn t o.now.noted j (masters j)) (sym kept.0)
+          (subst (λ (n : ℕ → ℕ). FitsMaster past.told.chain (past.told.knew (ServerOf j)) (past.told.boots (ServerOf j)) g.said g.side.drawn g.term n j (masters j)) (sym kept.1) (f.master j inside up)))
+          (λ master. master_beside past.told.chain (past.told.knew (ServerOf j)) (past.told.boots (ServerOf j)) g.said g.side.drawn g.term o.now.term g.noted o.now.noted j (masters j)
+          (λ also. differ (sym also.server ∙ master.server)) (f.master j inside up))
+          o.own)

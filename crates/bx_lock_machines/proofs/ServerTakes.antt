@@ -1,26 +1,23 @@
 -- A lock server takes an input: all fits again.
-use Rattle.std.proofs.Common.{◌≡◌, ◌≢◌, inl, inr, ⊎_elim, ◌⊎◌, ℕ, ◌+◌, ◌<◌, ◌≤◌, Bool, true, false, List, [], ◌∷◌, ◌++◌, Contains, max, Option, Some, None, refl, sym, ◌∙◌, ap, subst, arith, append-nil}
+use Rattle.std.proofs.Common.{◌≡◌, inl, inr, ⊎_elim, ℕ, ◌+◌, ◌<◌, ◌≤◌, Bool, true, false, List, [], ◌++◌, Contains, max, Option, Some, None, refl, sym, ◌∙◌, ap, subst, arith, append-nil}
 use Rattle.std.specs.Prelude.{MatchOption, ltb, ◌==◌, ◌&&◌, not, if◌then◌else◌}
 use Rattle.std.proofs.lemmas.Bool.Decides.{eqb_tells, nat_tests}
-use Rattle.bx_base.specs.declared.names.Actor.{Actor}
 use Rattle.bx_base.specs.declared.names.Actor.TheVariants.{Server as ServerOf}
 use Rattle.bx_global.specs.declared.change.Change.{Change}
 use Rattle.bx_global.specs.declared.change.Change.TheVariants.{Renew}
 use Rattle.bx_global.specs.declared.state.GlobalState.{GlobalState}
 use Rattle.bx_rows.specs.Conditions.{Fits}
 use Rattle.bx_post.specs.declared.packets.Letter.{Letter}
-use Rattle.bx_post.specs.declared.packets.Packet.{Packet as PacketOf}
 use Rattle.bx_post.specs.Posts.{letter_of}
-use Rattle.bx_facts.specs.Chains.{Chain, HasOwnBoot, IsPlace, last, with_change}
+use Rattle.bx_facts.specs.Chains.{HasOwnBoot, IsPlace, last, with_change}
 use Rattle.bx_facts.specs.Holds.{OwnersPast, owners_heard, owners_with}
-use Rattle.bx_facts.specs.Inputs.{IsComing, greatest_with}
 use Rattle.bx_facts.specs.Pasts.{MayTake}
 use Rattle.bx_facts.specs.declared.input.Input.{Input}
 use Rattle.bx_facts.specs.declared.input.Input.TheVariants.{Packet, Tick, Synced}
-use Rattle.bx_lock_words.specs.Words.{IsWord, Spells}
+use Rattle.bx_lock_words.specs.Words.{Spells}
 use Rattle.bx_lock_words.specs.declared.words.Word.{Word}
-use Rattle.bx_locking.specs.Leases.{AreLeases, IsPromised}
-use Rattle.bx_locking.specs.Tables.{AreLocks, Term}
+use Rattle.bx_locking.specs.Leases.{AreLeases}
+use Rattle.bx_locking.specs.Tables.{Term}
 use Rattle.bx_locking.specs.Words.{IsSaid}
 use Rattle.bx_locking.proofs.Basics.{place_most}
 use Rattle.bx_locking.proofs.Leases.{reads_on}
@@ -28,19 +25,19 @@ use Rattle.bx_locking.proofs.Terms.{next_most, term_most}
 use Rattle.bx_lock_tables.specs.Queue.{still_waiting}
 use Rattle.bx_master.specs.Events.{catch_up, change_of, expiry, first_past, hear, hear_as, marking, revokes_again, served, served_if, take_change, tick}
 use Rattle.bx_master.specs.Masters.{Mastering, Served, both, is_master, learned, shows_close}
-use Rattle.bx_master.specs.Steps.{Hears, SaysOr, Takes, Ticks, letters_of}
+use Rattle.bx_master.specs.Steps.{SaysOr, Takes, letters_of}
 use Rattle.bx_clerk.specs.Clerks.{Clerking}
 use Rattle.bx_lock_machines.specs.Keeps.{AreSame, FitsPast, Ghosts, Keeps, PutsOne}
-use Rattle.bx_lock_machines.specs.Machines.{FitsMaster, HasSeen, IsMaster, IsTied, IsUntied, Knows}
-use Rattle.bx_lock_machines.proofs.Accounts.{Tested, misses, passes, tested}
-use Rattle.bx_lock_machines.proofs.Chains.{is_last_master, term_began}
-use Rattle.bx_lock_machines.proofs.Hearing.{as_served, catches_up, hears, no_more, ticks}
-use Rattle.bx_lock_machines.proofs.Knowing.{Learned, learns}
-use Rattle.bx_lock_machines.proofs.Others.{master_waits}
-use Rattle.bx_lock_machines.proofs.Proposing.{asks, handing, hands_take, no_mark}
-use Rattle.bx_lock_machines.proofs.Releasing.{both_true}
+use Rattle.bx_lock_steps.specs.Machines.{FitsMaster, IsMaster, IsUntied}
+use Rattle.bx_lock_steps.proofs.Accounts.{misses, passes, tested}
+use Rattle.bx_lock_steps.proofs.Chains.{is_last_master, term_began}
+use Rattle.bx_lock_steps.proofs.Hearing.{as_served, catches_up, hears, no_more, ticks}
+use Rattle.bx_lock_steps.proofs.Knowing.{Learned, learns}
+use Rattle.bx_lock_steps.proofs.Others.{master_waits}
+use Rattle.bx_lock_steps.proofs.Proposing.{asks, hands_take, no_mark}
+use Rattle.bx_lock_steps.proofs.Releasing.{both_true}
 use Rattle.bx_lock_machines.proofs.ServerEvents.{Outcome, outcome_keeps}
-use Rattle.bx_lock_machines.proofs.Serving.{After, IsScene, Scene, Server, Spoken, Stands, late, tied}
+use Rattle.bx_lock_steps.proofs.Serving.{After, IsScene, Scene, Server, Spoken, late, tied}
 
 -- what a server is handed
 pub record IsHanded (past : OwnersPast) (id : ℕ) (known : GlobalState) : Type 0 where
@@ -208,7 +205,7 @@ module _ (nodes : ℕ) (masters : ℕ → Mastering) (clerks : ℕ → Clerking)
   heard_as reading l None m words has master a is = no_more (scene p.told.handed) (spoken l) m words a
   heard_as reading l (Some word) m words has master a is =
       as_served (scene p.told.handed) (spoken l) words (hear_as known reading (Some word) m) (hear known reading word m) (ap (λ (b : Bool). if b then hear known reading word m else (m, [])) is)
-          (hears (scene p.told.handed) (is_scene p.told.handed master) (spoken l) reading m words word a next_fits (a.said_on word has))
+      (hears (scene p.told.handed) (is_scene p.told.handed master) (spoken l) reading m words word a next_fits (a.said_on word has))
 
   pub hears_packet : (reading : ℕ) (said : Option Word) → MatchOption said (Unit {0}) (λ word. IsSaid g.said word)
       → Outcome p g id known greatest p.told.handed (both (catch_up known reading) (hear_as known reading said) (masters id)).0 (both (catch_up known reading) (hear_as known reading said) (masters id)).1
@@ -218,12 +215,12 @@ module _ (nodes : ℕ) (masters : ℕ → Mastering) (clerks : ℕ → Clerking)
         let master = known_master is in
         let c = caught_up reading l master in
         outcome_after l p.told.handed (both (catch_up known reading) (hear_as known reading said) (masters id)).0 (both (catch_up known reading) (hear_as known reading said) (masters id)).1 master
-            (heard_as reading l said (catch_up known reading (masters id)).0 (catch_up known reading (masters id)).1 has master c (still_master l (catch_up known reading (masters id)).0 (catch_up known reading (masters id)).1 c is))
+        (heard_as reading l said (catch_up known reading (masters id)).0 (catch_up known reading (masters id)).1 has master c (still_master l (catch_up known reading (masters id)).0 (catch_up known reading (masters id)).1 c is))
     | misses is_not ↦
         let l = learned_it in
         subst (λ (s : Served). Outcome p g id known greatest p.told.handed s.0 s.1)
-            (sym (ap (λ (s : Served). ((hear_as known reading said s.0).0, s.1 ++ (hear_as known reading said s.0).1)) (none_served reading is_not) ∙ ap (λ (s : Served). (s.0, [] ++ s.1)) (none_heard reading said (learned known (masters id)) is_not)))
-            (idles l p.told.handed (leases_so l))
+        (sym (ap (λ (s : Served). ((hear_as known reading said s.0).0, s.1 ++ (hear_as known reading said s.0).1)) (none_served reading is_not) ∙ ap (λ (s : Served). (s.0, [] ++ s.1)) (none_heard reading said (learned known (masters id)) is_not)))
+        (idles l p.told.handed (leases_so l))
   ]
 
   -- ---- a tick
@@ -253,14 +250,14 @@ module _ (nodes : ℕ) (masters : ℕ → Mastering) (clerks : ℕ → Clerking)
         let c_master = still_master l (catch_up known reading (masters id)).0 (catch_up known reading (masters id)).1 c is in
         let t = ticks (scene p.told.handed) (is_scene p.told.handed master) (spoken l) (catch_up known reading (masters id)).0 (catch_up known reading (masters id)).1 c next_fits c_master in
         outcome_after l (with_change (change_of known reading (ticked reading).0) p.told.handed) (marking (change_of known reading (ticked reading).0) (ticked reading).0) (ticked reading).1 master
-            (asks (scene p.told.handed) (is_scene p.told.handed master) (spoken l) (ticked reading).0 (ticked reading).1 t reading most (still_master l (ticked reading).0 (ticked reading).1 t is))
+        (asks (scene p.told.handed) (is_scene p.told.handed master) (spoken l) (ticked reading).0 (ticked reading).1 t reading most (still_master l (ticked reading).0 (ticked reading).1 t is))
     | misses is_not ↦
         let l = learned_it in
         subst (λ (s : Served). Outcome p g id known greatest (with_change (change_of known reading s.0) p.told.handed) (marking (change_of known reading s.0) s.0) s.1) (sym (none_ticked reading is_not))
-            (subst (λ (c : Option Change). Outcome p g id known greatest (with_change c p.told.handed) (marking c (learned known (masters id))) []) (sym (not_asked reading (learned known (masters id)) is_not))
-                (subst (λ (m : Mastering). Outcome p g id known greatest (with_change (take_change known reading (learned known (masters id))) p.told.handed) m []) (sym (no_mark known reading (learned known (masters id))))
-                    (idles l (with_change (take_change known reading (learned known (masters id))) p.told.handed)
-                        (hands_take p.told.chain greatest p.told.handed g.promised g.noted g.ends l.now.expiring known reading (learned known (masters id)) (leases_so l) most))))
+        (subst (λ (c : Option Change). Outcome p g id known greatest (with_change c p.told.handed) (marking c (learned known (masters id))) []) (sym (not_asked reading (learned known (masters id)) is_not))
+        (subst (λ (m : Mastering). Outcome p g id known greatest (with_change (take_change known reading (learned known (masters id))) p.told.handed) m []) (sym (no_mark known reading (learned known (masters id))))
+        (idles l (with_change (take_change known reading (learned known (masters id))) p.told.handed)
+        (hands_take p.told.chain greatest p.told.handed g.promised g.noted g.ends l.now.expiring known reading (learned known (masters id)) (leases_so l) most))))
   ]
 
 -- ---- all of it
@@ -282,36 +279,36 @@ server_takes nodes masters others clerks same_clerks past before after id known 
     let g = keeps.ghosts in
     let h = takes.0 in
     let o = hears_packet nodes masters clerks (owners_with past before) g f id less known (handed_so past before id known (Packet packet reading) may) (max past.told.greatest reading) (omega arith) reading h.said
-        (was_said g.said (past.told.letters ++ before) (letter_of packet.now) h.said f.letters may.comes h.says) in
+    (was_said g.said (past.told.letters ++ before) (letter_of packet.now) h.said f.letters may.comes h.says) in
     outcome_keeps nodes masters others clerks same_clerks past before after id known keeps same (Packet packet reading) change new (both (catch_up known reading) (hear_as known reading h.said) (masters id)).1
-        (subst (λ (c : Option Change). Outcome (owners_with past before) g id known (max past.told.greatest reading) (with_change c past.told.handed) new (both (catch_up known reading) (hear_as known reading h.said) (masters id)).1) (sym takes.1)
-            (subst (λ (m : Mastering). Outcome (owners_with past before) g id known (max past.told.greatest reading) past.told.handed m (both (catch_up known reading) (hear_as known reading h.said) (masters id)).1) (sym h.is) o))
-        may.place puts
-        (h.sends ∙ ap (λ (n : ℕ). before ++ letters_of n known (both (catch_up known reading) (hear_as known reading h.said) (masters id)).1) (f.master id less may.up).server)
+    (subst (λ (c : Option Change). Outcome (owners_with past before) g id known (max past.told.greatest reading) (with_change c past.told.handed) new (both (catch_up known reading) (hear_as known reading h.said) (masters id)).1) (sym takes.1)
+    (subst (λ (m : Mastering). Outcome (owners_with past before) g id known (max past.told.greatest reading) past.told.handed m (both (catch_up known reading) (hear_as known reading h.said) (masters id)).1) (sym h.is) o))
+    may.place puts
+    (h.sends ∙ ap (λ (n : ℕ). before ++ letters_of n known (both (catch_up known reading) (hear_as known reading h.said) (masters id)).1) (f.master id less may.up).server)
 server_takes nodes masters others clerks same_clerks past before after id known (Tick reading) change new keeps may less takes puts same =
     let f = keeps.fits in
     let g = keeps.ghosts in
     let o = hears_tick nodes masters clerks (owners_with past before) g f id less known (handed_so past before id known (Tick reading) may) (max past.told.greatest reading) (omega arith) reading (omega arith) in
     outcome_keeps nodes masters others clerks same_clerks past before after id known keeps same (Tick reading) change new (both (catch_up known reading) (tick known) (masters id)).1
-        (subst (λ (m : Mastering). Outcome (owners_with past before) g id known (max past.told.greatest reading) (with_change change past.told.handed) m (both (catch_up known reading) (tick known) (masters id)).1) (sym takes.is)
-            (subst (λ (c : Option Change). Outcome (owners_with past before) g id known (max past.told.greatest reading) (with_change c past.told.handed) (marking c (both (catch_up known reading) (tick known) (masters id)).0) (both (catch_up known reading) (tick known) (masters id)).1) (sym takes.asks) o))
-        may.place puts
-        (takes.sends ∙ ap (λ (n : ℕ). before ++ letters_of n known (both (catch_up known reading) (tick known) (masters id)).1) (f.master id less may.up).server)
+    (subst (λ (m : Mastering). Outcome (owners_with past before) g id known (max past.told.greatest reading) (with_change change past.told.handed) m (both (catch_up known reading) (tick known) (masters id)).1) (sym takes.is)
+    (subst (λ (c : Option Change). Outcome (owners_with past before) g id known (max past.told.greatest reading) (with_change c past.told.handed) (marking c (both (catch_up known reading) (tick known) (masters id)).0) (both (catch_up known reading) (tick known) (masters id)).1) (sym takes.asks) o))
+    may.place puts
+    (takes.sends ∙ ap (λ (n : ℕ). before ++ letters_of n known (both (catch_up known reading) (tick known) (masters id)).1) (f.master id less may.up).server)
 server_takes nodes masters others clerks same_clerks past before after id known Synced change new keeps may less takes puts same =
     let f = keeps.fits in
     let g = keeps.ghosts in
     outcome_keeps nodes masters others clerks same_clerks past before after id known keeps same Synced change new []
-        (subst (λ (c : Option Change). Outcome (owners_with past before) g id known past.told.greatest (with_change c past.told.handed) new []) (sym takes.1)
-            (subst (λ (m : Mastering). Outcome (owners_with past before) g id known past.told.greatest past.told.handed m []) (sym takes.0) (record {
-              now = record { said = g.said; term = g.term; promised = g.promised; noted = g.noted };
-              locks = f.locks;
-              leases = f.leases_are;
-              promises = f.promises;
-              words_fit = f.words;
-              said_on = λ word has. has;
-              promised_on = λ s e has. has;
-              put_out = tt;
-              master = master_waits past.told.chain (past.told.knew (ServerOf id)) known.index (past.told.boots (ServerOf id)) g.said g.side.drawn g.term g.noted id (masters id) may.rises (f.master id less may.up);
-              own = inl (refl, refl);
-            })))
-        may.place puts (takes.2 ∙ sym (append-nil before))
+    (subst (λ (c : Option Change). Outcome (owners_with past before) g id known past.told.greatest (with_change c past.told.handed) new []) (sym takes.1)
+    (subst (λ (m : Mastering). Outcome (owners_with past before) g id known past.told.greatest past.told.handed m []) (sym takes.0) (record {
+      now = record { said = g.said; term = g.term; promised = g.promised; noted = g.noted };
+      locks = f.locks;
+      leases = f.leases_are;
+      promises = f.promises;
+      words_fit = f.words;
+      said_on = λ word has. has;
+      promised_on = λ s e has. has;
+      put_out = tt;
+      master = master_waits past.told.chain (past.told.knew (ServerOf id)) known.index (past.told.boots (ServerOf id)) g.said g.side.drawn g.term g.noted id (masters id) may.rises (f.master id less may.up);
+      own = inl (refl, refl);
+    })))
+    may.place puts (takes.2 ∙ sym (append-nil before))

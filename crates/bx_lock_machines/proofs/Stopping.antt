@@ -1,20 +1,19 @@
 -- Machines stop and start again, the clock goes on, and machines that are neither nodes nor servers hear something: all fits again.
-use Rattle.std.proofs.Common.{◌≡◌, ◌≢◌, inl, inr, ⊎_elim, ◌⊎◌, ℕ, ◌<◌, ◌≤◌, Bool, true, false, List, [], max, Option, Some, None, refl, sym, ◌∙◌, ap, subst, arith}
+use Rattle.std.proofs.Common.{◌≡◌, ◌≢◌, inl, inr, ⊎_elim, ◌⊎◌, ℕ, ◌<◌, ◌≤◌, Bool, true, false, List, [], max, Some, None, refl, sym, ◌∙◌, ap, subst, arith}
 use Rattle.std.specs.Prelude.{if◌then◌else◌}
 use Rattle.std.proofs.lemmas.Bool.Decides.{eqb_tells}
 use Rattle.bx_base.specs.declared.names.Actor.{Actor}
 use Rattle.bx_base.specs.declared.names.Actor.TheVariants.{Node, Replica, Member, Server as ServerOf}
 use Rattle.bx_global.specs.declared.state.GlobalState.{GlobalState}
 use Rattle.bx_rows.specs.Conditions.{Fits}
-use Rattle.bx_facts.specs.Chains.{Chain, HasOwnBoot, IsPlace, last, session_of}
+use Rattle.bx_facts.specs.Chains.{Chain, IsPlace, last, session_of}
 use Rattle.bx_facts.specs.Holds.{OwnersPast, owners_crashed, owners_heard, owners_restarted}
 use Rattle.bx_facts.specs.Machines.{is_same as is_machine, put_at}
 use Rattle.bx_facts.specs.Inputs.{greatest_with}
 use Rattle.bx_facts.specs.Pasts.{MayRestart}
 use Rattle.bx_facts.specs.declared.input.Input.{Input}
 use Rattle.bx_facts.specs.declared.input.Input.TheVariants.{Packet, Tick, Synced}
-use Rattle.bx_facts.proofs.Machines.{elsewhere, here, is_one}
-use Rattle.bx_locking.specs.Leases.{AreLeases, IsPromised}
+use Rattle.bx_facts.proofs.Machines.{elsewhere, here}
 use Rattle.bx_locking.specs.Tables.{Side}
 use Rattle.bx_locking.proofs.Basics.{place_most}
 use Rattle.bx_locking.proofs.Leases.{reads_on}
@@ -24,11 +23,11 @@ use Rattle.bx_clerk.specs.Clerks.{Clerking}
 use Rattle.bx_clerk.specs.Clerks as clerks_of
 use Rattle.bx_clerk.specs.Requests.{Requests, request_in}
 use Rattle.bx_clerk.specs.declared.requests.Asking.{Asking}
-use Rattle.bx_lock_machines.specs.Keeps.{AreHad, AreSame, FitsPast, Ghosts, Keeps, PutsOne, WasHad}
-use Rattle.bx_lock_machines.specs.Machines.{AreUnique, FitsClerk, FitsMaster, IsMaster, IsUntied}
-use Rattle.bx_lock_machines.proofs.Accounts.{misses, passes, tested}
+use Rattle.bx_lock_machines.specs.Keeps.{AreSame, FitsPast, Ghosts, Keeps, PutsOne}
+use Rattle.bx_lock_steps.specs.Machines.{AreUnique, FitsClerk, FitsMaster}
+use Rattle.bx_lock_steps.proofs.Accounts.{misses, passes, tested}
 use Rattle.bx_lock_machines.proofs.Alike.{alike}
-use Rattle.bx_lock_machines.proofs.Chains.{one_session}
+use Rattle.bx_lock_steps.proofs.Chains.{one_session}
 
 -- ---- a machine stops: less is asked of it
 
@@ -165,22 +164,22 @@ beside_hears nodes masters others clerks more past (Node n) known input beside m
 beside_hears nodes masters others clerks more past (ServerOf n) known input beside masters_same clerks_same place keeps = absurd beside
 beside_hears nodes masters others clerks more past (Replica n) known input beside masters_same clerks_same place keeps =
     alike nodes masters others clerks more (owners_heard past (Replica n) known.index input None) masters_same clerks_same
-        (told_beside nodes masters clerks past keeps (put_at (Replica n) known.index past.told.knew) past.told.boots past.told.down (greatest_with past.told.greatest input) (λ m. refl) (λ m. refl) (λ m. refl) (λ m. refl) (λ m. refl) (λ m. refl)
-            (knew_at (last past.told.chain).index (Replica n) known.index past.told.knew (place_most past.told.chain known place) keeps.fits.knew_most) (greater past.told.greatest input))
+    (told_beside nodes masters clerks past keeps (put_at (Replica n) known.index past.told.knew) past.told.boots past.told.down (greatest_with past.told.greatest input) (λ m. refl) (λ m. refl) (λ m. refl) (λ m. refl) (λ m. refl) (λ m. refl)
+    (knew_at (last past.told.chain).index (Replica n) known.index past.told.knew (place_most past.told.chain known place) keeps.fits.knew_most) (greater past.told.greatest input))
 beside_hears nodes masters others clerks more past (Member n) known input beside masters_same clerks_same place keeps =
     alike nodes masters others clerks more (owners_heard past (Member n) known.index input None) masters_same clerks_same
-        (told_beside nodes masters clerks past keeps (put_at (Member n) known.index past.told.knew) past.told.boots past.told.down (greatest_with past.told.greatest input) (λ m. refl) (λ m. refl) (λ m. refl) (λ m. refl) (λ m. refl) (λ m. refl)
-            (knew_at (last past.told.chain).index (Member n) known.index past.told.knew (place_most past.told.chain known place) keeps.fits.knew_most) (greater past.told.greatest input))
+    (told_beside nodes masters clerks past keeps (put_at (Member n) known.index past.told.knew) past.told.boots past.told.down (greatest_with past.told.greatest input) (λ m. refl) (λ m. refl) (λ m. refl) (λ m. refl) (λ m. refl) (λ m. refl)
+    (knew_at (last past.told.chain).index (Member n) known.index past.told.knew (place_most past.told.chain known place) keeps.fits.knew_most) (greater past.told.greatest input))
 
 beside_restarted : (nodes : ℕ) (masters : ℕ → Mastering) (clerks : ℕ → Clerking) (past : OwnersPast) (who : Actor) (boot reading : ℕ) → IsBeside who → Keeps nodes masters clerks past → Keeps nodes masters clerks (owners_restarted past who boot reading)
 beside_restarted nodes masters clerks past (Node n) boot reading beside keeps = absurd beside
 beside_restarted nodes masters clerks past (ServerOf n) boot reading beside keeps = absurd beside
 beside_restarted nodes masters clerks past (Replica n) boot reading beside keeps =
     told_beside nodes masters clerks past keeps (put_at (Replica n) 0 past.told.knew) (put_at (Replica n) boot past.told.boots) (put_at (Replica n) false past.told.down) (max past.told.greatest reading) (λ m. refl) (λ m. refl) (λ m. refl) (λ m. refl) (λ m. refl) (λ m. refl)
-        (knew_at (last past.told.chain).index (Replica n) 0 past.told.knew (omega arith) keeps.fits.knew_most) (omega arith)
+    (knew_at (last past.told.chain).index (Replica n) 0 past.told.knew (omega arith) keeps.fits.knew_most) (omega arith)
 beside_restarted nodes masters clerks past (Member n) boot reading beside keeps =
     told_beside nodes masters clerks past keeps (put_at (Member n) 0 past.told.knew) (put_at (Member n) boot past.told.boots) (put_at (Member n) false past.told.down) (max past.told.greatest reading) (λ m. refl) (λ m. refl) (λ m. refl) (λ m. refl) (λ m. refl) (λ m. refl)
-        (knew_at (last past.told.chain).index (Member n) 0 past.told.knew (omega arith) keeps.fits.knew_most) (omega arith)
+    (knew_at (last past.told.chain).index (Member n) 0 past.told.knew (omega arith) keeps.fits.knew_most) (omega arith)
 
 pub beside_restarts : (nodes : ℕ) (masters others : ℕ → Mastering) (clerks more : ℕ → Clerking) (past : OwnersPast) (who : Actor) (boot reading : ℕ) → IsBeside who → AreSame masters others → AreSame clerks more
     → Keeps nodes masters clerks past → Keeps nodes others more (owners_restarted past who boot reading)
@@ -255,14 +254,14 @@ node_restarts nodes masters others clerks more past n boot reading new masters_s
       };
       once = λ s m had. ⊎_elim
           (λ is. subst (Once s) (sym is.1) (inr (λ q place order own.
-              let w = f.had_are.was s had in
-              let one = one_session past.told.chain q w.state n w.node (put_at (Node n) boot past.told.boots (Node n)) w.boot s f.states.rising place w.place own w.own in
-              let e = ap (λ (k : ℕ). past.told.boots (Node k)) one.0 in let m = w.most in let b = may.boot_rises in let o = one.1 in let h = here (Node n) boot past.told.boots in omega (arith, e, m, b, o, h))))
+          let w = f.had_are.was s had in
+          let one = one_session past.told.chain q w.state n w.node (put_at (Node n) boot past.told.boots (Node n)) w.boot s f.states.rising place w.place own w.own in
+          let e = ap (λ (k : ℕ). past.told.boots (Node k)) one.0 in let m = w.most in let b = may.boot_rises in let o = one.1 in let h = here (Node n) boot past.told.boots in omega (arith, e, m, b, o, h))))
           (λ other. ⊎_elim
-              (λ own. inl (ap (λ (c : Clerking). c.session) (puts.others m other.1) ∙ own))
-              (λ never. inr (λ q place order is. never q place (let e = elsewhere (Node n) (Node m) 0 past.told.knew (other_node m n other.1) in omega (arith, order, e))
-                  (ap (session_of q m) (sym (elsewhere (Node n) (Node m) boot past.told.boots (other_node m n other.1))) ∙ is)))
-              (f.had_are.once s m had))
+          (λ own. inl (ap (λ (c : Clerking). c.session) (puts.others m other.1) ∙ own))
+          (λ never. inr (λ q place order is. never q place (let e = elsewhere (Node n) (Node m) 0 past.told.knew (other_node m n other.1) in omega (arith, order, e))
+          (ap (session_of q m) (sym (elsewhere (Node n) (Node m) boot past.told.boots (other_node m n other.1))) ∙ is)))
+          (f.had_are.once s m had))
           (eqb_tells m n);
       fresh = f.had_are.fresh;
     };
@@ -270,11 +269,11 @@ node_restarts nodes masters others clerks more past n boot reading new masters_s
     knew_most = knew_at (last past.told.chain).index (Node n) 0 past.told.knew (omega arith) f.knew_most;
     clerk = λ m. ⊎_elim
         (λ is. subst (λ (k : ℕ). Fit (put_at (Node n) 0 past.told.knew (Node k)) (put_at (Node n) boot past.told.boots (Node k)) k (more k)) (sym is.1)
-            (subst (λ (c : Clerking). Fit (put_at (Node n) 0 past.told.knew (Node n)) (put_at (Node n) boot past.told.boots (Node n)) n c) (sym puts.at)
-                (idle_fits past.told.chain (put_at (Node n) 0 past.told.knew (Node n)) (put_at (Node n) boot past.told.boots (Node n)) g.side g.had g.promised n new blank.idle)))
+        (subst (λ (c : Clerking). Fit (put_at (Node n) 0 past.told.knew (Node n)) (put_at (Node n) boot past.told.boots (Node n)) n c) (sym puts.at)
+        (idle_fits past.told.chain (put_at (Node n) 0 past.told.knew (Node n)) (put_at (Node n) boot past.told.boots (Node n)) g.side g.had g.promised n new blank.idle)))
         (λ other. subst (λ (i : ℕ). Fit i (put_at (Node n) boot past.told.boots (Node m)) m (more m)) (sym (elsewhere (Node n) (Node m) 0 past.told.knew (other_node m n other.1)))
-            (subst (λ (b : ℕ). Fit (past.told.knew (Node m)) b m (more m)) (sym (elsewhere (Node n) (Node m) boot past.told.boots (other_node m n other.1)))
-                (subst (λ (c : Clerking). Fit (past.told.knew (Node m)) (past.told.boots (Node m)) m c) (sym (puts.others m other.1)) (f.clerk m))))
+        (subst (λ (b : ℕ). Fit (past.told.knew (Node m)) b m (more m)) (sym (elsewhere (Node n) (Node m) boot past.told.boots (other_node m n other.1)))
+        (subst (λ (c : Clerking). Fit (past.told.knew (Node m)) (past.told.boots (Node m)) m c) (sym (puts.others m other.1)) (f.clerk m))))
         (eqb_tells m n);
     node = λ m inside. ⊎_elim
         (λ is. ap (λ (k : ℕ). (more k).node) is.1 ∙ ap (λ (c : Clerking). c.node) puts.at ∙ blank.node (let e = is.1 in omega (arith, inside, e)) ∙ sym is.1)
@@ -282,7 +281,7 @@ node_restarts nodes masters others clerks more past n boot reading new masters_s
         (eqb_tells m n);
     boot = λ m inside up. ⊎_elim
         (λ is. ap (λ (k : ℕ). (more k).boot) is.1 ∙ ap (λ (c : Clerking). c.boot) puts.at ∙ blank.boot_is (let e = is.1 in omega (arith, inside, e)) ∙ sym (here (Node n) boot past.told.boots)
-            ∙ ap (λ (k : ℕ). put_at (Node n) boot past.told.boots (Node k)) (sym is.1))
+        ∙ ap (λ (k : ℕ). put_at (Node n) boot past.told.boots (Node k)) (sym is.1))
         (λ other. ap (λ (c : Clerking). c.boot) (puts.others m other.1) ∙ f.boot m inside (sym (elsewhere (Node n) (Node m) false past.told.down (other_node m n other.1)) ∙ up) ∙ sym (elsewhere (Node n) (Node m) boot past.told.boots (other_node m n other.1)))
         (eqb_tells m n);
     server = λ id inside. ap (λ (m : Mastering). m.server) (masters_same.each id) ∙ f.server id inside;
@@ -343,13 +342,13 @@ server_restarts nodes masters others clerks more past id boot reading at apart c
         (eqb_tells j id);
     master = λ j inside up. ⊎_elim
         (λ is. let less : id < 2 = (let e = is.1 in omega (arith, inside, e)) in
-            subst (λ (k : ℕ). Fit (put_at (ServerOf id) 0 past.told.knew (ServerOf k)) (put_at (ServerOf id) boot past.told.boots (ServerOf k)) k (others k)) (sym is.1)
-            (subst (λ (b : ℕ). Fit (put_at (ServerOf id) 0 past.told.knew (ServerOf id)) b id (others id)) (sym (here (ServerOf id) boot past.told.boots))
-                (subst (λ (m : Mastering). Fit (put_at (ServerOf id) 0 past.told.knew (ServerOf id)) boot id m) (sym (at less)) (started less))))
+        subst (λ (k : ℕ). Fit (put_at (ServerOf id) 0 past.told.knew (ServerOf k)) (put_at (ServerOf id) boot past.told.boots (ServerOf k)) k (others k)) (sym is.1)
+        (subst (λ (b : ℕ). Fit (put_at (ServerOf id) 0 past.told.knew (ServerOf id)) b id (others id)) (sym (here (ServerOf id) boot past.told.boots))
+        (subst (λ (m : Mastering). Fit (put_at (ServerOf id) 0 past.told.knew (ServerOf id)) boot id m) (sym (at less)) (started less))))
         (λ other. subst (λ (i : ℕ). Fit i (put_at (ServerOf id) boot past.told.boots (ServerOf j)) j (others j)) (sym (elsewhere (ServerOf id) (ServerOf j) 0 past.told.knew (other_server j id other.1)))
-            (subst (λ (b : ℕ). Fit (past.told.knew (ServerOf j)) b j (others j)) (sym (elsewhere (ServerOf id) (ServerOf j) boot past.told.boots (other_server j id other.1)))
-                (subst (λ (m : Mastering). Fit (past.told.knew (ServerOf j)) (past.told.boots (ServerOf j)) j m) (sym (apart j other.1))
-                    (f.master j inside (sym (elsewhere (ServerOf id) (ServerOf j) false past.told.down (other_server j id other.1)) ∙ up)))))
+        (subst (λ (b : ℕ). Fit (past.told.knew (ServerOf j)) b j (others j)) (sym (elsewhere (ServerOf id) (ServerOf j) boot past.told.boots (other_server j id other.1)))
+        (subst (λ (m : Mastering). Fit (past.told.knew (ServerOf j)) (past.told.boots (ServerOf j)) j m) (sym (apart j other.1))
+        (f.master j inside (sym (elsewhere (ServerOf id) (ServerOf j) false past.told.down (other_server j id other.1)) ∙ up)))))
         (eqb_tells j id);
     before = λ ahead. ⊎_elim
         (λ is. f.before (let h = here (ServerOf id) boot past.told.boots in let e = ap (λ (k : ℕ). put_at (ServerOf id) boot past.told.boots (ServerOf k)) is.1 in let b = may.boot_rises in let k = ap (λ (x : ℕ). past.told.boots (ServerOf x)) is.1 in omega (arith, ahead, h, e, b, k)))

@@ -3,8 +3,7 @@ use Rattle.std.specs.Prelude.{◌≡◌, ◌≢◌, ℕ, ◌<◌, ◌≤◌, ◌
 use Rattle.bx_base.specs.declared.names.Actor.{Actor}
 use Rattle.bx_base.specs.declared.names.Actor.TheVariants.{Node, Server}
 use Rattle.bx_global.specs.declared.state.GlobalState.{GlobalState}
-use Rattle.bx_global.specs.Allowed.{AreRising, Fits}
-use Rattle.bx_facts.specs.Chains.{Chain, HasOwnBoot, IsPlace, LivesIn, last, session_of}
+use Rattle.bx_facts.specs.Chains.{Chain, HasOwnBoot, IsPlace, last, session_of}
 use Rattle.bx_facts.specs.Holds.{OwnersPast}
 use Rattle.bx_post.specs.declared.packets.Letter.{Letter}
 use Rattle.bx_lock_words.specs.Words.{IsWord, Spells}
@@ -16,7 +15,7 @@ use Rattle.bx_locking.specs.Tables.{AreLocks, Side, Term}
 use Rattle.bx_locking.specs.Words.{IsSaid}
 use Rattle.bx_master.specs.Masters.{Mastering}
 use Rattle.bx_clerk.specs.Clerks.{Clerking}
-use Rattle.bx_lock_machines.specs.Machines.{FitsClerk, FitsMaster, IsUntied}
+use Rattle.bx_lock_steps.specs.Machines.{AreStates, FitsClerk, FitsMaster, IsUntied}
 
 -- ---- whose session
 
@@ -39,17 +38,7 @@ pub record AreHad (chain : Chain) (knew boots : Actor → ℕ) (side : Side) (ha
       → ((clerks n).session ≡ Some s) ⊎ ((p : GlobalState) → IsPlace chain p → knew (Node n) ≤ p.index → session_of p n (boots (Node n)) ≢ Some s)
   pub fresh : (s : ℕ) → had s ≡ false → ((b : ℕ) → side.requests s b ≡ None) × (side.drawn s ≡ 0) × (side.given s ≡ 0)
 
--- ---- the states
-
--- Of each node and boot at most one session of this life lives, rows have numbers that were given out in order, who lives has an end in the
--- term, and numbers have 64 bits.
-pub record AreStates (chain : Chain) (ends : ℕ → ℕ) : Type 0 where
-  pub rising : (p : GlobalState) → IsPlace chain p → AreRising p.sessions p.next_session
-  pub single : (p : GlobalState) → IsPlace chain p → AreSingle chain.found p
-  pub ends_most : (p : GlobalState) (s : ℕ) → IsPlace chain p → LivesIn p s → ends s ≤ p.term_end
-  pub index_fits : Fits (last chain).index
-  pub next_fits : Fits (last chain).next_session
-  pub end_fits : Fits (last chain).term_end
+-- ---- to begin with
 
 -- a state that a cluster may begin with: no two live sessions are of one node and boot
 pub record IsStart (s : GlobalState) : Type 0 where

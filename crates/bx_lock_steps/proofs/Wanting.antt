@@ -1,11 +1,11 @@
 -- A clerk wants a block: what it keeps fits again.
-use Rattle.std.proofs.Common.{◌≡◌, ◌≢◌, inl, inr, ⊎_elim, ◌⊎◌, ℕ, ◌+◌, ◌<◌, ◌≤◌, Bool, true, List, [], ◌∷◌, max, Option, Some, None, refl, sym, ◌∙◌, ap, subst, arith}
+use Rattle.std.proofs.Common.{◌≡◌, ⊎_elim, ℕ, ◌+◌, ◌<◌, ◌≤◌, Bool, List, ◌∷◌, Some, None, refl, sym, ◌∙◌, ap, subst, arith}
 use Rattle.std.proofs.lemmas.Bool.Decides.{eqb_tells}
 use Rattle.bx_base.specs.declared.names.Mode.{Mode}
 use Rattle.bx_base.specs.declared.names.Mode.TheVariants.{Exclusive}
 use Rattle.bx_rows.specs.Conditions.{Fits}
 use Rattle.bx_facts.specs.Chains.{Chain, last}
-use Rattle.bx_facts.specs.Holds.{Hold, Holds}
+use Rattle.bx_facts.specs.Holds.{Holds}
 use Rattle.bx_lock_words.specs.declared.words.Want.{Want}
 use Rattle.bx_lock_words.specs.declared.words.Word.{Word}
 use Rattle.bx_lock_words.specs.declared.words.Word.TheVariants.{Wants}
@@ -16,10 +16,10 @@ use Rattle.bx_clerk.specs.Clerks.{Clerking}
 use Rattle.bx_clerk.specs.Requests.{request_in, with_request, without_request}
 use Rattle.bx_clerk.specs.declared.requests.Asking.{Asking}
 use Rattle.bx_clerk.proofs.Lookups.{out_beside, out_here, put_beside, put_here}
-use Rattle.bx_lock_machines.specs.Machines.{AreUnique, FitsClerk, request_from}
-use Rattle.bx_lock_machines.proofs.Clerks.{Changes, KeepsSides, changed_fits, keeps_sides}
-use Rattle.bx_lock_machines.proofs.Requests.{out_unique, put_unique}
-use Rattle.bx_lock_machines.proofs.Functions.{one_at, one_not, one_of, one_spot, spot_puts, unheld}
+use Rattle.bx_lock_steps.specs.Machines.{AreUnique, FitsClerk, request_from}
+use Rattle.bx_lock_steps.proofs.Clerks.{KeepsSides, changed_fits, keeps_sides}
+use Rattle.bx_lock_steps.proofs.Requests.{out_unique, put_unique}
+use Rattle.bx_lock_steps.proofs.Functions.{one_at, one_not, one_of, one_spot, spot_puts, unheld}
 
 -- ---- a number is drawn
 
@@ -74,10 +74,12 @@ wants_on chain holding floor said side term knew boot had promised n c s block m
 }
   where
     rise : Rises side.drawn (one_of s (c.drawn + 1) side.drawn)
-    rise = record { each = λ t. ⊎_elim
-        (λ same. let e = ap (one_of s (c.drawn + 1) side.drawn) same.1 in let f = one_at s (c.drawn + 1) side.drawn in let d = fits.drawn s own in let g = ap side.drawn same.1 in omega (arith, e, f, d, g))
-        (λ other. let e = one_not s (c.drawn + 1) side.drawn t other.1 in omega (arith, e))
-        (eqb_tells t s) }
+    rise = record {
+      each = λ t. ⊎_elim
+          (λ same. let e = ap (one_of s (c.drawn + 1) side.drawn) same.1 in let f = one_at s (c.drawn + 1) side.drawn in let d = fits.drawn s own in let g = ap side.drawn same.1 in omega (arith, e, f, d, g))
+          (λ other. let e = one_not s (c.drawn + 1) side.drawn t other.1 in omega (arith, e))
+          (eqb_tells t s);
+    }
 
 -- ---- no number is left: the hold ends, and nothing is asked
 

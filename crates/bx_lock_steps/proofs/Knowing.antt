@@ -1,26 +1,25 @@
 -- A lock server learns a state: what it keeps fits again.
-use Rattle.std.proofs.Common.{◌≡◌, ◌≢◌, inl, inr, ⊎_elim, ◌⊎◌, ℕ, ◌<◌, ◌≤◌, Bool, true, false, List, [], length, Option, Some, None, max, refl, sym, ◌∙◌, ap, subst, arith}
-use Rattle.std.specs.Prelude.{◌==◌, if◌then◌else◌}
+use Rattle.std.proofs.Common.{◌≡◌, ◌≢◌, inl, inr, ⊎_elim, ◌⊎◌, ℕ, ◌≤◌, Bool, true, false, List, Option, Some, None, max, refl, sym, ◌∙◌, ap, subst, arith}
+use Rattle.std.specs.Prelude.{if◌then◌else◌}
 use Rattle.std.specs.List.{AllByRecursion}
-use Rattle.std.proofs.lemmas.Bool.Decides.{eqb_tells, leb_tells, nat_tests}
+use Rattle.std.proofs.lemmas.Bool.Decides.{eqb_tells, nat_tests}
 use Rattle.bx_global.specs.declared.state.GlobalState.{GlobalState}
 use Rattle.bx_rows.specs.Conditions.{Fits}
-use Rattle.bx_facts.specs.Chains.{Chain, HasOwnBoot, HasRow, IsPlace, last}
+use Rattle.bx_facts.specs.Chains.{Chain, HasOwnBoot, IsPlace, last}
 use Rattle.bx_facts.specs.Holds.{Holds}
 use Rattle.bx_lock_words.specs.declared.words.Want.{Want}
 use Rattle.bx_lock_words.specs.declared.words.Word.{Word}
 use Rattle.bx_lock_words.specs.declared.words.Word.TheVariants.{Wants}
 use Rattle.bx_locking.specs.Tables.{AreLocks, Side, Term}
 use Rattle.bx_locking.specs.Words.{IsSaid}
-use Rattle.bx_locking.proofs.Basics.{place_most, row_or}
+use Rattle.bx_locking.proofs.Basics.{row_or}
 use Rattle.bx_locking.proofs.Terms.{term_most}
-use Rattle.bx_lock_tables.specs.Accounts.{end_in, end_of, has_row}
-use Rattle.bx_lock_tables.specs.declared.accounts.Account.{Account}
+use Rattle.bx_lock_tables.specs.Accounts.{end_of}
 use Rattle.bx_master.specs.Masters.{Mastering, entered, is_term, learned, noting, shows_close, went_on}
-use Rattle.bx_lock_machines.specs.Machines.{AreAccounts, FitsMaster, HasSeen, IsMaster, IsTied, IsUntied, Knows}
-use Rattle.bx_lock_machines.proofs.Accounts.{Tested, account_gone, account_kept, kept_in_order, misses, passes, tested}
-use Rattle.bx_lock_machines.proofs.Chains.{term_began, term_ends, terms_rise}
-use Rattle.bx_lock_machines.proofs.Learning.{learns_first, learns_on, row_has, row_lacks, term_learned}
+use Rattle.bx_lock_steps.specs.Machines.{AreAccounts, FitsMaster, HasSeen, IsMaster, IsTied, IsUntied}
+use Rattle.bx_lock_steps.proofs.Accounts.{account_gone, account_kept, kept_in_order, misses, passes, tested}
+use Rattle.bx_lock_steps.proofs.Chains.{term_began, term_ends, terms_rise}
+use Rattle.bx_lock_steps.proofs.Learning.{learns_first, learns_on, row_has, row_lacks, term_learned}
 
 -- ---- what it keeps then
 
@@ -67,7 +66,7 @@ went_stays chain side said knew id boot term noted m p known fits seen place ind
     seen = refl;
     noted = λ s. ⊎_elim
         (λ has. let e = ap end_of (account_kept side.drawn known 0 m.accounts s fits.accounts (row_has known s has)) in let n = seen.noted s in
-            let t = term_ends chain p known seen.place place (let i = seen.index in omega (arith, i, rises)) same in omega (arith, e, n, t))
+        let t = term_ends chain p known seen.place place (let i = seen.index in omega (arith, i, rises)) same in omega (arith, e, n, t))
         (λ none. let e = ap end_of (account_gone side.drawn known 0 m.accounts s fits.accounts (row_lacks known s none)) in omega (arith, e))
         (row_or known s);
   };
@@ -104,9 +103,9 @@ one_term o t u is also = let e : Some t ≡ Some u = sym is ∙ also in cc
 master_or : (s : GlobalState) (id boot : ℕ) → IsMaster s id boot ⊎ (IsMaster s id boot → ⊥)
 master_or s id boot = ⊎_elim
     (λ one. ⊎_elim
-        (λ two. inl (record { server = one.1; boot_is = two.1 }))
-        (λ other. inr (λ is. other.1 is.boot_is))
-        (eqb_tells s.master_boot boot))
+    (λ two. inl (record { server = one.1; boot_is = two.1 }))
+    (λ other. inr (λ is. other.1 is.boot_is))
+    (eqb_tells s.master_boot boot))
     (λ other. inr (λ is. other.1 is.server))
     (eqb_tells s.master id)
 
@@ -126,35 +125,35 @@ module _ (chain : Chain) (holding : Holds) (floor : ℕ → ℕ) (said : List Wo
       let s = went_stays chain side said knew id boot term noted m k.state known fits k.seen place index_fits rises same in
       ⊎_elim
       (λ master. ⊎_elim
-          (λ now. let l = learns_on chain holding floor said side term noted m knew k.state known locks fits.accounts k.seen (same ∙ now.1) (k.tied master (same ∙ now.1)) place now.1 rises in record {
-            now = term_learned term (went_on known (noting known m)) known;
-            locks = l.locks;
-            expiring = refl;
-            server = s.server;
-            boot_is = s.boot_is;
-            seen = s.seen;
-            index_fits = s.index_fits;
-            accounts = s.accounts;
-            waits = s.waits;
-            tied = λ is_master of_last. l.tied;
-            untied = λ is_master older. absurd (older now.1);
-            own = inr master;
-          })
-          (λ older. record {
-            now = term;
-            locks = locks;
-            expiring = refl;
-            server = s.server;
-            boot_is = s.boot_is;
-            seen = s.seen;
-            index_fits = s.index_fits;
-            accounts = s.accounts;
-            waits = s.waits;
-            tied = λ is_master of_last. absurd (older.1 of_last);
-            untied = λ is_master not_last. fits.untied is_master (λ has. not_last (one_term m.term known.term (last chain).term (is_term_so m.term known.term is) has));
-            own = inl refl;
-          })
-          (eqb_tells known.term (last chain).term))
+      (λ now. let l = learns_on chain holding floor said side term noted m knew k.state known locks fits.accounts k.seen (same ∙ now.1) (k.tied master (same ∙ now.1)) place now.1 rises in record {
+        now = term_learned term (went_on known (noting known m)) known;
+        locks = l.locks;
+        expiring = refl;
+        server = s.server;
+        boot_is = s.boot_is;
+        seen = s.seen;
+        index_fits = s.index_fits;
+        accounts = s.accounts;
+        waits = s.waits;
+        tied = λ is_master of_last. l.tied;
+        untied = λ is_master older. absurd (older now.1);
+        own = inr master;
+      })
+      (λ older. record {
+        now = term;
+        locks = locks;
+        expiring = refl;
+        server = s.server;
+        boot_is = s.boot_is;
+        seen = s.seen;
+        index_fits = s.index_fits;
+        accounts = s.accounts;
+        waits = s.waits;
+        tied = λ is_master of_last. absurd (older.1 of_last);
+        untied = λ is_master not_last. fits.untied is_master (λ has. not_last (one_term m.term known.term (last chain).term (is_term_so m.term known.term is) has));
+        own = inl refl;
+      })
+      (eqb_tells known.term (last chain).term))
       (λ not_master. record {
         now = term;
         locks = locks;
@@ -193,36 +192,36 @@ module _ (chain : Chain) (holding : Holds) (floor : ℕ → ℕ) (said : List Wo
       let s = entered_stays chain side said knew id boot term noted m known fits place index_fits in
       ⊎_elim
       (λ master. ⊎_elim
-          (λ now. let l = learns_first chain holding floor said side term noted m knew known locks
-              (fits.untied master (λ has. is_term_not m.term known.term is_not (has ∙ ap (λ (n : ℕ). Some n) (sym now.1)))) place now.1 (counted is_not now.1) (term_began chain id boot master own) in record {
-            now = term_learned term (entered known (noting known m)) known;
-            locks = l.locks;
-            expiring = refl;
-            server = s.server;
-            boot_is = s.boot_is;
-            seen = s.seen;
-            index_fits = s.index_fits;
-            accounts = s.accounts;
-            waits = s.waits;
-            tied = λ is_master of_last. l.tied;
-            untied = λ is_master older. absurd (older now.1);
-            own = inr master;
-          })
-          (λ older. record {
-            now = term;
-            locks = locks;
-            expiring = refl;
-            server = s.server;
-            boot_is = s.boot_is;
-            seen = s.seen;
-            index_fits = s.index_fits;
-            accounts = s.accounts;
-            waits = s.waits;
-            tied = λ is_master of_last. absurd (older.1 of_last);
-            untied = λ is_master not_last. fits.untied is_master (λ has. still_last not_last has);
-            own = inl refl;
-          })
-          (eqb_tells known.term (last chain).term))
+      (λ now. let l = learns_first chain holding floor said side term noted m knew known locks
+      (fits.untied master (λ has. is_term_not m.term known.term is_not (has ∙ ap (λ (n : ℕ). Some n) (sym now.1)))) place now.1 (counted is_not now.1) (term_began chain id boot master own) in record {
+        now = term_learned term (entered known (noting known m)) known;
+        locks = l.locks;
+        expiring = refl;
+        server = s.server;
+        boot_is = s.boot_is;
+        seen = s.seen;
+        index_fits = s.index_fits;
+        accounts = s.accounts;
+        waits = s.waits;
+        tied = λ is_master of_last. l.tied;
+        untied = λ is_master older. absurd (older now.1);
+        own = inr master;
+      })
+      (λ older. record {
+        now = term;
+        locks = locks;
+        expiring = refl;
+        server = s.server;
+        boot_is = s.boot_is;
+        seen = s.seen;
+        index_fits = s.index_fits;
+        accounts = s.accounts;
+        waits = s.waits;
+        tied = λ is_master of_last. absurd (older.1 of_last);
+        untied = λ is_master not_last. fits.untied is_master (λ has. still_last not_last has);
+        own = inl refl;
+      })
+      (eqb_tells known.term (last chain).term))
       (λ not_master. record {
         now = term;
         locks = locks;

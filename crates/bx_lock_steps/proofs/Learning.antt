@@ -1,25 +1,24 @@
 -- The last term's master learns a state.
-use Rattle.std.proofs.Common.{◌≡◌, ◌≢◌, inl, inr, ⊎_elim, ◌⊎◌, ℕ, ◌+◌, ◌<◌, ◌≤◌, Bool, true, false, List, [], ◌∷◌, length, filter, max, Option, Some, None, refl, sym, ◌∙◌, ap, subst, arith}
-use Rattle.std.specs.Prelude.{IsSome, IsSomeAnd, is_some, find, ltb, ◌==◌, not, if◌then◌else◌}
+use Rattle.std.proofs.Common.{◌≡◌, ◌≢◌, ⊎_elim, ◌⊎◌, ℕ, ◌+◌, ◌<◌, ◌≤◌, Bool, true, false, List, [], ◌∷◌, length, max, Option, Some, None, refl, sym, ◌∙◌, ap, subst, arith}
+use Rattle.std.specs.Prelude.{IsSome, IsSomeAnd, ◌==◌, if◌then◌else◌}
 use Rattle.std.proofs.lemmas.Bool.Decides.{eqb_tells, leb_tells, nat_tests}
 use Rattle.bx_base.specs.declared.names.Mode.{Mode}
 use Rattle.bx_global.specs.declared.state.GlobalState.{GlobalState}
 use Rattle.bx_rows.specs.declared.session.SessionRow.{SessionRow}
 use Rattle.bx_rows.specs.Words.{row_in}
-use Rattle.bx_facts.specs.Chains.{Chain, HasRow, IsPlace, LivesIn, last, oldest}
+use Rattle.bx_facts.specs.Chains.{Chain, HasRow, IsPlace, last, oldest}
 use Rattle.bx_lock_words.specs.declared.words.Word.{Word}
-use Rattle.bx_locking.specs.Tables.{AreLocks, IsChained, Side, Table, Term}
-use Rattle.bx_locking.proofs.Basics.{go, number_given, row_or}
-use Rattle.bx_locking.proofs.Hearing.{Forgets, learns_state}
-use Rattle.bx_locking.proofs.Places.{ComesTo, index_least}
+use Rattle.bx_locking.specs.Tables.{AreLocks, IsChained, Side, Term}
+use Rattle.bx_locking.proofs.Basics.{go, number_given}
+use Rattle.bx_locking.proofs.Hearing.{learns_state}
+use Rattle.bx_locking.proofs.Places.{ComesTo}
 use Rattle.bx_locking.specs.Terms.{HasTake}
 use Rattle.bx_locking.proofs.Terms.{before_since, begins_place, lives_late, since_least, term_most}
-use Rattle.bx_lock_tables.specs.Accounts.{account_in, end_in, end_of, expires_in, has_row, has_some, is_marked, row_for, row_within}
+use Rattle.bx_lock_tables.specs.Accounts.{account_in, end_of, has_row, has_some, is_marked, row_for, row_within}
 use Rattle.bx_lock_tables.specs.declared.accounts.Account.{Account}
-use Rattle.bx_lock_tables.specs.declared.rows.Row.{Row}
 use Rattle.bx_master.specs.Masters.{Mastering, entered, last_dead_in, last_dead_of, later as later_of, noting, shows_close, went_on}
-use Rattle.bx_lock_machines.specs.Machines.{AreAccounts, HasSeen, IsTied, IsUnknown, IsUntied, IsUpTo, entry_from, number_from}
-use Rattle.bx_lock_machines.proofs.Accounts.{account_gone, account_kept, kept}
+use Rattle.bx_lock_steps.specs.Machines.{AreAccounts, HasSeen, IsTied, IsUntied, IsUpTo, entry_from, number_from}
+use Rattle.bx_lock_steps.proofs.Accounts.{account_gone, account_kept, kept}
 
 -- ---- who has a row
 
@@ -71,9 +70,9 @@ learns_on chain holding floor said side term noted m knew p known locks are seen
       })
       (let e = tied.index in let l = (index_after m known).0 in omega (arith, e, l))
       (λ u has none. ⊎_elim
-          (λ stays. absurd (none stays))
-          (λ less. (index_after m known).1 (ap (λ (o : Option (ℕ × ℕ)). shows_close o known) seen.seen ∙ shows_lost p known less))
-          (step.lost u (subst (λ (x : GlobalState). HasRow x u) tied.view has)));
+      (λ stays. absurd (none stays))
+      (λ less. (index_after m known).1 (ap (λ (o : Option (ℕ × ℕ)). shows_close o known) seen.seen ∙ shows_lost p known less))
+      (step.lost u (subst (λ (x : GlobalState). HasRow x u) tied.view has)));
   tied = record {
     view = refl;
     index = refl;
@@ -142,15 +141,15 @@ dead_up : (o : Option ℕ) (rows : List SessionRow) (t : ℕ) (row : SessionRow)
 dead_up o [] t row is dead = absurd cc
 dead_up o (one ∷ rest) t row is dead = ⊎_elim
     (λ same.
-        let here : row_in (one ∷ rest) t ≡ Some one = ap (λ (b : Bool). if b then Some one else row_in rest t) same.0 in
-        let both : Some one ≡ Some row = sym here ∙ is in
-        let e : one ≡ row = cc in
-        let not_zero : (one.dead == 0) ≡ false = ap (λ (x : SessionRow). x.dead == 0) e ∙ dead in
-        up_rows t (last_dead_of o one) rest
-            (subst (λ (b : Bool). IsUpTo (if b then o else Some (later_of one.number o)) t) (sym not_zero) (let u = up_itself one.number o in let n = same.1 in omega (arith, u, n))))
+    let here : row_in (one ∷ rest) t ≡ Some one = ap (λ (b : Bool). if b then Some one else row_in rest t) same.0 in
+    let both : Some one ≡ Some row = sym here ∙ is in
+    let e : one ≡ row = cc in
+    let not_zero : (one.dead == 0) ≡ false = ap (λ (x : SessionRow). x.dead == 0) e ∙ dead in
+    up_rows t (last_dead_of o one) rest
+    (subst (λ (b : Bool). IsUpTo (if b then o else Some (later_of one.number o)) t) (sym not_zero) (let u = up_itself one.number o in let n = same.1 in omega (arith, u, n))))
     (λ other.
-        let there : row_in (one ∷ rest) t ≡ row_in rest t = ap (λ (b : Bool). if b then Some one else row_in rest t) other.0 in
-        dead_up (last_dead_of o one) rest t row (sym there ∙ is) dead)
+    let there : row_in (one ∷ rest) t ≡ row_in rest t = ap (λ (b : Bool). if b then Some one else row_in rest t) other.0 in
+    dead_up (last_dead_of o one) rest t row (sym there ∙ is) dead)
     (eqb_tells one.number t)
 
 alive : (o : Option SessionRow) (row : SessionRow) → o ≡ Some row → (row.dead == 0) ≡ true → IsSomeAnd o (λ row. row.dead ≡ 0)
@@ -193,14 +192,14 @@ learns_first chain holding floor said side term noted m knew known locks untied 
     shows u has none = ⊎_elim
         (λ nothing. ap (λ (o : Option (ℕ × ℕ)). shows_close o known) nothing)
         (λ earlier.
-            let p = earlier.0 in let is = earlier.1 in
-            let most = term_most chain.first chain.changes p is.place in
-            let differs = earlier.2 in
-            let b = before_since chain.first chain.changes p is.place (omega (arith, most, differs)) in
-            let v = since_least chain.first chain.changes term.view locks.term_is.place locks.term_is.term in
-            let one = go chain p term.view is.place locks.term_is.place (omega (arith, b, v)) in
-            let two = go chain term.view known locks.term_is.place place (untied.first known place same_term) in
-            let fewer = one.fewer in
-            ap (λ (o : Option (ℕ × ℕ)). shows_close o known) is.seen ∙ shows_lost p known
-                (⊎_elim (λ stays. absurd (none stays)) (λ less. omega (arith, less, fewer)) (two.lost u has)))
+        let p = earlier.0 in let is = earlier.1 in
+        let most = term_most chain.first chain.changes p is.place in
+        let differs = earlier.2 in
+        let b = before_since chain.first chain.changes p is.place (omega (arith, most, differs)) in
+        let v = since_least chain.first chain.changes term.view locks.term_is.place locks.term_is.term in
+        let one = go chain p term.view is.place locks.term_is.place (omega (arith, b, v)) in
+        let two = go chain term.view known locks.term_is.place place (untied.first known place same_term) in
+        let fewer = one.fewer in
+        ap (λ (o : Option (ℕ × ℕ)). shows_close o known) is.seen ∙ shows_lost p known
+        (⊎_elim (λ stays. absurd (none stays)) (λ less. omega (arith, less, fewer)) (two.lost u has)))
         seen

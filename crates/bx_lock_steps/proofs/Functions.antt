@@ -1,10 +1,10 @@
 -- Functions of sessions, or of sessions and blocks, of which one place or one row is changed.
-use Rattle.std.proofs.Common.{◌≡◌, ◌≢◌, inl, inr, ⊎_elim, ◌⊎◌, ℕ, Bool, true, false, Option, Some, None, refl, sym, ◌∙◌, ap, arith}
+use Rattle.std.proofs.Common.{◌≡◌, inl, inr, ⊎_elim, ℕ, Bool, true, false, None, refl, ◌∙◌, ap, arith}
 use Rattle.std.specs.Prelude.{◌==◌, ◌&&◌, if◌then◌else◌}
 use Rattle.std.proofs.lemmas.Bool.Decides.{eqb_tells, nat_tests}
-use Rattle.bx_facts.specs.Holds.{Hold, Holds, KeepsOthers}
+use Rattle.bx_facts.specs.Holds.{Holds, KeepsOthers}
 use Rattle.bx_locking.specs.Tables.{Puts}
-use Rattle.bx_lock_machines.proofs.Accounts.{itself, not_equal}
+use Rattle.bx_lock_steps.proofs.Accounts.{itself, not_equal}
 
 -- ---- one place, or one row
 

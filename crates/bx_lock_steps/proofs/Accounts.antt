@@ -1,18 +1,17 @@
 -- What a lock server's accounts say, once one is put, or those of some sessions go.
-use Rattle.std.proofs.Common.{◌≡◌, ◌≢◌, inl, inr, ⊎_elim, ◌⊎◌, ℕ, ◌+◌, ◌<◌, ◌≤◌, Bool, true, false, List, [], ◌∷◌, filter, Option, Some, None, refl, sym, ◌∙◌, ap, subst, arith}
-use Rattle.std.specs.Prelude.{find, filter_map, ltb, nat_eq, ◌==◌, if◌then◌else◌}
+use Rattle.std.proofs.Common.{◌≡◌, ◌≢◌, ⊎_elim, ◌⊎◌, ℕ, ◌+◌, ◌<◌, ◌≤◌, Bool, true, false, List, [], ◌∷◌, filter, Option, Some, None, refl, sym, ◌∙◌, ap, subst, arith}
+use Rattle.std.specs.Prelude.{ltb, ◌==◌}
 use Rattle.std.specs.List.{AllByRecursion}
 use Rattle.std.proofs.lemmas.Bool.Decides.{eqb_tells, leb_tells, nat_tests}
-use Rattle.indexmap.specs.IndexMap.{insert_entry}
 use Rattle.bx_global.specs.declared.state.GlobalState.{GlobalState}
 use Rattle.bx_global.proofs.Kept.{all_is}
 use Rattle.bx_locking.specs.Tables.{Rises}
-use Rattle.bx_lock_tables.specs.Accounts.{account_for, account_in, end_in, end_of, expires_in, fresh, has_row, is_marked, listed, marked, noting, or_fresh, row_for, row_in, row_within, rows_at, with_account, with_row}
+use Rattle.bx_lock_tables.specs.Accounts.{account_for, account_in, end_in, end_of, expires_in, has_row, is_marked, listed, marked, noting, or_fresh, row_for, row_in, row_within, rows_at, with_account, with_row}
 use Rattle.bx_lock_tables.specs.Rows.{row_of}
 use Rattle.bx_lock_tables.specs.declared.accounts.Account.{Account}
 use Rattle.bx_lock_tables.specs.declared.rows.Row.{Row}
-use Rattle.bx_lock_machines.specs.Machines.{AreAccounts, IsOwnRow, OwnsRows}
-use Rattle.bx_lock_machines.proofs.Blocks.{put_elsewhere, put_here}
+use Rattle.bx_lock_steps.specs.Machines.{AreAccounts, IsOwnRow, OwnsRows}
+use Rattle.bx_lock_steps.proofs.Blocks.{put_elsewhere, put_here}
 
 -- ---- tests
 
@@ -127,9 +126,14 @@ put_in_order drawn least (account ∷ rest) new are low owns = elim (ordered acc
 
 pub drawn_rises : (drawn more : ℕ → ℕ) (least : ℕ) (accounts : List Account) → Rises drawn more → AreAccounts drawn least accounts → AreAccounts more least accounts
 drawn_rises drawn more least [] rises are = tt
-drawn_rises drawn more least (account ∷ rest) rises are =
-    (are.0, record { each = λ b row is. let k = are.1.each b row is in let r = rises.each account.session in
-        record { session_is = k.session_is; number = (let n = k.number in omega (arith, n, r)); number_fits = k.number_fits; index_fits = k.index_fits } }, drawn_rises drawn more (account.session + 1) rest rises are.2)
+drawn_rises drawn more least (account ∷ rest) rises are = (
+  are.0,
+  record {
+    each = λ b row is. let k = are.1.each b row is in let r = rises.each account.session in
+        record { session_is = k.session_is; number = (let n = k.number in omega (arith, n, r)); number_fits = k.number_fits; index_fits = k.index_fits };
+  },
+  drawn_rises drawn more (account.session + 1) rest rises are.2,
+)
 
 none_before : (drawn : ℕ → ℕ) (least : ℕ) (accounts : List Account) (s : ℕ) → AreAccounts drawn least accounts → s < least → account_in accounts s ≡ None
 none_before drawn least [] s are before = refl
@@ -233,9 +237,9 @@ account_kept drawn known least (account ∷ rest) s are has = elim (ordered s ac
   | below before ↦ none_before drawn account.session (kept known (account ∷ rest)) s (kept_in_order drawn known account.session (account ∷ rest) (omega arith, are.1, are.2)) before ∙ sym (behind account rest s before)
   | equal at ↦ let here : has_row known account.session ≡ true = ap (has_row known) (sym at) ∙ has in rw here (at_front account (kept known rest) s (sym at) ∙ sym (at_front account rest s (sym at)))
   | above later ↦ elim (tested (has_row known account.session)) [
-      | passes stays ↦ rw stays (after account (kept known rest) s later ∙ account_kept drawn known (account.session + 1) rest s are.2 has ∙ sym (after account rest s later))
-      | misses goes ↦ rw goes (account_kept drawn known (account.session + 1) rest s are.2 has ∙ sym (after account rest s later))
-    ]
+    | passes stays ↦ rw stays (after account (kept known rest) s later ∙ account_kept drawn known (account.session + 1) rest s are.2 has ∙ sym (after account rest s later))
+    | misses goes ↦ rw goes (account_kept drawn known (account.session + 1) rest s are.2 has ∙ sym (after account rest s later))
+  ]
 ]
 
 pub account_gone : (drawn : ℕ → ℕ) (known : GlobalState) (least : ℕ) (accounts : List Account) (s : ℕ) → AreAccounts drawn least accounts → has_row known s ≡ false → account_in (kept known accounts) s ≡ None
@@ -244,9 +248,9 @@ account_gone drawn known least (account ∷ rest) s are none = elim (ordered s a
   | below before ↦ none_before drawn account.session (kept known (account ∷ rest)) s (kept_in_order drawn known account.session (account ∷ rest) (omega arith, are.1, are.2)) before
   | equal at ↦ let here : has_row known account.session ≡ false = ap (has_row known) (sym at) ∙ none in rw here (none_before drawn (account.session + 1) (kept known rest) s (kept_in_order drawn known (account.session + 1) rest are.2) (omega (arith, at)))
   | above later ↦ elim (tested (has_row known account.session)) [
-      | passes stays ↦ rw stays (after account (kept known rest) s later ∙ account_gone drawn known (account.session + 1) rest s are.2 none)
-      | misses goes ↦ rw goes (account_gone drawn known (account.session + 1) rest s are.2 none)
-    ]
+    | passes stays ↦ rw stays (after account (kept known rest) s later ∙ account_gone drawn known (account.session + 1) rest s are.2 none)
+    | misses goes ↦ rw goes (account_gone drawn known (account.session + 1) rest s are.2 none)
+  ]
 ]
 
 -- ---- a row is listed, an end noted, an expiry marked
@@ -311,10 +315,10 @@ lists drawn least accounts s b row are = record {
   here = ap (λ (x : Option Account). row_within x b) puts.at ∙ put_here (account_for accounts s).rows b row;
   others = λ t c differ. ⊎_elim
       (λ same. ⊎_elim
-          (λ other. absurd (other same.1))
-          (λ other. ap (λ (n : ℕ). row_for (listed s b row accounts) n c) same.1 ∙ ap (λ (x : Option Account). row_within x c) puts.at
-              ∙ put_elsewhere (account_for accounts s).rows b c row other ∙ said_within accounts s c ∙ ap (λ (n : ℕ). row_for accounts n c) (sym same.1))
-          differ)
+      (λ other. absurd (other same.1))
+      (λ other. ap (λ (n : ℕ). row_for (listed s b row accounts) n c) same.1 ∙ ap (λ (x : Option Account). row_within x c) puts.at
+      ∙ put_elsewhere (account_for accounts s).rows b c row other ∙ said_within accounts s c ∙ ap (λ (n : ℕ). row_for accounts n c) (sym same.1))
+      differ)
       (λ other. ap (λ (x : Option Account). row_within x c) (puts.others t other.1))
       (eqb_tells t s);
   ends = λ t. ⊎_elim
@@ -335,7 +339,7 @@ pub listed_in_order : (drawn : ℕ → ℕ) (accounts : List Account) (s b : ℕ
 listed_in_order drawn accounts s b row are owned = put_in_order drawn 0 accounts (with_listed accounts s b row) are (omega arith) (record {
   each = λ c r is. ⊎_elim
       (λ same. let e : Some row ≡ Some r = sym (put_here (account_for accounts s).rows b row) ∙ ap (row_in (with_listed accounts s b row).rows) (sym same.1) ∙ is in let f : row ≡ r = cc in
-          subst (λ (x : Row). IsOwnRow drawn (account_for accounts s).session x) f (subst (λ (n : ℕ). IsOwnRow drawn n row) (sym own.session) owned))
+      subst (λ (x : Row). IsOwnRow drawn (account_for accounts s).session x) f (subst (λ (n : ℕ). IsOwnRow drawn n row) (sym own.session) owned))
       (λ other. own.owns.each c r (sym (put_elsewhere (account_for accounts s).rows b c row other.1) ∙ is))
       (eqb_tells c b);
 })

@@ -1,8 +1,8 @@
 -- What holds of the states of a chain: who is the master, when a term ends, and whose a session is.
-use Rattle.std.proofs.Common.{◌≡◌, ◌≢◌, inl, inr, ⊎_elim, ◌⊎◌, ℕ, ◌+◌, ◌<◌, ◌≤◌, Bool, true, false, List, [], ◌∷◌, map, Option, Some, None, refl, sym, ◌∙◌, ap, subst, arith}
+use Rattle.std.proofs.Common.{◌≡◌, inl, inr, ⊎_elim, ◌⊎◌, ℕ, ◌+◌, ◌<◌, ◌≤◌, true, false, List, [], ◌∷◌, Option, Some, None, refl, sym, ◌∙◌, ap, subst, arith}
 use Rattle.std.specs.Prelude.{IfSome, IsSomeAnd, ◌==◌, not}
 use Rattle.std.specs.List.{AllByRecursion}
-use Rattle.std.proofs.lemmas.Bool.Decides.{eqb_tells, leb_tells, nat_tests}
+use Rattle.std.proofs.lemmas.Bool.Decides.{leb_tells, nat_tests}
 use Rattle.bx_global.specs.declared.change.Change.{Change}
 use Rattle.bx_global.specs.declared.change.Change.TheVariants.{Renew, Take, Open, Expire, Claim, Close, Shift}
 use Rattle.bx_global.specs.declared.state.GlobalState.{GlobalState}
@@ -13,15 +13,14 @@ use Rattle.bx_global.proofs.Rising.{index_rises, keeps_claimed, keeps_expired}
 use Rattle.bx_rows.specs.declared.session.SessionRow.{SessionRow}
 use Rattle.bx_rows.specs.Rows.{claimed, dead, expired}
 use Rattle.bx_rows.specs.Words.{row_in}
-use Rattle.bx_facts.specs.Chains.{Chain, HasOwnBoot, HasRow, IsAmong, IsPlace, LivesIn, last, session_of, state_after}
-use Rattle.bx_locking.specs.Owned.{AreSingle, CameOf, IsLiveRow, IsNewBoot, IsRowIn, RowsCame}
+use Rattle.bx_facts.specs.Chains.{Chain, HasOwnBoot, IsAmong, IsPlace, LivesIn, last, session_of, state_after}
+use Rattle.bx_locking.specs.Owned.{IsNewBoot, IsRowIn}
 use Rattle.bx_locking.specs.Terms.{HasTake, IsNoTake}
-use Rattle.bx_locking.proofs.Basics.{place_most}
-use Rattle.bx_locking.proofs.Owned.{IsSessionRow, rows_go, session_row, was_own}
+use Rattle.bx_locking.proofs.Owned.{rows_go, session_row}
 use Rattle.bx_locking.proofs.Places.{index_least, index_most, last_among}
 use Rattle.bx_locking.proofs.Terms.{same_term, stays, take_or, takes, term_most}
-use Rattle.bx_lock_machines.specs.Machines.{IsMaster}
-use Rattle.bx_lock_machines.proofs.Growth.{same_master}
+use Rattle.bx_lock_steps.specs.Machines.{IsMaster}
+use Rattle.bx_lock_steps.proofs.Growth.{same_master}
 
 -- ---- the master
 
@@ -65,9 +64,9 @@ pub term_began : (chain : Chain) (id boot : ℕ) → IsMaster (last chain) id bo
 term_began chain id boot master own = ⊎_elim
     (λ zero. inl zero)
     (λ above. ⊎_elim
-        (λ has. inr has)
-        (λ same. absurd (let e = master.boot_is in let l = above.master in omega (arith, e, l, same)))
-        (take_or_same chain.first chain.changes))
+    (λ has. inr has)
+    (λ same. absurd (let e = master.boot_is in let l = above.master in omega (arith, e, l, same)))
+    (take_or_same chain.first chain.changes))
     own
 
 -- ---- the end of a term
@@ -203,13 +202,13 @@ new_boot chain boot p found rising own place = record {
   each = λ row has same. ⊎_elim
       (λ zero. omega (arith, zero))
       (λ above. ⊎_elim
-          (λ this. this.1)
-          (λ older. absurd (
-              let k = (rows_go chain.first chain.changes chain.first p (first_among chain.first chain.changes) place (index_least chain.first chain.changes p place)).each row has (let l = older.1 in omega (arith, l, found)) in
-              let there = row_found chain.first.sessions k.0 chain.first.next_session rising k.1 in
-              let l = below_boot (row_in chain.first.sessions k.0.number) k.0 boot there (above.sessions k.0.number) in
-              let e = k.2.boot in omega (arith, l, e, same)))
-          (leb_tells chain.found row.number))
+      (λ this. this.1)
+      (λ older. absurd (
+      let k = (rows_go chain.first chain.changes chain.first p (first_among chain.first chain.changes) place (index_least chain.first chain.changes p place)).each row has (let l = older.1 in omega (arith, l, found)) in
+      let there = row_found chain.first.sessions k.0 chain.first.next_session rising k.1 in
+      let l = below_boot (row_in chain.first.sessions k.0.number) k.0 boot there (above.sessions k.0.number) in
+      let e = k.2.boot in omega (arith, l, e, same)))
+      (leb_tells chain.found row.number))
       own;
 }
 

@@ -1,6 +1,5 @@
 -- A machine fits on where more was said, promised or drawn, of which it knows nothing.
-use Rattle.std.proofs.Common.{◌≡◌, ◌≢◌, ⊎_elim, ◌⊎◌, ℕ, ◌<◌, ◌≤◌, Bool, true, List, Option, Some, refl, sym, ◌∙◌, ap, subst, arith}
-use Rattle.std.specs.List.{AllByRecursion}
+use Rattle.std.proofs.Common.{ℕ, ◌≤◌, Bool, List, arith}
 use Rattle.bx_global.proofs.Kept.{all_is}
 use Rattle.bx_facts.specs.Chains.{Chain, last}
 use Rattle.bx_lock_words.specs.declared.words.Want.{Want}
@@ -11,8 +10,8 @@ use Rattle.bx_locking.specs.Tables.{Rises, Side, Term}
 use Rattle.bx_locking.specs.Words.{IsSaid}
 use Rattle.bx_master.specs.Masters.{Mastering}
 use Rattle.bx_clerk.specs.Clerks.{Clerking}
-use Rattle.bx_lock_machines.specs.Machines.{FitsClerk, FitsMaster, HasSeen, IsMaster, Knows}
-use Rattle.bx_lock_machines.proofs.Accounts.{drawn_rises}
+use Rattle.bx_lock_steps.specs.Machines.{FitsClerk, FitsMaster, IsMaster}
+use Rattle.bx_lock_steps.proofs.Accounts.{drawn_rises}
 
 -- a server, where more was said and drawn
 pub master_hears : (chain : Chain) (knew boot : ℕ) (said more : List Word) (drawn risen : ℕ → ℕ) (term : Term) (noted : ℕ → ℕ) (id : ℕ) (m : Mastering) → ((word : Word) → IsSaid said word → IsSaid more word) → Rises drawn risen

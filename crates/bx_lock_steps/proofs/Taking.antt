@@ -1,11 +1,9 @@
 -- A clerk takes a grant, gives a block up, answers a revoke, or asks again: what it keeps fits again.
-use Rattle.std.proofs.Common.{◌≡◌, ◌≢◌, inl, inr, ⊎_elim, ◌⊎◌, ℕ, ◌+◌, ◌<◌, ◌≤◌, Bool, true, false, List, [], ◌∷◌, max, Option, Some, None, refl, sym, ◌∙◌, ap, subst, arith}
-use Rattle.std.specs.Prelude.{◌==◌, if◌then◌else◌}
+use Rattle.std.proofs.Common.{◌≡◌, ◌≢◌, ⊎_elim, ℕ, ◌≤◌, Bool, List, ◌∷◌, max, Option, Some, None, refl, sym, ◌∙◌, ap, subst, arith}
 use Rattle.std.proofs.lemmas.Bool.Decides.{eqb_tells}
-use Rattle.bx_base.specs.declared.names.Mode.{Mode}
 use Rattle.bx_global.specs.declared.state.GlobalState.{GlobalState}
 use Rattle.bx_rows.specs.Conditions.{Fits}
-use Rattle.bx_facts.specs.Chains.{Chain, IsPlace, LivesIn, last, oldest}
+use Rattle.bx_facts.specs.Chains.{Chain, IsPlace, LivesIn, last}
 use Rattle.bx_facts.specs.Holds.{Hold, Holds, given_floor}
 use Rattle.bx_lock_words.specs.declared.words.Grant.{Grant}
 use Rattle.bx_lock_words.specs.declared.words.Release.{Release}
@@ -13,7 +11,7 @@ use Rattle.bx_lock_words.specs.declared.words.Revoke.{Revoke}
 use Rattle.bx_lock_words.specs.declared.words.Want.{Want}
 use Rattle.bx_lock_words.specs.declared.words.Word.{Word}
 use Rattle.bx_lock_words.specs.declared.words.Word.TheVariants.{Wants, Grants, Revokes, Releases}
-use Rattle.bx_locking.specs.Tables.{AreLocks, Request, Rises, Side, Term, hold_from}
+use Rattle.bx_locking.specs.Tables.{AreLocks, Request, Side, Term, hold_from}
 use Rattle.bx_locking.specs.Words.{IsSaid}
 use Rattle.bx_locking.proofs.Basics.{last_place, said_or}
 use Rattle.bx_locking.proofs.Giving.{gives_up}
@@ -24,12 +22,12 @@ use Rattle.bx_clerk.specs.Events.{held_by}
 use Rattle.bx_clerk.specs.Requests.{request_in, with_request, without_request}
 use Rattle.bx_clerk.specs.declared.requests.Asking.{Asking}
 use Rattle.bx_clerk.proofs.Lookups.{put_beside, put_here}
-use Rattle.bx_lock_machines.specs.Machines.{FitsClerk, request_from}
-use Rattle.bx_lock_machines.proofs.Clerks.{Changes, KeepsSides, changed_fits, keeps_sides}
-use Rattle.bx_lock_machines.proofs.Floors.{gives_floor}
-use Rattle.bx_lock_machines.proofs.Requests.{put_unique}
-use Rattle.bx_lock_machines.proofs.Functions.{one_at, one_not, one_of, one_spot, spot_puts, unheld}
-use Rattle.bx_lock_machines.proofs.Wanting.{gone_fits, side_ending}
+use Rattle.bx_lock_steps.specs.Machines.{FitsClerk, request_from}
+use Rattle.bx_lock_steps.proofs.Clerks.{KeepsSides, changed_fits, keeps_sides}
+use Rattle.bx_lock_steps.proofs.Floors.{gives_floor}
+use Rattle.bx_lock_steps.proofs.Requests.{put_unique}
+use Rattle.bx_lock_steps.proofs.Functions.{one_at, one_not, one_of, one_spot, spot_puts, unheld}
+use Rattle.bx_lock_steps.proofs.Wanting.{gone_fits, side_ending}
 
 -- ---- a grant is taken
 
@@ -106,10 +104,12 @@ gives_on chain holding floor said side term knew boot had promised n c s block i
       (record {
         requests = spot_puts s block None side.requests;
         drawn = refl;
-        given = record { each = λ t. ⊎_elim
-            (λ same. let e = ap (one_of s (max c.given index) side.given) same.1 in let f = one_at s (max c.given index) side.given in let d = fits.given s own in let g = ap side.given same.1 in omega (arith, e, f, d, g))
-            (λ other. let e = one_not s (max c.given index) side.given t other.1 in omega (arith, e))
-            (eqb_tells t s) };
+        given = record {
+          each = λ t. ⊎_elim
+              (λ same. let e = ap (one_of s (max c.given index) side.given) same.1 in let f = one_at s (max c.given index) side.given in let d = fits.given s own in let g = ap side.given same.1 in omega (arith, e, f, d, g))
+              (λ other. let e = one_not s (max c.given index) side.given t other.1 in omega (arith, e))
+              (eqb_tells t s);
+        };
         given_here = let e = one_at s (max c.given index) side.given in omega (arith, e);
         debt = spot_puts s block (max (side.debt s block) index) side.debt;
       })
@@ -130,7 +130,7 @@ pub answers_on : (chain : Chain) (holding : Holds) (floor : ℕ → ℕ) (said :
     → AreLocks chain holding floor (Releases (answer_now c v) ∷ said) side term
 answers_on chain holding floor said side term knew boot had promised n c v locks fits own has differs =
     answers_revoke chain holding floor said side term v (answer_now c v) locks has refl refl refl (let d = fits.given v.session own in omega (arith, d))
-        (λ r at same. by_request (request_in c.requests v.block) refl r at same)
+    (λ r at same. by_request (request_in c.requests v.block) refl r at same)
   where
     by_request : (o : Option Asking) → request_in c.requests v.block ≡ o → (r : Request) → side.requests v.session v.block ≡ Some r → v.number ≡ r.number → ⊥
     by_request None there r at same = let e : None ≡ Some r = sym (fits.requests v.session own v.block ∙ ap request_from there) ∙ at in cc
@@ -176,8 +176,8 @@ asks_again chain holding floor said side term w r locks there number = record {
   sides = record {
     wants = λ v has q at. ⊎_elim
         (λ newest. let same : v ≡ w = cc in
-            let e : Some q ≡ Some r = sym at ∙ ap (λ (x : Want). side.requests x.session x.block) same ∙ there in let f : q ≡ r = cc in
-            let n = ap (λ (x : Request). x.number) f in let k = ap (λ (x : Want). x.number) same in omega (arith, n, k, number))
+        let e : Some q ≡ Some r = sym at ∙ ap (λ (x : Want). side.requests x.session x.block) same ∙ there in let f : q ≡ r = cc in
+        let n = ap (λ (x : Request). x.number) f in let k = ap (λ (x : Want). x.number) same in omega (arith, n, k, number))
         (λ old. locks.sides.wants v old q at)
         (said_or said (Wants v) (Wants w) has);
     released = λ l has. ⊎_elim (λ newest. absurd cc) (λ old. locks.sides.released l old) (said_or said (Releases l) (Wants w) has);

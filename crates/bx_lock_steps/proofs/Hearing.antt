@@ -1,51 +1,41 @@
 -- A lock server hears a word, or ticks: what it keeps fits again.
-use Rattle.std.proofs.Common.{◌≡◌, ◌≢◌, inl, inr, ⊎_elim, ◌⊎◌, ℕ, ◌+◌, ◌<◌, ◌≤◌, Bool, true, false, List, [], ◌∷◌, ◌++◌, filter, max, min, Option, Some, None, refl, sym, ◌∙◌, ap, subst, arith, append_assoc, append-nil}
-use Rattle.std.specs.Prelude.{filter_map, flat_map, ltb, ◌==◌, ◌&&◌, not, if◌then◌else◌}
+use Rattle.std.proofs.Common.{◌≡◌, inl, ⊎_elim, ℕ, ◌≤◌, Bool, true, List, [], ◌∷◌, ◌++◌, Option, Some, None, refl, sym, ◌∙◌, ap, subst, arith, append_assoc, append-nil}
+use Rattle.std.specs.Prelude.{◌==◌, ◌&&◌, not, if◌then◌else◌}
 use Rattle.std.specs.List.{AllByRecursion, cons_option}
 use Rattle.std.proofs.lemmas.Bool.Decides.{eqb_tells, nat_tests}
-use Rattle.bx_global.specs.declared.change.Change.{Change}
-use Rattle.bx_global.specs.declared.state.GlobalState.{GlobalState}
 use Rattle.bx_global.proofs.Kept.{all-filter, all-push, all_is}
 use Rattle.bx_rows.specs.Conditions.{Fits}
 use Rattle.bx_rows.specs.Words.{row_in as session_row}
 use Rattle.bx_rows.specs.declared.session.SessionRow.{SessionRow}
-use Rattle.bx_facts.specs.Chains.{Chain, HasRow, IsPlace, LivesIn, last, oldest}
-use Rattle.bx_facts.specs.Holds.{Holds}
+use Rattle.bx_facts.specs.Chains.{LivesIn, oldest}
 use Rattle.bx_lock_words.specs.Words.{IsWord}
-use Rattle.bx_lock_words.specs.declared.words.Grant.{Grant}
 use Rattle.bx_lock_words.specs.declared.words.Release.{Release}
 use Rattle.bx_lock_words.specs.declared.words.Revoke.{Revoke}
 use Rattle.bx_lock_words.specs.declared.words.Want.{Want}
 use Rattle.bx_lock_words.specs.declared.words.Word.{Word}
 use Rattle.bx_lock_words.specs.declared.words.Word.TheVariants.{Wants, Revokes, Releases, Renews, Leases, Grants as GrantsWord}
 use Rattle.bx_locking.specs.Leases.{AreLeases, IsPromised}
-use Rattle.bx_locking.specs.Tables
-use Rattle.bx_locking.specs.Tables.{AreLocks, Side, Term}
-use Rattle.bx_locking.specs.Terms.{HasTake}
+use Rattle.bx_locking.specs.Tables.{AreLocks, Term}
 use Rattle.bx_locking.specs.Words.{IsSaid}
-use Rattle.bx_locking.proofs.Basics.{lives_has, now_said, number_given, same_or, said_or, still_said}
-use Rattle.bx_locking.proofs.Late.{late_grant, late_revoke, leases_say_little, says_little}
-use Rattle.bx_locking.proofs.Leases.{now_promised, promised_or, promises_late, still_promised}
-use Rattle.bx_locking.proofs.Masters.{grants_again, revokes_entry}
-use Rattle.bx_locking.proofs.Terms.{before_begins, lives_late}
-use Rattle.bx_lock_tables.specs.Accounts.{end_in, noting, row_for, rows_at}
+use Rattle.bx_locking.proofs.Basics.{lives_has}
+use Rattle.bx_locking.proofs.Late.{late_revoke, leases_say_little, says_little}
+use Rattle.bx_locking.proofs.Leases.{promises_late, still_promised}
+use Rattle.bx_locking.proofs.Masters.{revokes_entry}
+use Rattle.bx_lock_tables.specs.Accounts.{end_in, row_for, rows_at}
 use Rattle.bx_lock_tables.specs.Queue.{has_newer, is_other, queued, revoke_of, revokes_for, still_waiting, without}
-use Rattle.bx_lock_tables.specs.Rows.{clashes, clashing, is_again, listed_for, lives, verdict_of}
-use Rattle.bx_lock_tables.specs.declared.accounts.Account.{Account}
+use Rattle.bx_lock_tables.specs.Rows.{clashes, clashing, lives}
 use Rattle.bx_lock_tables.specs.declared.rows.Row.{Row}
 use Rattle.bx_lock_tables.specs.declared.verdict.Verdict.{Verdict}
 use Rattle.bx_lock_tables.specs.declared.verdict.Verdict.TheVariants.{Refuses, Waits, Grants}
-use Rattle.bx_master.specs.Events.{carrying, concerns, end_for, fits, freeing, grant_of, hear, hear_as, hear_release, hear_renew, hear_want, let_go, may_speak, new_end, released, revokes_again, served, served_if, serving, serving_one, tick, tried, until_in, verdict_on, wanted}
-use Rattle.bx_master.specs.Masters.{Mastering, Served, both, is_master, listing, waits_on}
-use Rattle.bx_lock_machines.specs.Keeps.{AreStates}
-use Rattle.bx_lock_machines.specs.Machines.{AreAccounts, IsOwnRow, IsTied, IsUnknown, entry_from, entry_of, number_from}
-use Rattle.bx_lock_machines.proofs.Accounts.{Lists, NotesEnd, Tested, listed_in_order, lists, misses, noted_in_order, notes_end, passes, row_is, row_owned, rows_found, tested}
-use Rattle.bx_lock_machines.proofs.Granting.{grants_on, term_granted}
-use Rattle.bx_lock_machines.proofs.Releasing.{Speaks, both_true, carries_on, freed, frees_on, speaks, term_carrying, term_freed}
-use Rattle.bx_lock_machines.proofs.Functions.{one_of}
-use Rattle.bx_lock_machines.proofs.Renewing.{renewing, renews_on}
-use Rattle.bx_lock_machines.proofs.Verdicts.{IsAgain, IsGranted, again_row, alive_lives, granted, listed_new, own_row, rows_of}
-use Rattle.bx_lock_machines.proofs.Serving.{After, IsScene, Scene, Server, Spoken, Stands, before_now, grants, late, moves, says, session_fits, tied, waits}
+use Rattle.bx_master.specs.Events.{carrying, concerns, grant_of, hear, hear_release, hear_renew, hear_want, let_go, may_speak, new_end, released, revokes_again, served, served_if, serving, serving_one, tick, tried, until_in, verdict_on, wanted}
+use Rattle.bx_master.specs.Masters.{Mastering, Served, is_master, listing, waits_on}
+use Rattle.bx_lock_steps.specs.Machines.{IsOwnRow, entry_from}
+use Rattle.bx_lock_steps.proofs.Accounts.{NotesEnd, listed_in_order, lists, misses, noted_in_order, notes_end, passes, row_owned, rows_found, tested}
+use Rattle.bx_lock_steps.proofs.Releasing.{Speaks, both_true, carries_on, freed, frees_on, speaks, term_carrying, term_freed}
+use Rattle.bx_lock_steps.proofs.Functions.{one_of}
+use Rattle.bx_lock_steps.proofs.Renewing.{renewing, renews_on}
+use Rattle.bx_lock_steps.proofs.Verdicts.{alive_lives}
+use Rattle.bx_lock_steps.proofs.Serving.{After, IsScene, Scene, Server, Spoken, Stands, before_now, grants, late, moves, says, session_fits, tied, waits}
 
 -- ---- nothing is said
 
@@ -82,7 +72,7 @@ module _ (x : Scene) (good : IsScene x) (first : Spoken) (reading : ℕ) where
       let one = one_served only m words w a (a.said_on (Wants w) all.0) in
       let two = serves only ws (serving_one x.known reading only w m).0 (words ++ (serving_one x.known reading only w m).1) one all.1 in
       subst (λ (said : List Word). After x first (serving x.known reading only (w ∷ ws) m).0 said)
-          (append_assoc words (serving_one x.known reading only w m).1 (serving x.known reading only ws (serving_one x.known reading only w m).0).1) two
+      (append_assoc words (serving_one x.known reading only w m).1 (serving x.known reading only ws (serving_one x.known reading only w m).0).1) two
 
 -- ---- one run of steps, and then another
 
@@ -115,9 +105,9 @@ then_after x first m new words more a b = record {
   stands = elim b.stands [
     | tied is of_last ↦ tied is of_last
     | late before same same_noted ↦ elim a.stands [
-        | tied is of_last ↦ absurd (omega (arith, before, of_last))
-        | late also was was_noted ↦ late before (same ∙ was) (same_noted ∙ was_noted)
-      ]
+      | tied is of_last ↦ absurd (omega (arith, before, of_last))
+      | late also was was_noted ↦ late before (same ∙ was) (same_noted ∙ was_noted)
+    ]
   ];
   server = b.server;
   promises = b.promises;
@@ -131,7 +121,7 @@ then_after x first m new words more a b = record {
 serves_all : (x : Scene) (good : IsScene x) (first : Spoken) (reading : ℕ) (only : Option ℕ) (m : Mastering) (words : List Word) → After x first m words → After x first (served x.known reading only m).0 (words ++ (served x.known reading only m).1)
 serves_all x good first reading only m words a =
     then_after x first m (served x.known reading only m).0 words (served x.known reading only m).1 a
-        (serves x good a.now reading only m.waiting (record m { waiting = [] }) [] (waits x good a.now m [] [] (rebased x first m words a) tt) a.server.waits)
+    (serves x good a.now reading only m.waiting (record m { waiting = [] }) [] (waits x good a.now m [] [] (rebased x first m words a) tt) a.server.waits)
 
 -- ---- what stands against a want is asked back
 
@@ -148,11 +138,11 @@ module _ (x : Scene) (good : IsScene x) (first : Spoken) where
   revokes m words w row a fit next there stands alive = elim a.stands [
     | tied is of_last ↦ says x good first m m words (Revokes (revoke_now w row)) a a.now.term a.now.promised a.now.noted
         (revokes_entry x.chain x.holding x.floor a.now.said x.side a.now.term (revoke_now w row) (record { mode = row.mode; number = row.number; index = row.index }) a.locks
-            (is.table row.session w.block ∙ ap entry_from there ∙ ap (λ (b : Bool). if b then Some (record { mode = row.mode; number = row.number; index = row.index }) else None) stands) refl)
+        (is.table row.session w.block ∙ ap entry_from there ∙ ap (λ (b : Bool). if b then Some (record { mode = row.mode; number = row.number; index = row.index }) else None) stands) refl)
         a.leases (tied is of_last) a.server (λ s e wrong. absurd cc) (λ s e one. one) word_fits
     | late before same same_noted ↦ says x good first m m words (Revokes (revoke_now w row)) a a.now.term a.now.promised a.now.noted
         (says_little x.chain x.holding x.floor a.now.said x.side a.now.term (Revokes (revoke_now w row)) a.locks
-            (late_revoke (oldest x.chain) x.side.drawn (revoke_now w row) (before_now x good first a.now.term a.now.said row.session a.locks before (lives_has x.known row.session alive)) owned.number))
+        (late_revoke (oldest x.chain) x.side.drawn (revoke_now w row) (before_now x good first a.now.term a.now.said row.session a.locks before (lives_has x.known row.session alive)) owned.number))
         a.leases (late before same same_noted) a.server (λ s e wrong. absurd cc) (λ s e one. one) word_fits
   ]
     where
@@ -169,7 +159,7 @@ module _ (x : Scene) (good : IsScene x) (first : Spoken) where
         let clash = both_true (row.stands && not (row.session == w.session)) (clashing w.mode row.mode) both.0 in
         let stands = both_true row.stands (not (row.session == w.session)) clash.0 in
         subst (λ (b : Bool). After x first m (words ++ cons_option (if b then Some (Revokes (revoke_now w row)) else None) [])) (sym is)
-            (revokes m words w row a fit next there stands.0 (alive_lives (session_row x.known.sessions row.session) both.1))
+        (revokes m words w row a fit next there stands.0 (alive_lives (session_row x.known.sessions row.session) both.1))
     | misses is_not ↦ subst (λ (b : Bool). After x first m (words ++ cons_option (if b then Some (Revokes (revoke_now w row)) else None) [])) (sym is_not) (no_more x first m words a)
   ]
 
@@ -178,14 +168,14 @@ module _ (x : Scene) (good : IsScene x) (first : Spoken) where
   all_revoked m words w [] a fit next there = no_more x first m words a
   all_revoked m words w (row ∷ rows) a fit next there =
       subst (λ (said : List Word). After x first m said) (front_or words (revokes_for x.known rows w) (revoke_of x.known w row))
-          (all_revoked m (words ++ cons_option (revoke_of x.known w row) []) w rows (one_revoked m words w row a fit next there.0) fit next there.1)
+      (all_revoked m (words ++ cons_option (revoke_of x.known w row) []) w rows (one_revoked m words w row a fit next there.0) fit next there.1)
 
   again_revoked : (m : Mastering) (words : List Word) (ws : List Want) → After x first m words → Fits x.known.next_session → AllByRecursion (λ (w : Want). IsSaid first.said (Wants w)) ws → After x first m (words ++ revokes_again x.known m.accounts ws)
   again_revoked m words [] a next all = no_more x first m words a
   again_revoked m words (w ∷ ws) a next all =
       let one = all_revoked m words w (rows_at m.accounts w.block) a (a.words_fit (Wants w) (a.said_on (Wants w) all.0)) next (rows_found x.side.drawn 0 m.accounts w.block a.server.accounts) in
       subst (λ (said : List Word). After x first m said) (append_assoc words (revokes_for x.known (rows_at m.accounts w.block) w) (revokes_again x.known m.accounts ws))
-          (again_revoked m (words ++ revokes_for x.known (rows_at m.accounts w.block) w) ws one next all.1)
+      (again_revoked m (words ++ revokes_for x.known (rows_at m.accounts w.block) w) ws one next all.1)
 
 -- ---- it hears
 
@@ -205,11 +195,11 @@ module _ (x : Scene) (good : IsScene x) (first : Spoken) (reading : ℕ) where
       by_verdict Refuses is = no_more x first m words a
       by_verdict Waits is =
           all_revoked x good first (record m { waiting = queued w m.waiting }) words w (rows_at m.accounts w.block) (waits x good first m words (queued w m.waiting) a all_queued)
-              (a.words_fit (Wants w) has) next (rows_found x.side.drawn 0 m.accounts w.block a.server.accounts)
+          (a.words_fit (Wants w) has) next (rows_found x.side.drawn 0 m.accounts w.block a.server.accounts)
       by_verdict (Grants row) is =
           let g = grants x good first m words reading w row a has is in
           waits x good first (listing w row m) (words ++ GrantsWord (grant_of w.block row) ∷ []) (without w m.waiting) g
-              (all-filter (λ (v : Want). IsSaid g.now.said (Wants v)) (is_other w) m.waiting g.server.waits)
+          (all-filter (λ (v : Want). IsSaid g.now.said (Wants v)) (is_other w) m.waiting g.server.waits)
 
   -- the term's data are changed, and nothing is said
   turns : (m new : Mastering) (words : List Word) (a : After x first m words) (term : Term) → AreLocks x.chain x.holding x.floor a.now.said x.side term → AreLeases x.chain x.greatest x.handed a.now.promised a.now.noted x.ends term.expiring
@@ -289,8 +279,8 @@ module _ (x : Scene) (good : IsScene x) (first : Spoken) (reading : ℕ) where
         | passes is ↦
             let both = both_true row.stands (row.number == l.number) is in let n = both.1 in
             as_served x first words (released x.known reading l (Some row) (carrying l m)) (served x.known reading (Some l.block) (freed m l row))
-                (ap (λ (b : Bool). if b then served x.known reading (Some l.block) (freed m l row) else (carrying l m, [])) is)
-                (serves_all x good first reading (Some l.block) (freed m l row) words (freed_after m words l row a has (speaks x.known m l.session may) there both.0 (grind (arith, nat_tests, n))))
+            (ap (λ (b : Bool). if b then served x.known reading (Some l.block) (freed m l row) else (carrying l m, [])) is)
+            (serves_all x good first reading (Some l.block) (freed m l row) words (freed_after m words l row a has (speaks x.known m l.session may) there both.0 (grind (arith, nat_tests, n))))
         | misses is_not ↦ as_served x first words (released x.known reading l (Some row) (carrying l m)) (carrying l m, [])
             (ap (λ (b : Bool). if b then served x.known reading (Some l.block) (freed m l row) else (carrying l m, [])) is_not) kept_only
       ]
@@ -311,8 +301,8 @@ module _ (x : Scene) (good : IsScene x) (first : Spoken) (reading : ℕ) where
         says x good first m (renewing s end m) words (Leases s end) a a.now.term ((s, end) ∷ a.now.promised) (one_of s end a.now.noted) little r.leases (tied r.tied of_last) server new_promise old_promise word_fits
     | late before same same_noted ↦
         says x good first m (renewing s end m) words (Leases s end) a a.now.term ((s, end) ∷ a.now.promised) a.now.noted little
-            (promises_late x.chain x.greatest x.handed a.now.promised a.now.noted x.ends a.now.term.expiring x.known s end a.locks.chained a.leases good.place before (lives_has x.known s may.alive) most)
-            (late before same same_noted) server new_promise old_promise word_fits
+        (promises_late x.chain x.greatest x.handed a.now.promised a.now.noted x.ends a.now.term.expiring x.known s end a.locks.chained a.leases good.place before (lives_has x.known s may.alive) most)
+        (late before same same_noted) server new_promise old_promise word_fits
   ]
     where
       end : ℕ
@@ -378,9 +368,9 @@ pub ticks : (x : Scene) (good : IsScene x) (first : Spoken) (m : Mastering) (wor
 unfolding rebased
 ticks x good first m words a next master =
     as_served x first words (tick x.known m) (record m { waiting = left }, revokes_again x.known m.accounts left)
-        (ap (λ (b : Bool). if b then (record m { waiting = left }, revokes_again x.known m.accounts left) else (m, [])) master)
-        (then_after x first m (record m { waiting = left }) words (revokes_again x.known m.accounts left) a
-            (again_revoked x good a.now (record m { waiting = left }) [] left (waits x good a.now m [] left (rebased x first m words a) all_left) next all_left))
+    (ap (λ (b : Bool). if b then (record m { waiting = left }, revokes_again x.known m.accounts left) else (m, [])) master)
+    (then_after x first m (record m { waiting = left }) words (revokes_again x.known m.accounts left) a
+    (again_revoked x good a.now (record m { waiting = left }) [] left (waits x good a.now m [] left (rebased x first m words a) all_left) next all_left))
   where
     left : List Want
     left = still_waiting x.known m.waiting

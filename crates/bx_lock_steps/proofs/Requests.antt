@@ -1,13 +1,12 @@
 -- Each block has one request in a clerk's map.
-use Rattle.std.proofs.Common.{◌≡◌, ◌≢◌, inl, inr, ⊎_elim, ℕ, Bool, true, false, List, [], ◌∷◌, Option, Some, None, refl, sym, ◌∙◌, ap, subst, arith}
-use Rattle.std.specs.Prelude.{nat_eq, not, ◌==◌, if◌then◌else◌}
+use Rattle.std.proofs.Common.{◌≡◌, ⊎_elim, ℕ, [], ◌∷◌, Some, None, refl, sym, ◌∙◌, ap}
 use Rattle.std.specs.List.{AllByRecursion}
 use Rattle.std.proofs.lemmas.Bool.Decides.{eqb_tells}
 use Rattle.bx_global.proofs.Kept.{all_is}
 use Rattle.bx_clerk.specs.Requests.{Requests, request_in, with_request, without_request}
 use Rattle.bx_clerk.specs.declared.requests.Asking.{Asking}
 use Rattle.bx_clerk.proofs.Lookups.{out_beside, put_beside}
-use Rattle.bx_lock_machines.specs.Machines.{AreUnique}
+use Rattle.bx_lock_steps.specs.Machines.{AreUnique}
 
 pub put_unique : (requests : Requests) (b : ℕ) (asking : Asking) → AreUnique requests → AreUnique (with_request requests b asking)
 put_unique [] b asking unique = (refl, tt)
@@ -30,9 +29,9 @@ each_found (first ∷ rest) unique = (
   ⊎_elim (λ same. rw same.0 refl) (λ other. absurd (other.1 refl)) (eqb_tells first.0 first.0),
   all_is (λ (entry : ℕ × Asking). request_in rest entry.0 ≡ Some entry.1) (λ (entry : ℕ × Asking). request_in (first ∷ rest) entry.0 ≡ Some entry.1)
       (λ entry is. ⊎_elim
-          (λ same. absurd (none_some entry.1 (sym unique.0 ∙ ap (request_in rest) (sym same.1) ∙ is)))
-          (λ other. rw other.0 is)
-          (eqb_tells entry.0 first.0))
+      (λ same. absurd (none_some entry.1 (sym unique.0 ∙ ap (request_in rest) (sym same.1) ∙ is)))
+      (λ other. rw other.0 is)
+      (eqb_tells entry.0 first.0))
       rest (each_found rest unique.1),
 )
   where

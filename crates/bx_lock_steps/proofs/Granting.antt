@@ -1,10 +1,10 @@
 -- The last term's master grants a want, by the row on grants.
-use Rattle.std.proofs.Common.{◌≡◌, ◌≢◌, inl, inr, ⊎_elim, ◌⊎◌, ℕ, ◌+◌, ◌<◌, ◌≤◌, Bool, true, false, List, [], ◌∷◌, Option, Some, None, refl, sym, ◌∙◌, ap, subst, arith}
-use Rattle.std.specs.Prelude.{find, ◌==◌, ◌&&◌, if◌then◌else◌}
+use Rattle.std.proofs.Common.{◌≡◌, inl, ⊎_elim, ℕ, ◌≤◌, Bool, true, false, List, ◌∷◌, Option, Some, refl, sym, ◌∙◌, ap, subst, arith}
+use Rattle.std.specs.Prelude.{◌==◌, ◌&&◌, if◌then◌else◌}
 use Rattle.std.proofs.lemmas.Bool.Decides.{eqb_tells, nat_tests}
 use Rattle.bx_base.specs.declared.names.Mode.{Mode}
 use Rattle.bx_global.specs.declared.state.GlobalState.{GlobalState}
-use Rattle.bx_facts.specs.Chains.{Chain, HasRow, IsPlace, oldest}
+use Rattle.bx_facts.specs.Chains.{Chain, oldest}
 use Rattle.bx_lock_words.specs.declared.words.Grant.{Grant}
 use Rattle.bx_lock_words.specs.declared.words.Want.{Want}
 use Rattle.bx_lock_words.specs.declared.words.Word.{Word}
@@ -14,16 +14,15 @@ use Rattle.bx_locking.specs.Tables.{AreLocks, Entry, Puts, Side, Table, Term}
 use Rattle.bx_locking.specs.Words.{IsSaid}
 use Rattle.bx_locking.proofs.Basics.{lives_has, number_given, same_or}
 use Rattle.bx_locking.proofs.Masters.{MayGrant, grants_want}
-use Rattle.bx_lock_tables.specs.Accounts.{account_in, end_in, expires_in, listed, row_for}
+use Rattle.bx_lock_tables.specs.Accounts.{row_for}
 use Rattle.bx_lock_tables.specs.Rows.{is_again, listed_for, verdict_of}
 use Rattle.bx_lock_tables.specs.declared.rows.Row.{Row}
-use Rattle.bx_lock_tables.specs.declared.verdict.Verdict.{Verdict}
 use Rattle.bx_lock_tables.specs.declared.verdict.Verdict.TheVariants.{Grants}
 use Rattle.bx_master.specs.Events.{grant_of}
 use Rattle.bx_master.specs.Masters.{Mastering, listing}
-use Rattle.bx_lock_machines.specs.Machines.{AreAccounts, IsTied, IsUnknown, entry_from, entry_of, number_from}
-use Rattle.bx_lock_machines.proofs.Accounts.{Lists, listed_in_order, lists}
-use Rattle.bx_lock_machines.proofs.Verdicts.{may_grant, new_grant, own_row, rows_of}
+use Rattle.bx_lock_steps.specs.Machines.{AreAccounts, IsTied, entry_from, entry_of, number_from}
+use Rattle.bx_lock_steps.proofs.Accounts.{Lists, lists}
+use Rattle.bx_lock_steps.proofs.Verdicts.{may_grant, new_grant, own_row, rows_of}
 
 -- ---- a grant
 
@@ -41,6 +40,7 @@ listed_puts term w = record {
   where
     not_equal : (a b : ℕ) → (a ≡ b → ⊥) → (a == b) ≡ false
     not_equal a b differ = ⊎_elim (λ same. absurd (differ same.1)) (λ other. other.0) (eqb_tells a b)
+
     by_first : (t c : ℕ) → (c == w.block) ≡ false → (b : Bool) → (t == w.session) ≡ b → listed_now term w t c ≡ term.listed t c
     by_first t c e true so = rw (so, e) refl
     by_first t c e false not_so = rw not_so refl
@@ -58,19 +58,19 @@ pub grants_on : (chain : Chain) (holding : ℕ → ℕ → Option (Mode × ℕ))
 grants_on chain holding floor said side term noted m known reading w row locks tied are of_term has verdict new = record {
   locks = subst (λ (g : Grant). AreLocks chain holding floor (GrantsWord g ∷ said) side (term_granted term m w row)) (sym same_grant)
       (grants_want chain holding floor said side term (new_grant m w) w (term_granted term m w row).table (listed_now term w) locks has refl refl refl (sym tied.index) may.1
-          (record {
-            at = ap entry_from puts.here ∙ entry_is;
-            others = λ t c differ. ap entry_from (puts.others t c differ) ∙ sym (tied.table t c);
-          })
-          (listed_puts term w));
+      (record {
+        at = ap entry_from puts.here ∙ entry_is;
+        others = λ t c differ. ap entry_from (puts.others t c differ) ∙ sym (tied.table t c);
+      })
+      (listed_puts term w));
   tied = record {
     view = tied.view;
     index = tied.index;
     table = λ s b. refl;
     listed = λ s b known_row. ⊎_elim
         (λ same. ap (λ (n : ℕ). listed_now term w n b) same.0 ∙ ap (λ (n : ℕ). listed_now term w w.session n) same.1 ∙ (listed_puts term w).at
-            ∙ sym (ap (λ (n : ℕ). number_from (row_for (listing w row m).accounts n b)) same.0 ∙ ap (λ (n : ℕ). number_from (row_for (listing w row m).accounts w.session n)) same.1
-            ∙ ap number_from puts.here ∙ ap (λ (x : Row). x.number) may.0))
+        ∙ sym (ap (λ (n : ℕ). number_from (row_for (listing w row m).accounts n b)) same.0 ∙ ap (λ (n : ℕ). number_from (row_for (listing w row m).accounts w.session n)) same.1
+        ∙ ap number_from puts.here ∙ ap (λ (x : Row). x.number) may.0))
         (λ other. (listed_puts term w).others s b other ∙ tied.listed s b known_row ∙ sym (ap number_from (puts.others s b other)))
         (same_or s w.session b w.block);
     expiring = λ s known_row. tied.expiring s known_row ∙ sym (puts.marks s);

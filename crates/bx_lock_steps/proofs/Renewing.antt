@@ -1,27 +1,27 @@
 -- The last term's master promises an end, and asks for an expiry.
-use Rattle.std.proofs.Common.{◌≡◌, ◌≢◌, inl, inr, ⊎_elim, ◌⊎◌, ℕ, ◌+◌, ◌<◌, ◌≤◌, Bool, true, false, List, [], ◌∷◌, max, min, Option, Some, None, refl, sym, ◌∙◌, ap, subst, arith}
-use Rattle.std.specs.Prelude.{is_some, ◌==◌, ◌&&◌, not, if◌then◌else◌}
-use Rattle.std.proofs.lemmas.Bool.Decides.{eqb_tells, nat_tests}
+use Rattle.std.proofs.Common.{◌≡◌, inl, inr, ⊎_elim, ℕ, ◌+◌, ◌<◌, ◌≤◌, true, List, ◌∷◌, Option, Some, sym, ◌∙◌, ap, subst, arith}
+use Rattle.std.specs.Prelude.{is_some}
+use Rattle.std.proofs.lemmas.Bool.Decides.{eqb_tells}
 use Rattle.bx_base.specs.declared.names.Mode.{Mode}
 use Rattle.bx_global.specs.declared.change.Change.{Change}
-use Rattle.bx_global.specs.declared.change.Change.TheVariants.{Expire, Take}
+use Rattle.bx_global.specs.declared.change.Change.TheVariants.{Expire}
 use Rattle.bx_global.specs.declared.state.GlobalState.{GlobalState}
 use Rattle.bx_rows.specs.declared.session.SessionRow.{SessionRow}
 use Rattle.bx_rows.specs.Words.{row_in}
 use Rattle.bx_facts.specs.Chains.{Chain, HasRow, IsPlace, LivesIn, last, oldest}
 use Rattle.bx_lock_words.specs.declared.words.Word.{Word}
-use Rattle.bx_locking.specs.Leases.{AreLeases, IsExpiring, IsPromised}
+use Rattle.bx_locking.specs.Leases.{AreLeases, IsExpiring}
 use Rattle.bx_locking.specs.Tables.{AreLocks, Side, Term}
 use Rattle.bx_locking.proofs.Basics.{lives_has, number_given}
 use Rattle.bx_locking.proofs.Terms.{next_most}
 use Rattle.bx_locking.proofs.Leases.{Marks, expires_now, hands, promises}
-use Rattle.bx_lock_tables.specs.Accounts.{account_in, end_in, expires_in, marked, noting, row_for}
-use Rattle.bx_master.specs.Events.{end_for, new_end, until_in}
+use Rattle.bx_lock_tables.specs.Accounts.{end_in, expires_in, marked, noting}
+use Rattle.bx_master.specs.Events.{end_for, until_in}
 use Rattle.bx_master.specs.Masters.{Mastering}
-use Rattle.bx_lock_machines.specs.Machines.{AreAccounts, HasSeen, IsTied, IsUnknown, entry_from, number_from}
-use Rattle.bx_lock_machines.proofs.Accounts.{Marks as MarksIt, NotesEnd, marks_it, notes_end}
-use Rattle.bx_lock_machines.proofs.Functions.{one_at, one_not, one_of}
-use Rattle.bx_lock_machines.proofs.Releasing.{Speaks}
+use Rattle.bx_lock_steps.specs.Machines.{AreAccounts, IsTied, entry_from, number_from}
+use Rattle.bx_lock_steps.proofs.Accounts.{Marks as MarksIt, NotesEnd, marks_it, notes_end}
+use Rattle.bx_lock_steps.proofs.Functions.{one_at, one_not, one_of}
+use Rattle.bx_lock_steps.proofs.Releasing.{Speaks}
 
 -- ---- an end is promised
 
@@ -100,12 +100,15 @@ expires_on chain holding floor said side term greatest handed promised noted end
     held = locks.held;
   };
   leases = hands chain greatest handed promised noted ends term.expiring (one_of s true term.expiring) (Expire s known.term reading) leases marks
-      (λ u v r is. let one : s ≡ u = cc in let two : known.term ≡ v = cc in let three : reading ≡ r = cc in
-          (omega (arith, now, two), omega (arith, three, most), λ again.
-              subst (λ (k : ℕ). IsExpiring promised (one_of s true term.expiring) (oldest chain) (last chain).next_session k r) one
-                  (subst (λ (k : ℕ). IsExpiring promised (one_of s true term.expiring) (oldest chain) (last chain).next_session s k) three
-                      (expires_now chain greatest handed promised noted ends term.expiring (one_of s true term.expiring) s reading leases of_term given (one_at s true term.expiring)
-                          (let e = ends_is in let n = tied.noted_is s has in omega (arith, past, e, n))))))
+      (λ u v r is. let one : s ≡ u = cc in let two : known.term ≡ v = cc in let three : reading ≡ r = cc in (
+        omega (arith, now, two),
+        omega (arith, three, most),
+        λ again.
+            subst (λ (k : ℕ). IsExpiring promised (one_of s true term.expiring) (oldest chain) (last chain).next_session k r) one
+            (subst (λ (k : ℕ). IsExpiring promised (one_of s true term.expiring) (oldest chain) (last chain).next_session s k) three
+            (expires_now chain greatest handed promised noted ends term.expiring (one_of s true term.expiring) s reading leases of_term given (one_at s true term.expiring)
+            (let e = ends_is in let n = tied.noted_is s has in omega (arith, past, e, n)))),
+      ))
       (λ by boot r is. absurd cc);
   tied = record {
     view = tied.view;

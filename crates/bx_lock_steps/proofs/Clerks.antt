@@ -1,5 +1,5 @@
 -- A clerk, and all others, where something of its session is changed.
-use Rattle.std.proofs.Common.{◌≡◌, ◌≢◌, inl, inr, ⊎_elim, ◌⊎◌, ℕ, ◌<◌, ◌≤◌, Bool, true, List, Option, Some, None, refl, sym, ◌∙◌, ap, subst, arith}
+use Rattle.std.proofs.Common.{◌≡◌, ◌≢◌, inl, inr, ⊎_elim, ℕ, ◌≤◌, Bool, List, Option, Some, None, sym, ◌∙◌, ap, subst, arith}
 use Rattle.std.proofs.lemmas.Bool.Decides.{eqb_tells}
 use Rattle.bx_rows.specs.Conditions.{Fits}
 use Rattle.bx_facts.specs.Chains.{Chain}
@@ -8,7 +8,7 @@ use Rattle.bx_locking.specs.Tables.{Puts, Request, Side}
 use Rattle.bx_clerk.specs.Clerks.{Clerking}
 use Rattle.bx_clerk.specs.Requests.{request_in}
 use Rattle.bx_clerk.specs.declared.requests.Asking.{Asking}
-use Rattle.bx_lock_machines.specs.Machines.{AreUnique, FitsClerk, request_from}
+use Rattle.bx_lock_steps.specs.Machines.{AreUnique, FitsClerk, request_from}
 
 -- what is known of each other session stays
 pub record KeepsSides (s : ℕ) (old new : Side) : Type 0 where

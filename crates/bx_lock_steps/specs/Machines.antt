@@ -1,13 +1,14 @@
--- How one lock server, and one clerk, fit what was done with them.
-use Rattle.std.specs.Prelude.{◌≡◌, ℕ, ◌+◌, ◌<◌, ◌≤◌, ◌⊎◌, Bool, true, false, List, [], ◌∷◌, length, Option, Some, None, if◌then◌else◌}
+-- How one lock server, and one clerk, fit what was done with them; and what holds of the states of a chain.
+use Rattle.std.specs.Prelude.{◌≡◌, ℕ, ◌+◌, ◌<◌, ◌≤◌, Bool, true, false, List, [], ◌∷◌, length, Option, Some, None, if◌then◌else◌}
 use Rattle.std.specs.List.{AllByRecursion}
 use Rattle.bx_global.specs.declared.state.GlobalState.{GlobalState}
-use Rattle.bx_rows.specs.Conditions.{Fits}
-use Rattle.bx_facts.specs.Chains.{Chain, HasRow, IsPlace, last, oldest, session_of}
+use Rattle.bx_rows.specs.Conditions.{AreRising, Fits}
+use Rattle.bx_facts.specs.Chains.{Chain, HasRow, IsPlace, LivesIn, last, oldest, session_of}
 use Rattle.bx_lock_words.specs.declared.words.Want.{Want}
 use Rattle.bx_lock_words.specs.declared.words.Word.{Word}
 use Rattle.bx_lock_words.specs.declared.words.Word.TheVariants.{Wants}
 use Rattle.bx_locking.specs.Leases.{IsPromised}
+use Rattle.bx_locking.specs.Owned.{AreSingle}
 use Rattle.bx_locking.specs.Tables.{Entry, Request, Side, Term}
 use Rattle.bx_locking.specs.Words.{IsSaid}
 use Rattle.bx_lock_tables.specs.Accounts.{account_in, end_in, expires_in, row_for, row_in}
@@ -17,6 +18,18 @@ use Rattle.bx_master.specs.Masters.{Mastering}
 use Rattle.bx_clerk.specs.Clerks.{Clerking}
 use Rattle.bx_clerk.specs.Requests.{Requests, request_in}
 use Rattle.bx_clerk.specs.declared.requests.Asking.{Asking}
+
+-- ---- the states
+
+-- Of each node and boot at most one session of this life lives, rows have numbers that were given out in order, who lives has an end in the
+-- term, and numbers have 64 bits.
+pub record AreStates (chain : Chain) (ends : ℕ → ℕ) : Type 0 where
+  pub rising : (p : GlobalState) → IsPlace chain p → AreRising p.sessions p.next_session
+  pub single : (p : GlobalState) → IsPlace chain p → AreSingle chain.found p
+  pub ends_most : (p : GlobalState) (s : ℕ) → IsPlace chain p → LivesIn p s → ends s ≤ p.term_end
+  pub index_fits : Fits (last chain).index
+  pub next_fits : Fits (last chain).next_session
+  pub end_fits : Fits (last chain).term_end
 
 -- ---- a clerk
 

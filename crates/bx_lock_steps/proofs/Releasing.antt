@@ -1,7 +1,6 @@
 -- The last term's master hears a release.
-use Rattle.std.proofs.Common.{◌≡◌, ◌≢◌, inl, inr, ⊎_elim, ◌⊎◌, ℕ, ◌<◌, ◌≤◌, Bool, true, false, List, max, Option, Some, None, refl, sym, ◌∙◌, ap, subst, arith}
-use Rattle.std.specs.Prelude.{◌==◌, ◌&&◌, not, if◌then◌else◌}
-use Rattle.std.proofs.lemmas.Bool.Decides.{nat_tests}
+use Rattle.std.proofs.Common.{◌≡◌, ⊎_elim, ℕ, ◌≤◌, Bool, true, false, List, Option, Some, None, refl, sym, ◌∙◌, ap, subst, arith}
+use Rattle.std.specs.Prelude.{◌&&◌, not, if◌then◌else◌}
 use Rattle.bx_base.specs.declared.names.Mode.{Mode}
 use Rattle.bx_global.specs.declared.state.GlobalState.{GlobalState}
 use Rattle.bx_rows.specs.Words.{row_in}
@@ -13,14 +12,14 @@ use Rattle.bx_locking.specs.Tables.{AreLocks, Side, Term}
 use Rattle.bx_locking.specs.Words.{IsSaid}
 use Rattle.bx_locking.proofs.Basics.{lives_has, number_given, same_or}
 use Rattle.bx_locking.proofs.Hearing.{hears_index, hears_release}
-use Rattle.bx_lock_tables.specs.Accounts.{expires_in, listed, row_for}
+use Rattle.bx_lock_tables.specs.Accounts.{expires_in, row_for}
 use Rattle.bx_lock_tables.specs.Rows.{lives}
 use Rattle.bx_lock_tables.specs.declared.rows.Row.{Row}
-use Rattle.bx_master.specs.Events.{carrying, fits, freeing, let_go, may_speak}
+use Rattle.bx_master.specs.Events.{carrying, freeing, let_go, may_speak}
 use Rattle.bx_master.specs.Masters.{Mastering}
-use Rattle.bx_lock_machines.specs.Machines.{AreAccounts, IsTied, IsUnknown, entry_from, number_from}
-use Rattle.bx_lock_machines.proofs.Accounts.{Lists, lists}
-use Rattle.bx_lock_machines.proofs.Verdicts.{alive_lives}
+use Rattle.bx_lock_steps.specs.Machines.{AreAccounts, IsTied, entry_from, number_from}
+use Rattle.bx_lock_steps.proofs.Accounts.{Lists, lists}
+use Rattle.bx_lock_steps.proofs.Verdicts.{alive_lives}
 
 pub both_true : (a b : Bool) → (a && b) ≡ true → (a ≡ true) × (b ≡ true)
 both_true true b is = (refl, is)
@@ -97,7 +96,7 @@ frees_on chain holding floor said side term noted m known l row locks tied are h
     table = λ s b. refl;
     listed = λ s b has_row. tied.listed s b has_row ∙ ⊎_elim
         (λ same. ap (λ (n : ℕ). number_from (row_for m.accounts n b)) same.0 ∙ ap (λ (n : ℕ). number_from (row_for m.accounts l.session n)) same.1 ∙ ap number_from there
-            ∙ sym (ap (λ (n : ℕ). number_from (row_for (freed m l row).accounts n b)) same.0 ∙ ap (λ (n : ℕ). number_from (row_for (freed m l row).accounts l.session n)) same.1 ∙ ap number_from puts.here))
+        ∙ sym (ap (λ (n : ℕ). number_from (row_for (freed m l row).accounts n b)) same.0 ∙ ap (λ (n : ℕ). number_from (row_for (freed m l row).accounts l.session n)) same.1 ∙ ap number_from puts.here))
         (λ other. sym (ap number_from (puts.others s b other)))
         (same_or s l.session b l.block);
     expiring = λ s has_row. tied.expiring s has_row ∙ sym (puts.marks s);

@@ -1,5 +1,5 @@
 -- What a map by block has, once something is put.
-use Rattle.std.proofs.Common.{◌≡◌, inl, inr, ⊎_elim, ℕ, Bool, true, false, cond, List, [], ◌∷◌, Option, Some, None, refl, sym, ◌∙◌, ap, arith}
+use Rattle.std.proofs.Common.{◌≡◌, ⊎_elim, ℕ, true, List, [], ◌∷◌, Some, refl, sym, ◌∙◌, arith}
 use Rattle.std.specs.Prelude.{nat_eq, ◌==◌}
 use Rattle.std.specs.Map.{lookup}
 use Rattle.std.proofs.lemmas.Bool.Decides.{eqb_tells, nat_tests}
@@ -16,11 +16,11 @@ pub put_elsewhere : {A : Type 0} (items : List (ℕ × A)) (b c : ℕ) (value : 
 put_elsewhere {A} [] b c value differ = ⊎_elim (λ same. absurd (differ same.1)) (λ other. rw other.0 refl) (eqb_tells c b)
 put_elsewhere {A} (item ∷ rest) b c value differ = ⊎_elim
     (λ same. ⊎_elim
-        (λ here. absurd (differ (here.1 ∙ sym same.1)))
-        (λ not_here. rw same.0 (rw not_here.0 refl))
-        (eqb_tells c item.0))
+    (λ here. absurd (differ (here.1 ∙ sym same.1)))
+    (λ not_here. rw same.0 (rw not_here.0 refl))
+    (eqb_tells c item.0))
     (λ other. ⊎_elim
-        (λ here. rw other.0 (rw here.0 refl))
-        (λ not_here. rw other.0 (rw not_here.0 (put_elsewhere rest b c value differ)))
-        (eqb_tells c item.0))
+    (λ here. rw other.0 (rw here.0 refl))
+    (λ not_here. rw other.0 (rw not_here.0 (put_elsewhere rest b c value differ)))
+    (eqb_tells c item.0))
     (eqb_tells b item.0)

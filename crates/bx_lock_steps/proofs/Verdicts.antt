@@ -1,5 +1,5 @@
 -- What is granted by the row on grants may be granted.
-use Rattle.std.proofs.Common.{◌≡◌, ◌≢◌, inl, inr, ⊎_elim, ◌⊎◌, ℕ, ◌+◌, ◌<◌, ◌≤◌, Bool, true, false, List, [], ◌∷◌, Option, Some, None, refl, sym, ◌∙◌, ap, subst, arith}
+use Rattle.std.proofs.Common.{◌≡◌, ⊎_elim, ℕ, ◌<◌, ◌≤◌, Bool, true, false, List, [], ◌∷◌, Option, Some, None, refl, sym, ◌∙◌, ap, subst, arith}
 use Rattle.std.specs.Prelude.{IsSome, IsSomeAnd, find, ltb, nat_le, ◌==◌, ◌&&◌, ◌||◌, not, if◌then◌else◌}
 use Rattle.std.specs.List.{list_any}
 use Rattle.std.proofs.lemmas.Bool.Decides.{eqb_tells, leb_tells, nat_tests}
@@ -16,13 +16,12 @@ use Rattle.bx_locking.specs.Tables.{AreLocks, Entry, Side, Term}
 use Rattle.bx_locking.proofs.Basics.{lives_has, not_both}
 use Rattle.bx_locking.proofs.Masters.{MayGrant}
 use Rattle.bx_lock_tables.specs.Accounts.{row_for, rows_at}
-use Rattle.bx_lock_tables.specs.Rows.{clashes, clashing, dead_has, granted_row, has_clash, has_earlier, has_up_to, is_again, is_alive, is_old, kept_mode, listed_for, lives, mode_for, row_of, stands_up, verdict_of}
+use Rattle.bx_lock_tables.specs.Rows.{clashes, clashing, dead_has, granted_row, has_clash, has_earlier, is_again, is_alive, is_old, kept_mode, listed_for, lives, mode_for, row_of, stands_up, verdict_of}
 use Rattle.bx_lock_tables.specs.declared.rows.Row.{Row}
-use Rattle.bx_lock_tables.specs.declared.verdict.Verdict.{Verdict}
 use Rattle.bx_lock_tables.specs.declared.verdict.Verdict.TheVariants.{Refuses, Waits, Grants}
 use Rattle.bx_master.specs.Masters.{Mastering}
-use Rattle.bx_lock_machines.specs.Machines.{AreAccounts, IsTied, IsUpTo, entry_from, entry_of, number_from}
-use Rattle.bx_lock_machines.proofs.Accounts.{row_is}
+use Rattle.bx_lock_steps.specs.Machines.{AreAccounts, IsTied, IsUpTo, entry_from, number_from}
+use Rattle.bx_lock_steps.proofs.Accounts.{row_is}
 
 -- ---- tests of lists
 
@@ -222,7 +221,7 @@ may_grant chain holding floor said side term noted m known reading w row locks t
         by_kind (as_wanted e) = e ∙ shared
         by_kind (kept q there stands exclusive) = absurd (not_both q.mode exclusive
             ((locks.listed.apart w.session t w.block (record { mode = q.mode; number = q.number; index = q.index }) f (λ e. differ (sym e))
-                (tied.table w.session w.block ∙ ap entry_from (sym (found w.session) ∙ there) ∙ ap (λ (b : Bool). if b then Some (record { mode = q.mode; number = q.number; index = q.index }) else None) stands) at).0))
+            (tied.table w.session w.block ∙ ap entry_from (sym (found w.session) ∙ there) ∙ ap (λ (b : Bool). if b then Some (record { mode = q.mode; number = q.number; index = q.index }) else None) stands) at).0))
 
     none_earlier : (t : ℕ) → HasRow known t → t < oldest chain → ⊥
     none_earlier t has before = by_row (row_in known.sessions t) refl has

@@ -1,49 +1,37 @@
 -- What a lock server does in one event, once it has learned the state that it was handed: each step keeps what it says and keeps fitting.
-use Rattle.std.proofs.Common.{◌≡◌, ◌≢◌, inl, inr, ⊎_elim, ◌⊎◌, ℕ, ◌+◌, ◌<◌, ◌≤◌, Bool, true, false, List, [], ◌∷◌, ◌++◌, filter, max, min, Option, Some, None, refl, sym, ◌∙◌, ap, subst, arith, append_assoc, append-nil}
-use Rattle.std.specs.Prelude.{filter_map, flat_map, ltb, ◌==◌, ◌&&◌, not, if◌then◌else◌}
+use Rattle.std.proofs.Common.{◌≡◌, ◌≢◌, ⊎_elim, ◌⊎◌, ℕ, ◌<◌, ◌≤◌, Bool, true, false, List, [], ◌∷◌, ◌++◌, Some, None, sym, ◌∙◌, ap, subst, arith}
+use Rattle.std.specs.Prelude.{if◌then◌else◌}
 use Rattle.std.specs.List.{AllByRecursion}
-use Rattle.std.proofs.lemmas.Bool.Decides.{eqb_tells, nat_tests}
 use Rattle.bx_global.specs.declared.change.Change.{Change}
 use Rattle.bx_global.specs.declared.state.GlobalState.{GlobalState}
-use Rattle.bx_global.proofs.Kept.{all-filter, all-push, all_is}
+use Rattle.bx_global.proofs.Kept.{all-push, all_is}
 use Rattle.bx_rows.specs.Conditions.{Fits}
 use Rattle.bx_rows.specs.Words.{row_in as session_row}
-use Rattle.bx_rows.specs.declared.session.SessionRow.{SessionRow}
 use Rattle.bx_facts.specs.Chains.{Chain, HasRow, IsPlace, LivesIn, last, oldest}
 use Rattle.bx_facts.specs.Holds.{Holds}
 use Rattle.bx_lock_words.specs.Words.{IsWord}
-use Rattle.bx_lock_words.specs.declared.words.Grant.{Grant}
-use Rattle.bx_lock_words.specs.declared.words.Release.{Release}
-use Rattle.bx_lock_words.specs.declared.words.Revoke.{Revoke}
 use Rattle.bx_lock_words.specs.declared.words.Want.{Want}
 use Rattle.bx_lock_words.specs.declared.words.Word.{Word}
-use Rattle.bx_lock_words.specs.declared.words.Word.TheVariants.{Wants, Revokes, Releases, Renews, Leases, Grants as GrantsWord}
+use Rattle.bx_lock_words.specs.declared.words.Word.TheVariants.{Wants, Leases, Grants as GrantsWord}
 use Rattle.bx_locking.specs.Leases.{AreLeases, IsPromised}
 use Rattle.bx_locking.specs.Tables
 use Rattle.bx_locking.specs.Tables.{AreLocks, Side, Term}
 use Rattle.bx_locking.specs.Terms.{HasTake}
 use Rattle.bx_locking.specs.Words.{IsSaid}
 use Rattle.bx_locking.proofs.Basics.{lives_has, now_said, number_given, same_or, said_or, still_said}
-use Rattle.bx_locking.proofs.Late.{late_grant, late_revoke, leases_say_little, says_little}
-use Rattle.bx_locking.proofs.Leases.{now_promised, promised_or, promises_late, still_promised}
-use Rattle.bx_locking.proofs.Masters.{grants_again, revokes_entry}
+use Rattle.bx_locking.proofs.Late.{late_grant, says_little}
+use Rattle.bx_locking.proofs.Masters.{grants_again}
 use Rattle.bx_locking.proofs.Terms.{before_begins, lives_late}
-use Rattle.bx_lock_tables.specs.Accounts.{end_in, noting, row_for, rows_at}
-use Rattle.bx_lock_tables.specs.Queue.{has_newer, is_other, queued, revoke_of, revokes_for, still_waiting, without}
-use Rattle.bx_lock_tables.specs.Rows.{clashes, clashing, is_again, listed_for, lives, verdict_of}
-use Rattle.bx_lock_tables.specs.declared.accounts.Account.{Account}
+use Rattle.bx_lock_tables.specs.Accounts.{end_in, row_for}
+use Rattle.bx_lock_tables.specs.Rows.{is_again, listed_for, verdict_of}
 use Rattle.bx_lock_tables.specs.declared.rows.Row.{Row}
-use Rattle.bx_lock_tables.specs.declared.verdict.Verdict.{Verdict}
-use Rattle.bx_lock_tables.specs.declared.verdict.Verdict.TheVariants.{Refuses, Waits, Grants}
-use Rattle.bx_master.specs.Events.{carrying, concerns, end_for, fits, freeing, grant_of, hear, hear_as, hear_release, hear_renew, hear_want, let_go, may_speak, new_end, released, revokes_again, served, served_if, serving, serving_one, tick, tried, until_in, verdict_on, wanted}
-use Rattle.bx_master.specs.Masters.{Mastering, Served, both, is_master, listing, waits_on}
-use Rattle.bx_lock_machines.specs.Keeps.{AreStates}
-use Rattle.bx_lock_machines.specs.Machines.{AreAccounts, IsOwnRow, IsTied, IsUnknown, entry_from, entry_of, number_from}
-use Rattle.bx_lock_machines.proofs.Accounts.{Lists, NotesEnd, Tested, listed_in_order, lists, misses, noted_in_order, notes_end, passes, row_is, row_owned, rows_found, tested}
-use Rattle.bx_lock_machines.proofs.Granting.{grants_on, term_granted}
-use Rattle.bx_lock_machines.proofs.Releasing.{Speaks, both_true, carries_on, frees_on, speaks}
-use Rattle.bx_lock_machines.proofs.Renewing.{renewing, renews_on}
-use Rattle.bx_lock_machines.proofs.Verdicts.{IsAgain, IsGranted, again_row, alive_lives, granted, listed_new, own_row, rows_of}
+use Rattle.bx_lock_tables.specs.declared.verdict.Verdict.TheVariants.{Grants}
+use Rattle.bx_master.specs.Events.{grant_of}
+use Rattle.bx_master.specs.Masters.{Mastering, listing}
+use Rattle.bx_lock_steps.specs.Machines.{AreAccounts, AreStates, IsOwnRow, IsTied, entry_from, number_from}
+use Rattle.bx_lock_steps.proofs.Accounts.{Lists, listed_in_order, lists, misses, passes, row_is, row_owned, tested}
+use Rattle.bx_lock_steps.proofs.Granting.{grants_on, term_granted}
+use Rattle.bx_lock_steps.proofs.Verdicts.{IsAgain, IsGranted, again_row, alive_lives, granted, listed_new, own_row, rows_of}
 
 -- ---- the data
 
@@ -176,7 +164,7 @@ tied_again chain term noted drawn m known w row is are there not_later = record 
     same : (s b : ℕ) → row_for (listing w row m).accounts s b ≡ row_for m.accounts s b
     same s b = ⊎_elim
         (λ here. ap (λ (n : ℕ). row_for (listing w row m).accounts n b) here.0 ∙ ap (λ (n : ℕ). row_for (listing w row m).accounts w.session n) here.1 ∙ puts.here
-            ∙ sym (ap (λ (n : ℕ). row_for m.accounts n b) here.0 ∙ ap (λ (n : ℕ). row_for m.accounts w.session n) here.1 ∙ there))
+        ∙ sym (ap (λ (n : ℕ). row_for m.accounts n b) here.0 ∙ ap (λ (n : ℕ). row_for m.accounts w.session n) here.1 ∙ there))
         (λ other. puts.others s b other)
         (same_or s w.session b w.block)
 
@@ -234,12 +222,12 @@ module _ (x : Scene) (good : IsScene x) (first : Spoken) where
         let of_term = lives_late x.chain.found x.chain.first x.chain.changes x.known w.session a.locks.chained.found (good.began of_last) good.place of_last alive in
         let g = grants_on x.chain x.holding x.floor a.now.said x.side a.now.term a.now.noted m x.known reading w row a.locks is a.server.accounts of_term has verdict new in
         says m (listing w row m) words (GrantsWord (grant_of w.block row)) a (term_granted a.now.term m w row) a.now.promised a.now.noted g.locks a.leases (tied g.tied of_last) server
-            (λ s e wrong. absurd cc) (λ s e one. one) fit
+        (λ s e wrong. absurd cc) (λ s e one. one) fit
     | late before same same_noted ↦
         says m (listing w row m) words (GrantsWord (grant_of w.block row)) a a.now.term a.now.promised a.now.noted
-            (says_little x.chain x.holding x.floor a.now.said x.side a.now.term (GrantsWord (grant_of w.block row)) a.locks
-                (late_grant (oldest x.chain) x.side.drawn (grant_of w.block row) (let b = before_now a.now.term a.now.said w.session a.locks before (lives_has x.known w.session alive) in omega (arith, b, session))))
-            a.leases (late before same same_noted) server (λ s e wrong. absurd cc) (λ s e one. one) fit
+        (says_little x.chain x.holding x.floor a.now.said x.side a.now.term (GrantsWord (grant_of w.block row)) a.locks
+        (late_grant (oldest x.chain) x.side.drawn (grant_of w.block row) (let b = before_now a.now.term a.now.said w.session a.locks before (lives_has x.known w.session alive) in omega (arith, b, session))))
+        a.leases (late before same same_noted) server (λ s e wrong. absurd cc) (λ s e one. one) fit
   ]
     where
       is_granted : IsGranted x.known m.last_dead m.index reading (rows_of m w) w row
@@ -279,15 +267,15 @@ module _ (x : Scene) (good : IsScene x) (first : Spoken) where
   granted_again m words reading w row a has verdict again = elim a.stands [
     | tied is of_last ↦
         says m (listing w row m) words (GrantsWord (grant_of w.block row)) a a.now.term a.now.promised a.now.noted
-            (grants_again x.chain x.holding x.floor a.now.said x.side a.now.term (grant_of w.block row) a.locks
-                (ap (λ (s : ℕ). a.now.term.table s w.block) owned.session_is ∙ is.table w.session w.block ∙ ap entry_from there
-                    ∙ ap (λ (b : Bool). if b then Some (Tables.entry_of (grant_of w.block row)) else None) old.stands))
-            a.leases (tied (tied_again x.chain a.now.term a.now.noted x.side.drawn m x.known w row is a.server.accounts there not_later) of_last) server (λ s e wrong. absurd cc) (λ s e one. one) fit
+        (grants_again x.chain x.holding x.floor a.now.said x.side a.now.term (grant_of w.block row) a.locks
+        (ap (λ (s : ℕ). a.now.term.table s w.block) owned.session_is ∙ is.table w.session w.block ∙ ap entry_from there
+        ∙ ap (λ (b : Bool). if b then Some (Tables.entry_of (grant_of w.block row)) else None) old.stands))
+        a.leases (tied (tied_again x.chain a.now.term a.now.noted x.side.drawn m x.known w row is a.server.accounts there not_later) of_last) server (λ s e wrong. absurd cc) (λ s e one. one) fit
     | late before same same_noted ↦
         says m (listing w row m) words (GrantsWord (grant_of w.block row)) a a.now.term a.now.promised a.now.noted
-            (says_little x.chain x.holding x.floor a.now.said x.side a.now.term (GrantsWord (grant_of w.block row)) a.locks
-                (late_grant (oldest x.chain) x.side.drawn (grant_of w.block row) (let b = before_now a.now.term a.now.said w.session a.locks before (lives_has x.known w.session alive) in let s = owned.session_is in omega (arith, b, s))))
-            a.leases (late before same same_noted) server (λ s e wrong. absurd cc) (λ s e one. one) fit
+        (says_little x.chain x.holding x.floor a.now.said x.side a.now.term (GrantsWord (grant_of w.block row)) a.locks
+        (late_grant (oldest x.chain) x.side.drawn (grant_of w.block row) (let b = before_now a.now.term a.now.said w.session a.locks before (lives_has x.known w.session alive) in let s = owned.session_is in omega (arith, b, s))))
+        a.leases (late before same same_noted) server (λ s e wrong. absurd cc) (λ s e one. one) fit
   ]
     where
       is_granted : IsGranted x.known m.last_dead m.index reading (rows_of m w) w row

@@ -1,27 +1,26 @@
 -- What a lock server hands back at a tick, to be proposed: it fits.
-use Rattle.std.proofs.Common.{◌≡◌, ◌≢◌, inl, inr, ⊎_elim, ◌⊎◌, ℕ, ◌+◌, ◌<◌, ◌≤◌, Bool, true, false, List, [], ◌∷◌, Option, Some, None, refl, sym, ◌∙◌, ap, subst, arith}
+use Rattle.std.proofs.Common.{◌≡◌, inl, inr, ℕ, ◌+◌, ◌<◌, ◌≤◌, Bool, true, false, List, [], ◌∷◌, Option, Some, None, refl, sym, ◌∙◌, ap, subst, arith}
 use Rattle.std.specs.Prelude.{IsSomeAnd, ltb, ◌==◌, ◌&&◌, not, if◌then◌else◌}
-use Rattle.std.proofs.lemmas.Bool.Decides.{eqb_tells, nat_tests}
+use Rattle.std.proofs.lemmas.Bool.Decides.{nat_tests}
 use Rattle.bx_global.specs.declared.change.Change.{Change}
 use Rattle.bx_global.specs.declared.change.Change.TheVariants.{Renew, Take, Open, Expire}
 use Rattle.bx_global.specs.declared.state.GlobalState.{GlobalState}
 use Rattle.bx_rows.specs.declared.session.SessionRow.{SessionRow}
 use Rattle.bx_rows.specs.Words.{row_in}
-use Rattle.bx_facts.specs.Chains.{Chain, IsPlace, LivesIn, last, oldest, with_change}
+use Rattle.bx_facts.specs.Chains.{Chain, LivesIn, with_change}
 use Rattle.bx_lock_words.specs.declared.words.Word.{Word}
-use Rattle.bx_locking.specs.Leases.{AreLeases, IsExpiring}
+use Rattle.bx_locking.specs.Leases.{AreLeases}
 use Rattle.bx_locking.specs.Owned.{IsRowIn}
 use Rattle.bx_locking.specs.Tables.{AreLocks, Term}
 use Rattle.bx_locking.proofs.Leases.{Marks, hands}
 use Rattle.bx_locking.proofs.Terms.{lives_late}
-use Rattle.bx_lock_tables.specs.Accounts.{end_in}
 use Rattle.bx_master.specs.Events.{change_of, end_for, expiry, first_past, is_past, marking, take_change}
 use Rattle.bx_master.specs.Masters.{Mastering, is_master}
-use Rattle.bx_lock_machines.proofs.Accounts.{marked_in_order, marks_it, misses, passes, tested}
-use Rattle.bx_lock_machines.proofs.Chains.{row_found}
-use Rattle.bx_lock_machines.proofs.Releasing.{both_true}
-use Rattle.bx_lock_machines.proofs.Renewing.{expires_on, expiring_it, term_marked}
-use Rattle.bx_lock_machines.proofs.Serving.{After, IsScene, Scene, Server, Spoken, Stands, late, tied}
+use Rattle.bx_lock_steps.proofs.Accounts.{marked_in_order, marks_it, misses, passes, tested}
+use Rattle.bx_lock_steps.proofs.Chains.{row_found}
+use Rattle.bx_lock_steps.proofs.Releasing.{both_true}
+use Rattle.bx_lock_steps.proofs.Renewing.{expires_on, expiring_it, term_marked}
+use Rattle.bx_lock_steps.proofs.Serving.{After, IsScene, Scene, Server, Spoken, Stands, late, tied}
 
 -- ---- a change that is no expiry
 
@@ -130,9 +129,9 @@ module _ (x : Scene) (good : IsScene x) (first : Spoken) (m : Mastering) (words 
   takes_over : Hands (take_change x.known reading m)
   takes_over =
       subst (λ (n : Mastering). After (handing x (take_change x.known reading m)) first n words) (sym (no_mark x.known reading m))
-          (hands_back (take_change x.known reading m) m a.now.term a.locks
-              (hands_take x.chain x.greatest x.handed a.now.promised a.now.noted x.ends a.now.term.expiring x.known reading m a.leases most)
-              (stands_so (take_change x.known reading m)) (server_so (take_change x.known reading m)))
+      (hands_back (take_change x.known reading m) m a.now.term a.locks
+      (hands_take x.chain x.greatest x.handed a.now.promised a.now.noted x.ends a.now.term.expiring x.known reading m a.leases most)
+      (stands_so (take_change x.known reading m)) (server_so (take_change x.known reading m)))
 
   expires : (s : ℕ) → IsPast x.known reading m x.known.sessions s → Hands (Some (Expire s x.known.term reading))
   expires s past = elim a.stands [
@@ -142,10 +141,10 @@ module _ (x : Scene) (good : IsScene x) (first : Spoken) (m : Mastering) (words 
         hands_back (Some (Expire s x.known.term reading)) (expiring_it s m) (term_marked a.now.term s) e.locks e.leases (tied e.tied of_last) server
     | late before same same_noted ↦
         hands_back (Some (Expire s x.known.term reading)) (expiring_it s m) a.now.term a.locks
-            (hands x.chain x.greatest x.handed a.now.promised a.now.noted x.ends a.now.term.expiring a.now.term.expiring (Expire s x.known.term reading) a.leases (same_marks a.now.term.expiring)
-                (λ u v r is. let two : x.known.term ≡ v = cc in let three : reading ≡ r = cc in (omega (arith, before, two), omega (arith, three, most), λ again. absurd (omega (arith, before, two, again))))
-                (λ by boot r is. absurd cc))
-            (late before same same_noted) server
+        (hands x.chain x.greatest x.handed a.now.promised a.now.noted x.ends a.now.term.expiring a.now.term.expiring (Expire s x.known.term reading) a.leases (same_marks a.now.term.expiring)
+        (λ u v r is. let two : x.known.term ≡ v = cc in let three : reading ≡ r = cc in (omega (arith, before, two), omega (arith, three, most), λ again. absurd (omega (arith, before, two, again))))
+        (λ by boot r is. absurd cc))
+        (late before same same_noted) server
   ]
     where
       both : ((past.row.dead == 0) ≡ true) × (ltb (end_for x.known past.row.number m + 500) reading ≡ true)

@@ -45,10 +45,10 @@ pub same_clerks : (server : ℕ) (old new : LockMachines) → OnlyMachine (Serve
 same_clerks server old new only = record { each = λ node. only.clerks node (λ same. absurd cc) }
 
 -- none of them changes
-all_masters : (old new : LockMachines) → new ≡ old → AreSame (master_of old) (master_of new)
+pub all_masters : (old new : LockMachines) → new ≡ old → AreSame (master_of old) (master_of new)
 all_masters old new same = record { each = λ server. ap (λ (o : LockMachines). master_of o server) same }
 
-all_clerks : (old new : LockMachines) → new ≡ old → AreSame (clerk_of old) (clerk_of new)
+pub all_clerks : (old new : LockMachines) → new ≡ old → AreSame (clerk_of old) (clerk_of new)
 all_clerks old new same = record { each = λ node. ap (λ (o : LockMachines). clerk_of o node) same }
 
 -- it is a packet

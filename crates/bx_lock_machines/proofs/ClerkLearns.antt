@@ -20,7 +20,7 @@ use Rattle.bx_locking.proofs.Owned.{session_row, was_own}
 use Rattle.bx_master.specs.Masters.{Mastering}
 use Rattle.bx_clerk.specs.Clerks.{Clerking, is_same, learned, until_in, until_of, with_session}
 use Rattle.bx_clerk.specs.declared.requests.Asking.{Asking}
-use Rattle.bx_lock_machines.specs.Keeps.{FitsPast, Ghosts, Keeps, PutsOne, WasHad}
+use Rattle.bx_lock_machines.specs.Keeps.{Keeps, PutsOne, WasHad}
 use Rattle.bx_lock_steps.specs.Machines.{FitsClerk}
 use Rattle.bx_lock_steps.proofs.Accounts.{misses, passes, tested}
 use Rattle.bx_lock_steps.proofs.Chains.{first_among, new_boot, one_session, own_given, own_row, row_lives}
@@ -92,19 +92,7 @@ pub record IsHanded (past : OwnersPast) (n : ℕ) (known : GlobalState) : Type 0
   pub own_boot : HasOwnBoot past.told.chain (past.told.boots (Node n))
 
 module _ (nodes : ℕ) (masters : ℕ → Mastering) (clerks more : ℕ → Clerking) (p : OwnersPast) (n : ℕ) (known : GlobalState) (keeps : Keeps nodes masters clerks p) (inside : n < nodes) (handed : IsHanded p n known) where
-  g : Ghosts
-  g = keeps.ghosts
-
-  f : FitsPast nodes masters clerks p keeps.ghosts
-  f = keeps.fits
-
-  boot : ℕ
-  boot = p.told.boots (Node n)
-
   -- the session that it finds
-  own : Option ℕ
-  own = session_of known n (p.told.boots (Node n))
-
   own_is : session_of known (clerks n).node (clerks n).boot ≡ session_of known n (p.told.boots (Node n))
   own_is = ap (λ (k : ℕ). session_of known k (clerks n).boot) (keeps.fits.node n inside) ∙ ap (session_of known n) (keeps.fits.boot n inside handed.up)
 

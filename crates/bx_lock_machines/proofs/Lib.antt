@@ -5,6 +5,7 @@ pub mod ClerkTakes
 pub mod Growing
 pub mod Laws
 pub mod Letters
+pub mod Openings
 pub mod ServerEvents
 pub mod ServerTakes
 pub mod Starting

@@ -15,12 +15,6 @@ use Rattle.bx_lock_steps.proofs.Blocks.{put_elsewhere, put_here}
 
 -- ---- tests
 
-less_is : (a b : ℕ) → ltb a b ≡ true → a < b
-less_is a b is = grind (arith, nat_tests, is)
-
-less_not : (a b : ℕ) → ltb a b ≡ false → b ≤ a
-less_not a b is = grind (arith, nat_tests, is)
-
 not_less : (a b : ℕ) → b ≤ a → ltb a b ≡ false
 not_less a b is = grind (arith, nat_tests, is)
 

@@ -42,9 +42,6 @@ same_names first (change ∷ older) p (inr old) same = elim (take_or change) [
 pub is_last_master : (chain : Chain) (p : GlobalState) (id boot : ℕ) → IsPlace chain p → p.term ≡ (last chain).term → IsMaster p id boot → IsMaster (last chain) id boot
 is_last_master chain p id boot place same is = let k = same_names chain.first chain.changes p place same in record { server = sym k.0 ∙ is.server; boot_is = sym k.1 ∙ is.boot_is }
 
-pub names_last : (chain : Chain) (p : GlobalState) (id boot : ℕ) → IsPlace chain p → p.term ≡ (last chain).term → IsMaster (last chain) id boot → IsMaster p id boot
-names_last chain p id boot place same is = let k = same_names chain.first chain.changes p place same in record { server = k.0 ∙ is.server; boot_is = k.1 ∙ is.boot_is }
-
 -- where no new term began, the last state's master is that of the first
 take_or_same : (first : GlobalState) (changes : List Change) → HasTake changes ⊎ ((state_after first changes).master_boot ≡ first.master_boot)
 take_or_same first [] = inr refl

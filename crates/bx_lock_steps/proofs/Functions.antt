@@ -1,4 +1,4 @@
--- Functions of sessions, or of sessions and blocks, of which one place or one row is changed.
+-- Functions of sessions, or of sessions and blocks, of which one place is changed.
 use Rattle.std.proofs.Common.{◌≡◌, inl, inr, ⊎_elim, ℕ, Bool, true, false, None, refl, ◌∙◌, ap, arith}
 use Rattle.std.specs.Prelude.{◌==◌, ◌&&◌, if◌then◌else◌}
 use Rattle.std.proofs.lemmas.Bool.Decides.{eqb_tells, nat_tests}
@@ -6,16 +6,7 @@ use Rattle.bx_facts.specs.Holds.{Holds, KeepsOthers}
 use Rattle.bx_locking.specs.Tables.{Puts}
 use Rattle.bx_lock_steps.proofs.Accounts.{itself, not_equal}
 
--- ---- one place, or one row
-
-abbrev pub one_row : {A : Type 0} → ℕ → (ℕ → A) → (ℕ → ℕ → A) → ℕ → ℕ → A
-one_row s row old t b = if t == s then row b else old t b
-
-pub row_at : {A : Type 0} (s : ℕ) (row : ℕ → A) (old : ℕ → ℕ → A) (b : ℕ) → one_row s row old s b ≡ row b
-row_at {A} s row old b = let e : (s == s) ≡ true = grind (arith, nat_tests) in ap (λ (t : Bool). if t then row b else old s b) e
-
-pub row_not : {A : Type 0} (s : ℕ) (row : ℕ → A) (old : ℕ → ℕ → A) (t b : ℕ) → (t ≡ s → ⊥) → one_row s row old t b ≡ old t b
-row_not {A} s row old t b differ = ⊎_elim (λ same. absurd (differ same.1)) (λ other. ap (λ (k : Bool). if k then row b else old t b) other.0) (eqb_tells t s)
+-- ---- one place
 
 abbrev pub one_of : {A : Type 0} → ℕ → A → (ℕ → A) → ℕ → A
 one_of s value old t = if t == s then value else old t

@@ -1,1 +1,3 @@
 pub mod Opening
+mod Waiting
+mod ByBlock

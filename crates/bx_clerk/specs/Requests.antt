@@ -1,7 +1,7 @@
 -- What a node asked for, by block, and what is asked back of it.
-use Rattle.std.specs.Prelude.{ℕ, zero, suc, ltb, ◌==◌, ◌&&◌, Bool, true, false, nat_eq, filter, List, [], ◌∷◌, Option, Some, None, if◌then◌else◌}
+use Rattle.std.specs.Prelude.{ℕ, zero, suc, ltb, ◌==◌, ◌&&◌, Bool, true, false, nat_eq, not, filter, List, [], ◌∷◌, Option, Some, None, if◌then◌else◌}
 use Rattle.std.specs.List.{list_any}
-use Rattle.std.specs.Map.{lookup, remove_entry}
+use Rattle.std.specs.Map.{lookup}
 use Rattle.indexmap.specs.IndexMap.{insert_entry}
 use Rattle.bx_base.specs.declared.names.Mode.{Mode}
 use Rattle.bx_facts.specs.Holds.{Hold}
@@ -18,8 +18,9 @@ request_in requests block = lookup (nat_eq block) requests
 abbrev pub with_request : Requests → ℕ → Asking → Requests
 with_request requests block asking = insert_entry nat_eq requests block asking
 
+-- those of all other blocks
 abbrev pub without_request : Requests → ℕ → Requests
-without_request requests block = remove_entry (nat_eq block) requests
+without_request requests block = filter (λ entry. not (nat_eq block entry.0)) requests
 
 -- how a request holds its block, and how it wants it
 abbrev pub hold_as : Mode → Option ℕ → Option Hold

@@ -108,6 +108,7 @@ impl Clerk {
         requires { IsSome self.old.session }
         ensures asks { OnOk result (self.new ≡ asking block mode self.old) }
         ensures sends { OnOk result (out.new ≡ out.old ++ letters_of self.old (asking_words self.old.session block mode self.old)) }
+        ensures own { (self.new.session ≡ self.old.session) × (self.new.lease ≡ self.old.lease) }
     {
         let Some(session) = self.session else {
             return Ok(());
@@ -140,6 +141,7 @@ impl Clerk {
         requires { IsSome (hold_of (request_in self.old.requests block)) }
         ensures gives { OnOk result (self.new ≡ giving_up block index self.old) }
         ensures sends { OnOk result (out.new ≡ out.old ++ letters_of self.old (giving_words self.old.session block (request_in self.old.requests block) (max self.old.given index))) }
+        ensures own { (self.new.session ≡ self.old.session) × (self.new.lease ≡ self.old.lease) }
     {
         let request = self.requests.get(block);
         self.given = self.given.max(index);

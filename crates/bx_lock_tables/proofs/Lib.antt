@@ -1,3 +1,3 @@
 pub mod Opening
-mod Waiting
+pub mod Waiting
 mod ByBlock

@@ -1,8 +1,8 @@
 -- Where a session's account stands, and what is put there.
-use Rattle.std.proofs.Common.{◌≡◌, ℕ, zero, suc, ◌+◌, ◌<◌, ◌≤◌, ltb, ◌==◌, Bool, true, false, cond, List, [], ◌∷◌, ◌++◌, length, slice_set, Option, Some, None, if◌then◌else◌, refl, sym, ap, subst, ◌∙◌, arith}
+use Rattle.std.proofs.Common.{◌≡◌, ℕ, ◌≤◌, ltb, ◌==◌, true, false, List, [], ◌∷◌, length, slice_set, refl, sym, ap, subst, ◌∙◌, arith}
 use Rattle.std.specs.Prelude.{insert, nat_eq, slice_get, slice_index_or}
 use Rattle.indexmap.specs.IndexMap.{insert_entry}
-use Rattle.bx_lock_tables.specs.Accounts.{Opens, account_for, account_in, fresh, is_of, listed, marked, noting, or_fresh, place, with_account}
+use Rattle.bx_lock_tables.specs.Accounts.{Opens, account_for, fresh, is_of, listed, marked, noting, place, with_account}
 use Rattle.bx_lock_tables.specs.declared.accounts.Account.{Account}
 use Rattle.bx_lock_tables.specs.declared.rows.Row.{Row}
 

@@ -1,5 +1,5 @@
 -- What was granted of a block, and what becomes of a want.
-use Rattle.std.specs.Prelude.{◌≡◌, ℕ, ltb, nat_le, ◌==◌, ◌&&◌, ◌||◌, not, Bool, true, false, find, List, [], ◌∷◌, Option, Some, None, if◌then◌else◌}
+use Rattle.std.specs.Prelude.{ℕ, ltb, nat_le, ◌==◌, ◌&&◌, ◌||◌, not, Bool, true, false, find, List, Option, Some, None, if◌then◌else◌}
 use Rattle.std.specs.List.{list_any}
 use Rattle.bx_base.specs.declared.names.Mode.{Mode}
 use Rattle.bx_base.specs.declared.names.Mode.TheVariants.{Shared, Exclusive}

@@ -1,84 +1,155 @@
-//! Wants that wait, and what is asked back for them.
+//! Wants that wait, in the order in which they came.
 
-ghost use Rattle.std.specs.Prelude.{◌≡◌, ◌++◌, filter, OnOk};
-ghost use Rattle.bx_lock_tables.specs.Queue.{has_newer, is_other, queued, revoke_of, revokes_for, still_waiting, without};
+ghost use Rattle.std.specs.Prelude.{◌≡◌, ◌++◌, ◌∷◌, [], IfOk, OnOk, if◌then◌else◌};
+ghost use Rattle.std.specs.BTreeMap.{values};
+ghost use Rattle.bx_lock_tables.specs.Queue.{AreOnce, has_newer, queued, still_waiting, wants_at, without};
+ghost use Rattle.bx_lock_tables.specs.Rows.{lives};
 
-use crate::rows::{Row, clash};
+use crate::turns::{Blocks, find_turn, is_newer_at, put_turn, take_turn, wants_in};
 use crate::verdict::is_live;
 use bx_base::OutOfMemory;
 use bx_global::GlobalState;
-use bx_lock_words::{Revoke, Want, Word};
+use bx_lock_words::Want;
+use std::alloc::Global;
+use std::collections::BTreeMap;
+use std::marker::Model;
 
-/// Whether two wants are of different sessions or blocks.
-fn is_other_request(want: &Want, other: &Want) -> bool
-    ensures { result ≡ is_other want.now other.now }
-{
-    other.session != want.session || other.block != want.block
+/// Wants that wait. Contracts see them in the order in which they came; a session waits for a block once. What waits for a block is
+/// found without a look at the others.
+#[derive(Drop)]
+pub struct Queue {
+    alloc: Global,
+    next: u64,
+    line: BTreeMap<u64, Want>,
+    blocks: Blocks,
 }
 
-/// Whether a want of the same session and block waits whose number isn't lower.
-fn is_newer_waiting(waiting: &[Want], want: &Want) -> bool
-    ensures { result ≡ has_newer want.now waiting.now }
-{
-    waiting.iter().any(|other| !is_other_request(want, other) && other.number >= want.number)
+impl Model for Queue {
+    ghost use Rattle.std.specs.Prelude.{List};
+    ghost use Rattle.std.specs.BTreeMap.{values};
+    ghost use Rattle.bx_lock_words.specs.declared.words.Want.{Want};
+    ghost use Rattle.bx_lock_tables.specs.Queue.{IsQueue};
+
+    ghost Value = { List Want };
+
+    ghost view = { λ queue. values queue.line };
+
+    ghost invariant = { λ queue. IsQueue queue.next queue.line queue.blocks };
 }
 
-/// Drops the wants of a session and a block.
-pub fn drop_request(waiting: &mut Vec<Want>, want: &Want)
-    ensures { waiting.new.items ≡ without want.now waiting.old.items }
-{
-    waiting.retain(|other| is_other_request(want, other));
-}
-
-/// Puts a want behind those that wait. One that waits already, with this number or a higher one, keeps its place; a lower one of
-/// the same session and block goes.
-pub fn enqueue(waiting: &mut Vec<Want>, want: &Want) -> Result<(), OutOfMemory>
-    ensures { OnOk result (waiting.new.items ≡ queued want.now waiting.old.items) }
-{
-    if is_newer_waiting(waiting, want) {
-        return Ok(());
-    }
-    drop_request(waiting, want);
-    waiting.push(*want)?;
-    Ok(())
-}
-
-/// Drops the wants of sessions that don't live.
-pub fn keep_live(waiting: &mut Vec<Want>, known: &GlobalState)
-    ensures { waiting.new.items ≡ still_waiting known.now waiting.old.items }
-{
-    waiting.retain(|want| is_live(known, want.session));
-}
-
-/// Asks for all back that stands against a want, of the sessions that live.
-pub fn push_revokes(
-    known: &GlobalState,
-    rows: &[Row],
-    want: &Want,
-    words: &mut Vec<Word>,
-) -> Result<(), OutOfMemory>
-    ensures { OnOk result (words.new.items ≡ words.old.items ++ revokes_for known.now rows.now want.now) }
-{
-    for row in rows {
-        if let Some(word) = revoke_of(known, row, want) {
-            words.push(word)?;
+impl Queue {
+    /// Nothing waits yet. It takes no memory.
+    pub fn new(alloc: Global) -> Queue
+        ensures { result ≡ [] }
+    {
+        Queue {
+            alloc,
+            next: 0,
+            line: BTreeMap::new(alloc),
+            blocks: BTreeMap::new(alloc),
         }
     }
-    Ok(())
+
+    /// All that wait.
+    pub fn all(&self) -> Result<Vec<Want>, OutOfMemory>
+        ensures is { IfOk result (λ wants. wants.items ≡ self.now) }
+        ensures once { AreOnce self.now }
+    {
+        all_in(self.alloc, &self.line)
+    }
+
+    /// Those that wait for a block.
+    pub fn at_block(&self, block: u64) -> Result<Vec<Want>, OutOfMemory>
+        ensures is { IfOk result (λ wants. wants.items ≡ wants_at block self.now) }
+        ensures once { AreOnce self.now }
+    {
+        wants_in(self.alloc, &self.blocks, block)
+    }
+
+    /// Drops the want of a session and a block.
+    pub fn drop_request(&mut self, want: &Want)
+        ensures { self.new ≡ without want.now self.old }
+    {
+        let Some(turn) = find_turn(&self.blocks, want) else {
+            return;
+        };
+        self.line.remove(&turn);
+        take_turn(&mut self.blocks, want);
+    }
+
+    /// Whether a want of the same session and block waits whose number isn't lower.
+    fn is_newer_waiting(&self, want: &Want) -> bool
+        ensures { result ≡ has_newer want.now self.now }
+    {
+        is_newer_at(&self.blocks, want)
+    }
+
+    /// Puts a want behind those that wait. One that waits already, with this number or a higher one, keeps its place; a lower one of
+    /// the same session and block goes.
+    pub fn enqueue(&mut self, want: &Want) -> Result<(), OutOfMemory>
+        ensures { OnOk result (self.new ≡ queued want.now self.old) }
+    {
+        if self.is_newer_waiting(want) {
+            return Ok(());
+        }
+        self.drop_request(want);
+        self.push(want)
+    }
+
+    /// Puts a want behind those that wait, where none of its session and block does.
+    fn push(&mut self, want: &Want) -> Result<(), OutOfMemory>
+        requires { without want.now self.old ≡ self.old }
+        ensures { OnOk result (self.new ≡ self.old ++ want.now ∷ []) }
+    {
+        // Turns run out as memory does.
+        let Some(next) = self.next.checked_add(1) else {
+            return Err(OutOfMemory);
+        };
+        put_turn(self.alloc, &mut self.blocks, self.next, want)?;
+        if self.line.insert(self.next, *want).is_err() {
+            take_turn(&mut self.blocks, want);
+            return Err(OutOfMemory);
+        }
+        self.next = next;
+        Ok(())
+    }
+
+    /// Drops a want where its session doesn't live.
+    fn drop_dead(&mut self, known: &GlobalState, want: &Want)
+        ensures { self.new ≡ (if lives known.now want.now.session then self.old else without want.now self.old) }
+    {
+        if !is_live(known, want.session) {
+            self.drop_request(want);
+        }
+    }
+
+    /// Drops the wants of sessions that don't live.
+    pub fn keep_live(&mut self, known: &GlobalState) -> Result<(), OutOfMemory>
+        ensures { OnOk result (self.new ≡ still_waiting known.now self.old) }
+    {
+        let wants = self.all()?;
+        for want in &wants {
+            self.drop_dead(known, want);
+        }
+        Ok(())
+    }
+
+    /// Drops all. It takes no memory.
+    pub fn clear(&mut self)
+        ensures { self.new ≡ [] }
+    {
+        self.line.clear();
+        self.blocks.clear();
+    }
 }
 
-/// What asks for a row back that stands against a want, where its session lives.
-fn revoke_of(known: &GlobalState, row: &Row, want: &Want) -> Option<Word>
-    ensures { result ≡ revoke_of known.now want.now row.now }
+/// The wants of a line.
+fn all_in(alloc: Global, line: &BTreeMap<u64, Want>) -> Result<Vec<Want>, OutOfMemory>
+    ensures { IfOk result (λ wants. wants.items ≡ values line.now) }
 {
-    let clashes = row.stands && row.session != want.session && clash(want.mode, row.mode);
-    if !clashes || !is_live(known, row.session) {
-        return None;
+    let mut wants = Vec::new(alloc);
+    for want in line.values() {
+        wants.push(*want)?;
     }
-    Some(Word::Revokes(Revoke {
-        session: row.session,
-        block: want.block,
-        number: row.number,
-        asking: want.session,
-    }))
+    Ok(wants)
 }

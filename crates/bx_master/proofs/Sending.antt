@@ -1,5 +1,5 @@
 -- All that is sent is of the owners' kinds.
-use Rattle.std.proofs.Common.{◌≡◌, ℕ, List, [], ◌∷◌, ◌++◌, Contains, Option, sym, subst, inl, inr, ⊎_elim, lit≤}
+use Rattle.std.proofs.Common.{◌≡◌, ℕ, List, [], ◌∷◌, ◌++◌, Contains, Option, sym, subst, inl, inr, lit≤}
 use Rattle.std.proofs.lemmas.List.Elements.{Contains-append_cases, Contains-append_left}
 use Rattle.bx_base.specs.declared.names.Actor.{Actor}
 use Rattle.bx_facts.proofs.Lists.{front_or_behind, nothing}

@@ -1,13 +1,14 @@
 -- Steps that are done one after the other.
-use Rattle.std.proofs.Common.{◌≡◌, ℕ, ◌+◌, ◌≤◌, List, [], ◌∷◌, ◌++◌, length, drop, Option, refl, sym, ap, ◌∙◌, append_assoc, append-nil}
+use Rattle.std.proofs.Common.{◌≡◌, ℕ, ◌+◌, ◌≤◌, List, [], ◌∷◌, ◌++◌, length, drop, Option, sym, ap, ◌∙◌, append_assoc, append-nil}
 use Rattle.std.proofs.lemmas.List.{drop_all}
 use Rattle.bx_global.specs.declared.change.Change.{Change}
 use Rattle.bx_global.specs.declared.state.GlobalState.{GlobalState}
 use Rattle.bx_post.specs.declared.packets.Letter.{Letter}
 use Rattle.bx_lock_words.specs.declared.words.Want.{Want}
 use Rattle.bx_lock_words.specs.declared.words.Word.{Word}
-use Rattle.bx_master.specs.Events.{catch_up, change_of, hear_as, marking, serving, serving_one, tick}
+use Rattle.bx_master.specs.Events.{catch_up, change_of, hear_as, marking, tick}
 use Rattle.bx_master.specs.Masters.{Does, Mastering, Served, both}
+use Rattle.bx_master.specs.Serving.{settling, settling_one}
 use Rattle.bx_master.specs.Steps.{Hears, SaysOr, Ticks, letters_of}
 
 -- one step, and then another
@@ -20,30 +21,30 @@ did_both f g a b c x y z first next = record {
 -- ---- the wants that wait, one after the other
 
 -- of these wants the rest is left
-pub record IsLeft (known : GlobalState) (reading : ℕ) (only : Option ℕ) (all rest : List Want) (old new : Mastering) (before after : List Word) : Type 0 where
-  pub is : (serving known reading only all old).0 ≡ (serving known reading only rest new).0
-  pub says : before ++ (serving known reading only all old).1 ≡ after ++ (serving known reading only rest new).1
+pub record IsLeft (known : GlobalState) (reading : ℕ) (all rest : List Want) (old new : Mastering) (before after : List Word) : Type 0 where
+  pub is : (settling known reading all old).0 ≡ (settling known reading rest new).0
+  pub says : before ++ (settling known reading all old).1 ≡ after ++ (settling known reading rest new).1
 
-pub one_tried : (known : GlobalState) (reading : ℕ) (only : Option ℕ) (w : Want) (ws : List Want) (old new : Mastering) (before after : List Word) → Does (serving_one known reading only w) old new before after → IsLeft known reading only (w ∷ ws) ws old new before after
-one_tried known reading only w ws old new before after did = record {
-  is = ap (λ (m : Mastering). (serving known reading only ws m).0) (sym did.is);
-  says = rw (did.says, did.is) (sym (append_assoc before (serving_one known reading only w old).1 (serving known reading only ws (serving_one known reading only w old).0).1));
+pub one_tried : (known : GlobalState) (reading : ℕ) (w : Want) (ws : List Want) (old new : Mastering) (before after : List Word) → Does (settling_one known reading w) old new before after → IsLeft known reading (w ∷ ws) ws old new before after
+one_tried known reading w ws old new before after did = record {
+  is = ap (λ (m : Mastering). (settling known reading ws m).0) (sym did.is);
+  says = rw (did.says, did.is) (sym (append_assoc before (settling_one known reading w old).1 (settling known reading ws (settling_one known reading w old).0).1));
 }
 
-pub next_tried : (known : GlobalState) (reading : ℕ) (only : Option ℕ) (all : List Want) (i : ℕ) (w : Want) (first old new : Mastering) (start before after : List Word) → drop i all ≡ w ∷ drop (i + 1) all → Does (serving_one known reading only w) old new before after → IsLeft known reading only all (drop i all) first old start before → IsLeft known reading only all (drop (i + 1) all) first new start after
-next_tried known reading only all i w first old new start before after cut did left =
-    let step = one_tried known reading only w (drop (i + 1) all) old new before after did in
+pub next_tried : (known : GlobalState) (reading : ℕ) (all : List Want) (i : ℕ) (w : Want) (first old new : Mastering) (start before after : List Word) → drop i all ≡ w ∷ drop (i + 1) all → Does (settling_one known reading w) old new before after → IsLeft known reading all (drop i all) first old start before → IsLeft known reading all (drop (i + 1) all) first new start after
+next_tried known reading all i w first old new start before after cut did left =
+    let step = one_tried known reading w (drop (i + 1) all) old new before after did in
     record {
-      is = left.is ∙ ap (λ (ws : List Want). (serving known reading only ws old).0) cut ∙ step.is;
-      says = left.says ∙ ap (λ (ws : List Want). before ++ (serving known reading only ws old).1) cut ∙ step.says;
+      is = left.is ∙ ap (λ (ws : List Want). (settling known reading ws old).0) cut ∙ step.is;
+      says = left.says ∙ ap (λ (ws : List Want). before ++ (settling known reading ws old).1) cut ∙ step.says;
     }
 
-pub all_tried : (known : GlobalState) (reading : ℕ) (only : Option ℕ) (all : List Want) (i : ℕ) (old new : Mastering) (before after : List Word) → length all ≤ i → IsLeft known reading only all (drop i all) old new before after → Does (serving known reading only all) old new before after
-all_tried known reading only all i old new before after done left =
+pub all_tried : (known : GlobalState) (reading : ℕ) (all : List Want) (i : ℕ) (old new : Mastering) (before after : List Word) → length all ≤ i → IsLeft known reading all (drop i all) old new before after → Does (settling known reading all) old new before after
+all_tried known reading all i old new before after done left =
     let none = drop_all i all done in
     record {
-      is = sym (left.is ∙ ap (λ (ws : List Want). (serving known reading only ws new).0) none);
-      says = sym (left.says ∙ ap (λ (ws : List Want). after ++ (serving known reading only ws new).1) none ∙ append-nil after);
+      is = sym (left.is ∙ ap (λ (ws : List Want). (settling known reading ws new).0) none);
+      says = sym (left.says ∙ ap (λ (ws : List Want). after ++ (settling known reading ws new).1) none ∙ append-nil after);
     }
 
 -- ---- an event

@@ -1,5 +1,5 @@
 -- What a lock server does with what it hears, and at a tick: each step as a function, so that what is answered is said both ways.
-use Rattle.std.specs.Prelude.{◌≡◌, ℕ, ◌+◌, ltb, ◌==◌, ◌&&◌, not, min, max, flat_map, Bool, true, false, List, [], ◌∷◌, ◌++◌, Option, Some, None, if◌then◌else◌}
+use Rattle.std.specs.Prelude.{ℕ, ◌+◌, ltb, ◌==◌, ◌&&◌, not, min, max, flat_map, Bool, true, false, List, [], ◌∷◌, Option, Some, None, if◌then◌else◌}
 use Rattle.bx_global.specs.declared.change.Change.{Change}
 use Rattle.bx_global.specs.declared.change.Change.TheVariants as changes
 use Rattle.bx_global.specs.declared.state.GlobalState.{GlobalState}

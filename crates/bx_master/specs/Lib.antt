@@ -1,3 +1,4 @@
 pub mod Masters
 pub mod Events
 pub mod Steps
+pub mod Serving

@@ -1,5 +1,5 @@
 -- What a lock server keeps, and what becomes of that.
-use Rattle.std.specs.Prelude.{◌≡◌, ℕ, ◌+◌, ltb, ◌==◌, ◌&&◌, not, max, Bool, true, false, filter, List, [], ◌∷◌, ◌++◌, length, Option, Some, None, if◌then◌else◌}
+use Rattle.std.specs.Prelude.{◌≡◌, ℕ, ◌+◌, ltb, ◌==◌, ◌&&◌, max, Bool, true, false, filter, List, [], ◌∷◌, ◌++◌, length, Option, Some, None, if◌then◌else◌}
 use Rattle.bx_global.specs.declared.state.GlobalState.{GlobalState}
 use Rattle.bx_rows.specs.declared.session.SessionRow.{SessionRow}
 use Rattle.bx_lock_words.specs.declared.words.Want.{Want}

@@ -1,6 +1,5 @@
 -- All that a lock server does in one event: what it was, what came, what it is, and the letters behind those that were in the box.
 use Rattle.std.specs.Prelude.{◌≡◌, ℕ, map, List, ◌++◌, MatchOption, Option, Some, None}
-use Rattle.bx_base.specs.declared.names.Actor.{Actor}
 use Rattle.bx_base.specs.declared.names.Actor.TheVariants.{Node, Server}
 use Rattle.bx_facts.specs.declared.input.Input.{Input}
 use Rattle.bx_facts.specs.declared.input.Input.TheVariants.{Packet, Tick, Synced}

@@ -8,8 +8,8 @@ use crate::master::Master;
 use bx_base::OutOfMemory;
 use bx_global::GlobalState;
 use bx_lock_tables::{
-    Row, Verdict, drop_request, enqueue, is_expiring, is_live, list_row, note_end, noted_end,
-    push_revokes, row_for, rows_at,
+    Row, Verdict, is_expiring, is_live, list_row, note_end, noted_end, push_revokes, row_for,
+    rows_at,
 };
 use bx_lock_words::{Release, Want, Word};
 use bx_rows::{SessionRow, find_row};
@@ -100,12 +100,12 @@ impl Master {
             Verdict::Refuses => Ok(()),
             Verdict::Waits => {
                 let rows = rows_at(self.alloc, &self.accounts, want.block)?;
-                enqueue(&mut self.waiting, want)?;
+                self.waiting.enqueue(want)?;
                 push_revokes(known, &rows, want, words)
             }
             Verdict::Grants(row) => {
                 self.grant(want, *row, words)?;
-                drop_request(&mut self.waiting, want);
+                self.waiting.drop_request(want);
                 Ok(())
             }
         }

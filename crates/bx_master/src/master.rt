@@ -10,8 +10,8 @@ use crate::letters::send_each;
 use bx_base::OutOfMemory;
 use bx_facts::{Input, Outbox};
 use bx_global::{Change, GlobalState};
-use bx_lock_tables::{Account, mark_expiring};
-use bx_lock_words::{Want, Word};
+use bx_lock_tables::{Account, Queue, mark_expiring};
+use bx_lock_words::Word;
 use bx_post::Packet;
 use std::alloc::Global;
 use std::marker::Model;
@@ -27,7 +27,7 @@ pub struct Master {
     pub(crate) index: u64,
     pub(crate) last_dead: Option<u64>,
     pub(crate) accounts: Vec<Account>,
-    pub(crate) waiting: Vec<Want>,
+    pub(crate) waiting: Queue,
 }
 
 impl Model for Master {
@@ -35,7 +35,7 @@ impl Model for Master {
 
     ghost Value = { Mastering };
 
-    ghost view = { λ m. record { server = m.server; boot = m.boot; term = m.term; seen = m.seen; index = m.index; last_dead = m.last_dead; accounts = m.accounts.items; waiting = m.waiting.items } };
+    ghost view = { λ m. record { server = m.server; boot = m.boot; term = m.term; seen = m.seen; index = m.index; last_dead = m.last_dead; accounts = m.accounts.items; waiting = m.waiting } };
 }
 
 impl Master {
@@ -52,7 +52,7 @@ impl Master {
             index: 0,
             last_dead: last_dead(state.sessions.items()),
             accounts: Vec::new(alloc),
-            waiting: Vec::new(alloc),
+            waiting: Queue::new(alloc),
         }
     }
 

@@ -2,15 +2,16 @@
 
 ghost use Rattle.std.specs.Prelude.{◌≡◌, ◌++◌, ◌∷◌, [], IfOk, OnOk};
 ghost use Rattle.bx_lock_words.specs.declared.words.Word.TheVariants.{Grants};
-ghost use Rattle.bx_master.specs.Events.{concerns, grant_of, served, serving, serving_one, tried, verdict_on};
+ghost use Rattle.bx_lock_tables.specs.Queue.{AreOnce};
+ghost use Rattle.bx_master.specs.Events.{grant_of, served, verdict_on};
 ghost use Rattle.bx_master.specs.Masters.{Does, listing};
+ghost use Rattle.bx_master.specs.Serving.{concerned, settled, settling, settling_one};
 
 use crate::master::Master;
 use bx_base::OutOfMemory;
 use bx_global::GlobalState;
 use bx_lock_tables::{Row, Verdict, judge, list_row, rows_at};
 use bx_lock_words::{Grant, Want, Word};
-use std::mem;
 
 /// What says that a row was granted.
 fn grant_of(block: u64, row: &Row) -> Grant
@@ -22,16 +23,6 @@ fn grant_of(block: u64, row: &Row) -> Grant
         mode: row.mode,
         number: row.number,
         index: row.index,
-    }
-}
-
-/// Whether a block is concerned: each one is, or this one.
-fn is_concerned(only: &Option<u64>, block: u64) -> bool
-    ensures { result ≡ concerns only.now block }
-{
-    match only {
-        None => true,
-        Some(one) => *one == block,
     }
 }
 
@@ -70,42 +61,36 @@ impl Master {
         Ok(())
     }
 
-    /// Tries a want that waited: it is granted, waits again, or is passed over.
-    fn try_again(
+    /// Settles a want that waits, after this verdict: it goes where it is granted or passed over.
+    fn settle(
         &mut self,
         verdict: &Verdict,
         want: &Want,
         words: &mut Vec<Word>,
     ) -> Result<(), OutOfMemory>
-        ensures { OnOk result (Does (tried verdict.now want.now) self.old self.new words.old.items words.new.items) }
+        ensures { OnOk result (Does (settled verdict.now want.now) self.old self.new words.old.items words.new.items) }
     {
         match verdict {
-            Verdict::Refuses => Ok(()),
-            Verdict::Waits => {
-                self.waiting.push(*want)?;
-                Ok(())
-            }
-            Verdict::Grants(row) => self.grant(want, *row, words),
+            Verdict::Waits => return Ok(()),
+            Verdict::Refuses => {}
+            Verdict::Grants(row) => self.grant(want, *row, words)?,
         }
+        self.waiting.drop_request(want);
+        Ok(())
     }
 
-    /// Tries a want that waited, where its block is concerned; else it waits on.
+    /// Tries a want that waits.
     fn serve_one(
         &mut self,
         known: &GlobalState,
         reading: u64,
-        only: &Option<u64>,
         want: &Want,
         words: &mut Vec<Word>,
     ) -> Result<(), OutOfMemory>
-        ensures { OnOk result (Does (serving_one known.now reading only.now want.now) self.old self.new words.old.items words.new.items) }
+        ensures { OnOk result (Does (settling_one known.now reading want.now) self.old self.new words.old.items words.new.items) }
     {
-        if !is_concerned(only, want.block) {
-            self.waiting.push(*want)?;
-            return Ok(());
-        }
         let verdict = self.judged(known, reading, want)?;
-        self.try_again(&verdict, want, words)
+        self.settle(&verdict, want, words)
     }
 
     /// Tries these wants, each in its turn.
@@ -113,16 +98,26 @@ impl Master {
         &mut self,
         known: &GlobalState,
         reading: u64,
-        only: &Option<u64>,
         wants: &[Want],
         words: &mut Vec<Word>,
     ) -> Result<(), OutOfMemory>
-        ensures { OnOk result (Does (serving known.now reading only.now wants.now) self.old self.new words.old.items words.new.items) }
+        ensures { OnOk result (Does (settling known.now reading wants.now) self.old self.new words.old.items words.new.items) }
     {
         for want in wants {
-            self.serve_one(known, reading, only, want, words)?;
+            self.serve_one(known, reading, want, words)?;
         }
         Ok(())
+    }
+
+    /// The wants that wait for any block, or for one.
+    fn concerned(&self, only: Option<u64>) -> Result<Vec<Want>, OutOfMemory>
+        ensures is { IfOk result (λ wants. wants.items ≡ concerned only self.now.waiting) }
+        ensures once { AreOnce self.now.waiting }
+    {
+        match only {
+            None => self.waiting.all(),
+            Some(block) => self.waiting.at_block(block),
+        }
     }
 
     /// Serves the wants that wait, of all blocks or of one: each is tried, in their order.
@@ -135,7 +130,7 @@ impl Master {
     ) -> Result<(), OutOfMemory>
         ensures { OnOk result (Does (served known.now reading only) self.old self.new words.old.items words.new.items) }
     {
-        let wants = mem::replace(&mut self.waiting, Vec::new(self.alloc));
-        self.serve_all(known, reading, &only, wants.as_slice(), words)
+        let wants = self.concerned(only)?;
+        self.serve_all(known, reading, wants.as_slice(), words)
     }
 }

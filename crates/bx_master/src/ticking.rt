@@ -7,7 +7,7 @@ ghost use Rattle.bx_master.specs.Masters.{Does};
 use crate::master::Master;
 use bx_base::OutOfMemory;
 use bx_global::{Change, GlobalState};
-use bx_lock_tables::{keep_live, push_revokes, rows_at};
+use bx_lock_tables::{push_revokes, rows_at};
 use bx_lock_words::{Want, Word};
 use bx_rows::SessionRow;
 
@@ -36,8 +36,9 @@ impl Master {
         if !self.is_master(known) {
             return Ok(());
         }
-        keep_live(&mut self.waiting, known);
-        self.revoke_again(known, self.waiting.as_slice(), words)
+        self.waiting.keep_live(known)?;
+        let wants = self.waiting.all()?;
+        self.revoke_again(known, wants.as_slice(), words)
     }
 
     /// Asks for all back that stands against these wants.

@@ -1,4 +1,4 @@
-use Rattle.std.proofs.Common.{ℕ, List, sym, ap, subst, ◌∙◌, slice_get, arith}
+use Rattle.std.proofs.Common.{List, sym, ap, ◌∙◌, slice_get, arith}
 use Rattle.bx_lock_tables.specs.Accounts.{is_of, place}
 use Rattle.bx_lock_tables.specs.declared.accounts.Account.{Account}
 use Rattle.bx_lock_tables.proofs.Opening.{opens_new, opens_there, place_within}

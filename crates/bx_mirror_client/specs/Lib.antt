@@ -1,0 +1,6 @@
+pub mod Sends
+pub mod Asks
+pub mod Letters
+pub mod Streams
+pub mod Events
+pub mod Telling

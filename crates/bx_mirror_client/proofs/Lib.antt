@@ -1,1 +1,4 @@
+pub mod Asked
 pub mod Finding
+pub mod StoreKinds
+pub mod Telling

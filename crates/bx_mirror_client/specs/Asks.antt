@@ -10,9 +10,12 @@ abbrev pub is_awaited : Asking → Bool
 is_awaited a = not (is_some a.answer) && not (a.tag == 0)
 
 -- An answer is one to the read: session, tag and device are the read's, the epoch is that of the device's row, and it has as many bytes as were asked for.
+abbrev pub is_answer : DeviceRow → Asking → DataBody → Bool
+is_answer row a d = (d.session == a.session) && ((d.tag == a.tag) && ((d.device == a.device) && ((d.epoch == row.epoch) && (length d.bytes == 512 * a.sectors))))
+
 abbrev pub fits : Option DeviceRow → Asking → DataBody → Bool
 fits None a d = false
-fits (Some row) a d = (d.session == a.session) && ((d.tag == a.tag) && ((d.device == a.device) && ((d.epoch == row.epoch) && (length d.bytes == 512 * a.sectors))))
+fits (Some row) a d = is_answer row a d
 
 -- what is read, and the answer that came
 abbrev pub asked_in : Option Asking → Option Asked

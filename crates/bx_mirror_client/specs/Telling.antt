@@ -1,5 +1,5 @@
 -- What a write's end and its letters mean, in words of devices and members.
-use Rattle.std.specs.Prelude.{◌≡◌, ℕ, ◌↔◌, ◌⊎◌, Bool, false, true, List, [], Contains, Some, slice_get}
+use Rattle.std.specs.Prelude.{◌≡◌, ℕ, ◌⊎◌, Bool, false, true, List, Contains, Some, slice_get}
 use Rattle.bx_post.specs.declared.packets.Letter.{Letter}
 use Rattle.bx_records.specs.declared.runs.Run.{Run}
 use Rattle.bx_rows.specs.Modes.{IsWritten}

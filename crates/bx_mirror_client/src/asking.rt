@@ -1,7 +1,7 @@
 //! A read that is out, or whose answer wasn't taken yet.
 
 ghost use Rattle.std.specs.Prelude.{◌≡◌, slice_get};
-ghost use Rattle.bx_mirror_client.specs.Asks.{answer_in, asks_left, fits, is_awaited};
+ghost use Rattle.bx_mirror_client.specs.Asks.{answer_in, asks_left, fits, is_answer, is_awaited};
 
 use bx_base::Raw;
 use bx_mirror_packets::DataBody;
@@ -34,18 +34,26 @@ pub(crate) fn is_awaited(asking: &Asking) -> bool
     asking.answer.is_none() && asking.tag != 0
 }
 
-/// Whether an answer is one to this read, in the epoch of the device's row.
-pub(crate) fn fits(rows: &[DeviceRow], asking: &Asking, told: &DataBody) -> bool
-    ensures { result ≡ fits (slice_get rows.now asking.now.device) asking.now told.now }
+/// Whether an answer is one to this read, in the epoch of a device's row.
+fn is_answer(row: &DeviceRow, asking: &Asking, told: &DataBody) -> bool
+    ensures { result ≡ is_answer row.now asking.now told.now }
 {
-    let Some(row) = rows.get(asking.device as usize) else {
-        return false;
-    };
+    let sectors = asking.sectors;
     told.session == asking.session
         && told.tag == asking.tag
         && told.device == asking.device
         && told.epoch == row.epoch
-        && told.bytes.bytes().len() as u64 == SECTOR * u64::from(asking.sectors)
+        && told.bytes.bytes().len() as u64 == SECTOR * u64::from(sectors)
+}
+
+/// Whether an answer is one to this read, where its device is among these rows.
+pub(crate) fn fits(rows: &[DeviceRow], asking: &Asking, told: &DataBody) -> bool
+    ensures { result ≡ fits (slice_get rows.now asking.now.device) asking.now told.now }
+{
+    match rows.get(asking.device as usize) {
+        None => false,
+        Some(row) => is_answer(row, asking, told),
+    }
 }
 
 /// Takes the answer out, where one came: the read is over then.

@@ -49,11 +49,7 @@ impl Model for MirrorClient {
 
 impl MirrorClient {
     /// The stream of a node, in a cluster that begins with a state.
-    pub fn new(
-        alloc: Global,
-        node: u32,
-        state: &GlobalState,
-    ) -> Result<MirrorClient, OutOfMemory>
+    pub fn new(alloc: Global, node: u32, state: &GlobalState) -> Result<MirrorClient, OutOfMemory>
         requires devices { length state.now.devices ≤ 4 }
         ensures { IfOk result (λ c. c ≡ made node state.now) }
     {

@@ -82,11 +82,7 @@ fn keep_asks(
 
 impl MirrorClient {
     /// Learns a state, and tells members of what is out in epochs that are new.
-    pub(crate) fn learn(
-        &mut self,
-        known: &GlobalState,
-        out: &mut Outbox,
-    ) -> Result<(), OutOfMemory>
+    pub(crate) fn learn(&mut self, known: &GlobalState, out: &mut Outbox) -> Result<(), OutOfMemory>
         requires { length known.now.devices ≤ 4 }
         ensures learns { OnOk result (self.new ≡ learned known.now self.old) }
         ensures sends { OnOk result (out.new ≡ out.old ++ letters_since self.old.rows (learned known.now self.old)) }

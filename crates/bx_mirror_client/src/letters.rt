@@ -1,7 +1,7 @@
 //! Letters of a node to members.
 
-ghost use Rattle.std.specs.Prelude.{◌≡◌, ◌^◌, ◌<◌, ◌≤◌, ◌++◌, OnOk, length};
-ghost use Rattle.bx_mirror_client.specs.Letters.{is_new_epoch, letters_from, read_letters, reads_second, to_device, to_member, to_reader, write_letters};
+ghost use Rattle.std.specs.Prelude.{◌≡◌, ◌^◌, ◌<◌, ◌≤◌, ◌++◌, OnOk, Some, length};
+ghost use Rattle.bx_mirror_client.specs.Letters.{is_new_epoch, letters_from, read_in, read_letters, reads_second, to_device, to_member, to_reader, write_letters};
 
 use crate::asking::{Asking, is_awaited};
 use crate::sending::{Sending, has_runs, is_missing, member_at, write_kind};
@@ -135,22 +135,31 @@ impl Sender {
         let Some(asking) = asking else {
             return Ok(());
         };
-        let Some(row) = rows.get(asking.device as usize) else {
-            return Ok(());
-        };
-        if !is_new_epoch(before, asking.device, row) || !is_awaited(asking) {
-            return Ok(());
+        match rows.get(asking.device as usize) {
+            None => Ok(()),
+            Some(row) => self.ask_if_new(asking, before, row, out),
         }
-        self.ask(asking, row, out)
     }
 
-    /// Asks the member that reads go to.
-    fn ask(
+    /// Asks the member that reads go to, where the epoch isn't that of the rows before and an answer may come.
+    fn ask_if_new(
         &self,
         asking: &Asking,
+        before: &[DeviceRow],
         row: &DeviceRow,
         out: &mut Outbox,
     ) -> Result<(), OutOfMemory>
+        requires { asking.now.device < 2 ^ 31 }
+        ensures { OnOk result (out.new ≡ out.old ++ read_in before.now self.now.node asking.now (Some row.now)) }
+    {
+        if is_new_epoch(before, asking.device, row) && is_awaited(asking) {
+            return self.ask(asking, row, out);
+        }
+        Ok(())
+    }
+
+    /// Asks the member that reads go to.
+    fn ask(&self, asking: &Asking, row: &DeviceRow, out: &mut Outbox) -> Result<(), OutOfMemory>
         requires { asking.now.device < 2 ^ 31 }
         ensures { OnOk result (out.new ≡ out.old ++ to_reader self.now.node asking.now row.now) }
     {

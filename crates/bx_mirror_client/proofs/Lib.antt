@@ -1,4 +1,5 @@
 pub mod Asked
 pub mod Finding
+pub mod Leaving
 pub mod StoreKinds
 pub mod Telling

@@ -16,7 +16,7 @@ use Rattle.bx_mirror_client.specs.Telling.{HasAcked, HasRuns, IsDone, IsRowDone,
 
 -- ---- tests
 
-both : (a b : Bool) → (a && b) ≡ true → (a ≡ true) × (b ≡ true)
+pub both : (a b : Bool) → (a && b) ≡ true → (a ≡ true) × (b ≡ true)
 both true b h = (refl, h)
 both false b h = absurd cc
 
@@ -44,10 +44,10 @@ is_not : (a : Bool) → (a ≡ true → ⊥) → not a ≡ true
 is_not true h = absurd (h refl)
 is_not false h = refl
 
-same_number : (n m : ℕ) → (n == m) ≡ true → n ≡ m
+pub same_number : (n m : ℕ) → (n == m) ≡ true → n ≡ m
 same_number n m h = grind (arith, nat_tests, h)
 
-is_same : (n m : ℕ) → n ≡ m → (n == m) ≡ true
+pub is_same : (n m : ℕ) → n ≡ m → (n == m) ≡ true
 is_same n m h = grind (arith, nat_tests, h)
 
 -- ---- runs, acknowledgements and modes

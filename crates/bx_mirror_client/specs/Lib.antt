@@ -4,3 +4,4 @@ pub mod Letters
 pub mod Streams
 pub mod Events
 pub mod Telling
+pub mod Leaving

@@ -13,5 +13,5 @@ mod sending;
 
 pub use asking::Asking;
 pub use client::MirrorClient;
-pub use laws::{done_is, letters_are};
+pub use laws::{a_write_ends_done, an_event_leaves, done_is, letters_are};
 pub use sending::{Ack, Sending};

@@ -45,7 +45,7 @@ me m = actors.Member m.number
 abbrev pub partner : Standing → Actor
 partner m = actors.Member (if is_second m then m.number - 1 else m.number + 1)
 
--- The volume has such a member, and the current piece begins within the device.
+-- The volume has such a member, the current piece begins within the device, and where no sync is owed nothing is.
 pub record IsStanding (m : Standing) : Type 0 where
   pub least_devices : 1 ≤ m.made.devices
   pub most_devices : m.made.devices ≤ 4
@@ -53,6 +53,7 @@ pub record IsStanding (m : Standing) : Type 0 where
   pub most_areas : m.made.areas ≤ 64
   pub number : m.number < 2 * m.made.devices
   pub place : m.place < room_in m
+  pub quiet : m.due ≡ false → m.owed ≡ []
 
 -- one that nothing was done with
 abbrev pub new_member : ℕ → Made → Standing

@@ -69,7 +69,7 @@ pub record TakesCopied (Told : Type 0) (c : CopiedBody) (m new : Standing) (chan
 -- ---- writes
 
 -- A write is taken: its runs stand on the disk, where a sector that read so already stays as it was, and its answer is owed.
-pub record TakesWrite (Told : Type 0) (from : Actor) (w : WriteBody) (m new : Standing) (before after : List Letter) (old now : Disks) : Type 0 where
+pub record PutsWrite (Told : Type 0) (from : Actor) (w : WriteBody) (m new : Standing) (before after : List Letter) (old now : Disks) : Type 0 where
   pub member : new ≡ with_write from w m
   pub sends : after ≡ before
   pub puts : Told → PutsRuns (disk_in m) (device_in m) w.runs.1 old now
@@ -79,7 +79,7 @@ pub record RepeatsWrite (from : Actor) (w : WriteBody) (m new : Standing) (befor
   pub disk : now ≡ old
 
 abbrev pub DoesWrite : Type 0 → Judgement → Actor → WriteBody → Standing → Standing → List Letter → List Letter → Disks → Disks → Type 0
-DoesWrite Told Taken from w m new before after old now = TakesWrite Told from w m new before after old now
+DoesWrite Told Taken from w m new before after old now = PutsWrite Told from w m new before after old now
 DoesWrite Told Repeated from w m new before after old now = RepeatsWrite from w m new before after old now
 DoesWrite Told Refused from w m new before after old now = Passes m new before after old now
 
@@ -110,13 +110,13 @@ abbrev pub run_of : CopyBody → Run
 run_of c = record { device = c.device; place = c.place; bytes = c.bytes }
 
 -- A piece is taken: it stands on the disk, where a sector that read so already stays as it was, and its answer is owed.
-pub record TakesPiece (Told : Type 0) (from : Actor) (c : CopyBody) (m new : Standing) (old now : Disks) : Type 0 where
+pub record PutsPiece (Told : Type 0) (from : Actor) (c : CopyBody) (m new : Standing) (old now : Disks) : Type 0 where
   pub member : new ≡ with_piece from (copied_of c) m
   pub puts : Told → PutsRuns (disk_in m) (device_in m) (run_of c ∷ []) old now
 
 abbrev pub OfCopy : Type 0 → Actor → CopyBody → Standing → Standing → Disks → Disks → Type 0
 OfCopy Told from c m new old now =
-    (IsCopiedHere m c × TakesPiece Told from c m new old now) ⊎ ((IsCopiedHere m c → ⊥) × (new ≡ m) × (now ≡ old))
+    (IsCopiedHere m c × PutsPiece Told from c m new old now) ⊎ ((IsCopiedHere m c → ⊥) × (new ≡ m) × (now ≡ old))
 
 -- ---- all messages: writes, reads, pieces and their answers count, and signs of life
 

@@ -40,6 +40,23 @@ pub struct Member {
     pub(crate) place: u64,
 }
 
+/// The label of a disk.
+fn label_of(volume: u64, disk: u32, devices: u32, areas: u32) -> Label
+    requires least_devices { 1 ≤ devices }
+    requires most_devices { devices ≤ 4 }
+    requires least_areas { 1 ≤ areas }
+    requires most_areas { areas ≤ 64 }
+    ensures is { result ≡ record { volume = volume; disk = disk; devices = devices; areas = areas } }
+    ensures label { IsLabel result }
+{
+    Label {
+        volume,
+        disk,
+        devices,
+        areas,
+    }
+}
+
 impl Model for Member {
     ghost use Rattle.std.specs.Prelude.{slice_index};
     ghost use Rattle.bx_mirror_member.specs.Standing.{IsStanding, Standing};
@@ -112,12 +129,7 @@ impl Member {
         ensures is { result ≡ label_on self.now.made (disk_in self.now) }
         ensures label { IsLabel result }
     {
-        Label {
-            volume: self.volume,
-            disk: 3 + self.number,
-            devices: self.devices,
-            areas: self.areas,
-        }
+        label_of(self.volume, 3 + self.number, self.devices, self.areas)
     }
 
     /// Its device.

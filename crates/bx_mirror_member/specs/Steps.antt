@@ -17,11 +17,10 @@ use Rattle.bx_mirror_tables.specs.declared.answers.Answer.TheVariants.{Wrote, Co
 use Rattle.bx_mirror_tables.specs.declared.answers.Owing.{Owing}
 use Rattle.bx_mirror_tables.specs.Lasts.{noted}
 use Rattle.bx_mirror_tables.specs.Owed.{message_of}
-use Rattle.bx_mirror_member.specs.declared.copies.Piece.{Piece}
 use Rattle.bx_mirror_member.specs.declared.copies.Progress.{Progress}
 use Rattle.bx_mirror_member.specs.declared.copies.Progress.TheVariants.{Unchanged, Next, Whole}
 use Rattle.bx_mirror_member.specs.Acting.{IsNoted}
-use Rattle.bx_mirror_member.specs.Standing.{Standing, copies, copy_from, device_in, is_named, is_second, me, partner, piece_at, room_in}
+use Rattle.bx_mirror_member.specs.Standing.{Standing, copy_from, device_in, is_named, is_second, me, partner, piece_at, room_in}
 
 -- ---- answers
 

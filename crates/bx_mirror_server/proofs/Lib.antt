@@ -1,5 +1,8 @@
+pub mod Events
 pub mod Owing
 pub mod Places
+pub mod Putting
+pub mod Sending
 pub mod Shifting
 pub mod Taking
 pub mod Telling

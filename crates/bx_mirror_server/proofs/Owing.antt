@@ -20,7 +20,7 @@ copied_by b v = record { by = b; epoch = v.epoch; place = v.place }
 -- ---- an answer to a write more
 
 with_still : (b : Bool) (answer : Answer) (old new : List Wrote) (w : Wrote) → (Among old w → Among new w) → Among (with_wrote b answer old) w → Among (with_wrote b answer new) w
-with_still b (answers.Wrote u) old new w more there = elim there.is [ | inl e ↦ record { is = inl e } | inr t ↦ record { is = inr (more (record { is = t })).is } ]
+with_still b (answers.Wrote u) old new w more there = elim there.is [ inl e ↦ record { is = inl e } | inr t ↦ record { is = inr (more (record { is = t })).is } ]
 with_still b (answers.Copied u) old new w more there = more there
 
 with_it : (b : Bool) (answer : Answer) (new : List Wrote) (w : Wrote) → Among new w → Among (with_wrote b answer new) w
@@ -43,7 +43,7 @@ wrote_it b [] to v = record { is = inl refl }
 wrote_it b (o ∷ owed) to v = with_it b o.answer (wrote_in b (owed ++ owing to (answers.Wrote v) ∷ [])) (wrote_by b v) (wrote_it b owed to v)
 
 pub wrote_only : (b : Bool) (owed : List Owing) (to : Actor) (v : WroteBody) (w : Wrote) → Among (wrote_in b (owed ++ owing to (answers.Wrote v) ∷ [])) w → (w ≡ wrote_by b v) ⊎ Among (wrote_in b owed) w
-wrote_only b [] to v w there = elim there.is [ | inl e ↦ inl e | inr t ↦ absurd t ]
+wrote_only b [] to v w there = elim there.is [ inl e ↦ inl e | inr t ↦ absurd t ]
 wrote_only b (o ∷ owed) to v w there = with_only b o.answer (wrote_in b owed) (wrote_in b (owed ++ owing to (answers.Wrote v) ∷ [])) (wrote_by b v) w (λ h. wrote_only b owed to v w h) there
 
 -- it is none to a copy
@@ -61,7 +61,7 @@ piece_only b (answers.Copied u) old new v w more there = elim there.is [
 ]
 
 pub copied_only : (b : Bool) (owed : List Owing) (to : Actor) (v : CopiedBody) (w : Copied) → Among (copied_in b (owed ++ owing to (answers.Copied v) ∷ [])) w → (w ≡ copied_by b v) ⊎ Among (copied_in b owed) w
-copied_only b [] to v w there = elim there.is [ | inl e ↦ inl e | inr t ↦ absurd t ]
+copied_only b [] to v w there = elim there.is [ inl e ↦ inl e | inr t ↦ absurd t ]
 copied_only b (o ∷ owed) to v w there = piece_only b o.answer (copied_in b owed) (copied_in b (owed ++ owing to (answers.Copied v) ∷ [])) (copied_by b v) w (λ h. copied_only b owed to v w h) there
 
 pub wrote_same : (b : Bool) (owed : List Owing) (to : Actor) (v : CopiedBody) → wrote_in b (owed ++ owing to (answers.Copied v) ∷ []) ≡ wrote_in b owed

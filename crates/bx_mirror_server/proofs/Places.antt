@@ -1,14 +1,16 @@
 -- Where a member's sectors are, and which runs lie there.
-use Rattle.std.proofs.Common.{◌≡◌, ℕ, zero, suc, ◌+◌, ◌*◌, ◌/◌, ◌%◌, ◌<◌, ◌≤◌, Bool, true, false, List, [], ◌∷◌, Contains, length, refl, sym, ◌∙◌, ap, subst, arith}
+use Rattle.std.proofs.Common.{◌≡◌, ℕ, zero, suc, ◌%◌, ◌<◌, ◌≤◌, Bool, true, false, List, [], ◌∷◌, Contains, length, refl, sym, ◌∙◌, subst, arith}
 use Rattle.std.specs.Prelude.{◌==◌, slice_index}
 use Rattle.std.specs.List.{AllByRecursion}
 use Rattle.std.proofs.lemmas.Bool.Decides.{nat_tests}
+use Rattle.bx_disk.specs.Disks.{Disks}
 use Rattle.bx_facts.specs.Writes.{member_disk}
+use Rattle.bx_layout.specs.Labels.{SpellsLabel}
+use Rattle.bx_layout.specs.declared.label.Label.{Label}
 use Rattle.bx_mirror_disks.specs.Puts.{AllLieIn, LiesIn}
 use Rattle.bx_mirror_packets.specs.DeviceMessages.{IsCopyBody, IsRunOf, IsWriteBody}
 use Rattle.bx_mirror_packets.specs.declared.message.CopyBody.{CopyBody}
 use Rattle.bx_mirror_packets.specs.declared.message.WriteBody.{WriteBody}
-use Rattle.bx_mirror_tables.specs.Inside.{AreInside}
 use Rattle.bx_mirror_member.specs.Acting.{IsCopiedHere, IsOpen}
 use Rattle.bx_mirror_member.specs.Standing.{Standing, device_in, disk_in, is_second, room_in}
 use Rattle.bx_mirror_server.specs.Serving.{run_of}
@@ -49,3 +51,8 @@ pub disk_there : (sizes : List ℕ) (disk room : ℕ) → 1 ≤ room → room �
 disk_there [] disk room some long = absurd (omega (arith, some, long))
 disk_there (size ∷ sizes) zero room some long = omega arith
 disk_there (size ∷ sizes) (suc disk) room some long = let less = disk_there sizes disk room some long in omega (arith, less)
+
+-- what is said of a disk that has its own label
+pub had_own : (x : Disks) (label own : Label) (disk at : ℕ) → label ≡ own → disk ≡ at → (P : ℕ → Type 0) → (SpellsLabel label (x.reads disk 0) → P disk) → SpellsLabel own (x.reads at 0) → P at
+had_own x label own disk at same here P had spelled =
+    subst P here (had (subst (λ (l : Label). SpellsLabel l (x.reads disk 0)) (sym same) (subst (λ (d : ℕ). SpellsLabel own (x.reads d 0)) (sym here) spelled)))

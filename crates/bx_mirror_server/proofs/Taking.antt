@@ -1,5 +1,5 @@
 -- The steps of a member are events of its device.
-use Rattle.std.proofs.Common.{◌≡◌, ℕ, zero, suc, ◌+◌, ◌-◌, ◌*◌, ◌/◌, ◌<◌, ◌≤◌, Bool, true, false, Contains, List, [], ◌∷◌, length, Option, Some, None, refl, sym, ◌∙◌, ap, subst, arith}
+use Rattle.std.proofs.Common.{◌≡◌, ℕ, zero, suc, ◌+◌, ◌-◌, ◌≤◌, Bool, true, false, Contains, List, [], ◌∷◌, Option, Some, None, refl, sym, ◌∙◌, ap, subst, arith}
 use Rattle.std.specs.Prelude.{◌==◌, not, slice_get, if◌then◌else◌}
 use Rattle.std.proofs.lemmas.Bool.Decides.{nat_tests}
 use Rattle.bx_base.specs.declared.names.Actor.{Actor}
@@ -39,9 +39,9 @@ pub took : (m new : Standing) (from : Actor) (w : WriteBody) (before after : Lis
     → Taken (device_in m) (letter_to m w) (side_of true m x) (side_of true new y)
 took m new from w before after x y once is = subst (λ (n : Standing). Taken (device_in m) (letter_to m w) (side_of true m x) (side_of true n y)) (sym is.member) (record {
   memory = record { up = refl; boot = refl; row = refl };
-  puts = let puts = is.puts tt in record { written = λ sector content brings. puts.written sector content brings (λ other too. once sector content other brings too); keeps = puts.keeps };
+  puts = record { written = λ sector content brings. (is.puts tt).written sector content brings (λ other too. once sector content other brings too); keeps = (is.puts tt).keeps };
   last = let e : (w.session == w.session) ≡ true = grind (arith, nat_tests) in noted_last m.lasts w.session w.sequence w.session ∙ ap (λ (t : Bool). if t then w.sequence else last_in m.lasts w.session) e;
-  others = λ session apart. let e : (session == w.session) ≡ false = grind (arith, nat_tests, apart) in noted_last m.lasts w.session w.sequence session ∙ ap (λ (t : Bool). if t then w.sequence else last_in m.lasts session) e;
+  others = λ session apart. let e : (w.session == session) ≡ false = grind (arith, nat_tests, apart) in noted_last m.lasts w.session w.sequence session ∙ ap (λ (t : Bool). if t then w.sequence else last_in m.lasts session) e;
   owes_it = wrote_it (is_second m) m.owed from (record { session = w.session; device = w.device; epoch = w.epoch; sequence = w.sequence });
   owes_still = λ v there. wrote_still (is_second m) m.owed from (record { session = w.session; device = w.device; epoch = w.epoch; sequence = w.sequence }) v there;
   owes_only = λ v there. wrote_only (is_second m) m.owed from (record { session = w.session; device = w.device; epoch = w.epoch; sequence = w.sequence }) v there;

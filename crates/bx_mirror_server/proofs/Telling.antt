@@ -1,5 +1,5 @@
 -- What is said where a rack tells what its disks hold is said where another does, of which the first follows.
-use Rattle.std.proofs.Common.{◌≡◌, ◌⊎◌, inl, inr, ⊎_elim, ℕ, List, Option, Some, None}
+use Rattle.std.proofs.Common.{inl, inr, ℕ, List, Option, Some, None}
 use Rattle.bx_base.specs.declared.names.Actor.{Actor}
 use Rattle.bx_disk.specs.Disks.{Disks}
 use Rattle.bx_facts.specs.declared.input.Input.{Input}
@@ -15,9 +15,8 @@ use Rattle.bx_mirror_packets.specs.declared.message.DeviceMessage.TheVariants.{W
 use Rattle.bx_mirror_member.specs.declared.copies.Piece.{Piece}
 use Rattle.bx_mirror_member.specs.declared.judging.Judgement.{Judgement}
 use Rattle.bx_mirror_member.specs.declared.judging.Judgement.TheVariants.{Taken, Repeated, Refused}
-use Rattle.bx_mirror_member.specs.Acting.{IsCopiedHere, IsReadHere}
 use Rattle.bx_mirror_member.specs.Standing.{Standing}
-use Rattle.bx_mirror_server.specs.Serving.{AnswersRead, DoesWrite, OfCopy, OfInput, OfMessage, OfPacket, OfRead, OfSaid, OfSync, OfTick, OfWrite, Passes, SendsAny, SendsPiece, TakesCopied, PutsPiece, PutsWrite}
+use Rattle.bx_mirror_server.specs.Serving.{AnswersRead, DoesWrite, OfCopy, OfInput, OfMessage, OfRead, OfSaid, OfWrite, SendsAny, SendsPiece, TakesCopied, PutsPiece}
 
 module _ (A B : Type 0) (goes : B → A) where
   pub piece_told : (m : Standing) (piece : Piece) (x : Disks) (before after : List Letter) → SendsPiece A m piece x before after → SendsPiece B m piece x before after
@@ -40,17 +39,17 @@ module _ (A B : Type 0) (goes : B → A) where
     answer_told from r of = record { bytes = of.bytes; long = of.long; reads = λ told. of.reads (goes told); sends = of.sends; member = of.member; disk = of.disk }
 
     read_told : (from : Actor) (r : ReadBody) → OfRead A from r m new before after old now → OfRead B from r m new before after old now
-    read_told from r of = elim of [ | inl here ↦ inl (here.0, answer_told from r here.1) | inr not ↦ inr not ]
+    read_told from r of = elim of [ inl here ↦ inl (here.0, answer_told from r here.1) | inr not ↦ inr not ]
 
     take_told : (from : Actor) (c : CopyBody) → PutsPiece A from c m new old now → PutsPiece B from c m new old now
     take_told from c of = record { member = of.member; puts = λ told. of.puts (goes told) }
 
     copy_told : (from : Actor) (c : CopyBody) → OfCopy A from c m new old now → OfCopy B from c m new old now
-    copy_told from c of = elim of [ | inl here ↦ inl (here.0, take_told from c here.1) | inr not ↦ inr not ]
+    copy_told from c of = elim of [ inl here ↦ inl (here.0, take_told from c here.1) | inr not ↦ inr not ]
 
     module _ (change : Option Change) where
       copied_told : (c : CopiedBody) → TakesCopied A c m new change before after old now → TakesCopied B c m new change before after old now
-      copied_told c of = record { progress = of.progress; is = of.is; member = of.member; sends = any_told new _ old before after of.sends; hands = of.hands; disk = of.disk }
+      copied_told c of = record { progress = of.progress; is = of.is; member = of.member; sends = any_told m _ old before after of.sends; hands = of.hands; disk = of.disk }
 
       message_told : (reading : ℕ) (from : Actor) (message : DeviceMessage) → OfMessage A reading from message m new change before after old now → OfMessage B reading from message m new change before after old now
       message_told reading from (Write w) of = (write_told reading from w of.0, of.1)

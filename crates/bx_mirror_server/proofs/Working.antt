@@ -5,7 +5,7 @@ use Rattle.bx_calls.specs.Laws.{keeps_all, leaves_now, leaves_then}
 use Rattle.bx_disk.specs.Disks.{Disks, Image, IsImage}
 use Rattle.bx_disk.specs.declared.rack.Rack as racks
 use Rattle.bx_facts.specs.Writes.{Sent}
-use Rattle.bx_members.proofs.Kept.{image_has, keeps_none, keeps_same, leaves_reading}
+use Rattle.bx_members.proofs.Kept.{keeps_none, keeps_same, leaves_reading}
 use Rattle.bx_members.specs.Members.{HasMembers, KeepsMembers}
 use Rattle.bx_mirror_server.specs.Working.{Reads, Works}
 

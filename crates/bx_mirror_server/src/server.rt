@@ -9,9 +9,9 @@ ghost use Rattle.bx_disk.specs.declared.fault.RackError.TheVariants.{Fault};
 ghost use Rattle.bx_facts.specs.Inputs.{IsStores, SendsOnly};
 ghost use Rattle.bx_facts.specs.Writes.{Sent, label_on};
 ghost use Rattle.bx_layout.specs.Labels.{SpellsLabel};
-ghost use Rattle.bx_mirror_member.specs.Standing.{disk_in, hearing, learned, new_member, room_in, started, stopped};
-ghost use Rattle.bx_mirror_server.specs.Serving.{BringsOnly, Does, OfInput};
-ghost use Rattle.bx_mirror_server.specs.Working.{Works};
+ghost use Rattle.bx_mirror_member.specs.Standing.{disk_in, first_piece, hearing, learned, new_member, room_in, started, stopped};
+ghost use Rattle.bx_mirror_server.specs.Serving.{BringsOnly, Does, OfInput, SendsAny};
+ghost use Rattle.bx_mirror_server.specs.Working.{Reads, Works};
 
 use bx_disk::{Rack, RackError};
 use bx_facts::{Input, Outbox};
@@ -83,10 +83,27 @@ impl MirrorServer {
         ensures sent { OnOk result (SendsOnly IsStores out.old out.new) }
         ensures rack { Fails R.Rack rack.old rack.new result }
     {
-        if let Some(piece) = self.member.learn(known) {
-            self.send_piece(rack, piece, out)?;
-        }
+        self.learn(rack, known, out)?;
         self.take_input(rack, input, out)
+    }
+
+    /// Learns the state. Where a copy begins that it makes, the first piece goes.
+    fn learn<R: Rack>(
+        &mut self,
+        rack: &mut R,
+        known: &GlobalState,
+        out: &mut Outbox,
+    ) -> Result<(), RackError>
+        requires room { room_in self.old ≤ slice_index (R.state rack.old).sizes (disk_in self.old) }
+        ensures learns { self.new ≡ learned known.now self.old }
+        ensures sends { OnOk result (SendsAny (R.tells rack.old) (learned known.now self.old) (first_piece known.now self.old) (R.state rack.old) out.old out.new) }
+        ensures reads { Reads R.Rack rack.old rack.new }
+        ensures rack { Fails R.Rack rack.old rack.new result }
+    {
+        let Some(piece) = self.member.learn(known) else {
+            return Ok(());
+        };
+        self.send_piece(rack, piece, out)
     }
 
     /// Takes what comes, once it knows the state.

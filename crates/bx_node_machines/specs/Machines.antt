@@ -5,7 +5,7 @@ use Rattle.bx_disk.specs.Disks.{Image}
 use Rattle.bx_facts.specs.Holds.{Holds}
 use Rattle.bx_facts.specs.Writes.{Asked, Sent, WritesIn}
 use Rattle.bx_places.specs.Places.{IsBlock, block_place, log_device}
-use Rattle.bx_records.specs.Drafts.{Block, Changed}
+use Rattle.bx_records.specs.Drafts.{Block as Content, Changed}
 use Rattle.bx_records.specs.declared.runs.Run.{Run}
 use Rattle.bx_redo.specs.Homes.{AreItsHomes}
 use Rattle.bx_redo.specs.Steps.{writes}
@@ -30,16 +30,22 @@ pub data Stage : Type 0 where
   Homes : Stage
   Closes : Stage
 
+-- What a node reads: nothing; a block, to hold it so; or one that it has let go meanwhile, so that what comes counts for nothing.
+pub data Fetch : Type 0 where
+  Nothing : Fetch
+  Block : ℕ → Mode → Fetch
+  Dropped : Fetch
+
 -- A node: under which session it has what it has; what its cache shows, which blocks there were committed and aren't home yet, and hints of other
--- blocks; its log, and what that is for; the block that it reads, to hold it so.
+-- blocks; its log, and what that is for; what it reads.
 pub record MachineView : Type 0 where
   pub session : Option ℕ
   pub held : Held
-  pub away : ℕ → Option Block
+  pub away : ℕ → Option Content
   pub hints : Hints
   pub log : LogView
   pub stage : Stage
-  pub fetch : Option (ℕ × Mode)
+  pub fetch : Fetch
 
 abbrev pub is_one : Option ℕ → Option ℕ → Bool
 is_one None other = false
@@ -99,8 +105,6 @@ home_of devices at = record { device = (block_place at devices).0; place = (bloc
 -- What the nodes' work goes with: each node, where there is one, and its own session, where it is up; the rows of sessions; each node's write and
 -- read that are out; what sessions hold, and the writes that members may take; a content of the devices, logs, what is under way, what is in doubt.
 pub record Scene : Type 0 where
-  pub devices : ℕ
-  pub areas : ℕ
   pub machines : ℕ → Option MachineView
   pub own : ℕ → Option ℕ
   pub rows : List SessionRow
@@ -117,32 +121,39 @@ pub record Scene : Type 0 where
 abbrev pub AreAway : Logs → ℕ → MachineView → Type 0
 AreAway logs slot machine = (at : ℕ) → machine.away at ≡ newest_in (logs slot) at
 
--- `Sure` says of a sector of a device that it stands so, surely; `Reads` of a sector that each answer to the node's read that may come has this there.
-module _ (Sure : ℕ → ℕ → List ℕ → Type 0) (Reads : ℕ → List ℕ → Type 0) (s : Scene) (node session slot : ℕ) (machine : MachineView) where
-  -- What its log does, by what it is for. Where it rests it has no records.
-  abbrev pub IsAtWork : Stage → Type 0
-  IsAtWork Idle = (machine.log.work ≡ works.Idle) × ((s.slots slot).activity ≡ idle) × (s.logs slot ≡ []) × (s.out node ≡ None) × (s.doubts session ≡ None) × AreAway s.logs slot machine
-  IsAtWork (Records call draft) = IsOfRecord machine.log.work × (machine.log.out ≡ true) × ((s.slots slot).activity ≡ OfLog machine.log.work)
-      × IsWriting Sure session (writes machine.log machine.log.work).1 (s.out node) s.sent × IsSomeAnd (s.doubts session) (IsDoubtOf call draft) × AreAway s.logs slot machine
-  IsAtWork Homes = (machine.log.work ≡ works.Idle) × ((s.slots slot).activity ≡ idle) × (0 < length (s.logs slot))
-      × ((runs : List Run) × AreItsHomes s.devices s.areas s.logs slot runs × IsWriting Sure session runs (s.out node) s.sent) × (s.doubts session ≡ None) × AreAway s.logs slot machine
-  IsAtWork Closes = IsOfClosing machine.log.work × (machine.log.out ≡ true) × ((s.slots slot).activity ≡ OfLog machine.log.work)
-      × IsWriting Sure session (writes machine.log machine.log.work).1 (s.out node) s.sent × (s.doubts session ≡ None) × ((at : ℕ) → machine.away at ≡ None)
+module _ (devices areas : ℕ) where
+  -- The read of a block: its session holds it so, and no log has it. It may not have been asked for yet; else each answer that may come has in each
+  -- sector what stands there. (`Reads` says this of the node's answers.)
+  pub record IsFetched (Reads : ℕ → List ℕ → Type 0) (s : Scene) (node session block : ℕ) (mode : Mode) : Type 0 where
+    pub is : IsBlock areas block
+    pub allows : Allows (s.holding session block) mode
+    pub unlogged : IsUnlogged s.logs block
+    pub asked : (s.asked node ≡ None) ⊎ ((s.asked node ≡ Some (home_of devices block))
+        × ((i : ℕ) → i < 9 → Reads ((block_place block devices).1 + i) (s.before (block_place block devices).0 ((block_place block devices).1 + i))))
 
-  -- What it reads: a block that its session holds so, and that no log has; it may not have been asked for yet.
-  abbrev pub IsFetching : Option (ℕ × Mode) → Type 0
-  IsFetching None = s.asked node ≡ None
-  IsFetching (Some block) = IsBlock s.areas block.0 × Allows (s.holding session block.0) block.1 × IsUnlogged s.logs block.0
-      × ((s.asked node ≡ None) ⊎ ((s.asked node ≡ Some (home_of s.devices block.0))
-      × ((i : ℕ) → i < 9 → Reads ((block_place block.0 s.devices).1 + i) (s.before (block_place block.0 s.devices).0 ((block_place block.0 s.devices).1 + i)))))
+  abbrev pub IsFetching : (ℕ → List ℕ → Type 0) → Scene → ℕ → ℕ → Fetch → Type 0
+  IsFetching Reads s node session Nothing = s.asked node ≡ None
+  IsFetching Reads s node session (Block block mode) = IsFetched Reads s node session block mode
+  IsFetching Reads s node session Dropped = Unit {0}
+
+  -- What its log does, by what it is for; where it rests it has no records. (`Sure` says of a sector of a device that it stands so, surely.)
+  module _ (Sure : ℕ → ℕ → List ℕ → Type 0) (s : Scene) (node session slot : ℕ) (machine : MachineView) where
+    abbrev pub IsAtWork : Stage → Type 0
+    IsAtWork Idle = (machine.log.work ≡ works.Idle) × ((s.slots slot).activity ≡ idle) × (s.logs slot ≡ []) × (s.out node ≡ None) × (s.doubts session ≡ None) × AreAway s.logs slot machine
+    IsAtWork (Records call draft) = IsOfRecord machine.log.work × (machine.log.out ≡ true) × ((s.slots slot).activity ≡ OfLog machine.log.work)
+        × IsWriting Sure session (writes machine.log machine.log.work).1 (s.out node) s.sent × IsSomeAnd (s.doubts session) (IsDoubtOf call draft) × AreAway s.logs slot machine
+    IsAtWork Homes = (machine.log.work ≡ works.Idle) × ((s.slots slot).activity ≡ idle) × (0 < length (s.logs slot))
+        × ((runs : List Run) × AreItsHomes devices areas s.logs slot runs × IsWriting Sure session runs (s.out node) s.sent) × (s.doubts session ≡ None) × AreAway s.logs slot machine
+    IsAtWork Closes = IsOfClosing machine.log.work × (machine.log.out ≡ true) × ((s.slots slot).activity ≡ OfLog machine.log.work)
+        × IsWriting Sure session (writes machine.log machine.log.work).1 (s.out node) s.sent × (s.doubts session ≡ None) × ((at : ℕ) → machine.away at ≡ None)
 
   -- The node has its session's log, and what it is about.
-  pub record IsAbout : Type 0 where
+  pub record IsAbout (Sure : ℕ → ℕ → List ℕ → Type 0) (Reads : ℕ → List ℕ → Type 0) (s : Scene) (node session slot : ℕ) (machine : MachineView) : Type 0 where
     pub is_slot : machine.log.slot ≡ slot
-    pub device : machine.log.device ≡ log_device slot s.devices
+    pub device : machine.log.device ≡ log_device slot devices
     pub count : machine.log.count ≡ length (s.logs slot)
-    pub work : IsAtWork machine.stage
-    pub fetch : IsFetching machine.fetch
+    pub work : IsAtWork Sure s node session slot machine machine.stage
+    pub fetch : IsFetching Reads s node session machine.fetch
 
 -- A session that its node didn't use yet: its log has no records, and nothing is under way, in doubt or out.
 pub record IsFresh (s : Scene) (node session slot : ℕ) : Type 0 where
@@ -153,9 +164,9 @@ pub record IsFresh (s : Scene) (node session slot : ℕ) : Type 0 where
   pub unasked : s.own node ≡ Some session → s.asked node ≡ None
 
 -- Each node that has what it has under a live session of its own is about what that session's log, writes and reads are; any other live session that
--- may come to be a node's own is fresh. (`IsOf` says that a row is one that may.)
-pub record AreAbout (Sure : ℕ → ℕ → List ℕ → Type 0) (Reads : ℕ → ℕ → List ℕ → Type 0) (IsOf : ℕ → SessionRow → Type 0) (s : Scene) : Type 0 where
+-- may come to be a node's own, and is no other's, is fresh. (`IsOf` says that a row is one that may.)
+pub record AreAbout (devices areas : ℕ) (Sure : ℕ → ℕ → List ℕ → Type 0) (Reads : ℕ → ℕ → List ℕ → Type 0) (IsOf : ℕ → SessionRow → Type 0) (s : Scene) : Type 0 where
   pub each : (node session : ℕ) (machine : MachineView) (row : SessionRow) → s.machines node ≡ Some machine → machine.session ≡ Some session → s.own node ≡ Some session
-      → row_in s.rows session ≡ Some row → row.dead ≡ 0 → IsAbout Sure (Reads node) s node session row.slot machine
-  pub fresh : (node session : ℕ) (row : SessionRow) → IsOf node row → row_in s.rows session ≡ Some row → row.dead ≡ 0 → is_under (s.machines node) (s.own node) session ≡ false
-      → IsFresh s node session row.slot
+      → row_in s.rows session ≡ Some row → row.dead ≡ 0 → IsAbout devices areas Sure (Reads node) s node session row.slot machine
+  pub fresh : (node session : ℕ) (row : SessionRow) → IsOf node row → ((other : ℕ) → s.own other ≡ Some session → other ≡ node) → row_in s.rows session ≡ Some row → row.dead ≡ 0
+      → is_under (s.machines node) (s.own node) session ≡ false → IsFresh s node session row.slot

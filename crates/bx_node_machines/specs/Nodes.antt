@@ -46,8 +46,6 @@ module _ {G O S T : Type 0} (g : register.Ghosts G) (o : owners.Ghosts O) (st : 
 
   abbrev pub scene_of : (Actor → Bool) → List MachineView → Course → Scene
   scene_of down machines c = record {
-    devices = (st.made store_is).devices;
-    areas = (st.made store_is).areas;
     machines = slice_get machines;
     own = own_up down (o.own owners_are);
     rows = (last c.register.chain).sessions;
@@ -64,5 +62,5 @@ module _ {G O S T : Type 0} (g : register.Ghosts G) (o : owners.Ghosts O) (st : 
   -- The cluster stands, with what the nodes' caches show; each node is about what its session has under way; and no session is two nodes' own.
   pub record NodesStand (letters : List Letter) (clocks : Clocks) (machines : List MachineView) (c : Course) (tree : T) : Type 0 where
     pub at : StandsAt g o st Stands Step register_is owners_are store_is x (known_of letters clocks machines) c tree
-    pub about : AreAbout (SureOf g o st Stands Step register_is owners_are store_is x (known_of letters clocks machines) c) (st.will_read store_is x c.store) (IsOfNode o.by_boot clocks) (scene_of clocks.down machines c)
+    pub about : AreAbout (st.made store_is).devices (st.made store_is).areas (SureOf g o st Stands Step register_is owners_are store_is x (known_of letters clocks machines) c) (st.will_read store_is x c.store) (IsOfNode o.by_boot clocks) (scene_of clocks.down machines c)
     pub single : (node other session : ℕ) → o.own owners_are node ≡ Some session → o.own owners_are other ≡ Some session → other ≡ node

@@ -1,0 +1,170 @@
+-- What nodes are about stays where an event leaves alone what it rests on.
+use Rattle.std.proofs.Common.{◌≡◌, ◌≢◌, ◌∙◌, ℕ, Bool, true, false, List, [], eqb, length, Option, Some, None, refl, sym, ap, subst, arith}
+use Rattle.std.specs.Prelude.{◌==◌, ◌&&◌, IsSomeAnd}
+use Rattle.std.proofs.lemmas.Bool.Decides.{nat_tests}
+use Rattle.bx_base.specs.declared.names.Mode.{Mode}
+use Rattle.bx_node_machines.specs.Machines as words
+use Rattle.bx_node_machines.specs.Machines.{AreAbout, AreAway, Fetch, IsAbout, IsAtWork, IsDoubtOf, IsFetched, IsFetching, IsFresh, IsWriting, MachineView, Scene, Stage, is_one, is_under}
+use Rattle.bx_records.specs.declared.runs.Run.{Run}
+use Rattle.bx_redo.specs.Homes.{AreItsHomes}
+use Rattle.bx_rows.specs.Words.{row_in}
+use Rattle.bx_rows.specs.declared.session.SessionRow.{SessionRow}
+use Rattle.bx_volume.specs.Overlay.{Logs}
+use Rattle.bx_volume.specs.Records.{Logged, newest_in}
+use Rattle.bx_world_logs.specs.Logs.{Activity, OfLog}
+use Rattle.bx_world_views.specs.Views.{Doubt}
+
+-- An event leaves the log of a slot, what is under way there, and the doubt of its session.
+pub record LeavesSlot (old new : Scene) (session slot : ℕ) : Type 0 where
+  pub logs : new.logs slot ≡ old.logs slot
+  pub slots : (new.slots slot).activity ≡ (old.slots slot).activity
+  pub doubts : new.doubts session ≡ old.doubts session
+
+-- And a node's write and read: they stay out, or go on.
+pub record Leaves (devices areas : ℕ) (Sure Sure_then : ℕ → ℕ → List ℕ → Type 0) (Reads Reads_then : ℕ → List ℕ → Type 0) (old new : Scene) (node session slot : ℕ) : Type 0 where
+  pub of_slot : LeavesSlot old new session slot
+  pub none_out : old.out node ≡ None → new.out node ≡ None
+  pub none_asked : old.asked node ≡ None → new.asked node ≡ None
+  pub writes : (runs : List Run) → IsWriting Sure session runs (old.out node) old.sent → IsWriting Sure_then session runs (new.out node) new.sent
+  pub reads : (block : ℕ) (mode : Mode) → IsFetched devices areas Reads old node session block mode → IsFetched devices areas Reads_then new node session block mode
+
+-- the homes of a log are those of any with the same records in its slot
+homes_same : (devices areas : ℕ) (logs later : Logs) (slot : ℕ) (runs : List Run) → later slot ≡ logs slot → AreItsHomes devices areas logs slot runs → AreItsHomes devices areas later slot runs
+homes_same devices areas logs later slot runs same are = record {
+  each = λ run has. let is = are.each run has in record { at = is.at; is = is.is; block = is.block; parts = is.parts; newest = ap (λ (l : List Logged). newest_in l is.at) same ∙ is.newest; run_is = is.run_is };
+  all = λ at block is newest. are.all at block is (sym (ap (λ (l : List Logged). newest_in l at) same) ∙ newest);
+}
+
+module _ (devices areas : ℕ) (Sure Sure_then : ℕ → ℕ → List ℕ → Type 0) (Reads Reads_then : ℕ → List ℕ → Type 0) (old new : Scene) (node session slot : ℕ) (machine : MachineView)
+    (leaves : Leaves devices areas Sure Sure_then Reads Reads_then old new node session slot) where
+  away : AreAway old.logs slot machine → AreAway new.logs slot machine
+  away are = λ at. are at ∙ sym (ap (λ (l : List Logged). newest_in l at) leaves.of_slot.logs)
+
+  work_stays : (stage : Stage) → IsAtWork devices areas Sure old node session slot machine stage → IsAtWork devices areas Sure_then new node session slot machine stage
+  work_stays words.Idle (work, still, none, out, undoubted, are) = (work, leaves.of_slot.slots ∙ still, leaves.of_slot.logs ∙ none, leaves.none_out out, leaves.of_slot.doubts ∙ undoubted, away are)
+  work_stays (words.Records call draft) (of, asked, still, writing, doubted, are) = (
+    of, asked, leaves.of_slot.slots ∙ still, leaves.writes _ writing,
+    subst (λ (found : Option Doubt). IsSomeAnd found (IsDoubtOf call draft)) (sym leaves.of_slot.doubts) doubted, away are,
+  )
+  work_stays words.Homes (work, still, some, (runs, homes, writing), undoubted, are) = (
+    work, leaves.of_slot.slots ∙ still, subst (λ (l : List Logged). 0 < length l) (sym leaves.of_slot.logs) some,
+    (runs, homes_same devices areas old.logs new.logs slot runs leaves.of_slot.logs homes, leaves.writes runs writing), leaves.of_slot.doubts ∙ undoubted, away are,
+  )
+  work_stays words.Closes (of, asked, still, writing, undoubted, are) = (of, asked, leaves.of_slot.slots ∙ still, leaves.writes _ writing, leaves.of_slot.doubts ∙ undoubted, are)
+
+  fetch_stays : (fetch : Fetch) → IsFetching devices areas Reads old node session fetch → IsFetching devices areas Reads_then new node session fetch
+  fetch_stays words.Nothing none = leaves.none_asked none
+  fetch_stays (words.Block block mode) is = leaves.reads block mode is
+  fetch_stays words.Dropped is = is
+
+  pub about_stays : IsAbout devices areas Sure Reads old node session slot machine → IsAbout devices areas Sure_then Reads_then new node session slot machine
+  about_stays is = record {
+    is_slot = is.is_slot;
+    device = is.device;
+    count = is.count ∙ sym (ap (λ (l : List Logged). length l) leaves.of_slot.logs);
+    work = work_stays machine.stage is.work;
+    fetch = fetch_stays machine.fetch is.fetch;
+  }
+
+-- One event behind the other.
+pub leaves_then : (devices areas : ℕ) (Sure Sure_between Sure_then : ℕ → ℕ → List ℕ → Type 0) (Reads Reads_between Reads_then : ℕ → List ℕ → Type 0) (old between new : Scene) (node session slot : ℕ)
+    → Leaves devices areas Sure Sure_between Reads Reads_between old between node session slot → Leaves devices areas Sure_between Sure_then Reads_between Reads_then between new node session slot
+    → Leaves devices areas Sure Sure_then Reads Reads_then old new node session slot
+leaves_then devices areas Sure Sure_between Sure_then Reads Reads_between Reads_then old between new node session slot one two = record {
+  of_slot = record { logs = two.of_slot.logs ∙ one.of_slot.logs; slots = two.of_slot.slots ∙ one.of_slot.slots; doubts = two.of_slot.doubts ∙ one.of_slot.doubts };
+  none_out = λ none. two.none_out (one.none_out none);
+  none_asked = λ none. two.none_asked (one.none_asked none);
+  writes = λ runs is. two.writes runs (one.writes runs is);
+  reads = λ block mode is. two.reads block mode (one.reads block mode is);
+}
+
+-- A fresh session stays fresh.
+pub fresh_stays : (old new : Scene) (node session slot : ℕ) → LeavesSlot old new session slot
+    → (new.own node ≡ Some session → (new.out node ≡ None) × (new.asked node ≡ None))
+    → IsFresh old node session slot → IsFresh new node session slot
+fresh_stays old new node session slot leaves quiet is = record {
+  none = leaves.logs ∙ is.none;
+  still = leaves.slots ∙ is.still;
+  undoubted = leaves.doubts ∙ is.undoubted;
+  unwritten = λ own. (quiet own).0;
+  unasked = λ own. (quiet own).1;
+}
+
+-- ---- which sessions a node is under
+
+some_same : (a b : ℕ) → Some a ≡ Some b → a ≡ b
+some_same a b e = cc
+
+own_under : (machine : Option MachineView) (own session : ℕ) → is_under machine (Some own) session ≡ true → own ≡ session
+own_under None own session is = absurd cc
+own_under (Some machine) own session is = by (is_one machine.session (Some session)) (own == session) refl is
+  where
+    by : (a b : Bool) → (own == session) ≡ b → (a && b) ≡ true → own ≡ session
+    by false b same both = absurd cc
+    by true false same both = absurd cc
+    by true true same both = grind (arith, nat_tests, same)
+
+-- a node is under no session but its own
+pub not_under : (machine : Option MachineView) (own session : ℕ) → own ≢ session → is_under machine (Some own) session ≡ false
+not_under machine own session ne = by (is_under machine (Some own) session) refl
+  where
+    by : (b : Bool) → is_under machine (Some own) session ≡ b → b ≡ false
+    by false is = refl
+    by true is = absurd (ne (own_under machine own session is))
+
+-- A node that has what it has under its own session does something: all others leave it alone, and it is about what comes of it.
+module _ (devices areas : ℕ) (Sure Sure_then : ℕ → ℕ → List ℕ → Type 0) (Reads Reads_then : ℕ → ℕ → List ℕ → Type 0) (IsOf : ℕ → SessionRow → Type 0) (old new : Scene) (node session : ℕ)
+    (about : AreAbout devices areas Sure Reads IsOf old)
+    (rows : new.rows ≡ old.rows)
+    (own : (other : ℕ) → new.own other ≡ old.own other)
+    (mine : old.own node ≡ Some session)
+    (under : is_under (new.machines node) (Some session) session ≡ true)
+    (machines : (other : ℕ) → other ≢ node → new.machines other ≡ old.machines other)
+    (slots : (other : ℕ) (row : SessionRow) → row_in old.rows other ≡ Some row → row.dead ≡ 0 → other ≢ session → LeavesSlot old new other row.slot)
+    (others : (other its : ℕ) (row : SessionRow) → other ≢ node → its ≢ session → old.own other ≡ Some its → row_in old.rows its ≡ Some row → row.dead ≡ 0
+    → Leaves devices areas Sure Sure_then (Reads other) (Reads_then other) old new other its row.slot)
+    (single : (other : ℕ) → old.own other ≡ Some session → other ≡ node)
+    (here : (machine : MachineView) (row : SessionRow) → new.machines node ≡ Some machine → row_in old.rows session ≡ Some row → row.dead ≡ 0 → IsAbout devices areas Sure_then (Reads_then node) new node session row.slot machine) where
+  own_is : new.own node ≡ Some session
+  own_is = own node ∙ mine
+
+  apart : (other its : ℕ) → other ≢ node → old.own other ≡ Some its → its ≢ session
+  apart other its ne is e = ne (single other (is ∙ ap (λ (n : ℕ). Some n) e))
+
+  each_about : (other its : ℕ) (machine : MachineView) (row : SessionRow) → (b : Bool) → eqb other node ≡ b → new.machines other ≡ Some machine → machine.session ≡ Some its → new.own other ≡ Some its
+      → row_in old.rows its ≡ Some row → row.dead ≡ 0 → IsAbout devices areas Sure_then (Reads_then other) new other its row.slot machine
+  each_about other its machine row true same there marked is has lives =
+      let e : other ≡ node = grind (arith, nat_tests, same) in
+      let f : its ≡ session = some_same its session (sym is ∙ ap (λ (n : ℕ). new.own n) e ∙ own_is) in
+      subst (λ (n : ℕ). IsAbout devices areas Sure_then (Reads_then n) new n its row.slot machine) (sym e)
+      (subst (λ (n : ℕ). IsAbout devices areas Sure_then (Reads_then node) new node n row.slot machine) (sym f)
+      (here machine row (ap (λ (n : ℕ). new.machines n) (sym e) ∙ there) (ap (λ (n : ℕ). row_in old.rows n) (sym f) ∙ has) lives))
+  each_about other its machine row false differ there marked is has lives =
+      let ne : other ≢ node = λ e. grind (arith, nat_tests, differ, e) in
+      let was = sym (own other) ∙ is in
+      about_stays devices areas Sure Sure_then (Reads other) (Reads_then other) old new other its row.slot machine (others other its row ne (apart other its ne was) was has lives)
+      (about.each other its machine row (sym (machines other ne) ∙ there) marked was has lives)
+
+  its_fresh : (other its : ℕ) (row : SessionRow) → (b : Bool) → eqb other node ≡ b → IsOf other row → ((n : ℕ) → new.own n ≡ Some its → n ≡ other) → row_in old.rows its ≡ Some row → row.dead ≡ 0
+      → is_under (new.machines other) (new.own other) its ≡ false → IsFresh new other its row.slot
+  its_fresh other its row true same of alone has lives none =
+      let e : other ≡ node = grind (arith, nat_tests, same) in
+      let ne : its ≢ session = λ f. let wrong : true ≡ false = sym under ∙ ap (λ (n : ℕ). is_under (new.machines node) (Some session) n) (sym f)
+              ∙ ap (λ (o : Option ℕ). is_under (new.machines node) o its) (sym own_is) ∙ ap (λ (n : ℕ). is_under (new.machines n) (new.own n) its) (sym e) ∙ none in cc in
+      let was : is_under (old.machines other) (old.own other) its ≡ false = ap (λ (o : Option ℕ). is_under (old.machines other) o its) (ap (λ (n : ℕ). old.own n) e ∙ mine) ∙ not_under (old.machines other) session its (λ f. ne (sym f)) in
+      fresh_stays old new other its row.slot (slots its row has lives ne)
+      (λ is. absurd (ne (some_same its session (sym is ∙ ap (λ (n : ℕ). new.own n) e ∙ own_is))))
+      (about.fresh other its row of (λ n is. alone n (own n ∙ is)) has lives was)
+  its_fresh other its row false differ of alone has lives none =
+      let ne : other ≢ node = λ e. grind (arith, nat_tests, differ, e) in
+      let its_apart : its ≢ session = λ f. ne (sym (alone node (own_is ∙ ap (λ (n : ℕ). Some n) (sym f)))) in
+      let was : is_under (old.machines other) (old.own other) its ≡ false = ap (λ (m : Option MachineView). is_under m (old.own other) its) (sym (machines other ne)) ∙ ap (λ (o : Option ℕ). is_under (new.machines other) o its) (sym (own other)) ∙ none in
+      let fresh = about.fresh other its row of (λ n is. alone n (own n ∙ is)) has lives was in
+      fresh_stays old new other its row.slot (slots its row has lives its_apart)
+      (λ is. let own_was = sym (own other) ∙ is in let left = others other its row ne its_apart own_was has lives in (left.none_out (fresh.unwritten own_was), left.none_asked (fresh.unasked own_was))) fresh
+
+  pub acts : AreAbout devices areas Sure_then Reads_then IsOf new
+  acts = record {
+    each = λ other its machine row there marked is has lives. each_about other its machine row (eqb other node) refl there marked is (sym (ap (λ (l : List SessionRow). row_in l its) rows) ∙ has) lives;
+    fresh = λ other its row of alone has lives none. its_fresh other its row (eqb other node) refl of alone (sym (ap (λ (l : List SessionRow). row_in l its) rows) ∙ has) lives none;
+  }

@@ -13,7 +13,6 @@ use bx_layout::Block;
 use bx_places::{PAYLOAD, SECTOR, place};
 use bx_records::{Draft, Run, Runs};
 use bx_views::View;
-
 use std::alloc::Global;
 use std::collections::BTreeMap;
 use std::marker::Model;

@@ -3,15 +3,17 @@ use Rattle.std.proofs.Common.{◌≡◌, ◌≢◌, ◌∙◌, ℕ, Bool, true, 
 use Rattle.std.specs.Prelude.{◌==◌, ◌&&◌, IsSomeAnd}
 use Rattle.std.proofs.lemmas.Bool.Decides.{nat_tests}
 use Rattle.bx_base.specs.declared.names.Mode.{Mode}
+use Rattle.bx_facts.specs.Writes.{WritesIn}
 use Rattle.bx_node_machines.specs.Machines as words
 use Rattle.bx_node_machines.specs.Machines.{AreAbout, AreAway, Fetch, IsAbout, IsAtWork, IsDoubtOf, IsFetched, IsFetching, IsFresh, IsWriting, MachineView, Scene, Stage, is_one, is_under}
 use Rattle.bx_records.specs.declared.runs.Run.{Run}
 use Rattle.bx_redo.specs.Homes.{AreItsHomes}
+use Rattle.bx_redo.specs.Steps.{writes}
 use Rattle.bx_rows.specs.Words.{row_in}
 use Rattle.bx_rows.specs.declared.session.SessionRow.{SessionRow}
 use Rattle.bx_volume.specs.Overlay.{Logs}
 use Rattle.bx_volume.specs.Records.{Logged, newest_in}
-use Rattle.bx_world_logs.specs.Logs.{Activity, OfLog}
+use Rattle.bx_world_logs.specs.Logs.{OfLog}
 use Rattle.bx_world_views.specs.Views.{Doubt}
 
 -- An event leaves the log of a slot, what is under way there, and the doubt of its session.
@@ -20,12 +22,18 @@ pub record LeavesSlot (old new : Scene) (session slot : ℕ) : Type 0 where
   pub slots : (new.slots slot).activity ≡ (old.slots slot).activity
   pub doubts : new.doubts session ≡ old.doubts session
 
--- And a node's write and read: they stay out, or go on.
-pub record Leaves (devices areas : ℕ) (Sure Sure_then : ℕ → ℕ → List ℕ → Type 0) (Reads Reads_then : ℕ → List ℕ → Type 0) (old new : Scene) (node session slot : ℕ) : Type 0 where
+-- What a node's log writes, and its homes, its session touches.
+pub record MayWork (devices areas : ℕ) (Touches : ℕ → ℕ → Type 0) (s : Scene) (slot : ℕ) (machine : MachineView) : Type 0 where
+  pub of_log : (s.slots slot).activity ≡ OfLog machine.log.work → (d sector : ℕ) (content : List ℕ) → WritesIn (writes machine.log machine.log.work).1 d sector content → Touches d sector
+  pub of_homes : (runs : List Run) → AreItsHomes devices areas s.logs slot runs → (d sector : ℕ) (content : List ℕ) → WritesIn runs d sector content → Touches d sector
+
+-- And a node's write and read: they stay out, or go on. (`Touches` says which sectors its session may write.)
+pub record Leaves (devices areas : ℕ) (Touches : ℕ → ℕ → Type 0) (Sure Sure_then : ℕ → ℕ → List ℕ → Type 0) (Reads Reads_then : ℕ → List ℕ → Type 0) (old new : Scene) (node session slot : ℕ) : Type 0 where
   pub of_slot : LeavesSlot old new session slot
   pub none_out : old.out node ≡ None → new.out node ≡ None
   pub none_asked : old.asked node ≡ None → new.asked node ≡ None
-  pub writes : (runs : List Run) → IsWriting Sure session runs (old.out node) old.sent → IsWriting Sure_then session runs (new.out node) new.sent
+  pub writing : (runs : List Run) → ((d sector : ℕ) (content : List ℕ) → WritesIn runs d sector content → Touches d sector)
+      → IsWriting Sure session runs (old.out node) old.sent → IsWriting Sure_then session runs (new.out node) new.sent
   pub reads : (block : ℕ) (mode : Mode) → IsFetched devices areas Reads old node session block mode → IsFetched devices areas Reads_then new node session block mode
 
 -- the homes of a log are those of any with the same records in its slot
@@ -35,22 +43,22 @@ homes_same devices areas logs later slot runs same are = record {
   all = λ at block is newest. are.all at block is (sym (ap (λ (l : List Logged). newest_in l at) same) ∙ newest);
 }
 
-module _ (devices areas : ℕ) (Sure Sure_then : ℕ → ℕ → List ℕ → Type 0) (Reads Reads_then : ℕ → List ℕ → Type 0) (old new : Scene) (node session slot : ℕ) (machine : MachineView)
-    (leaves : Leaves devices areas Sure Sure_then Reads Reads_then old new node session slot) where
+module _ (devices areas : ℕ) (Touches : ℕ → ℕ → Type 0) (Sure Sure_then : ℕ → ℕ → List ℕ → Type 0) (Reads Reads_then : ℕ → List ℕ → Type 0) (old new : Scene) (node session slot : ℕ) (machine : MachineView)
+    (leaves : Leaves devices areas Touches Sure Sure_then Reads Reads_then old new node session slot) (may : MayWork devices areas Touches old slot machine) where
   away : AreAway old.logs slot machine → AreAway new.logs slot machine
   away are = λ at. are at ∙ sym (ap (λ (l : List Logged). newest_in l at) leaves.of_slot.logs)
 
   work_stays : (stage : Stage) → IsAtWork devices areas Sure old node session slot machine stage → IsAtWork devices areas Sure_then new node session slot machine stage
-  work_stays words.Idle (work, still, none, out, undoubted, are) = (work, leaves.of_slot.slots ∙ still, leaves.of_slot.logs ∙ none, leaves.none_out out, leaves.of_slot.doubts ∙ undoubted, away are)
-  work_stays (words.Records call draft) (of, asked, still, writing, doubted, are) = (
-    of, asked, leaves.of_slot.slots ∙ still, leaves.writes _ writing,
-    subst (λ (found : Option Doubt). IsSomeAnd found (IsDoubtOf call draft)) (sym leaves.of_slot.doubts) doubted, away are,
+  work_stays words.Idle is = (is.0, leaves.of_slot.slots ∙ is.1, leaves.of_slot.logs ∙ is.2, leaves.none_out is.3, leaves.of_slot.doubts ∙ is.4, away is.5)
+  work_stays (words.Records call draft) is = (
+    is.0, is.1, leaves.of_slot.slots ∙ is.2, leaves.writing (writes machine.log machine.log.work).1 (may.of_log is.2) is.3,
+    subst (λ (found : Option Doubt). IsSomeAnd found (IsDoubtOf call draft)) (sym leaves.of_slot.doubts) is.4, away is.5,
   )
-  work_stays words.Homes (work, still, some, (runs, homes, writing), undoubted, are) = (
-    work, leaves.of_slot.slots ∙ still, subst (λ (l : List Logged). 0 < length l) (sym leaves.of_slot.logs) some,
-    (runs, homes_same devices areas old.logs new.logs slot runs leaves.of_slot.logs homes, leaves.writes runs writing), leaves.of_slot.doubts ∙ undoubted, away are,
+  work_stays words.Homes is = (
+    is.0, leaves.of_slot.slots ∙ is.1, subst (λ (l : List Logged). 0 < length l) (sym leaves.of_slot.logs) is.2,
+    (is.3.0, homes_same devices areas old.logs new.logs slot is.3.0 leaves.of_slot.logs is.3.1, leaves.writing is.3.0 (may.of_homes is.3.0 is.3.1) is.3.2), leaves.of_slot.doubts ∙ is.4, away is.5,
   )
-  work_stays words.Closes (of, asked, still, writing, undoubted, are) = (of, asked, leaves.of_slot.slots ∙ still, leaves.writes _ writing, leaves.of_slot.doubts ∙ undoubted, are)
+  work_stays words.Closes is = (is.0, is.1, leaves.of_slot.slots ∙ is.2, leaves.writing (writes machine.log machine.log.work).1 (may.of_log is.2) is.3, leaves.of_slot.doubts ∙ is.4, is.5)
 
   fetch_stays : (fetch : Fetch) → IsFetching devices areas Reads old node session fetch → IsFetching devices areas Reads_then new node session fetch
   fetch_stays words.Nothing none = leaves.none_asked none
@@ -67,14 +75,14 @@ module _ (devices areas : ℕ) (Sure Sure_then : ℕ → ℕ → List ℕ → Ty
   }
 
 -- One event behind the other.
-pub leaves_then : (devices areas : ℕ) (Sure Sure_between Sure_then : ℕ → ℕ → List ℕ → Type 0) (Reads Reads_between Reads_then : ℕ → List ℕ → Type 0) (old between new : Scene) (node session slot : ℕ)
-    → Leaves devices areas Sure Sure_between Reads Reads_between old between node session slot → Leaves devices areas Sure_between Sure_then Reads_between Reads_then between new node session slot
-    → Leaves devices areas Sure Sure_then Reads Reads_then old new node session slot
-leaves_then devices areas Sure Sure_between Sure_then Reads Reads_between Reads_then old between new node session slot one two = record {
+pub leaves_then : (devices areas : ℕ) (Touches : ℕ → ℕ → Type 0) (Sure Sure_between Sure_then : ℕ → ℕ → List ℕ → Type 0) (Reads Reads_between Reads_then : ℕ → List ℕ → Type 0) (old between new : Scene) (node session slot : ℕ)
+    → Leaves devices areas Touches Sure Sure_between Reads Reads_between old between node session slot → Leaves devices areas Touches Sure_between Sure_then Reads_between Reads_then between new node session slot
+    → Leaves devices areas Touches Sure Sure_then Reads Reads_then old new node session slot
+leaves_then devices areas Touches Sure Sure_between Sure_then Reads Reads_between Reads_then old between new node session slot one two = record {
   of_slot = record { logs = two.of_slot.logs ∙ one.of_slot.logs; slots = two.of_slot.slots ∙ one.of_slot.slots; doubts = two.of_slot.doubts ∙ one.of_slot.doubts };
   none_out = λ none. two.none_out (one.none_out none);
   none_asked = λ none. two.none_asked (one.none_asked none);
-  writes = λ runs is. two.writes runs (one.writes runs is);
+  writing = λ runs touches is. two.writing runs touches (one.writing runs touches is);
   reads = λ block mode is. two.reads block mode (one.reads block mode is);
 }
 
@@ -113,7 +121,7 @@ not_under machine own session ne = by (is_under machine (Some own) session) refl
     by true is = absurd (ne (own_under machine own session is))
 
 -- A node that has what it has under its own session does something: all others leave it alone, and it is about what comes of it.
-module _ (devices areas : ℕ) (Sure Sure_then : ℕ → ℕ → List ℕ → Type 0) (Reads Reads_then : ℕ → ℕ → List ℕ → Type 0) (IsOf : ℕ → SessionRow → Type 0) (old new : Scene) (node session : ℕ)
+module _ (devices areas : ℕ) (Touches : ℕ → ℕ → ℕ → Type 0) (Sure Sure_then : ℕ → ℕ → List ℕ → Type 0) (Reads Reads_then : ℕ → ℕ → List ℕ → Type 0) (IsOf : ℕ → SessionRow → Type 0) (old new : Scene) (node session : ℕ)
     (about : AreAbout devices areas Sure Reads IsOf old)
     (rows : new.rows ≡ old.rows)
     (own : (other : ℕ) → new.own other ≡ old.own other)
@@ -122,7 +130,9 @@ module _ (devices areas : ℕ) (Sure Sure_then : ℕ → ℕ → List ℕ → Ty
     (machines : (other : ℕ) → other ≢ node → new.machines other ≡ old.machines other)
     (slots : (other : ℕ) (row : SessionRow) → row_in old.rows other ≡ Some row → row.dead ≡ 0 → other ≢ session → LeavesSlot old new other row.slot)
     (others : (other its : ℕ) (row : SessionRow) → other ≢ node → its ≢ session → old.own other ≡ Some its → row_in old.rows its ≡ Some row → row.dead ≡ 0
-    → Leaves devices areas Sure Sure_then (Reads other) (Reads_then other) old new other its row.slot)
+    → Leaves devices areas (Touches its) Sure Sure_then (Reads other) (Reads_then other) old new other its row.slot)
+    (works : (other its : ℕ) (machine : MachineView) (row : SessionRow) → row_in old.rows its ≡ Some row → row.dead ≡ 0 → IsAbout devices areas Sure (Reads other) old other its row.slot machine
+    → MayWork devices areas (Touches its) old row.slot machine)
     (single : (other : ℕ) → old.own other ≡ Some session → other ≡ node)
     (here : (machine : MachineView) (row : SessionRow) → new.machines node ≡ Some machine → row_in old.rows session ≡ Some row → row.dead ≡ 0 → IsAbout devices areas Sure_then (Reads_then node) new node session row.slot machine) where
   own_is : new.own node ≡ Some session
@@ -142,8 +152,9 @@ module _ (devices areas : ℕ) (Sure Sure_then : ℕ → ℕ → List ℕ → Ty
   each_about other its machine row false differ there marked is has lives =
       let ne : other ≢ node = λ e. grind (arith, nat_tests, differ, e) in
       let was = sym (own other) ∙ is in
-      about_stays devices areas Sure Sure_then (Reads other) (Reads_then other) old new other its row.slot machine (others other its row ne (apart other its ne was) was has lives)
-      (about.each other its machine row (sym (machines other ne) ∙ there) marked was has lives)
+      let before = about.each other its machine row (sym (machines other ne) ∙ there) marked was has lives in
+      about_stays devices areas (Touches its) Sure Sure_then (Reads other) (Reads_then other) old new other its row.slot machine (others other its row ne (apart other its ne was) was has lives)
+      (works other its machine row has lives before) before
 
   its_fresh : (other its : ℕ) (row : SessionRow) → (b : Bool) → eqb other node ≡ b → IsOf other row → ((n : ℕ) → new.own n ≡ Some its → n ≡ other) → row_in old.rows its ≡ Some row → row.dead ≡ 0
       → is_under (new.machines other) (new.own other) its ≡ false → IsFresh new other its row.slot

@@ -1,3 +1,4 @@
 pub mod Leaving
 pub mod Renewed
+pub mod Sending
 pub mod Showing

@@ -11,7 +11,7 @@ use Rattle.bx_facts.specs.Chains.{HasRow, LivesIn, last}
 use Rattle.bx_node_machines.specs.Machines as words
 use Rattle.bx_node_machines.specs.Machines.{AreAbout, Fetch, IsAbout, IsAtWork, IsFetching, IsFresh, MachineView, Scene, Stage, is_one, is_under}
 use Rattle.bx_node_machines.specs.Nodes.{IsOfNode, NodesStand, hinted, known_of, nothing_held, scene_of, shown}
-use Rattle.bx_node_machines.proofs.Leaving.{LeavesSlot, about_stays, fresh_stays}
+use Rattle.bx_node_machines.proofs.Leaving.{LeavesSlot, fresh_stays}
 use Rattle.bx_node_machines.proofs.Showing.{shown_at}
 use Rattle.bx_owners.specs.declared.owners.Owners as owners
 use Rattle.bx_places.specs.Places.{log_device}

@@ -1,11 +1,14 @@
 -- What nodes are about stays where an event leaves alone what it rests on.
-use Rattle.std.proofs.Common.{◌≡◌, ◌≢◌, ◌∙◌, ℕ, Bool, true, false, List, [], eqb, length, Option, Some, None, refl, sym, ap, subst, arith}
+use Rattle.std.proofs.Common.{◌≡◌, ◌≢◌, ◌⊎◌, ⊎_elim, inl, inr, ◌∙◌, ℕ, ◌+◌, ◌<◌, Bool, true, false, List, [], eqb, length, Option, Some, None, refl, sym, ap, subst, arith}
 use Rattle.std.specs.Prelude.{◌==◌, ◌&&◌, IsSomeAnd}
 use Rattle.std.proofs.lemmas.Bool.Decides.{nat_tests}
 use Rattle.bx_base.specs.declared.names.Mode.{Mode}
-use Rattle.bx_facts.specs.Writes.{WritesIn}
+use Rattle.bx_disk.specs.Disks.{Image}
+use Rattle.bx_facts.specs.Holds.{Holds}
+use Rattle.bx_facts.specs.Writes.{Asked, Sent, WritesIn}
 use Rattle.bx_node_machines.specs.Machines as words
-use Rattle.bx_node_machines.specs.Machines.{AreAbout, AreAway, Fetch, IsAbout, IsAtWork, IsDoubtOf, IsFetched, IsFetching, IsFresh, IsWriting, MachineView, Scene, Stage, is_one, is_under}
+use Rattle.bx_node_machines.specs.Machines.{AreAbout, AreAway, Fetch, IsAbout, IsAtWork, IsDoubtOf, IsFetched, IsFetching, IsFresh, IsWriting, MachineView, Scene, Stage, home_of, is_one, is_under}
+use Rattle.bx_places.specs.Places.{block_place}
 use Rattle.bx_records.specs.declared.runs.Run.{Run}
 use Rattle.bx_redo.specs.Homes.{AreItsHomes}
 use Rattle.bx_redo.specs.Steps.{writes}
@@ -13,8 +16,8 @@ use Rattle.bx_rows.specs.Words.{row_in}
 use Rattle.bx_rows.specs.declared.session.SessionRow.{SessionRow}
 use Rattle.bx_volume.specs.Overlay.{Logs}
 use Rattle.bx_volume.specs.Records.{Logged, newest_in}
-use Rattle.bx_world_logs.specs.Logs.{OfLog}
-use Rattle.bx_world_views.specs.Views.{Doubt}
+use Rattle.bx_world_logs.specs.Logs.{OfLog, Slot}
+use Rattle.bx_world_views.specs.Views.{Allows, Doubt}
 
 -- An event leaves the log of a slot, what is under way there, and the doubt of its session.
 pub record LeavesSlot (old new : Scene) (session slot : ℕ) : Type 0 where
@@ -73,6 +76,27 @@ module _ (devices areas : ℕ) (Touches : ℕ → ℕ → Type 0) (Sure Sure_the
     work = work_stays machine.stage is.work;
     fetch = fetch_stays machine.fetch is.fetch;
   }
+
+-- Nothing of all this is touched.
+pub all_same : (devices areas : ℕ) (Sure : ℕ → ℕ → List ℕ → Type 0) (Reads : ℕ → List ℕ → Type 0) (old new : Scene) (node session slot : ℕ)
+    → new.logs ≡ old.logs → new.slots ≡ old.slots → new.doubts ≡ old.doubts → new.out ≡ old.out → new.asked ≡ old.asked → new.sent ≡ old.sent → new.holding ≡ old.holding → new.before ≡ old.before
+    → (machine : MachineView) → IsAbout devices areas Sure Reads old node session slot machine → IsAbout devices areas Sure Reads new node session slot machine
+all_same devices areas Sure Reads old new node session slot logs slots doubts out asked sent holding before machine is =
+    about_stays devices areas (λ d s. Unit {0}) Sure Sure Reads Reads old new node session slot machine
+    (record {
+      of_slot = record { logs = ap (λ (f : ℕ → List Logged). f slot) logs; slots = ap (λ (f : ℕ → Slot). (f slot).activity) slots; doubts = ap (λ (f : ℕ → Option Doubt). f session) doubts };
+      none_out = λ none. ap (λ (f : ℕ → Option Sent). f node) out ∙ none;
+      none_asked = λ none. ap (λ (f : ℕ → Option Asked). f node) asked ∙ none;
+      writing = λ runs touches writes. subst (λ (f : ℕ → Option Sent). IsWriting Sure session runs (f node) new.sent) (sym out) (subst (λ (l : List Sent). IsWriting Sure session runs (old.out node) l) (sym sent) writes);
+      reads = λ block mode was. record {
+        is = was.is;
+        allows = subst (λ (h : Holds). Allows (h session block) mode) (sym holding) was.allows;
+        unlogged = λ s less. ap (λ (f : ℕ → List Logged). newest_in (f s) block) logs ∙ was.unlogged s less;
+        asked = subst (λ (f : ℕ → Option Asked). (f node ≡ None) ⊎ ((f node ≡ Some (home_of devices block)) × ((i : ℕ) → i < 9 → Reads ((block_place block devices).1 + i) (new.before (block_place block devices).0 ((block_place block devices).1 + i))))) (sym asked)
+            (subst (λ (image : Image). (old.asked node ≡ None) ⊎ ((old.asked node ≡ Some (home_of devices block)) × ((i : ℕ) → i < 9 → Reads ((block_place block devices).1 + i) (image (block_place block devices).0 ((block_place block devices).1 + i))))) (sym before) was.asked);
+      };
+    })
+    (record { of_log = λ is d s content w. tt; of_homes = λ runs are d s content w. tt }) is
 
 -- One event behind the other.
 pub leaves_then : (devices areas : ℕ) (Touches : ℕ → ℕ → Type 0) (Sure Sure_between Sure_then : ℕ → ℕ → List ℕ → Type 0) (Reads Reads_between Reads_then : ℕ → List ℕ → Type 0) (old between new : Scene) (node session slot : ℕ)
@@ -156,7 +180,7 @@ module _ (devices areas : ℕ) (Touches : ℕ → ℕ → ℕ → Type 0) (Sure 
       about_stays devices areas (Touches its) Sure Sure_then (Reads other) (Reads_then other) old new other its row.slot machine (others other its row ne (apart other its ne was) was has lives)
       (works other its machine row has lives before) before
 
-  its_fresh : (other its : ℕ) (row : SessionRow) → (b : Bool) → eqb other node ≡ b → IsOf other row → ((n : ℕ) → new.own n ≡ Some its → n ≡ other) → row_in old.rows its ≡ Some row → row.dead ≡ 0
+  its_fresh : (other its : ℕ) (row : SessionRow) → (b : Bool) → eqb other node ≡ b → IsOf other row ⊎ (new.own other ≡ Some its) → ((n : ℕ) → new.own n ≡ Some its → n ≡ other) → row_in old.rows its ≡ Some row → row.dead ≡ 0
       → is_under (new.machines other) (new.own other) its ≡ false → IsFresh new other its row.slot
   its_fresh other its row true same of alone has lives none =
       let e : other ≡ node = grind (arith, nat_tests, same) in
@@ -165,12 +189,12 @@ module _ (devices areas : ℕ) (Touches : ℕ → ℕ → ℕ → Type 0) (Sure 
       let was : is_under (old.machines other) (old.own other) its ≡ false = ap (λ (o : Option ℕ). is_under (old.machines other) o its) (ap (λ (n : ℕ). old.own n) e ∙ mine) ∙ not_under (old.machines other) session its (λ f. ne (sym f)) in
       fresh_stays old new other its row.slot (slots its row has lives ne)
       (λ is. absurd (ne (some_same its session (sym is ∙ ap (λ (n : ℕ). new.own n) e ∙ own_is))))
-      (about.fresh other its row of (λ n is. alone n (own n ∙ is)) has lives was)
+      (about.fresh other its row (⊎_elim (λ one. inl one) (λ one. inr (sym (own other) ∙ one)) of) (λ n is. alone n (own n ∙ is)) has lives was)
   its_fresh other its row false differ of alone has lives none =
       let ne : other ≢ node = λ e. grind (arith, nat_tests, differ, e) in
       let its_apart : its ≢ session = λ f. ne (sym (alone node (own_is ∙ ap (λ (n : ℕ). Some n) (sym f)))) in
       let was : is_under (old.machines other) (old.own other) its ≡ false = ap (λ (m : Option MachineView). is_under m (old.own other) its) (sym (machines other ne)) ∙ ap (λ (o : Option ℕ). is_under (new.machines other) o its) (sym (own other)) ∙ none in
-      let fresh = about.fresh other its row of (λ n is. alone n (own n ∙ is)) has lives was in
+      let fresh = about.fresh other its row (⊎_elim (λ one. inl one) (λ one. inr (sym (own other) ∙ one)) of) (λ n is. alone n (own n ∙ is)) has lives was in
       fresh_stays old new other its row.slot (slots its row has lives its_apart)
       (λ is. let own_was = sym (own other) ∙ is in let left = others other its row ne its_apart own_was has lives in (left.none_out (fresh.unwritten own_was), left.none_asked (fresh.unasked own_was))) fresh
 

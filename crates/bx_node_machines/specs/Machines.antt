@@ -164,9 +164,9 @@ pub record IsFresh (s : Scene) (node session slot : ℕ) : Type 0 where
   pub unasked : s.own node ≡ Some session → s.asked node ≡ None
 
 -- Each node that has what it has under a live session of its own is about what that session's log, writes and reads are; any other live session that
--- may come to be a node's own, and is no other's, is fresh. (`IsOf` says that a row is one that may.)
+-- is a node's own or may come to be, and is no other's, is fresh. (`IsOf` says that a row is one that may.)
 pub record AreAbout (devices areas : ℕ) (Sure : ℕ → ℕ → List ℕ → Type 0) (Reads : ℕ → ℕ → List ℕ → Type 0) (IsOf : ℕ → SessionRow → Type 0) (s : Scene) : Type 0 where
   pub each : (node session : ℕ) (machine : MachineView) (row : SessionRow) → s.machines node ≡ Some machine → machine.session ≡ Some session → s.own node ≡ Some session
       → row_in s.rows session ≡ Some row → row.dead ≡ 0 → IsAbout devices areas Sure (Reads node) s node session row.slot machine
-  pub fresh : (node session : ℕ) (row : SessionRow) → IsOf node row → ((other : ℕ) → s.own other ≡ Some session → other ≡ node) → row_in s.rows session ≡ Some row → row.dead ≡ 0
+  pub fresh : (node session : ℕ) (row : SessionRow) → IsOf node row ⊎ (s.own node ≡ Some session) → ((other : ℕ) → s.own other ≡ Some session → other ≡ node) → row_in s.rows session ≡ Some row → row.dead ≡ 0
       → is_under (s.machines node) (s.own node) session ≡ false → IsFresh s node session row.slot

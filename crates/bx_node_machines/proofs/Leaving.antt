@@ -1,5 +1,5 @@
 -- What nodes are about stays where an event leaves alone what it rests on.
-use Rattle.std.proofs.Common.{◌≡◌, ◌≢◌, ◌⊎◌, ⊎_elim, inl, inr, ◌∙◌, ℕ, ◌+◌, ◌<◌, Bool, true, false, List, [], eqb, length, Option, Some, None, refl, sym, ap, subst, arith}
+use Rattle.std.proofs.Common.{◌≡◌, ◌≢◌, ◌⊎◌, ⊎_elim, inl, inr, ◌∙◌, ℕ, ◌+◌, ◌<◌, Bool, true, false, List, eqb, length, Option, Some, None, refl, sym, ap, subst, arith}
 use Rattle.std.specs.Prelude.{◌==◌, ◌&&◌, IsSomeAnd}
 use Rattle.std.proofs.lemmas.Bool.Decides.{nat_tests}
 use Rattle.bx_base.specs.declared.names.Mode.{Mode}
@@ -54,12 +54,20 @@ module _ (devices areas : ℕ) (Touches : ℕ → ℕ → Type 0) (Sure Sure_the
   work_stays : (stage : Stage) → IsAtWork devices areas Sure old node session slot machine stage → IsAtWork devices areas Sure_then new node session slot machine stage
   work_stays words.Idle is = (is.0, leaves.of_slot.slots ∙ is.1, leaves.of_slot.logs ∙ is.2, leaves.none_out is.3, leaves.of_slot.doubts ∙ is.4, away is.5)
   work_stays (words.Records call draft) is = (
-    is.0, is.1, leaves.of_slot.slots ∙ is.2, leaves.writing (writes machine.log machine.log.work).1 (may.of_log is.2) is.3,
-    subst (λ (found : Option Doubt). IsSomeAnd found (IsDoubtOf call draft)) (sym leaves.of_slot.doubts) is.4, away is.5,
+    is.0,
+    is.1,
+    leaves.of_slot.slots ∙ is.2,
+    leaves.writing (writes machine.log machine.log.work).1 (may.of_log is.2) is.3,
+    subst (λ (found : Option Doubt). IsSomeAnd found (IsDoubtOf call draft)) (sym leaves.of_slot.doubts) is.4,
+    away is.5,
   )
   work_stays words.Homes is = (
-    is.0, leaves.of_slot.slots ∙ is.1, subst (λ (l : List Logged). 0 < length l) (sym leaves.of_slot.logs) is.2,
-    (is.3.0, homes_same devices areas old.logs new.logs slot is.3.0 leaves.of_slot.logs is.3.1, leaves.writing is.3.0 (may.of_homes is.3.0 is.3.1) is.3.2), leaves.of_slot.doubts ∙ is.4, away is.5,
+    is.0,
+    leaves.of_slot.slots ∙ is.1,
+    subst (λ (l : List Logged). 0 < length l) (sym leaves.of_slot.logs) is.2,
+    (is.3.0, homes_same devices areas old.logs new.logs slot is.3.0 leaves.of_slot.logs is.3.1, leaves.writing is.3.0 (may.of_homes is.3.0 is.3.1) is.3.2),
+    leaves.of_slot.doubts ∙ is.4,
+    away is.5,
   )
   work_stays words.Closes is = (is.0, is.1, leaves.of_slot.slots ∙ is.2, leaves.writing (writes machine.log machine.log.work).1 (may.of_log is.2) is.3, leaves.of_slot.doubts ∙ is.4, is.5)
 
@@ -185,7 +193,7 @@ module _ (devices areas : ℕ) (Touches : ℕ → ℕ → ℕ → Type 0) (Sure 
   its_fresh other its row true same of alone has lives none =
       let e : other ≡ node = grind (arith, nat_tests, same) in
       let ne : its ≢ session = λ f. let wrong : true ≡ false = sym under ∙ ap (λ (n : ℕ). is_under (new.machines node) (Some session) n) (sym f)
-              ∙ ap (λ (o : Option ℕ). is_under (new.machines node) o its) (sym own_is) ∙ ap (λ (n : ℕ). is_under (new.machines n) (new.own n) its) (sym e) ∙ none in cc in
+      ∙ ap (λ (o : Option ℕ). is_under (new.machines node) o its) (sym own_is) ∙ ap (λ (n : ℕ). is_under (new.machines n) (new.own n) its) (sym e) ∙ none in cc in
       let was : is_under (old.machines other) (old.own other) its ≡ false = ap (λ (o : Option ℕ). is_under (old.machines other) o its) (ap (λ (n : ℕ). old.own n) e ∙ mine) ∙ not_under (old.machines other) session its (λ f. ne (sym f)) in
       fresh_stays old new other its row.slot (slots its row has lives ne)
       (λ is. absurd (ne (some_same its session (sym is ∙ ap (λ (n : ℕ). new.own n) e ∙ own_is))))

@@ -1,5 +1,5 @@
 -- What a node's log writes, and the homes of its blocks, its session may write.
-use Rattle.std.proofs.Common.{◌≡◌, ◌∙◌, ⊎_elim, inl, inr, ℕ, ◌+◌, ◌*◌, ◌-◌, ◌/◌, ◌<◌, Bool, true, List, [], ◌∷◌, length, Some, IsSome, refl, sym, ap, subst, arith}
+use Rattle.std.proofs.Common.{◌≡◌, ◌∙◌, ⊎_elim, inl, ℕ, ◌+◌, ◌*◌, ◌-◌, ◌<◌, Bool, true, List, [], ◌∷◌, length, Some, refl, sym, ap, subst, arith}
 use Rattle.bx_disk.specs.Disks.{Image}
 use Rattle.bx_facts.specs.Holds.{Holds}
 use Rattle.bx_facts.specs.Writes.{Writes, WritesIn}
@@ -19,7 +19,7 @@ use Rattle.bx_redo.specs.declared.work.Work.{Work}
 use Rattle.bx_redo.specs.declared.work.Work.TheVariants as works
 use Rattle.bx_redo.proofs.Asked.{as_many, one_asked}
 use Rattle.bx_redo.proofs.Within.{within_it}
-use Rattle.bx_rows.specs.Words.{is_taken, row_in}
+use Rattle.bx_rows.specs.Words.{row_in}
 use Rattle.bx_rows.specs.declared.session.SessionRow.{SessionRow}
 use Rattle.bx_views.specs.Truths.{Truth}
 use Rattle.bx_volume.specs.Overlay.{Logs}
@@ -27,7 +27,7 @@ use Rattle.bx_world_chains.specs.Entitled.{IsEntitled}
 use Rattle.bx_world_chains.proofs.Rows.{all_row, lives_of, taken_of}
 use Rattle.bx_world_logs.specs.Logs.{Activity, LogsStand, OfLog, Slot, SlotStands, view_of, writes_in}
 use Rattle.bx_world_logs.proofs.Regions.{writes_within}
-use Rattle.bx_world_standing.specs.Rights.{MayTouch}
+use Rattle.bx_world_standing.specs.Rights.{IsOfSlot, MayTouch}
 use Rattle.bx_world_standing.specs.Rights.MayTouch.{OfLogged, OfSlot}
 
 -- a work begins in its slot's view where it begins in the log
@@ -61,7 +61,7 @@ of_run log works.Shuts d sector content is = one (run_of log works.Shuts) is
 
 module _ (devices areas : ℕ) (Sure : ℕ → ℕ → List ℕ → Type 0) (before : Image) (s : GlobalState) (allowed : IsAllowed s) (holding : Holds) (logs : Logs) (slots : ℕ → Slot) (truth : Truth)
     (st : LogsStand Sure devices areas s.sessions before logs slots truth) (session : ℕ) (row : SessionRow) (is_row : row_in s.sessions session ≡ Some row) (lives : row.dead ≡ 0) where
-  low : row.slot < 8
+  pub low : row.slot < 8
   low = (all_row (IsSession s.term_end) s.sessions session row allowed.each_session is_row).slot
 
   mine : IsEntitled s session row.slot session
@@ -70,18 +70,26 @@ module _ (devices areas : ℕ) (Sure : ℕ → ℕ → List ℕ → Type 0) (bef
   here : SlotStands Sure devices areas before true logs row.slot (slots row.slot)
   here = subst (λ (t : Bool). SlotStands Sure devices areas before t logs row.slot (slots row.slot)) (taken_of s session row is_row) (st.each row.slot low)
 
-  log_touches : (log : LogView) → log.slot ≡ row.slot → log.device ≡ log_device row.slot devices → log.count ≡ length (logs row.slot) → (slots row.slot).activity ≡ OfLog log.work
-      → (d sector : ℕ) (content : List ℕ) → WritesIn (writes log log.work).1 d sector content → MayTouch devices areas s holding logs slots session d sector
-  log_touches log same device many doing d sector content w =
-      let run = of_run log log.work d sector content w in
-      let start = begins_same log devices row.slot (length (logs row.slot)) same many log.work in
-      let size = as_many log.work in
-      let on : d ≡ log_device row.slot devices = sym run.on ∙ device in
-      let from = run.from in
-      let below = run.below in
-      let within = within_it (log_device row.slot devices) (begins_at (view_of devices row.slot (length (logs row.slot)) log.work) log.work) (sectors_of log.work) d sector on (omega (arith, from, start)) (omega (arith, below, start, size)) in
-      let inside = writes_within Sure devices areas before logs slots row.slot d sector true here (ap (λ (a : Activity). writes_in devices row.slot (length (logs row.slot)) a d sector) doing ∙ within) in
-      OfSlot session row.slot low mine (record { device = on; from = inside.from; to = inside.to })
+  -- The write of a log's work is what is under way in its slot, in sectors of the slot.
+  module _ (log : LogView) (same : log.slot ≡ row.slot) (device : log.device ≡ log_device row.slot devices) (many : log.count ≡ length (logs row.slot)) (doing : (slots row.slot).activity ≡ OfLog log.work) where
+    pub under_way : (d sector : ℕ) (content : List ℕ) → WritesIn (writes log log.work).1 d sector content → writes_in devices row.slot (length (logs row.slot)) (slots row.slot).activity d sector ≡ true
+    under_way d sector content w =
+        let run = of_run log log.work d sector content w in
+        let start = begins_same log devices row.slot (length (logs row.slot)) same many log.work in
+        let size = as_many log.work in
+        let from = run.from in
+        let below = run.below in
+        ap (λ (a : Activity). writes_in devices row.slot (length (logs row.slot)) a d sector) doing
+        ∙ within_it (log_device row.slot devices) (begins_at (view_of devices row.slot (length (logs row.slot)) log.work) log.work) (sectors_of log.work) d sector (sym run.on ∙ device)
+        (omega (arith, from, start)) (omega (arith, below, start, size))
+
+    pub of_slot : (d sector : ℕ) (content : List ℕ) → WritesIn (writes log log.work).1 d sector content → IsOfSlot devices row.slot d sector
+    of_slot d sector content w =
+        let inside = writes_within Sure devices areas before logs slots row.slot d sector true here (under_way d sector content w) in
+        record { device = sym (of_run log log.work d sector content w).on ∙ device; from = inside.from; to = inside.to }
+
+    pub log_touches : (d sector : ℕ) (content : List ℕ) → WritesIn (writes log log.work).1 d sector content → MayTouch devices areas s holding logs slots session d sector
+    log_touches d sector content w = OfSlot session row.slot low mine (of_slot d sector content w)
 
   home_touches : (runs : List Run) → AreItsHomes devices areas logs row.slot runs → (d sector : ℕ) (content : List ℕ) → WritesIn runs d sector content → MayTouch devices areas s holding logs slots session d sector
   home_touches runs its d sector content (run, there, w) =

@@ -1,5 +1,5 @@
 -- A node takes up a session that is new to it, and forgets what it had under another: the nodes stand.
-use Rattle.std.proofs.Common.{◌≡◌, ◌≢◌, ◌⊎◌, ◌∙◌, inl, inr, ℕ, Bool, true, false, List, [], eqb, Option, Some, None, refl, sym, ap, subst, arith}
+use Rattle.std.proofs.Common.{◌≡◌, ◌≢◌, ◌⊎◌, ◌∙◌, inr, ℕ, Bool, true, false, List, eqb, Option, Some, None, refl, sym, ap, subst, arith}
 use Rattle.std.specs.Prelude.{◌==◌, ◌&&◌, if◌then◌else◌, slice_get, length}
 use Rattle.std.proofs.lemmas.Bool.Decides.{nat_tests}
 use Rattle.bx_base.specs.declared.names.Actor.TheVariants.{Node}
@@ -7,7 +7,7 @@ use Rattle.bx_base.specs.declared.names.Mode.{Mode}
 use Rattle.bx_disk.specs.Disks.{Disks}
 use Rattle.bx_facts.specs.declared.register.Register as register
 use Rattle.bx_facts.specs.declared.store.Store as store
-use Rattle.bx_facts.specs.Chains.{HasRow, LivesIn, last}
+use Rattle.bx_facts.specs.Chains.{last}
 use Rattle.bx_node_machines.specs.Machines as words
 use Rattle.bx_node_machines.specs.Machines.{AreAbout, Fetch, IsAbout, IsAtWork, IsFetching, IsFresh, MachineView, Scene, Stage, is_one, is_under}
 use Rattle.bx_node_machines.specs.Nodes.{IsOfNode, NodesStand, hinted, known_of, nothing_held, scene_of, shown}
@@ -16,18 +16,16 @@ use Rattle.bx_node_machines.proofs.Showing.{shown_at}
 use Rattle.bx_owners.specs.declared.owners.Owners as owners
 use Rattle.bx_places.specs.Places.{log_device}
 use Rattle.bx_post.specs.declared.packets.Letter.{Letter}
-use Rattle.bx_records.specs.Drafts.{Block}
 use Rattle.bx_redo.specs.Steps.{closed_log}
 use Rattle.bx_redo.specs.View.{LogView}
-use Rattle.bx_redo.specs.declared.work.Work.TheVariants as works
 use Rattle.bx_rows.specs.Words.{row_in}
 use Rattle.bx_rows.specs.declared.session.SessionRow.{SessionRow}
 use Rattle.bx_views.specs.Attempts.{Deed}
-use Rattle.bx_views.specs.Truths.{Held, Hints, Truth}
+use Rattle.bx_views.specs.Truths.{Hints, Truth}
 use Rattle.bx_volume.specs.Records.{Logged, newest_in}
 use Rattle.bx_world_standing.specs.Parts.{Clocks}
-use Rattle.bx_world_standing.specs.Standing.{Course, StandsAt, SureOf, own_up}
-use Rattle.bx_world_standing.proofs.Owns.{own_is, own_of}
+use Rattle.bx_world_standing.specs.Standing.{Course, SureOf, own_up}
+use Rattle.bx_world_standing.proofs.Owns.{own_of}
 use Rattle.bx_world_views.specs.Views.{ViewStands}
 
 -- A node has nothing under a session yet; its log is the closed one of a slot.

@@ -1,24 +1,23 @@
 -- A node's cache changes, and nothing else: the nodes stand.
-use Rattle.std.proofs.Common.{◌≡◌, ◌≢◌, ◌∙◌, ℕ, Bool, true, false, List, eqb, Option, Some, None, refl, sym, ap, subst, arith}
-use Rattle.std.specs.Prelude.{◌==◌, if◌then◌else◌, slice_get}
+use Rattle.std.proofs.Common.{◌≡◌, ◌≢◌, ◌∙◌, ℕ, Bool, true, false, List, Option, Some, None, ap, subst, arith}
+use Rattle.std.specs.Prelude.{if◌then◌else◌, slice_get}
 use Rattle.std.proofs.lemmas.Bool.Decides.{nat_tests}
 use Rattle.bx_base.specs.declared.names.Actor.TheVariants.{Node}
-use Rattle.bx_base.specs.declared.names.Mode.{Mode}
 use Rattle.bx_disk.specs.Disks.{Disks}
 use Rattle.bx_facts.specs.declared.register.Register as register
 use Rattle.bx_facts.specs.declared.store.Store as store
 use Rattle.bx_facts.specs.Chains.{HasRow, LivesIn, last}
 use Rattle.bx_node_machines.specs.Machines.{MachineView, is_one}
-use Rattle.bx_node_machines.specs.Nodes.{NodesStand, hinted, known_of, nothing_held, scene_of, shown}
+use Rattle.bx_node_machines.specs.Nodes.{NodesStand, hinted, known_of, nothing_held, shown}
 use Rattle.bx_node_views.proofs.Views as views
 use Rattle.bx_owners.specs.declared.owners.Owners as owners
 use Rattle.bx_post.specs.declared.packets.Letter.{Letter}
 use Rattle.bx_views.specs.Attempts.{Deed}
-use Rattle.bx_views.specs.Truths.{Held, Hints, IsTruth, Truth, no_hints}
+use Rattle.bx_views.specs.Truths.{Held, Hints, Truth, no_hints}
 use Rattle.bx_world_standing.specs.Parts.{Clocks}
 use Rattle.bx_world_standing.specs.Standing.{Course, Known, StandsAt, own_up}
 use Rattle.bx_world_standing.proofs.Owns.{own_is}
-use Rattle.bx_world_views.specs.Views.{Doubt, DoubtIn, DoubtStands, ViewStands}
+use Rattle.bx_world_views.specs.Views.{Doubt, DoubtIn, ViewStands}
 
 module _ {G O S T : Type 0} (g : register.Ghosts G) (o : owners.Ghosts O) (st : store.Ghosts S) (Stands : Truth → Hints → T → Type 0) (Step : T → Deed → T → Type 0)
     (register_is : G) (owners_are : O) (store_is : S) (x : Disks) where

@@ -1,6 +1,5 @@
 -- Calls are answered over what stands.
 use Rattle.std.proofs.Common.{◌≡◌, ℕ, List, refl, sym, subst}
-use Rattle.bx_base.specs.declared.names.Actor.TheVariants.{Node}
 use Rattle.bx_disk.specs.Disks.{Disks}
 use Rattle.bx_facts.specs.declared.register.Register as register
 use Rattle.bx_facts.specs.declared.store.Store as store
@@ -31,8 +30,3 @@ module _ {G O S T : Type 0} (g : register.Ghosts G) (o : owners.Ghosts O) (st : 
     stands = subst (λ (machines : List MachineView). NodesStand g o st Stands Step register_is owners_are store_is x letters clocks machines c led.last) (sym same)
         (answered g o st Stands Step register_is owners_are store_is x letters clocks old c tree led.last led.all stands);
   }
-
-  -- Nothing is said.
-  pub unturned : (letters : List Letter) (clocks : Clocks) (machines : List MachineView) (c : Course) (tree : T) (said : List Said) → NodesStand g o st Stands Step register_is owners_are store_is x letters clocks machines c tree
-      → LedTo Stands Step 0 c.truth tree said → Turned Step (NodesStand g o st Stands Step register_is owners_are store_is x letters clocks machines) c tree said
-  unturned letters clocks machines c tree said stands led = turned letters clocks machines machines c tree 0 said refl stands led

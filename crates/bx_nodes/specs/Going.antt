@@ -1,5 +1,5 @@
 -- What attempts leave of the calls of a node.
-use Rattle.std.specs.Prelude.{◌≡◌, ℕ, Option, Some, None}
+use Rattle.std.specs.Prelude.{ℕ, Option, Some, None}
 use Rattle.bx_node_tries.specs.Tries.{AllGo, AreNone}
 use Rattle.bx_node_tries.specs.declared.round.Round.{Round}
 use Rattle.bx_nodes.specs.declared.answers.Attempted.{Attempted}

@@ -1,12 +1,10 @@
 //! The attempts of a turn.
 
-ghost use Rattle.std.specs.Prelude.{◌≡◌, ◌≢◌, ℕ, ◌<◌, ◌≤◌, false, true, length, List, All, IfOk, IfSome, None, Some, slice_get};
+ghost use Rattle.std.specs.Prelude.{◌≡◌, ℕ, ◌<◌, ◌≤◌, false, length, List, IfOk, IfSome, None, Some, slice_get};
 ghost use Rattle.bx_base.specs.declared.names.Actor.TheVariants.{Node};
 ghost use Rattle.bx_disk.specs.Disks.{Disks};
 ghost use Rattle.bx_facts.specs.Chains.{LivesIn, last};
-ghost use Rattle.bx_node_cache.specs.Kept.{held_in, hint_in};
 ghost use Rattle.bx_node_machines.specs.Nodes.{NodesStand};
-ghost use Rattle.bx_node_tries.specs.Tries.{WaitsForBlocks};
 ghost use Rattle.bx_nodes.specs.Going.{Settle};
 ghost use Rattle.bx_nodes.specs.Seen.{seen};
 ghost use Rattle.bx_nodes.specs.Turns.{OnlyMachine, Turned};
@@ -47,6 +45,7 @@ impl<G: Register, O: Owners, S: Store, E: Engine> Nodes<G, O, S, E> {
             → O.own self.old.owners node ≡ Some session → LivesIn (last c.register.chain) session → IfSome (slice_get self.old.machines.items node) (λ machine. machine.session ≡ Some session)
             → IfOk result (λ attempted. Turned (E.step self.old.engine) (NodesStand G.Register O.Owners S.Store (E.stands self.new.engine) (E.step self.new.engine) self.new.register self.new.owners self.new.store x letters clocks (seen self.new.machines.items)) c tree attempted.said.items) }
         ensures goes { IfOk result (Settle moment (slice_get self.old.machines.items node) (slice_get self.new.machines.items node)) }
+        ensures may { may_begin ≡ false → IfOk result (λ attempted. attempted.begun ≡ None) }
         ensures others { OnlyMachine node self.old.machines.items self.new.machines.items }
     {
         let machine = &mut self.machines[node];

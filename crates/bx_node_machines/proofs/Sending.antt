@@ -11,10 +11,8 @@ use Rattle.bx_records.specs.declared.runs.Run.{Run}
 use Rattle.bx_volume.specs.Overlay.{IsUnlogged}
 use Rattle.bx_world_views.specs.Views.{Allows}
 
-module _ (devices areas : ℕ) (Touches : ℕ → ℕ → Type 0) (Sure Sure_then : ℕ → ℕ → List ℕ → Type 0) (Reads Reads_then : ℕ → List ℕ → Type 0) (old new : Scene) (node session slot : ℕ)
-    (of_slot : LeavesSlot old new session slot)
-    (out : new.out node ≡ old.out node) (asked : new.asked node ≡ old.asked node) where
-  -- so whatever a node reads
+module _ (devices areas : ℕ) (Reads Reads_then : ℕ → List ℕ → Type 0) (old new : Scene) (node session : ℕ) (asked : new.asked node ≡ old.asked node) where
+  -- What a node reads goes on, where a block that it reads is held as it was, gets into no log, and its home holds what it held.
   pub fetching : (fetch : Fetch) → ((block : ℕ) (mode : Mode) → Allows (old.holding session block) mode → Allows (new.holding session block) mode) → ((block : ℕ) → IsUnlogged old.logs block → IsUnlogged new.logs block)
       → ((block : ℕ) → IsBlock areas block → IsUnlogged old.logs block → (i : ℕ) → i < 9 → old.asked node ≡ Some (home_of devices block)
       → Reads ((block_place block devices).1 + i) (old.before (block_place block devices).0 ((block_place block devices).1 + i))
@@ -29,6 +27,9 @@ module _ (devices areas : ℕ) (Touches : ℕ → ℕ → Type 0) (Sure Sure_the
   }
   fetching words.Dropped holds unlogged on is = is
 
+module _ (devices areas : ℕ) (Touches : ℕ → ℕ → Type 0) (Sure Sure_then : ℕ → ℕ → List ℕ → Type 0) (Reads Reads_then : ℕ → List ℕ → Type 0) (old new : Scene) (node session slot : ℕ)
+    (of_slot : LeavesSlot old new session slot)
+    (out : new.out node ≡ old.out node) (asked : new.asked node ≡ old.asked node) where
   -- Another sends a write, of none of the sectors that this session touches.
   pub sending_leaves : (write : Sent) → write.session ≢ session → new.sent ≡ write ∷ old.sent
       → ((d s : ℕ) (content : List ℕ) → Touches d s → WritesTo write d s content → ⊥)
@@ -44,7 +45,7 @@ module _ (devices areas : ℕ) (Touches : ℕ → ℕ → Type 0) (Sure Sure_the
     none_out = λ none. out ∙ none;
     none_asked = λ none. asked ∙ none;
     writing = λ runs touches is. by_writing runs touches is;
-    reads = λ block mode is. fetching (words.Block block mode) holds unlogged reads is;
+    reads = λ block mode is. fetching devices areas Reads Reads_then old new node session asked (words.Block block mode) holds unlogged reads is;
   }
     where
       by_writing : (runs : List Run) → ((d sector : ℕ) (content : List ℕ) → WritesIn runs d sector content → Touches d sector)

@@ -1,0 +1,5 @@
+pub mod Leaving
+pub mod Owning
+pub mod Renewed
+pub mod Sending
+pub mod Showing

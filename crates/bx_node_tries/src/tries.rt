@@ -1,0 +1,105 @@
+//! The attempts.
+
+ghost use Rattle.std.specs.Prelude.{◌≡◌, ℕ, ◌≤◌, [], All, IfOk, IfSome, None, OnOk, true, false};
+ghost use Rattle.bx_node_tries.specs.Tries.{AllGo, AreNone, Goes, IsChange, LedTo, Tried, WaitsForBlocks};
+ghost use Rattle.bx_views.specs.Truths.{IsTruth, Truth};
+
+use crate::round::{Begun, Round, Said, Waiting};
+use bx_base::{OutOfMemory, Point};
+use bx_views::{Attempt, Done, Engine, View};
+use std::alloc::Global;
+
+/// Attempts the calls that wait, in their order, over one view at a moment in milliseconds. Where a record may be begun, the first
+/// call whose attempt changes blocks begins it, and no other is attempted behind it.
+pub fn attempt_all<E: Engine, V: View>(
+    alloc: Global,
+    engine: &E,
+    view: &V,
+    moment: u64,
+    may_begin: bool,
+    calls: Vec<Waiting>,
+) -> Result<Round, OutOfMemory>
+    requires moment { moment ≤ 4294967295999 }
+    ensures led { (truth : Truth) (first : E.Tree) → IsTruth (V.held view.now) truth → E.stands engine.now truth (V.hints view.now) first
+        → IfOk result (λ round. LedTo (E.stands engine.now) (E.step engine.now) (E.free engine.now truth) truth first round.said.items) }
+    ensures waits { may_begin ≡ true → IfOk result (λ round. round.begun ≡ None
+        → All (WaitsForBlocks (E.stands engine.now) (E.step engine.now) (E.free engine.now) (E.areas engine.now) (λ client bytes. E.path engine.now client bytes (V.held view.now) (V.hints view.now)) (V.held view.now) (V.hints view.now) moment) round.waiting.items) }
+    ensures goes { IfOk result (λ round. (first : Round) × AreNone first × AllGo moment calls.items first round) }
+    ensures begun { IfOk result (λ round. IfSome round.begun (λ begun. IsChange begun.attempt × Tried (E.stands engine.now) (E.step engine.now) (E.free engine.now) (E.areas engine.now) (E.path engine.now begun.call.client begun.call.message (V.held view.now) (V.hints view.now)) (V.held view.now) (V.hints view.now) begun.call.client begun.call.message moment begun.attempt)) }
+    ensures may { may_begin ≡ false → IfOk result (λ round. round.begun ≡ None) }
+{
+    let mut round = Round {
+        said: Vec::new(alloc),
+        waiting: Vec::new(alloc),
+        begun: None,
+    };
+    for call in calls {
+        if round.begun.is_some() {
+            round.waiting.push(call)?;
+        } else {
+            try_one(alloc, engine, view, moment, may_begin, call, &mut round)?;
+        }
+    }
+    Ok(round)
+}
+
+/// Attempts one call.
+fn try_one<E: Engine, V: View>(
+    alloc: Global,
+    engine: &E,
+    view: &V,
+    moment: u64,
+    may_begin: bool,
+    call: Waiting,
+    round: &mut Round,
+) -> Result<(), OutOfMemory>
+    requires none { round.old.begun ≡ None }
+    requires moment { moment ≤ 4294967295999 }
+    ensures led { (truth : Truth) (first : E.Tree) → IsTruth (V.held view.now) truth → E.stands engine.now truth (V.hints view.now) first → LedTo (E.stands engine.now) (E.step engine.now) (E.free engine.now truth) truth first round.old.said.items
+        → OnOk result (LedTo (E.stands engine.now) (E.step engine.now) (E.free engine.now truth) truth first round.new.said.items) }
+    ensures waits { may_begin ≡ true → All (WaitsForBlocks (E.stands engine.now) (E.step engine.now) (E.free engine.now) (E.areas engine.now) (λ client bytes. E.path engine.now client bytes (V.held view.now) (V.hints view.now)) (V.held view.now) (V.hints view.now) moment) round.old.waiting.items
+        → OnOk result (All (WaitsForBlocks (E.stands engine.now) (E.step engine.now) (E.free engine.now) (E.areas engine.now) (λ client bytes. E.path engine.now client bytes (V.held view.now) (V.hints view.now)) (V.held view.now) (V.hints view.now) moment) round.new.waiting.items) }
+    ensures goes { OnOk result (Goes moment call round.old round.new) }
+    ensures begun { OnOk result (IfSome round.new.begun (λ begun. IsChange begun.attempt × Tried (E.stands engine.now) (E.step engine.now) (E.free engine.now) (E.areas engine.now) (E.path engine.now begun.call.client begun.call.message (V.held view.now) (V.hints view.now)) (V.held view.now) (V.hints view.now) begun.call.client begun.call.message moment begun.attempt)) }
+    ensures may { may_begin ≡ false → OnOk result (round.new.begun ≡ None) }
+{
+    let bytes = call.message.bytes();
+    let Some(attempt) = engine.attempt(alloc, call.client, bytes, moment, view)? else {
+        unreachable!();
+    };
+    match attempt {
+        Attempt::Answer(done) => round.said.push(said(call, moment, done))?,
+        Attempt::Need(_wants) => round.waiting.push(call)?,
+        Attempt::Change(draft, done) if may_begin => {
+            round.begun = Some(Begun {
+                call,
+                attempt: Attempt::Change(draft, done),
+            });
+        }
+        Attempt::Inner(draft) if may_begin => {
+            round.begun = Some(Begun {
+                call,
+                attempt: Attempt::Inner(draft),
+            });
+        }
+        Attempt::Change(_, _) | Attempt::Inner(_) => round.waiting.push(call)?,
+    }
+    Ok(())
+}
+
+/// The answer to a call that acted and changes no block.
+fn said(call: Waiting, moment: u64, done: Done) -> Said
+    ensures { result ≡ record { point = record { call = call.number; moment = moment; spare = done.spare; made = done.made }; client = call.client; call = call.message; reply = done.reply } }
+{
+    Said {
+        point: Point {
+            call: call.number,
+            moment,
+            spare: done.spare,
+            made: done.made,
+        },
+        client: call.client,
+        call: call.message.into_bytes(),
+        reply: done.reply,
+    }
+}

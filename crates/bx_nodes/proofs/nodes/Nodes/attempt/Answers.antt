@@ -1,0 +1,39 @@
+use Rattle.std.proofs.Common.{◌≡◌, ◌∙◌, List, Option, Some, IfSome, refl, sym, ap, subst}
+use Rattle.std.specs.Prelude.{slice_get, slice_set}
+use Rattle.std.proofs.lemmas.Option.{slice_get-get_or}
+use Rattle.bx_node_machines.proofs.Showing.{sees_truth}
+use Rattle.bx_node_tries.specs.Tries.{AllGo}
+use Rattle.bx_node_tries.specs.declared.round.Waiting.{Waiting}
+use Rattle.bx_nodes.specs.Going.{Settle}
+use Rattle.bx_nodes.specs.Seen.{seen, view_of}
+use Rattle.bx_nodes.specs.declared.answers.Attempted.{Attempted}
+use Rattle.bx_nodes.specs.declared.machine.Machine.{Machine}
+use Rattle.bx_nodes.proofs.Answered.{turned}
+use Rattle.bx_nodes.proofs.Machines.{seen_same, seen_there, set_here, set_there}
+use Rattle.bx_nodes.proofs.nodes.Nodes.attempt.Goals as goal
+
+pub returns : goal.returns
+returns g c =
+    let items = c.args.self.now.machines.items in
+    let node = c.args.node in
+    let before = c.index_mut-machine.result.now in
+    let was : slice_get items node ≡ Some before = slice_get-get_or items node before c.requires.there ∙ ap (λ (m : Machine). Some m) (sym c.index_mut-machine.ensures.value) in
+    let round = c.in_ok-round.round in
+    let after : Machine = record before { calls = round.waiting } in
+    let attempted : Attempted = record { said = round.said; begun = round.begun } in
+    record {
+      stands = λ x letters clocks course tree session up stands own lives mine.
+          let e = g.E.Engine in
+          let engine = c.args.self.now.engine in
+          let is_mine : before.session ≡ Some session = subst (λ (m : Option Machine). IfSome m (λ machine. machine.session ≡ Some session)) was mine in
+          let sees = sees_truth g.G.Register g.O.Owners g.S.Store (e.stands engine) (e.step engine) c.args.self.now.register c.args.self.now.owners c.args.self.now.store x letters clocks (seen items) course tree node session (view_of before)
+          stands up own lives (seen_there items node before was) is_mine in
+          turned g.G.Register g.O.Owners g.S.Store (e.stands engine) (e.step engine) c.args.self.now.register c.args.self.now.owners c.args.self.now.store x letters clocks (seen items) (seen (slice_set items node after))
+          course tree (e.free engine course.truth) round.said.items (seen_same items node before after was refl) stands (c.in_ok-round.ensures.led course.truth tree sees.0.is_truth sees.1);
+      goes = let went = c.in_ok-round.ensures.goes in
+          subst (λ (m : Option Machine). Settle c.args.moment m (slice_get (slice_set items node after) node) attempted) (sym was)
+          (subst (λ (m : Option Machine). Settle c.args.moment (Some before) m attempted) (sym (set_here items node after before was))
+          (record { first = went.0; none = went.1; go = subst (λ (l : List Waiting). AllGo c.args.moment l went.0 round) (ap (λ v. v.items) c.replace-calls.ensures.value) went.2 }));
+      may = λ may. c.in_ok-round.ensures.may may;
+      others = record { others = λ other ne. set_there items node other after ne };
+    }

@@ -1,0 +1,69 @@
+//! The attempts of a turn.
+
+ghost use Rattle.std.specs.Prelude.{◌≡◌, ℕ, ◌<◌, ◌≤◌, false, length, List, IfOk, IfSome, None, Some, slice_get};
+ghost use Rattle.bx_base.specs.declared.names.Actor.TheVariants.{Node};
+ghost use Rattle.bx_disk.specs.Disks.{Disks};
+ghost use Rattle.bx_facts.specs.Chains.{LivesIn, last};
+ghost use Rattle.bx_node_machines.specs.Nodes.{NodesStand};
+ghost use Rattle.bx_nodes.specs.Going.{Settle};
+ghost use Rattle.bx_nodes.specs.Seen.{seen};
+ghost use Rattle.bx_nodes.specs.Turns.{OnlyMachine, Turned};
+ghost use Rattle.bx_post.specs.declared.packets.Letter.{Letter};
+ghost use Rattle.bx_world_standing.specs.Parts.{Clocks};
+ghost use Rattle.bx_world_standing.specs.Standing.{Course};
+
+use crate::nodes::Nodes;
+use bx_base::OutOfMemory;
+use bx_facts::{Register, Store};
+use bx_node_tries::{Begun, Round, Said, attempt_all};
+use bx_owners::Owners;
+use bx_views::Engine;
+use std::mem;
+
+/// What comes of attempts.
+#[derive(Drop)]
+pub struct Attempted {
+    /// The answers, in the order in which the calls acted.
+    pub said: Vec<Said>,
+    /// The call that begins a record.
+    pub begun: Option<Begun>,
+}
+
+impl<G: Register, O: Owners, S: Store, E: Engine> Nodes<G, O, S, E> {
+    /// Attempts the calls of a node at a moment in milliseconds, until one begins a record where one may: those that can be are answered from
+    /// what it holds, and the others wait on. For want of memory its calls are lost.
+    pub fn attempt(
+        &mut self,
+        node: usize,
+        moment: u64,
+        may_begin: bool,
+    ) -> Result<Attempted, OutOfMemory>
+        requires there { node < length self.old.machines.items }
+        requires moment { moment ≤ 4294967295999 }
+        ensures stands { (x : Disks) (letters : List Letter) (clocks : Clocks) (c : Course) (tree : E.Tree) (session : ℕ) → clocks.down (Node node) ≡ false
+            → NodesStand G.Register O.Owners S.Store (E.stands self.old.engine) (E.step self.old.engine) self.old.register self.old.owners self.old.store x letters clocks (seen self.old.machines.items) c tree
+            → O.own self.old.owners node ≡ Some session → LivesIn (last c.register.chain) session → IfSome (slice_get self.old.machines.items node) (λ machine. machine.session ≡ Some session)
+            → IfOk result (λ attempted. Turned (E.step self.old.engine) (NodesStand G.Register O.Owners S.Store (E.stands self.new.engine) (E.step self.new.engine) self.new.register self.new.owners self.new.store x letters clocks (seen self.new.machines.items)) c tree attempted.said.items) }
+        ensures goes { IfOk result (Settle moment (slice_get self.old.machines.items node) (slice_get self.new.machines.items node)) }
+        ensures may { may_begin ≡ false → IfOk result (λ attempted. attempted.begun ≡ None) }
+        ensures others { OnlyMachine node self.old.machines.items self.new.machines.items }
+    {
+        let machine = &mut self.machines[node];
+        let calls = mem::replace(&mut machine.calls, Vec::new(self.alloc));
+        let round = attempt_all(
+            self.alloc,
+            &self.engine,
+            &machine.cache,
+            moment,
+            may_begin,
+            calls,
+        )?;
+        let Round {
+            said,
+            waiting,
+            begun,
+        } = round;
+        machine.calls = waiting;
+        Ok(Attempted { said, begun })
+    }
+}

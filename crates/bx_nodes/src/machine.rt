@@ -1,0 +1,57 @@
+//! What a node has.
+
+use bx_base::{Mode, Raw};
+use bx_node_cache::Cache;
+use bx_node_tries::Waiting;
+use bx_records::Draft;
+use bx_redo::Log;
+
+/// A record whose gate isn't acknowledged.
+#[derive(Drop)]
+pub struct Pending {
+    /// Its call, and the reply that it gets then; a record that only prepares is of none.
+    pub call: Option<(Waiting, Raw)>,
+    /// What it changes.
+    pub draft: Draft,
+}
+
+/// What a node's log is for.
+#[derive(Drop)]
+pub enum Stage {
+    /// Nothing.
+    Idle,
+    /// A record is written.
+    Records(Pending),
+    /// The blocks of its records go home.
+    Homes,
+    /// It is closed.
+    Closes,
+}
+
+/// What a node reads.
+#[derive(Drop)]
+pub enum Fetch {
+    /// Nothing.
+    Nothing,
+    /// A block, to hold it so.
+    Block(u64, Mode),
+    /// A block that it has let go meanwhile: what comes counts for nothing.
+    Dropped,
+}
+
+/// What a node has.
+#[derive(Drop)]
+pub struct Machine {
+    /// The session under which it has it.
+    pub session: Option<u64>,
+    /// The blocks that it holds, and hints of others.
+    pub cache: Cache,
+    /// Its session's log.
+    pub log: Log,
+    /// What the log is for.
+    pub stage: Stage,
+    /// What it reads.
+    pub fetch: Fetch,
+    /// The calls that wait, the oldest first.
+    pub calls: Vec<Waiting>,
+}

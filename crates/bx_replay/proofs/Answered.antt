@@ -19,7 +19,7 @@ use Rattle.bx_history.proofs.Ended.{found_point}
 use Rattle.bx_history.proofs.Waiting.{answered_oldest}
 use Rattle.bx_model.specs.declared.tree.Tree.{Tree}
 use Rattle.bx_service.specs.Rounds.{Doubt, Finds, Follows, IsBegun, deed_at}
-use Rattle.bx_replay.specs.Headline.{Step, opening_of, rules}
+use Rattle.bx_replay.specs.Headline.{Machines, Step, opening_of, rules}
 use Rattle.bx_replay.specs.Replay.{IsDoubted, Stands, waits_at}
 use Rattle.bx_replay.proofs.Standing.{all_append, awaits_same, lacks_in, oldest_in, patient}
 use Rattle.bx_replay.proofs.TraceTexts.{trace_text-append}
@@ -58,16 +58,16 @@ doubted_then done reading limit lines waits before now pending doubted follows o
       since = inl (ap Some (sym begun.at));
     }
 
-module _ (reading limit : ℕ) (done : List Done) (start : List ℕ) (tree : Tree) (up : Bool) (waits : List traces.Taking) (doubt : Option Doubt) (calls : ℕ) (lines : List TraceLine) (written : List ℕ)
-    (stands : Stands tree up waits doubt calls (in_run done reading limit lines) start written) where
+module _ (reading limit : ℕ) (done : List Done) (start : List ℕ) (tree : Tree) (machines : Machines) (waits : List traces.Taking) (doubt : Option Doubt) (calls : ℕ) (lines : List TraceLine) (written : List ℕ)
+    (stands : Stands tree machines waits doubt calls (in_run done reading limit lines) start written) where
   -- ---- a round in which no call is answered
 
-  pub stands_waiting : (now : Option Doubt) → Follows reading waits doubt now → Stands tree up waits now calls (in_run done reading limit lines) start written
+  pub stands_waiting : (now : Option Doubt) → Follows reading waits doubt now → Stands tree machines waits now calls (in_run done reading limit lines) start written
   stands_waiting now follows = record {
     history = stands.history;
     accounts = stands.accounts;
     counted = stands.counted;
-    up_is = stands.up_is;
+    machines_are = stands.machines_are;
     doubted = doubted_then done reading limit lines waits doubt now (stands.accounts.pending 0) stands.doubted follows;
     headed = stands.headed;
     are_done = stands.are_done;
@@ -102,12 +102,12 @@ module _ (reading limit : ℕ) (done : List Done) (start : List ℕ) (tree : Tre
     none_before none is = absurd cc
 
     pub stands_answered : AllByRecursion InTraceRange (Acted point ∷ Reply point.call reply ∷ [])
-        → Stands next up rest now calls (in_run done reading limit (Reply point.call reply ∷ Acted point ∷ lines)) start (written ++ trace_text (Acted point ∷ Reply point.call reply ∷ []))
+        → Stands next machines rest now calls (in_run done reading limit (Reply point.call reply ∷ Acted point ∷ lines)) start (written ++ trace_text (Acted point ∷ Reply point.call reply ∷ []))
     stands_answered in_range = record {
       history = entry_for call point reply ∷ stands.history;
       accounts = accounts_now;
       counted = stands.counted;
-      up_is = stands.up_is;
+      machines_are = stands.machines_are;
       doubted = doubted_then done reading limit (Reply point.call reply ∷ Acted point ∷ lines) rest None now (accounts_now.pending 0) none_before follows;
       headed = stands.headed;
       are_done = stands.are_done;
@@ -117,13 +117,13 @@ module _ (reading limit : ℕ) (done : List Done) (start : List ℕ) (tree : Tre
 
 -- ---- less is in doubt
 
-pub stands_but : (tree : Tree) (up : Bool) (waits : List traces.Taking) (doubt now : Option Doubt) (calls : ℕ) (done : List Done) (start written : List ℕ) → Stands tree up waits doubt calls done start written
-    → ((of : Doubt) → now ≡ Some of → doubt ≡ Some of) → Stands tree up waits now calls done start written
-stands_but tree up waits doubt now calls done start written stands was = record {
+pub stands_but : (tree : Tree) (machines : Machines) (waits : List traces.Taking) (doubt now : Option Doubt) (calls : ℕ) (done : List Done) (start written : List ℕ) → Stands tree machines waits doubt calls done start written
+    → ((of : Doubt) → now ≡ Some of → doubt ≡ Some of) → Stands tree machines waits now calls done start written
+stands_but tree machines waits doubt now calls done start written stands was = record {
   history = stands.history;
   accounts = stands.accounts;
   counted = stands.counted;
-  up_is = stands.up_is;
+  machines_are = stands.machines_are;
   doubted = λ of is. stands.doubted of (was of is);
   headed = stands.headed;
   are_done = stands.are_done;
@@ -140,7 +140,7 @@ MayFind (Call reading node client datagram) = ⊥
 MayFind (Run reading limit) = Unit {0}
 MayFind (Crash noise) = ⊥
 MayFind (Restart reading) = Unit {0}
-MayFind (Tick reading) = ⊥
+MayFind (Tick reading node) = ⊥
 
 abbrev pub at_line : Line → List TraceLine → List Done → List Done
 at_line line lines done = record { line = line; lines = lines } ∷ done
@@ -156,7 +156,7 @@ found_at first last next done history waits (Run reading limit) lines call point
 found_at first last next done history waits (Crash noise) lines call point reply may so_far lacks of gone since step = absurd may
 found_at first last next done history waits (Restart reading) lines call point reply may so_far lacks of gone since step =
     found_point Step rules patient first (parts_of done) history last next waits (Some reading) none_ends false lines call point reply so_far lacks of gone since step
-found_at first last next done history waits (Tick reading) lines call point reply may so_far lacks of gone since step = absurd may
+found_at first last next done history waits (Tick reading node) lines call point reply may so_far lacks of gone since step = absurd may
 
 pub all_reversed : {A : Type 0} (P : A → Type 0) (xs : List A) → AllByRecursion P xs → AllByRecursion P (reverse xs)
 all_reversed P [] h = tt
@@ -169,8 +169,8 @@ gone_at P waits all node = by (0 == node)
     by true = all_reversed P waits all
     by false = tt
 
-module _ (Holds : Tree → Option Doubt → Type 0) (line : Line) (may : MayFind line) (done : List Done) (start : List ℕ) (tree : Tree) (up : Bool) (waits : List traces.Taking) (before : Option Doubt) (calls : ℕ) (lines : List TraceLine) (written : List ℕ)
-    (stands : Stands tree up waits before calls (at_line line lines done) start written) (point : Point) (finds : Finds Holds waits tree before point) where
+module _ (Holds : Tree → Option Doubt → Type 0) (line : Line) (may : MayFind line) (done : List Done) (start : List ℕ) (tree : Tree) (machines : Machines) (waits : List traces.Taking) (before : Option Doubt) (calls : ℕ) (lines : List TraceLine) (written : List ℕ)
+    (stands : Stands tree machines waits before calls (at_line line lines done) start written) (point : Point) (finds : Finds Holds waits tree before point) where
   told_found : trace_text (reverse (Acted point ∷ trace_of (parts_of (at_line line lines done)))) ≡ trace_text (reverse (trace_of (parts_of (at_line line lines done)))) ++ trace_text (Acted point ∷ [])
   told_found = ap trace_text (reverse-append (Acted point ∷ []) (trace_of (parts_of (at_line line lines done)))) ∙ trace_text-append (reverse (trace_of (parts_of (at_line line lines done)))) (Acted point ∷ [])
 
@@ -183,12 +183,12 @@ module _ (Holds : Tree → Option Doubt → Type 0) (line : Line) (may : MayFind
       (subst (λ (p : Point). HasReadingSince p.call p.moment (parts_of (at_line line lines done))) finds.at was.since)
       (subst (λ (p : Point). Step tree (entry_for finds.doubt.call p finds.acts.reply) finds.next) finds.at (entered tree finds.next finds.doubt.call finds.doubt.point finds.acts.reply finds.acts.step))
 
-  pub stands_found : AllByRecursion InTraceRange (Acted point ∷ []) → Stands finds.next up waits None calls (at_line line (Acted point ∷ lines) done) start (written ++ trace_text (Acted point ∷ []))
+  pub stands_found : AllByRecursion InTraceRange (Acted point ∷ []) → Stands finds.next machines waits None calls (at_line line (Acted point ∷ lines) done) start (written ++ trace_text (Acted point ∷ []))
   stands_found in_range = record {
     history = entry_for finds.doubt.call point finds.acts.reply ∷ stands.history;
     accounts = accounts_found;
     counted = stands.counted;
-    up_is = stands.up_is;
+    machines_are = stands.machines_are;
     doubted = λ of is. absurd (none_is of is);
     headed = stands.headed;
     are_done = stands.are_done;

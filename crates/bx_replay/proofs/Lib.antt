@@ -1,4 +1,5 @@
 pub mod NextLines
+pub mod Admitting
 pub mod Allowed
 pub mod ReadLines
 pub mod TraceTexts

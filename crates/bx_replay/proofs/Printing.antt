@@ -12,18 +12,18 @@ use Rattle.bx_model.specs.declared.tree.Tree.{Tree}
 use Rattle.bx_service.specs.Rounds.{Doubt}
 use Rattle.bx_stops.specs.declared.stop.Stop.{Stop}
 use Rattle.bx_stops.specs.declared.stop.Stop.TheVariants as stops
-use Rattle.bx_replay.specs.Headline.{IsHeard, up_after}
-use Rattle.bx_replay.specs.Replay.{BreaksAfter, DoesLine, HasPrintCause, Hears, Prints, Stands, UnlessMemory}
+use Rattle.bx_replay.specs.Headline.{IsUpFor, Machines, up_after}
+use Rattle.bx_replay.specs.Replay.{BreaksAfter, DoesLine, HasPrintCause, HearsUp, Prints, Stands, UnlessMemory}
 
-module _ (tree : Tree) (up : Bool) (waits : List traces.Taking) (doubt : Option Doubt) (calls : ℕ) (line : Line) (lines : List TraceLine) (done : List Done) (start : List ℕ) where
+module _ (tree : Tree) (machines : Machines) (waits : List traces.Taking) (doubt : Option Doubt) (calls : ℕ) (line : Line) (lines : List TraceLine) (done : List Done) (start : List ℕ) where
   abbrev StandsAt : List ℕ → Type 0
-  StandsAt written = Stands tree up waits doubt calls (record { line = line; lines = lines } ∷ done) start written
+  StandsAt written = Stands tree machines waits doubt calls (record { line = line; lines = lines } ∷ done) start written
 
   -- all was written that had happened
   pub breaks_here : (written : List ℕ) → StandsAt written → BreaksAfter line done start written
   breaks_here written stands = record {
     tree = tree;
-    up = up;
+    machines = machines;
     waits = waits;
     doubt = doubt;
     calls = calls;
@@ -45,7 +45,7 @@ module _ (tree : Tree) (up : Bool) (waits : List traces.Taking) (doubt : Option 
       ap (λ (w : List ℕ). w ++ drop n text) part ∙ append_assoc old (take n text) (drop n text) ∙ ap (λ (w : List ℕ). old ++ w) (take-append-drop n text) in
       record {
         tree = tree;
-        up = up;
+        machines = machines;
         waits = waits;
         doubt = doubt;
         calls = calls;
@@ -67,9 +67,9 @@ module _ (tree : Tree) (up : Bool) (waits : List traces.Taking) (doubt : Option 
   unprinted InRange stops.DiskFault After first old new output text before now begun cause prints in_range stands none = absurd cause
   unprinted InRange stops.OutOfMemory After first old new output text before now begun cause prints in_range stands none = none prints
 
--- a line that is done was heard, where it only prints
-pub hears_line : (r : Result (Unit {0}) Stop) (up now : Bool) (line : Line) (before after : ℕ) → IfErr r (λ stop. HasPrintCause stop before after) → IsHeard up line
-    → OnOk r (now ≡ up_after line up) → Hears r up now line
+-- a line that is done finds up whoever has to hear it, where it only prints
+pub hears_line : (r : Result (Unit {0}) Stop) (up now : Bool) (line : Line) (before after : ℕ) → IfErr r (λ stop. HasPrintCause stop before after) → IsUpFor up line
+    → OnOk r (now ≡ up_after line up) → HearsUp r up now line
 hears_line (Ok x) up now line before after cause heard then_is = (heard, then_is)
 hears_line (Err (stops.Refused number reason)) up now line before after cause heard then_is = absurd cause
 hears_line (Err stops.ReadFault) up now line before after cause heard then_is = tt

@@ -20,7 +20,7 @@ use Rattle.bx_history.proofs.Waiting.{all_front, passed_part, quiet_part, taken_
 use Rattle.bx_model.specs.declared.tree.Tree.{Tree}
 use Rattle.bx_rpc.specs.Message.{is_message}
 use Rattle.bx_service.specs.Rounds.{Doubt}
-use Rattle.bx_replay.specs.Headline.{IsHeard, IsInPlace, rules, opening_of, Step, is_up, up_after}
+use Rattle.bx_replay.specs.Headline.{IsHeard, IsInPlace, IsSteady, Machines, rules, opening_of, Step, after_line, after_lines}
 use Rattle.bx_replay.specs.Replay.{IsDoubted, Stands, waits_at}
 use Rattle.bx_replay.proofs.Allowed.{done_push}
 use Rattle.bx_replay.proofs.TraceTexts.{trace_text-append}
@@ -41,7 +41,7 @@ opening_of-append (Call reading node client datagram ∷ lines) more some = refl
 opening_of-append (Run reading limit ∷ lines) more some = refl
 opening_of-append (Crash noise ∷ lines) more some = refl
 opening_of-append (Restart reading ∷ lines) more some = refl
-opening_of-append (Tick reading ∷ lines) more some = refl
+opening_of-append (Tick reading node ∷ lines) more some = refl
 
 -- what goes on whatever the line is
 pub length_schedule : (done : List Done) → length (schedule_of done) ≡ length done
@@ -63,31 +63,31 @@ awaits_same first done history tree a b same so_far = record {
   in_order = λ node. subst AreNewestFirst (same node) (so_far.in_order node);
 }
 
--- whether the machines are up after one line more
-up_more : (up up_then : Bool) (line : Line) (lines : List TraceLine) (done : List Done) → up ≡ is_up (reverse (schedule_of done)) → up_then ≡ up_after line up
-    → up_then ≡ is_up (reverse (schedule_of (record { line = line; lines = lines } ∷ done)))
-up_more up up_then line lines done was then_is =
-    then_is ∙ ap (up_after line) was ∙ sym (ap (λ (l : List Line). is_up (reverse l)) (schedule_of-cons line lines done) ∙ ap is_up (reverse-append (schedule_of done) (line ∷ [])))
+-- whether the machines are machines after one line more
+machines_more : (machines machines_then : Machines) (line : Line) (lines : List TraceLine) (done : List Done) → machines ≡ after_lines (reverse (schedule_of done)) → machines_then ≡ after_line line machines
+    → machines_then ≡ after_lines (reverse (schedule_of (record { line = line; lines = lines } ∷ done)))
+machines_more machines machines_then line lines done was then_is =
+    then_is ∙ ap (after_line line) was ∙ sym (ap (λ (l : List Line). after_lines (reverse l)) (schedule_of-cons line lines done) ∙ ap after_lines (reverse-append (schedule_of done) (line ∷ [])))
 
-extended : (tree next : Tree) (up up_then : Bool) (waits waits_then : List traces.Taking) (doubt doubt_then : Option Doubt) (calls calls_then : ℕ) (line : Line) (lines : List TraceLine) (done : List Done) (start written text : List ℕ) (history : List traces.Entry)
-    → length done < 4294967295 → IsInPlace false line → IsHeard up line → up_then ≡ up_after line up → (stands : Stands tree up waits doubt calls done start written)
+extended : (tree next : Tree) (machines machines_then : Machines) (waits waits_then : List traces.Taking) (doubt doubt_then : Option Doubt) (calls calls_then : ℕ) (line : Line) (lines : List TraceLine) (done : List Done) (start written text : List ℕ) (history : List traces.Entry)
+    → length done < 4294967295 → IsInPlace false line → IsHeard machines line → machines_then ≡ after_line line machines → (stands : Stands tree machines waits doubt calls done start written)
     → AwaitsNewest Step rules (opening_of (schedule_of done)) (parts_of (record { line = line; lines = lines } ∷ done)) history next (waits_at waits_then)
     → calls_then ≡ traces.taken_count (lines ++ trace_of (parts_of done))
     → ((of : Doubt) → doubt_then ≡ Some of → IsDoubted (record { line = line; lines = lines } ∷ done) of)
     → AllByRecursion InTraceRange lines
     → text ≡ trace_text (reverse lines)
-    → Stands next up_then waits_then doubt_then calls_then (record { line = line; lines = lines } ∷ done) start (written ++ text)
-extended tree next up up_then waits waits_then doubt doubt_then calls calls_then line lines done start written text history room place heard then_is stands accounts counted doubted in_range text-is =
+    → Stands next machines_then waits_then doubt_then calls_then (record { line = line; lines = lines } ∷ done) start (written ++ text)
+extended tree next machines machines_then waits waits_then doubt doubt_then calls calls_then line lines done start written text history room place heard then_is stands accounts counted doubted in_range text-is =
     let more : schedule_of (record { line = line; lines = lines } ∷ done) ≡ schedule_of done ++ line ∷ [] = schedule_of-cons line lines done in
     let long : length (schedule_of done) ≡ length done = length_schedule done in
     let first : opening_of (schedule_of (record { line = line; lines = lines } ∷ done)) ≡ opening_of (schedule_of done) =
     ap opening_of more ∙ opening_of-append (schedule_of done) (line ∷ []) stands.headed in
-    let hears : IsHeard (is_up (reverse (schedule_of done))) line = subst (λ (b : Bool). IsHeard b line) stands.up_is heard in
+    let hears : IsHeard (after_lines (reverse (schedule_of done))) line = subst (λ (m : Machines). IsHeard m line) stands.machines_are heard in
     record {
       history = history;
       accounts = rw first accounts;
       counted = counted;
-      up_is = up_more up up_then line lines done stands.up_is then_is;
+      machines_are = machines_more machines machines_then line lines done stands.machines_are then_is;
       doubted = doubted;
       headed = rw more (omega (arith, length-append (schedule_of done) (line ∷ [])));
       are_done = rw more (done_push (schedule_of done) line stands.headed (omega arith) stands.are_done place hears);
@@ -104,7 +104,7 @@ IsSilent (Call reading node client datagram) = ⊥
 IsSilent (Run reading limit) = Unit {0}
 IsSilent (Crash noise) = ⊥
 IsSilent (Restart reading) = Unit {0}
-IsSilent (Tick reading) = Unit {0}
+IsSilent (Tick reading node) = Unit {0}
 
 silent_line : (first last : Tree) (done : List Done) (history : List traces.Entry) (waits : ℕ → List traces.Taking) (line : Line) → IsSilent line
     → AwaitsNewest Step rules first (parts_of done) history last waits → AwaitsNewest Step rules first (parts_of (record { line = line; lines = [] } ∷ done)) history last waits
@@ -113,7 +113,7 @@ silent_line first last done history waits (Call reading node client datagram) si
 silent_line first last done history waits (Run reading limit) silent so_far = quiet_part Step rules patient first (parts_of done) history last waits (Some reading) true so_far
 silent_line first last done history waits (Crash noise) silent so_far = absurd silent
 silent_line first last done history waits (Restart reading) silent so_far = quiet_part Step rules patient first (parts_of done) history last waits (Some reading) false so_far
-silent_line first last done history waits (Tick reading) silent so_far = quiet_part Step rules patient first (parts_of done) history last waits (Some reading) false so_far
+silent_line first last done history waits (Tick reading node) silent so_far = quiet_part Step rules patient first (parts_of done) history last waits (Some reading) false so_far
 
 -- the oldest call that waits was taken there
 pub oldest_in : (trace : List TraceLine) (waits : List traces.Taking) → AllByRecursion (IsPending trace 0) (waits_at waits 0)
@@ -133,50 +133,50 @@ none_wait node = by (0 == node)
     by true = refl
     by false = refl
 
-module _ (tree : Tree) (up : Bool) (waits : List traces.Taking) (doubt : Option Doubt) (calls : ℕ) (done : List Done) (start written : List ℕ) (room : length done < 4294967295)
-    (stands : Stands tree up waits doubt calls done start written) where
+module _ (tree : Tree) (machines : Machines) (waits : List traces.Taking) (doubt : Option Doubt) (calls : ℕ) (done : List Done) (start written : List ℕ) (room : length done < 4294967295)
+    (stands : Stands tree machines waits doubt calls done start written) where
   -- what is in doubt is so behind a line at which nothing is told
   still_doubted : (line : Line) (of : Doubt) → doubt ≡ Some of → IsDoubted (record { line = line; lines = [] } ∷ done) of
   still_doubted line of is = let was = stands.doubted of is in record { of = was.of; lacks = was.lacks; since = inr (refl, was.since) }
 
-  pub stands_silent : (line : Line) (up_then : Bool) → IsSilent line → IsInPlace false line → IsHeard up line → up_then ≡ up_after line up
-      → Stands tree up_then waits doubt calls (record { line = line; lines = [] } ∷ done) start written
-  stands_silent line up_then silent place heard then_is =
+  pub stands_silent : (line : Line) (machines_then : Machines) → IsSilent line → IsInPlace false line → IsHeard machines line → machines_then ≡ after_line line machines
+      → Stands tree machines_then waits doubt calls (record { line = line; lines = [] } ∷ done) start written
+  stands_silent line machines_then silent place heard then_is =
       let accounts = silent_line (opening_of (schedule_of done)) tree done stands.history (waits_at waits) line silent stands.accounts in
-      let after = extended tree tree up up_then waits waits doubt doubt calls calls line [] done start written [] stands.history room place heard then_is stands accounts stands.counted (still_doubted line) tt refl in
+      let after = extended tree tree machines machines_then waits waits doubt doubt calls calls line [] done start written [] stands.history room place heard then_is stands accounts stands.counted (still_doubted line) tt refl in
       rw append-nil at after
 
   -- ---- all machines crash
 
-  pub stands_crashed : (noise : Noise) → IsInPlace false (Crash noise) → Stands tree false [] doubt calls (record { line = Crash noise; lines = [] } ∷ done) start written
+  pub stands_crashed : (noise : Noise) → IsInPlace false (Crash noise) → Stands tree (after_line (Crash noise) machines) [] doubt calls (record { line = Crash noise; lines = [] } ∷ done) start written
   stands_crashed noise place =
       let ended = ended_part Step rules patient (opening_of (schedule_of done)) (parts_of done) stands.history tree (waits_at waits) None stands.accounts in
       let accounts = awaits_same (opening_of (schedule_of done)) (record { line = Crash noise; lines = [] } ∷ done) stands.history tree (λ _. []) (waits_at []) none_wait ended in
-      let after = extended tree tree up false waits [] doubt doubt calls calls (Crash noise) [] done start written [] stands.history room place tt refl stands accounts stands.counted (still_doubted (Crash noise)) tt refl in
+      let after = extended tree tree machines (after_line (Crash noise) machines) waits [] doubt doubt calls calls (Crash noise) [] done start written [] stands.history room place (tt, tt, tt) refl stands accounts stands.counted (still_doubted (Crash noise)) tt refl in
       rw append-nil at after
 
   -- ---- a datagram that is no call
 
-  pub stands_ignored : (reading node client : ℕ) (datagram : List ℕ) → up ≡ true → is_message datagram ≡ false → IsInPlace false (Call reading node client datagram)
-      → Stands tree up waits doubt calls (record { line = Call reading node client datagram; lines = [] } ∷ done) start written
+  pub stands_ignored : (reading node client : ℕ) (datagram : List ℕ) → IsHeard machines (Call reading node client datagram) → is_message datagram ≡ false → IsInPlace false (Call reading node client datagram)
+      → Stands tree (after_line (Call reading node client datagram) machines) waits doubt calls (record { line = Call reading node client datagram; lines = [] } ∷ done) start written
   stands_ignored reading node client datagram heard none place =
       let accounts = passed_part Step rules patient (opening_of (schedule_of done)) (parts_of done) stands.history tree (waits_at waits) reading (record { node = node; client = client; bytes = datagram }) none stands.accounts in
-      let after = extended tree tree up up waits waits doubt doubt calls calls (Call reading node client datagram) [] done start written [] stands.history room place heard refl stands accounts stands.counted
+      let after = extended tree tree machines (after_line (Call reading node client datagram) machines) waits waits doubt doubt calls calls (Call reading node client datagram) [] done start written [] stands.history room place heard refl stands accounts stands.counted
       (still_doubted (Call reading node client datagram)) tt refl in
       rw append-nil at after
 
   -- ---- a call that is taken
 
-  pub stands_taken : (reading client : ℕ) (datagram text : List ℕ) → up ≡ true → is_message datagram ≡ true → IsInPlace false (Call reading 0 client datagram)
+  pub stands_taken : (reading client : ℕ) (datagram text : List ℕ) → IsHeard machines (Call reading 0 client datagram) → is_message datagram ≡ true → IsInPlace false (Call reading 0 client datagram)
       → AllByRecursion InTraceRange (Took (calls + 1) 0 client datagram ∷ []) → text ≡ trace_text (Took (calls + 1) 0 client datagram ∷ [])
-      → Stands tree up (waits ++ record { call = calls + 1; node = 0; client = client; bytes = datagram } ∷ []) doubt (calls + 1)
+      → Stands tree (after_line (Call reading 0 client datagram) machines) (waits ++ record { call = calls + 1; node = 0; client = client; bytes = datagram } ∷ []) doubt (calls + 1)
       (record { line = Call reading 0 client datagram; lines = Took (calls + 1) 0 client datagram ∷ [] } ∷ done) start (written ++ text)
   stands_taken reading client datagram text heard message place in_range text-is =
       let taking : traces.Taking = record { call = calls + 1; node = 0; client = client; bytes = datagram } in
       let number : calls + 1 ≡ traces.taken_count (trace_of (parts_of done)) + 1 = ap (λ (n : ℕ). n + 1) stands.counted in
       let taken = taken_call Step rules patient (opening_of (schedule_of done)) (parts_of done) stands.history tree (waits_at waits) reading taking message number stands.accounts in
       let accounts = awaits_same (opening_of (schedule_of done)) (record { line = Call reading 0 client datagram; lines = Took (calls + 1) 0 client datagram ∷ [] } ∷ done) stands.history tree _ _ more_wait taken in
-      extended tree tree up up waits _ doubt doubt calls (calls + 1) (Call reading 0 client datagram) _ done start written text stands.history room place heard refl stands accounts
+      extended tree tree machines (after_line (Call reading 0 client datagram) machines) waits _ doubt doubt calls (calls + 1) (Call reading 0 client datagram) _ done start written text stands.history room place heard refl stands accounts
       (ap (λ (n : ℕ). n + 1) stands.counted ∙ omega arith) doubted_then in_range text-is
     where
       more_wait : (node : ℕ) → waits_with (record { call = calls + 1; node = 0; client = client; bytes = datagram }) (waits_at waits) node
@@ -209,15 +209,15 @@ module _ (tree : Tree) (up : Bool) (waits : List traces.Taking) (doubt : Option 
 
   -- the same at a node that is 0
   abbrev TakesAt : ℕ → Type 0
-  TakesAt node = (reading client : ℕ) (datagram text : List ℕ) → up ≡ true → is_message datagram ≡ true → IsInPlace false (Call reading node client datagram)
+  TakesAt node = (reading client : ℕ) (datagram text : List ℕ) → IsHeard machines (Call reading node client datagram) → is_message datagram ≡ true → IsInPlace false (Call reading node client datagram)
       → AllByRecursion InTraceRange (Took (calls + 1) node client datagram ∷ []) → text ≡ trace_text (Took (calls + 1) node client datagram ∷ [])
-      → Stands tree up (waits ++ record { call = calls + 1; node = 0; client = client; bytes = datagram } ∷ []) doubt (calls + 1)
+      → Stands tree (after_line (Call reading node client datagram) machines) (waits ++ record { call = calls + 1; node = 0; client = client; bytes = datagram } ∷ []) doubt (calls + 1)
       (record { line = Call reading node client datagram; lines = Took (calls + 1) node client datagram ∷ [] } ∷ done) start (written ++ text)
 
   pub stands_taken_at : (node : ℕ) → node ≡ 0 → TakesAt node
   stands_taken_at node zero = subst TakesAt (sym zero) stands_taken
 
 -- the calls that wait, said in two ways
-pub stands_same : (tree : Tree) (up : Bool) (waits waits_then : List traces.Taking) (doubt : Option Doubt) (calls : ℕ) (done : List Done) (start written : List ℕ) → waits_then ≡ waits
-    → Stands tree up waits doubt calls done start written → Stands tree up waits_then doubt calls done start written
-stands_same tree up waits waits_then doubt calls done start written same stands = rw same stands
+pub stands_same : (tree : Tree) (machines : Machines) (waits waits_then : List traces.Taking) (doubt : Option Doubt) (calls : ℕ) (done : List Done) (start written : List ℕ) → waits_then ≡ waits
+    → Stands tree machines waits doubt calls done start written → Stands tree machines waits_then doubt calls done start written
+stands_same tree machines waits waits_then doubt calls done start written same stands = rw same stands

@@ -21,6 +21,7 @@ use crate::state::Replay;
 use bx_audit::Listing;
 use bx_base::{OutOfMemory, Point};
 use bx_disk::{CrashRack, Rack};
+use bx_lease::ClockRule;
 use bx_outside::{LineReader, Sink, Source, write_all};
 use bx_script::{Line, TraceLine};
 use bx_service::Service;
@@ -46,6 +47,7 @@ impl<M: Service> Replay<M> {
         ensures latest { IfOk result (λ replay. M.latest replay.service ≡ replay.calls) }
         ensures ready { IfOk result (λ replay. M.ready replay.service (B.state bench.new).sizes) }
         ensures calls { IfOk result (λ replay. replay.calls ≡ 0) }
+        ensures clock { IfOk result (λ replay. replay.clock ≡ 0) }
         ensures cause { IfErr result (λ stop. HasBeginCause stop (S.faults input.old) (S.faults input.new) (B.faults bench.old) (B.faults bench.new)) }
         ensures first { UnlessRead result (S.faults input.new ≡ S.faults input.old) }
         ensures bench_first { UnlessDisk result (B.faults bench.new ≡ B.faults bench.old) }
@@ -61,6 +63,7 @@ impl<M: Service> Replay<M> {
                 Ok(Replay {
                     service,
                     calls: 0,
+                    clock: ClockRule::new(),
                     text: Vec::new(alloc),
                 })
             }

@@ -1,6 +1,7 @@
 //! A schedule, replayed on a service over disks.
 
 use bx_base::CallNo;
+use bx_lease::ClockRule;
 
 /// The state between two lines of a schedule.
 #[derive(Drop)]
@@ -9,6 +10,8 @@ pub struct Replay<M> {
     pub service: M,
     /// How many calls were taken.
     pub calls: CallNo,
+    /// The readings of the lines that were done.
+    pub clock: ClockRule,
     /// Room for the text of a few lines of the trace.
     pub text: Vec<u8>,
 }

@@ -50,14 +50,14 @@ lines-init g c =
       holds = began.holds;
       read = λ source_tells.
           let begun = rw c.requires.none at (began.reads source_tells) in
-          rw (began.up) (heading_read _ _ begun.volume begun.nodes begun.devices begun.areas begun.in_place begun.begins);
+          rw (began.up, began.clock) (heading_read _ _ begun.volume begun.nodes begun.devices begun.areas begun.in_place begun.begins);
       come = λ source_tells bench_tells.
           let begun = rw c.requires.none at (began.reads source_tells) in
           let held = began.holds bench_tells in
-          rw (began.up) (comes_first g.M.Service.rests g.M.Service.returns g.M.Service.turns _ _ begun.volume begun.nodes begun.devices begun.areas _ begun.in_place begun.begins
+          rw (began.up, began.clock) (comes_first g.M.Service.rests g.M.Service.returns g.M.Service.turns _ _ begun.volume begun.nodes begun.devices begun.areas _ begun.in_place begun.begins
           (λ left crashed. let shows = g.met.M.Service.shown _ _ left held.0 held.1 began.ready held.2 crashed in (shows.next, shows.stands)));
       going = λ source_tells sink_tells bench_tells.
-          begins_going _ _ _ _ _ _ _ began.up began.none_wait (rw c.requires.none at (began.begins source_tells bench_tells));
+          begins_going _ _ _ _ _ _ _ (rw (began.up, began.clock) refl) began.none_wait (rw c.requires.none at (began.begins source_tells bench_tells));
     }
 
 pub returns-in_err-line : goal.returns-in_err-line

@@ -79,12 +79,23 @@ impl Desk {
         self.calls.len() >= MOST
     }
 
-    /// A call waits, behind all others. Without memory nothing changes.
-    pub fn take(&mut self, asked: Asked) -> Result<(), OutOfMemory>
-        ensures ok { OnOk result (self.new ≡ with_call self.old asked) }
+    /// A call waits, with its number, behind all others. Its datagram is copied. Without memory nothing changes.
+    pub fn take(
+        &mut self,
+        alloc: Global,
+        call: CallNo,
+        client: u32,
+        datagram: &[u8],
+    ) -> Result<(), OutOfMemory>
+        ensures ok { OnOk result (self.new ≡ with_call self.old (record { call = call; client = client; bytes = datagram.now })) }
         ensures err { OnErr result (self.new ≡ self.old) }
     {
-        self.calls.push_back(asked)?;
+        let bytes = Raw::of(alloc, datagram)?;
+        self.calls.push_back(Asked {
+            call,
+            client,
+            bytes,
+        })?;
         Ok(())
     }
 

@@ -1,5 +1,5 @@
 pub mod NextLines
-pub mod Admitting
+pub mod KeptOut
 pub mod Allowed
 pub mod ReadLines
 pub mod TraceTexts

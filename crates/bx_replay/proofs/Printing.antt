@@ -5,6 +5,7 @@ use Rattle.std.proofs.lemmas.List.{append-nil, take-append-drop}
 use Rattle.bx_script.specs.declared.line.Line.{Line}
 use Rattle.bx_script.specs.declared.trace_line.TraceLine.{TraceLine}
 use Rattle.bx_script.specs.TraceText.{trace_text}
+use Rattle.bx_desk.specs.Desks.{AtDesk}
 use Rattle.bx_history.specs.Trace as traces
 use Rattle.bx_history.specs.Parts.{trace_of}
 use Rattle.bx_history.specs.Along.{Done, parts_of}
@@ -15,9 +16,9 @@ use Rattle.bx_stops.specs.declared.stop.Stop.TheVariants as stops
 use Rattle.bx_replay.specs.Headline.{IsUpFor, Machines, up_after}
 use Rattle.bx_replay.specs.Replay.{BreaksAfter, DoesLine, HasPrintCause, HearsUp, Prints, Stands, UnlessMemory}
 
-module _ (tree : Tree) (machines : Machines) (waits : List traces.Taking) (doubt : Option Doubt) (calls : ℕ) (line : Line) (lines : List TraceLine) (done : List Done) (start : List ℕ) where
+module _ (tree : Tree) (machines : Machines) (waits : List traces.Taking) (desk : AtDesk) (doubt : Option Doubt) (calls : ℕ) (line : Line) (lines : List TraceLine) (done : List Done) (start : List ℕ) where
   abbrev StandsAt : List ℕ → Type 0
-  StandsAt written = Stands tree machines waits doubt calls (record { line = line; lines = lines } ∷ done) start written
+  StandsAt written = Stands tree machines waits desk doubt calls (record { line = line; lines = lines } ∷ done) start written
 
   -- all was written that had happened
   pub breaks_here : (written : List ℕ) → StandsAt written → BreaksAfter line done start written
@@ -25,6 +26,7 @@ module _ (tree : Tree) (machines : Machines) (waits : List traces.Taking) (doubt
     tree = tree;
     machines = machines;
     waits = waits;
+    desk = desk;
     doubt = doubt;
     calls = calls;
     lines = lines;
@@ -47,6 +49,7 @@ module _ (tree : Tree) (machines : Machines) (waits : List traces.Taking) (doubt
         tree = tree;
         machines = machines;
         waits = waits;
+        desk = desk;
         doubt = doubt;
         calls = calls;
         lines = lines;

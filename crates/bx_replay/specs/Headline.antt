@@ -18,9 +18,10 @@ use Rattle.bx_model.specs.History.{IsStep}
 use Rattle.bx_nfs.specs.Wire.{ReadsAs, reply_text}
 use Rattle.bx_rpc.specs.Message.{is_message}
 
--- Every datagram that is a call is taken, and nothing is promised of when it is answered; no answer is kept for repeats.
+-- A datagram that is a call is taken where fewer than 64 wait at its node, and it repeats none that waits and none of the last 256 that the node
+-- answered; for a repeat of such a call the answer is sent again. Nothing is promised of when a call is answered.
 abbrev pub rules : Rules
-rules = record { is_call = is_message; is_immediate = λ _ _. false; is_prompt = λ _. false; is_wary = false; kept = 0 }
+rules = record { is_call = is_message; is_immediate = λ _ _. false; is_prompt = λ _. false; is_wary = true; kept = 256 }
 
 -- the tree that a schedule begins with: the opening tree of the heading's volume, with its areas
 abbrev pub opening_of : List Line → Tree

@@ -11,6 +11,8 @@ use Rattle.bx_script.specs.declared.trace_line.TraceLine.TheVariants.{Acted, Rep
 use Rattle.bx_script.specs.Schedule.{reading_of}
 use Rattle.bx_script.specs.ScheduleLine.{spelling}
 use Rattle.bx_script.specs.TraceText.{InTraceRange, trace_text}
+use Rattle.bx_desk.specs.Desks.{AtDesk, answered}
+use Rattle.bx_desk.specs.Nodes.{IsDeskOf, taking_at}
 use Rattle.bx_history.specs.Trace as traces
 use Rattle.bx_history.specs.Parts.{trace_of}
 use Rattle.bx_history.specs.Placed.{HasReadingSince}
@@ -38,13 +40,15 @@ pub record IsDoubted (done : List Done) (doubt : Doubt) : Type 0 where
   pub lacks : LacksPoint (trace_of (parts_of done)) doubt.call
   pub since : HasReadingSince doubt.point.call doubt.point.moment (parts_of done)
 
--- After these lines, the newest first, the tree, the calls that wait, the oldest first, and the count of calls are those that the trace
+-- After these lines, the newest first, the tree, the calls that wait, the oldest first, the desk and the count of calls are those that the trace
 -- leaves, and the machines and their clocks are so; what is in doubt may be told later; and what was written since the start is that trace, whose
 -- lines are in range.
-pub record Stands (tree : Tree) (machines : Machines) (waits : List traces.Taking) (doubt : Option Doubt) (calls : ℕ) (done : List Done) (start written : List ℕ) : Type 0 where
+pub record Stands (tree : Tree) (machines : Machines) (waits : List traces.Taking) (desk : AtDesk) (doubt : Option Doubt) (calls : ℕ) (done : List Done) (start written : List ℕ) : Type 0 where
   pub history : List traces.Entry
   pub accounts : AwaitsNewest Step rules (opening_of (schedule_of done)) (parts_of done) history tree (waits_at waits)
   pub counted : calls ≡ traces.taken_count (trace_of (parts_of done))
+  pub desk_is : IsDeskOf 0 (parts_of done) desk
+  pub desk_waits : waits ≡ map (taking_at 0) desk.waits
   pub machines_are : machines ≡ after_lines (reverse (schedule_of done))
   pub doubted : (of : Doubt) → doubt ≡ Some of → IsDoubted done of
   pub headed : 0 < length (schedule_of done)
@@ -110,25 +114,26 @@ HasLineCause stops.OutOfMemory number before now = Unit {0}
 -- ---- doing a line
 
 -- a tree is held, and the replay stands for it with one line more
-pub record StandsAfter (Holds : Tree → Option Doubt → Type 0) (machines : Machines) (waits : List traces.Taking) (calls : ℕ) (line : Line) (done : List Done) (start written : List ℕ) : Type 0 where
+pub record StandsAfter (Holds : Tree → Option Doubt → Type 0) (machines : Machines) (waits : List traces.Taking) (desk : AtDesk) (calls : ℕ) (line : Line) (done : List Done) (start written : List ℕ) : Type 0 where
   pub tree : Tree
   pub doubt : Option Doubt
   pub holds : Holds tree doubt
   pub lines : List TraceLine
-  pub stands : Stands tree machines waits doubt calls (record { line = line; lines = lines } ∷ done) start written
+  pub stands : Stands tree machines waits desk doubt calls (record { line = line; lines = lines } ∷ done) start written
 
 -- The replay would stand with one line more, but only a part of the trace was written.
 pub record BreaksAfter (line : Line) (done : List Done) (start written : List ℕ) : Type 0 where
   pub tree : Tree
   pub machines : Machines
   pub waits : List traces.Taking
+  pub desk : AtDesk
   pub doubt : Option Doubt
   pub calls : ℕ
   pub lines : List TraceLine
   pub output : List ℕ
   pub more : List ℕ
   pub added : written ≡ start ++ output
-  pub after : Stands tree machines waits doubt calls (record { line = line; lines = lines } ∷ done) start (written ++ more)
+  pub after : Stands tree machines waits desk doubt calls (record { line = line; lines = lines } ∷ done) start (written ++ more)
 
 -- a line that is done may come, and the machines are as it leaves them; one that is refused has its reason
 abbrev pub Hears : Result (Unit {0}) Stop → Machines → Machines → Line → Type 0
@@ -175,6 +180,13 @@ HasStepCause stops.ReadFault number before now = ⊥
 HasStepCause stops.WriteFault number before now = Rose before now
 HasStepCause stops.DiskFault number before now = ⊥
 HasStepCause stops.OutOfMemory number before now = Unit {0}
+
+-- ---- the desk
+
+-- the desk once this was done in a round
+abbrev pub desk_then : AtDesk → Event → AtDesk
+desk_then desk (Answered acted) = answered desk acted.reply
+desk_then desk (Found point) = desk
 
 -- ---- printing
 
@@ -287,12 +299,12 @@ pub record IsRead (machines : Machines) (text rest : List ℕ) (number : ℕ) : 
   pub count : number ≡ length done
 
 -- A tree is held, and the replay stands for it after these lines.
-pub record Going (Holds : Tree → Option Doubt → Type 0) (machines : Machines) (waits : List traces.Taking) (calls : ℕ) (text rest : List ℕ) (number : ℕ) (start written : List ℕ) : Type 0 where
+pub record Going (Holds : Tree → Option Doubt → Type 0) (machines : Machines) (waits : List traces.Taking) (desk : AtDesk) (calls : ℕ) (text rest : List ℕ) (number : ℕ) (start written : List ℕ) : Type 0 where
   pub tree : Tree
   pub doubt : Option Doubt
   pub holds : Holds tree doubt
   pub done : List Done
-  pub stands : Stands tree machines waits doubt calls done start written
+  pub stands : Stands tree machines waits desk doubt calls done start written
   pub read : IsReadTo text (schedule_of done) rest
   pub count : number ≡ length done
 

@@ -1,6 +1,6 @@
 //! Which lines may come in a replay, by the nodes and the clocks that they name.
 
-ghost use Rattle.std.specs.Prelude.{◌≡◌, ◌×◌, IfErr, IfOk};
+ghost use Rattle.std.specs.Prelude.{◌≡◌, IfErr, IfOk};
 ghost use Rattle.bx_replay.specs.Headline.{IsSteady, IsThere, greatest_with};
 ghost use Rattle.bx_replay.specs.Replay.{IsKeptOut};
 ghost use Rattle.bx_script.specs.Schedule.{reading_of};

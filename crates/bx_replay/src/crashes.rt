@@ -25,8 +25,8 @@ impl<M: Service> Replay<M> {
     pub(crate) fn crash<B: CrashRack>(&mut self, noise: Noise, bench: &mut B) -> Result<(), Stop>
         requires ready { M.ready self.old.service (B.state bench.old).sizes }
         ensures crashes { (tree : Tree) (doubt : Option Doubt) (greatest : ℕ) (done : List Done) (start written : List ℕ) (how : Noise) → B.tells bench.old → M.holds self.old.service (B.state bench.old) tree doubt → length done < 4294967295
-            → IsInPlace false (CrashLine how) → Stands tree (machines_at (M.up self.old.service) greatest) (M.waits self.old.service) doubt self.old.calls done start written
-            → DoesLine result (StandsAfter (M.holds self.new.service (B.state bench.new)) (machines_at (M.up self.new.service) greatest) (M.waits self.new.service) self.new.calls (CrashLine how) done start written) (CrashLine how) done start written written }
+            → IsInPlace false (CrashLine how) → Stands tree (machines_at (M.up self.old.service) greatest) (M.waits self.old.service) self.old.desk doubt self.old.calls done start written
+            → DoesLine result (StandsAfter (M.holds self.new.service (B.state bench.new)) (machines_at (M.up self.new.service) greatest) (M.waits self.new.service) self.new.desk self.new.calls (CrashLine how) done start written) (CrashLine how) done start written written }
         ensures holds { (tree : Tree) (doubt : Option Doubt) → B.tells bench.old → M.holds self.old.service (B.state bench.old) tree doubt → OnOk result (M.holds self.new.service (B.state bench.new) tree doubt) }
         ensures noise { B.tells bench.old → OnOk result (MovesDisks (CrashLine noise) (M.up self.old.service) (B.state bench.old) (B.state bench.new)) }
         ensures up { OnOk result (M.up self.new.service ≡ false) }
@@ -38,6 +38,7 @@ impl<M: Service> Replay<M> {
         ensures bench_later { B.faults bench.old ≤ B.faults bench.new }
         ensures bench_tells { B.tells bench.old → B.tells bench.new }
     {
+        self.desk.clear();
         if self.service.is_up() {
             self.service.crash();
             crash_all(bench, noise)?;
@@ -54,8 +55,8 @@ impl<M: Service> Replay<M> {
     ) -> Result<(), Stop>
         requires ready { M.ready self.old.service (B.state bench.old).sizes }
         ensures restarts { (tree : Tree) (doubt : Option Doubt) (greatest reading : ℕ) (done : List Done) (start : List ℕ) → K.tells out.old → B.tells bench.old → M.holds self.old.service (B.state bench.old) tree doubt → length done < 4294967295
-            → IsInPlace false (RestartLine reading) → IsSteady greatest (RestartLine reading) → Stands tree (machines_at (M.up self.old.service) greatest) (M.waits self.old.service) doubt self.old.calls done start (K.written out.old)
-            → DoesLine result (StandsAfter (M.holds self.new.service (B.state bench.new)) (machines_at (M.up self.new.service) (max greatest reading)) (M.waits self.new.service) self.new.calls (RestartLine reading) done start (K.written out.new)) (RestartLine reading) done start (K.written out.old) (K.written out.new) }
+            → IsInPlace false (RestartLine reading) → IsSteady greatest (RestartLine reading) → Stands tree (machines_at (M.up self.old.service) greatest) (M.waits self.old.service) self.old.desk doubt self.old.calls done start (K.written out.old)
+            → DoesLine result (StandsAfter (M.holds self.new.service (B.state bench.new)) (machines_at (M.up self.new.service) (max greatest reading)) (M.waits self.new.service) self.new.desk self.new.calls (RestartLine reading) done start (K.written out.new)) (RestartLine reading) done start (K.written out.old) (K.written out.new) }
         ensures holds { (tree : Tree) (doubt : Option Doubt) → B.tells bench.old → M.holds self.old.service (B.state bench.old) tree doubt → OnOk result ((next : Tree) × (now : Option Doubt) × M.holds self.new.service (B.state bench.new) next now) }
         ensures moves { (reading : ℕ) → MovesDisks (RestartLine reading) (M.up self.old.service) (B.state bench.old) (B.state bench.new) }
         ensures back { (tree : Tree) (doubt : Option Doubt) → B.tells bench.old → M.holds self.old.service (B.state bench.old) tree doubt → M.up self.old.service ≡ false → (Rose (B.faults bench.old) (B.faults bench.new) → ⊥)

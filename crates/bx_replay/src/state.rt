@@ -1,6 +1,7 @@
 //! A schedule, replayed on a service over disks.
 
 use bx_base::CallNo;
+use bx_desk::Desk;
 use bx_lease::ClockRule;
 
 /// The state between two lines of a schedule.
@@ -8,6 +9,8 @@ use bx_lease::ClockRule;
 pub struct Replay<M> {
     /// What takes the calls and answers them.
     pub service: M,
+    /// What tells repeats at the one node: the calls that wait there, and the answers that it keeps.
+    pub desk: Desk,
     /// How many calls were taken.
     pub calls: CallNo,
     /// The readings of the lines that were done.

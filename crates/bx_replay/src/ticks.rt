@@ -18,8 +18,8 @@ impl<M: Service> Replay<M> {
     pub(crate) fn tick(&mut self, number: u64) -> Result<(), Stop>
         ensures does { (greatest reading node : ℕ) (x : Disks) (tree : Tree) (doubt : Option Doubt) (done : List Done) (start written : List ℕ) → M.holds self.old.service x tree doubt → length done < 4294967295
             → IsInPlace false (TickLine reading node) → IsThere (TickLine reading node) → IsSteady greatest (TickLine reading node)
-            → Stands tree (machines_at (M.up self.old.service) greatest) (M.waits self.old.service) doubt self.old.calls done start written
-            → DoesLine result (StandsAfter (M.holds self.new.service x) (machines_at (M.up self.new.service) (max greatest reading)) (M.waits self.new.service) self.new.calls (TickLine reading node) done start written) (TickLine reading node) done start written written }
+            → Stands tree (machines_at (M.up self.old.service) greatest) (M.waits self.old.service) self.old.desk doubt self.old.calls done start written
+            → DoesLine result (StandsAfter (M.holds self.new.service x) (machines_at (M.up self.new.service) (max greatest reading)) (M.waits self.new.service) self.new.desk self.new.calls (TickLine reading node) done start written) (TickLine reading node) done start written written }
         ensures holds { (x : Disks) (tree : Tree) (doubt : Option Doubt) → M.holds self.old.service x tree doubt → M.holds self.new.service x tree doubt }
         ensures begins { M.waits self.old.service ≡ [] → OnOk result (M.tidies self.new.service ≡ true) }
         ensures busy { M.waits self.old.service ≢ [] → OnOk result (M.tidies self.new.service ≡ M.tidies self.old.service) }

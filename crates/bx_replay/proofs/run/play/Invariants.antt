@@ -24,7 +24,7 @@ invariant-lines g l = record {
       → HasCome g.M.Service.rests g.M.Service.returns g.M.Service.turns (machines_at (g.M.Service.up l.replay.service) l.replay.clock) (g.S.Source.left l.fn.input) (l.reader.ahead ++ g.S.Source.left l.input) l.number
       (record { service = l.replay.service; disks = g.B.Rack.state l.bench; faults = g.B.Rack.faults l.bench });
   going : g.S.Source.tells l.fn.input → g.K.Sink.tells l.fn.out → g.B.Rack.tells l.fn.bench
-      → Going (g.M.Service.holds l.replay.service (g.B.Rack.state l.bench)) (machines_at (g.M.Service.up l.replay.service) l.replay.clock) (g.M.Service.waits l.replay.service) l.replay.calls
+      → Going (g.M.Service.holds l.replay.service (g.B.Rack.state l.bench)) (machines_at (g.M.Service.up l.replay.service) l.replay.clock) (g.M.Service.waits l.replay.service) l.replay.desk l.replay.calls
       (g.S.Source.left l.fn.input) (l.reader.ahead ++ g.S.Source.left l.input) l.number (g.K.Sink.written l.fn.out) (g.K.Sink.written l.out);
 }
 

@@ -37,7 +37,7 @@ returns-in-Run g c =
             doubt = doubt;
             holds = holds;
             lines = [];
-            stands = stands_silent tree _ _ doubt _ past start _ room stands _ _ tt (rw c.in-Run.is at c.requires.in_place) (tt, rw c.in-Run.is at steady, tt) refl;
+            stands = stands_silent tree _ _ _ doubt _ past start _ room stands _ _ tt (rw c.in-Run.is at c.requires.in_place) (tt, rw c.in-Run.is at steady, tt) refl;
           }));
       holds = done.holds;
       latest = on_ok_weaker c.run.result (λ latest. latest ∙ c.requires.latest ∙ sym done.calls) done.latest;

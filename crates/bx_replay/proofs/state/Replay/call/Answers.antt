@@ -14,7 +14,7 @@ returns-then-not-is_message-clause-does g c = λ greatest reading x tree doubt d
       doubt = doubt;
       holds = holds;
       lines = [];
-      stands = stands_ignored tree _ _ doubt _ done start _ room stands reading c.args.node c.args.client c.args.datagram (c.requires.node, steady, is_up) none place;
+      stands = stands_ignored tree _ _ _ doubt _ done start _ room stands reading c.args.node c.args.client c.args.datagram (c.requires.node, steady, is_up) none place;
     }
 
 pub returns-clause-hears : goal.returns-clause-hears

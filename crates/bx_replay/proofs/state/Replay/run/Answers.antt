@@ -54,8 +54,8 @@ loop-preserved g c = elim c.match-branch-2.branch [
     stands = λ greatest done start sink_tells bench_tells before.
         let so_far = c.loop.invariant.stands greatest done start sink_tells bench_tells before in
         let event = rw w.in-Some.is at (c.in_ok-event.ensures.rounds so_far.tree so_far.doubt (c.loop.invariant.bench_tells bench_tells) so_far.holds) in
-        rw (c.in_ok-event.ensures.up) (told_after (g.M.Service.holds c.round.new.self (g.B.Rack.state c.round.new.bench)) _ _ _ _ done start (g.K.Sink.written c.loop.out) (told_at w.in-Some.event)
-        (goes_event _ _ _ _ _ _ c.args.reading c.args.limit done start _ so_far w.in-Some.event event) _ (w.in_ok-tell.ensures.prints (c.loop.invariant.sink_tells sink_tells)) w.in_ok-tell.ensures.in_range);
+        rw (c.in_ok-event.ensures.up) (told_after (g.M.Service.holds c.round.new.self (g.B.Rack.state c.round.new.bench)) _ _ _ _ _ done start (g.K.Sink.written c.loop.out) (told_at w.in-Some.event)
+        (goes_event _ _ _ _ _ _ _ c.args.reading c.args.limit done start _ so_far w.in-Some.event event) _ (w.in_ok-tell.ensures.prints (c.loop.invariant.sink_tells sink_tells)) w.in_ok-tell.ensures.in_range);
     holds = λ tree doubt bench_tells held.
         let so_far = c.loop.invariant.holds tree doubt bench_tells held in
         let event = rw w.in-Some.is at (c.in_ok-event.ensures.rounds so_far.0 so_far.1 (c.loop.invariant.bench_tells bench_tells) so_far.2) in
@@ -77,7 +77,7 @@ loop-preserved g c = elim c.match-branch-2.branch [
   | in_default w ↦ rw (w.self-is, w.out-is) (record {
     stands = λ greatest done start sink_tells bench_tells before.
         let so_far = c.loop.invariant.stands greatest done start sink_tells bench_tells before in
-        rw (c.in_ok-event.ensures.up) (after_waiting _ _ _ _ _ _ c.args.reading c.args.limit done start _ so_far
+        rw (c.in_ok-event.ensures.up) (after_waiting _ _ _ _ _ _ _ c.args.reading c.args.limit done start _ so_far
         (rw w.in_default.is at (c.in_ok-event.ensures.rounds so_far.tree so_far.doubt (c.loop.invariant.bench_tells bench_tells) so_far.holds)));
     holds = λ tree doubt bench_tells held.
         let so_far = c.loop.invariant.holds tree doubt bench_tells held in
@@ -112,7 +112,7 @@ returns-in_err-event g c =
       down = λ down. c.round.ensures.down (was.up ∙ down) ∙ was.down down;
       runs = λ greatest done start sink_tells bench_tells before.
           let p = err_from_is_err_and c.from_residual.result c.from_residual.ensures.1 in
-          rw (p.1, p.2) (inr (breaks_before (g.M.Service.holds c.loop.self.service (g.B.Rack.state c.loop.bench)) (g.M.Service.holds c.loop.self.service (g.B.Rack.state c.loop.bench)) _ _ (g.M.Service.waits c.loop.self.service) _ c.args.reading c.args.limit done start _
+          rw (p.1, p.2) (inr (breaks_before (g.M.Service.holds c.loop.self.service (g.B.Rack.state c.loop.bench)) (g.M.Service.holds c.loop.self.service (g.B.Rack.state c.loop.bench)) _ _ (g.M.Service.waits c.loop.self.service) _ _ c.args.reading c.args.limit done start _
           (c.loop.invariant.stands greatest done start sink_tells bench_tells before)));
       holds = λ tree doubt bench_tells held. rw p.1 tt;
       cause = rw (p.1, p.2) tt;
@@ -141,10 +141,10 @@ returns-in_err-tell g c =
           let p = err_from_is_err_and c.from_residual-in_err-tell.result c.from_residual-in_err-tell.ensures.1 in
           let so_far = c.loop.invariant.stands greatest done start sink_tells bench_tells before in
           let event = rw c.in-Some.is at (c.in_ok-event.ensures.rounds so_far.tree so_far.doubt (c.loop.invariant.bench_tells bench_tells) so_far.holds) in
-          rw (p.1, p.2) (untold (g.M.Service.holds c.round.new.self (g.B.Rack.state c.round.new.bench)) _ _ _ _ done start (g.K.Sink.written c.loop.out) (told_at c.in-Some.event)
-          (goes_event _ _ _ _ _ _ c.args.reading c.args.limit done start _ so_far c.in-Some.event event)
+          rw (p.1, p.2) (untold (g.M.Service.holds c.round.new.self (g.B.Rack.state c.round.new.bench)) _ _ _ _ _ done start (g.K.Sink.written c.loop.out) (told_at c.in-Some.event)
+          (goes_event _ _ _ _ _ _ _ c.args.reading c.args.limit done start _ so_far c.in-Some.event event)
           c.in_err-tell.field-0.0 _ _ _ _ _ _ so_far.stands.output c.in_err-tell.ensures.cause (c.in_err-tell.ensures.prints (c.loop.invariant.sink_tells sink_tells)) c.in_err-tell.ensures.in_range
-          (breaks_before (g.M.Service.holds c.loop.self.service (g.B.Rack.state c.loop.bench)) (g.M.Service.holds c.loop.self.service (g.B.Rack.state c.loop.bench)) _ _ (g.M.Service.waits c.loop.self.service) _ c.args.reading c.args.limit done start _ so_far));
+          (breaks_before (g.M.Service.holds c.loop.self.service (g.B.Rack.state c.loop.bench)) (g.M.Service.holds c.loop.self.service (g.B.Rack.state c.loop.bench)) _ _ (g.M.Service.waits c.loop.self.service) _ _ c.args.reading c.args.limit done start _ so_far));
       holds = λ tree doubt bench_tells held. rw p.1 tt;
       cause = rw (p.1, p.2) (rw was.first at why.cause);
       first = rw (p.1, p.2) (rw was.first at why.first);

@@ -10,8 +10,8 @@ use Rattle.bx_replay.proofs.state.Replay.run.Given as goal
 abbrev pub invariant-loop : goal.invariant-loop
 invariant-loop g l = record {
   stands : (greatest : ℕ) (done : List Done) (start : List ℕ) → g.K.Sink.tells l.fn.out → g.B.Rack.tells l.fn.bench
-      → StandsAfter (g.M.Service.holds l.fn.self.service (g.B.Rack.state l.fn.bench)) (machines_at (g.M.Service.up l.fn.self.service) greatest) (g.M.Service.waits l.fn.self.service) l.fn.self.calls (Run l.fn.reading l.fn.limit) done start (g.K.Sink.written l.fn.out)
-      → StandsAfter (g.M.Service.holds l.self.service (g.B.Rack.state l.bench)) (machines_at (g.M.Service.up l.self.service) greatest) (g.M.Service.waits l.self.service) l.self.calls (Run l.fn.reading l.fn.limit) done start (g.K.Sink.written l.out);
+      → StandsAfter (g.M.Service.holds l.fn.self.service (g.B.Rack.state l.fn.bench)) (machines_at (g.M.Service.up l.fn.self.service) greatest) (g.M.Service.waits l.fn.self.service) l.fn.self.desk l.fn.self.calls (Run l.fn.reading l.fn.limit) done start (g.K.Sink.written l.fn.out)
+      → StandsAfter (g.M.Service.holds l.self.service (g.B.Rack.state l.bench)) (machines_at (g.M.Service.up l.self.service) greatest) (g.M.Service.waits l.self.service) l.self.desk l.self.calls (Run l.fn.reading l.fn.limit) done start (g.K.Sink.written l.out);
   holds : (tree : Tree) (doubt : Option Doubt) → g.B.Rack.tells l.fn.bench → g.M.Service.holds l.fn.self.service (g.B.Rack.state l.fn.bench) tree doubt → (next : Tree) × (now : Option Doubt) × g.M.Service.holds l.self.service (g.B.Rack.state l.bench) next now;
   within : l.counter ≤ l.fn.limit;
   rounds : AreRounds g.M.Service.rests (g.M.Service.turns l.fn.reading) l.counter (record { service = l.fn.self.service; disks = g.B.Rack.state l.fn.bench; faults = g.B.Rack.faults l.fn.bench })

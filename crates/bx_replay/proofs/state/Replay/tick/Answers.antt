@@ -13,7 +13,7 @@ returns-clause-does g c = λ greatest reading node x tree doubt done start writt
       doubt = doubt;
       holds = c.tick.ensures.holds x tree doubt holds;
       lines = [];
-      stands = stands_same tree _ _ (g.M.Service.waits c.tick.new.self) doubt _ _ start _ c.tick.ensures.waits
-          (stands_silent tree _ _ doubt _ done start written room stands (Tick reading node) (machines_at (g.M.Service.up c.tick.new.self) (max greatest reading)) tt place (there, steady, is_up)
+      stands = stands_same tree _ _ (g.M.Service.waits c.tick.new.self) _ doubt _ _ start _ c.tick.ensures.waits
+          (stands_silent tree _ _ _ doubt _ done start written room stands (Tick reading node) (machines_at (g.M.Service.up c.tick.new.self) (max greatest reading)) tt place (there, steady, is_up)
           (ap (λ (up : Bool). machines_at up (max greatest reading)) (c.tick.ensures.up ∙ sym is_up)));
     }

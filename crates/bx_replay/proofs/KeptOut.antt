@@ -16,7 +16,7 @@ use Rattle.bx_replay.specs.Replay.{DoesLine, HasStepCause, Hears, HearsUp, IsKep
 pub hears_turned_away : (stop : Stop) (number greatest : ℕ) (up : Bool) (now : Machines) (line : Line) → IsKeptOut stop number greatest line → Hears (Err stop) (machines_at up greatest) now line
 hears_turned_away (stops.Refused n Grammar) number greatest up now line kept = absurd kept
 hears_turned_away (stops.Refused n NoMachine) number greatest up now line kept = kept.1
-hears_turned_away (stops.Refused n (ClockBack by)) number greatest up now line kept = kept.1
+hears_turned_away (stops.Refused n (ClockBack by)) number greatest up now line kept = (kept.1, kept.2)
 hears_turned_away (stops.Refused n Down) number greatest up now line kept = absurd kept
 hears_turned_away stops.ReadFault number greatest up now line kept = absurd kept
 hears_turned_away stops.WriteFault number greatest up now line kept = absurd kept

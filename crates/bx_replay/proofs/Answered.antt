@@ -49,7 +49,7 @@ entered tree next call point reply s = record {
 }
 
 -- once the oldest call is answered, the others wait
-pub fewer_wait : (call : traces.Taking) (rest : List traces.Taking) (waits : List traces.Taking) (desk : AtDesk) (node : ℕ) → waits_but 0 (reverse rest) (waits_at waits) node ≡ waits_at rest node
+pub fewer_wait : (call : traces.Taking) (rest : List traces.Taking) (waits : List traces.Taking) (node : ℕ) → waits_but 0 (reverse rest) (waits_at waits) node ≡ waits_at rest node
 fewer_wait call rest waits node = by (0 == node)
   where
     by : (b : Bool) → (if b then reverse rest else (if b then reverse waits else [])) ≡ (if b then reverse rest else [])
@@ -61,7 +61,7 @@ abbrev pub in_run : List Done → ℕ → ℕ → List TraceLine → List Done
 in_run done reading limit lines = record { line = Run reading limit; lines = lines } ∷ done
 
 -- what is in doubt after a round is so rightly
-doubted_then : (done : List Done) (reading limit : ℕ) (lines : List TraceLine) (waits : List traces.Taking) (desk : AtDesk) (before now : Option Doubt) → AllByRecursion (IsPending (trace_of (parts_of (in_run done reading limit lines))) 0) (waits_at waits 0)
+doubted_then : (done : List Done) (reading limit : ℕ) (lines : List TraceLine) (waits : List traces.Taking) (before now : Option Doubt) → AllByRecursion (IsPending (trace_of (parts_of (in_run done reading limit lines))) 0) (waits_at waits 0)
     → ((of : Doubt) → before ≡ Some of → IsDoubted (in_run done reading limit lines) of) → Follows reading waits before now
     → (of : Doubt) → now ≡ Some of → IsDoubted (in_run done reading limit lines) of
 doubted_then done reading limit lines waits before now pending doubted follows of is = by (follows of is)
@@ -120,7 +120,7 @@ module _ (reading limit : ℕ) (done : List Done) (start : List ℕ) (tree : Tre
     none_before none is = absurd cc
 
     -- the desk without its oldest call, which is answered
-    DeskThen : AtDesk → Type 0
+    abbrev DeskThen : AtDesk → Type 0
     DeskThen now_is = IsDeskOf 0 (parts_of (in_run done reading limit (Reply point.call reply ∷ Acted point ∷ lines))) now_is × (rest ≡ map (taking_at 0) now_is.waits)
 
     sent_here : (asked : Asked) → taking_at 0 asked ≡ call
@@ -217,7 +217,7 @@ pub all_reversed : {A : Type 0} (P : A → Type 0) (xs : List A) → AllByRecurs
 all_reversed P [] h = tt
 all_reversed P (x ∷ xs) h = rw (reverse-append (x ∷ []) xs) (all_append P (reverse xs) (x ∷ []) (all_reversed P xs h.1) (h.0, tt))
 
-gone_at : (P : traces.Taking → Type 0) (waits : List traces.Taking) (desk : AtDesk) → AllByRecursion P waits → (node : ℕ) → AllByRecursion P (waits_at waits node)
+gone_at : (P : traces.Taking → Type 0) (waits : List traces.Taking) → AllByRecursion P waits → (node : ℕ) → AllByRecursion P (waits_at waits node)
 gone_at P waits all node = by (0 == node)
   where
     by : (b : Bool) → AllByRecursion P (if b then reverse waits else [])

@@ -1,5 +1,5 @@
 -- What a line leaves where it breaks off.
-use Rattle.std.proofs.Common.{◌≡◌, ℕ, Bool, List, [], ◌∷◌, ◌++◌, Option, Result, Ok, Err, take, drop, ap, ◌∙◌, append_assoc}
+use Rattle.std.proofs.Common.{◌≡◌, ℕ, Bool, List, [], ◌∷◌, ◌++◌, Option, Result, Ok, Err, take, drop, ap, inl, ◌∙◌, append_assoc}
 use Rattle.std.specs.Prelude.{◌⊎◌, IfErr, OnOk, reverse}
 use Rattle.std.proofs.lemmas.List.{append-nil, take-append-drop}
 use Rattle.bx_script.specs.declared.line.Line.{Line}
@@ -69,6 +69,14 @@ module _ (tree : Tree) (machines : Machines) (waits : List traces.Taking) (desk 
   unprinted InRange stops.WriteFault After first old new output text before now begun cause prints in_range stands none = breaks_in old new output text prints.0 begun prints.1 (stands in_range)
   unprinted InRange stops.DiskFault After first old new output text before now begun cause prints in_range stands none = absurd cause
   unprinted InRange stops.OutOfMemory After first old new output text before now begun cause prints in_range stands none = none prints
+
+  -- what a line leaves that only prints
+  pub printed_line : (r : Result (Unit {0}) Stop) (After InRange : Type 0) (old new output text : List ℕ) (before now : ℕ) → old ≡ start ++ output
+      → IfErr r (λ stop. HasPrintCause stop before now) → Prints r text old new → UnlessMemory r InRange → (InRange → StandsAt (old ++ text)) → (StandsAt new → After)
+      → DoesLine r After line done start old new
+  printed_line (Ok x) After InRange old new output text before now begun cause prints in_range stands gives = gives (rw prints (stands in_range))
+  printed_line (Err stop) After InRange old new output text before now begun cause prints in_range stands gives =
+      unprinted InRange stop After old old new output text before now begun cause prints in_range stands (λ same. inl same)
 
 -- a line that is done finds up whoever has to hear it, where it only prints
 pub hears_line : (r : Result (Unit {0}) Stop) (up now : Bool) (line : Line) (before after : ℕ) → IfErr r (λ stop. HasPrintCause stop before after) → IsUpFor up line

@@ -15,7 +15,7 @@ use Rattle.bx_desk.specs.Nodes.{IsDeskOf, taking_at}
 use Rattle.bx_desk.proofs.Going.{desk_opened, desk_stays, desk_taken}
 use Rattle.bx_desk.proofs.Hearing.{IsNew, IsPassed, IsRepeated, is_new}
 use Rattle.bx_history.specs.Trace as traces
-use Rattle.bx_history.specs.Parts.{trace_of}
+use Rattle.bx_history.specs.Parts.{Part, trace_of}
 use Rattle.bx_history.specs.Along.{Done, parts_of, schedule_of}
 use Rattle.bx_history.specs.Account.{AreNewestFirst, AwaitsNewest, IsPatient, IsPending, LacksPoint, waits_with}
 use Rattle.bx_history.proofs.Ended.{ended_part}
@@ -133,7 +133,7 @@ silent_desk done desk (Restart reading) silent is = desk_stays 0 (parts_of done)
 silent_desk done desk (Tick reading node) silent is = desk_stays 0 (parts_of done) (parts_of (record { line = Tick reading node; lines = [] } ∷ done)) desk is refl refl
 
 -- the oldest call that waits was taken there
-pub oldest_in : (trace : List TraceLine) (waits : List traces.Taking) (desk : AtDesk) → AllByRecursion (IsPending trace 0) (waits_at waits 0)
+pub oldest_in : (trace : List TraceLine) (waits : List traces.Taking) → AllByRecursion (IsPending trace 0) (waits_at waits 0)
     → (call : traces.Taking) (rest : List traces.Taking) → waits ≡ call ∷ rest → IsPending trace 0 call
 oldest_in trace waits pending call rest is =
     (all_front (IsPending trace 0) (reverse rest) call
@@ -259,6 +259,14 @@ module _ (tree : Tree) (machines : Machines) (waits : List traces.Taking) (desk 
 
   pub stands_taken_at : (node : ℕ) → node ≡ 0 → TakesAt node
   stands_taken_at node zero = subst TakesAt (sym zero) stands_taken
+
+-- at a node that is 0
+pub passed_at : (parts : List Part) (node client : ℕ) (bytes : List ℕ) → node ≡ 0 → IsPassed rules parts (record { node = 0; client = client; bytes = bytes }) → IsPassed rules parts (record { node = node; client = client; bytes = bytes })
+passed_at parts node client bytes zero passed = subst (λ (n : ℕ). IsPassed rules parts (record { node = n; client = client; bytes = bytes })) (sym zero) passed
+
+pub repeated_at : (parts : List Part) (node client : ℕ) (bytes reply : List ℕ) → node ≡ 0 → IsRepeated rules parts (record { node = 0; client = client; bytes = bytes }) reply
+    → IsRepeated rules parts (record { node = node; client = client; bytes = bytes }) reply
+repeated_at parts node client bytes reply zero repeated = subst (λ (n : ℕ). IsRepeated rules parts (record { node = n; client = client; bytes = bytes }) reply) (sym zero) repeated
 
 -- the calls that wait, said in two ways
 pub stands_same : (tree : Tree) (machines : Machines) (waits waits_then : List traces.Taking) (desk : AtDesk) (doubt : Option Doubt) (calls : ℕ) (done : List Done) (start written : List ℕ) → waits_then ≡ waits

@@ -178,7 +178,10 @@ impl<M: Service> Replay<M> {
         ensures later { K.faults out.old ≤ K.faults out.new }
         ensures keeps_telling { K.tells out.old → K.tells out.new }
     {
-        if !is_message(datagram.bytes()) || self.desk.is_waiting(client, datagram.bytes()) {
+        if !is_message(datagram.bytes()) {
+            return Ok(());
+        }
+        if self.desk.is_waiting(client, datagram.bytes()) {
             return Ok(());
         }
         if let Some(reply) = self.desk.kept(client, datagram.bytes()) {

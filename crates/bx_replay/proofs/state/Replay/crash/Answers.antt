@@ -9,7 +9,7 @@ returns-in_ok-crash_all-clause-crashes g c = λ tree doubt greatest done start w
   doubt = doubt;
   holds = c.crash.ensures.holds (g.B.Rack.state c.args.bench.now) (g.B.Rack.state c.crash_all.new.bench) tree doubt c.requires.ready holds (c.in_ok-crash_all.ensures.crashed tells);
   lines = [];
-  stands = rw (c.crash.ensures.up, c.crash.ensures.waits) (stands_crashed tree _ _ _ doubt _ done start written room stands how place);
+  stands = rw (c.crash.ensures.up, c.crash.ensures.waits, c.clear.ensures) (stands_crashed tree _ _ _ doubt _ done start written room stands how place);
 }
 
 pub returns-else-is_up-clause-crashes : goal.returns-else-is_up-clause-crashes
@@ -20,7 +20,7 @@ returns-else-is_up-clause-crashes g c = λ tree doubt greatest done start writte
       doubt = doubt;
       holds = holds;
       lines = [];
-      stands = rw (down, g.met.M.Service.idle c.args.self.now.service down) (stands_crashed tree _ _ _ doubt _ done start written room stands how place);
+      stands = rw (down, g.met.M.Service.idle c.args.self.now.service down, c.clear.ensures) (stands_crashed tree _ _ _ doubt _ done start written room stands how place);
     }
 
 pub returns-in_err-crash_all-clause-crashes : goal.returns-in_err-crash_all-clause-crashes

@@ -4,7 +4,7 @@ use Rattle.bx_replay.proofs.Causes.{rises, same_least}
 use Rattle.bx_replay.proofs.Rounding.{after_waiting, breaks_before, goes_event, held_after, told_after, untold}
 use Rattle.bx_replay.specs.Replay.{told_at}
 use Rattle.bx_service.specs.Rounds.{NoRounds, OneMore}
-use Rattle.bx_replay.proofs.state.Replay.run.Goals.{in-Some+in_ok-tell, in_default}
+use Rattle.bx_replay.proofs.state.Replay.run.Goals.{in-Some+in_ok-keep+in_ok-tell, in_default}
 use Rattle.bx_replay.proofs.state.Replay.run.Goals as goal
 
 pub loop-init : goal.loop-init
@@ -50,11 +50,11 @@ returns-then-is_quiet g c =
 
 pub loop-preserved : goal.loop-preserved
 loop-preserved g c = elim c.match-branch-2.branch [
-  | in-Some+in_ok-tell w ↦ rw (w.self-is, w.out-is) (record {
+  | in-Some+in_ok-keep+in_ok-tell w ↦ rw (w.self-is, w.out-is) (record {
     stands = λ greatest done start sink_tells bench_tells before.
         let so_far = c.loop.invariant.stands greatest done start sink_tells bench_tells before in
         let event = rw w.in-Some.is at (c.in_ok-event.ensures.rounds so_far.tree so_far.doubt (c.loop.invariant.bench_tells bench_tells) so_far.holds) in
-        rw (c.in_ok-event.ensures.up) (told_after (g.M.Service.holds c.round.new.self (g.B.Rack.state c.round.new.bench)) _ _ _ _ _ done start (g.K.Sink.written c.loop.out) (told_at w.in-Some.event)
+        rw (c.in_ok-event.ensures.up, w.in_ok-keep.ensures) (told_after (g.M.Service.holds c.round.new.self (g.B.Rack.state c.round.new.bench)) _ _ _ _ _ done start (g.K.Sink.written c.loop.out) (told_at w.in-Some.event)
         (goes_event _ _ _ _ _ _ _ c.args.reading c.args.limit done start _ so_far w.in-Some.event event) _ (w.in_ok-tell.ensures.prints (c.loop.invariant.sink_tells sink_tells)) w.in_ok-tell.ensures.in_range);
     holds = λ tree doubt bench_tells held.
         let so_far = c.loop.invariant.holds tree doubt bench_tells held in
@@ -112,6 +112,32 @@ returns-in_err-event g c =
       down = λ down. c.round.ensures.down (was.up ∙ down) ∙ was.down down;
       runs = λ greatest done start sink_tells bench_tells before.
           let p = err_from_is_err_and c.from_residual.result c.from_residual.ensures.1 in
+          rw (p.1, p.2) (inr (breaks_before (g.M.Service.holds c.loop.self.service (g.B.Rack.state c.loop.bench)) (g.M.Service.holds c.loop.self.service (g.B.Rack.state c.loop.bench)) _ _ (g.M.Service.waits c.loop.self.service) _ _ c.args.reading c.args.limit done start _
+          (c.loop.invariant.stands greatest done start sink_tells bench_tells before)));
+      holds = λ tree doubt bench_tells held. rw p.1 tt;
+      cause = rw (p.1, p.2) tt;
+      first = rw (p.1, p.2) was.first;
+      calls = was.calls;
+      clock = was.clock;
+      later = same_least _ _ was.first;
+      keeps_telling = was.sink_tells;
+      bench_later = rises _ _ _ was.bench_later c.round.ensures.later;
+      bench_tells = λ tells. c.round.ensures.keeps_telling (was.bench_tells tells);
+    }
+
+pub returns-in_err-keep : goal.returns-in_err-keep
+returns-in_err-keep g c =
+    let p = err_from_is_err_and c.from_residual-in_err-keep.result c.from_residual-in_err-keep.ensures.1 in
+    let was = c.loop.invariant in
+    record {
+      latest = rw p.1 tt;
+      up = rw p.1 tt;
+      ready = rw p.1 tt;
+      ends = rw p.1 tt;
+      sizes = c.round.ensures.sizes ∙ was.sizes;
+      down = λ down. c.round.ensures.down (was.up ∙ down) ∙ was.down down;
+      runs = λ greatest done start sink_tells bench_tells before.
+          let p = err_from_is_err_and c.from_residual-in_err-keep.result c.from_residual-in_err-keep.ensures.1 in
           rw (p.1, p.2) (inr (breaks_before (g.M.Service.holds c.loop.self.service (g.B.Rack.state c.loop.bench)) (g.M.Service.holds c.loop.self.service (g.B.Rack.state c.loop.bench)) _ _ (g.M.Service.waits c.loop.self.service) _ _ c.args.reading c.args.limit done start _
           (c.loop.invariant.stands greatest done start sink_tells bench_tells before)));
       holds = λ tree doubt bench_tells held. rw p.1 tt;

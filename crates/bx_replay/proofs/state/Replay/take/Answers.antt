@@ -24,6 +24,22 @@ returns-in_err-bytes g c =
       keeps_telling = λ tells. tells;
     }
 
+pub returns-in_err-take : goal.returns-in_err-take
+returns-in_err-take g c =
+    let p = err_from_is_err_and c.from_residual-in_err-take.result c.from_residual-in_err-take.ensures.1 in
+    record {
+      latest = rw p.1 tt;
+      ready = λ sizes ready. rw p.1 tt;
+      up = rw p.1 tt;
+      takes = λ greatest reading x tree doubt done start tells ready holds room place steady stands. rw (p.1, p.2) (inl refl);
+      holds = λ x tree doubt ready holds. rw p.1 tt;
+      cause = rw (p.1, p.2) tt;
+      first = rw (p.1, p.2) refl;
+      calls = same_most _ _ refl;
+      later = same_least _ _ refl;
+      keeps_telling = λ tells. tells;
+    }
+
 pub returns-in_err-print_lines : goal.returns-in_err-print_lines
 returns-in_err-print_lines g c =
     let p = err_from_is_err_and c.from_residual-in_err-print_lines.result c.from_residual-in_err-print_lines.ensures.1 in
@@ -36,7 +52,7 @@ returns-in_err-print_lines g c =
           let p = err_from_is_err_and c.from_residual-in_err-print_lines.result c.from_residual-in_err-print_lines.ensures.1 in
           rw (p.1, p.2) (unprinted tree _ _ _ doubt _ (Call reading c.args.node c.args.client c.args.datagram) (Took _ c.args.node c.args.client c.args.datagram ∷ []) done start _ c.in_err-print_lines.field-0.0 _ _ _ _ _ _ _ _ stands.output
           c.in_err-print_lines.ensures.cause (c.in_err-print_lines.ensures.prints tells) c.in_err-print_lines.ensures.in_range
-          (λ in_range. stands_taken_at tree _ _ _ doubt _ done start _ room stands c.args.node c.requires.node reading c.args.client c.args.datagram _ (c.requires.node, steady, c.requires.up) c.requires.message place in_range refl)
+          (λ in_range. stands_taken_at tree _ _ _ doubt _ done start _ room stands c.args.node c.requires.node reading c.args.client c.args.datagram _ (c.requires.node, steady, c.requires.up) c.requires.message c.requires.new c.requires.none_kept c.requires.room place in_range refl)
           (λ same. inl same));
       holds = λ x tree doubt ready holds. rw p.1 tt;
       cause = rw (p.1, p.2) why.cause;
@@ -58,7 +74,7 @@ returns-in_err-arrive g c =
           let p = err_from_is_err_and c.from_residual-in_err-arrive.result c.from_residual-in_err-arrive.ensures.1 in
           rw (p.1, p.2) (inr (breaks_behind tree _ _ _ doubt _ (Call reading c.args.node c.args.client c.args.datagram) (Took _ c.args.node c.args.client c.args.datagram ∷ []) done start (g.K.Sink.written c.args.out.now) (trace_text (Took (c.args.self.now.calls + 1) c.args.node c.args.client c.args.datagram ∷ [])) (g.K.Sink.written c.print_lines.new.out)
           (c.in_ok-print_lines.ensures.prints tells)
-          (stands_taken_at tree _ _ _ doubt _ done start _ room stands c.args.node c.requires.node reading c.args.client c.args.datagram _ (c.requires.node, steady, c.requires.up) c.requires.message place c.in_ok-print_lines.ensures.in_range refl)));
+          (stands_taken_at tree _ _ _ doubt _ done start _ room stands c.args.node c.requires.node reading c.args.client c.args.datagram _ (c.requires.node, steady, c.requires.up) c.requires.message c.requires.new c.requires.none_kept c.requires.room place c.in_ok-print_lines.ensures.in_range refl)));
       holds = λ x tree doubt ready holds. rw p.1 tt;
       cause = rw (p.1, p.2) tt;
       first = rw (p.1, p.2) printed.first;
@@ -80,8 +96,8 @@ returns g c =
         doubt = doubt;
         holds = c.in_ok-arrive.ensures.holds x tree doubt ready holds;
         lines = Took (c.args.self.now.calls + 1) c.args.node c.args.client c.args.datagram ∷ [];
-        stands = rw (c.in_ok-arrive.ensures.up, ← c.requires.up, c.in_ok-arrive.ensures.waits, c.in_ok-bytes.ensures, c.bytes.ensures, c.in_ok-print_lines.ensures.prints tells)
-            (stands_taken_at tree _ _ _ doubt _ done start _ room stands c.args.node c.requires.node reading c.args.client c.args.datagram _ (c.requires.node, steady, c.requires.up) c.requires.message place c.in_ok-print_lines.ensures.in_range refl);
+        stands = rw (c.in_ok-arrive.ensures.up, ← c.requires.up, c.in_ok-arrive.ensures.waits, c.in_ok-take.ensures.ok, c.bytes-2.ensures, c.in_ok-bytes.ensures, c.bytes.ensures, c.in_ok-print_lines.ensures.prints tells)
+            (stands_taken_at tree _ _ _ doubt _ done start _ room stands c.args.node c.requires.node reading c.args.client c.args.datagram _ (c.requires.node, steady, c.requires.up) c.requires.message c.requires.new c.requires.none_kept c.requires.room place c.in_ok-print_lines.ensures.in_range refl);
       };
       holds = came.holds;
       cause = tt;

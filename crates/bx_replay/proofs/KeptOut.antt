@@ -1,15 +1,17 @@
 -- A line that is kept out, or that may come: what a step says of it.
-use Rattle.std.proofs.Common.{◌≡◌, ℕ, Bool, List, Result, Ok, Err, refl, ap, subst, ◌∙◌}
-use Rattle.std.specs.Prelude.{Option, Some, None, IfSome, IsSome, IfErr}
+use Rattle.std.proofs.Common.{◌≡◌, ℕ, Bool, true, false, List, Ok, Err, refl, ap, ◌∙◌}
+use Rattle.std.specs.Prelude.{Option, Some, None, IfSome, IsSome}
 use Rattle.bx_history.specs.Along.{Done}
 use Rattle.bx_script.specs.declared.line.Line.{Line}
-use Rattle.bx_script.specs.Schedule.{reading_of}
+use Rattle.bx_lease.specs.Readings.{IsTooFarBack}
+use Rattle.bx_script.specs.Schedule.{node_of, reading_of}
 use Rattle.bx_stops.specs.declared.stop.Reason.{Reason}
 use Rattle.bx_stops.specs.declared.stop.Reason.TheVariants.{Grammar, NoMachine, ClockBack, Down}
 use Rattle.bx_stops.specs.declared.stop.Stop.{Stop}
 use Rattle.bx_stops.specs.declared.stop.Stop.TheVariants as stops
 use Rattle.bx_replay.specs.Headline.{IsHeard, IsSteady, IsThere, Machines, after_line, greatest_with, machines_at, up_after}
-use Rattle.bx_replay.specs.Replay.{DoesLine, HasStepCause, Hears, HearsUp, IsKeptOut, UnlessWrite}
+use Rattle.bx_replay.specs.Outcome.{IsBackBy, IsRefusedLine}
+use Rattle.bx_replay.specs.Replay.{DoesLine, HasStepCause, Hears, HearsUp, IsKeptOut}
 
 -- ---- a line that is kept out
 
@@ -64,3 +66,19 @@ module _ (greatest : ℕ) (up : Bool) (line : Line) (there : IsThere line) (stea
   pub hears_done : (now_up : Bool) (clock : ℕ) → clock ≡ greatest_with (reading_of line) greatest → HearsUp (Ok tt) up now_up line
       → Hears (Ok tt) (machines_at up greatest) (machines_at now_up clock) line
   hears_done now_up clock is hears = ((there, steady, hears.0), ap (λ (b : Bool). machines_at b clock) hears.1 ∙ ap (machines_at (up_after line up)) is)
+
+-- ---- a line that may come isn't refused
+
+steady_back : (greatest by : ℕ) (reading : Option ℕ) → IfSome reading (λ r. IsTooFarBack greatest r → ⊥) → IsBackBy greatest reading by → ⊥
+steady_back greatest by None steady back = back
+steady_back greatest by (Some reading) steady back = steady back.0
+
+up_down : (up : Bool) (node : Option ℕ) → IsSome node → IfSome node (λ n. up ≡ true) → up ≡ false → ⊥
+up_down up None asks heard down = absurd cc
+up_down up (Some node) asks heard down = cc
+
+pub heard_not_refused : (reason : Reason) (machines : Machines) (line : Line) → IsHeard machines line → IsRefusedLine reason machines line → ⊥
+heard_not_refused Grammar machines line heard refused = refused
+heard_not_refused NoMachine machines line heard refused = refused heard.0
+heard_not_refused (ClockBack by) machines line heard refused = steady_back machines.greatest by (reading_of line) heard.1 refused.1
+heard_not_refused Down machines line heard refused = up_down machines.up (node_of line) refused.3 heard.2 refused.2

@@ -10,7 +10,7 @@ use Rattle.bx_history.specs.Trace.{Entry, Taking, takings}
 use Rattle.bx_history.specs.Parts.{Part, trace_of}
 use Rattle.bx_history.specs.Placed.{Rules, HasReadingSince, IsAnsweredAtOnce, is_immediate_at}
 use Rattle.bx_history.specs.Along.{all_end}
-use Rattle.bx_history.specs.Account.{AwaitsNewest, IsPatient, IsPending, LacksPoint, entry_for}
+use Rattle.bx_history.specs.Account.{AwaitsNewest, IsPatient, IsPending, LacksPoint, answers_at, entry_for}
 use Rattle.bx_history.proofs.Waiting.{all_of, no_prompt}
 
 module _ {Tree : Type 0} (Step : Tree → Entry → Tree → Type 0) (rules : Rules) (patient : IsPatient rules) where
@@ -29,6 +29,7 @@ module _ {Tree : Type 0} (Step : Tree → Entry → Tree → Type 0) (rules : Ru
     waiting_are = λ node. refl;
     pending = λ node. tt;
     in_order = λ node. tt;
+    split = λ node. record { before = answers_at (trace_of parts) node; whole = refl };
   }
 
   -- ---- a call acted that waits no more
@@ -85,4 +86,5 @@ module _ {Tree : Type 0} (Step : Tree → Entry → Tree → Type 0) (rules : Ru
         waiting_are = so_far.waiting_are;
         pending = λ node. waits_on node (waits node) (gone node) (so_far.pending node);
         in_order = so_far.in_order;
+        split = so_far.split;
       }

@@ -1,4 +1,5 @@
 pub mod Numbering
+pub mod Since
 pub mod Waiting
 pub mod Whole
 pub mod Spelled

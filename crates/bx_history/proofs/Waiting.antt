@@ -1,4 +1,5 @@
--- An account goes on by a part, in a stage in which calls wait: nothing arrives, or no call; a call is taken; the oldest is answered.
+-- An account goes on by a part, in a stage in which calls wait: nothing arrives, or what isn't taken; an answer is sent again; a call is taken; the oldest
+-- is answered.
 use Rattle.std.proofs.Common.{◌≡◌, ℕ, suc, ◌+◌, ◌<◌, Bool, true, false, cond, List, [], ◌∷◌, ◌++◌, Option, Some, None, refl, sym, ap, subst, ◌∙◌, arith, eqb}
 use Rattle.std.specs.Prelude.{◌≢◌, ◌||◌, ◌&&◌, not, filter, ◌==◌, if◌then◌else◌}
 use Rattle.std.specs.List.{AllByRecursion}
@@ -6,11 +7,12 @@ use Rattle.std.proofs.lemmas.Bool.{eq-eqb, eqb-true, ne_eqb, not-true, or_from, 
 use Rattle.bx_base.specs.declared.names.Point.{Point}
 use Rattle.bx_script.specs.declared.trace_line.TraceLine.{TraceLine}
 use Rattle.bx_script.specs.declared.trace_line.TraceLine.TheVariants.{Took, Acted, Reply, Again}
-use Rattle.bx_history.specs.Trace.{Answer, Entry, Taking, takings, taken_count, taking_of, has_point, has_reply}
+use Rattle.bx_history.specs.Trace.{Answer, Entry, IsSentBefore, Taking, answers, takings, taken_count, taking_of, has_point, has_reply, with_answer}
 use Rattle.bx_history.specs.Parts.{Arrival, Happening, Part, trace_of, trace_since, waiting}
-use Rattle.bx_history.specs.Placed.{Rules, HasReadingSince, IsAnsweredAtOnce, again_if, is_immediate_at}
+use Rattle.bx_history.specs.Placed.{Rules, HasReadingSince, IsAnsweredAtOnce, again_by, is_immediate_at, taken_by}
 use Rattle.bx_history.specs.Along.{none_ends}
-use Rattle.bx_history.specs.Account.{AreNewestFirst, AwaitsNewest, entry_for, IsPatient, IsPending, waits_but, waits_with}
+use Rattle.bx_history.specs.Account.{AreNewestFirst, AwaitsNewest, IsPatient, IsPending, IsSplit, answers_at, entry_for, waits_but, waits_with}
+use Rattle.bx_history.proofs.Since.{IsIn, found_whole, in_filter, in_last, taken_since}
 use Rattle.bx_history.proofs.Numbering.{next_has_no_point, next_has_no_reply, taking_bound}
 
 same : (n : ℕ) → eqb n n ≡ true
@@ -100,20 +102,21 @@ module _ {Tree : Type 0} (Step : Tree → Entry → Tree → Type 0) (rules : Ru
     waiting_are = so_far.waiting_are;
     pending = so_far.pending;
     in_order = so_far.in_order;
+    split = so_far.split;
   }
 
-  -- ---- a part in which something arrives that is no call
+  -- ---- a part in which something arrives that isn't taken
 
   pub passed_part : (first : Tree) (parts : List Part) (history : List Entry) (last : Tree) (waits : ℕ → List Taking) (reading : ℕ) (arrival : Arrival)
-      → rules.is_call arrival.bytes ≡ false → AwaitsNewest Step rules first parts history last waits
+      → taken_by rules parts (Some arrival) ≡ [] → again_by rules parts (Some arrival) ≡ [] → AwaitsNewest Step rules first parts history last waits
       → AwaitsNewest Step rules first (record { what = record { arrives = Some arrival; reading = Some reading; ends = none_ends; runs = false }; lines = [] } ∷ parts) history last waits
-  passed_part first parts history last waits reading arrival none so_far = record {
+  passed_part first parts history last waits reading arrival not_taken no_repeat so_far = record {
     fits = so_far.fits;
     leads = so_far.leads;
     placed = (
       record {
-        takes = rw none refl;
-        repeats = rw none refl;
+        takes = sym not_taken;
+        repeats = sym no_repeat;
         immediate = tt;
         prompt = λ is. absurd (no_prompt _ is);
         moments = tt;
@@ -123,23 +126,38 @@ module _ {Tree : Type 0} (Step : Tree → Entry → Tree → Type 0) (rules : Ru
     waiting_are = so_far.waiting_are;
     pending = so_far.pending;
     in_order = so_far.in_order;
+    split = so_far.split;
   }
 
+  -- ---- a part in which an answer is sent again
+
+  pub repeated_part : (first : Tree) (parts : List Part) (history : List Entry) (last : Tree) (waits : ℕ → List Taking) (reading : ℕ) (arrival : Arrival) (reply : List ℕ)
+      → taken_by rules parts (Some arrival) ≡ [] → again_by rules parts (Some arrival) ≡ record { node = arrival.node; client = arrival.client; reply = reply } ∷ []
+      → IsSentBefore rules.kept (trace_of parts) arrival.node arrival.client reply → AwaitsNewest Step rules first parts history last waits
+      → AwaitsNewest Step rules first (record { what = record { arrives = Some arrival; reading = Some reading; ends = none_ends; runs = false }; lines = Again arrival.node arrival.client reply ∷ [] } ∷ parts) history last waits
+  repeated_part first parts history last waits reading arrival reply not_taken repeats sent so_far = record {
+    fits = (sent, so_far.fits);
+    leads = so_far.leads;
+    placed = (
+      record {
+        takes = sym not_taken;
+        repeats = sym repeats;
+        immediate = tt;
+        prompt = λ is. absurd (no_prompt _ is);
+        moments = (tt, tt);
+      },
+      so_far.placed,
+    );
+    waiting_are = so_far.waiting_are;
+    pending = λ node. all_mapped _ _ (waits node) (still_pending node) (so_far.pending node);
+    in_order = so_far.in_order;
+    split = so_far.split;
+  }
+    where
+      still_pending : (node : ℕ) (other : Taking) → IsPending (trace_of parts) node other → IsPending (Again arrival.node arrival.client reply ∷ trace_of parts) node other
+      still_pending node other pending = record { taken = pending.taken; at = pending.at; no_point = pending.no_point; no_reply = pending.no_reply }
+
   -- ---- a call that is taken
-
-  none_again : (b : Bool) (arrival : Arrival) (found : Option Answer) → b ≡ false → again_if b arrival found ≡ []
-  none_again false arrival found is = refl
-  none_again true arrival found is = absurd cc
-
-  wary_not : (a b c : Bool) → b ≡ false → (a && b && c) ≡ false
-  wary_not true false c is = refl
-  wary_not false b c is = refl
-  wary_not true true c is = absurd cc
-
-  each_taken : (a b c : Bool) → a ≡ true → b ≡ false → (a && (not b || c)) ≡ true
-  each_taken true false c is not_is = refl
-  each_taken false b c is not_is = absurd cc
-  each_taken true true c is not_is = absurd cc
 
   -- the test for a call that isn't the one that was taken
   not_this : (here : Bool) (taking : Taking) (found : Option Taking) → here ≡ false → (if here then Some taking else found) ≡ found
@@ -147,7 +165,8 @@ module _ {Tree : Type 0} (Step : Tree → Entry → Tree → Type 0) (rules : Ru
   not_this true taking found is = absurd cc
 
   module _ (first : Tree) (parts : List Part) (history : List Entry) (last : Tree) (waits : ℕ → List Taking) (reading : ℕ) (taking : Taking)
-      (is_call : rules.is_call taking.bytes ≡ true) (number : taking.call ≡ taken_count (trace_of parts) + 1)
+      (is_taken : taken_by rules parts (Some (record { node = taking.node; client = taking.client; bytes = taking.bytes })) ≡ record { node = taking.node; client = taking.client; bytes = taking.bytes } ∷ [])
+      (no_repeat : again_by rules parts (Some (record { node = taking.node; client = taking.client; bytes = taking.bytes })) ≡ []) (number : taking.call ≡ taken_count (trace_of parts) + 1)
       (so_far : AwaitsNewest Step rules first parts history last waits) where
     abbrev taken_part : Part
     taken_part = record {
@@ -215,8 +234,8 @@ module _ {Tree : Type 0} (Step : Tree → Entry → Tree → Type 0) (rules : Ru
       leads = so_far.leads;
       placed = (
         record {
-          takes = rw (each_taken _ _ _ is_call patient.takes_each) refl;
-          repeats = sym (none_again _ _ _ (wary_not _ _ _ patient.takes_each));
+          takes = sym is_taken;
+          repeats = sym no_repeat;
           immediate = (late, tt);
           prompt = λ is. absurd (no_prompt _ is);
           moments = (tt, tt);
@@ -226,6 +245,7 @@ module _ {Tree : Type 0} (Step : Tree → Entry → Tree → Type 0) (rules : Ru
       waiting_are = waiting_now;
       pending = pending_now;
       in_order = order_now;
+      split = so_far.split;
     }
 
   -- ---- the oldest call is answered, in a run
@@ -311,6 +331,43 @@ module _ {Tree : Type 0} (Step : Tree → Entry → Tree → Type 0) (rules : Ru
           by true = above.1
           by false = so_far.in_order at
 
+      -- the answer is the newest that the node sent, also since it ended
+      in_waiting : IsIn taking (waiting (run_before ∷ older) node)
+      in_waiting = subst (IsIn taking) (sym (so_far.waiting_are node ∙ oldest)) (in_last front taking)
+
+      taken_there : taking_of (trace_since (run_before ∷ older) node) point.call ≡ Some taking
+      taken_there = subst (λ (call : ℕ). taking_of (trace_since (run_before ∷ older) node) call ≡ Some taking) (sym of)
+          (taken_since (run_before ∷ older) node taking taking (in_filter _ (takings (trace_since (run_before ∷ older) node)) taking in_waiting) here.1.taken)
+
+      pub one_more : (at : ℕ) → answers_at (trace_since (run_after ∷ older) at) at
+          ≡ (if taking.node == at then record { node = taking.node; client = taking.client; bytes = taking.bytes; reply = reply } ∷ answers_at (trace_since (run_before ∷ older) at) at else answers_at (trace_since (run_before ∷ older) at) at)
+      one_more at = by (taking.node == at) refl
+        where
+          answer : Answer
+          answer = record { node = taking.node; client = taking.client; bytes = taking.bytes; reply = reply }
+
+          elsewhere : (found : Option Taking) → (taking.node == at) ≡ false → ((other : Taking) → found ≡ Some other → other ≡ taking)
+              → filter (λ a. a.node == at) (with_answer found reply (answers (trace_since (run_before ∷ older) at))) ≡ answers_at (trace_since (run_before ∷ older) at) at
+          elsewhere None apart is_it = refl
+          elsewhere (Some other) apart is_it = rw (is_it other refl, apart) refl
+
+          only : (other : Taking) → taking_of (trace_since (run_before ∷ older) at) point.call ≡ Some other → other ≡ taking
+          only other found = let whole = found_whole (run_before ∷ older) at point.call other found in let both : Some other ≡ Some taking = sym whole ∙ is_this in cc
+
+          by : (b : Bool) → (taking.node == at) ≡ b → answers_at (trace_since (run_after ∷ older) at) at ≡ (if b then answer ∷ answers_at (trace_since (run_before ∷ older) at) at else answers_at (trace_since (run_before ∷ older) at) at)
+          by true is =
+              let found : taking_of (trace_since (run_before ∷ older) at) point.call ≡ Some taking = subst (λ (n : ℕ). taking_of (trace_since (run_before ∷ older) n) point.call ≡ Some taking) (sym here.1.at ∙ eqb-true taking.node at is) taken_there in
+              rw (found, is) refl
+          by false is = elsewhere (taking_of (trace_since (run_before ∷ older) at) point.call) is only
+
+      split_then : (at : ℕ) → IsSplit (answers_at (trace_of (run_after ∷ older)) at) (answers_at (trace_since (run_after ∷ older) at) at)
+      split_then at = record { before = (so_far.split at).before; whole = rw (one_more at, is_this) (by (taking.node == at)) }
+        where
+          by : (b : Bool) → (if b then record { node = taking.node; client = taking.client; bytes = taking.bytes; reply = reply } ∷ answers_at (trace_of (run_before ∷ older)) at else answers_at (trace_of (run_before ∷ older)) at)
+              ≡ (if b then record { node = taking.node; client = taking.client; bytes = taking.bytes; reply = reply } ∷ answers_at (trace_since (run_before ∷ older) at) at else answers_at (trace_since (run_before ∷ older) at) at) ++ (so_far.split at).before
+          by true = ap (λ (l : List Answer). record { node = taking.node; client = taking.client; bytes = taking.bytes; reply = reply } ∷ l) (so_far.split at).whole
+          by false = (so_far.split at).whole
+
       pub answered_oldest : AwaitsNewest Step rules first (run_after ∷ older) (entry_for taking point reply ∷ history) next (waits_but node front waits)
       answered_oldest = record {
         fits = (
@@ -334,6 +391,7 @@ module _ {Tree : Type 0} (Step : Tree → Entry → Tree → Type 0) (rules : Ru
         waiting_are = waiting_then;
         pending = pending_then;
         in_order = order_then;
+        split = split_then;
       }
         where
           never : (t : Taking) → IsAnsweredAtOnce rules older run_after t

@@ -1,12 +1,12 @@
 -- The trace of a run is that of one history.
-use Rattle.std.specs.Prelude.{◌≡◌, ℕ, ◌<◌, ◌==◌, if◌then◌else◌, false, List, [], ◌∷◌, ◌++◌, Some}
+use Rattle.std.specs.Prelude.{◌≡◌, ℕ, ◌<◌, ◌==◌, if◌then◌else◌, false, List, [], ◌∷◌, ◌++◌, filter, Some}
 use Rattle.std.specs.List.{AllByRecursion}
 use Rattle.bx_base.specs.declared.names.Point.{Point}
 use Rattle.bx_script.specs.declared.line.Line.{Line}
 use Rattle.bx_script.specs.declared.trace_line.TraceLine.{TraceLine}
-use Rattle.bx_history.specs.Trace.{Entry, Taking, FitsNewest, Fits, has_point, has_reply, taking_of}
+use Rattle.bx_history.specs.Trace.{Answer, Entry, Taking, FitsNewest, Fits, answers, has_point, has_reply, taking_of}
 use Rattle.bx_history.specs.Legal.{LeadsNewest, Leads}
-use Rattle.bx_history.specs.Parts.{Happening, Part, trace_of, waiting}
+use Rattle.bx_history.specs.Parts.{Happening, Part, trace_of, trace_since, waiting}
 use Rattle.bx_history.specs.Placed.{Rules, PlacedNewest}
 use Rattle.bx_history.specs.Along.{IsPlaced}
 
@@ -27,8 +27,17 @@ abbrev pub AreNewestFirst : List Taking → Type 0
 AreNewestFirst [] = Unit {0}
 AreNewestFirst (taking ∷ older) = AllByRecursion (λ other. other.call < taking.call) older × AreNewestFirst older
 
+-- the answers that a node sent, the newest first
+abbrev pub answers_at : List TraceLine → ℕ → List Answer
+answers_at trace node = filter (λ answer. answer.node == node) (answers trace)
+
+-- answers, the newest first, are these, and others behind them
+pub record IsSplit (all newest : List Answer) : Type 0 where
+  pub before : List Answer
+  pub whole : all ≡ newest ++ before
+
 -- Parts so far, the newest first, fit one history, which leads from the one tree to the other. These calls wait at each node, the newest
--- first, and none of them has a point.
+-- first, and none of them has a point. What a node sent since it last ended is the newest of all that it sent.
 pub record AwaitsNewest {Tree : Type 0} (Step : Tree → Entry → Tree → Type 0) (rules : Rules) (first : Tree) (parts : List Part) (history : List Entry) (last : Tree) (waits : ℕ → List Taking) : Type 0 where
   pub fits : FitsNewest rules.kept (trace_of parts) history
   pub leads : LeadsNewest Step first history last
@@ -36,6 +45,7 @@ pub record AwaitsNewest {Tree : Type 0} (Step : Tree → Entry → Tree → Type
   pub waiting_are : (node : ℕ) → waiting parts node ≡ waits node
   pub pending : (node : ℕ) → AllByRecursion (IsPending (trace_of parts) node) (waits node)
   pub in_order : (node : ℕ) → AreNewestFirst (waits node)
+  pub split : (node : ℕ) → IsSplit (answers_at (trace_of parts) node) (answers_at (trace_since parts node) node)
 
 -- the entry of a call that waited, with its point and its reply
 abbrev pub entry_for : Taking → Point → List ℕ → Entry
@@ -50,9 +60,8 @@ waits_with taking waits node = if taking.node == node then taking ∷ waits node
 abbrev pub waits_but : ℕ → List Taking → (ℕ → List Taking) → ℕ → List Taking
 waits_but home left waits node = if home == node then left else waits node
 
--- A stage in which each call is taken, and nothing is promised of when it is answered.
+-- A stage in which nothing is promised of when a call is answered.
 pub record IsPatient (rules : Rules) : Type 0 where
-  pub takes_each : rules.is_wary ≡ false
   pub not_at_once : (reading : ℕ) (bytes : List ℕ) → rules.is_immediate reading bytes ≡ false
   pub not_prompt : (all : List Happening) → rules.is_prompt all ≡ false
 

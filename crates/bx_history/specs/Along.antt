@@ -23,7 +23,7 @@ happening (Call reading node client bytes) =
 happening (Run reading limit) = record { arrives = None; reading = Some reading; ends = none_ends; runs = true }
 happening (Crash noise) = record { arrives = None; reading = None; ends = all_end; runs = false }
 happening (Restart reading) = record { arrives = None; reading = Some reading; ends = none_ends; runs = false }
-happening (Tick reading) = record { arrives = None; reading = Some reading; ends = none_ends; runs = false }
+happening (Tick reading node) = record { arrives = None; reading = Some reading; ends = none_ends; runs = false }
 
 -- a line of the schedule that was done, with the lines of the trace that came at it, the newest first
 pub record Done : Type 0 where

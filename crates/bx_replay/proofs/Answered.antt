@@ -1,8 +1,8 @@
 -- A replay that stands goes on within a run, and where it is found later that a call acted.
 use Rattle.std.proofs.Common.{◌≡◌, ℕ, Bool, true, false, List, [], ◌∷◌, ◌++◌, Option, Some, None, inl, inr, refl, sym, ap, subst, ◌∙◌, append_assoc}
-use Rattle.std.specs.Prelude.{◌≢◌, ◌==◌, ◌⊎◌, if◌then◌else◌, reverse}
+use Rattle.std.specs.Prelude.{◌≢◌, ◌==◌, ◌⊎◌, if◌then◌else◌, map, reverse}
 use Rattle.std.specs.List.{AllByRecursion}
-use Rattle.std.proofs.lemmas.List.{reverse-append}
+use Rattle.std.proofs.lemmas.List.{map-append, reverse-append}
 use Rattle.bx_base.specs.declared.names.Point.{Point}
 use Rattle.bx_steps.specs.Steps as engine
 use Rattle.bx_script.specs.declared.line.Line.{Line}
@@ -10,19 +10,35 @@ use Rattle.bx_script.specs.declared.line.Line.TheVariants.{Heading, Call, Run, C
 use Rattle.bx_script.specs.declared.trace_line.TraceLine.{TraceLine}
 use Rattle.bx_script.specs.declared.trace_line.TraceLine.TheVariants.{Acted, Reply}
 use Rattle.bx_script.specs.TraceText.{InTraceRange, trace_text}
+use Rattle.bx_desk.specs.Desks.{AtDesk, answer_oldest, answered}
+use Rattle.bx_desk.specs.Nodes.{IsDeskOf, sent_at, taking_at}
+use Rattle.bx_desk.specs.declared.desk.Asked.{Asked}
+use Rattle.bx_desk.proofs.Going.{desk_answered, desk_stays}
+use Rattle.bx_replies.specs.Answers.{Answer}
 use Rattle.bx_history.specs.Trace as traces
-use Rattle.bx_history.specs.Parts.{trace_of}
+use Rattle.bx_history.specs.Parts.{Part, trace_of, trace_since, waiting}
 use Rattle.bx_history.specs.Placed.{HasReadingSince}
 use Rattle.bx_history.specs.Along.{Done, none_ends, parts_of, schedule_of}
-use Rattle.bx_history.specs.Account.{AwaitsNewest, IsPending, LacksPoint, entry_for, waits_but}
+use Rattle.bx_history.specs.Account.{AwaitsNewest, IsPending, LacksPoint, answers_at, entry_for, waits_but}
 use Rattle.bx_history.proofs.Ended.{found_point}
-use Rattle.bx_history.proofs.Waiting.{answered_oldest}
+use Rattle.bx_history.proofs.Waiting.{answered_oldest, one_more}
 use Rattle.bx_model.specs.declared.tree.Tree.{Tree}
 use Rattle.bx_service.specs.Rounds.{Doubt, Finds, Follows, IsBegun, deed_at}
-use Rattle.bx_replay.specs.Headline.{Step, opening_of, rules}
+use Rattle.bx_replay.specs.Headline.{Machines, Step, opening_of, rules}
 use Rattle.bx_replay.specs.Replay.{IsDoubted, Stands, waits_at}
 use Rattle.bx_replay.proofs.Standing.{all_append, awaits_same, lacks_in, oldest_in, patient}
 use Rattle.bx_replay.proofs.TraceTexts.{trace_text-append}
+
+head_is : {A : Type 0} (a b : A) (xs ys : List A) → a ∷ xs ≡ b ∷ ys → a ≡ b
+head_is a b xs ys e = cc
+
+tail_is : {A : Type 0} (a b : A) (xs ys : List A) → a ∷ xs ≡ b ∷ ys → xs ≡ ys
+tail_is a b xs ys e = cc
+
+reverse_map : {A B : Type 0} (f : A → B) (xs : List A) → reverse (map f xs) ≡ map f (reverse xs)
+reverse_map f [] = refl
+reverse_map {B = B} f (x ∷ xs) =
+    reverse-append (f x ∷ []) (map f xs) ∙ ap (λ (l : List B). l ++ f x ∷ []) (reverse_map f xs) ∙ sym (map-append f (reverse xs) (x ∷ [])) ∙ ap (map f) (sym (reverse-append (x ∷ []) xs))
 
 -- what a call did is an entry of the history
 pub entered : (tree next : Tree) (call : traces.Taking) (point : Point) (reply : List ℕ) → engine.Step tree (deed_at call point reply) next → Step tree (entry_for call point reply) next
@@ -58,16 +74,18 @@ doubted_then done reading limit lines waits before now pending doubted follows o
       since = inl (ap Some (sym begun.at));
     }
 
-module _ (reading limit : ℕ) (done : List Done) (start : List ℕ) (tree : Tree) (up : Bool) (waits : List traces.Taking) (doubt : Option Doubt) (calls : ℕ) (lines : List TraceLine) (written : List ℕ)
-    (stands : Stands tree up waits doubt calls (in_run done reading limit lines) start written) where
+module _ (reading limit : ℕ) (done : List Done) (start : List ℕ) (tree : Tree) (machines : Machines) (waits : List traces.Taking) (desk : AtDesk) (doubt : Option Doubt) (calls : ℕ) (lines : List TraceLine) (written : List ℕ)
+    (stands : Stands tree machines waits desk doubt calls (in_run done reading limit lines) start written) where
   -- ---- a round in which no call is answered
 
-  pub stands_waiting : (now : Option Doubt) → Follows reading waits doubt now → Stands tree up waits now calls (in_run done reading limit lines) start written
+  pub stands_waiting : (now : Option Doubt) → Follows reading waits doubt now → Stands tree machines waits desk now calls (in_run done reading limit lines) start written
   stands_waiting now follows = record {
     history = stands.history;
     accounts = stands.accounts;
     counted = stands.counted;
-    up_is = stands.up_is;
+    desk_is = stands.desk_is;
+    desk_waits = stands.desk_waits;
+    machines_are = stands.machines_are;
     doubted = doubted_then done reading limit lines waits doubt now (stands.accounts.pending 0) stands.doubted follows;
     headed = stands.headed;
     are_done = stands.are_done;
@@ -101,13 +119,39 @@ module _ (reading limit : ℕ) (done : List Done) (start : List ℕ) (tree : Tre
     none_before : (none : Doubt) → None ≡ Some none → IsDoubted (in_run done reading limit (Reply point.call reply ∷ Acted point ∷ lines)) none
     none_before none is = absurd cc
 
+    -- the desk without its oldest call, which is answered
+    abbrev DeskThen : AtDesk → Type 0
+    DeskThen now_is = IsDeskOf 0 (parts_of (in_run done reading limit (Reply point.call reply ∷ Acted point ∷ lines))) now_is × (rest ≡ map (taking_at 0) now_is.waits)
+
+    sent_here : (asked : Asked) → taking_at 0 asked ≡ call
+        → answers_at (trace_since (parts_of (in_run done reading limit (Reply point.call reply ∷ Acted point ∷ lines))) 0) 0
+        ≡ sent_at 0 (record { client = asked.client; call = asked.bytes; reply = reply }) ∷ answers_at (trace_since (parts_of (in_run done reading limit lines)) 0) 0
+    sent_here asked is =
+        let more = one_more Step rules patient (opening_of (schedule_of (in_run done reading limit lines))) (parts_of done) stands.history tree next (waits_at waits) (Some reading) lines 0 (reverse rest) call point reply
+            stands.accounts newest of moment (entered tree next call point reply step) 0 in
+        rw (← is) at more
+
+    desk_then : (asked : List Asked) (kept : List Answer) → IsDeskOf 0 (parts_of (in_run done reading limit lines)) (record { waits = asked; kept = kept }) → waits ≡ map (taking_at 0) asked → DeskThen (answer_oldest asked kept reply)
+    desk_then [] kept is same = absurd (let both : call ∷ rest ≡ [] = sym oldest ∙ same in cc)
+    desk_then (asked ∷ others) kept is same =
+        let both : call ∷ rest ≡ taking_at 0 asked ∷ map (taking_at 0) others = sym oldest ∙ same in
+        let behind : rest ≡ map (taking_at 0) others = tail_is call (taking_at 0 asked) rest (map (taking_at 0) others) both in
+        let waiting_now : waiting (parts_of (in_run done reading limit (Reply point.call reply ∷ Acted point ∷ lines))) 0 ≡ map (taking_at 0) (reverse others) = accounts_now.waiting_are 0 ∙ ap reverse behind ∙ reverse_map (taking_at 0) others in
+        (
+          desk_answered 0 (parts_of (in_run done reading limit lines)) (parts_of (in_run done reading limit (Reply point.call reply ∷ Acted point ∷ lines))) asked others kept reply is waiting_now
+              (sent_here asked (sym (head_is call (taking_at 0 asked) rest (map (taking_at 0) others) both))),
+          behind,
+        )
+
     pub stands_answered : AllByRecursion InTraceRange (Acted point ∷ Reply point.call reply ∷ [])
-        → Stands next up rest now calls (in_run done reading limit (Reply point.call reply ∷ Acted point ∷ lines)) start (written ++ trace_text (Acted point ∷ Reply point.call reply ∷ []))
+        → Stands next machines rest (answered desk reply) now calls (in_run done reading limit (Reply point.call reply ∷ Acted point ∷ lines)) start (written ++ trace_text (Acted point ∷ Reply point.call reply ∷ []))
     stands_answered in_range = record {
       history = entry_for call point reply ∷ stands.history;
       accounts = accounts_now;
       counted = stands.counted;
-      up_is = stands.up_is;
+      desk_is = (desk_then desk.waits desk.kept stands.desk_is stands.desk_waits).0;
+      desk_waits = (desk_then desk.waits desk.kept stands.desk_is stands.desk_waits).1;
+      machines_are = stands.machines_are;
       doubted = doubted_then done reading limit (Reply point.call reply ∷ Acted point ∷ lines) rest None now (accounts_now.pending 0) none_before follows;
       headed = stands.headed;
       are_done = stands.are_done;
@@ -117,13 +161,15 @@ module _ (reading limit : ℕ) (done : List Done) (start : List ℕ) (tree : Tre
 
 -- ---- less is in doubt
 
-pub stands_but : (tree : Tree) (up : Bool) (waits : List traces.Taking) (doubt now : Option Doubt) (calls : ℕ) (done : List Done) (start written : List ℕ) → Stands tree up waits doubt calls done start written
-    → ((of : Doubt) → now ≡ Some of → doubt ≡ Some of) → Stands tree up waits now calls done start written
-stands_but tree up waits doubt now calls done start written stands was = record {
+pub stands_but : (tree : Tree) (machines : Machines) (waits : List traces.Taking) (desk : AtDesk) (doubt now : Option Doubt) (calls : ℕ) (done : List Done) (start written : List ℕ) → Stands tree machines waits desk doubt calls done start written
+    → ((of : Doubt) → now ≡ Some of → doubt ≡ Some of) → Stands tree machines waits desk now calls done start written
+stands_but tree machines waits desk doubt now calls done start written stands was = record {
   history = stands.history;
   accounts = stands.accounts;
   counted = stands.counted;
-  up_is = stands.up_is;
+  desk_is = stands.desk_is;
+  desk_waits = stands.desk_waits;
+  machines_are = stands.machines_are;
   doubted = λ of is. stands.doubted of (was of is);
   headed = stands.headed;
   are_done = stands.are_done;
@@ -140,7 +186,7 @@ MayFind (Call reading node client datagram) = ⊥
 MayFind (Run reading limit) = Unit {0}
 MayFind (Crash noise) = ⊥
 MayFind (Restart reading) = Unit {0}
-MayFind (Tick reading) = ⊥
+MayFind (Tick reading node) = ⊥
 
 abbrev pub at_line : Line → List TraceLine → List Done → List Done
 at_line line lines done = record { line = line; lines = lines } ∷ done
@@ -156,7 +202,16 @@ found_at first last next done history waits (Run reading limit) lines call point
 found_at first last next done history waits (Crash noise) lines call point reply may so_far lacks of gone since step = absurd may
 found_at first last next done history waits (Restart reading) lines call point reply may so_far lacks of gone since step =
     found_point Step rules patient first (parts_of done) history last next waits (Some reading) none_ends false lines call point reply so_far lacks of gone since step
-found_at first last next done history waits (Tick reading) lines call point reply may so_far lacks of gone since step = absurd may
+found_at first last next done history waits (Tick reading node) lines call point reply may so_far lacks of gone since step = absurd may
+
+-- the desk stays as it is
+found_desk : (line : Line) → MayFind line → (lines : List TraceLine) (done : List Done) (desk : AtDesk) (point : Point) → IsDeskOf 0 (parts_of (at_line line lines done)) desk → IsDeskOf 0 (parts_of (at_line line (Acted point ∷ lines) done)) desk
+found_desk (Heading volume nodes devices areas) may lines done desk point is = absurd may
+found_desk (Call reading node client datagram) may lines done desk point is = absurd may
+found_desk (Run reading limit) may lines done desk point is = desk_stays 0 (parts_of (at_line (Run reading limit) lines done)) (parts_of (at_line (Run reading limit) (Acted point ∷ lines) done)) desk is refl refl
+found_desk (Crash noise) may lines done desk point is = absurd may
+found_desk (Restart reading) may lines done desk point is = desk_stays 0 (parts_of (at_line (Restart reading) lines done)) (parts_of (at_line (Restart reading) (Acted point ∷ lines) done)) desk is refl refl
+found_desk (Tick reading node) may lines done desk point is = absurd may
 
 pub all_reversed : {A : Type 0} (P : A → Type 0) (xs : List A) → AllByRecursion P xs → AllByRecursion P (reverse xs)
 all_reversed P [] h = tt
@@ -169,8 +224,8 @@ gone_at P waits all node = by (0 == node)
     by true = all_reversed P waits all
     by false = tt
 
-module _ (Holds : Tree → Option Doubt → Type 0) (line : Line) (may : MayFind line) (done : List Done) (start : List ℕ) (tree : Tree) (up : Bool) (waits : List traces.Taking) (before : Option Doubt) (calls : ℕ) (lines : List TraceLine) (written : List ℕ)
-    (stands : Stands tree up waits before calls (at_line line lines done) start written) (point : Point) (finds : Finds Holds waits tree before point) where
+module _ (Holds : Tree → Option Doubt → Type 0) (line : Line) (may : MayFind line) (done : List Done) (start : List ℕ) (tree : Tree) (machines : Machines) (waits : List traces.Taking) (desk : AtDesk) (before : Option Doubt) (calls : ℕ) (lines : List TraceLine) (written : List ℕ)
+    (stands : Stands tree machines waits desk before calls (at_line line lines done) start written) (point : Point) (finds : Finds Holds waits tree before point) where
   told_found : trace_text (reverse (Acted point ∷ trace_of (parts_of (at_line line lines done)))) ≡ trace_text (reverse (trace_of (parts_of (at_line line lines done)))) ++ trace_text (Acted point ∷ [])
   told_found = ap trace_text (reverse-append (Acted point ∷ []) (trace_of (parts_of (at_line line lines done)))) ∙ trace_text-append (reverse (trace_of (parts_of (at_line line lines done)))) (Acted point ∷ [])
 
@@ -183,12 +238,14 @@ module _ (Holds : Tree → Option Doubt → Type 0) (line : Line) (may : MayFind
       (subst (λ (p : Point). HasReadingSince p.call p.moment (parts_of (at_line line lines done))) finds.at was.since)
       (subst (λ (p : Point). Step tree (entry_for finds.doubt.call p finds.acts.reply) finds.next) finds.at (entered tree finds.next finds.doubt.call finds.doubt.point finds.acts.reply finds.acts.step))
 
-  pub stands_found : AllByRecursion InTraceRange (Acted point ∷ []) → Stands finds.next up waits None calls (at_line line (Acted point ∷ lines) done) start (written ++ trace_text (Acted point ∷ []))
+  pub stands_found : AllByRecursion InTraceRange (Acted point ∷ []) → Stands finds.next machines waits desk None calls (at_line line (Acted point ∷ lines) done) start (written ++ trace_text (Acted point ∷ []))
   stands_found in_range = record {
     history = entry_for finds.doubt.call point finds.acts.reply ∷ stands.history;
     accounts = accounts_found;
     counted = stands.counted;
-    up_is = stands.up_is;
+    desk_is = found_desk line may lines done desk point stands.desk_is;
+    desk_waits = stands.desk_waits;
+    machines_are = stands.machines_are;
     doubted = λ of is. absurd (none_is of is);
     headed = stands.headed;
     are_done = stands.are_done;

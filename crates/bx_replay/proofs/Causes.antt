@@ -19,17 +19,17 @@ pub rises : (a b c : ℕ) → a ≤ b → b ≤ c → a ≤ c
 rises a b c first then_on = omega arith
 
 -- lines that aren't ticks
-pub call_no_tick : (line : Line) (reading moment node client : ℕ) (datagram : List ℕ) → line ≡ Call moment node client datagram → line ≡ Tick reading → ⊥
-call_no_tick line reading moment node client datagram call tick = cc
+pub call_no_tick : (line : Line) (reading at moment node client : ℕ) (datagram : List ℕ) → line ≡ Call moment node client datagram → line ≡ Tick reading at → ⊥
+call_no_tick line reading at moment node client datagram call tick = cc
 
-pub run_no_tick : (line : Line) (reading moment limit : ℕ) → line ≡ Run moment limit → line ≡ Tick reading → ⊥
-run_no_tick line reading moment limit run tick = cc
+pub run_no_tick : (line : Line) (reading node moment limit : ℕ) → line ≡ Run moment limit → line ≡ Tick reading node → ⊥
+run_no_tick line reading node moment limit run tick = cc
 
-pub crash_no_tick : (line : Line) (reading : ℕ) (noise : Noise) → line ≡ Crash noise → line ≡ Tick reading → ⊥
-crash_no_tick line reading noise crash tick = cc
+pub crash_no_tick : (line : Line) (reading node : ℕ) (noise : Noise) → line ≡ Crash noise → line ≡ Tick reading node → ⊥
+crash_no_tick line reading node noise crash tick = cc
 
-pub restart_no_tick : (line : Line) (reading moment : ℕ) → line ≡ Restart moment → line ≡ Tick reading → ⊥
-restart_no_tick line reading moment restart tick = cc
+pub restart_no_tick : (line : Line) (reading node moment : ℕ) → line ≡ Restart moment → line ≡ Tick reading node → ⊥
+restart_no_tick line reading node moment restart tick = cc
 
 module _ {A P : Type 0} where
   pub on_ok : (r : Result A Stop) → P → OnOk r P

@@ -13,36 +13,36 @@ use Rattle.bx_stops.specs.declared.stop.Stop.{Stop}
 use Rattle.bx_stops.specs.declared.stop.Stop.TheVariants as stops
 use Rattle.bx_replay.specs.Bench.{HoldsAny}
 use Rattle.bx_replay.specs.Course.{AtFirst, ByLine, CameTo, IsPlayed, Moves, all_crashed}
-use Rattle.bx_replay.specs.Headline.{IsHeard, IsInPlace, up_after}
+use Rattle.bx_replay.specs.Headline.{IsHeard, IsInPlace, Machines, after_line, machines_at}
 use Rattle.bx_replay.specs.Replay.{HasLineCause, HasStepCause, IsRead}
 use Rattle.bx_replay.proofs.ReadLines.{all_read, heading_read, reads_on}
 
--- The text was read up to the rest, and the service and its disks came to this along the lines that were read.
-pub record HasCome {S : Type 0} (rests returns : S → Bool) (turns : ℕ → On S → On S → Type 0) (up : Bool) (text rest : List ℕ) (number : ℕ) (now : On S) : Type 0 where
-  pub read : IsRead up text rest number
+-- The text was read machines to the rest, and the service and its disks came to this along the lines that were read.
+pub record HasCome {S : Type 0} (rests returns : S → Bool) (turns : ℕ → On S → On S → Type 0) (machines : Machines) (text rest : List ℕ) (number : ℕ) (now : On S) : Type 0 where
+  pub read : IsRead machines text rest number
   pub came : CameTo rests returns turns (reverse read.done) now
 
 module _ {S : Type 0} (rests returns : S → Bool) (turns : ℕ → On S → On S → Type 0) where
   pub comes_first : (text rest : List ℕ) (volume nodes devices areas : ℕ) (now : On S) → IsInPlace true (Heading volume nodes devices areas)
-      → BeginsWith text (spelling (Heading volume nodes devices areas)) rest → HoldsAny now.disks → HasCome rests returns turns true text rest 1 now
+      → BeginsWith text (spelling (Heading volume nodes devices areas)) rest → HoldsAny now.disks → HasCome rests returns turns (machines_at true 0) text rest 1 now
   comes_first text rest volume nodes devices areas now place begins held = record {
     read = heading_read text rest volume nodes devices areas place begins;
     came = AtFirst (Heading volume nodes devices areas) now held;
   }
 
-  pub comes_on : (up now_up : Bool) (text rest next : List ℕ) (number : ℕ) (line : Line) (old new : On S) → HasCome rests returns turns up text rest number old → number < 4294967295
-      → BeginsWith rest (spelling line) next → IsInPlace ((number + 1) == 1) line → IsHeard up line × (now_up ≡ up_after line up) → Moves rests returns turns line up old new → HoldsAny new.disks
-      → HasCome rests returns turns now_up text next (number + 1) new
-  comes_on up now_up text rest next number line old new come few begins place hears moves held = record {
-    read = reads_on up now_up text rest next number line come.read few begins place hears;
+  pub comes_on : (machines machines_now : Machines) (text rest next : List ℕ) (number : ℕ) (line : Line) (old new : On S) → HasCome rests returns turns machines text rest number old → number < 4294967295
+      → BeginsWith rest (spelling line) next → IsInPlace ((number + 1) == 1) line → IsHeard machines line × (machines_now ≡ after_line line machines) → Moves rests returns turns line machines.up old new → HoldsAny new.disks
+      → HasCome rests returns turns machines_now text next (number + 1) new
+  comes_on machines machines_now text rest next number line old new come few begins place hears moves held = record {
+    read = reads_on machines machines_now text rest next number line come.read few begins place hears;
     came = subst (λ (lines : List Line). CameTo rests returns turns lines new) (sym (reverse-append come.read.done (line ∷ [])))
-        (ByLine line (reverse come.read.done) old new come.came (subst (λ (b : Bool). Moves rests returns turns line b old new) come.read.up_is moves) held);
+        (ByLine line (reverse come.read.done) old new come.came (subst (λ (m : Machines). Moves rests returns turns line m.up old new) come.read.machines_are moves) held);
   }
 
-  pub all_come : (up : Bool) (text : List ℕ) (number : ℕ) (last : On S) (disks : Disks) → HasCome rests returns turns up text [] number last → disks ≡ all_crashed last.disks Drop
+  pub all_come : (machines : Machines) (text : List ℕ) (number : ℕ) (last : On S) (disks : Disks) → HasCome rests returns turns machines text [] number last → disks ≡ all_crashed last.disks Drop
       → IsPlayed rests returns turns text disks
-  all_come up text number last disks come dropped = record {
-    input = all_read up text number come.read;
+  all_come machines text number last disks come dropped = record {
+    input = all_read machines text number come.read;
     last = last;
     came = come.came;
     dropped = dropped;

@@ -9,6 +9,7 @@ use Rattle.bx_script.specs.declared.trace_line.TraceLine.{TraceLine}
 use Rattle.bx_script.specs.declared.trace_line.TraceLine.TheVariants.{Acted}
 use Rattle.bx_script.specs.TraceText.{InTraceRange, trace_text}
 use Rattle.bx_script.proofs.TraceLines.{trace_text_injective}
+use Rattle.bx_desk.specs.Desks.{AtDesk}
 use Rattle.bx_history.specs.Trace as traces
 use Rattle.bx_history.specs.Legal.{LeadsNewest}
 use Rattle.bx_history.specs.Parts.{trace_of}
@@ -20,7 +21,7 @@ use Rattle.bx_model.specs.declared.entry.Entry.{Entry}
 use Rattle.bx_model.specs.declared.tree.Tree.{Tree}
 use Rattle.bx_model.specs.History.{IsStep}
 use Rattle.bx_model.specs.Opening.{opening}
-use Rattle.bx_replay.specs.Headline.{rules, opening_of, AreTyped, Step, Headline}
+use Rattle.bx_replay.specs.Headline.{rules, opening_of, AreTyped, Machines, Step, Headline}
 use Rattle.bx_service.specs.Rounds.{Doubt, Tells}
 use Rattle.bx_replay.specs.Replay.{Stands, waits_at}
 use Rattle.bx_replay.proofs.OneHistory.{step_once}
@@ -79,7 +80,7 @@ headline_of done closing last accounts in_range =
           (one.0 ∙ reverse-reverse accounts.history, one.1);
     }
 
-module _ (tree : Tree) (up : Bool) (waits : List traces.Taking) (doubt : Option Doubt) (calls : ℕ) (done : List Done) (start written : List ℕ) (stands : Stands tree up waits doubt calls done start written) where
+module _ (tree : Tree) (machines : Machines) (waits : List traces.Taking) (desk : AtDesk) (doubt : Option Doubt) (calls : ℕ) (done : List Done) (start written : List ℕ) (stands : Stands tree machines waits desk doubt calls done start written) where
   in_range : AllByRecursion InTraceRange (reverse (trace_of (parts_of done)))
   in_range = all_reversed InTraceRange (trace_of (parts_of done)) stands.in_range
 

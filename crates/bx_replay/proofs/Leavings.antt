@@ -6,8 +6,9 @@ use Rattle.bx_model.specs.declared.tree.Tree.{Tree}
 use Rattle.bx_script.specs.declared.line.Line.{Line}
 use Rattle.bx_script.specs.ScheduleLine.{spelling}
 use Rattle.bx_script.specs.declared.trace_line.TraceLine.{TraceLine}
-use Rattle.bx_replay.specs.Headline.{IsInPlace}
+use Rattle.bx_replay.specs.Headline.{IsInPlace, Machines}
 use Rattle.bx_service.specs.Rounds.{Doubt}
+use Rattle.bx_desk.specs.Desks.{AtDesk}
 use Rattle.bx_history.specs.Trace as traces
 use Rattle.bx_stops.specs.declared.stop.Stop.{Stop}
 use Rattle.bx_stops.specs.declared.stop.Stop.TheVariants as stops
@@ -26,58 +27,58 @@ begin_stops Holds calls Tells Stands stops.WriteFault text rest left start befor
 begin_stops Holds calls Tells Stands stops.DiskFault text rest left start before now bench_before bench_now cause begins = λ _. begins_broken text start
 begin_stops Holds calls Tells Stands stops.OutOfMemory text rest left start before now bench_before bench_now cause begins = λ _. begins_broken text start
 
-module _ (Tells : Type 0) (Stands : Tree → List TraceLine → Type 0) (Holds : Tree → Option Doubt → Type 0) (up : Bool) (waits : List traces.Taking) (calls : ℕ) where
+module _ (Tells : Type 0) (Stands : Tree → List TraceLine → Type 0) (Holds : Tree → Option Doubt → Type 0) (machines : Machines) (waits : List traces.Taking) (desk : AtDesk) (calls : ℕ) where
   pub line_stops : (stop : Stop) (text rest next left start written : List ℕ) (number : ℕ) (before now : ℕ)
-      → IsRead up text rest number → (Tells → Going Holds up waits calls text rest number start written) → HasLineCause stop (number + 1) before now → GivesLine (Err stop) (number + 1) rest next left
+      → IsRead machines text rest number → (Tells → Going Holds machines waits desk calls text rest number start written) → HasLineCause stop (number + 1) before now → GivesLine (Err stop) (number + 1) rest next left
       → Leaves Tells Stands (Err stop) text left start written
   line_stops (stops.Refused line reason) text rest next left start written number before now so_far going cause gives =
-      rw (cause.0, cause.1) (refused_outside up text rest number so_far gives, λ tells. stops_outside Holds up waits calls text rest number start written (going tells) gives)
+      rw (cause.0, cause.1) (refused_outside machines text rest number so_far gives, λ tells. stops_outside Holds machines waits desk calls text rest number start written (going tells) gives)
   line_stops stops.ReadFault text rest next left start written number before now so_far going cause gives = (
-    cut_at up text rest gives.0 left number so_far gives.1 gives.2 gives.3,
-    λ tells. stops_cut Holds up waits calls text rest number start written (going tells) gives.0 left gives.1 gives.2 gives.3,
+    cut_at machines text rest gives.0 left number so_far gives.1 gives.2 gives.3,
+    λ tells. stops_cut Holds machines waits desk calls text rest number start written (going tells) gives.0 left gives.1 gives.2 gives.3,
   )
   line_stops stops.WriteFault text rest next left start written number before now so_far going cause gives = absurd cause
   line_stops stops.DiskFault text rest next left start written number before now so_far going cause gives = absurd cause
   line_stops stops.OutOfMemory text rest next left start written number before now so_far going cause gives =
-      λ tells. stops_broken Holds up waits calls text rest number start written (going tells)
+      λ tells. stops_broken Holds machines waits desk calls text rest number start written (going tells)
 
   pub step_stops : (After : Tells → Type 0) (stop : Stop) (text rest next left start old new : List ℕ) (number : ℕ) (line : Line) (before now : ℕ)
-      → IsRead up text rest number → (going : Tells → Going Holds up waits calls text rest number start old) → number < 4294967295 → BeginsWith rest (spelling line) next
-      → IsInPlace ((number + 1) == 1) line → HasStepCause stop (number + 1) before now → (now_up : Bool) → Hears (Err stop) up now_up line
+      → IsRead machines text rest number → (going : Tells → Going Holds machines waits desk calls text rest number start old) → number < 4294967295 → BeginsWith rest (spelling line) next
+      → IsInPlace ((number + 1) == 1) line → HasStepCause stop (number + 1) before now → (machines_now : Machines) → Hears (Err stop) machines machines_now line
       → ((tells : Tells) → DoesLine (Err stop) (After tells) line (going tells).done start old new)
       → Leaves Tells Stands (Err stop) text left start new
-  step_stops After (stops.Refused n reason) text rest next left start old new number line before now so_far going few begins place cause now_up hears does =
+  step_stops After (stops.Refused n reason) text rest next left start old new number line before now so_far going few begins place cause machines_now hears does =
       rw cause (
-        refused_line up text rest next number line so_far few begins place reason hears,
-        λ tells. rw (does tells) (stops_refused Holds up waits calls text rest number start old (going tells) reason line next few begins place hears),
+        refused_line machines text rest next number line so_far few begins place reason hears,
+        λ tells. rw (does tells) (stops_refused Holds machines waits desk calls text rest number start old (going tells) reason line next few begins place hears),
       )
-  step_stops After stops.ReadFault text rest next left start old new number line before now so_far going few begins place cause now_up hears does = absurd cause
-  step_stops After stops.WriteFault text rest next left start old new number line before now so_far going few begins place cause now_up hears does =
-      λ tells. stops_torn Holds up waits calls text rest next number line start old new (going tells) begins (does tells)
-  step_stops After stops.DiskFault text rest next left start old new number line before now so_far going few begins place cause now_up hears does = absurd cause
-  step_stops After stops.OutOfMemory text rest next left start old new number line before now so_far going few begins place cause now_up hears does =
+  step_stops After stops.ReadFault text rest next left start old new number line before now so_far going few begins place cause machines_now hears does = absurd cause
+  step_stops After stops.WriteFault text rest next left start old new number line before now so_far going few begins place cause machines_now hears does =
+      λ tells. stops_torn Holds machines waits desk calls text rest next number line start old new (going tells) begins (does tells)
+  step_stops After stops.DiskFault text rest next left start old new number line before now so_far going few begins place cause machines_now hears does = absurd cause
+  step_stops After stops.OutOfMemory text rest next left start old new number line before now so_far going few begins place cause machines_now hears does =
       λ tells. by tells (does tells)
     where
       by : (tells : Tells) → (new ≡ old) ⊎ BreaksAfter line (going tells).done start new → Wrote start new (IsBroken text)
-      by tells (inl same) = rw same (stops_broken Holds up waits calls text rest number start old (going tells))
-      by tells (inr torn) = stops_torn Holds up waits calls text rest next number line start old new (going tells) begins torn
+      by tells (inl same) = rw same (stops_broken Holds machines waits desk calls text rest number start old (going tells))
+      by tells (inr torn) = stops_torn Holds machines waits desk calls text rest next number line start old new (going tells) begins torn
 
   finish_stops : (stop : Stop) (text left start old new : List ℕ) (number : ℕ) (before now : ℕ) (Held : Type 0) (bench_before bench_now : ℕ)
-      → (going : Tells → Going Holds up waits calls text [] number start old) → HasFinishCause stop before now Held bench_before bench_now
+      → (going : Tells → Going Holds machines waits desk calls text [] number start old) → HasFinishCause stop before now Held bench_before bench_now
       → ((tells : Tells) → IsEndedShort (going tells).tree (going tells).doubt old new) → Leaves Tells Stands (Err stop) text left start new
   finish_stops (stops.Refused n reason) text left start old new number before now Held bench_before bench_now going cause part = absurd cause
   finish_stops stops.ReadFault text left start old new number before now Held bench_before bench_now going cause part = absurd cause
   finish_stops stops.WriteFault text left start old new number before now Held bench_before bench_now going cause part =
-      λ tells. stops_unfinished Holds up waits calls text number start old new (going tells) (part tells)
+      λ tells. stops_unfinished Holds machines waits desk calls text number start old new (going tells) (part tells)
   finish_stops stops.DiskFault text left start old new number before now Held bench_before bench_now going cause part =
-      λ tells. stops_unfinished Holds up waits calls text number start old new (going tells) (part tells)
+      λ tells. stops_unfinished Holds machines waits desk calls text number start old new (going tells) (part tells)
   finish_stops stops.OutOfMemory text left start old new number before now Held bench_before bench_now going cause part =
-      λ tells. stops_unfinished Holds up waits calls text number start old new (going tells) (part tells)
+      λ tells. stops_unfinished Holds machines waits desk calls text number start old new (going tells) (part tells)
 
   pub finish_leaves : (r : Result (Unit {0}) Stop) (text left start old new : List ℕ) (number : ℕ) (before now : ℕ) (Held : Type 0) (bench_before bench_now : ℕ)
-      → IsRead up text [] number → left ≡ [] → (going : Tells → Going Holds up waits calls text [] number start old) → IfErr r (λ stop. HasFinishCause stop before now Held bench_before bench_now)
+      → IsRead machines text [] number → left ≡ [] → (going : Tells → Going Holds machines waits desk calls text [] number start old) → IfErr r (λ stop. HasFinishCause stop before now Held bench_before bench_now)
       → ((tells : Tells) → Ends r (going tells).tree (going tells).doubt Stands old new) → Leaves Tells Stands r text left start new
   finish_leaves (Ok x) text left start old new number before now Held bench_before bench_now so_far ends going cause ended =
-      (all_read up text number so_far, ends, λ tells. finishes Holds up waits calls text Stands number start old new (going tells) (ended tells))
+      (all_read machines text number so_far, ends, λ tells. finishes Holds machines waits desk calls text Stands number start old new (going tells) (ended tells))
   finish_leaves (Err stop) text left start old new number before now Held bench_before bench_now so_far ends going cause ended =
       finish_stops stop text left start old new number before now Held bench_before bench_now going cause ended

@@ -1,4 +1,5 @@
 pub mod NextLines
+pub mod KeptOut
 pub mod Allowed
 pub mod ReadLines
 pub mod TraceTexts

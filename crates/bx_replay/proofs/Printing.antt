@@ -1,10 +1,11 @@
 -- What a line leaves where it breaks off.
-use Rattle.std.proofs.Common.{◌≡◌, ℕ, Bool, List, [], ◌∷◌, ◌++◌, Option, Result, Ok, Err, take, drop, ap, ◌∙◌, append_assoc}
+use Rattle.std.proofs.Common.{◌≡◌, ℕ, Bool, List, [], ◌∷◌, ◌++◌, Option, Result, Ok, Err, take, drop, ap, inl, ◌∙◌, append_assoc}
 use Rattle.std.specs.Prelude.{◌⊎◌, IfErr, OnOk, reverse}
 use Rattle.std.proofs.lemmas.List.{append-nil, take-append-drop}
 use Rattle.bx_script.specs.declared.line.Line.{Line}
 use Rattle.bx_script.specs.declared.trace_line.TraceLine.{TraceLine}
 use Rattle.bx_script.specs.TraceText.{trace_text}
+use Rattle.bx_desk.specs.Desks.{AtDesk}
 use Rattle.bx_history.specs.Trace as traces
 use Rattle.bx_history.specs.Parts.{trace_of}
 use Rattle.bx_history.specs.Along.{Done, parts_of}
@@ -12,19 +13,20 @@ use Rattle.bx_model.specs.declared.tree.Tree.{Tree}
 use Rattle.bx_service.specs.Rounds.{Doubt}
 use Rattle.bx_stops.specs.declared.stop.Stop.{Stop}
 use Rattle.bx_stops.specs.declared.stop.Stop.TheVariants as stops
-use Rattle.bx_replay.specs.Headline.{IsHeard, up_after}
-use Rattle.bx_replay.specs.Replay.{BreaksAfter, DoesLine, HasPrintCause, Hears, Prints, Stands, UnlessMemory}
+use Rattle.bx_replay.specs.Headline.{IsUpFor, Machines, up_after}
+use Rattle.bx_replay.specs.Replay.{BreaksAfter, DoesLine, HasPrintCause, HearsUp, Prints, Stands, UnlessMemory}
 
-module _ (tree : Tree) (up : Bool) (waits : List traces.Taking) (doubt : Option Doubt) (calls : ℕ) (line : Line) (lines : List TraceLine) (done : List Done) (start : List ℕ) where
+module _ (tree : Tree) (machines : Machines) (waits : List traces.Taking) (desk : AtDesk) (doubt : Option Doubt) (calls : ℕ) (line : Line) (lines : List TraceLine) (done : List Done) (start : List ℕ) where
   abbrev StandsAt : List ℕ → Type 0
-  StandsAt written = Stands tree up waits doubt calls (record { line = line; lines = lines } ∷ done) start written
+  StandsAt written = Stands tree machines waits desk doubt calls (record { line = line; lines = lines } ∷ done) start written
 
   -- all was written that had happened
   pub breaks_here : (written : List ℕ) → StandsAt written → BreaksAfter line done start written
   breaks_here written stands = record {
     tree = tree;
-    up = up;
+    machines = machines;
     waits = waits;
+    desk = desk;
     doubt = doubt;
     calls = calls;
     lines = lines;
@@ -45,8 +47,9 @@ module _ (tree : Tree) (up : Bool) (waits : List traces.Taking) (doubt : Option 
       ap (λ (w : List ℕ). w ++ drop n text) part ∙ append_assoc old (take n text) (drop n text) ∙ ap (λ (w : List ℕ). old ++ w) (take-append-drop n text) in
       record {
         tree = tree;
-        up = up;
+        machines = machines;
         waits = waits;
+        desk = desk;
         doubt = doubt;
         calls = calls;
         lines = lines;
@@ -67,9 +70,17 @@ module _ (tree : Tree) (up : Bool) (waits : List traces.Taking) (doubt : Option 
   unprinted InRange stops.DiskFault After first old new output text before now begun cause prints in_range stands none = absurd cause
   unprinted InRange stops.OutOfMemory After first old new output text before now begun cause prints in_range stands none = none prints
 
--- a line that is done was heard, where it only prints
-pub hears_line : (r : Result (Unit {0}) Stop) (up now : Bool) (line : Line) (before after : ℕ) → IfErr r (λ stop. HasPrintCause stop before after) → IsHeard up line
-    → OnOk r (now ≡ up_after line up) → Hears r up now line
+  -- what a line leaves that only prints
+  pub printed_line : (r : Result (Unit {0}) Stop) (After InRange : Type 0) (old new output text : List ℕ) (before now : ℕ) → old ≡ start ++ output
+      → IfErr r (λ stop. HasPrintCause stop before now) → Prints r text old new → UnlessMemory r InRange → (InRange → StandsAt (old ++ text)) → (StandsAt new → After)
+      → DoesLine r After line done start old new
+  printed_line (Ok x) After InRange old new output text before now begun cause prints in_range stands gives = gives (rw prints (stands in_range))
+  printed_line (Err stop) After InRange old new output text before now begun cause prints in_range stands gives =
+      unprinted InRange stop After old old new output text before now begun cause prints in_range stands (λ same. inl same)
+
+-- a line that is done finds up whoever has to hear it, where it only prints
+pub hears_line : (r : Result (Unit {0}) Stop) (up now : Bool) (line : Line) (before after : ℕ) → IfErr r (λ stop. HasPrintCause stop before after) → IsUpFor up line
+    → OnOk r (now ≡ up_after line up) → HearsUp r up now line
 hears_line (Ok x) up now line before after cause heard then_is = (heard, then_is)
 hears_line (Err (stops.Refused number reason)) up now line before after cause heard then_is = absurd cause
 hears_line (Err stops.ReadFault) up now line before after cause heard then_is = tt

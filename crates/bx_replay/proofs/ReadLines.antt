@@ -12,10 +12,10 @@ use Rattle.bx_script.specs.ScheduleLine.{spelling}
 use Rattle.bx_script.specs.Schedule.{HasPlace, BeginsSchedule}
 use Rattle.bx_script.proofs.Spelled.{spelling_lacks_feed}
 use Rattle.bx_stops.specs.declared.stop.Reason.{Reason}
-use Rattle.bx_stops.specs.declared.stop.Reason.TheVariants.{Grammar, Down}
-use Rattle.bx_replay.specs.Headline.{Asks, IsHeard, IsInPlace, is_up, up_after}
-use Rattle.bx_replay.specs.Outcome.{AreDone, IsCut, IsFirstRefused, IsReadTo, IsPlayable, IsRefusedAt}
-use Rattle.bx_replay.specs.Replay.{IsRead, IsRefusedLine}
+use Rattle.bx_stops.specs.declared.stop.Reason.TheVariants.{Grammar, NoMachine, ClockBack, Down}
+use Rattle.bx_replay.specs.Headline.{IsHeard, IsInPlace, Machines, after_line, after_lines, machines_at}
+use Rattle.bx_replay.specs.Outcome.{AreDone, IsCut, IsFirstRefused, IsReadTo, IsPlayable, IsRefusedAt, IsRefusedLine, IsTurnedAway}
+use Rattle.bx_replay.specs.Replay.{IsRead}
 use Rattle.bx_replay.proofs.Allowed.{done_begins, done_few, done_push}
 use Rattle.bx_replay.proofs.NextLines.{IsRefusedHere}
 
@@ -69,24 +69,24 @@ not_first done number some count = ne_eqb (number + 1) 1 (λ e. omega (arith, so
 pub behind : (number : ℕ) → 0 < number → ((number + 1) == 1) ≡ false
 behind number some = ne_eqb (number + 1) 1 (λ e. omega (arith, some))
 
-abbrev pub reads_on : (up now : Bool) (text rest next : List ℕ) (number : ℕ) (line : Line) → IsRead up text rest number → number < 4294967295 → BeginsWith rest (spelling line) next → IsInPlace ((number + 1) == 1) line
-    → IsHeard up line × (now ≡ up_after line up) → IsRead now text next (number + 1)
-reads_on up now text rest next number line so_far few begins place hears =
+abbrev pub reads_on : (machines now : Machines) (text rest next : List ℕ) (number : ℕ) (line : Line) → IsRead machines text rest number → number < 4294967295 → BeginsWith rest (spelling line) next → IsInPlace ((number + 1) == 1) line
+    → IsHeard machines line × (now ≡ after_line line machines) → IsRead now text next (number + 1)
+reads_on machines now text rest next number line so_far few begins place hears =
     let some : 0 < number = let h = so_far.headed in omega (arith, h, so_far.count) in
     record {
       done = so_far.done ++ line ∷ [];
       read = read_on text rest next so_far.done line (done_begins so_far.done so_far.are_done) so_far.read begins;
       are_done = done_push so_far.done line so_far.headed (omega (arith, few, so_far.count)) so_far.are_done (rw (behind number some) at place)
-          (subst (λ (b : Bool). IsHeard b line) so_far.up_is hears.0);
+          (subst (λ (m : Machines). IsHeard m line) so_far.machines_are hears.0);
       headed = omega (arith, length-append so_far.done (line ∷ []));
-      up_is = hears.1 ∙ ap (up_after line) so_far.up_is ∙ sym (ap is_up (reverse-append so_far.done (line ∷ [])));
+      machines_are = hears.1 ∙ ap (after_line line) so_far.machines_are ∙ sym (ap after_lines (reverse-append so_far.done (line ∷ [])));
       count = omega (arith, length-append so_far.done (line ∷ []), so_far.count);
     }
 
 -- ---- where a replay stops
 
-abbrev pub all_read : (up : Bool) (text : List ℕ) (number : ℕ) → IsRead up text [] number → IsPlayable text
-all_read up text number so_far = record {
+abbrev pub all_read : (machines : Machines) (text : List ℕ) (number : ℕ) → IsRead machines text [] number → IsPlayable text
+all_read machines text number so_far = record {
   schedule = so_far.done;
   read = record {
     spelled = lines_read text [] so_far.done (done_begins so_far.done so_far.are_done) so_far.read ∙ append-nil (map spelling so_far.done);
@@ -97,8 +97,8 @@ all_read up text number so_far = record {
   are_done = so_far.are_done;
 }
 
-abbrev pub cut_at : (up : Bool) (text rest piece left : List ℕ) (number : ℕ) → IsRead up text rest number → rest ≡ piece ++ left → LacksFeed piece → length piece ≤ 18600 → IsCut text left
-cut_at up text rest piece left number so_far e lacks short = record {
+abbrev pub cut_at : (machines : Machines) (text rest piece left : List ℕ) (number : ℕ) → IsRead machines text rest number → rest ≡ piece ++ left → LacksFeed piece → length piece ≤ 18600 → IsCut text left
+cut_at machines text rest piece left number so_far e lacks short = record {
   done = so_far.done;
   piece = piece;
   read = rw e at so_far.read;
@@ -107,9 +107,9 @@ cut_at up text rest piece left number so_far e lacks short = record {
   are_done = so_far.are_done;
 }
 
-abbrev pub refused_at : (up : Bool) (text rest : List ℕ) (number : ℕ) (so_far : IsRead up text rest number) (reason : Reason) (others : List (List ℕ)) → lines_of rest ≡ others
+abbrev pub refused_at : (machines : Machines) (text rest : List ℕ) (number : ℕ) (so_far : IsRead machines text rest number) (reason : Reason) (others : List (List ℕ)) → lines_of rest ≡ others
     → IsRefusedAt so_far.done others reason → IsFirstRefused text (number + 1) reason
-refused_at up text rest number so_far reason others e refused = record {
+refused_at machines text rest number so_far reason others e refused = record {
   done = so_far.done;
   others = others;
   read = lines_read text rest so_far.done (done_begins so_far.done so_far.are_done) so_far.read ∙ ap (λ (ls : List (List ℕ)). map spelling so_far.done ++ ls) e;
@@ -123,27 +123,32 @@ pub outside : (done : List Line) (number : ℕ) (first : List ℕ) (others : Lis
 outside done number first others some count (inl many) = inl (omega (arith, count))
 outside done number first others some count (inr none) = inr (λ value place. none value (rw (not_first done number some count) place))
 
-abbrev pub refused_outside : (up : Bool) (text rest : List ℕ) (number : ℕ) → IsRead up text rest number → IsRefusedHere rest (number + 1) → IsFirstRefused text (number + 1) Grammar
-refused_outside up text rest number so_far here =
-    refused_at up text rest number so_far Grammar (here.0 ∷ here.1) here.2 (outside so_far.done number here.0 here.1 so_far.headed so_far.count here.3)
+abbrev pub refused_outside : (machines : Machines) (text rest : List ℕ) (number : ℕ) → IsRead machines text rest number → IsRefusedHere rest (number + 1) → IsFirstRefused text (number + 1) Grammar
+refused_outside machines text rest number so_far here =
+    refused_at machines text rest number so_far Grammar (here.0 ∷ here.1) here.2 (outside so_far.done number here.0 here.1 so_far.headed so_far.count here.3)
 
--- nobody hears a line
-unheard_here : (up : Bool) (done : List Line) (number : ℕ) (line : Line) (others : List (List ℕ)) → 0 < length done → number ≡ length done → number < 4294967295 → up ≡ is_up (reverse done)
-    → IsInPlace ((number + 1) == 1) line → up ≡ false → Asks line → IsRefusedAt done (spelling line ∷ others) Down
-unheard_here up done number line others some count few up_is place down asks =
-    (omega (arith, few, count), record { value = line; asks = asks; in_place = rw (not_first done number some count) at place; spelled = refl; down = sym up_is ∙ down })
+-- a line in the grammar is turned away
+turned_away : (machines : Machines) (done : List Line) (number : ℕ) (line : Line) (reason : Reason) → 0 < length done → number ≡ length done → machines ≡ after_lines (reverse done)
+    → IsInPlace ((number + 1) == 1) line → IsRefusedLine reason machines line → IsTurnedAway (length done == 0) (after_lines (reverse done)) (spelling line) reason
+turned_away machines done number line reason some count are place why = record {
+  value = line;
+  in_place = rw (not_first done number some count) at place;
+  spelled = refl;
+  why = subst (λ (m : Machines). IsRefusedLine reason m line) are why;
+}
 
--- only where nobody hears a line is it refused so
-pub line_refused_at : (up : Bool) (done : List Line) (number : ℕ) (line : Line) (others : List (List ℕ)) (reason : Reason) → 0 < length done → number ≡ length done → number < 4294967295 → up ≡ is_up (reverse done)
-    → IsInPlace ((number + 1) == 1) line → IsRefusedLine reason up line → IsRefusedAt done (spelling line ∷ others) reason
-line_refused_at up done number line others Grammar some count few up_is place why = absurd why
-line_refused_at up done number line others Down some count few up_is place why = unheard_here up done number line others some count few up_is place why.0 why.1
+pub line_refused_at : (machines : Machines) (done : List Line) (number : ℕ) (line : Line) (others : List (List ℕ)) (reason : Reason) → 0 < length done → number ≡ length done → number < 4294967295
+    → machines ≡ after_lines (reverse done) → IsInPlace ((number + 1) == 1) line → IsRefusedLine reason machines line → IsRefusedAt done (spelling line ∷ others) reason
+line_refused_at machines done number line others Grammar some count few are place why = absurd why
+line_refused_at machines done number line others NoMachine some count few are place why = (omega (arith, few, count), turned_away machines done number line NoMachine some count are place why)
+line_refused_at machines done number line others (ClockBack by) some count few are place why = (omega (arith, few, count), turned_away machines done number line (ClockBack by) some count are place why)
+line_refused_at machines done number line others Down some count few are place why = (omega (arith, few, count), turned_away machines done number line Down some count are place why)
 
-abbrev pub refused_line : (up : Bool) (text rest next : List ℕ) (number : ℕ) (line : Line) → IsRead up text rest number → number < 4294967295 → BeginsWith rest (spelling line) next
-    → IsInPlace ((number + 1) == 1) line → (reason : Reason) → IsRefusedLine reason up line → IsFirstRefused text (number + 1) reason
-refused_line up text rest next number line so_far few begins place reason why =
-    refused_at up text rest number so_far reason (spelling line ∷ lines_of next) (lines_of-begins rest (spelling line) next begins)
-    (line_refused_at up so_far.done number line (lines_of next) reason so_far.headed so_far.count few so_far.up_is place why)
+abbrev pub refused_line : (machines : Machines) (text rest next : List ℕ) (number : ℕ) (line : Line) → IsRead machines text rest number → number < 4294967295 → BeginsWith rest (spelling line) next
+    → IsInPlace ((number + 1) == 1) line → (reason : Reason) → IsRefusedLine reason machines line → IsFirstRefused text (number + 1) reason
+refused_line machines text rest next number line so_far few begins place reason why =
+    refused_at machines text rest number so_far reason (spelling line ∷ lines_of next) (lines_of-begins rest (spelling line) next begins)
+    (line_refused_at machines so_far.done number line (lines_of next) reason so_far.headed so_far.count few so_far.machines_are place why)
 
 -- ---- the first line
 
@@ -166,12 +171,12 @@ refused_first text here = begins_refused text (here.0 ∷ here.1) here.2 (first_
 abbrev pub cut_first : (text piece left : List ℕ) → text ≡ piece ++ left → LacksFeed piece → length piece ≤ 18600 → IsCut text left
 cut_first text piece left e lacks short = record { done = []; piece = piece; read = inl e; lacks = lacks; short = short; are_done = none_done }
 
-abbrev pub heading_read : (text rest : List ℕ) (volume nodes devices areas : ℕ) → IsInPlace true (Heading volume nodes devices areas) → BeginsWith text (spelling (Heading volume nodes devices areas)) rest → IsRead true text rest 1
+abbrev pub heading_read : (text rest : List ℕ) (volume nodes devices areas : ℕ) → IsInPlace true (Heading volume nodes devices areas) → BeginsWith text (spelling (Heading volume nodes devices areas)) rest → IsRead (machines_at true 0) text rest 1
 heading_read text rest volume nodes devices areas place begins = record {
   done = Heading volume nodes devices areas ∷ [];
   read = read_on text text rest [] (Heading volume nodes devices areas) tt (inl refl) begins;
-  are_done = (record { few = omega arith; in_place = place; heard = tt }, tt);
+  are_done = (record { few = omega arith; in_place = place; heard = (tt, tt, tt) }, tt);
   headed = omega arith;
-  up_is = refl;
+  machines_are = refl;
   count = refl;
 }

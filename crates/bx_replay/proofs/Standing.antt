@@ -1,26 +1,31 @@
 -- A replay that stands goes on by one line, or by what happens within a run.
 use Rattle.std.proofs.Common.{◌≡◌, ℕ, ◌+◌, ◌<◌, Bool, false, List, [], ◌∷◌, ◌++◌, length, Option, Some, None, inr, true, refl, sym, ap, subst, ◌∙◌, arith, append_assoc}
-use Rattle.std.specs.Prelude.{◌≢◌, ◌==◌, if◌then◌else◌, is_some, map, reverse}
-use Rattle.std.specs.List.{AllByRecursion}
+use Rattle.std.specs.Prelude.{◌≢◌, ◌==◌, if◌then◌else◌, is_some, map, nat_le, reverse}
+use Rattle.std.specs.List.{AllByRecursion, list_any}
 use Rattle.std.proofs.lemmas.Bool.{ne_eqb}
-use Rattle.std.proofs.lemmas.List.{append-nil, length-append, length-map, length-reverse, reverse-append}
+use Rattle.std.proofs.lemmas.List.{append-nil, length-append, length-map, length-reverse, map-append, reverse-append}
 use Rattle.bx_disk.specs.declared.noise.Noise.{Noise}
 use Rattle.bx_script.specs.declared.line.Line.{Line}
 use Rattle.bx_script.specs.declared.line.Line.TheVariants.{Heading, Call, Run, Crash, Restart, Tick}
 use Rattle.bx_script.specs.declared.trace_line.TraceLine.{TraceLine}
-use Rattle.bx_script.specs.declared.trace_line.TraceLine.TheVariants.{Took}
+use Rattle.bx_script.specs.declared.trace_line.TraceLine.TheVariants.{Again, Took}
 use Rattle.bx_script.specs.TraceText.{InTraceRange, trace_text}
+use Rattle.bx_desk.specs.Desks.{AtDesk, empty_desk, is_from, with_call}
+use Rattle.bx_desk.specs.Nodes.{IsDeskOf, taking_at}
+use Rattle.bx_desk.proofs.Going.{desk_opened, desk_stays, desk_taken}
+use Rattle.bx_desk.proofs.Hearing.{IsNew, IsPassed, IsRepeated, is_new}
 use Rattle.bx_history.specs.Trace as traces
-use Rattle.bx_history.specs.Parts.{trace_of}
+use Rattle.bx_history.specs.Parts.{Part, trace_of}
 use Rattle.bx_history.specs.Along.{Done, parts_of, schedule_of}
 use Rattle.bx_history.specs.Account.{AreNewestFirst, AwaitsNewest, IsPatient, IsPending, LacksPoint, waits_with}
 use Rattle.bx_history.proofs.Ended.{ended_part}
 use Rattle.bx_history.proofs.Numbering.{taking_bound}
-use Rattle.bx_history.proofs.Waiting.{all_front, passed_part, quiet_part, taken_call}
+use Rattle.bx_history.proofs.Waiting.{all_front, passed_part, quiet_part, repeated_part, taken_call}
 use Rattle.bx_model.specs.declared.tree.Tree.{Tree}
+use Rattle.bx_replies.specs.Answers.{reply_of}
 use Rattle.bx_rpc.specs.Message.{is_message}
 use Rattle.bx_service.specs.Rounds.{Doubt}
-use Rattle.bx_replay.specs.Headline.{IsHeard, IsInPlace, rules, opening_of, Step, is_up, up_after}
+use Rattle.bx_replay.specs.Headline.{IsHeard, IsInPlace, IsSteady, Machines, rules, opening_of, Step, after_line, after_lines}
 use Rattle.bx_replay.specs.Replay.{IsDoubted, Stands, waits_at}
 use Rattle.bx_replay.proofs.Allowed.{done_push}
 use Rattle.bx_replay.proofs.TraceTexts.{trace_text-append}
@@ -41,15 +46,15 @@ opening_of-append (Call reading node client datagram ∷ lines) more some = refl
 opening_of-append (Run reading limit ∷ lines) more some = refl
 opening_of-append (Crash noise ∷ lines) more some = refl
 opening_of-append (Restart reading ∷ lines) more some = refl
-opening_of-append (Tick reading ∷ lines) more some = refl
+opening_of-append (Tick reading node ∷ lines) more some = refl
 
 -- what goes on whatever the line is
 pub length_schedule : (done : List Done) → length (schedule_of done) ≡ length done
 length_schedule done = length-reverse (map (λ (d : Done). d.line) done) ∙ length-map done (λ (d : Done). d.line)
 
--- each call is taken in this stage, and nothing is promised of when it is answered
+-- nothing is promised of when a call is answered
 pub patient : IsPatient rules
-patient = record { takes_each = refl; not_at_once = λ reading bytes. refl; not_prompt = λ all. refl }
+patient = record { not_at_once = λ reading bytes. refl; not_prompt = λ all. refl }
 
 -- what waits at each node, said in two ways
 pub awaits_same : (first : Tree) (done : List Done) (history : List traces.Entry) (tree : Tree) (a b : ℕ → List traces.Taking) → ((node : ℕ) → a node ≡ b node)
@@ -61,33 +66,37 @@ awaits_same first done history tree a b same so_far = record {
   waiting_are = λ node. so_far.waiting_are node ∙ same node;
   pending = λ node. subst (AllByRecursion (IsPending (trace_of (parts_of done)) node)) (same node) (so_far.pending node);
   in_order = λ node. subst AreNewestFirst (same node) (so_far.in_order node);
+  split = so_far.split;
 }
 
--- whether the machines are up after one line more
-up_more : (up up_then : Bool) (line : Line) (lines : List TraceLine) (done : List Done) → up ≡ is_up (reverse (schedule_of done)) → up_then ≡ up_after line up
-    → up_then ≡ is_up (reverse (schedule_of (record { line = line; lines = lines } ∷ done)))
-up_more up up_then line lines done was then_is =
-    then_is ∙ ap (up_after line) was ∙ sym (ap (λ (l : List Line). is_up (reverse l)) (schedule_of-cons line lines done) ∙ ap is_up (reverse-append (schedule_of done) (line ∷ [])))
+-- whether the machines are machines after one line more
+machines_more : (machines machines_then : Machines) (line : Line) (lines : List TraceLine) (done : List Done) → machines ≡ after_lines (reverse (schedule_of done)) → machines_then ≡ after_line line machines
+    → machines_then ≡ after_lines (reverse (schedule_of (record { line = line; lines = lines } ∷ done)))
+machines_more machines machines_then line lines done was then_is =
+    then_is ∙ ap (after_line line) was ∙ sym (ap (λ (l : List Line). after_lines (reverse l)) (schedule_of-cons line lines done) ∙ ap after_lines (reverse-append (schedule_of done) (line ∷ [])))
 
-extended : (tree next : Tree) (up up_then : Bool) (waits waits_then : List traces.Taking) (doubt doubt_then : Option Doubt) (calls calls_then : ℕ) (line : Line) (lines : List TraceLine) (done : List Done) (start written text : List ℕ) (history : List traces.Entry)
-    → length done < 4294967295 → IsInPlace false line → IsHeard up line → up_then ≡ up_after line up → (stands : Stands tree up waits doubt calls done start written)
+extended : (tree next : Tree) (machines machines_then : Machines) (waits waits_then : List traces.Taking) (desk desk_then : AtDesk) (doubt doubt_then : Option Doubt) (calls calls_then : ℕ) (line : Line) (lines : List TraceLine) (done : List Done) (start written text : List ℕ) (history : List traces.Entry)
+    → length done < 4294967295 → IsInPlace false line → IsHeard machines line → machines_then ≡ after_line line machines → (stands : Stands tree machines waits desk doubt calls done start written)
     → AwaitsNewest Step rules (opening_of (schedule_of done)) (parts_of (record { line = line; lines = lines } ∷ done)) history next (waits_at waits_then)
+    → IsDeskOf 0 (parts_of (record { line = line; lines = lines } ∷ done)) desk_then → waits_then ≡ map (taking_at 0) desk_then.waits
     → calls_then ≡ traces.taken_count (lines ++ trace_of (parts_of done))
     → ((of : Doubt) → doubt_then ≡ Some of → IsDoubted (record { line = line; lines = lines } ∷ done) of)
     → AllByRecursion InTraceRange lines
     → text ≡ trace_text (reverse lines)
-    → Stands next up_then waits_then doubt_then calls_then (record { line = line; lines = lines } ∷ done) start (written ++ text)
-extended tree next up up_then waits waits_then doubt doubt_then calls calls_then line lines done start written text history room place heard then_is stands accounts counted doubted in_range text-is =
+    → Stands next machines_then waits_then desk_then doubt_then calls_then (record { line = line; lines = lines } ∷ done) start (written ++ text)
+extended tree next machines machines_then waits waits_then desk desk_then doubt doubt_then calls calls_then line lines done start written text history room place heard then_is stands accounts desk_is desk_waits counted doubted in_range text-is =
     let more : schedule_of (record { line = line; lines = lines } ∷ done) ≡ schedule_of done ++ line ∷ [] = schedule_of-cons line lines done in
     let long : length (schedule_of done) ≡ length done = length_schedule done in
     let first : opening_of (schedule_of (record { line = line; lines = lines } ∷ done)) ≡ opening_of (schedule_of done) =
     ap opening_of more ∙ opening_of-append (schedule_of done) (line ∷ []) stands.headed in
-    let hears : IsHeard (is_up (reverse (schedule_of done))) line = subst (λ (b : Bool). IsHeard b line) stands.up_is heard in
+    let hears : IsHeard (after_lines (reverse (schedule_of done))) line = subst (λ (m : Machines). IsHeard m line) stands.machines_are heard in
     record {
       history = history;
       accounts = rw first accounts;
       counted = counted;
-      up_is = up_more up up_then line lines done stands.up_is then_is;
+      desk_is = desk_is;
+      desk_waits = desk_waits;
+      machines_are = machines_more machines machines_then line lines done stands.machines_are then_is;
       doubted = doubted;
       headed = rw more (omega (arith, length-append (schedule_of done) (line ∷ [])));
       are_done = rw more (done_push (schedule_of done) line stands.headed (omega arith) stands.are_done place hears);
@@ -104,7 +113,7 @@ IsSilent (Call reading node client datagram) = ⊥
 IsSilent (Run reading limit) = Unit {0}
 IsSilent (Crash noise) = ⊥
 IsSilent (Restart reading) = Unit {0}
-IsSilent (Tick reading) = Unit {0}
+IsSilent (Tick reading node) = Unit {0}
 
 silent_line : (first last : Tree) (done : List Done) (history : List traces.Entry) (waits : ℕ → List traces.Taking) (line : Line) → IsSilent line
     → AwaitsNewest Step rules first (parts_of done) history last waits → AwaitsNewest Step rules first (parts_of (record { line = line; lines = [] } ∷ done)) history last waits
@@ -113,7 +122,15 @@ silent_line first last done history waits (Call reading node client datagram) si
 silent_line first last done history waits (Run reading limit) silent so_far = quiet_part Step rules patient first (parts_of done) history last waits (Some reading) true so_far
 silent_line first last done history waits (Crash noise) silent so_far = absurd silent
 silent_line first last done history waits (Restart reading) silent so_far = quiet_part Step rules patient first (parts_of done) history last waits (Some reading) false so_far
-silent_line first last done history waits (Tick reading) silent so_far = quiet_part Step rules patient first (parts_of done) history last waits (Some reading) false so_far
+silent_line first last done history waits (Tick reading node) silent so_far = quiet_part Step rules patient first (parts_of done) history last waits (Some reading) false so_far
+
+silent_desk : (done : List Done) (desk : AtDesk) (line : Line) → IsSilent line → IsDeskOf 0 (parts_of done) desk → IsDeskOf 0 (parts_of (record { line = line; lines = [] } ∷ done)) desk
+silent_desk done desk (Heading volume nodes devices areas) silent is = desk_stays 0 (parts_of done) (parts_of (record { line = Heading volume nodes devices areas; lines = [] } ∷ done)) desk is refl refl
+silent_desk done desk (Call reading node client datagram) silent is = absurd silent
+silent_desk done desk (Run reading limit) silent is = desk_stays 0 (parts_of done) (parts_of (record { line = Run reading limit; lines = [] } ∷ done)) desk is refl refl
+silent_desk done desk (Crash noise) silent is = absurd silent
+silent_desk done desk (Restart reading) silent is = desk_stays 0 (parts_of done) (parts_of (record { line = Restart reading; lines = [] } ∷ done)) desk is refl refl
+silent_desk done desk (Tick reading node) silent is = desk_stays 0 (parts_of done) (parts_of (record { line = Tick reading node; lines = [] } ∷ done)) desk is refl refl
 
 -- the oldest call that waits was taken there
 pub oldest_in : (trace : List TraceLine) (waits : List traces.Taking) → AllByRecursion (IsPending trace 0) (waits_at waits 0)
@@ -133,50 +150,75 @@ none_wait node = by (0 == node)
     by true = refl
     by false = refl
 
-module _ (tree : Tree) (up : Bool) (waits : List traces.Taking) (doubt : Option Doubt) (calls : ℕ) (done : List Done) (start written : List ℕ) (room : length done < 4294967295)
-    (stands : Stands tree up waits doubt calls done start written) where
+module _ (tree : Tree) (machines : Machines) (waits : List traces.Taking) (desk : AtDesk) (doubt : Option Doubt) (calls : ℕ) (done : List Done) (start written : List ℕ) (room : length done < 4294967295)
+    (stands : Stands tree machines waits desk doubt calls done start written) where
   -- what is in doubt is so behind a line at which nothing is told
   still_doubted : (line : Line) (of : Doubt) → doubt ≡ Some of → IsDoubted (record { line = line; lines = [] } ∷ done) of
   still_doubted line of is = let was = stands.doubted of is in record { of = was.of; lacks = was.lacks; since = inr (refl, was.since) }
 
-  pub stands_silent : (line : Line) (up_then : Bool) → IsSilent line → IsInPlace false line → IsHeard up line → up_then ≡ up_after line up
-      → Stands tree up_then waits doubt calls (record { line = line; lines = [] } ∷ done) start written
-  stands_silent line up_then silent place heard then_is =
+  pub stands_silent : (line : Line) (machines_then : Machines) → IsSilent line → IsInPlace false line → IsHeard machines line → machines_then ≡ after_line line machines
+      → Stands tree machines_then waits desk doubt calls (record { line = line; lines = [] } ∷ done) start written
+  stands_silent line machines_then silent place heard then_is =
       let accounts = silent_line (opening_of (schedule_of done)) tree done stands.history (waits_at waits) line silent stands.accounts in
-      let after = extended tree tree up up_then waits waits doubt doubt calls calls line [] done start written [] stands.history room place heard then_is stands accounts stands.counted (still_doubted line) tt refl in
+      let after = extended tree tree machines machines_then waits waits desk desk doubt doubt calls calls line [] done start written [] stands.history room place heard then_is stands accounts
+      (silent_desk done desk line silent stands.desk_is) stands.desk_waits stands.counted (still_doubted line) tt refl in
       rw append-nil at after
 
   -- ---- all machines crash
 
-  pub stands_crashed : (noise : Noise) → IsInPlace false (Crash noise) → Stands tree false [] doubt calls (record { line = Crash noise; lines = [] } ∷ done) start written
+  pub stands_crashed : (noise : Noise) → IsInPlace false (Crash noise) → Stands tree (after_line (Crash noise) machines) [] empty_desk doubt calls (record { line = Crash noise; lines = [] } ∷ done) start written
   stands_crashed noise place =
       let ended = ended_part Step rules patient (opening_of (schedule_of done)) (parts_of done) stands.history tree (waits_at waits) None stands.accounts in
       let accounts = awaits_same (opening_of (schedule_of done)) (record { line = Crash noise; lines = [] } ∷ done) stands.history tree (λ _. []) (waits_at []) none_wait ended in
-      let after = extended tree tree up false waits [] doubt doubt calls calls (Crash noise) [] done start written [] stands.history room place tt refl stands accounts stands.counted (still_doubted (Crash noise)) tt refl in
+      let after = extended tree tree machines (after_line (Crash noise) machines) waits [] desk empty_desk doubt doubt calls calls (Crash noise) [] done start written [] stands.history room place (tt, tt, tt) refl stands accounts
+      (desk_opened 0 (parts_of (record { line = Crash noise; lines = [] } ∷ done)) refl refl) refl stands.counted (still_doubted (Crash noise)) tt refl in
       rw append-nil at after
 
-  -- ---- a datagram that is no call
+  -- ---- a datagram that isn't taken
 
-  pub stands_ignored : (reading node client : ℕ) (datagram : List ℕ) → up ≡ true → is_message datagram ≡ false → IsInPlace false (Call reading node client datagram)
-      → Stands tree up waits doubt calls (record { line = Call reading node client datagram; lines = [] } ∷ done) start written
-  stands_ignored reading node client datagram heard none place =
-      let accounts = passed_part Step rules patient (opening_of (schedule_of done)) (parts_of done) stands.history tree (waits_at waits) reading (record { node = node; client = client; bytes = datagram }) none stands.accounts in
-      let after = extended tree tree up up waits waits doubt doubt calls calls (Call reading node client datagram) [] done start written [] stands.history room place heard refl stands accounts stands.counted
+  pub stands_ignored : (reading node client : ℕ) (datagram : List ℕ) → IsHeard machines (Call reading node client datagram) → IsPassed rules (parts_of done) (record { node = node; client = client; bytes = datagram })
+      → IsInPlace false (Call reading node client datagram)
+      → Stands tree (after_line (Call reading node client datagram) machines) waits desk doubt calls (record { line = Call reading node client datagram; lines = [] } ∷ done) start written
+  stands_ignored reading node client datagram heard passed place =
+      let accounts = passed_part Step rules patient (opening_of (schedule_of done)) (parts_of done) stands.history tree (waits_at waits) reading (record { node = node; client = client; bytes = datagram }) passed.not_taken passed.no_repeat stands.accounts in
+      let after = extended tree tree machines (after_line (Call reading node client datagram) machines) waits waits desk desk doubt doubt calls calls (Call reading node client datagram) [] done start written [] stands.history room place heard refl stands accounts
+      (desk_stays 0 (parts_of done) (parts_of (record { line = Call reading node client datagram; lines = [] } ∷ done)) desk stands.desk_is refl refl) stands.desk_waits stands.counted
       (still_doubted (Call reading node client datagram)) tt refl in
       rw append-nil at after
 
+  -- ---- a call that was answered
+
+  pub stands_repeated : (reading node client : ℕ) (datagram reply text : List ℕ) → IsHeard machines (Call reading node client datagram) → IsRepeated rules (parts_of done) (record { node = node; client = client; bytes = datagram }) reply
+      → IsInPlace false (Call reading node client datagram) → AllByRecursion InTraceRange (Again node client reply ∷ []) → text ≡ trace_text (Again node client reply ∷ [])
+      → Stands tree (after_line (Call reading node client datagram) machines) waits desk doubt calls (record { line = Call reading node client datagram; lines = Again node client reply ∷ [] } ∷ done) start (written ++ text)
+  stands_repeated reading node client datagram reply text heard repeated place in_range text-is =
+      let accounts = repeated_part Step rules patient (opening_of (schedule_of done)) (parts_of done) stands.history tree (waits_at waits) reading (record { node = node; client = client; bytes = datagram }) reply repeated.not_taken repeated.repeats repeated.sent stands.accounts in
+      extended tree tree machines (after_line (Call reading node client datagram) machines) waits waits desk desk doubt doubt calls calls (Call reading node client datagram) (Again node client reply ∷ []) done start written text stands.history room place heard refl stands accounts
+      (desk_stays 0 (parts_of done) (parts_of (record { line = Call reading node client datagram; lines = Again node client reply ∷ [] } ∷ done)) desk stands.desk_is refl refl) stands.desk_waits stands.counted
+      doubted_still in_range text-is
+    where
+      doubted_still : (of : Doubt) → doubt ≡ Some of → IsDoubted (record { line = Call reading node client datagram; lines = Again node client reply ∷ [] } ∷ done) of
+      doubted_still of is =
+          let was = stands.doubted of is in
+          record { of = was.of; lacks = record { taken = was.lacks.taken; no_point = was.lacks.no_point }; since = inr (refl, was.since) }
+
   -- ---- a call that is taken
 
-  pub stands_taken : (reading client : ℕ) (datagram text : List ℕ) → up ≡ true → is_message datagram ≡ true → IsInPlace false (Call reading 0 client datagram)
+  pub stands_taken : (reading client : ℕ) (datagram text : List ℕ) → IsHeard machines (Call reading 0 client datagram) → is_message datagram ≡ true
+      → list_any (is_from client datagram) desk.waits ≡ false → reply_of desk.kept client datagram ≡ None → nat_le 64 (length desk.waits) ≡ false → IsInPlace false (Call reading 0 client datagram)
       → AllByRecursion InTraceRange (Took (calls + 1) 0 client datagram ∷ []) → text ≡ trace_text (Took (calls + 1) 0 client datagram ∷ [])
-      → Stands tree up (waits ++ record { call = calls + 1; node = 0; client = client; bytes = datagram } ∷ []) doubt (calls + 1)
+      → Stands tree (after_line (Call reading 0 client datagram) machines) (waits ++ record { call = calls + 1; node = 0; client = client; bytes = datagram } ∷ []) (with_call desk (record { call = calls + 1; client = client; bytes = datagram })) doubt (calls + 1)
       (record { line = Call reading 0 client datagram; lines = Took (calls + 1) 0 client datagram ∷ [] } ∷ done) start (written ++ text)
-  stands_taken reading client datagram text heard message place in_range text-is =
+  stands_taken reading client datagram text heard message not_waiting none_kept few place in_range text-is =
       let taking : traces.Taking = record { call = calls + 1; node = 0; client = client; bytes = datagram } in
       let number : calls + 1 ≡ traces.taken_count (trace_of (parts_of done)) + 1 = ap (λ (n : ℕ). n + 1) stands.counted in
-      let taken = taken_call Step rules patient (opening_of (schedule_of done)) (parts_of done) stands.history tree (waits_at waits) reading taking message number stands.accounts in
+      let new = is_new rules refl refl 0 (parts_of done) desk stands.desk_is client datagram message not_waiting none_kept few in
+      let taken = taken_call Step rules patient (opening_of (schedule_of done)) (parts_of done) stands.history tree (waits_at waits) reading taking new.is_taken new.no_repeat number stands.accounts in
       let accounts = awaits_same (opening_of (schedule_of done)) (record { line = Call reading 0 client datagram; lines = Took (calls + 1) 0 client datagram ∷ [] } ∷ done) stands.history tree _ _ more_wait taken in
-      extended tree tree up up waits _ doubt doubt calls (calls + 1) (Call reading 0 client datagram) _ done start written text stands.history room place heard refl stands accounts
+      extended tree tree machines (after_line (Call reading 0 client datagram) machines) waits _ desk _ doubt doubt calls (calls + 1) (Call reading 0 client datagram) _ done start written text stands.history room place heard refl stands accounts
+      (desk_taken 0 (parts_of done) (parts_of (record { line = Call reading 0 client datagram; lines = Took (calls + 1) 0 client datagram ∷ [] } ∷ done)) desk (record { call = calls + 1; client = client; bytes = datagram }) stands.desk_is
+      (taken.waiting_are 0 ∙ ap (λ (l : List traces.Taking). taking ∷ l) (sym (stands.accounts.waiting_are 0))) refl not_waiting none_kept)
+      (ap (λ (l : List traces.Taking). l ++ taking ∷ []) stands.desk_waits ∙ sym (map-append (taking_at 0) desk.waits (record { call = calls + 1; client = client; bytes = datagram } ∷ [])))
       (ap (λ (n : ℕ). n + 1) stands.counted ∙ omega arith) doubted_then in_range text-is
     where
       more_wait : (node : ℕ) → waits_with (record { call = calls + 1; node = 0; client = client; bytes = datagram }) (waits_at waits) node
@@ -209,15 +251,24 @@ module _ (tree : Tree) (up : Bool) (waits : List traces.Taking) (doubt : Option 
 
   -- the same at a node that is 0
   abbrev TakesAt : ℕ → Type 0
-  TakesAt node = (reading client : ℕ) (datagram text : List ℕ) → up ≡ true → is_message datagram ≡ true → IsInPlace false (Call reading node client datagram)
+  TakesAt node = (reading client : ℕ) (datagram text : List ℕ) → IsHeard machines (Call reading node client datagram) → is_message datagram ≡ true
+      → list_any (is_from client datagram) desk.waits ≡ false → reply_of desk.kept client datagram ≡ None → nat_le 64 (length desk.waits) ≡ false → IsInPlace false (Call reading node client datagram)
       → AllByRecursion InTraceRange (Took (calls + 1) node client datagram ∷ []) → text ≡ trace_text (Took (calls + 1) node client datagram ∷ [])
-      → Stands tree up (waits ++ record { call = calls + 1; node = 0; client = client; bytes = datagram } ∷ []) doubt (calls + 1)
+      → Stands tree (after_line (Call reading node client datagram) machines) (waits ++ record { call = calls + 1; node = 0; client = client; bytes = datagram } ∷ []) (with_call desk (record { call = calls + 1; client = client; bytes = datagram })) doubt (calls + 1)
       (record { line = Call reading node client datagram; lines = Took (calls + 1) node client datagram ∷ [] } ∷ done) start (written ++ text)
 
   pub stands_taken_at : (node : ℕ) → node ≡ 0 → TakesAt node
   stands_taken_at node zero = subst TakesAt (sym zero) stands_taken
 
+-- at a node that is 0
+pub passed_at : (parts : List Part) (node client : ℕ) (bytes : List ℕ) → node ≡ 0 → IsPassed rules parts (record { node = 0; client = client; bytes = bytes }) → IsPassed rules parts (record { node = node; client = client; bytes = bytes })
+passed_at parts node client bytes zero passed = subst (λ (n : ℕ). IsPassed rules parts (record { node = n; client = client; bytes = bytes })) (sym zero) passed
+
+pub repeated_at : (parts : List Part) (node client : ℕ) (bytes reply : List ℕ) → node ≡ 0 → IsRepeated rules parts (record { node = 0; client = client; bytes = bytes }) reply
+    → IsRepeated rules parts (record { node = node; client = client; bytes = bytes }) reply
+repeated_at parts node client bytes reply zero repeated = subst (λ (n : ℕ). IsRepeated rules parts (record { node = n; client = client; bytes = bytes }) reply) (sym zero) repeated
+
 -- the calls that wait, said in two ways
-pub stands_same : (tree : Tree) (up : Bool) (waits waits_then : List traces.Taking) (doubt : Option Doubt) (calls : ℕ) (done : List Done) (start written : List ℕ) → waits_then ≡ waits
-    → Stands tree up waits doubt calls done start written → Stands tree up waits_then doubt calls done start written
-stands_same tree up waits waits_then doubt calls done start written same stands = rw same stands
+pub stands_same : (tree : Tree) (machines : Machines) (waits waits_then : List traces.Taking) (desk : AtDesk) (doubt : Option Doubt) (calls : ℕ) (done : List Done) (start written : List ℕ) → waits_then ≡ waits
+    → Stands tree machines waits desk doubt calls done start written → Stands tree machines waits_then desk doubt calls done start written
+stands_same tree machines waits waits_then desk doubt calls done start written same stands = rw same stands

@@ -9,7 +9,7 @@ use Rattle.bx_script.specs.declared.line.Line.{Line}
 use Rattle.bx_script.specs.declared.line.Line.TheVariants.{Heading, Call, Run, Crash, Restart, Tick}
 use Rattle.bx_service.specs.Rounds.{IsRun, On}
 use Rattle.bx_replay.specs.Bench.{HoldsAny}
-use Rattle.bx_replay.specs.Headline.{is_up}
+use Rattle.bx_replay.specs.Headline.{after_lines}
 use Rattle.bx_replay.specs.Outcome.{IsPlayable}
 
 -- the disks once the first so many crashed so, one after the other
@@ -29,7 +29,7 @@ MovesDisks (Call reading node client datagram) up old new = new ≡ old
 MovesDisks (Run reading limit) up old new = (new.sizes ≡ old.sizes) × (up ≡ false → new ≡ old)
 MovesDisks (Crash noise) up old new = (up ≡ true → new ≡ all_crashed old noise) × (up ≡ false → new ≡ old)
 MovesDisks (Restart reading) up old new = (new.sizes ≡ old.sizes) × (up ≡ true → new ≡ old)
-MovesDisks (Tick reading) up old new = new ≡ old
+MovesDisks (Tick reading node) up old new = new ≡ old
 
 -- What a line has the machines do. A run does rounds at its reading until nothing is left to do, but at most its limit. Machines that come back with no
 -- fault of a disk leave nothing to bring back.
@@ -39,7 +39,7 @@ Works rests returns turns (Call reading node client datagram) up old new = Unit 
 Works rests returns turns (Run reading limit) up old new = IsRun rests (turns reading) limit old new
 Works rests returns turns (Crash noise) up old new = Unit {0}
 Works rests returns turns (Restart reading) up old new = up ≡ false → (Rose old.faults new.faults → ⊥) → returns new.service ≡ false
-Works rests returns turns (Tick reading) up old new = Unit {0}
+Works rests returns turns (Tick reading node) up old new = Unit {0}
 
 -- what a line makes of a service and its disks
 pub record Moves {S : Type 0} (rests returns : S → Bool) (turns : ℕ → On S → On S → Type 0) (line : Line) (up : Bool) (old new : On S) : Type 0 where
@@ -50,7 +50,7 @@ pub record Moves {S : Type 0} (rests returns : S → Bool) (turns : ℕ → On S
 -- them is lost.
 pub data CameTo {S : Type 0} (rests returns : S → Bool) (turns : ℕ → On S → On S → Type 0) : List Line → On S → Type 0 where
   AtFirst : (heading : Line) (new : On S) → HoldsAny new.disks → CameTo rests returns turns (heading ∷ []) new
-  ByLine : (line : Line) (before : List Line) (old new : On S) → CameTo rests returns turns before old → Moves rests returns turns line (is_up before) old new → HoldsAny new.disks
+  ByLine : (line : Line) (before : List Line) (old new : On S) → CameTo rests returns turns before old → Moves rests returns turns line (after_lines before).up old new → HoldsAny new.disks
       → CameTo rests returns turns (line ∷ before) new
 
 -- The disks at the end of a text that was played: what they came to along its lines, with what was unsure dropped then from each.

@@ -1,15 +1,16 @@
 -- The headline: what a trace along a schedule says of the file tree.
-use Rattle.std.specs.Prelude.{◌≡◌, ℕ, Bool, true, false, List, [], ◌∷◌, ◌++◌}
+use Rattle.std.specs.Prelude.{◌≡◌, ℕ, max, Bool, true, false, List, [], ◌∷◌, ◌++◌, Option, Some, None, IfSome, IsSome}
 use Rattle.std.specs.List.{AllByRecursion}
 use Rattle.bx_script.specs.declared.line.Line.{Line}
 use Rattle.bx_script.specs.declared.line.Line.TheVariants.{Heading, Call, Run, Crash, Restart, Tick}
 use Rattle.bx_script.specs.declared.trace_line.TraceLine.{TraceLine}
-use Rattle.bx_script.specs.Schedule.{HasPlace}
+use Rattle.bx_script.specs.Schedule.{HasPlace, node_of, reading_of}
 use Rattle.bx_script.specs.TraceText.{InTraceRange}
 use Rattle.bx_history.specs.Trace as traces
 use Rattle.bx_history.specs.Legal.{Leads}
 use Rattle.bx_history.specs.Placed.{Rules}
 use Rattle.bx_history.specs.Along.{IsPlaced}
+use Rattle.bx_lease.specs.Readings.{IsTooFarBack}
 use Rattle.bx_model.specs.declared.entry.Entry.{Entry}
 use Rattle.bx_model.specs.declared.tree.Tree.{Tree}
 use Rattle.bx_model.specs.Opening.{opening}
@@ -17,9 +18,10 @@ use Rattle.bx_model.specs.History.{IsStep}
 use Rattle.bx_nfs.specs.Wire.{ReadsAs, reply_text}
 use Rattle.bx_rpc.specs.Message.{is_message}
 
--- Every datagram that is a call is taken, and nothing is promised of when it is answered; no answer is kept for repeats.
+-- A datagram that is a call is taken where fewer than 64 wait at its node, and it repeats none that waits and none of the last 256 that the node
+-- answered; for a repeat of such a call the answer is sent again. Nothing is promised of when a call is answered.
 abbrev pub rules : Rules
-rules = record { is_call = is_message; is_immediate = λ _ _. false; is_prompt = λ _. false; is_wary = false; kept = 0 }
+rules = record { is_call = is_message; is_immediate = λ _ _. false; is_prompt = λ _. false; is_wary = true; kept = 256 }
 
 -- the tree that a schedule begins with: the opening tree of the heading's volume, with its areas
 abbrev pub opening_of : List Line → Tree
@@ -29,7 +31,7 @@ opening_of (Call reading node client datagram ∷ lines) = opening 0
 opening_of (Run reading limit ∷ lines) = opening 0
 opening_of (Crash noise ∷ lines) = opening 0
 opening_of (Restart reading ∷ lines) = opening 0
-opening_of (Tick reading ∷ lines) = opening 0
+opening_of (Tick reading node ∷ lines) = opening 0
 
 -- The entry as bytes: the call is what its bytes read as, and the reply's bytes are its text.
 pub record IsTyped (bytes : traces.Entry) (entry : Entry) : Type 0 where
@@ -67,18 +69,26 @@ pub record Headline (schedule : List Line) (trace closing : List TraceLine) (las
   pub only : (others : List traces.Entry) (tree : Tree) → traces.Fits rules.kept (trace ++ closing) others → Leads Step (opening_of schedule) others tree
       → (others ≡ bytes) × (tree ≡ last)
 
--- a line that this stage has: there is one node, one device and one area
+-- a line that this stage has: the heading has one node, one device and one area
 abbrev pub IsBuilt : Line → Type 0
 IsBuilt (Heading volume nodes devices areas) = (nodes ≡ 1) × (devices ≡ 1) × (areas ≡ 1)
-IsBuilt (Call reading node client datagram) = node ≡ 0
+IsBuilt (Call reading node client datagram) = Unit {0}
 IsBuilt (Run reading limit) = Unit {0}
 IsBuilt (Crash noise) = Unit {0}
 IsBuilt (Restart reading) = Unit {0}
-IsBuilt (Tick reading) = Unit {0}
+IsBuilt (Tick reading node) = Unit {0}
 
 -- such a line, in its place
 abbrev pub IsInPlace : Bool → Line → Type 0
 IsInPlace first line = HasPlace first line × IsBuilt line
+
+-- whether the machines are up, and the greatest reading of a clock so far, in milliseconds
+pub record Machines : Type 0 where
+  pub up : Bool
+  pub greatest : ℕ
+
+abbrev pub machines_at : Bool → ℕ → Machines
+machines_at up greatest = record { up = up; greatest = greatest }
 
 -- whether the machines are up after a line, by whether they were before it
 abbrev pub up_after : Line → Bool → Bool
@@ -87,27 +97,37 @@ up_after (Call reading node client datagram) up = up
 up_after (Run reading limit) up = up
 up_after (Crash noise) up = false
 up_after (Restart reading) up = true
-up_after (Tick reading) up = up
+up_after (Tick reading node) up = up
 
--- and after these lines, the newest first; they are up at first
-abbrev pub is_up : List Line → Bool
-is_up [] = true
-is_up (line ∷ before) = up_after line (is_up before)
+-- the greatest reading with one more, where there is one
+abbrev pub greatest_with : Option ℕ → ℕ → ℕ
+greatest_with None greatest = greatest
+greatest_with (Some reading) greatest = max greatest reading
 
--- a line that a machine has to hear: a datagram arrives there, or its clock ticks
+abbrev pub after_line : Line → Machines → Machines
+after_line line machines = machines_at (up_after line machines.up) (greatest_with (reading_of line) machines.greatest)
+
+-- and after these lines, the newest first; they are up at first, and no clock was read
+abbrev pub after_lines : List Line → Machines
+after_lines [] = machines_at true 0
+after_lines (line ∷ before) = after_line line (after_lines before)
+
+-- the node that a line names is there: at this stage there is node 0 alone
+abbrev pub IsThere : Line → Type 0
+IsThere line = IfSome (node_of line) (λ node. node ≡ 0)
+
+-- the reading of a line lies at most 500 ms behind the greatest one before it
+abbrev pub IsSteady : ℕ → Line → Type 0
+IsSteady greatest line = IfSome (reading_of line) (λ reading. IsTooFarBack greatest reading → ⊥)
+
+-- a line that a node has to hear: a datagram arrives there, or its clock ticks
 abbrev pub Asks : Line → Type 0
-Asks (Heading volume nodes devices areas) = ⊥
-Asks (Call reading node client datagram) = Unit {0}
-Asks (Run reading limit) = ⊥
-Asks (Crash noise) = ⊥
-Asks (Restart reading) = ⊥
-Asks (Tick reading) = Unit {0}
+Asks line = IsSome (node_of line)
 
 -- such a line comes only while the machines are up
-abbrev pub IsHeard : Bool → Line → Type 0
-IsHeard up (Heading volume nodes devices areas) = Unit {0}
-IsHeard up (Call reading node client datagram) = up ≡ true
-IsHeard up (Run reading limit) = Unit {0}
-IsHeard up (Crash noise) = Unit {0}
-IsHeard up (Restart reading) = Unit {0}
-IsHeard up (Tick reading) = up ≡ true
+abbrev pub IsUpFor : Bool → Line → Type 0
+IsUpFor up line = IfSome (node_of line) (λ node. up ≡ true)
+
+-- A line that may come: its node is there, its reading doesn't lie too far back, and whoever has to hear it is up.
+abbrev pub IsHeard : Machines → Line → Type 0
+IsHeard machines line = IsThere line × IsSteady machines.greatest line × IsUpFor machines.up line

@@ -1,24 +1,25 @@
 -- What a replay leaves on its output, by the way in which it ends.
-use Rattle.std.specs.Prelude.{◌≡◌, ◌≢◌, ℕ, ◌+◌, ◌<◌, ◌≤◌, ◌==◌, Bool, false, List, [], ◌∷◌, ◌++◌, length, map, reverse, codes, ◌⊎◌}
+use Rattle.std.specs.Prelude.{◌≡◌, ◌≢◌, ℕ, ◌+◌, ◌<◌, ◌≤◌, ◌==◌, Bool, false, List, [], ◌∷◌, ◌++◌, length, map, reverse, codes, ◌⊎◌, Option, IsSomeAnd}
 use Rattle.bx_base.specs.Text.{LacksFeed, ended, text_of, lines_of}
 use Rattle.bx_script.specs.declared.line.Line.{Line}
 use Rattle.bx_script.specs.declared.trace_line.TraceLine.{TraceLine}
 use Rattle.bx_script.specs.ScheduleLine.{spelling}
 use Rattle.bx_script.specs.TraceText.{trace_text}
-use Rattle.bx_script.specs.Schedule.{IsSchedule}
+use Rattle.bx_script.specs.Schedule.{IsSchedule, reading_of}
+use Rattle.bx_lease.specs.Readings.{IsTooFarBack, back_by}
 use Rattle.bx_history.specs.Along.{AllowedNewest}
 use Rattle.bx_model.specs.declared.tree.Tree.{Tree}
 use Rattle.bx_model.specs.Listing.{listing}
 use Rattle.bx_stops.specs.declared.stop.Reason.{Reason}
-use Rattle.bx_stops.specs.declared.stop.Reason.TheVariants.{Grammar, Down}
-use Rattle.bx_replay.specs.Headline.{Asks, Headline, IsHeard, IsInPlace, is_up}
+use Rattle.bx_stops.specs.declared.stop.Reason.TheVariants.{Grammar, NoMachine, ClockBack, Down}
+use Rattle.bx_replay.specs.Headline.{Asks, Headline, IsHeard, IsInPlace, IsSteady, IsThere, Machines, after_lines}
 
--- A line may be done behind these, the newest of which comes first: there is room for it, it has its place and is one of this stage,
--- and if a machine has to hear it, it comes while the machines are up.
+-- A line may be done behind these, the newest of which comes first: there is room for it, it has its place and is one of this stage, and it may
+-- come then.
 pub record Allows (before : List Line) (line : Line) : Type 0 where
   pub few : length before < 4294967295
   pub in_place : IsInPlace (length before == 0) line
-  pub heard : IsHeard (is_up before) line
+  pub heard : IsHeard (after_lines before) line
 
 -- the lines that a replay has done, the oldest first: each was allowed behind those before it
 abbrev pub AreDone : List Line → Type 0
@@ -44,23 +45,38 @@ pub record IsReplayed (text : List ℕ) (Stands : Tree → List TraceLine → Ty
   pub output-is : output ≡ trace_text trace ++ closing_text closing last
   pub stands : Stands last closing
 
--- a call or a tick that comes while the machines are down
-pub record IsUnheard (first : Bool) (up : Bool) (line : List ℕ) : Type 0 where
+-- a reading lies further behind the greatest one than clocks may differ, by so much
+abbrev pub IsBackBy : ℕ → Option ℕ → ℕ → Type 0
+IsBackBy greatest reading by = IsSomeAnd reading (λ r. IsTooFarBack greatest r × (by ≡ back_by greatest r))
+
+-- A line in the grammar is refused, for the first of these reasons that it meets: the node that it names isn't there; its reading lies too far
+-- back; the machines are down, and one has to hear it.
+abbrev pub IsRefusedLine : Reason → Machines → Line → Type 0
+IsRefusedLine Grammar machines line = ⊥
+IsRefusedLine NoMachine machines line = IsThere line → ⊥
+IsRefusedLine (ClockBack by) machines line = IsThere line × IsBackBy machines.greatest (reading_of line) by
+IsRefusedLine Down machines line = IsThere line × IsSteady machines.greatest line × (machines.up ≡ false) × Asks line
+
+-- the text spells a line that has its place there, and that is refused so
+pub record IsTurnedAway (first : Bool) (machines : Machines) (text : List ℕ) (reason : Reason) : Type 0 where
   pub value : Line
-  pub asks : Asks value
   pub in_place : IsInPlace first value
-  pub spelled : line ≡ spelling value
-  pub down : up ≡ false
+  pub spelled : text ≡ spelling value
+  pub why : IsRefusedLine reason machines value
 
 -- A line of text is refused behind these lines, for a reason. The text decides that it is outside the grammar: no line of this stage
--- that has its place there is spelled so, or there is no room for one. A line in the grammar is refused because nobody is there to hear it.
+-- that has its place there is spelled so, or there is no room for one.
 abbrev pub Refuses : List Line → List ℕ → Reason → Type 0
 Refuses before text Grammar = (4294967295 ≤ length before) ⊎ ((value : Line) → IsInPlace (length before == 0) value → text ≢ spelling value)
-Refuses before text Down = (length before < 4294967295) × IsUnheard (length before == 0) (is_up (reverse before)) text
+Refuses before text NoMachine = (length before < 4294967295) × IsTurnedAway (length before == 0) (after_lines (reverse before)) text NoMachine
+Refuses before text (ClockBack by) = (length before < 4294967295) × IsTurnedAway (length before == 0) (after_lines (reverse before)) text (ClockBack by)
+Refuses before text Down = (length before < 4294967295) × IsTurnedAway (length before == 0) (after_lines (reverse before)) text Down
 
 -- Behind the lines that were done, the next one is refused. An empty schedule lacks its first line.
 abbrev pub IsRefusedAt : List Line → List (List ℕ) → Reason → Type 0
 IsRefusedAt done [] Grammar = done ≡ []
+IsRefusedAt done [] NoMachine = ⊥
+IsRefusedAt done [] (ClockBack by) = ⊥
 IsRefusedAt done [] Down = ⊥
 IsRefusedAt done (line ∷ lines) reason = Refuses done line reason
 

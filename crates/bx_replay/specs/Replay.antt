@@ -8,8 +8,11 @@ use Rattle.bx_script.specs.declared.line.Line.{Line}
 use Rattle.bx_script.specs.declared.line.Line.TheVariants.{Heading}
 use Rattle.bx_script.specs.declared.trace_line.TraceLine.{TraceLine}
 use Rattle.bx_script.specs.declared.trace_line.TraceLine.TheVariants.{Acted, Reply}
+use Rattle.bx_script.specs.Schedule.{reading_of}
 use Rattle.bx_script.specs.ScheduleLine.{spelling}
 use Rattle.bx_script.specs.TraceText.{InTraceRange, trace_text}
+use Rattle.bx_desk.specs.Desks.{AtDesk, answered}
+use Rattle.bx_desk.specs.Nodes.{IsDeskOf, taking_at}
 use Rattle.bx_history.specs.Trace as traces
 use Rattle.bx_history.specs.Parts.{trace_of}
 use Rattle.bx_history.specs.Placed.{HasReadingSince}
@@ -21,11 +24,11 @@ use Rattle.bx_service.specs.Rounds.{Doubt, Tells}
 use Rattle.bx_service.specs.declared.event.Event.{Event}
 use Rattle.bx_service.specs.declared.event.Event.TheVariants.{Answered, Found}
 use Rattle.bx_stops.specs.declared.stop.Reason.{Reason}
-use Rattle.bx_stops.specs.declared.stop.Reason.TheVariants.{Grammar, Down}
+use Rattle.bx_stops.specs.declared.stop.Reason.TheVariants.{Grammar, NoMachine, ClockBack, Down}
 use Rattle.bx_stops.specs.declared.stop.Stop.{Stop}
 use Rattle.bx_stops.specs.declared.stop.Stop.TheVariants as stops
-use Rattle.bx_replay.specs.Headline.{Asks, rules, opening_of, IsHeard, IsInPlace, Step, is_up, up_after}
-use Rattle.bx_replay.specs.Outcome.{AreDone, IsBroken, IsCut, IsCutOff, IsFirstRefused, IsReadTo, IsRefused, IsPlayable, IsReplayed, closing_text}
+use Rattle.bx_replay.specs.Headline.{Asks, rules, opening_of, IsHeard, IsInPlace, IsThere, IsUpFor, Machines, Step, after_line, after_lines, up_after}
+use Rattle.bx_replay.specs.Outcome.{AreDone, IsBackBy, IsBroken, IsCut, IsCutOff, IsFirstRefused, IsReadTo, IsRefused, IsRefusedLine, IsPlayable, IsReplayed, closing_text}
 
 -- the calls that wait at each node, the newest first: all of them wait at node 0
 abbrev pub waits_at : List traces.Taking → ℕ → List traces.Taking
@@ -37,14 +40,16 @@ pub record IsDoubted (done : List Done) (doubt : Doubt) : Type 0 where
   pub lacks : LacksPoint (trace_of (parts_of done)) doubt.call
   pub since : HasReadingSince doubt.point.call doubt.point.moment (parts_of done)
 
--- After these lines, the newest first, the tree, the calls that wait, the oldest first, and the count of calls are those that the trace
--- leaves, and the machines are up or not; what is in doubt may be told later; and what was written since the start is that trace, whose
+-- After these lines, the newest first, the tree, the calls that wait, the oldest first, the desk and the count of calls are those that the trace
+-- leaves, and the machines and their clocks are so; what is in doubt may be told later; and what was written since the start is that trace, whose
 -- lines are in range.
-pub record Stands (tree : Tree) (up : Bool) (waits : List traces.Taking) (doubt : Option Doubt) (calls : ℕ) (done : List Done) (start written : List ℕ) : Type 0 where
+pub record Stands (tree : Tree) (machines : Machines) (waits : List traces.Taking) (desk : AtDesk) (doubt : Option Doubt) (calls : ℕ) (done : List Done) (start written : List ℕ) : Type 0 where
   pub history : List traces.Entry
   pub accounts : AwaitsNewest Step rules (opening_of (schedule_of done)) (parts_of done) history tree (waits_at waits)
   pub counted : calls ≡ traces.taken_count (trace_of (parts_of done))
-  pub up_is : up ≡ is_up (reverse (schedule_of done))
+  pub desk_is : IsDeskOf 0 (parts_of done) desk
+  pub desk_waits : waits ≡ map (taking_at 0) desk.waits
+  pub machines_are : machines ≡ after_lines (reverse (schedule_of done))
   pub doubted : (of : Doubt) → doubt ≡ Some of → IsDoubted done of
   pub headed : 0 < length (schedule_of done)
   pub are_done : AreDone (schedule_of done)
@@ -109,39 +114,44 @@ HasLineCause stops.OutOfMemory number before now = Unit {0}
 -- ---- doing a line
 
 -- a tree is held, and the replay stands for it with one line more
-pub record StandsAfter (Holds : Tree → Option Doubt → Type 0) (up : Bool) (waits : List traces.Taking) (calls : ℕ) (line : Line) (done : List Done) (start written : List ℕ) : Type 0 where
+pub record StandsAfter (Holds : Tree → Option Doubt → Type 0) (machines : Machines) (waits : List traces.Taking) (desk : AtDesk) (calls : ℕ) (line : Line) (done : List Done) (start written : List ℕ) : Type 0 where
   pub tree : Tree
   pub doubt : Option Doubt
   pub holds : Holds tree doubt
   pub lines : List TraceLine
-  pub stands : Stands tree up waits doubt calls (record { line = line; lines = lines } ∷ done) start written
+  pub stands : Stands tree machines waits desk doubt calls (record { line = line; lines = lines } ∷ done) start written
 
 -- The replay would stand with one line more, but only a part of the trace was written.
 pub record BreaksAfter (line : Line) (done : List Done) (start written : List ℕ) : Type 0 where
   pub tree : Tree
-  pub up : Bool
+  pub machines : Machines
   pub waits : List traces.Taking
+  pub desk : AtDesk
   pub doubt : Option Doubt
   pub calls : ℕ
   pub lines : List TraceLine
   pub output : List ℕ
   pub more : List ℕ
   pub added : written ≡ start ++ output
-  pub after : Stands tree up waits doubt calls (record { line = line; lines = lines } ∷ done) start (written ++ more)
+  pub after : Stands tree machines waits desk doubt calls (record { line = line; lines = lines } ∷ done) start (written ++ more)
 
--- a line is refused for this reason where the machines are up or not
-abbrev pub IsRefusedLine : Reason → Bool → Line → Type 0
-IsRefusedLine Grammar up line = ⊥
-IsRefusedLine Down up line = (up ≡ false) × Asks line
+-- a line that is done may come, and the machines are as it leaves them; one that is refused has its reason
+abbrev pub Hears : Result (Unit {0}) Stop → Machines → Machines → Line → Type 0
+Hears (Ok _) old new line = IsHeard old line × (new ≡ after_line line old)
+Hears (Err (stops.Refused number reason)) old new line = IsRefusedLine reason old line
+Hears (Err stops.ReadFault) old new line = Unit {0}
+Hears (Err stops.WriteFault) old new line = Unit {0}
+Hears (Err stops.DiskFault) old new line = Unit {0}
+Hears (Err stops.OutOfMemory) old new line = Unit {0}
 
--- a line that is done is heard, and the machines are up or not after it; and a line that is refused isn't
-abbrev pub Hears : Result (Unit {0}) Stop → Bool → Bool → Line → Type 0
-Hears (Ok _) up now line = IsHeard up line × (now ≡ up_after line up)
-Hears (Err (stops.Refused number reason)) up now line = IsRefusedLine reason up line
-Hears (Err stops.ReadFault) up now line = Unit {0}
-Hears (Err stops.WriteFault) up now line = Unit {0}
-Hears (Err stops.DiskFault) up now line = Unit {0}
-Hears (Err stops.OutOfMemory) up now line = Unit {0}
+-- of whether the machines are up alone: a line that is done finds up whoever has to hear it, and one that is refused finds the machines down
+abbrev pub HearsUp : Result (Unit {0}) Stop → Bool → Bool → Line → Type 0
+HearsUp (Ok _) up now line = IsUpFor up line × (now ≡ up_after line up)
+HearsUp (Err (stops.Refused number reason)) up now line = (reason ≡ Down) × (up ≡ false) × Asks line
+HearsUp (Err stops.ReadFault) up now line = Unit {0}
+HearsUp (Err stops.WriteFault) up now line = Unit {0}
+HearsUp (Err stops.DiskFault) up now line = Unit {0}
+HearsUp (Err stops.OutOfMemory) up now line = Unit {0}
 
 -- what doing a line leaves, by what it leaves where it is done, and by what was written before and now
 abbrev pub DoesLine : Result (Unit {0}) Stop → Type 0 → Line → List Done → List ℕ → List ℕ → List ℕ → Type 0
@@ -152,6 +162,17 @@ DoesLine (Err stops.WriteFault) After line done start old new = BreaksAfter line
 DoesLine (Err stops.DiskFault) After line done start old new = ⊥
 DoesLine (Err stops.OutOfMemory) After line done start old new = (new ≡ old) ⊎ BreaksAfter line done start new
 
+-- A line with this number is refused for the node that it names, or for its reading.
+abbrev pub IsKeptOut : Stop → ℕ → ℕ → Line → Type 0
+IsKeptOut (stops.Refused line Grammar) number greatest value = ⊥
+IsKeptOut (stops.Refused line NoMachine) number greatest value = (line ≡ number) × (IsThere value → ⊥)
+IsKeptOut (stops.Refused line (ClockBack by)) number greatest value = (line ≡ number) × IsThere value × IsBackBy greatest (reading_of value) by
+IsKeptOut (stops.Refused line Down) number greatest value = ⊥
+IsKeptOut stops.ReadFault number greatest value = ⊥
+IsKeptOut stops.WriteFault number greatest value = ⊥
+IsKeptOut stops.DiskFault number greatest value = ⊥
+IsKeptOut stops.OutOfMemory number greatest value = ⊥
+
 -- why doing a line stops short
 abbrev pub HasStepCause : Stop → ℕ → ℕ → ℕ → Type 0
 HasStepCause (stops.Refused line reason) number before now = line ≡ number
@@ -159,6 +180,13 @@ HasStepCause stops.ReadFault number before now = ⊥
 HasStepCause stops.WriteFault number before now = Rose before now
 HasStepCause stops.DiskFault number before now = ⊥
 HasStepCause stops.OutOfMemory number before now = Unit {0}
+
+-- ---- the desk
+
+-- the desk once this was done in a round
+abbrev pub desk_then : AtDesk → Event → AtDesk
+desk_then desk (Answered acted) = answered desk acted.reply
+desk_then desk (Found point) = desk
 
 -- ---- printing
 
@@ -261,22 +289,22 @@ HasFinishCause stops.OutOfMemory before now Held bench_before bench_now = Unit {
 
 -- ---- between two lines
 
--- The text was read up to the rest: so many lines, each of which might be done; then the machines are up or not.
-pub record IsRead (up : Bool) (text rest : List ℕ) (number : ℕ) : Type 0 where
+-- The text was read up to the rest: so many lines, each of which might be done; the machines and their clocks are then so.
+pub record IsRead (machines : Machines) (text rest : List ℕ) (number : ℕ) : Type 0 where
   pub done : List Line
   pub read : IsReadTo text done rest
   pub are_done : AreDone done
   pub headed : 0 < length done
-  pub up_is : up ≡ is_up (reverse done)
+  pub machines_are : machines ≡ after_lines (reverse done)
   pub count : number ≡ length done
 
 -- A tree is held, and the replay stands for it after these lines.
-pub record Going (Holds : Tree → Option Doubt → Type 0) (up : Bool) (waits : List traces.Taking) (calls : ℕ) (text rest : List ℕ) (number : ℕ) (start written : List ℕ) : Type 0 where
+pub record Going (Holds : Tree → Option Doubt → Type 0) (machines : Machines) (waits : List traces.Taking) (desk : AtDesk) (calls : ℕ) (text rest : List ℕ) (number : ℕ) (start written : List ℕ) : Type 0 where
   pub tree : Tree
   pub doubt : Option Doubt
   pub holds : Holds tree doubt
   pub done : List Done
-  pub stands : Stands tree up waits doubt calls done start written
+  pub stands : Stands tree machines waits desk doubt calls done start written
   pub read : IsReadTo text (schedule_of done) rest
   pub count : number ≡ length done
 

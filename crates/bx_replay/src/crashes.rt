@@ -1,13 +1,13 @@
 //! How a replay crashes, and comes back.
 
-ghost use Rattle.std.specs.Prelude.{◌≡◌, ◌≤◌, ◌<◌, List, ℕ, length, IfErr, OnOk, Option, true, false};
+ghost use Rattle.std.specs.Prelude.{◌≡◌, ◌≤◌, ◌<◌, List, ℕ, length, max, IfErr, OnOk, Option, true, false};
 ghost use Rattle.bx_base.specs.Faults.{Rose};
 ghost use Rattle.bx_disk.specs.declared.noise.Noise.{Noise};
 ghost use Rattle.bx_history.specs.Along.{Done};
 ghost use Rattle.bx_model.specs.declared.tree.Tree.{Tree};
 ghost use Rattle.bx_script.specs.declared.line.Line.TheVariants.{Crash as CrashLine, Restart as RestartLine};
 ghost use Rattle.bx_replay.specs.Course.{MovesDisks};
-ghost use Rattle.bx_replay.specs.Headline.{IsInPlace};
+ghost use Rattle.bx_replay.specs.Headline.{IsInPlace, IsSteady, machines_at};
 ghost use Rattle.bx_replay.specs.Replay.{DoesLine, HasPrintCause, Stands, StandsAfter, UnlessWrite};
 ghost use Rattle.bx_service.specs.Rounds.{Doubt};
 
@@ -24,9 +24,9 @@ impl<M: Service> Replay<M> {
     /// All machines that are up crash, and their disks with them, with this noise.
     pub(crate) fn crash<B: CrashRack>(&mut self, noise: Noise, bench: &mut B) -> Result<(), Stop>
         requires ready { M.ready self.old.service (B.state bench.old).sizes }
-        ensures crashes { (tree : Tree) (doubt : Option Doubt) (done : List Done) (start written : List ℕ) (how : Noise) → B.tells bench.old → M.holds self.old.service (B.state bench.old) tree doubt → length done < 4294967295
-            → IsInPlace false (CrashLine how) → Stands tree (M.up self.old.service) (M.waits self.old.service) doubt self.old.calls done start written
-            → DoesLine result (StandsAfter (M.holds self.new.service (B.state bench.new)) (M.up self.new.service) (M.waits self.new.service) self.new.calls (CrashLine how) done start written) (CrashLine how) done start written written }
+        ensures crashes { (tree : Tree) (doubt : Option Doubt) (greatest : ℕ) (done : List Done) (start written : List ℕ) (how : Noise) → B.tells bench.old → M.holds self.old.service (B.state bench.old) tree doubt → length done < 4294967295
+            → IsInPlace false (CrashLine how) → Stands tree (machines_at (M.up self.old.service) greatest) (M.waits self.old.service) self.old.desk doubt self.old.calls done start written
+            → DoesLine result (StandsAfter (M.holds self.new.service (B.state bench.new)) (machines_at (M.up self.new.service) greatest) (M.waits self.new.service) self.new.desk self.new.calls (CrashLine how) done start written) (CrashLine how) done start written written }
         ensures holds { (tree : Tree) (doubt : Option Doubt) → B.tells bench.old → M.holds self.old.service (B.state bench.old) tree doubt → OnOk result (M.holds self.new.service (B.state bench.new) tree doubt) }
         ensures noise { B.tells bench.old → OnOk result (MovesDisks (CrashLine noise) (M.up self.old.service) (B.state bench.old) (B.state bench.new)) }
         ensures up { OnOk result (M.up self.new.service ≡ false) }
@@ -34,9 +34,11 @@ impl<M: Service> Replay<M> {
         ensures ready { OnOk result (M.ready self.new.service (B.state bench.new).sizes) }
         ensures cause { (before now : ℕ) → IfErr result (λ stop. HasPrintCause stop before now) }
         ensures calls { self.new.calls ≡ self.old.calls }
+        ensures clock { self.new.clock ≡ self.old.clock }
         ensures bench_later { B.faults bench.old ≤ B.faults bench.new }
         ensures bench_tells { B.tells bench.old → B.tells bench.new }
     {
+        self.desk.clear();
         if self.service.is_up() {
             self.service.crash();
             crash_all(bench, noise)?;
@@ -52,9 +54,9 @@ impl<M: Service> Replay<M> {
         out: &mut K,
     ) -> Result<(), Stop>
         requires ready { M.ready self.old.service (B.state bench.old).sizes }
-        ensures restarts { (tree : Tree) (doubt : Option Doubt) (reading : ℕ) (done : List Done) (start : List ℕ) → K.tells out.old → B.tells bench.old → M.holds self.old.service (B.state bench.old) tree doubt → length done < 4294967295
-            → IsInPlace false (RestartLine reading) → Stands tree (M.up self.old.service) (M.waits self.old.service) doubt self.old.calls done start (K.written out.old)
-            → DoesLine result (StandsAfter (M.holds self.new.service (B.state bench.new)) (M.up self.new.service) (M.waits self.new.service) self.new.calls (RestartLine reading) done start (K.written out.new)) (RestartLine reading) done start (K.written out.old) (K.written out.new) }
+        ensures restarts { (tree : Tree) (doubt : Option Doubt) (greatest reading : ℕ) (done : List Done) (start : List ℕ) → K.tells out.old → B.tells bench.old → M.holds self.old.service (B.state bench.old) tree doubt → length done < 4294967295
+            → IsInPlace false (RestartLine reading) → IsSteady greatest (RestartLine reading) → Stands tree (machines_at (M.up self.old.service) greatest) (M.waits self.old.service) self.old.desk doubt self.old.calls done start (K.written out.old)
+            → DoesLine result (StandsAfter (M.holds self.new.service (B.state bench.new)) (machines_at (M.up self.new.service) (max greatest reading)) (M.waits self.new.service) self.new.desk self.new.calls (RestartLine reading) done start (K.written out.new)) (RestartLine reading) done start (K.written out.old) (K.written out.new) }
         ensures holds { (tree : Tree) (doubt : Option Doubt) → B.tells bench.old → M.holds self.old.service (B.state bench.old) tree doubt → OnOk result ((next : Tree) × (now : Option Doubt) × M.holds self.new.service (B.state bench.new) next now) }
         ensures moves { (reading : ℕ) → MovesDisks (RestartLine reading) (M.up self.old.service) (B.state bench.old) (B.state bench.new) }
         ensures back { (tree : Tree) (doubt : Option Doubt) → B.tells bench.old → M.holds self.old.service (B.state bench.old) tree doubt → M.up self.old.service ≡ false → (Rose (B.faults bench.old) (B.faults bench.new) → ⊥)
@@ -65,6 +67,7 @@ impl<M: Service> Replay<M> {
         ensures cause { IfErr result (λ stop. HasPrintCause stop (K.faults out.old) (K.faults out.new)) }
         ensures first { UnlessWrite result (K.faults out.new ≡ K.faults out.old) }
         ensures calls { self.new.calls ≡ self.old.calls }
+        ensures clock { self.new.clock ≡ self.old.clock }
         ensures later { K.faults out.old ≤ K.faults out.new }
         ensures keeps_telling { K.tells out.old → K.tells out.new }
         ensures bench_later { B.faults bench.old ≤ B.faults bench.new }

@@ -3,6 +3,7 @@
 ghost use Rattle.std.specs.Prelude.{◌≡◌, ◌≤◌, ℕ, Option, true, false, [], ◌++◌, IfOk, IfErr, filter, map, OnOk};
 ghost use Rattle.bx_audit.specs.Audited.{AreOpen};
 ghost use Rattle.bx_base.specs.declared.names.Point.{Point};
+ghost use Rattle.bx_desk.specs.Desks.{empty_desk};
 ghost use Rattle.bx_disk.specs.Disks.{Disks};
 ghost use Rattle.bx_global.specs.Opening.{opening_state};
 ghost use Rattle.bx_model.specs.declared.tree.Tree.{Tree};
@@ -20,7 +21,9 @@ use crate::schedule::next_line;
 use crate::state::Replay;
 use bx_audit::Listing;
 use bx_base::{OutOfMemory, Point};
+use bx_desk::Desk;
 use bx_disk::{CrashRack, Rack};
+use bx_lease::ClockRule;
 use bx_outside::{LineReader, Sink, Source, write_all};
 use bx_script::{Line, TraceLine};
 use bx_service::Service;
@@ -46,6 +49,8 @@ impl<M: Service> Replay<M> {
         ensures latest { IfOk result (λ replay. M.latest replay.service ≡ replay.calls) }
         ensures ready { IfOk result (λ replay. M.ready replay.service (B.state bench.new).sizes) }
         ensures calls { IfOk result (λ replay. replay.calls ≡ 0) }
+        ensures clock { IfOk result (λ replay. replay.clock ≡ 0) }
+        ensures desk { IfOk result (λ replay. replay.desk ≡ empty_desk) }
         ensures cause { IfErr result (λ stop. HasBeginCause stop (S.faults input.old) (S.faults input.new) (B.faults bench.old) (B.faults bench.new)) }
         ensures first { UnlessRead result (S.faults input.new ≡ S.faults input.old) }
         ensures bench_first { UnlessDisk result (B.faults bench.new ≡ B.faults bench.old) }
@@ -57,10 +62,13 @@ impl<M: Service> Replay<M> {
     {
         match next_line(alloc, reader, input, 1)? {
             Some(Line::Heading { volume, .. }) => {
+                let desk = Desk::new(alloc)?;
                 let service = M::begin(alloc, bench, volume)?;
                 Ok(Replay {
                     service,
+                    desk,
                     calls: 0,
+                    clock: ClockRule::new(),
                     text: Vec::new(alloc),
                 })
             }

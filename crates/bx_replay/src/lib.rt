@@ -1,6 +1,7 @@
 //! A schedule replayed on a service over a bench of disks that hold the file tree, and what its trace says: the headline.
 #![tactic(auto)]
 
+mod admitting;
 mod bench;
 mod crashes;
 mod ends;

@@ -6,21 +6,26 @@ ghost use Rattle.bx_history.specs.Along.{Done};
 ghost use Rattle.bx_model.specs.declared.tree.Tree.{Tree};
 ghost use Rattle.bx_script.specs.declared.line.Line.TheVariants.{Run as RunLine};
 ghost use Rattle.bx_script.specs.TraceText.{InTraceRange, trace_text};
-ghost use Rattle.bx_replay.specs.Replay.{DoesLine, HasPrintCause, Prints, StandsAfter, UnlessMemory, UnlessWrite, told_at};
+ghost use Rattle.bx_replay.specs.Headline.{machines_at};
+ghost use Rattle.bx_replay.specs.Replay.{DoesLine, HasPrintCause, Prints, StandsAfter, UnlessMemory, UnlessWrite, desk_then, told_at};
 ghost use Rattle.bx_service.specs.Rounds.{Doubt, IsRun};
 
 use crate::print::print_lines;
 use crate::state::Replay;
+use bx_base::{OutOfMemory, Raw};
+use bx_desk::Desk;
 use bx_disk::Rack;
 use bx_outside::Sink;
 use bx_script::TraceLine;
 use bx_service::{Event, Service};
 use bx_stops::Stop;
+use std::alloc::Global;
 
 impl<M: Service> Replay<M> {
     /// Does rounds at a reading, until nothing is left to do, but at most so many.
     pub(crate) fn run<K: Sink, B: Rack>(
         &mut self,
+        alloc: Global,
         reading: u64,
         limit: u32,
         bench: &mut B,
@@ -34,13 +39,14 @@ impl<M: Service> Replay<M> {
         ensures ends { OnOk result (IsRun M.rests (M.turns reading) limit (record { service = self.old.service; disks = B.state bench.old; faults = B.faults bench.old }) (record { service = self.new.service; disks = B.state bench.new; faults = B.faults bench.new })) }
         ensures sizes { (B.state bench.new).sizes ≡ (B.state bench.old).sizes }
         ensures down { M.up self.old.service ≡ false → B.state bench.new ≡ B.state bench.old }
-        ensures runs { (done : List Done) (start : List ℕ) → K.tells out.old → B.tells bench.old
-            → StandsAfter (M.holds self.old.service (B.state bench.old)) (M.up self.old.service) (M.waits self.old.service) self.old.calls (RunLine reading limit) done start (K.written out.old)
-            → DoesLine result (StandsAfter (M.holds self.new.service (B.state bench.new)) (M.up self.new.service) (M.waits self.new.service) self.new.calls (RunLine reading limit) done start (K.written out.new)) (RunLine reading limit) done start (K.written out.old) (K.written out.new) }
+        ensures runs { (greatest : ℕ) (done : List Done) (start : List ℕ) → K.tells out.old → B.tells bench.old
+            → StandsAfter (M.holds self.old.service (B.state bench.old)) (machines_at (M.up self.old.service) greatest) (M.waits self.old.service) self.old.desk self.old.calls (RunLine reading limit) done start (K.written out.old)
+            → DoesLine result (StandsAfter (M.holds self.new.service (B.state bench.new)) (machines_at (M.up self.new.service) greatest) (M.waits self.new.service) self.new.desk self.new.calls (RunLine reading limit) done start (K.written out.new)) (RunLine reading limit) done start (K.written out.old) (K.written out.new) }
         ensures holds { (tree : Tree) (doubt : Option Doubt) → B.tells bench.old → M.holds self.old.service (B.state bench.old) tree doubt → OnOk result ((next : Tree) × (now : Option Doubt) × M.holds self.new.service (B.state bench.new) next now) }
         ensures cause { IfErr result (λ stop. HasPrintCause stop (K.faults out.old) (K.faults out.new)) }
         ensures first { UnlessWrite result (K.faults out.new ≡ K.faults out.old) }
         ensures calls { self.new.calls ≡ self.old.calls }
+        ensures clock { self.new.clock ≡ self.old.clock }
         ensures later { K.faults out.old ≤ K.faults out.new }
         ensures keeps_telling { K.tells out.old → K.tells out.new }
         ensures bench_later { B.faults bench.old ≤ B.faults bench.new }
@@ -51,10 +57,21 @@ impl<M: Service> Replay<M> {
                 return Ok(());
             }
             if let Some(event) = self.service.round(bench, reading)? {
+                keep(alloc, &mut self.desk, &event)?;
                 tell(&mut self.text, event, out)?;
             }
         }
         Ok(())
+    }
+}
+
+/// Keeps the answer to the oldest call, where one was given.
+fn keep(alloc: Global, desk: &mut Desk, event: &Event) -> Result<(), OutOfMemory>
+    ensures { OnOk result (desk.new ≡ desk_then desk.old event.now) }
+{
+    match event {
+        Event::Answered(acted) => desk.answer(Raw::of(alloc, acted.reply.bytes())?),
+        Event::Found(_) => Ok(()),
     }
 }
 

@@ -56,7 +56,7 @@ fn line_at(alloc: Global, text: &[u8], first: bool) -> Result<Option<Line>, OutO
     }
 }
 
-// Whether this stage has the line: there is one node, one device and one area.
+// Whether this stage has the line: a heading has one node, one device and one area.
 fn is_built(line: &Line) -> bool
     ensures { IsTrue result ↔ IsBuilt line.now }
 {
@@ -67,7 +67,6 @@ fn is_built(line: &Line) -> bool
             areas,
             ..
         } => *nodes == 1 && *devices == 1 && *areas == 1,
-        Line::Call { node, .. } => *node == 0,
-        Line::Run { .. } | Line::Crash { .. } | Line::Restart { .. } | Line::Tick { .. } => true,
+        Line::Call { .. } | Line::Run { .. } | Line::Crash { .. } | Line::Restart { .. } | Line::Tick { .. } => true,
     }
 }

@@ -1,13 +1,17 @@
 //! What the lines of a schedule do.
 
-ghost use Rattle.std.specs.Prelude.{◌≡◌, ◌≤◌, ◌<◌, ◌+◌, ◌^◌, [], List, ℕ, length, IfErr, OnOk, Option, true, false};
+ghost use Rattle.std.specs.Prelude.{◌≡◌, ◌≤◌, ◌<◌, ◌+◌, ◌^◌, [], List, ℕ, length, max, nat_le, IfErr, None, OnOk, Option, true, false};
+ghost use Rattle.std.specs.List.{list_any};
+ghost use Rattle.bx_desk.specs.Desks.{is_from};
 ghost use Rattle.bx_disk.specs.Disks.{Disks};
 ghost use Rattle.bx_history.specs.Along.{Done};
 ghost use Rattle.bx_model.specs.declared.tree.Tree.{Tree};
 ghost use Rattle.bx_script.specs.declared.line.Line.TheVariants.{Call as CallLine, Tick as TickLine};
+ghost use Rattle.bx_script.specs.Schedule.{reading_of};
 ghost use Rattle.bx_replay.specs.Course.{Moves};
-ghost use Rattle.bx_replay.specs.Headline.{IsInPlace};
-ghost use Rattle.bx_replay.specs.Replay.{DoesLine, HasPrintCause, HasStepCause, Hears, Stands, StandsAfter, UnlessWrite};
+ghost use Rattle.bx_replay.specs.Headline.{IsInPlace, IsSteady, IsThere, greatest_with, machines_at};
+ghost use Rattle.bx_replay.specs.Replay.{DoesLine, HasPrintCause, HasStepCause, Hears, HearsUp, Stands, StandsAfter, UnlessWrite};
+ghost use Rattle.bx_replies.specs.Answers.{reply_of};
 ghost use Rattle.bx_rpc.specs.Message.{is_message as is_call};
 ghost use Rattle.bx_service.specs.Rounds.{Doubt};
 
@@ -23,7 +27,7 @@ use bx_stops::{Reason, Stop};
 use std::alloc::Global;
 
 impl<M: Service> Replay<M> {
-    /// Does a line behind the heading: a call is taken, and a datagram that is none is passed over; a run does rounds; all crash, or come back; a clock ticks.
+    /// Does a line behind the heading, unless it names a node that isn't there, or its reading lies too far back.
     pub fn step<K: Sink, B: CrashRack>(
         &mut self,
         alloc: Global,
@@ -38,15 +42,55 @@ impl<M: Service> Replay<M> {
         requires ready { M.ready self.old.service (B.state bench.old).sizes }
 
         ensures does { (tree : Tree) (doubt : Option Doubt) (done : List Done) (start : List ℕ) → K.tells out.old → B.tells bench.old → M.holds self.old.service (B.state bench.old) tree doubt → length done < 4294967295
-            → Stands tree (M.up self.old.service) (M.waits self.old.service) doubt self.old.calls done start (K.written out.old)
-            → DoesLine result (StandsAfter (M.holds self.new.service (B.state bench.new)) (M.up self.new.service) (M.waits self.new.service) self.new.calls line done start (K.written out.new)) line done start (K.written out.old) (K.written out.new) }
+            → Stands tree (machines_at (M.up self.old.service) self.old.clock) (M.waits self.old.service) self.old.desk doubt self.old.calls done start (K.written out.old)
+            → DoesLine result (StandsAfter (M.holds self.new.service (B.state bench.new)) (machines_at (M.up self.new.service) self.new.clock) (M.waits self.new.service) self.new.desk self.new.calls line done start (K.written out.new)) line done start (K.written out.old) (K.written out.new) }
         ensures holds { (tree : Tree) (doubt : Option Doubt) → B.tells bench.old → M.holds self.old.service (B.state bench.old) tree doubt → OnOk result ((next : Tree) × (now : Option Doubt) × M.holds self.new.service (B.state bench.new) next now) }
         ensures latest { OnOk result (M.latest self.new.service ≡ self.new.calls) }
         ensures ready { OnOk result (M.ready self.new.service (B.state bench.new).sizes) }
-        ensures hears { Hears result (M.up self.old.service) (M.up self.new.service) line }
+        ensures hears { Hears result (machines_at (M.up self.old.service) self.old.clock) (machines_at (M.up self.new.service) self.new.clock) line }
         ensures moves { (tree : Tree) (doubt : Option Doubt) → B.tells bench.old → M.holds self.old.service (B.state bench.old) tree doubt
             → OnOk result (Moves M.rests M.returns M.turns line (M.up self.old.service) (record { service = self.old.service; disks = B.state bench.old; faults = B.faults bench.old }) (record { service = self.new.service; disks = B.state bench.new; faults = B.faults bench.new })) }
-        ensures ticks { (reading : ℕ) → line ≡ TickLine reading → M.waits self.old.service ≡ [] → OnOk result (M.tidies self.new.service ≡ true) }
+        ensures ticks { (reading node : ℕ) → line ≡ TickLine reading node → M.waits self.old.service ≡ [] → OnOk result (M.tidies self.new.service ≡ true) }
+        ensures cause { IfErr result (λ stop. HasStepCause stop number (K.faults out.old) (K.faults out.new)) }
+        ensures first { UnlessWrite result (K.faults out.new ≡ K.faults out.old) }
+        ensures calls { self.new.calls ≤ self.old.calls + 1 }
+        ensures later { K.faults out.old ≤ K.faults out.new }
+        ensures keeps_telling { K.tells out.old → K.tells out.new }
+        ensures bench_later { B.faults bench.old ≤ B.faults bench.new }
+        ensures bench_tells { B.tells bench.old → B.tells bench.new }
+    {
+        let clock = self.admit(number, &line)?;
+        self.act(alloc, number, line, bench, out)?;
+        self.clock = clock;
+        Ok(())
+    }
+
+    /// Does a line whose node is there, and whose reading doesn't lie too far back: a call is taken, and a datagram that is none is passed over; a run
+    /// does rounds; all crash, or come back; a clock ticks.
+    fn act<K: Sink, B: CrashRack>(
+        &mut self,
+        alloc: Global,
+        number: u64,
+        line: Line,
+        bench: &mut B,
+        out: &mut K,
+    ) -> Result<(), Stop>
+        requires in_place { IsInPlace false line }
+        requires there { IsThere line }
+        requires few { self.old.calls < 2 ^ 32 }
+        requires latest { M.latest self.old.service ≡ self.old.calls }
+        requires ready { M.ready self.old.service (B.state bench.old).sizes }
+
+        ensures does { (tree : Tree) (doubt : Option Doubt) (greatest : ℕ) (done : List Done) (start : List ℕ) → K.tells out.old → B.tells bench.old → M.holds self.old.service (B.state bench.old) tree doubt → length done < 4294967295
+            → IsSteady greatest line → Stands tree (machines_at (M.up self.old.service) greatest) (M.waits self.old.service) self.old.desk doubt self.old.calls done start (K.written out.old)
+            → DoesLine result (StandsAfter (M.holds self.new.service (B.state bench.new)) (machines_at (M.up self.new.service) (greatest_with (reading_of line) greatest)) (M.waits self.new.service) self.new.desk self.new.calls line done start (K.written out.new)) line done start (K.written out.old) (K.written out.new) }
+        ensures holds { (tree : Tree) (doubt : Option Doubt) → B.tells bench.old → M.holds self.old.service (B.state bench.old) tree doubt → OnOk result ((next : Tree) × (now : Option Doubt) × M.holds self.new.service (B.state bench.new) next now) }
+        ensures latest { OnOk result (M.latest self.new.service ≡ self.new.calls) }
+        ensures ready { OnOk result (M.ready self.new.service (B.state bench.new).sizes) }
+        ensures hears { HearsUp result (M.up self.old.service) (M.up self.new.service) line }
+        ensures moves { (tree : Tree) (doubt : Option Doubt) → B.tells bench.old → M.holds self.old.service (B.state bench.old) tree doubt
+            → OnOk result (Moves M.rests M.returns M.turns line (M.up self.old.service) (record { service = self.old.service; disks = B.state bench.old; faults = B.faults bench.old }) (record { service = self.new.service; disks = B.state bench.new; faults = B.faults bench.new })) }
+        ensures ticks { (reading node : ℕ) → line ≡ TickLine reading node → M.waits self.old.service ≡ [] → OnOk result (M.tidies self.new.service ≡ true) }
         ensures cause { IfErr result (λ stop. HasStepCause stop number (K.faults out.old) (K.faults out.new)) }
         ensures first { UnlessWrite result (K.faults out.new ≡ K.faults out.old) }
         ensures calls { self.new.calls ≤ self.old.calls + 1 }
@@ -62,10 +106,13 @@ impl<M: Service> Replay<M> {
                 client,
                 datagram,
             } => self.call(alloc, number, node, client, datagram, out),
-            Line::Run { reading, limit } => self.run(reading, limit, bench, out),
+            Line::Run { reading, limit } => self.run(alloc, reading, limit, bench, out),
             Line::Crash { noise } => self.crash(noise, bench),
             Line::Restart { reading: _ } => self.restart(bench, out),
-            Line::Tick { reading: _ } => self.tick(number),
+            Line::Tick {
+                reading: _,
+                node: _,
+            } => self.tick(number),
             Line::Heading { .. } => Ok(()),
         }
     }
@@ -85,12 +132,12 @@ impl<M: Service> Replay<M> {
         requires latest { M.latest self.old.service ≡ self.old.calls }
         ensures latest { OnOk result (M.latest self.new.service ≡ self.new.calls) }
         ensures ready { (sizes : List ℕ) → M.ready self.old.service sizes → OnOk result (M.ready self.new.service sizes) }
-        ensures does { (reading : ℕ) (x : Disks) (tree : Tree) (doubt : Option Doubt) (done : List Done) (start : List ℕ) → K.tells out.old → M.ready self.old.service x.sizes → M.holds self.old.service x tree doubt → length done < 4294967295
-            → IsInPlace false (CallLine reading node client datagram)
-            → Stands tree (M.up self.old.service) (M.waits self.old.service) doubt self.old.calls done start (K.written out.old)
-            → DoesLine result (StandsAfter (M.holds self.new.service x) (M.up self.new.service) (M.waits self.new.service) self.new.calls (CallLine reading node client datagram) done start (K.written out.new)) (CallLine reading node client datagram) done start (K.written out.old) (K.written out.new) }
+        ensures does { (greatest reading : ℕ) (x : Disks) (tree : Tree) (doubt : Option Doubt) (done : List Done) (start : List ℕ) → K.tells out.old → M.ready self.old.service x.sizes → M.holds self.old.service x tree doubt → length done < 4294967295
+            → IsInPlace false (CallLine reading node client datagram) → IsSteady greatest (CallLine reading node client datagram)
+            → Stands tree (machines_at (M.up self.old.service) greatest) (M.waits self.old.service) self.old.desk doubt self.old.calls done start (K.written out.old)
+            → DoesLine result (StandsAfter (M.holds self.new.service x) (machines_at (M.up self.new.service) (max greatest reading)) (M.waits self.new.service) self.new.desk self.new.calls (CallLine reading node client datagram) done start (K.written out.new)) (CallLine reading node client datagram) done start (K.written out.old) (K.written out.new) }
         ensures holds { (x : Disks) (tree : Tree) (doubt : Option Doubt) → M.ready self.old.service x.sizes → M.holds self.old.service x tree doubt → OnOk result (M.holds self.new.service x tree doubt) }
-        ensures hears { (reading : ℕ) → Hears result (M.up self.old.service) (M.up self.new.service) (CallLine reading node client datagram) }
+        ensures hears { (reading : ℕ) → HearsUp result (M.up self.old.service) (M.up self.new.service) (CallLine reading node client datagram) }
         ensures cause { IfErr result (λ stop. HasStepCause stop number (K.faults out.old) (K.faults out.new)) }
         ensures first { UnlessWrite result (K.faults out.new ≡ K.faults out.old) }
         ensures calls { self.new.calls ≤ self.old.calls + 1 }
@@ -100,13 +147,54 @@ impl<M: Service> Replay<M> {
         if !self.service.is_up() {
             return Err(Stop::Refused(number, Reason::Down));
         }
+        self.hear(alloc, node, client, datagram, out)
+    }
+
+    /// A datagram is heard: a call that is new is taken; for one that was answered lately the answer is sent again; and what is no call, or waits
+    /// already, or comes where as many wait as may, is passed over.
+    fn hear<K: Sink>(
+        &mut self,
+        alloc: Global,
+        node: u32,
+        client: u32,
+        datagram: Raw,
+        out: &mut K,
+    ) -> Result<(), Stop>
+        requires up { M.up self.old.service ≡ true }
+        requires node { node ≡ 0 }
+        requires few { self.old.calls < 2 ^ 32 }
+        requires latest { M.latest self.old.service ≡ self.old.calls }
+        ensures latest { OnOk result (M.latest self.new.service ≡ self.new.calls) }
+        ensures ready { (sizes : List ℕ) → M.ready self.old.service sizes → OnOk result (M.ready self.new.service sizes) }
+        ensures up { OnOk result (M.up self.new.service ≡ true) }
+        ensures hears { (greatest reading : ℕ) (x : Disks) (tree : Tree) (doubt : Option Doubt) (done : List Done) (start : List ℕ) → K.tells out.old → M.ready self.old.service x.sizes → M.holds self.old.service x tree doubt → length done < 4294967295
+            → IsInPlace false (CallLine reading node client datagram) → IsSteady greatest (CallLine reading node client datagram)
+            → Stands tree (machines_at (M.up self.old.service) greatest) (M.waits self.old.service) self.old.desk doubt self.old.calls done start (K.written out.old)
+            → DoesLine result (StandsAfter (M.holds self.new.service x) (machines_at (M.up self.new.service) (max greatest reading)) (M.waits self.new.service) self.new.desk self.new.calls (CallLine reading node client datagram) done start (K.written out.new)) (CallLine reading node client datagram) done start (K.written out.old) (K.written out.new) }
+        ensures holds { (x : Disks) (tree : Tree) (doubt : Option Doubt) → M.ready self.old.service x.sizes → M.holds self.old.service x tree doubt → OnOk result (M.holds self.new.service x tree doubt) }
+        ensures cause { IfErr result (λ stop. HasPrintCause stop (K.faults out.old) (K.faults out.new)) }
+        ensures first { UnlessWrite result (K.faults out.new ≡ K.faults out.old) }
+        ensures calls { self.new.calls ≤ self.old.calls + 1 }
+        ensures later { K.faults out.old ≤ K.faults out.new }
+        ensures keeps_telling { K.tells out.old → K.tells out.new }
+    {
         if !is_message(datagram.bytes()) {
+            return Ok(());
+        }
+        if self.desk.is_waiting(client, datagram.bytes()) {
+            return Ok(());
+        }
+        if let Some(reply) = self.desk.kept(client, datagram.bytes()) {
+            let reply = Raw::of(alloc, reply.bytes())?;
+            return print_lines(&mut self.text, &[TraceLine::Again { node, client, reply }], out);
+        }
+        if self.desk.is_full() {
             return Ok(());
         }
         self.take(alloc, node, client, datagram, out)
     }
 
-    /// Takes a call.
+    /// Takes a call that is new.
     fn take<K: Sink>(
         &mut self,
         alloc: Global,
@@ -117,16 +205,19 @@ impl<M: Service> Replay<M> {
     ) -> Result<(), Stop>
         requires up { M.up self.old.service ≡ true }
         requires message { is_call datagram ≡ true }
+        requires new { list_any (is_from client datagram) self.old.desk.waits ≡ false }
+        requires none_kept { reply_of self.old.desk.kept client datagram ≡ None }
+        requires room { nat_le 64 (length self.old.desk.waits) ≡ false }
         requires node { node ≡ 0 }
         requires few { self.old.calls < 2 ^ 32 }
         requires latest { M.latest self.old.service ≡ self.old.calls }
         ensures latest { OnOk result (M.latest self.new.service ≡ self.new.calls) }
         ensures ready { (sizes : List ℕ) → M.ready self.old.service sizes → OnOk result (M.ready self.new.service sizes) }
         ensures up { OnOk result (M.up self.new.service ≡ true) }
-        ensures takes { (reading : ℕ) (x : Disks) (tree : Tree) (doubt : Option Doubt) (done : List Done) (start : List ℕ) → K.tells out.old → M.ready self.old.service x.sizes → M.holds self.old.service x tree doubt → length done < 4294967295
-            → IsInPlace false (CallLine reading node client datagram)
-            → Stands tree (M.up self.old.service) (M.waits self.old.service) doubt self.old.calls done start (K.written out.old)
-            → DoesLine result (StandsAfter (M.holds self.new.service x) (M.up self.new.service) (M.waits self.new.service) self.new.calls (CallLine reading node client datagram) done start (K.written out.new)) (CallLine reading node client datagram) done start (K.written out.old) (K.written out.new) }
+        ensures takes { (greatest reading : ℕ) (x : Disks) (tree : Tree) (doubt : Option Doubt) (done : List Done) (start : List ℕ) → K.tells out.old → M.ready self.old.service x.sizes → M.holds self.old.service x tree doubt → length done < 4294967295
+            → IsInPlace false (CallLine reading node client datagram) → IsSteady greatest (CallLine reading node client datagram)
+            → Stands tree (machines_at (M.up self.old.service) greatest) (M.waits self.old.service) self.old.desk doubt self.old.calls done start (K.written out.old)
+            → DoesLine result (StandsAfter (M.holds self.new.service x) (machines_at (M.up self.new.service) (max greatest reading)) (M.waits self.new.service) self.new.desk self.new.calls (CallLine reading node client datagram) done start (K.written out.new)) (CallLine reading node client datagram) done start (K.written out.old) (K.written out.new) }
         ensures holds { (x : Disks) (tree : Tree) (doubt : Option Doubt) → M.ready self.old.service x.sizes → M.holds self.old.service x tree doubt → OnOk result (M.holds self.new.service x tree doubt) }
         ensures cause { IfErr result (λ stop. HasPrintCause stop (K.faults out.old) (K.faults out.new)) }
         ensures first { UnlessWrite result (K.faults out.new ≡ K.faults out.old) }
@@ -136,6 +227,7 @@ impl<M: Service> Replay<M> {
     {
         let call = self.calls + 1;
         let bytes = Raw::of(alloc, datagram.bytes())?;
+        self.desk.take(alloc, call, client, datagram.bytes())?;
         let lines = [TraceLine::Took {
             call,
             node,

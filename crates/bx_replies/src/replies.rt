@@ -82,4 +82,11 @@ impl Replies {
         self.cache.put(call, reply)?;
         Ok(())
     }
+
+    /// Forgets all answers. It takes no memory.
+    pub fn clear(&mut self)
+        ensures { self.new ≡ [] }
+    {
+        self.cache.clear();
+    }
 }

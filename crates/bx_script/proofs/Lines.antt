@@ -13,8 +13,8 @@ use Rattle.bx_script.specs.declared.line.Line.{Line}
 use Rattle.bx_disk.specs.declared.noise.Noise.{Noise}
 use Rattle.bx_disk.specs.declared.noise.Noise.TheVariants.{Keep, Drop, Seed}
 use Rattle.bx_script.specs.declared.line.Line.TheVariants.{Heading, Call, Run, Crash, Restart, Tick}
-use Rattle.bx_script.specs.ScheduleLine.{InRange, IsHeading, IsCall, IsNoise, IsRun, noise_text, spelling}
-use Rattle.bx_script.specs.Reading.{◌>>=◌, cut, number_of, number_at, datagram_of, heading_of, call_fields_of, call_of, crash_of, machines_line_of, noise_of, restart_of, run_of, seed_of, tick_of, line_of}
+use Rattle.bx_script.specs.ScheduleLine.{InRange, IsHeading, IsCall, IsNoise, IsRun, IsTick, noise_text, spelling}
+use Rattle.bx_script.specs.Reading.{◌>>=◌, cut, number_of, number_at, datagram_of, heading_of, call_fields_of, call_of, crash_of, machines_line_of, node_named, noise_of, restart_of, run_of, seed_of, tick_of, line_of}
 use Rattle.bx_script.proofs.Fields.{bind_some, some, some_is, Lacks, lacks_from_test, then_space, cut_takes, cut_again}
 use Rattle.std.proofs.lemmas.Fmt.{decimal_digit}
 use Rattle.bx_script.proofs.Numbers.{IsNumber, number_takes, number_again, Lacks-decimal}
@@ -153,18 +153,39 @@ restart_again reading fits = rw (number_at_again 4294967295999 reading (codes "a
 
 -- ---- `tick`
 
+-- a field that spells a node
+record IsNodeText (field : List ℕ) (node : ℕ) : Type 0 where
+  pub spelled : field ≡ codes "n" ++ decimal node
+  pub fits : node ≤ 3
+
+node_takes : (field : List ℕ) (node : ℕ) → node_named field ≡ Some node → IsNodeText field node
+unfolding node_named
+node_takes field node e =
+    option_and_then_some _ (number_of 3 (drop 1 field)) node e (λ one e1 f1.
+    let d = cond_some (bytes_eq (take 1 field) (codes "n")) one node f1 in
+    let number = number_takes 3 (drop 1 field) one (omega arith) e1 in
+    let spelled : field ≡ codes "n" ++ decimal one =
+    sym (take-append-drop 1 field) ∙ ap (λ (front : List ℕ). front ++ drop 1 field) (text_is (take 1 field) (codes "n") d.0) ∙ ap (λ (behind : List ℕ). codes "n" ++ behind) number.spelled in
+    subst (IsNodeText field) d.1 (record { spelled = spelled; fits = number.within }))
+
+node_again : (node : ℕ) → node ≤ 3 → node_named (codes "n" ++ decimal node) ≡ Some node
+unfolding node_named
+node_again node fits = rw (number_again 3 node (omega arith) fits) refl
+
 tick_takes : (text : List ℕ) (line : Line) → tick_of text ≡ Some line → Reads (codes "tick") text line
 unfolding tick_of
 tick_takes text line e =
     option_and_then_some _ (number_at 4294967295999 text) line e (λ reading e1 f1.
-    let d = cond_some (bytes_eq reading.1 (codes "n0")) (Tick reading.0) line f1 in
+    option_and_then_some _ (node_named reading.1) line f1 (λ node e2 f2.
     let number = number_at_takes 4294967295999 text reading (omega arith) e1 in
-    let spelled = joined text reading.1 (decimal reading.0) (codes "n0") number.spelled (text_is reading.1 (codes "n0") d.0) in
-    subst (λ (l : Line). Reads (codes "tick") text l) d.1 (number.within, ap (λ (t : List ℕ). then_space (codes "tick") t) spelled))
+    let who = node_takes reading.1 node e2 in
+    let spelled = joined text reading.1 (decimal reading.0) (codes "n" ++ decimal node) number.spelled who.spelled in
+    subst (λ (l : Line). Reads (codes "tick") text l) (some_is (Tick reading.0 node) line f2)
+    (record { reading_fits = number.within; node_fits = who.fits }, ap (λ (t : List ℕ). then_space (codes "tick") t) spelled)))
 
-tick_again : (reading : ℕ) → reading ≤ 4294967295999 → tick_of (then_space (decimal reading) (codes "n0")) ≡ Some (Tick reading)
+tick_again : (reading node : ℕ) → IsTick reading node → tick_of (then_space (decimal reading) (codes "n" ++ decimal node)) ≡ Some (Tick reading node)
 unfolding tick_of
-tick_again reading fits = rw (number_at_again 4294967295999 reading (codes "n0") (omega arith) fits) refl
+tick_again reading node fits = rw (number_at_again 4294967295999 reading (codes "n" ++ decimal node) (omega arith) fits.reading_fits, node_again node fits.node_fits) refl
 
 -- ---- `boxwood`
 
@@ -369,8 +390,8 @@ line_again (Crash noise) fits =
     word_again (codes "crash") (then_space (codes "all") (noise_text noise)) (lacks_from_test 32 (codes "crash") refl) ∙ crash_word (then_space (codes "all") (noise_text noise)) ∙ crash_again noise fits
 line_again (Restart reading) fits =
     word_again (codes "restart") (then_space (decimal reading) (codes "all")) (lacks_from_test 32 (codes "restart") refl) ∙ restart_word (then_space (decimal reading) (codes "all")) ∙ restart_again reading fits
-line_again (Tick reading) fits =
-    word_again (codes "tick") (then_space (decimal reading) (codes "n0")) (lacks_from_test 32 (codes "tick") refl) ∙ tick_word (then_space (decimal reading) (codes "n0")) ∙ tick_again reading fits
+line_again (Tick reading node) fits =
+    word_again (codes "tick") (then_space (decimal reading) (codes "n" ++ decimal node)) (lacks_from_test 32 (codes "tick") refl) ∙ tick_word (then_space (decimal reading) (codes "n" ++ decimal node)) ∙ tick_again reading node fits
 
 -- ---- what `read` answers
 

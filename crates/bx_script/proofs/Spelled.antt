@@ -1,5 +1,5 @@
 -- The spellings of lines in range.
-use Rattle.std.proofs.Common.{◌≡◌, ℕ, ◌+◌, ◌≤◌, List, ◌∷◌, length, refl, sym, ap, ◌∙◌, arith}
+use Rattle.std.proofs.Common.{◌≡◌, ℕ, ◌+◌, ◌≤◌, List, ◌∷◌, ◌++◌, length, refl, sym, ap, ◌∙◌, arith}
 use Rattle.std.specs.Prelude.{codes}
 use Rattle.std.specs.Fmt.{decimal}
 use Rattle.std.specs.List.{AllByRecursion}
@@ -85,9 +85,10 @@ short_spelling (Crash noise) fits =
 short_spelling (Restart reading) fits =
     let r = length-decimal-le 13 reading (omega arith) (omega (arith, fits)) (omega (arith, fits)) in
     omega (arith, length-then_space (codes "restart") (then_space (decimal reading) (codes "all")), length-then_space (decimal reading) (codes "all"))
-short_spelling (Tick reading) fits =
-    let r = length-decimal-le 13 reading (omega arith) (omega (arith, fits)) (omega (arith, fits)) in
-    omega (arith, length-then_space (codes "tick") (then_space (decimal reading) (codes "n0")), length-then_space (decimal reading) (codes "n0"))
+short_spelling (Tick reading node) fits =
+    let r = length-decimal-le 13 reading (omega arith) (omega (arith, fits.reading_fits)) (omega (arith, fits.reading_fits)) in
+    let n = length-decimal-le 1 node (omega arith) (omega (arith, fits.node_fits)) (omega (arith, fits.node_fits)) in
+    omega (arith, length-then_space (codes "tick") (then_space (decimal reading) (codes "n" ++ decimal node)), length-then_space (decimal reading) (codes "n" ++ decimal node), length-append (codes "n") (decimal node))
 
 -- ---- no line feed
 
@@ -122,8 +123,13 @@ fields_lack_feed (Run reading limit) fits =
 fields_lack_feed (Crash noise) fits = (lacks_from_test 10 (codes "crash") refl, (lacks_from_test 10 (codes "all") refl, (noise_lacks_feed noise fits, tt)))
 fields_lack_feed (Restart reading) fits =
     (lacks_from_test 10 (codes "restart") refl, (Lacks-decimal 10 reading (omega arith) (omega (arith, fits)), (lacks_from_test 10 (codes "all") refl, tt)))
-fields_lack_feed (Tick reading) fits =
-    (lacks_from_test 10 (codes "tick") refl, (Lacks-decimal 10 reading (omega arith) (omega (arith, fits)), (lacks_from_test 10 (codes "n0") refl, tt)))
+fields_lack_feed (Tick reading node) fits = (
+  lacks_from_test 10 (codes "tick") refl,
+  (
+    Lacks-decimal 10 reading (omega arith) (omega (arith, fits.reading_fits)),
+    (Lacks-append 10 (codes "n") (decimal node) (lacks_from_test 10 (codes "n") refl) (Lacks-decimal 10 node (omega arith) (omega (arith, fits.node_fits))), tt),
+  ),
+)
 
 -- no line has a line feed
 pub spelling_lacks_feed : (line : Line) → InRange line → LacksFeed (spelling line)

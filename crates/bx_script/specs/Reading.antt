@@ -105,11 +105,18 @@ restart_of text = do
   reading ← number_at 4294967295999 text
   if bytes_eq reading.1 (codes "all") then Some (Restart reading.0) else None
 
--- `READING n0`
+-- `nNODE`, where the field begins so
+unfoldable pub node_named : List ℕ → Option ℕ
+node_named field = do
+  node ← number_of 3 (drop 1 field)
+  if bytes_eq (take 1 field) (codes "n") then Some node else None
+
+-- `READING nNODE`
 unfoldable pub tick_of : List ℕ → Option Line
 tick_of text = do
   reading ← number_at 4294967295999 text
-  if bytes_eq reading.1 (codes "n0") then Some (Tick reading.0) else None
+  node ← node_named reading.1
+  Some (Tick reading.0 node)
 
 -- a line of a word and a rest that says what machines do
 unfoldable pub machines_line_of : List ℕ → List ℕ → Option Line

@@ -11,7 +11,7 @@ is_heading (Call reading node client datagram) = false
 is_heading (Run reading limit) = false
 is_heading (Crash noise) = false
 is_heading (Restart reading) = false
-is_heading (Tick reading) = false
+is_heading (Tick reading node) = false
 
 -- the clock's reading at a line, where it has one
 abbrev pub reading_of : Line → Option ℕ
@@ -20,7 +20,16 @@ reading_of (Call reading node client datagram) = Some reading
 reading_of (Run reading limit) = Some reading
 reading_of (Crash noise) = None
 reading_of (Restart reading) = Some reading
-reading_of (Tick reading) = Some reading
+reading_of (Tick reading node) = Some reading
+
+-- the node that has to hear a line, where one is named
+abbrev pub node_of : Line → Option ℕ
+node_of (Heading volume nodes devices areas) = None
+node_of (Call reading node client datagram) = Some node
+node_of (Run reading limit) = None
+node_of (Crash noise) = None
+node_of (Restart reading) = None
+node_of (Tick reading node) = Some node
 
 -- a line in the grammar, in its place: the heading comes first, and nowhere else
 abbrev pub HasPlace : Bool → Line → Type 0

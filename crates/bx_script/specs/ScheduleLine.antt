@@ -22,7 +22,7 @@ fields (Call reading node client datagram) = codes "call" ∷ decimal reading �
 fields (Run reading limit) = codes "run" ∷ decimal reading ∷ decimal limit ∷ []
 fields (Crash noise) = codes "crash" ∷ codes "all" ∷ noise_text noise ∷ []
 fields (Restart reading) = codes "restart" ∷ decimal reading ∷ codes "all" ∷ []
-fields (Tick reading) = codes "tick" ∷ decimal reading ∷ codes "n0" ∷ []
+fields (Tick reading node) = codes "tick" ∷ decimal reading ∷ (codes "n" ++ decimal node) ∷ []
 
 -- the bytes of a line, without its line feed
 abbrev pub spelling : Line → List ℕ
@@ -53,6 +53,10 @@ pub record IsRun (reading limit : ℕ) : Type 0 where
   pub some : 1 ≤ limit
   pub most : limit ≤ 1000000
 
+pub record IsTick (reading node : ℕ) : Type 0 where
+  pub reading_fits : IsReading reading
+  pub node_fits : node ≤ 3
+
 abbrev pub IsNoise : Noise → Type 0
 IsNoise Keep = Unit {0}
 IsNoise Drop = Unit {0}
@@ -65,4 +69,4 @@ InRange (Call reading node client datagram) = IsCall reading node client datagra
 InRange (Run reading limit) = IsRun reading limit
 InRange (Crash noise) = IsNoise noise
 InRange (Restart reading) = IsReading reading
-InRange (Tick reading) = IsReading reading
+InRange (Tick reading node) = IsTick reading node

@@ -3,7 +3,7 @@
 ghost use Rattle.std.specs.Prelude.{◌≡◌, ◌≤◌, length, IfOk, IfSome};
 ghost use Rattle.bx_base.specs.Text.{LacksFeed};
 ghost use Rattle.bx_script.specs.ScheduleLine.{InRange, spelling};
-ghost use Rattle.bx_script.specs.Schedule.{is_heading};
+ghost use Rattle.bx_script.specs.Schedule.{is_heading, node_of, reading_of};
 ghost use Rattle.bx_script.specs.declared.line.Line.{Line};
 
 use crate::reading::read_line;
@@ -25,6 +25,9 @@ pub(crate) const MAX_DEVICES: u32 = 4;
 
 /// The most areas of a heading.
 pub(crate) const MAX_AREAS: u32 = 64;
+
+/// The greatest number of a node.
+pub(crate) const LAST_NODE: u32 = MAX_NODES - 1;
 
 /// The greatest reading of a clock, in milliseconds.
 pub const MAX_READING: u64 = 4294967295999;
@@ -53,7 +56,7 @@ pub enum Line {
     Call {
         /// The node's clock, in milliseconds.
         reading: u64,
-        /// The node: 0.
+        /// The node.
         node: u32,
         /// The client's number.
         client: u32,
@@ -77,10 +80,12 @@ pub enum Line {
         /// The clock, in milliseconds.
         reading: u64,
     },
-    /// `tick READING n0`: the clock of the node ticks.
+    /// `tick READING nNODE`: the clock of a node ticks.
     Tick {
         /// The node's clock, in milliseconds.
         reading: u64,
+        /// The node, 0 to 3.
+        node: u32,
     },
 }
 
@@ -100,6 +105,31 @@ impl Line {
         ensures { result ≡ is_heading self.now }
     {
         matches!(self, Line::Heading { .. })
+    }
+
+    /// The clock's reading, in milliseconds; `None` exactly where the line has none.
+    pub fn reading(&self) -> Option<u64>
+        ensures { result ≡ reading_of self.now }
+    {
+        match self {
+            Line::Call { reading, .. }
+            | Line::Run { reading, .. }
+            | Line::Restart { reading }
+            | Line::Tick { reading, .. } => Some(*reading),
+            Line::Heading { .. } | Line::Crash { .. } => None,
+        }
+    }
+
+    /// The node that has to hear the line; `None` exactly where none is named.
+    pub fn node(&self) -> Option<u32>
+        ensures { result ≡ node_of self.now }
+    {
+        match self {
+            Line::Call { node, .. } | Line::Tick { node, .. } => Some(*node),
+            Line::Heading { .. } | Line::Run { .. } | Line::Crash { .. } | Line::Restart { .. } => {
+                None
+            }
+        }
     }
 }
 

@@ -4,9 +4,11 @@ ghost use Rattle.std.specs.Prelude.{◌≡◌, ◌<◌, ◌≤◌, ◌==◌, ◌
 ghost use Rattle.std.specs.List.{list_all};
 ghost use Rattle.std.specs.Char.{is_ascii_digit, is_ascii_uppercase};
 ghost use Rattle.std.specs.Str.Parse.{digits_value};
-ghost use Rattle.bx_script.specs.Reading.{Gives, cut, call_fields_of, crash_of, number_at, datagram_of, heading_of, call_of, machines_line_of, noise_of, restart_of, run_of, seed_of, tick_of, is_numeral, line_of, number_of};
+ghost use Rattle.bx_script.specs.Reading.{Gives, cut, call_fields_of, crash_of, number_at, datagram_of, heading_of, call_of, machines_line_of, node_named, noise_of, restart_of, run_of, seed_of, tick_of, is_numeral, line_of, number_of};
 
-use crate::line::{Line, MAX_AREAS, MAX_DATAGRAM, MAX_DEVICES, MAX_NODES, MAX_READING, MAX_RUN};
+use crate::line::{
+    LAST_NODE, Line, MAX_AREAS, MAX_DATAGRAM, MAX_DEVICES, MAX_NODES, MAX_READING, MAX_RUN,
+};
 use bx_base::{OutOfMemory, Raw};
 use bx_disk::Noise;
 use hex::FromHexError;
@@ -159,16 +161,22 @@ fn restart(text: &[u8]) -> Option<Line>
     Some(Line::Restart { reading })
 }
 
-// `READING n0`
+// `READING nNODE`
 #[tactic(auto, unfolding(crate::specs::Reading::tick_of))]
 fn tick(text: &[u8]) -> Option<Line>
     ensures { result ≡ tick_of text.now }
 {
     let (reading, who) = number_at(text, MAX_READING)?;
-    if who != b"n0".as_slice() {
-        return None;
-    }
-    Some(Line::Tick { reading })
+    let node = node(who)?;
+    Some(Line::Tick { reading, node })
+}
+
+// `nNODE`
+#[tactic(auto, unfolding(crate::specs::Reading::node_named))]
+fn node(field: &[u8]) -> Option<u32>
+    ensures { result ≡ node_named field.now }
+{
+    word(field.strip_prefix(b"n")?, LAST_NODE)
 }
 
 // The bytes that hex digits in lower case spell, at most `MAX_DATAGRAM`.

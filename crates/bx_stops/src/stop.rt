@@ -12,6 +12,12 @@ pub enum Reason {
     /// It is outside the grammar, or not in its place.
     #[error("grammar")]
     Grammar,
+    /// It names a machine that the cluster hasn't got.
+    #[error("no such machine")]
+    NoMachine,
+    /// Its reading lies so many milliseconds further behind an earlier one than clocks may differ. That is at least 1.
+    #[error("clock back by {0}")]
+    ClockBack(u64),
     /// It is a call or a tick, and its node is down.
     #[error("down")]
     Down,

@@ -52,9 +52,9 @@ fn tell_line(answer: &mut Answer, line: &Line) {
             answer.text("restart");
             answer.number(*reading);
         }
-        Line::Tick { reading } => {
+        Line::Tick { reading, node } => {
             answer.text("tick");
-            answer.number(*reading);
+            answer.numbers(&[*reading, u64::from(*node)]);
         }
     }
 }

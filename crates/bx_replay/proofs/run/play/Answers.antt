@@ -50,14 +50,14 @@ lines-init g c =
       holds = began.holds;
       read = λ source_tells.
           let begun = rw c.requires.none at (began.reads source_tells) in
-          rw (began.up) (heading_read _ _ begun.volume begun.nodes begun.devices begun.areas begun.in_place begun.begins);
+          rw (began.up, began.clock) (heading_read _ _ begun.volume begun.nodes begun.devices begun.areas begun.in_place begun.begins);
       come = λ source_tells bench_tells.
           let begun = rw c.requires.none at (began.reads source_tells) in
           let held = began.holds bench_tells in
-          rw (began.up) (comes_first g.M.Service.rests g.M.Service.returns g.M.Service.turns _ _ begun.volume begun.nodes begun.devices begun.areas _ begun.in_place begun.begins
+          rw (began.up, began.clock) (comes_first g.M.Service.rests g.M.Service.returns g.M.Service.turns _ _ begun.volume begun.nodes begun.devices begun.areas _ begun.in_place begun.begins
           (λ left crashed. let shows = g.met.M.Service.shown _ _ left held.0 held.1 began.ready held.2 crashed in (shows.next, shows.stands)));
       going = λ source_tells sink_tells bench_tells.
-          begins_going _ _ _ _ _ _ _ began.up began.none_wait (rw c.requires.none at (began.begins source_tells bench_tells));
+          begins_going _ _ _ _ _ _ _ _ (rw (began.up, began.clock) refl) began.none_wait began.desk (rw c.requires.none at (began.begins source_tells bench_tells));
     }
 
 pub returns-in_err-line : goal.returns-in_err-line
@@ -67,7 +67,7 @@ returns-in_err-line g c =
     let why = c.in_err-line.ensures in
     record {
       leaves = λ source_tells.
-          rw (p.1, p.2) (line_stops (g.K.Sink.tells c.args.out.now × g.B.Rack.tells c.args.bench.now) (IsShownBy (g.B.Rack.state c.lines.bench)) _ _ _ _ c.in_err-line.field-0.0 _ _ _ _ _ _ c.lines.number _ _
+          rw (p.1, p.2) (line_stops (g.K.Sink.tells c.args.out.now × g.B.Rack.tells c.args.bench.now) (IsShownBy (g.B.Rack.state c.lines.bench)) _ _ _ _ _ c.in_err-line.field-0.0 _ _ _ _ _ _ c.lines.number _ _
           (was.read source_tells) (λ tells. was.going source_tells tells.0 tells.1) why.cause (why.gives (was.source_tells source_tells)));
       course = λ source_tells bench_tells. rw p.1 tt;
       dropped = λ disk sector tells. rw p.1 tt;
@@ -119,7 +119,7 @@ lines-preserved g c =
       going = λ source_tells sink_tells bench_tells.
           let going = c.lines.invariant.going source_tells sink_tells bench_tells in
           let begins = rw c.in-Some.is at (c.in_ok-line.ensures.gives (c.lines.invariant.source_tells source_tells)) in
-          going_on _ _ _ _ _ _ _ _ _ _ _ c.lines.number c.in-Some.line _ _ _ going begins
+          going_on _ _ _ _ _ _ _ _ _ _ _ _ _ c.lines.number c.in-Some.line _ _ _ going begins
           (c.in_ok-step.ensures.does going.tree going.doubt going.done _ (c.lines.invariant.sink_tells sink_tells) (c.lines.invariant.bench_tells bench_tells) going.holds (omega (arith, going.count, few)) going.stands);
     }
 
@@ -134,7 +134,7 @@ returns-in_err-step g c =
           let few = rw c.in-Some.is at read.few in
           let begins = rw c.in-Some.is at (read.gives (was.source_tells source_tells)) in
           let place = rw c.in-Some.is at read.in_place in
-          rw (p.1, p.2) (step_stops (g.K.Sink.tells c.args.out.now × g.B.Rack.tells c.args.bench.now) (IsShownBy (g.B.Rack.state c.step.new.bench)) _ _ _ _ _ c.in_err-step.field-0.0 _ _ _ _ _ _ _ c.lines.number c.in-Some.line _ _
+          rw (p.1, p.2) (step_stops (g.K.Sink.tells c.args.out.now × g.B.Rack.tells c.args.bench.now) (IsShownBy (g.B.Rack.state c.step.new.bench)) _ _ _ _ _ _ c.in_err-step.field-0.0 _ _ _ _ _ _ _ c.lines.number c.in-Some.line _ _
           (was.read source_tells) (λ tells. was.going source_tells tells.0 tells.1) (omega (arith, few)) begins place why.cause _ why.hears
           (λ tells.
           let going = was.going source_tells tells.0 tells.1 in
@@ -161,7 +161,7 @@ returns g c =
     record {
       leaves = λ source_tells.
           let ends = rw c.in_default.is at (read.gives (was.source_tells source_tells)) in
-          finish_leaves (g.K.Sink.tells c.args.out.now × g.B.Rack.tells c.args.bench.now) (IsShownBy (g.B.Rack.state c.finish.new.bench)) _ _ _ _ c.finish.result _ _ _ _ _ c.lines.number _ _ _ _ _
+          finish_leaves (g.K.Sink.tells c.args.out.now × g.B.Rack.tells c.args.bench.now) (IsShownBy (g.B.Rack.state c.finish.new.bench)) _ _ _ _ _ c.finish.result _ _ _ _ _ c.lines.number _ _ _ _ _
           (rw ends.0 at (was.read source_tells)) ends.1 (λ tells. rw ends.0 at (was.going source_tells tells.0 tells.1)) ended.cause
           (λ tells.
           let going = rw ends.0 at (was.going source_tells tells.0 tells.1) in

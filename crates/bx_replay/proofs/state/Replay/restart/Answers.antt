@@ -1,7 +1,9 @@
-use Rattle.std.proofs.Common.{◌≡◌, ◌∷◌, [], true, inl, refl, sym, ◌∙◌}
+use Rattle.std.proofs.Common.{◌≡◌, ◌∷◌, Bool, [], true, ap, inl, refl, sym, ◌∙◌}
+use Rattle.std.specs.Prelude.{max}
 use Rattle.std.proofs.lemmas.Result.{err_from_is_err_and}
 use Rattle.bx_script.specs.declared.line.Line.TheVariants.{Restart}
 use Rattle.bx_script.specs.declared.trace_line.TraceLine.TheVariants.{Acted}
+use Rattle.bx_replay.specs.Headline.{machines_at}
 use Rattle.bx_replay.proofs.Answered.{stands_but}
 use Rattle.bx_replay.proofs.Causes.{same_least}
 use Rattle.bx_replay.proofs.Printing.{breaks_here}
@@ -11,14 +13,14 @@ use Rattle.bx_replay.proofs.state.Replay.restart.Goals as goal
 
 pub returns-then-is_up : goal.returns-then-is_up
 returns-then-is_up g c = record {
-  restarts = λ tree doubt reading done start sink_tells bench_tells holds room place stands.
+  restarts = λ tree doubt greatest reading done start sink_tells bench_tells holds room place steady stands.
       let is_up : g.M.Service.up c.args.self.now.service ≡ true = sym c.is_up.ensures ∙ c.if-is_up.true in
       record {
         tree = tree;
         doubt = doubt;
         holds = holds;
         lines = [];
-        stands = stands_silent tree _ _ doubt _ done start _ room stands (Restart reading) _ tt place tt is_up;
+        stands = stands_silent tree _ _ _ doubt _ done start _ room stands (Restart reading) _ tt place (tt, steady, tt) (ap (λ (up : Bool). machines_at up (max greatest reading)) is_up);
       };
   moves = λ reading. (refl, λ _. refl);
   back = λ tree doubt bench_tells holds down. absurd (let both = sym down ∙ sym c.is_up.ensures ∙ c.if-is_up.true in cc);
@@ -29,6 +31,7 @@ returns-then-is_up g c = record {
   cause = tt;
   first = refl;
   calls = refl;
+  clock = refl;
   later = same_least _ _ refl;
   keeps_telling = λ tells. tells;
   bench_later = same_least _ _ refl;
@@ -39,7 +42,7 @@ pub returns-in_err-point : goal.returns-in_err-point
 returns-in_err-point g c =
     let p = err_from_is_err_and c.from_residual.result c.from_residual.ensures.1 in
     record {
-      restarts = λ tree doubt reading done start sink_tells bench_tells holds room place stands. rw (p.1, p.2) (inl refl);
+      restarts = λ tree doubt greatest reading done start sink_tells bench_tells holds room place steady stands. rw (p.1, p.2) (inl refl);
       moves = λ reading. (c.restart.ensures.sizes, λ up. absurd (let both = sym up ∙ sym c.is_up.ensures ∙ c.if-is_up.false in cc));
       back = λ tree doubt bench_tells holds down same. rw p.1 tt;
       holds = λ tree doubt bench_tells holds. rw p.1 tt;
@@ -49,6 +52,7 @@ returns-in_err-point g c =
       cause = rw (p.1, p.2) tt;
       first = rw (p.1, p.2) refl;
       calls = refl;
+      clock = refl;
       later = same_least _ _ refl;
       keeps_telling = λ tells. tells;
       bench_later = c.restart.ensures.later;
@@ -60,14 +64,14 @@ returns-in_err-print_lines g c =
     let p = err_from_is_err_and c.from_residual-in_err-print_lines.result c.from_residual-in_err-print_lines.ensures.1 in
     let why = c.in_err-print_lines.ensures in
     record {
-      restarts = λ tree doubt reading done start sink_tells bench_tells holds room place stands.
+      restarts = λ tree doubt greatest reading done start sink_tells bench_tells holds room place steady stands.
           let p = err_from_is_err_and c.from_residual-in_err-print_lines.result c.from_residual-in_err-print_lines.ensures.1 in
-          let begun = stands_same tree _ _ (g.M.Service.waits c.restart.new.self) doubt _ _ start _ c.in_ok-point.ensures.waits (stands_silent tree _ _ doubt _ done start (g.K.Sink.written c.args.out.now) room stands (Restart reading) (g.M.Service.up c.restart.new.self) tt place tt c.in_ok-point.ensures.up) in
+          let begun = stands_same tree _ _ (g.M.Service.waits c.restart.new.self) _ doubt _ _ start _ c.in_ok-point.ensures.waits (stands_silent tree _ _ _ doubt _ done start (g.K.Sink.written c.args.out.now) room stands (Restart reading) (machines_at (g.M.Service.up c.restart.new.self) (max greatest reading)) tt place (tt, steady, tt) (ap (λ (up : Bool). machines_at up (max greatest reading)) c.in_ok-point.ensures.up)) in
           let finds = rw c.in-Some.is at (c.in_ok-point.ensures.restarts tree doubt bench_tells holds) in
-          rw (p.1, p.2) (untold (g.M.Service.holds c.restart.new.self (g.B.Rack.state c.restart.new.bench)) _ _ _ (Restart reading) done start (g.K.Sink.written c.args.out.now) (Acted c.in-Some.point ∷ [])
-          (goes_found _ (Restart reading) tt done start tree _ _ doubt _ [] _ begun c.in-Some.point finds)
+          rw (p.1, p.2) (untold (g.M.Service.holds c.restart.new.self (g.B.Rack.state c.restart.new.bench)) _ _ _ _ (Restart reading) done start (g.K.Sink.written c.args.out.now) (Acted c.in-Some.point ∷ [])
+          (goes_found _ (Restart reading) tt done start tree _ _ _ doubt _ [] _ begun c.in-Some.point finds)
           c.in_err-print_lines.field-0.0 _ _ _ _ _ _ stands.output c.in_err-print_lines.ensures.cause (c.in_err-print_lines.ensures.prints sink_tells) c.in_err-print_lines.ensures.in_range
-          (breaks_here tree _ _ doubt _ (Restart reading) [] done start _ begun));
+          (breaks_here tree _ _ _ doubt _ (Restart reading) [] done start _ begun));
       moves = λ reading. (c.restart.ensures.sizes, λ up. absurd (let both = sym up ∙ sym c.is_up.ensures ∙ c.if-is_up.false in cc));
       back = λ tree doubt bench_tells holds down same. rw p.1 tt;
       holds = λ tree doubt bench_tells holds. rw p.1 tt;
@@ -77,6 +81,7 @@ returns-in_err-print_lines g c =
       cause = rw (p.1, p.2) why.cause;
       first = rw (p.1, p.2) why.first;
       calls = refl;
+      clock = refl;
       later = why.later;
       keeps_telling = why.keeps_telling;
       bench_later = c.restart.ensures.later;
@@ -84,22 +89,22 @@ returns-in_err-print_lines g c =
     }
 
 pub returns-in_ok-print_lines-clause-restarts : goal.returns-in_ok-print_lines-clause-restarts
-returns-in_ok-print_lines-clause-restarts g c = λ tree doubt reading done start sink_tells bench_tells holds room place stands.
-    let begun = stands_same tree _ _ (g.M.Service.waits c.restart.new.self) doubt _ _ start _ c.in_ok-point.ensures.waits (stands_silent tree _ _ doubt _ done start (g.K.Sink.written c.args.out.now) room stands (Restart reading) (g.M.Service.up c.restart.new.self) tt place tt c.in_ok-point.ensures.up) in
+returns-in_ok-print_lines-clause-restarts g c = λ tree doubt greatest reading done start sink_tells bench_tells holds room place steady stands.
+    let begun = stands_same tree _ _ (g.M.Service.waits c.restart.new.self) _ doubt _ _ start _ c.in_ok-point.ensures.waits (stands_silent tree _ _ _ doubt _ done start (g.K.Sink.written c.args.out.now) room stands (Restart reading) (machines_at (g.M.Service.up c.restart.new.self) (max greatest reading)) tt place (tt, steady, tt) (ap (λ (up : Bool). machines_at up (max greatest reading)) c.in_ok-point.ensures.up)) in
     let finds = rw c.in-Some.is at (c.in_ok-point.ensures.restarts tree doubt bench_tells holds) in
-    told_after (g.M.Service.holds c.restart.new.self (g.B.Rack.state c.restart.new.bench)) _ _ _ (Restart reading) done start (g.K.Sink.written c.args.out.now) (Acted c.in-Some.point ∷ [])
-    (goes_found _ (Restart reading) tt done start tree _ _ doubt _ [] _ begun c.in-Some.point finds) _ (c.in_ok-print_lines.ensures.prints sink_tells) c.in_ok-print_lines.ensures.in_range
+    told_after (g.M.Service.holds c.restart.new.self (g.B.Rack.state c.restart.new.bench)) _ _ _ _ (Restart reading) done start (g.K.Sink.written c.args.out.now) (Acted c.in-Some.point ∷ [])
+    (goes_found _ (Restart reading) tt done start tree _ _ _ doubt _ [] _ begun c.in-Some.point finds) _ (c.in_ok-print_lines.ensures.prints sink_tells) c.in_ok-print_lines.ensures.in_range
 
 pub returns-in_default-clause-restarts : goal.returns-in_default-clause-restarts
-returns-in_default-clause-restarts g c = λ tree doubt reading done start sink_tells bench_tells holds room place stands.
-    let begun = stands_same tree _ _ (g.M.Service.waits c.restart.new.self) doubt _ _ start _ c.in_ok-point.ensures.waits (stands_silent tree _ _ doubt _ done start (g.K.Sink.written c.args.out.now) room stands (Restart reading) (g.M.Service.up c.restart.new.self) tt place tt c.in_ok-point.ensures.up) in
+returns-in_default-clause-restarts g c = λ tree doubt greatest reading done start sink_tells bench_tells holds room place steady stands.
+    let begun = stands_same tree _ _ (g.M.Service.waits c.restart.new.self) _ doubt _ _ start _ c.in_ok-point.ensures.waits (stands_silent tree _ _ _ doubt _ done start (g.K.Sink.written c.args.out.now) room stands (Restart reading) (machines_at (g.M.Service.up c.restart.new.self) (max greatest reading)) tt place (tt, steady, tt) (ap (λ (up : Bool). machines_at up (max greatest reading)) c.in_ok-point.ensures.up)) in
     let returns = rw c.in_default.is at (c.in_ok-point.ensures.restarts tree doubt bench_tells holds) in
     record {
       tree = tree;
       doubt = returns.now;
       holds = returns.holds;
       lines = [];
-      stands = stands_but tree _ _ doubt returns.now _ _ start _ begun returns.was;
+      stands = stands_but tree _ _ _ doubt returns.now _ _ start _ begun returns.was;
     }
 
 pub returns-in_ok-print_lines-clause-moves : goal.returns-in_ok-print_lines-clause-moves

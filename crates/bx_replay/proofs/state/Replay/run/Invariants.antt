@@ -3,14 +3,15 @@ use Rattle.bx_history.specs.Along.{Done}
 use Rattle.bx_model.specs.declared.tree.Tree.{Tree}
 use Rattle.bx_script.specs.declared.line.Line.TheVariants.{Run}
 use Rattle.bx_service.specs.Rounds.{AreRounds, Doubt}
+use Rattle.bx_replay.specs.Headline.{machines_at}
 use Rattle.bx_replay.specs.Replay.{StandsAfter}
 use Rattle.bx_replay.proofs.state.Replay.run.Given as goal
 
 abbrev pub invariant-loop : goal.invariant-loop
 invariant-loop g l = record {
-  stands : (done : List Done) (start : List ℕ) → g.K.Sink.tells l.fn.out → g.B.Rack.tells l.fn.bench
-      → StandsAfter (g.M.Service.holds l.fn.self.service (g.B.Rack.state l.fn.bench)) (g.M.Service.up l.fn.self.service) (g.M.Service.waits l.fn.self.service) l.fn.self.calls (Run l.fn.reading l.fn.limit) done start (g.K.Sink.written l.fn.out)
-      → StandsAfter (g.M.Service.holds l.self.service (g.B.Rack.state l.bench)) (g.M.Service.up l.self.service) (g.M.Service.waits l.self.service) l.self.calls (Run l.fn.reading l.fn.limit) done start (g.K.Sink.written l.out);
+  stands : (greatest : ℕ) (done : List Done) (start : List ℕ) → g.K.Sink.tells l.fn.out → g.B.Rack.tells l.fn.bench
+      → StandsAfter (g.M.Service.holds l.fn.self.service (g.B.Rack.state l.fn.bench)) (machines_at (g.M.Service.up l.fn.self.service) greatest) (g.M.Service.waits l.fn.self.service) l.fn.self.desk l.fn.self.calls (Run l.fn.reading l.fn.limit) done start (g.K.Sink.written l.fn.out)
+      → StandsAfter (g.M.Service.holds l.self.service (g.B.Rack.state l.bench)) (machines_at (g.M.Service.up l.self.service) greatest) (g.M.Service.waits l.self.service) l.self.desk l.self.calls (Run l.fn.reading l.fn.limit) done start (g.K.Sink.written l.out);
   holds : (tree : Tree) (doubt : Option Doubt) → g.B.Rack.tells l.fn.bench → g.M.Service.holds l.fn.self.service (g.B.Rack.state l.fn.bench) tree doubt → (next : Tree) × (now : Option Doubt) × g.M.Service.holds l.self.service (g.B.Rack.state l.bench) next now;
   within : l.counter ≤ l.fn.limit;
   rounds : AreRounds g.M.Service.rests (g.M.Service.turns l.fn.reading) l.counter (record { service = l.fn.self.service; disks = g.B.Rack.state l.fn.bench; faults = g.B.Rack.faults l.fn.bench })
@@ -22,6 +23,7 @@ invariant-loop g l = record {
   latest : g.M.Service.latest l.self.service ≡ g.M.Service.latest l.fn.self.service;
   first : g.K.Sink.faults l.out ≡ g.K.Sink.faults l.fn.out;
   calls : l.self.calls ≡ l.fn.self.calls;
+  clock : l.self.clock ≡ l.fn.self.clock;
   sink_tells : g.K.Sink.tells l.fn.out → g.K.Sink.tells l.out;
   bench_later : g.B.Rack.faults l.fn.bench ≤ g.B.Rack.faults l.bench;
   bench_tells : g.B.Rack.tells l.fn.bench → g.B.Rack.tells l.bench;

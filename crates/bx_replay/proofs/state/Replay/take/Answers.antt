@@ -15,7 +15,23 @@ returns-in_err-bytes g c =
       latest = rw p.1 tt;
       ready = λ sizes ready. rw p.1 tt;
       up = rw p.1 tt;
-      takes = λ reading x tree doubt done start tells ready holds room place stands. rw (p.1, p.2) (inl refl);
+      takes = λ greatest reading x tree doubt done start tells ready holds room place steady stands. rw (p.1, p.2) (inl refl);
+      holds = λ x tree doubt ready holds. rw p.1 tt;
+      cause = rw (p.1, p.2) tt;
+      first = rw (p.1, p.2) refl;
+      calls = same_most _ _ refl;
+      later = same_least _ _ refl;
+      keeps_telling = λ tells. tells;
+    }
+
+pub returns-in_err-take : goal.returns-in_err-take
+returns-in_err-take g c =
+    let p = err_from_is_err_and c.from_residual-in_err-take.result c.from_residual-in_err-take.ensures.1 in
+    record {
+      latest = rw p.1 tt;
+      ready = λ sizes ready. rw p.1 tt;
+      up = rw p.1 tt;
+      takes = λ greatest reading x tree doubt done start tells ready holds room place steady stands. rw (p.1, p.2) (inl refl);
       holds = λ x tree doubt ready holds. rw p.1 tt;
       cause = rw (p.1, p.2) tt;
       first = rw (p.1, p.2) refl;
@@ -32,11 +48,11 @@ returns-in_err-print_lines g c =
       latest = rw p.1 tt;
       ready = λ sizes ready. rw p.1 tt;
       up = rw p.1 tt;
-      takes = λ reading x tree doubt done start tells ready holds room place stands.
+      takes = λ greatest reading x tree doubt done start tells ready holds room place steady stands.
           let p = err_from_is_err_and c.from_residual-in_err-print_lines.result c.from_residual-in_err-print_lines.ensures.1 in
-          rw (p.1, p.2) (unprinted tree _ _ doubt _ (Call reading c.args.node c.args.client c.args.datagram) (Took _ c.args.node c.args.client c.args.datagram ∷ []) done start _ c.in_err-print_lines.field-0.0 _ _ _ _ _ _ _ _ stands.output
+          rw (p.1, p.2) (unprinted tree _ _ _ doubt _ (Call reading c.args.node c.args.client c.args.datagram) (Took _ c.args.node c.args.client c.args.datagram ∷ []) done start _ c.in_err-print_lines.field-0.0 _ _ _ _ _ _ _ _ stands.output
           c.in_err-print_lines.ensures.cause (c.in_err-print_lines.ensures.prints tells) c.in_err-print_lines.ensures.in_range
-          (λ in_range. stands_taken_at tree _ _ doubt _ done start _ room stands c.args.node c.requires.node reading c.args.client c.args.datagram _ c.requires.up c.requires.message place in_range refl)
+          (λ in_range. stands_taken_at tree _ _ _ doubt _ done start _ room stands c.args.node c.requires.node reading c.args.client c.args.datagram _ (c.requires.node, steady, c.requires.up) c.requires.message c.requires.new c.requires.none_kept c.requires.room place in_range refl)
           (λ same. inl same));
       holds = λ x tree doubt ready holds. rw p.1 tt;
       cause = rw (p.1, p.2) why.cause;
@@ -54,11 +70,11 @@ returns-in_err-arrive g c =
       latest = rw p.1 tt;
       ready = λ sizes ready. rw p.1 tt;
       up = rw p.1 tt;
-      takes = λ reading x tree doubt done start tells ready holds room place stands.
+      takes = λ greatest reading x tree doubt done start tells ready holds room place steady stands.
           let p = err_from_is_err_and c.from_residual-in_err-arrive.result c.from_residual-in_err-arrive.ensures.1 in
-          rw (p.1, p.2) (inr (breaks_behind tree _ _ doubt _ (Call reading c.args.node c.args.client c.args.datagram) (Took _ c.args.node c.args.client c.args.datagram ∷ []) done start (g.K.Sink.written c.args.out.now) (trace_text (Took (c.args.self.now.calls + 1) c.args.node c.args.client c.args.datagram ∷ [])) (g.K.Sink.written c.print_lines.new.out)
+          rw (p.1, p.2) (inr (breaks_behind tree _ _ _ doubt _ (Call reading c.args.node c.args.client c.args.datagram) (Took _ c.args.node c.args.client c.args.datagram ∷ []) done start (g.K.Sink.written c.args.out.now) (trace_text (Took (c.args.self.now.calls + 1) c.args.node c.args.client c.args.datagram ∷ [])) (g.K.Sink.written c.print_lines.new.out)
           (c.in_ok-print_lines.ensures.prints tells)
-          (stands_taken_at tree _ _ doubt _ done start _ room stands c.args.node c.requires.node reading c.args.client c.args.datagram _ c.requires.up c.requires.message place c.in_ok-print_lines.ensures.in_range refl)));
+          (stands_taken_at tree _ _ _ doubt _ done start _ room stands c.args.node c.requires.node reading c.args.client c.args.datagram _ (c.requires.node, steady, c.requires.up) c.requires.message c.requires.new c.requires.none_kept c.requires.room place c.in_ok-print_lines.ensures.in_range refl)));
       holds = λ x tree doubt ready holds. rw p.1 tt;
       cause = rw (p.1, p.2) tt;
       first = rw (p.1, p.2) printed.first;
@@ -75,13 +91,13 @@ returns g c =
       latest = came.latest;
       ready = came.ready;
       up = came.up;
-      takes = λ reading x tree doubt done start tells ready holds room place stands. record {
+      takes = λ greatest reading x tree doubt done start tells ready holds room place steady stands. record {
         tree = tree;
         doubt = doubt;
         holds = c.in_ok-arrive.ensures.holds x tree doubt ready holds;
         lines = Took (c.args.self.now.calls + 1) c.args.node c.args.client c.args.datagram ∷ [];
-        stands = rw (c.in_ok-arrive.ensures.up, ← c.requires.up, c.in_ok-arrive.ensures.waits, c.in_ok-bytes.ensures, c.bytes.ensures, c.in_ok-print_lines.ensures.prints tells)
-            (stands_taken_at tree _ _ doubt _ done start _ room stands c.args.node c.requires.node reading c.args.client c.args.datagram _ c.requires.up c.requires.message place c.in_ok-print_lines.ensures.in_range refl);
+        stands = rw (c.in_ok-arrive.ensures.up, ← c.requires.up, c.in_ok-arrive.ensures.waits, c.in_ok-take.ensures.ok, c.bytes-2.ensures, c.in_ok-bytes.ensures, c.bytes.ensures, c.in_ok-print_lines.ensures.prints tells)
+            (stands_taken_at tree _ _ _ doubt _ done start _ room stands c.args.node c.requires.node reading c.args.client c.args.datagram _ (c.requires.node, steady, c.requires.up) c.requires.message c.requires.new c.requires.none_kept c.requires.room place c.in_ok-print_lines.ensures.in_range refl);
       };
       holds = came.holds;
       cause = tt;

@@ -1,0 +1,4 @@
+pub mod Lists
+pub mod Answers
+pub mod Hearing
+pub mod Going

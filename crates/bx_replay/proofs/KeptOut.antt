@@ -1,0 +1,84 @@
+-- A line that is kept out, or that may come: what a step says of it.
+use Rattle.std.proofs.Common.{◌≡◌, ℕ, Bool, true, false, List, Ok, Err, refl, ap, ◌∙◌}
+use Rattle.std.specs.Prelude.{Option, Some, None, IfSome, IsSome}
+use Rattle.bx_history.specs.Along.{Done}
+use Rattle.bx_script.specs.declared.line.Line.{Line}
+use Rattle.bx_lease.specs.Readings.{IsTooFarBack}
+use Rattle.bx_script.specs.Schedule.{node_of, reading_of}
+use Rattle.bx_stops.specs.declared.stop.Reason.{Reason}
+use Rattle.bx_stops.specs.declared.stop.Reason.TheVariants.{Grammar, NoMachine, ClockBack, Down}
+use Rattle.bx_stops.specs.declared.stop.Stop.{Stop}
+use Rattle.bx_stops.specs.declared.stop.Stop.TheVariants as stops
+use Rattle.bx_replay.specs.Headline.{IsHeard, IsSteady, IsThere, Machines, after_line, greatest_with, machines_at, up_after}
+use Rattle.bx_replay.specs.Outcome.{IsBackBy, IsRefusedLine}
+use Rattle.bx_replay.specs.Replay.{DoesLine, HasStepCause, Hears, HearsUp, IsKeptOut}
+
+-- ---- a line that is kept out
+
+pub hears_turned_away : (stop : Stop) (number greatest : ℕ) (up : Bool) (now : Machines) (line : Line) → IsKeptOut stop number greatest line → Hears (Err stop) (machines_at up greatest) now line
+hears_turned_away (stops.Refused n Grammar) number greatest up now line kept = absurd kept
+hears_turned_away (stops.Refused n NoMachine) number greatest up now line kept = kept.1
+hears_turned_away (stops.Refused n (ClockBack by)) number greatest up now line kept = (kept.1, kept.2)
+hears_turned_away (stops.Refused n Down) number greatest up now line kept = absurd kept
+hears_turned_away stops.ReadFault number greatest up now line kept = absurd kept
+hears_turned_away stops.WriteFault number greatest up now line kept = absurd kept
+hears_turned_away stops.DiskFault number greatest up now line kept = absurd kept
+hears_turned_away stops.OutOfMemory number greatest up now line kept = absurd kept
+
+pub step_turned_away : (stop : Stop) (number greatest before now : ℕ) (line : Line) → IsKeptOut stop number greatest line → HasStepCause stop number before now
+step_turned_away (stops.Refused n Grammar) number greatest before now line kept = absurd kept
+step_turned_away (stops.Refused n NoMachine) number greatest before now line kept = kept.0
+step_turned_away (stops.Refused n (ClockBack by)) number greatest before now line kept = kept.0
+step_turned_away (stops.Refused n Down) number greatest before now line kept = absurd kept
+step_turned_away stops.ReadFault number greatest before now line kept = absurd kept
+step_turned_away stops.WriteFault number greatest before now line kept = absurd kept
+step_turned_away stops.DiskFault number greatest before now line kept = absurd kept
+step_turned_away stops.OutOfMemory number greatest before now line kept = absurd kept
+
+pub does_turned_away : (stop : Stop) (number greatest : ℕ) (After : Type 0) (line : Line) (done : List Done) (start old : List ℕ) → IsKeptOut stop number greatest line → DoesLine (Err stop) After line done start old old
+does_turned_away (stops.Refused n reason) number greatest After line done start old kept = refl
+does_turned_away stops.ReadFault number greatest After line done start old kept = absurd kept
+does_turned_away stops.WriteFault number greatest After line done start old kept = absurd kept
+does_turned_away stops.DiskFault number greatest After line done start old kept = absurd kept
+does_turned_away stops.OutOfMemory number greatest After line done start old kept = absurd kept
+
+-- ---- a line that may come
+
+-- what a line leaves that isn't done is so whatever it would leave
+pub does_broken : (stop : Stop) (After Other : Type 0) (line : Line) (done : List Done) (start old new : List ℕ) → DoesLine (Err stop) After line done start old new → DoesLine (Err stop) Other line done start old new
+does_broken (stops.Refused n reason) After Other line done start old new does = does
+does_broken stops.ReadFault After Other line done start old new does = does
+does_broken stops.WriteFault After Other line done start old new does = does
+does_broken stops.DiskFault After Other line done start old new does = does
+does_broken stops.OutOfMemory After Other line done start old new does = does
+
+module _ (greatest : ℕ) (up : Bool) (line : Line) (there : IsThere line) (steady : IsSteady greatest line) where
+  pub hears_refused : (stop : Stop) (now_up : Bool) (now : Machines) → HearsUp (Err stop) up now_up line → Hears (Err stop) (machines_at up greatest) now line
+  hears_refused (stops.Refused n Grammar) now_up now hears = absurd (let same = hears.0 in cc)
+  hears_refused (stops.Refused n NoMachine) now_up now hears = absurd (let same = hears.0 in cc)
+  hears_refused (stops.Refused n (ClockBack by)) now_up now hears = absurd (let same = hears.0 in cc)
+  hears_refused (stops.Refused n Down) now_up now hears = (there, steady, hears.1, hears.2)
+  hears_refused stops.ReadFault now_up now hears = tt
+  hears_refused stops.WriteFault now_up now hears = tt
+  hears_refused stops.DiskFault now_up now hears = tt
+  hears_refused stops.OutOfMemory now_up now hears = tt
+
+  pub hears_done : (now_up : Bool) (clock : ℕ) → clock ≡ greatest_with (reading_of line) greatest → HearsUp (Ok tt) up now_up line
+      → Hears (Ok tt) (machines_at up greatest) (machines_at now_up clock) line
+  hears_done now_up clock is hears = ((there, steady, hears.0), ap (λ (b : Bool). machines_at b clock) hears.1 ∙ ap (machines_at (up_after line up)) is)
+
+-- ---- a line that may come isn't refused
+
+steady_back : (greatest by : ℕ) (reading : Option ℕ) → IfSome reading (λ r. IsTooFarBack greatest r → ⊥) → IsBackBy greatest reading by → ⊥
+steady_back greatest by None steady back = back
+steady_back greatest by (Some reading) steady back = steady back.0
+
+up_down : (up : Bool) (node : Option ℕ) → IsSome node → IfSome node (λ n. up ≡ true) → up ≡ false → ⊥
+up_down up None asks heard down = absurd cc
+up_down up (Some node) asks heard down = cc
+
+pub heard_not_refused : (reason : Reason) (machines : Machines) (line : Line) → IsHeard machines line → IsRefusedLine reason machines line → ⊥
+heard_not_refused Grammar machines line heard refused = refused
+heard_not_refused NoMachine machines line heard refused = refused heard.0
+heard_not_refused (ClockBack by) machines line heard refused = steady_back machines.greatest by (reading_of line) heard.1 refused.1
+heard_not_refused Down machines line heard refused = up_down machines.up (node_of line) refused.3 heard.2 refused.2

@@ -1,6 +1,6 @@
 //! The pieces of files, as the entries of their trees name them.
 
-ghost use Rattle.std.specs.Prelude.{◌≡◌, ◌++◌, ◌^◌, ◌<◌, ℕ, List, [], All, take, drop, map, slice_index_or, IfOk, IfSome, IfNone, IsErrOf, IsTrue, IsFalse};
+ghost use Rattle.std.specs.Prelude.{◌≡◌, ◌++◌, ◌^◌, ◌<◌, ℕ, [], All, take, drop, map, slice_index_or, IfOk, IfSome, IfNone, IsErrOf, IsTrue, IsFalse};
 ghost use Rattle.bx_audit_bodies.specs.Parts.{IsFirstLeaf};
 ghost use Rattle.bx_audit_bodies.specs.Pieces.{ArePieces, IsPieceEntry, IsOfPiece, piece_in};
 ghost use Rattle.bx_audit_trees.specs.declared.error.AuditError.TheVariants.{Fault as DiskFailed};

@@ -1,8 +1,7 @@
 //! The numbers and names in the keys and values of a directory's tree.
 
-ghost use Rattle.std.specs.Prelude.{◌≡◌, ◌∷◌, ◌++◌, ◌^◌, ◌<◌, ℕ, List, IfOk, IfSome, IfNone, IsTrue, ◌↔◌};
+ghost use Rattle.std.specs.Prelude.{◌≡◌, ◌++◌, ◌^◌, ◌<◌, ℕ, List, IfOk, IfSome, IfNone};
 ghost use Rattle.std.specs.Int.{w32, w64, to_be_bytes};
-ghost use Rattle.bx_base.specs.Bytes.{IsBytes};
 ghost use Rattle.bx_audit_files.specs.Names.{Fits, IsByName, IsByNumber};
 ghost use Rattle.bx_tree_files.specs.declared.file.Name.{Name};
 ghost use Rattle.bx_truth.specs.Keys.{name_key, name_value, entry_key, entry_value};

@@ -1,4 +1,4 @@
-use Rattle.std.proofs.Common.{◌≡◌, take, Ok}
+use Rattle.std.proofs.Common.{take, Ok}
 use Rattle.std.specs.Prelude.{All}
 use Rattle.bx_truth.specs.PageTrees.{Chunks}
 use Rattle.bx_audit_trees.specs.Shown.{Shows}

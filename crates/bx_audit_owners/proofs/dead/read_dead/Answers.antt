@@ -1,4 +1,4 @@
-use Rattle.std.proofs.Common.{Err, ◌≡◌, ℕ, ◌+◌, ◌<◌, ◌⊎◌, ⊎_elim, false, Some, arith, length, refl, sym, ap, subst, ◌∙◌}
+use Rattle.std.proofs.Common.{Err, ◌≡◌, ℕ, ◌+◌, ◌<◌, ◌⊎◌, ⊎_elim, false, Some, arith, length, sym, ap, subst, ◌∙◌}
 use Rattle.std.specs.Prelude.{slice_index_or}
 use Rattle.std.proofs.lemmas.Result.{err_from_is_err_and}
 use Rattle.bx_audit_slots.specs.declared.slots.UsedSlot.{UsedSlot}

@@ -1,4 +1,4 @@
-use Rattle.std.proofs.Common.{◌≡◌, Ok}
+use Rattle.std.proofs.Common.{Ok}
 use Rattle.std.specs.Prelude.{All}
 use Rattle.bx_audit_slots.specs.OwnBlocks.{AreOwn, HasArea}
 use Rattle.bx_homes.specs.Slots.{StaysSo}

@@ -1,4 +1,4 @@
-use Rattle.std.proofs.Common.{◌≡◌, ◌*◌, Ok}
+use Rattle.std.proofs.Common.{◌*◌, Ok}
 use Rattle.bx_audit_slots.specs.Told.{IsTold}
 use Rattle.bx_audit_slots.specs.UsedSlots.{AreUsedBelow}
 use Rattle.bx_views.specs.Truths.{Truth}

@@ -1,4 +1,4 @@
-use Rattle.std.proofs.Common.{◌≡◌, ◌≤◌, List, [], ◌++◌, length, Ok}
+use Rattle.std.proofs.Common.{◌≤◌, List, [], ◌++◌, length, Ok}
 use Rattle.std.specs.Prelude.{All}
 use Rattle.bx_page.specs.Keys.{IsBelow}
 use Rattle.bx_truth.specs.PageTrees.{Chunks, Node}

@@ -1,4 +1,4 @@
-use Rattle.std.proofs.Common.{◌≡◌, Ok}
+use Rattle.std.proofs.Common.{Ok}
 use Rattle.bx_disk.specs.Kept.{Fails}
 use Rattle.bx_format.specs.Formats.{areas_truth, HoldsBlocks, KeepsFront}
 use Rattle.bx_format.specs.Moments.{IsLabelSector, Spares}

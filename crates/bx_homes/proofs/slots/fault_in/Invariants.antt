@@ -1,4 +1,4 @@
-use Rattle.std.proofs.Common.{◌≡◌, ℕ, ◌+◌, ◌*◌, ◌<◌, Ok}
+use Rattle.std.proofs.Common.{ℕ, ◌+◌, ◌*◌, ◌<◌, Ok}
 use Rattle.bx_layout.specs.Areas.{IsArea, SpellsArea}
 use Rattle.bx_truth.specs.Chunks.{IsAreaBlock, own_block}
 use Rattle.bx_views.specs.Truths.{Truth}

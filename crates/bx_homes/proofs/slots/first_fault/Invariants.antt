@@ -1,4 +1,4 @@
-use Rattle.std.proofs.Common.{◌≡◌, ℕ, ◌<◌, Ok}
+use Rattle.std.proofs.Common.{ℕ, ◌<◌, Ok}
 use Rattle.bx_views.specs.Truths.{Truth}
 use Rattle.bx_homes.specs.Slots.{AreBlocks, HasArea, StaysSo, IsAreaChunked}
 use Rattle.bx_homes.specs.Reading.{ReadsBlocks}

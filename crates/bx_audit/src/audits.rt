@@ -4,8 +4,8 @@ ghost use Rattle.std.specs.Prelude.{◌≡◌, ◌⊎◌, IfOk, IfErr};
 ghost use Rattle.bx_audit.specs.Audited.{IsListed, IsRefusal, StandFor};
 ghost use Rattle.bx_model.specs.declared.tree.Tree.{Tree as ModelTree};
 ghost use Rattle.bx_model.specs.Listing.{listing};
-ghost use Rattle.bx_overlay.specs.Refusals.{IsBreak};
 ghost use Rattle.bx_overlay.specs.Kept.{ReadsDisks};
+ghost use Rattle.bx_overlay.specs.Refusals.{IsBreak};
 
 use crate::blocks::tree_in;
 use crate::listing::Listing;

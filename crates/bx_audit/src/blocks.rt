@@ -4,14 +4,14 @@ ghost use Rattle.std.specs.Prelude.{◌≡◌, ◌≤◌, ◌⊎◌, IfOk, IfErr
 ghost use Rattle.bx_audit.specs.Blocks.{IsTornBlock, StandForNoTree, error_of, blocks_of};
 ghost use Rattle.bx_audit_owners.specs.Walks.{IsTreeOf, IsWalkedOn};
 ghost use Rattle.bx_base.specs.Faults.{Rose};
+ghost use Rattle.bx_homes.specs.Reading.{CanRead};
 ghost use Rattle.bx_homes.specs.Slots.{AreBlocks};
 ghost use Rattle.bx_overlay.specs.declared.error.AuditError.TheVariants.{DiskFault};
 ghost use Rattle.bx_logs.specs.Members.{AreThere};
+ghost use Rattle.bx_overlay.specs.Kept.{ReadsDisks};
 ghost use Rattle.bx_overlay.specs.Refusals.{IsBreak, UnlessFault};
 ghost use Rattle.bx_truth.specs.Stands.{StandsFor};
 ghost use Rattle.bx_views.specs.Truths.{Truth};
-ghost use Rattle.bx_homes.specs.Reading.{CanRead};
-ghost use Rattle.bx_overlay.specs.Kept.{ReadsDisks};
 
 use bx_audit_owners::{Walked, tree_on};
 use bx_disk::Rack;

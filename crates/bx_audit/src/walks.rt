@@ -9,13 +9,13 @@ ghost use Rattle.bx_audit_owners.specs.Walks.{IsTreeOf, IsWalked, IsWrongMet};
 ghost use Rattle.bx_audit_owners.specs.Words.{AreWorded};
 ghost use Rattle.bx_audit_trees.specs.Errors.{Counts, IfTorn};
 ghost use Rattle.bx_audit_trees.specs.Reading.{ReadsChunks};
+ghost use Rattle.bx_homes.specs.Reading.{CanRead};
 ghost use Rattle.bx_logs.specs.Members.{AreThere};
 ghost use Rattle.bx_model.specs.FileTrees.{IsFileTree};
 ghost use Rattle.bx_overlay.specs.declared.error.AuditError.TheVariants.{DiskFault};
+ghost use Rattle.bx_overlay.specs.Kept.{ReadsDisks};
 ghost use Rattle.bx_overlay.specs.Refusals.{IsBreak};
 ghost use Rattle.bx_truth.specs.PageTrees.{Chunks};
-ghost use Rattle.bx_homes.specs.Reading.{CanRead};
-ghost use Rattle.bx_overlay.specs.Kept.{ReadsDisks};
 
 use crate::links::block_in;
 use crate::words::check_words_in;

@@ -6,11 +6,11 @@ ghost use Rattle.bx_audit.specs.Walked.{TellsSlot};
 ghost use Rattle.bx_audit_owners.specs.Holding.{holdings_of};
 ghost use Rattle.bx_audit_owners.specs.Words.{AreWorded};
 ghost use Rattle.bx_base.specs.Faults.{Rose};
+ghost use Rattle.bx_homes.specs.Reading.{CanRead};
 ghost use Rattle.bx_logs.specs.Members.{AreThere};
 ghost use Rattle.bx_overlay.specs.declared.error.AuditError.TheVariants.{DiskFault};
-ghost use Rattle.bx_overlay.specs.Refusals.{IsBreak, UnlessFault};
-ghost use Rattle.bx_homes.specs.Reading.{CanRead};
 ghost use Rattle.bx_overlay.specs.Kept.{ReadsDisks};
+ghost use Rattle.bx_overlay.specs.Refusals.{IsBreak, UnlessFault};
 
 use crate::blocks::audit_error;
 use bx_audit_owners::{Walked, check_words};

@@ -7,11 +7,11 @@ ghost use Rattle.bx_audit_owners.specs.declared.holders.Holder.TheVariants.{File
 ghost use Rattle.bx_audit_owners.specs.Holding.{Adds, holdings_of};
 ghost use Rattle.bx_audit_owners.specs.Walks.{IsTakenFile};
 ghost use Rattle.bx_audit_trees.specs.Errors.{IfTorn};
+ghost use Rattle.bx_audit_trees.specs.Reading.{ReadsChunks, StillShows};
 ghost use Rattle.bx_audit_trees.specs.Shown.{Shows};
+ghost use Rattle.bx_homes.specs.Reading.{CanRead};
 ghost use Rattle.bx_tree_files.specs.Files.{IsFile};
 ghost use Rattle.bx_truth.specs.PageTrees.{Chunks};
-ghost use Rattle.bx_audit_trees.specs.Reading.{ReadsChunks, StillShows};
-ghost use Rattle.bx_homes.specs.Reading.{CanRead};
 
 use crate::holders::{Holder, Holders, put_inode};
 use bx_audit_bodies::{FileOutline, check_file, file_of};

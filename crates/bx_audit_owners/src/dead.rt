@@ -8,11 +8,11 @@ ghost use Rattle.bx_audit_owners.specs.Dead.{IsNoDead, IsNoDeadOf};
 ghost use Rattle.bx_audit_owners.specs.Found.{IsFound};
 ghost use Rattle.bx_audit_owners.specs.Holding.{holdings_of};
 ghost use Rattle.bx_audit_trees.specs.Errors.{IfTorn};
+ghost use Rattle.bx_audit_trees.specs.Reading.{ReadsChunks, StillShows};
 ghost use Rattle.bx_audit_trees.specs.Shown.{Shows};
+ghost use Rattle.bx_homes.specs.Reading.{CanRead};
 ghost use Rattle.bx_tree_files.specs.declared.file.File.{File};
 ghost use Rattle.bx_truth.specs.PageTrees.{Chunks};
-ghost use Rattle.bx_audit_trees.specs.Reading.{ReadsChunks, StillShows};
-ghost use Rattle.bx_homes.specs.Reading.{CanRead};
 
 use crate::holders::{Holder, Holders, has_holder, put_inode};
 use bx_audit_bodies::{Outline, check_file, outline_of};

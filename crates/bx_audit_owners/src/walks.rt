@@ -5,11 +5,11 @@ ghost use Rattle.bx_audit_owners.specs.Found.{AreOrdered, IsFound};
 ghost use Rattle.bx_audit_owners.specs.Holding.{holdings_of};
 ghost use Rattle.bx_audit_owners.specs.Walks.{IsFileAt, IsMet, IsTreeOf, IsWalked, IsWrongMet, Meets};
 ghost use Rattle.bx_audit_trees.specs.Errors.{IfTorn};
+ghost use Rattle.bx_audit_trees.specs.Reading.{ReadsChunks, StillShows};
 ghost use Rattle.bx_audit_trees.specs.Shown.{Shows};
+ghost use Rattle.bx_homes.specs.Reading.{CanRead};
 ghost use Rattle.bx_tree_files.specs.Names.{names_of};
 ghost use Rattle.bx_truth.specs.PageTrees.{Chunks};
-ghost use Rattle.bx_audit_trees.specs.Reading.{ReadsChunks, StillShows};
-ghost use Rattle.bx_homes.specs.Reading.{CanRead};
 
 use crate::claimed::claimed_file;
 use crate::found::{Found, put_file};

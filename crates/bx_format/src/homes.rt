@@ -1,13 +1,13 @@
 //! Blocks that are written into their homes.
 
 ghost use Rattle.std.specs.Prelude.{◌+◌, ◌*◌, ◌<◌, OnOk};
+ghost use Rattle.bx_disk.specs.Kept.{Fails};
 ghost use Rattle.bx_layout.specs.Blocks.{HasParts};
 ghost use Rattle.bx_places.specs.Places.{IsVolume, IsBlock};
 ghost use Rattle.bx_truth.specs.Opening.{page_block, root_block};
 ghost use Rattle.bx_views.specs.Truths.{Truth};
 ghost use Rattle.bx_format.specs.Moments.{IsLabelSector, Spares};
 ghost use Rattle.bx_format.specs.Formats.{areas_truth, HasSizes, HoldsBlocks, KeepsFront, with_block};
-ghost use Rattle.bx_disk.specs.Kept.{Fails};
 
 use crate::blocks::{inode_block, own_block, tree_block};
 use bx_calls::write_some;

@@ -1,10 +1,10 @@
 //! Labels and syncs of all disks.
 
 ghost use Rattle.std.specs.Prelude.{◌≡◌, ℕ, ◌+◌, ◌*◌, ◌<◌, false, OnOk};
+ghost use Rattle.bx_disk.specs.Kept.{Fails, Faults};
 ghost use Rattle.bx_places.specs.Places.{IsVolume, disk_count};
 ghost use Rattle.bx_format.specs.Moments.{IsAnySector, IsBehindLabel, Spares};
 ghost use Rattle.bx_format.specs.Formats.{HasLabels, HasSizes, KeepsBehind};
-ghost use Rattle.bx_disk.specs.Kept.{Fails, Faults};
 
 use bx_calls::{sync_disk, write_some};
 use bx_disk::{DiskFault, Rack, RackError};

@@ -1,11 +1,11 @@
 //! Disks that are made as long as those of a volume.
 
 ghost use Rattle.std.specs.Prelude.{◌≡◌, ◌<◌, length, OnOk};
+ghost use Rattle.bx_format.specs.Kept.{FailsAnew};
 ghost use Rattle.bx_places.specs.Places.{IsVolume, disk_count};
 ghost use Rattle.bx_calls.specs.Calls.{LeavesOnly};
 ghost use Rattle.bx_format.specs.Moments.{AreBare, IsOldOrBare};
 ghost use Rattle.bx_format.specs.Formats.{areas_truth, HasNoRecords, HasSizes, HoldsBlocks};
-ghost use Rattle.bx_format.specs.Kept.{FailsAnew};
 
 use bx_disk::{Rack, RackError};
 use bx_places::disk_sectors;

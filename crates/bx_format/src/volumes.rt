@@ -1,13 +1,13 @@
 //! A volume that is made.
 
 ghost use Rattle.std.specs.Prelude.{◌≡◌, ℕ, ◌<◌, false, OnOk};
+ghost use Rattle.bx_disk.specs.Kept.{Fails};
+ghost use Rattle.bx_format.specs.Kept.{FailsAnew};
 ghost use Rattle.bx_places.specs.Places.{IsVolume, disk_count};
 ghost use Rattle.bx_truth.specs.Opening.{opening_truth};
 ghost use Rattle.bx_calls.specs.Calls.{LeavesOnly};
 ghost use Rattle.bx_format.specs.Moments.{AreBare, IsBareOrBehind, IsInTheMaking, IsOldOrBare};
 ghost use Rattle.bx_format.specs.Formats.{HasLabels, HasNoRecords, HasSizes, HoldsBlocks, IsFormatted, KeepsBehind};
-ghost use Rattle.bx_disk.specs.Kept.{Fails};
-ghost use Rattle.bx_format.specs.Kept.{FailsAnew};
 
 use crate::homes::{write_areas, write_root};
 use crate::labels::{sync_all, write_labels};

@@ -2,13 +2,13 @@
 
 ghost use Rattle.std.specs.Prelude.{◌≡◌, ◌≤◌, ◌⊎◌, false, length, Some, IfOk, IfErr, OnOk};
 ghost use Rattle.bx_disk.specs.Counts.{NoneRose};
+ghost use Rattle.bx_disk.specs.Kept.{Counted};
 ghost use Rattle.bx_layout.specs.Labels.{IsLabel};
 ghost use Rattle.bx_volume.specs.Images.{IsFirstLabel};
 ghost use Rattle.bx_overlay.specs.declared.error.AuditError.TheVariants.{DiskFault, NoLabel};
 ghost use Rattle.bx_logs.specs.Members.{AreThere};
 ghost use Rattle.bx_overlay.specs.Reading.{AreMembers, AreOverlay, IsRead, IsRefused};
 ghost use Rattle.bx_overlay.specs.Refusals.{AreAccepted, HasNoLabel, IsBreak, RefusesLogs, RefusesMembers, UnlessFault};
-ghost use Rattle.bx_disk.specs.Kept.{Counted};
 
 use crate::error::AuditError;
 use bx_base::{List, Points};

@@ -3,9 +3,9 @@
 ghost use Rattle.std.specs.Prelude.{◌≡◌, ◌⊎◌, IfOk, IfErr};
 ghost use Rattle.bx_model.specs.Listing.{listing};
 ghost use Rattle.bx_model.specs.declared.tree.Tree.{Tree};
+ghost use Rattle.bx_overlay.specs.Kept.{ReadsDisks};
 ghost use Rattle.bx_overlay.specs.Refusals.{IsBreak};
 ghost use Rattle.bx_rack_audit.specs.Alone.{IsListedAlone, IsRefusedAlone, StandAlone};
-ghost use Rattle.bx_overlay.specs.Kept.{ReadsDisks};
 
 use crate::laws::one_own_state;
 use crate::states::own_state;

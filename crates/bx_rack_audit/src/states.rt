@@ -2,10 +2,10 @@
 
 ghost use Rattle.std.specs.Prelude.{◌≡◌, ◌⊎◌, None, Some, IfOk, IfErr};
 ghost use Rattle.bx_disk.specs.Counts.{NoneRose};
+ghost use Rattle.bx_disk.specs.Kept.{Counted};
 ghost use Rattle.bx_overlay.specs.Refusals.{HasNoLabel, IsBreak, UnlessFault};
 ghost use Rattle.bx_overlay.specs.declared.error.AuditError.TheVariants.{DiskFault, NoLabel, NoMajority};
 ghost use Rattle.bx_rack_audit.specs.Alone.{IsOwnState, LackState};
-ghost use Rattle.bx_disk.specs.Kept.{Counted};
 
 use bx_disk::Rack;
 use bx_global::GlobalState;

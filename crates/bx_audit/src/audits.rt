@@ -1,12 +1,11 @@
 //! The audit.
 
-ghost use Rattle.std.specs.Prelude.{◌≡◌, ◌≤◌, ◌⊎◌, IfOk, IfErr, IsErrOf};
+ghost use Rattle.std.specs.Prelude.{◌≡◌, ◌⊎◌, IfOk, IfErr};
 ghost use Rattle.bx_audit.specs.Audited.{IsListed, IsRefusal, StandFor};
-ghost use Rattle.bx_base.specs.Faults.{Rose};
 ghost use Rattle.bx_model.specs.declared.tree.Tree.{Tree as ModelTree};
 ghost use Rattle.bx_model.specs.Listing.{listing};
-ghost use Rattle.bx_overlay.specs.declared.error.AuditError.TheVariants.{DiskFault};
-ghost use Rattle.bx_overlay.specs.Refusals.{IsBreak, UnlessFault};
+ghost use Rattle.bx_overlay.specs.Kept.{ReadsDisks};
+ghost use Rattle.bx_overlay.specs.Refusals.{IsBreak};
 
 use crate::blocks::tree_in;
 use crate::listing::Listing;
@@ -39,12 +38,7 @@ pub fn audit<R: Rack>(
     ensures err { R.tells rack.old → IfErr result (λ error. IsBreak error ⊎ IsRefusal (R.state rack.old) state.now error) }
     ensures stands { R.tells rack.old → (tree : ModelTree) → StandFor (R.state rack.old) state.now tree → IfOk result (λ listed. listed.text ≡ listing tree) }
     ensures breaks { R.tells rack.old → (tree : ModelTree) → StandFor (R.state rack.old) state.now tree → IfErr result IsBreak }
-    ensures stays { R.state rack.new ≡ R.state rack.old }
-    ensures sizes { (R.state rack.new).sizes ≡ (R.state rack.old).sizes }
-    ensures cause { IsErrOf result DiskFault → Rose (R.faults rack.old) (R.faults rack.new) }
-    ensures later { R.faults rack.old ≤ R.faults rack.new }
-    ensures counts { UnlessFault result (R.faults rack.new ≡ R.faults rack.old) }
-    ensures keeps_telling { R.tells rack.old → R.tells rack.new }
+    ensures rack { ReadsDisks R.Rack rack.old rack.new result }
 {
     one_tree_stands();
     listed_by(alloc, rack, state)
@@ -58,12 +52,7 @@ fn listed_by<R: Rack>(
 ) -> Result<Listing, AuditError>
     ensures ok { R.tells rack.old → IfOk result (IsListed (R.state rack.old) state.now) }
     ensures err { R.tells rack.old → IfErr result (λ error. IsBreak error ⊎ IsRefusal (R.state rack.old) state.now error) }
-    ensures stays { R.state rack.new ≡ R.state rack.old }
-    ensures sizes { (R.state rack.new).sizes ≡ (R.state rack.old).sizes }
-    ensures cause { IsErrOf result DiskFault → Rose (R.faults rack.old) (R.faults rack.new) }
-    ensures later { R.faults rack.old ≤ R.faults rack.new }
-    ensures counts { UnlessFault result (R.faults rack.new ≡ R.faults rack.old) }
-    ensures keeps_telling { R.tells rack.old → R.tells rack.new }
+    ensures rack { ReadsDisks R.Rack rack.old rack.new result }
 {
     what_is_read_is_shown();
     refused_disks_show_no_tree();

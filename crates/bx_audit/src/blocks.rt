@@ -4,9 +4,11 @@ ghost use Rattle.std.specs.Prelude.{◌≡◌, ◌≤◌, ◌⊎◌, IfOk, IfErr
 ghost use Rattle.bx_audit.specs.Blocks.{IsTornBlock, StandForNoTree, error_of, blocks_of};
 ghost use Rattle.bx_audit_owners.specs.Walks.{IsTreeOf, IsWalkedOn};
 ghost use Rattle.bx_base.specs.Faults.{Rose};
+ghost use Rattle.bx_homes.specs.Reading.{CanRead};
 ghost use Rattle.bx_homes.specs.Slots.{AreBlocks};
 ghost use Rattle.bx_overlay.specs.declared.error.AuditError.TheVariants.{DiskFault};
 ghost use Rattle.bx_logs.specs.Members.{AreThere};
+ghost use Rattle.bx_overlay.specs.Kept.{ReadsDisks};
 ghost use Rattle.bx_overlay.specs.Refusals.{IsBreak, UnlessFault};
 ghost use Rattle.bx_truth.specs.Stands.{StandsFor};
 ghost use Rattle.bx_views.specs.Truths.{Truth};
@@ -26,9 +28,7 @@ fn tree_of<B: Blocks>(
     areas: u16,
     walked: Walked,
 ) -> Result<Tree, AuditError>
-    requires ready { B.ready blocks.old }
-    requires areas { B.areas blocks.old ≡ areas }
-    requires most { areas ≤ 64 }
+    requires blocks { CanRead B.Blocks areas blocks.old }
     requires tree { IsTreeOf areas walked.tree.volume walked.tree }
     ensures any { B.tells blocks.old → IsWalkedOn (B.tells blocks.old) areas (B.stands blocks.old) walked → IfOk result (λ tree. (truth : Truth) → AreBlocks areas (B.stands blocks.old) truth → StandsFor areas truth tree) }
     ensures there { B.tells blocks.old → OnOk result ((truth : Truth) × AreBlocks areas (B.stands blocks.old) truth) }
@@ -73,11 +73,7 @@ pub(crate) fn tree_in<R: Rack>(
     ensures there { R.tells rack.old → OnOk result ((truth : Truth) × AreBlocks read.now.members.areas (blocks_of (R.state rack.old) read.now) truth) }
     ensures is { IfOk result (λ tree. tree ≡ walked.tree) }
     ensures err { R.tells rack.old → IsWalkedOn (Unit {0}) read.now.members.areas (blocks_of (R.state rack.old) read.now) walked → IfErr result (λ error. IsBreak error ⊎ (IsTornBlock read.now.members.areas (blocks_of (R.state rack.old) read.now) error × StandForNoTree read.now.members.areas (blocks_of (R.state rack.old) read.now))) }
-    ensures stays { R.state rack.new ≡ R.state rack.old }
-    ensures cause { IsErrOf result DiskFault → Rose (R.faults rack.old) (R.faults rack.new) }
-    ensures later { R.faults rack.old ≤ R.faults rack.new }
-    ensures counts { UnlessFault result (R.faults rack.new ≡ R.faults rack.old) }
-    ensures keeps_telling { R.tells rack.old → R.tells rack.new }
+    ensures rack { ReadsDisks R.Rack rack.old rack.new result }
 {
     let members = read.members;
     let mut blocks = Overlaid::new(alloc, rack, members, read.newest.items());

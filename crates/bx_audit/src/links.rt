@@ -5,6 +5,7 @@ ghost use Rattle.bx_audit_slots.specs.Numbers.{IsToldOf};
 ghost use Rattle.bx_audit.specs.Blocks.{blocks_of};
 ghost use Rattle.bx_base.specs.Faults.{Rose};
 ghost use Rattle.bx_disk.specs.declared.fault.RackError.TheVariants.{Fault, OutOfMemory as MemoryRanOut};
+ghost use Rattle.bx_homes.specs.Reading.{CanRead, ReadsBlocks};
 ghost use Rattle.bx_logs.specs.Members.{AreThere};
 
 use bx_disk::{Rack, RackError};
@@ -17,15 +18,9 @@ use std::alloc::Global;
 /// The number of the block of a handle's slot, and the handle in its header, 0 where no block is there. A handle of no slot of the volume
 /// is told as found in block 0.
 fn block_on<B: Blocks>(blocks: &mut B, areas: u16, handle: u64) -> Result<(u64, u64), RackError>
-    requires ready { B.ready blocks.old }
-    requires areas { B.areas blocks.old ≡ areas }
+    requires blocks { CanRead B.Blocks areas blocks.old }
     ensures tells { B.tells blocks.old → IfOk result (λ told. IsToldOf areas (B.stands blocks.old) handle told.0 told.1) }
-    ensures cause { IsErrOf result Fault → Rose (B.faults blocks.old) (B.faults blocks.new) }
-    ensures later { B.faults blocks.old ≤ B.faults blocks.new }
-    ensures memory_counts { IsErrOf result MemoryRanOut → B.faults blocks.new ≡ B.faults blocks.old }
-    ensures no_fault { OnOk result (B.faults blocks.new ≡ B.faults blocks.old) }
-    ensures keeps_lender { B.lender blocks.new ≡ B.lender blocks.old }
-    ensures keeps_telling { B.tells blocks.old → B.tells blocks.new }
+    ensures blocks { ReadsBlocks B.Blocks blocks.old blocks.new result }
 {
     let name = ChunkHandle::of(handle);
     if name.area >= areas || name.slot >= SLOTS {

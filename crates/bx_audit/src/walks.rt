@@ -1,6 +1,6 @@
 //! The walk from the root over the disks of a volume.
 
-ghost use Rattle.std.specs.Prelude.{◌≡◌, ◌≤◌, ◌⊎◌, IfOk, IfErr, IsErrOf, OnOk};
+ghost use Rattle.std.specs.Prelude.{◌≡◌, ◌⊎◌, IfOk, IfErr, OnOk};
 ghost use Rattle.bx_audit.specs.Blocks.{StandForNoTree, blocks_of};
 ghost use Rattle.bx_audit.specs.Walked.{AreHeaded, IsWrongChunk, IsWrongFromRoot, NamesFile};
 ghost use Rattle.bx_audit_links.specs.InOrder.{IsInOrder};
@@ -8,11 +8,13 @@ ghost use Rattle.bx_audit_owners.specs.Holding.{holdings_of};
 ghost use Rattle.bx_audit_owners.specs.Walks.{IsTreeOf, IsWalked, IsWrongMet};
 ghost use Rattle.bx_audit_owners.specs.Words.{AreWorded};
 ghost use Rattle.bx_audit_trees.specs.Errors.{Counts, IfTorn};
-ghost use Rattle.bx_base.specs.Faults.{Rose};
+ghost use Rattle.bx_audit_trees.specs.Reading.{ReadsChunks};
+ghost use Rattle.bx_homes.specs.Reading.{CanRead};
 ghost use Rattle.bx_logs.specs.Members.{AreThere};
 ghost use Rattle.bx_model.specs.FileTrees.{IsFileTree};
 ghost use Rattle.bx_overlay.specs.declared.error.AuditError.TheVariants.{DiskFault};
-ghost use Rattle.bx_overlay.specs.Refusals.{IsBreak, UnlessFault};
+ghost use Rattle.bx_overlay.specs.Kept.{ReadsDisks};
+ghost use Rattle.bx_overlay.specs.Refusals.{IsBreak};
 ghost use Rattle.bx_truth.specs.PageTrees.{Chunks};
 
 use crate::links::block_in;
@@ -33,16 +35,12 @@ fn walk_of<B: Blocks>(
     areas: u16,
     volume: u64,
 ) -> Result<Walked, TreeError>
-    requires ready { B.ready blocks.old }
-    requires areas { B.areas blocks.old ≡ areas }
-    requires most { areas ≤ 64 }
+    requires blocks { CanRead B.Blocks areas blocks.old }
     ensures ok { B.tells blocks.old → (chunks : Chunks) → AreHeaded areas (B.stands blocks.old) chunks → IfOk result (λ walked. IsWalked chunks (holdings_of walked.holders) walked.tree.files) }
     ensures tree { IfOk result (λ walked. IsTreeOf areas volume walked.tree) }
     ensures torn { B.tells blocks.old → (chunks : Chunks) → AreHeaded areas (B.stands blocks.old) chunks → IfTorn result (λ at found wanted. IsWrongMet chunks wanted) }
     ensures none { B.tells blocks.old → IfTorn result (λ at found wanted. StandForNoTree areas (B.stands blocks.old)) }
-    ensures counts { Counts result (B.faults blocks.old) (B.faults blocks.new) }
-    ensures keeps_lender { B.lender blocks.new ≡ B.lender blocks.old }
-    ensures keeps_telling { B.tells blocks.old → B.tells blocks.new }
+    ensures blocks { ReadsChunks B.Blocks blocks.old blocks.new result }
 {
     walk(alloc, blocks, areas, volume)
 }
@@ -70,11 +68,7 @@ fn met_in<R: Rack>(alloc: Global, rack: &mut R, read: &VolumeDisks) -> Result<Wa
     ensures ok { R.tells rack.old → (chunks : Chunks) → AreHeaded read.now.members.areas (blocks_of (R.state rack.old) read.now) chunks → IfOk result (λ walked. IsWalked chunks (holdings_of walked.holders) walked.tree.files) }
     ensures tree { IfOk result (λ walked. IsTreeOf read.now.members.areas read.now.first.volume walked.tree) }
     ensures err { R.tells rack.old → IfErr result (λ error. IsBreak error ⊎ (IsWrongChunk read.now.members.areas (blocks_of (R.state rack.old) read.now) error × StandForNoTree read.now.members.areas (blocks_of (R.state rack.old) read.now))) }
-    ensures stays { R.state rack.new ≡ R.state rack.old }
-    ensures cause { IsErrOf result DiskFault → Rose (R.faults rack.old) (R.faults rack.new) }
-    ensures later { R.faults rack.old ≤ R.faults rack.new }
-    ensures counts { UnlessFault result (R.faults rack.new ≡ R.faults rack.old) }
-    ensures keeps_telling { R.tells rack.old → R.tells rack.new }
+    ensures rack { ReadsDisks R.Rack rack.old rack.new result }
 {
     match walk_in(alloc, rack, read) {
         Ok(walked) => Ok(walked),
@@ -99,11 +93,7 @@ fn check_links<R: Rack>(
     requires order { IsInOrder tree.now }
     ensures is { OnOk result (IsFileTree tree.now) }
     ensures err { R.tells rack.old → IfErr result (λ error. IsBreak error ⊎ (NamesFile read.now.members.areas (blocks_of (R.state rack.old) read.now) tree.now error × (IsFileTree tree.now → ⊥))) }
-    ensures stays { R.state rack.new ≡ R.state rack.old }
-    ensures cause { IsErrOf result DiskFault → Rose (R.faults rack.old) (R.faults rack.new) }
-    ensures later { R.faults rack.old ≤ R.faults rack.new }
-    ensures counts { UnlessFault result (R.faults rack.new ≡ R.faults rack.old) }
-    ensures keeps_telling { R.tells rack.old → R.tells rack.new }
+    ensures rack { ReadsDisks R.Rack rack.old rack.new result }
 {
     if let Some(handle) = wrong_file(alloc, tree)? {
         let (at, found) = block_in(alloc, rack, read, handle)?;
@@ -125,11 +115,7 @@ pub(crate) fn walked_in<R: Rack>(
     ensures words { R.tells rack.old → IfOk result (λ walked. AreWorded read.now.members.areas (blocks_of (R.state rack.old) read.now) (holdings_of walked.holders)) }
     ensures is { IfOk result (λ walked. IsFileTree walked.tree) }
     ensures err { R.tells rack.old → IfErr result (λ error. IsBreak error ⊎ (IsWrongFromRoot read.now.members.areas (blocks_of (R.state rack.old) read.now) error × StandForNoTree read.now.members.areas (blocks_of (R.state rack.old) read.now))) }
-    ensures stays { R.state rack.new ≡ R.state rack.old }
-    ensures cause { IsErrOf result DiskFault → Rose (R.faults rack.old) (R.faults rack.new) }
-    ensures later { R.faults rack.old ≤ R.faults rack.new }
-    ensures counts { UnlessFault result (R.faults rack.new ≡ R.faults rack.old) }
-    ensures keeps_telling { R.tells rack.old → R.tells rack.new }
+    ensures rack { ReadsDisks R.Rack rack.old rack.new result }
 {
     let walked = met_in(alloc, rack, read)?;
     check_words_in(alloc, rack, read, &walked)?;

@@ -6,8 +6,10 @@ ghost use Rattle.bx_audit.specs.Walked.{TellsSlot};
 ghost use Rattle.bx_audit_owners.specs.Holding.{holdings_of};
 ghost use Rattle.bx_audit_owners.specs.Words.{AreWorded};
 ghost use Rattle.bx_base.specs.Faults.{Rose};
+ghost use Rattle.bx_homes.specs.Reading.{CanRead};
 ghost use Rattle.bx_logs.specs.Members.{AreThere};
 ghost use Rattle.bx_overlay.specs.declared.error.AuditError.TheVariants.{DiskFault};
+ghost use Rattle.bx_overlay.specs.Kept.{ReadsDisks};
 ghost use Rattle.bx_overlay.specs.Refusals.{IsBreak, UnlessFault};
 
 use crate::blocks::audit_error;
@@ -24,9 +26,7 @@ fn check_words_on<B: Blocks>(
     areas: u16,
     walked: &Walked,
 ) -> Result<(), AuditError>
-    requires ready { B.ready blocks.old }
-    requires areas { B.areas blocks.old ≡ areas }
-    requires most { areas ≤ 64 }
+    requires blocks { CanRead B.Blocks areas blocks.old }
     ensures ok { B.tells blocks.old → OnOk result (AreWorded areas (B.stands blocks.old) (holdings_of walked.now.holders)) }
     ensures err { B.tells blocks.old → IfErr result (λ error. IsBreak error ⊎ TellsSlot areas (B.stands blocks.old) (holdings_of walked.now.holders) error) }
     ensures cause { IsErrOf result DiskFault → Rose (B.faults blocks.old) (B.faults blocks.new) }
@@ -51,11 +51,7 @@ pub(crate) fn check_words_in<R: Rack>(
     requires { AreThere (R.state rack.old).sizes read.now.members }
     ensures ok { R.tells rack.old → OnOk result (AreWorded read.now.members.areas (blocks_of (R.state rack.old) read.now) (holdings_of walked.now.holders)) }
     ensures err { R.tells rack.old → IfErr result (λ error. IsBreak error ⊎ TellsSlot read.now.members.areas (blocks_of (R.state rack.old) read.now) (holdings_of walked.now.holders) error) }
-    ensures stays { R.state rack.new ≡ R.state rack.old }
-    ensures cause { IsErrOf result DiskFault → Rose (R.faults rack.old) (R.faults rack.new) }
-    ensures later { R.faults rack.old ≤ R.faults rack.new }
-    ensures counts { UnlessFault result (R.faults rack.new ≡ R.faults rack.old) }
-    ensures keeps_telling { R.tells rack.old → R.tells rack.new }
+    ensures rack { ReadsDisks R.Rack rack.old rack.new result }
 {
     let members = read.members;
     let mut blocks = Overlaid::new(alloc, rack, members, read.newest.items());

@@ -1,15 +1,17 @@
 //! The bytes of regular files, off the blocks of their pieces.
 
-ghost use Rattle.std.specs.Prelude.{◌≡◌, ◌+◌, ◌*◌, ◌^◌, ◌<◌, ◌≤◌, ◌↔◌, ℕ, All, take, slice_index, IfOk, OnOk, IsTrue, length};
+ghost use Rattle.std.specs.Prelude.{◌≡◌, ◌*◌, ◌^◌, ◌<◌, ◌↔◌, All, take, IfOk, OnOk, IsTrue, length};
 ghost use Rattle.bx_audit_bodies.specs.Contents.{HasClear, IsClear, PutsPiece, with_piece};
 ghost use Rattle.bx_audit_bodies.specs.Parts.{IsFirstPiece, IsOfOne, IsUnclearPiece};
 ghost use Rattle.bx_audit_bodies.specs.Pieces.{AreApart, HasPiece, piece_among};
 ghost use Rattle.bx_audit_files.specs.Inodes.{IsBlockAt};
-ghost use Rattle.bx_audit_trees.specs.Errors.{IfTorn, Counts};
+ghost use Rattle.bx_audit_trees.specs.Errors.{IfTorn};
 ghost use Rattle.bx_audit_trees.specs.Shown.{Shows};
 ghost use Rattle.bx_layout.specs.declared.block.Block.{Block};
 ghost use Rattle.bx_truth.specs.PageTrees.{Chunks};
 ghost use Rattle.bx_truth.specs.Stored.{AreBytesOf};
+ghost use Rattle.bx_audit_trees.specs.Reading.{ReadsChunks, StillShows};
+ghost use Rattle.bx_homes.specs.Reading.{CanRead};
 
 use crate::pieces::Piece;
 use bx_audit_files::block_at;
@@ -38,20 +40,14 @@ pub(crate) fn bytes_of<B: Blocks>(
     size: u32,
     tail: u64,
 ) -> Result<Content, AuditError>
-    requires ready { B.ready blocks.old }
-    requires areas { B.areas blocks.old ≡ areas }
-    requires most { areas ≤ 64 }
+    requires blocks { CanRead B.Blocks areas blocks.old }
     requires size { size < 2 ^ 31 }
     ensures pieces { (chunks : Chunks) → Shows (B.tells blocks.old) areas (B.stands blocks.old) chunks → IfOk result (λ content. All (HasPiece chunks) pieces.now) }
     ensures bytes { (chunks : Chunks) → Shows (B.tells blocks.old) areas (B.stands blocks.old) chunks → AreApart pieces.now → IfOk result (AreBytesOf (piece_among chunks pieces.now) size tail) }
     ensures len { IfOk result (λ content. length content ≡ size) }
     ensures wrong { (chunks : Chunks) → Shows (B.tells blocks.old) areas (B.stands blocks.old) chunks → IfTorn result (λ at found wanted. IsUnclearPiece chunks pieces.now tail wanted) }
-    ensures shows { (chunks : Chunks) → Shows (B.tells blocks.old) areas (B.stands blocks.old) chunks → Shows (B.tells blocks.new) areas (B.stands blocks.new) chunks }
-    ensures counts { Counts result (B.faults blocks.old) (B.faults blocks.new) }
-    ensures keeps_areas { B.areas blocks.new ≡ B.areas blocks.old }
-    ensures keeps_lender { B.lender blocks.new ≡ B.lender blocks.old }
-    ensures keeps_ready { B.ready blocks.new }
-    ensures keeps_telling { B.tells blocks.old → B.tells blocks.new }
+    ensures shows { StillShows B.Blocks areas blocks.old blocks.new }
+    ensures blocks { ReadsChunks B.Blocks blocks.old blocks.new result }
 {
     let mut content = Content::zeros(alloc, size);
     for piece in pieces {
@@ -66,19 +62,13 @@ pub(crate) fn read_pieces<B: Blocks>(
     areas: u16,
     pieces: &[Piece],
 ) -> Result<(), AuditError>
-    requires ready { B.ready blocks.old }
-    requires areas { B.areas blocks.old ≡ areas }
-    requires most { areas ≤ 64 }
+    requires blocks { CanRead B.Blocks areas blocks.old }
     ensures ok { (chunks : Chunks) → Shows (B.tells blocks.old) areas (B.stands blocks.old) chunks → OnOk result (All (HasPiece chunks) pieces.now) }
     ensures torn { (chunks : Chunks) → Shows (B.tells blocks.old) areas (B.stands blocks.old) chunks → IfTorn result (λ at found wanted. All (HasPiece chunks) pieces.now → ⊥) }
     ensures names { IfTorn result (λ at found wanted. IsOfOne pieces.now wanted) }
     ensures first { (chunks : Chunks) → Shows (B.tells blocks.old) areas (B.stands blocks.old) chunks → IfTorn result (λ at found wanted. IsFirstPiece chunks pieces.now wanted) }
-    ensures shows { (chunks : Chunks) → Shows (B.tells blocks.old) areas (B.stands blocks.old) chunks → Shows (B.tells blocks.new) areas (B.stands blocks.new) chunks }
-    ensures counts { Counts result (B.faults blocks.old) (B.faults blocks.new) }
-    ensures keeps_areas { B.areas blocks.new ≡ B.areas blocks.old }
-    ensures keeps_lender { B.lender blocks.new ≡ B.lender blocks.old }
-    ensures keeps_ready { B.ready blocks.new }
-    ensures keeps_telling { B.tells blocks.old → B.tells blocks.new }
+    ensures shows { StillShows B.Blocks areas blocks.old blocks.new }
+    ensures blocks { ReadsChunks B.Blocks blocks.old blocks.new result }
 {
     for piece in pieces {
         block_at(blocks, areas, piece.handle, DATA)?;
@@ -94,17 +84,11 @@ pub(crate) fn check_pieces<B: Blocks>(
     pieces: &[Piece],
     tail: u64,
 ) -> Result<(), AuditError>
-    requires ready { B.ready blocks.old }
-    requires areas { B.areas blocks.old ≡ areas }
-    requires most { areas ≤ 64 }
+    requires blocks { CanRead B.Blocks areas blocks.old }
     ensures ok { (chunks : Chunks) → Shows (B.tells blocks.old) areas (B.stands blocks.old) chunks → OnOk result (All (HasClear chunks tail) pieces.now) }
     ensures wrong { (chunks : Chunks) → Shows (B.tells blocks.old) areas (B.stands blocks.old) chunks → IfTorn result (λ at found wanted. IsUnclearPiece chunks pieces.now tail wanted) }
-    ensures shows { (chunks : Chunks) → Shows (B.tells blocks.old) areas (B.stands blocks.old) chunks → Shows (B.tells blocks.new) areas (B.stands blocks.new) chunks }
-    ensures counts { Counts result (B.faults blocks.old) (B.faults blocks.new) }
-    ensures keeps_areas { B.areas blocks.new ≡ B.areas blocks.old }
-    ensures keeps_lender { B.lender blocks.new ≡ B.lender blocks.old }
-    ensures keeps_ready { B.ready blocks.new }
-    ensures keeps_telling { B.tells blocks.old → B.tells blocks.new }
+    ensures shows { StillShows B.Blocks areas blocks.old blocks.new }
+    ensures blocks { ReadsChunks B.Blocks blocks.old blocks.new result }
 {
     for piece in pieces {
         clear_block(blocks, areas, piece, tail)?;
@@ -122,21 +106,15 @@ fn put_piece<B: Blocks>(
     tail: u64,
     content: &mut Content,
 ) -> Result<(), AuditError>
-    requires ready { B.ready blocks.old }
-    requires areas { B.areas blocks.old ≡ areas }
-    requires most { areas ≤ 64 }
+    requires blocks { CanRead B.Blocks areas blocks.old }
     requires size { size < 2 ^ 31 }
     ensures ok { (chunks : Chunks) → Shows (B.tells blocks.old) areas (B.stands blocks.old) chunks → OnOk result (PutsPiece chunks piece.now size tail content.old content.new) }
     ensures len { OnOk result (length content.old ≡ size → length content.new ≡ size) }
     ensures torn { (chunks : Chunks) → Shows (B.tells blocks.old) areas (B.stands blocks.old) chunks
         → IfTorn result (λ at found wanted. (block : Block) → IsBlockAt chunks piece.now.handle 3 block → IsClear tail piece.now.index block.payload → ⊥) }
     ensures names { IfTorn result (λ at found wanted. wanted ≡ piece.now.handle) }
-    ensures shows { (chunks : Chunks) → Shows (B.tells blocks.old) areas (B.stands blocks.old) chunks → Shows (B.tells blocks.new) areas (B.stands blocks.new) chunks }
-    ensures counts { Counts result (B.faults blocks.old) (B.faults blocks.new) }
-    ensures keeps_areas { B.areas blocks.new ≡ B.areas blocks.old }
-    ensures keeps_lender { B.lender blocks.new ≡ B.lender blocks.old }
-    ensures keeps_ready { B.ready blocks.new }
-    ensures keeps_telling { B.tells blocks.old → B.tells blocks.new }
+    ensures shows { StillShows B.Blocks areas blocks.old blocks.new }
+    ensures blocks { ReadsChunks B.Blocks blocks.old blocks.new result }
 {
     let block = clear_block(blocks, areas, piece, tail)?;
     put_bytes(content, piece.index, block.payload.bytes(), size)?;
@@ -150,20 +128,14 @@ fn clear_block<B: Blocks>(
     piece: &Piece,
     tail: u64,
 ) -> Result<Block, AuditError>
-    requires ready { B.ready blocks.old }
-    requires areas { B.areas blocks.old ≡ areas }
-    requires most { areas ≤ 64 }
+    requires blocks { CanRead B.Blocks areas blocks.old }
     ensures ok { (chunks : Chunks) → Shows (B.tells blocks.old) areas (B.stands blocks.old) chunks
         → IfOk result (λ block. IsBlockAt chunks piece.now.handle 3 block × IsClear tail piece.now.index block.payload) }
     ensures torn { (chunks : Chunks) → Shows (B.tells blocks.old) areas (B.stands blocks.old) chunks
         → IfTorn result (λ at found wanted. (block : Block) → IsBlockAt chunks piece.now.handle 3 block → IsClear tail piece.now.index block.payload → ⊥) }
     ensures names { IfTorn result (λ at found wanted. wanted ≡ piece.now.handle) }
-    ensures shows { (chunks : Chunks) → Shows (B.tells blocks.old) areas (B.stands blocks.old) chunks → Shows (B.tells blocks.new) areas (B.stands blocks.new) chunks }
-    ensures counts { Counts result (B.faults blocks.old) (B.faults blocks.new) }
-    ensures keeps_areas { B.areas blocks.new ≡ B.areas blocks.old }
-    ensures keeps_lender { B.lender blocks.new ≡ B.lender blocks.old }
-    ensures keeps_ready { B.ready blocks.new }
-    ensures keeps_telling { B.tells blocks.old → B.tells blocks.new }
+    ensures shows { StillShows B.Blocks areas blocks.old blocks.new }
+    ensures blocks { ReadsChunks B.Blocks blocks.old blocks.new result }
 {
     let block = block_at(blocks, areas, piece.handle, DATA)?;
     if !is_clear(block.payload.bytes(), piece.index, tail) {

@@ -1,11 +1,11 @@
 //! The outline of an inode, and the file of an outline.
 
-ghost use Rattle.std.specs.Prelude.{◌≡◌, ◌≤◌, ℕ, None, Option, Some, IfOk, OnOk};
+ghost use Rattle.std.specs.Prelude.{◌≡◌, ℕ, None, Option, Some, IfOk, OnOk};
 ghost use Rattle.bx_audit_bodies.specs.Faults.{HasFault};
 ghost use Rattle.bx_audit_bodies.specs.Outlines.{AreRight, IsFileOutline, IsOutlineAt, IsReadable, IsRight, IsUnreadFile};
 ghost use Rattle.bx_audit_bodies.specs.Parts.{IsPartOf, IsTornDead};
 ghost use Rattle.bx_audit_bodies.specs.Reading.{AreEntriesApart, IsReadAs, IsStored};
-ghost use Rattle.bx_audit_trees.specs.Errors.{IfTorn, Counts};
+ghost use Rattle.bx_audit_trees.specs.Errors.{IfTorn};
 ghost use Rattle.bx_audit_trees.specs.Shown.{Shows};
 ghost use Rattle.bx_audit_files.specs.Inodes.{IsInodeAt};
 ghost use Rattle.bx_layout.specs.declared.inode.Inode.{Inode};
@@ -13,6 +13,8 @@ ghost use Rattle.bx_tree_files.specs.declared.file.File.{File as Kept};
 ghost use Rattle.bx_tree_files.specs.Files.{IsFile};
 ghost use Rattle.bx_truth.specs.PageTrees.{Chunks};
 ghost use Rattle.bx_truth.specs.Stored.{Owner, Stored};
+ghost use Rattle.bx_audit_trees.specs.Reading.{ReadsChunks, StillShows};
+ghost use Rattle.bx_homes.specs.Reading.{CanRead};
 
 use crate::bodies::{dead_of, directory_of, file_with, link_of, regular_of};
 use crate::contents::{bytes_of, check_pieces};
@@ -32,9 +34,7 @@ pub fn outline_of<B: Blocks>(
     areas: u16,
     handle: u64,
 ) -> Result<Outline, AuditError>
-    requires ready { B.ready blocks.old }
-    requires areas { B.areas blocks.old ≡ areas }
-    requires most { areas ≤ 64 }
+    requires blocks { CanRead B.Blocks areas blocks.old }
     ensures ok { (chunks : Chunks) → Shows (B.tells blocks.old) areas (B.stands blocks.old) chunks → IfOk result (IsOutlineAt chunks handle) }
     ensures right { IfOk result (IsRight handle) }
     ensures torn { (chunks : Chunks) → Shows (B.tells blocks.old) areas (B.stands blocks.old) chunks
@@ -43,12 +43,8 @@ pub fn outline_of<B: Blocks>(
     ensures part { (chunks : Chunks) → Shows (B.tells blocks.old) areas (B.stands blocks.old) chunks → IfTorn result (λ at found wanted. IsPartOf chunks handle wanted) }
     ensures fault { (chunks : Chunks) → Shows (B.tells blocks.old) areas (B.stands blocks.old) chunks → IfTorn result (λ at found wanted. HasFault chunks handle wanted) }
     ensures dead { (chunks : Chunks) → Shows (B.tells blocks.old) areas (B.stands blocks.old) chunks → (inode : Inode) → IsInodeAt chunks handle inode → inode.kind ≡ 0 → IfTorn result (λ at found wanted. IsTornDead chunks inode.tree wanted) }
-    ensures shows { (chunks : Chunks) → Shows (B.tells blocks.old) areas (B.stands blocks.old) chunks → Shows (B.tells blocks.new) areas (B.stands blocks.new) chunks }
-    ensures counts { Counts result (B.faults blocks.old) (B.faults blocks.new) }
-    ensures keeps_areas { B.areas blocks.new ≡ B.areas blocks.old }
-    ensures keeps_lender { B.lender blocks.new ≡ B.lender blocks.old }
-    ensures keeps_ready { B.ready blocks.new }
-    ensures keeps_telling { B.tells blocks.old → B.tells blocks.new }
+    ensures shows { StillShows B.Blocks areas blocks.old blocks.new }
+    ensures blocks { ReadsChunks B.Blocks blocks.old blocks.new result }
 {
     let inode = inode_at(alloc, blocks, areas, handle)?;
     match inode.kind {
@@ -66,20 +62,14 @@ pub fn check_file<B: Blocks>(
     areas: u16,
     outline: &FileOutline,
 ) -> Result<(), AuditError>
-    requires ready { B.ready blocks.old }
-    requires areas { B.areas blocks.old ≡ areas }
-    requires most { areas ≤ 64 }
+    requires blocks { CanRead B.Blocks areas blocks.old }
     requires right { AreRight outline.now.parts }
     ensures ok { (chunks : Chunks) → Shows (B.tells blocks.old) areas (B.stands blocks.old) chunks → IsFileOutline chunks outline.now
         → OnOk result (IsReadable chunks outline.now.handle outline.now.claims.items) }
     ensures torn { (chunks : Chunks) → Shows (B.tells blocks.old) areas (B.stands blocks.old) chunks → IsFileOutline chunks outline.now
         → IfTorn result (λ at found wanted. IsUnreadFile chunks outline.now.handle wanted) }
-    ensures shows { (chunks : Chunks) → Shows (B.tells blocks.old) areas (B.stands blocks.old) chunks → Shows (B.tells blocks.new) areas (B.stands blocks.new) chunks }
-    ensures counts { Counts result (B.faults blocks.old) (B.faults blocks.new) }
-    ensures keeps_areas { B.areas blocks.new ≡ B.areas blocks.old }
-    ensures keeps_lender { B.lender blocks.new ≡ B.lender blocks.old }
-    ensures keeps_ready { B.ready blocks.new }
-    ensures keeps_telling { B.tells blocks.old → B.tells blocks.new }
+    ensures shows { StillShows B.Blocks areas blocks.old blocks.new }
+    ensures blocks { ReadsChunks B.Blocks blocks.old blocks.new result }
 {
     match &outline.parts {
         Parts::Whole(_) => Ok(()),
@@ -95,9 +85,7 @@ pub fn file_of<B: Blocks>(
     areas: u16,
     outline: FileOutline,
 ) -> Result<File, AuditError>
-    requires ready { B.ready blocks.old }
-    requires areas { B.areas blocks.old ≡ areas }
-    requires most { areas ≤ 64 }
+    requires blocks { CanRead B.Blocks areas blocks.old }
     requires right { AreRight outline.parts }
     ensures ok { (chunks : Chunks) → Shows (B.tells blocks.old) areas (B.stands blocks.old) chunks → IsFileOutline chunks outline
         → IfOk result (λ file. IsReadAs chunks outline.handle (Some file) outline.claims.items) }
@@ -105,12 +93,8 @@ pub fn file_of<B: Blocks>(
     ensures apart { IfOk result (λ file. AreEntriesApart file.body) }
     ensures torn { (chunks : Chunks) → Shows (B.tells blocks.old) areas (B.stands blocks.old) chunks → IsFileOutline chunks outline
         → IfTorn result (λ at found wanted. IsUnreadFile chunks outline.handle wanted) }
-    ensures shows { (chunks : Chunks) → Shows (B.tells blocks.old) areas (B.stands blocks.old) chunks → Shows (B.tells blocks.new) areas (B.stands blocks.new) chunks }
-    ensures counts { Counts result (B.faults blocks.old) (B.faults blocks.new) }
-    ensures keeps_areas { B.areas blocks.new ≡ B.areas blocks.old }
-    ensures keeps_lender { B.lender blocks.new ≡ B.lender blocks.old }
-    ensures keeps_ready { B.ready blocks.new }
-    ensures keeps_telling { B.tells blocks.old → B.tells blocks.new }
+    ensures shows { StillShows B.Blocks areas blocks.old blocks.new }
+    ensures blocks { ReadsChunks B.Blocks blocks.old blocks.new result }
 {
     let FileOutline { handle, parts, .. } = outline;
     match parts {

@@ -1,15 +1,15 @@
 //! The pieces of files, as the entries of their trees name them.
 
-ghost use Rattle.std.specs.Prelude.{◌≡◌, ◌++◌, ◌^◌, ◌<◌, ℕ, List, [], All, take, drop, map, slice_index_or, IfOk, IfSome, IfNone, IsErrOf, IsTrue, IsFalse};
+ghost use Rattle.std.specs.Prelude.{◌≡◌, ◌++◌, ◌^◌, ◌<◌, ℕ, [], All, take, drop, map, slice_index_or, IfOk, IfSome, IfNone, IsErrOf, IsTrue, IsFalse};
 ghost use Rattle.bx_audit_bodies.specs.Parts.{IsFirstLeaf};
 ghost use Rattle.bx_audit_bodies.specs.Pieces.{ArePieces, IsPieceEntry, IsOfPiece, piece_in};
 ghost use Rattle.bx_audit_trees.specs.declared.error.AuditError.TheVariants.{Fault as DiskFailed};
 ghost use Rattle.bx_audit_trees.specs.Errors.{IfTorn};
 ghost use Rattle.bx_audit_trees.specs.Trees.{tree_of};
-ghost use Rattle.bx_truth.specs.Keys.{content_key, content_value};
+ghost use Rattle.bx_truth.specs.Keys.{content_value};
 ghost use Rattle.bx_truth.specs.PageTrees.{map_of};
 
-use bx_audit_files::{handle_in, number_in};
+use bx_audit_files::{handle_in, number_behind};
 use bx_audit_trees::{AuditError, ReadTree, torn_at};
 use bx_base::OutOfMemory;
 use bx_page::{Entry, Page};
@@ -79,22 +79,9 @@ fn piece_of(entry: &Entry) -> Option<Piece>
     ensures some { IfSome result (λ piece. IsOfPiece piece entry.now) }
     ensures none { IfNone result (IsPieceEntry entry.now → ⊥) }
 {
-    let index = index_in(entry.key.bytes())?;
+    let index = number_behind(CONTENT, entry.key.bytes())?;
     let handle = block_in(entry.value.bytes())?;
     Some(Piece { index, handle })
-}
-
-/// The index in the key of a piece.
-fn index_in(key: &[u8]) -> Option<u32>
-    ensures some { IfSome result (λ index. key.now ≡ content_key index) }
-    ensures none { IfNone result ((index : ℕ) → index < 2 ^ 32 → key.now ≡ content_key index → ⊥) }
-{
-    let (first, rest) = key.split_first()?;
-    if *first != CONTENT {
-        return None;
-    }
-    let (index, rest) = number_in(rest)?;
-    if rest.is_empty() { Some(index) } else { None }
 }
 
 /// The handle in the value of a piece.

@@ -1,8 +1,7 @@
 //! The numbers and names in the keys and values of a directory's tree.
 
-ghost use Rattle.std.specs.Prelude.{◌≡◌, ◌∷◌, ◌++◌, ◌^◌, ◌<◌, ℕ, List, IfOk, IfSome, IfNone, IsTrue, ◌↔◌};
+ghost use Rattle.std.specs.Prelude.{◌≡◌, ◌∷◌, ◌++◌, ◌^◌, ◌<◌, ℕ, List, IfOk, IfSome, IfNone};
 ghost use Rattle.std.specs.Int.{w32, w64, to_be_bytes};
-ghost use Rattle.bx_base.specs.Bytes.{IsBytes};
 ghost use Rattle.bx_audit_files.specs.Names.{Fits, IsByName, IsByNumber};
 ghost use Rattle.bx_tree_files.specs.declared.file.Name.{Name};
 ghost use Rattle.bx_truth.specs.Keys.{name_key, name_value, entry_key, entry_value};
@@ -19,7 +18,7 @@ const BY_NAME: u8 = 1;
 const BY_NUMBER: u8 = 2;
 
 /// A number of 32 bits at the front, and the bytes behind it; `None` exactly where there are fewer bytes.
-pub fn number_in(bytes: &[u8]) -> Option<(u32, &[u8])>
+fn number_in(bytes: &[u8]) -> Option<(u32, &[u8])>
     ensures some { IfSome result (λ x. bytes.now ≡ to_be_bytes w32 x.0 ++ x.1.now) }
     ensures none { IfNone result ((number : ℕ) (rest : List ℕ) → number < 2 ^ 32 → bytes.now ≡ to_be_bytes w32 number ++ rest → ⊥) }
 {
@@ -40,13 +39,13 @@ pub fn handle_in(bytes: &[u8]) -> Option<(u64, &[u8])>
     }
 }
 
-/// The number of a key by number.
-fn number_of(key: &[u8]) -> Option<u32>
-    ensures some { IfSome result (λ number. key.now ≡ entry_key number) }
-    ensures none { IfNone result ((number : ℕ) → number < 2 ^ 32 → key.now ≡ entry_key number → ⊥) }
+/// The number of a key that begins with a byte and has four more.
+pub fn number_behind(first: u8, key: &[u8]) -> Option<u32>
+    ensures some { IfSome result (λ number. key.now ≡ first ∷ to_be_bytes w32 number) }
+    ensures none { IfNone result ((number : ℕ) → number < 2 ^ 32 → key.now ≡ first ∷ to_be_bytes w32 number → ⊥) }
 {
-    let (first, rest) = key.split_first()?;
-    if *first != BY_NUMBER {
+    let (begins, rest) = key.split_first()?;
+    if *begins != first {
         return None;
     }
     let (number, rest) = number_in(rest)?;
@@ -82,7 +81,7 @@ pub(crate) fn by_number(alloc: Global, entry: &Entry) -> Result<Option<Name>, Ou
     ensures fits { IfOk result (λ found. IfSome found Fits) }
     ensures none { IfOk result (λ found. IfNone found ((name : Name) → Fits name → IsByNumber name entry.now → ⊥)) }
 {
-    let Some(number) = number_of(entry.key.bytes()) else {
+    let Some(number) = number_behind(BY_NUMBER, entry.key.bytes()) else {
         return Ok(None);
     };
     let Some((handle, name)) = handle_in(entry.value.bytes()) else {

@@ -1,13 +1,15 @@
 //! The file of an inode whose chunks have no other owner.
 
-ghost use Rattle.std.specs.Prelude.{◌≡◌, ◌≤◌, ◌⊎◌, length, IfOk, None, Some};
+ghost use Rattle.std.specs.Prelude.{◌≡◌, ◌⊎◌, length, IfOk, None, Some};
 ghost use Rattle.bx_audit_bodies.specs.Outlines.{AreRight, IsFileOutline, IsUnreadFile};
 ghost use Rattle.bx_audit_bodies.specs.Reading.{AreEntriesApart, IsReadAs};
 ghost use Rattle.bx_audit_owners.specs.declared.holders.Holder.TheVariants.{File as OfFile};
 ghost use Rattle.bx_audit_owners.specs.Holding.{Adds, holdings_of};
 ghost use Rattle.bx_audit_owners.specs.Walks.{IsTakenFile};
-ghost use Rattle.bx_audit_trees.specs.Errors.{Counts, IfTorn};
+ghost use Rattle.bx_audit_trees.specs.Errors.{IfTorn};
+ghost use Rattle.bx_audit_trees.specs.Reading.{ReadsChunks, StillShows};
 ghost use Rattle.bx_audit_trees.specs.Shown.{Shows};
+ghost use Rattle.bx_homes.specs.Reading.{CanRead};
 ghost use Rattle.bx_tree_files.specs.Files.{IsFile};
 ghost use Rattle.bx_truth.specs.PageTrees.{Chunks};
 
@@ -28,9 +30,7 @@ pub(crate) fn claimed_file<B: Blocks>(
     outline: FileOutline,
     holders: &mut Holders,
 ) -> Result<File, AuditError>
-    requires ready { B.ready blocks.old }
-    requires areas { B.areas blocks.old ≡ areas }
-    requires most { areas ≤ 64 }
+    requires blocks { CanRead B.Blocks areas blocks.old }
     requires right { AreRight outline.parts }
     requires new { holdings_of holders.old outline.handle ≡ None }
     ensures ok { (chunks : Chunks) → Shows (B.tells blocks.old) areas (B.stands blocks.old) chunks → IsFileOutline chunks outline
@@ -40,12 +40,8 @@ pub(crate) fn claimed_file<B: Blocks>(
     ensures apart { IfOk result (λ file. AreEntriesApart file.body) }
     ensures torn { (chunks : Chunks) → Shows (B.tells blocks.old) areas (B.stands blocks.old) chunks → IsFileOutline chunks outline
         → IfTorn result (λ at found wanted. IsUnreadFile chunks outline.handle wanted ⊎ IsTakenFile chunks (holdings_of holders.old) outline.handle wanted) }
-    ensures shows { (chunks : Chunks) → Shows (B.tells blocks.old) areas (B.stands blocks.old) chunks → Shows (B.tells blocks.new) areas (B.stands blocks.new) chunks }
-    ensures counts { Counts result (B.faults blocks.old) (B.faults blocks.new) }
-    ensures keeps_areas { B.areas blocks.new ≡ B.areas blocks.old }
-    ensures keeps_lender { B.lender blocks.new ≡ B.lender blocks.old }
-    ensures keeps_ready { B.ready blocks.new }
-    ensures keeps_telling { B.tells blocks.old → B.tells blocks.new }
+    ensures shows { StillShows B.Blocks areas blocks.old blocks.new }
+    ensures blocks { ReadsChunks B.Blocks blocks.old blocks.new result }
 {
     let claims = outline.claims.as_slice();
     match put_inode(holders, outline.handle, Holder::File, claims) {

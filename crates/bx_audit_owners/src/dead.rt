@@ -1,14 +1,16 @@
 //! The dead inodes of a volume.
 
-ghost use Rattle.std.specs.Prelude.{◌≡◌, ◌≤◌, ℕ, true, Contains, List, OnOk, Some};
+ghost use Rattle.std.specs.Prelude.{◌≡◌, ℕ, true, Contains, List, OnOk, Some};
 ghost use Rattle.bx_audit_slots.specs.declared.slots.UsedSlot.{UsedSlot as Used};
 ghost use Rattle.bx_audit_owners.specs.declared.holders.Holder.{Holder as Has};
 ghost use Rattle.bx_audit_owners.specs.declared.holders.Holder.TheVariants.{Dead as OfDead};
 ghost use Rattle.bx_audit_owners.specs.Dead.{IsNoDead, IsNoDeadOf};
 ghost use Rattle.bx_audit_owners.specs.Found.{IsFound};
 ghost use Rattle.bx_audit_owners.specs.Holding.{holdings_of};
-ghost use Rattle.bx_audit_trees.specs.Errors.{Counts, IfTorn};
+ghost use Rattle.bx_audit_trees.specs.Errors.{IfTorn};
+ghost use Rattle.bx_audit_trees.specs.Reading.{ReadsChunks, StillShows};
 ghost use Rattle.bx_audit_trees.specs.Shown.{Shows};
+ghost use Rattle.bx_homes.specs.Reading.{CanRead};
 ghost use Rattle.bx_tree_files.specs.declared.file.File.{File};
 ghost use Rattle.bx_truth.specs.PageTrees.{Chunks};
 
@@ -28,21 +30,15 @@ pub(crate) fn read_dead<B: Blocks>(
     slots: &[UsedSlot],
     holders: &mut Holders,
 ) -> Result<(), AuditError>
-    requires ready { B.ready blocks.old }
-    requires areas { B.areas blocks.old ≡ areas }
-    requires most { areas ≤ 64 }
+    requires blocks { CanRead B.Blocks areas blocks.old }
     ensures ok { (chunks : Chunks) (files : List File) → Shows (B.tells blocks.old) areas (B.stands blocks.old) chunks → IsFound chunks (holdings_of holders.old) files
         → OnOk result (IsFound chunks (holdings_of holders.new) files) }
     ensures marked { OnOk result ((slot : Used) → Contains slots.now slot → slot.dead ≡ true → holdings_of holders.new slot.handle ≡ Some OfDead) }
     ensures still { OnOk result ((at : ℕ) (held : Has) → holdings_of holders.old at ≡ Some held → holdings_of holders.new at ≡ Some held) }
     ensures torn { (chunks : Chunks) (files : List File) → Shows (B.tells blocks.old) areas (B.stands blocks.old) chunks → IsFound chunks (holdings_of holders.old) files
         → IfTorn result (λ at found wanted. IsNoDeadOf chunks files slots.now wanted) }
-    ensures shows { (chunks : Chunks) → Shows (B.tells blocks.old) areas (B.stands blocks.old) chunks → Shows (B.tells blocks.new) areas (B.stands blocks.new) chunks }
-    ensures counts { Counts result (B.faults blocks.old) (B.faults blocks.new) }
-    ensures keeps_areas { B.areas blocks.new ≡ B.areas blocks.old }
-    ensures keeps_lender { B.lender blocks.new ≡ B.lender blocks.old }
-    ensures keeps_ready { B.ready blocks.new }
-    ensures keeps_telling { B.tells blocks.old → B.tells blocks.new }
+    ensures shows { StillShows B.Blocks areas blocks.old blocks.new }
+    ensures blocks { ReadsChunks B.Blocks blocks.old blocks.new result }
 {
     for slot in slots {
         read_slot(alloc, blocks, areas, slot, holders)?;
@@ -58,21 +54,15 @@ fn read_slot<B: Blocks>(
     slot: &UsedSlot,
     holders: &mut Holders,
 ) -> Result<(), AuditError>
-    requires ready { B.ready blocks.old }
-    requires areas { B.areas blocks.old ≡ areas }
-    requires most { areas ≤ 64 }
+    requires blocks { CanRead B.Blocks areas blocks.old }
     ensures ok { (chunks : Chunks) (files : List File) → Shows (B.tells blocks.old) areas (B.stands blocks.old) chunks → IsFound chunks (holdings_of holders.old) files
         → OnOk result (IsFound chunks (holdings_of holders.new) files) }
     ensures marked { slot.now.dead ≡ true → OnOk result (holdings_of holders.new slot.now.handle ≡ Some OfDead) }
     ensures still { OnOk result ((at : ℕ) (held : Has) → holdings_of holders.old at ≡ Some held → holdings_of holders.new at ≡ Some held) }
     ensures torn { (chunks : Chunks) (files : List File) → Shows (B.tells blocks.old) areas (B.stands blocks.old) chunks → IsFound chunks (holdings_of holders.old) files
         → IfTorn result (λ at found wanted. (slot.now.dead ≡ true) × IsNoDead chunks (holdings_of holders.old) slot.now.handle wanted) }
-    ensures shows { (chunks : Chunks) → Shows (B.tells blocks.old) areas (B.stands blocks.old) chunks → Shows (B.tells blocks.new) areas (B.stands blocks.new) chunks }
-    ensures counts { Counts result (B.faults blocks.old) (B.faults blocks.new) }
-    ensures keeps_areas { B.areas blocks.new ≡ B.areas blocks.old }
-    ensures keeps_lender { B.lender blocks.new ≡ B.lender blocks.old }
-    ensures keeps_ready { B.ready blocks.new }
-    ensures keeps_telling { B.tells blocks.old → B.tells blocks.new }
+    ensures shows { StillShows B.Blocks areas blocks.old blocks.new }
+    ensures blocks { ReadsChunks B.Blocks blocks.old blocks.new result }
 {
     if !slot.dead {
         return Ok(());
@@ -88,21 +78,15 @@ fn read_one<B: Blocks>(
     handle: u64,
     holders: &mut Holders,
 ) -> Result<(), AuditError>
-    requires ready { B.ready blocks.old }
-    requires areas { B.areas blocks.old ≡ areas }
-    requires most { areas ≤ 64 }
+    requires blocks { CanRead B.Blocks areas blocks.old }
     ensures ok { (chunks : Chunks) (files : List File) → Shows (B.tells blocks.old) areas (B.stands blocks.old) chunks → IsFound chunks (holdings_of holders.old) files
         → OnOk result (IsFound chunks (holdings_of holders.new) files) }
     ensures marked { OnOk result (holdings_of holders.new handle ≡ Some OfDead) }
     ensures still { OnOk result ((at : ℕ) (held : Has) → holdings_of holders.old at ≡ Some held → holdings_of holders.new at ≡ Some held) }
     ensures torn { (chunks : Chunks) (files : List File) → Shows (B.tells blocks.old) areas (B.stands blocks.old) chunks → IsFound chunks (holdings_of holders.old) files
         → IfTorn result (λ at found wanted. IsNoDead chunks (holdings_of holders.old) handle wanted) }
-    ensures shows { (chunks : Chunks) → Shows (B.tells blocks.old) areas (B.stands blocks.old) chunks → Shows (B.tells blocks.new) areas (B.stands blocks.new) chunks }
-    ensures counts { Counts result (B.faults blocks.old) (B.faults blocks.new) }
-    ensures keeps_areas { B.areas blocks.new ≡ B.areas blocks.old }
-    ensures keeps_lender { B.lender blocks.new ≡ B.lender blocks.old }
-    ensures keeps_ready { B.ready blocks.new }
-    ensures keeps_telling { B.tells blocks.old → B.tells blocks.new }
+    ensures shows { StillShows B.Blocks areas blocks.old blocks.new }
+    ensures blocks { ReadsChunks B.Blocks blocks.old blocks.new result }
 {
     if has_holder(holders, handle, Holder::Dead)? {
         return Ok(());

@@ -1,13 +1,15 @@
 //! The tree of a volume.
 
-ghost use Rattle.std.specs.Prelude.{◌≡◌, ◌≤◌, ℕ, IfOk, List, OnOk};
+ghost use Rattle.std.specs.Prelude.{◌≡◌, ℕ, IfOk, List, OnOk};
 ghost use Rattle.bx_audit_owners.specs.Found.{AreOrdered};
 ghost use Rattle.bx_audit_owners.specs.Holding.{holdings_of};
 ghost use Rattle.bx_audit_slots.specs.Told.{IsTold};
 ghost use Rattle.bx_audit_slots.specs.UsedSlots.{AreUsed};
 ghost use Rattle.bx_audit_owners.specs.Walks.{IsTreeOf, IsWalked, IsWalkedOn};
 ghost use Rattle.bx_audit_owners.specs.Whole.{IsRestTorn, IsTreeTorn, IsWhole, StandsForNone};
-ghost use Rattle.bx_audit_trees.specs.Errors.{Counts, IfTorn};
+ghost use Rattle.bx_audit_trees.specs.Errors.{IfTorn};
+ghost use Rattle.bx_audit_trees.specs.Reading.{ReadsChunks};
+ghost use Rattle.bx_homes.specs.Reading.{CanRead};
 ghost use Rattle.bx_tree_files.specs.declared.file.File.{File};
 ghost use Rattle.bx_truth.specs.Chunks.{chunks_of};
 ghost use Rattle.bx_truth.specs.Stands.{StandsFor};
@@ -31,19 +33,13 @@ pub fn tree_on<B: Blocks>(
     areas: u16,
     walked: Walked,
 ) -> Result<Tree, AuditError>
-    requires ready { B.ready blocks.old }
-    requires areas { B.areas blocks.old ≡ areas }
-    requires most { areas ≤ 64 }
+    requires blocks { CanRead B.Blocks areas blocks.old }
     requires tree { IsTreeOf areas walked.tree.volume walked.tree }
     ensures ok { (truth : Truth) → IsTold (B.tells blocks.old) areas (B.stands blocks.old) truth → IsWalkedOn (B.tells blocks.old) areas (B.stands blocks.old) walked → IfOk result (StandsFor areas truth) }
     ensures is { IfOk result (λ tree. tree ≡ walked.tree) }
     ensures torn { (truth : Truth) → IsTold (B.tells blocks.old) areas (B.stands blocks.old) truth → IsWalkedOn (B.tells blocks.old) areas (B.stands blocks.old) walked → IfTorn result (λ at found wanted. StandsForNone areas truth) }
     ensures tells { (truth : Truth) → IsTold (B.tells blocks.old) areas (B.stands blocks.old) truth → IsWalkedOn (B.tells blocks.old) areas (B.stands blocks.old) walked → IfTorn result (IsTreeTorn areas truth) }
-    ensures counts { Counts result (B.faults blocks.old) (B.faults blocks.new) }
-    ensures keeps_telling { B.tells blocks.old → B.tells blocks.new }
-    ensures keeps_areas { B.areas blocks.new ≡ B.areas blocks.old }
-    ensures keeps_lender { B.lender blocks.new ≡ B.lender blocks.old }
-    ensures keeps_ready { B.ready blocks.new }
+    ensures blocks { ReadsChunks B.Blocks blocks.old blocks.new result }
 {
     let slots = used_slots(alloc, blocks, areas)?;
     let Walked { tree, mut holders } = walked;
@@ -61,20 +57,14 @@ fn check_rest<B: Blocks>(
     slots: &[UsedSlot],
     holders: &mut Holders,
 ) -> Result<(), AuditError>
-    requires ready { B.ready blocks.old }
-    requires areas { B.areas blocks.old ≡ areas }
-    requires most { areas ≤ 64 }
+    requires blocks { CanRead B.Blocks areas blocks.old }
     ensures ok { (truth : Truth) (files : List File) → IsTold (B.tells blocks.old) areas (B.stands blocks.old) truth → AreUsed areas truth slots.now → IsWalked (chunks_of areas truth) (holdings_of holders.old) files
         → OnOk result (IsWhole areas truth slots.now (holdings_of holders.new) files) }
     ensures torn { (truth : Truth) (files : List File) (given : List ℕ) → IsTold (B.tells blocks.old) areas (B.stands blocks.old) truth → AreUsed areas truth slots.now → IsWalked (chunks_of areas truth) (holdings_of holders.old) files
         → AreOrdered files given → IfTorn result (λ at found wanted. StandsForNone areas truth) }
     ensures tells { (truth : Truth) (files : List File) → IsTold (B.tells blocks.old) areas (B.stands blocks.old) truth → AreUsed areas truth slots.now → IsWalked (chunks_of areas truth) (holdings_of holders.old) files
         → IfTorn result (IsRestTorn areas truth) }
-    ensures counts { Counts result (B.faults blocks.old) (B.faults blocks.new) }
-    ensures keeps_telling { B.tells blocks.old → B.tells blocks.new }
-    ensures keeps_areas { B.areas blocks.new ≡ B.areas blocks.old }
-    ensures keeps_lender { B.lender blocks.new ≡ B.lender blocks.old }
-    ensures keeps_ready { B.ready blocks.new }
+    ensures blocks { ReadsChunks B.Blocks blocks.old blocks.new result }
 {
     match read_dead(alloc, blocks, areas, slots, holders) {
         Ok(()) => check_slots(slots, holders),

@@ -1,11 +1,13 @@
 //! The walk from the root of a volume over its directories and files.
 
-ghost use Rattle.std.specs.Prelude.{◌≡◌, ◌≤◌, ◌++◌, map, IfOk, OnOk};
+ghost use Rattle.std.specs.Prelude.{◌≡◌, ◌++◌, map, IfOk, OnOk};
 ghost use Rattle.bx_audit_owners.specs.Found.{AreOrdered, IsFound};
 ghost use Rattle.bx_audit_owners.specs.Holding.{holdings_of};
 ghost use Rattle.bx_audit_owners.specs.Walks.{IsFileAt, IsMet, IsTreeOf, IsWalked, IsWrongMet, Meets};
-ghost use Rattle.bx_audit_trees.specs.Errors.{Counts, IfTorn};
+ghost use Rattle.bx_audit_trees.specs.Errors.{IfTorn};
+ghost use Rattle.bx_audit_trees.specs.Reading.{ReadsChunks, StillShows};
 ghost use Rattle.bx_audit_trees.specs.Shown.{Shows};
+ghost use Rattle.bx_homes.specs.Reading.{CanRead};
 ghost use Rattle.bx_tree_files.specs.Names.{names_of};
 ghost use Rattle.bx_truth.specs.PageTrees.{Chunks};
 
@@ -41,18 +43,12 @@ pub fn walk<B: Blocks>(
     areas: u16,
     volume: u64,
 ) -> Result<Walked, AuditError>
-    requires ready { B.ready blocks.old }
-    requires areas { B.areas blocks.old ≡ areas }
-    requires most { areas ≤ 64 }
+    requires blocks { CanRead B.Blocks areas blocks.old }
     ensures ok { (chunks : Chunks) → Shows (B.tells blocks.old) areas (B.stands blocks.old) chunks → IfOk result (λ walked. IsWalked chunks (holdings_of walked.holders) walked.tree.files) }
     ensures tree { IfOk result (λ walked. IsTreeOf areas volume walked.tree) }
     ensures torn { (chunks : Chunks) → Shows (B.tells blocks.old) areas (B.stands blocks.old) chunks → IfTorn result (λ at found wanted. IsWrongMet chunks wanted) }
-    ensures shows { (chunks : Chunks) → Shows (B.tells blocks.old) areas (B.stands blocks.old) chunks → Shows (B.tells blocks.new) areas (B.stands blocks.new) chunks }
-    ensures counts { Counts result (B.faults blocks.old) (B.faults blocks.new) }
-    ensures keeps_areas { B.areas blocks.new ≡ B.areas blocks.old }
-    ensures keeps_lender { B.lender blocks.new ≡ B.lender blocks.old }
-    ensures keeps_ready { B.ready blocks.new }
-    ensures keeps_telling { B.tells blocks.old → B.tells blocks.new }
+    ensures shows { StillShows B.Blocks areas blocks.old blocks.new }
+    ensures blocks { ReadsChunks B.Blocks blocks.old blocks.new result }
 {
     let Found {
         holders,
@@ -75,18 +71,12 @@ fn found_from_root<B: Blocks>(
     blocks: &mut B,
     areas: u16,
 ) -> Result<Found, AuditError>
-    requires ready { B.ready blocks.old }
-    requires areas { B.areas blocks.old ≡ areas }
-    requires most { areas ≤ 64 }
+    requires blocks { CanRead B.Blocks areas blocks.old }
     ensures ok { (chunks : Chunks) → Shows (B.tells blocks.old) areas (B.stands blocks.old) chunks → IfOk result (λ found. IsWalked chunks (holdings_of found.holders) found.files) }
     ensures ordered { IfOk result (λ found. AreOrdered found.files found.given) }
     ensures torn { (chunks : Chunks) → Shows (B.tells blocks.old) areas (B.stands blocks.old) chunks → IfTorn result (λ at found wanted. IsWrongMet chunks wanted) }
-    ensures shows { (chunks : Chunks) → Shows (B.tells blocks.old) areas (B.stands blocks.old) chunks → Shows (B.tells blocks.new) areas (B.stands blocks.new) chunks }
-    ensures counts { Counts result (B.faults blocks.old) (B.faults blocks.new) }
-    ensures keeps_areas { B.areas blocks.new ≡ B.areas blocks.old }
-    ensures keeps_lender { B.lender blocks.new ≡ B.lender blocks.old }
-    ensures keeps_ready { B.ready blocks.new }
-    ensures keeps_telling { B.tells blocks.old → B.tells blocks.new }
+    ensures shows { StillShows B.Blocks areas blocks.old blocks.new }
+    ensures blocks { ReadsChunks B.Blocks blocks.old blocks.new result }
 {
     let mut found = Found {
         holders: Holders::new(alloc),
@@ -115,9 +105,7 @@ fn meet<B: Blocks>(
     found: &mut Found,
     met: &mut Vec<u64>,
 ) -> Result<(), AuditError>
-    requires ready { B.ready blocks.old }
-    requires areas { B.areas blocks.old ≡ areas }
-    requires most { areas ≤ 64 }
+    requires blocks { CanRead B.Blocks areas blocks.old }
     ensures ok { (chunks : Chunks) → Shows (B.tells blocks.old) areas (B.stands blocks.old) chunks → IsFound chunks (holdings_of found.old.holders) found.old.files
         → OnOk result (IsFound chunks (holdings_of found.new.holders) found.new.files) }
     ensures step { OnOk result (Meets (λ file. (chunks : Chunks) → Shows (B.tells blocks.old) areas (B.stands blocks.old) chunks → IsFileAt chunks handle file)
@@ -125,12 +113,8 @@ fn meet<B: Blocks>(
     ensures ordered { AreOrdered found.old.files found.old.given → OnOk result (AreOrdered found.new.files found.new.given) }
     ensures torn { (chunks : Chunks) → Shows (B.tells blocks.old) areas (B.stands blocks.old) chunks → IsFound chunks (holdings_of found.old.holders) found.old.files → IsMet chunks handle
         → IfTorn result (λ at found wanted. IsWrongMet chunks wanted) }
-    ensures shows { (chunks : Chunks) → Shows (B.tells blocks.old) areas (B.stands blocks.old) chunks → Shows (B.tells blocks.new) areas (B.stands blocks.new) chunks }
-    ensures counts { Counts result (B.faults blocks.old) (B.faults blocks.new) }
-    ensures keeps_areas { B.areas blocks.new ≡ B.areas blocks.old }
-    ensures keeps_lender { B.lender blocks.new ≡ B.lender blocks.old }
-    ensures keeps_ready { B.ready blocks.new }
-    ensures keeps_telling { B.tells blocks.old → B.tells blocks.new }
+    ensures shows { StillShows B.Blocks areas blocks.old blocks.new }
+    ensures blocks { ReadsChunks B.Blocks blocks.old blocks.new result }
 {
     if has_holder(&found.holders, handle, Holder::File)? {
         return Ok(());

@@ -1,12 +1,14 @@
 //! The words of the slots of chunks that the walk from the root met.
 
-ghost use Rattle.std.specs.Prelude.{◌≡◌, ◌≢◌, ◌<◌, ◌≤◌, ℕ, All, IsTrue, IsFalse, None, OnOk, IsErrOf};
+ghost use Rattle.std.specs.Prelude.{◌≢◌, ◌<◌, ℕ, All, IsTrue, IsFalse, None, OnOk, IsErrOf};
 ghost use Rattle.bx_audit_owners.specs.Holding.{holdings_of};
 ghost use Rattle.bx_audit_owners.specs.Words.{AreWorded, IsFirstTornIn, IsFirstWrongAt, IsIn, IsInOwn, IsRightOwn, IsTornIn, IsTornOwn};
 ghost use Rattle.bx_audit_slots.specs.OwnBlocks.{HasArea};
+ghost use Rattle.bx_audit_trees.specs.Reading.{ReadsChunks};
 ghost use Rattle.bx_handles.specs.Handles.{parts_of};
 ghost use Rattle.bx_audit_trees.specs.declared.error.AuditError.TheVariants.{Fault as DiskFailed};
-ghost use Rattle.bx_audit_trees.specs.Errors.{Counts, IfTorn};
+ghost use Rattle.bx_audit_trees.specs.Errors.{IfTorn};
+ghost use Rattle.bx_homes.specs.Reading.{CanRead};
 ghost use Rattle.bx_layout.specs.Areas.{IsArea};
 
 use crate::holders::Holders;
@@ -27,16 +29,10 @@ pub fn check_words<B: Blocks>(
     areas: u16,
     walked: &Walked,
 ) -> Result<(), AuditError>
-    requires ready { B.ready blocks.old }
-    requires areas { B.areas blocks.old ≡ areas }
-    requires most { areas ≤ 64 }
+    requires blocks { CanRead B.Blocks areas blocks.old }
     ensures ok { B.tells blocks.old → OnOk result (AreWorded areas (B.stands blocks.old) (holdings_of walked.now.holders)) }
     ensures torn { B.tells blocks.old → IfTorn result (IsFirstWrongAt areas (B.stands blocks.old) (holdings_of walked.now.holders)) }
-    ensures counts { Counts result (B.faults blocks.old) (B.faults blocks.new) }
-    ensures keeps_areas { B.areas blocks.new ≡ B.areas blocks.old }
-    ensures keeps_lender { B.lender blocks.new ≡ B.lender blocks.old }
-    ensures keeps_ready { B.ready blocks.new }
-    ensures keeps_telling { B.tells blocks.old → B.tells blocks.new }
+    ensures blocks { ReadsChunks B.Blocks blocks.old blocks.new result }
 {
     let owns = read_own_blocks(alloc, blocks, areas)?;
     check_held(owns.as_slice(), &walked.holders)

@@ -1,11 +1,13 @@
 //! The own blocks of areas.
 
-ghost use Rattle.std.specs.Prelude.{◌≡◌, ◌<◌, ◌≤◌, All, IfOk, IfSome, IfNone};
+ghost use Rattle.std.specs.Prelude.{◌<◌, ◌≤◌, All, IfOk, IfSome, IfNone};
 ghost use Rattle.bx_audit_slots.specs.OwnBlocks.{AreOwn, HasArea, TellsOwn};
-ghost use Rattle.bx_audit_trees.specs.Errors.{Counts, IfTorn};
+ghost use Rattle.bx_audit_trees.specs.Errors.{IfTorn};
 ghost use Rattle.bx_homes.specs.Slots.{StaysSo};
 ghost use Rattle.bx_layout.specs.Areas.{SpellsArea};
 ghost use Rattle.bx_truth.specs.Chunks.{IsAreaBlock};
+ghost use Rattle.bx_audit_trees.specs.Reading.{ReadsChunks};
+ghost use Rattle.bx_homes.specs.Reading.{CanRead};
 
 use bx_audit_trees::AuditError;
 use bx_base::OutOfMemory;
@@ -32,18 +34,12 @@ pub fn read_own_blocks<B: Blocks>(
     blocks: &mut B,
     areas: u16,
 ) -> Result<Vec<OwnBlock>, AuditError>
-    requires ready { B.ready blocks.old }
-    requires areas { B.areas blocks.old ≡ areas }
-    requires most { areas ≤ 64 }
+    requires blocks { CanRead B.Blocks areas blocks.old }
     ensures tells { B.tells blocks.old → IfOk result (λ owns. AreOwn (B.stands blocks.old) areas owns.items) }
     ensures are { IfOk result (λ owns. All HasArea owns.items) }
     ensures never { IfTorn result (λ at found wanted. ⊥) }
     ensures stays { B.tells blocks.old → StaysSo (B.stands blocks.old) (B.stands blocks.new) }
-    ensures counts { Counts result (B.faults blocks.old) (B.faults blocks.new) }
-    ensures keeps_areas { B.areas blocks.new ≡ B.areas blocks.old }
-    ensures keeps_lender { B.lender blocks.new ≡ B.lender blocks.old }
-    ensures keeps_ready { B.ready blocks.new }
-    ensures keeps_telling { B.tells blocks.old → B.tells blocks.new }
+    ensures blocks { ReadsChunks B.Blocks blocks.old blocks.new result }
 {
     let mut owns = Vec::new(alloc);
     for area in 0..areas {
@@ -65,11 +61,7 @@ pub(crate) fn own_block<B: Blocks>(
     ensures is { IfOk result HasArea }
     ensures never { IfTorn result (λ at found wanted. ⊥) }
     ensures stays { B.tells blocks.old → StaysSo (B.stands blocks.old) (B.stands blocks.new) }
-    ensures counts { Counts result (B.faults blocks.old) (B.faults blocks.new) }
-    ensures keeps_areas { B.areas blocks.new ≡ B.areas blocks.old }
-    ensures keeps_lender { B.lender blocks.new ≡ B.lender blocks.old }
-    ensures keeps_ready { B.ready blocks.new }
-    ensures keeps_telling { B.tells blocks.old → B.tells blocks.new }
+    ensures blocks { ReadsChunks B.Blocks blocks.old blocks.new result }
 {
     let Some(block) = blocks.block(ChunkHandle::own(area).block())? else {
         return Ok(OwnBlock::Wrong(0));

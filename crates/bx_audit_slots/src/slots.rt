@@ -1,13 +1,15 @@
 //! The slots of a volume that are in use.
 
-ghost use Rattle.std.specs.Prelude.{◌≡◌, ◌+◌, ◌*◌, ◌<◌, ◌≤◌, ℕ, Contains, IfOk, OnOk, IsErrOf};
+ghost use Rattle.std.specs.Prelude.{◌+◌, ◌*◌, ◌<◌, ◌≤◌, ℕ, IfOk, OnOk, IsErrOf};
 ghost use Rattle.bx_audit_slots.specs.Told.{IsTold};
 ghost use Rattle.bx_audit_slots.specs.UsedSlots.{AreUsed, AreUsedBelow, IsFreeMarked};
 ghost use Rattle.bx_audit_trees.specs.declared.error.AuditError.TheVariants.{Fault as DiskFailed};
-ghost use Rattle.bx_audit_trees.specs.Errors.{Counts, IfTorn};
+ghost use Rattle.bx_audit_trees.specs.Errors.{IfTorn};
 ghost use Rattle.bx_layout.specs.Areas.{IsArea, SpellsArea};
 ghost use Rattle.bx_truth.specs.Chunks.{own_block};
 ghost use Rattle.bx_views.specs.Truths.{Truth};
+ghost use Rattle.bx_audit_trees.specs.Reading.{ReadsChunks};
+ghost use Rattle.bx_homes.specs.Reading.{CanRead};
 
 use crate::own_blocks::{OwnBlock, own_block};
 use bx_audit_trees::AuditError;
@@ -32,17 +34,11 @@ pub fn used_slots<B: Blocks>(
     blocks: &mut B,
     areas: u16,
 ) -> Result<Vec<UsedSlot>, AuditError>
-    requires ready { B.ready blocks.old }
-    requires areas { B.areas blocks.old ≡ areas }
-    requires most { areas ≤ 64 }
+    requires blocks { CanRead B.Blocks areas blocks.old }
     ensures ok { (truth : Truth) → IsTold (B.tells blocks.old) areas (B.stands blocks.old) truth → IfOk result (λ slots. AreUsed areas truth slots.items) }
     ensures torn { (truth : Truth) → IsTold (B.tells blocks.old) areas (B.stands blocks.old) truth → IfTorn result (IsFreeMarked areas truth) }
     ensures told { (truth : Truth) → IsTold (B.tells blocks.old) areas (B.stands blocks.old) truth → IsTold (B.tells blocks.new) areas (B.stands blocks.new) truth }
-    ensures counts { Counts result (B.faults blocks.old) (B.faults blocks.new) }
-    ensures keeps_areas { B.areas blocks.new ≡ B.areas blocks.old }
-    ensures keeps_lender { B.lender blocks.new ≡ B.lender blocks.old }
-    ensures keeps_ready { B.ready blocks.new }
-    ensures keeps_telling { B.tells blocks.old → B.tells blocks.new }
+    ensures blocks { ReadsChunks B.Blocks blocks.old blocks.new result }
 {
     let mut used = Vec::new(alloc);
     for area in 0..areas {
@@ -61,11 +57,7 @@ fn slots_of<B: Blocks>(alloc: Global, blocks: &mut B, area: u16) -> Result<AreaB
     ensures is { IfOk result IsArea }
     ensures never { (truth : Truth) → IsTold (B.tells blocks.old) (B.areas blocks.old) (B.stands blocks.old) truth → IfTorn result (λ at found wanted. ⊥) }
     ensures told { (truth : Truth) → IsTold (B.tells blocks.old) (B.areas blocks.old) (B.stands blocks.old) truth → IsTold (B.tells blocks.new) (B.areas blocks.old) (B.stands blocks.new) truth }
-    ensures counts { Counts result (B.faults blocks.old) (B.faults blocks.new) }
-    ensures keeps_areas { B.areas blocks.new ≡ B.areas blocks.old }
-    ensures keeps_lender { B.lender blocks.new ≡ B.lender blocks.old }
-    ensures keeps_ready { B.ready blocks.new }
-    ensures keeps_telling { B.tells blocks.old → B.tells blocks.new }
+    ensures blocks { ReadsChunks B.Blocks blocks.old blocks.new result }
 {
     match own_block(alloc, blocks, area)? {
         OwnBlock::Slots(slots) => Ok(slots),

@@ -6,3 +6,4 @@ pub mod Trees
 pub mod Leaves
 pub mod Leading
 pub mod Torn
+pub mod Reading

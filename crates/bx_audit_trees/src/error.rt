@@ -1,7 +1,6 @@
 //! Why there is no file tree, or why it wasn't read.
 
 ghost use Rattle.std.specs.Prelude.{◌≡◌};
-ghost use Rattle.bx_disk.specs.declared.fault.RackError.{RackError as FromRack};
 ghost use Rattle.bx_audit_trees.specs.Errors.{of_rack};
 ghost use Rattle.bx_audit_trees.specs.declared.error.AuditError.TheVariants.{OutOfMemory as MemoryRanOut};
 

@@ -4,12 +4,14 @@ ghost use Rattle.std.specs.Prelude.{◌≡◌, ◌≤◌, ◌<◌, ℕ, List, Op
 ghost use Rattle.bx_page.specs.Contents.{Contents};
 ghost use Rattle.bx_page.specs.Keys.{IsBelow};
 ghost use Rattle.bx_truth.specs.PageTrees.{Chunks, Node};
-ghost use Rattle.bx_audit_trees.specs.Errors.{IfTorn, Counts};
+ghost use Rattle.bx_audit_trees.specs.Errors.{IfTorn};
 ghost use Rattle.bx_audit_trees.specs.Leading.{AreLedTo, IsLedTo};
 ghost use Rattle.bx_audit_trees.specs.Pages.{BeginningsRise, IsLevelFrom, IsPageAt, IsPlaced, LeadsTo};
 ghost use Rattle.bx_audit_trees.specs.Room.{room_above};
 ghost use Rattle.bx_audit_trees.specs.Shown.{Shows};
 ghost use Rattle.bx_audit_trees.specs.Torn.{IsTornAlong};
+ghost use Rattle.bx_audit_trees.specs.Reading.{ReadsChunks, StillShows};
+ghost use Rattle.bx_homes.specs.Reading.{CanRead};
 
 use crate::error::AuditError;
 use crate::pages::{TreePage, page_at, way_of};
@@ -28,21 +30,15 @@ pub fn level_from<B: Blocks>(
     level: u16,
     first: u64,
 ) -> Result<Vec<TreePage>, AuditError>
-    requires ready { B.ready blocks.old }
-    requires areas { B.areas blocks.old ≡ areas }
-    requires most { areas ≤ 64 }
+    requires blocks { CanRead B.Blocks areas blocks.old }
     ensures ok { (chunks : Chunks) → Shows (B.tells blocks.old) areas (B.stands blocks.old) chunks → IfOk result (λ pages. IsLevelFrom chunks level first pages.items) }
     ensures torn { (chunks : Chunks) → Shows (B.tells blocks.old) areas (B.stands blocks.old) chunks → IfTorn result (λ at found wanted. (nodes : List Node) → IsLevelFrom chunks level first nodes → ⊥) }
     ensures rise { IfOk result (λ pages. BeginningsRise pages.items) }
     ensures led { (chunks : Chunks) → Shows (B.tells blocks.old) areas (B.stands blocks.old) chunks → IfOk result (λ pages. AreLedTo chunks first pages.items) }
     ensures leads { (chunks : Chunks) → Shows (B.tells blocks.old) areas (B.stands blocks.old) chunks → IfTorn result (λ at found wanted. IsLedTo chunks first wanted) }
     ensures wrong { (chunks : Chunks) → Shows (B.tells blocks.old) areas (B.stands blocks.old) chunks → IfTorn result (λ at found wanted. IsTornAlong chunks level first wanted) }
-    ensures shows { (chunks : Chunks) → Shows (B.tells blocks.old) areas (B.stands blocks.old) chunks → Shows (B.tells blocks.new) areas (B.stands blocks.new) chunks }
-    ensures counts { Counts result (B.faults blocks.old) (B.faults blocks.new) }
-    ensures keeps_areas { B.areas blocks.new ≡ B.areas blocks.old }
-    ensures keeps_lender { B.lender blocks.new ≡ B.lender blocks.old }
-    ensures keeps_ready { B.ready blocks.new }
-    ensures keeps_telling { B.tells blocks.old → B.tells blocks.new }
+    ensures shows { StillShows B.Blocks areas blocks.old blocks.new }
+    ensures blocks { ReadsChunks B.Blocks blocks.old blocks.new result }
 {
     let mut pages = Vec::new(alloc);
     let mut handle = first;
@@ -71,9 +67,7 @@ fn page_of<B: Blocks>(
     handle: u64,
     begins: &[u8],
 ) -> Result<(Page, Option<(u64, Raw)>), AuditError>
-    requires ready { B.ready blocks.old }
-    requires areas { B.areas blocks.old ≡ areas }
-    requires most { areas ≤ 64 }
+    requires blocks { CanRead B.Blocks areas blocks.old }
     requires short { length begins.now ≤ 256 }
     ensures at { (chunks : Chunks) → Shows (B.tells blocks.old) areas (B.stands blocks.old) chunks → IfOk result (λ x. IsPageAt chunks handle x.0) }
     ensures placed { IfOk result (λ x. IsPlaced level begins.now x.0) }
@@ -83,12 +77,8 @@ fn page_of<B: Blocks>(
     ensures short { IfOk result (λ x. IfSome x.1 (λ next. length next.1 ≤ 256)) }
     ensures torn { (chunks : Chunks) → Shows (B.tells blocks.old) areas (B.stands blocks.old) chunks → IfTorn result (λ at found wanted. (page : Contents) (next : Option (ℕ × List ℕ)) → IsPageAt chunks handle page → IsPlaced level begins.now page → LeadsTo page next → ⊥) }
     ensures names { IfTorn result (λ at found names. names ≡ handle) }
-    ensures shows { (chunks : Chunks) → Shows (B.tells blocks.old) areas (B.stands blocks.old) chunks → Shows (B.tells blocks.new) areas (B.stands blocks.new) chunks }
-    ensures counts { Counts result (B.faults blocks.old) (B.faults blocks.new) }
-    ensures keeps_areas { B.areas blocks.new ≡ B.areas blocks.old }
-    ensures keeps_lender { B.lender blocks.new ≡ B.lender blocks.old }
-    ensures keeps_ready { B.ready blocks.new }
-    ensures keeps_telling { B.tells blocks.old → B.tells blocks.new }
+    ensures shows { StillShows B.Blocks areas blocks.old blocks.new }
+    ensures blocks { ReadsChunks B.Blocks blocks.old blocks.new result }
 {
     let page = page_at(alloc, blocks, areas, handle)?;
     let next = way_of(alloc, &page, handle, level, begins)?;

@@ -7,10 +7,12 @@ ghost use Rattle.bx_page.specs.Keys.{is_below, IsBelow};
 ghost use Rattle.bx_truth.specs.PageTrees.{Chunks, HasPage};
 ghost use Rattle.bx_truth.specs.Chunks.{block_at};
 ghost use Rattle.bx_audit_trees.specs.declared.error.AuditError.TheVariants.{Torn, Fault as DiskFailed};
-ghost use Rattle.bx_audit_trees.specs.Errors.{IfTorn, Counts};
+ghost use Rattle.bx_audit_trees.specs.Errors.{IfTorn};
 ghost use Rattle.bx_audit_trees.specs.Pages.{IsPageAt, IsPlaced, LeadsTo};
 ghost use Rattle.bx_audit_trees.specs.Room.{room_above};
 ghost use Rattle.bx_audit_trees.specs.Shown.{Shows};
+ghost use Rattle.bx_audit_trees.specs.Reading.{ReadsChunks, StillShows};
+ghost use Rattle.bx_homes.specs.Reading.{CanRead};
 
 use crate::chunks::chunk_at;
 use crate::error::AuditError;
@@ -64,19 +66,13 @@ pub fn page_at<B: Blocks>(
     areas: u16,
     handle: u64,
 ) -> Result<Page, AuditError>
-    requires ready { B.ready blocks.old }
-    requires areas { B.areas blocks.old ≡ areas }
-    requires most { areas ≤ 64 }
+    requires blocks { CanRead B.Blocks areas blocks.old }
     ensures ok { (chunks : Chunks) → Shows (B.tells blocks.old) areas (B.stands blocks.old) chunks → IfOk result (λ page. IsPageAt chunks handle page) }
     ensures is { IfOk result IsPage }
     ensures torn { (chunks : Chunks) → Shows (B.tells blocks.old) areas (B.stands blocks.old) chunks → IfTorn result (λ at found wanted. (page : Contents) → IsPageAt chunks handle page → ⊥) }
     ensures names { IfTorn result (λ at found names. names ≡ handle) }
-    ensures shows { (chunks : Chunks) → Shows (B.tells blocks.old) areas (B.stands blocks.old) chunks → Shows (B.tells blocks.new) areas (B.stands blocks.new) chunks }
-    ensures counts { Counts result (B.faults blocks.old) (B.faults blocks.new) }
-    ensures keeps_areas { B.areas blocks.new ≡ B.areas blocks.old }
-    ensures keeps_lender { B.lender blocks.new ≡ B.lender blocks.old }
-    ensures keeps_ready { B.ready blocks.new }
-    ensures keeps_telling { B.tells blocks.old → B.tells blocks.new }
+    ensures shows { StillShows B.Blocks areas blocks.old blocks.new }
+    ensures blocks { ReadsChunks B.Blocks blocks.old blocks.new result }
 {
     let block = chunk_at(blocks, areas, handle)?;
     match page_in(alloc, &block)? {

@@ -1,16 +1,18 @@
 //! Page trees.
 
-ghost use Rattle.std.specs.Prelude.{◌≡◌, ◌≤◌, ◌<◌, ◌+◌, ℕ, List, [], ◌∷◌, length, slice_index_or, IfOk, IfSome, IfNone, IsErrOf};
+ghost use Rattle.std.specs.Prelude.{◌≡◌, ◌<◌, ◌+◌, ℕ, List, [], ◌∷◌, length, slice_index_or, IfOk, IfSome, IfNone, IsErrOf};
 ghost use Rattle.bx_truth.specs.PageTrees.{Chunks, Node, PageTree, IsLevel, IsTree, map_of};
 ghost use Rattle.std.specs.Option.{option_copied};
 ghost use Rattle.bx_page.specs.Contents.{value_of};
 ghost use Rattle.bx_audit_trees.specs.Pages.{BeginningsRise};
 ghost use Rattle.bx_audit_trees.specs.declared.error.AuditError.TheVariants.{Fault as DiskFailed};
-ghost use Rattle.bx_audit_trees.specs.Errors.{IfTorn, Counts};
+ghost use Rattle.bx_audit_trees.specs.Errors.{IfTorn};
 ghost use Rattle.bx_audit_trees.specs.Leading.{AreLedTo, IsLedTo};
 ghost use Rattle.bx_audit_trees.specs.Shown.{Shows};
 ghost use Rattle.bx_audit_trees.specs.Torn.{AreUnder, IsChildless, IsTornPage};
 ghost use Rattle.bx_audit_trees.specs.Trees.{HasFirst, IsTop, LiesBelow, NamesFirst, tree_of};
+ghost use Rattle.bx_audit_trees.specs.Reading.{ReadsChunks, StillShows};
+ghost use Rattle.bx_homes.specs.Reading.{CanRead};
 
 use crate::children::{handle_in, lead_down};
 use crate::error::AuditError;
@@ -101,20 +103,14 @@ pub fn tree_under<B: Blocks>(
     areas: u16,
     root: u64,
 ) -> Result<ReadTree, AuditError>
-    requires ready { B.ready blocks.old }
-    requires areas { B.areas blocks.old ≡ areas }
-    requires most { areas ≤ 64 }
+    requires blocks { CanRead B.Blocks areas blocks.old }
     ensures ok { (chunks : Chunks) → Shows (B.tells blocks.old) areas (B.stands blocks.old) chunks → IfOk result (λ tree. IsTree chunks root (tree_of tree)) }
     ensures torn { (chunks : Chunks) → Shows (B.tells blocks.old) areas (B.stands blocks.old) chunks → IfTorn result (λ at found wanted. (tree : PageTree) → IsTree chunks root tree → ⊥) }
     ensures led { (chunks : Chunks) → Shows (B.tells blocks.old) areas (B.stands blocks.old) chunks → IfOk result (λ tree. AreLedTo chunks root (slice_index_or tree 0 [])) }
     ensures leads { (chunks : Chunks) → Shows (B.tells blocks.old) areas (B.stands blocks.old) chunks → IfTorn result (λ at found wanted. IsLedTo chunks root wanted) }
     ensures wrong { (chunks : Chunks) → Shows (B.tells blocks.old) areas (B.stands blocks.old) chunks → IfTorn result (λ at found wanted. IsTornPage chunks root wanted) }
-    ensures shows { (chunks : Chunks) → Shows (B.tells blocks.old) areas (B.stands blocks.old) chunks → Shows (B.tells blocks.new) areas (B.stands blocks.new) chunks }
-    ensures counts { Counts result (B.faults blocks.old) (B.faults blocks.new) }
-    ensures keeps_areas { B.areas blocks.new ≡ B.areas blocks.old }
-    ensures keeps_lender { B.lender blocks.new ≡ B.lender blocks.old }
-    ensures keeps_ready { B.ready blocks.new }
-    ensures keeps_telling { B.tells blocks.old → B.tells blocks.new }
+    ensures shows { StillShows B.Blocks areas blocks.old blocks.new }
+    ensures blocks { ReadsChunks B.Blocks blocks.old blocks.new result }
 {
     let (top, height) = root_page(alloc, blocks, areas, root)?;
     let mut levels = Vec::new(alloc);
@@ -139,21 +135,15 @@ fn root_page<B: Blocks>(
     areas: u16,
     root: u64,
 ) -> Result<(Vec<TreePage>, u16), AuditError>
-    requires ready { B.ready blocks.old }
-    requires areas { B.areas blocks.old ≡ areas }
-    requires most { areas ≤ 64 }
+    requires blocks { CanRead B.Blocks areas blocks.old }
     ensures ok { (chunks : Chunks) → Shows (B.tells blocks.old) areas (B.stands blocks.old) chunks → IfOk result (λ x. IsTop chunks root x.1 x.0.items) }
     ensures rise { IfOk result (λ x. BeginningsRise x.0.items) }
     ensures led { (chunks : Chunks) → IfOk result (λ x. AreLedTo chunks root x.0.items) }
     ensures names { IfTorn result (λ at found wanted. wanted ≡ root) }
     ensures torn { (chunks : Chunks) → Shows (B.tells blocks.old) areas (B.stands blocks.old) chunks → IfTorn result (λ at found wanted. (tree : PageTree) → IsTree chunks root tree → ⊥) }
     ensures wrong { (chunks : Chunks) → Shows (B.tells blocks.old) areas (B.stands blocks.old) chunks → IfTorn result (λ at found wanted. IsTornPage chunks root wanted) }
-    ensures shows { (chunks : Chunks) → Shows (B.tells blocks.old) areas (B.stands blocks.old) chunks → Shows (B.tells blocks.new) areas (B.stands blocks.new) chunks }
-    ensures counts { Counts result (B.faults blocks.old) (B.faults blocks.new) }
-    ensures keeps_areas { B.areas blocks.new ≡ B.areas blocks.old }
-    ensures keeps_lender { B.lender blocks.new ≡ B.lender blocks.old }
-    ensures keeps_ready { B.ready blocks.new }
-    ensures keeps_telling { B.tells blocks.old → B.tells blocks.new }
+    ensures shows { StillShows B.Blocks areas blocks.old blocks.new }
+    ensures blocks { ReadsChunks B.Blocks blocks.old blocks.new result }
 {
     let page = page_at(alloc, blocks, areas, root)?;
     let level = page.level();
@@ -186,9 +176,7 @@ fn level_below<B: Blocks>(
     level: u16,
     above: &[TreePage],
 ) -> Result<Vec<TreePage>, AuditError>
-    requires ready { B.ready blocks.old }
-    requires areas { B.areas blocks.old ≡ areas }
-    requires most { areas ≤ 64 }
+    requires blocks { CanRead B.Blocks areas blocks.old }
     ensures ok { (chunks : Chunks) → Shows (B.tells blocks.old) areas (B.stands blocks.old) chunks → IsLevel chunks (level + 1) above.now → IfOk result (λ pages. LiesBelow chunks level above.now pages.items) }
     ensures rise { IfOk result (λ pages. BeginningsRise pages.items) }
     ensures led { (chunks : Chunks) (root : ℕ) → Shows (B.tells blocks.old) areas (B.stands blocks.old) chunks → IsLevel chunks (level + 1) above.now → AreLedTo chunks root above.now → IfOk result (λ pages. AreLedTo chunks root pages.items) }
@@ -197,12 +185,8 @@ fn level_below<B: Blocks>(
         → IfTorn result (λ at found wanted. IsTornPage chunks root wanted) }
     ensures one { (chunks : Chunks) → Shows (B.tells blocks.old) areas (B.stands blocks.old) chunks → IsLevel chunks (level + 1) above.now → IfOk result (λ pages. (nodes : List Node) → LiesBelow chunks level above.now nodes → nodes ≡ pages.items) }
     ensures torn { (chunks : Chunks) → Shows (B.tells blocks.old) areas (B.stands blocks.old) chunks → IsLevel chunks (level + 1) above.now → IfTorn result (λ at found wanted. (nodes : List Node) → LiesBelow chunks level above.now nodes → ⊥) }
-    ensures shows { (chunks : Chunks) → Shows (B.tells blocks.old) areas (B.stands blocks.old) chunks → Shows (B.tells blocks.new) areas (B.stands blocks.new) chunks }
-    ensures counts { Counts result (B.faults blocks.old) (B.faults blocks.new) }
-    ensures keeps_areas { B.areas blocks.new ≡ B.areas blocks.old }
-    ensures keeps_lender { B.lender blocks.new ≡ B.lender blocks.old }
-    ensures keeps_ready { B.ready blocks.new }
-    ensures keeps_telling { B.tells blocks.old → B.tells blocks.new }
+    ensures shows { StillShows B.Blocks areas blocks.old blocks.new }
+    ensures blocks { ReadsChunks B.Blocks blocks.old blocks.new result }
 {
     let first = first_child(above)?;
     let pages = level_from(alloc, blocks, areas, level, first)?;

@@ -1,9 +1,7 @@
 //! Blocks that are written into their homes.
 
-ghost use Rattle.std.specs.Prelude.{◌≡◌, ℕ, ◌+◌, ◌*◌, ◌<◌, ◌≤◌, length, OnOk, IsErrOf};
-ghost use Rattle.bx_base.specs.Faults.{Rose};
-ghost use Rattle.bx_disk.specs.declared.fault.RackError.TheVariants.{Fault, OutOfMemory};
-ghost use Rattle.bx_disk.specs.Counts.{NoneFalls, NoneRose};
+ghost use Rattle.std.specs.Prelude.{◌+◌, ◌*◌, ◌<◌, OnOk};
+ghost use Rattle.bx_disk.specs.Kept.{Fails};
 ghost use Rattle.bx_layout.specs.Blocks.{HasParts};
 ghost use Rattle.bx_places.specs.Places.{IsVolume, IsBlock};
 ghost use Rattle.bx_truth.specs.Opening.{page_block, root_block};
@@ -33,12 +31,7 @@ fn put_home<R: Rack>(
     ensures puts { (truth : Truth) → R.tells rack.old → HoldsBlocks (R.state rack.old).reads devices areas truth → OnOk result (HoldsBlocks (R.state rack.new).reads devices areas (with_block truth at block.now)) }
     ensures spares { R.tells rack.old → Spares IsLabelSector (R.state rack.old) (R.state rack.new) (R.moment rack.old) (R.moment rack.new) (R.left_since rack.old) (R.left_since rack.new) }
     ensures front { R.tells rack.old → KeepsFront (R.state rack.old) (R.state rack.new) }
-    ensures cause { IsErrOf result Fault → Rose (R.faults rack.old) (R.faults rack.new) }
-    ensures later { NoneFalls (R.faults rack.old) (R.faults rack.new) (R.faults_of rack.old) (R.faults_of rack.new) }
-    ensures memory_counts { IsErrOf result OutOfMemory → NoneRose (R.faults rack.old) (R.faults rack.new) (R.faults_of rack.old) (R.faults_of rack.new) }
-    ensures no_fault { OnOk result (NoneRose (R.faults rack.old) (R.faults rack.new) (R.faults_of rack.old) (R.faults_of rack.new)) }
-    ensures sizes { (R.state rack.new).sizes ≡ (R.state rack.old).sizes }
-    ensures keeps_telling { R.tells rack.old → R.tells rack.new }
+    ensures rack { Fails R.Rack rack.old rack.new result }
 {
     let (device, sector) = place(at, devices, areas);
     let mut bytes = [0; 4608];
@@ -60,12 +53,7 @@ pub(crate) fn write_areas<R: Rack>(
     ensures blocks { R.tells rack.old → HoldsBlocks (R.state rack.old).reads devices areas (areas_truth 0) → OnOk result (HoldsBlocks (R.state rack.new).reads devices areas (areas_truth areas)) }
     ensures spares { R.tells rack.old → Spares IsLabelSector (R.state rack.old) (R.state rack.new) (R.moment rack.old) (R.moment rack.new) (R.left_since rack.old) (R.left_since rack.new) }
     ensures front { R.tells rack.old → KeepsFront (R.state rack.old) (R.state rack.new) }
-    ensures cause { IsErrOf result Fault → Rose (R.faults rack.old) (R.faults rack.new) }
-    ensures later { NoneFalls (R.faults rack.old) (R.faults rack.new) (R.faults_of rack.old) (R.faults_of rack.new) }
-    ensures memory_counts { IsErrOf result OutOfMemory → NoneRose (R.faults rack.old) (R.faults rack.new) (R.faults_of rack.old) (R.faults_of rack.new) }
-    ensures no_fault { OnOk result (NoneRose (R.faults rack.old) (R.faults rack.new) (R.faults_of rack.old) (R.faults_of rack.new)) }
-    ensures sizes { (R.state rack.new).sizes ≡ (R.state rack.old).sizes }
-    ensures keeps_telling { R.tells rack.old → R.tells rack.new }
+    ensures rack { Fails R.Rack rack.old rack.new result }
 {
     for area in 0..areas {
         let block = own_block(alloc, area)?;
@@ -86,12 +74,7 @@ pub(crate) fn write_root<R: Rack>(
     ensures puts { (truth : Truth) → R.tells rack.old → HoldsBlocks (R.state rack.old).reads devices areas truth → OnOk result (HoldsBlocks (R.state rack.new).reads devices areas (with_block (with_block truth 0 root_block) 1 page_block)) }
     ensures spares { R.tells rack.old → Spares IsLabelSector (R.state rack.old) (R.state rack.new) (R.moment rack.old) (R.moment rack.new) (R.left_since rack.old) (R.left_since rack.new) }
     ensures front { R.tells rack.old → KeepsFront (R.state rack.old) (R.state rack.new) }
-    ensures cause { IsErrOf result Fault → Rose (R.faults rack.old) (R.faults rack.new) }
-    ensures later { NoneFalls (R.faults rack.old) (R.faults rack.new) (R.faults_of rack.old) (R.faults_of rack.new) }
-    ensures memory_counts { IsErrOf result OutOfMemory → NoneRose (R.faults rack.old) (R.faults rack.new) (R.faults_of rack.old) (R.faults_of rack.new) }
-    ensures no_fault { OnOk result (NoneRose (R.faults rack.old) (R.faults rack.new) (R.faults_of rack.old) (R.faults_of rack.new)) }
-    ensures sizes { (R.state rack.new).sizes ≡ (R.state rack.old).sizes }
-    ensures keeps_telling { R.tells rack.old → R.tells rack.new }
+    ensures rack { Fails R.Rack rack.old rack.new result }
 {
     let inode = inode_block(alloc)?;
     put_home(rack, devices, areas, 0, &inode)?;

@@ -1,9 +1,7 @@
 //! Labels and syncs of all disks.
 
-ghost use Rattle.std.specs.Prelude.{◌≡◌, ℕ, ◌+◌, ◌*◌, ◌<◌, ◌≤◌, false, length, slice_index, OnOk, OnErr, IsErrOf};
-ghost use Rattle.bx_base.specs.Faults.{Rose};
-ghost use Rattle.bx_disk.specs.declared.fault.RackError.TheVariants.{Fault, OutOfMemory};
-ghost use Rattle.bx_disk.specs.Counts.{NoneFalls, NoneRose};
+ghost use Rattle.std.specs.Prelude.{◌≡◌, ℕ, ◌+◌, ◌*◌, ◌<◌, false, OnOk};
+ghost use Rattle.bx_disk.specs.Kept.{Fails, Faults};
 ghost use Rattle.bx_places.specs.Places.{IsVolume, disk_count};
 ghost use Rattle.bx_format.specs.Moments.{IsAnySector, IsBehindLabel, Spares};
 ghost use Rattle.bx_format.specs.Formats.{HasLabels, HasSizes, KeepsBehind};
@@ -24,12 +22,7 @@ pub(crate) fn write_labels<R: Rack>(
     ensures labels { R.tells rack.old → OnOk result (HasLabels (R.state rack.new).reads (record { volume = volume; disk = 0; devices = devices; areas = areas }) (disk_count devices)) }
     ensures spares { R.tells rack.old → Spares IsBehindLabel (R.state rack.old) (R.state rack.new) (R.moment rack.old) (R.moment rack.new) (R.left_since rack.old) (R.left_since rack.new) }
     ensures behind { R.tells rack.old → KeepsBehind (R.state rack.old) (R.state rack.new) }
-    ensures cause { IsErrOf result Fault → Rose (R.faults rack.old) (R.faults rack.new) }
-    ensures later { NoneFalls (R.faults rack.old) (R.faults rack.new) (R.faults_of rack.old) (R.faults_of rack.new) }
-    ensures memory_counts { IsErrOf result OutOfMemory → NoneRose (R.faults rack.old) (R.faults rack.new) (R.faults_of rack.old) (R.faults_of rack.new) }
-    ensures no_fault { OnOk result (NoneRose (R.faults rack.old) (R.faults rack.new) (R.faults_of rack.old) (R.faults_of rack.new)) }
-    ensures sizes { (R.state rack.new).sizes ≡ (R.state rack.old).sizes }
-    ensures keeps_telling { R.tells rack.old → R.tells rack.new }
+    ensures rack { Fails R.Rack rack.old rack.new result }
 {
     let mut sector = [0; 512];
     for disk in 0..3 + 2 * devices {
@@ -50,11 +43,7 @@ pub(crate) fn sync_all<R: Rack>(rack: &mut R) -> Result<(), DiskFault>
     ensures spares { R.tells rack.old → Spares IsAnySector (R.state rack.old) (R.state rack.new) (R.moment rack.old) (R.moment rack.new) (R.left_since rack.old) (R.left_since rack.new) }
     ensures sure { (d s : ℕ) → R.tells rack.old → OnOk result ((R.state rack.new).unsure d s ≡ false) }
     ensures reads { R.tells rack.old → (R.state rack.new).reads ≡ (R.state rack.old).reads }
-    ensures cause { OnErr result (Rose (R.faults rack.old) (R.faults rack.new)) }
-    ensures later { NoneFalls (R.faults rack.old) (R.faults rack.new) (R.faults_of rack.old) (R.faults_of rack.new) }
-    ensures no_fault { OnOk result (NoneRose (R.faults rack.old) (R.faults rack.new) (R.faults_of rack.old) (R.faults_of rack.new)) }
-    ensures sizes { (R.state rack.new).sizes ≡ (R.state rack.old).sizes }
-    ensures keeps_telling { R.tells rack.old → R.tells rack.new }
+    ensures rack { Faults R.Rack rack.old rack.new result }
 {
     for disk in 0..rack.disks() {
         sync_disk(rack, disk)?;

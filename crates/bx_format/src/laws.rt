@@ -1,6 +1,6 @@
 //! What a volume that was just made is.
 
-ghost use Rattle.std.specs.Prelude.{◌≡◌, ◌^◌, ◌<◌, length};
+ghost use Rattle.std.specs.Prelude.{◌≡◌, length};
 ghost use Rattle.bx_disk.specs.Disks.{Disks};
 ghost use Rattle.bx_global.specs.declared.state.GlobalState.{GlobalState};
 ghost use Rattle.bx_layout.specs.declared.label.Label.{Label};

@@ -1,9 +1,7 @@
 //! Disks that are made as long as those of a volume.
 
-ghost use Rattle.std.specs.Prelude.{◌≡◌, ◌<◌, ◌≤◌, length, OnOk, IsErrOf};
-ghost use Rattle.bx_base.specs.Faults.{Rose};
-ghost use Rattle.bx_disk.specs.declared.fault.RackError.TheVariants.{Fault, OutOfMemory};
-ghost use Rattle.bx_disk.specs.Counts.{NoneFalls, NoneRose};
+ghost use Rattle.std.specs.Prelude.{◌≡◌, ◌<◌, length, OnOk};
+ghost use Rattle.bx_format.specs.Kept.{FailsAnew};
 ghost use Rattle.bx_places.specs.Places.{IsVolume, disk_count};
 ghost use Rattle.bx_calls.specs.Calls.{LeavesOnly};
 ghost use Rattle.bx_format.specs.Moments.{AreBare, IsOldOrBare};
@@ -23,11 +21,7 @@ pub(crate) fn shape_disks<R: Rack>(rack: &mut R, devices: u32, areas: u16) -> Re
     ensures bare { R.tells rack.old → OnOk result (AreBare (R.state rack.new)) }
     ensures moments { R.tells rack.old → OnOk result (LeavesOnly (R.moment rack.old) (R.moment rack.new) (R.left_since rack.old) (R.left_since rack.new) (IsOldOrBare (R.state rack.old) (R.state rack.new).sizes)) }
     ensures none { R.tells rack.old → OnOk result (HasNoRecords (R.state rack.new).sizes (R.state rack.new).reads) }
-    ensures cause { IsErrOf result Fault → Rose (R.faults rack.old) (R.faults rack.new) }
-    ensures later { NoneFalls (R.faults rack.old) (R.faults rack.new) (R.faults_of rack.old) (R.faults_of rack.new) }
-    ensures memory_counts { IsErrOf result OutOfMemory → NoneRose (R.faults rack.old) (R.faults rack.new) (R.faults_of rack.old) (R.faults_of rack.new) }
-    ensures no_fault { OnOk result (NoneRose (R.faults rack.old) (R.faults rack.new) (R.faults_of rack.old) (R.faults_of rack.new)) }
-    ensures keeps_telling { R.tells rack.old → R.tells rack.new }
+    ensures rack { FailsAnew R.Rack rack.old rack.new result }
 {
     let mut sizes = [0; MOST_DISKS];
     let sizes = &mut sizes[..3 + 2 * devices as usize];

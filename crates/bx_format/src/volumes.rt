@@ -1,9 +1,8 @@
 //! A volume that is made.
 
-ghost use Rattle.std.specs.Prelude.{◌≡◌, ℕ, ◌<◌, false, OnOk, IsErrOf};
-ghost use Rattle.bx_base.specs.Faults.{Rose};
-ghost use Rattle.bx_disk.specs.declared.fault.RackError.TheVariants.{Fault, OutOfMemory};
-ghost use Rattle.bx_disk.specs.Counts.{NoneFalls, NoneRose};
+ghost use Rattle.std.specs.Prelude.{◌≡◌, ℕ, ◌<◌, false, OnOk};
+ghost use Rattle.bx_disk.specs.Kept.{Fails};
+ghost use Rattle.bx_format.specs.Kept.{FailsAnew};
 ghost use Rattle.bx_places.specs.Places.{IsVolume, disk_count};
 ghost use Rattle.bx_truth.specs.Opening.{opening_truth};
 ghost use Rattle.bx_calls.specs.Calls.{LeavesOnly};
@@ -30,11 +29,7 @@ pub fn format<R: Rack>(
     ensures formatted { R.tells rack.old → OnOk result (IsFormatted (R.state rack.new) (record { volume = volume; disk = 0; devices = devices; areas = areas })) }
     ensures moments { R.tells rack.old → OnOk result (LeavesOnly (R.moment rack.old) (R.moment rack.new) (R.left_since rack.old) (R.left_since rack.new) (IsInTheMaking (R.state rack.old) (R.state rack.new))) }
     ensures sizes { OnOk result (HasSizes (R.state rack.new).sizes devices areas) }
-    ensures cause { IsErrOf result Fault → Rose (R.faults rack.old) (R.faults rack.new) }
-    ensures later { NoneFalls (R.faults rack.old) (R.faults rack.new) (R.faults_of rack.old) (R.faults_of rack.new) }
-    ensures memory_counts { IsErrOf result OutOfMemory → NoneRose (R.faults rack.old) (R.faults rack.new) (R.faults_of rack.old) (R.faults_of rack.new) }
-    ensures no_fault { OnOk result (NoneRose (R.faults rack.old) (R.faults rack.new) (R.faults_of rack.old) (R.faults_of rack.new)) }
-    ensures keeps_telling { R.tells rack.old → R.tells rack.new }
+    ensures rack { FailsAnew R.Rack rack.old rack.new result }
 {
     lay_out(alloc, rack, devices, areas)?;
     label_disks(rack, volume, devices, areas)?;
@@ -55,11 +50,7 @@ pub fn lay_out<R: Rack>(
     ensures bare { R.tells rack.old → OnOk result (AreBare (R.state rack.new)) }
     ensures moments { R.tells rack.old → OnOk result (LeavesOnly (R.moment rack.old) (R.moment rack.new) (R.left_since rack.old) (R.left_since rack.new) (IsOldOrBare (R.state rack.old) (R.state rack.new).sizes)) }
     ensures none { R.tells rack.old → OnOk result (HasNoRecords (R.state rack.new).sizes (R.state rack.new).reads) }
-    ensures cause { IsErrOf result Fault → Rose (R.faults rack.old) (R.faults rack.new) }
-    ensures later { NoneFalls (R.faults rack.old) (R.faults rack.new) (R.faults_of rack.old) (R.faults_of rack.new) }
-    ensures memory_counts { IsErrOf result OutOfMemory → NoneRose (R.faults rack.old) (R.faults rack.new) (R.faults_of rack.old) (R.faults_of rack.new) }
-    ensures no_fault { OnOk result (NoneRose (R.faults rack.old) (R.faults rack.new) (R.faults_of rack.old) (R.faults_of rack.new)) }
-    ensures keeps_telling { R.tells rack.old → R.tells rack.new }
+    ensures rack { FailsAnew R.Rack rack.old rack.new result }
 {
     shape_disks(rack, devices, areas)?;
     write_areas(alloc, rack, devices, areas)?;
@@ -80,12 +71,7 @@ pub fn label_disks<R: Rack>(
     ensures sure { (d s : ℕ) → R.tells rack.old → OnOk result ((R.state rack.new).unsure d s ≡ false) }
     ensures moments { R.tells rack.old → LeavesOnly (R.moment rack.old) (R.moment rack.new) (R.left_since rack.old) (R.left_since rack.new) (IsBareOrBehind (R.state rack.old)) }
     ensures behind { R.tells rack.old → KeepsBehind (R.state rack.old) (R.state rack.new) }
-    ensures cause { IsErrOf result Fault → Rose (R.faults rack.old) (R.faults rack.new) }
-    ensures later { NoneFalls (R.faults rack.old) (R.faults rack.new) (R.faults_of rack.old) (R.faults_of rack.new) }
-    ensures memory_counts { IsErrOf result OutOfMemory → NoneRose (R.faults rack.old) (R.faults rack.new) (R.faults_of rack.old) (R.faults_of rack.new) }
-    ensures no_fault { OnOk result (NoneRose (R.faults rack.old) (R.faults rack.new) (R.faults_of rack.old) (R.faults_of rack.new)) }
-    ensures sizes { (R.state rack.new).sizes ≡ (R.state rack.old).sizes }
-    ensures keeps_telling { R.tells rack.old → R.tells rack.new }
+    ensures rack { Fails R.Rack rack.old rack.new result }
 {
     sync_all(rack)?;
     write_labels(rack, volume, devices, areas)?;

@@ -1,3 +1,4 @@
 pub mod Sources
 pub mod Slots
 pub mod Standing
+pub mod Reading

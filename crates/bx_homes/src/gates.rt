@@ -1,11 +1,11 @@
 //! The gates of logs.
 
-ghost use Rattle.std.specs.Prelude.{◌≡◌, ◌↔◌, ◌<◌, ◌≤◌, ℕ, List, length, slice_index, IfOk, OnOk, OnErr, IsTrue};
-ghost use Rattle.bx_disk.specs.Counts.{NoneFalls, NoneRose, BothRose};
+ghost use Rattle.std.specs.Prelude.{◌≡◌, ◌↔◌, ◌<◌, ◌≤◌, ℕ, List, length, slice_index, IfOk, IsTrue};
 ghost use Rattle.bx_layout.specs.Labels.{IsOpenGate};
 ghost use Rattle.bx_places.specs.Places.{log_device};
 ghost use Rattle.bx_volume.specs.Images.{devices_of, member_disk};
 ghost use Rattle.bx_volume.specs.Records.{Logged, IsLog, gate_of};
+ghost use Rattle.bx_disk.specs.Kept.{FaultsOn};
 
 use crate::homes::member_disk;
 use bx_calls::read_sectors;
@@ -34,11 +34,7 @@ pub fn open_gates<R: Rack>(
     ensures end { R.tells rack.old → IfOk result (λ count. count < 8 → IsOpenGate (gate_of (devices_of (R.state rack.old).reads (λ device sector. second)) devices slot count) → ⊥) }
     ensures records { R.tells rack.old → IfOk result (λ count. (areas : ℕ) (records : List Logged) → IsLog (devices_of (R.state rack.old).reads (λ device sector. second)) devices areas slot records → length records ≡ count) }
     ensures stays { R.state rack.new ≡ R.state rack.old }
-    ensures cause { OnErr result (BothRose (R.faults rack.old) (R.faults rack.new) (R.faults_of rack.old) (R.faults_of rack.new) (member_disk (log_device slot devices) second)) }
-    ensures later { NoneFalls (R.faults rack.old) (R.faults rack.new) (R.faults_of rack.old) (R.faults_of rack.new) }
-    ensures no_fault { OnOk result (NoneRose (R.faults rack.old) (R.faults rack.new) (R.faults_of rack.old) (R.faults_of rack.new)) }
-    ensures sizes { (R.state rack.new).sizes ≡ (R.state rack.old).sizes }
-    ensures keeps_telling { R.tells rack.old → R.tells rack.new }
+    ensures rack { FaultsOn R.Rack rack.old rack.new (member_disk (log_device slot devices) second) result }
 {
     for gate in 0..GATES {
         if !is_open(rack, devices, second, slot, gate)? {
@@ -64,11 +60,7 @@ fn is_open<R: Rack>(
     requires room { 9345 ≤ slice_index (R.state rack.old).sizes (member_disk (log_device slot devices) second) }
     ensures answer { R.tells rack.old → IfOk result (λ is. IsTrue is ↔ IsOpenGate (gate_of (devices_of (R.state rack.old).reads (λ device sector. second)) devices slot gate)) }
     ensures stays { R.state rack.new ≡ R.state rack.old }
-    ensures cause { OnErr result (BothRose (R.faults rack.old) (R.faults rack.new) (R.faults_of rack.old) (R.faults_of rack.new) (member_disk (log_device slot devices) second)) }
-    ensures later { NoneFalls (R.faults rack.old) (R.faults rack.new) (R.faults_of rack.old) (R.faults_of rack.new) }
-    ensures no_fault { OnOk result (NoneRose (R.faults rack.old) (R.faults rack.new) (R.faults_of rack.old) (R.faults_of rack.new)) }
-    ensures sizes { (R.state rack.new).sizes ≡ (R.state rack.old).sizes }
-    ensures keeps_telling { R.tells rack.old → R.tells rack.new }
+    ensures rack { FaultsOn R.Rack rack.old rack.new (member_disk (log_device slot devices) second) result }
 {
     let (device, sector) = gate_place(slot, gate, devices);
     let mut bytes = [0; SECTOR];

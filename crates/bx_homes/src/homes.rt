@@ -1,13 +1,12 @@
 //! Blocks in their homes.
 
-ghost use Rattle.std.specs.Prelude.{◌≡◌, ◌+◌, ◌<◌, ◌≤◌, length, slice_index, IfOk, IfSome, IfNone, OnOk, IsErrOf};
-ghost use Rattle.bx_disk.specs.Counts.{NoneFalls, NoneRose, BothRose};
-ghost use Rattle.bx_disk.specs.declared.fault.RackError.TheVariants.{Fault, OutOfMemory};
+ghost use Rattle.std.specs.Prelude.{◌≡◌, ◌+◌, ◌<◌, ◌≤◌, length, slice_index, IfOk, IfSome, IfNone};
 ghost use Rattle.bx_layout.specs.declared.block.Block.{Block};
 ghost use Rattle.bx_places.specs.Places.{IsVolume, IsBlock, block_place, member_sectors};
 ghost use Rattle.bx_volume.specs.Images.{devices_of, member_disk};
 ghost use Rattle.bx_volume.specs.Overlay.{IsHome};
 ghost use Rattle.bx_homes.specs.Standing.{StandsAt};
+ghost use Rattle.bx_disk.specs.Kept.{FailsOn};
 
 use bx_calls::read_sectors;
 use bx_disk::{Rack, RackError};
@@ -31,12 +30,7 @@ pub fn read_home<R: Rack>(
     ensures some { R.tells rack.old → IfOk result (λ found. IfSome found (IsHome (devices_of (R.state rack.old).reads (λ device sector. second)) devices at)) }
     ensures none { R.tells rack.old → IfOk result (λ found. IfNone found ((block : Block) → IsHome (devices_of (R.state rack.old).reads (λ device sector. second)) devices at block → ⊥)) }
     ensures stays { R.state rack.new ≡ R.state rack.old }
-    ensures cause { IsErrOf result Fault → BothRose (R.faults rack.old) (R.faults rack.new) (R.faults_of rack.old) (R.faults_of rack.new) (member_disk (block_place at devices).0 second) }
-    ensures later { NoneFalls (R.faults rack.old) (R.faults rack.new) (R.faults_of rack.old) (R.faults_of rack.new) }
-    ensures memory_counts { IsErrOf result OutOfMemory → NoneRose (R.faults rack.old) (R.faults rack.new) (R.faults_of rack.old) (R.faults_of rack.new) }
-    ensures no_fault { OnOk result (NoneRose (R.faults rack.old) (R.faults rack.new) (R.faults_of rack.old) (R.faults_of rack.new)) }
-    ensures sizes { (R.state rack.new).sizes ≡ (R.state rack.old).sizes }
-    ensures keeps_telling { R.tells rack.old → R.tells rack.new }
+    ensures rack { FailsOn R.Rack rack.old rack.new (member_disk (block_place at devices).0 second) result }
 {
     let (device, sector) = place(at, devices, areas);
     read_block(alloc, rack, member_disk(device, second), sector)
@@ -54,12 +48,7 @@ pub fn read_block<R: Rack>(
     ensures some { R.tells rack.old → IfOk result (λ found. IfSome found (StandsAt (R.state rack.old).reads disk sector)) }
     ensures none { R.tells rack.old → IfOk result (λ found. IfNone found ((block : Block) → StandsAt (R.state rack.old).reads disk sector block → ⊥)) }
     ensures stays { R.state rack.new ≡ R.state rack.old }
-    ensures cause { IsErrOf result Fault → BothRose (R.faults rack.old) (R.faults rack.new) (R.faults_of rack.old) (R.faults_of rack.new) disk }
-    ensures later { NoneFalls (R.faults rack.old) (R.faults rack.new) (R.faults_of rack.old) (R.faults_of rack.new) }
-    ensures memory_counts { IsErrOf result OutOfMemory → NoneRose (R.faults rack.old) (R.faults rack.new) (R.faults_of rack.old) (R.faults_of rack.new) }
-    ensures no_fault { OnOk result (NoneRose (R.faults rack.old) (R.faults rack.new) (R.faults_of rack.old) (R.faults_of rack.new)) }
-    ensures sizes { (R.state rack.new).sizes ≡ (R.state rack.old).sizes }
-    ensures keeps_telling { R.tells rack.old → R.tells rack.new }
+    ensures rack { FailsOn R.Rack rack.old rack.new disk result }
 {
     let mut bytes = [0; 4608];
     read_sectors(rack, disk, sector, &mut bytes)?;

@@ -1,13 +1,12 @@
 //! Labels of disks.
 
-ghost use Rattle.std.specs.Prelude.{◌≡◌, ◌≤◌, ◌<◌, ◌↔◌, ℕ, length, slice_index, IfOk, IfSome, IfNone, OnOk, OnErr, IsTrue, IsFalse};
-ghost use Rattle.bx_base.specs.Faults.{Rose};
-ghost use Rattle.bx_disk.specs.Counts.{NoneFalls, NoneRose, BothRose};
+ghost use Rattle.std.specs.Prelude.{◌≡◌, ◌≤◌, ◌<◌, ◌↔◌, ℕ, length, slice_index, IfOk, IfSome, IfNone, IsTrue};
 ghost use Rattle.bx_layout.specs.declared.label.Label.{Label};
 ghost use Rattle.bx_layout.specs.Labels.{IsLabel};
 ghost use Rattle.bx_places.specs.Places.{disk_count, disk_sectors};
 ghost use Rattle.bx_homes.specs.Sources.{Fits, HasRoom};
 ghost use Rattle.bx_volume.specs.Images.{IsOwnLabel, IsFirstLabel, IsLabelled};
+ghost use Rattle.bx_disk.specs.Kept.{Faults, FaultsOn};
 
 use bx_calls::read_sectors;
 use bx_disk::{DiskFault, Rack};
@@ -20,11 +19,7 @@ pub fn first_label<R: Rack>(rack: &mut R) -> Result<Option<Label>, DiskFault>
     ensures is { IfOk result (λ found. IfSome found IsLabel) }
     ensures none { R.tells rack.old → IfOk result (λ found. IfNone found ((disk : ℕ) (label : Label) → IsOwnLabel (R.state rack.old).sizes (R.state rack.old).reads disk label → ⊥)) }
     ensures stays { R.state rack.new ≡ R.state rack.old }
-    ensures cause { OnErr result (Rose (R.faults rack.old) (R.faults rack.new)) }
-    ensures later { NoneFalls (R.faults rack.old) (R.faults rack.new) (R.faults_of rack.old) (R.faults_of rack.new) }
-    ensures no_fault { OnOk result (NoneRose (R.faults rack.old) (R.faults rack.new) (R.faults_of rack.old) (R.faults_of rack.new)) }
-    ensures sizes { (R.state rack.new).sizes ≡ (R.state rack.old).sizes }
-    ensures keeps_telling { R.tells rack.old → R.tells rack.new }
+    ensures rack { Faults R.Rack rack.old rack.new result }
 {
     for disk in 0..rack.disks() {
         if let Some(label) = own_label(rack, disk)? {
@@ -39,11 +34,7 @@ pub fn is_labelled<R: Rack>(rack: &mut R, first: &Label, disk: u32) -> Result<bo
     ensures answer { R.tells rack.old → IfOk result (λ is. IsTrue is ↔ IsLabelled (R.state rack.old).sizes (R.state rack.old).reads first.now disk) }
     ensures room { IfOk result (λ is. IsTrue is → HasRoom (R.state rack.old).sizes first.now disk) }
     ensures stays { R.state rack.new ≡ R.state rack.old }
-    ensures cause { OnErr result (BothRose (R.faults rack.old) (R.faults rack.new) (R.faults_of rack.old) (R.faults_of rack.new) disk) }
-    ensures later { NoneFalls (R.faults rack.old) (R.faults rack.new) (R.faults_of rack.old) (R.faults_of rack.new) }
-    ensures no_fault { OnOk result (NoneRose (R.faults rack.old) (R.faults rack.new) (R.faults_of rack.old) (R.faults_of rack.new)) }
-    ensures sizes { (R.state rack.new).sizes ≡ (R.state rack.old).sizes }
-    ensures keeps_telling { R.tells rack.old → R.tells rack.new }
+    ensures rack { FaultsOn R.Rack rack.old rack.new disk result }
 {
     let Some(label) = own_label(rack, disk)? else {
         return Ok(false);
@@ -57,11 +48,7 @@ fn own_label<R: Rack>(rack: &mut R, disk: u32) -> Result<Option<Label>, DiskFaul
     ensures fits { IfOk result (λ found. IfSome found (Fits (R.state rack.old).sizes disk)) }
     ensures none { R.tells rack.old → IfOk result (λ found. IfNone found ((label : Label) → IsOwnLabel (R.state rack.old).sizes (R.state rack.old).reads disk label → ⊥)) }
     ensures stays { R.state rack.new ≡ R.state rack.old }
-    ensures cause { OnErr result (BothRose (R.faults rack.old) (R.faults rack.new) (R.faults_of rack.old) (R.faults_of rack.new) disk) }
-    ensures later { NoneFalls (R.faults rack.old) (R.faults rack.new) (R.faults_of rack.old) (R.faults_of rack.new) }
-    ensures no_fault { OnOk result (NoneRose (R.faults rack.old) (R.faults rack.new) (R.faults_of rack.old) (R.faults_of rack.new)) }
-    ensures sizes { (R.state rack.new).sizes ≡ (R.state rack.old).sizes }
-    ensures keeps_telling { R.tells rack.old → R.tells rack.new }
+    ensures rack { FaultsOn R.Rack rack.old rack.new disk result }
 {
     one_reading();
     let sectors = sectors_of(rack, disk);

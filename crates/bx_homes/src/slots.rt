@@ -1,13 +1,12 @@
 //! Whether the slots of a volume are right, as its chunk map asks.
 
-ghost use Rattle.std.specs.Prelude.{◌≡◌, ◌+◌, ◌*◌, ◌^◌, ◌<◌, ◌≤◌, ℕ, true, false, slice_index, IfOk, IfSome, IfNone, IsTrue, IsFalse, OnOk, IsErrOf};
-ghost use Rattle.bx_base.specs.Faults.{Rose};
-ghost use Rattle.bx_disk.specs.declared.fault.RackError.TheVariants.{Fault, OutOfMemory as MemoryRanOut};
+ghost use Rattle.std.specs.Prelude.{◌≡◌, ◌+◌, ◌*◌, ◌^◌, ◌<◌, ◌≤◌, ℕ, true, false, slice_index, IfOk, IfSome, IfNone, IsTrue, IsFalse};
 ghost use Rattle.bx_layout.specs.Areas.{IsArea, SpellsArea, generation_in, in_use};
 ghost use Rattle.bx_places.specs.Places.{IsBlock};
 ghost use Rattle.bx_truth.specs.Chunks.{IsAreaBlock, IsChunked, own_block};
 ghost use Rattle.bx_views.specs.Truths.{Truth};
 ghost use Rattle.bx_homes.specs.Slots.{AreBlocks, HasBlock, HasArea, HasHandle, HasHeader, IsAreaChunked, IsAreaFault, IsFirstFault, StaysSo, wanted_handle};
+ghost use Rattle.bx_homes.specs.Reading.{CanRead, ReadsBlocks};
 
 use crate::blocks::Blocks;
 use bx_base::OutOfMemory;
@@ -35,9 +34,7 @@ pub fn first_fault<B: Blocks>(
     blocks: &mut B,
     areas: u16,
 ) -> Result<Option<WrongBlock>, RackError>
-    requires ready { B.ready blocks.old }
-    requires areas { B.areas blocks.old ≡ areas }
-    requires most { areas ≤ 64 }
+    requires blocks { CanRead B.Blocks areas blocks.old }
     ensures none { B.tells blocks.old → IfOk result (λ found. IfNone found ((truth : Truth) → AreBlocks areas (B.stands blocks.old) truth → IsChunked areas truth)) }
     ensures there { B.tells blocks.old → IfOk result (λ found. IfNone found ((at : ℕ) → IsBlock areas at → HasBlock (B.stands blocks.old) at)) }
     ensures some { B.tells blocks.old → IfOk result (λ found. IfSome found (λ wrong. (truth : Truth) → AreBlocks areas (B.stands blocks.old) truth → IsFirstFault areas truth wrong.at)) }
@@ -45,14 +42,7 @@ pub fn first_fault<B: Blocks>(
     ensures found { B.tells blocks.old → IfOk result (λ found. IfSome found (λ wrong. HasHandle (B.stands blocks.old) wrong.at wrong.found)) }
     ensures wanted { B.tells blocks.old → IfOk result (λ found. IfSome found (λ wrong. (truth : Truth) → AreBlocks areas (B.stands blocks.old) truth → wrong.wanted ≡ wanted_handle truth wrong.at)) }
     ensures stays { B.tells blocks.old → StaysSo (B.stands blocks.old) (B.stands blocks.new) }
-    ensures cause { IsErrOf result Fault → Rose (B.faults blocks.old) (B.faults blocks.new) }
-    ensures later { B.faults blocks.old ≤ B.faults blocks.new }
-    ensures memory_counts { IsErrOf result MemoryRanOut → B.faults blocks.new ≡ B.faults blocks.old }
-    ensures no_fault { OnOk result (B.faults blocks.new ≡ B.faults blocks.old) }
-    ensures keeps_areas { B.areas blocks.new ≡ B.areas blocks.old }
-    ensures keeps_lender { B.lender blocks.new ≡ B.lender blocks.old }
-    ensures keeps_ready { B.ready blocks.new }
-    ensures keeps_telling { B.tells blocks.old → B.tells blocks.new }
+    ensures blocks { ReadsBlocks B.Blocks blocks.old blocks.new result }
 {
     for area in 0..areas {
         if let Some(wrong) = fault_in(alloc, blocks, area)? {
@@ -77,14 +67,7 @@ fn fault_in<B: Blocks>(
     ensures found { B.tells blocks.old → IfOk result (λ found. IfSome found (λ wrong. HasHandle (B.stands blocks.old) wrong.at wrong.found)) }
     ensures wanted { B.tells blocks.old → IfOk result (λ found. IfSome found (λ wrong. (truth : Truth) → AreBlocks (B.areas blocks.old) (B.stands blocks.old) truth → wrong.wanted ≡ wanted_handle truth wrong.at)) }
     ensures stays { B.tells blocks.old → StaysSo (B.stands blocks.old) (B.stands blocks.new) }
-    ensures cause { IsErrOf result Fault → Rose (B.faults blocks.old) (B.faults blocks.new) }
-    ensures later { B.faults blocks.old ≤ B.faults blocks.new }
-    ensures memory_counts { IsErrOf result MemoryRanOut → B.faults blocks.new ≡ B.faults blocks.old }
-    ensures no_fault { OnOk result (B.faults blocks.new ≡ B.faults blocks.old) }
-    ensures keeps_areas { B.areas blocks.new ≡ B.areas blocks.old }
-    ensures keeps_lender { B.lender blocks.new ≡ B.lender blocks.old }
-    ensures keeps_ready { B.ready blocks.new }
-    ensures keeps_telling { B.tells blocks.old → B.tells blocks.new }
+    ensures blocks { ReadsBlocks B.Blocks blocks.old blocks.new result }
 {
     let Some(slots) = slots_of(alloc, blocks, area)? else {
         let wrong = wrong_block(blocks, area, SLOTS, ChunkHandle::own(area).number())?;
@@ -114,14 +97,7 @@ fn wrong_block<B: Blocks>(
     ensures found { B.tells blocks.old → IfOk result (λ wrong. HasHandle (B.stands blocks.old) wrong.at wrong.found) }
     ensures wanted { IfOk result (λ wrong. wrong.wanted ≡ wanted) }
     ensures stays { B.tells blocks.old → StaysSo (B.stands blocks.old) (B.stands blocks.new) }
-    ensures cause { IsErrOf result Fault → Rose (B.faults blocks.old) (B.faults blocks.new) }
-    ensures later { B.faults blocks.old ≤ B.faults blocks.new }
-    ensures memory_counts { IsErrOf result MemoryRanOut → B.faults blocks.new ≡ B.faults blocks.old }
-    ensures no_fault { OnOk result (B.faults blocks.new ≡ B.faults blocks.old) }
-    ensures keeps_areas { B.areas blocks.new ≡ B.areas blocks.old }
-    ensures keeps_lender { B.lender blocks.new ≡ B.lender blocks.old }
-    ensures keeps_ready { B.ready blocks.new }
-    ensures keeps_telling { B.tells blocks.old → B.tells blocks.new }
+    ensures blocks { ReadsBlocks B.Blocks blocks.old blocks.new result }
 {
     let at = 1024 * u64::from(area) + u64::from(slot);
     let found = match blocks.block(at)? {
@@ -146,14 +122,7 @@ fn slots_of<B: Blocks>(
     ensures is { IfOk result (λ found. IfSome found IsArea) }
     ensures none { B.tells blocks.old → IfOk result (λ found. IfNone found ((truth : Truth) → AreBlocks (B.areas blocks.old) (B.stands blocks.old) truth → IsAreaBlock area (truth (own_block area)) → ⊥)) }
     ensures stays { B.tells blocks.old → StaysSo (B.stands blocks.old) (B.stands blocks.new) }
-    ensures cause { IsErrOf result Fault → Rose (B.faults blocks.old) (B.faults blocks.new) }
-    ensures later { B.faults blocks.old ≤ B.faults blocks.new }
-    ensures memory_counts { IsErrOf result MemoryRanOut → B.faults blocks.new ≡ B.faults blocks.old }
-    ensures no_fault { OnOk result (B.faults blocks.new ≡ B.faults blocks.old) }
-    ensures keeps_areas { B.areas blocks.new ≡ B.areas blocks.old }
-    ensures keeps_lender { B.lender blocks.new ≡ B.lender blocks.old }
-    ensures keeps_ready { B.ready blocks.new }
-    ensures keeps_telling { B.tells blocks.old → B.tells blocks.new }
+    ensures blocks { ReadsBlocks B.Blocks blocks.old blocks.new result }
 {
     let Some(block) = blocks.block(1024 * u64::from(area) + u64::from(SLOTS))? else {
         return Ok(None);
@@ -204,14 +173,7 @@ fn has_header<B: Blocks>(
     ensures yes { B.tells blocks.old → IfOk result (λ right. IsTrue right → (truth : Truth) → AreBlocks (B.areas blocks.old) (B.stands blocks.old) truth → SpellsArea slots.now (truth (own_block area)).payload → HasHeader truth (1024 * area + slot)) }
     ensures no { B.tells blocks.old → IfOk result (λ right. IsFalse right → (truth : Truth) → AreBlocks (B.areas blocks.old) (B.stands blocks.old) truth → SpellsArea slots.now (truth (own_block area)).payload → HasHeader truth (1024 * area + slot) → ⊥) }
     ensures stays { B.tells blocks.old → StaysSo (B.stands blocks.old) (B.stands blocks.new) }
-    ensures cause { IsErrOf result Fault → Rose (B.faults blocks.old) (B.faults blocks.new) }
-    ensures later { B.faults blocks.old ≤ B.faults blocks.new }
-    ensures memory_counts { IsErrOf result MemoryRanOut → B.faults blocks.new ≡ B.faults blocks.old }
-    ensures no_fault { OnOk result (B.faults blocks.new ≡ B.faults blocks.old) }
-    ensures keeps_areas { B.areas blocks.new ≡ B.areas blocks.old }
-    ensures keeps_lender { B.lender blocks.new ≡ B.lender blocks.old }
-    ensures keeps_ready { B.ready blocks.new }
-    ensures keeps_telling { B.tells blocks.old → B.tells blocks.new }
+    ensures blocks { ReadsBlocks B.Blocks blocks.old blocks.new result }
 {
     let Some(block) = blocks.block(1024 * u64::from(area) + u64::from(slot))? else {
         return Ok(false);

@@ -1,12 +1,11 @@
 //! The disks of the members that a volume is read from.
 
-ghost use Rattle.std.specs.Prelude.{◌≡◌, ◌≤◌, ◌<◌, ◌↔◌, ℕ, length, slice_get, Some, IfOk, IfSome, IfNone, OnOk, OnErr, IsTrue, IsFalse};
-ghost use Rattle.bx_base.specs.Faults.{Rose};
-ghost use Rattle.bx_disk.specs.Counts.{NoneFalls, NoneRose};
+ghost use Rattle.std.specs.Prelude.{◌≡◌, ◌≤◌, ◌<◌, ℕ, length, slice_get, Some, IfOk, IfSome, IfNone, IsTrue, IsFalse};
 ghost use Rattle.bx_rows.specs.declared.device.DeviceRow.{DeviceRow};
 ghost use Rattle.bx_rows.specs.Modes.{IsSource};
 ghost use Rattle.bx_volume.specs.Images.{IsLabelled, member_disk};
 ghost use Rattle.bx_homes.specs.Sources.{AreLabelled, IsFirstUnlabelled, HasRoom, HaveRoom, HasSource, IsFirstAbsent};
+ghost use Rattle.bx_disk.specs.Kept.{Faults};
 
 use crate::homes::member_disk;
 use crate::labels::is_labelled;
@@ -26,11 +25,7 @@ pub fn first_unlabelled<R: Rack>(
     ensures room { IfOk result (λ found. IfNone found ((device : ℕ) (row : DeviceRow) → slice_get rows.now device ≡ Some row → HaveRoom (R.state rack.old).sizes first.now device row)) }
     ensures some { R.tells rack.old → IfOk result (λ found. IfSome found (IsFirstUnlabelled (R.state rack.old).sizes (R.state rack.old).reads first.now rows.now)) }
     ensures stays { R.state rack.new ≡ R.state rack.old }
-    ensures cause { OnErr result (Rose (R.faults rack.old) (R.faults rack.new)) }
-    ensures later { NoneFalls (R.faults rack.old) (R.faults rack.new) (R.faults_of rack.old) (R.faults_of rack.new) }
-    ensures no_fault { OnOk result (NoneRose (R.faults rack.old) (R.faults rack.new) (R.faults_of rack.old) (R.faults_of rack.new)) }
-    ensures sizes { (R.state rack.new).sizes ≡ (R.state rack.old).sizes }
-    ensures keeps_telling { R.tells rack.old → R.tells rack.new }
+    ensures rack { Faults R.Rack rack.old rack.new result }
 {
     for device in 0..rows.len() as u32 {
         let row = &rows[device as usize];
@@ -57,11 +52,7 @@ fn lacks_label<R: Rack>(
     ensures room { IfOk result (λ lacks. IsFalse lacks → IsSource row.now.mode second → HasRoom (R.state rack.old).sizes first.now (member_disk device second)) }
     ensures no { R.tells rack.old → IfOk result (λ lacks. IsFalse lacks → IsSource row.now.mode second → IsLabelled (R.state rack.old).sizes (R.state rack.old).reads first.now (member_disk device second)) }
     ensures stays { R.state rack.new ≡ R.state rack.old }
-    ensures cause { OnErr result (Rose (R.faults rack.old) (R.faults rack.new)) }
-    ensures later { NoneFalls (R.faults rack.old) (R.faults rack.new) (R.faults_of rack.old) (R.faults_of rack.new) }
-    ensures no_fault { OnOk result (NoneRose (R.faults rack.old) (R.faults rack.new) (R.faults_of rack.old) (R.faults_of rack.new)) }
-    ensures sizes { (R.state rack.new).sizes ≡ (R.state rack.old).sizes }
-    ensures keeps_telling { R.tells rack.old → R.tells rack.new }
+    ensures rack { Faults R.Rack rack.old rack.new result }
 {
     if !row.is_source(second) {
         return Ok(false);

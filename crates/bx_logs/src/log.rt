@@ -1,12 +1,10 @@
 //! The logs of a volume.
 
-ghost use Rattle.std.specs.Prelude.{◌≡◌, ◌<◌, ◌≤◌, List, reverse, IfOk, IfSome, IfNone, OnOk, IsErrOf};
-ghost use Rattle.bx_base.specs.Faults.{Rose};
-ghost use Rattle.bx_disk.specs.Counts.{NoneFalls, NoneRose};
-ghost use Rattle.bx_disk.specs.declared.fault.RackError.TheVariants.{Fault, OutOfMemory};
+ghost use Rattle.std.specs.Prelude.{◌≡◌, ◌<◌, List, IfOk, IfSome, IfNone};
 ghost use Rattle.bx_volume.specs.Records.{Logged, IsInBody};
 ghost use Rattle.bx_logs.specs.Members.{AreThere, held_by};
 ghost use Rattle.bx_logs.specs.Logs.{IsLogOf, HasNoLog};
+ghost use Rattle.bx_disk.specs.Kept.{Fails};
 
 use crate::members::Members;
 use crate::record::Record;
@@ -29,12 +27,7 @@ pub(crate) fn read_log<R: Rack>(
     ensures some { R.tells rack.old → IfOk result (λ found. IfSome found (IsLogOf (R.state rack.old).reads members.now slot)) }
     ensures none { R.tells rack.old → IfOk result (λ found. IfNone found (HasNoLog (R.state rack.old).reads members.now slot)) }
     ensures stays { R.state rack.new ≡ R.state rack.old }
-    ensures cause { IsErrOf result Fault → Rose (R.faults rack.old) (R.faults rack.new) }
-    ensures later { NoneFalls (R.faults rack.old) (R.faults rack.new) (R.faults_of rack.old) (R.faults_of rack.new) }
-    ensures memory_counts { IsErrOf result OutOfMemory → NoneRose (R.faults rack.old) (R.faults rack.new) (R.faults_of rack.old) (R.faults_of rack.new) }
-    ensures no_fault { OnOk result (NoneRose (R.faults rack.old) (R.faults rack.new) (R.faults_of rack.old) (R.faults_of rack.new)) }
-    ensures sizes { (R.state rack.new).sizes ≡ (R.state rack.old).sizes }
-    ensures keeps_telling { R.tells rack.old → R.tells rack.new }
+    ensures rack { Fails R.Rack rack.old rack.new result }
 {
     let second = members.reads_second(slot % members.devices);
     let count = open_gates(rack, members.devices, second, slot)?;
@@ -62,12 +55,7 @@ fn record_in<R: Rack>(
     ensures some { R.tells rack.old → IfOk result (λ found. IfSome found (IsInBody (held_by (R.state rack.old).reads members.now) members.now.devices members.now.areas slot body)) }
     ensures none { R.tells rack.old → IfOk result (λ found. IfNone found ((logged : Logged) → IsInBody (held_by (R.state rack.old).reads members.now) members.now.devices members.now.areas slot body logged → ⊥)) }
     ensures stays { R.state rack.new ≡ R.state rack.old }
-    ensures cause { IsErrOf result Fault → Rose (R.faults rack.old) (R.faults rack.new) }
-    ensures later { NoneFalls (R.faults rack.old) (R.faults rack.new) (R.faults_of rack.old) (R.faults_of rack.new) }
-    ensures memory_counts { IsErrOf result OutOfMemory → NoneRose (R.faults rack.old) (R.faults rack.new) (R.faults_of rack.old) (R.faults_of rack.new) }
-    ensures no_fault { OnOk result (NoneRose (R.faults rack.old) (R.faults rack.new) (R.faults_of rack.old) (R.faults_of rack.new)) }
-    ensures sizes { (R.state rack.new).sizes ≡ (R.state rack.old).sizes }
-    ensures keeps_telling { R.tells rack.old → R.tells rack.new }
+    ensures rack { Fails R.Rack rack.old rack.new result }
 {
     let (device, sector) = body_place(slot, body, members.devices);
     Record::read(alloc, rack, members.disk(device), sector, members.areas)

@@ -1,13 +1,11 @@
 //! The logs of all slots of a volume.
 
-ghost use Rattle.std.specs.Prelude.{◌≡◌, ◌<◌, ◌++◌, map, IfOk, IfSome, IfNone, OnOk, IsErrOf};
-ghost use Rattle.bx_base.specs.Faults.{Rose};
-ghost use Rattle.bx_disk.specs.Counts.{NoneFalls, NoneRose};
-ghost use Rattle.bx_disk.specs.declared.fault.RackError.TheVariants.{Fault, OutOfMemory as MemoryRanOut};
+ghost use Rattle.std.specs.Prelude.{◌≡◌, ◌<◌, ◌++◌, map, IfOk, IfSome, IfNone, OnOk};
 ghost use Rattle.bx_rows.specs.Words.{is_taken};
 ghost use Rattle.bx_logs.specs.Members.{AreThere};
 ghost use Rattle.bx_logs.specs.Bodies.{point_of};
 ghost use Rattle.bx_logs.specs.Logs.{AreLogs, HaveNoLogs, IsLogWhere, HasNoLogWhere, points_in};
+ghost use Rattle.bx_disk.specs.Kept.{Fails};
 
 use crate::log::read_log;
 use crate::members::Members;
@@ -32,12 +30,7 @@ pub fn read_logs<R: Rack>(
     ensures some { R.tells rack.old → IfOk result (λ found. IfSome found (AreLogs (R.state rack.old).reads members.now sessions.now)) }
     ensures none { R.tells rack.old → IfOk result (λ found. IfNone found (HaveNoLogs (R.state rack.old).reads members.now sessions.now)) }
     ensures stays { R.state rack.new ≡ R.state rack.old }
-    ensures cause { IsErrOf result Fault → Rose (R.faults rack.old) (R.faults rack.new) }
-    ensures later { NoneFalls (R.faults rack.old) (R.faults rack.new) (R.faults_of rack.old) (R.faults_of rack.new) }
-    ensures memory_counts { IsErrOf result MemoryRanOut → NoneRose (R.faults rack.old) (R.faults rack.new) (R.faults_of rack.old) (R.faults_of rack.new) }
-    ensures no_fault { OnOk result (NoneRose (R.faults rack.old) (R.faults rack.new) (R.faults_of rack.old) (R.faults_of rack.new)) }
-    ensures sizes { (R.state rack.new).sizes ≡ (R.state rack.old).sizes }
-    ensures keeps_telling { R.tells rack.old → R.tells rack.new }
+    ensures rack { Fails R.Rack rack.old rack.new result }
 {
     let mut logs = List::new(alloc);
     for slot in 0..LOG_SLOTS {
@@ -70,12 +63,7 @@ fn read_log_where<R: Rack>(
     ensures some { R.tells rack.old → IfOk result (λ found. IfSome found (IsLogWhere taken (R.state rack.old).reads members.now slot)) }
     ensures none { R.tells rack.old → IfOk result (λ found. IfNone found (HasNoLogWhere taken (R.state rack.old).reads members.now slot)) }
     ensures stays { R.state rack.new ≡ R.state rack.old }
-    ensures cause { IsErrOf result Fault → Rose (R.faults rack.old) (R.faults rack.new) }
-    ensures later { NoneFalls (R.faults rack.old) (R.faults rack.new) (R.faults_of rack.old) (R.faults_of rack.new) }
-    ensures memory_counts { IsErrOf result MemoryRanOut → NoneRose (R.faults rack.old) (R.faults rack.new) (R.faults_of rack.old) (R.faults_of rack.new) }
-    ensures no_fault { OnOk result (NoneRose (R.faults rack.old) (R.faults rack.new) (R.faults_of rack.old) (R.faults_of rack.new)) }
-    ensures sizes { (R.state rack.new).sizes ≡ (R.state rack.old).sizes }
-    ensures keeps_telling { R.tells rack.old → R.tells rack.new }
+    ensures rack { Fails R.Rack rack.old rack.new result }
 {
     if taken {
         read_log(alloc, rack, members, slot)

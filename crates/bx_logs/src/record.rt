@@ -1,13 +1,12 @@
 //! The records of logs, as they stand in bodies.
 
-ghost use Rattle.std.specs.Prelude.{◌≡◌, ◌≢◌, ◌↔◌, ◌+◌, ◌*◌, ◌^◌, ◌<◌, ◌≤◌, length, map, slice_index, IfOk, IfSome, IfNone, OnOk, IsErrOf, IsTrue};
+ghost use Rattle.std.specs.Prelude.{◌≡◌, ◌≢◌, ◌↔◌, ◌+◌, ◌*◌, ◌^◌, ◌<◌, ◌≤◌, length, map, slice_index, IfOk, IfSome, IfNone, IsTrue};
 ghost use Rattle.std.specs.List.{AllByRecursion};
-ghost use Rattle.bx_disk.specs.Counts.{NoneFalls, NoneRose, BothRose};
-ghost use Rattle.bx_disk.specs.declared.fault.RackError.TheVariants.{Fault, OutOfMemory};
 ghost use Rattle.bx_records.specs.declared.record_head.RecordHead.{RecordHead};
 ghost use Rattle.bx_records.specs.Records.{SpellsHead};
 ghost use Rattle.bx_volume.specs.Records.{Logged};
 ghost use Rattle.bx_logs.specs.Bodies.{AreNumbers, IsGap, IsRecordAt, StandOn};
+ghost use Rattle.bx_disk.specs.Kept.{FailsOn};
 
 use bx_base::{List, Point};
 use bx_calls::read_sectors;
@@ -51,12 +50,7 @@ impl Record {
         ensures some { R.tells rack.old → IfOk result (λ found. IfSome found (IsRecordAt (R.state rack.old).reads disk sector areas)) }
         ensures none { R.tells rack.old → IfOk result (λ found. IfNone found ((logged : Logged) → IsRecordAt (R.state rack.old).reads disk sector areas logged → ⊥)) }
         ensures stays { R.state rack.new ≡ R.state rack.old }
-        ensures cause { IsErrOf result Fault → BothRose (R.faults rack.old) (R.faults rack.new) (R.faults_of rack.old) (R.faults_of rack.new) disk }
-        ensures later { NoneFalls (R.faults rack.old) (R.faults rack.new) (R.faults_of rack.old) (R.faults_of rack.new) }
-        ensures memory_counts { IsErrOf result OutOfMemory → NoneRose (R.faults rack.old) (R.faults rack.new) (R.faults_of rack.old) (R.faults_of rack.new) }
-        ensures no_fault { OnOk result (NoneRose (R.faults rack.old) (R.faults rack.new) (R.faults_of rack.old) (R.faults_of rack.new)) }
-        ensures sizes { (R.state rack.new).sizes ≡ (R.state rack.old).sizes }
-        ensures keeps_telling { R.tells rack.old → R.tells rack.new }
+        ensures rack { FailsOn R.Rack rack.old rack.new disk result }
     {
         one_reading();
         let Some(head) = read_head(alloc, rack, disk, sector)? else {
@@ -105,12 +99,7 @@ fn read_head<R: Rack>(
     ensures few { IfOk result (λ found. IfSome found (λ head. length head.blocks ≤ 16)) }
     ensures none { R.tells rack.old → IfOk result (λ found. IfNone found ((head : RecordHead) → SpellsHead head ((R.state rack.old).reads disk sector) → ⊥)) }
     ensures stays { R.state rack.new ≡ R.state rack.old }
-    ensures cause { IsErrOf result Fault → BothRose (R.faults rack.old) (R.faults rack.new) (R.faults_of rack.old) (R.faults_of rack.new) disk }
-    ensures later { NoneFalls (R.faults rack.old) (R.faults rack.new) (R.faults_of rack.old) (R.faults_of rack.new) }
-    ensures memory_counts { IsErrOf result OutOfMemory → NoneRose (R.faults rack.old) (R.faults rack.new) (R.faults_of rack.old) (R.faults_of rack.new) }
-    ensures no_fault { OnOk result (NoneRose (R.faults rack.old) (R.faults rack.new) (R.faults_of rack.old) (R.faults_of rack.new)) }
-    ensures sizes { (R.state rack.new).sizes ≡ (R.state rack.old).sizes }
-    ensures keeps_telling { R.tells rack.old → R.tells rack.new }
+    ensures rack { FailsOn R.Rack rack.old rack.new disk result }
 {
     let mut bytes = [0; SECTOR];
     read_sectors(rack, disk, sector, &mut bytes)?;
@@ -152,12 +141,7 @@ fn read_blocks<R: Rack>(
     ensures some { R.tells rack.old → IfOk result (λ found. IfSome found (StandOn (R.state rack.old).reads disk sector)) }
     ensures none { R.tells rack.old → IfOk result (λ found. IfNone found (IsGap (R.state rack.old).reads disk sector numbers.now)) }
     ensures stays { R.state rack.new ≡ R.state rack.old }
-    ensures cause { IsErrOf result Fault → BothRose (R.faults rack.old) (R.faults rack.new) (R.faults_of rack.old) (R.faults_of rack.new) disk }
-    ensures later { NoneFalls (R.faults rack.old) (R.faults rack.new) (R.faults_of rack.old) (R.faults_of rack.new) }
-    ensures memory_counts { IsErrOf result OutOfMemory → NoneRose (R.faults rack.old) (R.faults rack.new) (R.faults_of rack.old) (R.faults_of rack.new) }
-    ensures no_fault { OnOk result (NoneRose (R.faults rack.old) (R.faults rack.new) (R.faults_of rack.old) (R.faults_of rack.new)) }
-    ensures sizes { (R.state rack.new).sizes ≡ (R.state rack.old).sizes }
-    ensures keeps_telling { R.tells rack.old → R.tells rack.new }
+    ensures rack { FailsOn R.Rack rack.old rack.new disk result }
 {
     let mut changed = List::new(alloc);
     for at in 0..numbers.len() {

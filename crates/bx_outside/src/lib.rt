@@ -23,4 +23,4 @@ pub use mem_sink::MemSink;
 pub use mem_source::MemSource;
 pub use sink::{Sink, WriteFault, write_all};
 pub use source::{ReadFault, Source};
-pub use streams::{Incoming, Outgoing};
+pub use streams::Stream;

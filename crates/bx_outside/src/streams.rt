@@ -1,37 +1,37 @@
-//! Readers and writers of std as sources and sinks. They tell their bytes where the reader or the writer does, and count its errors.
+//! Readers and writers of std as sources and sinks.
 
 use crate::sink::{Sink, WriteFault};
 use crate::source::{ReadFault, Source};
 use std::io::{Read, Write};
 use std::marker::Model;
 
-/// A reader as a source.
+/// A reader as a source, or a writer as a sink. It tells its bytes where the reader or the writer does, and counts its errors.
 #[derive(Drop)]
-pub struct Incoming<R: Read + Drop> {
-    reader: R,
+pub struct Stream<S: Drop> {
+    stream: S,
     faults: u64,
 }
 
-impl<R: Read + Drop> Model for Incoming<R> {
+impl<S: Drop> Model for Stream<S> {
     ghost use Rattle.bx_outside.specs.Streams.{Counted};
 
-    ghost Value = { Counted R };
+    ghost Value = { Counted S };
 
-    ghost view = { λ s. record { stream = s.reader; faults = s.faults } };
+    ghost view = { λ s. record { stream = s.stream; faults = s.faults } };
 }
 
-impl<R: Read + Drop> Incoming<R> {
+impl<S: Drop> Stream<S> {
     ghost use Rattle.std.specs.Prelude.{◌≡◌};
 
-    /// The reader's bytes, with no fault so far.
-    pub fn new(reader: R) -> Incoming<R>
-        ensures { result ≡ record { stream = reader; faults = 0 } }
+    /// The reader or the writer, with no fault so far.
+    pub fn new(stream: S) -> Stream<S>
+        ensures { result ≡ record { stream = stream; faults = 0 } }
     {
-        Incoming { reader, faults: 0 }
+        Stream { stream, faults: 0 }
     }
 }
 
-impl<R: Read + Drop> Source for Incoming<R> {
+impl<R: Read + Drop> Source for Stream<R> {
     ghost use Rattle.std.specs.Prelude.{IsSome, unwrap_or, []};
 
     ghost tells = { λ s. IsSome (R.remaining s.stream) };
@@ -41,7 +41,7 @@ impl<R: Read + Drop> Source for Incoming<R> {
     ghost faults = { λ s. s.faults };
 
     fn read(&mut self, into: &mut [u8]) -> Result<usize, ReadFault> {
-        match self.reader.read(into) {
+        match self.stream.read(into) {
             Ok(count) => Ok(count),
             Err(_) => {
                 self.faults = self.faults.saturating_add(1);
@@ -51,33 +51,7 @@ impl<R: Read + Drop> Source for Incoming<R> {
     }
 }
 
-/// A writer as a sink.
-#[derive(Drop)]
-pub struct Outgoing<W: Write + Drop> {
-    writer: W,
-    faults: u64,
-}
-
-impl<W: Write + Drop> Model for Outgoing<W> {
-    ghost use Rattle.bx_outside.specs.Streams.{Counted};
-
-    ghost Value = { Counted W };
-
-    ghost view = { λ s. record { stream = s.writer; faults = s.faults } };
-}
-
-impl<W: Write + Drop> Outgoing<W> {
-    ghost use Rattle.std.specs.Prelude.{◌≡◌};
-
-    /// The writer, with no fault so far.
-    pub fn new(writer: W) -> Outgoing<W>
-        ensures { result ≡ record { stream = writer; faults = 0 } }
-    {
-        Outgoing { writer, faults: 0 }
-    }
-}
-
-impl<W: Write + Drop> Sink for Outgoing<W> {
+impl<W: Write + Drop> Sink for Stream<W> {
     ghost use Rattle.std.specs.Prelude.{IsSome, unwrap_or, []};
 
     ghost tells = { λ s. IsSome (W.contents s.stream) };
@@ -88,7 +62,7 @@ impl<W: Write + Drop> Sink for Outgoing<W> {
 
     /// A write that takes nothing of a piece is a fault.
     fn write(&mut self, piece: &[u8]) -> Result<usize, WriteFault> {
-        match self.writer.write(piece) {
+        match self.stream.write(piece) {
             Ok(count) if count > 0 || piece.is_empty() => Ok(count),
             _ => {
                 self.faults = self.faults.saturating_add(1);

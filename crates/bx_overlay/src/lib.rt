@@ -9,5 +9,5 @@ mod volume_disks;
 
 pub use error::AuditError;
 pub use laws::{refused_disks_show_no_tree, what_is_read_is_shown, what_stands_is_the_truth};
-pub use overlaid::{Overlaid, first_wrong};
+pub use overlaid::Overlaid;
 pub use volume_disks::{VolumeDisks, read_disks};

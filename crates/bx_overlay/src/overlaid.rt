@@ -1,18 +1,13 @@
 //! The blocks of a volume: what its logs lay over its homes.
 
-ghost use Rattle.std.specs.Prelude.{◌≡◌, ◌≤◌, IfOk, IfSome, IfNone, OnOk, IsErrOf};
-ghost use Rattle.bx_base.specs.Faults.{Rose};
-ghost use Rattle.bx_disk.specs.declared.fault.RackError.TheVariants.{Fault, OutOfMemory as MemoryRanOut};
-ghost use Rattle.bx_homes.specs.Slots.{AreBlocks, HasHandle, IsFirstFault, wanted_handle};
-ghost use Rattle.bx_truth.specs.Chunks.{IsChunked};
-ghost use Rattle.bx_views.specs.Truths.{Truth};
+ghost use Rattle.std.specs.Prelude.{◌≡◌};
 ghost use Rattle.std.specs.Option.{option_copied};
 ghost use Rattle.bx_logs.specs.Members.{AreThere, held_by};
 ghost use Rattle.bx_logs.specs.Newest.{first_in};
 ghost use Rattle.bx_overlay.specs.Over.{StandsOver};
 
 use bx_disk::{Rack, RackError};
-use bx_homes::{Blocks, WrongBlock, first_fault, read_home};
+use bx_homes::{Blocks, read_home};
 use bx_layout::Block;
 use bx_logs::{Members, Newest, copy_of};
 use bx_places::place;
@@ -61,30 +56,6 @@ impl<'a, R: Rack> Overlaid<'a, R> {
             logs,
         }
     }
-}
-
-/// The first block of a volume, area by area, that is not as the slots ask.
-pub fn first_wrong<R: Rack>(
-    alloc: Global,
-    rack: &mut R,
-    members: Members,
-    newest: &[Newest],
-) -> Result<Option<WrongBlock>, RackError>
-    requires { AreThere (R.state rack.old).sizes members }
-    ensures none { R.tells rack.old → IfOk result (λ found. IfNone found ((truth : Truth) → AreBlocks members.areas (StandsOver (held_by (R.state rack.old).reads members) members.devices newest.now) truth → IsChunked members.areas truth)) }
-    ensures some { R.tells rack.old → IfOk result (λ found. IfSome found (λ wrong. (truth : Truth) → AreBlocks members.areas (StandsOver (held_by (R.state rack.old).reads members) members.devices newest.now) truth → IsFirstFault members.areas truth wrong.at)) }
-    ensures found { R.tells rack.old → IfOk result (λ found. IfSome found (λ wrong. HasHandle (StandsOver (held_by (R.state rack.old).reads members) members.devices newest.now) wrong.at wrong.found)) }
-    ensures wanted { R.tells rack.old → IfOk result (λ found. IfSome found (λ wrong. (truth : Truth) → AreBlocks members.areas (StandsOver (held_by (R.state rack.old).reads members) members.devices newest.now) truth → wrong.wanted ≡ wanted_handle truth wrong.at)) }
-    ensures stays { R.state rack.new ≡ R.state rack.old }
-    ensures cause { IsErrOf result Fault → Rose (R.faults rack.old) (R.faults rack.new) }
-    ensures later { R.faults rack.old ≤ R.faults rack.new }
-    ensures memory_counts { IsErrOf result MemoryRanOut → R.faults rack.new ≡ R.faults rack.old }
-    ensures no_fault { OnOk result (R.faults rack.new ≡ R.faults rack.old) }
-    ensures keeps_telling { R.tells rack.old → R.tells rack.new }
-{
-    let areas = members.areas;
-    let mut blocks = Overlaid::new(alloc, rack, members, newest);
-    first_fault(alloc, &mut blocks, areas)
 }
 
 impl<'a, R: Rack> Blocks for Overlaid<'a, R> {

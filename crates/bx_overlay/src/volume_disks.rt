@@ -1,8 +1,8 @@
 //! What an audit reads off the disks of a volume before its blocks: labels, members, logs.
 
-ghost use Rattle.std.specs.Prelude.{◌≡◌, ◌↔◌, ◌≤◌, ◌⊎◌, ℕ, false, length, slice_get, Some, IfOk, IfErr, OnOk, IsErrOf};
-ghost use Rattle.bx_base.specs.Faults.{Rose};
-ghost use Rattle.bx_disk.specs.Counts.{NoneFalls, NoneRose};
+ghost use Rattle.std.specs.Prelude.{◌≡◌, ◌≤◌, ◌⊎◌, false, length, Some, IfOk, IfErr, OnOk};
+ghost use Rattle.bx_disk.specs.Counts.{NoneRose};
+ghost use Rattle.bx_disk.specs.Kept.{Counted};
 ghost use Rattle.bx_layout.specs.Labels.{IsLabel};
 ghost use Rattle.bx_volume.specs.Images.{IsFirstLabel};
 ghost use Rattle.bx_overlay.specs.declared.error.AuditError.TheVariants.{DiskFault, NoLabel};
@@ -47,11 +47,8 @@ pub fn read_disks<R: Rack>(
     ensures there { IfOk result (λ read. AreThere (R.state rack.old).sizes read.members) }
     ensures err { R.tells rack.old → IfErr result (λ error. IsBreak error ⊎ IsRefused (R.state rack.old) state.now error) }
     ensures stays { R.state rack.new ≡ R.state rack.old }
-    ensures cause { IsErrOf result DiskFault → Rose (R.faults rack.old) (R.faults rack.new) }
-    ensures later { NoneFalls (R.faults rack.old) (R.faults rack.new) (R.faults_of rack.old) (R.faults_of rack.new) }
+    ensures rack { Counted R.Rack rack.old rack.new result DiskFault }
     ensures counts { UnlessFault result (NoneRose (R.faults rack.old) (R.faults rack.new) (R.faults_of rack.old) (R.faults_of rack.new)) }
-    ensures sizes { (R.state rack.new).sizes ≡ (R.state rack.old).sizes }
-    ensures keeps_telling { R.tells rack.old → R.tells rack.new }
 {
     let first = find_first(rack)?;
     let members = find_members(rack, &first, state.devices.items())?;
@@ -70,11 +67,8 @@ fn find_first<R: Rack>(rack: &mut R) -> Result<Label, AuditError>
     ensures is { IfOk result IsLabel }
     ensures err { R.tells rack.old → IfErr result (λ error. IsBreak error ⊎ ((error ≡ NoLabel 0) × HasNoLabel (R.state rack.old))) }
     ensures stays { R.state rack.new ≡ R.state rack.old }
-    ensures cause { IsErrOf result DiskFault → Rose (R.faults rack.old) (R.faults rack.new) }
-    ensures later { NoneFalls (R.faults rack.old) (R.faults rack.new) (R.faults_of rack.old) (R.faults_of rack.new) }
+    ensures rack { Counted R.Rack rack.old rack.new result DiskFault }
     ensures counts { UnlessFault result (NoneRose (R.faults rack.old) (R.faults rack.new) (R.faults_of rack.old) (R.faults_of rack.new)) }
-    ensures sizes { (R.state rack.new).sizes ≡ (R.state rack.old).sizes }
-    ensures keeps_telling { R.tells rack.old → R.tells rack.new }
 {
     match first_label(rack)? {
         Some(label) => Ok(label),
@@ -94,11 +88,8 @@ fn find_members<R: Rack>(
     ensures there { IfOk result (AreThere (R.state rack.old).sizes) }
     ensures err { R.tells rack.old → IfErr result (λ error. IsBreak error ⊎ RefusesMembers (R.state rack.old) first.now rows.now error) }
     ensures stays { R.state rack.new ≡ R.state rack.old }
-    ensures cause { IsErrOf result DiskFault → Rose (R.faults rack.old) (R.faults rack.new) }
-    ensures later { NoneFalls (R.faults rack.old) (R.faults rack.new) (R.faults_of rack.old) (R.faults_of rack.new) }
+    ensures rack { Counted R.Rack rack.old rack.new result DiskFault }
     ensures counts { UnlessFault result (NoneRose (R.faults rack.old) (R.faults rack.new) (R.faults_of rack.old) (R.faults_of rack.new)) }
-    ensures sizes { (R.state rack.new).sizes ≡ (R.state rack.old).sizes }
-    ensures keeps_telling { R.tells rack.old → R.tells rack.new }
 {
     if rows.len() != first.devices as usize {
         return Err(AuditError::NoMajority);
@@ -140,11 +131,8 @@ fn read_overlay<R: Rack>(
     ensures ok { R.tells rack.old → IfOk result (λ read. AreOverlay (R.state rack.old).reads members.now sessions.now read.0 read.1) }
     ensures err { R.tells rack.old → IfErr result (λ error. IsBreak error ⊎ RefusesLogs (R.state rack.old).reads members.now sessions.now error) }
     ensures stays { R.state rack.new ≡ R.state rack.old }
-    ensures cause { IsErrOf result DiskFault → Rose (R.faults rack.old) (R.faults rack.new) }
-    ensures later { NoneFalls (R.faults rack.old) (R.faults rack.new) (R.faults_of rack.old) (R.faults_of rack.new) }
+    ensures rack { Counted R.Rack rack.old rack.new result DiskFault }
     ensures counts { UnlessFault result (NoneRose (R.faults rack.old) (R.faults rack.new) (R.faults_of rack.old) (R.faults_of rack.new)) }
-    ensures sizes { (R.state rack.new).sizes ≡ (R.state rack.old).sizes }
-    ensures keeps_telling { R.tells rack.old → R.tells rack.new }
 {
     let Some(logs) = read_logs(alloc, rack, members, sessions)? else {
         return Err(AuditError::Torn(NO_BLOCK, 0, 0));

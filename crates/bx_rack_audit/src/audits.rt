@@ -1,11 +1,10 @@
 //! The audit of a rack alone.
 
-ghost use Rattle.std.specs.Prelude.{◌≡◌, ◌≤◌, ◌⊎◌, IfOk, IfErr, IsErrOf};
-ghost use Rattle.bx_base.specs.Faults.{Rose};
+ghost use Rattle.std.specs.Prelude.{◌≡◌, ◌⊎◌, IfOk, IfErr};
 ghost use Rattle.bx_model.specs.Listing.{listing};
 ghost use Rattle.bx_model.specs.declared.tree.Tree.{Tree};
-ghost use Rattle.bx_overlay.specs.Refusals.{IsBreak, UnlessFault};
-ghost use Rattle.bx_overlay.specs.declared.error.AuditError.TheVariants.{DiskFault};
+ghost use Rattle.bx_overlay.specs.Kept.{ReadsDisks};
+ghost use Rattle.bx_overlay.specs.Refusals.{IsBreak};
 ghost use Rattle.bx_rack_audit.specs.Alone.{IsListedAlone, IsRefusedAlone, StandAlone};
 
 use crate::laws::one_own_state;
@@ -27,12 +26,7 @@ pub fn audit<R: Rack>(alloc: Global, rack: &mut R) -> Result<Listing, AuditError
     ensures err { R.tells rack.old → IfErr result (λ error. IsBreak error ⊎ IsRefusedAlone (R.state rack.old) error) }
     ensures stands { R.tells rack.old → (tree : Tree) → StandAlone (R.state rack.old) tree → IfOk result (λ listed. listed.text ≡ listing tree) }
     ensures breaks { R.tells rack.old → (tree : Tree) → StandAlone (R.state rack.old) tree → IfErr result IsBreak }
-    ensures stays { R.state rack.new ≡ R.state rack.old }
-    ensures sizes { (R.state rack.new).sizes ≡ (R.state rack.old).sizes }
-    ensures cause { IsErrOf result DiskFault → Rose (R.faults rack.old) (R.faults rack.new) }
-    ensures later { R.faults rack.old ≤ R.faults rack.new }
-    ensures counts { UnlessFault result (R.faults rack.new ≡ R.faults rack.old) }
-    ensures keeps_telling { R.tells rack.old → R.tells rack.new }
+    ensures rack { ReadsDisks R.Rack rack.old rack.new result }
 {
     one_own_state();
     one_state_is_read();

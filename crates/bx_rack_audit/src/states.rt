@@ -1,8 +1,8 @@
 //! The state that a rack tells.
 
-ghost use Rattle.std.specs.Prelude.{◌≡◌, ◌⊎◌, None, Some, IfOk, IfErr, IsErrOf};
-ghost use Rattle.bx_base.specs.Faults.{Rose};
-ghost use Rattle.bx_disk.specs.Counts.{NoneFalls, NoneRose};
+ghost use Rattle.std.specs.Prelude.{◌≡◌, ◌⊎◌, None, Some, IfOk, IfErr};
+ghost use Rattle.bx_disk.specs.Counts.{NoneRose};
+ghost use Rattle.bx_disk.specs.Kept.{Counted};
 ghost use Rattle.bx_overlay.specs.Refusals.{HasNoLabel, IsBreak, UnlessFault};
 ghost use Rattle.bx_overlay.specs.declared.error.AuditError.TheVariants.{DiskFault, NoLabel, NoMajority};
 ghost use Rattle.bx_rack_audit.specs.Alone.{IsOwnState, LackState};
@@ -20,11 +20,8 @@ pub(crate) fn own_state<R: Rack>(alloc: Global, rack: &mut R) -> Result<GlobalSt
     ensures ok { R.tells rack.old → IfOk result (IsOwnState (R.state rack.old).sizes (R.state rack.old).reads) }
     ensures err { R.tells rack.old → IfErr result (λ error. IsBreak error ⊎ (((error ≡ NoLabel 0) × HasNoLabel (R.state rack.old)) ⊎ ((error ≡ NoMajority) × LackState (R.state rack.old)))) }
     ensures stays { R.state rack.new ≡ R.state rack.old }
-    ensures cause { IsErrOf result DiskFault → Rose (R.faults rack.old) (R.faults rack.new) }
-    ensures later { NoneFalls (R.faults rack.old) (R.faults rack.new) (R.faults_of rack.old) (R.faults_of rack.new) }
+    ensures rack { Counted R.Rack rack.old rack.new result DiskFault }
     ensures counts { UnlessFault result (NoneRose (R.faults rack.old) (R.faults rack.new) (R.faults_of rack.old) (R.faults_of rack.new)) }
-    ensures sizes { (R.state rack.new).sizes ≡ (R.state rack.old).sizes }
-    ensures keeps_telling { R.tells rack.old → R.tells rack.new }
 {
     let Some(first) = first_label(rack)? else {
         return Err(AuditError::NoLabel(0));

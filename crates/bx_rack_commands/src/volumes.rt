@@ -1,10 +1,7 @@
 //! A volume that is made on a rack.
 
-ghost use Rattle.std.specs.Prelude.{◌≡◌, ℕ, ◌<◌, ◌≤◌, length, slice_index, OnOk, IsErrOf};
-ghost use Rattle.bx_base.specs.Faults.{Rose};
+ghost use Rattle.std.specs.Prelude.{ℕ, ◌<◌, ◌≤◌, length, slice_index, OnOk};
 ghost use Rattle.bx_cell.specs.Formats.{KeepsBeside};
-ghost use Rattle.bx_disk.specs.declared.fault.RackError.TheVariants.{Fault, OutOfMemory};
-ghost use Rattle.bx_disk.specs.Counts.{NoneFalls, NoneRose};
 ghost use Rattle.bx_disk.specs.Kept.{Fails};
 ghost use Rattle.bx_calls.specs.Calls.{LeavesOnly};
 ghost use Rattle.bx_format.specs.Formats.{HasNoRecords, HasSizes, HoldsBlocks};
@@ -12,6 +9,7 @@ ghost use Rattle.bx_format.specs.Moments.{AreBare, IsInTheMaking, IsLabelSector,
 ghost use Rattle.bx_places.specs.Places.{IsVolume};
 ghost use Rattle.bx_rack_commands.specs.NewVolumes.{HaveFirstState, IsBareOrWhole, IsNewVolume};
 ghost use Rattle.bx_truth.specs.Opening.{opening_truth};
+ghost use Rattle.bx_format.specs.Kept.{FailsAnew};
 
 use bx_acceptor::first_value;
 use bx_cell::format_each;
@@ -42,11 +40,7 @@ pub fn format<R: Rack>(
     ensures made { R.tells rack.old → OnOk result (IsNewVolume (R.state rack.new) (record { volume = volume; disk = 0; devices = devices; areas = areas })) }
     ensures moments { R.tells rack.old → OnOk result (LeavesOnly (R.moment rack.old) (R.moment rack.new) (R.left_since rack.old) (R.left_since rack.new) (IsInTheMaking (R.state rack.old) (R.state rack.new))) }
     ensures sizes { OnOk result (HasSizes (R.state rack.new).sizes devices areas) }
-    ensures cause { IsErrOf result Fault → Rose (R.faults rack.old) (R.faults rack.new) }
-    ensures later { NoneFalls (R.faults rack.old) (R.faults rack.new) (R.faults_of rack.old) (R.faults_of rack.new) }
-    ensures memory_counts { IsErrOf result OutOfMemory → NoneRose (R.faults rack.old) (R.faults rack.new) (R.faults_of rack.old) (R.faults_of rack.new) }
-    ensures no_fault { OnOk result (NoneRose (R.faults rack.old) (R.faults rack.new) (R.faults_of rack.old) (R.faults_of rack.new)) }
-    ensures keeps_telling { R.tells rack.old → R.tells rack.new }
+    ensures rack { FailsAnew R.Rack rack.old rack.new result }
 {
     lay_out(alloc, rack, devices, areas)?;
     finish(alloc, rack, volume, devices, areas)?;

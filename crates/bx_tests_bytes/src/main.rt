@@ -17,18 +17,12 @@ mod states;
 mod wire;
 
 use anyhow::{Error, anyhow};
-use bx_tests_lines::{Line, Row, bytes_of};
+use bx_tests_lines::{Line, Row, bytes_of, run_files};
 use kinds::Kind;
 use std::alloc::Global;
-use std::fs;
 
 fn main(rt: HostRuntime) -> Result<(), Error> {
-    for name in rt.lines(rt.alloc()) {
-        let name = name?;
-        let text = fs::read_to_string(&rt, name.as_str())?;
-        run_all(&rt, rt.alloc(), text.as_str())?;
-    }
-    Ok(())
+    run_files(&rt, |text| run_all(&rt, rt.alloc(), text))
 }
 
 /// Asks what the rows of a file ask.

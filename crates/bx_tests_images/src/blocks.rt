@@ -5,9 +5,9 @@ ghost use Rattle.std.specs.Prelude.{◌≡◌};
 use crate::audits::{tell_error, tell_points};
 use bx_disk::Rack;
 use bx_global::GlobalState;
-use bx_homes::Blocks;
+use bx_homes::{Blocks, first_fault};
 use bx_layout::Block;
-use bx_overlay::{AuditError, Overlaid, first_wrong, read_disks};
+use bx_overlay::{AuditError, Overlaid, read_disks};
 use bx_places::{PAYLOAD, is_block};
 use bx_tests_lines::Line;
 use std::alloc::Global;
@@ -83,7 +83,9 @@ pub(crate) fn tell_slots<R: Rack>(
         Ok(read) => read,
         Err(error) => return tell_error(line, error),
     };
-    match first_wrong(alloc, rack, read.members, read.newest.items()) {
+    let areas = read.members.areas;
+    let mut blocks = Overlaid::new(alloc, rack, read.members, read.newest.items());
+    match first_fault(alloc, &mut blocks, areas) {
         Ok(Some(wrong)) => {
             line.text("wrong");
             line.numbers(&[wrong.at, wrong.found, wrong.wanted]);

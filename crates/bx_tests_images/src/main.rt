@@ -22,17 +22,11 @@ mod setting;
 mod volumes;
 
 use anyhow::{Error, anyhow};
-use bx_tests_lines::Row;
+use bx_tests_lines::{Row, run_files};
 use std::alloc::Global;
-use std::fs;
 
 fn main(rt: HostRuntime) -> Result<(), Error> {
-    for name in rt.lines(rt.alloc()) {
-        let name = name?;
-        let text = fs::read_to_string(&rt, name.as_str())?;
-        run_all(&rt, rt.alloc(), text.as_str())?;
-    }
-    Ok(())
+    run_files(&rt, |text| run_all(&rt, rt.alloc(), text))
 }
 
 /// Asks what the rows of a file ask.

@@ -19,19 +19,14 @@ mod running;
 mod shorthand;
 
 use anyhow::{Error, anyhow};
+use bx_tests_lines::run_files;
 use row::Row;
 use running::answer;
 use shorthand::Shorthand;
 use std::alloc::Global;
-use std::fs;
 
 fn main(rt: HostRuntime) -> Result<(), Error> {
-    for name in rt.lines(rt.alloc()) {
-        let name = name?;
-        let text = fs::read_to_string(&rt, name.as_str())?;
-        run_all(&rt, rt.alloc(), text.as_str())?;
-    }
-    Ok(())
+    run_files(&rt, |text| run_all(&rt, rt.alloc(), text))
 }
 
 /// Runs the rows of a file.

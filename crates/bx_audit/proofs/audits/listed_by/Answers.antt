@@ -36,16 +36,16 @@ returns-in_err-tree-clause-err g c = λ tells.
     let blocks = c.what_is_read_is_shown.ensures.blocks disks state read in
     let truth_of = c.what_is_read_is_shown.ensures.truth disks state read in
     let one = c.one_first_label.ensures disks.sizes disks.reads in
-    let keeps = c.in_ok-read.ensures.keeps_telling tells in
+    let keeps = c.in_ok-read.ensures.rack.keeps_telling tells in
     let met : AreMet read.members.areas (blocks_of disks read) c.in_ok-walked.walked.tree = record {
       holdings = holdings_of c.in_ok-walked.walked.holders;
       walked = λ chunks headed. c.in_ok-walked.ensures.ok keeps chunks (subst (λ (d : Disks). AreHeaded read.members.areas (blocks_of d read) chunks) (sym c.in_ok-read.ensures.stays) headed);
     } in
     let words = subst (λ (d : Disks). AreWorded read.members.areas (blocks_of d read) (holdings_of c.in_ok-walked.walked.holders)) c.in_ok-read.ensures.stays (c.in_ok-walked.ensures.words keeps) in
     let right : IsRightFromRoot read.members.areas (blocks_of disks read) = record { tree = c.in_ok-walked.walked.tree; met = met; words = words; is = c.in_ok-walked.ensures.is } in
-    let started = subst (λ (d : Disks). IsWalkedOn (Unit {0}) read.members.areas (blocks_of d read) c.in_ok-walked.walked) (sym c.in_ok-walked.ensures.stays) (c.in_ok-walked.ensures.ok keeps) in
-    let keeps_then = c.in_ok-walked.ensures.keeps_telling keeps in
-    let same_then = c.in_ok-walked.ensures.stays ∙ c.in_ok-read.ensures.stays in
+    let started = subst (λ (d : Disks). IsWalkedOn (Unit {0}) read.members.areas (blocks_of d read) c.in_ok-walked.walked) (sym c.in_ok-walked.ensures.rack.stays) (c.in_ok-walked.ensures.ok keeps) in
+    let keeps_then = c.in_ok-walked.ensures.rack.keeps_telling keeps in
+    let same_then = c.in_ok-walked.ensures.rack.stays ∙ c.in_ok-read.ensures.stays in
     let error = c.in_err-tree.field-0.0 in
     let why = subst (λ (d : Disks). IsBreak error ⊎ (IsTornBlock read.members.areas (blocks_of d read) error × StandForNoTree read.members.areas (blocks_of d read))) same_then (c.in_err-tree.ensures.err keeps_then started) in
     if_err (λ (e : AuditError). IsBreak e ⊎ IsRefusal disks state e) error c.from_residual-in_err-tree.result (p.1 ∙ ap Err p.2)
@@ -61,10 +61,10 @@ returns-clause-ok g c = λ tells.
     let truth_of = c.what_is_read_is_shown.ensures.truth disks state read in
     let one = c.one_first_label.ensures disks.sizes disks.reads in
     let tree = c.in_ok-tree.tree in
-    let keeps = c.in_ok-read.ensures.keeps_telling tells in
-    let started = subst (λ (d : Disks). IsWalkedOn (Unit {0}) read.members.areas (blocks_of d read) c.in_ok-walked.walked) (sym c.in_ok-walked.ensures.stays) (c.in_ok-walked.ensures.ok keeps) in
-    let keeps_then = c.in_ok-walked.ensures.keeps_telling keeps in
-    let same_then = c.in_ok-walked.ensures.stays ∙ c.in_ok-read.ensures.stays in
+    let keeps = c.in_ok-read.ensures.rack.keeps_telling tells in
+    let started = subst (λ (d : Disks). IsWalkedOn (Unit {0}) read.members.areas (blocks_of d read) c.in_ok-walked.walked) (sym c.in_ok-walked.ensures.rack.stays) (c.in_ok-walked.ensures.ok keeps) in
+    let keeps_then = c.in_ok-walked.ensures.rack.keeps_telling keeps in
+    let same_then = c.in_ok-walked.ensures.rack.stays ∙ c.in_ok-read.ensures.stays in
     let any = subst (λ (d : Disks). (truth : Truth) → AreBlocks read.members.areas (blocks_of d read) truth → StandsFor read.members.areas truth tree) same_then
     (c.in_ok-tree.ensures.any keeps_then started) in
     let there = subst (λ (d : Disks). (truth : Truth) × AreBlocks read.members.areas (blocks_of d read) truth) same_then (c.in_ok-tree.ensures.there keeps_then) in
@@ -88,6 +88,6 @@ returns-in_err-walked-clause-err g c = λ tells.
     let one = c.one_first_label.ensures disks.sizes disks.reads in
     let error = c.in_err-walked.field-0.0 in
     let why = subst (λ (d : Disks). IsBreak error ⊎ (IsWrongFromRoot read.members.areas (blocks_of d read) error × StandForNoTree read.members.areas (blocks_of d read))) c.in_ok-read.ensures.stays
-    (c.in_err-walked.ensures.err (c.in_ok-read.ensures.keeps_telling tells)) in
+    (c.in_err-walked.ensures.err (c.in_ok-read.ensures.rack.keeps_telling tells)) in
     if_err (λ (e : AuditError). IsBreak e ⊎ IsRefusal disks state e) error c.from_residual-in_err-walked.result (p.1 ∙ ap Err p.2)
     (⊎_elim (λ broke. inl broke) (λ torn. inr (wrong_blocks disks state read is blocks truth_of one error (inl torn.0) (none_stands disks state read is blocks truth_of one torn.1))) why)

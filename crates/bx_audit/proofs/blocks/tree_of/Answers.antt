@@ -21,7 +21,7 @@ returns-in-Err-clause-err g c = λ tells started.
     let some = a_truth c.args.areas (g.B.Blocks.stands c.args.blocks.now) (of_none c.in_ok-at.field-0 c.in_default.is (c.in_ok-at.ensures.there tells)) in
     let right = λ (truth : Truth) (are : AreBlocks c.args.areas (g.B.Blocks.stands c.args.blocks.now) truth). of_none c.in_ok-at.field-0 c.in_default.is (c.in_ok-at.ensures.none tells) truth are in
     let told = λ (truth : Truth) (are : AreBlocks c.args.areas (g.B.Blocks.stands c.args.blocks.now) truth). is_told (g.B.Blocks.tells c.args.blocks.now) (g.B.Blocks.tells c.first_fault.new.blocks) c.args.areas (g.B.Blocks.stands c.args.blocks.now)
-    (g.B.Blocks.stands c.first_fault.new.blocks) truth tells c.in_ok-at.ensures.keeps_telling c.in_ok-at.ensures.stays are (right truth are) in
+    (g.B.Blocks.stands c.first_fault.new.blocks) truth tells c.in_ok-at.ensures.blocks.keeps_telling c.in_ok-at.ensures.stays are (right truth are) in
     subst (λ (e : AuditError). IsBreak e ⊎ (IsTornBlock c.args.areas (g.B.Blocks.stands c.args.blocks.now) e × StandForNoTree c.args.areas (g.B.Blocks.stands c.args.blocks.now))) (sym c.audit_error.ensures)
     (end_of c.args.areas (g.B.Blocks.stands c.args.blocks.now) some.0 (StandForNoTree c.args.areas (g.B.Blocks.stands c.args.blocks.now)) c.in-Err.error some.1 (right some.0 some.1) (c.in-Err.ensures.tells some.0 (told some.0 some.1) still)
     (all_torn c.in-Err.error (AreBlocks c.args.areas (g.B.Blocks.stands c.args.blocks.now)) (StandsForNone c.args.areas) (λ truth are. c.in-Err.ensures.torn truth (told truth are) still)))
@@ -29,12 +29,12 @@ returns-in-Err-clause-err g c = λ tells started.
 pub returns-in-Err-clause-counts : goal.returns-in-Err-clause-counts
 returns-in-Err-clause-counts g c =
     subst (λ (e : AuditError). UnlessFault {A = Tree} (Err e) (g.B.Blocks.faults c.tree_on.new.blocks ≡ g.B.Blocks.faults c.args.blocks.now)) (sym c.audit_error.ensures)
-    (counts_of Tree c.in-Err.error (g.B.Blocks.faults c.args.blocks.now) (g.B.Blocks.faults c.first_fault.new.blocks) (g.B.Blocks.faults c.tree_on.new.blocks) c.in_ok-at.ensures.no_fault c.in-Err.ensures.counts)
+    (counts_of Tree c.in-Err.error (g.B.Blocks.faults c.args.blocks.now) (g.B.Blocks.faults c.first_fault.new.blocks) (g.B.Blocks.faults c.tree_on.new.blocks) c.in_ok-at.ensures.blocks.no_fault c.in-Err.ensures.blocks.counts)
 
 pub returns-in-Ok-clause-any : goal.returns-in-Ok-clause-any
 returns-in-Ok-clause-any g c = λ tells started truth are.
     c.in-Ok.ensures.ok truth
     (is_told (g.B.Blocks.tells c.args.blocks.now) (g.B.Blocks.tells c.first_fault.new.blocks) c.args.areas (g.B.Blocks.stands c.args.blocks.now) (g.B.Blocks.stands c.first_fault.new.blocks) truth tells
-    c.in_ok-at.ensures.keeps_telling c.in_ok-at.ensures.stays are (of_none c.in_ok-at.field-0 c.in_default.is (c.in_ok-at.ensures.none tells) truth are))
+    c.in_ok-at.ensures.blocks.keeps_telling c.in_ok-at.ensures.stays are (of_none c.in_ok-at.field-0 c.in_default.is (c.in_ok-at.ensures.none tells) truth are))
     (still_walked (g.B.Blocks.tells c.args.blocks.now) (g.B.Blocks.tells c.first_fault.new.blocks) c.args.areas (g.B.Blocks.stands c.args.blocks.now) (g.B.Blocks.stands c.first_fault.new.blocks) c.args.walked tells
     (c.in_ok-at.ensures.stays tells) started)

@@ -8,4 +8,4 @@ pub returns-clause-torn : goal.returns-clause-torn
 returns-clause-torn g c = λ tells chunks headed. c.walk.ensures.torn chunks (shown _ _ _ chunks tells headed)
 
 pub returns-clause-none : goal.returns-clause-none
-returns-clause-none g c = λ tells. none_met (g.B.Blocks.tells c.args.blocks.now) c.args.areas (g.B.Blocks.stands c.args.blocks.now) c.requires.most c.walk.result tells (g.met.B.Blocks.one c.args.blocks.now) c.walk.ensures.torn
+returns-clause-none g c = λ tells. none_met (g.B.Blocks.tells c.args.blocks.now) c.args.areas (g.B.Blocks.stands c.args.blocks.now) c.requires.blocks.most c.walk.result tells (g.met.B.Blocks.one c.args.blocks.now) c.walk.ensures.torn

@@ -35,8 +35,8 @@ returns-in_err-check_words_in-clause-err g c = λ tells.
     let walked = c.in_ok-walked.walked in
     let error = c.in_err-check_words_in.field-0.0 in
     let is_walked = c.in_ok-walked.ensures.ok tells in
-    let why = subst (λ (d : Disks). IsBreak error ⊎ TellsSlot read.members.areas (blocks_of d read) (holdings_of walked.holders) error) c.in_ok-walked.ensures.stays
-    (c.in_err-check_words_in.ensures.err (c.in_ok-walked.ensures.keeps_telling tells)) in
+    let why = subst (λ (d : Disks). IsBreak error ⊎ TellsSlot read.members.areas (blocks_of d read) (holdings_of walked.holders) error) c.in_ok-walked.ensures.rack.stays
+    (c.in_err-check_words_in.ensures.err (c.in_ok-walked.ensures.rack.keeps_telling tells)) in
     if_err (λ (e : AuditError). IsBreak e ⊎ (IsWrongFromRoot read.members.areas stands e × StandForNoTree read.members.areas stands)) error c.from_residual-in_err-check_words_in.result (p.1 ∙ ap Err p.2)
     (⊎_elim (λ broke. inl broke)
     (λ torn. inr (
@@ -48,8 +48,8 @@ returns-in_err-check_words_in-clause-err g c = λ tells.
 pub returns-clause-words : goal.returns-clause-words
 returns-clause-words g c = λ tells.
     let read = c.args.read.now in
-    subst (λ (d : Disks). AreWorded read.members.areas (blocks_of d read) (holdings_of c.in_ok-walked.walked.holders)) c.in_ok-walked.ensures.stays
-    (c.in_ok-check_words_in.ensures.ok (c.in_ok-walked.ensures.keeps_telling tells))
+    subst (λ (d : Disks). AreWorded read.members.areas (blocks_of d read) (holdings_of c.in_ok-walked.walked.holders)) c.in_ok-walked.ensures.rack.stays
+    (c.in_ok-check_words_in.ensures.ok (c.in_ok-walked.ensures.rack.keeps_telling tells))
 
 pub returns-in_err-check_links-clause-err : goal.returns-in_err-check_links-clause-err
 returns-in_err-check_links-clause-err g c = λ tells.
@@ -60,11 +60,11 @@ returns-in_err-check_links-clause-err g c = λ tells.
     let walked = c.in_ok-walked.walked in
     let error = c.in_err-check_links.field-0.0 in
     let is_walked = c.in_ok-walked.ensures.ok tells in
-    let keeps = c.in_ok-walked.ensures.keeps_telling tells in
-    let words = subst (λ (d : Disks). AreWorded read.members.areas (blocks_of d read) (holdings_of walked.holders)) c.in_ok-walked.ensures.stays (c.in_ok-check_words_in.ensures.ok keeps) in
+    let keeps = c.in_ok-walked.ensures.rack.keeps_telling tells in
+    let words = subst (λ (d : Disks). AreWorded read.members.areas (blocks_of d read) (holdings_of walked.holders)) c.in_ok-walked.ensures.rack.stays (c.in_ok-check_words_in.ensures.ok keeps) in
     let why = subst (λ (d : Disks). IsBreak error ⊎ (NamesFile read.members.areas (blocks_of d read) walked.tree error × (IsFileTree walked.tree → ⊥)))
-    (c.in_ok-check_words_in.ensures.stays ∙ c.in_ok-walked.ensures.stays)
-    (c.in_err-check_links.ensures.err (c.in_ok-check_words_in.ensures.keeps_telling keeps)) in
+    (c.in_ok-check_words_in.ensures.rack.stays ∙ c.in_ok-walked.ensures.rack.stays)
+    (c.in_err-check_links.ensures.err (c.in_ok-check_words_in.ensures.rack.keeps_telling keeps)) in
     if_err (λ (e : AuditError). IsBreak e ⊎ (IsWrongFromRoot read.members.areas stands e × StandForNoTree read.members.areas stands)) error c.from_residual-in_err-check_links.result (p.1 ∙ ap Err p.2)
     (⊎_elim (λ broke. inl broke)
     (λ torn. inr (

@@ -25,4 +25,4 @@ returns-in-Err-clause-err g c = λ tells.
 pub returns-in-Err-clause-counts : goal.returns-in-Err-clause-counts
 returns-in-Err-clause-counts g c =
     subst (λ (e : AuditError). UnlessFault {A = Unit {0}} (Err e) (g.B.Blocks.faults c.check_words.new.blocks ≡ g.B.Blocks.faults c.args.blocks.now)) (sym c.audit_error.ensures)
-    (counts_of (Unit {0}) c.in-Err.error (g.B.Blocks.faults c.args.blocks.now) (g.B.Blocks.faults c.args.blocks.now) (g.B.Blocks.faults c.check_words.new.blocks) refl c.in-Err.ensures.counts)
+    (counts_of (Unit {0}) c.in-Err.error (g.B.Blocks.faults c.args.blocks.now) (g.B.Blocks.faults c.args.blocks.now) (g.B.Blocks.faults c.check_words.new.blocks) refl c.in-Err.ensures.blocks.counts)

@@ -1,4 +1,4 @@
-use Rattle.std.proofs.Common.{◌<◌, length, List, ap, ◌∙◌, Err, subst}
+use Rattle.std.proofs.Common.{◌<◌, length, List, ap, ◌∙◌, Err, subst, arith}
 use Rattle.std.specs.Prelude.{All}
 use Rattle.std.proofs.lemmas.Result.{err_from_is_err_and}
 use Rattle.std.proofs.lemmas.List.{take_all}
@@ -16,11 +16,7 @@ loop-piece-preserved g c =
     let k = c.loop-piece.piece-index in
     let less : k < length pieces = c.loop-piece-test.true in
     record {
-      ready = c.in_ok-put_piece.ensures.keeps_ready;
-      telling = λ tells. c.in_ok-put_piece.ensures.keeps_telling (c.loop-piece.invariant.telling tells);
-      none_rose = c.in_ok-put_piece.ensures.counts ∙ c.loop-piece.invariant.none_rose;
-      areas_are = c.in_ok-put_piece.ensures.keeps_areas ∙ c.loop-piece.invariant.areas_are;
-      lender_is = c.in_ok-put_piece.ensures.keeps_lender ∙ c.loop-piece.invariant.lender_is;
+      blocks = grind arith;
       shows = λ chunks shows. c.in_ok-put_piece.ensures.shows chunks (c.loop-piece.invariant.shows chunks shows);
       len = c.in_ok-put_piece.ensures.len c.loop-piece.invariant.len;
       read = λ chunks shows.

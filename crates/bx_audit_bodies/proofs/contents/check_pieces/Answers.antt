@@ -1,4 +1,4 @@
-use Rattle.std.proofs.Common.{ap, ◌∙◌, Err, subst}
+use Rattle.std.proofs.Common.{ap, ◌∙◌, Err, subst, arith}
 use Rattle.std.specs.Prelude.{All}
 use Rattle.std.proofs.lemmas.Result.{err_from_is_err_and}
 use Rattle.std.proofs.lemmas.List.{take_all}
@@ -10,11 +10,7 @@ use Rattle.bx_audit_bodies.proofs.contents.check_pieces.Goals as goal
 
 pub loop-piece-preserved : goal.loop-piece-preserved
 loop-piece-preserved g c = record {
-  ready = c.in_ok-clear_block.ensures.keeps_ready;
-  telling = λ tells. c.in_ok-clear_block.ensures.keeps_telling (c.loop-piece.invariant.telling tells);
-  none_rose = c.in_ok-clear_block.ensures.counts ∙ c.loop-piece.invariant.none_rose;
-  areas_are = c.in_ok-clear_block.ensures.keeps_areas ∙ c.loop-piece.invariant.areas_are;
-  lender_is = c.in_ok-clear_block.ensures.keeps_lender ∙ c.loop-piece.invariant.lender_is;
+  blocks = grind arith;
   shows = λ chunks shows. c.in_ok-clear_block.ensures.shows chunks (c.loop-piece.invariant.shows chunks shows);
   clear = λ chunks shows.
       let is = c.in_ok-clear_block.ensures.ok chunks (c.loop-piece.invariant.shows chunks shows) in

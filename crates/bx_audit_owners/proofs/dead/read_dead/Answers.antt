@@ -1,4 +1,4 @@
-use Rattle.std.proofs.Common.{Err, ◌≡◌, ℕ, ◌+◌, ◌<◌, ◌⊎◌, ⊎_elim, false, Some, arith, length, refl, sym, ap, subst, ◌∙◌}
+use Rattle.std.proofs.Common.{Err, ◌≡◌, ℕ, ◌+◌, ◌<◌, ◌⊎◌, ⊎_elim, false, Some, arith, length, sym, ap, subst, ◌∙◌}
 use Rattle.std.specs.Prelude.{slice_index_or}
 use Rattle.std.proofs.lemmas.Result.{err_from_is_err_and}
 use Rattle.bx_audit_slots.specs.declared.slots.UsedSlot.{UsedSlot}
@@ -16,15 +16,11 @@ below_or n m less = grind (arith, less)
 
 pub loop-slot-init : goal.loop-slot-init
 loop-slot-init g c = record {
-  ready = c.requires.ready;
-  none_rose = refl;
-  areas_are = refl;
-  lender_is = refl;
+  blocks = grind arith;
   shows = λ chunks shows. shows;
   found = λ chunks files shows started. started;
   marked = λ k slot less. absurd (omega (arith, less));
   still = λ at held some. some;
-  telling = λ tells. tells;
 }
 
 pub returns-in_err-read_slot-clause-torn : goal.returns-in_err-read_slot-clause-torn
@@ -55,10 +51,7 @@ unfolding no_slot
 loop-slot-preserved g c =
     let within : c.loop-slot.slot-index < length c.args.slots.now = omega arith in
     record {
-      ready = c.in_ok-read_slot.ensures.keeps_ready;
-      none_rose = c.in_ok-read_slot.ensures.counts ∙ c.loop-slot.invariant.none_rose;
-      areas_are = c.in_ok-read_slot.ensures.keeps_areas ∙ c.loop-slot.invariant.areas_are;
-      lender_is = c.in_ok-read_slot.ensures.keeps_lender ∙ c.loop-slot.invariant.lender_is;
+      blocks = grind arith;
       shows = λ chunks shows. c.in_ok-read_slot.ensures.shows chunks (c.loop-slot.invariant.shows chunks shows);
       found = λ chunks files shows started. c.in_ok-read_slot.ensures.ok chunks files (c.loop-slot.invariant.shows chunks shows) (c.loop-slot.invariant.found chunks files shows started);
       marked = λ k slot less is dead. ⊎_elim
@@ -69,7 +62,6 @@ loop-slot-preserved g c =
           subst (λ (s : UsedSlot). holdings_of c.read_slot.new.holders s.handle ≡ Some OfDead) (sym one) (c.in_ok-read_slot.ensures.marked (ap (λ (s : UsedSlot). s.dead) (sym one) ∙ dead)))
           (below_or k c.loop-slot.slot-index less);
       still = λ at held some. c.in_ok-read_slot.ensures.still at held (c.loop-slot.invariant.still at held some);
-      telling = λ tells. c.in_ok-read_slot.ensures.keeps_telling (c.loop-slot.invariant.telling tells);
     }
 
 pub returns-clause-marked : goal.returns-clause-marked

@@ -16,11 +16,7 @@ pub loop-at-init : goal.loop-at-init
 loop-at-init g c =
     let one : c.push.new.self.items ≡ root_handle ∷ [] = c.in_ok-push.ensures.items ∙ ap (λ (l : List ℕ). l ++ root_handle ∷ []) c.new-met.ensures.items in
     record {
-      ready = c.requires.ready;
-      telling = λ tells. tells;
-      none_rose = refl;
-      areas_are = refl;
-      lender_is = refl;
+      blocks = grind arith;
       shows = λ chunks shows. shows;
       under = λ chunks shows. subst (λ (l : List ℕ). IsUnderWay chunks (holdings_of c.new.result) c.new-2.result l) (sym one)
           (subst (λ (h : Holdings). IsUnderWay chunks h c.new-2.result (root_handle ∷ [])) (sym (none_held c.new.result c.new.ensures.empty))
@@ -59,11 +55,7 @@ loop-at-preserved g c =
     let now = holdings_of c.meet.new.found.holders in
     let step = c.in_ok-meet.ensures.step in
     record {
-      ready = c.in_ok-meet.ensures.keeps_ready;
-      telling = λ tells. c.in_ok-meet.ensures.keeps_telling (c.loop-at.invariant.telling tells);
-      none_rose = c.in_ok-meet.ensures.counts ∙ c.loop-at.invariant.none_rose;
-      areas_are = c.in_ok-meet.ensures.keeps_areas ∙ c.loop-at.invariant.areas_are;
-      lender_is = c.in_ok-meet.ensures.keeps_lender ∙ c.loop-at.invariant.lender_is;
+      blocks = grind arith;
       shows = λ chunks shows. c.in_ok-meet.ensures.shows chunks (c.loop-at.invariant.shows chunks shows);
       under = λ chunks shows.
           let still = c.loop-at.invariant.shows chunks shows in

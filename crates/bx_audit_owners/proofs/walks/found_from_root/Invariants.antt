@@ -1,4 +1,4 @@
-use Rattle.std.proofs.Common.{◌≡◌, ℕ, ◌<◌, ◌≤◌, length, get_or, Some}
+use Rattle.std.proofs.Common.{◌≡◌, ℕ, ◌<◌, ◌≤◌, length, get_or, Some, Ok}
 use Rattle.std.specs.Prelude.{Contains}
 use Rattle.bx_audit_owners.specs.declared.holders.Holder.TheVariants.{File as OfFile}
 use Rattle.bx_audit_owners.specs.Found.{AreOrdered}
@@ -7,16 +7,13 @@ use Rattle.bx_audit_owners.proofs.Walking.{IsUnderWay}
 use Rattle.bx_audit_trees.specs.Shown.{Shows}
 use Rattle.bx_model.specs.Opening.{root_handle}
 use Rattle.bx_truth.specs.PageTrees.{Chunks}
+use Rattle.bx_audit_trees.specs.Reading.{ReadsChunks, StillShows}
 use Rattle.bx_audit_owners.proofs.walks.found_from_root.Given as goal
 
 abbrev pub invariant-loop-at : goal.invariant-loop-at
 invariant-loop-at g l = record {
-  ready : g.B.Blocks.ready l.blocks;
-  telling : g.B.Blocks.tells l.fn.blocks → g.B.Blocks.tells l.blocks;
-  none_rose : g.B.Blocks.faults l.blocks ≡ g.B.Blocks.faults l.fn.blocks;
-  areas_are : g.B.Blocks.areas l.blocks ≡ g.B.Blocks.areas l.fn.blocks;
-  lender_is : g.B.Blocks.lender l.blocks ≡ g.B.Blocks.lender l.fn.blocks;
-  shows : (chunks : Chunks) → Shows (g.B.Blocks.tells l.fn.blocks) l.areas (g.B.Blocks.stands l.fn.blocks) chunks → Shows (g.B.Blocks.tells l.blocks) l.areas (g.B.Blocks.stands l.blocks) chunks;
+  blocks : ReadsChunks {A = Unit {0}} g.B.Blocks l.fn.blocks l.blocks (Ok tt);
+  shows : StillShows g.B.Blocks l.areas l.fn.blocks l.blocks;
   under : (chunks : Chunks) → Shows (g.B.Blocks.tells l.fn.blocks) l.areas (g.B.Blocks.stands l.fn.blocks) chunks → IsUnderWay chunks (holdings_of l.found.holders) l.found.files l.met.items;
   within : l.at ≤ length l.met.items;
   root : Contains l.met.items root_handle;

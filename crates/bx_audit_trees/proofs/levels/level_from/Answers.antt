@@ -1,4 +1,4 @@
-use Rattle.std.proofs.Common.{ℕ, ◌≤◌, length, get_or, List, [], ◌∷◌, ◌++◌, Some, Err, sym, ap, subst, ◌∙◌}
+use Rattle.std.proofs.Common.{ℕ, ◌≤◌, length, get_or, List, [], ◌∷◌, ◌++◌, Some, Err, sym, ap, subst, ◌∙◌, arith}
 use Rattle.std.proofs.lemmas.Result.{err_from_is_err_and}
 use Rattle.std.proofs.lemmas.List.{append_assoc}
 use Rattle.std.proofs.lemmas.List.Elements.{All-push}
@@ -46,11 +46,7 @@ loop-begins-preserved g c =
     let above : IsBelow c.loop-begins.begins c.in-Some.high =
     subst (λ (k : List ℕ). IsBelow k c.in-Some.high) c.bytes.ensures (of_some (λ (n : ℕ × List ℕ). IsBelow c.bytes.result.now n.1) c.in_ok-page.next next c.in-Some.is c.in_ok-page.ensures.above) in
     record {
-      ready = c.in_ok-page.ensures.keeps_ready;
-      telling = λ tells. c.in_ok-page.ensures.keeps_telling (c.loop-begins.invariant.telling tells);
-      none_rose = c.in_ok-page.ensures.counts ∙ c.loop-begins.invariant.none_rose;
-      areas_are = c.in_ok-page.ensures.keeps_areas ∙ c.loop-begins.invariant.areas_are;
-      lender_is = c.in_ok-page.ensures.keeps_lender ∙ c.loop-begins.invariant.lender_is;
+      blocks = grind arith;
       shows = λ chunks shows. c.in_ok-page.ensures.shows chunks (c.loop-begins.invariant.shows chunks shows);
       short = of_some (λ (n : ℕ × List ℕ). length n.1 ≤ 256) c.in_ok-page.next next c.in-Some.is c.in_ok-page.ensures.short;
       rise = subst BeginningsRise (sym c.in_ok-push.ensures.items) (all_pairs_push (λ (a b : Node). IsBelow a.begins b.begins) old node c.loop-begins.invariant.rise c.loop-begins.invariant.below);

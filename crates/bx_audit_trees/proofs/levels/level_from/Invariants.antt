@@ -1,4 +1,4 @@
-use Rattle.std.proofs.Common.{◌≡◌, ◌≤◌, List, [], ◌++◌, length}
+use Rattle.std.proofs.Common.{◌≤◌, List, [], ◌++◌, length, Ok}
 use Rattle.std.specs.Prelude.{All}
 use Rattle.bx_page.specs.Keys.{IsBelow}
 use Rattle.bx_truth.specs.PageTrees.{Chunks, Node}
@@ -8,16 +8,13 @@ use Rattle.bx_audit_trees.specs.Room.{room_above}
 use Rattle.bx_audit_trees.specs.Shown.{Shows}
 use Rattle.bx_audit_trees.specs.Torn.{ComesTo}
 use Rattle.bx_audit_trees.proofs.Walk.{Walks}
+use Rattle.bx_audit_trees.specs.Reading.{ReadsChunks, StillShows}
 use Rattle.bx_audit_trees.proofs.levels.level_from.Given as goal
 
 abbrev pub invariant-loop-begins : goal.invariant-loop-begins
 invariant-loop-begins g l = record {
-  ready : g.B.Blocks.ready l.blocks;
-  telling : g.B.Blocks.tells l.fn.blocks → g.B.Blocks.tells l.blocks;
-  none_rose : g.B.Blocks.faults l.blocks ≡ g.B.Blocks.faults l.fn.blocks;
-  areas_are : g.B.Blocks.areas l.blocks ≡ g.B.Blocks.areas l.fn.blocks;
-  lender_is : g.B.Blocks.lender l.blocks ≡ g.B.Blocks.lender l.fn.blocks;
-  shows : (chunks : Chunks) → Shows (g.B.Blocks.tells l.fn.blocks) l.areas (g.B.Blocks.stands l.fn.blocks) chunks → Shows (g.B.Blocks.tells l.blocks) l.areas (g.B.Blocks.stands l.blocks) chunks;
+  blocks : ReadsChunks {A = Unit {0}} g.B.Blocks l.fn.blocks l.blocks (Ok tt);
+  shows : StillShows g.B.Blocks l.areas l.fn.blocks l.blocks;
   here : (chunks : Chunks) → Shows (g.B.Blocks.tells l.fn.blocks) l.areas (g.B.Blocks.stands l.fn.blocks) chunks → IsLedTo chunks l.first l.handle;
   met : (chunks : Chunks) → Shows (g.B.Blocks.tells l.fn.blocks) l.areas (g.B.Blocks.stands l.fn.blocks) chunks → ComesTo chunks l.level l.first l.begins l.handle;
   led : (chunks : Chunks) → Shows (g.B.Blocks.tells l.fn.blocks) l.areas (g.B.Blocks.stands l.fn.blocks) chunks → AreLedTo chunks l.first l.pages.items;

@@ -17,11 +17,7 @@ returns-in_err-top-clause-torn g c = λ chunks shows.
 
 pub loop-level-init : goal.loop-level-init
 loop-level-init g c = record {
-  ready = c.in_ok-top.ensures.keeps_ready;
-  telling = c.in_ok-top.ensures.keeps_telling;
-  none_rose = c.in_ok-top.ensures.counts;
-  areas_are = c.in_ok-top.ensures.keeps_areas;
-  lender_is = c.in_ok-top.ensures.keeps_lender;
+  blocks = grind arith;
   shows = c.in_ok-top.ensures.shows;
   rise = c.in_ok-top.ensures.rise;
   led = λ chunks shows. c.in_ok-top.ensures.led chunks;
@@ -53,11 +49,7 @@ loop-level-preserved g c =
     let same : low ≡ c.deref.result.now = sym (c.deref.ensures.value ∙ c.lowest.view_is) in
     let turned : low ∷ reverse old ≡ reverse c.push.new.self.items = sym (ap reverse c.in_ok-push.ensures.items ∙ reverse-append old (low ∷ [])) in
     record {
-      ready = c.in_ok-below.ensures.keeps_ready;
-      telling = λ tells. c.in_ok-below.ensures.keeps_telling (c.loop-level.invariant.telling tells);
-      none_rose = c.in_ok-below.ensures.counts ∙ c.loop-level.invariant.none_rose;
-      areas_are = c.in_ok-below.ensures.keeps_areas ∙ c.loop-level.invariant.areas_are;
-      lender_is = c.in_ok-below.ensures.keeps_lender ∙ c.loop-level.invariant.lender_is;
+      blocks = grind arith;
       shows = λ chunks shows. c.in_ok-below.ensures.shows chunks (c.loop-level.invariant.shows chunks shows);
       rise = c.in_ok-below.ensures.rise;
       led = λ chunks shows.

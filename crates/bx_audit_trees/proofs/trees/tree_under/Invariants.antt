@@ -1,19 +1,16 @@
-use Rattle.std.proofs.Common.{◌≡◌, ◌≤◌, ◌∷◌, reverse}
+use Rattle.std.proofs.Common.{◌≡◌, ◌≤◌, ◌∷◌, reverse, Ok}
 use Rattle.bx_truth.specs.PageTrees.{Chunks, PageTree, IsTree}
 use Rattle.bx_audit_trees.specs.Leading.{AreLedTo}
 use Rattle.bx_audit_trees.specs.Pages.{BeginningsRise}
 use Rattle.bx_audit_trees.specs.Shown.{Shows}
 use Rattle.bx_audit_trees.proofs.Descents.{Stack}
+use Rattle.bx_audit_trees.specs.Reading.{ReadsChunks, StillShows}
 use Rattle.bx_audit_trees.proofs.trees.tree_under.Given as goal
 
 abbrev pub invariant-loop-level : goal.invariant-loop-level
 invariant-loop-level g l = record {
-  ready : g.B.Blocks.ready l.blocks;
-  telling : g.B.Blocks.tells l.fn.blocks → g.B.Blocks.tells l.blocks;
-  none_rose : g.B.Blocks.faults l.blocks ≡ g.B.Blocks.faults l.fn.blocks;
-  areas_are : g.B.Blocks.areas l.blocks ≡ g.B.Blocks.areas l.fn.blocks;
-  lender_is : g.B.Blocks.lender l.blocks ≡ g.B.Blocks.lender l.fn.blocks;
-  shows : (chunks : Chunks) → Shows (g.B.Blocks.tells l.fn.blocks) l.areas (g.B.Blocks.stands l.fn.blocks) chunks → Shows (g.B.Blocks.tells l.blocks) l.areas (g.B.Blocks.stands l.blocks) chunks;
+  blocks : ReadsChunks {A = Unit {0}} g.B.Blocks l.fn.blocks l.blocks (Ok tt);
+  shows : StillShows g.B.Blocks l.areas l.fn.blocks l.blocks;
   led : (chunks : Chunks) → Shows (g.B.Blocks.tells l.fn.blocks) l.areas (g.B.Blocks.stands l.fn.blocks) chunks → AreLedTo chunks l.root l.lowest;
   rise : BeginningsRise l.lowest;
   read : (chunks : Chunks) → Shows (g.B.Blocks.tells l.fn.blocks) l.areas (g.B.Blocks.stands l.fn.blocks) chunks → Stack chunks l.root l.level (l.lowest ∷ reverse l.levels.items);

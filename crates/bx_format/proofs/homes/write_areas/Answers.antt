@@ -12,28 +12,23 @@ put_home-requires-clause-parts g c = subst HasParts (sym c.in_ok-block.ensures) 
 
 pub loop-area-preserved : goal.loop-area-preserved
 loop-area-preserved g c =
-    let before = c.loop-area.invariant.no_fault in
-    let this = c.in_ok-put_home.ensures.no_fault in
     record {
       blocks = λ tells holds.
-          let told = c.loop-area.invariant.tells tells in
+          let told = c.loop-area.invariant.rack.keeps_telling tells in
           same_blocks _ c.args.devices c.args.areas _ (areas_truth (c.loop-area.area + 1)) (c.in_ok-put_home.ensures.puts (areas_truth c.loop-area.area) told (c.loop-area.invariant.blocks tells holds))
           (λ at is.
           ap (λ (n : ℕ). with_block (areas_truth c.loop-area.area) (1024 * n + 960) c.in_ok-block.block at) c.from.ensures
           ∙ ap (λ (block : Block). with_block (areas_truth c.loop-area.area) (1024 * c.loop-area.area + 960) block at) c.in_ok-block.ensures ∙ one_area c.loop-area.area at);
       front = λ tells.
           let first = c.loop-area.invariant.front tells in
-          let next = c.put_home.ensures.front (c.loop-area.invariant.tells tells) in
+          let next = c.put_home.ensures.front (c.loop-area.invariant.rack.keeps_telling tells) in
           record { reads = λ d s less. next.reads d s less ∙ first.reads d s less };
-      spares = λ tells. spares_then IsLabelSector _ _ _ _ _ _ _ _ _ (c.loop-area.invariant.spares tells) (c.put_home.ensures.spares (c.loop-area.invariant.tells tells));
-      later = grind arith;
-      no_fault = record { all = this.all ∙ before.all; each = λ d. this.each d ∙ before.each d };
-      sizes = c.put_home.ensures.sizes ∙ c.loop-area.invariant.sizes;
-      tells = λ tells. c.put_home.ensures.keeps_telling (c.loop-area.invariant.tells tells);
+      spares = λ tells. spares_then IsLabelSector _ _ _ _ _ _ _ _ _ (c.loop-area.invariant.spares tells) (c.put_home.ensures.spares (c.loop-area.invariant.rack.keeps_telling tells));
+      rack = grind arith;
     }
 
 pub returns-in_err-put_home-clause-spares : goal.returns-in_err-put_home-clause-spares
-returns-in_err-put_home-clause-spares g c = λ tells. spares_then IsLabelSector _ _ _ _ _ _ _ _ _ (c.loop-area.invariant.spares tells) (c.put_home.ensures.spares (c.loop-area.invariant.tells tells))
+returns-in_err-put_home-clause-spares g c = λ tells. spares_then IsLabelSector _ _ _ _ _ _ _ _ _ (c.loop-area.invariant.spares tells) (c.put_home.ensures.spares (c.loop-area.invariant.rack.keeps_telling tells))
 
 pub returns-in_err-block-clause-spares : goal.returns-in_err-block-clause-spares
 returns-in_err-block-clause-spares g c = c.loop-area.invariant.spares

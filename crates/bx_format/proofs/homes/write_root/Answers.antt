@@ -21,7 +21,7 @@ pub returns-in_err-page-clause-spares : goal.returns-in_err-page-clause-spares
 returns-in_err-page-clause-spares g c = λ tells. c.put_home.ensures.spares tells
 
 pub returns-in_err-put_home-2-clause-spares : goal.returns-in_err-put_home-2-clause-spares
-returns-in_err-put_home-2-clause-spares g c = λ tells. spares_then IsLabelSector _ _ _ _ _ _ _ _ _ (c.put_home.ensures.spares tells) (c.put_home-2.ensures.spares (c.put_home.ensures.keeps_telling tells))
+returns-in_err-put_home-2-clause-spares g c = λ tells. spares_then IsLabelSector _ _ _ _ _ _ _ _ _ (c.put_home.ensures.spares tells) (c.put_home-2.ensures.spares (c.put_home.ensures.rack.keeps_telling tells))
 
 pub returns-clause-spares : goal.returns-clause-spares
-returns-clause-spares g c = λ tells. spares_then IsLabelSector _ _ _ _ _ _ _ _ _ (c.put_home.ensures.spares tells) (c.put_home-2.ensures.spares (c.put_home.ensures.keeps_telling tells))
+returns-clause-spares g c = λ tells. spares_then IsLabelSector _ _ _ _ _ _ _ _ _ (c.put_home.ensures.spares tells) (c.put_home-2.ensures.spares (c.put_home.ensures.rack.keeps_telling tells))

@@ -1,5 +1,5 @@
-use Rattle.std.proofs.Common.{◌≡◌, ℕ, ◌<◌, false}
-use Rattle.bx_disk.specs.Counts.{NoneFalls, NoneRose}
+use Rattle.std.proofs.Common.{◌≡◌, ℕ, ◌<◌, false, Ok}
+use Rattle.bx_disk.specs.Kept.{Faults}
 use Rattle.bx_format.specs.Moments.{IsAnySector, Spares}
 use Rattle.bx_format.proofs.labels.sync_all.Given as goal
 
@@ -8,8 +8,5 @@ invariant-loop-disk g l = record {
   sure : (d s : ℕ) → g.R.Rack.tells l.fn.rack → d < l.disk → (g.R.Rack.state l.rack).unsure d s ≡ false;
   reads : g.R.Rack.tells l.fn.rack → (g.R.Rack.state l.rack).reads ≡ (g.R.Rack.state l.fn.rack).reads;
   spares : g.R.Rack.tells l.fn.rack → Spares IsAnySector (g.R.Rack.state l.fn.rack) (g.R.Rack.state l.rack) (g.R.Rack.moment l.fn.rack) (g.R.Rack.moment l.rack) (g.R.Rack.left_since l.fn.rack) (g.R.Rack.left_since l.rack);
-  later : NoneFalls (g.R.Rack.faults l.fn.rack) (g.R.Rack.faults l.rack) (g.R.Rack.faults_of l.fn.rack) (g.R.Rack.faults_of l.rack);
-  no_fault : NoneRose (g.R.Rack.faults l.fn.rack) (g.R.Rack.faults l.rack) (g.R.Rack.faults_of l.fn.rack) (g.R.Rack.faults_of l.rack);
-  sizes : (g.R.Rack.state l.rack).sizes ≡ (g.R.Rack.state l.fn.rack).sizes;
-  tells : g.R.Rack.tells l.fn.rack → g.R.Rack.tells l.rack;
+  rack : Faults {A = Unit {0}} g.R.Rack l.fn.rack l.rack (Ok tt);
 }

@@ -1,5 +1,5 @@
-use Rattle.std.proofs.Common.{◌≡◌, length}
-use Rattle.bx_disk.specs.Counts.{NoneFalls, NoneRose}
+use Rattle.std.proofs.Common.{◌≡◌, length, Ok}
+use Rattle.bx_disk.specs.Kept.{Fails}
 use Rattle.bx_format.specs.Formats.{HasLabels, KeepsBehind}
 use Rattle.bx_format.specs.Moments.{IsBehindLabel, Spares}
 use Rattle.bx_format.proofs.labels.write_labels.Given as goal
@@ -10,8 +10,5 @@ invariant-loop-disk g l = record {
   behind : g.R.Rack.tells l.fn.rack → KeepsBehind (g.R.Rack.state l.fn.rack) (g.R.Rack.state l.rack);
   sector : length l.sector ≡ 512;
   spares : g.R.Rack.tells l.fn.rack → Spares IsBehindLabel (g.R.Rack.state l.fn.rack) (g.R.Rack.state l.rack) (g.R.Rack.moment l.fn.rack) (g.R.Rack.moment l.rack) (g.R.Rack.left_since l.fn.rack) (g.R.Rack.left_since l.rack);
-  later : NoneFalls (g.R.Rack.faults l.fn.rack) (g.R.Rack.faults l.rack) (g.R.Rack.faults_of l.fn.rack) (g.R.Rack.faults_of l.rack);
-  no_fault : NoneRose (g.R.Rack.faults l.fn.rack) (g.R.Rack.faults l.rack) (g.R.Rack.faults_of l.fn.rack) (g.R.Rack.faults_of l.rack);
-  sizes : (g.R.Rack.state l.rack).sizes ≡ (g.R.Rack.state l.fn.rack).sizes;
-  tells : g.R.Rack.tells l.fn.rack → g.R.Rack.tells l.rack;
+  rack : Fails {A = Unit {0}} g.R.Rack l.fn.rack l.rack (Ok tt);
 }

@@ -9,7 +9,7 @@ use Rattle.bx_homes.proofs.gates.open_gates.Goals as goal
 
 pub returns-then-not-branch-clause-records : goal.returns-then-not-branch-clause-records
 returns-then-not-branch-clause-records g c = λ tells areas records log.
-    let told = c.loop-gate.invariant.tells tells in
+    let told = c.loop-gate.invariant.rack.keeps_telling tells in
     let was = c.loop-gate.invariant.stays in
     let answer = c.in_ok-is_open.ensures.answer told in
     as_many (devices_of (g.R.Rack.state c.args.rack.now).reads (λ device sector. c.args.second)) c.args.devices areas c.args.slot c.loop-gate.gate records

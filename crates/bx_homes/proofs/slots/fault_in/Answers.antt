@@ -10,12 +10,8 @@ below_or n m less = grind (arith, less)
 
 pub loop-slot-init : goal.loop-slot-init
 loop-slot-init g c = record {
-  ready = c.in_ok-slots.ensures.keeps_ready;
-  none_rose = c.in_ok-slots.ensures.no_fault;
-  areas_are = c.in_ok-slots.ensures.keeps_areas;
-  lender_is = c.in_ok-slots.ensures.keeps_lender;
+  blocks = grind arith;
   stays = c.in_ok-slots.ensures.stays;
-  tells = c.in_ok-slots.ensures.keeps_telling;
   is = of_some _ c.in_ok-slots.field-0 c.in-Some.slots c.in-Some.is c.in_ok-slots.ensures.is;
   own = λ tells. of_some _ c.in_ok-slots.field-0 c.in-Some.slots c.in-Some.is (c.in_ok-slots.ensures.own tells);
   spells = λ tells. of_some _ c.in_ok-slots.field-0 c.in-Some.slots c.in-Some.is (c.in_ok-slots.ensures.spells tells);
@@ -26,12 +22,8 @@ loop-slot-init g c = record {
 
 pub loop-slot-preserved : goal.loop-slot-preserved
 loop-slot-preserved g c = record {
-  ready = c.in_ok-has_header.ensures.keeps_ready;
-  none_rose = c.in_ok-has_header.ensures.no_fault ∙ c.loop-slot.invariant.none_rose;
-  areas_are = c.in_ok-has_header.ensures.keeps_areas ∙ c.loop-slot.invariant.areas_are;
-  lender_is = c.in_ok-has_header.ensures.keeps_lender ∙ c.loop-slot.invariant.lender_is;
-  stays = λ tells. stays_then (g.B.Blocks.stands c.args.blocks.now) (g.B.Blocks.stands c.loop-slot.blocks) (g.B.Blocks.stands c.has_header.new.blocks) (c.loop-slot.invariant.stays tells) (c.in_ok-has_header.ensures.stays (c.loop-slot.invariant.tells tells));
-  tells = λ tells. c.in_ok-has_header.ensures.keeps_telling (c.loop-slot.invariant.tells tells);
+  blocks = grind arith;
+  stays = λ tells. stays_then (g.B.Blocks.stands c.args.blocks.now) (g.B.Blocks.stands c.loop-slot.blocks) (g.B.Blocks.stands c.has_header.new.blocks) (c.loop-slot.invariant.stays tells) (c.in_ok-has_header.ensures.stays (c.loop-slot.invariant.blocks.keeps_telling tells));
   is = c.loop-slot.invariant.is;
   own = c.loop-slot.invariant.own;
   spells = c.loop-slot.invariant.spells;
@@ -40,13 +32,13 @@ loop-slot-preserved g c = record {
       (λ before. c.loop-slot.invariant.there tells slot before)
       (λ same. subst (λ (n : ℕ). HasBlock (g.B.Blocks.stands c.args.blocks.now) (1024 * c.args.area + n)) (sym same)
       (was_there (g.B.Blocks.stands c.args.blocks.now) (g.B.Blocks.stands c.loop-slot.blocks) (1024 * c.args.area + c.loop-slot.slot) (c.loop-slot.invariant.stays tells)
-      (c.in_ok-has_header.ensures.there (c.loop-slot.invariant.tells tells) c.if-not-branch.false)))
+      (c.in_ok-has_header.ensures.there (c.loop-slot.invariant.blocks.keeps_telling tells) c.if-not-branch.false)))
       (below_or slot c.loop-slot.slot less);
   done = λ tells truth are slot less. ⊎_elim
       (λ before. c.loop-slot.invariant.done tells truth are slot before)
       (λ same. subst (λ (n : ℕ). HasHeader truth (1024 * c.args.area + n)) (sym same)
-      (c.in_ok-has_header.ensures.yes (c.loop-slot.invariant.tells tells) c.if-not-branch.false truth
-      (subst (λ (n : ℕ). AreBlocks n (g.B.Blocks.stands c.loop-slot.blocks) truth) (sym c.loop-slot.invariant.areas_are)
+      (c.in_ok-has_header.ensures.yes (c.loop-slot.invariant.blocks.keeps_telling tells) c.if-not-branch.false truth
+      (subst (λ (n : ℕ). AreBlocks n (g.B.Blocks.stands c.loop-slot.blocks) truth) (sym c.loop-slot.invariant.blocks.keeps_areas)
       (are_still (g.B.Blocks.areas c.args.blocks.now) (g.B.Blocks.stands c.args.blocks.now) (g.B.Blocks.stands c.loop-slot.blocks) truth (c.loop-slot.invariant.stays tells) are))
       (c.loop-slot.invariant.spells tells truth are)))
       (below_or slot c.loop-slot.slot less);
@@ -71,8 +63,8 @@ returns-then-not-branch-clause-some g c = λ tells truth are. inr record {
   at_is = c.in_ok-wrong-2.ensures.at;
   own = c.loop-slot.invariant.own tells truth are;
   before = c.loop-slot.invariant.done tells truth are;
-  wrong = c.in_ok-has_header.ensures.no (c.loop-slot.invariant.tells tells) c.if-not-branch.true truth
-      (subst (λ (n : ℕ). AreBlocks n (g.B.Blocks.stands c.loop-slot.blocks) truth) (sym c.loop-slot.invariant.areas_are)
+  wrong = c.in_ok-has_header.ensures.no (c.loop-slot.invariant.blocks.keeps_telling tells) c.if-not-branch.true truth
+      (subst (λ (n : ℕ). AreBlocks n (g.B.Blocks.stands c.loop-slot.blocks) truth) (sym c.loop-slot.invariant.blocks.keeps_areas)
       (are_still (g.B.Blocks.areas c.args.blocks.now) (g.B.Blocks.stands c.args.blocks.now) (g.B.Blocks.stands c.loop-slot.blocks) truth (c.loop-slot.invariant.stays tells) are))
       (c.loop-slot.invariant.spells tells truth are);
 }

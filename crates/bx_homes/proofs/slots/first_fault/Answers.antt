@@ -13,30 +13,26 @@ returns-in-Some-clause-some g c = λ tells truth are. record {
   area = c.loop-area.area;
   there = omega (arith, c.loop-area-test.true);
   before = c.loop-area.invariant.done tells truth are;
-  fault = of_some _ c.in_ok-wrong.field-0 c.in-Some.wrong c.in-Some.is (c.in_ok-wrong.ensures.some (c.loop-area.invariant.tells tells)) truth
-      (subst (λ (n : ℕ). AreBlocks n (g.B.Blocks.stands c.loop-area.blocks) truth) (sym (c.loop-area.invariant.areas_are ∙ c.requires.areas))
+  fault = of_some _ c.in_ok-wrong.field-0 c.in-Some.wrong c.in-Some.is (c.in_ok-wrong.ensures.some (c.loop-area.invariant.blocks.keeps_telling tells)) truth
+      (subst (λ (n : ℕ). AreBlocks n (g.B.Blocks.stands c.loop-area.blocks) truth) (sym (c.loop-area.invariant.blocks.keeps_areas ∙ c.requires.blocks.areas_are))
       (are_still c.args.areas (g.B.Blocks.stands c.args.blocks.now) (g.B.Blocks.stands c.loop-area.blocks) truth (c.loop-area.invariant.stays tells) are));
 }
 
 pub loop-area-preserved : goal.loop-area-preserved
 loop-area-preserved g c = record {
-  ready = c.in_ok-wrong.ensures.keeps_ready;
-  none_rose = c.in_ok-wrong.ensures.no_fault ∙ c.loop-area.invariant.none_rose;
-  areas_are = c.in_ok-wrong.ensures.keeps_areas ∙ c.loop-area.invariant.areas_are;
-  lender_is = c.in_ok-wrong.ensures.keeps_lender ∙ c.loop-area.invariant.lender_is;
-  stays = λ tells. stays_then (g.B.Blocks.stands c.args.blocks.now) (g.B.Blocks.stands c.loop-area.blocks) (g.B.Blocks.stands c.fault_in.new.blocks) (c.loop-area.invariant.stays tells) (c.in_ok-wrong.ensures.stays (c.loop-area.invariant.tells tells));
-  tells = λ tells. c.in_ok-wrong.ensures.keeps_telling (c.loop-area.invariant.tells tells);
+  blocks = grind arith;
+  stays = λ tells. stays_then (g.B.Blocks.stands c.args.blocks.now) (g.B.Blocks.stands c.loop-area.blocks) (g.B.Blocks.stands c.fault_in.new.blocks) (c.loop-area.invariant.stays tells) (c.in_ok-wrong.ensures.stays (c.loop-area.invariant.blocks.keeps_telling tells));
   there = λ tells other less. ⊎_elim
       (λ before. c.loop-area.invariant.there tells other before)
       (λ same. subst (HasArea (g.B.Blocks.stands c.args.blocks.now)) (sym same)
       (area_was_there (g.B.Blocks.stands c.args.blocks.now) (g.B.Blocks.stands c.loop-area.blocks) c.loop-area.area (c.loop-area.invariant.stays tells)
-      (of_none c.in_ok-wrong.field-0 c.in_default.is (c.in_ok-wrong.ensures.there (c.loop-area.invariant.tells tells)))))
+      (of_none c.in_ok-wrong.field-0 c.in_default.is (c.in_ok-wrong.ensures.there (c.loop-area.invariant.blocks.keeps_telling tells)))))
       (below_or other c.loop-area.area less);
   done = λ tells truth are other less. ⊎_elim
       (λ before. c.loop-area.invariant.done tells truth are other before)
       (λ same. subst (IsAreaChunked truth) (sym same)
-      (of_none c.in_ok-wrong.field-0 c.in_default.is (c.in_ok-wrong.ensures.none (c.loop-area.invariant.tells tells)) truth
-      (subst (λ (n : ℕ). AreBlocks n (g.B.Blocks.stands c.loop-area.blocks) truth) (sym (c.loop-area.invariant.areas_are ∙ c.requires.areas))
+      (of_none c.in_ok-wrong.field-0 c.in_default.is (c.in_ok-wrong.ensures.none (c.loop-area.invariant.blocks.keeps_telling tells)) truth
+      (subst (λ (n : ℕ). AreBlocks n (g.B.Blocks.stands c.loop-area.blocks) truth) (sym (c.loop-area.invariant.blocks.keeps_areas ∙ c.requires.blocks.areas_are))
       (are_still c.args.areas (g.B.Blocks.stands c.args.blocks.now) (g.B.Blocks.stands c.loop-area.blocks) truth (c.loop-area.invariant.stays tells) are))))
       (below_or other c.loop-area.area less);
 }

@@ -8,7 +8,7 @@ use Rattle.bx_homes.proofs.sources.first_unlabelled.Goals as goal
 
 pub returns-then-branch-clause-some : goal.returns-then-branch-clause-some
 returns-then-branch-clause-some g c = λ tells.
-    let told = c.loop-device.invariant.tells tells in
+    let told = c.loop-device.invariant.rack.keeps_telling tells in
     let was = c.loop-device.invariant.stays in
     let lacks = c.in_ok-lacks_label.ensures.yes told c.if-branch.true in
     without_a c.args.first.now (g.R.Rack.state c.args.rack.now) c.args.rows.now c.loop-device.device _ (slice_get-get_or c.args.rows.now c.loop-device.device _ (omega (arith, c.loop-device-test.true, c.requires)))
@@ -17,9 +17,9 @@ returns-then-branch-clause-some g c = λ tells.
 
 pub returns-then-branch-2-clause-some : goal.returns-then-branch-2-clause-some
 returns-then-branch-2-clause-some g c = λ tells.
-    let told = c.loop-device.invariant.tells tells in
+    let told = c.loop-device.invariant.rack.keeps_telling tells in
     let was = c.loop-device.invariant.stays in
-    let lacks = c.in_ok-lacks_label-2.ensures.yes (c.in_ok-lacks_label.ensures.keeps_telling told) c.if-branch-2.true in
+    let lacks = c.in_ok-lacks_label-2.ensures.yes (c.in_ok-lacks_label.ensures.rack.keeps_telling told) c.if-branch-2.true in
     without_b c.args.first.now (g.R.Rack.state c.args.rack.now) c.args.rows.now c.loop-device.device _ (slice_get-get_or c.args.rows.now c.loop-device.device _ (omega (arith, c.loop-device-test.true, c.requires)))
     (c.loop-device.invariant.done tells) c.member_disk-then-branch-2.result c.member_disk-then-branch-2.ensures
     (moved c.args.first.now (g.R.Rack.state c.loop-device.rack) (g.R.Rack.state c.args.rack.now) (member_disk c.loop-device.device false) was (c.in_ok-lacks_label.ensures.no told c.if-branch.false))
@@ -28,25 +28,20 @@ returns-then-branch-2-clause-some g c = λ tells.
 
 pub loop-device-preserved : goal.loop-device-preserved
 loop-device-preserved g c = record {
-  sizes = c.in_ok-lacks_label-2.ensures.sizes ∙ c.in_ok-lacks_label.ensures.sizes ∙ c.loop-device.invariant.sizes;
   stays = c.in_ok-lacks_label-2.ensures.stays ∙ c.in_ok-lacks_label.ensures.stays ∙ c.loop-device.invariant.stays;
-  tells = λ tells. c.in_ok-lacks_label-2.ensures.keeps_telling (c.in_ok-lacks_label.ensures.keeps_telling (c.loop-device.invariant.tells tells));
-  none_rose = record {
-    all = c.in_ok-lacks_label-2.ensures.no_fault.all ∙ c.in_ok-lacks_label.ensures.no_fault.all ∙ c.loop-device.invariant.none_rose.all;
-    each = λ d. c.in_ok-lacks_label-2.ensures.no_fault.each d ∙ c.in_ok-lacks_label.ensures.no_fault.each d ∙ c.loop-device.invariant.none_rose.each d;
-  };
+  rack = grind arith;
   room = rooms_too (g.R.Rack.state c.args.rack.now).sizes c.args.first.now c.args.rows.now c.loop-device.device _ (slice_get-get_or c.args.rows.now c.loop-device.device _ (omega (arith, c.loop-device-test.true, c.requires)))
       c.loop-device.invariant.room
-      (λ source. subst (λ (sizes : List ℕ). HasRoom sizes c.args.first.now (member_disk c.loop-device.device false)) c.loop-device.invariant.sizes (c.in_ok-lacks_label.ensures.room c.if-branch.false source))
-      (λ source. subst (λ (sizes : List ℕ). HasRoom sizes c.args.first.now (member_disk c.loop-device.device true)) (c.in_ok-lacks_label.ensures.sizes ∙ c.loop-device.invariant.sizes) (c.in_ok-lacks_label-2.ensures.room c.if-branch-2.false source));
+      (λ source. subst (λ (sizes : List ℕ). HasRoom sizes c.args.first.now (member_disk c.loop-device.device false)) c.loop-device.invariant.rack.sizes (c.in_ok-lacks_label.ensures.room c.if-branch.false source))
+      (λ source. subst (λ (sizes : List ℕ). HasRoom sizes c.args.first.now (member_disk c.loop-device.device true)) (c.in_ok-lacks_label.ensures.rack.sizes ∙ c.loop-device.invariant.rack.sizes) (c.in_ok-lacks_label-2.ensures.room c.if-branch-2.false source));
   done = λ tells.
-      let told = c.loop-device.invariant.tells tells in
+      let told = c.loop-device.invariant.rack.keeps_telling tells in
       let was = c.loop-device.invariant.stays in
       one_more c.args.first.now (g.R.Rack.state c.args.rack.now) c.args.rows.now c.loop-device.device _ (slice_get-get_or c.args.rows.now c.loop-device.device _ (omega (arith, c.loop-device-test.true, c.requires)))
       (c.loop-device.invariant.done tells)
       (moved c.args.first.now (g.R.Rack.state c.loop-device.rack) (g.R.Rack.state c.args.rack.now) (member_disk c.loop-device.device false) was (c.in_ok-lacks_label.ensures.no told c.if-branch.false))
       (moved c.args.first.now (g.R.Rack.state c.lacks_label.new.rack) (g.R.Rack.state c.args.rack.now) (member_disk c.loop-device.device true) (c.in_ok-lacks_label.ensures.stays ∙ was)
-      (c.in_ok-lacks_label-2.ensures.no (c.in_ok-lacks_label.ensures.keeps_telling told) c.if-branch-2.false));
+      (c.in_ok-lacks_label-2.ensures.no (c.in_ok-lacks_label.ensures.rack.keeps_telling told) c.if-branch-2.false));
 }
 
 pub returns-clause-none : goal.returns-clause-none

@@ -21,7 +21,7 @@ returns-in_default-clause-none g c = λ tells records log.
     let image = (g.R.Rack.state c.args.rack.now).reads in
     let members = c.args.members.now in
     let held = held_by image members in
-    let told = c.loop-body.invariant.tells tells in
+    let told = c.loop-body.invariant.rack.keeps_telling tells in
     let none = of_none c.in_ok-record.field-0 c.in_default.is (c.in_ok-record.ensures.none told) in
     let as_read = log_same held (devices_of image (λ device sector. c.reads_second-second.result)) members.devices members.areas c.args.slot (here image members c.args.slot c.reads_second-second.result c.reads_second-second.ensures) records log in
     let many = c.in_ok-count.ensures.records tells members.areas records as_read in
@@ -30,13 +30,8 @@ returns-in_default-clause-none g c = λ tells records log.
 
 pub loop-body-preserved : goal.loop-body-preserved
 loop-body-preserved g c = record {
-  sizes = c.in_ok-record.ensures.sizes ∙ c.loop-body.invariant.sizes;
   stays = c.in_ok-record.ensures.stays ∙ c.loop-body.invariant.stays;
-  tells = λ tells. c.in_ok-record.ensures.keeps_telling (c.loop-body.invariant.tells tells);
-  none_rose = record {
-    all = c.in_ok-record.ensures.no_fault.all ∙ c.loop-body.invariant.none_rose.all;
-    each = λ d. c.in_ok-record.ensures.no_fault.each d ∙ c.loop-body.invariant.none_rose.each d;
-  };
+  rack = grind arith;
   count = let long = ap length c.in_ok-push.ensures.ok in let both = length-append c.loop-body.records (c.in-Some.record ∷ []) in omega (arith, long, both, c.loop-body.invariant.count);
   stand = λ tells.
       let image = (g.R.Rack.state c.args.rack.now).reads in
@@ -44,7 +39,7 @@ loop-body-preserved g c = record {
       let held = held_by image members in
       let place = gate_place c.args.slot c.loop-body.body members.devices in
       let opened = c.in_ok-count.ensures.opened tells c.loop-body.body (omega (arith, c.loop-body-test.true)) in
-      let is = of_some _ c.in_ok-record.field-0 c.in-Some.record c.in-Some.is (c.in_ok-record.ensures.some (c.loop-body.invariant.tells tells)) in
+      let is = of_some _ c.in_ok-record.field-0 c.in-Some.record c.in-Some.is (c.in_ok-record.ensures.some (c.loop-body.invariant.rack.keeps_telling tells)) in
       subst (λ (records : List Logged). StandOpen held members.devices members.areas c.args.slot (reverse records)) (sym c.in_ok-push.ensures.ok)
       (one_more held members.devices members.areas c.args.slot c.loop-body.records c.in-Some.record c.loop-body.body c.loop-body.invariant.count (c.loop-body.invariant.stand tells)
       (subst IsOpenGate (here image members c.args.slot c.reads_second-second.result c.reads_second-second.ensures place.1) opened)

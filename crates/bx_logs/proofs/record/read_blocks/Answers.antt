@@ -10,7 +10,7 @@ use Rattle.bx_logs.proofs.record.read_blocks.Goals as goal
 
 pub returns-in_default-clause-none : goal.returns-in_default-clause-none
 returns-in_default-clause-none g c = λ tells changed numbers stand.
-    let told = c.loop-at.invariant.tells tells in
+    let told = c.loop-at.invariant.rack.keeps_telling tells in
     let was = c.loop-at.invariant.stays in
     let none = of_none c.in_ok-block.field-0 c.in_default.is (c.in_ok-block.ensures.none told) in
     let many = length-map changed (λ (change : Changed). change.0) in
@@ -20,18 +20,13 @@ returns-in_default-clause-none g c = λ tells changed numbers stand.
 
 pub loop-at-preserved : goal.loop-at-preserved
 loop-at-preserved g c = record {
-  sizes = c.in_ok-block.ensures.sizes ∙ c.loop-at.invariant.sizes;
   stays = c.in_ok-block.ensures.stays ∙ c.loop-at.invariant.stays;
-  tells = λ tells. c.in_ok-block.ensures.keeps_telling (c.loop-at.invariant.tells tells);
-  none_rose = record {
-    all = c.in_ok-block.ensures.no_fault.all ∙ c.loop-at.invariant.none_rose.all;
-    each = λ d. c.in_ok-block.ensures.no_fault.each d ∙ c.loop-at.invariant.none_rose.each d;
-  };
+  rack = grind arith;
   count = let long = ap length c.in_ok-push.ensures.ok in let both = length-append c.loop-at.changed ((get_or c.args.numbers.now c.loop-at.at 0, c.in-Some.block) ∷ []) in omega (arith, long, both, c.loop-at.invariant.count);
   numbers = ap (map (λ (change : Changed). change.0)) c.in_ok-push.ensures.ok
       ∙ more_numbers c.loop-at.changed c.args.numbers.now c.loop-at.at (get_or c.args.numbers.now c.loop-at.at 0) c.in-Some.block c.loop-at.invariant.numbers (omega (arith, c.loop-at-test.true)) refl;
   stand = λ tells.
-      let told = c.loop-at.invariant.tells tells in
+      let told = c.loop-at.invariant.rack.keeps_telling tells in
       let was = c.loop-at.invariant.stays in
       let here = of_some _ c.in_ok-block.field-0 c.in-Some.block c.in-Some.is (c.in_ok-block.ensures.some told) in
       let next = subst (λ (s : Disks). StandsAt s.reads c.args.disk (c.args.sector + 9 * c.loop-at.at) c.in-Some.block) was here in

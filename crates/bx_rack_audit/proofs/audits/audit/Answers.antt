@@ -14,19 +14,19 @@ returns-in-Err-clause-breaks g c = λ tells tree stands.
 pub returns-clause-ok : goal.returns-clause-ok
 returns-clause-ok g c = λ tells.
     let x = g.R.Rack.state c.args.rack.now in
-    listed_in_state x (g.R.Rack.state c.own_state.new.rack) c.in-Ok.state c.in-Ok.ensures.stays (c.in-Ok.ensures.ok tells) c.audit.result (c.audit.ensures.ok (c.in-Ok.ensures.keeps_telling tells))
+    listed_in_state x (g.R.Rack.state c.own_state.new.rack) c.in-Ok.state c.in-Ok.ensures.stays (c.in-Ok.ensures.ok tells) c.audit.result (c.audit.ensures.ok (c.in-Ok.ensures.rack.keeps_telling tells))
 
 pub returns-clause-err : goal.returns-clause-err
 returns-clause-err g c = λ tells.
     let x = g.R.Rack.state c.args.rack.now in
-    refused_state x (g.R.Rack.state c.own_state.new.rack) (c.one_own_state.ensures x.sizes x.reads) c.in-Ok.state c.in-Ok.ensures.stays (c.in-Ok.ensures.ok tells) c.audit.result (c.audit.ensures.err (c.in-Ok.ensures.keeps_telling tells))
+    refused_state x (g.R.Rack.state c.own_state.new.rack) (c.one_own_state.ensures x.sizes x.reads) c.in-Ok.state c.in-Ok.ensures.stays (c.in-Ok.ensures.ok tells) c.audit.result (c.audit.ensures.err (c.in-Ok.ensures.rack.keeps_telling tells))
 
 pub returns-clause-stands : goal.returns-clause-stands
 returns-clause-stands g c = λ tells tree stands.
     let x = g.R.Rack.state c.args.rack.now in
-    lists x (g.R.Rack.state c.own_state.new.rack) (c.one_own_state.ensures x.sizes x.reads) c.in-Ok.state c.in-Ok.ensures.stays (c.in-Ok.ensures.ok tells) tree stands (c.audit.ensures.stands (c.in-Ok.ensures.keeps_telling tells) tree)
+    lists x (g.R.Rack.state c.own_state.new.rack) (c.one_own_state.ensures x.sizes x.reads) c.in-Ok.state c.in-Ok.ensures.stays (c.in-Ok.ensures.ok tells) tree stands (c.audit.ensures.stands (c.in-Ok.ensures.rack.keeps_telling tells) tree)
 
 pub returns-clause-breaks : goal.returns-clause-breaks
 returns-clause-breaks g c = λ tells tree stands.
     let x = g.R.Rack.state c.args.rack.now in
-    lists x (g.R.Rack.state c.own_state.new.rack) (c.one_own_state.ensures x.sizes x.reads) c.in-Ok.state c.in-Ok.ensures.stays (c.in-Ok.ensures.ok tells) tree stands (c.audit.ensures.breaks (c.in-Ok.ensures.keeps_telling tells) tree)
+    lists x (g.R.Rack.state c.own_state.new.rack) (c.one_own_state.ensures x.sizes x.reads) c.in-Ok.state c.in-Ok.ensures.stays (c.in-Ok.ensures.ok tells) tree stands (c.audit.ensures.breaks (c.in-Ok.ensures.rack.keeps_telling tells) tree)

@@ -15,11 +15,11 @@ returns-clause-ok g c = λ tells.
     let x = g.R.Rack.state c.args.rack.now in
     let first = of_some (IsFirstLabel x.sizes x.reads) c.in_ok-first.field-0 c.in-Some.first c.in-Some.is (c.in_ok-first.ensures.some tells) in
     own_ok x c.in-Some.first c.in_ok-read.read first
-    (subst (λ (d : Disks). IfSome c.in_ok-read.read (IsReadState d c.in-Some.first)) c.in_ok-first.ensures.stays (c.in_ok-read.ensures.some (c.in_ok-first.ensures.keeps_telling tells))) c.told.result c.told.ensures.ok
+    (subst (λ (d : Disks). IfSome c.in_ok-read.read (IsReadState d c.in-Some.first)) c.in_ok-first.ensures.stays (c.in_ok-read.ensures.some (c.in_ok-first.ensures.rack.keeps_telling tells))) c.told.result c.told.ensures.ok
 
 pub returns-clause-err : goal.returns-clause-err
 returns-clause-err g c = λ tells.
     let x = g.R.Rack.state c.args.rack.now in
     let first = of_some (IsFirstLabel x.sizes x.reads) c.in_ok-first.field-0 c.in-Some.first c.in-Some.is (c.in_ok-first.ensures.some tells) in
     own_err x c.in-Some.first c.in_ok-read.read first
-    (subst (λ (d : Disks). IfNone c.in_ok-read.read (LackMajority c.in-Some.first.devices d.sizes d.reads)) c.in_ok-first.ensures.stays (c.in_ok-read.ensures.none (c.in_ok-first.ensures.keeps_telling tells))) c.told.result c.told.ensures.err
+    (subst (λ (d : Disks). IfNone c.in_ok-read.read (LackMajority c.in-Some.first.devices d.sizes d.reads)) c.in_ok-first.ensures.stays (c.in_ok-read.ensures.none (c.in_ok-first.ensures.rack.keeps_telling tells))) c.told.result c.told.ensures.err

@@ -32,7 +32,7 @@ returns-clause-made g c = λ tells blocks none.
     (c.one_first_label.ensures (g.R.Rack.state c.label_disks.new.rack).sizes (g.R.Rack.state c.label_disks.new.rack).reads)
     c.requires.sizes blocks none
     (c.put_cells.ensures.beside tells) (c.in_ok-put_cells.ensures.cells tells)
-    c.label_disks.ensures.sizes (c.label_disks.ensures.behind told) (λ d s. c.in_ok-label_disks.ensures.sure d s told) (c.in_ok-label_disks.ensures.labels told)
+    c.label_disks.ensures.rack.sizes (c.label_disks.ensures.behind told) (λ d s. c.in_ok-label_disks.ensures.sure d s told) (c.in_ok-label_disks.ensures.labels told)
 
 pub returns-in_err-put_cells-clause-moments : goal.returns-in_err-put_cells-clause-moments
 returns-in_err-put_cells-clause-moments g c = λ tells bare. leaves_cells _ _ c.args.devices _ _ _ _ c.put_cells.ensures.rack.sizes bare (c.put_cells.ensures.spares tells)
@@ -41,10 +41,10 @@ pub returns-in_err-label_disks-clause-moments : goal.returns-in_err-label_disks-
 returns-in_err-label_disks-clause-moments g c = λ tells bare.
     let told = c.put_cells.ensures.rack.keeps_telling tells in
     leaves_whole (g.R.Rack.state c.args.rack.now) (g.R.Rack.state c.put_cells.new.rack) (g.R.Rack.state c.label_disks.new.rack) c.args.devices _ _ _ _ _ _
-    c.put_cells.ensures.rack.sizes c.label_disks.ensures.sizes bare (c.put_cells.ensures.spares tells) (c.in_ok-put_cells.ensures.cells tells) (c.label_disks.ensures.behind told) (c.label_disks.ensures.moments told)
+    c.put_cells.ensures.rack.sizes c.label_disks.ensures.rack.sizes bare (c.put_cells.ensures.spares tells) (c.in_ok-put_cells.ensures.cells tells) (c.label_disks.ensures.behind told) (c.label_disks.ensures.moments told)
 
 pub returns-clause-moments : goal.returns-clause-moments
 returns-clause-moments g c = λ tells bare.
     let told = c.put_cells.ensures.rack.keeps_telling tells in
     leaves_whole (g.R.Rack.state c.args.rack.now) (g.R.Rack.state c.put_cells.new.rack) (g.R.Rack.state c.label_disks.new.rack) c.args.devices _ _ _ _ _ _
-    c.put_cells.ensures.rack.sizes c.label_disks.ensures.sizes bare (c.put_cells.ensures.spares tells) (c.in_ok-put_cells.ensures.cells tells) (c.label_disks.ensures.behind told) (c.label_disks.ensures.moments told)
+    c.put_cells.ensures.rack.sizes c.label_disks.ensures.rack.sizes bare (c.put_cells.ensures.spares tells) (c.in_ok-put_cells.ensures.cells tells) (c.label_disks.ensures.behind told) (c.label_disks.ensures.moments told)

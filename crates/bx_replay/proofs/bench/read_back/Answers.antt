@@ -49,7 +49,7 @@ returns-in_err-listed g c =
       one = λ tree tells. rw p.1 tt;
       cause =
           rw (p.1, p.2) (audit_cause c.in_err-listed.field-0.0 _ _ _
-          (λ is. subst (λ (n : ℕ). Rose n (g.B.Rack.faults c.audit.new.rack)) c.in_ok-crash_all.ensures.no_fault (c.in_err-listed.ensures.cause (ap Err is)))
+          (λ is. subst (λ (n : ℕ). Rose n (g.B.Rack.faults c.audit.new.rack)) c.in_ok-crash_all.ensures.no_fault (c.in_err-listed.ensures.rack.cause (ap Err is)))
           (λ held. let stands = held.1 (g.B.Rack.state c.crash_all.new.bench) (c.in_ok-crash_all.ensures.crashed held.0) in
           rw c.in_ok-state.ensures at (c.in_err-listed.ensures.breaks (c.in_ok-crash_all.ensures.keeps_telling held.0) stands.0) stands.1));
       no_fault = rw (p.1, p.2) (audit_counts c.in_err-listed.field-0.0 (g.B.Rack.faults c.audit.new.rack ≡ g.B.Rack.faults c.args.bench.now) (rw lost.no_fault at why.counts));

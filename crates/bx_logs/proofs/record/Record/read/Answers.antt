@@ -22,7 +22,7 @@ returns-then-not-are_numbers-clause-none g c = λ tells logged at.
 pub returns-in-Some-found-clause-some : goal.returns-in-Some-found-clause-some
 returns-in-Some-found-clause-some g c = λ tells.
     let image = (g.R.Rack.state c.args.rack.now).reads in
-    let told = c.in_ok-head.ensures.keeps_telling tells in
+    let told = c.in_ok-head.ensures.rack.keeps_telling tells in
     let stand = of_some (StandOn (g.R.Rack.state c.read_head.new.rack).reads c.args.disk (c.args.sector + 1)) c.in_ok-found.found c.in-Some-found.changed c.in-Some-found.is (c.in_ok-found.ensures.some told) in
     record_there image c.args.disk c.args.sector c.args.areas (record { head = c.in-Some.head; changed = c.in-Some-found.changed })
     (of_some (λ head. SpellsHead head (image c.args.disk c.args.sector)) c.in_ok-head.field-0 c.in-Some.head c.in-Some.is (c.in_ok-head.ensures.some tells))
@@ -33,7 +33,7 @@ returns-in-Some-found-clause-some g c = λ tells.
 pub returns-in-None-clause-none : goal.returns-in-None-clause-none
 returns-in-None-clause-none g c = λ tells logged at.
     let image = (g.R.Rack.state c.args.rack.now).reads in
-    let told = c.in_ok-head.ensures.keeps_telling tells in
+    let told = c.in_ok-head.ensures.rack.keeps_telling tells in
     let spells = of_some _ c.in_ok-head.field-0 c.in-Some.head c.in-Some.is (c.in_ok-head.ensures.some tells) in
     let same = c.one_reading.ensures logged.head c.in-Some.head (image c.args.disk c.args.sector) (head_there image c.args.disk c.args.sector c.args.areas logged at) spells in
     let gap = subst (λ (s : Disks). IsGap s.reads c.args.disk (c.args.sector + 1) c.items-2.result.now) c.in_ok-head.ensures.stays (of_none c.in_ok-found.found c.in-None.is (c.in_ok-found.ensures.none told)) in

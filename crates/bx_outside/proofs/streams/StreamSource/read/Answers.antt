@@ -1,5 +1,5 @@
 use Rattle.std.proofs.Common.{rules}
-use Rattle.bx_outside.proofs.streams.IncomingSource.read.Goals as goal
+use Rattle.bx_outside.proofs.streams.StreamSource.read.Goals as goal
 
 pub returns-in-Err-clause-end : goal.returns-in-Err-clause-end
 returns-in-Err-clause-end g c = search rules

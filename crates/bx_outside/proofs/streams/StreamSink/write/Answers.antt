@@ -1,5 +1,5 @@
 use Rattle.std.proofs.Common.{rules}
-use Rattle.bx_outside.proofs.streams.OutgoingSink.write.Goals as goal
+use Rattle.bx_outside.proofs.streams.StreamSink.write.Goals as goal
 
 pub returns-in-Ok-clause-taken : goal.returns-in-Ok-clause-taken
 returns-in-Ok-clause-taken g c = search rules

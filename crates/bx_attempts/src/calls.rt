@@ -152,7 +152,9 @@ fn act<V: View>(
         Args::Rename(from, name, to, new_name) => {
             let (from, name) = (from.bytes(), name.bytes());
             let (to, new_name) = (to.bytes(), new_name.bytes());
-            with_no_file(rename(alloc, volume, areas, call, from, name, to, new_name, now, view))
+            with_no_file(rename(
+                alloc, volume, areas, call, from, name, to, new_name, now, view,
+            ))
         }
         Args::Link(from, at, name) => {
             let (from, at, name) = (from.bytes(), at.bytes(), name.bytes());

@@ -110,15 +110,7 @@ impl BoxFs {
                 replied(
                     alloc,
                     xid,
-                    lookup(
-                        alloc,
-                        volume,
-                        areas,
-                        call,
-                        at.bytes(),
-                        name.bytes(),
-                        view,
-                    ),
+                    lookup(alloc, volume, areas, call, at.bytes(), name.bytes(), view),
                 )
             }
             Args::List(at, cookie, count) => {

@@ -1,7 +1,6 @@
-use Rattle.std.proofs.Common.{◌≡◌, ◌∙◌, ℕ, List, Some, ap, inl, inr, subst, sym}
+use Rattle.std.proofs.Common.{◌≡◌, ◌∙◌, ℕ, List, ap, inl, inr, subst, sym}
 use Rattle.std.specs.Prelude.{Result}
 use Rattle.std.proofs.lemmas.Result.{IfErr-weaker, IfOk-weaker}
-use Rattle.bx_attempts.specs.Attempts.{IsAttemptOf}
 use Rattle.bx_attempts.specs.Calls.{HasChangeArgs}
 use Rattle.bx_attempts.specs.First.{PreparesFirst}
 use Rattle.bx_attempts.specs.Paths.{ChangePathOf}
@@ -210,4 +209,3 @@ returns-else-call-eq-MKDIR g c =
     (IfErr-weaker c.create.result _ _ (by_wider a.areas held (OnCreate held hints a.volume a.areas at name sattr.size) (ChangePathOf held hints a.volume a.areas call.procedure (Make at name sattr)) (λ block mode on. inr (number, on))) c.create.ensures.need)
     c.create.ensures.first c.create.ensures.held c.create.ensures.full)
     c.requires.moment xid attempt is
-

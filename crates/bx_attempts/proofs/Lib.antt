@@ -1,4 +1,5 @@
 pub mod Acting
+pub mod Attempted
 pub mod Changing
 pub mod Fairness
 pub mod Fine

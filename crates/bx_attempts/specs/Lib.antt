@@ -3,3 +3,4 @@ pub mod Paths
 pub mod Replies
 pub mod First
 pub mod Full
+pub mod Attempts

@@ -1,5 +1,5 @@
 -- What is told of a call that acted.
-use Rattle.std.specs.Prelude.{◌≡◌, ℕ, List, [], ◌∷◌}
+use Rattle.std.specs.Prelude.{◌≡◌, ℕ, ◌<◌, ◌^◌, List, [], ◌∷◌, Result, Ok, Err}
 use Rattle.bx_changes.specs.declared.error.ChangeError.{ChangeError}
 use Rattle.bx_changes.specs.declared.error.ChangeError.TheVariants.{Stopped, Full}
 use Rattle.bx_inodes.specs.declared.stop.Stop.{Stop}
@@ -41,3 +41,23 @@ IsStopped xid stops.OutOfMemory attempt = ⊥
 abbrev pub IsRefused : ℕ → ChangeError → Attempt → Type 0
 IsRefused xid (Stopped stop) attempt = IsStopped xid stop attempt
 IsRefused xid (Full spare) attempt = attempt ≡ Answer (done_with xid (replies.Status NOSPC) spare)
+
+-- what it answers of what a procedure came to
+abbrev pub IsOutcome : ℕ → Result (List Changed × Reply × ℕ) ChangeError → Attempt → Type 0
+IsOutcome xid (Ok made) attempt = IsChanged xid made.0 made.1 made.2 attempt × (made.2 < 2 ^ 64)
+IsOutcome xid (Err error) attempt = IsRefused xid error attempt
+
+-- the outcome of a procedure that makes no file
+abbrev pub plainly : Result (List Changed × Reply) ChangeError → Result (List Changed × Reply × ℕ) ChangeError
+plainly (Ok made) = Ok (made.0, made.1, 0)
+plainly (Err error) = Err error
+
+-- that of one that takes no blocks either
+abbrev pub simply : Result (List Changed × Reply) Stop → Result (List Changed × Reply × ℕ) ChangeError
+simply (Ok made) = Ok (made.0, made.1, 0)
+simply (Err stop) = Err (Stopped stop)
+
+-- what an attempt of a call that only reads answers
+abbrev pub IsReplied : ℕ → Result Reply Stop → Attempt → Type 0
+IsReplied xid (Ok reply) attempt = attempt ≡ Answer (done_of xid reply)
+IsReplied xid (Err stop) attempt = IsStopped xid stop attempt

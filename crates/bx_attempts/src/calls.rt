@@ -1,27 +1,25 @@
 //! The calls that change a file tree.
 
-ghost use Rattle.std.specs.Prelude.{◌≡◌, ◌≤◌, ◌↔◌, ℕ, List, IfOk, IsTrue};
-ghost use Rattle.bx_chunks.specs.Counting.{free_slots};
-ghost use Rattle.bx_model.specs.declared.tree.Tree.{Tree};
+ghost use Rattle.std.specs.Prelude.{◌≤◌, ◌↔◌, ℕ, IfOk, IsTrue};
 ghost use Rattle.bx_nfs.specs.Asked.{IsNfs};
-ghost use Rattle.bx_nfs.specs.Wire.{ReadsAs};
-ghost use Rattle.bx_views.specs.Attempts.{Gives, IfChange, IfInner, IsFair};
-ghost use Rattle.bx_views.specs.Truths.{IsTruth, Truth};
+ghost use Rattle.bx_views.specs.declared.attempt.Attempt.{Attempt};
+ghost use Rattle.bx_attempts.specs.Attempts.{IsAttemptOf};
 ghost use Rattle.bx_attempts.specs.Calls.{IsChanging};
-ghost use Rattle.bx_attempts.specs.First.{PreparesFirst, ReadyBy};
-ghost use Rattle.bx_attempts.specs.Full.{TellsFull};
-ghost use Rattle.bx_attempts.specs.Paths.{ChangePathOf};
-ghost use Rattle.bx_steps.specs.Steps.{StandsWith, Step};
+ghost use Rattle.bx_attempts.specs.Replies.{IsOutcome};
 
-use crate::attributes::setattr;
-use crate::making::{create, mkdir, symlink};
-use crate::naming::{link, remove, rmdir};
-use crate::renaming::rename;
-use crate::writing::write;
+use crate::replies::{attempted, stopping, with_no_file};
+use crate::times::time_of;
 use bx_base::OutOfMemory;
-use bx_model::{Args, Call};
+use bx_changes::ChangeError;
+use bx_create::{create, mkdir, symlink};
+use bx_entries::{remove, rmdir};
+use bx_model::{Args, Call, Reply};
+use bx_records::Draft;
+use bx_renaming::{link, rename};
 use bx_rpc::NFS_PROGRAM;
+use bx_sizes::setattr;
 use bx_views::{Attempt, View};
+use bx_writes::write;
 use std::alloc::Global;
 
 /// The procedure SETATTR (RFC 1094, section 2.2.3).
@@ -111,72 +109,67 @@ pub fn change<V: View>(
     requires areas { areas ≤ 64 }
     requires changing { IsChanging call.now }
     requires moment { moment ≤ 4294967295999 }
-    ensures gives { (client : ℕ) (bytes : List ℕ) (truth : Truth) (tree : Tree) → ReadsAs bytes xid call.now → IsTruth (V.held view.now) truth → StandsWith volume areas truth (V.hints view.now) tree
-        → IfOk result (Gives (StandsWith volume areas) Step (free_slots areas truth) client bytes moment truth tree) }
-    ensures lacks { (truth : Truth) (tree : Tree) → IsTruth (V.held view.now) truth → StandsWith volume areas truth (V.hints view.now) tree
-        → IfOk result (IfInner (PreparesFirst volume areas (V.held view.now) (V.hints view.now) truth tree call.now moment)) }
-    ensures ready { (truth : Truth) (tree : Tree) → IsTruth (V.held view.now) truth → StandsWith volume areas truth (V.hints view.now) tree
-        → IfOk result (IfChange (ReadyBy volume areas truth tree call.now.procedure call.now.args)) }
-    ensures fair { IfOk result (IsFair areas (V.held view.now) (ChangePathOf (V.held view.now) (V.hints view.now) volume areas call.now.procedure call.now.args)) }
-    ensures full { IfOk result (TellsFull (V.held view.now) (V.hints view.now) volume areas call.now.args) }
+    ensures { IfOk result (IsAttemptOf volume areas (V.held view.now) (V.hints view.now) xid call.now moment) }
 {
+    let outcome = act(alloc, volume, areas, call, moment, view);
+    attempted(alloc, xid, outcome)
+}
+
+/// What the procedure of such a call comes to: the blocks that it changes, the reply, and the handle of the file that it made, or 0. Whatever tells it is an
+/// attempt of the call.
+fn act<V: View>(
+    alloc: Global,
+    volume: u64,
+    areas: u16,
+    call: &Call,
+    moment: u64,
+    view: &V,
+) -> Result<(Draft, Reply, u64), ChangeError>
+    requires areas { areas ≤ 64 }
+    requires changing { IsChanging call.now }
+    requires moment { moment ≤ 4294967295999 }
+    ensures { (xid : ℕ) (attempt : Attempt) → IsOutcome xid result attempt
+        → IsAttemptOf volume areas (V.held view.now) (V.hints view.now) xid call.now moment attempt }
+{
+    let now = time_of(moment);
     match &call.args {
         Args::Set(at, sattr) => {
-            setattr(
-                alloc,
-                volume,
-                areas,
-                xid,
-                call,
-                at.bytes(),
-                sattr,
-                moment,
-                view,
-            )
+            let at = at.bytes();
+            stopping(setattr(alloc, volume, areas, call, at, sattr, now, view))
         }
         Args::Write(at, _, offset, _, written) => {
-            let (at, written) = (at.bytes(), written.bytes());
-            write(
-                alloc, volume, areas, xid, call, at, *offset, written, moment, view,
-            )
+            let (volume, at, written) = ((volume, areas), at.bytes(), written.bytes());
+            with_no_file(write(alloc, volume, view, call, at, *offset, written, now))
         }
         Args::Name(at, name) => {
             let (at, name) = (at.bytes(), name.bytes());
             if call.procedure == REMOVE {
-                remove(alloc, volume, areas, xid, call, at, name, moment, view)
+                stopping(remove(alloc, volume, areas, call, at, name, now, view))
             } else {
-                rmdir(alloc, volume, areas, xid, call, at, name, moment, view)
+                stopping(rmdir(alloc, volume, areas, call, at, name, now, view))
             }
         }
         Args::Rename(from, name, to, new_name) => {
             let (from, name) = (from.bytes(), name.bytes());
             let (to, new_name) = (to.bytes(), new_name.bytes());
-            rename(
-                alloc, volume, areas, xid, call, from, name, to, new_name, moment, view,
-            )
+            with_no_file(rename(
+                alloc, volume, areas, call, from, name, to, new_name, now, view,
+            ))
         }
         Args::Link(from, at, name) => {
             let (from, at, name) = (from.bytes(), at.bytes(), name.bytes());
-            link(
-                alloc, volume, areas, xid, call, from, at, name, moment, view,
-            )
+            with_no_file(link(alloc, volume, areas, call, from, at, name, now, view))
         }
         Args::Symlink(at, name, path, sattr) => {
             let (at, name, path) = (at.bytes(), name.bytes(), path.bytes());
-            symlink(
-                alloc, volume, areas, xid, call, at, name, path, sattr, moment, view,
-            )
+            symlink(alloc, volume, areas, call, at, name, path, sattr, now, view)
         }
         Args::Make(at, name, sattr) => {
             let (at, name) = (at.bytes(), name.bytes());
             if call.procedure == MKDIR {
-                mkdir(
-                    alloc, volume, areas, xid, call, at, name, sattr, moment, view,
-                )
+                mkdir(alloc, volume, areas, call, at, name, sattr, now, view)
             } else {
-                create(
-                    alloc, volume, areas, xid, call, at, name, sattr, moment, view,
-                )
+                create(alloc, volume, areas, call, at, name, sattr, now, view)
             }
         }
         _ => unreachable!(),

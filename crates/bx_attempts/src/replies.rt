@@ -2,7 +2,7 @@
 
 ghost use Rattle.std.specs.Prelude.{◌≡◌, ◌<◌, ◌^◌, IfOk};
 ghost use Rattle.bx_views.specs.declared.attempt.Attempt.TheVariants.{Answer};
-ghost use Rattle.bx_attempts.specs.Replies.{IsChanged, IsRefused, IsStopped, done_of, done_with};
+ghost use Rattle.bx_attempts.specs.Replies.{IsChanged, IsOutcome, IsRefused, IsReplied, IsStopped, done_of, done_with, plainly, simply};
 
 use bx_base::OutOfMemory;
 use bx_changes::ChangeError;
@@ -51,8 +51,18 @@ pub fn answered_with(
     Ok(Attempt::Answer(done))
 }
 
+/// What an attempt of a call that only reads answers: its reply, or what stopped it.
+pub fn replied(alloc: Global, xid: u32, reply: Result<Reply, Stop>) -> Result<Attempt, OutOfMemory>
+    ensures { IfOk result (IsReplied xid reply) }
+{
+    match reply {
+        Ok(reply) => answered(alloc, xid, reply),
+        Err(stop) => stopped(alloc, xid, stop),
+    }
+}
+
 /// A change of the blocks of a draft, with a reply, and the handle of the file that it made, or 0. Where the draft has no block it is an answer.
-pub(crate) fn changed(
+fn changed(
     alloc: Global,
     xid: u32,
     draft: Draft,
@@ -91,11 +101,49 @@ pub fn stopped(alloc: Global, xid: u32, stop: Stop) -> Result<Attempt, OutOfMemo
 }
 
 /// What an attempt of a change that isn't made answers.
-pub(crate) fn refused(alloc: Global, xid: u32, error: ChangeError) -> Result<Attempt, OutOfMemory>
+fn refused(alloc: Global, xid: u32, error: ChangeError) -> Result<Attempt, OutOfMemory>
     ensures { IfOk result (IsRefused xid error) }
 {
     match error {
         ChangeError::Stopped(stop) => stopped(alloc, xid, stop),
         ChangeError::Full(spare) => answered_with(alloc, xid, Reply::Status(NOSPC), spare),
+    }
+}
+
+/// What an attempt answers of what a procedure came to.
+pub(crate) fn attempted(
+    alloc: Global,
+    xid: u32,
+    outcome: Result<(Draft, Reply, u64), ChangeError>,
+) -> Result<Attempt, OutOfMemory>
+    ensures { IfOk result (IsOutcome xid outcome) }
+{
+    match outcome {
+        Ok((draft, reply, made)) => changed(alloc, xid, draft, reply, made),
+        Err(error) => refused(alloc, xid, error),
+    }
+}
+
+/// The outcome of a procedure that makes no file.
+pub(crate) fn with_no_file(
+    outcome: Result<(Draft, Reply), ChangeError>,
+) -> Result<(Draft, Reply, u64), ChangeError>
+    ensures { result ≡ plainly outcome }
+{
+    match outcome {
+        Ok((draft, reply)) => Ok((draft, reply, NO_FILE)),
+        Err(error) => Err(error),
+    }
+}
+
+/// The outcome of one that takes no blocks either.
+pub(crate) fn stopping(
+    outcome: Result<(Draft, Reply), Stop>,
+) -> Result<(Draft, Reply, u64), ChangeError>
+    ensures { result ≡ simply outcome }
+{
+    match outcome {
+        Ok((draft, reply)) => Ok((draft, reply, NO_FILE)),
+        Err(stop) => Err(ChangeError::Stopped(stop)),
     }
 }

@@ -3,7 +3,7 @@ use Rattle.std.proofs.Common.{◌≡◌, ℕ, ap, refl, sym, subst}
 use Rattle.std.specs.Prelude.{Result, Ok, Err, IfOk}
 use Rattle.std.proofs.lemmas.Result.{IfOk-weaker}
 use Rattle.bx_attempts.proofs.Fairness as fairness
-use Rattle.bx_attempts.specs.Replies.{IsStopped, done_of}
+use Rattle.bx_attempts.specs.Replies.{IsReplied, IsStopped, done_of}
 use Rattle.bx_base.specs.declared.names.Mode.{Mode}
 use Rattle.bx_engine.specs.Outcomes.{Comes, TellsEnough}
 use Rattle.bx_inodes.specs.declared.stop.Stop.{Stop}
@@ -17,7 +17,7 @@ use Rattle.bx_reads.specs.Answers.{IsOutcome}
 use Rattle.bx_views.specs.declared.attempt.Attempt.{Attempt}
 use Rattle.bx_views.specs.declared.attempt.Attempt.TheVariants.{Answer}
 use Rattle.bx_views.specs.declared.attempt.Done.{Done}
-use Rattle.bx_views.specs.Attempts.{IsFair}
+use Rattle.bx_views.specs.Attempts.{ChangesNothing, IsFair}
 use Rattle.bx_views.specs.Truths.{Held}
 
 module _ (xid : ℕ) (attempt : Attempt) where
@@ -44,6 +44,28 @@ module _ (xid : ℕ) (attempt : Attempt) where
     pub answer_comes : (reply : Reply) → outcome ≡ Ok (reply, tree) → attempt ≡ Answer (done_of xid reply) → Comes tree xid outcome attempt
     answer_comes reply comes is = subst (Comes tree xid outcome) (sym is) (record { reply = reply; comes_to = ap (done tree) comes; told = refl })
 
+    pub replied_comes : (r : Result Reply Stop) → IsOutcome tree outcome r → IsReplied xid r attempt → Comes tree xid outcome attempt
+    replied_comes (Ok reply) comes is = answer_comes reply comes is
+    replied_comes (Err stop) comes is = stops_come stop comes is
+
+  pub replied_fair : (areas : ℕ) (held : Held) (Path : ℕ → Mode → Type 0) (r : Result Reply Stop) → NeedsOn areas held Path r → NeverInner r → IsReplied xid r attempt → IsFair areas held Path attempt
+  replied_fair areas held Path (Ok reply) needs never is = subst (IsFair areas held Path) (sym is) tt
+  replied_fair areas held Path (Err stop) needs never is = stops_fair Reply areas held Path stop needs never is
+
+  stop_keeps : (stop : Stop) → NeverInner {T = Reply} (Err stop) → IsStopped xid stop attempt → ChangesNothing attempt
+  stop_keeps (stops.Need at mode) never is = subst ChangesNothing (sym is) tt
+  stop_keeps (stops.Inner blocks) never is = absurd never
+  stop_keeps (stops.Status status) never is = subst ChangesNothing (sym is) tt
+  stop_keeps stops.OutOfMemory never is = absurd is
+
+  pub replied_keeps : (r : Result Reply Stop) → NeverInner r → IsReplied xid r attempt → ChangesNothing attempt
+  replied_keeps (Ok reply) never is = subst ChangesNothing (sym is) tt
+  replied_keeps (Err stop) never is = stop_keeps stop never is
+
+  pub replied_enough : (r : Result Reply Stop) → IsReplied xid r attempt → TellsEnough attempt
+  replied_enough (Ok reply) is = answer_enough reply is
+  replied_enough (Err stop) is = stop_enough stop is
+
 -- an answer, where there is memory for it
 pub answered_comes : {E : Type 0} (tree : Tree) (xid : ℕ) (reply : Reply) (result : Result Attempt E) → IfOk result (λ attempt. attempt ≡ Answer (done_of xid reply)) → IfOk result (Comes tree xid (Ok (reply, tree)))
 answered_comes tree xid reply result is = IfOk-weaker result _ _ (λ attempt same. answer_comes xid attempt tree (Ok (reply, tree)) reply refl same) is
@@ -51,10 +73,3 @@ answered_comes tree xid reply result is = IfOk-weaker result _ _ (λ attempt sam
 -- 8 free blocks are told where there is memory for the answer
 pub told_enough : {E : Type 0} (told : Done) (result : Result Attempt E) → IfOk result (λ attempt. attempt ≡ Answer told) → told.spare ≡ 8 → IfOk result TellsEnough
 told_enough told result is eight = IfOk-weaker result _ _ (λ attempt same. subst TellsEnough (sym same) eight) is
-
-module _ {E : Type 0} (xid : ℕ) (result : Result Attempt E) where
-  pub answered_enough : (reply : Reply) → IfOk result (λ attempt. attempt ≡ Answer (done_of xid reply)) → IfOk result TellsEnough
-  answered_enough reply is = IfOk-weaker result _ _ (λ attempt same. answer_enough xid attempt reply same) is
-
-  pub stopped_enough : (stop : Stop) → IfOk result (IsStopped xid stop) → IfOk result TellsEnough
-  stopped_enough stop is = IfOk-weaker result _ _ (λ attempt so. stop_enough xid attempt stop so) is

@@ -2,13 +2,11 @@
 
 ghost use Rattle.std.specs.Prelude.{◌≡◌, ◌≢◌, ◌≤◌, ℕ, List, IfOk};
 ghost use Rattle.bx_attempts.specs.First.{PreparesFirst, ReadyBy};
-ghost use Rattle.bx_base.specs.declared.names.Mode.TheVariants.{Shared};
 ghost use Rattle.bx_chunks.specs.Counting.{free_slots};
 ghost use Rattle.bx_inodes.specs.Stands.{Stands};
-ghost use Rattle.bx_inodes.specs.Stops.{OnInode};
 ghost use Rattle.bx_model.specs.declared.tree.Tree.{Tree};
 ghost use Rattle.bx_model.specs.declared.call.Args.TheVariants.{Handle as HandleArgs};
-ghost use Rattle.bx_model.specs.Reading.{getattr as getattr_of, readlink as readlink_of, statfs as statfs_of};
+ghost use Rattle.bx_model.specs.Reading.{statfs as statfs_of};
 ghost use Rattle.bx_nfs.specs.Asked.{IsAsked};
 ghost use Rattle.bx_nfs.specs.Wire.{ReadsAs};
 ghost use Rattle.bx_reads.specs.Space.{OnSpace};
@@ -16,7 +14,7 @@ ghost use Rattle.bx_views.specs.Attempts.{ChangesNothing, Gives, IfActed, IfChan
 ghost use Rattle.bx_views.specs.Truths.{IsTruth, Truth};
 ghost use Rattle.bx_engine.specs.Calls.{AsksSpace, IsAboutFile, IsAtOnce, IsReading};
 ghost use Rattle.bx_engine.specs.Full.{LacksRoom};
-ghost use Rattle.bx_engine.specs.Outcomes.{Comes, ComesSpace, TellsEnough, told_free};
+ghost use Rattle.bx_engine.specs.Outcomes.{ComesSpace, TellsEnough, told_free};
 ghost use Rattle.bx_engine.specs.Paths.{PathOf, ReadPathOf};
 ghost use Rattle.bx_steps.specs.Steps.{StandsWith, Step};
 
@@ -24,9 +22,11 @@ use crate::engine::BoxFs;
 use crate::mounting::mounted;
 use crate::plain::plain;
 use crate::procedures::{READLINK, STATFS};
-use bx_attempts::{answered, answered_with, change, is_change, stopped};
+use bx_attempts::{answered, answered_with, change, is_change, replied, stopped};
 use bx_base::OutOfMemory;
+use bx_directory_reads::{lookup, readdir};
 use bx_model::{Args, Call, Reply};
+use bx_reads::{getattr, read, readlink};
 use bx_views::{Attempt, View};
 use std::alloc::Global;
 
@@ -89,11 +89,46 @@ impl BoxFs {
             }
             Args::Handle(at) => self.about_file(alloc, xid, call, at.bytes(), view),
             Args::Read(at, offset, count, _) => {
-                self.read(alloc, xid, call, at.bytes(), (*offset, *count), view)
+                let (volume, areas) = (self.volume, self.areas);
+                replied(
+                    alloc,
+                    xid,
+                    read(
+                        alloc,
+                        volume,
+                        areas,
+                        call,
+                        at.bytes(),
+                        *offset,
+                        *count,
+                        view,
+                    ),
+                )
             }
-            Args::Name(at, name) => self.lookup(alloc, xid, call, at.bytes(), name.bytes(), view),
+            Args::Name(at, name) => {
+                let (volume, areas) = (self.volume, self.areas);
+                replied(
+                    alloc,
+                    xid,
+                    lookup(alloc, volume, areas, call, at.bytes(), name.bytes(), view),
+                )
+            }
             Args::List(at, cookie, count) => {
-                self.readdir(alloc, xid, call, at.bytes(), (*cookie, *count), view)
+                let (volume, areas) = (self.volume, self.areas);
+                replied(
+                    alloc,
+                    xid,
+                    readdir(
+                        alloc,
+                        volume,
+                        areas,
+                        call,
+                        at.bytes(),
+                        *cookie,
+                        *count,
+                        view,
+                    ),
+                )
             }
             _ => unreachable!(),
         }
@@ -119,11 +154,19 @@ impl BoxFs {
         ensures enough { call.now.procedure ≢ 17 → IfOk result TellsEnough }
     {
         if call.procedure == READLINK {
-            self.readlink(alloc, xid, at, view)
+            replied(
+                alloc,
+                xid,
+                readlink(alloc, self.volume, self.areas, at, view),
+            )
         } else if call.procedure == STATFS {
             self.statfs(alloc, xid, at, view)
         } else {
-            self.getattr(alloc, xid, at, view)
+            replied(
+                alloc,
+                xid,
+                getattr(alloc, self.volume, self.areas, at, view),
+            )
         }
     }
 
@@ -142,46 +185,6 @@ impl BoxFs {
     {
         match bx_reads::statfs(alloc, self.volume, self.areas, at, view) {
             Ok((reply, free)) => answered_with(alloc, xid, reply, u64::from(free)),
-            Err(stop) => stopped(alloc, xid, stop),
-        }
-    }
-
-    /// READLINK of the link that a file handle names.
-    fn readlink<V: View>(
-        &self,
-        alloc: Global,
-        xid: u32,
-        at: &[u8],
-        view: &V,
-    ) -> Result<Attempt, OutOfMemory>
-        ensures comes { (truth : Truth) (tree : Tree) → IsTruth (V.held view.now) truth → Stands self.now.volume self.now.areas truth tree
-            → IfOk result (Comes tree xid (readlink_of tree at.now)) }
-        ensures fair { IfOk result (IsFair self.now.areas (V.held view.now) (OnInode self.now.volume at.now Shared)) }
-        ensures keeps { IfOk result ChangesNothing }
-        ensures enough { IfOk result TellsEnough }
-    {
-        match bx_reads::readlink(alloc, self.volume, self.areas, at, view) {
-            Ok(reply) => answered(alloc, xid, reply),
-            Err(stop) => stopped(alloc, xid, stop),
-        }
-    }
-
-    /// GETATTR of the file that a file handle names.
-    fn getattr<V: View>(
-        &self,
-        alloc: Global,
-        xid: u32,
-        at: &[u8],
-        view: &V,
-    ) -> Result<Attempt, OutOfMemory>
-        ensures comes { (truth : Truth) (tree : Tree) → IsTruth (V.held view.now) truth → Stands self.now.volume self.now.areas truth tree
-            → IfOk result (Comes tree xid (getattr_of tree at.now)) }
-        ensures fair { IfOk result (IsFair self.now.areas (V.held view.now) (OnInode self.now.volume at.now Shared)) }
-        ensures keeps { IfOk result ChangesNothing }
-        ensures enough { IfOk result TellsEnough }
-    {
-        match bx_reads::getattr(alloc, self.volume, self.areas, at, view) {
-            Ok(reply) => answered(alloc, xid, reply),
             Err(stop) => stopped(alloc, xid, stop),
         }
     }

@@ -7,7 +7,6 @@ mod laws;
 mod mounting;
 mod plain;
 mod procedures;
-mod reading;
 
 pub use engine::BoxFs;
 pub use laws::{paths_are_of_files, steps_are_of_histories};

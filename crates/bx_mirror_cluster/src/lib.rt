@@ -1,0 +1,9 @@
+//! How members and streams of mirrored devices fit what was done with them, and the laws of a store from that; nothing here runs.
+#![tactic(auto)]
+
+mod laws;
+
+pub use laws::{
+    begins, grows, letters_are_lost, nothing_is_out, what_is_done_stands, what_is_settled_stands,
+    what_stands_is_settled, who_is_down_stays,
+};

@@ -9,3 +9,4 @@ pub mod Replacing
 pub mod Sent
 pub mod Speaking
 pub mod Standing
+pub mod WriteSent

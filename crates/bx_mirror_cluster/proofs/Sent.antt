@@ -19,10 +19,10 @@ told_both o k runs writes = letter_in o k runs true ∷ letter_in o k runs false
 
 module _ (device room greatest : ℕ) (last : DeviceRow) (older : List DeviceRow) (handed : List Handing) (sides : Bool → Side) (source : ℕ → ℕ → List ℕ)
     (rows : AreRows room last older sides source) (hands : AreHanded room last older handed sides source)
-    (writes : List WriteLetter) (wrotes : List Wrote) (actual : List Out) (outs outs_next : ℕ → Option Out) (knows : ℕ → Option DeviceRow) (live : ℕ → Type 0)
+    (writes : List WriteLetter) (wrotes : List Wrote) (actual : List Out) (outs outs_next : ℕ → Option Out) (knows knows_next : ℕ → Option DeviceRow) (live : ℕ → Type 0)
     (answers : AreWrotes last older sides writes wrotes) (are : AreWrites device greatest last older sides writes wrotes actual outs knows live) (all : AreOuts device room greatest last older handed sides writes wrotes actual outs knows live)
     (o : Out) (k : DeviceRow) (row : IsRow last older k)
-    (sends : (other : Out) (r : DeviceRow) → Sends outs_next knows live other r → Sends outs knows live other r ⊎ ((other ≡ o) × (r ≡ k)))
+    (sends : (other : Out) (r : DeviceRow) → Sends outs_next knows_next live other r → Sends outs knows live other r ⊎ ((other ≡ o) × (r ≡ k)))
     (apart : (other : Out) (r : DeviceRow) → Sends outs knows live other r → other.session ≢ o.session)
     (begins : 1 ≤ o.sequence) (range : (x : ℕ) (content : List ℕ) → WritesIn o.runs device x content → (1 ≤ x) × (x < room))
     (once : (x : ℕ) (content other : List ℕ) → WritesIn o.runs device x content → WritesIn o.runs device x other → other ≡ content)
@@ -32,8 +32,8 @@ module _ (device room greatest : ℕ) (last : DeviceRow) (older : List DeviceRow
   abbrev next_actual : List Out
   next_actual = o ∷ actual
 
-  base_writes : AreWrites device greatest last older sides writes wrotes next_actual outs_next knows live
-  base_writes = writes_send device room greatest last older handed sides source rows hands writes wrotes actual next_actual outs outs_next knows knows live o
+  base_writes : AreWrites device greatest last older sides writes wrotes next_actual outs_next knows_next live
+  base_writes = writes_send device room greatest last older handed sides source rows hands writes wrotes actual next_actual outs outs_next knows knows_next live o
       (λ b q sent has. none_new last older sides writes wrotes o q answers numbers b has)
       (λ other q sent. elim (sends other q sent) [ inl old ↦ inl old | inr new ↦ inr new.0 ])
       (λ w there. record { is = inr there.is }) are
@@ -61,7 +61,7 @@ module _ (device room greatest : ℕ) (last : DeviceRow) (older : List DeviceRow
   now_out = out_begins device room greatest last older handed sides source rows hands writes wrotes next_actual answers o k row begins range once
       (λ w x content other there theirs its. elim there.is [ inl new ↦ inl new | inr old ↦ inr (alone w x content other (record { is = old }) theirs its) ]) numbers lasts
 
-  base_outs : AreOuts device room greatest last older handed sides writes wrotes next_actual outs_next knows live
+  base_outs : AreOuts device room greatest last older handed sides writes wrotes next_actual outs_next knows_next live
   base_outs = record {
     each = λ q r sent. elim (sends q r sent) [
       | inl old ↦ still_out q r old
@@ -70,24 +70,24 @@ module _ (device room greatest : ℕ) (last : DeviceRow) (older : List DeviceRow
     ];
   }
 
-  only : (other : Out) (r : DeviceRow) → Sends outs_next knows live other r → other.session ≡ o.session → (other ≡ o) × (r ≡ k)
+  only : (other : Out) (r : DeviceRow) → Sends outs_next knows_next live other r → other.session ≡ o.session → (other ≡ o) × (r ≡ k)
   only other r sent same = elim (sends other r sent) [ inl old ↦ absurd (apart other r old same) | inr new ↦ new ]
 
   module _ (runs : List Run) (its : (x : ℕ) (content : List ℕ) → WritesIn runs device x content → WritesIn o.runs device x content) (whole : (x : ℕ) (content : List ℕ) → WritesIn o.runs device x content → WritesIn runs device x content) where
     in_actual : Among next_actual o
     in_actual = record { is = inl refl }
 
-    pub sent_writes : AreWrites device greatest last older sides (told_both o k runs writes) wrotes next_actual outs_next knows live
+    pub sent_writes : AreWrites device greatest last older sides (told_both o k runs writes) wrotes next_actual outs_next knows_next live
     sent_writes =
-        writes_more device room greatest last older handed sides (letter_in o k runs false ∷ writes) wrotes next_actual outs_next knows live (letter_in o k runs true) o k row refl in_actual refl refl refl its whole
-        (writes_more device room greatest last older handed sides writes wrotes next_actual outs_next knows live (letter_in o k runs false) o k row refl in_actual refl refl refl its whole base_writes)
+        writes_more device room greatest last older handed sides (letter_in o k runs false ∷ writes) wrotes next_actual outs_next knows_next live (letter_in o k runs true) o k row refl in_actual refl refl refl its whole
+        (writes_more device room greatest last older handed sides writes wrotes next_actual outs_next knows_next live (letter_in o k runs false) o k row refl in_actual refl refl refl its whole base_writes)
 
-    pub sent_outs : AreOuts device room greatest last older handed sides (told_both o k runs writes) wrotes next_actual outs_next knows live
+    pub sent_outs : AreOuts device room greatest last older handed sides (told_both o k runs writes) wrotes next_actual outs_next knows_next live
     sent_outs =
-        outs_more device room greatest last older handed sides (letter_in o k runs false ∷ writes) wrotes next_actual outs_next knows live (letter_in o k runs true) o k row refl in_actual refl refl refl its whole only
-        (outs_more device room greatest last older handed sides writes wrotes next_actual outs_next knows live (letter_in o k runs false) o k row refl in_actual refl refl refl its whole only base_outs)
+        outs_more device room greatest last older handed sides (letter_in o k runs false ∷ writes) wrotes next_actual outs_next knows_next live (letter_in o k runs true) o k row refl in_actual refl refl refl its whole only
+        (outs_more device room greatest last older handed sides writes wrotes next_actual outs_next knows_next live (letter_in o k runs false) o k row refl in_actual refl refl refl its whole only base_outs)
 
     pub sent_wrotes : AreWrotes last older sides (told_both o k runs writes) wrotes
     sent_wrotes =
-        wrotes_more device room greatest last older handed sides (letter_in o k runs false ∷ writes) wrotes next_actual outs_next knows live (letter_in o k runs true) o k row refl in_actual refl refl refl its whole
-        (wrotes_more device room greatest last older handed sides writes wrotes next_actual outs_next knows live (letter_in o k runs false) o k row refl in_actual refl refl refl its whole answers)
+        wrotes_more device room greatest last older handed sides (letter_in o k runs false ∷ writes) wrotes next_actual outs_next knows_next live (letter_in o k runs true) o k row refl in_actual refl refl refl its whole
+        (wrotes_more device room greatest last older handed sides writes wrotes next_actual outs_next knows_next live (letter_in o k runs false) o k row refl in_actual refl refl refl its whole answers)

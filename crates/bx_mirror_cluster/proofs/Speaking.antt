@@ -1,5 +1,5 @@
 -- What the letters of a stream say: the writes of a device that come once they are sent are those that came before, and those of the write that is out.
-use Rattle.std.proofs.Common.{◌≡◌, ◌⊎◌, inl, inr, ℕ, zero, suc, ◌^◌, ◌<◌, ◌≤◌, Bool, true, false, List, [], ◌∷◌, ◌++◌, length, Some, None, refl, sym, ◌∙◌, ap, subst, arith, lit≤}
+use Rattle.std.proofs.Common.{◌≡◌, ◌⊎◌, inl, inr, ℕ, zero, suc, ◌^◌, ◌<◌, ◌≤◌, Bool, true, false, Contains, List, [], ◌∷◌, ◌++◌, length, Some, None, refl, sym, ◌∙◌, ap, subst, arith, lit≤}
 use Rattle.std.specs.Prelude.{◌==◌, ◌||◌, ltb, slice_get, if◌then◌else◌}
 use Rattle.std.specs.List.{AllByRecursion}
 use Rattle.std.proofs.lemmas.Bool.Decides.{nat_tests}
@@ -76,6 +76,12 @@ module _ (s : Sending) (fits : FitsPacket s) where
   -- a letter says the write
   pub says : (node device : ℕ) (row : DeviceRow) (second : Bool) → device < 2 ^ 32 → Fits row.epoch → Spells (Write (write_of (head_of s device row) s.runs.1)) (write_letter node s device row second).kind (write_letter node s device row second).body
   says node device row second low epoch = record { is = is_body device row low epoch; kind_is = refl; body_is = refl }
+
+-- the letters of a write have the kinds of writes
+pub low_kinds : (before rows : List DeviceRow) (node : ℕ) (s : Sending) (letter : Letter) → Contains (letters_from before node s 0 rows) letter → letter.kind ≤ 18
+low_kinds before rows node s letter there =
+    let told = (letters_are before rows node s letter).0 there in
+    subst (λ (l : Letter). l.kind ≤ 18) (sym told.is) (most_kind s.runs.0)
 
 -- ---- what comes
 

@@ -14,8 +14,11 @@ ghost use Rattle.bx_post.specs.declared.packets.Letter.{Letter};
 ghost use Rattle.bx_mirror_laws.specs.Sides.{Among, Out};
 ghost use Rattle.bx_mirror_laws.specs.Sound.{sent_of};
 ghost use Rattle.bx_mirror_client.specs.Sends.{is_done, member_at};
+ghost use Rattle.bx_mirror_client.specs.declared.asking.Asking.{Asking};
 ghost use Rattle.bx_mirror_client.specs.declared.sending.Sending.{Sending};
-ghost use Rattle.bx_mirror_cluster.specs.Fitting.{History, IsDeviceSound, IsNewParts, IsSettledOn, IsSideAlone, Keeps, Parts, StandsOn, letters_left, opening_history, outs_of, row_of};
+ghost use Rattle.bx_mirror_cluster.specs.Writing.{MaySend, parts_sent, past_sent};
+ghost use Rattle.bx_records.specs.Runs.{KindAndRuns};
+ghost use Rattle.bx_mirror_cluster.specs.Fitting.{History, IsDeviceSound, IsNewParts, IsSettledOn, IsSideAlone, Keeps, Parts, StandsOn, WillReadOn, letters_left, opening_history, outs_of, row_of};
 
 /// What stands for readers is settled, and stands for those that know more.
 pub fn what_stands_is_settled()
@@ -76,4 +79,16 @@ pub fn begins()
     ensures sound { (parts : Parts) (x : Disks) (s : GlobalState) (device : ℕ) → IsNewParts s parts → IsOfStore parts.made x s → NamesUpTo 0 s → device < length s.devices → IsDeviceSound parts x (opening_store s) opening_history device }
     ensures stands { (parts : Parts) (x : Disks) (s : GlobalState) (device sector : ℕ) (content : List ℕ) → IsNewParts s parts → IsOfStore parts.made x s → NamesUpTo 0 s → device < length s.devices → device < parts.made.devices → 1 ≤ sector → sector < store_room parts.made
         → IsSettled x s device sector content → StandsOn parts x (opening_store s) device sector content s.index }
+{}
+
+/// A node that may send a write sends it: members and streams fit the past with that write and its letters, and what was settled, stood or is read goes
+/// on.
+pub fn a_write_is_sent()
+    ensures keeps { (parts : Parts) (x : Disks) (past : StorePast) (node session until : ℕ) (runs : KindAndRuns) → Keeps parts x past → MaySend parts past node session until runs → Keeps (parts_sent parts node session until runs) x (past_sent parts past node session until runs) }
+    ensures settles { (parts : Parts) (x : Disks) (past : StorePast) (node session until : ℕ) (runs : KindAndRuns) (device sector : ℕ) (content : List ℕ) → Keeps parts x past → MaySend parts past node session until runs
+        → IsSettledOn parts x past device sector content → IsSettledOn (parts_sent parts node session until runs) x (past_sent parts past node session until runs) device sector content }
+    ensures stands { (parts : Parts) (x : Disks) (past : StorePast) (node session until : ℕ) (runs : KindAndRuns) (device sector : ℕ) (content : List ℕ) (index : ℕ) → Keeps parts x past → MaySend parts past node session until runs
+        → StandsOn parts x past device sector content index → StandsOn (parts_sent parts node session until runs) x (past_sent parts past node session until runs) device sector content index }
+    ensures reads { (parts : Parts) (x : Disks) (past : StorePast) (node session until : ℕ) (runs : KindAndRuns) (reader : ℕ) (read : Asking) (sector : ℕ) (content : List ℕ) → Keeps parts x past → MaySend parts past node session until runs
+        → WillReadOn parts x past reader read sector content → WillReadOn (parts_sent parts node session until runs) x (past_sent parts past node session until runs) reader read sector content }
 {}

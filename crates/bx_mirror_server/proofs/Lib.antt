@@ -1,0 +1,9 @@
+pub mod Events
+pub mod Owing
+pub mod Places
+pub mod Putting
+pub mod Sending
+pub mod Shifting
+pub mod Taking
+pub mod Telling
+pub mod Working

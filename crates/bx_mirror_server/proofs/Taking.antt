@@ -1,0 +1,113 @@
+-- The steps of a member are events of its device.
+use Rattle.std.proofs.Common.{◌≡◌, ℕ, zero, suc, ◌+◌, ◌-◌, ◌≤◌, Bool, true, false, Contains, List, [], ◌∷◌, Option, Some, None, refl, sym, ◌∙◌, ap, subst, arith}
+use Rattle.std.specs.Prelude.{◌==◌, not, slice_get, if◌then◌else◌}
+use Rattle.std.proofs.lemmas.Bool.Decides.{nat_tests}
+use Rattle.bx_base.specs.declared.names.Actor.{Actor}
+use Rattle.bx_disk.specs.Disks.{Disks, Image, sector_of}
+use Rattle.bx_facts.specs.Writes.{Writes, WritesIn}
+use Rattle.bx_global.specs.declared.state.GlobalState.{GlobalState}
+use Rattle.bx_post.specs.declared.packets.Letter.{Letter}
+use Rattle.bx_records.specs.declared.runs.Run.{Run}
+use Rattle.bx_rows.specs.declared.device.DeviceRow.{DeviceRow}
+use Rattle.bx_mirror_laws.specs.Steps.{IsDown, KnowsBefore, Learns, PieceTaken, Synced, Taken}
+use Rattle.bx_mirror_packets.specs.declared.message.CopyBody.{CopyBody}
+use Rattle.bx_mirror_packets.specs.declared.message.WriteBody.{WriteBody}
+use Rattle.bx_mirror_tables.specs.Lasts.{last_in}
+use Rattle.bx_mirror_tables.proofs.Noting.{noted_last}
+use Rattle.bx_mirror_member.specs.Acting.{IsTaken}
+use Rattle.bx_mirror_member.specs.Standing.{Standing, device_in, disk_in, is_news, is_second, learned, learned_row, stopped, with_row}
+use Rattle.bx_mirror_member.specs.Steps.{copied_of}
+use Rattle.bx_mirror_server.specs.Serving.{OfSync, PutsPiece, PutsWrite, run_of}
+use Rattle.bx_mirror_server.specs.Sides.{IsOnce, MayTakeWrite, letter_to, piece_from, side_of}
+use Rattle.bx_mirror_server.proofs.Owing.{copied_only, copied_same, wrote_it, wrote_only, wrote_same, wrote_still}
+
+-- ---- writes
+
+pub takes : (m : Standing) (reading greatest : ℕ) (w : WriteBody) (x : Disks) → greatest ≤ reading + 500 → IsTaken m reading w → MayTakeWrite greatest m x w
+takes m reading greatest w x steady is = record {
+  row = is.opens.row;
+  takes = record {
+    acts = record { up = refl; named = is.opens.acts.named; knows = is.opens.acts.row_is };
+    epoch = is.opens.acts.epoch_is;
+    written = is.opens.written;
+    newer = is.newer;
+    in_time = λ late. let until = is.opens.in_time in absurd (omega (arith, until, late, steady));
+  };
+}
+
+pub took : (m new : Standing) (from : Actor) (w : WriteBody) (before after : List Letter) (x y : Disks) → IsOnce w.runs.1 (device_in m) → PutsWrite (Unit {0}) from w m new before after x y
+    → Taken (device_in m) (letter_to m w) (side_of true m x) (side_of true new y)
+took m new from w before after x y once is = subst (λ (n : Standing). Taken (device_in m) (letter_to m w) (side_of true m x) (side_of true n y)) (sym is.member) (record {
+  memory = record { up = refl; boot = refl; row = refl };
+  puts = record { written = λ sector content brings. (is.puts tt).written sector content brings (λ other too. once sector content other brings too); keeps = (is.puts tt).keeps };
+  last = let e : (w.session == w.session) ≡ true = grind (arith, nat_tests) in noted_last m.lasts w.session w.sequence w.session ∙ ap (λ (t : Bool). if t then w.sequence else last_in m.lasts w.session) e;
+  others = λ session apart. let e : (w.session == session) ≡ false = grind (arith, nat_tests, apart) in noted_last m.lasts w.session w.sequence session ∙ ap (λ (t : Bool). if t then w.sequence else last_in m.lasts session) e;
+  owes_it = wrote_it (is_second m) m.owed from (record { session = w.session; device = w.device; epoch = w.epoch; sequence = w.sequence });
+  owes_still = λ v there. wrote_still (is_second m) m.owed from (record { session = w.session; device = w.device; epoch = w.epoch; sequence = w.sequence }) v there;
+  owes_only = λ v there. wrote_only (is_second m) m.owed from (record { session = w.session; device = w.device; epoch = w.epoch; sequence = w.sequence }) v there;
+  copied = copied_same (is_second m) m.owed from (record { session = w.session; device = w.device; epoch = w.epoch; sequence = w.sequence });
+  place = refl;
+})
+
+-- ---- pieces of copies
+
+only_piece : (c : CopyBody) (run : Run) → Contains (run_of c ∷ []) run → run_of c ≡ run
+only_piece c run (zero, less, is) = is
+only_piece c run (suc k, less, is) = absurd (omega (arith, less))
+
+piece_writes : (c : CopyBody) (device x : ℕ) (other : List ℕ) → WritesIn (run_of c ∷ []) device x other → Writes (run_of c) device x other
+piece_writes c device x other (run, has, at) = subst (λ (r : Run). Writes r device x other) (sym (only_piece c run has)) at
+
+pub piece : (m new : Standing) (from : Actor) (by : Bool) (c : CopyBody) (x y : Disks) → c.device ≡ device_in m → PutsPiece (Unit {0}) from c m new x y
+    → PieceTaken (is_second m) (piece_from by c) (side_of true m x) (side_of true new y)
+piece m new from by c x y here is = subst (λ (n : Standing). PieceTaken (is_second m) (piece_from by c) (side_of true m x) (side_of true n y)) (sym is.member) (record {
+  memory = record { up = refl; boot = refl; row = refl };
+  lasts = refl;
+  wrote = wrote_same (is_second m) m.owed from (copied_of c);
+  copied_only = λ v there. copied_only (is_second m) m.owed from (copied_of c) v there;
+  place = refl;
+  inside = λ sector low high.
+      (is.puts tt).written sector (sector_of c.bytes (sector - c.place)) (run_of c, (0, omega arith, refl), record { on = here; from = low; below = high; is = refl })
+      (λ other brings. sym (piece_writes c (device_in m) sector other brings).is);
+  keeps = λ sector same.
+      (is.puts tt).keeps sector (x.reads (disk_in m) sector)
+      (λ other brings. let w = piece_writes c (device_in m) sector other brings in sym w.is ∙ sym (same w.from w.below))
+      refl;
+})
+
+-- ---- a row, and a sync
+
+newer : (known : Option DeviceRow) (row : DeviceRow) → KnowsBefore known row.epoch → is_news known row ≡ true
+newer None row before = refl
+newer (Some k) row before = let e : (k.epoch == row.epoch) ≡ false = grind (arith, nat_tests, before) in ap not e
+
+pub learns : (m : Standing) (known : GlobalState) (row : DeviceRow) (x : Disks) → slice_get known.devices (device_in m) ≡ Some row → KnowsBefore m.row row.epoch
+    → Learns row (side_of true m x) (side_of true (learned known m) x)
+learns m known row x at before = subst (λ (n : Standing). Learns row (side_of true m x) (side_of true n x)) (sym becomes) (record {
+  before = before;
+  up = refl;
+  boot = refl;
+  row_is = refl;
+  lasts = λ session. refl;
+  wrote = refl;
+  copied = refl;
+  reads = refl;
+  unsure = refl;
+})
+  where
+    becomes : learned known m ≡ with_row m row
+    becomes = ap (learned_row m) at ∙ ap (λ (t : Bool). if t then with_row m row else m) (newer m.row row before)
+
+pub syncs : (m new : Standing) (before after : List Letter) (x y : Disks) → OfSync (Unit {0}) m new None before after x y → Synced (side_of true m x) (side_of true new y)
+syncs m new before after x y is = subst (λ (n : Standing). Synced (side_of true m x) (side_of true n y)) (sym is.member) (record {
+  memory = record { up = refl; boot = refl; row = refl };
+  lasts = refl;
+  place = refl;
+  reads = ap (λ (f : Image). f (disk_in m)) (is.reads tt);
+  sure = λ sector. is.sure sector tt;
+  wrote = refl;
+  copied = refl;
+})
+
+pub stops : (m : Standing) (x : Disks) → IsDown (side_of false (stopped m) x)
+stops m x = record { down = refl; wrote = refl; copied = refl; row = refl }

@@ -1,0 +1,3 @@
+pub mod Serving
+pub mod Sides
+pub mod Working

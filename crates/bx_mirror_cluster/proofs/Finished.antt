@@ -61,7 +61,7 @@ module _ (parts : Parts) (x : Disks) (past : StorePast) (keeps : Keeps parts x p
           let row = ((done_is s (parts.nodes n).rows).0 done).each d k knows (brings.0, brings.1, brings.2.on) in
           let low = low_mode k.mode row.writes in
           let range = out.range sector content brings in
-          let acked : (b : Bool) → IsSource k.mode b → HasAcked (keeps.history.wrotes d) b this k = λ b source. record { is = keeps.noted n d k.epoch b s is_out (row.acked b (written_source k.mode b low source)) } in
+          let acked : (b : Bool) → IsSource k.mode b → HasAcked (keeps.history.wrotes d) b this k = λ b source. record { is = keeps.noted n d k.epoch b s device is_out (row.acked b (written_source k.mode b low source)) } in
           let stands = done_stands d (store_room parts.made) past.told.greatest (last_row past.told.chain d) (rows_before past.told.chain d) (handings d past.told.handed) (side_of past.told x parts.members d) (keeps.history.source d)
           sound.rows sound.hands (keeps.history.writes d) (keeps.history.wrotes d) keeps.history.actual (outs_of parts.nodes) (knows_of parts.nodes d) (LivesIn (last past.told.chain)) sound.writes this k sends out low
           acked (IsComing past.told.letters d) past.writes sector content sound.coming keeps.actual_sent brings in

@@ -10,3 +10,4 @@ pub mod Sent
 pub mod Speaking
 pub mod Standing
 pub mod WriteSent
+pub mod GoingOn

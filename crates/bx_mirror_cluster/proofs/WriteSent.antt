@@ -331,9 +331,9 @@ module _ (parts : Parts) (x : Disks) (past : StorePast) (keeps : Keeps parts x p
       | inl zero_is ↦ inl zero_is
       | inr one ↦ inr (one.0, older_told (slice_get c.rows d) o (runs_on d runs.1) (h.writes d) one.0 one.1, one.2, one.3)
     ];
-    noted = λ m d epoch b t is has. elim (same_or m n) [
+    noted = λ m d epoch b t within is has. elim (same_or m n) [
       | inl e ↦ absurd (let both : Some s ≡ Some t = sym (ap (λ (q : Streaming). q.out) (at_it m e)) ∙ is in let same : s ≡ t = cc in nothing _ (subst (λ (v : Sending). Contains v.acks (record { member = member_at d b; epoch = epoch })) (sym same) has))
-      | inr e ↦ keeps.noted m d epoch b t (sym (ap (λ (q : Streaming). q.out) (at_other m e)) ∙ is) has
+      | inr e ↦ keeps.noted m d epoch b t within (sym (ap (λ (q : Streaming). q.out) (at_other m e)) ∙ is) has
     ];
     asking = λ m a is. let old = keeps.asking m a (sym (kept (λ q. q.asks) refl m) ∙ is) in (kept (λ q. q.session) refl m ∙ old.0, (let same = kept (λ q. q.tag) refl m in let le = old.1 in omega (arith, same, le)));
     node_known = λ m t is. let old = keeps.node_known m t (sym (kept (λ q. q.session) refl m) ∙ is) in (old.0, old.1, old.2, kept (λ q. q.rows) refl m ∙ old.3, old.4);

@@ -277,7 +277,7 @@ pub record Keeps (parts : Parts) (x : Disks) (past : StorePast) : Type 0 where
   pub lasts : (d : ℕ) (b : Bool) (session : ℕ) → (last_in (parts.members (member_at d b)).lasts session ≡ 0)
       ⊎ ((l : WriteLetter) × Among (history.writes d) l × (l.session ≡ session) × (l.sequence ≡ last_in (parts.members (member_at d b)).lasts session))
   -- what a node has noted was answered
-  pub noted : (n d epoch : ℕ) (b : Bool) (s : Sending) → (parts.nodes n).out ≡ Some s → HasAcked s.acks (member_at d b) epoch → Among (history.wrotes d) (record { by = b; session = s.session; epoch = epoch; sequence = s.sequence })
+  pub noted : (n d epoch : ℕ) (b : Bool) (s : Sending) → d < parts.made.devices → (parts.nodes n).out ≡ Some s → HasAcked s.acks (member_at d b) epoch → Among (history.wrotes d) (record { by = b; session = s.session; epoch = epoch; sequence = s.sequence })
   pub asking : (n : ℕ) (a : Asking) → (parts.nodes n).asks ≡ Some a → ((parts.nodes n).session ≡ Some a.session) × (a.tag ≤ (parts.nodes n).tag)
   -- what a node knows is the state that it was handed last, in which its session lives
   pub node_known : (n session : ℕ) → (parts.nodes n).session ≡ Some session → (s : GlobalState) × IsPlace past.told.chain s × (s.index ≡ past.told.knew (Node n)) × ((parts.nodes n).rows ≡ s.devices) × LivesIn s session

@@ -1,3 +1,4 @@
 pub mod Fitting
+pub mod GoingOn
 pub mod Speaking
 pub mod Writing

@@ -11,3 +11,4 @@ pub mod Speaking
 pub mod Standing
 pub mod WriteSent
 pub mod GoingOn
+pub mod NodeSteps

@@ -16,7 +16,10 @@ ghost use Rattle.bx_mirror_laws.specs.Sound.{sent_of};
 ghost use Rattle.bx_mirror_client.specs.Sends.{is_done, member_at};
 ghost use Rattle.bx_mirror_client.specs.declared.asking.Asking.{Asking};
 ghost use Rattle.bx_mirror_client.specs.declared.sending.Sending.{Sending};
-ghost use Rattle.bx_mirror_cluster.specs.Writing.{MaySend, parts_sent, past_sent};
+ghost use Rattle.bx_mirror_cluster.specs.NodeSteps.{IsAck, MayRead, parts_acked, parts_asked, past_asked};
+ghost use Rattle.bx_mirror_cluster.specs.Writing.{MaySend, parts_sent, past_sent, with_stream};
+ghost use Rattle.bx_mirror_client.specs.Streams.{answered};
+ghost use Rattle.bx_mirror_packets.specs.declared.message.WroteBody.{WroteBody};
 ghost use Rattle.bx_records.specs.Runs.{KindAndRuns};
 ghost use Rattle.bx_mirror_cluster.specs.Fitting.{History, IsDeviceSound, IsNewParts, IsSettledOn, IsSideAlone, Keeps, Parts, StandsOn, WillReadOn, letters_left, opening_history, outs_of, row_of};
 
@@ -91,4 +94,21 @@ pub fn a_write_is_sent()
         → StandsOn parts x past device sector content index → StandsOn (parts_sent parts node session until runs) x (past_sent parts past node session until runs) device sector content index }
     ensures reads { (parts : Parts) (x : Disks) (past : StorePast) (node session until : ℕ) (runs : KindAndRuns) (reader : ℕ) (read : Asking) (sector : ℕ) (content : List ℕ) → Keeps parts x past → MaySend parts past node session until runs
         → WillReadOn parts x past reader read sector content → WillReadOn (parts_sent parts node session until runs) x (past_sent parts past node session until runs) reader read sector content }
+{}
+
+/// A node that may send a read sends it: all goes on fitting the past with its letter, and what was settled, stood or is read goes on.
+pub fn a_read_is_sent()
+    ensures keeps { (parts : Parts) (x : Disks) (past : StorePast) (node session device place sectors : ℕ) → Keeps parts x past → MayRead parts node session device place sectors → Keeps (parts_asked parts node session device place sectors) x (past_asked parts past node session device place sectors) }
+    ensures settles { (parts : Parts) (x : Disks) (past : StorePast) (node session device place sectors d sector : ℕ) (content : List ℕ) → Keeps parts x past → MayRead parts node session device place sectors
+        → IsSettledOn parts x past d sector content → IsSettledOn (parts_asked parts node session device place sectors) x (past_asked parts past node session device place sectors) d sector content }
+    ensures stands { (parts : Parts) (x : Disks) (past : StorePast) (node session device place sectors d sector : ℕ) (content : List ℕ) (index : ℕ) → Keeps parts x past → MayRead parts node session device place sectors
+        → StandsOn parts x past d sector content index → StandsOn (parts_asked parts node session device place sectors) x (past_asked parts past node session device place sectors) d sector content index }
+    ensures reads { (parts : Parts) (x : Disks) (past : StorePast) (node session device place sectors reader : ℕ) (read : Asking) (sector : ℕ) (content : List ℕ) → Keeps parts x past → MayRead parts node session device place sectors
+        → WillReadOn parts x past reader read sector content → WillReadOn (parts_asked parts node session device place sectors) x (past_asked parts past node session device place sectors) reader read sector content }
+{}
+
+/// The answer to a node's read is taken; and an acknowledgement that comes of its write is noted, where the write isn't done by it.
+pub fn what_came_is_noted()
+    ensures answered { (parts : Parts) (x : Disks) (past : StorePast) (node : ℕ) → Keeps parts x past → Keeps (with_stream parts node (answered (parts.nodes node))) x past }
+    ensures acked { (parts : Parts) (x : Disks) (past : StorePast) (node : ℕ) (s : Sending) (member : ℕ) (w : WroteBody) → Keeps parts x past → IsAck parts past node s member w → Keeps (parts_acked parts node s member w.epoch) x past }
 {}

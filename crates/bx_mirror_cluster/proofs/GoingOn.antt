@@ -65,6 +65,7 @@ module _ (parts : Parts) (x : Disks) (past : StorePast) (keeps : Keeps parts x p
     out_actual = λ m w is. let old = keeps.out_actual m w (sym (on.out m) ∙ is) in (old.0, on.session m ∙ old.1);
     own_out = λ m w there is. on.out m ∙ keeps.own_out m w there (sym (on.session m) ∙ is);
     lasts = keeps.lasts;
+    brings = keeps.brings;
     noted = on.noted;
     asking = on.asking;
     node_known = λ m t is. let old = keeps.node_known m t (sym (on.session m) ∙ is) in (old.0, old.1, old.2, on.rows m ∙ old.3, old.4);

@@ -70,6 +70,7 @@ module _ (parts : Parts) (x : Disks) (past : StorePast) (letters : List Letter) 
     out_actual = keeps.out_actual;
     own_out = keeps.own_out;
     lasts = keeps.lasts;
+    brings = keeps.brings;
     noted = keeps.noted;
     asking = keeps.asking;
     node_known = keeps.node_known;

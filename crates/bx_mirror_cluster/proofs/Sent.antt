@@ -32,7 +32,7 @@ module _ (device room greatest : ℕ) (last : DeviceRow) (older : List DeviceRow
   abbrev next_actual : List Out
   next_actual = o ∷ actual
 
-  base_writes : AreWrites device greatest last older sides writes wrotes next_actual outs_next knows_next live
+  pub base_writes : AreWrites device greatest last older sides writes wrotes next_actual outs_next knows_next live
   base_writes = writes_send device room greatest last older handed sides source rows hands writes wrotes actual next_actual outs outs_next knows knows_next live o
       (λ b q sent has. none_new last older sides writes wrotes o q answers numbers b has)
       (λ other q sent. elim (sends other q sent) [ inl old ↦ inl old | inr new ↦ inr new.0 ])
@@ -61,7 +61,7 @@ module _ (device room greatest : ℕ) (last : DeviceRow) (older : List DeviceRow
   now_out = out_begins device room greatest last older handed sides source rows hands writes wrotes next_actual answers o k row begins range once
       (λ w x content other there theirs its. elim there.is [ inl new ↦ inl new | inr old ↦ inr (alone w x content other (record { is = old }) theirs its) ]) numbers lasts
 
-  base_outs : AreOuts device room greatest last older handed sides writes wrotes next_actual outs_next knows_next live
+  pub base_outs : AreOuts device room greatest last older handed sides writes wrotes next_actual outs_next knows_next live
   base_outs = record {
     each = λ q r sent. elim (sends q r sent) [
       | inl old ↦ still_out q r old

@@ -20,7 +20,7 @@ use Rattle.bx_mirror_packets.specs.declared.message.WriteBody.{WriteBody}
 use Rattle.bx_mirror_packets.proofs.Spelled.{one_message}
 use Rattle.bx_mirror_client.specs.Letters.{head_of, letters_from, write_letter}
 use Rattle.bx_mirror_client.specs.Sends.{member_at, write_kind}
-use Rattle.bx_mirror_client.specs.Telling.{IsTold}
+use Rattle.bx_mirror_client.specs.Telling.{HasRuns, IsTold}
 use Rattle.bx_mirror_client.specs.declared.sending.Sending.{Sending}
 use Rattle.bx_mirror_client.proofs.Telling.{letters_are}
 use Rattle.bx_mirror_cluster.specs.Fitting.{IsComing}
@@ -126,6 +126,7 @@ module _ (before rows : List DeviceRow) (node : ℕ) (s : Sending) (fits : FitsP
       let numbers : member_at d l.at ≡ member_at t.device t.second = ap number_in (sym to ∙ sent) in
       let at : l.at ≡ t.second = same_member d l.at t.second (numbers ∙ ap (λ (k : ℕ). member_at k t.second) here) in
       record {
+        runs = subst (λ (k : ℕ). HasRuns k s.runs.1) here t.runs;
         row = t.row;
         there = subst (λ (k : ℕ). slice_get rows k ≡ Some t.row) here t.there;
         written = subst (λ (b : Bool). IsWritten t.row.mode b) (sym at) t.written;

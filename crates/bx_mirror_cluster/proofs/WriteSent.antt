@@ -1,10 +1,10 @@
 -- A node sends a write: members and streams fit the past with that write and its letters.
-use Rattle.std.proofs.Common.{◌≡◌, ◌≢◌, ◌⊎◌, inl, inr, ℕ, ◌+◌, ◌<◌, ◌≤◌, Bool, true, false, Contains, List, [], ◌∷◌, ◌++◌, length, Option, Some, None, refl, sym, ◌∙◌, ap, subst, arith}
+use Rattle.std.proofs.Common.{◌≡◌, ◌≢◌, ◌⊎◌, inl, inr, ℕ, ◌+◌, ◌-◌, ◌<◌, ◌≤◌, Bool, true, false, Contains, List, [], ◌∷◌, ◌++◌, length, Option, Some, None, refl, sym, ◌∙◌, ap, subst, arith}
 use Rattle.std.specs.Prelude.{◌==◌, slice_get, if◌then◌else◌}
 use Rattle.std.proofs.lemmas.Bool.Decides.{nat_tests}
 use Rattle.std.proofs.lemmas.List.Elements.{Contains-append_cases}
 use Rattle.std.proofs.lemmas.Option.{slice_get_cases}
-use Rattle.bx_disk.specs.Disks.{Disks}
+use Rattle.bx_disk.specs.Disks.{Disks, sector_of}
 use Rattle.bx_facts.proofs.Lists.{behind, front, front_or_behind, nothing}
 use Rattle.bx_facts.specs.Chains.{LivesIn, last}
 use Rattle.bx_facts.specs.Writes.{AreRuns, MayWrite, Sent, StorePast, WritesIn, store_room}
@@ -22,14 +22,15 @@ use Rattle.bx_mirror_laws.proofs.Nodes.{stands_send}
 use Rattle.bx_mirror_packets.specs.Parting.{runs_on}
 use Rattle.bx_mirror_tables.specs.Lasts.{last_in}
 use Rattle.bx_mirror_client.specs.Letters.{letters_from, write_letters}
-use Rattle.bx_mirror_client.specs.Sends.{member_at, next_number}
+use Rattle.bx_mirror_client.specs.Sends.{has_runs, member_at, next_number}
 use Rattle.bx_mirror_client.specs.Streams.{Streaming, sending}
 use Rattle.bx_mirror_client.specs.declared.asking.Asking.{Asking}
 use Rattle.bx_mirror_client.specs.declared.sending.Sending.{Sending}
+use Rattle.bx_mirror_client.proofs.Telling.{runs_there, there_runs}
 use Rattle.bx_mirror_cluster.specs.Fitting.{History, IsComing, IsDeviceSound, IsSettledOn, Keeps, KnownFrom, Nowhere, Parts, StandsFor, StandsOn, WillReadOn, handings, knows_of, last_row, out_by, outs_of, row_or, rows_before, side_of}
 use Rattle.bx_mirror_cluster.specs.Speaking.{FitsPacket, letter_of}
 use Rattle.bx_mirror_cluster.specs.Writing.{MaySend, parts_sent, past_sent, with_node, with_sent, with_stream, write_by}
-use Rattle.bx_mirror_cluster.proofs.Sent.{sent_outs, sent_writes, sent_wrotes, told_both}
+use Rattle.bx_mirror_cluster.proofs.Sent.{base_outs, base_writes, sent_outs, sent_writes, sent_wrotes, told_both}
 use Rattle.bx_mirror_cluster.proofs.Speaking.{coming_more, low_kinds}
 
 -- ---- numbers, and runs on a device
@@ -83,16 +84,32 @@ abbrev pub told_in : Option DeviceRow → Out → List Run → List WriteLetter 
 told_in None o runs writes = writes
 told_in (Some k) o runs writes = told_both o k runs writes
 
-older_told : (row : Option DeviceRow) (o : Out) (runs : List Run) (writes : List WriteLetter) (l : WriteLetter) → Among writes l → Among (told_in row o runs writes) l
-older_told None o runs writes l there = there
-older_told (Some k) o runs writes l there = record { is = inr (inr there.is) }
+-- and it has some of the runs
+abbrev pub told_if : Bool → Option DeviceRow → Out → List Run → List WriteLetter → List WriteLetter
+told_if b row o runs writes = if b then told_in row o runs writes else writes
 
-newer_told : (row : Option DeviceRow) (o : Out) (runs : List Run) (writes : List WriteLetter) (l : WriteLetter) → Among (told_in row o runs writes) l → Among writes l ⊎ ((l.session ≡ o.session) × (l.sequence ≡ o.sequence))
-newer_told None o runs writes l there = inl there
-newer_told (Some k) o runs writes l there = elim there.is [
-  | inl one ↦ inr (ap (λ (m : WriteLetter). m.session) one, ap (λ (m : WriteLetter). m.sequence) one)
+older_in : (row : Option DeviceRow) (o : Out) (runs : List Run) (writes : List WriteLetter) (l : WriteLetter) → Among writes l → Among (told_in row o runs writes) l
+older_in None o runs writes l there = there
+older_in (Some k) o runs writes l there = record { is = inr (inr there.is) }
+
+older_told : (b : Bool) (row : Option DeviceRow) (o : Out) (runs : List Run) (writes : List WriteLetter) (l : WriteLetter) → Among writes l → Among (told_if b row o runs writes) l
+older_told true row o runs writes l there = older_in row o runs writes l there
+older_told false row o runs writes l there = there
+
+-- a letter is an older one, or of this write
+record IsNewer (b : Bool) (o : Out) (runs : List Run) (l : WriteLetter) : Type 0 where
+  has : b ≡ true
+  session : l.session ≡ o.session
+  sequence : l.sequence ≡ o.sequence
+  brings : l.runs ≡ runs
+
+newer_told : (b : Bool) (row : Option DeviceRow) (o : Out) (runs : List Run) (writes : List WriteLetter) (l : WriteLetter) → Among (told_if b row o runs writes) l → Among writes l ⊎ IsNewer b o runs l
+newer_told false row o runs writes l there = inl there
+newer_told true None o runs writes l there = inl there
+newer_told true (Some k) o runs writes l there = elim there.is [
+  | inl one ↦ inr (record { has = refl; session = ap (λ (m : WriteLetter). m.session) one; sequence = ap (λ (m : WriteLetter). m.sequence) one; brings = ap (λ (m : WriteLetter). m.runs) one })
   | inr more ↦ elim more [
-    | inl two ↦ inr (ap (λ (m : WriteLetter). m.session) two, ap (λ (m : WriteLetter). m.sequence) two)
+    | inl two ↦ inr (record { has = refl; session = ap (λ (m : WriteLetter). m.session) two; sequence = ap (λ (m : WriteLetter). m.sequence) two; brings = ap (λ (m : WriteLetter). m.runs) two })
     | inr old ↦ inl (record { is = old })
   ]
 ]
@@ -125,7 +142,7 @@ module _ (parts : Parts) (x : Disks) (past : StorePast) (keeps : Keeps parts x p
   abbrev h_next : History
   h_next = record {
     actual = o ∷ h.actual;
-    writes = λ d. told_in (slice_get c.rows d) o (runs_on d runs.1) (h.writes d);
+    writes = λ d. told_if (has_runs d runs.1) (slice_get c.rows d) o (runs_on d runs.1) (h.writes d);
     wrotes = h.wrotes;
     copies = h.copies;
     copieds = h.copieds;
@@ -241,8 +258,9 @@ module _ (parts : Parts) (x : Disks) (past : StorePast) (keeps : Keeps parts x p
 
     coming : (l : WriteLetter) → IsComing (past.told.letters ++ letters) d l → Among (h_next.writes d) l
     coming l comes = elim (coming_more [] c.rows c.node s fits few epochs past.told.letters d l comes) [
-      | inl old ↦ older_told (slice_get c.rows d) o (runs_on d runs.1) (h.writes d) l (was.coming l old)
-      | inr new ↦ subst (λ (r : Option DeviceRow). Among (told_in r o (runs_on d runs.1) (h.writes d)) l) (sym new.there) (by_member l.at new.row new.is)
+      | inl old ↦ older_told (has_runs d runs.1) (slice_get c.rows d) o (runs_on d runs.1) (h.writes d) l (was.coming l old)
+      | inr new ↦ subst (λ (b : Bool). Among (told_if b (slice_get c.rows d) o (runs_on d runs.1) (h.writes d)) l) (sym (there_runs d runs.1 new.runs))
+          (subst (λ (r : Option DeviceRow). Among (told_in r o (runs_on d runs.1) (h.writes d)) l) (sym new.there) (by_member l.at new.row new.is))
     ]
       where
         by_member : (b : Bool) (row : DeviceRow) → l ≡ letter_of s d row b → Among (told_both o row (runs_on d runs.1) (h.writes d)) l
@@ -254,15 +272,9 @@ module _ (parts : Parts) (x : Disks) (past : StorePast) (keeps : Keeps parts x p
       rows = was.rows;
       hands = was.hands;
       copies = was.copies;
-      writes = subst (λ (r : Option DeviceRow). AreWrites d past.told.greatest last_ older_ sides (told_in r o (runs_on d runs.1) (h.writes d)) (h.wrotes d) (o ∷ h.actual) (outs_of nodes_next) (knows_of nodes_next d) live) (sym there)
-          (sent_writes d room past.told.greatest last_ older_ handed sides (h.source d) was.rows was.hands (h.writes d) (h.wrotes d) h.actual (outs_of parts.nodes) (outs_of nodes_next) (knows_of parts.nodes d) (knows_of nodes_next d) live
-          was.wrotes was.writes was.outs o k (known_row k there) (sends_or k there) apart begins range (λ y content other. are.once d y content other) alone clear (lower d) (lower_last d) (runs_on d runs.1) (on_its d runs.1) (on_whole d runs.1));
-      wrotes = subst (λ (r : Option DeviceRow). AreWrotes last_ older_ sides (told_in r o (runs_on d runs.1) (h.writes d)) (h.wrotes d)) (sym there)
-          (sent_wrotes d room past.told.greatest last_ older_ handed sides (h.source d) was.rows was.hands (h.writes d) (h.wrotes d) h.actual (outs_of parts.nodes) (outs_of nodes_next) (knows_of parts.nodes d) (knows_of nodes_next d) live
-          was.wrotes was.writes was.outs o k (known_row k there) (sends_or k there) apart begins range (λ y content other. are.once d y content other) alone clear (lower d) (lower_last d) (runs_on d runs.1) (on_its d runs.1) (on_whole d runs.1));
-      outs = subst (λ (r : Option DeviceRow). AreOuts d room past.told.greatest last_ older_ handed sides (told_in r o (runs_on d runs.1) (h.writes d)) (h.wrotes d) (o ∷ h.actual) (outs_of nodes_next) (knows_of nodes_next d) live) (sym there)
-          (sent_outs d room past.told.greatest last_ older_ handed sides (h.source d) was.rows was.hands (h.writes d) (h.wrotes d) h.actual (outs_of parts.nodes) (outs_of nodes_next) (knows_of parts.nodes d) (knows_of nodes_next d) live
-          was.wrotes was.writes was.outs o k (known_row k there) (sends_or k there) apart begins range (λ y content other. are.once d y content other) alone clear (lower d) (lower_last d) (runs_on d runs.1) (on_its d runs.1) (on_whole d runs.1));
+      writes = by_writes (has_runs d runs.1);
+      wrotes = by_wrotes (has_runs d runs.1);
+      outs = by_outs (has_runs d runs.1);
       coming = coming;
       answering = λ w a. was.answering w (record { letter = a.letter; there = was_there a.letter a.there (let e = a.spells.kind_is in omega (arith, e)); wrote = a.wrote; spells = a.spells; from = a.from; device = a.device; session = a.session; epoch_is = a.epoch_is; sequence = a.sequence });
       copying = λ l a. was.copying l (record { letter = a.letter; there = was_there a.letter a.there (let e = a.spells.kind_is in omega (arith, e)); copy = a.copy; spells = a.spells; from = a.from; device = a.device; epoch_is = a.epoch_is; place = a.place; bytes = a.bytes });
@@ -292,6 +304,21 @@ module _ (parts : Parts) (x : Disks) (past : StorePast) (keeps : Keeps parts x p
 
         begins : 1 ≤ next_number c.sequence
         begins = omega (arith, next_is)
+
+        by_writes : (b : Bool) → AreWrites d past.told.greatest last_ older_ sides (told_if b (slice_get c.rows d) o (runs_on d runs.1) (h.writes d)) (h.wrotes d) (o ∷ h.actual) (outs_of nodes_next) (knows_of nodes_next d) live
+        by_writes true = subst (λ (r : Option DeviceRow). AreWrites d past.told.greatest last_ older_ sides (told_in r o (runs_on d runs.1) (h.writes d)) (h.wrotes d) (o ∷ h.actual) (outs_of nodes_next) (knows_of nodes_next d) live) (sym there)
+            (sent_writes d room past.told.greatest last_ older_ handed sides (h.source d) was.rows was.hands (h.writes d) (h.wrotes d) h.actual (outs_of parts.nodes) (outs_of nodes_next) (knows_of parts.nodes d) (knows_of nodes_next d) live was.wrotes was.writes was.outs o k (known_row k there) (sends_or k there) apart begins range (λ y content other. are.once d y content other) alone clear (lower d) (lower_last d) (runs_on d runs.1) (on_its d runs.1) (on_whole d runs.1))
+        by_writes false = base_writes d room past.told.greatest last_ older_ handed sides (h.source d) was.rows was.hands (h.writes d) (h.wrotes d) h.actual (outs_of parts.nodes) (outs_of nodes_next) (knows_of parts.nodes d) (knows_of nodes_next d) live was.wrotes was.writes was.outs o k (known_row k there) (sends_or k there) apart begins range (λ y content other. are.once d y content other) alone clear (lower d) (lower_last d)
+
+        by_wrotes : (b : Bool) → AreWrotes last_ older_ sides (told_if b (slice_get c.rows d) o (runs_on d runs.1) (h.writes d)) (h.wrotes d)
+        by_wrotes true = subst (λ (r : Option DeviceRow). AreWrotes last_ older_ sides (told_in r o (runs_on d runs.1) (h.writes d)) (h.wrotes d)) (sym there)
+            (sent_wrotes d room past.told.greatest last_ older_ handed sides (h.source d) was.rows was.hands (h.writes d) (h.wrotes d) h.actual (outs_of parts.nodes) (outs_of nodes_next) (knows_of parts.nodes d) (knows_of nodes_next d) live was.wrotes was.writes was.outs o k (known_row k there) (sends_or k there) apart begins range (λ y content other. are.once d y content other) alone clear (lower d) (lower_last d) (runs_on d runs.1) (on_its d runs.1) (on_whole d runs.1))
+        by_wrotes false = was.wrotes
+
+        by_outs : (b : Bool) → AreOuts d room past.told.greatest last_ older_ handed sides (told_if b (slice_get c.rows d) o (runs_on d runs.1) (h.writes d)) (h.wrotes d) (o ∷ h.actual) (outs_of nodes_next) (knows_of nodes_next d) live
+        by_outs true = subst (λ (r : Option DeviceRow). AreOuts d room past.told.greatest last_ older_ handed sides (told_in r o (runs_on d runs.1) (h.writes d)) (h.wrotes d) (o ∷ h.actual) (outs_of nodes_next) (knows_of nodes_next d) live) (sym there)
+            (sent_outs d room past.told.greatest last_ older_ handed sides (h.source d) was.rows was.hands (h.writes d) (h.wrotes d) h.actual (outs_of parts.nodes) (outs_of nodes_next) (knows_of parts.nodes d) (knows_of nodes_next d) live was.wrotes was.writes was.outs o k (known_row k there) (sends_or k there) apart begins range (λ y content other. are.once d y content other) alone clear (lower d) (lower_last d) (runs_on d runs.1) (on_its d runs.1) (on_whole d runs.1))
+        by_outs false = base_outs d room past.told.greatest last_ older_ handed sides (h.source d) was.rows was.hands (h.writes d) (h.wrotes d) h.actual (outs_of parts.nodes) (outs_of nodes_next) (knows_of parts.nodes d) (knows_of nodes_next d) live was.wrotes was.writes was.outs o k (known_row k there) (sends_or k there) apart begins range (λ y content other. are.once d y content other) alone clear (lower d) (lower_last d)
 
     sound : IsDeviceSound (with_stream parts n (sending (Some session) runs until c)) x (with_sent past sent letters) h_next d
     sound = elim (slice_get_cases c.rows d).1 [
@@ -329,8 +356,9 @@ module _ (parts : Parts) (x : Disks) (past : StorePast) (keeps : Keeps parts x p
     ];
     lasts = λ d b session_of_it. elim (keeps.lasts d b session_of_it) [
       | inl zero_is ↦ inl zero_is
-      | inr one ↦ inr (one.0, older_told (slice_get c.rows d) o (runs_on d runs.1) (h.writes d) one.0 one.1, one.2, one.3)
+      | inr one ↦ inr (one.0, older_told (has_runs d runs.1) (slice_get c.rows d) o (runs_on d runs.1) (h.writes d) one.0 one.1, one.2, one.3)
     ];
+    brings = λ d l there. brought d l (newer_told (has_runs d runs.1) (slice_get c.rows d) o (runs_on d runs.1) (h.writes d) l there);
     noted = λ m d epoch b t within is has. elim (same_or m n) [
       | inl e ↦ absurd (let both : Some s ≡ Some t = sym (ap (λ (q : Streaming). q.out) (at_it m e)) ∙ is in let same : s ≡ t = cc in nothing _ (subst (λ (v : Sending). Contains v.acks (record { member = member_at d b; epoch = epoch })) (sym same) has))
       | inr e ↦ keeps.noted m d epoch b t within (sym (ap (λ (q : Streaming). q.out) (at_other m e)) ∙ is) has
@@ -342,7 +370,7 @@ module _ (parts : Parts) (x : Disks) (past : StorePast) (keeps : Keeps parts x p
     sessions = keeps.sessions;
     booted = keeps.booted;
     owned = λ m t is. keeps.owned m t (sym (kept (λ q. q.session) refl m) ∙ is);
-    numbered = λ d l there. numbered d l (newer_told (slice_get c.rows d) o (runs_on d runs.1) (h.writes d) l there);
+    numbered = λ d l there. numbered d l (newer_told (has_runs d runs.1) (slice_get c.rows d) o (runs_on d runs.1) (h.writes d) l there);
     tagged = λ m d t epoch tag bytes data_. elim (keeps.tagged m d t epoch tag bytes (record { letter = data_.letter; there = was_there data_.letter data_.there (let e = data_.spells.kind_is in omega (arith, e)); data_ = data_.data_; spells = data_.spells; to = data_.to; device = data_.device; session_is = data_.session_is; epoch_is = data_.epoch_is; tag_is = data_.tag_is; bytes_are = data_.bytes_are })) [
       | inl old ↦ inl old
       | inr le ↦ inr (let same = kept (λ q. q.tag) refl m in omega (arith, le, same))
@@ -354,22 +382,34 @@ module _ (parts : Parts) (x : Disks) (past : StorePast) (keeps : Keeps parts x p
     boots = λ m. ((keeps.boots m).0, kept (λ q. q.boot) refl m ∙ (keeps.boots m).1);
   }
     where
+      -- a run on a device brings its first sector there
+      brought : (d : ℕ) (l : WriteLetter) → Among (h.writes d) l ⊎ IsNewer (has_runs d runs.1) o (runs_on d runs.1) l → (y : ℕ) × ((content : List ℕ) × WritesIn l.runs d y content)
+      brought d l (inl old) = keeps.brings d l old
+      brought d l (inr new) =
+          let has = runs_there d runs.1 new.has in
+          let run = are.each has.0 has.1 in
+          let sectors = run.some in
+          let y = has.0.place in
+          let content = sector_of has.0.bytes (y - y) in
+          let first : WritesIn runs.1 d y content = (has.0, has.1, record { on = has.2; from = omega arith; below = omega (arith, sectors); is = refl }) in
+          (y, (content, subst (λ (rs : List Run). WritesIn rs d y content) (sym new.brings) (on_whole d runs.1 y content first)))
+
       rises : (m : ℕ) → (parts.nodes m).sequence ≤ (nodes_next m).sequence
       rises m = elim (same_or m n) [
         | inl e ↦ (let now = ap (λ (q : Streaming). q.sequence) (at_it m e) in let before = ap (λ (k : ℕ). (parts.nodes k).sequence) e in omega (arith, now, before))
         | inr e ↦ (let same = ap (λ (q : Streaming). q.sequence) (at_other m e) in omega (arith, same))
       ]
 
-      numbered : (d : ℕ) (l : WriteLetter) → Among (h.writes d) l ⊎ ((l.session ≡ session) × (l.sequence ≡ next_number c.sequence))
+      numbered : (d : ℕ) (l : WriteLetter) → Among (h.writes d) l ⊎ IsNewer (has_runs d runs.1) o (runs_on d runs.1) l
           → (keeps.boot_of l.session < past.told.boots (Node (keeps.node_of l.session))) ⊎ (l.sequence ≤ (nodes_next (keeps.node_of l.session)).sequence)
       numbered d l (inl old) = elim (keeps.numbered d l old) [
         | inl before ↦ inl before
         | inr le ↦ inr (let more = rises (keeps.node_of l.session) in omega (arith, le, more))
       ]
       numbered d l (inr new) = inr (
-          let node = ap keeps.node_of new.0 ∙ (keeps.owned n session own).0 in
+          let node = ap keeps.node_of new.session ∙ (keeps.owned n session own).0 in
           let at = ap (λ (k : ℕ). (nodes_next k).sequence) node ∙ ap (λ (q : Streaming). q.sequence) (at_it n refl) in
-          let it = new.1 in omega (arith, at, it))
+          let it = new.sequence in omega (arith, at, it))
 
   -- ---- what stands goes on
 

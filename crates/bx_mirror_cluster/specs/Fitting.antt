@@ -6,7 +6,7 @@ use Rattle.bx_disk.specs.Disks.{Disks, sector_of}
 use Rattle.bx_facts.specs.Chains.{Chain, IsPlace, LivesIn, last, session_of, state_after}
 use Rattle.bx_facts.specs.Pasts.{Told}
 use Rattle.bx_facts.specs.Sessions.{AreRows as AreSessions}
-use Rattle.bx_facts.specs.Writes.{Made, StorePast, label_on, member_disk, store_room}
+use Rattle.bx_facts.specs.Writes.{Made, StorePast, WritesIn, label_on, member_disk, store_room}
 use Rattle.bx_global.specs.declared.change.Change.{Change}
 use Rattle.bx_global.specs.declared.change.Change.TheVariants.{Renew, Take, Open, Expire, Claim, Close, Shift}
 use Rattle.bx_global.specs.declared.state.GlobalState.{GlobalState}
@@ -276,6 +276,8 @@ pub record Keeps (parts : Parts) (x : Disks) (past : StorePast) : Type 0 where
   -- the last sequence that a member knows of a session is that of a letter
   pub lasts : (d : ℕ) (b : Bool) (session : ℕ) → (last_in (parts.members (member_at d b)).lasts session ≡ 0)
       ⊎ ((l : WriteLetter) × Among (history.writes d) l × (l.session ≡ session) × (l.sequence ≡ last_in (parts.members (member_at d b)).lasts session))
+  -- a letter of a device brings something there
+  pub brings : (d : ℕ) (l : WriteLetter) → Among (history.writes d) l → (x : ℕ) × ((content : List ℕ) × WritesIn l.runs d x content)
   -- what a node has noted was answered
   pub noted : (n d epoch : ℕ) (b : Bool) (s : Sending) → d < parts.made.devices → (parts.nodes n).out ≡ Some s → HasAcked s.acks (member_at d b) epoch → Among (history.wrotes d) (record { by = b; session = s.session; epoch = epoch; sequence = s.sequence })
   pub asking : (n : ℕ) (a : Asking) → (parts.nodes n).asks ≡ Some a → ((parts.nodes n).session ≡ Some a.session) × (a.tag ≤ (parts.nodes n).tag)

@@ -7,6 +7,7 @@ use Rattle.bx_rows.specs.Modes.{IsWritten}
 use Rattle.bx_rows.specs.declared.device.DeviceRow.{DeviceRow}
 use Rattle.bx_mirror_laws.specs.Sides.{WriteLetter}
 use Rattle.bx_mirror_packets.specs.Parting.{runs_on}
+use Rattle.bx_mirror_client.specs.Telling.{HasRuns}
 use Rattle.bx_mirror_client.specs.declared.sending.Sending.{Sending}
 
 -- A run's place and its number of sectors fit a packet, and it is of whole sectors, at least one.
@@ -28,8 +29,9 @@ pub record FitsPacket (s : Sending) : Type 0 where
 abbrev pub letter_of : Sending → ℕ → DeviceRow → Bool → WriteLetter
 letter_of s device row second = record { at = second; session = s.session; epoch = row.epoch; sequence = s.sequence; until = s.until; runs = runs_on device s.runs.1 }
 
--- A letter is one of a write to a member of this device that is written.
+-- A letter is one of a write to a member of this device, which has some of the runs and where that member is written.
 pub record IsLetterOf (s : Sending) (device : ℕ) (rows : List DeviceRow) (l : WriteLetter) : Type 0 where
+  pub runs : HasRuns device s.runs.1
   pub row : DeviceRow
   pub there : slice_get rows device ≡ Some row
   pub written : IsWritten row.mode l.at

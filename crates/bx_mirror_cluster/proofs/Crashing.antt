@@ -15,7 +15,8 @@ use Rattle.bx_mirror_laws.proofs.Ages.{hands_age, rows_age}
 use Rattle.bx_mirror_laws.proofs.Stopping.{silent_ages, silent_copies, silent_outs, silent_stands, silent_writes, silent_wrotes}
 use Rattle.bx_mirror_tables.specs.declared.answers.Owing.{Owing}
 use Rattle.bx_mirror_client.specs.Sends.{member_at}
-use Rattle.bx_mirror_cluster.specs.Fitting.{History, IsComing, IsDeviceSound, KnownFrom, Nowhere, Parts, StandsFor, StandsOn, copied_in, handings, knows_of, outs_of, row_of, rows_before, side_of, wrote_in}
+use Rattle.bx_mirror_cluster.specs.Fitting.{History, IsComing, IsDeviceSound, KnownFrom, Nowhere, Parts, StandsFor, StandsOn, handings, knows_of, outs_of, row_of, rows_before, side_of}
+use Rattle.bx_mirror_server.specs.Sides.{copied_in, wrote_in}
 
 -- the disk of a member
 disk_is : (d : ℕ) (b : Bool) → 3 + member_at d b ≡ member_disk d b

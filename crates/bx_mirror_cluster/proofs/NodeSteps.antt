@@ -1,6 +1,6 @@
 -- A node sends a read, takes the answer, and notes an acknowledgement.
-use Rattle.std.proofs.Common.{◌≡◌, ◌≢◌, ◌⊎◌, inl, inr, ℕ, ◌+◌, ◌*◌, ◌/◌, ◌^◌, ◌<◌, ◌≤◌, Bool, true, false, Contains, List, [], ◌∷◌, ◌++◌, Option, Some, None, refl, sym, ◌∙◌, ap, subst, arith}
-use Rattle.std.specs.Prelude.{◌==◌, ◌&&◌, max, not, is_some, slice_get, if◌then◌else◌}
+use Rattle.std.proofs.Common.{◌≡◌, ◌≢◌, ◌⊎◌, inl, inr, ℕ, ◌/◌, ◌<◌, ◌≤◌, Bool, true, false, Contains, List, [], ◌∷◌, ◌++◌, Option, Some, None, refl, sym, ◌∙◌, ap, subst, arith}
+use Rattle.std.specs.Prelude.{◌==◌, ◌&&◌, not, is_some, slice_get, if◌then◌else◌}
 use Rattle.std.proofs.lemmas.Bool.Decides.{nat_tests}
 use Rattle.std.proofs.lemmas.List.{append-nil}
 use Rattle.bx_base.specs.declared.names.Actor.{Actor}
@@ -18,18 +18,17 @@ use Rattle.bx_mirror_packets.specs.declared.message.ReadBody.{ReadBody}
 use Rattle.bx_mirror_packets.specs.declared.message.WroteBody.{WroteBody}
 use Rattle.bx_mirror_packets.proofs.Spelled.{one_message}
 use Rattle.bx_mirror_client.specs.Asks.{asks_left, is_awaited}
-use Rattle.bx_mirror_client.specs.Events.{counts, with_ack}
+use Rattle.bx_mirror_client.specs.Events.{with_ack}
 use Rattle.bx_mirror_client.specs.Letters.{is_new_epoch, read_in, read_letter, read_letters}
 use Rattle.bx_mirror_client.specs.Sends.{has_runs, is_acked, member_at, next_number}
 use Rattle.bx_mirror_client.specs.Streams.{Streaming, answered, asking}
 use Rattle.bx_mirror_client.specs.Telling.{HasAcked}
 use Rattle.bx_mirror_client.specs.declared.asking.Asking.{Asking}
-use Rattle.bx_mirror_client.specs.declared.sending.Ack.{Ack}
 use Rattle.bx_mirror_client.specs.declared.sending.Sending.{Sending}
 use Rattle.bx_mirror_client.proofs.Leaving.{noted_more}
 use Rattle.bx_mirror_client.proofs.Telling.{both, same_number}
 use Rattle.bx_mirror_cluster.specs.Fitting.{IsReading, IsSettledOn, Keeps, Parts, StandsOn, WillReadOn, out_by}
-use Rattle.bx_mirror_cluster.specs.GoingOn.{AreReads, GoesOn, letters_more, with_nodes}
+use Rattle.bx_mirror_cluster.specs.GoingOn.{AreReads, GoesOn, letters_more}
 use Rattle.bx_mirror_cluster.specs.NodeSteps.{IsAck, MayRead, parts_acked, parts_asked, past_asked}
 use Rattle.bx_mirror_cluster.specs.Writing.{with_node, with_stream}
 use Rattle.bx_mirror_cluster.proofs.GoingOn.{goes_on, reads_on, settles_on, stands_still}
@@ -136,16 +135,16 @@ ack_noted parts x past n s member w keeps ack =
     noted_old d epoch b within has = elim (noted_more s member w.epoch (member_at d b) epoch has) [
       | inl old ↦ keeps.noted n d epoch b s within ack.out old
       | inr new ↦ (keeps.devices d within).answering (record { by = b; session = s.session; epoch = epoch; sequence = s.sequence }) (record {
-          letter = ack.letter;
-          there = ack.there;
-          wrote = w;
-          spells = ack.says;
-          from = ack.from ∙ ap Member new.0;
-          device = sym of_device ∙ ap (λ (k : ℕ). k / 2) new.0 ∙ half d b;
-          session = sym (same_number w.session s.session one);
-          epoch_is = sym new.1;
-          sequence = sym (same_number w.sequence s.sequence two.0);
-        })
+        letter = ack.letter;
+        there = ack.there;
+        wrote = w;
+        spells = ack.says;
+        from = ack.from ∙ ap Member new.0;
+        device = sym of_device ∙ ap (λ (k : ℕ). k / 2) new.0 ∙ half d b;
+        session = sym (same_number w.session s.session one);
+        epoch_is = sym new.1;
+        sequence = sym (same_number w.sequence s.sequence two.0);
+      })
     ]
 
     noted : (d epoch : ℕ) (b : Bool) (t : Sending) → d < parts.made.devices → Some (with_ack member w.epoch s) ≡ Some t → HasAcked t.acks (member_at d b) epoch → Among (keeps.history.wrotes d) (record { by = b; session = t.session; epoch = epoch; sequence = t.sequence })
@@ -191,7 +190,7 @@ is_asked node a rows letter has = by (slice_get rows a.device) refl has
     by (Some row) e there = pick (is_new_epoch [] a.device row && is_awaited a) there
       where
         pick : (b : Bool) → Contains (if b then read_letter node a row ∷ [] else []) letter → IsAsked node a rows letter
-        pick true one = elim (front_or_behind (read_letter node a row) [] letter one) [ | inl here ↦ record { row = row; there = e; is = sym here } | inr none ↦ absurd (nothing letter none) ]
+        pick true one = elim (front_or_behind (read_letter node a row) [] letter one) [ inl here ↦ record { row = row; there = e; is = sym here } | inr none ↦ absurd (nothing letter none) ]
         pick false none = absurd (nothing letter none)
 
 module _ (parts : Parts) (x : Disks) (past : StorePast) (keeps : Keeps parts x past) (n session device place sectors : ℕ) (may : MayRead parts n session device place sectors) where
@@ -206,8 +205,8 @@ module _ (parts : Parts) (x : Disks) (past : StorePast) (keeps : Keeps parts x p
       let asked = is_asked (parts.nodes n).node it (parts.nodes n).rows read.letter read.there in
       let body : ReadBody = record { session = session; device = device; epoch = asked.row.epoch; tag = it.tag; place = place; sectors = sectors } in
       let own : Spells (Read body) read.letter.kind read.letter.body =
-          subst (λ (l : Letter). Spells (Read body) l.kind l.body) (sym asked.is)
-          (record { is = (may.session_fits, may.device_fits, may.epochs device asked.row asked.there, may.tag_fits, may.place_fits, may.sectors_fit); kind_is = refl; body_is = refl }) in
+      subst (λ (l : Letter). Spells (Read body) l.kind l.body) (sym asked.is)
+      (record { is = (may.session_fits, may.device_fits, may.epochs device asked.row asked.there, may.tag_fits, may.place_fits, may.sectors_fit); kind_is = refl; body_is = refl }) in
       let same : read.read ≡ body = ap (λ (q : DeviceMessage). body_in q read.read) (one_message (Read read.read) (Read body) read.letter.kind read.letter.body read.spells own) in
       let tag_is : tag ≡ it.tag = sym read.tag_is ∙ ap (λ (r : ReadBody). r.tag) same in
       let from : m ≡ n = sym (ap number_in (sym (ap (λ (l : Letter). l.from) asked.is) ∙ read.from)) ∙ may.itself in

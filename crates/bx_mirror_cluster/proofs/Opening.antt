@@ -12,7 +12,8 @@ use Rattle.bx_mirror_laws.specs.Sides.{Among, Out}
 use Rattle.bx_mirror_laws.specs.Acting.{IsRow, MayAct, MayLead, boot_in}
 use Rattle.bx_mirror_tables.specs.declared.answers.Owing.{Owing}
 use Rattle.bx_mirror_client.specs.Sends.{member_at}
-use Rattle.bx_mirror_cluster.specs.Fitting.{IsDeviceSound, IsNewParts, Parts, StandsOn, copied_in, opening_history, out_by, outs_of, row_of, row_or, side_of, wrote_in}
+use Rattle.bx_mirror_cluster.specs.Fitting.{IsDeviceSound, IsNewParts, Parts, StandsOn, opening_history, out_by, outs_of, row_of, row_or, side_of}
+use Rattle.bx_mirror_server.specs.Sides.{copied_in, wrote_in}
 
 module _ (parts : Parts) (x : Disks) (s : GlobalState) (new : IsNewParts s parts) (of : IsOfStore parts.made x s) (names : NamesUpTo 0 s) (d : ℕ) (there : d < length s.devices) where
   only_row : (r : DeviceRow) → IsRow (row_of s d) [] r → r ≡ row_of s d

@@ -25,10 +25,8 @@ use Rattle.bx_mirror_laws.specs.Sides.{Among, Copied, CopyLetter, Handing, Out, 
 use Rattle.bx_mirror_laws.specs.Acting.{FromEpoch, IsRow, MayLead}
 use Rattle.bx_mirror_laws.specs.Sound.{AreCopies, AreHanded, AreOuts, AreRows, AreWrites, AreWrotes, Standing, sent_of}
 use Rattle.bx_mirror_tables.specs.Lasts.{last_in}
-use Rattle.bx_mirror_tables.specs.declared.answers.Answer.{Answer}
-use Rattle.bx_mirror_tables.specs.declared.answers.Answer.TheVariants as answers
-use Rattle.bx_mirror_tables.specs.declared.answers.Owing.{Owing}
 use Rattle.bx_mirror_member.specs.Standing.{Standing as Serving}
+use Rattle.bx_mirror_server.specs.Sides.{copied_in, wrote_in}
 use Rattle.bx_mirror_client.specs.Sends.{member_at}
 use Rattle.bx_mirror_client.specs.Streams.{Streaming}
 use Rattle.bx_mirror_client.specs.Telling.{HasAcked}
@@ -76,23 +74,6 @@ pub record Parts : Type 0 where
   pub made : Made
   pub members : ℕ → Serving
   pub nodes : ℕ → Streaming
-
--- the answers to writes that are owed, and those to pieces of copies
-abbrev pub with_wrote : Bool → Answer → List Wrote → List Wrote
-with_wrote b (answers.Wrote w) all = record { by = b; session = w.session; epoch = w.epoch; sequence = w.sequence } ∷ all
-with_wrote b (answers.Copied c) all = all
-
-abbrev pub wrote_in : Bool → List Owing → List Wrote
-wrote_in b [] = []
-wrote_in b (o ∷ owed) = with_wrote b o.answer (wrote_in b owed)
-
-abbrev pub with_copied : Bool → Answer → List Copied → List Copied
-with_copied b (answers.Wrote w) all = all
-with_copied b (answers.Copied c) all = record { by = b; epoch = c.epoch; place = c.place } ∷ all
-
-abbrev pub copied_in : Bool → List Owing → List Copied
-copied_in b [] = []
-copied_in b (o ∷ owed) = with_copied b o.answer (copied_in b owed)
 
 -- a member with its disk
 abbrev pub side_of : Told → Disks → (ℕ → Serving) → ℕ → Bool → Side

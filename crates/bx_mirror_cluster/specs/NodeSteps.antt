@@ -1,5 +1,5 @@
 -- What a node does beside its writes: it sends a read, takes the answer, and notes what comes.
-use Rattle.std.specs.Prelude.{◌≡◌, ℕ, ◌^◌, ◌<◌, true, List, [], Contains, Some, None, slice_get}
+use Rattle.std.specs.Prelude.{◌≡◌, ℕ, ◌^◌, ◌<◌, true, [], Contains, Some, slice_get}
 use Rattle.bx_base.specs.declared.names.Actor.TheVariants.{Member}
 use Rattle.bx_facts.specs.Writes.{StorePast}
 use Rattle.bx_post.specs.declared.packets.Letter.{Letter}

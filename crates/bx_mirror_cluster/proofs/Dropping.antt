@@ -70,7 +70,8 @@ module _ (parts : Parts) (x : Disks) (past : StorePast) (keeps : Keeps parts x p
     numbered = keeps.numbered;
     tagged = keeps.tagged;
     read_tagged = keeps.read_tagged;
-    boots = keeps.boots;
+    member_boots = keeps.member_boots;
+    node_boots = keeps.node_boots;
   }
     where
       apart : (w : Out) → Among keeps.history.actual w → w.session ≢ session

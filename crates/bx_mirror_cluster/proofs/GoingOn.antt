@@ -88,7 +88,8 @@ module _ (parts : Parts) (x : Disks) (past : StorePast) (keeps : Keeps parts x p
       ]
       | inr new ↦ inr (reads.tags m d t tag (record { letter = read.letter; there = new; read = read.read; spells = read.spells; from = read.from; device = read.device; session_is = read.session_is; tag_is = read.tag_is }))
     ];
-    boots = λ m. ((keeps.boots m).0, on.boot m ∙ (keeps.boots m).1);
+    member_boots = keeps.member_boots;
+    node_boots = λ m there up. on.boot m ∙ keeps.node_boots m there up;
   }
 
   -- what stands goes on

@@ -1,3 +1,4 @@
+pub mod Alike
 pub mod Chained
 pub mod Crashing
 pub mod Dropping

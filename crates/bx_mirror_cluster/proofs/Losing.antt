@@ -82,7 +82,8 @@ module _ (parts : Parts) (x : Disks) (past : StorePast) (letters : List Letter) 
     numbered = keeps.numbered;
     tagged = λ n d session epoch tag bytes c. keeps.tagged n d session epoch tag bytes (still_data letters past.told.letters fewer n d session epoch tag bytes c);
     read_tagged = λ n d session tag c. keeps.read_tagged n d session tag (still_reading letters past.told.letters fewer n d session tag c);
-    boots = keeps.boots;
+    member_boots = keeps.member_boots;
+    node_boots = keeps.node_boots;
   }
 
   pub stands_lost : (From : DeviceRow → Type 0) (d sector : ℕ) (content : List ℕ) → StandsFor From parts x past d sector content → StandsFor From parts x (record past { told = record past.told { letters = letters } }) d sector content

@@ -379,7 +379,8 @@ module _ (parts : Parts) (x : Disks) (past : StorePast) (keeps : Keeps parts x p
       | inl old ↦ inl old
       | inr le ↦ inr (let same = kept (λ q. q.tag) refl m in omega (arith, le, same))
     ];
-    boots = λ m. ((keeps.boots m).0, kept (λ q. q.boot) refl m ∙ (keeps.boots m).1);
+    member_boots = keeps.member_boots;
+    node_boots = λ m there up. kept (λ q. q.boot) refl m ∙ keeps.node_boots m there up;
   }
     where
       -- a run on a device brings its first sector there

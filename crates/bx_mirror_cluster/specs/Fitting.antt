@@ -1,5 +1,5 @@
 -- How mirrored devices fit what was done with them.
-use Rattle.std.specs.Prelude.{◌≡◌, ℕ, ◌+◌, ◌-◌, ◌<◌, ◌≤◌, ◌==◌, ◌⊎◌, not, Bool, true, false, List, [], ◌∷◌, length, Contains, Option, Some, None, slice_get, if◌then◌else◌}
+use Rattle.std.specs.Prelude.{◌*◌, ◌≡◌, ℕ, ◌+◌, ◌-◌, ◌<◌, ◌≤◌, ◌==◌, ◌⊎◌, not, Bool, true, false, List, [], ◌∷◌, length, Contains, Option, Some, None, slice_get, if◌then◌else◌}
 use Rattle.std.specs.List.{AllByRecursion}
 use Rattle.bx_base.specs.declared.names.Actor.TheVariants.{Member, Node}
 use Rattle.bx_disk.specs.Disks.{Disks, sector_of}
@@ -273,7 +273,9 @@ pub record Keeps (parts : Parts) (x : Disks) (past : StorePast) : Type 0 where
   pub numbered : (d : ℕ) (l : WriteLetter) → Among (history.writes d) l → (boot_of l.session < past.told.boots (Node (node_of l.session))) ⊎ (l.sequence ≤ (parts.nodes (node_of l.session)).sequence)
   pub tagged : (n d session epoch tag : ℕ) (bytes : List ℕ) → IsData past.told.letters n d session epoch tag bytes → (boot_of session < past.told.boots (Node n)) ⊎ (tag ≤ (parts.nodes n).tag)
   pub read_tagged : (n d session tag : ℕ) → IsReading past.told.letters n d session tag → (boot_of session < past.told.boots (Node n)) ⊎ (tag ≤ (parts.nodes n).tag)
-  pub boots : (n : ℕ) → ((parts.members n).boot ≡ past.told.boots (Member n)) × ((parts.nodes n).boot ≡ past.told.boots (Node n))
+  -- boots of those that are up
+  pub member_boots : (n : ℕ) → n < 2 * parts.made.devices → past.told.down (Member n) ≡ false → (parts.members n).boot ≡ past.told.boots (Member n)
+  pub node_boots : (n : ℕ) → n < parts.made.nodes → past.told.down (Node n) ≡ false → (parts.nodes n).boot ≡ past.told.boots (Node n)
 
 -- other letters are under way
 abbrev pub letters_left : StorePast → List Letter → StorePast
@@ -283,12 +285,14 @@ letters_left past letters = record past { told = record past.told { letters = le
 abbrev pub IsSideAlone : DeviceRow → Bool → Type 0
 IsSideAlone row b = ((b ≡ false) × (row.mode ≡ 2)) ⊎ ((b ≡ true) × (row.mode ≡ 1))
 
--- Nothing was done with the parts yet: nodes know the state that they are made for.
+-- Nothing was done with the parts yet: the nodes that there are know the state that they are made for.
 pub record IsNewParts (s : GlobalState) (parts : Parts) : Type 0 where
   pub rows : (n : ℕ) → (parts.members n).row ≡ None
   pub owed : (n : ℕ) → (parts.members n).owed ≡ []
-  pub session : (n : ℕ) → (parts.nodes n).session ≡ session_of s n 0
-  pub known : (n : ℕ) → (parts.nodes n).rows ≡ s.devices
+  pub lasts : (n : ℕ) → (parts.members n).lasts ≡ []
+  pub session : (n : ℕ) → n < parts.made.nodes → (parts.nodes n).session ≡ session_of s n 0
+  pub known : (n : ℕ) → n < parts.made.nodes → (parts.nodes n).rows ≡ s.devices
+  pub no_more : (n : ℕ) → parts.made.nodes ≤ n → (parts.nodes n).session ≡ None
   pub out : (n : ℕ) → (parts.nodes n).out ≡ None
   pub asks : (n : ℕ) → (parts.nodes n).asks ≡ None
 

@@ -13,3 +13,4 @@ pub mod Standing
 pub mod WriteSent
 pub mod GoingOn
 pub mod NodeSteps
+pub mod NodeStops

@@ -1,12 +1,12 @@
 //! Laws of a store whose members and streams fit what was done with it.
 
 ghost use Rattle.std.specs.Prelude.{◌≡◌, ◌≢◌, ℕ, ◌+◌, ◌<◌, ◌≤◌, ◌⊎◌, ◌==◌, Bool, true, false, List, Contains, None, Some, length};
-ghost use Rattle.bx_base.specs.declared.names.Actor.TheVariants.{Member};
+ghost use Rattle.bx_base.specs.declared.names.Actor.TheVariants.{Member, Node};
 ghost use Rattle.bx_disk.specs.Disks.{Disks, Stays};
 ghost use Rattle.bx_facts.specs.Chains.{IsPlace, IsStoresOwn, LivesIn, last};
 ghost use Rattle.bx_facts.specs.Disks.{Crashes};
 ghost use Rattle.bx_facts.specs.Inputs.{AreAmong, IsStores};
-ghost use Rattle.bx_facts.specs.Writes.{IsOfStore, IsOnly, IsSettled, NamesUpTo, StorePast, WritesIn, opening_store, store_grown, store_room, without_session};
+ghost use Rattle.bx_facts.specs.Writes.{IsOfStore, IsOnly, IsSettled, NamesUpTo, StorePast, WritesIn, opening_store, store_crashed, store_grown, store_room, without_session};
 ghost use Rattle.bx_global.specs.Table.{IsLegal, effect};
 ghost use Rattle.bx_global.specs.declared.change.Change.{Change};
 ghost use Rattle.bx_global.specs.declared.state.GlobalState.{GlobalState};
@@ -18,7 +18,7 @@ ghost use Rattle.bx_mirror_client.specs.declared.asking.Asking.{Asking};
 ghost use Rattle.bx_mirror_client.specs.declared.sending.Sending.{Sending};
 ghost use Rattle.bx_mirror_cluster.specs.NodeSteps.{IsAck, MayRead, parts_acked, parts_asked, past_asked};
 ghost use Rattle.bx_mirror_cluster.specs.Writing.{MaySend, parts_sent, past_sent, with_stream};
-ghost use Rattle.bx_mirror_client.specs.Streams.{answered};
+ghost use Rattle.bx_mirror_client.specs.Streams.{answered, stopped};
 ghost use Rattle.bx_mirror_packets.specs.declared.message.WroteBody.{WroteBody};
 ghost use Rattle.bx_records.specs.Runs.{KindAndRuns};
 ghost use Rattle.bx_mirror_cluster.specs.Fitting.{History, IsDeviceSound, IsNewParts, IsSettledOn, IsSideAlone, Keeps, Parts, StandsOn, WillReadOn, letters_left, opening_history, outs_of, row_of};
@@ -111,4 +111,12 @@ pub fn a_read_is_sent()
 pub fn what_came_is_noted()
     ensures answered { (parts : Parts) (x : Disks) (past : StorePast) (node : ℕ) → Keeps parts x past → Keeps (with_stream parts node (answered (parts.nodes node))) x past }
     ensures acked { (parts : Parts) (x : Disks) (past : StorePast) (node : ℕ) (s : Sending) (member : ℕ) (w : WroteBody) → Keeps parts x past → IsAck parts past node s member w → Keeps (parts_acked parts node s member w.epoch) x past }
+{}
+
+/// A node stops: nothing of it is out, and all goes on fitting; what was settled or stood goes on, and so does what other nodes read.
+pub fn a_node_stops()
+    ensures keeps { (parts : Parts) (x : Disks) (past : StorePast) (node : ℕ) → Keeps parts x past → Keeps (with_stream parts node (stopped (parts.nodes node))) x (store_crashed past (Node node)) }
+    ensures settles { (parts : Parts) (x : Disks) (past : StorePast) (node device sector : ℕ) (content : List ℕ) → Keeps parts x past → IsSettledOn parts x past device sector content → IsSettledOn (with_stream parts node (stopped (parts.nodes node))) x (store_crashed past (Node node)) device sector content }
+    ensures stands { (parts : Parts) (x : Disks) (past : StorePast) (node device sector : ℕ) (content : List ℕ) (index : ℕ) → Keeps parts x past → StandsOn parts x past device sector content index → StandsOn (with_stream parts node (stopped (parts.nodes node))) x (store_crashed past (Node node)) device sector content index }
+    ensures reads { (parts : Parts) (x : Disks) (past : StorePast) (node reader : ℕ) (read : Asking) (sector : ℕ) (content : List ℕ) → Keeps parts x past → reader ≢ node → WillReadOn parts x past reader read sector content → WillReadOn (with_stream parts node (stopped (parts.nodes node))) x (store_crashed past (Node node)) reader read sector content }
 {}

@@ -188,7 +188,7 @@ abbrev ack_of : ℕ → ℕ → Ack
 ack_of member epoch = record { member = member; epoch = epoch }
 
 -- what is noted with one more
-noted_more : (s : Sending) (one epoch member other : ℕ) → HasAcked (with_ack one epoch s).acks member other → HasAcked s.acks member other ⊎ ((one ≡ member) × (epoch ≡ other))
+pub noted_more : (s : Sending) (one epoch member other : ℕ) → HasAcked (with_ack one epoch s).acks member other → HasAcked s.acks member other ⊎ ((one ≡ member) × (epoch ≡ other))
 noted_more s one epoch member other has = by (is_acked s.acks one epoch) has
   where
     by : (b : Bool) → HasAcked (if b then s else record s { acks = s.acks ++ ack_of one epoch ∷ [] }).acks member other → HasAcked s.acks member other ⊎ ((one ≡ member) × (epoch ≡ other))

@@ -1,0 +1,16 @@
+pub mod Alike
+pub mod Chained
+pub mod Crashing
+pub mod Dropping
+pub mod Finished
+pub mod Growth
+pub mod Losing
+pub mod Opening
+pub mod Replacing
+pub mod Sent
+pub mod Speaking
+pub mod Standing
+pub mod WriteSent
+pub mod GoingOn
+pub mod NodeSteps
+pub mod NodeStops

@@ -1,0 +1,125 @@
+-- The disk of a member that is down is replaced by a blank one, where the device needs the other member alone.
+use Rattle.std.proofs.Common.{◌≡◌, ◌≢◌, ◌⊎◌, inl, inr, ⊎_elim, ℕ, ◌+◌, ◌<◌, ◌≤◌, Bool, true, false, List, refl, sym, ◌∙◌, ap, subst, arith}
+use Rattle.std.specs.Prelude.{not}
+use Rattle.bx_base.specs.declared.names.Actor.TheVariants.{Member}
+use Rattle.bx_disk.specs.Disks.{Disks, Stays}
+use Rattle.bx_facts.specs.Chains.{LivesIn, last}
+use Rattle.bx_facts.specs.Writes.{StorePast, label_on, member_disk, store_room}
+use Rattle.bx_layout.specs.Labels.{SpellsLabel}
+use Rattle.bx_rows.specs.Modes.{IsSource}
+use Rattle.bx_rows.specs.declared.device.DeviceRow.{DeviceRow}
+use Rattle.bx_mirror_laws.specs.Acting.{Acts, Counts, IsRow, MayLead}
+use Rattle.bx_mirror_laws.specs.Steps.{Ages, Silent}
+use Rattle.bx_mirror_laws.proofs.Ages.{hands_age, rows_age}
+use Rattle.bx_mirror_laws.proofs.Stopping.{blank_counts_not, silent_ages, silent_copies, silent_outs, silent_stands, silent_writes, silent_wrotes}
+use Rattle.bx_mirror_tables.specs.declared.answers.Owing.{Owing}
+use Rattle.bx_mirror_client.specs.Sends.{member_at}
+use Rattle.bx_mirror_cluster.specs.Fitting.{History, IsComing, IsDeviceSound, IsSideAlone, KnownFrom, Nowhere, Parts, StandsFor, StandsOn, handings, knows_of, outs_of, row_of, rows_before, side_of}
+use Rattle.bx_mirror_server.specs.Sides.{copied_in, wrote_in}
+
+-- the disk of a member
+disk_is : (d : ℕ) (b : Bool) → 3 + member_at d b ≡ member_disk d b
+disk_is d false = omega arith
+disk_is d true = omega arith
+
+apart : (d : ℕ) (b : Bool) → member_disk d (not b) ≢ 3 + member_at d b
+apart d false e = omega (arith, e)
+apart d true e = omega (arith, e)
+
+module _ (parts : Parts) (x y : Disks) (past : StorePast) (h : History) (d : ℕ) (b : Bool) (was : IsDeviceSound parts x past h d)
+    (down : past.told.down (Member (member_at d b)) ≡ true) (only : IsSideAlone (row_of (last past.told.chain) d) b)
+    (others_stay : (k s : ℕ) → k ≢ 3 + member_at d b → Stays x y k s) where
+  others : (s : ℕ) → Stays x y (member_disk d (not b)) s
+  others s = others_stay (member_disk d (not b)) s (apart d b)
+
+  -- the other member's disk is the same
+  other_stays : side_of past.told y parts.members d (not b) ≡ side_of past.told x parts.members d (not b)
+  other_stays = λ i. record {
+    up = not (past.told.down (Member (member_at d (not b))));
+    boot = past.told.boots (Member (member_at d (not b)));
+    row = (parts.members (member_at d (not b))).row;
+    lasts = (side_of past.told x parts.members d (not b)).lasts;
+    wrote = (side_of past.told x parts.members d (not b)).wrote;
+    copied = (side_of past.told x parts.members d (not b)).copied;
+    place = (parts.members (member_at d (not b))).place;
+    reads = λ s. (others s).reads i;
+    unsure = λ s. (others s).unsure i;
+  }
+
+  up_not : (side_of past.told x parts.members d b).up ≡ false
+  up_not = ap not down
+
+  silent : Silent b (row_of (last past.told.chain) d) (rows_before past.told.chain d) (side_of past.told x parts.members d b) (side_of past.told y parts.members d b)
+  silent = record {
+    is = inl (ap not down);
+    boot = omega arith;
+    row = (was.down b down).0;
+    wrote = ap (λ (os : List Owing). wrote_in b os) (was.down b down).1;
+    copied = ap (λ (os : List Owing). copied_in b os) (was.down b down).1;
+  }
+
+  counts_not : (From : DeviceRow → Type 0) → Counts From (row_of (last past.told.chain) d) (rows_before past.told.chain d) (handings d past.told.handed) b (side_of past.told x parts.members d b) → ⊥
+  counts_not From counts = blank_counts_not (store_room parts.made) (row_of (last past.told.chain) d) (rows_before past.told.chain d) (handings d past.told.handed) (side_of past.told x parts.members d) (h.source d) From b was.hands only up_not counts
+
+  targets : (r : DeviceRow) (s : ℕ) → IsRow (row_of (last past.told.chain) d) (rows_before past.told.chain d) r → Acts b (side_of past.told x parts.members d b) r → 1 ≤ s → s < store_room parts.made → y.reads (member_disk d b) s ≡ x.reads (member_disk d b) s
+  targets r s is acts low high = absurd (let no : true ≡ false = sym acts.up ∙ up_not in cc)
+
+  filled : (s : ℕ) → 3 ≤ (row_of (last past.told.chain) d).mode → (IsSource (row_of (last past.told.chain) d).mode b → ⊥) → ((side_of past.told x parts.members d b).up ≡ true) ⊎ (x.unsure (member_disk d b) s ≡ false) → 1 ≤ s
+      → (y.reads (member_disk d b) s ≡ x.reads (member_disk d b) s) × (x.unsure (member_disk d b) s ≡ false → y.unsure (member_disk d b) s ≡ false)
+  filled s copying none evidence low = absurd (elim only [ inl one ↦ (let m = one.1 in omega (arith, m, copying)) | inr other ↦ (let m = other.1 in omega (arith, m, copying)) ])
+
+  stays_it : (From : DeviceRow → Type 0) (s : ℕ) → 1 ≤ s → s < store_room parts.made → Counts From (row_of (last past.told.chain) d) (rows_before past.told.chain d) (handings d past.told.handed) b (side_of past.told x parts.members d b)
+      → ((side_of past.told x parts.members d b).up ≡ true) ⊎ (x.unsure (member_disk d b) s ≡ false) → (y.reads (member_disk d b) s ≡ x.reads (member_disk d b) s) × (x.unsure (member_disk d b) s ≡ false → y.unsure (member_disk d b) s ≡ false)
+  stays_it From s low high counts evidence = absurd (counts_not From counts)
+
+  pub replaced_standing : (From : DeviceRow → Type 0) (sector : ℕ) (content : List ℕ) → 1 ≤ sector → sector < store_room parts.made → StandsFor From parts x past d sector content → StandsFor From parts y past d sector content
+  replaced_standing From sector content low high stands =
+      silent_stands d (store_room parts.made) past.told.greatest past.told.greatest (row_of (last past.told.chain) d) (rows_before past.told.chain d) (handings d past.told.handed) (side_of past.told x parts.members d) (side_of past.told y parts.members d) (h.source d)
+      was.rows b silent other_stays (omega arith) targets filled stays_it From (IsComing past.told.letters d) past.writes sector content low high stands
+
+  -- what stands for readers of a state
+  pub replaced_on : (sector : ℕ) (content : List ℕ) (index : ℕ) → StandsOn parts x past d sector content index → StandsOn parts y past d sector content index
+  replaced_on sector content index stands = let set = stands.settled in record {
+    settled = record { device = set.device; behind_label = set.behind_label; within = set.within; is = replaced_standing Nowhere sector content set.behind_label set.within set.is };
+    stands = replaced_standing (KnownFrom past.told.chain d index) sector content set.behind_label set.within stands.stands;
+  }
+
+  pub replaced : IsDeviceSound parts y past h d
+  replaced = record {
+    rows = rows_age (store_room parts.made) (row_of (last past.told.chain) d) (rows_before past.told.chain d) (side_of past.told x parts.members d) (side_of past.told y parts.members d) (h.source d) (h.source d) was.rows ages;
+    hands = hands_age (store_room parts.made) (row_of (last past.told.chain) d) (rows_before past.told.chain d) (side_of past.told x parts.members d) (side_of past.told y parts.members d) (h.source d) (h.source d) was.rows ages (handings d past.told.handed) was.hands;
+    copies = silent_copies d (store_room parts.made) past.told.greatest past.told.greatest (row_of (last past.told.chain) d) (rows_before past.told.chain d) (handings d past.told.handed) (side_of past.told x parts.members d) (side_of past.told y parts.members d) (h.source d)
+        was.rows b silent other_stays (omega arith) targets filled stays_it (h.copies d) (h.copieds d) was.copies;
+    writes = silent_writes d (store_room parts.made) past.told.greatest past.told.greatest (row_of (last past.told.chain) d) (rows_before past.told.chain d) (handings d past.told.handed) (side_of past.told x parts.members d) (side_of past.told y parts.members d) (h.source d)
+        was.rows b silent other_stays (omega arith) targets filled stays_it (h.writes d) (h.wrotes d) h.actual (outs_of parts.nodes) (knows_of parts.nodes d) (LivesIn (last past.told.chain)) was.writes;
+    wrotes = silent_wrotes d (store_room parts.made) past.told.greatest past.told.greatest (row_of (last past.told.chain) d) (rows_before past.told.chain d) (handings d past.told.handed) (side_of past.told x parts.members d) (side_of past.told y parts.members d) (h.source d)
+        was.rows b silent other_stays (omega arith) targets filled stays_it (h.writes d) (h.wrotes d) was.wrotes;
+    outs = silent_outs d (store_room parts.made) past.told.greatest past.told.greatest (row_of (last past.told.chain) d) (rows_before past.told.chain d) (handings d past.told.handed) (side_of past.told x parts.members d) (side_of past.told y parts.members d) (h.source d)
+        was.rows b silent other_stays (omega arith) targets filled stays_it (h.writes d) (h.wrotes d) h.actual (outs_of parts.nodes) (outs_of parts.nodes) (knows_of parts.nodes d) (knows_of parts.nodes d) (LivesIn (last past.told.chain)) (λ o k sends. sends) was.wrotes.owed_up was.outs;
+    coming = was.coming;
+    answering = was.answering;
+    copying = was.copying;
+    copied_to = was.copied_to;
+    labels = λ c leads. let was_it = was.labels c leads in labelled c leads was_it.0 was_it.1;
+    down = was.down;
+    known = was.known;
+  }
+    where
+      ages : Ages (store_room parts.made) (row_of (last past.told.chain) d) (rows_before past.told.chain d) (side_of past.told x parts.members d) (side_of past.told y parts.members d) (h.source d) (h.source d)
+      ages = silent_ages d (store_room parts.made) past.told.greatest past.told.greatest (row_of (last past.told.chain) d) (rows_before past.told.chain d) (handings d past.told.handed) (side_of past.told x parts.members d) (side_of past.told y parts.members d) (h.source d)
+          was.rows b silent other_stays (omega arith) targets filled stays_it
+
+      two : (c e : Bool) → (e ≡ c) ⊎ (e ≡ not c)
+      two false false = inl refl
+      two false true = inr refl
+      two true false = inr refl
+      two true true = inl refl
+
+      labelled : (c : Bool) → MayLead (row_of (last past.told.chain) d) (handings d past.told.handed) c → SpellsLabel (label_on parts.made (member_disk d c)) (x.reads (member_disk d c) 0) → x.unsure (member_disk d c) 0 ≡ false
+          → SpellsLabel (label_on parts.made (member_disk d c)) (y.reads (member_disk d c) 0) × (y.unsure (member_disk d c) 0 ≡ false)
+      labelled c leads spells sure = ⊎_elim
+          (λ (e : c ≡ b). absurd (counts_not (λ r. ⊥) (record { is = inl (subst (λ (k : Bool). MayLead (row_of (last past.told.chain) d) (handings d past.told.handed) k) e leads) })))
+          (λ (e : c ≡ not b). subst (λ (k : Bool). SpellsLabel (label_on parts.made (member_disk d k)) (x.reads (member_disk d k) 0) → x.unsure (member_disk d k) 0 ≡ false
+          → SpellsLabel (label_on parts.made (member_disk d k)) (y.reads (member_disk d k) 0) × (y.unsure (member_disk d k) 0 ≡ false)) (sym e)
+          (λ l s. let k = others 0 in (subst (SpellsLabel (label_on parts.made (member_disk d (not b)))) (sym k.reads) l, k.unsure ∙ s)) spells sure)
+          (two b c)

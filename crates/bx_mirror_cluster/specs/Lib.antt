@@ -1,0 +1,5 @@
+pub mod Fitting
+pub mod GoingOn
+pub mod NodeSteps
+pub mod Speaking
+pub mod Writing

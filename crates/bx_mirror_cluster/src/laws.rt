@@ -1,0 +1,122 @@
+//! Laws of a store whose members and streams fit what was done with it.
+
+ghost use Rattle.std.specs.Prelude.{◌≡◌, ◌≢◌, ℕ, ◌+◌, ◌<◌, ◌≤◌, ◌⊎◌, ◌==◌, Bool, true, false, List, Contains, None, Some, length};
+ghost use Rattle.bx_base.specs.declared.names.Actor.TheVariants.{Member, Node};
+ghost use Rattle.bx_disk.specs.Disks.{Disks, Stays};
+ghost use Rattle.bx_facts.specs.Chains.{IsPlace, IsStoresOwn, LivesIn, last};
+ghost use Rattle.bx_facts.specs.Disks.{Crashes};
+ghost use Rattle.bx_facts.specs.Inputs.{AreAmong, IsStores};
+ghost use Rattle.bx_facts.specs.Writes.{IsOfStore, IsOnly, IsSettled, NamesUpTo, StorePast, WritesIn, opening_store, store_crashed, store_grown, store_room, without_session};
+ghost use Rattle.bx_global.specs.Table.{IsLegal, effect};
+ghost use Rattle.bx_global.specs.declared.change.Change.{Change};
+ghost use Rattle.bx_global.specs.declared.state.GlobalState.{GlobalState};
+ghost use Rattle.bx_post.specs.declared.packets.Letter.{Letter};
+ghost use Rattle.bx_mirror_laws.specs.Sides.{Among, Out};
+ghost use Rattle.bx_mirror_laws.specs.Sound.{sent_of};
+ghost use Rattle.bx_mirror_client.specs.Sends.{is_done, member_at};
+ghost use Rattle.bx_mirror_client.specs.declared.asking.Asking.{Asking};
+ghost use Rattle.bx_mirror_client.specs.declared.sending.Sending.{Sending};
+ghost use Rattle.bx_mirror_cluster.specs.NodeSteps.{IsAck, MayRead, parts_acked, parts_asked, past_asked};
+ghost use Rattle.bx_mirror_cluster.specs.Writing.{MaySend, parts_sent, past_sent, with_stream};
+ghost use Rattle.bx_mirror_client.specs.Streams.{answered, stopped};
+ghost use Rattle.bx_mirror_packets.specs.declared.message.WroteBody.{WroteBody};
+ghost use Rattle.bx_records.specs.Runs.{KindAndRuns};
+ghost use Rattle.bx_mirror_cluster.specs.Fitting.{History, IsDeviceSound, IsNewParts, IsSettledOn, IsSideAlone, Keeps, Parts, StandsOn, WillReadOn, letters_left, opening_history, outs_of, row_of};
+
+/// What stands for readers is settled, and stands for those that know more.
+pub fn what_stands_is_settled()
+    ensures settles { (parts : Parts) (x : Disks) (past : StorePast) (device sector : ℕ) (content : List ℕ) (index : ℕ) → StandsOn parts x past device sector content index → IsSettledOn parts x past device sector content }
+    ensures rises { (parts : Parts) (x : Disks) (past : StorePast) (device sector : ℕ) (content : List ℕ) (index later : ℕ) → index ≤ later → StandsOn parts x past device sector content index → StandsOn parts x past device sector content later }
+{}
+
+/// What is settled stands on each member that an audit reads, and surely.
+pub fn what_is_settled_stands()
+    ensures { (parts : Parts) (x : Disks) (past : StorePast) (device sector : ℕ) (content : List ℕ) → Keeps parts x past → IsSettledOn parts x past device sector content → IsSettled x (last past.told.chain) device sector content }
+{}
+
+/// A write that a stream counts as done stands in each of its sectors, for readers of the state that its node knows.
+pub fn what_is_done_stands()
+    ensures { (parts : Parts) (x : Disks) (past : StorePast) (node : ℕ) (write : Sending) (state : GlobalState) (device sector : ℕ) (content : List ℕ) → Keeps parts x past → (parts.nodes node).out ≡ Some write → (write.sequence == 0) ≡ false
+        → IsPlace past.told.chain state → (parts.nodes node).rows ≡ state.devices → LivesIn (last past.told.chain) write.session → is_done write (parts.nodes node).rows ≡ true
+        → device < parts.made.devices → WritesIn write.runs.1 device sector content → StandsOn parts x past device sector content state.index }
+{}
+
+/// Of a node's session none of the writes may be taken any more, where the node has none out; what was settled or stood goes on.
+pub fn nothing_is_out()
+    ensures keeps { (parts : Parts) (x : Disks) (past : StorePast) (node session : ℕ) → Keeps parts x past → (parts.nodes node).session ≡ Some session → outs_of parts.nodes node ≡ None → Keeps parts x (without_session past session) }
+    ensures settles { (parts : Parts) (x : Disks) (past : StorePast) (node session device sector : ℕ) (content : List ℕ) → Keeps parts x past → (parts.nodes node).session ≡ Some session → outs_of parts.nodes node ≡ None → IsOnly past.writes past.told.greatest device sector content → IsSettledOn parts x past device sector content → IsSettledOn parts x (without_session past session) device sector content }
+    ensures stands { (parts : Parts) (x : Disks) (past : StorePast) (node session device sector : ℕ) (content : List ℕ) (index : ℕ) → Keeps parts x past → (parts.nodes node).session ≡ Some session → outs_of parts.nodes node ≡ None → IsOnly past.writes past.told.greatest device sector content → StandsOn parts x past device sector content index → StandsOn parts x (without_session past session) device sector content index }
+{}
+
+/// Letters may be lost, and come in any order and number; those of other layers don't matter.
+pub fn letters_are_lost()
+    ensures keeps { (parts : Parts) (x : Disks) (past : StorePast) (letters : List Letter) → AreAmong IsStores letters past.told.letters → Keeps parts x past → Keeps parts x (letters_left past letters) }
+    ensures settles { (parts : Parts) (x : Disks) (past : StorePast) (letters : List Letter) (device sector : ℕ) (content : List ℕ) → AreAmong IsStores letters past.told.letters → IsSettledOn parts x past device sector content → IsSettledOn parts x (letters_left past letters) device sector content }
+    ensures stands { (parts : Parts) (x : Disks) (past : StorePast) (letters : List Letter) (device sector : ℕ) (content : List ℕ) (index : ℕ) → AreAmong IsStores letters past.told.letters → StandsOn parts x past device sector content index → StandsOn parts x (letters_left past letters) device sector content index }
+{}
+
+/// The chain may grow by each change that is legal, and that was handed back where a store asks for such: a device goes on fitting, and what stands
+/// on it goes on.
+pub fn grows()
+    ensures sound { (parts : Parts) (x : Disks) (past : StorePast) (h : History) (device : ℕ) (change : Change) → IsDeviceSound parts x past h device → ((w : Out) → Among h.actual w → Contains past.writes (sent_of w))
+        → IsLegal (last past.told.chain) change → IsStoresOwn past.told.handed change → ((n : ℕ) (o : Out) → outs_of parts.nodes n ≡ Some o → LivesIn (effect (last past.told.chain) change) o.session → LivesIn (last past.told.chain) o.session)
+        → IsDeviceSound parts x (store_grown past change) h device }
+    ensures stands { (parts : Parts) (x : Disks) (past : StorePast) (h : History) (device : ℕ) (change : Change) (sector : ℕ) (content : List ℕ) (index : ℕ) → IsDeviceSound parts x past h device → ((w : Out) → Among h.actual w → Contains past.writes (sent_of w))
+        → IsLegal (last past.told.chain) change → IsStoresOwn past.told.handed change → ((n : ℕ) (o : Out) → outs_of parts.nodes n ≡ Some o → LivesIn (effect (last past.told.chain) change) o.session → LivesIn (last past.told.chain) o.session)
+        → StandsOn parts x past device sector content index → StandsOn parts x (store_grown past change) device sector content index }
+{}
+
+/// The disk of a member that is down may crash; or be replaced by a blank one, where the device needs the other member alone.
+pub fn who_is_down_stays()
+    ensures survives { (parts : Parts) (x y : Disks) (past : StorePast) (h : History) (device : ℕ) (second : Bool) → IsDeviceSound parts x past h device → past.told.down (Member (member_at device second)) ≡ true → Crashes (3 + member_at device second) x y → IsDeviceSound parts y past h device }
+    ensures survives_standing { (parts : Parts) (x y : Disks) (past : StorePast) (h : History) (device : ℕ) (second : Bool) (sector : ℕ) (content : List ℕ) (index : ℕ) → IsDeviceSound parts x past h device → past.told.down (Member (member_at device second)) ≡ true → Crashes (3 + member_at device second) x y
+        → StandsOn parts x past device sector content index → StandsOn parts y past device sector content index }
+    ensures replaced { (parts : Parts) (x y : Disks) (past : StorePast) (h : History) (device : ℕ) (second : Bool) → IsDeviceSound parts x past h device → past.told.down (Member (member_at device second)) ≡ true → IsSideAlone (row_of (last past.told.chain) device) second
+        → ((k sector : ℕ) → k ≢ 3 + member_at device second → Stays x y k sector) → IsDeviceSound parts y past h device }
+    ensures replaced_standing { (parts : Parts) (x y : Disks) (past : StorePast) (h : History) (device : ℕ) (second : Bool) (sector : ℕ) (content : List ℕ) (index : ℕ) → IsDeviceSound parts x past h device → past.told.down (Member (member_at device second)) ≡ true → IsSideAlone (row_of (last past.told.chain) device) second
+        → ((k s : ℕ) → k ≢ 3 + member_at device second → Stays x y k s) → StandsOn parts x past device sector content index → StandsOn parts y past device sector content index }
+{}
+
+/// New members and streams fit each disks that are labelled, where no row names a boot that a machine doesn't have; what stands surely stands for all.
+pub fn begins()
+    ensures sound { (parts : Parts) (x : Disks) (s : GlobalState) (device : ℕ) → IsNewParts s parts → IsOfStore parts.made x s → NamesUpTo 0 s → device < length s.devices → IsDeviceSound parts x (opening_store s) opening_history device }
+    ensures stands { (parts : Parts) (x : Disks) (s : GlobalState) (device sector : ℕ) (content : List ℕ) → IsNewParts s parts → IsOfStore parts.made x s → NamesUpTo 0 s → device < length s.devices → device < parts.made.devices → 1 ≤ sector → sector < store_room parts.made
+        → IsSettled x s device sector content → StandsOn parts x (opening_store s) device sector content s.index }
+{}
+
+/// A node that may send a write sends it: members and streams fit the past with that write and its letters, and what was settled, stood or is read goes
+/// on.
+pub fn a_write_is_sent()
+    ensures keeps { (parts : Parts) (x : Disks) (past : StorePast) (node session until : ℕ) (runs : KindAndRuns) → Keeps parts x past → MaySend parts past node session until runs → Keeps (parts_sent parts node session until runs) x (past_sent parts past node session until runs) }
+    ensures settles { (parts : Parts) (x : Disks) (past : StorePast) (node session until : ℕ) (runs : KindAndRuns) (device sector : ℕ) (content : List ℕ) → Keeps parts x past → MaySend parts past node session until runs
+        → IsSettledOn parts x past device sector content → IsSettledOn (parts_sent parts node session until runs) x (past_sent parts past node session until runs) device sector content }
+    ensures stands { (parts : Parts) (x : Disks) (past : StorePast) (node session until : ℕ) (runs : KindAndRuns) (device sector : ℕ) (content : List ℕ) (index : ℕ) → Keeps parts x past → MaySend parts past node session until runs
+        → StandsOn parts x past device sector content index → StandsOn (parts_sent parts node session until runs) x (past_sent parts past node session until runs) device sector content index }
+    ensures reads { (parts : Parts) (x : Disks) (past : StorePast) (node session until : ℕ) (runs : KindAndRuns) (reader : ℕ) (read : Asking) (sector : ℕ) (content : List ℕ) → Keeps parts x past → MaySend parts past node session until runs
+        → WillReadOn parts x past reader read sector content → WillReadOn (parts_sent parts node session until runs) x (past_sent parts past node session until runs) reader read sector content }
+{}
+
+/// A node that may send a read sends it: all goes on fitting the past with its letter, and what was settled, stood or is read goes on.
+pub fn a_read_is_sent()
+    ensures keeps { (parts : Parts) (x : Disks) (past : StorePast) (node session device place sectors : ℕ) → Keeps parts x past → MayRead parts node session device place sectors → Keeps (parts_asked parts node session device place sectors) x (past_asked parts past node session device place sectors) }
+    ensures settles { (parts : Parts) (x : Disks) (past : StorePast) (node session device place sectors d sector : ℕ) (content : List ℕ) → Keeps parts x past → MayRead parts node session device place sectors
+        → IsSettledOn parts x past d sector content → IsSettledOn (parts_asked parts node session device place sectors) x (past_asked parts past node session device place sectors) d sector content }
+    ensures stands { (parts : Parts) (x : Disks) (past : StorePast) (node session device place sectors d sector : ℕ) (content : List ℕ) (index : ℕ) → Keeps parts x past → MayRead parts node session device place sectors
+        → StandsOn parts x past d sector content index → StandsOn (parts_asked parts node session device place sectors) x (past_asked parts past node session device place sectors) d sector content index }
+    ensures reads { (parts : Parts) (x : Disks) (past : StorePast) (node session device place sectors reader : ℕ) (read : Asking) (sector : ℕ) (content : List ℕ) → Keeps parts x past → MayRead parts node session device place sectors
+        → WillReadOn parts x past reader read sector content → WillReadOn (parts_asked parts node session device place sectors) x (past_asked parts past node session device place sectors) reader read sector content }
+{}
+
+/// The answer to a node's read is taken; and an acknowledgement that comes of its write is noted, where the write isn't done by it.
+pub fn what_came_is_noted()
+    ensures answered { (parts : Parts) (x : Disks) (past : StorePast) (node : ℕ) → Keeps parts x past → Keeps (with_stream parts node (answered (parts.nodes node))) x past }
+    ensures acked { (parts : Parts) (x : Disks) (past : StorePast) (node : ℕ) (s : Sending) (member : ℕ) (w : WroteBody) → Keeps parts x past → IsAck parts past node s member w → Keeps (parts_acked parts node s member w.epoch) x past }
+{}
+
+/// A node stops: nothing of it is out, and all goes on fitting; what was settled or stood goes on, and so does what other nodes read.
+pub fn a_node_stops()
+    ensures keeps { (parts : Parts) (x : Disks) (past : StorePast) (node : ℕ) → Keeps parts x past → Keeps (with_stream parts node (stopped (parts.nodes node))) x (store_crashed past (Node node)) }
+    ensures settles { (parts : Parts) (x : Disks) (past : StorePast) (node device sector : ℕ) (content : List ℕ) → Keeps parts x past → IsSettledOn parts x past device sector content → IsSettledOn (with_stream parts node (stopped (parts.nodes node))) x (store_crashed past (Node node)) device sector content }
+    ensures stands { (parts : Parts) (x : Disks) (past : StorePast) (node device sector : ℕ) (content : List ℕ) (index : ℕ) → Keeps parts x past → StandsOn parts x past device sector content index → StandsOn (with_stream parts node (stopped (parts.nodes node))) x (store_crashed past (Node node)) device sector content index }
+    ensures reads { (parts : Parts) (x : Disks) (past : StorePast) (node reader : ℕ) (read : Asking) (sector : ℕ) (content : List ℕ) → Keeps parts x past → reader ≢ node → WillReadOn parts x past reader read sector content → WillReadOn (with_stream parts node (stopped (parts.nodes node))) x (store_crashed past (Node node)) reader read sector content }
+{}

@@ -1,8 +1,10 @@
 -- A node begins a record, and sends its body: the nodes stand.
-use Rattle.std.proofs.Common.{◌≡◌, ◌≢◌, ◌⊎◌, ⊎_elim, ◌∙◌, inl, inr, ℕ, ◌+◌, ◌<◌, ◌≤◌, Bool, true, false, eqb, List, ◌∷◌, length, Contains, Option, Some, IsSome, IsSomeAnd, refl, sym, ap, subst, arith}
+use Rattle.std.proofs.Common.{◌≡◌, ◌≢◌, ◌⊎◌, ⊎_elim, ◌∙◌, inl, inr, ℕ, ◌+◌, ◌<◌, ◌≤◌, Bool, true, false, eqb, List, ◌∷◌, length, Contains, Option, None, Some, IsSome, IsSomeAnd, refl, sym, ap, subst, arith}
 use Rattle.std.specs.Prelude.{◌==◌, ◌&&◌, if◌then◌else◌, slice_get}
 use Rattle.std.proofs.lemmas.Bool.Decides.{nat_tests}
 use Rattle.bx_base.specs.declared.names.Actor.TheVariants.{Node}
+use Rattle.bx_base.specs.declared.names.Mode.{Mode}
+use Rattle.bx_base.specs.declared.names.Mode.TheVariants.{Shared, Exclusive}
 use Rattle.bx_disk.specs.Disks.{Disks}
 use Rattle.bx_facts.specs.declared.register.Register as register
 use Rattle.bx_facts.specs.declared.store.Store as store
@@ -12,8 +14,8 @@ use Rattle.bx_facts.specs.Writes.{IsOnly, IsOver, Made, Sent, WritesIn, WritesTo
 use Rattle.bx_facts.proofs.Lists.{front_or_behind}
 use Rattle.bx_global.specs.Allowed.{IsAllowed}
 use Rattle.bx_node_machines.specs.Machines as words
-use Rattle.bx_node_machines.specs.Machines.{AreAbout, Fetch, IsAbout, IsAtWork, IsDoubtOf, IsFetching, MachineView, Scene, Stage, home_of, is_one, is_under}
-use Rattle.bx_node_machines.specs.Nodes.{IsOfNode, NodesStand, hinted, known_of, scene_of, shown}
+use Rattle.bx_node_machines.specs.Machines.{AreAbout, Fetch, IsAbout, IsAtWork, IsDoubtOf, IsFetching, IsUnseen, IsUnwritten, MachineView, Scene, Stage, home_of, is_one, is_under}
+use Rattle.bx_node_machines.specs.Nodes.{IsOfNode, NodesStand, hinted, known_of, nothing_held, scene_of, shown}
 use Rattle.bx_node_machines.proofs.Leaving.{LeavesSlot, acts}
 use Rattle.bx_node_machines.proofs.Owning as owning
 use Rattle.bx_node_machines.proofs.Sending.{fetching, sending_leaves}
@@ -25,7 +27,7 @@ use Rattle.bx_node_events.proofs.Working.{IsHanded}
 use Rattle.bx_owners.specs.declared.owners.Owners as owners
 use Rattle.bx_places.specs.Places.{IsBlock, block_place, log_device}
 use Rattle.bx_post.specs.declared.packets.Letter.{Letter}
-use Rattle.bx_records.specs.Drafts.{block_in}
+use Rattle.bx_records.specs.Drafts.{Block, block_in}
 use Rattle.bx_records.specs.declared.runs.Run.{Run}
 use Rattle.bx_redo.specs.Steps.{writes}
 use Rattle.bx_redo.specs.View.{LogView}
@@ -33,11 +35,11 @@ use Rattle.bx_redo.specs.declared.work.Work.TheVariants as works
 use Rattle.bx_rows.specs.Words.{row_in}
 use Rattle.bx_rows.specs.declared.session.SessionRow.{SessionRow}
 use Rattle.bx_views.specs.Attempts.{Deed, IsHeldDraft}
-use Rattle.bx_views.specs.Truths.{Hints, IsTruth, Truth}
+use Rattle.bx_views.specs.Truths.{Held, Hints, IsTruth, Truth}
 use Rattle.bx_volume.specs.Overlay.{IsUnlogged}
 use Rattle.bx_volume.specs.Records.{Logged, IsLogged, logged_text}
 use Rattle.bx_world_chains.proofs.Rows.{lives_of, one_slot}
-use Rattle.bx_world_logs.specs.Logs.{IsInLog, OfLog, Slot, point_in}
+use Rattle.bx_world_logs.specs.Logs.{IsInLog, OfLog, Slot, begins as is_begun, point_in}
 use Rattle.bx_world_logs.proofs.Moving.{slot_here, slot_there, with_slot}
 use Rattle.bx_world_logs.proofs.Regions.{home_in_none}
 use Rattle.bx_world_standing.specs.Doubts.{IsRecordOf}
@@ -47,7 +49,7 @@ use Rattle.bx_world_standing.specs.Rights.MayTouch.{OfSlot}
 use Rattle.bx_world_standing.specs.Standing.{Course, Known, StandsAt, SureOf, own_up}
 use Rattle.bx_world_standing.proofs.Owns.{own_is, own_of}
 use Rattle.bx_world_views.specs.Views as views
-use Rattle.bx_world_views.specs.Views.{Act, Doubt}
+use Rattle.bx_world_views.specs.Views.{Act, Allows, Doubt}
 
 module _ {G O S T : Type 0} (g : register.Ghosts G) (o : owners.Ghosts O) (st : store.Ghosts S) (Stands : Truth → Hints → T → Type 0) (Step : T → Deed → T → Type 0)
     (register_is : G) (owners_are : O) (old new : S) (x : Disks) (letters then_letters : List Letter) (clocks : Clocks) (machines later : List MachineView) (c : Course) (tree : T)
@@ -118,6 +120,7 @@ module _ {G O S T : Type 0} (g : register.Ghosts G) (o : owners.Ghosts O) (st : 
       → st.will_read old x c.store reader s content → st.will_read new x (with_write begun_course then_letters write).store reader s content)
       (register_keeps : g.keeps register_is x (with_write begun_course then_letters write).register) (owners_keep : o.keeps owners_are (with_write begun_course then_letters write).owners)
       (end : (end : ℕ) × Contains c.owners.leases (session, end) × (write.until ≤ end)) (opened : session < (last c.register.chain).next_session)
+      (fair : IsHeldDraft (shown (slice_get machines node) (o.own owners_are node)) more.changed)
       (alone : (one other block : ℕ) (hold : Hold) → LivesIn (last c.register.chain) one → HasRow (last c.register.chain) other → c.owners.holding one block ≡ Some hold → oldest c.register.chain ≤ other) where
     own_st : st.own old node ≡ Some session
     own_st = sym (stands.at.parts.own node up) ∙ own
@@ -184,6 +187,56 @@ module _ {G O S T : Type 0} (g : register.Ghosts G) (o : owners.Ghosts O) (st : 
     doubt_here : with_doubt c.doubts session its_doubt session ≡ Some its_doubt
     doubt_here = let t : (session == session) ≡ true = grind (arith, nat_tests) in ap (λ (b : Bool). if b then Some its_doubt else c.doubts session) t
 
+    -- each block of the record its session holds exclusively
+    holds_it : (block : ℕ) → IsSome (block_in more.changed block) → Allows (c.owners.holding session block) Exclusive
+    holds_it block some = by (shown (slice_get machines node) (o.own owners_are node) block Exclusive) refl (fair.each block some)
+      where
+        by : (found : Option Block) → shown (slice_get machines node) (o.own owners_are node) block Exclusive ≡ found → IsSome found → Allows (c.owners.holding session block) Exclusive
+        by None is none = absurd cc
+        by (Some one) is some_one = (stands.at.volume.views node session (own_is clocks.down (o.own owners_are) node session up own) live).holds block Exclusive one is
+
+    -- so no other live session holds it
+    holds_alone : (its_session block : ℕ) (mode : Mode) → its_session ≢ session → LivesIn (last c.register.chain) its_session → Allows (c.owners.holding its_session block) mode → Allows (c.owners.holding session block) Exclusive → ⊥
+    holds_alone its_session block mode ne its_lives yours mine = by (c.owners.holding session block) (c.owners.holding its_session block) refl refl yours mine
+      where
+        by : (one other : Option Hold) → c.owners.holding session block ≡ one → c.owners.holding its_session block ≡ other → Allows other mode → Allows one Exclusive → ⊥
+        by None other is is_other allowed exclusive = exclusive
+        by (Some one) None is is_other allowed exclusive = allowed
+        by (Some one) (Some other) is is_other allowed exclusive =
+            let both = stands.at.volume.apart.each session its_session block one other (stands.at.volume.rows session live) (stands.at.volume.rows its_session its_lives) ne is is_other in
+            ⊎_elim (λ e. let wrong : Shared ≡ Exclusive = sym both.0 ∙ e in cc) (λ e. let wrong : Shared ≡ Exclusive = sym both.0 ∙ e in cc) exclusive
+
+    none_in : (block : ℕ) (found : Option Block) → block_in more.changed block ≡ found → (IsSome (block_in more.changed block) → ⊥) → found ≡ None
+    none_in block None is none = refl
+    none_in block (Some one) is none = absurd (none (subst (λ (found : Option Block). IsSome found) (sym is) refl))
+
+    -- a block that isn't in the record is in none that is under way, as before
+    unwritten_then : (block : ℕ) → (IsSome (block_in more.changed block) → ⊥) → IsUnwritten c.slots block → IsUnwritten (with_slot c.slots row.slot (body_slot more)) block
+    unwritten_then block none was slot less on = by (eqb slot row.slot) refl
+      where
+        by : (b : Bool) → eqb slot row.slot ≡ b → block_in (with_slot c.slots row.slot (body_slot more) slot).more.changed block ≡ None
+        by true is =
+            let e : slot ≡ row.slot = grind (arith, nat_tests, is) in
+            ap (λ (l : Slot). block_in l.more.changed block) (ap (λ (n : ℕ). with_slot c.slots row.slot (body_slot more) n) e ∙ slot_here c.slots row.slot (body_slot more)) ∙ none_in block (block_in more.changed block) refl none
+        by false is =
+            let same_one = slot_there c.slots row.slot slot (body_slot more) (λ e. grind (arith, nat_tests, is, e)) in
+            ap (λ (l : Slot). block_in l.more.changed block) same_one ∙ was slot less (sym (ap (λ (l : Slot). is_begun l.activity) same_one) ∙ on)
+
+    shows_mine : shown (slice_get machines node) (o.own owners_are node) ≡ before.held
+    shows_mine = ap (λ (m : Option MachineView). shown m (o.own owners_are node)) there ∙ ap (λ (own_is_it : Option ℕ). if is_one before.session own_is_it then before.held else nothing_held) own
+        ∙ ap (λ (mark_is : Option ℕ). if is_one mark_is (Some session) then before.held else nothing_held) mark
+        ∙ (let t : is_one (Some session) (Some session) ≡ true = grind (arith, nat_tests) in ap (λ (b : Bool). if b then before.held else nothing_held) t)
+
+    -- what the node reads isn't in the record, whose blocks it shows
+    unread : (block : ℕ) (mode : Mode) → before.fetch ≡ words.Block block mode → IsSome (block_in more.changed block) → ⊥
+    unread block mode is some =
+        let hidden = (subst (λ (fetch : Fetch). IsUnseen before.held fetch) is its.unseen) Exclusive in
+        absurd (not_some (before.held block Exclusive) hidden (subst (λ (held : Held). IsSome (held block Exclusive)) shows_mine (fair.each block some)))
+      where
+        not_some : (found : Option Block) → found ≡ None → IsSome found → ⊥
+        not_some None is some_one = cc
+        not_some (Some one) is some_one = cc
+
     -- the nodes' work then, and what is sure, by what the store is made for
     abbrev Before : Scene
     Before = scene_of g o st Stands Step register_is owners_are old x clocks.down machines c
@@ -224,7 +277,8 @@ module _ {G O S T : Type 0} (g : register.Ghosts G) (o : owners.Ghosts O) (st : 
         at_rest.5,
       );
       fetch = fetching (st.made old).devices (st.made old).areas (st.will_read old x c.store node) (st.will_read new x (with_write begun_course then_letters write).store node) Before Then node session
-          (handed.asked node) before.fetch (λ block mode allows. allows) (λ block unlogged. unlogged) (λ block is unlogged i few asked was. reads_on node block is unlogged i few asked was) its.fetch;
+          (handed.asked node) before.fetch (λ block mode allows. allows) (λ block unlogged. unlogged) (λ block mode is allows was. unwritten_then block (unread block mode is) was) (λ block is unlogged i few asked was. reads_on node block is unlogged i few asked was) its.fetch;
+      unseen = its.unseen;
     }
 
     about_then : AreAbout (st.made old).devices (st.made old).areas (SureBy (st.made old)) (st.will_read new x (with_write begun_course then_letters write).store) (IsOfNode o.by_boot clocks) Then
@@ -237,7 +291,9 @@ module _ {G O S T : Type 0} (g : register.Ghosts G) (o : owners.Ghosts O) (st : 
         (st.will_read new x (with_write begun_course then_letters write).store other) Before Then other its_session its_row.slot (leaves_slot its_session its_row has apart_it) (handed.others other ne) (handed.asked other)
         write (λ e. apart_it (sym (sym whose ∙ e))) refl
         (λ d s content touch w. apart its_session d s content apart_it (lives_of (last c.register.chain) its_session its_row has other_lives) touch w)
-        sure_on (λ block mode allows. allows) (λ block unlogged. unlogged) (λ block is unlogged i few asked was. reads_on other block is unlogged i few asked was))
+        sure_on (λ block mode allows. allows) (λ block unlogged. unlogged)
+        (λ block mode allows was. unwritten_then block (λ some. holds_alone its_session block mode apart_it (lives_of (last c.register.chain) its_session its_row has other_lives) allows (holds_it block some)) was)
+        (λ block is unlogged i few asked was. reads_on other block is unlogged i few asked was))
         (λ other its_session its_machine its_row has other_lives about. owning.may_work (st.made old).devices (st.made old).areas Sure_before c.before (last c.register.chain) allowed c.owners.holding c.logs c.slots c.truth stands.at.logs its_session its_row has other_lives
         (st.will_read old x c.store other) Before other its_machine refl refl about)
         (λ other its_own. stands.single node other session own (own_of clocks.down (o.own owners_are) other session its_own).1)

@@ -7,7 +7,7 @@ use Rattle.bx_disk.specs.Disks.{Image}
 use Rattle.bx_facts.specs.Holds.{Holds}
 use Rattle.bx_facts.specs.Writes.{Asked, Sent, WritesIn}
 use Rattle.bx_node_machines.specs.Machines as words
-use Rattle.bx_node_machines.specs.Machines.{AreAbout, AreAway, Fetch, IsAbout, IsAtWork, IsDoubtOf, IsFetched, IsFetching, IsFresh, IsWriting, MachineView, Scene, Stage, home_of, is_one, is_under}
+use Rattle.bx_node_machines.specs.Machines.{AreAbout, AreAway, Fetch, IsAbout, IsAtWork, IsDoubtOf, IsFetched, IsFetching, IsFresh, IsUnwritten, IsWriting, MachineView, Scene, Stage, home_of, is_one, is_under}
 use Rattle.bx_places.specs.Places.{block_place}
 use Rattle.bx_records.specs.declared.runs.Run.{Run}
 use Rattle.bx_redo.specs.Homes.{AreItsHomes}
@@ -83,6 +83,7 @@ module _ (devices areas : ℕ) (Touches : ℕ → ℕ → Type 0) (Sure Sure_the
     count = is.count ∙ sym (ap (λ (l : List Logged). length l) leaves.of_slot.logs);
     work = work_stays machine.stage is.work;
     fetch = fetch_stays machine.fetch is.fetch;
+    unseen = is.unseen;
   }
 
 -- Nothing of all this is touched.
@@ -100,6 +101,7 @@ all_same devices areas Sure Reads old new node session slot logs slots doubts ou
         is = was.is;
         allows = subst (λ (h : Holds). Allows (h session block) mode) (sym holding) was.allows;
         unlogged = λ s less. ap (λ (f : ℕ → List Logged). newest_in (f s) block) logs ∙ was.unlogged s less;
+        unwritten = subst (λ (f : ℕ → Slot). IsUnwritten f block) (sym slots) was.unwritten;
         asked = subst (λ (f : ℕ → Option Asked). (f node ≡ None) ⊎ ((f node ≡ Some (home_of devices block)) × ((i : ℕ) → i < 9 → Reads ((block_place block devices).1 + i) (new.before (block_place block devices).0 ((block_place block devices).1 + i))))) (sym asked)
             (subst (λ (image : Image). (old.asked node ≡ None) ⊎ ((old.asked node ≡ Some (home_of devices block)) × ((i : ℕ) → i < 9 → Reads ((block_place block devices).1 + i) (image (block_place block devices).0 ((block_place block devices).1 + i))))) (sym before) was.asked);
       };

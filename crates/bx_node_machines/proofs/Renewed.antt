@@ -9,7 +9,7 @@ use Rattle.bx_facts.specs.declared.register.Register as register
 use Rattle.bx_facts.specs.declared.store.Store as store
 use Rattle.bx_facts.specs.Chains.{last}
 use Rattle.bx_node_machines.specs.Machines as words
-use Rattle.bx_node_machines.specs.Machines.{AreAbout, Fetch, IsAbout, IsAtWork, IsFetching, IsFresh, MachineView, Scene, Stage, is_one, is_under}
+use Rattle.bx_node_machines.specs.Machines.{AreAbout, Fetch, IsAbout, IsAtWork, IsFetching, IsFresh, IsUnseen, MachineView, Scene, Stage, is_one, is_under}
 use Rattle.bx_node_machines.specs.Nodes.{IsOfNode, NodesStand, hinted, known_of, nothing_held, scene_of, shown}
 use Rattle.bx_node_machines.proofs.Leaving.{LeavesSlot, all_same, fresh_stays}
 use Rattle.bx_node_machines.proofs.Showing.{shown_at}
@@ -46,6 +46,7 @@ new_about devices areas Sure Reads s node session slot machine fresh own new = r
   work = subst (λ (stage : Stage). IsAtWork devices areas Sure s node session slot machine stage) (sym new.stage)
       (ap (λ (l : LogView). l.work) new.log, fresh.still, fresh.none, fresh.unwritten own, fresh.undoubted, λ at. new.home at ∙ sym (ap (λ (l : List Logged). newest_in l at) fresh.none));
   fetch = subst (λ (fetch : Fetch). IsFetching devices areas Reads s node session fetch) (sym new.fetch) (fresh.unasked own);
+  unseen = subst (λ (fetch : Fetch). IsUnseen machine.held fetch) (sym new.fetch) tt;
 }
 
 -- The scene with another machine of one node.

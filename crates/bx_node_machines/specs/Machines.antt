@@ -5,7 +5,7 @@ use Rattle.bx_disk.specs.Disks.{Image}
 use Rattle.bx_facts.specs.Holds.{Holds}
 use Rattle.bx_facts.specs.Writes.{Asked, Sent, WritesIn}
 use Rattle.bx_places.specs.Places.{IsBlock, block_place, log_device}
-use Rattle.bx_records.specs.Drafts.{Block as Content, Changed}
+use Rattle.bx_records.specs.Drafts.{Block as Content, Changed, block_in}
 use Rattle.bx_records.specs.declared.runs.Run.{Run}
 use Rattle.bx_redo.specs.Homes.{AreItsHomes}
 use Rattle.bx_redo.specs.Steps.{writes}
@@ -17,7 +17,7 @@ use Rattle.bx_rows.specs.Words.{row_in}
 use Rattle.bx_views.specs.Truths.{Held, Hints}
 use Rattle.bx_volume.specs.Overlay.{Logs, IsUnlogged}
 use Rattle.bx_volume.specs.Records.{newest_in}
-use Rattle.bx_world_logs.specs.Logs.{OfLog, Slot, idle}
+use Rattle.bx_world_logs.specs.Logs.{OfLog, Slot, begins, idle}
 use Rattle.bx_world_views.specs.Views.{Allows, Doubt}
 
 -- ---- a node
@@ -121,13 +121,24 @@ pub record Scene : Type 0 where
 abbrev pub AreAway : Logs → ℕ → MachineView → Type 0
 AreAway logs slot machine = (at : ℕ) → machine.away at ≡ newest_in (logs slot) at
 
+-- no record that is under way has a block
+abbrev pub IsUnwritten : (ℕ → Slot) → ℕ → Type 0
+IsUnwritten slots block = (slot : ℕ) → slot < 8 → begins (slots slot).activity ≡ true → block_in (slots slot).more.changed block ≡ None
+
+-- what is read isn't shown
+abbrev pub IsUnseen : Held → Fetch → Type 0
+IsUnseen held Nothing = Unit {0}
+IsUnseen held (Block block mode) = (way : Mode) → held block way ≡ None
+IsUnseen held Dropped = Unit {0}
+
 module _ (devices areas : ℕ) where
-  -- The read of a block: its session holds it so, and no log has it. It may not have been asked for yet; else each answer that may come has in each
-  -- sector what stands there. (`Reads` says this of the node's answers.)
+  -- The read of a block: its session holds it so, and neither a log nor a record under way has it. It may not have been asked for yet; else each answer
+  -- that may come has in each sector what stands there. (`Reads` says this of the node's answers.)
   pub record IsFetched (Reads : ℕ → List ℕ → Type 0) (s : Scene) (node session block : ℕ) (mode : Mode) : Type 0 where
     pub is : IsBlock areas block
     pub allows : Allows (s.holding session block) mode
     pub unlogged : IsUnlogged s.logs block
+    pub unwritten : IsUnwritten s.slots block
     pub asked : (s.asked node ≡ None) ⊎ ((s.asked node ≡ Some (home_of devices block))
         × ((i : ℕ) → i < 9 → Reads ((block_place block devices).1 + i) (s.before (block_place block devices).0 ((block_place block devices).1 + i))))
 
@@ -154,6 +165,7 @@ module _ (devices areas : ℕ) where
     pub count : machine.log.count ≡ length (s.logs slot)
     pub work : IsAtWork Sure s node session slot machine machine.stage
     pub fetch : IsFetching Reads s node session machine.fetch
+    pub unseen : IsUnseen machine.held machine.fetch
 
 -- A session that its node didn't use yet: its log has no records, and nothing is under way, in doubt or out.
 pub record IsFresh (s : Scene) (node session slot : ℕ) : Type 0 where

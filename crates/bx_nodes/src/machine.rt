@@ -1,10 +1,17 @@
 //! What a node has.
 
+ghost use Rattle.std.specs.Prelude.{◌≡◌, [], None};
+ghost use Rattle.bx_nodes.specs.declared.machine.Fetch.TheVariants.{Nothing};
+ghost use Rattle.bx_nodes.specs.declared.machine.Stage.TheVariants.{Idle};
+ghost use Rattle.bx_places.specs.Places.{IsVolume};
+ghost use Rattle.bx_redo.specs.Steps.{closed_log};
+
 use bx_base::{Mode, Raw};
 use bx_node_cache::Cache;
 use bx_node_tries::Waiting;
 use bx_records::Draft;
 use bx_redo::Log;
+use std::alloc::Global;
 
 /// A record whose gate isn't acknowledged.
 #[derive(Drop)]
@@ -54,4 +61,25 @@ pub struct Machine {
     pub fetch: Fetch,
     /// The calls that wait, the oldest first.
     pub calls: Vec<Waiting>,
+}
+
+impl Machine {
+    /// A node of a volume of so many devices and areas that has nothing: no session, no blocks, no calls. It takes no memory.
+    pub fn new(alloc: Global, devices: u32, areas: u16) -> Machine
+        requires volume { IsVolume devices areas }
+        ensures session { result.session ≡ None }
+        ensures cache { result.cache ≡ record { devices = devices; areas = areas; kept = []; hinted = [] } }
+        ensures log { result.log ≡ closed_log 0 0 }
+        ensures idle { (result.stage ≡ Idle) × (result.fetch ≡ Nothing) }
+        ensures calls { result.calls.items ≡ [] }
+    {
+        Machine {
+            session: None,
+            cache: Cache::new(alloc, devices, areas),
+            log: Log::new(alloc, 0, 0),
+            stage: Stage::Idle,
+            fetch: Fetch::Nothing,
+            calls: Vec::new(alloc),
+        }
+    }
 }

@@ -1,5 +1,7 @@
 //! All nodes.
 
+ghost use Rattle.std.specs.Prelude.{◌≡◌};
+
 use crate::machine::Machine;
 use bx_facts::{Register, Store};
 use bx_owners::Owners;
@@ -15,4 +17,28 @@ pub struct Nodes<G: Register, O: Owners, S: Store, E: Engine> {
     pub(crate) store: S,
     pub(crate) engine: E,
     pub(crate) machines: Vec<Machine>,
+}
+
+impl<G: Register, O: Owners, S: Store, E: Engine> Nodes<G, O, S, E> {
+    /// These nodes, with these parts. It takes no memory.
+    pub fn new(
+        alloc: Global,
+        register: G,
+        owners: O,
+        store: S,
+        engine: E,
+        machines: Vec<Machine>,
+    ) -> Nodes<G, O, S, E>
+        ensures machines { result.machines ≡ machines }
+        ensures parts { (result.register ≡ register) × (result.owners ≡ owners) × (result.store ≡ store) × (result.engine ≡ engine) }
+    {
+        Nodes {
+            alloc,
+            register,
+            owners,
+            store,
+            engine,
+            machines,
+        }
+    }
 }

@@ -1,7 +1,6 @@
 //! The machines of the lock service.
 
 ghost use Rattle.std.specs.Prelude.{◌≡◌, ◌++◌, ◌∷◌, [], IfOk, OnOk};
-ghost use Rattle.bx_clerk.specs.Clerks.{made as clerk_made};
 ghost use Rattle.bx_locks.specs.Machines.{AreMade};
 
 use bx_base::OutOfMemory;

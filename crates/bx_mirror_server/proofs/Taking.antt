@@ -1,24 +1,29 @@
 -- The steps of a member are events of its device.
-use Rattle.std.proofs.Common.{◌≡◌, ℕ, zero, suc, ◌+◌, ◌-◌, ◌≤◌, Bool, true, false, Contains, List, [], ◌∷◌, Option, Some, None, refl, sym, ◌∙◌, ap, subst, arith}
+use Rattle.std.proofs.Common.{◌≡◌, ℕ, zero, suc, ◌+◌, ◌-◌, ◌<◌, ◌≤◌, inl, Bool, true, false, Contains, List, [], ◌∷◌, Option, Some, None, refl, sym, ◌∙◌, ap, subst, arith}
 use Rattle.std.specs.Prelude.{◌==◌, not, slice_get, if◌then◌else◌}
 use Rattle.std.proofs.lemmas.Bool.Decides.{nat_tests}
 use Rattle.bx_base.specs.declared.names.Actor.{Actor}
 use Rattle.bx_disk.specs.Disks.{Disks, Image, sector_of}
-use Rattle.bx_facts.specs.Writes.{Writes, WritesIn}
+use Rattle.bx_calls.specs.Calls.{KeepsSure}
+use Rattle.bx_calls.specs.Regions.{IsSynced}
+use Rattle.bx_facts.specs.Writes.{IsOnly, Sent, Writes, WritesIn, member_disk}
+use Rattle.bx_members.specs.Members.{KeepsMembers}
 use Rattle.bx_global.specs.declared.state.GlobalState.{GlobalState}
 use Rattle.bx_post.specs.declared.packets.Letter.{Letter}
 use Rattle.bx_records.specs.declared.runs.Run.{Run}
 use Rattle.bx_rows.specs.declared.device.DeviceRow.{DeviceRow}
-use Rattle.bx_mirror_laws.specs.Steps.{IsDown, KnowsBefore, Learns, PieceTaken, Synced, Taken}
+use Rattle.bx_mirror_laws.specs.Acting.{IsRow, boot_in}
+use Rattle.bx_mirror_laws.specs.Steps.{IsDown, KnowsBefore, Learns, PartlyTaken, PieceTaken, Starts, Synced, Taken}
 use Rattle.bx_mirror_packets.specs.declared.message.CopyBody.{CopyBody}
 use Rattle.bx_mirror_packets.specs.declared.message.WriteBody.{WriteBody}
 use Rattle.bx_mirror_tables.specs.Lasts.{last_in}
 use Rattle.bx_mirror_tables.proofs.Noting.{noted_last}
 use Rattle.bx_mirror_member.specs.Acting.{IsTaken}
-use Rattle.bx_mirror_member.specs.Standing.{Standing, device_in, disk_in, is_news, is_second, learned, learned_row, stopped, with_row}
+use Rattle.bx_mirror_member.specs.Standing.{Standing, device_in, disk_in, hearing, is_news, is_second, learned, learned_row, started, stopped, with_row}
 use Rattle.bx_mirror_member.specs.Steps.{copied_of}
 use Rattle.bx_mirror_server.specs.Serving.{OfSync, PutsPiece, PutsWrite, run_of}
-use Rattle.bx_mirror_server.specs.Sides.{IsOnce, MayTakeWrite, letter_to, piece_from, side_of}
+use Rattle.bx_mirror_server.specs.Sides.{IsOnce, MayTakeWrite, alone, letter_to, piece_from, side_of}
+use Rattle.bx_mirror_server.proofs.Places.{own_disk}
 use Rattle.bx_mirror_server.proofs.Owing.{copied_only, copied_same, wrote_it, wrote_only, wrote_same, wrote_still}
 
 -- ---- writes
@@ -111,3 +116,45 @@ syncs m new before after x y is = subst (λ (n : Standing). Synced (side_of true
 
 pub stops : (m : Standing) (x : Disks) → IsDown (side_of false (stopped m) x)
 stops m x = record { down = refl; wrote = refl; copied = refl; row = refl }
+
+-- ---- a fault cuts a write short, and a member starts again
+
+pub partly : (m : Standing) (w : WriteBody) (x y : Disks) → KeepsMembers (alone w) 0 x y → PartlyTaken (device_in m) (letter_to m w) (side_of true m x) (side_of true m y)
+partly m w x y keeps = record {
+  memory = record { up = refl; boot = refl; row = refl };
+  keeps = λ sector content unique here.
+      let at = own_disk m in
+      let there : x.reads (member_disk (device_in m) (is_second m)) sector ≡ content = subst (λ (d : ℕ). x.reads d sector ≡ content) at here in (
+        subst (λ (d : ℕ). y.reads d sector ≡ content) (sym at) (keeps.reads (device_in m) sector (is_second m) content (only sector content unique) there),
+        λ was. subst (λ (d : ℕ). y.unsure d sector ≡ false) (sym at) (keeps.sure (device_in m) sector (is_second m) content (only sector content unique) there (subst (λ (d : ℕ). x.unsure d sector ≡ false) at was)),
+      );
+  lasts = refl;
+  wrote = refl;
+  copied = refl;
+  place = refl;
+}
+  where
+    its : Sent
+    its = record { session = w.session; until = 0; runs = w.runs.1 }
+
+    one : (write : Sent) → Contains (alone w) write → its ≡ write
+    one write (zero, less, is) = is
+    one write (suc k, less, is) = absurd (omega (arith, less))
+
+    only : (sector : ℕ) (content : List ℕ) → ((other : List ℕ) → WritesIn w.runs.1 (device_in m) sector other → other ≡ content) → IsOnly (alone w) 0 (device_in m) sector content
+    only sector content unique = record {
+      each = λ write other there brings. inl (unique other (subst (λ (s : Sent). WritesIn s.runs (device_in m) sector other) (sym (one write there)) brings));
+    }
+
+pub starts : (m : Standing) (boot reading : ℕ) (last : DeviceRow) (older : List DeviceRow) (x y : Disks) → m.boot ≤ boot → ((r : DeviceRow) → IsRow last older r → boot_in (is_second m) r < boot)
+    → KeepsSure x y (disk_in m) 0 1 → IsSynced y (disk_in m) → Starts (is_second m) last older (side_of false (stopped m) x) (side_of true (hearing reading (started boot m)) y)
+starts m boot reading last older x y rises newer_than keeps synced = record {
+  was = stops m x;
+  boot = rises;
+  newer = newer_than;
+  row = refl;
+  wrote = refl;
+  copied = refl;
+  reads = λ sector behind. keeps.reads.behind sector (omega (arith, behind));
+  sure = λ sector was. synced.each sector;
+}

@@ -1,6 +1,5 @@
 -- What a clerk does with what it hears, and at a tick: each step as a function, so that what is answered is said both ways.
 use Rattle.std.specs.Prelude.{◌≡◌, ℕ, ltb, ◌&&◌, not, max, Bool, filter_map, List, [], ◌∷◌, ◌++◌, MatchOption, Option, Some, None, if◌then◌else◌}
-use Rattle.std.specs.List.{cons_option}
 use Rattle.bx_base.specs.declared.names.Mode.{Mode}
 use Rattle.bx_facts.specs.declared.input.Input.{Input}
 use Rattle.bx_facts.specs.declared.input.Input.TheVariants.{Packet, Tick, Synced}
@@ -68,10 +67,6 @@ want_again session entry = want_as session entry.0 entry.1.mode entry.1.number e
 
 abbrev pub wants_again : ℕ → Requests → List Word
 wants_again session requests = filter_map (want_again session) requests
-
-abbrev pub wants_of : ℕ → Option (ℕ × Asking) → List Word
-wants_of session None = []
-wants_of session (Some entry) = cons_option (want_again session entry) []
 
 abbrev pub tick_words : Option ℕ → Requests → List Word
 tick_words None requests = []

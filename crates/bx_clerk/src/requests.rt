@@ -1,11 +1,15 @@
 //! What a node asked for, by block.
 
-ghost use Rattle.std.specs.Prelude.{◌≡◌, [], length, slice_get, OnErr, OnOk};
+ghost use Rattle.std.specs.Prelude.{◌≡◌, [], OnErr, OnOk};
+ghost use Rattle.std.specs.BTreeMap.{get};
+ghost use Rattle.std.specs.Ordering.{nat_cmp};
 ghost use Rattle.bx_clerk.specs.Requests.{fits, hold_as, hold_of, is_held, request_in, wish_as, wish_of, with_request, without_request};
+ghost use Rattle.bx_clerk.specs.Turns.{asking_of};
 
 use bx_base::{Mode, OutOfMemory};
-use indexmap::IndexMap;
 use std::alloc::Global;
+use std::collections::BTreeMap;
+use std::collections::btree_map::Values;
 use std::marker::Model;
 
 /// The latest request for a block: it is out, or held.
@@ -19,19 +23,26 @@ pub struct Asking {
     pub held: Option<u64>,
 }
 
-/// The latest requests, by block. Contracts see them as the list of their entries, in the order in which the blocks came.
+/// The latest requests, by block. Contracts see them as the list of their entries, in the order in which the blocks came. Whether one comes
+/// or goes, no other is moved.
 #[derive(Drop)]
 pub(crate) struct Requests {
-    map: IndexMap<u64, Asking>,
+    next: u64,
+    line: BTreeMap<u64, (u64, Asking)>,
+    turns: BTreeMap<u64, u64>,
 }
 
 impl Model for Requests {
     ghost use Rattle.std.specs.Prelude.{ℕ, List};
+    ghost use Rattle.std.specs.BTreeMap.{values};
     ghost use Rattle.bx_clerk.specs.declared.requests.Asking.{Asking};
+    ghost use Rattle.bx_clerk.specs.Turns.{AreKept};
 
     ghost Value = { List (ℕ × Asking) };
 
-    ghost view = { λ requests. requests.map.entries };
+    ghost view = { λ requests. values requests.line };
+
+    ghost invariant = { λ requests. AreKept requests.next requests.line requests.turns };
 }
 
 impl Requests {
@@ -40,32 +51,27 @@ impl Requests {
         ensures { result ≡ [] }
     {
         Requests {
-            map: IndexMap::new(alloc),
+            next: 0,
+            line: BTreeMap::new(alloc),
+            turns: BTreeMap::new(alloc),
         }
     }
 
-    /// How many there are.
-    pub(crate) fn len(&self) -> usize
-        ensures { result ≡ length self.now }
+    /// Each with its block, in their order.
+    pub(crate) fn iter(&self) -> Values<'_, u64, (u64, Asking)>
+        ensures { result ≡ self.now }
     {
-        self.map.len()
-    }
-
-    /// The block and the request at a place, counted from 0.
-    pub(crate) fn at(&self, place: usize) -> Option<(u64, Asking)>
-        ensures { result ≡ slice_get self.now place }
-    {
-        match self.map.get_index(place) {
-            None => None,
-            Some((block, asking)) => Some((*block, *asking)),
-        }
+        self.line.values()
     }
 
     /// The request for a block.
     pub(crate) fn get(&self, block: u64) -> Option<Asking>
         ensures { result ≡ request_in self.now block }
     {
-        self.map.get(&block).copied()
+        match self.turns.get(&block) {
+            None => None,
+            Some(turn) => asking_at(&self.line, *turn),
+        }
     }
 
     /// Puts a request in the place of that of its block, or at the end. Where memory runs out, nothing changes.
@@ -73,7 +79,20 @@ impl Requests {
         ensures ok { OnOk result (self.new ≡ with_request self.old block asking) }
         ensures err { OnErr result (self.new ≡ self.old) }
     {
-        self.map.insert(block, asking)?;
+        if let Some(turn) = self.turns.get(&block).copied() {
+            self.line.insert(turn, (block, asking))?;
+            return Ok(());
+        }
+        // Turns run out as memory does.
+        let Some(next) = self.next.checked_add(1) else {
+            return Err(OutOfMemory);
+        };
+        self.turns.insert(block, self.next)?;
+        if self.line.insert(self.next, (block, asking)).is_err() {
+            self.turns.remove(&block);
+            return Err(OutOfMemory);
+        }
+        self.next = next;
         Ok(())
     }
 
@@ -81,15 +100,28 @@ impl Requests {
     pub(crate) fn take_out(&mut self, block: u64)
         ensures { self.new ≡ without_request self.old block }
     {
-        self.map.shift_remove(&block);
+        let Some(turn) = self.turns.get(&block).copied() else {
+            return;
+        };
+        self.turns.remove(&block);
+        self.line.remove(&turn);
     }
 
     /// Takes out all.
     pub(crate) fn clear(&mut self)
         ensures { self.new ≡ [] }
     {
-        self.map.clear();
+        self.line.clear();
+        self.turns.clear();
     }
+}
+
+/// The request of a turn.
+fn asking_at(line: &BTreeMap<u64, (u64, Asking)>, turn: u64) -> Option<Asking>
+    ensures { result ≡ asking_of (get nat_cmp line.now turn) }
+{
+    let (_, asking) = line.get(&turn)?;
+    Some(*asking)
 }
 
 /// How a request holds its block; `None` exactly where it doesn't.

@@ -1,7 +1,7 @@
 //! What a clerk says at a tick.
 
-ghost use Rattle.std.specs.Prelude.{◌≡◌, ◌++◌, Some, IfOk, OnOk};
-ghost use Rattle.bx_clerk.specs.Events.{tick_words, want_again, wants_of};
+ghost use Rattle.std.specs.Prelude.{◌≡◌, Some, IfOk};
+ghost use Rattle.bx_clerk.specs.Events.{tick_words, want_again};
 
 use crate::requests::{Asking, Requests};
 use bx_base::OutOfMemory;
@@ -33,25 +33,10 @@ pub(crate) fn tick_words(
 {
     let mut words = Vec::new(alloc);
     words.push(Word::Renews(session))?;
-    for place in 0..requests.len() {
-        push_want(&mut words, session, requests.at(place))?;
+    for entry in requests.iter() {
+        if let Some(word) = want_again(session, entry.0, &entry.1) {
+            words.push(word)?;
+        }
     }
     Ok(words)
-}
-
-/// Puts a request that is out behind the words.
-fn push_want(
-    words: &mut Vec<Word>,
-    session: u64,
-    request: Option<(u64, Asking)>,
-) -> Result<(), OutOfMemory>
-    ensures { OnOk result (words.new.items ≡ words.old.items ++ wants_of session request) }
-{
-    let Some((block, request)) = request else {
-        return Ok(());
-    };
-    if let Some(word) = want_again(session, block, &request) {
-        words.push(word)?;
-    }
-    Ok(())
 }

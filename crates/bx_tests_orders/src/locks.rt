@@ -402,6 +402,16 @@ impl Desk {
             }
         }
     }
+
+    /// The place of the first step that doesn't come out so; `None` where all do.
+    fn first_wrong(&mut self, steps: &[Step]) -> Option<usize> {
+        for (place, step) in steps.iter().enumerate() {
+            if !self.goes(*step) {
+                return Some(place);
+            }
+        }
+        None
+    }
 }
 
 /// The session that asks for the block, where a clerk is asked.
@@ -414,13 +424,8 @@ fn asker(clerk: &Clerk) -> Option<u64> {
 
 /// The place of the first step that doesn't come out so; `None` where all do.
 pub(crate) fn first_wrong(alloc: Global, steps: &[Step]) -> Option<usize> {
-    let Some(mut desk) = Desk::new(alloc) else {
-        return Some(0);
-    };
-    for (place, step) in steps.iter().enumerate() {
-        if !desk.goes(*step) {
-            return Some(place);
-        }
+    match Desk::new(alloc) {
+        Some(mut desk) => desk.first_wrong(steps),
+        None => Some(0),
     }
-    None
 }

@@ -1,6 +1,6 @@
-use Rattle.std.proofs.Common.{◌≡◌, Some, take}
-use Rattle.bx_clerk.specs.Events.{tick_words}
+use Rattle.std.proofs.Common.{◌≡◌, ◌++◌, Some}
+use Rattle.bx_clerk.specs.Events.{tick_words, wants_again}
 use Rattle.bx_clerk.proofs.ticking.tick_words.Given as goal
 
-abbrev pub invariant-loop-place : goal.invariant-loop-place
-invariant-loop-place l = l.words.items ≡ tick_words (Some l.session) (take l.place l.requests)
+abbrev pub invariant-loop-entry : goal.invariant-loop-entry
+invariant-loop-entry l = l.words.items ++ wants_again l.session l.entry-iterator ≡ tick_words (Some l.session) l.requests

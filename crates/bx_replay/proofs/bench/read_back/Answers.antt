@@ -1,5 +1,6 @@
 use Rattle.std.proofs.Common.{◌≡◌, ℕ, Err, ap, subst, ◌∙◌}
 use Rattle.std.proofs.lemmas.Result.{err_from_is_err_and}
+use Rattle.bx_disk.specs.Disks.{Disks}
 use Rattle.bx_base.specs.Faults.{Rose}
 use Rattle.bx_replay.proofs.Causes.{rises, same_least}
 use Rattle.bx_replay.proofs.Held.{audit_cause, audit_counts}
@@ -52,8 +53,8 @@ returns-in_err-listed g c =
           (λ is. subst (λ (n : ℕ). Rose n (g.B.Rack.faults c.audit.new.rack)) c.in_ok-crash_all.ensures.no_fault (c.in_err-listed.ensures.rack.cause (ap Err is)))
           (λ held. let stands = held.1 (g.B.Rack.state c.crash_all.new.bench) (c.in_ok-crash_all.ensures.crashed held.0) in
           rw c.in_ok-state.ensures at (c.in_err-listed.ensures.breaks (c.in_ok-crash_all.ensures.keeps_telling held.0) stands.0) stands.1));
-      no_fault = rw (p.1, p.2) (audit_counts c.in_err-listed.field-0.0 (g.B.Rack.faults c.audit.new.rack ≡ g.B.Rack.faults c.args.bench.now) (rw lost.no_fault at why.counts));
-      later = rises _ _ _ (same_least _ _ lost.no_fault) why.later;
-      sizes = why.sizes ∙ lost.sizes;
-      keeps_telling = λ tells. why.keeps_telling (lost.keeps_telling tells);
+      no_fault = rw (p.1, p.2) (audit_counts c.in_err-listed.field-0.0 (g.B.Rack.faults c.audit.new.rack ≡ g.B.Rack.faults c.args.bench.now) (rw lost.no_fault at why.rack.counts));
+      later = rises _ _ _ (same_least _ _ lost.no_fault) why.rack.later;
+      sizes = ap (λ (d : Disks). d.sizes) why.rack.stays ∙ lost.sizes;
+      keeps_telling = λ tells. why.rack.keeps_telling (lost.keeps_telling tells);
     }

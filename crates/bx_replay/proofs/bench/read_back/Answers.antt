@@ -1,5 +1,6 @@
 use Rattle.std.proofs.Common.{◌≡◌, ℕ, Err, ap, subst, ◌∙◌}
 use Rattle.std.proofs.lemmas.Result.{err_from_is_err_and}
+use Rattle.bx_disk.specs.Disks.{Disks}
 use Rattle.bx_base.specs.Faults.{Rose}
 use Rattle.bx_disk.specs.Disks.{Disks}
 use Rattle.bx_replay.proofs.Causes.{rises, same_least}

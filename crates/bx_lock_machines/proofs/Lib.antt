@@ -1,0 +1,12 @@
+pub mod Alike
+pub mod ClerkEvents
+pub mod ClerkLearns
+pub mod ClerkTakes
+pub mod Growing
+pub mod Laws
+pub mod Letters
+pub mod Openings
+pub mod ServerEvents
+pub mod ServerTakes
+pub mod Starting
+pub mod Stopping

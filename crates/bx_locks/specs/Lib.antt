@@ -1,0 +1,4 @@
+pub mod Machines
+pub mod Events
+pub mod Meanings
+pub mod Laws

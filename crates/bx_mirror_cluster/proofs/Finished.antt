@@ -19,13 +19,13 @@ use Rattle.bx_mirror_cluster.proofs.Standing.{done_stands_on}
 use Rattle.bx_mirror_cluster.specs.Fitting.{IsClaimed, IsComing, Keeps, Parts, StandsFor, StandsOn, handings, knows_of, last_row, out_by, outs_of, row_or, rows_before, side_of}
 
 -- where writes go to a member it is in no copy mode, and they go to all that an audit reads
-low_mode : (mode : ℕ) → IsWritten mode false ⊎ IsWritten mode true → mode ≤ 2
+pub low_mode : (mode : ℕ) → IsWritten mode false ⊎ IsWritten mode true → mode ≤ 2
 low_mode mode written = elim written [
   | inl a ↦ elim a [ inl e ↦ omega (arith, e) | inr e ↦ omega (arith, e) ]
   | inr b ↦ elim b [ inl e ↦ omega (arith, e) | inr e ↦ omega (arith, e) ]
 ]
 
-written_source : (mode : ℕ) (b : Bool) → mode ≤ 2 → IsSource mode b → IsWritten mode b
+pub written_source : (mode : ℕ) (b : Bool) → mode ≤ 2 → IsSource mode b → IsWritten mode b
 written_source zero false low source = inl refl
 written_source zero true low source = inl refl
 written_source (suc zero) false low source = inr refl

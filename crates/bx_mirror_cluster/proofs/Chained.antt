@@ -19,7 +19,7 @@ use Rattle.bx_mirror_laws.specs.Sound.{AreCopies, AreHanded, AreOuts, AreRows, A
 use Rattle.bx_mirror_laws.specs.Steps.{IsShifted}
 use Rattle.bx_mirror_laws.proofs.Growing.{copies_grow, hands_grow, led, outs_grow, rows_grow, writes_grow, wrotes_grow}
 use Rattle.bx_mirror_laws.proofs.Small.{outs_lived, stands_fewer, writes_lived}
-use Rattle.bx_mirror_cluster.specs.Fitting.{History, IsDeviceSound, IsSettledOn, Keeps, KnownFrom, Parts, StandsOn, handings, knows_of, outs_of, row_of, row_or, rows_before, side_of}
+use Rattle.bx_mirror_cluster.specs.Fitting.{History, IsClaimed, IsDeviceSound, IsSettledOn, Keeps, KnownFrom, Parts, StandsOn, handings, knows_of, outs_of, row_of, row_or, rows_before, side_of}
 
 pub settles : (parts : Parts) (x : Disks) (past : StorePast) (d sector : ℕ) (content : List ℕ) (index : ℕ) → StandsOn parts x past d sector content index → IsSettledOn parts x past d sector content
 settles parts x past d sector content index stands = stands.settled
@@ -61,14 +61,18 @@ still_placed chain change s place = inr place
 
 module _ (parts : Parts) (x : Disks) (past : StorePast) (h : History) (d : ℕ) (change : Change) (was : IsDeviceSound parts x past h d)
     (lived : (n : ℕ) (o : Out) → outs_of parts.nodes n ≡ Some o → LivesIn (effect (last past.told.chain) change) o.session → LivesIn (last past.told.chain) o.session) where
+  claimed : (n : ℕ) (o : Out) → outs_of parts.nodes n ≡ Some o → IsClaimed (effect (last past.told.chain) change) past.told.greatest o → IsClaimed (last past.told.chain) past.told.greatest o
+  claimed n o out (inl lives) = inl (lived n o out lives)
+  claimed n o out (inr in_time) = inr in_time
+
   pub still_grows : row_of (effect (last past.told.chain) change) d ≡ row_of (last past.told.chain) d → rows_before (grown past.told.chain change) d ≡ rows_before past.told.chain d → IsDeviceSound parts x (store_grown past change) h d
   still_grows e f = record {
     rows = by (λ l o. AreRows room l o sides source) was.rows;
     hands = by (λ l o. AreHanded room l o handed sides source) was.hands;
     copies = by (λ l o. AreCopies room l o sides (h.copies d) (h.copieds d) source) was.copies;
-    writes = by (λ l o. AreWrites d past.told.greatest l o sides (h.writes d) (h.wrotes d) h.actual outs knows live_next) (writes_lived d past.told.greatest _ _ sides (h.writes d) (h.wrotes d) h.actual outs knows live live_next lived was.writes);
+    writes = by (λ l o. AreWrites d past.told.greatest l o sides (h.writes d) (h.wrotes d) h.actual outs knows live_next) (writes_lived d past.told.greatest _ _ sides (h.writes d) (h.wrotes d) h.actual outs knows live live_next claimed was.writes);
     wrotes = by (λ l o. AreWrotes l o sides (h.writes d) (h.wrotes d)) was.wrotes;
-    outs = by (λ l o. AreOuts d room past.told.greatest l o handed sides (h.writes d) (h.wrotes d) h.actual outs knows live_next) (outs_lived d room past.told.greatest _ _ handed sides (h.writes d) (h.wrotes d) h.actual outs knows live live_next lived was.outs);
+    outs = by (λ l o. AreOuts d room past.told.greatest l o handed sides (h.writes d) (h.wrotes d) h.actual outs knows live_next) (outs_lived d room past.told.greatest _ _ handed sides (h.writes d) (h.wrotes d) h.actual outs knows live live_next claimed was.outs);
     coming = was.coming;
     answering = was.answering;
     copying = was.copying;
@@ -96,11 +100,11 @@ module _ (parts : Parts) (x : Disks) (past : StorePast) (h : History) (d : ℕ) 
       knows : ℕ → Option DeviceRow
       knows = knows_of parts.nodes d
 
-      live : ℕ → Type 0
-      live = LivesIn (last past.told.chain)
+      live : Out → Type 0
+      live = IsClaimed (last past.told.chain) past.told.greatest
 
-      live_next : ℕ → Type 0
-      live_next = LivesIn (effect (last past.told.chain) change)
+      live_next : Out → Type 0
+      live_next = IsClaimed (effect (last past.told.chain) change) past.told.greatest
 
       by : (P : DeviceRow → List DeviceRow → Type 0) → P (row_of (last past.told.chain) d) (rows_before past.told.chain d) → P (row_of (effect (last past.told.chain) change) d) (rows_before (grown past.told.chain change) d)
       by P is = subst (λ (l : DeviceRow). P l (rows_before (grown past.told.chain change) d)) (sym e) (subst (λ (o : List DeviceRow). P (row_of (last past.told.chain) d) o) (sym f) is)
@@ -164,16 +168,20 @@ module _ (parts : Parts) (x : Disks) (past : StorePast) (h : History) (d epoch m
   shifts : IsShifted (row_of (last past.told.chain) d) this (row_of (effect (last past.told.chain) (Shift d epoch mode second boot)) d)
   shifts = is_shifted (last past.told.chain) d epoch mode boot second legal
 
+  pub claimed_shift : (n : ℕ) (o : Out) → outs_of parts.nodes n ≡ Some o → IsClaimed (effect (last past.told.chain) (Shift d epoch mode second boot)) past.told.greatest o → IsClaimed (last past.told.chain) past.told.greatest o
+  claimed_shift n o out (inl lives) = inl (lived n o out lives)
+  claimed_shift n o out (inr in_time) = inr in_time
+
   pub shift_grows : IsDeviceSound parts x (store_grown past (Shift d epoch mode second boot)) h d
   shift_grows = record {
     rows = subst (λ (o : List DeviceRow). AreRows room new o sides source) (sym older_is) (rows_grow d room past.told.greatest last_ older_ handed sides source was.rows was.hands this there new shifts);
     hands = subst (λ (o : List DeviceRow). AreHanded room new o handed sides source) (sym older_is) (hands_grow d room past.told.greatest last_ older_ handed sides source was.rows was.hands this there new shifts);
     copies = subst (λ (o : List DeviceRow). AreCopies room new o sides (h.copies d) (h.copieds d) source) (sym older_is) (copies_grow d room past.told.greatest last_ older_ handed sides source was.rows was.hands this there new shifts (h.copies d) (h.copieds d) was.copies);
     writes = subst (λ (o : List DeviceRow). AreWrites d past.told.greatest new o sides (h.writes d) (h.wrotes d) h.actual outs knows live_next) (sym older_is)
-        (writes_grow d room past.told.greatest last_ older_ handed sides source was.rows was.hands this there new shifts (h.writes d) (h.wrotes d) h.actual outs knows live live_next lived was.writes was.outs);
+        (writes_grow d room past.told.greatest last_ older_ handed sides source was.rows was.hands this there new shifts (h.writes d) (h.wrotes d) h.actual outs knows live live_next claimed_shift was.writes was.outs);
     wrotes = subst (λ (o : List DeviceRow). AreWrotes new o sides (h.writes d) (h.wrotes d)) (sym older_is) (wrotes_grow d room past.told.greatest last_ older_ handed sides source was.rows was.hands this there new shifts (h.writes d) (h.wrotes d) was.wrotes);
     outs = subst (λ (o : List DeviceRow). AreOuts d room past.told.greatest new o handed sides (h.writes d) (h.wrotes d) h.actual outs knows live_next) (sym older_is)
-        (outs_grow d room past.told.greatest last_ older_ handed sides source was.rows was.hands this there new shifts (h.writes d) (h.wrotes d) h.actual outs knows live live_next lived was.writes was.outs);
+        (outs_grow d room past.told.greatest last_ older_ handed sides source was.rows was.hands this there new shifts (h.writes d) (h.wrotes d) h.actual outs knows live live_next claimed_shift was.writes was.outs);
     coming = was.coming;
     answering = was.answering;
     copying = was.copying;
@@ -210,8 +218,8 @@ module _ (parts : Parts) (x : Disks) (past : StorePast) (h : History) (d epoch m
       knows : ℕ → Option DeviceRow
       knows = knows_of parts.nodes d
 
-      live : ℕ → Type 0
-      live = LivesIn (last past.told.chain)
+      live : Out → Type 0
+      live = IsClaimed (last past.told.chain) past.told.greatest
 
-      live_next : ℕ → Type 0
-      live_next = LivesIn (effect (last past.told.chain) (Shift d epoch mode second boot))
+      live_next : Out → Type 0
+      live_next = IsClaimed (effect (last past.told.chain) (Shift d epoch mode second boot)) past.told.greatest

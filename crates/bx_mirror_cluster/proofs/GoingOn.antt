@@ -3,7 +3,7 @@ use Rattle.std.proofs.Common.{◌≡◌, ◌≢◌, inl, inr, ℕ, ◌<◌, Cont
 use Rattle.std.specs.Prelude.{slice_get}
 use Rattle.std.proofs.lemmas.List.Elements.{Contains-append_cases}
 use Rattle.bx_disk.specs.Disks.{Disks}
-use Rattle.bx_facts.specs.Chains.{LivesIn, last}
+use Rattle.bx_facts.specs.Chains.{last}
 use Rattle.bx_facts.specs.Writes.{StorePast, store_room}
 use Rattle.bx_post.specs.declared.packets.Letter.{Letter}
 use Rattle.bx_rows.specs.declared.device.DeviceRow.{DeviceRow}
@@ -13,7 +13,7 @@ use Rattle.bx_mirror_laws.specs.Sound.{AreOuts, AreWrites}
 use Rattle.bx_mirror_laws.proofs.Nodes.{stands_send}
 use Rattle.bx_mirror_client.specs.Streams.{Streaming}
 use Rattle.bx_mirror_client.specs.declared.asking.Asking.{Asking}
-use Rattle.bx_mirror_cluster.specs.Fitting.{IsComing, IsDeviceSound, IsSettledOn, Keeps, KnownFrom, Nowhere, Parts, StandsFor, StandsOn, WillReadOn, handings, knows_of, last_row, outs_of, rows_before, side_of}
+use Rattle.bx_mirror_cluster.specs.Fitting.{IsClaimed, IsComing, IsDeviceSound, IsSettledOn, Keeps, KnownFrom, Nowhere, Parts, StandsFor, StandsOn, WillReadOn, handings, knows_of, last_row, outs_of, rows_before, side_of}
 use Rattle.bx_mirror_cluster.specs.GoingOn.{AreReads, GoesOn, letters_more, with_nodes}
 
 module _ (parts : Parts) (x : Disks) (past : StorePast) (keeps : Keeps parts x past) (nodes_next : ℕ → Streaming) (more : List Letter) (on : GoesOn parts keeps.history nodes_next) (reads : AreReads nodes_next more) where
@@ -38,11 +38,11 @@ module _ (parts : Parts) (x : Disks) (past : StorePast) (keeps : Keeps parts x p
     rows = was.rows;
     hands = was.hands;
     copies = was.copies;
-    writes = subst (λ (f : ℕ → Option Out). AreWrites d past.told.greatest (last_row past.told.chain d) (rows_before past.told.chain d) (side_of past.told x parts.members d) (keeps.history.writes d) (keeps.history.wrotes d) keeps.history.actual f (knows_of nodes_next d) (LivesIn (last past.told.chain))) (sym outs_same)
-        (subst (λ (g : ℕ → Option DeviceRow). AreWrites d past.told.greatest (last_row past.told.chain d) (rows_before past.told.chain d) (side_of past.told x parts.members d) (keeps.history.writes d) (keeps.history.wrotes d) keeps.history.actual (outs_of parts.nodes) g (LivesIn (last past.told.chain))) (sym (knows_same d)) was.writes);
+    writes = subst (λ (f : ℕ → Option Out). AreWrites d past.told.greatest (last_row past.told.chain d) (rows_before past.told.chain d) (side_of past.told x parts.members d) (keeps.history.writes d) (keeps.history.wrotes d) keeps.history.actual f (knows_of nodes_next d) (IsClaimed (last past.told.chain) past.told.greatest)) (sym outs_same)
+        (subst (λ (g : ℕ → Option DeviceRow). AreWrites d past.told.greatest (last_row past.told.chain d) (rows_before past.told.chain d) (side_of past.told x parts.members d) (keeps.history.writes d) (keeps.history.wrotes d) keeps.history.actual (outs_of parts.nodes) g (IsClaimed (last past.told.chain) past.told.greatest)) (sym (knows_same d)) was.writes);
     wrotes = was.wrotes;
-    outs = subst (λ (f : ℕ → Option Out). AreOuts d (store_room parts.made) past.told.greatest (last_row past.told.chain d) (rows_before past.told.chain d) (handings d past.told.handed) (side_of past.told x parts.members d) (keeps.history.writes d) (keeps.history.wrotes d) keeps.history.actual f (knows_of nodes_next d) (LivesIn (last past.told.chain))) (sym outs_same)
-        (subst (λ (g : ℕ → Option DeviceRow). AreOuts d (store_room parts.made) past.told.greatest (last_row past.told.chain d) (rows_before past.told.chain d) (handings d past.told.handed) (side_of past.told x parts.members d) (keeps.history.writes d) (keeps.history.wrotes d) keeps.history.actual (outs_of parts.nodes) g (LivesIn (last past.told.chain))) (sym (knows_same d)) was.outs);
+    outs = subst (λ (f : ℕ → Option Out). AreOuts d (store_room parts.made) past.told.greatest (last_row past.told.chain d) (rows_before past.told.chain d) (handings d past.told.handed) (side_of past.told x parts.members d) (keeps.history.writes d) (keeps.history.wrotes d) keeps.history.actual f (knows_of nodes_next d) (IsClaimed (last past.told.chain) past.told.greatest)) (sym outs_same)
+        (subst (λ (g : ℕ → Option DeviceRow). AreOuts d (store_room parts.made) past.told.greatest (last_row past.told.chain d) (rows_before past.told.chain d) (handings d past.told.handed) (side_of past.told x parts.members d) (keeps.history.writes d) (keeps.history.wrotes d) keeps.history.actual (outs_of parts.nodes) g (IsClaimed (last past.told.chain) past.told.greatest)) (sym (knows_same d)) was.outs);
     coming = λ l c. was.coming l (was_coming d l c);
     answering = λ w a. was.answering w (record { letter = a.letter; there = was_there a.letter a.there (λ q. let e = a.spells.kind_is in omega (arith, e, q)); wrote = a.wrote; spells = a.spells; from = a.from; device = a.device; session = a.session; epoch_is = a.epoch_is; sequence = a.sequence });
     copying = λ l a. was.copying l (record { letter = a.letter; there = was_there a.letter a.there (λ q. let e = a.spells.kind_is in omega (arith, e, q)); copy = a.copy; spells = a.spells; from = a.from; device = a.device; epoch_is = a.epoch_is; place = a.place; bytes = a.bytes });

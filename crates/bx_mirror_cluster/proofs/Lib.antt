@@ -10,6 +10,7 @@ pub mod Replacing
 pub mod Sent
 pub mod Speaking
 pub mod Standing
+pub mod WriteDone
 pub mod WriteSent
 pub mod GoingOn
 pub mod NodeSteps

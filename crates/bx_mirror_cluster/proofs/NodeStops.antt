@@ -4,18 +4,18 @@ use Rattle.std.specs.Prelude.{◌==◌, slice_get, if◌then◌else◌}
 use Rattle.std.proofs.lemmas.Bool.Decides.{nat_tests}
 use Rattle.bx_base.specs.declared.names.Actor.TheVariants.{Node}
 use Rattle.bx_disk.specs.Disks.{Disks}
-use Rattle.bx_facts.specs.Chains.{LivesIn, last}
+use Rattle.bx_facts.specs.Chains.{last}
 use Rattle.bx_facts.specs.Writes.{StorePast, store_crashed}
 use Rattle.bx_rows.specs.declared.device.DeviceRow.{DeviceRow}
 use Rattle.bx_mirror_laws.specs.Sides.{Out, Side, WriteLetter, Wrote}
 use Rattle.bx_mirror_laws.specs.Sound.{AreWrites, Sends}
 use Rattle.bx_mirror_client.specs.Streams.{Streaming, stopped}
 use Rattle.bx_mirror_client.specs.declared.asking.Asking.{Asking}
-use Rattle.bx_mirror_cluster.specs.Fitting.{IsDeviceSound, IsSettledOn, Keeps, Parts, StandsOn, WillReadOn, knows_of, last_row, out_by, outs_of, rows_before, side_of}
+use Rattle.bx_mirror_cluster.specs.Fitting.{IsClaimed, IsDeviceSound, IsSettledOn, Keeps, Parts, StandsOn, WillReadOn, knows_of, last_row, out_by, outs_of, rows_before, side_of}
 use Rattle.bx_mirror_cluster.specs.Writing.{with_node, with_stream}
 
 -- with fewer writes out all letters are what they were
-writes_fewer : (device greatest : ℕ) (last_ : DeviceRow) (older : List DeviceRow) (sides : Bool → Side) (writes : List WriteLetter) (wrotes : List Wrote) (actual : List Out) (outs outs_next : ℕ → Option Out) (knows knows_next : ℕ → Option DeviceRow) (live : ℕ → Type 0)
+writes_fewer : (device greatest : ℕ) (last_ : DeviceRow) (older : List DeviceRow) (sides : Bool → Side) (writes : List WriteLetter) (wrotes : List Wrote) (actual : List Out) (outs outs_next : ℕ → Option Out) (knows knows_next : ℕ → Option DeviceRow) (live : Out → Type 0)
     → ((o : Out) (r : DeviceRow) → Sends outs_next knows_next live o r → Sends outs knows live o r)
     → AreWrites device greatest last_ older sides writes wrotes actual outs knows live → AreWrites device greatest last_ older sides writes wrotes actual outs_next knows_next live
 writes_fewer device greatest last_ older sides writes wrotes actual outs outs_next knows knows_next live before are = record {
@@ -75,7 +75,7 @@ module _ (parts : Parts) (x : Disks) (past : StorePast) (keeps : Keeps parts x p
     | inr e ↦ (ap (λ (q : Streaming). q.sequence) (at_other m e), ap (λ (q : Streaming). q.tag) (at_other m e))
   ]
 
-  sent_before : (d : ℕ) (o : Out) (r : DeviceRow) → Sends (outs_of nodes_next) (knows_of nodes_next d) (LivesIn (last past.told.chain)) o r → Sends (outs_of parts.nodes) (knows_of parts.nodes d) (LivesIn (last past.told.chain)) o r
+  sent_before : (d : ℕ) (o : Out) (r : DeviceRow) → Sends (outs_of nodes_next) (knows_of nodes_next d) (IsClaimed (last past.told.chain) past.told.greatest) o r → Sends (outs_of parts.nodes) (knows_of parts.nodes d) (IsClaimed (last past.told.chain) past.told.greatest) o r
   sent_before d o r sends = elim (same_or sends.node n) [
     | inl e ↦ absurd (let no : None ≡ Some o = sym (ap (λ (q : Streaming). out_by q.out) (at_it sends.node e)) ∙ sends.out in cc)
     | inr e ↦ record {
@@ -92,7 +92,7 @@ module _ (parts : Parts) (x : Disks) (past : StorePast) (keeps : Keeps parts x p
     hands = was.hands;
     copies = was.copies;
     writes = writes_fewer d past.told.greatest (last_row past.told.chain d) (rows_before past.told.chain d) (side_of past.told x parts.members d) (keeps.history.writes d) (keeps.history.wrotes d) keeps.history.actual
-        (outs_of parts.nodes) (outs_of nodes_next) (knows_of parts.nodes d) (knows_of nodes_next d) (LivesIn (last past.told.chain)) (sent_before d) was.writes;
+        (outs_of parts.nodes) (outs_of nodes_next) (knows_of parts.nodes d) (knows_of nodes_next d) (IsClaimed (last past.told.chain) past.told.greatest) (sent_before d) was.writes;
     wrotes = was.wrotes;
     outs = record { each = λ o r sends. was.outs.each o r (sent_before d o r sends) };
     coming = was.coming;

@@ -3,7 +3,7 @@ use Rattle.std.proofs.Common.{◌≡◌, ◌≢◌, ◌⊎◌, inl, inr, ⊎_eli
 use Rattle.std.specs.Prelude.{not}
 use Rattle.bx_base.specs.declared.names.Actor.TheVariants.{Member}
 use Rattle.bx_disk.specs.Disks.{Disks, Stays}
-use Rattle.bx_facts.specs.Chains.{LivesIn, last}
+use Rattle.bx_facts.specs.Chains.{last}
 use Rattle.bx_facts.specs.Writes.{StorePast, label_on, member_disk, store_room}
 use Rattle.bx_layout.specs.Labels.{SpellsLabel}
 use Rattle.bx_rows.specs.Modes.{IsSource}
@@ -14,7 +14,7 @@ use Rattle.bx_mirror_laws.proofs.Ages.{hands_age, rows_age}
 use Rattle.bx_mirror_laws.proofs.Stopping.{blank_counts_not, silent_ages, silent_copies, silent_outs, silent_stands, silent_writes, silent_wrotes}
 use Rattle.bx_mirror_tables.specs.declared.answers.Owing.{Owing}
 use Rattle.bx_mirror_client.specs.Sends.{member_at}
-use Rattle.bx_mirror_cluster.specs.Fitting.{History, IsComing, IsDeviceSound, IsSideAlone, KnownFrom, Nowhere, Parts, StandsFor, StandsOn, handings, knows_of, outs_of, row_of, rows_before, side_of}
+use Rattle.bx_mirror_cluster.specs.Fitting.{History, IsClaimed, IsComing, IsDeviceSound, IsSideAlone, KnownFrom, Nowhere, Parts, StandsFor, StandsOn, handings, knows_of, outs_of, row_of, rows_before, side_of}
 use Rattle.bx_mirror_server.specs.Sides.{copied_in, wrote_in}
 
 -- the disk of a member
@@ -91,11 +91,11 @@ module _ (parts : Parts) (x y : Disks) (past : StorePast) (h : History) (d : ℕ
     copies = silent_copies d (store_room parts.made) past.told.greatest past.told.greatest (row_of (last past.told.chain) d) (rows_before past.told.chain d) (handings d past.told.handed) (side_of past.told x parts.members d) (side_of past.told y parts.members d) (h.source d)
         was.rows b silent other_stays (omega arith) targets filled stays_it (h.copies d) (h.copieds d) was.copies;
     writes = silent_writes d (store_room parts.made) past.told.greatest past.told.greatest (row_of (last past.told.chain) d) (rows_before past.told.chain d) (handings d past.told.handed) (side_of past.told x parts.members d) (side_of past.told y parts.members d) (h.source d)
-        was.rows b silent other_stays (omega arith) targets filled stays_it (h.writes d) (h.wrotes d) h.actual (outs_of parts.nodes) (knows_of parts.nodes d) (LivesIn (last past.told.chain)) was.writes;
+        was.rows b silent other_stays (omega arith) targets filled stays_it (h.writes d) (h.wrotes d) h.actual (outs_of parts.nodes) (knows_of parts.nodes d) (IsClaimed (last past.told.chain) past.told.greatest) was.writes;
     wrotes = silent_wrotes d (store_room parts.made) past.told.greatest past.told.greatest (row_of (last past.told.chain) d) (rows_before past.told.chain d) (handings d past.told.handed) (side_of past.told x parts.members d) (side_of past.told y parts.members d) (h.source d)
         was.rows b silent other_stays (omega arith) targets filled stays_it (h.writes d) (h.wrotes d) was.wrotes;
     outs = silent_outs d (store_room parts.made) past.told.greatest past.told.greatest (row_of (last past.told.chain) d) (rows_before past.told.chain d) (handings d past.told.handed) (side_of past.told x parts.members d) (side_of past.told y parts.members d) (h.source d)
-        was.rows b silent other_stays (omega arith) targets filled stays_it (h.writes d) (h.wrotes d) h.actual (outs_of parts.nodes) (outs_of parts.nodes) (knows_of parts.nodes d) (knows_of parts.nodes d) (LivesIn (last past.told.chain)) (λ o k sends. sends) was.wrotes.owed_up was.outs;
+        was.rows b silent other_stays (omega arith) targets filled stays_it (h.writes d) (h.wrotes d) h.actual (outs_of parts.nodes) (outs_of parts.nodes) (knows_of parts.nodes d) (knows_of parts.nodes d) (IsClaimed (last past.told.chain) past.told.greatest) (λ o k sends. sends) was.wrotes.owed_up was.outs;
     coming = was.coming;
     answering = was.answering;
     copying = was.copying;

@@ -19,7 +19,7 @@ told_both o k runs writes = letter_in o k runs true ∷ letter_in o k runs false
 
 module _ (device room greatest : ℕ) (last : DeviceRow) (older : List DeviceRow) (handed : List Handing) (sides : Bool → Side) (source : ℕ → ℕ → List ℕ)
     (rows : AreRows room last older sides source) (hands : AreHanded room last older handed sides source)
-    (writes : List WriteLetter) (wrotes : List Wrote) (actual : List Out) (outs outs_next : ℕ → Option Out) (knows knows_next : ℕ → Option DeviceRow) (live : ℕ → Type 0)
+    (writes : List WriteLetter) (wrotes : List Wrote) (actual : List Out) (outs outs_next : ℕ → Option Out) (knows knows_next : ℕ → Option DeviceRow) (live : Out → Type 0)
     (answers : AreWrotes last older sides writes wrotes) (are : AreWrites device greatest last older sides writes wrotes actual outs knows live) (all : AreOuts device room greatest last older handed sides writes wrotes actual outs knows live)
     (o : Out) (k : DeviceRow) (row : IsRow last older k)
     (sends : (other : Out) (r : DeviceRow) → Sends outs_next knows_next live other r → Sends outs knows live other r ⊎ ((other ≡ o) × (r ≡ k)))

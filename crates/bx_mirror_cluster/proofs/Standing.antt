@@ -14,8 +14,8 @@ use Rattle.bx_mirror_laws.specs.Sides.{Among, Handing, Out, Side}
 use Rattle.bx_mirror_laws.specs.Sound.{Standing, sent_of}
 use Rattle.bx_mirror_laws.proofs.Growing.{stands_grow}
 use Rattle.bx_mirror_laws.proofs.Small.{stands_fewer, stands_last}
-use Rattle.bx_mirror_cluster.specs.Fitting.{History, IsComing, IsDeviceSound, Keeps, KnownFrom, Nowhere, Parts, StandsFor, StandsOn, handings, knows_of, outs_of, row_of, row_or, rows_before, side_of}
-use Rattle.bx_mirror_cluster.proofs.Chained.{handed_there, is_shifted, older_is, shift_grows, still_grows}
+use Rattle.bx_mirror_cluster.specs.Fitting.{History, IsClaimed, IsComing, IsDeviceSound, Keeps, KnownFrom, Nowhere, Parts, StandsFor, StandsOn, handings, knows_of, outs_of, row_of, row_or, rows_before, side_of}
+use Rattle.bx_mirror_cluster.proofs.Chained.{claimed_shift, handed_there, is_shifted, older_is, shift_grows, still_grows}
 
 -- the rows known from an index on in a longer chain: those that were, or its last one
 pub known_grown : (chain : Chain) (change : Change) (d index : ℕ) (r : DeviceRow) → KnownFrom (grown chain change) d index r → KnownFrom chain d index r ⊎ (r ≡ row_of (effect (last chain) change) d)
@@ -59,7 +59,7 @@ module _ (parts : Parts) (x : Disks) (past : StorePast) (h : History) (d : ℕ) 
         (sym (older_is parts x past h d epoch mode boot second was legal own lived))
         (stands_grow d (store_room parts.made) past.told.greatest (row_of (last past.told.chain) d) (rows_before past.told.chain d) (handings d past.told.handed) (side_of past.told x parts.members d) (h.source d) was.rows was.hands
         (record { epoch = epoch; mode = mode; second = second; boot = boot }) (handed_there d past.told.handed epoch mode boot second own) (row_of (effect (last past.told.chain) (Shift d epoch mode second boot)) d)
-        (is_shifted (last past.told.chain) d epoch mode boot second legal) (h.writes d) (h.wrotes d) h.actual (outs_of parts.nodes) (knows_of parts.nodes d) (LivesIn (last past.told.chain)) (LivesIn (effect (last past.told.chain) (Shift d epoch mode second boot))) lived was.writes
+        (is_shifted (last past.told.chain) d epoch mode boot second legal) (h.writes d) (h.wrotes d) h.actual (outs_of parts.nodes) (knows_of parts.nodes d) (IsClaimed (last past.told.chain) past.told.greatest) (IsClaimed (effect (last past.told.chain) (Shift d epoch mode second boot)) past.told.greatest) (claimed_shift parts x past h d epoch mode boot second was legal own lived) was.writes
         From (IsComing past.told.letters d) past.writes sector content was.coming sent stands)
 
     pub shift_stands_on : (sector : ℕ) (content : List ℕ) (index : ℕ) → StandsOn parts x past d sector content index → StandsOn parts x (store_grown past (Shift d epoch mode second boot)) d sector content index

@@ -6,7 +6,7 @@ use Rattle.std.proofs.lemmas.List.Elements.{Contains-append_cases}
 use Rattle.std.proofs.lemmas.Option.{slice_get_cases}
 use Rattle.bx_disk.specs.Disks.{Disks, sector_of}
 use Rattle.bx_facts.proofs.Lists.{behind, front, front_or_behind, nothing}
-use Rattle.bx_facts.specs.Chains.{LivesIn, last}
+use Rattle.bx_facts.specs.Chains.{last}
 use Rattle.bx_facts.specs.Writes.{AreRuns, MayWrite, Sent, StorePast, WritesIn, store_room}
 use Rattle.bx_base.specs.declared.names.Actor.TheVariants.{Node}
 use Rattle.bx_global.specs.Table.{greatest}
@@ -27,7 +27,7 @@ use Rattle.bx_mirror_client.specs.Streams.{Streaming, sending}
 use Rattle.bx_mirror_client.specs.declared.asking.Asking.{Asking}
 use Rattle.bx_mirror_client.specs.declared.sending.Sending.{Sending}
 use Rattle.bx_mirror_client.proofs.Telling.{runs_there, there_runs}
-use Rattle.bx_mirror_cluster.specs.Fitting.{History, IsComing, IsDeviceSound, IsSettledOn, Keeps, KnownFrom, Nowhere, Parts, StandsFor, StandsOn, WillReadOn, handings, knows_of, last_row, out_by, outs_of, row_or, rows_before, side_of}
+use Rattle.bx_mirror_cluster.specs.Fitting.{History, IsClaimed, IsComing, IsDeviceSound, IsSettledOn, Keeps, KnownFrom, Nowhere, Parts, StandsFor, StandsOn, WillReadOn, handings, knows_of, last_row, out_by, outs_of, row_or, rows_before, side_of}
 use Rattle.bx_mirror_cluster.specs.Speaking.{FitsPacket, letter_of}
 use Rattle.bx_mirror_cluster.specs.Writing.{MaySend, parts_sent, past_sent, with_node, with_sent, with_stream, write_by}
 use Rattle.bx_mirror_cluster.proofs.Sent.{base_outs, base_writes, sent_outs, sent_writes, sent_wrotes, told_both}
@@ -213,8 +213,8 @@ module _ (parts : Parts) (x : Disks) (past : StorePast) (keeps : Keeps parts x p
     was : IsDeviceSound parts x past h d
     was = keeps.devices d within
 
-    sends_or : (k : DeviceRow) → slice_get c.rows d ≡ Some k → (other : Out) (r : DeviceRow) → Sends (outs_of nodes_next) (knows_of nodes_next d) (LivesIn (last past.told.chain)) other r
-        → Sends (outs_of parts.nodes) (knows_of parts.nodes d) (LivesIn (last past.told.chain)) other r ⊎ ((other ≡ o) × (r ≡ k))
+    sends_or : (k : DeviceRow) → slice_get c.rows d ≡ Some k → (other : Out) (r : DeviceRow) → Sends (outs_of nodes_next) (knows_of nodes_next d) (IsClaimed (last past.told.chain) past.told.greatest) other r
+        → Sends (outs_of parts.nodes) (knows_of parts.nodes d) (IsClaimed (last past.told.chain) past.told.greatest) other r ⊎ ((other ≡ o) × (r ≡ k))
     sends_or k there other r sends = elim (same_or sends.node n) [
       | inl e ↦ inr (
         (let both : Some other ≡ Some o = sym sends.out ∙ ap (λ (m : ℕ). outs_of nodes_next m) e ∙ out_now in cc),
@@ -228,7 +228,7 @@ module _ (parts : Parts) (x : Disks) (past : StorePast) (keeps : Keeps parts x p
       })
     ]
 
-    apart : (other : Out) (r : DeviceRow) → Sends (outs_of parts.nodes) (knows_of parts.nodes d) (LivesIn (last past.told.chain)) other r → other.session ≢ session
+    apart : (other : Out) (r : DeviceRow) → Sends (outs_of parts.nodes) (knows_of parts.nodes d) (IsClaimed (last past.told.chain) past.told.greatest) other r → other.session ≢ session
     apart other r sends same = no_out sends.node other sends.out same
 
     range : (y : ℕ) (content : List ℕ) → WritesIn runs.1 d y content → (1 ≤ y) × (y < store_room parts.made)
@@ -243,10 +243,13 @@ module _ (parts : Parts) (x : Disks) (past : StorePast) (keeps : Keeps parts x p
       | inr over ↦ over.0
     ]
 
-    clear : (q : Out) (r : DeviceRow) (y : ℕ) (content other : List ℕ) → Sends (outs_of parts.nodes) (knows_of parts.nodes d) (LivesIn (last past.told.chain)) q r → WritesIn runs.1 d y other → WritesIn q.runs d y content → ⊥
+    clear : (q : Out) (r : DeviceRow) (y : ℕ) (content other : List ℕ) → Sends (outs_of parts.nodes) (knows_of parts.nodes d) (IsClaimed (last past.told.chain) past.told.greatest) q r → WritesIn runs.1 d y other → WritesIn q.runs d y content → ⊥
     clear q r y content other sends its theirs = elim (may.each (sent_of q) d y other content (keeps.actual_sent q (keeps.out_actual sends.node q sends.out).0) theirs its) [
       | inl same ↦ apart q r sends same
-      | inr over ↦ over.1 sends.lives
+      | inr over ↦ elim sends.lives [
+        | inl lives ↦ over.1 lives
+        | inr in_time ↦ in_time over.0
+      ]
     ]
 
     -- the row that the node knows
@@ -299,8 +302,8 @@ module _ (parts : Parts) (x : Disks) (past : StorePast) (keeps : Keeps parts x p
         sides : Bool → Side
         sides = side_of past.told x parts.members d
 
-        live : ℕ → Type 0
-        live = LivesIn (last past.told.chain)
+        live : Out → Type 0
+        live = IsClaimed (last past.told.chain) past.told.greatest
 
         begins : 1 ≤ next_number c.sequence
         begins = omega (arith, next_is)

@@ -23,7 +23,7 @@ use Rattle.bx_mirror_packets.specs.declared.message.CopiedBody.{CopiedBody}
 use Rattle.bx_mirror_packets.specs.declared.message.DeviceMessage.TheVariants.{Write, Wrote as WroteOf, Read, Data, Copy, Copied as CopiedOf}
 use Rattle.bx_mirror_laws.specs.Sides.{Among, Copied, CopyLetter, Handing, Out, Side, WriteLetter, Wrote}
 use Rattle.bx_mirror_laws.specs.Acting.{FromEpoch, IsRow, MayLead}
-use Rattle.bx_mirror_laws.specs.Sound.{AreCopies, AreHanded, AreOuts, AreRows, AreWrites, AreWrotes, Standing, sent_of}
+use Rattle.bx_mirror_laws.specs.Sound.{AreCopies, AreHanded, AreOuts, AreRows, AreWrites, AreWrotes, IsLate, Standing, sent_of}
 use Rattle.bx_mirror_tables.specs.Lasts.{last_in}
 use Rattle.bx_mirror_member.specs.Standing.{Standing as Serving}
 use Rattle.bx_mirror_server.specs.Sides.{copied_in, wrote_in}
@@ -224,14 +224,18 @@ pub record History : Type 0 where
   pub copieds : ℕ → List Copied
   pub source : ℕ → ℕ → ℕ → List ℕ
 
+-- What is claimed of a write that is out holds as long as its session lives in this state, or a reading that is in time is left.
+abbrev pub IsClaimed : GlobalState → ℕ → Out → Type 0
+IsClaimed s greatest o = LivesIn s o.session ⊎ (IsLate greatest o.until → ⊥)
+
 -- one device
 pub record IsDeviceSound (parts : Parts) (x : Disks) (past : StorePast) (h : History) (d : ℕ) : Type 0 where
   pub rows : AreRows (store_room parts.made) (last_row past.told.chain d) (rows_before past.told.chain d) (side_of past.told x parts.members d) (h.source d)
   pub hands : AreHanded (store_room parts.made) (last_row past.told.chain d) (rows_before past.told.chain d) (handings d past.told.handed) (side_of past.told x parts.members d) (h.source d)
   pub copies : AreCopies (store_room parts.made) (last_row past.told.chain d) (rows_before past.told.chain d) (side_of past.told x parts.members d) (h.copies d) (h.copieds d) (h.source d)
-  pub writes : AreWrites d past.told.greatest (last_row past.told.chain d) (rows_before past.told.chain d) (side_of past.told x parts.members d) (h.writes d) (h.wrotes d) h.actual (outs_of parts.nodes) (knows_of parts.nodes d) (LivesIn (last past.told.chain))
+  pub writes : AreWrites d past.told.greatest (last_row past.told.chain d) (rows_before past.told.chain d) (side_of past.told x parts.members d) (h.writes d) (h.wrotes d) h.actual (outs_of parts.nodes) (knows_of parts.nodes d) (IsClaimed (last past.told.chain) past.told.greatest)
   pub wrotes : AreWrotes (last_row past.told.chain d) (rows_before past.told.chain d) (side_of past.told x parts.members d) (h.writes d) (h.wrotes d)
-  pub outs : AreOuts d (store_room parts.made) past.told.greatest (last_row past.told.chain d) (rows_before past.told.chain d) (handings d past.told.handed) (side_of past.told x parts.members d) (h.writes d) (h.wrotes d) h.actual (outs_of parts.nodes) (knows_of parts.nodes d) (LivesIn (last past.told.chain))
+  pub outs : AreOuts d (store_room parts.made) past.told.greatest (last_row past.told.chain d) (rows_before past.told.chain d) (handings d past.told.handed) (side_of past.told x parts.members d) (h.writes d) (h.wrotes d) h.actual (outs_of parts.nodes) (knows_of parts.nodes d) (IsClaimed (last past.told.chain) past.told.greatest)
   -- letters under way were sent
   pub coming : (l : WriteLetter) → IsComing past.told.letters d l → Among (h.writes d) l
   pub answering : (w : Wrote) → IsAnswering past.told.letters d w → Among (h.wrotes d) w

@@ -1,14 +1,16 @@
 -- Whole bodies and their parts.
-use Rattle.std.proofs.Common.{◌≡◌, ◌≤◌, ℕ, ◌+◌, ◌%◌, List, [], ◌∷◌, ◌++◌, length, take, Some, refl, sym, ap, ◌∙◌, append_assoc}
-use Rattle.std.specs.Prelude.{slice_get}
+use Rattle.std.proofs.Common.{◌≡◌, ◌≤◌, ℕ, ◌+◌, ◌%◌, List, [], ◌∷◌, ◌++◌, length, take, Some, refl, sym, ap, ◌∙◌, append_assoc, length-append}
+use Rattle.std.specs.Prelude.{◌==◌, slice_get}
 use Rattle.std.specs.List.{flat_map}
 use Rattle.std.proofs.lemmas.List.{append-nil, take_more}
 use Rattle.std.proofs.lemmas.List.Concat.{flat_map-append}
+use Rattle.std.proofs.lemmas.List.Elements.{filter-append}
 use Rattle.std.proofs.lemmas.Option.{get_or_from_slice_get, slice_get_within}
 use Rattle.bx_base.specs.Bytes.{IsBytes}
 use Rattle.bx_records.specs.declared.runs.Run.{Run}
 use Rattle.bx_records.specs.Runs.{KindAndRuns}
 use Rattle.bx_mirror_packets.specs.DeviceMessages.{IsCopiedBody, IsCopyBody, IsDataBody, IsReadBody, IsWroteBody, copied_text, copy_text, data_text, read_text, run_text, write_text, wrote_text}
+use Rattle.bx_mirror_packets.specs.Parting.{runs_on}
 use Rattle.bx_mirror_packets.specs.declared.message.WriteBody.{WriteBody}
 use Rattle.bx_mirror_packets.specs.declared.message.WroteBody.{WroteBody}
 use Rattle.bx_mirror_packets.specs.declared.message.ReadBody.{ReadBody}
@@ -175,6 +177,22 @@ runs_more runs i run at =
     let more : take (i + 1) runs ≡ take i runs ++ run ∷ [] =
     take_more runs i run (slice_get_within runs i run at) ∙ ap (λ (r : Run). take i runs ++ r ∷ []) (get_or_from_slice_get runs i run run at) in
     ap (flat_map run_text) more ∙ (flat_map-append run_text (take i runs) (run ∷ []) ∙ ap (λ (text : List ℕ). flat_map run_text (take i runs) ++ text) (append-nil (run_text run)))
+
+-- the same of those on a device
+on_more : (device : ℕ) (runs : List Run) (i : ℕ) (run : Run) → slice_get runs i ≡ Some run → runs_on device (take (i + 1) runs) ≡ runs_on device (take i runs) ++ runs_on device (run ∷ [])
+on_more device runs i run at =
+    let more : take (i + 1) runs ≡ take i runs ++ run ∷ [] =
+    take_more runs i run (slice_get_within runs i run at) ∙ ap (λ (r : Run). take i runs ++ r ∷ []) (get_or_from_slice_get runs i run run at) in
+    ap (runs_on device) more ∙ filter-append (λ (r : Run). r.device == device) (take i runs) (run ∷ [])
+
+pub texts_more : (device : ℕ) (runs : List Run) (i : ℕ) (run : Run) → slice_get runs i ≡ Some run
+    → flat_map run_text (runs_on device (take (i + 1) runs)) ≡ flat_map run_text (runs_on device (take i runs)) ++ flat_map run_text (runs_on device (run ∷ []))
+texts_more device runs i run at = ap (flat_map run_text) (on_more device runs i run at) ∙ flat_map-append run_text (runs_on device (take i runs)) (runs_on device (run ∷ []))
+
+pub count_more : (device : ℕ) (runs : List Run) (i count : ℕ) (run : Run) → slice_get runs i ≡ Some run → count ≡ length (runs_on device (take i runs))
+    → count + length (runs_on device (run ∷ [])) ≡ length (runs_on device (take (i + 1) runs))
+count_more device runs i count run at is =
+    ap (λ (n : ℕ). n + length (runs_on device (run ∷ []))) is ∙ sym (ap length (on_more device runs i run at) ∙ length-append (runs_on device (take i runs)) (runs_on device (run ∷ [])))
 
 pub run_pushed : (old count before text old_out new_out : List ℕ) (after : List ℕ) → old_out ≡ old ++ (count ++ before) → new_out ≡ old_out ++ text → after ≡ before ++ text → new_out ≡ old ++ (count ++ after)
 run_pushed old count before text old_out new_out after e f g = rw (f, e, g) (simp append_assoc)

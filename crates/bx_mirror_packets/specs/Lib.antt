@@ -1,2 +1,3 @@
 pub mod DeviceMessages
+pub mod Parting
 pub mod Reading

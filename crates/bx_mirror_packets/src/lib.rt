@@ -4,6 +4,7 @@
 mod bodies;
 mod laws;
 mod message;
+mod parting;
 mod parts;
 mod reading;
 mod runs;
@@ -12,4 +13,5 @@ mod writing;
 
 pub use laws::{one_message, written_reads};
 pub use message::{CopiedBody, CopyBody, DataBody, DeviceMessage, ReadBody, WriteBody, WroteBody};
+pub use parting::{WriteHead, send_write};
 pub use sending::send;

@@ -59,7 +59,7 @@ fn push_message(out: &mut Vec<u8>, message: &DeviceMessage) -> Result<(), OutOfM
 }
 
 /// Puts a head at the end.
-fn push_head(out: &mut Vec<u8>, head: Head) -> Result<(), OutOfMemory>
+pub(crate) fn push_head(out: &mut Vec<u8>, head: Head) -> Result<(), OutOfMemory>
     ensures { OnOk result (out.new.items ≡ out.old.items ++ head_text head.session head.device head.epoch head.number) }
 {
     push_u64(out, head.session)?;
@@ -109,7 +109,7 @@ fn push_runs(out: &mut Vec<u8>, runs: &Runs) -> Result<(), OutOfMemory>
 }
 
 /// Puts a run at the end.
-fn push_run(out: &mut Vec<u8>, run: &Run) -> Result<(), OutOfMemory>
+pub(crate) fn push_run(out: &mut Vec<u8>, run: &Run) -> Result<(), OutOfMemory>
     requires { HasSectors run.now }
     ensures { OnOk result (out.new.items ≡ out.old.items ++ run_text run.now) }
 {

@@ -1,0 +1,5 @@
+pub mod Asked
+pub mod Finding
+pub mod Leaving
+pub mod StoreKinds
+pub mod Telling

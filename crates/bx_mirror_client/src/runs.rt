@@ -1,0 +1,25 @@
+//! Runs that a write owns while it is out.
+
+ghost use Rattle.std.specs.Prelude.{◌≡◌, IfOk};
+
+use bx_base::{OutOfMemory, Raw};
+use bx_records::{Run, Runs};
+use std::alloc::Global;
+
+/// A copy of runs.
+pub(crate) fn copied(alloc: Global, runs: &Runs) -> Result<Runs, OutOfMemory>
+    ensures { IfOk result (λ copy. copy ≡ runs.now) }
+{
+    let mut copy = Runs::new(alloc, runs.kind());
+    for i in 0..runs.len() {
+        let Some(run) = runs.get(i) else {
+            return Ok(copy);
+        };
+        copy.push(Run {
+            device: run.device,
+            place: run.place,
+            bytes: Raw::of(alloc, run.bytes.bytes())?,
+        })?;
+    }
+    Ok(copy)
+}

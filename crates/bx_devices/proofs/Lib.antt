@@ -1,0 +1,4 @@
+pub mod Shapes
+pub mod Owning
+pub mod Making
+pub mod Labelling

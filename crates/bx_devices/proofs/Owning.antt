@@ -87,7 +87,7 @@ module _ (made : Made) (n : ℕ) where
   message_own Told reading from (Wrote w) m new change before after old now is own = same m new is.0.member own
   message_own Told reading from (Read r) m new change before after old now is own = elim is.0 [ inl here ↦ same m new here.1.member own | inr not_here ↦ same m new not_here.1.member own ]
   message_own Told reading from (Data d) m new change before after old now is own = same m new is.0.member own
-  message_own Told reading from (Copy c) m new change before after old now is own = elim is.0 [ inl here ↦ same _ new here.1.member (alike m _ refl refl own) | inr not_here ↦ same m new not_here.1.0 own ]
+  message_own Told reading from (Copy c) m new change before after old now is own = elim is.0 [ inl here ↦ same _ new here.1.member (alike m _ refl refl own) | inr not_here ↦ same m new not_here.1 own ]
   message_own Told reading from (Copied c) m new change before after old now is own = same (gone_on is.progress m) new is.member (gone_own is.progress m own)
   message_own Told reading from Alive m new change before after old now is own = same (hearing reading m) new is.0.member (alike m _ refl refl own)
 

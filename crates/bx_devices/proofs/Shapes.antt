@@ -60,7 +60,7 @@ module _ (volume nodes devices areas : ℕ) (streams : List Streaming) where
 
 -- ---- room
 
-needs_here : (o : DeviceMachines) (n : ℕ) → needs_of o (3 + n) ≡ need_in (store_room o.made) (slot_of o n)
+pub needs_here : (o : DeviceMachines) (n : ℕ) → needs_of o (3 + n) ≡ need_in (store_room o.made) (slot_of o n)
 needs_here o n =
     let e : nat_lt (3 + n) 3 ≡ false = grind (arith, nat_tests) in
     let same : 3 + n - 3 ≡ n = omega arith in
@@ -80,7 +80,7 @@ needs_none o disk less =
     let e : nat_lt disk 3 ≡ true = grind (arith, nat_tests, less) in
     ap (λ (b : Bool). if b then 0 else need_in (store_room o.made) (slot_of o (disk - 3))) e
 
-needs_behind : (o : DeviceMachines) (disk : ℕ) → 3 ≤ disk → needs_of o disk ≡ need_in (store_room o.made) (slot_of o (disk - 3))
+pub needs_behind : (o : DeviceMachines) (disk : ℕ) → 3 ≤ disk → needs_of o disk ≡ need_in (store_room o.made) (slot_of o (disk - 3))
 needs_behind o disk far =
     let e : nat_lt disk 3 ≡ false = grind (arith, nat_tests, far) in
     ap (λ (b : Bool). if b then 0 else need_in (store_room o.made) (slot_of o (disk - 3))) e

@@ -1,5 +1,5 @@
 -- What comes to a machine, and what becomes of it.
-use Rattle.std.specs.Prelude.{◌≡◌, ℕ, ◌*◌, ◌<◌, List, Option, Some, None, if◌then◌else◌}
+use Rattle.std.specs.Prelude.{◌≡◌, ℕ, ◌*◌, ◌<◌, ◌⊎◌, List, Option, Some, None, if◌then◌else◌}
 use Rattle.bx_base.specs.declared.names.Actor.{Actor}
 use Rattle.bx_base.specs.declared.names.Actor.TheVariants.{Node, Replica, Server, Member}
 use Rattle.bx_disk.specs.Disks.{Disks}
@@ -10,7 +10,9 @@ use Rattle.bx_global.specs.declared.change.Change.{Change}
 use Rattle.bx_global.specs.declared.state.GlobalState.{GlobalState}
 use Rattle.bx_post.specs.declared.packets.Letter.{Letter}
 use Rattle.bx_mirror_client.specs.Events as stream_events
+use Rattle.bx_mirror_client.specs.Asks.{asked_in}
 use Rattle.bx_mirror_client.specs.Streams as streams
+use Rattle.bx_mirror_client.specs.Streams.{Streaming, sent_in}
 use Rattle.bx_mirror_member.specs.Standing.{Standing, hearing, learned, new_member, started}
 use Rattle.bx_mirror_server.specs.Serving.{Does}
 use Rattle.bx_devices.specs.Machines.{DeviceMachines, nodes_of, slot_of, stream_of}
@@ -57,6 +59,11 @@ TakesAt Told (Node node) known input o new change before after old now = StreamT
 TakesAt Told (Replica n) known input o new change before after old now = Passes o new change before after old now
 TakesAt Told (Server n) known input o new change before after old now = Passes o new change before after old now
 TakesAt Told (Member n) known input o new change before after old now = SlotTakes Told n (slot_of o n) known input new change before after old now
+
+-- What a stream had out stays, or goes.
+pub record Goes (c new : Streaming) : Type 0 where
+  pub out : (sent_in new.out ≡ None) ⊎ (sent_in new.out ≡ sent_in c.out)
+  pub asks : (asked_in new.asks ≡ None) ⊎ (asked_in new.asks ≡ asked_in c.asks)
 
 -- A disk failed: its member knows the state, and all else is as it was.
 abbrev pub SlotFaults : GlobalState → Option Standing → Option Standing → Type 0

@@ -70,6 +70,10 @@ pub record OnlyMachine (who : Actor) (old new : DeviceMachines) : Type 0 where
   pub members : (n : ℕ) → who ≢ Member n → slot_of new n ≡ slot_of old n
   pub streams : (node : ℕ) → who ≢ Node node → stream_of new node ≡ stream_of old node
 
+-- No member that was away is up.
+pub record StaysAway (old new : DeviceMachines) : Type 0 where
+  pub away : (n : ℕ) → slot_of old n ≡ None → slot_of new n ≡ None
+
 -- ---- what is owed, and what is needed of disks
 
 abbrev pub due_in : Option Standing → Bool

@@ -1,18 +1,20 @@
 //! What comes to a machine.
 
-ghost use Rattle.std.specs.Prelude.{◌≡◌, ◌+◌, ◌<◌, ◌≤◌, IfOk, IsErrOf, None, OnErr, OnOk, Some, length, slice_index};
-ghost use Rattle.bx_base.specs.declared.names.Actor.TheVariants.{Member};
+ghost use Rattle.std.specs.Prelude.{◌≡◌, ℕ, ◌+◌, ◌<◌, ◌≤◌, IfOk, IfSome, IsErrOf, None, OnErr, OnOk, Some, false, length, slice_index};
+ghost use Rattle.bx_base.specs.declared.names.Actor.TheVariants.{Member, Node};
 ghost use Rattle.bx_disk.specs.Kept.{Fails};
 ghost use Rattle.bx_disk.specs.declared.fault.RackError.TheVariants.{Fault};
-ghost use Rattle.bx_facts.specs.Disks.{HasRoom};
+ghost use Rattle.bx_facts.specs.Chains.{IsStoresKind, session_of};
+ghost use Rattle.bx_facts.specs.Disks.{HasRoom, NeedsNoMore, OnlyDiskOf, SameLabels, SameReplicas};
 ghost use Rattle.bx_facts.specs.Inputs.{IsStores, SendsOnly};
-ghost use Rattle.bx_facts.specs.Machines.{IsMachine};
+ghost use Rattle.bx_facts.specs.Machines.{IsMachine, OnlyAt};
 ghost use Rattle.bx_facts.specs.Writes.{label_on, store_room};
 ghost use Rattle.bx_facts.specs.declared.input.Input.TheVariants.{Synced};
 ghost use Rattle.bx_mirror_member.specs.Standing.{new_member};
 ghost use Rattle.bx_devices.specs.Disks.{DisksAt, Labels, LabelsAt};
-ghost use Rattle.bx_devices.specs.Events.{FaultsAt, RestartsAt, StopsAt, TakesAt, input_for};
-ghost use Rattle.bx_devices.specs.Machines.{IsOwn, OnlyMachine, due_at, made_of, needs_of, nodes_of, slot_of, wanted_of};
+ghost use Rattle.bx_devices.specs.Events.{FaultsAt, Goes, RestartsAt, StopsAt, TakesAt, input_for};
+ghost use Rattle.bx_devices.specs.Machines.{IsOwn, IsShape, OnlyMachine, StaysAway, due_at, made_of, needs_of, nodes_of, slot_of, stream_of, wanted_of};
+ghost use Rattle.bx_devices.specs.Steps.{Hands, IsStep};
 
 use crate::devices::Devices;
 use bx_base::Actor;
@@ -66,10 +68,43 @@ impl Devices {
         ensures works { DisksAt R.Rack rack.old rack.new at known.now (input_for at input.now) self.old }
         ensures sent { OnOk result (SendsOnly IsStores out.old out.new) }
         ensures only { OnlyMachine at self.old self.new }
+        ensures steps { OnOk result (IsStep at known.now (input_for at input.now) self.old self.new) }
+        ensures hands { IfOk result (Hands at known.now (input_for at input.now) self.old) }
+        ensures kind { IfOk result (λ change. IfSome change IsStoresKind) }
+        ensures goes { (node : ℕ) → OnOk result (Goes (stream_of self.old node) (stream_of self.new node)) }
+        ensures session { (node : ℕ) → at ≡ Node node → OnOk result ((stream_of self.new node).session ≡ session_of known.now (stream_of self.old node).node (stream_of self.old node).boot) }
+        ensures owes { OnlyAt at (due_at self.old) (due_at self.new) }
+        ensures needs { NeedsNoMore (needs_of self.old) (needs_of self.new) }
+        ensures disks { R.tells rack.old → OnlyDiskOf at (R.state rack.old) (R.state rack.new) }
+        ensures replicas { R.tells rack.old → SameReplicas (R.state rack.old) (R.state rack.new) × SameLabels (R.state rack.old) (R.state rack.new) }
         ensures rack { Fails R.Rack rack.old rack.new result }
     {
         let nothing = Input::Synced;
         let input = input_for(at, input, &nothing);
+        self.take_own(rack, known, at, input, out)
+    }
+
+    /// Does one event of a machine, where what comes is for it.
+    fn take_own<R: Rack>(
+        &mut self,
+        rack: &mut R,
+        known: &GlobalState,
+        at: Actor,
+        input: &Input,
+        out: &mut Outbox,
+    ) -> Result<Option<Change>, RackError>
+        requires there { IsMachine (nodes_of self.old) at }
+        requires room { HasRoom (needs_of self.old) (R.state rack.old).sizes }
+        requires devices { length known.now.devices ≤ 4 }
+        ensures takes { IfOk result (λ change. TakesAt (R.tells rack.old) at known.now input.now self.old self.new change out.old out.new (R.state rack.old) (R.state rack.new)) }
+        ensures fault { IsErrOf result Fault → FaultsAt at known.now self.old self.new }
+        ensures works { DisksAt R.Rack rack.old rack.new at known.now input.now self.old }
+        ensures sent { OnOk result (SendsOnly IsStores out.old out.new) }
+        ensures only { OnlyMachine at self.old self.new }
+        ensures away { StaysAway self.old self.new }
+        ensures shape { (n : ℕ) → at ≡ Member n → IsShape self.old }
+        ensures rack { Fails R.Rack rack.old rack.new result }
+    {
         match at {
             Actor::Node(node) => {
                 self.streams[node as usize].take(known, input, out)?;
@@ -95,6 +130,8 @@ impl Devices {
         ensures works { DisksAt R.Rack rack.old rack.new (Member place) known.now input.now self.old }
         ensures sent { OnOk result (SendsOnly IsStores out.old out.new) }
         ensures only { OnlyMachine (Member place) self.old self.new }
+        ensures away { slot_of self.old place ≡ None → slot_of self.new place ≡ None }
+        ensures shape { IsShape self.old }
         ensures rack { Fails R.Rack rack.old rack.new result }
     {
         if place >= self.members.len() {
@@ -141,6 +178,7 @@ impl Devices {
     pub fn crash(&mut self, who: Actor)
         ensures stops { StopsAt who self.old self.new }
         ensures only { OnlyMachine who self.old self.new }
+        ensures still { due_at self.new who ≡ false }
     {
         match who {
             Actor::Node(node) => {

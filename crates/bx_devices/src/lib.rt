@@ -4,5 +4,7 @@
 mod calls;
 mod devices;
 mod events;
+mod laws;
 
 pub use devices::Devices;
+pub use laws::{new_ones_are_idle, what_is_owed_and_needed};

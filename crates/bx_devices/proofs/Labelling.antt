@@ -1,5 +1,5 @@
 -- A disk gets its label, and is synced.
-use Rattle.std.proofs.Common.{◌≡◌, ℕ, ◌+◌, Result, sym, subst}
+use Rattle.std.proofs.Common.{◌≡◌, ℕ, ◌+◌, Result, subst}
 use Rattle.std.specs.Prelude.{OnOk}
 use Rattle.bx_calls.specs.Calls.{HasSure, KeepsAll, KeepsSure, LeavesOnly}
 use Rattle.bx_calls.specs.Regions.{IsSynced}

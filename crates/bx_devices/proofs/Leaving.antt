@@ -1,5 +1,5 @@
 -- What an event leaves of streams, of what is owed and needed, and of disks.
-use Rattle.std.proofs.Common.{◌≡◌, ◌≢◌, ◌⊎◌, inl, inr, ⊎_elim, ℕ, ◌+◌, ◌-◌, ◌<◌, ◌≤◌, Bool, true, false, List, Option, Some, None, Result, refl, sym, ◌∙◌, ap, subst, arith}
+use Rattle.std.proofs.Common.{◌≡◌, ◌≢◌, inl, inr, ⊎_elim, ℕ, ◌+◌, ◌-◌, ◌<◌, ◌≤◌, List, Option, Some, None, Result, refl, sym, ◌∙◌, ap, subst, arith}
 use Rattle.std.proofs.lemmas.Bool.{cases_eq, cases_lt}
 use Rattle.bx_base.specs.declared.names.Actor.{Actor}
 use Rattle.bx_base.specs.declared.names.Actor.TheVariants.{Node, Replica, Server, Member}
@@ -9,16 +9,13 @@ use Rattle.bx_disk.specs.declared.rack.Rack as racks
 use Rattle.bx_facts.specs.Chains.{session_of}
 use Rattle.bx_facts.specs.Disks.{IsKept, NeedsNoMore, OnlyDiskOf, SameLabels, SameReplicas}
 use Rattle.bx_facts.specs.Machines.{OnlyAt}
-use Rattle.bx_facts.specs.Writes.{Asked, Made, Sent, store_room}
+use Rattle.bx_facts.specs.Writes.{Made, store_room}
 use Rattle.bx_facts.specs.declared.input.Input.{Input}
 use Rattle.bx_global.specs.declared.change.Change.{Change}
 use Rattle.bx_global.specs.declared.state.GlobalState.{GlobalState}
 use Rattle.bx_post.specs.declared.packets.Letter.{Letter}
 use Rattle.bx_mirror_client.specs.Asks.{asked_in}
-use Rattle.bx_mirror_client.specs.Streams as streams
 use Rattle.bx_mirror_client.specs.Streams.{Streaming, sent_in}
-use Rattle.bx_mirror_client.specs.declared.asking.Asking.{Asking}
-use Rattle.bx_mirror_client.specs.declared.sending.Sending.{Sending}
 use Rattle.bx_mirror_client.proofs.Leaving as leaving
 use Rattle.bx_mirror_member.specs.Standing.{Standing}
 use Rattle.bx_devices.specs.Disks.{DisksAt, DisksIn, LabelsAt}
@@ -70,11 +67,13 @@ need_less room then (Some m) None same away = omega arith
 need_less room then (Some m) (Some k) same away = omega (arith, same)
 
 pub needs_no_more : (o new : DeviceMachines) → new.made ≡ o.made → StaysAway o new → NeedsNoMore (needs_of o) (needs_of new)
-needs_no_more o new made stays = record { each = λ disk. elim (cases_lt disk 3) [
-  | inl less ↦ subst (λ (k : ℕ). k ≤ needs_of o disk) (sym (needs_none new disk less)) (omega arith)
-  | inr far ↦ subst (λ (k : ℕ). k ≤ needs_of o disk) (sym (needs_behind new disk far)) (subst (λ (k : ℕ). need_in (store_room new.made) (slot_of new (disk - 3)) ≤ k) (sym (needs_behind o disk far))
-      (need_less (store_room o.made) (store_room new.made) (slot_of o (disk - 3)) (slot_of new (disk - 3)) (ap store_room made) (stays.away (disk - 3))))
-] }
+needs_no_more o new made stays = record {
+  each = λ disk. elim (cases_lt disk 3) [
+    | inl less ↦ subst (λ (k : ℕ). k ≤ needs_of o disk) (sym (needs_none new disk less)) (omega arith)
+    | inr far ↦ subst (λ (k : ℕ). k ≤ needs_of o disk) (sym (needs_behind new disk far)) (subst (λ (k : ℕ). need_in (store_room new.made) (slot_of new (disk - 3)) ≤ k) (sym (needs_behind o disk far))
+        (need_less (store_room o.made) (store_room new.made) (slot_of o (disk - 3)) (slot_of new (disk - 3)) (ap store_room made) (stays.away (disk - 3))))
+  ];
+}
 
 -- one that isn't up needs nothing
 pub needs_away : (o : DeviceMachines) (n : ℕ) → slot_of o n ≡ None → needs_of o (3 + n) ≡ 0

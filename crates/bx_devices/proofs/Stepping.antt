@@ -1,5 +1,5 @@
 -- What an event makes of a machine, and what it hands back, each by itself.
-use Rattle.std.proofs.Common.{◌≡◌, ◌⊎◌, inl, inr, ℕ, ◌+◌, Bool, true, false, List, Option, Some, None, IfSome, refl, sym, ◌∙◌, subst}
+use Rattle.std.proofs.Common.{◌≡◌, inl, inr, ℕ, ◌+◌, Bool, true, false, List, Option, Some, None, IfSome, sym, subst}
 use Rattle.std.specs.Prelude.{◌==◌, ◌&&◌, not, if◌then◌else◌}
 use Rattle.bx_base.specs.declared.names.Actor.{Actor}
 use Rattle.bx_base.specs.declared.names.Actor.TheVariants.{Node, Replica, Server, Member}
@@ -22,13 +22,12 @@ use Rattle.bx_mirror_packets.specs.declared.message.DeviceMessage.{DeviceMessage
 use Rattle.bx_mirror_packets.specs.declared.message.DeviceMessage.TheVariants.{Write, Wrote, Read, Data, Copy, Copied, Alive}
 use Rattle.bx_mirror_packets.specs.declared.message.WriteBody.{WriteBody}
 use Rattle.bx_mirror_member.specs.declared.copies.Progress.{Progress}
-use Rattle.bx_mirror_member.specs.declared.copies.Progress.TheVariants.{Unchanged, Next, Whole}
+use Rattle.bx_mirror_member.specs.declared.copies.Progress.TheVariants.{Next, Whole}
 use Rattle.bx_mirror_member.specs.declared.judging.Judgement.{Judgement}
 use Rattle.bx_mirror_member.specs.declared.judging.Judgement.TheVariants.{Taken, Repeated, Refused}
-use Rattle.bx_mirror_member.specs.Acting.{IsNoted}
 use Rattle.bx_mirror_member.specs.Standing.{Standing, copy_from, is_named, is_second, learned, piece_at}
 use Rattle.bx_mirror_member.specs.Steps.{IsProgress, is_last_piece, is_silent, may_alone, only, progress_in, proposes_in, shift}
-use Rattle.bx_mirror_server.specs.Serving.{Does, DoesWrite, OfInput, OfMessage, OfSaid, change_of}
+use Rattle.bx_mirror_server.specs.Serving.{DoesWrite, OfInput, OfMessage, OfSaid, change_of}
 use Rattle.bx_devices.specs.Events.{SlotTakes, TakesAt}
 use Rattle.bx_devices.specs.Machines.{DeviceMachines, OnlyMachine, slot_of, stream_of}
 use Rattle.bx_devices.specs.Steps.{Hands, HandsIn, HandsOf, IsStep, Judged, MachineSteps, MemberHears, MemberTakes, SlotHands, SlotSteps, StreamHears}

@@ -1,6 +1,4 @@
 -- New machines, and what each asks of a state.
-use Rattle.std.specs.Prelude.{◌≡◌}
-use Rattle.bx_facts.specs.Writes.{Made}
 use Rattle.bx_global.specs.declared.state.GlobalState.{GlobalState}
 use Rattle.bx_devices.specs.Machines.{AreMade, DeviceMachines, IsShape, made_of}
 

@@ -210,6 +210,7 @@ impl Devices {
         ensures failed { OnErr result (StopsAt who self.old self.new) }
         ensures labels { LabelsAt R.Rack rack.old rack.new (made_of self.old) who result }
         ensures only { OnlyMachine who self.old self.new }
+        ensures disks { R.tells rack.old → OnlyDiskOf who (R.state rack.old) (R.state rack.new) }
         ensures rack { Fails R.Rack rack.old rack.new result }
     {
         match who {

@@ -1,4 +1,3 @@
-use Rattle.std.proofs.Common.{◌*◌}
 use Rattle.bx_devices.proofs.Making.{AreMembers, AreStreams}
 use Rattle.bx_devices.proofs.devices.Devices.new.Given as goal
 

@@ -16,5 +16,5 @@ pub returns-clause-labels : goal.returns-clause-labels
 returns-clause-labels g c =
     let does = c.restart-result.ensures in
     member_labels g.R.Rack c.args.rack.now c.restart-result.new.rack (made_of c.args.self.now) c.args.member c.restart-result.result c.member-server.result
-        (c.member-server.ensures ∙ ap (λ (made : Made). new_member c.args.member made) c.take_member.ensures.only.made)
-        does.synced does.label does.had_label does.keeps does.any_moment does.had_moment
+    (c.member-server.ensures ∙ ap (λ (made : Made). new_member c.args.member made) c.take_member.ensures.only.made)
+    does.synced does.label does.had_label does.keeps does.any_moment does.had_moment

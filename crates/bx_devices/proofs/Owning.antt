@@ -1,0 +1,121 @@
+-- A member stays the one of its number, of its volume, through all that it does.
+use Rattle.std.proofs.Common.{◌≡◌, inl, inr, ℕ, Bool, true, false, List, Option, Some, None, Result, Ok, Err, IfOk, refl, sym, ◌∙◌, ap, subst}
+use Rattle.std.specs.Prelude.{IsErrOf, slice_get, if◌then◌else◌}
+use Rattle.std.proofs.lemmas.Bool.{cases_eq}
+use Rattle.bx_base.specs.declared.names.Actor.{Actor}
+use Rattle.bx_disk.specs.Disks.{Disks}
+use Rattle.bx_disk.specs.declared.fault.RackError.{RackError}
+use Rattle.bx_disk.specs.declared.fault.RackError.TheVariants.{Fault}
+use Rattle.bx_facts.specs.Writes.{Made}
+use Rattle.bx_facts.specs.declared.input.Input.{Input}
+use Rattle.bx_facts.specs.declared.input.Input.TheVariants.{Packet, Tick, Synced}
+use Rattle.bx_global.specs.declared.change.Change.{Change}
+use Rattle.bx_global.specs.declared.state.GlobalState.{GlobalState}
+use Rattle.bx_post.specs.declared.packets.Letter.{Letter}
+use Rattle.bx_rows.specs.declared.device.DeviceRow.{DeviceRow}
+use Rattle.bx_mirror_packets.specs.declared.message.DeviceMessage.{DeviceMessage}
+use Rattle.bx_mirror_packets.specs.declared.message.DeviceMessage.TheVariants.{Write, Wrote, Read, Data, Copy, Copied, Alive}
+use Rattle.bx_mirror_packets.specs.declared.message.WriteBody.{WriteBody}
+use Rattle.bx_mirror_member.specs.Standing.{Standing, device_in, hearing, is_news, learned, learned_row, new_member, started, with_row}
+use Rattle.bx_mirror_member.specs.Steps.{Repeats, gone_on}
+use Rattle.bx_mirror_member.specs.declared.copies.Progress.{Progress}
+use Rattle.bx_mirror_member.specs.declared.copies.Progress.TheVariants.{Unchanged, Next, Whole}
+use Rattle.bx_mirror_member.specs.declared.judging.Judgement.{Judgement}
+use Rattle.bx_mirror_member.specs.declared.judging.Judgement.TheVariants.{Taken, Repeated, Refused}
+use Rattle.bx_mirror_server.specs.Serving.{Does, DoesWrite, OfInput, OfMessage, OfSaid}
+use Rattle.bx_devices.specs.Machines.{IsOwn}
+
+-- ---- equal numbers, where they can't differ
+
+stable : (a b : ℕ) → ((a ≡ b → ⊥) → ⊥) → a ≡ b
+stable a b differ_not = elim (cases_eq a b) [ inl same ↦ same | inr apart ↦ absurd (differ_not (λ e. apart e)) ]
+
+made_same : (a b : Made) → a.volume ≡ b.volume → a.nodes ≡ b.nodes → a.devices ≡ b.devices → a.areas ≡ b.areas → a ≡ b
+made_same a b volume nodes devices areas =
+    ap (λ (k : ℕ). record { volume = k; nodes = a.nodes; devices = a.devices; areas = a.areas }) volume
+    ∙ (ap (λ (k : ℕ). record { volume = b.volume; nodes = k; devices = a.devices; areas = a.areas }) nodes
+    ∙ (ap (λ (k : ℕ). record { volume = b.volume; nodes = b.nodes; devices = k; areas = a.areas }) devices
+    ∙ ap (λ (k : ℕ). record { volume = b.volume; nodes = b.nodes; devices = b.devices; areas = k }) areas))
+
+own_stable : (made : Made) (n : ℕ) (m : Standing) → ((IsOwn made n m → ⊥) → ⊥) → IsOwn made n m
+own_stable made n m is = record {
+  number = stable m.number n (λ no. is (λ own. no own.number));
+  made_is = made_same m.made made
+      (stable m.made.volume made.volume (λ no. is (λ own. no (ap (λ (k : Made). k.volume) own.made_is))))
+      (stable m.made.nodes made.nodes (λ no. is (λ own. no (ap (λ (k : Made). k.nodes) own.made_is))))
+      (stable m.made.devices made.devices (λ no. is (λ own. no (ap (λ (k : Made). k.devices) own.made_is))))
+      (stable m.made.areas made.areas (λ no. is (λ own. no (ap (λ (k : Made). k.areas) own.made_is))));
+}
+
+-- ---- events
+
+module _ (made : Made) (n : ℕ) where
+  same : (m new : Standing) → new ≡ m → IsOwn made n m → IsOwn made n new
+  same m new e own = subst (λ (k : Standing). IsOwn made n k) (sym e) own
+
+  -- what has its number and its volume is its own
+  alike : (m new : Standing) → new.number ≡ m.number → new.made ≡ m.made → IsOwn made n m → IsOwn made n new
+  alike m new number is own = record { number = number ∙ own.number; made_is = is ∙ own.made_is }
+
+  learned_own : (m : Standing) (row : Option DeviceRow) → IsOwn made n m → IsOwn made n (learned_row m row)
+  learned_own m None own = own
+  learned_own m (Some row) own = by_news (is_news m.row row)
+    where
+      by_news : (b : Bool) → IsOwn made n (if b then with_row m row else m)
+      by_news true = alike m (with_row m row) refl refl own
+      by_news false = own
+
+  repeats_own : (from : Actor) (w : WriteBody) (m new : Standing) (before after : List Letter) → Repeats from w m new before after → IsOwn made n m → IsOwn made n new
+  repeats_own from w m new before after is own = by_due m.due refl
+    where
+      by_due : (b : Bool) → m.due ≡ b → IsOwn made n new
+      by_due true due = own_stable made n new (λ no. no (same _ new (is.owes due (λ has. no (same m new (is.once due has) own))) (alike m _ refl refl own)))
+      by_due false due = same m new (is.at_once due).0 own
+
+  write_own : (Told : Type 0) (judgement : Judgement) (from : Actor) (w : WriteBody) (m new : Standing) (before after : List Letter) (old now : Disks) → DoesWrite Told judgement from w m new before after old now → IsOwn made n m → IsOwn made n new
+  write_own Told Taken from w m new before after old now is own = same _ new is.member (alike m _ refl refl own)
+  write_own Told Repeated from w m new before after old now is own = repeats_own from w m new before after is.repeats own
+  write_own Told Refused from w m new before after old now is own = same m new is.member own
+
+  gone_own : (progress : Progress) (m : Standing) → IsOwn made n m → IsOwn made n (gone_on progress m)
+  gone_own Unchanged m own = own
+  gone_own (Next piece) m own = alike m _ refl refl own
+  gone_own (Whole change) m own = own
+
+  message_own : (Told : Type 0) (reading : ℕ) (from : Actor) (message : DeviceMessage) (m new : Standing) (change : Option Change) (before after : List Letter) (old now : Disks) → OfMessage Told reading from message m new change before after old now → IsOwn made n m → IsOwn made n new
+  message_own Told reading from (Write w) m new change before after old now is own = write_own Told is.0.judgement from w m new before after old now is.0.does own
+  message_own Told reading from (Wrote w) m new change before after old now is own = same m new is.0.member own
+  message_own Told reading from (Read r) m new change before after old now is own = elim is.0 [ inl here ↦ same m new here.1.member own | inr not_here ↦ same m new not_here.1.member own ]
+  message_own Told reading from (Data d) m new change before after old now is own = same m new is.0.member own
+  message_own Told reading from (Copy c) m new change before after old now is own = elim is.0 [ inl here ↦ same _ new here.1.member (alike m _ refl refl own) | inr not_here ↦ same m new not_here.1 own ]
+  message_own Told reading from (Copied c) m new change before after old now is own = same (gone_on is.progress m) new is.member (gone_own is.progress m own)
+  message_own Told reading from Alive m new change before after old now is own = same (hearing reading m) new is.0.member (alike m _ refl refl own)
+
+  said_own : (Told : Type 0) (reading : ℕ) (from : Actor) (said : Option DeviceMessage) (m new : Standing) (change : Option Change) (before after : List Letter) (old now : Disks) → OfSaid Told reading from said m new change before after old now → IsOwn made n m → IsOwn made n new
+  said_own Told reading from None m new change before after old now is own = same m new is.0.member own
+  said_own Told reading from (Some message) m new change before after old now is own = message_own Told reading from message m new change before after old now is own
+
+  input_own : (Told : Type 0) (input : Input) (m new : Standing) (change : Option Change) (before after : List Letter) (old now : Disks) → OfInput Told input m new change before after old now → IsOwn made n m → IsOwn made n new
+  input_own Told (Packet packet reading) m new change before after old now is own = said_own Told reading packet.now.from is.said m new change before after old now is.does own
+  input_own Told (Tick reading) m new change before after old now is own = same m new is.member own
+  input_own Told Synced m new change before after old now is own = same _ new is.member (alike m _ refl refl own)
+
+  knows_own : (known : GlobalState) (m : Standing) → IsOwn made n m → IsOwn made n (learned known m)
+  knows_own known m own = learned_own m (slice_get known.devices (device_in m)) own
+
+  pub does_own : (Told : Type 0) (known : GlobalState) (input : Input) (m new : Standing) (change : Option Change) (before after : List Letter) (old now : Disks) → Does Told known input m new change before after old now → IsOwn made n m → IsOwn made n new
+  does_own Told known input m new change before after old now is own = input_own Told input (learned known m) new change is.between after old now is.does (knows_own known m own)
+
+  -- once a disk failed
+  pub faulted_own : {A : Type 0} (result : Result A RackError) (known : GlobalState) (m new : Standing) → result ≡ Err Fault → (IsErrOf result Fault → new ≡ learned known m) → IsOwn made n m → IsOwn made n new
+  faulted_own result known m new e is own = same (learned known m) new (is (subst (λ (r : Result _ RackError). IsErrOf r Fault) (sym e) refl)) (knows_own known m own)
+
+  -- and where none did
+  pub took_own : (result : Result (Option Change) RackError) (change : Option Change) (Told : Type 0) (known : GlobalState) (input : Input) (m new : Standing) (before after : List Letter) (old now : Disks)
+      → result ≡ Ok change → IfOk result (λ (c : Option Change). Does Told known input m new c before after old now) → IsOwn made n m → IsOwn made n new
+  took_own result change Told known input m new before after old now e is own =
+      does_own Told known input m new change before after old now (subst (λ (r : Result (Option Change) RackError). IfOk r (λ (c : Option Change). Does Told known input m new c before after old now)) e is) own
+
+  -- a new one that starts is
+  pub started_own : (boot reading : ℕ) (new : Standing) → new ≡ hearing reading (started boot (new_member n made)) → IsOwn made n new
+  started_own boot reading new e = same _ new e (record { number = refl; made_is = refl })

@@ -1,0 +1,101 @@
+-- The machines keep their shape as one of them changes, and members that are up have room.
+use Rattle.std.proofs.Common.{◌≡◌, inl, inr, ℕ, zero, suc, ◌+◌, ◌-◌, ◌*◌, ◌<◌, ◌≤◌, Bool, true, false, List, [], ◌∷◌, length, Option, Some, None, refl, sym, ◌∙◌, ap, subst, arith}
+use Rattle.std.specs.Prelude.{nat_lt, slice_index, slice_index_or, slice_set, if◌then◌else◌}
+use Rattle.std.proofs.lemmas.Bool.{cases_eq, cases_lt}
+use Rattle.std.proofs.lemmas.Bool.Decides.{nat_tests}
+use Rattle.std.proofs.lemmas.List.{get_or-set_other, get_or-set_same, length-set}
+use Rattle.bx_facts.specs.Disks.{HasRoom}
+use Rattle.bx_facts.specs.Writes.{Made, store_room}
+use Rattle.bx_mirror_client.specs.Streams.{Streaming}
+use Rattle.bx_mirror_member.specs.Standing.{Standing, disk_in, room_in}
+use Rattle.bx_devices.specs.Machines.{DeviceMachines, IsOwn, IsShape, machines, need_in, needs_of, slot_of}
+
+-- nothing stands beyond the end
+pub beyond : {A : Type 0} (all : List A) (n : ℕ) (none : A) → length all ≤ n → slice_index_or all n none ≡ none
+beyond [] n none far = refl
+beyond (one ∷ all) zero none far = absurd (omega (arith, far))
+beyond (one ∷ all) (suc n) none far = beyond all n none (omega (arith, far))
+
+module _ (volume nodes devices areas : ℕ) (streams : List Streaming) where
+  abbrev Made_ : Made
+  Made_ = record { volume = volume; nodes = nodes; devices = devices; areas = areas }
+
+  slot_own : (members : List (Option Standing)) (n : ℕ) (one : Option Standing) → ((k : ℕ) (m : Standing) → slice_index_or members k None ≡ Some m → IsOwn Made_ k m) → ((m : Standing) → one ≡ Some m → IsOwn Made_ n m)
+      → (k : ℕ) (m : Standing) → slice_index_or (slice_set members n one) k None ≡ Some m → IsOwn Made_ k m
+  slot_own members n one each own k m is = elim (cases_eq k n) [
+    | inl here ↦ elim (cases_lt n (length members)) [
+      | inl there ↦ subst (λ (j : ℕ). IsOwn Made_ j m) (sym here) (own m (sym (get_or-set_same members n one None there) ∙ subst (λ (j : ℕ). slice_index_or (slice_set members n one) j None ≡ Some m) here is))
+      | inr far ↦ absurd (nothing (sym (beyond (slice_set members n one) k None (past here far)) ∙ is))
+    ]
+    | inr apart ↦ each k m (sym (get_or-set_other members n k one None (λ e. apart e)) ∙ is)
+  ]
+    where
+      nothing : None ≡ Some m → ⊥
+      nothing e = cc
+
+      past : k ≡ n → length members ≤ n → length (slice_set members n one) ≤ k
+      past here far = let same = length-set members n one in omega (arith, here, far, same)
+
+  pub shape_with : (members : List (Option Standing)) (n : ℕ) (one : Option Standing) → IsShape (machines volume nodes devices areas members streams) → ((m : Standing) → one ≡ Some m → IsOwn Made_ n m)
+      → IsShape (machines volume nodes devices areas (slice_set members n one) streams)
+  shape_with members n one shape own = record {
+    least_devices = shape.least_devices;
+    most_devices = shape.most_devices;
+    least_areas = shape.least_areas;
+    most_areas = shape.most_areas;
+    members = length-set members n one ∙ shape.members;
+    streams = shape.streams;
+    each = slot_own members n one shape.each own;
+  }
+
+  -- where one isn't up any more
+  pub none_own : (n : ℕ) (one : Option Standing) → one ≡ None → (m : Standing) → one ≡ Some m → IsOwn Made_ n m
+  none_own n one none m is = absurd (nothing (sym none ∙ is))
+    where
+      nothing : None ≡ Some m → ⊥
+      nothing e = cc
+
+  pub some_own : (n : ℕ) (member : Standing) → IsOwn Made_ n member → (m : Standing) → Some member ≡ Some m → IsOwn Made_ n m
+  some_own n member own m is = let same : member ≡ m = cc in subst (λ (k : Standing). IsOwn Made_ n k) same own
+
+-- ---- room
+
+pub needs_here : (o : DeviceMachines) (n : ℕ) → needs_of o (3 + n) ≡ need_in (store_room o.made) (slot_of o n)
+needs_here o n =
+    let e : nat_lt (3 + n) 3 ≡ false = grind (arith, nat_tests) in
+    let same : 3 + n - 3 ≡ n = omega arith in
+    ap (λ (b : Bool). if b then 0 else need_in (store_room o.made) (slot_of o (3 + n - 3))) e ∙ ap (λ (k : ℕ). need_in (store_room o.made) (slot_of o k)) same
+
+pub room_of : (o : DeviceMachines) (n : ℕ) (m : Standing) (sizes : List ℕ) → IsShape o → HasRoom (needs_of o) sizes → slot_of o n ≡ Some m → room_in m ≤ slice_index sizes (disk_in m)
+room_of o n m sizes shape room is =
+    let own = shape.each n m is in
+    let needs : needs_of o (3 + n) ≡ store_room o.made = needs_here o n ∙ ap (λ (slot : Option Standing). need_in (store_room o.made) slot) is in
+    let here : store_room o.made ≤ slice_index sizes (3 + n) = subst (λ (k : ℕ). k ≤ slice_index sizes (3 + n)) needs (room.each (3 + n)) in
+    subst (λ (made : Made). store_room made ≤ slice_index sizes (3 + m.number)) (sym own.made_is) (subst (λ (k : ℕ). store_room o.made ≤ slice_index sizes (3 + k)) (sym own.number) here)
+
+-- ---- what is needed
+
+pub needs_none : (o : DeviceMachines) (disk : ℕ) → disk < 3 → needs_of o disk ≡ 0
+needs_none o disk less =
+    let e : nat_lt disk 3 ≡ true = grind (arith, nat_tests, less) in
+    ap (λ (b : Bool). if b then 0 else need_in (store_room o.made) (slot_of o (disk - 3))) e
+
+pub needs_behind : (o : DeviceMachines) (disk : ℕ) → 3 ≤ disk → needs_of o disk ≡ need_in (store_room o.made) (slot_of o (disk - 3))
+needs_behind o disk far =
+    let e : nat_lt disk 3 ≡ false = grind (arith, nat_tests, far) in
+    ap (λ (b : Bool). if b then 0 else need_in (store_room o.made) (slot_of o (disk - 3))) e
+
+slot_little : (room : ℕ) (slot : Option Standing) → need_in room slot ≤ room
+slot_little room None = omega arith
+slot_little room (Some m) = omega arith
+
+pub needs_little : (o : DeviceMachines) (disk : ℕ) → needs_of o disk ≤ store_room o.made
+needs_little o disk = elim (cases_lt disk 3) [
+  | inl less ↦ subst (λ (k : ℕ). k ≤ store_room o.made) (sym (needs_none o disk less)) (omega arith)
+  | inr far ↦ subst (λ (k : ℕ). k ≤ store_room o.made) (sym (needs_behind o disk far)) (slot_little (store_room o.made) (slot_of o (disk - 3)))
+]
+
+pub needs_of_volume : (o : DeviceMachines) (disk : ℕ) → length o.members ≡ 2 * o.made.devices → 3 + 2 * o.made.devices ≤ disk → needs_of o disk ≡ 0
+needs_of_volume o disk long past =
+    let none : slot_of o (disk - 3) ≡ None = beyond o.members (disk - 3) None (omega (arith, past, long)) in
+    needs_behind o disk (omega (arith, past)) ∙ ap (λ (slot : Option Standing). need_in (store_room o.made) slot) none

@@ -67,6 +67,10 @@ module _ (parts : Parts) (x : Disks) (past : StorePast) (keeps : Keeps parts x p
     sessions = keeps.sessions;
     booted = keeps.booted;
     owned = keeps.owned;
+    single = keeps.single;
+    found_most = keeps.found_most;
+    first_rising = keeps.first_rising;
+    left = keeps.left;
     numbered = keeps.numbered;
     tagged = keeps.tagged;
     read_tagged = keeps.read_tagged;

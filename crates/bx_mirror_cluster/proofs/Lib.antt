@@ -4,6 +4,7 @@ pub mod Crashing
 pub mod Dropping
 pub mod Finished
 pub mod Growth
+pub mod Leaving
 pub mod Losing
 pub mod Opening
 pub mod Replacing

@@ -79,6 +79,10 @@ module _ (parts : Parts) (x : Disks) (past : StorePast) (letters : List Letter) 
     sessions = keeps.sessions;
     booted = keeps.booted;
     owned = keeps.owned;
+    single = keeps.single;
+    found_most = keeps.found_most;
+    first_rising = keeps.first_rising;
+    left = keeps.left;
     numbered = keeps.numbered;
     tagged = λ n d session epoch tag bytes c. keeps.tagged n d session epoch tag bytes (still_data letters past.told.letters fewer n d session epoch tag bytes c);
     read_tagged = λ n d session tag c. keeps.read_tagged n d session tag (still_reading letters past.told.letters fewer n d session tag c);

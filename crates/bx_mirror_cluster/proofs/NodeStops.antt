@@ -134,6 +134,27 @@ module _ (parts : Parts) (x : Disks) (past : StorePast) (keeps : Keeps parts x p
     sessions = keeps.sessions;
     booted = keeps.booted;
     owned = λ m session is. keeps.owned m session (was_session m session is).1;
+    single = keeps.single;
+    found_most = keeps.found_most;
+    first_rising = keeps.first_rising;
+    left = λ w there. let was = keeps.left w there in elim (same_or (keeps.node_of w.session) n) [
+      | inl e ↦ record { boot_most = was.boot_most; case = inr (inl (let it : (n == keeps.node_of w.session) ≡ true = grind (arith, nat_tests, e) in ap (λ (b : Bool). if b then true else past.told.down (Node (keeps.node_of w.session))) it)) }
+      | inr e ↦ (let other : (n == keeps.node_of w.session) ≡ false = grind (arith, nat_tests, e) in
+          let same_down = ap (λ (b : Bool). if b then true else past.told.down (Node (keeps.node_of w.session))) other in
+          let same_session = ap (λ (q : Streaming). q.session) (at_other (keeps.node_of w.session) e) in record {
+            boot_most = was.boot_most;
+            case = elim was.case [
+              | inl older ↦ inl older
+              | inr rest ↦ inr (elim rest [
+                | inl gone ↦ inl (same_down ∙ gone)
+                | inr more ↦ inr (elim more [
+                  | inl own ↦ inl (same_session ∙ own)
+                  | inr behind ↦ inr behind
+                ])
+              ])
+            ];
+          })
+    ];
     numbered = λ d l there. elim (keeps.numbered d l there) [
       | inl old ↦ inl old
       | inr le ↦ inr (let same = (numbers (keeps.node_of l.session)).0 in omega (arith, le, same))

@@ -16,10 +16,11 @@ use Rattle.bx_mirror_client.specs.Streams.{Streaming}
 use Rattle.bx_mirror_client.specs.Telling.{HasRuns}
 use Rattle.bx_mirror_client.specs.declared.sending.Sending.{Sending}
 use Rattle.bx_mirror_client.proofs.Telling.{done_is, runs_there, there_runs}
-use Rattle.bx_mirror_cluster.specs.Fitting.{History, IsClaimed, IsDeviceSound, IsSettledOn, Keeps, Parts, StandsOn, WillReadOn, handings, knows_of, last_row, out_by, outs_of, rows_before, side_of}
+use Rattle.bx_mirror_cluster.specs.Fitting.{History, IsClaimed, IsDeviceSound, IsOwnOrLeft, IsSettledOn, Keeps, Parts, StandsOn, WillReadOn, handings, knows_of, last_row, out_by, outs_of, rows_before, side_of}
 use Rattle.bx_mirror_cluster.specs.Writing.{with_node, with_stream}
 use Rattle.bx_mirror_client.specs.declared.asking.Asking.{Asking}
 use Rattle.bx_mirror_cluster.proofs.Finished.{low_mode, written_source}
+use Rattle.bx_mirror_cluster.proofs.Leaving.{same_left}
 
 -- ---- those of a list that pass a test
 
@@ -238,6 +239,10 @@ module _ (parts : Parts) (x : Disks) (past : StorePast) (keeps : Keeps parts x p
       known = was.known;
     }
 
+  still_own : (node_of boot_of : ℕ → ℕ) (w : Out) → IsOwnOrLeft parts.nodes past.told.chain past.told.knew past.told.boots past.told.down (node_of w.session) (boot_of w.session) w.session
+      → IsOwnOrLeft nodes_next past.told.chain past.told.knew past.told.boots past.told.down (node_of w.session) (boot_of w.session) w.session
+  still_own node_of boot_of w is = same_left parts.nodes nodes_next past.told.chain past.told.knew past.told.boots past.told.down (node_of w.session) (boot_of w.session) w.session (kept (λ q. q.session) refl (node_of w.session)) is
+
   -- ---- all of it
 
   pub write_ends : Keeps (with_stream parts n c) x past
@@ -274,6 +279,10 @@ module _ (parts : Parts) (x : Disks) (past : StorePast) (keeps : Keeps parts x p
     sessions = keeps.sessions;
     booted = keeps.booted;
     owned = λ m t is. keeps.owned m t (sym (kept (λ q. q.session) refl m) ∙ is);
+    single = keeps.single;
+    found_most = keeps.found_most;
+    first_rising = keeps.first_rising;
+    left = λ w there. still_own keeps.node_of keeps.boot_of w (keeps.left w (more w there).0);
     numbered = λ d l there. elim (keeps.numbered d l there) [
       | inl old ↦ inl old
       | inr le ↦ inr (let same = kept (λ q. q.sequence) refl (keeps.node_of l.session) in omega (arith, le, same))

@@ -27,9 +27,10 @@ use Rattle.bx_mirror_client.specs.Streams.{Streaming, sending}
 use Rattle.bx_mirror_client.specs.declared.asking.Asking.{Asking}
 use Rattle.bx_mirror_client.specs.declared.sending.Sending.{Sending}
 use Rattle.bx_mirror_client.proofs.Telling.{runs_there, there_runs}
-use Rattle.bx_mirror_cluster.specs.Fitting.{History, IsClaimed, IsComing, IsDeviceSound, IsSettledOn, Keeps, KnownFrom, Nowhere, Parts, StandsFor, StandsOn, WillReadOn, handings, knows_of, last_row, out_by, outs_of, row_or, rows_before, side_of}
+use Rattle.bx_mirror_cluster.specs.Fitting.{History, IsClaimed, IsComing, IsDeviceSound, IsOwnOrLeft, IsSettledOn, Keeps, KnownFrom, Nowhere, Parts, StandsFor, StandsOn, WillReadOn, handings, knows_of, last_row, out_by, outs_of, row_or, rows_before, side_of}
 use Rattle.bx_mirror_cluster.specs.Speaking.{FitsPacket, letter_of}
 use Rattle.bx_mirror_cluster.specs.Writing.{MaySend, parts_sent, past_sent, with_node, with_sent, with_stream, write_by}
+use Rattle.bx_mirror_cluster.proofs.Leaving.{same_left}
 use Rattle.bx_mirror_cluster.proofs.Sent.{base_outs, base_writes, sent_outs, sent_writes, sent_wrotes, told_both}
 use Rattle.bx_mirror_cluster.proofs.Speaking.{coming_more, low_kinds}
 
@@ -373,6 +374,17 @@ module _ (parts : Parts) (x : Disks) (past : StorePast) (keeps : Keeps parts x p
     sessions = keeps.sessions;
     booted = keeps.booted;
     owned = λ m t is. keeps.owned m t (sym (kept (λ q. q.session) refl m) ∙ is);
+    single = keeps.single;
+    found_most = keeps.found_most;
+    first_rising = keeps.first_rising;
+    left = λ w there. elim there.is [
+      | inl new ↦ subst (λ (v : Out). IsOwnOrLeft nodes_next past.told.chain past.told.knew past.told.boots past.told.down (keeps.node_of v.session) (keeps.boot_of v.session) v.session) (sym new)
+          (let of = keeps.owned n session own in let at = ap (λ (k : ℕ). past.told.boots (Node k)) of.0 in let boot = of.1 in record {
+            boot_most = omega (arith, at, boot);
+            case = inr (inr (inl (kept (λ q. q.session) refl (keeps.node_of session) ∙ ap (λ (k : ℕ). (parts.nodes k).session) of.0 ∙ own)));
+          })
+      | inr old ↦ same_left parts.nodes nodes_next past.told.chain past.told.knew past.told.boots past.told.down (keeps.node_of w.session) (keeps.boot_of w.session) w.session (kept (λ q. q.session) refl (keeps.node_of w.session)) (keeps.left w (record { is = old }))
+    ];
     numbered = λ d l there. numbered d l (newer_told (has_runs d runs.1) (slice_get c.rows d) o (runs_on d runs.1) (h.writes d) l there);
     tagged = λ m d t epoch tag bytes data_. elim (keeps.tagged m d t epoch tag bytes (record { letter = data_.letter; there = was_there data_.letter data_.there (let e = data_.spells.kind_is in omega (arith, e)); data_ = data_.data_; spells = data_.spells; to = data_.to; device = data_.device; session_is = data_.session_is; epoch_is = data_.epoch_is; tag_is = data_.tag_is; bytes_are = data_.bytes_are })) [
       | inl old ↦ inl old

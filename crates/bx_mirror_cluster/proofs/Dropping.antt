@@ -69,7 +69,7 @@ module _ (parts : Parts) (x : Disks) (past : StorePast) (keeps : Keeps parts x p
     owned = keeps.owned;
     single = keeps.single;
     found_most = keeps.found_most;
-    first_rising = keeps.first_rising;
+    in_order = keeps.in_order;
     left = keeps.left;
     numbered = keeps.numbered;
     tagged = keeps.tagged;

@@ -76,7 +76,7 @@ module _ (parts : Parts) (x : Disks) (past : StorePast) (keeps : Keeps parts x p
     owned = λ m t is. keeps.owned m t (sym (on.session m) ∙ is);
     single = keeps.single;
     found_most = keeps.found_most;
-    first_rising = keeps.first_rising;
+    in_order = keeps.in_order;
     left = λ w there. same_left parts.nodes nodes_next past.told.chain past.told.knew past.told.boots past.told.down (keeps.node_of w.session) (keeps.boot_of w.session) w.session (on.session (keeps.node_of w.session)) (keeps.left w there);
     numbered = λ d l there. elim (keeps.numbered d l there) [
       | inl old ↦ inl old

@@ -4,11 +4,13 @@ pub mod Crashing
 pub mod Dropping
 pub mod Finished
 pub mod Growth
+pub mod Learned
 pub mod Leaving
 pub mod Losing
 pub mod Opening
 pub mod Replacing
 pub mod Sent
+pub mod Sessions
 pub mod Speaking
 pub mod Standing
 pub mod WriteDone

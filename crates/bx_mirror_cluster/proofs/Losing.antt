@@ -81,7 +81,7 @@ module _ (parts : Parts) (x : Disks) (past : StorePast) (letters : List Letter) 
     owned = keeps.owned;
     single = keeps.single;
     found_most = keeps.found_most;
-    first_rising = keeps.first_rising;
+    in_order = keeps.in_order;
     left = keeps.left;
     numbered = keeps.numbered;
     tagged = λ n d session epoch tag bytes c. keeps.tagged n d session epoch tag bytes (still_data letters past.told.letters fewer n d session epoch tag bytes c);

@@ -15,7 +15,7 @@ use Rattle.bx_mirror_cluster.specs.Fitting.{IsClaimed, IsDeviceSound, IsSettledO
 use Rattle.bx_mirror_cluster.specs.Writing.{with_node, with_stream}
 
 -- with fewer writes out all letters are what they were
-writes_fewer : (device greatest : ℕ) (last_ : DeviceRow) (older : List DeviceRow) (sides : Bool → Side) (writes : List WriteLetter) (wrotes : List Wrote) (actual : List Out) (outs outs_next : ℕ → Option Out) (knows knows_next : ℕ → Option DeviceRow) (live : Out → Type 0)
+pub writes_fewer : (device greatest : ℕ) (last_ : DeviceRow) (older : List DeviceRow) (sides : Bool → Side) (writes : List WriteLetter) (wrotes : List Wrote) (actual : List Out) (outs outs_next : ℕ → Option Out) (knows knows_next : ℕ → Option DeviceRow) (live : Out → Type 0)
     → ((o : Out) (r : DeviceRow) → Sends outs_next knows_next live o r → Sends outs knows live o r)
     → AreWrites device greatest last_ older sides writes wrotes actual outs knows live → AreWrites device greatest last_ older sides writes wrotes actual outs_next knows_next live
 writes_fewer device greatest last_ older sides writes wrotes actual outs outs_next knows knows_next live before are = record {
@@ -136,7 +136,7 @@ module _ (parts : Parts) (x : Disks) (past : StorePast) (keeps : Keeps parts x p
     owned = λ m session is. keeps.owned m session (was_session m session is).1;
     single = keeps.single;
     found_most = keeps.found_most;
-    first_rising = keeps.first_rising;
+    in_order = keeps.in_order;
     left = λ w there. let was = keeps.left w there in elim (same_or (keeps.node_of w.session) n) [
       | inl e ↦ record { boot_most = was.boot_most; case = inr (inl (let it : (n == keeps.node_of w.session) ≡ true = grind (arith, nat_tests, e) in ap (λ (b : Bool). if b then true else past.told.down (Node (keeps.node_of w.session))) it)) }
       | inr e ↦ (let other : (n == keeps.node_of w.session) ≡ false = grind (arith, nat_tests, e) in

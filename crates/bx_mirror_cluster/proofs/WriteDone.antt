@@ -281,7 +281,7 @@ module _ (parts : Parts) (x : Disks) (past : StorePast) (keeps : Keeps parts x p
     owned = λ m t is. keeps.owned m t (sym (kept (λ q. q.session) refl m) ∙ is);
     single = keeps.single;
     found_most = keeps.found_most;
-    first_rising = keeps.first_rising;
+    in_order = keeps.in_order;
     left = λ w there. still_own keeps.node_of keeps.boot_of w (keeps.left w (more w there).0);
     numbered = λ d l there. elim (keeps.numbered d l there) [
       | inl old ↦ inl old

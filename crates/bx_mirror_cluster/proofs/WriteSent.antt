@@ -376,7 +376,7 @@ module _ (parts : Parts) (x : Disks) (past : StorePast) (keeps : Keeps parts x p
     owned = λ m t is. keeps.owned m t (sym (kept (λ q. q.session) refl m) ∙ is);
     single = keeps.single;
     found_most = keeps.found_most;
-    first_rising = keeps.first_rising;
+    in_order = keeps.in_order;
     left = λ w there. elim there.is [
       | inl new ↦ subst (λ (v : Out). IsOwnOrLeft nodes_next past.told.chain past.told.knew past.told.boots past.told.down (keeps.node_of v.session) (keeps.boot_of v.session) v.session) (sym new)
           (let of = keeps.owned n session own in let at = ap (λ (k : ℕ). past.told.boots (Node k)) of.0 in let boot = of.1 in record {

@@ -293,7 +293,7 @@ pub record Keeps (parts : Parts) (x : Disks) (past : StorePast) : Type 0 where
   -- of this life at most one session of a node and boot lives
   pub single : (s : GlobalState) → IsPlace past.told.chain s → AreSingle past.told.chain.found s
   pub found_most : past.told.chain.found ≤ past.told.chain.first.next_session
-  pub first_rising : AreRising past.told.chain.first.sessions past.told.chain.first.next_session
+  pub in_order : (s : GlobalState) → IsPlace past.told.chain s → AreRising s.sessions s.next_session
   pub left : (w : Out) → Among history.actual w → IsOwnOrLeft parts.nodes past.told.chain past.told.knew past.told.boots past.told.down (node_of w.session) (boot_of w.session) w.session
   pub numbered : (d : ℕ) (l : WriteLetter) → Among (history.writes d) l → (boot_of l.session < past.told.boots (Node (node_of l.session))) ⊎ (l.sequence ≤ (parts.nodes (node_of l.session)).sequence)
   pub tagged : (n d session epoch tag : ℕ) (bytes : List ℕ) → IsData past.told.letters n d session epoch tag bytes → (boot_of session < past.told.boots (Node n)) ⊎ (tag ≤ (parts.nodes n).tag)

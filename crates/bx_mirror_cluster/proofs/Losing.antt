@@ -68,6 +68,9 @@ module _ (parts : Parts) (x : Disks) (past : StorePast) (letters : List Letter) 
     placed = keeps.placed;
     actual_sent = keeps.actual_sent;
     out_actual = keeps.out_actual;
+    out_number = keeps.out_number;
+    sendable = keeps.sendable;
+    epochs = keeps.epochs;
     own_out = keeps.own_out;
     lasts = keeps.lasts;
     brings = keeps.brings;

@@ -117,6 +117,15 @@ module _ (parts : Parts) (x : Disks) (past : StorePast) (keeps : Keeps parts x p
       | inl e ↦ absurd (let no : None ≡ Some w = sym (ap (λ (q : Streaming). out_by q.out) (at_it m e)) ∙ is in cc)
       | inr e ↦ (let old = keeps.out_actual m w (sym (ap (λ (q : Streaming). out_by q.out) (at_other m e)) ∙ is) in (old.0, ap (λ (q : Streaming). q.session) (at_other m e) ∙ old.1))
     ];
+    out_number = λ m w is. elim (same_or m n) [
+      | inl e ↦ absurd (let no : None ≡ Some w = sym (ap (λ (q : Streaming). out_by q.out) (at_it m e)) ∙ is in cc)
+      | inr e ↦ (let le = keeps.out_number m w (sym (ap (λ (q : Streaming). out_by q.out) (at_other m e)) ∙ is) in let same = ap (λ (q : Streaming). q.sequence) (at_other m e) in omega (arith, le, same))
+    ];
+    sendable = λ m s is. elim (same_or m n) [
+      | inl e ↦ absurd (let no : None ≡ Some s = sym (ap (λ (q : Streaming). q.out) (at_it m e)) ∙ is in cc)
+      | inr e ↦ keeps.sendable m s (sym (ap (λ (q : Streaming). q.out) (at_other m e)) ∙ is)
+    ];
+    epochs = keeps.epochs;
     own_out = λ m w there is. let old = was_session m w.session is in ap (λ (q : Streaming). out_by q.out) (at_other m old.0) ∙ keeps.own_out m w there old.1;
     lasts = keeps.lasts;
     brings = keeps.brings;

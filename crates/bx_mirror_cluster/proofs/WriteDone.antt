@@ -261,6 +261,15 @@ module _ (parts : Parts) (x : Disks) (past : StorePast) (keeps : Keeps parts x p
         | inr stays ↦ (stays, ap (λ (q : Streaming). q.session) (at_other m e) ∙ old.1)
       ])
     ];
+    out_number = λ m w is. elim (same_or m n) [
+      | inl e ↦ absurd (let no : None ≡ Some w = sym (ap (λ (q : Streaming). out_by q.out) (at_it m e)) ∙ is in cc)
+      | inr e ↦ (let le = keeps.out_number m w (sym (ap (λ (q : Streaming). out_by q.out) (at_other m e)) ∙ is) in let same = ap (λ (q : Streaming). q.sequence) (at_other m e) in omega (arith, le, same))
+    ];
+    sendable = λ m t is. elim (same_or m n) [
+      | inl e ↦ absurd (let no : None ≡ Some t = sym (ap (λ (q : Streaming). q.out) (at_it m e)) ∙ is in cc)
+      | inr e ↦ keeps.sendable m t (sym (ap (λ (q : Streaming). q.out) (at_other m e)) ∙ is)
+    ];
+    epochs = keeps.epochs;
     own_out = λ m w there is. let old = more w there in let before = keeps.own_out m w old.0 (sym (kept (λ q. q.session) refl m) ∙ is) in elim (same_or m n) [
       | inl e ↦ absurd (old.1 (let of_n : (parts.nodes n).session ≡ Some w.session = sym (ap (λ (k : ℕ). (parts.nodes k).session) e) ∙ sym (kept (λ q. q.session) refl m) ∙ is in
           let both : Some w.session ≡ Some s.session = sym of_n ∙ own in cc))

@@ -349,6 +349,16 @@ module _ (parts : Parts) (x : Disks) (past : StorePast) (keeps : Keeps parts x p
           (record { is = inl same }, kept (λ q. q.session) refl m ∙ ap (λ (k : ℕ). (parts.nodes k).session) e ∙ own ∙ ap (λ (v : Out). Some v.session) (sym same)))
       | inr e ↦ (let old = keeps.out_actual m w (sym (ap (λ (q : Streaming). out_by q.out) (at_other m e)) ∙ is) in (record { is = inr old.0.is }, kept (λ q. q.session) refl m ∙ old.1))
     ];
+    out_number = λ m w is. elim (same_or m n) [
+      | inl e ↦ (let both : Some w ≡ Some o = sym is ∙ ap (λ (k : ℕ). outs_of nodes_next k) e ∙ out_now in let same : w ≡ o = cc in
+          let number = ap (λ (v : Out). v.sequence) same in let now = ap (λ (q : Streaming). q.sequence) (at_it m e) in omega (arith, number, now))
+      | inr e ↦ (let le = keeps.out_number m w (sym (ap (λ (q : Streaming). out_by q.out) (at_other m e)) ∙ is) in let same = ap (λ (q : Streaming). q.sequence) (at_other m e) in omega (arith, le, same))
+    ];
+    sendable = λ m t is. elim (same_or m n) [
+      | inl e ↦ (let both : Some s ≡ Some t = sym (ap (λ (q : Streaming). q.out) (at_it m e)) ∙ is in let same : s ≡ t = cc in subst FitsPacket same fits)
+      | inr e ↦ keeps.sendable m t (sym (ap (λ (q : Streaming). q.out) (at_other m e)) ∙ is)
+    ];
+    epochs = keeps.epochs;
     own_out = λ m w there is. elim there.is [
       | inl new ↦ (let it : (parts.nodes m).session ≡ Some session = sym (kept (λ q. q.session) refl m) ∙ is ∙ ap (λ (v : Out). Some v.session) new in
           ap (λ (k : ℕ). outs_of nodes_next k) (its_node m it) ∙ out_now ∙ ap Some (sym new))

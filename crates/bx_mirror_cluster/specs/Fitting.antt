@@ -15,6 +15,7 @@ use Rattle.bx_global.specs.Allowed.{AreRising}
 use Rattle.bx_locking.specs.Owned.{AreSingle}
 use Rattle.bx_layout.specs.Labels.{SpellsLabel}
 use Rattle.bx_post.specs.declared.packets.Letter.{Letter}
+use Rattle.bx_rows.specs.Conditions.{Fits}
 use Rattle.bx_rows.specs.declared.device.DeviceRow.{DeviceRow}
 use Rattle.bx_mirror_packets.specs.DeviceMessages.{Spells}
 use Rattle.bx_mirror_packets.specs.declared.message.WriteBody.{WriteBody}
@@ -35,6 +36,7 @@ use Rattle.bx_mirror_client.specs.Streams.{Streaming}
 use Rattle.bx_mirror_client.specs.Telling.{HasAcked}
 use Rattle.bx_mirror_client.specs.declared.asking.Asking.{Asking}
 use Rattle.bx_mirror_client.specs.declared.sending.Sending.{Sending}
+use Rattle.bx_mirror_cluster.specs.Speaking.{FitsPacket}
 
 -- ---- the rows of a device along a chain, and what was handed back of it
 
@@ -273,6 +275,10 @@ pub record Keeps (parts : Parts) (x : Disks) (past : StorePast) : Type 0 where
   pub placed : (s : GlobalState) → IsPlace past.told.chain s → (d : ℕ) → IsRow (last_row past.told.chain d) (rows_before past.told.chain d) (row_of s d)
   pub actual_sent : (w : Out) → Among history.actual w → Contains past.writes (sent_of w)
   pub out_actual : (n : ℕ) (w : Out) → outs_of parts.nodes n ≡ Some w → Among history.actual w × ((parts.nodes n).session ≡ Some w.session)
+  pub out_number : (n : ℕ) (w : Out) → outs_of parts.nodes n ≡ Some w → w.sequence ≤ (parts.nodes n).sequence
+  -- the numbers of what is out, and of all rows, fit a packet
+  pub sendable : (n : ℕ) (s : Sending) → (parts.nodes n).out ≡ Some s → FitsPacket s
+  pub epochs : (s : GlobalState) → IsPlace past.told.chain s → (d : ℕ) (row : DeviceRow) → slice_get s.devices d ≡ Some row → Fits row.epoch
   pub own_out : (n : ℕ) (w : Out) → Among history.actual w → (parts.nodes n).session ≡ Some w.session → outs_of parts.nodes n ≡ Some w
   -- the last sequence that a member knows of a session is that of a letter
   pub lasts : (d : ℕ) (b : Bool) (session : ℕ) → (last_in (parts.members (member_at d b)).lasts session ≡ 0)

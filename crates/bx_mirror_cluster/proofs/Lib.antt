@@ -13,6 +13,7 @@ pub mod Sent
 pub mod Sessions
 pub mod Speaking
 pub mod Standing
+pub mod ToldAgain
 pub mod WriteDone
 pub mod WriteSent
 pub mod GoingOn

@@ -65,10 +65,10 @@ of_on d (r ∷ runs) run there = by (r.device == d) there (λ more. of_on d runs
         by_front (inr there_) more = behind r runs run (more there_)
     by false has rest = behind r runs run (rest has)
 
-on_whole : (d : ℕ) (runs : List Run) (x : ℕ) (content : List ℕ) → WritesIn runs d x content → WritesIn (runs_on d runs) d x content
+pub on_whole : (d : ℕ) (runs : List Run) (x : ℕ) (content : List ℕ) → WritesIn runs d x content → WritesIn (runs_on d runs) d x content
 on_whole d runs x content brings = (brings.0, in_on d runs brings.0 brings.1 brings.2.on, brings.2)
 
-on_its : (d : ℕ) (runs : List Run) (x : ℕ) (content : List ℕ) → WritesIn (runs_on d runs) d x content → WritesIn runs d x content
+pub on_its : (d : ℕ) (runs : List Run) (x : ℕ) (content : List ℕ) → WritesIn (runs_on d runs) d x content → WritesIn runs d x content
 on_its d runs x content brings = (brings.0, of_on d runs brings.0 brings.1, brings.2)
 
 same_or : (n m : ℕ) → (n ≡ m) ⊎ (n ≢ m)
@@ -93,18 +93,18 @@ older_in : (row : Option DeviceRow) (o : Out) (runs : List Run) (writes : List W
 older_in None o runs writes l there = there
 older_in (Some k) o runs writes l there = record { is = inr (inr there.is) }
 
-older_told : (b : Bool) (row : Option DeviceRow) (o : Out) (runs : List Run) (writes : List WriteLetter) (l : WriteLetter) → Among writes l → Among (told_if b row o runs writes) l
+pub older_told : (b : Bool) (row : Option DeviceRow) (o : Out) (runs : List Run) (writes : List WriteLetter) (l : WriteLetter) → Among writes l → Among (told_if b row o runs writes) l
 older_told true row o runs writes l there = older_in row o runs writes l there
 older_told false row o runs writes l there = there
 
 -- a letter is an older one, or of this write
-record IsNewer (b : Bool) (o : Out) (runs : List Run) (l : WriteLetter) : Type 0 where
-  has : b ≡ true
-  session : l.session ≡ o.session
-  sequence : l.sequence ≡ o.sequence
-  brings : l.runs ≡ runs
+pub record IsNewer (b : Bool) (o : Out) (runs : List Run) (l : WriteLetter) : Type 0 where
+  pub has : b ≡ true
+  pub session : l.session ≡ o.session
+  pub sequence : l.sequence ≡ o.sequence
+  pub brings : l.runs ≡ runs
 
-newer_told : (b : Bool) (row : Option DeviceRow) (o : Out) (runs : List Run) (writes : List WriteLetter) (l : WriteLetter) → Among (told_if b row o runs writes) l → Among writes l ⊎ IsNewer b o runs l
+pub newer_told : (b : Bool) (row : Option DeviceRow) (o : Out) (runs : List Run) (writes : List WriteLetter) (l : WriteLetter) → Among (told_if b row o runs writes) l → Among writes l ⊎ IsNewer b o runs l
 newer_told false row o runs writes l there = inl there
 newer_told true None o runs writes l there = inl there
 newer_told true (Some k) o runs writes l there = elim there.is [

@@ -1,5 +1,6 @@
 pub mod Alike
 pub mod Chained
+pub mod Clock
 pub mod Crashing
 pub mod Dropping
 pub mod Finished

@@ -1,5 +1,5 @@
 -- The greatest reading rises: what may still come may be late then, and all fits again.
-use Rattle.std.proofs.Common.{◌≡◌, inl, inr, ℕ, ◌<◌, ◌≤◌, Bool, List, Option, Some, arith}
+use Rattle.std.proofs.Common.{◌≡◌, inl, inr, ℕ, ◌≤◌, Bool, List, Option, Some, arith}
 use Rattle.bx_disk.specs.Disks.{Disks}
 use Rattle.bx_facts.specs.Chains.{last}
 use Rattle.bx_facts.specs.Writes.{Sent, StorePast, store_room}
@@ -9,7 +9,7 @@ use Rattle.bx_mirror_laws.specs.Acting.{FromEpoch}
 use Rattle.bx_mirror_laws.specs.Sound.{AreOuts, AreWrites, Standing}
 use Rattle.bx_mirror_laws.proofs.Small.{outs_lived, writes_lived}
 use Rattle.bx_mirror_client.specs.declared.asking.Asking.{Asking}
-use Rattle.bx_mirror_cluster.specs.Fitting.{IsClaimed, IsComing, IsDeviceSound, IsSettledOn, Keeps, KnownFrom, Nowhere, Parts, StandsFor, StandsOn, WillReadOn, handings, knows_of, last_row, outs_of, rows_before, side_of}
+use Rattle.bx_mirror_cluster.specs.Fitting.{IsClaimed, IsComing, IsSettledOn, Keeps, KnownFrom, Nowhere, Parts, StandsFor, StandsOn, WillReadOn, handings, knows_of, last_row, outs_of, rows_before, side_of}
 use Rattle.bx_mirror_cluster.specs.Learning.{with_clock}
 
 writes_later : (device greatest later : ℕ) (last_ : DeviceRow) (older : List DeviceRow) (sides : Bool → Side) (writes : List WriteLetter) (wrotes : List Wrote) (actual : List Out) (outs : ℕ → Option Out) (knows : ℕ → Option DeviceRow) (live : Out → Type 0)

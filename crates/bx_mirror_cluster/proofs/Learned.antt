@@ -1,9 +1,8 @@
 -- A node learns a state: members and streams fit the past then.
-use Rattle.std.proofs.Common.{◌≡◌, ◌≢◌, ◌⊎◌, inl, inr, ⊎_elim, ℕ, ◌+◌, ◌-◌, ◌<◌, ◌≤◌, Bool, true, false, List, length, Option, Some, None, refl, sym, ◌∙◌, ap, subst, arith}
+use Rattle.std.proofs.Common.{◌≡◌, ◌≢◌, ◌⊎◌, inl, inr, ⊎_elim, ℕ, ◌-◌, ◌<◌, ◌≤◌, Bool, true, false, List, Option, Some, None, refl, sym, ◌∙◌, ap, subst, arith}
 use Rattle.std.specs.Prelude.{◌==◌, slice_get, if◌then◌else◌}
 use Rattle.std.proofs.lemmas.Bool.Decides.{nat_tests}
 use Rattle.std.proofs.lemmas.Option.{slice_get_cases}
-use Rattle.bx_base.specs.declared.names.Actor.{Actor}
 use Rattle.bx_base.specs.declared.names.Actor.TheVariants.{Node}
 use Rattle.bx_disk.specs.Disks.{Disks, sector_of}
 use Rattle.bx_facts.proofs.Machines.{elsewhere, here}
@@ -13,7 +12,7 @@ use Rattle.bx_facts.specs.Writes.{StorePast, store_room}
 use Rattle.bx_global.specs.declared.state.GlobalState.{GlobalState}
 use Rattle.bx_locking.proofs.Owned.{rows_go, session_row, was_own}
 use Rattle.bx_rows.specs.declared.device.DeviceRow.{DeviceRow}
-use Rattle.bx_mirror_laws.specs.Sides.{Among, Handing, Out, Side}
+use Rattle.bx_mirror_laws.specs.Sides.{Handing, Out, Side}
 use Rattle.bx_mirror_laws.specs.Acting.{FromEpoch, IsRow}
 use Rattle.bx_mirror_laws.specs.Sound.{AreOuts, AreWrites, IsOut, Sends}
 use Rattle.bx_mirror_laws.proofs.Nodes.{none_taken, out_learns}
@@ -338,9 +337,9 @@ module _ (parts : Parts) (x : Disks) (past : StorePast) (keeps : Keeps parts x p
       | inl e ↦ (let now : new.session ≡ Some w.session = sym (ap (λ (q : Streaming). q.session) (at_it m e)) ∙ is in
           let old = same_own w.session now (keeps.left w there) in
           let before = keeps.own_out n w there old in elim so.out [
-        | inl same ↦ ap (λ (q : Streaming). out_by q.out) (at_it m e) ∙ same.1 ∙ before
-        | inr other ↦ absurd (other.0 (now ∙ sym old))
-      ])
+            | inl same ↦ ap (λ (q : Streaming). out_by q.out) (at_it m e) ∙ same.1 ∙ before
+            | inr other ↦ absurd (other.0 (now ∙ sym old))
+          ])
       | inr e ↦ ap (λ (q : Streaming). out_by q.out) (at_other m e) ∙ keeps.own_out m w there (sym (ap (λ (q : Streaming). q.session) (at_other m e)) ∙ is)
     ];
     lasts = keeps.lasts;
@@ -357,8 +356,13 @@ module _ (parts : Parts) (x : Disks) (past : StorePast) (keeps : Keeps parts x p
           (ap (λ (q : Streaming). q.session) (at_other m e) ∙ old.0, (let same = ap (λ (q : Streaming). q.tag) (at_other m e) in let le = old.1 in omega (arith, same, le))))
     ];
     node_known = λ m t is. elim (same_or m n) [
-      | inl e ↦ (known, may.place, sym (ap (λ (k : ℕ). put_at (Node n) known.index past.told.knew (Node k)) e ∙ here (Node n) known.index past.told.knew), ap (λ (q : Streaming). q.rows) (at_it m e) ∙ so.rows,
-          own_lives known n (past.told.boots (Node n)) t (keeps.in_order known may.place) (sym own_is ∙ sym (ap (λ (q : Streaming). q.session) (at_it m e)) ∙ is))
+      | inl e ↦ (
+        known,
+        may.place,
+        sym (ap (λ (k : ℕ). put_at (Node n) known.index past.told.knew (Node k)) e ∙ here (Node n) known.index past.told.knew),
+        ap (λ (q : Streaming). q.rows) (at_it m e) ∙ so.rows,
+        own_lives known n (past.told.boots (Node n)) t (keeps.in_order known may.place) (sym own_is ∙ sym (ap (λ (q : Streaming). q.session) (at_it m e)) ∙ is),
+      )
       | inr e ↦ (let old = keeps.node_known m t (sym (ap (λ (q : Streaming). q.session) (at_other m e)) ∙ is) in (old.0, old.1, old.2 ∙ sym (knew_next m e), ap (λ (q : Streaming). q.rows) (at_other m e) ∙ old.3, old.4))
     ];
     node_of = keeps.node_of;

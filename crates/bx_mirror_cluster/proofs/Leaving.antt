@@ -1,5 +1,5 @@
 -- A session that isn't its node's any more is never its again.
-use Rattle.std.proofs.Common.{◌≡◌, inl, inr, ℕ, Bool, Some, ◌∙◌}
+use Rattle.std.proofs.Common.{◌≡◌, inl, inr, ℕ, Bool, ◌∙◌}
 use Rattle.bx_base.specs.declared.names.Actor.{Actor}
 use Rattle.bx_facts.specs.Chains.{Chain}
 use Rattle.bx_mirror_client.specs.Streams.{Streaming}

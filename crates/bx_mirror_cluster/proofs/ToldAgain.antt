@@ -1,5 +1,5 @@
 -- Members are told of a write that is out, where they are missing: members and streams fit the past with these letters.
-use Rattle.std.proofs.Common.{◌≡◌, ◌≢◌, ◌⊎◌, inl, inr, ℕ, ◌-◌, ◌<◌, ◌≤◌, Bool, true, false, Contains, List, [], ◌∷◌, ◌++◌, length, Option, Some, None, refl, sym, ◌∙◌, ap, subst, arith}
+use Rattle.std.proofs.Common.{◌≡◌, ◌⊎◌, inl, inr, ℕ, ◌-◌, ◌<◌, ◌≤◌, Bool, true, false, Contains, List, [], ◌∷◌, ◌++◌, length, Option, Some, None, refl, sym, ◌∙◌, ap, subst, arith}
 use Rattle.std.specs.Prelude.{◌==◌, slice_get, if◌then◌else◌}
 use Rattle.std.specs.List.{AllByRecursion}
 use Rattle.std.proofs.lemmas.List.Elements.{Contains-append_cases}
@@ -7,16 +7,15 @@ use Rattle.std.proofs.lemmas.Option.{slice_get_cases}
 use Rattle.bx_base.specs.declared.names.Actor.TheVariants.{Node}
 use Rattle.bx_disk.specs.Disks.{Disks, sector_of}
 use Rattle.bx_facts.proofs.Lists.{front_or_behind, nothing}
-use Rattle.bx_facts.specs.Chains.{IsPlace, last}
+use Rattle.bx_facts.specs.Chains.{last}
 use Rattle.bx_facts.specs.Writes.{StorePast, WritesIn, store_room}
-use Rattle.bx_global.specs.declared.state.GlobalState.{GlobalState}
 use Rattle.bx_post.specs.declared.packets.Letter.{Letter}
 use Rattle.bx_records.specs.declared.runs.Run.{Run}
 use Rattle.bx_rows.specs.Conditions.{Fits}
 use Rattle.bx_rows.specs.declared.device.DeviceRow.{DeviceRow}
 use Rattle.bx_mirror_laws.specs.Sides.{Among, Handing, Out, Side, WriteLetter}
 use Rattle.bx_mirror_laws.specs.Acting.{FromEpoch, IsRow}
-use Rattle.bx_mirror_laws.specs.Sound.{AreOuts, AreWrites, AreWrotes, IsOfPast, Sends, sent_of}
+use Rattle.bx_mirror_laws.specs.Sound.{AreOuts, AreWrites, AreWrotes, Sends, sent_of}
 use Rattle.bx_mirror_laws.proofs.Nodes.{outs_more, stands_send, writes_more, wrotes_more}
 use Rattle.bx_mirror_packets.specs.Parting.{runs_on}
 use Rattle.bx_mirror_client.specs.Letters.{letters_from}

@@ -1,5 +1,5 @@
 -- A write that is done ends: its letters can't be taken any more, or only by who is left out.
-use Rattle.std.proofs.Common.{◌≡◌, ◌≢◌, ◌⊎◌, inl, inr, ⊎_elim, ℕ, ◌<◌, ◌≤◌, Bool, true, false, List, [], ◌∷◌, filter, length, Option, Some, None, refl, sym, ◌∙◌, ap, subst, arith}
+use Rattle.std.proofs.Common.{◌≡◌, ◌≢◌, ◌⊎◌, inl, inr, ⊎_elim, ℕ, ◌<◌, Bool, true, false, List, [], ◌∷◌, filter, length, Option, Some, None, refl, sym, ◌∙◌, ap, subst, arith}
 use Rattle.std.specs.Prelude.{not, ◌==◌, slice_get, if◌then◌else◌}
 use Rattle.std.proofs.lemmas.Bool.Decides.{nat_tests}
 use Rattle.std.proofs.lemmas.Option.{slice_get_cases}
@@ -8,7 +8,7 @@ use Rattle.bx_facts.specs.Chains.{last}
 use Rattle.bx_facts.specs.Writes.{StorePast, WritesIn, store_room}
 use Rattle.bx_rows.specs.Modes.{IsSource}
 use Rattle.bx_rows.specs.declared.device.DeviceRow.{DeviceRow}
-use Rattle.bx_mirror_laws.specs.Sides.{Among, Handing, IsIn, Out, Side, WriteLetter, Wrote}
+use Rattle.bx_mirror_laws.specs.Sides.{Among, Handing, IsIn, Out, Side, WriteLetter}
 use Rattle.bx_mirror_laws.specs.Sound.{AreOuts, AreWrites, HasAcked, IsLate, Sends}
 use Rattle.bx_mirror_laws.proofs.Finishing.{done_writes}
 use Rattle.bx_mirror_client.specs.Sends.{has_runs, is_done}
@@ -137,9 +137,10 @@ module _ (parts : Parts) (x : Disks) (past : StorePast) (keeps : Keeps parts x p
     sends_next : (other : Out) (r : DeviceRow) → Sends (outs_of nodes_next) (knows_of parts.nodes d) live other r → Sends (outs_of parts.nodes) (knows_of parts.nodes d) live other r × (this ≢ other)
     sends_next other r sends = elim (same_or sends.node n) [
       | inl e ↦ absurd (let no : None ≡ Some other = sym (ap (λ (q : Streaming). out_by q.out) (at_it sends.node e)) ∙ sends.out in cc)
-      | inr e ↦ (let out : outs_of parts.nodes sends.node ≡ Some other = sym (ap (λ (q : Streaming). out_by q.out) (at_other sends.node e)) ∙ sends.out in
-          (record { node = sends.node; out = out; knows_it = sends.knows_it; lives = sends.lives },
-          λ same. e (its_node sends.node ((keeps.out_actual sends.node other out).1 ∙ ap (λ (w : Out). Some w.session) (sym same)))))
+      | inr e ↦ (let out : outs_of parts.nodes sends.node ≡ Some other = sym (ap (λ (q : Streaming). out_by q.out) (at_other sends.node e)) ∙ sends.out in (
+        record { node = sends.node; out = out; knows_it = sends.knows_it; lives = sends.lives },
+        λ same. e (its_node sends.node ((keeps.out_actual sends.node other out).1 ∙ ap (λ (w : Out). Some w.session) (sym same))),
+      ))
     ]
 
     abbrev Written : (ℕ → Option DeviceRow) → Type 0
@@ -308,14 +309,7 @@ module _ (parts : Parts) (x : Disks) (past : StorePast) (keeps : Keeps parts x p
     node_boots = λ m there up. kept (λ q. q.boot) refl m ∙ keeps.node_boots m there up;
   }
 
-  -- ---- what stands goes on
-
-  pub settles_ended : (d sector : ℕ) (content : List ℕ) → IsSettledOn parts x past d sector content → IsSettledOn (with_stream parts n c) x past d sector content
-  settles_ended d sector content settled = record { device = settled.device; behind_label = settled.behind_label; within = settled.within; is = settled.is }
-
-  pub stands_ended : (d sector : ℕ) (content : List ℕ) (index : ℕ) → StandsOn parts x past d sector content index → StandsOn (with_stream parts n c) x past d sector content index
-  stands_ended d sector content index stands = record { settled = settles_ended d sector content stands.settled; stands = stands.stands }
-
+  -- what is read goes on
   pub reads_ended : (m : ℕ) (a : Asking) (sector : ℕ) (content : List ℕ) → WillReadOn parts x past m a sector content → WillReadOn (with_stream parts n c) x past m a sector content
   reads_ended m a sector content will = record {
     row = will.row;
@@ -324,3 +318,11 @@ module _ (parts : Parts) (x : Disks) (past : StorePast) (keeps : Keeps parts x p
     coming = will.coming;
     came = will.came;
   }
+
+-- ---- what stands goes on
+
+pub settles_ended : (parts : Parts) (x : Disks) (past : StorePast) (n d sector : ℕ) (content : List ℕ) → IsSettledOn parts x past d sector content → IsSettledOn (with_stream parts n (record (parts.nodes n) { out = None })) x past d sector content
+settles_ended parts x past n d sector content settled = record { device = settled.device; behind_label = settled.behind_label; within = settled.within; is = settled.is }
+
+pub stands_ended : (parts : Parts) (x : Disks) (past : StorePast) (n d sector : ℕ) (content : List ℕ) (index : ℕ) → StandsOn parts x past d sector content index → StandsOn (with_stream parts n (record (parts.nodes n) { out = None })) x past d sector content index
+stands_ended parts x past n d sector content index stands = record { settled = settles_ended parts x past n d sector content stands.settled; stands = stands.stands }

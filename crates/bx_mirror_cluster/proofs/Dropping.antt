@@ -56,6 +56,9 @@ module _ (parts : Parts) (x : Disks) (past : StorePast) (keeps : Keeps parts x p
     placed = keeps.placed;
     actual_sent = λ w there. in_filter (λ v. not (v.session == session)) past.writes (sent_of w) (keeps.actual_sent w there) (differs w.session session (apart w there));
     out_actual = keeps.out_actual;
+    out_number = keeps.out_number;
+    sendable = keeps.sendable;
+    epochs = keeps.epochs;
     own_out = keeps.own_out;
     lasts = keeps.lasts;
     brings = keeps.brings;
@@ -67,6 +70,10 @@ module _ (parts : Parts) (x : Disks) (past : StorePast) (keeps : Keeps parts x p
     sessions = keeps.sessions;
     booted = keeps.booted;
     owned = keeps.owned;
+    single = keeps.single;
+    found_most = keeps.found_most;
+    in_order = keeps.in_order;
+    left = keeps.left;
     numbered = keeps.numbered;
     tagged = keeps.tagged;
     read_tagged = keeps.read_tagged;

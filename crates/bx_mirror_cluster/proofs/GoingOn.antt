@@ -14,6 +14,7 @@ use Rattle.bx_mirror_laws.proofs.Nodes.{stands_send}
 use Rattle.bx_mirror_client.specs.Streams.{Streaming}
 use Rattle.bx_mirror_client.specs.declared.asking.Asking.{Asking}
 use Rattle.bx_mirror_cluster.specs.Fitting.{IsClaimed, IsComing, IsDeviceSound, IsSettledOn, Keeps, KnownFrom, Nowhere, Parts, StandsFor, StandsOn, WillReadOn, handings, knows_of, last_row, outs_of, rows_before, side_of}
+use Rattle.bx_mirror_cluster.proofs.Leaving.{same_left}
 use Rattle.bx_mirror_cluster.specs.GoingOn.{AreReads, GoesOn, letters_more, with_nodes}
 
 module _ (parts : Parts) (x : Disks) (past : StorePast) (keeps : Keeps parts x past) (nodes_next : ℕ → Streaming) (more : List Letter) (on : GoesOn parts keeps.history nodes_next) (reads : AreReads nodes_next more) where
@@ -62,6 +63,9 @@ module _ (parts : Parts) (x : Disks) (past : StorePast) (keeps : Keeps parts x p
     placed = keeps.placed;
     actual_sent = keeps.actual_sent;
     out_actual = λ m w is. let old = keeps.out_actual m w (sym (on.out m) ∙ is) in (old.0, on.session m ∙ old.1);
+    out_number = λ m w is. let le = keeps.out_number m w (sym (on.out m) ∙ is) in let same = on.sequence m in omega (arith, le, same);
+    sendable = on.sendable;
+    epochs = keeps.epochs;
     own_out = λ m w there is. on.out m ∙ keeps.own_out m w there (sym (on.session m) ∙ is);
     lasts = keeps.lasts;
     brings = keeps.brings;
@@ -73,6 +77,10 @@ module _ (parts : Parts) (x : Disks) (past : StorePast) (keeps : Keeps parts x p
     sessions = keeps.sessions;
     booted = keeps.booted;
     owned = λ m t is. keeps.owned m t (sym (on.session m) ∙ is);
+    single = keeps.single;
+    found_most = keeps.found_most;
+    in_order = keeps.in_order;
+    left = λ w there. same_left parts.nodes nodes_next past.told.chain past.told.knew past.told.boots past.told.down (keeps.node_of w.session) (keeps.boot_of w.session) w.session (on.session (keeps.node_of w.session)) (keeps.left w there);
     numbered = λ d l there. elim (keeps.numbered d l there) [
       | inl old ↦ inl old
       | inr le ↦ inr (let same = on.sequence (keeps.node_of l.session) in omega (arith, le, same))

@@ -68,6 +68,9 @@ module _ (parts : Parts) (x : Disks) (past : StorePast) (letters : List Letter) 
     placed = keeps.placed;
     actual_sent = keeps.actual_sent;
     out_actual = keeps.out_actual;
+    out_number = keeps.out_number;
+    sendable = keeps.sendable;
+    epochs = keeps.epochs;
     own_out = keeps.own_out;
     lasts = keeps.lasts;
     brings = keeps.brings;
@@ -79,6 +82,10 @@ module _ (parts : Parts) (x : Disks) (past : StorePast) (letters : List Letter) 
     sessions = keeps.sessions;
     booted = keeps.booted;
     owned = keeps.owned;
+    single = keeps.single;
+    found_most = keeps.found_most;
+    in_order = keeps.in_order;
+    left = keeps.left;
     numbered = keeps.numbered;
     tagged = λ n d session epoch tag bytes c. keeps.tagged n d session epoch tag bytes (still_data letters past.told.letters fewer n d session epoch tag bytes c);
     read_tagged = λ n d session tag c. keeps.read_tagged n d session tag (still_reading letters past.told.letters fewer n d session tag c);

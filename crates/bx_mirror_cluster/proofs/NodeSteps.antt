@@ -29,6 +29,7 @@ use Rattle.bx_mirror_client.proofs.Leaving.{noted_more}
 use Rattle.bx_mirror_client.proofs.Telling.{both, same_number}
 use Rattle.bx_mirror_cluster.specs.Fitting.{IsReading, IsSettledOn, Keeps, Parts, StandsOn, WillReadOn, out_by}
 use Rattle.bx_mirror_cluster.specs.GoingOn.{AreReads, GoesOn, letters_more}
+use Rattle.bx_mirror_cluster.specs.Speaking.{FitsPacket}
 use Rattle.bx_mirror_cluster.specs.NodeSteps.{IsAck, MayRead, parts_acked, parts_asked, past_asked}
 use Rattle.bx_mirror_cluster.specs.Writing.{with_node, with_stream}
 use Rattle.bx_mirror_cluster.proofs.GoingOn.{goes_on, reads_on, settles_on, stands_still}
@@ -51,10 +52,10 @@ module _ (parts : Parts) (x : Disks) (past : StorePast) (keeps : Keeps parts x p
     | inr e ↦ ap f (at_other m e)
   ]
 
-  pub node_goes_on : out_by c.out ≡ out_by (parts.nodes n).out → c.rows ≡ (parts.nodes n).rows → c.session ≡ (parts.nodes n).session → c.sequence ≡ (parts.nodes n).sequence → c.boot ≡ (parts.nodes n).boot → (parts.nodes n).tag ≤ c.tag
+  pub node_goes_on : out_by c.out ≡ out_by (parts.nodes n).out → c.rows ≡ (parts.nodes n).rows → c.session ≡ (parts.nodes n).session → c.sequence ≡ (parts.nodes n).sequence → c.boot ≡ (parts.nodes n).boot → (parts.nodes n).tag ≤ c.tag → ((s : Sending) → c.out ≡ Some s → FitsPacket s)
       → ((d epoch : ℕ) (b : Bool) (s : Sending) → d < parts.made.devices → c.out ≡ Some s → HasAcked s.acks (member_at d b) epoch → Among (keeps.history.wrotes d) (record { by = b; session = s.session; epoch = epoch; sequence = s.sequence }))
       → ((a : Asking) → c.asks ≡ Some a → (c.session ≡ Some a.session) × (a.tag ≤ c.tag)) → GoesOn parts keeps.history (with_node parts.nodes n c)
-  node_goes_on out rows session sequence boot tag noted asked = record {
+  node_goes_on out rows session sequence boot tag sendable noted asked = record {
     out = λ m. kept (λ q. out_by q.out) out m;
     rows = λ m. kept (λ q. q.rows) rows m;
     session = λ m. kept (λ q. q.session) session m;
@@ -63,6 +64,10 @@ module _ (parts : Parts) (x : Disks) (past : StorePast) (keeps : Keeps parts x p
     tag = λ m. elim (same_or m n) [
       | inl e ↦ (let now = ap (λ (q : Streaming). q.tag) (at_it m e) in let before = ap (λ (k : ℕ). (parts.nodes k).tag) e in omega (arith, now, before, tag))
       | inr e ↦ (let same = ap (λ (q : Streaming). q.tag) (at_other m e) in omega (arith, same))
+    ];
+    sendable = λ m s is. elim (same_or m n) [
+      | inl e ↦ sendable s (sym (ap (λ (q : Streaming). q.out) (at_it m e)) ∙ is)
+      | inr e ↦ keeps.sendable m s (sym (ap (λ (q : Streaming). q.out) (at_other m e)) ∙ is)
     ];
     noted = λ m d epoch b s within is has. elim (same_or m n) [
       | inl e ↦ noted d epoch b s within (sym (ap (λ (q : Streaming). q.out) (at_it m e)) ∙ is) has
@@ -93,7 +98,7 @@ left_is (Some q) a e = by (is_some q.answer) e
 
 pub answer_taken : (parts : Parts) (x : Disks) (past : StorePast) (n : ℕ) → Keeps parts x past → Keeps (with_stream parts n (answered (parts.nodes n))) x past
 answer_taken parts x past n keeps =
-    let on = node_goes_on parts x past keeps n (answered (parts.nodes n)) refl refl refl refl refl (omega arith) (λ d epoch b s within is has. keeps.noted n d epoch b s within is has) (λ a is. keeps.asking n a (left_is (parts.nodes n).asks a is)) in
+    let on = node_goes_on parts x past keeps n (answered (parts.nodes n)) refl refl refl refl refl (omega arith) (λ s is. keeps.sendable n s is) (λ d epoch b s within is has. keeps.noted n d epoch b s within is has) (λ a is. keeps.asking n a (left_is (parts.nodes n).asks a is)) in
     subst (λ (p : StorePast). Keeps (with_stream parts n (answered (parts.nodes n))) x p) (same_past past)
     (goes_on parts x past keeps (with_node parts.nodes n (answered (parts.nodes n))) [] on (no_reads (with_node parts.nodes n (answered (parts.nodes n)))))
 
@@ -109,6 +114,13 @@ ack_kept member epoch s = by (is_acked s.acks member epoch)
         × (out_by (Some (if b then s else record s { acks = s.acks ++ record { member = member; epoch = epoch } ∷ [] })) ≡ out_by (Some s))
     by true = (refl, refl, refl)
     by false = (refl, refl, refl)
+
+ack_fits : (member epoch : ℕ) (s : Sending) → FitsPacket s → FitsPacket (with_ack member epoch s)
+ack_fits member epoch s fits = by (is_acked s.acks member epoch)
+  where
+    by : (b : Bool) → FitsPacket (if b then s else record s { acks = s.acks ++ record { member = member; epoch = epoch } ∷ [] })
+    by true = fits
+    by false = record { session = fits.session; sequence = fits.sequence; until = fits.until; count = fits.count; runs = fits.runs }
 
 half : (d : ℕ) (b : Bool) → member_at d b / 2 ≡ d
 half d false = omega arith
@@ -157,7 +169,7 @@ ack_noted parts x past n s member w keeps ack =
         (subst (λ (k : ℕ). Among (keeps.history.wrotes d) (record { by = b; session = k; epoch = epoch; sequence = s.sequence })) session old)
 
     on : GoesOn parts keeps.history (with_node parts.nodes n (record (parts.nodes n) { out = Some (with_ack member w.epoch s) }))
-    on = node_goes_on parts x past keeps n (record (parts.nodes n) { out = Some (with_ack member w.epoch s) }) (kept_by.2 ∙ sym (ap out_by ack.out)) refl refl refl refl (omega arith) noted (λ a is. keeps.asking n a is)
+    on = node_goes_on parts x past keeps n (record (parts.nodes n) { out = Some (with_ack member w.epoch s) }) (kept_by.2 ∙ sym (ap out_by ack.out)) refl refl refl refl (omega arith) (λ t is. let same : with_ack member w.epoch s ≡ t = cc in subst FitsPacket same (ack_fits member w.epoch s (keeps.sendable n s ack.out))) noted (λ a is. keeps.asking n a is)
 
 -- ---- a read is sent
 
@@ -214,7 +226,7 @@ module _ (parts : Parts) (x : Disks) (past : StorePast) (keeps : Keeps parts x p
       omega (arith, tag_is, now)
 
   on : GoesOn parts keeps.history (with_node parts.nodes n next)
-  on = node_goes_on parts x past keeps n next refl refl refl refl refl (omega arith) (λ d epoch b s within is has. keeps.noted n d epoch b s within is has)
+  on = node_goes_on parts x past keeps n next refl refl refl refl refl (omega arith) (λ s is. keeps.sendable n s is) (λ d epoch b s within is has. keeps.noted n d epoch b s within is has)
       (λ a is. let same : it ≡ a = cc in (may.own ∙ ap (λ (q : Asking). Some q.session) same, (let e = ap (λ (q : Asking). q.tag) same in omega (arith, e))))
 
   are_reads : AreReads (with_node parts.nodes n next) (read_letters [] (parts.nodes n).node (Some it) (parts.nodes n).rows)

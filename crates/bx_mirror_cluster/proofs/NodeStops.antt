@@ -15,7 +15,7 @@ use Rattle.bx_mirror_cluster.specs.Fitting.{IsClaimed, IsDeviceSound, IsSettledO
 use Rattle.bx_mirror_cluster.specs.Writing.{with_node, with_stream}
 
 -- with fewer writes out all letters are what they were
-writes_fewer : (device greatest : ℕ) (last_ : DeviceRow) (older : List DeviceRow) (sides : Bool → Side) (writes : List WriteLetter) (wrotes : List Wrote) (actual : List Out) (outs outs_next : ℕ → Option Out) (knows knows_next : ℕ → Option DeviceRow) (live : Out → Type 0)
+pub writes_fewer : (device greatest : ℕ) (last_ : DeviceRow) (older : List DeviceRow) (sides : Bool → Side) (writes : List WriteLetter) (wrotes : List Wrote) (actual : List Out) (outs outs_next : ℕ → Option Out) (knows knows_next : ℕ → Option DeviceRow) (live : Out → Type 0)
     → ((o : Out) (r : DeviceRow) → Sends outs_next knows_next live o r → Sends outs knows live o r)
     → AreWrites device greatest last_ older sides writes wrotes actual outs knows live → AreWrites device greatest last_ older sides writes wrotes actual outs_next knows_next live
 writes_fewer device greatest last_ older sides writes wrotes actual outs outs_next knows knows_next live before are = record {
@@ -117,6 +117,15 @@ module _ (parts : Parts) (x : Disks) (past : StorePast) (keeps : Keeps parts x p
       | inl e ↦ absurd (let no : None ≡ Some w = sym (ap (λ (q : Streaming). out_by q.out) (at_it m e)) ∙ is in cc)
       | inr e ↦ (let old = keeps.out_actual m w (sym (ap (λ (q : Streaming). out_by q.out) (at_other m e)) ∙ is) in (old.0, ap (λ (q : Streaming). q.session) (at_other m e) ∙ old.1))
     ];
+    out_number = λ m w is. elim (same_or m n) [
+      | inl e ↦ absurd (let no : None ≡ Some w = sym (ap (λ (q : Streaming). out_by q.out) (at_it m e)) ∙ is in cc)
+      | inr e ↦ (let le = keeps.out_number m w (sym (ap (λ (q : Streaming). out_by q.out) (at_other m e)) ∙ is) in let same = ap (λ (q : Streaming). q.sequence) (at_other m e) in omega (arith, le, same))
+    ];
+    sendable = λ m s is. elim (same_or m n) [
+      | inl e ↦ absurd (let no : None ≡ Some s = sym (ap (λ (q : Streaming). q.out) (at_it m e)) ∙ is in cc)
+      | inr e ↦ keeps.sendable m s (sym (ap (λ (q : Streaming). q.out) (at_other m e)) ∙ is)
+    ];
+    epochs = keeps.epochs;
     own_out = λ m w there is. let old = was_session m w.session is in ap (λ (q : Streaming). out_by q.out) (at_other m old.0) ∙ keeps.own_out m w there old.1;
     lasts = keeps.lasts;
     brings = keeps.brings;
@@ -134,6 +143,27 @@ module _ (parts : Parts) (x : Disks) (past : StorePast) (keeps : Keeps parts x p
     sessions = keeps.sessions;
     booted = keeps.booted;
     owned = λ m session is. keeps.owned m session (was_session m session is).1;
+    single = keeps.single;
+    found_most = keeps.found_most;
+    in_order = keeps.in_order;
+    left = λ w there. let was = keeps.left w there in elim (same_or (keeps.node_of w.session) n) [
+      | inl e ↦ record { boot_most = was.boot_most; case = inr (inl (let it : (n == keeps.node_of w.session) ≡ true = grind (arith, nat_tests, e) in ap (λ (b : Bool). if b then true else past.told.down (Node (keeps.node_of w.session))) it)) }
+      | inr e ↦ (let other : (n == keeps.node_of w.session) ≡ false = grind (arith, nat_tests, e) in
+          let same_down = ap (λ (b : Bool). if b then true else past.told.down (Node (keeps.node_of w.session))) other in
+          let same_session = ap (λ (q : Streaming). q.session) (at_other (keeps.node_of w.session) e) in record {
+            boot_most = was.boot_most;
+            case = elim was.case [
+              | inl older ↦ inl older
+              | inr rest ↦ inr (elim rest [
+                | inl gone ↦ inl (same_down ∙ gone)
+                | inr more ↦ inr (elim more [
+                  | inl own ↦ inl (same_session ∙ own)
+                  | inr behind ↦ inr behind
+                ])
+              ])
+            ];
+          })
+    ];
     numbered = λ d l there. elim (keeps.numbered d l there) [
       | inl old ↦ inl old
       | inr le ↦ inr (let same = (numbers (keeps.node_of l.session)).0 in omega (arith, le, same))

@@ -1,5 +1,5 @@
 -- A write that is done ends: its letters can't be taken any more, or only by who is left out.
-use Rattle.std.proofs.Common.{◌≡◌, ◌≢◌, ◌⊎◌, inl, inr, ⊎_elim, ℕ, ◌<◌, ◌≤◌, Bool, true, false, List, [], ◌∷◌, filter, length, Option, Some, None, refl, sym, ◌∙◌, ap, subst, arith}
+use Rattle.std.proofs.Common.{◌≡◌, ◌≢◌, ◌⊎◌, inl, inr, ⊎_elim, ℕ, ◌<◌, Bool, true, false, List, [], ◌∷◌, filter, length, Option, Some, None, refl, sym, ◌∙◌, ap, subst, arith}
 use Rattle.std.specs.Prelude.{not, ◌==◌, slice_get, if◌then◌else◌}
 use Rattle.std.proofs.lemmas.Bool.Decides.{nat_tests}
 use Rattle.std.proofs.lemmas.Option.{slice_get_cases}
@@ -8,7 +8,7 @@ use Rattle.bx_facts.specs.Chains.{last}
 use Rattle.bx_facts.specs.Writes.{StorePast, WritesIn, store_room}
 use Rattle.bx_rows.specs.Modes.{IsSource}
 use Rattle.bx_rows.specs.declared.device.DeviceRow.{DeviceRow}
-use Rattle.bx_mirror_laws.specs.Sides.{Among, Handing, IsIn, Out, Side, WriteLetter, Wrote}
+use Rattle.bx_mirror_laws.specs.Sides.{Among, Handing, IsIn, Out, Side, WriteLetter}
 use Rattle.bx_mirror_laws.specs.Sound.{AreOuts, AreWrites, HasAcked, IsLate, Sends}
 use Rattle.bx_mirror_laws.proofs.Finishing.{done_writes}
 use Rattle.bx_mirror_client.specs.Sends.{has_runs, is_done}
@@ -16,10 +16,11 @@ use Rattle.bx_mirror_client.specs.Streams.{Streaming}
 use Rattle.bx_mirror_client.specs.Telling.{HasRuns}
 use Rattle.bx_mirror_client.specs.declared.sending.Sending.{Sending}
 use Rattle.bx_mirror_client.proofs.Telling.{done_is, runs_there, there_runs}
-use Rattle.bx_mirror_cluster.specs.Fitting.{History, IsClaimed, IsDeviceSound, IsSettledOn, Keeps, Parts, StandsOn, WillReadOn, handings, knows_of, last_row, out_by, outs_of, rows_before, side_of}
+use Rattle.bx_mirror_cluster.specs.Fitting.{History, IsClaimed, IsDeviceSound, IsOwnOrLeft, IsSettledOn, Keeps, Parts, StandsOn, WillReadOn, handings, knows_of, last_row, out_by, outs_of, rows_before, side_of}
 use Rattle.bx_mirror_cluster.specs.Writing.{with_node, with_stream}
 use Rattle.bx_mirror_client.specs.declared.asking.Asking.{Asking}
 use Rattle.bx_mirror_cluster.proofs.Finished.{low_mode, written_source}
+use Rattle.bx_mirror_cluster.proofs.Leaving.{same_left}
 
 -- ---- those of a list that pass a test
 
@@ -136,9 +137,10 @@ module _ (parts : Parts) (x : Disks) (past : StorePast) (keeps : Keeps parts x p
     sends_next : (other : Out) (r : DeviceRow) → Sends (outs_of nodes_next) (knows_of parts.nodes d) live other r → Sends (outs_of parts.nodes) (knows_of parts.nodes d) live other r × (this ≢ other)
     sends_next other r sends = elim (same_or sends.node n) [
       | inl e ↦ absurd (let no : None ≡ Some other = sym (ap (λ (q : Streaming). out_by q.out) (at_it sends.node e)) ∙ sends.out in cc)
-      | inr e ↦ (let out : outs_of parts.nodes sends.node ≡ Some other = sym (ap (λ (q : Streaming). out_by q.out) (at_other sends.node e)) ∙ sends.out in
-          (record { node = sends.node; out = out; knows_it = sends.knows_it; lives = sends.lives },
-          λ same. e (its_node sends.node ((keeps.out_actual sends.node other out).1 ∙ ap (λ (w : Out). Some w.session) (sym same)))))
+      | inr e ↦ (let out : outs_of parts.nodes sends.node ≡ Some other = sym (ap (λ (q : Streaming). out_by q.out) (at_other sends.node e)) ∙ sends.out in (
+        record { node = sends.node; out = out; knows_it = sends.knows_it; lives = sends.lives },
+        λ same. e (its_node sends.node ((keeps.out_actual sends.node other out).1 ∙ ap (λ (w : Out). Some w.session) (sym same))),
+      ))
     ]
 
     abbrev Written : (ℕ → Option DeviceRow) → Type 0
@@ -238,6 +240,10 @@ module _ (parts : Parts) (x : Disks) (past : StorePast) (keeps : Keeps parts x p
       known = was.known;
     }
 
+  still_own : (node_of boot_of : ℕ → ℕ) (w : Out) → IsOwnOrLeft parts.nodes past.told.chain past.told.knew past.told.boots past.told.down (node_of w.session) (boot_of w.session) w.session
+      → IsOwnOrLeft nodes_next past.told.chain past.told.knew past.told.boots past.told.down (node_of w.session) (boot_of w.session) w.session
+  still_own node_of boot_of w is = same_left parts.nodes nodes_next past.told.chain past.told.knew past.told.boots past.told.down (node_of w.session) (boot_of w.session) w.session (kept (λ q. q.session) refl (node_of w.session)) is
+
   -- ---- all of it
 
   pub write_ends : Keeps (with_stream parts n c) x past
@@ -256,6 +262,15 @@ module _ (parts : Parts) (x : Disks) (past : StorePast) (keeps : Keeps parts x p
         | inr stays ↦ (stays, ap (λ (q : Streaming). q.session) (at_other m e) ∙ old.1)
       ])
     ];
+    out_number = λ m w is. elim (same_or m n) [
+      | inl e ↦ absurd (let no : None ≡ Some w = sym (ap (λ (q : Streaming). out_by q.out) (at_it m e)) ∙ is in cc)
+      | inr e ↦ (let le = keeps.out_number m w (sym (ap (λ (q : Streaming). out_by q.out) (at_other m e)) ∙ is) in let same = ap (λ (q : Streaming). q.sequence) (at_other m e) in omega (arith, le, same))
+    ];
+    sendable = λ m t is. elim (same_or m n) [
+      | inl e ↦ absurd (let no : None ≡ Some t = sym (ap (λ (q : Streaming). q.out) (at_it m e)) ∙ is in cc)
+      | inr e ↦ keeps.sendable m t (sym (ap (λ (q : Streaming). q.out) (at_other m e)) ∙ is)
+    ];
+    epochs = keeps.epochs;
     own_out = λ m w there is. let old = more w there in let before = keeps.own_out m w old.0 (sym (kept (λ q. q.session) refl m) ∙ is) in elim (same_or m n) [
       | inl e ↦ absurd (old.1 (let of_n : (parts.nodes n).session ≡ Some w.session = sym (ap (λ (k : ℕ). (parts.nodes k).session) e) ∙ sym (kept (λ q. q.session) refl m) ∙ is in
           let both : Some w.session ≡ Some s.session = sym of_n ∙ own in cc))
@@ -274,6 +289,10 @@ module _ (parts : Parts) (x : Disks) (past : StorePast) (keeps : Keeps parts x p
     sessions = keeps.sessions;
     booted = keeps.booted;
     owned = λ m t is. keeps.owned m t (sym (kept (λ q. q.session) refl m) ∙ is);
+    single = keeps.single;
+    found_most = keeps.found_most;
+    in_order = keeps.in_order;
+    left = λ w there. still_own keeps.node_of keeps.boot_of w (keeps.left w (more w there).0);
     numbered = λ d l there. elim (keeps.numbered d l there) [
       | inl old ↦ inl old
       | inr le ↦ inr (let same = kept (λ q. q.sequence) refl (keeps.node_of l.session) in omega (arith, le, same))
@@ -290,14 +309,7 @@ module _ (parts : Parts) (x : Disks) (past : StorePast) (keeps : Keeps parts x p
     node_boots = λ m there up. kept (λ q. q.boot) refl m ∙ keeps.node_boots m there up;
   }
 
-  -- ---- what stands goes on
-
-  pub settles_ended : (d sector : ℕ) (content : List ℕ) → IsSettledOn parts x past d sector content → IsSettledOn (with_stream parts n c) x past d sector content
-  settles_ended d sector content settled = record { device = settled.device; behind_label = settled.behind_label; within = settled.within; is = settled.is }
-
-  pub stands_ended : (d sector : ℕ) (content : List ℕ) (index : ℕ) → StandsOn parts x past d sector content index → StandsOn (with_stream parts n c) x past d sector content index
-  stands_ended d sector content index stands = record { settled = settles_ended d sector content stands.settled; stands = stands.stands }
-
+  -- what is read goes on
   pub reads_ended : (m : ℕ) (a : Asking) (sector : ℕ) (content : List ℕ) → WillReadOn parts x past m a sector content → WillReadOn (with_stream parts n c) x past m a sector content
   reads_ended m a sector content will = record {
     row = will.row;
@@ -306,3 +318,11 @@ module _ (parts : Parts) (x : Disks) (past : StorePast) (keeps : Keeps parts x p
     coming = will.coming;
     came = will.came;
   }
+
+-- ---- what stands goes on
+
+pub settles_ended : (parts : Parts) (x : Disks) (past : StorePast) (n d sector : ℕ) (content : List ℕ) → IsSettledOn parts x past d sector content → IsSettledOn (with_stream parts n (record (parts.nodes n) { out = None })) x past d sector content
+settles_ended parts x past n d sector content settled = record { device = settled.device; behind_label = settled.behind_label; within = settled.within; is = settled.is }
+
+pub stands_ended : (parts : Parts) (x : Disks) (past : StorePast) (n d sector : ℕ) (content : List ℕ) (index : ℕ) → StandsOn parts x past d sector content index → StandsOn (with_stream parts n (record (parts.nodes n) { out = None })) x past d sector content index
+stands_ended parts x past n d sector content index stands = record { settled = settles_ended parts x past n d sector content stands.settled; stands = stands.stands }

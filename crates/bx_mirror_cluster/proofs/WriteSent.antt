@@ -27,9 +27,10 @@ use Rattle.bx_mirror_client.specs.Streams.{Streaming, sending}
 use Rattle.bx_mirror_client.specs.declared.asking.Asking.{Asking}
 use Rattle.bx_mirror_client.specs.declared.sending.Sending.{Sending}
 use Rattle.bx_mirror_client.proofs.Telling.{runs_there, there_runs}
-use Rattle.bx_mirror_cluster.specs.Fitting.{History, IsClaimed, IsComing, IsDeviceSound, IsSettledOn, Keeps, KnownFrom, Nowhere, Parts, StandsFor, StandsOn, WillReadOn, handings, knows_of, last_row, out_by, outs_of, row_or, rows_before, side_of}
+use Rattle.bx_mirror_cluster.specs.Fitting.{History, IsClaimed, IsComing, IsDeviceSound, IsOwnOrLeft, IsSettledOn, Keeps, KnownFrom, Nowhere, Parts, StandsFor, StandsOn, WillReadOn, handings, knows_of, last_row, out_by, outs_of, row_or, rows_before, side_of}
 use Rattle.bx_mirror_cluster.specs.Speaking.{FitsPacket, letter_of}
 use Rattle.bx_mirror_cluster.specs.Writing.{MaySend, parts_sent, past_sent, with_node, with_sent, with_stream, write_by}
+use Rattle.bx_mirror_cluster.proofs.Leaving.{same_left}
 use Rattle.bx_mirror_cluster.proofs.Sent.{base_outs, base_writes, sent_outs, sent_writes, sent_wrotes, told_both}
 use Rattle.bx_mirror_cluster.proofs.Speaking.{coming_more, low_kinds}
 
@@ -64,10 +65,10 @@ of_on d (r ∷ runs) run there = by (r.device == d) there (λ more. of_on d runs
         by_front (inr there_) more = behind r runs run (more there_)
     by false has rest = behind r runs run (rest has)
 
-on_whole : (d : ℕ) (runs : List Run) (x : ℕ) (content : List ℕ) → WritesIn runs d x content → WritesIn (runs_on d runs) d x content
+pub on_whole : (d : ℕ) (runs : List Run) (x : ℕ) (content : List ℕ) → WritesIn runs d x content → WritesIn (runs_on d runs) d x content
 on_whole d runs x content brings = (brings.0, in_on d runs brings.0 brings.1 brings.2.on, brings.2)
 
-on_its : (d : ℕ) (runs : List Run) (x : ℕ) (content : List ℕ) → WritesIn (runs_on d runs) d x content → WritesIn runs d x content
+pub on_its : (d : ℕ) (runs : List Run) (x : ℕ) (content : List ℕ) → WritesIn (runs_on d runs) d x content → WritesIn runs d x content
 on_its d runs x content brings = (brings.0, of_on d runs brings.0 brings.1, brings.2)
 
 same_or : (n m : ℕ) → (n ≡ m) ⊎ (n ≢ m)
@@ -92,18 +93,18 @@ older_in : (row : Option DeviceRow) (o : Out) (runs : List Run) (writes : List W
 older_in None o runs writes l there = there
 older_in (Some k) o runs writes l there = record { is = inr (inr there.is) }
 
-older_told : (b : Bool) (row : Option DeviceRow) (o : Out) (runs : List Run) (writes : List WriteLetter) (l : WriteLetter) → Among writes l → Among (told_if b row o runs writes) l
+pub older_told : (b : Bool) (row : Option DeviceRow) (o : Out) (runs : List Run) (writes : List WriteLetter) (l : WriteLetter) → Among writes l → Among (told_if b row o runs writes) l
 older_told true row o runs writes l there = older_in row o runs writes l there
 older_told false row o runs writes l there = there
 
 -- a letter is an older one, or of this write
-record IsNewer (b : Bool) (o : Out) (runs : List Run) (l : WriteLetter) : Type 0 where
-  has : b ≡ true
-  session : l.session ≡ o.session
-  sequence : l.sequence ≡ o.sequence
-  brings : l.runs ≡ runs
+pub record IsNewer (b : Bool) (o : Out) (runs : List Run) (l : WriteLetter) : Type 0 where
+  pub has : b ≡ true
+  pub session : l.session ≡ o.session
+  pub sequence : l.sequence ≡ o.sequence
+  pub brings : l.runs ≡ runs
 
-newer_told : (b : Bool) (row : Option DeviceRow) (o : Out) (runs : List Run) (writes : List WriteLetter) (l : WriteLetter) → Among (told_if b row o runs writes) l → Among writes l ⊎ IsNewer b o runs l
+pub newer_told : (b : Bool) (row : Option DeviceRow) (o : Out) (runs : List Run) (writes : List WriteLetter) (l : WriteLetter) → Among (told_if b row o runs writes) l → Among writes l ⊎ IsNewer b o runs l
 newer_told false row o runs writes l there = inl there
 newer_told true None o runs writes l there = inl there
 newer_told true (Some k) o runs writes l there = elim there.is [
@@ -348,6 +349,16 @@ module _ (parts : Parts) (x : Disks) (past : StorePast) (keeps : Keeps parts x p
           (record { is = inl same }, kept (λ q. q.session) refl m ∙ ap (λ (k : ℕ). (parts.nodes k).session) e ∙ own ∙ ap (λ (v : Out). Some v.session) (sym same)))
       | inr e ↦ (let old = keeps.out_actual m w (sym (ap (λ (q : Streaming). out_by q.out) (at_other m e)) ∙ is) in (record { is = inr old.0.is }, kept (λ q. q.session) refl m ∙ old.1))
     ];
+    out_number = λ m w is. elim (same_or m n) [
+      | inl e ↦ (let both : Some w ≡ Some o = sym is ∙ ap (λ (k : ℕ). outs_of nodes_next k) e ∙ out_now in let same : w ≡ o = cc in
+          let number = ap (λ (v : Out). v.sequence) same in let now = ap (λ (q : Streaming). q.sequence) (at_it m e) in omega (arith, number, now))
+      | inr e ↦ (let le = keeps.out_number m w (sym (ap (λ (q : Streaming). out_by q.out) (at_other m e)) ∙ is) in let same = ap (λ (q : Streaming). q.sequence) (at_other m e) in omega (arith, le, same))
+    ];
+    sendable = λ m t is. elim (same_or m n) [
+      | inl e ↦ (let both : Some s ≡ Some t = sym (ap (λ (q : Streaming). q.out) (at_it m e)) ∙ is in let same : s ≡ t = cc in subst FitsPacket same fits)
+      | inr e ↦ keeps.sendable m t (sym (ap (λ (q : Streaming). q.out) (at_other m e)) ∙ is)
+    ];
+    epochs = keeps.epochs;
     own_out = λ m w there is. elim there.is [
       | inl new ↦ (let it : (parts.nodes m).session ≡ Some session = sym (kept (λ q. q.session) refl m) ∙ is ∙ ap (λ (v : Out). Some v.session) new in
           ap (λ (k : ℕ). outs_of nodes_next k) (its_node m it) ∙ out_now ∙ ap Some (sym new))
@@ -373,6 +384,17 @@ module _ (parts : Parts) (x : Disks) (past : StorePast) (keeps : Keeps parts x p
     sessions = keeps.sessions;
     booted = keeps.booted;
     owned = λ m t is. keeps.owned m t (sym (kept (λ q. q.session) refl m) ∙ is);
+    single = keeps.single;
+    found_most = keeps.found_most;
+    in_order = keeps.in_order;
+    left = λ w there. elim there.is [
+      | inl new ↦ subst (λ (v : Out). IsOwnOrLeft nodes_next past.told.chain past.told.knew past.told.boots past.told.down (keeps.node_of v.session) (keeps.boot_of v.session) v.session) (sym new)
+          (let of = keeps.owned n session own in let at = ap (λ (k : ℕ). past.told.boots (Node k)) of.0 in let boot = of.1 in record {
+            boot_most = omega (arith, at, boot);
+            case = inr (inr (inl (kept (λ q. q.session) refl (keeps.node_of session) ∙ ap (λ (k : ℕ). (parts.nodes k).session) of.0 ∙ own)));
+          })
+      | inr old ↦ same_left parts.nodes nodes_next past.told.chain past.told.knew past.told.boots past.told.down (keeps.node_of w.session) (keeps.boot_of w.session) w.session (kept (λ q. q.session) refl (keeps.node_of w.session)) (keeps.left w (record { is = old }))
+    ];
     numbered = λ d l there. numbered d l (newer_told (has_runs d runs.1) (slice_get c.rows d) o (runs_on d runs.1) (h.writes d) l there);
     tagged = λ m d t epoch tag bytes data_. elim (keeps.tagged m d t epoch tag bytes (record { letter = data_.letter; there = was_there data_.letter data_.there (let e = data_.spells.kind_is in omega (arith, e)); data_ = data_.data_; spells = data_.spells; to = data_.to; device = data_.device; session_is = data_.session_is; epoch_is = data_.epoch_is; tag_is = data_.tag_is; bytes_are = data_.bytes_are })) [
       | inl old ↦ inl old

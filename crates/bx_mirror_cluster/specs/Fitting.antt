@@ -1,6 +1,7 @@
 -- How mirrored devices fit what was done with them.
-use Rattle.std.specs.Prelude.{◌*◌, ◌≡◌, ℕ, ◌+◌, ◌-◌, ◌<◌, ◌≤◌, ◌==◌, ◌⊎◌, not, Bool, true, false, List, [], ◌∷◌, length, Contains, Option, Some, None, slice_get, if◌then◌else◌}
+use Rattle.std.specs.Prelude.{◌*◌, ◌≡◌, ◌≢◌, ℕ, ◌+◌, ◌-◌, ◌<◌, ◌≤◌, ◌==◌, ◌⊎◌, not, Bool, true, false, List, [], ◌∷◌, length, Contains, Option, Some, None, slice_get, if◌then◌else◌}
 use Rattle.std.specs.List.{AllByRecursion}
+use Rattle.bx_base.specs.declared.names.Actor.{Actor}
 use Rattle.bx_base.specs.declared.names.Actor.TheVariants.{Member, Node}
 use Rattle.bx_disk.specs.Disks.{Disks, sector_of}
 use Rattle.bx_facts.specs.Chains.{Chain, IsPlace, LivesIn, last, session_of, state_after}
@@ -10,8 +11,11 @@ use Rattle.bx_facts.specs.Writes.{Made, StorePast, WritesIn, label_on, member_di
 use Rattle.bx_global.specs.declared.change.Change.{Change}
 use Rattle.bx_global.specs.declared.change.Change.TheVariants.{Renew, Take, Open, Expire, Claim, Close, Shift}
 use Rattle.bx_global.specs.declared.state.GlobalState.{GlobalState}
+use Rattle.bx_global.specs.Allowed.{AreRising}
+use Rattle.bx_locking.specs.Owned.{AreSingle}
 use Rattle.bx_layout.specs.Labels.{SpellsLabel}
 use Rattle.bx_post.specs.declared.packets.Letter.{Letter}
+use Rattle.bx_rows.specs.Conditions.{Fits}
 use Rattle.bx_rows.specs.declared.device.DeviceRow.{DeviceRow}
 use Rattle.bx_mirror_packets.specs.DeviceMessages.{Spells}
 use Rattle.bx_mirror_packets.specs.declared.message.WriteBody.{WriteBody}
@@ -32,6 +36,7 @@ use Rattle.bx_mirror_client.specs.Streams.{Streaming}
 use Rattle.bx_mirror_client.specs.Telling.{HasAcked}
 use Rattle.bx_mirror_client.specs.declared.asking.Asking.{Asking}
 use Rattle.bx_mirror_client.specs.declared.sending.Sending.{Sending}
+use Rattle.bx_mirror_cluster.specs.Speaking.{FitsPacket}
 
 -- ---- the rows of a device along a chain, and what was handed back of it
 
@@ -248,6 +253,19 @@ pub record IsDeviceSound (parts : Parts) (x : Disks) (past : StorePast) (h : His
   -- what a member knows stands in the state that it was handed last
   pub known : (b : Bool) (r : DeviceRow) → (parts.members (member_at d b)).row ≡ Some r → (s : GlobalState) × IsPlace past.told.chain s × (s.index ≡ past.told.knew (Member (member_at d b))) × (slice_get s.devices d ≡ Some r)
 
+-- A state that a node knew, or an older one, has another session in the place of this one, whose number was given out before.
+pub record IsBehind (chain : Chain) (knew node boot session : ℕ) : Type 0 where
+  pub state : GlobalState
+  pub place : IsPlace chain state
+  pub index : state.index ≤ knew
+  pub given : session < state.next_session
+  pub other : session_of state node boot ≢ Some session
+
+-- A session is the one that its node has, or is never its again: it is of an earlier boot, or the node is down, or knew a state with another one.
+pub record IsOwnOrLeft (nodes : ℕ → Streaming) (chain : Chain) (knew boots : Actor → ℕ) (down : Actor → Bool) (node boot session : ℕ) : Type 0 where
+  pub boot_most : boot ≤ boots (Node node)
+  pub case : (boot < boots (Node node)) ⊎ ((down (Node node) ≡ true) ⊎ (((nodes node).session ≡ Some session) ⊎ IsBehind chain (knew (Node node)) node boot session))
+
 pub record Keeps (parts : Parts) (x : Disks) (past : StorePast) : Type 0 where
   pub history : History
   pub devices : (d : ℕ) → d < parts.made.devices → IsDeviceSound parts x past history d
@@ -257,6 +275,10 @@ pub record Keeps (parts : Parts) (x : Disks) (past : StorePast) : Type 0 where
   pub placed : (s : GlobalState) → IsPlace past.told.chain s → (d : ℕ) → IsRow (last_row past.told.chain d) (rows_before past.told.chain d) (row_of s d)
   pub actual_sent : (w : Out) → Among history.actual w → Contains past.writes (sent_of w)
   pub out_actual : (n : ℕ) (w : Out) → outs_of parts.nodes n ≡ Some w → Among history.actual w × ((parts.nodes n).session ≡ Some w.session)
+  pub out_number : (n : ℕ) (w : Out) → outs_of parts.nodes n ≡ Some w → w.sequence ≤ (parts.nodes n).sequence
+  -- the numbers of what is out, and of all rows, fit a packet
+  pub sendable : (n : ℕ) (s : Sending) → (parts.nodes n).out ≡ Some s → FitsPacket s
+  pub epochs : (s : GlobalState) → IsPlace past.told.chain s → (d : ℕ) (row : DeviceRow) → slice_get s.devices d ≡ Some row → Fits row.epoch
   pub own_out : (n : ℕ) (w : Out) → Among history.actual w → (parts.nodes n).session ≡ Some w.session → outs_of parts.nodes n ≡ Some w
   -- the last sequence that a member knows of a session is that of a letter
   pub lasts : (d : ℕ) (b : Bool) (session : ℕ) → (last_in (parts.members (member_at d b)).lasts session ≡ 0)
@@ -274,6 +296,11 @@ pub record Keeps (parts : Parts) (x : Disks) (past : StorePast) : Type 0 where
   pub sessions : AreSessions node_of past.told.chain.first past.told.chain.changes
   pub booted : (s : GlobalState) → IsPlace past.told.chain s → AllByRecursion (λ row. row.boot ≡ boot_of row.number) s.sessions
   pub owned : (n session : ℕ) → (parts.nodes n).session ≡ Some session → (node_of session ≡ n) × (boot_of session ≡ past.told.boots (Node n)) × (session < (last past.told.chain).next_session)
+  -- of this life at most one session of a node and boot lives
+  pub single : (s : GlobalState) → IsPlace past.told.chain s → AreSingle past.told.chain.found s
+  pub found_most : past.told.chain.found ≤ past.told.chain.first.next_session
+  pub in_order : (s : GlobalState) → IsPlace past.told.chain s → AreRising s.sessions s.next_session
+  pub left : (w : Out) → Among history.actual w → IsOwnOrLeft parts.nodes past.told.chain past.told.knew past.told.boots past.told.down (node_of w.session) (boot_of w.session) w.session
   pub numbered : (d : ℕ) (l : WriteLetter) → Among (history.writes d) l → (boot_of l.session < past.told.boots (Node (node_of l.session))) ⊎ (l.sequence ≤ (parts.nodes (node_of l.session)).sequence)
   pub tagged : (n d session epoch tag : ℕ) (bytes : List ℕ) → IsData past.told.letters n d session epoch tag bytes → (boot_of session < past.told.boots (Node n)) ⊎ (tag ≤ (parts.nodes n).tag)
   pub read_tagged : (n d session tag : ℕ) → IsReading past.told.letters n d session tag → (boot_of session < past.told.boots (Node n)) ⊎ (tag ≤ (parts.nodes n).tag)

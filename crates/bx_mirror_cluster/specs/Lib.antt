@@ -1,5 +1,6 @@
 pub mod Fitting
 pub mod GoingOn
+pub mod Learning
 pub mod NodeSteps
 pub mod Speaking
 pub mod Writing

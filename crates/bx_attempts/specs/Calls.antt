@@ -5,12 +5,6 @@ use Rattle.bx_model.specs.declared.call.Args.TheVariants.{Link, Make, Name, Rena
 use Rattle.bx_model.specs.declared.call.Call.{Call}
 use Rattle.bx_nfs.specs.Asked.{IsNfs}
 
--- the call is a WRITE of these bytes from an offset on, into the file that a file handle names
-pub record IsWriteOf (call : Call) (handle : List ℕ) (offset : ℕ) (written : List ℕ) : Type 0 where
-  pub begin : ℕ
-  pub total : ℕ
-  pub args : call.args ≡ Write handle begin offset total written
-
 -- By their arguments: SETATTR (2), WRITE (8), CREATE (9), REMOVE (10), RENAME (11), LINK (12), SYMLINK (13), MKDIR (14) and RMDIR (15). A name that is made has at
 -- most 255 bytes, a path 1024, and what is written 8192, as those of all calls that are read have.
 abbrev pub HasChangeArgs : Call → Args → Type 0

@@ -143,17 +143,20 @@ fn act<V: View>(
         }
         Args::Name(at, name) => {
             let (at, name) = (at.bytes(), name.bytes());
-            let sort = if call.procedure == REMOVE {
-                Removable::Plain
+            if call.procedure == REMOVE {
+                let sort = Removable::Plain;
+                stopping(remove(alloc, volume, areas, call, at, name, sort, now, view))
             } else {
-                Removable::Directory
-            };
-            stopping(remove(alloc, volume, areas, call, at, name, sort, now, view))
+                let sort = Removable::Directory;
+                stopping(remove(alloc, volume, areas, call, at, name, sort, now, view))
+            }
         }
         Args::Rename(from, name, to, new_name) => {
             let (from, name) = (from.bytes(), name.bytes());
             let (to, new_name) = (to.bytes(), new_name.bytes());
-            with_no_file(rename(alloc, volume, areas, call, from, name, to, new_name, now, view))
+            with_no_file(rename(
+                alloc, volume, areas, call, from, name, to, new_name, now, view,
+            ))
         }
         Args::Link(from, at, name) => {
             let (from, at, name) = (from.bytes(), at.bytes(), name.bytes());

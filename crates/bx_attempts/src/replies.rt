@@ -52,11 +52,7 @@ pub fn answered_with(
 }
 
 /// What an attempt of a call that only reads answers: its reply, or what stopped it.
-pub fn replied(
-    alloc: Global,
-    xid: u32,
-    reply: Result<Reply, Stop>,
-) -> Result<Attempt, OutOfMemory>
+pub fn replied(alloc: Global, xid: u32, reply: Result<Reply, Stop>) -> Result<Attempt, OutOfMemory>
     ensures { IfOk result (IsReplied xid reply) }
 {
     match reply {

@@ -89,19 +89,46 @@ impl BoxFs {
             }
             Args::Handle(at) => self.about_file(alloc, xid, call, at.bytes(), view),
             Args::Read(at, offset, count, _) => {
-                let (volume, areas, at) = (self.volume, self.areas, at.bytes());
-                let reply = read(alloc, volume, areas, call, at, *offset, *count, view);
-                replied(alloc, xid, reply)
+                let (volume, areas) = (self.volume, self.areas);
+                replied(
+                    alloc,
+                    xid,
+                    read(
+                        alloc,
+                        volume,
+                        areas,
+                        call,
+                        at.bytes(),
+                        *offset,
+                        *count,
+                        view,
+                    ),
+                )
             }
             Args::Name(at, name) => {
-                let (volume, areas, at) = (self.volume, self.areas, at.bytes());
-                let reply = lookup(alloc, volume, areas, call, at, name.bytes(), view);
-                replied(alloc, xid, reply)
+                let (volume, areas) = (self.volume, self.areas);
+                replied(
+                    alloc,
+                    xid,
+                    lookup(alloc, volume, areas, call, at.bytes(), name.bytes(), view),
+                )
             }
             Args::List(at, cookie, count) => {
-                let (volume, areas, at) = (self.volume, self.areas, at.bytes());
-                let reply = readdir(alloc, volume, areas, call, at, *cookie, *count, view);
-                replied(alloc, xid, reply)
+                let (volume, areas) = (self.volume, self.areas);
+                replied(
+                    alloc,
+                    xid,
+                    readdir(
+                        alloc,
+                        volume,
+                        areas,
+                        call,
+                        at.bytes(),
+                        *cookie,
+                        *count,
+                        view,
+                    ),
+                )
             }
             _ => unreachable!(),
         }
@@ -127,13 +154,19 @@ impl BoxFs {
         ensures enough { call.now.procedure ≢ 17 → IfOk result TellsEnough }
     {
         if call.procedure == READLINK {
-            let reply = readlink(alloc, self.volume, self.areas, at, view);
-            replied(alloc, xid, reply)
+            replied(
+                alloc,
+                xid,
+                readlink(alloc, self.volume, self.areas, at, view),
+            )
         } else if call.procedure == STATFS {
             self.statfs(alloc, xid, at, view)
         } else {
-            let reply = getattr(alloc, self.volume, self.areas, at, view);
-            replied(alloc, xid, reply)
+            replied(
+                alloc,
+                xid,
+                getattr(alloc, self.volume, self.areas, at, view),
+            )
         }
     }
 

@@ -15,7 +15,7 @@ returns-then-is_change-clause-fair g c =
     let held = g.V.View.held c.args.view.now in
     let hints = g.V.View.hints c.args.view.now in
     let call = c.args.call.now in
-    IfOk-weaker c.change.result _ _ (fair_along (ChangePathOf held hints fs.volume fs.areas call.procedure call.args) (PathOf held hints fs.volume fs.areas call.procedure call.args) (λ at mode on. inr on) fs.areas held) (IfOk-weaker c.change.result _ _ (λ attempt is. is.fair) c.change.ensures)
+    IfOk-weaker c.change.result _ _ (λ attempt is. fair_along (ChangePathOf held hints fs.volume fs.areas call.procedure call.args) (PathOf held hints fs.volume fs.areas call.procedure call.args) (λ at mode on. inr on) fs.areas held attempt is.fair) c.change.ensures
 
 pub returns-else-is_change-clause-fair : goal.returns-else-is_change-clause-fair
 returns-else-is_change-clause-fair g c =
@@ -41,7 +41,7 @@ returns-else-is_change-clause-ready g c = λ truth tree same s.
 pub returns-then-is_change-clause-full : goal.returns-then-is_change-clause-full
 returns-then-is_change-clause-full g c = λ none.
     let fs = c.args.self.now in
-    IfOk-weaker c.change.result _ _ (change_lacks (g.V.View.held c.args.view.now) (g.V.View.hints c.args.view.now) fs.volume fs.areas c.args.call.now (c.is_change.ensures.0 c.if-is_change.true)) (IfOk-weaker c.change.result _ _ (λ attempt is. is.full) c.change.ensures)
+    IfOk-weaker c.change.result _ _ (λ attempt is. change_lacks (g.V.View.held c.args.view.now) (g.V.View.hints c.args.view.now) fs.volume fs.areas c.args.call.now (c.is_change.ensures.0 c.if-is_change.true) attempt is.full) c.change.ensures
 
 pub returns-else-is_change-clause-full : goal.returns-else-is_change-clause-full
 returns-else-is_change-clause-full g c = λ none.

@@ -1,7 +1,7 @@
 //! CREATE.
 
 ghost use Rattle.std.specs.Prelude.{◌≡◌, ◌≤◌, ◌⊎◌, [], length, Err, IfErr, IfOk};
-ghost use Rattle.bx_changes.specs.Procedures.{ComesFirst, Exclusive, Hints, HintsFitAll, HoldsFirst, IfFull, IsHeldDraft, IsMaking, KeepsHints, LiveAt, NeedsBy, NoSlots, OnVolume, Tree, Truth, entry_named, names_of, parts_of, reads_with, with_draft};
+ghost use Rattle.bx_changes.specs.Procedures.{ComesFirst, Exclusive, Hints, HintsFitAll, HoldsFirst, IfFull, IsHeldDraft, IsMaking, LiveAt, NeedsBy, NoSlots, OnVolume, Tree, Truth, entry_named, names_of, parts_of, reads_with, with_draft};
 ghost use Rattle.bx_creating.specs.Placing.{IsFirstNear};
 ghost use Rattle.bx_model.specs.Making.{create as create_of, create_at};
 ghost use Rattle.bx_create.specs.Creating.{IsNoneOrNear, OnCreate, OnNamed};
@@ -43,7 +43,8 @@ pub fn create<V: View>(
     requires areas { areas ≤ 64 }
     requires name { length name.now ≤ 255 }
     ensures step { OnVolume volume areas (V.held view.now) (V.hints view.now) (λ truth tree. IsMaking volume areas truth tree (create_of tree call.now at.now name.now sattr.now now) result) }
-    ensures hints { KeepsHints volume areas (V.held view.now) (V.hints view.now) result }
+    ensures hints { (other : Hints) → OnVolume volume areas (V.held view.now) (V.hints view.now)
+        (λ truth tree. HintsFitAll areas other truth → IfOk result (λ made. HintsFitAll areas other (with_draft truth made.0))) }
     ensures lacks { OnVolume volume areas (V.held view.now) (V.hints view.now)
         (λ truth tree. IfErr result (ComesFirst (λ status. create_of tree call.now at.now name.now sattr.now now 8 ≡ Err status) (PreparesCreate volume areas (V.held view.now) (V.hints view.now) truth tree at.now name.now sattr.now.size))) }
     ensures ready { OnVolume volume areas (V.held view.now) (V.hints view.now) (λ truth tree. IfOk result (λ made. ReadyToCreate volume areas truth tree at.now name.now sattr.now.size)) }

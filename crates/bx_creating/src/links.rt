@@ -2,7 +2,7 @@
 
 ghost use Rattle.std.specs.Prelude.{◌≡◌, ◌≤◌, length, Err, IfErr, IfOk};
 ghost use Rattle.bx_adding.specs.Lacking.{MakesPlace, NoSlotsNear, ReadyToEnter};
-ghost use Rattle.bx_changes.specs.Procedures.{ComesFirst, HoldsFirst, IfFull, IsHeldDraft, IsMaking, KeepsHints, NeedsBy, OnVolume};
+ghost use Rattle.bx_changes.specs.Procedures.{ComesFirst, Hints, HintsFitAll, HoldsFirst, IfFull, IsHeldDraft, IsMaking, NeedsBy, OnVolume, with_draft};
 ghost use Rattle.bx_model.specs.Making.{symlink as symlink_of};
 ghost use Rattle.bx_creating.specs.Making.{OnMaking};
 ghost use Rattle.bx_creating.specs.Placing.{IsMadeNear};
@@ -39,7 +39,8 @@ pub fn symlink<V: View>(
     requires path { length path.now ≤ 1024 }
     ensures step { OnVolume volume areas (V.held view.now) (V.hints view.now)
         (λ truth tree. IsMaking volume areas truth tree (symlink_of tree call.now at.now name.now path.now sattr.now now) result) }
-    ensures hints { KeepsHints volume areas (V.held view.now) (V.hints view.now) result }
+    ensures hints { (other : Hints) → OnVolume volume areas (V.held view.now) (V.hints view.now)
+        (λ truth tree. HintsFitAll areas other truth → IfOk result (λ made. HintsFitAll areas other (with_draft truth made.0))) }
     ensures lacks { OnVolume volume areas (V.held view.now) (V.hints view.now)
         (λ truth tree. IfErr result (ComesFirst (λ status. symlink_of tree call.now at.now name.now path.now sattr.now now 8 ≡ Err status) (MakesPlace volume areas (V.held view.now) (V.hints view.now) truth at.now name.now))) }
     ensures ready { OnVolume volume areas (V.held view.now) (V.hints view.now) (λ truth tree. IfOk result (λ made. ReadyToEnter volume areas truth at.now name.now)) }

@@ -1,4 +1,4 @@
-use Rattle.std.proofs.Common.{List, Err, Ok, subst, sym, inl, inr}
+use Rattle.std.proofs.Common.{List, Err, Ok, subst, sym, inr}
 use Rattle.bx_making.specs.Made.{MakesFile, MakesIn}
 use Rattle.bx_making.specs.Links.{LinksAt}
 use Rattle.bx_ready.proofs.Split.{none_held}

@@ -1,7 +1,6 @@
--- What CREATE finds: the directory in which it looks for its name, and the file that has it, which it tells of.
-use Rattle.std.proofs.Common.{◌≡◌, ℕ, Bool, true, false, List, Option, Some, None, refl, sym, ap, ◌∙◌}
-use Rattle.std.specs.Prelude.{◌≢◌, ◌&&◌, not, nat_lt, if◌then◌else◌, Result, Ok, Err}
-use Rattle.bx_inodes.specs.Heads.{head_of}
+-- What CREATE finds: the file that has its name, which it tells of.
+use Rattle.std.proofs.Common.{◌≡◌, ℕ, Bool, false, Option, refl, sym, ap, ◌∙◌}
+use Rattle.std.specs.Prelude.{◌≢◌, ◌&&◌, not, nat_lt, if◌then◌else◌, Ok, Err}
 use Rattle.bx_inodes.specs.Inodes.{FileAt, IsInodeOf}
 use Rattle.bx_inodes.specs.declared.stop.Stop.{Stop}
 use Rattle.bx_inodes.specs.declared.stop.Stop.TheVariants.{Need, Inner, Status, OutOfMemory}
@@ -20,7 +19,6 @@ use Rattle.bx_model.specs.Steps.Step.{Gives}
 use Rattle.bx_tree_files.specs.declared.file.File.{File}
 use Rattle.bx_tree_files.specs.declared.sattr.Sattr.{Sattr}
 use Rattle.bx_tree_files.specs.Changes.{most_bytes, with_size}
-use Rattle.bx_tree_files.specs.Entries.{is_bad}
 use Rattle.bx_tree_files.specs.Files.{file_at, is_directory, is_link, is_regular}
 use Rattle.bx_tree_files.specs.Times.{Time, is_given}
 use Rattle.bx_truth.specs.Stored.{HasFields}

@@ -40,7 +40,7 @@ use Rattle.bx_truth.proofs.Put.{shown}
 use Rattle.bx_truth.proofs.Same.{chunk_is}
 use Rattle.bx_views.specs.Truths.{Held, Hints, Truth, with_draft}
 use Rattle.bx_adding.specs.Entering.{Enters, EntersIn, MayEnter, entered_inode}
-use Rattle.bx_adding.specs.Stopping.{StopsChange}
+use Rattle.bx_changes.specs.Stopping.{StopsChange}
 use Rattle.bx_adding.proofs.Asked.{add_block}
 use Rattle.bx_adding.proofs.Room.{never_full}
 

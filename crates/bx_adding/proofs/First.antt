@@ -27,7 +27,7 @@ use Rattle.bx_hints.proofs.Pages.{has_pages}
 use Rattle.bx_views.specs.Truths.{Held, Hints, Truth}
 use Rattle.bx_adding.specs.Finding.{IsReadyFor, ReadyIn, RoomIn}
 use Rattle.bx_adding.specs.Lacking.{FindsBoth}
-use Rattle.bx_adding.specs.Stopping.{StopsChange}
+use Rattle.bx_changes.specs.Stopping.{StopsChange}
 use Rattle.bx_adding.proofs.Asked.{ready_block}
 use Rattle.bx_adding.proofs.Spaces.{space_of}
 

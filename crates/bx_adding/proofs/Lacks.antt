@@ -17,7 +17,7 @@ use Rattle.bx_truth.proofs.OneFiles.{one_inode}
 use Rattle.bx_views.specs.Truths.{Held, Truth}
 use Rattle.bx_adding.specs.Finding.{RoomIn}
 use Rattle.bx_adding.specs.Lacking.{FindsBoth, IfFirst, ReadyToEnter}
-use Rattle.bx_adding.specs.Stopping.{NeverFirst, StopsChange}
+use Rattle.bx_changes.specs.Stopping.{NeverFirst, StopsChange}
 
 -- a call on a tree that isn't answered has nothing written first
 pub not_first : (areas : ℕ) (Holds : List Changed → Type 0) (error : BlinkError) (stop : ChangeError) → StopsChange areas error stop → IfFirst Holds stop

@@ -18,7 +18,7 @@ use Rattle.bx_records.specs.Drafts.{Changed}
 use Rattle.bx_tree_files.specs.declared.file.Name.{Name}
 use Rattle.bx_truth.specs.Chunks.{block_at}
 use Rattle.bx_views.specs.Truths.{Held, Hints}
-use Rattle.bx_adding.specs.Stopping.{NeverFirst, StopsChange}
+use Rattle.bx_changes.specs.Stopping.{NeverFirst, StopsChange}
 
 pub needs_stop : (X : Type 0) (areas : ℕ) (held : Held) (Path : ℕ → Mode → Type 0) (error : BlinkError) (stop : ChangeError) → NeedsUnheld {X = X} held Path (Err error) → StopsChange areas error stop → NeedsBy areas held Path stop
 needs_stop X areas held Path (tree_error.Need at mode) stop n (inl s) = subst (NeedsBy areas held Path) (sym s.1) (s.0, n.0, n.1)

@@ -1,4 +1,3 @@
-pub mod Stopping
 pub mod Rooms
 pub mod Entering
 pub mod Finding

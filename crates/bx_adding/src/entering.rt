@@ -1,19 +1,10 @@
 //! Entries that are put into directories.
 
-ghost use Rattle.std.specs.Prelude.{◌≡◌, ◌+◌, ◌≤◌, ℕ, length, IfErr, IfOk, IfSome, IfNone, IsSome};
-ghost use Rattle.bx_base.specs.declared.names.Mode.TheVariants.{Exclusive};
+ghost use Rattle.std.specs.Prelude.{◌≡◌, ◌+◌, ◌≤◌, length, IfErr, IfOk, IfSome, IfNone, IsSome};
+ghost use Rattle.bx_changes.specs.Procedures.{Exclusive, File, HoldsFirst, IfFull, IsHeldDraft, IsInode, NeedsBy, NeverFirst, Tree, Truth, block_at};
 ghost use Rattle.bx_dirs.specs.Changes.{OnAddPath, entry_of};
-ghost use Rattle.bx_changes.specs.Growing.{HoldsFirst, IfFull, NeedsBy};
-ghost use Rattle.bx_layout.specs.Inodes.{IsInode};
-ghost use Rattle.bx_model.specs.declared.tree.Tree.{Tree};
-ghost use Rattle.bx_tree_files.specs.declared.file.File.{File};
-ghost use Rattle.bx_truth.specs.Chunks.{block_at};
-ghost use Rattle.bx_views.specs.Attempts.{IsHeldDraft};
-ghost use Rattle.bx_views.specs.Truths.{Truth};
 ghost use Rattle.bx_adding.specs.Entering.{EntersIn, HasNumbers, MayEnter, PutsInAt, entered_inode};
-ghost use Rattle.bx_adding.specs.Stopping.{NeverFirst};
 
-use crate::stops::change_error;
 use bx_changes::ChangeError;
 use bx_dirs::add;
 use bx_entries::Known;
@@ -61,7 +52,7 @@ pub fn enter<V: View>(
     };
     let mut draft = draft;
     match add(alloc, &mut draft, view, root, number, name, made) {
-        Err(error) => return Err(change_error(areas, error)),
+        Err(error) => return Err(ChangeError::of_tree(areas, error)),
         Ok(()) => {}
     }
     match put_inode(alloc, &mut draft, handle, &changed) {

@@ -4,7 +4,6 @@
 mod entering;
 mod keys;
 mod rooms;
-mod stops;
 
 pub use entering::enter;
 pub use rooms::room_for;

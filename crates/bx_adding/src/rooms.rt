@@ -1,21 +1,16 @@
 //! Room for entries in directories.
 
-ghost use Rattle.std.specs.Prelude.{◌≡◌, ℕ, List, [], IfErr, IfOk};
-ghost use Rattle.bx_changes.specs.Growing.{HoldsFirst, IfFull, NeedsBy};
-ghost use Rattle.bx_chunks.specs.Taking.{NoSlots, TakesSlots};
+ghost use Rattle.std.specs.Prelude.{◌≡◌, ℕ, [], IfErr, IfOk};
+ghost use Rattle.bx_changes.specs.Procedures.{HoldsFirst, IfFull, NeedsBy, NoSlots, TakesSlots, Tree, Truth, parts_of};
 ghost use Rattle.bx_entries.specs.Finding.{IsDirectoryOf};
-ghost use Rattle.bx_handles.specs.Handles.{parts_of};
 ghost use Rattle.bx_layout.specs.declared.inode.Inode.{Inode as Kept};
-ghost use Rattle.bx_model.specs.declared.tree.Tree.{Tree};
 ghost use Rattle.bx_ready.specs.Lacking.{MakesRoom};
 ghost use Rattle.bx_ready.specs.Ready.{OnReadyPath};
 ghost use Rattle.bx_truth.specs.Keys.{entry_key, name_key};
-ghost use Rattle.bx_views.specs.Truths.{Truth};
 ghost use Rattle.bx_adding.specs.Finding.{OnRoomPath, ReadyIn, RoomIn};
 ghost use Rattle.bx_adding.specs.Lacking.{FindsBoth, IfFirst, MakesEither};
 
 use crate::keys::{key_by_name, key_by_number};
-use crate::stops::change_error;
 use bx_changes::ChangeError;
 use bx_entries::Known;
 use bx_handles::ChunkHandle;
@@ -121,7 +116,7 @@ fn room_at<V: View>(
     ensures full { IfErr result (IfFull (NoSlots (V.held view.now) near.0 near.1 [])) }
 {
     match ready(alloc, view, root, key, near.0, near.1) {
-        Err(error) => Err(change_error(near.1, error)),
+        Err(error) => Err(ChangeError::of_tree(near.1, error)),
         Ok(Some(draft)) => Err(ChangeError::Stopped(Stop::Inner(draft))),
         Ok(None) => Ok(()),
     }

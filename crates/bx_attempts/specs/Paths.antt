@@ -3,7 +3,8 @@ use Rattle.std.specs.Prelude.{◌≡◌, ◌⊎◌, ℕ}
 use Rattle.bx_base.specs.declared.names.Mode.{Mode}
 use Rattle.bx_create.specs.Creating.{OnCreate}
 use Rattle.bx_create.specs.Making.{OnMaking}
-use Rattle.bx_entries.specs.Finding.{OnRemove, OnRmdir}
+use Rattle.bx_entries.specs.Finding.{OnRemoval}
+use Rattle.bx_entries.specs.declared.finding.Removable.TheVariants as removable
 use Rattle.bx_renaming.specs.Linking.{OnLink}
 use Rattle.bx_model.specs.declared.call.Args.{Args}
 use Rattle.bx_model.specs.declared.call.Args.TheVariants.{Link, Make, Name, Rename, Set, Symlink, Write}
@@ -16,7 +17,7 @@ use Rattle.bx_views.specs.Truths.{Held, Hints}
 abbrev pub ChangePathOf : Held → Hints → ℕ → ℕ → ℕ → Args → ℕ → Mode → Type 0
 ChangePathOf held hints volume areas procedure (Set handle sattr) at mode = OnSetting held hints volume areas handle sattr.size at mode
 ChangePathOf held hints volume areas procedure (Name handle name) at mode =
-    ((procedure ≡ 10) × OnRemove held hints volume areas handle name at mode) ⊎ ((procedure ≡ 15) × OnRmdir held hints volume areas handle name at mode)
+    ((procedure ≡ 10) × OnRemoval removable.Plain held hints volume areas handle name at mode) ⊎ ((procedure ≡ 15) × OnRemoval removable.Directory held hints volume areas handle name at mode)
 ChangePathOf held hints volume areas procedure (Link from handle name) at mode = OnLink held hints volume areas from handle name at mode
 ChangePathOf held hints volume areas procedure (Symlink handle name path sattr) at mode = OnMaking held hints volume areas handle name at mode
 ChangePathOf held hints volume areas procedure (Make handle name sattr) at mode =

@@ -12,7 +12,7 @@ use crate::times::time_of;
 use bx_base::OutOfMemory;
 use bx_changes::ChangeError;
 use bx_create::{create, mkdir, symlink};
-use bx_entries::{remove, rmdir};
+use bx_entries::{Removable, remove};
 use bx_model::{Args, Call, Reply};
 use bx_records::Draft;
 use bx_renaming::{link, rename};
@@ -144,9 +144,11 @@ fn act<V: View>(
         Args::Name(at, name) => {
             let (at, name) = (at.bytes(), name.bytes());
             if call.procedure == REMOVE {
-                stopping(remove(alloc, volume, areas, call, at, name, now, view))
+                let sort = Removable::Plain;
+                stopping(remove(alloc, volume, areas, call, at, name, sort, now, view))
             } else {
-                stopping(rmdir(alloc, volume, areas, call, at, name, now, view))
+                let sort = Removable::Directory;
+                stopping(remove(alloc, volume, areas, call, at, name, sort, now, view))
             }
         }
         Args::Rename(from, name, to, new_name) => {

@@ -1,6 +1,6 @@
 //! A dead file, which loses its tree and then its inode.
 
-ghost use Rattle.bx_layout.specs.Inodes.{IsInode};
+ghost use Rattle.bx_changes.specs.Procedures.{IsInode};
 ghost use Rattle.bx_clean.specs.Trees.{CleansFile, CleansTree, FreesFile, FreesTree};
 
 use crate::held::{dead_inode_at, page_at};

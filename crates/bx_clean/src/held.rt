@@ -2,8 +2,9 @@
 
 ghost use Rattle.std.specs.Prelude.{◌≡◌, ◌≢◌, ◌↔◌, IsTrue, IfOk, IfSome, IfNone};
 ghost use Rattle.std.specs.Result.{result_map_both};
+ghost use Rattle.bx_changes.specs.Procedures.{block_at as place_of};
 ghost use Rattle.bx_layout.specs.declared.inode.Inode.{Inode as Seen};
-ghost use Rattle.bx_truth.specs.Chunks.{IsSlot, block_at as place_of};
+ghost use Rattle.bx_truth.specs.Chunks.{IsSlot};
 ghost use Rattle.bx_truth.specs.Stored.{HasInode};
 ghost use Rattle.bx_clean.specs.Held.{BlockAt, DeadAt, PageAt};
 

@@ -1,8 +1,8 @@
 //! Drafts in which a page or an inode is put, and a slot is freed.
 
-ghost use Rattle.std.specs.Prelude.{◌≡◌, [], IfOk};
+ghost use Rattle.std.specs.Prelude.{[], IfOk};
+ghost use Rattle.bx_changes.specs.Procedures.{IsInode};
 ghost use Rattle.bx_inodes.specs.Writing.{PutsInode};
-ghost use Rattle.bx_layout.specs.Inodes.{IsInode};
 ghost use Rattle.bx_leaves.specs.Leaves.{PutsPage};
 ghost use Rattle.bx_page.specs.Contents.{IsPage};
 ghost use Rattle.bx_clean.specs.Puts.{FreesSlotOf, FreesTo, PutsAndFrees};

@@ -1,10 +1,7 @@
 //! The cleaning of an area.
 
-ghost use Rattle.std.specs.Prelude.{◌≡◌, ◌<◌, ◌≤◌, ℕ, IfOk};
-ghost use Rattle.bx_hints.specs.Fitting.{HintsFitAll};
-ghost use Rattle.bx_inodes.specs.Stands.{Stands};
-ghost use Rattle.bx_model.specs.declared.tree.Tree.{Tree};
-ghost use Rattle.bx_views.specs.Truths.{IsTruth, Truth};
+ghost use Rattle.std.specs.Prelude.{◌<◌, ◌≤◌, ℕ, IfOk};
+ghost use Rattle.bx_changes.specs.Procedures.{HintsFitAll, IsTruth, Stands, Tree, Truth};
 ghost use Rattle.bx_clean.specs.Tidying.{HoldsDraft, NeedsFor, Stops, TidiesAt, TidiesIn, WritesThree};
 
 use crate::files::clean_file;

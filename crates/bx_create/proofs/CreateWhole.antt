@@ -17,6 +17,7 @@ use Rattle.bx_inodes.specs.declared.stop.Stop.{Stop}
 use Rattle.bx_inodes.specs.declared.stop.Stop.TheVariants.{Need, Inner, Status, OutOfMemory}
 use Rattle.bx_layout.specs.declared.inode.Inode.{Inode}
 use Rattle.bx_model.specs.declared.call.Call.{Call}
+use Rattle.bx_model.specs.declared.permissions.Want.TheVariants as want
 use Rattle.bx_model.specs.declared.reply.Reply.{Reply}
 use Rattle.bx_model.specs.declared.tree.Tree.{Tree}
 use Rattle.bx_model.specs.Making.{create, create_at, create_new, create_over}
@@ -36,9 +37,10 @@ use Rattle.bx_views.specs.Truths.{Held, Hints, IsTruth, Truth}
 use Rattle.bx_creating.specs.Creating.{IsWithout}
 use Rattle.bx_create.specs.Existing.{ComesOver}
 use Rattle.bx_create.specs.Lacking.{ClearsGiven, PreparesCreate, PreparesIn, ReadyByEntry, ReadyIn, ReadyToCreate, ReadyToResize}
-use Rattle.bx_create.specs.Searching.{FoundIn, IsSearched, MaySearch, SearchedFor, searchable}
+use Rattle.bx_create.specs.Searching.{FoundIn, IsSearched}
+use Rattle.bx_entries.specs.Finding.{DirectoryFor, MayUse, usable}
+use Rattle.bx_entries.proofs.Found.{is_a_directory, is_good, uses}
 use Rattle.bx_create.proofs.First.{first_if, first_so}
-use Rattle.bx_create.proofs.NamesThere.{is_a_directory, is_good, searches}
 
 abbrev Made : Type 0
 Made = Result (List Changed × Reply × ℕ) ChangeError
@@ -128,23 +130,23 @@ module _ (tree : Tree) (call : Call) (bytes name : List ℕ) (sattr : Sattr) (no
   abbrev rest : ℕ → Result File ℕ → Making
   rest spare found = found >>= (λ directory. create_at tree call directory name sattr now spare (entry_named (names_of directory.body) name))
 
-  create_is : (spare : ℕ) → create tree call bytes name sattr now spare ≡ rest spare (searchable call name (named_file tree bytes))
+  create_is : (spare : ℕ) → create tree call bytes name sattr now spare ≡ rest spare (usable want.Search call name (named_file tree bytes))
   create_is spare = refl
 
   pub no_name : None ≡ named volume bytes → create tree call bytes name sattr now 8 ≡ Err 70
-  no_name is = create_is 8 ∙ ap (λ (o : Option File). rest 8 (searchable call name o)) (named_as tree volume bytes None same is)
+  no_name is = create_is 8 ∙ ap (λ (o : Option File). rest 8 (usable want.Search call name o)) (named_as tree volume bytes None same is)
 
   module _ (handle : ℕ) (is : Some handle ≡ named volume bytes) where
-    by_handle : (spare : ℕ) → create tree call bytes name sattr now spare ≡ rest spare (searchable call name (file_at tree.files handle))
-    by_handle spare = create_is spare ∙ ap (λ (o : Option File). rest spare (searchable call name o)) (named_as tree volume bytes (Some handle) same is)
+    by_handle : (spare : ℕ) → create tree call bytes name sattr now spare ≡ rest spare (usable want.Search call name (file_at tree.files handle))
+    by_handle spare = create_is spare ∙ ap (λ (o : Option File). rest spare (usable want.Search call name o)) (named_as tree volume bytes (Some handle) same is)
 
-    pub no_directory : (areas : ℕ) (truth : Truth) (stop : Stop) → SearchedFor areas truth tree call name handle (Err stop) → IsMaking volume areas truth tree (create tree call bytes name sattr now) (Err (Stopped stop))
+    pub no_directory : (areas : ℕ) (truth : Truth) (stop : Stop) → DirectoryFor want.Search areas truth tree call name handle (Err stop) → IsMaking volume areas truth tree (create tree call bytes name sattr now) (Err (Stopped stop))
     no_directory areas truth (Status status) e = by_handle 8 ∙ ap (rest 8) e
     no_directory areas truth (Need at mode) e = tt
     no_directory areas truth (Inner blocks) never = absurd never
     no_directory areas truth OutOfMemory e = tt
 
-    module _ (areas : ℕ) (held : Held) (hints : Hints) (truth : Truth) (inode : Inode) (m : MaySearch areas truth tree call name handle inode) (few : areas ≤ 64) (agrees : IsTruth held truth) (stands : Stands volume areas truth tree) (fit : HintsFitAll areas hints truth) where
+    module _ (areas : ℕ) (held : Held) (hints : Hints) (truth : Truth) (inode : Inode) (m : MayUse want.Search areas truth tree call name handle inode) (few : areas ≤ 64) (agrees : IsTruth held truth) (stands : Stands volume areas truth tree) (fit : HintsFitAll areas hints truth) where
       pub searched : IsSearched volume areas held hints truth tree handle inode name
       searched = record {
         directory = record {
@@ -153,13 +155,13 @@ module _ (tree : Tree) (call : Call) (bytes name : List ℕ) (sattr : Sattr) (no
           stands = stands;
           fit = fit;
           at = m.at;
-          kind = m.at.fields.kind ∙ eqb-true m.at.file.kind 2 (is_a_directory call name m.at.file m.may);
+          kind = m.at.fields.kind ∙ eqb-true m.at.file.kind 2 (is_a_directory want.Search call name m.at.file m.may);
         };
-        good = is_good call name m.at.file m.may;
+        good = is_good want.Search call name m.at.file m.may;
       }
 
       at_file : (spare : ℕ) → create tree call bytes name sattr now spare ≡ create_at tree call m.at.file name sattr now spare (entry_named (names_of m.at.file.body) name)
-      at_file spare = by_handle spare ∙ ap (λ (o : Option File). rest spare (searchable call name o)) m.at.there ∙ ap (rest spare) (searches call name m.at.file m.may)
+      at_file spare = by_handle spare ∙ ap (λ (o : Option File). rest spare (usable want.Search call name o)) m.at.there ∙ ap (rest spare) (uses want.Search call name m.at.file m.may)
 
       pub comes : (result : Result (List Changed × Reply × ℕ) ChangeError)
           → ((s : IsSearched volume areas held hints truth tree handle inode name)

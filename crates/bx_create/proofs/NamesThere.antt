@@ -1,7 +1,6 @@
--- What CREATE finds: the directory in which it looks for its name, and the file that has it, which it tells of.
-use Rattle.std.proofs.Common.{◌≡◌, ℕ, Bool, true, false, List, Option, Some, None, refl, sym, ap, ◌∙◌}
-use Rattle.std.specs.Prelude.{◌≢◌, ◌&&◌, not, nat_lt, if◌then◌else◌, Result, Ok, Err}
-use Rattle.bx_inodes.specs.Heads.{head_of}
+-- What CREATE finds: the file that has its name, which it tells of.
+use Rattle.std.proofs.Common.{◌≡◌, ℕ, Bool, false, Option, refl, sym, ap, ◌∙◌}
+use Rattle.std.specs.Prelude.{◌≢◌, ◌&&◌, not, nat_lt, if◌then◌else◌, Ok, Err}
 use Rattle.bx_inodes.specs.Inodes.{FileAt, IsInodeOf}
 use Rattle.bx_inodes.specs.declared.stop.Stop.{Stop}
 use Rattle.bx_inodes.specs.declared.stop.Stop.TheVariants.{Need, Inner, Status, OutOfMemory}
@@ -20,71 +19,12 @@ use Rattle.bx_model.specs.Steps.Step.{Gives}
 use Rattle.bx_tree_files.specs.declared.file.File.{File}
 use Rattle.bx_tree_files.specs.declared.sattr.Sattr.{Sattr}
 use Rattle.bx_tree_files.specs.Changes.{most_bytes, with_size}
-use Rattle.bx_tree_files.specs.Entries.{is_bad}
 use Rattle.bx_tree_files.specs.Files.{file_at, is_directory, is_link, is_regular}
 use Rattle.bx_tree_files.specs.Times.{Time, is_given}
 use Rattle.bx_truth.specs.Stored.{HasFields}
 use Rattle.bx_truth.proofs.Cases.{eq_false, eq_true}
 use Rattle.bx_views.specs.Truths.{Truth}
 use Rattle.bx_create.specs.Existing.{GivesIn}
-use Rattle.bx_create.specs.Searching.{SearchedFor, search_error, searchable}
-
--- ---- the directory
-
-abbrev or_error : Option ℕ → Result File ℕ → Result File ℕ
-or_error (Some status) rest = Err status
-or_error None rest = rest
-
-abbrev first_error : Bool → Bool → Bool → Option ℕ
-first_error d b m = if d then (if b then Some 13 else if m then None else Some 13) else Some 20
-
-tests : (d b m : Bool) (rest : Result File ℕ) → refuse (not d) 20 >> (refuse b 13 >> (refuse (not m) 13 >> rest)) ≡ or_error (first_error d b m) rest
-tests false b m rest = refl
-tests true true m rest = refl
-tests true false true rest = refl
-tests true false false rest = refl
-
-directory_of : (d b m : Bool) → first_error d b m ≡ None → d ≡ true
-directory_of false b m none = absurd cc
-directory_of true b m none = refl
-
-good_of : (d b m : Bool) → first_error d b m ≡ None → b ≡ false
-good_of false b m none = absurd cc
-good_of true true m none = absurd cc
-good_of true false m none = refl
-
-error_is : (call : Call) (name : List ℕ) (handle : ℕ) (inode : Inode) (file : File) → HasFields inode file → search_error call name (head_of handle inode) ≡ search_error call name file
-error_is call name handle inode file fields = λ i. search_error call name (record file { kind = fields.kind i; mode = fields.mode i; uid = fields.uid i; gid = fields.gid i })
-
-module _ (call : Call) (name : List ℕ) (file : File) where
-  searched_by : searchable call name (Some file) ≡ or_error (search_error call name file) (Ok file)
-  searched_by = tests (is_directory file) (is_bad name) (may call file want.Search) (Ok file)
-
-  pub searches : search_error call name file ≡ None → searchable call name (Some file) ≡ Ok file
-  searches none = searched_by ∙ ap (λ (o : Option ℕ). or_error o (Ok file)) none
-
-  pub refuses : (status : ℕ) → search_error call name file ≡ Some status → searchable call name (Some file) ≡ Err status
-  refuses status some = searched_by ∙ ap (λ (o : Option ℕ). or_error o (Ok file)) some
-
-  pub is_a_directory : search_error call name file ≡ None → is_directory file ≡ true
-  is_a_directory none = directory_of (is_directory file) (is_bad name) (may call file want.Search) none
-
-  pub is_good : search_error call name file ≡ None → is_bad name ≡ false
-  is_good none = good_of (is_directory file) (is_bad name) (may call file want.Search) none
-
-module _ (areas : ℕ) (truth : Truth) (tree : Tree) (call : Call) (name : List ℕ) (handle : ℕ) where
-  pub no_directory : (stop : Stop) → FileAt areas truth tree handle (Err stop) → SearchedFor areas truth tree call name handle (Err stop)
-  no_directory (Status status) (code, none) = ap (searchable call name) none ∙ ap Err (sym code)
-  no_directory (Need at mode) f = tt
-  no_directory (Inner blocks) never = never
-  no_directory OutOfMemory f = tt
-
-  module _ (inode : Inode) (f : IsInodeOf areas truth tree handle inode) where
-    pub refused : (status : ℕ) (error : Option ℕ) → error ≡ Some status → error ≡ search_error call name (head_of handle inode) → searchable call name (file_at tree.files handle) ≡ Err status
-    refused status error some is = ap (searchable call name) f.there ∙ refuses call name f.file status (sym (is ∙ error_is call name handle inode f.file f.fields) ∙ some)
-
-    pub allowed : None ≡ search_error call name (head_of handle inode) → search_error call name f.file ≡ None
-    allowed none = sym (none ∙ error_is call name handle inode f.file f.fields)
 
 -- ---- the file that has the name
 

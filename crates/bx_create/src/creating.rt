@@ -1,34 +1,21 @@
 //! CREATE.
 
-ghost use Rattle.std.specs.Prelude.{◌≡◌, ◌≤◌, ◌⊎◌, ℕ, [], length, Err, IfErr, IfOk};
-ghost use Rattle.bx_base.specs.declared.names.Mode.TheVariants.{Exclusive};
-ghost use Rattle.bx_blink.specs.Walks.{reads_with};
-ghost use Rattle.bx_changes.specs.First.{ComesFirst};
-ghost use Rattle.bx_changes.specs.Growing.{HoldsFirst, IfFull, IsMaking, NeedsBy};
-ghost use Rattle.bx_chunks.specs.Taking.{NoSlots};
+ghost use Rattle.std.specs.Prelude.{◌≡◌, ◌≤◌, ◌⊎◌, [], length, Err, IfErr, IfOk};
+ghost use Rattle.bx_changes.specs.Procedures.{ComesFirst, Exclusive, Hints, HintsFitAll, HoldsFirst, IfFull, IsHeldDraft, IsMaking, LiveAt, NeedsBy, NoSlots, OnVolume, Tree, Truth, entry_named, names_of, parts_of, reads_with, with_draft};
 ghost use Rattle.bx_creating.specs.Placing.{IsFirstNear};
-ghost use Rattle.bx_handles.specs.Handles.{parts_of};
-ghost use Rattle.bx_hints.specs.Fitting.{HintsFitAll};
-ghost use Rattle.bx_inodes.specs.Inodes.{LiveAt};
-ghost use Rattle.bx_inodes.specs.Stands.{Stands};
-ghost use Rattle.bx_model.specs.declared.tree.Tree.{Tree};
 ghost use Rattle.bx_model.specs.Making.{create as create_of, create_at};
-ghost use Rattle.bx_tree_files.specs.Entries.{entry_named};
-ghost use Rattle.bx_tree_files.specs.Names.{names_of};
-ghost use Rattle.bx_views.specs.Attempts.{IsHeldDraft};
-ghost use Rattle.bx_views.specs.Truths.{Hints, IsTruth, Truth, with_draft};
 ghost use Rattle.bx_create.specs.Creating.{IsNoneOrNear, OnCreate, OnNamed};
 ghost use Rattle.bx_create.specs.Lacking.{NoSlotsNear, PreparesCreate, PreparesIn, ReadyIn, ReadyToCreate};
 ghost use Rattle.bx_create.specs.Searching.{IsSearched};
 
 use crate::existing::create_over;
-use crate::searching::{directory_to_search, found_in};
+use crate::searching::found_in;
 use bx_changes::ChangeError;
 use bx_creating::create_new;
-use bx_entries::Known;
+use bx_entries::{Known, directory_for};
 use bx_handles::named_handle;
 use bx_inodes::Stop;
-use bx_model::{Call, Reply, STALE, Sattr};
+use bx_model::{Call, Reply, STALE, Sattr, Want};
 use bx_records::Draft;
 use bx_views::View;
 use std::alloc::Global;
@@ -55,14 +42,12 @@ pub fn create<V: View>(
 ) -> Result<(Draft, Reply, u64), ChangeError>
     requires areas { areas ≤ 64 }
     requires name { length name.now ≤ 255 }
-    ensures step { (truth : Truth) (tree : Tree) → IsTruth (V.held view.now) truth → Stands volume areas truth tree → HintsFitAll areas (V.hints view.now) truth
-        → IsMaking volume areas truth tree (create_of tree call.now at.now name.now sattr.now now) result }
-    ensures hints { (hints : Hints) (truth : Truth) (tree : Tree) → IsTruth (V.held view.now) truth → Stands volume areas truth tree → HintsFitAll areas (V.hints view.now) truth
-        → HintsFitAll areas hints truth → IfOk result (λ made. HintsFitAll areas hints (with_draft truth made.0)) }
-    ensures lacks { (truth : Truth) (tree : Tree) → IsTruth (V.held view.now) truth → Stands volume areas truth tree → HintsFitAll areas (V.hints view.now) truth
-        → IfErr result (ComesFirst (λ status. create_of tree call.now at.now name.now sattr.now now 8 ≡ Err status) (PreparesCreate volume areas (V.held view.now) (V.hints view.now) truth tree at.now name.now sattr.now.size)) }
-    ensures ready { (truth : Truth) (tree : Tree) → IsTruth (V.held view.now) truth → Stands volume areas truth tree → HintsFitAll areas (V.hints view.now) truth
-        → IfOk result (λ made. ReadyToCreate volume areas truth tree at.now name.now sattr.now.size) }
+    ensures step { OnVolume volume areas (V.held view.now) (V.hints view.now) (λ truth tree. IsMaking volume areas truth tree (create_of tree call.now at.now name.now sattr.now now) result) }
+    ensures hints { (other : Hints) → OnVolume volume areas (V.held view.now) (V.hints view.now)
+        (λ truth tree. HintsFitAll areas other truth → IfOk result (λ made. HintsFitAll areas other (with_draft truth made.0))) }
+    ensures lacks { OnVolume volume areas (V.held view.now) (V.hints view.now)
+        (λ truth tree. IfErr result (ComesFirst (λ status. create_of tree call.now at.now name.now sattr.now now 8 ≡ Err status) (PreparesCreate volume areas (V.held view.now) (V.hints view.now) truth tree at.now name.now sattr.now.size))) }
+    ensures ready { OnVolume volume areas (V.held view.now) (V.hints view.now) (λ truth tree. IfOk result (λ made. ReadyToCreate volume areas truth tree at.now name.now sattr.now.size)) }
     ensures need { IfErr result (NeedsBy areas (V.held view.now) (OnCreate (V.held view.now) (V.hints view.now) volume areas at.now name.now sattr.now.size)) }
     ensures full { IfErr result (IfFull (NoSlotsNear volume areas (V.held view.now) at.now)) }
     ensures near { IfOk result (λ made. IsNoneOrNear volume areas (V.held view.now) at.now made.2) }
@@ -72,7 +57,7 @@ pub fn create<V: View>(
     let Some(handle) = named_handle(volume, at) else {
         return Err(ChangeError::Stopped(Stop::Status(STALE)));
     };
-    match directory_to_search(alloc, view, areas, call, handle, name) {
+    match directory_for(alloc, view, areas, call, handle, name, Want::Search) {
         Err(stop) => Err(ChangeError::Stopped(stop)),
         Ok(inode) => {
             let directory = Known { handle, inode };

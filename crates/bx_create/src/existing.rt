@@ -1,24 +1,14 @@
 //! CREATE of a name that is there.
 
 ghost use Rattle.std.specs.Prelude.{◌≡◌, ◌≤◌, true, false, Err, IfErr, IfOk, IsSome};
-ghost use Rattle.bx_base.specs.declared.names.Mode.TheVariants.{Exclusive};
-ghost use Rattle.bx_changes.specs.First.{StopsFirst};
+ghost use Rattle.bx_changes.specs.Procedures.{Exclusive, Hints, HintsFitAll, IsHeldDraft, IsInode, IsInodeOf, IsTruth, NeedsOn, NeverInner, Stands, StopsFirst, Tree, Truth, block_at as place_of, with_draft};
 ghost use Rattle.bx_files.specs.Paths.{IsBlockOf};
-ghost use Rattle.bx_hints.specs.Fitting.{HintsFitAll};
-ghost use Rattle.bx_inodes.specs.Inodes.{IsInodeOf};
-ghost use Rattle.bx_inodes.specs.Stands.{Stands};
-ghost use Rattle.bx_inodes.specs.Stops.{NeedsOn, NeverInner};
-ghost use Rattle.bx_layout.specs.Inodes.{IsInode};
 ghost use Rattle.bx_model.specs.declared.call.Call.{Call as Caller};
-ghost use Rattle.bx_model.specs.declared.tree.Tree.{Tree};
 ghost use Rattle.bx_model.specs.Making.{create_over as create_over_of};
 ghost use Rattle.bx_sizes.specs.Answers.{HoldsInner};
 ghost use Rattle.bx_sizes.specs.Clearing.{OnClearing};
 ghost use Rattle.bx_tree_files.specs.declared.sattr.Sattr.{Sattr as Given};
 ghost use Rattle.bx_tree_files.specs.Times.{Time, is_given as is_given_word};
-ghost use Rattle.bx_truth.specs.Chunks.{block_at as place_of};
-ghost use Rattle.bx_views.specs.Attempts.{IsHeldDraft};
-ghost use Rattle.bx_views.specs.Truths.{Hints, IsTruth, Truth, with_draft};
 ghost use Rattle.bx_create.specs.Existing.{ComesOver, GivesIn, OnFile, size_alone as size_alone_of};
 ghost use Rattle.bx_create.specs.Lacking.{ClearsGiven, ReadyToResize};
 

@@ -2,9 +2,9 @@
 use Rattle.std.proofs.Common.{◌≡◌, ℕ, ◌<◌, ◌≤◌, Bool, true, false, eqb-true, List, Option, Some, None, refl, sym, ap, ◌∙◌, arith}
 use Rattle.std.specs.Prelude.{is_some, nat_le, nat_lt, Result, Ok, Err}
 use Rattle.std.proofs.lemmas.Bool.{le-leb, lt-ltb}
-use Rattle.bx_entries.specs.Finding.{DirectoryFor, IsDirectoryOf, MayChange, changeable}
+use Rattle.bx_entries.specs.Finding.{DirectoryFor, IsDirectoryOf, MayUse, usable}
 use Rattle.bx_entries.specs.declared.finding.Removable.TheVariants as of
-use Rattle.bx_entries.proofs.Found.{changes, is_a_directory}
+use Rattle.bx_entries.proofs.Found.{is_a_directory, uses}
 use Rattle.bx_entries.proofs.RemovedFrom.{IsListed, listed}
 use Rattle.bx_hints.specs.Fitting.{HintsFitAll}
 use Rattle.bx_hints.proofs.Pages.{inode_is}
@@ -14,6 +14,7 @@ use Rattle.bx_inodes.specs.declared.stop.Stop.{Stop}
 use Rattle.bx_inodes.specs.declared.stop.Stop.TheVariants.{Need, Inner, Status, OutOfMemory}
 use Rattle.bx_layout.specs.declared.inode.Inode.{Inode}
 use Rattle.bx_model.specs.declared.call.Call.{Call}
+use Rattle.bx_model.specs.declared.permissions.Want.TheVariants as want
 use Rattle.bx_model.specs.declared.tree.Tree.{Tree}
 use Rattle.bx_model.specs.Making.{entry_errors, has_entry, new_place}
 use Rattle.bx_model.specs.Reading.{named_file}
@@ -56,27 +57,27 @@ module _ (tree : Tree) (call : Call) (name : List ℕ) where
   abbrev after : ℕ → File → Result File ℕ
   after spare file = tested (has_entry file name) (nat_le 4294967295 (next_of file.body)) (nat_lt spare 8) file
 
-  place_is : (bytes : List ℕ) (spare : ℕ) → new_place tree call bytes name spare ≡ rest spare (changeable call name (named_file tree bytes))
+  place_is : (bytes : List ℕ) (spare : ℕ) → new_place tree call bytes name spare ≡ rest spare (usable want.Change call name (named_file tree bytes))
   place_is bytes spare = refl
 
   module _ (volume : ℕ) (bytes : List ℕ) (same : tree.volume ≡ volume) where
     pub no_name : (spare : ℕ) → None ≡ named volume bytes → new_place tree call bytes name spare ≡ Err 70
-    no_name spare is = ap (λ (o : Option File). rest spare (changeable call name o)) (named_as tree volume bytes None same is)
+    no_name spare is = ap (λ (o : Option File). rest spare (usable want.Change call name o)) (named_as tree volume bytes None same is)
 
     module _ (handle : ℕ) (is : Some handle ≡ named volume bytes) where
-      by_handle : (spare : ℕ) → new_place tree call bytes name spare ≡ rest spare (changeable call name (file_at tree.files handle))
-      by_handle spare = ap (λ (o : Option File). rest spare (changeable call name o)) (named_as tree volume bytes (Some handle) same is)
+      by_handle : (spare : ℕ) → new_place tree call bytes name spare ≡ rest spare (usable want.Change call name (file_at tree.files handle))
+      by_handle spare = ap (λ (o : Option File). rest spare (usable want.Change call name o)) (named_as tree volume bytes (Some handle) same is)
 
-      pub no_directory : (areas : ℕ) (held : Held) (hints : Hints) (truth : Truth) (stop : Stop) → DirectoryFor areas truth tree call name handle (Err stop) → PlaceIn volume areas held hints truth tree call bytes name (Err stop)
+      pub no_directory : (areas : ℕ) (held : Held) (hints : Hints) (truth : Truth) (stop : Stop) → DirectoryFor want.Change areas truth tree call name handle (Err stop) → PlaceIn volume areas held hints truth tree call bytes name (Err stop)
       no_directory areas held hints truth (Status status) e = by_handle 8 ∙ ap (rest 8) e
       no_directory areas held hints truth (Need at mode) e = tt
       no_directory areas held hints truth (Inner blocks) never = never
       no_directory areas held hints truth OutOfMemory e = tt
 
-      module _ (areas : ℕ) (held : Held) (hints : Hints) (truth : Truth) (inode : Inode) (m : MayChange areas truth tree call name handle inode) (few : areas ≤ 64) (agrees : IsTruth held truth) (stands : Stands volume areas truth tree)
+      module _ (areas : ℕ) (held : Held) (hints : Hints) (truth : Truth) (inode : Inode) (m : MayUse want.Change areas truth tree call name handle inode) (few : areas ≤ 64) (agrees : IsTruth held truth) (stands : Stands volume areas truth tree)
           (fit : HintsFitAll areas hints truth) where
         place_of : (spare : ℕ) → new_place tree call bytes name spare ≡ after spare m.at.file
-        place_of spare = by_handle spare ∙ ap (λ (o : Option File). rest spare (changeable call name o)) m.at.there ∙ ap (rest spare) (changes call name m.at.file m.may)
+        place_of spare = by_handle spare ∙ ap (λ (o : Option File). rest spare (usable want.Change call name o)) m.at.there ∙ ap (rest spare) (uses want.Change call name m.at.file m.may)
 
         pub directory : IsDirectoryOf volume areas held hints truth tree handle inode
         directory = record {
@@ -85,7 +86,7 @@ module _ (tree : Tree) (call : Call) (name : List ℕ) where
           stands = stands;
           fit = fit;
           at = m.at;
-          kind = m.at.fields.kind ∙ eqb-true m.at.file.kind 2 (is_a_directory call name m.at.file m.may);
+          kind = m.at.fields.kind ∙ eqb-true m.at.file.kind 2 (is_a_directory want.Change call name m.at.file m.may);
         }
 
         at_same : directory.at ≡ m.at

@@ -21,7 +21,8 @@ use Rattle.bx_records.specs.Drafts.{Changed}
 use Rattle.bx_tree_files.specs.declared.file.Body.{Body}
 use Rattle.bx_truth.specs.Chunks.{IsChunked}
 use Rattle.bx_views.specs.Truths.{Held, IsTruth, Truth}
-use Rattle.bx_creating.specs.Placing.{IsFirstNear, IsMade, MakesNew, StopsByChunks}
+use Rattle.bx_changes.specs.Stopping.{StopsByChunks}
+use Rattle.bx_creating.specs.Placing.{IsFirstNear, IsMade, MakesNew}
 
 -- ---- room in the draft
 

@@ -7,8 +7,6 @@ use Rattle.bx_changes.specs.declared.error.ChangeError.{ChangeError}
 use Rattle.bx_changes.specs.declared.error.ChangeError.TheVariants.{Stopped, Full}
 use Rattle.bx_chunks.specs.Allocating.{AllocatesAt}
 use Rattle.bx_chunks.specs.Taking.{OnSlots}
-use Rattle.bx_chunks.specs.declared.error.ChunkError.{ChunkError}
-use Rattle.bx_chunks.specs.declared.error.ChunkError.TheVariants as chunk
 use Rattle.bx_dirs.specs.Changes.{OnAddPath, entry_of}
 use Rattle.bx_handles.specs.Handles.{named, parts_of}
 use Rattle.bx_hints.specs.Fitting.{HintsFitAll}
@@ -25,14 +23,6 @@ use Rattle.bx_tree_files.specs.declared.file.Body.{Body}
 use Rattle.bx_tree_files.specs.Times.{Time}
 use Rattle.bx_truth.specs.Stands.{StandsFor}
 use Rattle.bx_views.specs.Truths.{Held, Hints, Truth, with_draft}
-
--- what stops a change whose call on chunks isn't answered: 70 is STALE
-abbrev pub StopsByChunks : ChunkError → ChangeError → Type 0
-StopsByChunks (chunk.Need at mode) stop = stop ≡ Stopped (Need at mode)
-StopsByChunks (chunk.Full spare) stop = stop ≡ Full spare
-StopsByChunks chunk.OutOfMemory stop = stop ≡ Stopped OutOfMemory
-StopsByChunks chunk.Stale stop = stop ≡ Stopped (Status 70)
-StopsByChunks chunk.Crowded stop = stop ≡ Stopped (Status 70)
 
 -- ---- a file is made
 

@@ -1,15 +1,9 @@
 //! MKDIR.
 
-ghost use Rattle.std.specs.Prelude.{◌≡◌, ◌≤◌, ℕ, length, Err, IfErr, IfOk};
+ghost use Rattle.std.specs.Prelude.{◌≡◌, ◌≤◌, length, Err, IfErr, IfOk};
 ghost use Rattle.bx_adding.specs.Lacking.{MakesPlace, NoSlotsNear, ReadyToEnter};
-ghost use Rattle.bx_changes.specs.First.{ComesFirst};
-ghost use Rattle.bx_changes.specs.Growing.{HoldsFirst, IfFull, IsMaking, NeedsBy};
-ghost use Rattle.bx_hints.specs.Fitting.{HintsFitAll};
-ghost use Rattle.bx_inodes.specs.Stands.{Stands};
-ghost use Rattle.bx_model.specs.declared.tree.Tree.{Tree};
+ghost use Rattle.bx_changes.specs.Procedures.{ComesFirst, Hints, HintsFitAll, HoldsFirst, IfFull, IsHeldDraft, IsMaking, NeedsBy, OnVolume, with_draft};
 ghost use Rattle.bx_model.specs.Making.{mkdir as mkdir_of};
-ghost use Rattle.bx_views.specs.Attempts.{IsHeldDraft};
-ghost use Rattle.bx_views.specs.Truths.{Hints, IsTruth, Truth, with_draft};
 ghost use Rattle.bx_creating.specs.Making.{OnMaking};
 ghost use Rattle.bx_creating.specs.Placing.{IsMadeNear};
 
@@ -46,14 +40,12 @@ pub fn mkdir<V: View>(
 ) -> Result<(Draft, Reply, u64), ChangeError>
     requires areas { areas ≤ 64 }
     requires name { length name.now ≤ 255 }
-    ensures step { (truth : Truth) (tree : Tree) → IsTruth (V.held view.now) truth → Stands volume areas truth tree → HintsFitAll areas (V.hints view.now) truth
-        → IsMaking volume areas truth tree (mkdir_of tree call.now at.now name.now sattr.now now) result }
-    ensures hints { (hints : Hints) (truth : Truth) (tree : Tree) → IsTruth (V.held view.now) truth → Stands volume areas truth tree → HintsFitAll areas (V.hints view.now) truth
-        → HintsFitAll areas hints truth → IfOk result (λ made. HintsFitAll areas hints (with_draft truth made.0)) }
-    ensures lacks { (truth : Truth) (tree : Tree) → IsTruth (V.held view.now) truth → Stands volume areas truth tree → HintsFitAll areas (V.hints view.now) truth
-        → IfErr result (ComesFirst (λ status. mkdir_of tree call.now at.now name.now sattr.now now 8 ≡ Err status) (MakesPlace volume areas (V.held view.now) (V.hints view.now) truth at.now name.now)) }
-    ensures ready { (truth : Truth) (tree : Tree) → IsTruth (V.held view.now) truth → Stands volume areas truth tree → HintsFitAll areas (V.hints view.now) truth
-        → IfOk result (λ made. ReadyToEnter volume areas truth at.now name.now) }
+    ensures step { OnVolume volume areas (V.held view.now) (V.hints view.now) (λ truth tree. IsMaking volume areas truth tree (mkdir_of tree call.now at.now name.now sattr.now now) result) }
+    ensures hints { (other : Hints) → OnVolume volume areas (V.held view.now) (V.hints view.now)
+        (λ truth tree. HintsFitAll areas other truth → IfOk result (λ made. HintsFitAll areas other (with_draft truth made.0))) }
+    ensures lacks { OnVolume volume areas (V.held view.now) (V.hints view.now)
+        (λ truth tree. IfErr result (ComesFirst (λ status. mkdir_of tree call.now at.now name.now sattr.now now 8 ≡ Err status) (MakesPlace volume areas (V.held view.now) (V.hints view.now) truth at.now name.now))) }
+    ensures ready { OnVolume volume areas (V.held view.now) (V.hints view.now) (λ truth tree. IfOk result (λ made. ReadyToEnter volume areas truth at.now name.now)) }
     ensures need { IfErr result (NeedsBy areas (V.held view.now) (OnMaking (V.held view.now) (V.hints view.now) volume areas at.now name.now)) }
     ensures full { IfErr result (IfFull (NoSlotsNear volume areas (V.held view.now) at.now)) }
     ensures near { IfOk result (λ made. IsMadeNear volume areas (V.held view.now) at.now made.2) }

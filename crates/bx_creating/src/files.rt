@@ -1,20 +1,10 @@
 //! CREATE of a name that isn't there.
 
-ghost use Rattle.std.specs.Prelude.{◌≡◌, ◌≤◌, ℕ, [], length, Err, IfErr, IfOk};
+ghost use Rattle.std.specs.Prelude.{◌≡◌, ◌≤◌, [], length, Err, IfErr, IfOk};
 ghost use Rattle.bx_adding.specs.Lacking.{FindsBoth, MakesEither};
-ghost use Rattle.bx_base.specs.declared.names.Mode.TheVariants.{Exclusive};
-ghost use Rattle.bx_blink.specs.Walks.{reads_with};
-ghost use Rattle.bx_changes.specs.First.{ComesFirst};
-ghost use Rattle.bx_changes.specs.Growing.{HoldsFirst, IfFull, IsMaking, NeedsBy};
-ghost use Rattle.bx_chunks.specs.Taking.{NoSlots};
-ghost use Rattle.bx_handles.specs.Handles.{parts_of};
-ghost use Rattle.bx_hints.specs.Fitting.{HintsFitAll};
+ghost use Rattle.bx_changes.specs.Procedures.{ComesFirst, Exclusive, Hints, HintsFitAll, HoldsFirst, IfFull, IsHeldDraft, IsMaking, LiveAt, NeedsBy, NoSlots, Tree, Truth, parts_of, reads_with, with_draft};
 ghost use Rattle.bx_inodes.specs.Heads.{head_of as head_by};
-ghost use Rattle.bx_inodes.specs.Inodes.{LiveAt};
-ghost use Rattle.bx_model.specs.declared.tree.Tree.{Tree};
 ghost use Rattle.bx_model.specs.Making.{create_new as create_new_of};
-ghost use Rattle.bx_views.specs.Attempts.{IsHeldDraft};
-ghost use Rattle.bx_views.specs.Truths.{Hints, Truth, with_draft};
 ghost use Rattle.bx_creating.specs.Creating.{IsWithout, making_error as making_error_of};
 ghost use Rattle.bx_creating.specs.Placing.{IsFirstNear, OnPlacing};
 

@@ -1,22 +1,17 @@
 //! The directory that a new entry comes into.
 
-ghost use Rattle.std.specs.Prelude.{◌≡◌, ◌≤◌, ◌<◌, ℕ, List, [], IfOk};
+ghost use Rattle.std.specs.Prelude.{◌≤◌, ◌<◌, List, [], IfOk};
+ghost use Rattle.bx_changes.specs.Procedures.{Name, NeedsOn, NeverInner, OnVolume, Truth};
 ghost use Rattle.bx_dirs.specs.Entries.{HasEntries};
 ghost use Rattle.bx_files.specs.Paths.{OnSearch};
-ghost use Rattle.bx_hints.specs.Fitting.{HintsFitAll};
-ghost use Rattle.bx_inodes.specs.Stands.{Stands};
-ghost use Rattle.bx_inodes.specs.Stops.{NeedsOn, NeverInner};
-ghost use Rattle.bx_model.specs.declared.tree.Tree.{Tree};
-ghost use Rattle.bx_tree_files.specs.declared.file.Name.{Name};
 ghost use Rattle.bx_truth.specs.Keys.{name_key};
-ghost use Rattle.bx_views.specs.Truths.{IsTruth, Truth};
 ghost use Rattle.bx_creating.specs.Finding.{AbsentIn, IsHeldAt, OnFinding, PlaceIn};
 
 use bx_entries::{Known, directory_for, entry_for};
 use bx_handles::named_handle;
 use bx_inodes::Stop;
 use bx_layout::Inode;
-use bx_model::{Call, DQUOT, EXIST, NOENT, STALE};
+use bx_model::{Call, DQUOT, EXIST, NOENT, STALE, Want};
 use bx_views::View;
 use std::alloc::Global;
 
@@ -35,8 +30,7 @@ pub(crate) fn place_for<V: View>(
     view: &V,
 ) -> Result<Known, Stop>
     requires { areas ≤ 64 }
-    ensures step { (truth : Truth) (tree : Tree) → IsTruth (V.held view.now) truth → Stands volume areas truth tree → HintsFitAll areas (V.hints view.now) truth
-        → PlaceIn volume areas (V.held view.now) (V.hints view.now) truth tree call.now at.now name.now result }
+    ensures step { OnVolume volume areas (V.held view.now) (V.hints view.now) (λ truth tree. PlaceIn volume areas (V.held view.now) (V.hints view.now) truth tree call.now at.now name.now result) }
     ensures live { IfOk result (λ known. IsHeldAt (V.held view.now) (V.hints view.now) volume areas at.now known.handle known.inode) }
     ensures need { NeedsOn areas (V.held view.now) (OnFinding (V.held view.now) (V.hints view.now) volume areas at.now name.now) result }
     ensures inner { NeverInner result }
@@ -44,7 +38,7 @@ pub(crate) fn place_for<V: View>(
     let Some(handle) = named_handle(volume, at) else {
         return Err(Stop::Status(STALE));
     };
-    match directory_for(alloc, view, areas, call, handle, name) {
+    match directory_for(alloc, view, areas, call, handle, name, Want::Change) {
         Err(stop) => Err(stop),
         Ok(inode) => match no_entry(alloc, view, areas, inode.tree, name) {
             Err(stop) => Err(stop),

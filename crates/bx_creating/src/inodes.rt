@@ -1,7 +1,8 @@
 //! The inodes of new files.
 
 ghost use Rattle.std.specs.Prelude.{◌≡◌, ◌<◌, ◌≤◌, ◌+◌, ◌&&◌, ◌^◌, length, if◌then◌else◌};
-ghost use Rattle.bx_layout.specs.Inodes.{IsInode, IsKind};
+ghost use Rattle.bx_changes.specs.Procedures.{IsInode};
+ghost use Rattle.bx_layout.specs.Inodes.{IsKind};
 ghost use Rattle.bx_tree_files.specs.Times.{is_given as is_given_word};
 ghost use Rattle.bx_creating.specs.Inodes.{directory_inode as directory_inode_of, file_inode as file_inode_of, link_inode as link_inode_of, new_inode as new_inode_of};
 

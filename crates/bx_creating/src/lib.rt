@@ -7,7 +7,6 @@ mod finding;
 mod inodes;
 mod links;
 mod placing;
-mod stops;
 mod telling;
 
 pub use directories::mkdir;

@@ -1,27 +1,16 @@
 //! New files in directories.
 
 ghost use Rattle.std.specs.Prelude.{◌≡◌, ◌≤◌, ℕ, [], length, IfErr, IfOk, IsSome};
-ghost use Rattle.bx_base.specs.declared.names.Mode.TheVariants.{Exclusive};
 ghost use Rattle.bx_adding.specs.Lacking.{FindsBoth, IfFirst, MakesEither};
-ghost use Rattle.bx_changes.specs.Growing.{HoldsFirst, IfFull, NeedsBy};
-ghost use Rattle.bx_chunks.specs.Taking.{NoSlots, OnSlots};
+ghost use Rattle.bx_changes.specs.Procedures.{Exclusive, HoldsFirst, IfFull, IsHeldDraft, IsInode, IsTruth, NeedsBy, NeverFirst, NoSlots, OnSlots, StandsFor, Tree, Truth, block_at, parts_of};
 ghost use Rattle.bx_entries.specs.Finding.{IsDirectoryOf};
-ghost use Rattle.bx_handles.specs.Handles.{parts_of};
-ghost use Rattle.bx_layout.specs.Inodes.{IsInode};
-ghost use Rattle.bx_model.specs.declared.tree.Tree.{Tree};
 ghost use Rattle.bx_tree_files.specs.declared.file.Body.{Body};
 ghost use Rattle.bx_tree_files.specs.declared.file.Body.TheVariants.{Path};
-ghost use Rattle.bx_truth.specs.Chunks.{block_at};
 ghost use Rattle.bx_truth.specs.Making.{IsEmptyBody};
-ghost use Rattle.bx_truth.specs.Stands.{StandsFor};
-ghost use Rattle.bx_views.specs.Attempts.{IsHeldDraft};
-ghost use Rattle.bx_views.specs.Truths.{IsTruth, Truth};
-ghost use Rattle.bx_adding.specs.Stopping.{NeverFirst};
 ghost use Rattle.bx_creating.specs.Finding.{IsPlaceFor};
 ghost use Rattle.bx_creating.specs.Inodes.{IsNewBody};
 ghost use Rattle.bx_creating.specs.Placing.{IsFirstNear, IsMade, MakesNew, OnPlacing, PlacesIn};
 
-use crate::stops::chunk_error;
 use bx_adding::{enter, room_for};
 use bx_changes::ChangeError;
 use bx_entries::Known;
@@ -124,7 +113,7 @@ fn new_link<V: View>(
 {
     let mut draft = Draft::new(alloc);
     match make_link(alloc, &mut draft, view, inode, near, areas) {
-        Err(error) => Err(chunk_error(error)),
+        Err(error) => Err(ChangeError::of_chunks(error)),
         Ok(handle) => Ok((draft, handle)),
     }
 }
@@ -148,7 +137,7 @@ fn new_file<V: View>(
 {
     let mut draft = Draft::new(alloc);
     match make(alloc, &mut draft, view, inode, near, areas) {
-        Err(error) => Err(chunk_error(error)),
+        Err(error) => Err(ChangeError::of_chunks(error)),
         Ok(handle) => Ok((draft, handle)),
     }
 }

@@ -1,9 +1,9 @@
 //! What is told of a file that is made, or whose name is there.
 
 ghost use Rattle.std.specs.Prelude.{◌≡◌, ◌<◌, ◌^◌, IfOk};
+ghost use Rattle.bx_changes.specs.Procedures.{Tree};
 ghost use Rattle.bx_inodes.specs.Inodes.{shown_size};
 ghost use Rattle.bx_making.specs.Made.{file_of};
-ghost use Rattle.bx_model.specs.declared.tree.Tree.{Tree};
 ghost use Rattle.bx_model.specs.Reading.{handle_reply};
 ghost use Rattle.bx_tree_files.specs.declared.file.Body.{Body};
 ghost use Rattle.bx_tree_files.specs.Files.{size_of};

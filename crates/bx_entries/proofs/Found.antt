@@ -9,7 +9,7 @@ use Rattle.bx_inodes.specs.declared.stop.Stop.{Stop}
 use Rattle.bx_inodes.specs.declared.stop.Stop.TheVariants.{Need, Inner, Status, OutOfMemory}
 use Rattle.bx_layout.specs.declared.inode.Inode.{Inode}
 use Rattle.bx_model.specs.declared.call.Call.{Call}
-use Rattle.bx_model.specs.declared.permissions.Want.TheVariants as want
+use Rattle.bx_model.specs.declared.permissions.Want.{Want}
 use Rattle.bx_model.specs.declared.reply.Reply.TheVariants as reply
 use Rattle.bx_model.specs.declared.tree.Tree.{Tree}
 use Rattle.bx_model.specs.Permissions.{may}
@@ -25,8 +25,8 @@ use Rattle.bx_truth.specs.Stored.{HasFields}
 use Rattle.bx_views.specs.Truths.{Truth}
 use Rattle.bx_entries.specs.declared.finding.Removable.{Removable}
 use Rattle.bx_entries.specs.declared.finding.Removable.TheVariants as of
-use Rattle.bx_entries.specs.Finding.{DirectoryFor, EntryFor, FileFor, changeable, removal_error, removing, unless}
-use Rattle.bx_entries.specs.Removing.{change_error, removed}
+use Rattle.bx_entries.specs.Finding.{DirectoryFor, EntryFor, FileFor, removal_error, removing, unless, usable}
+use Rattle.bx_entries.specs.Removing.{name_error, removed}
 
 -- ---- the entry
 
@@ -53,35 +53,43 @@ pub is_one : (d b m : Bool) → first_error d b m ≡ None → d ≡ true
 is_one false b m none = absurd cc
 is_one true b m none = refl
 
-error_is : (call : Call) (name : List ℕ) (handle : ℕ) (inode : Inode) (file : File) → HasFields inode file → change_error call name (head_of handle inode) ≡ change_error call name file
-error_is call name handle inode file fields = λ i. change_error call name (record file { kind = fields.kind i; mode = fields.mode i; uid = fields.uid i; gid = fields.gid i })
+good_of : (d b m : Bool) → first_error d b m ≡ None → b ≡ false
+good_of false b m none = absurd cc
+good_of true true m none = absurd cc
+good_of true false m none = refl
 
-module _ (call : Call) (name : List ℕ) (file : File) where
-  changed_by : changeable call name (Some file) ≡ or_error (change_error call name file) (Ok file)
-  changed_by = tests (is_directory file) (is_bad name) (may call file want.Change) (Ok file)
+error_is : (wanted : Want) (call : Call) (name : List ℕ) (handle : ℕ) (inode : Inode) (file : File) → HasFields inode file → name_error wanted call name (head_of handle inode) ≡ name_error wanted call name file
+error_is wanted call name handle inode file fields = λ i. name_error wanted call name (record file { kind = fields.kind i; mode = fields.mode i; uid = fields.uid i; gid = fields.gid i })
 
-  pub changes : change_error call name file ≡ None → changeable call name (Some file) ≡ Ok file
-  changes none = changed_by ∙ ap (λ (o : Option ℕ). or_error o (Ok file)) none
+module _ (wanted : Want) (call : Call) (name : List ℕ) (file : File) where
+  used_by : usable wanted call name (Some file) ≡ or_error (name_error wanted call name file) (Ok file)
+  used_by = tests (is_directory file) (is_bad name) (may call file wanted) (Ok file)
 
-  pub refuses : (status : ℕ) → change_error call name file ≡ Some status → changeable call name (Some file) ≡ Err status
-  refuses status some = changed_by ∙ ap (λ (o : Option ℕ). or_error o (Ok file)) some
+  pub uses : name_error wanted call name file ≡ None → usable wanted call name (Some file) ≡ Ok file
+  uses none = used_by ∙ ap (λ (o : Option ℕ). or_error o (Ok file)) none
 
-  pub is_a_directory : change_error call name file ≡ None → is_directory file ≡ true
-  is_a_directory none = is_one (is_directory file) (is_bad name) (may call file want.Change) none
+  pub refuses : (status : ℕ) → name_error wanted call name file ≡ Some status → usable wanted call name (Some file) ≡ Err status
+  refuses status some = used_by ∙ ap (λ (o : Option ℕ). or_error o (Ok file)) some
 
-module _ (areas : ℕ) (truth : Truth) (tree : Tree) (call : Call) (name : List ℕ) (handle : ℕ) where
-  pub no_directory : (stop : Stop) → FileAt areas truth tree handle (Err stop) → DirectoryFor areas truth tree call name handle (Err stop)
-  no_directory (Status status) (code, none) = ap (changeable call name) none ∙ ap Err (sym code)
+  pub is_a_directory : name_error wanted call name file ≡ None → is_directory file ≡ true
+  is_a_directory none = is_one (is_directory file) (is_bad name) (may call file wanted) none
+
+  pub is_good : name_error wanted call name file ≡ None → is_bad name ≡ false
+  is_good none = good_of (is_directory file) (is_bad name) (may call file wanted) none
+
+module _ (wanted : Want) (areas : ℕ) (truth : Truth) (tree : Tree) (call : Call) (name : List ℕ) (handle : ℕ) where
+  pub no_directory : (stop : Stop) → FileAt areas truth tree handle (Err stop) → DirectoryFor wanted areas truth tree call name handle (Err stop)
+  no_directory (Status status) (code, none) = ap (usable wanted call name) none ∙ ap Err (sym code)
   no_directory (Need at mode) f = tt
   no_directory (Inner blocks) never = never
   no_directory OutOfMemory f = tt
 
   module _ (inode : Inode) (f : IsInodeOf areas truth tree handle inode) where
-    pub refused : (status : ℕ) (error : Option ℕ) → error ≡ Some status → error ≡ change_error call name (head_of handle inode) → changeable call name (file_at tree.files handle) ≡ Err status
-    refused status error some is = ap (changeable call name) f.there ∙ refuses call name f.file status (sym (is ∙ error_is call name handle inode f.file f.fields) ∙ some)
+    pub refused : (status : ℕ) (error : Option ℕ) → error ≡ Some status → error ≡ name_error wanted call name (head_of handle inode) → usable wanted call name (file_at tree.files handle) ≡ Err status
+    refused status error some is = ap (usable wanted call name) f.there ∙ refuses wanted call name f.file status (sym (is ∙ error_is wanted call name handle inode f.file f.fields) ∙ some)
 
-    pub allowed : None ≡ change_error call name (head_of handle inode) → change_error call name f.file ≡ None
-    allowed none = sym (none ∙ error_is call name handle inode f.file f.fields)
+    pub allowed : None ≡ name_error wanted call name (head_of handle inode) → name_error wanted call name f.file ≡ None
+    allowed none = sym (none ∙ error_is wanted call name handle inode f.file f.fields)
 
 -- ---- the file
 

@@ -14,6 +14,7 @@ use Rattle.bx_inodes.specs.declared.stop.Stop.{Stop}
 use Rattle.bx_inodes.specs.declared.stop.Stop.TheVariants.{Need, Inner, Status, OutOfMemory}
 use Rattle.bx_layout.specs.declared.inode.Inode.{Inode}
 use Rattle.bx_model.specs.declared.call.Call.{Call}
+use Rattle.bx_model.specs.declared.permissions.Want.TheVariants as want
 use Rattle.bx_model.specs.declared.reply.Reply.TheVariants as reply
 use Rattle.bx_model.specs.declared.tree.Tree.{Tree}
 use Rattle.bx_model.specs.Reading.{named_file}
@@ -40,9 +41,9 @@ use Rattle.bx_truth.specs.Stored.{HasBody, IsDirectory, Owner, Stored}
 use Rattle.bx_views.specs.Truths.{Held, Hints, IsTruth, Truth}
 use Rattle.bx_entries.specs.declared.finding.Removable.{Removable}
 use Rattle.bx_entries.specs.declared.finding.Removable.TheVariants as of
-use Rattle.bx_entries.specs.Finding.{DirectoryFor, EntryFor, FileFor, IsDirectoryOf, MayChange, MayRemove, RemovesFrom, RemovesSo, changeable, removal as comes_of, removal_error, removing, removing_entry, unless}
+use Rattle.bx_entries.specs.Finding.{DirectoryFor, EntryFor, FileFor, IsDirectoryOf, MayUse, MayRemove, RemovesFrom, RemovesSo, usable, removal as comes_of, removal_error, removing, removing_entry, unless}
 use Rattle.bx_entries.specs.Removing.{IsRemoval, RemovesIn, removed}
-use Rattle.bx_entries.proofs.Found.{changes, is_a_directory, is_removed, may_be_empty}
+use Rattle.bx_entries.proofs.Found.{is_a_directory, is_removed, may_be_empty, uses}
 
 -- the area of a handle of the volume
 less_area : (area slot areas : ℕ) → (1024 * area + slot) / 1024 < areas → area < areas
@@ -195,34 +196,34 @@ module _ (sort : Removable) (tree : Tree) (call : Call) (name : List ℕ) (now :
   keeps_by of.Plain bytes was next comes = remove_keeps tree was call bytes name now (reply.Status 0) next comes
   keeps_by of.Directory bytes was next comes = rmdir_keeps tree was call bytes name now (reply.Status 0) next comes
 
-  removal_is : (bytes : List ℕ) → comes_of sort tree call bytes name now ≡ rest (changeable call name (named_file tree bytes))
+  removal_is : (bytes : List ℕ) → comes_of sort tree call bytes name now ≡ rest (usable want.Change call name (named_file tree bytes))
   removal_is bytes = by sort
     where
-      by : (sort : Removable) → comes_of sort tree call bytes name now ≡ (from (changeable call name (named_file tree bytes)) >>= (λ both. unless (removal_error sort both.1) (Ok (reply.Status 0, removed tree both.0 name both.1 now))))
-      by of.Plain = same_next _ _ (λ both. plain both.0 both.1 (is_directory both.1) (has_entries both.1) both.1.handle both.1.nlink) (from (changeable call name (named_file tree bytes)))
-      by of.Directory = same_next _ _ (λ both. directory_too both.0 both.1 (is_directory both.1) (has_entries both.1) both.1.handle both.1.nlink) (from (changeable call name (named_file tree bytes)))
+      by : (sort : Removable) → comes_of sort tree call bytes name now ≡ (from (usable want.Change call name (named_file tree bytes)) >>= (λ both. unless (removal_error sort both.1) (Ok (reply.Status 0, removed tree both.0 name both.1 now))))
+      by of.Plain = same_next _ _ (λ both. plain both.0 both.1 (is_directory both.1) (has_entries both.1) both.1.handle both.1.nlink) (from (usable want.Change call name (named_file tree bytes)))
+      by of.Directory = same_next _ _ (λ both. directory_too both.0 both.1 (is_directory both.1) (has_entries both.1) both.1.handle both.1.nlink) (from (usable want.Change call name (named_file tree bytes)))
 
   module _ (volume : ℕ) (bytes : List ℕ) (same : tree.volume ≡ volume) where
     pub no_name : None ≡ named volume bytes → comes_of sort tree call bytes name now ≡ Err 70
-    no_name is = removal_is bytes ∙ ap (λ (o : Option File). rest (changeable call name o)) (named_as tree volume bytes None same is)
+    no_name is = removal_is bytes ∙ ap (λ (o : Option File). rest (usable want.Change call name o)) (named_as tree volume bytes None same is)
 
     module _ (handle : ℕ) (is : Some handle ≡ named volume bytes) where
-      by_handle : comes_of sort tree call bytes name now ≡ rest (changeable call name (file_at tree.files handle))
-      by_handle = removal_is bytes ∙ ap (λ (o : Option File). rest (changeable call name o)) (named_as tree volume bytes (Some handle) same is)
+      by_handle : comes_of sort tree call bytes name now ≡ rest (usable want.Change call name (file_at tree.files handle))
+      by_handle = removal_is bytes ∙ ap (λ (o : Option File). rest (usable want.Change call name o)) (named_as tree volume bytes (Some handle) same is)
 
-      pub no_directory : (areas : ℕ) (truth : Truth) (stop : Stop) → DirectoryFor areas truth tree call name handle (Err stop) → IsChange volume areas truth tree (comes_of sort tree call bytes name now) (Err stop)
+      pub no_directory : (areas : ℕ) (truth : Truth) (stop : Stop) → DirectoryFor want.Change areas truth tree call name handle (Err stop) → IsChange volume areas truth tree (comes_of sort tree call bytes name now) (Err stop)
       no_directory areas truth (Status status) e = by_handle ∙ ap rest e
       no_directory areas truth (Need at mode) e = tt
       no_directory areas truth (Inner blocks) never = never
       no_directory areas truth OutOfMemory e = tt
 
-      module _ (areas : ℕ) (truth : Truth) (inode : Inode) (m : MayChange areas truth tree call name handle inode) where
+      module _ (areas : ℕ) (truth : Truth) (inode : Inode) (m : MayUse want.Change areas truth tree call name handle inode) where
         pub is_outcome : comes_of sort tree call bytes name now ≡ removing_entry sort tree m.at.file name now (entry_named (names_of m.at.file.body) name)
-        is_outcome = by_handle ∙ ap (λ (o : Option File). rest (changeable call name o)) m.at.there ∙ ap rest (changes call name m.at.file m.may) ∙ rest_ok m.at.file
+        is_outcome = by_handle ∙ ap (λ (o : Option File). rest (usable want.Change call name o)) m.at.there ∙ ap rest (uses want.Change call name m.at.file m.may) ∙ rest_ok m.at.file
 
         pub directory : (held : Held) (hints : Hints) → areas ≤ 64 → IsTruth held truth → Stands volume areas truth tree → HintsFitAll areas hints truth → IsDirectoryOf volume areas held hints truth tree handle inode
         directory held hints few agrees stands fit =
-            record { few = few; same = agrees; stands = stands; fit = fit; at = m.at; kind = m.at.fields.kind ∙ eqb-true m.at.file.kind 2 (is_a_directory call name m.at.file m.may) }
+            record { few = few; same = agrees; stands = stands; fit = fit; at = m.at; kind = m.at.fields.kind ∙ eqb-true m.at.file.kind 2 (is_a_directory want.Change call name m.at.file m.may) }
 
         pub not_removed : (stop : Stop) → RemovesFrom areas truth (removing_entry sort tree m.at.file name now (entry_named (names_of m.at.file.body) name)) (Err stop) → IsChange volume areas truth tree (comes_of sort tree call bytes name now) (Err stop)
         not_removed (Status status) e = is_outcome ∙ e

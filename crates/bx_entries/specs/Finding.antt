@@ -13,7 +13,8 @@ use Rattle.bx_inodes.specs.declared.stop.Stop.{Stop}
 use Rattle.bx_inodes.specs.declared.stop.Stop.TheVariants.{Need, Inner, Status, OutOfMemory}
 use Rattle.bx_layout.specs.declared.inode.Inode.{Inode}
 use Rattle.bx_model.specs.declared.call.Call.{Call}
-use Rattle.bx_model.specs.declared.permissions.Want.TheVariants as want
+use Rattle.bx_model.specs.declared.permissions.Want.{Want}
+use Rattle.bx_model.specs.declared.status.TheConstants.{ACCES, NOTDIR, STALE}
 use Rattle.bx_model.specs.declared.reply.Reply.TheVariants as reply
 use Rattle.bx_model.specs.declared.tree.Tree.{Tree}
 use Rattle.bx_model.specs.Permissions.{may}
@@ -31,15 +32,15 @@ use Rattle.bx_views.specs.Truths.{Truth, Held, Hints, IsTruth}
 use Rattle.bx_directory_reads.specs.Listings.{OnBehind}
 use Rattle.bx_entries.specs.declared.finding.Removable.{Removable}
 use Rattle.bx_entries.specs.declared.finding.Removable.TheVariants as of
-use Rattle.bx_entries.specs.Removing.{OnRemoving, Removes, change_error, removed}
+use Rattle.bx_entries.specs.Removing.{OnRemoving, Removes, name_error, removed}
 
--- the directory in which an entry of a name may be changed, if a file is found: 70 is STALE, 20 NOTDIR, 13 ACCES
-abbrev pub changeable : Call → List ℕ → Option File → Result File ℕ
-changeable call name found = do
-  directory ← must found 70
-  refuse (not (is_directory directory)) 20
-  refuse (is_bad name) 13
-  refuse (not (may call directory want.Change)) 13
+-- the directory in which a caller may use a name, with a right, if a file is found
+abbrev pub usable : Want → Call → List ℕ → Option File → Result File ℕ
+usable wanted call name found = do
+  directory ← must found STALE
+  refuse (not (is_directory directory)) NOTDIR
+  refuse (is_bad name) ACCES
+  refuse (not (may call directory wanted)) ACCES
   Ok directory
 
 -- what a call comes to that removes a file of one sort or the other: REMOVE, or RMDIR
@@ -66,17 +67,17 @@ removing sort tree directory name now found = must found 70 >>= (λ file. unless
 abbrev pub removing_entry : Removable → Tree → File → List ℕ → Time → Option Name → Outcome
 removing_entry sort tree directory name now found = must found 2 >>= (λ entry. removing sort tree directory name now (file_at tree.files entry.handle))
 
--- the directory is there, and the caller may change it
-pub record MayChange (areas : ℕ) (truth : Truth) (tree : Tree) (call : Call) (name : List ℕ) (handle : ℕ) (inode : Inode) : Type 0 where
+-- the directory is there, and the caller has the right
+pub record MayUse (wanted : Want) (areas : ℕ) (truth : Truth) (tree : Tree) (call : Call) (name : List ℕ) (handle : ℕ) (inode : Inode) : Type 0 where
   pub at : IsInodeOf areas truth tree handle inode
-  pub may : change_error call name at.file ≡ None
+  pub may : name_error wanted call name at.file ≡ None
 
-abbrev pub DirectoryFor : ℕ → Truth → Tree → Call → List ℕ → ℕ → Result Inode Stop → Type 0
-DirectoryFor areas truth tree call name handle (Ok inode) = MayChange areas truth tree call name handle inode
-DirectoryFor areas truth tree call name handle (Err (Status status)) = changeable call name (file_at tree.files handle) ≡ Err status
-DirectoryFor areas truth tree call name handle (Err (Need at mode)) = Unit {0}
-DirectoryFor areas truth tree call name handle (Err (Inner blocks)) = ⊥
-DirectoryFor areas truth tree call name handle (Err OutOfMemory) = Unit {0}
+abbrev pub DirectoryFor : Want → ℕ → Truth → Tree → Call → List ℕ → ℕ → Result Inode Stop → Type 0
+DirectoryFor wanted areas truth tree call name handle (Ok inode) = MayUse wanted areas truth tree call name handle inode
+DirectoryFor wanted areas truth tree call name handle (Err (Status status)) = usable wanted call name (file_at tree.files handle) ≡ Err status
+DirectoryFor wanted areas truth tree call name handle (Err (Need at mode)) = Unit {0}
+DirectoryFor wanted areas truth tree call name handle (Err (Inner blocks)) = ⊥
+DirectoryFor wanted areas truth tree call name handle (Err OutOfMemory) = Unit {0}
 
 -- what looking for an entry of a name answers, by the list of entries
 abbrev pub EntryFor : List Name → List ℕ → Result (ℕ × ℕ) Stop → Type 0
@@ -177,10 +178,3 @@ pub record OnDirectory (sort : Removable) (held : Held) (hints : Hints) (volume 
 -- The path of a removal: the inode of the directory that is named, exclusively, and that from there on.
 abbrev pub OnRemoval : Removable → Held → Hints → ℕ → ℕ → List ℕ → List ℕ → ℕ → Mode → Type 0
 OnRemoval sort held hints volume areas bytes name at mode = OnInode volume bytes Exclusive at mode ⊎ OnDirectory sort held hints volume areas bytes name at mode
-
--- The paths of REMOVE and of RMDIR.
-abbrev pub OnRemove : Held → Hints → ℕ → ℕ → List ℕ → List ℕ → ℕ → Mode → Type 0
-OnRemove held hints volume areas bytes name at mode = OnRemoval of.Plain held hints volume areas bytes name at mode
-
-abbrev pub OnRmdir : Held → Hints → ℕ → ℕ → List ℕ → List ℕ → ℕ → Mode → Type 0
-OnRmdir held hints volume areas bytes name at mode = OnRemoval of.Directory held hints volume areas bytes name at mode

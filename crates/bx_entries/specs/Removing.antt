@@ -11,7 +11,8 @@ use Rattle.bx_inodes.specs.declared.stop.Stop.{Stop}
 use Rattle.bx_inodes.specs.declared.stop.Stop.TheVariants.{Need, Inner, Status, OutOfMemory}
 use Rattle.bx_layout.specs.declared.inode.Inode.{Inode}
 use Rattle.bx_model.specs.declared.call.Call.{Call}
-use Rattle.bx_model.specs.declared.permissions.Want.TheVariants as want
+use Rattle.bx_model.specs.declared.permissions.Want.{Want}
+use Rattle.bx_model.specs.declared.status.TheConstants.{ACCES, NOTDIR}
 use Rattle.bx_model.specs.declared.tree.Tree.{Tree}
 use Rattle.bx_model.specs.Permissions.{may}
 use Rattle.bx_model.specs.Removing.{has_entries}
@@ -27,10 +28,9 @@ use Rattle.bx_truth.specs.Chunks.{own_block}
 use Rattle.bx_truth.specs.Stands.{StandsFor}
 use Rattle.bx_views.specs.Truths.{Truth, Held, Hints, IsTruth, with_draft}
 
--- the error that a caller meets who changes an entry of a name in a file: NOTDIR (20) where it is no directory, ACCES (13) of a bad name and
--- without the right
-abbrev pub change_error : Call → List ℕ → File → Option ℕ
-change_error call name file = if is_directory file then (if is_bad name then Some 13 else if may call file want.Change then None else Some 13) else Some 20
+-- the error that a caller meets who uses a name in a file, with this right: NOTDIR where it is no directory, ACCES of a bad name and without the right
+abbrev pub name_error : Want → Call → List ℕ → File → Option ℕ
+name_error wanted call name file = if is_directory file then (if is_bad name then Some ACCES else if may call file wanted then None else Some ACCES) else Some NOTDIR
 
 -- A directory of a file tree, by its inode, with an entry of a name by its number, and the file that the entry names, by its inode, which has no
 -- entries where it is a directory.

@@ -1,25 +1,15 @@
 //! What REMOVE and RMDIR find: the directory, the entry, and the file that it names.
 
 ghost use Rattle.std.specs.Prelude.{◌≡◌, ◌≤◌, ℕ, List, [], IfOk, Some};
-ghost use Rattle.bx_base.specs.declared.names.Mode.TheVariants.{Exclusive};
-ghost use Rattle.bx_blink.specs.Walks.{reads_with};
+ghost use Rattle.bx_changes.specs.Procedures.{Exclusive, File, HintsFitAll, IsTruth, LiveAt, Name, NeedsOn, NeverInner, Stands, StandsFor, Tree, Truth, reads_with};
 ghost use Rattle.bx_dirs.specs.Entries.{HasEntries};
 ghost use Rattle.bx_files.specs.Paths.{Finds, OnSearch};
 ghost use Rattle.bx_files.specs.Reads.{Tells};
-ghost use Rattle.bx_hints.specs.Fitting.{HintsFitAll};
 ghost use Rattle.bx_inodes.specs.Heads.{head_of as head_by};
-ghost use Rattle.bx_inodes.specs.Inodes.{LiveAt};
-ghost use Rattle.bx_inodes.specs.Stands.{Stands};
-ghost use Rattle.bx_inodes.specs.Stops.{NeedsOn, NeverInner};
-ghost use Rattle.bx_model.specs.declared.tree.Tree.{Tree};
-ghost use Rattle.bx_tree_files.specs.declared.file.File.{File};
-ghost use Rattle.bx_tree_files.specs.declared.file.Name.{Name};
 ghost use Rattle.bx_tree_files.specs.Times.{Time};
 ghost use Rattle.bx_truth.specs.Keys.{name_key, name_value};
-ghost use Rattle.bx_truth.specs.Stands.{StandsFor};
-ghost use Rattle.bx_views.specs.Truths.{IsTruth, Truth};
 ghost use Rattle.bx_entries.specs.Finding.{DirectoryFor, EntryFor, FileFor, IsKnownFile, IsOwnBlock, OnEmptiness, OnFile, removal_error as removal_error_of};
-ghost use Rattle.bx_entries.specs.Removing.{change_error as error_of};
+ghost use Rattle.bx_entries.specs.Removing.{name_error as error_of};
 
 use bx_base::{Mode, OutOfMemory};
 use bx_blink::BlinkError;
@@ -33,10 +23,10 @@ use bx_tree_files::{DIRECTORY, is_bad};
 use bx_views::View;
 use std::alloc::Global;
 
-/// The inode of the directory with a handle, in which a caller may change an entry of a name.
+/// The inode of the directory with a handle, in which a caller may use a name, with a right: to look for it, or to change its entry.
 ///
 /// `Need` names the inode's block, exclusively, which isn't held so. The status is `STALE`, exactly where there is no such file, else `NOTDIR`
-/// where it is no directory, and `ACCES` of a bad name and where the caller may not change it.
+/// where it is no directory, and `ACCES` of a bad name and where the caller hasn't the right.
 pub fn directory_for<V: View>(
     alloc: Global,
     view: &V,
@@ -44,8 +34,9 @@ pub fn directory_for<V: View>(
     call: &Call,
     handle: u64,
     name: &[u8],
+    want: Want,
 ) -> Result<Inode, Stop>
-    ensures step { (truth : Truth) (tree : Tree) → IsTruth (V.held view.now) truth → StandsFor areas truth tree → DirectoryFor areas truth tree call.now name.now handle result }
+    ensures step { (truth : Truth) (tree : Tree) → IsTruth (V.held view.now) truth → StandsFor areas truth tree → DirectoryFor want areas truth tree call.now name.now handle result }
     ensures live { IfOk result (LiveAt (reads_with (V.held view.now) (V.hints view.now) []) areas handle Exclusive) }
     ensures need { NeedsOn areas (V.held view.now) (IsOwnBlock handle) result }
     ensures inner { NeverInner result }
@@ -53,7 +44,7 @@ pub fn directory_for<V: View>(
     let none = Draft::new(alloc);
     match inode_at(alloc, &none, view, areas, handle, Mode::Exclusive) {
         Err(stop) => Err(stop),
-        Ok(inode) => match change_error(alloc, call, handle, &inode, name) {
+        Ok(inode) => match name_error(alloc, call, handle, &inode, name, want) {
             Err(_) => Err(Stop::OutOfMemory),
             Ok(Some(status)) => Err(Stop::Status(status)),
             Ok(None) => Ok(inode),
@@ -61,15 +52,16 @@ pub fn directory_for<V: View>(
     }
 }
 
-/// The error that a caller meets who changes an entry of a name in the file with a handle, by its inode; `None` exactly where there is none.
-fn change_error(
+/// The error that a caller meets who uses a name in the file with a handle, by its inode; `None` exactly where there is none.
+fn name_error(
     alloc: Global,
     call: &Call,
     handle: u64,
     inode: &Inode,
     name: &[u8],
+    want: Want,
 ) -> Result<Option<u32>, OutOfMemory>
-    ensures { IfOk result (λ error. error ≡ error_of call.now name.now (head_by handle inode.now)) }
+    ensures { IfOk result (λ error. error ≡ error_of want call.now name.now (head_by handle inode.now)) }
 {
     if inode.kind != DIRECTORY {
         return Ok(Some(NOTDIR));
@@ -78,7 +70,7 @@ fn change_error(
         return Ok(Some(ACCES));
     }
     let head = head_of(alloc, handle, inode)?;
-    if may(call, &head, Want::Change) {
+    if may(call, &head, want) {
         Ok(None)
     } else {
         Ok(Some(ACCES))

@@ -9,7 +9,7 @@ mod taking;
 mod unlinking;
 
 pub use finding::{Removable, directory_for, entry_for};
-pub use removals::{remove, rmdir};
+pub use removals::remove;
 pub use removing::remove_entry;
 pub use taking::{Known, take_entry};
 pub use unlinking::unlink;

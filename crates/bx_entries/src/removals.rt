@@ -1,39 +1,30 @@
 //! REMOVE and RMDIR.
 
-ghost use Rattle.std.specs.Prelude.{◌≡◌, ◌≤◌, ℕ, List, [], IfOk};
-ghost use Rattle.bx_base.specs.declared.names.Mode.TheVariants.{Exclusive};
-ghost use Rattle.bx_blink.specs.Walks.{reads_with};
+ghost use Rattle.std.specs.Prelude.{◌≤◌, ℕ, [], IfOk};
 ghost use Rattle.bx_changes.specs.Changes.{IsChange};
-ghost use Rattle.bx_hints.specs.Fitting.{HintsFitAll};
-ghost use Rattle.bx_inodes.specs.Inodes.{LiveAt};
-ghost use Rattle.bx_inodes.specs.Stands.{Stands};
-ghost use Rattle.bx_inodes.specs.Stops.{NeedsOn, NeverInner};
-ghost use Rattle.bx_model.specs.declared.tree.Tree.{Tree};
-ghost use Rattle.bx_model.specs.Removing.{remove as remove_of, rmdir as rmdir_of};
-ghost use Rattle.bx_tree_files.specs.Entries.{entry_named};
-ghost use Rattle.bx_tree_files.specs.Names.{names_of};
-ghost use Rattle.bx_views.specs.Attempts.{IsHeldDraft};
-ghost use Rattle.bx_views.specs.Truths.{Hints, IsTruth, Truth, with_draft};
-ghost use Rattle.bx_entries.specs.Finding.{IsDirectoryOf, OnNamed, OnRemoval, OnRemove, OnRmdir, RemovesFrom, removal, removing_entry};
+ghost use Rattle.bx_changes.specs.Procedures.{Exclusive, IsHeldDraft, KeepsHints, LiveAt, NeedsOn, NeverInner, OnVolume, Tree, Truth, entry_named, names_of, reads_with};
+ghost use Rattle.bx_entries.specs.Finding.{IsDirectoryOf, OnNamed, OnRemoval, RemovesFrom, removal, removing_entry};
 
 use crate::finding::{Removable, directory_for, entry_for, file_for};
 use crate::removing::remove_entry;
 use crate::taking::Known;
 use bx_handles::named_handle;
 use bx_inodes::Stop;
-use bx_model::{Call, NFS_OK, Reply, STALE};
+use bx_model::{Call, NFS_OK, Reply, STALE, Want};
 use bx_records::Draft;
 use bx_views::View;
 use std::alloc::Global;
 
-/// REMOVE (RFC 1094, section 2.2.11), of a volume with at most 64 areas: the blocks that it changes, and the reply. The entry of a name goes
-/// out of the directory that a file handle of the volume names, and the file that it names loses a name, or dies with its last one.
+/// REMOVE (RFC 1094, section 2.2.11) or RMDIR (section 2.2.16), by what is removed, of a volume with at most 64 areas: the blocks that it changes, and the reply.
+/// The entry of a name goes out of the directory that a file handle of the volume names, and the file that it names loses a name, or dies with its last one; a
+/// directory, which has no entries, dies.
 ///
 /// `Need` names a block that isn't held: that of the directory's inode, exclusively, or, where that is held, one on the path of the search for the
 /// name, shared; where that finds an entry the block of the inode that it names, one on the path of the two changes of the directory's tree, or the
-/// own block of the area of a file that dies, exclusively. The status is `STALE`, exactly where the file handle names no file, else `NOTDIR` where that
-/// is no directory, `ACCES` of a bad name and where the caller may not change it, `NOENT` where no entry has the name, and `ISDIR` where that of a
-/// directory has. `now` is in seconds and microseconds.
+/// own block of the area of a file that dies, exclusively; where a directory goes one on the way to its first entry, shared. The status is `STALE`, exactly where
+/// the file handle names no file, else `NOTDIR` where that is no directory, `ACCES` of a bad name and where the caller may not change it, `NOENT` where no entry
+/// has the name, and `ISDIR` where that of a directory has and none is to go; else `NOTDIR` where the entry with the name has no directory, and `NOTEMPTY` where
+/// that has entries. `now` is in seconds and microseconds.
 pub fn remove<V: View>(
     alloc: Global,
     volume: u64,
@@ -41,86 +32,13 @@ pub fn remove<V: View>(
     call: &Call,
     at: &[u8],
     name: &[u8],
-    now: (u32, u32),
-    view: &V,
-) -> Result<(Draft, Reply), Stop>
-    requires { areas ≤ 64 }
-    ensures step { (truth : Truth) (tree : Tree) → IsTruth (V.held view.now) truth → Stands volume areas truth tree → HintsFitAll areas (V.hints view.now) truth
-        → IsChange volume areas truth tree (remove_of tree call.now at.now name.now now) result }
-    ensures hints { (hints : Hints) (truth : Truth) (tree : Tree) → IsTruth (V.held view.now) truth → Stands volume areas truth tree → HintsFitAll areas (V.hints view.now) truth
-        → HintsFitAll areas hints truth → IfOk result (λ made. HintsFitAll areas hints (with_draft truth made.0)) }
-    ensures need { NeedsOn areas (V.held view.now) (OnRemove (V.held view.now) (V.hints view.now) volume areas at.now name.now) result }
-    ensures inner { NeverInner result }
-    ensures held { IfOk result (λ made. IsHeldDraft (V.held view.now) made.0) }
-{
-    remove_name(
-        alloc,
-        volume,
-        areas,
-        call,
-        at,
-        name,
-        now,
-        view,
-        Removable::Plain,
-    )
-}
-
-/// RMDIR (RFC 1094, section 2.2.16), of a volume with at most 64 areas: the blocks that it changes, and the reply. The entry of a name goes out of
-/// the directory that a file handle of the volume names, and the directory that it names, which has no entries, dies.
-///
-/// `Need` names a block as that of `remove` does, or one on the way to the first entry of the directory that the name is of, shared. The status is
-/// `STALE`, `NOTDIR`, `ACCES` and `NOENT` as it is of `remove`, then `NOTDIR` where the entry with the name has no directory, and `NOTEMPTY` where that has
-/// entries. `now` is in seconds and microseconds.
-pub fn rmdir<V: View>(
-    alloc: Global,
-    volume: u64,
-    areas: u16,
-    call: &Call,
-    at: &[u8],
-    name: &[u8],
-    now: (u32, u32),
-    view: &V,
-) -> Result<(Draft, Reply), Stop>
-    requires { areas ≤ 64 }
-    ensures step { (truth : Truth) (tree : Tree) → IsTruth (V.held view.now) truth → Stands volume areas truth tree → HintsFitAll areas (V.hints view.now) truth
-        → IsChange volume areas truth tree (rmdir_of tree call.now at.now name.now now) result }
-    ensures hints { (hints : Hints) (truth : Truth) (tree : Tree) → IsTruth (V.held view.now) truth → Stands volume areas truth tree → HintsFitAll areas (V.hints view.now) truth
-        → HintsFitAll areas hints truth → IfOk result (λ made. HintsFitAll areas hints (with_draft truth made.0)) }
-    ensures need { NeedsOn areas (V.held view.now) (OnRmdir (V.held view.now) (V.hints view.now) volume areas at.now name.now) result }
-    ensures inner { NeverInner result }
-    ensures held { IfOk result (λ made. IsHeldDraft (V.held view.now) made.0) }
-{
-    remove_name(
-        alloc,
-        volume,
-        areas,
-        call,
-        at,
-        name,
-        now,
-        view,
-        Removable::Directory,
-    )
-}
-
-/// Both, by what is removed.
-fn remove_name<V: View>(
-    alloc: Global,
-    volume: u64,
-    areas: u16,
-    call: &Call,
-    at: &[u8],
-    name: &[u8],
-    now: (u32, u32),
-    view: &V,
     sort: Removable,
+    now: (u32, u32),
+    view: &V,
 ) -> Result<(Draft, Reply), Stop>
     requires { areas ≤ 64 }
-    ensures step { (truth : Truth) (tree : Tree) → IsTruth (V.held view.now) truth → Stands volume areas truth tree → HintsFitAll areas (V.hints view.now) truth
-        → IsChange volume areas truth tree (removal sort tree call.now at.now name.now now) result }
-    ensures hints { (hints : Hints) (truth : Truth) (tree : Tree) → IsTruth (V.held view.now) truth → Stands volume areas truth tree → HintsFitAll areas (V.hints view.now) truth
-        → HintsFitAll areas hints truth → IfOk result (λ made. HintsFitAll areas hints (with_draft truth made.0)) }
+    ensures step { OnVolume volume areas (V.held view.now) (V.hints view.now) (λ truth tree. IsChange volume areas truth tree (removal sort tree call.now at.now name.now now) result) }
+    ensures hints { KeepsHints volume areas (V.held view.now) (V.hints view.now) result }
     ensures need { NeedsOn areas (V.held view.now) (OnRemoval sort (V.held view.now) (V.hints view.now) volume areas at.now name.now) result }
     ensures inner { NeverInner result }
     ensures held { IfOk result (λ made. IsHeldDraft (V.held view.now) made.0) }
@@ -128,7 +46,7 @@ fn remove_name<V: View>(
     let Some(handle) = named_handle(volume, at) else {
         return Err(Stop::Status(STALE));
     };
-    match directory_for(alloc, view, areas, call, handle, name) {
+    match directory_for(alloc, view, areas, call, handle, name, Want::Change) {
         Err(stop) => Err(stop),
         Ok(inode) => {
             let directory = Known { handle, inode };

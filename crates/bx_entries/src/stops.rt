@@ -1,6 +1,5 @@
 //! What stops an attempt, by why a call on a tree or on chunks isn't answered.
 
-ghost use Rattle.std.specs.Prelude.{◌≡◌};
 ghost use Rattle.bx_entries.specs.Stopping.{StopsBy, StopsByChunks};
 
 use bx_blink::BlinkError;

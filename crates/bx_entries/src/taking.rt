@@ -1,15 +1,8 @@
 //! Entries that are taken out of directories.
 
-ghost use Rattle.std.specs.Prelude.{◌≡◌, ◌+◌, ◌≤◌, ℕ, length, IfOk, IsSome};
-ghost use Rattle.bx_base.specs.declared.names.Mode.TheVariants.{Exclusive};
+ghost use Rattle.std.specs.Prelude.{◌≡◌, ◌+◌, ◌≤◌, length, IfOk, IsSome};
+ghost use Rattle.bx_changes.specs.Procedures.{Exclusive, File, IsHeldDraft, IsInode, NeedsOn, NeverInner, Tree, Truth, block_at};
 ghost use Rattle.bx_dirs.specs.Changes.{OnTakePath};
-ghost use Rattle.bx_inodes.specs.Stops.{NeedsOn, NeverInner};
-ghost use Rattle.bx_layout.specs.Inodes.{IsInode};
-ghost use Rattle.bx_model.specs.declared.tree.Tree.{Tree};
-ghost use Rattle.bx_tree_files.specs.declared.file.File.{File};
-ghost use Rattle.bx_truth.specs.Chunks.{block_at};
-ghost use Rattle.bx_views.specs.Attempts.{IsHeldDraft};
-ghost use Rattle.bx_views.specs.Truths.{Truth};
 ghost use Rattle.bx_entries.specs.Taking.{IsEntryOf, TakesEntry, TakesOutAt, inode_without, links_left as left};
 
 use crate::stops::stop_of;

@@ -4,15 +4,15 @@ use Rattle.std.specs.Prelude.{nat_le, nat_lt, IfErr, Result, Ok, Err}
 use Rattle.bx_base.specs.declared.names.Mode.{Mode}
 use Rattle.bx_blink.specs.Walks.{Reads}
 use Rattle.bx_adding.specs.Lacking.{FindsBoth, IfFirst}
-use Rattle.bx_adding.specs.Stopping.{NeverFirst}
+use Rattle.bx_changes.specs.Stopping.{NeverFirst}
 use Rattle.bx_adding.proofs.Lacks.{never_first}
 use Rattle.bx_changes.specs.Changes.{Changes}
 use Rattle.bx_changes.specs.First.{ComesFirst}
 use Rattle.bx_changes.specs.Growing.{IfFull, IsChangeBy, NeedsBy}
 use Rattle.bx_changes.specs.declared.error.ChangeError.{ChangeError}
 use Rattle.bx_changes.specs.declared.error.ChangeError.TheVariants.{Stopped, Full}
-use Rattle.bx_entries.specs.Finding.{DirectoryFor, MayChange, changeable}
-use Rattle.bx_entries.proofs.Found.{changes, is_a_directory}
+use Rattle.bx_entries.specs.Finding.{DirectoryFor, MayUse, usable}
+use Rattle.bx_entries.proofs.Found.{is_a_directory, uses}
 use Rattle.bx_handles.specs.Handles.{named}
 use Rattle.bx_hints.specs.Fitting.{HintsFitAll}
 use Rattle.bx_inodes.specs.Inodes.{FileAt, InodeAt, IsInodeOf}
@@ -22,6 +22,7 @@ use Rattle.bx_inodes.specs.declared.stop.Stop.{Stop}
 use Rattle.bx_inodes.specs.declared.stop.Stop.TheVariants.{Need, Inner, Status, OutOfMemory}
 use Rattle.bx_layout.specs.declared.inode.Inode.{Inode}
 use Rattle.bx_model.specs.declared.call.Call.{Call}
+use Rattle.bx_model.specs.declared.permissions.Want.TheVariants as want
 use Rattle.bx_model.specs.declared.reply.Reply.TheVariants as reply
 use Rattle.bx_model.specs.declared.tree.Tree.{Tree}
 use Rattle.bx_model.specs.Making.{has_entry, link}
@@ -78,15 +79,15 @@ module _ (tree : Tree) (call : Call) (file : File) (name : List ℕ) (now : Time
     by_handle : (spare : ℕ) → linking tree call file name now spare (named_file tree bytes) ≡ linking tree call file name now spare (file_at tree.files handle)
     by_handle spare = ap (linking tree call file name now spare) (named_as tree volume bytes (Some handle) same is)
 
-    pub no_directory : (stop : Stop) → DirectoryFor areas truth tree call name handle (Err stop) → ComesBy areas truth (λ spare. linking tree call file name now spare (named_file tree bytes)) (Err (Stopped stop))
+    pub no_directory : (stop : Stop) → DirectoryFor want.Change areas truth tree call name handle (Err stop) → ComesBy areas truth (λ spare. linking tree call file name now spare (named_file tree bytes)) (Err (Stopped stop))
     no_directory (Status status) e = by_handle 8 ∙ ap (λ (r : Result File ℕ). r >>= linking_in tree file name now 8) e
     no_directory (Need at mode) e = tt
     no_directory (Inner blocks) e = absurd e
     no_directory OutOfMemory e = tt
 
-    module _ (inode : Inode) (m : MayChange areas truth tree call name handle inode) where
+    module _ (inode : Inode) (m : MayUse want.Change areas truth tree call name handle inode) where
       pub into : (spare : ℕ) → linking tree call file name now spare (named_file tree bytes) ≡ linking_in tree file name now spare m.at.file
-      into spare = by_handle spare ∙ ap (linking tree call file name now spare) m.at.there ∙ ap (λ (r : Result File ℕ). r >>= linking_in tree file name now spare) (changes call name m.at.file m.may)
+      into spare = by_handle spare ∙ ap (linking tree call file name now spare) m.at.there ∙ ap (λ (r : Result File ℕ). r >>= linking_in tree file name now spare) (uses want.Change call name m.at.file m.may)
 
       abbrev pub both : (held : Held) (hints : Hints) (of_file : Inode) (from : ℕ) → areas ≤ 64 → IsTruth held truth → Stands volume areas truth tree → HintsFitAll areas hints truth
           → IsInodeOf areas truth tree from of_file → IsLinking volume areas held hints truth tree from of_file handle inode
@@ -97,7 +98,7 @@ module _ (tree : Tree) (call : Call) (file : File) (name : List ℕ) (now : Time
         fit = fit;
         file = f;
         at = m.at;
-        kind = m.at.fields.kind ∙ eqb-true m.at.file.kind 2 (is_a_directory call name m.at.file m.may);
+        kind = m.at.fields.kind ∙ eqb-true m.at.file.kind 2 (is_a_directory want.Change call name m.at.file m.may);
       }
 
 -- ---- LINK
@@ -120,7 +121,7 @@ module _ (tree : Tree) (call : Call) (at name : List ℕ) (now : Time) (volume :
   link_is : (spare : ℕ) → link tree call bytes at name now spare ≡ from_file spare (named_file tree bytes)
   link_is spare = next_same _ _ (λ file. next_same _ _ (λ directory.
       in_one (is_directory file) (has_entry directory name) (nat_le 32000 file.nlink) (nat_le 4294967295 (next_of directory.body)) (nat_lt spare 8) (Ok (reply.Status 0, with_link tree file directory name now)))
-      (changeable call name (named_file tree at))) (must (named_file tree bytes) 70)
+      (usable want.Change call name (named_file tree at))) (must (named_file tree bytes) 70)
 
   pub no_file_named : None ≡ named volume bytes → link tree call bytes at name now 8 ≡ Err 70
   no_file_named is = link_is 8 ∙ ap (from_file 8) (named_as tree volume bytes None same is)

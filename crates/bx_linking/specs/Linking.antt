@@ -9,7 +9,7 @@ use Rattle.bx_changes.specs.declared.error.ChangeError.{ChangeError}
 use Rattle.bx_changes.specs.declared.error.ChangeError.TheVariants.{Stopped, Full}
 use Rattle.bx_changes.specs.Growing.{IsNearlyFull, LeavesTrees}
 use Rattle.bx_dirs.specs.Changes.{OnAddPath, entry_of}
-use Rattle.bx_entries.specs.Finding.{changeable}
+use Rattle.bx_entries.specs.Finding.{usable}
 use Rattle.bx_files.specs.Paths.{OnSearch}
 use Rattle.bx_handles.specs.Handles.{named, parts_of}
 use Rattle.bx_hints.specs.Fitting.{HintsFitAll}
@@ -20,6 +20,7 @@ use Rattle.bx_inodes.specs.declared.stop.Stop.{Stop}
 use Rattle.bx_inodes.specs.declared.stop.Stop.TheVariants.{Need, Inner, Status, OutOfMemory}
 use Rattle.bx_layout.specs.declared.inode.Inode.{Inode}
 use Rattle.bx_model.specs.declared.call.Call.{Call}
+use Rattle.bx_model.specs.declared.permissions.Want.TheVariants as want
 use Rattle.bx_model.specs.declared.reply.Reply.TheVariants as reply
 use Rattle.bx_model.specs.declared.status.TheConstants.{DQUOT, EXIST, NFS_OK, NOSPC, PERM}
 use Rattle.bx_model.specs.declared.tree.Tree.{Tree}
@@ -56,7 +57,7 @@ linking_in tree file name now spare directory = do
   Ok (reply.Status NFS_OK, with_link tree file directory name now)
 
 abbrev pub linking : Tree → Call → File → List ℕ → Time → ℕ → Option File → Outcome
-linking tree call file name now spare found = changeable call name found >>= (λ directory. linking_in tree file name now spare directory)
+linking tree call file name now spare found = usable want.Change call name found >>= (λ directory. linking_in tree file name now spare directory)
 
 -- A file and a directory of a file tree, by their inodes.
 pub record IsLinking (volume areas : ℕ) (held : Held) (hints : Hints) (truth : Truth) (tree : Tree) (handle : ℕ) (of : Inode) (directory : ℕ) (inode : Inode) : Type 0 where

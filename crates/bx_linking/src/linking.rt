@@ -1,15 +1,9 @@
 //! LINK.
 
-ghost use Rattle.std.specs.Prelude.{◌≡◌, ◌≤◌, ℕ, length, Err, IfErr, IfOk};
+ghost use Rattle.std.specs.Prelude.{◌≡◌, ◌≤◌, length, Err, IfErr, IfOk};
 ghost use Rattle.bx_adding.specs.Lacking.{MakesPlace, NoSlotsNear, ReadyToEnter};
-ghost use Rattle.bx_changes.specs.First.{ComesFirst};
-ghost use Rattle.bx_changes.specs.Growing.{HoldsFirst, IfFull, IsChangeBy, NeedsBy};
-ghost use Rattle.bx_hints.specs.Fitting.{HintsFitAll};
-ghost use Rattle.bx_inodes.specs.Stands.{Stands};
-ghost use Rattle.bx_model.specs.declared.tree.Tree.{Tree};
+ghost use Rattle.bx_changes.specs.Procedures.{ComesFirst, HoldsFirst, IfFull, IsChangeBy, IsHeldDraft, KeepsHints, NeedsBy, OnVolume};
 ghost use Rattle.bx_model.specs.Making.{link as link_of};
-ghost use Rattle.bx_views.specs.Attempts.{IsHeldDraft};
-ghost use Rattle.bx_views.specs.Truths.{Hints, IsTruth, Truth, with_draft};
 ghost use Rattle.bx_linking.specs.Linking.{OnLink};
 
 use crate::places::link_into;
@@ -46,19 +40,15 @@ pub fn link<V: View>(
 ) -> Result<(Draft, Reply), ChangeError>
     requires few { areas ≤ 64 }
     requires name { length name.now ≤ 255 }
-    ensures step { (truth : Truth) (tree : Tree) → IsTruth (V.held view.now) truth → Stands volume areas truth tree → HintsFitAll areas (V.hints view.now) truth
-        → IsChangeBy volume areas truth (λ spare. link_of tree call.now from.now at.now name.now now spare) result }
-    ensures hints { (hints : Hints) (truth : Truth) (tree : Tree) → IsTruth (V.held view.now) truth → Stands volume areas truth tree → HintsFitAll areas (V.hints view.now) truth
-        → HintsFitAll areas hints truth → IfOk result (λ made. HintsFitAll areas hints (with_draft truth made.0)) }
-    ensures lacks { (truth : Truth) (tree : Tree) → IsTruth (V.held view.now) truth → Stands volume areas truth tree → HintsFitAll areas (V.hints view.now) truth
-        → IfErr result (ComesFirst (λ status. link_of tree call.now from.now at.now name.now now 8 ≡ Err status) (MakesPlace volume areas (V.held view.now) (V.hints view.now) truth at.now name.now)) }
-    ensures ready { (truth : Truth) (tree : Tree) → IsTruth (V.held view.now) truth → Stands volume areas truth tree → HintsFitAll areas (V.hints view.now) truth
-        → IfOk result (λ made. ReadyToEnter volume areas truth at.now name.now) }
+    ensures step { OnVolume volume areas (V.held view.now) (V.hints view.now) (λ truth tree. IsChangeBy volume areas truth (λ spare. link_of tree call.now from.now at.now name.now now spare) result) }
+    ensures hints { KeepsHints volume areas (V.held view.now) (V.hints view.now) result }
+    ensures lacks { OnVolume volume areas (V.held view.now) (V.hints view.now)
+        (λ truth tree. IfErr result (ComesFirst (λ status. link_of tree call.now from.now at.now name.now now 8 ≡ Err status) (MakesPlace volume areas (V.held view.now) (V.hints view.now) truth at.now name.now))) }
+    ensures ready { OnVolume volume areas (V.held view.now) (V.hints view.now) (λ truth tree. IfOk result (λ made. ReadyToEnter volume areas truth at.now name.now)) }
     ensures need { IfErr result (NeedsBy areas (V.held view.now) (OnLink (V.held view.now) (V.hints view.now) volume areas from.now at.now name.now)) }
     ensures first { IfErr result (HoldsFirst (V.held view.now)) }
     ensures full { IfErr result (IfFull (NoSlotsNear volume areas (V.held view.now) at.now)) }
-    ensures wanted { (truth : Truth) (tree : Tree) → IsTruth (V.held view.now) truth → Stands volume areas truth tree → HintsFitAll areas (V.hints view.now) truth
-        → IfErr result (IfFull (λ spare. ReadyToEnter volume areas truth at.now name.now → ⊥)) }
+    ensures wanted { OnVolume volume areas (V.held view.now) (V.hints view.now) (λ truth tree. IfErr result (IfFull (λ spare. ReadyToEnter volume areas truth at.now name.now → ⊥))) }
     ensures held { IfOk result (λ made. IsHeldDraft (V.held view.now) made.0) }
 {
     let Some(handle) = named_handle(volume, from) else {

@@ -1,21 +1,10 @@
 //! The place of a file's new name: the directory that is named, and the entry in it.
 
-ghost use Rattle.std.specs.Prelude.{◌≡◌, ◌<◌, ◌≤◌, ℕ, [], length, IfErr, IfOk, IsSome};
+ghost use Rattle.std.specs.Prelude.{◌<◌, ◌≤◌, ℕ, [], length, IfErr, IfOk, IsSome};
 ghost use Rattle.bx_adding.specs.Lacking.{IfFirst, MakesPlace, NoSlotsNear, ReadyToEnter};
-ghost use Rattle.bx_adding.specs.Stopping.{NeverFirst};
-ghost use Rattle.bx_base.specs.declared.names.Mode.TheVariants.{Exclusive};
-ghost use Rattle.bx_blink.specs.Walks.{reads_with};
-ghost use Rattle.bx_changes.specs.Growing.{HoldsFirst, IfFull, NeedsBy};
+ghost use Rattle.bx_changes.specs.Procedures.{Exclusive, HoldsFirst, IfFull, IsHeldDraft, IsInode, IsInodeOf, LiveAt, NeedsBy, NeverFirst, OnVolume, Tree, Truth, block_at, reads_with};
 ghost use Rattle.bx_dirs.specs.Changes.{OnAddPath, entry_of};
-ghost use Rattle.bx_hints.specs.Fitting.{HintsFitAll};
-ghost use Rattle.bx_inodes.specs.Inodes.{IsInodeOf, LiveAt};
-ghost use Rattle.bx_inodes.specs.Stands.{Stands};
-ghost use Rattle.bx_layout.specs.Inodes.{IsInode};
-ghost use Rattle.bx_model.specs.declared.tree.Tree.{Tree};
 ghost use Rattle.bx_model.specs.Reading.{named_file};
-ghost use Rattle.bx_truth.specs.Chunks.{block_at};
-ghost use Rattle.bx_views.specs.Attempts.{IsHeldDraft};
-ghost use Rattle.bx_views.specs.Truths.{IsTruth, Truth};
 ghost use Rattle.bx_linking.specs.Drafting.{ComesBy};
 ghost use Rattle.bx_linking.specs.Linking.{IsLinking, LinksIn, MayLink, OnInto, linking, with_link};
 
@@ -26,7 +15,7 @@ use bx_entries::{Known, directory_for};
 use bx_handles::named_handle;
 use bx_inodes::{Stop, put_inode};
 use bx_layout::Inode;
-use bx_model::{Call, STALE};
+use bx_model::{Call, STALE, Want};
 use bx_records::Draft;
 use bx_views::View;
 use std::alloc::Global;
@@ -50,23 +39,23 @@ pub(crate) fn link_into<V: View>(
     requires few { areas ≤ 64 }
     requires name { length name.now ≤ 255 }
     requires live { LiveAt (reads_with (V.held view.now) (V.hints view.now) []) areas file.handle Exclusive file.inode }
-    ensures step { (truth : Truth) (tree : Tree) → IsTruth (V.held view.now) truth → Stands volume areas truth tree → HintsFitAll areas (V.hints view.now) truth
-        → (is : IsInodeOf areas truth tree file.handle file.inode) → ComesBy areas truth (λ spare. linking tree call.now is.file name.now now spare (named_file tree at.now)) result }
-    ensures lacks { (truth : Truth) (tree : Tree) → IsTruth (V.held view.now) truth → Stands volume areas truth tree → HintsFitAll areas (V.hints view.now) truth
-        → IsInodeOf areas truth tree file.handle file.inode → IfErr result (IfFirst (MakesPlace volume areas (V.held view.now) (V.hints view.now) truth at.now name.now)) }
-    ensures ready { (truth : Truth) (tree : Tree) → IsTruth (V.held view.now) truth → Stands volume areas truth tree → HintsFitAll areas (V.hints view.now) truth
-        → IsInodeOf areas truth tree file.handle file.inode → IfOk result (λ made. ReadyToEnter volume areas truth at.now name.now) }
+    ensures step { OnVolume volume areas (V.held view.now) (V.hints view.now)
+        (λ truth tree. (is : IsInodeOf areas truth tree file.handle file.inode) → ComesBy areas truth (λ spare. linking tree call.now is.file name.now now spare (named_file tree at.now)) result) }
+    ensures lacks { OnVolume volume areas (V.held view.now) (V.hints view.now)
+        (λ truth tree. IsInodeOf areas truth tree file.handle file.inode → IfErr result (IfFirst (MakesPlace volume areas (V.held view.now) (V.hints view.now) truth at.now name.now))) }
+    ensures ready { OnVolume volume areas (V.held view.now) (V.hints view.now)
+        (λ truth tree. IsInodeOf areas truth tree file.handle file.inode → IfOk result (λ made. ReadyToEnter volume areas truth at.now name.now)) }
     ensures need { IfErr result (NeedsBy areas (V.held view.now) (OnInto (V.held view.now) (V.hints view.now) volume areas file.handle at.now name.now)) }
     ensures first { IfErr result (HoldsFirst (V.held view.now)) }
     ensures full { IfErr result (IfFull (NoSlotsNear volume areas (V.held view.now) at.now)) }
-    ensures wanted { (truth : Truth) (tree : Tree) → IsTruth (V.held view.now) truth → Stands volume areas truth tree → HintsFitAll areas (V.hints view.now) truth
-        → IsInodeOf areas truth tree file.handle file.inode → IfErr result (IfFull (λ spare. ReadyToEnter volume areas truth at.now name.now → ⊥)) }
+    ensures wanted { OnVolume volume areas (V.held view.now) (V.hints view.now)
+        (λ truth tree. IsInodeOf areas truth tree file.handle file.inode → IfErr result (IfFull (λ spare. ReadyToEnter volume areas truth at.now name.now → ⊥))) }
     ensures held { IfOk result (IsHeldDraft (V.held view.now)) }
 {
     let Some(handle) = named_handle(volume, at) else {
         return Err(ChangeError::Stopped(Stop::Status(STALE)));
     };
-    match directory_for(alloc, view, areas, call, handle, name) {
+    match directory_for(alloc, view, areas, call, handle, name, Want::Change) {
         Err(stop) => Err(ChangeError::Stopped(stop)),
         Ok(inode) => {
             let directory = Known { handle, inode };

@@ -1,12 +1,10 @@
 //! Entries that may be there.
 
-ghost use Rattle.std.specs.Prelude.{ℕ, List, [], IfOk, IfSome, Some};
+ghost use Rattle.std.specs.Prelude.{List, [], IfOk, IfSome, Some};
+ghost use Rattle.bx_changes.specs.Procedures.{Name, NeedsOn, NeverInner, Truth};
 ghost use Rattle.bx_dirs.specs.Entries.{HasEntries};
 ghost use Rattle.bx_files.specs.Paths.{Finds, OnSearch};
-ghost use Rattle.bx_inodes.specs.Stops.{NeedsOn, NeverInner};
-ghost use Rattle.bx_tree_files.specs.declared.file.Name.{Name};
 ghost use Rattle.bx_truth.specs.Keys.{name_key, name_value};
-ghost use Rattle.bx_views.specs.Truths.{Truth};
 ghost use Rattle.bx_linking.specs.Linking.{TellsEntry};
 
 use bx_blink::BlinkError;

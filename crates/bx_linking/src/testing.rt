@@ -2,14 +2,9 @@
 
 ghost use Rattle.std.specs.Prelude.{◌≡◌, ◌<◌, ℕ, [], None, IfErr, IfOk};
 ghost use Rattle.bx_adding.specs.Lacking.{FindsBoth, IfFirst, MakesEither};
-ghost use Rattle.bx_changes.specs.Growing.{HoldsFirst, IfFull, NeedsBy};
-ghost use Rattle.bx_chunks.specs.Taking.{NoSlots};
+ghost use Rattle.bx_changes.specs.Procedures.{HoldsFirst, IfFull, NeedsBy, NeedsOn, NeverInner, NoSlots, Tree, Truth, parts_of};
 ghost use Rattle.bx_files.specs.Paths.{OnSearch};
-ghost use Rattle.bx_handles.specs.Handles.{parts_of};
-ghost use Rattle.bx_inodes.specs.Stops.{NeedsOn, NeverInner};
-ghost use Rattle.bx_model.specs.declared.tree.Tree.{Tree};
 ghost use Rattle.bx_truth.specs.Keys.{name_key};
-ghost use Rattle.bx_views.specs.Truths.{Truth};
 ghost use Rattle.bx_linking.specs.Linking.{IsLinking, LinkErrorIn, MayLinkIn, OnTest};
 
 use crate::searching::find_entry;

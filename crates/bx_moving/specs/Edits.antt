@@ -1,5 +1,5 @@
 -- Edits of a file tree over a draft, each of one file, whose inode is read over the draft first.
-use Rattle.std.specs.Prelude.{◌≡◌, ℕ, ◌≤◌, ◌==◌, ◌⊎◌, Bool, if◌then◌else◌, List, [], Result, Ok, Err}
+use Rattle.std.specs.Prelude.{ℕ, ◌≤◌, ◌==◌, ◌⊎◌, Bool, if◌then◌else◌, List, [], Result, Ok, Err}
 use Rattle.bx_adding.specs.Entering.{PutsInAt}
 use Rattle.bx_adding.specs.Rooms.{HasRooms}
 use Rattle.bx_base.specs.declared.names.Mode.{Mode}

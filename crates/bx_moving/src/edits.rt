@@ -1,20 +1,13 @@
 //! Entries that leave directories, and files that lose a name.
 
 ghost use Rattle.std.specs.Prelude.{◌≡◌, ◌+◌, ◌<◌, ◌≤◌, ◌≢◌, ℕ, List, Some, true, false, length, IfOk};
-ghost use Rattle.bx_handles.specs.Handles.{parts_of};
-ghost use Rattle.bx_inodes.specs.Stops.{NeedsOn, NeverInner};
-ghost use Rattle.bx_model.specs.declared.tree.Tree.{Tree};
+ghost use Rattle.bx_changes.specs.Procedures.{File, IsHeldDraft, Name, NeedsOn, NeverInner, Tree, Truth, entry_named, file_at, parts_of};
 ghost use Rattle.bx_model.specs.Edits.{changed};
 ghost use Rattle.bx_model.specs.Opening.{root_handle};
 ghost use Rattle.bx_model.specs.Removing.{has_entries};
 ghost use Rattle.bx_tree_files.specs.declared.file.Body.TheVariants.{Names};
-ghost use Rattle.bx_tree_files.specs.declared.file.File.{File};
-ghost use Rattle.bx_tree_files.specs.declared.file.Name.{Name};
 ghost use Rattle.bx_tree_files.specs.Changes.{taken_out};
-ghost use Rattle.bx_tree_files.specs.Entries.{entry_named};
-ghost use Rattle.bx_tree_files.specs.Files.{file_at, is_directory};
-ghost use Rattle.bx_views.specs.Attempts.{IsHeldDraft};
-ghost use Rattle.bx_views.specs.Truths.{Truth};
+ghost use Rattle.bx_tree_files.specs.Files.{is_directory};
 ghost use Rattle.bx_entries.specs.Unlinking.{without_name_of};
 ghost use Rattle.bx_moving.specs.Edits.{EditsTo, HasRoomFor, IsEdited, OnLeaving, OnLosing, Rests};
 

@@ -1,18 +1,11 @@
 //! Entries that come into directories.
 
 ghost use Rattle.std.specs.Prelude.{◌≡◌, ◌+◌, ◌<◌, ◌≤◌, ℕ, List, None, Some, length, IfErr, IfOk};
-ghost use Rattle.bx_adding.specs.Stopping.{NeverFirst};
-ghost use Rattle.bx_changes.specs.Growing.{HoldsFirst, IfFull, NeedsBy};
-ghost use Rattle.bx_model.specs.declared.tree.Tree.{Tree};
+ghost use Rattle.bx_changes.specs.Procedures.{File, HoldsFirst, IfFull, IsHeldDraft, Name, NeedsBy, NeverFirst, Tree, Truth, entry_named, file_at};
 ghost use Rattle.bx_model.specs.Edits.{changed};
 ghost use Rattle.bx_tree_files.specs.declared.file.Body.TheVariants.{Names};
-ghost use Rattle.bx_tree_files.specs.declared.file.File.{File};
-ghost use Rattle.bx_tree_files.specs.declared.file.Name.{Name};
 ghost use Rattle.bx_tree_files.specs.Changes.{entered};
-ghost use Rattle.bx_tree_files.specs.Entries.{entry_named};
-ghost use Rattle.bx_tree_files.specs.Files.{IsNumbered, file_at};
-ghost use Rattle.bx_views.specs.Attempts.{IsHeldDraft};
-ghost use Rattle.bx_views.specs.Truths.{Truth};
+ghost use Rattle.bx_tree_files.specs.Files.{IsNumbered};
 ghost use Rattle.bx_moving.specs.Edits.{GrowsTo, HasRoomFor, IsEdited, OnComing, Rests};
 
 use bx_adding::enter;

@@ -1,14 +1,8 @@
 //! Moves of files between directories.
 
-ghost use Rattle.std.specs.Prelude.{◌≡◌, ◌+◌, ◌<◌, ◌≤◌, ℕ, List, [], length, IfErr, IfOk, IfSome};
-ghost use Rattle.bx_adding.specs.Stopping.{NeverFirst};
-ghost use Rattle.bx_changes.specs.Growing.{HoldsFirst, IfFull, NeedsBy};
-ghost use Rattle.bx_handles.specs.Handles.{parts_of};
-ghost use Rattle.bx_inodes.specs.Stops.{NeedsOn, NeverInner};
-ghost use Rattle.bx_model.specs.declared.tree.Tree.{Tree};
+ghost use Rattle.std.specs.Prelude.{◌≡◌, ◌<◌, ◌≤◌, ℕ, List, [], length, IfErr, IfOk, IfSome};
+ghost use Rattle.bx_changes.specs.Procedures.{HoldsFirst, IfFull, IsHeldDraft, NeedsBy, NeedsOn, NeverFirst, NeverInner, Tree, Truth, parts_of};
 ghost use Rattle.bx_model.specs.Renaming.{changes_parent, renamed};
-ghost use Rattle.bx_views.specs.Attempts.{IsHeldDraft};
-ghost use Rattle.bx_views.specs.Truths.{Truth};
 ghost use Rattle.bx_moving.specs.declared.moves.Moving.{Moving as Move};
 ghost use Rattle.bx_moving.specs.Edits.{Comes, EditsTo, GrowsTo, HasRoomFor, IsEdited, Rests};
 ghost use Rattle.bx_moving.specs.Moves.{IsDying, IsMoving, OnBringing, OnClearing, OnDying, OnMoving, OnOver, OnSending, brought, cleared, ended, other_of};

@@ -1,15 +1,10 @@
 //! Files that have moved.
 
-ghost use Rattle.std.specs.Prelude.{◌≡◌, ◌+◌, ◌<◌, ◌≤◌, ◌==◌, if◌then◌else◌, ℕ, Some, length, IfOk};
+ghost use Rattle.std.specs.Prelude.{◌≡◌, ◌+◌, ◌<◌, ◌≤◌, ◌==◌, if◌then◌else◌, Some, length, IfOk};
+ghost use Rattle.bx_changes.specs.Procedures.{File, IsHeldDraft, NeedsOn, NeverInner, Tree, Truth, file_at};
 ghost use Rattle.bx_entries.specs.Finding.{IsOwnBlock};
-ghost use Rattle.bx_inodes.specs.Stops.{NeedsOn, NeverInner};
-ghost use Rattle.bx_model.specs.declared.tree.Tree.{Tree};
 ghost use Rattle.bx_model.specs.Edits.{changed};
-ghost use Rattle.bx_tree_files.specs.declared.file.File.{File};
 ghost use Rattle.bx_tree_files.specs.Changes.{moved_to};
-ghost use Rattle.bx_tree_files.specs.Files.{file_at};
-ghost use Rattle.bx_views.specs.Attempts.{IsHeldDraft};
-ghost use Rattle.bx_views.specs.Truths.{Truth};
 ghost use Rattle.bx_moving.specs.Edits.{EditsTo, IsEdited, Rests, settled_inode};
 
 use bx_base::Mode;

@@ -1,14 +1,9 @@
 //! Moves that have been tested, into directories with room for them.
 
 ghost use Rattle.std.specs.Prelude.{◌≡◌, ◌<◌, ◌≤◌, ℕ, [], length, IfErr, IfOk, IfSome};
+ghost use Rattle.bx_changes.specs.Procedures.{HoldsFirst, IfFull, IsHeldDraft, NeedsBy, NoSlots, Tree, Truth, parts_of};
 ghost use Rattle.bx_linking.specs.Lacking.{FindsBoth, IfFirst, MakesEither};
-ghost use Rattle.bx_changes.specs.Growing.{HoldsFirst, IfFull, NeedsBy};
-ghost use Rattle.bx_chunks.specs.Taking.{NoSlots};
-ghost use Rattle.bx_handles.specs.Handles.{parts_of};
 ghost use Rattle.bx_linking.specs.Drafting.{ComesBy};
-ghost use Rattle.bx_model.specs.declared.tree.Tree.{Tree};
-ghost use Rattle.bx_views.specs.Attempts.{IsHeldDraft};
-ghost use Rattle.bx_views.specs.Truths.{Truth};
 ghost use Rattle.bx_renaming.specs.Path.{OnMove};
 ghost use Rattle.bx_renaming.specs.Renaming.{AreDirectories, IsPassed, coming_in, move_of, other_file, replaced_by};
 

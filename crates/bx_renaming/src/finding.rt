@@ -1,16 +1,10 @@
 //! What RENAME finds in the two directories.
 
-ghost use Rattle.std.specs.Prelude.{◌≡◌, ℕ, [], IfOk, IfSome, Some};
-ghost use Rattle.bx_base.specs.declared.names.Mode.TheVariants.{Exclusive};
-ghost use Rattle.bx_blink.specs.Walks.{reads_with};
+ghost use Rattle.std.specs.Prelude.{ℕ, [], IfOk, IfSome, Some};
+ghost use Rattle.bx_changes.specs.Procedures.{Exclusive, LiveAt, NeedsOn, NeverInner, Tree, Truth, names_of, reads_with};
 ghost use Rattle.bx_entries.specs.Finding.{IsDirectoryOf};
 ghost use Rattle.bx_files.specs.Paths.{Finds};
-ghost use Rattle.bx_inodes.specs.Inodes.{LiveAt};
-ghost use Rattle.bx_inodes.specs.Stops.{NeedsOn, NeverInner};
-ghost use Rattle.bx_model.specs.declared.tree.Tree.{Tree};
-ghost use Rattle.bx_tree_files.specs.Names.{names_of};
 ghost use Rattle.bx_truth.specs.Keys.{name_key, name_value};
-ghost use Rattle.bx_views.specs.Truths.{Truth};
 ghost use Rattle.bx_renaming.specs.Found.{MovedFor, OnEntry, OtherFor};
 
 use bx_base::Mode;

@@ -1,17 +1,10 @@
 //! Moves to a name, by what has it.
 
 ghost use Rattle.std.specs.Prelude.{◌≡◌, ◌<◌, ◌≤◌, ◌≢◌, ℕ, [], None, Some, length, IfErr, IfOk};
+ghost use Rattle.bx_changes.specs.Procedures.{HoldsFirst, IfFull, IsHeldDraft, NeedsBy, NoSlots, Tree, Truth, entry_named, names_of, parts_of};
 ghost use Rattle.bx_linking.specs.Lacking.{FindsBoth, IfFirst, MakesEither};
-ghost use Rattle.bx_changes.specs.Growing.{HoldsFirst, IfFull, NeedsBy};
-ghost use Rattle.bx_chunks.specs.Taking.{NoSlots};
-ghost use Rattle.bx_handles.specs.Handles.{parts_of};
 ghost use Rattle.bx_linking.specs.Drafting.{ComesBy};
-ghost use Rattle.bx_model.specs.declared.tree.Tree.{Tree};
 ghost use Rattle.bx_model.specs.Renaming.{file_of_entry};
-ghost use Rattle.bx_tree_files.specs.Entries.{entry_named};
-ghost use Rattle.bx_tree_files.specs.Names.{names_of};
-ghost use Rattle.bx_views.specs.Attempts.{IsHeldDraft};
-ghost use Rattle.bx_views.specs.Truths.{Truth};
 ghost use Rattle.bx_renaming.specs.Found.{IsMoved};
 ghost use Rattle.bx_renaming.specs.Lacking.{MakesRoomFor, ReadyFor};
 ghost use Rattle.bx_renaming.specs.Path.{OnOnto, OnReplacing, OnTested};

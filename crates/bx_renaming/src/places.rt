@@ -1,17 +1,10 @@
 //! The directories between which RENAME moves a file.
 
-ghost use Rattle.std.specs.Prelude.{◌≡◌, ◌⊎◌, ℕ, [], Some, IfOk};
-ghost use Rattle.bx_base.specs.declared.names.Mode.TheVariants.{Exclusive};
-ghost use Rattle.bx_blink.specs.Walks.{reads_with};
-ghost use Rattle.bx_handles.specs.Handles.{named as named_as};
+ghost use Rattle.std.specs.Prelude.{◌≡◌, ◌⊎◌, [], Some, IfOk};
+ghost use Rattle.bx_changes.specs.Procedures.{Exclusive, IsInodeOf, IsTruth, LiveAt, NeedsOn, NeverInner, OnInode, Stands, Tree, Truth, named as named_as, reads_with};
 ghost use Rattle.bx_inodes.specs.Heads.{head_of as head_by};
-ghost use Rattle.bx_inodes.specs.Inodes.{IsInodeOf, LiveAt};
-ghost use Rattle.bx_inodes.specs.Stands.{Stands};
-ghost use Rattle.bx_inodes.specs.Stops.{NeedsOn, NeverInner, OnInode};
-ghost use Rattle.bx_model.specs.declared.tree.Tree.{Tree};
 ghost use Rattle.bx_model.specs.Moves.{move_places};
 ghost use Rattle.bx_model.specs.Reading.{named_file};
-ghost use Rattle.bx_views.specs.Truths.{IsTruth, Truth};
 ghost use Rattle.bx_renaming.specs.Path.{AreHeld, OnTarget};
 ghost use Rattle.bx_renaming.specs.Places.{PlacesFor, place_error as error_of, places_from};
 

@@ -1,20 +1,11 @@
 //! RENAME.
 
 ghost use Rattle.std.specs.Prelude.{◌≡◌, ◌≤◌, ℕ, [], length, Err, IfErr, IfOk};
+ghost use Rattle.bx_changes.specs.Procedures.{ComesFirst, HoldsFirst, IfFull, IsChangeBy, IsHeldDraft, KeepsHints, NeedsBy, NoSlots, OnVolume, Tree, Truth, names_of, parts_of};
 ghost use Rattle.bx_linking.specs.Lacking.{IfFirst, NoSlotsNear};
-ghost use Rattle.bx_changes.specs.First.{ComesFirst};
-ghost use Rattle.bx_changes.specs.Growing.{HoldsFirst, IfFull, IsChangeBy, NeedsBy};
-ghost use Rattle.bx_chunks.specs.Taking.{NoSlots};
-ghost use Rattle.bx_handles.specs.Handles.{parts_of};
-ghost use Rattle.bx_hints.specs.Fitting.{HintsFitAll};
-ghost use Rattle.bx_inodes.specs.Stands.{Stands};
 ghost use Rattle.bx_linking.specs.Drafting.{ComesBy};
-ghost use Rattle.bx_model.specs.declared.tree.Tree.{Tree};
 ghost use Rattle.bx_model.specs.Moves.{move_between as between_of};
 ghost use Rattle.bx_model.specs.Renaming.{rename as rename_of};
-ghost use Rattle.bx_tree_files.specs.Names.{names_of};
-ghost use Rattle.bx_views.specs.Attempts.{IsHeldDraft};
-ghost use Rattle.bx_views.specs.Truths.{Hints, IsTruth, Truth, with_draft};
 ghost use Rattle.bx_renaming.specs.Lacking.{MakesRoomFor, PreparesMove, ReadyFor, ReadyToMove};
 ghost use Rattle.bx_renaming.specs.Path.{OnPlaces, OnRename};
 ghost use Rattle.bx_renaming.specs.Renaming.{AreDirectories};
@@ -54,19 +45,17 @@ pub fn rename<V: View>(
 ) -> Result<(Draft, Reply), ChangeError>
     requires few { areas ≤ 64 }
     requires name { length new_name.now ≤ 255 }
-    ensures step { (truth : Truth) (tree : Tree) → IsTruth (V.held view.now) truth → Stands volume areas truth tree → HintsFitAll areas (V.hints view.now) truth
-        → IsChangeBy volume areas truth (λ spare. rename_of tree call.now from.now name.now to.now new_name.now now spare) result }
-    ensures hints { (hints : Hints) (truth : Truth) (tree : Tree) → IsTruth (V.held view.now) truth → Stands volume areas truth tree → HintsFitAll areas (V.hints view.now) truth
-        → HintsFitAll areas hints truth → IfOk result (λ made. HintsFitAll areas hints (with_draft truth made.0)) }
-    ensures lacks { (truth : Truth) (tree : Tree) → IsTruth (V.held view.now) truth → Stands volume areas truth tree → HintsFitAll areas (V.hints view.now) truth
-        → IfErr result (ComesFirst (λ status. rename_of tree call.now from.now name.now to.now new_name.now now 8 ≡ Err status) (PreparesMove volume areas (V.held view.now) (V.hints view.now) truth tree from.now name.now to.now new_name.now)) }
-    ensures ready { (truth : Truth) (tree : Tree) → IsTruth (V.held view.now) truth → Stands volume areas truth tree → HintsFitAll areas (V.hints view.now) truth
-        → IfOk result (λ made. ReadyToMove volume areas truth tree from.now name.now to.now new_name.now) }
+    ensures step { OnVolume volume areas (V.held view.now) (V.hints view.now)
+        (λ truth tree. IsChangeBy volume areas truth (λ spare. rename_of tree call.now from.now name.now to.now new_name.now now spare) result) }
+    ensures hints { KeepsHints volume areas (V.held view.now) (V.hints view.now) result }
+    ensures lacks { OnVolume volume areas (V.held view.now) (V.hints view.now)
+        (λ truth tree. IfErr result (ComesFirst (λ status. rename_of tree call.now from.now name.now to.now new_name.now now 8 ≡ Err status) (PreparesMove volume areas (V.held view.now) (V.hints view.now) truth tree from.now name.now to.now new_name.now))) }
+    ensures ready { OnVolume volume areas (V.held view.now) (V.hints view.now) (λ truth tree. IfOk result (λ made. ReadyToMove volume areas truth tree from.now name.now to.now new_name.now)) }
     ensures need { IfErr result (NeedsBy areas (V.held view.now) (OnRename (V.held view.now) (V.hints view.now) volume areas from.now name.now to.now new_name.now)) }
     ensures first { IfErr result (HoldsFirst (V.held view.now)) }
     ensures full { IfErr result (IfFull (NoSlotsNear volume areas (V.held view.now) to.now)) }
-    ensures wanted { (truth : Truth) (tree : Tree) → IsTruth (V.held view.now) truth → Stands volume areas truth tree → HintsFitAll areas (V.hints view.now) truth
-        → IfErr result (IfFull (λ spare. ReadyToMove volume areas truth tree from.now name.now to.now new_name.now → ⊥)) }
+    ensures wanted { OnVolume volume areas (V.held view.now) (V.hints view.now)
+        (λ truth tree. IfErr result (IfFull (λ spare. ReadyToMove volume areas truth tree from.now name.now to.now new_name.now → ⊥))) }
     ensures held { IfOk result (λ made. IsHeldDraft (V.held view.now) made.0) }
 {
     match places_for(alloc, volume, areas, call, from, name, to, new_name, view) {

@@ -1,12 +1,9 @@
 //! The errors of a move.
 
 ghost use Rattle.std.specs.Prelude.{◌⊎◌, ℕ, Some};
+ghost use Rattle.bx_changes.specs.Procedures.{IsInodeOf, NeedsOn, NeverInner, Tree, Truth};
 ghost use Rattle.bx_entries.specs.Finding.{IsKnownFile};
-ghost use Rattle.bx_inodes.specs.Inodes.{IsInodeOf};
-ghost use Rattle.bx_inodes.specs.Stops.{NeedsOn, NeverInner};
-ghost use Rattle.bx_model.specs.declared.tree.Tree.{Tree};
 ghost use Rattle.bx_model.specs.Renaming.{replace_errors};
-ghost use Rattle.bx_views.specs.Truths.{Truth};
 ghost use Rattle.bx_ways.specs.Ways.{TellsError};
 ghost use Rattle.bx_renaming.specs.Path.{OnEmptiness, OnUp};
 ghost use Rattle.bx_renaming.specs.Renaming.{AreDirectories, depth_errors, onto_errors};

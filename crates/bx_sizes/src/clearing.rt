@@ -2,20 +2,9 @@
 
 ghost use Rattle.std.specs.Prelude.{◌≡◌, ◌<◌, ◌≤◌, ◌+◌, ◌*◌, ◌^◌, ℕ, List, IfOk, IsSome, Some, [], ◌∷◌, length, slice_index};
 ghost use Rattle.std.specs.Result.{result_map_both};
-ghost use Rattle.bx_base.specs.declared.names.Mode.TheVariants.{Exclusive};
-ghost use Rattle.bx_hints.specs.Fitting.{HintsFitAll};
-ghost use Rattle.bx_inodes.specs.Inodes.{HoldsInode};
-ghost use Rattle.bx_inodes.specs.Stops.{NeedsOn, NeverInner};
+ghost use Rattle.bx_changes.specs.Procedures.{Exclusive, File, Held, HintsFitAll, HoldsInode, IsHeldDraft, IsInode, IsTruth, NeedsOn, NeverInner, StandsFor, Tree, Truth, block_at as place_of, file_at};
 ghost use Rattle.bx_inodes.specs.Writing.{PutsInode};
-ghost use Rattle.bx_layout.specs.Inodes.{IsInode};
-ghost use Rattle.bx_model.specs.declared.tree.Tree.{Tree};
 ghost use Rattle.bx_tree_files.specs.declared.file.Body.TheVariants.{Bytes};
-ghost use Rattle.bx_tree_files.specs.declared.file.File.{File};
-ghost use Rattle.bx_tree_files.specs.Files.{file_at};
-ghost use Rattle.bx_truth.specs.Chunks.{block_at as place_of};
-ghost use Rattle.bx_truth.specs.Stands.{StandsFor};
-ghost use Rattle.bx_views.specs.Attempts.{IsHeldDraft};
-ghost use Rattle.bx_views.specs.Truths.{Held, IsTruth, Truth};
 ghost use Rattle.bx_sizes.specs.Answers.{Clears};
 ghost use Rattle.bx_sizes.specs.Clearing.{OnClearing};
 ghost use Rattle.bx_sizes.specs.Cuts.{LowersTail};

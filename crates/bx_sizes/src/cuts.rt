@@ -1,10 +1,9 @@
 //! The last piece of a file in a range.
 
-ghost use Rattle.std.specs.Prelude.{◌≡◌, ◌≤◌, [], ◌^◌};
+ghost use Rattle.std.specs.Prelude.{◌≤◌, [], ◌^◌};
 ghost use Rattle.bx_blink.specs.Hints.{Under};
-ghost use Rattle.bx_inodes.specs.Stops.{NeedsOn, NeverInner};
+ghost use Rattle.bx_changes.specs.Procedures.{NeedsOn, NeverInner, Truth};
 ghost use Rattle.bx_truth.specs.PageTrees.{PageTree, map_of};
-ghost use Rattle.bx_views.specs.Truths.{Truth};
 ghost use Rattle.bx_sizes.specs.Clearing.{FindsLast, FoundBy, OnIndexes};
 
 use crate::first_pieces::first_piece;

@@ -3,12 +3,11 @@
 ghost use Rattle.std.specs.Prelude.{◌≡◌, ◌≤◌, ◌<◌, ◌^◌, ◌↔◌, ℕ, [], IfOk, slice_index};
 ghost use Rattle.std.specs.Int.{w32, to_be_bytes};
 ghost use Rattle.bx_blink.specs.Hints.{Under};
+ghost use Rattle.bx_changes.specs.Procedures.{NeedsOn, NeverInner, Truth};
 ghost use Rattle.bx_files.specs.Paths.{OnSearch};
-ghost use Rattle.bx_inodes.specs.Stops.{NeedsOn, NeverInner};
 ghost use Rattle.bx_page.specs.Keys.{IsBelow};
 ghost use Rattle.bx_truth.specs.Keys.{content_key as key_of_content};
 ghost use Rattle.bx_truth.specs.PageTrees.{PageTree, map_of};
-ghost use Rattle.bx_views.specs.Truths.{Truth};
 ghost use Rattle.bx_sizes.specs.Clearing.{OnIndexes};
 ghost use Rattle.bx_sizes.specs.FirstPieces.{FindsFirst, GoesOn, IsLeastIndex, IsWithin};
 

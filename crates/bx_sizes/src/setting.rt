@@ -1,21 +1,10 @@
 //! SETATTR.
 
 ghost use Rattle.std.specs.Prelude.{◌≡◌, ◌≢◌, ◌≤◌, ℕ, true, List, IfOk, IfErr, IsSome, Err, Some};
-ghost use Rattle.bx_base.specs.declared.names.Mode.TheVariants.{Exclusive};
-ghost use Rattle.bx_handles.specs.Handles.{named};
-ghost use Rattle.bx_hints.specs.Fitting.{HintsFitAll};
-ghost use Rattle.bx_inodes.specs.Inodes.{HoldsInode, IsInodeOf};
-ghost use Rattle.bx_inodes.specs.Stands.{Stands};
-ghost use Rattle.bx_inodes.specs.Stops.{NeedsOn};
-ghost use Rattle.bx_layout.specs.Inodes.{IsInode};
+ghost use Rattle.bx_changes.specs.Procedures.{Exclusive, Hints, HintsFitAll, IsHeldDraft, IsInode, IsInodeOf, IsTruth, NeedsOn, Stands, StopsFirst, Tree, Truth, block_at as place_of, named, with_draft};
 ghost use Rattle.bx_layout.specs.declared.inode.Inode.{Inode as Kept};
-ghost use Rattle.bx_model.specs.declared.tree.Tree.{Tree};
 ghost use Rattle.bx_model.specs.Writing.{setattr as setattr_of};
 ghost use Rattle.bx_tree_files.specs.Times.{is_given as is_given_word};
-ghost use Rattle.bx_truth.specs.Chunks.{block_at as place_of};
-ghost use Rattle.bx_views.specs.Attempts.{IsHeldDraft};
-ghost use Rattle.bx_views.specs.Truths.{Hints, IsTruth, Truth, with_draft};
-ghost use Rattle.bx_changes.specs.First.{StopsFirst};
 ghost use Rattle.bx_sizes.specs.Answers.{HoldsInner, IsChangeOr};
 ghost use Rattle.bx_sizes.specs.Clearing.{OnClearing};
 ghost use Rattle.bx_sizes.specs.Cuts.{PreparesSetting, ReadyToSet};

@@ -1,23 +1,11 @@
 //! The size of a regular file, set.
 
-ghost use Rattle.std.specs.Prelude.{◌≡◌, ◌≤◌, ◌<◌, ℕ, true, List, IfOk, IfErr, IsSome, MatchOption, Ok, Err, Some, false};
-ghost use Rattle.bx_base.specs.declared.names.Mode.TheVariants.{Exclusive};
-ghost use Rattle.bx_hints.specs.Fitting.{HintsFitAll};
+ghost use Rattle.std.specs.Prelude.{◌≡◌, ◌≤◌, ◌<◌, true, IfOk, IfErr, IsSome, MatchOption, Ok, Err, Some, false};
+ghost use Rattle.bx_changes.specs.Procedures.{Exclusive, File, HintsFitAll, HoldsInode, IsHeldDraft, IsInode, IsTruth, NeedsOn, StandsFor, StopsFirst, Tree, Truth, block_at as place_of, file_at};
 ghost use Rattle.bx_inodes.specs.Heads.{head_of as head_by};
-ghost use Rattle.bx_inodes.specs.Inodes.{HoldsInode};
-ghost use Rattle.bx_inodes.specs.Stops.{NeedsOn};
-ghost use Rattle.bx_layout.specs.Inodes.{IsInode};
-ghost use Rattle.bx_model.specs.declared.tree.Tree.{Tree};
 ghost use Rattle.bx_model.specs.Writing.{resize_errors};
 ghost use Rattle.bx_tree_files.specs.Changes.{most_bytes, with_fields};
-ghost use Rattle.bx_tree_files.specs.declared.file.File.{File};
-ghost use Rattle.bx_tree_files.specs.Files.{file_at};
 ghost use Rattle.bx_tree_files.specs.Times.{is_given as is_given_word};
-ghost use Rattle.bx_truth.specs.Chunks.{block_at as place_of};
-ghost use Rattle.bx_truth.specs.Stands.{StandsFor};
-ghost use Rattle.bx_views.specs.Attempts.{IsHeldDraft};
-ghost use Rattle.bx_views.specs.Truths.{Held, IsTruth, Truth};
-ghost use Rattle.bx_changes.specs.First.{StopsFirst};
 ghost use Rattle.bx_changes.specs.Given.{with_given as with_those_given};
 ghost use Rattle.bx_sizes.specs.Answers.{HoldsInner, SetsSize};
 ghost use Rattle.bx_sizes.specs.Clearing.{OnClearing};

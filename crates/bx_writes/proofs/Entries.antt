@@ -1,7 +1,7 @@
 -- Pieces that aren't there, over drafts of pieces: what they ask for, and what they leave.
 use Rattle.std.proofs.Common.{◌≡◌, ◌∙◌, ℕ, ◌+◌, ◌<◌, arith, List, [], Option, None, Some, refl, sym, subst, inl, inr}
 use Rattle.std.specs.Prelude.{IfErr, IfOk, Result, Ok, Err}
-use Rattle.bx_adding.specs.Stopping.{StopsChange}
+use Rattle.bx_changes.specs.Stopping.{StopsChange}
 use Rattle.bx_blink.specs.Walks.{reads_with}
 use Rattle.bx_blink.specs.declared.error.BlinkError.{BlinkError}
 use Rattle.bx_blink.specs.declared.error.BlinkError.TheVariants as tree_error
@@ -22,7 +22,7 @@ use Rattle.bx_views.specs.Truths.{Held, Hints}
 use Rattle.bx_writes.specs.Laid.{FoundBy, IsLaid, LacksSlot, NoneLeft, OnAnew, TakesPiece, alone, entry, over, slot}
 use Rattle.bx_writes.specs.Laying.{InodeAlone}
 use Rattle.bx_writes.specs.Steps.{PutsBlock}
-use Rattle.bx_writes.specs.Stopping.{StopsByChunks}
+use Rattle.bx_changes.specs.Stopping.{StopsByChunks}
 
 -- ---- the slot
 

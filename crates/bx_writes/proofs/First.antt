@@ -3,7 +3,7 @@ use Rattle.std.proofs.Common.{◌≡◌, ◌∙◌, ℕ, ◌+◌, ◌/◌, ◌%�
 use Rattle.std.proofs.Math.Nat.{eq-or-lt_of_le}
 use Rattle.std.specs.Prelude.{IfErr, IfOk, Result}
 use Rattle.bx_adding.specs.Lacking.{IfFirst}
-use Rattle.bx_adding.specs.Stopping.{NeverFirst}
+use Rattle.bx_changes.specs.Stopping.{NeverFirst}
 use Rattle.bx_adding.proofs.Lacks.{first_so, never_first}
 use Rattle.bx_changes.specs.First.{ComesFirst}
 use Rattle.bx_changes.specs.declared.error.ChangeError.{ChangeError}

@@ -36,7 +36,7 @@ use Rattle.bx_sizes.proofs.Resized.{regular_bytes}
 use Rattle.bx_sizes.proofs.Stops.{not_lost}
 use Rattle.bx_views.specs.Truths.{Held, Hints, Truth}
 use Rattle.bx_adding.specs.Lacking.{IfFirst}
-use Rattle.bx_adding.specs.Stopping.{StopsChange}
+use Rattle.bx_changes.specs.Stopping.{StopsChange}
 use Rattle.bx_adding.proofs.Lacks.{first_if}
 use Rattle.bx_adding.proofs.Asked.{ready_block}
 use Rattle.bx_writes.specs.Lacking.{FindsEntry, MakesEntry}

@@ -2,7 +2,7 @@
 use Rattle.std.proofs.Common.{◌≡◌, ℕ, ◌+◌, ◌-◌, ◌*◌, ◌^◌, ◌<◌, ◌≤◌, arith, true, false, List, ◌++◌, length, Option, Some, None, sym, ◌∙◌, subst, inl, inr, Ok, Err}
 use Rattle.std.specs.Prelude.{IsSome}
 use Rattle.bx_adding.proofs.Spaces.{finds_space}
-use Rattle.bx_adding.specs.Stopping.{NeverFirst, StopsChange}
+use Rattle.bx_changes.specs.Stopping.{NeverFirst, StopsChange}
 use Rattle.bx_blink.specs.Hints.{Under}
 use Rattle.bx_blink.specs.declared.error.BlinkError.{BlinkError}
 use Rattle.bx_blink.specs.declared.error.BlinkError.TheVariants as tree_error
@@ -28,7 +28,7 @@ use Rattle.bx_truth.specs.PageTrees.{PageTree, map_of}
 use Rattle.bx_views.specs.Truths.{Held, Hints, Truth, with_draft}
 use Rattle.bx_writes.proofs.Anew.{none_then, under_two}
 use Rattle.bx_writes.specs.Steps.{MayPut, PutsBlock, PutsOn}
-use Rattle.bx_writes.specs.Stopping.{StopsByChunks}
+use Rattle.bx_changes.specs.Stopping.{StopsByChunks}
 
 some_none : (o : Option (List ℕ)) → o ≡ None → IsSome o → ⊥
 some_none None none some = let both : false ≡ true = some in absurd cc

@@ -5,7 +5,6 @@ pub mod Laying
 pub mod Near
 pub mod Paths
 pub mod Steps
-pub mod Stopping
 pub mod Telling
 pub mod Written
 pub mod Laid

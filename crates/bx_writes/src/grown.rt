@@ -1,7 +1,7 @@
 //! The inode of a file that is written.
 
-ghost use Rattle.std.specs.Prelude.{◌≡◌, ◌≤◌, ◌<◌, ◌^◌};
-ghost use Rattle.bx_layout.specs.Inodes.{IsInode};
+ghost use Rattle.std.specs.Prelude.{◌≡◌};
+ghost use Rattle.bx_changes.specs.Procedures.{IsInode};
 ghost use Rattle.bx_writes.specs.Grown.{grown as grown_to};
 
 use bx_layout::Inode;

@@ -1,17 +1,8 @@
 //! All pieces that bytes are in, the last ones first.
 
 ghost use Rattle.std.specs.Prelude.{◌≡◌, ◌+◌, ◌*◌, ◌≤◌, ◌<◌, ◌^◌, ℕ, List, [], IfOk, IfErr, IsSome, length};
-ghost use Rattle.bx_base.specs.declared.names.Mode.TheVariants.{Exclusive};
-ghost use Rattle.bx_changes.specs.Growing.{HoldsFirst, IfFull, NeedsBy};
-ghost use Rattle.bx_chunks.specs.Taking.{TakesSlots};
-ghost use Rattle.bx_handles.specs.Handles.{parts_of};
-ghost use Rattle.bx_layout.specs.Inodes.{IsInode};
+ghost use Rattle.bx_changes.specs.Procedures.{Exclusive, File, HoldsFirst, IfFull, IsHeldDraft, IsInode, NeedsBy, TakesSlots, Tree, Truth, block_at as place_of, parts_of};
 ghost use Rattle.bx_layout.specs.declared.inode.Inode.{Inode as Kept};
-ghost use Rattle.bx_model.specs.declared.tree.Tree.{Tree};
-ghost use Rattle.bx_tree_files.specs.declared.file.File.{File};
-ghost use Rattle.bx_truth.specs.Chunks.{block_at as place_of};
-ghost use Rattle.bx_views.specs.Attempts.{IsHeldDraft};
-ghost use Rattle.bx_views.specs.Truths.{Truth};
 ghost use Rattle.bx_adding.specs.Lacking.{IfFirst};
 ghost use Rattle.bx_writes.specs.Lacking.{FindEntries, MakesEntries};
 ghost use Rattle.bx_writes.specs.Laid.{IsLaid, LacksSlot};

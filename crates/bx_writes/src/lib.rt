@@ -7,7 +7,6 @@ mod laying;
 mod payloads;
 mod preparing;
 mod putting;
-mod stops;
 mod writing;
 
 pub use writing::write;

@@ -1,13 +1,10 @@
 //! A piece that is to be written: what is read before anything is changed.
 
-ghost use Rattle.std.specs.Prelude.{◌≡◌, ◌+◌, ◌≤◌, ◌<◌, ℕ, [], IfOk, IfErr, IsSome, None, length};
-ghost use Rattle.bx_changes.specs.Growing.{HoldsFirst, IfFull, NeedsBy};
-ghost use Rattle.bx_chunks.specs.Taking.{NoSlots, TakesSlots};
+ghost use Rattle.std.specs.Prelude.{◌≡◌, ◌+◌, ◌≤◌, ◌<◌, ℕ, [], IfOk, IfErr, None, length};
+ghost use Rattle.bx_changes.specs.Procedures.{HoldsFirst, IfFull, NeedsBy, NoSlots, TakesSlots, Tree, Truth};
 ghost use Rattle.bx_files.specs.Paths.{Finds};
 ghost use Rattle.bx_layout.specs.declared.inode.Inode.{Inode as Kept};
-ghost use Rattle.bx_model.specs.declared.tree.Tree.{Tree};
 ghost use Rattle.bx_truth.specs.Keys.{content_key as key_of_content};
-ghost use Rattle.bx_views.specs.Truths.{Truth};
 ghost use Rattle.bx_adding.specs.Lacking.{IfFirst};
 ghost use Rattle.bx_ready.specs.Lacking.{FindsRoom, MakesRoom};
 ghost use Rattle.bx_ready.specs.Ready.{OnReadyPath};
@@ -17,7 +14,6 @@ ghost use Rattle.bx_writes.specs.Paths.{OnPrepared};
 ghost use Rattle.bx_writes.specs.Steps.{FoundAt, HoldsPrepared, IsRegularOf, MissesIn, PreparesIn};
 
 use crate::payloads::overwritten;
-use crate::stops::of_tree;
 use bx_base::Raw;
 use bx_changes::ChangeError;
 use bx_files::{content_key, handle_in, value_at};
@@ -109,7 +105,7 @@ fn missing<V: View>(
     ensures long { IfOk result (λ made. length made.1 ≡ 4096) }
 {
     match ready(alloc, view, root, &content_key(place.0), near.0, near.1) {
-        Err(error) => Err(of_tree(near.1, error)),
+        Err(error) => Err(ChangeError::of_tree(near.1, error)),
         Ok(Some(draft)) => Err(ChangeError::Stopped(Stop::Inner(draft))),
         Ok(None) => match overwritten(alloc, None, place.1, part) {
             Err(_) => Err(ChangeError::Stopped(Stop::OutOfMemory)),

@@ -1,20 +1,14 @@
 //! A piece that is written, over a draft that has all pieces behind it.
 
-ghost use Rattle.std.specs.Prelude.{◌≡◌, ◌+◌, ◌*◌, ◌≤◌, ◌<◌, ◌++◌, ◌^◌, ℕ, List, IfOk, IfErr, None, length};
-ghost use Rattle.bx_changes.specs.Growing.{IfFull, NeedsBy};
+ghost use Rattle.std.specs.Prelude.{◌≡◌, ◌+◌, ◌*◌, ◌≤◌, ◌<◌, ◌++◌, ℕ, List, IfOk, IfErr, None, length};
+ghost use Rattle.bx_changes.specs.Procedures.{File, IfFull, IsHeldDraft, NeedsBy, NeverFirst, Tree, Truth};
 ghost use Rattle.bx_files.specs.Paths.{Finds};
 ghost use Rattle.bx_layout.specs.declared.inode.Inode.{Inode as Kept};
-ghost use Rattle.bx_model.specs.declared.tree.Tree.{Tree};
-ghost use Rattle.bx_tree_files.specs.declared.file.File.{File};
 ghost use Rattle.bx_truth.specs.Keys.{content_key as content_key_of};
 ghost use Rattle.bx_truth.specs.PageTrees.{PageTree};
-ghost use Rattle.bx_views.specs.Attempts.{IsHeldDraft};
-ghost use Rattle.bx_views.specs.Truths.{Truth};
-ghost use Rattle.bx_adding.specs.Stopping.{NeverFirst};
 ghost use Rattle.bx_writes.specs.Laid.{FoundBy, IsLaid, NoneLeft, OnAnew};
 ghost use Rattle.bx_writes.specs.Steps.{HoldsPrepared, MayPut, PutsBlock, PutsOn};
 
-use crate::stops::{of_chunks, of_tree};
 use bx_base::{OutOfMemory, Raw};
 use bx_blink::block_at;
 use bx_changes::ChangeError;
@@ -95,7 +89,7 @@ fn put_anew<V: View>(
 {
     let mut taken = draft;
     let names = match allocate(alloc, &mut taken, view, near.0, near.1) {
-        Err(error) => return Err(of_chunks(error)),
+        Err(error) => return Err(ChangeError::of_chunks(error)),
         Ok(names) => names,
     };
     let mut new = match with_piece(taken, names, payload) {
@@ -110,7 +104,7 @@ fn put_anew<V: View>(
         &content_key(index),
         &names.to_be_bytes(),
     ) {
-        Err(error) => Err(of_tree(near.1, error)),
+        Err(error) => Err(ChangeError::of_tree(near.1, error)),
         Ok(()) => Ok(new),
     }
 }

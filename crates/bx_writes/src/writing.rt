@@ -1,22 +1,11 @@
 //! WRITE.
 
-ghost use Rattle.std.specs.Prelude.{◌≡◌, ◌≢◌, ◌+◌, ◌≤◌, ◌<◌, ℕ, true, List, IfOk, IfErr, IsSome, Err, Some, length};
-ghost use Rattle.bx_base.specs.declared.names.Mode.TheVariants.{Exclusive};
+ghost use Rattle.std.specs.Prelude.{◌≡◌, ◌≢◌, ◌+◌, ◌≤◌, ◌<◌, ℕ, List, IfOk, IfErr, IsSome, Err, Some, length};
 ghost use Rattle.bx_adding.specs.Lacking.{IfFirst};
-ghost use Rattle.bx_changes.specs.First.{ComesFirst};
-ghost use Rattle.bx_changes.specs.Growing.{HoldsFirst, IfFull, IsChangeBy, NeedsBy};
-ghost use Rattle.bx_handles.specs.Handles.{named};
-ghost use Rattle.bx_hints.specs.Fitting.{HintsFitAll};
-ghost use Rattle.bx_inodes.specs.Inodes.{HoldsInode, IsInodeOf};
-ghost use Rattle.bx_inodes.specs.Stands.{Stands};
-ghost use Rattle.bx_layout.specs.Inodes.{IsInode};
+ghost use Rattle.bx_changes.specs.Procedures.{ComesFirst, Exclusive, Hints, HintsFitAll, HoldsFirst, IfFull, IsChangeBy, IsHeldDraft, IsInode, IsInodeOf, IsTruth, NeedsBy, Stands, Tree, Truth, block_at as place_of, named, with_draft};
 ghost use Rattle.bx_layout.specs.declared.inode.Inode.{Inode as Kept};
-ghost use Rattle.bx_model.specs.declared.tree.Tree.{Tree};
 ghost use Rattle.bx_model.specs.Writing.{write as write_of};
 ghost use Rattle.bx_sizes.specs.Lengths.{grows_over as grows_over_to};
-ghost use Rattle.bx_truth.specs.Chunks.{block_at as place_of};
-ghost use Rattle.bx_views.specs.Attempts.{IsHeldDraft};
-ghost use Rattle.bx_views.specs.Truths.{Hints, IsTruth, Truth, with_draft};
 ghost use Rattle.bx_writes.specs.Lacking.{PreparesWriting, PreparesWritten, ReadyToLay, ReadyToWrite};
 ghost use Rattle.bx_writes.specs.Near.{IsLaidNear, IsReadiedNear, LaysNear, ReadiesNear};
 ghost use Rattle.bx_writes.specs.Paths.{IsFullWriting, LacksSlots, OnFileWritten, OnWriting};

@@ -14,23 +14,23 @@ returns-in_default-clause-step g c = λ truth tree file e.
 pub returns-in-Err-clause-step : goal.returns-in-Err-clause-step
 returns-in-Err-clause-step g c = λ truth tree file e.
     stopped c.args.areas (g.V.View.held c.args.view.now) (g.V.View.hints c.args.view.now) truth c.args.draft tree c.args.directory.handle c.args.directory.inode file c.args.name.now c.args.made c.args.counts c.args.now e
-    c.add.new.draft c.in-Err.error c.change_error.result c.requires.few c.requires.name c.in-Err.ensures.ends
+    c.add.new.draft c.in-Err.error c.of_tree.result c.requires.few c.requires.name c.in-Err.ensures.ends
     (c.in-Err.ensures.list c.args.areas truth e.names
     (listed c.args.areas (g.V.View.held c.args.view.now) (g.V.View.hints c.args.view.now) truth c.args.draft tree c.args.directory.handle c.args.directory.inode file c.args.name.now c.args.made c.args.counts c.args.now e)
     (above c.args.areas (g.V.View.held c.args.view.now) (g.V.View.hints c.args.view.now) truth c.args.draft tree c.args.directory.handle c.args.directory.inode file c.args.name.now c.args.made c.args.counts c.args.now e))
-    c.in-Err.ensures.fair c.change_error.ensures
+    c.in-Err.ensures.fair c.of_tree.ensures
 
 pub returns-in-Err-clause-need : goal.returns-in-Err-clause-need
 returns-in-Err-clause-need g c =
     needs_stop (Unit {0}) c.args.areas (g.V.View.held c.args.view.now)
-    (OnAddPath (g.V.View.held c.args.view.now) (g.V.View.hints c.args.view.now) c.args.draft c.args.directory.inode.tree (entry_of c.args.directory.inode.next c.args.name.now c.args.made)) c.in-Err.error c.change_error.result c.in-Err.ensures.fair
-    c.change_error.ensures
+    (OnAddPath (g.V.View.held c.args.view.now) (g.V.View.hints c.args.view.now) c.args.draft c.args.directory.inode.tree (entry_of c.args.directory.inode.next c.args.name.now c.args.made)) c.in-Err.error c.of_tree.result c.in-Err.ensures.fair
+    c.of_tree.ensures
 
 pub returns-in-Err-clause-full : goal.returns-in-Err-clause-full
 returns-in-Err-clause-full g c =
-    full_stops (Unit {0}) c.args.areas (λ spare. ⊥) c.in-Err.error c.change_error.result
+    full_stops (Unit {0}) c.args.areas (λ spare. ⊥) c.in-Err.error c.of_tree.result
     (never_full (g.V.View.held c.args.view.now) (g.V.View.hints c.args.view.now) c.args.draft c.add.new.draft c.args.directory.inode.tree (entry_of c.args.directory.inode.next c.args.name.now c.args.made) c.in-Err.error c.in-Err.ensures.ends)
-    c.change_error.ensures
+    c.of_tree.ensures
 
 pub put_inode-requires-clause-room : goal.put_inode-requires-clause-room
 put_inode-requires-clause-room g c =

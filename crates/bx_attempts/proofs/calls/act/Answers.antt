@@ -12,7 +12,8 @@ use Rattle.bx_changes.specs.declared.error.ChangeError.{ChangeError}
 use Rattle.bx_changes.specs.declared.error.ChangeError.TheVariants.{Stopped}
 use Rattle.bx_create.specs.Creating.{OnCreate}
 use Rattle.bx_create.specs.Making.{OnMaking}
-use Rattle.bx_entries.specs.Finding.{OnRemove, OnRmdir}
+use Rattle.bx_entries.specs.Finding.{OnRemoval}
+use Rattle.bx_entries.specs.declared.finding.Removable.TheVariants as removable
 use Rattle.bx_model.specs.declared.call.Args.TheVariants.{Link, Make, Name, Rename, Set, Symlink, Write}
 use Rattle.bx_model.specs.declared.reply.Reply.{Reply}
 use Rattle.bx_model.specs.Making.{create, link, mkdir, symlink}
@@ -120,7 +121,7 @@ returns-then-call-eq-REMOVE g c =
     (λ truth tree agrees s other fit. c.remove.ensures.hints other truth tree agrees s.stands s.fit fit)
     (λ truth tree agrees s. never_prepares (PreparesFirst a.volume a.areas held hints truth tree call a.moment) c.remove.result c.remove.ensures.inner)
     (λ truth tree agrees s. IfOk-weaker c.remove.result _ _ (λ made kept. tt) c.remove.ensures.held)
-    (on_wider a.areas held (OnRemove held hints a.volume a.areas at name) (ChangePathOf held hints a.volume a.areas call.procedure (Name at name)) (λ block mode on. inl (number, on)) c.remove.result c.remove.ensures.need)
+    (on_wider a.areas held (OnRemoval removable.Plain held hints a.volume a.areas at name) (ChangePathOf held hints a.volume a.areas call.procedure (Name at name)) (λ block mode on. inl (number, on)) c.remove.result c.remove.ensures.need)
     (never_holds held c.remove.result c.remove.ensures.inner) c.remove.ensures.held)
     c.requires.moment xid attempt (subst (λ (r : Result (List Changed × Reply × ℕ) ChangeError). IsOutcome xid r attempt) c.stopping-then-call-eq-REMOVE.ensures is)
 
@@ -136,13 +137,13 @@ returns-else-call-eq-REMOVE g c =
     let number : call.procedure ≡ 15 = elim (subst (HasChangeArgs call) c.in-Name.is c.requires.changing) [ inl ten ↦ absurd (c.if-call-eq-REMOVE.false ten.procedure) | inr other ↦ other.procedure ] in
     λ xid attempt is.
     is_attempt a.volume a.areas held hints call a.moment (Name at name) same _
-    (by_stopping a.volume a.areas held hints call a.moment (Name at name) (λ tree. rmdir tree call at name (time_of a.moment)) (λ tree. rmdir_acts tree call a.moment at name 8 same number) c.rmdir.result
-    (λ truth tree agrees s. change_or a.volume a.areas truth tree (rmdir tree call at name (time_of a.moment)) c.rmdir.result (rw c.time_of-now.ensures at (c.rmdir.ensures.step truth tree agrees s.stands s.fit)))
-    (λ truth tree agrees s other fit. c.rmdir.ensures.hints other truth tree agrees s.stands s.fit fit)
-    (λ truth tree agrees s. never_prepares (PreparesFirst a.volume a.areas held hints truth tree call a.moment) c.rmdir.result c.rmdir.ensures.inner)
-    (λ truth tree agrees s. IfOk-weaker c.rmdir.result _ _ (λ made kept. tt) c.rmdir.ensures.held)
-    (on_wider a.areas held (OnRmdir held hints a.volume a.areas at name) (ChangePathOf held hints a.volume a.areas call.procedure (Name at name)) (λ block mode on. inr (number, on)) c.rmdir.result c.rmdir.ensures.need)
-    (never_holds held c.rmdir.result c.rmdir.ensures.inner) c.rmdir.ensures.held)
+    (by_stopping a.volume a.areas held hints call a.moment (Name at name) (λ tree. rmdir tree call at name (time_of a.moment)) (λ tree. rmdir_acts tree call a.moment at name 8 same number) c.remove-else-call-eq-REMOVE.result
+    (λ truth tree agrees s. change_or a.volume a.areas truth tree (rmdir tree call at name (time_of a.moment)) c.remove-else-call-eq-REMOVE.result (rw c.time_of-now.ensures at (c.remove-else-call-eq-REMOVE.ensures.step truth tree agrees s.stands s.fit)))
+    (λ truth tree agrees s other fit. c.remove-else-call-eq-REMOVE.ensures.hints other truth tree agrees s.stands s.fit fit)
+    (λ truth tree agrees s. never_prepares (PreparesFirst a.volume a.areas held hints truth tree call a.moment) c.remove-else-call-eq-REMOVE.result c.remove-else-call-eq-REMOVE.ensures.inner)
+    (λ truth tree agrees s. IfOk-weaker c.remove-else-call-eq-REMOVE.result _ _ (λ made kept. tt) c.remove-else-call-eq-REMOVE.ensures.held)
+    (on_wider a.areas held (OnRemoval removable.Directory held hints a.volume a.areas at name) (ChangePathOf held hints a.volume a.areas call.procedure (Name at name)) (λ block mode on. inr (number, on)) c.remove-else-call-eq-REMOVE.result c.remove-else-call-eq-REMOVE.ensures.need)
+    (never_holds held c.remove-else-call-eq-REMOVE.result c.remove-else-call-eq-REMOVE.ensures.inner) c.remove-else-call-eq-REMOVE.ensures.held)
     c.requires.moment xid attempt (subst (λ (r : Result (List Changed × Reply × ℕ) ChangeError). IsOutcome xid r attempt) c.stopping-else-call-eq-REMOVE.ensures is)
 
 pub returns-in-Symlink : goal.returns-in-Symlink

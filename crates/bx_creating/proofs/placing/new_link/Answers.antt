@@ -1,4 +1,4 @@
-use Rattle.std.proofs.Common.{List, Err, Ok, subst, sym, inl, inr}
+use Rattle.std.proofs.Common.{List, Err, Ok, subst, sym, inr}
 use Rattle.bx_making.specs.Made.{MakesFile, MakesIn}
 use Rattle.bx_making.specs.Links.{LinksAt}
 use Rattle.bx_ready.proofs.Split.{none_held}
@@ -13,18 +13,18 @@ use Rattle.bx_creating.proofs.placing.new_link.Goals as goal
 pub returns-in-Err-clause-step : goal.returns-in-Err-clause-step
 returns-in-Err-clause-step g c = λ truth tree few same is five none.
     let at = subst (λ (d : List Changed). LinksAt (g.V.View.held c.args.view.now) d c.make_link.new.draft c.args.inode.now c.args.near c.args.areas (Err c.in-Err.error)) c.new-draft.ensures c.in-Err.ensures.at in
-    stops c.args.areas truth tree c.args.inode.now (Path c.args.inode.now.path) c.make_link.new.draft c.in-Err.error c.chunk_error.result
+    stops c.args.areas truth tree c.args.inode.now (Path c.args.inode.now.path) c.make_link.new.draft c.in-Err.error c.of_chunks.result
     (λ crowded. link_crowds (g.V.View.held c.args.view.now) c.args.near c.args.areas c.args.inode.now c.make_link.new.draft (rw crowded at at))
     (λ spare full. link_full (g.V.View.held c.args.view.now) c.args.near c.args.areas truth few same is.chunked c.args.inode.now c.make_link.new.draft spare (rw full at at))
     (subst (λ (d : List Changed). MakesIn c.args.areas truth d c.make_link.new.draft tree c.args.inode.now (Path c.args.inode.now.path) (Err c.in-Err.error)) c.new-draft.ensures
     (c.in-Err.ensures.tree truth tree few same (subst (λ (d : List Changed). StandsFor c.args.areas (with_draft truth d) tree) (sym c.new-draft.ensures) is) five none))
-    c.chunk_error.ensures
+    c.of_chunks.ensures
 
 pub returns-in-Err-clause-need : goal.returns-in-Err-clause-need
 returns-in-Err-clause-need g c =
     let at = subst (λ (d : List Changed). LinksAt (g.V.View.held c.args.view.now) d c.make_link.new.draft c.args.inode.now c.args.near c.args.areas (Err c.in-Err.error)) c.new-draft.ensures c.in-Err.ensures.at in
-    needs c.args.areas (g.V.View.held c.args.view.now) c.args.near c.in-Err.error c.chunk_error.result
-    (λ block mode need. link_needs (g.V.View.held c.args.view.now) c.args.near c.args.areas c.args.inode.now c.make_link.new.draft block mode (rw need at at)) c.in-Err.ensures.fair c.chunk_error.ensures
+    needs c.args.areas (g.V.View.held c.args.view.now) c.args.near c.in-Err.error c.of_chunks.result
+    (λ block mode need. link_needs (g.V.View.held c.args.view.now) c.args.near c.args.areas c.args.inode.now c.make_link.new.draft block mode (rw need at at)) c.in-Err.ensures.fair c.of_chunks.ensures
 
 pub returns-in-Ok-clause-step : goal.returns-in-Ok-clause-step
 returns-in-Ok-clause-step g c = λ truth tree few same is five none.
@@ -43,7 +43,7 @@ returns-in-Ok-clause-few g c =
 pub returns-in-Err-clause-full : goal.returns-in-Err-clause-full
 returns-in-Err-clause-full g c =
     let at = subst (λ (d : List Changed). LinksAt (g.V.View.held c.args.view.now) d c.make_link.new.draft c.args.inode.now c.args.near c.args.areas (Err c.in-Err.error)) c.new-draft.ensures c.in-Err.ensures.at in
-    none_stops (g.V.View.held c.args.view.now) c.args.near c.args.areas c.in-Err.error c.chunk_error.result (λ spare full. link_none (g.V.View.held c.args.view.now) c.args.near c.args.areas c.args.inode.now c.make_link.new.draft spare (rw full at at)) c.chunk_error.ensures
+    none_stops (g.V.View.held c.args.view.now) c.args.near c.args.areas c.in-Err.error c.of_chunks.result (λ spare full. link_none (g.V.View.held c.args.view.now) c.args.near c.args.areas c.args.inode.now c.make_link.new.draft spare (rw full at at)) c.of_chunks.ensures
 
 pub returns-in-Ok-clause-made : goal.returns-in-Ok-clause-made
 returns-in-Ok-clause-made g c = (c.args.inode.now, inr (subst (λ (d : List Changed). LinksAt (g.V.View.held c.args.view.now) d c.make_link.new.draft c.args.inode.now c.args.near c.args.areas (Ok c.in-Ok.handle)) c.new-draft.ensures c.in-Ok.ensures.at))

@@ -1,4 +1,4 @@
-use Rattle.std.proofs.Common.{◌≡◌, ℕ, List, sym, ap, subst, inr}
+use Rattle.std.proofs.Common.{ℕ, List, sym, ap, subst, inr}
 use Rattle.std.specs.Prelude.{◌==◌, Ok, Err}
 use Rattle.bx_files.proofs.Needs.{needs_along}
 use Rattle.bx_records.specs.Drafts.{Changed}

@@ -1,4 +1,4 @@
-use Rattle.std.proofs.Common.{◌≡◌, ℕ, List, inr}
+use Rattle.std.proofs.Common.{List, inr}
 use Rattle.bx_entries.specs.Unlinking.{without_name_of}
 use Rattle.bx_files.proofs.Needs.{needs_along}
 use Rattle.bx_leaves.proofs.Fair.{seen_held}

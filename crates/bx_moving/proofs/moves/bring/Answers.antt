@@ -1,9 +1,9 @@
-use Rattle.std.proofs.Common.{[], List, inl, inr, refl}
+use Rattle.std.proofs.Common.{[], List, inl, refl}
 use Rattle.bx_records.specs.Drafts.{Changed}
-use Rattle.bx_moving.specs.Edits.{no_edit, OnComing}
+use Rattle.bx_moving.specs.Edits.{no_edit}
 use Rattle.bx_moving.specs.Moves.{OnBringing, OnClearing, brought, cleared}
 use Rattle.bx_moving.proofs.Brought.{may_come}
-use Rattle.bx_moving.proofs.Steps.{next_rests, over_grown, over_stopped, stops_by, then_grows}
+use Rattle.bx_moving.proofs.Steps.{next_rests, over_stopped, stops_by, then_grows}
 use Rattle.bx_moving.proofs.moves.bring.Goals as goal
 
 pub returns-in-Err-clause-step : goal.returns-in-Err-clause-step

@@ -1,6 +1,6 @@
 use Rattle.std.specs.Prelude.{Ok, Err}
 use Rattle.bx_entries.proofs.RemovedFrom.{is_changed, no_directory, no_name, not_removed, removes_from}
-use Rattle.bx_entries.proofs.removals.remove_name.Goals as goal
+use Rattle.bx_entries.proofs.removals.remove.Goals as goal
 
 pub returns-in_default-clause-step : goal.returns-in_default-clause-step
 returns-in_default-clause-step g c = λ truth tree same s fit. no_name c.args.sort tree c.args.call.now c.args.name.now c.args.now c.args.volume c.args.at.now s.volume_is c.in_default.ensures

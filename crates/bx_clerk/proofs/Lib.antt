@@ -1,5 +1,5 @@
-pub mod Placing
 pub mod Steps
 pub mod Sending
 pub mod Lookups
 mod Turns
+mod Placing

@@ -1,4 +1,5 @@
 pub mod Requests
 pub mod Turns
+pub mod Places
 pub mod Clerks
 pub mod Events

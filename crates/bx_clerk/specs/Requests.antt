@@ -1,5 +1,5 @@
 -- What a node asked for, by block, and what is asked back of it.
-use Rattle.std.specs.Prelude.{ℕ, zero, suc, ltb, ◌==◌, ◌&&◌, Bool, true, false, nat_eq, not, filter, List, [], ◌∷◌, Option, Some, None, if◌then◌else◌}
+use Rattle.std.specs.Prelude.{ℕ, ltb, ◌==◌, ◌&&◌, Bool, true, false, nat_eq, not, filter, List, [], ◌∷◌, Option, Some, None, if◌then◌else◌}
 use Rattle.std.specs.List.{list_any}
 use Rattle.std.specs.Map.{lookup}
 use Rattle.indexmap.specs.IndexMap.{insert_entry}
@@ -58,11 +58,6 @@ fits (Some r) number = r.number == number
 abbrev pub put_ask : ℕ × ℕ → List (ℕ × ℕ) → List (ℕ × ℕ)
 put_ask ask [] = ask ∷ []
 put_ask ask (one ∷ rest) = if ltb ask.1 one.1 then ask ∷ one ∷ rest else one ∷ put_ask ask rest
-
--- the place of the first one of a higher session
-abbrev pub ask_place : ℕ → List (ℕ × ℕ) → ℕ
-ask_place asking [] = zero
-ask_place asking (one ∷ rest) = if ltb asking one.1 then zero else suc (ask_place asking rest)
 
 abbrev pub is_asked : ℕ × ℕ → List (ℕ × ℕ) → Bool
 is_asked ask asks = list_any (λ one. (one.0 == ask.0) && (one.1 == ask.1)) asks

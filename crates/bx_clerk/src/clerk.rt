@@ -7,7 +7,7 @@ ghost use Rattle.bx_clerk.specs.Clerks.{asked_back, asking, asking_words, end_as
 ghost use Rattle.bx_clerk.specs.Events.{Hears, Takes, Ticks};
 ghost use Rattle.bx_clerk.specs.Requests.{hold_of, request_in, wish_of};
 
-use crate::asks::{drop_block, first_held};
+use crate::asks::Asks;
 use crate::learning::{own_session, until_of};
 use crate::letters::send_each;
 use crate::requests::{Asking, Requests, hold_of, wish_of};
@@ -30,7 +30,7 @@ pub struct Clerk {
     pub(crate) session: Option<u64>,
     pub(crate) lease: u64,
     pub(crate) requests: Requests,
-    pub(crate) asks: Vec<(u64, u64)>,
+    pub(crate) asks: Asks,
     pub(crate) given: u64,
     pub(crate) knows: u64,
     pub(crate) server: u32,
@@ -41,7 +41,7 @@ impl Model for Clerk {
 
     ghost Value = { Clerking };
 
-    ghost view = { λ c. record { node = c.node; boot = c.boot; drawn = c.drawn; session = c.session; lease = c.lease; requests = c.requests; asks = c.asks.items; given = c.given; knows = c.knows; server = c.server } };
+    ghost view = { λ c. record { node = c.node; boot = c.boot; drawn = c.drawn; session = c.session; lease = c.lease; requests = c.requests; asks = c.asks; given = c.given; knows = c.knows; server = c.server } };
 }
 
 impl Clerk {
@@ -58,7 +58,7 @@ impl Clerk {
             lease: until_of(state, session),
             session,
             requests: Requests::new(alloc),
-            asks: Vec::new(alloc),
+            asks: Asks::new(alloc),
             given: 0,
             knows: state.index,
             server: state.master,
@@ -100,7 +100,7 @@ impl Clerk {
     pub fn asked(&self) -> Option<(u64, u64)>
         ensures { result ≡ first_of (asked_back self.now) }
     {
-        first_held(&self.requests, &self.asks)
+        self.asks.first_held(&self.requests)
     }
 
     /// Wants a block, in another mode than it is held in now. That hold ends. Where no number is left for a request nothing is asked.
@@ -146,7 +146,7 @@ impl Clerk {
         let request = self.requests.get(block);
         self.given = self.given.max(index);
         self.requests.take_out(block);
-        drop_block(&mut self.asks, block);
+        self.asks.drop_block(block);
         let (Some(session), Some(request)) = (self.session, request) else {
             return Ok(());
         };

@@ -4,7 +4,6 @@ ghost use Rattle.std.specs.Prelude.{◌≡◌, OnOk};
 ghost use Rattle.bx_clerk.specs.Clerks.{Does};
 ghost use Rattle.bx_clerk.specs.Events.{answer_of, granted, hear, hear_own, hear_revoke, takes};
 
-use crate::asks::{drop_block, put_ask};
 use crate::clerk::Clerk;
 use crate::learning::is_same;
 use crate::requests::{Asking, has_number, is_held};
@@ -80,12 +79,12 @@ impl Clerk {
         let request = self.requests.get(revoke.block);
         let fits = has_number(&request, revoke.number);
         if fits && is_held(&request) {
-            return put_ask(&mut self.asks, revoke.block, revoke.asking);
+            return self.asks.put(revoke.block, revoke.asking);
         }
         words.push(self.answer_to(revoke))?;
         if fits {
             self.requests.take_out(revoke.block);
-            drop_block(&mut self.asks, revoke.block);
+            self.asks.drop_block(revoke.block);
         }
         Ok(())
     }

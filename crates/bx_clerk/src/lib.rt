@@ -6,6 +6,7 @@ mod clerk;
 mod hearing;
 mod learning;
 mod letters;
+mod places;
 mod requests;
 mod ticking;
 

@@ -19,4 +19,5 @@ pub mod WriteDone
 pub mod WriteSent
 pub mod GoingOn
 pub mod NodeSteps
+pub mod NodeTakes
 pub mod NodeStops

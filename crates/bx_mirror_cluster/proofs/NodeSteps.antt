@@ -79,11 +79,11 @@ module _ (parts : Parts) (x : Disks) (past : StorePast) (keeps : Keeps parts x p
     ];
   }
 
-no_reads : (nodes : ℕ → Streaming) → AreReads nodes []
+pub no_reads : (nodes : ℕ → Streaming) → AreReads nodes []
 no_reads nodes = record { kinds = λ letter there. absurd (nothing letter there); tags = λ m d session tag read. absurd (nothing read.letter read.there) }
 
 -- no letter more is none
-same_past : (past : StorePast) → letters_more past [] ≡ past
+pub same_past : (past : StorePast) → letters_more past [] ≡ past
 same_past past = ap (λ (ls : List Letter). let p : StorePast = record past { told = record past.told { letters = ls } } in p) (append-nil past.told.letters)
 
 -- ---- the answer is taken
@@ -104,7 +104,7 @@ answer_taken parts x past n keeps =
 
 -- ---- an acknowledgement is noted
 
-ack_kept : (member epoch : ℕ) (s : Sending) → ((with_ack member epoch s).session ≡ s.session) × ((with_ack member epoch s).sequence ≡ s.sequence) × (out_by (Some (with_ack member epoch s)) ≡ out_by (Some s))
+pub ack_kept : (member epoch : ℕ) (s : Sending) → ((with_ack member epoch s).session ≡ s.session) × ((with_ack member epoch s).sequence ≡ s.sequence) × (out_by (Some (with_ack member epoch s)) ≡ out_by (Some s))
 ack_kept member epoch s = by (is_acked s.acks member epoch)
   where
     with_one : Sending

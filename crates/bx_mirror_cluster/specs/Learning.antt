@@ -34,6 +34,6 @@ pub record Learned (c : Streaming) (known : GlobalState) (new : Streaming) : Typ
   pub tag : new.tag ≡ c.tag
   pub session : new.session ≡ session_of known c.node c.boot
   pub rows : new.rows ≡ known.devices
-  pub out : ((new.session ≡ c.session) × (out_by new.out ≡ out_by c.out)) ⊎ ((new.session ≢ c.session) × (new.out ≡ None))
+  pub out : ((new.session ≡ c.session) × (out_by new.out ≡ out_by c.out)) ⊎ ((new.session ≢ c.session) × (out_by new.out ≡ None))
   pub noted : (s : Sending) → new.out ≡ Some s → c.out ≡ Some s
   pub asks : (a : Asking) → new.asks ≡ Some a → (new.session ≡ Some a.session) × ((was : Asking) × (c.asks ≡ Some was) × (a.tag ≡ was.tag))

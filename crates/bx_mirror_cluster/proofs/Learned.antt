@@ -332,6 +332,10 @@ module _ (parts : Parts) (x : Disks) (past : StorePast) (keeps : Keeps parts x p
       | inl e ↦ keeps.sendable n t (so.noted t (sym (ap (λ (q : Streaming). q.out) (at_it m e)) ∙ is))
       | inr e ↦ keeps.sendable m t (sym (ap (λ (q : Streaming). q.out) (at_other m e)) ∙ is)
     ];
+    askable = λ m a is. elim (same_or m n) [
+      | inl e ↦ so.askable a (sym (ap (λ (q : Streaming). q.asks) (at_it m e)) ∙ is)
+      | inr e ↦ keeps.askable m a (sym (ap (λ (q : Streaming). q.asks) (at_other m e)) ∙ is)
+    ];
     epochs = keeps.epochs;
     own_out = λ m w there is. elim (same_or m n) [
       | inl e ↦ (let now : new.session ≡ Some w.session = sym (ap (λ (q : Streaming). q.session) (at_it m e)) ∙ is in

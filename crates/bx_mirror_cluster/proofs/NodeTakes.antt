@@ -1,5 +1,5 @@
 -- What a stream does in an event: it learns the state that its node is handed, ends its write where it is done, tells members of it, and hears answers.
-use Rattle.std.proofs.Common.{◌≡◌, ◌≢◌, ◌⊎◌, inl, inr, ℕ, ◌+◌, ◌<◌, ◌≤◌, Bool, true, false, Contains, List, [], ◌∷◌, ◌++◌, length, Option, Some, None, refl, sym, ◌∙◌, ap, subst, arith}
+use Rattle.std.proofs.Common.{◌≡◌, ◌≢◌, ◌⊎◌, inl, inr, ℕ, ◌≤◌, Bool, true, false, Contains, List, [], length, Option, Some, None, refl, sym, ◌∙◌, ap, subst, arith}
 use Rattle.std.specs.Prelude.{◌==◌, ◌&&◌, slice_get, if◌then◌else◌}
 use Rattle.std.proofs.lemmas.Bool.Decides.{nat_tests}
 use Rattle.bx_disk.specs.Disks.{Disks}
@@ -25,14 +25,14 @@ use Rattle.bx_mirror_client.specs.declared.asking.Asking.{Asking}
 use Rattle.bx_mirror_client.specs.declared.sending.Sending.{Sending}
 use Rattle.bx_mirror_cluster.specs.Fitting.{IsReading, Keeps, Parts, out_by}
 use Rattle.bx_mirror_cluster.specs.GoingOn.{letters_more}
-use Rattle.bx_mirror_cluster.specs.Learning.{Learned, MayLearn, knowing}
+use Rattle.bx_mirror_cluster.specs.Learning.{MayLearn, knowing}
 use Rattle.bx_mirror_cluster.specs.NodeSteps.{parts_acked}
 use Rattle.bx_mirror_cluster.specs.Speaking.{FitsRead}
 use Rattle.bx_mirror_cluster.specs.Writing.{with_node, with_stream}
 use Rattle.bx_mirror_cluster.proofs.Alike.{same_stream}
 use Rattle.bx_mirror_cluster.proofs.GoingOn.{goes_on}
 use Rattle.bx_mirror_cluster.proofs.Learned.{learned_keeps}
-use Rattle.bx_mirror_cluster.proofs.NodeSteps.{IsAsked, ack_noted, asked_still, body_in, is_asked, no_reads, number_in, node_goes_on, same_past}
+use Rattle.bx_mirror_cluster.proofs.NodeSteps.{ack_noted, asked_still, body_in, is_asked, no_reads, number_in, node_goes_on, same_past}
 use Rattle.bx_mirror_cluster.proofs.Sessions.{same_or_not}
 use Rattle.bx_mirror_cluster.proofs.ToldAgain.{told_keeps}
 use Rattle.bx_mirror_cluster.proofs.WriteDone.{write_ends}
@@ -202,8 +202,13 @@ answered_so d rows None a is = absurd (let no : None ≡ Some a = is in cc)
 answered_so d rows (Some b) a is = by (is_awaited b && fits (slice_get rows b.device) b d) is
   where
     by : (t : Bool) → (if t then Some (record b { answer = Some d.bytes }) else Some b) ≡ Some a → (was : Asking) × (Some b ≡ Some was) × (a.session ≡ was.session) × (a.tag ≡ was.tag) × (FitsRead was → FitsRead a)
-    by true same_is = let same : record b { answer = Some d.bytes } ≡ a = cc in (b, refl, ap (λ (q : Asking). q.session) (sym same), ap (λ (q : Asking). q.tag) (sym same),
-        λ was. subst FitsRead same (record { session = was.session; device = was.device; tag = was.tag; place = was.place; sectors = was.sectors }))
+    by true same_is = let same : record b { answer = Some d.bytes } ≡ a = cc in (
+      b,
+      refl,
+      ap (λ (q : Asking). q.session) (sym same),
+      ap (λ (q : Asking). q.tag) (sym same),
+      λ was. subst FitsRead same (record { session = was.session; device = was.device; tag = was.tag; place = was.place; sectors = was.sectors }),
+    )
     by false same_is = let same : b ≡ a = cc in (b, refl, ap (λ (q : Asking). q.session) (sym same), ap (λ (q : Asking). q.tag) (sym same), λ was. subst FitsRead same was)
 
 pub data_heard : (parts : Parts) (x : Disks) (past : StorePast) (n : ℕ) (d : DataBody) → Keeps parts x past

@@ -100,6 +100,7 @@ module _ (parts : Parts) (x : Disks) (past : StorePast) (later : ℕ) (rises : p
     out_actual = keeps.out_actual;
     out_number = keeps.out_number;
     sendable = keeps.sendable;
+    askable = keeps.askable;
     epochs = keeps.epochs;
     own_out = keeps.own_out;
     lasts = keeps.lasts;

@@ -65,6 +65,7 @@ module _ (parts : Parts) (x : Disks) (past : StorePast) (keeps : Keeps parts x p
     out_actual = λ m w is. let old = keeps.out_actual m w (sym (on.out m) ∙ is) in (old.0, on.session m ∙ old.1);
     out_number = λ m w is. let le = keeps.out_number m w (sym (on.out m) ∙ is) in let same = on.sequence m in omega (arith, le, same);
     sendable = on.sendable;
+    askable = on.askable;
     epochs = keeps.epochs;
     own_out = λ m w there is. on.out m ∙ keeps.own_out m w there (sym (on.session m) ∙ is);
     lasts = keeps.lasts;

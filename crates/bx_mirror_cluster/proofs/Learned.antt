@@ -210,7 +210,7 @@ module _ (parts : Parts) (x : Disks) (past : StorePast) (keeps : Keeps parts x p
     fit : IsFit
     fit = elim so.out [
       | inl same ↦ by (out_by c.out) refl same.1
-      | inr other ↦ without (ap out_by other.1)
+      | inr other ↦ without other.1
     ]
       where
         by : (o : Option Out) → out_by c.out ≡ o → out_by new.out ≡ out_by c.out → IsFit
@@ -317,20 +317,24 @@ module _ (parts : Parts) (x : Disks) (past : StorePast) (keeps : Keeps parts x p
     out_actual = λ m w is. elim (same_or m n) [
       | inl e ↦ (let now : out_by new.out ≡ Some w = sym (ap (λ (q : Streaming). out_by q.out) (at_it m e)) ∙ is in elim so.out [
         | inl same ↦ (let old = keeps.out_actual n w (sym same.1 ∙ now) in (old.0, ap (λ (q : Streaming). q.session) (at_it m e) ∙ same.0 ∙ old.1))
-        | inr other ↦ absurd (let no : None ≡ Some w = sym (ap out_by other.1) ∙ now in cc)
+        | inr other ↦ absurd (let no : None ≡ Some w = sym other.1 ∙ now in cc)
       ])
       | inr e ↦ (let old = keeps.out_actual m w (sym (ap (λ (q : Streaming). out_by q.out) (at_other m e)) ∙ is) in (old.0, ap (λ (q : Streaming). q.session) (at_other m e) ∙ old.1))
     ];
     out_number = λ m w is. elim (same_or m n) [
       | inl e ↦ (let now : out_by new.out ≡ Some w = sym (ap (λ (q : Streaming). out_by q.out) (at_it m e)) ∙ is in elim so.out [
         | inl same ↦ (let le = keeps.out_number n w (sym same.1 ∙ now) in let here_it = ap (λ (q : Streaming). q.sequence) (at_it m e) in let number = so.sequence in omega (arith, le, here_it, number))
-        | inr other ↦ absurd (let no : None ≡ Some w = sym (ap out_by other.1) ∙ now in cc)
+        | inr other ↦ absurd (let no : None ≡ Some w = sym other.1 ∙ now in cc)
       ])
       | inr e ↦ (let le = keeps.out_number m w (sym (ap (λ (q : Streaming). out_by q.out) (at_other m e)) ∙ is) in let same = ap (λ (q : Streaming). q.sequence) (at_other m e) in omega (arith, le, same))
     ];
     sendable = λ m t is. elim (same_or m n) [
       | inl e ↦ keeps.sendable n t (so.noted t (sym (ap (λ (q : Streaming). q.out) (at_it m e)) ∙ is))
       | inr e ↦ keeps.sendable m t (sym (ap (λ (q : Streaming). q.out) (at_other m e)) ∙ is)
+    ];
+    askable = λ m a is. elim (same_or m n) [
+      | inl e ↦ so.askable a (sym (ap (λ (q : Streaming). q.asks) (at_it m e)) ∙ is)
+      | inr e ↦ keeps.askable m a (sym (ap (λ (q : Streaming). q.asks) (at_other m e)) ∙ is)
     ];
     epochs = keeps.epochs;
     own_out = λ m w there is. elim (same_or m n) [

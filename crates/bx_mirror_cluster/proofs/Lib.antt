@@ -18,5 +18,7 @@ pub mod ToldAgain
 pub mod WriteDone
 pub mod WriteSent
 pub mod GoingOn
+pub mod NodeEvents
 pub mod NodeSteps
+pub mod NodeTakes
 pub mod NodeStops

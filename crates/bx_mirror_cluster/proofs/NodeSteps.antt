@@ -29,7 +29,7 @@ use Rattle.bx_mirror_client.proofs.Leaving.{noted_more}
 use Rattle.bx_mirror_client.proofs.Telling.{both, same_number}
 use Rattle.bx_mirror_cluster.specs.Fitting.{IsReading, IsSettledOn, Keeps, Parts, StandsOn, WillReadOn, out_by}
 use Rattle.bx_mirror_cluster.specs.GoingOn.{AreReads, GoesOn, letters_more}
-use Rattle.bx_mirror_cluster.specs.Speaking.{FitsPacket}
+use Rattle.bx_mirror_cluster.specs.Speaking.{FitsPacket, FitsRead}
 use Rattle.bx_mirror_cluster.specs.NodeSteps.{IsAck, MayRead, parts_acked, parts_asked, past_asked}
 use Rattle.bx_mirror_cluster.specs.Writing.{with_node, with_stream}
 use Rattle.bx_mirror_cluster.proofs.GoingOn.{goes_on, reads_on, settles_on, stands_still}
@@ -54,7 +54,7 @@ module _ (parts : Parts) (x : Disks) (past : StorePast) (keeps : Keeps parts x p
 
   pub node_goes_on : out_by c.out ≡ out_by (parts.nodes n).out → c.rows ≡ (parts.nodes n).rows → c.session ≡ (parts.nodes n).session → c.sequence ≡ (parts.nodes n).sequence → c.boot ≡ (parts.nodes n).boot → (parts.nodes n).tag ≤ c.tag → ((s : Sending) → c.out ≡ Some s → FitsPacket s)
       → ((d epoch : ℕ) (b : Bool) (s : Sending) → d < parts.made.devices → c.out ≡ Some s → HasAcked s.acks (member_at d b) epoch → Among (keeps.history.wrotes d) (record { by = b; session = s.session; epoch = epoch; sequence = s.sequence }))
-      → ((a : Asking) → c.asks ≡ Some a → (c.session ≡ Some a.session) × (a.tag ≤ c.tag)) → GoesOn parts keeps.history (with_node parts.nodes n c)
+      → ((a : Asking) → c.asks ≡ Some a → (c.session ≡ Some a.session) × (a.tag ≤ c.tag) × FitsRead a) → GoesOn parts keeps.history (with_node parts.nodes n c)
   node_goes_on out rows session sequence boot tag sendable noted asked = record {
     out = λ m. kept (λ q. out_by q.out) out m;
     rows = λ m. kept (λ q. q.rows) rows m;
@@ -73,17 +73,24 @@ module _ (parts : Parts) (x : Disks) (past : StorePast) (keeps : Keeps parts x p
       | inl e ↦ noted d epoch b s within (sym (ap (λ (q : Streaming). q.out) (at_it m e)) ∙ is) has
       | inr e ↦ keeps.noted m d epoch b s within (sym (ap (λ (q : Streaming). q.out) (at_other m e)) ∙ is) has
     ];
+    askable = λ m a is. elim (same_or m n) [
+      | inl e ↦ (asked a (sym (ap (λ (q : Streaming). q.asks) (at_it m e)) ∙ is)).2
+      | inr e ↦ keeps.askable m a (sym (ap (λ (q : Streaming). q.asks) (at_other m e)) ∙ is)
+    ];
     asking = λ m a is. elim (same_or m n) [
       | inl e ↦ (let it = asked a (sym (ap (λ (q : Streaming). q.asks) (at_it m e)) ∙ is) in (ap (λ (q : Streaming). q.session) (at_it m e) ∙ it.0, (let now = ap (λ (q : Streaming). q.tag) (at_it m e) in let le = it.1 in omega (arith, now, le))))
       | inr e ↦ (let it = keeps.asking m a (sym (ap (λ (q : Streaming). q.asks) (at_other m e)) ∙ is) in (ap (λ (q : Streaming). q.session) (at_other m e) ∙ it.0, (let now = ap (λ (q : Streaming). q.tag) (at_other m e) in let le = it.1 in omega (arith, now, le))))
     ];
   }
 
-no_reads : (nodes : ℕ → Streaming) → AreReads nodes []
+pub asked_still : (parts : Parts) (x : Disks) (past : StorePast) → Keeps parts x past → (n : ℕ) (a : Asking) → (parts.nodes n).asks ≡ Some a → ((parts.nodes n).session ≡ Some a.session) × (a.tag ≤ (parts.nodes n).tag) × FitsRead a
+asked_still parts x past keeps n a is = let old = keeps.asking n a is in (old.0, old.1, keeps.askable n a is)
+
+pub no_reads : (nodes : ℕ → Streaming) → AreReads nodes []
 no_reads nodes = record { kinds = λ letter there. absurd (nothing letter there); tags = λ m d session tag read. absurd (nothing read.letter read.there) }
 
 -- no letter more is none
-same_past : (past : StorePast) → letters_more past [] ≡ past
+pub same_past : (past : StorePast) → letters_more past [] ≡ past
 same_past past = ap (λ (ls : List Letter). let p : StorePast = record past { told = record past.told { letters = ls } } in p) (append-nil past.told.letters)
 
 -- ---- the answer is taken
@@ -98,13 +105,13 @@ left_is (Some q) a e = by (is_some q.answer) e
 
 pub answer_taken : (parts : Parts) (x : Disks) (past : StorePast) (n : ℕ) → Keeps parts x past → Keeps (with_stream parts n (answered (parts.nodes n))) x past
 answer_taken parts x past n keeps =
-    let on = node_goes_on parts x past keeps n (answered (parts.nodes n)) refl refl refl refl refl (omega arith) (λ s is. keeps.sendable n s is) (λ d epoch b s within is has. keeps.noted n d epoch b s within is has) (λ a is. keeps.asking n a (left_is (parts.nodes n).asks a is)) in
+    let on = node_goes_on parts x past keeps n (answered (parts.nodes n)) refl refl refl refl refl (omega arith) (λ s is. keeps.sendable n s is) (λ d epoch b s within is has. keeps.noted n d epoch b s within is has) (λ a is. asked_still parts x past keeps n a (left_is (parts.nodes n).asks a is)) in
     subst (λ (p : StorePast). Keeps (with_stream parts n (answered (parts.nodes n))) x p) (same_past past)
     (goes_on parts x past keeps (with_node parts.nodes n (answered (parts.nodes n))) [] on (no_reads (with_node parts.nodes n (answered (parts.nodes n)))))
 
 -- ---- an acknowledgement is noted
 
-ack_kept : (member epoch : ℕ) (s : Sending) → ((with_ack member epoch s).session ≡ s.session) × ((with_ack member epoch s).sequence ≡ s.sequence) × (out_by (Some (with_ack member epoch s)) ≡ out_by (Some s))
+pub ack_kept : (member epoch : ℕ) (s : Sending) → ((with_ack member epoch s).session ≡ s.session) × ((with_ack member epoch s).sequence ≡ s.sequence) × (out_by (Some (with_ack member epoch s)) ≡ out_by (Some s))
 ack_kept member epoch s = by (is_acked s.acks member epoch)
   where
     with_one : Sending
@@ -169,11 +176,11 @@ ack_noted parts x past n s member w keeps ack =
         (subst (λ (k : ℕ). Among (keeps.history.wrotes d) (record { by = b; session = k; epoch = epoch; sequence = s.sequence })) session old)
 
     on : GoesOn parts keeps.history (with_node parts.nodes n (record (parts.nodes n) { out = Some (with_ack member w.epoch s) }))
-    on = node_goes_on parts x past keeps n (record (parts.nodes n) { out = Some (with_ack member w.epoch s) }) (kept_by.2 ∙ sym (ap out_by ack.out)) refl refl refl refl (omega arith) (λ t is. let same : with_ack member w.epoch s ≡ t = cc in subst FitsPacket same (ack_fits member w.epoch s (keeps.sendable n s ack.out))) noted (λ a is. keeps.asking n a is)
+    on = node_goes_on parts x past keeps n (record (parts.nodes n) { out = Some (with_ack member w.epoch s) }) (kept_by.2 ∙ sym (ap out_by ack.out)) refl refl refl refl (omega arith) (λ t is. let same : with_ack member w.epoch s ≡ t = cc in subst FitsPacket same (ack_fits member w.epoch s (keeps.sendable n s ack.out))) noted (λ a is. asked_still parts x past keeps n a is)
 
 -- ---- a read is sent
 
-abbrev body_in : DeviceMessage → ReadBody → ReadBody
+abbrev pub body_in : DeviceMessage → ReadBody → ReadBody
 body_in (Read r) other = r
 body_in (Write w) other = other
 body_in (Wrote w) other = other
@@ -182,24 +189,24 @@ body_in (Copy c) other = other
 body_in (Copied c) other = other
 body_in Alive other = other
 
-abbrev number_in : Actor → ℕ
+abbrev pub number_in : Actor → ℕ
 number_in (Node n) = n
 number_in (Member n) = 0
 number_in (Replica n) = 0
 number_in (Server n) = 0
 
 -- a letter of a read is the one of its row
-record IsAsked (node : ℕ) (a : Asking) (rows : List DeviceRow) (letter : Letter) : Type 0 where
-  row : DeviceRow
-  there : slice_get rows a.device ≡ Some row
-  is : letter ≡ read_letter node a row
+pub record IsAsked (node : ℕ) (a : Asking) (rows : List DeviceRow) (letter : Letter) : Type 0 where
+  pub row : DeviceRow
+  pub there : slice_get rows a.device ≡ Some row
+  pub is : letter ≡ read_letter node a row
 
-is_asked : (node : ℕ) (a : Asking) (rows : List DeviceRow) (letter : Letter) → Contains (read_letters [] node (Some a) rows) letter → IsAsked node a rows letter
-is_asked node a rows letter has = by (slice_get rows a.device) refl has
+pub is_asked : (before : List DeviceRow) (node : ℕ) (a : Asking) (rows : List DeviceRow) (letter : Letter) → Contains (read_letters before node (Some a) rows) letter → IsAsked node a rows letter
+is_asked before node a rows letter has = by (slice_get rows a.device) refl has
   where
-    by : (o : Option DeviceRow) → slice_get rows a.device ≡ o → Contains (read_in [] node a o) letter → IsAsked node a rows letter
+    by : (o : Option DeviceRow) → slice_get rows a.device ≡ o → Contains (read_in before node a o) letter → IsAsked node a rows letter
     by None e there = absurd (nothing letter there)
-    by (Some row) e there = pick (is_new_epoch [] a.device row && is_awaited a) there
+    by (Some row) e there = pick (is_new_epoch before a.device row && is_awaited a) there
       where
         pick : (b : Bool) → Contains (if b then read_letter node a row ∷ [] else []) letter → IsAsked node a rows letter
         pick true one = elim (front_or_behind (read_letter node a row) [] letter one) [ inl here ↦ record { row = row; there = e; is = sym here } | inr none ↦ absurd (nothing letter none) ]
@@ -214,7 +221,7 @@ module _ (parts : Parts) (x : Disks) (past : StorePast) (keeps : Keeps parts x p
 
   tags : (m d t tag : ℕ) → IsReading (read_letters [] (parts.nodes n).node (Some it) (parts.nodes n).rows) m d t tag → tag ≤ (with_node parts.nodes n next m).tag
   tags m d t tag read =
-      let asked = is_asked (parts.nodes n).node it (parts.nodes n).rows read.letter read.there in
+      let asked = is_asked [] (parts.nodes n).node it (parts.nodes n).rows read.letter read.there in
       let body : ReadBody = record { session = session; device = device; epoch = asked.row.epoch; tag = it.tag; place = place; sectors = sectors } in
       let own : Spells (Read body) read.letter.kind read.letter.body =
       subst (λ (l : Letter). Spells (Read body) l.kind l.body) (sym asked.is)
@@ -225,12 +232,15 @@ module _ (parts : Parts) (x : Disks) (past : StorePast) (keeps : Keeps parts x p
       let now = ap (λ (q : Streaming). q.tag) (at_it parts x past keeps n next m from) in
       omega (arith, tag_is, now)
 
+  fits_it : FitsRead it
+  fits_it = record { session = may.session_fits; device = may.device_fits; tag = may.tag_fits; place = may.place_fits; sectors = may.sectors_fit }
+
   on : GoesOn parts keeps.history (with_node parts.nodes n next)
   on = node_goes_on parts x past keeps n next refl refl refl refl refl (omega arith) (λ s is. keeps.sendable n s is) (λ d epoch b s within is has. keeps.noted n d epoch b s within is has)
-      (λ a is. let same : it ≡ a = cc in (may.own ∙ ap (λ (q : Asking). Some q.session) same, (let e = ap (λ (q : Asking). q.tag) same in omega (arith, e))))
+      (λ a is. let same : it ≡ a = cc in (may.own ∙ ap (λ (q : Asking). Some q.session) same, (let e = ap (λ (q : Asking). q.tag) same in omega (arith, e)), subst FitsRead same fits_it))
 
   are_reads : AreReads (with_node parts.nodes n next) (read_letters [] (parts.nodes n).node (Some it) (parts.nodes n).rows)
-  are_reads = record { kinds = λ letter there. (let asked = is_asked (parts.nodes n).node it (parts.nodes n).rows letter there in ap (λ (l : Letter). l.kind) asked.is); tags = tags }
+  are_reads = record { kinds = λ letter there. (let asked = is_asked [] (parts.nodes n).node it (parts.nodes n).rows letter there in ap (λ (l : Letter). l.kind) asked.is); tags = tags }
 
   pub read_sent : Keeps (parts_asked parts n session device place sectors) x (past_asked parts past n session device place sectors)
   read_sent = goes_on parts x past keeps (with_node parts.nodes n next) (read_letters [] (parts.nodes n).node (Some it) (parts.nodes n).rows) on are_reads

@@ -125,6 +125,10 @@ module _ (parts : Parts) (x : Disks) (past : StorePast) (keeps : Keeps parts x p
       | inl e ↦ absurd (let no : None ≡ Some s = sym (ap (λ (q : Streaming). q.out) (at_it m e)) ∙ is in cc)
       | inr e ↦ keeps.sendable m s (sym (ap (λ (q : Streaming). q.out) (at_other m e)) ∙ is)
     ];
+    askable = λ m a is. elim (same_or m n) [
+      | inl e ↦ absurd (let no : None ≡ Some a = sym (ap (λ (q : Streaming). q.asks) (at_it m e)) ∙ is in cc)
+      | inr e ↦ keeps.askable m a (sym (ap (λ (q : Streaming). q.asks) (at_other m e)) ∙ is)
+    ];
     epochs = keeps.epochs;
     own_out = λ m w there is. let old = was_session m w.session is in ap (λ (q : Streaming). out_by q.out) (at_other m old.0) ∙ keeps.own_out m w there old.1;
     lasts = keeps.lasts;

@@ -227,6 +227,7 @@ module _ (parts : Parts) (x : Disks) (past : StorePast) (keeps : Keeps parts x p
     out_actual = keeps.out_actual;
     out_number = keeps.out_number;
     sendable = keeps.sendable;
+    askable = keeps.askable;
     epochs = keeps.epochs;
     own_out = keeps.own_out;
     lasts = λ d b session_of_it. elim (keeps.lasts d b session_of_it) [

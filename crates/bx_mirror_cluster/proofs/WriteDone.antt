@@ -270,6 +270,7 @@ module _ (parts : Parts) (x : Disks) (past : StorePast) (keeps : Keeps parts x p
       | inl e ↦ absurd (let no : None ≡ Some t = sym (ap (λ (q : Streaming). q.out) (at_it m e)) ∙ is in cc)
       | inr e ↦ keeps.sendable m t (sym (ap (λ (q : Streaming). q.out) (at_other m e)) ∙ is)
     ];
+    askable = λ m a is. keeps.askable m a (sym (kept (λ q. q.asks) refl m) ∙ is);
     epochs = keeps.epochs;
     own_out = λ m w there is. let old = more w there in let before = keeps.own_out m w old.0 (sym (kept (λ q. q.session) refl m) ∙ is) in elim (same_or m n) [
       | inl e ↦ absurd (old.1 (let of_n : (parts.nodes n).session ≡ Some w.session = sym (ap (λ (k : ℕ). (parts.nodes k).session) e) ∙ sym (kept (λ q. q.session) refl m) ∙ is in

@@ -358,6 +358,7 @@ module _ (parts : Parts) (x : Disks) (past : StorePast) (keeps : Keeps parts x p
       | inl e ↦ (let both : Some s ≡ Some t = sym (ap (λ (q : Streaming). q.out) (at_it m e)) ∙ is in let same : s ≡ t = cc in subst FitsPacket same fits)
       | inr e ↦ keeps.sendable m t (sym (ap (λ (q : Streaming). q.out) (at_other m e)) ∙ is)
     ];
+    askable = λ m a is. keeps.askable m a (sym (kept (λ q. q.asks) refl m) ∙ is);
     epochs = keeps.epochs;
     own_out = λ m w there is. elim there.is [
       | inl new ↦ (let it : (parts.nodes m).session ≡ Some session = sym (kept (λ q. q.session) refl m) ∙ is ∙ ap (λ (v : Out). Some v.session) new in

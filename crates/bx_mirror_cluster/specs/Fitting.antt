@@ -36,7 +36,7 @@ use Rattle.bx_mirror_client.specs.Streams.{Streaming}
 use Rattle.bx_mirror_client.specs.Telling.{HasAcked}
 use Rattle.bx_mirror_client.specs.declared.asking.Asking.{Asking}
 use Rattle.bx_mirror_client.specs.declared.sending.Sending.{Sending}
-use Rattle.bx_mirror_cluster.specs.Speaking.{FitsPacket}
+use Rattle.bx_mirror_cluster.specs.Speaking.{FitsPacket, FitsRead}
 
 -- ---- the rows of a device along a chain, and what was handed back of it
 
@@ -278,6 +278,7 @@ pub record Keeps (parts : Parts) (x : Disks) (past : StorePast) : Type 0 where
   pub out_number : (n : ℕ) (w : Out) → outs_of parts.nodes n ≡ Some w → w.sequence ≤ (parts.nodes n).sequence
   -- the numbers of what is out, and of all rows, fit a packet
   pub sendable : (n : ℕ) (s : Sending) → (parts.nodes n).out ≡ Some s → FitsPacket s
+  pub askable : (n : ℕ) (a : Asking) → (parts.nodes n).asks ≡ Some a → FitsRead a
   pub epochs : (s : GlobalState) → IsPlace past.told.chain s → (d : ℕ) (row : DeviceRow) → slice_get s.devices d ≡ Some row → Fits row.epoch
   pub own_out : (n : ℕ) (w : Out) → Among history.actual w → (parts.nodes n).session ≡ Some w.session → outs_of parts.nodes n ≡ Some w
   -- the last sequence that a member knows of a session is that of a letter

@@ -8,7 +8,7 @@ use Rattle.bx_mirror_client.specs.Streams.{Streaming}
 use Rattle.bx_mirror_client.specs.Telling.{HasAcked}
 use Rattle.bx_mirror_client.specs.declared.asking.Asking.{Asking}
 use Rattle.bx_mirror_client.specs.declared.sending.Sending.{Sending}
-use Rattle.bx_mirror_cluster.specs.Speaking.{FitsPacket}
+use Rattle.bx_mirror_cluster.specs.Speaking.{FitsPacket, FitsRead}
 use Rattle.bx_mirror_cluster.specs.Fitting.{History, IsReading, Parts, out_by}
 
 -- other streams, and more letters
@@ -27,6 +27,7 @@ pub record GoesOn (parts : Parts) (history : History) (nodes : ℕ → Streaming
   pub boot : (m : ℕ) → (nodes m).boot ≡ (parts.nodes m).boot
   pub tag : (m : ℕ) → (parts.nodes m).tag ≤ (nodes m).tag
   pub sendable : (m : ℕ) (s : Sending) → (nodes m).out ≡ Some s → FitsPacket s
+  pub askable : (m : ℕ) (a : Asking) → (nodes m).asks ≡ Some a → FitsRead a
   pub noted : (m d epoch : ℕ) (b : Bool) (s : Sending) → d < parts.made.devices → (nodes m).out ≡ Some s → HasAcked s.acks (member_at d b) epoch → Among (history.wrotes d) (record { by = b; session = s.session; epoch = epoch; sequence = s.sequence })
   pub asking : (m : ℕ) (a : Asking) → (nodes m).asks ≡ Some a → ((nodes m).session ≡ Some a.session) × (a.tag ≤ (nodes m).tag)
 

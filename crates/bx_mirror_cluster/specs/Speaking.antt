@@ -8,6 +8,7 @@ use Rattle.bx_rows.specs.declared.device.DeviceRow.{DeviceRow}
 use Rattle.bx_mirror_laws.specs.Sides.{WriteLetter}
 use Rattle.bx_mirror_packets.specs.Parting.{runs_on}
 use Rattle.bx_mirror_client.specs.Telling.{HasRuns}
+use Rattle.bx_mirror_client.specs.declared.asking.Asking.{Asking}
 use Rattle.bx_mirror_client.specs.declared.sending.Sending.{Sending}
 
 -- A run's place and its number of sectors fit a packet, and it is of whole sectors, at least one.
@@ -24,6 +25,14 @@ pub record FitsPacket (s : Sending) : Type 0 where
   pub until : Fits s.until
   pub count : length s.runs.1 < 2 ^ 32
   pub runs : AllByRecursion IsSpoken s.runs.1
+
+-- So do those of a read.
+pub record FitsRead (a : Asking) : Type 0 where
+  pub session : Fits a.session
+  pub device : a.device < 2 ^ 32
+  pub tag : Fits a.tag
+  pub place : Fits a.place
+  pub sectors : a.sectors < 2 ^ 32
 
 -- What a member of a device is told of a write, as the laws of devices speak of it.
 abbrev pub letter_of : Sending → ℕ → DeviceRow → Bool → WriteLetter

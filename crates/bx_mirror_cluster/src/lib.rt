@@ -9,4 +9,6 @@ pub use laws::{
     what_came_is_noted, what_is_done_stands, what_is_settled_stands, what_stands_is_settled,
     who_is_down_stays,
 };
-pub use nodes::{a_reading_rises, a_state_is_learned, a_write_ends, members_are_told_again};
+pub use nodes::{
+    a_reading_rises, a_state_is_learned, a_write_ends, an_event_is_taken, members_are_told_again,
+};

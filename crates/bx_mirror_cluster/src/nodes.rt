@@ -1,10 +1,15 @@
 //! What a node does and learns, as events of a store whose members and streams fit what was done with it.
 
-ghost use Rattle.std.specs.Prelude.{◌≡◌, ◌≢◌, ℕ, ◌<◌, ◌≤◌, ◌⊎◌, ◌==◌, Bool, true, false, List, None, Some, length};
+ghost use Rattle.std.specs.Prelude.{◌≡◌, ◌≢◌, ℕ, ◌<◌, ◌≤◌, ◌⊎◌, ◌==◌, ◌++◌, Bool, true, false, List, None, Some, length};
+ghost use Rattle.bx_base.specs.declared.names.Actor.TheVariants.{Node};
 ghost use Rattle.bx_disk.specs.Disks.{Disks};
-ghost use Rattle.bx_facts.specs.Writes.{StorePast};
+ghost use Rattle.bx_facts.specs.Inputs.{IsComing as Arrives};
+ghost use Rattle.bx_facts.specs.Writes.{StorePast, store_heard, store_with};
+ghost use Rattle.bx_facts.specs.declared.input.Input.{Input};
 ghost use Rattle.bx_global.specs.declared.state.GlobalState.{GlobalState};
+ghost use Rattle.bx_post.specs.declared.packets.Letter.{Letter};
 ghost use Rattle.bx_rows.specs.declared.device.DeviceRow.{DeviceRow};
+ghost use Rattle.bx_mirror_client.specs.Events.{Takes};
 ghost use Rattle.bx_mirror_client.specs.Letters.{letters_from};
 ghost use Rattle.bx_mirror_client.specs.Sends.{is_done};
 ghost use Rattle.bx_mirror_client.specs.Streams.{Streaming};
@@ -60,4 +65,11 @@ pub fn a_reading_rises()
     ensures settles { (parts : Parts) (x : Disks) (past : StorePast) (greatest device sector : ℕ) (content : List ℕ) → past.told.greatest ≤ greatest → IsSettledOn parts x past device sector content → IsSettledOn parts x (with_clock past greatest) device sector content }
     ensures stands { (parts : Parts) (x : Disks) (past : StorePast) (greatest device sector : ℕ) (content : List ℕ) (index : ℕ) → past.told.greatest ≤ greatest → StandsOn parts x past device sector content index → StandsOn parts x (with_clock past greatest) device sector content index }
     ensures reads { (parts : Parts) (x : Disks) (past : StorePast) (greatest reader : ℕ) (read : Asking) (sector : ℕ) (content : List ℕ) → past.told.greatest ≤ greatest → WillReadOn parts x past reader read sector content → WillReadOn parts x (with_clock past greatest) reader read sector content }
+{}
+
+/// All that a stream does in one event: it learns the state that its node is handed, tells members of what is out, and takes what comes. Members and
+/// streams fit the past again, with these letters.
+pub fn an_event_is_taken()
+    ensures { (parts : Parts) (x : Disks) (past : StorePast) (node : ℕ) (known : GlobalState) (input : Input) (new : Streaming) (before after : List Letter) → Keeps parts x (store_with past before) → MayLearn parts (store_with past before) node known
+        → length known.devices ≤ 4 → Arrives (past.told.letters ++ before) input → Takes (parts.nodes node) known input new before after → Keeps (with_stream parts node new) x (store_with (store_heard past (Node node) known.index input None) after) }
 {}

@@ -2,6 +2,7 @@ pub mod Alike
 pub mod Chained
 pub mod Clock
 pub mod Crashing
+pub mod DiskChanges
 pub mod Dropping
 pub mod Finished
 pub mod Growth

@@ -1,0 +1,127 @@
+-- A disk crashes, or is replaced, while its machine is down: all devices go on fitting.
+use Rattle.std.proofs.Common.{◌≡◌, ◌≢◌, ◌⊎◌, inl, inr, ℕ, ◌+◌, ◌<◌, Bool, true, false, List, sym, ◌∙◌, subst, arith}
+use Rattle.bx_base.specs.declared.names.Actor.TheVariants.{Member}
+use Rattle.bx_disk.specs.Disks.{Disks, Stays}
+use Rattle.bx_facts.specs.Chains.{last}
+use Rattle.bx_facts.specs.Disks.{Crashes}
+use Rattle.bx_facts.specs.Writes.{StorePast, label_on, member_disk, store_room}
+use Rattle.bx_layout.specs.Labels.{SpellsLabel}
+use Rattle.bx_rows.specs.declared.device.DeviceRow.{DeviceRow}
+use Rattle.bx_mirror_laws.specs.Sides.{Side}
+use Rattle.bx_mirror_laws.specs.Sound.{AreCopies, AreHanded, AreOuts, AreRows, AreWrites, AreWrotes, Standing}
+use Rattle.bx_mirror_client.specs.Sends.{member_at}
+use Rattle.bx_mirror_cluster.specs.Fitting.{History, IsClaimed, IsComing, IsDeviceSound, IsSideAlone, Keeps, KnownFrom, Nowhere, Parts, StandsFor, StandsOn, handings, knows_of, last_row, outs_of, row_of, rows_before, side_of}
+use Rattle.bx_mirror_cluster.proofs.Crashing.{survives}
+use Rattle.bx_mirror_cluster.proofs.Replacing.{replaced}
+
+same_or : (n m : ℕ) → (n ≡ m) ⊎ (n ≢ m)
+same_or n m = grind arith
+
+-- disks of another device
+other_disk : (d k : ℕ) (b c : Bool) → k ≢ d → member_disk k c ≢ 3 + member_at d b
+other_disk d k false false apart e = apart (omega (arith, e))
+other_disk d k false true apart e = omega (arith, e)
+other_disk d k true false apart e = omega (arith, e)
+other_disk d k true true apart e = apart (omega (arith, e))
+
+-- ---- a device whose disks stay
+
+module _ (parts : Parts) (x y : Disks) (past : StorePast) (d : ℕ) (stay : (c : Bool) (s : ℕ) → Stays x y (member_disk d c) s) where
+  same_sides : side_of past.told y parts.members d ≡ side_of past.told x parts.members d
+  same_sides = λ i. λ c. record {
+    up = (side_of past.told x parts.members d c).up;
+    boot = (side_of past.told x parts.members d c).boot;
+    row = (side_of past.told x parts.members d c).row;
+    lasts = (side_of past.told x parts.members d c).lasts;
+    wrote = (side_of past.told x parts.members d c).wrote;
+    copied = (side_of past.told x parts.members d c).copied;
+    place = (side_of past.told x parts.members d c).place;
+    reads = λ s. (stay c s).reads i;
+    unsure = λ s. (stay c s).unsure i;
+  }
+
+  by : (P : (Bool → Side) → Type 0) → P (side_of past.told x parts.members d) → P (side_of past.told y parts.members d)
+  by P is = subst P (sym same_sides) is
+
+  sound_still : (h : History) → IsDeviceSound parts x past h d → IsDeviceSound parts y past h d
+  sound_still h was = record {
+    rows = by (λ s. AreRows (store_room parts.made) (last_row past.told.chain d) (rows_before past.told.chain d) s (h.source d)) was.rows;
+    hands = by (λ s. AreHanded (store_room parts.made) (last_row past.told.chain d) (rows_before past.told.chain d) (handings d past.told.handed) s (h.source d)) was.hands;
+    copies = by (λ s. AreCopies (store_room parts.made) (last_row past.told.chain d) (rows_before past.told.chain d) s (h.copies d) (h.copieds d) (h.source d)) was.copies;
+    writes = by (λ s. AreWrites d past.told.greatest (last_row past.told.chain d) (rows_before past.told.chain d) s (h.writes d) (h.wrotes d) h.actual (outs_of parts.nodes) (knows_of parts.nodes d) (IsClaimed (last past.told.chain) past.told.greatest)) was.writes;
+    wrotes = by (λ s. AreWrotes (last_row past.told.chain d) (rows_before past.told.chain d) s (h.writes d) (h.wrotes d)) was.wrotes;
+    outs = by (λ s. AreOuts d (store_room parts.made) past.told.greatest (last_row past.told.chain d) (rows_before past.told.chain d) (handings d past.told.handed) s (h.writes d) (h.wrotes d) h.actual (outs_of parts.nodes) (knows_of parts.nodes d)
+        (IsClaimed (last past.told.chain) past.told.greatest)) was.outs;
+    coming = was.coming;
+    answering = was.answering;
+    copying = was.copying;
+    copied_to = was.copied_to;
+    labels = λ c leads. let l = was.labels c leads in let k = stay c 0 in (subst (λ (t : List ℕ). SpellsLabel (label_on parts.made (member_disk d c)) t) (sym k.reads) l.0, k.unsure ∙ l.1);
+    down = was.down;
+    known = was.known;
+  }
+
+  stands_still : (From : DeviceRow → Type 0) (sector : ℕ) (content : List ℕ) → StandsFor From parts x past d sector content → StandsFor From parts y past d sector content
+  stands_still From sector content stands =
+      by (λ s. Standing d past.told.greatest From (last_row past.told.chain d) (rows_before past.told.chain d) (handings d past.told.handed) s (IsComing past.told.letters d) past.writes sector content) stands
+
+  pub stands_on_still : (sector : ℕ) (content : List ℕ) (index : ℕ) → StandsOn parts x past d sector content index → StandsOn parts y past d sector content index
+  stands_on_still sector content index stands = let set = stands.settled in record {
+    settled = record { device = set.device; behind_label = set.behind_label; within = set.within; is = stands_still Nowhere sector content set.is };
+    stands = stands_still (KnownFrom past.told.chain d index) sector content stands.stands;
+  }
+
+-- ---- all devices
+
+-- what the disks hold matters to devices alone
+pub with_disks : (parts : Parts) (x y : Disks) (past : StorePast) (keeps : Keeps parts x past) → ((d : ℕ) → d < parts.made.devices → IsDeviceSound parts y past keeps.history d) → Keeps parts y past
+with_disks parts x y past keeps sound = record {
+  history = keeps.history;
+  devices = sound;
+  count = keeps.count;
+  rising = keeps.rising;
+  highest = keeps.highest;
+  placed = keeps.placed;
+  actual_sent = keeps.actual_sent;
+  out_actual = keeps.out_actual;
+  out_number = keeps.out_number;
+  sendable = keeps.sendable;
+  askable = keeps.askable;
+  epochs = keeps.epochs;
+  own_out = keeps.own_out;
+  lasts = keeps.lasts;
+  brings = keeps.brings;
+  noted = keeps.noted;
+  asking = keeps.asking;
+  node_known = keeps.node_known;
+  node_of = keeps.node_of;
+  boot_of = keeps.boot_of;
+  sessions = keeps.sessions;
+  booted = keeps.booted;
+  owned = keeps.owned;
+  single = keeps.single;
+  found_most = keeps.found_most;
+  in_order = keeps.in_order;
+  left = keeps.left;
+  numbered = keeps.numbered;
+  tagged = keeps.tagged;
+  read_tagged = keeps.read_tagged;
+  member_boots = keeps.member_boots;
+  node_boots = keeps.node_boots;
+}
+
+pub disks_stay : (parts : Parts) (x y : Disks) (past : StorePast) → Keeps parts x past → ((d : ℕ) → d < parts.made.devices → (c : Bool) (s : ℕ) → Stays x y (member_disk d c) s) → Keeps parts y past
+disks_stay parts x y past keeps stay = with_disks parts x y past keeps (λ d within. sound_still parts x y past d (stay d within) keeps.history (keeps.devices d within))
+
+pub all_survives : (parts : Parts) (x y : Disks) (past : StorePast) (device : ℕ) (second : Bool) → Keeps parts x past → past.told.down (Member (member_at device second)) ≡ true → Crashes (3 + member_at device second) x y → Keeps parts y past
+all_survives parts x y past device second keeps down crashes = with_disks parts x y past keeps (λ d within. elim (same_or d device) [
+  | inl e ↦ subst (λ (k : ℕ). IsDeviceSound parts y past keeps.history k) (sym e) (survives parts x y past keeps.history device second (subst (λ (k : ℕ). IsDeviceSound parts x past keeps.history k) e (keeps.devices d within)) down crashes)
+  | inr e ↦ sound_still parts x y past d (λ c s. crashes.others (member_disk d c) s (other_disk device d second c e)) keeps.history (keeps.devices d within)
+])
+
+pub all_replaced : (parts : Parts) (x y : Disks) (past : StorePast) (device : ℕ) (second : Bool) → Keeps parts x past → past.told.down (Member (member_at device second)) ≡ true → IsSideAlone (row_of (last past.told.chain) device) second
+    → ((k s : ℕ) → k ≢ 3 + member_at device second → Stays x y k s) → Keeps parts y past
+all_replaced parts x y past device second keeps down alone others = with_disks parts x y past keeps (λ d within. elim (same_or d device) [
+  | inl e ↦ subst (λ (k : ℕ). IsDeviceSound parts y past keeps.history k) (sym e) (replaced parts x y past keeps.history device second (subst (λ (k : ℕ). IsDeviceSound parts x past keeps.history k) e (keeps.devices d within)) down alone others)
+  | inr e ↦ sound_still parts x y past d (λ c s. others (member_disk d c) s (other_disk device d second c e)) keeps.history (keeps.devices d within)
+])

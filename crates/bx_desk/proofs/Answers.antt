@@ -46,8 +46,14 @@ find_none node client bytes (answer ∷ kept) none = by (is_to client bytes answ
         → (reply_of kept client bytes ≡ None → find (asks client bytes) (map (sent_at node) (reverse kept)) ≡ None) → find (asks client bytes) (map (sent_at node) (reverse (answer ∷ kept))) ≡ None
     by true test none later = absurd cc
     by false test none later =
-        rw (reverse-append (answer ∷ []) kept, map-append (sent_at node) (reverse kept) (answer ∷ []), find-append (asks client bytes) (map (sent_at node) (reverse kept)) (sent_at node answer ∷ []), later none,
-        turned_same answer.client client answer.call bytes, test) refl
+        rw (
+          reverse-append (answer ∷ []) kept,
+          map-append (sent_at node) (reverse kept) (answer ∷ []),
+          find-append (asks client bytes) (map (sent_at node) (reverse kept)) (sent_at node answer ∷ []),
+          later none,
+          turned_same answer.client client answer.call bytes,
+          test,
+        ) refl
 
 -- ---- the one answer
 
@@ -79,8 +85,13 @@ find_reply node client bytes (answer ∷ kept) reply apart found = by (is_to cli
         → (reply_of kept client bytes ≡ Some reply → FindsReply node client bytes kept reply) → FindsReply node client bytes (answer ∷ kept) reply
     by true test found later = record {
       answer = answer;
-      found = rw (turned, find-append (asks client bytes) (map (sent_at node) (reverse kept)) (sent_at node answer ∷ []), find_none node client bytes kept (none_behind client bytes answer kept test (IsDistinct-head (λ a b. is_to a.client a.call b) answer kept apart)),
-          turned_same answer.client client answer.call bytes, test) refl;
+      found = rw (
+        turned,
+        find-append (asks client bytes) (map (sent_at node) (reverse kept)) (sent_at node answer ∷ []),
+        find_none node client bytes kept (none_behind client bytes answer kept test (IsDistinct-head (λ a b. is_to a.client a.call b) answer kept apart)),
+        turned_same answer.client client answer.call bytes,
+        test,
+      ) refl;
       of = sym (eqb-true client answer.client (and_parts (client == answer.client) (bytes_eq bytes answer.call) test).0);
       same = some_is answer.reply reply found;
     }

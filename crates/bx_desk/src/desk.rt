@@ -57,9 +57,7 @@ impl Desk {
     pub fn is_waiting(&self, client: u32, datagram: &[u8]) -> bool
         ensures { result ≡ list_any (is_from client datagram.now) self.now.waits }
     {
-        self.calls
-            .iter()
-            .any(|asked| asked.client == client && asked.bytes.bytes() == datagram)
+        self.calls.iter().any(|asked| asked.client == client && asked.bytes.bytes() == datagram)
     }
 
     /// The reply that is kept for a datagram, where it repeats a call that was answered.

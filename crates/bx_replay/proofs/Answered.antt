@@ -128,7 +128,7 @@ module _ (reading limit : ℕ) (done : List Done) (start : List ℕ) (tree : Tre
         ≡ sent_at 0 (record { client = asked.client; call = asked.bytes; reply = reply }) ∷ answers_at (trace_since (parts_of (in_run done reading limit lines)) 0) 0
     sent_here asked is =
         let more = one_more Step rules patient (opening_of (schedule_of (in_run done reading limit lines))) (parts_of done) stands.history tree next (waits_at waits) (Some reading) lines 0 (reverse rest) call point reply
-            stands.accounts newest of moment (entered tree next call point reply step) 0 in
+        stands.accounts newest of moment (entered tree next call point reply step) 0 in
         rw (← is) at more
 
     desk_then : (asked : List Asked) (kept : List Answer) → IsDeskOf 0 (parts_of (in_run done reading limit lines)) (record { waits = asked; kept = kept }) → waits ≡ map (taking_at 0) asked → DeskThen (answer_oldest asked kept reply)
@@ -136,8 +136,7 @@ module _ (reading limit : ℕ) (done : List Done) (start : List ℕ) (tree : Tre
     desk_then (asked ∷ others) kept is same =
         let both : call ∷ rest ≡ taking_at 0 asked ∷ map (taking_at 0) others = sym oldest ∙ same in
         let behind : rest ≡ map (taking_at 0) others = tail_is call (taking_at 0 asked) rest (map (taking_at 0) others) both in
-        let waiting_now : waiting (parts_of (in_run done reading limit (Reply point.call reply ∷ Acted point ∷ lines))) 0 ≡ map (taking_at 0) (reverse others) = accounts_now.waiting_are 0 ∙ ap reverse behind ∙ reverse_map (taking_at 0) others in
-        (
+        let waiting_now : waiting (parts_of (in_run done reading limit (Reply point.call reply ∷ Acted point ∷ lines))) 0 ≡ map (taking_at 0) (reverse others) = accounts_now.waiting_are 0 ∙ ap reverse behind ∙ reverse_map (taking_at 0) others in (
           desk_answered 0 (parts_of (in_run done reading limit lines)) (parts_of (in_run done reading limit (Reply point.call reply ∷ Acted point ∷ lines))) asked others kept reply is waiting_now
               (sent_here asked (sym (head_is call (taking_at 0 asked) rest (map (taking_at 0) others) both))),
           behind,

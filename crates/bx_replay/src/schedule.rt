@@ -67,6 +67,10 @@ fn is_built(line: &Line) -> bool
             areas,
             ..
         } => *nodes == 1 && *devices == 1 && *areas == 1,
-        Line::Call { .. } | Line::Run { .. } | Line::Crash { .. } | Line::Restart { .. } | Line::Tick { .. } => true,
+        Line::Call { .. }
+        | Line::Run { .. }
+        | Line::Crash { .. }
+        | Line::Restart { .. }
+        | Line::Tick { .. } => true,
     }
 }

@@ -186,7 +186,15 @@ impl<M: Service> Replay<M> {
         }
         if let Some(reply) = self.desk.kept(client, datagram.bytes()) {
             let reply = Raw::of(alloc, reply.bytes())?;
-            return print_lines(&mut self.text, &[TraceLine::Again { node, client, reply }], out);
+            return print_lines(
+                &mut self.text,
+                &[TraceLine::Again {
+                    node,
+                    client,
+                    reply,
+                }],
+                out,
+            );
         }
         if self.desk.is_full() {
             return Ok(());

@@ -1,6 +1,6 @@
 //! Members that stop, and disks that change while their machines are down.
 
-ghost use Rattle.std.specs.Prelude.{◌≡◌, ◌≢◌, ℕ, ◌+◌, ◌<◌, Bool, true};
+ghost use Rattle.std.specs.Prelude.{◌≡◌, ◌≢◌, ℕ, ◌+◌, ◌<◌, Bool, true, List};
 ghost use Rattle.bx_base.specs.declared.names.Actor.TheVariants.{Member};
 ghost use Rattle.bx_disk.specs.Disks.{Disks, Stays};
 ghost use Rattle.bx_facts.specs.Chains.{last};
@@ -8,7 +8,7 @@ ghost use Rattle.bx_facts.specs.Disks.{Crashes};
 ghost use Rattle.bx_facts.specs.Writes.{StorePast, member_disk, store_crashed};
 ghost use Rattle.bx_mirror_member.specs.Standing.{Standing};
 ghost use Rattle.bx_mirror_client.specs.Sends.{member_at};
-ghost use Rattle.bx_mirror_cluster.specs.Fitting.{IsSideAlone, Keeps, Parts, row_of};
+ghost use Rattle.bx_mirror_cluster.specs.Fitting.{IsSideAlone, Keeps, Parts, StandsOn, row_of};
 ghost use Rattle.bx_mirror_cluster.specs.Stopping.{Stops};
 
 /// Members and streams go on fitting the past where the disk of a member that is down crashes, or is replaced while its device needs the other member
@@ -17,6 +17,10 @@ pub fn a_disk_changes()
     ensures survives { (parts : Parts) (x y : Disks) (past : StorePast) (device : ℕ) (second : Bool) → Keeps parts x past → past.told.down (Member (member_at device second)) ≡ true → Crashes (3 + member_at device second) x y → Keeps parts y past }
     ensures replaced { (parts : Parts) (x y : Disks) (past : StorePast) (device : ℕ) (second : Bool) → Keeps parts x past → past.told.down (Member (member_at device second)) ≡ true → IsSideAlone (row_of (last past.told.chain) device) second
         → ((k sector : ℕ) → k ≢ 3 + member_at device second → Stays x y k sector) → Keeps parts y past }
+    ensures survives_standing { (parts : Parts) (x y : Disks) (past : StorePast) (device other : ℕ) (second : Bool) (sector : ℕ) (content : List ℕ) (index : ℕ) → Keeps parts x past → past.told.down (Member (member_at device second)) ≡ true → Crashes (3 + member_at device second) x y
+        → StandsOn parts x past other sector content index → StandsOn parts y past other sector content index }
+    ensures replaced_standing { (parts : Parts) (x y : Disks) (past : StorePast) (device other : ℕ) (second : Bool) (sector : ℕ) (content : List ℕ) (index : ℕ) → Keeps parts x past → past.told.down (Member (member_at device second)) ≡ true → IsSideAlone (row_of (last past.told.chain) device) second
+        → ((k s : ℕ) → k ≢ 3 + member_at device second → Stays x y k s) → StandsOn parts x past other sector content index → StandsOn parts y past other sector content index }
     ensures stays { (parts : Parts) (x y : Disks) (past : StorePast) → Keeps parts x past → ((device : ℕ) → device < parts.made.devices → (second : Bool) (sector : ℕ) → Stays x y (member_disk device second) sector) → Keeps parts y past }
 {}
 

@@ -1,5 +1,5 @@
 -- A member stops: what it knew and owed is gone, its disk stays, and all goes on fitting.
-use Rattle.std.proofs.Common.{◌≡◌, ◌≢◌, ◌⊎◌, inl, inr, ℕ, Bool, true, false, List, [], Some, None, refl, sym, ◌∙◌, ap, subst, arith}
+use Rattle.std.proofs.Common.{◌≡◌, ◌≢◌, ◌⊎◌, inl, inr, ℕ, ◌<◌, ◌≤◌, Bool, true, false, List, [], Some, None, refl, sym, ◌∙◌, ap, subst, arith}
 use Rattle.std.specs.Prelude.{not, slice_get}
 use Rattle.bx_base.specs.declared.names.Actor.TheVariants.{Member}
 use Rattle.bx_disk.specs.Disks.{Disks}
@@ -10,16 +10,16 @@ use Rattle.bx_facts.specs.Writes.{StorePast, store_crashed, store_room}
 use Rattle.bx_rows.specs.declared.device.DeviceRow.{DeviceRow}
 use Rattle.bx_global.specs.declared.state.GlobalState.{GlobalState}
 use Rattle.bx_mirror_laws.specs.Sides.{Among, Side, WriteLetter}
-use Rattle.bx_mirror_laws.specs.Sound.{AreCopies, AreHanded, AreOuts, AreRows, AreWrites, AreWrotes}
+use Rattle.bx_mirror_laws.specs.Sound.{AreCopies, AreHanded, AreOuts, AreRows, AreWrites, AreWrotes, Standing}
 use Rattle.bx_mirror_laws.specs.Steps.{Ages, Silent}
 use Rattle.bx_mirror_laws.proofs.Ages.{hands_age, rows_age}
-use Rattle.bx_mirror_laws.proofs.Stopping.{silent_ages, silent_copies, silent_outs, silent_writes, silent_wrotes}
+use Rattle.bx_mirror_laws.proofs.Stopping.{silent_ages, silent_copies, silent_outs, silent_stands, silent_writes, silent_wrotes}
 use Rattle.bx_mirror_tables.specs.declared.answers.Owing.{Owing}
 use Rattle.bx_mirror_tables.specs.Lasts.{last_in}
 use Rattle.bx_mirror_tables.specs.declared.lasts.Last.{Last}
 use Rattle.bx_mirror_member.specs.Standing.{Standing as Serving}
 use Rattle.bx_mirror_client.specs.Sends.{member_at}
-use Rattle.bx_mirror_cluster.specs.Fitting.{History, IsClaimed, IsDeviceSound, Keeps, Parts, handings, knows_of, last_row, outs_of, rows_before, side_of}
+use Rattle.bx_mirror_cluster.specs.Fitting.{History, IsClaimed, IsComing, IsDeviceSound, Keeps, KnownFrom, Nowhere, Parts, StandsFor, StandsOn, handings, knows_of, last_row, outs_of, rows_before, side_of}
 use Rattle.bx_mirror_cluster.specs.Stopping.{Stops}
 use Rattle.bx_mirror_server.specs.Sides.{copied_in, wrote_in}
 
@@ -108,6 +108,11 @@ module _ (parts : Parts) (x : Disks) (past : StorePast) (n : ℕ) (members : ℕ
             known = knew;
           }
 
+      own_stands : (From : DeviceRow → Type 0) (sector : ℕ) (content : List ℕ) → 1 ≤ sector → sector < store_room parts.made → StandsFor From parts x past d sector content → StandsFor From (record parts { members = members }) x (store_crashed past (Member n)) d sector content
+      own_stands From sector content low high stands =
+          silent_stands d (store_room parts.made) past.told.greatest past.told.greatest (last_row past.told.chain d) (rows_before past.told.chain d) (handings d past.told.handed) sides next (h.source d) was.rows b silent (same_side (not b) other) (omega arith)
+          (λ r s is acts low_s high_s. refl) (λ s copying none ev low_s. (refl, λ sure. sure)) (λ From_s s low_s high_s counts ev. (refl, λ sure. sure)) From (IsComing past.told.letters d) past.writes sector content low high stands
+
     -- another one
     other_sound : ((c : Bool) → member_at d c ≢ n) → IsDeviceSound (record parts { members = members }) x (store_crashed past (Member n)) h d
     other_sound apart =
@@ -127,6 +132,24 @@ module _ (parts : Parts) (x : Disks) (past : StorePast) (n : ℕ) (members : ℕ
           down = down_knows;
           known = knew;
         }
+
+    other_stands : ((c : Bool) → member_at d c ≢ n) → (From : DeviceRow → Type 0) (sector : ℕ) (content : List ℕ) → StandsFor From parts x past d sector content → StandsFor From (record parts { members = members }) x (store_crashed past (Member n)) d sector content
+    other_stands apart From sector content stands =
+        let same : next ≡ sides = (λ i. λ c. (same_side c (apart c)) i) in
+        subst (λ s. Standing d past.told.greatest From (last_row past.told.chain d) (rows_before past.told.chain d) (handings d past.told.handed) s (IsComing past.told.letters d) past.writes sector content) (sym same) stands
+
+    stands_for : (From : DeviceRow → Type 0) (sector : ℕ) (content : List ℕ) → 1 ≤ sector → sector < store_room parts.made → StandsFor From parts x past d sector content → StandsFor From (record parts { members = members }) x (store_crashed past (Member n)) d sector content
+    stands_for From sector content low high stands = elim (same_or (member_at d false) n) [
+      | inl e ↦ own_stands false e (λ f. omega (arith, e, f)) From sector content low high stands
+      | inr a ↦ elim (same_or (member_at d true) n) [
+        | inl e ↦ own_stands true e a From sector content low high stands
+        | inr b ↦ other_stands (each a b) From sector content stands
+      ]
+    ]
+      where
+        each : member_at d false ≢ n → member_at d true ≢ n → (c : Bool) → member_at d c ≢ n
+        each a b false = a
+        each a b true = b
 
     sound : IsDeviceSound (record parts { members = members }) x (store_crashed past (Member n)) h d
     sound = elim (same_or (member_at d false) n) [
@@ -181,4 +204,10 @@ module _ (parts : Parts) (x : Disks) (past : StorePast) (n : ℕ) (members : ℕ
       | inr e ↦ ap (λ (m : Serving). m.boot) (stops.others k e) ∙ keeps.member_boots k there (sym (down_other k e) ∙ up)
     ];
     node_boots = keeps.node_boots;
+  }
+
+  pub stands_stopped : (d sector : ℕ) (content : List ℕ) (index : ℕ) → Keeps parts x past → StandsOn parts x past d sector content index → StandsOn (record parts { members = members }) x (store_crashed past (Member n)) d sector content index
+  stands_stopped d sector content index keeps stands = let set = stands.settled in let was = keeps.devices d set.device in record {
+    settled = record { device = set.device; behind_label = set.behind_label; within = set.within; is = stands_for keeps.history d was Nowhere sector content set.behind_label set.within set.is };
+    stands = stands_for keeps.history d was (KnownFrom past.told.chain d index) sector content set.behind_label set.within stands.stands;
   }

@@ -26,5 +26,7 @@ pub fn a_disk_changes()
 
 /// Members and streams go on fitting the past where a member stops: what it knew and owed is gone, and its disk stays.
 pub fn a_member_stops()
-    ensures { (parts : Parts) (x : Disks) (past : StorePast) (member : ℕ) (members : ℕ → Standing) → Keeps parts x past → Stops parts members member → Keeps (record parts { members = members }) x (store_crashed past (Member member)) }
+    ensures keeps { (parts : Parts) (x : Disks) (past : StorePast) (member : ℕ) (members : ℕ → Standing) → Keeps parts x past → Stops parts members member → Keeps (record parts { members = members }) x (store_crashed past (Member member)) }
+    ensures stands { (parts : Parts) (x : Disks) (past : StorePast) (member device sector : ℕ) (members : ℕ → Standing) (content : List ℕ) (index : ℕ) → Keeps parts x past → Stops parts members member
+        → StandsOn parts x past device sector content index → StandsOn (record parts { members = members }) x (store_crashed past (Member member)) device sector content index }
 {}

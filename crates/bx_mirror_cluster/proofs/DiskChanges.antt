@@ -11,8 +11,8 @@ use Rattle.bx_mirror_laws.specs.Sides.{Side}
 use Rattle.bx_mirror_laws.specs.Sound.{AreCopies, AreHanded, AreOuts, AreRows, AreWrites, AreWrotes, Standing}
 use Rattle.bx_mirror_client.specs.Sends.{member_at}
 use Rattle.bx_mirror_cluster.specs.Fitting.{History, IsClaimed, IsComing, IsDeviceSound, IsSideAlone, Keeps, KnownFrom, Nowhere, Parts, StandsFor, StandsOn, handings, knows_of, last_row, outs_of, row_of, rows_before, side_of}
-use Rattle.bx_mirror_cluster.proofs.Crashing.{survives}
-use Rattle.bx_mirror_cluster.proofs.Replacing.{replaced}
+use Rattle.bx_mirror_cluster.proofs.Crashing.{survives, survives_on}
+use Rattle.bx_mirror_cluster.proofs.Replacing.{replaced, replaced_on}
 
 same_or : (n m : ℕ) → (n ≡ m) ⊎ (n ≢ m)
 same_or n m = grind arith
@@ -125,3 +125,20 @@ all_replaced parts x y past device second keeps down alone others = with_disks p
   | inl e ↦ subst (λ (k : ℕ). IsDeviceSound parts y past keeps.history k) (sym e) (replaced parts x y past keeps.history device second (subst (λ (k : ℕ). IsDeviceSound parts x past keeps.history k) e (keeps.devices d within)) down alone others)
   | inr e ↦ sound_still parts x y past d (λ c s. others (member_disk d c) s (other_disk device d second c e)) keeps.history (keeps.devices d within)
 ])
+
+-- and what stands goes on
+pub survives_stands : (parts : Parts) (x y : Disks) (past : StorePast) (device d : ℕ) (second : Bool) (sector : ℕ) (content : List ℕ) (index : ℕ) → Keeps parts x past → past.told.down (Member (member_at device second)) ≡ true → Crashes (3 + member_at device second) x y
+    → StandsOn parts x past d sector content index → StandsOn parts y past d sector content index
+survives_stands parts x y past device d second sector content index keeps down crashes stands = elim (same_or d device) [
+  | inl e ↦ subst (λ (k : ℕ). StandsOn parts x past k sector content index → StandsOn parts y past k sector content index) (sym e)
+      (λ s. survives_on parts x y past keeps.history device second (keeps.devices device s.settled.device) down crashes sector content index s) stands
+  | inr e ↦ stands_on_still parts x y past d (λ c s. crashes.others (member_disk d c) s (other_disk device d second c e)) sector content index stands
+]
+
+pub replaced_stands : (parts : Parts) (x y : Disks) (past : StorePast) (device d : ℕ) (second : Bool) (sector : ℕ) (content : List ℕ) (index : ℕ) → Keeps parts x past → past.told.down (Member (member_at device second)) ≡ true
+    → IsSideAlone (row_of (last past.told.chain) device) second → ((k s : ℕ) → k ≢ 3 + member_at device second → Stays x y k s) → StandsOn parts x past d sector content index → StandsOn parts y past d sector content index
+replaced_stands parts x y past device d second sector content index keeps down alone others stands = elim (same_or d device) [
+  | inl e ↦ subst (λ (k : ℕ). StandsOn parts x past k sector content index → StandsOn parts y past k sector content index) (sym e)
+      (λ s. replaced_on parts x y past keeps.history device second (keeps.devices device s.settled.device) down alone others sector content index s) stands
+  | inr e ↦ stands_on_still parts x y past d (λ c s. others (member_disk d c) s (other_disk device d second c e)) sector content index stands
+]

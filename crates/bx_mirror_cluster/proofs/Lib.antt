@@ -19,6 +19,7 @@ pub mod ToldAgain
 pub mod WriteDone
 pub mod WriteSent
 pub mod GoingOn
+pub mod MemberStops
 pub mod NodeEvents
 pub mod NodeSteps
 pub mod NodeTakes

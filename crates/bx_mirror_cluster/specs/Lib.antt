@@ -3,4 +3,5 @@ pub mod GoingOn
 pub mod Learning
 pub mod NodeSteps
 pub mod Speaking
+pub mod Stopping
 pub mod Writing

@@ -1,13 +1,15 @@
-//! Disks that change while their machines are down.
+//! Members that stop, and disks that change while their machines are down.
 
-ghost use Rattle.std.specs.Prelude.{◌≡◌, ◌≢◌, ℕ, ◌+◌, ◌<◌, Bool, true};
+ghost use Rattle.std.specs.Prelude.{◌≡◌, ◌≢◌, ℕ, ◌+◌, ◌<◌, Bool, true, List};
 ghost use Rattle.bx_base.specs.declared.names.Actor.TheVariants.{Member};
 ghost use Rattle.bx_disk.specs.Disks.{Disks, Stays};
 ghost use Rattle.bx_facts.specs.Chains.{last};
 ghost use Rattle.bx_facts.specs.Disks.{Crashes};
-ghost use Rattle.bx_facts.specs.Writes.{StorePast, member_disk};
+ghost use Rattle.bx_facts.specs.Writes.{StorePast, member_disk, store_crashed};
+ghost use Rattle.bx_mirror_member.specs.Standing.{Standing};
 ghost use Rattle.bx_mirror_client.specs.Sends.{member_at};
-ghost use Rattle.bx_mirror_cluster.specs.Fitting.{IsSideAlone, Keeps, Parts, row_of};
+ghost use Rattle.bx_mirror_cluster.specs.Fitting.{IsSideAlone, Keeps, Parts, StandsOn, row_of};
+ghost use Rattle.bx_mirror_cluster.specs.Stopping.{Stops};
 
 /// Members and streams go on fitting the past where the disk of a member that is down crashes, or is replaced while its device needs the other member
 /// alone; and where no member's disk changes.
@@ -15,5 +17,16 @@ pub fn a_disk_changes()
     ensures survives { (parts : Parts) (x y : Disks) (past : StorePast) (device : ℕ) (second : Bool) → Keeps parts x past → past.told.down (Member (member_at device second)) ≡ true → Crashes (3 + member_at device second) x y → Keeps parts y past }
     ensures replaced { (parts : Parts) (x y : Disks) (past : StorePast) (device : ℕ) (second : Bool) → Keeps parts x past → past.told.down (Member (member_at device second)) ≡ true → IsSideAlone (row_of (last past.told.chain) device) second
         → ((k sector : ℕ) → k ≢ 3 + member_at device second → Stays x y k sector) → Keeps parts y past }
+    ensures survives_standing { (parts : Parts) (x y : Disks) (past : StorePast) (device other : ℕ) (second : Bool) (sector : ℕ) (content : List ℕ) (index : ℕ) → Keeps parts x past → past.told.down (Member (member_at device second)) ≡ true → Crashes (3 + member_at device second) x y
+        → StandsOn parts x past other sector content index → StandsOn parts y past other sector content index }
+    ensures replaced_standing { (parts : Parts) (x y : Disks) (past : StorePast) (device other : ℕ) (second : Bool) (sector : ℕ) (content : List ℕ) (index : ℕ) → Keeps parts x past → past.told.down (Member (member_at device second)) ≡ true → IsSideAlone (row_of (last past.told.chain) device) second
+        → ((k s : ℕ) → k ≢ 3 + member_at device second → Stays x y k s) → StandsOn parts x past other sector content index → StandsOn parts y past other sector content index }
     ensures stays { (parts : Parts) (x y : Disks) (past : StorePast) → Keeps parts x past → ((device : ℕ) → device < parts.made.devices → (second : Bool) (sector : ℕ) → Stays x y (member_disk device second) sector) → Keeps parts y past }
+{}
+
+/// Members and streams go on fitting the past where a member stops: what it knew and owed is gone, and its disk stays.
+pub fn a_member_stops()
+    ensures keeps { (parts : Parts) (x : Disks) (past : StorePast) (member : ℕ) (members : ℕ → Standing) → Keeps parts x past → Stops parts members member → Keeps (record parts { members = members }) x (store_crashed past (Member member)) }
+    ensures stands { (parts : Parts) (x : Disks) (past : StorePast) (member device sector : ℕ) (members : ℕ → Standing) (content : List ℕ) (index : ℕ) → Keeps parts x past → Stops parts members member
+        → StandsOn parts x past device sector content index → StandsOn (record parts { members = members }) x (store_crashed past (Member member)) device sector content index }
 {}

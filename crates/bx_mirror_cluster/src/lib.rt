@@ -5,7 +5,7 @@ mod disks;
 mod laws;
 mod nodes;
 
-pub use disks::a_disk_changes;
+pub use disks::{a_disk_changes, a_member_stops};
 pub use laws::{
     a_node_stops, a_read_is_sent, a_write_is_sent, begins, grows, letters_are_lost, nothing_is_out,
     what_came_is_noted, what_is_done_stands, what_is_settled_stands, what_stands_is_settled,

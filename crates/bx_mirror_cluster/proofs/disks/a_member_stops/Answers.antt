@@ -1,0 +1,8 @@
+use Rattle.bx_mirror_cluster.proofs.MemberStops.{member_stops, stands_stopped}
+use Rattle.bx_mirror_cluster.proofs.disks.a_member_stops.Goals as goal
+
+pub returns : goal.returns
+returns c = record {
+  keeps = λ parts x past member members keeps stops. member_stops parts x past member members stops keeps;
+  stands = λ parts x past member device sector members content index keeps stops stands. stands_stopped parts x past member members stops device sector content index keeps stands;
+}

@@ -1,6 +1,5 @@
 //! A lock server and the clerks of two nodes, which want one block, and the letters that are under way.
 
-use crate::states::first_state;
 use bx_base::{Actor, Mode};
 use bx_clerk::Clerk;
 use bx_facts::{Input, Outbox};
@@ -98,29 +97,23 @@ fn after(alloc: Global, state: &GlobalState, change: &Change) -> Option<GlobalSt
     }
 }
 
-/// The state with which it begins: server 0 is master up to 8000, and the nodes have the sessions 1 and 2 up to 4000. Its index is 4.
+/// The state with which it begins, as another model writes it: server 0 is master up to 8000, and the nodes have the sessions 1 and 2 up to
+/// 4000. Its index is 4.
+const OPENING: [u8; 168] = [
+    0, 0, 0, 0, 0, 0, 0, 4, 0, 0, 0, 0, 0, 0, 0, 0, 0, 0, 0, 0, 0, 0, 0, 0, 0, 0, 0, 1, 0, 0, 0, 0,
+    0, 0, 31, 64, 0, 0, 0, 0, 0, 0, 0, 3, 0, 0, 0, 2, 0, 0, 0, 0, 0, 0, 0, 1, 0, 0, 0, 0, 0, 0, 0,
+    0, 0, 0, 0, 0, 0, 0, 0, 0, 0, 0, 0, 0, 0, 0, 15, 160, 0, 0, 0, 0, 0, 0, 0, 0, 0, 0, 0, 0, 0, 0,
+    0, 0, 0, 0, 0, 2, 0, 0, 0, 1, 0, 0, 0, 0, 0, 0, 0, 0, 0, 0, 0, 1, 0, 0, 0, 0, 0, 0, 15, 160, 0,
+    0, 0, 0, 0, 0, 0, 0, 0, 0, 0, 0, 0, 0, 0, 1, 0, 0, 0, 0, 0, 0, 0, 0, 0, 0, 0, 1, 0, 0, 0, 0, 0,
+    0, 0, 0, 0, 0, 0, 0, 0, 0, 0, 0,
+];
+
+/// That state, if memory doesn't run out.
 fn opening(alloc: Global) -> Option<GlobalState> {
-    let mut state = first_state(alloc)?;
-    for change in [
-        Change::Renew {
-            by: 0,
-            boot: 0,
-            reading: 0,
-        },
-        Change::Open {
-            node: 0,
-            boot: 0,
-            reading: 0,
-        },
-        Change::Open {
-            node: 1,
-            boot: 0,
-            reading: 0,
-        },
-    ] {
-        state = after(alloc, &state, &change)?;
+    match GlobalState::read(alloc, &OPENING) {
+        Ok(found) => found,
+        Err(_) => None,
     }
-    Some(state)
 }
 
 /// Whether two changes are one, of those that lock servers propose.

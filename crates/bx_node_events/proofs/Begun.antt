@@ -120,6 +120,7 @@ module _ {G O S T : Type 0} (g : register.Ghosts G) (o : owners.Ghosts O) (st : 
       → st.will_read old x c.store reader s content → st.will_read new x (with_write begun_course then_letters write).store reader s content)
       (register_keeps : g.keeps register_is x (with_write begun_course then_letters write).register) (owners_keep : o.keeps owners_are (with_write begun_course then_letters write).owners)
       (end : (end : ℕ) × Contains c.owners.leases (session, end) × (write.until ≤ end)) (opened : session < (last c.register.chain).next_session)
+      (none_sent : (other : Sent) → Contains c.store.writes other → other.session ≢ session)
       (fair : IsHeldDraft (shown (slice_get machines node) (o.own owners_are node)) more.changed)
       (alone : (one other block : ℕ) (hold : Hold) → LivesIn (last c.register.chain) one → HasRow (last c.register.chain) other → c.owners.holding one block ≡ Some hold → oldest c.register.chain ≤ other) where
     own_st : st.own old node ≡ Some session
@@ -168,9 +169,6 @@ module _ {G O S T : Type 0} (g : register.Ghosts G) (o : owners.Ghosts O) (st : 
             → (other ≡ c.before (block_place block (st.made old).devices).0 ((block_place block (st.made old).devices).1 + i)) ⊎ IsOver c.store.told.greatest one
         by_one block i each one other to (inl front) = absurd (no_home block i other (subst (λ (w : Sent). WritesTo w (block_place block (st.made old).devices).0 ((block_place block (st.made old).devices).1 + i) other) (sym front) to))
         by_one block i each one other to (inr has) = each one other has to
-
-    none_sent : (other : Sent) → Contains c.store.writes other → other.session ≢ session
-    none_sent other has = stands.at.quiet node session other up own_st at_rest.3 has
 
     abbrev Touches : ℕ → ℕ → ℕ → Type 0
     Touches one d s = MayTouch (st.made old).devices (st.made old).areas (last c.register.chain) c.owners.holding c.logs c.slots one d s
@@ -249,7 +247,7 @@ module _ {G O S T : Type 0} (g : register.Ghosts G) (o : owners.Ghosts O) (st : 
 
     abbrev SureBy : Made → ℕ → ℕ → List ℕ → Type 0
     SureBy made = Surely (st.stands new x (with_write begun_course then_letters write).store)
-        (IsWithin made.devices made.areas c.register.chain c.owners.holding c.owners.floor (own_up clocks.down (o.own owners_are)) (λ n. c.store.told.knew (Node n)))
+        (IsWithin made.devices made.areas c.register.chain c.owners.holding c.owners.floor (IsOfNode o.by_boot clocks) (λ n. c.store.told.knew (Node n)))
         (write ∷ c.store.writes) c.store.told.greatest
 
     sure_on : (d s : ℕ) (content : List ℕ) → ((other : List ℕ) → WritesTo write d s other → ⊥) → SureOf g o st Stands Step register_is owners_are old x known c d s content → SureBy (st.made old) d s content
@@ -296,7 +294,7 @@ module _ {G O S T : Type 0} (g : register.Ghosts G) (o : owners.Ghosts O) (st : 
         (λ block is unlogged i few asked was. reads_on other block is unlogged i few asked was))
         (λ other its_session its_machine its_row has other_lives about. owning.may_work (st.made old).devices (st.made old).areas Sure_before c.before (last c.register.chain) allowed c.owners.holding c.logs c.slots c.truth stands.at.logs its_session its_row has other_lives
         (st.will_read old x c.store other) Before other its_machine refl refl about)
-        (λ other its_own. stands.single node other session own (own_of clocks.down (o.own owners_are) other session its_own).1)
+        (λ other its_own. stands.single node other session (own_is clocks.down (o.own owners_are) node session up own) its_own)
         (λ one its_row has row_has its_lives. subst (λ (m : MachineView). IsAbout (st.made old).devices (st.made old).areas (SureBy (st.made old)) (st.will_read new x (with_write begun_course then_letters write).store node) Then node session its_row.slot m)
         (sym machine_is ∙ one_machine machine one (sym then_there ∙ has))
         (subst (λ (r : SessionRow). IsAbout (st.made old).devices (st.made old).areas (SureBy (st.made old)) (st.will_read new x (with_write begun_course then_letters write).store node) Then node session r.slot after) (one_row row its_row (sym is_row ∙ row_has)) after_about))
@@ -331,4 +329,5 @@ module _ {G O S T : Type 0} (g : register.Ghosts G) (o : owners.Ghosts O) (st : 
           (λ i. record { letters = then_letters; clocks = clocks; held = λ n. (shows_same n (eqb n node) refl).0 i; hints = λ n. (shows_same n (eqb n node) refl).1 i }) body_sent;
       about = subst (λ (m : Made). AreAbout m.devices m.areas (SureBy m) (st.will_read new x (with_write begun_course then_letters write).store) (IsOfNode o.by_boot clocks) Then) (sym handed.made) about_then;
       single = stands.single;
+      told = stands.told;
     }

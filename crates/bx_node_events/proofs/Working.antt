@@ -23,6 +23,7 @@ use Rattle.bx_views.specs.Truths.{Hints, Truth}
 use Rattle.bx_world_chains.proofs.Rows.{lives_of, one_slot, taken_of}
 use Rattle.bx_world_logs.specs.Logs.{OfLog}
 use Rattle.bx_world_standing.specs.Rights.{IsOfSlot, IsWithin, Surely}
+use Rattle.bx_world_standing.specs.Sessions.{IsOfNode}
 use Rattle.bx_world_standing.specs.Standing.{Course, Known, StandsAt, SureOf, own_up}
 
 -- What a store says of a write that it was handed: what is out then, and what stands on.
@@ -56,7 +57,7 @@ module _ {G O S T : Type 0} (g : register.Ghosts G) (o : owners.Ghosts O) (st : 
   -- What the write doesn't have stands on.
   pub stands_on : (d s : ℕ) (content : List ℕ) → ((other : List ℕ) → WritesTo write d s other → ⊥) → SureOf g o st Stands Step register_is owners_are old x known c d s content
       → Surely (st.stands new x (with_write c letters write).store)
-      (IsWithin (st.made old).devices (st.made old).areas c.register.chain c.owners.holding c.owners.floor (own_up known.clocks.down (o.own owners_are)) (λ n. c.store.told.knew (Node n)))
+      (IsWithin (st.made old).devices (st.made old).areas c.register.chain c.owners.holding c.owners.floor (IsOfNode o.by_boot known.clocks) (λ n. c.store.told.knew (Node n)))
       (write ∷ c.store.writes) c.store.told.greatest d s content
   stands_on d s content none sure = surely_on g o st Stands Step register_is owners_are old new x known c tree letters node session write at handed.stands d s content none sure
 
@@ -64,7 +65,7 @@ module _ {G O S T : Type 0} (g : register.Ghosts G) (o : owners.Ghosts O) (st : 
       → ((end : ℕ) × Contains c.owners.leases (session, end) × (write.until ≤ end)) → session < (last c.register.chain).next_session
       → StandsAt g o st Stands Step register_is owners_are new x (record known { letters = letters }) (with_write c letters write) tree
   work_sent register_keeps owners_keep end opened = sent_at g o st Stands Step register_is owners_are old new x known c tree letters node session write at
-      up own (lives_of (last c.register.chain) session row is_row lives) whose register_keeps owners_keep handed.keeps handed.made handed.own handed.others handed.is_out end opened
+      up own (lives_of (last c.register.chain) session row is_row lives) whose register_keeps owners_keep handed.keeps handed.made handed.own end opened
       (λ d sector content w. owning.log_touches (st.made old).devices (st.made old).areas (SureOf g o st Stands Step register_is owners_are old x known c) c.before (last c.register.chain) allowed c.owners.holding c.logs c.slots c.truth
       at.logs session row is_row lives log same device many doing d sector content (as_runs d sector content w))
       (λ gone d s its content there is_its w inside.
@@ -73,7 +74,7 @@ module _ {G O S T : Type 0} (g : register.Ghosts G) (o : owners.Ghosts O) (st : 
       (at.closings gone session there).dead (subst (λ (n : ℕ). LivesIn (last c.register.chain) n) (sym f) (lives_of (last c.register.chain) session row is_row lives)))
       (sends (SureOf g o st Stands Step register_is owners_are old x known c)
       (Surely (st.stands new x (with_write c letters write).store)
-      (IsWithin (st.made old).devices (st.made old).areas c.register.chain c.owners.holding c.owners.floor (own_up known.clocks.down (o.own owners_are)) (λ n. c.store.told.knew (Node n)))
+      (IsWithin (st.made old).devices (st.made old).areas c.register.chain c.owners.holding c.owners.floor (IsOfNode o.by_boot known.clocks) (λ n. c.store.told.knew (Node n)))
       (write ∷ c.store.writes) c.store.told.greatest)
       (st.made old).devices (st.made old).areas (last c.register.chain).sessions c.before c.logs c.slots c.truth row.slot low (taken_of (last c.register.chain) session row is_row) at.logs
       (λ d s content apart sure. stands_on d s content

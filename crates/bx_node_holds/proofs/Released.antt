@@ -20,6 +20,7 @@ use Rattle.bx_world_logs.proofs.Growing.{rows_go}
 use Rattle.bx_world_views.specs.Views.{AreApart, VolumeStands}
 use Rattle.bx_world_standing.specs.Rights.{HasBlock, IsReached, IsWithin, MayTouch}
 use Rattle.bx_world_standing.specs.Rights.MayTouch.{OfHeld, OfLogged, OfSlot}
+use Rattle.bx_world_standing.specs.Sessions.{IsOfNode}
 use Rattle.bx_world_standing.specs.Standing.{Course, Known, StandsAt, SureOf, own_up}
 use Rattle.bx_world_standing.proofs.Owns.{own_is, own_of}
 use Rattle.bx_node_views.specs.Changes.{Hides}
@@ -52,8 +53,8 @@ module _ {G O S T : Type 0} (g : register.Ghosts G) (o : owners.Ghosts O) (st : 
       → ((other : ℕ) → o.own owners_then other ≡ o.own owners_are other)
       → KeepsOthers session block c.owners.holding holding
       → AreApart holding (HasRow (last c.register.chain))
-      → ((place index : ℕ) → IsReached (st.made store_is).devices (st.made store_is).areas c.register.chain c.owners.holding c.owners.floor (own_up known.clocks.down (o.own owners_are)) (λ n. c.store.told.knew (Node n)) place index
-      → IsReached (st.made store_is).devices (st.made store_is).areas c.register.chain holding floor (own_up known.clocks.down (o.own owners_are)) (λ n. c.store.told.knew (Node n)) place index)
+      → ((place index : ℕ) → IsReached (st.made store_is).devices (st.made store_is).areas c.register.chain c.owners.holding c.owners.floor (IsOfNode o.by_boot known.clocks) (λ n. c.store.told.knew (Node n)) place index
+      → IsReached (st.made store_is).devices (st.made store_is).areas c.register.chain holding floor (IsOfNode o.by_boot known.clocks) (λ n. c.store.told.knew (Node n)) place index)
       → (IsInLog c.logs c.slots row.slot block → ⊥)
       → ((write : Sent) → Contains c.store.writes write → write.session ≢ session)
       → c.doubts session ≡ None
@@ -98,7 +99,6 @@ module _ {G O S T : Type 0} (g : register.Ghosts G) (o : owners.Ghosts O) (st : 
         (last c.register.chain).sessions (last c.register.chain).sessions c.logs c.slots c.truth (λ slot less. inl refl) at.logs;
     rights = record { each = λ other its place is_its inside. let was = at.rights.each other its place is_its inside in (was.0, right other its place is_its inside was.1) };
     writes = record { ends = at.writes.ends; given = at.writes.given; may = λ write d sector content there live to. touch write d sector there (at.writes.may write d sector content there live to) };
-    quiet = at.quiet;
     closings = at.closings;
     volume = record {
       is = volume.is;
@@ -115,18 +115,9 @@ module _ {G O S T : Type 0} (g : register.Ghosts G) (o : owners.Ghosts O) (st : 
       was_own : (n s : ℕ) → own_up known.clocks.down (o.own owners_then) n ≡ Some s → own_up known.clocks.down (o.own owners_are) n ≡ Some s
       was_own n s is = let had = own_of known.clocks.down (o.own owners_then) n s is in own_is known.clocks.down (o.own owners_are) n s had.0 (sym (same_own n) ∙ had.1)
 
-      reached : (place index : ℕ) → IsReached (st.made store_is).devices (st.made store_is).areas c.register.chain holding floor (own_up known.clocks.down (o.own owners_are)) (λ n. c.store.told.knew (Node n)) place index
-          → IsReached (st.made store_is).devices (st.made store_is).areas c.register.chain holding floor (own_up known.clocks.down (o.own owners_then)) (λ n. c.store.told.knew (Node n)) place index
-      reached place index (inl low) = inl low
-      reached place index (inr (who, has_row, has, knows)) = inr (who, has_row, has, λ n is live. knows n (was_own n who is) live)
-
-      within_then : (d s index : ℕ) → IsWithin (st.made store_is).devices (st.made store_is).areas c.register.chain c.owners.holding c.owners.floor (own_up known.clocks.down (o.own owners_are)) (λ n. c.store.told.knew (Node n)) d s index
-          → IsWithin (st.made store_is).devices (st.made store_is).areas c.register.chain holding floor (own_up known.clocks.down (o.own owners_then)) (λ n. c.store.told.knew (Node n)) d s index
-      within_then d s index within = record {
-        most = within.most;
-        home = λ place is of. reached place index (reaches place index (within.home place is of));
-        slot = λ slot less of n who owner state is place told entitled live has. within.slot slot less of n who owner state (was_own n who is) place told entitled live has;
-      }
+      within_then : (d s index : ℕ) → IsWithin (st.made store_is).devices (st.made store_is).areas c.register.chain c.owners.holding c.owners.floor (IsOfNode o.by_boot known.clocks) (λ n. c.store.told.knew (Node n)) d s index
+          → IsWithin (st.made store_is).devices (st.made store_is).areas c.register.chain holding floor (IsOfNode o.by_boot known.clocks) (λ n. c.store.told.knew (Node n)) d s index
+      within_then d s index within = record { most = within.most; home = λ place is of. reaches place index (within.home place is of); slot = within.slot }
 
       one_row : (a b : SessionRow) (found : Option SessionRow) → found ≡ Some a → found ≡ Some b → a ≡ b
       one_row a b found is too = cc

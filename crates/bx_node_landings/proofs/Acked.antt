@@ -81,7 +81,6 @@ module _ {G O S T : Type 0} (g : register.Ghosts G) (o : owners.Ghosts O) (st : 
       logs = gate_lands (SureOf g o st Stands Step register_is owners_are store_is x known c) (st.made store_is).devices (st.made store_is).areas (last c.register.chain).sessions c.before now c.logs c.slots c.truth row.slot less taken at.logs more point next opening ack;
       rights = record { each = λ other its block is_its inside. at.rights.each other its block is_its (was_in its.slot block (eqb its.slot row.slot) refl inside) };
       writes = record { ends = at.writes.ends; given = at.writes.given; may = λ write d sector content there live to. touch write.session d sector (at.writes.may write d sector content there live to) };
-      quiet = at.quiet;
       closings = λ gone by there. let was = at.closings gone by there in record {
         given = was.given;
         given_by = was.given_by;

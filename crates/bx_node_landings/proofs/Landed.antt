@@ -129,7 +129,6 @@ module _ {G O S T : Type 0} (g : register.Ghosts G) (o : owners.Ghosts O) (st : 
       logs = logs;
       rights = record { each = λ other its block is_its inside. at.rights.each other its block is_its (was_in its.slot block (eqb its.slot row.slot) refl inside) };
       writes = record { ends = at.writes.ends; given = at.writes.given; may = λ write d sector content there live to. touch write d sector there (at.writes.may write d sector content there live to) };
-      quiet = at.quiet;
       closings = λ gone by there. let was = at.closings gone by there in record {
         given = was.given;
         given_by = was.given_by;

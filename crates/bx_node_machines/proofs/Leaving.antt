@@ -208,8 +208,28 @@ module _ (devices areas : ℕ) (Touches : ℕ → ℕ → ℕ → Type 0) (Sure 
       fresh_stays old new other its row.slot (slots its row has lives its_apart)
       (λ is. let own_was = sym (own other) ∙ is in let left = others other its row ne its_apart own_was has lives in (left.none_out (fresh.unwritten own_was), left.none_asked (fresh.unasked own_was))) fresh
 
+  -- what the node has, it has under its own session
+  its_mark : (mark : Option ℕ) (its : ℕ) → (is_one mark (Some session) && (session == session)) ≡ true → mark ≡ Some its → its ≡ session
+  its_mark None its is marked = absurd cc
+  its_mark (Some a) its is marked = by (a == session) (session == session) refl is
+    where
+      by : (p q : Bool) → (a == session) ≡ p → (p && q) ≡ true → its ≡ session
+      by false q same both = absurd cc
+      by true q same both = let e : a ≡ its = cc in let f : a ≡ session = grind (arith, nat_tests, same) in sym e ∙ f
+
+  its_marked : (other its : ℕ) (machine : MachineView) (row : SessionRow) → (b : Bool) → eqb other node ≡ b → IsOf other row → new.machines other ≡ Some machine → machine.session ≡ Some its → row_in old.rows its ≡ Some row → row.dead ≡ 0
+      → new.own other ≡ Some its
+  its_marked other its machine row true same of there marked has lives =
+      let e : other ≡ node = grind (arith, nat_tests, same) in
+      let f : its ≡ session = its_mark machine.session its (ap (λ (m : Option MachineView). is_under m (Some session) session) (sym there ∙ ap (λ (n : ℕ). new.machines n) e) ∙ under) marked in
+      ap (λ (n : ℕ). new.own n) e ∙ own_is ∙ ap (λ (n : ℕ). Some n) (sym f)
+  its_marked other its machine row false differ of there marked has lives =
+      let ne : other ≢ node = λ e. grind (arith, nat_tests, differ, e) in
+      own other ∙ about.marked other its machine row of (sym (machines other ne) ∙ there) marked has lives
+
   pub acts : AreAbout devices areas Sure_then Reads_then IsOf new
   acts = record {
+    marked = λ other its machine row of there is has lives. its_marked other its machine row (eqb other node) refl of there is (sym (ap (λ (l : List SessionRow). row_in l its) rows) ∙ has) lives;
     each = λ other its machine row there marked is has lives. each_about other its machine row (eqb other node) refl there marked is (sym (ap (λ (l : List SessionRow). row_in l its) rows) ∙ has) lives;
     fresh = λ other its row of alone has lives none. its_fresh other its row (eqb other node) refl of alone (sym (ap (λ (l : List SessionRow). row_in l its) rows) ∙ has) lives none;
   }

@@ -118,8 +118,21 @@ module _ (devices areas : ℕ) (Sure : ℕ → ℕ → List ℕ → Type 0) (Rea
       let fresh = about.fresh other session row of alone row_is lives (ap (λ (m : Option MachineView). is_under m (old.own other) session) (sym (machines other ne)) ∙ none) in
       record { none = fresh.none; still = fresh.still; undoubted = fresh.undoubted; unwritten = fresh.unwritten; unasked = fresh.unasked }
 
+  marked_then : (other session : ℕ) (its : MachineView) (row : SessionRow) → (b : Bool) → eqb other node ≡ b → IsOf other row → new.machines other ≡ Some its → its.session ≡ Some session → row_in old.rows session ≡ Some row → row.dead ≡ 0
+      → old.own other ≡ Some session
+  marked_then other session its row true is of has marked row_is lives =
+      let e : other ≡ node = grind (arith, nat_tests, is) in
+      let same_one : its ≡ machine = one_machine its machine (sym has ∙ ap (λ (n : ℕ). new.machines n) e ∙ then_there) in
+      ap (λ (n : ℕ). old.own n) e ∙ sym takes ∙ ap (λ (m : MachineView). m.session) (sym same_one) ∙ marked
+    where
+      one_machine : (a b : MachineView) → Some a ≡ Some b → a ≡ b
+      one_machine a b e = cc
+  marked_then other session its row false differ of has marked row_is lives =
+      about.marked other session its row of (sym (machines other (λ e. grind (arith, nat_tests, differ, e))) ∙ has) marked row_is lives
+
   pub renews : AreAbout devices areas Sure Reads IsOf new
   renews = subst (λ (s : Scene). AreAbout devices areas Sure Reads IsOf s) (sym same) (record {
+    marked = λ other session its row of has is row_is lives. marked_then other session its row (eqb other node) refl of has is row_is lives;
     each = λ other session its row has marked own row_is lives. each_then other session its row (eqb other node) refl has marked own row_is lives;
     fresh = λ other session row of alone row_is lives none. fresh_then other session row (eqb other node) refl of alone row_is lives none;
   })
@@ -144,8 +157,9 @@ module _ {G O S T : Type 0} (g : register.Ghosts G) (o : owners.Ghosts O) (st : 
         stands.about refl there then_there others
         (ap (λ (own : Option ℕ). is_one before.session own) own_here ∙ not_mine) (takes ∙ sym own_here)
         (λ session row own has lives. is_new session row (sym own_here ∙ own) has lives)
-        (λ other session own own_too. stands.single node other session (own_of clocks.down (o.own owners_are) node session own).1 (own_of clocks.down (o.own owners_are) other session own_too).1);
+        (λ other session own own_too. stands.single node other session own own_too);
     single = stands.single;
+    told = stands.told;
   }
     where
       own_here : own_up clocks.down (o.own owners_are) node ≡ o.own owners_are node

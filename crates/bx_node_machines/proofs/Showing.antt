@@ -36,7 +36,6 @@ module _ {G O S T : Type 0} (g : register.Ghosts G) (o : owners.Ghosts O) (st : 
     logs = at.logs;
     rights = at.rights;
     writes = at.writes;
-    quiet = at.quiet;
     closings = at.closings;
     volume = views.shown Stands Step c.owners.holding (HasRow (last c.register.chain)) (LivesIn (last c.register.chain)) (own_up known.clocks.down (o.own owners_are)) known.held held known.hints hints c.doubts c.truth tree node
         at.volume others here agrees;
@@ -54,7 +53,6 @@ module _ {G O S T : Type 0} (g : register.Ghosts G) (o : owners.Ghosts O) (st : 
     logs = at.logs;
     rights = at.rights;
     writes = at.writes;
-    quiet = at.quiet;
     closings = at.closings;
     volume = record {
       is = all no_hints at.volume.is;
@@ -99,4 +97,5 @@ module _ {G O S T : Type 0} (g : register.Ghosts G) (o : owners.Ghosts O) (st : 
     at = answered_at (known_of g o st Stands Step register_is owners_are store_is x letters clocks machines) c tree next all stands.at;
     about = stands.about;
     single = stands.single;
+    told = stands.told;
   }

@@ -182,3 +182,4 @@ pub record AreAbout (devices areas : ℕ) (Sure : ℕ → ℕ → List ℕ → T
       → row_in s.rows session ≡ Some row → row.dead ≡ 0 → IsAbout devices areas Sure (Reads node) s node session row.slot machine
   pub fresh : (node session : ℕ) (row : SessionRow) → IsOf node row ⊎ (s.own node ≡ Some session) → ((other : ℕ) → s.own other ≡ Some session → other ≡ node) → row_in s.rows session ≡ Some row → row.dead ≡ 0
       → is_under (s.machines node) (s.own node) session ≡ false → IsFresh s node session row.slot
+  pub marked : (node session : ℕ) (machine : MachineView) (row : SessionRow) → IsOf node row → s.machines node ≡ Some machine → machine.session ≡ Some session → row_in s.rows session ≡ Some row → row.dead ≡ 0 → s.own node ≡ Some session

@@ -1,5 +1,5 @@
 -- How the nodes of a cluster stand, with all else.
-use Rattle.std.specs.Prelude.{◌≡◌, ℕ, Bool, true, false, if◌then◌else◌, List, Option, Some, None, slice_get}
+use Rattle.std.specs.Prelude.{◌≡◌, ℕ, ◌≤◌, Bool, true, false, if◌then◌else◌, List, Option, Some, None, slice_get}
 use Rattle.bx_base.specs.declared.names.Actor.{Actor}
 use Rattle.bx_base.specs.declared.names.Actor.TheVariants.{Node}
 use Rattle.bx_disk.specs.Disks.{Disks}
@@ -13,6 +13,7 @@ use Rattle.bx_rows.specs.declared.session.SessionRow.{SessionRow}
 use Rattle.bx_views.specs.Attempts.{Deed}
 use Rattle.bx_views.specs.Truths.{Held, Hints, Truth, no_hints}
 use Rattle.bx_world_standing.specs.Parts.{Clocks}
+pub use Rattle.bx_world_standing.specs.Sessions.{IsOfNode}
 use Rattle.bx_world_standing.specs.Standing.{Course, Known, StandsAt, SureOf, own_up}
 
 -- What a node shows: nothing, where its session isn't the one that it has its blocks under; and hints, whatever the session.
@@ -26,12 +27,6 @@ shown (Some machine) own = if is_one machine.session own then machine.held else 
 abbrev pub hinted : Option MachineView → Hints
 hinted None = no_hints
 hinted (Some machine) = machine.hints
-
--- a live session's row is one that a node that is up may come to have: it is the node's, and of its boot where sessions go by boots
-pub record IsOfNode (by_boot : Bool) (clocks : Clocks) (node : ℕ) (row : SessionRow) : Type 0 where
-  pub up : clocks.down (Node node) ≡ false
-  pub of : row.node ≡ node
-  pub boot : by_boot ≡ true → row.boot ≡ clocks.boots (Node node)
 
 module _ {G O S T : Type 0} (g : register.Ghosts G) (o : owners.Ghosts O) (st : store.Ghosts S) (Stands : Truth → Hints → T → Type 0) (Step : T → Deed → T → Type 0)
     (register_is : G) (owners_are : O) (store_is : S) (x : Disks) where
@@ -59,8 +54,10 @@ module _ {G O S T : Type 0} (g : register.Ghosts G) (o : owners.Ghosts O) (st : 
     doubts = c.doubts;
   }
 
-  -- The cluster stands, with what the nodes' caches show; each node is about what its session has under way; and no session is two nodes' own.
+  -- The cluster stands, with what the nodes' caches show; each node is about what its session has under way; no session is the own one of two nodes that are up; and each that has
+  -- one was handed what its register knows.
   pub record NodesStand (letters : List Letter) (clocks : Clocks) (machines : List MachineView) (c : Course) (tree : T) : Type 0 where
     pub at : StandsAt g o st Stands Step register_is owners_are store_is x (known_of letters clocks machines) c tree
     pub about : AreAbout (st.made store_is).devices (st.made store_is).areas (SureOf g o st Stands Step register_is owners_are store_is x (known_of letters clocks machines) c) (st.will_read store_is x c.store) (IsOfNode o.by_boot clocks) (scene_of clocks.down machines c)
-    pub single : (node other session : ℕ) → o.own owners_are node ≡ Some session → o.own owners_are other ≡ Some session → other ≡ node
+    pub single : (node other session : ℕ) → own_up clocks.down (o.own owners_are) node ≡ Some session → own_up clocks.down (o.own owners_are) other ≡ Some session → other ≡ node
+    pub told : (node session : ℕ) → own_up clocks.down (o.own owners_are) node ≡ Some session → (g.knows register_is (Node node)).index ≤ c.store.told.knew (Node node)

@@ -69,7 +69,6 @@ module _ {G O S T : Type 0} (g : register.Ghosts G) (o : owners.Ghosts O) (st : 
         (last c.register.chain).sessions c.before c.logs c.slots c.truth row.slot less taken at.logs more rests is room alone (λ d s content apart sure. sure);
     rights = record { each = λ other its block has inside. by_right other its block has (eqb its.slot row.slot) refl inside };
     writes = record { ends = at.writes.ends; given = at.writes.given; may = λ write d sector content has live to. touch write.session d sector (at.writes.may write d sector content has live to) };
-    quiet = at.quiet;
     closings = λ gone by has. let was = at.closings gone by has in record {
       given = was.given;
       given_by = was.given_by;

@@ -20,6 +20,7 @@ use Rattle.bx_world_logs.specs.Logs.{LogsStand}
 use Rattle.bx_world_standing.specs.Rights.{IsOfSlot, IsWithin, MayTouch, RightsStand, Surely, WritesStand}
 use Rattle.bx_world_standing.specs.Labels.{LabelsStand}
 use Rattle.bx_world_standing.specs.Closings.{ClosingStands}
+use Rattle.bx_world_standing.specs.Sessions.{IsOfNode}
 use Rattle.bx_world_standing.specs.Standing.{Course, Known, StandsAt, own_up}
 
 -- the course with more letters, and with a write
@@ -36,13 +37,13 @@ module _ {G O S T : Type 0} (g : register.Ghosts G) (o : owners.Ghosts O) (st : 
   -- what stands so, by another store and another list of writes, for a volume that the store is made for
   abbrev SureBy : Made → S → List Sent → ℕ → ℕ → List ℕ → Type 0
   SureBy made which sent = Surely (st.stands which x (with_write c letters write).store)
-      (IsWithin made.devices made.areas c.register.chain c.owners.holding c.owners.floor (own_up known.clocks.down (o.own owners_are)) (λ n. c.store.told.knew (Node n)))
+      (IsWithin made.devices made.areas c.register.chain c.owners.holding c.owners.floor (IsOfNode o.by_boot known.clocks) (λ n. c.store.told.knew (Node n)))
       sent c.store.told.greatest
 
   -- What stood so before stands so now, where the write brings nothing there.
   pub surely_on : ((d s : ℕ) (content : List ℕ) (index : ℕ) → IsOnly (write ∷ c.store.writes) c.store.told.greatest d s content → st.stands old x c.store d s content index → st.stands new x (with_write c letters write).store d s content index)
       → (d s : ℕ) (content : List ℕ) → ((other : List ℕ) → WritesTo write d s other → ⊥)
-      → Surely (st.stands old x c.store) (IsWithin (st.made old).devices (st.made old).areas c.register.chain c.owners.holding c.owners.floor (own_up known.clocks.down (o.own owners_are)) (λ n. c.store.told.knew (Node n))) c.store.writes c.store.told.greatest d s content
+      → Surely (st.stands old x c.store) (IsWithin (st.made old).devices (st.made old).areas c.register.chain c.owners.holding c.owners.floor (IsOfNode o.by_boot known.clocks) (λ n. c.store.told.knew (Node n))) c.store.writes c.store.told.greatest d s content
       → SureBy (st.made old) new (write ∷ c.store.writes) d s content
   surely_on goes d s content none sure = record { index = sure.index; is = goes d s content sure.index only sure.is; only = only; within = sure.within }
     where
@@ -56,13 +57,13 @@ module _ {G O S T : Type 0} (g : register.Ghosts G) (o : owners.Ghosts O) (st : 
 
   pub sent_at : known.clocks.down (Node node) ≡ false → st.own old node ≡ Some session → LivesIn (last c.register.chain) session → write.session ≡ session
       → g.keeps register_is x (with_write c letters write).register → o.keeps owners_are (with_write c letters write).owners → st.keeps new x (with_write c letters write).store
-      → st.made new ≡ st.made old → ((other : ℕ) → st.own new other ≡ st.own old other) → ((other : ℕ) → other ≢ node → st.out_of new other ≡ st.out_of old other) → st.out_of new node ≡ Some write
+      → st.made new ≡ st.made old → ((other : ℕ) → st.own new other ≡ st.own old other)
       → ((end : ℕ) × Contains c.owners.leases (session, end) × (write.until ≤ end)) → session < (last c.register.chain).next_session
       → ((d sector : ℕ) (content : List ℕ) → WritesTo write d sector content → MayTouch (st.made old).devices (st.made old).areas (last c.register.chain) c.owners.holding c.logs c.slots session d sector)
       → ((gone d s : ℕ) (row : SessionRow) (content : List ℕ) → Contains c.register.proposed (Close gone session) → row_in (last c.register.chain).sessions gone ≡ Some row → WritesTo write d s content → IsOfSlot (st.made old).devices row.slot d s → ⊥)
       → LogsStand (SureBy (st.made old) new (write ∷ c.store.writes)) (st.made old).devices (st.made old).areas (last c.register.chain).sessions c.before c.logs c.slots c.truth
       → StandsAt g o st Stands Step register_is owners_are new x (record known { letters = letters }) (with_write c letters write) tree
-  sent_at up own lives whose register_keeps owners_keep store_keeps made same_own same_out is_out end opened may unclosed logs = record {
+  sent_at up own lives whose register_keeps owners_keep store_keeps made same_own end opened may unclosed logs = record {
     pasts = record {
       owners_chain = at.pasts.owners_chain;
       store_chain = at.pasts.store_chain;
@@ -97,7 +98,6 @@ module _ {G O S T : Type 0} (g : register.Ghosts G) (o : owners.Ghosts O) (st : 
     logs = subst (λ (m : Made). LogsStand (SureBy m new (write ∷ c.store.writes)) m.devices m.areas (last c.register.chain).sessions c.before c.logs c.slots c.truth) (sym made) logs;
     rights = subst (λ (m : Made). RightsStand (last c.register.chain).sessions c.owners.holding (oldest c.register.chain) m.areas c.logs c.slots) (sym made) at.rights;
     writes = subst (λ (m : Made). WritesStand m.devices m.areas (last c.register.chain) c.owners.holding c.owners.leases c.logs c.slots (write ∷ c.store.writes)) (sym made) writes_then;
-    quiet = λ n s one is_up is_own none has. by_node n s one is_up is_own none has (eqb n node) refl;
     closings = λ gone by has. subst (λ (m : Made). ClosingStands m.devices (last c.register.chain) c.logs c.slots (write ∷ c.store.writes) gone by) (sym made) (closing_then gone by has);
     volume = at.volume;
     doubted = at.doubted;
@@ -120,23 +120,6 @@ module _ {G O S T : Type 0} (g : register.Ghosts G) (o : owners.Ghosts O) (st : 
             (may d sector content (subst (λ (w : Sent). WritesTo w d sector content) (sym same) to)))
             (λ before. at.writes.may one d sector content before live to) (cases one has);
       }
-
-      not_both : (n s : ℕ) → known.clocks.down (Node n) ≡ false → st.own new n ≡ Some s → s ≡ session → n ≡ node
-      not_both n s is_up is_own same = at.volume.single node n session (up_own node up (at.parts.own node up ∙ own)) (up_own n is_up (at.parts.own n is_up ∙ sym (same_own n) ∙ is_own ∙ ap (λ (k : ℕ). Some k) same)) lives
-        where
-          up_own : (k : ℕ) → known.clocks.down (Node k) ≡ false → o.own owners_are k ≡ Some session → own_up known.clocks.down (o.own owners_are) k ≡ Some session
-          up_own k k_up k_own = ap (λ (b : Bool). if b then None else o.own owners_are k) k_up ∙ k_own
-
-      by_node : (n s : ℕ) (one : Sent) → known.clocks.down (Node n) ≡ false → st.own new n ≡ Some s → st.out_of new n ≡ None → Contains (write ∷ c.store.writes) one → (b : Bool) → eqb n node ≡ b → one.session ≢ s
-      by_node n s one is_up is_own none has true same e =
-          let f : n ≡ node = grind (arith, nat_tests, same) in
-          let wrong : Some write ≡ None = sym is_out ∙ ap (λ (k : ℕ). st.out_of new k) (sym f) ∙ none in cc
-      by_node n s one is_up is_own none has false differ e =
-          let ne : n ≢ node = λ f. grind (arith, nat_tests, differ, f) in
-          ⊎_elim
-          (λ front. ne (not_both n s is_up is_own (sym e ∙ ap (λ (w : Sent). w.session) (sym front) ∙ whose)))
-          (λ before. at.quiet n s one is_up (sym (same_own n) ∙ is_own) (sym (same_out n ne) ∙ none) before e)
-          (cases one has)
 
       closing_then : (gone by : ℕ) → Contains c.register.proposed (Close gone by) → ClosingStands (st.made old).devices (last c.register.chain) c.logs c.slots (write ∷ c.store.writes) gone by
       closing_then gone by has =

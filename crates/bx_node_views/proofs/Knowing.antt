@@ -7,6 +7,8 @@ use Rattle.bx_facts.specs.Chains.{Chain, HasRow, LivesIn, last, oldest, opened_a
 use Rattle.bx_facts.specs.Holds.{Hold, Holds, KeepsOthers, OwnersPast, given_floor, is_exclusive, leased, raised}
 use Rattle.bx_facts.proofs.Lists.{front}
 use Rattle.bx_owners.specs.declared.owners.Owners as owners
+use Rattle.bx_rows.specs.Words.{row_in}
+use Rattle.bx_rows.specs.declared.session.SessionRow.{SessionRow}
 use Rattle.bx_world_standing.specs.Rights.{HasBlock, IsReached}
 
 -- A session whose lease is valid at a reading lives in the last state.
@@ -23,14 +25,14 @@ exclusive_is None is = absurd cc
 exclusive_is (Some (Shared, index)) is = absurd cc
 exclusive_is (Some (Exclusive, index)) is = (index, refl)
 
-module _ (devices areas : ℕ) (chain : Chain) (own : ℕ → Option ℕ) (knew : ℕ → ℕ) (node session : ℕ) (is_own : own node ≡ Some session) (lives : LivesIn (last chain) session) where
+module _ (devices areas : ℕ) (chain : Chain) (IsOf : ℕ → SessionRow → Type 0) (knew : ℕ → ℕ) (node session : ℕ) (its : SessionRow) (is_row : row_in (last chain).sessions session ≡ Some its) (lives : its.dead ≡ 0) (is_of : IsOf node its) where
   -- What stands in the home of a block was written by nobody who knew more than a node does that holds the block, and knows its grant's index and
   -- its session's row.
   pub read_knows : (holding : Holds) (floor : ℕ → ℕ) (at index : ℕ) (hold : Hold) → holding session at ≡ Some hold → hold.1 ≤ knew node → opened_at chain session ≤ knew node
       → floor at ≤ max hold.1 (opened_at chain session)
       → ((other : ℕ) (other_hold : Hold) → HasRow (last chain) other → other ≢ session → holding other at ≡ Some other_hold → other_hold.0 ≡ Shared)
       → ((other : ℕ) → HasRow (last chain) other → oldest chain ≤ other)
-      → IsReached devices areas chain holding floor own knew at index → index ≤ knew node
+      → IsReached devices areas chain holding floor IsOf knew at index → index ≤ knew node
   read_knows holding floor at index hold holds known opened reaches apart alone (inl low) = omega (arith, low, reaches, known, opened)
   read_knows holding floor at index hold holds known opened reaches apart alone (inr (other, row, has, told)) = by_test (eqb other session) refl
     where
@@ -44,7 +46,7 @@ module _ (devices areas : ℕ) (chain : Chain) (own : ℕ → Option ℕ) (knew 
       by_test : (b : Bool) → eqb other session ≡ b → index ≤ knew node
       by_test true same =
           let e : other ≡ session = grind (arith, nat_tests, same) in
-          told node (is_own ∙ ap (λ (n : ℕ). Some n) (sym e)) (subst (λ (n : ℕ). LivesIn (last chain) n) (sym e) lives)
+          told node its (ap (λ (n : ℕ). row_in (last chain).sessions n) e ∙ is_row) lives is_of
       by_test false differ = absurd (by_has (λ e. grind (arith, nat_tests, differ, e)) has)
 
   raised_least : (floor : ℕ → ℕ) (block index at : ℕ) → floor at ≤ raised floor block index at
@@ -75,13 +77,13 @@ module _ (devices areas : ℕ) (chain : Chain) (own : ℕ → Option ℕ) (knew 
 
   -- A block is given up at what the node knows: whoever gets any block afterwards still reaches what was written.
   pub given_up : (old new : Holds) (floor : ℕ → ℕ) (block : ℕ) → KeepsOthers session block old new
-      → (at index : ℕ) → IsReached devices areas chain old floor own knew at index → IsReached devices areas chain new (given_floor (old session block) floor block (knew node)) own knew at index
+      → (at index : ℕ) → IsReached devices areas chain old floor IsOf knew at index → IsReached devices areas chain new (given_floor (old session block) floor block (knew node)) IsOf knew at index
   given_up old new floor block keeps at index (inl low) = inl (let more = given_least (old session block) floor block (knew node) at in omega (arith, low, more))
   given_up old new floor block keeps at index (inr (other, row, inr older, told)) = inr (other, row, inr older, told)
   given_up old new floor block keeps at index (inr (other, row, inl exclusive, told)) = by_test (eqb other session) (eqb at block) refl refl
     where
       Then : Type 0
-      Then = IsReached devices areas chain new (given_floor (old session block) floor block (knew node)) own knew at index
+      Then = IsReached devices areas chain new (given_floor (old session block) floor block (knew node)) IsOf knew at index
 
       by_test : (a b : Bool) → eqb other session ≡ a → eqb at block ≡ b → Then
       by_test false b differ is = inr (other, row, inl (exclusive_stays old new other at (λ hold held. keeps.other_sessions other at hold (λ e. grind (arith, nat_tests, differ, e)) held) exclusive), told)
@@ -94,19 +96,19 @@ module _ (devices areas : ℕ) (chain : Chain) (own : ℕ → Option ℕ) (knew 
           let e : other ≡ session = grind (arith, nat_tests, same) in
           let f : at ≡ block = grind (arith, nat_tests, here) in
           let was = subst (λ (n : ℕ). is_exclusive (old session n) ≡ true) f (subst (λ (n : ℕ). is_exclusive (old n at) ≡ true) e exclusive) in
-          let knows = told node (is_own ∙ ap (λ (n : ℕ). Some n) (sym e)) (subst (λ (n : ℕ). LivesIn (last chain) n) (sym e) lives) in
+          let knows = told node its (ap (λ (n : ℕ). row_in (last chain).sessions n) e ∙ is_row) lives is_of in
           let floor_is = given_here (old session block) floor block (knew node) at was f in
           inl (omega (arith, knows, floor_is))
 
   -- A block is wanted that the session doesn't hold exclusively.
   pub wanted : (old new : Holds) (floor : ℕ → ℕ) (block : ℕ) → KeepsOthers session block old new → is_exclusive (old session block) ≡ false
-      → (at index : ℕ) → IsReached devices areas chain old floor own knew at index → IsReached devices areas chain new floor own knew at index
+      → (at index : ℕ) → IsReached devices areas chain old floor IsOf knew at index → IsReached devices areas chain new floor IsOf knew at index
   wanted old new floor block keeps shared at index (inl low) = inl low
   wanted old new floor block keeps shared at index (inr (other, row, inr older, told)) = inr (other, row, inr older, told)
   wanted old new floor block keeps shared at index (inr (other, row, inl exclusive, told)) = by_test (eqb other session) (eqb at block) refl refl
     where
       Then : Type 0
-      Then = IsReached devices areas chain new floor own knew at index
+      Then = IsReached devices areas chain new floor IsOf knew at index
 
       by_test : (a b : Bool) → eqb other session ≡ a → eqb at block ≡ b → Then
       by_test false b differ is = inr (other, row, inl (exclusive_stays old new other at (λ hold held. keeps.other_sessions other at hold (λ e. grind (arith, nat_tests, differ, e)) held) exclusive), told)
@@ -123,5 +125,5 @@ module _ (devices areas : ℕ) (chain : Chain) (own : ℕ → Option ℕ) (knew 
 
   -- What the session has exclusively, and is written by its node now, is reached by all.
   pub landed : (holding : Holds) (floor : ℕ → ℕ) (at : ℕ) → HasRow (last chain) session → is_exclusive (holding session at) ≡ true
-      → ((other : ℕ) → own other ≡ Some session → other ≡ node) → IsReached devices areas chain holding floor own knew at (knew node)
-  landed holding floor at row exclusive single = inr (session, row, inl exclusive, λ other is_too lives_too. let e = single other is_too in let f = ap (λ (n : ℕ). knew n) e in omega (arith, f))
+      → ((other : ℕ) (row : SessionRow) → row_in (last chain).sessions session ≡ Some row → IsOf other row → other ≡ node) → IsReached devices areas chain holding floor IsOf knew at (knew node)
+  landed holding floor at row exclusive single = inr (session, row, inl exclusive, λ other one found lives_too is_of_it. let e = single other one found is_of_it in let f = ap (λ (n : ℕ). knew n) e in omega (arith, f))

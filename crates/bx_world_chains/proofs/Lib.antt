@@ -1,3 +1,4 @@
 pub mod Chains
 pub mod Changed
 pub mod Rows
+pub mod Sessions

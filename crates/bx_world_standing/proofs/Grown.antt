@@ -13,19 +13,20 @@ use Rattle.bx_global.specs.declared.state.GlobalState.{GlobalState}
 use Rattle.bx_global.specs.Table.{IsLegal, effect}
 use Rattle.bx_global.proofs.Rising.{index_rises, next_rises}
 use Rattle.bx_places.specs.Places.{IsBlock}
+use Rattle.bx_rows.specs.Rows.{GoesOn}
 use Rattle.bx_rows.specs.declared.session.SessionRow.{SessionRow}
 use Rattle.bx_rows.specs.Words.{is_taken, row_in}
 use Rattle.bx_views.specs.Truths.{Truth}
 use Rattle.bx_volume.specs.Overlay.{Logs}
 use Rattle.bx_volume.specs.Records.{LogWhere, newest_in}
 use Rattle.bx_world_chains.specs.Entitled.{AreAllowed, ClosesSlot, IsEntitled}
-use Rattle.bx_world_chains.proofs.Chains.{has_less, index_most}
-use Rattle.bx_world_chains.proofs.Rows.{Was, below_next, entitled_after, has_before, has_of, lives_before, lives_has, lives_row, row_before, row_of, slot_goes}
+use Rattle.bx_world_chains.proofs.Chains.{has_less}
+use Rattle.bx_world_chains.proofs.Rows.{Was, below_next, entitled_after, has_before, has_of, lives_before, lives_has, lives_of, lives_row, row_before, row_of, slot_goes}
 use Rattle.bx_world_logs.specs.Logs.{IsInLog, LogsStand, Slot, SlotStands, begins, idle}
 use Rattle.bx_world_logs.proofs.Growing.{SlotMay, rows_go}
 use Rattle.bx_world_standing.specs.Rights.{HasBlock, OfHeld, IsOfSlot, IsReached, IsToldOf, IsWithin, OfLogged, MayTouch, OfSlot, RightsStand, Surely, WritesStand}
+use Rattle.bx_world_standing.specs.Parts.{Clocks}
 use Rattle.bx_world_standing.specs.Sessions.{SessionsStand}
-use Rattle.bx_rows.specs.Rows.{GoesOn as GoesOn_row}
 use Rattle.bx_world_standing.specs.Doubts.{DoubtsStand, IsRecordOf}
 use Rattle.bx_world_standing.specs.Closings.{ClosingStands, IsClosed}
 use Rattle.bx_world_views.specs.Views.{Doubt}
@@ -71,8 +72,16 @@ module _ (chain : Chain) (change : Change) (allowed : IsAllowed (last chain)) (l
 
   -- ---- sessions
 
-  pub sessions_go : (own : ℕ → Option ℕ) (knew : ℕ → ℕ) → SessionsStand chain own knew → SessionsStand (grown chain change) own knew
-  sessions_go own knew stand = record { told = λ node session is. let t = stand.told node session is in record { state = t.state; place = inr t.place; at = t.at; row = t.row; is = t.is; lives = t.lives; of = t.of } }
+  pub sessions_go : (by_boot : Bool) (clocks : Clocks) (own : ℕ → Option ℕ) (knew : ℕ → ℕ) → SessionsStand by_boot chain clocks own knew → SessionsStand by_boot (grown chain change) clocks own knew
+  sessions_go by_boot clocks own knew stand = record { told = λ node session is. let t = stand.told node session is in record { state = t.state; place = inr t.place; at = t.at; by = t.by } }
+
+  -- a live session that was given out had a live row, of which its row came
+  live_before : (session : ℕ) (row : SessionRow) → row_in (last (grown chain change)).sessions session ≡ Some row → row.dead ≡ 0 → session < (last chain).next_session
+      → (old : SessionRow) × (row_in (last chain).sessions session ≡ Some old) × (old.dead ≡ 0) × GoesOn old row
+  live_before session row is lives less =
+      let was = row_before (last chain) change session row is less in
+      let lived = lives_before (last chain) change session allowed (lives_of (last (grown chain change)) session row is lives) less in
+      (was.old, was.is, subst (λ (found : Option SessionRow). IsSomeAnd found (λ one. one.dead ≡ 0)) was.is lived, was.goes)
 
   -- ---- rights
 
@@ -125,7 +134,7 @@ module _ (chain : Chain) (change : Change) (allowed : IsAllowed (last chain)) (l
       by session row begun (inr fresh) = absurd (let e : begins (slots row.slot).activity ≡ false = ap begins (free row.slot fresh.0 fresh.1) in cc)
 
       still : (session : ℕ) (doubt : Doubt) (row : SessionRow) → row_in (last chain).sessions session ≡ Some row → begins (slots row.slot).activity ≡ true
-          → ClosedBy (last chain) change session ⊎ ((new : SessionRow) × (row_in (effect (last chain) change).sessions session ≡ Some new) × GoesOn_row row new)
+          → ClosedBy (last chain) change session ⊎ ((new : SessionRow) × (row_in (effect (last chain) change).sessions session ≡ Some new) × GoesOn row new)
           → (new : SessionRow) × (row_in (last (grown chain change)).sessions session ≡ Some new) × (begins (slots new.slot).activity ≡ true)
       still session doubt row had begun (inl gone) = absurd (let e : begins (slots row.slot).activity ≡ false = ap begins (closed session gone.by row gone.is had) in cc)
       still session doubt row had begun (inr goes) = (goes.0, goes.1, subst (λ (k : ℕ). begins (slots k).activity ≡ true) (sym goes.2.slot) begun)
@@ -222,58 +231,52 @@ module _ (chain : Chain) (change : Change) (allowed : IsAllowed (last chain)) (l
       by false false old own (inl held) = absurd (let e : false ≡ true = sym own ∙ held in cc)
       by false false old own (inr less) = absurd (grind (arith, nat_tests, old, less))
 
-  pub within_goes : (devices areas : ℕ) (past : OwnersPast) (own : ℕ → Option ℕ) (knew : ℕ → ℕ) → past.told.chain ≡ chain → AreAllowed chain → SessionsStand chain own knew
-      → (d sector index : ℕ) → IsWithin devices areas chain past.holding past.floor own knew d sector index
-      → IsWithin devices areas (grown chain change) past.holding (owners_grown past change).floor own knew d sector index
-  within_goes devices areas past own knew same all sessions d sector index within = record {
-    most = let i = index_rises (last chain) change in let m = within.most in omega (arith, i, m);
-    home = λ at is of. reach at (within.home at is of);
-    slot = λ slot less of. told slot (within.slot slot less of);
-  }
-    where
-      -- what a node was told is older than the new state
-      older : (node session : ℕ) (state : GlobalState) → own node ≡ Some session → state ≡ last (grown chain change) → state.index ≡ knew node → ⊥
-      older node session state is last_is at =
-          let t = sessions.told node session is in
-          let low = index_most chain t.state t.place in
-          let i = index_rises (last chain) change in
-          let e = ap (λ (x : GlobalState). x.index) last_is in
-          let a = t.at in omega (arith, low, i, e, at, a)
+  -- `IsOf` goes by what stays of a row.
+  module _ (IsOf : ℕ → SessionRow → Type 0) (stays_of : (node : ℕ) (old new : SessionRow) → GoesOn old new → IsOf node new → IsOf node old) where
+    pub within_goes : (devices areas : ℕ) (past : OwnersPast) (knew : ℕ → ℕ) → past.told.chain ≡ chain → AreAllowed chain
+        → (d sector index : ℕ) → IsWithin devices areas chain past.holding past.floor IsOf knew d sector index
+        → IsWithin devices areas (grown chain change) past.holding (owners_grown past change).floor IsOf knew d sector index
+    within_goes devices areas past knew same all d sector index within = record {
+      most = let i = index_rises (last chain) change in let m = within.most in omega (arith, i, m);
+      home = λ at is of. reach at (within.home at is of);
+      slot = λ slot less of. told slot (within.slot slot less of);
+    }
+      where
+        told : (slot : ℕ) → IsToldOf devices areas chain past.holding past.floor IsOf knew slot index → IsToldOf devices areas (grown chain change) past.holding (owners_grown past change).floor IsOf knew slot index
+        told slot was node session owner row state is lives of (inl last_is) known entitled has =
+            let i = index_rises (last chain) change in let m = within.most in let e = ap (λ (s : GlobalState). s.index) last_is in omega (arith, i, m, e)
+        told slot was node session owner row state is lives of (inr place) known entitled has =
+            let old = live_before session row is lives (has_less chain state session all place (lives_has state session entitled.lives)) in
+            was node session owner old.0 state old.1 old.2 (stays_of node old.0 row old.3 of) place known entitled
+            (has_before (last chain) change owner has (has_less chain state owner all place (has_of state owner entitled.row entitled.is)))
 
-      told : (slot : ℕ) → IsToldOf devices areas chain past.holding past.floor own knew slot index → IsToldOf devices areas (grown chain change) past.holding (owners_grown past change).floor own knew slot index
-      told slot was node session owner state is (inl last_is) at entitled lives has = absurd (older node session state is last_is at)
-      told slot was node session owner state is (inr place) at entitled lives has =
-          was node session owner state is place at entitled
-          (lives_before (last chain) change session allowed lives (has_less chain state session all place (lives_has state session entitled.lives)))
-          (has_before (last chain) change owner has (has_less chain state owner all place (has_of state owner entitled.row entitled.is)))
+        reach : (at : ℕ) → IsReached devices areas chain past.holding past.floor IsOf knew at index → IsReached devices areas (grown chain change) past.holding (owners_grown past change).floor IsOf knew at index
+        reach at (inl low) = inl (let f = floor_at past at in omega (arith, low, f))
+        reach at (inr (session, row, has, knows)) =
+            let had = row_of (last chain) session row in
+            let less = below_next (last chain).sessions (last chain).next_session session had.0 allowed.rising had.1 in
+            ⊎_elim
+            (λ gone. inl (subst (λ (c : Change). index ≤ floor_after past c at) (sym gone.is)
+            (let high = closed_reaches past session gone.by at same has in let i = index_rises (last chain) (Close session gone.by) in let m = within.most in omega (arith, high, i, m))))
+            (λ stays. inr (
+              session,
+              has_of (effect (last chain) change) session stays.0 stays.1,
+              has_oldest past.holding session at less has,
+              λ node now is lives of. let old = live_before session now is lives less in knows node old.0 old.1 old.2 (stays_of node old.0 now old.3 of),
+            ))
+            (closed_or (last chain) change session had.0 had.1)
 
-      reach : (at : ℕ) → IsReached devices areas chain past.holding past.floor own knew at index → IsReached devices areas (grown chain change) past.holding (owners_grown past change).floor own knew at index
-      reach at (inl low) = inl (let f = floor_at past at in omega (arith, low, f))
-      reach at (inr (session, row, has, knows)) =
-          let had = row_of (last chain) session row in
-          let less = below_next (last chain).sessions (last chain).next_session session had.0 allowed.rising had.1 in
-          ⊎_elim
-          (λ gone. inl (subst (λ (c : Change). index ≤ floor_after past c at) (sym gone.is)
-          (let high = closed_reaches past session gone.by at same has in let i = index_rises (last chain) (Close session gone.by) in let m = within.most in omega (arith, high, i, m))))
-          (λ stays. inr (
-            session,
-            has_of (effect (last chain) change) session stays.0 stays.1,
-            has_oldest past.holding session at less has,
-            λ node is lives. knows node is (lives_before (last chain) change session allowed lives less),
-          ))
-          (closed_or (last chain) change session had.0 had.1)
-
-  pub surely_goes : (devices areas : ℕ) (past : OwnersPast) (own : ℕ → Option ℕ) (knew : ℕ → ℕ) (stands stands_then : ℕ → ℕ → List ℕ → ℕ → Type 0) (writes : List Sent) (greatest : ℕ)
-      → past.told.chain ≡ chain → AreAllowed chain → SessionsStand chain own knew
-      → ((d sector : ℕ) (content : List ℕ) (index : ℕ) → IsOnly writes greatest d sector content → stands d sector content index → stands_then d sector content index)
-      → (d sector : ℕ) (content : List ℕ) → Surely stands (IsWithin devices areas chain past.holding past.floor own knew) writes greatest d sector content
-      → Surely stands_then (IsWithin devices areas (grown chain change) past.holding (owners_grown past change).floor own knew) writes greatest d sector content
-  surely_goes devices areas past own knew stands stands_then writes greatest same all sessions goes d sector content sure = record {
-    index = sure.index;
-    is = goes d sector content sure.index sure.only sure.is;
-    only = sure.only;
-    within = within_goes devices areas past own knew same all sessions d sector sure.index sure.within;
-  }
+    pub surely_goes : (devices areas : ℕ) (past : OwnersPast) (knew : ℕ → ℕ) (stands stands_then : ℕ → ℕ → List ℕ → ℕ → Type 0) (writes : List Sent) (greatest : ℕ)
+        → past.told.chain ≡ chain → AreAllowed chain
+        → ((d sector : ℕ) (content : List ℕ) (index : ℕ) → IsOnly writes greatest d sector content → stands d sector content index → stands_then d sector content index)
+        → (d sector : ℕ) (content : List ℕ) → Surely stands (IsWithin devices areas chain past.holding past.floor IsOf knew) writes greatest d sector content
+        → Surely stands_then (IsWithin devices areas (grown chain change) past.holding (owners_grown past change).floor IsOf knew) writes greatest d sector content
+    surely_goes devices areas past knew stands stands_then writes greatest same all goes d sector content sure = record {
+      index = sure.index;
+      is = goes d sector content sure.index sure.only sure.is;
+      only = sure.only;
+      within = within_goes devices areas past knew same all d sector sure.index sure.within;
+    }
 
   -- ---- logs
 

@@ -20,12 +20,15 @@ use Rattle.bx_views.specs.Truths.{Hints, Truth}
 use Rattle.bx_world_chains.specs.Entitled.{AreAllowed}
 use Rattle.bx_world_chains.proofs.Chains.{has_less, last_place}
 use Rattle.bx_world_chains.proofs.Rows.{has_of, lives_before, lives_has}
+use Rattle.bx_world_chains.proofs.Sessions.{own_row}
 use Rattle.bx_world_logs.specs.Logs.{SlotStands, begins, idle}
 use Rattle.bx_world_views.specs.Views.{AreApart, Doubt}
 use Rattle.bx_world_views.proofs.Steps.{goes_on}
 use Rattle.bx_world_standing.specs.Closings.{ClosingStands}
+use Rattle.bx_world_standing.specs.Sessions.{IsOfNode}
 use Rattle.bx_world_standing.specs.Standing.{Course, Known, StandsAt, SureOf, own_up}
 use Rattle.bx_world_standing.proofs.Grown.{closing_goes, doubts_go, logs_go, rights_go, sessions_go, surely_goes, writes_go}
+use Rattle.bx_world_standing.proofs.Owns.{of_before}
 use Rattle.bx_world_chains.proofs.Changed.{closed_or}
 
 -- the pasts with one change more
@@ -79,14 +82,13 @@ module _ {G O S T : Type 0} (g : register.Ghosts G) (o : owners.Ghosts O) (st : 
       own = at.parts.own;
     };
     labels = at.labels;
-    sessions = sessions_go c.register.chain change allowed_last legal own knew at.sessions;
+    sessions = sessions_go c.register.chain change allowed_last legal o.by_boot known.clocks own knew at.sessions;
     logs = logs_go c.register.chain change allowed_last legal (SureOf g o st Stands Step register_is owners_are store_is x known c) (SureOf g o st Stands Step register_then owners_are store_is x known (grown_course c change))
         devices areas c.before c.logs c.slots c.truth c.store.writes
-        (surely_goes c.register.chain change allowed_last legal devices areas c.owners own knew (st.stands store_is x c.store) (st.stands store_is x (store_grown c.store change)) c.store.writes c.store.told.greatest at.pasts.owners_chain allowed at.sessions store_goes.1)
+        (surely_goes c.register.chain change allowed_last legal (IsOfNode o.by_boot known.clocks) (of_before o.by_boot known.clocks) devices areas c.owners knew (st.stands store_is x c.store) (st.stands store_is x (store_grown c.store change)) c.store.writes c.store.told.greatest at.pasts.owners_chain allowed store_goes.1)
         closing at.logs;
     rights = rights_go c.register.chain change allowed_last legal (SureOf g o st Stands Step register_is owners_are store_is x known c) devices areas c.before c.logs c.slots c.truth c.owners.holding at.logs at.rights;
     writes = writes_go c.register.chain change allowed_last legal devices areas c.owners.holding c.owners.leases c.logs c.slots c.store.writes closing at.writes;
-    quiet = at.quiet;
     closings = λ gone by proposed. closing_goes c.register.chain change allowed_last legal devices c.logs c.slots c.store.writes gone by (at.closings gone by proposed);
     volume = goes_on Stands Step c.owners.holding c.owners.holding (HasRow (last c.register.chain)) (LivesIn (last c.register.chain)) (HasRow (last (grown c.register.chain change))) (LivesIn (last (grown c.register.chain change)))
         own own known.held known.held known.hints known.hints c.doubts c.truth tree
@@ -96,7 +98,7 @@ module _ {G O S T : Type 0} (g : register.Ghosts G) (o : owners.Ghosts O) (st : 
         (λ node other session is is_other lives. at.volume.single node other session is is_other (still node session is lives))
         (λ session doubt is has. row_then session doubt is has (at.doubted.only session doubt is))
         (λ node session is lives. inl (is, still node session is lives))
-        (λ node place mode block is. is)
+        (λ node session place mode block own_is lives is. is)
         (λ node. inl refl)
         at.volume;
     doubted = doubts_go c.register.chain change allowed_last legal devices c.logs c.slots c.doubts at.doubted free_idle
@@ -133,7 +135,8 @@ module _ {G O S T : Type 0} (g : register.Ghosts G) (o : owners.Ghosts O) (st : 
       still : (node session : ℕ) → own node ≡ Some session → LivesIn (last (grown c.register.chain change)) session → LivesIn (last c.register.chain) session
       still node session is lives =
           let t = at.sessions.told node session is in
-          lives_before (last c.register.chain) change session allowed_last lives (has_less c.register.chain t.state session allowed t.place (has_of t.state session t.row t.is))
+          let own_it = own_row o.by_boot t.state node (known.clocks.boots (Node node)) session (allowed.each t.state t.place) t.by in
+          lives_before (last c.register.chain) change session allowed_last lives (has_less c.register.chain t.state session allowed t.place (has_of t.state session own_it.row own_it.is))
 
       row_then : (session : ℕ) (doubt : Doubt) → c.doubts session ≡ Some doubt → HasRow (last c.register.chain) session → (row : SessionRow) × (row_in (last c.register.chain).sessions session ≡ Some row) × (begins (c.slots row.slot).activity ≡ true)
           → HasRow (last (grown c.register.chain change)) session

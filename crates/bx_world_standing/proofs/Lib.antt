@@ -1,3 +1,4 @@
 pub mod Grown
 pub mod Grows
 pub mod Owns
+pub mod Told

@@ -1,5 +1,5 @@
 -- Who may write what, and who has read it: sessions by the last state of the chain, by what they hold, and by the logs of slots.
-use Rattle.std.specs.Prelude.{◌≡◌, ◌⊎◌, ℕ, ◌+◌, ◌<◌, ◌≤◌, true, List, Contains, Option, Some}
+use Rattle.std.specs.Prelude.{◌≡◌, ◌⊎◌, ℕ, ◌+◌, ◌<◌, ◌≤◌, true, List, Contains, Some}
 use Rattle.bx_facts.specs.Chains.{Chain, HasRow, IsPlace, LivesIn, last, oldest}
 use Rattle.bx_facts.specs.Holds.{Holds, is_exclusive}
 use Rattle.bx_facts.specs.Writes.{IsOnly, Sent, WritesTo}
@@ -43,17 +43,20 @@ pub record WritesStand (devices areas : ℕ) (s : GlobalState) (holding : Holds)
   pub given : (write : Sent) → Contains writes write → write.session < s.next_session
   pub may : (write : Sent) (d sector : ℕ) (content : List ℕ) → Contains writes write → LivesIn s write.session → WritesTo write d sector content → MayTouch devices areas s holding logs slots write.session d sector
 
-module _ (devices areas : ℕ) (chain : Chain) (holding : Holds) (floor : ℕ → ℕ) (own : ℕ → Option ℕ) (knew : ℕ → ℕ) where
+-- `IsOf` says that a live session with this row is, or may come to be, a node's.
+module _ (devices areas : ℕ) (chain : Chain) (holding : Holds) (floor : ℕ → ℕ) (IsOf : ℕ → SessionRow → Type 0) (knew : ℕ → ℕ) where
+  -- Each node whose session it is, or may come to be, while it is live, knows as much.
+  abbrev pub IsKnown : ℕ → ℕ → Type 0
+  IsKnown session index = (node : ℕ) (row : SessionRow) → row_in (last chain).sessions session ≡ Some row → row.dead ≡ 0 → IsOf node row → index ≤ knew node
+
   -- Whoever gets a block reaches this index: its floor does; or a session that has a row has the block, and its node, where it is live, knows as much.
   abbrev pub IsReached : ℕ → ℕ → Type 0
-  IsReached at index =
-      (index ≤ floor at)
-      ⊎ ((session : ℕ) × HasRow (last chain) session × HasBlock holding (oldest chain) session at × ((node : ℕ) → own node ≡ Some session → LivesIn (last chain) session → index ≤ knew node))
+  IsReached at index = (index ≤ floor at) ⊎ ((session : ℕ) × HasRow (last chain) session × HasBlock holding (oldest chain) session at × IsKnown session index)
 
-  -- Each that was told that it may write a slot, and is live while the slot's session has a row, was told this index.
+  -- No state by which a live session may write the slot, now or once its node is told that state, is an earlier one, as long as the slot's session has a row.
   abbrev pub IsToldOf : ℕ → ℕ → Type 0
-  IsToldOf slot index = (node session owner : ℕ) (s : GlobalState) → own node ≡ Some session → IsPlace chain s → s.index ≡ knew node → IsEntitled s owner slot session
-      → LivesIn (last chain) session → HasRow (last chain) owner → index ≤ knew node
+  IsToldOf slot index = (node session owner : ℕ) (row : SessionRow) (s : GlobalState) → row_in (last chain).sessions session ≡ Some row → row.dead ≡ 0 → IsOf node row → IsPlace chain s → knew node ≤ s.index
+      → IsEntitled s owner slot session → HasRow (last chain) owner → index ≤ s.index
 
   pub record IsWithin (d s index : ℕ) : Type 0 where
     pub most : index ≤ (last chain).index

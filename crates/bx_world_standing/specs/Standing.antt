@@ -1,5 +1,5 @@
 -- How all machines of a cluster and their disks stand between two events.
-use Rattle.std.specs.Prelude.{◌≡◌, ◌≢◌, ℕ, Bool, false, if◌then◌else◌, List, Contains, Option, Some, None}
+use Rattle.std.specs.Prelude.{ℕ, Bool, if◌then◌else◌, List, Contains, Option, Some, None}
 use Rattle.bx_base.specs.declared.names.Actor.{Actor}
 use Rattle.bx_base.specs.declared.names.Actor.TheVariants.{Node}
 use Rattle.bx_disk.specs.Disks.{Disks, Image}
@@ -22,7 +22,7 @@ use Rattle.bx_world_standing.specs.Doubts.{DoubtsStand}
 use Rattle.bx_world_standing.specs.Labels.{LabelsStand}
 use Rattle.bx_world_standing.specs.Parts.{ArePasts, Clocks, PartsStand}
 use Rattle.bx_world_standing.specs.Rights.{IsWithin, RightsStand, Surely, WritesStand}
-use Rattle.bx_world_standing.specs.Sessions.{SessionsStand}
+use Rattle.bx_world_standing.specs.Sessions.{IsOfNode, SessionsStand}
 
 -- the session of each node that is up
 abbrev pub own_up : (Actor → Bool) → (ℕ → Option ℕ) → ℕ → Option ℕ
@@ -55,21 +55,19 @@ module _ {G O S T : Type 0} (g : register.Ghosts G) (o : owners.Ghosts O) (st : 
   -- a sector stands so between two events, for all that may read it
   abbrev pub SureOf : Known → Course → ℕ → ℕ → List ℕ → Type 0
   SureOf known c = Surely (st.stands store_is x c.store)
-      (IsWithin made_is.devices made_is.areas c.register.chain c.owners.holding c.owners.floor (own_up known.clocks.down (o.own owners_are)) (λ node. c.store.told.knew (Node node)))
+      (IsWithin made_is.devices made_is.areas c.register.chain c.owners.holding c.owners.floor (IsOfNode o.by_boot known.clocks) (λ node. c.store.told.knew (Node node)))
       c.store.writes c.store.told.greatest
 
   -- Register, owners, store and disks stand for the tree: their pasts are one; labels, sessions, logs, rights, writes under way and closings that
-  -- were proposed stand by the last state; a node that has no write out has none that members may still take; and what is on the devices, in
-  -- caches and in doubt stands for the tree.
+  -- were proposed stand by the last state; and what is on the devices, in caches and in doubt stands for the tree.
   pub record StandsAt (known : Known) (c : Course) (tree : T) : Type 0 where
     pub pasts : ArePasts known.letters known.clocks c.register c.owners c.store
     pub parts : PartsStand g o st register_is owners_are store_is x known.clocks c.register c.owners c.store
     pub labels : LabelsStand made_is x
-    pub sessions : SessionsStand c.register.chain (own_up known.clocks.down (o.own owners_are)) (λ node. c.store.told.knew (Node node))
+    pub sessions : SessionsStand o.by_boot c.register.chain known.clocks (own_up known.clocks.down (o.own owners_are)) (λ node. c.store.told.knew (Node node))
     pub logs : LogsStand (SureOf known c) made_is.devices made_is.areas (last c.register.chain).sessions c.before c.logs c.slots c.truth
     pub rights : RightsStand (last c.register.chain).sessions c.owners.holding (oldest c.register.chain) made_is.areas c.logs c.slots
     pub writes : WritesStand made_is.devices made_is.areas (last c.register.chain) c.owners.holding c.owners.leases c.logs c.slots c.store.writes
-    pub quiet : (node session : ℕ) (write : Sent) → known.clocks.down (Node node) ≡ false → st.own store_is node ≡ Some session → st.out_of store_is node ≡ None → Contains c.store.writes write → write.session ≢ session
     pub closings : (gone by : ℕ) → Contains c.register.proposed (Close gone by) → ClosingStands made_is.devices (last c.register.chain) c.logs c.slots c.store.writes gone by
     pub volume : VolumeStands Stands Step c.owners.holding (HasRow (last c.register.chain)) (LivesIn (last c.register.chain)) (own_up known.clocks.down (o.own owners_are)) known.held known.hints c.doubts c.truth tree
     pub doubted : DoubtsStand (last c.register.chain).sessions c.slots c.doubts

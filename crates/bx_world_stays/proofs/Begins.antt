@@ -5,9 +5,11 @@ use Rattle.bx_disk.specs.Disks.{Disks, Image}
 use Rattle.bx_facts.specs.declared.register.Register as register
 use Rattle.bx_facts.specs.declared.store.Store as store
 use Rattle.bx_owners.specs.declared.owners.Owners as owners
+use Rattle.bx_facts.specs.Chains.{session_by}
 use Rattle.bx_facts.specs.Holds.{opening_owners}
 use Rattle.bx_facts.specs.Pasts.{opening_register}
 use Rattle.bx_facts.specs.Writes.{IsSettled, Made, opening_store, store_room}
+use Rattle.bx_global.specs.Allowed.{IsAllowed}
 use Rattle.bx_global.specs.declared.state.GlobalState.{GlobalState}
 use Rattle.bx_rows.specs.Words.{row_in}
 use Rattle.bx_rows.specs.declared.session.SessionRow.{SessionRow}
@@ -17,6 +19,7 @@ use Rattle.bx_volume.specs.Overlay.{Logs}
 use Rattle.bx_volume.specs.Records.{Logged}
 use Rattle.bx_world_chains.proofs.Chains.{last_place}
 use Rattle.bx_world_chains.proofs.Rows.{lives_has}
+use Rattle.bx_world_chains.proofs.Sessions.{own_row}
 use Rattle.bx_world_logs.specs.Logs.{IsInLog, LogsStand, Slot, idle}
 use Rattle.bx_world_logs.proofs.Growing.{rows_go}
 use Rattle.bx_world_views.specs.Views.{Doubt}
@@ -72,13 +75,14 @@ module _ {G O S T : Type 0} (g : register.Ghosts G) (o : owners.Ghosts O) (st : 
       → st.keeps store_is x (opening_store s)
       → o.by_boot ≡ st.by_boot
       → ((node : ℕ) → o.own owners_are node ≡ st.own store_is node)
-      → ((node session : ℕ) → o.own owners_are node ≡ Some session → (row : SessionRow) × (row_in s.sessions session ≡ Some row) × (row.dead ≡ 0) × (row.node ≡ node))
+      → ((node session : ℕ) → o.own owners_are node ≡ Some session → session_by o.by_boot s node 0 ≡ Some session)
+      → IsAllowed s
       → LabelsStand (st.made store_is) x
       → ((device sector : ℕ) (content : List ℕ) → device < (st.made store_is).devices → 1 ≤ sector → sector < store_room (st.made store_is) → IsSettled x s device sector content → st.stands store_is x (opening_store s) device sector content s.index)
       → LogsStand (IsSettledWithin (st.made store_is) x s) (st.made store_is).devices (st.made store_is).areas s.sessions before no_logs (idle_slots more) truth
       → Stands truth no_hints tree
       → StandsAt g o st Stands Step register_is owners_are store_is x opening_known (opening_course s before more truth) tree
-  begins register_is owners_are store_is x s before more truth tree register_keeps knows owners_keep store_keeps same_boots own own_row labels standing logs is = record {
+  begins register_is owners_are store_is x s before more truth tree register_keeps knows owners_keep store_keeps same_boots own own_by allowed labels standing logs is = record {
     pasts = record {
       owners_chain = refl;
       store_chain = refl;
@@ -110,19 +114,17 @@ module _ {G O S T : Type 0} (g : register.Ghosts G) (o : owners.Ghosts O) (st : 
     };
     labels = labels;
     sessions = record {
-      told = λ node session has. let found = own_row node session has in
-          record { state = s; place = last_place (opening_register s).chain; at = refl; row = found.0; is = found.1; lives = found.2; of = found.3 };
+      told = λ node session has. record { state = s; place = last_place (opening_register s).chain; at = refl; by = own_by node session has };
     };
     logs = rows_go (IsSettledWithin (st.made store_is) x s) (SureOf g o st Stands Step register_is owners_are store_is x opening_known (opening_course s before more truth)) (st.made store_is).devices (st.made store_is).areas before
         (λ d sector content in_room. record {
           index = s.index;
           is = standing d sector content in_room.there in_room.behind_label in_room.within in_room.settled;
           only = record { each = λ write other there writes_it. absurd (none_there write there) };
-          within = record { most = omega arith; home = λ at block of. inl (omega arith); slot = λ slot less of node session owner state has place known entitled lives row. omega arith };
+          within = record { most = omega arith; home = λ at block of. inl (omega arith); slot = λ slot less of node session owner row state is lives its place known entitled has. (let e = ap (λ (x : GlobalState). x.index) place in omega (arith, e)) };
         }) s.sessions s.sessions no_logs (idle_slots more) truth (λ slot less. inl refl) logs;
     rights = record { each = λ session row at has in_it. absurd (nothing_in more row.slot at in_it) };
     writes = record { ends = λ write there. absurd (none_there write there); given = λ write there. absurd (none_there write there); may = λ write d sector content there lives writes_it. absurd (none_there write there) };
-    quiet = λ node session write up has none there. absurd (none_there write there);
     closings = λ gone by there. absurd (none_there _ there);
     volume = record {
       is = is;
@@ -138,8 +140,9 @@ module _ {G O S T : Type 0} (g : register.Ghosts G) (o : owners.Ghosts O) (st : 
     where
       single : (node other session : ℕ) → o.own owners_are node ≡ Some session → o.own owners_are other ≡ Some session → other ≡ node
       single node other session has other_has =
-          let one = own_row node session has in let two = own_row other session other_has in
-          let e : one.0 ≡ two.0 = same_row one.0 two.0 one.1 two.1 in sym two.3 ∙ sym (ap (λ (r : SessionRow). r.node) e) ∙ one.3
+          let one = own_row o.by_boot s node 0 session allowed (own_by node session has) in
+          let two = own_row o.by_boot s other 0 session allowed (own_by other session other_has) in
+          let e : one.row ≡ two.row = same_row one.row two.row one.is two.is in sym two.of ∙ sym (ap (λ (r : SessionRow). r.node) e) ∙ one.of
         where
           same_row : (a b : SessionRow) → row_in s.sessions session ≡ Some a → row_in s.sessions session ≡ Some b → a ≡ b
           same_row a b first second = cc

@@ -67,7 +67,6 @@ module _ {G O S T : Type 0} (g : register.Ghosts G) (o : owners.Ghosts O) (st : 
       given = λ write there. at.writes.given write (among write there);
       may = λ write d sector content there lives writes_it. at.writes.may write d sector content (among write there) lives writes_it;
     };
-    quiet = λ node session write up is none there. at.quiet node session write up is none (among write there);
     closings = λ gone by proposed. let was = at.closings gone by proposed in record {
       given = was.given;
       given_by = was.given_by;

@@ -25,7 +25,7 @@ use Rattle.bx_world_views.specs.Views.{AreApart}
 use Rattle.bx_world_standing.specs.Parts.{Clocks}
 use Rattle.bx_world_standing.specs.Labels.{LabelsStand}
 use Rattle.bx_world_standing.specs.Closings.{ClosingStands}
-use Rattle.bx_world_standing.specs.Standing.{Course, Known, StandsAt}
+use Rattle.bx_world_standing.specs.Standing.{Course, Known, StandsAt, own_up}
 use Rattle.bx_world_standing.proofs.Owns.{own_is, own_of}
 use Rattle.bx_world_stays.proofs.Stays.{stays}
 
@@ -116,7 +116,7 @@ module _ {G O S T : Type 0} (g : register.Ghosts G) (o : owners.Ghosts O) (st : 
       → st.keeps store_then y (record c.store { told = told_then c.store.told who index input store_change letters })
       → ((d s : ℕ) (content : List ℕ) (at : ℕ) → IsOnly c.store.writes c.store.told.greatest d s content → st.stands store_is x c.store d s content at
       → st.stands store_then y (record c.store { told = told_then c.store.told who index input store_change letters }) d s content at)
-      → ((node : ℕ) → (st.own store_then node ≡ st.own store_is node) × (st.out_of store_then node ≡ st.out_of store_is node))
+      → ((node : ℕ) → st.own store_then node ≡ st.own store_is node)
       → st.made store_then ≡ st.made store_is
       → LabelsStand (st.made store_is) y
       → ((past : OwnersPast) → o.keeps owners_then past → AreApart past.holding (HasRow (last past.told.chain)))
@@ -153,21 +153,25 @@ module _ {G O S T : Type 0} (g : register.Ghosts G) (o : owners.Ghosts O) (st : 
         owners_knew = λ other. knew c.owners.told.knew at.parts.owners_knew other;
         store_knew = λ other. knew c.store.told.knew at.parts.store_knew other;
         same_boots = at.parts.same_boots;
-        own = λ node up. own node ∙ at.parts.own node up ∙ sym (others node).0;
+        own = λ node up. own node ∙ at.parts.own node up ∙ sym (others node);
       })
       (subst (λ m. LabelsStand m y) (sym made) labels) made keeps (λ block. omega arith) (λ session end is. is) refl
       (rises_then c.store.told.greatest input)
       stands
-      (λ node session is.
-      let had = own_of known.clocks.down (o.own owners_then) node session is in (
-        own_is known.clocks.down (o.own owners_are) node session had.0 (sym (own node) ∙ had.1),
-        ap (λ (t : Bool). if t then index else c.store.told.knew (Node node)) (not_node who none node),
-      ))
+      (λ node session row is lives of. (record { up = of.up; of = of.of; boot = of.boot }, let e = knew_same node in omega (arith, e)))
+      (record { told = λ node session is. let t = at.sessions.told node session (was node session is) in record { state = t.state; place = t.place; at = t.at ∙ sym (knew_same node); by = t.by } })
+      (λ node session is lives. inl (was node session is))
+      (λ node other session is is_other lives. at.volume.single node other session (was node session is) (was other session is_other) lives)
       (subst (λ chain. AreApart holding (HasRow (last chain))) at.pasts.owners_chain (apart (record c.owners { told = told_then c.owners.told who index input owners_change letters; holding = holding }) owners_keep))
-      (λ node session write up is quiet there. at.quiet node session write up (sym (others node).0 ∙ is) (sym (others node).1 ∙ quiet) there)
       (λ gone by there. closing proposal refl gone by there)
-      (λ node place mode block is. is) (λ node. inl refl)
+      (λ node session place mode block own_is lives is. is) (λ node. inl refl)
     where
+      was : (node session : ℕ) → own_up known.clocks.down (o.own owners_then) node ≡ Some session → own_up known.clocks.down (o.own owners_are) node ≡ Some session
+      was node session is = let had = own_of known.clocks.down (o.own owners_then) node session is in own_is known.clocks.down (o.own owners_are) node session had.0 (sym (own node) ∙ had.1)
+
+      knew_same : (node : ℕ) → put_at who index c.store.told.knew (Node node) ≡ c.store.told.knew (Node node)
+      knew_same node = ap (λ (t : Bool). if t then index else c.store.told.knew (Node node)) (not_node who none node)
+
       owned : (found : Option Change) → proposal ≡ found → (change : Change) → Contains (with_change found c.register.proposed) change
           → IsOwnersOwn (with_change owners_change c.owners.told.handed) change × IsStoresOwn (with_change store_change c.store.told.handed) change
       owned None is change there = let old = at.pasts.proposed change there in (owners_more owners_change c.owners.told.handed change old.0, store_more store_change c.store.told.handed change old.1)

@@ -14,6 +14,8 @@ use Rattle.bx_facts.specs.Pasts.{RegisterPast}
 use Rattle.bx_facts.specs.Writes.{IsOnly, Made, Sent, StorePast}
 use Rattle.bx_global.specs.declared.change.Change.TheVariants.{Close}
 use Rattle.bx_global.specs.declared.state.GlobalState.{GlobalState}
+use Rattle.bx_rows.specs.Words.{row_in}
+use Rattle.bx_rows.specs.declared.session.SessionRow.{SessionRow}
 use Rattle.bx_views.specs.Attempts.{Deed}
 use Rattle.bx_views.specs.Truths.{Hints, Truth, no_hints}
 use Rattle.bx_volume.specs.Overlay.{Logs}
@@ -25,6 +27,7 @@ use Rattle.bx_world_standing.specs.Parts.{ArePasts, PartsStand}
 use Rattle.bx_world_standing.specs.Rights.{HasBlock, OfHeld, IsReached, IsToldOf, IsWithin, OfLogged, MayTouch, OfSlot, RightsStand, Surely, WritesStand}
 use Rattle.bx_world_standing.specs.Labels.{LabelsStand}
 use Rattle.bx_world_standing.specs.Closings.{ClosingStands}
+use Rattle.bx_world_standing.specs.Sessions.{IsOfNode, SessionsStand}
 use Rattle.bx_world_standing.specs.Standing.{Course, Known, StandsAt, SureOf, own_up}
 
 -- an exclusive hold stays one
@@ -42,35 +45,34 @@ has_stays old new limit session at keeps (inr less) = inr less
 only_stays : (writes : List Sent) (before after d s : ℕ) (content : List ℕ) → before ≤ after → IsOnly writes before d s content → IsOnly writes after d s content
 only_stays writes before after d s content later only = record { each = λ write other there writes_it. ⊎_elim (λ same. inl same) (λ over. inr (omega (arith, later, over))) (only.each write other there writes_it) }
 
-module _ (devices areas : ℕ) (chain : Chain) (old new : Holds) (floor floor_then : ℕ → ℕ) (own own_then : ℕ → Option ℕ) (knew knew_then : ℕ → ℕ)
+module _ (devices areas : ℕ) (chain : Chain) (old new : Holds) (floor floor_then : ℕ → ℕ) (IsOf IsOf_then : ℕ → SessionRow → Type 0) (knew knew_then : ℕ → ℕ)
     (keeps : KeepsHolds old new) (rises : (at : ℕ) → floor at ≤ floor_then at)
-    (fewer : (node session : ℕ) → own_then node ≡ Some session → (own node ≡ Some session) × (knew_then node ≡ knew node)) where
-  within_stays : (d s index : ℕ) → IsWithin devices areas chain old floor own knew d s index → IsWithin devices areas chain new floor_then own_then knew_then d s index
+    (fewer : (node session : ℕ) (row : SessionRow) → row_in (last chain).sessions session ≡ Some row → row.dead ≡ 0 → IsOf_then node row → IsOf node row × (knew node ≤ knew_then node)) where
+  within_stays : (d s index : ℕ) → IsWithin devices areas chain old floor IsOf knew d s index → IsWithin devices areas chain new floor_then IsOf_then knew_then d s index
   within_stays d s index within = record {
     most = within.most;
     home = λ at is of. reach at (within.home at is of);
     slot = λ slot less of. told slot (within.slot slot less of);
   }
     where
-      told : (slot : ℕ) → IsToldOf devices areas chain old floor own knew slot index → IsToldOf devices areas chain new floor_then own_then knew_then slot index
-      told slot was node session owner state is place at entitled lives has =
-          let had = fewer node session is in
-          let same = had.1 in
-          let low = was node session owner state had.0 place (at ∙ same) entitled lives has in omega (arith, low, same)
+      told : (slot : ℕ) → IsToldOf devices areas chain old floor IsOf knew slot index → IsToldOf devices areas chain new floor_then IsOf_then knew_then slot index
+      told slot was node session owner row state is lives of place at entitled has =
+          let had = fewer node session row is lives of in
+          was node session owner row state is lives had.0 place (let more = had.1 in omega (arith, at, more)) entitled has
 
-      reach : (at : ℕ) → IsReached devices areas chain old floor own knew at index → IsReached devices areas chain new floor_then own_then knew_then at index
+      reach : (at : ℕ) → IsReached devices areas chain old floor IsOf knew at index → IsReached devices areas chain new floor_then IsOf_then knew_then at index
       reach at (inl low) = inl (let r = rises at in omega (arith, low, r))
       reach at (inr (session, row, has, knows)) = inr (
         session,
         row,
         has_stays old new (oldest chain) session at keeps has,
-        λ node is lives. let had = fewer node session is in let same = had.1 in let low = knows node had.0 lives in omega (arith, low, same),
+        λ node one is lives of. let had = fewer node session one is lives of in let low = knows node one is lives had.0 in let more = had.1 in omega (arith, low, more),
       )
 
   surely_stays : (stands stands_then : ℕ → ℕ → List ℕ → ℕ → Type 0) (writes : List Sent) (before after : ℕ) → before ≤ after
       → ((d s : ℕ) (content : List ℕ) (index : ℕ) → IsOnly writes before d s content → stands d s content index → stands_then d s content index)
-      → (d s : ℕ) (content : List ℕ) → Surely stands (IsWithin devices areas chain old floor own knew) writes before d s content
-      → Surely stands_then (IsWithin devices areas chain new floor_then own_then knew_then) writes after d s content
+      → (d s : ℕ) (content : List ℕ) → Surely stands (IsWithin devices areas chain old floor IsOf knew) writes before d s content
+      → Surely stands_then (IsWithin devices areas chain new floor_then IsOf_then knew_then) writes after d s content
   surely_stays stands stands_then writes before after later goes d s content sure = record {
     index = sure.index;
     is = goes d s content sure.index sure.only sure.is;
@@ -97,25 +99,26 @@ module _ {G O S T : Type 0} (g : register.Ghosts G) (o : owners.Ghosts O) (st : 
       → sp.writes ≡ c.store.writes
       → c.store.told.greatest ≤ sp.told.greatest
       → ((d s : ℕ) (content : List ℕ) (index : ℕ) → IsOnly c.store.writes c.store.told.greatest d s content → st.stands store_is x c.store d s content index → st.stands store_then y sp d s content index)
-      → ((node session : ℕ) → own_up now.clocks.down (o.own owners_then) node ≡ Some session → (own_up known.clocks.down (o.own owners_are) node ≡ Some session) × (sp.told.knew (Node node) ≡ c.store.told.knew (Node node)))
+      → ((node session : ℕ) (row : SessionRow) → row_in (last c.register.chain).sessions session ≡ Some row → row.dead ≡ 0 → IsOfNode o.by_boot now.clocks node row
+      → IsOfNode o.by_boot known.clocks node row × (c.store.told.knew (Node node) ≤ sp.told.knew (Node node)))
+      → SessionsStand o.by_boot c.register.chain now.clocks (own_up now.clocks.down (o.own owners_then)) (λ node. sp.told.knew (Node node))
+      → ((node session : ℕ) → own_up now.clocks.down (o.own owners_then) node ≡ Some session → LivesIn (last c.register.chain) session
+      → (own_up known.clocks.down (o.own owners_are) node ≡ Some session) ⊎ ((at : ℕ) (mode : Mode) → now.held node at mode ≡ None))
+      → ((node other session : ℕ) → own_up now.clocks.down (o.own owners_then) node ≡ Some session → own_up now.clocks.down (o.own owners_then) other ≡ Some session → LivesIn (last c.register.chain) session → other ≡ node)
       → AreApart op.holding (HasRow (last c.register.chain))
-      → ((node session : ℕ) (write : Sent) → now.clocks.down (Node node) ≡ false → st.own store_then node ≡ Some session → st.out_of store_then node ≡ None → Contains sp.writes write → write.session ≢ session)
       → ((gone by : ℕ) → Contains r.proposed (Close gone by) → ClosingStands (st.made store_is).devices (last c.register.chain) c.logs c.slots c.store.writes gone by)
-      → ((node at : ℕ) (mode : Mode) (block : Block) → now.held node at mode ≡ Some block → known.held node at mode ≡ Some block)
+      → ((node session at : ℕ) (mode : Mode) (block : Block) → own_up now.clocks.down (o.own owners_then) node ≡ Some session → LivesIn (last c.register.chain) session → now.held node at mode ≡ Some block → known.held node at mode ≡ Some block)
       → ((node : ℕ) → (now.hints node ≡ known.hints node) ⊎ (now.hints node ≡ no_hints))
       → StandsAt g o st Stands Step register_then owners_then store_then y now (record c { register = record r { chain = c.register.chain }; owners = op; store = sp }) tree
-  stays register_is register_then owners_are owners_then store_is store_then x y known now c r op sp tree at pasts parts labels made keeps rises leases writes later goes fewer apart quiet closings held hints = record {
+  stays register_is register_then owners_are owners_then store_is store_then x y known now c r op sp tree at pasts parts labels made keeps rises leases writes later goes fewer sessions owns single apart closings held hints = record {
     pasts = pasts;
     parts = parts;
     labels = labels;
-    sessions = record {
-      told = λ node session is. let had = fewer node session is in let t = at.sessions.told node session had.0 in
-          record { state = t.state; place = t.place; at = t.at ∙ sym had.1; row = t.row; is = t.is; lives = t.lives; of = t.of };
-    };
-    logs = subst (λ (m : Made). LogsStand (Surely (st.stands store_then y sp) (IsWithin m.devices m.areas c.register.chain op.holding op.floor own_then knew_then) sp.writes sp.told.greatest) m.devices m.areas (last c.register.chain).sessions c.before c.logs c.slots c.truth) (sym made)
-        (subst (λ (ws : List Sent). LogsStand (Surely (st.stands store_then y sp) (IsWithin devices areas c.register.chain op.holding op.floor own_then knew_then) ws sp.told.greatest) devices areas (last c.register.chain).sessions c.before c.logs c.slots c.truth) (sym writes)
-        (rows_go (SureOf g o st Stands Step register_is owners_are store_is x known c) (Surely (st.stands store_then y sp) (IsWithin devices areas c.register.chain op.holding op.floor own_then knew_then) c.store.writes sp.told.greatest) devices areas c.before
-        (surely_stays devices areas c.register.chain c.owners.holding op.holding c.owners.floor op.floor own own_then knew knew_then keeps rises fewer (st.stands store_is x c.store) (st.stands store_then y sp) c.store.writes c.store.told.greatest sp.told.greatest later goes)
+    sessions = sessions;
+    logs = subst (λ (m : Made). LogsStand (Surely (st.stands store_then y sp) (IsWithin m.devices m.areas c.register.chain op.holding op.floor (IsOfNode o.by_boot now.clocks) knew_then) sp.writes sp.told.greatest) m.devices m.areas (last c.register.chain).sessions c.before c.logs c.slots c.truth) (sym made)
+        (subst (λ (ws : List Sent). LogsStand (Surely (st.stands store_then y sp) (IsWithin devices areas c.register.chain op.holding op.floor (IsOfNode o.by_boot now.clocks) knew_then) ws sp.told.greatest) devices areas (last c.register.chain).sessions c.before c.logs c.slots c.truth) (sym writes)
+        (rows_go (SureOf g o st Stands Step register_is owners_are store_is x known c) (Surely (st.stands store_then y sp) (IsWithin devices areas c.register.chain op.holding op.floor (IsOfNode o.by_boot now.clocks) knew_then) c.store.writes sp.told.greatest) devices areas c.before
+        (surely_stays devices areas c.register.chain c.owners.holding op.holding c.owners.floor op.floor (IsOfNode o.by_boot known.clocks) (IsOfNode o.by_boot now.clocks) knew knew_then keeps rises fewer (st.stands store_is x c.store) (st.stands store_then y sp) c.store.writes c.store.told.greatest sp.told.greatest later goes)
         (last c.register.chain).sessions (last c.register.chain).sessions c.logs c.slots c.truth (λ slot less. inl refl) at.logs));
     rights = subst (λ (m : Made). RightsStand (last c.register.chain).sessions op.holding (oldest c.register.chain) m.areas c.logs c.slots) (sym made)
         (record { each = λ session row place is in_it. let was = at.rights.each session row place is in_it in (was.0, has_stays c.owners.holding op.holding (oldest c.register.chain) session place keeps was.1) });
@@ -124,16 +127,15 @@ module _ {G O S T : Type 0} (g : register.Ghosts G) (o : owners.Ghosts O) (st : 
           ends = λ write there. let end = at.writes.ends write there in (end.0, leases write.session end.0 end.1, end.2);
           given = at.writes.given;
           may = λ write d sector content there lives writes_it.
-              touch_stays devices areas c.register.chain c.owners.holding op.holding c.owners.floor op.floor own own_then knew knew_then keeps rises fewer (last c.register.chain) c.logs c.slots write.session d sector (at.writes.may write d sector content there lives writes_it);
+              touch_stays devices areas c.register.chain c.owners.holding op.holding c.owners.floor op.floor (IsOfNode o.by_boot known.clocks) (IsOfNode o.by_boot now.clocks) knew knew_then keeps rises fewer (last c.register.chain) c.logs c.slots write.session d sector (at.writes.may write d sector content there lives writes_it);
         }));
-    quiet = quiet;
     closings = λ gone by proposed. subst (λ (m : Made). ClosingStands m.devices (last c.register.chain) c.logs c.slots sp.writes gone by) (sym made)
         (subst (λ (ws : List Sent). ClosingStands devices (last c.register.chain) c.logs c.slots ws gone by) (sym writes) (closings gone by proposed));
     volume = goes_on Stands Step c.owners.holding op.holding (HasRow (last c.register.chain)) (LivesIn (last c.register.chain)) (HasRow (last c.register.chain)) (LivesIn (last c.register.chain))
         own own_then known.held now.held known.hints now.hints c.doubts c.truth tree keeps apart at.volume.rows
-        (λ node other session is is_other lives. at.volume.single node other session (fewer node session is).0 (fewer other session is_other).0 lives)
+        single
         (λ session doubt is has. has)
-        (λ node session is lives. inl ((fewer node session is).0, lives))
+        (λ node session is lives. ⊎_elim (λ had. inl (had, lives)) (λ none. inr none) (owns node session is lives))
         held hints at.volume;
     doubted = at.doubted;
   }

@@ -1,5 +1,5 @@
 -- A machine stops.
-use Rattle.std.proofs.Common.{◌≡◌, ◌≢◌, inl, ℕ, ◌≤◌, Bool, true, false, List, refl, sym, ◌∙◌, ap, subst, arith}
+use Rattle.std.proofs.Common.{◌≡◌, ◌≢◌, inl, ℕ, ◌≤◌, Bool, true, false, List, Some, refl, sym, ◌∙◌, ap, subst, arith}
 use Rattle.std.specs.Prelude.{if◌then◌else◌}
 use Rattle.bx_base.specs.declared.names.Actor.{Actor}
 use Rattle.bx_base.specs.declared.names.Actor.TheVariants.{Node}
@@ -19,7 +19,7 @@ use Rattle.bx_views.specs.Truths.{Hints, Truth}
 use Rattle.bx_world_views.specs.Views.{AreApart}
 use Rattle.bx_world_standing.specs.Parts.{Clocks}
 use Rattle.bx_world_standing.specs.Labels.{LabelsStand}
-use Rattle.bx_world_standing.specs.Standing.{Course, Known, StandsAt}
+use Rattle.bx_world_standing.specs.Standing.{Course, Known, StandsAt, own_up}
 use Rattle.bx_world_standing.proofs.Owns.{own_is, own_of}
 use Rattle.bx_world_stays.proofs.Stays.{stays}
 
@@ -55,7 +55,7 @@ module _ {G O S T : Type 0} (g : register.Ghosts G) (o : owners.Ghosts O) (st : 
       → ((node : ℕ) → who ≢ Node node → o.own owners_then node ≡ o.own owners_are node)
       → st.keeps store_then x (store_crashed c.store who)
       → ((d s : ℕ) (content : List ℕ) (index : ℕ) → st.stands store_is x c.store d s content index → st.stands store_then x (store_crashed c.store who) d s content index)
-      → ((node : ℕ) → who ≢ Node node → (st.own store_then node ≡ st.own store_is node) × (st.out_of store_then node ≡ st.out_of store_is node))
+      → ((node : ℕ) → who ≢ Node node → st.own store_then node ≡ st.own store_is node)
       → st.made store_then ≡ st.made store_is
       → ((past : OwnersPast) → o.keeps owners_then past → AreApart past.holding (HasRow (last past.told.chain)))
       → StandsAt g o st Stands Step register_then owners_then store_then x (crashed_known known who) (crashed_course c who) tree
@@ -88,17 +88,20 @@ module _ {G O S T : Type 0} (g : register.Ghosts G) (o : owners.Ghosts O) (st : 
         owners_knew = λ other. subst (λ (s : GlobalState). c.owners.told.knew other ≤ s.index) (sym (knows other)) (at.parts.owners_knew other);
         store_knew = λ other. subst (λ (s : GlobalState). c.store.told.knew other ≤ s.index) (sym (knows other)) (at.parts.store_knew other);
         same_boots = at.parts.same_boots;
-        own = λ node up. let still = up_then known.clocks.down who (Node node) up in own node still.1 ∙ at.parts.own node still.0 ∙ sym (others node still.1).0;
+        own = λ node up. let still = up_then known.clocks.down who (Node node) up in own node still.1 ∙ at.parts.own node still.0 ∙ sym (others node still.1);
       })
       (subst (λ m. LabelsStand m x) (sym made) at.labels) made
       (record { each = λ session block hold is. is }) (λ block. omega arith) (λ session end is. is) refl (omega arith)
       (λ d s content index only is. stands d s content index is)
-      (λ node session is.
-      let had = own_of (put_at who true known.clocks.down) (o.own owners_then) node session is in
-      let still = up_then known.clocks.down who (Node node) had.0 in
-      (own_is known.clocks.down (o.own owners_are) node session still.0 (sym (own node still.1) ∙ had.1), refl))
+      (λ node session row is lives of. (record { up = (up_then known.clocks.down who (Node node) of.up).0; of = of.of; boot = of.boot }, omega arith))
+      (record { told = λ node session is. let t = at.sessions.told node session (was node session is) in record { state = t.state; place = t.place; at = t.at; by = t.by } })
+      (λ node session is lives. inl (was node session is))
+      (λ node other session is is_other lives. at.volume.single node other session (was node session is) (was other session is_other) lives)
       (subst (λ chain. AreApart c.owners.holding (HasRow (last chain))) at.pasts.owners_chain (apart (owners_crashed c.owners who) owners_keep))
-      (λ node session write up is none there.
-      let still = up_then known.clocks.down who (Node node) up in
-      at.quiet node session write still.0 (sym (others node still.1).0 ∙ is) (sym (others node still.1).1 ∙ none) there)
-      at.closings (λ node place mode block is. is) (λ node. inl refl)
+      at.closings (λ node session place mode block own_is lives is. is) (λ node. inl refl)
+    where
+      was : (node session : ℕ) → own_up (put_at who true known.clocks.down) (o.own owners_then) node ≡ Some session → own_up known.clocks.down (o.own owners_are) node ≡ Some session
+      was node session is =
+          let had = own_of (put_at who true known.clocks.down) (o.own owners_then) node session is in
+          let still = up_then known.clocks.down who (Node node) had.0 in
+          own_is known.clocks.down (o.own owners_are) node session still.0 (sym (own node still.1) ∙ had.1)

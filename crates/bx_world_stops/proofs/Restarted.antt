@@ -7,17 +7,20 @@ use Rattle.bx_disk.specs.Disks.{Disks}
 use Rattle.bx_facts.specs.declared.register.Register as register
 use Rattle.bx_facts.specs.declared.store.Store as store
 use Rattle.bx_owners.specs.declared.owners.Owners as owners
-use Rattle.bx_facts.specs.Chains.{HasOwnBoot, HasRow, last}
+use Rattle.bx_facts.specs.Chains.{HasOwnBoot, HasRow, last, session_by}
 use Rattle.bx_facts.specs.Holds.{OwnersPast}
 use Rattle.bx_facts.specs.Machines.{is_same, put_at}
 use Rattle.bx_facts.specs.Pasts.{RegisterPast, register_restarted, told_restarted}
 use Rattle.bx_facts.specs.Writes.{IsOnly, Sent, StorePast}
 use Rattle.bx_facts.proofs.Machines.{is_itself, is_one}
 use Rattle.bx_post.specs.declared.packets.Letter.{Letter}
+use Rattle.bx_rows.specs.Words.{row_in}
+use Rattle.bx_rows.specs.declared.session.SessionRow.{SessionRow}
 use Rattle.bx_views.specs.Attempts.{Deed}
 use Rattle.bx_views.specs.Truths.{Hints, Truth}
 use Rattle.bx_world_views.specs.Views.{AreApart}
 use Rattle.bx_world_standing.specs.Labels.{LabelsStand}
+use Rattle.bx_world_standing.specs.Sessions.{IsOfNode}
 use Rattle.bx_world_standing.specs.Standing.{Course, Known, StandsAt, own_up}
 use Rattle.bx_world_standing.proofs.Owns.{own_is, own_of}
 use Rattle.bx_world_stays.proofs.Stays.{stays}
@@ -64,7 +67,7 @@ restarted_course c who boot reading letters = record c {
 }
 
 module _ {G O S T : Type 0} (g : register.Ghosts G) (o : owners.Ghosts O) (st : store.Ghosts S) (Stands : Truth → Hints → T → Type 0) (Step : T → Deed → T → Type 0) where
-  -- A node that starts again has no session yet.
+  -- A node that starts again has no session yet; no live session is of the boot with which it does.
   pub restarted : (register_is register_then : G) (owners_are owners_then : O) (store_is store_then : S) (x y : Disks) (known : Known) (c : Course) (tree : T) (who : Actor) (boot reading : ℕ) (letters : List Letter)
       → StandsAt g o st Stands Step register_is owners_are store_is x known c tree
       → known.clocks.most < boot
@@ -75,12 +78,13 @@ module _ {G O S T : Type 0} (g : register.Ghosts G) (o : owners.Ghosts O) (st : 
       → ((node : ℕ) → who ≡ Node node → (o.own owners_then node ≡ None) × (st.own store_then node ≡ None))
       → st.keeps store_then y (store_then_is c.store who boot reading letters)
       → ((d s : ℕ) (content : List ℕ) (index : ℕ) → IsOnly c.store.writes c.store.told.greatest d s content → st.stands store_is x c.store d s content index → st.stands store_then y (store_then_is c.store who boot reading letters) d s content index)
-      → ((node : ℕ) → who ≢ Node node → (st.own store_then node ≡ st.own store_is node) × (st.out_of store_then node ≡ st.out_of store_is node))
+      → ((node : ℕ) → who ≢ Node node → st.own store_then node ≡ st.own store_is node)
+      → ((node session : ℕ) (row : SessionRow) → who ≡ Node node → row_in (last c.register.chain).sessions session ≡ Some row → row.dead ≡ 0 → row.node ≡ node → (o.by_boot ≡ true → row.boot ≡ boot) → ⊥)
       → st.made store_then ≡ st.made store_is
       → LabelsStand (st.made store_is) y
       → ((past : OwnersPast) → o.keeps owners_then past → AreApart past.holding (HasRow (last past.told.chain)))
       → StandsAt g o st Stands Step register_then owners_then store_then y (restarted_known known who boot reading letters) (restarted_course c who boot reading letters) tree
-  restarted register_is register_then owners_are owners_then store_is store_then x y known c tree who boot reading letters at above register_keeps rises owners_keep own fresh store_keeps stands others made labels apart =
+  restarted register_is register_then owners_are owners_then store_is store_then x y known c tree who boot reading letters at above register_keeps rises owners_keep own fresh store_keeps stands others none_of made labels apart =
       stays g o st Stands Step register_is register_then owners_are owners_then store_is store_then x y known (restarted_known known who boot reading letters) c
       (register_then_is c.register who boot letters) (owners_then_are c.owners who boot reading letters) (store_then_is c.store who boot reading letters) tree at
       (record {
@@ -115,10 +119,17 @@ module _ {G O S T : Type 0} (g : register.Ghosts G) (o : owners.Ghosts O) (st : 
       (subst (λ m. LabelsStand m y) (sym made) labels) made
       (record { each = λ session block hold is. is }) (λ block. omega arith) (λ session end is. is) refl (omega arith)
       stands
-      (λ node session is. fewer node session is (put_cases who (Node node) false known.clocks.down) (put_cases who (Node node) 0 c.store.told.knew))
+      (λ node session row is lives of.
+      let differ = other_of node session row is lives of in
+      (record { up = still_up node differ of.up; of = of.of; boot = λ so. of.boot so ∙ same_boot node differ }, let e = same_knew node differ in omega (arith, e)))
+      (record {
+        told = λ node session is. let had = owned node session is in let t = at.sessions.told node session had.0 in
+            record { state = t.state; place = t.place; at = t.at ∙ sym (same_knew node had.1); by = subst (λ (n : ℕ). session_by o.by_boot t.state node n ≡ Some session) (sym (same_boot node had.1)) t.by };
+      })
+      (λ node session is lives. inl (owned node session is).0)
+      (λ node other session is is_other lives. at.volume.single node other session (owned node session is).0 (owned other session is_other).0 lives)
       (subst (λ chain. AreApart c.owners.holding (HasRow (last chain))) at.pasts.owners_chain (apart (owners_then_are c.owners who boot reading letters) owners_keep))
-      (λ node session write up is none there. quiet node session write up is none there (put_cases who (Node node) false known.clocks.down))
-      at.closings (λ node place mode block is. is) (λ node. inl refl)
+      at.closings (λ node session place mode block own_is lives is. is) (λ node. inl refl)
     where
       most_then : (old : Actor → ℕ) → ((other : Actor) → old other ≤ known.clocks.most) → (other : Actor) → put_at who boot old other ≤ boot
       most_then old low other = ⊎_elim (λ same. let e = same.1 in omega (arith, e)) (λ differ. let e = differ.1 in let l = low other in omega (arith, e, l, above)) (put_cases who other boot old)
@@ -151,25 +162,32 @@ module _ {G O S T : Type 0} (g : register.Ghosts G) (o : owners.Ghosts O) (st : 
           → ((who ≡ Node node) × (put_at who false known.clocks.down (Node node) ≡ false)) ⊎ ((who ≢ Node node) × (put_at who false known.clocks.down (Node node) ≡ known.clocks.down (Node node)))
           → o.own owners_then node ≡ st.own store_then node
       same_own node up (inl same) = let both = fresh node same.0 in both.0 ∙ sym both.1
-      same_own node up (inr differ) = own node differ.0 ∙ at.parts.own node (sym differ.1 ∙ up) ∙ sym (others node differ.0).0
+      same_own node up (inr differ) = own node differ.0 ∙ at.parts.own node (sym differ.1 ∙ up) ∙ sym (others node differ.0)
 
-      fewer : (node session : ℕ) → own_up (put_at who false known.clocks.down) (o.own owners_then) node ≡ Some session
-          → ((who ≡ Node node) × (put_at who false known.clocks.down (Node node) ≡ false)) ⊎ ((who ≢ Node node) × (put_at who false known.clocks.down (Node node) ≡ known.clocks.down (Node node)))
-          → ((who ≡ Node node) × (put_at who 0 c.store.told.knew (Node node) ≡ 0)) ⊎ ((who ≢ Node node) × (put_at who 0 c.store.told.knew (Node node) ≡ c.store.told.knew (Node node)))
-          → (own_up known.clocks.down (o.own owners_are) node ≡ Some session) × (put_at who 0 c.store.told.knew (Node node) ≡ c.store.told.knew (Node node))
-      fewer node session is (inl same) more =
-          let had = own_of (put_at who false known.clocks.down) (o.own owners_then) node session is in
-          absurd (let none = (fresh node same.0).0 in let some = had.1 in cc)
-      fewer node session is (inr differ) (inl same) = absurd (differ.0 same.0)
-      fewer node session is (inr differ) (inr still) =
-          let had = own_of (put_at who false known.clocks.down) (o.own owners_then) node session is in
-          (own_is known.clocks.down (o.own owners_are) node session (sym differ.1 ∙ had.0) (sym (own node differ.0) ∙ had.1), still.1)
+      -- whose row is one that may be a node's is of a node that didn't start now
+      other_of : (node session : ℕ) (row : SessionRow) → row_in (last c.register.chain).sessions session ≡ Some row → row.dead ≡ 0 → IsOfNode o.by_boot (restarted_known known who boot reading letters).clocks node row → who ≢ Node node
+      other_of node session row is lives of e = none_of node session row e is lives of.of (λ so. of.boot so ∙ here e (put_cases who (Node node) boot known.clocks.boots))
+        where
+          here : who ≡ Node node → ((who ≡ Node node) × (put_at who boot known.clocks.boots (Node node) ≡ boot)) ⊎ ((who ≢ Node node) × (put_at who boot known.clocks.boots (Node node) ≡ known.clocks.boots (Node node)))
+              → put_at who boot known.clocks.boots (Node node) ≡ boot
+          here e (inl same) = same.1
+          here e (inr differ) = absurd (differ.0 e)
 
-      quiet : (node session : ℕ) (write : Sent) → put_at who false known.clocks.down (Node node) ≡ false → st.own store_then node ≡ Some session → st.out_of store_then node ≡ None → Contains c.store.writes write
-          → ((who ≡ Node node) × (put_at who false known.clocks.down (Node node) ≡ false)) ⊎ ((who ≢ Node node) × (put_at who false known.clocks.down (Node node) ≡ known.clocks.down (Node node)))
-          → write.session ≢ session
-      quiet node session write up is none there (inl same) = absurd (let no = (fresh node same.0).1 in cc)
-      quiet node session write up is none there (inr differ) = at.quiet node session write (sym differ.1 ∙ up) (sym (others node differ.0).0 ∙ is) (sym (others node differ.0).1 ∙ none) there
+      still_up : (node : ℕ) → who ≢ Node node → put_at who false known.clocks.down (Node node) ≡ false → known.clocks.down (Node node) ≡ false
+      still_up node differ up = up_before (Node node) up differ
+
+      same_boot : (node : ℕ) → who ≢ Node node → put_at who boot known.clocks.boots (Node node) ≡ known.clocks.boots (Node node)
+      same_boot node differ = ⊎_elim (λ same. absurd (differ same.0)) (λ other. other.1) (put_cases who (Node node) boot known.clocks.boots)
+
+      same_knew : (node : ℕ) → who ≢ Node node → put_at who 0 c.store.told.knew (Node node) ≡ c.store.told.knew (Node node)
+      same_knew node differ = ⊎_elim (λ same. absurd (differ same.0)) (λ other. other.1) (put_cases who (Node node) 0 c.store.told.knew)
+
+      -- a node that has a session didn't start now, and had it
+      owned : (node session : ℕ) → own_up (put_at who false known.clocks.down) (o.own owners_then) node ≡ Some session → (own_up known.clocks.down (o.own owners_are) node ≡ Some session) × (who ≢ Node node)
+      owned node session is =
+          let had = own_of (put_at who false known.clocks.down) (o.own owners_then) node session is in
+          let differ : who ≢ Node node = λ e. (let none = (fresh node e).0 in let some = had.1 in cc) in
+          (own_is known.clocks.down (o.own owners_are) node session (still_up node differ had.0) (sym (own node differ) ∙ had.1), differ)
 
   -- Letters are lost; the disk of a machine that is down crashes, or is replaced.
   pub remains : (register_is : G) (owners_are : O) (store_is : S) (x y : Disks) (known : Known) (c : Course) (tree : T) (letters : List Letter)
@@ -215,4 +233,4 @@ module _ {G O S T : Type 0} (g : register.Ghosts G) (o : owners.Ghosts O) (st : 
         own = at.parts.own;
       })
       labels refl (record { each = λ session block hold is. is }) (λ block. omega arith) (λ session end is. is) refl (omega arith)
-      stands (λ node session is. (is, refl)) at.volume.apart at.quiet at.closings (λ node place mode block is. is) (λ node. inl refl)
+      stands (λ node session row is lives of. (of, omega arith)) at.sessions (λ node session is lives. inl is) at.volume.single at.volume.apart at.closings (λ node session place mode block own_is lives is. is) (λ node. inl refl)

@@ -1,12 +1,12 @@
 -- A machine stops inside an event: at a fault of its disk, in what it was handed or as it started again. What it would have sent isn't sent.
-use Rattle.std.proofs.Common.{◌≡◌, ◌≢◌, inl, ℕ, ◌≤◌, true, false, List, Contains, refl, sym, ◌∙◌, subst, arith}
+use Rattle.std.proofs.Common.{◌≡◌, ◌≢◌, inl, ℕ, ◌≤◌, true, false, List, Contains, Some, refl, sym, ◌∙◌, subst, arith}
 use Rattle.bx_base.specs.declared.names.Actor.{Actor}
 use Rattle.bx_base.specs.declared.names.Actor.TheVariants.{Node}
 use Rattle.bx_disk.specs.Disks.{Disks}
 use Rattle.bx_facts.specs.declared.register.Register as register
 use Rattle.bx_facts.specs.declared.store.Store as store
 use Rattle.bx_owners.specs.declared.owners.Owners as owners
-use Rattle.bx_facts.specs.Chains.{HasOwnBoot, HasRow, IsOwnersOwn, IsStoresOwn, last}
+use Rattle.bx_facts.specs.Chains.{HasOwnBoot, HasRow, IsOwnersOwn, IsStoresOwn, last, session_by}
 use Rattle.bx_facts.specs.Holds.{KeepsHolds, OwnersPast}
 use Rattle.bx_facts.specs.Machines.{put_at}
 use Rattle.bx_facts.specs.Pasts.{RegisterPast}
@@ -19,7 +19,7 @@ use Rattle.bx_views.specs.Truths.{Hints, Truth}
 use Rattle.bx_world_views.specs.Views.{AreApart}
 use Rattle.bx_world_standing.specs.Parts.{Clocks}
 use Rattle.bx_world_standing.specs.Labels.{LabelsStand}
-use Rattle.bx_world_standing.specs.Standing.{Course, Known, StandsAt}
+use Rattle.bx_world_standing.specs.Standing.{Course, Known, StandsAt, own_up}
 use Rattle.bx_world_standing.proofs.Owns.{own_is, own_of}
 use Rattle.bx_world_stops.proofs.Crashed.{up_then}
 use Rattle.bx_world_stays.proofs.Stays.{stays}
@@ -66,7 +66,7 @@ module _ {G O S T : Type 0} (g : register.Ghosts G) (o : owners.Ghosts O) (st : 
       → ((node : ℕ) → who ≢ Node node → o.own owners_then node ≡ o.own owners_are node)
       → st.keeps store_then y sp
       → ((d s : ℕ) (content : List ℕ) (index : ℕ) → IsOnly c.store.writes c.store.told.greatest d s content → st.stands store_is x c.store d s content index → st.stands store_then y sp d s content index)
-      → ((node : ℕ) → who ≢ Node node → (st.own store_then node ≡ st.own store_is node) × (st.out_of store_then node ≡ st.out_of store_is node))
+      → ((node : ℕ) → who ≢ Node node → st.own store_then node ≡ st.own store_is node)
       → st.made store_then ≡ st.made store_is
       → LabelsStand (st.made store_is) y
       → ((past : OwnersPast) → o.keeps owners_then past → AreApart past.holding (HasRow (last past.told.chain)))
@@ -102,21 +102,29 @@ module _ {G O S T : Type 0} (g : register.Ghosts G) (o : owners.Ghosts O) (st : 
         owners_knew = owners_knew;
         store_knew = store_knew;
         same_boots = at.parts.same_boots;
-        own = λ node up. let was = before (Node node) up in own node was.1 ∙ at.parts.own node was.0 ∙ sym (others node was.1).0;
+        own = λ node up. let was = before (Node node) up in own node was.1 ∙ at.parts.own node was.0 ∙ sym (others node was.1);
       })
       (subst (λ m. LabelsStand m y) (sym made) labels) made is.holds is.floor
       (λ session end there. subst (λ (all : List (ℕ × ℕ)). Contains all (session, end)) (sym is.leases) there) is.writes is.later
       stands
-      (λ node session has.
-      let had = own_of clocks.down (o.own owners_then) node session has in
-      let was = before (Node node) had.0 in
-      (own_is known.clocks.down (o.own owners_are) node session was.0 (sym (own node was.1) ∙ had.1), is.store_knew (Node node) was.1))
+      (λ node session row found lives of.
+      let was = before (Node node) of.up in
+      (record { up = was.0; of = of.of; boot = λ so. of.boot so ∙ is.clocks_boots (Node node) was.1 }, let e = is.store_knew (Node node) was.1 in omega (arith, e)))
+      (record {
+        told = λ node session has. let had = owned node session has in let t = at.sessions.told node session had.0 in
+            record { state = t.state; place = t.place; at = t.at ∙ sym (is.store_knew (Node node) had.1); by = subst (λ (n : ℕ). session_by o.by_boot t.state node n ≡ Some session) (sym (is.clocks_boots (Node node) had.1)) t.by };
+      })
+      (λ node session has lives. inl (owned node session has).0)
+      (λ node other session has has_too lives. at.volume.single node other session (owned node session has).0 (owned other session has_too).0 lives)
       (subst (λ chain. AreApart op.holding (HasRow (last chain))) is.owners_chain (apart op owners_keep))
-      (λ node session write up has none there.
-      let was = before (Node node) up in
-      at.quiet node session write was.0 (sym (others node was.1).0 ∙ has) (sym (others node was.1).1 ∙ none) (subst (λ (all : List Sent). Contains all write) is.writes there))
       (λ gone by there. at.closings gone by (subst (λ (all : List Change). Contains all (Close gone by)) is.proposed there))
-      (λ node place mode block shows. shows) (λ node. inl refl)
+      (λ node session place mode block own_is lives shows. shows) (λ node. inl refl)
     where
       before : (other : Actor) → clocks.down other ≡ false → (known.clocks.down other ≡ false) × (who ≢ other)
       before other up = up_then known.clocks.down who other (sym (is.clocks_down other) ∙ up)
+
+      owned : (node session : ℕ) → own_up clocks.down (o.own owners_then) node ≡ Some session → (own_up known.clocks.down (o.own owners_are) node ≡ Some session) × (who ≢ Node node)
+      owned node session has =
+          let had = own_of clocks.down (o.own owners_then) node session has in
+          let was = before (Node node) had.0 in
+          (own_is known.clocks.down (o.own owners_are) node session was.0 (sym (own node was.1) ∙ had.1), was.1)

@@ -107,7 +107,7 @@ module _ {T : Type 0} (Stands : Truth → Hints → T → Type 0) (Step : T → 
       → ((node other session : ℕ) → now node ≡ Some session → now other ≡ Some session → Still session → other ≡ node)
       → ((session : ℕ) (doubt : Doubt) → doubts session ≡ Some doubt → HasRow session → Row session)
       → ((node session : ℕ) → now node ≡ Some session → Still session → (own node ≡ Some session) × Lives session ⊎ ((at : ℕ) (mode : Mode) → after node at mode ≡ None))
-      → ((node at : ℕ) (mode : Mode) (block : Block) → after node at mode ≡ Some block → held node at mode ≡ Some block)
+      → ((node session at : ℕ) (mode : Mode) (block : Block) → now node ≡ Some session → Still session → after node at mode ≡ Some block → held node at mode ≡ Some block)
       → ((node : ℕ) → (later node ≡ hints node) ⊎ (later node ≡ no_hints))
       → VolumeStands Stands Step old HasRow Lives own held hints doubts truth tree
       → VolumeStands Stands Step new Row Still now after later doubts truth tree
@@ -116,17 +116,17 @@ module _ {T : Type 0} (Stands : Truth → Hints → T → Type 0) (Step : T → 
     apart = apart;
     rows = rows;
     single = single;
-    views = λ node session is still. by_was node session (was node session is still);
+    views = λ node session is still. by_was node session is still (was node session is still);
     hinted = λ node. by_hint node (hinting node);
     in_doubt = λ session. by_doubt session (doubts session) refl (stands.in_doubt session);
   }
     where
-      by_was : (node session : ℕ) → (own node ≡ Some session) × Lives session ⊎ ((at : ℕ) (mode : Mode) → after node at mode ≡ None) → ViewStands new truth session (after node)
-      by_was node session (inl is) = let view = view_keeps old new truth session (held node) keeps (stands.views node session is.0 is.1) in record {
-        is_truth = record { each = λ at mode block has. view.is_truth.each at mode block (fewer node at mode block has) };
-        holds = λ at mode block has. view.holds at mode block (fewer node at mode block has);
+      by_was : (node session : ℕ) → now node ≡ Some session → Still session → (own node ≡ Some session) × Lives session ⊎ ((at : ℕ) (mode : Mode) → after node at mode ≡ None) → ViewStands new truth session (after node)
+      by_was node session now_is still (inl is) = let view = view_keeps old new truth session (held node) keeps (stands.views node session is.0 is.1) in record {
+        is_truth = record { each = λ at mode block has. view.is_truth.each at mode block (fewer node session at mode block now_is still has) };
+        holds = λ at mode block has. view.holds at mode block (fewer node session at mode block now_is still has);
       }
-      by_was node session (inr none) = record {
+      by_was node session now_is still (inr none) = record {
         is_truth = record { each = λ at mode block has. absurd (let e = none at mode in cc) };
         holds = λ at mode block has. absurd (let e = none at mode in cc);
       }

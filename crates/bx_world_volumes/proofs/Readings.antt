@@ -18,7 +18,9 @@ use Rattle.bx_model.specs.FileTrees.{IsFileTree}
 use Rattle.bx_places.specs.Places.{disk_count, disk_sectors, member_sectors, replica_sectors}
 use Rattle.bx_redo.proofs.Settled.{one_disk, settled_has}
 use Rattle.bx_rows.specs.declared.device.DeviceRow.{DeviceRow}
+use Rattle.bx_rows.specs.declared.session.SessionRow.{SessionRow}
 use Rattle.bx_rows.specs.Modes.{IsSource}
+use Rattle.bx_rows.specs.Rows.{GoesOn}
 use Rattle.bx_truth.specs.Stands.{StandsFor}
 use Rattle.bx_views.specs.Truths.{Truth}
 use Rattle.bx_volume.specs.Images.{IsFirstLabel, IsLabelled, IsOwnLabel, member_disk}
@@ -31,7 +33,6 @@ use Rattle.bx_world_logs.specs.Shown.{ShowsTo}
 use Rattle.bx_world_logs.proofs.Growing.{rows_go}
 use Rattle.bx_world_images.proofs.Volume.{SureIn, is_volume}
 use Rattle.bx_world_standing.specs.Rights.{IsWithin, Surely}
-use Rattle.bx_world_standing.specs.Sessions.{SessionsStand}
 use Rattle.bx_world_standing.specs.Labels.{HasNoLabel, LabelsStand}
 use Rattle.bx_world_standing.specs.Closings.{ClosingStands}
 use Rattle.bx_world_standing.proofs.Grown.{logs_go, surely_goes}
@@ -60,23 +61,23 @@ module _ (x : Disks) (made : Made) (keeps : StorePast → Type 0) (stands : Stor
     members = labelled sp kept;
   })
 
-  pub next_stands : (sp : StorePast) (op : OwnersPast) (own : ℕ → Option ℕ) (knew : ℕ → ℕ) (proposed : List Change) (s : GlobalState) (before : Image) (logs : Logs) (slots : ℕ → Slot) (truth : Truth)
-      → keeps sp → op.told.chain ≡ sp.told.chain → AreAllowed sp.told.chain → SessionsStand sp.told.chain own knew
+  pub next_stands : (sp : StorePast) (op : OwnersPast) (IsOf : ℕ → SessionRow → Type 0) (stays_of : (node : ℕ) (old new : SessionRow) → GoesOn old new → IsOf node new → IsOf node old) (knew : ℕ → ℕ) (proposed : List Change) (s : GlobalState) (before : Image) (logs : Logs) (slots : ℕ → Slot) (truth : Truth)
+      → keeps sp → op.told.chain ≡ sp.told.chain → AreAllowed sp.told.chain
       → ((change : Change) → Contains proposed change → IsStoresOwn sp.told.handed change)
       → ((gone by : ℕ) → Contains proposed (Close gone by) → ClosingStands made.devices (last sp.told.chain) logs slots sp.writes gone by)
-      → LogsStand (Surely (stands sp) (IsWithin made.devices made.areas sp.told.chain op.holding op.floor own knew) sp.writes sp.told.greatest) made.devices made.areas (last sp.told.chain).sessions before logs slots truth
+      → LogsStand (Surely (stands sp) (IsWithin made.devices made.areas sp.told.chain op.holding op.floor IsOf knew) sp.writes sp.told.greatest) made.devices made.areas (last sp.told.chain).sessions before logs slots truth
       → IsNext proposed (last sp.told.chain) s → StandsIn x made before logs slots truth s
-  next_stands sp op own knew proposed s before logs slots truth kept same all sessions owned closing st (inl is) =
-      stands_at sp s before logs slots truth (IsWithin made.devices made.areas sp.told.chain op.holding op.floor own knew) kept is st
-  next_stands sp op own knew proposed s before logs slots truth kept same all sessions owned closing st (inr (change, there, legal, is)) =
+  next_stands sp op IsOf stays_of knew proposed s before logs slots truth kept same all owned closing st (inl is) =
+      stands_at sp s before logs slots truth (IsWithin made.devices made.areas sp.told.chain op.holding op.floor IsOf knew) kept is st
+  next_stands sp op IsOf stays_of knew proposed s before logs slots truth kept same all owned closing st (inr (change, there, legal, is)) =
       let grew = grows sp change kept legal (owned change there) in
       let allowed = all.each (last sp.told.chain) (last_is sp.told.chain) in
-      stands_at (store_grown sp change) s before logs slots truth (IsWithin made.devices made.areas (grown sp.told.chain change) op.holding (owners_grown op change).floor own knew) grew.0 is
+      stands_at (store_grown sp change) s before logs slots truth (IsWithin made.devices made.areas (grown sp.told.chain change) op.holding (owners_grown op change).floor IsOf knew) grew.0 is
       (logs_go sp.told.chain change allowed legal
-      (Surely (stands sp) (IsWithin made.devices made.areas sp.told.chain op.holding op.floor own knew) sp.writes sp.told.greatest)
-      (Surely (stands (store_grown sp change)) (IsWithin made.devices made.areas (grown sp.told.chain change) op.holding (owners_grown op change).floor own knew) sp.writes sp.told.greatest)
+      (Surely (stands sp) (IsWithin made.devices made.areas sp.told.chain op.holding op.floor IsOf knew) sp.writes sp.told.greatest)
+      (Surely (stands (store_grown sp change)) (IsWithin made.devices made.areas (grown sp.told.chain change) op.holding (owners_grown op change).floor IsOf knew) sp.writes sp.told.greatest)
       made.devices made.areas before logs slots truth sp.writes
-      (surely_goes sp.told.chain change allowed legal made.devices made.areas op own knew (stands sp) (stands (store_grown sp change)) sp.writes sp.told.greatest same all sessions grew.1)
+      (surely_goes sp.told.chain change allowed legal IsOf stays_of made.devices made.areas op knew (stands sp) (stands (store_grown sp change)) sp.writes sp.told.greatest same all grew.1)
       (λ gone by e. closing gone by (subst (λ (c : Change). Contains proposed c) e there))
       st)
     where

@@ -217,7 +217,6 @@ module _ {G O S T : Type 0} (g : register.Ghosts G) (o : owners.Ghosts O) (st : 
       logs = settled.stand;
       rights = record { each = λ who row place is in_it. at.rights.each who row place is (in_before row.slot place in_it) };
       writes = record { ends = at.writes.ends; given = at.writes.given; may = λ write d sector content there lives writes_it. touch write d sector there (at.writes.may write d sector content there lives writes_it) };
-      quiet = at.quiet;
       closings = λ who by proposed. closing who by proposed;
       volume = volume.2;
       doubted = doubts_stand;

@@ -23,7 +23,8 @@ use Rattle.bx_world_logs.specs.Logs.{LogsStand}
 use Rattle.bx_world_images.proofs.Audited.{audit_stands}
 use Rattle.bx_world_views.specs.Views.{Doubt, StepOf}
 use Rattle.bx_world_standing.specs.Rights.{IsWithin, Surely}
-use Rattle.bx_world_standing.specs.Sessions.{SessionsStand}
+use Rattle.bx_world_standing.specs.Sessions.{IsOfNode}
+use Rattle.bx_world_standing.proofs.Owns.{of_before}
 use Rattle.bx_world_standing.specs.Closings.{ClosingStands}
 use Rattle.bx_world_standing.specs.Standing.{Course, Known, StandsAt, own_up}
 use Rattle.bx_world_volumes.proofs.Readings.{StandsIn, next_stands, rack_is_volume}
@@ -54,13 +55,12 @@ module _ {G O S : Type 0} (g : register.Ghosts G) (o : owners.Ghosts O) (st : st
   next : (image : Image) (s : GlobalState) → IsImage x image → IsState image s → StandsIn x (st.made store_is) c.before c.logs c.slots c.truth s
   next image s is_image is_state =
       next_stands x (st.made store_is) (st.keeps store_is x) (st.stands store_is x) (st.settled store_is x) laws.settles laws.settled_is laws.grows laws.labelled
-      c.store c.owners (own_up known.clocks.down (o.own owners_are)) (λ node. c.store.told.knew (Node node)) c.register.proposed s c.before c.logs c.slots c.truth
+      c.store c.owners (IsOfNode o.by_boot known.clocks) (of_before o.by_boot known.clocks) (λ node. c.store.told.knew (Node node)) c.register.proposed s c.before c.logs c.slots c.truth
       at.parts.store_keeps (at.pasts.owners_chain ∙ sym at.pasts.store_chain)
       (subst (λ (chain : Chain). AreAllowed chain) same allowed)
-      (subst (λ (chain : Chain). SessionsStand chain (own_up known.clocks.down (o.own owners_are)) (λ node. c.store.told.knew (Node node))) same at.sessions)
       (λ change there. (at.pasts.proposed change there).1)
       (λ gone by there. subst (λ (chain : Chain). ClosingStands (st.made store_is).devices (last chain) c.logs c.slots c.store.writes gone by) same (at.closings gone by there))
-      (subst (λ (chain : Chain). LogsStand (Surely (st.stands store_is x c.store) (IsWithin (st.made store_is).devices (st.made store_is).areas chain c.owners.holding c.owners.floor (own_up known.clocks.down (o.own owners_are)) (λ node. c.store.told.knew (Node node))) c.store.writes c.store.told.greatest)
+      (subst (λ (chain : Chain). LogsStand (Surely (st.stands store_is x c.store) (IsWithin (st.made store_is).devices (st.made store_is).areas chain c.owners.holding c.owners.floor (IsOfNode o.by_boot known.clocks) (λ node. c.store.told.knew (Node node))) c.store.writes c.store.told.greatest)
       (st.made store_is).devices (st.made store_is).areas (last chain).sessions c.before c.logs c.slots c.truth) same at.logs)
       (subst (λ (chain : Chain). IsNext c.register.proposed (last chain) s) same (reads image s is_image is_state))
     where
@@ -70,7 +70,7 @@ module _ {G O S : Type 0} (g : register.Ghosts G) (o : owners.Ghosts O) (st : st
   pub stands_volume : IsVolumeFor x IsState (st.made store_is).devices (st.made store_is).areas After tree
   stands_volume = rack_is_volume x IsState (st.made store_is) c.before c.logs c.slots c.truth few at.labels next After tree
       (λ shown last_truth shows.
-      let found = trees_after Stands Step (Surely (st.stands store_is x c.store) (IsWithin (st.made store_is).devices (st.made store_is).areas c.register.chain c.owners.holding c.owners.floor (own_up known.clocks.down (o.own owners_are)) (λ node. c.store.told.knew (Node node))) c.store.writes c.store.told.greatest)
+      let found = trees_after Stands Step (Surely (st.stands store_is x c.store) (IsWithin (st.made store_is).devices (st.made store_is).areas c.register.chain c.owners.holding c.owners.floor (IsOfNode o.by_boot known.clocks) (λ node. c.store.told.knew (Node node))) c.store.writes c.store.told.greatest)
       (st.made store_is).devices (st.made store_is).areas (last c.register.chain) (allowed.each (last c.register.chain) (last_place c.register.chain)) c.before c.logs c.slots c.truth at.logs c.owners.holding c.doubts at.doubted
       (After tree) (λ session doubt old new has before step. comes.goes tree old new session doubt has before step)
       (own_up known.clocks.down (o.own owners_are)) known.held known.hints tree at.volume (comes.here tree) shown last_truth shows in

@@ -1,3 +1,4 @@
+pub mod Hearing
 pub mod Leaving
 pub mod Owning
 pub mod Renewed

@@ -1,3 +1,4 @@
 pub mod Knowing
+pub mod Reaching
 pub mod Touching
 pub mod Views

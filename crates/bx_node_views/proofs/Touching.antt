@@ -21,14 +21,9 @@ use Rattle.bx_world_standing.specs.Rights.{HasBlock, IsOfHome, IsOfSlot, MayTouc
 use Rattle.bx_world_standing.specs.Rights.MayTouch.{OfSlot, OfHeld, OfLogged}
 use Rattle.bx_world_views.specs.Views.{AreApart}
 
-module _ (devices areas : ℕ) (volume : IsVolume devices areas) (s : GlobalState) (holding : Holds) (oldest : ℕ) (logs : Logs) (slots : ℕ → Slot)
-    (rows : (session : ℕ) → LivesIn s session → HasRow s session)
-    (apart : AreApart holding (HasRow s))
-    (alone : (session other at : ℕ) (hold : Hold) → LivesIn s session → HasRow s other → holding session at ≡ Some hold → oldest ≤ other)
-    (rights : RightsStand s.sessions holding oldest areas logs slots)
-    (once : (slot other at : ℕ) → slot < 8 → other < 8 → IsInLog logs slots slot at → IsInLog logs slots other at → slot ≡ other)
-    (allowed : IsAllowed s) where
-  one_home : (at other d sector : ℕ) → IsBlock areas at → IsBlock areas other → IsOfHome devices at d sector → IsOfHome devices other d sector → at ≡ other
+-- A sector is of one slot, or of one block's home.
+module _ (devices areas : ℕ) (volume : IsVolume devices areas) where
+  pub one_home : (at other d sector : ℕ) → IsBlock areas at → IsBlock areas other → IsOfHome devices at d sector → IsOfHome devices other d sector → at ≡ other
   one_home at other d sector is is_other one two = by_test (eqb at other) refl
     where
       by_test : (b : Bool) → eqb at other ≡ b → at ≡ other
@@ -38,12 +33,19 @@ module _ (devices areas : ℕ) (volume : IsVolume devices areas) (s : GlobalStat
           ⊎_elim (λ before. omega (arith, before, a, b, i, j)) (λ behind. omega (arith, behind, a, b, i, j))
           (two_homes at other devices areas volume is is_other (λ e. grind (arith, nat_tests, differ, e)) (sym one.device ∙ two.device)))
 
-  slot_and_home : (slot at d sector : ℕ) → slot < 8 → IsOfSlot devices slot d sector → IsOfHome devices at d sector → ⊥
+  pub slot_and_home : (slot at d sector : ℕ) → slot < 8 → IsOfSlot devices slot d sector → IsOfHome devices at d sector → ⊥
   slot_and_home slot at d sector less one two = let behind = home_and_log at devices slot less in let to = one.to in let is = two.is in omega (arith, behind, to, is)
 
-  one_slot : (slot other d sector : ℕ) → IsOfSlot devices slot d sector → IsOfSlot devices other d sector → slot ≡ other
+  pub one_slot : (slot other d sector : ℕ) → IsOfSlot devices slot d sector → IsOfSlot devices other d sector → slot ≡ other
   one_slot slot other d sector one two = let a = one.from in let b = one.to in let c = two.from in let e = two.to in omega (arith, a, b, c, e)
 
+module _ (devices areas : ℕ) (volume : IsVolume devices areas) (s : GlobalState) (holding : Holds) (oldest : ℕ) (logs : Logs) (slots : ℕ → Slot)
+    (rows : (session : ℕ) → LivesIn s session → HasRow s session)
+    (apart : AreApart holding (HasRow s))
+    (alone : (session other at : ℕ) (hold : Hold) → LivesIn s session → HasRow s other → holding session at ≡ Some hold → oldest ≤ other)
+    (rights : RightsStand s.sessions holding oldest areas logs slots)
+    (once : (slot other at : ℕ) → slot < 8 → other < 8 → IsInLog logs slots slot at → IsInLog logs slots other at → slot ≡ other)
+    (allowed : IsAllowed s) where
   not_both : (session other at : ℕ) → LivesIn s session → HasRow s other → other ≢ session → is_exclusive (holding session at) ≡ true → HasBlock holding oldest other at → ⊥
   not_both session other at lives row ne mine (inl yours) =
       let a = exclusive_is (holding session at) mine in let b = exclusive_is (holding other at) yours in
@@ -65,7 +67,7 @@ module _ (devices areas : ℕ) (volume : IsVolume devices areas) (s : GlobalStat
   held_and_logged session other at block owner slot d sector lives ne is home mine is_block home_too entitled inside = by_test (eqb owner session) refl
     where
       same : block ≡ at
-      same = one_home block at d sector is_block is home_too home
+      same = one_home devices areas volume block at d sector is_block is home_too home
 
       its : HasBlock holding oldest owner at
       its = subst (λ (n : ℕ). HasBlock holding oldest owner n) same (rights.each owner entitled.row block entitled.is (subst (λ (n : ℕ). IsInLog logs slots n block) (sym entitled.at) inside)).1
@@ -79,21 +81,21 @@ module _ (devices areas : ℕ) (volume : IsVolume devices areas) (s : GlobalStat
   pub touch_clash : (session other d sector : ℕ) → LivesIn s session → LivesIn s other → session ≢ other
       → MayTouch devices areas s holding logs slots session d sector → MayTouch devices areas s holding logs slots other d sector → ⊥
   touch_clash session other d sector lives lives_too ne (OfSlot owner slot less entitled in_slot) (OfSlot owner_too slot_too less_too entitled_too in_slot_too) =
-      let e = one_slot slot slot_too d sector in_slot in_slot_too in
+      let e = one_slot devices areas volume slot slot_too d sector in_slot in_slot_too in
       ne (one_entitled s owner owner_too slot session other allowed entitled (subst (λ (n : ℕ). IsEntitled s owner_too n other) (sym e) entitled_too)).1
-  touch_clash session other d sector lives lives_too ne (OfSlot owner slot less entitled in_slot) (OfHeld at is home mine) = slot_and_home slot at d sector less in_slot home
-  touch_clash session other d sector lives lives_too ne (OfSlot owner slot less entitled in_slot) (OfLogged at owner_too slot_too is home less_too entitled_too inside) = slot_and_home slot at d sector less in_slot home
-  touch_clash session other d sector lives lives_too ne (OfHeld at is home mine) (OfSlot owner slot less entitled in_slot) = slot_and_home slot at d sector less in_slot home
+  touch_clash session other d sector lives lives_too ne (OfSlot owner slot less entitled in_slot) (OfHeld at is home mine) = slot_and_home devices areas volume slot at d sector less in_slot home
+  touch_clash session other d sector lives lives_too ne (OfSlot owner slot less entitled in_slot) (OfLogged at owner_too slot_too is home less_too entitled_too inside) = slot_and_home devices areas volume slot at d sector less in_slot home
+  touch_clash session other d sector lives lives_too ne (OfHeld at is home mine) (OfSlot owner slot less entitled in_slot) = slot_and_home devices areas volume slot at d sector less in_slot home
   touch_clash session other d sector lives lives_too ne (OfHeld at is home mine) (OfHeld block is_too home_too yours) =
-      let e = one_home block at d sector is_too is home_too home in
+      let e = one_home devices areas volume block at d sector is_too is home_too home in
       not_both session other at lives (rows other lives_too) (λ same. ne (sym same)) mine (inl (subst (λ (n : ℕ). is_exclusive (holding other n) ≡ true) e yours))
   touch_clash session other d sector lives lives_too ne (OfHeld at is home mine) (OfLogged block owner slot is_too home_too less entitled inside) =
       held_and_logged session other at block owner slot d sector lives ne is home mine is_too home_too entitled inside
-  touch_clash session other d sector lives lives_too ne (OfLogged block owner slot is home less entitled inside) (OfSlot owner_too slot_too less_too entitled_too in_slot) = slot_and_home slot_too block d sector less_too in_slot home
+  touch_clash session other d sector lives lives_too ne (OfLogged block owner slot is home less entitled inside) (OfSlot owner_too slot_too less_too entitled_too in_slot) = slot_and_home devices areas volume slot_too block d sector less_too in_slot home
   touch_clash session other d sector lives lives_too ne (OfLogged block owner slot is home less entitled inside) (OfHeld at is_too home_too yours) =
       held_and_logged other session at block owner slot d sector lives_too (λ same. ne (sym same)) is_too home_too yours is home entitled inside
   touch_clash session other d sector lives lives_too ne (OfLogged block owner slot is home less entitled inside) (OfLogged at owner_too slot_too is_too home_too less_too entitled_too inside_too) =
-      let e = one_home at block d sector is_too is home_too home in
+      let e = one_home devices areas volume at block d sector is_too is home_too home in
       let f = once slot slot_too block less less_too inside (subst (λ (n : ℕ). IsInLog logs slots slot_too n) e inside_too) in
       ne (one_entitled s owner owner_too slot session other allowed entitled (subst (λ (n : ℕ). IsEntitled s owner_too n other) (sym f) entitled_too)).1
 

@@ -1,9 +1,9 @@
 -- Whose sessions are, by the states of a chain: a session that is a node's by one state is its by each later one in which it lives.
-use Rattle.std.proofs.Common.{◌≡◌, inl, inr, ℕ, ◌<◌, ◌≤◌, Bool, true, false, List, [], ◌∷◌, Option, Some, None, refl, sym, ◌∙◌, ap, subst, arith}
+use Rattle.std.proofs.Common.{◌≡◌, ◌⊎◌, ⊎_elim, inl, inr, ℕ, ◌<◌, ◌≤◌, Bool, true, false, List, [], ◌∷◌, Option, Some, None, refl, sym, ◌∙◌, ap, subst, arith}
 use Rattle.std.specs.Prelude.{◌==◌, ◌&&◌, find, if◌then◌else◌}
 use Rattle.std.specs.List.{AllByRecursion}
 use Rattle.std.proofs.lemmas.Bool.Decides.{nat_tests}
-use Rattle.bx_facts.specs.Chains.{Chain, IsPlace, LivesIn, number_in, session_by}
+use Rattle.bx_facts.specs.Chains.{Chain, IsPlace, LivesIn, last, number_in, session_by}
 use Rattle.bx_global.specs.Allowed.{AreRising, IsAllowed}
 use Rattle.bx_global.specs.declared.state.GlobalState.{GlobalState}
 use Rattle.bx_locking.specs.Owned.{CameOf, IsRowIn}
@@ -12,7 +12,8 @@ use Rattle.bx_rows.specs.Rows.{is_of}
 use Rattle.bx_rows.specs.Words.{row_in}
 use Rattle.bx_rows.specs.declared.session.SessionRow.{SessionRow}
 use Rattle.bx_world_chains.specs.Entitled.{AreAllowed}
-use Rattle.bx_world_chains.proofs.Rows.{lives_row}
+use Rattle.bx_world_chains.proofs.Chains.{index_most, last_place}
+use Rattle.bx_world_chains.proofs.Rows.{lives_of, lives_row}
 
 -- ---- the first row that passes a test
 
@@ -157,3 +158,41 @@ own_stays chain by_boot p q node boot session allowed place later order is lives
     let least = finds_least (is_own by_boot node boot) p.sessions p.next_session first.0 before.0 rows_p first.1 before.1 passed in
     let e : found.0.number ≡ session = (let a = first.2 in let b = before.2.number in let d = now_there.1 in omega (arith, a, b, d, least, most)) in
     session_found by_boot q node boot ∙ ap number_in found.1 ∙ ap (λ (n : ℕ). Some n) e
+
+-- A session that is a node's by a state and lives in the last one is its by each state between.
+pub own_kept : (chain : Chain) (by_boot : Bool) (p q : GlobalState) (node boot session : ℕ) → AreAllowed chain → IsPlace chain p → IsPlace chain q → p.index ≤ q.index
+    → session_by by_boot p node boot ≡ Some session → LivesIn (last chain) session → session_by by_boot q node boot ≡ Some session
+own_kept chain by_boot p q node boot session allowed place later order is lives =
+    let ends = last_place chain in
+    let own = own_row by_boot p node boot session (allowed.each p place) is in
+    let own_there = row_there p.sessions session own.row own.is in
+    let low = below p.sessions p.next_session own.row (allowed.each p place).rising own_there.0 in
+    let now = lives_row (last chain) session lives in
+    let now_there = row_there (last chain).sessions session now.0 now.1 in
+    let more = (rows_go chain.first chain.changes p q place later order).next in
+    let was = (rows_go chain.first chain.changes q (last chain) later ends (index_most chain q later)).each now.0 now_there.0 (let a = now_there.1 in let b = own_there.1 in omega (arith, low, a, b, more)) in
+    let found = row_is q.sessions q.next_session session was.0 (allowed.each q later).rising was.1 (sym was.2.number ∙ now_there.1) in
+    own_stays chain by_boot p q node boot session allowed place later order is (lives_of q session was.0 found (was.2.alive now.2))
+
+-- A session is one node's, by whatever states.
+module _ (chain : Chain) (by_boot : Bool) (allowed : AreAllowed chain) where
+  same_later : (p q : GlobalState) (node other boot boot_too session : ℕ) → IsPlace chain p → IsPlace chain q → p.index ≤ q.index → session_by by_boot p node boot ≡ Some session → session_by by_boot q other boot_too ≡ Some session → other ≡ node
+  same_later p q node other boot boot_too session place later order is is_too =
+      let one = own_row by_boot p node boot session (allowed.each p place) is in
+      let two = own_row by_boot q other boot_too session (allowed.each q later) is_too in
+      let one_there = row_there p.sessions session one.row one.is in
+      let two_there = row_there q.sessions session two.row two.is in
+      let rising = (allowed.each p place).rising in
+      let low = below p.sessions p.next_session one.row rising one_there.0 in
+      let was = (rows_go chain.first chain.changes p q place later order).each two.row two_there.0 (let a = one_there.1 in let b = two_there.1 in omega (arith, low, a, b)) in
+      let e : was.0 ≡ one.row = one_row p.sessions p.next_session was.0 one.row rising was.1 one_there.0 (sym was.2.number ∙ two_there.1 ∙ sym one_there.1) in
+      sym two.of ∙ was.2.node ∙ ap (λ (r : SessionRow). r.node) e ∙ one.of
+
+  pub same_owner : (p q : GlobalState) (node other boot boot_too session : ℕ) → IsPlace chain p → IsPlace chain q → session_by by_boot p node boot ≡ Some session → session_by by_boot q other boot_too ≡ Some session → other ≡ node
+  same_owner p q node other boot boot_too session place later is is_too = ⊎_elim
+      (λ order. same_later p q node other boot boot_too session place later order is is_too)
+      (λ order. sym (same_later q p other node boot_too boot session later place order is_too is))
+      (either p.index q.index)
+    where
+      either : (a b : ℕ) → (a ≤ b) ⊎ (b ≤ a)
+      either a b = grind arith

@@ -48,7 +48,7 @@ only_stays writes before after d s content later only = record { each = λ write
 module _ (devices areas : ℕ) (chain : Chain) (old new : Holds) (floor floor_then : ℕ → ℕ) (IsOf IsOf_then : ℕ → SessionRow → Type 0) (knew knew_then : ℕ → ℕ)
     (keeps : KeepsHolds old new) (rises : (at : ℕ) → floor at ≤ floor_then at)
     (fewer : (node session : ℕ) (row : SessionRow) → row_in (last chain).sessions session ≡ Some row → row.dead ≡ 0 → IsOf_then node row → IsOf node row × (knew node ≤ knew_then node)) where
-  within_stays : (d s index : ℕ) → IsWithin devices areas chain old floor IsOf knew d s index → IsWithin devices areas chain new floor_then IsOf_then knew_then d s index
+  pub within_stays : (d s index : ℕ) → IsWithin devices areas chain old floor IsOf knew d s index → IsWithin devices areas chain new floor_then IsOf_then knew_then d s index
   within_stays d s index within = record {
     most = within.most;
     home = λ at is of. reach at (within.home at is of);
@@ -69,7 +69,7 @@ module _ (devices areas : ℕ) (chain : Chain) (old new : Holds) (floor floor_th
         λ node one is lives of. let had = fewer node session one is lives of in let low = knows node one is lives had.0 in let more = had.1 in omega (arith, low, more),
       )
 
-  surely_stays : (stands stands_then : ℕ → ℕ → List ℕ → ℕ → Type 0) (writes : List Sent) (before after : ℕ) → before ≤ after
+  pub surely_stays : (stands stands_then : ℕ → ℕ → List ℕ → ℕ → Type 0) (writes : List Sent) (before after : ℕ) → before ≤ after
       → ((d s : ℕ) (content : List ℕ) (index : ℕ) → IsOnly writes before d s content → stands d s content index → stands_then d s content index)
       → (d s : ℕ) (content : List ℕ) → Surely stands (IsWithin devices areas chain old floor IsOf knew) writes before d s content
       → Surely stands_then (IsWithin devices areas chain new floor_then IsOf_then knew_then) writes after d s content

@@ -1,0 +1,210 @@
+-- A machine was handed an input, and the cluster stands: each node is still about what its session has under way. A write of a node's own session that is done
+-- stands surely then.
+use Rattle.std.proofs.Common.{◌≡◌, ◌≢◌, ◌⊎◌, ⊎_elim, inl, inr, ◌∙◌, ℕ, ◌+◌, ◌≤◌, ◌<◌, List, Contains, Option, Some, None, refl, sym, ap, subst, arith}
+use Rattle.std.specs.Prelude.{slice_get}
+use Rattle.bx_base.specs.declared.names.Actor.{Actor}
+use Rattle.bx_base.specs.declared.names.Actor.TheVariants.{Node}
+use Rattle.bx_base.specs.declared.names.Mode.{Mode}
+use Rattle.bx_disk.specs.Disks.{Disks}
+use Rattle.bx_facts.specs.declared.register.Register as register
+use Rattle.bx_facts.specs.declared.store.Store as store
+use Rattle.bx_facts.specs.declared.input.Input.{Input}
+use Rattle.bx_facts.specs.Chains.{AreLegal, HasRow, LivesIn, last, oldest}
+use Rattle.bx_facts.specs.Holds.{Hold, Holds, KeepsHolds}
+use Rattle.bx_facts.specs.Machines.{put_at}
+use Rattle.bx_facts.specs.Writes.{GoesOn, IsDone, IsOver, Made, MayWrite, Sent, WritesIn, WritesTo}
+use Rattle.bx_global.specs.Allowed.{IsAllowed}
+use Rattle.bx_global.specs.declared.change.Change.{Change}
+use Rattle.bx_node_machines.specs.Machines.{AreAbout, IsAbout, IsFetched, IsFlying, IsLanded, IsWriting, MachineView, Scene, home_of}
+use Rattle.bx_node_machines.specs.Nodes.{IsOfNode, NodesStand, hinted, known_of, scene_of, shown}
+use Rattle.bx_node_machines.proofs.Hearing.{hears}
+use Rattle.bx_node_machines.proofs.Leaving.{Leaves}
+use Rattle.bx_node_machines.proofs.Owning as owning
+use Rattle.bx_node_views.proofs.Reaching.{reaches}
+use Rattle.bx_node_views.proofs.Touching.{may_write}
+use Rattle.bx_owners.specs.declared.owners.Owners as owners
+use Rattle.bx_places.specs.Places.{block_place}
+use Rattle.bx_post.specs.declared.packets.Letter.{Letter}
+use Rattle.bx_records.specs.declared.runs.Run.{Run}
+use Rattle.bx_rows.specs.Words.{row_in}
+use Rattle.bx_rows.specs.declared.session.SessionRow.{SessionRow}
+use Rattle.bx_views.specs.Attempts.{Deed}
+use Rattle.bx_views.specs.Truths.{Hints, Truth}
+use Rattle.bx_world_chains.specs.Entitled.{AreAllowed}
+use Rattle.bx_world_chains.proofs.Chains.{index_most, last_place}
+use Rattle.bx_world_chains.proofs.Rows.{lives_of}
+use Rattle.bx_world_standing.specs.Parts.{Clocks}
+use Rattle.bx_world_standing.specs.Rights.{IsWithin, MayTouch, Surely}
+use Rattle.bx_world_standing.specs.Standing.{Course, Known, StandsAt, SureOf, own_up}
+use Rattle.bx_world_standing.proofs.Owns.{own_of}
+use Rattle.bx_world_standing.proofs.Told.{one_owner, own_of_node}
+use Rattle.bx_world_stays.proofs.Heard.{heard_clocks, heard_course}
+use Rattle.bx_world_stays.proofs.Stays.{surely_stays, within_stays}
+use Rattle.bx_world_views.specs.Views.{Allows}
+
+-- what a hold allows, one that stays allows
+allows_on : (old new : Holds) (session block : ℕ) (mode : Mode) → KeepsHolds old new → Allows (old session block) mode → Allows (new session block) mode
+allows_on old new session block mode keeps allows = by (old session block) refl allows
+  where
+    by : (hold : Option Hold) → old session block ≡ hold → Allows hold mode → Allows (new session block) mode
+    by None is allowed = absurd allowed
+    by (Some hold) is allowed = subst (λ (h : Option Hold). Allows h mode) (sym (keeps.each session block hold is)) allowed
+
+module _ {G O S T : Type 0} (g : register.Ghosts G) (o : owners.Ghosts O) (st : store.Ghosts S) (Stands : Truth → Hints → T → Type 0) (Step : T → Deed → T → Type 0)
+    (register_is register_then : G) (owners_are owners_then : O) (store_is store_then : S) (x y : Disks) (letters then_letters : List Letter) (clocks : Clocks) (machines : List MachineView) (c : Course) (tree : T)
+    (who : Actor) (index : ℕ) (input : Input) (owners_change store_change proposal : Option Change) (holding : Holds)
+    (stands : NodesStand g o st Stands Step register_is owners_are store_is x letters clocks machines c tree)
+    (allowed : AreAllowed c.register.chain) (legal : AreLegal c.register.chain.first c.register.chain.changes) where
+  abbrev pub then_is : Course
+  then_is = heard_course c who index input owners_change store_change proposal then_letters holding
+
+  abbrev pub clocks_then : Clocks
+  clocks_then = heard_clocks clocks input
+
+  abbrev knew : ℕ → ℕ
+  knew node = c.store.told.knew (Node node)
+
+  abbrev knew_then : ℕ → ℕ
+  knew_then node = put_at who index c.store.told.knew (Node node)
+
+  module _ (at_then : StandsAt g o st Stands Step register_then owners_then store_then y (known_of g o st Stands Step register_then owners_then store_then y then_letters clocks_then machines) then_is tree)
+      (made : st.made store_then ≡ st.made store_is)
+      (keeps : KeepsHolds c.owners.holding holding)
+      (goes : GoesOn c.store.writes c.store.told.greatest (st.asked store_is) (st.settled store_is x c.store) (st.settled store_then y then_is.store) (st.will_read store_is x c.store) (st.will_read store_then y then_is.store) (st.stands store_is x c.store) (st.stands store_then y then_is.store))
+      (later : c.store.told.greatest ≤ then_is.store.told.greatest)
+      (more : (node : ℕ) → c.store.told.knew (Node node) ≤ put_at who index c.store.told.knew (Node node))
+      (kept : (node its : ℕ) (row : SessionRow) → row_in (last c.register.chain).sessions its ≡ Some row → row.dead ≡ 0 → own_up clocks.down (o.own owners_are) node ≡ Some its → own_up clocks.down (o.own owners_then) node ≡ Some its)
+      (quiet : (node its : ℕ) → own_up clocks.down (o.own owners_then) node ≡ Some its → own_up clocks.down (o.own owners_are) node ≢ Some its → (st.out_of store_then node ≡ None) × (st.asked store_then node ≡ None))
+      (out : (node : ℕ) → (st.out_of store_then node ≡ None) ⊎ (st.out_of store_then node ≡ st.out_of store_is node))
+      (asked : (node : ℕ) → (st.asked store_then node ≡ None) ⊎ (st.asked store_then node ≡ st.asked store_is node))
+      (done : (node : ℕ) (write : Sent) → st.out_of store_is node ≡ Some write → st.out_of store_then node ≡ None → st.own store_then node ≡ Some write.session → LivesIn (last c.register.chain) write.session
+      → IsDone (st.stands store_then y then_is.store) (put_at who index c.store.told.knew (Node node)) write)
+      (lives : (session end : ℕ) → Contains c.owners.leases (session, end) → c.owners.told.greatest ≤ end + 500 → LivesIn (last c.register.chain) session)
+      (alone : (one other block : ℕ) (hold : Hold) → LivesIn (last c.register.chain) one → HasRow (last c.register.chain) other → c.owners.holding one block ≡ Some hold → oldest c.register.chain ≤ other)
+      (told : (node session : ℕ) → own_up clocks.down (o.own owners_then) node ≡ Some session → (g.knows register_then (Node node)).index ≤ put_at who index c.store.told.knew (Node node)) where
+    abbrev devices : ℕ
+    devices = (st.made store_is).devices
+
+    abbrev areas : ℕ
+    areas = (st.made store_is).areas
+
+    allowed_last : IsAllowed (last c.register.chain)
+    allowed_last = allowed.each (last c.register.chain) (last_place c.register.chain)
+
+    abbrev Before : Scene
+    Before = scene_of g o st Stands Step register_is owners_are store_is x clocks.down machines c
+
+    abbrev Then : Scene
+    Then = scene_of g o st Stands Step register_then owners_then store_then y clocks.down machines then_is
+
+    abbrev Sure_before : ℕ → ℕ → List ℕ → Type 0
+    Sure_before = SureOf g o st Stands Step register_is owners_are store_is x (known_of g o st Stands Step register_is owners_are store_is x letters clocks machines) c
+
+    abbrev SureBy : Made → ℕ → ℕ → List ℕ → Type 0
+    SureBy m = Surely (st.stands store_then y then_is.store) (IsWithin m.devices m.areas c.register.chain holding c.owners.floor (IsOfNode o.by_boot clocks_then) (λ node. put_at who index c.store.told.knew (Node node))) c.store.writes then_is.store.told.greatest
+
+    abbrev Touches : ℕ → ℕ → ℕ → Type 0
+    Touches its d s = MayTouch (st.made store_is).devices (st.made store_is).areas (last c.register.chain) c.owners.holding c.logs c.slots its d s
+
+    was_of_node : (node : ℕ) (row : SessionRow) → IsOfNode o.by_boot clocks_then node row → IsOfNode o.by_boot clocks node row
+    was_of_node node row of = record { up = of.up; of = of.of; boot = of.boot }
+
+    sure_on : (d s : ℕ) (content : List ℕ) → Sure_before d s content → SureBy (st.made store_is) d s content
+    sure_on d s content sure =
+        surely_stays (st.made store_is).devices (st.made store_is).areas c.register.chain c.owners.holding holding c.owners.floor c.owners.floor (IsOfNode o.by_boot clocks) (IsOfNode o.by_boot clocks_then) (λ n. c.store.told.knew (Node n)) (λ n. put_at who index c.store.told.knew (Node n))
+        keeps (λ at. omega arith) (λ node session row is alive of. (was_of_node node row of, more node))
+        (st.stands store_is x c.store) (st.stands store_then y then_is.store) c.store.writes c.store.told.greatest then_is.store.told.greatest later goes.standing d s content sure
+
+    its_of : (node its : ℕ) (row : SessionRow) → own_up clocks.down (o.own owners_then) node ≡ Some its → row_in (last c.register.chain).sessions its ≡ Some row → row.dead ≡ 0 → IsOfNode o.by_boot clocks_then node row
+    its_of node its row own is alive = own_of_node o.by_boot c.register.chain clocks_then (o.own owners_then) (λ n. put_at who index c.store.told.knew (Node n)) allowed at_then.sessions node its row own is alive
+
+    -- what a write brought that is done stands so
+    done_sure : (node its : ℕ) (row : SessionRow) (runs : List Run) → own_up clocks.down (o.own owners_then) node ≡ Some its → row_in (last c.register.chain).sessions its ≡ Some row → row.dead ≡ 0
+        → ((d s : ℕ) (content : List ℕ) → WritesIn runs d s content → Touches its d s)
+        → IsFlying its runs (st.out_of store_is node) c.store.writes → st.out_of store_then node ≡ None
+        → (d s : ℕ) (content : List ℕ) → WritesIn runs d s content → SureBy (st.made store_is) d s content
+    done_sure node its row runs own is alive touches flying none d s content w = record {
+      index = knew_then node;
+      is = (done node flying.write flying.is_out none (own_store ∙ ap (λ (n : ℕ). Some n) (sym flying.whose)) (subst (λ (n : ℕ). LivesIn (last c.register.chain) n) (sym flying.whose) its_lives)).each d s content (subst (λ (l : List Run). WritesIn l d s content) (sym flying.runs_are) w);
+      only = record { each = λ other brings has to. by_session other brings has to (might.each other d s content brings has to (subst (λ (l : List Run). WritesIn l d s content) (sym flying.runs_are) w)) };
+      within = within_stays (st.made store_is).devices (st.made store_is).areas c.register.chain c.owners.holding holding c.owners.floor c.owners.floor (IsOfNode o.by_boot clocks_then) (IsOfNode o.by_boot clocks_then) (λ n. put_at who index c.store.told.knew (Node n)) (λ n. put_at who index c.store.told.knew (Node n))
+          keeps (λ at. omega arith) (λ n session one found lives_too of. (of, omega arith)) d s (knew_then node)
+          (reaches (st.made store_is).devices (st.made store_is).areas stands.at.logs.volume c.register.chain allowed legal c.owners.holding c.owners.floor (IsOfNode o.by_boot clocks_then) (λ n. put_at who index c.store.told.knew (Node n)) c.logs c.slots stands.at.rights
+          node its row is alive (λ other one found of. sym of.of ∙ one_is other one found) known_most d s (touches d s content w));
+    }
+      where
+        its_lives : LivesIn (last c.register.chain) its
+        its_lives = lives_of (last c.register.chain) its row is alive
+
+        own_store : st.own store_then node ≡ Some its
+        own_store = let had = own_of clocks.down (o.own owners_then) node its own in sym (at_then.parts.own node had.0) ∙ had.1
+
+        same_row : (a b : SessionRow) (found : Option SessionRow) → found ≡ Some a → found ≡ Some b → a ≡ b
+        same_row a b found one two = cc
+
+        one_is : (other : ℕ) (one : SessionRow) → row_in (last c.register.chain).sessions its ≡ Some one → one.node ≡ node
+        one_is other one found = ap (λ (r : SessionRow). r.node) (same_row one row (row_in (last c.register.chain).sessions its) found is) ∙ (its_of node its row own is alive).of
+
+        known_most : knew_then node ≤ (last c.register.chain).index
+        known_most = let t = at_then.sessions.told node its own in let low = index_most c.register.chain t.state t.place in let e = t.at in omega (arith, low, e)
+
+        might : MayWrite c.store.writes c.store.told.greatest (last c.register.chain) flying.write
+        might = may_write (st.made store_is).devices (st.made store_is).areas stands.at.logs.volume (last c.register.chain) c.owners.holding (oldest c.register.chain) c.logs c.slots stands.at.volume.rows stands.at.volume.apart alone stands.at.rights stands.at.logs.once allowed_last
+            c.owners.leases c.store.writes c.store.told.greatest flying.write stands.at.writes (subst (λ (n : ℕ). LivesIn (last c.register.chain) n) (sym flying.whose) its_lives)
+            (λ session end has less. lives session end has (let a = stands.at.pasts.owners_greatest in omega (arith, a, less)))
+            (λ d s content w. subst (λ (n : ℕ). Touches n d s) (sym flying.whose) (touches d s content (subst (λ (l : List Run). WritesIn l d s content) flying.runs_are w)))
+
+        by_session : (other : Sent) (brings : List ℕ) → Contains c.store.writes other → WritesTo other d s brings → (other.session ≡ flying.write.session) ⊎ (IsOver c.store.told.greatest other × (LivesIn (last c.register.chain) other.session → ⊥))
+            → (brings ≡ content) ⊎ IsOver then_is.store.told.greatest other
+        by_session other brings has to (inl same) =
+            let e : other ≡ flying.write = flying.only other has (same ∙ flying.whose) in
+            inl (flying.once d s content brings w (subst (λ (l : List Run). WritesIn l d s brings) flying.runs_are (subst (λ (one : Sent). WritesTo one d s brings) e to)))
+        by_session other brings has to (inr over) = inr (let a = over.0 in omega (arith, a, later))
+
+    leaves : (node its : ℕ) (row : SessionRow) → own_up clocks.down (o.own owners_are) node ≡ Some its → own_up clocks.down (o.own owners_then) node ≡ Some its → row_in (last c.register.chain).sessions its ≡ Some row → row.dead ≡ 0
+        → Leaves (st.made store_is).devices (st.made store_is).areas (Touches its) Sure_before (SureBy (st.made store_is)) (st.will_read store_is x c.store node) (st.will_read store_then y then_is.store node) Before Then node its row.slot
+    leaves node its row had own is alive = record {
+      of_slot = record { logs = refl; slots = refl; doubts = refl };
+      none_out = λ none. ⊎_elim (λ gone. gone) (λ same. same ∙ none) (out node);
+      none_asked = λ none. ⊎_elim (λ gone. gone) (λ same. same ∙ none) (asked node);
+      writing = λ runs touches writing. by_writing runs touches writing (out node);
+      reads = λ block mode was. record {
+        is = was.is;
+        allows = allows_on c.owners.holding holding its block mode keeps was.allows;
+        unlogged = was.unlogged;
+        unwritten = was.unwritten;
+        asked = ⊎_elim
+            (λ none. inl (⊎_elim (λ gone. gone) (λ same. same ∙ none) (asked node)))
+            (λ some. ⊎_elim
+            (λ gone. inl gone)
+            (λ same. inr (same ∙ some.0, λ i few. goes.reading node ((block_place block devices).1 + i) (c.before (block_place block devices).0 ((block_place block devices).1 + i)) (home_of devices block) some.0 (stands.at.logs.homes block was.is was.unlogged i few).only (some.1 i few)))
+            (asked node))
+            was.asked;
+      };
+    }
+      where
+        by_writing : (runs : List Run) → ((d s : ℕ) (content : List ℕ) → WritesIn runs d s content → Touches its d s) → IsWriting Sure_before its runs (st.out_of store_is node) c.store.writes
+            → (st.out_of store_then node ≡ None) ⊎ (st.out_of store_then node ≡ st.out_of store_is node) → IsWriting (SureBy (st.made store_is)) its runs (st.out_of store_then node) c.store.writes
+        by_writing runs touches (inl flying) (inl none) = inr (record { none_out = none; sure = λ d s content w. done_sure node its row runs own is alive touches flying none d s content w })
+        by_writing runs touches (inl flying) (inr same) = inl (record { write = flying.write; whose = flying.whose; runs_are = flying.runs_are; once = flying.once; is_out = same ∙ flying.is_out; only = flying.only })
+        by_writing runs touches (inr landed) gone = inr (record { none_out = ⊎_elim (λ none. none) (λ same. same ∙ landed.none_out) gone; sure = λ d s content w. sure_on d s content (landed.sure d s content w) })
+
+    about_then : AreAbout (st.made store_is).devices (st.made store_is).areas (SureBy (st.made store_is)) (st.will_read store_then y then_is.store) (IsOfNode o.by_boot clocks_then) Then
+    about_then = hears (st.made store_is).devices (st.made store_is).areas Touches Sure_before (SureBy (st.made store_is)) (st.will_read store_is x c.store) (st.will_read store_then y then_is.store) (IsOfNode o.by_boot clocks) (IsOfNode o.by_boot clocks_then) Before Then
+        stands.about refl (λ node. refl) was_of_node (λ node other row of of_too. sym of_too.of ∙ of.of)
+        (λ node its row is alive own. own_of_node o.by_boot c.register.chain clocks (o.own owners_are) (λ n. c.store.told.knew (Node n)) allowed stands.at.sessions node its row own is alive)
+        (λ node its row is alive own. its_of node its row own is alive)
+        (λ node its row is alive of own. kept node its row is alive own)
+        quiet
+        (λ its row is alive. record { logs = refl; slots = refl; doubts = refl })
+        leaves
+        (λ node its machine row is alive about. owning.may_work (st.made store_is).devices (st.made store_is).areas Sure_before c.before (last c.register.chain) allowed_last c.owners.holding c.logs c.slots c.truth stands.at.logs its row is alive
+        (st.will_read store_is x c.store node) Before node machine refl refl about)
+
+    pub heard : NodesStand g o st Stands Step register_then owners_then store_then y then_letters clocks_then machines then_is tree
+    heard = record {
+      at = at_then;
+      about = subst (λ (m : Made). AreAbout m.devices m.areas (SureBy m) (st.will_read store_then y then_is.store) (IsOfNode o.by_boot clocks_then) Then) (sym made) about_then;
+      single = one_owner o.by_boot c.register.chain clocks_then (o.own owners_then) (λ n. put_at who index c.store.told.knew (Node n)) allowed at_then.sessions;
+      told = told;
+    }

@@ -1,3 +1,9 @@
+pub mod Asked
 pub mod Begun
 pub mod Heard
+pub mod Keeping
+pub mod Opened
+pub mod Received
+pub mod Unlogged
+pub mod Wanted
 pub mod Working

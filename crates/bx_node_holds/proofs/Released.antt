@@ -8,7 +8,7 @@ use Rattle.bx_facts.specs.declared.register.Register as register
 use Rattle.bx_facts.specs.declared.store.Store as store
 use Rattle.bx_facts.specs.Chains.{HasRow, LivesIn, last, oldest}
 use Rattle.bx_facts.specs.Holds.{Hold, Holds, KeepsOthers, is_exclusive}
-use Rattle.bx_facts.specs.Writes.{Sent}
+use Rattle.bx_facts.specs.Writes.{IsOnly, Sent}
 use Rattle.bx_owners.specs.declared.owners.Owners as owners
 use Rattle.bx_post.specs.declared.packets.Letter.{Letter}
 use Rattle.bx_rows.specs.Words.{row_in}
@@ -45,23 +45,23 @@ module _ {G O S T : Type 0} (g : register.Ghosts G) (o : owners.Ghosts O) (st : 
     (register_is : G) (owners_are owners_then : O) (store_is : S) (x : Disks) (known : Known) (c : Course) (tree : T) (node session block : ℕ) (row : SessionRow)
     (letters : List Letter) (holding : Holds) (floor : ℕ → ℕ) (held : ℕ → Held) (hints : ℕ → Hints)
     (at : StandsAt g o st Stands Step register_is owners_are store_is x known c tree) where
-  -- The block is in no log of the session and none of its records is in doubt; none of its writes may be taken any more; whoever gets any block afterwards
-  -- still reaches what was written.
+  -- The block is in no log of the session and none of its records is in doubt; where it holds the block exclusively, none of its writes may be taken any
+  -- more; whoever gets any block afterwards still reaches what was written.
   pub let_go_at : known.clocks.down (Node node) ≡ false → o.own owners_are node ≡ Some session → LivesIn (last c.register.chain) session → row_in (last c.register.chain).sessions session ≡ Some row
       → g.keeps register_is x (with_holds c letters holding floor).register → o.keeps owners_then (with_holds c letters holding floor).owners → st.keeps store_is x (with_holds c letters holding floor).store
-      → ((d s : ℕ) (content : List ℕ) (index : ℕ) → st.stands store_is x c.store d s content index → st.stands store_is x (with_holds c letters holding floor).store d s content index)
+      → ((d s : ℕ) (content : List ℕ) (index : ℕ) → IsOnly c.store.writes c.store.told.greatest d s content → st.stands store_is x c.store d s content index → st.stands store_is x (with_holds c letters holding floor).store d s content index)
       → ((other : ℕ) → o.own owners_then other ≡ o.own owners_are other)
       → KeepsOthers session block c.owners.holding holding
       → AreApart holding (HasRow (last c.register.chain))
       → ((place index : ℕ) → IsReached (st.made store_is).devices (st.made store_is).areas c.register.chain c.owners.holding c.owners.floor (IsOfNode o.by_boot known.clocks) (λ n. c.store.told.knew (Node n)) place index
       → IsReached (st.made store_is).devices (st.made store_is).areas c.register.chain holding floor (IsOfNode o.by_boot known.clocks) (λ n. c.store.told.knew (Node n)) place index)
       → (IsInLog c.logs c.slots row.slot block → ⊥)
-      → ((write : Sent) → Contains c.store.writes write → write.session ≢ session)
+      → ((write : Sent) → Contains c.store.writes write → write.session ≡ session → is_exclusive (c.owners.holding session block) ≡ false)
       → c.doubts session ≡ None
       → Hides block (known.held node) (held node) → Stands c.truth (hints node) tree
       → ((other : ℕ) → other ≢ node → (held other ≡ known.held other) × (hints other ≡ known.hints other))
       → StandsAt g o st Stands Step register_is owners_then store_is x (record known { letters = letters; held = held; hints = hints }) (with_holds c letters holding floor) tree
-  let_go_at up own lives is_row register_keeps owners_keep store_keeps stands same_own keeps apart reaches unlogged none_sent undoubted hides hinted others = record {
+  let_go_at up own lives is_row register_keeps owners_keep store_keeps stands same_own keeps apart reaches unlogged free undoubted hides hinted others = record {
     pasts = record {
       owners_chain = at.pasts.owners_chain;
       store_chain = at.pasts.store_chain;
@@ -95,7 +95,7 @@ module _ {G O S T : Type 0} (g : register.Ghosts G) (o : owners.Ghosts O) (st : 
     sessions = record { told = λ n s is. at.sessions.told n s (was_own n s is) };
     logs = rows_go (SureOf g o st Stands Step register_is owners_are store_is x known c)
         (SureOf g o st Stands Step register_is owners_then store_is x (record known { letters = letters; held = held; hints = hints }) (with_holds c letters holding floor)) (st.made store_is).devices (st.made store_is).areas c.before
-        (λ d s content sure. record { index = sure.index; is = stands d s content sure.index sure.is; only = sure.only; within = within_then d s sure.index sure.within })
+        (λ d s content sure. record { index = sure.index; is = stands d s content sure.index sure.only sure.is; only = sure.only; within = within_then d s sure.index sure.within })
         (last c.register.chain).sessions (last c.register.chain).sessions c.logs c.slots c.truth (λ slot less. inl refl) at.logs;
     rights = record { each = λ other its place is_its inside. let was = at.rights.each other its place is_its inside in (was.0, right other its place is_its inside was.1) };
     writes = record { ends = at.writes.ends; given = at.writes.given; may = λ write d sector content there live to. touch write d sector there (at.writes.may write d sector content there live to) };
@@ -143,10 +143,27 @@ module _ {G O S T : Type 0} (g : register.Ghosts G) (o : owners.Ghosts O) (st : 
               let r : its ≡ row = one_row its row (row_in (last c.register.chain).sessions session) (subst (λ (n : ℕ). row_in (last c.register.chain).sessions n ≡ Some its) e is_its) is_row in
               absurd (unlogged (subst (λ (n : ℕ). IsInLog c.logs c.slots row.slot n) f (subst (λ (y : SessionRow). IsInLog c.logs c.slots y.slot place) r inside)))
 
+      still : (write : Sent) (place : ℕ) → Contains c.store.writes write → is_exclusive (c.owners.holding write.session place) ≡ true → is_exclusive (holding write.session place) ≡ true
+      still write place there has = by_test (eqb write.session session) (eqb place block) refl refl
+        where
+          by_test : (a b : Bool) → eqb write.session session ≡ a → eqb place block ≡ b → is_exclusive (holding write.session place) ≡ true
+          by_test false b differ is = others_stay write.session place (λ e. grind (arith, nat_tests, differ, e)) has
+          by_test true false same differ =
+              let e : write.session ≡ session = grind (arith, nat_tests, same) in
+              let ne : place ≢ block = λ f. grind (arith, nat_tests, differ, f) in
+              subst (λ (n : ℕ). is_exclusive (holding n place) ≡ true) (sym e)
+              (exclusive_stays c.owners.holding holding session place (λ hold is. keeps.other_blocks place hold ne is) (subst (λ (n : ℕ). is_exclusive (c.owners.holding n place) ≡ true) e has))
+          by_test true true same here =
+              let e : write.session ≡ session = grind (arith, nat_tests, same) in
+              let f : place ≡ block = grind (arith, nat_tests, here) in
+              let was = subst (λ (n : ℕ). is_exclusive (c.owners.holding n place) ≡ true) e has in
+              let own = subst (λ (n : ℕ). is_exclusive (c.owners.holding session n) ≡ true) f was in
+              absurd (let wrong : true ≡ false = sym own ∙ free write there e in cc)
+
       touch : (write : Sent) (d sector : ℕ) → Contains c.store.writes write → MayTouch (st.made store_is).devices (st.made store_is).areas (last c.register.chain) c.owners.holding c.logs c.slots write.session d sector
           → MayTouch (st.made store_is).devices (st.made store_is).areas (last c.register.chain) holding c.logs c.slots write.session d sector
       touch write d sector there (OfSlot owner slot small entitled in_slot) = OfSlot owner slot small entitled in_slot
-      touch write d sector there (OfHeld place is home has) = OfHeld place is home (others_stay write.session place (none_sent write there) has)
+      touch write d sector there (OfHeld place is home has) = OfHeld place is home (still write place there has)
       touch write d sector there (OfLogged place owner slot is home small entitled inside) = OfLogged place owner slot is home small entitled inside
 
       volume : VolumeStands Stands Step holding (HasRow (last c.register.chain)) (LivesIn (last c.register.chain)) (own_up known.clocks.down (o.own owners_are)) held hints c.doubts c.truth tree

@@ -11,6 +11,7 @@ use Rattle.bx_facts.specs.Holds.{Hold}
 use Rattle.bx_facts.specs.Writes.{GoesOn, IsOnly, Made}
 use Rattle.bx_node_machines.specs.Machines as words
 use Rattle.bx_node_machines.specs.Machines.{AreAbout, Fetch, IsAbout, IsAtWork, IsFetched, MachineView, Scene, Stage, home_of}
+use Rattle.bx_node_machines.proofs.Leaving.{given_on}
 use Rattle.bx_node_machines.specs.Nodes.{NodesStand, hinted, known_of, scene_of, shown}
 use Rattle.bx_node_machines.proofs.Showing.{sees_truth, shown_at}
 use Rattle.bx_node_views.proofs.Knowing.{read_knows}
@@ -200,6 +201,7 @@ module _ {G O S T : Type 0} (g : register.Ghosts G) (o : owners.Ghosts O) (st : 
           (λ other. (same other).1) elsewhere sure_on (λ other block mode ne allows. allows) reads_on (λ place. refl) fetched unseen);
       single = stands.single;
       told = stands.told;
+      given = given_on machines later (last c.register.chain).next_session node before machine stands.given there then_there refl others;
     }
       where
         sees : ViewStands c.owners.holding c.truth session before.held × Stands c.truth before.hints tree

@@ -16,7 +16,7 @@ use Rattle.bx_global.specs.Allowed.{IsAllowed}
 use Rattle.bx_node_machines.specs.Machines as words
 use Rattle.bx_node_machines.specs.Machines.{AreAbout, Fetch, IsAbout, IsAtWork, IsDoubtOf, IsFetching, IsUnseen, IsUnwritten, MachineView, Scene, Stage, home_of, is_one, is_under}
 use Rattle.bx_node_machines.specs.Nodes.{IsOfNode, NodesStand, hinted, known_of, nothing_held, scene_of, shown}
-use Rattle.bx_node_machines.proofs.Leaving.{LeavesSlot, acts}
+use Rattle.bx_node_machines.proofs.Leaving.{LeavesSlot, acts, given_on}
 use Rattle.bx_node_machines.proofs.Owning as owning
 use Rattle.bx_node_machines.proofs.Sending.{fetching, sending_leaves}
 use Rattle.bx_node_sends.proofs.Begun.{begun_at, body_slot, with_doubt, with_record}
@@ -330,4 +330,5 @@ module _ {G O S T : Type 0} (g : register.Ghosts G) (o : owners.Ghosts O) (st : 
       about = subst (λ (m : Made). AreAbout m.devices m.areas (SureBy m) (st.will_read new x (with_write begun_course then_letters write).store) (IsOfNode o.by_boot clocks) Then) (sym handed.made) about_then;
       single = stands.single;
       told = stands.told;
+      given = given_on machines later (last c.register.chain).next_session node before machine stands.given there then_there (ap (λ (m : MachineView). m.session) machine_is) others;
     }

@@ -207,4 +207,5 @@ module _ {G O S T : Type 0} (g : register.Ghosts G) (o : owners.Ghosts O) (st : 
       about = subst (λ (m : Made). AreAbout m.devices m.areas (SureBy m) (st.will_read store_then y then_is.store) (IsOfNode o.by_boot clocks_then) Then) (sym made) about_then;
       single = one_owner o.by_boot c.register.chain clocks_then (o.own owners_then) (λ n. put_at who index c.store.told.knew (Node n)) allowed at_then.sessions;
       told = told;
+      given = stands.given;
     }

@@ -3,6 +3,7 @@ pub mod Begun
 pub mod Heard
 pub mod Keeping
 pub mod Opened
+pub mod Quieted
 pub mod Received
 pub mod Unlogged
 pub mod Wanted

@@ -11,6 +11,7 @@ use Rattle.bx_facts.specs.Writes.{Asked, GoesOn, IsOnly, Made}
 use Rattle.bx_layout.specs.Blocks.{SpellsBlock}
 use Rattle.bx_node_machines.specs.Machines as words
 use Rattle.bx_node_machines.specs.Machines.{AreAbout, Fetch, IsAbout, IsFetched, IsFetching, MachineView, Scene, home_of}
+use Rattle.bx_node_machines.proofs.Leaving.{given_on}
 use Rattle.bx_node_machines.specs.Nodes.{NodesStand, hinted, known_of, scene_of, shown}
 use Rattle.bx_node_machines.proofs.Sending.{fetching}
 use Rattle.bx_node_machines.proofs.Showing.{shown_at}
@@ -140,6 +141,7 @@ module _ {G O S T : Type 0} (g : register.Ghosts G) (o : owners.Ghosts O) (st : 
         its.unseen);
     single = stands.single;
     told = stands.told;
+    given = stands.given;
   }
 
   -- It has come: the node reads nothing then, and shows what is the truth and held so.
@@ -162,6 +164,7 @@ module _ {G O S T : Type 0} (g : register.Ghosts G) (o : owners.Ghosts O) (st : 
           (λ other. (same other).1) elsewhere sure_on (λ other block mode ne allows. allows) reads_on home none tt);
       single = stands.single;
       told = stands.told;
+      given = given_on machines later (last c.register.chain).next_session node before machine stands.given there then_there refl others;
     }
       where
         one_session : (a b : ℕ) → Some a ≡ Some b → a ≡ b

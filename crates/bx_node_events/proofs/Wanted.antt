@@ -13,6 +13,7 @@ use Rattle.bx_facts.specs.Writes.{GoesOn, Sent}
 use Rattle.bx_node_holds.proofs.Released.{let_go_at, with_holds}
 use Rattle.bx_node_machines.specs.Machines as words
 use Rattle.bx_node_machines.specs.Machines.{AreAbout, Fetch, IsAbout, IsAtWork, IsFetched, IsFetching, IsUnseen, MachineView, Scene, Stage, home_of}
+use Rattle.bx_node_machines.proofs.Leaving.{given_on}
 use Rattle.bx_node_machines.specs.Nodes.{NodesStand, hinted, known_of, scene_of, shown}
 use Rattle.bx_node_views.specs.Changes.{Hides}
 use Rattle.bx_node_views.proofs.Knowing as knowing
@@ -172,4 +173,5 @@ module _ {G O S T : Type 0} (g : register.Ghosts G) (o : owners.Ghosts O) (st : 
           (λ reader at is unlogged i few still asked was. reads_on reader at is unlogged i few asked was) same_away (fetching fetch reads).0 (fetching fetch reads).1;
       single = λ n other s is is_other. stands.single n other s (sym (same_up n) ∙ is) (sym (same_up other) ∙ is_other);
       told = λ n s is. stands.told n s (sym (same_up n) ∙ is);
+      given = given_on machines later (last c.register.chain).next_session node before machine stands.given there then_there refl others;
     }

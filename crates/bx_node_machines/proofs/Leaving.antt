@@ -1,6 +1,6 @@
 -- What nodes are about stays where an event leaves alone what it rests on.
 use Rattle.std.proofs.Common.{◌≡◌, ◌≢◌, ◌⊎◌, ⊎_elim, inl, inr, ◌∙◌, ℕ, ◌+◌, ◌<◌, Bool, true, false, List, eqb, length, Option, Some, None, refl, sym, ap, subst, arith}
-use Rattle.std.specs.Prelude.{◌==◌, ◌&&◌, IsSomeAnd}
+use Rattle.std.specs.Prelude.{◌==◌, ◌&&◌, IsSomeAnd, slice_get}
 use Rattle.std.proofs.lemmas.Bool.Decides.{nat_tests}
 use Rattle.bx_base.specs.declared.names.Mode.{Mode}
 use Rattle.bx_disk.specs.Disks.{Image}
@@ -233,3 +233,21 @@ module _ (devices areas : ℕ) (Touches : ℕ → ℕ → ℕ → Type 0) (Sure 
     each = λ other its machine row there marked is has lives. each_about other its machine row (eqb other node) refl there marked is (sym (ap (λ (l : List SessionRow). row_in l its) rows) ∙ has) lives;
     fresh = λ other its row of alone has lives none. its_fresh other its row (eqb other node) refl of alone (sym (ap (λ (l : List SessionRow). row_in l its) rows) ∙ has) lives none;
   }
+
+-- What a node has it has under a session that was given out, where it has it under the same one as before.
+pub given_on : (machines later : List MachineView) (next node : ℕ) (before machine : MachineView)
+    → ((other session : ℕ) (its : MachineView) → slice_get machines other ≡ Some its → its.session ≡ Some session → session < next)
+    → slice_get machines node ≡ Some before → slice_get later node ≡ Some machine → machine.session ≡ before.session
+    → ((other : ℕ) → other ≢ node → slice_get later other ≡ slice_get machines other)
+    → (other session : ℕ) (its : MachineView) → slice_get later other ≡ Some its → its.session ≡ Some session → session < next
+given_on machines later next node before machine given there then_there same others other session its has marked = by (eqb other node) refl
+  where
+    one_machine : (a b : MachineView) → Some a ≡ Some b → a ≡ b
+    one_machine a b e = cc
+
+    by : (b : Bool) → eqb other node ≡ b → session < next
+    by true is =
+        let e : other ≡ node = grind (arith, nat_tests, is) in
+        let f : its ≡ machine = one_machine its machine (sym has ∙ ap (λ (n : ℕ). slice_get later n) e ∙ then_there) in
+        given node session before there (sym same ∙ ap (λ (m : MachineView). m.session) (sym f) ∙ marked)
+    by false differ = given other session its (sym (others other (λ e. grind (arith, nat_tests, differ, e))) ∙ has) marked

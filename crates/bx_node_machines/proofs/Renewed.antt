@@ -1,5 +1,5 @@
 -- A node takes up a session that is new to it, and forgets what it had under another: the nodes stand.
-use Rattle.std.proofs.Common.{◌≡◌, ◌≢◌, ◌⊎◌, ◌∙◌, inr, ℕ, Bool, true, false, List, eqb, Option, Some, None, refl, sym, ap, subst, arith}
+use Rattle.std.proofs.Common.{◌≡◌, ◌≢◌, ◌⊎◌, ◌∙◌, inr, ℕ, ◌<◌, Bool, true, false, List, eqb, Option, Some, None, refl, sym, ap, subst, arith}
 use Rattle.std.specs.Prelude.{◌==◌, ◌&&◌, if◌then◌else◌, slice_get, length}
 use Rattle.std.proofs.lemmas.Bool.Decides.{nat_tests}
 use Rattle.bx_base.specs.declared.names.Actor.TheVariants.{Node}
@@ -142,11 +142,12 @@ module _ {G O S T : Type 0} (g : register.Ghosts G) (o : owners.Ghosts O) (st : 
   -- A node whose own session isn't the one that it has its blocks under forgets what it had, and begins anew under its own, if it has one.
   pub renewed : (letters : List Letter) (clocks : Clocks) (machines later : List MachineView) (c : Course) (tree : T) (node : ℕ) (before machine : MachineView)
       → NodesStand g o st Stands Step register_is owners_are store_is x letters clocks machines c tree → clocks.down (Node node) ≡ false
+      → ((session : ℕ) → o.own owners_are node ≡ Some session → session < (last c.register.chain).next_session)
       → slice_get machines node ≡ Some before → slice_get later node ≡ Some machine → ((other : ℕ) → other ≢ node → slice_get later other ≡ slice_get machines other)
       → is_one before.session (o.own owners_are node) ≡ false → machine.session ≡ o.own owners_are node → machine.hints ≡ before.hints → ((at : ℕ) (mode : Mode) → machine.held at mode ≡ None)
       → ((session : ℕ) (row : SessionRow) → o.own owners_are node ≡ Some session → row_in (last c.register.chain).sessions session ≡ Some row → row.dead ≡ 0 → IsNew (st.made store_is).devices row.slot machine)
       → NodesStand g o st Stands Step register_is owners_are store_is x letters clocks later c tree
-  renewed letters clocks machines later c tree node before machine stands up there then_there others not_mine takes same_hints shows is_new = record {
+  renewed letters clocks machines later c tree node before machine stands up opened there then_there others not_mine takes same_hints shows is_new = record {
     at = shown_at g o st Stands Step register_is owners_are store_is x (known_of g o st Stands Step register_is owners_are store_is x letters clocks machines) c tree node
         (λ n. shown (slice_get later n) (o.own owners_are n)) (λ n. hinted (slice_get later n)) stands.at
         (λ other ne. (ap (λ (m : Option MachineView). shown m (o.own owners_are other)) (others other ne), ap hinted (others other ne)))
@@ -160,8 +161,19 @@ module _ {G O S T : Type 0} (g : register.Ghosts G) (o : owners.Ghosts O) (st : 
         (λ other session own own_too. stands.single node other session own own_too);
     single = stands.single;
     told = stands.told;
+    given = λ other session its has marked. given_then other session its (eqb other node) refl has marked;
   }
     where
+      given_then : (other session : ℕ) (its : MachineView) → (b : Bool) → eqb other node ≡ b → slice_get later other ≡ Some its → its.session ≡ Some session → session < (last c.register.chain).next_session
+      given_then other session its true is has marked =
+          let e : other ≡ node = grind (arith, nat_tests, is) in
+          let f : its ≡ machine = one_machine its machine (sym has ∙ ap (λ (n : ℕ). slice_get later n) e ∙ then_there) in
+          opened session (sym takes ∙ ap (λ (m : MachineView). m.session) (sym f) ∙ marked)
+        where
+          one_machine : (a b : MachineView) → Some a ≡ Some b → a ≡ b
+          one_machine a b e = cc
+      given_then other session its false differ has marked = stands.given other session its (sym (others other (λ e. grind (arith, nat_tests, differ, e))) ∙ has) marked
+
       own_here : own_up clocks.down (o.own owners_are) node ≡ o.own owners_are node
       own_here = ap (λ (b : Bool). if b then None else o.own owners_are node) up
 

@@ -98,4 +98,5 @@ module _ {G O S T : Type 0} (g : register.Ghosts G) (o : owners.Ghosts O) (st : 
     about = stands.about;
     single = stands.single;
     told = stands.told;
+    given = stands.given;
   }

@@ -53,7 +53,10 @@ allows_on old new session block mode keeps allows = by (old session block) refl 
 module _ {G O S T : Type 0} (g : register.Ghosts G) (o : owners.Ghosts O) (st : store.Ghosts S) (Stands : Truth → Hints → T → Type 0) (Step : T → Deed → T → Type 0)
     (register_is register_then : G) (owners_are owners_then : O) (store_is store_then : S) (x y : Disks) (letters then_letters : List Letter) (clocks : Clocks) (machines : List MachineView) (c : Course) (tree : T)
     (who : Actor) (index : ℕ) (input : Input) (owners_change store_change proposal : Option Change) (holding : Holds)
-    (stands : NodesStand g o st Stands Step register_is owners_are store_is x letters clocks machines c tree)
+    (at_first : StandsAt g o st Stands Step register_is owners_are store_is x (known_of g o st Stands Step register_is owners_are store_is x letters clocks machines) c tree)
+    (about_first : AreAbout (st.made store_is).devices (st.made store_is).areas (SureOf g o st Stands Step register_is owners_are store_is x (known_of g o st Stands Step register_is owners_are store_is x letters clocks machines) c)
+    (st.will_read store_is x c.store) (IsOfNode o.by_boot clocks) (scene_of g o st Stands Step register_is owners_are store_is x clocks.down machines c))
+    (given_first : (node session : ℕ) (machine : MachineView) → slice_get machines node ≡ Some machine → machine.session ≡ Some session → session < (last c.register.chain).next_session)
     (allowed : AreAllowed c.register.chain) (legal : AreLegal c.register.chain.first c.register.chain.changes) where
   abbrev pub then_is : Course
   then_is = heard_course c who index input owners_change store_change proposal then_letters holding
@@ -129,7 +132,7 @@ module _ {G O S T : Type 0} (g : register.Ghosts G) (o : owners.Ghosts O) (st : 
       only = record { each = λ other brings has to. by_session other brings has to (might.each other d s content brings has to (subst (λ (l : List Run). WritesIn l d s content) (sym flying.runs_are) w)) };
       within = within_stays (st.made store_is).devices (st.made store_is).areas c.register.chain c.owners.holding holding c.owners.floor c.owners.floor (IsOfNode o.by_boot clocks_then) (IsOfNode o.by_boot clocks_then) (λ n. put_at who index c.store.told.knew (Node n)) (λ n. put_at who index c.store.told.knew (Node n))
           keeps (λ at. omega arith) (λ n session one found lives_too of. (of, omega arith)) d s (knew_then node)
-          (reaches (st.made store_is).devices (st.made store_is).areas stands.at.logs.volume c.register.chain allowed legal c.owners.holding c.owners.floor (IsOfNode o.by_boot clocks_then) (λ n. put_at who index c.store.told.knew (Node n)) c.logs c.slots stands.at.rights
+          (reaches (st.made store_is).devices (st.made store_is).areas at_first.logs.volume c.register.chain allowed legal c.owners.holding c.owners.floor (IsOfNode o.by_boot clocks_then) (λ n. put_at who index c.store.told.knew (Node n)) c.logs c.slots at_first.rights
           node its row is alive (λ other one found of. sym of.of ∙ one_is other one found) known_most d s (touches d s content w));
     }
       where
@@ -149,9 +152,9 @@ module _ {G O S T : Type 0} (g : register.Ghosts G) (o : owners.Ghosts O) (st : 
         known_most = let t = at_then.sessions.told node its own in let low = index_most c.register.chain t.state t.place in let e = t.at in omega (arith, low, e)
 
         might : MayWrite c.store.writes c.store.told.greatest (last c.register.chain) flying.write
-        might = may_write (st.made store_is).devices (st.made store_is).areas stands.at.logs.volume (last c.register.chain) c.owners.holding (oldest c.register.chain) c.logs c.slots stands.at.volume.rows stands.at.volume.apart alone stands.at.rights stands.at.logs.once allowed_last
-            c.owners.leases c.store.writes c.store.told.greatest flying.write stands.at.writes (subst (λ (n : ℕ). LivesIn (last c.register.chain) n) (sym flying.whose) its_lives)
-            (λ session end has less. lives session end has (let a = stands.at.pasts.owners_greatest in omega (arith, a, less)))
+        might = may_write (st.made store_is).devices (st.made store_is).areas at_first.logs.volume (last c.register.chain) c.owners.holding (oldest c.register.chain) c.logs c.slots at_first.volume.rows at_first.volume.apart alone at_first.rights at_first.logs.once allowed_last
+            c.owners.leases c.store.writes c.store.told.greatest flying.write at_first.writes (subst (λ (n : ℕ). LivesIn (last c.register.chain) n) (sym flying.whose) its_lives)
+            (λ session end has less. lives session end has (let a = at_first.pasts.owners_greatest in omega (arith, a, less)))
             (λ d s content w. subst (λ (n : ℕ). Touches n d s) (sym flying.whose) (touches d s content (subst (λ (l : List Run). WritesIn l d s content) flying.runs_are w)))
 
         by_session : (other : Sent) (brings : List ℕ) → Contains c.store.writes other → WritesTo other d s brings → (other.session ≡ flying.write.session) ⊎ (IsOver c.store.told.greatest other × (LivesIn (last c.register.chain) other.session → ⊥))
@@ -177,7 +180,7 @@ module _ {G O S T : Type 0} (g : register.Ghosts G) (o : owners.Ghosts O) (st : 
             (λ none. inl (⊎_elim (λ gone. gone) (λ same. same ∙ none) (asked node)))
             (λ some. ⊎_elim
             (λ gone. inl gone)
-            (λ same. inr (same ∙ some.0, λ i few. goes.reading node ((block_place block devices).1 + i) (c.before (block_place block devices).0 ((block_place block devices).1 + i)) (home_of devices block) some.0 (stands.at.logs.homes block was.is was.unlogged i few).only (some.1 i few)))
+            (λ same. inr (same ∙ some.0, λ i few. goes.reading node ((block_place block devices).1 + i) (c.before (block_place block devices).0 ((block_place block devices).1 + i)) (home_of devices block) some.0 (at_first.logs.homes block was.is was.unlogged i few).only (some.1 i few)))
             (asked node))
             was.asked;
       };
@@ -191,14 +194,14 @@ module _ {G O S T : Type 0} (g : register.Ghosts G) (o : owners.Ghosts O) (st : 
 
     about_then : AreAbout (st.made store_is).devices (st.made store_is).areas (SureBy (st.made store_is)) (st.will_read store_then y then_is.store) (IsOfNode o.by_boot clocks_then) Then
     about_then = hears (st.made store_is).devices (st.made store_is).areas Touches Sure_before (SureBy (st.made store_is)) (st.will_read store_is x c.store) (st.will_read store_then y then_is.store) (IsOfNode o.by_boot clocks) (IsOfNode o.by_boot clocks_then) Before Then
-        stands.about refl (λ node. refl) was_of_node (λ node other row of of_too. sym of_too.of ∙ of.of)
-        (λ node its row is alive own. own_of_node o.by_boot c.register.chain clocks (o.own owners_are) (λ n. c.store.told.knew (Node n)) allowed stands.at.sessions node its row own is alive)
+        about_first refl (λ node. refl) was_of_node (λ node other row of of_too. sym of_too.of ∙ of.of)
+        (λ node its row is alive own. own_of_node o.by_boot c.register.chain clocks (o.own owners_are) (λ n. c.store.told.knew (Node n)) allowed at_first.sessions node its row own is alive)
         (λ node its row is alive own. its_of node its row own is alive)
         (λ node its row is alive of own. kept node its row is alive own)
         quiet
         (λ its row is alive. record { logs = refl; slots = refl; doubts = refl })
         leaves
-        (λ node its machine row is alive about. owning.may_work (st.made store_is).devices (st.made store_is).areas Sure_before c.before (last c.register.chain) allowed_last c.owners.holding c.logs c.slots c.truth stands.at.logs its row is alive
+        (λ node its machine row is alive about. owning.may_work (st.made store_is).devices (st.made store_is).areas Sure_before c.before (last c.register.chain) allowed_last c.owners.holding c.logs c.slots c.truth at_first.logs its row is alive
         (st.will_read store_is x c.store node) Before node machine refl refl about)
 
     pub heard : NodesStand g o st Stands Step register_then owners_then store_then y then_letters clocks_then machines then_is tree
@@ -207,5 +210,5 @@ module _ {G O S T : Type 0} (g : register.Ghosts G) (o : owners.Ghosts O) (st : 
       about = subst (λ (m : Made). AreAbout m.devices m.areas (SureBy m) (st.will_read store_then y then_is.store) (IsOfNode o.by_boot clocks_then) Then) (sym made) about_then;
       single = one_owner o.by_boot c.register.chain clocks_then (o.own owners_then) (λ n. put_at who index c.store.told.knew (Node n)) allowed at_then.sessions;
       told = told;
-      given = stands.given;
+      given = given_first;
     }

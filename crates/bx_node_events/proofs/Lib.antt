@@ -1,5 +1,6 @@
 pub mod Asked
 pub mod Begun
+pub mod Grown
 pub mod Heard
 pub mod Keeping
 pub mod Opened

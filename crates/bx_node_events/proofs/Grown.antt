@@ -12,7 +12,7 @@ use Rattle.bx_global.specs.declared.change.Change.{Change}
 use Rattle.bx_global.specs.Table.{IsLegal}
 use Rattle.bx_global.proofs.Rising.{next_rises}
 use Rattle.bx_node_machines.specs.Machines.{AreAbout, IsFresh, IsWriting, MachineView, Scene, home_of}
-use Rattle.bx_node_machines.specs.Nodes.{IsOfNode, NodesStand, known_of, scene_of}
+use Rattle.bx_node_machines.specs.Nodes.{IsOfNode, known_of, scene_of}
 use Rattle.bx_node_machines.proofs.Growing.{IsOld, grows_on}
 use Rattle.bx_node_machines.proofs.Leaving.{Leaves}
 use Rattle.bx_node_machines.proofs.Owning as owning
@@ -44,7 +44,10 @@ either a b = grind arith
 
 module _ {G O S T : Type 0} (g : register.Ghosts G) (o : owners.Ghosts O) (st : store.Ghosts S) (Stands : Truth → Hints → T → Type 0) (Step : T → Deed → T → Type 0)
     (register_is register_then : G) (owners_are : O) (store_is : S) (x : Disks) (letters : List Letter) (clocks : Clocks) (machines : List MachineView) (c : Course) (tree : T) (change : Change)
-    (stands : NodesStand g o st Stands Step register_is owners_are store_is x letters clocks machines c tree)
+    (at_first : StandsAt g o st Stands Step register_is owners_are store_is x (known_of g o st Stands Step register_is owners_are store_is x letters clocks machines) c tree)
+    (about_first : AreAbout (st.made store_is).devices (st.made store_is).areas (SureOf g o st Stands Step register_is owners_are store_is x (known_of g o st Stands Step register_is owners_are store_is x letters clocks machines) c)
+    (st.will_read store_is x c.store) (IsOfNode o.by_boot clocks) (scene_of g o st Stands Step register_is owners_are store_is x clocks.down machines c))
+    (given_first : (node session : ℕ) (machine : MachineView) → slice_get machines node ≡ Some machine → machine.session ≡ Some session → session < (last c.register.chain).next_session)
     (allowed : AreAllowed c.register.chain) (legal : IsLegal (last c.register.chain) change)
     (goes : GoesOn c.store.writes c.store.told.greatest (st.asked store_is) (st.settled store_is x c.store) (st.settled store_is x (store_grown c.store change))
     (st.will_read store_is x c.store) (st.will_read store_is x (store_grown c.store change)) (st.stands store_is x c.store) (st.stands store_is x (store_grown c.store change))) where
@@ -68,7 +71,7 @@ module _ {G O S T : Type 0} (g : register.Ghosts G) (o : owners.Ghosts O) (st : 
 
   sure_on : (d s : ℕ) (content : List ℕ) → Sure_before d s content → Sure_then d s content
   sure_on = surely_goes c.register.chain change allowed_last legal (IsOfNode o.by_boot clocks) (of_before o.by_boot clocks) (st.made store_is).devices (st.made store_is).areas c.owners (λ n. c.store.told.knew (Node n))
-      (st.stands store_is x c.store) (st.stands store_is x (store_grown c.store change)) c.store.writes c.store.told.greatest stands.at.pasts.owners_chain allowed goes.standing
+      (st.stands store_is x c.store) (st.stands store_is x (store_grown c.store change)) c.store.writes c.store.told.greatest at_first.pasts.owners_chain allowed goes.standing
 
   -- a live row that was given out was live; and a row that wasn't is in a slot that was free
   rows : (its : ℕ) (row : SessionRow) → row_in (last (grown c.register.chain change)).sessions its ≡ Some row → row.dead ≡ 0 → IsOld (IsOfNode o.by_boot clocks) (last c.register.chain).sessions its row ⊎ ((last c.register.chain).next_session ≤ its)
@@ -82,7 +85,7 @@ module _ {G O S T : Type 0} (g : register.Ghosts G) (o : owners.Ghosts O) (st : 
 
   given_out : (node its : ℕ) → own_up clocks.down (o.own owners_are) node ≡ Some its → its < (last c.register.chain).next_session
   given_out node its own =
-      let t = stands.at.sessions.told node its own in
+      let t = at_first.sessions.told node its own in
       let row = own_row o.by_boot t.state node (clocks.boots (Node node)) its (allowed.each t.state t.place) t.by in
       has_less c.register.chain t.state its allowed t.place (has_of t.state its row.row row.is)
 
@@ -99,15 +102,15 @@ module _ {G O S T : Type 0} (g : register.Ghosts G) (o : owners.Ghosts O) (st : 
       (was_or_new (last c.register.chain) change its row allowed_last legal has)
     where
       shut_log : row.slot < 8 → is_taken (last c.register.chain).sessions row.slot ≡ false → c.logs row.slot ≡ []
-      shut_log low is_free = subst (λ (t : Bool). LogWhere t c.before (st.made store_is).devices (st.made store_is).areas row.slot (c.logs row.slot)) is_free (stands.at.logs.is_truth.has_logs row.slot low)
+      shut_log low is_free = subst (λ (t : Bool). LogWhere t c.before (st.made store_is).devices (st.made store_is).areas row.slot (c.logs row.slot)) is_free (at_first.logs.is_truth.has_logs row.slot low)
 
       shut_slot : row.slot < 8 → is_taken (last c.register.chain).sessions row.slot ≡ false → (c.slots row.slot).activity ≡ idle
-      shut_slot low is_free = (subst (λ (t : Bool). SlotStands Sure_before (st.made store_is).devices (st.made store_is).areas c.before t c.logs row.slot (c.slots row.slot)) is_free (stands.at.logs.each row.slot low)).still
+      shut_slot low is_free = (subst (λ (t : Bool). SlotStands Sure_before (st.made store_is).devices (st.made store_is).areas c.before t c.logs row.slot (c.slots row.slot)) is_free (at_first.logs.each row.slot low)).still
 
       undoubted : (found : Option Doubt) → c.doubts its ≡ found → found ≡ None
       undoubted None is = refl
       undoubted (Some doubt) is = absurd (
-          let had = stands.at.doubted.only its doubt is in
+          let had = at_first.doubted.only its doubt is in
           let less = below_next (last c.register.chain).sessions (last c.register.chain).next_session its had.0 allowed_last.rising had.1 in omega (arith, less, more))
 
   leaves : (node its : ℕ) (row : SessionRow) → Leaves (st.made store_is).devices (st.made store_is).areas (Touches its) Sure_before Sure_then (st.will_read store_is x c.store node) (st.will_read store_is x (store_grown c.store change) node) Before Then node its row.slot
@@ -126,7 +129,7 @@ module _ {G O S T : Type 0} (g : register.Ghosts G) (o : owners.Ghosts O) (st : 
           (λ some. inr (
             some.0,
             λ i few. goes.reading node ((block_place block (st.made store_is).devices).1 + i) (c.before (block_place block (st.made store_is).devices).0 ((block_place block (st.made store_is).devices).1 + i))
-                (home_of (st.made store_is).devices block) some.0 (stands.at.logs.homes block was.is was.unlogged i few).only (some.1 i few),
+                (home_of (st.made store_is).devices block) some.0 (at_first.logs.homes block was.is was.unlogged i few).only (some.1 i few),
           ))
           was.asked;
     };
@@ -139,11 +142,11 @@ module _ {G O S T : Type 0} (g : register.Ghosts G) (o : owners.Ghosts O) (st : 
   -- Each node is about what it was about.
   pub about_grown : AreAbout (st.made store_is).devices (st.made store_is).areas Sure_then (st.will_read store_is x (store_grown c.store change)) (IsOfNode o.by_boot clocks) Then
   about_grown = grows_on (st.made store_is).devices (st.made store_is).areas Touches Sure_before Sure_then (st.will_read store_is x c.store) (st.will_read store_is x (store_grown c.store change)) (IsOfNode o.by_boot clocks) Before Then (last c.register.chain).next_session
-      stands.about (λ node. refl) (λ node. refl) rows (λ node its machine there marked. stands.given node its machine there marked) opened
+      about_first (λ node. refl) (λ node. refl) rows (λ node its machine there marked. given_first node its machine there marked) opened
       (λ its slot. record { logs = refl; slots = refl; doubts = refl })
       (λ node its row is alive. leaves node its row)
-      (λ node its machine row is alive about. owning.may_work (st.made store_is).devices (st.made store_is).areas Sure_before c.before (last c.register.chain) allowed_last c.owners.holding c.logs c.slots c.truth stands.at.logs its row is alive
+      (λ node its machine row is alive about. owning.may_work (st.made store_is).devices (st.made store_is).areas Sure_before c.before (last c.register.chain) allowed_last c.owners.holding c.logs c.slots c.truth at_first.logs its row is alive
       (st.will_read store_is x c.store node) Before node machine refl refl about)
 
   pub given_grown : (node its : ℕ) (machine : MachineView) → slice_get machines node ≡ Some machine → machine.session ≡ Some its → its < (last (grown c.register.chain change)).next_session
-  given_grown node its machine there marked = let less = stands.given node its machine there marked in let more = next_rises (last c.register.chain) change in omega (arith, less, more)
+  given_grown node its machine there marked = let less = given_first node its machine there marked in let more = next_rises (last c.register.chain) change in omega (arith, less, more)

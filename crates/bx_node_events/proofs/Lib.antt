@@ -1,9 +1,9 @@
 pub mod Asked
 pub mod Begun
 pub mod Grown
-pub mod Heard
 pub mod Keeping
 pub mod Opened
+pub mod Passing
 pub mod Quieted
 pub mod Received
 pub mod Unlogged

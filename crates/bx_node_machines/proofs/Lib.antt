@@ -1,3 +1,4 @@
+pub mod Downing
 pub mod Growing
 pub mod Hearing
 pub mod Leaving

@@ -1,20 +1,17 @@
--- A machine was handed an input, and the cluster stands: each node is still about what its session has under way. A write of a node's own session that is done
--- stands surely then.
+-- An event passes that leaves nodes, caches, logs and the chain as they were: letters come and go, holds grow, machines stop and start, disks change, writes are over. Each node
+-- whose session stays its own is about what it was about; a write of it that is done stands surely then.
 use Rattle.std.proofs.Common.{◌≡◌, ◌≢◌, ◌⊎◌, ⊎_elim, inl, inr, ◌∙◌, ℕ, ◌+◌, ◌≤◌, ◌<◌, List, Contains, Option, Some, None, refl, sym, ap, subst, arith}
 use Rattle.std.specs.Prelude.{slice_get}
-use Rattle.bx_base.specs.declared.names.Actor.{Actor}
 use Rattle.bx_base.specs.declared.names.Actor.TheVariants.{Node}
 use Rattle.bx_base.specs.declared.names.Mode.{Mode}
 use Rattle.bx_disk.specs.Disks.{Disks}
 use Rattle.bx_facts.specs.declared.register.Register as register
 use Rattle.bx_facts.specs.declared.store.Store as store
-use Rattle.bx_facts.specs.declared.input.Input.{Input}
 use Rattle.bx_facts.specs.Chains.{AreLegal, HasRow, LivesIn, last, oldest}
-use Rattle.bx_facts.specs.Holds.{Hold, Holds, KeepsHolds}
-use Rattle.bx_facts.specs.Machines.{put_at}
-use Rattle.bx_facts.specs.Writes.{GoesOn, IsDone, IsOver, Made, MayWrite, Sent, WritesIn, WritesTo}
+use Rattle.bx_facts.specs.Holds.{Hold, Holds, KeepsHolds, OwnersPast}
+use Rattle.bx_facts.specs.Pasts.{RegisterPast}
+use Rattle.bx_facts.specs.Writes.{Asked, IsDone, IsOnly, IsOver, Made, MayWrite, Sent, StorePast, WritesIn, WritesTo}
 use Rattle.bx_global.specs.Allowed.{IsAllowed}
-use Rattle.bx_global.specs.declared.change.Change.{Change}
 use Rattle.bx_node_machines.specs.Machines.{AreAbout, IsAbout, IsFetched, IsFlying, IsLanded, IsWriting, MachineView, Scene, home_of}
 use Rattle.bx_node_machines.specs.Nodes.{IsOfNode, NodesStand, hinted, known_of, scene_of, shown}
 use Rattle.bx_node_machines.proofs.Hearing.{hears}
@@ -38,8 +35,7 @@ use Rattle.bx_world_standing.specs.Rights.{IsWithin, MayTouch, Surely}
 use Rattle.bx_world_standing.specs.Standing.{Course, Known, StandsAt, SureOf, own_up}
 use Rattle.bx_world_standing.proofs.Owns.{own_of}
 use Rattle.bx_world_standing.proofs.Told.{one_owner, own_of_node}
-use Rattle.bx_world_stays.proofs.Heard.{heard_clocks, heard_course}
-use Rattle.bx_world_stays.proofs.Stays.{surely_stays, within_stays}
+use Rattle.bx_world_stays.proofs.Stays.{within_stays}
 use Rattle.bx_world_views.specs.Views.{Allows}
 
 -- what a hold allows, one that stays allows
@@ -51,40 +47,41 @@ allows_on old new session block mode keeps allows = by (old session block) refl 
     by (Some hold) is allowed = subst (λ (h : Option Hold). Allows h mode) (sym (keeps.each session block hold is)) allowed
 
 module _ {G O S T : Type 0} (g : register.Ghosts G) (o : owners.Ghosts O) (st : store.Ghosts S) (Stands : Truth → Hints → T → Type 0) (Step : T → Deed → T → Type 0)
-    (register_is register_then : G) (owners_are owners_then : O) (store_is store_then : S) (x y : Disks) (letters then_letters : List Letter) (clocks : Clocks) (machines : List MachineView) (c : Course) (tree : T)
-    (who : Actor) (index : ℕ) (input : Input) (owners_change store_change proposal : Option Change) (holding : Holds)
+    (register_is register_then : G) (owners_are owners_then : O) (store_is store_then : S) (x y : Disks) (letters then_letters : List Letter) (clocks clocks_then : Clocks) (machines : List MachineView) (c : Course) (tree : T)
+    (r : RegisterPast) (op : OwnersPast) (sp : StorePast)
     (at_first : StandsAt g o st Stands Step register_is owners_are store_is x (known_of g o st Stands Step register_is owners_are store_is x letters clocks machines) c tree)
     (about_first : AreAbout (st.made store_is).devices (st.made store_is).areas (SureOf g o st Stands Step register_is owners_are store_is x (known_of g o st Stands Step register_is owners_are store_is x letters clocks machines) c)
     (st.will_read store_is x c.store) (IsOfNode o.by_boot clocks) (scene_of g o st Stands Step register_is owners_are store_is x clocks.down machines c))
     (given_first : (node session : ℕ) (machine : MachineView) → slice_get machines node ≡ Some machine → machine.session ≡ Some session → session < (last c.register.chain).next_session)
     (allowed : AreAllowed c.register.chain) (legal : AreLegal c.register.chain.first c.register.chain.changes) where
+  -- what was done then
   abbrev pub then_is : Course
-  then_is = heard_course c who index input owners_change store_change proposal then_letters holding
+  then_is = record c { register = record r { chain = c.register.chain }; owners = op; store = sp }
 
-  abbrev pub clocks_then : Clocks
-  clocks_then = heard_clocks clocks input
+  abbrev own : ℕ → Option ℕ
+  own = own_up clocks.down (o.own owners_are)
 
-  abbrev knew : ℕ → ℕ
-  knew node = c.store.told.knew (Node node)
-
-  abbrev knew_then : ℕ → ℕ
-  knew_then node = put_at who index c.store.told.knew (Node node)
+  abbrev own_then : ℕ → Option ℕ
+  own_then = own_up clocks_then.down (o.own owners_then)
 
   module _ (at_then : StandsAt g o st Stands Step register_then owners_then store_then y (known_of g o st Stands Step register_then owners_then store_then y then_letters clocks_then machines) then_is tree)
       (made : st.made store_then ≡ st.made store_is)
-      (keeps : KeepsHolds c.owners.holding holding)
-      (goes : GoesOn c.store.writes c.store.told.greatest (st.asked store_is) (st.settled store_is x c.store) (st.settled store_then y then_is.store) (st.will_read store_is x c.store) (st.will_read store_then y then_is.store) (st.stands store_is x c.store) (st.stands store_then y then_is.store))
-      (later : c.store.told.greatest ≤ then_is.store.told.greatest)
-      (more : (node : ℕ) → c.store.told.knew (Node node) ≤ put_at who index c.store.told.knew (Node node))
-      (kept : (node its : ℕ) (row : SessionRow) → row_in (last c.register.chain).sessions its ≡ Some row → row.dead ≡ 0 → own_up clocks.down (o.own owners_are) node ≡ Some its → own_up clocks.down (o.own owners_then) node ≡ Some its)
-      (quiet : (node its : ℕ) → own_up clocks.down (o.own owners_then) node ≡ Some its → own_up clocks.down (o.own owners_are) node ≢ Some its → (st.out_of store_then node ≡ None) × (st.asked store_then node ≡ None))
-      (out : (node : ℕ) → (st.out_of store_then node ≡ None) ⊎ (st.out_of store_then node ≡ st.out_of store_is node))
-      (asked : (node : ℕ) → (st.asked store_then node ≡ None) ⊎ (st.asked store_then node ≡ st.asked store_is node))
-      (done : (node : ℕ) (write : Sent) → st.out_of store_is node ≡ Some write → st.out_of store_then node ≡ None → st.own store_then node ≡ Some write.session → LivesIn (last c.register.chain) write.session
-      → IsDone (st.stands store_then y then_is.store) (put_at who index c.store.told.knew (Node node)) write)
+      (keeps : KeepsHolds c.owners.holding op.holding)
+      (rises : (block : ℕ) → c.owners.floor block ≤ op.floor block)
+      (sent : (write : Sent) → Contains sp.writes write → Contains c.store.writes write)
+      (later : c.store.told.greatest ≤ sp.told.greatest)
+      (fewer : (node : ℕ) (row : SessionRow) → IsOfNode o.by_boot clocks_then node row → IsOfNode o.by_boot clocks node row × (c.store.told.knew (Node node) ≤ sp.told.knew (Node node)))
+      (standing : (d s : ℕ) (content : List ℕ) (index : ℕ) → IsOnly c.store.writes c.store.told.greatest d s content → st.stands store_is x c.store d s content index → st.stands store_then y sp d s content index)
+      (reading : (node its s : ℕ) (content : List ℕ) (asks : Asked) → own_then node ≡ Some its → st.asked store_is node ≡ Some asks → IsOnly c.store.writes c.store.told.greatest asks.device s content
+      → st.will_read store_is x c.store node s content → st.will_read store_then y sp node s content)
+      (kept : (node its : ℕ) (row : SessionRow) → row_in (last c.register.chain).sessions its ≡ Some row → row.dead ≡ 0 → IsOfNode o.by_boot clocks_then node row → own node ≡ Some its → own_then node ≡ Some its)
+      (quiet : (node its : ℕ) → own_then node ≡ Some its → own node ≢ Some its → (st.out_of store_then node ≡ None) × (st.asked store_then node ≡ None))
+      (out : (node its : ℕ) → own_then node ≡ Some its → (st.out_of store_then node ≡ None) ⊎ (st.out_of store_then node ≡ st.out_of store_is node))
+      (asked : (node its : ℕ) → own_then node ≡ Some its → (st.asked store_then node ≡ None) ⊎ (st.asked store_then node ≡ st.asked store_is node))
+      (done : (node : ℕ) (write : Sent) → own_then node ≡ Some write.session → st.out_of store_is node ≡ Some write → st.out_of store_then node ≡ None → LivesIn (last c.register.chain) write.session → IsDone (st.stands store_then y sp) (sp.told.knew (Node node)) write)
       (lives : (session end : ℕ) → Contains c.owners.leases (session, end) → c.owners.told.greatest ≤ end + 500 → LivesIn (last c.register.chain) session)
       (alone : (one other block : ℕ) (hold : Hold) → LivesIn (last c.register.chain) one → HasRow (last c.register.chain) other → c.owners.holding one block ≡ Some hold → oldest c.register.chain ≤ other)
-      (told : (node session : ℕ) → own_up clocks.down (o.own owners_then) node ≡ Some session → (g.knows register_then (Node node)).index ≤ put_at who index c.store.told.knew (Node node)) where
+      (told : (node its : ℕ) → own_then node ≡ Some its → (g.knows register_then (Node node)).index ≤ sp.told.knew (Node node)) where
     abbrev devices : ℕ
     devices = (st.made store_is).devices
 
@@ -98,49 +95,46 @@ module _ {G O S T : Type 0} (g : register.Ghosts G) (o : owners.Ghosts O) (st : 
     Before = scene_of g o st Stands Step register_is owners_are store_is x clocks.down machines c
 
     abbrev Then : Scene
-    Then = scene_of g o st Stands Step register_then owners_then store_then y clocks.down machines then_is
+    Then = scene_of g o st Stands Step register_then owners_then store_then y clocks_then.down machines then_is
 
     abbrev Sure_before : ℕ → ℕ → List ℕ → Type 0
     Sure_before = SureOf g o st Stands Step register_is owners_are store_is x (known_of g o st Stands Step register_is owners_are store_is x letters clocks machines) c
 
     abbrev SureBy : Made → ℕ → ℕ → List ℕ → Type 0
-    SureBy m = Surely (st.stands store_then y then_is.store) (IsWithin m.devices m.areas c.register.chain holding c.owners.floor (IsOfNode o.by_boot clocks_then) (λ node. put_at who index c.store.told.knew (Node node))) c.store.writes then_is.store.told.greatest
+    SureBy m = Surely (st.stands store_then y sp) (IsWithin m.devices m.areas c.register.chain op.holding op.floor (IsOfNode o.by_boot clocks_then) (λ node. sp.told.knew (Node node))) sp.writes sp.told.greatest
 
     abbrev Touches : ℕ → ℕ → ℕ → Type 0
     Touches its d s = MayTouch (st.made store_is).devices (st.made store_is).areas (last c.register.chain) c.owners.holding c.logs c.slots its d s
 
-    was_of_node : (node : ℕ) (row : SessionRow) → IsOfNode o.by_boot clocks_then node row → IsOfNode o.by_boot clocks node row
-    was_of_node node row of = record { up = of.up; of = of.of; boot = of.boot }
-
     sure_on : (d s : ℕ) (content : List ℕ) → Sure_before d s content → SureBy (st.made store_is) d s content
-    sure_on d s content sure =
-        surely_stays (st.made store_is).devices (st.made store_is).areas c.register.chain c.owners.holding holding c.owners.floor c.owners.floor (IsOfNode o.by_boot clocks) (IsOfNode o.by_boot clocks_then) (λ n. c.store.told.knew (Node n)) (λ n. put_at who index c.store.told.knew (Node n))
-        keeps (λ at. omega arith) (λ node session row is alive of. (was_of_node node row of, more node))
-        (st.stands store_is x c.store) (st.stands store_then y then_is.store) c.store.writes c.store.told.greatest then_is.store.told.greatest later goes.standing d s content sure
+    sure_on d s content sure = record {
+      index = sure.index;
+      is = standing d s content sure.index sure.only sure.is;
+      only = record { each = λ write other has to. ⊎_elim (λ same. inl same) (λ over. inr (omega (arith, later, over))) (sure.only.each write other (sent write has) to) };
+      within = within_stays (st.made store_is).devices (st.made store_is).areas c.register.chain c.owners.holding op.holding c.owners.floor op.floor (IsOfNode o.by_boot clocks) (IsOfNode o.by_boot clocks_then) (λ n. c.store.told.knew (Node n)) (λ n. sp.told.knew (Node n))
+          keeps rises (λ node session row found alive of. fewer node row of) d s sure.index sure.within;
+    }
 
-    its_of : (node its : ℕ) (row : SessionRow) → own_up clocks.down (o.own owners_then) node ≡ Some its → row_in (last c.register.chain).sessions its ≡ Some row → row.dead ≡ 0 → IsOfNode o.by_boot clocks_then node row
-    its_of node its row own is alive = own_of_node o.by_boot c.register.chain clocks_then (o.own owners_then) (λ n. put_at who index c.store.told.knew (Node n)) allowed at_then.sessions node its row own is alive
+    its_of : (node its : ℕ) (row : SessionRow) → own_then node ≡ Some its → row_in (last c.register.chain).sessions its ≡ Some row → row.dead ≡ 0 → IsOfNode o.by_boot clocks_then node row
+    its_of node its row own is alive = own_of_node o.by_boot c.register.chain clocks_then (o.own owners_then) (λ n. sp.told.knew (Node n)) allowed at_then.sessions node its row own is alive
 
     -- what a write brought that is done stands so
-    done_sure : (node its : ℕ) (row : SessionRow) (runs : List Run) → own_up clocks.down (o.own owners_then) node ≡ Some its → row_in (last c.register.chain).sessions its ≡ Some row → row.dead ≡ 0
+    done_sure : (node its : ℕ) (row : SessionRow) (runs : List Run) → own_then node ≡ Some its → row_in (last c.register.chain).sessions its ≡ Some row → row.dead ≡ 0
         → ((d s : ℕ) (content : List ℕ) → WritesIn runs d s content → Touches its d s)
         → IsFlying its runs (st.out_of store_is node) c.store.writes → st.out_of store_then node ≡ None
         → (d s : ℕ) (content : List ℕ) → WritesIn runs d s content → SureBy (st.made store_is) d s content
     done_sure node its row runs own is alive touches flying none d s content w = record {
-      index = knew_then node;
-      is = (done node flying.write flying.is_out none (own_store ∙ ap (λ (n : ℕ). Some n) (sym flying.whose)) (subst (λ (n : ℕ). LivesIn (last c.register.chain) n) (sym flying.whose) its_lives)).each d s content (subst (λ (l : List Run). WritesIn l d s content) (sym flying.runs_are) w);
-      only = record { each = λ other brings has to. by_session other brings has to (might.each other d s content brings has to (subst (λ (l : List Run). WritesIn l d s content) (sym flying.runs_are) w)) };
-      within = within_stays (st.made store_is).devices (st.made store_is).areas c.register.chain c.owners.holding holding c.owners.floor c.owners.floor (IsOfNode o.by_boot clocks_then) (IsOfNode o.by_boot clocks_then) (λ n. put_at who index c.store.told.knew (Node n)) (λ n. put_at who index c.store.told.knew (Node n))
-          keeps (λ at. omega arith) (λ n session one found lives_too of. (of, omega arith)) d s (knew_then node)
-          (reaches (st.made store_is).devices (st.made store_is).areas at_first.logs.volume c.register.chain allowed legal c.owners.holding c.owners.floor (IsOfNode o.by_boot clocks_then) (λ n. put_at who index c.store.told.knew (Node n)) c.logs c.slots at_first.rights
+      index = sp.told.knew (Node node);
+      is = (done node flying.write (own ∙ ap (λ (n : ℕ). Some n) (sym flying.whose)) flying.is_out none (subst (λ (n : ℕ). LivesIn (last c.register.chain) n) (sym flying.whose) its_lives)).each d s content (subst (λ (l : List Run). WritesIn l d s content) (sym flying.runs_are) w);
+      only = record { each = λ other brings has to. by_session other brings (sent other has) to (might.each other d s content brings (sent other has) to (subst (λ (l : List Run). WritesIn l d s content) (sym flying.runs_are) w)) };
+      within = within_stays (st.made store_is).devices (st.made store_is).areas c.register.chain c.owners.holding op.holding c.owners.floor op.floor (IsOfNode o.by_boot clocks_then) (IsOfNode o.by_boot clocks_then) (λ n. sp.told.knew (Node n)) (λ n. sp.told.knew (Node n))
+          keeps rises (λ n session one found lives_too of. (of, omega arith)) d s (sp.told.knew (Node node))
+          (reaches (st.made store_is).devices (st.made store_is).areas at_first.logs.volume c.register.chain allowed legal c.owners.holding c.owners.floor (IsOfNode o.by_boot clocks_then) (λ n. sp.told.knew (Node n)) c.logs c.slots at_first.rights
           node its row is alive (λ other one found of. sym of.of ∙ one_is other one found) known_most d s (touches d s content w));
     }
       where
         its_lives : LivesIn (last c.register.chain) its
         its_lives = lives_of (last c.register.chain) its row is alive
-
-        own_store : st.own store_then node ≡ Some its
-        own_store = let had = own_of clocks.down (o.own owners_then) node its own in sym (at_then.parts.own node had.0) ∙ had.1
 
         same_row : (a b : SessionRow) (found : Option SessionRow) → found ≡ Some a → found ≡ Some b → a ≡ b
         same_row a b found one two = cc
@@ -148,7 +142,7 @@ module _ {G O S T : Type 0} (g : register.Ghosts G) (o : owners.Ghosts O) (st : 
         one_is : (other : ℕ) (one : SessionRow) → row_in (last c.register.chain).sessions its ≡ Some one → one.node ≡ node
         one_is other one found = ap (λ (r : SessionRow). r.node) (same_row one row (row_in (last c.register.chain).sessions its) found is) ∙ (its_of node its row own is alive).of
 
-        known_most : knew_then node ≤ (last c.register.chain).index
+        known_most : sp.told.knew (Node node) ≤ (last c.register.chain).index
         known_most = let t = at_then.sessions.told node its own in let low = index_most c.register.chain t.state t.place in let e = t.at in omega (arith, low, e)
 
         might : MayWrite c.store.writes c.store.told.greatest (last c.register.chain) flying.write
@@ -158,57 +152,58 @@ module _ {G O S T : Type 0} (g : register.Ghosts G) (o : owners.Ghosts O) (st : 
             (λ d s content w. subst (λ (n : ℕ). Touches n d s) (sym flying.whose) (touches d s content (subst (λ (l : List Run). WritesIn l d s content) flying.runs_are w)))
 
         by_session : (other : Sent) (brings : List ℕ) → Contains c.store.writes other → WritesTo other d s brings → (other.session ≡ flying.write.session) ⊎ (IsOver c.store.told.greatest other × (LivesIn (last c.register.chain) other.session → ⊥))
-            → (brings ≡ content) ⊎ IsOver then_is.store.told.greatest other
+            → (brings ≡ content) ⊎ IsOver sp.told.greatest other
         by_session other brings has to (inl same) =
             let e : other ≡ flying.write = flying.only other has (same ∙ flying.whose) in
             inl (flying.once d s content brings w (subst (λ (l : List Run). WritesIn l d s brings) flying.runs_are (subst (λ (one : Sent). WritesTo one d s brings) e to)))
         by_session other brings has to (inr over) = inr (let a = over.0 in omega (arith, a, later))
 
-    leaves : (node its : ℕ) (row : SessionRow) → own_up clocks.down (o.own owners_are) node ≡ Some its → own_up clocks.down (o.own owners_then) node ≡ Some its → row_in (last c.register.chain).sessions its ≡ Some row → row.dead ≡ 0
-        → Leaves (st.made store_is).devices (st.made store_is).areas (Touches its) Sure_before (SureBy (st.made store_is)) (st.will_read store_is x c.store node) (st.will_read store_then y then_is.store node) Before Then node its row.slot
+    leaves : (node its : ℕ) (row : SessionRow) → own node ≡ Some its → own_then node ≡ Some its → row_in (last c.register.chain).sessions its ≡ Some row → row.dead ≡ 0
+        → Leaves (st.made store_is).devices (st.made store_is).areas (Touches its) Sure_before (SureBy (st.made store_is)) (st.will_read store_is x c.store node) (st.will_read store_then y sp node) Before Then node its row.slot
     leaves node its row had own is alive = record {
       of_slot = record { logs = refl; slots = refl; doubts = refl };
-      none_out = λ none. ⊎_elim (λ gone. gone) (λ same. same ∙ none) (out node);
-      none_asked = λ none. ⊎_elim (λ gone. gone) (λ same. same ∙ none) (asked node);
-      writing = λ runs touches writing. by_writing runs touches writing (out node);
+      none_out = λ none. ⊎_elim (λ gone. gone) (λ same. same ∙ none) (out node its own);
+      none_asked = λ none. ⊎_elim (λ gone. gone) (λ same. same ∙ none) (asked node its own);
+      writing = λ runs touches writing. by_writing runs touches writing (out node its own);
       reads = λ block mode was. record {
         is = was.is;
-        allows = allows_on c.owners.holding holding its block mode keeps was.allows;
+        allows = allows_on c.owners.holding op.holding its block mode keeps was.allows;
         unlogged = was.unlogged;
         unwritten = was.unwritten;
         asked = ⊎_elim
-            (λ none. inl (⊎_elim (λ gone. gone) (λ same. same ∙ none) (asked node)))
+            (λ none. inl (⊎_elim (λ gone. gone) (λ same. same ∙ none) (asked node its own)))
             (λ some. ⊎_elim
             (λ gone. inl gone)
-            (λ same. inr (same ∙ some.0, λ i few. goes.reading node ((block_place block devices).1 + i) (c.before (block_place block devices).0 ((block_place block devices).1 + i)) (home_of devices block) some.0 (at_first.logs.homes block was.is was.unlogged i few).only (some.1 i few)))
-            (asked node))
+            (λ same. inr (same ∙ some.0, λ i few. reading node its ((block_place block devices).1 + i) (c.before (block_place block devices).0 ((block_place block devices).1 + i)) (home_of devices block) own some.0 (at_first.logs.homes block was.is was.unlogged i few).only (some.1 i few)))
+            (asked node its own))
             was.asked;
       };
     }
       where
         by_writing : (runs : List Run) → ((d s : ℕ) (content : List ℕ) → WritesIn runs d s content → Touches its d s) → IsWriting Sure_before its runs (st.out_of store_is node) c.store.writes
-            → (st.out_of store_then node ≡ None) ⊎ (st.out_of store_then node ≡ st.out_of store_is node) → IsWriting (SureBy (st.made store_is)) its runs (st.out_of store_then node) c.store.writes
+            → (st.out_of store_then node ≡ None) ⊎ (st.out_of store_then node ≡ st.out_of store_is node) → IsWriting (SureBy (st.made store_is)) its runs (st.out_of store_then node) sp.writes
         by_writing runs touches (inl flying) (inl none) = inr (record { none_out = none; sure = λ d s content w. done_sure node its row runs own is alive touches flying none d s content w })
-        by_writing runs touches (inl flying) (inr same) = inl (record { write = flying.write; whose = flying.whose; runs_are = flying.runs_are; once = flying.once; is_out = same ∙ flying.is_out; only = flying.only })
+        by_writing runs touches (inl flying) (inr same) = inl (record { write = flying.write; whose = flying.whose; runs_are = flying.runs_are; once = flying.once; is_out = same ∙ flying.is_out; only = λ other has its_own. flying.only other (sent other has) its_own })
         by_writing runs touches (inr landed) gone = inr (record { none_out = ⊎_elim (λ none. none) (λ same. same ∙ landed.none_out) gone; sure = λ d s content w. sure_on d s content (landed.sure d s content w) })
 
-    about_then : AreAbout (st.made store_is).devices (st.made store_is).areas (SureBy (st.made store_is)) (st.will_read store_then y then_is.store) (IsOfNode o.by_boot clocks_then) Then
-    about_then = hears (st.made store_is).devices (st.made store_is).areas Touches Sure_before (SureBy (st.made store_is)) (st.will_read store_is x c.store) (st.will_read store_then y then_is.store) (IsOfNode o.by_boot clocks) (IsOfNode o.by_boot clocks_then) Before Then
-        about_first refl (λ node. refl) was_of_node (λ node other row of of_too. sym of_too.of ∙ of.of)
+    about_then : AreAbout (st.made store_is).devices (st.made store_is).areas (SureBy (st.made store_is)) (st.will_read store_then y sp) (IsOfNode o.by_boot clocks_then) Then
+    about_then = hears (st.made store_is).devices (st.made store_is).areas Touches Sure_before (SureBy (st.made store_is)) (st.will_read store_is x c.store) (st.will_read store_then y sp) (IsOfNode o.by_boot clocks) (IsOfNode o.by_boot clocks_then) Before Then
+        about_first refl (λ node. refl) (λ node row of. (fewer node row of).0) (λ node other row of of_too. sym of_too.of ∙ of.of)
         (λ node its row is alive own. own_of_node o.by_boot c.register.chain clocks (o.own owners_are) (λ n. c.store.told.knew (Node n)) allowed at_first.sessions node its row own is alive)
         (λ node its row is alive own. its_of node its row own is alive)
-        (λ node its row is alive of own. kept node its row is alive own)
+        kept
         quiet
         (λ its row is alive. record { logs = refl; slots = refl; doubts = refl })
         leaves
         (λ node its machine row is alive about. owning.may_work (st.made store_is).devices (st.made store_is).areas Sure_before c.before (last c.register.chain) allowed_last c.owners.holding c.logs c.slots c.truth at_first.logs its row is alive
         (st.will_read store_is x c.store node) Before node machine refl refl about)
 
-    pub heard : NodesStand g o st Stands Step register_then owners_then store_then y then_letters clocks_then machines then_is tree
-    heard = record {
+    -- The nodes stand then.
+    pub passes : NodesStand g o st Stands Step register_then owners_then store_then y then_letters clocks_then machines then_is tree
+    passes = record {
       at = at_then;
-      about = subst (λ (m : Made). AreAbout m.devices m.areas (SureBy m) (st.will_read store_then y then_is.store) (IsOfNode o.by_boot clocks_then) Then) (sym made) about_then;
-      single = one_owner o.by_boot c.register.chain clocks_then (o.own owners_then) (λ n. put_at who index c.store.told.knew (Node n)) allowed at_then.sessions;
+      about = subst (λ (m : Made). AreAbout m.devices m.areas (SureBy m) (st.will_read store_then y sp) (IsOfNode o.by_boot clocks_then) Then) (sym made) about_then;
+      single = one_owner o.by_boot c.register.chain clocks_then (o.own owners_then) (λ n. sp.told.knew (Node n)) allowed at_then.sessions;
       told = told;
       given = given_first;
     }

@@ -1,2 +1,9 @@
+pub mod Acting
 pub mod Begun
+pub mod Gated
+pub mod Handing
+pub mod Homing
+pub mod Landed
+pub mod Leased
+pub mod Unlogged
 pub mod Working

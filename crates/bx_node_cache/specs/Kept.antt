@@ -1,5 +1,5 @@
 -- What a cache keeps: the blocks that are held, and hints of others.
-use Rattle.std.specs.Prelude.{◌≡◌, ◌≢◌, ◌⊎◌, ℕ, false, true, List, Option, Some, None, IfSome, filter, if◌then◌else◌, map, option_map}
+use Rattle.std.specs.Prelude.{◌≡◌, ◌≢◌, ◌⊎◌, ℕ, false, true, List, Contains, Option, Some, None, IfSome, filter, if◌then◌else◌, map, option_map}
 use Rattle.std.specs.BTreeMap.{is_at}
 use Rattle.std.specs.Map.{lookup}
 use Rattle.std.specs.Ordering.{nat_cmp}
@@ -52,6 +52,20 @@ away_in kept at = away_of (kept_in kept at)
 -- the writes that bring home what was committed, in order
 abbrev pub home_runs : ℕ → List (ℕ × Kept) → List Run
 home_runs devices kept = map (λ (one : ℕ × Kept). home_run devices one.0 one.1.block) (filter (λ (one : ℕ × Kept). one.1.committed) kept)
+
+-- A run is the home of a block that isn't home yet.
+pub record IsHomeOf (devices areas : ℕ) (away : ℕ → Option Block) (run : Run) : Type 0 where
+  pub at : ℕ
+  pub is : IsBlock areas at
+  pub block : Block
+  pub parts : HasParts block
+  pub is_away : away at ≡ Some block
+  pub run_is : run ≡ home_run devices at block
+
+-- The runs are the homes of all blocks that aren't home yet, and of no others.
+pub record AreHomesOf (devices areas : ℕ) (away : ℕ → Option Block) (runs : List Run) : Type 0 where
+  pub each : (run : Run) → Contains runs run → IsHomeOf devices areas away run
+  pub all : (at : ℕ) (block : Block) → away at ≡ Some block → Contains runs (home_run devices at block)
 
 -- Each block that is kept is one of the volume.
 pub record IsCache (view : CacheView) : Type 0 where

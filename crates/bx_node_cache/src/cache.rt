@@ -1,9 +1,9 @@
 //! The cache.
 
-ghost use Rattle.std.specs.Prelude.{◌≡◌, [], IfOk, None, OnOk, Some, false};
+ghost use Rattle.std.specs.Prelude.{◌≡◌, ℕ, [], IfOk, IfSome, None, OnOk, Some, false};
 ghost use Rattle.std.specs.List.{AllByRecursion};
 ghost use Rattle.bx_layout.specs.Blocks.{HasParts, block_text};
-ghost use Rattle.bx_node_cache.specs.Kept.{Commits, LeavesHint, OnlyHinted, OnlyKept, Settles, held_in, hint_in, home_runs, kept_in};
+ghost use Rattle.bx_node_cache.specs.Kept.{AreHomesOf, Commits, LeavesHint, OnlyHinted, OnlyKept, Settles, away_in, held_in, hint_in, home_runs, kept_in};
 ghost use Rattle.bx_node_cache.specs.Shares.{shares_held};
 ghost use Rattle.bx_places.specs.Places.{IsBlock, IsVolume};
 ghost use Rattle.bx_redo.specs.Homes.{home_run};
@@ -87,6 +87,14 @@ impl Cache {
         }
     }
 
+    /// What it keeps are blocks of its volume.
+    pub fn are_blocks(&self)
+        ensures volume { IsVolume self.now.devices self.now.areas }
+        ensures blocks { (at : ℕ) → IfSome (kept_in self.now.kept at) (λ one. IsBlock self.now.areas at × HasParts one.block) }
+    {
+        let _ = &self.alloc;
+    }
+
     /// Keeps a block that was read while it is held.
     pub fn hold(&mut self, at: u64, mode: Mode, block: Block) -> Result<(), OutOfMemory>
         requires is_block { IsBlock self.old.areas at }
@@ -143,7 +151,8 @@ impl Cache {
 
     /// The writes that bring home exactly the committed blocks.
     pub fn homes(&self) -> Result<Runs, OutOfMemory>
-        ensures { IfOk result (λ runs. runs ≡ (16, home_runs self.now.devices self.now.kept)) }
+        ensures runs { IfOk result (λ runs. runs ≡ (16, home_runs self.now.devices self.now.kept)) }
+        ensures homes { OnOk result (AreHomesOf self.now.devices self.now.areas (away_in self.now.kept) (home_runs self.now.devices self.now.kept)) }
     {
         let mut runs = Runs::new(self.alloc, HOME);
         for (at, kept) in self.kept.iter() {

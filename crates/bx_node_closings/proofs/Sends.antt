@@ -106,7 +106,7 @@ module _ (Sure Sure_then : ℕ → ℕ → List ℕ → Type 0) (devices areas :
           (subst (λ (t : Bool). SlotStands Sure_then devices areas before t logs slot (slots slot)) (sym taken) here)
       by_test other few false is =
           let ne : other ≢ slot = λ e. grind (arith, nat_tests, is, e) in
-          slot_sure Sure Sure_then devices areas before logs other (others_keep other ne) home_keeps (slots other) (is_taken rows other) (st.is_truth.has_logs other few) (st.each other few)
+          slot_sure Sure Sure_then devices areas before logs other (others_keep other ne) (λ at i content is some few. home_keeps at i content) (slots other) (is_taken rows other) (st.is_truth.has_logs other few) (st.each other few)
 
 -- All gates but the first are closed too: the log rests.
 module _ (Sure : ℕ → ℕ → List ℕ → Type 0) (devices areas : ℕ) (rows : List SessionRow) (before now : Image) (logs : Logs) (slots : ℕ → Slot) (truth : Truth) (slot : ℕ)

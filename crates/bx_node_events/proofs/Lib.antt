@@ -1,7 +1,13 @@
+pub mod Acting
 pub mod Asked
 pub mod Begun
+pub mod Gated
 pub mod Grown
+pub mod Handing
+pub mod Homing
 pub mod Keeping
+pub mod Landed
+pub mod Leased
 pub mod Opened
 pub mod Passing
 pub mod Quieted

@@ -4,7 +4,7 @@ use Rattle.std.proofs.lemmas.Bool.Decides.{nat_tests}
 use Rattle.bx_disk.specs.Disks.{Image}
 use Rattle.bx_facts.specs.Writes.{IsOnly, Sent, WritesTo}
 use Rattle.bx_facts.proofs.Lists.{front_or_behind}
-use Rattle.bx_places.specs.Places.{block_place, body_place, gate_place, log_device, log_start}
+use Rattle.bx_places.specs.Places.{IsBlock, block_place, body_place, gate_place, log_device, log_start}
 use Rattle.bx_records.specs.Drafts.{Block, block_in}
 use Rattle.bx_redo.specs.declared.work.Work.TheVariants as works
 use Rattle.bx_redo.proofs.Within.{before_it, within_is}
@@ -28,10 +28,10 @@ only_more writes new greatest d s content none only = record {
       (front_or_behind new writes write has);
 }
 
--- a slot's log where what is sure in it, and of homes, is sure still
+-- a slot's log where what is sure in it, and of the homes of its blocks, is sure still
 module _ (Sure Sure_then : ℕ → ℕ → List ℕ → Type 0) (devices areas : ℕ) (before : Image) (logs : Logs) (slot : ℕ)
     (inside : (d s : ℕ) (content : List ℕ) → IsIn slot s → Sure d s content → Sure_then d s content)
-    (homes : (at i : ℕ) (content : List ℕ) → Sure (block_place at devices).0 ((block_place at devices).1 + i) content → Sure_then (block_place at devices).0 ((block_place at devices).1 + i) content) where
+    (homes : (at i : ℕ) (content : List ℕ) → IsBlock areas at → IsSome (newest_in (logs slot) at) → i < 9 → Sure (block_place at devices).0 ((block_place at devices).1 + i) content → Sure_then (block_place at devices).0 ((block_place at devices).1 + i) content) where
   finds_sure : (more : Logged) (activity : Activity) → Finds Sure devices areas before logs more slot activity → Finds Sure_then devices areas before logs more slot activity
   finds_sure more (OfLog works.Idle) finds = finds
   finds_sure more (OfLog (works.Body text point)) finds = finds
@@ -46,7 +46,7 @@ module _ (Sure Sure_then : ℕ → ℕ → List ℕ → Type 0) (devices areas :
     finds.0,
     record {
       home = finds.1.home;
-      sure = λ at there some i few. homes at i (before (block_place at devices).0 ((block_place at devices).1 + i)) (finds.1.sure at there some i few);
+      sure = λ at there some i few. homes at i (before (block_place at devices).0 ((block_place at devices).1 + i)) there some few (finds.1.sure at there some i few);
     },
   )
   finds_sure more (OfLog works.Shuts) finds = finds
@@ -123,7 +123,7 @@ module _ (Sure Sure_then : ℕ → ℕ → List ℕ → Type 0) (devices areas :
       by_test other few false is =
           let ne : other ≢ slot = λ e. grind (arith, nat_tests, is, e) in
           subst (λ (l : Slot). SlotStands Sure_then devices areas before (is_taken rows other) logs other l) (sym (slot_there slots slot other (record { activity = activity; more = more }) ne))
-          (slot_sure Sure Sure_then devices areas before logs other (others_keep other ne) home_keeps (slots other) (is_taken rows other) (st.is_truth.has_logs other few) (st.each other few))
+          (slot_sure Sure Sure_then devices areas before logs other (others_keep other ne) (λ at i content is some few. home_keeps at i content) (slots other) (is_taken rows other) (st.is_truth.has_logs other few) (st.each other few))
 
   -- A record begins: its body is written. No log has a block of it, nor has a record that is under way.
   pub record_begins : (more : Logged) → (slots slot).activity ≡ idle → IsLogged areas more → length (logs slot) < 8

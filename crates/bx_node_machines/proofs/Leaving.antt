@@ -7,7 +7,7 @@ use Rattle.bx_disk.specs.Disks.{Image}
 use Rattle.bx_facts.specs.Holds.{Holds}
 use Rattle.bx_facts.specs.Writes.{Asked, Sent, WritesIn}
 use Rattle.bx_node_machines.specs.Machines as words
-use Rattle.bx_node_machines.specs.Machines.{AreAbout, AreAway, Fetch, IsAbout, IsAtWork, IsDoubtOf, IsFetched, IsFetching, IsFresh, IsUnwritten, IsWriting, MachineView, Scene, Stage, home_of, is_one, is_under}
+use Rattle.bx_node_machines.specs.Machines.{AreAbout, AreAway, Fetch, IsAbout, IsAtWork, IsDoubtIn, IsFetched, IsFetching, IsFresh, IsUnwritten, IsWriting, MachineView, Scene, Stage, home_of, is_one, is_under}
 use Rattle.bx_places.specs.Places.{block_place}
 use Rattle.bx_records.specs.declared.runs.Run.{Run}
 use Rattle.bx_redo.specs.Homes.{AreItsHomes}
@@ -58,7 +58,7 @@ module _ (devices areas : ℕ) (Touches : ℕ → ℕ → Type 0) (Sure Sure_the
     is.1,
     leaves.of_slot.slots ∙ is.2,
     leaves.writing (writes machine.log machine.log.work).1 (may.of_log is.2) is.3,
-    subst (λ (found : Option Doubt). IsSomeAnd found (IsDoubtOf call draft)) (sym leaves.of_slot.doubts) is.4,
+    subst (λ (found : Option Doubt). IsSomeAnd found (IsDoubtIn machine.log.work call draft)) (sym leaves.of_slot.doubts) is.4,
     away is.5,
   )
   work_stays words.Homes is = (

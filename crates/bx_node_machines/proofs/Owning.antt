@@ -1,5 +1,5 @@
 -- What a node's log writes, and the homes of its blocks, its session may write.
-use Rattle.std.proofs.Common.{◌≡◌, ◌∙◌, ⊎_elim, inl, ℕ, ◌+◌, ◌*◌, ◌-◌, ◌<◌, Bool, true, List, [], ◌∷◌, length, Some, refl, sym, ap, subst, arith}
+use Rattle.std.proofs.Common.{◌≡◌, ◌∙◌, ⊎_elim, inl, ℕ, ◌+◌, ◌*◌, ◌-◌, ◌<◌, Bool, true, List, [], ◌∷◌, length, Some, IsSome, refl, sym, ap, subst, arith}
 use Rattle.bx_disk.specs.Disks.{Image}
 use Rattle.bx_facts.specs.Holds.{Holds}
 use Rattle.bx_facts.specs.Writes.{Writes, WritesIn}
@@ -23,9 +23,10 @@ use Rattle.bx_rows.specs.Words.{row_in}
 use Rattle.bx_rows.specs.declared.session.SessionRow.{SessionRow}
 use Rattle.bx_views.specs.Truths.{Truth}
 use Rattle.bx_volume.specs.Overlay.{Logs}
+use Rattle.bx_volume.specs.Records.{newest_in}
 use Rattle.bx_world_chains.specs.Entitled.{IsEntitled}
 use Rattle.bx_world_chains.proofs.Rows.{all_row, lives_of, taken_of}
-use Rattle.bx_world_logs.specs.Logs.{Activity, LogsStand, OfLog, Slot, SlotStands, view_of, writes_in}
+use Rattle.bx_world_logs.specs.Logs.{Activity, IsInLog, LogsStand, OfLog, Slot, SlotStands, view_of, writes_in}
 use Rattle.bx_world_logs.proofs.Regions.{writes_within}
 use Rattle.bx_world_standing.specs.Rights.{IsOfSlot, MayTouch}
 use Rattle.bx_world_standing.specs.Rights.MayTouch.{OfLogged, OfSlot}
@@ -91,8 +92,10 @@ module _ (devices areas : ℕ) (Sure : ℕ → ℕ → List ℕ → Type 0) (bef
     pub log_touches : (d sector : ℕ) (content : List ℕ) → WritesIn (writes log log.work).1 d sector content → MayTouch devices areas s holding logs slots session d sector
     log_touches d sector content w = OfSlot session row.slot low mine (of_slot d sector content w)
 
-  home_touches : (runs : List Run) → AreItsHomes devices areas logs row.slot runs → (d sector : ℕ) (content : List ℕ) → WritesIn runs d sector content → MayTouch devices areas s holding logs slots session d sector
-  home_touches runs its d sector content (run, there, w) =
+  -- The homes of a log are its session's to write where each of its blocks is in the session's log, by these logs or others.
+  pub touches_homes : (others : Logs) → ((at : ℕ) → IsSome (newest_in (others row.slot) at) → IsInLog logs slots row.slot at) → (runs : List Run) → AreItsHomes devices areas others row.slot runs
+      → (d sector : ℕ) (content : List ℕ) → WritesIn runs d sector content → MayTouch devices areas s holding logs slots session d sector
+  touches_homes others in_log runs its d sector content (run, there, w) =
       let h = its.each run there in
       let home : Writes (home_run devices h.at h.block) d sector content = subst (λ (r : Run). Writes r d sector content) h.run_is w in
       let nine = length-block_text h.block h.parts in
@@ -100,7 +103,10 @@ module _ (devices areas : ℕ) (Sure : ℕ → ℕ → List ℕ → Type 0) (bef
       let below = home.below in
       OfLogged h.at session row.slot h.is
       (record { device = sym home.on; i = sector - (block_place h.at devices).1; few = omega (arith, nine, from, below); is = omega (arith, from) })
-      low mine (inl (let newest = h.newest in cc))
+      low mine (in_log h.at (let newest = h.newest in cc))
+
+  pub home_touches : (runs : List Run) → AreItsHomes devices areas logs row.slot runs → (d sector : ℕ) (content : List ℕ) → WritesIn runs d sector content → MayTouch devices areas s holding logs slots session d sector
+  home_touches runs its d sector content w = touches_homes logs (λ at some. inl some) runs its d sector content w
 
   -- Of a node that is about what its session's log is.
   pub may_work : (Reads : ℕ → List ℕ → Type 0) (scene : Scene) (node : ℕ) (machine : MachineView) → scene.logs ≡ logs → scene.slots ≡ slots

@@ -1,6 +1,7 @@
 -- What nodes have under way, and how it goes with the logs, the writes and the reads of their sessions.
 use Rattle.std.specs.Prelude.{◌≡◌, ◌⊎◌, ℕ, ◌+◌, ◌<◌, ◌&&◌, ◌==◌, Bool, true, false, List, [], Contains, length, Option, Some, None, IsSomeAnd}
 use Rattle.bx_base.specs.declared.names.Mode.{Mode}
+use Rattle.bx_base.specs.declared.names.Point.{Point}
 use Rattle.bx_disk.specs.Disks.{Image}
 use Rattle.bx_facts.specs.Holds.{Holds}
 use Rattle.bx_facts.specs.Writes.{Asked, Sent, WritesIn}
@@ -18,15 +19,30 @@ use Rattle.bx_views.specs.Truths.{Held, Hints}
 use Rattle.bx_volume.specs.Overlay.{Logs, IsUnlogged}
 use Rattle.bx_volume.specs.Records.{newest_in}
 use Rattle.bx_world_logs.specs.Logs.{OfLog, Slot, begins, idle}
-use Rattle.bx_world_views.specs.Views.{Allows, Doubt}
+use Rattle.bx_world_views.specs.Views.{Act, Allows, Doubt, OfCall, OfTidy}
 
 -- ---- a node
 
--- What a node's log is for: nothing; a record of these blocks, of the call with this number, or of none (0); the blocks of its records go home; it
--- is closed.
+-- The call that a record is of: its number, whose it is, its bytes, and the reply that it gets.
+pub record Replying : Type 0 where
+  pub number : ℕ
+  pub client : ℕ
+  pub call : List ℕ
+  pub reply : List ℕ
+
+abbrev pub number_of : Option Replying → ℕ
+number_of None = 0
+number_of (Some call) = call.number
+
+-- what a record does at its point: the deed of its call, or nothing that the tree shows, where it is of none
+abbrev pub act_of : Option Replying → Point → Act
+act_of None point = OfTidy
+act_of (Some call) point = OfCall (record { client = call.client; call = call.call; moment = point.moment; spare = point.spare; made = point.made; reply = call.reply })
+
+-- What a node's log is for: nothing; a record of these blocks, of a call or of none; the blocks of its records go home; it is closed.
 pub data Stage : Type 0 where
   Idle : Stage
-  Records : ℕ → List Changed → Stage
+  Records : Option Replying → List Changed → Stage
   Homes : Stage
   Closes : Stage
 
@@ -91,10 +107,20 @@ IsOfClosing (works.Opens point) = ⊥
 IsOfClosing works.Closes = Unit {0}
 IsOfClosing works.Shuts = Unit {0}
 
--- the record in doubt of a session is of these blocks and of this call
-pub record IsDoubtOf (call : ℕ) (draft : List Changed) (doubt : Doubt) : Type 0 where
+-- the record in doubt of a session is of these blocks and of this call, at a point that has its number
+pub record IsDoubtOf (call : Option Replying) (draft : List Changed) (point : Point) (doubt : Doubt) : Type 0 where
   pub draft_is : doubt.draft ≡ draft
-  pub call_is : doubt.call ≡ call
+  pub call_is : doubt.call ≡ number_of call
+  pub numbered : point.call ≡ number_of call
+  pub act_is : doubt.act ≡ act_of call point
+
+-- at the point of the record that is written
+abbrev pub IsDoubtIn : Work → Option Replying → List Changed → Doubt → Type 0
+IsDoubtIn works.Idle call draft doubt = ⊥
+IsDoubtIn (works.Body text point) call draft doubt = IsDoubtOf call draft point doubt
+IsDoubtIn (works.Opens point) call draft doubt = IsDoubtOf call draft point doubt
+IsDoubtIn works.Closes call draft doubt = ⊥
+IsDoubtIn works.Shuts call draft doubt = ⊥
 
 -- the read of a block's home
 abbrev pub home_of : ℕ → ℕ → Asked
@@ -152,7 +178,7 @@ module _ (devices areas : ℕ) where
     abbrev pub IsAtWork : Stage → Type 0
     IsAtWork Idle = (machine.log.work ≡ works.Idle) × ((s.slots slot).activity ≡ idle) × (s.logs slot ≡ []) × (s.out node ≡ None) × (s.doubts session ≡ None) × AreAway s.logs slot machine
     IsAtWork (Records call draft) = IsOfRecord machine.log.work × (machine.log.out ≡ true) × ((s.slots slot).activity ≡ OfLog machine.log.work)
-        × IsWriting Sure session (writes machine.log machine.log.work).1 (s.out node) s.sent × IsSomeAnd (s.doubts session) (IsDoubtOf call draft) × AreAway s.logs slot machine
+        × IsWriting Sure session (writes machine.log machine.log.work).1 (s.out node) s.sent × IsSomeAnd (s.doubts session) (IsDoubtIn machine.log.work call draft) × AreAway s.logs slot machine
     IsAtWork Homes = (machine.log.work ≡ works.Idle) × ((s.slots slot).activity ≡ idle) × (0 < length (s.logs slot))
         × ((runs : List Run) × AreItsHomes devices areas s.logs slot runs × IsWriting Sure session runs (s.out node) s.sent) × (s.doubts session ≡ None) × AreAway s.logs slot machine
     IsAtWork Closes = IsOfClosing machine.log.work × (machine.log.out ≡ true) × ((s.slots slot).activity ≡ OfLog machine.log.work)

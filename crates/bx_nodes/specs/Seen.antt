@@ -2,7 +2,7 @@
 use Rattle.std.specs.Prelude.{ℕ, List, map, Option, Some, None}
 use Rattle.bx_node_cache.specs.Kept.{away_in, held_in, hint_in}
 use Rattle.bx_node_machines.specs.Machines as views
-use Rattle.bx_node_machines.specs.Machines.{MachineView}
+use Rattle.bx_node_machines.specs.Machines.{MachineView, Replying}
 use Rattle.bx_node_tries.specs.declared.round.Waiting.{Waiting}
 use Rattle.bx_nodes.specs.declared.machine.Fetch.{Fetch}
 use Rattle.bx_nodes.specs.declared.machine.Fetch.TheVariants as fetches
@@ -10,14 +10,14 @@ use Rattle.bx_nodes.specs.declared.machine.Machine.{Machine}
 use Rattle.bx_nodes.specs.declared.machine.Stage.{Stage}
 use Rattle.bx_nodes.specs.declared.machine.Stage.TheVariants as stages
 
--- the number of a record's call, or 0
-abbrev pub number_of : Option (Waiting × List ℕ) → ℕ
-number_of None = 0
-number_of (Some call) = call.0.number
+-- the call of a record, with its reply
+abbrev pub replying : Option (Waiting × List ℕ) → Option Replying
+replying None = None
+replying (Some call) = Some (record { number = call.0.number; client = call.0.client; call = call.0.message; reply = call.1 })
 
 abbrev pub stage_of : Stage → views.Stage
 stage_of stages.Idle = views.Idle
-stage_of (stages.Records pending) = views.Records (number_of pending.call) pending.draft
+stage_of (stages.Records pending) = views.Records (replying pending.call) pending.draft
 stage_of stages.Homes = views.Homes
 stage_of stages.Closes = views.Closes
 

@@ -1,10 +1,14 @@
 pub mod Alike
+pub mod Begun
+pub mod Booted
 pub mod Chained
 pub mod Clock
 pub mod Crashing
 pub mod DiskChanges
+pub mod Drawn
 pub mod Dropping
 pub mod Finished
+pub mod Grown
 pub mod Growth
 pub mod Learned
 pub mod Leaving
@@ -18,9 +22,12 @@ pub mod Standing
 pub mod ToldAgain
 pub mod WriteDone
 pub mod WriteSent
+pub mod WriteUntold
 pub mod GoingOn
+pub mod MemberSteps
 pub mod MemberStops
 pub mod NodeEvents
+pub mod NodeStarts
 pub mod NodeSteps
 pub mod NodeTakes
 pub mod NodeStops

@@ -1,14 +1,17 @@
 -- A member stops: what it knew and owed is gone, its disk stays, and all goes on fitting.
-use Rattle.std.proofs.Common.{◌≡◌, ◌≢◌, ◌⊎◌, inl, inr, ℕ, ◌<◌, ◌≤◌, Bool, true, false, List, [], Some, None, refl, sym, ◌∙◌, ap, subst, arith}
+use Rattle.std.proofs.Common.{◌≡◌, ◌≢◌, ◌⊎◌, inl, inr, ℕ, ◌<◌, ◌≤◌, Bool, true, false, Contains, List, [], Some, None, refl, sym, ◌∙◌, ap, subst, arith}
 use Rattle.std.specs.Prelude.{not, slice_get}
 use Rattle.bx_base.specs.declared.names.Actor.TheVariants.{Member}
 use Rattle.bx_disk.specs.Disks.{Disks}
+use Rattle.bx_facts.proofs.Lists.{nothing}
 use Rattle.bx_facts.proofs.Machines.{elsewhere, here}
 use Rattle.bx_facts.specs.Chains.{IsPlace, last}
 use Rattle.bx_facts.specs.Machines.{put_at}
 use Rattle.bx_facts.specs.Writes.{StorePast, store_crashed, store_room}
 use Rattle.bx_rows.specs.declared.device.DeviceRow.{DeviceRow}
 use Rattle.bx_global.specs.declared.state.GlobalState.{GlobalState}
+use Rattle.bx_mirror_client.specs.declared.asking.Asking.{Asking}
+use Rattle.bx_mirror_laws.specs.Acting.{FromEpoch}
 use Rattle.bx_mirror_laws.specs.Sides.{Among, Side, WriteLetter}
 use Rattle.bx_mirror_laws.specs.Sound.{AreCopies, AreHanded, AreOuts, AreRows, AreWrites, AreWrotes, Standing}
 use Rattle.bx_mirror_laws.specs.Steps.{Ages, Silent}
@@ -19,7 +22,7 @@ use Rattle.bx_mirror_tables.specs.Lasts.{last_in}
 use Rattle.bx_mirror_tables.specs.declared.lasts.Last.{Last}
 use Rattle.bx_mirror_member.specs.Standing.{Standing as Serving}
 use Rattle.bx_mirror_client.specs.Sends.{member_at}
-use Rattle.bx_mirror_cluster.specs.Fitting.{History, IsClaimed, IsComing, IsDeviceSound, Keeps, KnownFrom, Nowhere, Parts, StandsFor, StandsOn, handings, knows_of, last_row, outs_of, rows_before, side_of}
+use Rattle.bx_mirror_cluster.specs.Fitting.{History, IsClaimed, IsComing, IsDeviceSound, IsSettledOn, Keeps, KnownFrom, Nowhere, Parts, StandsFor, StandsOn, WillReadOn, handings, knows_of, last_row, outs_of, rows_before, side_of}
 use Rattle.bx_mirror_cluster.specs.Stopping.{Stops}
 use Rattle.bx_mirror_server.specs.Sides.{copied_in, wrote_in}
 
@@ -175,9 +178,14 @@ module _ (parts : Parts) (x : Disks) (past : StorePast) (n : ℕ) (members : ℕ
     actual_sent = keeps.actual_sent;
     out_actual = keeps.out_actual;
     out_number = keeps.out_number;
+    actual_given = keeps.actual_given;
     sendable = keeps.sendable;
     askable = keeps.askable;
     epochs = keeps.epochs;
+    owing = λ k o there. elim (same_or k n) [
+      | inl e ↦ absurd (nothing o (subst (λ (os : List Owing). Contains os o) (ap (λ (j : ℕ). (members j).owed) e ∙ stops.owed) there))
+      | inr e ↦ keeps.owing k o (subst (λ (m : Serving). Contains m.owed o) (stops.others k e) there)
+    ];
     own_out = keeps.own_out;
     lasts = λ d b session. elim (same_or (member_at d b) n) [
       | inl e ↦ inl (ap (λ (ls : List Last). last_in ls session) (ap (λ (k : ℕ). (members k).lasts) e ∙ stops.lasts))
@@ -186,6 +194,7 @@ module _ (parts : Parts) (x : Disks) (past : StorePast) (n : ℕ) (members : ℕ
     brings = keeps.brings;
     noted = keeps.noted;
     asking = keeps.asking;
+    asked = keeps.asked;
     node_known = keeps.node_known;
     node_of = keeps.node_of;
     boot_of = keeps.boot_of;
@@ -210,4 +219,19 @@ module _ (parts : Parts) (x : Disks) (past : StorePast) (n : ℕ) (members : ℕ
   stands_stopped d sector content index keeps stands = let set = stands.settled in let was = keeps.devices d set.device in record {
     settled = record { device = set.device; behind_label = set.behind_label; within = set.within; is = stands_for keeps.history d was Nowhere sector content set.behind_label set.within set.is };
     stands = stands_for keeps.history d was (KnownFrom past.told.chain d index) sector content set.behind_label set.within stands.stands;
+  }
+
+  pub settles_stopped : (d sector : ℕ) (content : List ℕ) → Keeps parts x past → IsSettledOn parts x past d sector content → IsSettledOn (record parts { members = members }) x (store_crashed past (Member n)) d sector content
+  settles_stopped d sector content keeps set = record { device = set.device; behind_label = set.behind_label; within = set.within; is = stands_for keeps.history d (keeps.devices d set.device) Nowhere sector content set.behind_label set.within set.is }
+
+  pub reads_stopped : (m : ℕ) (a : Asking) (sector : ℕ) (content : List ℕ) → Keeps parts x past → WillReadOn parts x past m a sector content → WillReadOn (record parts { members = members }) x (store_crashed past (Member n)) m a sector content
+  reads_stopped m a sector content keeps will = record {
+    device = will.device;
+    behind_label = will.behind_label;
+    within = will.within;
+    row = will.row;
+    row_is = will.row_is;
+    stands = stands_for keeps.history a.device (keeps.devices a.device will.device) (FromEpoch will.row.epoch) sector content will.behind_label will.within will.stands;
+    coming = will.coming;
+    came = will.came;
   }

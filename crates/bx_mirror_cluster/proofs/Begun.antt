@@ -9,7 +9,7 @@ use Rattle.bx_facts.proofs.Lists.{nothing}
 use Rattle.bx_facts.proofs.Sessions.{sessions_have_nodes}
 use Rattle.bx_facts.specs.Chains.{number_in, session_of}
 use Rattle.bx_facts.specs.Sessions.{AreRows as AreSessions, IsRowOf}
-use Rattle.bx_facts.specs.Writes.{IsOfStore, NamesUpTo, found_store, opening_store}
+use Rattle.bx_facts.specs.Writes.{IsOfStore, IsSourceIn, NamesUpTo, found_store, opening_store}
 use Rattle.bx_global.specs.Allowed.{AreRising, IsAllowed}
 use Rattle.bx_global.specs.declared.state.GlobalState.{GlobalState}
 use Rattle.bx_locking.proofs.Owned.{session_row}
@@ -26,7 +26,7 @@ use Rattle.bx_mirror_tables.specs.declared.lasts.Last.{Last}
 use Rattle.bx_mirror_client.specs.Sends.{member_at}
 use Rattle.bx_mirror_client.specs.declared.asking.Asking.{Asking}
 use Rattle.bx_mirror_client.specs.declared.sending.Sending.{Sending}
-use Rattle.bx_mirror_cluster.specs.Fitting.{IsNewParts, Keeps, Parts, opening_history, out_by, outs_of, row_of, row_or}
+use Rattle.bx_mirror_cluster.specs.Fitting.{AreAllRead, IsNewParts, Keeps, Parts, opening_history, out_by, outs_of, row_of, row_or}
 use Rattle.bx_mirror_cluster.proofs.Booted.{boot_in_rows, rows_booted}
 use Rattle.bx_mirror_cluster.proofs.Opening.{fresh, fresh_sound}
 use Rattle.bx_mirror_cluster.proofs.Sessions.{each_row, own_lives, row_next}
@@ -50,7 +50,7 @@ pub record KnowsFirst (parts : Parts) (s : GlobalState) (knew boots : Actor → 
   pub own : session_of s n (boots (Node n)) ≡ Some session
 
 module _ (parts : Parts) (x : Disks) (first s : GlobalState) (found : ℕ) (knew boots : Actor → ℕ) (down : Actor → Bool) (new : IsNewParts first parts) (allowed : IsAllowed s) (single : AreSingle found s) (most : found ≤ s.next_session) (of : IsOfStore parts.made x s)
-    (names : (d : ℕ) (b : Bool) → boot_in b (row_of s d) ≤ boots (Member (member_at d b))) (knows : (n session : ℕ) → (parts.nodes n).session ≡ Some session → KnowsFirst parts s knew boots n session)
+    (names : (d : ℕ) (b : Bool) → boot_in b (row_of s d) ≤ boots (Member (member_at d b))) (knows : (n session : ℕ) → (parts.nodes n).session ≡ Some session → KnowsFirst parts s knew boots n session) (ups : (d : ℕ) (b : Bool) → d < length s.devices → down (Member (member_at d b)) ≡ false → IsSourceIn s d b)
     (members_have : (n : ℕ) → n < 2 * parts.made.devices → down (Member n) ≡ false → (parts.members n).boot ≡ boots (Member n)) (nodes_have : (n : ℕ) → n < parts.made.nodes → down (Node n) ≡ false → (parts.nodes n).boot ≡ boots (Node n)) where
   no_out : (n : ℕ) (w : Out) → outs_of parts.nodes n ≡ Some w → ⊥
   no_out n w is = let no : None ≡ Some w = sym (ap out_by (new.out n)) ∙ is in cc
@@ -83,7 +83,7 @@ module _ (parts : Parts) (x : Disks) (first s : GlobalState) (found : ℕ) (knew
   pub fresh_keeps : Keeps parts x (fresh found s knew boots down)
   fresh_keeps = record {
     history = opening_history;
-    devices = λ d within. fresh_sound parts x first s found knew boots down new of d (let count = of.devices in omega (arith, within, count)) (names d);
+    devices = λ d within. fresh_sound parts x first s found knew boots down new of d (let count = of.devices in omega (arith, within, count)) (names d) (λ b up. ups d b (let count = of.devices in omega (arith, within, count)) up);
     count = λ q place. ap (λ (p : GlobalState). length p.devices) place ∙ of.devices;
     rising = λ p q one other le d. let e = ap (λ (g : GlobalState). (row_of g d).epoch) (one ∙ sym other) in omega (arith, e);
     highest = λ q place. let e = ap (λ (g : GlobalState). g.index) place in omega (arith, e);
@@ -121,13 +121,14 @@ module _ (parts : Parts) (x : Disks) (first s : GlobalState) (found : ℕ) (knew
 
 -- ---- a new volume, and one that is found
 
-pub begins_keeps : (parts : Parts) (x : Disks) (s : GlobalState) → IsNewParts s parts → IsAllowed s → AreSingle 0 s → IsOfStore parts.made x s → NamesUpTo 0 s → Keeps parts x (opening_store s)
-begins_keeps parts x s new allowed single of names =
+pub begins_keeps : (parts : Parts) (x : Disks) (s : GlobalState) → IsNewParts s parts → IsAllowed s → AreSingle 0 s → IsOfStore parts.made x s → NamesUpTo 0 s → AreAllRead s → Keeps parts x (opening_store s)
+begins_keeps parts x s new allowed single of names all =
     fresh_keeps parts x s s 0 (λ who. s.index) (λ who. 0) (λ who. false) new allowed single (omega arith) of (λ d b. named_in 0 (slice_get s.devices d) (names.each d) b)
     (λ n session is. elim (inside_or n parts.made.nodes) [
       | inl inside ↦ record { index = refl; rows = new.known n inside; own = sym (new.session n inside) ∙ is }
       | inr outside ↦ absurd (let no : None ≡ Some session = sym (new.no_more n outside) ∙ is in cc)
     ])
+    (λ d b there up. all.each d b there)
     (λ n inside up. new.member_boot n inside) (λ n inside up. new.node_boot n inside)
   where
     inside_or : (n m : ℕ) → (n < m) ⊎ (m ≤ n)
@@ -141,6 +142,7 @@ finds_keeps parts x first s boot new none allowed of names =
       | inl inside ↦ (let no : None ≡ Some session = sym (new.session n inside ∙ ap (λ (rows : List SessionRow). number_in (live_in rows n 0)) none) ∙ is in cc)
       | inr outside ↦ (let no : None ≡ Some session = sym (new.no_more n outside) ∙ is in cc)
     ]))
+    (λ d b there up. absurd (let no : true ≡ false = up in cc))
     (λ n inside up. absurd (let no : true ≡ false = up in cc)) (λ n inside up. absurd (let no : true ≡ false = up in cc))
   where
     inside_or : (n m : ℕ) → (n < m) ⊎ (m ≤ n)

@@ -10,6 +10,7 @@ pub mod Dropping
 pub mod Finished
 pub mod Grown
 pub mod Growth
+pub mod Labels
 pub mod Learned
 pub mod Leaving
 pub mod Losing

@@ -6,13 +6,13 @@ use Rattle.bx_base.specs.declared.names.Actor.{Actor}
 use Rattle.bx_base.specs.declared.names.Actor.TheVariants.{Member, Node}
 use Rattle.bx_disk.specs.Disks.{Disks, Stays, sector_of}
 use Rattle.bx_facts.specs.Chains.{IsPlace, last}
-use Rattle.bx_facts.specs.Writes.{StorePast, label_on, member_disk, store_room}
+use Rattle.bx_facts.specs.Disks.{SameMemberLengths}
+use Rattle.bx_facts.specs.Writes.{StorePast, member_disk, store_room}
 use Rattle.bx_global.specs.declared.change.Change.{Change}
 use Rattle.bx_global.specs.declared.state.GlobalState.{GlobalState}
-use Rattle.bx_layout.specs.Labels.{SpellsLabel}
 use Rattle.bx_post.specs.declared.packets.Letter.{Letter}
 use Rattle.bx_rows.specs.declared.device.DeviceRow.{DeviceRow}
-use Rattle.bx_mirror_laws.specs.Acting.{FromEpoch, MayLead}
+use Rattle.bx_mirror_laws.specs.Acting.{FromEpoch}
 use Rattle.bx_mirror_laws.specs.Sides.{Among, Copied, CopyLetter, Handing, Side, WriteLetter, Wrote}
 use Rattle.bx_mirror_laws.specs.Sound.{AreCopies, AreHanded, AreOuts, AreRows, AreWrites, AreWrotes, Standing}
 use Rattle.bx_mirror_packets.specs.DeviceMessages.{IsDeviceMessage}
@@ -24,7 +24,8 @@ use Rattle.bx_mirror_member.specs.Standing.{Standing as Serving}
 use Rattle.bx_mirror_client.specs.Sends.{member_at}
 use Rattle.bx_mirror_client.specs.declared.asking.Asking.{Asking}
 use Rattle.bx_mirror_server.specs.Sides.{copied_in, wrote_in}
-use Rattle.bx_mirror_cluster.specs.Fitting.{History, IsAnswering, IsClaimed, IsComing, IsCopiedTo, IsCopying, IsData, IsDeviceSound, IsDrawn, IsOwnOrLeft, IsReading, IsSettledOn, Keeps, KnownFrom, Nowhere, Parts, StandsFor, StandsOn, WillReadOn, handings, knows_of, last_row, outs_of, rows_before, side_of}
+use Rattle.bx_mirror_cluster.specs.Fitting.{History, IsAnswering, IsClaimed, IsComing, IsCopiedTo, IsCopying, IsData, IsDeviceSound, IsDrawn, IsOwnOrLeft, IsReading, IsSettledOn, Keeps, KnownFrom, NeedsLabel, Nowhere, Parts, StandsFor, StandsOn, WillReadOn, handings, knows_of, last_row, outs_of, rows_before, side_of}
+use Rattle.bx_mirror_cluster.proofs.Labels.{label_kept, lengths_at}
 use Rattle.bx_mirror_cluster.specs.MemberSteps.{DeviceHistory, at_device, history_of, served, with_histories, with_member, with_serving}
 
 same_or : (n m : ℕ) → (n ≡ m) ⊎ (n ≢ m)
@@ -74,6 +75,7 @@ pub record IsMemberStep (parts : Parts) (x y : Disks) (past : StorePast) (h : Hi
   pub sound : d < parts.made.devices → IsDeviceSound (with_serving parts (member_at d b) m) y (served past letters handed knew) (with_histories h (λ k. new)) d
   pub boot : m.boot ≡ (parts.members (member_at d b)).boot
   pub disks : (k s : ℕ) → k ≢ member_disk d b → Stays x y k s
+  pub lengths : SameMemberLengths x y
   pub sent : (l : Letter) → Contains letters l → Contains past.told.letters l ⊎ ((l.from ≡ Member (member_at d b)) × (18 < l.kind))
   pub handed_other : (k : ℕ) → k ≢ d → handings k handed ≡ handings k past.told.handed
   pub knew_other : (who : Actor) → who ≢ Member (member_at d b) → knew who ≡ past.told.knew who
@@ -176,9 +178,9 @@ module _ (parts : Parts) (x y : Disks) (past : StorePast) (keeps : Keeps parts x
       answering = λ w a. was.answering w (record { letter = a.letter; there = not_its a.letter (Member (member_at k w.by)) a.there a.from (of_other k w.by apart); wrote = a.wrote; spells = a.spells; from = a.from; device = a.device; session = a.session; epoch_is = a.epoch_is; sequence = a.sequence });
       copying = λ l a. was.copying l (record { letter = a.letter; there = not_its a.letter (Member (member_at k l.by)) a.there a.from (of_other k l.by apart); copy = a.copy; spells = a.spells; from = a.from; device = a.device; epoch_is = a.epoch_is; place = a.place; bytes = a.bytes });
       copied_to = λ g a. was.copied_to g (record { letter = a.letter; there = not_its a.letter (Member (member_at k g.by)) a.there a.from (of_other k g.by apart); copied = a.copied; spells = a.spells; from = a.from; device = a.device; epoch_is = a.epoch_is; place = a.place });
-      labels = λ c leads.
-          let l = was.labels c (subst (λ (hs : List Handing). MayLead (last_row past.told.chain k) hs c) (step.handed_other k apart) leads) in
-          let s = stay c 0 in (subst (λ (t : List ℕ). SpellsLabel (label_on parts.made (member_disk k c)) t) (sym s.reads) l.0, s.unsure ∙ l.1);
+      labels = λ c needs.
+          let l = was.labels c (subst (λ (hs : List Handing). NeedsLabel (last_row past.told.chain k) hs (h.copieds k) (past.told.down (Member (member_at k c))) c) (step.handed_other k apart) needs) in
+          let s = stay c 0 in label_kept parts.made x y (member_disk k c) s.reads (λ sure. s.unsure ∙ sure) (lengths_at x y step.lengths k c) l;
       down = λ c is. let old = was.down c is in (ap (λ (q : Serving). q.row) (same_member c) ∙ old.0, ap (λ (q : Serving). q.owed) (same_member c) ∙ old.1);
       known = λ c r is. let old = was.known c r (sym (ap (λ (q : Serving). q.row) (same_member c)) ∙ is) in (old.0, old.1, old.2 ∙ sym (step.knew_other (Member (member_at k c)) (of_other k c apart)), old.3);
     }

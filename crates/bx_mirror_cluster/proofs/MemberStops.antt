@@ -7,7 +7,8 @@ use Rattle.bx_facts.proofs.Lists.{nothing}
 use Rattle.bx_facts.proofs.Machines.{elsewhere, here}
 use Rattle.bx_facts.specs.Chains.{IsPlace, last}
 use Rattle.bx_facts.specs.Machines.{put_at}
-use Rattle.bx_facts.specs.Writes.{StorePast, store_crashed, store_room}
+use Rattle.bx_facts.specs.Writes.{StorePast, member_disk, store_crashed, store_room}
+use Rattle.bx_mirror_cluster.proofs.Labels.{needs_before}
 use Rattle.bx_rows.specs.declared.device.DeviceRow.{DeviceRow}
 use Rattle.bx_global.specs.declared.state.GlobalState.{GlobalState}
 use Rattle.bx_mirror_client.specs.declared.asking.Asking.{Asking}
@@ -22,7 +23,7 @@ use Rattle.bx_mirror_tables.specs.Lasts.{last_in}
 use Rattle.bx_mirror_tables.specs.declared.lasts.Last.{Last}
 use Rattle.bx_mirror_member.specs.Standing.{Standing as Serving}
 use Rattle.bx_mirror_client.specs.Sends.{member_at}
-use Rattle.bx_mirror_cluster.specs.Fitting.{History, IsClaimed, IsComing, IsDeviceSound, IsSettledOn, Keeps, KnownFrom, Nowhere, Parts, StandsFor, StandsOn, WillReadOn, handings, knows_of, last_row, outs_of, rows_before, side_of}
+use Rattle.bx_mirror_cluster.specs.Fitting.{HasLabel, History, IsClaimed, IsComing, IsDeviceSound, IsSettledOn, Keeps, KnownFrom, NeedsLabel, Nowhere, Parts, StandsFor, StandsOn, WillReadOn, handings, knows_of, last_row, outs_of, rows_before, side_of}
 use Rattle.bx_mirror_cluster.specs.Stopping.{Stops}
 use Rattle.bx_mirror_server.specs.Sides.{copied_in, wrote_in}
 
@@ -71,6 +72,13 @@ module _ (parts : Parts) (x : Disks) (past : StorePast) (n : ℕ) (members : ℕ
       | inr e ↦ was.known b r (sym (ap (λ (m : Serving). m.row) (stops.others (member_at d b) e)) ∙ is)
     ]
 
+    labels_then : (c : Bool) → NeedsLabel (last_row past.told.chain d) (handings d past.told.handed) (h.copieds d) (down (member_at d c)) c → HasLabel parts.made x (member_disk d c)
+    labels_then c needs = was.labels c (needs_before (last_row past.told.chain d) (handings d past.told.handed) (handings d past.told.handed) (h.copieds d) (past.told.down (Member (member_at d c))) (down (member_at d c)) c (λ leads. leads)
+        (λ up. elim (same_or (member_at d c) n) [
+          | inl e ↦ absurd (let no : true ≡ false = sym (down_here (member_at d c) e) ∙ up in cc)
+          | inr e ↦ sym (down_other (member_at d c) e) ∙ up
+        ]) needs)
+
     -- its own device
     module _ (b : Bool) (it : member_at d b ≡ n) (other : member_at d (not b) ≢ n) where
       silent : Silent b (last_row past.told.chain d) (rows_before past.told.chain d) (sides b) (next b)
@@ -106,7 +114,7 @@ module _ (parts : Parts) (x : Disks) (past : StorePast) (n : ℕ) (members : ℕ
             answering = was.answering;
             copying = was.copying;
             copied_to = was.copied_to;
-            labels = was.labels;
+            labels = labels_then;
             down = down_knows;
             known = knew;
           }
@@ -131,7 +139,7 @@ module _ (parts : Parts) (x : Disks) (past : StorePast) (n : ℕ) (members : ℕ
           answering = was.answering;
           copying = was.copying;
           copied_to = was.copied_to;
-          labels = was.labels;
+          labels = labels_then;
           down = down_knows;
           known = knew;
         }

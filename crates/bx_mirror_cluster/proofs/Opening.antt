@@ -14,7 +14,7 @@ use Rattle.bx_mirror_laws.specs.Sides.{Among, Out}
 use Rattle.bx_mirror_laws.specs.Acting.{IsRow, MayAct, MayLead, boot_in}
 use Rattle.bx_mirror_tables.specs.declared.answers.Owing.{Owing}
 use Rattle.bx_mirror_client.specs.Sends.{member_at}
-use Rattle.bx_mirror_cluster.specs.Fitting.{IsDeviceSound, IsNewParts, Parts, StandsOn, opening_history, out_by, outs_of, row_of, row_or, side_of}
+use Rattle.bx_mirror_cluster.specs.Fitting.{IsDeviceSound, IsNewParts, NeedsLabel, Parts, StandsOn, opening_history, out_by, outs_of, row_of, row_or, side_of}
 use Rattle.bx_mirror_server.specs.Sides.{copied_in, wrote_in}
 
 -- a past in which nothing was done yet, of machines that know this, have these boots, and are down or up
@@ -79,7 +79,7 @@ module _ (parts : Parts) (x : Disks) (s : GlobalState) (d : ℕ) (there : d < le
 -- ---- they fit
 
 module _ (parts : Parts) (x : Disks) (first s : GlobalState) (found : ℕ) (knew boots : Actor → ℕ) (down : Actor → Bool) (new : IsNewParts first parts) (of : IsOfStore parts.made x s) (d : ℕ) (there : d < length s.devices)
-    (names : (b : Bool) → boot_in b (row_of s d) ≤ boots (Member (member_at d b))) where
+    (names : (b : Bool) → boot_in b (row_of s d) ≤ boots (Member (member_at d b))) (ups : (b : Bool) → down (Member (member_at d b)) ≡ false → IsSourceIn s d b) where
   no_owed : (b : Bool) → wrote_in b (parts.members (member_at d b)).owed ≡ []
   no_owed b = ap (λ (os : List Owing). wrote_in b os) (new.owed (member_at d b))
 
@@ -134,7 +134,16 @@ module _ (parts : Parts) (x : Disks) (first s : GlobalState) (found : ℕ) (knew
     answering = λ w comes. absurd (nothing comes.letter comes.there);
     copying = λ l comes. absurd (nothing comes.letter comes.there);
     copied_to = λ c comes. absurd (nothing comes.letter comes.there);
-    labels = λ b may. (of.labels.reads d b (source_in parts x s d there b (leads parts x s d there b may)), of.labels.sure d b (source_in parts x s d there b (leads parts x s d there b may)));
+    labels = λ b needs. let source = led b needs in record { spells = of.labels.reads d b source; sure = of.labels.sure d b source; long = of.labels.long d b source };
     down = λ b is_down. (new.rows (member_at d b), new.owed (member_at d b));
     known = λ b r e. absurd (acts_not b r e);
   }
+    where
+      led : (b : Bool) → NeedsLabel (row_of s d) [] [] (down (Member (member_at d b))) b → IsSourceIn s d b
+      led b needs = elim needs.is [
+        | inl may ↦ source_in parts x s d there b (leads parts x s d there b may)
+        | inr rest ↦ elim rest [
+          | inl up ↦ ups b up
+          | inr taken ↦ absurd taken.1.is
+        ]
+      ]

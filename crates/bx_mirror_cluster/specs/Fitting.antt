@@ -1,5 +1,5 @@
 -- How mirrored devices fit what was done with them.
-use Rattle.std.specs.Prelude.{◌*◌, ◌≡◌, ◌≢◌, ℕ, ◌+◌, ◌-◌, ◌<◌, ◌≤◌, ◌==◌, ◌⊎◌, not, Bool, true, false, List, [], ◌∷◌, length, Contains, Option, Some, None, slice_get, if◌then◌else◌}
+use Rattle.std.specs.Prelude.{◌*◌, ◌≡◌, ◌≢◌, ℕ, ◌+◌, ◌-◌, ◌<◌, ◌≤◌, ◌==◌, ◌⊎◌, not, Bool, true, false, List, [], ◌∷◌, length, Contains, Option, Some, None, slice_get, slice_index, if◌then◌else◌}
 use Rattle.std.specs.List.{AllByRecursion}
 use Rattle.bx_base.specs.declared.names.Actor.{Actor}
 use Rattle.bx_base.specs.declared.names.Actor.TheVariants.{Member, Node}
@@ -7,7 +7,7 @@ use Rattle.bx_disk.specs.Disks.{Disks, sector_of}
 use Rattle.bx_facts.specs.Chains.{Chain, IsPlace, LivesIn, last, session_of, state_after}
 use Rattle.bx_facts.specs.Pasts.{Told}
 use Rattle.bx_facts.specs.Sessions.{AreRows as AreSessions}
-use Rattle.bx_facts.specs.Writes.{Made, StorePast, WritesIn, label_on, member_disk, store_room}
+use Rattle.bx_facts.specs.Writes.{IsSourceIn, Made, StorePast, WritesIn, label_on, member_disk, store_room}
 use Rattle.bx_global.specs.declared.change.Change.{Change}
 use Rattle.bx_global.specs.declared.change.Change.TheVariants.{Renew, Take, Open, Expire, Claim, Close, Shift}
 use Rattle.bx_global.specs.declared.state.GlobalState.{GlobalState}
@@ -234,6 +234,16 @@ pub record History : Type 0 where
 abbrev pub IsClaimed : GlobalState → ℕ → Out → Type 0
 IsClaimed s greatest o = LivesIn s o.session ⊎ (IsLate greatest o.until → ⊥)
 
+-- A member needs its label: it may be read by an audit, it is up, or it has taken a piece of a copy in the epoch of the last row.
+pub record NeedsLabel (last : DeviceRow) (handed : List Handing) (copieds : List Copied) (down b : Bool) : Type 0 where
+  pub is : MayLead last handed b ⊎ ((down ≡ false) ⊎ ((c : Copied) × Among copieds c × (c.by ≡ b) × (c.epoch ≡ last.epoch)))
+
+-- A disk has its label, surely, and all sectors of a member.
+pub record HasLabel (made : Made) (x : Disks) (disk : ℕ) : Type 0 where
+  pub spells : SpellsLabel (label_on made disk) (x.reads disk 0)
+  pub sure : x.unsure disk 0 ≡ false
+  pub long : store_room made ≤ slice_index x.sizes disk
+
 -- one device
 pub record IsDeviceSound (parts : Parts) (x : Disks) (past : StorePast) (h : History) (d : ℕ) : Type 0 where
   pub rows : AreRows (store_room parts.made) (last_row past.told.chain d) (rows_before past.told.chain d) (side_of past.told x parts.members d) (h.source d)
@@ -247,8 +257,7 @@ pub record IsDeviceSound (parts : Parts) (x : Disks) (past : StorePast) (h : His
   pub answering : (w : Wrote) → IsAnswering past.told.letters d w → Among (h.wrotes d) w
   pub copying : (l : CopyLetter) → IsCopying past.told.letters d l → Among (h.copies d) l
   pub copied_to : (c : Copied) → IsCopiedTo past.told.letters d c → Among (h.copieds d) c
-  -- a label for each that may be read by an audit
-  pub labels : (b : Bool) → MayLead (last_row past.told.chain d) (handings d past.told.handed) b → SpellsLabel (label_on parts.made (member_disk d b)) (x.reads (member_disk d b) 0) × (x.unsure (member_disk d b) 0 ≡ false)
+  pub labels : (b : Bool) → NeedsLabel (last_row past.told.chain d) (handings d past.told.handed) (h.copieds d) (past.told.down (Member (member_at d b))) b → HasLabel parts.made x (member_disk d b)
   -- a member that is down knows nothing, and owes nothing
   pub down : (b : Bool) → past.told.down (Member (member_at d b)) ≡ true → ((parts.members (member_at d b)).row ≡ None) × ((parts.members (member_at d b)).owed ≡ [])
   -- what a member knows stands in the state that it was handed last
@@ -330,6 +339,10 @@ letters_left past letters = record past { told = record past.told { letters = le
 -- The device needs the other member alone.
 abbrev pub IsSideAlone : DeviceRow → Bool → Type 0
 IsSideAlone row b = ((b ≡ false) × (row.mode ≡ 2)) ⊎ ((b ≡ true) × (row.mode ≡ 1))
+
+-- Each member is one that an audit reads: its device is in no mode that leaves one out.
+pub record AreAllRead (s : GlobalState) : Type 0 where
+  pub each : (d : ℕ) (b : Bool) → d < length s.devices → IsSourceIn s d b
 
 -- Nothing was done with the parts yet: the nodes that there are know the state that they are made for.
 pub record IsNewParts (s : GlobalState) (parts : Parts) : Type 0 where

@@ -1,10 +1,9 @@
 //! Laws of a store whose members and streams fit what was done with it.
 
 ghost use Rattle.std.specs.Prelude.{◌≡◌, ◌≢◌, ℕ, ◌+◌, ◌<◌, ◌≤◌, ◌⊎◌, ◌==◌, Bool, true, false, List, [], None, Some, length};
-ghost use Rattle.bx_base.specs.declared.names.Actor.TheVariants.{Member, Node};
-ghost use Rattle.bx_disk.specs.Disks.{Disks, Stays};
+ghost use Rattle.bx_base.specs.declared.names.Actor.TheVariants.{Node};
+ghost use Rattle.bx_disk.specs.Disks.{Disks};
 ghost use Rattle.bx_facts.specs.Chains.{IsPlace, IsStoresOwn, LivesIn, last};
-ghost use Rattle.bx_facts.specs.Disks.{Crashes};
 ghost use Rattle.bx_facts.specs.Inputs.{AreAmong, IsStores};
 ghost use Rattle.bx_facts.specs.Writes.{IsOfStore, IsOnly, IsSettled, NamesUpTo, StorePast, WritesIn, found_store, opening_store, store_crashed, store_grown, store_restarted, store_room, without_session};
 ghost use Rattle.bx_global.specs.Allowed.{IsAllowed};
@@ -13,7 +12,7 @@ ghost use Rattle.bx_locking.specs.Owned.{AreSingle};
 ghost use Rattle.bx_global.specs.declared.change.Change.{Change};
 ghost use Rattle.bx_global.specs.declared.state.GlobalState.{GlobalState};
 ghost use Rattle.bx_post.specs.declared.packets.Letter.{Letter};
-ghost use Rattle.bx_mirror_client.specs.Sends.{is_done, member_at};
+ghost use Rattle.bx_mirror_client.specs.Sends.{is_done};
 ghost use Rattle.bx_mirror_client.specs.declared.asking.Asking.{Asking};
 ghost use Rattle.bx_mirror_client.specs.declared.sending.Sending.{Sending};
 ghost use Rattle.bx_mirror_cluster.specs.NodeSteps.{IsAck, MayRead, parts_acked, parts_asked, past_asked};
@@ -21,7 +20,7 @@ ghost use Rattle.bx_mirror_cluster.specs.Writing.{MayHold, MaySend, parts_sent, 
 ghost use Rattle.bx_mirror_client.specs.Streams.{answered, restarted, stopped};
 ghost use Rattle.bx_mirror_packets.specs.declared.message.WroteBody.{WroteBody};
 ghost use Rattle.bx_records.specs.Runs.{KindAndRuns};
-ghost use Rattle.bx_mirror_cluster.specs.Fitting.{History, IsDeviceSound, IsNewParts, IsSettledOn, IsSideAlone, Keeps, Parts, StandsOn, WillReadOn, letters_left, outs_of, row_of};
+ghost use Rattle.bx_mirror_cluster.specs.Fitting.{AreAllRead, IsNewParts, IsSettledOn, Keeps, Parts, StandsOn, WillReadOn, letters_left, outs_of};
 
 /// What stands for readers is settled, and stands for those that know more.
 pub fn what_stands_is_settled()
@@ -67,21 +66,10 @@ pub fn grows()
         → WillReadOn parts x past reader read sector content → WillReadOn parts x (store_grown past change) reader read sector content }
 {}
 
-/// The disk of a member that is down may crash; or be replaced by a blank one, where the device needs the other member alone.
-pub fn who_is_down_stays()
-    ensures survives { (parts : Parts) (x y : Disks) (past : StorePast) (h : History) (device : ℕ) (second : Bool) → IsDeviceSound parts x past h device → past.told.down (Member (member_at device second)) ≡ true → Crashes (3 + member_at device second) x y → IsDeviceSound parts y past h device }
-    ensures survives_standing { (parts : Parts) (x y : Disks) (past : StorePast) (h : History) (device : ℕ) (second : Bool) (sector : ℕ) (content : List ℕ) (index : ℕ) → IsDeviceSound parts x past h device → past.told.down (Member (member_at device second)) ≡ true → Crashes (3 + member_at device second) x y
-        → StandsOn parts x past device sector content index → StandsOn parts y past device sector content index }
-    ensures replaced { (parts : Parts) (x y : Disks) (past : StorePast) (h : History) (device : ℕ) (second : Bool) → IsDeviceSound parts x past h device → past.told.down (Member (member_at device second)) ≡ true → IsSideAlone (row_of (last past.told.chain) device) second
-        → ((k sector : ℕ) → k ≢ 3 + member_at device second → Stays x y k sector) → IsDeviceSound parts y past h device }
-    ensures replaced_standing { (parts : Parts) (x y : Disks) (past : StorePast) (h : History) (device : ℕ) (second : Bool) (sector : ℕ) (content : List ℕ) (index : ℕ) → IsDeviceSound parts x past h device → past.told.down (Member (member_at device second)) ≡ true → IsSideAlone (row_of (last past.told.chain) device) second
-        → ((k s : ℕ) → k ≢ 3 + member_at device second → Stays x y k s) → StandsOn parts x past device sector content index → StandsOn parts y past device sector content index }
-{}
-
-/// New members and streams fit each disks that are labelled, and the state that they are made for, whose rows name no boot yet; or, where that one has
-/// no sessions, the state that is found on the disks. What stands surely stands for all.
+/// New members and streams fit each disks that are labelled, and the state that they are made for, whose rows name no boot yet, and where all members
+/// are read; or, where that one has no sessions, the state that is found on the disks. What stands surely stands for all.
 pub fn begins()
-    ensures begins { (parts : Parts) (x : Disks) (s : GlobalState) → IsNewParts s parts → IsAllowed s → AreSingle 0 s → IsOfStore parts.made x s → NamesUpTo 0 s → Keeps parts x (opening_store s) }
+    ensures begins { (parts : Parts) (x : Disks) (s : GlobalState) → IsNewParts s parts → IsAllowed s → AreSingle 0 s → IsOfStore parts.made x s → NamesUpTo 0 s → AreAllRead s → Keeps parts x (opening_store s) }
     ensures finds { (parts : Parts) (x : Disks) (first s : GlobalState) (boot : ℕ) → IsNewParts first parts → first.sessions ≡ [] → IsAllowed s → IsOfStore parts.made x s → NamesUpTo boot s → Keeps parts x (found_store s boot) }
     ensures begins_standing { (parts : Parts) (x : Disks) (s : GlobalState) (device sector : ℕ) (content : List ℕ) → device < parts.made.devices → 1 ≤ sector → sector < store_room parts.made → IsSettled x s device sector content → StandsOn parts x (opening_store s) device sector content s.index }
     ensures finds_standing { (parts : Parts) (x : Disks) (s : GlobalState) (boot device sector : ℕ) (content : List ℕ) → device < parts.made.devices → 1 ≤ sector → sector < store_room parts.made → IsSettled x s device sector content → StandsOn parts x (found_store s boot) device sector content s.index }

@@ -13,13 +13,15 @@ use Rattle.bx_global.specs.declared.state.GlobalState.{GlobalState}
 use Rattle.bx_rows.specs.Rows.{shifted}
 use Rattle.bx_rows.specs.declared.device.DeviceRow.{DeviceRow}
 use Rattle.bx_global.proofs.Places.{at_place_same}
+use Rattle.bx_base.specs.declared.names.Actor.TheVariants.{Member}
+use Rattle.bx_mirror_client.specs.Sends.{member_at}
 use Rattle.bx_mirror_laws.specs.Acting.{MayLead}
 use Rattle.bx_mirror_laws.specs.Sides.{Among, Handing, Out, Side}
 use Rattle.bx_mirror_laws.specs.Sound.{AreCopies, AreHanded, AreOuts, AreRows, AreWrites, AreWrotes}
 use Rattle.bx_mirror_laws.specs.Steps.{IsShifted}
 use Rattle.bx_mirror_laws.proofs.Growing.{copies_grow, hands_grow, led, outs_grow, rows_grow, writes_grow, wrotes_grow}
 use Rattle.bx_mirror_laws.proofs.Small.{outs_lived, stands_fewer, writes_lived}
-use Rattle.bx_mirror_cluster.specs.Fitting.{History, IsClaimed, IsDeviceSound, IsSettledOn, Keeps, KnownFrom, Parts, StandsOn, handings, knows_of, outs_of, row_of, row_or, rows_before, side_of}
+use Rattle.bx_mirror_cluster.specs.Fitting.{History, IsClaimed, IsDeviceSound, IsSettledOn, Keeps, KnownFrom, NeedsLabel, Parts, StandsOn, handings, knows_of, outs_of, row_of, row_or, rows_before, side_of}
 
 pub settles : (parts : Parts) (x : Disks) (past : StorePast) (d sector : ℕ) (content : List ℕ) (index : ℕ) → StandsOn parts x past d sector content index → IsSettledOn parts x past d sector content
 settles parts x past d sector content index stands = stands.settled
@@ -77,7 +79,7 @@ module _ (parts : Parts) (x : Disks) (past : StorePast) (h : History) (d : ℕ) 
     answering = was.answering;
     copying = was.copying;
     copied_to = was.copied_to;
-    labels = λ b leads. was.labels b (subst (λ (l : DeviceRow). MayLead l handed b) e leads);
+    labels = λ b needs. was.labels b (subst (λ (l : DeviceRow). NeedsLabel l handed (h.copieds d) (past.told.down (Member (member_at d b))) b) e needs);
     down = was.down;
     known = λ b r is. let k = was.known b r is in (k.0, still_placed past.told.chain change k.0 k.1, k.2, k.3);
   }
@@ -186,7 +188,13 @@ module _ (parts : Parts) (x : Disks) (past : StorePast) (h : History) (d epoch m
     answering = was.answering;
     copying = was.copying;
     copied_to = was.copied_to;
-    labels = λ b leads. was.labels b (led d room past.told.greatest last_ older_ handed sides source was.rows was.hands this there new shifts b leads);
+    labels = λ b needs. was.labels b (elim needs.is [
+      | inl leads ↦ record { is = inl (led d room past.told.greatest last_ older_ handed sides source was.rows was.hands this there new shifts b leads) }
+      | inr rest ↦ elim rest [
+        | inl up ↦ record { is = inr (inl up) }
+        | inr taken ↦ absurd (let below = was.copies.copied_below taken.0 taken.1 in let at = taken.3 in let next = shifts.epoch in omega (arith, below, at, next))
+      ]
+    ]);
     down = was.down;
     known = λ b r is. let k = was.known b r is in (k.0, still_placed past.told.chain (Shift d epoch mode second boot) k.0 k.1, k.2, k.3);
   }

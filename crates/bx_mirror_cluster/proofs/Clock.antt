@@ -99,14 +99,17 @@ module _ (parts : Parts) (x : Disks) (past : StorePast) (later : ℕ) (rises : p
     actual_sent = keeps.actual_sent;
     out_actual = keeps.out_actual;
     out_number = keeps.out_number;
+    actual_given = keeps.actual_given;
     sendable = keeps.sendable;
     askable = keeps.askable;
     epochs = keeps.epochs;
+    owing = keeps.owing;
     own_out = keeps.own_out;
     lasts = keeps.lasts;
     brings = keeps.brings;
     noted = keeps.noted;
     asking = keeps.asking;
+    asked = keeps.asked;
     node_known = keeps.node_known;
     node_of = keeps.node_of;
     boot_of = keeps.boot_of;
@@ -138,6 +141,9 @@ module _ (parts : Parts) (x : Disks) (past : StorePast) (later : ℕ) (rises : p
 
   pub reads_clock : (m : ℕ) (a : Asking) (sector : ℕ) (content : List ℕ) → WillReadOn parts x past m a sector content → WillReadOn parts x (with_clock past later) m a sector content
   reads_clock m a sector content will = record {
+    device = will.device;
+    behind_label = will.behind_label;
+    within = will.within;
     row = will.row;
     row_is = will.row_is;
     stands = stands_for (FromEpoch will.row.epoch) a.device sector content will.stands;

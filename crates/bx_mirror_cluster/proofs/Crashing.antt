@@ -4,9 +4,8 @@ use Rattle.std.specs.Prelude.{not}
 use Rattle.bx_base.specs.declared.names.Actor.TheVariants.{Member}
 use Rattle.bx_disk.specs.Disks.{Disks, Stays}
 use Rattle.bx_facts.specs.Chains.{last}
-use Rattle.bx_facts.specs.Disks.{Crashes}
-use Rattle.bx_facts.specs.Writes.{StorePast, label_on, member_disk, store_room}
-use Rattle.bx_layout.specs.Labels.{SpellsLabel}
+use Rattle.bx_facts.specs.Disks.{Crashes, SameMemberLengths}
+use Rattle.bx_facts.specs.Writes.{StorePast, member_disk, store_room}
 use Rattle.bx_rows.specs.Modes.{IsSource}
 use Rattle.bx_rows.specs.declared.device.DeviceRow.{DeviceRow}
 use Rattle.bx_mirror_laws.specs.Acting.{Acts, Counts, IsRow}
@@ -15,7 +14,8 @@ use Rattle.bx_mirror_laws.proofs.Ages.{hands_age, rows_age}
 use Rattle.bx_mirror_laws.proofs.Stopping.{silent_ages, silent_copies, silent_outs, silent_stands, silent_writes, silent_wrotes}
 use Rattle.bx_mirror_tables.specs.declared.answers.Owing.{Owing}
 use Rattle.bx_mirror_client.specs.Sends.{member_at}
-use Rattle.bx_mirror_cluster.specs.Fitting.{History, IsClaimed, IsComing, IsDeviceSound, KnownFrom, Nowhere, Parts, StandsFor, StandsOn, handings, knows_of, outs_of, row_of, rows_before, side_of}
+use Rattle.bx_mirror_cluster.proofs.Labels.{label_kept, lengths_at}
+use Rattle.bx_mirror_cluster.specs.Fitting.{HasLabel, History, IsClaimed, IsComing, IsDeviceSound, KnownFrom, Nowhere, Parts, StandsFor, StandsOn, handings, knows_of, outs_of, row_of, rows_before, side_of}
 use Rattle.bx_mirror_server.specs.Sides.{copied_in, wrote_in}
 
 -- the disk of a member
@@ -28,7 +28,7 @@ apart d false e = omega (arith, e)
 apart d true e = omega (arith, e)
 
 module _ (parts : Parts) (x y : Disks) (past : StorePast) (h : History) (d : ℕ) (b : Bool) (was : IsDeviceSound parts x past h d)
-    (down : past.told.down (Member (member_at d b)) ≡ true) (crashes : Crashes (3 + member_at d b) x y) where
+    (down : past.told.down (Member (member_at d b)) ≡ true) (lengths : SameMemberLengths x y) (crashes : Crashes (3 + member_at d b) x y) where
   others : (s : ℕ) → Stays x y (member_disk d (not b)) s
   others s = crashes.others (member_disk d (not b)) s (apart d b)
 
@@ -107,7 +107,7 @@ module _ (parts : Parts) (x y : Disks) (past : StorePast) (h : History) (d : ℕ
     answering = was.answering;
     copying = was.copying;
     copied_to = was.copied_to;
-    labels = λ c leads. let was_it = was.labels c leads in labelled c was_it.0 was_it.1;
+    labels = λ c needs. labelled c (was.labels c needs);
     down = was.down;
     known = was.known;
   }
@@ -122,13 +122,10 @@ module _ (parts : Parts) (x y : Disks) (past : StorePast) (h : History) (d : ℕ
       two true false = inr refl
       two true true = inl refl
 
-      labelled : (c : Bool) → SpellsLabel (label_on parts.made (member_disk d c)) (x.reads (member_disk d c) 0) → x.unsure (member_disk d c) 0 ≡ false
-          → SpellsLabel (label_on parts.made (member_disk d c)) (y.reads (member_disk d c) 0) × (y.unsure (member_disk d c) 0 ≡ false)
-      labelled c spells sure = ⊎_elim
-          (λ (e : c ≡ b). subst (λ (k : Bool). SpellsLabel (label_on parts.made (member_disk d k)) (x.reads (member_disk d k) 0) → x.unsure (member_disk d k) 0 ≡ false
-          → SpellsLabel (label_on parts.made (member_disk d k)) (y.reads (member_disk d k) 0) × (y.unsure (member_disk d k) 0 ≡ false)) (sym e)
-          (λ l s. let k = kept 0 s in (subst (SpellsLabel (label_on parts.made (member_disk d b))) (sym k.0) l, k.1)) spells sure)
-          (λ (e : c ≡ not b). subst (λ (k : Bool). SpellsLabel (label_on parts.made (member_disk d k)) (x.reads (member_disk d k) 0) → x.unsure (member_disk d k) 0 ≡ false
-          → SpellsLabel (label_on parts.made (member_disk d k)) (y.reads (member_disk d k) 0) × (y.unsure (member_disk d k) 0 ≡ false)) (sym e)
-          (λ l s. let k = others 0 in (subst (SpellsLabel (label_on parts.made (member_disk d (not b)))) (sym k.reads) l, k.unsure ∙ s)) spells sure)
+      labelled : (c : Bool) → HasLabel parts.made x (member_disk d c) → HasLabel parts.made y (member_disk d c)
+      labelled c was_it = ⊎_elim
+          (λ (e : c ≡ b). subst (λ (k : Bool). HasLabel parts.made x (member_disk d k) → HasLabel parts.made y (member_disk d k)) (sym e)
+          (λ l. let k = kept 0 l.sure in label_kept parts.made x y (member_disk d b) k.0 (λ sure. k.1) (lengths_at x y lengths d b) l) was_it)
+          (λ (e : c ≡ not b). subst (λ (k : Bool). HasLabel parts.made x (member_disk d k) → HasLabel parts.made y (member_disk d k)) (sym e)
+          (λ l. let k = others 0 in label_kept parts.made x y (member_disk d (not b)) k.reads (λ sure. k.unsure ∙ sure) (lengths_at x y lengths d (not b)) l) was_it)
           (two b c)

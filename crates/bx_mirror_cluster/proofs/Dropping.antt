@@ -57,14 +57,17 @@ module _ (parts : Parts) (x : Disks) (past : StorePast) (keeps : Keeps parts x p
     actual_sent = λ w there. in_filter (λ v. not (v.session == session)) past.writes (sent_of w) (keeps.actual_sent w there) (differs w.session session (apart w there));
     out_actual = keeps.out_actual;
     out_number = keeps.out_number;
+    actual_given = keeps.actual_given;
     sendable = keeps.sendable;
     askable = keeps.askable;
     epochs = keeps.epochs;
+    owing = keeps.owing;
     own_out = keeps.own_out;
     lasts = keeps.lasts;
     brings = keeps.brings;
     noted = keeps.noted;
     asking = keeps.asking;
+    asked = keeps.asked;
     node_known = keeps.node_known;
     node_of = keeps.node_of;
     boot_of = keeps.boot_of;

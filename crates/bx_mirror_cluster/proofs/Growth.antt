@@ -10,15 +10,19 @@ use Rattle.bx_global.specs.Table.{IsLegal, effect}
 use Rattle.bx_global.specs.declared.change.Change.{Change}
 use Rattle.bx_global.specs.declared.change.Change.TheVariants.{Claim, Close, Expire, Open, Renew, Shift, Take}
 use Rattle.bx_rows.specs.Rows.{shifted}
+use Rattle.bx_rows.specs.declared.device.DeviceRow.{DeviceRow}
+use Rattle.bx_mirror_laws.specs.Acting.{FromEpoch}
 use Rattle.bx_mirror_laws.specs.Sides.{Among, Out}
 use Rattle.bx_mirror_laws.specs.Sound.{sent_of}
 use Rattle.bx_mirror_cluster.proofs.Chained.{shift_grows, still_grows}
-use Rattle.bx_mirror_cluster.proofs.Standing.{shift_stands_on, still_stands_on}
-use Rattle.bx_mirror_cluster.specs.Fitting.{History, IsDeviceSound, Parts, StandsOn, outs_of, row_of, row_or, rows_before}
+use Rattle.bx_mirror_cluster.proofs.Standing.{shift_stands, shift_stands_on, still_stands, still_stands_on}
+use Rattle.bx_mirror_cluster.specs.Fitting.{History, IsDeviceSound, Nowhere, Parts, StandsFor, StandsOn, outs_of, row_of, row_or, rows_before}
 
 -- What a device keeps of the growth.
 pub record GrowsWith (parts : Parts) (x : Disks) (past : StorePast) (h : History) (d : ℕ) (change : Change) : Type 0 where
   pub sound : IsDeviceSound parts x (store_grown past change) h d
+  pub settles : (sector : ℕ) (content : List ℕ) → StandsFor Nowhere parts x past d sector content → StandsFor Nowhere parts x (store_grown past change) d sector content
+  pub reads : (epoch sector : ℕ) (content : List ℕ) → StandsFor (FromEpoch epoch) parts x past d sector content → StandsFor (FromEpoch epoch) parts x (store_grown past change) d sector content
   pub stands : (sector : ℕ) (content : List ℕ) (index : ℕ) → StandsOn parts x past d sector content index → StandsOn parts x (store_grown past change) d sector content index
 
 same_or : (n m : ℕ) → (n ≡ m) ⊎ (n ≢ m)
@@ -30,6 +34,8 @@ module _ (parts : Parts) (x : Disks) (past : StorePast) (h : History) (d : ℕ) 
       → row_of (effect (last past.told.chain) change) d ≡ row_of (last past.told.chain) d → rows_before (grown past.told.chain change) d ≡ rows_before past.told.chain d → GrowsWith parts x past h d change
   still change lived same older = record {
     sound = still_grows parts x past h d change was lived same older;
+    settles = still_stands parts x past h d was sent change lived same older Nowhere;
+    reads = λ epoch sector content stands. still_stands parts x past h d was sent change lived same older (FromEpoch epoch) sector content stands;
     stands = still_stands_on parts x past h d was sent change lived same older;
   }
 
@@ -44,7 +50,7 @@ module _ (parts : Parts) (x : Disks) (past : StorePast) (h : History) (d : ℕ) 
   grows (Shift device epoch mode second boot) legal own lived = ⊎_elim
       (λ (e : device ≡ d). subst (λ (n : ℕ). IsLegal (last past.told.chain) (Shift n epoch mode second boot) → Contains past.told.handed (Shift n epoch mode second boot)
       → ((k : ℕ) (o : Out) → outs_of parts.nodes k ≡ Some o → LivesIn (effect (last past.told.chain) (Shift n epoch mode second boot)) o.session → LivesIn (last past.told.chain) o.session) → GrowsWith parts x past h d (Shift n epoch mode second boot)) (sym e)
-      (λ l c v. record { sound = shift_grows parts x past h d epoch mode boot second was l c v; stands = shift_stands_on parts x past h d was sent epoch mode boot second l c v }) legal own lived)
+      (λ l c v. record { sound = shift_grows parts x past h d epoch mode boot second was l c v; settles = shift_stands parts x past h d was sent epoch mode boot second l c v Nowhere; reads = λ e sector content stands. shift_stands parts x past h d was sent epoch mode boot second l c v (FromEpoch e) sector content stands; stands = shift_stands_on parts x past h d was sent epoch mode boot second l c v }) legal own lived)
       (λ (apart : device ≢ d). still (Shift device epoch mode second boot) lived
       (ap row_or (at_place-other device (shifted mode second boot) (last past.told.chain).devices d (λ e. apart (sym e))))
       (let e : (device == d) ≡ false = grind (arith, nat_tests, apart) in ap (λ (b : Bool). if b then row_of (last past.told.chain) d ∷ rows_before past.told.chain d else rows_before past.told.chain d) e))

@@ -20,6 +20,7 @@ use Rattle.bx_mirror_laws.proofs.Sending.{writes_send}
 use Rattle.bx_mirror_laws.proofs.Small.{stands_fewer}
 use Rattle.bx_mirror_client.specs.Streams.{Streaming}
 use Rattle.bx_mirror_client.specs.declared.asking.Asking.{Asking}
+use Rattle.bx_mirror_cluster.proofs.Drawn.{drawn_same, same_read}
 use Rattle.bx_mirror_cluster.specs.Fitting.{History, IsBehind, IsClaimed, IsDeviceSound, IsOwnOrLeft, IsSettledOn, Keeps, Parts, StandsFor, StandsOn, WillReadOn, handings, knows_of, last_row, out_by, outs_of, row_of, row_or, rows_before, side_of}
 use Rattle.bx_mirror_cluster.specs.Learning.{Learned, MayLearn, knowing}
 use Rattle.bx_mirror_cluster.specs.Writing.{with_node, with_stream}
@@ -328,6 +329,7 @@ module _ (parts : Parts) (x : Disks) (past : StorePast) (keeps : Keeps parts x p
       ])
       | inr e ↦ (let le = keeps.out_number m w (sym (ap (λ (q : Streaming). out_by q.out) (at_other m e)) ∙ is) in let same = ap (λ (q : Streaming). q.sequence) (at_other m e) in omega (arith, le, same))
     ];
+    actual_given = keeps.actual_given;
     sendable = λ m t is. elim (same_or m n) [
       | inl e ↦ keeps.sendable n t (so.noted t (sym (ap (λ (q : Streaming). q.out) (at_it m e)) ∙ is))
       | inr e ↦ keeps.sendable m t (sym (ap (λ (q : Streaming). q.out) (at_other m e)) ∙ is)
@@ -337,6 +339,7 @@ module _ (parts : Parts) (x : Disks) (past : StorePast) (keeps : Keeps parts x p
       | inr e ↦ keeps.askable m a (sym (ap (λ (q : Streaming). q.asks) (at_other m e)) ∙ is)
     ];
     epochs = keeps.epochs;
+    owing = keeps.owing;
     own_out = λ m w there is. elim (same_or m n) [
       | inl e ↦ (let now : new.session ≡ Some w.session = sym (ap (λ (q : Streaming). q.session) (at_it m e)) ∙ is in
           let old = same_own w.session now (keeps.left w there) in
@@ -355,9 +358,15 @@ module _ (parts : Parts) (x : Disks) (past : StorePast) (keeps : Keeps parts x p
     asking = λ m a is. elim (same_or m n) [
       | inl e ↦ (let it = so.asks a (sym (ap (λ (q : Streaming). q.asks) (at_it m e)) ∙ is) in
           let old = keeps.asking n it.1.0 it.1.1 in
-          (ap (λ (q : Streaming). q.session) (at_it m e) ∙ it.0, (let now = ap (λ (q : Streaming). q.tag) (at_it m e) in let same = so.tag in let le = old.1 in let tag = it.1.2 in omega (arith, now, same, le, tag))))
+          (ap (λ (q : Streaming). q.session) (at_it m e) ∙ it.0, (let now = ap (λ (q : Streaming). q.tag) (at_it m e) in let same = so.tag in let le = old.1 in let tag = it.1.2.tag in omega (arith, now, same, le, tag))))
       | inr e ↦ (let old = keeps.asking m a (sym (ap (λ (q : Streaming). q.asks) (at_other m e)) ∙ is) in
           (ap (λ (q : Streaming). q.session) (at_other m e) ∙ old.0, (let same = ap (λ (q : Streaming). q.tag) (at_other m e) in let le = old.1 in omega (arith, same, le))))
+    ];
+    asked = λ m r a reading is session tag. elim (same_or m n) [
+      | inl e ↦ (let it = so.asks a (sym (ap (λ (q : Streaming). q.asks) (at_it m e)) ∙ is) in
+          let was = it.1.2 in
+          same_read it.1.0 a r was (keeps.asked m r it.1.0 reading (ap (λ (k : ℕ). (parts.nodes k).asks) e ∙ it.1.1) (session ∙ was.session) (tag ∙ was.tag)))
+      | inr e ↦ keeps.asked m r a reading (sym (ap (λ (q : Streaming). q.asks) (at_other m e)) ∙ is) session tag
     ];
     node_known = λ m t is. elim (same_or m n) [
       | inl e ↦ (
@@ -381,18 +390,9 @@ module _ (parts : Parts) (x : Disks) (past : StorePast) (keeps : Keeps parts x p
     found_most = keeps.found_most;
     in_order = keeps.in_order;
     left = λ w there. left_then w.session (keeps.left w there);
-    numbered = λ d l there. elim (keeps.numbered d l there) [
-      | inl old ↦ inl old
-      | inr le ↦ inr (let same = kept (λ q. q.sequence) so.sequence (keeps.node_of l.session) in omega (arith, le, same))
-    ];
-    tagged = λ m d t epoch tag bytes data_. elim (keeps.tagged m d t epoch tag bytes data_) [
-      | inl old ↦ inl old
-      | inr le ↦ inr (let same = kept (λ q. q.tag) so.tag m in omega (arith, le, same))
-    ];
-    read_tagged = λ m d t tag read. elim (keeps.read_tagged m d t tag read) [
-      | inl old ↦ inl old
-      | inr le ↦ inr (let same = kept (λ q. q.tag) so.tag m in omega (arith, le, same))
-    ];
+    numbered = λ d l there. drawn_same _ _ _ _ _ _ _ (kept (λ q. q.sequence) so.sequence (keeps.node_of l.session)) (keeps.numbered d l there);
+    tagged = λ m d t epoch tag bytes data_. drawn_same _ _ _ _ _ _ _ (kept (λ q. q.tag) so.tag m) (keeps.tagged m d t epoch tag bytes data_);
+    read_tagged = λ m r read. drawn_same _ _ _ _ _ _ _ (kept (λ q. q.tag) so.tag m) (keeps.read_tagged m r read);
     member_boots = keeps.member_boots;
     node_boots = λ m there up. kept (λ q. q.boot) so.boot m ∙ keeps.node_boots m there up;
   }
@@ -407,6 +407,9 @@ module _ (parts : Parts) (x : Disks) (past : StorePast) (keeps : Keeps parts x p
 
   pub others_learned : (m : ℕ) (a : Asking) (sector : ℕ) (content : List ℕ) → m ≢ n → WillReadOn parts x past m a sector content → WillReadOn (with_stream parts n new) x (knowing past n known.index) m a sector content
   others_learned m a sector content other will = record {
+    device = will.device;
+    behind_label = will.behind_label;
+    within = will.within;
     row = will.row;
     row_is = ap (λ (q : Streaming). slice_get q.rows a.device) (at_other m other) ∙ will.row_is;
     stands = will.stands;
@@ -426,6 +429,9 @@ module _ (parts : Parts) (x : Disks) (past : StorePast) (keeps : Keeps parts x p
             let now = ap row_or r.2 in
             let more : will.row.epoch ≤ r.0.epoch = (let e = ap (λ (q : DeviceRow). q.epoch) old in let f = ap (λ (q : DeviceRow). q.epoch) now in omega (arith, le, e, f)) in
             record {
+              device = subst (λ (k : ℕ). k < parts.made.devices) (sym device) within;
+              behind_label = will.behind_label;
+              within = will.within;
               row = r.0;
               row_is = ap (λ (q : Streaming). slice_get q.rows a.device) (at_it n refl) ∙ ap (λ (rs : List DeviceRow). slice_get rs a.device) so.rows ∙ ap (λ (k : ℕ). slice_get known.devices k) device ∙ r.2;
               stands = subst (λ (k : ℕ). StandsFor (FromEpoch r.0.epoch) (with_stream parts n new) x (knowing past n known.index) k sector content) (sym device)

@@ -7,6 +7,7 @@ use Rattle.bx_post.specs.declared.packets.Letter.{Letter}
 use Rattle.bx_rows.specs.declared.device.DeviceRow.{DeviceRow}
 use Rattle.bx_mirror_packets.specs.DeviceMessages.{Spells}
 use Rattle.bx_mirror_packets.specs.declared.message.DeviceMessage.{DeviceMessage}
+use Rattle.bx_mirror_packets.specs.declared.message.ReadBody.{ReadBody}
 use Rattle.bx_mirror_packets.specs.declared.message.DeviceMessage.TheVariants.{Write, Wrote as WroteOf, Read, Data, Copy, Copied as CopiedOf, Alive}
 use Rattle.bx_mirror_laws.specs.Sides.{Copied, CopyLetter, WriteLetter, Wrote}
 use Rattle.bx_mirror_cluster.specs.Fitting.{IsAnswering, IsComing, IsCopiedTo, IsCopying, IsData, IsReading, IsSettledOn, Keeps, KnownFrom, Nowhere, Parts, StandsFor, StandsOn}
@@ -40,8 +41,8 @@ module _ (letters all : List Letter) (fewer : AreAmong IsStores letters all) whe
   pub still_data : (n d session epoch tag : ℕ) (bytes : List ℕ) → IsData letters n d session epoch tag bytes → IsData all n d session epoch tag bytes
   still_data n d session epoch tag bytes c = record { letter = c.letter; there = was (Data c.data_) c.letter c.spells c.there; data_ = c.data_; spells = c.spells; to = c.to; device = c.device; session_is = c.session_is; epoch_is = c.epoch_is; tag_is = c.tag_is; bytes_are = c.bytes_are }
 
-  pub still_reading : (n d session tag : ℕ) → IsReading letters n d session tag → IsReading all n d session tag
-  still_reading n d session tag c = record { letter = c.letter; there = was (Read c.read) c.letter c.spells c.there; read = c.read; spells = c.spells; from = c.from; device = c.device; session_is = c.session_is; tag_is = c.tag_is }
+  pub still_reading : (n : ℕ) (r : ReadBody) → IsReading letters n r → IsReading all n r
+  still_reading n r c = record { letter = c.letter; there = was (Read r) c.letter c.spells c.there; spells = c.spells; from = c.from }
 
 module _ (parts : Parts) (x : Disks) (past : StorePast) (letters : List Letter) (fewer : AreAmong IsStores letters past.told.letters) where
   pub loses : Keeps parts x past → Keeps parts x (record past { told = record past.told { letters = letters } })
@@ -69,14 +70,17 @@ module _ (parts : Parts) (x : Disks) (past : StorePast) (letters : List Letter) 
     actual_sent = keeps.actual_sent;
     out_actual = keeps.out_actual;
     out_number = keeps.out_number;
+    actual_given = keeps.actual_given;
     sendable = keeps.sendable;
     askable = keeps.askable;
     epochs = keeps.epochs;
+    owing = keeps.owing;
     own_out = keeps.own_out;
     lasts = keeps.lasts;
     brings = keeps.brings;
     noted = keeps.noted;
     asking = keeps.asking;
+    asked = λ n r a c is session tag. keeps.asked n r a (still_reading letters past.told.letters fewer n r c) is session tag;
     node_known = keeps.node_known;
     node_of = keeps.node_of;
     boot_of = keeps.boot_of;
@@ -89,7 +93,7 @@ module _ (parts : Parts) (x : Disks) (past : StorePast) (letters : List Letter) 
     left = keeps.left;
     numbered = keeps.numbered;
     tagged = λ n d session epoch tag bytes c. keeps.tagged n d session epoch tag bytes (still_data letters past.told.letters fewer n d session epoch tag bytes c);
-    read_tagged = λ n d session tag c. keeps.read_tagged n d session tag (still_reading letters past.told.letters fewer n d session tag c);
+    read_tagged = λ n r c. keeps.read_tagged n r (still_reading letters past.told.letters fewer n r c);
     member_boots = keeps.member_boots;
     node_boots = keeps.node_boots;
   }

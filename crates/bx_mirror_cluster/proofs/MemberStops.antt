@@ -1,14 +1,18 @@
 -- A member stops: what it knew and owed is gone, its disk stays, and all goes on fitting.
-use Rattle.std.proofs.Common.{◌≡◌, ◌≢◌, ◌⊎◌, inl, inr, ℕ, ◌<◌, ◌≤◌, Bool, true, false, List, [], Some, None, refl, sym, ◌∙◌, ap, subst, arith}
+use Rattle.std.proofs.Common.{◌≡◌, ◌≢◌, ◌⊎◌, inl, inr, ℕ, ◌<◌, ◌≤◌, Bool, true, false, Contains, List, [], Some, None, refl, sym, ◌∙◌, ap, subst, arith}
 use Rattle.std.specs.Prelude.{not, slice_get}
 use Rattle.bx_base.specs.declared.names.Actor.TheVariants.{Member}
 use Rattle.bx_disk.specs.Disks.{Disks}
+use Rattle.bx_facts.proofs.Lists.{nothing}
 use Rattle.bx_facts.proofs.Machines.{elsewhere, here}
 use Rattle.bx_facts.specs.Chains.{IsPlace, last}
 use Rattle.bx_facts.specs.Machines.{put_at}
-use Rattle.bx_facts.specs.Writes.{StorePast, store_crashed, store_room}
+use Rattle.bx_facts.specs.Writes.{StorePast, member_disk, store_crashed, store_room}
+use Rattle.bx_mirror_cluster.proofs.Labels.{needs_before}
 use Rattle.bx_rows.specs.declared.device.DeviceRow.{DeviceRow}
 use Rattle.bx_global.specs.declared.state.GlobalState.{GlobalState}
+use Rattle.bx_mirror_client.specs.declared.asking.Asking.{Asking}
+use Rattle.bx_mirror_laws.specs.Acting.{FromEpoch}
 use Rattle.bx_mirror_laws.specs.Sides.{Among, Side, WriteLetter}
 use Rattle.bx_mirror_laws.specs.Sound.{AreCopies, AreHanded, AreOuts, AreRows, AreWrites, AreWrotes, Standing}
 use Rattle.bx_mirror_laws.specs.Steps.{Ages, Silent}
@@ -19,7 +23,7 @@ use Rattle.bx_mirror_tables.specs.Lasts.{last_in}
 use Rattle.bx_mirror_tables.specs.declared.lasts.Last.{Last}
 use Rattle.bx_mirror_member.specs.Standing.{Standing as Serving}
 use Rattle.bx_mirror_client.specs.Sends.{member_at}
-use Rattle.bx_mirror_cluster.specs.Fitting.{History, IsClaimed, IsComing, IsDeviceSound, Keeps, KnownFrom, Nowhere, Parts, StandsFor, StandsOn, handings, knows_of, last_row, outs_of, rows_before, side_of}
+use Rattle.bx_mirror_cluster.specs.Fitting.{HasLabel, History, IsClaimed, IsComing, IsDeviceSound, IsSettledOn, Keeps, KnownFrom, NeedsLabel, Nowhere, Parts, StandsFor, StandsOn, WillReadOn, handings, knows_of, last_row, outs_of, rows_before, side_of}
 use Rattle.bx_mirror_cluster.specs.Stopping.{Stops}
 use Rattle.bx_mirror_server.specs.Sides.{copied_in, wrote_in}
 
@@ -68,6 +72,13 @@ module _ (parts : Parts) (x : Disks) (past : StorePast) (n : ℕ) (members : ℕ
       | inr e ↦ was.known b r (sym (ap (λ (m : Serving). m.row) (stops.others (member_at d b) e)) ∙ is)
     ]
 
+    labels_then : (c : Bool) → NeedsLabel (last_row past.told.chain d) (handings d past.told.handed) (h.copieds d) (down (member_at d c)) c → HasLabel parts.made x (member_disk d c)
+    labels_then c needs = was.labels c (needs_before (last_row past.told.chain d) (handings d past.told.handed) (handings d past.told.handed) (h.copieds d) (past.told.down (Member (member_at d c))) (down (member_at d c)) c (λ leads. leads)
+        (λ up. elim (same_or (member_at d c) n) [
+          | inl e ↦ absurd (let no : true ≡ false = sym (down_here (member_at d c) e) ∙ up in cc)
+          | inr e ↦ sym (down_other (member_at d c) e) ∙ up
+        ]) needs)
+
     -- its own device
     module _ (b : Bool) (it : member_at d b ≡ n) (other : member_at d (not b) ≢ n) where
       silent : Silent b (last_row past.told.chain d) (rows_before past.told.chain d) (sides b) (next b)
@@ -103,7 +114,7 @@ module _ (parts : Parts) (x : Disks) (past : StorePast) (n : ℕ) (members : ℕ
             answering = was.answering;
             copying = was.copying;
             copied_to = was.copied_to;
-            labels = was.labels;
+            labels = labels_then;
             down = down_knows;
             known = knew;
           }
@@ -128,7 +139,7 @@ module _ (parts : Parts) (x : Disks) (past : StorePast) (n : ℕ) (members : ℕ
           answering = was.answering;
           copying = was.copying;
           copied_to = was.copied_to;
-          labels = was.labels;
+          labels = labels_then;
           down = down_knows;
           known = knew;
         }
@@ -175,9 +186,14 @@ module _ (parts : Parts) (x : Disks) (past : StorePast) (n : ℕ) (members : ℕ
     actual_sent = keeps.actual_sent;
     out_actual = keeps.out_actual;
     out_number = keeps.out_number;
+    actual_given = keeps.actual_given;
     sendable = keeps.sendable;
     askable = keeps.askable;
     epochs = keeps.epochs;
+    owing = λ k o there. elim (same_or k n) [
+      | inl e ↦ absurd (nothing o (subst (λ (os : List Owing). Contains os o) (ap (λ (j : ℕ). (members j).owed) e ∙ stops.owed) there))
+      | inr e ↦ keeps.owing k o (subst (λ (m : Serving). Contains m.owed o) (stops.others k e) there)
+    ];
     own_out = keeps.own_out;
     lasts = λ d b session. elim (same_or (member_at d b) n) [
       | inl e ↦ inl (ap (λ (ls : List Last). last_in ls session) (ap (λ (k : ℕ). (members k).lasts) e ∙ stops.lasts))
@@ -186,6 +202,7 @@ module _ (parts : Parts) (x : Disks) (past : StorePast) (n : ℕ) (members : ℕ
     brings = keeps.brings;
     noted = keeps.noted;
     asking = keeps.asking;
+    asked = keeps.asked;
     node_known = keeps.node_known;
     node_of = keeps.node_of;
     boot_of = keeps.boot_of;
@@ -210,4 +227,19 @@ module _ (parts : Parts) (x : Disks) (past : StorePast) (n : ℕ) (members : ℕ
   stands_stopped d sector content index keeps stands = let set = stands.settled in let was = keeps.devices d set.device in record {
     settled = record { device = set.device; behind_label = set.behind_label; within = set.within; is = stands_for keeps.history d was Nowhere sector content set.behind_label set.within set.is };
     stands = stands_for keeps.history d was (KnownFrom past.told.chain d index) sector content set.behind_label set.within stands.stands;
+  }
+
+  pub settles_stopped : (d sector : ℕ) (content : List ℕ) → Keeps parts x past → IsSettledOn parts x past d sector content → IsSettledOn (record parts { members = members }) x (store_crashed past (Member n)) d sector content
+  settles_stopped d sector content keeps set = record { device = set.device; behind_label = set.behind_label; within = set.within; is = stands_for keeps.history d (keeps.devices d set.device) Nowhere sector content set.behind_label set.within set.is }
+
+  pub reads_stopped : (m : ℕ) (a : Asking) (sector : ℕ) (content : List ℕ) → Keeps parts x past → WillReadOn parts x past m a sector content → WillReadOn (record parts { members = members }) x (store_crashed past (Member n)) m a sector content
+  reads_stopped m a sector content keeps will = record {
+    device = will.device;
+    behind_label = will.behind_label;
+    within = will.within;
+    row = will.row;
+    row_is = will.row_is;
+    stands = stands_for keeps.history a.device (keeps.devices a.device will.device) (FromEpoch will.row.epoch) sector content will.behind_label will.within will.stands;
+    coming = will.coming;
+    came = will.came;
   }

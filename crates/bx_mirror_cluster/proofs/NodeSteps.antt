@@ -1,5 +1,5 @@
 -- A node sends a read, takes the answer, and notes an acknowledgement.
-use Rattle.std.proofs.Common.{◌≡◌, ◌≢◌, ◌⊎◌, inl, inr, ℕ, ◌/◌, ◌<◌, ◌≤◌, Bool, true, false, Contains, List, [], ◌∷◌, ◌++◌, Option, Some, None, refl, sym, ◌∙◌, ap, subst, arith}
+use Rattle.std.proofs.Common.{◌≡◌, ◌≢◌, ◌⊎◌, inl, inr, ℕ, ◌+◌, ◌/◌, ◌<◌, ◌≤◌, Bool, true, false, Contains, List, [], ◌∷◌, ◌++◌, Option, Some, None, refl, sym, ◌∙◌, ap, subst, arith}
 use Rattle.std.specs.Prelude.{◌==◌, ◌&&◌, not, is_some, slice_get, if◌then◌else◌}
 use Rattle.std.proofs.lemmas.Bool.Decides.{nat_tests}
 use Rattle.std.proofs.lemmas.List.{append-nil}
@@ -7,7 +7,8 @@ use Rattle.bx_base.specs.declared.names.Actor.{Actor}
 use Rattle.bx_base.specs.declared.names.Actor.TheVariants.{Member, Node, Replica, Server}
 use Rattle.bx_disk.specs.Disks.{Disks}
 use Rattle.bx_facts.proofs.Lists.{front_or_behind, nothing}
-use Rattle.bx_facts.specs.Writes.{StorePast}
+use Rattle.bx_facts.specs.Writes.{Made, StorePast}
+use Rattle.bx_global.specs.Table.{greatest}
 use Rattle.bx_post.specs.declared.packets.Letter.{Letter}
 use Rattle.bx_rows.specs.declared.device.DeviceRow.{DeviceRow}
 use Rattle.bx_mirror_laws.specs.Sides.{Among}
@@ -28,14 +29,17 @@ use Rattle.bx_mirror_client.specs.declared.sending.Sending.{Sending}
 use Rattle.bx_mirror_client.proofs.Leaving.{noted_more}
 use Rattle.bx_mirror_client.proofs.Telling.{both, same_number}
 use Rattle.bx_mirror_cluster.specs.Fitting.{IsReading, IsSettledOn, Keeps, Parts, StandsOn, WillReadOn, out_by}
-use Rattle.bx_mirror_cluster.specs.GoingOn.{AreReads, GoesOn, letters_more}
-use Rattle.bx_mirror_cluster.specs.Speaking.{FitsPacket, FitsRead}
+use Rattle.bx_mirror_cluster.specs.GoingOn.{AreReads, GoesOn, IsAskedOn, IsSameRead, letters_more}
+use Rattle.bx_mirror_cluster.specs.Speaking.{FitsRead, IsOfRead, IsSendable}
 use Rattle.bx_mirror_cluster.specs.NodeSteps.{IsAck, MayRead, parts_acked, parts_asked, past_asked}
 use Rattle.bx_mirror_cluster.specs.Writing.{with_node, with_stream}
 use Rattle.bx_mirror_cluster.proofs.GoingOn.{goes_on, reads_on, settles_on, stands_still}
 
 same_or : (n m : ℕ) → (n ≡ m) ⊎ (n ≢ m)
 same_or n m = grind arith
+
+pub itself_asked : (a : Asking) → IsSameRead a a
+itself_asked a = record { session = refl; tag = refl; device = refl; place = refl; sectors = refl }
 
 -- ---- one node's stream goes on
 
@@ -52,9 +56,9 @@ module _ (parts : Parts) (x : Disks) (past : StorePast) (keeps : Keeps parts x p
     | inr e ↦ ap f (at_other m e)
   ]
 
-  pub node_goes_on : out_by c.out ≡ out_by (parts.nodes n).out → c.rows ≡ (parts.nodes n).rows → c.session ≡ (parts.nodes n).session → c.sequence ≡ (parts.nodes n).sequence → c.boot ≡ (parts.nodes n).boot → (parts.nodes n).tag ≤ c.tag → ((s : Sending) → c.out ≡ Some s → FitsPacket s)
+  pub node_goes_on : out_by c.out ≡ out_by (parts.nodes n).out → c.rows ≡ (parts.nodes n).rows → c.session ≡ (parts.nodes n).session → c.sequence ≡ (parts.nodes n).sequence → c.boot ≡ (parts.nodes n).boot → (parts.nodes n).tag ≤ c.tag → ((s : Sending) → c.out ≡ Some s → IsSendable parts.made s)
       → ((d epoch : ℕ) (b : Bool) (s : Sending) → d < parts.made.devices → c.out ≡ Some s → HasAcked s.acks (member_at d b) epoch → Among (keeps.history.wrotes d) (record { by = b; session = s.session; epoch = epoch; sequence = s.sequence }))
-      → ((a : Asking) → c.asks ≡ Some a → (c.session ≡ Some a.session) × (a.tag ≤ c.tag) × FitsRead a) → GoesOn parts keeps.history (with_node parts.nodes n c)
+      → ((a : Asking) → c.asks ≡ Some a → (c.session ≡ Some a.session) × (a.tag ≤ c.tag) × FitsRead a × IsAskedOn (parts.nodes n) a) → GoesOn parts keeps.history (with_node parts.nodes n c)
   node_goes_on out rows session sequence boot tag sendable noted asked = record {
     out = λ m. kept (λ q. out_by q.out) out m;
     rows = λ m. kept (λ q. q.rows) rows m;
@@ -77,17 +81,21 @@ module _ (parts : Parts) (x : Disks) (past : StorePast) (keeps : Keeps parts x p
       | inl e ↦ (asked a (sym (ap (λ (q : Streaming). q.asks) (at_it m e)) ∙ is)).2
       | inr e ↦ keeps.askable m a (sym (ap (λ (q : Streaming). q.asks) (at_other m e)) ∙ is)
     ];
+    asked = λ m a is. elim (same_or m n) [
+      | inl e ↦ subst (λ (k : ℕ). IsAskedOn (parts.nodes k) a) (sym e) (asked a (sym (ap (λ (q : Streaming). q.asks) (at_it m e)) ∙ is)).3
+      | inr e ↦ inl (a, sym (ap (λ (q : Streaming). q.asks) (at_other m e)) ∙ is, itself_asked a)
+    ];
     asking = λ m a is. elim (same_or m n) [
       | inl e ↦ (let it = asked a (sym (ap (λ (q : Streaming). q.asks) (at_it m e)) ∙ is) in (ap (λ (q : Streaming). q.session) (at_it m e) ∙ it.0, (let now = ap (λ (q : Streaming). q.tag) (at_it m e) in let le = it.1 in omega (arith, now, le))))
       | inr e ↦ (let it = keeps.asking m a (sym (ap (λ (q : Streaming). q.asks) (at_other m e)) ∙ is) in (ap (λ (q : Streaming). q.session) (at_other m e) ∙ it.0, (let now = ap (λ (q : Streaming). q.tag) (at_other m e) in let le = it.1 in omega (arith, now, le))))
     ];
   }
 
-pub asked_still : (parts : Parts) (x : Disks) (past : StorePast) → Keeps parts x past → (n : ℕ) (a : Asking) → (parts.nodes n).asks ≡ Some a → ((parts.nodes n).session ≡ Some a.session) × (a.tag ≤ (parts.nodes n).tag) × FitsRead a
-asked_still parts x past keeps n a is = let old = keeps.asking n a is in (old.0, old.1, keeps.askable n a is)
+pub asked_still : (parts : Parts) (x : Disks) (past : StorePast) → Keeps parts x past → (n : ℕ) (a : Asking) → (parts.nodes n).asks ≡ Some a → ((parts.nodes n).session ≡ Some a.session) × (a.tag ≤ (parts.nodes n).tag) × FitsRead a × IsAskedOn (parts.nodes n) a
+asked_still parts x past keeps n a is = let old = keeps.asking n a is in (old.0, old.1, keeps.askable n a is, inl (a, is, itself_asked a))
 
 pub no_reads : (nodes : ℕ → Streaming) → AreReads nodes []
-no_reads nodes = record { kinds = λ letter there. absurd (nothing letter there); tags = λ m d session tag read. absurd (nothing read.letter read.there) }
+no_reads nodes = record { kinds = λ letter there. absurd (nothing letter there); each = λ m r read. absurd (nothing read.letter read.there) }
 
 -- no letter more is none
 pub same_past : (past : StorePast) → letters_more past [] ≡ past
@@ -122,12 +130,12 @@ ack_kept member epoch s = by (is_acked s.acks member epoch)
     by true = (refl, refl, refl)
     by false = (refl, refl, refl)
 
-ack_fits : (member epoch : ℕ) (s : Sending) → FitsPacket s → FitsPacket (with_ack member epoch s)
-ack_fits member epoch s fits = by (is_acked s.acks member epoch)
+ack_fits : (made : Made) (member epoch : ℕ) (s : Sending) → IsSendable made s → IsSendable made (with_ack member epoch s)
+ack_fits made member epoch s fits = by (is_acked s.acks member epoch)
   where
-    by : (b : Bool) → FitsPacket (if b then s else record s { acks = s.acks ++ record { member = member; epoch = epoch } ∷ [] })
+    by : (b : Bool) → IsSendable made (if b then s else record s { acks = s.acks ++ record { member = member; epoch = epoch } ∷ [] })
     by true = fits
-    by false = record { session = fits.session; sequence = fits.sequence; until = fits.until; count = fits.count; runs = fits.runs }
+    by false = let packet = fits.packet in record { packet = record { session = packet.session; sequence = packet.sequence; until = packet.until; count = packet.count; runs = packet.runs }; runs = fits.runs }
 
 half : (d : ℕ) (b : Bool) → member_at d b / 2 ≡ d
 half d false = omega arith
@@ -176,7 +184,7 @@ ack_noted parts x past n s member w keeps ack =
         (subst (λ (k : ℕ). Among (keeps.history.wrotes d) (record { by = b; session = k; epoch = epoch; sequence = s.sequence })) session old)
 
     on : GoesOn parts keeps.history (with_node parts.nodes n (record (parts.nodes n) { out = Some (with_ack member w.epoch s) }))
-    on = node_goes_on parts x past keeps n (record (parts.nodes n) { out = Some (with_ack member w.epoch s) }) (kept_by.2 ∙ sym (ap out_by ack.out)) refl refl refl refl (omega arith) (λ t is. let same : with_ack member w.epoch s ≡ t = cc in subst FitsPacket same (ack_fits member w.epoch s (keeps.sendable n s ack.out))) noted (λ a is. asked_still parts x past keeps n a is)
+    on = node_goes_on parts x past keeps n (record (parts.nodes n) { out = Some (with_ack member w.epoch s) }) (kept_by.2 ∙ sym (ap out_by ack.out)) refl refl refl refl (omega arith) (λ t is. let same : with_ack member w.epoch s ≡ t = cc in subst (IsSendable parts.made) same (ack_fits parts.made member w.epoch s (keeps.sendable n s ack.out))) noted (λ a is. asked_still parts x past keeps n a is)
 
 -- ---- a read is sent
 
@@ -199,6 +207,7 @@ number_in (Server n) = 0
 pub record IsAsked (node : ℕ) (a : Asking) (rows : List DeviceRow) (letter : Letter) : Type 0 where
   pub row : DeviceRow
   pub there : slice_get rows a.device ≡ Some row
+  pub some : 1 ≤ a.tag
   pub is : letter ≡ read_letter node a row
 
 pub is_asked : (before : List DeviceRow) (node : ℕ) (a : Asking) (rows : List DeviceRow) (letter : Letter) → Contains (read_letters before node (Some a) rows) letter → IsAsked node a rows letter
@@ -206,11 +215,28 @@ is_asked before node a rows letter has = by (slice_get rows a.device) refl has
   where
     by : (o : Option DeviceRow) → slice_get rows a.device ≡ o → Contains (read_in before node a o) letter → IsAsked node a rows letter
     by None e there = absurd (nothing letter there)
-    by (Some row) e there = pick (is_new_epoch before a.device row && is_awaited a) there
+    by (Some row) e there = pick (is_new_epoch before a.device row && is_awaited a) refl there
       where
-        pick : (b : Bool) → Contains (if b then read_letter node a row ∷ [] else []) letter → IsAsked node a rows letter
-        pick true one = elim (front_or_behind (read_letter node a row) [] letter one) [ inl here ↦ record { row = row; there = e; is = sym here } | inr none ↦ absurd (nothing letter none) ]
-        pick false none = absurd (nothing letter none)
+        numbered : (is_new_epoch before a.device row && is_awaited a) ≡ true → 1 ≤ a.tag
+        numbered so = let k = (both (not (is_some a.answer)) (not (a.tag == 0)) (both (is_new_epoch before a.device row) (is_awaited a) so).1).1 in some_tag (a.tag == 0) refl k
+          where
+            some_tag : (z : Bool) → (a.tag == 0) ≡ z → not z ≡ true → 1 ≤ a.tag
+            some_tag true is other = absurd cc
+            some_tag false is so_it = grind (arith, nat_tests, is)
+
+        pick : (b : Bool) → (is_new_epoch before a.device row && is_awaited a) ≡ b → Contains (if b then read_letter node a row ∷ [] else []) letter → IsAsked node a rows letter
+        pick true so one = elim (front_or_behind (read_letter node a row) [] letter one) [ inl here ↦ record { row = row; there = e; some = numbered so; is = sym here } | inr none ↦ absurd (nothing letter none) ]
+        pick false so none = absurd (nothing letter none)
+
+-- a letter of a read says that read
+pub said : (a : Asking) (epoch : ℕ) (r : ReadBody) → r ≡ record { session = a.session; device = a.device; epoch = epoch; tag = a.tag; place = a.place; sectors = a.sectors } → IsOfRead a r
+said a epoch r same = record {
+  session = ap (λ (q : ReadBody). q.session) same;
+  tag = ap (λ (q : ReadBody). q.tag) same;
+  device = ap (λ (q : ReadBody). q.device) same;
+  place = ap (λ (q : ReadBody). q.place) same;
+  sectors = ap (λ (q : ReadBody). q.sectors) same;
+}
 
 module _ (parts : Parts) (x : Disks) (past : StorePast) (keeps : Keeps parts x past) (n session device place sectors : ℕ) (may : MayRead parts n session device place sectors) where
   abbrev it : Asking
@@ -219,28 +245,34 @@ module _ (parts : Parts) (x : Disks) (past : StorePast) (keeps : Keeps parts x p
   abbrev next : Streaming
   next = asking (Some session) device place sectors (parts.nodes n)
 
-  tags : (m d t tag : ℕ) → IsReading (read_letters [] (parts.nodes n).node (Some it) (parts.nodes n).rows) m d t tag → tag ≤ (with_node parts.nodes n next m).tag
-  tags m d t tag read =
+  each : (m : ℕ) (r : ReadBody) → IsReading (read_letters [] (parts.nodes n).node (Some it) (parts.nodes n).rows) m r → (1 ≤ r.tag) × ((a : Asking) × ((with_node parts.nodes n next m).asks ≡ Some a) × IsOfRead a r)
+  each m r read =
       let asked = is_asked [] (parts.nodes n).node it (parts.nodes n).rows read.letter read.there in
       let body : ReadBody = record { session = session; device = device; epoch = asked.row.epoch; tag = it.tag; place = place; sectors = sectors } in
       let own : Spells (Read body) read.letter.kind read.letter.body =
       subst (λ (l : Letter). Spells (Read body) l.kind l.body) (sym asked.is)
       (record { is = (may.session_fits, may.device_fits, may.epochs device asked.row asked.there, may.tag_fits, may.place_fits, may.sectors_fit); kind_is = refl; body_is = refl }) in
-      let same : read.read ≡ body = ap (λ (q : DeviceMessage). body_in q read.read) (one_message (Read read.read) (Read body) read.letter.kind read.letter.body read.spells own) in
-      let tag_is : tag ≡ it.tag = sym read.tag_is ∙ ap (λ (r : ReadBody). r.tag) same in
+      let same : r ≡ body = ap (λ (q : DeviceMessage). body_in q r) (one_message (Read r) (Read body) read.letter.kind read.letter.body read.spells own) in
       let from : m ≡ n = sym (ap number_in (sym (ap (λ (l : Letter). l.from) asked.is) ∙ read.from)) ∙ may.itself in
-      let now = ap (λ (q : Streaming). q.tag) (at_it parts x past keeps n next m from) in
-      omega (arith, tag_is, now)
+      let some = asked.some in let tag = ap (λ (q : ReadBody). q.tag) same in
+      (omega (arith, some, tag), (it, ap (λ (q : Streaming). q.asks) (at_it parts x past keeps n next m from), said it asked.row.epoch r same))
 
   fits_it : FitsRead it
   fits_it = record { session = may.session_fits; device = may.device_fits; tag = may.tag_fits; place = may.place_fits; sectors = may.sectors_fit }
 
+  fresh : IsAskedOn (parts.nodes n) it
+  fresh = inr (by ((parts.nodes n).tag == greatest) refl)
+    where
+      by : (b : Bool) → ((parts.nodes n).tag == greatest) ≡ b → (next_number (parts.nodes n).tag ≡ 0) ⊎ ((parts.nodes n).tag < next_number (parts.nodes n).tag)
+      by true e = inl (ap (λ (t : Bool). if t then 0 else (parts.nodes n).tag + 1) e)
+      by false e = inr (let is : next_number (parts.nodes n).tag ≡ (parts.nodes n).tag + 1 = ap (λ (t : Bool). if t then 0 else (parts.nodes n).tag + 1) e in omega (arith, is))
+
   on : GoesOn parts keeps.history (with_node parts.nodes n next)
   on = node_goes_on parts x past keeps n next refl refl refl refl refl (omega arith) (λ s is. keeps.sendable n s is) (λ d epoch b s within is has. keeps.noted n d epoch b s within is has)
-      (λ a is. let same : it ≡ a = cc in (may.own ∙ ap (λ (q : Asking). Some q.session) same, (let e = ap (λ (q : Asking). q.tag) same in omega (arith, e)), subst FitsRead same fits_it))
+      (λ a is. let same : it ≡ a = cc in (may.own ∙ ap (λ (q : Asking). Some q.session) same, (let e = ap (λ (q : Asking). q.tag) same in omega (arith, e)), subst FitsRead same fits_it, subst (IsAskedOn (parts.nodes n)) same fresh))
 
   are_reads : AreReads (with_node parts.nodes n next) (read_letters [] (parts.nodes n).node (Some it) (parts.nodes n).rows)
-  are_reads = record { kinds = λ letter there. (let asked = is_asked [] (parts.nodes n).node it (parts.nodes n).rows letter there in ap (λ (l : Letter). l.kind) asked.is); tags = tags }
+  are_reads = record { kinds = λ letter there. (let asked = is_asked [] (parts.nodes n).node it (parts.nodes n).rows letter there in ap (λ (l : Letter). l.kind) asked.is); each = each }
 
   pub read_sent : Keeps (parts_asked parts n session device place sectors) x (past_asked parts past n session device place sectors)
   read_sent = goes_on parts x past keeps (with_node parts.nodes n next) (read_letters [] (parts.nodes n).node (Some it) (parts.nodes n).rows) on are_reads

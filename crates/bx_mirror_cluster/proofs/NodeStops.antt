@@ -11,6 +11,7 @@ use Rattle.bx_mirror_laws.specs.Sides.{Out, Side, WriteLetter, Wrote}
 use Rattle.bx_mirror_laws.specs.Sound.{AreWrites, Sends}
 use Rattle.bx_mirror_client.specs.Streams.{Streaming, stopped}
 use Rattle.bx_mirror_client.specs.declared.asking.Asking.{Asking}
+use Rattle.bx_mirror_cluster.proofs.Drawn.{drawn_same}
 use Rattle.bx_mirror_cluster.specs.Fitting.{IsClaimed, IsDeviceSound, IsSettledOn, Keeps, Parts, StandsOn, WillReadOn, knows_of, last_row, out_by, outs_of, rows_before, side_of}
 use Rattle.bx_mirror_cluster.specs.Writing.{with_node, with_stream}
 
@@ -121,6 +122,7 @@ module _ (parts : Parts) (x : Disks) (past : StorePast) (keeps : Keeps parts x p
       | inl e ↦ absurd (let no : None ≡ Some w = sym (ap (λ (q : Streaming). out_by q.out) (at_it m e)) ∙ is in cc)
       | inr e ↦ (let le = keeps.out_number m w (sym (ap (λ (q : Streaming). out_by q.out) (at_other m e)) ∙ is) in let same = ap (λ (q : Streaming). q.sequence) (at_other m e) in omega (arith, le, same))
     ];
+    actual_given = keeps.actual_given;
     sendable = λ m s is. elim (same_or m n) [
       | inl e ↦ absurd (let no : None ≡ Some s = sym (ap (λ (q : Streaming). q.out) (at_it m e)) ∙ is in cc)
       | inr e ↦ keeps.sendable m s (sym (ap (λ (q : Streaming). q.out) (at_other m e)) ∙ is)
@@ -130,6 +132,7 @@ module _ (parts : Parts) (x : Disks) (past : StorePast) (keeps : Keeps parts x p
       | inr e ↦ keeps.askable m a (sym (ap (λ (q : Streaming). q.asks) (at_other m e)) ∙ is)
     ];
     epochs = keeps.epochs;
+    owing = keeps.owing;
     own_out = λ m w there is. let old = was_session m w.session is in ap (λ (q : Streaming). out_by q.out) (at_other m old.0) ∙ keeps.own_out m w there old.1;
     lasts = keeps.lasts;
     brings = keeps.brings;
@@ -140,6 +143,10 @@ module _ (parts : Parts) (x : Disks) (past : StorePast) (keeps : Keeps parts x p
     asking = λ m a is. elim (same_or m n) [
       | inl e ↦ absurd (let no : None ≡ Some a = sym (ap (λ (q : Streaming). q.asks) (at_it m e)) ∙ is in cc)
       | inr e ↦ (let old = keeps.asking m a (sym (ap (λ (q : Streaming). q.asks) (at_other m e)) ∙ is) in (ap (λ (q : Streaming). q.session) (at_other m e) ∙ old.0, (let same = (numbers m).1 in let le = old.1 in omega (arith, same, le))))
+    ];
+    asked = λ m r a reading is session tag. elim (same_or m n) [
+      | inl e ↦ absurd (let no : None ≡ Some a = sym (ap (λ (q : Streaming). q.asks) (at_it m e)) ∙ is in cc)
+      | inr e ↦ keeps.asked m r a reading (sym (ap (λ (q : Streaming). q.asks) (at_other m e)) ∙ is) session tag
     ];
     node_known = λ m session is. let own = was_session m session is in let old = keeps.node_known m session own.1 in (old.0, old.1, old.2, ap (λ (q : Streaming). q.rows) (at_other m own.0) ∙ old.3, old.4);
     node_of = keeps.node_of;
@@ -168,18 +175,9 @@ module _ (parts : Parts) (x : Disks) (past : StorePast) (keeps : Keeps parts x p
             ];
           })
     ];
-    numbered = λ d l there. elim (keeps.numbered d l there) [
-      | inl old ↦ inl old
-      | inr le ↦ inr (let same = (numbers (keeps.node_of l.session)).0 in omega (arith, le, same))
-    ];
-    tagged = λ m d session epoch tag bytes data_. elim (keeps.tagged m d session epoch tag bytes data_) [
-      | inl old ↦ inl old
-      | inr le ↦ inr (let same = (numbers m).1 in omega (arith, le, same))
-    ];
-    read_tagged = λ m d session tag read. elim (keeps.read_tagged m d session tag read) [
-      | inl old ↦ inl old
-      | inr le ↦ inr (let same = (numbers m).1 in omega (arith, le, same))
-    ];
+    numbered = λ d l there. drawn_same _ _ _ _ _ _ _ (numbers (keeps.node_of l.session)).0 (keeps.numbered d l there);
+    tagged = λ m d session epoch tag bytes data_. drawn_same _ _ _ _ _ _ _ (numbers m).1 (keeps.tagged m d session epoch tag bytes data_);
+    read_tagged = λ m r read. drawn_same _ _ _ _ _ _ _ (numbers m).1 (keeps.read_tagged m r read);
     member_boots = keeps.member_boots;
     node_boots = λ m there up. elim (same_or n m) [
       | inl e ↦ absurd (let it : (n == m) ≡ true = grind (arith, nat_tests, e) in let no : true ≡ false = sym (ap (λ (b : Bool). if b then true else past.told.down (Node m)) it) ∙ up in cc)
@@ -196,6 +194,9 @@ module _ (parts : Parts) (x : Disks) (past : StorePast) (keeps : Keeps parts x p
 
   pub reads_stopped : (m : ℕ) (a : Asking) (sector : ℕ) (content : List ℕ) → m ≢ n → WillReadOn parts x past m a sector content → WillReadOn (with_stream parts n c) x (store_crashed past (Node n)) m a sector content
   reads_stopped m a sector content other will = record {
+    device = will.device;
+    behind_label = will.behind_label;
+    within = will.within;
     row = will.row;
     row_is = ap (λ (q : Streaming). slice_get q.rows a.device) (at_other m other) ∙ will.row_is;
     stands = will.stands;

@@ -24,15 +24,15 @@ use Rattle.bx_mirror_client.specs.Streams.{Streaming, asks_in, is_session, learn
 use Rattle.bx_mirror_client.specs.declared.asking.Asking.{Asking}
 use Rattle.bx_mirror_client.specs.declared.sending.Sending.{Sending}
 use Rattle.bx_mirror_cluster.specs.Fitting.{IsReading, Keeps, Parts, out_by}
-use Rattle.bx_mirror_cluster.specs.GoingOn.{letters_more}
+use Rattle.bx_mirror_cluster.specs.GoingOn.{IsSameRead, letters_more}
 use Rattle.bx_mirror_cluster.specs.Learning.{MayLearn, knowing}
 use Rattle.bx_mirror_cluster.specs.NodeSteps.{parts_acked}
-use Rattle.bx_mirror_cluster.specs.Speaking.{FitsRead}
+use Rattle.bx_mirror_cluster.specs.Speaking.{FitsRead, IsOfRead}
 use Rattle.bx_mirror_cluster.specs.Writing.{with_node, with_stream}
 use Rattle.bx_mirror_cluster.proofs.Alike.{same_stream}
 use Rattle.bx_mirror_cluster.proofs.GoingOn.{goes_on}
 use Rattle.bx_mirror_cluster.proofs.Learned.{learned_keeps}
-use Rattle.bx_mirror_cluster.proofs.NodeSteps.{ack_noted, asked_still, body_in, is_asked, no_reads, number_in, node_goes_on, same_past}
+use Rattle.bx_mirror_cluster.proofs.NodeSteps.{ack_noted, asked_still, body_in, is_asked, itself_asked, no_reads, number_in, node_goes_on, said, same_past}
 use Rattle.bx_mirror_cluster.proofs.Sessions.{same_or_not}
 use Rattle.bx_mirror_cluster.proofs.ToldAgain.{told_keeps}
 use Rattle.bx_mirror_cluster.proofs.WriteDone.{write_ends}
@@ -121,14 +121,14 @@ module _ (parts : Parts) (x : Disks) (past : StorePast) (keeps : Keeps parts x p
       by true same = e ∙ same
       by false none = absurd (let no : None ≡ Some t = none in cc)
 
-  asks_so : (o : Option Asking) → c.asks ≡ o → (a : Asking) → asks_in session c.rows known.devices o ≡ Some a → (session ≡ Some a.session) × ((was : Asking) × (c.asks ≡ Some was) × (a.tag ≡ was.tag))
+  asks_so : (o : Option Asking) → c.asks ≡ o → (a : Asking) → asks_in session c.rows known.devices o ≡ Some a → (session ≡ Some a.session) × ((was : Asking) × (c.asks ≡ Some was) × IsSameRead was a)
   asks_so None e a is = absurd (let no : None ≡ Some a = is in cc)
   asks_so (Some b) e a is = by (is_session session b.session) refl (is_new_for c.rows known.devices b.device) is
     where
       by : (t : Bool) → is_session session b.session ≡ t → (u : Bool) → (if t then Some (if u then record b { answer = None } else b) else None) ≡ Some a
-          → (session ≡ Some a.session) × ((was : Asking) × (c.asks ≡ Some was) × (a.tag ≡ was.tag))
-      by true own true same_is = let same : record b { answer = None } ≡ a = cc in (session_is session b.session own ∙ ap (λ (q : Asking). Some q.session) same, (b, e, ap (λ (q : Asking). q.tag) (sym same)))
-      by true own false same_is = let same : b ≡ a = cc in (session_is session b.session own ∙ ap (λ (q : Asking). Some q.session) same, (b, e, ap (λ (q : Asking). q.tag) (sym same)))
+          → (session ≡ Some a.session) × ((was : Asking) × (c.asks ≡ Some was) × IsSameRead was a)
+      by true own true same_is = let same : record b { answer = None } ≡ a = cc in (session_is session b.session own ∙ ap (λ (q : Asking). Some q.session) same, (b, e, subst (IsSameRead b) same (record { session = refl; tag = refl; device = refl; place = refl; sectors = refl })))
+      by true own false same_is = let same : b ≡ a = cc in (session_is session b.session own ∙ ap (λ (q : Asking). Some q.session) same, (b, e, subst (IsSameRead b) same (itself_asked b)))
       by false own u none = absurd (let no : None ≡ Some a = none in cc)
 
   fits_so : (o : Option Asking) → c.asks ≡ o → (a : Asking) → asks_in session c.rows known.devices o ≡ Some a → FitsRead a
@@ -197,19 +197,18 @@ writes_told parts x past n before keeps few = by (parts.nodes n).out refl
 
 -- ---- it hears the answer to its read
 
-answered_so : (d : DataBody) (rows : List DeviceRow) (o : Option Asking) (a : Asking) → asks_answered d rows o ≡ Some a → (was : Asking) × (o ≡ Some was) × (a.session ≡ was.session) × (a.tag ≡ was.tag) × (FitsRead was → FitsRead a)
+answered_so : (d : DataBody) (rows : List DeviceRow) (o : Option Asking) (a : Asking) → asks_answered d rows o ≡ Some a → (was : Asking) × (o ≡ Some was) × IsSameRead was a × (FitsRead was → FitsRead a)
 answered_so d rows None a is = absurd (let no : None ≡ Some a = is in cc)
 answered_so d rows (Some b) a is = by (is_awaited b && fits (slice_get rows b.device) b d) is
   where
-    by : (t : Bool) → (if t then Some (record b { answer = Some d.bytes }) else Some b) ≡ Some a → (was : Asking) × (Some b ≡ Some was) × (a.session ≡ was.session) × (a.tag ≡ was.tag) × (FitsRead was → FitsRead a)
+    by : (t : Bool) → (if t then Some (record b { answer = Some d.bytes }) else Some b) ≡ Some a → (was : Asking) × (Some b ≡ Some was) × IsSameRead was a × (FitsRead was → FitsRead a)
     by true same_is = let same : record b { answer = Some d.bytes } ≡ a = cc in (
       b,
       refl,
-      ap (λ (q : Asking). q.session) (sym same),
-      ap (λ (q : Asking). q.tag) (sym same),
+      subst (IsSameRead b) same (record { session = refl; tag = refl; device = refl; place = refl; sectors = refl }),
       λ was. subst FitsRead same (record { session = was.session; device = was.device; tag = was.tag; place = was.place; sectors = was.sectors }),
     )
-    by false same_is = let same : b ≡ a = cc in (b, refl, ap (λ (q : Asking). q.session) (sym same), ap (λ (q : Asking). q.tag) (sym same), λ was. subst FitsRead same was)
+    by false same_is = let same : b ≡ a = cc in (b, refl, subst (IsSameRead b) same (itself_asked b), λ was. subst FitsRead same was)
 
 pub data_heard : (parts : Parts) (x : Disks) (past : StorePast) (n : ℕ) (d : DataBody) → Keeps parts x past
     → Keeps (with_stream parts n (record (parts.nodes n) { asks = asks_answered d (parts.nodes n).rows (parts.nodes n).asks })) x past
@@ -217,7 +216,7 @@ data_heard parts x past n d keeps =
     let next : Streaming = record (parts.nodes n) { asks = asks_answered d (parts.nodes n).rows (parts.nodes n).asks } in
     let on = node_goes_on parts x past keeps n next refl refl refl refl refl (omega arith) (λ s is. keeps.sendable n s is) (λ k epoch b s within is has. keeps.noted n k epoch b s within is has)
     (λ a is. let it = answered_so d (parts.nodes n).rows (parts.nodes n).asks a is in let old = keeps.asking n it.0 it.1 in
-    (old.0 ∙ ap (λ (q : ℕ). Some q) (sym it.2), (let le = old.1 in let tag = it.3 in omega (arith, le, tag)), it.4 (keeps.askable n it.0 it.1))) in
+    (old.0 ∙ ap (λ (q : ℕ). Some q) (sym it.2.session), (let le = old.1 in let tag = it.2.tag in omega (arith, le, tag)), it.3 (keeps.askable n it.0 it.1), inl (it.0, it.1, it.2))) in
     subst (λ (p : StorePast). Keeps (with_stream parts n next) x p) (same_past past) (goes_on parts x past keeps (with_node parts.nodes n next) [] on (no_reads (with_node parts.nodes n next)))
 
 -- ---- it hears an acknowledgement
@@ -257,11 +256,11 @@ reads_told parts x past n before keeps itself_is = by (parts.nodes n).asks refl
     by : (o : Option Asking) → (parts.nodes n).asks ≡ o → Keeps parts x (letters_more past (read_letters before (parts.nodes n).node o (parts.nodes n).rows))
     by None e = subst (λ (p : StorePast). Keeps parts x p) (sym (same_past past)) keeps
     by (Some a) e = goes_on parts x past keeps parts.nodes (read_letters before (parts.nodes n).node (Some a) (parts.nodes n).rows)
-        (record { out = λ m. refl; rows = λ m. refl; session = λ m. refl; sequence = λ m. refl; boot = λ m. refl; tag = λ m. omega arith; sendable = keeps.sendable; askable = keeps.askable; noted = keeps.noted; asking = keeps.asking })
-        (record { kinds = λ letter there. ap (λ (l : Letter). l.kind) (is_asked before (parts.nodes n).node a (parts.nodes n).rows letter there).is; tags = tags })
+        (record { out = λ m. refl; rows = λ m. refl; session = λ m. refl; sequence = λ m. refl; boot = λ m. refl; tag = λ m. omega arith; sendable = keeps.sendable; askable = keeps.askable; noted = keeps.noted; asking = keeps.asking; asked = λ m b is. inl (b, is, itself_asked b) })
+        (record { kinds = λ letter there. ap (λ (l : Letter). l.kind) (is_asked before (parts.nodes n).node a (parts.nodes n).rows letter there).is; each = each })
       where
-        tags : (m d t tag : ℕ) → IsReading (read_letters before (parts.nodes n).node (Some a) (parts.nodes n).rows) m d t tag → tag ≤ (parts.nodes m).tag
-        tags m d t tag read =
+        each : (m : ℕ) (r : ReadBody) → IsReading (read_letters before (parts.nodes n).node (Some a) (parts.nodes n).rows) m r → (1 ≤ r.tag) × ((b : Asking) × ((parts.nodes m).asks ≡ Some b) × IsOfRead b r)
+        each m r read =
             let asked = is_asked before (parts.nodes n).node a (parts.nodes n).rows read.letter read.there in
             let fit = keeps.askable n a e in
             let old = keeps.asking n a e in
@@ -271,8 +270,7 @@ reads_told parts x past n before keeps itself_is = by (parts.nodes n).asks refl
             let own : Spells (Read body) read.letter.kind read.letter.body =
             subst (λ (l : Letter). Spells (Read body) l.kind l.body) (sym asked.is)
             (record { is = (fit.session, fit.device, epoch, fit.tag, fit.place, fit.sectors); kind_is = refl; body_is = refl }) in
-            let same : read.read ≡ body = ap (λ (q : DeviceMessage). body_in q read.read) (one_message (Read read.read) (Read body) read.letter.kind read.letter.body read.spells own) in
-            let tag_is : tag ≡ a.tag = sym read.tag_is ∙ ap (λ (r : ReadBody). r.tag) same in
+            let same : r ≡ body = ap (λ (q : DeviceMessage). body_in q r) (one_message (Read r) (Read body) read.letter.kind read.letter.body read.spells own) in
             let from : m ≡ n = sym (ap number_in (sym (ap (λ (l : Letter). l.from) asked.is) ∙ read.from)) ∙ itself_is in
-            let now = ap (λ (k : ℕ). (parts.nodes k).tag) from in let le = old.1 in
-            omega (arith, tag_is, now, le)
+            let some = asked.some in let tag = ap (λ (q : ReadBody). q.tag) same in
+            (omega (arith, some, tag), (a, ap (λ (k : ℕ). (parts.nodes k).asks) from ∙ e, said a asked.row.epoch r same))

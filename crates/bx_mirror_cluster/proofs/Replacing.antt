@@ -4,17 +4,18 @@ use Rattle.std.specs.Prelude.{not}
 use Rattle.bx_base.specs.declared.names.Actor.TheVariants.{Member}
 use Rattle.bx_disk.specs.Disks.{Disks, Stays}
 use Rattle.bx_facts.specs.Chains.{last}
-use Rattle.bx_facts.specs.Writes.{StorePast, label_on, member_disk, store_room}
-use Rattle.bx_layout.specs.Labels.{SpellsLabel}
+use Rattle.bx_facts.specs.Disks.{SameMemberLengths}
+use Rattle.bx_facts.specs.Writes.{StorePast, member_disk, store_room}
 use Rattle.bx_rows.specs.Modes.{IsSource}
 use Rattle.bx_rows.specs.declared.device.DeviceRow.{DeviceRow}
-use Rattle.bx_mirror_laws.specs.Acting.{Acts, Counts, IsRow, MayLead}
+use Rattle.bx_mirror_laws.specs.Acting.{Acts, Counts, IsRow}
 use Rattle.bx_mirror_laws.specs.Steps.{Ages, Silent}
 use Rattle.bx_mirror_laws.proofs.Ages.{hands_age, rows_age}
 use Rattle.bx_mirror_laws.proofs.Stopping.{blank_counts_not, silent_ages, silent_copies, silent_outs, silent_stands, silent_writes, silent_wrotes}
 use Rattle.bx_mirror_tables.specs.declared.answers.Owing.{Owing}
 use Rattle.bx_mirror_client.specs.Sends.{member_at}
-use Rattle.bx_mirror_cluster.specs.Fitting.{History, IsClaimed, IsComing, IsDeviceSound, IsSideAlone, KnownFrom, Nowhere, Parts, StandsFor, StandsOn, handings, knows_of, outs_of, row_of, rows_before, side_of}
+use Rattle.bx_mirror_cluster.proofs.Labels.{label_kept, lengths_at}
+use Rattle.bx_mirror_cluster.specs.Fitting.{HasLabel, History, IsClaimed, IsComing, IsDeviceSound, IsSideAlone, KnownFrom, NeedsLabel, Nowhere, Parts, StandsFor, StandsOn, handings, knows_of, outs_of, row_of, rows_before, side_of}
 use Rattle.bx_mirror_server.specs.Sides.{copied_in, wrote_in}
 
 -- the disk of a member
@@ -28,7 +29,7 @@ apart d true e = omega (arith, e)
 
 module _ (parts : Parts) (x y : Disks) (past : StorePast) (h : History) (d : ℕ) (b : Bool) (was : IsDeviceSound parts x past h d)
     (down : past.told.down (Member (member_at d b)) ≡ true) (only : IsSideAlone (row_of (last past.told.chain) d) b)
-    (others_stay : (k s : ℕ) → k ≢ 3 + member_at d b → Stays x y k s) where
+    (lengths : SameMemberLengths x y) (others_stay : (k s : ℕ) → k ≢ 3 + member_at d b → Stays x y k s) where
   others : (s : ℕ) → Stays x y (member_disk d (not b)) s
   others s = others_stay (member_disk d (not b)) s (apart d b)
 
@@ -100,7 +101,7 @@ module _ (parts : Parts) (x y : Disks) (past : StorePast) (h : History) (d : ℕ
     answering = was.answering;
     copying = was.copying;
     copied_to = was.copied_to;
-    labels = λ c leads. let was_it = was.labels c leads in labelled c leads was_it.0 was_it.1;
+    labels = λ c needs. labelled c needs (was.labels c needs);
     down = was.down;
     known = was.known;
   }
@@ -115,11 +116,19 @@ module _ (parts : Parts) (x y : Disks) (past : StorePast) (h : History) (d : ℕ
       two true false = inr refl
       two true true = inl refl
 
-      labelled : (c : Bool) → MayLead (row_of (last past.told.chain) d) (handings d past.told.handed) c → SpellsLabel (label_on parts.made (member_disk d c)) (x.reads (member_disk d c) 0) → x.unsure (member_disk d c) 0 ≡ false
-          → SpellsLabel (label_on parts.made (member_disk d c)) (y.reads (member_disk d c) 0) × (y.unsure (member_disk d c) 0 ≡ false)
-      labelled c leads spells sure = ⊎_elim
-          (λ (e : c ≡ b). absurd (counts_not (λ r. ⊥) (record { is = inl (subst (λ (k : Bool). MayLead (row_of (last past.told.chain) d) (handings d past.told.handed) k) e leads) })))
-          (λ (e : c ≡ not b). subst (λ (k : Bool). SpellsLabel (label_on parts.made (member_disk d k)) (x.reads (member_disk d k) 0) → x.unsure (member_disk d k) 0 ≡ false
-          → SpellsLabel (label_on parts.made (member_disk d k)) (y.reads (member_disk d k) 0) × (y.unsure (member_disk d k) 0 ≡ false)) (sym e)
-          (λ l s. let k = others 0 in (subst (SpellsLabel (label_on parts.made (member_disk d (not b)))) (sym k.reads) l, k.unsure ∙ s)) spells sure)
+      needs_not : NeedsLabel (row_of (last past.told.chain) d) (handings d past.told.handed) (h.copieds d) (past.told.down (Member (member_at d b))) b → ⊥
+      needs_not needs = elim needs.is [
+        | inl leads ↦ counts_not (λ r. ⊥) (record { is = inl leads })
+        | inr rest ↦ elim rest [
+          | inl up ↦ (let no_one : true ≡ false = sym down ∙ up in cc)
+          | inr taken ↦ (let copying = (was.copies.copied taken.0 (row_of (last past.told.chain) d) taken.1 (record { is = inl refl }) (sym taken.3)).copying in
+              elim only [ inl one ↦ (let m = one.1 in omega (arith, m, copying)) | inr other ↦ (let m = other.1 in omega (arith, m, copying)) ])
+        ]
+      ]
+
+      labelled : (c : Bool) → NeedsLabel (row_of (last past.told.chain) d) (handings d past.told.handed) (h.copieds d) (past.told.down (Member (member_at d c))) c → HasLabel parts.made x (member_disk d c) → HasLabel parts.made y (member_disk d c)
+      labelled c needs was_it = ⊎_elim
+          (λ (e : c ≡ b). absurd (needs_not (subst (λ (k : Bool). NeedsLabel (row_of (last past.told.chain) d) (handings d past.told.handed) (h.copieds d) (past.told.down (Member (member_at d k))) k) e needs)))
+          (λ (e : c ≡ not b). subst (λ (k : Bool). HasLabel parts.made x (member_disk d k) → HasLabel parts.made y (member_disk d k)) (sym e)
+          (λ l. let k = others 0 in label_kept parts.made x y (member_disk d (not b)) k.reads (λ sure. k.unsure ∙ sure) (lengths_at x y lengths d (not b)) l) was_it)
           (two b c)

@@ -41,7 +41,7 @@ row_above n [] row all has = absurd has
 row_above n (one ∷ rest) row all (inl is) = let e = ap (λ (x : SessionRow). x.number) is in let l = all.0 in omega (arith, e, l)
 row_above n (one ∷ rest) row all (inr more) = row_above n rest row all.1 more
 
-row_next : (rows : List SessionRow) (next : ℕ) (row : SessionRow) → AreRising rows next → IsRowIn rows row → row.number < next
+pub row_next : (rows : List SessionRow) (next : ℕ) (row : SessionRow) → AreRising rows next → IsRowIn rows row → row.number < next
 row_next [] next row rising has = absurd has
 row_next (one ∷ rest) next row rising (inl is) = let e = ap (λ (x : SessionRow). x.number) is in let l = rising.0 in omega (arith, e, l)
 row_next (one ∷ rest) next row rising (inr more) = row_next rest next row rising.2 more

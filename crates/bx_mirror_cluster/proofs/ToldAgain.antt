@@ -24,9 +24,12 @@ use Rattle.bx_mirror_client.specs.Streams.{Streaming}
 use Rattle.bx_mirror_client.specs.declared.asking.Asking.{Asking}
 use Rattle.bx_mirror_client.specs.declared.sending.Sending.{Sending}
 use Rattle.bx_mirror_client.proofs.Telling.{runs_there, there_runs}
-use Rattle.bx_mirror_cluster.specs.Fitting.{History, IsClaimed, IsComing, IsDeviceSound, IsSettledOn, Keeps, KnownFrom, Nowhere, Parts, StandsFor, StandsOn, WillReadOn, handings, knows_of, last_row, out_by, outs_of, row_or, rows_before, side_of}
+use Rattle.bx_mirror_packets.specs.declared.message.ReadBody.{ReadBody}
+use Rattle.std.proofs.lemmas.Bool.Decides.{nat_tests}
+use Rattle.bx_mirror_cluster.proofs.Drawn.{drawn_own}
+use Rattle.bx_mirror_cluster.specs.Fitting.{History, IsClaimed, IsComing, IsDeviceSound, IsDrawn, IsReading, IsSettledOn, Keeps, KnownFrom, Nowhere, Parts, StandsFor, StandsOn, WillReadOn, handings, knows_of, last_row, out_by, outs_of, row_or, rows_before, side_of}
 use Rattle.bx_mirror_cluster.specs.GoingOn.{letters_more}
-use Rattle.bx_mirror_cluster.specs.Speaking.{FitsPacket, IsSpoken, letter_of}
+use Rattle.bx_mirror_cluster.specs.Speaking.{BringsOnce, FitsPacket, IsSpoken, letter_of}
 use Rattle.bx_mirror_cluster.proofs.Sent.{letter_in, told_both}
 use Rattle.bx_mirror_cluster.proofs.Speaking.{coming_more, low_kinds}
 use Rattle.bx_mirror_cluster.proofs.WriteSent.{IsNewer, newer_told, older_told, on_its, on_whole, told_if, told_in}
@@ -37,6 +40,9 @@ spoken (one ∷ rest) run all there = elim (front_or_behind one rest run there) 
   | inl here ↦ subst IsSpoken here all.0
   | inr more ↦ spoken rest run all.1 more
 ]
+
+positive : (n : ℕ) → (n == 0) ≡ false → 1 ≤ n
+positive n other = grind (arith, nat_tests, other)
 
 module _ (parts : Parts) (x : Disks) (past : StorePast) (keeps : Keeps parts x past) (n : ℕ) (before : List DeviceRow) (s : Sending) (is_out : (parts.nodes n).out ≡ Some s) (number : (s.sequence == 0) ≡ false)
     (few : length (parts.nodes n).rows ≤ 4) where
@@ -75,7 +81,7 @@ module _ (parts : Parts) (x : Disks) (past : StorePast) (keeps : Keeps parts x p
   own = (keeps.out_actual n o out_is).1
 
   fits : FitsPacket s
-  fits = keeps.sendable n s is_out
+  fits = (keeps.sendable n s is_out).packet
 
   epochs : (k : ℕ) (row : DeviceRow) → slice_get c.rows k ≡ Some row → Fits row.epoch
   epochs k row there = let state = keeps.node_known n s.session own in keeps.epochs state.0 state.1 k row (ap (λ (rs : List DeviceRow). slice_get rs k) (sym state.3) ∙ there)
@@ -88,6 +94,9 @@ module _ (parts : Parts) (x : Disks) (past : StorePast) (keeps : Keeps parts x p
     | inl old ↦ old
     | inr new ↦ absurd (let low = low_kinds before c.rows c.node s letter new in omega (arith, low, high))
   ]
+
+  was_reading : (m : ℕ) (r : ReadBody) → IsReading (past.told.letters ++ letters) m r → IsReading past.told.letters m r
+  was_reading m r read = record { letter = read.letter; there = was_there read.letter read.there (let e = read.spells.kind_is in omega (arith, e)); spells = read.spells; from = read.from }
 
   -- ---- a device
 
@@ -196,7 +205,7 @@ module _ (parts : Parts) (x : Disks) (past : StorePast) (keeps : Keeps parts x p
 
   -- ---- all of it
 
-  brought : (d : ℕ) (l : WriteLetter) → Among (h.writes d) l ⊎ IsNewer (has_runs d s.runs.1) o (runs_on d s.runs.1) l → (y : ℕ) × ((content : List ℕ) × WritesIn l.runs d y content)
+  brought : (d : ℕ) (l : WriteLetter) → Among (h.writes d) l ⊎ IsNewer (has_runs d s.runs.1) o (runs_on d s.runs.1) l → BringsOnce d l.runs
   brought d l (inl old) = keeps.brings d l old
   brought d l (inr new) =
       let has = runs_there d s.runs.1 new.has in
@@ -204,16 +213,21 @@ module _ (parts : Parts) (x : Disks) (past : StorePast) (keeps : Keeps parts x p
       let y = has.0.place in
       let content = sector_of has.0.bytes (y - y) in
       let first : WritesIn s.runs.1 d y content = (has.0, has.1, record { on = has.2; from = omega arith; below = omega (arith, sectors); is = refl }) in
-      (y, (content, subst (λ (rs : List Run). WritesIn rs d y content) (sym new.brings) (on_whole d s.runs.1 y content first)))
+      record {
+        some = (y, (content, subst (λ (rs : List Run). WritesIn rs d y content) (sym new.brings) (on_whole d s.runs.1 y content first)));
+        once = λ z one other its also. (keeps.sendable n s is_out).runs.once d z one other (its_run d l new.brings z one its) (its_run d l new.brings z other also);
+      }
+    where
+      its_run : (k : ℕ) (m : WriteLetter) → m.runs ≡ runs_on k s.runs.1 → (z : ℕ) (one : List ℕ) → WritesIn m.runs k z one → WritesIn s.runs.1 k z one
+      its_run k m e z one its = on_its k s.runs.1 z one (subst (λ (rs : List Run). WritesIn rs k z one) e its)
 
   numbered : (d : ℕ) (l : WriteLetter) → Among (h.writes d) l ⊎ IsNewer (has_runs d s.runs.1) o (runs_on d s.runs.1) l
-      → (keeps.boot_of l.session < past.told.boots (Node (keeps.node_of l.session))) ⊎ (l.sequence ≤ (parts.nodes (keeps.node_of l.session)).sequence)
+      → IsDrawn (last past.told.chain).next_session (keeps.boot_of l.session) (past.told.boots (Node (keeps.node_of l.session))) l.session l.sequence (parts.nodes (keeps.node_of l.session)).sequence
   numbered d l (inl old) = keeps.numbered d l old
-  numbered d l (inr new) = inr (
-      let node = ap keeps.node_of new.session ∙ (keeps.owned n s.session own).0 in
-      let at = ap (λ (k : ℕ). (parts.nodes k).sequence) node in
-      let le = keeps.out_number n o out_is in
-      let it = new.sequence in omega (arith, at, it, le))
+  numbered d l (inr new) =
+      subst (λ (t : ℕ). IsDrawn (last past.told.chain).next_session (keeps.boot_of t) (past.told.boots (Node (keeps.node_of t))) t l.sequence (parts.nodes (keeps.node_of t)).sequence) (sym new.session)
+      (subst (λ (k : ℕ). IsDrawn (last past.told.chain).next_session (keeps.boot_of s.session) (past.told.boots (Node k)) s.session l.sequence (parts.nodes k).sequence) (sym (keeps.owned n s.session own).0)
+      (drawn_own parts x past keeps n s.session l.sequence (parts.nodes n).sequence own (let it = new.sequence in let some = positive s.sequence number in omega (arith, it, some)) (let le = keeps.out_number n o out_is in let it = new.sequence in omega (arith, le, it))))
 
   pub told_keeps : Keeps parts x (letters_more past letters)
   told_keeps = record {
@@ -226,9 +240,11 @@ module _ (parts : Parts) (x : Disks) (past : StorePast) (keeps : Keeps parts x p
     actual_sent = keeps.actual_sent;
     out_actual = keeps.out_actual;
     out_number = keeps.out_number;
+    actual_given = keeps.actual_given;
     sendable = keeps.sendable;
     askable = keeps.askable;
     epochs = keeps.epochs;
+    owing = keeps.owing;
     own_out = keeps.own_out;
     lasts = λ d b session_of_it. elim (keeps.lasts d b session_of_it) [
       | inl zero_is ↦ inl zero_is
@@ -237,6 +253,7 @@ module _ (parts : Parts) (x : Disks) (past : StorePast) (keeps : Keeps parts x p
     brings = λ d l there. brought d l (newer_told (has_runs d s.runs.1) (slice_get c.rows d) o (runs_on d s.runs.1) (h.writes d) l there);
     noted = keeps.noted;
     asking = keeps.asking;
+    asked = λ m r a reading is same tag. keeps.asked m r a (was_reading m r reading) is same tag;
     node_known = keeps.node_known;
     node_of = keeps.node_of;
     boot_of = keeps.boot_of;
@@ -249,7 +266,7 @@ module _ (parts : Parts) (x : Disks) (past : StorePast) (keeps : Keeps parts x p
     left = keeps.left;
     numbered = λ d l there. numbered d l (newer_told (has_runs d s.runs.1) (slice_get c.rows d) o (runs_on d s.runs.1) (h.writes d) l there);
     tagged = λ m d t epoch tag bytes data_. keeps.tagged m d t epoch tag bytes (record { letter = data_.letter; there = was_there data_.letter data_.there (let e = data_.spells.kind_is in omega (arith, e)); data_ = data_.data_; spells = data_.spells; to = data_.to; device = data_.device; session_is = data_.session_is; epoch_is = data_.epoch_is; tag_is = data_.tag_is; bytes_are = data_.bytes_are });
-    read_tagged = λ m d t tag read. keeps.read_tagged m d t tag (record { letter = read.letter; there = was_there read.letter read.there (let e = read.spells.kind_is in omega (arith, e)); read = read.read; spells = read.spells; from = read.from; device = read.device; session_is = read.session_is; tag_is = read.tag_is });
+    read_tagged = λ m r read. keeps.read_tagged m r (was_reading m r read);
     member_boots = keeps.member_boots;
     node_boots = keeps.node_boots;
   }
@@ -278,6 +295,9 @@ module _ (parts : Parts) (x : Disks) (past : StorePast) (keeps : Keeps parts x p
 
   pub reads_told : (m : ℕ) (a : Asking) (sector : ℕ) (content : List ℕ) → WillReadOn parts x past m a sector content → WillReadOn parts x (letters_more past letters) m a sector content
   reads_told m a sector content will = record {
+    device = will.device;
+    behind_label = will.behind_label;
+    within = will.within;
     row = will.row;
     row_is = will.row_is;
     stands = stands_for (FromEpoch will.row.epoch) a.device sector content will.stands;

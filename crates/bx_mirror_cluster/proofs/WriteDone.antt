@@ -16,6 +16,7 @@ use Rattle.bx_mirror_client.specs.Streams.{Streaming}
 use Rattle.bx_mirror_client.specs.Telling.{HasRuns}
 use Rattle.bx_mirror_client.specs.declared.sending.Sending.{Sending}
 use Rattle.bx_mirror_client.proofs.Telling.{done_is, runs_there, there_runs}
+use Rattle.bx_mirror_cluster.proofs.Drawn.{drawn_same}
 use Rattle.bx_mirror_cluster.specs.Fitting.{History, IsClaimed, IsDeviceSound, IsOwnOrLeft, IsSettledOn, Keeps, Parts, StandsOn, WillReadOn, handings, knows_of, last_row, out_by, outs_of, rows_before, side_of}
 use Rattle.bx_mirror_cluster.specs.Writing.{with_node, with_stream}
 use Rattle.bx_mirror_client.specs.declared.asking.Asking.{Asking}
@@ -204,7 +205,7 @@ module _ (parts : Parts) (x : Disks) (past : StorePast) (keeps : Keeps parts x p
           | inr in_time ↦ at_row (runs_there d s.runs.1 e) (inr in_time)
         ]
         by false e = gone (λ l there until its. absurd (
-            let some = keeps.brings d l there in
+            let some = (keeps.brings d l there).some in
             let there_it = its some.0 some.1.0 some.1.1 in
             let yes = there_runs d s.runs.1 (there_it.0, there_it.1, there_it.2.on) in
             let no : true ≡ false = sym yes ∙ e in cc))
@@ -266,12 +267,14 @@ module _ (parts : Parts) (x : Disks) (past : StorePast) (keeps : Keeps parts x p
       | inl e ↦ absurd (let no : None ≡ Some w = sym (ap (λ (q : Streaming). out_by q.out) (at_it m e)) ∙ is in cc)
       | inr e ↦ (let le = keeps.out_number m w (sym (ap (λ (q : Streaming). out_by q.out) (at_other m e)) ∙ is) in let same = ap (λ (q : Streaming). q.sequence) (at_other m e) in omega (arith, le, same))
     ];
+    actual_given = λ w there. keeps.actual_given w (more w there).0;
     sendable = λ m t is. elim (same_or m n) [
       | inl e ↦ absurd (let no : None ≡ Some t = sym (ap (λ (q : Streaming). q.out) (at_it m e)) ∙ is in cc)
       | inr e ↦ keeps.sendable m t (sym (ap (λ (q : Streaming). q.out) (at_other m e)) ∙ is)
     ];
     askable = λ m a is. keeps.askable m a (sym (kept (λ q. q.asks) refl m) ∙ is);
     epochs = keeps.epochs;
+    owing = keeps.owing;
     own_out = λ m w there is. let old = more w there in let before = keeps.own_out m w old.0 (sym (kept (λ q. q.session) refl m) ∙ is) in elim (same_or m n) [
       | inl e ↦ absurd (old.1 (let of_n : (parts.nodes n).session ≡ Some w.session = sym (ap (λ (k : ℕ). (parts.nodes k).session) e) ∙ sym (kept (λ q. q.session) refl m) ∙ is in
           let both : Some w.session ≡ Some s.session = sym of_n ∙ own in cc))
@@ -284,6 +287,7 @@ module _ (parts : Parts) (x : Disks) (past : StorePast) (keeps : Keeps parts x p
       | inr e ↦ keeps.noted m d epoch b t within (sym (ap (λ (q : Streaming). q.out) (at_other m e)) ∙ is) has
     ];
     asking = λ m a is. let old = keeps.asking m a (sym (kept (λ q. q.asks) refl m) ∙ is) in (kept (λ q. q.session) refl m ∙ old.0, (let same = kept (λ q. q.tag) refl m in let le = old.1 in omega (arith, same, le)));
+    asked = λ m r a reading is session tag. keeps.asked m r a reading (sym (kept (λ q. q.asks) refl m) ∙ is) session tag;
     node_known = λ m t is. let old = keeps.node_known m t (sym (kept (λ q. q.session) refl m) ∙ is) in (old.0, old.1, old.2, kept (λ q. q.rows) refl m ∙ old.3, old.4);
     node_of = keeps.node_of;
     boot_of = keeps.boot_of;
@@ -294,18 +298,9 @@ module _ (parts : Parts) (x : Disks) (past : StorePast) (keeps : Keeps parts x p
     found_most = keeps.found_most;
     in_order = keeps.in_order;
     left = λ w there. still_own keeps.node_of keeps.boot_of w (keeps.left w (more w there).0);
-    numbered = λ d l there. elim (keeps.numbered d l there) [
-      | inl old ↦ inl old
-      | inr le ↦ inr (let same = kept (λ q. q.sequence) refl (keeps.node_of l.session) in omega (arith, le, same))
-    ];
-    tagged = λ m d t epoch tag bytes data_. elim (keeps.tagged m d t epoch tag bytes data_) [
-      | inl old ↦ inl old
-      | inr le ↦ inr (let same = kept (λ q. q.tag) refl m in omega (arith, le, same))
-    ];
-    read_tagged = λ m d t tag read. elim (keeps.read_tagged m d t tag read) [
-      | inl old ↦ inl old
-      | inr le ↦ inr (let same = kept (λ q. q.tag) refl m in omega (arith, le, same))
-    ];
+    numbered = λ d l there. drawn_same _ _ _ _ _ _ _ (kept (λ q. q.sequence) refl (keeps.node_of l.session)) (keeps.numbered d l there);
+    tagged = λ m d t epoch tag bytes data_. drawn_same _ _ _ _ _ _ _ (kept (λ q. q.tag) refl m) (keeps.tagged m d t epoch tag bytes data_);
+    read_tagged = λ m r read. drawn_same _ _ _ _ _ _ _ (kept (λ q. q.tag) refl m) (keeps.read_tagged m r read);
     member_boots = keeps.member_boots;
     node_boots = λ m there up. kept (λ q. q.boot) refl m ∙ keeps.node_boots m there up;
   }
@@ -313,6 +308,9 @@ module _ (parts : Parts) (x : Disks) (past : StorePast) (keeps : Keeps parts x p
   -- what is read goes on
   pub reads_ended : (m : ℕ) (a : Asking) (sector : ℕ) (content : List ℕ) → WillReadOn parts x past m a sector content → WillReadOn (with_stream parts n c) x past m a sector content
   reads_ended m a sector content will = record {
+    device = will.device;
+    behind_label = will.behind_label;
+    within = will.within;
     row = will.row;
     row_is = ap (λ (rs : List DeviceRow). slice_get rs a.device) (kept (λ q. q.rows) refl m) ∙ will.row_is;
     stands = will.stands;

@@ -27,8 +27,10 @@ use Rattle.bx_mirror_client.specs.Streams.{Streaming, sending}
 use Rattle.bx_mirror_client.specs.declared.asking.Asking.{Asking}
 use Rattle.bx_mirror_client.specs.declared.sending.Sending.{Sending}
 use Rattle.bx_mirror_client.proofs.Telling.{runs_there, there_runs}
-use Rattle.bx_mirror_cluster.specs.Fitting.{History, IsClaimed, IsComing, IsDeviceSound, IsOwnOrLeft, IsSettledOn, Keeps, KnownFrom, Nowhere, Parts, StandsFor, StandsOn, WillReadOn, handings, knows_of, last_row, out_by, outs_of, row_or, rows_before, side_of}
-use Rattle.bx_mirror_cluster.specs.Speaking.{FitsPacket, letter_of}
+use Rattle.bx_mirror_cluster.proofs.Drawn.{drawn_more, drawn_own, drawn_same}
+use Rattle.bx_mirror_packets.specs.declared.message.ReadBody.{ReadBody}
+use Rattle.bx_mirror_cluster.specs.Fitting.{History, IsClaimed, IsComing, IsDeviceSound, IsDrawn, IsOwnOrLeft, IsReading, IsSettledOn, Keeps, KnownFrom, Nowhere, Parts, StandsFor, StandsOn, WillReadOn, handings, knows_of, last_row, out_by, outs_of, row_or, rows_before, side_of}
+use Rattle.bx_mirror_cluster.specs.Speaking.{BringsOnce, FitsPacket, IsSendable, letter_of}
 use Rattle.bx_mirror_cluster.specs.Writing.{MaySend, parts_sent, past_sent, with_node, with_sent, with_stream, write_by}
 use Rattle.bx_mirror_cluster.proofs.Leaving.{same_left}
 use Rattle.bx_mirror_cluster.proofs.Sent.{base_outs, base_writes, sent_outs, sent_writes, sent_wrotes, told_both}
@@ -188,7 +190,7 @@ module _ (parts : Parts) (x : Disks) (past : StorePast) (keeps : Keeps parts x p
 
   -- the letters of the session have lower numbers
   lower : (d : ℕ) (l : WriteLetter) → Among (h.writes d) l → l.session ≡ session → l.sequence < next_number c.sequence
-  lower d l there same = elim (keeps.numbered d l there) [
+  lower d l there same = elim (keeps.numbered d l there).case [
     | inl old ↦ absurd (let less = subst (λ (k : ℕ). keeps.boot_of k < past.told.boots (Node (keeps.node_of k))) same old in let boot = (keeps.owned n session own).1 in
         let node = ap (λ (k : ℕ). past.told.boots (Node k)) (keeps.owned n session own).0 in omega (arith, less, boot, node))
     | inr le ↦ (let at = ap (λ (k : ℕ). (parts.nodes (keeps.node_of k)).sequence) same ∙ ap (λ (k : ℕ). (parts.nodes k).sequence) (keeps.owned n session own).0 in omega (arith, le, at, next_is))
@@ -207,6 +209,9 @@ module _ (parts : Parts) (x : Disks) (past : StorePast) (keeps : Keeps parts x p
     | inl old ↦ old
     | inr new ↦ absurd (let low = low_kinds [] c.rows c.node s letter new in omega (arith, low, high))
   ]
+
+  was_reading : (m : ℕ) (r : ReadBody) → IsReading (past.told.letters ++ letters) m r → IsReading past.told.letters m r
+  was_reading m r read = record { letter = read.letter; there = was_there read.letter read.there (let e = read.spells.kind_is in omega (arith, e)); spells = read.spells; from = read.from }
 
   -- ---- a device
 
@@ -354,12 +359,17 @@ module _ (parts : Parts) (x : Disks) (past : StorePast) (keeps : Keeps parts x p
           let number = ap (λ (v : Out). v.sequence) same in let now = ap (λ (q : Streaming). q.sequence) (at_it m e) in omega (arith, number, now))
       | inr e ↦ (let le = keeps.out_number m w (sym (ap (λ (q : Streaming). out_by q.out) (at_other m e)) ∙ is) in let same = ap (λ (q : Streaming). q.sequence) (at_other m e) in omega (arith, le, same))
     ];
+    actual_given = λ w there. elim there.is [
+      | inl new ↦ (let given = (keeps.owned n session own).2 in let e = ap (λ (v : Out). v.session) new in omega (arith, given, e))
+      | inr old ↦ keeps.actual_given w (record { is = old })
+    ];
     sendable = λ m t is. elim (same_or m n) [
-      | inl e ↦ (let both : Some s ≡ Some t = sym (ap (λ (q : Streaming). q.out) (at_it m e)) ∙ is in let same : s ≡ t = cc in subst FitsPacket same fits)
+      | inl e ↦ (let both : Some s ≡ Some t = sym (ap (λ (q : Streaming). q.out) (at_it m e)) ∙ is in let same : s ≡ t = cc in subst (IsSendable parts.made) same (record { packet = fits; runs = are }))
       | inr e ↦ keeps.sendable m t (sym (ap (λ (q : Streaming). q.out) (at_other m e)) ∙ is)
     ];
     askable = λ m a is. keeps.askable m a (sym (kept (λ q. q.asks) refl m) ∙ is);
     epochs = keeps.epochs;
+    owing = keeps.owing;
     own_out = λ m w there is. elim there.is [
       | inl new ↦ (let it : (parts.nodes m).session ≡ Some session = sym (kept (λ q. q.session) refl m) ∙ is ∙ ap (λ (v : Out). Some v.session) new in
           ap (λ (k : ℕ). outs_of nodes_next k) (its_node m it) ∙ out_now ∙ ap Some (sym new))
@@ -379,6 +389,7 @@ module _ (parts : Parts) (x : Disks) (past : StorePast) (keeps : Keeps parts x p
       | inr e ↦ keeps.noted m d epoch b t within (sym (ap (λ (q : Streaming). q.out) (at_other m e)) ∙ is) has
     ];
     asking = λ m a is. let old = keeps.asking m a (sym (kept (λ q. q.asks) refl m) ∙ is) in (kept (λ q. q.session) refl m ∙ old.0, (let same = kept (λ q. q.tag) refl m in let le = old.1 in omega (arith, same, le)));
+    asked = λ m r a reading is same tag. keeps.asked m r a (was_reading m r reading) (sym (kept (λ q. q.asks) refl m) ∙ is) same tag;
     node_known = λ m t is. let old = keeps.node_known m t (sym (kept (λ q. q.session) refl m) ∙ is) in (old.0, old.1, old.2, kept (λ q. q.rows) refl m ∙ old.3, old.4);
     node_of = keeps.node_of;
     boot_of = keeps.boot_of;
@@ -397,20 +408,18 @@ module _ (parts : Parts) (x : Disks) (past : StorePast) (keeps : Keeps parts x p
       | inr old ↦ same_left parts.nodes nodes_next past.told.chain past.told.knew past.told.boots past.told.down (keeps.node_of w.session) (keeps.boot_of w.session) w.session (kept (λ q. q.session) refl (keeps.node_of w.session)) (keeps.left w (record { is = old }))
     ];
     numbered = λ d l there. numbered d l (newer_told (has_runs d runs.1) (slice_get c.rows d) o (runs_on d runs.1) (h.writes d) l there);
-    tagged = λ m d t epoch tag bytes data_. elim (keeps.tagged m d t epoch tag bytes (record { letter = data_.letter; there = was_there data_.letter data_.there (let e = data_.spells.kind_is in omega (arith, e)); data_ = data_.data_; spells = data_.spells; to = data_.to; device = data_.device; session_is = data_.session_is; epoch_is = data_.epoch_is; tag_is = data_.tag_is; bytes_are = data_.bytes_are })) [
-      | inl old ↦ inl old
-      | inr le ↦ inr (let same = kept (λ q. q.tag) refl m in omega (arith, le, same))
-    ];
-    read_tagged = λ m d t tag read. elim (keeps.read_tagged m d t tag (record { letter = read.letter; there = was_there read.letter read.there (let e = read.spells.kind_is in omega (arith, e)); read = read.read; spells = read.spells; from = read.from; device = read.device; session_is = read.session_is; tag_is = read.tag_is })) [
-      | inl old ↦ inl old
-      | inr le ↦ inr (let same = kept (λ q. q.tag) refl m in omega (arith, le, same))
-    ];
+    tagged = λ m d t epoch tag bytes data_. drawn_same _ _ _ _ _ _ _ (kept (λ q. q.tag) refl m)
+        (keeps.tagged m d t epoch tag bytes (record { letter = data_.letter; there = was_there data_.letter data_.there (let e = data_.spells.kind_is in omega (arith, e)); data_ = data_.data_; spells = data_.spells; to = data_.to; device = data_.device; session_is = data_.session_is; epoch_is = data_.epoch_is; tag_is = data_.tag_is; bytes_are = data_.bytes_are }));
+    read_tagged = λ m r read. drawn_same _ _ _ _ _ _ _ (kept (λ q. q.tag) refl m) (keeps.read_tagged m r (was_reading m r read));
     member_boots = keeps.member_boots;
     node_boots = λ m there up. kept (λ q. q.boot) refl m ∙ keeps.node_boots m there up;
   }
     where
+      its_run : (d : ℕ) (l : WriteLetter) → l.runs ≡ runs_on d runs.1 → (z : ℕ) (one : List ℕ) → WritesIn l.runs d z one → WritesIn runs.1 d z one
+      its_run d l e z one its = on_its d runs.1 z one (subst (λ (rs : List Run). WritesIn rs d z one) e its)
+
       -- a run on a device brings its first sector there
-      brought : (d : ℕ) (l : WriteLetter) → Among (h.writes d) l ⊎ IsNewer (has_runs d runs.1) o (runs_on d runs.1) l → (y : ℕ) × ((content : List ℕ) × WritesIn l.runs d y content)
+      brought : (d : ℕ) (l : WriteLetter) → Among (h.writes d) l ⊎ IsNewer (has_runs d runs.1) o (runs_on d runs.1) l → BringsOnce d l.runs
       brought d l (inl old) = keeps.brings d l old
       brought d l (inr new) =
           let has = runs_there d runs.1 new.has in
@@ -419,7 +428,10 @@ module _ (parts : Parts) (x : Disks) (past : StorePast) (keeps : Keeps parts x p
           let y = has.0.place in
           let content = sector_of has.0.bytes (y - y) in
           let first : WritesIn runs.1 d y content = (has.0, has.1, record { on = has.2; from = omega arith; below = omega (arith, sectors); is = refl }) in
-          (y, (content, subst (λ (rs : List Run). WritesIn rs d y content) (sym new.brings) (on_whole d runs.1 y content first)))
+          record {
+            some = (y, (content, subst (λ (rs : List Run). WritesIn rs d y content) (sym new.brings) (on_whole d runs.1 y content first)));
+            once = λ z one other its also. are.once d z one other (its_run d l new.brings z one its) (its_run d l new.brings z other also);
+          }
 
       rises : (m : ℕ) → (parts.nodes m).sequence ≤ (nodes_next m).sequence
       rises m = elim (same_or m n) [
@@ -428,15 +440,12 @@ module _ (parts : Parts) (x : Disks) (past : StorePast) (keeps : Keeps parts x p
       ]
 
       numbered : (d : ℕ) (l : WriteLetter) → Among (h.writes d) l ⊎ IsNewer (has_runs d runs.1) o (runs_on d runs.1) l
-          → (keeps.boot_of l.session < past.told.boots (Node (keeps.node_of l.session))) ⊎ (l.sequence ≤ (nodes_next (keeps.node_of l.session)).sequence)
-      numbered d l (inl old) = elim (keeps.numbered d l old) [
-        | inl before ↦ inl before
-        | inr le ↦ inr (let more = rises (keeps.node_of l.session) in omega (arith, le, more))
-      ]
-      numbered d l (inr new) = inr (
-          let node = ap keeps.node_of new.session ∙ (keeps.owned n session own).0 in
-          let at = ap (λ (k : ℕ). (nodes_next k).sequence) node ∙ ap (λ (q : Streaming). q.sequence) (at_it n refl) in
-          let it = new.sequence in omega (arith, at, it))
+          → IsDrawn (last past.told.chain).next_session (keeps.boot_of l.session) (past.told.boots (Node (keeps.node_of l.session))) l.session l.sequence (nodes_next (keeps.node_of l.session)).sequence
+      numbered d l (inl old) = drawn_more _ _ _ _ _ _ _ (rises (keeps.node_of l.session)) (keeps.numbered d l old)
+      numbered d l (inr new) =
+          subst (λ (t : ℕ). IsDrawn (last past.told.chain).next_session (keeps.boot_of t) (past.told.boots (Node (keeps.node_of t))) t l.sequence (nodes_next (keeps.node_of t)).sequence) (sym new.session)
+          (subst (λ (k : ℕ). IsDrawn (last past.told.chain).next_session (keeps.boot_of session) (past.told.boots (Node k)) session l.sequence (nodes_next k).sequence) (sym (keeps.owned n session own).0)
+          (drawn_own parts x past keeps n session l.sequence (nodes_next n).sequence own (let it = new.sequence in omega (arith, it, next_is)) (let at = ap (λ (q : Streaming). q.sequence) (at_it n refl) in let it = new.sequence in omega (arith, at, it))))
 
   -- ---- what stands goes on
 
@@ -462,6 +471,9 @@ module _ (parts : Parts) (x : Disks) (past : StorePast) (keeps : Keeps parts x p
 
   pub reads_sent : (m : ℕ) (a : Asking) (sector : ℕ) (content : List ℕ) → WillReadOn parts x past m a sector content → WillReadOn (with_stream parts n (sending (Some session) runs until c)) x (with_sent past sent letters) m a sector content
   reads_sent m a sector content reads = record {
+    device = reads.device;
+    behind_label = reads.behind_label;
+    within = reads.within;
     row = reads.row;
     row_is = ap (λ (rs : List DeviceRow). slice_get rs a.device) (kept (λ q. q.rows) refl m) ∙ reads.row_is;
     stands = stands_for (FromEpoch reads.row.epoch) a.device sector content reads.stands;

@@ -1,5 +1,5 @@
 -- How mirrored devices fit what was done with them.
-use Rattle.std.specs.Prelude.{◌*◌, ◌≡◌, ◌≢◌, ℕ, ◌+◌, ◌-◌, ◌<◌, ◌≤◌, ◌==◌, ◌⊎◌, not, Bool, true, false, List, [], ◌∷◌, length, Contains, Option, Some, None, slice_get, if◌then◌else◌}
+use Rattle.std.specs.Prelude.{◌*◌, ◌≡◌, ◌≢◌, ℕ, ◌+◌, ◌-◌, ◌<◌, ◌≤◌, ◌==◌, ◌⊎◌, not, Bool, true, false, List, [], ◌∷◌, length, Contains, Option, Some, None, slice_get, slice_index, if◌then◌else◌}
 use Rattle.std.specs.List.{AllByRecursion}
 use Rattle.bx_base.specs.declared.names.Actor.{Actor}
 use Rattle.bx_base.specs.declared.names.Actor.TheVariants.{Member, Node}
@@ -7,7 +7,7 @@ use Rattle.bx_disk.specs.Disks.{Disks, sector_of}
 use Rattle.bx_facts.specs.Chains.{Chain, IsPlace, LivesIn, last, session_of, state_after}
 use Rattle.bx_facts.specs.Pasts.{Told}
 use Rattle.bx_facts.specs.Sessions.{AreRows as AreSessions}
-use Rattle.bx_facts.specs.Writes.{Made, StorePast, WritesIn, label_on, member_disk, store_room}
+use Rattle.bx_facts.specs.Writes.{IsSourceIn, Made, StorePast, WritesIn, label_on, member_disk, store_room}
 use Rattle.bx_global.specs.declared.change.Change.{Change}
 use Rattle.bx_global.specs.declared.change.Change.TheVariants.{Renew, Take, Open, Expire, Claim, Close, Shift}
 use Rattle.bx_global.specs.declared.state.GlobalState.{GlobalState}
@@ -17,7 +17,7 @@ use Rattle.bx_layout.specs.Labels.{SpellsLabel}
 use Rattle.bx_post.specs.declared.packets.Letter.{Letter}
 use Rattle.bx_rows.specs.Conditions.{Fits}
 use Rattle.bx_rows.specs.declared.device.DeviceRow.{DeviceRow}
-use Rattle.bx_mirror_packets.specs.DeviceMessages.{Spells}
+use Rattle.bx_mirror_packets.specs.DeviceMessages.{IsDeviceMessage, Spells}
 use Rattle.bx_mirror_packets.specs.declared.message.WriteBody.{WriteBody}
 use Rattle.bx_mirror_packets.specs.declared.message.WroteBody.{WroteBody}
 use Rattle.bx_mirror_packets.specs.declared.message.ReadBody.{ReadBody}
@@ -29,6 +29,8 @@ use Rattle.bx_mirror_laws.specs.Sides.{Among, Copied, CopyLetter, Handing, Out, 
 use Rattle.bx_mirror_laws.specs.Acting.{FromEpoch, IsRow, MayLead}
 use Rattle.bx_mirror_laws.specs.Sound.{AreCopies, AreHanded, AreOuts, AreRows, AreWrites, AreWrotes, IsLate, Standing, sent_of}
 use Rattle.bx_mirror_tables.specs.Lasts.{last_in}
+use Rattle.bx_mirror_tables.specs.Owed.{message_of}
+use Rattle.bx_mirror_tables.specs.declared.answers.Owing.{Owing}
 use Rattle.bx_mirror_member.specs.Standing.{Standing as Serving}
 use Rattle.bx_mirror_server.specs.Sides.{copied_in, wrote_in}
 use Rattle.bx_mirror_client.specs.Sends.{member_at}
@@ -36,7 +38,7 @@ use Rattle.bx_mirror_client.specs.Streams.{Streaming}
 use Rattle.bx_mirror_client.specs.Telling.{HasAcked}
 use Rattle.bx_mirror_client.specs.declared.asking.Asking.{Asking}
 use Rattle.bx_mirror_client.specs.declared.sending.Sending.{Sending}
-use Rattle.bx_mirror_cluster.specs.Speaking.{FitsPacket, FitsRead}
+use Rattle.bx_mirror_cluster.specs.Speaking.{BringsOnce, FitsRead, IsOfRead, IsSendable}
 
 -- ---- the rows of a device along a chain, and what was handed back of it
 
@@ -168,16 +170,12 @@ pub record IsData (letters : List Letter) (node d session epoch tag : ℕ) (byte
   pub tag_is : data_.tag ≡ tag
   pub bytes_are : data_.bytes ≡ bytes
 
--- a read, under way to a member
-pub record IsReading (letters : List Letter) (node d session tag : ℕ) : Type 0 where
+-- a read, under way from a node
+pub record IsReading (letters : List Letter) (node : ℕ) (r : ReadBody) : Type 0 where
   pub letter : Letter
   pub there : Contains letters letter
-  pub read : ReadBody
-  pub spells : Spells (Read read) letter.kind letter.body
+  pub spells : Spells (Read r) letter.kind letter.body
   pub from : letter.from ≡ Node node
-  pub device : read.device ≡ d
-  pub session_is : read.session ≡ session
-  pub tag_is : read.tag ≡ tag
 
 -- ---- what is said of sectors
 
@@ -207,6 +205,9 @@ pub record StandsOn (parts : Parts) (x : Disks) (past : StorePast) (d sector : �
 
 -- Of a read that is out: each answer that may come from the epoch that the node knows on has it, under way or not, and so has the one that came.
 pub record WillReadOn (parts : Parts) (x : Disks) (past : StorePast) (node : ℕ) (a : Asking) (sector : ℕ) (content : List ℕ) : Type 0 where
+  pub device : a.device < parts.made.devices
+  pub behind_label : 1 ≤ sector
+  pub within : sector < store_room parts.made
   pub row : DeviceRow
   pub row_is : slice_get (parts.nodes node).rows a.device ≡ Some row
   pub stands : StandsFor (FromEpoch row.epoch) parts x past a.device sector content
@@ -233,6 +234,16 @@ pub record History : Type 0 where
 abbrev pub IsClaimed : GlobalState → ℕ → Out → Type 0
 IsClaimed s greatest o = LivesIn s o.session ⊎ (IsLate greatest o.until → ⊥)
 
+-- A member needs its label: it may be read by an audit, it is up, or it has taken a piece of a copy in the epoch of the last row.
+pub record NeedsLabel (last : DeviceRow) (handed : List Handing) (copieds : List Copied) (down b : Bool) : Type 0 where
+  pub is : MayLead last handed b ⊎ ((down ≡ false) ⊎ ((c : Copied) × Among copieds c × (c.by ≡ b) × (c.epoch ≡ last.epoch)))
+
+-- A disk has its label, surely, and all sectors of a member.
+pub record HasLabel (made : Made) (x : Disks) (disk : ℕ) : Type 0 where
+  pub spells : SpellsLabel (label_on made disk) (x.reads disk 0)
+  pub sure : x.unsure disk 0 ≡ false
+  pub long : store_room made ≤ slice_index x.sizes disk
+
 -- one device
 pub record IsDeviceSound (parts : Parts) (x : Disks) (past : StorePast) (h : History) (d : ℕ) : Type 0 where
   pub rows : AreRows (store_room parts.made) (last_row past.told.chain d) (rows_before past.told.chain d) (side_of past.told x parts.members d) (h.source d)
@@ -246,8 +257,7 @@ pub record IsDeviceSound (parts : Parts) (x : Disks) (past : StorePast) (h : His
   pub answering : (w : Wrote) → IsAnswering past.told.letters d w → Among (h.wrotes d) w
   pub copying : (l : CopyLetter) → IsCopying past.told.letters d l → Among (h.copies d) l
   pub copied_to : (c : Copied) → IsCopiedTo past.told.letters d c → Among (h.copieds d) c
-  -- a label for each that may be read by an audit
-  pub labels : (b : Bool) → MayLead (last_row past.told.chain d) (handings d past.told.handed) b → SpellsLabel (label_on parts.made (member_disk d b)) (x.reads (member_disk d b) 0) × (x.unsure (member_disk d b) 0 ≡ false)
+  pub labels : (b : Bool) → NeedsLabel (last_row past.told.chain d) (handings d past.told.handed) (h.copieds d) (past.told.down (Member (member_at d b))) b → HasLabel parts.made x (member_disk d b)
   -- a member that is down knows nothing, and owes nothing
   pub down : (b : Bool) → past.told.down (Member (member_at d b)) ≡ true → ((parts.members (member_at d b)).row ≡ None) × ((parts.members (member_at d b)).owed ≡ [])
   -- what a member knows stands in the state that it was handed last
@@ -266,6 +276,14 @@ pub record IsOwnOrLeft (nodes : ℕ → Streaming) (chain : Chain) (knew boots :
   pub boot_most : boot ≤ boots (Node node)
   pub case : (boot < boots (Node node)) ⊎ ((down (Node node) ≡ true) ⊎ (((nodes node).session ≡ Some session) ⊎ IsBehind chain (knew (Node node)) node boot session))
 
+-- A number was drawn for what a session sent: the session was given out, of the boot that its node has or of an earlier one; no number is 0; and of the
+-- node's boot it is one of those that were drawn.
+pub record IsDrawn (next boot most session number drawn : ℕ) : Type 0 where
+  pub given : session < next
+  pub some : 1 ≤ number
+  pub boot_most : boot ≤ most
+  pub case : (boot < most) ⊎ (number ≤ drawn)
+
 pub record Keeps (parts : Parts) (x : Disks) (past : StorePast) : Type 0 where
   pub history : History
   pub devices : (d : ℕ) → d < parts.made.devices → IsDeviceSound parts x past history d
@@ -276,19 +294,23 @@ pub record Keeps (parts : Parts) (x : Disks) (past : StorePast) : Type 0 where
   pub actual_sent : (w : Out) → Among history.actual w → Contains past.writes (sent_of w)
   pub out_actual : (n : ℕ) (w : Out) → outs_of parts.nodes n ≡ Some w → Among history.actual w × ((parts.nodes n).session ≡ Some w.session)
   pub out_number : (n : ℕ) (w : Out) → outs_of parts.nodes n ≡ Some w → w.sequence ≤ (parts.nodes n).sequence
-  -- the numbers of what is out, and of all rows, fit a packet
-  pub sendable : (n : ℕ) (s : Sending) → (parts.nodes n).out ≡ Some s → FitsPacket s
+  pub actual_given : (w : Out) → Among history.actual w → w.session < (last past.told.chain).next_session
+  -- the numbers of what is out, of what is owed, and of all rows, fit a packet
+  pub sendable : (n : ℕ) (s : Sending) → (parts.nodes n).out ≡ Some s → IsSendable parts.made s
   pub askable : (n : ℕ) (a : Asking) → (parts.nodes n).asks ≡ Some a → FitsRead a
   pub epochs : (s : GlobalState) → IsPlace past.told.chain s → (d : ℕ) (row : DeviceRow) → slice_get s.devices d ≡ Some row → Fits row.epoch
+  pub owing : (n : ℕ) (o : Owing) → Contains (parts.members n).owed o → IsDeviceMessage (message_of o.answer)
   pub own_out : (n : ℕ) (w : Out) → Among history.actual w → (parts.nodes n).session ≡ Some w.session → outs_of parts.nodes n ≡ Some w
   -- the last sequence that a member knows of a session is that of a letter
   pub lasts : (d : ℕ) (b : Bool) (session : ℕ) → (last_in (parts.members (member_at d b)).lasts session ≡ 0)
       ⊎ ((l : WriteLetter) × Among (history.writes d) l × (l.session ≡ session) × (l.sequence ≡ last_in (parts.members (member_at d b)).lasts session))
-  -- a letter of a device brings something there
-  pub brings : (d : ℕ) (l : WriteLetter) → Among (history.writes d) l → (x : ℕ) × ((content : List ℕ) × WritesIn l.runs d x content)
+  -- a letter of a device brings something there, and no sector two contents
+  pub brings : (d : ℕ) (l : WriteLetter) → Among (history.writes d) l → BringsOnce d l.runs
   -- what a node has noted was answered
   pub noted : (n d epoch : ℕ) (b : Bool) (s : Sending) → d < parts.made.devices → (parts.nodes n).out ≡ Some s → HasAcked s.acks (member_at d b) epoch → Among (history.wrotes d) (record { by = b; session = s.session; epoch = epoch; sequence = s.sequence })
   pub asking : (n : ℕ) (a : Asking) → (parts.nodes n).asks ≡ Some a → ((parts.nodes n).session ≡ Some a.session) × (a.tag ≤ (parts.nodes n).tag)
+  -- a read under way of the number of a node's read is that read
+  pub asked : (n : ℕ) (r : ReadBody) (a : Asking) → IsReading past.told.letters n r → (parts.nodes n).asks ≡ Some a → r.session ≡ a.session → r.tag ≡ a.tag → IsOfRead a r
   -- what a node knows is the state that it was handed last, in which its session lives
   pub node_known : (n session : ℕ) → (parts.nodes n).session ≡ Some session → (s : GlobalState) × IsPlace past.told.chain s × (s.index ≡ past.told.knew (Node n)) × ((parts.nodes n).rows ≡ s.devices) × LivesIn s session
   -- whose a session is, and of which boot; its numbers
@@ -302,9 +324,10 @@ pub record Keeps (parts : Parts) (x : Disks) (past : StorePast) : Type 0 where
   pub found_most : past.told.chain.found ≤ past.told.chain.first.next_session
   pub in_order : (s : GlobalState) → IsPlace past.told.chain s → AreRising s.sessions s.next_session
   pub left : (w : Out) → Among history.actual w → IsOwnOrLeft parts.nodes past.told.chain past.told.knew past.told.boots past.told.down (node_of w.session) (boot_of w.session) w.session
-  pub numbered : (d : ℕ) (l : WriteLetter) → Among (history.writes d) l → (boot_of l.session < past.told.boots (Node (node_of l.session))) ⊎ (l.sequence ≤ (parts.nodes (node_of l.session)).sequence)
-  pub tagged : (n d session epoch tag : ℕ) (bytes : List ℕ) → IsData past.told.letters n d session epoch tag bytes → (boot_of session < past.told.boots (Node n)) ⊎ (tag ≤ (parts.nodes n).tag)
-  pub read_tagged : (n d session tag : ℕ) → IsReading past.told.letters n d session tag → (boot_of session < past.told.boots (Node n)) ⊎ (tag ≤ (parts.nodes n).tag)
+  -- the numbers of all that was sent
+  pub numbered : (d : ℕ) (l : WriteLetter) → Among (history.writes d) l → IsDrawn (last past.told.chain).next_session (boot_of l.session) (past.told.boots (Node (node_of l.session))) l.session l.sequence (parts.nodes (node_of l.session)).sequence
+  pub tagged : (n d session epoch tag : ℕ) (bytes : List ℕ) → IsData past.told.letters n d session epoch tag bytes → IsDrawn (last past.told.chain).next_session (boot_of session) (past.told.boots (Node n)) session tag (parts.nodes n).tag
+  pub read_tagged : (n : ℕ) (r : ReadBody) → IsReading past.told.letters n r → IsDrawn (last past.told.chain).next_session (boot_of r.session) (past.told.boots (Node n)) r.session r.tag (parts.nodes n).tag
   -- boots of those that are up
   pub member_boots : (n : ℕ) → n < 2 * parts.made.devices → past.told.down (Member n) ≡ false → (parts.members n).boot ≡ past.told.boots (Member n)
   pub node_boots : (n : ℕ) → n < parts.made.nodes → past.told.down (Node n) ≡ false → (parts.nodes n).boot ≡ past.told.boots (Node n)
@@ -317,11 +340,17 @@ letters_left past letters = record past { told = record past.told { letters = le
 abbrev pub IsSideAlone : DeviceRow → Bool → Type 0
 IsSideAlone row b = ((b ≡ false) × (row.mode ≡ 2)) ⊎ ((b ≡ true) × (row.mode ≡ 1))
 
+-- Each member is one that an audit reads: its device is in no mode that leaves one out.
+pub record AreAllRead (s : GlobalState) : Type 0 where
+  pub each : (d : ℕ) (b : Bool) → d < length s.devices → IsSourceIn s d b
+
 -- Nothing was done with the parts yet: the nodes that there are know the state that they are made for.
 pub record IsNewParts (s : GlobalState) (parts : Parts) : Type 0 where
   pub rows : (n : ℕ) → (parts.members n).row ≡ None
   pub owed : (n : ℕ) → (parts.members n).owed ≡ []
   pub lasts : (n : ℕ) → (parts.members n).lasts ≡ []
+  pub member_boot : (n : ℕ) → n < 2 * parts.made.devices → (parts.members n).boot ≡ 0
+  pub node_boot : (n : ℕ) → n < parts.made.nodes → (parts.nodes n).boot ≡ 0
   pub session : (n : ℕ) → n < parts.made.nodes → (parts.nodes n).session ≡ session_of s n 0
   pub known : (n : ℕ) → n < parts.made.nodes → (parts.nodes n).rows ≡ s.devices
   pub no_more : (n : ℕ) → parts.made.nodes ≤ n → (parts.nodes n).session ≡ None

@@ -9,6 +9,7 @@ use Rattle.bx_mirror_client.specs.Streams.{Streaming}
 use Rattle.bx_mirror_client.specs.declared.asking.Asking.{Asking}
 use Rattle.bx_mirror_client.specs.declared.sending.Sending.{Sending}
 use Rattle.bx_mirror_cluster.specs.Fitting.{Parts, out_by}
+use Rattle.bx_mirror_cluster.specs.GoingOn.{IsSameRead}
 use Rattle.bx_mirror_cluster.specs.Speaking.{FitsRead}
 
 -- What a node is handed: it is up, and the state is one of the chain, and no older than what it knew.
@@ -37,5 +38,5 @@ pub record Learned (c : Streaming) (known : GlobalState) (new : Streaming) : Typ
   pub rows : new.rows ≡ known.devices
   pub out : ((new.session ≡ c.session) × (out_by new.out ≡ out_by c.out)) ⊎ ((new.session ≢ c.session) × (out_by new.out ≡ None))
   pub noted : (s : Sending) → new.out ≡ Some s → c.out ≡ Some s
-  pub asks : (a : Asking) → new.asks ≡ Some a → (new.session ≡ Some a.session) × ((was : Asking) × (c.asks ≡ Some was) × (a.tag ≡ was.tag))
+  pub asks : (a : Asking) → new.asks ≡ Some a → (new.session ≡ Some a.session) × ((was : Asking) × (c.asks ≡ Some was) × IsSameRead was a)
   pub askable : (a : Asking) → new.asks ≡ Some a → FitsRead a

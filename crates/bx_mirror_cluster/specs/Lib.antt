@@ -1,7 +1,9 @@
 pub mod Fitting
 pub mod GoingOn
 pub mod Learning
+pub mod MemberSteps
 pub mod NodeSteps
 pub mod Speaking
+pub mod Starting
 pub mod Stopping
 pub mod Writing

@@ -1,9 +1,11 @@
 -- What the letters of a stream say.
 use Rattle.std.specs.Prelude.{◌≡◌, ℕ, ◌/◌, ◌%◌, ◌^◌, ◌<◌, ◌≤◌, Bool, List, length, Some, slice_get}
 use Rattle.std.specs.List.{AllByRecursion}
+use Rattle.bx_facts.specs.Writes.{AreRuns, Made, WritesIn}
 use Rattle.bx_records.specs.declared.runs.Run.{Run}
 use Rattle.bx_rows.specs.Conditions.{Fits}
 use Rattle.bx_rows.specs.Modes.{IsWritten}
+use Rattle.bx_mirror_packets.specs.declared.message.ReadBody.{ReadBody}
 use Rattle.bx_rows.specs.declared.device.DeviceRow.{DeviceRow}
 use Rattle.bx_mirror_laws.specs.Sides.{WriteLetter}
 use Rattle.bx_mirror_packets.specs.Parting.{runs_on}
@@ -33,6 +35,24 @@ pub record FitsRead (a : Asking) : Type 0 where
   pub tag : Fits a.tag
   pub place : Fits a.place
   pub sectors : a.sectors < 2 ^ 32
+
+-- A write may be told: its numbers fit a packet, and its runs are ones of the volume.
+pub record IsSendable (made : Made) (s : Sending) : Type 0 where
+  pub packet : FitsPacket s
+  pub runs : AreRuns made s.runs.1
+
+-- Runs bring something to a device, and to no sector of it two contents.
+pub record BringsOnce (device : ℕ) (runs : List Run) : Type 0 where
+  pub some : (x : ℕ) × ((content : List ℕ) × WritesIn runs device x content)
+  pub once : (x : ℕ) (content other : List ℕ) → WritesIn runs device x content → WritesIn runs device x other → other ≡ content
+
+-- A read's packet says what is asked: its session, its number, and its sectors.
+pub record IsOfRead (a : Asking) (r : ReadBody) : Type 0 where
+  pub session : r.session ≡ a.session
+  pub tag : r.tag ≡ a.tag
+  pub device : r.device ≡ a.device
+  pub place : r.place ≡ a.place
+  pub sectors : r.sectors ≡ a.sectors
 
 -- What a member of a device is told of a write, as the laws of devices speak of it.
 abbrev pub letter_of : Sending → ℕ → DeviceRow → Bool → WriteLetter

@@ -1,5 +1,5 @@
 -- A node sends a write.
-use Rattle.std.specs.Prelude.{◌≡◌, ℕ, ◌≤◌, ◌==◌, ◌++◌, false, List, [], ◌∷◌, length, Some, None, slice_get, if◌then◌else◌}
+use Rattle.std.specs.Prelude.{◌≡◌, ℕ, ◌≤◌, ◌==◌, ◌++◌, true, false, List, [], ◌∷◌, length, Some, None, slice_get, if◌then◌else◌}
 use Rattle.bx_facts.specs.Chains.{last}
 use Rattle.bx_facts.specs.Writes.{AreRuns, MayWrite, Sent, StorePast}
 use Rattle.bx_post.specs.declared.packets.Letter.{Letter}
@@ -39,6 +39,13 @@ pub record MaySend (parts : Parts) (past : StorePast) (node session until : ℕ)
   pub fits : FitsPacket (write_by (parts.nodes node) session until runs)
   pub few : length (parts.nodes node).rows ≤ 4
   pub epochs : (k : ℕ) (row : DeviceRow) → slice_get (parts.nodes node).rows k ≡ Some row → Fits row.epoch
+
+-- A node for which no number is left may have a write out.
+pub record MayHold (parts : Parts) (node session until : ℕ) (runs : KindAndRuns) : Type 0 where
+  pub none : (parts.nodes node).out ≡ None
+  pub runs_are : AreRuns parts.made runs.1
+  pub not_left : (next_number (parts.nodes node).sequence == 0) ≡ true
+  pub fits : FitsPacket (write_by (parts.nodes node) session until runs)
 
 -- the parts once it was sent, and the past then
 abbrev pub parts_sent : Parts → ℕ → ℕ → ℕ → KindAndRuns → Parts

@@ -1,27 +1,26 @@
 //! Laws of a store whose members and streams fit what was done with it.
 
-ghost use Rattle.std.specs.Prelude.{◌≡◌, ◌≢◌, ℕ, ◌+◌, ◌<◌, ◌≤◌, ◌⊎◌, ◌==◌, Bool, true, false, List, Contains, None, Some, length};
-ghost use Rattle.bx_base.specs.declared.names.Actor.TheVariants.{Member, Node};
-ghost use Rattle.bx_disk.specs.Disks.{Disks, Stays};
+ghost use Rattle.std.specs.Prelude.{◌≡◌, ◌≢◌, ℕ, ◌+◌, ◌<◌, ◌≤◌, ◌⊎◌, ◌==◌, Bool, true, false, List, [], None, Some, length};
+ghost use Rattle.bx_base.specs.declared.names.Actor.TheVariants.{Node};
+ghost use Rattle.bx_disk.specs.Disks.{Disks};
 ghost use Rattle.bx_facts.specs.Chains.{IsPlace, IsStoresOwn, LivesIn, last};
-ghost use Rattle.bx_facts.specs.Disks.{Crashes};
 ghost use Rattle.bx_facts.specs.Inputs.{AreAmong, IsStores};
-ghost use Rattle.bx_facts.specs.Writes.{IsOfStore, IsOnly, IsSettled, NamesUpTo, StorePast, WritesIn, opening_store, store_crashed, store_grown, store_room, without_session};
-ghost use Rattle.bx_global.specs.Table.{IsLegal, effect};
+ghost use Rattle.bx_facts.specs.Writes.{IsOfStore, IsOnly, IsSettled, NamesUpTo, StorePast, WritesIn, found_store, opening_store, store_crashed, store_grown, store_restarted, store_room, without_session};
+ghost use Rattle.bx_global.specs.Allowed.{IsAllowed};
+ghost use Rattle.bx_global.specs.Table.{IsLegal};
+ghost use Rattle.bx_locking.specs.Owned.{AreSingle};
 ghost use Rattle.bx_global.specs.declared.change.Change.{Change};
 ghost use Rattle.bx_global.specs.declared.state.GlobalState.{GlobalState};
 ghost use Rattle.bx_post.specs.declared.packets.Letter.{Letter};
-ghost use Rattle.bx_mirror_laws.specs.Sides.{Among, Out};
-ghost use Rattle.bx_mirror_laws.specs.Sound.{sent_of};
-ghost use Rattle.bx_mirror_client.specs.Sends.{is_done, member_at};
+ghost use Rattle.bx_mirror_client.specs.Sends.{is_done};
 ghost use Rattle.bx_mirror_client.specs.declared.asking.Asking.{Asking};
 ghost use Rattle.bx_mirror_client.specs.declared.sending.Sending.{Sending};
 ghost use Rattle.bx_mirror_cluster.specs.NodeSteps.{IsAck, MayRead, parts_acked, parts_asked, past_asked};
-ghost use Rattle.bx_mirror_cluster.specs.Writing.{MaySend, parts_sent, past_sent, with_stream};
-ghost use Rattle.bx_mirror_client.specs.Streams.{answered, stopped};
+ghost use Rattle.bx_mirror_cluster.specs.Writing.{MayHold, MaySend, parts_sent, past_sent, with_stream};
+ghost use Rattle.bx_mirror_client.specs.Streams.{answered, restarted, stopped};
 ghost use Rattle.bx_mirror_packets.specs.declared.message.WroteBody.{WroteBody};
 ghost use Rattle.bx_records.specs.Runs.{KindAndRuns};
-ghost use Rattle.bx_mirror_cluster.specs.Fitting.{History, IsDeviceSound, IsNewParts, IsSettledOn, IsSideAlone, Keeps, Parts, StandsOn, WillReadOn, letters_left, opening_history, outs_of, row_of};
+ghost use Rattle.bx_mirror_cluster.specs.Fitting.{AreAllRead, IsNewParts, IsSettledOn, Keeps, Parts, StandsOn, WillReadOn, letters_left, outs_of};
 
 /// What stands for readers is settled, and stands for those that know more.
 pub fn what_stands_is_settled()
@@ -55,33 +54,25 @@ pub fn letters_are_lost()
     ensures stands { (parts : Parts) (x : Disks) (past : StorePast) (letters : List Letter) (device sector : ℕ) (content : List ℕ) (index : ℕ) → AreAmong IsStores letters past.told.letters → StandsOn parts x past device sector content index → StandsOn parts x (letters_left past letters) device sector content index }
 {}
 
-/// The chain may grow by each change that is legal, and that was handed back where a store asks for such: a device goes on fitting, and what stands
-/// on it goes on.
+/// The chain may grow by each change that is legal, and that was handed back where a store asks for such: all goes on fitting, and so does what was
+/// settled, stood or is read.
 pub fn grows()
-    ensures sound { (parts : Parts) (x : Disks) (past : StorePast) (h : History) (device : ℕ) (change : Change) → IsDeviceSound parts x past h device → ((w : Out) → Among h.actual w → Contains past.writes (sent_of w))
-        → IsLegal (last past.told.chain) change → IsStoresOwn past.told.handed change → ((n : ℕ) (o : Out) → outs_of parts.nodes n ≡ Some o → LivesIn (effect (last past.told.chain) change) o.session → LivesIn (last past.told.chain) o.session)
-        → IsDeviceSound parts x (store_grown past change) h device }
-    ensures stands { (parts : Parts) (x : Disks) (past : StorePast) (h : History) (device : ℕ) (change : Change) (sector : ℕ) (content : List ℕ) (index : ℕ) → IsDeviceSound parts x past h device → ((w : Out) → Among h.actual w → Contains past.writes (sent_of w))
-        → IsLegal (last past.told.chain) change → IsStoresOwn past.told.handed change → ((n : ℕ) (o : Out) → outs_of parts.nodes n ≡ Some o → LivesIn (effect (last past.told.chain) change) o.session → LivesIn (last past.told.chain) o.session)
+    ensures keeps { (parts : Parts) (x : Disks) (past : StorePast) (change : Change) → Keeps parts x past → IsLegal (last past.told.chain) change → IsStoresOwn past.told.handed change → Keeps parts x (store_grown past change) }
+    ensures settles { (parts : Parts) (x : Disks) (past : StorePast) (change : Change) (device sector : ℕ) (content : List ℕ) → Keeps parts x past → IsLegal (last past.told.chain) change → IsStoresOwn past.told.handed change
+        → IsSettledOn parts x past device sector content → IsSettledOn parts x (store_grown past change) device sector content }
+    ensures stands { (parts : Parts) (x : Disks) (past : StorePast) (change : Change) (device sector : ℕ) (content : List ℕ) (index : ℕ) → Keeps parts x past → IsLegal (last past.told.chain) change → IsStoresOwn past.told.handed change
         → StandsOn parts x past device sector content index → StandsOn parts x (store_grown past change) device sector content index }
+    ensures reads { (parts : Parts) (x : Disks) (past : StorePast) (change : Change) (reader : ℕ) (read : Asking) (sector : ℕ) (content : List ℕ) → Keeps parts x past → IsLegal (last past.told.chain) change → IsStoresOwn past.told.handed change
+        → WillReadOn parts x past reader read sector content → WillReadOn parts x (store_grown past change) reader read sector content }
 {}
 
-/// The disk of a member that is down may crash; or be replaced by a blank one, where the device needs the other member alone.
-pub fn who_is_down_stays()
-    ensures survives { (parts : Parts) (x y : Disks) (past : StorePast) (h : History) (device : ℕ) (second : Bool) → IsDeviceSound parts x past h device → past.told.down (Member (member_at device second)) ≡ true → Crashes (3 + member_at device second) x y → IsDeviceSound parts y past h device }
-    ensures survives_standing { (parts : Parts) (x y : Disks) (past : StorePast) (h : History) (device : ℕ) (second : Bool) (sector : ℕ) (content : List ℕ) (index : ℕ) → IsDeviceSound parts x past h device → past.told.down (Member (member_at device second)) ≡ true → Crashes (3 + member_at device second) x y
-        → StandsOn parts x past device sector content index → StandsOn parts y past device sector content index }
-    ensures replaced { (parts : Parts) (x y : Disks) (past : StorePast) (h : History) (device : ℕ) (second : Bool) → IsDeviceSound parts x past h device → past.told.down (Member (member_at device second)) ≡ true → IsSideAlone (row_of (last past.told.chain) device) second
-        → ((k sector : ℕ) → k ≢ 3 + member_at device second → Stays x y k sector) → IsDeviceSound parts y past h device }
-    ensures replaced_standing { (parts : Parts) (x y : Disks) (past : StorePast) (h : History) (device : ℕ) (second : Bool) (sector : ℕ) (content : List ℕ) (index : ℕ) → IsDeviceSound parts x past h device → past.told.down (Member (member_at device second)) ≡ true → IsSideAlone (row_of (last past.told.chain) device) second
-        → ((k s : ℕ) → k ≢ 3 + member_at device second → Stays x y k s) → StandsOn parts x past device sector content index → StandsOn parts y past device sector content index }
-{}
-
-/// New members and streams fit each disks that are labelled, where no row names a boot that a machine doesn't have; what stands surely stands for all.
+/// New members and streams fit each disks that are labelled, and the state that they are made for, whose rows name no boot yet, and where all members
+/// are read; or, where that one has no sessions, the state that is found on the disks. What stands surely stands for all.
 pub fn begins()
-    ensures sound { (parts : Parts) (x : Disks) (s : GlobalState) (device : ℕ) → IsNewParts s parts → IsOfStore parts.made x s → NamesUpTo 0 s → device < length s.devices → IsDeviceSound parts x (opening_store s) opening_history device }
-    ensures stands { (parts : Parts) (x : Disks) (s : GlobalState) (device sector : ℕ) (content : List ℕ) → IsNewParts s parts → IsOfStore parts.made x s → NamesUpTo 0 s → device < length s.devices → device < parts.made.devices → 1 ≤ sector → sector < store_room parts.made
-        → IsSettled x s device sector content → StandsOn parts x (opening_store s) device sector content s.index }
+    ensures begins { (parts : Parts) (x : Disks) (s : GlobalState) → IsNewParts s parts → IsAllowed s → AreSingle 0 s → IsOfStore parts.made x s → NamesUpTo 0 s → AreAllRead s → Keeps parts x (opening_store s) }
+    ensures finds { (parts : Parts) (x : Disks) (first s : GlobalState) (boot : ℕ) → IsNewParts first parts → first.sessions ≡ [] → IsAllowed s → IsOfStore parts.made x s → NamesUpTo boot s → Keeps parts x (found_store s boot) }
+    ensures begins_standing { (parts : Parts) (x : Disks) (s : GlobalState) (device sector : ℕ) (content : List ℕ) → device < parts.made.devices → 1 ≤ sector → sector < store_room parts.made → IsSettled x s device sector content → StandsOn parts x (opening_store s) device sector content s.index }
+    ensures finds_standing { (parts : Parts) (x : Disks) (s : GlobalState) (boot device sector : ℕ) (content : List ℕ) → device < parts.made.devices → 1 ≤ sector → sector < store_room parts.made → IsSettled x s device sector content → StandsOn parts x (found_store s boot) device sector content s.index }
 {}
 
 /// A node that may send a write sends it: members and streams fit the past with that write and its letters, and what was settled, stood or is read goes
@@ -93,6 +84,18 @@ pub fn a_write_is_sent()
     ensures stands { (parts : Parts) (x : Disks) (past : StorePast) (node session until : ℕ) (runs : KindAndRuns) (device sector : ℕ) (content : List ℕ) (index : ℕ) → Keeps parts x past → MaySend parts past node session until runs
         → StandsOn parts x past device sector content index → StandsOn (parts_sent parts node session until runs) x (past_sent parts past node session until runs) device sector content index }
     ensures reads { (parts : Parts) (x : Disks) (past : StorePast) (node session until : ℕ) (runs : KindAndRuns) (reader : ℕ) (read : Asking) (sector : ℕ) (content : List ℕ) → Keeps parts x past → MaySend parts past node session until runs
+        → WillReadOn parts x past reader read sector content → WillReadOn (parts_sent parts node session until runs) x (past_sent parts past node session until runs) reader read sector content }
+{}
+
+/// A node for which no number is left has its write out all the same, and nobody is told of it: all goes on fitting the past with that write, and what
+/// was settled, stood or is read goes on.
+pub fn a_write_has_no_number()
+    ensures keeps { (parts : Parts) (x : Disks) (past : StorePast) (node session until : ℕ) (runs : KindAndRuns) → Keeps parts x past → MayHold parts node session until runs → Keeps (parts_sent parts node session until runs) x (past_sent parts past node session until runs) }
+    ensures settles { (parts : Parts) (x : Disks) (past : StorePast) (node session until : ℕ) (runs : KindAndRuns) (device sector : ℕ) (content : List ℕ) → Keeps parts x past → MayHold parts node session until runs
+        → IsSettledOn parts x past device sector content → IsSettledOn (parts_sent parts node session until runs) x (past_sent parts past node session until runs) device sector content }
+    ensures stands { (parts : Parts) (x : Disks) (past : StorePast) (node session until : ℕ) (runs : KindAndRuns) (device sector : ℕ) (content : List ℕ) (index : ℕ) → Keeps parts x past → MayHold parts node session until runs
+        → StandsOn parts x past device sector content index → StandsOn (parts_sent parts node session until runs) x (past_sent parts past node session until runs) device sector content index }
+    ensures reads { (parts : Parts) (x : Disks) (past : StorePast) (node session until : ℕ) (runs : KindAndRuns) (reader : ℕ) (read : Asking) (sector : ℕ) (content : List ℕ) → Keeps parts x past → MayHold parts node session until runs
         → WillReadOn parts x past reader read sector content → WillReadOn (parts_sent parts node session until runs) x (past_sent parts past node session until runs) reader read sector content }
 {}
 
@@ -119,4 +122,16 @@ pub fn a_node_stops()
     ensures settles { (parts : Parts) (x : Disks) (past : StorePast) (node device sector : ℕ) (content : List ℕ) → Keeps parts x past → IsSettledOn parts x past device sector content → IsSettledOn (with_stream parts node (stopped (parts.nodes node))) x (store_crashed past (Node node)) device sector content }
     ensures stands { (parts : Parts) (x : Disks) (past : StorePast) (node device sector : ℕ) (content : List ℕ) (index : ℕ) → Keeps parts x past → StandsOn parts x past device sector content index → StandsOn (with_stream parts node (stopped (parts.nodes node))) x (store_crashed past (Node node)) device sector content index }
     ensures reads { (parts : Parts) (x : Disks) (past : StorePast) (node reader : ℕ) (read : Asking) (sector : ℕ) (content : List ℕ) → Keeps parts x past → reader ≢ node → WillReadOn parts x past reader read sector content → WillReadOn (with_stream parts node (stopped (parts.nodes node))) x (store_crashed past (Node node)) reader read sector content }
+{}
+
+/// A node that is down starts again in a later boot: nothing of it is out, and all goes on fitting; so does what was settled or stood, and what other
+/// nodes read.
+pub fn a_node_starts()
+    ensures keeps { (parts : Parts) (x : Disks) (past : StorePast) (node boot reading : ℕ) → Keeps parts x past → past.told.boots (Node node) < boot → Keeps (with_stream parts node (restarted boot (parts.nodes node))) x (store_restarted past (Node node) boot reading) }
+    ensures settles { (parts : Parts) (x : Disks) (past : StorePast) (node boot reading device sector : ℕ) (content : List ℕ) → Keeps parts x past → past.told.boots (Node node) < boot
+        → IsSettledOn parts x past device sector content → IsSettledOn (with_stream parts node (restarted boot (parts.nodes node))) x (store_restarted past (Node node) boot reading) device sector content }
+    ensures stands { (parts : Parts) (x : Disks) (past : StorePast) (node boot reading device sector : ℕ) (content : List ℕ) (index : ℕ) → Keeps parts x past → past.told.boots (Node node) < boot
+        → StandsOn parts x past device sector content index → StandsOn (with_stream parts node (restarted boot (parts.nodes node))) x (store_restarted past (Node node) boot reading) device sector content index }
+    ensures reads { (parts : Parts) (x : Disks) (past : StorePast) (node boot reading reader : ℕ) (read : Asking) (sector : ℕ) (content : List ℕ) → Keeps parts x past → past.told.boots (Node node) < boot → reader ≢ node
+        → WillReadOn parts x past reader read sector content → WillReadOn (with_stream parts node (restarted boot (parts.nodes node))) x (store_restarted past (Node node) boot reading) reader read sector content }
 {}

@@ -1,0 +1,55 @@
+-- What an event of a member leaves of a store.
+use Rattle.std.specs.Prelude.{◌≡◌, ℕ, ◌*◌, ◌<◌, ◌≤◌, ◌==◌, false, List, if◌then◌else◌}
+use Rattle.bx_base.specs.declared.names.Actor.{Actor}
+use Rattle.bx_base.specs.declared.names.Actor.TheVariants.{Member}
+use Rattle.bx_facts.specs.Chains.{IsPlace}
+use Rattle.bx_facts.specs.Writes.{StorePast}
+use Rattle.bx_global.specs.declared.change.Change.{Change}
+use Rattle.bx_global.specs.declared.state.GlobalState.{GlobalState}
+use Rattle.bx_post.specs.declared.packets.Letter.{Letter}
+use Rattle.bx_mirror_laws.specs.Sides.{Copied, CopyLetter, Wrote}
+use Rattle.bx_mirror_member.specs.Standing.{Standing as Serving}
+use Rattle.bx_mirror_cluster.specs.Fitting.{History, Parts}
+
+-- one member is another
+abbrev pub with_member : (ℕ → Serving) → ℕ → Serving → ℕ → Serving
+with_member members n m k = if k == n then m else members k
+
+abbrev pub with_serving : Parts → ℕ → Serving → Parts
+with_serving parts n m = record parts { members = with_member parts.members n m }
+
+-- the past with these letters, these changes that were handed back, and what machines know
+abbrev pub served : StorePast → List Letter → List Change → (Actor → ℕ) → StorePast
+served past letters handed knew = record past { told = record past.told { letters = letters; handed = handed; knew = knew } }
+
+-- what was sent of a device, its writes apart, and what sources of copies had
+pub record DeviceHistory : Type 0 where
+  pub wrotes : List Wrote
+  pub copies : List CopyLetter
+  pub copieds : List Copied
+  pub source : ℕ → ℕ → List ℕ
+
+abbrev pub history_of : History → ℕ → DeviceHistory
+history_of h d = record { wrotes = h.wrotes d; copies = h.copies d; copieds = h.copieds d; source = h.source d }
+
+abbrev pub with_histories : History → (ℕ → DeviceHistory) → History
+with_histories h all = record {
+  actual = h.actual;
+  writes = h.writes;
+  wrotes = λ k. (all k).wrotes;
+  copies = λ k. (all k).copies;
+  copieds = λ k. (all k).copieds;
+  source = λ k. (all k).source;
+}
+
+abbrev pub at_device : History → ℕ → DeviceHistory → ℕ → DeviceHistory
+at_device h d new k = if k == d then new else history_of h k
+
+-- What a member is handed: it is up, the state is one of the chain, and no older than what it knew.
+pub record MayServe (parts : Parts) (past : StorePast) (n : ℕ) (known : GlobalState) : Type 0 where
+  pub inside : n < 2 * parts.made.devices
+  pub itself : (parts.members n).number ≡ n
+  pub made : (parts.members n).made ≡ parts.made
+  pub up : past.told.down (Member n) ≡ false
+  pub place : IsPlace past.told.chain known
+  pub rises : past.told.knew (Member n) ≤ known.index

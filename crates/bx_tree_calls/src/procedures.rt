@@ -1,15 +1,15 @@
 //! What the procedures do.
 
-ghost use Rattle.std.specs.Prelude.{◌≡◌, ◌≤◌, IfOk, OnErr, MatchOption, None, Some};
+ghost use Rattle.std.specs.Prelude.{◌≡◌, ◌≤◌, IfOk, OnErr, Some};
 ghost use Rattle.bx_model.specs.Act.{IsPlain, about_file as about_file_of, about_name as about_name_of, about_new as about_new_of, act as act_of, given};
 ghost use Rattle.bx_model.specs.Steps.{done, taken};
 ghost use Rattle.bx_tree_files.specs.Times.{time_of as time_of_moment};
+ghost use Rattle.bx_tree_making.specs.Asks.{Answers, asked};
 
 use bx_base::OutOfMemory;
 use bx_model::{Args, Call, Reply, Tree};
 use bx_tree_changes::{link, remove, rmdir, setattr, write};
-use bx_tree_files::Sattr;
-use bx_tree_making::{create, mkdir, symlink};
+use bx_tree_making::{Ask, create, mkdir, symlink};
 use bx_tree_moves::rename;
 use bx_tree_reads::{getattr, lookup, mount, plain, read, readdir, readlink, statfs};
 
@@ -40,53 +40,51 @@ pub fn act(
 ) -> Result<Option<Reply>, OutOfMemory>
     requires moment { moment ≤ 4294967295999 }
     requires spare { spare ≤ 4294967295 }
-    ensures acts { IfOk result (λ found. MatchOption found
-        ((act_of tree.old call.now moment spare made ≡ None) × (tree.new ≡ tree.old))
-        (λ reply. act_of tree.old call.now moment spare made ≡ Some (reply, tree.new))) }
+    ensures acts { IfOk result (Answers tree.old tree.new (act_of tree.old call.now moment spare made)) }
     ensures err { OnErr result (tree.new ≡ tree.old) }
 {
     let (now, spare) = (time_of(moment), spare as u32);
     match &call.args {
         Args::Make(at, name, sattr) => {
+            let (at, name) = (at.bytes(), name.bytes());
             about_new(
                 tree,
                 call,
-                at.bytes(),
-                name.bytes(),
-                sattr,
-                now,
-                spare,
-                made,
+                &Ask {
+                    at,
+                    name,
+                    sattr,
+                    time: now,
+                    spare,
+                    made,
+                },
             )
         }
         Args::Symlink(at, name, path, sattr) => {
-            let (at, name, path) = (at.bytes(), name.bytes(), path.bytes());
-            symlink(tree, call, at, name, path, sattr, now, spare, made)
+            let (at, name) = (at.bytes(), name.bytes());
+            let ask = Ask {
+                at,
+                name,
+                sattr,
+                time: now,
+                spare,
+                made,
+            };
+            symlink(tree, call, &ask, path.bytes())
         }
         _ => act_plainly(tree, call, now, spare, made),
     }
 }
 
-/// CREATE and MKDIR. `None` exactly where `made` breaks its rule.
-fn about_new(
-    tree: &mut Tree,
-    call: &Call,
-    at: &[u8],
-    name: &[u8],
-    sattr: &Sattr,
-    now: (u32, u32),
-    spare: u32,
-    made: u64,
-) -> Result<Option<Reply>, OutOfMemory>
-    ensures acts { IfOk result (λ found. MatchOption found
-        ((taken tree.old made (about_new_of tree.old call.now at.now name.now sattr.now now spare) ≡ None) × (tree.new ≡ tree.old))
-        (λ reply. taken tree.old made (about_new_of tree.old call.now at.now name.now sattr.now now spare) ≡ Some (reply, tree.new))) }
+/// CREATE and MKDIR. `None` exactly where the handle for the file breaks its rule.
+fn about_new(tree: &mut Tree, call: &Call, ask: &Ask<'_>) -> Result<Option<Reply>, OutOfMemory>
+    ensures acts { IfOk result (Answers tree.old tree.new (taken tree.old ask.now.made (asked about_new_of tree.old call.now ask.now))) }
     ensures err { OnErr result (tree.new ≡ tree.old) }
 {
     if call.procedure == MKDIR {
-        mkdir(tree, call, at, name, sattr, now, spare, made)
+        mkdir(tree, call, ask)
     } else {
-        create(tree, call, at, name, sattr, now, spare, made)
+        create(tree, call, ask)
     }
 }
 
@@ -99,9 +97,7 @@ fn act_plainly(
     made: u64,
 ) -> Result<Option<Reply>, OutOfMemory>
     requires { IsPlain call.now.args }
-    ensures acts { IfOk result (λ found. MatchOption found
-        ((given tree.old call.now now spare made call.now.args ≡ None) × (tree.new ≡ tree.old))
-        (λ reply. given tree.old call.now now spare made call.now.args ≡ Some (reply, tree.new))) }
+    ensures acts { IfOk result (Answers tree.old tree.new (given tree.old call.now now spare made call.now.args)) }
     ensures err { OnErr result (tree.new ≡ tree.old) }
 {
     if made != 0 {

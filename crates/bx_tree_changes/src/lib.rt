@@ -8,6 +8,6 @@ mod removing;
 mod writing;
 
 pub use linking::link;
-pub use places::{directory_to_change, entry_error, entry_of, has_entries};
+pub use places::{directory_for, entry_error, entry_of, has_entries};
 pub use removing::{remove, rmdir, unlink};
-pub use writing::{MOST_BYTES, edit_and_tell, resize_error, setattr, write};
+pub use writing::{edit_and_tell, setattr, write};

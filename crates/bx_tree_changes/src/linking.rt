@@ -4,9 +4,9 @@ ghost use Rattle.std.specs.Prelude.{◌≡◌, IfOk, OnErr};
 ghost use Rattle.bx_model.specs.Making.{link as link_of};
 ghost use Rattle.bx_model.specs.Steps.{done};
 
-use crate::places::{directory_to_change, entry_error, entry_of};
+use crate::places::{directory_for, entry_error, entry_of};
 use bx_base::OutOfMemory;
-use bx_model::{Call, DQUOT, EXIST, NFS_OK, PERM, Reply, STALE, Tree};
+use bx_model::{Call, DQUOT, EXIST, NFS_OK, PERM, Reply, STALE, Tree, Want};
 use bx_tree_files::{DIRECTORY, Edit, Files};
 use bx_tree_reads::named;
 
@@ -29,7 +29,7 @@ pub fn link(
     let Some(file) = named(tree, from) else {
         return Ok(Reply::Status(STALE));
     };
-    let directory = match directory_to_change(tree, call, at, name) {
+    let directory = match directory_for(tree, call, at, name, Want::Change) {
         Ok(directory) => directory,
         Err(status) => return Ok(Reply::Status(status)),
     };

@@ -4,27 +4,30 @@ ghost use Rattle.std.specs.Prelude.{◌≡◌, ◌<◌, MatchResult, MatchOption
 ghost use Rattle.std.specs.Option.{option_copied};
 ghost use Rattle.bx_tree_files.specs.Entries.{entry_named};
 ghost use Rattle.bx_tree_files.specs.Files.{IsFile, file_at};
-ghost use Rattle.bx_model.specs.Making.{directory_to_change as directory_of_call, entry_errors};
+ghost use Rattle.bx_model.specs.Making.{entry_errors};
 ghost use Rattle.bx_tree_files.specs.Names.{names_of, next_of};
 ghost use Rattle.bx_model.specs.Removing.{has_entries as has_any};
+ghost use Rattle.bx_tree_changes.specs.Places.{directory_for as directory_of_call};
 
 use crate::writing::is_full;
 use bx_model::{ACCES, Call, DQUOT, NOSPC, NOTDIR, STALE, Tree, Want, may};
 use bx_tree_files::{Body, DIRECTORY, File, Name, is_bad};
 use bx_tree_reads::named;
 
-/// The directory whose entries a call changes under a name; else the first error.
-pub fn directory_to_change<'a>(
+/// The directory in which a call looks for a name, or whose entries it changes under one, as it wants to; else the first error.
+pub fn directory_for<'a>(
     tree: &'a Tree,
     call: &Call,
     at: &[u8],
     name: &[u8],
+    want: Want,
 ) -> Result<&'a File, u32>
     ensures found { MatchResult result
-        (λ directory. directory_of_call tree.now call.now at.now name.now ≡ Ok directory.now)
-        (λ status. directory_of_call tree.now call.now at.now name.now ≡ Err status) }
+        (λ directory. directory_of_call tree.now call.now at.now name.now want ≡ Ok directory.now)
+        (λ status. directory_of_call tree.now call.now at.now name.now want ≡ Err status) }
     ensures is_file { IfOk result (λ directory. IsFile directory.now) }
     ensures there { IfOk result (λ directory. file_at tree.now.files directory.now.handle ≡ Some directory.now) }
+    ensures kind { IfOk result (λ directory. directory.now.kind ≡ 2) }
 {
     let Some(directory) = named(tree, at) else {
         return Err(STALE);
@@ -35,7 +38,7 @@ pub fn directory_to_change<'a>(
     if is_bad(name) {
         return Err(ACCES);
     }
-    if !may(call, directory, Want::Change) {
+    if !may(call, directory, want) {
         return Err(ACCES);
     }
     Ok(directory)

@@ -5,8 +5,8 @@ ghost use Rattle.bx_tree_files.specs.Files.{IsFile};
 ghost use Rattle.bx_model.specs.Removing.{file_to_remove as file_of_call, remove as remove_of, rmdir as rmdir_of, without_link};
 ghost use Rattle.bx_model.specs.Steps.{done};
 
-use crate::places::{directory_to_change, entry_of, has_entries};
-use bx_model::{Call, ISDIR, NFS_OK, NOENT, NOTDIR, NOTEMPTY, Reply, STALE, Tree};
+use crate::places::{directory_for, entry_of, has_entries};
+use bx_model::{Call, ISDIR, NFS_OK, NOENT, NOTDIR, NOTEMPTY, Reply, STALE, Tree, Want};
 use bx_tree_files::{DIRECTORY, Edit, File};
 
 /// REMOVE: takes out the entry of a file that is no directory.
@@ -69,7 +69,7 @@ fn file_to_remove<'a>(
         (λ status. file_of_call tree.now call.now at.now name.now ≡ Err status) }
     ensures is_file { IfOk result (λ found. IsFile found.1.now) }
 {
-    let directory = match directory_to_change(tree, call, at, name) {
+    let directory = match directory_for(tree, call, at, name, Want::Change) {
         Ok(directory) => directory,
         Err(status) => return Err(status),
     };

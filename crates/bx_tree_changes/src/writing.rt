@@ -1,23 +1,18 @@
 //! The procedures that change a file: SETATTR and WRITE.
 
-ghost use Rattle.std.specs.Prelude.{◌≡◌, ◌+◌, ◌&&◌, ◌||◌, ◌<◌, ◌^◌, IfOk, IfSome, IsSome, MatchOption, OnErr, OnOk, Ok, Err, Some};
+ghost use Rattle.std.specs.Prelude.{◌≡◌, ◌+◌, ◌<◌, ◌^◌, IfOk, IfSome, IsSome, MatchOption, OnErr, OnOk, Ok, Err, Some};
 ghost use Rattle.bx_tree_files.specs.Attributes.{attributes_of};
 ghost use Rattle.bx_model.specs.Edits.{changed};
 ghost use Rattle.bx_tree_files.specs.FileEdits.{CanEdit, edited};
 ghost use Rattle.bx_tree_files.specs.Files.{file_at};
 ghost use Rattle.bx_model.specs.Steps.{done};
-ghost use Rattle.bx_tree_files.specs.Times.{is_given as is_given_word};
-ghost use Rattle.bx_model.specs.Writing.{is_forbidden as is_forbidden_to, is_full as is_full_at, resize_errors, setattr as setattr_of, write as write_of, write_errors};
+ghost use Rattle.bx_model.specs.Writing.{is_full as is_full_at, setattr as setattr_of, write as write_of, write_errors};
 
 use bx_base::{OutOfMemory, Words};
+use bx_call_parts::{MOST_BYTES, forbids, resize_error};
 use bx_model::{ACCES, Call, FBIG, ISDIR, NOSPC, NXIO, PERM, Reply, STALE, Tree, Want, may};
-use bx_tree_files::{
-    DIRECTORY, Edit, File, LINK, Sattr, attribute_words, attributes, is_given, put_words,
-};
+use bx_tree_files::{DIRECTORY, Edit, File, LINK, Sattr, attribute_words, attributes, put_words};
 use bx_tree_reads::{attributes_reply, named};
-
-/// The most bytes that a file has.
-pub const MOST_BYTES: u32 = 2147483647;
 
 /// How many free blocks are enough for every procedure.
 const ENOUGH: u32 = 8;
@@ -36,7 +31,7 @@ pub fn setattr(
     let Some(file) = named(tree, at) else {
         return Ok(Reply::Status(STALE));
     };
-    if is_forbidden(call, file, sattr) {
+    if forbids(call, file, sattr) {
         return Ok(Reply::Status(PERM));
     }
     if let Some(status) = resize_error(call, file, sattr.size) {
@@ -97,44 +92,6 @@ pub fn edit_and_tell(
     };
     put_words(&mut words, &attribute_words(tree.volume, file));
     Ok(words)
-}
-
-/// Whether one wants to set something that one may not set.
-fn is_forbidden(call: &Call, file: &File, sattr: &Sattr) -> bool
-    ensures { result ≡ is_forbidden_to call.now file.now sattr.now }
-{
-    sets_mode_or_times(sattr) && !may(call, file, Want::Times)
-        || is_given(sattr.uid) && !may(call, file, Want::Uid(sattr.uid))
-        || is_given(sattr.gid) && !may(call, file, Want::Gid(sattr.gid))
-}
-
-/// Whether the mode or a time is given.
-fn sets_mode_or_times(sattr: &Sattr) -> bool
-    ensures { result ≡ (is_given_word sattr.now.mode || is_given_word sattr.now.atime.0 || is_given_word sattr.now.mtime.0) }
-{
-    is_given(sattr.mode) || is_given(sattr.atime.0) || is_given(sattr.mtime.0)
-}
-
-/// The first error of setting a size, where one is given.
-pub fn resize_error(call: &Call, file: &File, size: u32) -> Option<u32>
-    ensures { MatchOption result (resize_errors call.now file.now size ≡ Ok tt) (λ status. resize_errors call.now file.now size ≡ Err status) }
-{
-    if !is_given(size) {
-        return None;
-    }
-    if file.kind == DIRECTORY {
-        return Some(ISDIR);
-    }
-    if file.kind == LINK {
-        return Some(NXIO);
-    }
-    if !may(call, file, Want::Write) {
-        return Some(ACCES);
-    }
-    if size > MOST_BYTES {
-        return Some(FBIG);
-    }
-    None
 }
 
 /// The first error of writing so many bytes from an offset on; no bytes meet no limit.

@@ -1,28 +1,28 @@
 //! The procedures that make files: CREATE, SYMLINK and MKDIR.
 
-ghost use Rattle.std.specs.Prelude.{◌≡◌, ◌<◌, ◌^◌, ◌==◌, ◌&&◌, nat_lt, true, false, if◌then◌else◌, IfOk, IfSome, IsSome, MatchOption, MatchResult, OnErr, None, Some, Ok, Err};
+ghost use Rattle.std.specs.Prelude.{◌≡◌, ◌<◌, ◌^◌, ◌==◌, ◌&&◌, nat_lt, true, false, if◌then◌else◌, IfErr, IfOk, IfSome, IsSome, MatchOption, MatchResult, OnErr, None, Some, Ok, Err};
 ghost use Rattle.bx_model.specs.declared.reply.Reply.TheVariants.{Status as ReplyStatus};
 ghost use Rattle.bx_model.specs.Edits.{is_unused as is_unused_handle};
 ghost use Rattle.bx_tree_files.specs.FileEdits.{CanEnter};
 ghost use Rattle.bx_tree_files.specs.Files.{IsFile, IsNumbered, file_at, kind_of, size_of};
-ghost use Rattle.bx_model.specs.Making.{create as create_of, create_errors, create_over as create_over_of, created, mkdir as mkdir_of, new_file as new_file_of, new_place, searched_directory, symlink as symlink_of};
+ghost use Rattle.bx_model.specs.Making.{create as create_of, create_errors, create_over as create_over_of, created, mkdir as mkdir_of, new_file as new_file_of, new_place, symlink as symlink_of};
 ghost use Rattle.bx_tree_files.specs.Names.{next_of};
 ghost use Rattle.bx_model.specs.Steps.{taken};
 ghost use Rattle.bx_tree_files.specs.Times.{is_given as is_given_word};
 ghost use Rattle.bx_tree_files.specs.Changes.{most_bytes};
+ghost use Rattle.bx_tree_making.specs.Asks.{Answers, IsPlace, IsRefused, asked};
 
 use crate::making::{is_unused, make};
 use bx_base::{OutOfMemory, Raw};
+use bx_call_parts::{MOST_BYTES, resize_error};
 use bx_handles::file_handle;
-use bx_model::{ACCES, Call, EXIST, FBIG, NFS_OK, NOTDIR, Reply, STALE, Tree, Want, may};
-use bx_tree_changes::{
-    MOST_BYTES, directory_to_change, edit_and_tell, entry_error, entry_of, resize_error,
-};
+use bx_model::{ACCES, Call, EXIST, FBIG, NFS_OK, Reply, STALE, Tree, Want, may};
+use bx_tree_changes::{directory_for, edit_and_tell, entry_error, entry_of};
 use bx_tree_files::{
-    Body, Content, DIRECTORY, Edit, File, LINK, MODES, NameList, REGULAR, Sattr, given_or, is_bad,
+    Body, Content, DIRECTORY, Edit, File, LINK, MODES, NameList, REGULAR, Sattr, given_or,
     is_given, time_or,
 };
-use bx_tree_reads::{handle_reply, named};
+use bx_tree_reads::handle_reply;
 
 /// The mode of a new regular file whose mode isn't given.
 const FILE_MODE: u32 = 0o644;
@@ -33,35 +33,37 @@ const LINK_MODE: u32 = 0o777;
 /// The mode of a new directory whose mode isn't given.
 const DIRECTORY_MODE: u32 = 0o755;
 
+/// What a call asks for that makes a file, and what the file gets.
+#[derive(Drop)]
+pub struct Ask<'a> {
+    /// The file handle of the directory in which it is made.
+    pub at: &'a [u8],
+    /// Its name there.
+    pub name: &'a [u8],
+    /// The attributes that are given.
+    pub sattr: &'a Sattr,
+    /// The time, in seconds and microseconds.
+    pub time: (u32, u32),
+    /// How many blocks are free.
+    pub spare: u32,
+    /// The handle for the file; 0 for none.
+    pub made: u64,
+}
+
 /// MKDIR: makes a directory without entries. `None` exactly where `made` breaks its rule.
-pub fn mkdir(
-    tree: &mut Tree,
-    call: &Call,
-    at: &[u8],
-    name: &[u8],
-    sattr: &Sattr,
-    now: (u32, u32),
-    spare: u32,
-    made: u64,
-) -> Result<Option<Reply>, OutOfMemory>
-    ensures acts { IfOk result (λ found. MatchOption found
-        ((taken tree.old made (mkdir_of tree.old call.now at.now name.now sattr.now now spare) ≡ None) × (tree.new ≡ tree.old))
-        (λ reply. taken tree.old made (mkdir_of tree.old call.now at.now name.now sattr.now now spare) ≡ Some (reply, tree.new))) }
+pub fn mkdir(tree: &mut Tree, call: &Call, ask: &Ask<'_>) -> Result<Option<Reply>, OutOfMemory>
+    ensures acts { IfOk result (Answers tree.old tree.new (taken tree.old ask.now.made (asked mkdir_of tree.old call.now ask.now))) }
     ensures err { OnErr result (tree.new ≡ tree.old) }
 {
-    let directory = match place_for(tree, call, at, name, spare) {
-        Ok(directory) => directory,
-        Err(status) => return Ok(refused(status, made)),
+    let parent = match place_for(tree, call, ask) {
+        Ok(parent) => parent,
+        Err(answer) => return Ok(answer),
     };
-    if !is_unused(tree, made) {
-        return Ok(None);
-    }
-    let parent = directory.handle;
     let names = NameList::new(tree.files.allocator());
     let body = Body::Names(parent, 3, names);
-    let file = new_file(call, sattr, now, DIRECTORY_MODE, made, body);
+    let file = new_file(call, ask, DIRECTORY_MODE, body);
     let reply = handle_reply(tree, &file)?;
-    make(tree, parent, name, now, file)?;
+    make(tree, parent, ask.name, ask.time, file)?;
     Ok(Some(reply))
 }
 
@@ -69,69 +71,47 @@ pub fn mkdir(
 pub fn symlink(
     tree: &mut Tree,
     call: &Call,
-    at: &[u8],
-    name: &[u8],
+    ask: &Ask<'_>,
     path: &[u8],
-    sattr: &Sattr,
-    now: (u32, u32),
-    spare: u32,
-    made: u64,
 ) -> Result<Option<Reply>, OutOfMemory>
-    ensures acts { IfOk result (λ found. MatchOption found
-        ((taken tree.old made (symlink_of tree.old call.now at.now name.now path.now sattr.now now spare) ≡ None) × (tree.new ≡ tree.old))
-        (λ reply. taken tree.old made (symlink_of tree.old call.now at.now name.now path.now sattr.now now spare) ≡ Some (reply, tree.new))) }
+    ensures acts { IfOk result (Answers tree.old tree.new (taken tree.old ask.now.made (asked (λ tree call at name. symlink_of tree call at name path.now) tree.old call.now ask.now))) }
     ensures err { OnErr result (tree.new ≡ tree.old) }
 {
-    let directory = match place_for(tree, call, at, name, spare) {
-        Ok(directory) => directory,
-        Err(status) => return Ok(refused(status, made)),
-    };
-    if !is_unused(tree, made) {
-        return Ok(None);
-    }
     if path.len() > MOST_BYTES as usize {
         return Err(OutOfMemory);
     }
-    let parent = directory.handle;
+    let parent = match place_for(tree, call, ask) {
+        Ok(parent) => parent,
+        Err(answer) => return Ok(answer),
+    };
     let path = Raw::of(tree.files.allocator(), path)?;
-    let file = new_file(call, sattr, now, LINK_MODE, made, Body::Path(path));
-    make(tree, parent, name, now, file)?;
+    let file = new_file(call, ask, LINK_MODE, Body::Path(path));
+    make(tree, parent, ask.name, ask.time, file)?;
     Ok(Some(Reply::Status(NFS_OK)))
 }
 
 /// CREATE: makes a regular file, or finds the one that is there, of which it sets a size that is given. `None`
 /// exactly where `made` breaks its rule.
-pub fn create(
-    tree: &mut Tree,
-    call: &Call,
-    at: &[u8],
-    name: &[u8],
-    sattr: &Sattr,
-    now: (u32, u32),
-    spare: u32,
-    made: u64,
-) -> Result<Option<Reply>, OutOfMemory>
-    ensures acts { IfOk result (λ found. MatchOption found
-        ((taken tree.old made (create_of tree.old call.now at.now name.now sattr.now now spare) ≡ None) × (tree.new ≡ tree.old))
-        (λ reply. taken tree.old made (create_of tree.old call.now at.now name.now sattr.now now spare) ≡ Some (reply, tree.new))) }
+pub fn create(tree: &mut Tree, call: &Call, ask: &Ask<'_>) -> Result<Option<Reply>, OutOfMemory>
+    ensures acts { IfOk result (Answers tree.old tree.new (taken tree.old ask.now.made (asked create_of tree.old call.now ask.now))) }
     ensures err { OnErr result (tree.new ≡ tree.old) }
 {
-    let directory = match directory_to_search(tree, call, at, name) {
+    let directory = match directory_for(tree, call, ask.at, ask.name, Want::Search) {
         Ok(directory) => directory,
-        Err(status) => return Ok(refused(status, made)),
+        Err(status) => return Ok(refused(status, ask.made)),
     };
-    if let Some(entry) = entry_of(directory, name) {
+    if let Some(entry) = entry_of(directory, ask.name) {
         let handle = entry.handle;
-        return create_over(tree, call, handle, sattr, now, made);
+        return create_over(tree, call, ask, handle);
     }
-    if let Some(status) = create_error(call, directory, sattr, spare) {
-        return Ok(refused(status, made));
+    if let Some(status) = create_error(call, directory, ask.sattr, ask.spare) {
+        return Ok(refused(status, ask.made));
     }
-    if !is_unused(tree, made) {
+    if !is_unused(tree, ask.made) {
         return Ok(None);
     }
     let parent = directory.handle;
-    let reply = create_new(tree, call, parent, name, sattr, now, made)?;
+    let reply = create_new(tree, call, ask, parent)?;
     Ok(Some(reply))
 }
 
@@ -139,24 +119,21 @@ pub fn create(
 fn create_new(
     tree: &mut Tree,
     call: &Call,
+    ask: &Ask<'_>,
     directory: u64,
-    name: &[u8],
-    sattr: &Sattr,
-    now: (u32, u32),
-    made: u64,
 ) -> Result<Reply, OutOfMemory>
-    requires unused { is_unused_handle tree.old made ≡ true }
-    requires fits { (is_given_word sattr.now.size && nat_lt most_bytes sattr.now.size) ≡ false }
+    requires unused { is_unused_handle tree.old ask.now.made ≡ true }
+    requires fits { (is_given_word ask.now.sattr.now.size && nat_lt most_bytes ask.now.sattr.now.size) ≡ false }
     requires there { IsSome (file_at tree.old.files directory) }
-    requires can { IfSome (file_at tree.old.files directory) (CanEnter name.now) }
-    ensures ok { IfOk result (λ reply. created tree.old call.now directory name.now sattr.now now made ≡ (reply, tree.new)) }
+    requires can { IfSome (file_at tree.old.files directory) (CanEnter ask.now.name.now) }
+    ensures ok { IfOk result (λ reply. created tree.old call.now directory ask.now.name.now ask.now.sattr.now ask.now.time ask.now.made ≡ (reply, tree.new)) }
     ensures err { OnErr result (tree.new ≡ tree.old) }
 {
-    let size = given_or(sattr.size, sattr.size, 0);
+    let size = given_or(ask.sattr.size, ask.sattr.size, 0);
     let content = Content::zeros(tree.files.allocator(), size);
-    let file = new_file(call, sattr, now, FILE_MODE, made, Body::Bytes(content));
+    let file = new_file(call, ask, FILE_MODE, Body::Bytes(content));
     let reply = handle_reply(tree, &file)?;
-    make(tree, directory, name, now, file)?;
+    make(tree, directory, ask.name, ask.time, file)?;
     Ok(reply)
 }
 
@@ -164,90 +141,68 @@ fn create_new(
 fn create_over(
     tree: &mut Tree,
     call: &Call,
+    ask: &Ask<'_>,
     handle: u64,
-    sattr: &Sattr,
-    now: (u32, u32),
-    made: u64,
 ) -> Result<Option<Reply>, OutOfMemory>
-    ensures acts { IfOk result (λ found. MatchOption found
-        ((taken tree.old made (create_over_of tree.old call.now handle sattr.now now) ≡ None) × (tree.new ≡ tree.old))
-        (λ reply. taken tree.old made (create_over_of tree.old call.now handle sattr.now now) ≡ Some (reply, tree.new))) }
+    ensures acts { IfOk result (Answers tree.old tree.new (taken tree.old ask.now.made (create_over_of tree.old call.now handle ask.now.sattr.now ask.now.time))) }
     ensures err { OnErr result (tree.new ≡ tree.old) }
 {
+    let (size, made) = (ask.sattr.size, ask.made);
     let Some(file) = tree.files.get(handle) else {
         return Ok(refused(STALE, made));
     };
     if file.kind != REGULAR {
         return Ok(refused(EXIST, made));
     }
-    if let Some(status) = resize_error(call, file, sattr.size) {
+    if let Some(status) = resize_error(call, file, size) {
         return Ok(refused(status, made));
     }
     if made != 0 {
         return Ok(None);
     }
-    if !is_given(sattr.size) {
+    if !is_given(size) {
         let reply = handle_reply(tree, file)?;
         return Ok(Some(reply));
     }
     let bytes = file_handle(tree.volume, handle);
     let bytes = Raw::of(tree.files.allocator(), bytes.as_slice())?;
-    let words = edit_and_tell(tree, handle, &Edit::Size(sattr.size), now)?;
+    let words = edit_and_tell(tree, handle, &Edit::Size(size), ask.time)?;
     Ok(Some(Reply::Handle(bytes, words)))
 }
 
-/// The directory that a call searches for a name that it may make; else the first error.
-fn directory_to_search<'a>(
-    tree: &'a Tree,
-    call: &Call,
-    at: &[u8],
-    name: &[u8],
-) -> Result<&'a File, u32>
-    ensures found { MatchResult result
-        (λ directory. searched_directory tree.now call.now at.now name.now ≡ Ok directory.now)
-        (λ status. searched_directory tree.now call.now at.now name.now ≡ Err status) }
-    ensures is_file { IfOk result (λ directory. IsFile directory.now) }
-    ensures there { IfOk result (λ directory. file_at tree.now.files directory.now.handle ≡ Some directory.now) }
-    ensures kind { IfOk result (λ directory. directory.now.kind ≡ 2) }
+/// The handle of the directory that a new file may come into, under the handle that it gets; else what is answered.
+fn place_for(tree: &Tree, call: &Call, ask: &Ask<'_>) -> Result<u64, Option<Reply>>
+    ensures place { IfOk result (IsPlace tree.now call.now ask.now) }
+    ensures refused { IfErr result (IsRefused tree.now call.now ask.now) }
 {
-    let Some(directory) = named(tree, at) else {
-        return Err(STALE);
-    };
-    if directory.kind != DIRECTORY {
-        return Err(NOTDIR);
+    match directory_to_enter(tree, call, ask) {
+        Err(status) => Err(refused(status, ask.made)),
+        Ok(directory) => {
+            if is_unused(tree, ask.made) {
+                Ok(directory.handle)
+            } else {
+                Err(None)
+            }
+        }
     }
-    if is_bad(name) {
-        return Err(ACCES);
-    }
-    if !may(call, directory, Want::Search) {
-        return Err(ACCES);
-    }
-    Ok(directory)
 }
 
 /// The directory that a new entry of this name may come into; else the first error.
-fn place_for<'a>(
-    tree: &'a Tree,
-    call: &Call,
-    at: &[u8],
-    name: &[u8],
-    spare: u32,
-) -> Result<&'a File, u32>
+fn directory_to_enter<'a>(tree: &'a Tree, call: &Call, ask: &Ask<'_>) -> Result<&'a File, u32>
     ensures found { MatchResult result
-        (λ directory. new_place tree.now call.now at.now name.now spare ≡ Ok directory.now)
-        (λ status. new_place tree.now call.now at.now name.now spare ≡ Err status) }
-    ensures is_file { IfOk result (λ directory. IsFile directory.now) }
+        (λ directory. new_place tree.now call.now ask.now.at.now ask.now.name.now ask.now.spare ≡ Ok directory.now)
+        (λ status. new_place tree.now call.now ask.now.at.now ask.now.name.now ask.now.spare ≡ Err status) }
     ensures there { IfOk result (λ directory. file_at tree.now.files directory.now.handle ≡ Some directory.now) }
-    ensures can { IfOk result (λ directory. CanEnter name.now directory.now) }
+    ensures can { IfOk result (λ directory. CanEnter ask.now.name.now directory.now) }
 {
-    let directory = match directory_to_change(tree, call, at, name) {
+    let directory = match directory_for(tree, call, ask.at, ask.name, Want::Change) {
         Ok(directory) => directory,
         Err(status) => return Err(status),
     };
-    if entry_of(directory, name).is_some() {
+    if entry_of(directory, ask.name).is_some() {
         return Err(EXIST);
     }
-    if let Some(status) = entry_error(directory, spare) {
+    if let Some(status) = entry_error(directory, ask.spare) {
         return Err(status);
     }
     Ok(directory)
@@ -280,17 +235,18 @@ fn refused(status: u32, made: u64) -> Option<Reply>
 }
 
 /// A new file.
-fn new_file(call: &Call, sattr: &Sattr, now: (u32, u32), mode: u32, made: u64, body: Body) -> File
+fn new_file(call: &Call, ask: &Ask<'_>, mode: u32, body: Body) -> File
     requires mode { mode < 4096 }
     requires size { size_of body < 2 ^ 31 }
     requires numbers { IsNumbered 2 body }
-    ensures new { result ≡ new_file_of call.now sattr.now now mode made body }
+    ensures new { result ≡ new_file_of call.now ask.now.sattr.now ask.now.time mode ask.now.made body }
     ensures is_file { IsFile result }
 {
     let kind = kind(&body);
     let root = call.uid == 0;
+    let (sattr, now) = (ask.sattr, ask.time);
     File {
-        handle: made,
+        handle: ask.made,
         kind,
         mode: given_or(sattr.mode, sattr.mode % MODES, mode),
         nlink: if kind == DIRECTORY { 2 } else { 1 },

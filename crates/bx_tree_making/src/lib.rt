@@ -4,4 +4,4 @@
 mod creating;
 mod making;
 
-pub use creating::{create, mkdir, symlink};
+pub use creating::{Ask, create, mkdir, symlink};

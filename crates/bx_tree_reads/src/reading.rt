@@ -13,8 +13,8 @@ use bx_handles::{file_handle, named_handle};
 use bx_model::{ACCES, Call, ISDIR, NOENT, NOTDIR, NXIO, Reply, STALE, Tree, Want, may};
 use bx_tree_files::{BLOCK_LEN, Body, File, NameList, attributes, words_of};
 
-/// The most bytes that a READ or a READDIR gives (RFC 1094, section 2.3.9).
-pub(crate) const MOST_DATA: u32 = 8192;
+/// The most bytes that a READ gives (RFC 1094, section 2.3.9).
+const MOST_DATA: u32 = 8192;
 
 /// How many blocks an area has.
 const AREA_BLOCKS: u32 = 960;
@@ -74,15 +74,9 @@ pub fn readlink(tree: &Tree, at: &[u8]) -> Result<Reply, OutOfMemory>
     Ok(Reply::Path(path))
 }
 
-/// READ: the bytes of a regular file from an offset on.
-pub fn read(
-    tree: &Tree,
-    call: &Call,
-    at: &[u8],
-    offset: u32,
-    count: u32,
-) -> Result<Reply, OutOfMemory>
-    ensures { IfOk result (λ reply. done tree.now (read_of tree.now call.now at.now offset count) ≡ (reply, tree.now)) }
+/// READ: the bytes of a regular file from an offset on, at most so many.
+pub fn read(tree: &Tree, call: &Call, at: &[u8], from: u32, most: u32) -> Result<Reply, OutOfMemory>
+    ensures { IfOk result (λ reply. done tree.now (read_of tree.now call.now at.now from most) ≡ (reply, tree.now)) }
 {
     let Some(file) = named(tree, at) else {
         return Ok(Reply::Status(STALE));
@@ -97,7 +91,7 @@ pub fn read(
     }
     let alloc = tree.files.allocator();
     let words = attributes(alloc, tree.volume, file)?;
-    let bytes = content.part(offset, count.min(MOST_DATA))?;
+    let bytes = content.part(from, most.min(MOST_DATA))?;
     Ok(Reply::Bytes(words, bytes))
 }
 

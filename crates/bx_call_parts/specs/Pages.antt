@@ -1,6 +1,6 @@
 -- A page of a directory that is being filled.
 use Rattle.std.specs.Prelude.{ℕ, ◌+◌, ◌-◌, ◌*◌, ◌/◌, nat_le, Bool, true, false, if◌then◌else◌, List, [], ◌∷◌, ◌++◌, codes, length}
-use Rattle.bx_tree_reads.specs.declared.directories.Page.{Page}
+use Rattle.bx_call_parts.specs.declared.pages.Page.{Page}
 use Rattle.bx_tree_files.specs.declared.file.Name.{Name}
 use Rattle.bx_model.specs.Directories.{cost, listed}
 
